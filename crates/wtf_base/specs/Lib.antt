@@ -1,0 +1,4 @@
+pub mod Limits
+pub mod Extents
+pub mod Pointers
+pub mod Slices
