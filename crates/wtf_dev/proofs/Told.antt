@@ -1,0 +1,165 @@
+-- What a store in memory tells after a call.
+use Rattle.std.proofs.Common.{◌≡◌, ◌≢◌, ℕ, zero, suc, ◌<◌, ◌≤◌, ◌+◌, ◌-◌, ◌⊎◌, inl, inr, Some, List, [], ◌∷◌, ◌++◌, length, get_or, take, drop, set, refl, sym, ◌∙◌, ap, subst, arith, length-append, get_or-set_same, get_or-set_other}
+use Rattle.std.specs.List.{slice_get}
+use Rattle.std.proofs.lemmas.Bool.{cases_eq, cases_lt}
+use Rattle.std.proofs.lemmas.List.{get_or-take, get_or-drop}
+use Rattle.std.proofs.lemmas.Option.{slice_get-get_or, slice_get_within, get_or_from_slice_get}
+use Rattle.wtf_dev.specs.declared.turns.Turns.{Turns}
+use Rattle.wtf_dev.specs.Store.{Range, Outside, Appended}
+use Rattle.wtf_dev.specs.Counts.{risen}
+use Rattle.wtf_dev.specs.Memory.{StoreState, StoreFollows, Zeroed, file_bytes, store_view}
+
+pub get_more : (xs ys : List ℕ) (i b : ℕ) → slice_get xs i ≡ Some b → slice_get (xs ++ ys) i ≡ Some b
+get_more [] ys i b h = cc
+get_more (x ∷ xs) ys zero b h = h
+get_more (x ∷ xs) ys (suc i) b h = get_more xs ys i b h
+
+pub get_after : (xs ys : List ℕ) (i k : ℕ) → i ≡ length xs + k → k < length ys → slice_get (xs ++ ys) i ≡ Some (get_or ys k 0)
+get_after [] ys i k e h = subst (λ (n : ℕ). slice_get ys n ≡ Some (get_or ys k 0)) (omega (arith, e)) (slice_get-get_or ys k 0 h)
+get_after (x ∷ xs) ys zero k e h = absurd (omega (arith, e))
+get_after (x ∷ xs) ys (suc i) k e h = get_after xs ys i k (omega (arith, e)) h
+
+-- the file `file` is now `next`, and the other files are as they were
+pub told_set : (old new : StoreState) (file : ℕ) (next : List ℕ) (ranges : List Range) → new.files ≡ set old.files file next → file < length old.files
+    → ((i b : ℕ) → Outside file i ranges → slice_get (file_bytes old file) i ≡ Some b → slice_get next i ≡ Some b)
+    → (f i b : ℕ) → Outside f i ranges → slice_get (file_bytes old f) i ≡ Some b → slice_get (file_bytes new f) i ≡ Some b
+told_set old new file next ranges is below step f i b out told = elim (cases_eq f file) [
+  | inl e ↦
+      let at : file_bytes new f ≡ next = ap (λ (l : List (List ℕ)). get_or l f []) is ∙ ap (λ n. get_or (set old.files file next) n []) e ∙ get_or-set_same old.files file next [] below in
+      subst (λ (l : List ℕ). slice_get l i ≡ Some b) (sym at)
+      (step i b (subst (λ n. Outside n i ranges) e out) (subst (λ n. slice_get (file_bytes old n) i ≡ Some b) e told))
+  | inr ne ↦
+      let at : file_bytes new f ≡ file_bytes old f = ap (λ (l : List (List ℕ)). get_or l f []) is ∙ get_or-set_other old.files file f next [] ne in
+      subst (λ (l : List ℕ). slice_get l i ≡ Some b) (sym at) told
+]
+
+pub bytes_set : (old new : StoreState) (file : ℕ) (next : List ℕ) → new.files ≡ set old.files file next → file < length old.files → file_bytes new file ≡ next
+bytes_set old new file next is below = ap (λ (l : List (List ℕ)). get_or l file []) is ∙ get_or-set_same old.files file next [] below
+
+pub bytes_other : (old new : StoreState) (file f : ℕ) (next : List ℕ) → new.files ≡ set old.files file next → f ≢ file → file_bytes new f ≡ file_bytes old f
+bytes_other old new file f next is ne = ap (λ (l : List (List ℕ)). get_or l f []) is ∙ get_or-set_other old.files file f next [] ne
+
+pub size_set : (old new : StoreState) (file : ℕ) (next : List ℕ) → new.files ≡ set old.files file next → file < length old.files
+    → length (file_bytes old file) ≤ length next → (f : ℕ) → length (file_bytes old f) ≤ length (file_bytes new f)
+size_set old new file next is below more f = elim (cases_eq f file) [
+  | inl e ↦ omega (arith, more, ap length (bytes_set old new file next is below), ap (λ n. length (file_bytes old n)) e, ap (λ n. length (file_bytes new n)) e)
+  | inr ne ↦ omega (arith, ap length (bytes_other old new file f next is ne))
+]
+
+-- the numbers of a call
+pub record Counted (old new : StoreState) : Type 0 where
+  pub fails : new.fails ≡ old.fails
+  pub calls : old.calls ≤ new.calls
+  pub faults : old.faults ≤ new.faults
+  pub syncs : old.syncs ≤ new.syncs
+  pub short : old.short ≤ new.short
+
+-- Turns that count on: of one call, or of several.
+pub record Later (old new : Turns) : Type 0 where
+  pub fails : new.fails.items ≡ old.fails.items
+  pub calls : old.calls ≤ new.calls
+  pub faults : old.faults ≤ new.faults
+  pub short : old.short ≤ new.short
+
+pub later_on : {a b c : Turns} → Later a b → Later b c → Later a c
+later_on p q = record { fails = q.fails ∙ p.fails; calls = omega (arith, p.calls, q.calls); faults = omega (arith, p.faults, q.faults); short = omega (arith, p.short, q.short) }
+
+pub later_begin : {a b : Turns} → b ≡ record a { calls = risen a.calls } → Later a b
+later_begin e = record { fails = ap (λ t. t.fails.items) e; calls = omega (arith, ap (λ t. t.calls) e); faults = omega (arith, ap (λ t. t.faults) e); short = omega (arith, ap (λ t. t.short) e) }
+
+pub later_fail : {a b : Turns} → b ≡ record a { faults = risen a.faults } → Later a b
+later_fail e = record { fails = ap (λ t. t.fails.items) e; calls = omega (arith, ap (λ t. t.calls) e); faults = omega (arith, ap (λ t. t.faults) e); short = omega (arith, ap (λ t. t.short) e) }
+
+pub later_lack : {a b : Turns} → b ≡ record a { faults = risen a.faults; short = risen a.short } → Later a b
+later_lack e = record { fails = ap (λ t. t.fails.items) e; calls = omega (arith, ap (λ t. t.calls) e); faults = omega (arith, ap (λ t. t.faults) e); short = omega (arith, ap (λ t. t.short) e) }
+
+-- the state of a store in memory
+abbrev pub state : List (List ℕ) → Turns → ℕ → StoreState
+state files turns syncs = record { files = files; fails = turns.fails.items; calls = turns.calls; faults = turns.faults; syncs = syncs; short = turns.short }
+
+pub counted : (files next : List (List ℕ)) (a b : Turns) (s t : ℕ) → Later a b → s ≤ t → Counted (state files a s) (state next b t)
+counted files next a b s t l h = record { fails = l.fails; calls = l.calls; faults = l.faults; syncs = h; short = l.short }
+
+-- the bytes stay, and the counts go on
+pub follows_still : (old : StoreState) (files next : List (List ℕ)) (a b : Turns) (s t : ℕ) (ranges : List Range) → state files a s ≡ old → next ≡ files → Later a b → s ≤ t → StoreFollows old (state next b t) ranges
+follows_still old files next a b s t ranges is same l h = subst (λ (o : StoreState). StoreFollows o (state next b t) ranges) is (record {
+  fails = l.fails;
+  calls = l.calls;
+  short = l.short;
+  kept = record {
+    faults = l.faults;
+    syncs = h;
+    tells = refl;
+    size = λ f. omega (arith, ap (λ (x : List (List ℕ)). length (get_or x f [])) same);
+    bytes = λ f i v out told. subst (λ (x : List (List ℕ)). slice_get (get_or x f []) i ≡ Some v) (sym same) told;
+  };
+})
+
+pub follows_grown : (old new : StoreState) (file : ℕ) (bytes : List ℕ) → new.files ≡ set old.files file (file_bytes old file ++ bytes) → file < length old.files
+    → Counted old new → StoreFollows old new []
+follows_grown old new file bytes is below n = record {
+  fails = n.fails;
+  calls = n.calls;
+  short = n.short;
+  kept = record {
+    faults = n.faults;
+    syncs = n.syncs;
+    tells = refl;
+    size = size_set old new file _ is below (omega (arith, length-append (file_bytes old file) bytes));
+    bytes = told_set old new file _ [] is below (λ i b out told. get_more (file_bytes old file) bytes i b told);
+  };
+}
+
+pub appended_grown : (old new : StoreState) (file : ℕ) (bytes : List ℕ) (at : ℕ) → new.files ≡ set old.files file (file_bytes old file ++ bytes) → file < length old.files
+    → at ≡ length (file_bytes old file) → Appended (store_view old) (store_view new) file bytes at
+appended_grown old new file bytes at is below e = record {
+  at = e;
+  size = omega (arith, ap length (bytes_set old new file _ is below), length-append (file_bytes old file) bytes, e);
+  bytes = λ told k h. ap (λ (l : List ℕ). slice_get l (at + k)) (bytes_set old new file _ is below) ∙ get_after (file_bytes old file) bytes (at + k) k (omega (arith, e)) h;
+}
+
+pub follows_zeroed : (old new : StoreState) (file at len : ℕ) (next : List ℕ) → new.files ≡ set old.files file next → file < length old.files
+    → Zeroed (file_bytes old file) next at (at + len) → Counted old new → StoreFollows old new (record { file = file; at = at; len = len } ∷ [])
+follows_zeroed old new file at len next is below z n = record {
+  fails = n.fails;
+  calls = n.calls;
+  short = n.short;
+  kept = record {
+    faults = n.faults;
+    syncs = n.syncs;
+    tells = refl;
+    size = size_set old new file next is below (omega (arith, z.len));
+    bytes = told_set old new file next (record { file = file; at = at; len = len } ∷ []) is below (λ i b out told.
+        let inside = slice_get_within (file_bytes old file) i b told in
+        let far : (i < at) ⊎ (at + len ≤ i) = elim (cases_lt i at) [ inl lt ↦ inl lt | inr ge ↦ inr (out.0 refl ge) ] in
+        let same : get_or next i 0 ≡ b = z.others i far ∙ get_or_from_slice_get (file_bytes old file) i b 0 told in
+        slice_get-get_or next i 0 (omega (arith, inside, z.len)) ∙ ap Some same);
+  };
+}
+
+pub follows_more : (old : StoreState) (files next : List (List ℕ)) (a b : Turns) (s file : ℕ) (bytes : List ℕ) → state files a s ≡ old
+    → next ≡ set files file (get_or files file [] ++ bytes) → file < length files → Later a b → StoreFollows old (state next b s) []
+follows_more old files next a b s file bytes is more below l =
+    subst (λ (o : StoreState). StoreFollows o (state next b s) []) is (follows_grown (state files a s) (state next b s) file bytes more below (counted files next a b s s l (omega arith)))
+
+pub appended_more : (old : StoreState) (files next : List (List ℕ)) (a b : Turns) (s file : ℕ) (bytes : List ℕ) (at : ℕ) → state files a s ≡ old
+    → next ≡ set files file (get_or files file [] ++ bytes) → file < length files → at ≡ length (get_or files file []) → Appended (store_view old) (store_view (state next b s)) file bytes at
+appended_more old files next a b s file bytes at is more below e =
+    subst (λ (o : StoreState). Appended (store_view o) (store_view (state next b s)) file bytes at) is (appended_grown (state files a s) (state next b s) file bytes at more below e)
+
+pub follows_nothing : (old : StoreState) (files next : List (List ℕ)) (a b : Turns) (s file at len : ℕ) → state files a s ≡ old
+    → ((v : List ℕ) × (next ≡ set files file v) × Zeroed (get_or files file []) v at (at + len)) → file < length files → Later a b
+    → StoreFollows old (state next b s) (record { file = file; at = at; len = len } ∷ [])
+follows_nothing old files next a b s file at len is z below l =
+    subst (λ (o : StoreState). StoreFollows o (state next b s) (record { file = file; at = at; len = len } ∷ [])) is
+    (follows_zeroed (state files a s) (state next b s) file at len z.0 z.1 below z.2 (counted files next a b s s l (omega arith)))
+
+pub zeros_told : (files next : List (List ℕ)) (file from to i : ℕ) → ((v : List ℕ) × (next ≡ set files file v) × Zeroed (get_or files file []) v from to)
+    → file < length files → to ≤ length (get_or files file []) → from ≤ i → i < to → slice_get (get_or next file []) i ≡ Some 0
+zeros_told files next file from to i z below within low high =
+    let at : get_or next file [] ≡ z.0 = ap (λ (l : List (List ℕ)). get_or l file []) z.1 ∙ get_or-set_same files file z.0 [] below in
+    ap (λ (l : List ℕ). slice_get l i) at ∙ slice_get-get_or z.0 i 0 (omega (arith, high, within, z.2.len)) ∙ ap Some (z.2.zeros i low high)
+
+pub read_told : (out xs : List ℕ) (at n k b : ℕ) → out ≡ take (at + n - at) (drop at xs) → length out ≡ n → k < length out → slice_get xs (at + k) ≡ Some b → get_or out k 0 ≡ b
+read_told out xs at n k b e size h told =
+    ap (λ (l : List ℕ). get_or l k 0) e ∙ get_or-take (at + n - at) (drop at xs) k 0 (omega (arith, h, size)) ∙ get_or-drop at xs k 0 ∙ get_or_from_slice_get xs (at + k) b 0 told

@@ -1,0 +1,98 @@
+-- What the stores of a shelf hold together.
+use Rattle.std.specs.Prelude.{◌≡◌, ◌≢◌, ℕ, zero, suc, ◌+◌, ◌<◌, ◌≤◌, true, List, [], ◌∷◌, length}
+use Rattle.std.specs.List.{All, sum_by}
+use Rattle.std.proofs.Common.{get_or, set, arith, ◌∙◌, ap, sym, inl, inr, eqb, cond}
+use Rattle.std.proofs.lemmas.Bool.{cases_eq, eq-eqb, ne_eqb}
+use Rattle.std.proofs.lemmas.List.Sums.{sum_by-set, sum_by-cons}
+use Rattle.wtf_dev.specs.Store.{Range, StoreView, Kept, SameSizes}
+use Rattle.wtf_dev.specs.Each.{EachFollows}
+
+-- each store tells its content
+abbrev pub TellsAll : {S : Type 0} → (S → StoreView) → List S → Type 0
+TellsAll view shelf = All (λ s. (view s).tells ≡ true) shelf
+
+-- the lengths of the eight files together
+abbrev pub stored_bytes : StoreView → ℕ
+stored_bytes s = s.size 0 + s.size 1 + s.size 2 + s.size 3 + s.size 4 + s.size 5 + s.size 6 + s.size 7
+
+-- the lengths of all files of all stores together
+abbrev pub all_stored : {S : Type 0} → (S → StoreView) → List S → ℕ
+all_stored view shelf = sum_by (λ s. stored_bytes (view s)) shelf
+
+-- the counts of faults of all stores together
+abbrev pub all_faults : {S : Type 0} → (S → StoreView) → List S → ℕ
+all_faults view shelf = sum_by (λ s. (view s).faults) shelf
+
+-- the sum after one element goes from s to t
+pub sum_set : {S : Type 0} (f : S → ℕ) (xs : List S) (k : ℕ) (s t : S) → k < length xs → s ≡ get_or xs k s
+    → sum_by f (set xs k t) + f s ≡ sum_by f xs + f t
+sum_set f xs k s t h is = ap (λ y. sum_by f (set xs k t) + f y) is ∙ sum_by-set f xs k t s h
+
+-- a sum whose terms do not fall
+pub sum_grows : {S : Type 0} (f : S → ℕ) (xs ys : List S) → length ys ≡ length xs
+    → ((k : ℕ) (d : S) → k < length xs → f (get_or xs k d) ≤ f (get_or ys k d)) → sum_by f xs ≤ sum_by f ys
+sum_grows f [] ys same each = omega arith
+sum_grows f (x ∷ xs) [] same each = absurd (omega (arith, same))
+sum_grows f (x ∷ xs) (y ∷ ys) same each =
+    omega (arith, sum_by-cons f x xs, sum_by-cons f y ys, each 0 x (omega arith), sum_grows f xs ys (omega (arith, same)) (λ k d h. each (suc k) d (omega (arith, h))))
+
+-- the sums after store k of the shelf goes from s to t
+pub all_stored-set : {S : Type 0} (view : S → StoreView) (xs : List S) (k : ℕ) (s t : S) → k < length xs → s ≡ get_or xs k s
+    → all_stored view (set xs k t) + stored_bytes (view s) ≡ all_stored view xs + stored_bytes (view t)
+all_stored-set view xs k s t h is = sum_set (λ x. stored_bytes (view x)) xs k s t h is
+
+pub all_faults-set : {S : Type 0} (view : S → StoreView) (xs : List S) (k : ℕ) (s t : S) → k < length xs → s ≡ get_or xs k s
+    → all_faults view (set xs k t) + (view s).faults ≡ all_faults view xs + (view t).faults
+all_faults-set view xs k s t h is = sum_set (λ x. (view x).faults) xs k s t h is
+
+-- a store whose lengths are the same
+pub stored-same : (old new : StoreView) → SameSizes old new → stored_bytes new ≡ stored_bytes old
+stored-same old new same = omega (arith, same 0, same 1, same 2, same 3, same 4, same 5, same 6, same 7)
+
+-- a store that keeps its content
+pub stored-kept : (old new : StoreView) (punched : List Range) → Kept old new punched → stored_bytes old ≤ stored_bytes new
+stored-kept old new punched k = omega (arith, k.size 0, k.size 1, k.size 2, k.size 3, k.size 4, k.size 5, k.size 6, k.size 7)
+
+-- each file's share of n bytes that go to file f
+pub share_of_each : (f n : ℕ) → f < 8
+    → cond (eqb f 0) n 0 + cond (eqb f 1) n 0 + cond (eqb f 2) n 0 + cond (eqb f 3) n 0 + cond (eqb f 4) n 0 + cond (eqb f 5) n 0 + cond (eqb f 6) n 0 + cond (eqb f 7) n 0 ≡ n
+share_of_each zero n h = omega arith
+share_of_each (suc zero) n h = omega arith
+share_of_each (suc (suc zero)) n h = omega arith
+share_of_each (suc (suc (suc zero))) n h = omega arith
+share_of_each (suc (suc (suc (suc zero)))) n h = omega arith
+share_of_each (suc (suc (suc (suc (suc zero))))) n h = omega arith
+share_of_each (suc (suc (suc (suc (suc (suc zero)))))) n h = omega arith
+share_of_each (suc (suc (suc (suc (suc (suc (suc zero))))))) n h = omega arith
+share_of_each (suc (suc (suc (suc (suc (suc (suc (suc f)))))))) n h = absurd (omega (arith, h))
+
+pub size_grown : (old new : StoreView) (f n g : ℕ) → new.size f ≡ old.size f + n → ((h : ℕ) → h ≢ f → new.size h ≡ old.size h)
+    → new.size g ≡ old.size g + cond (eqb f g) n 0
+size_grown old new f n g more others = elim (cases_eq f g) [
+  | inl e ↦
+      let there : cond (eqb f g) n 0 ≡ n = ap (λ b. cond b n 0) (eq-eqb f g e) in
+      omega (arith, more, there, ap old.size e, ap new.size e)
+  | inr ne ↦
+      let there : cond (eqb f g) n 0 ≡ 0 = ap (λ b. cond b n 0) (ne_eqb f g ne) in
+      omega (arith, there, others g (λ e. ne (sym e)))
+]
+
+-- what one file grew by is what the store grew by
+pub stored-grown : (old new : StoreView) (f n : ℕ) → f < 8 → new.size f ≡ old.size f + n → ((g : ℕ) → g ≢ f → new.size g ≡ old.size g)
+    → stored_bytes new ≡ stored_bytes old + n
+stored-grown old new f n h more others =
+    let at : (g : ℕ) → new.size g ≡ old.size g + cond (eqb f g) n 0 = λ g. size_grown old new f n g more others in
+    omega (arith, share_of_each f n h, at 0, at 1, at 2, at 3, at 4, at 5, at 6, at 7)
+
+-- over any span the lengths together do not fall, and neither do the counts of faults
+pub all_stored-grows : {S : Type 0} (view : S → StoreView) (follows : S → S → List Range → Type 0)
+    → ((a b : S) (xs : List Range) → follows a b xs → Kept (view a) (view b) xs)
+    → (old new : List S) (punched : List (ℕ × Range)) → EachFollows follows old new punched → all_stored view old ≤ all_stored view new
+all_stored-grows view follows keeps old new punched e =
+    sum_grows (λ x. stored_bytes (view x)) old new e.same_length (λ k d h. stored-kept _ _ _ (keeps _ _ _ (e.each k d h)))
+
+pub all_faults-grows : {S : Type 0} (view : S → StoreView) (follows : S → S → List Range → Type 0)
+    → ((a b : S) (xs : List Range) → follows a b xs → Kept (view a) (view b) xs)
+    → (old new : List S) (punched : List (ℕ × Range)) → EachFollows follows old new punched → all_faults view old ≤ all_faults view new
+all_faults-grows view follows keeps old new punched e =
+    sum_grows (λ x. (view x).faults) old new e.same_length (λ k d h. (keeps _ _ _ (e.each k d h)).faults)

@@ -1,0 +1,88 @@
+//! Eight files in memory.
+ghost use Rattle.std.specs.Prelude.{◌≡◌, ◌≢◌, ◌⊎◌, ◌<◌, ◌≤◌, ◌+◌, ◌^◌, ◌++◌, ℕ, List, [], true, false, length, replicate, slice_set, slice_index, slice_index_or, slice_range};
+ghost use Rattle.wtf_dev.specs.Memory.{Zeroed};
+
+use std::alloc::Global;
+use std::marker::Model;
+
+const LIMIT: usize = 1 << 61;
+
+#[derive(Drop)]
+pub(crate) struct Files {
+    held: [Vec<u8>; 8],
+}
+
+impl Model for Files {
+    ghost use Rattle.std.specs.Prelude.{List, ℕ, ◌<◌, ◌^◌, length};
+    ghost use Rattle.std.specs.List.{All};
+    ghost use Rattle.wtf_dev.specs.Memory.{file_lists};
+
+    ghost Value = { List (List ℕ) };
+
+    ghost view = { λ a. file_lists a.held };
+
+    ghost invariant = { λ a. All (λ (bytes : List ℕ). length bytes < 2 ^ 61) (file_lists a.held) };
+}
+
+impl Files {
+    pub(crate) fn new(alloc: Global) -> Files
+        ensures { result ≡ replicate 8 [] }
+    {
+        Files {
+            held: [
+                Vec::new(alloc),
+                Vec::new(alloc),
+                Vec::new(alloc),
+                Vec::new(alloc),
+                Vec::new(alloc),
+                Vec::new(alloc),
+                Vec::new(alloc),
+                Vec::new(alloc),
+            ],
+        }
+    }
+
+    pub(crate) fn bytes(&self, file: u8) -> &[u8]
+        requires { file < 8 }
+        ensures value { result.now ≡ slice_index_or self.now file [] }
+        ensures fits { length result.now < 2 ^ 61 }
+        ensures count { length self.now ≡ 8 }
+    {
+        &self.held[file as usize]
+    }
+
+    /// Adds the bytes, where there is room for them.
+    pub(crate) fn grow(&mut self, file: u8, bytes: &[u8]) -> bool
+        requires { file < 8 }
+        ensures grown { result ≡ true → self.new ≡ slice_set self.old file (slice_index_or self.old file [] ++ bytes.now) }
+        ensures room { result ≡ true → length (slice_index_or self.old file []) + length bytes.now < 2 ^ 61 }
+        ensures same { result ≡ false → self.new ≡ self.old }
+        ensures within { file < length self.old }
+    {
+        if bytes.len() >= LIMIT - self.bytes(file).len() {
+            return false;
+        }
+        self.held[file as usize].extend_from_slice(bytes).is_ok()
+    }
+
+    pub(crate) fn zero(&mut self, file: u8, from: usize, to: usize)
+        requires file { file < 8 }
+        requires order { from ≤ to }
+        requires within { to ≤ length (slice_index_or self.old file []) }
+        ensures within { file < length self.old }
+        ensures zeroed { (v : List ℕ) × (self.new ≡ slice_set self.old file v) × Zeroed (slice_index_or self.old file []) v from to }
+    {
+        zero(&mut self.held[file as usize], from, to);
+    }
+}
+
+// Writes zeros from one place to another.
+fn zero(bytes: &mut Vec<u8>, from: usize, to: usize)
+    requires order { from ≤ to }
+    requires within { to ≤ length bytes.old.items }
+    ensures { Zeroed bytes.old.items bytes.new.items from to }
+{
+    for i in from..to {
+        bytes[i] = 0;
+    }
+}

@@ -1,0 +1,30 @@
+//! The outside of a store: where its script comes from, where its answers go, the files of each server, and
+//! the keeper of its image. Each trait has a count of faults that never falls, and a call answers `Failed`
+//! only where the count rose in it. The devices in memory tell what they hold, and fail where they are told
+//! to; a real device need not tell its content.
+#![tactic(auto)]
+
+mod fault;
+mod files;
+mod keeper;
+mod mem_keeper;
+mod mem_sink;
+mod mem_source;
+mod mem_store;
+mod shelf;
+mod store;
+mod stream;
+mod turns;
+
+pub use fault::{Failed, LoadFault};
+pub use keeper::Keeper;
+pub use mem_keeper::MemKeeper;
+pub use mem_sink::MemSink;
+pub use mem_source::MemSource;
+pub use mem_store::MemStore;
+pub use shelf::Shelf;
+pub use store::SliceStore;
+pub use stream::{Sink, Source};
+
+#[cfg(test)]
+mod tests;

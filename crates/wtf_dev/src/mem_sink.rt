@@ -1,0 +1,88 @@
+//! A sink in memory, whose calls fail where it is told to.
+
+ghost use Rattle.std.specs.Prelude.{◌≡◌, ◌⊎◌, ℕ, ◌<◌, ◌≤◌, ◌++◌, List, [], Some, length, IfOk, OnOk, OnErr, IsErr};
+ghost use Rattle.std.specs.List.{Contains};
+ghost use Rattle.wtf_dev.specs.Counts.{Rose, risen, faults_after};
+ghost use Rattle.wtf_dev.specs.Streams.{Takes};
+ghost use Rattle.wtf_dev.specs.Memory.{SinkState, sink_view};
+
+use crate::turns::Turns;
+use crate::{Failed, Sink};
+use std::alloc::Global;
+use std::marker::Model;
+
+/// A sink in memory, which takes every byte that it is given.
+#[derive(Drop)]
+pub struct MemSink {
+    bytes: Vec<u8>,
+    turns: Turns,
+}
+
+impl Model for MemSink {
+    ghost use Rattle.wtf_dev.specs.Memory.{SinkState};
+
+    ghost Value = { SinkState };
+
+    ghost view = { λ m. record { taken = m.bytes.items; fails = m.turns.fails.items; calls = m.turns.calls; faults = m.turns.faults; short = m.turns.short } };
+}
+
+impl MemSink {
+    /// An empty sink, whose calls with the numbers `fails` fail, counted from 0.
+    pub fn new(alloc: Global, fails: Vec<u64>) -> MemSink
+        ensures { result ≡ record { taken = []; fails = fails.items; calls = 0; faults = 0; short = 0 } }
+    {
+        MemSink {
+            bytes: Vec::new(alloc),
+            turns: Turns::new(fails),
+        }
+    }
+
+    /// All bytes taken so far, in order.
+    pub fn taken(&self) -> &[u8]
+        ensures { result.now ≡ self.now.taken }
+    {
+        &self.bytes
+    }
+
+    /// How often a growth found no memory.
+    pub fn short(&self) -> u64
+        ensures { result ≡ self.now.short }
+    {
+        self.turns.short
+    }
+}
+
+impl Sink for MemSink {
+    ghost view = { sink_view };
+
+    fn write(&mut self, bytes: &[u8]) -> Result<usize, Failed>
+        ensures count { IfOk result (λ n. n ≤ length bytes.now) }
+        ensures some { IfOk result (λ n. 0 < length bytes.now → 0 < n) }
+        ensures told { (old : List ℕ) → (sink_view self.old).taken ≡ Some old → Takes result bytes.now old (sink_view self.new).taken }
+        ensures faults { (sink_view self.old).faults ≤ (sink_view self.new).faults }
+        ensures cause { OnErr result (Rose (sink_view self.old).faults (sink_view self.new).faults) }
+
+        // It takes all bytes, and fails where its number says so or memory is short, and there alone.
+        ensures whole { OnOk result (self.new.taken ≡ self.old.taken ++ bytes.now) }
+        ensures same { OnErr result (self.new.taken ≡ self.old.taken) }
+        ensures due { Contains self.old.fails self.old.calls → IsErr result }
+        ensures short { self.old.short < self.new.short → IsErr result }
+        ensures only { OnErr result (Contains self.old.fails self.old.calls ⊎ Rose self.old.short self.new.short) }
+        ensures grows { self.old.short ≤ self.new.short }
+        ensures counted { self.new.calls ≡ risen self.old.calls }
+        ensures raised { self.new.faults ≡ faults_after result self.old.faults }
+        ensures fails { self.new.fails ≡ self.old.fails }
+    {
+        if self.turns.begin() {
+            self.turns.fail();
+            return Err(Failed);
+        }
+        match self.bytes.extend_from_slice(bytes) {
+            Ok(()) => Ok(bytes.len()),
+            Err(_) => {
+                self.turns.lack();
+                Err(Failed)
+            }
+        }
+    }
+}
