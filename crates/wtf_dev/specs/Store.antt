@@ -65,3 +65,8 @@ kept_on a b c xs ys p q = record {
   bytes = λ f i v out told. let parts = outside_parts f i xs ys out in q.bytes f i v parts.1 (p.bytes f i v parts.0 told);
   tells = q.tells ∙ p.tells;
 }
+
+-- bytes that are held outside the ranges are held later
+pub holds_kept : (a b : StoreView) (punched : List Range) → Kept a b punched → (f at : ℕ) (bytes : List ℕ)
+    → ((k : ℕ) → k < length bytes → Outside f (at + k) punched) → Holds a f at bytes → Holds b f at bytes
+holds_kept a b punched kept f at bytes out holds = λ k h. kept.bytes f (at + k) (slice_index bytes k) (out k h) (holds k h)

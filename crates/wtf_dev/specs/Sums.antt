@@ -4,7 +4,7 @@ use Rattle.std.specs.List.{All, sum_by}
 use Rattle.std.proofs.Common.{get_or, set, arith, ◌∙◌, ap, sym, inl, inr, eqb, cond}
 use Rattle.std.proofs.lemmas.Bool.{cases_eq, eq-eqb, ne_eqb}
 use Rattle.std.proofs.lemmas.List.Sums.{sum_by-set, sum_by-cons}
-use Rattle.wtf_dev.specs.Store.{Range, StoreView, Kept, SameSizes}
+use Rattle.wtf_dev.specs.Store.{Range, StoreView, Kept, SameSizes, Appended}
 use Rattle.wtf_dev.specs.Each.{EachFollows}
 
 -- each store tells its content
@@ -96,3 +96,16 @@ pub all_faults-grows : {S : Type 0} (view : S → StoreView) (follows : S → S 
     → (old new : List S) (punched : List (ℕ × Range)) → EachFollows follows old new punched → all_faults view old ≤ all_faults view new
 all_faults-grows view follows keeps old new punched e =
     sum_grows (λ x. (view x).faults) old new e.same_length (λ k d h. (keeps _ _ _ (e.each k d h)).faults)
+
+-- an append that answered adds its bytes, and no others
+pub stored-appended : (old new : StoreView) (f : ℕ) (written : List ℕ) (place : ℕ) → f < 8 → Appended old new f written place
+    → ((g : ℕ) → g ≢ f → new.size g ≡ old.size g) → stored_bytes new ≡ stored_bytes old + length written
+stored-appended old new f written place h done others =
+    stored-grown old new f (length written) h (omega (arith, done.size, done.at)) others
+
+-- stores that tell their content go on to tell it
+pub tells_all-kept : {S : Type 0} (view : S → StoreView) (follows : S → S → List Range → Type 0)
+    → ((a b : S) (xs : List Range) → follows a b xs → Kept (view a) (view b) xs)
+    → (old new : List S) (punched : List (ℕ × Range)) → EachFollows follows old new punched → TellsAll view old → TellsAll view new
+tells_all-kept view follows keeps old new punched e tells =
+    λ k d h. let below : k < length old = omega (arith, h, e.same_length) in (keeps _ _ _ (e.each k d below)).tells ∙ tells k d below

@@ -68,7 +68,7 @@ impl Sink for MemSink {
         ensures due { Contains self.old.fails self.old.calls → IsErr result }
         ensures short { self.old.short < self.new.short → IsErr result }
         ensures only { OnErr result (Contains self.old.fails self.old.calls ⊎ Rose self.old.short self.new.short) }
-        ensures grows { self.old.short ≤ self.new.short }
+        ensures steady { self.old.short ≤ self.new.short }
         ensures counted { self.new.calls ≡ risen self.old.calls }
         ensures raised { self.new.faults ≡ faults_after result self.old.faults }
         ensures fails { self.new.fails ≡ self.old.fails }

@@ -49,6 +49,6 @@ impl Turns {
         ensures { self.new ≡ record self.old { faults = risen self.old.faults; short = risen self.old.short } }
     {
         self.short = self.short.saturating_add(1);
-        self.faults = self.faults.saturating_add(1);
+        self.fail();
     }
 }
