@@ -1,8 +1,11 @@
 -- What contracts see of the devices in memory. Of each: what it holds, the numbers of the calls that fail,
 -- the next call's number, and the counts.
-use Rattle.std.specs.Prelude.{◌≡◌, ℕ, ◌<◌, ◌≤◌, ◌⊎◌, true, Some, List, [], ◌++◌, length, slice_get, slice_set, slice_index_or, Vec, map, refl}
+use Rattle.std.specs.Prelude.{Result, Ok, Err, ◌≡◌, ℕ, ◌<◌, ◌≤◌, ◌⊎◌, true, Some, List, [], ◌++◌, length, slice_get, slice_set, slice_index_or, Vec, map, refl}
 use Rattle.std.specs.declared.alloc.Global.{Global}
 use Rattle.std.proofs.Common.{arith, ◌∙◌}
+use Rattle.wtf_dev.specs.declared.fault.LoadFault.{LoadFault}
+use Rattle.wtf_dev.specs.declared.fault.LoadFault.TheVariants.{Failed, Memory}
+use Rattle.wtf_dev.specs.Counts.{risen}
 use Rattle.wtf_dev.specs.Streams.{SourceView, SinkView}
 use Rattle.wtf_dev.specs.Store.{Range, StoreView, Kept, kept_same, kept_on}
 use Rattle.wtf_dev.specs.Keep.{KeeperView, KeeperKept, keeper_kept_same, keeper_kept_on}
@@ -88,6 +91,12 @@ pub record KeeperState : Type 0 where
 
 abbrev pub keeper_view : KeeperState → KeeperView
 keeper_view k = record { faults = k.faults; held = Some k.bytes; tells = true }
+
+-- the count of faults after a `load`: want of memory is no fault
+abbrev pub faults_after_load : {A : Type 0} → Result A LoadFault → ℕ → ℕ
+faults_after_load (Ok bytes) faults = faults
+faults_after_load (Err Failed) faults = risen faults
+faults_after_load (Err Memory) faults = faults
 
 pub record KeeperFollows (old new : KeeperState) (images : List (List ℕ)) : Type 0 where
   pub kept : KeeperKept (keeper_view old) (keeper_view new) images

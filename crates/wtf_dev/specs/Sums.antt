@@ -5,7 +5,7 @@ use Rattle.std.proofs.Common.{get_or, set, arith, ◌∙◌, ap, sym, inl, inr, 
 use Rattle.std.proofs.lemmas.Bool.{cases_eq, eq-eqb, ne_eqb}
 use Rattle.std.proofs.lemmas.List.Sums.{sum_by-set, sum_by-cons}
 use Rattle.wtf_dev.specs.Store.{Range, StoreView, Kept, SameSizes, Appended}
-use Rattle.wtf_dev.specs.Each.{EachFollows}
+use Rattle.wtf_dev.specs.Each.{on_server, EachFollows}
 
 -- each store tells its content
 abbrev pub TellsAll : {S : Type 0} → (S → StoreView) → List S → Type 0
@@ -109,3 +109,39 @@ pub tells_all-kept : {S : Type 0} (view : S → StoreView) (follows : S → S �
     → (old new : List S) (punched : List (ℕ × Range)) → EachFollows follows old new punched → TellsAll view old → TellsAll view new
 tells_all-kept view follows keeps old new punched e tells =
     λ k d h. let below : k < length old = omega (arith, h, e.same_length) in (keeps _ _ _ (e.each k d below)).tells ∙ tells k d below
+
+-- terms that do not fall, and whose sum does not grow, stay
+pub sum_still : {S : Type 0} (f : S → ℕ) (xs ys : List S) → length ys ≡ length xs
+    → ((k : ℕ) (d : S) → k < length xs → f (get_or xs k d) ≤ f (get_or ys k d)) → sum_by f ys ≤ sum_by f xs
+    → (k : ℕ) (d : S) → k < length xs → f (get_or ys k d) ≡ f (get_or xs k d)
+sum_still f [] ys same each still k d h = absurd (omega (arith, h))
+sum_still f (x ∷ xs) [] same each still k d h = absurd (omega (arith, same))
+sum_still f (x ∷ xs) (y ∷ ys) same each still zero d h =
+    omega (arith, still, sum_by-cons f x xs, sum_by-cons f y ys, each 0 d (omega arith), sum_grows f xs ys (omega (arith, same)) (λ j e b. each (suc j) e (omega (arith, b))))
+sum_still f (x ∷ xs) (y ∷ ys) same each still (suc k) d h =
+    sum_still f xs ys (omega (arith, same)) (λ j e b. each (suc j) e (omega (arith, b)))
+    (omega (arith, still, sum_by-cons f x xs, sum_by-cons f y ys, each 0 x (omega arith))) k d (omega (arith, h))
+
+-- one of eight lengths that do not fall, and whose sum does not grow
+pub size_still : (old new : ℕ → ℕ) → ((g : ℕ) → old g ≤ new g)
+    → new 0 + new 1 + new 2 + new 3 + new 4 + new 5 + new 6 + new 7 ≤ old 0 + old 1 + old 2 + old 3 + old 4 + old 5 + old 6 + old 7
+    → (f : ℕ) → f < 8 → new f ≡ old f
+size_still old new more still zero h = omega (arith, still, more 0, more 1, more 2, more 3, more 4, more 5, more 6, more 7)
+size_still old new more still (suc zero) h = omega (arith, still, more 0, more 1, more 2, more 3, more 4, more 5, more 6, more 7)
+size_still old new more still (suc (suc zero)) h = omega (arith, still, more 0, more 1, more 2, more 3, more 4, more 5, more 6, more 7)
+size_still old new more still (suc (suc (suc zero))) h = omega (arith, still, more 0, more 1, more 2, more 3, more 4, more 5, more 6, more 7)
+size_still old new more still (suc (suc (suc (suc zero)))) h = omega (arith, still, more 0, more 1, more 2, more 3, more 4, more 5, more 6, more 7)
+size_still old new more still (suc (suc (suc (suc (suc zero))))) h = omega (arith, still, more 0, more 1, more 2, more 3, more 4, more 5, more 6, more 7)
+size_still old new more still (suc (suc (suc (suc (suc (suc zero)))))) h = omega (arith, still, more 0, more 1, more 2, more 3, more 4, more 5, more 6, more 7)
+size_still old new more still (suc (suc (suc (suc (suc (suc (suc zero))))))) h = omega (arith, still, more 0, more 1, more 2, more 3, more 4, more 5, more 6, more 7)
+size_still old new more still (suc (suc (suc (suc (suc (suc (suc (suc f)))))))) h = absurd (omega (arith, h))
+
+-- where the lengths of all files together did not grow, no file did
+pub all_stored-still : {S : Type 0} (view : S → StoreView) (follows : S → S → List Range → Type 0)
+    → ((a b : S) (xs : List Range) → follows a b xs → Kept (view a) (view b) xs)
+    → (old new : List S) (punched : List (ℕ × Range)) → EachFollows follows old new punched → all_stored view new ≤ all_stored view old
+    → (k : ℕ) (d : S) → k < length old → (f : ℕ) → f < 8 → (view (get_or new k d)).size f ≡ (view (get_or old k d)).size f
+all_stored-still view follows keeps old new punched e still k d h f below =
+    let kept : (j : ℕ) (x : _) → j < length old → Kept (view (get_or old j x)) (view (get_or new j x)) (on_server j punched) = λ j x b. keeps _ _ _ (e.each j x b) in
+    let same = sum_still (λ x. stored_bytes (view x)) old new e.same_length (λ j x b. stored-kept _ _ _ (kept j x b)) still k d h in
+    size_still (view (get_or old k d)).size (view (get_or new k d)).size (kept k d h).size (omega (arith, same)) f below

@@ -1,12 +1,15 @@
-//! Eight files in memory.
+//! The eight files of a store in memory.
+
 ghost use Rattle.std.specs.Prelude.{◌≡◌, ◌≢◌, ◌⊎◌, ◌<◌, ◌≤◌, ◌+◌, ◌^◌, ◌++◌, ℕ, List, [], true, false, length, replicate, slice_set, slice_index, slice_index_or, slice_range};
 ghost use Rattle.wtf_dev.specs.Memory.{Zeroed};
 
 use std::alloc::Global;
 use std::marker::Model;
 
+// Every file is shorter than this, in bytes.
 const LIMIT: usize = 1 << 61;
 
+/// Eight files, seen by contracts as the list of their bytes. Each is shorter than 2^61 bytes.
 #[derive(Drop)]
 pub(crate) struct Files {
     held: [Vec<u8>; 8],
@@ -25,6 +28,7 @@ impl Model for Files {
 }
 
 impl Files {
+    /// Eight empty files.
     pub(crate) fn new(alloc: Global) -> Files
         ensures { result ≡ replicate 8 [] }
     {
@@ -42,6 +46,7 @@ impl Files {
         }
     }
 
+    /// The bytes of a file.
     pub(crate) fn bytes(&self, file: u8) -> &[u8]
         requires { file < 8 }
         ensures value { result.now ≡ slice_index_or self.now file [] }
@@ -51,7 +56,7 @@ impl Files {
         &self.held[file as usize]
     }
 
-    /// Adds the bytes, where there is room for them.
+    /// Adds bytes at the end of a file; false where there is no room for them, and then nothing changes.
     pub(crate) fn grow(&mut self, file: u8, bytes: &[u8]) -> bool
         requires { file < 8 }
         ensures grown { result ≡ true → self.new ≡ slice_set self.old file (slice_index_or self.old file [] ++ bytes.now) }
@@ -65,6 +70,7 @@ impl Files {
         self.held[file as usize].extend_from_slice(bytes).is_ok()
     }
 
+    /// Writes zeros into a file, from one place to another.
     pub(crate) fn zero(&mut self, file: u8, from: usize, to: usize)
         requires file { file < 8 }
         requires order { from ≤ to }

@@ -3,7 +3,7 @@
 ghost use Rattle.std.specs.Prelude.{◌≡◌, ◌↔◌, ◌⊎◌, ◌<◌, ◌≤◌, ℕ, List, [], ◌∷◌, true, Some, IfOk, OnOk, OnErr, IsErr, IsErrOf};
 ghost use Rattle.std.specs.List.{Contains};
 ghost use Rattle.wtf_dev.specs.Counts.{Rose, risen, faults_after};
-ghost use Rattle.wtf_dev.specs.Memory.{KeeperState, keeper_view, KeeperFollows, keeper_same, keeper_on};
+ghost use Rattle.wtf_dev.specs.Memory.{KeeperState, keeper_view, KeeperFollows, faults_after_load, keeper_same, keeper_on};
 
 use crate::turns::Turns;
 use crate::{Failed, Keeper, LoadFault};
@@ -75,7 +75,7 @@ impl Keeper for MemKeeper {
         ensures due { IsErrOf result LoadFault.Failed ↔ Contains self.old.fails self.old.calls }
         ensures short { self.new.short ≡ self.old.short }
         ensures counted { self.new.calls ≡ risen self.old.calls }
-        ensures raised { IsErrOf result LoadFault.Failed → self.new.faults ≡ risen self.old.faults }
+        ensures raised { self.new.faults ≡ faults_after_load result self.old.faults }
         ensures fails { self.new.fails ≡ self.old.fails }
     {
         if self.turns.begin() {

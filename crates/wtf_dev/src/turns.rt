@@ -4,6 +4,7 @@ ghost use Rattle.std.specs.Prelude.{◌≡◌, ◌↔◌, IsTrue};
 ghost use Rattle.std.specs.List.{Contains};
 ghost use Rattle.wtf_dev.specs.Counts.{risen};
 
+/// The calls of a device so far, and its counts. A count stands still at the greatest u64.
 #[derive(Drop)]
 pub(crate) struct Turns {
     /// The numbers of the calls that fail.
