@@ -88,7 +88,5 @@ fn zero(bytes: &mut Vec<u8>, from: usize, to: usize)
     requires within { to ≤ length bytes.old.items }
     ensures { Zeroed bytes.old.items bytes.new.items from to }
 {
-    for i in from..to {
-        bytes[i] = 0;
-    }
+    bytes[from..to].fill(0);
 }
