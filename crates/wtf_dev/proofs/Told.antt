@@ -61,17 +61,8 @@ pub record Later (old new : Turns) : Type 0 where
   pub faults : old.faults ≤ new.faults
   pub short : old.short ≤ new.short
 
-pub later_on : {a b c : Turns} → Later a b → Later b c → Later a c
-later_on p q = record { fails = q.fails ∙ p.fails; calls = omega (arith, p.calls, q.calls); faults = omega (arith, p.faults, q.faults); short = omega (arith, p.short, q.short) }
-
 pub later_begin : {a b : Turns} → b ≡ record a { calls = risen a.calls } → Later a b
 later_begin e = record { fails = ap (λ t. t.fails.items) e; calls = omega (arith, ap (λ t. t.calls) e); faults = omega (arith, ap (λ t. t.faults) e); short = omega (arith, ap (λ t. t.short) e) }
-
-pub later_fail : {a b : Turns} → b ≡ record a { faults = risen a.faults } → Later a b
-later_fail e = record { fails = ap (λ t. t.fails.items) e; calls = omega (arith, ap (λ t. t.calls) e); faults = omega (arith, ap (λ t. t.faults) e); short = omega (arith, ap (λ t. t.short) e) }
-
-pub later_lack : {a b : Turns} → b ≡ record a { faults = risen a.faults; short = risen a.short } → Later a b
-later_lack e = record { fails = ap (λ t. t.fails.items) e; calls = omega (arith, ap (λ t. t.calls) e); faults = omega (arith, ap (λ t. t.faults) e); short = omega (arith, ap (λ t. t.short) e) }
 
 -- the state of a store in memory
 abbrev pub state : List (List ℕ) → Turns → ℕ → StoreState
@@ -79,21 +70,6 @@ state files turns syncs = record { files = files; fails = turns.fails.items; cal
 
 pub counted : (files next : List (List ℕ)) (a b : Turns) (s t : ℕ) → Later a b → s ≤ t → Counted (state files a s) (state next b t)
 counted files next a b s t l h = record { fails = l.fails; calls = l.calls; faults = l.faults; syncs = h; short = l.short }
-
--- the bytes stay, and the counts go on
-pub follows_still : (old : StoreState) (files next : List (List ℕ)) (a b : Turns) (s t : ℕ) (ranges : List Range) → state files a s ≡ old → next ≡ files → Later a b → s ≤ t → StoreFollows old (state next b t) ranges
-follows_still old files next a b s t ranges is same l h = subst (λ (o : StoreState). StoreFollows o (state next b t) ranges) is (record {
-  fails = l.fails;
-  calls = l.calls;
-  short = l.short;
-  kept = record {
-    faults = l.faults;
-    syncs = h;
-    tells = refl;
-    size = λ f. omega (arith, ap (λ (x : List (List ℕ)). length (get_or x f [])) same);
-    bytes = λ f i v out told. subst (λ (x : List (List ℕ)). slice_get (get_or x f []) i ≡ Some v) (sym same) told;
-  };
-})
 
 pub follows_grown : (old new : StoreState) (file : ℕ) (bytes : List ℕ) → new.files ≡ set old.files file (file_bytes old file ++ bytes) → file < length old.files
     → Counted old new → StoreFollows old new []
