@@ -1,1 +1,3 @@
+pub mod LastName
+pub mod Refused
 pub mod Splits

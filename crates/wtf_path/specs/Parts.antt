@@ -1,5 +1,5 @@
 -- The names of a path, the last of them, and the path to the directory that it stands in.
-use Rattle.std.specs.Prelude.{ℕ, Bool, ◌==◌, List, [], ◌∷◌, Option, Some, None}
+use Rattle.std.specs.Prelude.{ℕ, Bool, ◌==◌, if◌then◌else◌, List, [], ◌∷◌, ◌++◌, Option, Some, None, codes, bytes_eq}
 use Rattle.std.specs.List.{slice_split}
 use Rattle.wtf_path.specs.Grammar.{spelling}
 
@@ -38,3 +38,7 @@ parent_with (n ∷ ns) = Some (spelling (without_last (n ∷ ns)))
 -- the directory that a path stands in; the root stands in none
 abbrev pub parent_of : List ℕ → Option (List ℕ)
 parent_of path = parent_with (names_of path)
+
+-- what stands before each name in a directory: its path and a slash; in the root, only the slash
+abbrev pub entry_prefix : List ℕ → List ℕ
+entry_prefix directory = if bytes_eq directory (codes "/") then codes "/" else directory ++ codes "/"

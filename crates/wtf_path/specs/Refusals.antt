@@ -12,9 +12,9 @@ abbrev pub begins_with_slash : List ℕ → Bool
 begins_with_slash [] = false
 begins_with_slash (b ∷ bs) = b == 47
 
--- a byte that can be seen, `!` to `~`
-abbrev pub is_visible : ℕ → Bool
-is_visible b = nat_le 33 b && nat_le b 126
+-- `!` to `~`
+abbrev pub is_graphic : ℕ → Bool
+is_graphic b = nat_le 33 b && nat_le b 126
 
 -- the empty name, `.` and `..`
 abbrev pub is_dot_name : List ℕ → Bool
@@ -24,7 +24,7 @@ is_dot_name (a ∷ b ∷ []) = a == 46 && b == 46
 is_dot_name (a ∷ b ∷ c ∷ _) = false
 
 abbrev pub has_bad_byte : List ℕ → Bool
-has_bad_byte text = list_any (λ b. not (is_visible b)) text
+has_bad_byte text = list_any (λ b. not (is_graphic b)) text
 
 abbrev pub refusal : List ℕ → Option PathError
 refusal text =

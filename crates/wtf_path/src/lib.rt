@@ -2,7 +2,10 @@
 #![tactic(auto)]
 
 mod error;
+mod order;
+mod path;
 mod rules;
+mod slashes;
 
 pub use error::PathError;
-
+pub use path::Path;

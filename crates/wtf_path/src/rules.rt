@@ -3,7 +3,7 @@
 ghost use Rattle.std.specs.Prelude.{◌≡◌, ◌<◌, ◌≤◌, length, count_by};
 ghost use Rattle.std.specs.List.{list_any};
 ghost use Rattle.wtf_path.specs.Parts.{parts_of, is_slash};
-ghost use Rattle.wtf_path.specs.Refusals.{begins_with_slash, has_bad_byte, is_visible, is_dot_name, refusal, number_of};
+ghost use Rattle.wtf_path.specs.Refusals.{begins_with_slash, has_bad_byte, is_dot_name, refusal, number_of};
 
 use crate::PathError;
 
@@ -68,13 +68,7 @@ fn begins_with_slash(text: &[u8]) -> bool
 fn has_bad_byte(text: &[u8]) -> bool
     ensures { result ≡ has_bad_byte text.now }
 {
-    text.iter().any(|b| !is_visible(*b))
-}
-
-fn is_visible(byte: u8) -> bool
-    ensures { result ≡ is_visible byte }
-{
-    byte >= b'!' && byte <= b'~'
+    text.iter().any(|b| !b.is_ascii_graphic())
 }
 
 /// How many parts stand between slashes, empty ones counted.
