@@ -9,3 +9,6 @@ mod slashes;
 
 pub use error::PathError;
 pub use path::Path;
+
+#[cfg(test)]
+mod tests;
