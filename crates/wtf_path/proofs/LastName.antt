@@ -91,12 +91,14 @@ name-is_name text before after cut path other =
 pub record IsParent (text parent : List ℕ) : Type 0 where
   pub value : Some parent ≡ parent_of text
   pub well_formed : IsPath parent
+  pub prefix : (rest : List ℕ) × (text ≡ parent ++ rest)
   pub joined : text ≡ entry_prefix parent ++ name_of text
 
 root-is_parent : (after : List ℕ) → HasNoSlash after → 0 < length after → IsParent (47 ∷ after) (47 ∷ [])
 root-is_parent after clear some = record {
   value = sym (parent_of-around [] after clear (omega arith));
   well_formed = record { names = []; spelled = refl; each = All-nil IsName; depth = omega arith; size = omega arith };
+  prefix = (after, refl);
   joined = rw (name_of-around [] after clear) refl
 }
 
@@ -123,6 +125,7 @@ front-is_parent [] after clear path =
 front-is_parent (g ∷ gs) after clear path = record {
   value = sym (parent_of-around (47 ∷ g ∷ gs) after clear (omega arith) ∙ ap (λ t. Some (47 ∷ t)) (join_with_byte-slice_split 47 (g ∷ gs)));
   well_formed = front-is_path (g ∷ gs) after clear path;
+  prefix = (47 ∷ after, refl);
   joined = rw (name_of-around (47 ∷ g ∷ gs) after clear) (sym (append_assoc (47 ∷ g ∷ gs) (47 ∷ []) after))
 }
 

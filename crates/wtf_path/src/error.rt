@@ -14,7 +14,7 @@ pub enum PathError {
     #[error("the path does not begin with a slash")]
     NotAbsolute,
     /// A byte is not one of `!` to `~`.
-    #[error("the path has a byte that cannot be seen")]
+    #[error("a byte of the path is not one of `!` to `~`")]
     BadByte,
     /// The text has more than 1,023 bytes.
     #[error("the path has more than 1,023 bytes")]
@@ -23,7 +23,7 @@ pub enum PathError {
     #[error("the path has more than 32 names")]
     TooDeep,
     /// A name is empty, `.` or `..`.
-    #[error("a name of the path is empty or has only dots")]
+    #[error("a name of the path is empty, `.` or `..`")]
     DotName,
     /// Memory could not be had; the text is a path.
     #[error("out of memory")]

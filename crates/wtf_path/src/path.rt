@@ -75,6 +75,7 @@ impl Path {
         ensures root { IsNone result ↔ (self.now ≡ codes "/") }
         ensures well_formed { IfSome result (λ parent. IsPath parent.now) }
         ensures shorter { IfSome result (λ parent. length parent.now < length self.now) }
+        ensures prefix { IfSome result (λ parent. (rest : List ℕ) × (self.now ≡ parent.now ++ rest)) }
         ensures joined { IfSome result (λ parent. self.now ≡ entry_prefix parent.now ++ name_of self.now) }
     {
         let text = self.text.as_slice();

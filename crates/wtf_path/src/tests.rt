@@ -1,7 +1,7 @@
 //! The refusals and the parts of paths, from outside.
 
 use super::*;
-use std::alloc::{AllocError, Global};
+use std::alloc::Global;
 use std::process::Abort;
 use std::test::Fail;
 
@@ -17,14 +17,14 @@ fn refusal(rt: &impl Abort, alloc: Global, text: &[u8]) -> u8 {
 }
 
 /// `/`, and `n` bytes `a`.
-fn long(alloc: Global, n: usize) -> Result<Vec<u8>, AllocError> {
-    let mut text = vec![in alloc; b'a'; n + 1]?;
-    text[0] = b'/';
+fn long(alloc: Global, n: usize) -> Result<Vec<u8>, Fail> {
+    let mut text = vec![in alloc; b'a'; n]?;
+    text.insert(0, b'/')?;
     Ok(text)
 }
 
 /// `n` times `/a`.
-fn deep(alloc: Global, n: usize) -> Result<Vec<u8>, AllocError> {
+fn deep(alloc: Global, n: usize) -> Result<Vec<u8>, Fail> {
     let mut text = Vec::new(alloc);
     for _ in 0..n {
         text.extend_from_slice(b"/a")?;
@@ -72,13 +72,13 @@ fn keeps_the_limits(rt: HostRuntime) -> Result<(), Fail> {
 fn takes_paths_apart(rt: HostRuntime) -> Result<(), Fail> {
     let alloc = rt.alloc();
     let path = Path::parse(alloc, b"/a/b")?;
-    assert_eq!(rt; path.name(), b"b");
+    assert_eq!(rt; path.name(), b"b".as_slice());
     let up = Path::parse(alloc, path.parent().ok_or("no parent")?)?;
-    assert_eq!(rt; up.as_bytes(), b"/a");
-    assert_eq!(rt; up.name(), b"a");
+    assert_eq!(rt; up.as_bytes(), b"/a".as_slice());
+    assert_eq!(rt; up.name(), b"a".as_slice());
     let root = Path::parse(alloc, up.parent().ok_or("no parent")?)?;
-    assert_eq!(rt; root.as_bytes(), b"/");
-    assert_eq!(rt; root.name(), b"");
+    assert_eq!(rt; root.as_bytes(), b"/".as_slice());
+    assert_eq!(rt; root.name(), b"".as_slice());
     assert!(rt; root.parent().is_none());
     assert!(rt; path.copy(alloc)? == path);
     assert!(rt; up.cmp(&path).is_lt());

@@ -29,3 +29,9 @@ returns-else-is_empty-clause-well_formed c = (before c).well_formed
 
 pub returns-else-is_empty-clause-joined : goal.returns-else-is_empty-clause-joined
 returns-else-is_empty-clause-joined c = (before c).joined
+
+pub returns-then-is_empty-clause-prefix : goal.returns-then-is_empty-clause-prefix
+returns-then-is_empty-clause-prefix c = (root c).prefix
+
+pub returns-else-is_empty-clause-prefix : goal.returns-else-is_empty-clause-prefix
+returns-else-is_empty-clause-prefix c = (before c).prefix
