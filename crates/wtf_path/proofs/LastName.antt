@@ -1,12 +1,12 @@
 -- A path cut at its last slash: the name, and the directory that it stands in.
-use Rattle.std.proofs.Common.{append_assoc, take, ◌≡◌, ◌≢◌, ℕ, ◌+◌, ◌<◌, ◌≤◌, Bool, true, false, List, [], ◌∷◌, ◌++◌, length, Option, Some, None, refl, sym, ap, ◌∙◌, subst, arith, length-append}
+use Rattle.std.proofs.Common.{append_assoc, take, ◌≡◌, ◌≢◌, ℕ, ◌+◌, ◌<◌, ◌≤◌, Bool, true, false, List, [], ◌∷◌, ◌++◌, length, Some, refl, sym, ap, ◌∙◌, subst, arith, length-append}
 use Rattle.std.specs.Prelude.{codes, ◌==◌}
-use Rattle.std.specs.List.{All, slice_split, join_with_byte}
+use Rattle.std.specs.List.{All, slice_split}
 use Rattle.std.proofs.lemmas.Bool.{false_from_ne_true, eqb-true}
 use Rattle.std.proofs.lemmas.List.Elements.{All-nil, All-cons, All-head, All-tail, All-weaker}
 use Rattle.std.proofs.lemmas.List.Splits.{slice_split_none, join_with_byte-slice_split}
 use Rattle.wtf_path.specs.Grammar.{IsName, IsPath, spelling}
-use Rattle.wtf_path.specs.Parts.{is_slash, parts_of, names_of, last_name, without_last, name_of, parent_of, parent_with, entry_prefix}
+use Rattle.wtf_path.specs.Parts.{is_slash, names_of, last_name, without_last, name_of, parent_of, parent_with, entry_prefix}
 use Rattle.wtf_path.specs.Slashes.{IsAroundLast}
 use Rattle.wtf_path.proofs.Splits.{HasNoSlash, parts_of-some, split-last}
 use Rattle.wtf_path.proofs.Refused.{parts_of-join}
@@ -99,7 +99,7 @@ root-is_parent after clear some = record {
   value = sym (parent_of-around [] after clear (omega arith));
   well_formed = record { names = []; spelled = refl; each = All-nil IsName; depth = omega arith; size = omega arith };
   prefix = (after, refl);
-  joined = rw (name_of-around [] after clear) refl
+  joined = rw (name_of-around [] after clear) refl;
 }
 
 begins : (f : ℕ) (fs after : List ℕ) → IsPath ((f ∷ fs) ++ 47 ∷ after) → f ≡ 47
@@ -109,13 +109,13 @@ front-is_path : (fs after : List ℕ) → HasNoSlash after → IsPath ((47 ∷ f
 front-is_path fs after clear path =
     let all = all-around (47 ∷ fs) after clear (omega arith) path in
     let depth : length (slice_split is_slash fs ++ after ∷ []) ≤ 32 =
-        subst (λ ns. length ns ≤ 32) (names-around (47 ∷ fs) after clear (omega arith)) (names-at_most_32 ((47 ∷ fs) ++ 47 ∷ after) path) in
+    subst (λ ns. length ns ≤ 32) (names-around (47 ∷ fs) after clear (omega arith)) (names-at_most_32 ((47 ∷ fs) ++ 47 ∷ after) path) in
     record {
       names = slice_split is_slash fs;
       spelled = rw (join_with_byte-slice_split 47 fs) refl;
       each = all-front IsName (slice_split is_slash fs) after all;
       depth = omega (arith, length-append (slice_split is_slash fs) (after ∷ []));
-      size = let size = path.size in omega (arith, length-append fs (47 ∷ after))
+      size = let size = path.size in omega (arith, length-append fs (47 ∷ after));
     }
 
 front-is_parent : (fs after : List ℕ) → HasNoSlash after → IsPath ((47 ∷ fs) ++ 47 ∷ after) → IsParent ((47 ∷ fs) ++ 47 ∷ after) (47 ∷ fs)
@@ -126,7 +126,7 @@ front-is_parent (g ∷ gs) after clear path = record {
   value = sym (parent_of-around (47 ∷ g ∷ gs) after clear (omega arith) ∙ ap (λ t. Some (47 ∷ t)) (join_with_byte-slice_split 47 (g ∷ gs)));
   well_formed = front-is_path (g ∷ gs) after clear path;
   prefix = (47 ∷ after, refl);
-  joined = rw (name_of-around (47 ∷ g ∷ gs) after clear) (sym (append_assoc (47 ∷ g ∷ gs) (47 ∷ []) after))
+  joined = rw (name_of-around (47 ∷ g ∷ gs) after clear) (sym (append_assoc (47 ∷ g ∷ gs) (47 ∷ []) after));
 }
 
 some-is_parent : (f : ℕ) (fs after : List ℕ) → HasNoSlash after → IsPath ((f ∷ fs) ++ 47 ∷ after) → IsParent ((f ∷ fs) ++ 47 ∷ after) (f ∷ fs)

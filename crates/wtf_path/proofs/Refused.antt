@@ -1,6 +1,6 @@
 -- A text is a path exactly where nothing is refused.
-use Rattle.std.proofs.Common.{◌≡◌, ◌≢◌, ℕ, ◌+◌, ◌<◌, ◌≤◌, Bool, true, false, List, [], ◌∷◌, ◌++◌, length, Option, Some, None, refl, sym, ap, ◌∙◌, subst, arith, length-append}
-use Rattle.std.specs.Prelude.{not, ◌&&◌, ◌==◌, ◌↔◌, nat_lt, nat_le, codes, if◌then◌else◌, IsNone}
+use Rattle.std.proofs.Common.{◌≡◌, ◌≢◌, ℕ, ◌<◌, ◌≤◌, Bool, true, false, List, [], ◌∷◌, length, Option, Some, None, refl, sym, ap, ◌∙◌, subst, arith, length-append}
+use Rattle.std.specs.Prelude.{not, ◌&&◌, ◌==◌, ◌↔◌, nat_lt, if◌then◌else◌, IsNone}
 use Rattle.std.specs.List.{All, list_any, join_with_byte}
 use Rattle.std.proofs.lemmas.Bool.{false_from_ne_true, not-false, ltb-false, le-ltb, eqb-true, or_parts}
 use Rattle.std.proofs.lemmas.Bool.Decides.{nat_tests}
@@ -50,7 +50,7 @@ name-from_parts n dots bytes = record {
   not_dot = λ e. let k : is_dot_name n ≡ true = ap is_dot_name e in cc;
   not_dot_dot = λ e. let k : is_dot_name n ≡ true = ap is_dot_name e in cc;
   bytes = All-weaker (Within IsGraphic) IsNameByte (λ b p.
-      let r = range-from_graphic b p.0 in (r.0, r.1, λ e. let k : is_slash b ≡ true = ap is_slash e in let f = p.1 in cc)) n bytes
+      let r = range-from_graphic b p.0 in (r.0, r.1, λ e. let k : is_slash b ≡ true = ap is_slash e in let f = p.1 in cc)) n bytes;
 }
 
 names-from_parts : (ns : List (List ℕ)) → list_any is_dot_name ns ≡ false → All (All (Within IsGraphic)) ns → All IsName ns
@@ -58,7 +58,7 @@ names-from_parts [] dots all = All-nil IsName
 names-from_parts (n ∷ ns) dots all =
     let here = or_parts (is_dot_name n) (list_any is_dot_name ns) dots in
     All-cons IsName n ns (name-from_parts n here.0 (All-head (All (Within IsGraphic)) n ns all))
-      (names-from_parts ns here.1 (All-tail (All (Within IsGraphic)) n ns all))
+    (names-from_parts ns here.1 (All-tail (All (Within IsGraphic)) n ns all))
 
 graphic-from_none : (bs : List ℕ) → has_bad_byte bs ≡ false → All IsGraphic bs
 graphic-from_none [] h = All-nil IsGraphic
@@ -82,7 +82,7 @@ joined_all P slash [] all = All-nil P
 joined_all P slash (n ∷ []) all = All-head (All P) n [] all
 joined_all P slash (n ∷ m ∷ ns) all =
     All-append P n (47 ∷ join_with_byte 47 (m ∷ ns)) (All-head (All P) n (m ∷ ns) all)
-      (All-cons P 47 (join_with_byte 47 (m ∷ ns)) slash (joined_all P slash (m ∷ ns) (All-tail (All P) n (m ∷ ns) all)))
+    (All-cons P 47 (join_with_byte 47 (m ∷ ns)) slash (joined_all P slash (m ∷ ns) (All-tail (All P) n (m ∷ ns) all)))
 
 -- the refusals in their order
 abbrev chain : Bool → Bool → Bool → Bool → Bool → Bool → Option PathError
@@ -123,14 +123,14 @@ spelled_none : (ns : List (List ℕ)) → All IsName ns → length ns ≤ 32 →
 spelled_none ns all depth size =
     let names = parts_of-join ns all in
     let bytes : All IsGraphic (spelling ns) =
-        All-cons IsGraphic 47 (join_with_byte 47 ns) refl (joined_all IsGraphic refl ns (All-weaker IsName (All IsGraphic) name-is_graphic ns all)) in
+    All-cons IsGraphic 47 (join_with_byte 47 ns) refl (joined_all IsGraphic refl ns (All-weaker IsName (All IsGraphic) name-is_graphic ns all)) in
     chain-none (is_empty (spelling ns)) (begins_with_slash (spelling ns)) (has_bad_byte (spelling ns)) (nat_lt 1023 (length (spelling ns)))
-      (nat_lt 32 (length (names_of (spelling ns)))) (list_any is_dot_name (names_of (spelling ns)))
-      (some-not_empty 47 (join_with_byte 47 ns)) refl
-      (list_any_none (λ b. not (is_graphic b)) (spelling ns) (All-weaker IsGraphic (λ b. not (is_graphic b) ≡ false) (λ b p. ap not p) (spelling ns) bytes))
-      (le-ltb 1023 (length (spelling ns)) size)
-      (le-ltb 32 (length (names_of (spelling ns))) (rw names depth))
-      (rw names (list_any_none is_dot_name ns (All-weaker IsName (λ n. is_dot_name n ≡ false) name-not_dots ns all)))
+    (nat_lt 32 (length (names_of (spelling ns)))) (list_any is_dot_name (names_of (spelling ns)))
+    (some-not_empty 47 (join_with_byte 47 ns)) refl
+    (list_any_none (λ b. not (is_graphic b)) (spelling ns) (All-weaker IsGraphic (λ b. not (is_graphic b) ≡ false) (λ b p. ap not p) (spelling ns) bytes))
+    (le-ltb 1023 (length (spelling ns)) size)
+    (le-ltb 32 (length (names_of (spelling ns))) (rw names depth))
+    (rw names (list_any_none is_dot_name ns (All-weaker IsName (λ n. is_dot_name n ≡ false) name-not_dots ns all)))
 
 pub refused_none : (text : List ℕ) → IsPath text → refusal text ≡ None
 refused_none text path =
@@ -141,14 +141,14 @@ pub path-from_none : (text : List ℕ) → refusal text ≡ None → IsPath text
 path-from_none [] none = absurd cc
 path-from_none (s ∷ bs) none =
     let p = passes (is_empty (s ∷ bs)) (begins_with_slash (s ∷ bs)) (has_bad_byte (s ∷ bs)) (nat_lt 1023 (length (s ∷ bs)))
-          (nat_lt 32 (length (parts_of bs))) (list_any is_dot_name (parts_of bs)) none in
+    (nat_lt 32 (length (parts_of bs))) (list_any is_dot_name (parts_of bs)) none in
     let slash : s ≡ 47 = eqb-true s 47 p.absolute in
     record {
       names = parts_of bs;
       spelled = rw (join-parts_of bs) (ap (λ b. b ∷ bs) slash);
       each = names-from_parts (parts_of bs) p.names (parts_of_within IsGraphic bs (All-tail IsGraphic s bs (graphic-from_none (s ∷ bs) p.bytes)));
       depth = ltb-false 32 (length (parts_of bs)) p.depth;
-      size = ltb-false 1023 (length (s ∷ bs)) p.size
+      size = ltb-false 1023 (length (s ∷ bs)) p.size;
     }
 
 none-from_is : (o : Option PathError) → IsNone o → o ≡ None

@@ -2,7 +2,7 @@
 use Rattle.std.proofs.Common.{◌≡◌, ℕ, ◌+◌, ◌<◌, Bool, true, false, cond, List, [], ◌∷◌, ◌++◌, length, refl, ap, ◌∙◌, arith}
 use Rattle.std.specs.Prelude.{◌==◌}
 use Rattle.std.specs.List.{All, slice_split, join_with_byte, onto_first, count_by}
-use Rattle.std.proofs.lemmas.List.Splits.{length-slice_split, join_with_byte-slice_split, slice_split_none, slice_split_at, slice_split-cons_yes, slice_split-cons_no}
+use Rattle.std.proofs.lemmas.List.Splits.{length-slice_split, join_with_byte-slice_split, slice_split_none, slice_split_at}
 use Rattle.std.proofs.lemmas.List.Elements.{All-nil, All-cons, All-head, All-tail}
 use Rattle.wtf_path.specs.Parts.{is_slash, parts_of}
 
@@ -38,9 +38,10 @@ slice_split_within P (x ∷ xs) all =
     let rest = slice_split_within P xs (All-tail P x xs all) in
     let here = All-head P x xs all in
     let step : (b : Bool) → is_slash x ≡ b → All (All (Within P)) (cond b ([] ∷ slice_split is_slash xs) (onto_first x (slice_split is_slash xs))) =
-        λ b. elim b as (λ b. is_slash x ≡ b → All (All (Within P)) (cond b ([] ∷ slice_split is_slash xs) (onto_first x (slice_split is_slash xs)))) [
-          true ↦ λ e. All-cons (All (Within P)) [] (slice_split is_slash xs) (All-nil (Within P)) rest
-        | false ↦ λ e. onto_first_all (Within P) x (slice_split is_slash xs) (here, e) rest ] in
+    λ b. elim b as (λ b. is_slash x ≡ b → All (All (Within P)) (cond b ([] ∷ slice_split is_slash xs) (onto_first x (slice_split is_slash xs)))) [
+      | true ↦ λ e. All-cons (All (Within P)) [] (slice_split is_slash xs) (All-nil (Within P)) rest
+      | false ↦ λ e. onto_first_all (Within P) x (slice_split is_slash xs) (here, e) rest
+    ] in
     step (is_slash x) refl
 
 pub parts_of_within : (P : ℕ → Type 0) (bs : List ℕ) → All P bs → All (All (Within P)) (parts_of bs)
@@ -67,9 +68,10 @@ split-last [] after clear = ap (λ parts. [] ∷ parts) (slice_split_none is_sla
 split-last (x ∷ xs) after clear =
     let rest = split-last xs after clear in
     let step : (b : Bool) → cond b ([] ∷ slice_split is_slash (xs ++ 47 ∷ after)) (onto_first x (slice_split is_slash (xs ++ 47 ∷ after)))
-          ≡ cond b ([] ∷ slice_split is_slash xs) (onto_first x (slice_split is_slash xs)) ++ after ∷ [] =
-        λ b. elim b as (λ b. cond b ([] ∷ slice_split is_slash (xs ++ 47 ∷ after)) (onto_first x (slice_split is_slash (xs ++ 47 ∷ after)))
-          ≡ cond b ([] ∷ slice_split is_slash xs) (onto_first x (slice_split is_slash xs)) ++ after ∷ []) [
-          true ↦ ap (λ parts. [] ∷ parts) rest
-        | false ↦ ap (onto_first x) rest ∙ onto_first-append x (slice_split is_slash xs) after (let k = length-slice_split is_slash xs in omega arith) ] in
+    ≡ cond b ([] ∷ slice_split is_slash xs) (onto_first x (slice_split is_slash xs)) ++ after ∷ [] =
+    λ b. elim b as (λ b. cond b ([] ∷ slice_split is_slash (xs ++ 47 ∷ after)) (onto_first x (slice_split is_slash (xs ++ 47 ∷ after)))
+    ≡ cond b ([] ∷ slice_split is_slash xs) (onto_first x (slice_split is_slash xs)) ++ after ∷ []) [
+      | true ↦ ap (λ parts. [] ∷ parts) rest
+      | false ↦ ap (onto_first x) rest ∙ onto_first-append x (slice_split is_slash xs) after (let k = length-slice_split is_slash xs in omega arith)
+    ] in
     step (is_slash x)

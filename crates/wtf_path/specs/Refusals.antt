@@ -1,5 +1,5 @@
 -- What is wrong with a text that is no path: the first that holds, in this order.
-use Rattle.std.specs.Prelude.{◌≡◌, ℕ, Bool, true, false, not, ◌&&◌, ◌||◌, ◌==◌, nat_lt, nat_le, if◌then◌else◌, List, [], ◌∷◌, length, Option, Some, None, Result, MatchResult}
+use Rattle.std.specs.Prelude.{ℕ, Bool, true, false, not, ◌&&◌, ◌==◌, nat_lt, nat_le, if◌then◌else◌, List, [], ◌∷◌, length, Option, Some, None}
 use Rattle.std.specs.List.{list_any}
 use Rattle.wtf_path.specs.declared.error.PathError.{PathError}
 use Rattle.wtf_path.specs.declared.error.PathError.TheVariants.{Empty, NotAbsolute, BadByte, TooLong, TooDeep, DotName, Memory}

@@ -10,5 +10,5 @@ pub returns : goal.returns
 returns c =
     rw (parts_of-some c.args.behind.now (some_bytes _ _ c.is_empty.ensures c.if-is_empty.false))
     (any_from_yields_List is_dot_name _ _ _ c.any.ensures.ran
-      (YieldsList-from_slice_split _ is_slash c.args.behind.now c.split.ensures.rest c.split.ensures.done c.split.ensures.closure (λ x r q k. search (rules, tests)))
-      (λ x b q k. search (rules, tests)))
+    (YieldsList-from_slice_split _ is_slash c.args.behind.now c.split.ensures.rest c.split.ensures.done c.split.ensures.closure (λ x r q k. search (rules, tests)))
+    (λ x b q k. search (rules, tests)))

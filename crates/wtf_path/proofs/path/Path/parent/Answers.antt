@@ -7,13 +7,13 @@ use Rattle.wtf_path.proofs.path.Path.parent.Goals.{Then-is_empty, Else-is_empty}
 root : (c : Then-is_empty) → IsParent c.args.self.now (take 1 c.as_slice-text.result.now)
 root c =
     parent-root c.args.self.now c.as_slice-text.result.now c.around_last_slash.result.0.now c.around_last_slash.result.1.now c.is_empty.result
-      (c.as_slice-text.ensures.value ∙ c.self.view_is) c.around_last_slash.ensures c.is_empty.ensures c.if-is_empty.true c.if-text-eq1.false
+    (c.as_slice-text.ensures.value ∙ c.self.view_is) c.around_last_slash.ensures c.is_empty.ensures c.if-is_empty.true c.if-text-eq1.false
 
 before : (c : Else-is_empty) → IsParent c.args.self.now c.around_last_slash.result.0.now
 before c =
     parent-before c.args.self.now c.as_slice-text.result.now c.around_last_slash.result.0.now c.around_last_slash.result.1.now c.is_empty.result
-      (c.as_slice-text.ensures.value ∙ c.self.view_is) c.around_last_slash.ensures c.is_empty.ensures c.if-is_empty.false
-      (subst IsPath c.self.view_is c.self.invariant)
+    (c.as_slice-text.ensures.value ∙ c.self.view_is) c.around_last_slash.ensures c.is_empty.ensures c.if-is_empty.false
+    (subst IsPath c.self.view_is c.self.invariant)
 
 pub returns-then-is_empty-clause-value : goal.returns-then-is_empty-clause-value
 returns-then-is_empty-clause-value c = (root c).value
