@@ -2,7 +2,7 @@
 use Rattle.std.specs.Prelude.{◌≡◌, ◌≢◌, ℕ, ◌≤◌, List, [], ◌∷◌, length, codes, All}
 use Rattle.std.specs.List.{join_with_byte}
 
--- a name has at least one byte, and each is one that can be seen and no slash; it is neither `.` nor `..`
+-- a name has at least one byte, each of them one that can be seen and no slash, and is neither `.` nor `..`
 pub record IsName (name : List ℕ) : Type 0 where
   pub some : name ≢ []
   pub not_dot : name ≢ codes "."

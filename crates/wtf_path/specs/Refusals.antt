@@ -1,4 +1,4 @@
--- What is wrong with a text that is no path: the first that holds, in this order.
+-- The rules of paths, and the refusal of a text that breaks one.
 use Rattle.std.specs.Prelude.{ℕ, Bool, true, false, not, ◌&&◌, ◌==◌, nat_lt, nat_le, if◌then◌else◌, List, [], ◌∷◌, length, Option, Some, None}
 use Rattle.std.specs.List.{list_any}
 use Rattle.wtf_path.specs.declared.error.PathError.{PathError}
@@ -23,9 +23,11 @@ is_dot_name (a ∷ []) = a == 46
 is_dot_name (a ∷ b ∷ []) = a == 46 && b == 46
 is_dot_name (a ∷ b ∷ c ∷ _) = false
 
+-- a byte is not one of `!` to `~`
 abbrev pub has_bad_byte : List ℕ → Bool
 has_bad_byte text = list_any (λ b. not (is_graphic b)) text
 
+-- the first of these that holds; nothing is refused of a path
 abbrev pub refusal : List ℕ → Option PathError
 refusal text =
     if is_empty text then Some Empty

@@ -73,7 +73,6 @@ fn has_bad_byte(text: &[u8]) -> bool
 
 /// How many parts stand between slashes, empty ones counted.
 fn count_parts(behind: &[u8]) -> usize
-    requires { length behind.now < 1023 }
     ensures { result ≡ length (parts_of behind.now) }
 {
     if behind.is_empty() {
