@@ -1,0 +1,4 @@
+pub mod Cut
+pub mod LastName
+pub mod Refused
+pub mod Splits
