@@ -25,12 +25,16 @@ overlay_byte byte_at es x = meaning byte_at (origin es x)
 abbrev pub pieces_byte : (Place → Option ℕ) → List Piece → ℕ → Option ℕ
 pieces_byte byte_at ps i = meaning byte_at (pieces_origin ps i)
 
+-- the pieces have the n bytes of the list from off on, whatever the stores tell
+abbrev pub HaveBytes : List Piece → ℕ → List Entry → ℕ → Type 0
+HaveBytes ps n es off =
+    (byte_at : Place → Option ℕ) (i : ℕ) → i < n → pieces_byte byte_at ps i ≡ overlay_byte byte_at es (off + i)
+
 -- pieces with equal origins have equal bytes
 pub pieces_byte-origins : (byte_at : Place → Option ℕ) (ps qs : List Piece) (i j : ℕ)
     → pieces_origin ps i ≡ pieces_origin qs j → pieces_byte byte_at ps i ≡ pieces_byte byte_at qs j
 pieces_byte-origins byte_at ps qs i j same = ap (meaning byte_at) same
 
 -- a plan has the bytes of its list
-pub Plans-bytes : (byte_at : Place → Option ℕ) (ps : List Piece) (es : List Entry) (off n : ℕ) → Plans ps n (λ i. origin es (off + i))
-    → (i : ℕ) → i < n → pieces_byte byte_at ps i ≡ overlay_byte byte_at es (off + i)
-Plans-bytes byte_at ps es off n plans i below = ap (meaning byte_at) (plans.origin i below)
+pub Plans-bytes : (ps : List Piece) (n : ℕ) (es : List Entry) (off : ℕ) → Plans ps n (λ i. origin es (off + i)) → HaveBytes ps n es off
+Plans-bytes ps n es off plans = λ byte_at i below. ap (meaning byte_at) (plans.origin i below)

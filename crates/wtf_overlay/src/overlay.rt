@@ -2,6 +2,7 @@
 
 ghost use Rattle.std.specs.Prelude.{◌≡◌, ℕ, ◌*◌, ◌+◌, ◌<◌, ◌≤◌, ◌++◌, [], ◌∷◌, length, Some, OnOk, OnErr, IfOk, slice_get};
 ghost use Rattle.wtf_overlay.specs.Origin.{origin, Plans};
+ghost use Rattle.wtf_overlay.specs.Meaning.{HaveBytes};
 
 use crate::plan::pieces_of;
 use crate::{Entry, Piece};
@@ -78,6 +79,7 @@ impl Overlay {
     /// 0 there is none. Holes reach past every entry, and past 2^32 too.
     pub fn plan(&self, off: u32, len: u32) -> Result<Vec<Piece>, OutOfMemory>
         ensures origins { IfOk result (λ v. Plans v.items len (λ i. origin self.now (off + i))) }
+        ensures bytes { IfOk result (λ v. HaveBytes v.items len self.now off) }
         ensures count { IfOk result (λ v. length v.items ≤ 2 * length self.now + 1) }
         ensures none { len ≡ 0 → IfOk result (λ v. v.items ≡ []) }
     {

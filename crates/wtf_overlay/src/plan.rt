@@ -76,7 +76,12 @@ fn piece_at(entries: &[Entry], x: u64, end: u64) -> Piece
 }
 
 /// The `len` bytes from `off` on as consecutive pieces.
-pub(crate) fn pieces_of(alloc: Global, entries: &[Entry], off: u32, len: u32) -> Result<Vec<Piece>, OutOfMemory>
+pub(crate) fn pieces_of(
+    alloc: Global,
+    entries: &[Entry],
+    off: u32,
+    len: u32,
+) -> Result<Vec<Piece>, OutOfMemory>
     ensures origins { IfOk result (λ v. Plans v.items len (λ i. origin entries.now (off + i))) }
     ensures count { IfOk result (λ v. length v.items ≤ 2 * length entries.now + 1) }
     ensures none { len ≡ 0 → IfOk result (λ v. v.items ≡ []) }
