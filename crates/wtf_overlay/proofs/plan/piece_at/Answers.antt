@@ -1,6 +1,6 @@
-use Rattle.std.proofs.Common.{◌≡◌, ℕ, ◌+◌, ◌-◌, ◌<◌, ◌≤◌, ap, sym, ◌∙◌, arith, inl, inr, ◌⊎◌, min}
+use Rattle.std.proofs.Common.{◌≡◌, ◌+◌, ◌-◌, ◌<◌, ap, sym, ◌∙◌, arith, inl, inr, min}
 use Rattle.std.proofs.lemmas.Bool.{cases_lt}
-use Rattle.wtf_overlay.specs.Origin.{part_origin, origin}
+use Rattle.wtf_overlay.specs.Origin.{part_origin}
 use Rattle.wtf_overlay.specs.Origins.{over_before, over_after, over_within}
 use Rattle.wtf_overlay.proofs.Pieces.{origin-back}
 use Rattle.wtf_overlay.proofs.Borders.{above_start, above_end}

@@ -1,4 +1,4 @@
-use Rattle.std.proofs.Common.{◌≡◌, ℕ, ◌+◌, ◌-◌, ap, ◌∙◌, arith, inl, inr, length, length-append, [], ◌∷◌}
+use Rattle.std.proofs.Common.{◌≡◌, ◌+◌, ◌-◌, ap, ◌∙◌, arith, inl, inr, length, length-append, [], ◌∷◌}
 use Rattle.wtf_overlay.specs.Origin.{origin}
 use Rattle.wtf_overlay.proofs.Pieces.{Plans-push, pieces-none}
 use Rattle.wtf_overlay.proofs.Borders.{borders_above-most}

@@ -1,4 +1,4 @@
-use Rattle.std.proofs.Common.{◌-◌, ◌≡◌, ℕ, ◌+◌, ◌≤◌, ◌⊎◌, length}
+use Rattle.std.proofs.Common.{◌-◌, ◌≡◌, ◌+◌, ◌≤◌, ◌⊎◌, length}
 use Rattle.wtf_overlay.specs.Origin.{origin, Plans}
 use Rattle.wtf_overlay.specs.Borders.{borders_above}
 use Rattle.wtf_overlay.proofs.plan.pieces_of.Given as goal
