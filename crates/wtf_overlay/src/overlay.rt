@@ -65,7 +65,7 @@ impl Overlay {
         Ok(())
     }
 
-    /// The same list for a second holder. What is pushed to one of them leaves the other as it is.
+    /// The same list for a second holder, as a copy. What is pushed to one leaves the other as it is.
     pub fn share(&self) -> Result<Overlay, OutOfMemory>
         ensures { IfOk result (λ o. o ≡ self.now) }
     {
@@ -76,7 +76,7 @@ impl Overlay {
     }
 
     /// The `len` bytes from `off` on as consecutive pieces, each of one entry or of a hole. Where `len` is
-    /// 0 there is none. Holes reach past every entry, and past 2^32 too.
+    /// 0 there is none. Holes reach past every entry, and past 2^32 too. Its cost is entries times pieces.
     pub fn plan(&self, off: u32, len: u32) -> Result<Vec<Piece>, OutOfMemory>
         ensures origins { IfOk result (λ v. Plans v.items len (λ i. origin self.now (off + i))) }
         ensures bytes { IfOk result (λ v. HaveBytes v.items len self.now off) }

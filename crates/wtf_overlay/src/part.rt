@@ -7,7 +7,9 @@ use wtf_base::Slice;
 /// Bytes that are zeros, or those of a slice.
 #[derive(Clone, Copy, Debug, PartialEq, Eq)]
 pub enum Part {
+    /// Zeros that no slice holds.
     Zero,
+    /// The bytes of this slice.
     Held(Slice),
 }
 
@@ -19,6 +21,7 @@ pub struct Entry {
     pub off: u32,
     /// The number of bytes.
     pub len: u32,
+    /// What it holds there.
     pub part: Part,
     pub ghost positive: { 0 < len },
     pub ghost fits: { off + len < 2 ^ 32 },
@@ -30,6 +33,7 @@ pub struct Entry {
 pub struct Piece {
     /// The number of bytes.
     pub len: u64,
+    /// What it holds.
     pub part: Part,
     pub ghost positive: { 0 < len },
     pub ghost held: { HasLength len part } by { HasLength_prop len part },
