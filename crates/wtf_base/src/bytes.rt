@@ -32,6 +32,13 @@ impl Bytes {
     {
         self.content.as_slice()
     }
+
+    /// The vector of the bytes, which is given back as it is.
+    pub fn into_vec(self) -> Vec<u8>
+        ensures { result.items ≡ self }
+    {
+        self.content
+    }
 }
 
 impl PartialEq for Bytes {

@@ -2,7 +2,7 @@
 
 ghost use Rattle.std.specs.Prelude.{◌≡◌, ℕ, ◌+◌, ◌<◌, ◌≤◌, ◌^◌, map, length, slice_get, Some, IsTrue, IsSome, IfSome, ◌↔◌};
 ghost use Rattle.wtf_base.specs.Pointers.{is_slice, part_of, follows_on, all_follow_on, lengthened};
-ghost use Rattle.wtf_base.specs.Slices.{pointers_of};
+ghost use Rattle.wtf_base.specs.Slices.{len_of, pointers_of};
 ghost use Rattle.wtf_base.specs.Extents.{extent_of, pointer_to};
 
 use crate::slice::{Extent, Extents};
@@ -41,7 +41,7 @@ impl Slice {
 
     /// The number of bytes.
     pub fn len(&self) -> u32
-        ensures value { result ≡ self.now.len }
+        ensures value { result ≡ len_of self.now }
         ensures positive { 0 < result }
     {
         self.len
@@ -63,6 +63,8 @@ impl Slice {
     pub fn pointer(&self, i: u8) -> Pointer
         requires { i < length (pointers_of self.now) }
         ensures value { slice_get (pointers_of self.now) i ≡ Some result }
+        ensures len { result.len ≡ len_of self.now }
+        ensures within { result.at + result.len < 2 ^ 63 }
     {
         let extent = match self.extents {
             Extents::One(a) => a,
@@ -86,7 +88,7 @@ impl Slice {
     /// The part of `len` bytes from byte `off` on. No server is asked.
     pub fn cut(&self, off: u32, len: u32) -> Slice
         requires some { 0 < len }
-        requires within { off + len ≤ self.now.len }
+        requires within { off + len ≤ len_of self.now }
         ensures value { pointers_of result ≡ map (part_of off len) (pointers_of self.now) }
     {
         let extents = match self.extents {
@@ -101,8 +103,8 @@ impl Slice {
     /// `next` begins in each copy where this one ends, and the sum of the lengths is below 2^32.
     pub fn join(&self, next: &Slice) -> Option<Slice>
         ensures found { IsSome result ↔
-            (IsTrue (all_follow_on (pointers_of self.now) (pointers_of next.now)) × (self.now.len + next.now.len < 2 ^ 32)) }
-        ensures value { IfSome result (λ s. pointers_of s ≡ map (lengthened (self.now.len + next.now.len)) (pointers_of self.now)) }
+            (IsTrue (all_follow_on (pointers_of self.now) (pointers_of next.now)) × (len_of self.now + len_of next.now < 2 ^ 32)) }
+        ensures value { IfSome result (λ s. pointers_of s ≡ map (lengthened (len_of self.now + len_of next.now)) (pointers_of self.now)) }
     {
         let len = self.len.checked_add(next.len)?;
         let n = self.len;
