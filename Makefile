@@ -1,0 +1,30 @@
+# `make help` lists the targets. Each needs `rt`, the command of the Rattle kit, on the path.
+
+.DEFAULT_GOAL := build
+.PHONY: build demo test bench clean help
+
+PROGRAM := crates/wtf_cli
+
+build: ## prove the program, and put it at build/wtf
+	cd $(PROGRAM) && rt run -- - < /dev/null > /dev/null
+	mkdir -p build
+	cp $(PROGRAM)/out/wtf_cli build/wtf
+
+demo: ## run examples/first.wtf, built fast and without a proof, and compare what it prints
+	@mkdir -p build
+	@cd $(PROGRAM) && rt try -- - < ../../examples/first.wtf > ../../build/first.out
+	@cat build/first.out
+	@diff examples/first.out build/first.out && echo 'make: the output is that of examples/first.out'
+
+test: ## the gate: prove every crate, try the wrong bodies, run the tests and the programs
+	rt ci
+
+bench: ## print the table of costs, where the crate of benchmarks is there
+	@if [ -d crates/wtf_bench ]; then cd crates/wtf_bench && rt run; \
+	else echo 'make: there are no benchmarks yet'; fi
+
+clean: ## remove what was built
+	rm -rf build crates/*/out
+
+help: ## list the targets
+	@awk -F ':.*## ' '/^[a-z]+:.*## / { printf "make %-8s %s\n", $$1, $$2 }' $(MAKEFILE_LIST)
