@@ -1,0 +1,142 @@
+-- Steps of one client alone, whose calls go on from session to session.
+use Rattle.std.proofs.Common.{◌≡◌, ℕ, ◌+◌, ◌-◌, ◌*◌, ◌<◌, ◌==◌, ◌||◌, not, cond, is_some, false, List, [], ◌∷◌, ◌++◌, length, Some, None, refl, sym, ap, subst, ◌∙◌, inl}
+use Rattle.std.proofs.lemmas.Bool.{lt-leb}
+use Rattle.std.proofs.lemmas.List.{length_push}
+use Rattle.std.specs.FinMap.{get, len, get-insert, get-empty, get-remove, len-insert, len-empty, len-remove}
+use Rattle.std.specs.Cmp.{nat_cmp_total}
+use Rattle.std.specs.Ordering.{nat_cmp}
+use Rattle.wtf_base.specs.declared.settings.Settings.{Settings}
+use Rattle.wtf_model.specs.declared.answer.Answer.{Answer}
+use Rattle.wtf_model.specs.declared.answer.Answer.TheVariants.{Begun, Committed}
+use Rattle.wtf_model.specs.declared.op.Op.{Op}
+use Rattle.wtf_model.specs.declared.event.Verb.TheVariants as verb
+use Rattle.wtf_model.specs.Tree.{Tree}
+use Rattle.wtf_model.specs.Session.{Session, fresh}
+use Rattle.wtf_model.specs.Call.{call}
+use Rattle.wtf_model.specs.Transaction.{Transaction, session_from, answers_from, session_after, answers_of}
+use Rattle.wtf_model.specs.Steps.{Machine, May, after, start, cap_of, session_of, due, is_later_client, is_later_call, with_transaction}
+use Rattle.wtf_model.specs.Laws.{session_from-push, answers_from-push}
+use Rattle.wtf_model.specs.StepLaws.{May-built, MayClient-built, after-client, IsLogged, IsBuiltCall, IsLogged-call, logged, called-logged, MayCall-logged}
+use Rattle.wtf_model.specs.Examples.{asks, calls}
+
+-- the greatest length of a file
+abbrev pub cap_with : Settings → ℕ
+cap_with settings = 4096 * settings.region
+
+-- no transaction is open
+pub record IsIdle (settings : Settings) (number : ℕ) (tree : Tree) (m : Machine) : Type 0 where
+  pub settings_are : m.settings ≡ settings
+  pub number_is : m.number ≡ number
+  pub now : m.now ≡ tree
+  pub none : get m.transactions 0 ≡ None
+  pub empty : len m.transactions ≡ 0
+
+-- client 0 alone has a transaction, whose n calls left the session s; nothing was installed since it began
+pub record IsOpen (settings : Settings) (number : ℕ) (tree : Tree) (n : ℕ) (s : Session) (m : Machine) : Type 0 where
+  pub t : Transaction
+  pub here : get m.transactions 0 ≡ Some t
+  pub one : len m.transactions ≡ 1
+  pub settings_are : m.settings ≡ settings
+  pub number_is : m.number ≡ number
+  pub now : m.now ≡ tree
+  pub base : t.tree ≡ tree
+  pub calls_are : length t.ops ≡ n
+  pub session : session_after (cap_with settings) tree t.ops ≡ s
+  pub shown : answers_of (cap_with settings) tree t.ops ≡ t.shown
+
+pub idle_at_start : (settings : Settings) (number : ℕ) (tree : Tree) → IsIdle settings number tree (start settings number tree)
+idle_at_start settings number tree = record {
+  settings_are = refl;
+  number_is = refl;
+  now = refl;
+  none = get-empty nat_cmp 0;
+  empty = len-empty nat_cmp Transaction;
+}
+
+begun_transaction : Machine → Transaction
+begun_transaction m = record { stamp = m.next_stamp; base = m.number; tree = m.now; ops = []; shown = []; replayed = 0; touched = [] }
+
+pub step_begin : (settings : Settings) (number : ℕ) (tree : Tree) (m : Machine) → IsIdle settings number tree m
+    → May m (asks verb.Begin) (Begun number) × IsOpen settings number tree 0 (fresh tree) (after m (asks verb.Begin) (Begun number))
+unfolding session_from answers_from begun_transaction
+step_begin settings number tree m i = (
+  May-built m 0 verb.Begin (Begun number) None i.none (ap (λ n. not (n == 0)) i.empty) (ap Begun (sym i.number_is)),
+  subst (IsOpen settings number tree 0 (fresh tree)) (sym (after-client m 0 verb.Begin (Begun number) None i.none)) (record {
+    t = begun_transaction m;
+    here = get-insert nat_cmp_total m.transactions 0 (begun_transaction m) 0;
+    one = len-insert nat_cmp_total m.transactions 0 (begun_transaction m)
+        ∙ ap (λ o. cond (is_some o) (len m.transactions) (len m.transactions + 1)) i.none ∙ ap (λ n. n + 1) i.empty;
+    settings_are = i.settings_are;
+    number_is = i.number_is;
+    now = i.now;
+    base = i.now;
+    calls_are = refl;
+    session = refl;
+    shown = refl;
+  }),
+)
+
+module _ (settings : Settings) (number : ℕ) (tree : Tree) (n : ℕ) (s : Session) (m : Machine) (i : IsOpen settings number tree n s m) where
+  pub session_is : session_of m i.t ≡ s
+  session_is = ap (λ x. session_after (4096 * x.region) i.t.tree i.t.ops) i.settings_are
+      ∙ ap (λ x. session_after (cap_with settings) x i.t.ops) i.base ∙ i.session
+
+  pub due_is : (o : Op (List ℕ)) → due m i.t o ≡ (call (cap_with settings) s o).answer
+  due_is o = ap (λ x. (call (4096 * x.region) (session_of m i.t) o).answer) i.settings_are ∙ ap (λ x. (call (cap_with settings) x o).answer) session_is
+
+  pub is_built : (o : Op (List ℕ)) → n < 4096 → is_later_call m s o ≡ false → is_later_client m (Some i.t) (verb.Call o) ≡ false
+  is_built o room near =
+      ap (λ b. b || is_later_call m (session_of m i.t) o) (lt-leb 4096 (length i.t.ops) (subst (λ k. k < 4096) (sym i.calls_are) room))
+      ∙ ap (λ x. is_later_call m x o) session_is ∙ near
+
+  pub step_call : (o : Op (List ℕ)) (after_it : Session) (a : Answer) → n < 4096 → IsBuiltCall o → is_later_call m s o ≡ false
+      → call (cap_with settings) s o ≡ record { session = after_it; answer = a }
+      → May m (calls o) a × IsOpen settings number tree (n + 1) after_it (after m (calls o) a)
+  step_call o after_it a room built near is =
+      let cap : ℕ = cap_with settings in
+      let answered : due m i.t o ≡ a = due_is o ∙ ap (λ d. d.answer) is in
+      let safe : IsLogged a = subst (λ d. IsLogged d.answer) is (IsLogged-call cap s o built) in
+      let so : after m (calls o) a ≡ with_transaction m 0 (logged i.t o a) = after-client m 0 (verb.Call o) a (Some i.t) i.here ∙ called-logged m 0 i.t o a safe in (
+        May-built m 0 (verb.Call o) a (Some i.t) i.here (is_built o room near) (inl (sym answered)),
+        subst (IsOpen settings number tree (n + 1) after_it) (sym so) (record {
+          t = logged i.t o a;
+          here = get-insert nat_cmp_total m.transactions 0 (logged i.t o a) 0;
+          one = len-insert nat_cmp_total m.transactions 0 (logged i.t o a)
+              ∙ ap (λ x. cond (is_some x) (len m.transactions) (len m.transactions + 1)) i.here ∙ i.one;
+          settings_are = i.settings_are;
+          number_is = i.number_is;
+          now = i.now;
+          base = i.base;
+          calls_are = length_push i.t.ops o ∙ ap (λ k. k + 1) i.calls_are;
+          session = session_from-push cap (fresh tree) i.t.ops o ∙ ap (λ x. (call cap x o).session) i.session ∙ ap (λ d. d.session) is;
+          shown = answers_from-push cap (fresh tree) i.t.ops o
+              ∙ ap (λ l. l ++ (call cap (session_after cap tree i.t.ops) o).answer ∷ []) i.shown
+              ∙ ap (λ x. i.t.shown ++ (call cap x o).answer ∷ []) i.session ∙ ap (λ d. i.t.shown ++ d.answer ∷ []) is;
+        }),
+      )
+
+  agrees : answers_of (cap_of m) m.now i.t.ops ≡ i.t.shown
+  agrees = ap (λ x. answers_of (4096 * x.region) m.now i.t.ops) i.settings_are ∙ ap (λ x. answers_of (cap_with settings) x i.t.ops) i.now ∙ i.shown
+
+  pub step_try : May m (asks verb.Try) (Committed (number + 1)) × IsIdle settings (number + 1) s.tree (after m (asks verb.Try) (Committed (number + 1)))
+  step_try = (
+    May-built m 0 verb.Try (Committed (number + 1)) (Some i.t) i.here refl (ap (λ k. k + 1) (sym i.number_is), agrees),
+    subst (IsIdle settings (number + 1) s.tree) (sym (after-client m 0 verb.Try (Committed (number + 1)) (Some i.t) i.here)) (record {
+      settings_are = i.settings_are;
+      number_is = refl;
+      now = ap (λ x. (session_after (4096 * x.region) m.now i.t.ops).tree) i.settings_are
+          ∙ ap (λ x. (session_after (cap_with settings) x i.t.ops).tree) i.now ∙ ap (λ x. x.tree) i.session;
+      none = get-remove nat_cmp_total m.transactions 0 0;
+      empty = len-remove nat_cmp_total m.transactions 0
+          ∙ ap (λ o. cond (is_some o) (len m.transactions - 1) (len m.transactions)) i.here ∙ ap (λ k. k - 1) i.one;
+    }),
+  )
+
+  -- a commit takes the next number
+  pub try_number : (k : ℕ) → May m (asks verb.Try) (Committed k) → k ≡ number + 1
+  try_number k h = (MayClient-built m 0 verb.Try (Committed k) (Some i.t) i.here refl h).0 ∙ ap (λ k. k + 1) i.number_is
+
+  -- an answer of a call that is logged is the one that is due
+  pub call_answer : (o : Op (List ℕ)) (a : Answer) → IsLogged a → n < 4096 → is_later_call m s o ≡ false → May m (calls o) a → a ≡ (call (cap_with settings) s o).answer
+  call_answer o a own room near h =
+      MayCall-logged m i.t o a own (MayClient-built m 0 (verb.Call o) a (Some i.t) i.here (is_built o room near) h) ∙ due_is o

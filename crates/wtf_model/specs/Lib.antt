@@ -1,0 +1,12 @@
+pub mod Tree
+pub mod Session
+pub mod Call
+pub mod Transaction
+pub mod Steps
+pub mod Along
+pub mod Laws
+pub mod CallLaws
+pub mod TreeLaws
+pub mod SessionLaws
+pub mod StepLaws
+pub mod Examples

@@ -1,0 +1,129 @@
+//! Worked examples of the definitions, each proved.
+
+ghost use Rattle.std.specs.Prelude.{◌≡◌, ◌↔◌, ℕ, ◌+◌, ◌-◌, ◌*◌, ◌≤◌, ◌<◌, List, [], ◌∷◌, length, get_or, max, Option, Some, None, Bool, false, codes};
+ghost use Rattle.std.specs.FinMap.{get, len};
+ghost use Rattle.wtf_path.specs.Parts.{parent_of};
+ghost use Rattle.wtf_base.specs.declared.settings.Settings.{Settings};
+ghost use Rattle.wtf_model.specs.declared.answer.Answer.{Answer};
+ghost use Rattle.wtf_model.specs.declared.answer.Answer.TheVariants as answer;
+ghost use Rattle.wtf_model.specs.declared.answer.Word.TheVariants as word;
+ghost use Rattle.wtf_model.specs.declared.op.Op.{Op};
+ghost use Rattle.wtf_model.specs.declared.op.Op.TheVariants as op;
+ghost use Rattle.wtf_model.specs.declared.op.Seek.TheVariants as to;
+ghost use Rattle.wtf_model.specs.declared.event.Verb.{Verb};
+ghost use Rattle.wtf_model.specs.declared.event.Verb.TheVariants as verb;
+ghost use Rattle.wtf_model.specs.declared.event.Event.{Event};
+ghost use Rattle.wtf_model.specs.declared.event.Event.TheVariants as event;
+ghost use Rattle.wtf_model.specs.declared.tree.Node.{Node};
+ghost use Rattle.wtf_model.specs.declared.tree.Node.TheVariants as node;
+ghost use Rattle.wtf_model.specs.Tree.{Tree, root, root_alone, IsTree};
+ghost use Rattle.wtf_model.specs.Session.{Session, Handle};
+ghost use Rattle.wtf_model.specs.Call.{call, bytes_at, written};
+ghost use Rattle.wtf_model.specs.CallLaws.{unchanged};
+ghost use Rattle.wtf_model.specs.Transaction.{Transaction, session_after, answers_of};
+ghost use Rattle.wtf_model.specs.Steps.{Machine, Accepts, May, start, after, session_of, due, is_later_client};
+ghost use Rattle.wtf_model.specs.StepLaws.{ShowsBytes, StoresBytes};
+ghost use Rattle.wtf_model.specs.Examples.{first_file_events, first_file_answers, overwrite_events, overwrite_answers, gap_calls, gap_answers, fault_events, fault_answers, OnlyNotBuilt};
+
+/// A first file: create, open, write, seek, read past the end, and commit. The read can show no other bytes, and the
+/// commit can have no other number.
+pub fn first_file_is_accepted()
+    ensures accepted { (settings : Settings) → Accepts (start settings 0 root_alone) first_file_events (first_file_answers (answer.Shown (codes "abcdef")) (answer.Committed 1)) }
+    ensures bytes { (settings : Settings) (bytes : List ℕ) → Accepts (start settings 0 root_alone) first_file_events (first_file_answers (answer.Shown bytes) (answer.Committed 1)) → bytes ≡ codes "abcdef" }
+    ensures number { (settings : Settings) (number : ℕ) → Accepts (start settings 0 root_alone) first_file_events (first_file_answers (answer.Shown (codes "abcdef")) (answer.Committed number)) → number ≡ 1 }
+{}
+
+/// Two bytes in the middle of a file are written over, and a later transaction reads them.
+pub fn overwrite_is_accepted()
+    ensures { (settings : Settings) → Accepts (start settings 0 root_alone) overwrite_events overwrite_answers }
+{}
+
+/// A write past the end of a file puts zeros in the gap.
+pub fn gap_is_zeros()
+    ensures { answers_of (4096 * 64) root_alone gap_calls ≡ gap_answers }
+{}
+
+/// What a write leaves of a file, byte by byte: the new bytes from its offset on, and the old ones before and behind
+/// them, with zeros where there were none.
+pub fn written_bytes_are_in_place()
+    ensures length { (old : List ℕ) (off : ℕ) (new : List ℕ) → length (written old off new) ≡ max (length old) (off + length new) }
+    ensures before { (old : List ℕ) (off : ℕ) (new : List ℕ) (x : ℕ) → x < off → get_or (written old off new) x 0 ≡ get_or old x 0 }
+    ensures within { (old : List ℕ) (off : ℕ) (new : List ℕ) (x : ℕ) → off ≤ x → x < off + length new → get_or (written old off new) x 0 ≡ get_or new (x - off) 0 }
+    ensures behind { (old : List ℕ) (off : ℕ) (new : List ℕ) (x : ℕ) → off + length new ≤ x → get_or (written old off new) x 0 ≡ get_or old x 0 }
+{}
+
+/// A `create` at the root, at a path that is there, or without a directory above is refused.
+pub fn create_is_refused()
+    ensures root { (cap : ℕ) (s : Session) → call cap s (op.Create root) ≡ unchanged s (answer.Refused word.Exists) }
+    ensures exists { (cap : ℕ) (s : Session) (p dir : List ℕ) (n : Node) → parent_of p ≡ Some dir → get s.tree dir ≡ Some node.Dir → get s.tree p ≡ Some n →
+        call cap s (op.Create p) ≡ unchanged s (answer.Refused word.Exists) }
+    ensures no_parent { (cap : ℕ) (s : Session) (p dir : List ℕ) → parent_of p ≡ Some dir → get s.tree dir ≡ None →
+        call cap s (op.Create p) ≡ unchanged s (answer.Refused word.NoParent) }
+    ensures file_parent { (cap : ℕ) (s : Session) (p dir bytes : List ℕ) → parent_of p ≡ Some dir → get s.tree dir ≡ Some (node.File bytes) →
+        call cap s (op.Create p) ≡ unchanged s (answer.Refused word.NoParent) }
+{}
+
+/// An `open` of a path that is not there, or of a directory, is refused.
+pub fn open_is_refused()
+    ensures no_entry { (cap : ℕ) (s : Session) (f : ℕ) (p : List ℕ) → get s.handles f ≡ None → get s.tree p ≡ None →
+        call cap s (op.Open f p) ≡ unchanged s (answer.Refused word.NoEnt) }
+    ensures directory { (cap : ℕ) (s : Session) (f : ℕ) (p : List ℕ) → get s.handles f ≡ None → get s.tree p ≡ Some node.Dir →
+        call cap s (op.Open f p) ≡ unchanged s (answer.Refused word.IsDir) }
+{}
+
+/// A `read`, `write` or `seek` on a label that is not open is refused.
+pub fn closed_label_is_refused()
+    ensures read { (cap : ℕ) (s : Session) (f n : ℕ) → get s.handles f ≡ None → call cap s (op.Read f n) ≡ unchanged s (answer.Refused word.NoHandle) }
+    ensures write { (cap : ℕ) (s : Session) (f : ℕ) (bytes : List ℕ) → get s.handles f ≡ None → call cap s (op.Write f bytes) ≡ unchanged s (answer.Refused word.NoHandle) }
+    ensures seek { (cap : ℕ) (s : Session) (f n : ℕ) → get s.handles f ≡ None → call cap s (op.Seek f (to.Set n)) ≡ unchanged s (answer.Refused word.NoHandle) }
+{}
+
+/// A read at the end of a file or past it shows no bytes and leaves the session, and so does a write of no byte.
+pub fn nothing_is_moved()
+    ensures read { (cap : ℕ) (s : Session) (f n : ℕ) (h : Handle) → get s.handles f ≡ Some h → length (bytes_at s.tree h.path) ≤ h.off →
+        call cap s (op.Read f n) ≡ unchanged s (answer.Shown []) }
+    ensures write { (cap : ℕ) (s : Session) (f : ℕ) (h : Handle) → get s.handles f ≡ Some h → call cap s (op.Write f []) ≡ unchanged s answer.Okay }
+{}
+
+/// What is left to a later version is answered by `notbuilt` alone, which leaves the machine: a second begin, one
+/// beside another client, a line without a transaction, a label that is taken, what lies past the first region, and a
+/// call where the log is full.
+pub fn later_lines_are_not_built()
+    ensures second_begin { (m : Machine) (c : ℕ) (t : Transaction) → get m.transactions c ≡ Some t → OnlyNotBuilt m (event.Client c verb.Begin) }
+    ensures beside { (m : Machine) (c : ℕ) → get m.transactions c ≡ None → 0 < len m.transactions → OnlyNotBuilt m (event.Client c verb.Begin) }
+    ensures call_without { (m : Machine) (c : ℕ) (o : Op (List ℕ)) → get m.transactions c ≡ None → OnlyNotBuilt m (event.Client c (verb.Call o)) }
+    ensures try_without { (m : Machine) (c : ℕ) → get m.transactions c ≡ None → OnlyNotBuilt m (event.Client c verb.Try) }
+    ensures label_taken { (m : Machine) (c f : ℕ) (t : Transaction) (p : List ℕ) (h : Handle) → get m.transactions c ≡ Some t → get (session_of m t).handles f ≡ Some h →
+        OnlyNotBuilt m (event.Client c (verb.Call (op.Open f p))) }
+    ensures far_seek { (m : Machine) (c f n : ℕ) (t : Transaction) → get m.transactions c ≡ Some t → m.settings.region < n →
+        OnlyNotBuilt m (event.Client c (verb.Call (op.Seek f (to.Set n)))) }
+    ensures far_write { (m : Machine) (c f b : ℕ) (bs : List ℕ) (t : Transaction) (h : Handle) → get m.transactions c ≡ Some t → get (session_of m t).handles f ≡ Some h →
+        m.settings.region < h.off + length (b ∷ bs) → OnlyNotBuilt m (event.Client c (verb.Call (op.Write f (b ∷ bs)))) }
+    ensures full { (m : Machine) (c : ℕ) (t : Transaction) (o : Op (List ℕ)) → get m.transactions c ≡ Some t → 4096 ≤ length t.ops →
+        OnlyNotBuilt m (event.Client c (verb.Call o)) }
+    ensures leaves { (m : Machine) (e : Event) → after m e answer.NotBuilt ≡ m }
+{}
+
+/// A fault leaves the machine. It comes in place of bytes that are to be shown, from a server that is there, and in
+/// place of `ok` where bytes are to be stored, and from no other call.
+pub fn faults_are_accepted()
+    ensures accepted { (settings : Settings) → Accepts (start settings 0 root_alone) fault_events fault_answers }
+    ensures read_leaves { (m : Machine) (e : Event) (k : ℕ) → after m e (answer.FaultRead k) ≡ m }
+    ensures write_leaves { (m : Machine) (e : Event) → after m e answer.FaultWrite ≡ m }
+    ensures read { (m : Machine) (c f n k : ℕ) (t : Transaction) → get m.transactions c ≡ Some t → length t.ops < 4096 → ShowsBytes (due m t (op.Read f n)) → k < m.settings.servers →
+        May m (event.Client c (verb.Call (op.Read f n))) (answer.FaultRead k) }
+    ensures read_only { (m : Machine) (c k : ℕ) (t : Transaction) (o : Op (List ℕ)) → get m.transactions c ≡ Some t → May m (event.Client c (verb.Call o)) (answer.FaultRead k) →
+        ShowsBytes (due m t o) × (k < m.settings.servers) }
+    ensures write { (m : Machine) (c f b : ℕ) (bs : List ℕ) (t : Transaction) → get m.transactions c ≡ Some t → is_later_client m (Some t) (verb.Call (op.Write f (b ∷ bs))) ≡ false →
+        due m t (op.Write f (b ∷ bs)) ≡ answer.Okay → May m (event.Client c (verb.Call (op.Write f (b ∷ bs)))) answer.FaultWrite }
+    ensures write_only { (m : Machine) (c : ℕ) (t : Transaction) (o : Op (List ℕ)) → get m.transactions c ≡ Some t → May m (event.Client c (verb.Call o)) answer.FaultWrite →
+        StoresBytes o × (due m t o ≡ answer.Okay) }
+{}
+
+/// The root alone is a tree, and each `create`, each run of calls and each step of the machine leaves a tree a tree.
+pub fn trees_stay_trees()
+    ensures first { IsTree root_alone }
+    ensures create { (cap : ℕ) (s : Session) (p : List ℕ) → IsTree s.tree → IsTree (call cap s (op.Create p)).session.tree }
+    ensures run { (cap : ℕ) (tree : Tree) (ops : List (Op (List ℕ))) → IsTree tree → IsTree (session_after cap tree ops).tree }
+    ensures step { (m : Machine) (e : Event) (a : Answer) → IsTree m.now → IsTree (after m e a).now }
+{}
