@@ -1,0 +1,12 @@
+pub mod Sees
+pub mod Prune
+pub mod Updated
+pub mod Next
+pub mod Fits
+pub mod Noting
+pub mod Ranges
+pub mod Made
+pub mod Loose
+pub mod StoreLemmas
+pub mod Pinned
+pub mod Once

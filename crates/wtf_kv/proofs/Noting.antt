@@ -1,0 +1,58 @@
+-- Keys that are noted before something is made ready for them.
+use Rattle.std.proofs.Common.{◌≡◌, ℕ, ◌+◌, ◌≤◌, Bool, true, false, cond, ◌||◌, ◌⊎◌, inl, inr, List, [], ◌∷◌, ◌++◌, Result, Ok, Err, OnOk, OnErr, refl, sym, ap, subst, ◌∙◌, length, drop, length-append, arith, Option, ⊎_elim}
+use Rattle.std.proofs.lemmas.List.{drop-append-le}
+use Rattle.std.proofs.lemmas.List.Folds.{list_any-append}
+use Rattle.std.proofs.lemmas.Bool.{or_parts, cases_Bool}
+use Rattle.std.specs.declared.cmp.Ordering.{Ordering}
+use Rattle.std.specs.BTreeMap.{is_at}
+use Rattle.wtf_kv.specs.Seen.{within, ascends, upto}
+use Rattle.wtf_kv.specs.Stores.{names, versions_in}
+use Rattle.wtf_kv.specs.Inside.{Noted, AllGood}
+use Rattle.wtf_kv.proofs.Prune.{ascends-upto, within-upto, within-more}
+use Rattle.wtf_kv.proofs.Updated.{upto_either}
+
+-- what holds of either outcome
+pub either : {A E P Q : Type 0} (r : Result A E) → OnOk r P → OnErr r Q → P ⊎ Q
+either (Ok x) p q = inl p
+either (Err e) p q = inr q
+
+or-false : (b : Bool) → (b || false) ≡ b
+or-false b = elim b as (λ t. (t || false) ≡ t) [ true ↦ refl | false ↦ refl ]
+
+module _ {K : Type 0} (R : K → K → Ordering) where
+  -- a list with one more key names what it named, and that key
+  pub names-push : (ks : List K) (k q : K) → names R (ks ++ k ∷ []) q ≡ (names R ks q || is_at (R k) q)
+  names-push ks k q = list_any-append (λ x. is_at (R x) q) ks (k ∷ []) ∙ ap (λ b. names R ks q || b) (or-false (is_at (R k) q))
+
+module _ {K C : Type 0} (R : K → K → Ordering) (number fresh : ℕ) (ts : List K) (k : K) (old new : List (K × List (ℕ × Option C))) where
+  -- the key was noted, and the versions of the others are what they were
+  pub noted-push : Noted R number fresh ts old → ((q : K) → is_at (R k) q ≡ false → versions_in R new q ≡ versions_in R old q) → Noted R number fresh (ts ++ k ∷ []) new
+  noted-push h others = record {
+    inside = (let le = h.inside in rw length-append (omega arith));
+    clean = λ q none.
+        let split : (names R (drop fresh ts) q || is_at (R k) q) ≡ false = sym (names-push R (drop fresh ts) k q) ∙ ap (λ l. names R l q) (sym (drop-append-le fresh ts (k ∷ []) h.inside)) ∙ none in
+        let parts = or_parts _ _ split in
+        subst (within number) (sym (others q parts.1)) (h.clean q parts.0);
+  }
+
+module _ {K C : Type 0} (R : K → K → Ordering) (number fresh : ℕ) (ts : List K) (k : K) (old new : List (K × List (ℕ × Option C))) (cleared : (q : K) → versions_in R new q ≡ cond (is_at (R k) q) (upto number (versions_in R old q)) (versions_in R old q)) where
+  -- the last key was cleared and taken out
+  pub noted-pop : fresh ≤ length ts → Noted R number fresh (ts ++ k ∷ []) old → Noted R number fresh ts new
+  noted-pop le h = record {
+    inside = le;
+    clean = λ q none. ⊎_elim
+        (λ here. subst (within number) (sym (cleared q ∙ ap (λ b. cond b (upto number (versions_in R old q)) (versions_in R old q)) here)) (within-upto number (versions_in R old q)))
+        (λ apart. subst (within number) (sym (cleared q ∙ ap (λ b. cond b (upto number (versions_in R old q)) (versions_in R old q)) apart))
+        (h.clean q (ap (λ l. names R l q) (drop-append-le fresh ts (k ∷ []) le) ∙ names-push R (drop fresh ts) k q ∙ ap (λ b. b || is_at (R k) q) none ∙ apart)))
+        (cases_Bool (is_at (R k) q));
+  }
+
+  pub cleared-good : AllGood R number old → AllGood R number new
+  cleared-good good = λ q. subst (λ vs. ascends vs × within (number + 1) vs) (sym (cleared q))
+      (elim (is_at (R k) q) as (λ b. ascends (cond b (upto number (versions_in R old q)) (versions_in R old q)) × within (number + 1) (cond b (upto number (versions_in R old q)) (versions_in R old q))) [
+        | true ↦ (ascends-upto number (versions_in R old q) (good q).0, within-more number (upto number (versions_in R old q)) (within-upto number (versions_in R old q)))
+        | false ↦ good q
+      ])
+
+  pub cleared-same : (q : K) → upto number (versions_in R new q) ≡ upto number (versions_in R old q)
+  cleared-same q = upto_either number (is_at (R k) q) (versions_in R new q) (versions_in R old q) (cleared q)

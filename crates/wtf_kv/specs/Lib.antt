@@ -1,0 +1,9 @@
+pub mod Seen
+pub mod Stores
+pub mod Inside
+pub mod Edits
+pub mod Causes
+pub mod Staging
+pub mod Installs
+pub mod Order
+pub mod Calls

@@ -1,0 +1,48 @@
+-- Keys in their order, and those that have versions.
+use Rattle.std.specs.Prelude.{◌≡◌, ℕ, ◌≤◌, Bool, true, false, nat_lt, nat_le, nat_eq, cond, List, Option, None, Some}
+use Rattle.std.specs.declared.ops.Bound.{Bound}
+use Rattle.std.specs.BTreeMap.Range.{is_from_start}
+use Rattle.std.specs.declared.cmp.Ordering.{Ordering}
+use Rattle.std.specs.Ordering.{is_lt, is_gt}
+use Rattle.std.specs.List.{list_any}
+use Rattle.wtf_kv.specs.Seen.{has_any, has_upto}
+use Rattle.wtf_kv.specs.Stores.{Store, versions_of, versions_in}
+
+-- whether a number lies above another, or above none
+abbrev pub is_above : Option ℕ → ℕ → Bool
+is_above None n = true
+is_above (Some m) n = nat_lt m n
+
+-- the less of two numbers, where there are two
+abbrev pub least_of : Option ℕ → ℕ → ℕ
+least_of None n = n
+least_of (Some m) n = cond (nat_le m n) m n
+
+-- m is the least of the numbers above another, or there is none
+abbrev pub IsLeastAbove : List ℕ → Option ℕ → Option ℕ → Type 0
+IsLeastAbove ns after None = (n : ℕ) → list_any (nat_eq n) ns ≡ true → is_above after n ≡ false
+IsLeastAbove ns after (Some m) = (list_any (nat_eq m) ns ≡ true) × (is_above after m ≡ true) × ((n : ℕ) → list_any (nat_eq n) ns ≡ true → is_above after n ≡ true → m ≤ n)
+
+-- it is the least pinned number above another, or there is none
+abbrev pub IsNextPinned : {K C : Type 0} → Store K C → Option ℕ → Option ℕ → Type 0
+IsNextPinned s after next = IsLeastAbove s.pins after next
+
+-- whether a key lies above another, or above none
+abbrev pub is_past : {K : Type 0} → (K → K → Ordering) → Option K → K → Bool
+is_past order None q = true
+is_past order (Some k) q = is_lt (order k q)
+
+module _ {K C : Type 0} (order : K → K → Ordering) where
+  -- whether a key has a version
+  abbrev pub has_version : Store K C → K → Bool
+  has_version s q = has_any (versions_of order s q)
+
+  -- it is the least key above another that has a version, or there is none
+  abbrev pub IsNextKey : Store K C → Option K → Option K → Type 0
+  IsNextKey s after None = (q : K) → is_past order after q ≡ true → has_version s q ≡ false
+  IsNextKey s after (Some k) = (is_past order after k ≡ true) × (has_version s k ≡ true) × ((q : K) → is_past order after q ≡ true → has_version s q ≡ true → is_gt (order k q) ≡ false)
+
+  -- it is the least key from a start on that has a version at most the number, or there is none
+  abbrev pub IsFirstFrom : Bound K → ℕ → List (K × List (ℕ × Option C)) → Option K → Type 0
+  IsFirstFrom start number cells None = (q : K) → is_from_start order start q ≡ true → has_upto number (versions_in order cells q) ≡ false
+  IsFirstFrom start number cells (Some k) = (is_from_start order start k ≡ true) × (has_upto number (versions_in order cells k) ≡ true) × ((q : K) → is_from_start order start q ≡ true → has_upto number (versions_in order cells q) ≡ true → is_gt (order k q) ≡ false)
