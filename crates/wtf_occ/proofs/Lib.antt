@@ -1,0 +1,4 @@
+pub mod Agree
+pub mod Growing
+pub mod Indexed
+pub mod Noted

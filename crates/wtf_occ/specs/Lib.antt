@@ -1,0 +1,3 @@
+pub mod Attempts
+pub mod Tries
+pub mod Places

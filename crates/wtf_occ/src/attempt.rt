@@ -1,0 +1,217 @@
+//! An attempt: its base, the keys that it has recorded, and its changes.
+
+ghost use Rattle.std.specs.Prelude.{◌≡◌, ℕ, ◌^◌, ◌<◌, ◌≤◌, ◌∷◌, [], ◌++◌, IsTrue, OnErr, OnOk, IfOk, IfSome, length, take};
+ghost use Rattle.std.specs.Option.{option_copied};
+ghost use Rattle.wtf_kv.specs.Stores.{map_at, version_of, is_pinned};
+ghost use Rattle.wtf_kv.specs.Edits.{map_after, first_unfit};
+ghost use Rattle.wtf_occ.specs.Attempts.{Held, Grows};
+ghost use Rattle.wtf_occ.specs.Tries.{IsTried, Stays, first_moved};
+
+use crate::Tried;
+use crate::index::{Places, keep_first, note, push_place};
+use crate::values::value_over;
+use std::alloc::Global;
+use std::collections::BTreeMap;
+use std::marker::Model;
+use wtf_base::OutOfMemory;
+use wtf_kv::{Cell, Change, Changes, Kv, NotReady, StoreKey};
+
+/// An attempt at a set of changes over the map at its base. Contracts see its base, the keys that it
+/// has recorded, and its changes.
+#[derive(Drop)]
+pub struct Attempt<K: StoreKey, C: Cell> {
+    alloc: Global,
+    base: u64,
+    reads: Vec<K>,
+    changes: Changes<K, C>,
+    // Where the changes of each key stand, and the cuts.
+    places: Places<K>,
+    cuts: Vec<usize>,
+}
+
+impl<K: StoreKey, C: Cell> Model for Attempt<K, C> {
+    ghost use Rattle.wtf_occ.specs.Attempts.{Held};
+    ghost use Rattle.wtf_occ.specs.Places.{IsIndex, placed};
+
+    ghost Value = { Held K C.Delta };
+
+    ghost view = { λ a. record { base = a.base; reads = a.reads.items; changes = a.changes } };
+
+    ghost invariant = { λ a. IsIndex K.cmp a.changes (placed a.places.entries) a.cuts.items };
+}
+
+/// A place in the life of an attempt, to which it can go back.
+#[derive(Clone, Copy, Debug, PartialEq, Eq)]
+pub struct Mark {
+    /// How many keys the attempt had recorded.
+    pub reads: usize,
+    /// How many changes it had.
+    pub changes: usize,
+}
+
+impl<K: StoreKey, C: Cell> Attempt<K, C> {
+    /// An attempt over the map at `base`, with no recorded key and no change.
+    pub fn new(alloc: Global, base: u64) -> Result<Attempt<K, C>, OutOfMemory>
+        ensures { result ≡ Ok (record { base = base; reads = []; changes = [] }) }
+    {
+        Ok(Attempt {
+            alloc,
+            base,
+            reads: Vec::new(alloc),
+            changes: Changes::new(alloc),
+            places: BTreeMap::new(alloc),
+            cuts: Vec::new(alloc),
+        })
+    }
+
+    /// The value of a key at the base, with the attempt's own changes applied in order. The key is
+    /// recorded. Want of memory leaves the attempt as it was.
+    pub fn read(&mut self, kv: &Kv<K, C>, key: &K) -> Result<Option<C>, OutOfMemory>
+        requires { IsTrue (is_pinned kv.now self.old.base) }
+        ensures value { IfOk result (λ value. value ≡ map_after K.cmp C.outcome self.old.changes (map_at K.cmp kv.now self.old.base) key.now) }
+        ensures ok { OnOk result (self.new ≡ record self.old { reads = self.old.reads ++ key.now ∷ [] }) }
+        ensures err { OnErr result (self.new ≡ self.old) }
+        ensures grows { Grows self.old self.new }
+    {
+        let value = self.peek(kv, key)?;
+        let key = key.copy(self.alloc)?;
+        match self.reads.push(key) {
+            Ok(()) => Ok(value),
+            Err(_) => Err(OutOfMemory),
+        }
+    }
+
+    /// The value of a key at the base, with the attempt's own changes applied in order. Nothing is
+    /// recorded. It takes the time of a read of the base and a walk over the attempt's changes of this
+    /// key and its cuts.
+    pub fn peek(&self, kv: &Kv<K, C>, key: &K) -> Result<Option<C>, OutOfMemory>
+        requires { IsTrue (is_pinned kv.now self.now.base) }
+        ensures { IfOk result (λ value. value ≡ map_after K.cmp C.outcome self.now.changes (map_at K.cmp kv.now self.now.base) key.now) }
+    {
+        value_over(
+            self.alloc,
+            kv,
+            self.base,
+            self.changes.as_slice(),
+            &self.places,
+            self.cuts.as_slice(),
+            key,
+        )
+    }
+
+    /// Adds a change of a key's value. Want of memory leaves the attempt as it was.
+    pub fn delta(&mut self, key: K, d: C::Delta) -> Result<(), OutOfMemory>
+        ensures ok { OnOk result (self.new ≡ record self.old { changes = self.old.changes ++ Change.Delta key d ∷ [] }) }
+        ensures err { OnErr result (self.new ≡ self.old) }
+        ensures grows { Grows self.old self.new }
+    {
+        let place = self.changes.len();
+        let own = key.copy(self.alloc)?;
+        if let Err(why) = self.changes.delta(key, d) {
+            return Err(why);
+        }
+        if let Err(why) = note(self.alloc, &mut self.places, own, place) {
+            self.changes.shorten(place);
+            return Err(why);
+        }
+        Ok(())
+    }
+
+    /// Adds the removal of the keys from `from` up to and with `to` that have a value. Want of memory
+    /// leaves the attempt as it was.
+    pub fn cut_range(&mut self, from: K, to: K) -> Result<(), OutOfMemory>
+        ensures ok { OnOk result (self.new ≡ record self.old { changes = self.old.changes ++ Change.Cut from to ∷ [] }) }
+        ensures err { OnErr result (self.new ≡ self.old) }
+        ensures grows { Grows self.old self.new }
+    {
+        let place = self.changes.len();
+        if let Err(why) = self.changes.cut_range(from, to) {
+            return Err(why);
+        }
+        if let Err(why) = push_place(&mut self.cuts, place) {
+            self.changes.shorten(place);
+            return Err(why);
+        }
+        Ok(())
+    }
+
+    /// Notes how many recorded keys and changes there are.
+    pub fn mark(&self) -> Mark
+        ensures { result ≡ record { reads = length self.now.reads; changes = length self.now.changes } }
+    {
+        Mark {
+            reads: self.reads.len(),
+            changes: self.changes.len(),
+        }
+    }
+
+    /// Drops the recorded keys and the changes that came after a mark. An attempt that only grew since
+    /// the mark was made is again what it was then. Each change that goes takes the time of a search
+    /// among the changed keys.
+    pub fn rewind(&mut self, to: Mark)
+        requires reads { to.reads ≤ length self.old.reads }
+        requires changes { to.changes ≤ length self.old.changes }
+        ensures cut { self.new ≡ record self.old { reads = take to.reads self.old.reads; changes = take to.changes self.old.changes } }
+        ensures back { (then : Held K C.Delta) → Grows then self.old → to ≡ record { reads = length then.reads; changes = length then.changes } → self.new ≡ then }
+    {
+        self.reads.truncate(to.reads);
+        keep_first(
+            &mut self.changes,
+            &mut self.places,
+            &mut self.cuts,
+            to.changes,
+        );
+    }
+
+    /// Installs all changes in order, or names the key that is in the way: the first recorded key with a
+    /// version above the base, or else the key of the first delta that does not fit now, which has one
+    /// too. Want of memory leaves all that the store shows as it was, and so does a conflict. The attempt
+    /// stays as it was.
+    pub fn install(&mut self, kv: &mut Kv<K, C>) -> Result<Tried<K>, OutOfMemory>
+        requires room { kv.old.number < 2 ^ 63 }
+        requires pinned { IsTrue (is_pinned kv.old self.old.base) }
+        requires fit { first_unfit K.cmp C.outcome self.old.changes (map_at K.cmp kv.old self.old.base) ≡ None }
+        ensures tried { IfOk result (λ tried. IsTried K.cmp C.outcome self.old kv.old kv.new tried) }
+        ensures err { OnErr result (Stays K.cmp kv.old kv.new) }
+        ensures pins { kv.new.pins ≡ kv.old.pins }
+        ensures maps { (n : ℕ) → n ≤ kv.old.number → map_at K.cmp kv.new n ≡ map_at K.cmp kv.old n }
+        ensures attempt { self.new ≡ self.old }
+    {
+        let number = kv.number();
+        if let Some(key) = find_moved(kv, number, self.base, self.reads.as_slice()) {
+            let now = kv.version_at(number, key);
+            let seen = kv.version_at(self.base, key);
+            let key = key.copy(self.alloc)?;
+            return Ok(Tried::Conflict { key, seen, now });
+        }
+        let ready = match kv.reserve_install(&self.changes) {
+            Ok(ready) => ready,
+            Err(NotReady::Memory) => return Err(OutOfMemory),
+            Err(NotReady::Unfit(key)) => {
+                let now = kv.version_at(number, &key);
+                let seen = kv.version_at(self.base, &key);
+                return Ok(Tried::Conflict { key, seen, now });
+            }
+        };
+        Ok(Tried::Installed(kv.install(ready)))
+    }
+}
+
+/// The first of the keys that has a version above `base`.
+fn find_moved<'a, K: StoreKey, C: Cell>(
+    kv: &Kv<K, C>,
+    number: u64,
+    base: u64,
+    keys: &'a [K],
+) -> Option<&'a K>
+    requires { kv.now.number ≡ number }
+    ensures first { option_copied result ≡ first_moved K.cmp base keys.now kv.now }
+    ensures moved { IfSome result (λ key. base < version_of K.cmp kv.now number key.now) }
+{
+    for key in keys {
+        if base < kv.version_at(number, key) {
+            return Some(key);
+        }
+    }
+    None
+}

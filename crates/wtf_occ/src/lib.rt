@@ -1,0 +1,14 @@
+//! Attempts over a store of versions: what a transaction reads and changes on the map at its base, and
+//! the install of its changes where no key that it depends on has moved since.
+#![tactic(auto)]
+
+mod attempt;
+mod index;
+mod tried;
+mod values;
+
+pub use attempt::{Attempt, Mark};
+pub use tried::Tried;
+
+#[cfg(test)]
+mod tests;

@@ -1,0 +1,126 @@
+//! What an attempt's changes make of a key's value.
+
+ghost use Rattle.std.specs.Prelude.{◌≡◌, IsTrue, IfOk, cond, nat_eq, length};
+ghost use Rattle.wtf_kv.specs.Stores.{map_at, is_pinned};
+ghost use Rattle.wtf_kv.specs.Edits.{after_change, map_after};
+ghost use Rattle.wtf_occ.specs.Places.{AllBelow, IsIndex, placed, covers, past_cover, after_places};
+
+use crate::index::{Places, places_in};
+use std::alloc::Global;
+use wtf_base::OutOfMemory;
+use wtf_kv::{Applied, Cell, Change, Kv, StoreKey};
+
+/// What a change makes of a key's value.
+fn changed<K: StoreKey, C: Cell>(
+    alloc: Global,
+    change: &Change<K, C::Delta>,
+    key: &K,
+    now: Option<C>,
+) -> Result<Option<C>, OutOfMemory>
+    ensures { IfOk result (λ made. made ≡ after_change K.cmp C.outcome change.now key.now now) }
+{
+    match change {
+        Change::Delta(at, delta) => {
+            if !at.cmp(key).is_eq() {
+                return Ok(now);
+            }
+            match C::apply(alloc, now.as_ref(), delta)? {
+                Applied::Is(value) => Ok(Some(value)),
+                Applied::Gone => Ok(None),
+                Applied::Unfit => Ok(now),
+            }
+        }
+        Change::Cut(from, to) => {
+            if from.cmp(key).is_gt() || key.cmp(to).is_gt() {
+                Ok(now)
+            } else {
+                Ok(None)
+            }
+        }
+    }
+}
+
+/// One past the place of the last cut that covers a key, 0 where none does.
+fn past_cuts<K: StoreKey, D>(changes: &[Change<K, D>], cuts: &[usize], key: &K) -> usize
+    requires { AllBelow (length changes.now) cuts.now }
+    ensures { result ≡ past_cover K.cmp changes.now key.now cuts.now 0 }
+{
+    let mut past = 0;
+    for place in cuts {
+        if is_covered(&changes[*place], key) {
+            past = *place + 1;
+        }
+    }
+    past
+}
+
+/// Whether a change is a cut of a range in which a key lies.
+fn is_covered<K: StoreKey, D>(change: &Change<K, D>, key: &K) -> bool
+    ensures { result ≡ covers K.cmp key.now change.now }
+{
+    match change {
+        Change::Delta(..) => false,
+        Change::Cut(from, to) => from.cmp(key).is_le() && key.cmp(to).is_le(),
+    }
+}
+
+/// The value from which the changes at `from` and past it start: the one at the base, or none where a
+/// cut stands before them.
+fn value_before<K: StoreKey, C: Cell>(
+    alloc: Global,
+    kv: &Kv<K, C>,
+    base: u64,
+    from: usize,
+    key: &K,
+) -> Result<Option<C>, OutOfMemory>
+    requires { IsTrue (is_pinned kv.now base) }
+    ensures { IfOk result (λ value. value ≡ cond (nat_eq from 0) (map_at K.cmp kv.now base key.now) None) }
+{
+    if from != 0 {
+        return Ok(None);
+    }
+    match kv.read_at(base, key) {
+        Some(value) => Ok(Some(value.copy(alloc)?)),
+        None => Ok(None),
+    }
+}
+
+/// What the changes at those of the places that are at least `from` make of a key's value.
+fn value_after<K: StoreKey, C: Cell>(
+    alloc: Global,
+    changes: &[Change<K, C::Delta>],
+    places: &[usize],
+    from: usize,
+    key: &K,
+    before: Option<C>,
+) -> Result<Option<C>, OutOfMemory>
+    requires { AllBelow (length changes.now) places.now }
+    ensures { IfOk result (λ value. value ≡ after_places K.cmp C.outcome changes.now key.now from places.now before) }
+{
+    let mut now = before;
+    for place in places {
+        if from <= *place {
+            now = changed::<K, C>(alloc, &changes[*place], key, now)?;
+        }
+    }
+    Ok(now)
+}
+
+/// A key's value at `base`, with changes over it, by the index of their places.
+pub(crate) fn value_over<K: StoreKey, C: Cell>(
+    alloc: Global,
+    kv: &Kv<K, C>,
+    base: u64,
+    changes: &[Change<K, C::Delta>],
+    places: &Places<K>,
+    cuts: &[usize],
+    key: &K,
+) -> Result<Option<C>, OutOfMemory>
+    requires pinned { IsTrue (is_pinned kv.now base) }
+    requires index { IsIndex K.cmp changes.now (placed places.now.entries) cuts.now }
+    ensures { IfOk result (λ value. value ≡ map_after K.cmp C.outcome changes.now (map_at K.cmp kv.now base) key.now) }
+{
+    let from = past_cuts(changes, cuts, key);
+    let before = value_before(alloc, kv, base, from, key)?;
+    value_after(alloc, changes, places_in(places, key), from, key, before)
+}
