@@ -1,0 +1,439 @@
+-- Each event on the state is a step of the machine.
+use Rattle.std.proofs.Common.{◌≡◌, ◌≢◌, ℕ, ◌+◌, ◌≤◌, ◌<◌, ◌||◌, length-append, true, false, not, eqb, List, [], ◌∷◌, ◌++◌, Option, Some, None, refl, ap, ap₂, ◌∙◌, sym, subst, arith, inl, inr, nat_cmp}
+use Rattle.std.specs.Option.{is_some, option_map}
+use Rattle.std.specs.Bool.{MatchBool}
+use Rattle.std.specs.Cmp.{nat_cmp_total}
+use Rattle.std.specs.FinMap.{FinMap, get, insert, remove, len, get-insert, get-remove, get-empty, len-insert, len-remove}
+use Rattle.std.proofs.lemmas.Bool.{true≢false, cond-true, cond-false, false_from_ne_true, le-leb, lt-leb, cases_eq}
+use Rattle.wtf_base.specs.declared.settings.Settings.{Settings}
+use Rattle.wtf_dev.specs.Store.{StoreView}
+use Rattle.wtf_dev.specs.Sums.{TellsAll}
+use Rattle.wtf_model.specs.declared.op.Op.{Op}
+use Rattle.wtf_model.specs.declared.answer.Answer.{Answer}
+use Rattle.wtf_model.specs.declared.answer.Answer.TheVariants as answer
+use Rattle.wtf_model.specs.declared.event.Verb.{Verb}
+use Rattle.wtf_model.specs.declared.event.Verb.TheVariants as verb
+use Rattle.wtf_model.specs.declared.event.Event.{Event}
+use Rattle.wtf_model.specs.declared.event.Event.TheVariants as event
+use Rattle.wtf_model.specs.Session.{fresh}
+use Rattle.wtf_model.specs.Transaction.{Transaction, session_from, answers_from, session_after, answers_of}
+use Rattle.wtf_model.specs.Laws.{session_from-push, answers_from-push}
+use Rattle.wtf_model.specs.Steps.{Machine, cap_of, session_of, is_full, is_later, is_later_call, is_later_client, MayBuilt, MayClient, after, after_client, begun, called, committed, with_transaction}
+use Rattle.wtf_cli.specs.declared.file.File.{File}
+use Rattle.wtf_cli.specs.declared.calls.Called.TheVariants.{Logged, Failed, Later}
+use Rattle.wtf_cli.specs.declared.state.Running.{Running}
+use Rattle.wtf_cli.specs.declared.state.State.{State}
+use Rattle.wtf_cli.specs.StandsFor.{IsSoundState, IsSoundRunning, StandsFor, StandsForRunning, StandsForTransaction, StandsForSession, StandsForTree, AreSoundFiles, AreSoundHandles, handle_of}
+use Rattle.wtf_cli.specs.Tables.{opened_at}
+use Rattle.wtf_cli.specs.Outcomes.{AddsBytes, data_of}
+use Rattle.wtf_cli.specs.Calls.{IsCall, IsLogged, IsStoreFault}
+use Rattle.wtf_cli.specs.Events.{IsStep}
+use Rattle.wtf_cli.proofs.TableLaws.{same_label, label_at_itself}
+
+-- Maps from clients
+
+pub get_at : {X : Type 0} (m : FinMap nat_cmp X) (k : ℕ) (v : X) → get (insert m k v) k ≡ Some v
+get_at m k v = get-insert nat_cmp_total m k v k ∙ cond-true _ _ _ (label_at_itself k)
+
+pub get_off : {X : Type 0} (m : FinMap nat_cmp X) (k : ℕ) (v : X) (q : ℕ) → q ≢ k → get (insert m k v) q ≡ get m q
+get_off m k v q ne = get-insert nat_cmp_total m k v q ∙ cond-false _ _ _ (false_from_ne_true _ (λ h. ne (same_label q k h)))
+
+pub gone_at : {X : Type 0} (m : FinMap nat_cmp X) (k : ℕ) → get (remove m k) k ≡ None
+gone_at m k = get-remove nat_cmp_total m k k ∙ cond-true _ _ _ (label_at_itself k)
+
+pub gone_off : {X : Type 0} (m : FinMap nat_cmp X) (k q : ℕ) → q ≢ k → get (remove m k) q ≡ get m q
+gone_off m k q ne = get-remove nat_cmp_total m k q ∙ cond-false _ _ _ (false_from_ne_true _ (λ h. ne (same_label q k h)))
+
+pub one_more : {X : Type 0} (m : FinMap nat_cmp X) (k : ℕ) (v : X) → get m k ≡ None → len m ≡ 0 → len (insert m k v) ≡ 1
+one_more m k v none zero = len-insert nat_cmp_total m k v ∙ cond-false _ _ _ (ap is_some none) ∙ omega (arith, zero)
+
+pub as_many : {X : Type 0} (m : FinMap nat_cmp X) (k : ℕ) (v w : X) → get m k ≡ Some w → len (insert m k v) ≡ len m
+as_many m k v w some = len-insert nat_cmp_total m k v ∙ cond-true _ _ _ (ap is_some some)
+
+pub one_less : {X : Type 0} (m : FinMap nat_cmp X) (k : ℕ) (w : X) → get m k ≡ Some w → len m ≡ 1 → len (remove m k) ≡ 0
+one_less m k w some one = len-remove nat_cmp_total m k ∙ cond-true _ _ _ (ap is_some some) ∙ omega (arith, one)
+
+-- What `notbuilt` leaves
+
+pub same_client : (m : Machine) (c : ℕ) (o : Option Transaction) (v : Verb) → after_client m c o v answer.NotBuilt ≡ m
+same_client m c None verb.Begin = refl
+same_client m c None verb.Try = refl
+same_client m c None verb.Step = refl
+same_client m c None verb.Commit = refl
+same_client m c None verb.Abort = refl
+same_client m c None (verb.Call o) = refl
+same_client m c (Some t) verb.Begin = refl
+same_client m c (Some t) verb.Try = refl
+same_client m c (Some t) verb.Step = refl
+same_client m c (Some t) verb.Commit = refl
+same_client m c (Some t) verb.Abort = refl
+same_client m c (Some t) (verb.Call o) = refl
+
+pub same_machine : (m : Machine) (e : Event) → after m e answer.NotBuilt ≡ m
+same_machine m (event.Client c v) = same_client m c (get m.transactions c) v
+same_machine m (event.Plan j k p r) = refl
+same_machine m (event.Put j) = refl
+same_machine m (event.DropJob j) = refl
+same_machine m event.Scan = refl
+same_machine m (event.Piece k) = refl
+same_machine m (event.Collect k) = refl
+same_machine m (event.Down k) = refl
+same_machine m (event.Up k) = refl
+same_machine m event.Save = refl
+same_machine m (event.Dump p) = refl
+same_machine m event.Tree = refl
+
+nothing_added : {S : Type 0} (view : S → StoreView) (shelf : List S) (replicas : ℕ) (bytes : List ℕ) → AddsBytes view shelf shelf replicas bytes answer.NotBuilt
+nothing_added view shelf replicas [] = λ k d h g. refl
+nothing_added view shelf replicas (b ∷ bs) = λ k d h g. refl
+
+-- an event that is left to a later version changes nothing
+pub not_built : {S : Type 0} (view : S → StoreView) (shelf : List S) (state : State) (e : Event) → IsSoundState view shelf state
+    → ((m : Machine) → StandsFor view shelf state m → is_later m e ≡ true) → IsStep view shelf shelf state state e answer.NotBuilt
+not_built view shelf state e sound is = record {
+  sound = sound;
+  settings = refl;
+  number = omega arith;
+  stands = λ m stands. subst (StandsFor view shelf state) (sym (same_machine m e)) stands;
+  may = λ m stands _. subst (λ b. MatchBool b (answer.NotBuilt ≡ answer.NotBuilt) (MayBuilt m e answer.NotBuilt)) (sym (is m stands)) refl;
+  later = λ m stands. (λ _. is m stands, λ _. refl);
+  adds = nothing_added view shelf state.settings.replicas (data_of e);
+  cause = tt;
+}
+
+-- Begin
+
+-- another transaction runs, or the client's own
+pub begin_later : {S : Type 0} (view : S → StoreView) (shelf : List S) (state : State) (c : ℕ) → is_some state.running ≡ true
+    → (m : Machine) → StandsFor view shelf state m → is_later m (event.Client c verb.Begin) ≡ true
+begin_later view shelf state c runs m stands = later_of state.running runs stands.running
+  where
+    beside : (o : Option Transaction) → len m.transactions ≡ 1 → is_later_client m o verb.Begin ≡ true
+    beside None one = ap (λ n. not (eqb n 0)) one
+    beside (Some t) one = refl
+
+    later_of : (r : Option Running) → is_some r ≡ true → StandsForRunning view shelf state.files.entries r m → is_later m (event.Client c verb.Begin) ≡ true
+    later_of None h s = absurd (true≢false (sym h))
+    later_of (Some r) h s = beside (get m.transactions c) s.3
+
+pub begun_step : {S : Type 0} (view : S → StoreView) (shelf : List S) (old new : State) (c : ℕ) (r : Running) → IsSoundState view shelf old → old.running ≡ None
+    → new.settings ≡ old.settings → new.number ≡ old.number → new.files.entries ≡ old.files.entries → new.running ≡ Some r → r.client ≡ c → r.calls ≡ 0 → r.handles.entries ≡ []
+    → IsStep view shelf shelf old new (event.Client c verb.Begin) (answer.Begun old.number)
+unfolding session_from answers_from
+begun_step {S} view shelf old new c r sound none settings number files running client calls handles = record {
+  sound = record {
+    servers = ap (λ (s : Settings). s.servers) settings ∙ sound.servers;
+    replicas = ap (λ (s : Settings). s.replicas) settings ∙ sound.replicas;
+    files = subst (λ (s : Settings). AreSoundFiles view shelf s new.files.entries) (sym settings) (subst (AreSoundFiles view shelf old.settings) (sym files) sound.files);
+    running = subst (IsSoundRunning new.settings.region new.files.entries) (sym running) (no_handles, omega (arith, calls));
+  };
+  settings = settings;
+  number = omega (arith, number);
+  stands = λ m stands.
+      let idle = subst (λ o. StandsForRunning view shelf old.files.entries o m) none stands.running in
+      subst (λ o. StandsFor view shelf new (after_client m c o verb.Begin (answer.Begun old.number))) (sym (idle.0 c)) (fresh_one m stands idle);
+  may = λ m stands _.
+      let idle = subst (λ o. StandsForRunning view shelf old.files.entries o m) none stands.running in
+      subst (λ o. MatchBool (is_later_client m o verb.Begin) (answer.Begun old.number ≡ answer.NotBuilt) (MayClient m o verb.Begin (answer.Begun old.number))) (sym (idle.0 c))
+      (subst (λ b. MatchBool b (answer.Begun old.number ≡ answer.NotBuilt) (answer.Begun old.number ≡ answer.Begun m.number)) (sym (alone m idle)) (ap answer.Begun (sym stands.number)));
+  later = λ m stands.
+      let idle = subst (λ o. StandsForRunning view shelf old.files.entries o m) none stands.running in
+      let built : is_later m (event.Client c verb.Begin) ≡ false = ap (λ o. is_later_client m o verb.Begin) (idle.0 c) ∙ alone m idle in
+      (λ bad. absurd (cc), λ bad. absurd (true≢false (sym bad ∙ built)));
+  adds = λ k d h g. refl;
+  cause = tt;
+}
+  where
+    no_handles : AreSoundHandles new.settings.region new.files.entries r.handles.entries
+    no_handles f h found = let bad : None ≡ Some h = sym (ap (λ hs. opened_at hs f) handles) ∙ found in absurd (cc)
+
+    alone : (m : Machine) → ((k : ℕ) → get m.transactions k ≡ None) × (len m.transactions ≡ 0) × StandsForTree view shelf old.files.entries m.now → not (eqb (len m.transactions) 0) ≡ false
+    alone m idle = ap (λ n. not (eqb n 0)) idle.1
+
+    fresh_one : (m : Machine) → StandsFor view shelf old m → ((k : ℕ) → get m.transactions k ≡ None) × (len m.transactions ≡ 0) × StandsForTree view shelf old.files.entries m.now
+        → StandsFor view shelf new (begun m c (answer.Begun old.number))
+    fresh_one m stands idle =
+        let t : Transaction = record { stamp = m.next_stamp; base = m.number; tree = m.now; ops = []; shown = []; replayed = 0; touched = [] } in
+        record {
+          settings = stands.settings ∙ sym settings;
+          number = stands.number ∙ sym number;
+          running = subst (λ o. StandsForRunning view shelf new.files.entries o (begun m c (answer.Begun old.number))) (sym running) (
+            t,
+            subst (λ k. get (insert m.transactions c t) k ≡ Some t) (sym client) (get_at m.transactions c t),
+            (λ k ne. get_off m.transactions c t k (λ e. ne (e ∙ sym client)) ∙ idle.0 k),
+            one_more m.transactions c t (idle.0 c) idle.1,
+            record {
+              tree = refl;
+              calls = sym calls;
+              session = record {
+                tree = subst (λ fs. StandsForTree view shelf fs m.now) (sym files) idle.2;
+                handles_are = λ f. ap (λ hs. option_map handle_of (opened_at hs f)) handles ∙ (let e : get (fresh m.now).handles f ≡ None = get-empty nat_cmp f in sym e);
+              };
+              shown = λ _. refl;
+            },
+          );
+        }
+
+-- Lines of a client that has no transaction
+
+-- a client without a transaction: a call, or a try
+pub idle_later : {S : Type 0} (view : S → StoreView) (shelf : List S) (state : State) (c : ℕ) → state.running ≡ None
+    → (m : Machine) → StandsFor view shelf state m → (v : Verb) → is_later_client m None v ≡ true → is_later m (event.Client c v) ≡ true
+idle_later view shelf state c none m stands v h =
+    let idle = subst (λ o. StandsForRunning view shelf state.files.entries o m) none stands.running in
+    ap (λ o. is_later_client m o v) (idle.0 c) ∙ h
+
+pub other_later : {S : Type 0} (view : S → StoreView) (shelf : List S) (state : State) (c : ℕ) (r : Running) → state.running ≡ Some r → r.client ≢ c
+    → (m : Machine) → StandsFor view shelf state m → (v : Verb) → is_later_client m None v ≡ true → is_later m (event.Client c v) ≡ true
+other_later view shelf state c r some ne m stands v h =
+    let runs = subst (λ o. StandsForRunning view shelf state.files.entries o m) some stands.running in
+    ap (λ o. is_later_client m o v) (runs.2 c (λ e. ne (sym e))) ∙ h
+
+-- Commit
+
+pub committed_step : {S : Type 0} (view : S → StoreView) (shelf : List S) (old new : State) (c : ℕ) (r : Running) → IsSoundState view shelf old → old.running ≡ Some r → r.client ≡ c
+    → new.settings ≡ old.settings → new.number ≡ old.number + 1 → new.files.entries ≡ old.files.entries → new.running ≡ None
+    → IsStep view shelf shelf old new (event.Client c verb.Try) (answer.Committed new.number)
+committed_step view shelf old new c r sound some client settings number files none = record {
+  sound = record {
+    servers = ap (λ (s : Settings). s.servers) settings ∙ sound.servers;
+    replicas = ap (λ (s : Settings). s.replicas) settings ∙ sound.replicas;
+    files = subst (λ (s : Settings). AreSoundFiles view shelf s new.files.entries) (sym settings) (subst (AreSoundFiles view shelf old.settings) (sym files) sound.files);
+    running = subst (IsSoundRunning new.settings.region new.files.entries) (sym none) tt;
+  };
+  settings = settings;
+  number = omega (arith, number);
+  stands = λ m stands.
+      let runs = subst (λ o. StandsForRunning view shelf old.files.entries o m) some stands.running in
+      let mine : get m.transactions c ≡ Some runs.0 = subst (λ k. get m.transactions k ≡ Some runs.0) client runs.1 in
+      subst (λ o. StandsFor view shelf new (after_client m c o verb.Try (answer.Committed new.number))) (sym mine) (ended m stands runs.0 mine (λ k ne. runs.2 k (λ e. ne (e ∙ client))) runs.3 runs.4);
+  may = λ m stands tells.
+      let runs = subst (λ o. StandsForRunning view shelf old.files.entries o m) some stands.running in
+      let mine : get m.transactions c ≡ Some runs.0 = subst (λ k. get m.transactions k ≡ Some runs.0) client runs.1 in
+      subst (λ o. MatchBool (is_later_client m o verb.Try) (answer.Committed new.number ≡ answer.NotBuilt) (MayClient m o verb.Try (answer.Committed new.number))) (sym mine)
+      (omega (arith, number, stands.number), ap (λ t. answers_of (cap_of m) t runs.0.ops) (sym runs.4.tree) ∙ runs.4.shown tells);
+  later = λ m stands.
+      let runs = subst (λ o. StandsForRunning view shelf old.files.entries o m) some stands.running in
+      let mine : get m.transactions c ≡ Some runs.0 = subst (λ k. get m.transactions k ≡ Some runs.0) client runs.1 in
+      let built : is_later m (event.Client c verb.Try) ≡ false = ap (λ o. is_later_client m o verb.Try) mine in
+      (λ bad. absurd (cc), λ bad. absurd (true≢false (sym bad ∙ built)));
+  adds = λ k d h g. refl;
+  cause = tt;
+}
+  where
+    ended : (m : Machine) → StandsFor view shelf old m → (t : Transaction) → get m.transactions c ≡ Some t → ((k : ℕ) → k ≢ c → get m.transactions k ≡ None) → len m.transactions ≡ 1
+        → StandsForTransaction view shelf old.files.entries r m t → StandsFor view shelf new (committed m c t (answer.Committed new.number))
+    ended m stands t mine others one is = record {
+      settings = stands.settings ∙ sym settings;
+      number = refl;
+      running = subst (λ o. StandsForRunning view shelf new.files.entries o (committed m c t (answer.Committed new.number))) (sym none) (
+        (λ k. elim (cases_eq k c) [ inl e ↦ subst (λ j. get (remove m.transactions c) j ≡ None) (sym e) (gone_at m.transactions c) | inr ne ↦ gone_off m.transactions c k ne ∙ others k ne ]),
+        one_less m.transactions c t mine one,
+        subst (λ fs. StandsForTree view shelf fs (session_after (cap_of m) m.now t.ops).tree) (sym files)
+            (subst (λ tree. StandsForTree view shelf old.files.entries (session_after (cap_of m) tree t.ops).tree) is.tree is.session.tree),
+      );
+    }
+
+-- Calls
+
+called_logged : (m : Machine) (c : ℕ) (t : Transaction) (o : Op (List ℕ)) (a : Answer) → IsLogged a
+    → called m c t o a ≡ with_transaction m c (record t { ops = t.ops ++ o ∷ []; shown = t.shown ++ a ∷ []; replayed = t.replayed + 1 })
+called_logged m c t o answer.FaultWrite h = absurd h
+called_logged m c t o (answer.FaultRead k) h = absurd h
+called_logged m c t o (answer.Damaged k) h = absurd h
+called_logged m c t o answer.NotBuilt h = absurd h
+called_logged m c t o a h = refl
+
+called_failed : (m : Machine) (c : ℕ) (t : Transaction) (o : Op (List ℕ)) (a : Answer) → IsStoreFault a → called m c t o a ≡ m
+called_failed m c t o answer.FaultWrite h = refl
+called_failed m c t o (answer.FaultRead k) h = refl
+called_failed m c t o (answer.Damaged k) h = refl
+called_failed m c t o a h = absurd h
+
+logged_is_built : (a : Answer) → IsLogged a → a ≡ answer.NotBuilt → ⊥
+logged_is_built a h e = subst IsLogged e h
+
+fault_is_built : (a : Answer) → IsStoreFault a → a ≡ answer.NotBuilt → ⊥
+fault_is_built a h e = subst IsStoreFault e h
+
+-- a full log
+pub full_later : {S : Type 0} (view : S → StoreView) (shelf : List S) (state : State) (c : ℕ) (r : Running) (o : Op (List ℕ)) → state.running ≡ Some r → r.client ≡ c → 4096 ≤ r.calls
+    → (m : Machine) → StandsFor view shelf state m → is_later m (event.Client c (verb.Call o)) ≡ true
+full_later view shelf state c r o some client full m stands =
+    let runs = subst (λ q. StandsForRunning view shelf state.files.entries q m) some stands.running in
+    let mine : get m.transactions c ≡ Some runs.0 = subst (λ k. get m.transactions k ≡ Some runs.0) client runs.1 in
+    ap (λ q. is_later_client m q (verb.Call o)) mine ∙ ap (λ b. b || is_later_call m (session_of m runs.0) o) (le-leb 4096 _ (omega (arith, full, runs.4.calls)))
+
+-- the transaction that runs, as a machine that the state stands for has it
+mine : {S : Type 0} (view : S → StoreView) (shelf : List S) (state : State) (c : ℕ) (r : Running) → state.running ≡ Some r → r.client ≡ c → (m : Machine) → StandsFor view shelf state m
+    → (t : Transaction) × (get m.transactions c ≡ Some t) × ((k : ℕ) → k ≢ c → get m.transactions k ≡ None) × (len m.transactions ≡ 1) × StandsForTransaction view shelf state.files.entries r m t
+mine view shelf state c r some client m stands =
+    let runs = subst (λ q. StandsForRunning view shelf state.files.entries q m) some stands.running in
+    (runs.0, subst (λ k. get m.transactions k ≡ Some runs.0) client runs.1, (λ k ne. runs.2 k (λ e. ne (e ∙ client))), runs.3, runs.4)
+
+-- a log that is not full
+room : {S : Type 0} (view : S → StoreView) (shelf : List S) (files : List (List ℕ × File)) (r : Running) (m : Machine) (t : Transaction) → StandsForTransaction view shelf files r m t → r.calls < 4096 → is_full t ≡ false
+room view shelf files r m t is few = lt-leb 4096 _ (omega (arith, few, is.calls))
+
+-- a call that is logged
+pub logged_step : {S : Type 0} (view : S → StoreView) (before after' : List S) (old new : State) (c : ℕ) (r : Running) (o : Op (List ℕ)) (q : Running) (a : Answer)
+    → IsSoundState view before old → old.running ≡ Some r → r.client ≡ c → r.calls < 4096
+    → IsCall view before after' old.settings old.files.entries new.files.entries r.handles.entries q.handles.entries o (Logged a)
+    → new.settings ≡ old.settings → new.number ≡ old.number → new.running ≡ Some q → q.client ≡ c → q.calls ≡ r.calls + 1
+    → (TellsAll view after' → TellsAll view before)
+    → IsStep view before after' old new (event.Client c (verb.Call o)) a
+logged_step view before after' old new c r o q a sound some client few is settings number running q_client q_calls back = record {
+  sound = record {
+    servers = ap (λ (s : Settings). s.servers) settings ∙ sound.servers;
+    replicas = ap (λ (s : Settings). s.replicas) settings ∙ sound.replicas;
+    files = subst (λ (s : Settings). AreSoundFiles view after' s new.files.entries) (sym settings) is.files_sound;
+    running = subst (IsSoundRunning new.settings.region new.files.entries) (sym running)
+        (subst (λ (s : Settings). AreSoundHandles s.region new.files.entries q.handles.entries) (sym settings) is.handles_sound, omega (arith, q_calls, few));
+  };
+  settings = settings;
+  number = omega (arith, number);
+  stands = λ m stands.
+      let t = mine view before old c r some client m stands in
+      let call_is = is.stands m (session_of m t.0) stands.settings t.4.session in
+      subst (λ p. StandsFor view after' new (after_client m c p (verb.Call o) a)) (sym t.1)
+      (subst (StandsFor view after' new) (sym (called_logged m c t.0 o a call_is.0)) (record {
+        settings = stands.settings ∙ sym settings;
+        number = stands.number ∙ sym number;
+        running = subst (λ p. StandsForRunning view after' new.files.entries p (with_transaction m c (longer t.0))) (sym running) (
+          longer t.0,
+          subst (λ k. get (insert m.transactions c (longer t.0)) k ≡ Some (longer t.0)) (sym q_client) (get_at m.transactions c (longer t.0)),
+          (λ k ne. get_off m.transactions c (longer t.0) k (λ e. ne (e ∙ sym q_client)) ∙ t.2 k (λ e. ne (e ∙ sym q_client))),
+          as_many m.transactions c (longer t.0) t.0 t.1 ∙ t.3,
+          record {
+            tree = t.4.tree;
+            calls = omega (arith, length-append t.0.ops (o ∷ []), t.4.calls, q_calls);
+            session = subst (StandsForSession view after' new.files.entries q.handles.entries) (sym (session_from-push (cap_of m) (fresh t.0.tree) t.0.ops o)) call_is.1.session;
+            shown = λ tells.
+                answers_from-push (cap_of m) (fresh t.0.tree) t.0.ops o
+                ∙ ap₂ (λ xs x. xs ++ x ∷ []) (t.4.shown (back tells)) (sym (call_is.1.due (back tells)));
+          },
+        );
+      }));
+  may = λ m stands tells.
+      let t = mine view before old c r some client m stands in
+      let call_is = is.stands m (session_of m t.0) stands.settings t.4.session in
+      subst (λ b. MatchBool b (a ≡ answer.NotBuilt) (MayBuilt m (event.Client c (verb.Call o)) a)) (sym (built m stands))
+      (subst (λ p. MayClient m p (verb.Call o) a) (sym t.1) (inl (call_is.1.due tells)));
+  later = λ m stands.
+      let t = mine view before old c r some client m stands in
+      let call_is = is.stands m (session_of m t.0) stands.settings t.4.session in
+      (λ bad. absurd (logged_is_built a call_is.0 bad), λ bad. absurd (true≢false (sym bad ∙ built m stands)));
+  adds = is.adds;
+  cause = is.cause;
+}
+  where
+    longer : Transaction → Transaction
+    longer t = record t { ops = t.ops ++ o ∷ []; shown = t.shown ++ a ∷ []; replayed = t.replayed + 1 }
+
+    built : (m : Machine) → StandsFor view before old m → is_later m (event.Client c (verb.Call o)) ≡ false
+    built m stands =
+        let t = mine view before old c r some client m stands in
+        let call_is = is.stands m (session_of m t.0) stands.settings t.4.session in
+        ap (λ p. is_later_client m p (verb.Call o)) t.1 ∙ ap₂ (λ x y. x || y) (room view before old.files.entries r m t.0 t.4 few) call_is.1.built
+
+-- a call in which a store failed
+pub failed_step : {S : Type 0} (view : S → StoreView) (before after' : List S) (old new : State) (c : ℕ) (r : Running) (o : Op (List ℕ)) (q : Running) (a : Answer)
+    → IsSoundState view before old → old.running ≡ Some r → r.client ≡ c → r.calls < 4096
+    → IsCall view before after' old.settings old.files.entries new.files.entries r.handles.entries q.handles.entries o (Failed a)
+    → new.settings ≡ old.settings → new.number ≡ old.number → new.running ≡ Some q → q.client ≡ c → q.calls ≡ r.calls
+    → (TellsAll view after' → TellsAll view before)
+    → IsStep view before after' old new (event.Client c (verb.Call o)) a
+failed_step view before after' old new c r o q a sound some client few is settings number running q_client q_calls back = record {
+  sound = record {
+    servers = ap (λ (s : Settings). s.servers) settings ∙ sound.servers;
+    replicas = ap (λ (s : Settings). s.replicas) settings ∙ sound.replicas;
+    files = subst (λ (s : Settings). AreSoundFiles view after' s new.files.entries) (sym settings) is.files_sound;
+    running = subst (IsSoundRunning new.settings.region new.files.entries) (sym running)
+        (subst (λ (s : Settings). AreSoundHandles s.region new.files.entries q.handles.entries) (sym settings) is.handles_sound, omega (arith, q_calls, few));
+  };
+  settings = settings;
+  number = omega (arith, number);
+  stands = λ m stands.
+      let t = mine view before old c r some client m stands in
+      let call_is = is.stands m (session_of m t.0) stands.settings t.4.session in
+      subst (λ p. StandsFor view after' new (after_client m c p (verb.Call o) a)) (sym t.1)
+      (subst (StandsFor view after' new) (sym (called_failed m c t.0 o a call_is.0)) (same m stands t.0 t.1 t.2 t.3 t.4 call_is.1.session));
+  may = λ m stands tells.
+      let t = mine view before old c r some client m stands in
+      let call_is = is.stands m (session_of m t.0) stands.settings t.4.session in
+      subst (λ b. MatchBool b (a ≡ answer.NotBuilt) (MayBuilt m (event.Client c (verb.Call o)) a)) (sym (built m stands))
+      (subst (λ p. MayClient m p (verb.Call o) a) (sym t.1) (inr call_is.1.fault));
+  later = λ m stands.
+      let t = mine view before old c r some client m stands in
+      let call_is = is.stands m (session_of m t.0) stands.settings t.4.session in
+      (λ bad. absurd (fault_is_built a call_is.0 bad), λ bad. absurd (true≢false (sym bad ∙ built m stands)));
+  adds = is.adds;
+  cause = is.cause;
+}
+  where
+    built : (m : Machine) → StandsFor view before old m → is_later m (event.Client c (verb.Call o)) ≡ false
+    built m stands =
+        let t = mine view before old c r some client m stands in
+        let call_is = is.stands m (session_of m t.0) stands.settings t.4.session in
+        ap (λ p. is_later_client m p (verb.Call o)) t.1 ∙ ap₂ (λ x y. x || y) (room view before old.files.entries r m t.0 t.4 few) call_is.1.built
+
+    same : (m : Machine) → StandsFor view before old m → (t : Transaction) → get m.transactions c ≡ Some t → ((k : ℕ) → k ≢ c → get m.transactions k ≡ None) → len m.transactions ≡ 1
+        → StandsForTransaction view before old.files.entries r m t → StandsForSession view after' new.files.entries q.handles.entries (session_of m t) → StandsFor view after' new m
+    same m stands t at others one tx session = record {
+      settings = stands.settings ∙ sym settings;
+      number = stands.number ∙ sym number;
+      running = subst (λ p. StandsForRunning view after' new.files.entries p m) (sym running) (
+        t,
+        subst (λ k. get m.transactions k ≡ Some t) (sym q_client) at,
+        (λ k ne. others k (λ e. ne (e ∙ sym q_client))),
+        one,
+        record { tree = tx.tree; calls = tx.calls ∙ sym q_calls; session = session; shown = λ tells. tx.shown (back tells) },
+      );
+    }
+
+-- a call that is left to a later version
+pub later_step : {S : Type 0} (view : S → StoreView) (before after' : List S) (old new : State) (c : ℕ) (r : Running) (o : Op (List ℕ)) (q : Running)
+    → IsSoundState view before old → old.running ≡ Some r → r.client ≡ c → r.calls < 4096
+    → IsCall view before after' old.settings old.files.entries new.files.entries r.handles.entries q.handles.entries o Later
+    → new.settings ≡ old.settings → new.number ≡ old.number → new.running ≡ Some q → q.client ≡ c → q.calls ≡ r.calls
+    → (TellsAll view after' → TellsAll view before)
+    → IsStep view before after' old new (event.Client c (verb.Call o)) answer.NotBuilt
+later_step view before after' old new c r o q sound some client few is settings number running q_client q_calls back = record {
+  sound = record {
+    servers = ap (λ (s : Settings). s.servers) settings ∙ sound.servers;
+    replicas = ap (λ (s : Settings). s.replicas) settings ∙ sound.replicas;
+    files = subst (λ (s : Settings). AreSoundFiles view after' s new.files.entries) (sym settings) is.files_sound;
+    running = subst (IsSoundRunning new.settings.region new.files.entries) (sym running)
+        (subst (λ (s : Settings). AreSoundHandles s.region new.files.entries q.handles.entries) (sym settings) is.handles_sound, omega (arith, q_calls, few));
+  };
+  settings = settings;
+  number = omega (arith, number);
+  stands = λ m stands.
+      let t = mine view before old c r some client m stands in
+      let call_is = is.stands m (session_of m t.0) stands.settings t.4.session in
+      subst (StandsFor view after' new) (sym (same_machine m (event.Client c (verb.Call o)))) (same m stands t.0 t.1 t.2 t.3 t.4 call_is.session);
+  may = λ m stands _. subst (λ b. MatchBool b (answer.NotBuilt ≡ answer.NotBuilt) (MayBuilt m (event.Client c (verb.Call o)) answer.NotBuilt)) (sym (left m stands)) refl;
+  later = λ m stands. (λ _. left m stands, λ _. refl);
+  adds = is.adds;
+  cause = is.cause;
+}
+  where
+    left : (m : Machine) → StandsFor view before old m → is_later m (event.Client c (verb.Call o)) ≡ true
+    left m stands =
+        let t = mine view before old c r some client m stands in
+        let call_is = is.stands m (session_of m t.0) stands.settings t.4.session in
+        ap (λ p. is_later_client m p (verb.Call o)) t.1 ∙ ap₂ (λ x y. x || y) (room view before old.files.entries r m t.0 t.4 few) call_is.later
+
+    same : (m : Machine) → StandsFor view before old m → (t : Transaction) → get m.transactions c ≡ Some t → ((k : ℕ) → k ≢ c → get m.transactions k ≡ None) → len m.transactions ≡ 1
+        → StandsForTransaction view before old.files.entries r m t → StandsForSession view after' new.files.entries q.handles.entries (session_of m t) → StandsFor view after' new m
+    same m stands t at others one tx session = record {
+      settings = stands.settings ∙ sym settings;
+      number = stands.number ∙ sym number;
+      running = subst (λ p. StandsForRunning view after' new.files.entries p m) (sym running) (
+        t,
+        subst (λ k. get m.transactions k ≡ Some t) (sym q_client) at,
+        (λ k ne. others k (λ e. ne (e ∙ sym q_client))),
+        one,
+        record { tree = tx.tree; calls = tx.calls ∙ sym q_calls; session = session; shown = λ tells. tx.shown (back tells) },
+      );
+    }

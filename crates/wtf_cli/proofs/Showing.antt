@@ -1,0 +1,185 @@
+-- One turn of the loops that read the copies of a slice and that show pieces.
+use Rattle.std.proofs.Common.{◌≡◌, ℕ, zero, suc, ◌+◌, ◌-◌, ◌<◌, ◌≤◌, List, [], ◌∷◌, ◌++◌, length, get_or, take, Some, refl, sym, ◌∙◌, ap, subst, arith, inl, inr, length-append}
+use Rattle.std.specs.Prelude.{slice_get}
+use Rattle.std.specs.List.{All, Contains}
+use Rattle.std.proofs.lemmas.Bool.{cond-true, cond-false, lt-ltb, le-ltb, cases_lt}
+use Rattle.std.proofs.lemmas.List.{take_more, take_all, take_at, append_assoc, get_or_append_left, get_or-append_right}
+use Rattle.std.proofs.lemmas.List.Elements.{All-more}
+use Rattle.std.proofs.lemmas.Option.{slice_get_within, get_or_from_slice_get}
+use Rattle.wtf_base.specs.declared.pointer.Pointer.{Pointer}
+use Rattle.wtf_base.specs.declared.slice.Slice.{Slice}
+use Rattle.wtf_base.specs.declared.fault.Fault.{Fault}
+use Rattle.wtf_base.specs.declared.fault.Fault.TheVariants as fault
+use Rattle.wtf_base.specs.Slices.{pointers_of, len_of}
+use Rattle.wtf_dev.specs.Each.{EachFollows}
+use Rattle.wtf_dev.specs.Store.{Range, StoreView, Kept, Agrees}
+use Rattle.wtf_overlay.specs.declared.part.Part.{Part}
+use Rattle.wtf_overlay.specs.declared.part.Part.TheVariants.{Held}
+use Rattle.wtf_overlay.specs.declared.part.Piece.{Piece}
+use Rattle.wtf_overlay.specs.Lengths.{HasLength}
+use Rattle.wtf_overlay.specs.Origin.{Place, place_in, part_origin, pieces_len, pieces_origin}
+use Rattle.wtf_overlay.specs.Meaning.{meaning}
+use Rattle.wtf_cli.specs.Stored.{told_at, IsInside, IsPlaceInside, ArePiecesInside, ShowsPart, ShowsPieces, IsReadFault, IsShowFault, last_server}
+use Rattle.wtf_cli.proofs.Places.{EachKept, All-unmap, told_stays, meaning_told, inside_part, all_out_since}
+
+-- what was read from a copy is what the slice's places tell
+pub copy_shows : {S : Type 0} (view : S → StoreView) (old mid : List S) → EachKept view old mid → (s : Slice) (j : ℕ) (p : Pointer) (off : ℕ) (out : List ℕ)
+    → IsInside view old s → slice_get (pointers_of s) j ≡ Some p → ((d : S) → Agrees (view (get_or mid p.server.0 d)) p.file (p.at + off) out)
+    → ShowsPart view old (Held s) off out
+copy_shows view old mid kept s j p off out inside is agrees = λ d i b below told.
+    let within : j < length (pointers_of s) = slice_get_within (pointers_of s) j p is in
+    let here : get_or (pointers_of s) j p ≡ p = get_or_from_slice_get (pointers_of s) j p p is in
+    let server : p.server.0 < length old = subst (λ (q : Pointer). q.server.0 < length old) here (inside j p within).0 in
+    let P : Pointer → Type 0 = λ q. told_at view d old (place_in (off + i) q) ≡ Some b in
+    let at : P p = subst P here (All-unmap (λ q. told_at view d old q ≡ Some b) (place_in (off + i)) (pointers_of s)
+    (meaning_told (told_at view d old) b (part_origin (Held s) (off + i)) told) j p within) in
+    let place : p.at + (off + i) ≡ p.at + off + i = omega arith in
+    agrees d i b below (subst (λ (x : ℕ). (view (get_or mid p.server.0 d)).told p.file x ≡ Some b) place
+    ((kept p.server.0 d server).bytes p.file (p.at + (off + i)) b tt at))
+
+-- one copy more
+pub next_holds : (P : Pointer → Type 0) (ps : List Pointer) (j : ℕ) (p : Pointer) → slice_get ps j ≡ Some p → All P (take j ps) → P p → All P (take (j + 1) ps)
+next_holds P ps j p is all one =
+    All-more P ps j p (slice_get_within ps j p is) all (subst P (sym (get_or_from_slice_get ps j p p is)) one)
+
+last_server-push : (ps : List Pointer) (p : Pointer) (k : ℕ) → last_server (ps ++ p ∷ []) k ≡ p.server.0
+last_server-push [] p k = refl
+last_server-push (q ∷ ps) p k = last_server-push ps p q.server.0
+
+pub next_last : (ps : List Pointer) (j : ℕ) (p : Pointer) (k : ℕ) → slice_get ps j ≡ Some p → last_server (take (j + 1) ps) k ≡ p.server.0
+next_last ps j p k is =
+    ap (λ (xs : List Pointer). last_server xs k) (take_more ps j p (slice_get_within ps j p is))
+    ∙ last_server-push (take j ps) (get_or ps j p) k
+    ∙ ap (λ (q : Pointer). q.server.0) (get_or_from_slice_get ps j p p is)
+
+-- a piece whose slice was not read is why pieces were not shown
+pub show_fault : {S : Type 0} (view : S → StoreView) (old new : List S) (pieces : List Piece) (p : Piece) (s : Slice) → Contains pieces p → p.part ≡ Held s
+    → (f : Fault) → IsReadFault view old new s f → IsShowFault view old new pieces f
+show_fault view old new pieces p s one held (fault.Read k) h = record { piece = p; slice = s; one_of = one; held = held; out = h }
+show_fault view old new pieces p s one held fault.Write h = absurd h
+show_fault view old new pieces p s one held (fault.Punch k) h = absurd h
+show_fault view old new pieces p s one held (fault.Damaged k) h = absurd h
+show_fault view old new pieces p s one held fault.Memory h = absurd h
+
+-- the fault of one of the pieces, in a later part of the span
+pub show_fault_within : {S : Type 0} (view : S → StoreView) (old mid new : List S) → length mid ≡ length old → EachKept view old mid
+    → (ps qs : List Piece) → ((p : Piece) → Contains ps p → Contains qs p) → (f : Fault) → IsShowFault view mid new ps f → IsShowFault view old new qs f
+show_fault_within view old mid new same kept ps qs among (fault.Read k) h =
+    record { piece = h.piece; slice = h.slice; one_of = among h.piece h.one_of; held = h.held; out = all_out_since view old mid new same kept h.slice k.0 h.out }
+show_fault_within view old mid new same kept ps qs among fault.Write h = absurd h
+show_fault_within view old mid new same kept ps qs among (fault.Punch k) h = absurd h
+show_fault_within view old mid new same kept ps qs among (fault.Damaged k) h = absurd h
+show_fault_within view old mid new same kept ps qs among fault.Memory h = h
+
+-- a slice in a piece has its length
+pub held_len : (n : ℕ) (part : Part) (s : Slice) → part ≡ Held s → HasLength n part → len_of s ≡ n
+held_len n part s is h = subst (λ (x : Part). HasLength n x) is h
+
+-- of a piece whose places lie inside the stores, its slice lies inside them
+pub held_inside : {S : Type 0} (view : S → StoreView) (shelf : List S) (p : Piece) (s : Slice) → p.part ≡ Held s
+    → ((i : ℕ) → i < p.len → All (IsPlaceInside view shelf) (part_origin p.part i)) → IsInside view shelf s
+held_inside view shelf p s is inside =
+    let len : len_of s ≡ p.len = held_len p.len p.part s is p.held in
+    inside_part view shelf s (omega (arith, len, p.positive))
+    (λ i below. subst (λ (x : Part). All (IsPlaceInside view shelf) (part_origin x i)) is (inside i (omega (arith, len, below))))
+
+-- a list that was lengthened, and whose new end was written
+pub end_written : (old xs items ys zeros p q : List ℕ) (a n len : ℕ) → length old ≡ a → xs ≡ items → items ≡ take (a + n) old ++ zeros → length ys ≡ n → len ≡ a + n
+    → take len (take a xs ++ (ys ++ p) ++ q) ≡ old ++ ys
+end_written old xs items ys zeros p q a n len is_a is_xs is_items is_n is_len =
+    let front : take a xs ≡ old =
+    ap (λ (l : List ℕ). take a l) (is_xs ∙ is_items ∙ ap (λ (l : List ℕ). l ++ zeros) (take_all (a + n) old (omega (arith, is_a)))) ∙ take_at old zeros a is_a in
+    let parts : take a xs ++ (ys ++ p) ++ q ≡ (old ++ ys) ++ (p ++ q) =
+    ap (λ (l : List ℕ). l ++ (ys ++ p) ++ q) front
+    ∙ ap (λ (l : List ℕ). l ++ q) (sym (append_assoc old ys p)) ∙ append_assoc (old ++ ys) p q in
+    ap (λ (l : List ℕ). take len l) parts ∙ take_at (old ++ ys) (p ++ q) len (omega (arith, length-append old ys, is_a, is_n, is_len))
+
+-- where a piece's bytes lie among those of all
+pub pieces_origin-at : (ps : List Piece) (k : ℕ) (p : Piece) (i : ℕ) → k < length ps → get_or ps k p ≡ p → i < p.len
+    → (pieces_len (take k ps) + i < pieces_len ps) × (pieces_origin ps (pieces_len (take k ps) + i) ≡ part_origin p.part i)
+pieces_origin-at [] k p i h is below = absurd (omega (arith, h))
+pieces_origin-at (q ∷ ps) zero p i h is below =
+    let here : i < q.len = omega (arith, below, ap (λ (r : Piece). r.len) is) in
+    (omega (arith, here), cond-true _ _ _ (lt-ltb (0 + i) q.len (omega (arith, here))) ∙ ap (part_origin q.part) (omega arith) ∙ ap (λ (r : Piece). part_origin r.part i) is)
+pieces_origin-at (q ∷ ps) (suc k) p i h is below =
+    let rest = pieces_origin-at ps k p i (omega (arith, h)) is below in
+    let later : q.len ≤ q.len + pieces_len (take k ps) + i = omega arith in
+    let left : q.len + pieces_len (take k ps) + i - q.len ≡ pieces_len (take k ps) + i = omega arith in
+    (omega (arith, rest.0), cond-false _ _ _ (le-ltb (q.len + pieces_len (take k ps) + i) q.len later) ∙ ap (pieces_origin ps) left ∙ rest.1)
+
+pieces_len-push : (ps : List Piece) (p : Piece) → pieces_len (ps ++ p ∷ []) ≡ pieces_len ps + p.len
+pieces_len-push [] p = omega arith
+pieces_len-push (q ∷ ps) p = omega (arith, pieces_len-push ps p)
+
+pieces_origin-front : (ps : List Piece) (p : Piece) (i : ℕ) → i < pieces_len ps → pieces_origin (ps ++ p ∷ []) i ≡ pieces_origin ps i
+pieces_origin-front [] p i h = absurd (omega arith)
+pieces_origin-front (q ∷ ps) p i h = elim (cases_lt i q.len) [
+  | inl l ↦ cond-true _ _ _ (lt-ltb i q.len l) ∙ sym (cond-true _ _ _ (lt-ltb i q.len l))
+  | inr g ↦ cond-false _ _ _ (le-ltb i q.len g) ∙ pieces_origin-front ps p (i - q.len) (omega arith) ∙ sym (cond-false _ _ _ (le-ltb i q.len g))
+]
+
+pieces_origin-last : (ps : List Piece) (p : Piece) (i : ℕ) → i < p.len → pieces_origin (ps ++ p ∷ []) (pieces_len ps + i) ≡ part_origin p.part i
+pieces_origin-last [] p i h = cond-true _ _ _ (lt-ltb (0 + i) p.len (omega arith)) ∙ ap (part_origin p.part) (omega arith)
+pieces_origin-last (q ∷ ps) p i h =
+    cond-false _ _ _ (le-ltb (q.len + pieces_len ps + i) q.len (omega arith))
+    ∙ ap (pieces_origin (ps ++ p ∷ [])) (omega arith) ∙ pieces_origin-last ps p i h
+
+-- what has been shown of pieces, and one piece more
+abbrev pub Shown : {S : Type 0} → (S → StoreView) → List S → List Piece → List ℕ → List ℕ → Type 0
+Shown view shelf ps old new = (shown : List ℕ) × (new ≡ old ++ shown) × (length shown ≡ pieces_len ps) × ShowsPieces view shelf ps shown
+
+shows_push : {S : Type 0} (view : S → StoreView) (shelf : List S) (ps : List Piece) (p : Piece) (bytes more : List ℕ)
+    → length bytes ≡ pieces_len ps → length more ≡ p.len → ShowsPieces view shelf ps bytes → ShowsPart view shelf p.part 0 more
+    → ShowsPieces view shelf (ps ++ p ∷ []) (bytes ++ more)
+shows_push view shelf ps p bytes more len last_len shows last = λ d i b below told. elim (cases_lt i (length bytes)) [
+  | inl l ↦
+      get_or_append_left bytes more 0 i l
+      ∙ shows d i b l (ap (meaning (told_at view d shelf)) (sym (pieces_origin-front ps p i (omega (arith, len, l)))) ∙ told)
+  | inr g ↦
+      let j : ℕ = i - length bytes in
+      let at : i ≡ pieces_len ps + j = omega (arith, len, g) in
+      let within : j < length more = omega (arith, length-append bytes more, below, g) in
+      let zero_on : 0 + j ≡ j = omega arith in
+      let there : pieces_origin (ps ++ p ∷ []) i ≡ part_origin p.part (0 + j) =
+      ap (pieces_origin (ps ++ p ∷ [])) at ∙ pieces_origin-last ps p j (omega (arith, within, last_len)) ∙ ap (part_origin p.part) (sym zero_on) in
+      get_or-append_right bytes more (length bytes) i 0 refl g
+      ∙ last d j b within (ap (meaning (told_at view d shelf)) (sym there) ∙ told)
+]
+
+pub shown_more : {S : Type 0} (view : S → StoreView) (shelf : List S) (ps : List Piece) (k : ℕ) (p : Piece) (old mid new : List ℕ)
+    → k < length ps → get_or ps k p ≡ p → Shown view shelf (take k ps) old mid
+    → (more : List ℕ) → new ≡ mid ++ more → length more ≡ p.len → ShowsPart view shelf p.part 0 more
+    → Shown view shelf (take (k + 1) ps) old new
+shown_more view shelf ps k p old mid new h is was more is_new len shows =
+    let next : take (k + 1) ps ≡ take k ps ++ p ∷ [] = take_more ps k p h ∙ ap (λ (x : Piece). take k ps ++ x ∷ []) is in
+    subst (λ (l : List Piece). Shown view shelf l old new) (sym next) (
+      was.0 ++ more,
+      is_new ∙ ap (λ (l : List ℕ). l ++ more) was.1 ∙ append_assoc old was.0 more,
+      omega (arith, length-append was.0 more, was.2, len, pieces_len-push (take k ps) p),
+      shows_push view shelf (take k ps) p was.0 more was.2 len was.3 shows,
+    )
+
+-- a part shows in a later state what it shows in an earlier one
+pub shows_since : {S : Type 0} (view : S → StoreView) (follows : S → S → List Range → Type 0)
+    → ((a b : S) (xs : List Range) → follows a b xs → Kept (view a) (view b) xs)
+    → (old mid : List S) → EachFollows follows old mid [] → (p : Piece) (bytes : List ℕ) → length bytes ≡ p.len
+    → ((i : ℕ) → i < p.len → All (IsPlaceInside view old) (part_origin p.part i))
+    → ShowsPart view mid p.part 0 bytes → ShowsPart view old p.part 0 bytes
+shows_since view follows keeps old mid e p bytes len inside shows = λ d i b below told.
+    let at : 0 + i < p.len = omega (arith, below, len) in
+    shows d i b below (told_stays view follows keeps old mid e d (part_origin p.part (0 + i)) b (inside (0 + i) at) told)
+
+pub piece_inside : {S : Type 0} (view : S → StoreView) (shelf : List S) (ps : List Piece) (k : ℕ) (p : Piece) → k < length ps → get_or ps k p ≡ p
+    → ArePiecesInside view shelf ps → (i : ℕ) → i < p.len → All (IsPlaceInside view shelf) (part_origin p.part i)
+piece_inside view shelf ps k p h is inside i below =
+    let at = pieces_origin-at ps k p i h is below in
+    subst (λ (l : List Place). All (IsPlaceInside view shelf) l) at.1 (inside (pieces_len (take k ps) + i) at.0)
+
+pub piece_few : (ps : List Piece) (k : ℕ) (p : Piece) → k < length ps → get_or ps k p ≡ p → p.len ≤ pieces_len ps
+piece_few ps k p h is =
+    let last : p.len - 1 < p.len = omega (arith, p.positive) in
+    omega (arith, (pieces_origin-at ps k p (p.len - 1) h is last).0, p.positive)
+
+pub among_one : (ps : List Piece) (k : ℕ) (p : Piece) → k < length ps → get_or ps k p ≡ p → (q : Piece) → Contains (p ∷ []) q → Contains ps q
+among_one ps k p h is q (zero, below, same) = (k, h, subst (λ (x : Piece). get_or ps k x ≡ x) same is)
+among_one ps k p h is q (suc j, below, same) = absurd (omega (arith, below))

@@ -1,0 +1,44 @@
+-- The state that a run begins with stands for the machine that it begins with.
+use Rattle.std.proofs.Common.{◌≡◌, ◌≤◌, ℕ, List, [], length, Option, None, refl, sym, ◌∙◌, ap, subst, arith}
+use Rattle.std.specs.FinMap.{empty, get-empty, len-empty}
+use Rattle.std.specs.Ordering.{nat_cmp}
+use Rattle.wtf_base.specs.declared.settings.Settings.{Settings}
+use Rattle.wtf_dev.specs.Store.{StoreView}
+use Rattle.wtf_model.specs.declared.tree.Node.{Node}
+use Rattle.wtf_model.specs.declared.tree.Node.TheVariants as node
+use Rattle.wtf_model.specs.Tree.{root, root_alone}
+use Rattle.wtf_model.specs.Laws.{get-node_same, get-node_other}
+use Rattle.wtf_cli.specs.declared.file.File.{File}
+use Rattle.wtf_cli.specs.declared.state.Running.{Running}
+use Rattle.wtf_cli.specs.declared.state.State.{State}
+use Rattle.wtf_cli.specs.StandsFor.{IsSoundState, StandsFor, StandsForTree, StandsForRunning, StandsForNode, AreSoundFiles, IsSoundRunning}
+use Rattle.wtf_cli.specs.Runs.{first}
+
+pub sound_first : {S : Type 0} (view : S → StoreView) (shelf : List S) (settings : Settings) (state : State) → settings.servers ≡ 1 → settings.replicas ≡ 1 → 1 ≤ length shelf
+    → state.settings ≡ settings → state.files.entries ≡ [] → state.running ≡ None → IsSoundState view shelf state
+sound_first view shelf settings state one_server one_copy some settings_is files running = record {
+  servers = ap (λ (s : Settings). s.servers) settings_is ∙ one_server;
+  replicas = ap (λ (s : Settings). s.replicas) settings_is ∙ one_copy;
+  files = subst (λ (f : List (List ℕ × File)). AreSoundFiles view shelf state.settings f) (sym files) (record {
+    servers = omega (arith, ap (λ (s : Settings). s.servers) settings_is, one_server, some);
+    top = refl;
+    sound = λ p file is. absurd (cc);
+    short = λ p file is. absurd (cc);
+  });
+  running = subst (λ (r : Option Running). IsSoundRunning state.settings.region state.files.entries r) (sym running) tt;
+}
+
+tree_first : {S : Type 0} (view : S → StoreView) (shelf : List S) → StandsForTree view shelf [] root_alone
+tree_first view shelf = record {
+  top = get-node_same empty root node.Dir;
+  files_are = λ p other. subst (λ (n : Option Node). StandsForNode view shelf None n) (sym (get-node_other empty root node.Dir p other ∙ get-empty _ p)) tt;
+}
+
+pub stands_first : {S : Type 0} (view : S → StoreView) (shelf : List S) (settings : Settings) (state : State)
+    → state.settings ≡ settings → state.number ≡ 0 → state.files.entries ≡ [] → state.running ≡ None → StandsFor view shelf state (first settings)
+stands_first view shelf settings state settings_is number files running = record {
+  settings = sym settings_is;
+  number = sym number;
+  running = subst (λ (r : Option Running). StandsForRunning view shelf state.files.entries r (first settings)) (sym running)
+      ((λ c. get-empty nat_cmp c), len-empty nat_cmp _, subst (λ (f : List (List ℕ × File)). StandsForTree view shelf f root_alone) (sym files) (tree_first view shelf));
+}

@@ -1,0 +1,16 @@
+use Rattle.std.proofs.Common.{◌≡◌, [], take}
+use Rattle.std.specs.List.{All}
+use Rattle.wtf_base.specs.declared.pointer.Pointer.{Pointer}
+use Rattle.wtf_base.specs.Slices.{pointers_of}
+use Rattle.wtf_dev.specs.Each.{EachFollows}
+use Rattle.wtf_cli.specs.Stored.{IsOut, SameLengths, last_server}
+use Rattle.wtf_cli.proofs.slices.fetch.Given as goal
+
+-- the servers of the copies before copy i are out, and `last` is that of the one before it
+abbrev pub invariant-loop-i : goal.invariant-loop-i
+invariant-loop-i g l = record {
+  each : EachFollows g.S.SliceStore.follows l.initial.shelf l.shelf [];
+  lengths : SameLengths g.S.SliceStore.view l.initial.shelf l.shelf;
+  out : All (λ (p : Pointer). IsOut g.S.SliceStore.view l.initial.shelf l.shelf p.server.0) (take l.i (pointers_of l.slice));
+  last : last_server (take l.i (pointers_of l.slice)) 0 ≡ l.last.0;
+}

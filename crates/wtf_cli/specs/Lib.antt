@@ -1,0 +1,16 @@
+pub mod ScriptLines
+pub mod Words
+pub mod Forms
+pub mod Texts
+pub mod Reading
+pub mod Stored
+pub mod Tables
+pub mod StandsFor
+pub mod Outcomes
+pub mod Calls
+pub mod Events
+pub mod Runs
+pub mod LineSteps
+pub mod Turns
+pub mod Passes
+pub mod Program

@@ -1,0 +1,183 @@
+//! The state of a run, and the answer to one event.
+
+ghost use Rattle.std.specs.Prelude.{◌≡◌, ◌↔◌, ◌+◌, ◌<◌, ◌≤◌, ◌^◌, true, IfOk, None, []};
+ghost use Rattle.wtf_dev.specs.Each.{EachFollows};
+ghost use Rattle.wtf_dev.specs.Sums.{TellsAll};
+ghost use Rattle.wtf_model.specs.Steps.{Machine};
+ghost use Rattle.wtf_cli.specs.Events.{IsFormEvent};
+
+use crate::calls::{Called, call};
+use crate::file::File;
+use crate::tables::Opened;
+use std::alloc::Global;
+use std::collections::BTreeMap;
+use wtf_base::{Bytes, OutOfMemory, Settings};
+use wtf_dev::{Shelf, SliceStore};
+use wtf_model::{Answer, Event, Op, Verb};
+use wtf_path::Path;
+
+/// The greatest number of calls that a transaction logs.
+const MOST_CALLS: u32 = 4096;
+
+/// The transaction that runs: its client, how many calls it has logged, and its open handles.
+#[derive(Debug, Drop)]
+pub(crate) struct Running {
+    pub(crate) client: u8,
+    pub(crate) calls: u32,
+    pub(crate) handles: BTreeMap<u8, Opened>,
+}
+
+/// The state of a run: the number of commits, the files, and the transaction that runs, if there is one. Only one
+/// runs at a time, so the files are those that its calls have left.
+#[derive(Debug, Drop)]
+pub(crate) struct State {
+    pub(crate) alloc: Global,
+    pub(crate) settings: Settings,
+    pub(crate) number: u64,
+    pub(crate) files: BTreeMap<Path, File>,
+    pub(crate) running: Option<Running>,
+}
+
+impl State {
+    ghost use Rattle.wtf_cli.specs.StandsFor.{IsSoundState, StandsFor};
+    ghost use Rattle.wtf_cli.specs.Events.{IsStep};
+    ghost use Rattle.wtf_cli.specs.LineSteps.{IsLineStep, IsFormLine};
+
+    /// The state without a file.
+    pub(crate) fn new(alloc: Global, settings: Settings) -> State
+        ensures settings { result.settings ≡ settings }
+        ensures number { result.number ≡ 0 }
+        ensures files { result.files.entries ≡ [] }
+        ensures running { result.running ≡ None }
+    {
+        State {
+            alloc,
+            settings,
+            number: 0,
+            files: BTreeMap::new(alloc),
+            running: None,
+        }
+    }
+
+    /// Answers a line: its event, where it asks something.
+    pub(crate) fn answer<S: SliceStore>(
+        &mut self,
+        shelf: &mut Shelf<S>,
+        event: Option<Event>,
+    ) -> Result<Answer, OutOfMemory>
+        requires number { self.old.number < 2 ^ 63 }
+        requires form { IsFormLine event }
+        requires sound { IsSoundState S.view shelf.old self.old }
+        ensures step { IfOk result (IsLineStep S.view shelf.old shelf.new self.old self.new event) }
+        ensures follows { EachFollows S.follows shelf.old shelf.new [] }
+    {
+        match event {
+            Some(event) => self.event(shelf, event),
+            None => Ok(Answer::NotBuilt),
+        }
+    }
+
+    /// Answers one event.
+    fn event<S: SliceStore>(
+        &mut self,
+        shelf: &mut Shelf<S>,
+        event: Event,
+    ) -> Result<Answer, OutOfMemory>
+        requires number { self.old.number < 2 ^ 63 }
+        requires form { IsFormEvent event }
+        requires sound { IsSoundState S.view shelf.old self.old }
+        ensures step { IfOk result (IsStep S.view shelf.old shelf.new self.old self.new event) }
+        ensures follows { EachFollows S.follows shelf.old shelf.new [] }
+    {
+        let Event::Client(client, verb) = event else {
+            return Ok(Answer::NotBuilt);
+        };
+        match verb {
+            Verb::Begin => Ok(self.begin(shelf, client)),
+            Verb::Try => Ok(self.commit(shelf, client)),
+            Verb::Call(op) => self.call(shelf, client, op),
+            _ => Ok(Answer::NotBuilt),
+        }
+    }
+
+    /// Begins a transaction.
+    fn begin<S: SliceStore>(&mut self, shelf: &Shelf<S>, client: u8) -> Answer
+        requires sound { IsSoundState S.view shelf.now self.old }
+        ensures { IsStep S.view shelf.now shelf.now self.old self.new (Event.Client client Verb.Begin) result }
+    {
+        if self.running.is_some() {
+            return Answer::NotBuilt;
+        }
+        self.running = Some(Running {
+            client,
+            calls: 0,
+            handles: BTreeMap::new(self.alloc),
+        });
+        Answer::Begun(self.number)
+    }
+
+    /// Commits the transaction that runs.
+    fn commit<S: SliceStore>(&mut self, shelf: &Shelf<S>, client: u8) -> Answer
+        requires number { self.old.number < 2 ^ 63 }
+        requires sound { IsSoundState S.view shelf.now self.old }
+        ensures { IsStep S.view shelf.now shelf.now self.old self.new (Event.Client client Verb.Try) result }
+    {
+        let Some(running) = &self.running else {
+            return Answer::NotBuilt;
+        };
+        if running.client != client {
+            return Answer::NotBuilt;
+        }
+        self.running = None;
+        self.number += 1;
+        Answer::Committed(self.number)
+    }
+
+    /// Makes a call of the transaction that runs.
+    fn call<S: SliceStore>(
+        &mut self,
+        shelf: &mut Shelf<S>,
+        client: u8,
+        op: Op<Bytes>,
+    ) -> Result<Answer, OutOfMemory>
+        requires form { IsFormEvent (Event.Client client (Verb.Call op)) }
+        requires sound { IsSoundState S.view shelf.old self.old }
+        ensures step { IfOk result (IsStep S.view shelf.old shelf.new self.old self.new (Event.Client client (Verb.Call op))) }
+        ensures follows { EachFollows S.follows shelf.old shelf.new [] }
+    {
+        let Some(mut running) = self.running.take() else {
+            return Ok(Answer::NotBuilt);
+        };
+        if running.client != client {
+            self.running = Some(running);
+            return Ok(Answer::NotBuilt);
+        }
+        if running.calls >= MOST_CALLS {
+            self.running = Some(running);
+            return Ok(Answer::NotBuilt);
+        }
+        let handles = &mut running.handles;
+        match call(
+            self.alloc,
+            shelf,
+            self.settings,
+            &mut self.files,
+            handles,
+            op,
+        )? {
+            Called::Logged(answer) => {
+                running.calls += 1;
+                self.running = Some(running);
+                Ok(answer)
+            }
+            Called::Failed(answer) => {
+                self.running = Some(running);
+                Ok(answer)
+            }
+            Called::Later => {
+                self.running = Some(running);
+                Ok(Answer::NotBuilt)
+            }
+        }
+    }
+}
