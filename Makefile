@@ -19,9 +19,8 @@ demo: ## run examples/first.wtf, built fast and without a proof, and compare wha
 test: ## the gate: prove every crate, try the wrong bodies, run the tests and the programs
 	rt ci
 
-bench: ## print the table of costs, where the crate of benchmarks is there
-	@if [ -d crates/wtf_bench ]; then cd crates/wtf_bench && rt run; \
-	else echo 'make: there are no benchmarks yet'; fi
+bench: ## print the table of what calls cost, with ratios
+	@cd crates/wtf_bench && rt run
 
 clean: ## remove what was built
 	rm -rf build crates/*/out

@@ -1,0 +1,175 @@
+//! Prints what the calls of `wtf_kv` cost on this machine, by the numbers of keys and of pins.
+#![tactic(auto)]
+
+ghost use Rattle.std.specs.Prelude.{◌≡◌, ◌+◌, ◌<◌, OnOk, IsTrue};
+ghost use Rattle.wtf_kv.specs.Stores.{is_live};
+
+mod entries;
+mod figures;
+
+use crate::entries::{Count, Name};
+use crate::figures::{key_at, keys_of, pins_of, ratio};
+use std::alloc::{AllocError, Global};
+use std::time::Instant;
+use std::{env, io};
+use wtf_base::OutOfMemory;
+use wtf_kv::{Changes, Kv};
+
+/// A round reads this many values and as many versions, installs `BATCH` changes, one at a time and each
+/// of another key, and prunes once.
+const READS: u64 = 10_000;
+
+const BATCH: u64 = 100;
+/// How many rounds a row has.
+const ROUNDS: u64 = 20;
+/// How many calls of a round each column stands for.
+const CALLS: [u64; 4] = [READS, READS, BATCH, 1];
+
+const HEAD: &str = "  keys pins  read_at         version_at      install         prune\n";
+
+const HELP: &str =
+    "wtf_bench prints the nanoseconds of a call, in the best of 20 rounds, and the ratio to the first row.
+Reads are at the oldest pinned number. An install makes one change ready, and installs it.
+A prune follows 100 installs, each of another key.
+";
+
+type Map = Kv<Name, Count>;
+
+type Sets = Changes<Name, Count>;
+
+/// Prints the table; with any word it says what the table shows.
+fn main(rt: HostRuntime) -> io::Result<()> {
+    if env::args(&rt)?.nth(1).is_some() {
+        return rt.print(HELP);
+    }
+    rt.print(HEAD)?;
+    let mut first = None;
+    for size in 0..3 {
+        for column in 0..2 {
+            let (keys, pins) = (keys_of(size), pins_of(column));
+            let costs = measure(&rt, keys, pins)?;
+            let base = first.unwrap_or(costs);
+            first = Some(base);
+            print!(rt; "{keys:>6}{pins:>5}")?;
+            for i in 0..4 {
+                show(&rt, costs[i], base[i], CALLS[i])?;
+            }
+            println!(rt; "")?;
+        }
+    }
+    Ok(())
+}
+
+/// Prints the nanoseconds of one of the calls, and the ratio to the first row.
+fn show(rt: &impl Print, nanos: u64, base: u64, calls: u64) -> io::Result<()> {
+    let hundredths = ratio(nanos.min(1 << 55), base);
+    let (each, whole, part) = (nanos / calls.max(1), hundredths / 100, hundredths % 100);
+    print!(rt; "{each:>9}{whole:>4}.{part:02}")
+}
+
+/// The nanoseconds of the reads of values and of versions, the installs and the prune of a round, each
+/// the least of all rounds: so other work on the machine counts little.
+fn measure(rt: &HostRuntime, keys: u64, pins: u64) -> io::Result<[u64; 4]>
+    requires { 0 < keys }
+{
+    let memory = |_why| io::Error::from(AllocError);
+    let mut kv = filled(rt.alloc(), keys, pins).map_err(memory)?;
+    let mut batch = Vec::new(rt.alloc());
+    for i in 0..BATCH {
+        batch.push(set(rt.alloc(), key_at(i, keys), i).map_err(memory)?)?;
+    }
+    let mut least = [u64::MAX; 4];
+    for _ in 0..ROUNDS {
+        let n = oldest(&kv);
+        let start = Instant::now(rt)?;
+        let values = reads(&kv, n, keys, false);
+        let read = Instant::now(rt)?;
+        let versions = reads(&kv, n, keys, true);
+        let told = Instant::now(rt)?;
+        for changes in &batch {
+            install(&mut kv, changes).map_err(memory)?;
+        }
+        let installed = Instant::now(rt)?;
+        kv.prune();
+        let pruned = Instant::now(rt)?;
+        // The sums are used, so that no compiler leaves the reads out.
+        if values == u64::MAX || versions == u64::MAX {
+            return Err(io::Error::from(io::ErrorKind::InvalidData));
+        }
+        least[0] = least[0].min(nanos(start, read));
+        least[1] = least[1].min(nanos(read, told));
+        least[2] = least[2].min(nanos(told, installed));
+        least[3] = least[3].min(nanos(installed, pruned));
+    }
+    Ok(least)
+}
+
+/// The nanoseconds between two moments.
+fn nanos(from: Instant, to: Instant) -> u64 {
+    u64::try_from(to.duration_since(from).as_nanos()).unwrap_or(u64::MAX)
+}
+
+/// A change that gives a key a value.
+fn set(alloc: Global, id: u64, value: u64) -> Result<Sets, OutOfMemory> {
+    let mut changes = Changes::new(alloc);
+    changes.delta(Name { id }, value)?;
+    Ok(changes)
+}
+
+/// A store where each key has a value, with numbers pinned, before an install of one change each.
+fn filled(alloc: Global, keys: u64, pins: u64) -> Result<Map, OutOfMemory>
+    requires { 0 < keys }
+{
+    let mut kv = Kv::new(alloc)?;
+    for id in 0..keys {
+        install(&mut kv, &set(alloc, id, id)?)?;
+    }
+    for i in 0..pins {
+        kv.pin(kv.number())?;
+        install(&mut kv, &set(alloc, i % keys, i)?)?;
+    }
+    Ok(kv)
+}
+
+/// Installs changes under the next number; a store with no further number is taken for want of memory.
+fn install(kv: &mut Map, changes: &Sets) -> Result<(), OutOfMemory>
+    ensures pins { kv.new.pins ≡ kv.old.pins }
+    ensures number { OnOk result (kv.new.number ≡ kv.old.number + 1) }
+{
+    if kv.number() >= 1 << 63 {
+        return Err(OutOfMemory);
+    }
+    let ready = kv.reserve_install(changes).map_err(|_why| OutOfMemory)?;
+    kv.install(ready);
+    Ok(())
+}
+
+/// The oldest pinned number, or else the number of the store.
+fn oldest(kv: &Map) -> u64
+    ensures { IsTrue (is_live kv.now result) }
+{
+    match kv.next_pinned(None) {
+        Some(n) if kv.is_pinned(n) => n,
+        _ => kv.number(),
+    }
+}
+
+/// Adds up what `READS` keys show at `n`: their values, or their versions.
+fn reads(kv: &Map, n: u64, keys: u64, versions: bool) -> u64
+    requires live { IsTrue (is_live kv.now n) }
+    requires some { 0 < keys }
+{
+    let mut sum = 0u64;
+    for i in 0..READS {
+        let name = Name {
+            id: key_at(i, keys),
+        };
+        let shown = if versions {
+            kv.version_at(n, &name)
+        } else {
+            kv.read_at(n, &name).map_or(0, |c| c.n)
+        };
+        sum = sum.wrapping_add(shown);
+    }
+    sum
+}
