@@ -25,7 +25,7 @@ use Rattle.wtf_cli.specs.Passes.{PassIs}
 use Rattle.wtf_cli.specs.Runs.{RoseBy, IsStill, fault_count, first, output, IsNotBuiltExactly, Ran, HasRead, Served}
 use Rattle.wtf_cli.proofs.Places.{each_kept}
 use Rattle.wtf_cli.proofs.RanLaws.{ran_none, ran_more}
-use Rattle.wtf_cli.proofs.Telling.{Told, told_none, told_more, told_end, told_fault, told_much, told_other}
+use Rattle.wtf_cli.proofs.Telling.{Told, some_same, told_none, told_more, told_end, told_fault, told_much, told_other}
 
 -- a run so far: the lines with their answers, and what the state, the devices and the reader are
 pub record Going {S : Type 0} (view : S → StoreView) (follows : S → S → List Range → Type 0) (settings : Settings) (source source' : SourceView) (sink sink' : SinkView) (before now : List S) (held : Held) (state : State) : Type 0 where
@@ -66,9 +66,6 @@ given_on old now new count next h is more = omega arith
 machine_none : (m : Machine) → machine_after m [] [] ≡ m
 unfolding machine_after
 machine_none m = refl
-
-some_same : (a b : List ℕ) → Some a ≡ Some b → a ≡ b
-some_same a b e = cc
 
 -- the run after its first line
 pub going_none : {S : Type 0} (view : S → StoreView) (follows : S → S → List Range → Type 0) → ((s : S) → follows s s [])

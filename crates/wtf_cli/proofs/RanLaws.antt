@@ -5,13 +5,13 @@ use Rattle.std.proofs.lemmas.List.Elements.{All-append, All-nil, All-cons}
 use Rattle.wtf_base.specs.declared.settings.Settings.{Settings}
 use Rattle.wtf_dev.specs.Store.{Range, StoreView, Kept}
 use Rattle.wtf_dev.specs.Each.{EachFollows, each_on, each_same}
-use Rattle.wtf_dev.specs.Sums.{all_stored, all_faults, all_faults-grows, tells_all-kept}
+use Rattle.wtf_dev.specs.Sums.{TellsAll, all_stored, all_faults, all_faults-grows, tells_all-kept}
 use Rattle.wtf_model.specs.declared.answer.Answer.{Answer}
 use Rattle.wtf_model.specs.declared.answer.Answer.TheVariants as answer
 use Rattle.wtf_model.specs.declared.event.Event.{Event}
 use Rattle.wtf_model.specs.Steps.{Machine}
 use Rattle.wtf_model.specs.Along.{MayLine, Along, machine_after}
-use Rattle.wtf_model.specs.Laws.{Along-push, Along-lengths}
+use Rattle.wtf_model.specs.Laws.{Along-push, Along-lengths, Accepts-from_lines}
 use Rattle.wtf_cli.specs.declared.state.State.{State}
 use Rattle.wtf_cli.specs.Forms.{event_of}
 use Rattle.wtf_cli.specs.StandsFor.{StandsFor}
@@ -76,6 +76,7 @@ by_products r s t u x y z early more all = more ∙ ap (λ (w : ℕ). w + r * y)
 -- no line has run
 pub ran_none : {S : Type 0} (view : S → StoreView) (follows : S → S → List Range → Type 0) → ((s : S) → follows s s []) → (settings : Settings) (shelf : List S) → Ran view follows settings shelf shelf [] []
 ran_none view follows itself settings shelf = record {
+  accepts = λ tells. Accepts-from_lines (first settings) [] [] (along_none MayLine (first settings));
   accepted = λ tells. along_none MayLine (first settings);
   exact = along_none IsNotBuiltExactly (first settings);
   served = All-nil IsServed;
@@ -99,9 +100,12 @@ ran_more {S = S} view follows keeps on settings before now after' lines answers 
     let cause : HasCause view now after' settings.servers a = subst (λ (s : Settings). HasCause view now after' s.servers a) settings_is step.cause in
     let adds : AddsBytes view now after' settings.replicas (line_data e) a = subst (λ (s : Settings). AddsBytes view now after' s.replicas (line_data e) a) settings_is step.adds in
     let same : length es ≡ length answers = Along-lengths IsNotBuiltExactly (first settings) es answers ran.exact in
+    let accepted : TellsAll view before → Along MayLine (first settings) (map event_of (lines ++ line ∷ [])) (answers ++ a ∷ [])
+    = λ tells. subst (λ (x : List (Option Event)). Along MayLine (first settings) x (answers ++ a ∷ [])) (sym pushed)
+    (Along-push MayLine (first settings) es answers e a (ran.accepted tells) (step.may m stands (tells_all-kept view follows keeps before now [] ran.follows_on tells))) in
     record {
-      accepted = λ tells. subst (λ (x : List (Option Event)). Along MayLine (first settings) x (answers ++ a ∷ [])) (sym pushed)
-          (Along-push MayLine (first settings) es answers e a (ran.accepted tells) (step.may m stands (tells_all-kept view follows keeps before now [] ran.follows_on tells)));
+      accepts = λ tells. Accepts-from_lines (first settings) (map event_of (lines ++ line ∷ [])) (answers ++ a ∷ []) (accepted tells);
+      accepted = accepted;
       exact = subst (λ (x : List (Option Event)). Along IsNotBuiltExactly (first settings) x (answers ++ a ∷ [])) (sym pushed)
           (Along-push IsNotBuiltExactly (first settings) es answers e a ran.exact (step.exact m stands));
       served = All-append IsServed answers (a ∷ []) ran.served (All-cons IsServed a [] (served_of view now after' settings.servers a cause) (All-nil IsServed));

@@ -16,7 +16,7 @@ pub record Told (script : List ℕ) (left : Option (List ℕ)) (held : Held) (li
   pub going : held.ended ≡ false → (script ≡ fed lines ++ (held.bytes ++ rest)) × All HasNoFeed lines
   pub over : held.ended ≡ true → (lines_of script ≡ lines) × (held.bytes ++ rest ≡ [])
 
-some_same : (a b : List ℕ) → Some a ≡ Some b → a ≡ b
+pub some_same : (a b : List ℕ) → Some a ≡ Some b → a ≡ b
 some_same a b e = cc
 
 pub told_none : (script : List ℕ) (left : Option (List ℕ)) → left ≡ Some script → Told script left (record { bytes = []; count = 0; ended = false }) []

@@ -11,8 +11,8 @@ use Rattle.wtf_model.specs.declared.answer.Answer.{Answer}
 use Rattle.wtf_model.specs.declared.answer.Answer.TheVariants as answer
 use Rattle.wtf_model.specs.declared.event.Event.{Event}
 use Rattle.wtf_model.specs.Tree.{root_alone}
-use Rattle.wtf_model.specs.Steps.{Machine, start, is_later}
-use Rattle.wtf_model.specs.Along.{MayLine, Along}
+use Rattle.wtf_model.specs.Steps.{Machine, start, is_later, Accepts}
+use Rattle.wtf_model.specs.Along.{MayLine, Along, events_of, answers_to}
 use Rattle.wtf_cli.specs.ScriptLines.{lines_of, ended_of}
 use Rattle.wtf_cli.specs.Forms.{event_of}
 use Rattle.wtf_cli.specs.Texts.{line_text, settings_text}
@@ -79,7 +79,10 @@ RoseBy {S} view before after n =
 pub record Ran {S : Type 0} (view : S → StoreView) (follows : S → S → List Range → Type 0) (settings : Settings) (before after : List S) (lines : List (List ℕ)) (answers : List Answer) : Type 0 where
   -- Where the stores tell their content, the machine accepts the lines' events with their answers, from the tree with the
   -- root alone: committed transactions ran whole, one by one, on one tree.
+  pub accepts : TellsAll view before → Accepts (first settings) (events_of (map event_of lines)) (answers_to (map event_of lines) answers)
+  -- the same line by line, with the lines that ask nothing
   pub accepted : TellsAll view before → Along MayLine (first settings) (map event_of lines) answers
+  -- `notbuilt` comes exactly where a line asks nothing that is built
   pub exact : Along IsNotBuiltExactly (first settings) (map event_of lines) answers
   pub served : All IsServed answers
   -- each line with a fault raised a store's count
