@@ -1,0 +1,73 @@
+//! The slices of one server: bytes are created at the end of a backing file, retrieved by their pointer, and freed in
+//! place. A server knows nothing of files, of their offsets or of other servers (NSDI 2016, section 2.1). No call takes
+//! memory.
+#![tactic(auto)]
+
+ghost use Rattle.std.specs.Prelude.{◌≡◌, ◌≢◌, ◌<◌, ◌≤◌, ◌+◌, ◌^◌, ℕ, true, Some, [], ◌∷◌, length, IfOk, OnOk, OnErr};
+ghost use Rattle.wtf_dev.specs.Counts.{Rose};
+ghost use Rattle.wtf_dev.specs.Store.{Appended, Agrees, SameSizes};
+
+use wtf_base::{Pointer, ServerId};
+use wtf_dev::{Failed, SliceStore};
+
+/// Stores bytes, at least one, at the end of a backing file of server `id`, and answers the pointer to them. After
+/// `Failed` the file may be longer, and what it held it still holds.
+pub fn create<S: SliceStore>(
+    store: &mut S,
+    id: ServerId,
+    file: u8,
+    bytes: &[u8],
+) -> Result<Pointer, Failed>
+    requires file { file < 8 }
+    requires some { 0 < length bytes.now }
+    requires few { length bytes.now < 2 ^ 32 }
+    ensures pointer { IfOk result (λ p. p ≡ record { server = id; file = file; at = (S.view store.old).size file; len = length bytes.now }) }
+    ensures done { IfOk result (λ p. Appended (S.view store.old) (S.view store.new) file bytes.now p.at) }
+    ensures fits { IfOk result (λ p. p.at + p.len < 2 ^ 61) }
+    ensures others { (f : ℕ) → f ≢ file → (S.view store.new).size f ≡ (S.view store.old).size f }
+    ensures syncs { (S.view store.new).syncs ≡ (S.view store.old).syncs }
+    ensures follows { S.follows store.old store.new [] }
+    ensures cause { OnErr result (Rose (S.view store.old).faults (S.view store.new).faults) }
+{
+    let at = match store.append(file, bytes) {
+        Ok(at) => at,
+        Err(e) => return Err(e),
+    };
+    Ok(Pointer {
+        server: id,
+        file,
+        at,
+        len: bytes.len() as u32,
+    })
+}
+
+/// Puts the bytes that a pointer names into `out`, which has its length. After `Failed` nothing is known of `out`.
+pub fn retrieve<S: SliceStore>(store: &mut S, p: Pointer, out: &mut [u8]) -> Result<(), Failed>
+    requires len { length out.old ≡ p.len }
+    requires file { p.file < 8 }
+    requires inside { p.at + p.len ≤ (S.view store.old).size p.file }
+    ensures bytes { OnOk result (Agrees (S.view store.old) p.file p.at out.new) }
+    ensures sizes { SameSizes (S.view store.old) (S.view store.new) }
+    ensures syncs { (S.view store.new).syncs ≡ (S.view store.old).syncs }
+    ensures follows { S.follows store.old store.new [] }
+    ensures cause { OnErr result (Rose (S.view store.old).faults (S.view store.new).faults) }
+{
+    store.read(p.file, p.at, out)
+}
+
+/// Frees `len` bytes of a backing file from offset `at` on, which then read as zeros. After `Failed` these bytes are not
+/// known, and all others are as they were.
+pub fn free<S: SliceStore>(store: &mut S, file: u8, at: u64, len: u64) -> Result<(), Failed>
+    requires file { file < 8 }
+    requires inside { at + len ≤ (S.view store.old).size file }
+    ensures zeros { OnOk result ((S.view store.old).tells ≡ true → (i : ℕ) → at ≤ i → i < at + len → (S.view store.new).told file i ≡ Some 0) }
+    ensures sizes { SameSizes (S.view store.old) (S.view store.new) }
+    ensures syncs { (S.view store.new).syncs ≡ (S.view store.old).syncs }
+    ensures follows { S.follows store.old store.new (record { file = file; at = at; len = len } ∷ []) }
+    ensures cause { OnErr result (Rose (S.view store.old).faults (S.view store.new).faults) }
+{
+    store.punch(file, at, len)
+}
+
+#[cfg(test)]
+mod tests;
