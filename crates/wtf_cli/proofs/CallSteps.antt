@@ -3,8 +3,10 @@ use Rattle.std.proofs.Common.{◌≡◌, ◌≢◌, ℕ, ◌≤◌, inl, inr, Bo
 use Rattle.std.specs.Option.{option_map, IsSome, is_some}
 use Rattle.std.proofs.lemmas.Bool.{true≢false, le-ltb, cases_Bool}
 use Rattle.wtf_base.specs.declared.settings.Settings.{Settings}
+use Rattle.wtf_base.specs.declared.ids.InodeId.{InodeId}
 use Rattle.wtf_dev.specs.Store.{StoreView}
 use Rattle.wtf_path.specs.Parts.{parent_of}
+use Rattle.wtf_ring.specs.Points.{PlaceView}
 use Rattle.wtf_model.specs.declared.op.Op.{Op}
 use Rattle.wtf_model.specs.declared.op.Op.TheVariants as op
 use Rattle.wtf_model.specs.declared.op.Seek.TheVariants as to
@@ -17,13 +19,15 @@ use Rattle.wtf_model.specs.Tree.{root}
 use Rattle.wtf_model.specs.Session.{Session, Handle}
 use Rattle.wtf_model.specs.Call.{call}
 use Rattle.wtf_model.specs.Steps.{Machine, cap_of, is_later_call}
+use Rattle.wtf_cli.specs.declared.cluster.Cluster.{Cluster}
 use Rattle.wtf_cli.specs.declared.file.File.{File}
 use Rattle.wtf_cli.specs.declared.tables.Opened.{Opened}
 use Rattle.wtf_cli.specs.declared.calls.Called.TheVariants.{Logged, Later}
 use Rattle.wtf_cli.specs.Tables.{file_at, opened_at, SetsFile, SetsHandle}
 use Rattle.wtf_cli.specs.StandsFor.{IsSoundFile, StandsForBytes, StandsForNode, StandsForSession, handle_of, AreSoundFiles, AreSoundHandles}
 use Rattle.wtf_cli.specs.Calls.{IsCall, IsLogged}
-use Rattle.wtf_cli.specs.Outcomes.{AddsBytes, HasCause, data_of_op}
+use Rattle.wtf_cli.specs.Clusters.{is_down_in}
+use Rattle.wtf_cli.specs.Outcomes.{AddsBytes, HasCause, data_of_op, IsNeeded, IsTarget}
 use Rattle.wtf_cli.proofs.Rows.{create_free, create_taken, open_found, open_missing, seek_closed, seek_open}
 use Rattle.wtf_cli.proofs.TableLaws.{files_after, handles_with_file, handles_after, tree_set, handles_set}
 
@@ -54,26 +58,30 @@ file_node view shelf (Some g) None file h e = absurd h
 file_node view shelf (Some g) (Some node.Dir) file h e = absurd h
 file_node view shelf (Some g) (Some (node.File bytes)) file h e = (bytes, refl, subst (λ (x : File). StandsForBytes view shelf x bytes) (let same : g ≡ file = cc in same) h)
 
-pub empty_file_sound : {S : Type 0} (view : S → StoreView) (shelf : List S) (n : ℕ) → IsSoundFile view shelf n (record { end = 0; list = [] })
-empty_file_sound view shelf n = record { past = λ x h. refl; inside = λ x i d h. absurd (omega arith); near = λ x i d h. absurd (omega arith) }
+-- a file without a byte
+abbrev pub empty_file : InodeId → File
+empty_file inode = record { inode = inode; end = 0; list = [] }
 
-pub empty_file_stands : {S : Type 0} (view : S → StoreView) (shelf : List S) → StandsForBytes view shelf (record { end = 0; list = [] }) []
-empty_file_stands view shelf = record { end = refl; told = λ _ d x h. absurd (omega arith) }
+pub empty_file_sound : {S : Type 0} (view : S → StoreView) (shelf : List S) (settings : Settings) (inode : InodeId) → IsSoundFile view shelf settings (empty_file inode)
+empty_file_sound view shelf settings inode = record { past = λ x h. refl; inside = λ x i d h. absurd (omega arith); near = λ x i d h. absurd (omega arith); copies = λ x. tt }
 
-pub created : {S : Type 0} (view : S → StoreView) (shelf : List S) (settings : Settings) (files files' : List (List ℕ × File)) (handles : List (ℕ × Opened)) (p : List ℕ)
-    → parent_of p ≡ Some root → AreSoundFiles view shelf settings files → AreSoundHandles settings.region files handles
-    → file_at files p ≡ None → SetsFile files files' p (record { end = 0; list = [] })
-    → IsCall view shelf shelf settings files files' handles handles (op.Create p) (Logged answer.Okay)
-created view shelf settings files files' handles p parent are handles_are free sets = record {
-  files_sound = files_after view shelf settings files files' p _ sets are (empty_file_sound view shelf settings.servers) (omega arith) (not_root p parent);
-  handles_sound = handles_with_file settings.region files files' p _ handles sets handles_are;
+pub empty_file_stands : {S : Type 0} (view : S → StoreView) (shelf : List S) (inode : InodeId) → StandsForBytes view shelf (empty_file inode) []
+empty_file_stands view shelf inode = record { end = refl; told = λ _ d x h. absurd (omega arith) }
+
+pub created : {S : Type 0} (view : S → StoreView) (shelf : List S) (cluster : Cluster) (files files' : List (List ℕ × File)) (handles : List (ℕ × Opened)) (inode : InodeId) (p : List ℕ)
+    → parent_of p ≡ Some root → AreSoundFiles view shelf cluster.settings files → AreSoundHandles cluster.settings.region files handles
+    → file_at files p ≡ None → SetsFile files files' p (empty_file inode)
+    → IsCall view shelf shelf cluster files files' handles handles (op.Create p) (Logged answer.Okay)
+created view shelf cluster files files' handles inode p parent are handles_are free sets = record {
+  files_sound = files_after view shelf cluster.settings files files' p _ sets are (empty_file_sound view shelf cluster.settings inode) (omega arith) (not_root p parent);
+  handles_sound = handles_with_file cluster.settings.region files files' p _ handles sets handles_are;
   stands = λ m s same stands.
       let step = create_free (cap_of m) s p parent stands.tree.top (no_node view shelf _ _ (stands.tree.files_are p (not_root p parent)) free) in (
         tt,
         record {
           built = refl;
           session = subst (λ d. StandsForSession view shelf files' handles d.session) (sym step) (record {
-            tree = tree_set view shelf files files' s.tree p _ [] sets stands.tree (empty_file_stands view shelf) (not_root p parent);
+            tree = tree_set view shelf files files' s.tree p _ [] sets stands.tree (empty_file_stands view shelf inode) (not_root p parent);
             handles_are = stands.handles_are;
           });
           due = λ _. sym (ap (λ d. d.answer) step);
@@ -91,12 +99,13 @@ pub some_handle : (o : Option Opened) (h : Option Handle) (k : Opened) → optio
 some_handle o h k same some = sym same ∙ ap (option_map handle_of) some
 
 -- a call that is refused, or changes nothing, and is logged
-pub unchanged : {S : Type 0} (view : S → StoreView) (shelf : List S) (settings : Settings) (files : List (List ℕ × File)) (handles : List (ℕ × Opened)) (o : Op (List ℕ)) (a : Answer)
-    → AreSoundFiles view shelf settings files → AreSoundHandles settings.region files handles
-    → IsLogged a → AddsBytes view shelf shelf settings.replicas (data_of_op o) a → HasCause view shelf shelf settings.servers a
-    → ((m : Machine) (s : Session) → m.settings ≡ settings → StandsForSession view shelf files handles s → (is_later_call m s o ≡ false) × (call (cap_of m) s o ≡ record { session = s; answer = a }))
-    → IsCall view shelf shelf settings files files handles handles o (Logged a)
-unchanged view shelf settings files handles o a are handles_are logged adds cause steps = record {
+pub unchanged : {S : Type 0} (view : S → StoreView) (shelf : List S) (cluster : Cluster) (files : List (List ℕ × File)) (handles : List (ℕ × Opened)) (o : Op (List ℕ)) (a : Answer)
+    → AreSoundFiles view shelf cluster.settings files → AreSoundHandles cluster.settings.region files handles
+    → IsLogged a → AddsBytes view (is_down_in cluster) shelf shelf cluster.settings (IsTarget cluster files handles o) (data_of_op o) a
+    → HasCause view (is_down_in cluster) shelf shelf cluster.settings (IsNeeded files handles o) a
+    → ((m : Machine) (s : Session) → m.settings ≡ cluster.settings → StandsForSession view shelf files handles s → (is_later_call m s o ≡ false) × (call (cap_of m) s o ≡ record { session = s; answer = a }))
+    → IsCall view shelf shelf cluster files files handles handles o (Logged a)
+unchanged view shelf cluster files handles o a are handles_are logged adds cause steps = record {
   files_sound = are;
   handles_sound = handles_are;
   stands = λ m s same stands. let step = steps m s same stands in (
@@ -111,30 +120,30 @@ unchanged view shelf settings files handles o a are handles_are logged adds caus
   cause = cause;
 }
 
-pub taken : {S : Type 0} (view : S → StoreView) (shelf : List S) (settings : Settings) (files : List (List ℕ × File)) (handles : List (ℕ × Opened)) (p : List ℕ)
-    → parent_of p ≡ Some root → AreSoundFiles view shelf settings files → AreSoundHandles settings.region files handles → IsSome (file_at files p)
-    → IsCall view shelf shelf settings files files handles handles (op.Create p) (Logged (answer.Refused word.Exists))
-taken view shelf settings files handles p parent are handles_are there =
-    unchanged view shelf settings files handles (op.Create p) (answer.Refused word.Exists) are handles_are tt (λ k d h f. refl) tt (λ m s same stands.
+pub taken : {S : Type 0} (view : S → StoreView) (shelf : List S) (cluster : Cluster) (files : List (List ℕ × File)) (handles : List (ℕ × Opened)) (p : List ℕ)
+    → parent_of p ≡ Some root → AreSoundFiles view shelf cluster.settings files → AreSoundHandles cluster.settings.region files handles → IsSome (file_at files p)
+    → IsCall view shelf shelf cluster files files handles handles (op.Create p) (Logged (answer.Refused word.Exists))
+taken view shelf cluster files handles p parent are handles_are there =
+    unchanged view shelf cluster files handles (op.Create p) (answer.Refused word.Exists) are handles_are tt (λ k d h f. refl) tt (λ m s same stands.
     let found = some_is (file_at files p) there in
     let node_there = file_node view shelf _ _ found.0 (stands.tree.files_are p (not_root p parent)) found.1 in
     (refl, create_taken (cap_of m) s p _ parent stands.tree.top node_there.1))
 
-pub taken_same : {S : Type 0} (view : S → StoreView) (shelf : List S) (settings : Settings) (files files' : List (List ℕ × File)) (handles : List (ℕ × Opened)) (p : List ℕ)
-    → files' ≡ files → parent_of p ≡ Some root → AreSoundFiles view shelf settings files → AreSoundHandles settings.region files handles → IsSome (file_at files p)
-    → IsCall view shelf shelf settings files files' handles handles (op.Create p) (Logged (answer.Refused word.Exists))
-taken_same view shelf settings files files' handles p same parent are handles_are there =
-    subst (λ (x : List (List ℕ × File)). IsCall view shelf shelf settings files x handles handles (op.Create p) (Logged (answer.Refused word.Exists))) (sym same)
-    (taken view shelf settings files handles p parent are handles_are there)
+pub taken_same : {S : Type 0} (view : S → StoreView) (shelf : List S) (cluster : Cluster) (files files' : List (List ℕ × File)) (handles : List (ℕ × Opened)) (p : List ℕ)
+    → files' ≡ files → parent_of p ≡ Some root → AreSoundFiles view shelf cluster.settings files → AreSoundHandles cluster.settings.region files handles → IsSome (file_at files p)
+    → IsCall view shelf shelf cluster files files' handles handles (op.Create p) (Logged (answer.Refused word.Exists))
+taken_same view shelf cluster files files' handles p same parent are handles_are there =
+    subst (λ (x : List (List ℕ × File)). IsCall view shelf shelf cluster files x handles handles (op.Create p) (Logged (answer.Refused word.Exists))) (sym same)
+    (taken view shelf cluster files handles p parent are handles_are there)
 
 -- a file is opened
-pub opened : {S : Type 0} (view : S → StoreView) (shelf : List S) (settings : Settings) (files : List (List ℕ × File)) (handles handles' : List (ℕ × Opened)) (f : ℕ) (p : List ℕ)
-    → parent_of p ≡ Some root → AreSoundFiles view shelf settings files → AreSoundHandles settings.region files handles
+pub opened : {S : Type 0} (view : S → StoreView) (shelf : List S) (cluster : Cluster) (files : List (List ℕ × File)) (handles handles' : List (ℕ × Opened)) (f : ℕ) (p : List ℕ)
+    → parent_of p ≡ Some root → AreSoundFiles view shelf cluster.settings files → AreSoundHandles cluster.settings.region files handles
     → opened_at handles f ≡ None → IsSome (file_at files p) → SetsHandle handles handles' f (record { path = p; off = 0 })
-    → IsCall view shelf shelf settings files files handles handles' (op.Open f p) (Logged answer.Okay)
-opened view shelf settings files handles handles' f p parent are handles_are unused there sets = record {
+    → IsCall view shelf shelf cluster files files handles handles' (op.Open f p) (Logged answer.Okay)
+opened view shelf cluster files handles handles' f p parent are handles_are unused there sets = record {
   files_sound = are;
-  handles_sound = handles_after settings.region files handles handles' f _ sets handles_are (omega arith) there;
+  handles_sound = handles_after cluster.settings.region files handles handles' f _ sets handles_are (omega arith) there;
   stands = λ m s same stands.
       let none = no_handle _ _ (stands.handles_are f) unused in
       let found = some_is (file_at files p) there in
@@ -154,43 +163,44 @@ opened view shelf settings files handles handles' f p parent are handles_are unu
   cause = tt;
 }
 
-pub missing : {S : Type 0} (view : S → StoreView) (shelf : List S) (settings : Settings) (files : List (List ℕ × File)) (handles : List (ℕ × Opened)) (f : ℕ) (p : List ℕ)
-    → parent_of p ≡ Some root → AreSoundFiles view shelf settings files → AreSoundHandles settings.region files handles
+pub missing : {S : Type 0} (view : S → StoreView) (shelf : List S) (cluster : Cluster) (files : List (List ℕ × File)) (handles : List (ℕ × Opened)) (f : ℕ) (p : List ℕ)
+    → parent_of p ≡ Some root → AreSoundFiles view shelf cluster.settings files → AreSoundHandles cluster.settings.region files handles
     → opened_at handles f ≡ None → file_at files p ≡ None
-    → IsCall view shelf shelf settings files files handles handles (op.Open f p) (Logged (answer.Refused word.NoEnt))
-missing view shelf settings files handles f p parent are handles_are unused none =
-    unchanged view shelf settings files handles (op.Open f p) (answer.Refused word.NoEnt) are handles_are tt (λ k d h g. refl) tt (λ m s same stands.
+    → IsCall view shelf shelf cluster files files handles handles (op.Open f p) (Logged (answer.Refused word.NoEnt))
+missing view shelf cluster files handles f p parent are handles_are unused none =
+    unchanged view shelf cluster files handles (op.Open f p) (answer.Refused word.NoEnt) are handles_are tt (λ k d h g. refl) tt (λ m s same stands.
     let free = no_handle _ _ (stands.handles_are f) unused in
     (ap is_some free, open_missing (cap_of m) s f p free (no_node view shelf _ _ (stands.tree.files_are p (not_root p parent)) none)))
 
 -- what is left to a later version
-pub later : {S : Type 0} (view : S → StoreView) (shelf : List S) (settings : Settings) (files : List (List ℕ × File)) (handles : List (ℕ × Opened)) (o : Op (List ℕ))
-    → AreSoundFiles view shelf settings files → AreSoundHandles settings.region files handles
-    → ((m : Machine) (s : Session) → m.settings ≡ settings → StandsForSession view shelf files handles s → is_later_call m s o ≡ true)
-    → IsCall view shelf shelf settings files files handles handles o Later
-later view shelf settings files handles o are handles_are is = record {
+pub later : {S : Type 0} (view : S → StoreView) (shelf : List S) (cluster : Cluster) (files : List (List ℕ × File)) (handles : List (ℕ × Opened)) (o : Op (List ℕ))
+    → AreSoundFiles view shelf cluster.settings files → AreSoundHandles cluster.settings.region files handles
+    → ((m : Machine) (s : Session) → m.settings ≡ cluster.settings → StandsForSession view shelf files handles s → is_later_call m s o ≡ true)
+    → IsCall view shelf shelf cluster files files handles handles o Later
+later view shelf cluster files handles o are handles_are is = record {
   files_sound = are;
   handles_sound = handles_are;
   stands = λ m s same stands. record { later = is m s same stands; session = stands };
-  adds = later_adds view shelf settings.replicas (data_of_op o);
+  adds = later_adds view (is_down_in cluster) shelf cluster.settings (IsTarget cluster files handles o) (data_of_op o);
   cause = tt;
 }
   where
-    later_adds : {S : Type 0} (view : S → StoreView) (shelf : List S) (replicas : ℕ) (bytes : List ℕ) → AddsBytes view shelf shelf replicas bytes answer.NotBuilt
-    later_adds view shelf replicas [] = λ k d h g. refl
-    later_adds view shelf replicas (b ∷ bs) = λ k d h g. refl
+    later_adds : {S : Type 0} (view : S → StoreView) (down : ℕ → Bool) (shelf : List S) (settings : Settings) (Target : PlaceView → Type 0) (bytes : List ℕ)
+        → AddsBytes view down shelf shelf settings Target bytes answer.NotBuilt
+    later_adds view down shelf settings Target [] = λ k d h g. refl
+    later_adds view down shelf settings Target (b ∷ bs) = λ k d h g. refl
 
 -- a handle is moved
-pub sought : {S : Type 0} (view : S → StoreView) (shelf : List S) (settings : Settings) (files : List (List ℕ × File)) (handles handles' : List (ℕ × Opened)) (f n : ℕ)
-    → AreSoundFiles view shelf settings files → AreSoundHandles settings.region files handles → n ≤ settings.region
+pub sought : {S : Type 0} (view : S → StoreView) (shelf : List S) (cluster : Cluster) (files : List (List ℕ × File)) (handles handles' : List (ℕ × Opened)) (f n : ℕ)
+    → AreSoundFiles view shelf cluster.settings files → AreSoundHandles cluster.settings.region files handles → n ≤ cluster.settings.region
     → ((h : Opened) × (opened_at handles f ≡ Some h) × SetsHandle handles handles' f (record h { off = n }))
-    → IsCall view shelf shelf settings files files handles handles' (op.Seek f (to.Set n)) (Logged answer.Okay)
-sought view shelf settings files handles handles' f n are handles_are within moved = record {
+    → IsCall view shelf shelf cluster files files handles handles' (op.Seek f (to.Set n)) (Logged answer.Okay)
+sought view shelf cluster files handles handles' f n are handles_are within moved = record {
   files_sound = are;
-  handles_sound = handles_after settings.region files handles handles' f _ moved.2 handles_are within (handles_are f moved.0 moved.1).1;
+  handles_sound = handles_after cluster.settings.region files handles handles' f _ moved.2 handles_are within (handles_are f moved.0 moved.1).1;
   stands = λ m s same stands.
       let some = some_handle _ _ moved.0 (stands.handles_are f) moved.1 in
-      let region : m.settings.region ≡ settings.region = ap (λ (x : Settings). x.region) same in
+      let region : m.settings.region ≡ cluster.settings.region = ap (λ (x : Settings). x.region) same in
       let step = seek_open (cap_of m) s f n (handle_of moved.0) some (omega (arith, region, within)) in (
         tt,
         record {
@@ -206,13 +216,13 @@ sought view shelf settings files handles handles' f n are handles_are within mov
   cause = tt;
 }
 
-pub seek_shut : {S : Type 0} (view : S → StoreView) (shelf : List S) (settings : Settings) (files : List (List ℕ × File)) (handles handles' : List (ℕ × Opened)) (f n : ℕ)
-    → AreSoundFiles view shelf settings files → AreSoundHandles settings.region files handles → n ≤ settings.region → opened_at handles f ≡ None → handles' ≡ handles
-    → IsCall view shelf shelf settings files files handles handles' (op.Seek f (to.Set n)) (Logged (answer.Refused word.NoHandle))
-seek_shut view shelf settings files handles handles' f n are handles_are within closed kept =
-    subst (λ (x : List (ℕ × Opened)). IsCall view shelf shelf settings files files handles x (op.Seek f (to.Set n)) (Logged (answer.Refused word.NoHandle))) (sym kept)
-    (unchanged view shelf settings files handles (op.Seek f (to.Set n)) (answer.Refused word.NoHandle) are handles_are tt (λ k d h g. refl) tt (λ m s same stands.
-    let region : m.settings.region ≡ settings.region = ap (λ (x : Settings). x.region) same in
+pub seek_shut : {S : Type 0} (view : S → StoreView) (shelf : List S) (cluster : Cluster) (files : List (List ℕ × File)) (handles handles' : List (ℕ × Opened)) (f n : ℕ)
+    → AreSoundFiles view shelf cluster.settings files → AreSoundHandles cluster.settings.region files handles → n ≤ cluster.settings.region → opened_at handles f ≡ None → handles' ≡ handles
+    → IsCall view shelf shelf cluster files files handles handles' (op.Seek f (to.Set n)) (Logged (answer.Refused word.NoHandle))
+seek_shut view shelf cluster files handles handles' f n are handles_are within closed kept =
+    subst (λ (x : List (ℕ × Opened)). IsCall view shelf shelf cluster files files handles x (op.Seek f (to.Set n)) (Logged (answer.Refused word.NoHandle))) (sym kept)
+    (unchanged view shelf cluster files handles (op.Seek f (to.Set n)) (answer.Refused word.NoHandle) are handles_are tt (λ k d h g. refl) tt (λ m s same stands.
+    let region : m.settings.region ≡ cluster.settings.region = ap (λ (x : Settings). x.region) same in
     (le-ltb _ _ (omega (arith, region, within)), seek_closed (cap_of m) s f n (no_handle _ _ (stands.handles_are f) closed))))
 
 -- a move of a label that is open

@@ -3,14 +3,17 @@ use Rattle.std.proofs.Common.{◌≡◌, ◌≢◌, ℕ, ◌+◌, ◌≤◌, ◌
 use Rattle.std.specs.Option.{is_some, option_map}
 use Rattle.std.specs.Bool.{MatchBool}
 use Rattle.std.specs.Cmp.{nat_cmp_total}
+use Rattle.std.specs.FinSet.{FinSet}
 use Rattle.std.specs.FinMap.{FinMap, get, insert, remove, len, get-insert, get-remove, get-empty, len-insert, len-remove}
-use Rattle.std.proofs.lemmas.Bool.{true≢false, cond-true, cond-false, false_from_ne_true, le-leb, lt-leb, cases_eq}
+use Rattle.std.proofs.lemmas.Bool.{true≢false, cond-true, cond-false, false_from_ne_true, le-leb, lt-leb, cases_eq, cases_lt}
 use Rattle.wtf_base.specs.declared.settings.Settings.{Settings}
+use Rattle.wtf_base.specs.declared.ids.InodeId.{InodeId}
 use Rattle.wtf_dev.specs.Store.{StoreView}
 use Rattle.wtf_dev.specs.Sums.{TellsAll}
 use Rattle.wtf_model.specs.declared.op.Op.{Op}
 use Rattle.wtf_model.specs.declared.answer.Answer.{Answer}
 use Rattle.wtf_model.specs.declared.answer.Answer.TheVariants as answer
+use Rattle.wtf_model.specs.declared.answer.Word.TheVariants as word
 use Rattle.wtf_model.specs.declared.event.Verb.{Verb}
 use Rattle.wtf_model.specs.declared.event.Verb.TheVariants as verb
 use Rattle.wtf_model.specs.declared.event.Event.{Event}
@@ -18,14 +21,18 @@ use Rattle.wtf_model.specs.declared.event.Event.TheVariants as event
 use Rattle.wtf_model.specs.Session.{fresh}
 use Rattle.wtf_model.specs.Transaction.{Transaction, session_from, answers_from, session_after, answers_of}
 use Rattle.wtf_model.specs.Laws.{session_from-push, answers_from-push}
-use Rattle.wtf_model.specs.Steps.{Machine, cap_of, session_of, is_full, is_later, is_later_call, is_later_client, MayBuilt, MayClient, after, after_client, begun, called, committed, with_transaction}
+use Rattle.wtf_model.specs.Steps.{Machine, May, cap_of, session_of, is_down, is_full, is_later, is_later_call, is_later_client, MayBuilt, MayClient, after, after_client, begun, called, committed, with_transaction, server_answer}
+use Rattle.wtf_model.specs.StepLaws.{is_down-down, is_down-down_other, is_down-up, is_down-up_other, server_answer-known, server_answer-unknown}
+use Rattle.wtf_cli.specs.declared.cluster.Cluster.{Cluster}
 use Rattle.wtf_cli.specs.declared.file.File.{File}
 use Rattle.wtf_cli.specs.declared.calls.Called.TheVariants.{Logged, Failed, Later}
 use Rattle.wtf_cli.specs.declared.state.Running.{Running}
 use Rattle.wtf_cli.specs.declared.state.State.{State}
 use Rattle.wtf_cli.specs.StandsFor.{IsSoundState, IsSoundRunning, StandsFor, StandsForRunning, StandsForTransaction, StandsForSession, StandsForTree, AreSoundFiles, AreSoundHandles, handle_of}
-use Rattle.wtf_cli.specs.Tables.{opened_at}
-use Rattle.wtf_cli.specs.Outcomes.{AddsBytes, data_of}
+use Rattle.wtf_cli.specs.Tables.{file_at, opened_at}
+use Rattle.wtf_cli.specs.Clusters.{IsSoundCluster, is_down_in}
+use Rattle.wtf_cli.specs.Inodes.{AreNumbered, HasInode, KeepInodes, next_inode}
+use Rattle.wtf_cli.specs.Outcomes.{AddsBytes, HasCause, IsNeeded, IsNeededBy, IsTarget, IsTargetOf, data_of, data_of_op, handles_of}
 use Rattle.wtf_cli.specs.Calls.{IsCall, IsLogged, IsStoreFault}
 use Rattle.wtf_cli.specs.Events.{IsStep}
 use Rattle.wtf_cli.proofs.TableLaws.{same_label, label_at_itself}
@@ -83,9 +90,35 @@ same_machine m event.Save = refl
 same_machine m (event.Dump p) = refl
 same_machine m event.Tree = refl
 
-nothing_added : {S : Type 0} (view : S → StoreView) (shelf : List S) (replicas : ℕ) (bytes : List ℕ) → AddsBytes view shelf shelf replicas bytes answer.NotBuilt
-nothing_added view shelf replicas [] = λ k d h g. refl
-nothing_added view shelf replicas (b ∷ bs) = λ k d h g. refl
+-- What a step leaves
+
+-- files that stay keep their inodes
+pub inodes_stay : (old new : List (List ℕ × File)) (made : InodeId) → new ≡ old → KeepInodes old new made
+inodes_stay old new made same p file found = subst (λ o. HasInode o made file) (sym (ap (λ fs. file_at fs p) (sym same) ∙ found)) refl
+
+pub numbers_stay : (next : ℕ) (r : Option Running) → AreNumbered next r next r
+numbers_stay next None = refl
+numbers_stay next (Some r) = (refl, refl)
+
+nothing_added : {S : Type 0} (view : S → StoreView) (shelf : List S) (old : State) (e : Event) → AddsBytes view (is_down_in old.cluster) shelf shelf old.cluster.settings (IsTargetOf old e) (data_of e) answer.NotBuilt
+nothing_added {S} view shelf old e = nothing (data_of e)
+  where
+    nothing : (bytes : List ℕ) → AddsBytes view (is_down_in old.cluster) shelf shelf old.cluster.settings (IsTargetOf old e) bytes answer.NotBuilt
+    nothing [] = λ k d h g. refl
+    nothing (b ∷ bs) = λ k d h g. refl
+
+-- a machine and a state that keeps its servers
+downs_stay : (old new : Cluster) (m : Machine) → new ≡ old → ((k : ℕ) → is_down m k ≡ is_down_in old k) → (k : ℕ) → is_down m k ≡ is_down_in new k
+downs_stay old new m same is k = is k ∙ ap (λ c. is_down_in c k) (sym same)
+
+-- a state with other files and handles, on servers of the same settings
+sound_after : {S : Type 0} (view : S → StoreView) (shelf : List S) (new : State) (old : Cluster) → IsSoundCluster old → new.cluster ≡ old → AreSoundFiles view shelf old.settings new.files.entries
+    → IsSoundRunning old.settings.region new.files.entries new.running → IsSoundState view shelf new
+sound_after view shelf new old is cluster files running = record {
+  cluster = subst IsSoundCluster (sym cluster) is;
+  files = subst (λ (c : Cluster). AreSoundFiles view shelf c.settings new.files.entries) (sym cluster) files;
+  running = subst (λ (c : Cluster). IsSoundRunning c.settings.region new.files.entries new.running) (sym cluster) running;
+}
 
 -- an event that is left to a later version changes nothing
 pub not_built : {S : Type 0} (view : S → StoreView) (shelf : List S) (state : State) (e : Event) → IsSoundState view shelf state
@@ -94,10 +127,12 @@ not_built view shelf state e sound is = record {
   sound = sound;
   settings = refl;
   number = omega arith;
+  numbered = numbers_stay state.next_tx state.running;
+  inodes = inodes_stay state.files.entries state.files.entries (next_inode state.running) refl;
   stands = λ m stands. subst (StandsFor view shelf state) (sym (same_machine m e)) stands;
   may = λ m stands _. subst (λ b. MatchBool b (answer.NotBuilt ≡ answer.NotBuilt) (MayBuilt m e answer.NotBuilt)) (sym (is m stands)) refl;
   later = λ m stands. (λ _. is m stands, λ _. refl);
-  adds = nothing_added view shelf state.settings.replicas (data_of e);
+  adds = nothing_added view shelf state e;
   cause = tt;
 }
 
@@ -117,18 +152,16 @@ begin_later view shelf state c runs m stands = later_of state.running runs stand
     later_of (Some r) h s = beside (get m.transactions c) s.3
 
 pub begun_step : {S : Type 0} (view : S → StoreView) (shelf : List S) (old new : State) (c : ℕ) (r : Running) → IsSoundState view shelf old → old.running ≡ None
-    → new.settings ≡ old.settings → new.number ≡ old.number → new.files.entries ≡ old.files.entries → new.running ≡ Some r → r.client ≡ c → r.calls ≡ 0 → r.handles.entries ≡ []
+    → new.cluster ≡ old.cluster → new.number ≡ old.number → new.next_tx ≡ old.next_tx + 1 → new.files.entries ≡ old.files.entries → new.running ≡ Some r → r.client ≡ c → r.tx.0 ≡ old.next_tx → r.calls ≡ 0 → r.handles.entries ≡ []
     → IsStep view shelf shelf old new (event.Client c verb.Begin) (answer.Begun old.number)
 unfolding session_from answers_from
-begun_step {S} view shelf old new c r sound none settings number files running client calls handles = record {
-  sound = record {
-    servers = ap (λ (s : Settings). s.servers) settings ∙ sound.servers;
-    replicas = ap (λ (s : Settings). s.replicas) settings ∙ sound.replicas;
-    files = subst (λ (s : Settings). AreSoundFiles view shelf s new.files.entries) (sym settings) (subst (AreSoundFiles view shelf old.settings) (sym files) sound.files);
-    running = subst (IsSoundRunning new.settings.region new.files.entries) (sym running) (no_handles, omega (arith, calls));
-  };
-  settings = settings;
+begun_step {S} view shelf old new c r sound none cluster number next files running client tx calls handles = record {
+  sound = sound_after view shelf new old.cluster sound.cluster cluster (subst (AreSoundFiles view shelf old.cluster.settings) (sym files) sound.files)
+      (subst (IsSoundRunning old.cluster.settings.region new.files.entries) (sym running) (no_handles, omega (arith, calls)));
+  settings = ap (λ (c : Cluster). c.settings) cluster;
   number = omega (arith, number);
+  numbered = subst (λ o. AreNumbered old.next_tx o new.next_tx new.running) (sym none) (subst (AreNumbered old.next_tx None new.next_tx) (sym running) (tx, next));
+  inodes = inodes_stay old.files.entries new.files.entries (next_inode old.running) files;
   stands = λ m stands.
       let idle = subst (λ o. StandsForRunning view shelf old.files.entries o m) none stands.running in
       subst (λ o. StandsFor view shelf new (after_client m c o verb.Begin (answer.Begun old.number))) (sym (idle.0 c)) (fresh_one m stands idle);
@@ -144,7 +177,7 @@ begun_step {S} view shelf old new c r sound none settings number files running c
   cause = tt;
 }
   where
-    no_handles : AreSoundHandles new.settings.region new.files.entries r.handles.entries
+    no_handles : AreSoundHandles old.cluster.settings.region new.files.entries r.handles.entries
     no_handles f h found = let bad : None ≡ Some h = sym (ap (λ hs. opened_at hs f) handles) ∙ found in absurd (cc)
 
     alone : (m : Machine) → ((k : ℕ) → get m.transactions k ≡ None) × (len m.transactions ≡ 0) × StandsForTree view shelf old.files.entries m.now → not (eqb (len m.transactions) 0) ≡ false
@@ -155,7 +188,8 @@ begun_step {S} view shelf old new c r sound none settings number files running c
     fresh_one m stands idle =
         let t : Transaction = record { stamp = m.next_stamp; base = m.number; tree = m.now; ops = []; shown = []; replayed = 0; touched = [] } in
         record {
-          settings = stands.settings ∙ sym settings;
+          settings = stands.settings ∙ ap (λ (c : Cluster). c.settings) (sym cluster);
+          down = downs_stay old.cluster new.cluster m cluster stands.down;
           number = stands.number ∙ sym number;
           running = subst (λ o. StandsForRunning view shelf new.files.entries o (begun m c (answer.Begun old.number))) (sym running) (
             t,
@@ -192,17 +226,15 @@ other_later view shelf state c r some ne m stands v h =
 -- Commit
 
 pub committed_step : {S : Type 0} (view : S → StoreView) (shelf : List S) (old new : State) (c : ℕ) (r : Running) → IsSoundState view shelf old → old.running ≡ Some r → r.client ≡ c
-    → new.settings ≡ old.settings → new.number ≡ old.number + 1 → new.files.entries ≡ old.files.entries → new.running ≡ None
+    → new.cluster ≡ old.cluster → new.number ≡ old.number + 1 → new.next_tx ≡ old.next_tx → new.files.entries ≡ old.files.entries → new.running ≡ None
     → IsStep view shelf shelf old new (event.Client c verb.Try) (answer.Committed new.number)
-committed_step view shelf old new c r sound some client settings number files none = record {
-  sound = record {
-    servers = ap (λ (s : Settings). s.servers) settings ∙ sound.servers;
-    replicas = ap (λ (s : Settings). s.replicas) settings ∙ sound.replicas;
-    files = subst (λ (s : Settings). AreSoundFiles view shelf s new.files.entries) (sym settings) (subst (AreSoundFiles view shelf old.settings) (sym files) sound.files);
-    running = subst (IsSoundRunning new.settings.region new.files.entries) (sym none) tt;
-  };
-  settings = settings;
+committed_step view shelf old new c r sound some client cluster number next files none = record {
+  sound = sound_after view shelf new old.cluster sound.cluster cluster (subst (AreSoundFiles view shelf old.cluster.settings) (sym files) sound.files)
+      (subst (IsSoundRunning old.cluster.settings.region new.files.entries) (sym none) tt);
+  settings = ap (λ (c : Cluster). c.settings) cluster;
   number = omega (arith, number);
+  numbered = subst (λ o. AreNumbered old.next_tx o new.next_tx new.running) (sym some) (subst (AreNumbered old.next_tx (Some r) new.next_tx) (sym none) next);
+  inodes = inodes_stay old.files.entries new.files.entries (next_inode old.running) files;
   stands = λ m stands.
       let runs = subst (λ o. StandsForRunning view shelf old.files.entries o m) some stands.running in
       let mine : get m.transactions c ≡ Some runs.0 = subst (λ k. get m.transactions k ≡ Some runs.0) client runs.1 in
@@ -224,7 +256,8 @@ committed_step view shelf old new c r sound some client settings number files no
     ended : (m : Machine) → StandsFor view shelf old m → (t : Transaction) → get m.transactions c ≡ Some t → ((k : ℕ) → k ≢ c → get m.transactions k ≡ None) → len m.transactions ≡ 1
         → StandsForTransaction view shelf old.files.entries r m t → StandsFor view shelf new (committed m c t (answer.Committed new.number))
     ended m stands t mine others one is = record {
-      settings = stands.settings ∙ sym settings;
+      settings = stands.settings ∙ ap (λ (c : Cluster). c.settings) (sym cluster);
+      down = downs_stay old.cluster new.cluster m cluster stands.down;
       number = refl;
       running = subst (λ o. StandsForRunning view shelf new.files.entries o (committed m c t (answer.Committed new.number))) (sym none) (
         (λ k. elim (cases_eq k c) [ inl e ↦ subst (λ j. get (remove m.transactions c) j ≡ None) (sym e) (gone_at m.transactions c) | inr ne ↦ gone_off m.transactions c k ne ∙ others k ne ]),
@@ -233,6 +266,91 @@ committed_step view shelf old new c r sound some client settings number files no
             (subst (λ tree. StandsForTree view shelf old.files.entries (session_after (cap_of m) tree t.ops).tree) is.tree is.session.tree),
       );
     }
+
+-- Servers that go down and come up
+
+-- the state with these servers in place of its own
+abbrev with_cluster : State → Cluster → State
+with_cluster state cluster = record state { cluster = cluster }
+
+-- the files and the transaction that runs are the same, whichever servers are down
+running_stays : {S : Type 0} (view : S → StoreView) (shelf : List S) (files : List (List ℕ × File)) (r : Option Running) (m : Machine) (down : FinSet nat_cmp)
+    → StandsForRunning view shelf files r m → StandsForRunning view shelf files r (record m { down = down })
+running_stays view shelf files None m down h = h
+running_stays view shelf files (Some r) m down h = (h.0, h.1, h.2, h.3, record { tree = h.4.tree; calls = h.4.calls; session = h.4.session; shown = h.4.shown })
+
+servers_stand : {S : Type 0} (view : S → StoreView) (shelf : List S) (state : State) (cluster : Cluster) (m : Machine) (down : FinSet nat_cmp) → StandsFor view shelf state m
+    → cluster.settings ≡ state.cluster.settings → ((j : ℕ) → is_down (record m { down = down }) j ≡ is_down_in cluster j) → StandsFor view shelf (with_cluster state cluster) (record m { down = down })
+servers_stand view shelf state cluster m down stands settings downs = record {
+  settings = stands.settings ∙ sym settings;
+  down = downs;
+  number = stands.number;
+  running = running_stays view shelf state.files.entries state.running m down stands.running;
+}
+
+-- a line that names a server: `ok` where there is one, and else a refusal that leaves the state
+server_step : {S : Type 0} (view : S → StoreView) (shelf : List S) (state : State) (cluster : Cluster) (e : Event) (k : ℕ) (a : Answer) → IsSoundState view shelf state
+    → IsSoundCluster cluster → cluster.settings ≡ state.cluster.settings → data_of e ≡ [] → ((m : Machine) → is_later m e ≡ false) → ((m : Machine) → a ≡ server_answer m k → May m e a)
+    → (k < state.cluster.settings.servers → a ≡ answer.Okay) → (state.cluster.settings.servers ≤ k → a ≡ answer.Refused word.NoServer)
+    → ((m : Machine) → StandsFor view shelf state m → StandsFor view shelf (with_cluster state cluster) (after m e a))
+    → IsStep view shelf shelf state (with_cluster state cluster) e a
+server_step {S} view shelf state cluster e k a sound is settings empty built due known unknown stand = record {
+  sound = record {
+    cluster = is;
+    files = subst (λ (s : Settings). AreSoundFiles view shelf s state.files.entries) (sym settings) sound.files;
+    running = subst (λ (s : Settings). IsSoundRunning s.region state.files.entries state.running) (sym settings) sound.running;
+  };
+  settings = settings;
+  number = omega arith;
+  numbered = numbers_stay state.next_tx state.running;
+  inodes = inodes_stay state.files.entries state.files.entries (next_inode state.running) refl;
+  stands = stand;
+  may = λ m stands _. due m (elim (cases_lt k state.cluster.settings.servers) [
+    | inl below ↦ known below ∙ sym (server_answer-known m k (subst (λ (s : Settings). k < s.servers) (sym stands.settings) below))
+    | inr past ↦ unknown past ∙ sym (server_answer-unknown m k (subst (λ (s : Settings). s.servers ≤ k) (sym stands.settings) past))
+  ]);
+  later = λ m stands. (λ bad. absurd (plainly (λ x. x ≡ answer.NotBuilt → ⊥) (λ no. absurd (cc)) (λ no. absurd (cc)) bad), λ bad. absurd (true≢false (sym bad ∙ built m)));
+  adds = subst (λ bytes. AddsBytes view (is_down_in state.cluster) shelf shelf state.cluster.settings (IsTargetOf state e) bytes a) (sym empty)
+      (plainly (AddsBytes view (is_down_in state.cluster) shelf shelf state.cluster.settings (IsTargetOf state e) []) (λ k d h g. refl) (λ k d h g. refl));
+  cause = plainly (HasCause view (is_down_in state.cluster) shelf shelf state.cluster.settings (IsNeededBy state e)) tt tt;
+}
+  where
+    plainly : (P : Answer → Type 0) → P answer.Okay → P (answer.Refused word.NoServer) → P a
+    plainly P okay refused = elim (cases_lt k state.cluster.settings.servers) [ inl below ↦ subst P (sym (known below)) okay | inr past ↦ subst P (sym (unknown past)) refused ]
+
+pub down_step : {S : Type 0} (view : S → StoreView) (shelf : List S) (state : State) (cluster : Cluster) (k : ℕ) (a : Answer) → IsSoundState view shelf state
+    → IsSoundCluster cluster → cluster.settings ≡ state.cluster.settings
+    → (k < state.cluster.settings.servers → a ≡ answer.Okay) → (k < state.cluster.settings.servers → is_down_in cluster k ≡ true)
+    → ((j : ℕ) → j ≢ k → is_down_in cluster j ≡ is_down_in state.cluster j)
+    → (state.cluster.settings.servers ≤ k → a ≡ answer.Refused word.NoServer) → (state.cluster.settings.servers ≤ k → cluster ≡ state.cluster)
+    → IsStep view shelf shelf state (with_cluster state cluster) (event.Down k) a
+down_step view shelf state cluster k a sound is settings known down others unknown same =
+    server_step view shelf state cluster (event.Down k) k a sound is settings refl (λ m. refl) (λ m h. h) known unknown (λ m stands. elim (cases_lt k state.cluster.settings.servers) [
+      | inl below ↦ subst (λ x. StandsFor view shelf (with_cluster state cluster) (after m (event.Down k) x)) (sym (known below))
+          (servers_stand view shelf state cluster m _ stands settings (λ j. elim (cases_eq j k) [
+            | inl at ↦ subst (λ i. is_down (after m (event.Down k) answer.Okay) i ≡ is_down_in cluster i) (sym at) (is_down-down m k ∙ sym (down below))
+            | inr ne ↦ is_down-down_other m j k ne ∙ stands.down j ∙ sym (others j ne)
+          ]))
+      | inr past ↦ subst (λ x. StandsFor view shelf (with_cluster state cluster) (after m (event.Down k) x)) (sym (unknown past))
+          (subst (λ x. StandsFor view shelf (with_cluster state x) m) (sym (same past)) stands)
+    ])
+
+pub up_step : {S : Type 0} (view : S → StoreView) (shelf : List S) (state : State) (cluster : Cluster) (k : ℕ) (a : Answer) → IsSoundState view shelf state
+    → IsSoundCluster cluster → cluster.settings ≡ state.cluster.settings
+    → (k < state.cluster.settings.servers → a ≡ answer.Okay) → (k < state.cluster.settings.servers → is_down_in cluster k ≡ false)
+    → ((j : ℕ) → j ≢ k → is_down_in cluster j ≡ is_down_in state.cluster j)
+    → (state.cluster.settings.servers ≤ k → a ≡ answer.Refused word.NoServer) → (state.cluster.settings.servers ≤ k → cluster ≡ state.cluster)
+    → IsStep view shelf shelf state (with_cluster state cluster) (event.Up k) a
+up_step view shelf state cluster k a sound is settings known up others unknown same =
+    server_step view shelf state cluster (event.Up k) k a sound is settings refl (λ m. refl) (λ m h. h) known unknown (λ m stands. elim (cases_lt k state.cluster.settings.servers) [
+      | inl below ↦ subst (λ x. StandsFor view shelf (with_cluster state cluster) (after m (event.Up k) x)) (sym (known below))
+          (servers_stand view shelf state cluster m _ stands settings (λ j. elim (cases_eq j k) [
+            | inl at ↦ subst (λ i. is_down (after m (event.Up k) answer.Okay) i ≡ is_down_in cluster i) (sym at) (is_down-up m k ∙ sym (up below))
+            | inr ne ↦ is_down-up_other m j k ne ∙ stands.down j ∙ sym (others j ne)
+          ]))
+      | inr past ↦ subst (λ x. StandsFor view shelf (with_cluster state cluster) (after m (event.Up k) x)) (sym (unknown past))
+          (subst (λ x. StandsFor view shelf (with_cluster state x) m) (sym (same past)) stands)
+    ])
 
 -- Calls
 
@@ -275,29 +393,46 @@ mine view shelf state c r some client m stands =
 room : {S : Type 0} (view : S → StoreView) (shelf : List S) (files : List (List ℕ × File)) (r : Running) (m : Machine) (t : Transaction) → StandsForTransaction view shelf files r m t → r.calls < 4096 → is_full t ≡ false
 room view shelf files r m t is few = lt-leb 4096 _ (omega (arith, few, is.calls))
 
+-- what a call adds, and why it fails, as of its event
+call_adds : {S : Type 0} (view : S → StoreView) (before after' : List S) (old : State) (c : ℕ) (r : Running) (o : Op (List ℕ)) (a : Answer) → old.running ≡ Some r
+    → AddsBytes view (is_down_in old.cluster) before after' old.cluster.settings (IsTarget old.cluster old.files.entries r.handles.entries o) (data_of_op o) a
+    → AddsBytes view (is_down_in old.cluster) before after' old.cluster.settings (IsTargetOf old (event.Client c (verb.Call o))) (data_of (event.Client c (verb.Call o))) a
+call_adds view before after' old c r o a some =
+    subst (λ hs. AddsBytes view (is_down_in old.cluster) before after' old.cluster.settings (IsTarget old.cluster old.files.entries hs o) (data_of_op o) a) (ap handles_of (sym some))
+
+call_cause : {S : Type 0} (view : S → StoreView) (before after' : List S) (old : State) (c : ℕ) (r : Running) (o : Op (List ℕ)) (a : Answer) → old.running ≡ Some r
+    → HasCause view (is_down_in old.cluster) before after' old.cluster.settings (IsNeeded old.files.entries r.handles.entries o) a
+    → HasCause view (is_down_in old.cluster) before after' old.cluster.settings (IsNeededBy old (event.Client c (verb.Call o))) a
+call_cause view before after' old c r o a some =
+    subst (λ hs. HasCause view (is_down_in old.cluster) before after' old.cluster.settings (IsNeeded old.files.entries hs o) a) (ap handles_of (sym some))
+
+-- the transaction goes on under its number
+goes_on : (old new : State) (r q : Running) → old.running ≡ Some r → new.running ≡ Some q → q.tx ≡ r.tx → new.next_tx ≡ old.next_tx → AreNumbered old.next_tx old.running new.next_tx new.running
+goes_on old new r q some running tx next =
+    subst (λ o. AreNumbered old.next_tx o new.next_tx new.running) (sym some) (subst (AreNumbered old.next_tx (Some r) new.next_tx) (sym running) (tx, next))
+
 -- a call that is logged
 pub logged_step : {S : Type 0} (view : S → StoreView) (before after' : List S) (old new : State) (c : ℕ) (r : Running) (o : Op (List ℕ)) (q : Running) (a : Answer)
     → IsSoundState view before old → old.running ≡ Some r → r.client ≡ c → r.calls < 4096
-    → IsCall view before after' old.settings old.files.entries new.files.entries r.handles.entries q.handles.entries o (Logged a)
-    → new.settings ≡ old.settings → new.number ≡ old.number → new.running ≡ Some q → q.client ≡ c → q.calls ≡ r.calls + 1
+    → IsCall view before after' old.cluster old.files.entries new.files.entries r.handles.entries q.handles.entries o (Logged a)
+    → KeepInodes old.files.entries new.files.entries (next_inode (Some r))
+    → new.cluster ≡ old.cluster → new.number ≡ old.number → new.next_tx ≡ old.next_tx → new.running ≡ Some q → q.client ≡ c → q.tx ≡ r.tx → q.calls ≡ r.calls + 1
     → (TellsAll view after' → TellsAll view before)
     → IsStep view before after' old new (event.Client c (verb.Call o)) a
-logged_step view before after' old new c r o q a sound some client few is settings number running q_client q_calls back = record {
-  sound = record {
-    servers = ap (λ (s : Settings). s.servers) settings ∙ sound.servers;
-    replicas = ap (λ (s : Settings). s.replicas) settings ∙ sound.replicas;
-    files = subst (λ (s : Settings). AreSoundFiles view after' s new.files.entries) (sym settings) is.files_sound;
-    running = subst (IsSoundRunning new.settings.region new.files.entries) (sym running)
-        (subst (λ (s : Settings). AreSoundHandles s.region new.files.entries q.handles.entries) (sym settings) is.handles_sound, omega (arith, q_calls, few));
-  };
-  settings = settings;
+logged_step view before after' old new c r o q a sound some client few is inodes cluster number next running q_client q_tx q_calls back = record {
+  sound = sound_after view after' new old.cluster sound.cluster cluster is.files_sound
+      (subst (IsSoundRunning old.cluster.settings.region new.files.entries) (sym running) (is.handles_sound, omega (arith, q_calls, few)));
+  settings = ap (λ (c : Cluster). c.settings) cluster;
   number = omega (arith, number);
+  numbered = goes_on old new r q some running q_tx next;
+  inodes = subst (λ o. KeepInodes old.files.entries new.files.entries (next_inode o)) (sym some) inodes;
   stands = λ m stands.
       let t = mine view before old c r some client m stands in
       let call_is = is.stands m (session_of m t.0) stands.settings t.4.session in
       subst (λ p. StandsFor view after' new (after_client m c p (verb.Call o) a)) (sym t.1)
       (subst (StandsFor view after' new) (sym (called_logged m c t.0 o a call_is.0)) (record {
-        settings = stands.settings ∙ sym settings;
+        settings = stands.settings ∙ ap (λ (c : Cluster). c.settings) (sym cluster);
+        down = downs_stay old.cluster new.cluster m cluster stands.down;
         number = stands.number ∙ sym number;
         running = subst (λ p. StandsForRunning view after' new.files.entries p (with_transaction m c (longer t.0))) (sym running) (
           longer t.0,
@@ -323,8 +458,8 @@ logged_step view before after' old new c r o q a sound some client few is settin
       let t = mine view before old c r some client m stands in
       let call_is = is.stands m (session_of m t.0) stands.settings t.4.session in
       (λ bad. absurd (logged_is_built a call_is.0 bad), λ bad. absurd (true≢false (sym bad ∙ built m stands)));
-  adds = is.adds;
-  cause = is.cause;
+  adds = call_adds view before after' old c r o a some is.adds;
+  cause = call_cause view before after' old c r o a some is.cause;
 }
   where
     longer : Transaction → Transaction
@@ -339,20 +474,18 @@ logged_step view before after' old new c r o q a sound some client few is settin
 -- a call in which a store failed
 pub failed_step : {S : Type 0} (view : S → StoreView) (before after' : List S) (old new : State) (c : ℕ) (r : Running) (o : Op (List ℕ)) (q : Running) (a : Answer)
     → IsSoundState view before old → old.running ≡ Some r → r.client ≡ c → r.calls < 4096
-    → IsCall view before after' old.settings old.files.entries new.files.entries r.handles.entries q.handles.entries o (Failed a)
-    → new.settings ≡ old.settings → new.number ≡ old.number → new.running ≡ Some q → q.client ≡ c → q.calls ≡ r.calls
+    → IsCall view before after' old.cluster old.files.entries new.files.entries r.handles.entries q.handles.entries o (Failed a)
+    → KeepInodes old.files.entries new.files.entries (next_inode (Some r))
+    → new.cluster ≡ old.cluster → new.number ≡ old.number → new.next_tx ≡ old.next_tx → new.running ≡ Some q → q.client ≡ c → q.tx ≡ r.tx → q.calls ≡ r.calls
     → (TellsAll view after' → TellsAll view before)
     → IsStep view before after' old new (event.Client c (verb.Call o)) a
-failed_step view before after' old new c r o q a sound some client few is settings number running q_client q_calls back = record {
-  sound = record {
-    servers = ap (λ (s : Settings). s.servers) settings ∙ sound.servers;
-    replicas = ap (λ (s : Settings). s.replicas) settings ∙ sound.replicas;
-    files = subst (λ (s : Settings). AreSoundFiles view after' s new.files.entries) (sym settings) is.files_sound;
-    running = subst (IsSoundRunning new.settings.region new.files.entries) (sym running)
-        (subst (λ (s : Settings). AreSoundHandles s.region new.files.entries q.handles.entries) (sym settings) is.handles_sound, omega (arith, q_calls, few));
-  };
-  settings = settings;
+failed_step view before after' old new c r o q a sound some client few is inodes cluster number next running q_client q_tx q_calls back = record {
+  sound = sound_after view after' new old.cluster sound.cluster cluster is.files_sound
+      (subst (IsSoundRunning old.cluster.settings.region new.files.entries) (sym running) (is.handles_sound, omega (arith, q_calls, few)));
+  settings = ap (λ (c : Cluster). c.settings) cluster;
   number = omega (arith, number);
+  numbered = goes_on old new r q some running q_tx next;
+  inodes = subst (λ o. KeepInodes old.files.entries new.files.entries (next_inode o)) (sym some) inodes;
   stands = λ m stands.
       let t = mine view before old c r some client m stands in
       let call_is = is.stands m (session_of m t.0) stands.settings t.4.session in
@@ -367,8 +500,8 @@ failed_step view before after' old new c r o q a sound some client few is settin
       let t = mine view before old c r some client m stands in
       let call_is = is.stands m (session_of m t.0) stands.settings t.4.session in
       (λ bad. absurd (fault_is_built a call_is.0 bad), λ bad. absurd (true≢false (sym bad ∙ built m stands)));
-  adds = is.adds;
-  cause = is.cause;
+  adds = call_adds view before after' old c r o a some is.adds;
+  cause = call_cause view before after' old c r o a some is.cause;
 }
   where
     built : (m : Machine) → StandsFor view before old m → is_later m (event.Client c (verb.Call o)) ≡ false
@@ -380,7 +513,8 @@ failed_step view before after' old new c r o q a sound some client few is settin
     same : (m : Machine) → StandsFor view before old m → (t : Transaction) → get m.transactions c ≡ Some t → ((k : ℕ) → k ≢ c → get m.transactions k ≡ None) → len m.transactions ≡ 1
         → StandsForTransaction view before old.files.entries r m t → StandsForSession view after' new.files.entries q.handles.entries (session_of m t) → StandsFor view after' new m
     same m stands t at others one tx session = record {
-      settings = stands.settings ∙ sym settings;
+      settings = stands.settings ∙ ap (λ (c : Cluster). c.settings) (sym cluster);
+      down = downs_stay old.cluster new.cluster m cluster stands.down;
       number = stands.number ∙ sym number;
       running = subst (λ p. StandsForRunning view after' new.files.entries p m) (sym running) (
         t,
@@ -394,28 +528,26 @@ failed_step view before after' old new c r o q a sound some client few is settin
 -- a call that is left to a later version
 pub later_step : {S : Type 0} (view : S → StoreView) (before after' : List S) (old new : State) (c : ℕ) (r : Running) (o : Op (List ℕ)) (q : Running)
     → IsSoundState view before old → old.running ≡ Some r → r.client ≡ c → r.calls < 4096
-    → IsCall view before after' old.settings old.files.entries new.files.entries r.handles.entries q.handles.entries o Later
-    → new.settings ≡ old.settings → new.number ≡ old.number → new.running ≡ Some q → q.client ≡ c → q.calls ≡ r.calls
+    → IsCall view before after' old.cluster old.files.entries new.files.entries r.handles.entries q.handles.entries o Later
+    → KeepInodes old.files.entries new.files.entries (next_inode (Some r))
+    → new.cluster ≡ old.cluster → new.number ≡ old.number → new.next_tx ≡ old.next_tx → new.running ≡ Some q → q.client ≡ c → q.tx ≡ r.tx → q.calls ≡ r.calls
     → (TellsAll view after' → TellsAll view before)
     → IsStep view before after' old new (event.Client c (verb.Call o)) answer.NotBuilt
-later_step view before after' old new c r o q sound some client few is settings number running q_client q_calls back = record {
-  sound = record {
-    servers = ap (λ (s : Settings). s.servers) settings ∙ sound.servers;
-    replicas = ap (λ (s : Settings). s.replicas) settings ∙ sound.replicas;
-    files = subst (λ (s : Settings). AreSoundFiles view after' s new.files.entries) (sym settings) is.files_sound;
-    running = subst (IsSoundRunning new.settings.region new.files.entries) (sym running)
-        (subst (λ (s : Settings). AreSoundHandles s.region new.files.entries q.handles.entries) (sym settings) is.handles_sound, omega (arith, q_calls, few));
-  };
-  settings = settings;
+later_step view before after' old new c r o q sound some client few is inodes cluster number next running q_client q_tx q_calls back = record {
+  sound = sound_after view after' new old.cluster sound.cluster cluster is.files_sound
+      (subst (IsSoundRunning old.cluster.settings.region new.files.entries) (sym running) (is.handles_sound, omega (arith, q_calls, few)));
+  settings = ap (λ (c : Cluster). c.settings) cluster;
   number = omega (arith, number);
+  numbered = goes_on old new r q some running q_tx next;
+  inodes = subst (λ o. KeepInodes old.files.entries new.files.entries (next_inode o)) (sym some) inodes;
   stands = λ m stands.
       let t = mine view before old c r some client m stands in
       let call_is = is.stands m (session_of m t.0) stands.settings t.4.session in
       subst (StandsFor view after' new) (sym (same_machine m (event.Client c (verb.Call o)))) (same m stands t.0 t.1 t.2 t.3 t.4 call_is.session);
   may = λ m stands _. subst (λ b. MatchBool b (answer.NotBuilt ≡ answer.NotBuilt) (MayBuilt m (event.Client c (verb.Call o)) answer.NotBuilt)) (sym (left m stands)) refl;
   later = λ m stands. (λ _. left m stands, λ _. refl);
-  adds = is.adds;
-  cause = is.cause;
+  adds = call_adds view before after' old c r o answer.NotBuilt some is.adds;
+  cause = call_cause view before after' old c r o answer.NotBuilt some is.cause;
 }
   where
     left : (m : Machine) → StandsFor view before old m → is_later m (event.Client c (verb.Call o)) ≡ true
@@ -427,7 +559,8 @@ later_step view before after' old new c r o q sound some client few is settings 
     same : (m : Machine) → StandsFor view before old m → (t : Transaction) → get m.transactions c ≡ Some t → ((k : ℕ) → k ≢ c → get m.transactions k ≡ None) → len m.transactions ≡ 1
         → StandsForTransaction view before old.files.entries r m t → StandsForSession view after' new.files.entries q.handles.entries (session_of m t) → StandsFor view after' new m
     same m stands t at others one tx session = record {
-      settings = stands.settings ∙ sym settings;
+      settings = stands.settings ∙ ap (λ (c : Cluster). c.settings) (sym cluster);
+      down = downs_stay old.cluster new.cluster m cluster stands.down;
       number = stands.number ∙ sym number;
       running = subst (λ p. StandsForRunning view after' new.files.entries p m) (sym running) (
         t,

@@ -17,39 +17,40 @@ use Rattle.wtf_cli.proofs.FileBytes.{tells_back}
 
 module _ {S : Type 0} (view : S → StoreView) (follows : S → S → List Range → Type 0) (keeps : (a b : S) (xs : List Range) → follows a b xs → Kept (view a) (view b) xs)
     (before after : List S) (f : EachFollows follows before after []) where
-  pub file_follows : (n : ℕ) (file : File) → IsSoundFile view before n file → IsSoundFile view after n file
-  file_follows n file sound = record {
+  pub file_follows : (settings : Settings) (file : File) → IsSoundFile view before settings file → IsSoundFile view after settings file
+  file_follows settings file sound = record {
     past = sound.past;
     inside = λ x. places_inside_stay view follows keeps before after f (origin file.list x) (sound.inside x);
     near = sound.near;
+    copies = sound.copies;
   }
 
   pub files_follow : (settings : Settings) (files : List (List ℕ × File)) → AreSoundFiles view before settings files → AreSoundFiles view after settings files
   files_follow settings files are = record {
     servers = omega (arith, are.servers, f.same_length);
     top = are.top;
-    sound = λ p file found. file_follows settings.servers file (are.sound p file found);
+    sound = λ p file found. file_follows settings file (are.sound p file found);
     short = are.short;
   }
 
-  pub bytes_follow : (n : ℕ) (file : File) (all : List ℕ) → IsSoundFile view before n file → StandsForBytes view before file all → StandsForBytes view after file all
-  bytes_follow n file all sound stands = record {
+  pub bytes_follow : (settings : Settings) (file : File) (all : List ℕ) → IsSoundFile view before settings file → StandsForBytes view before file all → StandsForBytes view after file all
+  bytes_follow settings file all sound stands = record {
     end = stands.end;
     told = λ tells d x h. told_stays view follows keeps before after f d (origin file.list x) _ (sound.inside x) (stands.told (tells_back view follows keeps before after f tells) d x h);
   }
 
-  pub node_follows : (n : ℕ) (o : Option File) (node : Option Node) → ((file : File) → o ≡ Some file → IsSoundFile view before n file) → StandsForNode view before o node → StandsForNode view after o node
-  node_follows n None None sound h = tt
-  node_follows n None (Some node.Dir) sound h = h
-  node_follows n None (Some (node.File all)) sound h = h
-  node_follows n (Some file) None sound h = h
-  node_follows n (Some file) (Some node.Dir) sound h = h
-  node_follows n (Some file) (Some (node.File all)) sound h = bytes_follow n file all (sound file refl) h
+  pub node_follows : (settings : Settings) (o : Option File) (node : Option Node) → ((file : File) → o ≡ Some file → IsSoundFile view before settings file) → StandsForNode view before o node → StandsForNode view after o node
+  node_follows settings None None sound h = tt
+  node_follows settings None (Some node.Dir) sound h = h
+  node_follows settings None (Some (node.File all)) sound h = h
+  node_follows settings (Some file) None sound h = h
+  node_follows settings (Some file) (Some node.Dir) sound h = h
+  node_follows settings (Some file) (Some (node.File all)) sound h = bytes_follow settings file all (sound file refl) h
 
   pub tree_follows : (settings : Settings) (files : List (List ℕ × File)) (tree : Tree) → AreSoundFiles view before settings files → StandsForTree view before files tree → StandsForTree view after files tree
   tree_follows settings files tree are stands = record {
     top = stands.top;
-    files_are = λ p ne. node_follows settings.servers (file_at files p) _ (λ file found. are.sound p file found) (stands.files_are p ne);
+    files_are = λ p ne. node_follows settings (file_at files p) _ (λ file found. are.sound p file found) (stands.files_are p ne);
   }
 
   pub session_follows : (settings : Settings) (files : List (List ℕ × File)) (handles : List (ℕ × Opened)) (s : Session) → AreSoundFiles view before settings files

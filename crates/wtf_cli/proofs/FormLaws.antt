@@ -9,7 +9,7 @@ use Rattle.wtf_model.specs.declared.event.Verb.{Verb}
 use Rattle.wtf_model.specs.declared.event.Verb.TheVariants as verb
 use Rattle.wtf_model.specs.declared.event.Event.{Event}
 use Rattle.wtf_model.specs.Tree.{root}
-use Rattle.wtf_cli.specs.Forms.{is_printable, words_of, number_within, client_in, handle_in, is_no_refusal, is_root, path_in, data_in, ◌>>=◌, create_in, open_in, write_in, seek_in, read_in, alone, verb_in, event_in, is_line, event_of}
+use Rattle.wtf_cli.specs.Forms.{is_printable, words_of, number_within, client_in, handle_in, is_no_refusal, is_root, path_in, data_in, ◌>>=◌, create_in, open_in, write_in, seek_in, read_in, alone, verb_in, asked_in, server_in, down_in, up_in, system_in, event_in, is_line, event_of}
 use Rattle.wtf_cli.specs.Events.{IsFormVerb, IsFormEvent}
 use Rattle.wtf_cli.specs.LineSteps.{IsFormLine}
 
@@ -108,12 +108,31 @@ verb_form word args =
     (one_of IsFormVerb (bytes_eq word (codes "seek")) (seek_in args) _ (seek_form args)
     (one_of IsFormVerb (bytes_eq word (codes "read")) (read_in args) None (read_form args) tt))))))
 
+asked_form : (actor word : List ℕ) (args : List (List ℕ)) → IfSome (asked_in actor word args) IsFormEvent
+unfolding asked_in
+asked_form actor word args = made_of_any IsFormEvent (client_in actor) _ (λ client.
+    made IsFormVerb IsFormEvent (verb_in word args) _ (verb_form word args) (λ asked holds. holds))
+
+down_form : (args : List (List ℕ)) → IfSome (down_in args) IsFormEvent
+unfolding down_in
+down_form args = made_of_any IsFormEvent (server_in args) _ (λ server. tt)
+
+up_form : (args : List (List ℕ)) → IfSome (up_in args) IsFormEvent
+unfolding up_in
+up_form args = made_of_any IsFormEvent (server_in args) _ (λ server. tt)
+
+system_form : (word : List ℕ) (args : List (List ℕ)) → IfSome (system_in word args) IsFormEvent
+unfolding system_in
+system_form word args =
+    one_of IsFormEvent (bytes_eq word (codes "down")) (down_in args) _ (down_form args)
+    (one_of IsFormEvent (bytes_eq word (codes "up")) (up_in args) None (up_form args) tt)
+
 words_form : (words : List (List ℕ)) → IfSome (event_in words) IsFormEvent
 unfolding event_in
 words_form [] = tt
 words_form (actor ∷ []) = tt
-words_form (actor ∷ word ∷ args) = made_of_any IsFormEvent (client_in actor) _ (λ client.
-    made IsFormVerb IsFormEvent (verb_in word args) _ (verb_form word args) (λ asked holds. holds))
+words_form (actor ∷ word ∷ args) =
+    one_of IsFormEvent (bytes_eq actor (codes "sys")) (system_in word args) (asked_in actor word args) (system_form word args) (asked_form actor word args)
 
 some_form : (line : List ℕ) → IfSome (event_of line) IsFormEvent
 unfolding event_of

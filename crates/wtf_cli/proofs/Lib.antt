@@ -15,6 +15,7 @@ pub mod EventSteps
 pub mod LineLaws
 pub mod FormLaws
 pub mod Passing
+pub mod Rising
 pub mod RanLaws
 pub mod Telling
 pub mod Going

@@ -1,10 +1,8 @@
 -- One turn of the loops that read the copies of a slice and that show pieces.
-use Rattle.std.proofs.Common.{◌≡◌, ℕ, zero, suc, ◌+◌, ◌-◌, ◌<◌, ◌≤◌, List, [], ◌∷◌, ◌++◌, length, get_or, take, Some, refl, sym, ◌∙◌, ap, subst, arith, inl, inr, length-append}
-use Rattle.std.specs.Prelude.{slice_get}
+use Rattle.std.proofs.Common.{◌≡◌, ℕ, zero, suc, ◌+◌, ◌-◌, ◌<◌, ◌≤◌, Bool, List, [], ◌∷◌, ◌++◌, length, get_or, take, Some, refl, sym, ◌∙◌, ap, subst, arith, inl, inr, length-append}
 use Rattle.std.specs.List.{All, Contains}
 use Rattle.std.proofs.lemmas.Bool.{cond-true, cond-false, lt-ltb, le-ltb, cases_lt}
 use Rattle.std.proofs.lemmas.List.{take_more, take_all, take_at, append_assoc, get_or_append_left, get_or-append_right}
-use Rattle.std.proofs.lemmas.List.Elements.{All-more}
 use Rattle.std.proofs.lemmas.Option.{slice_get_within, get_or_from_slice_get}
 use Rattle.wtf_base.specs.declared.pointer.Pointer.{Pointer}
 use Rattle.wtf_base.specs.declared.slice.Slice.{Slice}
@@ -12,76 +10,66 @@ use Rattle.wtf_base.specs.declared.fault.Fault.{Fault}
 use Rattle.wtf_base.specs.declared.fault.Fault.TheVariants as fault
 use Rattle.wtf_base.specs.Slices.{pointers_of, len_of}
 use Rattle.wtf_dev.specs.Each.{EachFollows}
-use Rattle.wtf_dev.specs.Store.{Range, StoreView, Kept, Agrees}
+use Rattle.wtf_dev.specs.Store.{Range, StoreView, Kept}
 use Rattle.wtf_overlay.specs.declared.part.Part.{Part}
 use Rattle.wtf_overlay.specs.declared.part.Part.TheVariants.{Held}
 use Rattle.wtf_overlay.specs.declared.part.Piece.{Piece}
 use Rattle.wtf_overlay.specs.Lengths.{HasLength}
 use Rattle.wtf_overlay.specs.Origin.{Place, place_in, part_origin, pieces_len, pieces_origin}
 use Rattle.wtf_overlay.specs.Meaning.{meaning}
-use Rattle.wtf_cli.specs.Stored.{told_at, IsInside, IsPlaceInside, ArePiecesInside, ShowsPart, ShowsPieces, IsReadFault, IsShowFault, last_server}
+use Rattle.wtf_replica.specs.Copies.{IsInside, IsReadable, IsFetched}
+use Rattle.wtf_replica.specs.Faults.{IsReadFault}
+use Rattle.wtf_cli.specs.Stored.{told_at, IsPlaceInside, ArePiecesInside, ShowsPart, ShowsPieces, IsShowFault}
 use Rattle.wtf_cli.proofs.Places.{EachKept, All-unmap, told_stays, meaning_told, inside_part, all_out_since}
 
 -- what was read from a copy is what the slice's places tell
-pub copy_shows : {S : Type 0} (view : S → StoreView) (old mid : List S) → EachKept view old mid → (s : Slice) (j : ℕ) (p : Pointer) (off : ℕ) (out : List ℕ)
-    → IsInside view old s → slice_get (pointers_of s) j ≡ Some p → ((d : S) → Agrees (view (get_or mid p.server.0 d)) p.file (p.at + off) out)
-    → ShowsPart view old (Held s) off out
-copy_shows view old mid kept s j p off out inside is agrees = λ d i b below told.
-    let within : j < length (pointers_of s) = slice_get_within (pointers_of s) j p is in
-    let here : get_or (pointers_of s) j p ≡ p = get_or_from_slice_get (pointers_of s) j p p is in
-    let server : p.server.0 < length old = subst (λ (q : Pointer). q.server.0 < length old) here (inside j p within).0 in
+pub copy_shows : {S : Type 0} (view : S → StoreView) (down : ℕ → Bool) (old new : List S) (s : Slice) (off : ℕ) (out : List ℕ) (k : ℕ)
+    → IsFetched view down old new s off out k → ShowsPart view old (Held s) off out
+copy_shows view down old new s off out k f = λ d i b below told.
+    let p = f.pointer in
+    let within : f.copy < length (pointers_of s) = slice_get_within (pointers_of s) f.copy p f.is_copy in
+    let here : get_or (pointers_of s) f.copy p ≡ p = get_or_from_slice_get (pointers_of s) f.copy p p f.is_copy in
     let P : Pointer → Type 0 = λ q. told_at view d old (place_in (off + i) q) ≡ Some b in
     let at : P p = subst P here (All-unmap (λ q. told_at view d old q ≡ Some b) (place_in (off + i)) (pointers_of s)
-    (meaning_told (told_at view d old) b (part_origin (Held s) (off + i)) told) j p within) in
+    (meaning_told (told_at view d old) b (part_origin (Held s) (off + i)) told) f.copy p within) in
     let place : p.at + (off + i) ≡ p.at + off + i = omega arith in
-    agrees d i b below (subst (λ (x : ℕ). (view (get_or mid p.server.0 d)).told p.file x ≡ Some b) place
-    ((kept p.server.0 d server).bytes p.file (p.at + (off + i)) b tt at))
-
--- one copy more
-pub next_holds : (P : Pointer → Type 0) (ps : List Pointer) (j : ℕ) (p : Pointer) → slice_get ps j ≡ Some p → All P (take j ps) → P p → All P (take (j + 1) ps)
-next_holds P ps j p is all one =
-    All-more P ps j p (slice_get_within ps j p is) all (subst P (sym (get_or_from_slice_get ps j p p is)) one)
-
-last_server-push : (ps : List Pointer) (p : Pointer) (k : ℕ) → last_server (ps ++ p ∷ []) k ≡ p.server.0
-last_server-push [] p k = refl
-last_server-push (q ∷ ps) p k = last_server-push ps p q.server.0
-
-pub next_last : (ps : List Pointer) (j : ℕ) (p : Pointer) (k : ℕ) → slice_get ps j ≡ Some p → last_server (take (j + 1) ps) k ≡ p.server.0
-next_last ps j p k is =
-    ap (λ (xs : List Pointer). last_server xs k) (take_more ps j p (slice_get_within ps j p is))
-    ∙ last_server-push (take j ps) (get_or ps j p) k
-    ∙ ap (λ (q : Pointer). q.server.0) (get_or_from_slice_get ps j p p is)
+    f.bytes d i b below (subst (λ (x : ℕ). (view (get_or old k d)).told p.file x ≡ Some b) place
+    (subst (λ (j : ℕ). (view (get_or old j d)).told p.file (p.at + (off + i)) ≡ Some b) f.server at))
 
 -- a piece whose slice was not read is why pieces were not shown
-pub show_fault : {S : Type 0} (view : S → StoreView) (old new : List S) (pieces : List Piece) (p : Piece) (s : Slice) → Contains pieces p → p.part ≡ Held s
-    → (f : Fault) → IsReadFault view old new s f → IsShowFault view old new pieces f
-show_fault view old new pieces p s one held (fault.Read k) h = record { piece = p; slice = s; one_of = one; held = held; out = h }
-show_fault view old new pieces p s one held fault.Write h = absurd h
-show_fault view old new pieces p s one held (fault.Punch k) h = absurd h
-show_fault view old new pieces p s one held (fault.Damaged k) h = absurd h
-show_fault view old new pieces p s one held fault.Memory h = absurd h
+pub show_fault : {S : Type 0} (view : S → StoreView) (down : ℕ → Bool) (old new : List S) (pieces : List Piece) (p : Piece) (s : Slice) → Contains pieces p → p.part ≡ Held s
+    → (f : Fault) → IsReadFault view down old new s f → IsShowFault view down old new pieces f
+show_fault view down old new pieces p s one held (fault.Read k) h = record { piece = p; slice = s; one_of = one; held = held; out = h }
+show_fault view down old new pieces p s one held fault.Write h = absurd h
+show_fault view down old new pieces p s one held (fault.Punch k) h = absurd h
+show_fault view down old new pieces p s one held (fault.Damaged k) h = absurd h
+show_fault view down old new pieces p s one held fault.Memory h = absurd h
 
 -- the fault of one of the pieces, in a later part of the span
-pub show_fault_within : {S : Type 0} (view : S → StoreView) (old mid new : List S) → length mid ≡ length old → EachKept view old mid
-    → (ps qs : List Piece) → ((p : Piece) → Contains ps p → Contains qs p) → (f : Fault) → IsShowFault view mid new ps f → IsShowFault view old new qs f
-show_fault_within view old mid new same kept ps qs among (fault.Read k) h =
-    record { piece = h.piece; slice = h.slice; one_of = among h.piece h.one_of; held = h.held; out = all_out_since view old mid new same kept h.slice k.0 h.out }
-show_fault_within view old mid new same kept ps qs among fault.Write h = absurd h
-show_fault_within view old mid new same kept ps qs among (fault.Punch k) h = absurd h
-show_fault_within view old mid new same kept ps qs among (fault.Damaged k) h = absurd h
-show_fault_within view old mid new same kept ps qs among fault.Memory h = h
+pub show_fault_within : {S : Type 0} (view : S → StoreView) (down : ℕ → Bool) (old mid new : List S) → length mid ≡ length old → EachKept view old mid
+    → (ps qs : List Piece) → ((p : Piece) → Contains ps p → Contains qs p) → (f : Fault) → IsShowFault view down mid new ps f → IsShowFault view down old new qs f
+show_fault_within view down old mid new same kept ps qs among (fault.Read k) h =
+    record { piece = h.piece; slice = h.slice; one_of = among h.piece h.one_of; held = h.held; out = all_out_since view down old mid new same kept h.slice k.0 h.out }
+show_fault_within view down old mid new same kept ps qs among fault.Write h = absurd h
+show_fault_within view down old mid new same kept ps qs among (fault.Punch k) h = absurd h
+show_fault_within view down old mid new same kept ps qs among (fault.Damaged k) h = absurd h
+show_fault_within view down old mid new same kept ps qs among fault.Memory h = h
 
 -- a slice in a piece has its length
 pub held_len : (n : ℕ) (part : Part) (s : Slice) → part ≡ Held s → HasLength n part → len_of s ≡ n
 held_len n part s is h = subst (λ (x : Part). HasLength n x) is h
 
--- of a piece whose places lie inside the stores, its slice lies inside them
-pub held_inside : {S : Type 0} (view : S → StoreView) (shelf : List S) (p : Piece) (s : Slice) → p.part ≡ Held s
+all_inside : {S : Type 0} (view : S → StoreView) (shelf : List S) (p : Piece) (s : Slice) → p.part ≡ Held s
     → ((i : ℕ) → i < p.len → All (IsPlaceInside view shelf) (part_origin p.part i)) → IsInside view shelf s
-held_inside view shelf p s is inside =
+all_inside view shelf p s is inside =
     let len : len_of s ≡ p.len = held_len p.len p.part s is p.held in
     inside_part view shelf s (omega (arith, len, p.positive))
     (λ i below. subst (λ (x : Part). All (IsPlaceInside view shelf) (part_origin x i)) is (inside i (omega (arith, len, below))))
+
+-- of a piece whose places lie inside the stores, its slice lies inside them
+pub held_inside : {S : Type 0} (view : S → StoreView) (down : ℕ → Bool) (shelf : List S) (p : Piece) (s : Slice) → p.part ≡ Held s
+    → ((i : ℕ) → i < p.len → All (IsPlaceInside view shelf) (part_origin p.part i)) → IsReadable view down shelf s
+held_inside view down shelf p s is inside = λ k d h. inr (all_inside view shelf p s is inside k d h)
 
 -- a list that was lengthened, and whose new end was written
 pub end_written : (old xs items ys zeros p q : List ℕ) (a n len : ℕ) → length old ≡ a → xs ≡ items → items ≡ take (a + n) old ++ zeros → length ys ≡ n → len ≡ a + n

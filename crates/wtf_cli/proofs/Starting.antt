@@ -1,6 +1,7 @@
 -- The state that a run begins with stands for the machine that it begins with.
-use Rattle.std.proofs.Common.{◌≡◌, ◌≤◌, ℕ, List, [], length, Option, None, refl, sym, ◌∙◌, ap, subst, arith}
+use Rattle.std.proofs.Common.{◌≡◌, ◌≤◌, ℕ, false, List, [], length, Option, None, refl, sym, ◌∙◌, ap, subst, arith}
 use Rattle.std.specs.FinMap.{empty, get-empty, len-empty}
+use Rattle.std.specs.FinSet as set
 use Rattle.std.specs.Ordering.{nat_cmp}
 use Rattle.wtf_base.specs.declared.settings.Settings.{Settings}
 use Rattle.wtf_dev.specs.Store.{StoreView}
@@ -11,21 +12,21 @@ use Rattle.wtf_model.specs.Laws.{get-node_same, get-node_other}
 use Rattle.wtf_cli.specs.declared.file.File.{File}
 use Rattle.wtf_cli.specs.declared.state.Running.{Running}
 use Rattle.wtf_cli.specs.declared.state.State.{State}
+use Rattle.wtf_cli.specs.Clusters.{IsSoundCluster, is_down_in}
 use Rattle.wtf_cli.specs.StandsFor.{IsSoundState, StandsFor, StandsForTree, StandsForRunning, StandsForNode, AreSoundFiles, IsSoundRunning}
 use Rattle.wtf_cli.specs.Runs.{first}
 
-pub sound_first : {S : Type 0} (view : S → StoreView) (shelf : List S) (settings : Settings) (state : State) → settings.servers ≡ 1 → settings.replicas ≡ 1 → 1 ≤ length shelf
-    → state.settings ≡ settings → state.files.entries ≡ [] → state.running ≡ None → IsSoundState view shelf state
-sound_first view shelf settings state one_server one_copy some settings_is files running = record {
-  servers = ap (λ (s : Settings). s.servers) settings_is ∙ one_server;
-  replicas = ap (λ (s : Settings). s.replicas) settings_is ∙ one_copy;
-  files = subst (λ (f : List (List ℕ × File)). AreSoundFiles view shelf state.settings f) (sym files) (record {
-    servers = omega (arith, ap (λ (s : Settings). s.servers) settings_is, one_server, some);
+pub sound_first : {S : Type 0} (view : S → StoreView) (shelf : List S) (settings : Settings) (state : State) → settings.servers ≤ length shelf → IsSoundCluster state.cluster
+    → state.cluster.settings ≡ settings → state.files.entries ≡ [] → state.running ≡ None → IsSoundState view shelf state
+sound_first view shelf settings state enough cluster settings_is files running = record {
+  cluster = cluster;
+  files = subst (λ (f : List (List ℕ × File)). AreSoundFiles view shelf state.cluster.settings f) (sym files) (record {
+    servers = omega (arith, ap (λ (s : Settings). s.servers) settings_is, enough);
     top = refl;
     sound = λ p file is. absurd (cc);
     short = λ p file is. absurd (cc);
   });
-  running = subst (λ (r : Option Running). IsSoundRunning state.settings.region state.files.entries r) (sym running) tt;
+  running = subst (λ (r : Option Running). IsSoundRunning state.cluster.settings.region state.files.entries r) (sym running) tt;
 }
 
 tree_first : {S : Type 0} (view : S → StoreView) (shelf : List S) → StandsForTree view shelf [] root_alone
@@ -35,9 +36,11 @@ tree_first view shelf = record {
 }
 
 pub stands_first : {S : Type 0} (view : S → StoreView) (shelf : List S) (settings : Settings) (state : State)
-    → state.settings ≡ settings → state.number ≡ 0 → state.files.entries ≡ [] → state.running ≡ None → StandsFor view shelf state (first settings)
-stands_first view shelf settings state settings_is number files running = record {
+    → state.cluster.settings ≡ settings → ((k : ℕ) → is_down_in state.cluster k ≡ false) → state.number ≡ 0 → state.files.entries ≡ [] → state.running ≡ None
+    → StandsFor view shelf state (first settings)
+stands_first view shelf settings state settings_is up number files running = record {
   settings = sym settings_is;
+  down = λ k. set.contains-empty nat_cmp k ∙ sym (up k);
   number = sym number;
   running = subst (λ (r : Option Running). StandsForRunning view shelf state.files.entries r (first settings)) (sym running)
       ((λ c. get-empty nat_cmp c), len-empty nat_cmp _, subst (λ (f : List (List ℕ × File)). StandsForTree view shelf f root_alone) (sym files) (tree_first view shelf));

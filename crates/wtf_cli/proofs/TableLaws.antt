@@ -1,5 +1,5 @@
 -- How the tables of files and handles change by one entry, and what they stand for then.
-use Rattle.std.proofs.Common.{◌≡◌, ◌≢◌, ℕ, ◌≤◌, ◌⊎◌, inl, inr, Bool, true, false, cond, List, Option, Some, None, refl, ◌∙◌, sym, subst, nat_cmp}
+use Rattle.std.proofs.Common.{◌≡◌, ◌≢◌, ℕ, ◌≤◌, ◌⊎◌, inl, inr, Bool, true, false, cond, List, Option, Some, None, refl, ap, ◌∙◌, sym, subst, nat_cmp}
 use Rattle.std.specs.Option.{option_map, IsSome}
 use Rattle.std.specs.BTreeMap.{is_at}
 use Rattle.std.specs.Cmp.Lexicographic.{slice_cmp, nat_list_cmp_total}
@@ -9,6 +9,7 @@ use Rattle.std.proofs.lemmas.Cmp.{eq_by_cmp_equiv}
 use Rattle.std.proofs.lemmas.Map.Views.{tells_apart}
 use Rattle.std.specs.FinMap.{FinMap, get, insert, get-insert, slice_cmp-IsAntisymmetric, nat_cmp-IsAntisymmetric}
 use Rattle.wtf_base.specs.declared.settings.Settings.{Settings}
+use Rattle.wtf_base.specs.declared.ids.InodeId.{InodeId}
 use Rattle.wtf_dev.specs.Store.{StoreView}
 use Rattle.wtf_model.specs.declared.tree.Node.{Node}
 use Rattle.wtf_model.specs.declared.tree.Node.TheVariants as node
@@ -17,6 +18,7 @@ use Rattle.wtf_model.specs.Session.{Handle}
 use Rattle.wtf_cli.specs.declared.file.File.{File}
 use Rattle.wtf_cli.specs.declared.tables.Opened.{Opened}
 use Rattle.wtf_cli.specs.Tables.{file_at, opened_at, SetsFile, SetsHandle}
+use Rattle.wtf_cli.specs.Inodes.{HasInode, KeepInodes}
 use Rattle.wtf_cli.specs.StandsFor.{IsSoundFile, StandsForBytes, StandsForNode, StandsForTree, StandForHandles, handle_of, AreSoundFiles, AreSoundHandles}
 
 pub same_path : (p q : List ℕ) → is_at (slice_cmp nat_cmp p) q ≡ true → p ≡ q
@@ -43,12 +45,12 @@ file_cases old new p file sets q f found = elim (cases_Bool (is_at (slice_cmp na
 ]
 
 pub files_after : {S : Type 0} (view : S → StoreView) (shelf : List S) (settings : Settings) (old new : List (List ℕ × File)) (p : List ℕ) (file : File)
-    → SetsFile old new p file → AreSoundFiles view shelf settings old → IsSoundFile view shelf settings.servers file → file.end ≤ settings.region → p ≢ root → AreSoundFiles view shelf settings new
+    → SetsFile old new p file → AreSoundFiles view shelf settings old → IsSoundFile view shelf settings file → file.end ≤ settings.region → p ≢ root → AreSoundFiles view shelf settings new
 files_after view shelf settings old new p file sets are sound short other = record {
   servers = are.servers;
   top = sets root ∙ cond_both (is_at (slice_cmp nat_cmp p) root) (Some file) (file_at old root) (λ o. o ≡ None) (λ at. absurd (other (same_path p root at))) (λ _. are.top);
   sound = λ q f found. elim (file_cases old new p file sets q f found) [
-    | inl new_one ↦ subst (λ (g : File). IsSoundFile view shelf settings.servers g) (sym new_one) sound
+    | inl new_one ↦ subst (λ (g : File). IsSoundFile view shelf settings g) (sym new_one) sound
     | inr old_one ↦ are.sound q f old_one
   ];
   short = λ q f found. elim (file_cases old new p file sets q f found) [
@@ -56,6 +58,24 @@ files_after view shelf settings old new p file sets are sound short other = reco
     | inr old_one ↦ are.short q f old_one
   ];
 }
+
+-- a file that was there has the inode that it has
+pub inode_stays : (old : Option File) (made : InodeId) (was file : File) → old ≡ Some was → file.inode ≡ was.inode → HasInode old made file
+inode_stays old made was file found same = subst (λ (o : Option File). HasInode o made file) (sym found) same
+
+pub inode_new : (old : Option File) (made : InodeId) (file : File) → old ≡ None → file.inode ≡ made → HasInode old made file
+inode_new old made file none same = subst (λ (o : Option File). HasInode o made file) (sym none) same
+
+pub inodes_same : (old new : List (List ℕ × File)) (made : InodeId) → new ≡ old → KeepInodes old new made
+inodes_same old new made same p file found = inode_stays (file_at old p) made file file (ap (λ (l : List (List ℕ × File)). file_at l p) (sym same) ∙ found) refl
+
+pub inodes_after : (old new : List (List ℕ × File)) (made : InodeId) (p : List ℕ) (file : File) → SetsFile old new p file → HasInode (file_at old p) made file → KeepInodes old new made
+inodes_after old new made p file sets has q f found = elim (cases_Bool (is_at (slice_cmp nat_cmp p) q)) [
+  | inl at ↦
+      let now : Some f ≡ Some file = sym found ∙ sets q ∙ cond-true _ _ _ at in
+      subst (λ (g : File). HasInode (file_at old q) made g) (let same : file ≡ f = cc in same) (subst (λ (r : List ℕ). HasInode (file_at old r) made file) (same_path p q at) has)
+  | inr off ↦ inode_stays (file_at old q) made f f (sym (sets q ∙ cond-false _ _ _ off) ∙ found) refl
+]
 
 -- a path with a file has one still
 pub still_there : (old new : List (List ℕ × File)) (p : List ℕ) (file : File) → SetsFile old new p file → (q : List ℕ) → IsSome (file_at old q) → IsSome (file_at new q)

@@ -1,6 +1,5 @@
 -- What a call on files and handles is, beside the call of the definitions.
 use Rattle.std.specs.Prelude.{◌≡◌, ℕ, ◌≤◌, true, false, List, length, Some}
-use Rattle.wtf_base.specs.declared.settings.Settings.{Settings}
 use Rattle.wtf_dev.specs.Store.{StoreView}
 use Rattle.wtf_dev.specs.Sums.{TellsAll}
 use Rattle.wtf_path.specs.Parts.{parent_of}
@@ -12,12 +11,14 @@ use Rattle.wtf_model.specs.Tree.{root}
 use Rattle.wtf_model.specs.Session.{Session}
 use Rattle.wtf_model.specs.Call.{call}
 use Rattle.wtf_model.specs.Steps.{Machine, cap_of, is_later_call, MayFail}
+use Rattle.wtf_cli.specs.declared.cluster.Cluster.{Cluster}
 use Rattle.wtf_cli.specs.declared.file.File.{File}
 use Rattle.wtf_cli.specs.declared.tables.Opened.{Opened}
 use Rattle.wtf_cli.specs.declared.calls.Called.{Called}
 use Rattle.wtf_cli.specs.declared.calls.Called.TheVariants.{Logged, Failed, Later}
 use Rattle.wtf_cli.specs.StandsFor.{StandsForSession, AreSoundFiles, AreSoundHandles}
-use Rattle.wtf_cli.specs.Outcomes.{AddsBytes, HasCause, data_of_op}
+use Rattle.wtf_cli.specs.Clusters.{is_down_in}
+use Rattle.wtf_cli.specs.Outcomes.{AddsBytes, HasCause, data_of_op, IsNeeded, IsTarget}
 
 -- a path of one name, and data of at most 16,384 bytes, as lines give them
 abbrev pub IsFormOp : Op (List ℕ) → Type 0
@@ -69,9 +70,9 @@ StandsForCall view before after files files' handles handles' m s o (Logged a) =
 StandsForCall view before after files files' handles handles' m s o (Failed a) = IsStoreFault a × IsFailedCall view before after files files' handles handles' m s o a
 StandsForCall view before after files files' handles handles' m s o Later = IsLaterCall view before after files files' handles handles' m s o
 
-pub record IsCall {S : Type 0} (view : S → StoreView) (before after : List S) (settings : Settings) (files files' : List (List ℕ × File)) (handles handles' : List (ℕ × Opened)) (o : Op (List ℕ)) (called : Called) : Type 0 where
-  pub files_sound : AreSoundFiles view after settings files'
-  pub handles_sound : AreSoundHandles settings.region files' handles'
-  pub stands : (m : Machine) (s : Session) → m.settings ≡ settings → StandsForSession view before files handles s → StandsForCall view before after files files' handles handles' m s o called
-  pub adds : AddsBytes view before after settings.replicas (data_of_op o) (answer_of called)
-  pub cause : HasCause view before after settings.servers (answer_of called)
+pub record IsCall {S : Type 0} (view : S → StoreView) (before after : List S) (cluster : Cluster) (files files' : List (List ℕ × File)) (handles handles' : List (ℕ × Opened)) (o : Op (List ℕ)) (called : Called) : Type 0 where
+  pub files_sound : AreSoundFiles view after cluster.settings files'
+  pub handles_sound : AreSoundHandles cluster.settings.region files' handles'
+  pub stands : (m : Machine) (s : Session) → m.settings ≡ cluster.settings → StandsForSession view before files handles s → StandsForCall view before after files files' handles handles' m s o called
+  pub adds : AddsBytes view (is_down_in cluster) before after cluster.settings (IsTarget cluster files handles o) (data_of_op o) (answer_of called)
+  pub cause : HasCause view (is_down_in cluster) before after cluster.settings (IsNeeded files handles o) (answer_of called)

@@ -127,11 +127,40 @@ verb_in word args =
     else (if bytes_eq word (codes "read") then read_in args
     else None))))))
 
-unfoldable pub event_in : List (List ℕ) → Option Event
-event_in (actor ∷ verb ∷ args) = do
+-- what a client asks
+unfoldable pub asked_in : List ℕ → List ℕ → List (List ℕ) → Option Event
+asked_in actor word args = do
   client ← client_in actor
-  asked ← verb_in verb args
+  asked ← verb_in word args
   Some (event.Client client asked)
+
+-- the number of a server, alone
+unfoldable pub server_in : List (List ℕ) → Option ℕ
+server_in (k ∷ []) = number_within 4294967296 k
+server_in args = None
+
+-- a server that goes down
+unfoldable pub down_in : List (List ℕ) → Option Event
+down_in args = do
+  server ← server_in args
+  Some (event.Down server)
+
+-- a server that comes up
+unfoldable pub up_in : List (List ℕ) → Option Event
+up_in args = do
+  server ← server_in args
+  Some (event.Up server)
+
+-- what a verb of the system asks
+unfoldable pub system_in : List ℕ → List (List ℕ) → Option Event
+system_in word args =
+    if bytes_eq word (codes "down") then down_in args
+    else (if bytes_eq word (codes "up") then up_in args
+    else None)
+
+-- the actor is the system or a client
+unfoldable pub event_in : List (List ℕ) → Option Event
+event_in (actor ∷ word ∷ args) = if bytes_eq actor (codes "sys") then system_in word args else asked_in actor word args
 event_in words = None
 
 -- a line of more than 65,536 bytes says nothing, nor does one with a byte that cannot be shown

@@ -3,12 +3,15 @@ pub mod Words
 pub mod Forms
 pub mod Texts
 pub mod Reading
+pub mod Clusters
 pub mod Stored
 pub mod Tables
 pub mod StandsFor
 pub mod Outcomes
+pub mod Inodes
 pub mod Calls
 pub mod Events
+pub mod DeviceFaults
 pub mod Runs
 pub mod LineSteps
 pub mod Turns

@@ -4,15 +4,15 @@ use Rattle.wtf_base.specs.declared.settings.Settings.{Settings}
 use Rattle.wtf_dev.specs.Streams.{SourceView, SinkView}
 use Rattle.wtf_dev.specs.Store.{Range, StoreView}
 use Rattle.wtf_dev.specs.Memory.{StoreState}
-use Rattle.wtf_cli.specs.Runs.{Served}
+use Rattle.wtf_cli.specs.Runs.{Served, IsRunStatus}
 
--- a whole run over one server, with one copy of each slice and regions of 65,536 bytes
-pub record IsFirstRun {S : Type 0} (view : S → StoreView) (follows : S → S → List Range → Type 0) (status : ℕ) (source source' : SourceView) (sink sink' : SinkView) (before after : List S) : Type 0 where
+-- a whole run over 4 servers, with 2 copies of each slice and regions of 65,536 bytes, where the keeper held `kept` before
+pub record IsFirstRun {S : Type 0} (view : S → StoreView) (follows : S → S → List Range → Type 0) (kept : Option (List ℕ)) (status : ℕ) (source source' : SourceView) (sink sink' : SinkView) (before after : List S) : Type 0 where
   pub settings : Settings
-  pub servers : settings.servers ≡ 1
-  pub replicas : settings.replicas ≡ 1
+  pub servers : settings.servers ≡ 4
+  pub replicas : settings.replicas ≡ 2
   pub region : settings.region ≡ 65536
-  pub served : Served view follows settings status source source' sink sink' before after
+  pub served : Served view follows settings kept status source source' sink sink' before after
 
 -- the line on standard error for a status, without its line feed
 abbrev pub status_line : ℕ → Option (List ℕ)
@@ -23,10 +23,6 @@ status_line status =
     if status == 7 then Some (codes "wtf: out of memory") else (
     if status == 9 then Some (codes "wtf: script too long") else (
     if status == 10 then Some (codes "wtf: no directory") else None)))))
-
--- the statuses that the run of a script ends with
-abbrev pub IsRunStatus : ℕ → Type 0
-IsRunStatus status = (status ≡ 0) ⊎ (status ≡ 2) ⊎ (status ≡ 3) ⊎ (status ≡ 4) ⊎ (status ≡ 7) ⊎ (status ≡ 9)
 
 -- the statuses that the program ends with
 abbrev pub IsStatus : ℕ → Type 0

@@ -17,6 +17,7 @@ use Rattle.wtf_cli.specs.ScriptLines.{lines_of, ended_of}
 use Rattle.wtf_cli.specs.Forms.{event_of}
 use Rattle.wtf_cli.specs.Texts.{line_text, settings_text}
 use Rattle.wtf_cli.specs.Outcomes.{data_of}
+use Rattle.wtf_cli.specs.DeviceFaults.{is_device_fault, is_device_fault_of_run, count_along, IsAllUp}
 
 -- The machine before the first line: the root alone, and no commit so far
 abbrev pub first : Settings → Machine
@@ -75,8 +76,17 @@ abbrev pub RoseBy : {S : Type 0} → (S → StoreView) → List S → List S →
 RoseBy {S} view before after n =
     ((k : ℕ) (d : S) → k < length after → (view (slice_index_or after k d)).faults < 2 ^ 64 - 1) → all_faults view before + n ≤ all_faults view after
 
--- Lines and their answers, over stores that were `before` and are `after`.
-pub record Ran {S : Type 0} (view : S → StoreView) (follows : S → S → List Range → Type 0) (settings : Settings) (before after : List S) (lines : List (List ℕ)) (answers : List Answer) : Type 0 where
+-- a count of faults did not rise, and does not stand at its end
+abbrev pub IsStill : ℕ → ℕ → Type 0
+IsStill before now = (now ≡ before) × (now < 2 ^ 64 - 1)
+
+-- no store failed, as far as the counts of faults tell
+abbrev pub AreStoresStill : {S : Type 0} → (S → StoreView) → List S → List S → Type 0
+AreStoresStill {S} view before after =
+    (k : ℕ) (d : S) → k < length after → IsStill (view (slice_index_or before k d)).faults (view (slice_index_or after k d)).faults
+
+-- Lines and their answers, over stores that were `before` and are `after`, where the keeper held `kept` before.
+pub record Ran {S : Type 0} (view : S → StoreView) (follows : S → S → List Range → Type 0) (settings : Settings) (kept : Option (List ℕ)) (before after : List S) (lines : List (List ℕ)) (answers : List Answer) : Type 0 where
   -- Where the stores tell their content, the machine accepts the lines' events with their answers, from the tree with the
   -- root alone: committed transactions ran whole, one by one, on one tree.
   pub accepts : TellsAll view before → Accepts (first settings) (events_of (map event_of lines)) (answers_to (map event_of lines) answers)
@@ -85,10 +95,12 @@ pub record Ran {S : Type 0} (view : S → StoreView) (follows : S → S → List
   -- `notbuilt` comes exactly where a line asks nothing that is built
   pub exact : Along IsNotBuiltExactly (first settings) (map event_of lines) answers
   pub served : All IsServed answers
-  -- each line with a fault raised a store's count
-  pub faults : RoseBy view before after (fault_count answers)
-  -- the stores grew by the bytes of the writes that answered `ok`, once on each replica
-  pub grew : write_fault_count answers ≡ 0 → all_stored view after ≡ all_stored view before + settings.replicas * written_bytes (map event_of lines) answers
+  -- each line whose fault only a store can have caused raised a store's count
+  pub faults : RoseBy view before after (count_along is_device_fault (first settings) (map event_of lines) answers)
+  -- and so did, where the keeper held nothing, each read that failed while fewer servers were down than a slice has copies
+  pub faults_of_run : kept ≡ Some [] → RoseBy view before after (count_along is_device_fault_of_run (first settings) (map event_of lines) answers)
+  -- where no store failed they grew by the bytes of the writes that answered `ok`, once on each replica
+  pub grew : AreStoresStill view before after → write_fault_count answers ≡ 0 → all_stored view after ≡ all_stored view before + settings.replicas * written_bytes (map event_of lines) answers
   -- nothing was punched
   pub follows_on : EachFollows follows before after []
 
@@ -120,18 +132,18 @@ pub record HasWritten (settings : Settings) (started : Bool) (status : ℕ) (ans
   pub cut : started ≡ true → status ≡ 4 → IsCut settings answers old new
   pub first_line : started ≡ false → (front : List ℕ) × (back : List ℕ) × (settings_text settings 0 ≡ front ++ back) × (new ≡ Some (old ++ front))
 
--- a count of faults did not rise, and does not stand at its end
-abbrev pub IsStill : ℕ → ℕ → Type 0
-IsStill before now = (now ≡ before) × (now < 2 ^ 64 - 1)
-
 -- no device failed in a run, as far as the counts of faults tell
 pub record AreStill {S : Type 0} (view : S → StoreView) (source source' : SourceView) (sink sink' : SinkView) (before after : List S) : Type 0 where
   pub source_is : IsStill source.faults source'.faults
   pub sink_is : IsStill sink.faults sink'.faults
-  pub stores : (k : ℕ) (d : S) → k < length after → IsStill (view (slice_index_or before k d)).faults (view (slice_index_or after k d)).faults
+  pub stores : AreStoresStill view before after
 
--- A whole run, with the devices before and after it
-pub record Served {S : Type 0} (view : S → StoreView) (follows : S → S → List Range → Type 0) (settings : Settings) (status : ℕ) (source source' : SourceView) (sink sink' : SinkView) (before after : List S) : Type 0 where
+-- the statuses that the run of a script ends with
+abbrev pub IsRunStatus : ℕ → Type 0
+IsRunStatus status = (status ≡ 0) ⊎ (status ≡ 2) ⊎ (status ≡ 3) ⊎ (status ≡ 4) ⊎ (status ≡ 7) ⊎ (status ≡ 9)
+
+-- A whole run, with the devices before and after it, where the keeper held `kept` before
+pub record Served {S : Type 0} (view : S → StoreView) (follows : S → S → List Range → Type 0) (settings : Settings) (kept : Option (List ℕ)) (status : ℕ) (source source' : SourceView) (sink sink' : SinkView) (before after : List S) : Type 0 where
   -- the lines that were answered, in order, with their answers; and whether the first line of the output was written
   pub lines : List (List ℕ)
   pub answers : List Answer
@@ -140,7 +152,7 @@ pub record Served {S : Type 0} (view : S → StoreView) (follows : S → S → L
   pub taken : ℕ
   -- the stores when the last of the answers was given: those after the run, unless it ended with status 7 in a line
   pub mid : List S
-  pub ran : Ran view follows settings before mid lines answers
+  pub ran : Ran view follows settings kept before mid lines answers
   pub rest_follows : EachFollows follows mid after []
   pub at_end : status ≢ 7 → mid ≡ after
   -- a run that ends before its first line is written touches no store
@@ -151,13 +163,17 @@ pub record Served {S : Type 0} (view : S → StoreView) (follows : S → S → L
   pub given : source.given ≤ 2 ^ 64 - 1 → source'.given ≡ min (source.given + taken) (2 ^ 64 - 1)
   pub limit : (status ≡ 9) ↔ (2 ^ 30 < taken)
   pub counted : (script left : List ℕ) → source.rest ≡ Some script → source'.rest ≡ Some left → length script ≡ length left + taken
-  -- the statuses, and the causes of 3 and 4
-  pub statuses : (status ≡ 0) ⊎ (status ≡ 3) ⊎ (status ≡ 4) ⊎ (status ≡ 7) ⊎ (status ≡ 9)
+  -- the statuses, and the causes of 2, 3 and 4
+  pub statuses : IsRunStatus status
+  pub few_stores : (status ≡ 2) ↔ (length before < settings.servers)
+  -- with status 2 nothing is read, and nothing is written
+  pub unread : status ≡ 2 → (source' ≡ source) × (sink' ≡ sink) × (after ≡ before)
   pub source_cause : status ≡ 3 → Rose source.faults source'.faults
   pub sink_cause : status ≡ 4 → Rose sink.faults sink'.faults
   pub source_faults : source.faults ≤ source'.faults
   pub sink_faults : sink.faults ≤ sink'.faults
   -- over the whole run nothing is punched
   pub follows_on : EachFollows follows before after []
-  -- where no device failed no line answers a fault, and the status is 0, 7 or 9
-  pub complete : AreStill view source source' sink sink' before after → (fault_count answers ≡ 0) × ((status ≡ 0) ⊎ (status ≡ 7) ⊎ (status ≡ 9))
+  -- where there are stores enough, no device failed and no server was down at any line, no line answers a fault, and the
+  -- status is 0, 7 or 9
+  pub complete : settings.servers ≤ length before → AreStill view source source' sink sink' before after → Along IsAllUp (first settings) (map event_of lines) answers → (fault_count answers ≡ 0) × ((status ≡ 0) ⊎ (status ≡ 7) ⊎ (status ≡ 9))

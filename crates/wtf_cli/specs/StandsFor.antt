@@ -14,21 +14,24 @@ use Rattle.wtf_model.specs.declared.tree.Node.TheVariants as node
 use Rattle.wtf_model.specs.Tree.{Tree, root}
 use Rattle.wtf_model.specs.Session.{Session, Handle}
 use Rattle.wtf_model.specs.Transaction.{Transaction, answers_of}
-use Rattle.wtf_model.specs.Steps.{Machine, cap_of, session_of}
+use Rattle.wtf_model.specs.Steps.{Machine, cap_of, session_of, is_down}
 use Rattle.wtf_cli.specs.declared.file.File.{File}
 use Rattle.wtf_cli.specs.declared.tables.Opened.{Opened}
 use Rattle.wtf_cli.specs.declared.state.Running.{Running}
 use Rattle.wtf_cli.specs.declared.state.State.{State}
 use Rattle.wtf_cli.specs.Tables.{file_at, opened_at}
-use Rattle.wtf_cli.specs.Stored.{told_at, IsPlaceInside}
+use Rattle.wtf_cli.specs.Clusters.{IsSoundCluster, is_down_in}
+use Rattle.wtf_cli.specs.Stored.{told_at, IsPlaceInside, HasCopies}
 
 -- Files
 
--- the bytes of a file lie inside the stores of the first n servers, and none lies past its end
-pub record IsSoundFile {S : Type 0} (view : S → StoreView) (shelf : List S) (n : ℕ) (file : File) : Type 0 where
+-- the bytes of a file lie inside the stores of the settings' servers, each on as many as there are replicas, and none lies
+-- past its end
+pub record IsSoundFile {S : Type 0} (view : S → StoreView) (shelf : List S) (settings : Settings) (file : File) : Type 0 where
   pub past : (x : ℕ) → file.end ≤ x → origin file.list x ≡ []
   pub inside : (x : ℕ) → All (IsPlaceInside view shelf) (origin file.list x)
-  pub near : (x : ℕ) → All (λ p. p.server < n) (origin file.list x)
+  pub near : (x : ℕ) → All (λ p. p.server < settings.servers) (origin file.list x)
+  pub copies : (x : ℕ) → HasCopies settings.replicas (origin file.list x)
 
 -- a file has these bytes: so many, and where the stores tell their content, each of them
 pub record StandsForBytes {S : Type 0} (view : S → StoreView) (shelf : List S) (file : File) (bytes : List ℕ) : Type 0 where
@@ -62,7 +65,7 @@ pub record StandsForSession {S : Type 0} (view : S → StoreView) (shelf : List 
 pub record AreSoundFiles {S : Type 0} (view : S → StoreView) (shelf : List S) (settings : Settings) (files : List (List ℕ × File)) : Type 0 where
   pub servers : settings.servers ≤ length shelf
   pub top : file_at files root ≡ None
-  pub sound : (p : List ℕ) (file : File) → file_at files p ≡ Some file → IsSoundFile view shelf settings.servers file
+  pub sound : (p : List ℕ) (file : File) → file_at files p ≡ Some file → IsSoundFile view shelf settings file
   pub short : (p : List ℕ) (file : File) → file_at files p ≡ Some file → file.end ≤ settings.region
 
 -- each handle is on a file, at an offset in the first region
@@ -75,12 +78,11 @@ abbrev pub IsSoundRunning : ℕ → List (List ℕ × File) → Option Running �
 IsSoundRunning region files None = Unit {0}
 IsSoundRunning region files (Some r) = AreSoundHandles region files r.handles.entries × (r.calls ≤ 4096)
 
--- one server, one copy; files and handles are sound
+-- the servers are those of the settings; files and handles are sound
 pub record IsSoundState {S : Type 0} (view : S → StoreView) (shelf : List S) (state : State) : Type 0 where
-  pub servers : state.settings.servers ≡ 1
-  pub replicas : state.settings.replicas ≡ 1
-  pub files : AreSoundFiles view shelf state.settings state.files.entries
-  pub running : IsSoundRunning state.settings.region state.files.entries state.running
+  pub cluster : IsSoundCluster state.cluster
+  pub files : AreSoundFiles view shelf state.cluster.settings state.files.entries
+  pub running : IsSoundRunning state.cluster.settings.region state.files.entries state.running
 
 -- the transaction that runs is that of the machine: its calls are counted, the files and handles are what they have
 -- left of the tree that it began with, and where the stores tell their content, each answer was the one that was due
@@ -99,6 +101,7 @@ StandsForRunning view shelf files (Some r) m =
     × StandsForTransaction view shelf files r m t
 
 pub record StandsFor {S : Type 0} (view : S → StoreView) (shelf : List S) (state : State) (m : Machine) : Type 0 where
-  pub settings : m.settings ≡ state.settings
+  pub settings : m.settings ≡ state.cluster.settings
+  pub down : (k : ℕ) → is_down m k ≡ is_down_in state.cluster k
   pub number : m.number ≡ state.number
   pub running : StandsForRunning view shelf state.files.entries state.running m

@@ -1,15 +1,18 @@
 //! The calls of a transaction, on files and open handles.
 
-ghost use Rattle.std.specs.Prelude.{◌≡◌, ◌≤◌, IfOk, []};
+ghost use Rattle.std.specs.Prelude.{IfOk, []};
 ghost use Rattle.wtf_dev.specs.Each.{EachFollows};
 ghost use Rattle.wtf_cli.specs.StandsFor.{AreSoundFiles, AreSoundHandles};
+ghost use Rattle.wtf_cli.specs.Clusters.{IsSoundCluster};
 ghost use Rattle.wtf_cli.specs.Calls.{IsCall, IsFormOp};
+ghost use Rattle.wtf_cli.specs.Inodes.{KeepInodes};
 
+use crate::cluster::Cluster;
 use crate::file::{File, Written};
 use crate::tables::{Opened, make_file, move_handle, open_handle};
 use std::alloc::Global;
 use std::collections::BTreeMap;
-use wtf_base::{Bytes, Fault, OutOfMemory, Settings};
+use wtf_base::{Bytes, Fault, InodeId, OutOfMemory};
 use wtf_dev::{Shelf, SliceStore};
 use wtf_model::{Answer, Op, Seek, Word};
 use wtf_path::Path;
@@ -25,48 +28,52 @@ pub(crate) enum Called {
     Later,
 }
 
-/// Makes a call of a transaction. `files` and `handles` are what its calls so far have left.
+/// Makes a call of a transaction. `files` and `handles` are what its calls so far have left, and a file that the call
+/// makes has this inode.
 pub(crate) fn call<S: SliceStore>(
     alloc: Global,
     shelf: &mut Shelf<S>,
-    settings: Settings,
+    cluster: &Cluster,
+    inode: InodeId,
     files: &mut BTreeMap<Path, File>,
     handles: &mut BTreeMap<u8, Opened>,
     op: Op<Bytes>,
 ) -> Result<Called, OutOfMemory>
-    requires one_server { settings.servers ≡ 1 }
-    requires one_copy { settings.replicas ≡ 1 }
+    requires cluster { IsSoundCluster cluster.now }
     requires form { IsFormOp op }
-    requires files { AreSoundFiles S.view shelf.old settings files.old.entries }
-    requires handles { AreSoundHandles settings.region files.old.entries handles.old.entries }
-    ensures call { IfOk result (IsCall S.view shelf.old shelf.new settings files.old.entries files.new.entries handles.old.entries handles.new.entries op) }
+    requires files { AreSoundFiles S.view shelf.old cluster.now.settings files.old.entries }
+    requires handles { AreSoundHandles cluster.now.settings.region files.old.entries handles.old.entries }
+    ensures call { IfOk result (IsCall S.view shelf.old shelf.new cluster.now files.old.entries files.new.entries handles.old.entries handles.new.entries op) }
+    ensures inodes { IfOk result (λ _. KeepInodes files.old.entries files.new.entries inode) }
     ensures follows { EachFollows S.follows shelf.old shelf.new [] }
 {
     match op {
-        Op::Create(path) => create(alloc, shelf, settings, files, handles, path),
-        Op::Open(label, path) => open(shelf, settings, files, handles, label, path),
-        Op::Read(label, count) => read(alloc, shelf, settings, files, handles, label, count),
-        Op::Write(label, bytes) => write(shelf, settings, files, handles, label, bytes.as_slice()),
-        Op::Seek(label, Seek::Set(off)) => Ok(seek(shelf, settings, files, handles, label, off)),
+        Op::Create(path) => create(alloc, shelf, cluster, inode, files, handles, path),
+        Op::Open(label, path) => open(shelf, cluster, files, handles, label, path),
+        Op::Read(label, count) => read(alloc, shelf, cluster, files, handles, label, count),
+        Op::Write(label, bytes) => write(shelf, cluster, files, handles, label, bytes.as_slice()),
+        Op::Seek(label, Seek::Set(off)) => Ok(seek(shelf, cluster, files, handles, label, off)),
         _ => Ok(Called::Later),
     }
 }
 
-/// Makes an empty file.
+/// Makes an empty file of this inode.
 fn create<S: SliceStore>(
     alloc: Global,
     shelf: &Shelf<S>,
-    settings: Settings,
+    cluster: &Cluster,
+    inode: InodeId,
     files: &mut BTreeMap<Path, File>,
     handles: &BTreeMap<u8, Opened>,
     path: Path,
 ) -> Result<Called, OutOfMemory>
     requires form { IsFormOp (Op.Create path) }
-    requires files { AreSoundFiles S.view shelf.now settings files.old.entries }
-    requires handles { AreSoundHandles settings.region files.old.entries handles.now.entries }
-    ensures call { IfOk result (IsCall S.view shelf.now shelf.now settings files.old.entries files.new.entries handles.now.entries handles.now.entries (Op.Create path)) }
+    requires files { AreSoundFiles S.view shelf.now cluster.now.settings files.old.entries }
+    requires handles { AreSoundHandles cluster.now.settings.region files.old.entries handles.now.entries }
+    ensures call { IfOk result (IsCall S.view shelf.now shelf.now cluster.now files.old.entries files.new.entries handles.now.entries handles.now.entries (Op.Create path)) }
+    ensures inodes { IfOk result (λ _. KeepInodes files.old.entries files.new.entries inode) }
 {
-    if make_file(alloc, files, path)? {
+    if make_file(alloc, files, path, inode)? {
         Ok(Called::Logged(Answer::Okay))
     } else {
         Ok(Called::Logged(Answer::Refused(Word::Exists)))
@@ -76,16 +83,16 @@ fn create<S: SliceStore>(
 /// Opens a file at its start.
 fn open<S: SliceStore>(
     shelf: &Shelf<S>,
-    settings: Settings,
+    cluster: &Cluster,
     files: &BTreeMap<Path, File>,
     handles: &mut BTreeMap<u8, Opened>,
     label: u8,
     path: Path,
 ) -> Result<Called, OutOfMemory>
     requires form { IsFormOp (Op.Open label path) }
-    requires files { AreSoundFiles S.view shelf.now settings files.now.entries }
-    requires handles { AreSoundHandles settings.region files.now.entries handles.old.entries }
-    ensures call { IfOk result (IsCall S.view shelf.now shelf.now settings files.now.entries files.now.entries handles.old.entries handles.new.entries (Op.Open label path)) }
+    requires files { AreSoundFiles S.view shelf.now cluster.now.settings files.now.entries }
+    requires handles { AreSoundHandles cluster.now.settings.region files.now.entries handles.old.entries }
+    ensures call { IfOk result (IsCall S.view shelf.now shelf.now cluster.now files.now.entries files.now.entries handles.old.entries handles.new.entries (Op.Open label path)) }
 {
     if handles.contains_key(&label) {
         return Ok(Called::Later);
@@ -100,17 +107,17 @@ fn open<S: SliceStore>(
 /// Moves a handle to an offset in the first region.
 fn seek<S: SliceStore>(
     shelf: &Shelf<S>,
-    settings: Settings,
+    cluster: &Cluster,
     files: &BTreeMap<Path, File>,
     handles: &mut BTreeMap<u8, Opened>,
     label: u8,
     off: u64,
 ) -> Called
-    requires files { AreSoundFiles S.view shelf.now settings files.now.entries }
-    requires handles { AreSoundHandles settings.region files.now.entries handles.old.entries }
-    ensures call { IsCall S.view shelf.now shelf.now settings files.now.entries files.now.entries handles.old.entries handles.new.entries (Op.Seek label (Seek.Set off)) result }
+    requires files { AreSoundFiles S.view shelf.now cluster.now.settings files.now.entries }
+    requires handles { AreSoundHandles cluster.now.settings.region files.now.entries handles.old.entries }
+    ensures call { IsCall S.view shelf.now shelf.now cluster.now files.now.entries files.now.entries handles.old.entries handles.new.entries (Op.Seek label (Seek.Set off)) result }
 {
-    if off > settings.region as u64 {
+    if off > cluster.settings.region as u64 {
         return Called::Later;
     }
     if move_handle(handles, label, off as u32) {
@@ -124,16 +131,15 @@ fn seek<S: SliceStore>(
 fn read<S: SliceStore>(
     alloc: Global,
     shelf: &mut Shelf<S>,
-    settings: Settings,
+    cluster: &Cluster,
     files: &BTreeMap<Path, File>,
     handles: &mut BTreeMap<u8, Opened>,
     label: u8,
     count: u64,
 ) -> Result<Called, OutOfMemory>
-    requires servers { settings.servers ≡ 1 }
-    requires files { AreSoundFiles S.view shelf.old settings files.now.entries }
-    requires handles { AreSoundHandles settings.region files.now.entries handles.old.entries }
-    ensures call { IfOk result (IsCall S.view shelf.old shelf.new settings files.now.entries files.now.entries handles.old.entries handles.new.entries (Op.Read label count)) }
+    requires files { AreSoundFiles S.view shelf.old cluster.now.settings files.now.entries }
+    requires handles { AreSoundHandles cluster.now.settings.region files.now.entries handles.old.entries }
+    ensures call { IfOk result (IsCall S.view shelf.old shelf.new cluster.now files.now.entries files.now.entries handles.old.entries handles.new.entries (Op.Read label count)) }
     ensures follows { EachFollows S.follows shelf.old shelf.new [] }
 {
     let Some(handle) = handles.get(&label) else {
@@ -143,7 +149,7 @@ fn read<S: SliceStore>(
     let Some(file) = files.get(&handle.path) else {
         unreachable!()
     };
-    let bytes = match file.read_at(alloc, shelf, settings.servers, off, count) {
+    let bytes = match file.read_at(alloc, shelf, cluster, off, count) {
         Ok(bytes) => bytes,
         Err(Fault::Read(server)) => return Ok(Called::Failed(Answer::FaultRead(server.0))),
         Err(_) => return Err(OutOfMemory),
@@ -156,17 +162,17 @@ fn read<S: SliceStore>(
 /// Writes at a handle, which moves on by the bytes that are written.
 fn write<S: SliceStore>(
     shelf: &mut Shelf<S>,
-    settings: Settings,
+    cluster: &Cluster,
     files: &mut BTreeMap<Path, File>,
     handles: &mut BTreeMap<u8, Opened>,
     label: u8,
     bytes: &[u8],
 ) -> Result<Called, OutOfMemory>
-    requires one_server { settings.servers ≡ 1 }
-    requires one_copy { settings.replicas ≡ 1 }
-    requires files { AreSoundFiles S.view shelf.old settings files.old.entries }
-    requires handles { AreSoundHandles settings.region files.old.entries handles.old.entries }
-    ensures call { IfOk result (IsCall S.view shelf.old shelf.new settings files.old.entries files.new.entries handles.old.entries handles.new.entries (Op.Write label bytes.now)) }
+    requires cluster { IsSoundCluster cluster.now }
+    requires files { AreSoundFiles S.view shelf.old cluster.now.settings files.old.entries }
+    requires handles { AreSoundHandles cluster.now.settings.region files.old.entries handles.old.entries }
+    ensures call { IfOk result (IsCall S.view shelf.old shelf.new cluster.now files.old.entries files.new.entries handles.old.entries handles.new.entries (Op.Write label bytes.now)) }
+    ensures inodes { (made : InodeId) → IfOk result (λ _. KeepInodes files.old.entries files.new.entries made) }
     ensures follows { EachFollows S.follows shelf.old shelf.new [] }
 {
     let Some(handle) = handles.get(&label) else {
@@ -176,13 +182,13 @@ fn write<S: SliceStore>(
         return Ok(Called::Logged(Answer::Okay));
     }
     let off = handle.off;
-    if bytes.len() > (settings.region - off) as usize {
+    if bytes.len() > (cluster.settings.region - off) as usize {
         return Ok(Called::Later);
     }
     let Some(file) = files.get_mut(&handle.path) else {
         unreachable!()
     };
-    match file.write_at(shelf, settings, off, bytes) {
+    match file.write_at(shelf, cluster, off, bytes) {
         Written::Memory => Err(OutOfMemory),
         Written::Fault => Ok(Called::Failed(Answer::FaultWrite)),
         Written::Done => {

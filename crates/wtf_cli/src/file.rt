@@ -1,20 +1,23 @@
 //! A file as a list of slice pointers, and how its bytes are read and written.
 
-ghost use Rattle.std.specs.Prelude.{◌≡◌, ℕ, ◌+◌, ◌-◌, ◌*◌, ◌<◌, ◌≤◌, ◌^◌, min, max, List, [], length, take, drop, IfOk, IfErr, OnOk};
-ghost use Rattle.wtf_base.specs.Slices.{pointers_of, len_of};
+ghost use Rattle.std.specs.Prelude.{◌≡◌, ℕ, ◌+◌, ◌-◌, ◌<◌, ◌≤◌, ◌^◌, min, max, List, [], length, take, drop, IfOk, IfErr};
+ghost use Rattle.wtf_base.specs.Slices.{len_of};
+ghost use Rattle.wtf_base.specs.declared.slice.Slice as Slice;
 ghost use Rattle.wtf_dev.specs.Each.{EachFollows};
-ghost use Rattle.wtf_dev.specs.Sums.{TellsAll, all_stored};
+ghost use Rattle.wtf_dev.specs.Sums.{TellsAll};
 ghost use Rattle.wtf_model.specs.Call.{written};
 
-use crate::slices::{create, show};
+use crate::cluster::Cluster;
+use crate::slices::show;
 use std::alloc::Global;
-use wtf_base::{Fault, Settings, Slice};
+use wtf_base::{Fault, InodeId, Slice};
 use wtf_dev::{Shelf, SliceStore};
 use wtf_overlay::{Entry, Overlay, Part};
 
-/// A file: its length, and the list of entries that hold its bytes.
+/// A file: its inode, its length, and the list of entries that hold its bytes.
 #[derive(Debug, Drop)]
 pub(crate) struct File {
+    pub(crate) inode: InodeId,
     /// The length, in bytes.
     pub(crate) end: u32,
     pub(crate) list: Overlay,
@@ -45,26 +48,27 @@ pub(crate) enum Written {
 
 impl File {
     ghost use Rattle.wtf_cli.specs.StandsFor.{IsSoundFile, StandsForBytes};
-    ghost use Rattle.wtf_cli.specs.Stored.{SameLengths, GrewBy, IsWriteFault};
-    ghost use Rattle.wtf_cli.specs.Outcomes.{IsReadCause, StoresOnce};
+    ghost use Rattle.wtf_replica.specs.Outs.{SameLengths};
+    ghost use Rattle.wtf_replica.specs.Copies.{IsStored};
+    ghost use Rattle.wtf_replica.specs.Faults.{AreTooFew};
+    ghost use Rattle.wtf_cli.specs.Clusters.{IsSoundCluster, is_down_in, first_place};
+    ghost use Rattle.wtf_cli.specs.Outcomes.{IsReadCause};
     ghost use Rattle.wtf_cli.specs.declared.file.Written.TheVariants as came;
 
-    /// The bytes from an offset on, at most `count` of them, and fewer where the file ends before. They lie on the
-    /// first `servers` servers.
+    /// The bytes from an offset on, at most `count` of them, and fewer where the file ends before.
     pub(crate) fn read_at<S: SliceStore>(
         &self,
         alloc: Global,
         shelf: &mut Shelf<S>,
-        servers: u8,
+        cluster: &Cluster,
         off: u32,
         count: u64,
     ) -> Result<Vec<u8>, Fault>
-        requires servers { servers ≤ length shelf.old }
-        requires some { 1 ≤ servers }
-        requires sound { IsSoundFile S.view shelf.old servers self.now }
+        requires servers { cluster.now.settings.servers ≤ length shelf.old }
+        requires sound { IsSoundFile S.view shelf.old cluster.now.settings self.now }
         ensures size { IfOk result (λ bytes. length bytes.items ≡ min count (self.now.end - off)) }
         ensures bytes { IfOk result (λ bytes. (all : List ℕ) → TellsAll S.view shelf.old → StandsForBytes S.view shelf.old self.now all → bytes.items ≡ take count (drop off all)) }
-        ensures fault { IfErr result (IsReadCause S.view shelf.old shelf.new servers (min count (self.now.end - off))) }
+        ensures fault { IfErr result (IsReadCause S.view (is_down_in cluster.now) shelf.old shelf.new cluster.now.settings self.now off (min count (self.now.end - off))) }
         ensures lengths { SameLengths S.view shelf.old shelf.new }
         ensures follows { EachFollows S.follows shelf.old shelf.new [] }
     {
@@ -75,7 +79,7 @@ impl File {
             Ok(pieces) => pieces,
             Err(_) => return Err(Fault::Memory),
         };
-        match show(shelf, pieces.as_slice(), &mut bytes) {
+        match show(&cluster.replicas, shelf, pieces.as_slice(), &mut bytes) {
             Ok(()) => Ok(bytes),
             Err(fault) => Err(fault),
         }
@@ -85,25 +89,26 @@ impl File {
     pub(crate) fn write_at<S: SliceStore>(
         &mut self,
         shelf: &mut Shelf<S>,
-        settings: Settings,
+        cluster: &Cluster,
         off: u32,
         bytes: &[u8],
     ) -> Written
-        requires one_server { settings.servers ≡ 1 }
-        requires one_copy { settings.replicas ≡ 1 }
+        requires cluster { IsSoundCluster cluster.now }
         requires some { 0 < length bytes.now }
-        requires fits { off + length bytes.now ≤ settings.region }
-        requires servers { settings.servers ≤ length shelf.old }
-        requires sound { IsSoundFile S.view shelf.old settings.servers self.old }
-        ensures sound { result ≡ came.Done → IsSoundFile S.view shelf.new settings.servers self.new }
+        requires fits { off + length bytes.now ≤ cluster.now.settings.region }
+        requires servers { cluster.now.settings.servers ≤ length shelf.old }
+        requires sound { IsSoundFile S.view shelf.old cluster.now.settings self.old }
+        ensures sound { result ≡ came.Done → IsSoundFile S.view shelf.new cluster.now.settings self.new }
+        ensures inode { self.new.inode ≡ self.old.inode }
         ensures end { result ≡ came.Done → self.new.end ≡ max self.old.end (off + length bytes.now) }
         ensures bytes { result ≡ came.Done → (all : List ℕ) → StandsForBytes S.view shelf.old self.old all → StandsForBytes S.view shelf.new self.new (written all off bytes.now) }
-        ensures stores { result ≡ came.Done → StoresOnce S.view shelf.old shelf.new settings.replicas (length bytes.now) }
-        ensures fault { result ≡ came.Fault → IsWriteFault S.view shelf.old shelf.new settings.servers Fault.Write }
+        ensures stores { result ≡ came.Done → (slice : Slice) × IsStored S.view (is_down_in cluster.now) shelf.old shelf.new cluster.now.settings.replicas (first_place cluster.now self.old.inode) bytes.now slice }
+        ensures fault { result ≡ came.Fault → AreTooFew S.view (is_down_in cluster.now) shelf.old shelf.new cluster.now.settings.servers cluster.now.settings.replicas }
         ensures same { result ≡ came.Fault → self.new ≡ self.old }
         ensures follows { EachFollows S.follows shelf.old shelf.new [] }
     {
-        let Ok(slice) = create(shelf, settings, 0, bytes) else {
+        let place = cluster.ring.order(self.inode, 0);
+        let Ok(slice) = cluster.replicas.create(shelf, &place, bytes) else {
             return Written::Fault;
         };
         let entry = entry_of(off, slice);

@@ -3,9 +3,11 @@
 
 ghost use Rattle.std.specs.Prelude.{◌≡◌, replicate, IfOk, IfErr};
 ghost use Rattle.std.specs.Process.{exit_status};
-ghost use Rattle.wtf_cli.specs.Program.{IsRunStatus, IsStatus, empty_store};
+ghost use Rattle.wtf_cli.specs.Runs.{IsRunStatus};
+ghost use Rattle.wtf_cli.specs.Program.{IsStatus, empty_store};
 
 mod calls;
+mod cluster;
 mod file;
 mod parse;
 mod print;
@@ -19,8 +21,8 @@ mod tables;
 #[cfg(test)]
 mod tests;
 
-use crate::program::{NO_DIRECTORY, WORDS_REFUSED, line_of, wtf};
-use crate::service::OUT_OF_MEMORY;
+use crate::program::{NO_DIRECTORY, line_of, wtf};
+use crate::service::{OUT_OF_MEMORY, WORDS_REFUSED};
 use crate::streams::{Input, Output};
 use std::alloc::Global;
 use std::env::{self, Env};

@@ -2,7 +2,7 @@
 
 ghost use Rattle.std.specs.Prelude.{◌≡◌, ◌≤◌, [], ◌∷◌, length, bytes_eq, position, option_copied, IfOk, IfSome, MatchOption};
 ghost use Rattle.std.specs.List.{list_all, position_or_len};
-ghost use Rattle.wtf_cli.specs.Forms.{is_printable, is_space, is_digit, words_of, is_numeral, number_within, label_within, is_root, path_in, data_in, create_in, open_in, write_in, seek_in, read_in, alone, verb_in, is_line, event_of};
+ghost use Rattle.wtf_cli.specs.Forms.{is_printable, is_space, is_digit, words_of, is_numeral, number_within, label_within, is_root, path_in, data_in, create_in, open_in, write_in, seek_in, read_in, alone, verb_in, asked_in, server_in, down_in, up_in, system_in, is_line, event_of};
 ghost use Rattle.wtf_cli.specs.Words.{words_behind, one_of, two_of, three_of};
 ghost use Rattle.wtf_path.specs.Parts.{parent_of};
 
@@ -38,16 +38,13 @@ pub(crate) fn parse(alloc: Global, line: &[u8]) -> Result<Option<Event>, OutOfMe
         return Ok(None);
     }
     let (actor, behind) = split_word(line);
-    let Some((verb, args)) = next_word(behind) else {
+    let Some((word, args)) = next_word(behind) else {
         return Ok(None);
     };
-    let Some(client) = label_within(b'c', MAX_CLIENT, actor) else {
-        return Ok(None);
-    };
-    let Some(asked) = verb_in(alloc, verb, args)? else {
-        return Ok(None);
-    };
-    Ok(Some(Event::Client(client, asked)))
+    if is_word(actor, b"sys") {
+        return Ok(system_in(word, args));
+    }
+    asked_in(alloc, actor, word, args)
 }
 
 /// Whether a line is short enough, of bytes that can be shown.
@@ -352,6 +349,66 @@ fn verb_in(alloc: Global, word: &[u8], args: &[u8]) -> Result<Option<Verb>, OutO
     Ok(None)
 }
 
+/// What a client asks.
+#[tactic(auto, unfolding(crate::specs::Forms::asked_in))]
+fn asked_in(
+    alloc: Global,
+    actor: &[u8],
+    word: &[u8],
+    args: &[u8],
+) -> Result<Option<Event>, OutOfMemory>
+    ensures { IfOk result (λ event. event ≡ asked_in actor.now word.now (words_behind args.now)) }
+{
+    let Some(client) = label_within(b'c', MAX_CLIENT, actor) else {
+        return Ok(None);
+    };
+    let Some(asked) = verb_in(alloc, word, args)? else {
+        return Ok(None);
+    };
+    Ok(Some(Event::Client(client, asked)))
+}
+
+/// The number of a server, where it is the only argument.
+#[tactic(auto, unfolding(crate::specs::Forms::server_in))]
+fn server_in(args: &[u8]) -> Option<u64>
+    ensures { result ≡ server_in (words_behind args.now) }
+{
+    let k = one_word(args)?;
+    number_within(MAX_NUMBER, k)
+}
+
+/// `down K`.
+#[tactic(auto, unfolding(crate::specs::Forms::down_in))]
+fn down_in(args: &[u8]) -> Option<Event>
+    ensures { result ≡ down_in (words_behind args.now) }
+{
+    let server = server_in(args)?;
+    Some(Event::Down(server))
+}
+
+/// `up K`.
+#[tactic(auto, unfolding(crate::specs::Forms::up_in))]
+fn up_in(args: &[u8]) -> Option<Event>
+    ensures { result ≡ up_in (words_behind args.now) }
+{
+    let server = server_in(args)?;
+    Some(Event::Up(server))
+}
+
+/// What a verb of the system asks, with what stands behind it.
+#[tactic(auto, unfolding(crate::specs::Forms::system_in))]
+fn system_in(word: &[u8], args: &[u8]) -> Option<Event>
+    ensures { result ≡ system_in word.now (words_behind args.now) }
+{
+    if is_word(word, b"down") {
+        return down_in(args);
+    }
+    if is_word(word, b"up") {
+        return up_in(args);
+    }
+    None
+}
+
 #[cfg(test)]
 mod tests {
     use super::*;
@@ -360,15 +417,21 @@ mod tests {
 
     /// Which form a line has, and 0 for none; 9 where it has one with other arguments than those of the tests.
     fn form(alloc: Global, line: &[u8]) -> Result<u8, OutOfMemory> {
-        let Some(Event::Client(client, asked)) = parse(alloc, line)? else {
-            return Ok(0);
-        };
-        Ok(match &asked {
-            Verb::Begin if client == 31 => 1,
-            Verb::Try if client == 10 => 2,
-            Verb::Call(op) if client == 0 => form_of_call(op),
-            _ => 9,
+        Ok(match &parse(alloc, line)? {
+            Some(event) => form_of_event(event),
+            None => 0,
         })
+    }
+
+    fn form_of_event(event: &Event) -> u8 {
+        match event {
+            Event::Client(31, Verb::Begin) => 1,
+            Event::Client(10, Verb::Try) => 2,
+            Event::Client(0, Verb::Call(op)) => form_of_call(op),
+            Event::Down(0) => 10,
+            Event::Up(4_294_967_296) => 11,
+            _ => 9,
+        }
     }
 
     fn form_of_call(op: &Op<Bytes>) -> u8 {
@@ -384,7 +447,7 @@ mod tests {
 
     #[test]
     fn takes_each_form(rt: HostRuntime) -> Result<(), Fail> {
-        let rows: [(&[u8], u8); 7] = [
+        let rows: [(&[u8], u8); 9] = [
             (b"c31 begin", 1),
             (b"c10 try", 2),
             (b"c0 create /a", 3),
@@ -392,6 +455,8 @@ mod tests {
             (b"c0 write f0 t:x:61", 5),
             (b"c0 seek f9 set 4294967296", 6),
             (b"c0 read f1 8192", 7),
+            (b"sys down 0", 10),
+            (b"sys up 4294967296", 11),
         ];
         for (line, want) in rows {
             assert_eq!(rt; form(rt.alloc(), line)?, want);
@@ -401,7 +466,7 @@ mod tests {
 
     #[test]
     fn takes_no_other_form(rt: HostRuntime) -> Result<(), Fail> {
-        let lines: [&[u8]; 24] = [
+        let lines: [&[u8]; 36] = [
             b"",
             b" ",
             b"c0",
@@ -426,6 +491,18 @@ mod tests {
             b"c0 seek f0 end",
             b"c0 read f0 8193",
             b"c0 read f0 01",
+            b"sys",
+            b"sys down",
+            b"sys down ",
+            b"sys down 01",
+            b"sys down 0 1",
+            b"sys down s0",
+            b"sys up 4294967297",
+            b"sys up  0",
+            b"sys begin",
+            b"sys0 up 0",
+            b"c0 down 0",
+            b"c0 up 0",
         ];
         for line in lines {
             assert_eq!(rt; form(rt.alloc(), line)?, 0);

@@ -1,6 +1,6 @@
 //! The run of a script over any source, sink, stores and keeper.
 
-ghost use Rattle.std.specs.Prelude.{◌≡◌, ◌≢◌, ◌<◌, ◌≤◌, ◌+◌, ◌++◌, ◌^◌, ℕ, List, [], Some, IfOk, IfErr, OnOk, OnErr, length};
+ghost use Rattle.std.specs.Prelude.{◌≡◌, ◌<◌, ◌≤◌, ◌^◌, ℕ, List, [], Some, OnErr};
 ghost use Rattle.wtf_dev.specs.Counts.{Rose};
 ghost use Rattle.wtf_dev.specs.Each.{EachFollows};
 ghost use Rattle.wtf_cli.specs.Runs.{Served};
@@ -43,6 +43,9 @@ pub(crate) enum Passed {
 /// The statuses that a run ends with.
 pub(crate) const FINISHED: u8 = 0;
 
+/// The words were refused, or there are fewer stores than servers.
+pub(crate) const WORDS_REFUSED: u8 = 2;
+
 pub(crate) const READING_FAILED: u8 = 3;
 
 pub(crate) const WRITING_FAILED: u8 = 4;
@@ -78,6 +81,7 @@ fn turn<O: Sink, S: SliceStore>(
     event: Option<Event>,
 ) -> Turned
     requires number { state.old.number < 2 ^ 63 }
+    requires next { state.old.next_tx < 2 ^ 63 }
     requires form { IsFormLine event }
     requires sound { IsSoundState S.view shelf.old state.old }
     ensures turn { TurnIs S.view S.follows shelf.old shelf.new state.old state.new (O.view out.old) (O.view out.new) event result }
@@ -107,6 +111,7 @@ fn pass<I: Source, O: Sink, S: SliceStore>(
 ) -> Passed
     requires count { reader.old.count ≤ 2 ^ 30 }
     requires number { state.old.number < 2 ^ 63 }
+    requires next { state.old.next_tx < 2 ^ 63 }
     requires sound { IsSoundState S.view shelf.old state.old }
     ensures pass { PassIs S.view S.follows reader.old reader.new (I.view script.old) (I.view script.new) shelf.old shelf.new state.old state.new (O.view out.old) (O.view out.new) result }
 {
@@ -128,7 +133,8 @@ fn pass<I: Source, O: Sink, S: SliceStore>(
     }
 }
 
-/// Answers a script: writes the settings, and one answer a line.
+/// Answers a script: writes the settings, and one answer a line. With fewer stores than servers nothing is read and
+/// nothing is written.
 pub fn serve<I: Source, O: Sink, S: SliceStore, K: Keeper>(
     alloc: Global,
     settings: Settings,
@@ -137,13 +143,22 @@ pub fn serve<I: Source, O: Sink, S: SliceStore, K: Keeper>(
     shelf: &mut Shelf<S>,
     keeper: &mut K,
 ) -> u8
-    requires one_server { settings.servers ≡ 1 }
-    requires one_copy { settings.replicas ≡ 1 }
-    ensures served { Served S.view S.follows settings result (I.view script.old) (I.view script.new) (O.view out.old) (O.view out.new) shelf.old shelf.new }
+    ensures served { Served S.view S.follows settings (K.view keeper.old).held result (I.view script.old) (I.view script.new) (O.view out.old) (O.view out.new) shelf.old shelf.new }
+    ensures unread { result ≡ 2 → script.new ≡ script.old }
+    ensures unwritten { result ≡ 2 → out.new ≡ out.old }
+    ensures untouched { result ≡ 2 → shelf.new ≡ shelf.old }
+    ensures unkept { result ≡ 2 → keeper.new ≡ keeper.old }
     ensures keeper { K.follows keeper.old keeper.new [] }
 {
+    // The keeper is not called before there are images.
     let _ = keeper;
+    if shelf.len() < settings.servers {
+        return WORDS_REFUSED;
+    }
     let Ok(mut reader) = Reader::new(alloc) else {
+        return OUT_OF_MEMORY;
+    };
+    let Ok(mut state) = State::new(alloc, settings) else {
         return OUT_OF_MEMORY;
     };
     let mut text = Vec::new(alloc);
@@ -153,8 +168,6 @@ pub fn serve<I: Source, O: Sink, S: SliceStore, K: Keeper>(
     let Ok(()) = write_all(out, text.as_slice()) else {
         return WRITING_FAILED;
     };
-    let mut state = State::new(alloc, settings);
-    let _servers = shelf.len();
     loop {
         match pass(
             alloc,

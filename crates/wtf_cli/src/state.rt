@@ -1,17 +1,16 @@
 //! The state of a run, and the answer to one event.
 
-ghost use Rattle.std.specs.Prelude.{◌≡◌, ◌↔◌, ◌+◌, ◌<◌, ◌≤◌, ◌^◌, true, IfOk, None, []};
+ghost use Rattle.std.specs.Prelude.{◌≡◌, ◌<◌, ◌^◌, ℕ, false, IfOk, None, []};
 ghost use Rattle.wtf_dev.specs.Each.{EachFollows};
-ghost use Rattle.wtf_dev.specs.Sums.{TellsAll};
-ghost use Rattle.wtf_model.specs.Steps.{Machine};
 ghost use Rattle.wtf_cli.specs.Events.{IsFormEvent};
 
 use crate::calls::{Called, call};
+use crate::cluster::Cluster;
 use crate::file::File;
 use crate::tables::Opened;
 use std::alloc::Global;
 use std::collections::BTreeMap;
-use wtf_base::{Bytes, OutOfMemory, Settings};
+use wtf_base::{Bytes, InodeId, OutOfMemory, Settings, TxId};
 use wtf_dev::{Shelf, SliceStore};
 use wtf_model::{Answer, Event, Op, Verb};
 use wtf_path::Path;
@@ -19,44 +18,51 @@ use wtf_path::Path;
 /// The greatest number of calls that a transaction logs.
 const MOST_CALLS: u32 = 4096;
 
-/// The transaction that runs: its client, how many calls it has logged, and its open handles.
+/// The transaction that runs: its client, its number, how many calls it has logged, and its open handles.
 #[derive(Debug, Drop)]
 pub(crate) struct Running {
     pub(crate) client: u8,
+    pub(crate) tx: TxId,
     pub(crate) calls: u32,
     pub(crate) handles: BTreeMap<u8, Opened>,
 }
 
-/// The state of a run: the number of commits, the files, and the transaction that runs, if there is one. Only one
-/// runs at a time, so the files are those that its calls have left.
+/// The state of a run: the servers, the number of commits, the number of the next transaction, the files, and the
+/// transaction that runs, if there is one. Only one runs at a time, so the files are those that its calls have left.
 #[derive(Debug, Drop)]
 pub(crate) struct State {
     pub(crate) alloc: Global,
-    pub(crate) settings: Settings,
+    pub(crate) cluster: Cluster,
     pub(crate) number: u64,
+    pub(crate) next_tx: u64,
     pub(crate) files: BTreeMap<Path, File>,
     pub(crate) running: Option<Running>,
 }
 
 impl State {
     ghost use Rattle.wtf_cli.specs.StandsFor.{IsSoundState, StandsFor};
+    ghost use Rattle.wtf_cli.specs.Clusters.{IsSoundCluster, is_down_in};
     ghost use Rattle.wtf_cli.specs.Events.{IsStep};
     ghost use Rattle.wtf_cli.specs.LineSteps.{IsLineStep, IsFormLine};
 
-    /// The state without a file.
-    pub(crate) fn new(alloc: Global, settings: Settings) -> State
-        ensures settings { result.settings ≡ settings }
-        ensures number { result.number ≡ 0 }
-        ensures files { result.files.entries ≡ [] }
-        ensures running { result.running ≡ None }
+    /// The state without a file, with all servers up.
+    pub(crate) fn new(alloc: Global, settings: Settings) -> Result<State, OutOfMemory>
+        ensures settings { IfOk result (λ s. s.cluster.settings ≡ settings) }
+        ensures cluster { IfOk result (λ s. IsSoundCluster s.cluster) }
+        ensures up { IfOk result (λ s. (k : ℕ) → is_down_in s.cluster k ≡ false) }
+        ensures number { IfOk result (λ s. s.number ≡ 0) }
+        ensures next { IfOk result (λ s. s.next_tx ≡ 1) }
+        ensures files { IfOk result (λ s. s.files.entries ≡ []) }
+        ensures running { IfOk result (λ s. s.running ≡ None) }
     {
-        State {
+        Ok(State {
             alloc,
-            settings,
+            cluster: Cluster::new(alloc, settings)?,
             number: 0,
+            next_tx: 1,
             files: BTreeMap::new(alloc),
             running: None,
-        }
+        })
     }
 
     /// Answers a line: its event, where it asks something.
@@ -66,6 +72,7 @@ impl State {
         event: Option<Event>,
     ) -> Result<Answer, OutOfMemory>
         requires number { self.old.number < 2 ^ 63 }
+        requires next { self.old.next_tx < 2 ^ 63 }
         requires form { IsFormLine event }
         requires sound { IsSoundState S.view shelf.old self.old }
         ensures step { IfOk result (IsLineStep S.view shelf.old shelf.new self.old self.new event) }
@@ -84,24 +91,41 @@ impl State {
         event: Event,
     ) -> Result<Answer, OutOfMemory>
         requires number { self.old.number < 2 ^ 63 }
+        requires next { self.old.next_tx < 2 ^ 63 }
         requires form { IsFormEvent event }
         requires sound { IsSoundState S.view shelf.old self.old }
         ensures step { IfOk result (IsStep S.view shelf.old shelf.new self.old self.new event) }
         ensures follows { EachFollows S.follows shelf.old shelf.new [] }
     {
-        let Event::Client(client, verb) = event else {
-            return Ok(Answer::NotBuilt);
-        };
-        match verb {
-            Verb::Begin => Ok(self.begin(shelf, client)),
-            Verb::Try => Ok(self.commit(shelf, client)),
-            Verb::Call(op) => self.call(shelf, client, op),
+        match event {
+            Event::Client(client, Verb::Begin) => Ok(self.begin(shelf, client)),
+            Event::Client(client, Verb::Try) => Ok(self.commit(shelf, client)),
+            Event::Client(client, Verb::Call(op)) => self.call(shelf, client, op),
+            Event::Down(k) => Ok(self.down(shelf, k)),
+            Event::Up(k) => Ok(self.up(shelf, k)),
             _ => Ok(Answer::NotBuilt),
         }
     }
 
-    /// Begins a transaction.
+    /// Takes a server down.
+    fn down<S: SliceStore>(&mut self, shelf: &Shelf<S>, k: u64) -> Answer
+        requires sound { IsSoundState S.view shelf.now self.old }
+        ensures { IsStep S.view shelf.now shelf.now self.old self.new (Event.Down k) result }
+    {
+        self.cluster.down(k)
+    }
+
+    /// Brings a server up.
+    fn up<S: SliceStore>(&mut self, shelf: &Shelf<S>, k: u64) -> Answer
+        requires sound { IsSoundState S.view shelf.now self.old }
+        ensures { IsStep S.view shelf.now shelf.now self.old self.new (Event.Up k) result }
+    {
+        self.cluster.up(k)
+    }
+
+    /// Begins a transaction, which takes the next number.
     fn begin<S: SliceStore>(&mut self, shelf: &Shelf<S>, client: u8) -> Answer
+        requires next { self.old.next_tx < 2 ^ 63 }
         requires sound { IsSoundState S.view shelf.now self.old }
         ensures { IsStep S.view shelf.now shelf.now self.old self.new (Event.Client client Verb.Begin) result }
     {
@@ -110,9 +134,11 @@ impl State {
         }
         self.running = Some(Running {
             client,
+            tx: TxId(self.next_tx),
             calls: 0,
             handles: BTreeMap::new(self.alloc),
         });
+        self.next_tx += 1;
         Answer::Begun(self.number)
     }
 
@@ -156,11 +182,16 @@ impl State {
             self.running = Some(running);
             return Ok(Answer::NotBuilt);
         }
+        let inode = InodeId {
+            tx: running.tx,
+            index: running.calls + 1,
+        };
         let handles = &mut running.handles;
         match call(
             self.alloc,
             shelf,
-            self.settings,
+            &self.cluster,
+            inode,
             &mut self.files,
             handles,
             op,

@@ -1,11 +1,11 @@
 //! The tables of files and of open handles, and their single changes.
 
-ghost use Rattle.std.specs.Prelude.{◌≡◌, true, false, Some, None, IsSome, IfOk, OnErr, []};
+ghost use Rattle.std.specs.Prelude.{◌≡◌, true, false, Some, None, IsSome, IfOk, []};
 
 use crate::file::File;
 use std::alloc::Global;
 use std::collections::BTreeMap;
-use wtf_base::OutOfMemory;
+use wtf_base::{InodeId, OutOfMemory};
 use wtf_overlay::Overlay;
 use wtf_path::Path;
 
@@ -18,22 +18,30 @@ pub(crate) struct Opened {
 
 ghost use Rattle.wtf_cli.specs.Tables.{file_at, opened_at, SetsFile, SetsHandle};
 
-/// Makes an empty file where none stands, and answers whether it did.
+/// Makes an empty file of this inode where none stands, and answers whether it did.
 pub(crate) fn make_file(
     alloc: Global,
     files: &mut BTreeMap<Path, File>,
     path: Path,
+    inode: InodeId,
 ) -> Result<bool, OutOfMemory>
     ensures taken { IfOk result (λ made. made ≡ false → IsSome (file_at files.old.entries path)) }
     ensures same { IfOk result (λ made. made ≡ false → files.new.entries ≡ files.old.entries) }
     ensures free { IfOk result (λ made. made ≡ true → file_at files.old.entries path ≡ None) }
-    ensures made { IfOk result (λ made. made ≡ true → SetsFile files.old.entries files.new.entries path (record { end = 0; list = [] })) }
+    ensures made { IfOk result (λ made. made ≡ true → SetsFile files.old.entries files.new.entries path (record { inode = inode; end = 0; list = [] })) }
 {
     if files.contains_key(&path) {
         return Ok(false);
     }
     let list = Overlay::new(alloc)?;
-    files.insert(path, File { end: 0, list })?;
+    files.insert(
+        path,
+        File {
+            inode,
+            end: 0,
+            list,
+        },
+    )?;
     Ok(true)
 }
 

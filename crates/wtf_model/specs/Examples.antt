@@ -66,3 +66,7 @@ fault_answers =
 -- the machine may answer `notbuilt` and nothing else
 abbrev pub OnlyNotBuilt : Machine → Event → Type 0
 OnlyNotBuilt m e = (a : Answer) → May m e a ↔ (a ≡ NotBuilt)
+
+-- the machine may answer a and nothing else to lines that take server k down and up
+abbrev pub OnlyServer : Machine → ℕ → Answer → Type 0
+OnlyServer m k a = (b : Answer) → (May m (event.Down k) b ↔ (b ≡ a)) × (May m (event.Up k) b ↔ (b ≡ a))

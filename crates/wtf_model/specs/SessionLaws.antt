@@ -2,11 +2,13 @@
 -- always that of a file that is there.
 use Rattle.std.proofs.Common.{◌≡◌, ◌≢◌, ◌⊎◌, ℕ, ◌+◌, List, [], ◌∷◌, length, Option, Some, None, Result, Ok, Err, refl, sym, ap, subst, ◌∙◌, inl, inr}
 use Rattle.std.proofs.lemmas.Bool.{cases_eq}
+use Rattle.std.specs.FinSet.{FinSet}
+use Rattle.std.specs.FinSet as set
 use Rattle.std.specs.FinMap.{get, insert, get-empty}
 use Rattle.std.specs.Ordering.{nat_cmp}
 use Rattle.wtf_model.specs.declared.answer.Word.{Word}
 use Rattle.wtf_model.specs.declared.answer.Answer.{Answer}
-use Rattle.wtf_model.specs.declared.answer.Answer.TheVariants.{Begun, Committed, NotBuilt, FaultRead, FaultWrite, Damaged}
+use Rattle.wtf_model.specs.declared.answer.Answer.TheVariants.{Okay, Begun, Committed, NotBuilt, FaultRead, FaultWrite, Damaged}
 use Rattle.wtf_model.specs.declared.op.Op.{Op}
 use Rattle.wtf_model.specs.declared.op.Op.TheVariants as op
 use Rattle.wtf_model.specs.declared.op.Seek.TheVariants as to
@@ -20,7 +22,7 @@ use Rattle.wtf_model.specs.Tree.{Tree, IsTree, ◌>>=◌, bytes_of, target, sour
 use Rattle.wtf_model.specs.Session.{Session, Handle, fresh}
 use Rattle.wtf_model.specs.Call.{Done, call, or_refused, open_handle, handle_at, is_unused, fits, in_range, moved, put_bytes, create, open_file, read, write, seek}
 use Rattle.wtf_model.specs.Transaction.{Transaction, session_from, session_after}
-use Rattle.wtf_model.specs.Steps.{Machine, cap_of, called, after, after_client}
+use Rattle.wtf_model.specs.Steps.{Machine, cap_of, called, with_down, after, after_client}
 use Rattle.wtf_model.specs.Laws.{get-node_same, get-node_other, get-handle_same, get-handle_other}
 use Rattle.wtf_model.specs.TreeLaws.{IsFree-target, IsTree-new, IsTree-bytes, same_or_other}
 
@@ -130,7 +132,13 @@ client_keeps m c (Some t) verb.Try a is = is
 client_keeps m c (Some t) (verb.Call o) a is = called_keeps m c t o a is
 client_keeps m c t v a is = is
 
+with_down_keeps : (m : Machine) (down : FinSet nat_cmp) (a : Answer) → IsTree m.now → IsTree (with_down m down a).now
+with_down_keeps m down Okay is = is
+with_down_keeps m down a is = is
+
 -- the tree now stays a tree
 pub IsTree-after : (m : Machine) (e : Event) (a : Answer) → IsTree m.now → IsTree (after m e a).now
 IsTree-after m (event.Client c v) a is = client_keeps m c (get m.transactions c) v a is
+IsTree-after m (event.Down k) a is = with_down_keeps m (set.insert m.down k) a is
+IsTree-after m (event.Up k) a is = with_down_keeps m (set.remove m.down k) a is
 IsTree-after m e a is = is

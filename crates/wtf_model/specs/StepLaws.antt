@@ -1,11 +1,16 @@
 -- Laws of the machine's steps: what it may answer to a client whose transaction is known, and what leaves it as it is.
-use Rattle.std.proofs.Common.{◌≡◌, ◌↔◌, ◌⊎◌, ℕ, ◌+◌, ◌<◌, ◌||◌, Bool, true, false, List, [], ◌∷◌, ◌++◌, length, Option, Some, None, Result, Ok, Err, refl, sym, ap, subst, inl, inr}
-use Rattle.std.proofs.lemmas.Bool.{lt-leb}
+use Rattle.std.proofs.Common.{◌≡◌, ◌↔◌, ◌⊎◌, ℕ, ◌≢◌, ◌+◌, ◌<◌, ◌≤◌, ◌||◌, ◌&&◌, Bool, true, false, not, List, [], ◌∷◌, ◌++◌, length, Option, Some, None, Result, Ok, Err, refl, sym, ap, subst, ◌∙◌, inl, inr, eqb}
+use Rattle.std.proofs.lemmas.Bool.{lt-leb, lt-ltb, le-ltb, eq-eqb, ne_eqb, cond-true, cond-false}
 use Rattle.std.specs.Bool.{MatchBool}
 use Rattle.std.specs.FinMap.{get}
+use Rattle.std.specs.FinSet.{FinSet, contains, contains-empty, contains-insert, contains-remove}
+use Rattle.std.specs.FinSet as set
+use Rattle.std.specs.Ordering.{nat_cmp, eq_by_cmp}
+use Rattle.std.specs.Cmp.{nat_cmp_total, unsigned_tied}
 use Rattle.wtf_model.specs.declared.answer.Answer.{Answer}
-use Rattle.wtf_model.specs.declared.answer.Answer.TheVariants.{Okay, Shown, NotBuilt, FaultRead, FaultWrite, Damaged}
+use Rattle.wtf_model.specs.declared.answer.Answer.TheVariants.{Okay, Shown, Refused, NotBuilt, FaultRead, FaultWrite, Damaged}
 use Rattle.wtf_model.specs.declared.answer.Word.{Word}
+use Rattle.wtf_model.specs.declared.answer.Word.TheVariants.{NoServer}
 use Rattle.wtf_model.specs.declared.op.Op.{Op}
 use Rattle.wtf_model.specs.declared.op.Op.TheVariants as op
 use Rattle.wtf_model.specs.declared.op.Seek.TheVariants as to
@@ -13,11 +18,12 @@ use Rattle.wtf_model.specs.declared.event.Verb.{Verb}
 use Rattle.wtf_model.specs.declared.event.Verb.TheVariants as verb
 use Rattle.wtf_model.specs.declared.event.Event.{Event}
 use Rattle.wtf_model.specs.declared.event.Event.TheVariants as event
-use Rattle.wtf_model.specs.Tree.{◌>>=◌, target, source}
+use Rattle.wtf_base.specs.declared.settings.Settings.{Settings}
+use Rattle.wtf_model.specs.Tree.{Tree, ◌>>=◌, target, source}
 use Rattle.wtf_model.specs.Session.{Session}
 use Rattle.wtf_model.specs.Call.{Done, call, or_refused, handle_at, is_unused, fits, in_range, create, open_file, read, write, seek}
 use Rattle.wtf_model.specs.Transaction.{Transaction}
-use Rattle.wtf_model.specs.Steps.{Machine, May, MayClient, MayCall, MayFail, MayFailRead, MayFailWrite, is_later_client, session_of, cap_of, due, after, after_client, called, with_transaction}
+use Rattle.wtf_model.specs.Steps.{Machine, May, MayClient, MayCall, MayFail, MayFailRead, MayFailWrite, is_later_client, session_of, cap_of, due, after, after_client, called, with_transaction, is_down, server_answer, start}
 
 -- a verb that is built
 pub May-built : (m : Machine) (c : ℕ) (v : Verb) (a : Answer) (t : Option Transaction)
@@ -248,3 +254,45 @@ FaultWrite-only m c t o there h =
         | inr fails ↦ fault_write_of m.settings.servers o (due m t o) fails
       ]
     ]
+
+-- servers that go down and come up
+
+tied : (j k : ℕ) → eq_by_cmp nat_cmp j k ≡ eqb j k
+tied j k = unsigned_tied j k
+
+down_same : (s : FinSet nat_cmp) (k : ℕ) → contains (set.insert s k) k ≡ true
+down_same s k = contains-insert nat_cmp_total s k k ∙ ap (λ b. b || contains s k) (tied k k ∙ eq-eqb k k refl)
+
+down_other : (s : FinSet nat_cmp) (j k : ℕ) → j ≢ k → contains (set.insert s k) j ≡ contains s j
+down_other s j k ne = contains-insert nat_cmp_total s k j ∙ ap (λ b. b || contains s j) (tied j k ∙ ne_eqb j k ne)
+
+up_same : (s : FinSet nat_cmp) (k : ℕ) → contains (set.remove s k) k ≡ false
+up_same s k = contains-remove nat_cmp_total s k k ∙ ap (λ b. not b && contains s k) (tied k k ∙ eq-eqb k k refl)
+
+up_other : (s : FinSet nat_cmp) (j k : ℕ) → j ≢ k → contains (set.remove s k) j ≡ contains s j
+up_other s j k ne = contains-remove nat_cmp_total s k j ∙ ap (λ b. not b && contains s j) (tied j k ∙ ne_eqb j k ne)
+
+-- a server that was taken down is down, and the others are as they were
+pub is_down-down : (m : Machine) (k : ℕ) → is_down (after m (event.Down k) Okay) k ≡ true
+is_down-down m k = down_same m.down k
+
+pub is_down-down_other : (m : Machine) (j k : ℕ) → j ≢ k → is_down (after m (event.Down k) Okay) j ≡ is_down m j
+is_down-down_other m j k ne = down_other m.down j k ne
+
+-- and so for one that was brought up
+pub is_down-up : (m : Machine) (k : ℕ) → is_down (after m (event.Up k) Okay) k ≡ false
+is_down-up m k = up_same m.down k
+
+pub is_down-up_other : (m : Machine) (j k : ℕ) → j ≢ k → is_down (after m (event.Up k) Okay) j ≡ is_down m j
+is_down-up_other m j k ne = up_other m.down j k ne
+
+-- before the first event all servers are up
+pub is_down-start : (settings : Settings) (number : ℕ) (tree : Tree) (k : ℕ) → is_down (start settings number tree) k ≡ false
+is_down-start settings number tree k = contains-empty nat_cmp k
+
+-- what a line that names a server is answered
+pub server_answer-known : (m : Machine) (k : ℕ) → k < m.settings.servers → server_answer m k ≡ Okay
+server_answer-known m k h = cond-true _ _ _ (lt-ltb k m.settings.servers h)
+
+pub server_answer-unknown : (m : Machine) (k : ℕ) → m.settings.servers ≤ k → server_answer m k ≡ Refused NoServer
+server_answer-unknown m k h = cond-false _ _ _ (le-ltb k m.settings.servers h)

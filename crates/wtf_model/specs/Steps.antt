@@ -1,12 +1,15 @@
 -- The machine: committed transactions run whole, one by one, on one tree. `May` says which answers it may give to an
 -- event, and `after` what it is then. NSDI 2016, sections 2.6 and 2.7; refusals and limits are this store's own.
-use Rattle.std.specs.Prelude.{◌≡◌, ◌⊎◌, ◌<◌, ℕ, ◌+◌, ◌*◌, ◌||◌, ◌==◌, Bool, true, false, not, nat_lt, nat_le, is_some, List, [], ◌∷◌, ◌++◌, length, Option, Some, None}
+use Rattle.std.specs.Prelude.{◌≡◌, ◌⊎◌, ◌<◌, ℕ, ◌+◌, ◌*◌, ◌||◌, ◌==◌, Bool, true, false, not, nat_lt, nat_le, is_some, if◌then◌else◌, List, [], ◌∷◌, ◌++◌, length, Option, Some, None}
 use Rattle.std.specs.Bool.{MatchBool}
 use Rattle.std.specs.FinMap.{FinMap, get, insert, remove, empty, len}
+use Rattle.std.specs.FinSet.{FinSet}
+use Rattle.std.specs.FinSet as set
 use Rattle.std.specs.Ordering.{nat_cmp}
 use Rattle.wtf_base.specs.declared.settings.Settings.{Settings}
 use Rattle.wtf_model.specs.declared.answer.Answer.{Answer}
-use Rattle.wtf_model.specs.declared.answer.Answer.TheVariants.{Okay, Begun, Shown, Committed, NotBuilt, FaultRead, FaultWrite, Damaged}
+use Rattle.wtf_model.specs.declared.answer.Answer.TheVariants.{Okay, Begun, Shown, Committed, Refused, NotBuilt, FaultRead, FaultWrite, Damaged}
+use Rattle.wtf_model.specs.declared.answer.Word.TheVariants.{NoServer}
 use Rattle.wtf_model.specs.declared.op.Op.{Op}
 use Rattle.wtf_model.specs.declared.op.Op.TheVariants as op
 use Rattle.wtf_model.specs.declared.op.Seek.{Seek}
@@ -33,7 +36,7 @@ pub record Machine : Type 0 where
   pub scan_list : List ℕ
   pub parts_left : Option ℕ
   pub scans : ℕ
-  pub down : List ℕ
+  pub down : FinSet nat_cmp
   pub may_be_saved : List Tree
 
 -- the machine before the first event
@@ -48,13 +51,17 @@ start settings number tree = record {
   scan_list = [];
   parts_left = None;
   scans = 0;
-  down = [];
+  down = set.empty;
   may_be_saved = tree ∷ [];
 }
 
 -- the greatest length of a file
 abbrev pub cap_of : Machine → ℕ
 cap_of m = 4096 * m.settings.region
+
+-- server k is down
+abbrev pub is_down : Machine → ℕ → Bool
+is_down m k = set.contains m.down k
 
 -- what a transaction's calls have left of its base tree
 abbrev pub session_of : Machine → Transaction → Session
@@ -100,6 +107,8 @@ is_later_client m (Some t) v = true
 
 abbrev pub is_later : Machine → Event → Bool
 is_later m (event.Client c v) = is_later_client m (get m.transactions c) v
+is_later m (event.Down k) = false
+is_later m (event.Up k) = false
 is_later m e = true
 
 -- What the machine may answer:
@@ -135,8 +144,14 @@ MayClient m (Some t) verb.Try a = MayTry m t a
 MayClient m (Some t) (verb.Call o) a = MayCall m t o a
 MayClient m t v a = ⊥
 
+-- a line that takes server k down or up: there must be one
+abbrev pub server_answer : Machine → ℕ → Answer
+server_answer m k = if nat_lt k m.settings.servers then Okay else Refused NoServer
+
 abbrev pub MayBuilt : Machine → Event → Answer → Type 0
 MayBuilt m (event.Client c v) a = MayClient m (get m.transactions c) v a
+MayBuilt m (event.Down k) a = a ≡ server_answer m k
+MayBuilt m (event.Up k) a = a ≡ server_answer m k
 MayBuilt m e a = ⊥
 
 -- the machine may answer a to the event e
@@ -175,8 +190,15 @@ after_client m c (Some t) verb.Try a = committed m c t a
 after_client m c (Some t) (verb.Call o) a = called m c t o a
 after_client m c t v a = m
 
+-- other servers are down
+abbrev pub with_down : Machine → FinSet nat_cmp → Answer → Machine
+with_down m down Okay = record m { down = down }
+with_down m down a = m
+
 abbrev pub after : Machine → Event → Answer → Machine
 after m (event.Client c v) a = after_client m c (get m.transactions c) v a
+after m (event.Down k) a = with_down m (set.insert m.down k) a
+after m (event.Up k) a = with_down m (set.remove m.down k) a
 after m e a = m
 
 -- The machine may give these answers to these events, one after another, and what it is then

@@ -1,6 +1,6 @@
 //! Worked examples of the definitions, each proved.
 
-ghost use Rattle.std.specs.Prelude.{◌≡◌, ◌↔◌, ℕ, ◌+◌, ◌-◌, ◌*◌, ◌≤◌, ◌<◌, List, [], ◌∷◌, length, get_or, max, Option, Some, None, Bool, false, codes};
+ghost use Rattle.std.specs.Prelude.{◌≡◌, ◌≢◌, ◌↔◌, ℕ, ◌+◌, ◌-◌, ◌*◌, ◌≤◌, ◌<◌, List, [], ◌∷◌, length, get_or, max, Option, Some, None, Bool, true, false, codes};
 ghost use Rattle.std.specs.FinMap.{get, len};
 ghost use Rattle.wtf_path.specs.Parts.{parent_of};
 ghost use Rattle.wtf_base.specs.declared.settings.Settings.{Settings};
@@ -21,9 +21,9 @@ ghost use Rattle.wtf_model.specs.Session.{Session, Handle};
 ghost use Rattle.wtf_model.specs.Call.{call, bytes_at, written};
 ghost use Rattle.wtf_model.specs.CallLaws.{unchanged};
 ghost use Rattle.wtf_model.specs.Transaction.{Transaction, session_after, answers_of};
-ghost use Rattle.wtf_model.specs.Steps.{Machine, Accepts, May, start, after, session_of, due, is_later_client};
+ghost use Rattle.wtf_model.specs.Steps.{Machine, Accepts, May, start, after, session_of, due, is_later_client, is_down};
 ghost use Rattle.wtf_model.specs.StepLaws.{ShowsBytes, StoresBytes};
-ghost use Rattle.wtf_model.specs.Examples.{first_file_events, first_file_answers, overwrite_events, overwrite_answers, gap_calls, gap_answers, fault_events, fault_answers, OnlyNotBuilt};
+ghost use Rattle.wtf_model.specs.Examples.{first_file_events, first_file_answers, overwrite_events, overwrite_answers, gap_calls, gap_answers, fault_events, fault_answers, OnlyNotBuilt, OnlyServer};
 
 /// A first file: create, open, write, seek, read past the end, and commit. The read can show no other bytes, and the
 /// commit can have no other number.
@@ -118,6 +118,22 @@ pub fn faults_are_accepted()
         due m t (op.Write f (b ∷ bs)) ≡ answer.Okay → May m (event.Client c (verb.Call (op.Write f (b ∷ bs)))) answer.FaultWrite }
     ensures write_only { (m : Machine) (c : ℕ) (t : Transaction) (o : Op (List ℕ)) → get m.transactions c ≡ Some t → May m (event.Client c (verb.Call o)) answer.FaultWrite →
         StoresBytes o × (due m t o ≡ answer.Okay) }
+{}
+
+/// A line that takes a server down or up is answered `ok`, or `noserver` where there is none of that number. It changes
+/// that server alone, and no tree and no transaction.
+pub fn servers_go_down_and_up()
+    ensures known { (m : Machine) (k : ℕ) → k < m.settings.servers → OnlyServer m k answer.Okay }
+    ensures unknown { (m : Machine) (k : ℕ) → m.settings.servers ≤ k → OnlyServer m k (answer.Refused word.NoServer) }
+    ensures first { (settings : Settings) (number : ℕ) (tree : Tree) (k : ℕ) → is_down (start settings number tree) k ≡ false }
+    ensures down { (m : Machine) (k : ℕ) → is_down (after m (event.Down k) answer.Okay) k ≡ true }
+    ensures up { (m : Machine) (k : ℕ) → is_down (after m (event.Up k) answer.Okay) k ≡ false }
+    ensures down_alone { (m : Machine) (j k : ℕ) → j ≢ k → is_down (after m (event.Down k) answer.Okay) j ≡ is_down m j }
+    ensures up_alone { (m : Machine) (j k : ℕ) → j ≢ k → is_down (after m (event.Up k) answer.Okay) j ≡ is_down m j }
+    ensures unknown_down { (m : Machine) (k : ℕ) → after m (event.Down k) (answer.Refused word.NoServer) ≡ m }
+    ensures unknown_up { (m : Machine) (k : ℕ) → after m (event.Up k) (answer.Refused word.NoServer) ≡ m }
+    ensures rest_down { (m : Machine) (k : ℕ) → record (after m (event.Down k) answer.Okay) { down = m.down } ≡ m }
+    ensures rest_up { (m : Machine) (k : ℕ) → record (after m (event.Up k) answer.Okay) { down = m.down } ≡ m }
 {}
 
 /// The root alone is a tree, and each `create`, each run of calls and each step of the machine leaves a tree a tree.

@@ -4,12 +4,12 @@ use Rattle.wtf_cli.proofs.calls.open.Goals as goal
 
 pub returns-then-not-contains_key : goal.returns-then-not-contains_key
 returns-then-not-contains_key g c = record {
-  call = missing g.S.SliceStore.view c.args.shelf.now c.args.settings c.args.files.now.entries c.args.handles.now.entries c.args.label c.args.path c.requires.form c.requires.files c.requires.handles
+  call = missing g.S.SliceStore.view c.args.shelf.now c.args.cluster.now c.args.files.now.entries c.args.handles.now.entries c.args.label c.args.path c.requires.form c.requires.files c.requires.handles
       (none_is _ (sym c.contains_key.ensures ∙ c.if-contains_key.false)) (none_is _ (sym c.contains_key-2.ensures ∙ c.if-not-contains_key.true));
 }
 
 pub returns : goal.returns
 returns g c = record {
-  call = opened g.S.SliceStore.view c.args.shelf.now c.args.settings c.args.files.now.entries c.args.handles.now.entries c.open_handle.new.handles.entries c.args.label c.args.path c.requires.form c.requires.files c.requires.handles
+  call = opened g.S.SliceStore.view c.args.shelf.now c.args.cluster.now c.args.files.now.entries c.args.handles.now.entries c.open_handle.new.handles.entries c.args.label c.args.path c.requires.form c.requires.files c.requires.handles
       (none_is _ (sym c.contains_key.ensures ∙ c.if-contains_key.false)) (sym c.contains_key-2.ensures ∙ c.if-not-contains_key.false) c.in_ok-open_handle.ensures;
 }

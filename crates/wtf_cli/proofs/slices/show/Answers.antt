@@ -4,6 +4,7 @@ use Rattle.wtf_dev.specs.Each.{each_on}
 use Rattle.wtf_overlay.specs.declared.part.Piece.{Piece}
 use Rattle.wtf_cli.proofs.Places.{each_kept, pieces_inside_stay, same_lengths_on}
 use Rattle.wtf_cli.proofs.Showing.{Shown, shown_more, shows_since, piece_inside, piece_few, show_fault_within, among_one}
+use Rattle.wtf_replica.specs.Downs.{is_down}
 use Rattle.wtf_cli.proofs.slices.show.Goals as goal
 
 pub show_piece-requires-clause-inside : goal.show_piece-requires-clause-inside
@@ -17,7 +18,7 @@ show_piece-requires-clause-few g c =
 
 pub returns-in-Err-clause-fault : goal.returns-in-Err-clause-fault
 returns-in-Err-clause-fault g c =
-    show_fault_within g.S.SliceStore.view c.args.shelf.now c.loop-piece.shelf c.show_piece.new.shelf c.loop-piece.invariant.each.same_length
+    show_fault_within g.S.SliceStore.view (is_down c.args.replicas.now) c.args.shelf.now c.loop-piece.shelf c.show_piece.new.shelf c.loop-piece.invariant.each.same_length
     (each_kept g.S.SliceStore.view g.S.SliceStore.follows g.met.S.SliceStore.keeps c.args.shelf.now c.loop-piece.shelf c.loop-piece.invariant.each)
     (c.piece-item.result ∷ []) c.args.pieces.now (among_one c.args.pieces.now c.loop-piece.piece-index c.piece-item.result c.loop-piece-test.true (sym c.piece-item.is))
     c.in-Err.why c.in-Err.ensures.fault

@@ -1,6 +1,6 @@
 use Rattle.std.proofs.Common.{[], take}
 use Rattle.wtf_dev.specs.Each.{EachFollows}
-use Rattle.wtf_cli.specs.Stored.{SameLengths}
+use Rattle.wtf_replica.specs.Outs.{SameLengths}
 use Rattle.wtf_cli.proofs.Showing.{Shown}
 use Rattle.wtf_cli.proofs.slices.show.Given as goal
 

@@ -1,17 +1,35 @@
-use Rattle.std.proofs.Common.{◌∙◌, sym, subst}
-use Rattle.wtf_cli.specs.StandsFor.{StandsForBytes}
+use Rattle.std.proofs.Common.{◌<◌, ℕ, ◌∙◌, ap, sym, subst}
+use Rattle.std.specs.List.{All}
 use Rattle.wtf_model.specs.Call.{written}
-use Rattle.wtf_cli.proofs.FileBytes.{written_sound, written_bytes, tells_back}
+use Rattle.wtf_cli.specs.Clusters.{is_down_in}
+use Rattle.wtf_cli.specs.StandsFor.{StandsForBytes}
+use Rattle.wtf_cli.proofs.FileBytes.{written_sound, written_bytes, stored_near, stored_at, stored_holds, tells_back}
 use Rattle.wtf_cli.proofs.file.File.write_at.Goals as goal
 
 pub returns-in-Ok-push-clause-sound : goal.returns-in-Ok-push-clause-sound
 returns-in-Ok-push-clause-sound g c = λ _.
-    written_sound g.S.SliceStore.view g.S.SliceStore.follows g.met.S.SliceStore.keeps c.args.shelf.now c.create.new.shelf c.args.settings.servers c.args.self.now c.in-Ok.slice c.entry_of-entry.result c.max-self.result c.push.new.self
-    c.in-Ok.ensures.follows c.requires.sound c.in-Ok.ensures.inside (sym c.entry_of-entry.ensures.len) c.entry_of-entry.ensures.part c.in-Ok.ensures.servers c.max-self.ensures c.in-Ok-push.ensures.ok
+    let view = g.S.SliceStore.view in
+    let cluster = c.args.cluster.now in
+    let known : All (λ k. k < cluster.settings.servers) c.order-place.result.servers
+    = subst (λ (n : ℕ). All (λ k. k < n) c.order-place.result.servers) c.requires.cluster.ring c.order-place.ensures.order.known in
+    written_sound view g.S.SliceStore.follows g.met.S.SliceStore.keeps c.args.shelf.now c.create.new.shelf cluster.settings c.args.self.now c.in-Ok.slice c.entry_of-entry.result c.max-self.result c.push.new.self
+    c.in-Ok.ensures.follows c.requires.sound c.in-Ok.ensures.inside (sym c.entry_of-entry.ensures.len) c.entry_of-entry.ensures.part
+    (stored_near view (is_down_in cluster) c.args.shelf.now c.create.new.shelf cluster.settings.servers _ c.order-place.result c.args.bytes.now c.in-Ok.slice known c.in-Ok.ensures.stored)
+    (c.in-Ok.ensures.stored.width ∙ ap (λ s. s.replicas) c.requires.cluster.replicas) c.max-self.ensures c.in-Ok-push.ensures.ok
 
 pub returns-in-Ok-push-clause-bytes : goal.returns-in-Ok-push-clause-bytes
 returns-in-Ok-push-clause-bytes g c = λ _ all stands.
-    subst (λ off. StandsForBytes g.S.SliceStore.view c.create.new.shelf (record { end = c.max-self.result; list = c.push.new.self }) (written all off c.args.bytes.now)) c.entry_of-entry.ensures.off
-    (written_bytes g.S.SliceStore.view g.S.SliceStore.follows g.met.S.SliceStore.keeps c.args.shelf.now c.create.new.shelf c.args.settings.servers c.args.self.now c.in-Ok.slice c.entry_of-entry.result c.max-self.result c.push.new.self c.args.bytes.now all
-    c.in-Ok.ensures.follows c.requires.sound c.in-Ok.ensures.bytes (c.entry_of-entry.ensures.len ∙ c.in-Ok.ensures.len) c.entry_of-entry.ensures.part c.max-self.ensures c.in-Ok-push.ensures.ok
-    (tells_back g.S.SliceStore.view g.S.SliceStore.follows g.met.S.SliceStore.keeps c.args.shelf.now c.create.new.shelf c.in-Ok.ensures.follows) stands)
+    let view = g.S.SliceStore.view in
+    let cluster = c.args.cluster.now in
+    subst (λ off. StandsForBytes view c.create.new.shelf (record { inode = c.args.self.now.inode; end = c.max-self.result; list = c.push.new.self }) (written all off c.args.bytes.now)) c.entry_of-entry.ensures.off
+    (written_bytes view g.S.SliceStore.follows g.met.S.SliceStore.keeps c.args.shelf.now c.create.new.shelf cluster.settings c.args.self.now c.in-Ok.slice c.entry_of-entry.result c.max-self.result c.push.new.self c.args.bytes.now all
+    c.in-Ok.ensures.follows c.requires.sound (stored_holds view (is_down_in cluster) c.args.shelf.now c.create.new.shelf _ c.order-place.result c.args.bytes.now c.in-Ok.slice c.in-Ok.ensures.stored)
+    (c.entry_of-entry.ensures.len ∙ c.in-Ok.ensures.stored.len) c.entry_of-entry.ensures.part c.max-self.ensures c.in-Ok-push.ensures.ok
+    (tells_back view g.S.SliceStore.follows g.met.S.SliceStore.keeps c.args.shelf.now c.create.new.shelf c.in-Ok.ensures.follows) stands)
+
+pub returns-in-Ok-push-clause-stores : goal.returns-in-Ok-push-clause-stores
+returns-in-Ok-push-clause-stores g c = λ _. (
+  c.in-Ok.slice,
+  stored_at g.S.SliceStore.view c.args.shelf.now c.create.new.shelf c.args.cluster.now c.args.self.now.inode c.order-place.result c.args.bytes.now c.in-Ok.slice
+      c.requires.cluster c.order-place.ensures.value c.in-Ok.ensures.stored,
+)

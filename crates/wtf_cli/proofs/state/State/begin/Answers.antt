@@ -1,4 +1,5 @@
-use Rattle.std.proofs.Common.{sym, ◌∙◌, refl, Some}
+use Rattle.std.proofs.Common.{◌+◌, sym, ◌∙◌, refl, Some}
+use Rattle.wtf_cli.specs.declared.state.Running.{Running}
 use Rattle.wtf_cli.specs.declared.state.State.{State}
 use Rattle.wtf_cli.proofs.CallSteps.{none_is}
 use Rattle.wtf_cli.proofs.EventSteps.{not_built, begin_later, begun_step}
@@ -9,5 +10,7 @@ returns-then-is_some g c = not_built g.S.SliceStore.view c.args.shelf.now c.args
 
 pub returns : goal.returns
 returns g c =
-    let new : State = record { alloc = c.args.self.now.alloc; settings = c.args.self.now.settings; number = c.args.self.now.number; files = c.args.self.now.files; running = Some (record { client = c.args.client; calls = 0; handles = c.new.result }) } in
-    begun_step g.S.SliceStore.view c.args.shelf.now c.args.self.now new c.args.client (record { client = c.args.client; calls = 0; handles = c.new.result }) c.requires.sound (none_is _ (sym c.is_some.ensures ∙ c.if-is_some.false)) refl refl refl refl refl refl c.new.ensures.empty
+    let old = c.args.self.now in
+    let r : Running = record { client = c.args.client; tx = record { 0 = old.next_tx }; calls = 0; handles = c.new.result } in
+    let new : State = record { alloc = old.alloc; cluster = old.cluster; number = old.number; next_tx = old.next_tx + 1; files = old.files; running = Some r } in
+    begun_step g.S.SliceStore.view c.args.shelf.now old new c.args.client r c.requires.sound (none_is _ (sym c.is_some.ensures ∙ c.if-is_some.false)) refl refl refl refl refl refl refl refl c.new.ensures.empty

@@ -6,8 +6,8 @@ use Rattle.wtf_cli.proofs.state.State.commit.Goals as goal
 
 pub returns : goal.returns
 returns g c =
-    let new : State = record { alloc = c.args.self.now.alloc; settings = c.args.self.now.settings; number = c.args.self.now.number + 1; files = c.args.self.now.files; running = None } in
-    committed_step g.S.SliceStore.view c.args.shelf.now c.args.self.now new c.args.client c.in-Some.running c.requires.sound c.in-Some.is c.if-running-client.false refl refl refl refl
+    let new : State = record { alloc = c.args.self.now.alloc; cluster = c.args.self.now.cluster; number = c.args.self.now.number + 1; next_tx = c.args.self.now.next_tx; files = c.args.self.now.files; running = None } in
+    committed_step g.S.SliceStore.view c.args.shelf.now c.args.self.now new c.args.client c.in-Some.running c.requires.sound c.in-Some.is c.if-running-client.false refl refl refl refl refl
 
 pub returns-in_default : goal.returns-in_default
 returns-in_default g c = not_built g.S.SliceStore.view c.args.shelf.now c.args.self.now _ c.requires.sound (λ m stands. idle_later g.S.SliceStore.view c.args.shelf.now c.args.self.now c.args.client c.in_default.is m stands verb.Try refl)
