@@ -10,11 +10,14 @@ build: ## prove the program, and put it at build/wtf
 	mkdir -p build
 	cp $(PROGRAM)/out/wtf_cli build/wtf
 
-demo: ## run examples/first.wtf, built fast and without a proof, and compare what it prints
+demo: ## run the scripts of examples/, built fast and without a proof, and compare what they print
 	@mkdir -p build
-	@cd $(PROGRAM) && rt try -- - < ../../examples/first.wtf > ../../build/first.out
-	@cat build/first.out
-	@diff examples/first.out build/first.out && echo 'make: the output is that of examples/first.out'
+	@for name in first servers; do \
+		(cd $(PROGRAM) && rt try -- - < ../../examples/$$name.wtf > ../../build/$$name.out) || exit 1; \
+		cat build/$$name.out; \
+		diff examples/$$name.out build/$$name.out || exit 1; \
+		echo "make: the output is that of examples/$$name.out"; \
+	done
 
 test: ## the gate: prove every crate, try the wrong bodies, run the tests and the programs
 	rt ci
