@@ -1,6 +1,6 @@
-//! Slices on several servers. A slice is stored on as many servers as there are replicas, those of its place that are up
-//! and do not fail, and it is read from any of them (NSDI 2016, section 2.1, and replication in section 2.9). No call
-//! takes memory.
+//! Slices on several servers. A slice is stored on as many servers as there are replicas, the first ones of its place that
+//! are up and do not fail, and it is read from any of them (NSDI 2016, section 2: several pointers, on different servers, in
+//! one entry). No call takes memory.
 #![tactic(auto)]
 
 mod create;
