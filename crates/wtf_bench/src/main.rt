@@ -1,4 +1,5 @@
-//! Prints what the calls of `wtf_kv` cost on this machine, by the numbers of keys and of pins.
+//! Prints what calls cost on this machine: those of `wtf_kv`, by the numbers of keys and of pins, and those on
+//! slices, by the numbers of servers and of replicas and by the length of a slice.
 #![tactic(auto)]
 
 ghost use Rattle.std.specs.Prelude.{◌≡◌, ◌+◌, ◌<◌, OnOk, IsTrue};
@@ -6,9 +7,10 @@ ghost use Rattle.wtf_kv.specs.Stores.{is_live};
 
 mod entries;
 mod figures;
+mod slices;
 
 use crate::entries::{Count, Name};
-use crate::figures::{key_at, keys_of, pins_of, ratio};
+use crate::figures::{ROUNDS, key_at, keys_of, nanos, pins_of, show};
 use std::alloc::{AllocError, Global};
 use std::time::Instant;
 use std::{env, io};
@@ -20,8 +22,6 @@ use wtf_kv::{Changes, Kv};
 const READS: u64 = 10_000;
 
 const BATCH: u64 = 100;
-/// How many rounds a row has.
-const ROUNDS: u64 = 20;
 /// How many calls of a round each column stands for.
 const CALLS: [u64; 4] = [READS, READS, BATCH, 1];
 
@@ -29,42 +29,46 @@ const HEAD: &str = "  keys pins  read_at         version_at      install        
 
 const HELP: &str =
     "wtf_bench prints the nanoseconds of a call, in the best of 20 rounds, and the ratio to the first row.
+The first table is of a store of versions, by its keys and its pinned numbers.
 Reads are at the oldest pinned number. An install makes one change ready, and installs it.
 A prune follows 100 installs, each of another key.
+The second table is of slices on servers in memory, by the servers, the copies of a slice and its bytes.
+A ring is made once a round. An order asks it for the place of one file.
+A create stores one of 20 slices at one place, in files that begin empty. A fetch reads the last of them whole.
 ";
 
 type Map = Kv<Name, Count>;
 
 type Sets = Changes<Name, Count>;
 
-/// Prints the table; with any word it says what the table shows.
+/// Prints the tables; with any word it says what they show.
 fn main(rt: HostRuntime) -> io::Result<()> {
     if env::args(&rt)?.nth(1).is_some() {
         return rt.print(HELP);
     }
+    table(&rt)?;
+    rt.print("\n")?;
+    slices::table(&rt)
+}
+
+/// Prints the table of a store of versions.
+fn table(rt: &HostRuntime) -> io::Result<()> {
     rt.print(HEAD)?;
     let mut first = None;
     for size in 0..3 {
         for column in 0..2 {
             let (keys, pins) = (keys_of(size), pins_of(column));
-            let costs = measure(&rt, keys, pins)?;
+            let costs = measure(rt, keys, pins)?;
             let base = first.unwrap_or(costs);
             first = Some(base);
             print!(rt; "{keys:>6}{pins:>5}")?;
             for i in 0..4 {
-                show(&rt, costs[i], base[i], CALLS[i])?;
+                show(rt, costs[i], base[i], CALLS[i])?;
             }
             println!(rt; "")?;
         }
     }
     Ok(())
-}
-
-/// Prints the nanoseconds of one of the calls, and the ratio to the first row.
-fn show(rt: &impl Print, nanos: u64, base: u64, calls: u64) -> io::Result<()> {
-    let hundredths = ratio(nanos.min(1 << 55), base);
-    let (each, whole, part) = (nanos / calls.max(1), hundredths / 100, hundredths % 100);
-    print!(rt; "{each:>9}{whole:>4}.{part:02}")
 }
 
 /// The nanoseconds of the reads of values and of versions, the installs and the prune of a round, each
@@ -102,11 +106,6 @@ fn measure(rt: &HostRuntime, keys: u64, pins: u64) -> io::Result<[u64; 4]>
         least[3] = least[3].min(nanos(installed, pruned));
     }
     Ok(least)
-}
-
-/// The nanoseconds between two moments.
-fn nanos(from: Instant, to: Instant) -> u64 {
-    u64::try_from(to.duration_since(from).as_nanos()).unwrap_or(u64::MAX)
 }
 
 /// A change that gives a key a value.
