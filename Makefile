@@ -22,7 +22,7 @@ demo: ## run the scripts of examples/, built fast and without a proof, and compa
 test: ## the gate: prove every crate, try the wrong bodies, run the tests and the programs
 	rt ci
 
-bench: ## print the table of what calls cost, with ratios
+bench: ## print the tables of what calls cost, with ratios
 	@cd crates/wtf_bench && rt run
 
 clean: ## remove what was built
