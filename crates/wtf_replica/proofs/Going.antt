@@ -11,7 +11,6 @@ use Rattle.std.proofs.lemmas.List.Elements.{All-nil, Contains-append_left, Conta
 use Rattle.wtf_base.specs.declared.pointer.Pointer.{Pointer}
 use Rattle.wtf_base.specs.declared.slice.Slice.{Slice}
 use Rattle.wtf_base.specs.Slices.{pointers_of}
-use Rattle.wtf_dev.specs.Counts.{rose_in}
 use Rattle.wtf_dev.specs.Store.{Range, StoreView, Kept, Holds}
 use Rattle.wtf_dev.specs.Each.{EachFollows, each_same, each_on}
 use Rattle.wtf_dev.specs.Sums.{all_stored}
@@ -21,6 +20,7 @@ use Rattle.wtf_replica.specs.Outs.{HasRisen, IsOut, LeavesOut, SameSyncs}
 use Rattle.wtf_replica.specs.Copies.{bytes_in, IsNewCopy, IsCopyInside, IsStored}
 use Rattle.wtf_replica.specs.Faults.{AreTooFew}
 use Rattle.wtf_replica.specs.Placed.{placed}
+use Rattle.wtf_replica.proofs.Spans.{IsLeftDown, each_kept, lows_on, out_on, out_since, risen_on, risen_since, same_syncs_on}
 use Rattle.wtf_replica.proofs.Writing.{contains_cons, none_in, is_fresh, leaves_or_out, IsLow, len_of_first, leaves_weaker, leaves_skip, leaves_take, leaves_member, length-placed, All-placed, servers, placed_cases, placed_has, bytes_in-placed, Ascends, ascends_placed}
 
 one_more : (n m k : ℕ) → m ≡ n + 1 → m * k ≡ n * k + k
@@ -64,7 +64,7 @@ pub record Going {S : Type 0} (view : S → StoreView) (follows : S → S → Li
     (place : PlaceView) (i : ℕ) (bytes : List ℕ) (found : List Pointer) : Type 0 where
   pub each : EachFollows follows old now []
   pub syncs : SameSyncs view old now
-  pub lows : (k : ℕ) (d : S) → down k ≡ true → get_or now k d ≡ get_or old k d
+  pub lows : IsLeftDown down old now
   pub others : (k f : ℕ) (d : S) → f ≢ place.file → (view (get_or now k d)).size f ≡ (view (get_or old k d)).size f
   pub took : List ℕ
   pub took_len : length took ≡ length found
@@ -109,13 +109,10 @@ module _ {S : Type 0} (view : S → StoreView) (follows : S → S → List Range
   each_now = each_on follows on old mid new [] [] was.each tried.each
 
   syncs_now : SameSyncs view old new
-  syncs_now = λ j d h. tried.syncs j d (omega (arith, h, was.each.same_length)) ∙ was.syncs j d h
+  syncs_now = same_syncs_on view old mid new was.each.same_length was.syncs tried.syncs
 
-  lows_now : (j : ℕ) (d : S) → down j ≡ true → get_or new j d ≡ get_or old j d
-  lows_now j d low = elim (cases_eq j k) [
-    | inl is ↦ ap (λ (xs : List S). get_or xs j d) (tried.same (subst (λ (n : ℕ). down n ≡ true) is low)) ∙ was.lows j d low
-    | inr ne ↦ tried.elsewhere j d ne ∙ was.lows j d low
-  ]
+  lows_now : IsLeftDown down old new
+  lows_now = lows_on down old mid new k was.lows tried.same tried.elsewhere
 
   others_now : (j f : ℕ) (d : S) → f ≢ place.file → (view (get_or new j d)).size f ≡ (view (get_or old j d)).size f
   others_now j f d other = elim (cases_eq j k) [
@@ -123,29 +120,21 @@ module _ {S : Type 0} (view : S → StoreView) (follows : S → S → List Range
     | inr ne ↦ ap (λ (s : S). (view s).size f) (tried.elsewhere j d ne) ∙ was.others j f d other
   ]
 
-  -- what rose before has risen
-  risen_on : (j : ℕ) → HasRisen view old mid j → HasRisen view old new j
-  risen_on j r = (
-    r.0,
-    λ d.
-        let h : j < length mid = omega (arith, r.0, was.each.same_length) in
-        rose_in _ _ _ _ (omega arith) (r.1 d) (keeps _ _ _ (tried.each.each j d h)).faults,
-  )
+  -- what rose or is out before this try, or in it, is so in both
+  rose_before : (j : ℕ) → HasRisen view old mid j → HasRisen view old new j
+  rose_before = risen_on view old mid new was.each.same_length (each_kept view follows keeps mid new tried.each)
 
-  -- what rose in this try has risen
-  risen_since : (j : ℕ) → HasRisen view mid new j → HasRisen view old new j
-  risen_since j r =
-      let h : j < length old = omega (arith, r.0, was.each.same_length) in
-      (h, λ d. rose_in _ _ _ _ (keeps _ _ _ (was.each.each j d h)).faults (r.1 d) (omega arith))
+  rose_here : (j : ℕ) → HasRisen view mid new j → HasRisen view old new j
+  rose_here = risen_since view old mid new was.each.same_length (each_kept view follows keeps old mid was.each)
 
-  out_on : (j : ℕ) → IsOut view down old mid j → IsOut view down old new j
-  out_on j out = elim out [ inl d ↦ inl d | inr r ↦ inr (risen_on j r) ]
+  out_before : (j : ℕ) → IsOut view down old mid j → IsOut view down old new j
+  out_before = out_on view down old mid new was.each.same_length (each_kept view follows keeps mid new tried.each)
 
-  out_since : (j : ℕ) → IsOut view down mid new j → IsOut view down old new j
-  out_since j out = elim out [ inl d ↦ inl d | inr r ↦ inr (risen_since j r) ]
+  out_here : (j : ℕ) → IsOut view down mid new j → IsOut view down old new j
+  out_here = out_since view down old mid new was.each.same_length (each_kept view follows keeps old mid was.each)
 
   written_on : LeavesOut (IsOut view down old new) (take i place.servers) was.took
-  written_on = leaves_weaker (IsOut view down old mid) (IsOut view down old new) out_on (take i place.servers) was.took was.written
+  written_on = leaves_weaker (IsOut view down old mid) (IsOut view down old new) out_before (take i place.servers) was.took was.written
 
   -- no copy is on this server yet
   no_copy : Contains (servers found) k → ⊥
@@ -179,20 +168,20 @@ module _ {S : Type 0} (view : S → StoreView) (follows : S → S → List Range
     ascends = was.ascends;
     untouched = untouched_now;
     written = subst (λ (t : List ℕ). LeavesOut (IsOut view down old new) t was.took) (sym next)
-        (leaves_skip (IsOut view down old new) (take i place.servers) was.took k written_on (out_since k out));
+        (leaves_skip (IsOut view down old new) (take i place.servers) was.took k written_on (out_here k out));
     grew = λ j f d h. elim (was.grew j f d h) [
-      | inl r ↦ inl (risen_on j r)
+      | inl r ↦ inl (rose_before j r)
       | inr e ↦ elim (cases_eq j k) [
         | inr ne ↦ inr (ap (λ (s : S). (view s).size f) (tried.elsewhere j d ne) ∙ e)
         | inl is ↦ elim out [
           | inl low ↦ inr (ap (λ (xs : List S). (view (get_or xs j d)).size f) (tried.same low) ∙ e)
-          | inr r ↦ inl (subst (λ (n : ℕ). HasRisen view old new n) (sym is) (risen_since k r))
+          | inr r ↦ inl (subst (λ (n : ℕ). HasRisen view old new n) (sym is) (rose_here k r))
         ]
       ]
     ];
     total = λ none. elim out [
-      | inl low ↦ ap (λ (xs : List S). all_stored view xs) (tried.same low) ∙ was.total (λ j r. none j (risen_on j r))
-      | inr r ↦ absurd (none k (risen_since k r))
+      | inl low ↦ ap (λ (xs : List S). all_stored view xs) (tried.same low) ∙ was.total (λ j r. none j (rose_before j r))
+      | inr r ↦ absurd (none k (rose_here k r))
     ];
   }
 
@@ -257,7 +246,7 @@ module _ {S : Type 0} (view : S → StoreView) (follows : S → S → List Range
       written = subst (λ (t : List ℕ). LeavesOut (IsOut view down old new) t (was.took ++ k ∷ [])) (sym next)
           (leaves_take (IsOut view down old new) (take i place.servers) was.took k written_on);
       grew = λ j f d h. elim (was.grew j f d h) [
-        | inl r ↦ inl (risen_on j r)
+        | inl r ↦ inl (rose_before j r)
         | inr e ↦ elim (cases_eq j p.server.0) [
           | inl is ↦ inr (subst (λ (n : ℕ). (view (get_or new n d)).size f ≡ (view (get_or old n d)).size f + bytes_in (placed p found) n f) (sym is)
               (grew_here f d (subst (λ (n : ℕ). (view (get_or mid n d)).size f ≡ (view (get_or old n d)).size f + bytes_in found n f) is e)))
@@ -265,7 +254,7 @@ module _ {S : Type 0} (view : S → StoreView) (follows : S → S → List Range
         ]
       ];
       total = λ none.
-          let before : all_stored view mid ≡ all_stored view old + length found * length bytes = was.total (λ j r. none j (risen_on j r)) in
+          let before : all_stored view mid ≡ all_stored view old + length found * length bytes = was.total (λ j r. none j (rose_before j r)) in
           let more : length (placed p found) * length bytes ≡ length found * length bytes + length bytes = one_more (length found) (length (placed p found)) (length bytes) (length-placed p found) in
           omega (arith, stored, before, more);
     }

@@ -1,3 +1,4 @@
+pub mod Spans
 pub mod Reading
 pub mod Writing
 pub mod Going

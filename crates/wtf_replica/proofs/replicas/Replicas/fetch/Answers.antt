@@ -2,7 +2,8 @@ use Rattle.std.proofs.Common.{[]}
 use Rattle.wtf_base.specs.Slices.{pointers_of}
 use Rattle.wtf_dev.specs.Each.{each_on}
 use Rattle.wtf_replica.specs.Downs.{is_down}
-use Rattle.wtf_replica.proofs.Reading.{each_kept, fetched, lows_on, next_last, next_out, same_lengths_on, same_syncs_on}
+use Rattle.wtf_replica.proofs.Reading.{fetched, next_last, next_out}
+use Rattle.wtf_replica.proofs.Spans.{each_kept, lows_on, same_lengths_on, same_syncs_on}
 use Rattle.wtf_replica.proofs.replicas.Replicas.fetch.Goals as goal
 
 pub returns-then-read_copy-clause-fetched : goal.returns-then-read_copy-clause-fetched

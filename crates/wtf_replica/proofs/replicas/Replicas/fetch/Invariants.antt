@@ -6,7 +6,7 @@ use Rattle.wtf_dev.specs.Each.{EachFollows}
 use Rattle.wtf_replica.specs.Downs.{is_down}
 use Rattle.wtf_replica.specs.Outs.{IsOut, SameLengths, SameSyncs}
 use Rattle.wtf_replica.specs.Faults.{last_server}
-use Rattle.wtf_replica.proofs.Reading.{IsLeftDown}
+use Rattle.wtf_replica.proofs.Spans.{IsLeftDown}
 use Rattle.wtf_replica.proofs.replicas.Replicas.fetch.Given as goal
 
 -- nothing was done to servers that are down; the servers of the copies before copy i are out, and `last` is that of the one before it

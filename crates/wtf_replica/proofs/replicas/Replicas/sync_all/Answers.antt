@@ -2,7 +2,8 @@ use Rattle.std.proofs.Common.{◌≡◌, false, [], arith, below_more}
 use Rattle.wtf_dev.specs.Each.{each_on}
 use Rattle.wtf_replica.specs.Downs.{is_down}
 use Rattle.wtf_replica.specs.Outs.{HasSynced}
-use Rattle.wtf_replica.proofs.Reading.{each_kept, lows_on, same_lengths_on, synced_on, synced_since}
+use Rattle.wtf_replica.proofs.Reading.{synced_on, synced_since}
+use Rattle.wtf_replica.proofs.Spans.{each_kept, lows_on, same_lengths_on}
 use Rattle.wtf_replica.proofs.replicas.Replicas.sync_all.Goals as goal
 
 pub returns-then-not-try_sync-clause-follows : goal.returns-then-not-try_sync-clause-follows

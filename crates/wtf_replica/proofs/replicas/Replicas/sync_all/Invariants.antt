@@ -2,7 +2,7 @@ use Rattle.std.proofs.Common.{◌≡◌, ◌<◌, ℕ, false, []}
 use Rattle.wtf_dev.specs.Each.{EachFollows}
 use Rattle.wtf_replica.specs.Downs.{is_down}
 use Rattle.wtf_replica.specs.Outs.{HasSynced, SameLengths}
-use Rattle.wtf_replica.proofs.Reading.{IsLeftDown}
+use Rattle.wtf_replica.proofs.Spans.{IsLeftDown}
 use Rattle.wtf_replica.proofs.replicas.Replicas.sync_all.Given as goal
 
 -- nothing was done to servers that are down; the servers before server k are up, and their stores were synced
