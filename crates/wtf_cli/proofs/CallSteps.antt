@@ -19,13 +19,14 @@ use Rattle.wtf_model.specs.Tree.{root}
 use Rattle.wtf_model.specs.Session.{Session, Handle}
 use Rattle.wtf_model.specs.Call.{call}
 use Rattle.wtf_model.specs.Steps.{Machine, cap_of, is_later_call}
+use Rattle.wtf_model.specs.StepLaws.{IsLogged}
 use Rattle.wtf_cli.specs.declared.cluster.Cluster.{Cluster}
 use Rattle.wtf_cli.specs.declared.file.File.{File}
 use Rattle.wtf_cli.specs.declared.tables.Opened.{Opened}
 use Rattle.wtf_cli.specs.declared.calls.Called.TheVariants.{Logged, Later}
 use Rattle.wtf_cli.specs.Tables.{file_at, opened_at, SetsFile, SetsHandle}
 use Rattle.wtf_cli.specs.StandsFor.{IsSoundFile, StandsForBytes, StandsForNode, StandsForSession, handle_of, AreSoundFiles, AreSoundHandles}
-use Rattle.wtf_cli.specs.Calls.{IsCall, IsLogged}
+use Rattle.wtf_cli.specs.Calls.{IsCall}
 use Rattle.wtf_cli.specs.Clusters.{is_down_in}
 use Rattle.wtf_cli.specs.Outcomes.{AddsBytes, HasCause, data_of_op, IsNeeded, IsTarget}
 use Rattle.wtf_cli.proofs.Rows.{create_free, create_taken, open_found, open_missing, seek_closed, seek_open}

@@ -22,7 +22,7 @@ use Rattle.wtf_model.specs.Session.{fresh}
 use Rattle.wtf_model.specs.Transaction.{Transaction, session_from, answers_from, session_after, answers_of}
 use Rattle.wtf_model.specs.Laws.{session_from-push, answers_from-push}
 use Rattle.wtf_model.specs.Steps.{Machine, May, cap_of, session_of, is_down, is_full, is_later, is_later_call, is_later_client, MayBuilt, MayClient, after, after_client, begun, called, committed, with_transaction, server_answer}
-use Rattle.wtf_model.specs.StepLaws.{is_down-down, is_down-down_other, is_down-up, is_down-up_other, server_answer-known, server_answer-unknown}
+use Rattle.wtf_model.specs.StepLaws.{IsLogged, after-NotBuilt, called-logged, logged, is_down-down, is_down-down_other, is_down-up, is_down-up_other, server_answer-known, server_answer-unknown}
 use Rattle.wtf_cli.specs.declared.cluster.Cluster.{Cluster}
 use Rattle.wtf_cli.specs.declared.file.File.{File}
 use Rattle.wtf_cli.specs.declared.calls.Called.TheVariants.{Logged, Failed, Later}
@@ -33,7 +33,7 @@ use Rattle.wtf_cli.specs.Tables.{file_at, opened_at}
 use Rattle.wtf_cli.specs.Clusters.{IsSoundCluster, is_down_in}
 use Rattle.wtf_cli.specs.Inodes.{AreNumbered, HasInode, KeepInodes, next_inode}
 use Rattle.wtf_cli.specs.Outcomes.{AddsBytes, HasCause, IsNeeded, IsNeededBy, IsTarget, IsTargetOf, data_of, data_of_op, handles_of}
-use Rattle.wtf_cli.specs.Calls.{IsCall, IsLogged, IsStoreFault}
+use Rattle.wtf_cli.specs.Calls.{IsCall, IsStoreFault}
 use Rattle.wtf_cli.specs.Events.{IsStep}
 use Rattle.wtf_cli.proofs.TableLaws.{same_label, label_at_itself}
 
@@ -59,36 +59,6 @@ as_many m k v w some = len-insert nat_cmp_total m k v ∙ cond-true _ _ _ (ap is
 
 pub one_less : {X : Type 0} (m : FinMap nat_cmp X) (k : ℕ) (w : X) → get m k ≡ Some w → len m ≡ 1 → len (remove m k) ≡ 0
 one_less m k w some one = len-remove nat_cmp_total m k ∙ cond-true _ _ _ (ap is_some some) ∙ omega (arith, one)
-
--- What `notbuilt` leaves
-
-pub same_client : (m : Machine) (c : ℕ) (o : Option Transaction) (v : Verb) → after_client m c o v answer.NotBuilt ≡ m
-same_client m c None verb.Begin = refl
-same_client m c None verb.Try = refl
-same_client m c None verb.Step = refl
-same_client m c None verb.Commit = refl
-same_client m c None verb.Abort = refl
-same_client m c None (verb.Call o) = refl
-same_client m c (Some t) verb.Begin = refl
-same_client m c (Some t) verb.Try = refl
-same_client m c (Some t) verb.Step = refl
-same_client m c (Some t) verb.Commit = refl
-same_client m c (Some t) verb.Abort = refl
-same_client m c (Some t) (verb.Call o) = refl
-
-pub same_machine : (m : Machine) (e : Event) → after m e answer.NotBuilt ≡ m
-same_machine m (event.Client c v) = same_client m c (get m.transactions c) v
-same_machine m (event.Plan j k p r) = refl
-same_machine m (event.Put j) = refl
-same_machine m (event.DropJob j) = refl
-same_machine m event.Scan = refl
-same_machine m (event.Piece k) = refl
-same_machine m (event.Collect k) = refl
-same_machine m (event.Down k) = refl
-same_machine m (event.Up k) = refl
-same_machine m event.Save = refl
-same_machine m (event.Dump p) = refl
-same_machine m event.Tree = refl
 
 -- What a step leaves
 
@@ -129,7 +99,7 @@ not_built view shelf state e sound is = record {
   number = omega arith;
   numbered = numbers_stay state.next_tx state.running;
   inodes = inodes_stay state.files.entries state.files.entries (next_inode state.running) refl;
-  stands = λ m stands. subst (StandsFor view shelf state) (sym (same_machine m e)) stands;
+  stands = λ m stands. subst (StandsFor view shelf state) (sym (after-NotBuilt m e)) stands;
   may = λ m stands _. subst (λ b. MatchBool b (answer.NotBuilt ≡ answer.NotBuilt) (MayBuilt m e answer.NotBuilt)) (sym (is m stands)) refl;
   later = λ m stands. (λ _. is m stands, λ _. refl);
   adds = nothing_added view shelf state e;
@@ -354,14 +324,6 @@ up_step view shelf state cluster k a sound is settings known up others unknown s
 
 -- Calls
 
-called_logged : (m : Machine) (c : ℕ) (t : Transaction) (o : Op (List ℕ)) (a : Answer) → IsLogged a
-    → called m c t o a ≡ with_transaction m c (record t { ops = t.ops ++ o ∷ []; shown = t.shown ++ a ∷ []; replayed = t.replayed + 1 })
-called_logged m c t o answer.FaultWrite h = absurd h
-called_logged m c t o (answer.FaultRead k) h = absurd h
-called_logged m c t o (answer.Damaged k) h = absurd h
-called_logged m c t o answer.NotBuilt h = absurd h
-called_logged m c t o a h = refl
-
 called_failed : (m : Machine) (c : ℕ) (t : Transaction) (o : Op (List ℕ)) (a : Answer) → IsStoreFault a → called m c t o a ≡ m
 called_failed m c t o answer.FaultWrite h = refl
 called_failed m c t o (answer.FaultRead k) h = refl
@@ -430,7 +392,7 @@ logged_step view before after' old new c r o q a sound some client few is inodes
       let t = mine view before old c r some client m stands in
       let call_is = is.stands m (session_of m t.0) stands.settings t.4.session in
       subst (λ p. StandsFor view after' new (after_client m c p (verb.Call o) a)) (sym t.1)
-      (subst (StandsFor view after' new) (sym (called_logged m c t.0 o a call_is.0)) (record {
+      (subst (StandsFor view after' new) (sym (called-logged m c t.0 o a call_is.0)) (record {
         settings = stands.settings ∙ ap (λ (c : Cluster). c.settings) (sym cluster);
         down = downs_stay old.cluster new.cluster m cluster stands.down;
         number = stands.number ∙ sym number;
@@ -463,7 +425,7 @@ logged_step view before after' old new c r o q a sound some client few is inodes
 }
   where
     longer : Transaction → Transaction
-    longer t = record t { ops = t.ops ++ o ∷ []; shown = t.shown ++ a ∷ []; replayed = t.replayed + 1 }
+    longer t = logged t o a
 
     built : (m : Machine) → StandsFor view before old m → is_later m (event.Client c (verb.Call o)) ≡ false
     built m stands =
@@ -543,7 +505,7 @@ later_step view before after' old new c r o q sound some client few is inodes cl
   stands = λ m stands.
       let t = mine view before old c r some client m stands in
       let call_is = is.stands m (session_of m t.0) stands.settings t.4.session in
-      subst (StandsFor view after' new) (sym (same_machine m (event.Client c (verb.Call o)))) (same m stands t.0 t.1 t.2 t.3 t.4 call_is.session);
+      subst (StandsFor view after' new) (sym (after-NotBuilt m (event.Client c (verb.Call o)))) (same m stands t.0 t.1 t.2 t.3 t.4 call_is.session);
   may = λ m stands _. subst (λ b. MatchBool b (answer.NotBuilt ≡ answer.NotBuilt) (MayBuilt m (event.Client c (verb.Call o)) answer.NotBuilt)) (sym (left m stands)) refl;
   later = λ m stands. (λ _. left m stands, λ _. refl);
   adds = call_adds view before after' old c r o answer.NotBuilt some is.adds;

@@ -4,7 +4,7 @@ use Rattle.std.specs.List.{All, Contains}
 use Rattle.std.proofs.lemmas.Bool.{cases_lt, cond-true, cond-false, lt-ltb, le-ltb, cond_both, and_parts, leb-true, ltb-true}
 use Rattle.std.proofs.lemmas.List.{get_or_past, get_or-map, length-map}
 use Rattle.std.proofs.lemmas.Grind.{same_number_lists}
-use Rattle.std.proofs.lemmas.List.Elements.{All-nil, All-cons, All-head, All-tail, All-map, All-weaker}
+use Rattle.std.proofs.lemmas.List.Elements.{All-nil, All-cons, All-head, All-tail, All-map, All-take, All-weaker}
 use Rattle.wtf_base.specs.declared.slice.Slice.{Slice}
 use Rattle.wtf_base.specs.declared.pointer.Pointer.{Pointer}
 use Rattle.wtf_base.specs.declared.slice.Extents.{Extents}
@@ -22,7 +22,7 @@ use Rattle.wtf_overlay.specs.declared.part.Entry.{Entry}
 use Rattle.wtf_overlay.specs.declared.part.Piece.{Piece}
 use Rattle.wtf_overlay.specs.Origin.{Place, place_in, part_origin, covers, over, origin, pieces_len, pieces_origin, Plans}
 use Rattle.wtf_overlay.specs.Origins.{origin-push, over_before, over_within, over_after}
-use Rattle.wtf_overlay.specs.Meaning.{meaning}
+use Rattle.wtf_overlay.specs.Meaning.{meaning, meaning-All}
 use Rattle.wtf_model.specs.Call.{written}
 use Rattle.wtf_model.specs.Laws.{length-written, written_before, written_within, written_after, length-part, get_or-part}
 use Rattle.wtf_cli.specs.declared.cluster.Cluster.{Cluster}
@@ -37,12 +37,7 @@ use Rattle.wtf_replica.specs.Faults.{last_server}
 use Rattle.wtf_cli.specs.Stored.{told_at, IsPlaceInside, AscendFrom, HasCopies, HoldsBytes, ShowsPieces, IsShowFault}
 use Rattle.wtf_cli.specs.StandsFor.{IsSoundFile, StandsForBytes}
 use Rattle.wtf_cli.specs.Outcomes.{last_of, IsReadCause}
-use Rattle.wtf_cli.proofs.Places.{told_meaning, told_stays, places_inside_stay, part_inside}
-
--- some store of a shelf that has one
-pub some_store : {S : Type 0} (xs : List S) → 1 ≤ length xs → S
-some_store [] h = absurd (omega arith)
-some_store (x ∷ xs) h = x
+use Rattle.wtf_cli.proofs.Places.{element, told_stays, places_inside_stay, part_inside}
 
 -- each byte of a file, also past its end, where it is 0
 pub byte_of : {S : Type 0} (view : S → StoreView) (shelf : List S) (settings : Settings) (file : File) (all : List ℕ) → IsSoundFile view shelf settings file → StandsForBytes view shelf file all → TellsAll view shelf
@@ -58,7 +53,7 @@ pub read_bytes : {S : Type 0} (view : S → StoreView) (shelf : List S) (file : 
 read_bytes view shelf file off count n pieces xs all some is plans len shows tells stands =
     let whole : length xs ≡ n = len ∙ plans.len in
     let size : length xs ≡ length (take count (drop off all)) = omega (arith, whole, is, stands.end, length-part count off all) in
-    let d = some_store shelf some in
+    let d = element shelf 0 some in
     same_number_lists xs (take count (drop off all)) size (λ k h.
     let at : k < n = omega (arith, h, whole) in
     let told : meaning (told_at view d shelf) (pieces_origin pieces k) ≡ Some (get_or all (off + k) 0) =
@@ -100,12 +95,6 @@ known_taken P Out (j ∷ order) [] all left = All-nil P
 known_taken P Out (j ∷ order) (k ∷ taken) all (inl here) =
     All-cons P k taken (subst P here.0 (All-head P j order all)) (known_taken P Out order taken (All-tail P j order all) here.1)
 known_taken P Out (j ∷ order) (k ∷ taken) all (inr there) = known_taken P Out order (k ∷ taken) (All-tail P j order all) there.1
-
--- what holds of a list holds of its front
-All-take : (P : ℕ → Type 0) (n : ℕ) (ks : List ℕ) → All P ks → All P (take n ks)
-All-take P zero ks all = All-nil P
-All-take P (suc n) [] all = All-nil P
-All-take P (suc n) (k ∷ ks) all = All-cons P k (take n ks) (All-head P k ks all) (All-take P n ks (All-tail P k ks all))
 
 -- the copies of a slice that was stored are on servers of its place
 pub stored_near : {S : Type 0} (view : S → StoreView) (down : ℕ → Bool) (old new : List S) (n replicas : ℕ) (place : PlaceView) (bytes : List ℕ) (s : Slice)
@@ -150,7 +139,7 @@ stored_holds view down old new replicas place bytes s stored tells = λ d i belo
     (λ p copy. copy_tells view down old new place.file bytes d i p below tells copy) (pointers_of s) stored.copies) in
     let (p, ps, is) = some_pointer s.len s.extents in
     subst (λ (l : List Pointer). meaning f (map (place_in i) l) ≡ Some b) (sym is)
-    (told_meaning f b (place_in i p) (map (place_in i) ps) (subst (λ (l : List Pointer). All (λ q. f q ≡ Some b) (map (place_in i) l)) is all))
+    (meaning-All f (place_in i p) (map (place_in i) ps) b (subst (λ (l : List Pointer). All (λ q. f q ≡ Some b) (map (place_in i) l)) is all))
 
 pub written_sound : {S : Type 0} (view : S → StoreView) (follows : S → S → List Range → Type 0) → ((a b : S) (xs : List Range) → follows a b xs → Kept (view a) (view b) xs)
     → (before after : List S) (settings : Settings) (file : File) (slice : Slice) (e : Entry) (end : ℕ) (list : List Entry)

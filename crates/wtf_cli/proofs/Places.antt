@@ -1,7 +1,6 @@
 -- What stays of slices and of their places while the stores of a shelf go on.
-use Rattle.std.proofs.Common.{◌≡◌, ℕ, ◌-◌, ◌<◌, ◌≤◌, Bool, true, false, cond, List, [], ◌∷◌, length, get_or, map, Option, Some, None, refl, sym, ◌∙◌, ap, subst, arith, inl, inr}
-use Rattle.std.specs.List.{All, list_all}
-use Rattle.std.proofs.lemmas.Bool.{eqb-true, eq-eqb, and_parts, and_from, cond-true}
+use Rattle.std.proofs.Common.{◌≡◌, ℕ, ◌-◌, ◌<◌, ◌≤◌, Bool, List, [], ◌∷◌, length, get_or, map, Option, Some, refl, sym, ◌∙◌, arith, inl, inr}
+use Rattle.std.specs.List.{All}
 use Rattle.std.proofs.lemmas.List.Elements.{All-nil, All-cons, All-head, All-tail, All-map, All-weaker}
 use Rattle.wtf_base.specs.declared.pointer.Pointer.{Pointer}
 use Rattle.wtf_base.specs.declared.slice.Slice.{Slice}
@@ -15,7 +14,7 @@ use Rattle.wtf_dev.specs.Sums.{all_stored, stored_bytes, stored-same, sum_grows}
 use Rattle.wtf_overlay.specs.declared.part.Part.TheVariants.{Held}
 use Rattle.wtf_overlay.specs.declared.part.Piece.{Piece}
 use Rattle.wtf_overlay.specs.Origin.{Place, place_in, part_origin, pieces_origin}
-use Rattle.wtf_overlay.specs.Meaning.{meaning, tell_the_same}
+use Rattle.wtf_overlay.specs.Meaning.{meaning, All-meaning, meaning-All}
 use Rattle.wtf_replica.specs.Outs.{HasRisen, IsOut, SameLengths}
 use Rattle.wtf_replica.specs.Copies.{IsInside}
 use Rattle.wtf_replica.specs.Faults.{AreAllOut}
@@ -30,55 +29,22 @@ pub each_kept : {S : Type 0} (view : S → StoreView) (follows : S → S → Lis
     → (old new : List S) → EachFollows follows old new [] → EachKept view old new
 each_kept view follows keeps old new e = λ k d h. keeps (get_or old k d) (get_or new k d) [] (e.each k d h)
 
+-- some element of a list that has one at k
+pub element : {X : Type 0} (xs : List X) (k : ℕ) → k < length xs → X
+element [] k h = absurd (omega (arith, h))
+element (x ∷ xs) k h = x
+
 -- of a list that is mapped, back to the list
 pub All-unmap : {X Y : Type 0} (P : Y → Type 0) (f : X → Y) (xs : List X) → All P (map f xs) → All (λ x. P (f x)) xs
 All-unmap P f [] h = All-nil (λ x. P (f x))
 All-unmap P f (x ∷ xs) h = All-cons (λ y. P (f y)) x xs (All-head P (f x) (map f xs) h) (All-unmap P f xs (All-tail P (f x) (map f xs) h))
 
-same_told : (a : ℕ) (o : Option ℕ) → tell_the_same (Some a) o ≡ true → o ≡ Some a
-same_told a (Some b) h = ap (λ (n : ℕ). Some n) (sym (eqb-true a b h))
-same_told a None h = cc
-
-same_tells : (a : ℕ) (o : Option ℕ) → o ≡ Some a → tell_the_same (Some a) o ≡ true
-same_tells a (Some b) h = eq-eqb a b cc
-same_tells a None h = cc
-
-all_told : (f : Place → Option ℕ) (o : Option ℕ) (b : ℕ) (qs : List Place) → o ≡ Some b → list_all (λ q. tell_the_same o (f q)) qs ≡ true → All (λ q. f q ≡ Some b) qs
-all_told f o b [] e h = All-nil (λ q. f q ≡ Some b)
-all_told f o b (q ∷ qs) e h =
-    let parts = and_parts (tell_the_same o (f q)) (list_all (λ p. tell_the_same o (f p)) qs) h in
-    All-cons (λ p. f p ≡ Some b) q qs (same_told b (f q) (subst (λ (x : Option ℕ). tell_the_same x (f q) ≡ true) e parts.0)) (all_told f o b qs e parts.1)
-
-all_tell : (f : Place → Option ℕ) (o : Option ℕ) (b : ℕ) (qs : List Place) → o ≡ Some b → All (λ q. f q ≡ Some b) qs → list_all (λ q. tell_the_same o (f q)) qs ≡ true
-all_tell f o b [] e h = refl
-all_tell f o b (q ∷ qs) e h =
-    and_from (tell_the_same o (f q)) (list_all (λ p. tell_the_same o (f p)) qs)
-    (subst (λ (x : Option ℕ). tell_the_same x (f q) ≡ true) (sym e) (same_tells b (f q) (All-head (λ p. f p ≡ Some b) q qs h)))
-    (all_tell f o b qs e (All-tail (λ p. f p ≡ Some b) q qs h))
-
-meaning_cond : (t : Bool) (o : Option ℕ) (b : ℕ) → cond t o None ≡ Some b → (t ≡ true) × (o ≡ Some b)
-meaning_cond true o b h = (refl, h)
-meaning_cond false o b h = cc
-
--- a byte that places mean is told at each of them
-pub meaning_told : (f : Place → Option ℕ) (b : ℕ) (qs : List Place) → meaning f qs ≡ Some b → All (λ q. f q ≡ Some b) qs
-meaning_told f b [] h = All-nil (λ q. f q ≡ Some b)
-meaning_told f b (q ∷ qs) h =
-    let parts = meaning_cond (list_all (λ p. tell_the_same (f q) (f p)) qs) (f q) b h in
-    All-cons (λ p. f p ≡ Some b) q qs parts.1 (all_told f (f q) b qs parts.1 parts.0)
-
--- and one that is told at each of them they mean
-pub told_meaning : (f : Place → Option ℕ) (b : ℕ) (q : Place) (qs : List Place) → All (λ p. f p ≡ Some b) (q ∷ qs) → meaning f (q ∷ qs) ≡ Some b
-told_meaning f b q qs h =
-    let first : f q ≡ Some b = All-head (λ p. f p ≡ Some b) q qs h in
-    cond-true (list_all (λ p. tell_the_same (f q) (f p)) qs) (f q) None (all_tell f (f q) b qs first (All-tail (λ p. f p ≡ Some b) q qs h)) ∙ first
-
 -- what places mean they still mean where each of them still tells its byte
 pub meaning_kept : (f g : Place → Option ℕ) (b : ℕ) (qs : List Place) → All (λ q. f q ≡ Some b → g q ≡ Some b) qs → meaning f qs ≡ Some b → meaning g qs ≡ Some b
 meaning_kept f g b [] step h = h
 meaning_kept f g b (q ∷ qs) step h =
-    let told = meaning_told f b (q ∷ qs) h in
-    told_meaning g b q qs (λ k d below. step k d below (told k d below))
+    let told = All-meaning f (q ∷ qs) b h in
+    meaning-All g q qs b (λ k d below. step k d below (told k d below))
 
 -- told places stay told
 pub told_stays : {S : Type 0} (view : S → StoreView) (follows : S → S → List Range → Type 0)

@@ -23,8 +23,8 @@ use Rattle.wtf_cli.specs.Outcomes.{AddsBytes, HasCause, IsNeededByLine, IsTarget
 use Rattle.wtf_cli.specs.DeviceFaults.{is_device_fault, is_device_fault_of_run, count_along}
 use Rattle.wtf_cli.specs.LineSteps.{IsLineStep}
 use Rattle.wtf_cli.specs.Runs.{first, IsNotBuiltExactly, IsServed, is_write_fault, write_fault_count, line_data, if_okay, written_bytes, RoseBy, AreStoresStill, Ran}
-use Rattle.wtf_cli.proofs.Places.{EachKept, each_kept, same_lengths-stored}
-use Rattle.wtf_cli.proofs.Rising.{one, element, raises_of_run, of_run, count_along-push, count_along-none}
+use Rattle.wtf_cli.proofs.Places.{EachKept, each_kept, element, same_lengths-stored}
+use Rattle.wtf_cli.proofs.Rising.{one, raises_of_run, of_run, count_along-push, count_along-none}
 
 served_of : {S : Type 0} (view : S → StoreView) (down : ℕ → Bool) (old new : List S) (settings : Settings) (Needed : List Place → Type 0) (a : Answer) → HasCause view down old new settings Needed a → IsServed a
 served_of view down old new settings Needed (answer.FaultPunch k) h = h

@@ -19,7 +19,7 @@ use Rattle.wtf_cli.specs.Stored.{AscendFrom}
 use Rattle.wtf_cli.specs.Outcomes.{last_of, IsLost, HasCause}
 use Rattle.wtf_cli.specs.DeviceFaults.{downs_below, downs, is_device_fault, is_device_fault_of_run, count_along, IsAllUp}
 use Rattle.wtf_cli.specs.Runs.{is_fault, fault_count}
-use Rattle.wtf_cli.proofs.Places.{each_kept}
+use Rattle.wtf_cli.proofs.Places.{each_kept, element}
 
 -- how much a test counts for
 abbrev pub one : Bool → ℕ
@@ -111,10 +111,6 @@ none_down down up zero = refl
 none_down down up (suc n) = omega (arith, one-false (down n) (up n), none_down down up n)
 
 -- Where no store failed
-
-pub element : {S : Type 0} (xs : List S) (k : ℕ) → k < length xs → S
-element [] k h = absurd (omega (arith, h))
-element (x ∷ xs) k h = x
 
 -- the counts of faults grew, or no store's did
 rose_or_still : {S : Type 0} (view : S → StoreView) (follows : S → S → List Range → Type 0)

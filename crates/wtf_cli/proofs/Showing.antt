@@ -16,11 +16,11 @@ use Rattle.wtf_overlay.specs.declared.part.Part.TheVariants.{Held}
 use Rattle.wtf_overlay.specs.declared.part.Piece.{Piece}
 use Rattle.wtf_overlay.specs.Lengths.{HasLength}
 use Rattle.wtf_overlay.specs.Origin.{Place, place_in, part_origin, pieces_len, pieces_origin}
-use Rattle.wtf_overlay.specs.Meaning.{meaning}
+use Rattle.wtf_overlay.specs.Meaning.{meaning, All-meaning}
 use Rattle.wtf_replica.specs.Copies.{IsInside, IsReadable, IsFetched}
 use Rattle.wtf_replica.specs.Faults.{IsReadFault}
 use Rattle.wtf_cli.specs.Stored.{told_at, IsPlaceInside, ArePiecesInside, ShowsPart, ShowsPieces, IsShowFault}
-use Rattle.wtf_cli.proofs.Places.{EachKept, All-unmap, told_stays, meaning_told, inside_part, all_out_since}
+use Rattle.wtf_cli.proofs.Places.{EachKept, All-unmap, told_stays, inside_part, all_out_since}
 
 -- what was read from a copy is what the slice's places tell
 pub copy_shows : {S : Type 0} (view : S → StoreView) (down : ℕ → Bool) (old new : List S) (s : Slice) (off : ℕ) (out : List ℕ) (k : ℕ)
@@ -31,7 +31,7 @@ copy_shows view down old new s off out k f = λ d i b below told.
     let here : get_or (pointers_of s) f.copy p ≡ p = get_or_from_slice_get (pointers_of s) f.copy p p f.is_copy in
     let P : Pointer → Type 0 = λ q. told_at view d old (place_in (off + i) q) ≡ Some b in
     let at : P p = subst P here (All-unmap (λ q. told_at view d old q ≡ Some b) (place_in (off + i)) (pointers_of s)
-    (meaning_told (told_at view d old) b (part_origin (Held s) (off + i)) told) f.copy p within) in
+    (All-meaning (told_at view d old) (part_origin (Held s) (off + i)) b told) f.copy p within) in
     let place : p.at + (off + i) ≡ p.at + off + i = omega arith in
     f.bytes d i b below (subst (λ (x : ℕ). (view (get_or old k d)).told p.file x ≡ Some b) place
     (subst (λ (j : ℕ). (view (get_or old j d)).told p.file (p.at + (off + i)) ≡ Some b) f.server at))

@@ -11,6 +11,7 @@ use Rattle.wtf_model.specs.Tree.{root}
 use Rattle.wtf_model.specs.Session.{Session}
 use Rattle.wtf_model.specs.Call.{call}
 use Rattle.wtf_model.specs.Steps.{Machine, cap_of, is_later_call, MayFail}
+use Rattle.wtf_model.specs.StepLaws.{IsLogged}
 use Rattle.wtf_cli.specs.declared.cluster.Cluster.{Cluster}
 use Rattle.wtf_cli.specs.declared.file.File.{File}
 use Rattle.wtf_cli.specs.declared.tables.Opened.{Opened}
@@ -26,14 +27,6 @@ IsFormOp (op.Create p) = parent_of p ≡ Some root
 IsFormOp (op.Open f p) = parent_of p ≡ Some root
 IsFormOp (op.Write f bytes) = length bytes ≤ 16384
 IsFormOp other = Unit {0}
-
--- an answer that is logged is no fault, and not `notbuilt`
-abbrev pub IsLogged : Answer → Type 0
-IsLogged answer.FaultWrite = ⊥
-IsLogged (answer.FaultRead k) = ⊥
-IsLogged (answer.Damaged k) = ⊥
-IsLogged answer.NotBuilt = ⊥
-IsLogged a = Unit {0}
 
 -- an answer by which a store failed
 abbrev pub IsStoreFault : Answer → Type 0
