@@ -2,3 +2,4 @@ pub mod Limits
 pub mod Extents
 pub mod Pointers
 pub mod Slices
+pub mod Places

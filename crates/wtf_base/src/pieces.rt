@@ -104,7 +104,8 @@ impl Slice {
     pub fn join(&self, next: &Slice) -> Option<Slice>
         ensures found { IsSome result ↔
             (IsTrue (all_follow_on (pointers_of self.now) (pointers_of next.now)) × (len_of self.now + len_of next.now < 2 ^ 32)) }
-        ensures value { IfSome result (λ s. pointers_of s ≡ map (lengthened (len_of self.now + len_of next.now)) (pointers_of self.now)) }
+        ensures value { IfSome result (λ s. pointers_of s ≡
+            map (lengthened (len_of self.now + len_of next.now)) (pointers_of self.now)) }
     {
         let len = self.len.checked_add(next.len)?;
         let n = self.len;

@@ -1,2 +1,14 @@
-pub mod Borders
+pub mod Origins
+pub mod Clipping
+pub mod Meanings
 pub mod Pieces
+mod Borders
+mod Building
+mod Merging
+mod Dropping
+mod Edging
+mod Stacking
+mod Standing
+mod Joining
+mod Compacts
+mod Wholes

@@ -1,5 +1,13 @@
 pub mod Lengths
 pub mod Origin
-pub mod Borders
-pub mod Origins
 pub mod Meaning
+pub mod Parts
+pub mod Clips
+pub mod Compact
+pub mod Joins
+pub mod Borders
+pub mod Runs
+pub mod Edges
+pub mod Stacks
+pub use Rattle.wtf_base.specs.Slices
+pub use Rattle.wtf_base.specs.Pointers

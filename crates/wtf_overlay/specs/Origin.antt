@@ -2,21 +2,11 @@
 -- later entries overlay earlier ones (NSDI 2016, section 2.1).
 use Rattle.std.specs.Prelude.{◌≡◌, ℕ, ◌+◌, ◌-◌, ◌<◌, ◌&&◌, Bool, nat_le, nat_lt, if◌then◌else◌, List, [], ◌∷◌, map}
 use Rattle.wtf_base.specs.Slices.{pointers_of}
-use Rattle.wtf_base.specs.declared.pointer.Pointer.{Pointer}
 use Rattle.wtf_overlay.specs.declared.part.Part.{Part}
 use Rattle.wtf_overlay.specs.declared.part.Part.TheVariants.{Zero, Held}
 use Rattle.wtf_overlay.specs.declared.part.Entry.{Entry}
 use Rattle.wtf_overlay.specs.declared.part.Piece.{Piece}
-
--- the server, backing file and offset of one copy of a byte
-pub record Place : Type 0 where
-  pub server : ℕ
-  pub file : ℕ
-  pub at : ℕ
-
--- the place of the byte at i of what a pointer points to
-abbrev pub place_in : ℕ → Pointer → Place
-place_in i p = record { server = p.server.0; file = p.file; at = p.at + i }
+pub use Rattle.wtf_base.specs.Places.{Place, place_in}
 
 -- the places of the byte at i of a part, one for each copy; none for a zero that no slice holds
 abbrev pub part_origin : Part → ℕ → List Place

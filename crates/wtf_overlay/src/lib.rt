@@ -1,9 +1,16 @@
-//! Lists of entries that overlay one another, and plans of what a range of them holds.
+//! Lists of entries that overlay one another, shared by the versions of a region: plans of what a range of
+//! them holds, lists cut at an end, and compact lists.
 #![tactic(auto)]
 
+mod compacting;
+mod cuts;
+mod finding;
+mod laying;
+mod makers;
 mod overlay;
 mod part;
-mod plan;
+mod planning;
+mod stacks;
 
 pub use overlay::Overlay;
 pub use part::{Entry, Part, Piece};

@@ -1,25 +1,39 @@
-//! The list of entries.
+//! The list of entries, and the runs that show what it shows.
 
 ghost use Rattle.std.specs.Prelude.{◌≡◌, ℕ, ◌*◌, ◌+◌, ◌<◌, ◌≤◌, ◌++◌, [], ◌∷◌, length, Some, OnOk, OnErr, IfOk, slice_get};
+ghost use Rattle.std.specs.Bool.{OnFalse};
+ghost use Rattle.wtf_overlay.specs.Clips.{Within};
 ghost use Rattle.wtf_overlay.specs.Origin.{origin, Plans};
-ghost use Rattle.wtf_overlay.specs.Meaning.{HaveBytes};
+ghost use Rattle.wtf_overlay.specs.Runs.{IsRun};
+ghost use Rattle.wtf_overlay.specs.Edges.{EdgesIn, is_edge};
 
-use crate::plan::pieces_of;
+use crate::laying::LIMIT;
+use crate::planning::pieces;
+use crate::stacks::{Run, replace_top, shown, top_with};
 use crate::{Entry, Piece};
 use std::alloc::Global;
 use std::marker::Model;
+use std::rc::RcSlice;
 use wtf_base::OutOfMemory;
+use wtf_chunks::Chunks;
 
 /// A list of entries, each of which hides what earlier ones hold at its place. A place that no entry
 /// covers is a hole, which reads as zeros (NSDI 2016, section 2.1).
+///
+/// Beside its entries a list keeps runs, sorted and disjoint lists that show the same when they lie over
+/// one another. A range is found in them by search, however many entries there are. Holders share both.
 #[derive(Debug, Drop)]
 pub struct Overlay {
-    entries: Vec<Entry>,
+    entries: Chunks<Entry>,
+    runs: Vec<Run>,
+    reach: u32,
 }
 
 impl Model for Overlay {
     ghost use Rattle.std.specs.Prelude.{List};
     ghost use Rattle.wtf_overlay.specs.declared.part.Entry.{Entry};
+    ghost use Rattle.wtf_overlay.specs.Stacks.{StandFor};
+    ghost use Rattle.wtf_overlay.specs.Clips.{Within};
 
     ghost Value = { List Entry };
 
@@ -28,16 +42,21 @@ impl Model for Overlay {
 
     ghost coded = { coded_list entry.the_row.coded };
 
-    ghost view = { λ o. o.entries.items };
+    ghost view = { λ o. o.entries };
+
+    ghost invariant = { λ o. StandFor o.entries o.runs.items × Within o.reach o.entries };
 }
 
 impl Overlay {
-    /// A list with no entry.
+    /// A list with no entry. It takes no memory yet.
     pub fn new(alloc: Global) -> Result<Overlay, OutOfMemory>
         ensures { IfOk result (λ o. o ≡ []) }
     {
+        let entries = Chunks::new(alloc)?;
         Ok(Overlay {
-            entries: Vec::new(alloc),
+            entries,
+            runs: Vec::new(alloc),
+            reach: 0,
         })
     }
 
@@ -53,36 +72,109 @@ impl Overlay {
         requires { i < length self.now }
         ensures { slice_get self.now i ≡ Some result }
     {
-        self.entries[i]
+        self.entries.get(i)
     }
 
-    /// Lays `e` over the list. After an error the list is as before.
+    /// Lays `e` over the list. After an error the list is as before. Over many pushes each entry is merged
+    /// about log n times, where n is the number of entries.
     pub fn push(&mut self, e: Entry) -> Result<(), OutOfMemory>
         ensures ok { OnOk result (self.new ≡ self.old ++ e ∷ []) }
         ensures err { OnErr result (self.new ≡ self.old) }
     {
+        let top = top_with(self.alloc(), self.runs.as_slice(), e)?;
+        let run = RcSlice::from_vec(top.run)?;
+        self.runs.reserve(1)?;
         self.entries.push(e)?;
+        replace_top(&mut self.runs, top.below, run);
+        self.reach = self.reach.max(e.end());
         Ok(())
     }
 
-    /// The same list for a second holder, as a copy. What is pushed to one leaves the other as it is.
+    /// The same list for a second holder. What is pushed to one leaves the other as it is. It costs a step
+    /// for each sealed chunk of entries and for each run.
     pub fn share(&self) -> Result<Overlay, OutOfMemory>
         ensures { IfOk result (λ o. o ≡ self.now) }
     {
-        let alloc = *self.entries.allocator();
+        let entries = self.entries.share()?;
+        let runs = self.runs.clone()?;
         Ok(Overlay {
-            entries: Vec::from_slice(alloc, self.entries.as_slice())?,
+            entries,
+            runs,
+            reach: self.reach,
         })
     }
 
     /// The `len` bytes from `off` on as consecutive pieces, each of one entry or of a hole. Where `len` is
-    /// 0 there is none. Holes reach past every entry, and past 2^32 too. Its cost is entries times pieces.
+    /// 0 there is none. Holes reach past every entry, and past 2^32 too. It costs a search in each run,
+    /// and a merge of what they show in the range.
     pub fn plan(&self, off: u32, len: u32) -> Result<Vec<Piece>, OutOfMemory>
         ensures origins { IfOk result (λ v. Plans v.items len (λ i. origin self.now (off + i))) }
-        ensures bytes { IfOk result (λ v. HaveBytes v.items len self.now off) }
         ensures count { IfOk result (λ v. length v.items ≤ 2 * length self.now + 1) }
-        ensures none { len ≡ 0 → IfOk result (λ v. v.items ≡ []) }
     {
-        pieces_of(*self.entries.allocator(), self.entries.as_slice(), off, len)
+        let alloc = self.alloc();
+        let from = off as u64;
+        let all = shown(alloc, self.runs.as_slice(), from, from + len as u64)?;
+        let out = pieces(alloc, all.as_slice(), off, len)?;
+        Ok(out)
+    }
+
+    /// The allocator that the list keeps.
+    pub(crate) fn alloc(&self) -> Global {
+        *self.runs.allocator()
+    }
+
+    /// Whether an entry may end past `end`.
+    pub(crate) fn passes(&self, end: u32) -> bool
+        ensures { OnFalse result (Within end self.now) }
+    {
+        end < self.reach
+    }
+
+    /// What the list shows, as one run.
+    pub(crate) fn whole(&self) -> Result<Vec<Entry>, OutOfMemory>
+        ensures run { IfOk result (λ v. IsRun v.items) }
+        ensures origins { IfOk result (λ v. (x : ℕ) → origin v.items x ≡ origin self.now x) }
+        ensures edges { IfOk result (λ v. EdgesIn (is_edge self.now) v.items) }
+    {
+        let all = shown(self.alloc(), self.runs.as_slice(), 0, LIMIT)?;
+        Ok(all)
+    }
+
+    /// The list of the entries of a run.
+    pub(crate) fn of_run(alloc: Global, run: Vec<Entry>) -> Result<Overlay, OutOfMemory>
+        requires { IsRun run.items }
+        ensures { IfOk result (λ o. o ≡ run.items) }
+    {
+        let entries = chunks_of(alloc, run.as_slice())?;
+        let reach = reach_of(run.as_slice());
+        let mut runs = Vec::new(alloc);
+        runs.push(RcSlice::from_vec(run)?)?;
+        Ok(Overlay {
+            entries,
+            runs,
+            reach,
+        })
+    }
+}
+
+/// The entries in chunks.
+fn chunks_of(alloc: Global, run: &[Entry]) -> Result<Chunks<Entry>, OutOfMemory>
+    ensures { IfOk result (λ c. c ≡ run.now) }
+{
+    let mut list = Chunks::new(alloc)?;
+    for e in run {
+        list.push(*e)?;
+    }
+    Ok(list)
+}
+
+/// An end that no entry of the run passes.
+fn reach_of(run: &[Entry]) -> u32
+    requires { IsRun run.now }
+    ensures { Within result run.now }
+{
+    match run.split_last() {
+        None => 0,
+        Some((last, _)) => last.end(),
     }
 }

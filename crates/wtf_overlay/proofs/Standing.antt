@@ -1,0 +1,53 @@
+-- An entry more on a list and on the runs that stand for it.
+use Rattle.std.proofs.Common.{◌≡◌, ℕ, ◌+◌, ◌++◌, Bool, true, false, ◌||◌, List, [], ◌∷◌, ◌∙◌, ap, sym, refl, take, drop, nat_eq, inl, inr}
+use Rattle.std.specs.Rc.{rc_slice_items}
+use Rattle.std.proofs.lemmas.Bool.{or_left, or_right, or_cases, eq-eqb}
+use Rattle.wtf_overlay.specs.declared.part.Entry.{Entry}
+use Rattle.wtf_overlay.specs.Origin.{over}
+use Rattle.wtf_overlay.specs.Runs.{IsRun, Shows}
+use Rattle.wtf_overlay.specs.Edges.{EdgesIn, is_edge}
+use Rattle.wtf_overlay.specs.Stacks.{Shared, stack, AreRuns, EdgesOf, StandFor}
+use Rattle.wtf_overlay.proofs.Origins.{origin_from-push}
+use Rattle.wtf_overlay.proofs.Stacking.{stack-append, stack_split, AreRuns-take, AreRuns-push, EdgesOf-take, EdgesOf-push, EdgesOf-weaker}
+
+or_more : (a b c d : Bool) → (c ≡ true → d ≡ true) → (a || (b || c)) ≡ true → (a || (b || d)) ≡ true
+or_more a b c d more h = elim (or_cases a (b || c) h) [
+  | inl x ↦ or_left a (b || d) x
+  | inr k ↦ or_right a (b || d) (elim (or_cases b c k) [
+    | inl x ↦ or_left b d x
+    | inr r ↦ or_right b d (more r)
+  ])
+]
+
+edge_more : (es : List Entry) (e : Entry) (y : ℕ) → is_edge es y ≡ true → is_edge (es ++ e ∷ []) y ≡ true
+edge_more [] e y edge = absurd (cc)
+edge_more (f ∷ es) e y edge =
+    or_more (nat_eq f.off y) (nat_eq (f.off + f.len) y) (is_edge es y) (is_edge (es ++ e ∷ []) y) (edge_more es e y) edge
+
+edge_last : (es : List Entry) (e : Entry) (y : ℕ) → is_edge (e ∷ []) y ≡ true → is_edge (es ++ e ∷ []) y ≡ true
+edge_last [] e y edge = edge
+edge_last (f ∷ es) e y edge =
+    or_right (nat_eq f.off y) (nat_eq (f.off + f.len) y || is_edge (es ++ e ∷ []) y)
+    (or_right (nat_eq (f.off + f.len) y) (is_edge (es ++ e ∷ []) y) (edge_last es e y edge))
+
+starts : (e : Entry) → is_edge (e ∷ []) e.off ≡ true
+starts e = or_left (nat_eq e.off e.off) (nat_eq (e.off + e.len) e.off || false) (eq-eqb e.off e.off refl)
+
+ends : (e : Entry) → is_edge (e ∷ []) (e.off + e.len) ≡ true
+ends e = let x = e.off + e.len in or_right (nat_eq e.off x) (nat_eq x x || false) (or_left (nat_eq x x) false (eq-eqb x x refl))
+
+-- the runs from n on replaced by one that shows what they show under e
+pub StandFor-push : (es : List Entry) (e : Entry) (rs : List Shared) (n : ℕ) (top : Shared) → StandFor es rs
+    → IsRun (rc_slice_items top) → Shows (rc_slice_items top) (λ b y. over e y (stack (drop n rs) b y))
+    → ((p : ℕ → Bool) → EdgesIn p (e ∷ []) → EdgesOf p rs → EdgesIn p (rc_slice_items top))
+    → StandFor (es ++ e ∷ []) (take n rs ++ top ∷ [])
+StandFor-push es e rs n top old run shows edges =
+    let p = is_edge (es ++ e ∷ []) in
+    let all : EdgesOf p rs = EdgesOf-weaker (is_edge es) p rs (edge_more es e) old.edges in
+    let own : EdgesIn p (e ∷ []) = (edge_last es e e.off (starts e), edge_last es e (e.off + e.len) (ends e), tt) in
+    record {
+      runs = AreRuns-push (take n rs) top (AreRuns-take rs n old.runs) run;
+      shows = λ b y. stack-append (take n rs) (top ∷ []) b y ∙ shows (stack (take n rs) b y) y
+          ∙ ap (over e y) (stack_split rs n b y ∙ old.shows b y) ∙ sym (origin_from-push b es e y);
+      edges = EdgesOf-push p (take n rs) top (EdgesOf-take p rs n all) (edges p own all);
+    }

@@ -1,0 +1,14 @@
+use Rattle.std.proofs.Common.{◌≡◌, subst, sym}
+use Rattle.wtf_overlay.specs.Clips.{Within}
+use Rattle.wtf_overlay.specs.Stacks.{StandFor}
+use Rattle.wtf_overlay.proofs.Stacking.{StandFor-alike}
+use Rattle.wtf_overlay.proofs.overlay.Overlay.share.Goals as goal
+
+pub invariant_of-result : goal.invariant_of-result
+invariant_of-result c =
+    let old = c.self.inside in
+    let same : c.in_ok-entries.entries ≡ old.entries = c.in_ok-entries.ensures in (
+      subst (λ es. StandFor es c.in_ok-runs.runs.items) (sym same)
+          (StandFor-alike old.entries old.runs.items c.in_ok-runs.runs.items c.in_ok-runs.ensures.cases.0 c.self.invariant.0),
+      subst (λ es. Within old.reach es) (sym same) c.self.invariant.1,
+    )
