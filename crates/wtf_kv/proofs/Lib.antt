@@ -1,12 +1,17 @@
-pub mod Sees
-pub mod Prune
-pub mod Updated
-pub mod Next
-pub mod Fits
-pub mod Noting
-pub mod Ranges
-pub mod Made
-pub mod Loose
-pub mod StoreLemmas
-pub mod Pinned
-pub mod Once
+pub mod EditLaws
+pub mod VersionLaws
+pub mod PinLaws
+pub mod KeyLaws
+pub mod CallLaws
+mod Sees
+mod Prune
+mod Updated
+mod Next
+mod Fits
+mod Noting
+mod Ranges
+mod Made
+mod Staged
+mod Loose
+mod StoreLemmas
+mod Once

@@ -85,6 +85,6 @@ module _ {K : Type 0} (R : K → K → Ordering) (ts : List K) (i : ℕ) (k q : 
       take-take (i - 1) (length ts - 1) (set ts (i - 1) (get_or ts (length ts - 1) k)) (omega arith)
       ∙ take-set ts (i - 1) (get_or ts (length ts - 1) k)
 
-pub settled_told : (s : Bool) (r : Bool) → r ≡ not s → r ≡ false → s ≡ true
-settled_told true r e f = refl
-settled_told false r e f = cc
+pub settled_reported : (s : Bool) (r : Bool) → r ≡ not s → r ≡ false → s ≡ true
+settled_reported true r e f = refl
+settled_reported false r e f = cc

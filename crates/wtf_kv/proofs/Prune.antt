@@ -6,7 +6,7 @@ use Rattle.std.proofs.lemmas.List.{take-set, take-set-le, take_more_set, drop-se
 use Rattle.std.specs.Set.{remove_key}
 use Rattle.std.proofs.Math.Seq.{drop-cons}
 use Rattle.std.proofs.lemmas.Bool.{cases_Bool, and_parts, or_parts, and_left, and_right, and_from, or_left, or_right, ltb-true, leb-true, eqb-true, lt-ltb, le-leb, leb-false, or_cases, cases_lt, both_ways}
-use Rattle.wtf_kv.specs.Seen.{last_seen_from, told, any_below, is_seen, is_kept, kept_head, kept_versions, above, ascends, within, upto, value_seen}
+use Rattle.wtf_kv.specs.Seen.{last_seen_from, reported, any_below, is_seen, is_kept, kept_head, kept_versions, above, ascends, within, upto, value_seen}
 
 -- whoever passes one test passes another
 pub weaker : {X : Type 0} (t u : X → Bool) (xs : List X) → ((x : X) → t x ≡ true → u x ≡ true) → list_any t xs ≡ true → list_any u xs ≡ true
@@ -22,16 +22,16 @@ has t p xs e h = weaker (nat_eq p) t xs (λ x same. ap t (sym (eqb-true p x same
 abbrev pub Live : {C : Type 0} → List ℕ → ℕ → List (ℕ × Option C) → Type 0
 Live pins p vs = (list_any (nat_eq p) pins ≡ true) ⊎ within p vs
 
--- what was seen before these versions is not told, or a pinned number lies below the first
+-- what was seen before these versions is not reported, or a pinned number lies below the first
 abbrev pub Before : {C : Type 0} → List ℕ → Option (ℕ × Option C) → List (ℕ × Option C) → Type 0
 Before pins seen [] = Unit {0}
-Before pins seen (v ∷ vs) = (told pins seen ≡ None) ⊎ (any_below pins v.0 ≡ true)
+Before pins seen (v ∷ vs) = (reported pins seen ≡ None) ⊎ (any_below pins v.0 ≡ true)
 
--- what is told goes by what was told before
-pub told_alike : {C : Type 0} (pins : List ℕ) (p : ℕ) (vs : List (ℕ × Option C)) (a b : Option (ℕ × Option C)) → told pins a ≡ told pins b → told pins (last_seen_from p vs a) ≡ told pins (last_seen_from p vs b)
-told_alike pins p [] a b e = e
-told_alike pins p (v ∷ vs) a b e =
-    told_alike pins p vs _ _ (elim (nat_le v.0 p) as (λ t. told pins (cond t (Some v) a) ≡ told pins (cond t (Some v) b)) [ true ↦ refl | false ↦ e ])
+-- what is reported goes by what was reported before
+pub reported_alike : {C : Type 0} (pins : List ℕ) (p : ℕ) (vs : List (ℕ × Option C)) (a b : Option (ℕ × Option C)) → reported pins a ≡ reported pins b → reported pins (last_seen_from p vs a) ≡ reported pins (last_seen_from p vs b)
+reported_alike pins p [] a b e = e
+reported_alike pins p (v ∷ vs) a b e =
+    reported_alike pins p vs _ _ (elim (nat_le v.0 p) as (λ t. reported pins (cond t (Some v) a) ≡ reported pins (cond t (Some v) b)) [ true ↦ refl | false ↦ e ])
 
 live_rest : {C : Type 0} (pins : List ℕ) (p : ℕ) (v : ℕ × Option C) (vs : List (ℕ × Option C)) → Live pins p (v ∷ vs) → Live pins p vs
 live_rest pins p v vs live = ⊎_elim (λ pinned. inl pinned) (λ all. inr all.1) live
@@ -60,26 +60,26 @@ unseen_alike pins p v (w ∷ ws) seen live unseen =
     (λ gt. ap (λ t. last_seen_from p (w ∷ ws) (cond t (Some v) seen)) (sym gt))
     (cases_Bool (nat_le v.0 p))
 
-untold_alike : {C : Type 0} (pins : List ℕ) (p : ℕ) (v : ℕ × Option C) (vs : List (ℕ × Option C)) (seen : Option (ℕ × Option C)) → Before pins seen (v ∷ vs) → (is_some v.1 || any_below pins v.0) ≡ false → told pins seen ≡ told pins (cond (nat_le v.0 p) (Some v) seen)
-untold_alike pins p v vs seen before untold =
+unreported_alike : {C : Type 0} (pins : List ℕ) (p : ℕ) (v : ℕ × Option C) (vs : List (ℕ × Option C)) (seen : Option (ℕ × Option C)) → Before pins seen (v ∷ vs) → (is_some v.1 || any_below pins v.0) ≡ false → reported pins seen ≡ reported pins (cond (nat_le v.0 p) (Some v) seen)
+unreported_alike pins p v vs seen before unreported =
     ⊎_elim
-    (λ none. elim (nat_le v.0 p) as (λ t. told pins seen ≡ told pins (cond t (Some v) seen)) [ true ↦ none ∙ sym (ap (λ b. cond b (Some v) None) untold) | false ↦ refl ])
-    (λ some. absurd (both_ways _ (or_parts _ _ untold).1 some))
+    (λ none. elim (nat_le v.0 p) as (λ t. reported pins seen ≡ reported pins (cond t (Some v) seen)) [ true ↦ none ∙ sym (ap (λ b. cond b (Some v) None) unreported) | false ↦ refl ])
+    (λ some. absurd (both_ways _ (or_parts _ _ unreported).1 some))
     before
 
-pub kept_shown : {C : Type 0} (pins : List ℕ) (p : ℕ) (vs : List (ℕ × Option C)) (seen : Option (ℕ × Option C)) → ascends vs → Live pins p vs → Before pins seen vs → told pins (last_seen_from p (kept_versions pins vs) seen) ≡ told pins (last_seen_from p vs seen)
+pub kept_shown : {C : Type 0} (pins : List ℕ) (p : ℕ) (vs : List (ℕ × Option C)) (seen : Option (ℕ × Option C)) → ascends vs → Live pins p vs → Before pins seen vs → reported pins (last_seen_from p (kept_versions pins vs) seen) ≡ reported pins (last_seen_from p vs seen)
 kept_shown pins p [] seen up live before = refl
 kept_shown pins p (v ∷ vs) seen up live before =
     let now = cond (nat_le v.0 p) (Some v) seen in
     let rest : Before pins seen vs = before_rest pins v seen vs up.0 before in
     let later : Live pins p vs = live_rest pins p v vs live in
-    let choose = λ (b : Bool). told pins (last_seen_from p (cond b (v ∷ kept_versions pins vs) (kept_versions pins vs)) seen) in
+    let choose = λ (b : Bool). reported pins (last_seen_from p (cond b (v ∷ kept_versions pins vs) (kept_versions pins vs)) seen) in
     ⊎_elim
     (λ is. ⊎_elim
-    (λ told. ap choose (and_from _ _ told is) ∙ kept_shown pins p vs now up.1 later (before_kept pins v.0 now vs is))
-    (λ untold. ap choose (and_left _ _ untold) ∙ (kept_shown pins p vs seen up.1 later rest ∙ told_alike pins p vs seen now (untold_alike pins p v vs seen before untold)))
+    (λ reported. ap choose (and_from _ _ reported is) ∙ kept_shown pins p vs now up.1 later (before_kept pins v.0 now vs is))
+    (λ unreported. ap choose (and_left _ _ unreported) ∙ (kept_shown pins p vs seen up.1 later rest ∙ reported_alike pins p vs seen now (unreported_alike pins p v vs seen before unreported)))
     (cases_Bool (is_some v.1 || any_below pins v.0)))
-    (λ unseen. ap choose (and_right _ _ unseen) ∙ (kept_shown pins p vs seen up.1 later rest ∙ ap (told pins) (unseen_alike pins p v vs seen later unseen)))
+    (λ unseen. ap choose (and_right _ _ unseen) ∙ (kept_shown pins p vs seen up.1 later rest ∙ ap (reported pins) (unseen_alike pins p v vs seen later unseen)))
     (cases_Bool (is_seen pins v.0 vs))
 
 -- ---- the loop that drops
@@ -183,10 +183,10 @@ within-upto m (v ∷ vs) =
     (λ no. subst (λ b. within m (cond b (v ∷ upto m vs) (upto m vs))) (sym no) rest)
     (cases_Bool (nat_le v.0 m))
 
-pub value-told : {C : Type 0} (pins : List ℕ) (o : Option (ℕ × Option C)) → value_seen (told pins o) ≡ value_seen o
-value-told pins None = refl
-value-told pins (Some (v, Some x)) = refl
-value-told {C = C} pins (Some (v, None)) = elim (any_below pins v) as (λ b. value_seen {C = C} (cond b (Some (v, None)) None) ≡ None) [ true ↦ refl | false ↦ refl ]
+pub value-reported : {C : Type 0} (pins : List ℕ) (o : Option (ℕ × Option C)) → value_seen (reported pins o) ≡ value_seen o
+value-reported pins None = refl
+value-reported pins (Some (v, Some x)) = refl
+value-reported {C = C} pins (Some (v, None)) = elim (any_below pins v) as (λ b. value_seen {C = C} (cond b (Some (v, None)) None) ≡ None) [ true ↦ refl | false ↦ refl ]
 
 pub first : {C : Type 0} (pins : List ℕ) (vs : List (ℕ × Option C)) → Before pins None vs
 first pins [] = tt

@@ -4,7 +4,7 @@ use Rattle.std.proofs.lemmas.List.{take_more}
 use Rattle.std.specs.List.{AllWithin}
 use Rattle.std.specs.List.Sorted.{IsNonDecreasingBy}
 use Rattle.std.proofs.lemmas.Bool.{lt-leb, leb-true, leb-false, cases_Bool}
-use Rattle.wtf_kv.specs.Seen.{last_seen_from, last_seen, number_seen, told, is_told, upto, ascends, above, within}
+use Rattle.wtf_kv.specs.Seen.{last_seen_from, last_seen, number_seen, reported, is_reported, upto, ascends, above, within}
 
 pub last_seen_from-push : {C : Type 0} (n : ℕ) (vs : List (ℕ × Option C)) (so_far : Option (ℕ × Option C)) (v : ℕ × Option C) → last_seen_from n (vs ++ v ∷ []) so_far ≡ cond (nat_le v.0 n) (Some v) (last_seen_from n vs so_far)
 last_seen_from-push n [] so_far v = refl
@@ -79,9 +79,9 @@ seen_from-le n (v ∷ vs) o h = seen_from-le n vs _
     (λ past. subst (λ b. number_seen (cond b (Some v) o) ≤ n) (sym past) h)
     (cases_Bool (nat_le v.0 n)))
 
-told-le : {C : Type 0} (pins : List ℕ) (n : ℕ) (o : Option (ℕ × Option C)) → number_seen o ≤ n → number_seen (told pins o) ≤ n
-told-le pins n None h = h
-told-le pins n (Some v) h = elim (is_told pins v) as (λ b. number_seen (cond b (Some v) None) ≤ n) [ true ↦ h | false ↦ omega arith ]
+reported-le : {C : Type 0} (pins : List ℕ) (n : ℕ) (o : Option (ℕ × Option C)) → number_seen o ≤ n → number_seen (reported pins o) ≤ n
+reported-le pins n None h = h
+reported-le pins n (Some v) h = elim (is_reported pins v) as (λ b. number_seen (cond b (Some v) None) ≤ n) [ true ↦ h | false ↦ omega arith ]
 
-pub told_seen-le : {C : Type 0} (pins : List ℕ) (n : ℕ) (vs : List (ℕ × Option C)) → number_seen (told pins (last_seen n vs)) ≤ n
-told_seen-le pins n vs = told-le pins n (last_seen n vs) (seen_from-le n vs None (omega arith))
+pub reported_seen-le : {C : Type 0} (pins : List ℕ) (n : ℕ) (vs : List (ℕ × Option C)) → number_seen (reported pins (last_seen n vs)) ≤ n
+reported_seen-le pins n vs = reported-le pins n (last_seen n vs) (seen_from-le n vs None (omega arith))

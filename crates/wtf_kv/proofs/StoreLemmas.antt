@@ -1,24 +1,24 @@
 -- What the calls of a store leave, by what they leave of its cells.
-use Rattle.std.proofs.Common.{◌≡◌, ℕ, ◌+◌, ◌<◌, ◌≤◌, Bool, true, false, cond, ◌||◌, ◌&&◌, ◌⊎◌, inl, inr, List, [], ◌∷◌, ◌++◌, Option, None, Some, is_some, nat_le, nat_lt, nat_eq, IsTrue, refl, sym, ap, subst, ◌∙◌, arith, ⊎_elim, length, take, drop}
+use Rattle.std.proofs.Common.{◌≡◌, ℕ, ◌+◌, ◌<◌, ◌≤◌, Bool, true, false, cond, ◌||◌, ◌&&◌, ◌⊎◌, inl, inr, List, [], ◌∷◌, ◌++◌, Option, None, Some, is_some, nat_le, nat_eq, IsTrue, refl, sym, ap, subst, ◌∙◌, arith, ⊎_elim, length, take, drop}
 use Rattle.std.specs.declared.cmp.Ordering.{Ordering}
 use Rattle.std.specs.BTreeMap.{is_at}
 use Rattle.std.specs.List.{list_any}
-use Rattle.std.proofs.lemmas.Bool.{cases_Bool, or_cases, or_parts, or_right, eqb-true, lt-leb, le-leb, leb-false, lt-ltb}
+use Rattle.std.proofs.lemmas.Bool.{cases_Bool, or_cases, or_parts, eqb-true, lt-leb, le-leb, leb-false}
 use Rattle.std.proofs.lemmas.List.{take-append-drop}
 use Rattle.std.proofs.Math.Seq.{take-length}
 use Rattle.std.proofs.lemmas.List.Folds.{list_any-append}
 use Rattle.wtf_kv.specs.declared.cell.Applied.{Applied}
-use Rattle.wtf_kv.specs.Seen.{last_seen, value_seen, number_seen, told, any_below, upto, ascends, within, kept_versions, is_settled, above, has_any, has_upto}
+use Rattle.wtf_kv.specs.Seen.{last_seen, value_seen, number_seen, reported, upto, ascends, within, kept_versions, is_settled, above, has_any, has_upto}
 use Rattle.std.specs.declared.ops.Bound.{Bound}
 use Rattle.std.specs.BTreeMap.Range.{is_from_start}
 use Rattle.wtf_kv.specs.Order.{is_past, IsNextKey, IsFirstFrom}
-use Rattle.wtf_kv.specs.Stores.{Store, names, versions_in, versions_of, map_at, version_of, is_live}
+use Rattle.wtf_kv.specs.Stores.{Store, names, versions_in, versions_of, map_at, version_of, is_live, AllAscend}
 use Rattle.wtf_kv.specs.Inside.{Sound, AllGood}
-use Rattle.wtf_kv.specs.Edits.{after_changes, map_after, any_touches, makes_version, versions_with, version_with}
+use Rattle.wtf_kv.specs.Edits.{after_changes, over, any_touches, makes_version, versions_with, version_with}
 use Rattle.wtf_kv.specs.Installs.{Planned, IsReady}
 use Rattle.wtf_kv.specs.Staging.{value_next}
 use Rattle.wtf_kv.proofs.Sees.{last_seen-push, last_seen_from-upto}
-use Rattle.wtf_kv.proofs.Prune.{Live, kept_shown, first, value-told, has, seen_either, ascends-upto, within-upto, within-more, ascends-kept, within-kept}
+use Rattle.wtf_kv.proofs.Prune.{Live, kept_shown, first, value-reported, ascends-upto, within-upto, within-more, ascends-kept, within-kept}
 use Rattle.wtf_kv.proofs.Next.{upto-all, seen-within}
 use Rattle.wtf_kv.proofs.Made.{made-value, number-value}
 
@@ -39,58 +39,44 @@ module _ {K C : Type 0} (R : K → K → Ordering) where
   pub read_value : (s : Store K C) (n : ℕ) (q : K) → n ≤ s.number → value_seen (last_seen n (versions_in R s.cells q)) ≡ map_at R s n q
   read_value s n q le = ap value_seen (sym (last_seen_from-upto s.number n (versions_in R s.cells q) None le))
 
-  pub read_version : (s : Store K C) (n : ℕ) (q : K) → n ≤ s.number → number_seen (told s.pins (last_seen n (versions_in R s.cells q))) ≡ version_of R s n q
-  read_version s n q le = ap (λ o. number_seen (told s.pins o)) (sym (last_seen_from-upto s.number n (versions_in R s.cells q) None le))
-
-  -- a key without a version above b, where b is pinned, has at n the value that it has at b
-  pub unmoved : (s : Store K C) (b n : ℕ) (key : K) → list_any (nat_eq b) s.pins ≡ true → b ≤ n → version_of R s n key ≤ b → map_at R s b key ≡ map_at R s n key
-  unmoved s b n key pinned le old =
-      let vs = versions_of R s key in
-      ⊎_elim
-      (λ e. ap value_seen e)
-      (λ (v, is, lt).
-      let told_so = or_right (is_some v.1) (any_below s.pins v.0) (has (λ p. nat_lt p v.0) b s.pins pinned (lt-ltb b v.0 lt)) in
-      let number : version_of R s n key ≡ v.0 = ap (λ o. number_seen (told s.pins o)) is ∙ ap (λ t. number_seen (cond t (Some v) None)) told_so in
-      absurd (omega arith))
-      (seen_either b n vs None None le (inl refl))
+  pub read_version : (s : Store K C) (n : ℕ) (q : K) → n ≤ s.number → number_seen (reported s.pins (last_seen n (versions_in R s.cells q))) ≡ version_of R s n q
+  read_version s n q le = ap (λ o. number_seen (reported s.pins o)) (sym (last_seen_from-upto s.number n (versions_in R s.cells q) None le))
 
   -- ---- prune
-  module _ (old new : Store K C) (bound : (p : ℕ) → list_any (nat_eq p) old.pins ≡ true → p ≤ old.number) (good : AllGood R old.number old.cells) (pins : new.pins ≡ old.pins) (kept : (q : K) → versions_of R new q ≡ kept_versions old.pins (versions_of R old q)) where
-    pruned_told : (n : ℕ) → IsTrue (is_live old n) → (q : K) → told old.pins (last_seen n (versions_of R new q)) ≡ told old.pins (last_seen n (versions_of R old q))
-    pruned_told n live q =
+  module _ (old new : Store K C) (bound : (p : ℕ) → list_any (nat_eq p) old.pins ≡ true → p ≤ old.number) (up : AllAscend R old) (pins : new.pins ≡ old.pins) (kept : (q : K) → versions_of R new q ≡ kept_versions old.pins (versions_of R old q)) where
+    pruned_reported : (n : ℕ) → IsTrue (is_live old n) → (q : K) → reported old.pins (last_seen n (versions_of R new q)) ≡ reported old.pins (last_seen n (versions_of R old q))
+    pruned_reported n live q =
         let vs = versions_of R old q in
         let known : Live old.pins n vs = ⊎_elim (λ e. inr (subst (λ m. within m vs) (sym e) (within-upto old.number (versions_in R old.cells q)))) (λ pinned. inl pinned) (live_cases old n live) in
-        ap (λ ws. told old.pins (last_seen n ws)) (kept q)
-        ∙ kept_shown old.pins n vs None (ascends-upto old.number (versions_in R old.cells q) (good q).0) known (first old.pins vs)
+        ap (λ ws. reported old.pins (last_seen n ws)) (kept q)
+        ∙ kept_shown old.pins n vs None (up q) known (first old.pins vs)
 
     pub pruned_map : (n : ℕ) → IsTrue (is_live old n) → map_at R new n ≡ map_at R old n
     pruned_map n live = λ i q.
-        (sym (value-told old.pins (last_seen n (versions_of R new q))) ∙ ap value_seen (pruned_told n live q) ∙ value-told old.pins (last_seen n (versions_of R old q))) i
+        (sym (value-reported old.pins (last_seen n (versions_of R new q))) ∙ ap value_seen (pruned_reported n live q) ∙ value-reported old.pins (last_seen n (versions_of R old q))) i
 
     pub pruned_versions : (n : ℕ) → IsTrue (is_live old n) → version_of R new n ≡ version_of R old n
     pruned_versions n live = λ i q.
-        (ap (λ p. number_seen (told p (last_seen n (versions_of R new q)))) pins ∙ ap number_seen (pruned_told n live q)) i
+        (ap (λ p. number_seen (reported p (last_seen n (versions_of R new q)))) pins ∙ ap number_seen (pruned_reported n live q)) i
 
-  module _ (number fresh : ℕ) (pins : List ℕ) (ts us : List K) (old new : List (K × List (ℕ × Option C))) (sound : Sound R number fresh pins ts old) (kept : (q : K) → versions_in R new q ≡ kept_versions pins (upto number (versions_in R old q))) where
+  module _ (number fresh : ℕ) (pins : List ℕ) (ts us : List K) (old new : List (K × List (ℕ × Option C))) (sound : Sound R number fresh ts old) (kept : (q : K) → versions_in R new q ≡ kept_versions pins (upto number (versions_in R old q))) where
     pub pruned_within : (q : K) → within number (versions_in R new q)
     pruned_within q = subst (within number) (sym (kept q)) (within-kept pins number (upto number (versions_in R old q)) (within-upto number (versions_in R old q)))
 
     pub pruned_all : (q : K) → upto number (versions_in R new q) ≡ kept_versions pins (upto number (versions_in R old q))
     pruned_all q = upto-all number (versions_in R new q) (pruned_within q) ∙ kept q
 
-    pub pruned_sound : ((q : K) → names R us q ≡ false → is_settled (versions_in R new q) ≡ true) → (n : ℕ) → n ≡ length us → Sound R number n pins us new
+    pub pruned_sound : ((q : K) → names R us q ≡ false → is_settled (versions_in R new q) ≡ true) → (n : ℕ) → n ≡ length us → Sound R number n us new
     pruned_sound loose n is = record {
-      pinned = sound.pinned;
       good = λ q. (subst ascends (sym (kept q)) (ascends-kept pins (upto number (versions_in R old q)) (ascends-upto number (versions_in R old q) (sound.good q).0)), within-more number (versions_in R new q) (pruned_within q));
       noted = record { inside = omega arith; clean = λ q none. pruned_within q };
       loose = λ q none. ap is_settled (upto-all number (versions_in R new q) (pruned_within q)) ∙ loose q (sym (ap (λ l. names R l q) (ap (λ m. take m us) is ∙ take-length us)) ∙ none);
     }
 
   -- ---- install
-  module _ (number fresh : ℕ) (pins : List ℕ) (ts : List K) (cells : List (K × List (ℕ × Option C))) (sound : Sound R number fresh pins ts cells) where
-    pub installed_sound : (n : ℕ) → n ≡ length ts → Sound R (number + 1) n pins ts cells
+  module _ (number fresh : ℕ) (ts : List K) (cells : List (K × List (ℕ × Option C))) (sound : Sound R number fresh ts cells) where
+    pub installed_sound : (n : ℕ) → n ≡ length ts → Sound R (number + 1) n ts cells
     installed_sound n is = record {
-      pinned = λ p pinned. let le = sound.pinned p pinned in omega arith;
       good = λ q. ((sound.good q).0, within-more (number + 1) (versions_in R cells q) (sound.good q).1);
       noted = record { inside = omega arith; clean = λ q none. (sound.good q).1 };
       loose = λ q none.
@@ -127,15 +113,14 @@ next_from_first R s start after (Some k) good alike h = (
   λ q past has. h.2 q (alike q ∙ past) (sym (has_any-upto s.number (versions_in R s.cells q) (good q).0) ∙ has),
 )
 
-module _ {K C D : Type 0} (R : K → K → Ordering) (outcome : Option C → D → Applied C) (old new : Store K C) (plan : Planned K D) (ready : IsReady R outcome old plan) (good : AllGood R old.number old.cells) (number : new.number ≡ old.number + 1) (cells : new.cells ≡ old.cells) where
+module _ {K C D : Type 0} (R : K → K → Ordering) (outcome : Option C → D → Applied C) (old new : Store K C) (plan : Planned K D) (ready : IsReady R outcome old plan) (number : new.number ≡ old.number + 1) (shown : (q : K) → versions_of R new q ≡ versions_in R old.cells q) where
   pub installed_versions : (q : K) → versions_of R new q ≡ versions_with R outcome plan.changes new.number q (map_at R old old.number q) (versions_of R old q)
   installed_versions q =
-      ap (λ n. upto n (versions_in R new.cells q)) number ∙ ap (λ cs. upto (old.number + 1) (versions_in R cs q)) cells
-      ∙ upto-all (old.number + 1) (versions_in R old.cells q) (good q).1
+      shown q
       ∙ ready.versions q
       ∙ ap (λ n. versions_with R outcome plan.changes n q (map_at R old old.number q) (versions_of R old q)) (ready.next ∙ sym number)
 
-  pub installed_map : map_at R new new.number ≡ map_after R outcome plan.changes (map_at R old old.number)
+  pub installed_map : map_at R new new.number ≡ over R outcome plan.changes (map_at R old old.number)
   installed_map = λ i q.
       (let base = versions_of R old q in
       let all : within old.number base = within-upto old.number (versions_in R old.cells q) in
@@ -158,19 +143,19 @@ module _ {K C D : Type 0} (R : K → K → Ordering) (outcome : Option C → D �
       (ap (λ vs. value_seen (last_seen n vs)) (installed_versions q)
       ∙ earlier (versions_of R old q) (after_changes R outcome plan.changes q (map_at R old old.number q)) (any_touches R outcome plan.changes q (map_at R old old.number q) && (is_some (map_at R old old.number q) || is_some (after_changes R outcome plan.changes q (map_at R old old.number q)))) n le) i
 
-  newest : (pins : List ℕ) (base : List (ℕ × Option C)) (x : Option C) (b : Bool) → within old.number base → number_seen (told pins (last_seen (old.number + 1) (cond b (base ++ (old.number + 1, x) ∷ []) base))) ≡ cond b (number_seen (told pins (Some (old.number + 1, x)))) (number_seen (told pins (last_seen old.number base)))
+  newest : (pins : List ℕ) (base : List (ℕ × Option C)) (x : Option C) (b : Bool) → within old.number base → number_seen (reported pins (last_seen (old.number + 1) (cond b (base ++ (old.number + 1, x) ∷ []) base))) ≡ cond b (number_seen (reported pins (Some (old.number + 1, x)))) (number_seen (reported pins (last_seen old.number base)))
   newest pins base x b all =
-      elim b as (λ t. number_seen (told pins (last_seen (old.number + 1) (cond t (base ++ (old.number + 1, x) ∷ []) base))) ≡ cond t (number_seen (told pins (Some (old.number + 1, x)))) (number_seen (told pins (last_seen old.number base)))) [
-        | true ↦ ap (λ o. number_seen (told pins o)) (last_seen-push (old.number + 1) base (old.number + 1, x) ∙ ap (λ t. cond t (Some (old.number + 1, x)) (last_seen (old.number + 1) base)) (le-leb (old.number + 1) (old.number + 1) (omega arith)))
-        | false ↦ ap (λ o. number_seen (told pins o)) (seen-within old.number x base None all)
+      elim b as (λ t. number_seen (reported pins (last_seen (old.number + 1) (cond t (base ++ (old.number + 1, x) ∷ []) base))) ≡ cond t (number_seen (reported pins (Some (old.number + 1, x)))) (number_seen (reported pins (last_seen old.number base)))) [
+        | true ↦ ap (λ o. number_seen (reported pins o)) (last_seen-push (old.number + 1) base (old.number + 1, x) ∙ ap (λ t. cond t (Some (old.number + 1, x)) (last_seen (old.number + 1) base)) (le-leb (old.number + 1) (old.number + 1) (omega arith)))
+        | false ↦ ap (λ o. number_seen (reported pins o)) (seen-within old.number x base None all)
       ]
 
   pub installed_version : new.pins ≡ old.pins → (q : K) → version_of R new new.number q ≡ version_with R outcome old.pins plan.changes new.number q (map_at R old old.number q) (version_of R old old.number q)
   installed_version pins q =
       let base = versions_of R old q in
       let before = map_at R old old.number q in
-      ap (λ p. number_seen (told p (last_seen new.number (versions_of R new q)))) pins
-      ∙ ap (λ vs. number_seen (told old.pins (last_seen new.number vs))) (installed_versions q)
-      ∙ ap (λ n. number_seen (told old.pins (last_seen n (versions_with R outcome plan.changes n q before base)))) number
+      ap (λ p. number_seen (reported p (last_seen new.number (versions_of R new q)))) pins
+      ∙ ap (λ vs. number_seen (reported old.pins (last_seen new.number vs))) (installed_versions q)
+      ∙ ap (λ n. number_seen (reported old.pins (last_seen n (versions_with R outcome plan.changes n q before base)))) number
       ∙ newest old.pins base (after_changes R outcome plan.changes q before) (makes_version R outcome plan.changes q before) (within-upto old.number (versions_in R old.cells q))
       ∙ ap (λ n. version_with R outcome old.pins plan.changes n q before (version_of R old old.number q)) (sym number)

@@ -14,7 +14,7 @@ use Rattle.std.specs.Prelude.{nat_le}
 use Rattle.wtf_kv.specs.Seen.{upto}
 use Rattle.wtf_kv.specs.Stores.{listed, versions_in}
 
--- a vector whose length is told as 0
+-- a vector whose length is reported as 0
 pub nil_len : {X A : Type 0} (v : Vec X A) → (vec_len v == 0) ≡ true → length v.items ≡ 0
 nil_len v e = sym v.ok.0 ∙ eqb-true (vec_len v) 0 e
 

@@ -1,9 +1,9 @@
 -- What a list of changes makes of a map, and of the versions of its keys.
-use Rattle.std.specs.Prelude.{ℕ, Bool, true, false, cond, ◌&&◌, ◌||◌, List, [], ◌∷◌, ◌++◌, Option, None, Some, is_some}
+use Rattle.std.specs.Prelude.{◌≡◌, ℕ, Bool, true, false, cond, ◌&&◌, ◌||◌, List, [], ◌∷◌, ◌++◌, Option, None, Some, is_some}
 use Rattle.std.specs.BTreeMap.{is_at}
 use Rattle.std.specs.Ordering.{is_le}
 use Rattle.std.specs.declared.cmp.Ordering.{Ordering}
-use Rattle.wtf_kv.specs.Seen.{number_seen, told}
+use Rattle.wtf_kv.specs.Seen.{number_seen, reported}
 use Rattle.wtf_kv.specs.declared.cell.Applied.{Applied}
 use Rattle.wtf_kv.specs.declared.cell.Applied.TheVariants.{Is, Gone, Unfit}
 use Rattle.wtf_kv.specs.declared.changes.Change.{Change}
@@ -25,6 +25,11 @@ fits Unfit = false
 abbrev pub is_between : {K : Type 0} → (K → K → Ordering) → K → K → K → Bool
 is_between order from to key = is_le (order from key) && is_le (order key to)
 
+-- two maps have the same at each of the keys
+abbrev pub Agree : {K C : Type 0} → List K → (K → Option C) → (K → Option C) → Type 0
+Agree [] at now = Unit {0}
+Agree (q ∷ qs) at now = (now q ≡ at q) × Agree qs at now
+
 module _ {K C D : Type 0} (order : K → K → Ordering) (outcome : Option C → D → Applied C) where
   -- what a change makes of the value of q
   abbrev pub after_change : Change K D → K → Option C → Option C
@@ -36,9 +41,9 @@ module _ {K C D : Type 0} (order : K → K → Ordering) (outcome : Option C →
   after_changes [] q now = now
   after_changes (c ∷ cs) q now = after_changes cs q (after_change c q now)
 
-  -- the map after the changes
-  abbrev pub map_after : List (Change K D) → (K → Option C) → K → Option C
-  map_after cs at q = after_changes cs q (at q)
+  -- the map with the changes made over it, in order
+  abbrev pub over : List (Change K D) → (K → Option C) → K → Option C
+  over cs at q = after_changes cs q (at q)
 
   -- the key of a delta that does not fit its value in a map
   abbrev pub unfit_key : Change K D → (K → Option C) → Option K
@@ -50,6 +55,10 @@ module _ {K C D : Type 0} (order : K → K → Ordering) (outcome : Option C →
   first_unfit [] at = None
   first_unfit (Delta key delta ∷ cs) at = cond (fits (outcome (at key) delta)) (first_unfit cs (λ q. after_change (Delta key delta) q (at q))) (Some key)
   first_unfit (Cut from to ∷ cs) at = first_unfit cs (λ q. after_change (Cut from to) q (at q))
+
+  -- each delta fits the value that the changes before it made of the map's
+  abbrev pub Fits : List (Change K D) → (K → Option C) → Type 0
+  Fits cs at = first_unfit cs at ≡ None
 
   -- whether a change touches q, which has the value now: a delta names it, or a cut removes its value
   abbrev pub touches : Change K D → K → Option C → Bool
@@ -71,4 +80,4 @@ module _ {K C D : Type 0} (order : K → K → Ordering) (outcome : Option C →
 
   -- the version that q has at install n of the changes, by the pinned numbers, its value before and its version before
   abbrev pub version_with : List ℕ → List (Change K D) → ℕ → K → Option C → ℕ → ℕ
-  version_with pins cs n q now before = cond (makes_version cs q now) (number_seen (told pins (Some (n, after_changes cs q now)))) before
+  version_with pins cs n q now before = cond (makes_version cs q now) (number_seen (reported pins (Some (n, after_changes cs q now)))) before

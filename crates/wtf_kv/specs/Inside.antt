@@ -1,6 +1,5 @@
--- What holds inside every store: of its cells, and of the lists of keys by which it finds what may be dropped.
-use Rattle.std.specs.Prelude.{◌≡◌, ℕ, ◌+◌, ◌≤◌, true, false, List, length, take, drop, Option, nat_eq}
-use Rattle.std.specs.List.{list_any}
+-- What holds inside every history: of its cells, and of the lists of keys by which it finds what may be dropped.
+use Rattle.std.specs.Prelude.{◌≡◌, ℕ, ◌+◌, ◌≤◌, true, false, List, length, take, drop, Option}
 use Rattle.std.specs.declared.cmp.Ordering.{Ordering}
 use Rattle.wtf_kv.specs.Seen.{upto, ascends, within, is_settled}
 use Rattle.wtf_kv.specs.Stores.{names, versions_in}
@@ -19,9 +18,8 @@ module _ {K C : Type 0} (order : K → K → Ordering) where
   abbrev pub Listed : ℕ → ℕ → List K → List (K × List (ℕ × Option C)) → Type 0
   Listed number fresh touched cells = (q : K) → names order (take fresh touched) q ≡ false → is_settled (upto number (versions_in order cells q)) ≡ true
 
-  -- what holds of every store
-  pub record Sound (number fresh : ℕ) (pins : List ℕ) (touched : List K) (cells : List (K × List (ℕ × Option C))) : Type 0 where
-    pub pinned : (p : ℕ) → list_any (nat_eq p) pins ≡ true → p ≤ number
+  -- what holds of every history
+  pub record Sound (number fresh : ℕ) (touched : List K) (cells : List (K × List (ℕ × Option C))) : Type 0 where
     pub good : AllGood number cells
     pub noted : Noted number fresh touched cells
     pub loose : Listed number fresh touched cells

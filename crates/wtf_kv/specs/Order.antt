@@ -1,10 +1,10 @@
 -- Keys in their order, and those that have versions.
-use Rattle.std.specs.Prelude.{◌≡◌, ℕ, ◌≤◌, Bool, true, false, nat_lt, nat_le, nat_eq, cond, List, Option, None, Some}
+use Rattle.std.specs.Prelude.{◌≡◌, ℕ, ◌≤◌, Bool, true, false, nat_lt, nat_le, nat_eq, cond, not, List, Option, None, Some}
 use Rattle.std.specs.declared.ops.Bound.{Bound}
 use Rattle.std.specs.BTreeMap.Range.{is_from_start}
 use Rattle.std.specs.declared.cmp.Ordering.{Ordering}
 use Rattle.std.specs.Ordering.{is_lt, is_gt}
-use Rattle.std.specs.List.{list_any}
+use Rattle.std.specs.List.{list_any, count_by}
 use Rattle.wtf_kv.specs.Seen.{has_any, has_upto}
 use Rattle.wtf_kv.specs.Stores.{Store, versions_of, versions_in}
 
@@ -32,6 +32,11 @@ abbrev pub is_past : {K : Type 0} → (K → K → Ordering) → Option K → K 
 is_past order None q = true
 is_past order (Some k) q = is_lt (order k q)
 
+-- whether a key lies below another, or there is none to reach
+abbrev pub is_before : {K : Type 0} → (K → K → Ordering) → Option K → K → Bool
+is_before order None q = true
+is_before order (Some k) q = is_lt (order q k)
+
 module _ {K C : Type 0} (order : K → K → Ordering) where
   -- whether a key has a version
   abbrev pub has_version : Store K C → K → Bool
@@ -41,6 +46,16 @@ module _ {K C : Type 0} (order : K → K → Ordering) where
   abbrev pub IsNextKey : Store K C → Option K → Option K → Type 0
   IsNextKey s after None = (q : K) → is_past order after q ≡ true → has_version s q ≡ false
   IsNextKey s after (Some k) = (is_past order after k ≡ true) × (has_version s k ≡ true) × ((q : K) → is_past order after q ≡ true → has_version s q ≡ true → is_gt (order k q) ≡ false)
+
+  -- a walk over the keys has come to a key that has a version, or to its end
+  abbrev pub IsReached : Store K C → Option K → Type 0
+  IsReached s None = Unit {0}
+  IsReached s (Some k) = has_version s k ≡ true
+
+  -- how many keys are left to a walk that has come to a key: a measure that falls
+  abbrev pub left_from : Store K C → Option K → ℕ
+  left_from s None = 0
+  left_from s (Some k) = count_by (λ e. not (is_lt (order e.0 k))) s.cells
 
   -- it is the least key from a start on that has a version at most the number, or there is none
   abbrev pub IsFirstFrom : Bound K → ℕ → List (K × List (ℕ × Option C)) → Option K → Type 0

@@ -25,14 +25,14 @@ number_seen (Some v) = v.0
 abbrev pub any_below : List ℕ → ℕ → Bool
 any_below pins v = list_any (λ p. nat_lt p v) pins
 
--- whether a version is told: a removal only while a pinned number lies below it
-abbrev pub is_told : {C : Type 0} → List ℕ → ℕ × Option C → Bool
-is_told pins v = is_some v.1 || any_below pins v.0
+-- whether a version is reported: a removal only while a pinned number lies below it
+abbrev pub is_reported : {C : Type 0} → List ℕ → ℕ × Option C → Bool
+is_reported pins v = is_some v.1 || any_below pins v.0
 
--- the version that is seen, where it is told
-abbrev pub told : {C : Type 0} → List ℕ → Option (ℕ × Option C) → Option (ℕ × Option C)
-told pins None = None
-told pins (Some v) = cond (is_told pins v) (Some v) None
+-- the version that is seen, where it is reported
+abbrev pub reported : {C : Type 0} → List ℕ → Option (ℕ × Option C) → Option (ℕ × Option C)
+reported pins None = None
+reported pins (Some v) = cond (is_reported pins v) (Some v) None
 
 -- a pinned number is at least v and below w
 abbrev pub any_between : List ℕ → ℕ → ℕ → Bool
@@ -45,9 +45,9 @@ is_seen pins v (w ∷ ws) = any_between pins v w.0
 
 -- whether a version is kept, before those that follow it
 abbrev pub is_kept : {C : Type 0} → List ℕ → ℕ × Option C → List (ℕ × Option C) → Bool
-is_kept pins v rest = is_told pins v && is_seen pins v.0 rest
+is_kept pins v rest = is_reported pins v && is_seen pins v.0 rest
 
--- the versions that are kept: what a pinned number sees and the newest, a removal only while it is told
+-- the versions that are kept: what a pinned number sees and the newest, a removal only while it is reported
 abbrev pub kept_versions : {C : Type 0} → List ℕ → List (ℕ × Option C) → List (ℕ × Option C)
 kept_versions pins [] = []
 kept_versions pins (v ∷ vs) = cond (is_kept pins v vs) (v ∷ kept_versions pins vs) (kept_versions pins vs)

@@ -1,11 +1,11 @@
 -- How the next version of a key is made ready among its versions.
-use Rattle.std.specs.Prelude.{◌≡◌, ℕ, ◌+◌, cond, ◌||◌, ◌⊎◌, List, [], ◌∷◌, ◌++◌, Option, is_some}
+use Rattle.std.specs.Prelude.{◌≡◌, ℕ, ◌+◌, Bool, cond, ◌||◌, ◌&&◌, ◌⊎◌, List, [], ◌∷◌, ◌++◌, Option, is_some}
 use Rattle.std.specs.declared.cmp.Ordering.{Ordering}
 use Rattle.wtf_kv.specs.declared.cell.Applied.{Applied}
 use Rattle.wtf_kv.specs.declared.changes.Change.{Change}
 use Rattle.wtf_kv.specs.Seen.{last_seen, value_seen, upto}
-use Rattle.wtf_kv.specs.Stores.{versions_in}
-use Rattle.wtf_kv.specs.Edits.{after_change, touches}
+use Rattle.wtf_kv.specs.Stores.{Store, versions_in}
+use Rattle.wtf_kv.specs.Edits.{is_between, after_change, touches, versions_with}
 
 -- the value that the next number sees
 abbrev pub value_next : {C : Type 0} → ℕ → List (ℕ × Option C) → Option C
@@ -25,14 +25,30 @@ module _ {K C : Type 0} (order : K → K → Ordering) where
   SameUpto number old new = (key : K) → upto number (versions_in order new key) ≡ upto number (versions_in order old key)
 
   -- the value that the next number sees of a key
-  abbrev pub next_value : ℕ → List (K × List (ℕ × Option C)) → K → Option C
-  next_value number cells key = value_next number (versions_in order cells key)
+  abbrev pub next_value : Store K C → K → Option C
+  next_value s key = value_next s.number (versions_in order s.cells key)
 
-  -- the value that the number sees of a key
-  abbrev pub value_now : ℕ → List (K × List (ℕ × Option C)) → K → Option C
-  value_now number cells key = value_seen (last_seen number (upto number (versions_in order cells key)))
+  -- the keys that pass a test have their next version made ready with a value, the others have what they had
+  abbrev pub IsStaged : (K → Bool) → Option C → Store K C → Store K C → Type 0
+  IsStaged chosen value old new = (q : K) → versions_in order new.cells q ≡ cond (chosen q) (staged old.number value (versions_in order old.cells q)) (versions_in order old.cells q)
+
+  -- whether a cut takes a key out: it lies in the range, and the next number sees a value
+  abbrev pub is_taken : K → K → Store K C → K → Bool
+  is_taken from to s q = is_between order from to q && is_some (next_value s q)
 
 module _ {K C D : Type 0} (order : K → K → Ordering) (outcome : Option C → D → Applied C) where
   -- the versions of q with what one change makes of its next value
   abbrev pub staged_by : Change K D → ℕ → K → List (ℕ × Option C) → List (ℕ × Option C)
   staged_by c number q vs = cond (touches order outcome c q (value_next number vs)) (staged number (after_change order outcome c q (value_next number vs)) vs) vs
+
+  -- each key has its next version made ready with what one change makes of its next value
+  abbrev pub IsStagedBy : Change K D → Store K C → Store K C → Type 0
+  IsStagedBy c old new = (q : K) → versions_in order new.cells q ≡ staged_by c old.number q (versions_in order old.cells q)
+
+  -- the next value of a key with a delta applied, and whether the delta fits there
+  abbrev pub delta_made : K → D → Store K C → Applied C
+  delta_made key delta s = outcome (next_value order s key) delta
+
+  -- over a store in which nothing was made ready, each key has what the changes make of its next value
+  abbrev pub IsStagedByAll : List (Change K D) → Store K C → Store K C → Type 0
+  IsStagedByAll cs old new = (q : K) → versions_in order new.cells q ≡ versions_with order outcome cs (old.number + 1) q (next_value order old q) (versions_in order old.cells q)

@@ -1,12 +1,12 @@
 -- What a store of versions holds, and the maps that it shows at its numbers.
-use Rattle.std.specs.Prelude.{◌≡◌, ℕ, Bool, ◌||◌, List, [], map, Option, nat_eq}
+use Rattle.std.specs.Prelude.{◌≡◌, ℕ, ◌+◌, ◌≤◌, Bool, true, ◌||◌, if◌then◌else◌, List, [], map, Option, nat_eq, count_by}
 use Rattle.std.specs.Option.{unwrap_or}
 use Rattle.std.specs.List.{list_any}
 use Rattle.std.specs.declared.cmp.Ordering.{Ordering}
 use Rattle.std.specs.Map.{lookup}
 use Rattle.std.specs.declared.vec.Vec.{Vec}
 use Rattle.std.specs.BTreeMap.{is_at}
-use Rattle.wtf_kv.specs.Seen.{last_seen, value_seen, number_seen, told, upto}
+use Rattle.wtf_kv.specs.Seen.{last_seen, value_seen, number_seen, reported, upto, ascends}
 
 -- the number of the last install; the pinned numbers, each as often as it is pinned; and each key's
 -- versions, where those above the number are made ready for the next install and not yet shown
@@ -22,6 +22,18 @@ listed entries = map (λ e. (e.0, e.1.items)) entries
 -- whether n is pinned
 abbrev pub is_pinned : {K C : Type 0} → Store K C → ℕ → Bool
 is_pinned s n = list_any (nat_eq n) s.pins
+
+-- each of the pins is at most the number
+abbrev pub ArePinsUpto : List ℕ → ℕ → Type 0
+ArePinsUpto pins number = (p : ℕ) → list_any (nat_eq p) pins ≡ true → p ≤ number
+
+-- how often n is pinned
+abbrev pub times_pinned : {K C : Type 0} → Store K C → ℕ → ℕ
+times_pinned s n = count_by (nat_eq n) s.pins
+
+-- n is pinned once more than before, and each other number as often as before
+abbrev pub IsPinnedOnceMore : {K C : Type 0} → ℕ → Store K C → Store K C → Type 0
+IsPinnedOnceMore n old new = (m : ℕ) → times_pinned new m ≡ times_pinned old m + (if nat_eq m n then 1 else 0)
 
 -- whether n may be read: it is pinned, or it is the number
 abbrev pub is_live : {K C : Type 0} → Store K C → ℕ → Bool
@@ -44,9 +56,13 @@ module _ {K C : Type 0} (order : K → K → Ordering) where
   abbrev pub map_at : Store K C → ℕ → K → Option C
   map_at s n key = value_seen (last_seen n (versions_of s key))
 
-  -- the version that n sees of a key, 0 where none is told
+  -- the version that n sees of a key, 0 where none is reported
   abbrev pub version_of : Store K C → ℕ → K → ℕ
-  version_of s n key = number_seen (told s.pins (last_seen n (versions_of s key)))
+  version_of s n key = number_seen (reported s.pins (last_seen n (versions_of s key)))
+
+  -- the versions of each key ascend
+  abbrev pub AllAscend : Store K C → Type 0
+  AllAscend s = (key : K) → ascends (versions_of s key)
 
   -- both stores show the same: number, pins, and the versions of each key
   pub record ShowsSame (old new : Store K C) : Type 0 where

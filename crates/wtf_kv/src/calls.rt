@@ -1,8 +1,8 @@
 //! Lists of calls on a store: what is pinned stays, whatever comes.
 
-ghost use Rattle.std.specs.Prelude.{◌≡◌, ℕ, IsTrue};
-ghost use Rattle.wtf_kv.specs.Stores.{is_pinned};
-ghost use Rattle.wtf_kv.specs.Calls.{KeepsMap};
+ghost use Rattle.std.specs.Prelude.{◌≡◌, ◌^◌, nat_lt, IsTrue};
+ghost use Rattle.wtf_kv.specs.Stores.{is_pinned, is_live};
+ghost use Rattle.wtf_kv.specs.Calls.{KeepsMap, Step, Steps, IsMadeWhere, may_unpin};
 
 use crate::{Cell, Changes, Kv, StoreKey};
 
@@ -18,11 +18,14 @@ pub enum Call<K: StoreKey, C: Cell> {
     Install(Changes<K, C>),
 }
 
-/// Makes the calls that are allowed, in order, but never takes the last pin of `m` away. The map at `m` stays.
+/// Makes the calls in order, each where it is allowed, but never takes the last pin of `m` away. The map at
+/// `m` stays. A call that finds no memory leaves what the store shows.
 pub fn run<K: StoreKey, C: Cell>(kv: &mut Kv<K, C>, calls: &[Call<K, C>], m: u64)
     requires { IsTrue (is_pinned kv.old m) }
-    ensures { KeepsMap K.cmp m kv.old kv.new }
+    ensures steps { Steps K.cmp C.outcome m calls.now kv.old kv.new }
+    ensures keeps { KeepsMap K.cmp m kv.old kv.new }
 {
+    let _reached = kv.number();
     for call in calls {
         make(kv, call, m);
     }
@@ -30,57 +33,74 @@ pub fn run<K: StoreKey, C: Cell>(kv: &mut Kv<K, C>, calls: &[Call<K, C>], m: u64
 
 /// Makes one call, where it is allowed.
 fn make<K: StoreKey, C: Cell>(kv: &mut Kv<K, C>, call: &Call<K, C>, m: u64)
-    requires { IsTrue (is_pinned kv.old m) }
-    ensures { KeepsMap K.cmp m kv.old kv.new }
+    ensures { Step K.cmp C.outcome m call.now kv.old kv.new }
 {
     match call {
-        Call::Pin(n) => pin(kv, *n, m),
+        Call::Pin(n) => pin(kv, *n),
         Call::Unpin(n) => unpin(kv, *n, m),
         Call::Prune => kv.prune(),
-        Call::Reserve(changes) => reserve(kv, changes, m),
-        Call::Install(changes) => install(kv, changes, m),
+        Call::Reserve(changes) => reserve(kv, changes),
+        Call::Install(changes) => install(kv, changes),
     }
 }
 
-fn pin<K: StoreKey, C: Cell>(kv: &mut Kv<K, C>, n: u64, m: u64)
-    requires { IsTrue (is_pinned kv.old m) }
-    ensures { KeepsMap K.cmp m kv.old kv.new }
+fn is_live<K: StoreKey, C: Cell>(kv: &Kv<K, C>, n: u64) -> bool
+    ensures { result ≡ is_live kv.now n }
 {
-    if n == kv.number() || kv.is_pinned(n) {
-        let _ = kv.pin(n);
+    n == kv.number() || kv.is_pinned(n)
+}
+
+fn pin<K: StoreKey, C: Cell>(kv: &mut Kv<K, C>, n: u64)
+    ensures { IsMadeWhere K.cmp C.outcome (is_live kv.old n) (Call.Pin n) kv.old kv.new }
+{
+    if !is_live(kv, n) {
+        return;
     }
+    let _ = kv.pin(n);
+}
+
+/// Whether a pin of `n` may be undone, where the last one of `m` may not.
+fn may_unpin<K: StoreKey, C: Cell>(kv: &Kv<K, C>, n: u64, m: u64) -> bool
+    ensures { result ≡ may_unpin m n kv.now }
+{
+    kv.is_pinned(n) && (n != m || kv.times_pinned(n) > 1)
 }
 
 fn unpin<K: StoreKey, C: Cell>(kv: &mut Kv<K, C>, n: u64, m: u64)
-    requires { IsTrue (is_pinned kv.old m) }
-    ensures { KeepsMap K.cmp m kv.old kv.new }
+    ensures { Step K.cmp C.outcome m (Call.Unpin n) kv.old kv.new }
 {
-    if n == m {
-        if kv.times_pinned(n) > 1 {
-            kv.unpin(n);
-        }
-    } else if kv.is_pinned(n) {
-        kv.unpin(n);
-    }
-}
-
-fn reserve<K: StoreKey, C: Cell>(kv: &mut Kv<K, C>, changes: &Changes<K, C>, m: u64)
-    requires { IsTrue (is_pinned kv.old m) }
-    ensures { KeepsMap K.cmp m kv.old kv.new }
-{
-    if kv.number() < 1 << 63 {
-        let _ = kv.reserve_install(changes);
-    }
-}
-
-fn install<K: StoreKey, C: Cell>(kv: &mut Kv<K, C>, changes: &Changes<K, C>, m: u64)
-    requires { IsTrue (is_pinned kv.old m) }
-    ensures { KeepsMap K.cmp m kv.old kv.new }
-{
-    if kv.number() >= 1 << 63 {
+    if !may_unpin(kv, n, m) {
         return;
     }
-    if let Ok(ready) = kv.reserve_install(changes) {
-        kv.install(ready);
+    kv.unpin(n);
+}
+
+/// Whether a further install has a number.
+fn has_room<K: StoreKey, C: Cell>(kv: &Kv<K, C>) -> bool
+    ensures { result ≡ nat_lt kv.now.number (2 ^ 63) }
+{
+    kv.number() < 1 << 63
+}
+
+fn reserve<K: StoreKey, C: Cell>(kv: &mut Kv<K, C>, changes: &Changes<K, C>)
+    ensures { IsMadeWhere K.cmp C.outcome (nat_lt kv.old.number (2 ^ 63)) (Call.Reserve changes.now)
+        kv.old kv.new }
+{
+    if !has_room(kv) {
+        return;
     }
+    let _ = kv.reserve_install(changes);
+}
+
+fn install<K: StoreKey, C: Cell>(kv: &mut Kv<K, C>, changes: &Changes<K, C>)
+    ensures { IsMadeWhere K.cmp C.outcome (nat_lt kv.old.number (2 ^ 63)) (Call.Install changes.now)
+        kv.old kv.new }
+{
+    if !has_room(kv) {
+        return;
+    }
+    let Ok(ready) = kv.reserve_install(changes) else {
+        return;
+    };
+    kv.install(ready);
 }

@@ -5,11 +5,11 @@ ghost use Rattle.std.specs.Option.{option_copied};
 ghost use Rattle.std.specs.List.{list_any};
 ghost use Rattle.std.specs.BTreeMap.{is_at};
 ghost use Rattle.std.specs.BTreeMap.Range.{is_from_start};
-ghost use Rattle.wtf_kv.specs.Seen.{last_seen, value_seen, number_seen, told, kept_versions, upto, ascends, within, is_settled, has_upto};
+ghost use Rattle.wtf_kv.specs.Seen.{last_seen, value_seen, number_seen, reported, kept_versions, upto, ascends, within, is_settled, has_upto};
 ghost use Rattle.wtf_kv.specs.Stores.{listed, versions_in, names};
 ghost use Rattle.wtf_kv.specs.Inside.{AllGood, Noted, Listed};
 ghost use Rattle.wtf_kv.specs.Edits.{is_between};
-ghost use Rattle.wtf_kv.specs.Staging.{next_value};
+ghost use Rattle.wtf_kv.specs.Staging.{value_next};
 ghost use Rattle.std.specs.Range.Bound.{bound_map};
 ghost use Rattle.wtf_kv.specs.Order.{IsFirstFrom, is_past};
 
@@ -32,7 +32,8 @@ fn find_in<'a, K: StoreKey, C>(
     key: &K,
 ) -> Option<&'a (u64, Option<C>)>
     requires { ascends (versions_in K.cmp (listed cells.now.entries) key.now) }
-    ensures { option_copied result ≡ last_seen n (versions_in K.cmp (listed cells.now.entries) key.now) }
+    ensures { option_copied result ≡
+        last_seen n (versions_in K.cmp (listed cells.now.entries) key.now) }
 {
     let versions = cells.get(key)?;
     find_version(versions.as_slice(), n)
@@ -41,16 +42,18 @@ fn find_in<'a, K: StoreKey, C>(
 /// The value of a key that `n` sees.
 pub(crate) fn value_in<'a, K: StoreKey, C>(cells: &'a Cells<K, C>, n: u64, key: &K) -> Option<&'a C>
     requires { ascends (versions_in K.cmp (listed cells.now.entries) key.now) }
-    ensures { option_copied result ≡ value_seen (last_seen n (versions_in K.cmp (listed cells.now.entries) key.now)) }
+    ensures { option_copied result ≡ value_seen
+        (last_seen n (versions_in K.cmp (listed cells.now.entries) key.now)) }
 {
     let (_, value) = find_in(cells, n, key)?;
     value.as_ref()
 }
 
-/// The version of a key that `n` sees, 0 where none is told.
+/// The version of a key that `n` sees, 0 where none is reported.
 pub(crate) fn version_in<K: StoreKey, C>(cells: &Cells<K, C>, pins: &[u64], n: u64, key: &K) -> u64
     requires { ascends (versions_in K.cmp (listed cells.now.entries) key.now) }
-    ensures { result ≡ number_seen (told pins.now (last_seen n (versions_in K.cmp (listed cells.now.entries) key.now))) }
+    ensures { result ≡ number_seen (reported pins.now
+        (last_seen n (versions_in K.cmp (listed cells.now.entries) key.now))) }
 {
     let Some(version) = find_in(cells, n, key) else {
         return 0;
@@ -83,7 +86,9 @@ pub(crate) fn seed_cell<K: StoreKey, C: Drop>(
     key: K,
     value: C,
 ) -> Result<(), OutOfMemory>
-    ensures ok { OnOk result ((q : K) → versions_in K.cmp (listed cells.new.entries) q ≡ cond (is_at (K.cmp key) q) ((number, Some value) ∷ []) (versions_in K.cmp (listed cells.old.entries) q)) }
+    ensures ok { OnOk result ((q : K) → versions_in K.cmp (listed cells.new.entries) q ≡
+        cond (is_at (K.cmp key) q) ((number, Some value) ∷ [])
+        (versions_in K.cmp (listed cells.old.entries) q)) }
     ensures err { OnErr result (cells.new.entries ≡ cells.old.entries) }
 {
     let mut versions = Vec::new(alloc);
@@ -104,7 +109,9 @@ pub(crate) fn valued_keys<K: StoreKey, C>(
 ) -> Result<Vec<K>, OutOfMemory>
     requires room { number < 2 ^ 63 }
     requires good { AllGood K.cmp number (listed cells.now.entries) }
-    ensures { IfOk result (λ keys. (q : K) → names K.cmp keys.items q ≡ (is_between K.cmp from.now to.now q && is_some (next_value K.cmp number (listed cells.now.entries) q))) }
+    ensures { IfOk result (λ keys. (q : K) → names K.cmp keys.items q ≡
+        (is_between K.cmp from.now to.now q && is_some
+        (value_next number (versions_in K.cmp (listed cells.now.entries) q)))) }
 {
     let mut keys = Vec::new(alloc);
     if from.cmp(to).is_gt() {
@@ -120,7 +127,8 @@ pub(crate) fn valued_keys<K: StoreKey, C>(
 
 /// Where the keys above `after` start.
 pub(crate) fn start_past<'a, K: StoreKey>(after: Option<&'a K>) -> Bound<&'a K>
-    ensures { (q : K) → is_from_start K.cmp (bound_map (λ k. k.now) result) q ≡ is_past K.cmp (option_copied after.entry) q }
+    ensures { (q : K) → is_from_start K.cmp (bound_map (λ k. k.now) result) q ≡
+        is_past K.cmp (option_copied after.entry) q }
 {
     match after {
         Some(key) => Bound::Excluded(key),
@@ -134,7 +142,9 @@ pub(crate) fn first_key<'a, K: StoreKey, C>(
     start: Bound<&K>,
     number: u64,
 ) -> Option<&'a K>
-    ensures { IsFirstFrom K.cmp (bound_map (λ k. k.now) start.entry) number (listed cells.now.entries) (option_copied result) }
+    ensures { IsFirstFrom K.cmp (bound_map (λ k. k.now) start.entry) number
+        (listed cells.now.entries)
+        (option_copied result) }
 {
     for (key, versions) in cells.range((start, Bound::Unbounded)) {
         if begins_by(versions.as_slice(), number) {
@@ -147,7 +157,10 @@ pub(crate) fn first_key<'a, K: StoreKey, C>(
 /// Drops what is made ready for a key.
 fn clear_key<K: StoreKey, C: Drop>(cells: &mut Cells<K, C>, number: u64, key: &K)
     requires { AllGood K.cmp number (listed cells.old.entries) }
-    ensures { (q : K) → versions_in K.cmp (listed cells.new.entries) q ≡ cond (is_at (K.cmp key.now) q) (upto number (versions_in K.cmp (listed cells.old.entries) q)) (versions_in K.cmp (listed cells.old.entries) q) }
+    ensures { (q : K) → versions_in K.cmp (listed cells.new.entries) q ≡
+        cond (is_at (K.cmp key.now) q) (upto number
+        (versions_in K.cmp (listed cells.old.entries) q))
+        (versions_in K.cmp (listed cells.old.entries) q) }
 {
     let Some(versions) = cells.get_mut(key) else {
         return;
@@ -168,7 +181,8 @@ pub(crate) fn clear_cells<K: StoreKey, C: Drop>(
     requires good { AllGood K.cmp number (listed cells.old.entries) }
     requires noted { Noted K.cmp number fresh touched.old.items (listed cells.old.entries) }
     ensures touched { touched.new.items ≡ take fresh touched.old.items }
-    ensures versions { (q : K) → versions_in K.cmp (listed cells.new.entries) q ≡ upto number (versions_in K.cmp (listed cells.old.entries) q) }
+    ensures versions { (q : K) → versions_in K.cmp (listed cells.new.entries) q ≡
+        upto number (versions_in K.cmp (listed cells.old.entries) q) }
 {
     while touched.len() > fresh {
         let Some(key) = touched.pop() else {
@@ -180,8 +194,12 @@ pub(crate) fn clear_cells<K: StoreKey, C: Drop>(
 
 /// Drops what is not kept of a key, and answers whether something may be dropped later.
 fn prune_key<K: StoreKey, C: Drop>(cells: &mut Cells<K, C>, pins: &[u64], key: &K) -> bool
-    ensures versions { (q : K) → versions_in K.cmp (listed cells.new.entries) q ≡ cond (is_at (K.cmp key.now) q) (kept_versions pins.now (versions_in K.cmp (listed cells.old.entries) q)) (versions_in K.cmp (listed cells.old.entries) q) }
-    ensures loose { result ≡ not (is_settled (versions_in K.cmp (listed cells.new.entries) key.now)) }
+    ensures versions { (q : K) → versions_in K.cmp (listed cells.new.entries) q ≡
+        cond (is_at (K.cmp key.now) q) (kept_versions pins.now
+        (versions_in K.cmp (listed cells.old.entries) q))
+        (versions_in K.cmp (listed cells.old.entries) q) }
+    ensures loose { result ≡ not
+        (is_settled (versions_in K.cmp (listed cells.new.entries) key.now)) }
 {
     let Some(versions) = cells.get_mut(key) else {
         return false;
@@ -197,9 +215,12 @@ fn prune_key<K: StoreKey, C: Drop>(cells: &mut Cells<K, C>, pins: &[u64], key: &
 /// Drops what is not kept of the touched keys, and forgets those of which nothing is left to drop.
 fn prune_cells<K: StoreKey, C: Drop>(cells: &mut Cells<K, C>, touched: &mut Vec<K>, pins: &[u64])
     requires order { (q : K) → ascends (versions_in K.cmp (listed cells.old.entries) q) }
-    requires loose { (q : K) → names K.cmp touched.old.items q ≡ false → is_settled (versions_in K.cmp (listed cells.old.entries) q) ≡ true }
-    ensures loose { (q : K) → names K.cmp touched.new.items q ≡ false → is_settled (versions_in K.cmp (listed cells.new.entries) q) ≡ true }
-    ensures versions { (q : K) → versions_in K.cmp (listed cells.new.entries) q ≡ kept_versions pins.now (versions_in K.cmp (listed cells.old.entries) q) }
+    requires loose { (q : K) → names K.cmp touched.old.items q ≡ false →
+        is_settled (versions_in K.cmp (listed cells.old.entries) q) ≡ true }
+    ensures loose { (q : K) → names K.cmp touched.new.items q ≡ false →
+        is_settled (versions_in K.cmp (listed cells.new.entries) q) ≡ true }
+    ensures versions { (q : K) → versions_in K.cmp (listed cells.new.entries) q ≡
+        kept_versions pins.now (versions_in K.cmp (listed cells.old.entries) q) }
 {
     let mut i = touched.len();
     while i > 0 {
@@ -230,8 +251,10 @@ pub(crate) fn prune_all<K: StoreKey, C: Drop>(
     requires good { AllGood K.cmp number (listed cells.old.entries) }
     requires noted { Noted K.cmp number fresh touched.old.items (listed cells.old.entries) }
     requires loose { Listed K.cmp number fresh touched.old.items (listed cells.old.entries) }
-    ensures loose { (q : K) → names K.cmp touched.new.items q ≡ false → is_settled (versions_in K.cmp (listed cells.new.entries) q) ≡ true }
-    ensures versions { (q : K) → versions_in K.cmp (listed cells.new.entries) q ≡ kept_versions pins.now (upto number (versions_in K.cmp (listed cells.old.entries) q)) }
+    ensures loose { (q : K) → names K.cmp touched.new.items q ≡ false →
+        is_settled (versions_in K.cmp (listed cells.new.entries) q) ≡ true }
+    ensures versions { (q : K) → versions_in K.cmp (listed cells.new.entries) q ≡
+        kept_versions pins.now (upto number (versions_in K.cmp (listed cells.old.entries) q)) }
 {
     clear_cells(cells, touched, number, fresh);
     keep_once(touched);

@@ -7,9 +7,10 @@ mod calls;
 mod cell;
 mod cells;
 mod changes;
+pub mod examples;
+mod history;
 mod ready;
 mod rows;
-mod stage;
 mod store;
 
 pub use calls::{Call, run};

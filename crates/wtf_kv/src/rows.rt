@@ -5,7 +5,7 @@ ghost use Rattle.std.specs.Option.{option_copied};
 ghost use Rattle.std.specs.Map.Iter.{TakesFirst};
 ghost use Rattle.std.specs.Iterator.{at_most};
 ghost use Rattle.std.specs.List.{AllWithin};
-ghost use Rattle.wtf_kv.specs.Seen.{last_seen, value_seen, any_below, any_between, is_told, kept_head, kept_versions, upto, ascends, within, is_settled, has_upto};
+ghost use Rattle.wtf_kv.specs.Seen.{last_seen, value_seen, any_below, any_between, is_reported, kept_head, kept_versions, upto, ascends, within, is_settled, has_upto};
 ghost use Rattle.wtf_kv.specs.Staging.{staged};
 
 use std::marker::{Model, PhantomData};
@@ -24,9 +24,9 @@ fn has_between(pins: &[u64], from: u64, to: u64) -> bool
     pins.iter().any(|p| from <= *p && *p < to)
 }
 
-/// Whether a version is told: a removal only while a pinned number lies below it.
+/// Whether a version is reported: a removal only while a pinned number lies below it.
 pub(crate) fn tells<C>(version: &(u64, Option<C>), pins: &[u64]) -> bool
-    ensures { result ≡ is_told pins.now version.now }
+    ensures { result ≡ is_reported pins.now version.now }
 {
     version.1.is_some() || has_below(pins, version.0)
 }

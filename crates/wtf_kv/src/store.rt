@@ -4,20 +4,16 @@ ghost use Rattle.std.specs.Prelude.{◌≡◌, ℕ, ◌+◌, ◌<◌, ◌≤◌,
 ghost use Rattle.std.specs.Option.{option_copied};
 ghost use Rattle.std.specs.Set.{remove_key};
 ghost use Rattle.std.specs.BTreeMap.{is_at};
-ghost use Rattle.wtf_kv.specs.Seen.{kept_versions};
-ghost use Rattle.wtf_kv.specs.Stores.{versions_of, map_at, version_of, is_pinned, is_live, ShowsSame};
-ghost use Rattle.wtf_kv.specs.Edits.{map_after, first_unfit, versions_with, version_with};
+ghost use Rattle.wtf_kv.specs.Seen.{kept_versions, ascends};
+ghost use Rattle.wtf_kv.specs.Stores.{versions_of, map_at, version_of, is_pinned, is_live, times_pinned, IsPinnedOnceMore, AllAscend, ShowsSame};
+ghost use Rattle.wtf_kv.specs.Edits.{over, Fits, first_unfit, versions_with, version_with};
 ghost use Rattle.wtf_kv.specs.Causes.{IsCause};
 ghost use Rattle.wtf_kv.specs.Installs.{IsReady};
 ghost use Rattle.wtf_kv.specs.Order.{IsNextKey, IsNextPinned, IsLeastAbove, is_above, least_of};
 
-use crate::cells::{
-    Cells, first_key, prune_all, seed_cell, shown_in, start_past, value_in, version_in,
-};
-use crate::stage::stage_fresh;
+use crate::history::History;
 use crate::{Cell, Changes, NotReady, Ready, StoreKey, Versions};
 use std::alloc::Global;
-use std::collections::BTreeMap;
 use std::marker::{Model, PhantomData};
 use wtf_base::OutOfMemory;
 
@@ -25,24 +21,18 @@ use wtf_base::OutOfMemory;
 /// pinned numbers, each as often as it is pinned, and the versions of each key.
 #[derive(Drop)]
 pub struct Kv<K: StoreKey, C: Cell> {
-    alloc: Global,
-    number: u64,
     pins: Vec<u64>,
-    cells: Cells<K, C>,
-    // The keys of which something may be dropped, and from `fresh` on those with a version made ready.
-    touched: Vec<K>,
-    fresh: usize,
+    history: History<K, C>,
 }
 
 impl<K: StoreKey, C: Cell> Model for Kv<K, C> {
-    ghost use Rattle.wtf_kv.specs.Stores.{Store, listed};
-    ghost use Rattle.wtf_kv.specs.Inside.{Sound};
+    ghost use Rattle.wtf_kv.specs.Stores.{Store, ArePinsUpto};
 
     ghost Value = { Store K C };
 
-    ghost view = { λ s. record { number = s.number; pins = s.pins.items; cells = listed s.cells.entries } };
+    ghost view = { λ s. record s.history { pins = s.pins.items } };
 
-    ghost invariant = { λ s. Sound K.cmp s.number s.fresh s.pins.items s.touched.items (listed s.cells.entries) };
+    ghost invariant = { λ s. ArePinsUpto s.pins.items s.history.number };
 }
 
 impl<K: StoreKey, C: Cell> Kv<K, C> {
@@ -58,12 +48,8 @@ impl<K: StoreKey, C: Cell> Kv<K, C> {
         ensures { result ≡ Ok (record { number = number; pins = []; cells = [] }) }
     {
         Ok(Kv {
-            alloc,
-            number,
             pins: Vec::new(alloc),
-            cells: BTreeMap::new(alloc),
-            touched: Vec::new(alloc),
-            fresh: 0,
+            history: History::new(alloc, number),
         })
     }
 
@@ -72,7 +58,7 @@ impl<K: StoreKey, C: Cell> Kv<K, C> {
         ensures number { result ≡ self.now.number }
         ensures pins { (p : ℕ) → IsTrue (is_pinned self.now p) → p ≤ result }
     {
-        self.number
+        self.history.number()
     }
 
     /// Gives a key its first value, with the number as its version, before a number is pinned. Want of
@@ -82,10 +68,12 @@ impl<K: StoreKey, C: Cell> Kv<K, C> {
         requires fresh { versions_of K.cmp self.old key ≡ [] }
         ensures number { self.new.number ≡ self.old.number }
         ensures pins { self.new.pins ≡ [] }
-        ensures ok { OnOk result ((q : K) → versions_of K.cmp self.new q ≡ cond (is_at (K.cmp key) q) ((self.old.number, Some value) ∷ []) (versions_of K.cmp self.old q)) }
+        ensures ok { OnOk result ((q : K) → versions_of K.cmp self.new q ≡
+            cond (is_at (K.cmp key) q) ((self.old.number, Some value) ∷ [])
+            (versions_of K.cmp self.old q)) }
         ensures err { OnErr result (ShowsSame K.cmp self.old self.new) }
     {
-        seed_cell(self.alloc, &mut self.cells, self.number, key, value)
+        self.history.seed(key, value)
     }
 
     /// The value of a key in the map at `n`, which is pinned or is the number. It takes the time of two
@@ -94,7 +82,7 @@ impl<K: StoreKey, C: Cell> Kv<K, C> {
         requires { IsTrue (is_live self.now n) }
         ensures { option_copied result ≡ map_at K.cmp self.now n key.now }
     {
-        value_in(&self.cells, n, key)
+        self.history.value(n, key)
     }
 
     /// The install that set what `n` sees of a key, 0 where none did; `n` is pinned or is the number. A
@@ -104,9 +92,10 @@ impl<K: StoreKey, C: Cell> Kv<K, C> {
         ensures version { result ≡ version_of K.cmp self.now n key.now }
         ensures bound { result ≤ n }
         // A key that has no version above a pinned number is in the map what it was there.
-        ensures unmoved { (b : ℕ) → IsTrue (is_pinned self.now b) → b ≤ n → result ≤ b → map_at K.cmp self.now b key.now ≡ map_at K.cmp self.now n key.now }
+        ensures unmoved { (b : ℕ) → IsTrue (is_pinned self.now b) → b ≤ n → result ≤ b →
+            map_at K.cmp self.now b key.now ≡ map_at K.cmp self.now n key.now }
     {
-        version_in(&self.cells, self.pins.as_slice(), n, key)
+        self.history.version(self.pins.as_slice(), n, key)
     }
 
     /// Pins a number once more, so that its map stays; it is pinned already, or is the number. Want of
@@ -114,6 +103,7 @@ impl<K: StoreKey, C: Cell> Kv<K, C> {
     pub fn pin(&mut self, n: u64) -> Result<(), OutOfMemory>
         requires { IsTrue (is_live self.old n) }
         ensures ok { OnOk result (self.new ≡ record self.old { pins = self.old.pins ++ n ∷ [] }) }
+        ensures once { OnOk result (IsPinnedOnceMore n self.old self.new) }
         ensures err { OnErr result (self.new ≡ self.old) }
     {
         match self.pins.push(n) {
@@ -125,7 +115,8 @@ impl<K: StoreKey, C: Cell> Kv<K, C> {
     /// Undoes one pin of a number.
     pub fn unpin(&mut self, n: u64)
         requires { IsTrue (is_pinned self.old n) }
-        ensures { self.new ≡ record self.old { pins = remove_key (nat_eq n) self.old.pins } }
+        ensures rest { self.new ≡ record self.old { pins = remove_key (nat_eq n) self.old.pins } }
+        ensures once { IsPinnedOnceMore n self.new self.old }
     {
         remove_one(&mut self.pins, n);
     }
@@ -139,7 +130,7 @@ impl<K: StoreKey, C: Cell> Kv<K, C> {
 
     /// How often a number is pinned.
     pub fn times_pinned(&self, n: u64) -> usize
-        ensures { result ≡ count_by (nat_eq n) self.now.pins }
+        ensures { result ≡ times_pinned self.now n }
     {
         self.pins.iter().filter(|p| n == **p).count()
     }
@@ -149,18 +140,15 @@ impl<K: StoreKey, C: Cell> Kv<K, C> {
     pub fn prune(&mut self)
         ensures number { self.new.number ≡ self.old.number }
         ensures pins { self.new.pins ≡ self.old.pins }
-        ensures kept { (q : K) → versions_of K.cmp self.new q ≡ kept_versions self.old.pins (versions_of K.cmp self.old q) }
-        ensures maps { (n : ℕ) → IsTrue (is_live self.old n) → map_at K.cmp self.new n ≡ map_at K.cmp self.old n }
-        ensures versions { (n : ℕ) → IsTrue (is_live self.old n) → version_of K.cmp self.new n ≡ version_of K.cmp self.old n }
+        ensures order { AllAscend K.cmp self.old }
+        ensures kept { (q : K) → versions_of K.cmp self.new q ≡
+            kept_versions self.old.pins (versions_of K.cmp self.old q) }
+        ensures maps { (n : ℕ) → IsTrue (is_live self.old n) → map_at K.cmp self.new n ≡
+            map_at K.cmp self.old n }
+        ensures versions { (n : ℕ) → IsTrue (is_live self.old n) → version_of K.cmp self.new n ≡
+            version_of K.cmp self.old n }
     {
-        prune_all(
-            &mut self.cells,
-            &mut self.touched,
-            self.number,
-            self.fresh,
-            self.pins.as_slice(),
-        );
-        self.fresh = self.touched.len();
+        self.history.prune(self.pins.as_slice());
     }
 
     /// Makes an install of the changes ready, with all memory that it takes. The first key whose delta
@@ -177,22 +165,16 @@ impl<K: StoreKey, C: Cell> Kv<K, C> {
         ensures versions { (n : ℕ) → version_of K.cmp self.new n ≡ version_of K.cmp self.old n }
         ensures ready { IfOk result (λ ready. IsReady K.cmp C.outcome self.new ready) }
         ensures changes { IfOk result (λ ready. ready.changes ≡ changes.now) }
-        ensures fit { OnOk result (first_unfit K.cmp C.outcome changes.now (map_at K.cmp self.old self.old.number) ≡ None) }
-        ensures cause { IfErr result (λ why. IsCause why (first_unfit K.cmp C.outcome changes.now (map_at K.cmp self.old self.old.number))) }
+        ensures fit { OnOk result
+            (Fits K.cmp C.outcome changes.now (map_at K.cmp self.old self.old.number)) }
+        ensures cause { IfErr result (λ why. IsCause why
+            (first_unfit K.cmp C.outcome changes.now (map_at K.cmp self.old self.old.number))) }
     {
-        let staged = stage_fresh::<K, C>(
-            self.alloc,
-            &mut self.cells,
-            &mut self.touched,
-            self.number,
-            self.fresh,
-            changes.as_slice(),
-        );
-        if let Err(why) = staged {
+        if let Err(why) = self.history.stage(changes.as_slice()) {
             return Err(why);
         }
         Ok(Ready {
-            number: self.number + 1,
+            number: self.history.number() + 1,
             changes,
         })
     }
@@ -205,38 +187,44 @@ impl<K: StoreKey, C: Cell> Kv<K, C> {
         ensures answer { result ≡ self.new.number }
         ensures number { self.new.number ≡ self.old.number + 1 }
         ensures pins { self.new.pins ≡ self.old.pins }
-        ensures versions { (q : K) → versions_of K.cmp self.new q ≡ versions_with K.cmp C.outcome ready.entry.changes self.new.number q (map_at K.cmp self.old self.old.number q) (versions_of K.cmp self.old q) }
-        ensures version { (q : K) → version_of K.cmp self.new self.new.number q ≡ version_with K.cmp C.outcome self.old.pins ready.entry.changes self.new.number q (map_at K.cmp self.old self.old.number q) (version_of K.cmp self.old self.old.number q) }
-        ensures map { map_at K.cmp self.new self.new.number ≡ map_after K.cmp C.outcome ready.entry.changes (map_at K.cmp self.old self.old.number) }
-        ensures maps { (n : ℕ) → n ≤ self.old.number → map_at K.cmp self.new n ≡ map_at K.cmp self.old n }
+        ensures versions { (q : K) → versions_of K.cmp self.new q ≡
+            versions_with K.cmp C.outcome ready.entry.changes self.new.number q
+            (map_at K.cmp self.old self.old.number q) (versions_of K.cmp self.old q) }
+        ensures version { (q : K) → version_of K.cmp self.new self.new.number q ≡
+            version_with K.cmp C.outcome self.old.pins ready.entry.changes self.new.number q
+            (map_at K.cmp self.old self.old.number q)
+            (version_of K.cmp self.old self.old.number q) }
+        ensures map { map_at K.cmp self.new self.new.number ≡
+            over K.cmp C.outcome ready.entry.changes (map_at K.cmp self.old self.old.number) }
+        ensures maps { (n : ℕ) → n ≤ self.old.number → map_at K.cmp self.new n ≡
+            map_at K.cmp self.old n }
     {
         let Ready {
             number: _,
             changes: _,
         } = ready;
-        self.number += 1;
-        self.fresh = self.touched.len();
-        self.number
+        self.history.install();
+        self.history.number()
     }
 
     /// The versions of a key with their values, the oldest first. Right after `prune` these are the
     /// versions that are kept; before it others may stand beside them.
     pub fn kept(&self, key: &K) -> Versions<'_, K, C>
-        ensures { result ≡ versions_of K.cmp self.now key.now }
+        ensures versions { result ≡ versions_of K.cmp self.now key.now }
+        ensures order { ascends result }
     {
         Versions {
-            left: shown_in(&self.cells, self.number, key),
+            left: self.history.versions(key),
             key: PhantomData,
         }
     }
 
     /// The least key above `after` that has a version, none exactly where there is no such key. It takes
     /// the time of a search among the keys.
-    pub fn next_key(&self, after: Option<&K>) -> Option<&K>
+    pub fn next_key<'a>(&'a self, after: Option<&'a K>) -> Option<&'a K>
         ensures { IsNextKey K.cmp self.now (option_copied after.entry) (option_copied result) }
     {
-        let start = start_past(after);
-        first_key(&self.cells, start, self.number)
+        self.history.next_key(after)
     }
 
     /// The least pinned number above `after`, none exactly where there is no such number.

@@ -1,4 +1,5 @@
-pub mod Agree
-pub mod Growing
-pub mod Indexed
-pub mod Noted
+pub mod AttemptLaws
+mod Agree
+mod Growing
+mod Indexed
+mod Noted

@@ -1,3 +1,5 @@
 pub mod Attempts
 pub mod Tries
-pub mod Places
+pub mod Positions
+pub use Rattle.wtf_kv.specs.Stores
+pub use Rattle.wtf_kv.specs.Edits

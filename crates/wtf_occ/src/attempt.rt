@@ -3,18 +3,16 @@
 ghost use Rattle.std.specs.Prelude.{◌≡◌, ℕ, ◌^◌, ◌<◌, ◌≤◌, ◌∷◌, [], ◌++◌, IsTrue, OnErr, OnOk, IfOk, IfSome, length, take};
 ghost use Rattle.std.specs.Option.{option_copied};
 ghost use Rattle.wtf_kv.specs.Stores.{map_at, version_of, is_pinned};
-ghost use Rattle.wtf_kv.specs.Edits.{map_after, first_unfit};
-ghost use Rattle.wtf_occ.specs.Attempts.{Held, Grows};
+ghost use Rattle.wtf_kv.specs.Edits.{Fits};
+ghost use Rattle.wtf_occ.specs.Attempts.{Attempted, Grows, map_seen};
 ghost use Rattle.wtf_occ.specs.Tries.{IsTried, Stays, first_moved};
 
 use crate::Tried;
-use crate::index::{Places, keep_first, note, push_place};
-use crate::values::value_over;
+use crate::write_set::WriteSet;
 use std::alloc::Global;
-use std::collections::BTreeMap;
 use std::marker::Model;
 use wtf_base::OutOfMemory;
-use wtf_kv::{Cell, Change, Changes, Kv, NotReady, StoreKey};
+use wtf_kv::{Cell, Change, Kv, NotReady, StoreKey};
 
 /// An attempt at a set of changes over the map at its base. Contracts see its base, the keys that it
 /// has recorded, and its changes.
@@ -23,24 +21,18 @@ pub struct Attempt<K: StoreKey, C: Cell> {
     alloc: Global,
     base: u64,
     reads: Vec<K>,
-    changes: Changes<K, C>,
-    // Where the changes of each key stand, and the cuts.
-    places: Places<K>,
-    cuts: Vec<usize>,
+    changes: WriteSet<K, C>,
 }
 
 impl<K: StoreKey, C: Cell> Model for Attempt<K, C> {
-    ghost use Rattle.wtf_occ.specs.Attempts.{Held};
-    ghost use Rattle.wtf_occ.specs.Places.{IsIndex, placed};
+    ghost use Rattle.wtf_occ.specs.Attempts.{Attempted};
 
-    ghost Value = { Held K C.Delta };
+    ghost Value = { Attempted K C.Delta };
 
     ghost view = { λ a. record { base = a.base; reads = a.reads.items; changes = a.changes } };
-
-    ghost invariant = { λ a. IsIndex K.cmp a.changes (placed a.places.entries) a.cuts.items };
 }
 
-/// A place in the life of an attempt, to which it can go back.
+/// A point in the life of an attempt, to which it can go back.
 #[derive(Clone, Copy, Debug, PartialEq, Eq)]
 pub struct Mark {
     /// How many keys the attempt had recorded.
@@ -58,18 +50,25 @@ impl<K: StoreKey, C: Cell> Attempt<K, C> {
             alloc,
             base,
             reads: Vec::new(alloc),
-            changes: Changes::new(alloc),
-            places: BTreeMap::new(alloc),
-            cuts: Vec::new(alloc),
+            changes: WriteSet::new(alloc),
         })
+    }
+
+    /// The number at whose map the attempt began.
+    pub fn base(&self) -> u64
+        ensures { result ≡ self.now.base }
+    {
+        self.base
     }
 
     /// The value of a key at the base, with the attempt's own changes applied in order. The key is
     /// recorded. Want of memory leaves the attempt as it was.
     pub fn read(&mut self, kv: &Kv<K, C>, key: &K) -> Result<Option<C>, OutOfMemory>
         requires { IsTrue (is_pinned kv.now self.old.base) }
-        ensures value { IfOk result (λ value. value ≡ map_after K.cmp C.outcome self.old.changes (map_at K.cmp kv.now self.old.base) key.now) }
-        ensures ok { OnOk result (self.new ≡ record self.old { reads = self.old.reads ++ key.now ∷ [] }) }
+        ensures value { IfOk result
+            (λ value. value ≡ map_seen K.cmp C.outcome kv.now self.old key.now) }
+        ensures ok { OnOk result (self.new ≡
+            record self.old { reads = self.old.reads ++ key.now ∷ [] }) }
         ensures err { OnErr result (self.new ≡ self.old) }
         ensures grows { Grows self.old self.new }
     {
@@ -86,58 +85,36 @@ impl<K: StoreKey, C: Cell> Attempt<K, C> {
     /// key and its cuts.
     pub fn peek(&self, kv: &Kv<K, C>, key: &K) -> Result<Option<C>, OutOfMemory>
         requires { IsTrue (is_pinned kv.now self.now.base) }
-        ensures { IfOk result (λ value. value ≡ map_after K.cmp C.outcome self.now.changes (map_at K.cmp kv.now self.now.base) key.now) }
+        ensures { IfOk result (λ value. value ≡ map_seen K.cmp C.outcome kv.now self.now key.now) }
     {
-        value_over(
-            self.alloc,
-            kv,
-            self.base,
-            self.changes.as_slice(),
-            &self.places,
-            self.cuts.as_slice(),
-            key,
-        )
+        self.changes.value(kv, self.base, key)
     }
 
     /// Adds a change of a key's value. Want of memory leaves the attempt as it was.
     pub fn delta(&mut self, key: K, d: C::Delta) -> Result<(), OutOfMemory>
-        ensures ok { OnOk result (self.new ≡ record self.old { changes = self.old.changes ++ Change.Delta key d ∷ [] }) }
+        ensures ok { OnOk result (self.new ≡ record self.old
+            { changes = self.old.changes ++ Change.Delta key d ∷ [] }) }
         ensures err { OnErr result (self.new ≡ self.old) }
         ensures grows { Grows self.old self.new }
     {
-        let place = self.changes.len();
-        let own = key.copy(self.alloc)?;
-        if let Err(why) = self.changes.delta(key, d) {
-            return Err(why);
-        }
-        if let Err(why) = note(self.alloc, &mut self.places, own, place) {
-            self.changes.shorten(place);
-            return Err(why);
-        }
-        Ok(())
+        self.changes.delta(key, d)
     }
 
     /// Adds the removal of the keys from `from` up to and with `to` that have a value. Want of memory
     /// leaves the attempt as it was.
     pub fn cut_range(&mut self, from: K, to: K) -> Result<(), OutOfMemory>
-        ensures ok { OnOk result (self.new ≡ record self.old { changes = self.old.changes ++ Change.Cut from to ∷ [] }) }
+        ensures ok { OnOk result (self.new ≡ record self.old
+            { changes = self.old.changes ++ Change.Cut from to ∷ [] }) }
         ensures err { OnErr result (self.new ≡ self.old) }
         ensures grows { Grows self.old self.new }
     {
-        let place = self.changes.len();
-        if let Err(why) = self.changes.cut_range(from, to) {
-            return Err(why);
-        }
-        if let Err(why) = push_place(&mut self.cuts, place) {
-            self.changes.shorten(place);
-            return Err(why);
-        }
-        Ok(())
+        self.changes.cut_range(from, to)
     }
 
     /// Notes how many recorded keys and changes there are.
     pub fn mark(&self) -> Mark
-        ensures { result ≡ record { reads = length self.now.reads; changes = length self.now.changes } }
+        ensures { result ≡ record
+            { reads = length self.now.reads; changes = length self.now.changes } }
     {
         Mark {
             reads: self.reads.len(),
@@ -151,16 +128,17 @@ impl<K: StoreKey, C: Cell> Attempt<K, C> {
     pub fn rewind(&mut self, to: Mark)
         requires reads { to.reads ≤ length self.old.reads }
         requires changes { to.changes ≤ length self.old.changes }
-        ensures cut { self.new ≡ record self.old { reads = take to.reads self.old.reads; changes = take to.changes self.old.changes } }
-        ensures back { (then : Held K C.Delta) → Grows then self.old → to ≡ record { reads = length then.reads; changes = length then.changes } → self.new ≡ then }
+        ensures cut { self.new ≡ record self.old {
+          reads = take to.reads self.old.reads;
+          changes = take
+              to.changes self.old.changes;
+        } }
+        ensures back { (then : Attempted K C.Delta) → Grows then self.old → to ≡
+            record { reads = length then.reads; changes = length then.changes } → self.new ≡
+            then }
     {
         self.reads.truncate(to.reads);
-        keep_first(
-            &mut self.changes,
-            &mut self.places,
-            &mut self.cuts,
-            to.changes,
-        );
+        self.changes.shorten(to.changes);
     }
 
     /// Installs all changes in order, or names the key that is in the way: the first recorded key with a
@@ -170,8 +148,9 @@ impl<K: StoreKey, C: Cell> Attempt<K, C> {
     pub fn install(&mut self, kv: &mut Kv<K, C>) -> Result<Tried<K>, OutOfMemory>
         requires room { kv.old.number < 2 ^ 63 }
         requires pinned { IsTrue (is_pinned kv.old self.old.base) }
-        requires fit { first_unfit K.cmp C.outcome self.old.changes (map_at K.cmp kv.old self.old.base) ≡ None }
-        ensures tried { IfOk result (λ tried. IsTried K.cmp C.outcome self.old kv.old kv.new tried) }
+        requires fits { Fits K.cmp C.outcome self.old.changes (map_at K.cmp kv.old self.old.base) }
+        ensures tried { IfOk result
+            (λ tried. IsTried K.cmp C.outcome self.old kv.old kv.new tried) }
         ensures err { OnErr result (Stays K.cmp kv.old kv.new) }
         ensures pins { kv.new.pins ≡ kv.old.pins }
         ensures maps { (n : ℕ) → n ≤ kv.old.number → map_at K.cmp kv.new n ≡ map_at K.cmp kv.old n }
@@ -184,7 +163,7 @@ impl<K: StoreKey, C: Cell> Attempt<K, C> {
             let key = key.copy(self.alloc)?;
             return Ok(Tried::Conflict { key, seen, now });
         }
-        let ready = match kv.reserve_install(&self.changes) {
+        let ready = match kv.reserve_install(self.changes.changes()) {
             Ok(ready) => ready,
             Err(NotReady::Memory) => return Err(OutOfMemory),
             Err(NotReady::Unfit(key)) => {

@@ -3,9 +3,10 @@
 #![tactic(auto)]
 
 mod attempt;
-mod index;
+pub mod examples;
 mod tried;
 mod values;
+mod write_set;
 
 pub use attempt::{Attempt, Mark};
 pub use tried::Tried;

@@ -84,7 +84,8 @@ fn store(alloc: Global, n: u64) -> Result<Kv<Name, Count>, Fail> {
 /// An attempt from base 1 that reads key 7, or only peeks, and pushes to it.
 fn pushing(alloc: Global, kv: &Kv<Name, Count>, reads: bool) -> Result<Attempt<Name, Count>, Fail>
     requires { IsTrue (is_pinned kv.now 1) }
-    ensures { IfOk result (λ a. (a.base ≡ 1) × (a.changes ≡ Change.Delta (record { id = 7 }) 3 ∷ [])) }
+    ensures { IfOk result (λ a. (a.base ≡ 1) ×
+        (a.changes ≡ Change.Delta (record { id = 7 }) 3 ∷ [])) }
 {
     let mut attempt = Attempt::new(alloc, 1)?;
     if reads {

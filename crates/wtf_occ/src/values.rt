@@ -2,10 +2,9 @@
 
 ghost use Rattle.std.specs.Prelude.{◌≡◌, IsTrue, IfOk, cond, nat_eq, length};
 ghost use Rattle.wtf_kv.specs.Stores.{map_at, is_pinned};
-ghost use Rattle.wtf_kv.specs.Edits.{after_change, map_after};
-ghost use Rattle.wtf_occ.specs.Places.{AllBelow, IsIndex, placed, covers, past_cover, after_places};
+ghost use Rattle.wtf_kv.specs.Edits.{after_change};
+ghost use Rattle.wtf_occ.specs.Positions.{AllBelow, covers, past_cover, after_positions};
 
-use crate::index::{Places, places_in};
 use std::alloc::Global;
 use wtf_base::OutOfMemory;
 use wtf_kv::{Applied, Cell, Change, Kv, StoreKey};
@@ -40,15 +39,15 @@ fn changed<K: StoreKey, C: Cell>(
     }
 }
 
-/// One past the place of the last cut that covers a key, 0 where none does.
-fn past_cuts<K: StoreKey, D>(changes: &[Change<K, D>], cuts: &[usize], key: &K) -> usize
+/// One past the position of the last cut that covers a key, 0 where none does.
+pub(crate) fn past_cuts<K: StoreKey, D>(changes: &[Change<K, D>], cuts: &[usize], key: &K) -> usize
     requires { AllBelow (length changes.now) cuts.now }
     ensures { result ≡ past_cover K.cmp changes.now key.now cuts.now 0 }
 {
     let mut past = 0;
-    for place in cuts {
-        if is_covered(&changes[*place], key) {
-            past = *place + 1;
+    for position in cuts {
+        if is_covered(&changes[*position], key) {
+            past = *position + 1;
         }
     }
     past
@@ -66,7 +65,7 @@ fn is_covered<K: StoreKey, D>(change: &Change<K, D>, key: &K) -> bool
 
 /// The value from which the changes at `from` and past it start: the one at the base, or none where a
 /// cut stands before them.
-fn value_before<K: StoreKey, C: Cell>(
+pub(crate) fn value_before<K: StoreKey, C: Cell>(
     alloc: Global,
     kv: &Kv<K, C>,
     base: u64,
@@ -74,7 +73,8 @@ fn value_before<K: StoreKey, C: Cell>(
     key: &K,
 ) -> Result<Option<C>, OutOfMemory>
     requires { IsTrue (is_pinned kv.now base) }
-    ensures { IfOk result (λ value. value ≡ cond (nat_eq from 0) (map_at K.cmp kv.now base key.now) None) }
+    ensures { IfOk result (λ value. value ≡
+        cond (nat_eq from 0) (map_at K.cmp kv.now base key.now) None) }
 {
     if from != 0 {
         return Ok(None);
@@ -85,42 +85,24 @@ fn value_before<K: StoreKey, C: Cell>(
     }
 }
 
-/// What the changes at those of the places that are at least `from` make of a key's value.
-fn value_after<K: StoreKey, C: Cell>(
+/// What the changes at those of the positions that are at least `from` make of a key's value.
+pub(crate) fn value_after<K: StoreKey, C: Cell>(
     alloc: Global,
     changes: &[Change<K, C::Delta>],
-    places: &[usize],
+    positions: &[usize],
     from: usize,
     key: &K,
     before: Option<C>,
 ) -> Result<Option<C>, OutOfMemory>
-    requires { AllBelow (length changes.now) places.now }
-    ensures { IfOk result (λ value. value ≡ after_places K.cmp C.outcome changes.now key.now from places.now before) }
+    requires { AllBelow (length changes.now) positions.now }
+    ensures { IfOk result (λ value. value ≡ after_positions K.cmp C.outcome changes.now key.now from
+        positions.now before) }
 {
     let mut now = before;
-    for place in places {
-        if from <= *place {
-            now = changed::<K, C>(alloc, &changes[*place], key, now)?;
+    for position in positions {
+        if from <= *position {
+            now = changed::<K, C>(alloc, &changes[*position], key, now)?;
         }
     }
     Ok(now)
-}
-
-/// A key's value at `base`, with changes over it, by the index of their places.
-pub(crate) fn value_over<K: StoreKey, C: Cell>(
-    alloc: Global,
-    kv: &Kv<K, C>,
-    base: u64,
-    changes: &[Change<K, C::Delta>],
-    places: &Places<K>,
-    cuts: &[usize],
-    key: &K,
-) -> Result<Option<C>, OutOfMemory>
-    requires pinned { IsTrue (is_pinned kv.now base) }
-    requires index { IsIndex K.cmp changes.now (placed places.now.entries) cuts.now }
-    ensures { IfOk result (λ value. value ≡ map_after K.cmp C.outcome changes.now (map_at K.cmp kv.now base) key.now) }
-{
-    let from = past_cuts(changes, cuts, key);
-    let before = value_before(alloc, kv, base, from, key)?;
-    value_after(alloc, changes, places_in(places, key), from, key, before)
 }

@@ -6,7 +6,7 @@ use Rattle.std.proofs.lemmas.Bool.{cases_Bool}
 use Rattle.std.proofs.lemmas.List.{get_or_default}
 use Rattle.wtf_kv.specs.Seen.{is_settled}
 use Rattle.wtf_kv.specs.Stores.{listed, names, versions_in}
-use Rattle.wtf_kv.proofs.Loose.{step-either, step-done, step-left, names-last, names-not, names-swap_remove, take-swap_remove, settled_told}
+use Rattle.wtf_kv.proofs.Loose.{step-either, step-done, step-left, names-last, names-not, names-swap_remove, take-swap_remove, settled_reported}
 use Rattle.wtf_kv.proofs.cells.prune_cells.Goals as goal
 
 pub loop-i-preserved : goal.loop-i-preserved
@@ -53,7 +53,7 @@ loop-i-preserved-then-not-loose g c =
           (λ apart. inv.done q (names-last R ts i k q positive le c.index.ensures (ap (λ l. names R l q) (sym front) ∙ none) apart));
       loose = λ q none. ⊎_elim
           (λ here. let is : k ≡ q = g.met.K.StoreKey.exact k q ((Equal-is (R k q)).0 here) in
-          subst (λ x. is_settled (versions_in R new x) ≡ true) is (settled_told (is_settled (versions_in R new k)) c.prune_key-loose.result c.prune_key-loose.ensures.loose c.if-not-loose.true))
+          subst (λ x. is_settled (versions_in R new x) ≡ true) is (settled_reported (is_settled (versions_in R new k)) c.prune_key-loose.result c.prune_key-loose.ensures.loose c.if-not-loose.true))
           (λ apart. ap is_settled (step-left c.args.pins.now (is_at (R k) q) (versions_in R old q) (versions_in R now q) (versions_in R new q) (c.requires.order q) (step q) (inv.either q) apart)
           ∙ inv.loose q (names-swap_remove R ts i k q positive le c.index.ensures (ap (λ l. names R l q) (sym taken) ∙ none) apart))
           (cases_Bool (is_at (R k) q));

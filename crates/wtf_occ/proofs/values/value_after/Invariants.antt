@@ -1,6 +1,6 @@
 use Rattle.std.proofs.Common.{◌≡◌, drop}
-use Rattle.wtf_occ.specs.Places.{after_places}
+use Rattle.wtf_occ.specs.Positions.{after_positions}
 use Rattle.wtf_occ.proofs.values.value_after.Given as goal
 
-abbrev pub invariant-loop-place : goal.invariant-loop-place
-invariant-loop-place g l = after_places g.K.Ord.cmp g.C.Cell.outcome l.changes l.key l.from (drop l.place-index l.places) l.now ≡ after_places g.K.Ord.cmp g.C.Cell.outcome l.changes l.key l.from l.places l.fn.before
+abbrev pub invariant-loop-position : goal.invariant-loop-position
+invariant-loop-position g l = after_positions g.K.Ord.cmp g.C.Cell.outcome l.changes l.key l.from (drop l.position-index l.positions) l.now ≡ after_positions g.K.Ord.cmp g.C.Cell.outcome l.changes l.key l.from l.positions l.fn.before

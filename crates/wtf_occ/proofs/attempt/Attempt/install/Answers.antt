@@ -2,11 +2,12 @@ use Rattle.std.proofs.Common.{sym, ap, subst, ◌∙◌, ◌≡◌, ◌+◌, ◌
 use Rattle.std.proofs.lemmas.Bool.{cases_lt}
 use Rattle.std.specs.List.{list_any}
 use Rattle.wtf_kv.specs.Stores.{map_at, version_of, versions_of}
-use Rattle.wtf_kv.specs.Edits.{first_unfit, map_after, versions_with, version_with}
+use Rattle.wtf_kv.specs.Edits.{first_unfit, over, versions_with, version_with}
 use Rattle.wtf_kv.specs.Causes.{IsCause}
 use Rattle.wtf_kv.specs.declared.ready.NotReady.TheVariants.{Unfit}
 use Rattle.wtf_occ.specs.Tries.{first_moved, or_else}
 use Rattle.wtf_occ.proofs.Agree.{unfit_on_both}
+use Rattle.wtf_occ.proofs.AttemptLaws.{Agree-unmoved}
 use Rattle.wtf_occ.proofs.attempt.Attempt.install.Goals as goal
 
 pub returns-in-Err-Unfit-clause-tried : goal.returns-in-Err-Unfit-clause-tried
@@ -17,14 +18,14 @@ returns-in-Err-Unfit-clause-tried g c =
     let base = held.base in
     let key = c.in-Err-Unfit.key in
     let inside : c.self.inside.base ≡ base = ap (λ a. a.base) c.self.view_is in
-    let changes : c.self.inside.changes ≡ held.changes = ap (λ a. a.changes) c.self.view_is in
+    let changes : c.changes.result.now ≡ held.changes = c.changes.ensures ∙ ap (λ a. a.changes) c.self.view_is in
     let reads : c.as_slice.result.now ≡ held.reads = c.as_slice.ensures.value ∙ ap (λ a. a.reads) c.self.view_is in
     let number : c.number-number.result ≡ kv.number = c.number-number.ensures.number in
     let pinned : list_any (nat_eq base) kv.pins ≡ true = c.requires.pinned in
     let le : base ≤ kv.number = subst (λ n. base ≤ n) number (c.number-number.ensures.pins base pinned) in
     let is : c.in-Err-Unfit.field-0 ≡ Unfit key = c.in-Err-Unfit.field-0-is in
     let unfit : first_unfit order g.C.Cell.outcome held.changes (map_at order kv kv.number) ≡ Some key =
-    rw (← changes) (subst (λ why. IsCause why (first_unfit order g.C.Cell.outcome c.self.inside.changes (map_at order kv kv.number))) is c.in-Err-Unfit.ensures.cause) in
+    rw (← changes) (subst (λ why. IsCause why (first_unfit order g.C.Cell.outcome c.changes.result.now (map_at order kv kv.number))) is c.in-Err-Unfit.ensures.cause) in
     let still : first_moved order base held.reads kv ≡ None =
     rw (← inside, ← reads) (sym c.in_default.ensures.first) in
     let now : c.version_at-now-in-Err-Unfit.result ≡ version_of order kv kv.number key =
@@ -40,7 +41,8 @@ returns-in-Err-Unfit-clause-tried g c =
       names = ap (λ m. or_else m (first_unfit order g.C.Cell.outcome held.changes (map_at order kv kv.number))) still ∙ unfit;
       seen_is = seen;
       now_is = now;
-      moved = ⊎_elim (λ lt. lt) (λ old. absurd (unfit_on_both order g.C.Cell.outcome held.changes _ _ key (agree old) unfit c.requires.fit)) (cases_lt base c.version_at-now-in-Err-Unfit.result);
+      moved = ⊎_elim (λ lt. lt) (λ old. absurd (unfit_on_both order g.C.Cell.outcome held.changes _ _ key (agree old) unfit c.requires.fits)) (cases_lt base c.version_at-now-in-Err-Unfit.result);
+      bound = subst (λ n. c.version_at-now-in-Err-Unfit.result ≤ n) number c.version_at-now-in-Err-Unfit.ensures.bound;
       stays = record { same = c.reserve_install.ensures.same; maps = c.reserve_install.ensures.maps; versions = c.reserve_install.ensures.versions };
     }
 
@@ -51,19 +53,22 @@ returns-clause-tried g c =
     let kv = c.args.kv.now in
     let held = c.args.self.now in
     let inside : c.self.inside.base ≡ held.base = ap (λ a. a.base) c.self.view_is in
-    let changes : c.in-Ok.ready.changes ≡ held.changes = c.in-Ok.ensures.changes ∙ ap (λ a. a.changes) c.self.view_is in
-    let own : c.self.inside.changes ≡ held.changes = ap (λ a. a.changes) c.self.view_is in
+    let changes : c.in-Ok.ready.changes ≡ held.changes = c.in-Ok.ensures.changes ∙ c.changes.ensures ∙ ap (λ a. a.changes) c.self.view_is in
+    let own : c.changes.result.now ≡ held.changes = c.changes.ensures ∙ ap (λ a. a.changes) c.self.view_is in
     let reads : c.as_slice.result.now ≡ held.reads = c.as_slice.ensures.value ∙ ap (λ a. a.reads) c.self.view_is in
     let number : c.reserve_install.new.self.number ≡ kv.number = c.reserve_install.ensures.same.number in
+    let le : held.base ≤ kv.number = subst (λ n. held.base ≤ n) c.number-number.ensures.number (c.number-number.ensures.pins held.base c.requires.pinned) in
     let still : first_moved order held.base held.reads kv ≡ None =
     rw (← inside, ← reads) (sym c.in_default.ensures.first) in
     let before : map_at order c.reserve_install.new.self c.reserve_install.new.self.number ≡ map_at order kv kv.number =
     ap (map_at order c.reserve_install.new.self) number ∙ c.reserve_install.ensures.maps kv.number in
     record {
       free = ap (λ m. or_else m (first_unfit order outcome held.changes (map_at order kv kv.number))) still ∙ rw (← own) c.in-Ok.ensures.fit;
+      agree = Agree-unmoved order kv held.base held.reads c.requires.pinned le still;
+      fits = rw (← own) c.in-Ok.ensures.fit;
       next = c.install.ensures.answer ∙ c.install.ensures.number ∙ ap (λ n. n + 1) number;
       number = sym c.install.ensures.answer;
-      map = ap (map_at order c.install.new.self) c.install.ensures.answer ∙ c.install.ensures.map ∙ ap (λ cs. map_after order outcome cs (map_at order c.reserve_install.new.self c.reserve_install.new.self.number)) changes ∙ ap (map_after order outcome held.changes) before;
+      map = ap (map_at order c.install.new.self) c.install.ensures.answer ∙ c.install.ensures.map ∙ ap (λ cs. over order outcome cs (map_at order c.reserve_install.new.self c.reserve_install.new.self.number)) changes ∙ ap (over order outcome held.changes) before;
       versions = λ q. c.install.ensures.versions q
           ∙ ap (λ cs. versions_with order outcome cs c.install.new.self.number q (map_at order c.reserve_install.new.self c.reserve_install.new.self.number q) (versions_of order c.reserve_install.new.self q)) changes
           ∙ ap (λ n. versions_with order outcome held.changes n q (map_at order c.reserve_install.new.self c.reserve_install.new.self.number q) (versions_of order c.reserve_install.new.self q)) (sym c.install.ensures.answer)

@@ -1,0 +1,18 @@
+use Rattle.std.proofs.Common.{sym, ap, ◌∙◌, ◌≡◌, ◌<◌, ◌-◌, ◌∷◌, ◌++◌, [], take, length, get_or, subst}
+use Rattle.wtf_occ.specs.Positions.{listed_positions}
+use Rattle.wtf_occ.proofs.Noted.{index_dropped, ends_with}
+use Rattle.wtf_occ.proofs.write_set.WriteSet.drop_last.Goals as goal
+
+pub invariant_of-self : goal.invariant_of-self
+invariant_of-self g c =
+    let inside = c.self.inside in
+    let all = inside.changes in
+    let change = c.index-all-last.result in
+    let some : 0 < length all = subst (λ l. 0 < length l) (sym c.self.view_is) c.requires in
+    let last : c.len-last.result - 1 ≡ length all - 1 = ap (λ n. n - 1) c.len-last.ensures in
+    let is : change ≡ get_or all (length all - 1) change = c.index-all-last.is ∙ ap (λ l. get_or l (c.len-last.result - 1) change) c.as_slice-all.ensures ∙ ap (λ n. get_or all n change) last in
+    index_dropped g.K.Ord.cmp c.shorten.new.self all change (listed_positions c.forget.new.positions.entries) (listed_positions inside.positions.entries) c.forget.new.cuts.items inside.cuts.items
+    c.self.invariant
+    (ends_with all change some is ∙ ap (λ l. l ++ change ∷ []) (sym (c.shorten.ensures ∙ ap (λ n. take n all) last)))
+    c.forget.ensures.deltas
+    c.forget.ensures.cuts

@@ -1,0 +1,31 @@
+use Rattle.std.proofs.Common.{rules, sym, ap, ◌∙◌, ◌≡◌, ◌∷◌, ◌++◌, [], None, List, ℕ, cond}
+use Rattle.std.specs.Map.{lookup}
+use Rattle.std.specs.BTreeMap.{is_at}
+use Rattle.std.proofs.lemmas.Result.{on_ok_weaker, on_err_weaker}
+use Rattle.wtf_occ.specs.Positions.{positions_of, listed_positions}
+use Rattle.wtf_occ.proofs.Noted.{positions_some, positions_none, positions_updated, either}
+use Rattle.wtf_occ.proofs.write_set.note.Goals as goal
+
+pub returns-in-Some-clause-ok : goal.returns-in-Some-clause-ok
+returns-in-Some-clause-ok g c = on_ok_weaker c.push_position.result (λ made q.
+    let held = c.get_mut.follows.holds c.push_position.new.list in
+    let some = positions_some g.K.Ord.cmp c.args.positions.now.entries c.args.key c.in-Some.known.now (sym c.in-Some.ensures.value) in
+    let more = λ (l : List ℕ). l ++ c.args.position ∷ [] in
+    positions_updated g.K.Ord.cmp g.met.K.StoreKey.exact c.args.positions.now.entries _ c.args.key c.push_position.new.list more (held.3 (search rules)).0 (made ∙ ap more (sym some)) q) c.push_position.ensures.ok
+
+pub returns-in-Some-clause-err : goal.returns-in-Some-clause-err
+returns-in-Some-clause-err g c = on_err_weaker c.push_position.result (λ made q.
+    let held = c.get_mut.follows.holds c.push_position.new.list in
+    let some = positions_some g.K.Ord.cmp c.args.positions.now.entries c.args.key c.in-Some.known.now (sym c.in-Some.ensures.value) in
+    let same = λ (l : List ℕ). l in
+    positions_updated g.K.Ord.cmp g.met.K.StoreKey.exact c.args.positions.now.entries _ c.args.key c.push_position.new.list same (held.3 (search rules)).0 (made ∙ sym some) q
+    ∙ either (is_at (g.K.Ord.cmp c.args.key) q) (positions_of g.K.Ord.cmp (listed_positions c.args.positions.now.entries) q)) c.push_position.ensures.err
+
+pub returns-in-Ok-clause-ok : goal.returns-in-Ok-clause-ok
+returns-in-Ok-clause-ok g c = λ q.
+    let same : c.get_mut.follows.lender-at-none.entries ≡ c.args.positions.now.entries = search rules in
+    let old = c.get_mut.follows.lender-at-none.entries in
+    let none : lookup (is_at (g.K.Ord.cmp c.args.key)) c.get_mut.follows.lender-at-none.entries ≡ None = search rules in
+    let more = λ (l : List ℕ). l ++ c.args.position ∷ [] in
+    positions_updated g.K.Ord.cmp g.met.K.StoreKey.exact old _ c.args.key c.push_position-2.new.list more c.in-Ok.ensures.updates.0 (c.in_ok-push_position.ensures.ok ∙ ap more (c.new-fresh.ensures.items ∙ sym (positions_none g.K.Ord.cmp old c.args.key none))) q
+    ∙ ap (λ es. cond (is_at (g.K.Ord.cmp c.args.key) q) (positions_of g.K.Ord.cmp (listed_positions es) q ++ c.args.position ∷ []) (positions_of g.K.Ord.cmp (listed_positions es) q)) same

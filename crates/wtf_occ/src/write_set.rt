@@ -1,0 +1,219 @@
+//! The changes of an attempt, in order, with an index of the positions at which those of a key stand. A read
+//! walks the changes of its key and the cuts by it, and not all changes.
+
+ghost use Rattle.std.specs.Prelude.{◌≡◌, ℕ, ◌-◌, ◌<◌, ◌≤◌, ◌∷◌, [], ◌++◌, IsTrue, IfOk, OnErr, OnOk, cond, length, take};
+ghost use Rattle.std.specs.BTreeMap.{is_at};
+ghost use Rattle.wtf_kv.specs.Edits.{over};
+ghost use Rattle.wtf_kv.specs.Stores.{map_at, is_pinned};
+ghost use Rattle.wtf_occ.specs.Positions.{listed_positions, positions_of, front, is_cut, is_delta_of};
+
+use crate::values::{past_cuts, value_after, value_before};
+use std::alloc::Global;
+use std::collections::BTreeMap;
+use std::marker::Model;
+use wtf_base::OutOfMemory;
+use wtf_kv::{Cell, Change, Changes, Kv, StoreKey};
+
+/// The positions of each key's deltas in a list of changes, ascending.
+type Positions<K> = BTreeMap<K, Vec<usize>>;
+
+/// Changes, in order, with their index. Contracts see the list of them.
+#[derive(Drop)]
+pub(crate) struct WriteSet<K: StoreKey, C: Cell> {
+    alloc: Global,
+    changes: Changes<K, C>,
+    positions: Positions<K>,
+    cuts: Vec<usize>,
+}
+
+impl<K: StoreKey, C: Cell> Model for WriteSet<K, C> {
+    ghost use Rattle.std.specs.Prelude.{List};
+    ghost use Rattle.wtf_kv.specs.declared.changes.Change.{Change};
+    ghost use Rattle.wtf_occ.specs.Positions.{IsIndex, listed_positions};
+
+    ghost Value = { List (Change K C.Delta) };
+
+    ghost view = { λ w. w.changes };
+
+    ghost invariant = { λ w. IsIndex K.cmp w.changes (listed_positions w.positions.entries) w.cuts.items };
+}
+
+impl<K: StoreKey, C: Cell> WriteSet<K, C> {
+    /// No changes.
+    pub(crate) fn new(alloc: Global) -> WriteSet<K, C>
+        ensures { result ≡ [] }
+    {
+        WriteSet {
+            alloc,
+            changes: Changes::new(alloc),
+            positions: BTreeMap::new(alloc),
+            cuts: Vec::new(alloc),
+        }
+    }
+
+    /// How many changes there are.
+    pub(crate) fn len(&self) -> usize
+        ensures { result ≡ length self.now }
+    {
+        self.changes.len()
+    }
+
+    /// The changes, without the index.
+    pub(crate) fn changes(&self) -> &Changes<K, C>
+        ensures { result.now ≡ self.now }
+    {
+        &self.changes
+    }
+
+    /// What the changes make of a key's value in the map at `base`.
+    pub(crate) fn value(&self, kv: &Kv<K, C>, base: u64, key: &K) -> Result<Option<C>, OutOfMemory>
+        requires { IsTrue (is_pinned kv.now base) }
+        ensures { IfOk result
+            (λ value. value ≡ over K.cmp C.outcome self.now (map_at K.cmp kv.now base) key.now) }
+    {
+        let changes = self.changes.as_slice();
+        let from = past_cuts(changes, self.cuts.as_slice(), key);
+        let before = value_before(self.alloc, kv, base, from, key)?;
+        let positions = positions_in(&self.positions, key);
+        value_after(self.alloc, changes, positions, from, key, before)
+    }
+
+    /// Adds a change of a key's value. Want of memory leaves the list as it was.
+    pub(crate) fn delta(&mut self, key: K, d: C::Delta) -> Result<(), OutOfMemory>
+        ensures ok { OnOk result (self.new ≡ self.old ++ Change.Delta key d ∷ []) }
+        ensures err { OnErr result (self.new ≡ self.old) }
+    {
+        let position = self.changes.len();
+        let own = key.copy(self.alloc)?;
+        if let Err(why) = self.changes.delta(key, d) {
+            return Err(why);
+        }
+        if let Err(why) = note(self.alloc, &mut self.positions, own, position) {
+            self.changes.shorten(position);
+            return Err(why);
+        }
+        Ok(())
+    }
+
+    /// Adds the removal of the keys from `from` up to and with `to` that have a value. Want of memory
+    /// leaves the list as it was.
+    pub(crate) fn cut_range(&mut self, from: K, to: K) -> Result<(), OutOfMemory>
+        ensures ok { OnOk result (self.new ≡ self.old ++ Change.Cut from to ∷ []) }
+        ensures err { OnErr result (self.new ≡ self.old) }
+    {
+        let position = self.changes.len();
+        if let Err(why) = self.changes.cut_range(from, to) {
+            return Err(why);
+        }
+        if let Err(why) = push_position(&mut self.cuts, position) {
+            self.changes.shorten(position);
+            return Err(why);
+        }
+        Ok(())
+    }
+
+    /// Drops the last change with its position.
+    fn drop_last(&mut self)
+        requires { 0 < length self.old }
+        ensures { self.new ≡ take (length self.old - 1) self.old }
+    {
+        let last = self.changes.len() - 1;
+        let all = self.changes.as_slice();
+        forget(&mut self.positions, &mut self.cuts, &all[last]);
+        self.changes.shorten(last);
+    }
+
+    /// Keeps the first `n` changes.
+    pub(crate) fn shorten(&mut self, n: usize)
+        requires { n ≤ length self.old }
+        ensures { self.new ≡ take n self.old }
+    {
+        while self.len() > n {
+            self.drop_last();
+        }
+    }
+}
+
+/// Notes the position of a delta of a key, which is above those noted before.
+fn note<K: StoreKey>(
+    alloc: Global,
+    positions: &mut Positions<K>,
+    key: K,
+    position: usize,
+) -> Result<(), OutOfMemory>
+    ensures ok { OnOk result ((q : K) →
+        positions_of K.cmp (listed_positions positions.new.entries) q ≡
+        cond (is_at (K.cmp key) q) (positions_of K.cmp
+        (listed_positions positions.old.entries) q ++ position ∷ [])
+        (positions_of K.cmp (listed_positions positions.old.entries) q)) }
+    ensures err { OnErr result
+        ((q : K) → positions_of K.cmp (listed_positions positions.new.entries) q ≡
+        positions_of K.cmp (listed_positions positions.old.entries) q) }
+{
+    if let Some(known) = positions.get_mut(&key) {
+        return push_position(known, position);
+    }
+    let mut fresh = Vec::new(alloc);
+    push_position(&mut fresh, position)?;
+    match positions.insert(key, fresh) {
+        Ok(_) => Ok(()),
+        Err(_) => Err(OutOfMemory),
+    }
+}
+
+/// The positions of a key.
+fn positions_in<'a, K: StoreKey>(positions: &'a Positions<K>, key: &K) -> &'a [usize]
+    ensures { result.now ≡ positions_of K.cmp (listed_positions positions.now.entries) key.now }
+{
+    let Some(known) = positions.get(key) else {
+        return &[];
+    };
+    known.as_slice()
+}
+
+/// Adds a position to a list.
+fn push_position(list: &mut Vec<usize>, position: usize) -> Result<(), OutOfMemory>
+    ensures ok { OnOk result (list.new.items ≡ list.old.items ++ position ∷ []) }
+    ensures err { OnErr result (list.new.items ≡ list.old.items) }
+{
+    match list.push(position) {
+        Ok(()) => Ok(()),
+        Err(_) => Err(OutOfMemory),
+    }
+}
+
+/// Drops the last position of a key, and the key where none is left.
+fn drop_position<K: StoreKey>(positions: &mut Positions<K>, key: &K)
+    ensures { (q : K) → positions_of K.cmp (listed_positions positions.new.entries) q ≡
+        cond (is_at (K.cmp key.now) q) (front
+        (positions_of K.cmp (listed_positions positions.old.entries) q))
+        (positions_of K.cmp (listed_positions positions.old.entries) q) }
+{
+    let Some(known) = positions.get_mut(key) else {
+        return;
+    };
+    known.pop();
+    if known.is_empty() {
+        positions.remove(key);
+    }
+}
+
+/// Drops the position of a change, which is the last one.
+fn forget<K: StoreKey, D>(
+    positions: &mut Positions<K>,
+    cuts: &mut Vec<usize>,
+    change: &Change<K, D>,
+)
+    ensures deltas { (q : K) → positions_of K.cmp (listed_positions positions.new.entries) q ≡
+        cond (is_delta_of K.cmp q change.now)
+        (front (positions_of K.cmp (listed_positions positions.old.entries) q))
+        (positions_of K.cmp (listed_positions positions.old.entries) q) }
+    ensures cuts { cuts.new.items ≡ cond (is_cut change.now) (front cuts.old.items) cuts.old.items }
+{
+    match change {
+        Change::Delta(key, _) => drop_position(positions, key),
+        Change::Cut(..) => {
+            cuts.pop();
+        }
+    }
+}
