@@ -1,2 +1,5 @@
+pub mod Keeping
+pub mod Each
+pub mod Sums
 pub mod Lists
 pub mod Told

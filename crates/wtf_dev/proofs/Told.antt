@@ -1,12 +1,11 @@
 -- What a store in memory tells after a call.
-use Rattle.std.proofs.Common.{◌≡◌, ◌≢◌, ℕ, zero, suc, ◌<◌, ◌≤◌, ◌+◌, ◌-◌, ◌⊎◌, inl, inr, Some, List, [], ◌∷◌, ◌++◌, length, get_or, take, drop, set, refl, sym, ◌∙◌, ap, subst, arith, length-append, get_or-set_same, get_or-set_other}
+use Rattle.std.proofs.Common.{◌≡◌, ◌≢◌, ℕ, zero, suc, Bool, true, false, ◌<◌, ◌≤◌, ◌+◌, ◌-◌, ◌^◌, ◌⊎◌, inl, inr, Some, List, [], ◌∷◌, ◌++◌, length, get_or, take, drop, set, refl, sym, ◌∙◌, ap, subst, arith, length-append, get_or-set_same, get_or-set_other}
 use Rattle.std.specs.List.{slice_get}
 use Rattle.std.proofs.lemmas.Bool.{cases_eq, cases_lt}
 use Rattle.std.proofs.lemmas.List.{get_or-take, get_or-drop}
 use Rattle.std.proofs.lemmas.Option.{slice_get-get_or, slice_get_within, get_or_from_slice_get}
-use Rattle.wtf_dev.specs.declared.turns.Turns.{Turns}
 use Rattle.wtf_dev.specs.Store.{Range, Outside, Appended}
-use Rattle.wtf_dev.specs.Counts.{risen}
+use Rattle.wtf_dev.specs.Calls.{CallCounts, CallsGoOn, IsCall}
 use Rattle.wtf_dev.specs.Memory.{StoreState, StoreFollows, Zeroed, file_bytes, store_view}
 
 pub get_more : (xs ys : List ℕ) (i b : ℕ) → slice_get xs i ≡ Some b → slice_get (xs ++ ys) i ≡ Some b
@@ -46,65 +45,55 @@ size_set old new file next is below more f = elim (cases_eq f file) [
   | inr ne ↦ omega (arith, ap length (bytes_other old new file f next is ne))
 ]
 
--- the numbers of a call
-pub record Counted (old new : StoreState) : Type 0 where
-  pub fails : new.fails ≡ old.fails
-  pub calls : old.calls ≤ new.calls
+-- a call, or several: more were counted, and no count fell
+pub record Later (old new : CallCounts) : Type 0 where
+  pub calls : CallsGoOn old new
   pub faults : old.faults ≤ new.faults
-  pub syncs : old.syncs ≤ new.syncs
-  pub short : old.short ≤ new.short
 
--- Turns that count on: of one call, or of several.
-pub record Later (old new : Turns) : Type 0 where
-  pub fails : new.fails.items ≡ old.fails.items
-  pub calls : old.calls ≤ new.calls
-  pub faults : old.faults ≤ new.faults
-  pub short : old.short ≤ new.short
-
-pub later_begin : {a b : Turns} → b ≡ record a { calls = risen a.calls } → Later a b
-later_begin e = record { fails = ap (λ t. t.fails.items) e; calls = omega (arith, ap (λ t. t.calls) e); faults = omega (arith, ap (λ t. t.faults) e); short = omega (arith, ap (λ t. t.short) e) }
+pub later_call : (failed : Bool) {a b : CallCounts} → IsCall failed a b → Later a b
+later_call false c = record {
+  calls = record { fails = c.counted.fails; calls = omega (arith, c.counted.calls); short = omega (arith, c.short) };
+  faults = omega (arith, c.counted.faults);
+}
+later_call true c = record {
+  calls = record { fails = c.counted.fails; calls = omega (arith, c.counted.calls); short = omega (arith, c.short) };
+  faults = omega (arith, c.counted.faults);
+}
 
 -- the state of a store in memory
-abbrev pub state : List (List ℕ) → Turns → ℕ → StoreState
-state files turns syncs = record { files = files; fails = turns.fails.items; calls = turns.calls; faults = turns.faults; syncs = syncs; short = turns.short }
-
-pub counted : (files next : List (List ℕ)) (a b : Turns) (s t : ℕ) → Later a b → s ≤ t → Counted (state files a s) (state next b t)
-counted files next a b s t l h = record { fails = l.fails; calls = l.calls; faults = l.faults; syncs = h; short = l.short }
+abbrev pub state : List (List ℕ) → CallCounts → ℕ → StoreState
+state files calls syncs = record { files = files; calls = calls; syncs = syncs }
 
 pub follows_grown : (old new : StoreState) (file : ℕ) (bytes : List ℕ) → new.files ≡ set old.files file (file_bytes old file ++ bytes) → file < length old.files
-    → Counted old new → StoreFollows old new []
-follows_grown old new file bytes is below n = record {
-  fails = n.fails;
+    → Later old.calls new.calls → new.syncs ≡ old.syncs → StoreFollows old new []
+follows_grown old new file bytes is below n same = record {
   calls = n.calls;
-  short = n.short;
   kept = record {
     faults = n.faults;
-    syncs = n.syncs;
+    syncs = omega (arith, same);
     tells = refl;
-    size = size_set old new file _ is below (omega (arith, length-append (file_bytes old file) bytes));
+    size = λ f. omega (arith, size_set old new file _ is below (omega (arith, length-append (file_bytes old file) bytes)) f);
     bytes = told_set old new file _ [] is below (λ i b out told. get_more (file_bytes old file) bytes i b told);
   };
 }
 
 pub appended_grown : (old new : StoreState) (file : ℕ) (bytes : List ℕ) (at : ℕ) → new.files ≡ set old.files file (file_bytes old file ++ bytes) → file < length old.files
-    → at ≡ length (file_bytes old file) → Appended (store_view old) (store_view new) file bytes at
-appended_grown old new file bytes at is below e = record {
-  at = e;
-  size = omega (arith, ap length (bytes_set old new file _ is below), length-append (file_bytes old file) bytes, e);
+    → length (file_bytes old file) + length bytes < 2 ^ 61 → at ≡ length (file_bytes old file) → Appended (store_view old) (store_view new) file bytes at
+appended_grown old new file bytes at is below room e = record {
+  at = omega (arith, e, room);
+  size = omega (arith, ap length (bytes_set old new file _ is below), length-append (file_bytes old file) bytes, e, room);
   bytes = λ told k h. ap (λ (l : List ℕ). slice_get l (at + k)) (bytes_set old new file _ is below) ∙ get_after (file_bytes old file) bytes (at + k) k (omega (arith, e)) h;
 }
 
 pub follows_zeroed : (old new : StoreState) (file at len : ℕ) (next : List ℕ) → new.files ≡ set old.files file next → file < length old.files
-    → Zeroed (file_bytes old file) next at (at + len) → Counted old new → StoreFollows old new (record { file = file; at = at; len = len } ∷ [])
-follows_zeroed old new file at len next is below z n = record {
-  fails = n.fails;
+    → Zeroed (file_bytes old file) next at (at + len) → Later old.calls new.calls → new.syncs ≡ old.syncs → StoreFollows old new (record { file = file; at = at; len = len } ∷ [])
+follows_zeroed old new file at len next is below z n same = record {
   calls = n.calls;
-  short = n.short;
   kept = record {
     faults = n.faults;
-    syncs = n.syncs;
+    syncs = omega (arith, same);
     tells = refl;
-    size = size_set old new file next is below (omega (arith, z.len));
+    size = λ f. omega (arith, size_set old new file next is below (omega (arith, z.len)) f);
     bytes = told_set old new file next (record { file = file; at = at; len = len } ∷ []) is below (λ i b out told.
         let inside = slice_get_within (file_bytes old file) i b told in
         let far : (i < at) ⊎ (at + len ≤ i) = elim (cases_lt i at) [ inl lt ↦ inl lt | inr ge ↦ inr (out.0 refl ge) ] in
@@ -113,22 +102,22 @@ follows_zeroed old new file at len next is below z n = record {
   };
 }
 
-pub follows_more : (old : StoreState) (files next : List (List ℕ)) (a b : Turns) (s file : ℕ) (bytes : List ℕ) → state files a s ≡ old
+pub follows_more : (old : StoreState) (files next : List (List ℕ)) (a b : CallCounts) (s file : ℕ) (bytes : List ℕ) → state files a s ≡ old
     → next ≡ set files file (get_or files file [] ++ bytes) → file < length files → Later a b → StoreFollows old (state next b s) []
 follows_more old files next a b s file bytes is more below l =
-    subst (λ (o : StoreState). StoreFollows o (state next b s) []) is (follows_grown (state files a s) (state next b s) file bytes more below (counted files next a b s s l (omega arith)))
+    subst (λ (o : StoreState). StoreFollows o (state next b s) []) is (follows_grown (state files a s) (state next b s) file bytes more below l refl)
 
-pub appended_more : (old : StoreState) (files next : List (List ℕ)) (a b : Turns) (s file : ℕ) (bytes : List ℕ) (at : ℕ) → state files a s ≡ old
-    → next ≡ set files file (get_or files file [] ++ bytes) → file < length files → at ≡ length (get_or files file []) → Appended (store_view old) (store_view (state next b s)) file bytes at
-appended_more old files next a b s file bytes at is more below e =
-    subst (λ (o : StoreState). Appended (store_view o) (store_view (state next b s)) file bytes at) is (appended_grown (state files a s) (state next b s) file bytes at more below e)
+pub appended_more : (old : StoreState) (files next : List (List ℕ)) (a b : CallCounts) (s file : ℕ) (bytes : List ℕ) (at : ℕ) → state files a s ≡ old
+    → next ≡ set files file (get_or files file [] ++ bytes) → file < length files → length (get_or files file []) + length bytes < 2 ^ 61 → at ≡ length (get_or files file []) → Appended (store_view old) (store_view (state next b s)) file bytes at
+appended_more old files next a b s file bytes at is more below room e =
+    subst (λ (o : StoreState). Appended (store_view o) (store_view (state next b s)) file bytes at) is (appended_grown (state files a s) (state next b s) file bytes at more below room e)
 
-pub follows_nothing : (old : StoreState) (files next : List (List ℕ)) (a b : Turns) (s file at len : ℕ) → state files a s ≡ old
+pub follows_nothing : (old : StoreState) (files next : List (List ℕ)) (a b : CallCounts) (s file at len : ℕ) → state files a s ≡ old
     → ((v : List ℕ) × (next ≡ set files file v) × Zeroed (get_or files file []) v at (at + len)) → file < length files → Later a b
     → StoreFollows old (state next b s) (record { file = file; at = at; len = len } ∷ [])
 follows_nothing old files next a b s file at len is z below l =
     subst (λ (o : StoreState). StoreFollows o (state next b s) (record { file = file; at = at; len = len } ∷ [])) is
-    (follows_zeroed (state files a s) (state next b s) file at len z.0 z.1 below z.2 (counted files next a b s s l (omega arith)))
+    (follows_zeroed (state files a s) (state next b s) file at len z.0 z.1 below z.2 l refl)
 
 pub zeros_told : (files next : List (List ℕ)) (file from to i : ℕ) → ((v : List ℕ) × (next ≡ set files file v) × Zeroed (get_or files file []) v from to)
     → file < length files → to ≤ length (get_or files file []) → from ≤ i → i < to → slice_get (get_or next file []) i ≡ Some 0

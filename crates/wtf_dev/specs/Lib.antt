@@ -2,6 +2,8 @@ pub mod Counts
 pub mod Streams
 pub mod Store
 pub mod Keep
+pub mod Calls
 pub mod Memory
+pub mod MemoryLaws
 pub mod Each
 pub mod Sums

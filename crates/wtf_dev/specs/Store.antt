@@ -1,6 +1,5 @@
 -- What contracts see of a slice store, and what every call keeps of it.
-use Rattle.std.specs.Prelude.{◌≡◌, ℕ, ◌+◌, ◌<◌, ◌≤◌, Bool, true, Option, Some, List, [], ◌∷◌, ◌++◌, length, slice_index, refl}
-use Rattle.std.proofs.Common.{arith, ◌∙◌}
+use Rattle.std.specs.Prelude.{◌≡◌, ℕ, ◌+◌, ◌<◌, ◌≤◌, ◌^◌, Bool, true, Option, Some, List, [], ◌∷◌, ◌++◌, length, slice_index}
 
 -- a part of a backing file
 pub record Range : Type 0 where
@@ -48,25 +47,19 @@ pub record Appended (old new : StoreView) (f : ℕ) (written : List ℕ) (place 
   pub size : new.size f ≡ place + length written
   pub bytes : old.tells ≡ true → Holds new f place written
 
-pub outside_parts : (f i : ℕ) (xs ys : List Range) → Outside f i (xs ++ ys) → Outside f i xs × Outside f i ys
-outside_parts f i [] ys h = (tt, h)
-outside_parts f i (x ∷ xs) ys h = let p = outside_parts f i xs ys h.1 in ((h.0, p.0), p.1)
+-- A kind of store: what contracts see of one, and when a later state of it follows an earlier one, between which these
+-- ranges were punched. A kind may say more in `follows` than its laws ask for.
+pub record StoreKind (S : Type 0) : Type 1 where
+  pub view : S → StoreView
+  pub follows : S → S → List Range → Type 0
 
--- a state keeps all of itself
-pub kept_same : (a : StoreView) → Kept a a []
-kept_same a = record { faults = omega arith; syncs = omega arith; size = λ f. omega arith; bytes = λ f i b out told. told; tells = refl }
-
--- two spans join
-pub kept_on : (a b c : StoreView) (xs ys : List Range) → Kept a b xs → Kept b c ys → Kept a c (xs ++ ys)
-kept_on a b c xs ys p q = record {
-  faults = omega (arith, p.faults, q.faults);
-  syncs = omega (arith, p.syncs, q.syncs);
-  size = λ f. omega (arith, p.size f, q.size f);
-  bytes = λ f i v out told. let parts = outside_parts f i xs ys out in q.bytes f i v parts.1 (p.bytes f i v parts.0 told);
-  tells = q.tells ∙ p.tells;
-}
-
--- bytes that are held outside the ranges are held later
-pub holds_kept : (a b : StoreView) (punched : List Range) → Kept a b punched → (f at : ℕ) (bytes : List ℕ)
-    → ((k : ℕ) → k < length bytes → Outside f (at + k) punched) → Holds a f at bytes → Holds b f at bytes
-holds_kept a b punched kept f at bytes out holds = λ k h. kept.bytes f (at + k) (slice_index bytes k) (out k h) (holds k h)
+-- what every kind of store keeps to
+pub record KindLaws {S : Type 0} (kind : StoreKind S) : Type 0 where
+  -- a state follows itself, and nothing is punched
+  pub follows_itself : (s : S) → kind.follows s s []
+  -- two spans join
+  pub follows_on : (a b c : S) (xs ys : List Range) → kind.follows a b xs → kind.follows b c ys → kind.follows a c (xs ++ ys)
+  -- no count and no length falls, and told bytes outside the ranges stay
+  pub keeps : (a b : S) (xs : List Range) → kind.follows a b xs → Kept (kind.view a) (kind.view b) xs
+  -- no file is longer than 2^61 - 1 bytes
+  pub fits : (s : S) (f : ℕ) → (kind.view s).size f < 2 ^ 61

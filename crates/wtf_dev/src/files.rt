@@ -59,8 +59,10 @@ impl Files {
     /// Adds bytes at the end of a file; false where there is no room for them, and then nothing changes.
     pub(crate) fn grow(&mut self, file: u8, bytes: &[u8]) -> bool
         requires { file < 8 }
-        ensures grown { result ≡ true → self.new ≡ slice_set self.old file (slice_index_or self.old file [] ++ bytes.now) }
-        ensures room { result ≡ true → length (slice_index_or self.old file []) + length bytes.now < 2 ^ 61 }
+        ensures grown { result ≡ true → self.new ≡
+            slice_set self.old file (slice_index_or self.old file [] ++ bytes.now) }
+        ensures room { result ≡ true →
+            length (slice_index_or self.old file []) + length bytes.now < 2 ^ 61 }
         ensures same { result ≡ false → self.new ≡ self.old }
         ensures within { file < length self.old }
     {
@@ -76,7 +78,8 @@ impl Files {
         requires order { from ≤ to }
         requires within { to ≤ length (slice_index_or self.old file []) }
         ensures within { file < length self.old }
-        ensures zeroed { (v : List ℕ) × (self.new ≡ slice_set self.old file v) × Zeroed (slice_index_or self.old file []) v from to }
+        ensures zeroed { (v : List ℕ) × (self.new ≡ slice_set self.old file v) ×
+            Zeroed (slice_index_or self.old file []) v from to }
     {
         zero(&mut self.held[file as usize], from, to);
     }

@@ -18,14 +18,18 @@ pub trait Keeper {
 
     /// The bytes held. They stay, whatever this answers.
     fn load(&mut self, alloc: Global) -> Result<Vec<u8>, LoadFault>
-        ensures bytes { IfOk result (λ v. (b : List ℕ) → (view self.old).held ≡ Some b → v.items ≡ b) }
-        ensures held { (b : List ℕ) → (view self.old).held ≡ Some b → (view self.new).held ≡ Some b }
+        ensures bytes { IfOk result (λ v. (b : List ℕ) → (view self.old).held ≡ Some b →
+            v.items ≡ b) }
+        ensures held { (b : List ℕ) → (view self.old).held ≡ Some b →
+            (view self.new).held ≡ Some b }
         ensures follows { follows self.old self.new [] }
-        ensures cause { IsErrOf result LoadFault.Failed → Rose (view self.old).faults (view self.new).faults };
+        ensures cause { IsErrOf result LoadFault.Failed →
+            Rose (view self.old).faults (view self.new).faults };
 
     /// Holds these bytes from now on. After `Failed` it holds them, or what it held.
     fn replace(&mut self, bytes: &[u8]) -> Result<(), Failed>
-        ensures replaced { OnOk result ((view self.old).tells ≡ true → (view self.new).held ≡ Some bytes.now) }
+        ensures replaced { OnOk result ((view self.old).tells ≡ true →
+            (view self.new).held ≡ Some bytes.now) }
         ensures follows { follows self.old self.new (bytes.now ∷ []) }
         ensures cause { OnErr result (Rose (view self.old).faults (view self.new).faults) };
 

@@ -4,6 +4,7 @@
 //! to; a real device need not tell its content.
 #![tactic(auto)]
 
+pub mod examples;
 mod fault;
 mod files;
 mod keeper;

@@ -1,9 +1,11 @@
 //! A keeper in memory, whose calls fail where it is told to.
 
-ghost use Rattle.std.specs.Prelude.{◌≡◌, ◌↔◌, ◌⊎◌, ◌<◌, ◌≤◌, ℕ, List, [], ◌∷◌, true, Some, IfOk, OnOk, OnErr, IsErr, IsErrOf};
-ghost use Rattle.std.specs.List.{Contains};
-ghost use Rattle.wtf_dev.specs.Counts.{Rose, risen, faults_after};
-ghost use Rattle.wtf_dev.specs.Memory.{KeeperState, keeper_view, KeeperFollows, faults_after_load, keeper_same, keeper_on};
+ghost use Rattle.std.specs.Prelude.{◌≡◌, ◌<◌, ◌≤◌, ℕ, List, [], ◌∷◌, true, Some, IfOk, OnOk, OnErr, IsErrOf};
+ghost use Rattle.std.specs.Result.{is_err};
+ghost use Rattle.wtf_dev.specs.Counts.{Rose};
+ghost use Rattle.wtf_dev.specs.Calls.{uncalled, IsCall, IsGrowth, has_failed};
+ghost use Rattle.wtf_dev.specs.Memory.{keeper_view, KeeperFollows};
+ghost use Rattle.wtf_dev.specs.MemoryLaws.{keeper_same, keeper_on};
 
 use crate::turns::Turns;
 use crate::{Failed, Keeper, LoadFault};
@@ -23,13 +25,15 @@ impl Model for MemKeeper {
 
     ghost Value = { KeeperState };
 
-    ghost view = { λ m. record { bytes = m.bytes.items; fails = m.turns.fails.items; calls = m.turns.calls; faults = m.turns.faults; short = m.turns.short } };
+    ghost view = { λ m. record { bytes = m.bytes.items; calls = m.turns } };
 }
 
 impl MemKeeper {
     /// A keeper that holds these bytes, whose calls with the numbers `fails` fail, counted from 0.
     pub fn new(alloc: Global, bytes: Vec<u8>, fails: Vec<u64>) -> MemKeeper
-        ensures { result ≡ record { bytes = bytes.items; fails = fails.items; calls = 0; faults = 0; short = 0 } }
+        ensures value { result ≡ record { bytes = bytes.items; calls = uncalled fails.items } }
+        ensures held { (keeper_view result).held ≡ Some bytes.items }
+        ensures tells { (keeper_view result).tells ≡ true }
     {
         MemKeeper {
             alloc,
@@ -47,9 +51,9 @@ impl MemKeeper {
 
     /// How often a growth found no memory.
     pub fn short(&self) -> u64
-        ensures { result ≡ self.now.short }
+        ensures { result ≡ self.now.calls.short }
     {
-        self.turns.short
+        self.turns.short()
     }
 }
 
@@ -65,21 +69,20 @@ impl Keeper for MemKeeper {
     ghost keeps = { λ a b xs f. f.kept };
 
     fn load(&mut self, alloc: Global) -> Result<Vec<u8>, LoadFault>
-        ensures bytes { IfOk result (λ v. (b : List ℕ) → (keeper_view self.old).held ≡ Some b → v.items ≡ b) }
-        ensures held { (b : List ℕ) → (keeper_view self.old).held ≡ Some b → (keeper_view self.new).held ≡ Some b }
+        ensures bytes { IfOk result (λ v. (b : List ℕ) → (keeper_view self.old).held ≡ Some b →
+            v.items ≡ b) }
+        ensures held { (b : List ℕ) → (keeper_view self.old).held ≡ Some b →
+            (keeper_view self.new).held ≡ Some b }
         ensures follows { KeeperFollows self.old self.new [] }
-        ensures cause { IsErrOf result LoadFault.Failed → Rose (keeper_view self.old).faults (keeper_view self.new).faults }
+        ensures cause { IsErrOf result LoadFault.Failed →
+            Rose (keeper_view self.old).faults (keeper_view self.new).faults }
 
-        // It fails exactly where its number says so.
+        // It gives what it holds, and keeps it.
+        ensures gives { IfOk result (λ v. v.items ≡ self.old.bytes) }
         ensures same { self.new.bytes ≡ self.old.bytes }
-        ensures due { IsErrOf result LoadFault.Failed ↔ Contains self.old.fails self.old.calls }
-        ensures short { self.new.short ≡ self.old.short }
-        ensures counted { self.new.calls ≡ risen self.old.calls }
-        ensures raised { self.new.faults ≡ faults_after_load result self.old.faults }
-        ensures fails { self.new.fails ≡ self.old.fails }
+        ensures call { IsCall (has_failed result) self.old.calls self.new.calls }
     {
-        if self.turns.begin() {
-            self.turns.fail();
+        if let Err(Failed) = self.turns.next() {
             return Err(LoadFault::Failed);
         }
         match self.bytes.to_vec(alloc) {
@@ -89,32 +92,24 @@ impl Keeper for MemKeeper {
     }
 
     fn replace(&mut self, bytes: &[u8]) -> Result<(), Failed>
-        ensures replaced { OnOk result ((keeper_view self.old).tells ≡ true → (keeper_view self.new).held ≡ Some bytes.now) }
+        ensures replaced { OnOk result ((keeper_view self.old).tells ≡ true →
+            (keeper_view self.new).held ≡ Some bytes.now) }
         ensures follows { KeeperFollows self.old self.new (bytes.now ∷ []) }
-        ensures cause { OnErr result (Rose (keeper_view self.old).faults (keeper_view self.new).faults) }
+        ensures cause { OnErr result
+            (Rose (keeper_view self.old).faults (keeper_view self.new).faults) }
 
-        // It fails where its number says so or memory is short, and there alone, and then holds what it held.
+        // It then holds these bytes, and after a failure what it held.
+        ensures holds { OnOk result (self.new.bytes ≡ bytes.now) }
         ensures same { OnErr result (self.new.bytes ≡ self.old.bytes) }
-        ensures due { Contains self.old.fails self.old.calls → IsErr result }
-        ensures short { self.old.short < self.new.short → IsErr result }
-        ensures only { OnErr result (Contains self.old.fails self.old.calls ⊎ Rose self.old.short self.new.short) }
-        ensures counted { self.new.calls ≡ risen self.old.calls }
-        ensures raised { self.new.faults ≡ faults_after result self.old.faults }
-        ensures fails { self.new.fails ≡ self.old.fails }
+        ensures call { IsGrowth (is_err result) self.old.calls self.new.calls }
     {
-        if self.turns.begin() {
-            self.turns.fail();
-            return Err(Failed);
-        }
+        self.turns.next()?;
         match bytes.to_vec(self.alloc) {
             Ok(next) => {
                 self.bytes = next;
                 Ok(())
             }
-            Err(_) => {
-                self.turns.lack();
-                Err(Failed)
-            }
+            Err(_) => Err(self.turns.lack()),
         }
     }
 }

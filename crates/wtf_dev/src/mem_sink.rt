@@ -1,10 +1,11 @@
 //! A sink in memory, whose calls fail where it is told to.
 
-ghost use Rattle.std.specs.Prelude.{◌≡◌, ◌⊎◌, ℕ, ◌<◌, ◌≤◌, ◌++◌, List, [], Some, length, IfOk, OnOk, OnErr, IsErr};
-ghost use Rattle.std.specs.List.{Contains};
-ghost use Rattle.wtf_dev.specs.Counts.{Rose, risen, faults_after};
+ghost use Rattle.std.specs.Prelude.{◌≡◌, ℕ, ◌<◌, ◌≤◌, ◌++◌, List, [], Some, length, IfOk, OnOk, OnErr};
+ghost use Rattle.std.specs.Result.{is_err};
+ghost use Rattle.wtf_dev.specs.Counts.{Rose};
+ghost use Rattle.wtf_dev.specs.Calls.{uncalled, IsGrowth};
 ghost use Rattle.wtf_dev.specs.Streams.{Takes};
-ghost use Rattle.wtf_dev.specs.Memory.{SinkState, sink_view};
+ghost use Rattle.wtf_dev.specs.Memory.{sink_view};
 
 use crate::turns::Turns;
 use crate::{Failed, Sink};
@@ -23,13 +24,14 @@ impl Model for MemSink {
 
     ghost Value = { SinkState };
 
-    ghost view = { λ m. record { taken = m.bytes.items; fails = m.turns.fails.items; calls = m.turns.calls; faults = m.turns.faults; short = m.turns.short } };
+    ghost view = { λ m. record { taken = m.bytes.items; calls = m.turns } };
 }
 
 impl MemSink {
     /// An empty sink, whose calls with the numbers `fails` fail, counted from 0.
     pub fn new(alloc: Global, fails: Vec<u64>) -> MemSink
-        ensures { result ≡ record { taken = []; fails = fails.items; calls = 0; faults = 0; short = 0 } }
+        ensures value { result ≡ record { taken = []; calls = uncalled fails.items } }
+        ensures taken { (sink_view result).taken ≡ Some [] }
     {
         MemSink {
             bytes: Vec::new(alloc),
@@ -46,9 +48,9 @@ impl MemSink {
 
     /// How often a growth found no memory.
     pub fn short(&self) -> u64
-        ensures { result ≡ self.now.short }
+        ensures { result ≡ self.now.calls.short }
     {
-        self.turns.short
+        self.turns.short()
     }
 }
 
@@ -58,31 +60,21 @@ impl Sink for MemSink {
     fn write(&mut self, bytes: &[u8]) -> Result<usize, Failed>
         ensures count { IfOk result (λ n. n ≤ length bytes.now) }
         ensures some { IfOk result (λ n. 0 < length bytes.now → 0 < n) }
-        ensures told { (old : List ℕ) → (sink_view self.old).taken ≡ Some old → Takes result bytes.now old (sink_view self.new).taken }
+        ensures told { (old : List ℕ) → (sink_view self.old).taken ≡ Some old →
+            Takes result bytes.now old (sink_view self.new).taken }
         ensures faults { (sink_view self.old).faults ≤ (sink_view self.new).faults }
-        ensures cause { OnErr result (Rose (sink_view self.old).faults (sink_view self.new).faults) }
+        ensures cause { OnErr result
+            (Rose (sink_view self.old).faults (sink_view self.new).faults) }
 
-        // It takes all bytes, and fails where its number says so or memory is short, and there alone.
+        // It takes all bytes, or none.
         ensures whole { OnOk result (self.new.taken ≡ self.old.taken ++ bytes.now) }
         ensures same { OnErr result (self.new.taken ≡ self.old.taken) }
-        ensures due { Contains self.old.fails self.old.calls → IsErr result }
-        ensures short { self.old.short < self.new.short → IsErr result }
-        ensures only { OnErr result (Contains self.old.fails self.old.calls ⊎ Rose self.old.short self.new.short) }
-        ensures steady { self.old.short ≤ self.new.short }
-        ensures counted { self.new.calls ≡ risen self.old.calls }
-        ensures raised { self.new.faults ≡ faults_after result self.old.faults }
-        ensures fails { self.new.fails ≡ self.old.fails }
+        ensures call { IsGrowth (is_err result) self.old.calls self.new.calls }
     {
-        if self.turns.begin() {
-            self.turns.fail();
-            return Err(Failed);
-        }
+        self.turns.next()?;
         match self.bytes.extend_from_slice(bytes) {
             Ok(()) => Ok(bytes.len()),
-            Err(_) => {
-                self.turns.lack();
-                Err(Failed)
-            }
+            Err(_) => Err(self.turns.lack()),
         }
     }
 }

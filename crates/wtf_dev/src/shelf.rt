@@ -46,7 +46,8 @@ impl<S> Shelf<S> {
     /// The store of server `k`.
     pub fn store(&mut self, k: u8) -> &mut S
         requires { k < length self.old }
-        ensures* writes_back { sem 𝓛 (Lends (the_row S.row) S.row self.entry result (λ w. slice_set self.entry.now k w)) }
+        ensures* writes_back { sem 𝓛 (Lends (the_row S.row) S.row self.entry result
+            (λ w. slice_set self.entry.now k w)) }
         ensures value { result.now ≡ slice_index_or self.old k result.now }
     {
         &mut self.stores[k as usize]
@@ -58,7 +59,7 @@ impl<S: SliceStore> Shelf<S> {
     pub fn length(&self, k: u8, file: u8) -> u64
         requires k { k < length self.now }
         requires file { file < 8 }
-        ensures value { (d : S) → result ≡ (S.view (slice_index_or self.now k d)).size file }
+        ensures value { (d : S) → result ≡ (S.kind.view (slice_index_or self.now k d)).size file }
         ensures fits { result < 2 ^ 61 }
     {
         self.stores[k as usize].length(file)

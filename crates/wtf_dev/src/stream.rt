@@ -15,7 +15,8 @@ pub trait Source {
     /// mean the end. A read that answers `Failed` takes no byte; what `out` holds then is not known.
     fn read(&mut self, out: &mut [u8]) -> Result<usize, Failed>
         ensures count { IfOk result (λ n. n ≤ length out.old) }
-        ensures told { (all : List ℕ) → (view self.old).rest ≡ Some all → Gives result (length out.old) out.new all (view self.new).rest }
+        ensures told { (all : List ℕ) → (view self.old).rest ≡ Some all →
+            Gives result (length out.old) out.new all (view self.new).rest }
         ensures given { (view self.new).given ≡ given_after result (view self.old).given }
         ensures faults { (view self.old).faults ≤ (view self.new).faults }
         ensures cause { OnErr result (Rose (view self.old).faults (view self.new).faults) };
@@ -31,7 +32,8 @@ pub trait Sink {
     fn write(&mut self, bytes: &[u8]) -> Result<usize, Failed>
         ensures count { IfOk result (λ n. n ≤ length bytes.now) }
         ensures some { IfOk result (λ n. 0 < length bytes.now → 0 < n) }
-        ensures told { (old : List ℕ) → (view self.old).taken ≡ Some old → Takes result bytes.now old (view self.new).taken }
+        ensures told { (old : List ℕ) → (view self.old).taken ≡ Some old →
+            Takes result bytes.now old (view self.new).taken }
         ensures faults { (view self.old).faults ≤ (view self.new).faults }
         ensures cause { OnErr result (Rose (view self.old).faults (view self.new).faults) };
 }

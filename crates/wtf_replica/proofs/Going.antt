@@ -11,17 +11,20 @@ use Rattle.std.proofs.lemmas.List.Elements.{All-nil, Contains-append_left, Conta
 use Rattle.wtf_base.specs.declared.pointer.Pointer.{Pointer}
 use Rattle.wtf_base.specs.declared.slice.Slice.{Slice}
 use Rattle.wtf_base.specs.Slices.{pointers_of}
-use Rattle.wtf_dev.specs.Store.{Range, StoreView, Kept, Holds}
-use Rattle.wtf_dev.specs.Each.{EachFollows, each_same, each_on}
+use Rattle.wtf_base.proofs.Elements.{contains_cons, none_in}
+use Rattle.wtf_dev.specs.Store.{Holds, StoreKind, KindLaws}
+use Rattle.wtf_dev.specs.Each.{EachFollows}
 use Rattle.wtf_dev.specs.Sums.{all_stored}
 use Rattle.wtf_ring.specs.Points.{PlaceView}
 use Rattle.wtf_ring.specs.Orders.{IsOrder}
-use Rattle.wtf_replica.specs.Outs.{HasRisen, IsOut, LeavesOut, SameSyncs}
+use Rattle.wtf_replica.specs.Spans.{Span, span}
+use Rattle.wtf_replica.specs.Outs.{HasRisen, IsOut, IsLeftDown, LeavesOut, SameSyncs}
 use Rattle.wtf_replica.specs.Copies.{bytes_in, IsNewCopy, IsCopyInside, IsStored}
 use Rattle.wtf_replica.specs.Faults.{AreTooFew}
 use Rattle.wtf_replica.specs.Placed.{placed}
-use Rattle.wtf_replica.proofs.Spans.{IsLeftDown, each_kept, lows_on, out_on, out_since, risen_on, risen_since, same_syncs_on}
-use Rattle.wtf_replica.proofs.Writing.{contains_cons, none_in, is_fresh, leaves_or_out, IsLow, len_of_first, leaves_weaker, leaves_skip, leaves_take, leaves_member, length-placed, All-placed, servers, placed_cases, placed_has, bytes_in-placed, Ascends, ascends_placed}
+use Rattle.wtf_dev.proofs.Each.{each_same, each_on}
+use Rattle.wtf_replica.proofs.Spans.{each_kept, lows_on, out_on, out_since, risen_on, risen_since, same_syncs_on}
+use Rattle.wtf_replica.proofs.Writing.{is_fresh, leaves_or_out, IsLow, len_of_first, leaves_weaker, leaves_skip, leaves_take, leaves_member, length-placed, All-placed, servers, placed_cases, placed_has, bytes_in-placed, Ascends, ascends_placed}
 
 one_more : (n m k : ℕ) → m ≡ n + 1 → m * k ≡ n * k + k
 one_more n m k e = ap (λ (x : ℕ). x * k) e ∙ grind arith
@@ -30,70 +33,67 @@ only_one : (k j : ℕ) → Contains (k ∷ []) j → k ≡ j
 only_one k j c = elim (contains_cons k [] j c) [ inl e ↦ e | inr m ↦ absurd (none_in j m) ]
 
 -- a copy stays one while its store stays
-copy_on : {S : Type 0} (view : S → StoreView) (down : ℕ → Bool) (old mid new : List S) (file : ℕ) (bytes : List ℕ) (p : Pointer)
-    → ((d : S) → get_or new p.server.0 d ≡ get_or mid p.server.0 d) → IsNewCopy view down old mid file bytes p → IsNewCopy view down old new file bytes p
-copy_on {S} view down old mid new file bytes p same c = record {
+copy_on : {S : Type 0} (kind : StoreKind S) (down : ℕ → Bool) (old mid new : List S) (file : ℕ) (bytes : List ℕ) (p : Pointer)
+    → ((d : S) → get_or new p.server.0 d ≡ get_or mid p.server.0 d) → IsNewCopy kind (span down old mid) file bytes p → IsNewCopy kind (span down old new) file bytes p
+copy_on {S} kind down old mid new file bytes p same c = record {
   server = c.server;
   up = c.up;
   file = c.file;
   len = c.len;
   at = c.at;
   low = c.low;
-  size = λ d. ap (λ (s : S). (view s).size file) (same d) ∙ c.size d;
-  others = λ d f ne. ap (λ (s : S). (view s).size f) (same d) ∙ c.others d f ne;
-  holds = λ d told. subst (λ (s : S). Holds (view s) file p.at bytes) (sym (same d)) (c.holds d told);
+  size = λ d. ap (λ (s : S). (kind.view s).size file) (same d) ∙ c.size d;
+  others = λ d f ne. ap (λ (s : S). (kind.view s).size f) (same d) ∙ c.others d f ne;
+  holds = λ d told. subst (λ (s : S). Holds (kind.view s) file p.at bytes) (sym (same d)) (c.holds d told);
 }
 
 -- a copy on a store that was as it had been
-copy_since : {S : Type 0} (view : S → StoreView) (down : ℕ → Bool) (old mid new : List S) (file : ℕ) (bytes : List ℕ) (p : Pointer)
-    → length mid ≡ length old → ((d : S) → get_or mid p.server.0 d ≡ get_or old p.server.0 d) → IsNewCopy view down mid new file bytes p → IsNewCopy view down old new file bytes p
-copy_since {S} view down old mid new file bytes p len same c = record {
+copy_since : {S : Type 0} (kind : StoreKind S) (down : ℕ → Bool) (old mid new : List S) (file : ℕ) (bytes : List ℕ) (p : Pointer)
+    → length mid ≡ length old → ((d : S) → get_or mid p.server.0 d ≡ get_or old p.server.0 d) → IsNewCopy kind (span down mid new) file bytes p → IsNewCopy kind (span down old new) file bytes p
+copy_since {S} kind down old mid new file bytes p len same c = record {
   server = omega (arith, c.server, len);
   up = c.up;
   file = c.file;
   len = c.len;
   low = c.low;
   size = c.size;
-  at = λ d. c.at d ∙ ap (λ (s : S). (view s).size file) (same d);
-  others = λ d f ne. c.others d f ne ∙ ap (λ (s : S). (view s).size f) (same d);
-  holds = λ d told. c.holds d (ap (λ (s : S). (view s).tells) (same d) ∙ told);
+  at = λ d. c.at d ∙ ap (λ (s : S). (kind.view s).size file) (same d);
+  others = λ d f ne. c.others d f ne ∙ ap (λ (s : S). (kind.view s).size f) (same d);
+  holds = λ d told. c.holds d (ap (λ (s : S). (kind.view s).tells) (same d) ∙ told);
 }
 
 -- The copies that were made on the servers before place i of the order, and what is left of the stores.
-pub record Going {S : Type 0} (view : S → StoreView) (follows : S → S → List Range → Type 0) (down : ℕ → Bool) (old now : List S)
-    (place : PlaceView) (i : ℕ) (bytes : List ℕ) (found : List Pointer) : Type 0 where
-  pub each : EachFollows follows old now []
-  pub syncs : SameSyncs view old now
-  pub lows : IsLeftDown down old now
-  pub others : (k f : ℕ) (d : S) → f ≢ place.file → (view (get_or now k d)).size f ≡ (view (get_or old k d)).size f
+pub record Going {S : Type 0} (kind : StoreKind S) (t : Span S) (place : PlaceView) (i : ℕ)
+    (bytes : List ℕ) (found : List Pointer) : Type 0 where
+  pub each : EachFollows kind t.before t.after []
+  pub syncs : SameSyncs kind t.before t.after
+  pub lows : IsLeftDown t
+  pub others : (k f : ℕ) (d : S) → f ≢ place.file → (kind.view (get_or t.after k d)).size f ≡ (kind.view (get_or t.before k d)).size f
   pub took : List ℕ
   pub took_len : length took ≡ length found
-  pub written : LeavesOut (IsOut view down old now) (take i place.servers) took
+  pub written : LeavesOut (IsOut kind t) (take i place.servers) took
   pub has : (k : ℕ) → Contains (servers found) k ↔ Contains took k
-  pub copies : All (IsNewCopy view down old now place.file bytes) found
+  pub copies : All (IsNewCopy kind t place.file bytes) found
   pub ascends : Ascends found
-  pub untouched : (k : ℕ) (d : S) → (Contains (take i place.servers) k → ⊥) → get_or now k d ≡ get_or old k d
-  pub grew : (k f : ℕ) (d : S) → k < length old → HasRisen view old now k
-      ⊎ ((view (get_or now k d)).size f ≡ (view (get_or old k d)).size f + bytes_in found k f)
-  pub total : ((k : ℕ) → HasRisen view old now k → ⊥) → all_stored view now ≡ all_stored view old + length found * length bytes
+  pub untouched : (k : ℕ) (d : S) → (Contains (take i place.servers) k → ⊥) → get_or t.after k d ≡ get_or t.before k d
+  pub grew : (k f : ℕ) (d : S) → k < length t.before → HasRisen kind t.before t.after k
+      ⊎ ((kind.view (get_or t.after k d)).size f ≡ (kind.view (get_or t.before k d)).size f + bytes_in found k f)
+  pub total : ((k : ℕ) → HasRisen kind t.before t.after k → ⊥) → all_stored kind t.after ≡ all_stored kind t.before + length found * length bytes
 
 -- what is known of the try of server k, at place i of an order of n servers, whatever came of it
-pub record Tried {S : Type 0} (view : S → StoreView) (follows : S → S → List Range → Type 0) (down : ℕ → Bool) (mid new : List S)
-    (place : PlaceView) (n i k : ℕ) : Type 0 where
+pub record Tried {S : Type 0} (kind : StoreKind S) (t : Span S) (place : PlaceView) (n i k : ℕ) : Type 0 where
   pub order : IsOrder n place.servers
   pub below : i < n
   pub at : slice_get place.servers i ≡ Some k
-  pub each : EachFollows follows mid new []
-  pub others : (f : ℕ) (d : S) → f ≢ place.file → (view (get_or new k d)).size f ≡ (view (get_or mid k d)).size f
-  pub elsewhere : (j : ℕ) (d : S) → j ≢ k → get_or new j d ≡ get_or mid j d
-  pub same : down k ≡ true → new ≡ mid
-  pub syncs : SameSyncs view mid new
+  pub each : EachFollows kind t.before t.after []
+  pub others : (f : ℕ) (d : S) → f ≢ place.file → (kind.view (get_or t.after k d)).size f ≡ (kind.view (get_or t.before k d)).size f
+  pub elsewhere : (j : ℕ) (d : S) → j ≢ k → get_or t.after j d ≡ get_or t.before j d
+  pub same : t.down k ≡ true → t.after ≡ t.before
+  pub syncs : SameSyncs kind t.before t.after
 
-module _ {S : Type 0} (view : S → StoreView) (follows : S → S → List Range → Type 0)
-    (on : (a b c : S) (xs ys : List Range) → follows a b xs → follows b c ys → follows a c (xs ++ ys))
-    (keeps : (a b : S) (xs : List Range) → follows a b xs → Kept (view a) (view b) xs)
-    (down : ℕ → Bool) (old mid new : List S) (place : PlaceView) (n i k : ℕ) (bytes : List ℕ) (found items : List Pointer)
-    (was : Going view follows down old mid place i bytes found) (tried : Tried view follows down mid new place n i k) where
+module _ {S : Type 0} {kind : StoreKind S} (laws : KindLaws kind) {down : ℕ → Bool} {old mid new : List S}
+    {place : PlaceView} {n i k : ℕ} {bytes : List ℕ} {found : List Pointer}
+    (was : Going kind (span down old mid) place i bytes found) (tried : Tried kind (span down mid new) place n i k) where
   is_here : get_or place.servers i 0 ≡ k
   is_here = get_or_from_slice_get place.servers i k 0 tried.at
 
@@ -105,48 +105,48 @@ module _ {S : Type 0} (view : S → StoreView) (follows : S → S → List Range
   fresh = subst (λ (x : ℕ). Contains (take i place.servers) x → ⊥) is_here
       (is_fresh place.servers i (AllPairs-from_IsDistinct Decides-eqb place.servers tried.order.once) (omega (arith, tried.below, tried.order.len)))
 
-  each_now : EachFollows follows old new []
-  each_now = each_on follows on old mid new [] [] was.each tried.each
+  each_now : EachFollows kind old new []
+  each_now = each_on laws was.each tried.each
 
-  syncs_now : SameSyncs view old new
-  syncs_now = same_syncs_on view old mid new was.each.same_length was.syncs tried.syncs
+  syncs_now : SameSyncs kind old new
+  syncs_now = same_syncs_on kind old mid new was.each.same_length was.syncs tried.syncs
 
-  lows_now : IsLeftDown down old new
+  lows_now : IsLeftDown (span down old new)
   lows_now = lows_on down old mid new k was.lows tried.same tried.elsewhere
 
-  others_now : (j f : ℕ) (d : S) → f ≢ place.file → (view (get_or new j d)).size f ≡ (view (get_or old j d)).size f
+  others_now : (j f : ℕ) (d : S) → f ≢ place.file → (kind.view (get_or new j d)).size f ≡ (kind.view (get_or old j d)).size f
   others_now j f d other = elim (cases_eq j k) [
-    | inl is ↦ subst (λ (n : ℕ). (view (get_or new n d)).size f ≡ (view (get_or mid n d)).size f) (sym is) (tried.others f d other) ∙ was.others j f d other
-    | inr ne ↦ ap (λ (s : S). (view s).size f) (tried.elsewhere j d ne) ∙ was.others j f d other
+    | inl is ↦ subst (λ (n : ℕ). (kind.view (get_or new n d)).size f ≡ (kind.view (get_or mid n d)).size f) (sym is) (tried.others f d other) ∙ was.others j f d other
+    | inr ne ↦ ap (λ (s : S). (kind.view s).size f) (tried.elsewhere j d ne) ∙ was.others j f d other
   ]
 
   -- what rose or is out before this try, or in it, is so in both
-  rose_before : (j : ℕ) → HasRisen view old mid j → HasRisen view old new j
-  rose_before = risen_on view old mid new was.each.same_length (each_kept view follows keeps mid new tried.each)
+  rose_before : (j : ℕ) → HasRisen kind old mid j → HasRisen kind old new j
+  rose_before = risen_on kind old mid new was.each.same_length (each_kept laws tried.each)
 
-  rose_here : (j : ℕ) → HasRisen view mid new j → HasRisen view old new j
-  rose_here = risen_since view old mid new was.each.same_length (each_kept view follows keeps old mid was.each)
+  rose_here : (j : ℕ) → HasRisen kind mid new j → HasRisen kind old new j
+  rose_here = risen_since kind old mid new was.each.same_length (each_kept laws was.each)
 
-  out_before : (j : ℕ) → IsOut view down old mid j → IsOut view down old new j
-  out_before = out_on view down old mid new was.each.same_length (each_kept view follows keeps mid new tried.each)
+  out_before : (j : ℕ) → IsOut kind (span down old mid) j → IsOut kind (span down old new) j
+  out_before = out_on kind down old mid new was.each.same_length (each_kept laws tried.each)
 
-  out_here : (j : ℕ) → IsOut view down mid new j → IsOut view down old new j
-  out_here = out_since view down old mid new was.each.same_length (each_kept view follows keeps old mid was.each)
+  out_here : (j : ℕ) → IsOut kind (span down mid new) j → IsOut kind (span down old new) j
+  out_here = out_since kind down old mid new was.each.same_length (each_kept laws was.each)
 
-  written_on : LeavesOut (IsOut view down old new) (take i place.servers) was.took
-  written_on = leaves_weaker (IsOut view down old mid) (IsOut view down old new) out_before (take i place.servers) was.took was.written
+  written_on : LeavesOut (IsOut kind (span down old new)) (take i place.servers) was.took
+  written_on = leaves_weaker (IsOut kind (span down old mid)) (IsOut kind (span down old new)) out_before (take i place.servers) was.took was.written
 
   -- no copy is on this server yet
   no_copy : Contains (servers found) k → ⊥
-  no_copy c = fresh (leaves_member (IsOut view down old mid) (take i place.servers) was.took k was.written ((was.has k).0 c))
+  no_copy c = fresh (leaves_member (IsOut kind (span down old mid)) (take i place.servers) was.took k was.written ((was.has k).0 c))
 
-  copies_on : All (IsNewCopy view down old new place.file bytes) found
+  copies_on : All (IsNewCopy kind (span down old new) place.file bytes) found
   copies_on = λ j d h.
       let p : Pointer = get_or found j d in
       let here : Contains (servers found) p.server.0 =
       (j, omega (arith, h, length-map found (λ (q : Pointer). q.server.0)), get_or-map (λ (q : Pointer). q.server.0) found j d p.server.0 h) in
       let ne : p.server.0 ≢ k = λ e. no_copy (subst (λ (n : ℕ). Contains (servers found) n) e here) in
-      copy_on view down old mid new place.file bytes p (λ x. tried.elsewhere p.server.0 x ne) (was.copies j d h)
+      copy_on kind down old mid new place.file bytes p (λ x. tried.elsewhere p.server.0 x ne) (was.copies j d h)
 
   untouched_now : (j : ℕ) (d : S) → (Contains (take (i + 1) place.servers) j → ⊥) → get_or new j d ≡ get_or old j d
   untouched_now j d none =
@@ -155,7 +155,7 @@ module _ {S : Type 0} (view : S → StoreView) (follows : S → S → List Range
       tried.elsewhere j d ne ∙ was.untouched j d (λ c. none' (Contains-append_left (take i place.servers) (k ∷ []) j c))
 
   -- the server is out
-  skip : IsOut view down mid new k → Going view follows down old new place (i + 1) bytes found
+  skip : IsOut kind (span down mid new) k → Going kind (span down old new) place (i + 1) bytes found
   skip out = record {
     each = each_now;
     syncs = syncs_now;
@@ -167,35 +167,35 @@ module _ {S : Type 0} (view : S → StoreView) (follows : S → S → List Range
     copies = copies_on;
     ascends = was.ascends;
     untouched = untouched_now;
-    written = subst (λ (t : List ℕ). LeavesOut (IsOut view down old new) t was.took) (sym next)
-        (leaves_skip (IsOut view down old new) (take i place.servers) was.took k written_on (out_here k out));
+    written = subst (λ (t : List ℕ). LeavesOut (IsOut kind (span down old new)) t was.took) (sym next)
+        (leaves_skip (IsOut kind (span down old new)) (take i place.servers) was.took k written_on (out_here k out));
     grew = λ j f d h. elim (was.grew j f d h) [
       | inl r ↦ inl (rose_before j r)
       | inr e ↦ elim (cases_eq j k) [
-        | inr ne ↦ inr (ap (λ (s : S). (view s).size f) (tried.elsewhere j d ne) ∙ e)
+        | inr ne ↦ inr (ap (λ (s : S). (kind.view s).size f) (tried.elsewhere j d ne) ∙ e)
         | inl is ↦ elim out [
-          | inl low ↦ inr (ap (λ (xs : List S). (view (get_or xs j d)).size f) (tried.same low) ∙ e)
-          | inr r ↦ inl (subst (λ (n : ℕ). HasRisen view old new n) (sym is) (rose_here k r))
+          | inl low ↦ inr (ap (λ (xs : List S). (kind.view (get_or xs j d)).size f) (tried.same low) ∙ e)
+          | inr r ↦ inl (subst (λ (n : ℕ). HasRisen kind old new n) (sym is) (rose_here k r))
         ]
       ]
     ];
     total = λ none. elim out [
-      | inl low ↦ ap (λ (xs : List S). all_stored view xs) (tried.same low) ∙ was.total (λ j r. none j (rose_before j r))
+      | inl low ↦ ap (λ (xs : List S). all_stored kind xs) (tried.same low) ∙ was.total (λ j r. none j (rose_before j r))
       | inr r ↦ absurd (none k (rose_here k r))
     ];
   }
 
-  pub going_skip : items ≡ found → IsOut view down mid new k → Going view follows down old new place (i + 1) bytes items
-  going_skip is out = subst (λ (ps : List Pointer). Going view follows down old new place (i + 1) bytes ps) (sym is) (skip out)
+  pub going_skip : (items : List Pointer) → items ≡ found → IsOut kind (span down mid new) k → Going kind (span down old new) place (i + 1) bytes items
+  going_skip items is out = subst (λ (ps : List Pointer). Going kind (span down old new) place (i + 1) bytes ps) (sym is) (skip out)
 
   -- the server took a copy
-  module _ (p : Pointer) (here : p.server.0 ≡ k) (made : IsNewCopy view down mid new place.file bytes p)
-      (stored : all_stored view new ≡ all_stored view mid + length bytes) where
+  module _ (p : Pointer) (here : p.server.0 ≡ k) (made : IsNewCopy kind (span down mid new) place.file bytes p)
+      (stored : all_stored kind new ≡ all_stored kind mid + length bytes) where
     same_before : (d : S) → get_or mid p.server.0 d ≡ get_or old p.server.0 d
     same_before d = was.untouched p.server.0 d (λ c. fresh (subst (λ (n : ℕ). Contains (take i place.servers) n) here c))
 
-    made_now : IsNewCopy view down old new place.file bytes p
-    made_now = copy_since view down old mid new place.file bytes p was.each.same_length same_before made
+    made_now : IsNewCopy kind (span down old new) place.file bytes p
+    made_now = copy_since kind down old mid new place.file bytes p was.each.same_length same_before made
 
     has_now : (j : ℕ) → Contains (servers (placed p found)) j ↔ Contains (was.took ++ k ∷ []) j
     has_now j = (
@@ -209,14 +209,14 @@ module _ {S : Type 0} (view : S → StoreView) (follows : S → S → List Range
       ]),
     )
 
-    grew_here : (f : ℕ) (d : S) → (view (get_or mid p.server.0 d)).size f ≡ (view (get_or old p.server.0 d)).size f + bytes_in found p.server.0 f
-        → (view (get_or new p.server.0 d)).size f ≡ (view (get_or old p.server.0 d)).size f + bytes_in (placed p found) p.server.0 f
+    grew_here : (f : ℕ) (d : S) → (kind.view (get_or mid p.server.0 d)).size f ≡ (kind.view (get_or old p.server.0 d)).size f + bytes_in found p.server.0 f
+        → (kind.view (get_or new p.server.0 d)).size f ≡ (kind.view (get_or old p.server.0 d)).size f + bytes_in (placed p found) p.server.0 f
     grew_here f d e = elim (cases_eq f place.file) [
       | inl is ↦
           let own : cond (p.server.0 == p.server.0 && p.file == f) p.len 0 ≡ p.len =
           ap (λ b. cond (b && p.file == f) p.len 0) (eq-eqb p.server.0 p.server.0 refl) ∙ ap (λ b. cond b p.len 0) (eq-eqb p.file f (made.file ∙ sym is)) in
-          let size : (view (get_or new p.server.0 d)).size f ≡ (view (get_or mid p.server.0 d)).size f + length bytes =
-          subst (λ (n : ℕ). (view (get_or new p.server.0 d)).size n ≡ (view (get_or mid p.server.0 d)).size n + length bytes) (sym is) (omega (arith, made.size d, made.at d)) in
+          let size : (kind.view (get_or new p.server.0 d)).size f ≡ (kind.view (get_or mid p.server.0 d)).size f + length bytes =
+          subst (λ (n : ℕ). (kind.view (get_or new p.server.0 d)).size n ≡ (kind.view (get_or mid p.server.0 d)).size n + length bytes) (sym is) (omega (arith, made.size d, made.at d)) in
           omega (arith, size, e, own, made.len, bytes_in-placed p found p.server.0 f)
       | inr ne ↦
           let own : cond (p.server.0 == p.server.0 && p.file == f) p.len 0 ≡ 0 =
@@ -224,14 +224,14 @@ module _ {S : Type 0} (view : S → StoreView) (follows : S → S → List Range
           omega (arith, made.others d f ne, e, own, bytes_in-placed p found p.server.0 f)
     ]
 
-    grew_elsewhere : (j f : ℕ) (d : S) → j ≢ p.server.0 → (view (get_or mid j d)).size f ≡ (view (get_or old j d)).size f + bytes_in found j f
-        → (view (get_or new j d)).size f ≡ (view (get_or old j d)).size f + bytes_in (placed p found) j f
+    grew_elsewhere : (j f : ℕ) (d : S) → j ≢ p.server.0 → (kind.view (get_or mid j d)).size f ≡ (kind.view (get_or old j d)).size f + bytes_in found j f
+        → (kind.view (get_or new j d)).size f ≡ (kind.view (get_or old j d)).size f + bytes_in (placed p found) j f
     grew_elsewhere j f d ne e =
         let own : cond (p.server.0 == j && p.file == f) p.len 0 ≡ 0 = ap (λ b. cond (b && p.file == f) p.len 0) (ne_eqb p.server.0 j (λ is. ne (sym is))) in
-        let same : (view (get_or new j d)).size f ≡ (view (get_or mid j d)).size f = ap (λ (s : S). (view s).size f) (tried.elsewhere j d (λ is. ne (is ∙ sym here))) in
+        let same : (kind.view (get_or new j d)).size f ≡ (kind.view (get_or mid j d)).size f = ap (λ (s : S). (kind.view s).size f) (tried.elsewhere j d (λ is. ne (is ∙ sym here))) in
         omega (arith, same, e, own, bytes_in-placed p found j f)
 
-    take_it : Going view follows down old new place (i + 1) bytes (placed p found)
+    take_it : Going kind (span down old new) place (i + 1) bytes (placed p found)
     take_it = record {
       each = each_now;
       syncs = syncs_now;
@@ -241,34 +241,34 @@ module _ {S : Type 0} (view : S → StoreView) (follows : S → S → List Range
       has = has_now;
       untouched = untouched_now;
       took_len = omega (arith, length-append was.took (k ∷ []), was.took_len, length-placed p found);
-      copies = All-placed (IsNewCopy view down old new place.file bytes) p found made_now copies_on;
+      copies = All-placed (IsNewCopy kind (span down old new) place.file bytes) p found made_now copies_on;
       ascends = ascends_placed p found (λ c. no_copy (subst (λ (n : ℕ). Contains (servers found) n) here c)) was.ascends;
-      written = subst (λ (t : List ℕ). LeavesOut (IsOut view down old new) t (was.took ++ k ∷ [])) (sym next)
-          (leaves_take (IsOut view down old new) (take i place.servers) was.took k written_on);
+      written = subst (λ (t : List ℕ). LeavesOut (IsOut kind (span down old new)) t (was.took ++ k ∷ [])) (sym next)
+          (leaves_take (IsOut kind (span down old new)) (take i place.servers) was.took k written_on);
       grew = λ j f d h. elim (was.grew j f d h) [
         | inl r ↦ inl (rose_before j r)
         | inr e ↦ elim (cases_eq j p.server.0) [
-          | inl is ↦ inr (subst (λ (n : ℕ). (view (get_or new n d)).size f ≡ (view (get_or old n d)).size f + bytes_in (placed p found) n f) (sym is)
-              (grew_here f d (subst (λ (n : ℕ). (view (get_or mid n d)).size f ≡ (view (get_or old n d)).size f + bytes_in found n f) is e)))
+          | inl is ↦ inr (subst (λ (n : ℕ). (kind.view (get_or new n d)).size f ≡ (kind.view (get_or old n d)).size f + bytes_in (placed p found) n f) (sym is)
+              (grew_here f d (subst (λ (n : ℕ). (kind.view (get_or mid n d)).size f ≡ (kind.view (get_or old n d)).size f + bytes_in found n f) is e)))
           | inr ne ↦ inr (grew_elsewhere j f d ne e)
         ]
       ];
       total = λ none.
-          let before : all_stored view mid ≡ all_stored view old + length found * length bytes = was.total (λ j r. none j (rose_before j r)) in
+          let before : all_stored kind mid ≡ all_stored kind old + length found * length bytes = was.total (λ j r. none j (rose_before j r)) in
           let more : length (placed p found) * length bytes ≡ length found * length bytes + length bytes = one_more (length found) (length (placed p found)) (length bytes) (length-placed p found) in
           omega (arith, stored, before, more);
     }
 
-  pub going_take : (p : Pointer) (file : ℕ) → items ≡ placed p found → p.server.0 ≡ k → file ≡ place.file → IsNewCopy view down mid new file bytes p
-      → all_stored view new ≡ all_stored view mid + length bytes → Going view follows down old new place (i + 1) bytes items
-  going_take p file is here is_file made stored = subst (λ (ps : List Pointer). Going view follows down old new place (i + 1) bytes ps) (sym is)
-      (take_it p here (subst (λ (f : ℕ). IsNewCopy view down mid new f bytes p) is_file made) stored)
+  pub going_take : (items : List Pointer) (p : Pointer) (file : ℕ) → items ≡ placed p found → p.server.0 ≡ k → file ≡ place.file → IsNewCopy kind (span down mid new) file bytes p
+      → all_stored kind new ≡ all_stored kind mid + length bytes → Going kind (span down old new) place (i + 1) bytes items
+  going_take items p file is here is_file made stored = subst (λ (ps : List Pointer). Going kind (span down old new) place (i + 1) bytes ps) (sym is)
+      (take_it p here (subst (λ (f : ℕ). IsNewCopy kind (span down mid new) f bytes p) is_file made) stored)
 
 -- before the first try
-pub going_none : {S : Type 0} (view : S → StoreView) (follows : S → S → List Range → Type 0) → ((s : S) → follows s s []) → (down : ℕ → Bool) (xs : List S)
-    (place : PlaceView) (bytes : List ℕ) → Going view follows down xs xs place 0 bytes []
-going_none view follows same down xs place bytes = record {
-  each = each_same follows same xs;
+pub going_none : {S : Type 0} {kind : StoreKind S} → KindLaws kind → (down : ℕ → Bool) (xs : List S) (place : PlaceView) (bytes : List ℕ)
+    → Going kind (span down xs xs) place 0 bytes []
+going_none {kind = kind} laws down xs place bytes = record {
+  each = each_same laws xs;
   syncs = λ k d h. refl;
   lows = λ k d low. refl;
   others = λ k f d other. refl;
@@ -276,7 +276,7 @@ going_none view follows same down xs place bytes = record {
   took_len = refl;
   written = tt;
   has = λ k. (λ c. c, λ c. c);
-  copies = All-nil (IsNewCopy view down xs xs place.file bytes);
+  copies = All-nil (IsNewCopy kind (span down xs xs) place.file bytes);
   ascends = tt;
   untouched = λ k d none. refl;
   grew = λ k f d h. inr (omega arith);
@@ -284,54 +284,52 @@ going_none view follows same down xs place bytes = record {
 }
 
 -- the server that is tried is on the shelf
-pub on_shelf : {S : Type 0} (follows : S → S → List Range → Type 0) (old mid : List S) (servers : List ℕ) (n i k : ℕ)
-    → IsOrder n servers → n ≤ length old → EachFollows follows old mid [] → i < n → slice_get servers i ≡ Some k → k < length mid
-on_shelf follows old mid servers n i k order room each h at =
+pub on_shelf : {S : Type 0} {kind : StoreKind S} {old mid : List S} (servers : List ℕ) (n i k : ℕ)
+    → IsOrder n servers → n ≤ length old → EachFollows kind old mid [] → i < n → slice_get servers i ≡ Some k → k < length mid
+on_shelf servers n i k order room each h at =
     let below : i < length servers = omega (arith, h, order.len) in
     omega (arith, order.known i 0 below, get_or_from_slice_get servers i k 0 at, room, each.same_length)
 
-pub low_copies : {S : Type 0} (view : S → StoreView) (down : ℕ → Bool) (old now : List S) (file : ℕ) (bytes : List ℕ) (ps : List Pointer)
-    → All (IsNewCopy view down old now file bytes) ps → All (IsLow (length bytes)) ps
-low_copies view down old now file bytes ps copies = λ j d h. record { len = (copies j d h).len; low = (copies j d h).low }
+pub low_copies : {S : Type 0} {kind : StoreKind S} {t : Span S} (file : ℕ) (bytes : List ℕ) (ps : List Pointer)
+    → All (IsNewCopy kind t file bytes) ps → All (IsLow (length bytes)) ps
+low_copies file bytes ps copies = λ j d h. record { len = (copies j d h).len; low = (copies j d h).low }
 
 -- the slice of these copies
-pub stored_by : {S : Type 0} (view : S → StoreView) (follows : S → S → List Range → Type 0) (down : ℕ → Bool) (old now : List S) (place : PlaceView) (i : ℕ) (bytes : List ℕ)
-    (replicas : ℕ) (s : Slice) → Going view follows down old now place i bytes (pointers_of s) → length (pointers_of s) ≡ replicas → 0 < replicas
-    → IsStored view down old now replicas place bytes s
-stored_by view follows down old now place i bytes replicas s was width some = record {
+pub stored_by : {S : Type 0} {kind : StoreKind S} {t : Span S} {place : PlaceView} {i : ℕ} {bytes : List ℕ} (replicas : ℕ) (s : Slice)
+    → Going kind t place i bytes (pointers_of s) → length (pointers_of s) ≡ replicas → 0 < replicas → IsStored kind t replicas place bytes s
+stored_by {kind = kind} {t = t} {place = place} {i = i} {bytes = bytes} replicas s was width some = record {
   width = width;
   tried = i;
   took = was.took;
   took_len = was.took_len ∙ width;
-  len = len_of_first s (pointers_of s) (length bytes) refl (omega (arith, width, some)) (low_copies view down old now place.file bytes (pointers_of s) was.copies);
+  len = len_of_first s (pointers_of s) (length bytes) refl (omega (arith, width, some)) (low_copies place.file bytes (pointers_of s) was.copies);
   written = was.written;
   servers = was.has;
   copies = was.copies;
   untouched = was.untouched;
   grew = was.grew;
-  total = λ none. was.total none ∙ ap (λ (n : ℕ). all_stored view old + n * length bytes) width;
+  total = λ none. was.total none ∙ ap (λ (n : ℕ). all_stored kind t.before + n * length bytes) width;
 }
 
 -- and it lies inside the stores
-pub inside_by : {S : Type 0} (view : S → StoreView) (follows : S → S → List Range → Type 0) (down : ℕ → Bool) (old now : List S) (place : PlaceView) (i : ℕ) (bytes : List ℕ)
-    (ps : List Pointer) → place.file < 8 → Going view follows down old now place i bytes ps → All (IsCopyInside view now) ps
-inside_by {S} view follows down old now place i bytes ps file was = λ j d h.
+pub inside_by : {S : Type 0} {kind : StoreKind S} {t : Span S} {place : PlaceView} {i : ℕ} {bytes : List ℕ} {ps : List Pointer}
+    → place.file < 8 → Going kind t place i bytes ps → All (IsCopyInside kind t.after) ps
+inside_by {kind = kind} {t = t} {ps = ps} file was = λ j d h.
     let p : Pointer = get_or ps j d in
     let c = was.copies j d h in (
       omega (arith, c.server, was.each.same_length),
       omega (arith, c.file, file),
-      λ x. subst (λ (f : ℕ). p.at + p.len ≤ (view (get_or now p.server.0 x)).size f) (sym c.file) (omega (arith, c.size x, c.len)),
+      λ x. subst (λ (f : ℕ). p.at + p.len ≤ (kind.view (get_or t.after p.server.0 x)).size f) (sym c.file) (omega (arith, c.size x, c.len)),
     )
 
 -- all servers were tried, and too few took a copy
-pub too_few : {S : Type 0} (view : S → StoreView) (follows : S → S → List Range → Type 0) (down : ℕ → Bool) (old now : List S) (place : PlaceView) (n i : ℕ) (bytes : List ℕ)
-    (found : List Pointer) (replicas : ℕ) → IsOrder n place.servers → n ≤ i → Going view follows down old now place i bytes found → length found < replicas
-    → AreTooFew view down old now n replicas
-too_few view follows down old now place n i bytes found replicas order past was few =
+pub too_few : {S : Type 0} {kind : StoreKind S} {t : Span S} {place : PlaceView} {i : ℕ} {bytes : List ℕ} {found : List Pointer} (n replicas : ℕ)
+    → IsOrder n place.servers → n ≤ i → Going kind t place i bytes found → length found < replicas → AreTooFew kind t n replicas
+too_few {kind = kind} {t = t} {place = place} {i = i} n replicas order past was few =
     let all : take i place.servers ≡ place.servers = take_all i place.servers (omega (arith, order.len, past)) in
     record {
       rest = was.took;
       few = omega (arith, was.took_len, few);
-      out = λ k h. leaves_or_out (IsOut view down old now) place.servers was.took k
-          (subst (λ (t : List ℕ). LeavesOut (IsOut view down old now) t was.took) all was.written) (order.each k h);
+      out = λ k h. leaves_or_out (IsOut kind t) place.servers was.took k
+          (subst (λ (x : List ℕ). LeavesOut (IsOut kind t) x was.took) all was.written) (order.each k h);
     }

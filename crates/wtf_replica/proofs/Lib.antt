@@ -1,4 +1,5 @@
 pub mod Spans
+pub mod Bytes
 pub mod Reading
 pub mod Writing
 pub mod Going

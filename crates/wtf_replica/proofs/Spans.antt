@@ -1,62 +1,83 @@
 -- What the loops of `create`, `fetch` and `sync_all` keep of the stores over the parts of a span in which nothing is punched.
-use Rattle.std.proofs.Common.{◌≡◌, ◌≢◌, ℕ, ◌<◌, Bool, true, List, [], length, get_or, ◌∙◌, ap, subst, arith, inl, inr}
+use Rattle.std.proofs.Common.{◌≡◌, ◌≢◌, ℕ, ◌<◌, ◌≤◌, Bool, true, List, [], length, get_or, sym, ◌∙◌, ap, subst, arith, inl, inr}
 use Rattle.std.proofs.lemmas.Bool.{cases_eq}
-use Rattle.wtf_dev.specs.Store.{Range, StoreView, Kept}
+use Rattle.std.proofs.lemmas.List.Elements.{All-weaker}
+use Rattle.wtf_base.specs.declared.pointer.Pointer.{Pointer}
+use Rattle.wtf_base.specs.declared.slice.Slice.{Slice}
+use Rattle.wtf_base.specs.Slices.{pointers_of}
+use Rattle.wtf_dev.specs.Store.{Kept, StoreKind, KindLaws}
 use Rattle.wtf_dev.specs.Each.{EachFollows}
-use Rattle.wtf_replica.specs.Outs.{HasRisen, IsOut, SameLengths, SameSyncs}
+use Rattle.wtf_replica.specs.Spans.{span}
+use Rattle.wtf_dev.specs.Sums.{all_stored, stored_bytes}
+use Rattle.wtf_dev.proofs.Sums.{sum_grows, stored-same}
+use Rattle.wtf_replica.specs.Outs.{HasRisen, IsOut, IsLeftDown, SameLengths, SameSyncs}
+use Rattle.wtf_replica.specs.Faults.{AreAllOut}
 
 -- what the stores say of themselves over a span in which nothing is punched
-abbrev pub EachKept : {S : Type 0} → (S → StoreView) → List S → List S → Type 0
-EachKept {S} view old new = (k : ℕ) (d : S) → k < length old → Kept (view (get_or old k d)) (view (get_or new k d)) []
+abbrev pub EachKept : {S : Type 0} → StoreKind S → List S → List S → Type 0
+EachKept {S} kind old new = (k : ℕ) (d : S) → k < length old → Kept (kind.view (get_or old k d)) (kind.view (get_or new k d)) []
 
-pub each_kept : {S : Type 0} (view : S → StoreView) (follows : S → S → List Range → Type 0)
-    → ((a b : S) (xs : List Range) → follows a b xs → Kept (view a) (view b) xs)
-    → (old new : List S) → EachFollows follows old new [] → EachKept view old new
-each_kept view follows keeps old new e = λ k d h. keeps (get_or old k d) (get_or new k d) [] (e.each k d h)
+pub each_kept : {S : Type 0} {kind : StoreKind S} → KindLaws kind → {old new : List S} → EachFollows kind old new [] → EachKept kind old new
+each_kept laws e = λ k d h. laws.keeps _ _ [] (e.each k d h)
 
 -- lengths and syncs that stay in both parts of a span stay in the whole
-pub same_lengths_on : {S : Type 0} (view : S → StoreView) (old mid new : List S) → length mid ≡ length old
-    → SameLengths view old mid → SameLengths view mid new → SameLengths view old new
-same_lengths_on view old mid new same one two = λ k d h f. let below : k < length mid = omega (arith, h, same) in two k d below f ∙ one k d h f
+pub same_lengths_on : {S : Type 0} (kind : StoreKind S) (old mid new : List S) → length mid ≡ length old
+    → SameLengths kind old mid → SameLengths kind mid new → SameLengths kind old new
+same_lengths_on kind old mid new same one two = λ k d h f. let below : k < length mid = omega (arith, h, same) in two k d below f ∙ one k d h f
 
-pub same_syncs_on : {S : Type 0} (view : S → StoreView) (old mid new : List S) → length mid ≡ length old
-    → SameSyncs view old mid → SameSyncs view mid new → SameSyncs view old new
-same_syncs_on view old mid new same one two = λ k d h. let below : k < length mid = omega (arith, h, same) in two k d below ∙ one k d h
+pub same_syncs_on : {S : Type 0} (kind : StoreKind S) (old mid new : List S) → length mid ≡ length old
+    → SameSyncs kind old mid → SameSyncs kind mid new → SameSyncs kind old new
+same_syncs_on kind old mid new same one two = λ k d h. let below : k < length mid = omega (arith, h, same) in two k d below ∙ one k d h
 
 -- the servers whose stores failed in a part of a span failed in the whole
-pub risen_on : {S : Type 0} (view : S → StoreView) (old mid new : List S) → length mid ≡ length old → EachKept view mid new
-    → (k : ℕ) → HasRisen view old mid k → HasRisen view old new k
-risen_on view old mid new same kept k rise =
+pub risen_on : {S : Type 0} (kind : StoreKind S) (old mid new : List S) → length mid ≡ length old → EachKept kind mid new
+    → (k : ℕ) → HasRisen kind old mid k → HasRisen kind old new k
+risen_on kind old mid new same kept k rise =
     (rise.0, λ d low. let h : k < length mid = omega (arith, rise.0, same) in omega (arith, rise.1 d, (kept k d h).faults))
 
-pub risen_since : {S : Type 0} (view : S → StoreView) (old mid new : List S) → length mid ≡ length old → EachKept view old mid
-    → (k : ℕ) → HasRisen view mid new k → HasRisen view old new k
-risen_since view old mid new same kept k rise =
+pub risen_since : {S : Type 0} (kind : StoreKind S) (old mid new : List S) → length mid ≡ length old → EachKept kind old mid
+    → (k : ℕ) → HasRisen kind mid new k → HasRisen kind old new k
+risen_since kind old mid new same kept k rise =
     let h : k < length old = omega (arith, rise.0, same) in (h, λ d low. omega (arith, rise.1 d, (kept k d h).faults))
 
 -- and those that are out in a part are out in the whole
-pub out_on : {S : Type 0} (view : S → StoreView) (down : ℕ → Bool) (old mid new : List S) → length mid ≡ length old → EachKept view mid new
-    → (k : ℕ) → IsOut view down old mid k → IsOut view down old new k
-out_on view down old mid new same kept k out = elim out [
+pub out_on : {S : Type 0} (kind : StoreKind S) (down : ℕ → Bool) (old mid new : List S) → length mid ≡ length old → EachKept kind mid new
+    → (k : ℕ) → IsOut kind (span down old mid) k → IsOut kind (span down old new) k
+out_on kind down old mid new same kept k out = elim out [
   | inl is_down ↦ inl is_down
-  | inr rise ↦ inr (risen_on view old mid new same kept k rise)
+  | inr rise ↦ inr (risen_on kind old mid new same kept k rise)
 ]
 
-pub out_since : {S : Type 0} (view : S → StoreView) (down : ℕ → Bool) (old mid new : List S) → length mid ≡ length old → EachKept view old mid
-    → (k : ℕ) → IsOut view down mid new k → IsOut view down old new k
-out_since view down old mid new same kept k out = elim out [
+pub out_since : {S : Type 0} (kind : StoreKind S) (down : ℕ → Bool) (old mid new : List S) → length mid ≡ length old → EachKept kind old mid
+    → (k : ℕ) → IsOut kind (span down mid new) k → IsOut kind (span down old new) k
+out_since kind down old mid new same kept k out = elim out [
   | inl is_down ↦ inl is_down
-  | inr rise ↦ inr (risen_since view old mid new same kept k rise)
+  | inr rise ↦ inr (risen_since kind old mid new same kept k rise)
 ]
-
--- the servers that are down are as they were
-abbrev pub IsLeftDown : {S : Type 0} → (ℕ → Bool) → List S → List S → Type 0
-IsLeftDown {S} down old new = (j : ℕ) (d : S) → down j ≡ true → get_or new j d ≡ get_or old j d
 
 -- a try of server k, which does nothing if it is down, leaves the servers that are down as they were
 pub lows_on : {S : Type 0} (down : ℕ → Bool) (old mid new : List S) (k : ℕ)
-    → IsLeftDown down old mid → (down k ≡ true → new ≡ mid) → ((j : ℕ) (d : S) → j ≢ k → get_or new j d ≡ get_or mid j d) → IsLeftDown down old new
+    → IsLeftDown (span down old mid) → (down k ≡ true → new ≡ mid) → ((j : ℕ) (d : S) → j ≢ k → get_or new j d ≡ get_or mid j d) → IsLeftDown (span down old new)
 lows_on {S} down old mid new k was same elsewhere j d low = elim (cases_eq j k) [
   | inl is ↦ ap (λ (xs : List S). get_or xs j d) (same (subst (λ (n : ℕ). down n ≡ true) is low)) ∙ was j d low
   | inr ne ↦ elsewhere j d ne ∙ was j d low
 ]
+
+-- the servers of all copies of a slice that are out in a part are out in the whole
+pub all_out_since : {S : Type 0} (kind : StoreKind S) (down : ℕ → Bool) (old mid new : List S) → length mid ≡ length old → EachKept kind old mid
+    → (s : Slice) (k : ℕ) → AreAllOut kind (span down mid new) s k → AreAllOut kind (span down old new) s k
+all_out_since kind down old mid new same kept s k a = record {
+  out = All-weaker (λ (p : Pointer). IsOut kind (span down mid new) p.server.0) (λ (p : Pointer). IsOut kind (span down old new) p.server.0)
+      (λ p. out_since kind down old mid new same kept p.server.0) (pointers_of s) a.out;
+  last = a.last;
+}
+
+-- stores whose files are as long as they were hold as much together
+pub same_lengths-stored : {S : Type 0} (kind : StoreKind S) (old new : List S) → length new ≡ length old → SameLengths kind old new → all_stored kind new ≡ all_stored kind old
+same_lengths-stored kind old new same lengths =
+    let more : all_stored kind old ≤ all_stored kind new =
+    sum_grows (λ s. stored_bytes (kind.view s)) old new same (λ k d h. omega (arith, stored-same (kind.view (get_or old k d)) (kind.view (get_or new k d)) (lengths k d h))) in
+    let less : all_stored kind new ≤ all_stored kind old =
+    sum_grows (λ s. stored_bytes (kind.view s)) new old (sym same)
+    (λ k d h. let below : k < length old = omega (arith, h, same) in omega (arith, stored-same (kind.view (get_or old k d)) (kind.view (get_or new k d)) (lengths k d below))) in
+    omega (arith, more, less)

@@ -13,26 +13,10 @@ use Rattle.wtf_base.specs.declared.slice.Extents.TheVariants.{One, Two, Three}
 use Rattle.wtf_base.specs.Extents.{pointers_to}
 use Rattle.wtf_base.specs.Pointers.{is_slice}
 use Rattle.wtf_base.specs.Slices.{pointers_of, len_of}
+use Rattle.wtf_base.proofs.Elements.{contains_cons, at_head, in_tail, none_in}
 use Rattle.wtf_replica.specs.Outs.{LeavesOut}
 use Rattle.wtf_replica.specs.Copies.{bytes_in}
 use Rattle.wtf_replica.specs.Placed.{placed}
-
--- an element of a list is its head or one of its tail
-contains_at : {X : Type 0} (x : X) (xs : List X) (k : X) (n : ℕ) → n < length (x ∷ xs) → get_or (x ∷ xs) n k ≡ k → (x ≡ k) ⊎ Contains xs k
-contains_at x xs k zero h e = inl e
-contains_at x xs k (suc n) h e = inr (n, omega (arith, h), e)
-
-pub contains_cons : {X : Type 0} (x : X) (xs : List X) (k : X) → Contains (x ∷ xs) k → (x ≡ k) ⊎ Contains xs k
-contains_cons x xs k c = contains_at x xs k c.0 c.1 c.2
-
-pub at_head : {X : Type 0} (x : X) (xs : List X) (k : X) → x ≡ k → Contains (x ∷ xs) k
-at_head x xs k e = (0, omega arith, e)
-
-pub in_tail : {X : Type 0} (x : X) (xs : List X) (k : X) → Contains xs k → Contains (x ∷ xs) k
-in_tail x xs k c = (suc c.0, omega (arith, c.1), c.2)
-
-pub none_in : {X : Type 0} (k : X) → Contains [] k → ⊥
-none_in k c = omega (arith, c.1)
 
 -- the element at i is not one of those before it, where all differ
 pub is_fresh : (order : List ℕ) (i : ℕ) → AllPairs (λ x y. x ≢ y) order → i < length order → Contains (take i order) (get_or order i 0) → ⊥

@@ -1,5 +1,15 @@
+pub mod Spans
 pub mod Downs
 pub mod Outs
+pub mod Bytes
 pub mod Copies
 pub mod Faults
 pub mod Placed
+pub use Rattle.wtf_base.specs.Slices
+pub use Rattle.wtf_base.specs.Pointers
+pub use Rattle.wtf_base.specs.Places
+pub use Rattle.wtf_dev.specs.Counts
+pub use Rattle.wtf_dev.specs.Store
+pub use Rattle.wtf_dev.specs.Each
+pub use Rattle.wtf_dev.specs.Sums
+pub use Rattle.wtf_ring.specs.Points

@@ -5,9 +5,10 @@ ghost use Rattle.arrayvec.specs.ArrayVec.{array_vec_len};
 ghost use Rattle.wtf_base.specs.Pointers.{is_slice};
 ghost use Rattle.wtf_base.specs.Slices.{pointers_of};
 ghost use Rattle.wtf_dev.specs.Each.{EachFollows};
-ghost use Rattle.wtf_dev.specs.Sums.{all_stored};
-ghost use Rattle.wtf_replica.specs.Downs.{settings_of, is_down};
-ghost use Rattle.wtf_replica.specs.Outs.{IsOut, SameSyncs};
+ghost use Rattle.wtf_dev.specs.Sums.{TellsAll, all_stored};
+ghost use Rattle.wtf_replica.specs.Downs.{settings_of, is_down, during};
+ghost use Rattle.wtf_replica.specs.Outs.{IsLeftDown, IsOut, OtherFilesStay, SameSyncs};
+ghost use Rattle.wtf_replica.specs.Bytes.{byte_at, HoldsSlice};
 ghost use Rattle.wtf_replica.specs.Copies.{IsStored, IsInside, IsNewCopy};
 ghost use Rattle.wtf_replica.specs.Faults.{IsWriteFault};
 ghost use Rattle.wtf_replica.specs.Placed.{placed};
@@ -61,13 +62,18 @@ impl Replicas {
         requires place { length place.now.servers ≡ (settings_of self.now).servers }
         requires some { 0 < length bytes.now }
         requires few { length bytes.now < 2 ^ 32 }
-        ensures stored { IfOk result (IsStored S.view (is_down self.now) shelf.old shelf.new (settings_of self.now).replicas place.now bytes.now) }
-        ensures inside { IfOk result (IsInside S.view shelf.new) }
-        ensures fault { IfErr result (IsWriteFault S.view (is_down self.now) shelf.old shelf.new (settings_of self.now).servers (settings_of self.now).replicas) }
-        ensures down { (k : ℕ) (d : S) → is_down self.now k ≡ true → slice_index_or shelf.new k d ≡ slice_index_or shelf.old k d }
-        ensures others { (k f : ℕ) (d : S) → f ≢ place.now.file → (S.view (slice_index_or shelf.new k d)).size f ≡ (S.view (slice_index_or shelf.old k d)).size f }
-        ensures syncs { SameSyncs S.view shelf.old shelf.new }
-        ensures follows { EachFollows S.follows shelf.old shelf.new [] }
+        ensures stored { IfOk result
+            (IsStored S.kind (during self.now shelf.old shelf.new) (settings_of self.now).replicas
+            place.now bytes.now) }
+        ensures holds { IfOk result (λ s. TellsAll S.kind shelf.old →
+            HoldsSlice (byte_at S.kind shelf.new) s bytes.now) }
+        ensures inside { IfOk result (IsInside S.kind shelf.new) }
+        ensures fault { IfErr result
+            (IsWriteFault S.kind (during self.now shelf.old shelf.new) (settings_of self.now)) }
+        ensures down { IsLeftDown (during self.now shelf.old shelf.new) }
+        ensures others { OtherFilesStay S.kind shelf.old shelf.new place.now.file }
+        ensures syncs { SameSyncs S.kind shelf.old shelf.new }
+        ensures follows { EachFollows S.kind shelf.old shelf.new [] }
     {
         let mut found: ArrayVec<Made, 3> = ArrayVec::new();
         let file = place.file();
@@ -99,14 +105,19 @@ impl Replicas {
         requires some { 0 < length bytes.now }
         requires few { length bytes.now < 2 ^ 32 }
         ensures server { IfSome result (λ p. p.server.0 ≡ k.0) }
-        ensures made { IfSome result (IsNewCopy S.view (is_down self.now) shelf.old shelf.new file bytes.now) }
-        ensures stored { OnSome result (all_stored S.view shelf.new ≡ all_stored S.view shelf.old + length bytes.now) }
-        ensures out { IfNone result (IsOut S.view (is_down self.now) shelf.old shelf.new k.0) }
+        ensures made { IfSome result
+            (IsNewCopy S.kind (during self.now shelf.old shelf.new) file bytes.now) }
+        ensures stored { OnSome result (all_stored S.kind shelf.new ≡
+            all_stored S.kind shelf.old + length bytes.now) }
+        ensures out { IfNone result (IsOut S.kind (during self.now shelf.old shelf.new) k.0) }
         ensures down { is_down self.now k.0 ≡ true → shelf.new ≡ shelf.old }
-        ensures others { (f : ℕ) (d : S) → f ≢ file → (S.view (slice_index_or shelf.new k.0 d)).size f ≡ (S.view (slice_index_or shelf.old k.0 d)).size f }
-        ensures elsewhere { (j : ℕ) (d : S) → j ≢ k.0 → slice_index_or shelf.new j d ≡ slice_index_or shelf.old j d }
-        ensures syncs { SameSyncs S.view shelf.old shelf.new }
-        ensures follows { EachFollows S.follows shelf.old shelf.new [] }
+        ensures others { (f : ℕ) (d : S) → f ≢ file →
+            (S.kind.view (slice_index_or shelf.new k.0 d)).size f ≡
+            (S.kind.view (slice_index_or shelf.old k.0 d)).size f }
+        ensures elsewhere { (j : ℕ) (d : S) → j ≢ k.0 →
+            slice_index_or shelf.new j d ≡ slice_index_or shelf.old j d }
+        ensures syncs { SameSyncs S.kind shelf.old shelf.new }
+        ensures follows { EachFollows S.kind shelf.old shelf.new [] }
     {
         if self.is_down(k.0) {
             return None;

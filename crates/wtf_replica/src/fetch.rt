@@ -1,11 +1,12 @@
 //! Reading a slice from one of its copies.
 
-ghost use Rattle.std.specs.Prelude.{◌≡◌, ◌≢◌, ◌<◌, ◌≤◌, ◌+◌, ◌^◌, ◌⊎◌, ℕ, true, false, [], length, slice_index_or, IfOk, IfErr};
+ghost use Rattle.std.specs.Prelude.{◌≡◌, ◌≢◌, ◌<◌, ◌≤◌, ◌+◌, ◌^◌, ◌⊎◌, ℕ, true, false, [], length, slice_index_or, IfOk, OnOk, IfErr};
 ghost use Rattle.wtf_base.specs.Slices.{len_of};
 ghost use Rattle.wtf_dev.specs.Each.{EachFollows};
 ghost use Rattle.wtf_dev.specs.Store.{Agrees};
-ghost use Rattle.wtf_replica.specs.Downs.{is_down};
-ghost use Rattle.wtf_replica.specs.Outs.{IsOut, SameLengths, SameSyncs};
+ghost use Rattle.wtf_replica.specs.Downs.{is_down, during};
+ghost use Rattle.wtf_replica.specs.Outs.{IsLeftDown, IsOut, SameLengths, SameSyncs};
+ghost use Rattle.wtf_replica.specs.Bytes.{byte_at, ShowsSlice};
 ghost use Rattle.wtf_replica.specs.Copies.{IsCopyInside, IsReadable, IsFetched};
 ghost use Rattle.wtf_replica.specs.Faults.{IsReadFault};
 
@@ -26,13 +27,16 @@ impl Replicas {
     ) -> Result<ServerId, Fault>
         requires some { 0 < length out.old }
         requires within { off + length out.old ≤ len_of slice.now }
-        requires inside { IsReadable S.view (is_down self.now) shelf.old slice.now }
-        ensures fetched { IfOk result (λ k. IsFetched S.view (is_down self.now) shelf.old shelf.new slice.now off out.new k.0) }
-        ensures fault { IfErr result (IsReadFault S.view (is_down self.now) shelf.old shelf.new slice.now) }
-        ensures down { (k : ℕ) (d : S) → is_down self.now k ≡ true → slice_index_or shelf.new k d ≡ slice_index_or shelf.old k d }
-        ensures lengths { SameLengths S.view shelf.old shelf.new }
-        ensures syncs { SameSyncs S.view shelf.old shelf.new }
-        ensures follows { EachFollows S.follows shelf.old shelf.new [] }
+        requires inside { IsReadable S.kind (is_down self.now) shelf.old slice.now }
+        ensures fetched { IfOk result (λ k.
+            IsFetched S.kind (during self.now shelf.old shelf.new) slice.now off out.new k.0) }
+        ensures shows { OnOk result (ShowsSlice (byte_at S.kind shelf.old) slice.now off out.new) }
+        ensures fault { IfErr result
+            (IsReadFault S.kind (during self.now shelf.old shelf.new) slice.now) }
+        ensures down { IsLeftDown (during self.now shelf.old shelf.new) }
+        ensures lengths { SameLengths S.kind shelf.old shelf.new }
+        ensures syncs { SameSyncs S.kind shelf.old shelf.new }
+        ensures follows { EachFollows S.kind shelf.old shelf.new [] }
     {
         let mut last = ServerId(0);
         for i in 0..slice.width() {
@@ -55,15 +59,20 @@ impl Replicas {
     ) -> bool
         requires within { off + length out.old ≤ copy.len }
         requires ends { copy.at + copy.len < 2 ^ 63 }
-        requires inside { (is_down self.now copy.server.0 ≡ true) ⊎ IsCopyInside S.view shelf.old copy }
+        requires inside { (is_down self.now copy.server.0 ≡ true) ⊎
+            IsCopyInside S.kind shelf.old copy }
         ensures up { result ≡ true → is_down self.now copy.server.0 ≡ false }
-        ensures bytes { result ≡ true → (d : S) → Agrees (S.view (slice_index_or shelf.old copy.server.0 d)) copy.file (copy.at + off) out.new }
-        ensures out { result ≡ false → IsOut S.view (is_down self.now) shelf.old shelf.new copy.server.0 }
+        ensures bytes { result ≡ true → (d : S) →
+            Agrees (S.kind.view (slice_index_or shelf.old copy.server.0 d)) copy.file
+            (copy.at + off) out.new }
+        ensures out { result ≡ false →
+            IsOut S.kind (during self.now shelf.old shelf.new) copy.server.0 }
         ensures down { is_down self.now copy.server.0 ≡ true → shelf.new ≡ shelf.old }
-        ensures elsewhere { (j : ℕ) (d : S) → j ≢ copy.server.0 → slice_index_or shelf.new j d ≡ slice_index_or shelf.old j d }
-        ensures lengths { SameLengths S.view shelf.old shelf.new }
-        ensures syncs { SameSyncs S.view shelf.old shelf.new }
-        ensures follows { EachFollows S.follows shelf.old shelf.new [] }
+        ensures elsewhere { (j : ℕ) (d : S) → j ≢ copy.server.0 →
+            slice_index_or shelf.new j d ≡ slice_index_or shelf.old j d }
+        ensures lengths { SameLengths S.kind shelf.old shelf.new }
+        ensures syncs { SameSyncs S.kind shelf.old shelf.new }
+        ensures follows { EachFollows S.kind shelf.old shelf.new [] }
     {
         let k = copy.server.0;
         if self.is_down(k) {

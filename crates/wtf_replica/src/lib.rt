@@ -4,6 +4,7 @@
 #![tactic(auto)]
 
 mod create;
+pub mod examples;
 mod fetch;
 mod free;
 mod replicas;

@@ -2,8 +2,8 @@
 
 ghost use Rattle.std.specs.Prelude.{◌≡◌, ◌≢◌, ◌<◌, ◌≤◌, ℕ, true, false, [], length, slice_index_or, OnOk, OnErr};
 ghost use Rattle.wtf_dev.specs.Each.{EachFollows};
-ghost use Rattle.wtf_replica.specs.Downs.{settings_of, is_down};
-ghost use Rattle.wtf_replica.specs.Outs.{IsOut, HasSynced, SameLengths};
+ghost use Rattle.wtf_replica.specs.Downs.{settings_of, is_down, during};
+ghost use Rattle.wtf_replica.specs.Outs.{IsLeftDown, IsOut, HasSynced, SameLengths};
 
 use crate::Replicas;
 use wtf_dev::{Failed, Shelf, SliceStore};
@@ -13,12 +13,15 @@ impl Replicas {
     /// some of the stores may then be synced. Nothing is done to a server that is down.
     pub fn sync_all<S: SliceStore>(&self, shelf: &mut Shelf<S>) -> Result<(), Failed>
         requires shelf { (settings_of self.now).servers ≤ length shelf.old }
-        ensures up { OnOk result ((k : ℕ) → k < (settings_of self.now).servers → is_down self.now k ≡ false) }
-        ensures synced { OnOk result ((k : ℕ) → k < (settings_of self.now).servers → HasSynced S.view shelf.old shelf.new k) }
-        ensures cause { OnErr result ((k : ℕ) × (k < (settings_of self.now).servers) × IsOut S.view (is_down self.now) shelf.old shelf.new k) }
-        ensures down { (k : ℕ) (d : S) → is_down self.now k ≡ true → slice_index_or shelf.new k d ≡ slice_index_or shelf.old k d }
-        ensures lengths { SameLengths S.view shelf.old shelf.new }
-        ensures follows { EachFollows S.follows shelf.old shelf.new [] }
+        ensures up { OnOk result ((k : ℕ) → k < (settings_of self.now).servers →
+            is_down self.now k ≡ false) }
+        ensures synced { OnOk result ((k : ℕ) → k < (settings_of self.now).servers →
+            HasSynced S.kind shelf.old shelf.new k) }
+        ensures cause { OnErr result ((k : ℕ) × (k < (settings_of self.now).servers) ×
+            IsOut S.kind (during self.now shelf.old shelf.new) k) }
+        ensures down { IsLeftDown (during self.now shelf.old shelf.new) }
+        ensures lengths { SameLengths S.kind shelf.old shelf.new }
+        ensures follows { EachFollows S.kind shelf.old shelf.new [] }
     {
         for k in 0..self.settings.servers {
             if !self.try_sync(shelf, k) {
@@ -32,12 +35,13 @@ impl Replicas {
     fn try_sync<S: SliceStore>(&self, shelf: &mut Shelf<S>, k: u8) -> bool
         requires server { k < length shelf.old }
         ensures up { result ≡ true → is_down self.now k ≡ false }
-        ensures synced { result ≡ true → HasSynced S.view shelf.old shelf.new k }
-        ensures out { result ≡ false → IsOut S.view (is_down self.now) shelf.old shelf.new k }
+        ensures synced { result ≡ true → HasSynced S.kind shelf.old shelf.new k }
+        ensures out { result ≡ false → IsOut S.kind (during self.now shelf.old shelf.new) k }
         ensures down { is_down self.now k ≡ true → shelf.new ≡ shelf.old }
-        ensures elsewhere { (j : ℕ) (d : S) → j ≢ k → slice_index_or shelf.new j d ≡ slice_index_or shelf.old j d }
-        ensures lengths { SameLengths S.view shelf.old shelf.new }
-        ensures follows { EachFollows S.follows shelf.old shelf.new [] }
+        ensures elsewhere { (j : ℕ) (d : S) → j ≢ k →
+            slice_index_or shelf.new j d ≡ slice_index_or shelf.old j d }
+        ensures lengths { SameLengths S.kind shelf.old shelf.new }
+        ensures follows { EachFollows S.kind shelf.old shelf.new [] }
     {
         if self.is_down(k) {
             return false;

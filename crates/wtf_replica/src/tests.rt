@@ -2,7 +2,7 @@
 
 ghost use Rattle.std.specs.Prelude.{◌≡◌, length, IfOk, IfSome};
 ghost use Rattle.wtf_base.specs.Slices.{len_of};
-ghost use Rattle.wtf_dev.specs.Memory.{store_view};
+ghost use Rattle.wtf_dev.specs.Memory.{mem_store};
 ghost use Rattle.wtf_replica.specs.Downs.{settings_of};
 ghost use Rattle.wtf_replica.specs.Copies.{IsInside};
 
@@ -55,7 +55,7 @@ fn two_stores(alloc: Global, fails: [Option<u64>; 2]) -> Result<Shelf<MemStore>,
 fn two_copies(shelf: &mut Shelf<MemStore>) -> Result<Slice, Fail>
     requires two { length shelf.old ≡ 2 }
     ensures two { length shelf.new ≡ 2 }
-    ensures inside { IfOk result (IsInside store_view shelf.new) }
+    ensures inside { IfOk result (IsInside mem_store shelf.new) }
     ensures len { IfOk result (λ s. len_of s ≡ 4) }
 {
     let first = wtf_server::create(shelf.store(0), ServerId(0), FILE, b"abcd").or(Err("server 0"))?;
@@ -272,7 +272,7 @@ fn stored(alloc: Global, replicas: &Replicas, shelf: &mut Shelf<MemStore>) -> Re
     requires servers { (settings_of replicas.now).servers ≡ 2 }
     requires two { length shelf.old ≡ 2 }
     ensures two { length shelf.new ≡ 2 }
-    ensures inside { IfOk result (IsInside store_view shelf.new) }
+    ensures inside { IfOk result (IsInside mem_store shelf.new) }
     ensures len { IfOk result (λ s. len_of s ≡ 4) }
 {
     let ring = Ring::new(alloc, 2)?;
@@ -293,9 +293,9 @@ fn read_whole(
     slice: &Slice,
 ) -> Result<(ServerId, [u8; 4]), Fault>
     requires len { len_of slice.now ≡ 4 }
-    requires inside { IsInside store_view shelf.old slice.now }
+    requires inside { IsInside mem_store shelf.old slice.now }
     ensures same { length shelf.new ≡ length shelf.old }
-    ensures inside { IsInside store_view shelf.new slice.now }
+    ensures inside { IsInside mem_store shelf.new slice.now }
 {
     let mut out = [0; 4];
     match replicas.fetch(shelf, slice, 0, &mut out) {

@@ -13,7 +13,8 @@ fn meet_one(met: &mut ArrayVec<u8, 16>, server: u8)
     requires once { IsDistinct nat_eq met.old.items }
     requires known { All (λ k. k < 16) met.old.items }
     requires server { server < 16 }
-    ensures value { met.new.items ≡ (if list_any (λ j. j == server) met.old.items then met.old.items else met.old.items ++ server ∷ []) }
+    ensures value { met.new.items ≡
+        (if list_any (λ j. j == server) met.old.items then met.old.items else met.old.items ++ server ∷ []) }
     ensures once { IsDistinct nat_eq met.new.items }
     ensures known { All (λ k. k < 16) met.new.items }
 {
@@ -27,7 +28,8 @@ fn meet(met: &mut ArrayVec<u8, 16>, points: &[Point])
     requires once { IsDistinct nat_eq met.old.items }
     requires known { All (λ k. k < 16) met.old.items }
     requires points { All (λ (p : Point). p.server < 16) points.now }
-    ensures value { met.new.items ≡ met_after met.old.items (map (λ (p : Point). p.server) points.now) }
+    ensures value { met.new.items ≡
+        met_after met.old.items (map (λ (p : Point). p.server) points.now) }
     ensures once { IsDistinct nat_eq met.new.items }
     ensures known { All (λ k. k < 16) met.new.items }
 {
@@ -40,7 +42,8 @@ fn meet(met: &mut ArrayVec<u8, 16>, points: &[Point])
 pub(crate) fn round(points: &[Point], start: usize) -> ArrayVec<u8, 16>
     requires start { start ≤ length points.now }
     requires points { All (λ (p : Point). p.server < 16) points.now }
-    ensures { result.items ≡ met_after [] (map (λ (p : Point). p.server) (drop start points.now ++ take start points.now)) }
+    ensures { result.items ≡ met_after [] (map (λ (p : Point). p.server)
+        (drop start points.now ++ take start points.now)) }
 {
     let (front, back) = points.split_at(start);
     let mut met = ArrayVec::new();

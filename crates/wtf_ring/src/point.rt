@@ -31,7 +31,8 @@ impl Point {
 
 /// Adds the 16 points of a server.
 fn add_points(points: &mut Vec<Point>, server: u8) -> Result<(), OutOfMemory>
-    ensures { OnOk result (points.new.items ≡ points.old.items ++ map (point_of server) (range_with_len 0 16)) }
+    ensures { OnOk result (points.new.items ≡
+        points.old.items ++ map (point_of server) (range_with_len 0 16)) }
 {
     for node in 0..16 {
         points.push(Point::of(server, node))?;

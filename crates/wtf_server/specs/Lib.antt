@@ -1,0 +1,2 @@
+pub use Rattle.wtf_dev.specs.Counts
+pub use Rattle.wtf_dev.specs.Store

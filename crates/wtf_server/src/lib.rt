@@ -21,13 +21,22 @@ pub fn create<S: SliceStore>(
     requires file { file < 8 }
     requires some { 0 < length bytes.now }
     requires few { length bytes.now < 2 ^ 32 }
-    ensures pointer { IfOk result (λ p. p ≡ record { server = id; file = file; at = (S.view store.old).size file; len = length bytes.now }) }
-    ensures done { IfOk result (λ p. Appended (S.view store.old) (S.view store.new) file bytes.now p.at) }
+    ensures pointer { IfOk result (λ p. p ≡
+        record {
+          server = id;
+          file = file;
+          at = (S.kind.view store.old).size file;
+          len = length bytes.now;
+        }) }
+    ensures done { IfOk result
+        (λ p. Appended (S.kind.view store.old) (S.kind.view store.new) file bytes.now p.at) }
     ensures fits { IfOk result (λ p. p.at + p.len < 2 ^ 61) }
-    ensures others { (f : ℕ) → f ≢ file → (S.view store.new).size f ≡ (S.view store.old).size f }
-    ensures syncs { (S.view store.new).syncs ≡ (S.view store.old).syncs }
-    ensures follows { S.follows store.old store.new [] }
-    ensures cause { OnErr result (Rose (S.view store.old).faults (S.view store.new).faults) }
+    ensures others { (f : ℕ) → f ≢ file →
+        (S.kind.view store.new).size f ≡ (S.kind.view store.old).size f }
+    ensures syncs { (S.kind.view store.new).syncs ≡ (S.kind.view store.old).syncs }
+    ensures follows { S.kind.follows store.old store.new [] }
+    ensures cause { OnErr result
+        (Rose (S.kind.view store.old).faults (S.kind.view store.new).faults) }
 {
     let at = match store.append(file, bytes) {
         Ok(at) => at,
@@ -45,12 +54,13 @@ pub fn create<S: SliceStore>(
 pub fn retrieve<S: SliceStore>(store: &mut S, p: Pointer, out: &mut [u8]) -> Result<(), Failed>
     requires len { length out.old ≡ p.len }
     requires file { p.file < 8 }
-    requires inside { p.at + p.len ≤ (S.view store.old).size p.file }
-    ensures bytes { OnOk result (Agrees (S.view store.old) p.file p.at out.new) }
-    ensures sizes { SameSizes (S.view store.old) (S.view store.new) }
-    ensures syncs { (S.view store.new).syncs ≡ (S.view store.old).syncs }
-    ensures follows { S.follows store.old store.new [] }
-    ensures cause { OnErr result (Rose (S.view store.old).faults (S.view store.new).faults) }
+    requires inside { p.at + p.len ≤ (S.kind.view store.old).size p.file }
+    ensures bytes { OnOk result (Agrees (S.kind.view store.old) p.file p.at out.new) }
+    ensures sizes { SameSizes (S.kind.view store.old) (S.kind.view store.new) }
+    ensures syncs { (S.kind.view store.new).syncs ≡ (S.kind.view store.old).syncs }
+    ensures follows { S.kind.follows store.old store.new [] }
+    ensures cause { OnErr result
+        (Rose (S.kind.view store.old).faults (S.kind.view store.new).faults) }
 {
     store.read(p.file, p.at, out)
 }
@@ -59,12 +69,22 @@ pub fn retrieve<S: SliceStore>(store: &mut S, p: Pointer, out: &mut [u8]) -> Res
 /// known, and all others are as they were.
 pub fn free<S: SliceStore>(store: &mut S, file: u8, at: u64, len: u64) -> Result<(), Failed>
     requires file { file < 8 }
-    requires inside { at + len ≤ (S.view store.old).size file }
-    ensures zeros { OnOk result ((S.view store.old).tells ≡ true → (i : ℕ) → at ≤ i → i < at + len → (S.view store.new).told file i ≡ Some 0) }
-    ensures sizes { SameSizes (S.view store.old) (S.view store.new) }
-    ensures syncs { (S.view store.new).syncs ≡ (S.view store.old).syncs }
-    ensures follows { S.follows store.old store.new (record { file = file; at = at; len = len } ∷ []) }
-    ensures cause { OnErr result (Rose (S.view store.old).faults (S.view store.new).faults) }
+    requires inside { at + len ≤ (S.kind.view store.old).size file }
+    ensures zeros { OnOk result ((S.kind.view store.old).tells ≡ true → (i : ℕ) → at ≤ i →
+        i < at + len →
+        (S.kind.view store.new).told file i ≡ Some 0) }
+    ensures elsewhere { (f i b : ℕ) → f ≢ file → (S.kind.view store.old).told f i ≡ Some b →
+        (S.kind.view store.new).told f i ≡ Some b }
+    ensures before { (i b : ℕ) → i < at → (S.kind.view store.old).told file i ≡ Some b →
+        (S.kind.view store.new).told file i ≡ Some b }
+    ensures behind { (i b : ℕ) → at + len ≤ i → (S.kind.view store.old).told file i ≡ Some b →
+        (S.kind.view store.new).told file i ≡ Some b }
+    ensures sizes { SameSizes (S.kind.view store.old) (S.kind.view store.new) }
+    ensures syncs { (S.kind.view store.new).syncs ≡ (S.kind.view store.old).syncs }
+    ensures follows { S.kind.follows store.old store.new
+        (record { file = file; at = at; len = len } ∷ []) }
+    ensures cause { OnErr result
+        (Rose (S.kind.view store.old).faults (S.kind.view store.new).faults) }
 {
     store.punch(file, at, len)
 }

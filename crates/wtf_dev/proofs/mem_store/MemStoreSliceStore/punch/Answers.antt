@@ -1,12 +1,12 @@
 use Rattle.std.proofs.Common.{◌≤◌, ◌+◌, [], arith, length, get_or, ap}
-use Rattle.wtf_dev.proofs.Told.{follows_nothing, zeros_told, later_begin}
+use Rattle.wtf_dev.proofs.Told.{follows_nothing, zeros_told, later_call}
 use Rattle.wtf_dev.proofs.mem_store.MemStoreSliceStore.punch.Goals as goal
 
 within : (c : goal.After-zero) → c.args.at + c.args.len ≤ length (get_or c.self.inside.files c.args.file [])
 within c = omega (arith, c.requires.inside, ap (λ m. length (get_or m.files c.args.file [])) c.self.view_is)
 
 pub returns-clause-follows : goal.returns-clause-follows
-returns-clause-follows c = follows_nothing _ _ _ _ _ _ _ _ _ c.self.view_is c.zero.ensures.zeroed c.zero.ensures.within (later_begin c.if-begin.ensures.counted)
+returns-clause-follows c = follows_nothing _ _ _ _ _ _ _ _ _ c.self.view_is c.zero.ensures.zeroed c.zero.ensures.within (later_call _ c.next.ensures)
 
 pub returns-clause-zeros : goal.returns-clause-zeros
 returns-clause-zeros c = λ told i low high. zeros_told _ _ c.args.file c.args.at (c.args.at + c.args.len) i c.zero.ensures.zeroed c.zero.ensures.within (within c) low high

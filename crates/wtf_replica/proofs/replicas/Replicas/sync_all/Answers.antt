@@ -1,5 +1,5 @@
-use Rattle.std.proofs.Common.{◌≡◌, false, [], arith, below_more}
-use Rattle.wtf_dev.specs.Each.{each_on}
+use Rattle.std.proofs.Common.{◌≡◌, false, arith, below_more}
+use Rattle.wtf_dev.proofs.Each.{each_on}
 use Rattle.wtf_replica.specs.Downs.{is_down}
 use Rattle.wtf_replica.specs.Outs.{HasSynced}
 use Rattle.wtf_replica.proofs.Reading.{synced_on, synced_since}
@@ -7,8 +7,7 @@ use Rattle.wtf_replica.proofs.Spans.{each_kept, lows_on, same_lengths_on}
 use Rattle.wtf_replica.proofs.replicas.Replicas.sync_all.Goals as goal
 
 pub returns-then-not-try_sync-clause-follows : goal.returns-then-not-try_sync-clause-follows
-returns-then-not-try_sync-clause-follows g c =
-    each_on g.S.SliceStore.follows g.met.S.SliceStore.follows_on c.args.shelf.now c.loop-k.shelf c.try_sync.new.shelf [] [] c.loop-k.invariant.each c.try_sync.ensures.follows
+returns-then-not-try_sync-clause-follows g c = each_on g.met.S.SliceStore.laws c.loop-k.invariant.each c.try_sync.ensures.follows
 
 pub returns-then-not-try_sync-clause-down : goal.returns-then-not-try_sync-clause-down
 returns-then-not-try_sync-clause-down g c =
@@ -16,20 +15,17 @@ returns-then-not-try_sync-clause-down g c =
 
 pub loop-k-preserved : goal.loop-k-preserved
 loop-k-preserved g c =
-    let view = g.S.SliceStore.view in
-    let follows = g.S.SliceStore.follows in
-    let keeps = g.met.S.SliceStore.keeps in
+    let kind = g.S.SliceStore.kind in
+    let laws = g.met.S.SliceStore.laws in
     let was = c.loop-k.invariant in
     let same = was.each.same_length in
     record {
-      each = each_on follows g.met.S.SliceStore.follows_on c.args.shelf.now c.loop-k.shelf c.try_sync.new.shelf [] [] was.each c.try_sync.ensures.follows;
+      each = each_on laws was.each c.try_sync.ensures.follows;
       lows = lows_on (is_down c.args.self.now) c.args.shelf.now c.loop-k.shelf c.try_sync.new.shelf c.loop-k.k was.lows c.try_sync.ensures.down c.try_sync.ensures.elsewhere;
-      lengths = same_lengths_on view c.args.shelf.now c.loop-k.shelf c.try_sync.new.shelf same was.lengths c.try_sync.ensures.lengths;
-      synced = below_more (HasSynced view c.args.shelf.now c.try_sync.new.shelf) c.loop-k.k
-          (λ j h. synced_on view c.args.shelf.now c.loop-k.shelf c.try_sync.new.shelf same
-          (each_kept view follows keeps c.loop-k.shelf c.try_sync.new.shelf c.try_sync.ensures.follows) j (was.synced j h))
-          (synced_since view c.args.shelf.now c.loop-k.shelf c.try_sync.new.shelf same
-          (each_kept view follows keeps c.args.shelf.now c.loop-k.shelf was.each) c.loop-k.k (c.try_sync.ensures.synced c.if-not-try_sync.false));
+      lengths = same_lengths_on kind c.args.shelf.now c.loop-k.shelf c.try_sync.new.shelf same was.lengths c.try_sync.ensures.lengths;
+      synced = below_more (HasSynced kind c.args.shelf.now c.try_sync.new.shelf) c.loop-k.k
+          (λ j h. synced_on kind c.args.shelf.now c.loop-k.shelf c.try_sync.new.shelf same (each_kept laws c.try_sync.ensures.follows) j (was.synced j h))
+          (synced_since kind c.args.shelf.now c.loop-k.shelf c.try_sync.new.shelf same (each_kept laws was.each) c.loop-k.k (c.try_sync.ensures.synced c.if-not-try_sync.false));
       up = below_more (λ j. is_down c.args.self.now j ≡ false) c.loop-k.k was.up (c.try_sync.ensures.up c.if-not-try_sync.false);
     }
 

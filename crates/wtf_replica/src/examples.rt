@@ -1,0 +1,25 @@
+//! Worked examples of the definitions, each proved for every kind of store.
+
+ghost use Rattle.std.specs.Prelude.{◌≡◌, ◌<◌, ◌-◌, ◌^◌, ℕ, List, Some, slice_get, slice_index_or};
+ghost use Rattle.wtf_base.specs.declared.pointer.Pointer.{Pointer};
+ghost use Rattle.wtf_base.specs.declared.slice.Slice.{Slice};
+ghost use Rattle.wtf_base.specs.Slices.{pointers_of};
+ghost use Rattle.wtf_replica.specs.Spans.{Span};
+ghost use Rattle.wtf_replica.specs.Outs.{IsOut, SameSyncs, HasSynced};
+ghost use Rattle.wtf_replica.specs.Copies.{IsFetched};
+
+use wtf_dev::SliceStore;
+
+/// Where no store was synced none counts as synced, as long as its count can rise.
+pub fn a_sync_is_counted<S: SliceStore>()
+    ensures { (old new : List S) (k : ℕ) (d : S) →
+        (S.kind.view (slice_index_or old k d)).syncs < 2 ^ 64 - 1 →
+        SameSyncs S.kind old new → HasSynced S.kind old new k → ⊥ }
+{}
+
+/// A slice whose first copy lies on a server that is not out is read from that one.
+pub fn a_slice_is_read_from_its_first_copy<S: SliceStore>()
+    ensures { (t : Span S) (s : Slice) (off : ℕ) (out : List ℕ) (k : ℕ) (p : Pointer) →
+        slice_get (pointers_of s) 0 ≡ Some p → (IsOut S.kind t p.server.0 → ⊥) →
+        IsFetched S.kind t s off out k → k ≡ p.server.0 }
+{}
