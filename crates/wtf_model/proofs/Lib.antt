@@ -1,3 +1,14 @@
+pub mod ExampleTrees
+pub mod Laws
+pub mod CallLaws
+pub mod TreeLaws
+pub mod SessionLaws
+pub mod StepLaws
+pub mod MachineLaws
+pub mod LineLaws
+pub mod ServerLaws
+pub mod SoundLaws
 pub mod Runs
 pub mod Held
 pub mod Worked
+pub mod MachineExamples

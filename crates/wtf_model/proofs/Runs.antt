@@ -1,6 +1,6 @@
 -- Steps of one client alone, whose calls go on from session to session.
-use Rattle.std.proofs.Common.{◌≡◌, ℕ, ◌+◌, ◌-◌, ◌*◌, ◌<◌, ◌==◌, ◌||◌, not, cond, is_some, false, List, [], ◌∷◌, ◌++◌, length, Some, None, refl, sym, ap, subst, ◌∙◌, inl}
-use Rattle.std.proofs.lemmas.Bool.{lt-leb}
+use Rattle.std.proofs.Common.{◌≡◌, ℕ, ◌+◌, ◌-◌, ◌*◌, ◌<◌, ◌==◌, ◌||◌, not, cond, if◌then◌else◌, is_some, false, List, [], ◌∷◌, ◌++◌, length, Some, None, refl, sym, ap, subst, ◌∙◌, inl}
+use Rattle.std.proofs.lemmas.Bool.{lt-leb, eq-eqb}
 use Rattle.std.proofs.lemmas.List.{length_push}
 use Rattle.std.specs.FinMap.{get, len, get-insert, get-empty, get-remove, len-insert, len-empty, len-remove}
 use Rattle.std.specs.Cmp.{nat_cmp_total}
@@ -8,15 +8,17 @@ use Rattle.std.specs.Ordering.{nat_cmp}
 use Rattle.wtf_base.specs.declared.settings.Settings.{Settings}
 use Rattle.wtf_model.specs.declared.answer.Answer.{Answer}
 use Rattle.wtf_model.specs.declared.answer.Answer.TheVariants.{Begun, Committed}
+use Rattle.wtf_model.specs.declared.answer.Word.TheVariants.{Full, Replaying}
 use Rattle.wtf_model.specs.declared.op.Op.{Op}
 use Rattle.wtf_model.specs.declared.event.Verb.TheVariants as verb
 use Rattle.wtf_model.specs.Tree.{Tree}
 use Rattle.wtf_model.specs.Session.{Session, fresh}
 use Rattle.wtf_model.specs.Call.{call}
 use Rattle.wtf_model.specs.Transaction.{Transaction, session_from, answers_from, session_after, answers_of}
-use Rattle.wtf_model.specs.Steps.{Machine, May, after, start, cap_of, session_of, due, is_later_client, is_later_call, with_transaction}
-use Rattle.wtf_model.specs.Laws.{session_from-push, answers_from-push}
-use Rattle.wtf_model.specs.StepLaws.{May-built, MayClient-built, after-client, IsLogged, IsBuiltCall, IsLogged-call, logged, called-logged, MayCall-logged}
+use Rattle.wtf_model.specs.Lawful.{client_refusal}
+use Rattle.wtf_model.specs.Steps.{is_full, Machine, May, after, start, cap_of, session_of, due, is_later_client, is_later_call, with_transaction, logged, IsLogged}
+use Rattle.wtf_model.proofs.Laws.{session_from-push, answers_from-push}
+use Rattle.wtf_model.proofs.StepLaws.{May-built, MayClient-built, after-client, MayClient-asked, MayAsk-asked, IsLogged-call, called-logged, MayCall-logged}
 use Rattle.wtf_model.specs.Examples.{asks, calls}
 
 -- the greatest length of a file
@@ -41,6 +43,7 @@ pub record IsOpen (settings : Settings) (number : ℕ) (tree : Tree) (n : ℕ) (
   pub now : m.now ≡ tree
   pub base : t.tree ≡ tree
   pub calls_are : length t.ops ≡ n
+  pub live : t.replayed ≡ length t.ops
   pub session : session_after (cap_with settings) tree t.ops ≡ s
   pub shown : answers_of (cap_with settings) tree t.ops ≡ t.shown
 
@@ -71,6 +74,7 @@ step_begin settings number tree m i = (
     now = i.now;
     base = i.now;
     calls_are = refl;
+    live = refl;
     session = refl;
     shown = refl;
   }),
@@ -89,15 +93,23 @@ module _ (settings : Settings) (number : ℕ) (tree : Tree) (n : ℕ) (s : Sessi
       ap (λ b. b || is_later_call m (session_of m i.t) o) (lt-leb 4096 (length i.t.ops) (subst (λ k. k < 4096) (sym i.calls_are) room))
       ∙ ap (λ x. is_later_call m x o) session_is ∙ near
 
-  pub step_call : (o : Op (List ℕ)) (after_it : Session) (a : Answer) → n < 4096 → IsBuiltCall o → is_later_call m s o ≡ false
+  pub is_asked : (o : Op (List ℕ)) → n < 4096 → client_refusal (Some i.t) (verb.Call o) ≡ None
+  is_asked o room =
+      ap (λ b. if b then (if is_full i.t then Some Full else None) else Some Replaying) (eq-eqb i.t.replayed (length i.t.ops) i.live)
+      ∙ ap (λ b. if b then Some Full else None) (lt-leb 4096 (length i.t.ops) (subst (λ k. k < 4096) (sym i.calls_are) room))
+
+  tries : client_refusal (Some i.t) verb.Try ≡ None
+  tries = ap (λ b. if b then None else Some Replaying) (eq-eqb i.t.replayed (length i.t.ops) i.live)
+
+  pub step_call : (o : Op (List ℕ)) (after_it : Session) (a : Answer) → n < 4096 → is_later_call m s o ≡ false
       → call (cap_with settings) s o ≡ record { session = after_it; answer = a }
       → May m (calls o) a × IsOpen settings number tree (n + 1) after_it (after m (calls o) a)
-  step_call o after_it a room built near is =
+  step_call o after_it a room near is =
       let cap : ℕ = cap_with settings in
       let answered : due m i.t o ≡ a = due_is o ∙ ap (λ d. d.answer) is in
-      let safe : IsLogged a = subst (λ d. IsLogged d.answer) is (IsLogged-call cap s o built) in
+      let safe : IsLogged a = subst (λ d. IsLogged d.answer) is (IsLogged-call cap s o) in
       let so : after m (calls o) a ≡ with_transaction m 0 (logged i.t o a) = after-client m 0 (verb.Call o) a (Some i.t) i.here ∙ called-logged m 0 i.t o a safe in (
-        May-built m 0 (verb.Call o) a (Some i.t) i.here (is_built o room near) (inl (sym answered)),
+        May-built m 0 (verb.Call o) a (Some i.t) i.here (is_built o room near) (MayClient-asked m (Some i.t) (verb.Call o) a (is_asked o room) (inl (sym answered))),
         subst (IsOpen settings number tree (n + 1) after_it) (sym so) (record {
           t = logged i.t o a;
           here = get-insert nat_cmp_total m.transactions 0 (logged i.t o a) 0;
@@ -108,6 +120,7 @@ module _ (settings : Settings) (number : ℕ) (tree : Tree) (n : ℕ) (s : Sessi
           now = i.now;
           base = i.base;
           calls_are = length_push i.t.ops o ∙ ap (λ k. k + 1) i.calls_are;
+          live = ap (λ k. k + 1) i.live ∙ sym (length_push i.t.ops o);
           session = session_from-push cap (fresh tree) i.t.ops o ∙ ap (λ x. (call cap x o).session) i.session ∙ ap (λ d. d.session) is;
           shown = answers_from-push cap (fresh tree) i.t.ops o
               ∙ ap (λ l. l ++ (call cap (session_after cap tree i.t.ops) o).answer ∷ []) i.shown
@@ -120,7 +133,7 @@ module _ (settings : Settings) (number : ℕ) (tree : Tree) (n : ℕ) (s : Sessi
 
   pub step_try : May m (asks verb.Try) (Committed (number + 1)) × IsIdle settings (number + 1) s.tree (after m (asks verb.Try) (Committed (number + 1)))
   step_try = (
-    May-built m 0 verb.Try (Committed (number + 1)) (Some i.t) i.here refl (ap (λ k. k + 1) (sym i.number_is), agrees),
+    May-built m 0 verb.Try (Committed (number + 1)) (Some i.t) i.here refl (MayClient-asked m (Some i.t) verb.Try (Committed (number + 1)) tries (ap (λ k. k + 1) (sym i.number_is), agrees)),
     subst (IsIdle settings (number + 1) s.tree) (sym (after-client m 0 verb.Try (Committed (number + 1)) (Some i.t) i.here)) (record {
       settings_are = i.settings_are;
       number_is = refl;
@@ -134,9 +147,9 @@ module _ (settings : Settings) (number : ℕ) (tree : Tree) (n : ℕ) (s : Sessi
 
   -- a commit takes the next number
   pub try_number : (k : ℕ) → May m (asks verb.Try) (Committed k) → k ≡ number + 1
-  try_number k h = (MayClient-built m 0 verb.Try (Committed k) (Some i.t) i.here refl h).0 ∙ ap (λ k. k + 1) i.number_is
+  try_number k h = (MayAsk-asked m (Some i.t) verb.Try (Committed k) tries (MayClient-built m 0 verb.Try (Committed k) (Some i.t) i.here refl h)).0 ∙ ap (λ k. k + 1) i.number_is
 
   -- an answer of a call that is logged is the one that is due
   pub call_answer : (o : Op (List ℕ)) (a : Answer) → IsLogged a → n < 4096 → is_later_call m s o ≡ false → May m (calls o) a → a ≡ (call (cap_with settings) s o).answer
   call_answer o a own room near h =
-      MayCall-logged m i.t o a own (MayClient-built m 0 (verb.Call o) a (Some i.t) i.here (is_built o room near) h) ∙ due_is o
+      MayCall-logged m i.t o a own (MayAsk-asked m (Some i.t) (verb.Call o) a (is_asked o room) (MayClient-built m 0 (verb.Call o) a (Some i.t) i.here (is_built o room near) h)) ∙ due_is o

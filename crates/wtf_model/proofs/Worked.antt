@@ -8,13 +8,14 @@ use Rattle.wtf_model.specs.declared.answer.Answer.{Answer}
 use Rattle.wtf_model.specs.declared.answer.Answer.TheVariants.{Shown, Committed}
 use Rattle.wtf_model.specs.declared.op.Op.{Op}
 use Rattle.wtf_model.specs.declared.op.Op.TheVariants as op
-use Rattle.wtf_model.specs.declared.tree.Node.TheVariants.{Dir}
+use Rattle.wtf_model.specs.Tree.{Dir}
 use Rattle.wtf_model.specs.Tree.{root_alone, root}
 use Rattle.wtf_model.specs.Session.{Session}
-use Rattle.wtf_model.specs.Call.{Done, call}
+use Rattle.wtf_model.specs.Done.{Done}
+use Rattle.wtf_model.specs.Call.{call}
 use Rattle.wtf_model.specs.Transaction.{answers_from, answers_of}
-use Rattle.wtf_model.specs.Steps.{Accepts, start}
-use Rattle.wtf_model.specs.Laws.{get-node_same, get-node_other}
+use Rattle.wtf_model.specs.Steps.{Accepts, AcceptsBy, start}
+use Rattle.wtf_model.proofs.Laws.{get-node_same, get-node_other}
 use Rattle.wtf_model.specs.Examples.{a, first_file_events, first_file_answers, overwrite_events, overwrite_answers, gap_calls, gap_answers, fault_events, fault_answers}
 use Rattle.wtf_model.proofs.Runs.{idle_at_start, step_begin, step_try, try_number, call_answer, cap_with}
 use Rattle.wtf_model.proofs.Held.{with_file, create_held, open_held, write_held, seek_held, read_held, step_create, step_open, step_write, step_seek, step_read, step_write_fault, step_read_fault}
@@ -26,7 +27,7 @@ free : get root_alone a ≡ None
 free = get-node_other empty root Dir a (λ e. cc) ∙ get-empty (slice_cmp nat_cmp) a
 
 pub first_file : (settings : Settings) → Accepts (start settings 0 root_alone) first_file_events (first_file_answers (Shown (codes "abcdef")) (Committed 1))
-unfolding Accepts
+unfolding AcceptsBy
 first_file settings =
     let b = step_begin settings 0 root_alone _ (idle_at_start settings 0 root_alone) in
     let c = step_create settings 0 root_alone 0 _ (lit< tt) root_alone b.1 top free in
@@ -41,7 +42,7 @@ same_bytes : (xs ys : List ℕ) → Shown xs ≡ Shown ys → xs ≡ ys
 same_bytes xs ys e = cc
 
 pub first_file_bytes : (settings : Settings) (bytes : List ℕ) → Accepts (start settings 0 root_alone) first_file_events (first_file_answers (Shown bytes) (Committed 1)) → bytes ≡ codes "abcdef"
-unfolding Accepts
+unfolding AcceptsBy
 first_file_bytes settings bytes h =
     let b = step_begin settings 0 root_alone _ (idle_at_start settings 0 root_alone) in
     let c = step_create settings 0 root_alone 0 _ (lit< tt) root_alone b.1 top free in
@@ -53,7 +54,7 @@ first_file_bytes settings bytes h =
     ∙ ap (λ d. d.answer) (read_held (cap_with settings) root_alone (codes "abcdef") 0 9))
 
 pub first_file_number : (settings : Settings) (number : ℕ) → Accepts (start settings 0 root_alone) first_file_events (first_file_answers (Shown (codes "abcdef")) (Committed number)) → number ≡ 1
-unfolding Accepts
+unfolding AcceptsBy
 first_file_number settings number h =
     let b = step_begin settings 0 root_alone _ (idle_at_start settings 0 root_alone) in
     let c = step_create settings 0 root_alone 0 _ (lit< tt) root_alone b.1 top free in
@@ -64,7 +65,7 @@ first_file_number settings number h =
     try_number settings 0 root_alone 5 _ _ r.1 number h.1.1.1.1.1.1.0
 
 pub overwrite : (settings : Settings) → Accepts (start settings 0 root_alone) overwrite_events overwrite_answers
-unfolding Accepts
+unfolding AcceptsBy
 overwrite settings =
     let old = codes "abcdef" in
     let new = codes "abXYef" in
@@ -89,7 +90,7 @@ overwrite settings =
     (b.0, (c.0, (o.0, (w.0, (t.0, (b2.0, (o2.0, (k2.0, (w2.0, (s2.0, (r2.0, (t2.0, (b3.0, (o3.0, (r3.0, (t3.0, tt))))))))))))))))
 
 pub faults : (settings : Settings) → Accepts (start settings 0 root_alone) fault_events fault_answers
-unfolding Accepts
+unfolding AcceptsBy
 faults settings =
     let b = step_begin settings 0 root_alone _ (idle_at_start settings 0 root_alone) in
     let c = step_create settings 0 root_alone 0 _ (lit< tt) root_alone b.1 top free in

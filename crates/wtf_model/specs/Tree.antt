@@ -1,17 +1,22 @@
 -- The tree of files: one finite map from paths to directories and files. A path is its bytes.
 -- NSDI 2016, section 2.4 (one map from paths to inodes, directories kept beside it).
-use Rattle.std.specs.Prelude.{◌≡◌, ℕ, List, [], ◌∷◌, Option, Some, None, IsSome, Result, Ok, Err}
-use Rattle.std.specs.FinMap.{FinMap, get, insert, empty}
+use Rattle.std.specs.Prelude.{◌≡◌, ℕ, Bool, false, List, [], ◌∷◌, ◌++◌, map, length, filter, bytes_eq, Option, Some, None, IsSome, Result, Ok, Err}
+use Rattle.std.specs.FinMap.{FinMap, get, insert, empty, entries, keys}
 use Rattle.std.specs.Cmp.Lexicographic.{slice_cmp}
 use Rattle.std.specs.Ordering.{nat_cmp}
-use Rattle.wtf_path.specs.Parts.{parent_of}
-use Rattle.wtf_model.specs.declared.tree.Node.{Node}
-use Rattle.wtf_model.specs.declared.tree.Node.TheVariants.{Dir, File}
+use Rattle.wtf_path.specs.Grammar.{IsPath}
+use Rattle.wtf_path.specs.Parts.{parent_of, name_of}
+use Rattle.wtf_model.specs.declared.lists.Row.{Row}
 use Rattle.wtf_model.specs.declared.answer.Word.{Word}
-use Rattle.wtf_model.specs.declared.answer.Word.TheVariants.{Exists, NoParent, NoEnt, IsDir}
+use Rattle.wtf_model.specs.declared.answer.Word.TheVariants.{Exists, NoParent, NoEnt, NotDir, NotEmpty, IsDir}
+
+-- what stands at a path: a directory, or a file with its bytes
+pub data TreeNode : Type 0 where
+  Dir : TreeNode
+  File : (bytes : List ℕ) → TreeNode
 
 abbrev pub Tree : Type 0
-Tree = FinMap (slice_cmp nat_cmp) Node
+Tree = FinMap (slice_cmp nat_cmp) TreeNode
 
 -- the path of the root, `/`
 abbrev pub root : List ℕ
@@ -21,8 +26,9 @@ root = 47 ∷ []
 abbrev pub root_alone : Tree
 root_alone = insert empty root Dir
 
--- the root is a directory, and so is the parent of each other path
+-- each key is a path; the root is a directory, and so is the parent of each other path
 pub record IsTree (t : Tree) : Type 0 where
+  pub paths : (p : List ℕ) → IsSome (get t p) → IsPath p
   pub top : get t root ≡ Some Dir
   pub parents : (p dir : List ℕ) → IsSome (get t p) → parent_of p ≡ Some dir → get t dir ≡ Some Dir
 
@@ -33,18 +39,24 @@ Ok x >>= f = f x
 Err w >>= f = Err w
 
 -- nothing stands there yet
-abbrev pub is_free : Option Node → Result (Unit {0}) Word
+abbrev pub is_free : Option TreeNode → Result (Unit {0}) Word
 is_free None = Ok tt
 is_free (Some n) = Err Exists
 
 -- a directory stands there
-abbrev pub is_parent : Option Node → Result (Unit {0}) Word
+abbrev pub is_parent : Option TreeNode → Result (Unit {0}) Word
 is_parent (Some Dir) = Ok tt
 is_parent (Some (File bytes)) = Err NoParent
 is_parent None = Err NoParent
 
+-- a directory stands there, which a call names
+abbrev pub is_directory : Option TreeNode → Result (Unit {0}) Word
+is_directory (Some Dir) = Ok tt
+is_directory (Some (File bytes)) = Err NotDir
+is_directory None = Err NoEnt
+
 -- a file stands there, and these are its bytes
-abbrev pub bytes_of : Option Node → Result (List ℕ) Word
+abbrev pub bytes_of : Option TreeNode → Result (List ℕ) Word
 bytes_of (Some (File bytes)) = Ok bytes
 bytes_of (Some Dir) = Err IsDir
 bytes_of None = Err NoEnt
@@ -62,3 +74,45 @@ target t p = target_in t p (parent_of p)
 -- what a file that is named needs: its bytes
 abbrev pub source : Tree → List ℕ → Result (List ℕ) Word
 source t p = bytes_of (get t p)
+
+-- a path stands in a directory
+abbrev pub is_at : List ℕ → Option (List ℕ) → Bool
+is_at dir None = false
+is_at dir (Some up) = bytes_eq up dir
+
+abbrev pub is_in : List ℕ → List ℕ → Bool
+is_in dir p = is_at dir (parent_of p)
+
+-- the paths and the names in a directory, in byte order
+abbrev pub paths_in : Tree → List ℕ → List (List ℕ)
+paths_in t dir = filter (is_in dir) (keys t)
+
+abbrev pub names_in : Tree → List ℕ → List (List ℕ)
+names_in t dir = map name_of (paths_in t dir)
+
+abbrev pub are_none : List (List ℕ) → Result (Unit {0}) Word
+are_none [] = Ok tt
+are_none (p ∷ ps) = Err NotEmpty
+
+-- nothing stands in a directory
+abbrev pub is_empty : Tree → List ℕ → Result (Unit {0}) Word
+is_empty t dir = are_none (paths_in t dir)
+
+-- the bytes of files, one file behind the other
+abbrev pub sources : Tree → List (List ℕ) → Result (List ℕ) Word
+sources t [] = Ok []
+sources t (p ∷ ps) = do
+  bytes ← source t p
+  rest ← sources t ps
+  Ok (bytes ++ rest)
+
+-- a tree as it is shown: each path in byte order, and the length of each file
+abbrev pub shown_len : TreeNode → Option ℕ
+shown_len Dir = None
+shown_len (File bytes) = Some (length bytes)
+
+abbrev pub shown_row : List ℕ × TreeNode → Row
+shown_row (p, n) = record { path = p; len = shown_len n }
+
+abbrev pub rows_of : Tree → List Row
+rows_of t = map shown_row (entries t)

@@ -6,14 +6,22 @@
 #![tactic(auto)]
 
 mod answer;
+pub mod byte_examples;
 mod event;
 pub mod examples;
+pub mod limits;
 mod lists;
+pub mod machine_examples;
+pub mod name_examples;
 mod op;
-mod tree;
+mod same;
+pub mod slice_examples;
 
 pub use answer::{Answer, Kind, Word};
 pub use event::{Event, Holder, Verb};
 pub use lists::{Names, Paths, Row, Rows};
 pub use op::{JobKind, Op, Seek};
-pub use tree::Node;
+pub use same::is_same_answer;
+
+#[cfg(test)]
+mod tests;

@@ -1,6 +1,6 @@
 use Rattle.wtf_model.specs.declared.answer.Word.TheVariants.{Exists, NoParent}
 use Rattle.wtf_model.specs.Tree.{root}
-use Rattle.wtf_model.specs.CallLaws.{call-create_refused, target-root, target-exists, target-no_parent, target-file_parent}
+use Rattle.wtf_model.proofs.CallLaws.{call-create_refused, target-root, target-exists, target-no_parent, target-file_parent}
 use Rattle.wtf_model.proofs.examples.create_is_refused.Goals as goal
 
 pub returns : goal.returns

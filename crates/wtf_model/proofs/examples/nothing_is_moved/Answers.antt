@@ -1,4 +1,4 @@
-use Rattle.wtf_model.specs.CallLaws.{call-read_past, call-write_none}
+use Rattle.wtf_model.proofs.CallLaws.{call-read_past, call-write_none}
 use Rattle.wtf_model.proofs.examples.nothing_is_moved.Goals as goal
 
 pub returns : goal.returns

@@ -1,5 +1,5 @@
 use Rattle.wtf_model.specs.declared.answer.Word.TheVariants.{NoEnt, IsDir}
-use Rattle.wtf_model.specs.CallLaws.{call-open_refused, source-no_entry, source-directory}
+use Rattle.wtf_model.proofs.CallLaws.{call-open_refused, source-no_entry, source-directory}
 use Rattle.wtf_model.proofs.examples.open_is_refused.Goals as goal
 
 pub returns : goal.returns

@@ -1,5 +1,5 @@
 use Rattle.std.proofs.Common.{refl, ◌∙◌, sym}
-use Rattle.wtf_model.specs.StepLaws.{is_down-down, is_down-down_other, is_down-up, is_down-up_other, is_down-start, server_answer-known, server_answer-unknown}
+use Rattle.wtf_model.proofs.StepLaws.{is_down-down, is_down-down_other, is_down-up, is_down-up_other, is_down-start, server_answer-known, server_answer-unknown}
 use Rattle.wtf_model.proofs.examples.servers_go_down_and_up.Goals as goal
 
 pub returns : goal.returns

@@ -1,4 +1,4 @@
-use Rattle.wtf_model.specs.Laws.{length-written, written_before, written_within, written_after}
+use Rattle.wtf_model.proofs.Laws.{length-written, written_before, written_within, written_after}
 use Rattle.wtf_model.proofs.examples.written_bytes_are_in_place.Goals as goal
 
 pub returns : goal.returns

@@ -1,0 +1,88 @@
+-- What a call leaves and answers, and what the calls have in common.
+use Rattle.std.specs.Prelude.{ℕ, nat_le, Bool, List, [], take, drop, bytes_eq, if◌then◌else◌, Option, Some, None, Result, Ok, Err}
+use Rattle.std.specs.List.{list_any}
+use Rattle.std.specs.FinMap.{get, insert, remove, values}
+use Rattle.wtf_model.specs.declared.answer.Word.{Word}
+use Rattle.wtf_model.specs.declared.answer.Word.TheVariants.{NoHandle, InUse, NoSlice, Busy, TooBig, Range}
+use Rattle.wtf_model.specs.declared.answer.Answer.{Answer}
+use Rattle.wtf_model.specs.Tree.{Tree, TreeNode, File, source}
+use Rattle.wtf_model.specs.Session.{Session, Handle}
+
+-- a session, and the answer to the call that left it
+pub record Done : Type 0 where
+  pub session : Session
+  pub answer : Answer
+
+abbrev pub done : Session → Answer → Result Done Word
+done s a = Ok (record { session = s; answer = a })
+
+abbrev pub open_handle : Option Handle → Result Handle Word
+open_handle (Some h) = Ok h
+open_handle None = Err NoHandle
+
+-- the handle of a label
+abbrev pub handle_at : Session → ℕ → Result Handle Word
+handle_at s f = open_handle (get s.handles f)
+
+abbrev pub is_unused : Option Handle → Result (Unit {0}) Word
+is_unused None = Ok tt
+is_unused (Some h) = Err InUse
+
+abbrev pub known_slice : Option (List ℕ) → Result (List ℕ) Word
+known_slice (Some bytes) = Ok bytes
+known_slice None = Err NoSlice
+
+-- the bytes of a slice label
+abbrev pub slice_at : Session → ℕ → Result (List ℕ) Word
+slice_at s label = known_slice (get s.slices label)
+
+abbrev pub bytes_or_none : Result (List ℕ) Word → List ℕ
+bytes_or_none (Ok bytes) = bytes
+bytes_or_none (Err w) = []
+
+-- a file's bytes; of what is no file, none
+abbrev pub bytes_at : Tree → List ℕ → List ℕ
+bytes_at t p = bytes_or_none (source t p)
+
+-- the bytes of a handle's file
+abbrev pub bytes_of_handle : Session → Handle → List ℕ
+bytes_of_handle s h = bytes_at s.tree h.path
+
+-- n of the bytes from an offset on, or those that are left
+abbrev pub part : ℕ → ℕ → List ℕ → List ℕ
+part off n bytes = take n (drop off bytes)
+
+-- no handle is open on a path
+abbrev pub is_on : List ℕ → Handle → Bool
+is_on p h = bytes_eq h.path p
+
+abbrev pub is_closed : Session → List ℕ → Result (Unit {0}) Word
+is_closed s p = if list_any (is_on p) (values s.handles) then Err Busy else Ok tt
+
+-- a file of n bytes passes no limit
+abbrev pub fits : ℕ → ℕ → Result (Unit {0}) Word
+fits cap n = if nat_le n cap then Ok tt else Err TooBig
+
+-- a seek may lead to n, or a part end there, where `most` is the last place
+abbrev pub in_range : ℕ → ℕ → Result (Unit {0}) Word
+in_range most n = if nat_le n most then Ok tt else Err Range
+
+-- the handle of a label at another offset
+abbrev pub moved : Session → ℕ → Handle → ℕ → Session
+moved s f h off = record s { handles = insert s.handles f (record h { off = off }) }
+
+-- something else at a path
+abbrev pub put_node : Session → List ℕ → TreeNode → Session
+put_node s p n = record s { tree = insert s.tree p n }
+
+-- a file with these bytes
+abbrev pub put_bytes : Session → List ℕ → List ℕ → Session
+put_bytes s p bytes = record s { tree = insert s.tree p (File bytes) }
+
+-- nothing at a path
+abbrev pub take_out : Session → List ℕ → Session
+take_out s p = record s { tree = remove s.tree p }
+
+-- a slice with these bytes
+abbrev pub put_slice : Session → ℕ → List ℕ → Session
+put_slice s label bytes = record s { slices = insert s.slices label bytes }

@@ -1,0 +1,4 @@
+pub mod LinesOf
+pub mod Chunks
+pub mod PathLaws
+pub mod FormLaws
