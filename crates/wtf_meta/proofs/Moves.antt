@@ -1,0 +1,293 @@
+-- What the calls on names leave: the map with a call's changes stands for the tree that the definitions' call leaves.
+use Rattle.std.proofs.Common.{◌≡◌, ◌≢◌, ℕ, ◌+◌, ◌<◌, Bool, true, false, cond, List, [], ◌∷◌, Option, None, Some, refl, sym, ap, ◌∙◌, subst, ⊎_elim, arith}
+use Rattle.std.specs.Prelude.{IsSome}
+use Rattle.std.specs.FinMap.{get, insert, remove}
+use Rattle.std.specs.BTreeMap.{is_at}
+use Rattle.std.proofs.lemmas.Bool.{cases_lt}
+use Rattle.wtf_base.specs.declared.ids.InodeId.{InodeId}
+use Rattle.wtf_kv.specs.declared.changes.Change.TheVariants as change
+use Rattle.wtf_kv.specs.Edits.{is_between}
+use Rattle.wtf_overlay.specs.Origin.{Place}
+use Rattle.wtf_path.specs.Grammar.{IsPath}
+use Rattle.wtf_path.specs.Parts.{parent_of, name_of}
+use Rattle.wtf_model.specs.declared.answer.Answer.{Answer}
+use Rattle.wtf_model.specs.declared.answer.Answer.TheVariants as answer
+use Rattle.wtf_model.specs.Tree.{Tree, TreeNode, Dir, File, IsTree}
+use Rattle.wtf_model.specs.Session.{Session}
+use Rattle.wtf_model.specs.Done.{put_node, put_bytes, take_out}
+use Rattle.wtf_model.proofs.Laws.{get-node_same, get-node_other}
+use Rattle.wtf_model.proofs.TreeLaws.{IsFree, same_or_other, get-taken_same, get-taken_other, IsTree-new, IsTree-unlinked}
+use Rattle.wtf_values.specs.declared.key.Key.{Key}
+use Rattle.wtf_values.specs.declared.key.Key.TheVariants.{Path, Dir as DirKey, Inode, Region}
+use Rattle.wtf_values.specs.declared.value.Node.TheVariants.{Folder, File as FileNode}
+use Rattle.wtf_values.specs.declared.value.Value.{Value}
+use Rattle.wtf_values.specs.declared.value.Value.TheVariants as value
+use Rattle.wtf_values.specs.Keys.{key_cmp}
+use Rattle.wtf_values.specs.Names.{no_names, with_name, without_name}
+use Rattle.wtf_meta.specs.declared.session.Handle.{Handle}
+use Rattle.wtf_meta.specs.Maps.{Map, with}
+use Rattle.wtf_meta.specs.Bytes.{ValueBytes, MapBytes}
+use Rattle.wtf_meta.specs.Contents.{Told, is_told}
+use Rattle.wtf_meta.specs.FileEdits.{IsRegion, region_of, LAST_REGION}
+use Rattle.wtf_meta.specs.Trees.{LeadsTo, Stands}
+use Rattle.wtf_meta.specs.Sessions.{SessionView, Holds, IsOff}
+use Rattle.wtf_meta.specs.Calls.{Caller, IsDone}
+use Rattle.wtf_meta.specs.NameEdits.{mkdir_edits, rmdir_edits, create_edits, unlink_edits, rename_edits, put_at, add_to}
+use Rattle.wtf_meta.proofs.Nodes.{Listed, node-put, node-taken, names-listed, names-missing, names-of_listing, names-of_none}
+use Rattle.wtf_meta.proofs.Listings.{HaveNames, listing-none, names-added, names-taken}
+use Rattle.wtf_meta.proofs.HandleLaws.{Holds-on}
+use Rattle.wtf_meta.proofs.KeyPuts.{put_in, put-same, put-other, paths-apart, dirs-apart, inodes-apart, one_inode, with-add_to, with-drop_from, cut-own, cut-other}
+use Rattle.wtf_meta.proofs.Standing.{none_leads, stands-same, leads-file, path-none, stands-directory, stands-created, stands-unlinked, stands-renamed}
+
+-- values that bring no byte, or bytes that have P
+bytes_if : (P : List Place → Bool) (b : Bool) (v o : Option Value) → ValueBytes P v → ValueBytes P o → ValueBytes P (cond b v o)
+bytes_if P true v o x y = x
+bytes_if P false v o x y = y
+
+pub bytes-put : (P : List Place → Bool) (w : Map) (k : Key) (v : Option Value) → ValueBytes P v → MapBytes P w → MapBytes P (put_in w k v)
+bytes-put P w k v here all q = bytes_if P (is_at (key_cmp k) q) v (w q) here (all q)
+
+pub bytes-cut : (P : List Place → Bool) (w : Map) (from to : Key) → MapBytes P w → MapBytes P (with (change.Cut from to ∷ []) w)
+bytes-cut P w from to all q = bytes_if P (is_between key_cmp from to q) None (w q) tt (all q)
+
+-- what a directory's value leads to: no inode
+folder_leads : (v : Option Value) (i : InodeId) → v ≡ Some (value.Node Folder) → v ≡ Some (value.Node (FileNode i)) → ⊥
+folder_leads v i a c = let both : Some (value.Node Folder) ≡ Some (value.Node (FileNode i)) = sym a ∙ c in cc
+
+two_nodes : (t : Tree) (p q : List ℕ) (n m : Option TreeNode) → get t p ≡ n → get t q ≡ m → (n ≡ m → ⊥) → p ≢ q
+two_nodes t p q n m a c differ same = differ (sym a ∙ (ap (get t) same ∙ c))
+
+file_dir : (bytes : List ℕ) → Some (File bytes) ≡ Some Dir → ⊥
+file_dir bytes e = cc
+
+none_dir : {A : Type 0} (x : A) → None ≡ Some x → ⊥
+none_dir x e = cc
+
+there_is : (o : Option TreeNode) (n : TreeNode) → o ≡ Some n → IsSome o
+there_is o n e = subst (λ x. IsSome x) (sym e) refl
+
+no_region_by : (v : Option Value) → IsRegion v → region_of v ≡ None → v ≡ None
+no_region_by None is none = refl
+no_region_by (Some (value.Node n)) is none = absurd is
+no_region_by (Some (value.Names s)) is none = absurd is
+no_region_by (Some (value.Last r)) is none = absurd is
+no_region_by (Some (value.Region g)) is none = absurd (cc)
+
+none_cut : (b : Bool) (v : Option Value) → v ≡ None → cond b None v ≡ None
+none_cut true v e = refl
+none_cut false v e = e
+
+-- without a file, directories and what is free stay
+parent_without : (t : Tree) (p bytes dir : List ℕ) → get t p ≡ Some (File bytes) → get t dir ≡ Some Dir → get (remove t p) dir ≡ Some Dir
+parent_without t p bytes dir file is = get-taken_other t p dir (two_nodes t dir p (Some Dir) (Some (File bytes)) is file (λ e. file_dir bytes (sym e))) ∙ is
+
+free_without : (t : Tree) (p bytes q : List ℕ) → get t p ≡ Some (File bytes) → get t q ≡ None → get (remove t p) q ≡ None
+free_without t p bytes q file none = get-taken_other t p q (two_nodes t q p None (Some (File bytes)) none file (none_dir (File bytes))) ∙ none
+
+module _ (x : Caller) (told : Told) (w : Map) (s : SessionView) (S : Session) (st : Stands x.size told x.tx x.calls w S.tree) (holds : Holds told w s S) where
+  listed : (dir : List ℕ) → get S.tree dir ≡ Some Dir → Listed S.tree dir (w (DirKey dir))
+  listed dir is = names-listed S.tree dir (w (DirKey dir)) (get S.tree dir) (st.names dir) is
+
+  -- a handle's path is none at which nothing stands
+  off_free : (p : List ℕ) → w (Path p) ≡ None → (h : Handle) → LeadsTo w h.path h.inode → h.path ≢ p
+  off_free p none h leads same = none_leads (w (Path p)) h.inode none (subst (λ q. LeadsTo w q h.inode) same leads)
+
+  -- nothing changes
+  pub done-same : (a : Answer) → IsDone x told w w s (record { session = S; answer = a }) a
+  done-same a = record {
+    answer = refl;
+    stands = stands-same x.size told x.tx x.calls w S.tree st;
+    holds = holds;
+    own = λ i other none. none;
+  }
+
+  pub done-mkdir : (p : List ℕ) → IsPath p → (free : IsFree S.tree p) → IsDone x told w (with (mkdir_edits free.dir p) w) s (record { session = put_node S p Dir; answer = answer.Okay }) answer.Okay
+  done-mkdir p path free =
+      let t : Tree = S.tree in
+      let dir : List ℕ = free.dir in
+      let u : Tree = insert t p Dir in
+      let old = listed dir free.parent in
+      let none : w (Path p) ≡ None = path-none x.size told x.tx x.calls w t st p free.free in
+      let dir_p : dir ≢ p = two_nodes t dir p (Some Dir) None free.parent free.free (λ e. none_dir Dir (sym e)) in
+      let one : Map = put_in w (Path p) (Some (value.Node Folder)) in
+      let two : Map = put_in one (DirKey p) (Some (value.Names no_names)) in
+      let new : Map = put_in two (DirKey dir) (Some (value.Names (with_name old.names (name_of p)))) in
+      let is : with (mkdir_edits dir p) w ≡ new = with-add_to two dir p old.names (put-other one (DirKey p) (DirKey dir) _ (dirs-apart p dir dir_p) ∙ old.is) in
+      let here : new (Path p) ≡ Some (value.Node Folder) = put-same w (Path p) (Some (value.Node Folder)) in
+      let at : (q : List ℕ) → q ≢ p → new (Path q) ≡ w (Path q) = λ q other. put-other w (Path p) (Path q) _ (paths-apart p q other) in
+      let empty : new (DirKey p) ≡ Some (value.Names no_names) = put-other two (DirKey dir) (DirKey p) _ (dirs-apart dir p (λ e. dir_p (sym e))) ∙ put-same one (DirKey p) _ in
+      let alone : (q : List ℕ) → IsSome (get u q) → parent_of q ≡ Some p → ⊥ = λ q some up. ⊎_elim
+      (λ same. let both : Some dir ≡ Some p = sym free.up ∙ (ap parent_of (sym same) ∙ up) in let one_dir : dir ≡ p = cc in dir_p one_dir)
+      (λ other. none_dir Dir (sym free.free ∙ st.tree_is.parents q p (subst (λ o. IsSome o) (get-node_other t p Dir q other) some) up))
+      (same_or_other q p) in
+      subst (λ m. IsDone x told w m s (record { session = put_node S p Dir; answer = answer.Okay }) answer.Okay) (sym is) (record {
+        answer = refl;
+        stands = stands-directory x.size told x.tx x.calls w t st new p u
+            (λ i leads. none_leads (w (Path p)) i none leads) (λ i leads. folder_leads (new (Path p)) i here leads)
+            (node-put x.size told new Folder (new (Path p)) (get u p) (Some Dir) here (get-node_same t p Dir) tt)
+            (λ q other. (at q other, get-node_other t p Dir q other))
+            (λ i. refl) (λ i r. refl)
+            (IsTree-new t p Dir path st.tree_is free)
+            (names-added t (λ d. w (DirKey d)) (λ d. new (DirKey d)) p Dir free old st.names
+            (names-of_listing u p (new (DirKey p)) (Some Dir) no_names empty refl (listing-none u p alone))
+            (put-same two (DirKey dir) _)
+            (λ d other apart. put-other two (DirKey dir) (DirKey d) _ (dirs-apart dir d apart) ∙ put-other one (DirKey p) (DirKey d) _ (dirs-apart p d other)))
+            (bytes-put (is_told told) two (DirKey dir) _ tt (bytes-put (is_told told) one (DirKey p) _ tt (bytes-put (is_told told) w (Path p) _ tt st.bytes)));
+        holds = Holds-on told w new s S u (λ f h there leads. at h.path (off_free p none h leads) ∙ leads) holds;
+        own = λ i other gone. gone;
+      })
+
+  pub done-rmdir : (p dir : List ℕ) → parent_of p ≡ Some dir → get S.tree p ≡ Some Dir → w (Path p) ≡ Some (value.Node Folder)
+      → IsTree (remove S.tree p) → ((q : List ℕ) → IsSome (get S.tree q) → parent_of q ≡ Some p → ⊥)
+      → IsDone x told w (with (rmdir_edits dir p) w) s (record { session = take_out S p; answer = answer.Okay }) answer.Okay
+  done-rmdir p dir up there folder tree alone =
+      let t : Tree = S.tree in
+      let some : IsSome (get t p) = there_is (get t p) Dir there in
+      let old = listed dir (st.tree_is.parents p dir some up) in
+      let dir_p : dir ≢ p = λ e. alone p some (up ∙ ap Some e) in
+      let one : Map = put_in w (Path p) None in
+      let two : Map = put_in one (DirKey p) None in
+      let new : Map = put_in two (DirKey dir) (Some (value.Names (without_name old.names (name_of p)))) in
+      let is : with (rmdir_edits dir p) w ≡ new = with-drop_from two dir p old.names (put-other one (DirKey p) (DirKey dir) None (dirs-apart p dir dir_p) ∙ old.is) in
+      let gone : new (Path p) ≡ None = put-same w (Path p) None in
+      let at : (q : List ℕ) → q ≢ p → new (Path q) ≡ w (Path q) = λ q other. put-other w (Path p) (Path q) None (paths-apart p q other) in
+      subst (λ m. IsDone x told w m s (record { session = take_out S p; answer = answer.Okay }) answer.Okay) (sym is) (record {
+        answer = refl;
+        stands = stands-directory x.size told x.tx x.calls w t st new p (remove t p)
+            (λ i leads. folder_leads (w (Path p)) i folder leads) (λ i leads. none_leads (new (Path p)) i gone leads)
+            (node-taken x.size told new (new (Path p)) (get (remove t p) p) gone (get-taken_same t p))
+            (λ q other. (at q other, get-taken_other t p q other))
+            (λ i. refl) (λ i r. refl)
+            tree
+            (names-taken t (λ d. w (DirKey d)) (λ d. new (DirKey d)) p dir st.tree_is some up old st.names
+            (put-other two (DirKey dir) (DirKey p) _ (dirs-apart dir p (λ e. dir_p (sym e))) ∙ put-same one (DirKey p) None)
+            (put-same two (DirKey dir) _)
+            (λ d other apart. put-other two (DirKey dir) (DirKey d) _ (dirs-apart dir d apart) ∙ put-other one (DirKey p) (DirKey d) None (dirs-apart p d other)))
+            (bytes-put (is_told told) two (DirKey dir) _ tt (bytes-put (is_told told) one (DirKey p) None tt (bytes-put (is_told told) w (Path p) None tt st.bytes)));
+        holds = Holds-on told w new s S (remove t p) (λ f h is leads. at h.path (λ e. folder_leads (w (Path p)) h.inode folder (subst (λ q. LeadsTo w q h.inode) e leads)) ∙ leads) holds;
+        own = λ i other none. none;
+      })
+
+  pub done-create : (p : List ℕ) (i : InodeId) → i.tx.0 ≡ x.tx → i.index ≡ x.calls + 1 → IsPath p → (free : IsFree S.tree p) → IsDone x told w (with (create_edits free.dir p i) w) s (record { session = put_bytes S p []; answer = answer.Okay }) answer.Okay
+  done-create p i mine next path free =
+      let t : Tree = S.tree in
+      let dir : List ℕ = free.dir in
+      let u : Tree = insert t p (File []) in
+      let old = listed dir free.parent in
+      let none : w (Path p) ≡ None = path-none x.size told x.tx x.calls w t st p free.free in
+      let dir_p : dir ≢ p = two_nodes t dir p (Some Dir) None free.parent free.free (λ e. none_dir Dir (sym e)) in
+      let one : Map = put_in w (Path p) (Some (value.Node (FileNode i))) in
+      let two : Map = put_in one (Inode i) (Some (value.Last 0)) in
+      let new : Map = put_in two (DirKey dir) (Some (value.Names (with_name old.names (name_of p)))) in
+      let is : with (create_edits dir p i) w ≡ new = with-add_to two dir p old.names old.is in
+      let at : (q : List ℕ) → q ≢ p → new (Path q) ≡ w (Path q) = λ q other. put-other w (Path p) (Path q) _ (paths-apart p q other) in
+      let inodes : (j : InodeId) → j ≢ i → new (Inode j) ≡ w (Inode j) = λ j other. put-other one (Inode i) (Inode j) _ (inodes-apart i j other) in
+      let missing : w (DirKey p) ≡ None = names-missing t p (w (DirKey p)) (get t p) (st.names p) (λ e. none_dir Dir (sym free.free ∙ e)) in
+      subst (λ m. IsDone x told w m s (record { session = put_bytes S p []; answer = answer.Okay }) answer.Okay) (sym is) (record {
+        answer = refl;
+        stands = stands-created x.size told x.tx x.calls w t st new p u i mine next free.free
+            (put-same w (Path p) _) (get-node_same t p (File []))
+            (λ q other. (at q other, get-node_other t p (File []) q other))
+            (put-same one (Inode i) _) inodes (λ j r. refl)
+            (IsTree-new t p (File []) path st.tree_is free)
+            (names-added t (λ d. w (DirKey d)) (λ d. new (DirKey d)) p (File []) free old st.names
+            (names-of_none u p (new (DirKey p)) (Some (File [])) (put-other two (DirKey dir) (DirKey p) _ (dirs-apart dir p (λ e. dir_p (sym e))) ∙ missing) (file_dir []))
+            (put-same two (DirKey dir) _)
+            (λ d other apart. put-other two (DirKey dir) (DirKey d) _ (dirs-apart dir d apart)))
+            (bytes-put (is_told told) two (DirKey dir) _ tt (bytes-put (is_told told) one (Inode i) _ tt (bytes-put (is_told told) w (Path p) _ tt st.bytes)));
+        holds = Holds-on told w new s S u (λ f h there leads. at h.path (off_free p none h leads) ∙ leads) holds;
+        own = λ j other gone. inodes j (λ e. other (ap (λ k. k.tx.0) e ∙ mine)) ∙ gone;
+      })
+
+  -- no region of a file lies above the last number that a key can have
+  past_regions : (p : List ℕ) (i : InodeId) → LeadsTo w p i → (r : ℕ) → LAST_REGION < r → w (Region i r) ≡ None
+  past_regions p i leads r past =
+      let file = leads-file x.size told x.tx x.calls w S.tree st p i leads in
+      let few = file.body.file.few in
+      no_region_by (w (Region i r)) (file.body.has.regions r) (file.body.file.above r (omega arith))
+
+  pub done-unlink : (p dir bytes : List ℕ) (i : InodeId) → parent_of p ≡ Some dir → get S.tree p ≡ Some (File bytes) → LeadsTo w p i → IsOff p s
+      → IsDone x told w (with (unlink_edits dir p i) w) s (record { session = take_out S p; answer = answer.Okay }) answer.Okay
+  done-unlink p dir bytes i up there leads_p off =
+      let t : Tree = S.tree in
+      let some : IsSome (get t p) = there_is (get t p) (File bytes) there in
+      let parent : get t dir ≡ Some Dir = st.tree_is.parents p dir some up in
+      let old = listed dir parent in
+      let dir_p : dir ≢ p = two_nodes t dir p (Some Dir) (Some (File bytes)) parent there (λ e. file_dir bytes (sym e)) in
+      let cut : Map = with (change.Cut (Region i 0) (Region i LAST_REGION) ∷ []) w in
+      let one : Map = put_in cut (Inode i) None in
+      let two : Map = put_in one (Path p) None in
+      let new : Map = put_in two (DirKey dir) (Some (value.Names (without_name old.names (name_of p)))) in
+      let is : with (unlink_edits dir p i) w ≡ new = with-drop_from two dir p old.names old.is in
+      let at : (q : List ℕ) → q ≢ p → new (Path q) ≡ w (Path q) = λ q other. put-other one (Path p) (Path q) None (paths-apart p q other) in
+      let missing : w (DirKey p) ≡ None = names-missing t p (w (DirKey p)) (get t p) (st.names p) (λ e. file_dir bytes (sym there ∙ e)) in
+      let no_regions : (r : ℕ) → new (Region i r) ≡ None = λ r. ⊎_elim
+      (λ past. none_cut (is_between key_cmp (Region i 0) (Region i LAST_REGION) (Region i r)) (w (Region i r)) (past_regions p i leads_p r past))
+      (λ within. cut-own w i 0 LAST_REGION r (omega arith) within)
+      (cases_lt LAST_REGION r) in
+      subst (λ m. IsDone x told w m s (record { session = take_out S p; answer = answer.Okay }) answer.Okay) (sym is) (record {
+        answer = refl;
+        stands = stands-unlinked x.size told x.tx x.calls w t st new p (remove t p) i leads_p
+            (put-same one (Path p) None) (get-taken_same t p)
+            (λ q other. (at q other, get-taken_other t p q other))
+            (put-same cut (Inode i) None) no_regions
+            (λ j other. put-other cut (Inode i) (Inode j) None (inodes-apart i j other))
+            (λ j r other. cut-other w i j 0 LAST_REGION r other)
+            (IsTree-unlinked t p bytes st.tree_is there)
+            (names-taken t (λ d. w (DirKey d)) (λ d. new (DirKey d)) p dir st.tree_is some up old st.names
+            (put-other two (DirKey dir) (DirKey p) _ (dirs-apart dir p (λ e. dir_p (sym e))) ∙ missing)
+            (put-same two (DirKey dir) _)
+            (λ d other apart. put-other two (DirKey dir) (DirKey d) _ (dirs-apart dir d apart)))
+            (bytes-put (is_told told) two (DirKey dir) _ tt (bytes-put (is_told told) one (Path p) None tt (bytes-put (is_told told) cut (Inode i) None tt (bytes-cut (is_told told) w (Region i 0) (Region i LAST_REGION) st.bytes))));
+        holds = Holds-on told w new s S (remove t p) (λ f h is leads. at h.path (off f h is) ∙ leads) holds;
+        own = λ j other none. ⊎_elim
+            (λ same. ap (λ k. new (Inode k)) same ∙ put-same cut (Inode i) None)
+            (λ apart. put-other cut (Inode i) (Inode j) None (inodes-apart i j apart) ∙ none)
+            (one_inode i j);
+      })
+
+  pub done-rename : (p up q bytes : List ℕ) (i : InodeId) → parent_of p ≡ Some up → get S.tree p ≡ Some (File bytes) → LeadsTo w p i → IsOff p s → IsPath q → (free : IsFree S.tree q)
+      → IsDone x told w (with (rename_edits up p free.dir q i) w) s (record { session = put_bytes (take_out S p) q bytes; answer = answer.Okay }) answer.Okay
+  done-rename p up q bytes i stands_in there leads_p off path free =
+      let t : Tree = S.tree in
+      let left : Tree = remove t p in
+      let u : Tree = insert left q (File bytes) in
+      let some : IsSome (get t p) = there_is (get t p) (File bytes) there in
+      let parent : get t up ≡ Some Dir = st.tree_is.parents p up some stands_in in
+      let old = listed up parent in
+      let up_p : up ≢ p = two_nodes t up p (Some Dir) (Some (File bytes)) parent there (λ e. file_dir bytes (sym e)) in
+      let q_p : q ≢ p = two_nodes t q p None (Some (File bytes)) free.free there (none_dir (File bytes)) in
+      let one : Map = put_in w (Path p) None in
+      let two : Map = put_in one (DirKey up) (Some (value.Names (without_name old.names (name_of p)))) in
+      let missing : w (DirKey p) ≡ None = names-missing t p (w (DirKey p)) (get t p) (st.names p) (λ e. file_dir bytes (sym there ∙ e)) in
+      let have : HaveNames left (λ d. two (DirKey d)) = names-taken t (λ d. w (DirKey d)) (λ d. two (DirKey d)) p up st.tree_is some stands_in old st.names
+      (put-other one (DirKey up) (DirKey p) _ (dirs-apart up p (λ e. up_p (sym e))) ∙ missing)
+      (put-same one (DirKey up) _)
+      (λ d other apart. put-other one (DirKey up) (DirKey d) _ (dirs-apart up d apart)) in
+      let open_q : IsFree left q = record { dir = free.dir; up = free.up; parent = parent_without t p bytes free.dir there free.parent; free = free_without t p bytes q there free.free } in
+      let dir : List ℕ = free.dir in
+      let dir_q : dir ≢ q = two_nodes t dir q (Some Dir) None free.parent free.free (λ e. none_dir Dir (sym e)) in
+      let next = names-listed left dir (two (DirKey dir)) (get left dir) (have dir) open_q.parent in
+      let three : Map = put_in two (Path q) (Some (value.Node (FileNode i))) in
+      let new : Map = put_in three (DirKey dir) (Some (value.Names (with_name next.names (name_of q)))) in
+      let is : with (rename_edits up p dir q i) w ≡ new =
+      ap (λ m. with (put_at q (FileNode i) ∷ add_to dir q ∷ []) m) (with-drop_from one up p old.names old.is) ∙ with-add_to three dir q next.names next.is in
+      let at : (z : List ℕ) → z ≢ p → z ≢ q → new (Path z) ≡ w (Path z) = λ z other apart. put-other two (Path q) (Path z) _ (paths-apart q z apart) ∙ put-other w (Path p) (Path z) None (paths-apart p z other) in
+      let gone_q : two (DirKey q) ≡ None = names-missing left q (two (DirKey q)) (get left q) (have q) (λ e. none_dir Dir (sym open_q.free ∙ e)) in
+      let free_q : w (Path q) ≡ None = path-none x.size told x.tx x.calls w t st q free.free in
+      subst (λ m. IsDone x told w m s (record { session = put_bytes (take_out S p) q bytes; answer = answer.Okay }) answer.Okay) (sym is) (record {
+        answer = refl;
+        stands = stands-renamed x.size told x.tx x.calls w t st new p q u i bytes leads_p there free.free
+            (put-other two (Path q) (Path p) _ (paths-apart q p (λ e. q_p (sym e))) ∙ put-same w (Path p) None, get-node_other left q (File bytes) p (λ e. q_p (sym e)) ∙ get-taken_same t p)
+            (put-same two (Path q) _, get-node_same left q (File bytes))
+            (λ z other apart. (at z other apart, get-node_other left q (File bytes) z apart ∙ get-taken_other t p z other))
+            (λ j. refl) (λ j r. refl)
+            (IsTree-new left q (File bytes) path (IsTree-unlinked t p bytes st.tree_is there) open_q)
+            (names-added left (λ d. two (DirKey d)) (λ d. new (DirKey d)) q (File bytes) open_q next have
+            (names-of_none u q (new (DirKey q)) (Some (File bytes)) (put-other three (DirKey dir) (DirKey q) _ (dirs-apart dir q (λ e. dir_q (sym e))) ∙ gone_q) (file_dir bytes))
+            (put-same three (DirKey dir) _)
+            (λ d other apart. put-other three (DirKey dir) (DirKey d) _ (dirs-apart dir d apart)))
+            (bytes-put (is_told told) three (DirKey dir) _ tt (bytes-put (is_told told) two (Path q) _ tt (bytes-put (is_told told) one (DirKey up) _ tt (bytes-put (is_told told) w (Path p) None tt st.bytes))));
+        holds = Holds-on told w new s S u (λ f h is leads. at h.path (off f h is) (off_free q free_q h leads) ∙ leads) holds;
+        own = λ j other none. none;
+      })

@@ -1,0 +1,11 @@
+pub mod Maps
+pub mod Bytes
+pub mod Files
+pub mod Contents
+pub mod FileEdits
+pub mod Ranges
+pub mod Appends
+pub mod Trees
+pub mod NameEdits
+pub mod Sessions
+pub mod Calls

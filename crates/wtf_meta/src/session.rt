@@ -1,0 +1,142 @@
+//! The handles and slices of a transaction.
+
+ghost use Rattle.std.specs.Prelude.{◌≡◌, ◌≢◌, ◌<◌, ℕ, IfOk, IsSome, IsSomeAnd, IsTrue, ◌↔◌, Some, None, false};
+ghost use Rattle.std.specs.Option.{option_copied, option_map};
+ghost use Rattle.wtf_overlay.specs.declared.part.Piece as Piece;
+ghost use Rattle.wtf_model.specs.declared.limits.TheConstants.{MAX_HANDLES, MAX_SLICES};
+ghost use Rattle.wtf_meta.specs.Sessions.{nothing_open, handle_in, slice_in, SetsHandle, SetsSlice, moved_to, IsOff};
+
+use std::alloc::Global;
+use std::marker::Model;
+use wtf_base::{InodeId, OutOfMemory};
+use wtf_overlay::Piece;
+use wtf_path::Path;
+
+/// An open file: the path by which it was opened, its inode, and the offset in bytes.
+#[derive(Debug, Drop)]
+pub struct Handle {
+    /// The path.
+    pub path: Path,
+    /// The file to which the path leads.
+    pub inode: InodeId,
+    /// The offset, in bytes.
+    pub off: u64,
+}
+
+/// What a transaction has in hand: open handles and slices, by labels below 16. Contracts see both as
+/// lists by label. No call on it takes memory.
+#[derive(Debug, Drop)]
+pub struct Session {
+    handles: [Option<Handle>; 16],
+    slices: [Option<Vec<Piece>>; 16],
+}
+
+impl Model for Session {
+    ghost use Rattle.wtf_meta.specs.Sessions.{SessionView, session_view};
+
+    ghost Value = { SessionView };
+
+    ghost use Rattle.wtf_overlay.specs.contracts.part.Piece as piece;
+    ghost use Rattle.std.specs.Coded.{codes};
+
+    ghost coded = { Prim.hlevel (codes, piece.the_row.coded) };
+
+    ghost view = { λ s. session_view s.handles s.slices };
+}
+
+impl Session {
+    /// Nothing is open.
+    pub fn new(_alloc: Global) -> Result<Session, OutOfMemory>
+        ensures { IfOk result (λ s. s ≡ nothing_open) }
+    {
+        Ok(Session {
+            handles: [
+                None, None, None, None, None, None, None, None, None, None, None, None, None, None,
+                None, None,
+            ],
+            slices: [
+                None, None, None, None, None, None, None, None, None, None, None, None, None, None,
+                None, None,
+            ],
+        })
+    }
+
+    /// The handle of a label.
+    pub fn handle(&self, f: u8) -> Option<&Handle>
+        requires { f < MAX_HANDLES }
+        ensures { option_copied result ≡ handle_in self.now f }
+    {
+        self.handles[f as usize].as_ref()
+    }
+
+    /// Opens a handle under a label, in place of the one that was there.
+    pub fn put_handle(&mut self, f: u8, h: Handle)
+        requires { f < MAX_HANDLES }
+        ensures { SetsHandle f (Some h) self.old self.new }
+    {
+        self.handles[f as usize] = Some(h);
+    }
+
+    /// Ends the handle of a label, if there is one.
+    pub fn end_handle(&mut self, f: u8)
+        requires { f < MAX_HANDLES }
+        ensures { SetsHandle f None self.old self.new }
+    {
+        self.handles[f as usize] = None;
+    }
+
+    /// Moves a handle that is there to an offset.
+    pub fn move_handle(&mut self, f: u8, off: u64)
+        requires label { f < MAX_HANDLES }
+        requires open { IsSome (handle_in self.old f) }
+        ensures { SetsHandle f (option_map (moved_to off) (handle_in self.old f)) self.old self.new }
+    {
+        if let Some(h) = &mut self.handles[f as usize] {
+            h.off = off;
+        }
+    }
+
+    /// The pieces of the slice of a label.
+    pub fn slice(&self, s: u8) -> Option<&[Piece]>
+        requires { s < MAX_SLICES }
+        ensures { option_copied result ≡ slice_in self.now s }
+    {
+        match &self.slices[s as usize] {
+            Some(pieces) => Some(pieces.as_slice()),
+            None => None,
+        }
+    }
+
+    /// Keeps pieces under a label, in place of those that were there.
+    pub fn put_slice(&mut self, s: u8, pieces: Vec<Piece>)
+        requires { s < MAX_SLICES }
+        ensures { SetsSlice s (Some pieces.items) self.old self.new }
+    {
+        self.slices[s as usize] = Some(pieces);
+    }
+
+    /// Whether a handle was opened by the path.
+    pub fn holds(&self, p: &Path) -> bool
+        ensures held { IsTrue result → (f : ℕ) ×
+            IsSomeAnd (handle_in self.now f) (λ h. h.path ≡ p.now) }
+        ensures off { result ≡ false → IsOff p.now self.now }
+    {
+        let handles = self.handles.as_slice();
+        for handle in handles {
+            if is_by(handle, p) {
+                return true;
+            }
+        }
+        false
+    }
+}
+
+/// Whether a handle was opened by the path.
+fn is_by(handle: &Option<Handle>, p: &Path) -> bool
+    ensures { IsTrue result ↔ IsSomeAnd handle.now (λ h. h.path ≡ p.now) }
+{
+    let Some(h) = handle else {
+        return false;
+    };
+    h.path.as_bytes() == p.as_bytes()
+}

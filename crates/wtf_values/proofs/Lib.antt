@@ -1,0 +1,5 @@
+pub mod KeyLaws
+pub mod NameLaws
+pub mod RegionLaws
+pub mod OutcomeLaws
+mod Summed

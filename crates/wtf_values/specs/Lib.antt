@@ -1,0 +1,5 @@
+pub mod Bases
+pub mod Keys
+pub mod Names
+pub mod Regions
+pub mod Outcomes

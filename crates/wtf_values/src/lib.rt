@@ -1,0 +1,25 @@
+//! What the store holds of files and directories: its keys, their values, and the changes of one
+//! value. A change is applied to whatever a key has: where it can do nothing, the value stays as it
+//! is.
+#![tactic(auto)]
+
+mod apply;
+mod cell;
+pub mod examples;
+mod key;
+mod name;
+mod name_set;
+mod pieces;
+mod region;
+mod store_key;
+mod value;
+
+pub use key::Key;
+pub use name::Name;
+pub use name_set::NameSet;
+pub use pieces::Pieces;
+pub use region::{RegionValue, Spill};
+pub use value::{Delta, Node, Value};
+
+#[cfg(test)]
+mod tests;

@@ -1,0 +1,141 @@
+//! What comes of changes of worked rows, and keys in order.
+
+use super::*;
+use std::alloc::Global;
+use std::test::Fail;
+use wtf_base::{InodeId, Pointer, ServerId, Slice, TxId};
+use wtf_kv::{Applied, Cell, StoreKey};
+use wtf_overlay::{Part, Piece};
+use wtf_path::Path;
+
+/// What came of a change: a region by its end, how far its base is seen, and the number of its
+/// entries; names by their number.
+#[derive(Clone, Copy, Debug, PartialEq)]
+enum Shape {
+    Gone,
+    Unfit,
+    Region(u32, Option<u32>, usize),
+    Last(u16),
+    Names(usize),
+    Node(Node),
+}
+
+fn shape_of(applied: &Applied<Value>) -> Shape {
+    match applied {
+        Applied::Gone => Shape::Gone,
+        Applied::Unfit => Shape::Unfit,
+        Applied::Is(Value::Node(node)) => Shape::Node(*node),
+        Applied::Is(Value::Names(names)) => Shape::Names(names.count()),
+        Applied::Is(Value::Last(n)) => Shape::Last(*n),
+        Applied::Is(Value::Region(v)) => {
+            Shape::Region(v.end, v.base.map(|spill| spill.visible), v.list.len())
+        }
+    }
+}
+
+/// Whether each change makes of the value what stands beside it.
+fn hold(alloc: Global, now: Option<&Value>, rows: &[(Delta, Shape)]) -> Result<bool, Fail> {
+    for (delta, want) in rows {
+        if shape_of(&Value::apply(alloc, now, delta)?) != *want {
+            return Ok(false);
+        }
+    }
+    Ok(true)
+}
+
+/// Zeros of `len` bytes, as one piece.
+fn zeros(alloc: Global, len: u32) -> Result<Pieces, Fail> {
+    if len == 0 {
+        return Ok(Pieces::of(alloc, &[])?);
+    }
+    Ok(Pieces::of(alloc, &[Piece::of(len as u64, Part::Zero)])?)
+}
+
+/// A region of 60 bytes, all of them in its base.
+fn spilled(alloc: Global) -> Result<Value, Fail> {
+    let pointer = Pointer {
+        server: ServerId(0),
+        file: 0,
+        at: 0,
+        len: 9,
+    };
+    let slice = Slice::of(&[pointer]).ok_or("slice")?;
+    Ok(Value::Region(RegionValue::of_slice(alloc, slice, 60)?))
+}
+
+fn name(alloc: Global, path: &[u8]) -> Result<Name, Fail> {
+    Ok(Name::of(alloc, &Path::parse(alloc, path)?)?)
+}
+
+/// The names b, a and c.
+fn names(alloc: Global) -> Result<NameSet, Fail> {
+    let b = NameSet::new(alloc).with(&name(alloc, b"/b")?)?;
+    let both = b.with(&name(alloc, b"/a")?)?;
+    Ok(both.with(&name(alloc, b"/c")?)?)
+}
+
+#[test]
+fn regions_change_as_asked(rt: HostRuntime) -> Result<(), Fail> {
+    let alloc = rt.alloc();
+    let base = spilled(alloc)?;
+    let four = Delta::PushRel(zeros(alloc, 4)?, 64);
+    let rows = [
+        (four, Shape::Region(64, Some(60), 1)),
+        (Delta::Clip(0), Shape::Region(0, None, 0)),
+        (Delta::Clip(7), Shape::Region(7, Some(7), 0)),
+        (Delta::Clip(64), Shape::Region(64, Some(60), 0)),
+        (Delta::ZeroWithin(59, 90), Shape::Region(60, Some(60), 1)),
+        (Delta::ZeroWithin(60, 90), Shape::Region(60, Some(60), 0)),
+    ];
+    assert!(rt; hold(alloc, Some(&base), &rows)?);
+    Ok(())
+}
+
+#[test]
+fn other_values_change_as_asked(rt: HostRuntime) -> Result<(), Fail> {
+    let alloc = rt.alloc();
+    let large = Delta::PushRel(zeros(alloc, 65)?, 64);
+    let rows = [
+        (large, Shape::Unfit),
+        (Delta::ZeroWithin(0, 9), Shape::Gone),
+        (Delta::RaiseLast(1), Shape::Gone),
+        (Delta::Put(Value::Last(5)), Shape::Last(5)),
+    ];
+    assert!(rt; hold(alloc, None, &rows)?);
+    let rows = [
+        (Delta::RaiseLast(3), Shape::Last(5)),
+        (Delta::RaiseLast(7), Shape::Last(7)),
+        (Delta::SetLast(3), Shape::Last(3)),
+        (Delta::Clip(3), Shape::Last(5)),
+        (Delta::Remove, Shape::Gone),
+    ];
+    assert!(rt; hold(alloc, Some(&Value::Last(5)), &rows)?);
+    Ok(())
+}
+
+#[test]
+fn names_and_keys_stand_in_order(rt: HostRuntime) -> Result<(), Fail> {
+    let alloc = rt.alloc();
+    let set = names(alloc)?.without(b"c")?;
+    assert!(rt; set.contains(b"a") && !set.contains(b"c"));
+    if set.count() == 2 {
+        assert_eq!(rt; set.name(0), b"a".as_slice());
+        assert_eq!(rt; set.name(1), b"b".as_slice());
+    }
+    let path = Path::parse(alloc, b"/a")?;
+    let directory = Path::parse(alloc, b"/")?;
+    let inode = InodeId {
+        tx: TxId(1),
+        index: 2,
+    };
+    let keys = [
+        Key::Path(path),
+        Key::Dir(directory),
+        Key::Inode(inode),
+        Key::Region(inode, 3),
+    ];
+    for pair in keys.windows(2) {
+        assert!(rt; pair[0] < pair[1] && pair[0].copy(alloc)? == pair[0]);
+    }
+    Ok(())
+}
