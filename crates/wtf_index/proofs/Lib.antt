@@ -1,0 +1,3 @@
+pub mod Checked
+pub mod Ways
+pub mod Going
