@@ -1,0 +1,7 @@
+pub mod Spans
+pub mod Recording
+pub mod PieceEdits
+pub mod ShowLaws
+pub mod InsideLaws
+mod RegionKeys
+mod Summed

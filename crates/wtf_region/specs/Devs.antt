@@ -1,0 +1,43 @@
+-- What a call is lent, and what it leaves of it.
+use Rattle.std.specs.Prelude.{◌≡◌, ℕ, ◌≤◌, ◌/◌, Bool, List, length}
+use Rattle.wtf_base.specs.declared.ids.InodeId.{InodeId}
+use Rattle.wtf_ring.specs.Points.{PlaceView, place_of}
+use Rattle.wtf_replica.specs.Downs.{settings_of, is_down, during}
+use Rattle.wtf_replica.specs.Spans.{Span}
+use Rattle.wtf_dev.specs.Store.{Range, StoreKind}
+use Rattle.wtf_dev.specs.Each.{EachFollows}
+use Rattle.wtf_region.specs.Cached.{AreFrom}
+use Rattle.wtf_region.specs.declared.dev.Dev.{Dev}
+
+-- the stores that are lent
+abbrev pub stores : {S : Type 0} → Dev S → List S
+stores dev = dev.shelf.now
+
+-- which servers are down
+abbrev pub is_down_in : {S : Type 0} → Dev S → ℕ → Bool
+is_down_in dev = is_down dev.replicas.now
+
+-- the span of a call that was lent `old` and left `new`
+abbrev pub between : {S : Type 0} → Dev S → Dev S → Span S
+between old new = during old.replicas.now old.shelf.now new.shelf.now
+
+-- where the bytes at an offset of a file go: the place of its region
+abbrev pub place_in : {S : Type 0} → Dev S → InodeId → ℕ → PlaceView
+place_in dev inode off = place_of dev.ring.now.points inode (off / dev.settings.region)
+
+-- the replicas and the ring were made for the settings, the servers are there, and the places in the cache are the ring's
+pub record IsSoundDev {S : Type 0} (dev : Dev S) : Type 0 where
+  pub replicas : settings_of dev.replicas.now ≡ dev.settings
+  pub ring : dev.ring.now.servers ≡ dev.settings.servers
+  pub shelf : dev.settings.servers ≤ length dev.shelf.now
+  pub cache : AreFrom dev.ring.now dev.cache.now
+
+-- the same is lent, and each store follows what it was, with these ranges punched
+pub record GoesOn {S : Type 0} (kind : StoreKind S) (old new : Dev S) (punched : List (ℕ × Range)) : Type 0 where
+  pub shelf : new.shelf.ghost_name ≡ old.shelf.ghost_name
+  pub cache : new.cache.ghost_name ≡ old.cache.ghost_name
+  pub replicas : new.replicas ≡ old.replicas
+  pub ring : new.ring ≡ old.ring
+  pub settings : new.settings ≡ old.settings
+  pub each : EachFollows kind old.shelf.now new.shelf.now punched
+  pub sound : IsSoundDev new

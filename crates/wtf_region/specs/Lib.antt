@@ -1,0 +1,5 @@
+pub mod Cached
+pub mod Devs
+pub mod Edited
+pub mod Showing
+pub mod Inside

@@ -1,0 +1,149 @@
+//! Pieces that are laid over a file, or added at its end.
+
+ghost use Rattle.std.specs.Prelude.{◌≡◌, ℕ, ◌+◌, ◌-◌, ◌*◌, ◌<◌, ◌≤◌, ◌^◌, min, true, false, IfOk, OnOk, IsTrue, []};
+ghost use Rattle.wtf_kv.specs.Stores.{is_pinned};
+ghost use Rattle.wtf_occ.specs.Attempts.{Grows};
+ghost use Rattle.wtf_overlay.specs.Origin.{part_origin, pieces_len};
+ghost use Rattle.wtf_overlay.specs.Lengths.{HasLength};
+ghost use Rattle.wtf_model.specs.declared.limits.TheConstants.{MAX_REGIONS};
+ghost use Rattle.wtf_meta.specs.Maps.{seen};
+ghost use Rattle.wtf_meta.specs.FileEdits.{file_of, Push, RaiseLast};
+ghost use Rattle.wtf_region.specs.Edited.{Edited, CoversPart, LaysPieces, IsAdded};
+
+use crate::Added;
+use crate::part::part_at;
+use crate::reading::{last_region, peek_end, region_end};
+use std::alloc::Global;
+use wtf_base::{InodeId, OutOfMemory, Settings};
+use wtf_kv::Kv;
+use wtf_meta::{Delta, Key, Pieces, Value};
+use wtf_occ::Attempt;
+use wtf_overlay::{Entry, Part, Piece};
+
+/// The bytes of a piece from its byte `off` on.
+fn part_of(piece: &Piece, off: u64, len: u32) -> Part
+    requires some { 0 < len }
+    requires within { off + len ≤ piece.now.len }
+    ensures held { HasLength len result }
+    ensures origin { (i : ℕ) → part_origin result i ≡ part_origin piece.now.part (off + i) }
+{
+    match piece.part {
+        Part::Zero => Part::Zero,
+        Part::Held(slice) => {
+            let _whole = slice.len();
+            Part::Held(slice.cut(off as u32, len))
+        }
+    }
+}
+
+/// Lays a piece over the regions of a file at an offset.
+fn put_piece(
+    at: &mut Attempt<Key, Value>,
+    inode: InodeId,
+    off: u64,
+    piece: &Piece,
+    size: u32,
+) -> Result<(), OutOfMemory>
+    requires size { 0 < size }
+    requires small { size < 2 ^ 32 - 1 }
+    requires cap { off + piece.now.len ≤ MAX_REGIONS * size }
+    ensures ok { OnOk result
+        (Edited inode [] (CoversPart size off inode piece.now piece.now.len) at.old at.new) }
+    ensures grows { Grows at.old at.new }
+{
+    let mut done = 0;
+    while done < piece.len {
+        let part = part_at(off, piece.len, done, size);
+        let held = part_of(piece, done, part.len);
+        let entry = Entry::of(part.off, part.len, held);
+        at.delta(Key::Region(inode, part.region), Delta::Push(entry))?;
+        done += part.len as u64;
+    }
+    Ok(())
+}
+
+/// Lays consecutive pieces over a file from an offset on, which makes it at least so long. Nothing
+/// is recorded, and no byte is moved. No piece changes nothing. After an error some of the changes
+/// may be made.
+pub fn put_pieces(
+    at: &mut Attempt<Key, Value>,
+    inode: InodeId,
+    off: u64,
+    pieces: &[Piece],
+    settings: Settings,
+) -> Result<(), OutOfMemory>
+    requires cap { off + pieces_len pieces.now ≤ MAX_REGIONS * settings.region }
+    ensures ok { OnOk result
+        (Edited inode [] (LaysPieces settings.region off inode pieces.now) at.old at.new) }
+    ensures grows { Grows at.old at.new }
+{
+    let mut done = 0;
+    for piece in pieces {
+        put_piece(at, inode, off + done, piece, settings.region)?;
+        done += piece.len;
+    }
+    if done > 0 {
+        let last = (off + done - 1) / settings.region as u64;
+        at.delta(Key::Inode(inode), Delta::RaiseLast(last as u16))?;
+    }
+    Ok(())
+}
+
+/// The number of bytes of pieces; 2^64 - 1 where there are more.
+fn bytes_of(pieces: &[Piece]) -> u64
+    ensures { result ≡ min (pieces_len pieces.now) (2 ^ 64 - 1) }
+{
+    let mut sum = 0u64;
+    for piece in pieces {
+        sum = sum.saturating_add(piece.len);
+    }
+    sum
+}
+
+/// Whether so many bytes fit behind the end of a region.
+fn has_room(end: u32, len: u64, size: u32) -> bool
+    ensures room { result ≡ true → end + len ≤ size }
+    ensures full { result ≡ false → size < end + len }
+{
+    end <= size && len <= (size - end) as u64
+}
+
+/// Adds consecutive pieces at a file's end, unless it would pass the greatest length. No piece
+/// changes nothing and records nothing. Where they fit into its last region, whatever others add
+/// there meanwhile, only that region's number is recorded; else its value is recorded too, and they
+/// are laid at the end that was read. After an error some keys may be recorded and some of the
+/// changes made.
+pub fn add_pieces(
+    alloc: Global,
+    kv: &Kv<Key, Value>,
+    at: &mut Attempt<Key, Value>,
+    inode: InodeId,
+    pieces: &[Piece],
+    settings: Settings,
+) -> Result<Added, OutOfMemory>
+    requires { IsTrue (is_pinned kv.now at.old.base) }
+    ensures added { IfOk result (IsAdded settings.region inode
+        (file_of inode (seen kv.now at.old)) pieces.now at.old at.new) }
+    ensures grows { Grows at.old at.new }
+{
+    let len = bytes_of(pieces);
+    if len == 0 {
+        return Ok(Added::Done);
+    }
+    let size = settings.region;
+    let last = last_region(kv, at, inode)?;
+    let end = peek_end(kv, at, inode, last)?;
+    if has_room(end, len, size) {
+        let pieces = Pieces::of(alloc, pieces)?;
+        at.delta(Key::Region(inode, last), Delta::PushRel(pieces, size))?;
+        return Ok(Added::Done);
+    }
+    let end = region_end(kv, at, inode, last)?;
+    let off = last as u64 * size as u64 + end as u64;
+    let cap = settings.cap();
+    if off > cap || len > cap - off {
+        return Ok(Added::TooBig);
+    }
+    put_pieces(at, inode, off, pieces, settings)?;
+    Ok(Added::Done)
+}
