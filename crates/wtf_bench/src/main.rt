@@ -1,13 +1,17 @@
-//! Prints what calls cost on this machine: those of `wtf_kv`, by the numbers of keys and of pins, and those on
-//! slices, by the numbers of servers and of replicas and by the length of a slice.
+//! Prints what calls cost on this machine: those of `wtf_kv`, by the numbers of keys and of pins, those on
+//! slices, by the numbers of servers and of replicas and by the length of a slice, those on lists of entries, by
+//! their number, and those on hexadecimal data, by its length.
 #![tactic(auto)]
 
 ghost use Rattle.std.specs.Prelude.{◌≡◌, ◌+◌, ◌<◌, OnOk, IsTrue};
 ghost use Rattle.wtf_kv.specs.Stores.{is_live};
 
+mod counts;
 mod entries;
 mod figures;
+mod lists;
 mod slices;
+mod texts;
 
 use crate::entries::{Count, Name};
 use crate::figures::{ROUNDS, key_at, keys_of, nanos, pins_of, show};
@@ -35,20 +39,31 @@ A prune follows 100 installs, each of another key.
 The second table is of slices on servers in memory, by the servers, the copies of a slice and its bytes.
 A ring is made once a round. An order asks it for the place of one file.
 A create stores one of 20 slices at one place, in files that begin empty. A fetch reads the last of them whole.
+The third table is of lists of entries of one byte, four bytes apart and laid in a scattered order, by their number.
+A push, and a compact, stands for one entry. A plan is of 64 bytes, and the last column says how many pieces it has.
+The fourth table is of hexadecimal data: a line that writes it is copied, its answer printed, the line read.
+Its ratios are to the copy in the same row.
 ";
 
 type Map = Kv<Name, Count>;
 
 type Sets = Changes<Name, Count>;
 
-/// Prints the tables; with any word it says what they show.
+/// Prints the tables; with the word `counts` what their calls give, without a clock, and with any other what they show.
 fn main(rt: HostRuntime) -> io::Result<()> {
-    if env::args(&rt)?.nth(1).is_some() {
+    if let Some(word) = env::args(&rt)?.nth(1) {
+        if word.as_str() == "counts" {
+            return counts::print(&rt);
+        }
         return rt.print(HELP);
     }
     table(&rt)?;
     rt.print("\n")?;
-    slices::table(&rt)
+    slices::table(&rt)?;
+    rt.print("\n")?;
+    lists::table(&rt)?;
+    rt.print("\n")?;
+    texts::table(&rt)
 }
 
 /// Prints the table of a store of versions.

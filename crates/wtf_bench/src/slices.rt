@@ -3,7 +3,7 @@
 
 ghost use Rattle.std.specs.Prelude.{◌≡◌, ◌<◌, ◌≤◌, length, IfOk};
 ghost use Rattle.wtf_base.specs.Slices.{len_of};
-ghost use Rattle.wtf_dev.specs.Memory.{store_view};
+ghost use Rattle.wtf_dev.specs.Memory.{mem_store};
 ghost use Rattle.wtf_replica.specs.Copies.{IsInside};
 ghost use Rattle.wtf_replica.specs.Downs.{settings_of};
 
@@ -96,12 +96,12 @@ fn round(rt: &HostRuntime, settings: Settings, len: usize) -> io::Result<[u64; 4
 }
 
 /// The file that call `index` of the first transaction made.
-fn inode(index: u32) -> InodeId {
+pub fn inode(index: u32) -> InodeId {
     InodeId { tx: TxId(1), index }
 }
 
 /// Empty stores of so many servers.
-fn shelf_of(alloc: Global, servers: u8) -> Result<Shelf<MemStore>, OutOfMemory>
+pub fn shelf_of(alloc: Global, servers: u8) -> Result<Shelf<MemStore>, OutOfMemory>
     requires some { 1 ≤ servers }
     requires few { servers ≤ 16 }
     ensures { IfOk result (λ shelf. length shelf ≡ servers) }
@@ -127,7 +127,7 @@ fn orders(ring: &Ring) -> u64 {
 }
 
 /// Stores the bytes `BATCH` times at a place, and answers the last slice.
-fn create(
+pub fn create(
     replicas: &Replicas,
     shelf: &mut Shelf<MemStore>,
     place: &Place,
@@ -137,7 +137,7 @@ fn create(
     requires place { length place.now.servers ≡ (settings_of replicas.now).servers }
     requires some { 0 < length bytes.now }
     requires few { length bytes.now ≤ 16_384 }
-    ensures inside { IfOk result (IsInside store_view shelf.new) }
+    ensures inside { IfOk result (IsInside mem_store shelf.new) }
     ensures len { IfOk result (λ s. len_of s ≡ length bytes.now) }
 {
     for _ in 1..BATCH {
@@ -155,7 +155,7 @@ fn fetch(
 ) -> Result<(), Fault>
     requires some { 0 < length out.old }
     requires whole { length out.old ≡ len_of slice.now }
-    requires inside { IsInside store_view shelf.old slice.now }
+    requires inside { IsInside mem_store shelf.old slice.now }
 {
     for _ in 0..BATCH {
         replicas.fetch(shelf, slice, 0, out)?;

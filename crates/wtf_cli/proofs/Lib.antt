@@ -1,8 +1,5 @@
-pub mod Lines
-pub mod Chunks
-pub mod WordLaws
-pub mod Numbers
-pub mod Single
+pub mod ScriptLaws
+pub mod Passing
 pub mod Places
 pub mod Showing
 pub mod Rows
@@ -13,10 +10,9 @@ pub mod Following
 pub mod ByteSteps
 pub mod EventSteps
 pub mod LineLaws
-pub mod FormLaws
-pub mod Passing
 pub mod Rising
 pub mod RanLaws
 pub mod Telling
 pub mod Going
 pub mod Starting
+pub mod Headline

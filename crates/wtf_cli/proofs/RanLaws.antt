@@ -1,42 +1,55 @@
 -- One more line with its answer, behind those that ran.
-use Rattle.std.proofs.Common.{◌≡◌, ◌<◌, ◌≤◌, ◌+◌, ◌-◌, ◌*◌, ◌^◌, ℕ, Bool, true, false, List, [], ◌∷◌, ◌++◌, map, length, Option, refl, sym, ◌∙◌, ap, subst, arith, get_or}
+use Rattle.std.proofs.Common.{◌≡◌, ◌<◌, ◌≤◌, ◌+◌, ◌-◌, ◌*◌, ◌^◌, ℕ, Bool, true, false, List, [], ◌∷◌, ◌++◌, length, Some, refl, sym, ◌∙◌, ap, subst, arith, get_or}
 use Rattle.std.proofs.lemmas.List.{map-append}
 use Rattle.std.proofs.lemmas.List.Elements.{All-append, All-nil, All-cons}
 use Rattle.wtf_base.specs.declared.settings.Settings.{Settings}
-use Rattle.wtf_dev.specs.Store.{Range, StoreView, Kept}
-use Rattle.wtf_dev.specs.Each.{EachFollows, each_on, each_same}
-use Rattle.wtf_dev.specs.Sums.{TellsAll, all_stored, all_faults, all_faults-grows, tells_all-kept}
-use Rattle.wtf_overlay.specs.Origin.{Place}
+use Rattle.wtf_dev.specs.Store.{StoreKind, KindLaws}
+use Rattle.wtf_dev.specs.Each.{EachFollows}
+use Rattle.wtf_dev.specs.Sums.{TellsAll, all_stored, all_faults}
 use Rattle.wtf_ring.specs.Points.{PlaceView}
+use Rattle.wtf_replica.specs.Spans.{Span, span}
 use Rattle.wtf_replica.specs.Outs.{HasRisen}
 use Rattle.wtf_model.specs.declared.answer.Answer.{Answer}
 use Rattle.wtf_model.specs.declared.answer.Answer.TheVariants as answer
-use Rattle.wtf_model.specs.declared.event.Event.{Event}
-use Rattle.wtf_model.specs.Steps.{Machine}
-use Rattle.wtf_model.specs.Along.{MayLine, Along, machine_after}
-use Rattle.wtf_model.specs.Laws.{Along-push, Along-lengths, Accepts-from_lines}
-use Rattle.wtf_cli.specs.declared.state.State.{State}
-use Rattle.wtf_cli.specs.Forms.{event_of}
-use Rattle.wtf_cli.specs.StandsFor.{StandsFor}
-use Rattle.wtf_cli.specs.Clusters.{is_down_in}
-use Rattle.wtf_cli.specs.Outcomes.{AddsBytes, HasCause, IsNeededByLine, IsTargetOfLine}
-use Rattle.wtf_cli.specs.DeviceFaults.{is_device_fault, is_device_fault_of_run, count_along}
-use Rattle.wtf_cli.specs.LineSteps.{IsLineStep}
-use Rattle.wtf_cli.specs.Runs.{first, IsNotBuiltExactly, IsServed, is_write_fault, write_fault_count, line_data, if_okay, written_bytes, RoseBy, AreStoresStill, Ran}
-use Rattle.wtf_cli.proofs.Places.{EachKept, each_kept, element, same_lengths-stored}
-use Rattle.wtf_cli.proofs.Rising.{one, raises_of_run, of_run, count_along-push, count_along-none}
+use Rattle.wtf_model.specs.Machines.{Machine}
+use Rattle.wtf_model.specs.Lines.{Line, AlongBy, MayLine, after_line, Along, machine_after}
+use Rattle.wtf_model.specs.Servers.{none_down, down_after, downs_after, AlongDowns, is_device_fault, is_device_fault_of_run, count_along}
+use Rattle.wtf_model.proofs.LineLaws.{state_after-push, AlongBy-lengths, AlongBy-push, count_by-none, count_by-push, Accepts-from_lines}
+use Rattle.wtf_cli.specs.Scripts.{line_of}
+use Rattle.wtf_dev.specs.Store.{StoreKind, KindLaws}
+use Rattle.wtf_cli.specs.Outcomes.{AddsBytes, Demand, demand, HasCause, line_data}
+use Rattle.wtf_cli.specs.Engines.{Engine, Step, IsNotBuiltExactly, IsBadAnswer, IsLawful, IsAnswer}
+use Rattle.wtf_cli.specs.Runs.{Opening, Log, asked, first, IsServed, is_write_fault, write_fault_count, if_okay, written_bytes, RoseBy, AreStoresStill, Ran}
+use Rattle.wtf_base.proofs.Elements.{element}
+use Rattle.wtf_replica.proofs.Spans.{EachKept, same_lengths-stored}
+use Rattle.wtf_dev.proofs.Each.{each_same, each_on}
+use Rattle.wtf_replica.proofs.Spans.{each_kept}
+use Rattle.wtf_dev.proofs.Sums.{all_faults-grows, tells_all-kept}
+use Rattle.wtf_cli.proofs.Rising.{one, raises, raises_of_run}
 
-served_of : {S : Type 0} (view : S → StoreView) (down : ℕ → Bool) (old new : List S) (settings : Settings) (Needed : List Place → Type 0) (a : Answer) → HasCause view down old new settings Needed a → IsServed a
-served_of view down old new settings Needed (answer.FaultPunch k) h = h
-served_of view down old new settings Needed answer.FaultSave h = h
-served_of view down old new settings Needed (answer.Damaged k) h = h
-served_of view down old new settings Needed a h = tt
+-- the lines so far, and one more
+abbrev pub longer : Log → List ℕ → Answer → Log
+longer log line a = record { lines = log.lines ++ line ∷ []; answers = log.answers ++ a ∷ [] }
+
+pub asked-longer : (log : Log) (line : List ℕ) (a : Answer) → asked (longer log line a) ≡ asked log ++ line_of line ∷ []
+asked-longer log line a = map-append line_of log.lines (line ∷ [])
+
+pub along_none : {S : Type 0} (next : S → Line → Answer → S) (P : S → Line → Answer → Type 0) (s : S) → AlongBy next P s [] []
+unfolding AlongBy
+along_none next P s = tt
+
+served_of : {S : Type 0} (kind : StoreKind S) (t : Span S) (settings : Settings) (asks : Demand) (a : Answer)
+    → HasCause kind t settings asks a → IsServed a
+served_of kind t settings asks (answer.FaultPunch k) h = h
+served_of kind t settings asks answer.FaultSave h = h
+served_of kind t settings asks (answer.Damaged k) h = h
+served_of kind t settings asks a h = tt
 
 write_fault_count-push : (answers : List Answer) (a : Answer) → write_fault_count (answers ++ a ∷ []) ≡ write_fault_count answers + one (is_write_fault a)
 write_fault_count-push [] a = omega arith
 write_fault_count-push (b ∷ answers) a = omega (arith, write_fault_count-push answers a)
 
-written_bytes-push : (es : List (Option Event)) (answers : List Answer) (e : Option Event) (a : Answer) → length es ≡ length answers
+written_bytes-push : (es : List Line) (answers : List Answer) (e : Line) (a : Answer) → length es ≡ length answers
     → written_bytes (es ++ e ∷ []) (answers ++ a ∷ []) ≡ written_bytes es answers + if_okay a (length (line_data e))
 written_bytes-push [] [] e a same = omega arith
 written_bytes-push [] (b ∷ answers) e a same = absurd (omega (arith, same))
@@ -47,37 +60,33 @@ is_false : (b : Bool) → one b ≡ 0 → b ≡ false
 is_false true h = absurd (omega (arith, h))
 is_false false h = refl
 
-grown : {S : Type 0} (view : S → StoreView) (down : ℕ → Bool) (old new : List S) → length new ≡ length old → ((k : ℕ) → HasRisen view old new k → ⊥)
-    → (settings : Settings) (Target : PlaceView → Type 0) (given : List ℕ) (a : Answer) → AddsBytes view down old new settings Target given a
-    → is_write_fault a ≡ false → all_stored view new ≡ all_stored view old + settings.replicas * if_okay a (length given)
-grown view down old new same none settings Target (b ∷ bs) answer.Okay adds no_fault = adds.3.total none
-grown view down old new same none settings Target (b ∷ bs) answer.FaultWrite adds no_fault = cc
-grown view down old new same none settings Target (b ∷ bs) a adds no_fault = omega (arith, same_lengths-stored view old new same adds)
-grown view down old new same none settings Target [] answer.FaultWrite adds no_fault = cc
-grown view down old new same none settings Target [] answer.Okay adds no_fault = omega (arith, same_lengths-stored view old new same adds)
-grown view down old new same none settings Target [] a adds no_fault = omega (arith, same_lengths-stored view old new same adds)
-
-along_none : (P : Machine → Option Event → Answer → Type 0) (m : Machine) → Along P m [] []
-unfolding Along
-along_none P m = tt
+grown : {S : Type 0} (kind : StoreKind S) (t : Span S) → length t.after ≡ length t.before → ((k : ℕ) → HasRisen kind t.before t.after k → ⊥)
+    → (settings : Settings) (Target : PlaceView → Type 0) (given : List ℕ) (a : Answer) → AddsBytes kind t settings Target given a
+    → is_write_fault a ≡ false → all_stored kind t.after ≡ all_stored kind t.before + settings.replicas * if_okay a (length given)
+grown kind t same none settings Target (b ∷ bs) answer.Okay adds no_fault = adds.3.total none
+grown kind t same none settings Target (b ∷ bs) answer.FaultWrite adds no_fault = cc
+grown kind t same none settings Target (b ∷ bs) a adds no_fault = omega (arith, same_lengths-stored kind t.before t.after same adds)
+grown kind t same none settings Target [] answer.FaultWrite adds no_fault = cc
+grown kind t same none settings Target [] answer.Okay adds no_fault = omega (arith, same_lengths-stored kind t.before t.after same adds)
+grown kind t same none settings Target [] a adds no_fault = omega (arith, same_lengths-stored kind t.before t.after same adds)
 
 by_products : (r s t u x y z : ℕ) → t ≡ s + r * x → u ≡ t + r * y → z ≡ x + y → u ≡ s + r * z
 by_products r s t u x y z early more all = more ∙ ap (λ (w : ℕ). w + r * y) early ∙ grind (arith) ∙ ap (λ (w : ℕ). s + r * w) (sym all)
 
 -- The first part of a span in which no store failed
 
-still_front : {S : Type 0} (view : S → StoreView) (before now after' : List S) → length now ≡ length before → length after' ≡ length now
-    → EachKept view before now → EachKept view now after' → AreStoresStill view before after' → AreStoresStill view before now
-still_front view before now after' front back early late still = λ k d h.
+still_front : {S : Type 0} (kind : StoreKind S) (before now after' : List S) → length now ≡ length before → length after' ≡ length now
+    → EachKept kind before now → EachKept kind now after' → AreStoresStill kind before after' → AreStoresStill kind before now
+still_front kind before now after' front back early late still = λ k d h.
     let was = early k d (omega (arith, h, front)) in
     let is = late k d h in
     let both = still k d (omega (arith, h, back)) in
     (omega (arith, both.0, was.faults, is.faults), omega (arith, both.1, is.faults))
 
 -- and in the second no store rose
-still_back : {S : Type 0} (view : S → StoreView) (before now after' : List S) → length now ≡ length before → length after' ≡ length now
-    → EachKept view before now → AreStoresStill view before after' → (k : ℕ) → HasRisen view now after' k → ⊥
-still_back view before now after' front back early still k risen =
+still_back : {S : Type 0} (kind : StoreKind S) (before now after' : List S) → length now ≡ length before → length after' ≡ length now
+    → EachKept kind before now → AreStoresStill kind before after' → (k : ℕ) → HasRisen kind now after' k → ⊥
+still_back kind before now after' front back early still k risen =
     let d = element now k risen.0 in
     let was = early k d (omega (arith, risen.0, front)) in
     let both = still k d (omega (arith, risen.0, back)) in
@@ -85,84 +94,127 @@ still_back view before now after' front back early still k risen =
 
 -- The counts of faults over one more line
 
-rose_more : {S : Type 0} (view : S → StoreView) (before now after' : List S) → length after' ≡ length now → EachKept view now after' → all_faults view now ≤ all_faults view after'
-    → (n : ℕ) (b : Bool) → RoseBy view before now n
-    → (((k : ℕ) (d : S) → k < length after' → (view (get_or after' k d)).faults < 2 ^ 64 - 1) → b ≡ true → all_faults view now + 1 ≤ all_faults view after')
-    → RoseBy view before after' (n + one b)
-rose_more {S = S} view before now after' same kept grows n b rose raises = λ low.
-    let early : (k : ℕ) (d : S) → k < length now → (view (get_or now k d)).faults < 2 ^ 64 - 1
+rose_more : {S : Type 0} (kind : StoreKind S) (before now after' : List S) → length after' ≡ length now → EachKept kind now after' → all_faults kind now ≤ all_faults kind after'
+    → (n : ℕ) (b : Bool) → RoseBy kind before now n
+    → (((k : ℕ) (d : S) → k < length after' → (kind.view (get_or after' k d)).faults < 2 ^ 64 - 1) → b ≡ true → all_faults kind now + 1 ≤ all_faults kind after')
+    → RoseBy kind before after' (n + one b)
+rose_more {S = S} kind before now after' same kept grows n b rose raises = λ low.
+    let early : (k : ℕ) (d : S) → k < length now → (kind.view (get_or now k d)).faults < 2 ^ 64 - 1
     = λ k d h. omega (arith, (kept k d h).faults, low k d (omega (arith, h, same))) in
-    elim b as (λ (c : Bool). b ≡ c → all_faults view before + (n + one c) ≤ all_faults view after') [
+    elim b as (λ (c : Bool). b ≡ c → all_faults kind before + (n + one c) ≤ all_faults kind after') [
       | true ↦ λ e. omega (arith, rose early, raises low e)
       | false ↦ λ e. omega (arith, rose early, grows)
     ] refl
 
-count_more : (counts : Machine → Answer → Bool) (m : Machine) (lines : List (List ℕ)) (answers : List Answer) (line : List ℕ) (a : Answer) → length (map event_of lines) ≡ length answers
-    → count_along counts m (map event_of lines) answers + one (counts (machine_after m (map event_of lines) answers) a)
-    ≡ count_along counts m (map event_of (lines ++ line ∷ [])) (answers ++ a ∷ [])
-count_more counts m lines answers line a same =
-    sym (count_along-push counts m (map event_of lines) answers (event_of line) a same)
-    ∙ ap (λ (x : List (Option Event)). count_along counts m x (answers ++ a ∷ [])) (sym (map-append event_of lines (line ∷ [])))
+count_more : (counts : (ℕ → Bool) → Answer → Bool) (log : Log) (line : List ℕ) (a : Answer) → length (asked log) ≡ length log.answers
+    → count_along counts none_down (asked log) log.answers + one (counts (downs_after none_down (asked log) log.answers) a)
+    ≡ count_along counts none_down (asked (longer log line a)) (log.answers ++ a ∷ [])
+count_more counts log line a same =
+    sym (count_by-push down_after counts none_down (asked log) log.answers (line_of line) a same)
+    ∙ ap (λ (x : List Line). count_along counts none_down x (log.answers ++ a ∷ [])) (sym (asked-longer log line a))
 
 -- no line has run
-pub ran_none : {S : Type 0} (view : S → StoreView) (follows : S → S → List Range → Type 0) → ((s : S) → follows s s [])
-    → (settings : Settings) (kept : Option (List ℕ)) (shelf : List S) → Ran view follows settings kept shelf shelf [] []
-ran_none view follows itself settings kept shelf = record {
-  accepts = λ tells. Accepts-from_lines (first settings) [] [] (along_none MayLine (first settings));
-  accepted = λ tells. along_none MayLine (first settings);
-  exact = along_none IsNotBuiltExactly (first settings);
+pub ran_none : {S : Type 0} (kind : StoreKind S) → KindLaws kind → (opening : Opening) (shelf : List S) → Ran kind opening (record { lines = []; answers = [] }) shelf shelf
+ran_none kind laws opening shelf = record {
+  accepts = λ tells. Accepts-from_lines (first opening) [] [] (along_none after_line MayLine (first opening));
+  accepted = λ tells. along_none after_line MayLine (first opening);
+  exact = λ tells. along_none after_line IsNotBuiltExactly (first opening);
+  bad = along_none down_after (λ down e a. IsBadAnswer e a) none_down;
   served = All-nil IsServed;
-  faults = λ low. omega (arith, count_along-none is_device_fault (first settings));
-  faults_of_run = λ empty low. omega (arith, count_along-none is_device_fault_of_run (first settings));
+  faults = λ low. omega (arith, count_by-none down_after (is_device_fault opening.settings) none_down);
+  faults_of_run = λ empty low. omega (arith, count_by-none down_after (is_device_fault_of_run opening.settings) none_down);
   grew = λ still none. omega arith;
-  follows_on = each_same follows itself shelf;
+  follows_on = each_same laws shelf;
 }
 
-pub ran_more : {S : Type 0} (view : S → StoreView) (follows : S → S → List Range → Type 0)
-    → ((a b : S) (xs : List Range) → follows a b xs → Kept (view a) (view b) xs)
-    → ((a b c : S) (xs ys : List Range) → follows a b xs → follows b c ys → follows a c (xs ++ ys))
-    → (settings : Settings) (kept : Option (List ℕ)) (before now after' : List S) (lines : List (List ℕ)) (answers : List Answer) (line : List ℕ) (a : Answer) (old new : State)
-    → old.cluster.settings ≡ settings
-    → StandsFor view now old (machine_after (first settings) (map event_of lines) answers) → Ran view follows settings kept before now lines answers
-    → IsLineStep view now after' old new (event_of line) a → EachFollows follows now after' [] → Ran view follows settings kept before after' (lines ++ line ∷ []) (answers ++ a ∷ [])
-ran_more {S = S} view follows keeps on settings kept before now after' lines answers line a old new settings_is stands ran step next =
-    let es : List (Option Event) = map event_of lines in
-    let e : Option Event = event_of line in
-    let m : Machine = machine_after (first settings) es answers in
-    let down : ℕ → Bool = is_down_in old.cluster in
-    let pushed : map event_of (lines ++ line ∷ []) ≡ es ++ e ∷ [] = map-append event_of lines (line ∷ []) in
-    let cause : HasCause view down now after' m.settings (IsNeededByLine old e) a
-    = subst (λ (s : Settings). HasCause view down now after' s (IsNeededByLine old e) a) (sym stands.settings) step.cause in
-    let adds : AddsBytes view down now after' settings (IsTargetOfLine old e) (line_data e) a
-    = subst (λ (s : Settings). AddsBytes view down now after' s (IsTargetOfLine old e) (line_data e) a) settings_is step.adds in
-    let same : length es ≡ length answers = Along-lengths IsNotBuiltExactly (first settings) es answers ran.exact in
-    let was : EachKept view before now = each_kept view follows keeps before now ran.follows_on in
-    let is : EachKept view now after' = each_kept view follows keeps now after' next in
-    let rose : (counts : Machine → Answer → Bool) → (counts m a ≡ true → is_device_fault_of_run m a ≡ true) → RoseBy view before now (count_along counts (first settings) es answers)
-    → RoseBy view before after' (count_along counts (first settings) (map event_of (lines ++ line ∷ [])) (answers ++ a ∷ []))
-    = λ counts less early. subst (λ (n : ℕ). RoseBy view before after' n) (count_more counts (first settings) lines answers line a same)
-    (rose_more view before now after' next.same_length is (all_faults-grows view follows keeps now after' [] next) (count_along counts (first settings) es answers) (counts m a) early
-    (λ low fault. raises_of_run view follows keeps now after' next m down stands.down (IsNeededByLine old e) a cause low (less fault))) in
-    let accepted : TellsAll view before → Along MayLine (first settings) (map event_of (lines ++ line ∷ [])) (answers ++ a ∷ [])
-    = λ tells. subst (λ (x : List (Option Event)). Along MayLine (first settings) x (answers ++ a ∷ [])) (sym pushed)
-    (Along-push MayLine (first settings) es answers e a (ran.accepted tells) (step.may m stands (tells_all-kept view follows keeps before now [] ran.follows_on tells))) in
-    record {
-      accepts = λ tells. Accepts-from_lines (first settings) (map event_of (lines ++ line ∷ [])) (answers ++ a ∷ []) (accepted tells);
-      accepted = accepted;
-      exact = subst (λ (x : List (Option Event)). Along IsNotBuiltExactly (first settings) x (answers ++ a ∷ [])) (sym pushed)
-          (Along-push IsNotBuiltExactly (first settings) es answers e a ran.exact (step.exact m stands));
-      served = All-append IsServed answers (a ∷ []) ran.served (All-cons IsServed a [] (served_of view down now after' m.settings (IsNeededByLine old e) a cause) (All-nil IsServed));
-      faults = rose is_device_fault (of_run m a) ran.faults;
-      faults_of_run = λ empty. rose is_device_fault_of_run (λ fault. fault) (ran.faults_of_run empty);
-      grew = λ still none.
-          let both = write_fault_count-push answers a in
-          let there = is_false (is_write_fault a) (omega (arith, none, both)) in
-          let more : all_stored view after' ≡ all_stored view now + settings.replicas * if_okay a (length (line_data e))
-          = grown view down now after' next.same_length (still_back view before now after' ran.follows_on.same_length next.same_length was still) settings (IsTargetOfLine old e) (line_data e) a adds there in
-          let bytes : written_bytes (map event_of (lines ++ line ∷ [])) (answers ++ a ∷ []) ≡ written_bytes es answers + if_okay a (length (line_data e))
-          = ap (λ (x : List (Option Event)). written_bytes x (answers ++ a ∷ [])) pushed ∙ written_bytes-push es answers e a same in
-          let earlier = ran.grew (still_front view before now after' ran.follows_on.same_length next.same_length was is still) (omega (arith, none, both)) in
-          by_products settings.replicas (all_stored view before) (all_stored view now) (all_stored view after') (written_bytes es answers) (if_okay a (length (line_data e)))
-          (written_bytes (map event_of (lines ++ line ∷ [])) (answers ++ a ∷ [])) earlier more bytes;
-      follows_on = each_on follows on before now after' [] [] ran.follows_on next;
-    }
+-- One more line
+
+module _ {S State : Type 0} (engine : Engine S State) (laws : KindLaws engine.kind) (opening : Opening) (before : List S) (log : Log) (t : Step S State)
+    (ran : Ran engine.kind opening log before t.before) (settings_is : engine.settings t.old ≡ opening.settings)
+    (downs_are : engine.down t.old ≡ downs_after none_down (asked log) log.answers)
+    (full : opening.kept ≡ Some [] → engine.full t.old)
+    (stands : TellsAll engine.kind before → engine.stands t.before t.old (machine_after (first opening) (asked log) log.answers))
+    (line : List ℕ) (a : Answer) (is : IsAnswer engine t (line_of line) a) (next : EachFollows engine.kind t.before t.after []) where
+  -- each line so far has its answer
+  same : length (asked log) ≡ length log.answers
+  same = AlongBy-lengths down_after _ none_down (asked log) log.answers ran.bad
+
+  was : EachKept engine.kind before t.before
+  was = each_kept laws ran.follows_on
+
+  kept : EachKept engine.kind t.before t.after
+  kept = each_kept laws next
+
+  tells_now : TellsAll engine.kind before → TellsAll engine.kind t.before
+  tells_now tells = tells_all-kept laws ran.follows_on tells
+
+  lawful : TellsAll engine.kind before → IsLawful engine t (machine_after (first opening) (asked log) log.answers) (line_of line) a
+  lawful tells = is.lawful (tells_now tells) (machine_after (first opening) (asked log) log.answers) (stands tells)
+
+  along : (P : Machine → Line → Answer → Type 0) → Along P (first opening) (asked log) log.answers → P (machine_after (first opening) (asked log) log.answers) (line_of line) a
+      → Along P (first opening) (asked (longer log line a)) (log.answers ++ a ∷ [])
+  along P early here = subst (λ (x : List Line). Along P (first opening) x (log.answers ++ a ∷ [])) (sym (asked-longer log line a))
+      (AlongBy-push after_line P (first opening) (asked log) log.answers (line_of line) a early here)
+
+  rose : (counts : Settings → (ℕ → Bool) → Answer → Bool)
+      → (((k : ℕ) (d : S) → k < length t.after → (engine.kind.view (get_or t.after k d)).faults < 2 ^ 64 - 1)
+      → counts (engine.settings t.old) (engine.down t.old) a ≡ true → all_faults engine.kind t.before + 1 ≤ all_faults engine.kind t.after)
+      → RoseBy engine.kind before t.before (count_along (counts opening.settings) none_down (asked log) log.answers)
+      → RoseBy engine.kind before t.after (count_along (counts opening.settings) none_down (asked (longer log line a)) (log.answers ++ a ∷ []))
+  rose counts raised early =
+      let here : counts (engine.settings t.old) (engine.down t.old) a ≡ counts opening.settings (downs_after none_down (asked log) log.answers) a
+      = ap (λ (s : Settings). counts s (engine.down t.old) a) settings_is ∙ ap (λ (d : ℕ → Bool). counts opening.settings d a) downs_are in
+      subst (λ (n : ℕ). RoseBy engine.kind before t.after n) (count_more (counts opening.settings) log line a same)
+      (rose_more engine.kind before t.before t.after next.same_length kept (all_faults-grows laws next)
+      (count_along (counts opening.settings) none_down (asked log) log.answers) (counts opening.settings (downs_after none_down (asked log) log.answers) a) early
+      (λ low fault. raised low (here ∙ fault)))
+
+  adds : AddsBytes engine.kind (span (engine.down t.old) t.before t.after) opening.settings (engine.target t.old (line_of line)) (line_data (line_of line)) a
+  adds = subst (λ (s : Settings). AddsBytes engine.kind (span (engine.down t.old) t.before t.after) s (engine.target t.old (line_of line)) (line_data (line_of line)) a)
+      settings_is is.stored
+
+  grew : AreStoresStill engine.kind before t.after → write_fault_count (log.answers ++ a ∷ []) ≡ 0
+      → all_stored engine.kind t.after ≡ all_stored engine.kind before + opening.settings.replicas * written_bytes (asked (longer log line a)) (log.answers ++ a ∷ [])
+  grew still none =
+      let both = write_fault_count-push log.answers a in
+      let there = is_false (is_write_fault a) (omega (arith, none, both)) in
+      let more : all_stored engine.kind t.after ≡ all_stored engine.kind t.before + opening.settings.replicas * if_okay a (length (line_data (line_of line)))
+      = grown engine.kind (span (engine.down t.old) t.before t.after) next.same_length (still_back engine.kind before t.before t.after ran.follows_on.same_length next.same_length was still)
+      opening.settings (engine.target t.old (line_of line)) (line_data (line_of line)) a adds there in
+      let bytes : written_bytes (asked (longer log line a)) (log.answers ++ a ∷ []) ≡ written_bytes (asked log) log.answers + if_okay a (length (line_data (line_of line)))
+      = ap (λ (x : List Line). written_bytes x (log.answers ++ a ∷ [])) (asked-longer log line a) ∙ written_bytes-push (asked log) log.answers (line_of line) a same in
+      let earlier = ran.grew (still_front engine.kind before t.before t.after ran.follows_on.same_length next.same_length was kept still) (omega (arith, none, both)) in
+      by_products opening.settings.replicas (all_stored engine.kind before) (all_stored engine.kind t.before) (all_stored engine.kind t.after)
+      (written_bytes (asked log) log.answers) (if_okay a (length (line_data (line_of line)))) (written_bytes (asked (longer log line a)) (log.answers ++ a ∷ [])) earlier more bytes
+
+  pub ran_more : Ran engine.kind opening (longer log line a) before t.after
+  ran_more =
+      let accepted : TellsAll engine.kind before → Along MayLine (first opening) (asked (longer log line a)) (log.answers ++ a ∷ [])
+      = λ tells. along MayLine (ran.accepted tells) (lawful tells).may in
+      record {
+        accepts = λ tells. Accepts-from_lines (first opening) (asked (longer log line a)) (log.answers ++ a ∷ []) (accepted tells);
+        accepted = accepted;
+        exact = λ tells. along IsNotBuiltExactly (ran.exact tells) (lawful tells).exact;
+        bad = subst (λ (x : List Line). AlongDowns (λ down e b. IsBadAnswer e b) none_down x (log.answers ++ a ∷ [])) (sym (asked-longer log line a))
+            (AlongBy-push down_after (λ down e b. IsBadAnswer e b) none_down (asked log) log.answers (line_of line) a ran.bad is.goes_on.bad);
+        served = All-append IsServed log.answers (a ∷ []) ran.served
+            (All-cons IsServed a [] (served_of engine.kind (span (engine.down t.old) t.before t.after) (engine.settings t.old) (demand (engine.needs t.old (line_of line)) (engine.full t.old) (line_data (line_of line))) a is.caused) (All-nil IsServed));
+        faults = rose is_device_fault (raises engine laws t next (line_of line) a is.caused) ran.faults;
+        faults_of_run = λ empty. rose is_device_fault_of_run (raises_of_run engine laws t next (line_of line) a (full empty) is.caused) (ran.faults_of_run empty);
+        grew = grew;
+        follows_on = each_on laws ran.follows_on next;
+      }
+
+  -- what the state stands for, and which servers are down, behind it
+  pub stands_more : TellsAll engine.kind before → engine.stands t.after t.new (machine_after (first opening) (asked (longer log line a)) (log.answers ++ a ∷ []))
+  stands_more tells =
+      subst (λ (m : Machine). engine.stands t.after t.new m)
+      (sym (state_after-push after_line (first opening) (asked log) log.answers (line_of line) a same)
+      ∙ ap (λ (x : List Line). machine_after (first opening) x (log.answers ++ a ∷ [])) (sym (asked-longer log line a)))
+      (lawful tells).stands
+
+  pub downs_more : engine.down t.new ≡ downs_after none_down (asked (longer log line a)) (log.answers ++ a ∷ [])
+  downs_more =
+      is.goes_on.down ∙ ap (λ (d : ℕ → Bool). down_after d (line_of line) a) downs_are
+      ∙ sym (state_after-push down_after none_down (asked log) log.answers (line_of line) a same)
+      ∙ ap (λ (x : List Line). downs_after none_down x (log.answers ++ a ∷ [])) (sym (asked-longer log line a))

@@ -1,5 +1,5 @@
 -- What the calls of the definitions are, where the session has what they need or lacks it.
-use Rattle.std.proofs.Common.{◌≡◌, ℕ, ◌+◌, ◌≤◌, List, [], ◌∷◌, length, take, drop, Some, None, refl}
+use Rattle.std.proofs.Common.{◌≡◌, ℕ, ◌+◌, ◌≤◌, List, [], ◌∷◌, length, take, drop, Some, None, Err, refl}
 use Rattle.std.proofs.lemmas.Bool.{le-leb}
 use Rattle.std.specs.FinMap.{get, insert}
 use Rattle.wtf_path.specs.Parts.{parent_of}
@@ -7,11 +7,15 @@ use Rattle.wtf_model.specs.declared.answer.Word.TheVariants as word
 use Rattle.wtf_model.specs.declared.answer.Answer.TheVariants as answer
 use Rattle.wtf_model.specs.declared.op.Op.TheVariants as op
 use Rattle.wtf_model.specs.declared.op.Seek.TheVariants as to
-use Rattle.wtf_model.specs.declared.tree.Node.{Node}
-use Rattle.wtf_model.specs.declared.tree.Node.TheVariants as node
-use Rattle.wtf_model.specs.Tree.{root}
+use Rattle.wtf_model.specs.Tree.{TreeNode as Node}
+use Rattle.wtf_model.specs.Tree as node
+use Rattle.wtf_model.specs.Tree.{root, is_parent}
 use Rattle.wtf_model.specs.Session.{Session, Handle}
-use Rattle.wtf_model.specs.Call.{call, put_bytes, moved, written, create, open_file, read, write, seek}
+use Rattle.wtf_model.specs.Call.{call}
+use Rattle.wtf_model.specs.Done.{put_bytes, moved}
+use Rattle.wtf_model.specs.ByteCalls.{written, read, write}
+use Rattle.wtf_model.specs.NameCalls.{create}
+use Rattle.wtf_model.specs.HandleCalls.{open_file, seek}
 
 pub create_free : (cap : ℕ) (s : Session) (p : List ℕ) → parent_of p ≡ Some root → get s.tree root ≡ Some node.Dir → get s.tree p ≡ None
     → call cap s (op.Create p) ≡ record { session = put_bytes s p []; answer = answer.Okay }
@@ -22,6 +26,21 @@ pub create_taken : (cap : ℕ) (s : Session) (p : List ℕ) (n : Node) → paren
     → call cap s (op.Create p) ≡ record { session = s; answer = answer.Refused word.Exists }
 unfolding create
 create_taken cap s p n parent top taken = rw (parent, top, taken) refl
+
+pub create_root : (cap : ℕ) (s : Session) (p : List ℕ) → parent_of p ≡ None
+    → call cap s (op.Create p) ≡ record { session = s; answer = answer.Refused word.Exists }
+unfolding create
+create_root cap s p parent = rw parent refl
+
+pub create_orphan : (cap : ℕ) (s : Session) (p dir : List ℕ) → parent_of p ≡ Some dir → is_parent (get s.tree dir) ≡ Err word.NoParent
+    → call cap s (op.Create p) ≡ record { session = s; answer = answer.Refused word.NoParent }
+unfolding create
+create_orphan cap s p dir parent orphan = rw (parent, orphan) refl
+
+pub open_root : (cap : ℕ) (s : Session) (f : ℕ) (p : List ℕ) → get s.handles f ≡ None → get s.tree p ≡ Some node.Dir
+    → call cap s (op.Open f p) ≡ record { session = s; answer = answer.Refused word.IsDir }
+unfolding open_file
+open_root cap s f p unused dir = rw (unused, dir) refl
 
 pub open_found : (cap : ℕ) (s : Session) (f : ℕ) (p bytes : List ℕ) → get s.handles f ≡ None → get s.tree p ≡ Some (node.File bytes)
     → call cap s (op.Open f p) ≡ record { session = record s { handles = insert s.handles f (record { path = p; off = 0 }) }; answer = answer.Okay }

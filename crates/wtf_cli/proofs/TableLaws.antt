@@ -10,9 +10,9 @@ use Rattle.std.proofs.lemmas.Map.Views.{tells_apart}
 use Rattle.std.specs.FinMap.{FinMap, get, insert, get-insert, slice_cmp-IsAntisymmetric, nat_cmp-IsAntisymmetric}
 use Rattle.wtf_base.specs.declared.settings.Settings.{Settings}
 use Rattle.wtf_base.specs.declared.ids.InodeId.{InodeId}
-use Rattle.wtf_dev.specs.Store.{StoreView}
-use Rattle.wtf_model.specs.declared.tree.Node.{Node}
-use Rattle.wtf_model.specs.declared.tree.Node.TheVariants as node
+use Rattle.wtf_dev.specs.Store.{StoreKind}
+use Rattle.wtf_model.specs.Tree.{TreeNode as Node}
+use Rattle.wtf_model.specs.Tree as node
 use Rattle.wtf_model.specs.Tree.{Tree, root}
 use Rattle.wtf_model.specs.Session.{Handle}
 use Rattle.wtf_cli.specs.declared.file.File.{File}
@@ -44,13 +44,13 @@ file_cases old new p file sets q f found = elim (cases_Bool (is_at (slice_cmp na
   | inr off ↦ inr (sym (sets q ∙ cond-false _ _ _ off) ∙ found)
 ]
 
-pub files_after : {S : Type 0} (view : S → StoreView) (shelf : List S) (settings : Settings) (old new : List (List ℕ × File)) (p : List ℕ) (file : File)
-    → SetsFile old new p file → AreSoundFiles view shelf settings old → IsSoundFile view shelf settings file → file.end ≤ settings.region → p ≢ root → AreSoundFiles view shelf settings new
-files_after view shelf settings old new p file sets are sound short other = record {
+pub files_after : {S : Type 0} (kind : StoreKind S) (shelf : List S) (settings : Settings) (old new : List (List ℕ × File)) (p : List ℕ) (file : File)
+    → SetsFile old new p file → AreSoundFiles kind shelf settings old → IsSoundFile kind shelf settings file → file.end ≤ settings.region → p ≢ root → AreSoundFiles kind shelf settings new
+files_after kind shelf settings old new p file sets are sound short other = record {
   servers = are.servers;
   top = sets root ∙ cond_both (is_at (slice_cmp nat_cmp p) root) (Some file) (file_at old root) (λ o. o ≡ None) (λ at. absurd (other (same_path p root at))) (λ _. are.top);
   sound = λ q f found. elim (file_cases old new p file sets q f found) [
-    | inl new_one ↦ subst (λ (g : File). IsSoundFile view shelf settings g) (sym new_one) sound
+    | inl new_one ↦ subst (λ (g : File). IsSoundFile kind shelf settings g) (sym new_one) sound
     | inr old_one ↦ are.sound q f old_one
   ];
   short = λ q f found. elim (file_cases old new p file sets q f found) [
@@ -106,15 +106,15 @@ both_cond : {A B : Type 0} (P : A → B → Type 0) (b c : Bool) (x y : A) (u v 
 both_cond P b c x y u v e at off =
     subst (λ d. P (cond b x y) (cond d u v)) e (elim b as (λ d. (d ≡ true → P x u) → (d ≡ false → P y v) → P (cond d x y) (cond d u v)) [ true ↦ λ t f. t refl | false ↦ λ t f. f refl ] at off)
 
-pub tree_set : {S : Type 0} (view : S → StoreView) (shelf : List S) (old new : List (List ℕ × File)) (tree : Tree) (p : List ℕ) (file : File) (bytes : List ℕ)
-    → SetsFile old new p file → StandsForTree view shelf old tree → StandsForBytes view shelf file bytes → p ≢ root → StandsForTree view shelf new (insert tree p (node.File bytes))
-tree_set view shelf old new tree p file bytes sets stands here other = record {
+pub tree_set : {S : Type 0} (kind : StoreKind S) (shelf : List S) (old new : List (List ℕ × File)) (tree : Tree) (p : List ℕ) (file : File) (bytes : List ℕ)
+    → SetsFile old new p file → StandsForTree kind shelf old tree → StandsForBytes kind shelf file bytes → p ≢ root → StandsForTree kind shelf new (insert tree p (node.File bytes))
+tree_set kind shelf old new tree p file bytes sets stands here other = record {
   top = get-insert nat_list_cmp_total tree p (node.File bytes) root
       ∙ cond_both (is_at (slice_cmp nat_cmp root) p) (Some (node.File bytes)) (get tree root) (λ o. o ≡ Some node.Dir) (λ at. absurd (other (sym (same_path root p at)))) (λ _. stands.top);
   files_are = λ q ne.
-      subst (λ (o : Option File). StandsForNode view shelf o (get (insert tree p (node.File bytes)) q)) (sym (sets q))
-      (subst (λ (o : Option Node). StandsForNode view shelf (cond (is_at (slice_cmp nat_cmp p) q) (Some file) (file_at old q)) o) (sym (get-insert nat_list_cmp_total tree p (node.File bytes) q))
-      (both_cond (StandsForNode view shelf) (is_at (slice_cmp nat_cmp p) q) (is_at (slice_cmp nat_cmp q) p) (Some file) (file_at old q) (Some (node.File bytes)) (get tree q)
+      subst (λ (o : Option File). StandsForNode kind shelf o (get (insert tree p (node.File bytes)) q)) (sym (sets q))
+      (subst (λ (o : Option Node). StandsForNode kind shelf (cond (is_at (slice_cmp nat_cmp p) q) (Some file) (file_at old q)) o) (sym (get-insert nat_list_cmp_total tree p (node.File bytes) q))
+      (both_cond (StandsForNode kind shelf) (is_at (slice_cmp nat_cmp p) q) (is_at (slice_cmp nat_cmp q) p) (Some file) (file_at old q) (Some (node.File bytes)) (get tree q)
       ((eq_by_cmp_equiv nat_list_cmp_total).symm p q) (λ _. here) (λ _. stands.files_are q ne)));
 }
 

@@ -1,13 +1,16 @@
 -- What was read of a script so far, where the source tells it.
-use Rattle.std.proofs.Common.{◌≡◌, ◌≢◌, ◌<◌, ◌+◌, ◌^◌, ℕ, Bool, true, false, List, [], ◌∷◌, ◌++◌, length, Option, Some, refl, sym, ◌∙◌, ap, subst, arith, append_assoc, inl, inr, length-append}
+use Rattle.std.proofs.Common.{◌≡◌, ◌≢◌, ◌<◌, ◌≤◌, ◌+◌, ℕ, Bool, true, false, List, [], ◌∷◌, ◌++◌, length, Option, Some, refl, sym, ◌∙◌, ap, subst, arith, append_assoc, inl, inr, length-append}
 use Rattle.std.specs.List.{All}
 use Rattle.std.specs.Bool.{MatchBool}
+use Rattle.std.proofs.lemmas.Bool.{le-ltb}
 use Rattle.std.proofs.lemmas.List.{append-nil}
 use Rattle.std.proofs.lemmas.List.Elements.{All-append, All-nil, All-cons}
-use Rattle.wtf_cli.specs.ScriptLines.{lines_of, ended_of, fed, HasNoFeed}
-use Rattle.wtf_cli.specs.Reading.{Held, ReadsLine, ReadsEnd, ReadsFault, ReadsTooMuch}
+use Rattle.wtf_script.specs.declared.limits.TheConstants.{SCRIPT_BYTES}
+use Rattle.wtf_script.specs.ScriptLines.{lines_of, ended_of, fed, HasNoFeed}
+use Rattle.wtf_script.specs.Reading.{Held, ReadsLine, ReadsEnd, ReadsFault, ReadsTooMuch}
+use Rattle.wtf_cli.specs.Scripts.{IsEndStatus}
 use Rattle.wtf_cli.specs.Runs.{HasRead}
-use Rattle.wtf_cli.proofs.Lines.{lines_of-fed, ended_of-fed, fed-push, lines_of-plain, ended_of-plain}
+use Rattle.wtf_script.proofs.LinesOf.{lines_of-fed, ended_of-fed, fed-push, lines_of-plain, ended_of-plain}
 
 -- the lines came, and the reader holds the next bytes; when it has seen the end, these were all
 pub record Told (script : List ℕ) (left : Option (List ℕ)) (held : Held) (lines : List (List ℕ)) : Type 0 where
@@ -91,12 +94,12 @@ end_at script left left' held held' lines false is told (ended, bytes, last) =
     (sym (ap lines_of (was.0 ∙ ap (λ (x : List ℕ). fed lines ++ x) none.0) ∙ lines_of-fed lines [] was.1 ∙ append-nil lines), none.1)
 
 pub told_end : (script : List ℕ) (left left' : Option (List ℕ)) (held held' : Held) (lines : List (List ℕ)) → Told script left held lines
-    → ((rest : List ℕ) → left ≡ Some rest → ReadsEnd held rest held' left') → HasRead script left' 0 lines
-told_end script left left' held held' lines told came = record {
+    → ((rest : List ℕ) → left ≡ Some rest → ReadsEnd held rest held' left') → (status : ℕ) → IsEndStatus status → HasRead script left' status lines
+told_end script left left' held held' lines told came status ends = record {
   front = told_front script left held lines told;
   whole = λ _. end_at script left left' held held' lines held.ended refl told (came told.rest told.left_is);
-  fault = λ e. absurd (omega (arith, e));
-  too_much = λ e. absurd (omega (arith, e));
+  fault = λ e. absurd (omega (arith, e, ends));
+  too_much = λ e. absurd (omega (arith, e, ends));
 }
 
 goes_on : (b : Bool) → b ≢ true → b ≡ false
@@ -127,11 +130,18 @@ told_fault script left left' held held' lines unended told reads =
 shorter : (script came tail : List ℕ) (b n : ℕ) → script ≡ came ++ b ∷ tail → length script ≡ length tail + (n + 1) → length came ≡ n
 shorter script came tail b n is counted = omega (arith, counted, ap length is ∙ length-append came (b ∷ tail))
 
+-- more than a script may have came, where no more had come before
+reads_more : (held : Held) (rest : List ℕ) (left : Option (List ℕ)) → held.count ≤ SCRIPT_BYTES → ReadsTooMuch held rest left
+    → (came : List ℕ) × (b : ℕ) × (then : List ℕ) × (rest ≡ came ++ b ∷ then) × (left ≡ Some then) × HasNoFeed (held.bytes ++ came)
+reads_more held rest left few reads =
+    subst (λ (b : Bool). MatchBool b (left ≡ Some rest) ((came : List ℕ) × (b : ℕ) × (then : List ℕ) × (rest ≡ came ++ b ∷ then) × (left ≡ Some then) × HasNoFeed (held.bytes ++ came)))
+    (le-ltb SCRIPT_BYTES held.count few) reads
+
 -- too many bytes came
-pub told_much : (script : List ℕ) (left left' : Option (List ℕ)) (held held' : Held) (lines : List (List ℕ)) → held.ended ≢ true → Told script left held lines
-    → ((rest : List ℕ) → left ≡ Some rest → ReadsTooMuch held rest left') → ((now : List ℕ) → left' ≡ Some now → length script ≡ length now + (2 ^ 30 + 1)) → HasRead script left' 9 lines
-told_much script left left' held held' lines unended told reads counted =
-    let (came, b, tail, rest_is, left_is, plain) = reads told.rest told.left_is in
+pub told_much : (script : List ℕ) (left left' : Option (List ℕ)) (held held' : Held) (lines : List (List ℕ)) → held.ended ≢ true → held.count ≤ SCRIPT_BYTES → Told script left held lines
+    → ((rest : List ℕ) → left ≡ Some rest → ReadsTooMuch held rest left') → ((now : List ℕ) → left' ≡ Some now → length script ≡ length now + (SCRIPT_BYTES + 1)) → HasRead script left' 9 lines
+told_much script left left' held held' lines unended few told reads counted =
+    let (came, b, tail, rest_is, left_is, plain) = reads_more held told.rest left' few (reads told.rest told.left_is) in
     let was = told.going (goes_on held.ended unended) in
     let whole = came_of script lines held.bytes told.rest came (b ∷ tail) was.0 rest_is in
     record {
@@ -144,13 +154,13 @@ told_much script left left' held held' lines unended told reads counted =
         tail,
         whole,
         left_is,
-        shorter script (fed lines ++ (held.bytes ++ came)) tail b (2 ^ 30) whole (counted tail left_is),
+        shorter script (fed lines ++ (held.bytes ++ came)) tail b (SCRIPT_BYTES) whole (counted tail left_is),
         ended_came lines (held.bytes ++ came) was.1 plain,
       );
     }
 
 -- the run ends after these lines for another reason
-pub told_other : (script : List ℕ) (left left' : Option (List ℕ)) (held : Held) (lines : List (List ℕ)) (status : ℕ) → status ≢ 0 → status ≢ 3 → status ≢ 9 → Told script left held lines → HasRead script left' status lines
+pub told_other : (script : List ℕ) (left left' : Option (List ℕ)) (held : Held) (lines : List (List ℕ)) (status : ℕ) → (IsEndStatus status → ⊥) → status ≢ 3 → status ≢ 9 → Told script left held lines → HasRead script left' status lines
 told_other script left left' held lines status not_0 not_3 not_9 told = record {
   front = told_front script left held lines told;
   whole = λ e. absurd (not_0 e);

@@ -1,41 +1,39 @@
 -- What writing a text, and answering a line with its text, give.
-use Rattle.std.specs.Prelude.{◌≡◌, ◌≤◌, ℕ, List, [], ◌++◌, Option, Some, Result, Ok, Err}
+use Rattle.std.specs.Prelude.{◌≡◌, ℕ, List, ◌++◌, Option, Some, Result, Ok, Err}
 use Rattle.wtf_dev.specs.Counts.{Rose}
 use Rattle.wtf_dev.specs.Streams.{SinkView}
-use Rattle.wtf_dev.specs.Store.{Range, StoreView}
-use Rattle.wtf_dev.specs.Each.{EachFollows}
 use Rattle.wtf_model.specs.declared.answer.Answer.{Answer}
-use Rattle.wtf_model.specs.declared.event.Event.{Event}
-use Rattle.wtf_cli.specs.declared.state.State.{State}
-use Rattle.wtf_cli.specs.declared.service.Turned.{Turned}
-use Rattle.wtf_cli.specs.declared.service.Turned.TheVariants as turned
-use Rattle.wtf_cli.specs.Texts.{line_text}
-use Rattle.wtf_cli.specs.LineSteps.{IsLineStep}
+use Rattle.wtf_model.specs.Lines.{Line}
+use Rattle.wtf_cli.specs.declared.service.Stop.{Stop}
+use Rattle.wtf_cli.specs.declared.service.Stop.TheVariants as stop
+use Rattle.wtf_cli.specs.Scripts.{line_text}
+use Rattle.wtf_cli.specs.Engines.{Engine, Step, IsAnswer}
+
+-- a front of a text was written, and no more
+abbrev pub WroteFront : List ℕ → List ℕ → Option (List ℕ) → Type 0
+WroteFront old text new = (front : List ℕ) × (back : List ℕ) × (text ≡ front ++ back) × (new ≡ Some (old ++ front))
 
 -- all of a text was taken, or a front of it where the sink failed
 abbrev pub AllTaken : {E : Type 0} → List ℕ → List ℕ → Option (List ℕ) → Result (Unit {0}) E → Type 0
 AllTaken old text new (Ok u) = new ≡ Some (old ++ text)
-AllTaken old text new (Err e) = (front : List ℕ) × (back : List ℕ) × (text ≡ front ++ back) × (new ≡ Some (old ++ front))
+AllTaken old text new (Err e) = WroteFront old text new
 
 -- a line was answered, and its text was written whole
-pub record IsDone {S : Type 0} (view : S → StoreView) (before after : List S) (old new : State) (sink sink' : SinkView) (e : Option Event) : Type 0 where
+pub record IsDone {S State : Type 0} (engine : Engine S State) (t : Step S State) (line : Line) (sink sink' : SinkView) : Type 0 where
   pub answer : Answer
-  pub step : IsLineStep view before after old new e answer
-  pub wrote : (text : List ℕ) → sink.taken ≡ Some text → sink'.taken ≡ Some (text ++ line_text answer)
+  pub is : IsAnswer engine t line answer
+  pub wrote : (old : List ℕ) → sink.taken ≡ Some old → sink'.taken ≡ Some (old ++ line_text answer)
 
 -- a line was answered, and its text was cut by a fault of the sink
-pub record IsStopped {S : Type 0} (view : S → StoreView) (before after : List S) (old new : State) (sink sink' : SinkView) (e : Option Event) : Type 0 where
+pub record IsCutOff {S State : Type 0} (engine : Engine S State) (t : Step S State) (line : Line) (sink sink' : SinkView) : Type 0 where
   pub answer : Answer
-  pub step : IsLineStep view before after old new e answer
-  pub wrote : (text : List ℕ) → sink.taken ≡ Some text → (front : List ℕ) × (back : List ℕ) × (line_text answer ≡ front ++ back) × (sink'.taken ≡ Some (text ++ front))
+  pub is : IsAnswer engine t line answer
+  pub wrote : (old : List ℕ) → sink.taken ≡ Some old → WroteFront old (line_text answer) sink'.taken
   pub cause : Rose sink.faults sink'.faults
 
-abbrev pub CameOut : {S : Type 0} → (S → StoreView) → List S → List S → State → State → SinkView → SinkView → Option Event → Turned → Type 0
-CameOut view before after old new sink sink' e turned.Done = IsDone view before after old new sink sink' e
-CameOut view before after old new sink sink' e turned.Sink = IsStopped view before after old new sink sink' e
-CameOut view before after old new sink sink' e turned.Memory = sink' ≡ sink
-
-pub record TurnIs {S : Type 0} (view : S → StoreView) (follows : S → S → List Range → Type 0) (before after : List S) (old new : State) (sink sink' : SinkView) (e : Option Event) (t : Turned) : Type 0 where
-  pub came : CameOut view before after old new sink sink' e t
-  pub faults : sink.faults ≤ sink'.faults
-  pub follows_on : EachFollows follows before after []
+-- what came of a line: for want of memory nothing is written
+abbrev pub TurnIs : {S State : Type 0} → Engine S State → Step S State → Line → SinkView → SinkView → Result (Unit {0}) Stop → Type 0
+TurnIs engine t line sink sink' (Ok u) = IsDone engine t line sink sink'
+TurnIs engine t line sink sink' (Err stop.Unwritten) = IsCutOff engine t line sink sink'
+TurnIs engine t line sink sink' (Err stop.Memory) = sink' ≡ sink
+TurnIs engine t line sink sink' (Err other) = ⊥

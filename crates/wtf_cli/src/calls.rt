@@ -1,10 +1,12 @@
 //! The calls of a transaction, on files and open handles.
 
-ghost use Rattle.std.specs.Prelude.{IfOk, []};
+ghost use Rattle.std.specs.Prelude.{◌≡◌, IfOk, None, [], bytes_eq};
+ghost use Rattle.wtf_path.specs.Parts.{parent_of};
+ghost use Rattle.wtf_model.specs.Tree.{root};
 ghost use Rattle.wtf_dev.specs.Each.{EachFollows};
 ghost use Rattle.wtf_cli.specs.StandsFor.{AreSoundFiles, AreSoundHandles};
 ghost use Rattle.wtf_cli.specs.Clusters.{IsSoundCluster};
-ghost use Rattle.wtf_cli.specs.Calls.{IsCall, IsFormOp};
+ghost use Rattle.wtf_cli.specs.Calls.{IsCall, target_refusal};
 ghost use Rattle.wtf_cli.specs.Inodes.{KeepInodes};
 
 use crate::cluster::Cluster;
@@ -40,12 +42,11 @@ pub(crate) fn call<S: SliceStore>(
     op: Op<Bytes>,
 ) -> Result<Called, OutOfMemory>
     requires cluster { IsSoundCluster cluster.now }
-    requires form { IsFormOp op }
-    requires files { AreSoundFiles S.view shelf.old cluster.now.settings files.old.entries }
+    requires files { AreSoundFiles S.kind shelf.old cluster.now.settings files.old.entries }
     requires handles { AreSoundHandles cluster.now.settings.region files.old.entries handles.old.entries }
-    ensures call { IfOk result (IsCall S.view shelf.old shelf.new cluster.now files.old.entries files.new.entries handles.old.entries handles.new.entries op) }
+    ensures call { IfOk result (IsCall S.kind shelf.old shelf.new cluster.now files.old.entries files.new.entries handles.old.entries handles.new.entries op) }
     ensures inodes { IfOk result (λ _. KeepInodes files.old.entries files.new.entries inode) }
-    ensures follows { EachFollows S.follows shelf.old shelf.new [] }
+    ensures follows { EachFollows S.kind shelf.old shelf.new [] }
 {
     match op {
         Op::Create(path) => create(alloc, shelf, cluster, inode, files, handles, path),
@@ -54,6 +55,20 @@ pub(crate) fn call<S: SliceStore>(
         Op::Write(label, bytes) => write(shelf, cluster, files, handles, label, bytes.as_slice()),
         Op::Seek(label, Seek::Set(off)) => Ok(seek(shelf, cluster, files, handles, label, off)),
         _ => Ok(Called::Later),
+    }
+}
+
+/// Why nothing can be made at a path that does not lie in the root.
+fn target_refusal(path: &Path) -> Option<Word>
+    ensures { result ≡ target_refusal (parent_of path.now) }
+{
+    let Some(dir) = path.parent() else {
+        return Some(Word::Exists);
+    };
+    if dir == b"/".as_slice() {
+        None
+    } else {
+        Some(Word::NoParent)
     }
 }
 
@@ -67,10 +82,31 @@ fn create<S: SliceStore>(
     handles: &BTreeMap<u8, Opened>,
     path: Path,
 ) -> Result<Called, OutOfMemory>
-    requires form { IsFormOp (Op.Create path) }
-    requires files { AreSoundFiles S.view shelf.now cluster.now.settings files.old.entries }
+    requires files { AreSoundFiles S.kind shelf.now cluster.now.settings files.old.entries }
     requires handles { AreSoundHandles cluster.now.settings.region files.old.entries handles.now.entries }
-    ensures call { IfOk result (IsCall S.view shelf.now shelf.now cluster.now files.old.entries files.new.entries handles.now.entries handles.now.entries (Op.Create path)) }
+    ensures call { IfOk result (IsCall S.kind shelf.now shelf.now cluster.now files.old.entries files.new.entries handles.now.entries handles.now.entries (Op.Create path)) }
+    ensures inodes { IfOk result (λ _. KeepInodes files.old.entries files.new.entries inode) }
+{
+    match target_refusal(&path) {
+        Some(word) => Ok(Called::Logged(Answer::Refused(word))),
+        None => create_in_root(alloc, shelf, cluster, inode, files, handles, path),
+    }
+}
+
+/// Makes an empty file of this inode in the root.
+fn create_in_root<S: SliceStore>(
+    alloc: Global,
+    shelf: &Shelf<S>,
+    cluster: &Cluster,
+    inode: InodeId,
+    files: &mut BTreeMap<Path, File>,
+    handles: &BTreeMap<u8, Opened>,
+    path: Path,
+) -> Result<Called, OutOfMemory>
+    requires parent { target_refusal (parent_of path) ≡ None }
+    requires files { AreSoundFiles S.kind shelf.now cluster.now.settings files.old.entries }
+    requires handles { AreSoundHandles cluster.now.settings.region files.old.entries handles.now.entries }
+    ensures call { IfOk result (IsCall S.kind shelf.now shelf.now cluster.now files.old.entries files.new.entries handles.now.entries handles.now.entries (Op.Create path)) }
     ensures inodes { IfOk result (λ _. KeepInodes files.old.entries files.new.entries inode) }
 {
     if make_file(alloc, files, path, inode)? {
@@ -78,6 +114,13 @@ fn create<S: SliceStore>(
     } else {
         Ok(Called::Logged(Answer::Refused(Word::Exists)))
     }
+}
+
+/// Whether a path is the root.
+fn is_root(path: &Path) -> bool
+    ensures { result ≡ bytes_eq path.now root }
+{
+    path.as_bytes() == b"/".as_slice()
 }
 
 /// Opens a file at its start.
@@ -89,13 +132,15 @@ fn open<S: SliceStore>(
     label: u8,
     path: Path,
 ) -> Result<Called, OutOfMemory>
-    requires form { IsFormOp (Op.Open label path) }
-    requires files { AreSoundFiles S.view shelf.now cluster.now.settings files.now.entries }
+    requires files { AreSoundFiles S.kind shelf.now cluster.now.settings files.now.entries }
     requires handles { AreSoundHandles cluster.now.settings.region files.now.entries handles.old.entries }
-    ensures call { IfOk result (IsCall S.view shelf.now shelf.now cluster.now files.now.entries files.now.entries handles.old.entries handles.new.entries (Op.Open label path)) }
+    ensures call { IfOk result (IsCall S.kind shelf.now shelf.now cluster.now files.now.entries files.now.entries handles.old.entries handles.new.entries (Op.Open label path)) }
 {
     if handles.contains_key(&label) {
         return Ok(Called::Later);
+    }
+    if is_root(&path) {
+        return Ok(Called::Logged(Answer::Refused(Word::IsDir)));
     }
     if !files.contains_key(&path) {
         return Ok(Called::Logged(Answer::Refused(Word::NoEnt)));
@@ -113,9 +158,9 @@ fn seek<S: SliceStore>(
     label: u8,
     off: u64,
 ) -> Called
-    requires files { AreSoundFiles S.view shelf.now cluster.now.settings files.now.entries }
+    requires files { AreSoundFiles S.kind shelf.now cluster.now.settings files.now.entries }
     requires handles { AreSoundHandles cluster.now.settings.region files.now.entries handles.old.entries }
-    ensures call { IsCall S.view shelf.now shelf.now cluster.now files.now.entries files.now.entries handles.old.entries handles.new.entries (Op.Seek label (Seek.Set off)) result }
+    ensures call { IsCall S.kind shelf.now shelf.now cluster.now files.now.entries files.now.entries handles.old.entries handles.new.entries (Op.Seek label (Seek.Set off)) result }
 {
     if off > cluster.settings.region as u64 {
         return Called::Later;
@@ -137,10 +182,10 @@ fn read<S: SliceStore>(
     label: u8,
     count: u64,
 ) -> Result<Called, OutOfMemory>
-    requires files { AreSoundFiles S.view shelf.old cluster.now.settings files.now.entries }
+    requires files { AreSoundFiles S.kind shelf.old cluster.now.settings files.now.entries }
     requires handles { AreSoundHandles cluster.now.settings.region files.now.entries handles.old.entries }
-    ensures call { IfOk result (IsCall S.view shelf.old shelf.new cluster.now files.now.entries files.now.entries handles.old.entries handles.new.entries (Op.Read label count)) }
-    ensures follows { EachFollows S.follows shelf.old shelf.new [] }
+    ensures call { IfOk result (IsCall S.kind shelf.old shelf.new cluster.now files.now.entries files.now.entries handles.old.entries handles.new.entries (Op.Read label count)) }
+    ensures follows { EachFollows S.kind shelf.old shelf.new [] }
 {
     let Some(handle) = handles.get(&label) else {
         return Ok(Called::Logged(Answer::Refused(Word::NoHandle)));
@@ -169,11 +214,11 @@ fn write<S: SliceStore>(
     bytes: &[u8],
 ) -> Result<Called, OutOfMemory>
     requires cluster { IsSoundCluster cluster.now }
-    requires files { AreSoundFiles S.view shelf.old cluster.now.settings files.old.entries }
+    requires files { AreSoundFiles S.kind shelf.old cluster.now.settings files.old.entries }
     requires handles { AreSoundHandles cluster.now.settings.region files.old.entries handles.old.entries }
-    ensures call { IfOk result (IsCall S.view shelf.old shelf.new cluster.now files.old.entries files.new.entries handles.old.entries handles.new.entries (Op.Write label bytes.now)) }
+    ensures call { IfOk result (IsCall S.kind shelf.old shelf.new cluster.now files.old.entries files.new.entries handles.old.entries handles.new.entries (Op.Write label bytes.now)) }
     ensures inodes { (made : InodeId) → IfOk result (λ _. KeepInodes files.old.entries files.new.entries made) }
-    ensures follows { EachFollows S.follows shelf.old shelf.new [] }
+    ensures follows { EachFollows S.kind shelf.old shelf.new [] }
 {
     let Some(handle) = handles.get(&label) else {
         return Ok(Called::Logged(Answer::Refused(Word::NoHandle)));

@@ -5,7 +5,7 @@ ghost use Rattle.wtf_base.specs.Slices.{len_of};
 ghost use Rattle.wtf_base.specs.declared.slice.Slice as Slice;
 ghost use Rattle.wtf_dev.specs.Each.{EachFollows};
 ghost use Rattle.wtf_dev.specs.Sums.{TellsAll};
-ghost use Rattle.wtf_model.specs.Call.{written};
+ghost use Rattle.wtf_model.specs.ByteCalls.{written};
 
 use crate::cluster::Cluster;
 use crate::slices::show;
@@ -52,7 +52,8 @@ impl File {
     ghost use Rattle.wtf_replica.specs.Copies.{IsStored};
     ghost use Rattle.wtf_replica.specs.Faults.{AreTooFew};
     ghost use Rattle.wtf_cli.specs.Clusters.{IsSoundCluster, is_down_in, first_place};
-    ghost use Rattle.wtf_cli.specs.Outcomes.{IsReadCause};
+    ghost use Rattle.wtf_replica.specs.Spans.{span};
+    ghost use Rattle.wtf_cli.specs.Needs.{IsReadCause, ShowsFile};
     ghost use Rattle.wtf_cli.specs.declared.file.Written.TheVariants as came;
 
     /// The bytes from an offset on, at most `count` of them, and fewer where the file ends before.
@@ -65,12 +66,13 @@ impl File {
         count: u64,
     ) -> Result<Vec<u8>, Fault>
         requires servers { cluster.now.settings.servers ≤ length shelf.old }
-        requires sound { IsSoundFile S.view shelf.old cluster.now.settings self.now }
+        requires sound { IsSoundFile S.kind shelf.old cluster.now.settings self.now }
         ensures size { IfOk result (λ bytes. length bytes.items ≡ min count (self.now.end - off)) }
-        ensures bytes { IfOk result (λ bytes. (all : List ℕ) → TellsAll S.view shelf.old → StandsForBytes S.view shelf.old self.now all → bytes.items ≡ take count (drop off all)) }
-        ensures fault { IfErr result (IsReadCause S.view (is_down_in cluster.now) shelf.old shelf.new cluster.now.settings self.now off (min count (self.now.end - off))) }
-        ensures lengths { SameLengths S.view shelf.old shelf.new }
-        ensures follows { EachFollows S.follows shelf.old shelf.new [] }
+        ensures bytes { IfOk result (λ bytes. (all : List ℕ) → TellsAll S.kind shelf.old → StandsForBytes S.kind shelf.old self.now all → bytes.items ≡ take count (drop off all)) }
+        ensures fault { IfErr result (IsReadCause S.kind (span (is_down_in cluster.now) shelf.old shelf.new)
+            cluster.now.settings (ShowsFile self.now off (min count (self.now.end - off)))) }
+        ensures lengths { SameLengths S.kind shelf.old shelf.new }
+        ensures follows { EachFollows S.kind shelf.old shelf.new [] }
     {
         let left = self.end.saturating_sub(off) as u64;
         let len = count.min(left) as u32;
@@ -97,15 +99,15 @@ impl File {
         requires some { 0 < length bytes.now }
         requires fits { off + length bytes.now ≤ cluster.now.settings.region }
         requires servers { cluster.now.settings.servers ≤ length shelf.old }
-        requires sound { IsSoundFile S.view shelf.old cluster.now.settings self.old }
-        ensures sound { result ≡ came.Done → IsSoundFile S.view shelf.new cluster.now.settings self.new }
+        requires sound { IsSoundFile S.kind shelf.old cluster.now.settings self.old }
+        ensures sound { result ≡ came.Done → IsSoundFile S.kind shelf.new cluster.now.settings self.new }
         ensures inode { self.new.inode ≡ self.old.inode }
         ensures end { result ≡ came.Done → self.new.end ≡ max self.old.end (off + length bytes.now) }
-        ensures bytes { result ≡ came.Done → (all : List ℕ) → StandsForBytes S.view shelf.old self.old all → StandsForBytes S.view shelf.new self.new (written all off bytes.now) }
-        ensures stores { result ≡ came.Done → (slice : Slice) × IsStored S.view (is_down_in cluster.now) shelf.old shelf.new cluster.now.settings.replicas (first_place cluster.now self.old.inode) bytes.now slice }
-        ensures fault { result ≡ came.Fault → AreTooFew S.view (is_down_in cluster.now) shelf.old shelf.new cluster.now.settings.servers cluster.now.settings.replicas }
+        ensures bytes { result ≡ came.Done → (all : List ℕ) → StandsForBytes S.kind shelf.old self.old all → StandsForBytes S.kind shelf.new self.new (written all off bytes.now) }
+        ensures stores { result ≡ came.Done → (slice : Slice) × IsStored S.kind (span (is_down_in cluster.now) shelf.old shelf.new) cluster.now.settings.replicas (first_place cluster.now self.old.inode) bytes.now slice }
+        ensures fault { result ≡ came.Fault → AreTooFew S.kind (span (is_down_in cluster.now) shelf.old shelf.new) cluster.now.settings.servers cluster.now.settings.replicas }
         ensures same { result ≡ came.Fault → self.new ≡ self.old }
-        ensures follows { EachFollows S.follows shelf.old shelf.new [] }
+        ensures follows { EachFollows S.kind shelf.old shelf.new [] }
     {
         let place = cluster.ring.order(self.inode, 0);
         let Ok(slice) = cluster.replicas.create(shelf, &place, bytes) else {

@@ -1,47 +1,42 @@
 //! The run of a script over any source, sink, stores and keeper.
 
-ghost use Rattle.std.specs.Prelude.{◌≡◌, ◌<◌, ◌≤◌, ◌^◌, ℕ, List, [], Some, OnErr};
+ghost use Rattle.std.specs.Prelude.{◌≡◌, ◌≢◌, ◌<◌, ◌≤◌, ◌^◌, ◌++◌, ◌∷◌, ◌||◌, ℕ, List, [], Some, Err, OnOk, OnErr};
 ghost use Rattle.wtf_dev.specs.Counts.{Rose};
 ghost use Rattle.wtf_dev.specs.Each.{EachFollows};
-ghost use Rattle.wtf_cli.specs.Runs.{Served};
+ghost use Rattle.wtf_cli.specs.Runs.{Served, new_opening, devices, stop_status};
 ghost use Rattle.wtf_cli.specs.Turns.{AllTaken, TurnIs};
-ghost use Rattle.wtf_cli.specs.Passes.{PassIs};
-ghost use Rattle.wtf_cli.specs.LineSteps.{IsFormLine};
+ghost use Rattle.wtf_cli.specs.Passes.{Came, HasDrawn, PassIs, IsFormRead, input, hand};
+ghost use Rattle.wtf_cli.specs.Engines.{step};
+ghost use Rattle.wtf_cli.specs.LineSteps.{IsFormLine, engine};
 ghost use Rattle.wtf_cli.specs.StandsFor.{IsSoundState};
+ghost use Rattle.wtf_cli.specs.Scripts.{end_status, line_text, settings_line};
+ghost use Rattle.wtf_script.specs.declared.limits.TheConstants.{SCRIPT_BYTES};
 
-use crate::parse::parse;
-use crate::print::{push_answer, push_settings};
-use crate::reader::{Next, Reader};
 use crate::state::State;
 use std::alloc::Global;
 use wtf_base::{OutOfMemory, Settings};
 use wtf_dev::{Failed, Keeper, Shelf, Sink, SliceStore, Source};
-use wtf_model::Event;
+use wtf_model::{Answer, Event, Kind};
+use wtf_print::{print_answer, print_settings};
+use wtf_script::{Line, LineError, Lines, ReadError, parse_line};
 
-/// What came of answering a line.
+/// Why a run ends before the end of its script.
 #[derive(Clone, Copy, Debug)]
-pub(crate) enum Turned {
-    Done,
-    /// The sink failed.
-    Sink,
-    Memory,
-}
-
-/// What came of the next line of the script: it was answered, or the run ends there.
-#[derive(Clone, Copy, Debug)]
-pub(crate) enum Passed {
-    On,
-    End,
+pub(crate) enum Stop {
     /// The source failed.
     Unread,
     /// The sink failed.
     Unwritten,
+    /// The script has more bytes than a script may have.
     TooMuch,
     Memory,
 }
 
 /// The statuses that a run ends with.
 pub(crate) const FINISHED: u8 = 0;
+
+/// The script was read to its end, and some line of it is bad.
+pub(crate) const BAD_LINES: u8 = 1;
 
 /// The words were refused, or there are fewer stores than servers.
 pub(crate) const WORDS_REFUSED: u8 = 2;
@@ -54,9 +49,24 @@ pub(crate) const OUT_OF_MEMORY: u8 = 7;
 
 pub(crate) const SCRIPT_TOO_LONG: u8 = 9;
 
+impl Stop {
+    /// The status of a run that ends so.
+    fn status(self) -> u8
+        ensures { result ≡ stop_status self }
+    {
+        match self {
+            Stop::Unread => READING_FAILED,
+            Stop::Unwritten => WRITING_FAILED,
+            Stop::TooMuch => SCRIPT_TOO_LONG,
+            Stop::Memory => OUT_OF_MEMORY,
+        }
+    }
+}
+
 /// Writes all of a text.
 fn write_all<O: Sink>(out: &mut O, text: &[u8]) -> Result<(), Failed>
-    ensures told { (old : List ℕ) → (O.view out.old).taken ≡ Some old → AllTaken old text.now (O.view out.new).taken result }
+    ensures told { (old : List ℕ) → (O.view out.old).taken ≡ Some old →
+        AllTaken old text.now (O.view out.new).taken result }
     ensures faults { (O.view out.old).faults ≤ (O.view out.new).faults }
     ensures cause { OnErr result (Rose (O.view out.old).faults (O.view out.new).faults) }
 {
@@ -71,66 +81,123 @@ fn write_all<O: Sink>(out: &mut O, text: &[u8]) -> Result<(), Failed>
     Ok(())
 }
 
+/// Reads the next line: its event, or the answer of one that asks nothing; `None` is the end of the script.
+fn read_line<I: Source>(
+    alloc: Global,
+    lines: &mut Lines,
+    script: &mut I,
+) -> Result<Option<Result<Event, Answer>>, Stop>
+    requires count { lines.old.count ≤ SCRIPT_BYTES }
+    ensures came { Came (input (I.view script.old) lines.old) (input (I.view script.new) lines.new) result }
+    ensures drawn { HasDrawn (input (I.view script.old) lines.old) (input (I.view script.new) lines.new) }
+    ensures limit { result ≢ Err Stop.TooMuch → lines.new.count ≤ SCRIPT_BYTES }
+    ensures form { IsFormRead result }
+{
+    match lines.next(script) {
+        Ok(Some(Line::Whole(line))) => match parse_line(alloc, line.as_slice()) {
+            Ok(event) => Ok(Some(Ok(event))),
+            Err(LineError::Bad(kind)) => Ok(Some(Err(Answer::Bad(kind)))),
+            Err(LineError::Memory) => Err(Stop::Memory),
+        },
+        Ok(Some(Line::Long)) => Ok(Some(Err(Answer::Bad(Kind::Long)))),
+        Ok(None) => Ok(None),
+        Err(ReadError::Failed) => Err(Stop::Unread),
+        Err(ReadError::TooMuch) => Err(Stop::TooMuch),
+        Err(ReadError::Memory) => Err(Stop::Memory),
+    }
+}
+
+/// Appends the line of an answer.
+fn push_answer(answer: &Answer, text: &mut Vec<u8>) -> Result<(), OutOfMemory>
+    ensures { OnOk result (text.new.items ≡ text.old.items ++ line_text answer.now) }
+{
+    print_answer(answer, text)?;
+    text.push(b'\n')?;
+    Ok(())
+}
+
+/// Appends the line of the settings.
+fn push_settings(settings: Settings, text: &mut Vec<u8>) -> Result<(), OutOfMemory>
+    ensures { OnOk result (text.new.items ≡ text.old.items ++ settings_line settings 0) }
+{
+    print_settings(settings, 0, text)?;
+    text.push(b'\n')?;
+    Ok(())
+}
+
 /// Answers a line, and writes the answer. `text` is kept from line to line.
 fn turn<O: Sink, S: SliceStore>(
-    alloc: Global,
     state: &mut State,
     shelf: &mut Shelf<S>,
     out: &mut O,
     text: &mut Vec<u8>,
-    event: Option<Event>,
-) -> Turned
+    line: Result<Event, Answer>,
+) -> Result<(), Stop>
     requires number { state.old.number < 2 ^ 63 }
     requires next { state.old.next_tx < 2 ^ 63 }
-    requires form { IsFormLine event }
-    requires sound { IsSoundState S.view shelf.old state.old }
-    ensures turn { TurnIs S.view S.follows shelf.old shelf.new state.old state.new (O.view out.old) (O.view out.new) event result }
+    requires form { IsFormLine line }
+    requires sound { IsSoundState S.kind shelf.old state.old }
+    ensures turn { TurnIs (engine S.kind) (step shelf.old shelf.new state.old state.new) line
+        (O.view out.old) (O.view out.new) result }
+    ensures faults { (O.view out.old).faults ≤ (O.view out.new).faults }
+    ensures follows { EachFollows S.kind shelf.old shelf.new [] }
 {
-    let Ok(answer) = state.answer(shelf, event) else {
-        return Turned::Memory;
+    let Ok(answer) = state.answer(shelf, line) else {
+        return Err(Stop::Memory);
     };
     text.clear();
-    if push_answer(alloc, text, &answer).is_err() {
-        return Turned::Memory;
-    }
+    let Ok(()) = push_answer(&answer, text) else {
+        return Err(Stop::Memory);
+    };
     match write_all(out, text.as_slice()) {
-        Ok(()) => Turned::Done,
-        Err(_) => Turned::Sink,
+        Ok(()) => Ok(()),
+        Err(_) => Err(Stop::Unwritten),
     }
 }
 
-/// Reads a line, answers it and writes the answer.
+/// Reads a line, answers it and writes its answer, before another line is read: whether it asked nothing. `None` is the
+/// end of the script.
 fn pass<I: Source, O: Sink, S: SliceStore>(
     alloc: Global,
-    reader: &mut Reader,
+    lines: &mut Lines,
     script: &mut I,
     state: &mut State,
     shelf: &mut Shelf<S>,
     out: &mut O,
     text: &mut Vec<u8>,
-) -> Passed
-    requires count { reader.old.count ≤ 2 ^ 30 }
+) -> Result<Option<bool>, Stop>
+    requires count { lines.old.count ≤ SCRIPT_BYTES }
     requires number { state.old.number < 2 ^ 63 }
     requires next { state.old.next_tx < 2 ^ 63 }
-    requires sound { IsSoundState S.view shelf.old state.old }
-    ensures pass { PassIs S.view S.follows reader.old reader.new (I.view script.old) (I.view script.new) shelf.old shelf.new state.old state.new (O.view out.old) (O.view out.new) result }
+    requires sound { IsSoundState S.kind shelf.old state.old }
+    ensures pass { PassIs (engine S.kind)
+        (hand (input (I.view script.old) lines.old) (O.view out.old) shelf.old state.old)
+        (hand (input (I.view script.new) lines.new) (O.view out.new) shelf.new state.new) result }
 {
-    let event = match reader.next(script) {
-        Next::Line(line) => match parse(alloc, line.as_slice()) {
-            Ok(event) => event,
-            Err(_) => return Passed::Memory,
-        },
-        Next::Long => None,
-        Next::End => return Passed::End,
-        Next::Fault => return Passed::Unread,
-        Next::TooMuch => return Passed::TooMuch,
-        Next::Memory => return Passed::Memory,
+    let line = match read_line(alloc, lines, script) {
+        Ok(Some(line)) => line,
+        Ok(None) => return Ok(None),
+        Err(stop) => return Err(stop),
     };
-    match turn(alloc, state, shelf, out, text, event) {
-        Turned::Done => Passed::On,
-        Turned::Sink => Passed::Unwritten,
-        Turned::Memory => Passed::Memory,
+    let bad = line.is_err();
+    match turn(state, shelf, out, text, line) {
+        Ok(()) => Ok(Some(bad)),
+        Err(stop) => Err(stop),
     }
+}
+
+/// Whether one of two holds.
+fn either(a: bool, b: bool) -> bool
+    ensures { result ≡ (a || b) }
+{
+    a || b
+}
+
+/// The status of a run that read its script to the end.
+fn ended(bad: bool) -> u8
+    ensures { result ≡ end_status bad }
+{
+    if bad { BAD_LINES } else { FINISHED }
 }
 
 /// Answers a script: writes the settings, and one answer a line. With fewer stores than servers nothing is read and
@@ -143,47 +210,38 @@ pub fn serve<I: Source, O: Sink, S: SliceStore, K: Keeper>(
     shelf: &mut Shelf<S>,
     keeper: &mut K,
 ) -> u8
-    ensures served { Served S.view S.follows settings (K.view keeper.old).held result (I.view script.old) (I.view script.new) (O.view out.old) (O.view out.new) shelf.old shelf.new }
+    ensures served { Served S.kind (new_opening settings (K.view keeper.old).held) result
+        (devices (I.view script.old) (O.view out.old) shelf.old)
+        (devices (I.view script.new) (O.view out.new) shelf.new) }
     ensures unread { result ≡ 2 → script.new ≡ script.old }
     ensures unwritten { result ≡ 2 → out.new ≡ out.old }
     ensures untouched { result ≡ 2 → shelf.new ≡ shelf.old }
-    ensures unkept { result ≡ 2 → keeper.new ≡ keeper.old }
-    ensures keeper { K.follows keeper.old keeper.new [] }
+    ensures unkept { keeper.new ≡ keeper.old }
 {
     // The keeper is not called before there are images.
     let _ = keeper;
     if shelf.len() < settings.servers {
         return WORDS_REFUSED;
     }
-    let Ok(mut reader) = Reader::new(alloc) else {
+    let Ok(mut lines) = Lines::new(alloc) else {
         return OUT_OF_MEMORY;
     };
     let Ok(mut state) = State::new(alloc, settings) else {
         return OUT_OF_MEMORY;
     };
     let mut text = Vec::new(alloc);
-    let Ok(()) = push_settings(&mut text, settings, 0) else {
+    let Ok(()) = push_settings(settings, &mut text) else {
         return OUT_OF_MEMORY;
     };
     let Ok(()) = write_all(out, text.as_slice()) else {
         return WRITING_FAILED;
     };
+    let mut bad = false;
     loop {
-        match pass(
-            alloc,
-            &mut reader,
-            script,
-            &mut state,
-            shelf,
-            out,
-            &mut text,
-        ) {
-            Passed::On => {}
-            Passed::End => return FINISHED,
-            Passed::Unread => return READING_FAILED,
-            Passed::Unwritten => return WRITING_FAILED,
-            Passed::TooMuch => return SCRIPT_TOO_LONG,
-            Passed::Memory => return OUT_OF_MEMORY,
+        match pass(alloc, &mut lines, script, &mut state, shelf, out, &mut text) {
+            Ok(Some(more)) => bad = either(bad, more),
+            Ok(None) => return ended(bad),
+            Err(stop) => return stop.status(),
         }
     }
 }

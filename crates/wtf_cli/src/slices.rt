@@ -4,9 +4,10 @@ ghost use Rattle.std.specs.Prelude.{◌≡◌, ◌<◌, ◌^◌, ◌++◌, ℕ, 
 ghost use Rattle.std.specs.List.{All};
 ghost use Rattle.wtf_dev.specs.Each.{EachFollows};
 ghost use Rattle.wtf_overlay.specs.Origin.{part_origin, pieces_len};
-ghost use Rattle.wtf_replica.specs.Downs.{is_down};
+ghost use Rattle.wtf_replica.specs.Downs.{is_down, during};
+ghost use Rattle.wtf_replica.specs.Bytes.{IsPlaceInside};
 ghost use Rattle.wtf_replica.specs.Outs.{SameLengths};
-ghost use Rattle.wtf_cli.specs.Stored.{IsPlaceInside, ArePiecesInside, ShowsPart, ShowsPieces, IsShowFault};
+ghost use Rattle.wtf_cli.specs.Stored.{ArePiecesInside, ShowsPart, ShowsPieces, IsUpPart, IsShowFault};
 
 use wtf_base::Fault;
 use wtf_dev::{Shelf, SliceStore};
@@ -20,12 +21,13 @@ fn show_piece<S: SliceStore>(
     piece: &Piece,
     out: &mut Vec<u8>,
 ) -> Result<(), Fault>
-    requires inside { (i : ℕ) → i < piece.now.len → All (IsPlaceInside S.view shelf.old) (part_origin piece.now.part i) }
+    requires inside { (i : ℕ) → i < piece.now.len → All (IsPlaceInside S.kind shelf.old) (part_origin piece.now.part i) }
     requires few { piece.now.len < 2 ^ 32 }
-    ensures bytes { OnOk result ((shown : List ℕ) × (out.new.items ≡ out.old.items ++ shown) × (length shown ≡ piece.now.len) × ShowsPart S.view shelf.old piece.now.part 0 shown) }
-    ensures fault { IfErr result (IsShowFault S.view (is_down replicas.now) shelf.old shelf.new (piece.now ∷ [])) }
-    ensures lengths { SameLengths S.view shelf.old shelf.new }
-    ensures follows { EachFollows S.follows shelf.old shelf.new [] }
+    ensures bytes { OnOk result ((shown : List ℕ) × (out.new.items ≡ out.old.items ++ shown) × (length shown ≡ piece.now.len) × ShowsPart S.kind shelf.old piece.now.part 0 shown) }
+    ensures up { OnOk result (IsUpPart (is_down replicas.now) piece.now.part) }
+    ensures fault { IfErr result (IsShowFault S.kind (during replicas.now shelf.old shelf.new) (piece.now ∷ [])) }
+    ensures lengths { SameLengths S.kind shelf.old shelf.new }
+    ensures follows { EachFollows S.kind shelf.old shelf.new [] }
 {
     let from = out.len();
     if out.resize(from + piece.len as usize, 0).is_err() {
@@ -49,12 +51,12 @@ pub(crate) fn show<S: SliceStore>(
     pieces: &[Piece],
     out: &mut Vec<u8>,
 ) -> Result<(), Fault>
-    requires inside { ArePiecesInside S.view shelf.old pieces.now }
+    requires inside { ArePiecesInside S.kind shelf.old pieces.now }
     requires few { pieces_len pieces.now < 2 ^ 32 }
-    ensures bytes { OnOk result ((shown : List ℕ) × (out.new.items ≡ out.old.items ++ shown) × (length shown ≡ pieces_len pieces.now) × ShowsPieces S.view shelf.old pieces.now shown) }
-    ensures fault { IfErr result (IsShowFault S.view (is_down replicas.now) shelf.old shelf.new pieces.now) }
-    ensures lengths { SameLengths S.view shelf.old shelf.new }
-    ensures follows { EachFollows S.follows shelf.old shelf.new [] }
+    ensures bytes { OnOk result ((shown : List ℕ) × (out.new.items ≡ out.old.items ++ shown) × (length shown ≡ pieces_len pieces.now) × ShowsPieces S.kind shelf.old pieces.now shown) }
+    ensures fault { IfErr result (IsShowFault S.kind (during replicas.now shelf.old shelf.new) pieces.now) }
+    ensures lengths { SameLengths S.kind shelf.old shelf.new }
+    ensures follows { EachFollows S.kind shelf.old shelf.new [] }
 {
     for piece in pieces {
         if let Err(why) = show_piece(replicas, shelf, piece, out) {

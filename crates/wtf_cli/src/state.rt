@@ -1,8 +1,9 @@
 //! The state of a run, and the answer to one event.
 
-ghost use Rattle.std.specs.Prelude.{◌≡◌, ◌<◌, ◌^◌, ℕ, false, IfOk, None, []};
+ghost use Rattle.std.specs.Prelude.{◌≡◌, ◌<◌, ◌^◌, ℕ, false, IfOk, IsOk, Ok, None, []};
 ghost use Rattle.wtf_dev.specs.Each.{EachFollows};
-ghost use Rattle.wtf_cli.specs.Events.{IsFormEvent};
+ghost use Rattle.wtf_model.specs.Form.{IsFormEvent};
+ghost use Rattle.wtf_cli.specs.Events.{IsFree, IsFreeLine};
 
 use crate::calls::{Called, call};
 use crate::cluster::Cluster;
@@ -43,7 +44,9 @@ impl State {
     ghost use Rattle.wtf_cli.specs.StandsFor.{IsSoundState, StandsFor};
     ghost use Rattle.wtf_cli.specs.Clusters.{IsSoundCluster, is_down_in};
     ghost use Rattle.wtf_cli.specs.Events.{IsStep};
-    ghost use Rattle.wtf_cli.specs.LineSteps.{IsLineStep, IsFormLine};
+    ghost use Rattle.wtf_cli.specs.LineSteps.{IsFormLine, engine};
+    ghost use Rattle.wtf_cli.specs.Engines.{GoesOn, Obeys, Stores, IsCaused, step};
+    ghost use Rattle.wtf_cli.specs.Inodes.{AreNumbered, KeepInodes, next_inode};
 
     /// The state without a file, with all servers up.
     pub(crate) fn new(alloc: Global, settings: Settings) -> Result<State, OutOfMemory>
@@ -65,22 +68,34 @@ impl State {
         })
     }
 
-    /// Answers a line: its event, where it asks something.
+    /// Answers a line: its event, or with the answer of one that asks nothing.
     pub(crate) fn answer<S: SliceStore>(
         &mut self,
         shelf: &mut Shelf<S>,
-        event: Option<Event>,
+        line: Result<Event, Answer>,
     ) -> Result<Answer, OutOfMemory>
         requires number { self.old.number < 2 ^ 63 }
         requires next { self.old.next_tx < 2 ^ 63 }
-        requires form { IsFormLine event }
-        requires sound { IsSoundState S.view shelf.old self.old }
-        ensures step { IfOk result (IsLineStep S.view shelf.old shelf.new self.old self.new event) }
-        ensures follows { EachFollows S.follows shelf.old shelf.new [] }
+        requires form { IsFormLine line }
+        requires sound { IsSoundState S.kind shelf.old self.old }
+        ensures goes_on { IfOk result
+            (GoesOn (engine S.kind) (step shelf.old shelf.new self.old self.new) line) }
+        ensures lawful { IfOk result
+            (Obeys (engine S.kind) (step shelf.old shelf.new self.old self.new) line) }
+        ensures stored { IfOk result
+            (Stores (engine S.kind) (step shelf.old shelf.new self.old self.new) line) }
+        ensures caused { IfOk result
+            (IsCaused (engine S.kind) (step shelf.old shelf.new self.old self.new) line) }
+        ensures numbered { IfOk result
+            (λ _. AreNumbered self.old.next_tx self.old.running self.new.next_tx self.new.running) }
+        ensures inodes { IfOk result
+            (λ _. KeepInodes self.old.files.entries self.new.files.entries (next_inode self.old.running)) }
+        ensures memory { IsFreeLine line → IsOk result }
+        ensures follows { EachFollows S.kind shelf.old shelf.new [] }
     {
-        match event {
-            Some(event) => self.event(shelf, event),
-            None => Ok(Answer::NotBuilt),
+        match line {
+            Ok(event) => self.event(shelf, event),
+            Err(bad) => Ok(bad),
         }
     }
 
@@ -93,9 +108,21 @@ impl State {
         requires number { self.old.number < 2 ^ 63 }
         requires next { self.old.next_tx < 2 ^ 63 }
         requires form { IsFormEvent event }
-        requires sound { IsSoundState S.view shelf.old self.old }
-        ensures step { IfOk result (IsStep S.view shelf.old shelf.new self.old self.new event) }
-        ensures follows { EachFollows S.follows shelf.old shelf.new [] }
+        requires sound { IsSoundState S.kind shelf.old self.old }
+        ensures goes_on { IfOk result
+            (GoesOn (engine S.kind) (step shelf.old shelf.new self.old self.new) (Ok event)) }
+        ensures lawful { IfOk result
+            (Obeys (engine S.kind) (step shelf.old shelf.new self.old self.new) (Ok event)) }
+        ensures stored { IfOk result
+            (Stores (engine S.kind) (step shelf.old shelf.new self.old self.new) (Ok event)) }
+        ensures caused { IfOk result
+            (IsCaused (engine S.kind) (step shelf.old shelf.new self.old self.new) (Ok event)) }
+        ensures numbered { IfOk result
+            (λ _. AreNumbered self.old.next_tx self.old.running self.new.next_tx self.new.running) }
+        ensures inodes { IfOk result
+            (λ _. KeepInodes self.old.files.entries self.new.files.entries (next_inode self.old.running)) }
+        ensures memory { IsFree event → IsOk result }
+        ensures follows { EachFollows S.kind shelf.old shelf.new [] }
     {
         match event {
             Event::Client(client, Verb::Begin) => Ok(self.begin(shelf, client)),
@@ -109,16 +136,16 @@ impl State {
 
     /// Takes a server down.
     fn down<S: SliceStore>(&mut self, shelf: &Shelf<S>, k: u64) -> Answer
-        requires sound { IsSoundState S.view shelf.now self.old }
-        ensures { IsStep S.view shelf.now shelf.now self.old self.new (Event.Down k) result }
+        requires sound { IsSoundState S.kind shelf.now self.old }
+        ensures { IsStep S.kind shelf.now shelf.now self.old self.new (Event.Down k) result }
     {
         self.cluster.down(k)
     }
 
     /// Brings a server up.
     fn up<S: SliceStore>(&mut self, shelf: &Shelf<S>, k: u64) -> Answer
-        requires sound { IsSoundState S.view shelf.now self.old }
-        ensures { IsStep S.view shelf.now shelf.now self.old self.new (Event.Up k) result }
+        requires sound { IsSoundState S.kind shelf.now self.old }
+        ensures { IsStep S.kind shelf.now shelf.now self.old self.new (Event.Up k) result }
     {
         self.cluster.up(k)
     }
@@ -126,8 +153,8 @@ impl State {
     /// Begins a transaction, which takes the next number.
     fn begin<S: SliceStore>(&mut self, shelf: &Shelf<S>, client: u8) -> Answer
         requires next { self.old.next_tx < 2 ^ 63 }
-        requires sound { IsSoundState S.view shelf.now self.old }
-        ensures { IsStep S.view shelf.now shelf.now self.old self.new (Event.Client client Verb.Begin) result }
+        requires sound { IsSoundState S.kind shelf.now self.old }
+        ensures { IsStep S.kind shelf.now shelf.now self.old self.new (Event.Client client Verb.Begin) result }
     {
         if self.running.is_some() {
             return Answer::NotBuilt;
@@ -145,8 +172,8 @@ impl State {
     /// Commits the transaction that runs.
     fn commit<S: SliceStore>(&mut self, shelf: &Shelf<S>, client: u8) -> Answer
         requires number { self.old.number < 2 ^ 63 }
-        requires sound { IsSoundState S.view shelf.now self.old }
-        ensures { IsStep S.view shelf.now shelf.now self.old self.new (Event.Client client Verb.Try) result }
+        requires sound { IsSoundState S.kind shelf.now self.old }
+        ensures { IsStep S.kind shelf.now shelf.now self.old self.new (Event.Client client Verb.Try) result }
     {
         let Some(running) = &self.running else {
             return Answer::NotBuilt;
@@ -166,10 +193,10 @@ impl State {
         client: u8,
         op: Op<Bytes>,
     ) -> Result<Answer, OutOfMemory>
-        requires form { IsFormEvent (Event.Client client (Verb.Call op)) }
-        requires sound { IsSoundState S.view shelf.old self.old }
-        ensures step { IfOk result (IsStep S.view shelf.old shelf.new self.old self.new (Event.Client client (Verb.Call op))) }
-        ensures follows { EachFollows S.follows shelf.old shelf.new [] }
+        requires sound { IsSoundState S.kind shelf.old self.old }
+        ensures step { IfOk result
+            (IsStep S.kind shelf.old shelf.new self.old self.new (Event.Client client (Verb.Call op))) }
+        ensures follows { EachFollows S.kind shelf.old shelf.new [] }
     {
         let Some(mut running) = self.running.take() else {
             return Ok(Answer::NotBuilt);

@@ -1,11 +1,15 @@
 //! Whole runs over devices in memory.
 
-ghost use Rattle.std.specs.Prelude.{◌≡◌, ◌≤◌, length, IfOk};
+ghost use Rattle.std.specs.Prelude.{◌≡◌, ◌≤◌, [], Some, length, IfOk};
+ghost use Rattle.wtf_cli.specs.Runs.{IsTold, new_opening};
+ghost use Rattle.wtf_cli.specs.Scripts.{IsEndStatus};
 
+use crate::open_stores;
 use crate::program::wtf;
 use crate::service::serve;
 use std::alloc::Global;
 use std::test::Fail;
+use std::{env, fs, process};
 use wtf_base::Settings;
 use wtf_dev::{MemKeeper, MemSink, MemSource, MemStore, Shelf, SliceStore};
 
@@ -36,6 +40,23 @@ const THREE_OUTPUT: &[u8] =
 /// stays empty.
 const THREE_UNWRITTEN: &[u8] =
     b"wtf servers 3 replicas 2 region 65536 number 0\nbegun 0\nok\nok\nok\nfault write\nok\ndata x:\nok\nfault write\nok\nok\ndata x:\nok\nok\nok\ndata x:\ncommitted 1\n";
+
+/// Over other settings, each kind of answer at least once: a path that is there, one that is not, a label that is not open,
+/// an empty write, a seek elsewhere, a second transaction, a bad byte.
+const EACH_SCRIPT: &[u8] =
+    b"c0 begin\nc0 create /a\nc0 create /a\nc0 open f0 /b\nc0 read f1 1\nc0 open f0 /a\nc0 write f0 t:\nc0 write f0 t:abc\nc0 seek f0 set 1\nc0 read f0 8\nc0 seek f0 end 0\nc1 begin\n\x01\nsys down 5\nc0 try\nc1 begin\nc1 open f0 /a\nc1 read f0 9\nc1 try\n";
+
+const EACH_OUTPUT: &[u8] =
+    b"wtf servers 5 replicas 3 region 64 number 0\nbegun 0\nok\nrefused exists\nrefused noent\nrefused nohandle\nok\nok\nok\nok\ndata x:6263\nbad count\nnotbuilt\nbad byte\nrefused noserver\ncommitted 1\nbegun 1\nok\ndata x:616263\ncommitted 2\n";
+
+/// Lines with each kind of fault; a line of 65,537 bytes stands between the two parts, and the last has no line feed.
+const BAD_FRONT: &[u8] = b"c0 fly\nc0 write f0 x:123\n";
+
+const BAD_BACK: &[u8] =
+    b"\n c0 begin\nc32 begin\nc0 read f0 8193\nc0 mkdir a\nc0 mkdir /a/\n\nc0 seek f0 end 3\nc0 tell h0\nc0 begin";
+
+const BAD_OUTPUT: &[u8] =
+    b"wtf servers 4 replicas 2 region 65536 number 0\nbad verb\nbad data\nbad long\nbad space\nbad actor\nbad limit\nbad path 2\nbad path 6\nbad empty\nbad count\nbad handle\nbegun 0\n";
 
 /// No calls, or the one with this number.
 fn calls(alloc: Global, number: Option<u64>) -> Result<Vec<u64>, Fail> {
@@ -75,12 +96,30 @@ fn run(
     Ok((status, out.taken().to_vec(alloc)?))
 }
 
-/// The status and the output of a script over these stores.
+/// The status and the output of a script over these stores. Devices in memory tell what they hold, so a run that reads its
+/// script to its end answers each line as one tree would, on which committed transactions ran whole.
 fn answers(
     alloc: Global,
     settings: Settings,
     script: &[u8],
     shelf: &mut Shelf<MemStore>,
+) -> Result<(u8, Vec<u8>), Fail>
+    ensures { IfOk result (λ r. IsEndStatus r.0 →
+        IsTold (new_opening settings (Some [])) script.now r.1.items) }
+{
+    let mut script = MemSource::new(alloc, script.to_vec(alloc)?, Vec::new(alloc));
+    let mut out = MemSink::new(alloc, Vec::new(alloc));
+    let mut keeper = MemKeeper::new(alloc, Vec::new(alloc), Vec::new(alloc));
+    let status = serve(alloc, settings, &mut script, &mut out, shelf, &mut keeper);
+    Ok((status, out.taken().to_vec(alloc)?))
+}
+
+/// The same over any stores.
+fn answers_over<S: SliceStore>(
+    alloc: Global,
+    settings: Settings,
+    script: &[u8],
+    shelf: &mut Shelf<S>,
 ) -> Result<(u8, Vec<u8>), Fail> {
     let mut script = MemSource::new(alloc, script.to_vec(alloc)?, Vec::new(alloc));
     let mut out = MemSink::new(alloc, Vec::new(alloc));
@@ -89,13 +128,47 @@ fn answers(
     Ok((status, out.taken().to_vec(alloc)?))
 }
 
+/// The words of a line, which stand apart by single spaces.
+fn words_of(alloc: Global, line: &str) -> Result<Vec<String>, Fail> {
+    let mut words = Vec::new(alloc);
+    for word in line.split(' ').filter(|word| !word.is_empty()) {
+        words.push(word.to_string(alloc)?)?;
+    }
+    Ok(words)
+}
+
+/// Words and the status of a run with them: refused words write nothing.
 #[test]
-fn a_word_is_refused(rt: HostRuntime) -> Result<(), Fail> {
+fn words_have_their_status(rt: HostRuntime) -> Result<(), Fail> {
     let alloc = rt.alloc();
-    let words = vec![in alloc; "--servers".to_string(alloc)?]?;
-    let (status, output) = run(alloc, words.as_slice(), None, None)?;
-    assert_eq!(rt; status, 2);
-    assert!(rt; output.is_empty());
+    for (line, status) in [
+        ("", 0),
+        ("--servers 2", 0),
+        ("--servers=16 --replicas=3 --region=1048576", 0),
+        ("--region 64 --replicas 1 --servers 1", 0),
+        ("--servers 17", 2),
+        ("--servers 0", 2),
+        ("--region 63", 2),
+        ("--region 1048577", 2),
+        ("--replicas 4", 2),
+        ("--servers 2 --replicas 3", 2),
+        ("--servers 3 --servers 3", 2),
+        ("--servers", 2),
+        ("--servers +3", 2),
+        ("--servers 03", 2),
+        ("--gen 1", 2),
+        ("--lines 1", 2),
+        ("--help", 2),
+        ("3", 2),
+    ] {
+        let words = words_of(alloc, line)?;
+        let (ended, output) = run(alloc, words.as_slice(), None, None)?;
+        assert_eq!(rt; ended, status, "{line}");
+        assert_eq!(rt; output.is_empty(), status == 2, "{line}");
+    }
+    let words = words_of(alloc, "--servers=5 --replicas=3 --region=64")?;
+    let (_, output) = run(alloc, words.as_slice(), None, None)?;
+    assert!(rt; output.starts_with(b"wtf servers 5 replicas 3 region 64 number 0\n".as_slice()));
     Ok(())
 }
 
@@ -115,27 +188,56 @@ fn too_few_stores_are_refused(rt: HostRuntime) -> Result<(), Fail> {
     Ok(())
 }
 
+/// An empty script has the settings line alone.
 #[test]
-fn the_first_script_is_answered(rt: HostRuntime) -> Result<(), Fail> {
-    let (status, output) = run(rt.alloc(), &[], None, None)?;
-    assert_eq!(rt; status, 0);
-    assert_eq!(rt; output.as_slice(), OUTPUT);
+fn scripts_are_answered(rt: HostRuntime) -> Result<(), Fail> {
+    let alloc = rt.alloc();
+    for (servers, replicas, region, script, want, status) in [
+        (4, 2, 65_536, &[] as &[u8], FIRST_LINE, 0),
+        (4, 2, 65_536, SCRIPT, OUTPUT, 0),
+        (2, 2, 65_536, DOWN_SCRIPT, DOWN_OUTPUT, 0),
+        (3, 2, 65_536, THREE_SCRIPT, THREE_OUTPUT, 0),
+        (5, 3, 64, EACH_SCRIPT, EACH_OUTPUT, 1),
+    ] {
+        let settings = Settings::new(servers, replicas, region).ok_or("settings")?;
+        let mut shelf = stores(alloc, 16, 0, None)?;
+        let (ended, output) = answers(alloc, settings, script, &mut shelf)?;
+        assert_eq!(rt; ended, status, "{servers} servers");
+        assert_eq!(rt; output.as_slice(), want, "{servers} servers");
+    }
+    Ok(())
+}
+
+/// The same over folders, and over what a run before this one left in them.
+#[test]
+fn scripts_are_answered_over_folders(rt: HostRuntime) -> Result<(), Fail> {
+    let alloc = rt.alloc();
+    let top = env::temp_dir(&rt)?;
+    let id = process::id(rt.process());
+    let dir = format!(in alloc; "{}/wtf_cli_{id}", top.as_str())?;
+    let _ = fs::remove_dir_all(&rt, dir.as_str());
+    let settings = Settings::new(3, 2, 65_536).ok_or("settings")?;
+    for _ in 0..2u8 {
+        let mut shelf = Shelf::new(alloc, open_stores(&rt, dir.as_str())?);
+        let (status, output) = answers_over(alloc, settings, THREE_SCRIPT, &mut shelf)?;
+        assert_eq!(rt; status, 0);
+        assert_eq!(rt; output.as_slice(), THREE_OUTPUT);
+    }
+    fs::remove_dir_all(&rt, dir.as_str())?;
     Ok(())
 }
 
 #[test]
-fn servers_go_down_and_come_up(rt: HostRuntime) -> Result<(), Fail> {
+fn ill_formed_lines_are_told(rt: HostRuntime) -> Result<(), Fail> {
     let alloc = rt.alloc();
-    for (servers, script, want) in [
-        (2, DOWN_SCRIPT, DOWN_OUTPUT),
-        (3, THREE_SCRIPT, THREE_OUTPUT),
-    ] {
-        let settings = Settings::new(servers, 2, 65_536).ok_or("settings")?;
-        let mut shelf = stores(alloc, 16, 0, None)?;
-        let (status, output) = answers(alloc, settings, script, &mut shelf)?;
-        assert_eq!(rt; status, 0, "{servers} servers");
-        assert_eq!(rt; output.as_slice(), want, "{servers} servers");
-    }
+    let settings = Settings::new(4, 2, 65_536).ok_or("settings")?;
+    let mut script = BAD_FRONT.to_vec(alloc)?;
+    script.extend_from_slice(vec![in alloc; b'a'; 65_537]?.as_slice())?;
+    script.extend_from_slice(BAD_BACK)?;
+    let mut shelf = stores(alloc, 4, 0, None)?;
+    let (status, output) = answers(alloc, settings, script.as_slice(), &mut shelf)?;
+    assert_eq!(rt; status, 1);
+    assert_eq!(rt; output.as_slice(), BAD_OUTPUT);
     Ok(())
 }
 

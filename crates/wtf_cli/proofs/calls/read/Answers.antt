@@ -10,7 +10,7 @@ use Rattle.wtf_cli.proofs.ByteSteps.{read_shut, read_done, read_failed}
 use Rattle.wtf_cli.proofs.calls.read.Goals as goal
 
 pub returns-in_default-clause-call : goal.returns-in_default-clause-call
-returns-in_default-clause-call g c = read_shut g.S.SliceStore.view c.args.shelf.now c.args.cluster.now c.args.files.now.entries c.args.handles.now.entries c.args.label c.args.count c.requires.files c.requires.handles
+returns-in_default-clause-call g c = read_shut g.S.SliceStore.kind c.args.shelf.now c.args.cluster.now c.args.files.now.entries c.args.handles.now.entries c.args.label c.args.count c.requires.files c.requires.handles
     (sym c.in_default.ensures.value)
 
 -- a handle is on a file
@@ -19,8 +19,8 @@ unreachable-requires g c = not_none _ (c.requires.handles c.args.label c.in-Some
 
 pub returns-in-Err-Read-clause-call : goal.returns-in-Err-Read-clause-call
 returns-in-Err-Read-clause-call g c =
-    subst (λ (k : ServerId). IsCall g.S.SliceStore.view c.args.shelf.now c.read_at.new.shelf c.args.cluster.now c.args.files.now.entries c.args.files.now.entries c.args.handles.now.entries c.args.handles.now.entries (Op.Read c.args.label c.args.count) (Called.Failed (Answer.FaultRead k.0))) (sym c.in-Err-Read.server-is)
-    (read_failed g.S.SliceStore.view g.S.SliceStore.follows g.met.S.SliceStore.keeps c.args.shelf.now c.read_at.new.shelf c.args.cluster.now c.args.files.now.entries c.args.handles.now.entries c.args.label c.args.count c.in-Some.handle.now c.in-Some-get.file.now c.in-Err-Read.server.0
+    subst (λ (k : ServerId). IsCall g.S.SliceStore.kind c.args.shelf.now c.read_at.new.shelf c.args.cluster.now c.args.files.now.entries c.args.files.now.entries c.args.handles.now.entries c.args.handles.now.entries (Op.Read c.args.label c.args.count) (Called.Failed (Answer.FaultRead k.0))) (sym c.in-Err-Read.server-is)
+    (read_failed g.S.SliceStore.kind g.met.S.SliceStore.laws c.args.shelf.now c.read_at.new.shelf c.args.cluster.now c.args.files.now.entries c.args.handles.now.entries c.args.label c.args.count c.in-Some.handle.now c.in-Some-get.file.now c.in-Err-Read.server.0
     c.requires.files c.requires.handles (sym c.in-Some.ensures.value) (sym c.in-Some-get.ensures.value) (rw c.in-Err-Read.field-0-is at c.in-Err-Read.ensures.fault) c.in-Err-Read.ensures.lengths c.in-Err-Read.ensures.follows)
 
 pub overflow_add-end : goal.overflow_add-end
@@ -36,7 +36,7 @@ overflow_add-end g c = omega (
 pub returns-clause-call : goal.returns-clause-call
 returns-clause-call g c =
     let opened = sym c.in-Some.ensures.value in
-    subst (λ (xs : List ℕ). IsCall g.S.SliceStore.view c.args.shelf.now c.read_at.new.shelf c.args.cluster.now c.args.files.now.entries c.args.files.now.entries c.args.handles.now.entries c.move_handle.new.handles.entries (Op.Read c.args.label c.args.count) (Called.Logged (Answer.Shown xs))) (sym c.of.ensures)
-    (read_done g.S.SliceStore.view g.S.SliceStore.follows g.met.S.SliceStore.keeps c.args.shelf.now c.read_at.new.shelf c.args.cluster.now c.args.files.now.entries c.args.handles.now.entries c.move_handle.new.handles.entries c.args.label c.args.count c.in-Some.handle.now c.in-Some-get.file.now c.in-Ok.bytes.items (c.in-Some.handle.now.off + c.len.result)
+    subst (λ (xs : List ℕ). IsCall g.S.SliceStore.kind c.args.shelf.now c.read_at.new.shelf c.args.cluster.now c.args.files.now.entries c.args.files.now.entries c.args.handles.now.entries c.move_handle.new.handles.entries (Op.Read c.args.label c.args.count) (Called.Logged (Answer.Shown xs))) (sym c.of.ensures)
+    (read_done g.S.SliceStore.kind g.met.S.SliceStore.laws c.args.shelf.now c.read_at.new.shelf c.args.cluster.now c.args.files.now.entries c.args.handles.now.entries c.move_handle.new.handles.entries c.args.label c.args.count c.in-Some.handle.now c.in-Some-get.file.now c.in-Ok.bytes.items (c.in-Some.handle.now.off + c.len.result)
     c.requires.files c.requires.handles opened (sym c.in-Some-get.ensures.value) c.in-Ok.ensures.size c.in-Ok.ensures.bytes c.in-Ok.ensures.lengths c.in-Ok.ensures.follows (omega (arith, c.len.ensures))
     (moved_open c.args.handles.now.entries c.move_handle.new.handles.entries c.args.label (c.in-Some.handle.now.off + c.len.result) c.move_handle.result c.in-Some.handle.now c.move_handle.ensures.closed c.move_handle.ensures.moved opened))

@@ -9,11 +9,11 @@ use Rattle.wtf_cli.proofs.ByteSteps.{write_shut, write_none, write_some, write_s
 use Rattle.wtf_cli.proofs.calls.write.Goals as goal
 
 pub returns-in_default-clause-call : goal.returns-in_default-clause-call
-returns-in_default-clause-call g c = write_shut g.S.SliceStore.view c.args.shelf.now c.args.cluster.now c.args.files.now.entries c.args.handles.now.entries c.args.label c.args.bytes.now c.requires.files c.requires.handles
+returns-in_default-clause-call g c = write_shut g.S.SliceStore.kind c.args.shelf.now c.args.cluster.now c.args.files.now.entries c.args.handles.now.entries c.args.label c.args.bytes.now c.requires.files c.requires.handles
     (sym c.in_default.ensures.value)
 
 pub returns-then-is_empty-clause-call : goal.returns-then-is_empty-clause-call
-returns-then-is_empty-clause-call g c = write_none g.S.SliceStore.view c.args.shelf.now c.args.cluster.now c.args.files.now.entries c.args.handles.now.entries c.args.label c.args.bytes.now c.in-Some.handle.now c.requires.files c.requires.handles
+returns-then-is_empty-clause-call g c = write_none g.S.SliceStore.kind c.args.shelf.now c.args.cluster.now c.args.files.now.entries c.args.handles.now.entries c.args.label c.args.bytes.now c.in-Some.handle.now c.requires.files c.requires.handles
     (sym c.in-Some.ensures.value) (nil_from_length _ (eqb-true _ _ (sym c.is_empty.ensures ∙ c.if-is_empty.true)))
 
 pub overflow_sub-cluster : goal.overflow_sub-cluster
@@ -28,7 +28,7 @@ returns-in-Fault-clause-call g c =
     let opened = sym c.in-Some.ensures.value in
     let found = sym c.in-Some-get_mut.ensures.value in
     let ne : length c.args.bytes.now ≡ 0 → ⊥ = eqb-false _ _ (sym c.is_empty.ensures ∙ c.if-is_empty.false) in
-    write_some_failed g.S.SliceStore.view g.S.SliceStore.follows g.met.S.SliceStore.keeps c.args.shelf.now c.write_at.new.shelf c.args.cluster.now c.args.files.now.entries (c.get_mut.follows.lender c.write_at.new.self).entries c.args.handles.now.entries c.args.label c.args.bytes.now c.in-Some.handle.now c.in-Some-get_mut.file.now
+    write_some_failed g.S.SliceStore.kind g.met.S.SliceStore.laws c.args.shelf.now c.write_at.new.shelf c.args.cluster.now c.args.files.now.entries (c.get_mut.follows.lender c.write_at.new.self).entries c.args.handles.now.entries c.args.label c.args.bytes.now c.in-Some.handle.now c.in-Some-get_mut.file.now
     (omega (arith, ne)) c.requires.files c.requires.handles opened found
     ((c.get_mut.follows.holds c.write_at.new.self).0 ∙ set_value_same _ _ _ (found ∙ ap Some (sym (c.in-Fault.ensures.same refl))))
     (omega (arith, c.if-bytes-cluster.false, (c.requires.handles c.args.label c.in-Some.handle.now opened).0)) (c.in-Fault.ensures.fault refl) c.in-Fault.ensures.follows
@@ -38,7 +38,7 @@ returns-in-Done-clause-call g c =
     let opened = sym c.in-Some.ensures.value in
     let found = sym c.in-Some-get_mut.ensures.value in
     let ne : length c.args.bytes.now ≡ 0 → ⊥ = eqb-false _ _ (sym c.is_empty.ensures ∙ c.if-is_empty.false) in
-    write_some g.S.SliceStore.view g.S.SliceStore.follows g.met.S.SliceStore.keeps c.args.shelf.now c.write_at.new.shelf c.args.cluster.now c.args.files.now.entries (c.get_mut.follows.lender c.write_at.new.self).entries c.args.handles.now.entries c.move_handle.new.handles.entries c.args.label c.args.bytes.now c.in-Some.handle.now c.in-Some-get_mut.file.now c.write_at.new.self (c.in-Some.handle.now.off + length c.args.bytes.now)
+    write_some g.S.SliceStore.kind g.met.S.SliceStore.laws c.args.shelf.now c.write_at.new.shelf c.args.cluster.now c.args.files.now.entries (c.get_mut.follows.lender c.write_at.new.self).entries c.args.handles.now.entries c.move_handle.new.handles.entries c.args.label c.args.bytes.now c.in-Some.handle.now c.in-Some-get_mut.file.now c.write_at.new.self (c.in-Some.handle.now.off + length c.args.bytes.now)
     (omega (arith, ne)) c.requires.files c.requires.handles opened found
     ((c.get_mut.follows.holds c.write_at.new.self).3 (c.requires.handles c.args.label c.in-Some.handle.now opened).1).0
     (c.in-Done.ensures.sound refl) (c.in-Done.ensures.end refl)

@@ -1,97 +1,105 @@
-use Rattle.std.proofs.Common.{◌≡◌, ◌++◌, ℕ, List, [], Some, refl, sym, ◌∙◌, ap, subst, arith, inl, inr}
-use Rattle.std.proofs.lemmas.List.{append-nil}
-use Rattle.wtf_cli.specs.Texts.{settings_text}
-use Rattle.wtf_cli.specs.Reading.{Held}
+use Rattle.std.proofs.Common.{◌≡◌, ◌≤◌, ◌++◌, ℕ, Bool, false, List, length, Option, Some, None, Result, Ok, Err, sym, ◌∙◌, ap, subst, arith}
+use Rattle.std.proofs.Math.Path.{fun_ext}
+use Rattle.wtf_cli.specs.declared.service.Stop.{Stop}
+use Rattle.wtf_script.specs.Reading.{Held}
+use Rattle.wtf_cli.specs.LineSteps.{engine}
+use Rattle.wtf_cli.specs.Passes.{input, hand, PassIs}
+use Rattle.wtf_cli.specs.Runs.{devices, Served, new_opening, first_line}
 use Rattle.wtf_cli.proofs.Starting.{sound_first, stands_first}
-use Rattle.wtf_cli.proofs.Going.{Going, going_none, going_on, finish_end, finish_unread, finish_unwritten, finish_too_much, finish_memory, unstarted, refused}
+use Rattle.wtf_cli.proofs.Going.{Going, going_none, going_on, finish_end, finish_stop, unstarted, unwritten, refused}
 use Rattle.wtf_cli.proofs.service.serve.Goals as goal
 
 pub returns-then-len-settings-clause-served : goal.returns-then-len-settings-clause-served
 returns-then-len-settings-clause-served g c =
-    refused g.S.SliceStore.view g.S.SliceStore.follows g.met.S.SliceStore.follows_itself c.args.settings (g.K.Keeper.view c.args.keeper.now).held (g.I.Source.view c.args.script.now) (g.O.Sink.view c.args.out.now) (g.O.Sink.view c.args.out.now) c.args.shelf.now (omega (arith, c.if-len-settings.true, c.len.ensures.value)) refl
+    let kind = g.S.SliceStore.kind in
+    let laws = g.met.S.SliceStore.laws in
+    let start = devices (g.I.Source.view c.args.script.now) (g.O.Sink.view c.args.out.now) c.args.shelf.now in
+    refused kind laws (new_opening c.args.settings (g.K.Keeper.view c.args.keeper.now).held) start (omega (arith, c.if-len-settings.true, c.len.ensures.value))
 
 pub returns-in_default-clause-served : goal.returns-in_default-clause-served
 returns-in_default-clause-served g c =
-    unstarted g.S.SliceStore.view g.S.SliceStore.follows g.met.S.SliceStore.follows_itself c.args.settings (g.K.Keeper.view c.args.keeper.now).held (g.I.Source.view c.args.script.now) (g.O.Sink.view c.args.out.now) (g.O.Sink.view c.args.out.now) c.args.shelf.now 7
-    (inr refl) (omega (arith, c.if-len-settings.false, c.len.ensures.value))
-    (λ old e. ([], settings_text c.args.settings 0, refl, e ∙ ap (λ (x : List ℕ). Some x) (sym (append-nil old)))) (λ e. absurd (omega (arith, e))) (omega arith)
+    let kind = g.S.SliceStore.kind in
+    let laws = g.met.S.SliceStore.laws in
+    let start = devices (g.I.Source.view c.args.script.now) (g.O.Sink.view c.args.out.now) c.args.shelf.now in
+    unstarted kind laws (new_opening c.args.settings (g.K.Keeper.view c.args.keeper.now).held) start (omega (arith, c.if-len-settings.false, c.len.ensures.value))
 
 pub returns-in_default-new-clause-served : goal.returns-in_default-new-clause-served
 returns-in_default-new-clause-served g c =
-    unstarted g.S.SliceStore.view g.S.SliceStore.follows g.met.S.SliceStore.follows_itself c.args.settings (g.K.Keeper.view c.args.keeper.now).held (g.I.Source.view c.args.script.now) (g.O.Sink.view c.args.out.now) (g.O.Sink.view c.args.out.now) c.args.shelf.now 7
-    (inr refl) (omega (arith, c.if-len-settings.false, c.len.ensures.value))
-    (λ old e. ([], settings_text c.args.settings 0, refl, e ∙ ap (λ (x : List ℕ). Some x) (sym (append-nil old)))) (λ e. absurd (omega (arith, e))) (omega arith)
+    let kind = g.S.SliceStore.kind in
+    let laws = g.met.S.SliceStore.laws in
+    let start = devices (g.I.Source.view c.args.script.now) (g.O.Sink.view c.args.out.now) c.args.shelf.now in
+    unstarted kind laws (new_opening c.args.settings (g.K.Keeper.view c.args.keeper.now).held) start (omega (arith, c.if-len-settings.false, c.len.ensures.value))
 
 pub returns-in_default-push_settings-clause-served : goal.returns-in_default-push_settings-clause-served
 returns-in_default-push_settings-clause-served g c =
-    unstarted g.S.SliceStore.view g.S.SliceStore.follows g.met.S.SliceStore.follows_itself c.args.settings (g.K.Keeper.view c.args.keeper.now).held (g.I.Source.view c.args.script.now) (g.O.Sink.view c.args.out.now) (g.O.Sink.view c.args.out.now) c.args.shelf.now 7
-    (inr refl) (omega (arith, c.if-len-settings.false, c.len.ensures.value))
-    (λ old e. ([], settings_text c.args.settings 0, refl, e ∙ ap (λ (x : List ℕ). Some x) (sym (append-nil old)))) (λ e. absurd (omega (arith, e))) (omega arith)
+    let kind = g.S.SliceStore.kind in
+    let laws = g.met.S.SliceStore.laws in
+    let start = devices (g.I.Source.view c.args.script.now) (g.O.Sink.view c.args.out.now) c.args.shelf.now in
+    unstarted kind laws (new_opening c.args.settings (g.K.Keeper.view c.args.keeper.now).held) start (omega (arith, c.if-len-settings.false, c.len.ensures.value))
 
 pub returns-in_default-write_all-clause-served : goal.returns-in_default-write_all-clause-served
 returns-in_default-write_all-clause-served g c =
-    let text : c.as_slice.result.now ≡ settings_text c.args.settings 0 = c.as_slice.ensures.value ∙ c.in-Ok-push_settings.ensures ∙ ap (λ (x : List ℕ). x ++ settings_text c.args.settings 0) c.new-text.ensures.items in
-    unstarted g.S.SliceStore.view g.S.SliceStore.follows g.met.S.SliceStore.follows_itself c.args.settings (g.K.Keeper.view c.args.keeper.now).held (g.I.Source.view c.args.script.now) (g.O.Sink.view c.args.out.now) (g.O.Sink.view c.write_all.new.out) c.args.shelf.now 4
-    (inl refl) (omega (arith, c.if-len-settings.false, c.len.ensures.value))
+    let kind = g.S.SliceStore.kind in
+    let laws = g.met.S.SliceStore.laws in
+    let start = devices (g.I.Source.view c.args.script.now) (g.O.Sink.view c.args.out.now) c.args.shelf.now in
+    let opening = new_opening c.args.settings (g.K.Keeper.view c.args.keeper.now).held in
+    let text : c.as_slice.result.now ≡ first_line opening = c.as_slice.ensures.value ∙ c.in-Ok-push_settings.ensures ∙ ap (λ (x : List ℕ). x ++ first_line opening) c.new-text.ensures.items in
+    unwritten kind laws opening start (g.O.Sink.view c.write_all.new.out) (omega (arith, c.if-len-settings.false, c.len.ensures.value))
     (λ old e. let (front, back, all, new) = c.in_default-write_all.ensures.told old e in (front, back, sym text ∙ all, new))
-    (λ _. c.in_default-write_all.ensures.cause) c.write_all.ensures.faults
+    c.in_default-write_all.ensures.cause c.write_all.ensures.faults
 
-pub loop-text-init : goal.loop-text-init
-loop-text-init g c =
-    let text : c.as_slice.result.now ≡ settings_text c.args.settings 0 = c.as_slice.ensures.value ∙ c.in-Ok-push_settings.ensures ∙ ap (λ (x : List ℕ). x ++ settings_text c.args.settings 0) c.new-text.ensures.items in
-    subst (λ (held : Held). Going g.S.SliceStore.view g.S.SliceStore.follows c.args.settings (g.K.Keeper.view c.args.keeper.now).held (g.I.Source.view c.args.script.now) (g.I.Source.view c.args.script.now) (g.O.Sink.view c.args.out.now) (g.O.Sink.view c.write_all.new.out) c.args.shelf.now c.args.shelf.now held c.in-Ok-new.state)
+pub loop-more-init : goal.loop-more-init
+loop-more-init g c =
+    let kind = g.S.SliceStore.kind in
+    let laws = g.met.S.SliceStore.laws in
+    let start = devices (g.I.Source.view c.args.script.now) (g.O.Sink.view c.args.out.now) c.args.shelf.now in
+    let kept = (g.K.Keeper.view c.args.keeper.now).held in
+    let opening = new_opening c.args.settings kept in
+    let text : c.as_slice.result.now ≡ first_line opening = c.as_slice.ensures.value ∙ c.in-Ok-push_settings.ensures ∙ ap (λ (x : List ℕ). x ++ first_line opening) c.new-text.ensures.items in
+    let enough : c.args.settings.servers ≤ length c.args.shelf.now = omega (arith, c.if-len-settings.false, c.len.ensures.value) in
+    let state = c.in-Ok-new.state in
+    subst (λ (held : Held). Going (engine kind) opening start (hand (input (g.I.Source.view c.args.script.now) held) (g.O.Sink.view c.write_all.new.out) c.args.shelf.now state) false)
     (sym c.in-Ok.ensures)
-    (going_none g.S.SliceStore.view g.S.SliceStore.follows g.met.S.SliceStore.follows_itself c.args.settings (g.K.Keeper.view c.args.keeper.now).held (g.I.Source.view c.args.script.now) (g.O.Sink.view c.args.out.now) (g.O.Sink.view c.write_all.new.out) c.args.shelf.now c.in-Ok-new.state
-    (stands_first g.S.SliceStore.view c.args.shelf.now c.args.settings c.in-Ok-new.state c.in-Ok-new.ensures.settings c.in-Ok-new.ensures.up c.in-Ok-new.ensures.number c.in-Ok-new.ensures.files c.in-Ok-new.ensures.running)
-    (sound_first g.S.SliceStore.view c.args.shelf.now c.args.settings c.in-Ok-new.state (omega (arith, c.if-len-settings.false, c.len.ensures.value)) c.in-Ok-new.ensures.cluster c.in-Ok-new.ensures.settings c.in-Ok-new.ensures.files c.in-Ok-new.ensures.running)
-    c.in-Ok-new.ensures.settings c.in-Ok-new.ensures.number c.in-Ok-new.ensures.next
+    (going_none (engine kind) laws opening start (g.O.Sink.view c.write_all.new.out) state enough
+    (stands_first kind c.args.shelf.now c.args.settings kept state c.in-Ok-new.ensures.settings c.in-Ok-new.ensures.up c.in-Ok-new.ensures.number c.in-Ok-new.ensures.files c.in-Ok-new.ensures.running)
+    (fun_ext c.in-Ok-new.ensures.up)
+    (sound_first kind c.args.shelf.now c.args.settings state enough c.in-Ok-new.ensures.cluster c.in-Ok-new.ensures.settings c.in-Ok-new.ensures.files c.in-Ok-new.ensures.running)
+    (λ empty. tt) c.in-Ok-new.ensures.settings c.in-Ok-new.ensures.number c.in-Ok-new.ensures.next
     (λ old e. c.in-Ok-write_all.ensures.told old e ∙ ap (λ (x : List ℕ). Some (old ++ x)) text)
     c.write_all.ensures.faults)
 
-pub loop-text-preserved : goal.loop-text-preserved
-loop-text-preserved g c =
-    going_on g.S.SliceStore.view g.S.SliceStore.follows g.met.S.SliceStore.follows_itself g.met.S.SliceStore.keeps g.met.S.SliceStore.follows_on c.args.settings (g.K.Keeper.view c.args.keeper.now).held
-    (g.I.Source.view c.args.script.now) (g.I.Source.view c.loop-text.script) (g.I.Source.view c.pass.new.script)
-    (g.O.Sink.view c.args.out.now) (g.O.Sink.view c.loop-text.out) (g.O.Sink.view c.pass.new.out)
-    c.args.shelf.now c.loop-text.shelf c.pass.new.shelf c.loop-text.reader c.pass.new.reader c.loop-text.state c.pass.new.state
-    c.loop-text.invariant c.in-On.ensures.pass
+pub loop-more-preserved : goal.loop-more-preserved
+loop-more-preserved g c =
+    let kind = g.S.SliceStore.kind in
+    let laws = g.met.S.SliceStore.laws in
+    let start = devices (g.I.Source.view c.args.script.now) (g.O.Sink.view c.args.out.now) c.args.shelf.now in
+    let opening = new_opening c.args.settings (g.K.Keeper.view c.args.keeper.now).held in
+    let now = hand (input (g.I.Source.view c.loop-more.script) c.loop-more.lines) (g.O.Sink.view c.loop-more.out) c.loop-more.shelf c.loop-more.state in
+    let next = hand (input (g.I.Source.view c.pass.new.script) c.pass.new.lines) (g.O.Sink.view c.pass.new.out) c.pass.new.shelf c.pass.new.state in
+    let is : c.pass.result ≡ Ok (Some c.in-Ok-Some.more) = cc in
+    subst (λ (b : Bool). Going (engine kind) opening start next b) (sym c.either-bad.ensures)
+    (going_on (engine kind) laws opening start now next c.loop-more.bad c.loop-more.invariant c.in-Ok-Some.more (subst (λ (r : Result (Option Bool) Stop). PassIs (engine kind) now next r) is c.pass.ensures.pass))
 
-pub returns-in-End-clause-served : goal.returns-in-End-clause-served
-returns-in-End-clause-served g c =
-    finish_end g.S.SliceStore.view g.S.SliceStore.follows g.met.S.SliceStore.follows_itself g.met.S.SliceStore.keeps g.met.S.SliceStore.follows_on c.args.settings (g.K.Keeper.view c.args.keeper.now).held
-    (g.I.Source.view c.args.script.now) (g.I.Source.view c.loop-text.script) (g.I.Source.view c.pass.new.script)
-    (g.O.Sink.view c.args.out.now) (g.O.Sink.view c.loop-text.out) (g.O.Sink.view c.pass.new.out)
-    c.args.shelf.now c.loop-text.shelf c.pass.new.shelf c.loop-text.reader c.pass.new.reader c.loop-text.state c.pass.new.state
-    c.loop-text.invariant c.in-End.ensures.pass
+pub returns-in-Ok-None-clause-served : goal.returns-in-Ok-None-clause-served
+returns-in-Ok-None-clause-served g c =
+    let kind = g.S.SliceStore.kind in
+    let laws = g.met.S.SliceStore.laws in
+    let start = devices (g.I.Source.view c.args.script.now) (g.O.Sink.view c.args.out.now) c.args.shelf.now in
+    let opening = new_opening c.args.settings (g.K.Keeper.view c.args.keeper.now).held in
+    let now = hand (input (g.I.Source.view c.loop-more.script) c.loop-more.lines) (g.O.Sink.view c.loop-more.out) c.loop-more.shelf c.loop-more.state in
+    let next = hand (input (g.I.Source.view c.pass.new.script) c.pass.new.lines) (g.O.Sink.view c.pass.new.out) c.pass.new.shelf c.pass.new.state in
+    let is : c.pass.result ≡ Ok None = cc in
+    subst (λ (n : ℕ). Served kind opening n start (devices next.input.source next.sink next.shelf)) (sym c.ended.ensures)
+    (finish_end (engine kind) laws opening start now next c.loop-more.bad c.loop-more.invariant (subst (λ (r : Result (Option Bool) Stop). PassIs (engine kind) now next r) is c.pass.ensures.pass))
 
-pub returns-in-Unread-clause-served : goal.returns-in-Unread-clause-served
-returns-in-Unread-clause-served g c =
-    finish_unread g.S.SliceStore.view g.S.SliceStore.follows g.met.S.SliceStore.follows_itself g.met.S.SliceStore.keeps g.met.S.SliceStore.follows_on c.args.settings (g.K.Keeper.view c.args.keeper.now).held
-    (g.I.Source.view c.args.script.now) (g.I.Source.view c.loop-text.script) (g.I.Source.view c.pass.new.script)
-    (g.O.Sink.view c.args.out.now) (g.O.Sink.view c.loop-text.out) (g.O.Sink.view c.pass.new.out)
-    c.args.shelf.now c.loop-text.shelf c.pass.new.shelf c.loop-text.reader c.pass.new.reader c.loop-text.state c.pass.new.state
-    c.loop-text.invariant c.in-Unread.ensures.pass
-
-pub returns-in-Unwritten-clause-served : goal.returns-in-Unwritten-clause-served
-returns-in-Unwritten-clause-served g c =
-    finish_unwritten g.S.SliceStore.view g.S.SliceStore.follows g.met.S.SliceStore.follows_itself g.met.S.SliceStore.keeps g.met.S.SliceStore.follows_on c.args.settings (g.K.Keeper.view c.args.keeper.now).held
-    (g.I.Source.view c.args.script.now) (g.I.Source.view c.loop-text.script) (g.I.Source.view c.pass.new.script)
-    (g.O.Sink.view c.args.out.now) (g.O.Sink.view c.loop-text.out) (g.O.Sink.view c.pass.new.out)
-    c.args.shelf.now c.loop-text.shelf c.pass.new.shelf c.loop-text.reader c.pass.new.reader c.loop-text.state c.pass.new.state
-    c.loop-text.invariant c.in-Unwritten.ensures.pass
-
-pub returns-in-TooMuch-clause-served : goal.returns-in-TooMuch-clause-served
-returns-in-TooMuch-clause-served g c =
-    finish_too_much g.S.SliceStore.view g.S.SliceStore.follows g.met.S.SliceStore.follows_itself g.met.S.SliceStore.keeps g.met.S.SliceStore.follows_on c.args.settings (g.K.Keeper.view c.args.keeper.now).held
-    (g.I.Source.view c.args.script.now) (g.I.Source.view c.loop-text.script) (g.I.Source.view c.pass.new.script)
-    (g.O.Sink.view c.args.out.now) (g.O.Sink.view c.loop-text.out) (g.O.Sink.view c.pass.new.out)
-    c.args.shelf.now c.loop-text.shelf c.pass.new.shelf c.loop-text.reader c.pass.new.reader c.loop-text.state c.pass.new.state
-    c.loop-text.invariant c.in-TooMuch.ensures.pass
-
-pub returns-in-Memory-clause-served : goal.returns-in-Memory-clause-served
-returns-in-Memory-clause-served g c =
-    finish_memory g.S.SliceStore.view g.S.SliceStore.follows g.met.S.SliceStore.follows_itself g.met.S.SliceStore.keeps g.met.S.SliceStore.follows_on c.args.settings (g.K.Keeper.view c.args.keeper.now).held
-    (g.I.Source.view c.args.script.now) (g.I.Source.view c.loop-text.script) (g.I.Source.view c.pass.new.script)
-    (g.O.Sink.view c.args.out.now) (g.O.Sink.view c.loop-text.out) (g.O.Sink.view c.pass.new.out)
-    c.args.shelf.now c.loop-text.shelf c.pass.new.shelf c.loop-text.reader c.pass.new.reader c.loop-text.state c.pass.new.state
-    c.loop-text.invariant c.in-Memory.ensures.pass
+pub returns-in-Err-clause-served : goal.returns-in-Err-clause-served
+returns-in-Err-clause-served g c =
+    let kind = g.S.SliceStore.kind in
+    let laws = g.met.S.SliceStore.laws in
+    let start = devices (g.I.Source.view c.args.script.now) (g.O.Sink.view c.args.out.now) c.args.shelf.now in
+    let opening = new_opening c.args.settings (g.K.Keeper.view c.args.keeper.now).held in
+    let now = hand (input (g.I.Source.view c.loop-more.script) c.loop-more.lines) (g.O.Sink.view c.loop-more.out) c.loop-more.shelf c.loop-more.state in
+    let next = hand (input (g.I.Source.view c.pass.new.script) c.pass.new.lines) (g.O.Sink.view c.pass.new.out) c.pass.new.shelf c.pass.new.state in
+    let is : c.pass.result ≡ Err c.in-Err.stop = cc in
+    subst (λ (n : ℕ). Served kind opening n start (devices next.input.source next.sink next.shelf)) (sym c.status.ensures)
+    (finish_stop (engine kind) laws opening start now next c.loop-more.bad c.loop-more.invariant c.in-Err.stop (subst (λ (r : Result (Option Bool) Stop). PassIs (engine kind) now next r) is c.pass.ensures.pass))

@@ -1,10 +1,15 @@
-use Rattle.wtf_cli.specs.Reading.{work}
+use Rattle.wtf_script.specs.Reading.{work}
+use Rattle.wtf_cli.specs.LineSteps.{engine}
+use Rattle.wtf_cli.specs.Passes.{input, hand}
+use Rattle.wtf_cli.specs.Runs.{new_opening, devices}
 use Rattle.wtf_cli.proofs.Going.{Going}
 use Rattle.wtf_cli.proofs.service.serve.Given as goal
 
-abbrev pub invariant-loop-text : goal.invariant-loop-text
-invariant-loop-text g l =
-    Going g.S.SliceStore.view g.S.SliceStore.follows l.fn.settings (g.K.Keeper.view l.fn.keeper).held (g.I.Source.view l.fn.script) (g.I.Source.view l.script) (g.O.Sink.view l.fn.out) (g.O.Sink.view l.out) l.fn.shelf l.shelf l.reader l.state
+abbrev pub invariant-loop-more : goal.invariant-loop-more
+invariant-loop-more g l =
+    Going (engine g.S.SliceStore.kind) (new_opening l.fn.settings (g.K.Keeper.view l.fn.keeper).held)
+    (devices (g.I.Source.view l.fn.script) (g.O.Sink.view l.fn.out) l.fn.shelf)
+    (hand (input (g.I.Source.view l.script) l.lines) (g.O.Sink.view l.out) l.shelf l.state) l.bad
 
-abbrev pub decreases-loop-text : goal.decreases-loop-text
-decreases-loop-text g l = work l.reader
+abbrev pub decreases-loop-more : goal.decreases-loop-more
+decreases-loop-more g l = work l.lines

@@ -1,20 +1,19 @@
-use Rattle.std.proofs.Common.{◌≡◌, ◌+◌, ◌-◌, ℕ, List, [], ◌∷◌, ◌++◌, length, take, drop, replicate, arith, refl, sym, subst, length-drop, vec_len, Bool, true, false, cond}
+use Rattle.std.proofs.Common.{◌≡◌, ◌+◌, ◌-◌, ℕ, List, ◌++◌, length, take, drop, replicate, arith, sym, subst, length-drop, vec_len, Bool, true, false, cond}
 use Rattle.std.proofs.lemmas.List.{length-take}
 use Rattle.std.specs.Result.{is_ok}
 use Rattle.wtf_overlay.specs.declared.part.Part.{Part}
-use Rattle.wtf_replica.specs.Downs.{is_down}
-use Rattle.wtf_cli.specs.Stored.{ShowsPart}
-use Rattle.wtf_cli.proofs.Showing.{copy_shows, show_fault, held_inside, end_written}
+use Rattle.wtf_replica.specs.Downs.{is_down, during}
+use Rattle.wtf_cli.specs.Stored.{ShowsPart, IsUpPart}
+use Rattle.wtf_cli.proofs.Showing.{copy_shows, copy_up, show_fault, held_inside, end_written}
 use Rattle.wtf_cli.proofs.slices.show_piece.Goals as goal
 
 pub fetch-requires-clause-inside : goal.fetch-requires-clause-inside
 fetch-requires-clause-inside g c =
-    held_inside g.S.SliceStore.view (is_down c.args.replicas.now) c.args.shelf.now c.args.piece.now c.in-Held.slice c.in-Held.is c.requires.inside
+    held_inside g.S.SliceStore.kind (is_down c.args.replicas.now) c.args.shelf.now c.args.piece.now c.in-Held.slice c.in-Held.is c.requires.inside
 
 pub returns-in-Err-clause-fault : goal.returns-in-Err-clause-fault
 returns-in-Err-clause-fault g c =
-    show_fault g.S.SliceStore.view (is_down c.args.replicas.now) c.args.shelf.now c.fetch.new.shelf (c.args.piece.now ∷ []) c.args.piece.now c.in-Held.slice (0, omega arith, refl) c.in-Held.is
-    c.in-Err.why c.in-Err.ensures.fault
+    show_fault g.S.SliceStore.kind (during c.args.replicas.now c.args.shelf.now c.fetch.new.shelf) c.args.piece.now c.in-Held.slice c.in-Held.is c.in-Err.why c.in-Err.ensures.fault
 
 chosen : {X : Type 0} (b : Bool) (x y z : X) → z ≡ cond b x y → b ≡ true → z ≡ x
 chosen true x y z is h = is
@@ -34,6 +33,10 @@ returns-clause-bytes g c =
       c.fetch.new.out,
       end_written c.args.out.now.items xs c.resize.new.self.items c.fetch.new.out zeros _ _ a n c.resize.new.self.len from c.deref_mut.ensures.value items shown len,
       shown,
-      subst (λ (x : Part). ShowsPart g.S.SliceStore.view c.args.shelf.now x 0 c.fetch.new.out) (sym c.in-Held.is)
-          (copy_shows g.S.SliceStore.view (is_down c.args.replicas.now) c.args.shelf.now c.fetch.new.shelf c.in-Held.slice 0 c.fetch.new.out _ c.in_default-fetch.ensures.fetched),
+      subst (λ (x : Part). ShowsPart g.S.SliceStore.kind c.args.shelf.now x 0 c.fetch.new.out) (sym c.in-Held.is)
+          (copy_shows c.in_default-fetch.ensures.fetched),
     )
+
+pub returns-clause-up : goal.returns-clause-up
+returns-clause-up g c =
+    subst (λ (x : Part). IsUpPart (is_down c.args.replicas.now) x) (sym c.in-Held.is) (copy_up c.in_default-fetch.ensures.fetched)

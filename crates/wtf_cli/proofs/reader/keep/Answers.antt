@@ -1,8 +1,0 @@
-use Rattle.std.proofs.Common.{arith}
-use Rattle.std.proofs.lemmas.Grind.{common_steps}
-use Rattle.wtf_cli.proofs.Chunks.{kept}
-use Rattle.wtf_cli.proofs.reader.keep.Goals as goal
-
-pub returns-clause-items : goal.returns-clause-items
-returns-clause-items c =
-    kept 65537 c.args.line.now.items c.args.part.now c.extend_from_slice.new.self.items c.min-n.result c.requires (grind (arith, common_steps)) (grind (arith, common_steps))

@@ -1,0 +1,4 @@
+pub mod Files
+pub mod Gathers
+pub mod Folders
+pub mod Images

@@ -1,0 +1,202 @@
+//! The files of one server, in a folder of their own.
+
+ghost use Rattle.std.specs.Prelude.{◌≡◌, ◌≢◌, ◌<◌, ◌≤◌, ◌+◌, ◌-◌, ◌^◌, ℕ, List, true, Some, [], ◌∷◌, length, min, slice_set, slice_index_or, IfOk, OnOk, OnErr, if◌then◌else◌};
+ghost use Rattle.std.specs.Result.{is_err};
+ghost use Rattle.wtf_dev.specs.Counts.{Rose, risen};
+ghost use Rattle.wtf_dev.specs.Store.{Appended, Agrees, SameSizes, Kept};
+ghost use Rattle.wtf_real.specs.Folders.{folder_view, folder_store, folder_laws};
+
+use crate::OpenFault;
+use crate::counts::Faults;
+use crate::parts::{read_at, sync_all, write_at, zero_at};
+use std::fs::{self, OpenFile, OpenOptions};
+use std::io::{Read, Seek, Write};
+use std::marker::Model;
+use std::rt::Files;
+use wtf_dev::{Failed, SliceStore};
+
+// Every file is shorter than this, in bytes.
+const LIMIT: u64 = 1 << 61;
+
+/// A store of slices in eight files, which stay open. How long each is is the store's own number, read once when the file
+/// was opened: what an append that failed left behind it is overwritten by the next. It tells nothing.
+#[derive(Drop)]
+pub struct DirStore<F> {
+    files: [F; 8],
+    lengths: [u64; 8],
+    faults: Faults,
+    syncs: u64,
+}
+
+impl<F> Model for DirStore<F> {
+    ghost use Rattle.std.specs.Prelude.{ℕ, ◌<◌, ◌^◌};
+    ghost use Rattle.std.specs.List.{All};
+    ghost use Rattle.wtf_real.specs.Folders.{FolderState};
+
+    ghost Value = { FolderState };
+
+    ghost view = { λ d. record { faults = d.faults; syncs = d.syncs; lengths = d.lengths } };
+
+    ghost invariant = { λ d. All (λ (n : ℕ). n < 2 ^ 61) d.lengths };
+}
+
+/// A file of a folder, made where it is missing, and its length.
+fn open_file<R: Files + AllocGlobal>(
+    rt: &R,
+    path: &str,
+    file: u8,
+) -> Result<(R::File, u64), OpenFault>
+    ensures { IfOk result (λ opened. opened.1 < 2 ^ 61) }
+{
+    let Ok(name) = format!(in rt.alloc(); "{path}/{file}") else {
+        return Err(OpenFault::Memory);
+    };
+    let opened = OpenOptions::new()
+        .read(true)
+        .write(true)
+        .create(true)
+        .open(rt, name.as_str())?;
+    let len = opened.metadata()?.len();
+    if len >= LIMIT {
+        return Err(OpenFault::Failed);
+    }
+    Ok((opened, len))
+}
+
+impl<F: Read + Write + Seek + OpenFile + Drop> DirStore<F> {
+    /// The store in the folder of this path, which holds the files `0` to `7`: the folder, the folders above it and the
+    /// files are made where they are missing.
+    pub fn open<R: Files<File = F> + AllocGlobal>(
+        rt: &R,
+        path: &str,
+    ) -> Result<DirStore<F>, OpenFault>
+        ensures faults { IfOk result (λ d. d.faults ≡ 0) }
+        ensures syncs { IfOk result (λ d. d.syncs ≡ 0) }
+    {
+        fs::create_dir_all(rt, path)?;
+        let f0 = open_file(rt, path, 0)?;
+        let f1 = open_file(rt, path, 1)?;
+        let f2 = open_file(rt, path, 2)?;
+        let f3 = open_file(rt, path, 3)?;
+        let f4 = open_file(rt, path, 4)?;
+        let f5 = open_file(rt, path, 5)?;
+        let f6 = open_file(rt, path, 6)?;
+        let f7 = open_file(rt, path, 7)?;
+        Ok(DirStore {
+            lengths: [f0.1, f1.1, f2.1, f3.1, f4.1, f5.1, f6.1, f7.1],
+            files: [f0.0, f1.0, f2.0, f3.0, f4.0, f5.0, f6.0, f7.0],
+            faults: Faults::new(),
+            syncs: 0,
+        })
+    }
+}
+
+impl<F: Read + Write + Seek + OpenFile + Drop> SliceStore for DirStore<F> {
+    ghost kind = { folder_store };
+
+    ghost laws = { folder_laws };
+
+    fn length(&self, file: u8) -> u64 {
+        self.lengths[file as usize]
+    }
+
+    fn append(&mut self, file: u8, bytes: &[u8]) -> Result<u64, Failed>
+        requires { file < 8 }
+        ensures done { IfOk result
+            (Appended (folder_view self.old) (folder_view self.new) file bytes.now) }
+        ensures fits { IfOk result (λ at. at + length bytes.now < 2 ^ 61) }
+        ensures others { (f : ℕ) → f ≢ file →
+            (folder_view self.new).size f ≡ (folder_view self.old).size f }
+        ensures syncs { (folder_view self.new).syncs ≡ (folder_view self.old).syncs }
+        ensures follows { Kept (folder_view self.old) (folder_view self.new) [] }
+        ensures cause { OnErr result
+            (Rose (folder_view self.old).faults (folder_view self.new).faults) }
+
+        // It counts each error, and nothing else; after one no length changes.
+        ensures same { OnErr result (self.new.lengths ≡ self.old.lengths) }
+        ensures counted { self.new.faults ≡
+            (if is_err result then risen self.old.faults else self.old.faults) }
+    {
+        let at = self.lengths[file as usize];
+        let len = bytes.len() as u64;
+        if len >= LIMIT - at || write_at(&mut self.files[file as usize], at, bytes).is_err() {
+            return Err(self.faults.raise());
+        }
+        self.lengths[file as usize] = at + len;
+        Ok(at)
+    }
+
+    fn read(&mut self, file: u8, at: u64, out: &mut [u8]) -> Result<(), Failed>
+        requires file { file < 8 }
+        requires inside { at + length out.old ≤ (folder_view self.old).size file }
+        ensures bytes { OnOk result (Agrees (folder_view self.old) file at out.new) }
+        ensures sizes { SameSizes (folder_view self.old) (folder_view self.new) }
+        ensures syncs { (folder_view self.new).syncs ≡ (folder_view self.old).syncs }
+        ensures follows { Kept (folder_view self.old) (folder_view self.new) [] }
+        ensures cause { OnErr result
+            (Rose (folder_view self.old).faults (folder_view self.new).faults) }
+
+        // It counts each error, and nothing else.
+        ensures same { self.new.lengths ≡ self.old.lengths }
+        ensures counted { self.new.faults ≡
+            (if is_err result then risen self.old.faults else self.old.faults) }
+    {
+        if read_at(&mut self.files[file as usize], at, out).is_err() {
+            return Err(self.faults.raise());
+        }
+        Ok(())
+    }
+
+    fn punch(&mut self, file: u8, at: u64, len: u64) -> Result<(), Failed>
+        requires file { file < 8 }
+        requires inside { at + len ≤ (folder_view self.old).size file }
+        ensures zeros { OnOk result ((folder_view self.old).tells ≡ true → (i : ℕ) → at ≤ i →
+            i < at + len →
+            (folder_view self.new).told file i ≡ Some 0) }
+        ensures elsewhere { (f i b : ℕ) → f ≢ file → (folder_view self.old).told f i ≡ Some b →
+            (folder_view self.new).told f i ≡ Some b }
+        ensures before { (i b : ℕ) → i < at → (folder_view self.old).told file i ≡ Some b →
+            (folder_view self.new).told file i ≡ Some b }
+        ensures behind { (i b : ℕ) → at + len ≤ i → (folder_view self.old).told file i ≡ Some b →
+            (folder_view self.new).told file i ≡ Some b }
+        ensures sizes { SameSizes (folder_view self.old) (folder_view self.new) }
+        ensures syncs { (folder_view self.new).syncs ≡ (folder_view self.old).syncs }
+        ensures follows { Kept (folder_view self.old) (folder_view self.new)
+            (record { file = file; at = at; len = len } ∷ []) }
+        ensures cause { OnErr result
+            (Rose (folder_view self.old).faults (folder_view self.new).faults) }
+
+        // It counts each error, and nothing else.
+        ensures same { self.new.lengths ≡ self.old.lengths }
+        ensures counted { self.new.faults ≡
+            (if is_err result then risen self.old.faults else self.old.faults) }
+    {
+        if zero_at(&mut self.files[file as usize], at, len).is_err() {
+            return Err(self.faults.raise());
+        }
+        Ok(())
+    }
+
+    fn sync(&mut self) -> Result<(), Failed>
+        ensures synced { OnOk result
+            (Rose (folder_view self.old).syncs (folder_view self.new).syncs) }
+        ensures unsynced { OnErr result ((folder_view self.new).syncs ≡
+            (folder_view self.old).syncs) }
+        ensures sizes { SameSizes (folder_view self.old) (folder_view self.new) }
+        ensures follows { Kept (folder_view self.old) (folder_view self.new) [] }
+        ensures cause { OnErr result
+            (Rose (folder_view self.old).faults (folder_view self.new).faults) }
+
+        // It counts each error, and nothing else, and where there is none one sync.
+        ensures same { self.new.lengths ≡ self.old.lengths }
+        ensures counted { self.new.faults ≡
+            (if is_err result then risen self.old.faults else self.old.faults) }
+        ensures counts { OnOk result (self.new.syncs ≡ risen self.old.syncs) }
+    {
+        if sync_all(&self.files).is_err() {
+            return Err(self.faults.raise());
+        }
+        self.syncs = self.syncs.saturating_add(1);
+        Ok(())
+    }
+}
