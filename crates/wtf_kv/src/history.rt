@@ -33,6 +33,8 @@ pub(crate) struct History<K: StoreKey, C: Drop> {
     // The keys of which something may be dropped, and from `fresh` on those with a version made ready.
     touched: Vec<K>,
     fresh: usize,
+    // How many keys had something left to drop after the last time.
+    left: usize,
 }
 
 impl<K: StoreKey, C: Drop> Model for History<K, C> {
@@ -58,6 +60,7 @@ impl<K: StoreKey, C: Drop> History<K, C> {
             cells: BTreeMap::new(alloc),
             touched: Vec::new(alloc),
             fresh: 0,
+            left: 0,
         }
     }
 
@@ -128,6 +131,12 @@ impl<K: StoreKey, C: Drop> History<K, C> {
             pins,
         );
         self.fresh = self.touched.len();
+        self.left = self.touched.len();
+    }
+
+    /// Whether the keys to look at are twice those that were left the last time, and not few.
+    pub(crate) fn is_due(&self) -> bool {
+        self.touched.len() / 2 >= self.left.max(32)
     }
 
     /// Shows what was made ready under the next number.

@@ -1,6 +1,6 @@
 //! The store.
 
-ghost use Rattle.std.specs.Prelude.{◌≡◌, ℕ, ◌+◌, ◌<◌, ◌≤◌, ◌∷◌, [], ◌++◌, ◌^◌, IsTrue, OnErr, OnOk, IfOk, IfErr, nat_eq, count_by, cond};
+ghost use Rattle.std.specs.Prelude.{◌≡◌, ℕ, ◌+◌, ◌<◌, ◌≤◌, ◌⊎◌, ◌∷◌, [], ◌++◌, ◌^◌, IsTrue, OnErr, OnOk, IfOk, IfErr, nat_eq, count_by, cond};
 ghost use Rattle.std.specs.Option.{option_copied};
 ghost use Rattle.std.specs.Set.{remove_key};
 ghost use Rattle.std.specs.BTreeMap.{is_at};
@@ -149,6 +149,25 @@ impl<K: StoreKey, C: Cell> Kv<K, C> {
             version_of K.cmp self.old n }
     {
         self.history.prune(self.pins.as_slice());
+    }
+
+    /// Prunes, once there are twice as many keys to look at as had something left the last time: over
+    /// many installs that takes the time of a search among the keys for each change.
+    pub fn prune_when_due(&mut self)
+        ensures number { self.new.number ≡ self.old.number }
+        ensures pins { self.new.pins ≡ self.old.pins }
+        ensures kept { (q : K) → (versions_of K.cmp self.new q ≡ versions_of K.cmp self.old q) ⊎
+            (versions_of K.cmp self.new q ≡
+            kept_versions self.old.pins (versions_of K.cmp self.old q)) }
+        ensures maps { (n : ℕ) → IsTrue (is_live self.old n) → map_at K.cmp self.new n ≡
+            map_at K.cmp self.old n }
+        ensures versions { (n : ℕ) → IsTrue (is_live self.old n) → version_of K.cmp self.new n ≡
+            version_of K.cmp self.old n }
+    {
+        if !self.history.is_due() {
+            return;
+        }
+        self.prune();
     }
 
     /// Makes an install of the changes ready, with all memory that it takes. The first key whose delta
