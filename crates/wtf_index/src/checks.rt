@@ -1,12 +1,13 @@
 //! What a call needs of the paths that it names, or why it is refused. Refusals are tried in their order,
 //! and only the keys that are looked at are recorded.
 
-ghost use Rattle.std.specs.Prelude.{◌≡◌, [], IsTrue, IfOk, OnOk};
+ghost use Rattle.std.specs.Prelude.{◌≡◌, [], IsTrue, IfOk, OnOk, IfErr, true};
 ghost use Rattle.wtf_path.specs.Grammar.{IsPath};
 ghost use Rattle.wtf_path.specs.Parts.{parent_of};
 ghost use Rattle.wtf_kv.specs.Stores.{is_pinned};
 ghost use Rattle.wtf_occ.specs.Attempts.{Grows, GrowsBy};
 ghost use Rattle.wtf_meta.specs.Maps.{seen};
+ghost use Rattle.wtf_model.specs.Steps.{is_call_refusal};
 ghost use Rattle.wtf_index.specs.Checks.{target_of, source_of, directory_of, is_inner};
 ghost use Rattle.wtf_index.specs.Recorded.{target_keys, source_keys, directory_keys};
 
@@ -43,6 +44,7 @@ pub fn target(
 ) -> Result<Result<Path, Word>, OutOfMemory>
     requires { IsTrue (is_pinned kv.now at.old.base) }
     ensures value { IfOk result (λ r. r ≡ target_of (seen kv.now at.old) p.now) }
+    ensures refusal { IfOk result (λ r. IfErr r (λ w. is_call_refusal w ≡ true)) }
     ensures went { OnOk result
         (GrowsBy at.old at.new (target_keys (seen kv.now at.old) p.now) []) }
     ensures path { IsPath p.now }
@@ -69,6 +71,7 @@ pub fn source(
 ) -> Result<Result<InodeId, Word>, OutOfMemory>
     requires { IsTrue (is_pinned kv.now at.old.base) }
     ensures value { IfOk result (λ r. r ≡ source_of (seen kv.now at.old) p.now) }
+    ensures refusal { IfOk result (λ r. IfErr r (λ w. is_call_refusal w ≡ true)) }
     ensures went { OnOk result (GrowsBy at.old at.new (source_keys p.now) []) }
     ensures grows { Grows at.old at.new }
 {
@@ -88,6 +91,7 @@ pub fn directory(
 ) -> Result<Result<NameSet, Word>, OutOfMemory>
     requires { IsTrue (is_pinned kv.now at.old.base) }
     ensures value { IfOk result (λ r. r ≡ directory_of (seen kv.now at.old) p.now) }
+    ensures refusal { IfOk result (λ r. IfErr r (λ w. is_call_refusal w ≡ true)) }
     ensures went { OnOk result
         (GrowsBy at.old at.new (directory_keys (seen kv.now at.old) p.now) []) }
     ensures grows { Grows at.old at.new }

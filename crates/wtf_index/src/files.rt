@@ -3,6 +3,7 @@
 ghost use Rattle.std.specs.Prelude.{◌≡◌, ◌+◌, ◌++◌, [], IsTrue, IfOk, OnOk};
 ghost use Rattle.wtf_kv.specs.Stores.{is_pinned};
 ghost use Rattle.wtf_occ.specs.Attempts.{Grows};
+ghost use Rattle.wtf_model.specs.Steps.{IsLogged};
 ghost use Rattle.wtf_meta.specs.Maps.{seen};
 ghost use Rattle.wtf_meta.specs.Calls.{Caller, IsNameStep};
 ghost use Rattle.wtf_index.specs.Recorded.{target_keys, source_keys};
@@ -32,6 +33,7 @@ pub fn create(
         (at.new.reads ≡ at.old.reads ++ target_keys (seen kv.now at.old) p.now) }
     ensures step { IfOk result (λ a. (x : Caller) → new.tx.0 ≡ x.tx → new.index ≡ x.calls + 1 →
         IsNameStep x (seen kv.now at.old) at.old at.new (Op.Create p.now) a) }
+    ensures logged { IfOk result (λ a. IsLogged a) }
     ensures grows { Grows at.old at.new }
 {
     let dir = match target(alloc, kv, at, p)? {
@@ -54,6 +56,7 @@ pub fn unlink(
     ensures keys { OnOk result (at.new.reads ≡ at.old.reads ++ source_keys p.now) }
     ensures step { IfOk result (λ a. (x : Caller) →
         IsNameStep x (seen kv.now at.old) at.old at.new (Op.Unlink p.now) a) }
+    ensures logged { IfOk result (λ a. IsLogged a) }
     ensures grows { Grows at.old at.new }
 {
     let inode = match source(alloc, kv, at, p)? {

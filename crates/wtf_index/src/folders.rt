@@ -4,6 +4,7 @@ ghost use Rattle.std.specs.Prelude.{◌≡◌, ◌++◌, [], List, ℕ, IsTrue, 
 ghost use Rattle.wtf_kv.specs.Stores.{is_pinned};
 ghost use Rattle.wtf_occ.specs.Attempts.{Grows};
 ghost use Rattle.wtf_values.specs.Names.{names_in};
+ghost use Rattle.wtf_model.specs.Steps.{IsLogged};
 ghost use Rattle.wtf_meta.specs.Maps.{seen};
 ghost use Rattle.wtf_meta.specs.Calls.{Caller, IsNameStep};
 ghost use Rattle.wtf_index.specs.Recorded.{target_keys, directory_keys, rmdir_keys};
@@ -31,6 +32,7 @@ pub fn mkdir(
         (at.new.reads ≡ at.old.reads ++ target_keys (seen kv.now at.old) p.now) }
     ensures step { IfOk result (λ a. (x : Caller) →
         IsNameStep x (seen kv.now at.old) at.old at.new (Op.Mkdir p.now) a) }
+    ensures logged { IfOk result (λ a. IsLogged a) }
     ensures grows { Grows at.old at.new }
 {
     let dir = match target(alloc, kv, at, p)? {
@@ -54,6 +56,7 @@ pub fn rmdir(
         (at.new.reads ≡ at.old.reads ++ rmdir_keys (seen kv.now at.old) p.now) }
     ensures step { IfOk result (λ a. (x : Caller) →
         IsNameStep x (seen kv.now at.old) at.old at.new (Op.Rmdir p.now) a) }
+    ensures logged { IfOk result (λ a. IsLogged a) }
     ensures grows { Grows at.old at.new }
 {
     let Some(dir) = parent_path(alloc, p)? else {
@@ -83,6 +86,7 @@ pub fn list(
         (at.new.reads ≡ at.old.reads ++ directory_keys (seen kv.now at.old) p.now) }
     ensures step { IfOk result (λ a. (x : Caller) →
         IsNameStep x (seen kv.now at.old) at.old at.new (Op.List p.now) a) }
+    ensures logged { IfOk result (λ a. IsLogged a) }
     ensures grows { Grows at.old at.new }
 {
     let names = match directory(alloc, kv, at, p)? {

@@ -3,6 +3,7 @@
 ghost use Rattle.std.specs.Prelude.{◌≡◌, ◌++◌, [], IsTrue, IfOk, OnOk};
 ghost use Rattle.wtf_kv.specs.Stores.{is_pinned};
 ghost use Rattle.wtf_occ.specs.Attempts.{Grows};
+ghost use Rattle.wtf_model.specs.Steps.{IsLogged};
 ghost use Rattle.wtf_meta.specs.Maps.{seen};
 ghost use Rattle.wtf_meta.specs.Calls.{Caller, IsNameStep};
 ghost use Rattle.wtf_index.specs.Recorded.{rename_keys};
@@ -32,6 +33,7 @@ pub fn rename(
         (at.new.reads ≡ at.old.reads ++ rename_keys (seen kv.now at.old) p.now q.now) }
     ensures step { IfOk result (λ a. (x : Caller) →
         IsNameStep x (seen kv.now at.old) at.old at.new (Op.Rename p.now q.now) a) }
+    ensures logged { IfOk result (λ a. IsLogged a) }
     ensures grows { Grows at.old at.new }
 {
     let inode = match source(alloc, kv, at, p)? {
