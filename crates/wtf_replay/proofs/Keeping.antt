@@ -1,0 +1,72 @@
+-- What holds of a transaction over every device goes on holding.
+use Rattle.std.proofs.Common.{◌≡◌, ◌≢◌, ◌≤◌, ◌<◌, ℕ, ◌+◌, true, false, nat_eq, count_by, length, refl, sym, ap, ◌∙◌, subst, arith, ⊎_elim}
+use Rattle.std.specs.Prelude.{IsTrue, if◌then◌else◌}
+use Rattle.std.proofs.lemmas.Bool.{cases_lt, eq-eqb, ne_eqb}
+use Rattle.std.proofs.lemmas.List.{length_push}
+use Rattle.std.proofs.lemmas.List.Elements.{All-push}
+use Rattle.wtf_base.specs.declared.kept.Kept.{Kept}
+use Rattle.wtf_kv.specs.Stores.{Store, is_pinned, times_pinned, IsPinnedOnceMore}
+use Rattle.wtf_kv.proofs.PinLaws.{is_pinned-more, any-count}
+use Rattle.wtf_occ.specs.Attempts.{Attempted}
+use Rattle.wtf_model.specs.declared.limits.TheConstants.{MAX_LOGGED}
+use Rattle.wtf_model.specs.declared.answer.Answer.{Answer}
+use Rattle.wtf_model.specs.declared.op.Op.{Op}
+use Rattle.wtf_model.specs.Form.{IsFormOp, IsKeptData}
+use Rattle.wtf_model.specs.Steps.{IsLogged}
+use Rattle.wtf_values.specs.declared.key.Key.{Key}
+use Rattle.wtf_values.specs.declared.value.Value.{Value}
+use Rattle.wtf_values.specs.declared.value.Delta.{Delta}
+use Rattle.wtf_log.specs.Calls.{Calls, with_call}
+use Rattle.wtf_meta.specs.Maps.{AllFit, metadata_at}
+use Rattle.wtf_replay.specs.Views.{TxnView, rebased}
+use Rattle.wtf_replay.specs.Built.{is_built_op}
+use Rattle.wtf_replay.specs.Fits.{IsLog, IsFit}
+use Rattle.wtf_replay.specs.Tried.{KeepsMaps, KeepsPins, MovesPin}
+
+-- a log with one call more
+pub log_called : (log : Calls) (k : Op Kept) (a : Answer) → IsLog log → length log.ops ≢ MAX_LOGGED → IsFormOp IsKeptData k → is_built_op k ≡ true → IsLogged a → IsLog (with_call log k a)
+log_called log k a is room form built logged =
+    let ops = length_push log.ops k in
+    let shown = length_push log.shown a in
+    let answers = is.answers in
+    let few = is.few in
+    record {
+      answers = shown ∙ ap (λ n. n + 1) answers ∙ sym ops;
+      few = ⊎_elim (λ lt. omega (arith, ops, lt)) (λ le. let full : length log.ops ≡ MAX_LOGGED = omega (arith, le, few) in absurd (room full)) (cases_lt (length log.ops) MAX_LOGGED);
+      form = All-push (IsFormOp IsKeptData) log.ops k is.form form;
+      built = All-push (λ o. is_built_op o ≡ true) log.ops k is.built built;
+      shown = All-push IsLogged log.shown a is.shown logged;
+    }
+
+-- a transaction that stays as it was, but for its end, over a store that keeps its base
+pub fit_after : (kv after : Store Key Value) (x y : TxnView) → IsFit kv x → y.at ≡ x.at → y.log ≡ x.log → y.replayed ≡ x.replayed → x.at.base ≤ kv.number → KeepsMaps kv after → KeepsPins kv after → IsFit after y
+fit_after kv after x y fit at log replayed below maps pins =
+    let same : times_pinned after x.at.base ≡ times_pinned kv x.at.base = pins x.at.base in
+    let le : times_pinned kv x.at.base ≤ times_pinned after x.at.base = omega (arith, same) in
+    record {
+      pinned = subst (λ (a : Attempted Key Delta). IsTrue (is_pinned after a.base)) (sym at) (is_pinned-more kv after x.at.base fit.pinned le);
+      fits = subst (λ (a : Attempted Key Delta). AllFit a.changes (metadata_at after a.base)) (sym at) (subst (λ w. AllFit x.at.changes w) (sym (maps x.at.base below)) fit.fits);
+      log = subst (λ l. IsLog l) (sym log) fit.log;
+      most = subst (λ (l : Calls). y.replayed ≤ length l.ops) (sym log) (subst (λ n. n ≤ length x.log.ops) (sym replayed) fit.most);
+    }
+
+-- a transaction that begins again at a number that is pinned
+pub fit_rebased : (after : Store Key Value) (x : TxnView) (n : ℕ) → IsLog x.log → IsTrue (is_pinned after n) → IsFit after (rebased x n)
+fit_rebased after x n log pinned = record { pinned = pinned; fits = refl; log = log; most = omega arith }
+
+-- a number to which a pin has moved is pinned
+pub moved_pinned : (b n : ℕ) (kv after : Store Key Value) → b < n → MovesPin b n kv after → IsTrue (is_pinned after n)
+moved_pinned b n kv after later moves =
+    let other : nat_eq n b ≡ false = ne_eqb n b (λ e. omega (arith, later, e)) in
+    let same : nat_eq n n ≡ true = eq-eqb n n refl in
+    let left : times_pinned after n + 0 ≡ times_pinned kv n + 1 =
+    ap (λ q. times_pinned after n + (if q then 1 else 0)) (sym other) ∙ moves n ∙ ap (λ q. times_pinned kv n + (if q then 1 else 0)) same in
+    any-count n after.pins (omega (arith, left))
+
+-- a pin that came and went
+pub pins_back : (kv pinned mid after : Store Key Value) (n : ℕ) → IsPinnedOnceMore n kv pinned → mid.pins ≡ pinned.pins → IsPinnedOnceMore n after mid → KeepsPins kv after
+pins_back kv pinned mid after n more same fewer m =
+    let up = more m in
+    let down = fewer m in
+    let are : times_pinned mid m ≡ times_pinned pinned m = ap (count_by (nat_eq m)) same in
+    omega (arith, up, down, are)

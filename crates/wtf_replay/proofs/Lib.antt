@@ -1,0 +1,10 @@
+pub mod Ops
+pub mod Looking
+pub mod Sounding
+pub mod Deviating
+pub mod Trying
+pub mod Starting
+pub mod Ending
+pub mod Again
+pub mod Keeping
+pub mod Refusing

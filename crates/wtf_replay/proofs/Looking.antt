@@ -1,0 +1,201 @@
+-- Calls on names, as calls of a transaction with handles open.
+use Rattle.std.proofs.Common.{◌≡◌, ℕ, zero, suc, Bool, true, false, cond, ◌||◌, List, [], ◌∷◌, map, Option, Some, None, Ok, refl, sym, ap, ◌∙◌, subst, ⊎_elim}
+use Rattle.std.specs.Prelude.{if◌then◌else◌, Err, IsSomeAnd, replicate}
+use Rattle.std.specs.List.{list_any}
+use Rattle.std.specs.FinMap.{get, entries, get-entries}
+use Rattle.std.specs.FinMap.Entries.{find}
+use Rattle.std.specs.Ordering.{nat_cmp, eq_by_cmp}
+use Rattle.std.proofs.lemmas.Bool.{cases_Bool}
+use Rattle.std.proofs.lemmas.Slice.Eq.{bytes_eq-Decides}
+use Rattle.wtf_base.specs.declared.ids.InodeId.{InodeId}
+use Rattle.wtf_overlay.specs.Origin.{Place}
+use Rattle.wtf_kv.specs.Stores.{Store}
+use Rattle.wtf_occ.specs.Attempts.{Attempted}
+use Rattle.wtf_occ.proofs.AttemptLaws.{GrowsBy-append, map_seen-by}
+use Rattle.wtf_model.specs.Session as model
+use Rattle.wtf_model.specs.Session.{Session}
+use Rattle.wtf_model.specs.Tree.{source, bytes_of, target, ◌>>=◌}
+use Rattle.wtf_model.specs.Done.{Done, done, is_on, is_closed, put_bytes, take_out}
+use Rattle.wtf_model.specs.NameCalls.{unlink, rename}
+use Rattle.wtf_model.specs.Call.{row_of, or_refused}
+use Rattle.wtf_model.specs.declared.limits.TheConstants.{MAX_HANDLES, MAX_SLICES}
+use Rattle.wtf_model.specs.declared.answer.Answer.{Answer}
+use Rattle.wtf_model.specs.declared.answer.Answer.TheVariants as answer
+use Rattle.wtf_model.specs.declared.answer.Word.TheVariants.{Busy}
+use Rattle.wtf_model.specs.declared.op.Op.{Op}
+use Rattle.wtf_model.specs.declared.op.Op.TheVariants as op
+use Rattle.wtf_values.specs.declared.key.Key.{Key}
+use Rattle.wtf_values.specs.declared.key.Key.TheVariants.{Path}
+use Rattle.wtf_values.specs.declared.value.Value.{Value}
+use Rattle.wtf_values.specs.declared.value.Value.TheVariants as value
+use Rattle.wtf_values.specs.declared.value.Node.TheVariants.{File}
+use Rattle.wtf_values.specs.declared.value.Delta.{Delta}
+use Rattle.wtf_values.specs.Keys.{key_cmp}
+use Rattle.wtf_values.specs.Outcomes.{outcome_of}
+use Rattle.wtf_meta.specs.declared.session.Handle.{Handle}
+use Rattle.wtf_meta.specs.Maps.{Map, AllFit, metadata_at, seen}
+use Rattle.wtf_meta.specs.Contents.{Told}
+use Rattle.wtf_meta.specs.Trees.{LeadsTo}
+use Rattle.wtf_meta.specs.NameEdits.{node_of}
+use Rattle.wtf_meta.specs.Sessions.{SessionView, HandleAt, IsOff, SessionBytes, handle_in, slice_in, at_label, nothing_open}
+use Rattle.wtf_meta.specs.Calls.{Caller, cap_for, IsDone, IsNameStep, IsFreeToMove}
+use Rattle.wtf_meta.proofs.Nodes.{node_of-is, node-file}
+use Rattle.wtf_meta.proofs.Moves.{done-same}
+use Rattle.wtf_kv.proofs.EditLaws.{Fits-append}
+use Rattle.wtf_replay.specs.Views.{in_hand}
+use Rattle.wtf_replay.specs.Sounds.{IsToldStep}
+use Rattle.wtf_replay.specs.Looked.{IsNameCall, IsBusy, IsStray, IsLooked}
+
+-- a call on names under no handle on what it moves
+pub quiet_call : (x : Caller) (b : Map) (s : SessionView) (old new : Attempted Key Delta) (o : Op (List ℕ)) (a : Answer)
+    → IsNameStep x b old new o a → IsFreeToMove o s → IsNameCall x b s old new o a
+quiet_call x b s old new o a step free = record { keys = step.keys; edits = step.edits; grows = step.grows; is_call = step.is_call s free }
+
+-- the same of a call that is known by another name
+pub named_call : (x : Caller) (b : Map) (s : SessionView) (old new : Attempted Key Delta) (p o : Op (List ℕ)) (a : Answer)
+    → IsNameStep x b old new p a → IsFreeToMove p s → o ≡ p → IsNameCall x b s old new o a
+named_call x b s old new p o a step free is = subst (λ q. IsNameCall x b s old new q a) (sym is) (quiet_call x b s old new p a step free)
+
+-- no label has something where nothing is open
+pub none_at : {A : Type 0} (x : Option A) (n f : ℕ) → x ≡ None → at_label (replicate n x) f ≡ None
+none_at x zero f e = refl
+none_at x (suc n) zero e = e
+none_at x (suc n) (suc f) e = none_at x n f e
+
+nothing_off : (p : List ℕ) → IsOff p nothing_open
+nothing_off p f h e = let none : handle_in nothing_open f ≡ None = none_at None MAX_HANDLES f refl in let bad : None ≡ Some h = sym none ∙ e in absurd (cc)
+
+pub nothing_kept : (P : List Place → Bool) → SessionBytes P nothing_open
+nothing_kept P label ps e = let none : slice_in nothing_open label ≡ None = none_at None MAX_SLICES label refl in let bad : None ≡ Some ps = sym none ∙ e in absurd (cc)
+
+-- what a handle on a path says of the map, and of the definitions' session
+record HeldAt (w : Map) (p : List ℕ) (o : Option model.Handle) : Type 0 where
+  inode : InodeId
+  leads : LeadsTo w p inode
+  handle : model.Handle
+  is : o ≡ Some handle
+  path : handle.path ≡ p
+
+held_at : (w : Map) (p : List ℕ) (v : Option Handle) (o : Option model.Handle) → HandleAt w v o → IsSomeAnd v (λ h. h.path ≡ p) → HeldAt w p o
+held_at w p None o at held = absurd held
+held_at w p (Some h) None at held = absurd at
+held_at w p (Some h) (Some g) at held = record {
+  inode = h.inode;
+  leads = subst (λ q. LeadsTo w q h.inode) held at.leads;
+  handle = g;
+  is = refl;
+  path = at.path ∙ held;
+}
+
+or_true : (b : Bool) → (b || true) ≡ true
+or_true true = refl
+or_true false = refl
+
+on_entries : (p : List ℕ) (f : ℕ) (g : model.Handle) (es : List (ℕ × model.Handle)) → find nat_cmp f es ≡ Some g → g.path ≡ p → list_any (is_on p) (map (λ e. e.1) es) ≡ true
+on_entries p f g [] found on = absurd (cc)
+on_entries p f g (e ∷ es) found on = ⊎_elim
+    (λ same.
+    let here : Some e.1 ≡ Some g = sym (ap (λ b. cond b (Some e.1) (find nat_cmp f es)) same) ∙ found in
+    let is : e.1 ≡ g = cc in
+    ap (λ b. b || list_any (is_on p) (map (λ e. e.1) es)) ((bytes_eq-Decides e.1.path p).1 (ap (λ h. h.path) is ∙ on)))
+    (λ other.
+    let rest = on_entries p f g es (sym (ap (λ b. cond b (Some e.1) (find nat_cmp f es)) other) ∙ found) on in
+    ap (λ b. is_on p e.1 || b) rest ∙ or_true (is_on p e.1))
+    (cases_Bool (eq_by_cmp nat_cmp f e.0))
+
+-- a handle on a path keeps it
+closed_held : (S : Session) (p : List ℕ) (f : ℕ) (g : model.Handle) → get S.handles f ≡ Some g → g.path ≡ p → is_closed S p ≡ Err Busy
+closed_held S p f g is on = ap (λ b. if b then Err Busy else Ok tt) (on_entries p f g (entries S.handles) (sym (get-entries S.handles f) ∙ is) on)
+
+-- the calls that take a file from a path
+abbrev pub Takes : List ℕ → Op (List ℕ) → Type 0
+Takes p (op.Unlink q) = q ≡ p
+Takes p (op.Rename q r) = q ≡ p
+Takes p o = ⊥
+
+unlink_busy : (S : Session) (p bytes : List ℕ) → source S.tree p ≡ Ok bytes → is_closed S p ≡ Err Busy → unlink S p ≡ Err Busy
+unfolding unlink
+unlink_busy S p bytes file busy =
+    ap (λ r. r >>= (λ _. is_closed S p >>= (λ _. done (take_out S p) answer.Okay))) file
+    ∙ ap (λ r. r >>= (λ _. done (take_out S p) answer.Okay)) busy
+
+rename_busy : (S : Session) (p q bytes : List ℕ) → source S.tree p ≡ Ok bytes → is_closed S p ≡ Err Busy → rename S p q ≡ Err Busy
+unfolding rename
+rename_busy S p q bytes file busy =
+    ap (λ r. r >>= (λ b. is_closed S p >>= (λ _. target S.tree q >>= (λ _. done (put_bytes (take_out S p) q b) answer.Okay)))) file
+    ∙ ap (λ r. r >>= (λ _. target S.tree q >>= (λ _. done (put_bytes (take_out S p) q bytes) answer.Okay))) busy
+
+-- a call that takes a file on which a handle is, is refused
+busy_row : (most : ℕ) (S : Session) (p bytes : List ℕ) (o : Op (List ℕ)) → Takes p o → source S.tree p ≡ Ok bytes → is_closed S p ≡ Err Busy → row_of most S o ≡ Err Busy
+busy_row most S p bytes (op.Unlink q) takes file busy = subst (λ x. unlink S x ≡ Err Busy) (sym takes) (unlink_busy S p bytes file busy)
+busy_row most S p bytes (op.Rename q r) takes file busy = subst (λ x. rename S x r ≡ Err Busy) (sym takes) (rename_busy S p r bytes file busy)
+busy_row most S p bytes o takes file busy = absurd takes
+
+pub busy_call : (x : Caller) (b : Map) (s : SessionView) (p : List ℕ) (old new : Attempted Key Delta) (o : Op (List ℕ))
+    → Takes p o → IsBusy b s p old new → IsNameCall x b s old new o (answer.Refused Busy)
+busy_call x b s p old new o takes busy = record {
+  keys = Path p ∷ [];
+  edits = [];
+  grows = busy.recorded;
+  is_call = record {
+    fits = refl;
+    names = λ P hole map slices stored. record { edits = tt; facts = tt; slices = slices };
+    acts = λ told w S agree fit facts stands holds.
+        let held = held_at w p (handle_in s busy.held.0) (get S.handles busy.held.0) (holds.handles busy.held.0) busy.held.1 in
+        let here : w (Path p) ≡ Some (value.Node (File busy.inode)) = agree.0 ∙ node_of-is (b (Path p)) (File busy.inode) busy.file in
+        let file = node-file x.size told w (w (Path p)) (get S.tree p) busy.inode (stands.nodes p) here in
+        let row = busy_row (cap_for x) S p file.bytes o takes (ap bytes_of file.there) (closed_held S p busy.held.0 held.handle held.is held.path) in
+        subst (λ (d : Done). IsDone x told w w s d (answer.Refused Busy)) (sym (ap (or_refused S) row)) (done-same x told w s S stands holds (answer.Refused Busy));
+  };
+}
+
+-- and where no handle is on a file there, the call itself is made
+free_takes : (p : List ℕ) (o : Op (List ℕ)) (s : SessionView) → Takes p o → IsOff p s → IsFreeToMove o s
+free_takes p (op.Unlink q) s takes off = subst (λ x. IsOff x s) (sym takes) off
+free_takes p (op.Rename q r) s takes off = subst (λ x. IsOff x s) (sym takes) off
+free_takes p o s takes off = absurd takes
+
+pub stray_call : (x : Caller) (b : Map) (s : SessionView) (p : List ℕ) (old mid new : Attempted Key Delta) (o : Op (List ℕ)) (a : Answer)
+    → Takes p o → IsStray b s p old mid → IsNameStep x b mid new o a → IsNameCall x b s old new o a
+stray_call x b s p old mid new o a takes stray step =
+    let calm = step.is_call nothing_open (free_takes p o nothing_open takes (nothing_off p)) in
+    record {
+      keys = Path p ∷ step.keys;
+      edits = step.edits;
+      grows = GrowsBy-append old mid new (Path p ∷ []) step.keys [] step.edits stray.recorded step.grows;
+      is_call = record {
+        fits = calm.fits;
+        names = λ P hole map slices stored. let named = calm.names P hole map (nothing_kept P) stored in record { edits = named.edits; facts = named.facts; slices = slices };
+        acts = λ told w S agree fit facts stands holds.
+            let held = held_at w p (handle_in s stray.held.0) (get S.handles stray.held.0) (holds.handles stray.held.0) stray.held.1 in
+            absurd (stray.none held.inode (ap node_of (sym agree.0 ∙ held.leads)));
+      };
+    }
+
+-- what a look at a path says, and then the call
+pub looked_call : (x : Caller) (kv : Store Key Value) (s : SessionView) (p : List ℕ) (old mid new : Attempted Key Delta) (o : Op (List ℕ)) (a : Answer)
+    → Takes p o → IsLooked (seen kv old) s p old mid false → IsNameStep x (seen kv mid) mid new o a → IsNameCall x (seen kv old) s old new o a
+looked_call x kv s p old mid new o a takes looked step = ⊎_elim
+    (λ off.
+    let here : IsNameStep x (seen kv old) old new o a = subst (λ m. IsNameStep x (seen kv m) m new o a) off.1 step in
+    quiet_call x (seen kv old) s old new o a here (free_takes p o s takes off.0))
+    (λ stray.
+    let same : seen kv mid ≡ seen kv old = map_seen-by key_cmp outcome_of kv old mid (Path p ∷ []) [] stray.recorded in
+    stray_call x (seen kv old) s p old mid new o a takes stray (subst (λ b. IsNameStep x b mid new o a) same step))
+    looked
+
+-- a call on names is a call whose facts are told
+pub told_call : (told : Told) (x : Caller) (b : Map) (s : SessionView) (old new : Attempted Key Delta) (o : Op (List ℕ)) (a : Answer)
+    → IsNameCall x b s old new o a → IsToldStep told x b (in_hand old s) (in_hand new s) o a
+told_call told x b s old new o a call = record {
+  step = record { did = record { keys = call.keys; edits = call.edits; facts = []; stored = [] }; grows = call.grows; is_call = call.is_call };
+  told_are = tt;
+}
+
+-- after which the changes fit at the base
+pub fits_call : (x : Caller) (kv : Store Key Value) (s : SessionView) (old new : Attempted Key Delta) (o : Op (List ℕ)) (a : Answer)
+    → AllFit old.changes (metadata_at kv old.base) → IsNameCall x (seen kv old) s old new o a → AllFit new.changes (metadata_at kv new.base)
+fits_call x kv s old new o a fit call =
+    subst (λ n. AllFit new.changes (metadata_at kv n)) (sym call.grows.base)
+    (subst (λ cs. AllFit cs (metadata_at kv old.base)) (sym call.grows.changes)
+    (Fits-append key_cmp outcome_of old.changes call.edits (metadata_at kv old.base) fit call.is_call.fits))

@@ -1,0 +1,9 @@
+pub mod Views
+pub mod Built
+pub mod Refusals
+pub mod Fits
+pub mod Sounds
+pub mod Called
+pub mod Tried
+pub mod Replays
+pub mod Looked

@@ -1,0 +1,47 @@
+-- Calls on names as calls of a transaction.
+use Rattle.std.specs.Prelude.{◌≡◌, ◌≢◌, ◌⊎◌, ℕ, Bool, true, false, List, [], ◌∷◌, Some, IsSomeAnd}
+use Rattle.wtf_base.specs.declared.ids.InodeId.{InodeId}
+use Rattle.wtf_occ.specs.Attempts.{Attempted, GrowsBy}
+use Rattle.wtf_model.specs.declared.answer.Answer.{Answer}
+use Rattle.wtf_model.specs.declared.op.Op.{Op}
+use Rattle.wtf_values.specs.declared.key.Key.{Key}
+use Rattle.wtf_values.specs.declared.key.Key.TheVariants.{Path}
+use Rattle.wtf_values.specs.declared.value.Delta.{Delta}
+use Rattle.wtf_values.specs.declared.value.Node.TheVariants.{File}
+use Rattle.wtf_meta.specs.Maps.{Map, Edits}
+use Rattle.wtf_meta.specs.Sessions.{SessionView, handle_in, IsOff}
+use Rattle.wtf_meta.specs.Calls.{Caller, IsCall}
+use Rattle.wtf_index.specs.Checks.{stands_at}
+
+-- an attempt goes on by a call that stores nothing and leaves handles and slices
+pub record IsNameCall (x : Caller) (b : Map) (s : SessionView) (old new : Attempted Key Delta) (o : Op (List ℕ)) (a : Answer) : Type 0 where
+  pub keys : List Key
+  pub edits : Edits
+  pub grows : GrowsBy old new keys edits
+  pub is_call : IsCall x b s s (record { keys = keys; edits = edits; facts = []; stored = [] }) o a
+
+-- a handle was opened by the path
+abbrev pub IsHeld : List ℕ → SessionView → Type 0
+IsHeld p s = (f : ℕ) × IsSomeAnd (handle_in s f) (λ h. h.path ≡ p)
+
+-- the path is recorded, and nothing is changed
+abbrev pub IsRecorded : List ℕ → Attempted Key Delta → Attempted Key Delta → Type 0
+IsRecorded p old new = GrowsBy old new (Path p ∷ []) []
+
+-- a handle is on the path, where a file stands; the path is recorded
+pub record IsBusy (b : Map) (s : SessionView) (p : List ℕ) (old new : Attempted Key Delta) : Type 0 where
+  pub held : IsHeld p s
+  pub recorded : IsRecorded p old new
+  pub inode : InodeId
+  pub file : stands_at b p ≡ Some (File inode)
+
+-- a handle was opened by the path, where no file stands; the path is recorded
+pub record IsStray (b : Map) (s : SessionView) (p : List ℕ) (old new : Attempted Key Delta) : Type 0 where
+  pub held : IsHeld p s
+  pub recorded : IsRecorded p old new
+  pub none : (i : InodeId) → stands_at b p ≢ Some (File i)
+
+-- whether a handle keeps a file at its path
+abbrev pub IsLooked : Map → SessionView → List ℕ → Attempted Key Delta → Attempted Key Delta → Bool → Type 0
+IsLooked b s p old new true = IsBusy b s p old new
+IsLooked b s p old new false = (IsOff p s × (new ≡ old)) ⊎ IsStray b s p old new

@@ -1,0 +1,50 @@
+-- What holds of a transaction over stores that tell their content: its calls are the definitions' run.
+-- NSDI 2016, section 2.6 (a replay must show what was shown).
+use Rattle.std.specs.Prelude.{ℕ, List, take}
+use Rattle.wtf_kv.specs.Stores.{Store}
+use Rattle.wtf_base.specs.declared.slice.Slice.{Slice}
+use Rattle.wtf_base.specs.Slices.{len_of}
+use Rattle.wtf_overlay.specs.Origin.{part_origin}
+use Rattle.wtf_overlay.specs.declared.part.Part.TheVariants.{Held}
+use Rattle.wtf_overlay.specs.declared.part.Piece.{Piece}
+use Rattle.wtf_occ.specs.Attempts.{Attempted}
+use Rattle.wtf_model.specs.declared.answer.Answer.{Answer}
+use Rattle.wtf_model.specs.declared.op.Op.{Op}
+use Rattle.wtf_values.specs.declared.key.Key.{Key}
+use Rattle.wtf_values.specs.declared.value.Value.{Value}
+use Rattle.wtf_values.specs.declared.value.Delta.{Delta}
+use Rattle.wtf_log.specs.Standing.{OpsStandFor}
+use Rattle.wtf_meta.specs.Maps.{Map, metadata_at}
+use Rattle.wtf_meta.specs.Contents.{Told, TellBytes}
+use Rattle.wtf_meta.specs.Calls.{Caller, Fact, Did, InHand, TellFacts, IsStep, IsRun}
+use Rattle.wtf_replay.specs.Views.{TxnView}
+
+-- the bytes of a slice are told
+abbrev pub tells_slice : Told → Slice → List ℕ → Type 0
+tells_slice told s bytes = TellBytes told (len_of s) (part_origin (Held s)) bytes
+
+-- a transaction that has made so many calls
+abbrev pub caller_at : ℕ → ℕ → ℕ → Caller
+caller_at size tx calls = record { size = size; tx = tx; calls = calls }
+
+-- what an attempt did, with the bytes that it read or stored, and the pieces that it stored
+abbrev pub did_by : Attempted Key Delta → List Fact → List Piece → Did
+did_by at facts stored = record { keys = at.reads; edits = at.changes; facts = facts; stored = stored }
+
+-- the first of the calls, with what was shown of them
+abbrev pub first_of : TxnView → List (Op (List ℕ)) → ℕ → List (Op (List ℕ)) × List Answer
+first_of x ops n = (take n ops, take n x.log.shown)
+
+-- The logged calls stand for calls; and what the attempt did is the run, on the map at its base, of those that are done
+-- there, over stores that tell its facts.
+pub record IsSound (size : ℕ) (kv : Store Key Value) (told : Told) (x : TxnView) (ops : List (Op (List ℕ))) : Type 0 where
+  pub facts : List Fact
+  pub stored : List Piece
+  pub ops_are : OpsStandFor (tells_slice told) x.log.ops ops
+  pub told_are : TellFacts told facts
+  pub run : IsRun (caller_at size x.tx 0) (metadata_at kv x.at.base) x.session (did_by x.at facts stored) (first_of x ops x.replayed)
+
+-- one call more, whose facts the stores tell
+pub record IsToldStep (told : Told) (x : Caller) (b : Map) (old new : InHand) (o : Op (List ℕ)) (a : Answer) : Type 0 where
+  pub step : IsStep x b old new o a
+  pub told_are : TellFacts told step.did.facts

@@ -1,0 +1,149 @@
+//! The calls that are built so far: those on names.
+
+ghost use Rattle.std.specs.Prelude.{◌≡◌, ◌+◌, ℕ, List, true, false, IsTrue, IfOk, MatchOption};
+ghost use Rattle.wtf_kv.specs.Stores.{is_pinned};
+ghost use Rattle.wtf_occ.specs.Attempts.{Grows};
+ghost use Rattle.wtf_model.specs.Steps.{IsLogged};
+ghost use Rattle.wtf_meta.specs.Maps.{seen};
+ghost use Rattle.wtf_meta.specs.Calls.{Caller};
+ghost use Rattle.wtf_replay.specs.Built.{is_built_op, IsNameOp};
+ghost use Rattle.wtf_replay.specs.Looked.{IsLooked, IsNameCall};
+
+use std::alloc::Global;
+use wtf_base::{Bytes, InodeId, Kept, OutOfMemory};
+use wtf_index::{create, list, look_up, mkdir, rename, rmdir, unlink};
+use wtf_kv::Kv;
+use wtf_meta::Session;
+use wtf_model::{Answer, Op, Word};
+use wtf_occ::Attempt;
+use wtf_path::Path;
+use wtf_values::{Key, Node, Value};
+
+/// The call as a log keeps it; none where it is not built.
+pub(crate) fn named(op: Op<Bytes>) -> Option<Op<Kept>>
+    ensures { MatchOption result (is_built_op op ≡ false)
+        (λ kept. (is_built_op op ≡ true) × IsNameOp kept op) }
+{
+    match op {
+        Op::Mkdir(p) => Some(Op::Mkdir(p)),
+        Op::Rmdir(p) => Some(Op::Rmdir(p)),
+        Op::Create(p) => Some(Op::Create(p)),
+        Op::Unlink(p) => Some(Op::Unlink(p)),
+        Op::Rename(p, q) => Some(Op::Rename(p, q)),
+        Op::List(p) => Some(Op::List(p)),
+        _ => None,
+    }
+}
+
+/// Makes a call on names. Want of memory may leave the attempt grown.
+pub(crate) fn name_call(
+    alloc: Global,
+    kv: &Kv<Key, Value>,
+    at: &mut Attempt<Key, Value>,
+    session: &Session,
+    new: InodeId,
+    op: &Op<Kept>,
+) -> Result<Answer, OutOfMemory>
+    requires pinned { IsTrue (is_pinned kv.now at.old.base) }
+    requires built { is_built_op op.now ≡ true }
+    ensures step { IfOk result (λ a. (x : Caller) (o : Op (List ℕ)) → IsNameOp op.now o →
+        new.tx.0 ≡ x.tx → new.index ≡ x.calls + 1 →
+        IsNameCall x (seen kv.now at.old) session.now at.old at.new o a) }
+    ensures logged { IfOk result (λ a. IsLogged a) }
+    ensures grows { Grows at.old at.new }
+{
+    match op {
+        Op::Mkdir(p) => return mkdir(alloc, kv, at, p),
+        Op::Rmdir(p) => return rmdir(alloc, kv, at, p),
+        Op::Create(p) => return create(alloc, kv, at, p, new),
+        Op::Unlink(p) => return unlink_closed(alloc, kv, at, session, p),
+        Op::Rename(p, q) => return rename_closed(alloc, kv, at, session, p, q),
+        Op::List(p) => return list(alloc, kv, at, p),
+        _ => return Ok(Answer::NotBuilt),
+    }
+}
+
+/// Takes out a file, unless a handle is on it.
+fn unlink_closed(
+    alloc: Global,
+    kv: &Kv<Key, Value>,
+    at: &mut Attempt<Key, Value>,
+    session: &Session,
+    p: &Path,
+) -> Result<Answer, OutOfMemory>
+    requires { IsTrue (is_pinned kv.now at.old.base) }
+    ensures step { IfOk result (λ a. (x : Caller) →
+        IsNameCall x (seen kv.now at.old) session.now at.old at.new (Op.Unlink p.now) a) }
+    ensures logged { IfOk result (λ a. IsLogged a) }
+    ensures grows { Grows at.old at.new }
+{
+    let busy = match is_busy(alloc, kv, at, session, p) {
+        Ok(busy) => busy,
+        Err(why) => return Err(why),
+    };
+    if busy {
+        return Ok(Answer::Refused(Word::Busy));
+    }
+    let answer = match unlink(alloc, kv, at, p) {
+        Ok(answer) => answer,
+        Err(why) => return Err(why),
+    };
+    Ok(answer)
+}
+
+/// Moves a file, unless a handle is on it.
+fn rename_closed(
+    alloc: Global,
+    kv: &Kv<Key, Value>,
+    at: &mut Attempt<Key, Value>,
+    session: &Session,
+    p: &Path,
+    q: &Path,
+) -> Result<Answer, OutOfMemory>
+    requires { IsTrue (is_pinned kv.now at.old.base) }
+    ensures step { IfOk result (λ a. (x : Caller) →
+        IsNameCall x (seen kv.now at.old) session.now at.old at.new (Op.Rename p.now q.now) a) }
+    ensures logged { IfOk result (λ a. IsLogged a) }
+    ensures grows { Grows at.old at.new }
+{
+    let busy = match is_busy(alloc, kv, at, session, p) {
+        Ok(busy) => busy,
+        Err(why) => return Err(why),
+    };
+    if busy {
+        return Ok(Answer::Refused(Word::Busy));
+    }
+    let answer = match rename(alloc, kv, at, p, q) {
+        Ok(answer) => answer,
+        Err(why) => return Err(why),
+    };
+    Ok(answer)
+}
+
+/// Whether a handle is on the file at a path. Where a handle was opened by the path, the path is
+/// recorded.
+fn is_busy(
+    alloc: Global,
+    kv: &Kv<Key, Value>,
+    at: &mut Attempt<Key, Value>,
+    session: &Session,
+    p: &Path,
+) -> Result<bool, OutOfMemory>
+    requires { IsTrue (is_pinned kv.now at.old.base) }
+    ensures looked { IfOk result
+        (λ busy. IsLooked (seen kv.now at.old) session.now p.now at.old at.new busy) }
+    ensures grows { Grows at.old at.new }
+{
+    if !session.holds(p) {
+        return Ok(false);
+    }
+    let node = match look_up(alloc, kv, at, p) {
+        Ok(node) => node,
+        Err(why) => return Err(why),
+    };
+    match node {
+        Some(Node::File(_)) => return Ok(true),
+        Some(Node::Folder) => return Ok(false),
+        None => return Ok(false),
+    }
+}

@@ -1,0 +1,593 @@
+//! Transactions.
+
+ghost use Rattle.std.specs.Prelude.{◌≡◌, ◌≢◌, ◌+◌, ◌<◌, ◌≤◌, ◌^◌, ℕ, List, [], ◌∷◌, ◌++◌, true, false, Ok, None, IsTrue, IfOk, IfErr, IfSome, OnOk, OnErr, length, nat_eq};
+ghost use Rattle.std.specs.Set.{remove_key};
+ghost use Rattle.wtf_dev.specs.Sums.{TellsAll};
+ghost use Rattle.wtf_replica.specs.Bytes.{byte_at};
+ghost use Rattle.wtf_kv.specs.Stores.{is_pinned, IsPinnedOnceMore};
+ghost use Rattle.wtf_occ.specs.Tries.{Stays};
+ghost use Rattle.wtf_values.specs.Keys.{key_cmp};
+ghost use Rattle.wtf_model.specs.declared.limits.TheConstants.{MAX_LOGGED};
+ghost use Rattle.wtf_model.specs.Form.{IsFormOp, IsData, IsKeptData};
+ghost use Rattle.wtf_meta.specs.Contents.{Told};
+ghost use Rattle.wtf_meta.specs.Maps.{metadata_at};
+ghost use Rattle.wtf_region.specs.Devs.{IsSoundDev, GoesOn, stores};
+ghost use Rattle.wtf_replay.specs.Views.{TxnView, begun, rebased, is_live};
+ghost use Rattle.wtf_replay.specs.Built.{is_built_op, IsNameOp};
+ghost use Rattle.wtf_replay.specs.Refusals.{unmade, try_refusal, step_refusal};
+ghost use Rattle.wtf_replay.specs.Fits.{IsFit};
+ghost use Rattle.wtf_replay.specs.Sounds.{IsSound};
+ghost use Rattle.wtf_replay.specs.Called.{IsCalled, IsLoggedAs};
+ghost use Rattle.wtf_replay.specs.Tried.{IsAttempted, KeepsMaps, KeepsPins, MovesPin};
+ghost use Rattle.wtf_replay.specs.Replays.{IsStepped, IsOver, IsEnded, IsTrueAttempt, IsTrueStep, IsTrueEnd};
+
+use crate::commit::{aborted, commit_now, replay_and_install};
+use crate::names::named;
+use crate::replay::{make_again, make_call, note};
+use std::alloc::Global;
+use std::marker::Model;
+use wtf_base::{Bytes, Fault, InodeId, Kept, OutOfMemory, TxId};
+use wtf_dev::SliceStore;
+use wtf_kv::Kv;
+use wtf_log::Log;
+use wtf_meta::Session;
+use wtf_model::{Answer, Op, Word};
+use wtf_occ::{Attempt, Tried};
+use wtf_region::Dev;
+use wtf_values::{Key, Value};
+
+/// A transaction. Contracts see its number, its attempt, its handles and slices, its log, how many
+/// of its calls are done at its base, and whether it has ended. It keeps its base pinned until it
+/// is dropped, also after it has ended.
+#[derive(Drop)]
+pub struct Txn {
+    alloc: Global,
+    tx: TxId,
+    at: Attempt<Key, Value>,
+    session: Session,
+    log: Log,
+    replayed: u32,
+    ended: bool,
+}
+
+impl Model for Txn {
+    ghost use Rattle.wtf_replay.specs.Views.{TxnView};
+
+    ghost Value = { TxnView };
+
+    ghost use Rattle.std.specs.Coded.{codes};
+    ghost use Rattle.wtf_base.specs.contracts.kept.Kept as kept;
+    ghost use Rattle.wtf_overlay.specs.contracts.part.Piece as piece;
+    ghost use Rattle.wtf_kv.specs.contracts.changes.Change as change;
+    ghost use Rattle.wtf_model.specs.contracts.op.Op as op;
+    ghost use Rattle.wtf_model.specs.contracts.answer.Answer as answer;
+    ghost use Rattle.wtf_values.specs.contracts.key.Key as key;
+    ghost use Rattle.wtf_values.specs.contracts.value.Delta as delta;
+
+    ghost coded = { Prim.hlevel (
+      codes,
+      piece.the_row.coded,
+      key.the_row.coded,
+      answer.the_row.coded,
+      (op.the_row kept.the_row).coded,
+      (change.the_row key.the_row delta.the_row).coded,
+    ) };
+
+    ghost view = { λ x. record {
+      tx = x.tx.0;
+      at = x.at;
+      session = x.session;
+      log = x.log;
+      replayed = x.replayed;
+      ended = x.ended;
+    } };
+}
+
+impl Txn {
+    /// A transaction of this number at the number of installs, which it pins. Want of memory leaves
+    /// the store as it was.
+    pub fn begin(alloc: Global, kv: &mut Kv<Key, Value>, tx: TxId) -> Result<Txn, OutOfMemory>
+        ensures value { IfOk result (λ x. x ≡ begun tx.0 kv.old.number) }
+        ensures ok { OnOk result (kv.new ≡
+            record kv.old { pins = kv.old.pins ++ kv.old.number ∷ [] }) }
+        ensures pinned { OnOk result (IsPinnedOnceMore kv.old.number kv.old kv.new) }
+        ensures err { OnErr result (kv.new ≡ kv.old) }
+        ensures fit { IfOk result (λ x. IsFit kv.new x) }
+        ensures sound { IfOk result
+            (λ x. (size : ℕ) (told : Told) → IsSound size kv.new told x []) }
+    {
+        let base = kv.number();
+        let at = match Attempt::new(alloc, base) {
+            Ok(at) => at,
+            Err(why) => return Err(why),
+        };
+        let session = match Session::new(alloc) {
+            Ok(session) => session,
+            Err(why) => return Err(why),
+        };
+        let log = match Log::new(alloc) {
+            Ok(log) => log,
+            Err(why) => return Err(why),
+        };
+        if let Err(why) = kv.pin(base) {
+            return Err(why);
+        }
+        Ok(Txn {
+            alloc,
+            tx,
+            at,
+            session,
+            log,
+            replayed: 0,
+            ended: false,
+        })
+    }
+
+    /// Whether it has ended.
+    pub fn ended(&self) -> bool
+        ensures { result ≡ self.now.ended }
+    {
+        self.ended
+    }
+
+    /// Whether all of its calls are done at its base.
+    fn is_live(&self) -> bool
+        ensures { result ≡ is_live self.now }
+    {
+        self.replayed == self.log.len()
+    }
+
+    /// Makes a call, and logs it with its answer. Instead it answers `NotBuilt` where the call is
+    /// not built yet, is refused as `Replaying` while a replay runs, and as `Full` where the log is
+    /// full: these log nothing and leave all as it was. After a fault the transaction is as it was.
+    pub fn call<S: SliceStore>(
+        &mut self,
+        dev: &mut Dev<'_, S>,
+        kv: &Kv<Key, Value>,
+        op: Op<Bytes>,
+    ) -> Result<Answer, Fault>
+        requires going { self.old.ended ≡ false }
+        requires sound { IsSoundDev dev.old }
+        requires fit { IsFit kv.now self.old }
+        requires form { IsFormOp IsData op }
+        ensures unmade { IfSome (unmade self.old op)
+            (λ a. (result ≡ Ok a) × (self.new ≡ self.old)) }
+        ensures made { unmade self.old op ≡ None →
+            IfOk result (λ a. IsCalled self.old self.new op a) }
+        ensures meaning { unmade self.old op ≡ None → OnOk result
+            (TellsAll S.kind (stores dev.old) → (ops : List (Op (List ℕ))) →
+            IsSound dev.old.settings.region kv.now (byte_at S.kind (stores dev.old)) self.old ops →
+            IsSound dev.old.settings.region kv.now (byte_at S.kind (stores dev.new)) self.new
+            (ops ++ op ∷ [])) }
+        ensures fit { IsFit kv.now self.new }
+        ensures err { OnErr result (self.new ≡ self.old) }
+        ensures fault { IfErr result (λ why. why ≡ Fault.Memory) }
+        ensures dev { GoesOn S.kind dev.old dev.new [] }
+    {
+        let Some(kept) = named(op) else {
+            return Ok(Answer::NotBuilt);
+        };
+        if !self.is_live() {
+            return Ok(Answer::Refused(Word::Replaying));
+        }
+        if self.log.is_full() {
+            return Ok(Answer::Refused(Word::Full));
+        }
+        let answer = match self.call_live(dev, kv, kept) {
+            Ok(answer) => answer,
+            Err(why) => return Err(why),
+        };
+        Ok(answer)
+    }
+
+    /// Makes a call that is built, where all others are done and the log has room.
+    fn call_live<S: SliceStore>(
+        &mut self,
+        dev: &mut Dev<'_, S>,
+        kv: &Kv<Key, Value>,
+        op: Op<Kept>,
+    ) -> Result<Answer, Fault>
+        requires going { self.old.ended ≡ false }
+        requires sound { IsSoundDev dev.old }
+        requires fit { IsFit kv.now self.old }
+        requires live { self.old.replayed ≡ length self.old.log.ops }
+        requires room { length self.old.log.ops ≢ MAX_LOGGED }
+        requires built { is_built_op op ≡ true }
+        requires form { IsFormOp IsKeptData op }
+        ensures logged { IfOk result (λ a. IsLoggedAs self.old self.new op a) }
+        ensures meaning { OnOk result ((size : ℕ) (told : Told) (ops : List (Op (List ℕ)))
+            (o : Op (List ℕ)) → IsNameOp op o → IsSound size kv.now told self.old ops →
+            IsSound size kv.now told self.new (ops ++ o ∷ [])) }
+        ensures fit { IsFit kv.now self.new }
+        ensures err { OnErr result (self.new ≡ self.old) }
+        ensures fault { IfErr result (λ why. why ≡ Fault.Memory) }
+        ensures dev { GoesOn S.kind dev.old dev.new [] }
+    {
+        let mark = self.at.mark();
+        let _few = self.log.len();
+        let new = InodeId {
+            tx: self.tx,
+            index: self.replayed + 1,
+        };
+        let answer = match make_call(self.alloc, dev, kv, &mut self.at, &self.session, new, &op) {
+            Ok(answer) => answer,
+            Err(why) => return Err(why),
+        };
+        if let Err(why) = note(self.alloc, &mut self.log, op, &answer) {
+            self.at.rewind(mark);
+            return Err(why);
+        }
+        self.replayed = self.replayed + 1;
+        Ok(answer)
+    }
+
+    /// Installs the changes where no key is in the way, and ends. Else it begins again at the
+    /// number, with all calls to be replayed: a recorded key has then changed since the base, or a
+    /// change does not fit. It is refused as `Replaying` while a replay runs. Want of memory leaves
+    /// the transaction, and what the store shows, as they were.
+    pub fn attempt(&mut self, kv: &mut Kv<Key, Value>) -> Result<Answer, OutOfMemory>
+        requires going { self.old.ended ≡ false }
+        requires fit { IsFit kv.old self.old }
+        requires room { kv.old.number < 2 ^ 63 }
+        ensures refused { IfSome (try_refusal self.old)
+            (λ w. (result ≡ Ok (Answer.Refused w)) × (self.new ≡ self.old) × (kv.new ≡ kv.old)) }
+        ensures tried { try_refusal self.old ≡ None →
+            IfOk result (λ a. IsAttempted kv.old kv.new self.old self.new a) }
+        ensures meaning { try_refusal self.old ≡ None → IfOk result
+            (λ a. (size : ℕ) (told : Told) (ops : List (Op (List ℕ))) →
+            IsSound size kv.old told self.old ops →
+            IsTrueAttempt size told kv.old kv.new (self.old, self.new) ops a) }
+        ensures maps { KeepsMaps kv.old kv.new }
+        ensures fit { IsFit kv.new self.new }
+        ensures err { OnErr result (self.new ≡ self.old) }
+        ensures err_store { OnErr result (Stays key_cmp kv.old kv.new) }
+    {
+        if !self.is_live() {
+            return Ok(Answer::Refused(Word::Replaying));
+        }
+        let answer = match self.attempt_live(kv) {
+            Ok(answer) => answer,
+            Err(why) => return Err(why),
+        };
+        Ok(answer)
+    }
+
+    /// Installs the changes where no key is in the way, else begins again.
+    fn attempt_live(&mut self, kv: &mut Kv<Key, Value>) -> Result<Answer, OutOfMemory>
+        requires going { self.old.ended ≡ false }
+        requires fit { IsFit kv.old self.old }
+        requires live { self.old.replayed ≡ length self.old.log.ops }
+        requires room { kv.old.number < 2 ^ 63 }
+        ensures tried { IfOk result (λ a. IsAttempted kv.old kv.new self.old self.new a) }
+        ensures meaning { IfOk result
+            (λ a. (size : ℕ) (told : Told) (ops : List (Op (List ℕ))) →
+            IsSound size kv.old told self.old ops →
+            IsTrueAttempt size told kv.old kv.new (self.old, self.new) ops a) }
+        ensures fit { IsFit kv.new self.new }
+        ensures maps { KeepsMaps kv.old kv.new }
+        ensures err { OnErr result (self.new ≡ self.old) }
+        ensures err_store { OnErr result (Stays key_cmp kv.old kv.new) }
+    {
+        let _number = kv.number();
+        let tried = match self.at.install(kv) {
+            Ok(tried) => tried,
+            Err(why) => return Err(why),
+        };
+        match tried {
+            Tried::Installed(n) => {
+                self.ended = true;
+                return Ok(Answer::Committed(n));
+            }
+            Tried::Conflict { .. } => {
+                let base = self.at.base();
+                let number = kv.number();
+                if let Err(why) = self.restart(kv) {
+                    return Err(why);
+                }
+                return Ok(Answer::Retry { base, now: number });
+            }
+        }
+    }
+
+    /// Begins again at the number.
+    fn restart(&mut self, kv: &mut Kv<Key, Value>) -> Result<(), OutOfMemory>
+        requires { IsTrue (is_pinned kv.old self.old.at.base) }
+        ensures is { OnOk result (self.new ≡ rebased self.old kv.old.number) }
+        ensures number { kv.new.number ≡ kv.old.number }
+        ensures maps { (n : ℕ) → metadata_at kv.new n ≡ metadata_at kv.old n }
+        ensures pins { OnOk result (MovesPin self.old.at.base kv.old.number kv.old kv.new) }
+        ensures err { OnErr result (self.new ≡ self.old) }
+        ensures err_store { OnErr result (kv.new ≡ kv.old) }
+    {
+        let number = kv.number();
+        let at = match Attempt::new(self.alloc, number) {
+            Ok(at) => at,
+            Err(why) => return Err(why),
+        };
+        let session = match Session::new(self.alloc) {
+            Ok(session) => session,
+            Err(why) => return Err(why),
+        };
+        if let Err(why) = kv.pin(number) {
+            return Err(why);
+        }
+        let base = self.at.base();
+        kv.unpin(base);
+        self.at = at;
+        self.session = session;
+        self.replayed = 0;
+        Ok(())
+    }
+
+    /// Replays the next call. Where its answer is what was shown, it answers `Replayed`, else
+    /// `Aborted`, and ends. It is refused as `Live` where no replay runs. After a fault the
+    /// transaction is as it was.
+    pub fn step<S: SliceStore>(
+        &mut self,
+        dev: &mut Dev<'_, S>,
+        kv: &Kv<Key, Value>,
+    ) -> Result<Answer, Fault>
+        requires going { self.old.ended ≡ false }
+        requires sound { IsSoundDev dev.old }
+        requires fit { IsFit kv.now self.old }
+        ensures refused { IfSome (step_refusal self.old)
+            (λ w. (result ≡ Ok (Answer.Refused w)) × (self.new ≡ self.old)) }
+        ensures stepped { step_refusal self.old ≡ None →
+            IfOk result (λ a. IsStepped self.old self.new a) }
+        ensures meaning { step_refusal self.old ≡ None → IfOk result
+            (λ a. TellsAll S.kind (stores dev.old) → (ops : List (Op (List ℕ))) →
+            IsSound dev.old.settings.region kv.now (byte_at S.kind (stores dev.old)) self.old ops →
+            IsTrueStep dev.old.settings.region
+            (byte_at S.kind (stores dev.old), byte_at S.kind (stores dev.new)) kv.now
+            (self.old, self.new) ops a) }
+        ensures fit { IsFit kv.now self.new }
+        ensures err { OnErr result (self.new ≡ self.old) }
+        ensures fault { IfErr result (λ why. why ≡ Fault.Memory) }
+        ensures dev { GoesOn S.kind dev.old dev.new [] }
+    {
+        if self.is_live() {
+            return Ok(Answer::Refused(Word::Live));
+        }
+        let answer = match self.step_next(dev, kv) {
+            Ok(answer) => answer,
+            Err(why) => return Err(why),
+        };
+        Ok(answer)
+    }
+
+    /// Replays the next call.
+    fn step_next<S: SliceStore>(
+        &mut self,
+        dev: &mut Dev<'_, S>,
+        kv: &Kv<Key, Value>,
+    ) -> Result<Answer, Fault>
+        requires going { self.old.ended ≡ false }
+        requires sound { IsSoundDev dev.old }
+        requires fit { IsFit kv.now self.old }
+        requires left { self.old.replayed < length self.old.log.ops }
+        ensures stepped { IfOk result (λ a. IsStepped self.old self.new a) }
+        ensures meaning { IfOk result
+            (λ a. (size : ℕ) (told : Told) (ops : List (Op (List ℕ))) →
+            IsSound size kv.now told self.old ops →
+            IsTrueStep size (told, told) kv.now (self.old, self.new) ops a) }
+        ensures fit { IsFit kv.now self.new }
+        ensures err { OnErr result (self.new ≡ self.old) }
+        ensures fault { IfErr result (λ why. why ≡ Fault.Memory) }
+        ensures dev { GoesOn S.kind dev.old dev.new [] }
+    {
+        let mark = self.at.mark();
+        let k = self.replayed;
+        let (answer, same) = match make_again(
+            self.alloc,
+            dev,
+            kv,
+            &mut self.at,
+            &self.session,
+            self.tx,
+            &self.log,
+            k,
+        ) {
+            Ok(both) => both,
+            Err(why) => return Err(why),
+        };
+        let _few = self.log.len();
+        if same {
+            self.replayed = k + 1;
+            return Ok(Answer::Replayed(k + 1));
+        }
+        match aborted(self.alloc, k + 1, answer) {
+            Ok(answer) => {
+                self.ended = true;
+                return Ok(answer);
+            }
+            Err(why) => {
+                self.at.rewind(mark);
+                return Err(why);
+            }
+        }
+    }
+
+    /// Commits, or aborts, and ends. A live transaction is installed where no key is in the way.
+    /// Else, and where a replay runs, its calls are made once more on the map now, all of them or
+    /// those that are left of a replay that runs there, and installed where each answers what was
+    /// shown. After a fault the transaction is as it was, and the store shows what it showed.
+    pub fn commit<S: SliceStore>(
+        &mut self,
+        dev: &mut Dev<'_, S>,
+        kv: &mut Kv<Key, Value>,
+    ) -> Result<Answer, Fault>
+        requires going { self.old.ended ≡ false }
+        requires sound { IsSoundDev dev.old }
+        requires fit { IsFit kv.old self.old }
+        requires room { kv.old.number < 2 ^ 63 }
+        ensures ended { IfOk result (λ a. IsEnded kv.old kv.new a) }
+        ensures over { OnOk result (IsOver self.old self.new) }
+        ensures meaning { IfOk result
+            (λ a. TellsAll S.kind (stores dev.old) → (ops : List (Op (List ℕ))) →
+            IsSound dev.old.settings.region kv.old (byte_at S.kind (stores dev.old)) self.old ops →
+            IsTrueEnd dev.old.settings.region (byte_at S.kind (stores dev.old)) kv.old kv.new
+            self.old ops a) }
+        ensures maps { KeepsMaps kv.old kv.new }
+        ensures pins { KeepsPins kv.old kv.new }
+        ensures fit { IsFit kv.new self.new }
+        ensures err { OnErr result (self.new ≡ self.old) }
+        ensures err_number { OnErr result (kv.new.number ≡ kv.old.number) }
+        ensures fault { IfErr result (λ why. why ≡ Fault.Memory) }
+        ensures dev { GoesOn S.kind dev.old dev.new [] }
+    {
+        let number = kv.number();
+        if self.is_live() {
+            let answer = match self.commit_live(dev, kv) {
+                Ok(answer) => answer,
+                Err(why) => return Err(why),
+            };
+            return Ok(answer);
+        }
+        if self.at.base() == number {
+            let answer = match self.go_on(dev, kv) {
+                Ok(answer) => answer,
+                Err(why) => return Err(why),
+            };
+            return Ok(answer);
+        }
+        let answer = match self.start_over(dev, kv) {
+            Ok(answer) => answer,
+            Err(why) => return Err(why),
+        };
+        Ok(answer)
+    }
+
+    /// Installs the changes where no key is in the way, else makes all calls once more at the
+    /// number.
+    fn commit_live<S: SliceStore>(
+        &mut self,
+        dev: &mut Dev<'_, S>,
+        kv: &mut Kv<Key, Value>,
+    ) -> Result<Answer, Fault>
+        requires sound { IsSoundDev dev.old }
+        requires fit { IsFit kv.old self.old }
+        requires room { kv.old.number < 2 ^ 63 }
+        requires live { self.old.replayed ≡ length self.old.log.ops }
+        ensures ended { IfOk result (λ a. IsEnded kv.old kv.new a) }
+        ensures over { OnOk result (IsOver self.old self.new) }
+        ensures meaning { IfOk result
+            (λ a. (size : ℕ) (told : Told) (ops : List (Op (List ℕ))) →
+            IsSound size kv.old told self.old ops →
+            IsTrueEnd size told kv.old kv.new self.old ops a) }
+        ensures maps { KeepsMaps kv.old kv.new }
+        ensures pins { KeepsPins kv.old kv.new }
+        ensures fit { IsFit kv.new self.new }
+        ensures err { OnErr result (self.new ≡ self.old) }
+        ensures err_number { OnErr result (kv.new.number ≡ kv.old.number) }
+        ensures fault { IfErr result (λ why. why ≡ Fault.Memory) }
+        ensures dev { GoesOn S.kind dev.old dev.new [] }
+    {
+        let _number = kv.number();
+        let installed = match self.at.install(kv) {
+            Ok(installed) => installed,
+            Err(_) => return Err(Fault::Memory),
+        };
+        match installed {
+            Tried::Installed(n) => {
+                self.ended = true;
+                return Ok(Answer::Committed(n));
+            }
+            Tried::Conflict { .. } => {
+                let ended = match self.start_over(dev, kv) {
+                    Ok(answer) => answer,
+                    Err(why) => return Err(why),
+                };
+                return Ok(ended);
+            }
+        }
+    }
+
+    /// Goes on with a replay that runs at the number, and installs what was done.
+    fn go_on<S: SliceStore>(
+        &mut self,
+        dev: &mut Dev<'_, S>,
+        kv: &mut Kv<Key, Value>,
+    ) -> Result<Answer, Fault>
+        requires sound { IsSoundDev dev.old }
+        requires fit { IsFit kv.old self.old }
+        requires room { kv.old.number < 2 ^ 63 }
+        requires base { self.old.at.base ≡ kv.old.number }
+        ensures ended { IfOk result (λ a. IsEnded kv.old kv.new a) }
+        ensures over { OnOk result (IsOver self.old self.new) }
+        ensures meaning { IfOk result
+            (λ a. (size : ℕ) (told : Told) (ops : List (Op (List ℕ))) →
+            IsSound size kv.old told self.old ops →
+            IsTrueEnd size told kv.old kv.new self.old ops a) }
+        ensures maps { KeepsMaps kv.old kv.new }
+        ensures pins { KeepsPins kv.old kv.new }
+        ensures fit { IsFit kv.new self.new }
+        ensures err { OnErr result (self.new ≡ self.old) }
+        ensures err_number { OnErr result (kv.new.number ≡ kv.old.number) }
+        ensures fault { IfErr result (λ why. why ≡ Fault.Memory) }
+        ensures dev { GoesOn S.kind dev.old dev.new [] }
+    {
+        let mark = self.at.mark();
+        match replay_and_install(
+            self.alloc,
+            dev,
+            kv,
+            &mut self.at,
+            &self.session,
+            self.tx,
+            &self.log,
+            self.replayed,
+        ) {
+            Ok(answer) => {
+                self.ended = true;
+                return Ok(answer);
+            }
+            Err(why) => {
+                self.at.rewind(mark);
+                return Err(why);
+            }
+        }
+    }
+
+    /// Makes all calls once more at the number, and installs what they did.
+    fn start_over<S: SliceStore>(
+        &mut self,
+        dev: &mut Dev<'_, S>,
+        kv: &mut Kv<Key, Value>,
+    ) -> Result<Answer, Fault>
+        requires sound { IsSoundDev dev.old }
+        requires fit { IsFit kv.old self.old }
+        requires room { kv.old.number < 2 ^ 63 }
+        ensures ended { IfOk result (λ a. IsEnded kv.old kv.new a) }
+        ensures over { OnOk result (IsOver self.old self.new) }
+        ensures meaning { IfOk result
+            (λ a. (size : ℕ) (told : Told) (ops : List (Op (List ℕ))) →
+            IsSound size kv.old told self.old ops →
+            IsTrueEnd size told kv.old kv.new self.old ops a) }
+        ensures maps { KeepsMaps kv.old kv.new }
+        ensures pins { KeepsPins kv.old kv.new }
+        ensures fit { IsFit kv.new self.new }
+        ensures err { OnErr result (self.new ≡ self.old) }
+        ensures err_number { OnErr result (kv.new.number ≡ kv.old.number) }
+        ensures fault { IfErr result (λ why. why ≡ Fault.Memory) }
+        ensures dev { GoesOn S.kind dev.old dev.new [] }
+    {
+        let _number = kv.number();
+        match commit_now(self.alloc, dev, kv, self.tx, &self.log) {
+            Ok(answer) => {
+                self.ended = true;
+                return Ok(answer);
+            }
+            Err(why) => return Err(why),
+        }
+    }
+
+    /// Drops the transaction, and undoes the pin of its base. It takes no memory.
+    pub fn drop_all(self, kv: &mut Kv<Key, Value>)
+        requires { IsTrue (is_pinned kv.old self.at.base) }
+        ensures rest { kv.new ≡
+            record kv.old { pins = remove_key (nat_eq self.at.base) kv.old.pins } }
+        ensures once { IsPinnedOnceMore self.at.base kv.new kv.old }
+    {
+        kv.unpin(self.at.base());
+    }
+}
