@@ -1,0 +1,414 @@
+-- Attempts, replayed steps, commits and ends keep what the tables stand for.
+-- NSDI 2016, sections 2.6 and 2.7.
+use Rattle.std.proofs.Common.{◌≡◌, ◌≢◌, suc, ◌≤◌, ◌<◌, ℕ, ◌+◌, ◌-◌, nat_eq, length, take, None, Some, refl, sym, ap, ◌∙◌, subst, inr, arith, slice_get}
+use Rattle.std.specs.Prelude.{if◌then◌else◌}
+use Rattle.std.specs.FinMap.{get, remove}
+use Rattle.wtf_base.specs.declared.ids.InodeId.{InodeId}
+use Rattle.wtf_kv.specs.Stores.{Store, times_pinned}
+use Rattle.wtf_values.specs.declared.key.Key.{Key}
+use Rattle.wtf_values.specs.declared.key.Key.TheVariants.{Inode}
+use Rattle.wtf_values.specs.declared.value.Value.{Value}
+use Rattle.wtf_model.specs.declared.answer.Answer.{Answer, Aborted'}
+use Rattle.wtf_model.specs.declared.answer.Answer.TheVariants as answer
+use Rattle.wtf_model.specs.Tree.{Tree}
+use Rattle.wtf_model.specs.Transaction.{Transaction, answers_of, session_after}
+use Rattle.wtf_model.specs.Machines.{Machine, cap_of}
+use Rattle.wtf_model.specs.Lawful.{Deviates, MayInstall, MayTry, MayStep, MayCommit}
+use Rattle.wtf_model.specs.Steps.{with_transaction, ended, installed, rebased as machine_rebased, tried, stepped, committed}
+use Rattle.wtf_model.proofs.Laws.{get-number_same, get-number_other}
+use Rattle.wtf_meta.specs.Maps.{Map, with, metadata_at}
+use Rattle.wtf_meta.specs.Contents.{Told}
+use Rattle.wtf_meta.specs.Trees.{Stands}
+use Rattle.wtf_meta.proofs.Telling.{TellsOn}
+use Rattle.wtf_meta.specs.Calls.{cap_for}
+use Rattle.wtf_replay.specs.Views.{TxnView}
+use Rattle.wtf_replay.specs.Fits.{IsFit}
+use Rattle.wtf_replay.specs.Refusals.{try_refusal, step_refusal}
+use Rattle.wtf_replay.specs.Sounds.{IsSound, caller_at}
+use Rattle.wtf_replay.specs.Tried.{IsFinal}
+use Rattle.wtf_replay.proofs.Sounding.{sound_later}
+use Rattle.wtf_replay.proofs.Deviating.{at_base}
+use Rattle.wtf_core.specs.Views.{TablesView, of_client, metadata_now}
+use Rattle.wtf_core.specs.Tables.{owned, IsOpen, AreSound}
+use Rattle.wtf_core.specs.Standing.{StandsForTxn, StandsForSlot, TablesStand}
+use Rattle.wtf_core.specs.Turns.{Keeps, Ends, Commits, Retries, Tries, Replays, Aborts, Finishes, GivesUp, Steps, Finals}
+use Rattle.wtf_core.proofs.Later.{Stands-later}
+use Rattle.wtf_core.proofs.Frames.{Turned, sound_turned, stands_turned}
+use Rattle.wtf_core.proofs.Machines.{gone_here, gone_there, cap_is, answer_shown}
+
+-- ---- one client's transaction
+
+-- where the tables stand for the machine, so does a client's transaction
+pub txn_in : (size : ℕ) (told : Told) (old : TablesView) (m : Machine) (c : ℕ) (x : TxnView) (t : Transaction) → TablesStand size told old m → of_client old.clients c ≡ Some x → get m.transactions c ≡ Some t
+    → StandsForTxn size told old.kv m.now x t
+txn_in size told old m c x t st here there =
+    subst (λ o. StandsForSlot size told old.kv m.now (Some x) o) there (subst (λ s. StandsForSlot size told old.kv m.now s (get m.transactions c)) here (st.each c))
+
+-- a map stands for its tree for another transaction too, where it has none of its inodes
+stands_other : (b : ℕ) (told : Told) (tx other k : ℕ) (w : Map) (t : Tree) → Stands b told tx k w t → ((i : InodeId) → i.tx.0 ≡ other → 0 < i.index → w (Inode i) ≡ None) → Stands b told other 0 w t
+stands_other b told tx other k w t st none = record {
+  tree_is = st.tree_is;
+  nodes = st.nodes;
+  names = st.names;
+  apart = st.apart;
+  led = st.led;
+  regions = st.regions;
+  bytes = st.bytes;
+  fresh = none;
+}
+
+-- ---- a transaction that has ended
+module _ (old new : TablesView) (mid : Store Key Value) (c : ℕ) (x : TxnView) (sound : AreSound old) (here : of_client old.clients c ≡ Some x) (up : old.kv.number ≤ mid.number) (ends : Ends old new mid c x) where
+  -- the number is what the transaction left
+  ends_number : new.kv.number ≡ mid.number
+  ends_number = ap (λ (s : Store Key Value). s.number) ends.kv
+
+  -- and so are the maps, which do not read the pins
+  ends_map : (n : ℕ) → metadata_at new.kv n ≡ metadata_at mid n
+  ends_map n = ap (λ s. metadata_at s n) ends.kv
+
+  -- the map now is the one that it left
+  ends_now : metadata_now new.kv ≡ metadata_now mid
+  ends_now = ap (λ n. metadata_at new.kv n) ends_number ∙ ends_map mid.number
+
+  -- a transaction ends, with its pin
+  pub ends_turned : Turned old new c None
+  ends_turned = record {
+    sets = ends.clients;
+    later = omega (arith, up, ends_number);
+    maps = λ n le. ends_map n ∙ ends.maps n le;
+    more = omega (arith, ends.next_tx);
+    pins = λ n.
+        let was : owned n (of_client old.clients c) ≡ owned n (Some x) = ap (owned n) here in
+        let kept = ends.pins n in
+        let fewer = ends.unpinned n in
+        omega (arith, was, kept, fewer);
+    own = λ y e. absurd (cc);
+    whose = λ y e. absurd (cc);
+  }
+
+  -- the tables stay sound
+  pub ends_sound : AreSound new
+  ends_sound = sound_turned old new c None sound ends_turned
+
+  -- the tables stand for a machine without the transaction, where the tree now is that of the map that it left
+  pub ends_stand : (size : ℕ) (told later : Told) (m after : Machine) → TablesStand size told old m → TellsOn told later → after.transactions ≡ remove m.transactions c → after.number ≡ mid.number
+      → ((tx : ℕ) → tx ≢ x.tx → Stands size told tx 0 (metadata_now old.kv) m.now → Stands size told tx 0 (metadata_now mid) after.now)
+      → TablesStand size later new after
+  ends_stand size told later m after st on gone number trees =
+      stands_turned size told later old new m after c None sound st on ends_turned
+      (λ d ne. ap (λ ones. get ones d) gone ∙ gone_there m.transactions c d ne)
+      (number ∙ sym ends_number)
+      (subst (λ o. StandsForSlot size later new.kv after.now None o) (sym (ap (λ ones. get ones c) gone ∙ gone_here m.transactions c)) tt)
+      (λ tx other was.
+      subst (λ w. Stands size later tx 0 w after.now) (sym ends_now)
+      (Stands-later told later on size tx 0 (metadata_now mid) after.now (trees tx (other x here) was)))
+
+  -- an end that leaves the tree as it was
+  pub leaves_stand : (size : ℕ) (told later : Told) (m : Machine) → TablesStand size told old m → TellsOn told later → mid.number ≡ old.kv.number → TablesStand size later new (ended m c)
+  leaves_stand size told later m st on same =
+      let map : metadata_now mid ≡ metadata_now old.kv = ap (λ n. metadata_at mid n) same ∙ ends.maps old.kv.number (omega arith) in
+      ends_stand size told later m (ended m c) st on refl (st.number ∙ sym same) (λ tx other was. subst (λ w. Stands size told tx 0 w m.now) (sym map) was)
+
+  -- an install: the calls run on the tree now
+  pub installs_stand : (size : ℕ) (told later : Told) (m : Machine) (t : Transaction) (n : ℕ) → TablesStand size told old m → TellsOn told later → m.settings.region ≡ size → get m.transactions c ≡ Some t
+      → IsFinal size told old.kv mid x t.ops n → MayInstall m t n × TablesStand size later new (installed m c t n)
+  installs_stand size told later m t n st on region there final =
+      let txn = txn_in size told old m c x t st here there in
+      let ran = final.ran m.now txn.now in
+      let changed : Map = with final.changes (metadata_now old.kv) in
+      let map : metadata_now mid ≡ changed = ap (λ k. metadata_at mid k) final.number ∙ final.map in
+      let cap : cap_of m ≡ _ = cap_is m size region in
+      let now : Tree = (session_after (cap_of m) m.now t.ops).tree in
+      let stands : Stands size told x.tx (length t.ops) changed now = subst (λ k. Stands size told x.tx (length t.ops) changed (session_after k m.now t.ops).tree) (sym cap) ran.stands in (
+        (final.next ∙ ap (λ k. k + 1) (sym st.number), ap (λ k. answers_of k m.now t.ops) cap ∙ ran.answers ∙ sym txn.shown),
+        ends_stand size told later m (installed m c t n) st on refl (sym final.number)
+            (λ tx other was.
+            subst (λ w. Stands size told tx 0 w now) (sym map)
+            (stands_other size told x.tx tx (length t.ops) changed now stands (λ i own some. ran.own i (λ e. other (sym own ∙ e)) (was.fresh i own some)))),
+      )
+
+-- ---- a transaction that goes on at its base
+module _ (old new : TablesView) (c : ℕ) (x y : TxnView) (sound : AreSound old) (here : of_client old.clients c ≡ Some x) (keeps : Keeps old new c (Some y)) (tx : y.tx ≡ x.tx) (base : y.at.base ≡ x.at.base) (going : y.ended ≡ x.ended) (fit : IsFit old.kv y) where
+  -- it is open
+  goes_open : IsOpen new.kv new.next_tx y
+  goes_open =
+      let was : IsOpen old.kv old.next_tx x = sound.each c x here in
+      let open_y : IsOpen old.kv old.next_tx y = record {
+        going = going ∙ was.going;
+        fit = fit;
+        based = subst (λ b. b ≤ old.kv.number) (sym base) was.based;
+        older = subst (λ k. k < old.next_tx) (sym tx) was.older;
+      } in
+      subst (λ kv. IsOpen kv new.next_tx y) (sym keeps.kv) (subst (λ k. IsOpen old.kv k y) (sym keeps.next_tx) open_y)
+
+  -- the store is what it was, and the pin is its own
+  pub goes_turned : Turned old new c (Some y)
+  goes_turned = record {
+    sets = keeps.clients;
+    later = let same : new.kv.number ≡ old.kv.number = ap (λ (s : Store Key Value). s.number) keeps.kv in omega (arith, same);
+    maps = λ n le. ap (λ s. metadata_at s n) keeps.kv;
+    more = let same = keeps.next_tx in omega (arith, same);
+    pins = λ n.
+        let was : owned n (of_client old.clients c) ≡ owned n (Some x) = ap (owned n) here in
+        let is : owned n (Some y) ≡ owned n (Some x) = ap (λ b. if nat_eq n b then 1 else 0) base in
+        let kept : times_pinned new.kv n ≡ times_pinned old.kv n = ap (λ s. times_pinned s n) keeps.kv in
+        omega (arith, was, is, kept);
+    own = λ z e. let hit : y ≡ z = cc in subst (λ v. IsOpen new.kv new.next_tx v) hit goes_open;
+    whose = λ z e. let hit : y ≡ z = cc in inr (x, here, ap (λ (v : TxnView). v.tx) (sym hit) ∙ tx);
+  }
+
+  -- the tables stay sound
+  pub goes_sound : AreSound new
+  goes_sound = sound_turned old new c (Some y) sound goes_turned
+
+  -- the tables stand for the machine with this transaction, where that has the base and the tree that it had
+  pub goes_stand : (size : ℕ) (told later : Told) (m : Machine) (t t2 : Transaction) → TablesStand size told old m → TellsOn told later → get m.transactions c ≡ Some t
+      → IsSound size old.kv later y t2.ops → t2.base ≡ t.base → t2.tree ≡ t.tree → t2.shown ≡ y.log.shown → t2.replayed ≡ y.replayed
+      → TablesStand size later new (with_transaction m c t2)
+  goes_stand size told later m t t2 st on there run base2 tree2 shown2 replayed2 =
+      let txn = txn_in size told old m c x t st here there in
+      let tree : Stands size told y.tx 0 (metadata_at old.kv y.at.base) t2.tree =
+      subst (λ k. Stands size told k 0 (metadata_at old.kv y.at.base) t2.tree) (sym tx)
+      (subst (λ b. Stands size told x.tx 0 (metadata_at old.kv b) t2.tree) (sym base)
+      (subst (λ u. Stands size told x.tx 0 (metadata_at old.kv x.at.base) u) (sym tree2) txn.tree)) in
+      let now : Stands size told y.tx 0 (metadata_now old.kv) m.now = subst (λ k. Stands size told k 0 (metadata_now old.kv) m.now) (sym tx) txn.now in
+      let stands : StandsForTxn size later old.kv m.now y t2 = record {
+        sound = run;
+        base = base2 ∙ txn.base ∙ sym base;
+        shown = shown2;
+        replayed = replayed2;
+        tree = Stands-later told later on size y.tx 0 (metadata_at old.kv y.at.base) t2.tree tree;
+        now = Stands-later told later on size y.tx 0 (metadata_now old.kv) m.now now;
+      } in
+      stands_turned size told later old new m (with_transaction m c t2) c (Some y) sound st on goes_turned
+      (λ d ne. get-number_other m.transactions c t2 d ne)
+      (st.number ∙ ap (λ (s : Store Key Value). s.number) (sym keeps.kv))
+      (subst (λ o. StandsForSlot size later new.kv m.now (Some y) o) (sym (get-number_same m.transactions c t2))
+      (subst (λ kv. StandsForTxn size later kv m.now y t2) (sym keeps.kv) stands))
+      (λ k other was. subst (λ kv. Stands size later k 0 (metadata_now kv) m.now) (sym keeps.kv) (Stands-later told later on size k 0 (metadata_now old.kv) m.now was))
+
+-- ---- a transaction that begins again at the number
+module _ (old new : TablesView) (c : ℕ) (x : TxnView) (b n : ℕ) (sound : AreSound old) (here : of_client old.clients c ≡ Some x) (turn : Retries old new c x b n) where
+  -- the transaction with its log, and nothing done
+  abbrev again : TxnView
+  again = turn.later
+
+  -- it has its number, and the store's as its base
+  retry_tx : again.tx ≡ x.tx
+  retry_tx = ap (λ (v : TxnView). v.tx) turn.retried.is
+
+  retry_base : again.at.base ≡ n
+  retry_base = ap (λ (v : TxnView). v.at.base) turn.retried.is
+
+  -- the map now stays
+  retry_now : metadata_now new.kv ≡ metadata_now old.kv
+  retry_now = ap (λ k. metadata_at new.kv k) turn.retried.number ∙ turn.maps old.kv.number (omega arith)
+
+  -- and is what its new base shows
+  retry_map : metadata_at new.kv again.at.base ≡ metadata_now old.kv
+  retry_map = ap (λ k. metadata_at new.kv k) (retry_base ∙ turn.retried.number_is) ∙ turn.maps old.kv.number (omega arith)
+
+  -- it is open at the number
+  retry_open : IsOpen new.kv new.next_tx again
+  retry_open =
+      let was : IsOpen old.kv old.next_tx x = sound.each c x here in
+      let number = turn.retried.number in
+      let number_is = turn.retried.number_is in
+      let next = turn.next_tx in
+      let older = was.older in
+      record {
+        going = ap (λ (v : TxnView). v.ended) turn.retried.is ∙ was.going;
+        fit = turn.fit;
+        based = omega (arith, retry_base, number, number_is);
+        older = omega (arith, retry_tx, next, older);
+      }
+
+  -- the pin of its base has moved to the number
+  retry_turned : Turned old new c (Some again)
+  retry_turned = record {
+    sets = turn.clients;
+    later = let number = turn.retried.number in omega (arith, number);
+    maps = turn.maps;
+    more = let next = turn.next_tx in omega (arith, next);
+    pins = λ k.
+        let was : owned k (of_client old.clients c) ≡ (if nat_eq k b then 1 else 0) = ap (owned k) here ∙ ap (λ j. if nat_eq k j then 1 else 0) (sym turn.retried.base_is) in
+        let is : owned k (Some again) ≡ (if nat_eq k n then 1 else 0) = ap (λ j. if nat_eq k j then 1 else 0) retry_base in
+        let moved = turn.retried.pins k in
+        omega (arith, was, is, moved);
+    own = λ z e. let hit : again ≡ z = cc in subst (λ v. IsOpen new.kv new.next_tx v) hit retry_open;
+    whose = λ z e. let hit : again ≡ z = cc in inr (x, here, ap (λ (v : TxnView). v.tx) (sym hit) ∙ retry_tx);
+  }
+
+  -- the tables stay sound
+  retry_sound : AreSound new
+  retry_sound = sound_turned old new c (Some again) sound retry_turned
+
+  -- the machine's transaction begins again on the tree now
+  retry_stand : (size : ℕ) (told later : Told) (m : Machine) (t : Transaction) → TablesStand size told old m → TellsOn told later → get m.transactions c ≡ Some t
+      → MayTry m t (answer.Retry b n) × TablesStand size later new (tried m c t (answer.Retry b n))
+  retry_stand size told later m t st on there =
+      let txn = txn_in size told old m c x t st here there in
+      let t2 : Transaction = machine_rebased m t in
+      let now : Stands size later again.tx 0 (metadata_now old.kv) m.now =
+      Stands-later told later on size again.tx 0 (metadata_now old.kv) m.now (subst (λ k. Stands size told k 0 (metadata_now old.kv) m.now) (sym retry_tx) txn.now) in
+      let stands : StandsForTxn size later new.kv m.now again t2 = record {
+        sound = sound_later size new.kv told later again t.ops on (turn.sound size told t.ops txn.sound);
+        base = st.number ∙ sym turn.retried.number_is ∙ sym retry_base;
+        shown = txn.shown ∙ ap (λ (v : TxnView). v.log.shown) (sym turn.retried.is);
+        replayed = ap (λ (v : TxnView). v.replayed) (sym turn.retried.is);
+        tree = subst (λ w. Stands size later again.tx 0 w m.now) (sym retry_map) now;
+        now = subst (λ w. Stands size later again.tx 0 w m.now) (sym retry_now) now;
+      } in (
+        (turn.retried.base_is ∙ sym txn.base, turn.retried.number_is ∙ sym st.number, turn.retried.later),
+        stands_turned size told later old new m (with_transaction m c t2) c (Some again) sound st on retry_turned
+            (λ d ne. get-number_other m.transactions c t2 d ne)
+            (st.number ∙ sym turn.retried.number)
+            (subst (λ o. StandsForSlot size later new.kv m.now (Some again) o) (sym (get-number_same m.transactions c t2)) stands)
+            (λ k other was. subst (λ w. Stands size later k 0 w m.now) (sym retry_now) (Stands-later told later on size k 0 (metadata_now old.kv) m.now was)),
+      )
+
+-- ---- an attempt
+-- a commit raises the number
+commit_up : (old new : TablesView) (c : ℕ) (x : TxnView) (n : ℕ) (turn : Commits old new c x n) → old.kv.number ≤ turn.mid.number
+commit_up old new c x n turn = let number = turn.committed.installed.number in let next = turn.committed.installed.next in omega (arith, number, next)
+
+-- the tables stay sound
+pub tries_sound : (old new : TablesView) (c : ℕ) (x : TxnView) (a : Answer) → AreSound old → of_client old.clients c ≡ Some x → Tries old new c x a → AreSound new
+tries_sound old new c x (answer.Committed n) sound here turn = ends_sound old new turn.mid c x sound here (commit_up old new c x n turn) turn.ends
+tries_sound old new c x (answer.Retry b n) sound here turn = retry_sound old new c x b n sound here turn
+tries_sound old new c x a sound here turn = absurd turn
+
+-- the machine may answer so, and the tables stand for what it then is
+pub tries_stand : (size : ℕ) (told later : Told) (old new : TablesView) (m : Machine) (c : ℕ) (x : TxnView) (t : Transaction) (a : Answer)
+    → AreSound old → m.settings.region ≡ size → TablesStand size told old m → TellsOn told later
+    → of_client old.clients c ≡ Some x → get m.transactions c ≡ Some t → try_refusal x ≡ None
+    → Tries old new c x a → MayTry m t a × TablesStand size later new (tried m c t a)
+tries_stand size told later old new m c x t (answer.Committed n) sound region st on here there asked turn =
+    installs_stand old new turn.mid c x sound here (commit_up old new c x n turn) turn.ends size told later m t n st on region there
+    (turn.final size told t.ops (txn_in size told old m c x t st here there).sound)
+tries_stand size told later old new m c x t (answer.Retry b n) sound region st on here there asked turn = retry_stand old new c x b n sound here turn size told later m t st on there
+tries_stand size told later old new m c x t a sound region st on here there asked turn = absurd turn
+
+-- ---- a step
+module _ (Telling : Type 0) (size : ℕ) (told later : Told) (old new : TablesView) (c : ℕ) (x : TxnView) (i : ℕ) (sound : AreSound old) (here : of_client old.clients c ≡ Some x) (turn : Replays Telling size told later old new c x i) where
+  -- the transaction with one call more done
+  abbrev onward : TxnView
+  onward = turn.later_one
+
+  -- it has its number and its log, with i calls done
+  replay_tx : onward.tx ≡ x.tx
+  replay_tx = ap (λ (v : TxnView). v.tx) turn.replayed.is
+
+  replay_going : onward.ended ≡ x.ended
+  replay_going = ap (λ (v : TxnView). v.ended) turn.replayed.is
+
+  -- the tables stay sound
+  replay_sound : AreSound new
+  replay_sound = goes_sound old new c x onward sound here turn.keeps replay_tx turn.replayed.base replay_going turn.fit
+
+  replay_count : onward.replayed ≡ i
+  replay_count = ap (λ (v : TxnView). v.replayed) turn.replayed.is
+
+  replay_shown : onward.log.shown ≡ x.log.shown
+  replay_shown = ap (λ (v : TxnView). v.log.shown) turn.replayed.is
+
+  -- on the tree at the base the next call answers what was shown
+  replay_may : (m : Machine) (t : Transaction) → m.settings.region ≡ size → StandsForTxn size told old.kv m.now x t → TellsOn told later → IsSound size old.kv later onward t.ops
+      → MayStep m t (answer.Replayed i)
+  replay_may m t region txn on run =
+      let tree : Stands size told onward.tx 0 (metadata_at old.kv onward.at.base) t.tree =
+      subst (λ k. Stands size told k 0 (metadata_at old.kv onward.at.base) t.tree) (sym replay_tx)
+      (subst (λ b. Stands size told x.tx 0 (metadata_at old.kv b) t.tree) (sym turn.replayed.base) txn.tree) in
+      let ran = at_base size old.kv later onward t.ops run t.tree (Stands-later told later on size onward.tx 0 (metadata_at old.kv onward.at.base) t.tree tree) in
+      let cap = cap_is m size region in
+      let index = turn.replayed.index in
+      let done = txn.replayed in
+      let up : suc t.replayed ≡ onward.replayed = omega (arith, index, done, replay_count) in
+      let first : answers_of (cap_of m) t.tree (take (suc t.replayed) t.ops) ≡ take (suc t.replayed) t.shown =
+      ap (λ k. answers_of k t.tree (take (suc t.replayed) t.ops)) cap
+      ∙ ap (λ k. answers_of (cap_for (caller_at size x.tx 0)) t.tree (take k t.ops)) up
+      ∙ ran.answers
+      ∙ ap (λ k. take k onward.log.shown) (sym up)
+      ∙ ap (λ l. take (suc t.replayed) l) (replay_shown ∙ sym txn.shown) in
+      (index ∙ ap (λ k. k + 1) (sym done), answer_shown (cap_of m) t.tree t.ops t.shown t.replayed first)
+
+  -- and the machine's transaction goes on with it
+  replay_stand : (m : Machine) (t : Transaction) → m.settings.region ≡ size → TablesStand size told old m → TellsOn told later → get m.transactions c ≡ Some t → Telling
+      → MayStep m t (answer.Replayed i) × TablesStand size later new (stepped m c t (answer.Replayed i))
+  replay_stand m t region st on there telling =
+      let txn = txn_in size told old m c x t st here there in
+      let run : IsSound size old.kv later onward t.ops = turn.sound telling t.ops txn.sound in (
+        replay_may m t region txn on run,
+        goes_stand old new c x onward sound here turn.keeps replay_tx turn.replayed.base replay_going turn.fit size told later m t (record t { replayed = i }) st on there run
+            refl refl (txn.shown ∙ sym replay_shown) (sym replay_count),
+      )
+
+-- a call that deviates at the base ends the transaction
+abort_may : (Telling : Type 0) (size : ℕ) (told later : Told) (old new : TablesView) (c : ℕ) (x : TxnView) (i : ℕ) (a : Answer) (m : Machine) (t : Transaction)
+    → Aborts Telling size told later old new c x i a → m.settings.region ≡ size → StandsForTxn size told old.kv m.now x t → Telling
+    → (i ≡ t.replayed + 1) × (slice_get (answers_of (cap_of m) t.tree t.ops) t.replayed ≡ Some a) × (slice_get t.shown t.replayed ≢ Some a)
+abort_may Telling size told later old new c x i a m t turn region txn telling =
+    let d = turn.deviates telling t.ops txn.sound t.tree txn.tree in
+    let index = turn.index in
+    let done = txn.replayed in
+    let place : t.replayed ≡ i - 1 = omega (arith, index, done) in (
+      index ∙ ap (λ k. k + 1) (sym done),
+      ap (λ k. slice_get (answers_of k t.tree t.ops) t.replayed) (cap_is m size region) ∙ ap (slice_get (answers_of (cap_for (caller_at size x.tx 0)) t.tree t.ops)) place ∙ d.answer_is,
+      λ e. d.differs (ap (slice_get x.log.shown) (sym place) ∙ ap (λ l. slice_get l t.replayed) (sym txn.shown) ∙ e),
+    )
+
+-- the tables stay sound
+pub steps_sound : (Telling : Type 0) (size : ℕ) (told later : Told) (old new : TablesView) (c : ℕ) (x : TxnView) (a : Answer) → AreSound old → of_client old.clients c ≡ Some x → Steps Telling size told later old new c x a → AreSound new
+steps_sound Telling size told later old new c x (answer.Replayed i) sound here turn = replay_sound Telling size told later old new c x i sound here turn
+steps_sound Telling size told later old new c x (Aborted' i box a) sound here turn = ends_sound old new old.kv c x sound here (omega arith) turn.ends
+steps_sound Telling size told later old new c x a sound here turn = absurd turn
+
+-- the machine may answer so, and the tables stand for what it then is
+pub steps_stand : (Telling : Type 0) (size : ℕ) (told later : Told) (old new : TablesView) (m : Machine) (c : ℕ) (x : TxnView) (t : Transaction) (a : Answer)
+    → AreSound old → m.settings.region ≡ size → TablesStand size told old m → TellsOn told later
+    → of_client old.clients c ≡ Some x → get m.transactions c ≡ Some t → step_refusal x ≡ None → Telling
+    → Steps Telling size told later old new c x a → MayStep m t a × TablesStand size later new (stepped m c t a)
+steps_stand Telling size told later old new m c x t (answer.Replayed i) sound region st on here there asked telling turn = replay_stand Telling size told later old new c x i sound here turn m t region st on there telling
+steps_stand Telling size told later old new m c x t (Aborted' i box a) sound region st on here there asked telling turn = (
+  abort_may Telling size told later old new c x i a m t turn region (txn_in size told old m c x t st here there) telling,
+  leaves_stand old new old.kv c x sound here (omega arith) turn.ends size told later m st on refl,
+)
+steps_stand Telling size told later old new m c x t a sound region st on here there asked telling turn = absurd turn
+
+-- ---- a commit
+-- a commit by replay raises the number
+finish_up : (Telling : Type 0) (size : ℕ) (told later : Told) (old new : TablesView) (c : ℕ) (x : TxnView) (n : ℕ) (turn : Finishes Telling size told later old new c x n) → old.kv.number ≤ turn.mid.number
+finish_up Telling size told later old new c x n turn = let number = turn.number in let next = turn.next in omega (arith, number, next)
+
+-- a replay that is given up leaves the number
+give_up : (Telling : Type 0) (size : ℕ) (told later : Told) (old new : TablesView) (c : ℕ) (x : TxnView) (i : ℕ) (a : Answer) (turn : GivesUp Telling size told later old new c x i a) → old.kv.number ≤ turn.mid.number
+give_up Telling size told later old new c x i a turn = let number = turn.number in omega (arith, number)
+
+-- calls that deviate on the map now do so on the tree now
+give_up_may : (Telling : Type 0) (size : ℕ) (told later : Told) (old new : TablesView) (c : ℕ) (x : TxnView) (i : ℕ) (a : Answer) (m : Machine) (t : Transaction)
+    → GivesUp Telling size told later old new c x i a → m.settings.region ≡ size → StandsForTxn size told old.kv m.now x t → Telling
+    → Deviates (answers_of (cap_of m) m.now t.ops) t.shown i a
+give_up_may Telling size told later old new c x i a m t turn region txn telling =
+    subst (λ k. Deviates (answers_of k m.now t.ops) t.shown i a) (sym (cap_is m size region))
+    (subst (λ l. Deviates (answers_of (cap_for (caller_at size x.tx 0)) m.now t.ops) l i a) (sym txn.shown) (turn.deviates telling t.ops txn.sound m.now txn.now))
+
+-- the tables stay sound
+pub finals_sound : (Telling : Type 0) (size : ℕ) (told later : Told) (old new : TablesView) (c : ℕ) (x : TxnView) (a : Answer) → AreSound old → of_client old.clients c ≡ Some x → Finals Telling size told later old new c x a → AreSound new
+finals_sound Telling size told later old new c x (answer.Committed n) sound here turn = ends_sound old new turn.mid c x sound here (finish_up Telling size told later old new c x n turn) turn.ends
+finals_sound Telling size told later old new c x (Aborted' i box a) sound here turn = ends_sound old new turn.mid c x sound here (give_up Telling size told later old new c x i a turn) turn.ends
+finals_sound Telling size told later old new c x a sound here turn = absurd turn
+
+-- the machine may answer so, and the tables stand for what it then is
+pub finals_stand : (Telling : Type 0) (size : ℕ) (told later : Told) (old new : TablesView) (m : Machine) (c : ℕ) (x : TxnView) (t : Transaction) (a : Answer)
+    → AreSound old → m.settings.region ≡ size → TablesStand size told old m → TellsOn told later
+    → of_client old.clients c ≡ Some x → get m.transactions c ≡ Some t → Telling
+    → Finals Telling size told later old new c x a → MayCommit m t a × TablesStand size later new (committed m c t a)
+finals_stand Telling size told later old new m c x t (answer.Committed n) sound region st on here there telling turn =
+    installs_stand old new turn.mid c x sound here (finish_up Telling size told later old new c x n turn) turn.ends size told later m t n st on region there
+    (turn.final telling t.ops (txn_in size told old m c x t st here there).sound)
+finals_stand Telling size told later old new m c x t (Aborted' i box a) sound region st on here there telling turn = (
+  give_up_may Telling size told later old new c x i a m t turn region (txn_in size told old m c x t st here there) telling,
+  leaves_stand old new turn.mid c x sound here (give_up Telling size told later old new c x i a turn) turn.ends size told later m st on turn.number,
+)
+finals_stand Telling size told later old new m c x t a sound region st on here there telling turn = absurd turn

@@ -1,0 +1,82 @@
+-- A line raises the number of installs, and the number of the transaction that begins next, by at most one.
+use Rattle.std.proofs.Common.{◌≡◌, ◌≤◌, ℕ, ◌+◌, Option, None, Some, MatchOption, ap, arith}
+use Rattle.wtf_kv.specs.Stores.{Store}
+use Rattle.wtf_values.specs.declared.key.Key.{Key}
+use Rattle.wtf_values.specs.declared.value.Value.{Value}
+use Rattle.wtf_model.specs.declared.answer.Answer.{Answer, Aborted'}
+use Rattle.wtf_model.specs.declared.answer.Answer.TheVariants as answer
+use Rattle.wtf_model.specs.declared.answer.Word.{Word}
+use Rattle.wtf_model.specs.declared.answer.Word.TheVariants.{NoTx, InTx}
+use Rattle.wtf_model.specs.declared.event.Verb.{Verb}
+use Rattle.wtf_model.specs.declared.event.Verb.TheVariants as verb
+use Rattle.wtf_meta.specs.Contents.{Told}
+use Rattle.wtf_replay.specs.Views.{TxnView}
+use Rattle.wtf_replay.specs.Refusals.{call_refusal, try_refusal, step_refusal}
+use Rattle.wtf_core.specs.Views.{TablesView, of_client}
+use Rattle.wtf_core.specs.Turns.{Keeps, Refuses, Begins, Ends, Tries, Steps, Finals, LoneTurn, TxnTurn, ClientTurn}
+
+-- by at most one each
+pub record Rises (old new : TablesView) : Type 0 where
+  pub number : new.kv.number ≤ old.kv.number + 1
+  pub next_tx : new.next_tx ≤ old.next_tx + 1
+
+rises : (old new : TablesView) (n m : ℕ) → new.kv.number ≡ n → new.next_tx ≡ m → n ≤ old.kv.number + 1 → m ≤ old.next_tx + 1 → Rises old new
+rises old new n m number next up more = record { number = omega (arith, number, up); next_tx = omega (arith, next, more) }
+
+keeps_rise : (old new : TablesView) (c : ℕ) (now : Option TxnView) → Keeps old new c now → Rises old new
+keeps_rise old new c now h = rises old new old.kv.number old.next_tx (ap (λ (s : Store Key Value). s.number) h.kv) h.next_tx (omega arith) (omega arith)
+
+refuses_rise : (old new : TablesView) (c : ℕ) (w : Word) (a : Answer) → Refuses old new c w a → Rises old new
+refuses_rise old new c w a h = keeps_rise old new c (of_client old.clients c) h.keeps
+
+ends_rise : (old new : TablesView) (mid : Store Key Value) (c : ℕ) (x : TxnView) → mid.number ≤ old.kv.number + 1 → Ends old new mid c x → Rises old new
+ends_rise old new mid c x up h = rises old new mid.number old.next_tx (ap (λ (s : Store Key Value). s.number) h.kv) h.next_tx up (omega arith)
+
+begins_rise : (old new : TablesView) (c : ℕ) (a : Answer) → Begins old new c a → Rises old new
+begins_rise old new c a h = rises old new old.kv.number (old.next_tx + 1) (ap (λ (s : Store Key Value). s.number) h.kv) h.next_tx (omega arith) (omega arith)
+
+tries_rise : (old new : TablesView) (c : ℕ) (x : TxnView) (a : Answer) → Tries old new c x a → Rises old new
+tries_rise old new c x (answer.Committed n) h =
+    let is = h.committed.installed.number in
+    let next = h.committed.installed.next in
+    ends_rise old new h.mid c x (omega (arith, is, next)) h.ends
+tries_rise old new c x (answer.Retry b n) h = rises old new old.kv.number old.next_tx h.retried.number h.next_tx (omega arith) (omega arith)
+tries_rise old new c x a h = absurd h
+
+module _ (Telling : Type 0) (size : ℕ) (told later : Told) (old new : TablesView) (c : ℕ) where
+  steps_rise : (x : TxnView) (a : Answer) → Steps Telling size told later old new c x a → Rises old new
+  steps_rise x (answer.Replayed i) h = keeps_rise old new c (Some h.later_one) h.keeps
+  steps_rise x (Aborted' i box a) h = ends_rise old new old.kv c x (omega arith) h.ends
+  steps_rise x a h = absurd h
+
+  finals_rise : (x : TxnView) (a : Answer) → Finals Telling size told later old new c x a → Rises old new
+  finals_rise x (answer.Committed n) h =
+      let is = h.number in
+      let next = h.next in
+      ends_rise old new h.mid c x (omega (arith, is, next)) h.ends
+  finals_rise x (Aborted' i box a) h = let is = h.number in ends_rise old new h.mid c x (omega (arith, is)) h.ends
+  finals_rise x a h = absurd h
+
+  -- unless it is refused
+  or_refused : (P : Type 0) (a : Answer) (r : Option Word) → (P → Rises old new) → MatchOption r P (λ w. Refuses old new c w a) → Rises old new
+  or_refused P a None rise h = rise h
+  or_refused P a (Some w) rise h = refuses_rise old new c w a h
+
+  lone_rise : (v : Verb) (a : Answer) → LoneTurn Telling size told later old new c v a → Rises old new
+  lone_rise verb.Begin a h = begins_rise old new c a h
+  lone_rise v a h = refuses_rise old new c NoTx a h
+
+  txn_rise : (x : TxnView) (v : Verb) (a : Answer) → TxnTurn Telling size told later old new c x v a → Rises old new
+  txn_rise x verb.Begin a h = refuses_rise old new c InTx a h
+  txn_rise x verb.Try a h = or_refused (Tries old new c x a) a (try_refusal x) (tries_rise old new c x a) h
+  txn_rise x verb.Step a h = or_refused (Steps Telling size told later old new c x a) a (step_refusal x) (steps_rise x a) h
+  txn_rise x verb.Commit a h = finals_rise x a h
+  txn_rise x verb.Abort a h = ends_rise old new old.kv c x (omega arith) h.1
+  txn_rise x (verb.Call o) a h = or_refused _ a (call_refusal x) (λ made. keeps_rise old new c (Some made.later_one) made.keeps) h
+
+  pub client_rises : (v : Verb) (a : Answer) → ClientTurn Telling size told later old new c v a → Rises old new
+  client_rises v a h = by (of_client old.clients c) h
+    where
+      by : (o : Option TxnView) → MatchOption o (LoneTurn Telling size told later old new c v a) (λ x. TxnTurn Telling size told later old new c x v a) → Rises old new
+      by None g = lone_rise v a g
+      by (Some x) g = txn_rise x v a g

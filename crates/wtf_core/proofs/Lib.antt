@@ -1,0 +1,16 @@
+pub mod Later
+pub mod Pins
+pub mod Frames
+pub mod Machines
+pub mod Ending
+pub mod Plain
+pub mod Lines
+pub mod Lists
+pub mod Making
+pub mod RowsSorted
+pub mod RowsWalk
+pub mod RowsShown
+pub mod Growth
+pub mod Whole
+pub mod Started
+pub mod Tidying

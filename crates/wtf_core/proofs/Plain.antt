@@ -1,0 +1,225 @@
+-- Lines that are refused, that begin a transaction or log a call, and aborts: the tables stay sound and stand for the machine.
+-- NSDI 2016, section 2.6.
+use Rattle.std.proofs.Common.{◌≡◌, ℕ, ◌+◌, ◌*◌, ◌++◌, Bool, true, false, length, take, List, [], ◌∷◌, None, Some, refl, sym, ap, ◌∙◌, subst, inl, inr, arith}
+use Rattle.std.specs.Prelude.{if◌then◌else◌}
+use Rattle.std.specs.Bool.{MatchBool}
+use Rattle.std.proofs.Math.Seq.{take-length}
+use Rattle.std.proofs.lemmas.Bool.{eqb-true}
+use Rattle.std.proofs.lemmas.List.{length_push, append_cancel_left}
+use Rattle.std.specs.FinMap.{get}
+use Rattle.wtf_kv.specs.Stores.{Store, times_pinned}
+use Rattle.wtf_values.specs.declared.key.Key.{Key}
+use Rattle.wtf_values.specs.declared.value.Value.{Value}
+use Rattle.wtf_model.specs.declared.limits.TheConstants.{MAX_REGIONS}
+use Rattle.wtf_model.specs.declared.answer.Answer.{Answer}
+use Rattle.wtf_model.specs.declared.answer.Answer.TheVariants as answer
+use Rattle.wtf_model.specs.declared.answer.Word.{Word}
+use Rattle.wtf_model.specs.declared.op.Op.{Op}
+use Rattle.wtf_model.specs.declared.event.Verb.TheVariants as verb
+use Rattle.wtf_model.specs.Session.{fresh}
+use Rattle.wtf_model.specs.Tree.{Tree}
+use Rattle.wtf_model.specs.Call.{call}
+use Rattle.wtf_model.specs.Transaction.{Transaction, answers_of, session_after}
+use Rattle.wtf_model.specs.Machines.{Machine, cap_of, due}
+use Rattle.wtf_model.specs.Lawful.{MayCall, MayAsk}
+use Rattle.wtf_model.specs.Steps.{IsLogged, is_logged, with_transaction, begun as machine_begun, logged, called, aborted}
+use Rattle.wtf_model.proofs.Laws.{get-number_same, get-number_other, answers_from-push}
+use Rattle.wtf_log.specs.Calls.{with_call}
+use Rattle.wtf_log.proofs.StandingLaws.{OpsStandFor-length}
+use Rattle.wtf_meta.specs.Contents.{Told}
+use Rattle.wtf_meta.specs.Maps.{metadata_at}
+use Rattle.wtf_meta.specs.Trees.{Stands}
+use Rattle.wtf_meta.proofs.Telling.{TellsOn}
+use Rattle.wtf_replay.specs.Views.{TxnView, begun, is_live}
+use Rattle.wtf_replay.specs.Refusals.{call_refusal}
+use Rattle.wtf_replay.specs.Fits.{IsFit}
+use Rattle.wtf_replay.specs.Sounds.{IsSound, tells_slice}
+use Rattle.wtf_replay.proofs.Deviating.{at_base}
+use Rattle.wtf_core.specs.Views.{TablesView, of_client, metadata_now}
+use Rattle.wtf_core.specs.Tables.{owned, IsOpen, AreSound}
+use Rattle.wtf_core.specs.Standing.{StandsForTxn, StandsForSlot, TablesStand}
+use Rattle.wtf_core.specs.Turns.{Refuses, Begins, Calls, Ends}
+use Rattle.wtf_core.proofs.Pins.{one_some}
+use Rattle.wtf_core.proofs.Frames.{Turned, txn_on, slot_on, sound_turned, stands_turned}
+use Rattle.wtf_core.proofs.Later.{Stands-later}
+use Rattle.wtf_core.proofs.Machines.{cap_is}
+use Rattle.wtf_core.proofs.Ending.{txn_in, ends_sound, leaves_stand, goes_sound, goes_stand}
+
+-- ---- a line that is refused
+module _ (old new : TablesView) (c : ℕ) (w : Word) (a : Answer) (sound : AreSound old) (refuses : Refuses old new c w a) where
+  -- all is as it was
+  refuses_turned : Turned old new c (of_client old.clients c)
+  refuses_turned =
+      let keeps = refuses.keeps in
+      let number : new.kv.number ≡ old.kv.number = ap (λ (k : Store Key Value). k.number) keeps.kv in
+      let next = keeps.next_tx in
+      record {
+        sets = keeps.clients;
+        later = omega (arith, number);
+        maps = λ n le. ap (λ (k : Store Key Value). metadata_at k n) keeps.kv;
+        more = omega (arith, next);
+        pins = λ n. ap (λ (k : Store Key Value). times_pinned k n + owned n (of_client old.clients c)) keeps.kv;
+        own = λ x is. subst (λ k. IsOpen k new.next_tx x) (sym keeps.kv) (subst (λ n. IsOpen old.kv n x) (sym keeps.next_tx) (sound.each c x is));
+        whose = λ x is. inr (x, is, refl);
+      }
+
+  -- the tables stay sound
+  pub refuses_sound : AreSound new
+  refuses_sound = sound_turned old new c (of_client old.clients c) sound refuses_turned
+
+  -- and they stand for the machine as it was
+  pub refuses_stand : (size : ℕ) (told later : Told) (m : Machine) → TablesStand size told old m → TellsOn told later → TablesStand size later new m
+  refuses_stand size told later m st on =
+      let now_is : metadata_now new.kv ≡ metadata_now old.kv = ap (λ (k : Store Key Value). metadata_now k) refuses.keeps.kv in
+      let trees : (tx : ℕ) → Stands size told tx 0 (metadata_now old.kv) m.now → Stands size later tx 0 (metadata_now new.kv) m.now = λ tx s.
+      subst (λ v. Stands size later tx 0 v m.now) (sym now_is) (Stands-later told later on size tx 0 (metadata_now old.kv) m.now s) in
+      stands_turned size told later old new m m c (of_client old.clients c) sound st on refuses_turned (λ d other. refl)
+      (st.number ∙ ap (λ (k : Store Key Value). k.number) (sym refuses.keeps.kv))
+      (slot_on size told later old.kv new.kv m.now m.now (of_client old.clients c) (get m.transactions c)
+      (λ x t is txn. txn_on size told later old.kv new.kv m.now m.now x t on (sound.each c x is).based (λ n le. ap (λ (k : Store Key Value). metadata_at k n) refuses.keeps.kv) (trees x.tx txn.now) txn)
+      (st.each c))
+      (λ tx other s. trees tx s)
+
+-- ---- a transaction begins
+module _ (old new : TablesView) (c : ℕ) (a : Answer) (sound : AreSound old) (none : of_client old.clients c ≡ None) (begins : Begins old new c a) where
+  -- the client has a transaction of the next number, at the number now, which is pinned for it
+  begins_turned : Turned old new c (Some (begun old.next_tx old.kv.number))
+  begins_turned =
+      let number : new.kv.number ≡ old.kv.number = ap (λ (k : Store Key Value). k.number) begins.kv in
+      let next = begins.next_tx in
+      let x : TxnView = begun old.next_tx old.kv.number in
+      record {
+        sets = begins.clients;
+        later = omega (arith, number);
+        maps = λ n le. ap (λ (k : Store Key Value). metadata_at k n) begins.kv;
+        more = omega (arith, next);
+        pins = λ n.
+            let more = begins.pinned n in
+            let was : owned n (of_client old.clients c) ≡ 0 = ap (owned n) none in
+            omega (arith, more, was);
+        own = λ z is. subst (λ v. IsOpen new.kv new.next_tx v) (one_some (Some x) x z refl is) (record {
+          going = refl;
+          fit = begins.fit;
+          based = omega (arith, number);
+          older = omega (arith, next);
+        });
+        whose = λ z is. inl (ap (λ (v : TxnView). v.tx) (sym (one_some (Some x) x z refl is)));
+      }
+
+  -- the tables stay sound
+  pub begins_sound : AreSound new
+  begins_sound = sound_turned old new c (Some (begun old.next_tx old.kv.number)) sound begins_turned
+
+  -- the machine may answer so, and they stand for it with a transaction that begins on the tree now
+  pub begins_stand : (size : ℕ) (told later : Told) (m : Machine) → TablesStand size told old m → TellsOn told later → MayAsk m None verb.Begin a × TablesStand size later new (machine_begun m c a)
+  begins_stand size told later m st on =
+      let x : TxnView = begun old.next_tx old.kv.number in
+      let t : Transaction = record { stamp = m.next_stamp; base = m.number; tree = m.now; ops = []; shown = []; replayed = 0; touched = [] } in
+      let after : Machine = machine_begun m c (answer.Begun old.kv.number) in
+      let map : (n : ℕ) → metadata_at new.kv n ≡ metadata_at old.kv n = λ n. ap (λ (k : Store Key Value). metadata_at k n) begins.kv in
+      let now_is : metadata_now new.kv ≡ metadata_now old.kv = ap (λ (k : Store Key Value). metadata_now k) begins.kv in
+      let trees : (tx : ℕ) → Stands size told tx 0 (metadata_now old.kv) m.now → Stands size later tx 0 (metadata_now new.kv) m.now = λ tx s.
+      subst (λ v. Stands size later tx 0 v m.now) (sym now_is) (Stands-later told later on size tx 0 (metadata_now old.kv) m.now s) in
+      let fresh_tree : Stands size told old.next_tx 0 (metadata_now old.kv) m.now = st.later old.next_tx (omega arith) in
+      let stands : StandsForTxn size later new.kv m.now x t = record {
+        sound = begins.sound size later;
+        base = st.number;
+        shown = refl;
+        replayed = refl;
+        tree = subst (λ v. Stands size later old.next_tx 0 v m.now) (sym (map old.kv.number)) (Stands-later told later on size old.next_tx 0 (metadata_now old.kv) m.now fresh_tree);
+        now = trees old.next_tx fresh_tree;
+      } in (
+        begins.answer ∙ ap answer.Begun (sym st.number),
+        subst (λ r. TablesStand size later new (machine_begun m c r)) (sym begins.answer)
+            (stands_turned size told later old new m after c (Some x) sound st on begins_turned
+            (λ d other. get-number_other m.transactions c t d other)
+            (st.number ∙ ap (λ (k : Store Key Value). k.number) (sym begins.kv))
+            (subst (λ o. StandsForSlot size later new.kv m.now (Some x) o) (sym (get-number_same m.transactions c t)) stands)
+            (λ tx other s. trees tx s)),
+      )
+
+-- ---- a call
+-- a test that holds is true
+is_true_of : (b : Bool) → MatchBool b (Unit {0}) ⊥ → b ≡ true
+is_true_of true h = refl
+is_true_of false h = absurd h
+
+-- a call is made where all before it are done
+made_live : (b : Bool) (full : Bool) (u v : Word) → (if b then (if full then Some u else None) else Some v) ≡ None → b ≡ true
+made_live true full u v h = refl
+made_live false full u v h = absurd (cc)
+
+call_live : (x : TxnView) → call_refusal x ≡ None → x.replayed ≡ length x.log.ops
+call_live x h = eqb-true x.replayed (length x.log.ops) (made_live (is_live x) _ _ _ h)
+
+-- the last of equal lists
+last_same : {A : Type 0} (xs : List A) (x y : A) → xs ++ x ∷ [] ≡ xs ++ y ∷ [] → x ≡ y
+last_same xs x y same = let ends : x ∷ [] ≡ y ∷ [] = append_cancel_left xs (x ∷ []) (y ∷ []) same in cc
+
+-- calls that answer so, the last of them too
+last_answer : (cap : ℕ) (tree : Tree) (ops : List (Op (List ℕ))) (shown : List Answer) (o : Op (List ℕ)) (a : Answer)
+    → answers_of cap tree ops ≡ shown → answers_of cap tree (ops ++ o ∷ []) ≡ shown ++ a ∷ [] → a ≡ (call cap (session_after cap tree ops) o).answer
+last_answer cap tree ops shown o a before all =
+    last_same shown a (call cap (session_after cap tree ops) o).answer
+    (sym all ∙ answers_from-push cap (fresh tree) ops o ∙ ap (λ l. l ++ (call cap (session_after cap tree ops) o).answer ∷ []) before)
+
+-- all of the calls answer what was shown, where all are done
+all_answers : (size : ℕ) (kv : Store Key Value) (told : Told) (x : TxnView) (ops : List (Op (List ℕ))) (tree : Tree) → IsSound size kv told x ops → IsFit kv x → x.replayed ≡ length x.log.ops
+    → Stands size told x.tx 0 (metadata_at kv x.at.base) tree → answers_of (MAX_REGIONS * size) tree ops ≡ x.log.shown
+all_answers size kv told x ops tree sound fit live stands =
+    let cap : ℕ = MAX_REGIONS * size in
+    let ran = at_base size kv told x ops sound tree stands in
+    let count : x.replayed ≡ length ops = live ∙ OpsStandFor-length (tells_slice told) x.log.ops ops sound.ops_are in
+    let shown : x.replayed ≡ length x.log.shown = live ∙ sym fit.log.answers in
+    let done : take x.replayed ops ≡ ops = ap (λ n. take n ops) count ∙ take-length ops in
+    ap (answers_of cap tree) (sym done) ∙ ran.answers ∙ ap (λ n. take n x.log.shown) shown ∙ take-length x.log.shown
+
+-- a machine that logs what is logged
+called_is : (m : Machine) (c : ℕ) (t : Transaction) (o : Op (List ℕ)) (a : Answer) → IsLogged a → called m c t o a ≡ with_transaction m c (logged t o a)
+called_is m c t o a h = ap (λ b. if b then with_transaction m c (logged t o a) else m) (is_true_of (is_logged a) h)
+
+module _ (Telling : Type 0) (size : ℕ) (told later : Told) (old new : TablesView) (c : ℕ) (x : TxnView) (o : Op (List ℕ)) (a : Answer)
+    (sound : AreSound old) (here : of_client old.clients c ≡ Some x) (calls : Calls Telling size told later old new c x o a) where
+  -- the tables stay sound
+  pub calls_sound : AreSound new
+  calls_sound =
+      let is = calls.called.logged in
+      goes_sound old new c x calls.later_one sound here calls.keeps is.tx is.grows.base is.ended calls.fit
+
+  -- the answer is due to the machine's transaction, which logs it too
+  pub calls_stand : (m : Machine) (t : Transaction) → m.settings.region ≡ size → TablesStand size told old m → TellsOn told later → get m.transactions c ≡ Some t → call_refusal x ≡ None
+      → Telling → MayCall m t o a × TablesStand size later new (called m c t o a)
+  calls_stand m t region st on there asked telling =
+      let y : TxnView = calls.later_one in
+      let is = calls.called.logged in
+      let txn = txn_in size told old m c x t st here there in
+      let fit : IsFit old.kv x = (sound.each c x here).fit in
+      let live = call_live x asked in
+      let calls_are : IsSound size old.kv later y (t.ops ++ o ∷ []) = calls.sound telling t.ops txn.sound in
+      let log : y.log ≡ with_call x.log calls.called.kept a = is.log in
+      let shown : y.log.shown ≡ x.log.shown ++ a ∷ [] = ap (λ l. l.shown) log in
+      let live2 : y.replayed ≡ length y.log.ops = is.replayed ∙ ap (λ n. n + 1) live ∙ sym (length_push x.log.ops calls.called.kept) ∙ ap (λ l. length l.ops) (sym log) in
+      let cap : cap_of m ≡ MAX_REGIONS * size = cap_is m size region in
+      let tree : Stands size later y.tx 0 (metadata_at old.kv y.at.base) t.tree =
+      subst (λ n. Stands size later n 0 (metadata_at old.kv y.at.base) t.tree) (sym is.tx)
+      (subst (λ b. Stands size later x.tx 0 (metadata_at old.kv b) t.tree) (sym is.grows.base)
+      (Stands-later told later on size x.tx 0 (metadata_at old.kv x.at.base) t.tree txn.tree)) in
+      let before : answers_of (MAX_REGIONS * size) t.tree t.ops ≡ x.log.shown = all_answers size old.kv told x t.ops t.tree txn.sound fit live txn.tree in
+      let all : answers_of (MAX_REGIONS * size) t.tree (t.ops ++ o ∷ []) ≡ x.log.shown ++ a ∷ [] = all_answers size old.kv later y (t.ops ++ o ∷ []) t.tree calls_are calls.fit live2 tree ∙ shown in
+      let is_due : a ≡ due m t o = subst (λ k. a ≡ (call k (session_after k t.tree t.ops) o).answer) (sym cap) (last_answer (MAX_REGIONS * size) t.tree t.ops x.log.shown o a before all) in (
+        inl is_due,
+        subst (λ u. TablesStand size later new u) (sym (called_is m c t o a is.answer))
+            (goes_stand old new c x y sound here calls.keeps is.tx is.grows.base is.ended calls.fit size told later m t (logged t o a) st on there calls_are refl refl
+            (ap (λ l. l ++ a ∷ []) txn.shown ∙ sym shown) (ap (λ n. n + 1) txn.replayed ∙ sym is.replayed)),
+      )
+
+-- ---- an abort
+module _ (old new : TablesView) (c : ℕ) (x : TxnView) (a : Answer) (sound : AreSound old) (here : of_client old.clients c ≡ Some x) (aborts : (a ≡ answer.Okay) × Ends old new old.kv c x) where
+  -- the tables stay sound
+  pub aborts_sound : AreSound new
+  aborts_sound = ends_sound old new old.kv c x sound here (omega arith) aborts.1
+
+  -- and the machine ends the transaction too
+  pub aborts_stand : (size : ℕ) (told later : Told) (m : Machine) (t : Transaction) → TablesStand size told old m → TellsOn told later → MayAsk m (Some t) verb.Abort a × TablesStand size later new (aborted m c a)
+  aborts_stand size told later m t st on =
+      (aborts.0, subst (λ r. TablesStand size later new (aborted m c r)) (sym aborts.0) (leaves_stand old new old.kv c x sound here (omega arith) aborts.1 size told later m st on refl))

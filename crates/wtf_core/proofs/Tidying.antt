@@ -1,0 +1,93 @@
+-- Dropping versions that no one sees changes nothing that holds.
+use Rattle.std.proofs.Common.{◌≡◌, ◌≤◌, ◌<◌, ℕ, Bool, true, false, IsTrue, nat_eq, count_by, ◌||◌, Option, None, Some, sym, ap, subst, ◌∙◌, eq-eqb, refl}
+use Rattle.std.specs.FinMap.{get}
+use Rattle.wtf_kv.specs.Stores.{Store, is_pinned, is_live}
+use Rattle.wtf_values.specs.declared.key.Key.{Key}
+use Rattle.wtf_values.specs.declared.value.Value.{Value}
+use Rattle.wtf_model.specs.Tree.{Tree}
+use Rattle.wtf_model.specs.Transaction.{Transaction}
+use Rattle.wtf_model.specs.Machines.{Machine}
+use Rattle.wtf_meta.specs.Contents.{Told}
+use Rattle.wtf_meta.specs.Maps.{AllFit, Map, metadata_at}
+use Rattle.wtf_meta.specs.Trees.{Stands}
+use Rattle.wtf_replay.specs.Views.{TxnView}
+use Rattle.wtf_replay.proofs.Sounding.{sound_along}
+use Rattle.wtf_core.specs.Views.{TablesView, CoreView, of_client, metadata_now}
+use Rattle.wtf_core.specs.Tables.{all_owned, IsOpen, AreSound, IsTidied}
+use Rattle.wtf_core.specs.Standing.{StandsForTxn, StandsForSlot, TablesStand, StandsFor}
+
+-- what is pinned can be read, and so can the number
+pinned_live : (kv : Store Key Value) (n : ℕ) → IsTrue (is_pinned kv n) → IsTrue (is_live kv n)
+pinned_live kv n pinned = by (nat_eq n kv.number)
+  where
+    by : (b : Bool) → b || is_pinned kv n ≡ true
+    by true = refl
+    by false = pinned
+
+number_live : (kv : Store Key Value) → IsTrue (is_live kv kv.number)
+number_live kv = ap (λ b. b || is_pinned kv kv.number) (eq-eqb kv.number kv.number refl)
+
+module _ (old new : TablesView) (sound : AreSound old) (tidy : IsTidied old new) where
+  -- the map at the base of an open transaction, and the map now, are what they were
+  base_same : (c : ℕ) (x : TxnView) → of_client old.clients c ≡ Some x → metadata_at new.kv x.at.base ≡ metadata_at old.kv x.at.base
+  base_same c x there = tidy.maps x.at.base (pinned_live old.kv x.at.base (sound.each c x there).fit.pinned)
+
+  now_same : metadata_now new.kv ≡ metadata_now old.kv
+  now_same = ap (metadata_at new.kv) tidy.number ∙ tidy.maps old.kv.number (number_live old.kv)
+
+  was : (c : ℕ) (x : TxnView) → of_client new.clients c ≡ Some x → of_client old.clients c ≡ Some x
+  was c x there = ap (λ l. of_client l c) (sym tidy.clients) ∙ there
+
+  open_still : (c : ℕ) (x : TxnView) → of_client old.clients c ≡ Some x → IsOpen new.kv new.next_tx x
+  open_still c x there =
+      let is = sound.each c x there in
+      record {
+        going = is.going;
+        fit = record {
+          pinned = subst (λ l. IsTrue (is_pinned (record old.kv { pins = l }) x.at.base)) (sym tidy.pins) is.fit.pinned;
+          fits = subst (λ (w : Map). AllFit x.at.changes w) (sym (base_same c x there)) is.fit.fits;
+          log = is.fit.log;
+          most = is.fit.most;
+        };
+        based = subst (λ n. x.at.base ≤ n) (sym tidy.number) is.based;
+        older = subst (λ n. x.tx < n) (sym tidy.next_tx) is.older;
+      }
+
+  pub tidied_sound : AreSound new
+  tidied_sound = record {
+    each = λ c x there. open_still c x (was c x there);
+    pins = λ n. ap (λ l. count_by (nat_eq n) l) tidy.pins ∙ sound.pins n ∙ ap (all_owned n) (sym tidy.clients);
+    apart = λ c d x y here there same. sound.apart c d x y (was c x here) (was d y there) same;
+  }
+
+  txn_still : (size : ℕ) (told : Told) (now : Tree) (c : ℕ) (x : TxnView) (t : Transaction) → of_client old.clients c ≡ Some x → StandsForTxn size told old.kv now x t → StandsForTxn size told new.kv now x t
+  txn_still size told now c x t there stands = record {
+    sound = sound_along size old.kv new.kv told x t.ops (base_same c x there) stands.sound;
+    base = stands.base;
+    shown = stands.shown;
+    replayed = stands.replayed;
+    tree = subst (λ (w : Map). Stands size told x.tx 0 w t.tree) (sym (base_same c x there)) stands.tree;
+    now = subst (λ (w : Map). Stands size told x.tx 0 w now) (sym now_same) stands.now;
+  }
+
+  slot_still : (size : ℕ) (told : Told) (now : Tree) (c : ℕ) (s : Option TxnView) (t : Option Transaction) → of_client old.clients c ≡ s → StandsForSlot size told old.kv now s t → StandsForSlot size told new.kv now s t
+  slot_still size told now c None None here stands = tt
+  slot_still size told now c (Some x) (Some t) here stands = txn_still size told now c x t here stands
+  slot_still size told now c None (Some t) here stands = absurd stands
+  slot_still size told now c (Some x) None here stands = absurd stands
+
+  pub tidied_stand : (size : ℕ) (told : Told) (m : Machine) → TablesStand size told old m → TablesStand size told new m
+  tidied_stand size told m stands = record {
+    number = stands.number ∙ sym tidy.number;
+    each = λ c. subst (λ l. StandsForSlot size told new.kv m.now (of_client l c) (get m.transactions c)) (sym tidy.clients)
+        (slot_still size told m.now c (of_client old.clients c) (get m.transactions c) refl (stands.each c));
+    later = λ tx le. subst (λ (w : Map). Stands size told tx 0 w m.now) (sym now_same) (stands.later tx (subst (λ n. n ≤ tx) tidy.next_tx le));
+  }
+
+-- the core stands for the machine as before
+pub core_tidied : (told : Told) (old new : CoreView) (m : Machine) → AreSound old.tables → IsTidied old.tables new.tables → new ≡ record old { tables = new.tables } → StandsFor told old m → StandsFor told new m
+core_tidied told old new m sound tidy rest stands = subst (λ (core : CoreView). StandsFor told core m) (sym rest) (record {
+  settings = stands.settings;
+  tables = tidied_stand old.tables new.tables sound tidy old.settings.region told m stands.tables;
+  down = stands.down;
+})

@@ -1,0 +1,223 @@
+-- What a core answers to a line is what the machine may, and the core goes on to stand for it.
+use Rattle.std.proofs.Common.{◌≡◌, ◌≢◌, ◌⊎◌, ℕ, Bool, true, false, nat_eq, nat_lt, if◌then◌else◌, Option, None, Some, Result, Ok, Err, IfOk, OnErr, refl, sym, ap, subst, ◌∙◌, inl, inr, arith, ne_eqb, eq-eqb}
+use Rattle.std.specs.Bool.{MatchBool}
+use Rattle.std.specs.FinMap.{get}
+use Rattle.wtf_base.specs.declared.settings.Settings.{Settings}
+use Rattle.wtf_replica.specs.Downs.{is_down}
+use Rattle.wtf_model.specs.declared.answer.Answer.{Answer, Aborted'}
+use Rattle.wtf_model.specs.declared.answer.Answer.TheVariants as answer
+use Rattle.wtf_model.specs.declared.answer.Word.TheVariants.{NoTx, NoServer}
+use Rattle.wtf_model.specs.declared.event.Event.{Event}
+use Rattle.wtf_model.specs.declared.event.Event.TheVariants as event
+use Rattle.wtf_model.specs.declared.event.Verb.{Verb}
+use Rattle.wtf_model.specs.declared.event.Verb.TheVariants as verb
+use Rattle.wtf_model.specs.Machines.{Machine}
+use Rattle.wtf_model.specs.Machines as machine
+use Rattle.wtf_model.specs.Lawful.{server_answer, MayBuilt}
+use Rattle.wtf_model.specs.Transaction.{Transaction}
+use Rattle.wtf_model.specs.Steps.{after, after_client, begun, tried, stepped, committed, aborted, is_logged, logged, with_transaction}
+use Rattle.wtf_model.proofs.StepLaws.{after-NotBuilt}
+use Rattle.wtf_model.proofs.ServerLaws.{is_down-event}
+use Rattle.wtf_meta.specs.Contents.{Told}
+use Rattle.wtf_meta.specs.Trees.{Stands}
+use Rattle.wtf_meta.proofs.Telling.{TellsOn}
+use Rattle.wtf_core.specs.Views.{TablesView, CoreView, of_client, metadata_now}
+use Rattle.wtf_core.specs.Tables.{AreSound}
+use Rattle.wtf_core.specs.Built.{is_built, is_built_verb}
+use Rattle.wtf_core.specs.Standing.{StandsForSlot, TablesStand, StandsFor}
+use Rattle.wtf_core.specs.Turns.{ServerTurn, ClientTurn, Switches, BuiltTurn, LineTurn}
+use Rattle.wtf_core.specs.Answers.{IsEvent}
+use Rattle.wtf_core.proofs.Pins.{number_cases}
+use Rattle.wtf_core.proofs.Plain.{refuses_stand}
+use Rattle.wtf_core.proofs.Lists.{sets_same}
+use Rattle.wtf_core.proofs.Lines.{client_sound, client_stands}
+use Rattle.wtf_core.proofs.Growth.{Rises, client_rises}
+
+-- ---- no line changes the settings of the machine
+begun_settings : (m : Machine) (c : ℕ) (a : Answer) → (begun m c a).settings ≡ m.settings
+begun_settings m c (answer.Begun n) = refl
+begun_settings m c a = refl
+
+tried_settings : (m : Machine) (c : ℕ) (t : Transaction) (a : Answer) → (tried m c t a).settings ≡ m.settings
+tried_settings m c t (answer.Committed n) = refl
+tried_settings m c t (answer.Retry b n) = refl
+tried_settings m c t a = refl
+
+stepped_settings : (m : Machine) (c : ℕ) (t : Transaction) (a : Answer) → (stepped m c t a).settings ≡ m.settings
+stepped_settings m c t (answer.Replayed i) = refl
+stepped_settings m c t (Aborted' i box a) = refl
+stepped_settings m c t a = refl
+
+committed_settings : (m : Machine) (c : ℕ) (t : Transaction) (a : Answer) → (committed m c t a).settings ≡ m.settings
+committed_settings m c t (answer.Committed n) = refl
+committed_settings m c t (Aborted' i box a) = refl
+committed_settings m c t a = refl
+
+aborted_settings : (m : Machine) (c : ℕ) (a : Answer) → (aborted m c a).settings ≡ m.settings
+aborted_settings m c answer.Okay = refl
+aborted_settings m c a = refl
+
+called_by : (m later : Machine) (b : Bool) → later.settings ≡ m.settings → (if b then later else m).settings ≡ m.settings
+called_by m later true h = h
+called_by m later false h = refl
+
+client_settings : (m : Machine) (c : ℕ) (o : Option Transaction) (v : Verb) (a : Answer) → (after_client m c o v a).settings ≡ m.settings
+client_settings m c None verb.Begin a = begun_settings m c a
+client_settings m c (Some t) verb.Try a = tried_settings m c t a
+client_settings m c (Some t) verb.Step a = stepped_settings m c t a
+client_settings m c (Some t) verb.Commit a = committed_settings m c t a
+client_settings m c (Some t) verb.Abort a = aborted_settings m c a
+client_settings m c (Some t) (verb.Call o) a = called_by m (with_transaction m c (logged t o a)) (is_logged a) refl
+client_settings m c o v a = refl
+
+-- ---- a core that stays stands for the same over stores that tell more
+tables_later : (size : ℕ) (told later : Told) (tables : TablesView) (m : Machine) → AreSound tables → TablesStand size told tables m → TellsOn told later → TablesStand size later tables m
+tables_later size told later tables m sound stands on =
+    refuses_stand tables tables 0 NoTx (answer.Refused NoTx) sound
+    (record { answer = refl; keeps = record { clients = sets_same 0 tables.clients tables.clients refl; kv = refl; next_tx = refl } })
+    size told later m stands on
+
+stays : (told later : Told) (core : CoreView) (m : Machine) → AreSound core.tables → StandsFor told core m → TellsOn told later → StandsFor later core m
+stays told later core m sound stands on = record {
+  settings = stands.settings;
+  tables = tables_later core.settings.region told later core.tables m sound stands.tables on;
+  down = stands.down;
+}
+
+-- ---- a server goes down, or comes up
+module _ (told later : Told) (old new : CoreView) (m : Machine) (k : ℕ) (to : Bool) (a : Answer) (sound : AreSound old.tables) (stands : StandsFor told old m) (on : TellsOn told later) where
+  -- the machine's servers are the same, but for this one
+  abbrev IsSwitch : Machine → Type 0
+  IsSwitch next = (j : ℕ) → machine.is_down next j ≡ (if nat_eq j k then to else machine.is_down m j)
+
+  switched : Switches old new k to a → (next : Machine) → next.settings ≡ m.settings → TablesStand old.settings.region later old.tables next → IsSwitch next → StandsFor later new next
+  switched turn next settings tables is =
+      let down : (j : ℕ) → is_down new.replicas j ≡ machine.is_down next j = λ j. by j (number_cases j k) in
+      subst (λ (core : CoreView). StandsFor later core next) (sym turn.rest) (record {
+        settings = settings ∙ stands.settings;
+        tables = tables;
+        down = down;
+      })
+    where
+      by : (j : ℕ) → (j ≡ k) ⊎ (j ≢ k) → is_down new.replicas j ≡ machine.is_down next j
+      by j (inl same) = subst (λ i. is_down new.replicas i ≡ to) (sym same) turn.is ∙ sym (ap (λ b. if b then to else machine.is_down m j) (eq-eqb j k same)) ∙ sym (is j)
+      by j (inr ne) = turn.others j ne ∙ stands.down j ∙ sym (ap (λ b. if b then to else machine.is_down m j) (ne_eqb j k ne)) ∙ sym (is j)
+
+  -- the tables stand for a machine that differs in its servers alone
+  tables_beside : (next : Machine) → next.number ≡ m.number → next.now ≡ m.now → next.transactions ≡ m.transactions → TablesStand old.settings.region later old.tables next
+  tables_beside next number now transactions =
+      let same = tables_later old.settings.region told later old.tables m sound stands.tables on in
+      record {
+        number = number ∙ same.number;
+        each = λ c. subst (λ t. StandsForSlot old.settings.region later old.tables.kv t (of_client old.tables.clients c) (get next.transactions c)) (sym now)
+            (subst (λ ts. StandsForSlot old.settings.region later old.tables.kv m.now (of_client old.tables.clients c) (get ts c)) (sym transactions) (same.each c));
+        later = λ tx le. subst (λ t. Stands old.settings.region later tx 0 (metadata_now old.tables.kv) t) (sym now) (same.later tx le);
+      }
+
+down_line : (told later : Told) (old new : CoreView) (m : Machine) (k : ℕ) (a : Answer) → AreSound old.tables → StandsFor told old m → TellsOn told later → ServerTurn old new k true a
+    → (a ≡ server_answer m k) × StandsFor later new (after m (event.Down k) a)
+down_line told later old new m k a sound stands on turn = by (nat_lt k old.settings.servers) refl turn
+  where
+    servers : nat_lt k m.settings.servers ≡ nat_lt k old.settings.servers
+    servers = ap (λ (s : Settings). nat_lt k s.servers) stands.settings
+
+    by : (b : Bool) → nat_lt k old.settings.servers ≡ b → MatchBool b (Switches old new k true a) ((a ≡ answer.Refused NoServer) × (new ≡ old)) → (a ≡ server_answer m k) × StandsFor later new (after m (event.Down k) a)
+    by true is t =
+        let due : a ≡ server_answer m k = t.answer ∙ sym (ap (λ b. if b then answer.Okay else answer.Refused NoServer) (servers ∙ is)) in
+        let next = after m (event.Down k) answer.Okay in (
+          due,
+          subst (λ b. StandsFor later new (after m (event.Down k) b)) (sym t.answer)
+              (switched told later old new m k true a sound stands on t next refl (tables_beside told later old new m k true a sound stands on next refl refl refl) (is_down-event m (event.Down k) answer.Okay)),
+        )
+    by false is t =
+        let due : a ≡ server_answer m k = t.0 ∙ sym (ap (λ b. if b then answer.Okay else answer.Refused NoServer) (servers ∙ is)) in
+        (due, subst (λ b. StandsFor later new (after m (event.Down k) b)) (sym t.0) (subst (λ (core : CoreView). StandsFor later core m) (sym t.1) (stays told later old m sound stands on)))
+
+up_line : (told later : Told) (old new : CoreView) (m : Machine) (k : ℕ) (a : Answer) → AreSound old.tables → StandsFor told old m → TellsOn told later → ServerTurn old new k false a
+    → (a ≡ server_answer m k) × StandsFor later new (after m (event.Up k) a)
+up_line told later old new m k a sound stands on turn = by (nat_lt k old.settings.servers) refl turn
+  where
+    servers : nat_lt k m.settings.servers ≡ nat_lt k old.settings.servers
+    servers = ap (λ (s : Settings). nat_lt k s.servers) stands.settings
+
+    by : (b : Bool) → nat_lt k old.settings.servers ≡ b → MatchBool b (Switches old new k false a) ((a ≡ answer.Refused NoServer) × (new ≡ old)) → (a ≡ server_answer m k) × StandsFor later new (after m (event.Up k) a)
+    by true is t =
+        let due : a ≡ server_answer m k = t.answer ∙ sym (ap (λ b. if b then answer.Okay else answer.Refused NoServer) (servers ∙ is)) in
+        let next = after m (event.Up k) answer.Okay in (
+          due,
+          subst (λ b. StandsFor later new (after m (event.Up k) b)) (sym t.answer)
+              (switched told later old new m k false a sound stands on t next refl (tables_beside told later old new m k false a sound stands on next refl refl refl) (is_down-event m (event.Up k) answer.Okay)),
+        )
+    by false is t =
+        let due : a ≡ server_answer m k = t.0 ∙ sym (ap (λ b. if b then answer.Okay else answer.Refused NoServer) (servers ∙ is)) in
+        (due, subst (λ b. StandsFor later new (after m (event.Up k) b)) (sym t.0) (subst (λ (core : CoreView). StandsFor later core m) (sym t.1) (stays told later old m sound stands on)))
+
+-- ---- each line
+module _ (Telling : Type 0) (told later : Told) (old new : CoreView) (m : Machine) (a : Answer) (sound : AreSound old.tables) (stands : StandsFor told old m) (on : TellsOn told later) (tell : Telling) where
+  -- one that is not built changes nothing
+  not_built : (e : Event) → is_built e ≡ false → (a ≡ answer.NotBuilt) × (new ≡ old) → IsEvent later new m e a
+  not_built e is h = record {
+    may = subst (λ b. MatchBool b (MayBuilt m e a) (a ≡ answer.NotBuilt)) (sym is) h.0;
+    stands = subst (λ b. StandsFor later new (after m e b)) (sym h.0)
+        (subst (λ n. StandsFor later new n) (sym (after-NotBuilt m e)) (subst (λ (core : CoreView). StandsFor later core m) (sym h.1) (stays told later old m sound stands on)));
+  }
+
+  built_client : (c : ℕ) (v : Verb) → is_built_verb v ≡ true → BuiltTurn Telling (told, later) old new (event.Client c v) a → IsEvent later new m (event.Client c v) a
+  built_client c v is h =
+      let region : m.settings.region ≡ old.settings.region = ap (λ (s : Settings). s.region) stands.settings in
+      let both = client_stands Telling old.settings.region told later old.tables new.tables m c v a sound region stands.tables on tell h.0 in
+      record {
+        may = subst (λ b. MatchBool b (MayBuilt m (event.Client c v) a) (a ≡ answer.NotBuilt)) (sym is) both.0;
+        stands = subst (λ (core : CoreView). StandsFor later core (after m (event.Client c v) a)) (sym h.1) (record {
+          settings = client_settings m c (get m.transactions c) v a ∙ stands.settings;
+          tables = both.1;
+          down = λ k. stands.down k ∙ sym (is_down-event m (event.Client c v) a k);
+        });
+      }
+
+  client_line : (c : ℕ) (v : Verb) (b : Bool) → is_built_verb v ≡ b → MatchBool b (BuiltTurn Telling (told, later) old new (event.Client c v) a) ((a ≡ answer.NotBuilt) × (new ≡ old)) → IsEvent later new m (event.Client c v) a
+  client_line c v true is h = built_client c v is h
+  client_line c v false is h = not_built (event.Client c v) is h
+
+  pub line_stands : (e : Event) → LineTurn Telling (told, later) old new e a → IsEvent later new m e a
+  line_stands (event.Client c v) h = client_line c v (is_built_verb v) refl h
+  line_stands (event.Down k) h = let both = down_line told later old new m k a sound stands on h in record { may = both.0; stands = both.1 }
+  line_stands (event.Up k) h = let both = up_line told later old new m k a sound stands on h in record { may = both.0; stands = both.1 }
+  line_stands event.Tree h = record {
+    may = h.0 told old.tables.next_tx 0 m.now (stands.tables.later old.tables.next_tx (omega arith));
+    stands = subst (λ (core : CoreView). StandsFor later core m) (sym h.1) (stays told later old m sound stands on);
+  }
+  line_stands e h = not_built e refl h
+
+-- ---- a line raises both numbers by at most one
+same_rise : (old new : TablesView) → new ≡ old → Rises old new
+same_rise old new is = subst (λ t. Rises old t) (sym is) (record { number = omega arith; next_tx = omega arith })
+
+tables_same : (old new : CoreView) → new ≡ old → Rises old.tables new.tables
+tables_same old new is = same_rise old.tables new.tables (ap (λ (c : CoreView). c.tables) is)
+
+module _ (Telling : Type 0) (told : Told × Told) (old new : CoreView) (a : Answer) where
+  server_rises : (k : ℕ) (to b : Bool) → MatchBool b (Switches old new k to a) ((a ≡ answer.Refused NoServer) × (new ≡ old)) → Rises old.tables new.tables
+  server_rises k to true h = same_rise old.tables new.tables (ap (λ (c : CoreView). c.tables) h.rest)
+  server_rises k to false h = tables_same old new h.1
+
+  client_by : (c : ℕ) (v : Verb) (b : Bool) → MatchBool b (BuiltTurn Telling told old new (event.Client c v) a) ((a ≡ answer.NotBuilt) × (new ≡ old)) → Rises old.tables new.tables
+  client_by c v true h = client_rises Telling old.settings.region told.0 told.1 old.tables new.tables c v a h.0
+  client_by c v false h = tables_same old new h.1
+
+  pub line_rises : (e : Event) → LineTurn Telling told old new e a → Rises old.tables new.tables
+  line_rises (event.Client c v) h = client_by c v (is_built_verb v) h
+  line_rises (event.Down k) h = server_rises k true (nat_lt k old.settings.servers) h
+  line_rises (event.Up k) h = server_rises k false (nat_lt k old.settings.servers) h
+  line_rises event.Tree h = tables_same old new h.1
+  line_rises e h = tables_same old new h.1
+
+-- ---- the tables are sound after a line of a client, whatever came of it
+pub sound_either : {E : Type 0} (r : Result Answer E) (P : Answer → Type 0) (Q : Type 0) → IfOk r P → OnErr r Q → ((a : Answer) → P a → Q) → Q
+sound_either (Ok a) P Q ok err on = on a ok
+sound_either (Err why) P Q ok err on = err
+
+pub sound_after : {E : Type 0} (r : Result Answer E) (Telling : Type 0) (size : ℕ) (told later : Told) (old new : TablesView) (c : ℕ) (v : Verb) → AreSound old
+    → IfOk r (λ a. ClientTurn Telling size told later old new c v a) → OnErr r (AreSound new) → AreSound new
+sound_after r Telling size told later old new c v sound ok err =
+    sound_either r (λ a. ClientTurn Telling size told later old new c v a) (AreSound new) ok err (λ a turn. client_sound Telling size told later old new c v a sound turn)

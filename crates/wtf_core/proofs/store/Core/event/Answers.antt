@@ -1,0 +1,67 @@
+use Rattle.std.proofs.Common.{◌≡◌, refl, sym, subst, arith}
+use Rattle.wtf_dev.specs.Sums.{TellsAll}
+use Rattle.wtf_replica.specs.Bytes.{byte_at}
+use Rattle.wtf_replica.proofs.Bytes.{byte_at-kept}
+use Rattle.wtf_model.specs.Steps.{after}
+use Rattle.wtf_core.specs.Views.{CoreView}
+use Rattle.wtf_core.specs.Tables.{AreSound}
+use Rattle.wtf_core.specs.Turns.{LineTurn}
+use Rattle.wtf_core.proofs.Tidying.{tidied_sound, core_tidied}
+use Rattle.wtf_core.proofs.Whole.{line_stands, line_rises}
+use Rattle.wtf_core.proofs.store.Core.event.Goals as goal
+
+pub invariant_of-self : goal.invariant_of-self
+invariant_of-self g c =
+    let was = c.self-2.invariant in
+    record {
+      settings_are = was.settings_are;
+      replicas_are = was.replicas_are;
+      ring_is = was.ring_is;
+      cache_is = was.cache_is;
+      tables_are = tidied_sound c.self-2.inside.tables c.tidy.new.self was.tables_are c.tidy.ensures;
+    }
+
+pub returns-in-Ok-clause-answers : goal.returns-in-Ok-clause-answers
+returns-in-Ok-clause-answers g c = λ telling m stands.
+    let kind = g.S.SliceStore.kind in
+    let told = byte_at kind c.args.shelf.now in
+    let later = byte_at kind c.answer.new.shelf in
+    let at = c.self-2.inside in
+    let answered : CoreView = record { settings = at.settings; tables = at.tables; replicas = at.replicas; closed = at.closed } in
+    let tidied : CoreView = record { settings = at.settings; tables = c.tidy.new.self; replicas = at.replicas; closed = at.closed } in
+    let turn = subst (λ (core : CoreView). LineTurn (TellsAll kind c.args.shelf.now) (told, later) c.args.self.now core c.args.event.now c.in-Ok.answer) (sym c.self-2.view_is) c.in-Ok.ensures.turn in
+    let done = line_stands (TellsAll kind c.args.shelf.now) told later c.args.self.now answered m c.in-Ok.answer
+    (subst (λ (core : CoreView). AreSound core.tables) c.self.view_is c.self.invariant.tables_are)
+    stands (λ p b there. byte_at-kept g.met.S.SliceStore.laws c.answer.ensures.shelf p b tt there) telling c.args.event.now turn in
+    record {
+      may = done.may;
+      stands = core_tidied later answered tidied (after m c.args.event.now c.in-Ok.answer) c.self-2.invariant.tables_are c.tidy.ensures refl done.stands;
+    }
+
+pub returns-in-Ok-clause-turn : goal.returns-in-Ok-clause-turn
+returns-in-Ok-clause-turn g c =
+    let kind = g.S.SliceStore.kind in
+    let at = c.self-2.inside in
+    record {
+      answered = record { settings = at.settings; tables = at.tables; replicas = at.replicas; closed = at.closed };
+      turn = subst (λ (core : CoreView). LineTurn (TellsAll kind c.args.shelf.now) (byte_at kind c.args.shelf.now, byte_at kind c.answer.new.shelf) c.args.self.now core c.args.event.now c.in-Ok.answer) (sym c.self-2.view_is) c.in-Ok.ensures.turn;
+      tidied = c.tidy.ensures;
+      rest = refl;
+    }
+
+pub returns-in-Ok-clause-number : goal.returns-in-Ok-clause-number
+returns-in-Ok-clause-number g c =
+    let kind = g.S.SliceStore.kind in
+    let up = (line_rises (TellsAll kind c.args.shelf.now) (byte_at kind c.args.shelf.now, byte_at kind c.answer.new.shelf) c.args.self.now c.answer.new.self c.in-Ok.answer c.args.event.now c.in-Ok.ensures.turn).number in
+    let seen = subst (λ (core : CoreView). c.tidy.new.self.kv.number ≡ core.tables.kv.number) c.self-2.view_is c.tidy.ensures.number in
+    omega (arith, up, seen)
+
+pub returns-in-Ok-clause-next_tx : goal.returns-in-Ok-clause-next_tx
+returns-in-Ok-clause-next_tx g c =
+    let kind = g.S.SliceStore.kind in
+    let up = (line_rises (TellsAll kind c.args.shelf.now) (byte_at kind c.args.shelf.now, byte_at kind c.answer.new.shelf) c.args.self.now c.answer.new.self c.in-Ok.answer c.args.event.now c.in-Ok.ensures.turn).next_tx in
+    let seen = subst (λ (core : CoreView). c.tidy.new.self.next_tx ≡ core.tables.next_tx) c.self-2.view_is c.tidy.ensures.next_tx in
+    omega (arith, up, seen)
+
+pub returns-in-Ok-clause-sound : goal.returns-in-Ok-clause-sound
+returns-in-Ok-clause-sound g c = tidied_sound c.self-2.inside.tables c.tidy.new.self c.self-2.invariant.tables_are c.tidy.ensures

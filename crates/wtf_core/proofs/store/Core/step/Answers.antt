@@ -1,0 +1,33 @@
+use Rattle.std.proofs.Common.{subst}
+use Rattle.wtf_region.specs.Cached.{AreFrom}
+use Rattle.wtf_dev.specs.Sums.{TellsAll}
+use Rattle.wtf_replica.specs.Bytes.{byte_at}
+use Rattle.wtf_model.specs.declared.event.Verb.TheVariants as verb
+use Rattle.wtf_core.proofs.Whole.{sound_after}
+use Rattle.wtf_core.proofs.store.Core.step.Goals as goal
+
+pub invariant_of-self : goal.invariant_of-self
+invariant_of-self g c =
+    let kind = g.S.SliceStore.kind in
+    let was = c.self.invariant in
+    let did = c.step.ensures in
+    record {
+      settings_are = was.settings_are;
+      replicas_are = was.replicas_are;
+      ring_is = was.ring_is;
+      cache_is = subst (λ r. AreFrom r.now c.step.new.dev.cache.now) did.dev.ring did.dev.sound.cache;
+      tables_are = sound_after c.step.result (TellsAll kind c.args.shelf.now) c.self.inside.settings.region (byte_at kind c.args.shelf.now) (byte_at kind c.step.new.dev.shelf.now) c.self.inside.tables c.step.new.self c.args.c verb.Step was.tables_are did.turn did.err_sound;
+    }
+
+pub invariant_of-self-in-Err : goal.invariant_of-self-in-Err
+invariant_of-self-in-Err g c =
+    let kind = g.S.SliceStore.kind in
+    let was = c.self.invariant in
+    let did = c.step.ensures in
+    record {
+      settings_are = was.settings_are;
+      replicas_are = was.replicas_are;
+      ring_is = was.ring_is;
+      cache_is = subst (λ r. AreFrom r.now c.step.new.dev.cache.now) did.dev.ring did.dev.sound.cache;
+      tables_are = sound_after c.step.result (TellsAll kind c.args.shelf.now) c.self.inside.settings.region (byte_at kind c.args.shelf.now) (byte_at kind c.step.new.dev.shelf.now) c.self.inside.tables c.step.new.self c.args.c verb.Step was.tables_are did.turn did.err_sound;
+    }

@@ -1,0 +1,202 @@
+-- What a line makes of a core, over every device.
+-- NSDI 2016, sections 2.6 and 2.7.
+use Rattle.std.specs.Prelude.{◌≡◌, ◌≢◌, ℕ, ◌+◌, nat_lt, nat_eq, List, [], ◌∷◌, ◌++◌, Bool, true, false, Option, Some, None, MatchOption}
+use Rattle.std.specs.Bool.{MatchBool}
+use Rattle.std.specs.Set.{remove_key}
+use Rattle.wtf_kv.specs.Stores.{Store, IsPinnedOnceMore}
+use Rattle.wtf_replica.specs.Downs.{is_down}
+use Rattle.wtf_values.specs.declared.key.Key.{Key}
+use Rattle.wtf_values.specs.declared.value.Value.{Value}
+use Rattle.wtf_model.specs.declared.answer.Answer.{Answer, Aborted'}
+use Rattle.wtf_model.specs.declared.answer.Answer.TheVariants as answer
+use Rattle.wtf_model.specs.declared.answer.Word.{Word}
+use Rattle.wtf_model.specs.declared.answer.Word.TheVariants.{InTx, NoTx, NoServer}
+use Rattle.wtf_model.specs.declared.op.Op.{Op}
+use Rattle.wtf_model.specs.declared.event.Verb.{Verb}
+use Rattle.wtf_model.specs.declared.event.Event.{Event}
+use Rattle.wtf_model.specs.declared.event.Event.TheVariants as event
+use Rattle.wtf_model.specs.Tree.{Tree, rows_of}
+use Rattle.wtf_model.specs.declared.event.Verb.TheVariants as verb
+use Rattle.wtf_meta.specs.Contents.{Told}
+use Rattle.wtf_meta.specs.Maps.{metadata_at}
+use Rattle.wtf_meta.specs.Trees.{Stands}
+use Rattle.wtf_replay.specs.Views.{TxnView, begun}
+use Rattle.wtf_replay.specs.Refusals.{call_refusal, try_refusal, step_refusal}
+use Rattle.wtf_replay.specs.Fits.{IsFit}
+use Rattle.wtf_replay.specs.Sounds.{IsSound}
+use Rattle.wtf_replay.specs.Called.{IsCalled}
+use Rattle.wtf_replay.specs.Tried.{IsCommitted, IsRetried, IsFinal, KeepsMaps, KeepsPins}
+use Rattle.wtf_replay.specs.Replays.{IsReplayed, DeviatesOn}
+use Rattle.wtf_core.specs.Views.{TablesView, CoreView, of_client, metadata_now}
+use Rattle.wtf_core.specs.Built.{is_built}
+use Rattle.wtf_core.specs.Tables.{Sets, IsTidied}
+
+-- client c has now this transaction, or none, and the store of the metadata is what it was
+pub record Keeps (old new : TablesView) (c : ℕ) (now : Option TxnView) : Type 0 where
+  pub clients : Sets c now old.clients new.clients
+  pub kv : new.kv ≡ old.kv
+  pub next_tx : new.next_tx ≡ old.next_tx
+
+-- a line of client c is refused, and leaves all as it was
+pub record Refuses (old new : TablesView) (c : ℕ) (w : Word) (a : Answer) : Type 0 where
+  pub answer : a ≡ answer.Refused w
+  pub keeps : Keeps old new c (of_client old.clients c)
+
+-- a transaction begins at the number, which it pins
+pub record Begins (old new : TablesView) (c : ℕ) (a : Answer) : Type 0 where
+  pub answer : a ≡ answer.Begun old.kv.number
+  pub clients : Sets c (Some (begun old.next_tx old.kv.number)) old.clients new.clients
+  pub kv : new.kv ≡ record old.kv { pins = old.kv.pins ++ old.kv.number ∷ [] }
+  pub pinned : IsPinnedOnceMore old.kv.number old.kv new.kv
+  pub next_tx : new.next_tx ≡ old.next_tx + 1
+  pub fit : IsFit new.kv (begun old.next_tx old.kv.number)
+  pub sound : (size : ℕ) (told : Told) → IsSound size new.kv told (begun old.next_tx old.kv.number) []
+
+-- The transaction x has ended. It left the store as `mid`, and then undid the pin of its base.
+pub record Ends (old new : TablesView) (mid : Store Key Value) (c : ℕ) (x : TxnView) : Type 0 where
+  pub clients : Sets c None old.clients new.clients
+  pub next_tx : new.next_tx ≡ old.next_tx
+  pub maps : KeepsMaps old.kv mid
+  pub pins : KeepsPins old.kv mid
+  pub kv : new.kv ≡ record mid { pins = remove_key (nat_eq x.at.base) mid.pins }
+  pub unpinned : IsPinnedOnceMore x.at.base new.kv mid
+
+-- an attempt committed: no recorded key had changed since the base
+pub record Commits (old new : TablesView) (c : ℕ) (x : TxnView) (n : ℕ) : Type 0 where
+  pub mid : Store Key Value
+  pub ended : TxnView
+  pub committed : IsCommitted old.kv mid x ended n
+  pub final : (size : ℕ) (told : Told) (ops : List (Op (List ℕ))) → IsSound size old.kv told x ops → IsFinal size told old.kv mid x ops n
+  pub ends : Ends old new mid c x
+
+-- an attempt met a key in the way: all calls are to be replayed at the number
+pub record Retries (old new : TablesView) (c : ℕ) (x : TxnView) (b n : ℕ) : Type 0 where
+  pub later : TxnView
+  pub clients : Sets c (Some later) old.clients new.clients
+  pub next_tx : new.next_tx ≡ old.next_tx
+  pub retried : IsRetried old.kv new.kv x later b n
+  pub maps : KeepsMaps old.kv new.kv
+  pub fit : IsFit new.kv later
+  pub sound : (size : ℕ) (told : Told) (ops : List (Op (List ℕ))) → IsSound size old.kv told x ops → IsSound size new.kv told later ops
+
+abbrev pub Tries : TablesView → TablesView → ℕ → TxnView → Answer → Type 0
+Tries old new c x (answer.Committed n) = Commits old new c x n
+Tries old new c x (answer.Retry b n) = Retries old new c x b n
+Tries old new c x a = ⊥
+
+-- an attempt, unless it is refused
+abbrev pub TryTurn : TablesView → TablesView → ℕ → TxnView → Answer → Type 0
+TryTurn old new c x a = MatchOption (try_refusal x) (Tries old new c x a) (λ w. Refuses old new c w a)
+
+-- a transaction is given up
+abbrev pub Drops : TablesView → TablesView → ℕ → TxnView → Answer → Type 0
+Drops old new c x a = (a ≡ answer.Okay) × Ends old new old.kv c x
+
+-- `Telling` says that the stores tell their content: `told` before the line and `later` after it; a region has `size` bytes
+module _ (Telling : Type 0) (size : ℕ) (told later : Told) where
+  -- a call is logged with its answer
+  pub record Calls (old new : TablesView) (c : ℕ) (x : TxnView) (o : Op (List ℕ)) (a : Answer) : Type 0 where
+    pub later_one : TxnView
+    pub keeps : Keeps old new c (Some later_one)
+    pub called : IsCalled x later_one o a
+    pub fit : IsFit old.kv later_one
+    pub sound : Telling → (ops : List (Op (List ℕ))) → IsSound size old.kv told x ops
+        → IsSound size old.kv later later_one (ops ++ o ∷ [])
+
+  -- one more call was replayed, and answered what was shown
+  pub record Replays (old new : TablesView) (c : ℕ) (x : TxnView) (i : ℕ) : Type 0 where
+    pub later_one : TxnView
+    pub keeps : Keeps old new c (Some later_one)
+    pub replayed : IsReplayed x later_one i
+    pub fit : IsFit old.kv later_one
+    pub sound : Telling → (ops : List (Op (List ℕ))) → IsSound size old.kv told x ops
+        → IsSound size old.kv later later_one ops
+
+  -- the next call answered otherwise at the base, and the transaction has ended
+  pub record Aborts (old new : TablesView) (c : ℕ) (x : TxnView) (i : ℕ) (a : Answer) : Type 0 where
+    pub index : i ≡ x.replayed + 1
+    pub ends : Ends old new old.kv c x
+    pub deviates : Telling → (ops : List (Op (List ℕ))) → IsSound size old.kv told x ops
+        → DeviatesOn (metadata_at old.kv x.at.base) size told x ops i a
+
+  -- the calls have run on the map now, by the attempt or by a whole replay
+  pub record Finishes (old new : TablesView) (c : ℕ) (x : TxnView) (n : ℕ) : Type 0 where
+    pub mid : Store Key Value
+    pub next : n ≡ old.kv.number + 1
+    pub number : mid.number ≡ n
+    pub ends : Ends old new mid c x
+    pub final : Telling → (ops : List (Op (List ℕ))) → IsSound size old.kv told x ops
+        → IsFinal size told old.kv mid x ops n
+
+  -- run on the map now, the calls first answer otherwise than was shown at call i, and there a
+  pub record GivesUp (old new : TablesView) (c : ℕ) (x : TxnView) (i : ℕ) (a : Answer) : Type 0 where
+    pub mid : Store Key Value
+    pub number : mid.number ≡ old.kv.number
+    pub ends : Ends old new mid c x
+    pub deviates : Telling → (ops : List (Op (List ℕ))) → IsSound size old.kv told x ops
+        → DeviatesOn (metadata_now old.kv) size told x ops i a
+
+  abbrev pub Steps : TablesView → TablesView → ℕ → TxnView → Answer → Type 0
+  Steps old new c x (answer.Replayed i) = Replays old new c x i
+  Steps old new c x (Aborted' i box a) = Aborts old new c x i a
+  Steps old new c x a = ⊥
+
+  -- a commit never asks for another try
+  abbrev pub Finals : TablesView → TablesView → ℕ → TxnView → Answer → Type 0
+  Finals old new c x (answer.Committed n) = Finishes old new c x n
+  Finals old new c x (Aborted' i box a) = GivesUp old new c x i a
+  Finals old new c x a = ⊥
+
+  -- a line of a client without a transaction: it may begin one
+  abbrev pub LoneTurn : TablesView → TablesView → ℕ → Verb → Answer → Type 0
+  LoneTurn old new c verb.Begin a = Begins old new c a
+  LoneTurn old new c v a = Refuses old new c NoTx a
+
+  -- a line of a client with the transaction x
+  abbrev pub TxnTurn : TablesView → TablesView → ℕ → TxnView → Verb → Answer → Type 0
+  TxnTurn old new c x verb.Begin a = Refuses old new c InTx a
+  TxnTurn old new c x verb.Try a = TryTurn old new c x a
+  TxnTurn old new c x verb.Step a = MatchOption (step_refusal x) (Steps old new c x a) (λ w. Refuses old new c w a)
+  TxnTurn old new c x verb.Commit a = Finals old new c x a
+  TxnTurn old new c x verb.Abort a = Drops old new c x a
+  TxnTurn old new c x (verb.Call o) a = MatchOption (call_refusal x) (Calls old new c x o a) (λ w. Refuses old new c w a)
+
+  -- a line of a client
+  abbrev pub ClientTurn : TablesView → TablesView → ℕ → Verb → Answer → Type 0
+  ClientTurn old new c v a = MatchOption (of_client old.clients c) (LoneTurn old new c v a) (λ x. TxnTurn old new c x v a)
+
+-- a server goes down, or comes up
+pub record Switches (old new : CoreView) (k : ℕ) (down : Bool) (a : Answer) : Type 0 where
+  pub answer : a ≡ answer.Okay
+  pub is : is_down new.replicas k ≡ down
+  pub others : (j : ℕ) → j ≢ k → is_down new.replicas j ≡ is_down old.replicas j
+  pub rest : new ≡ record old { replicas = new.replicas }
+
+-- where there is such a server
+abbrev pub ServerTurn : CoreView → CoreView → ℕ → Bool → Answer → Type 0
+ServerTurn old new k down a =
+    MatchBool (nat_lt k old.settings.servers) (Switches old new k down a) ((a ≡ answer.Refused NoServer) × (new ≡ old))
+
+-- the answer shows each tree for which the map now stands
+abbrev pub ShowsTree : ℕ → Store Key Value → Answer → Type 0
+ShowsTree size kv a = (told : Told) (tx k : ℕ) (t : Tree) → Stands size told tx k (metadata_now kv) t → a ≡ answer.Tree (rows_of t)
+
+-- a line, where the stores tell `told.0` before it and `told.1` after it; one that is not built changes nothing
+abbrev pub BuiltTurn : Type 0 → Told × Told → CoreView → CoreView → Event → Answer → Type 0
+BuiltTurn Telling told old new (event.Client c v) a =
+    ClientTurn Telling old.settings.region told.0 told.1 old.tables new.tables c v a × (new ≡ record old { tables = new.tables })
+BuiltTurn Telling told old new (event.Down k) a = ServerTurn old new k true a
+BuiltTurn Telling told old new (event.Up k) a = ServerTurn old new k false a
+BuiltTurn Telling told old new event.Tree a = ShowsTree old.settings.region old.tables.kv a × (new ≡ old)
+BuiltTurn Telling told old new e a = ⊥
+
+abbrev pub LineTurn : Type 0 → Told × Told → CoreView → CoreView → Event → Answer → Type 0
+LineTurn Telling told old new e a =
+    MatchBool (is_built e) (BuiltTurn Telling told old new e a) ((a ≡ answer.NotBuilt) × (new ≡ old))
+
+-- A line is answered, and then versions that no one sees may be dropped.
+pub record IsLine (Telling : Type 0) (told : Told × Told) (old new : CoreView) (e : Event) (a : Answer) : Type 0 where
+  pub answered : CoreView
+  pub turn : LineTurn Telling told old answered e a
+  pub tidied : IsTidied answered.tables new.tables
+  pub rest : new ≡ record answered { tables = new.tables }

@@ -1,0 +1,35 @@
+-- What contracts see of a core.
+use Rattle.std.specs.Prelude.{ℕ, Bool, List, Option, nat_eq}
+use Rattle.std.specs.Map.{lookup}
+use Rattle.wtf_base.specs.declared.settings.Settings.{Settings}
+use Rattle.wtf_kv.specs.Stores.{Store}
+use Rattle.wtf_replica.specs.declared.replicas.Replicas.{Replicas}
+use Rattle.wtf_values.specs.declared.key.Key.{Key}
+use Rattle.wtf_values.specs.declared.value.Value.{Value}
+use Rattle.wtf_meta.specs.Maps.{Map, metadata_at}
+use Rattle.wtf_replay.specs.Views.{TxnView}
+
+-- the open transactions by client, in the order of their begin
+abbrev pub Clients : Type 0
+Clients = List (ℕ × TxnView)
+
+-- the transaction of a client
+abbrev pub of_client : Clients → ℕ → Option TxnView
+of_client clients c = lookup (nat_eq c) clients
+
+-- the store of the metadata, the number of the transaction that begins next, and the open transactions
+pub record TablesView : Type 0 where
+  pub kv : Store Key Value
+  pub next_tx : ℕ
+  pub clients : Clients
+
+-- the metadata as they stand now
+abbrev pub metadata_now : Store Key Value → Map
+metadata_now kv = metadata_at kv kv.number
+
+-- the settings; the tables; the servers, up or down; and whether it is closed, for want of memory
+pub record CoreView : Type 0 where
+  pub settings : Settings
+  pub tables : TablesView
+  pub replicas : Replicas
+  pub closed : Bool

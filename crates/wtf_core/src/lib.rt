@@ -1,0 +1,14 @@
+//! The core: the store of the metadata with the transactions that are open on it. Each line of a
+//! script is one atomic step; its answers are those of one tree on which committed transactions ran
+//! whole, one by one (NSDI 2016, sections 2.6 and 2.7).
+#![tactic(auto)]
+
+mod ops;
+mod store;
+mod tables;
+mod tree;
+
+pub use store::Core;
+
+#[cfg(test)]
+mod tree_tests;

@@ -1,0 +1,341 @@
+//! The core.
+
+ghost use Rattle.std.specs.Prelude.{◌≡◌, ◌+◌, ◌<◌, ◌≤◌, ◌^◌, ℕ, [], true, false, IfOk, OnOk, OnErr, length};
+ghost use Rattle.wtf_dev.specs.Each.{EachFollows};
+ghost use Rattle.wtf_dev.specs.Sums.{TellsAll};
+ghost use Rattle.wtf_base.specs.Limits.{AreSettings};
+ghost use Rattle.wtf_replica.specs.Bytes.{byte_at};
+ghost use Rattle.wtf_model.specs.Form.{IsFormEvent, IsFormVerb, IsFormOp, IsData};
+ghost use Rattle.wtf_model.specs.declared.event.Event.TheVariants as event;
+ghost use Rattle.wtf_model.specs.declared.event.Verb.TheVariants as verb;
+ghost use Rattle.wtf_model.specs.Machines.{Machine, start};
+ghost use Rattle.wtf_model.specs.Tree.{root_alone};
+ghost use Rattle.wtf_meta.specs.Contents.{Told};
+ghost use Rattle.wtf_core.specs.Tables.{AreSound, IsAlike};
+ghost use Rattle.wtf_core.specs.Standing.{StandsFor};
+ghost use Rattle.wtf_core.specs.Turns.{LineTurn, IsLine, ServerTurn, ShowsTree};
+ghost use Rattle.wtf_core.specs.Answers.{IsEvent};
+
+use crate::ops::copy_op;
+use crate::tables::Tables;
+use crate::tree::tree_now;
+use std::alloc::Global;
+use std::marker::Model;
+use wtf_base::{Bytes, Fault, OutOfMemory, Settings};
+use wtf_dev::{Keeper, Shelf, SliceStore};
+use wtf_model::{Answer, Event, Op, Verb, Word};
+use wtf_region::{Dev, RegionCache};
+use wtf_replica::Replicas;
+use wtf_ring::Ring;
+
+/// The store with all transactions that are open. Contracts see the settings, the metadata with the
+/// open transactions, the servers that are down, and whether it is closed.
+#[derive(Drop)]
+pub struct Core {
+    alloc: Global,
+    settings: Settings,
+    tables: Tables,
+    replicas: Replicas,
+    ring: Ring,
+    cache: RegionCache,
+    closed: bool,
+}
+
+impl Model for Core {
+    ghost use Rattle.wtf_core.specs.Views.{CoreView};
+    ghost use Rattle.wtf_core.specs.Made.{IsMade};
+
+    ghost Value = { CoreView };
+
+    ghost use Rattle.std.specs.Coded.{codes};
+    ghost use Rattle.wtf_values.specs.contracts.key.Key as key;
+    ghost use Rattle.wtf_values.specs.contracts.value.Value as value;
+    ghost use Rattle.wtf_replay.specs.contracts.txn.Txn as txn;
+
+    ghost coded = { Prim.hlevel (
+      codes,
+      key.the_row.coded,
+      value.the_row.coded,
+      txn.the_row.coded,
+    ) };
+
+    ghost view = { λ c. record {
+      settings = c.settings;
+      tables = c.tables;
+      replicas = c.replicas;
+      closed = c.closed;
+    } };
+
+    ghost invariant = { λ c. IsMade c.settings c.tables c.replicas c.ring c.cache };
+}
+
+impl Core {
+    /// The root alone, no transaction, and all servers up.
+    pub fn new(alloc: Global, settings: Settings) -> Result<Core, OutOfMemory>
+        requires settings { AreSettings settings.servers settings.replicas settings.region }
+        ensures settings { IfOk result (λ core. core.settings ≡ settings) }
+        ensures open { IfOk result (λ core. core.closed ≡ false) }
+        ensures number { IfOk result (λ core. core.tables.kv.number ≡ 0) }
+        ensures next_tx { IfOk result (λ core. core.tables.next_tx ≡ 1) }
+        ensures sound { IfOk result (λ core. AreSound core.tables) }
+        ensures stands { IfOk result (λ core. (told : Told) →
+            StandsFor told core (start settings 0 root_alone)) }
+    {
+        let tables = match Tables::new(alloc) {
+            Ok(tables) => tables,
+            Err(why) => return Err(why),
+        };
+        let ring = match Ring::new(alloc, settings.servers) {
+            Ok(ring) => ring,
+            Err(why) => return Err(why),
+        };
+        let cache = match RegionCache::new(alloc) {
+            Ok(cache) => cache,
+            Err(why) => return Err(why),
+        };
+        Ok(Core {
+            alloc,
+            settings,
+            tables,
+            replicas: Replicas::new(settings),
+            ring,
+            cache,
+            closed: false,
+        })
+    }
+
+    /// The settings.
+    pub fn settings(&self) -> Settings
+        ensures { result ≡ self.now.settings }
+    {
+        self.settings
+    }
+
+    /// The number of installs.
+    pub fn number(&self) -> u64
+        ensures { result ≡ self.now.tables.kv.number }
+    {
+        self.tables.number()
+    }
+
+    /// The number of the transaction that begins next.
+    pub fn next_tx(&self) -> u64
+        ensures { result ≡ self.now.tables.next_tx }
+    {
+        self.tables.next_tx()
+    }
+
+    /// Whether it is closed, for want of memory.
+    pub fn closed(&self) -> bool
+        ensures { result ≡ self.now.closed }
+    {
+        self.closed
+    }
+
+    /// Answers one line. The answer is that of the machine, which the core goes on to stand for.
+    /// After want of memory the metadata now are as they were, and the core is closed.
+    pub fn event<S: SliceStore, K: Keeper>(
+        &mut self,
+        shelf: &mut Shelf<S>,
+        _keeper: &mut K,
+        event: &Event,
+    ) -> Result<Answer, OutOfMemory>
+        requires open { self.old.closed ≡ false }
+        requires shelf { self.old.settings.servers ≤ length shelf.old }
+        requires form { IsFormEvent event.now }
+        requires number { self.old.tables.kv.number < 2 ^ 63 }
+        requires next_tx { self.old.tables.next_tx < 2 ^ 63 }
+        ensures answers { IfOk result (λ a. TellsAll S.kind shelf.old → (m : Machine) →
+            StandsFor (byte_at S.kind shelf.old) self.old m →
+            IsEvent (byte_at S.kind shelf.new) self.new m event.now a) }
+        ensures turn { IfOk result (λ a. IsLine (TellsAll S.kind shelf.old)
+            (byte_at S.kind shelf.old, byte_at S.kind shelf.new) self.old self.new event.now a) }
+        ensures sound { AreSound self.new.tables }
+        ensures open { OnOk result (self.new.closed ≡ false) }
+        ensures closed { OnErr result (self.new.closed ≡ true) }
+        ensures err { OnErr result (IsAlike self.old.tables self.new.tables) }
+        ensures settings { self.new.settings ≡ self.old.settings }
+        ensures number { self.new.tables.kv.number ≤ self.old.tables.kv.number + 1 }
+        ensures next_tx { self.new.tables.next_tx ≤ self.old.tables.next_tx + 1 }
+        ensures shelf { EachFollows S.kind shelf.old shelf.new [] }
+        ensures keeper { _keeper.new ≡ _keeper.old }
+    {
+        let _number = self.tables.number();
+        match self.answer(shelf, event) {
+            Ok(answer) => {
+                self.tables.tidy();
+                return Ok(answer);
+            }
+            Err(why) => {
+                self.closed = true;
+                return Err(why);
+            }
+        }
+    }
+
+    /// Answers one line.
+    fn answer<S: SliceStore>(
+        &mut self,
+        shelf: &mut Shelf<S>,
+        event: &Event,
+    ) -> Result<Answer, OutOfMemory>
+        requires shelf { self.old.settings.servers ≤ length shelf.old }
+        requires form { IsFormEvent event.now }
+        requires number { self.old.tables.kv.number < 2 ^ 63 }
+        requires next_tx { self.old.tables.next_tx < 2 ^ 63 }
+        ensures turn { IfOk result (λ a. LineTurn (TellsAll S.kind shelf.old)
+            (byte_at S.kind shelf.old, byte_at S.kind shelf.new) self.old self.new event.now a) }
+        ensures err { OnErr result (IsAlike self.old.tables self.new.tables) }
+        ensures settings { self.new.settings ≡ self.old.settings }
+        ensures closed { self.new.closed ≡ self.old.closed }
+        ensures shelf { EachFollows S.kind shelf.old shelf.new [] }
+    {
+        match event {
+            Event::Client(c, verb) => return self.client(shelf, *c, verb),
+            Event::Down(k) => return Ok(self.server(*k, true)),
+            Event::Up(k) => return Ok(self.server(*k, false)),
+            Event::Tree => match self.show() {
+                Ok(answer) => return Ok(answer),
+                Err(why) => return Err(why),
+            },
+            _ => return Ok(Answer::NotBuilt),
+        }
+    }
+
+    /// Shows the tree now.
+    fn show(&self) -> Result<Answer, OutOfMemory>
+        ensures { IfOk result (λ a. ShowsTree self.now.settings.region self.now.tables.kv a) }
+    {
+        tree_now(self.alloc, self.tables.kv(), self.settings)
+    }
+
+    /// Answers a client's line.
+    fn client<S: SliceStore>(
+        &mut self,
+        shelf: &mut Shelf<S>,
+        c: u8,
+        verb: &Verb,
+    ) -> Result<Answer, OutOfMemory>
+        requires shelf { self.old.settings.servers ≤ length shelf.old }
+        requires form { IsFormVerb verb.now }
+        requires number { self.old.tables.kv.number < 2 ^ 63 }
+        requires next_tx { self.old.tables.next_tx < 2 ^ 63 }
+        ensures turn { IfOk result (λ a. LineTurn (TellsAll S.kind shelf.old)
+            (byte_at S.kind shelf.old, byte_at S.kind shelf.new) self.old self.new
+            (event.Client c verb.now) a) }
+        ensures err { OnErr result (IsAlike self.old.tables self.new.tables) }
+        ensures settings { self.new.settings ≡ self.old.settings }
+        ensures closed { self.new.closed ≡ self.old.closed }
+        ensures shelf { EachFollows S.kind shelf.old shelf.new [] }
+    {
+        match verb {
+            Verb::Begin => return self.tables.begin(c),
+            Verb::Try => return self.tables.attempt(c),
+            Verb::Step => return self.step(shelf, c),
+            Verb::Commit => return self.commit(shelf, c),
+            Verb::Abort => return Ok(self.tables.abort(c)),
+            Verb::Call(op) => return self.call(shelf, c, op),
+        }
+    }
+
+    /// Makes a call of a client.
+    fn call<S: SliceStore>(
+        &mut self,
+        shelf: &mut Shelf<S>,
+        c: u8,
+        op: &Op<Bytes>,
+    ) -> Result<Answer, OutOfMemory>
+        requires shelf { self.old.settings.servers ≤ length shelf.old }
+        requires form { IsFormOp IsData op.now }
+        ensures turn { IfOk result (λ a. LineTurn (TellsAll S.kind shelf.old)
+            (byte_at S.kind shelf.old, byte_at S.kind shelf.new) self.old self.new
+            (event.Client c (verb.Call op.now)) a) }
+        ensures err { OnErr result (IsAlike self.old.tables self.new.tables) }
+        ensures settings { self.new.settings ≡ self.old.settings }
+        ensures closed { self.new.closed ≡ self.old.closed }
+        ensures shelf { EachFollows S.kind shelf.old shelf.new [] }
+    {
+        let copied = match copy_op(self.alloc, op) {
+            Ok(copied) => copied,
+            Err(why) => return Err(why),
+        };
+        let Some(made) = copied else {
+            return Ok(Answer::NotBuilt);
+        };
+        let mut dev = Dev {
+            shelf,
+            replicas: &self.replicas,
+            ring: &self.ring,
+            cache: &mut self.cache,
+            settings: self.settings,
+        };
+        match self.tables.call(&mut dev, c, made) {
+            Ok(answer) => return Ok(answer),
+            Err(_) => return Err(OutOfMemory),
+        }
+    }
+
+    /// Replays the next call of a client.
+    fn step<S: SliceStore>(&mut self, shelf: &mut Shelf<S>, c: u8) -> Result<Answer, OutOfMemory>
+        requires shelf { self.old.settings.servers ≤ length shelf.old }
+        ensures turn { IfOk result (λ a. LineTurn (TellsAll S.kind shelf.old)
+            (byte_at S.kind shelf.old, byte_at S.kind shelf.new) self.old self.new
+            (event.Client c verb.Step) a) }
+        ensures err { OnErr result (IsAlike self.old.tables self.new.tables) }
+        ensures settings { self.new.settings ≡ self.old.settings }
+        ensures closed { self.new.closed ≡ self.old.closed }
+        ensures shelf { EachFollows S.kind shelf.old shelf.new [] }
+    {
+        let mut dev = Dev {
+            shelf,
+            replicas: &self.replicas,
+            ring: &self.ring,
+            cache: &mut self.cache,
+            settings: self.settings,
+        };
+        match self.tables.step(&mut dev, c) {
+            Ok(answer) => return Ok(answer),
+            Err(_) => return Err(OutOfMemory),
+        }
+    }
+
+    /// Commits the transaction of a client.
+    fn commit<S: SliceStore>(&mut self, shelf: &mut Shelf<S>, c: u8) -> Result<Answer, OutOfMemory>
+        requires shelf { self.old.settings.servers ≤ length shelf.old }
+        requires number { self.old.tables.kv.number < 2 ^ 63 }
+        ensures turn { IfOk result (λ a. LineTurn (TellsAll S.kind shelf.old)
+            (byte_at S.kind shelf.old, byte_at S.kind shelf.new) self.old self.new
+            (event.Client c verb.Commit) a) }
+        ensures err { OnErr result (IsAlike self.old.tables self.new.tables) }
+        ensures settings { self.new.settings ≡ self.old.settings }
+        ensures closed { self.new.closed ≡ self.old.closed }
+        ensures shelf { EachFollows S.kind shelf.old shelf.new [] }
+    {
+        let mut dev = Dev {
+            shelf,
+            replicas: &self.replicas,
+            ring: &self.ring,
+            cache: &mut self.cache,
+            settings: self.settings,
+        };
+        match self.tables.commit(&mut dev, c) {
+            Ok(answer) => return Ok(answer),
+            Err(_) => return Err(OutOfMemory),
+        }
+    }
+
+    /// A server goes down, or comes up, where there is such a server.
+    fn server(&mut self, k: u64, down: bool) -> Answer
+        ensures { ServerTurn self.old self.new k down result }
+    {
+        if k >= self.settings.servers as u64 {
+            return Answer::Refused(Word::NoServer);
+        }
+        if down {
+            self.replicas.down(k as u8);
+            return Answer::Okay;
+        }
+        self.replicas.up(k as u8);
+        Answer::Okay
+    }
+}

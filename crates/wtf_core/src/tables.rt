@@ -1,0 +1,296 @@
+//! The store of the metadata with the open transactions, and what a client's line makes of them.
+
+ghost use Rattle.std.specs.Prelude.{◌≡◌, ◌+◌, ◌<◌, ◌^◌, ℕ, List, [], true, false, None, Some, Ok, IsTrue, IfOk, OnOk, OnErr, IfErr, IfSome, MatchOption};
+ghost use Rattle.std.specs.Set.{remove_key};
+ghost use Rattle.std.specs.Prelude.{nat_eq};
+ghost use Rattle.wtf_dev.specs.Sums.{TellsAll};
+ghost use Rattle.wtf_replica.specs.Bytes.{byte_at};
+ghost use Rattle.wtf_kv.specs.Stores.{is_pinned, IsPinnedOnceMore};
+ghost use Rattle.wtf_model.specs.Form.{IsFormOp, IsData};
+ghost use Rattle.wtf_model.specs.declared.answer.Word.TheVariants.{InTx, NoTx};
+ghost use Rattle.wtf_model.specs.declared.event.Verb.TheVariants as verb;
+ghost use Rattle.wtf_region.specs.Devs.{IsSoundDev, GoesOn, stores};
+ghost use Rattle.wtf_replay.specs.Built.{is_built_op};
+ghost use Rattle.wtf_meta.specs.Trees.{IsFirst};
+ghost use Rattle.wtf_core.specs.Views.{of_client, metadata_now};
+ghost use Rattle.wtf_core.specs.Tables.{AreSound, Sets, IsAlike, IsTidied};
+ghost use Rattle.wtf_core.specs.Turns.{Refuses, Begins, TryTurn, Drops, ClientTurn};
+
+use indexmap::IndexMap;
+use std::alloc::Global;
+use std::marker::Model;
+use wtf_base::{Bytes, Fault, OutOfMemory, TxId};
+use wtf_dev::SliceStore;
+use wtf_kv::Kv;
+use wtf_model::{Answer, Op, Word};
+use wtf_path::Path;
+use wtf_region::Dev;
+use wtf_replay::Txn;
+use wtf_values::{Key, NameSet, Node, Value};
+
+/// The store of the metadata, the number of the transaction that begins next, and the open
+/// transactions by client, in the order of their begin.
+#[derive(Drop)]
+pub(crate) struct Tables {
+    alloc: Global,
+    kv: Kv<Key, Value>,
+    next_tx: u64,
+    clients: IndexMap<u8, Txn>,
+}
+
+impl Model for Tables {
+    ghost use Rattle.wtf_core.specs.Views.{TablesView};
+
+    ghost Value = { TablesView };
+
+    ghost use Rattle.std.specs.Coded.{codes};
+    ghost use Rattle.wtf_values.specs.contracts.key.Key as key;
+    ghost use Rattle.wtf_values.specs.contracts.value.Value as value;
+    ghost use Rattle.wtf_replay.specs.contracts.txn.Txn as txn;
+
+    ghost coded = { Prim.hlevel (
+      codes,
+      key.the_row.coded,
+      value.the_row.coded,
+      txn.the_row.coded,
+    ) };
+
+    ghost view = { λ t. record { kv = t.kv; next_tx = t.next_tx; clients = t.clients.entries } };
+}
+
+impl Tables {
+    /// The root alone, and no transaction.
+    pub(crate) fn new(alloc: Global) -> Result<Tables, OutOfMemory>
+        ensures number { IfOk result (λ t. t.kv.number ≡ 0) }
+        ensures next { IfOk result (λ t. t.next_tx ≡ 1) }
+        ensures clients { IfOk result (λ t. t.clients ≡ []) }
+        ensures first { IfOk result (λ t. IsFirst (metadata_now t.kv)) }
+        ensures sound { IfOk result (λ t. AreSound t) }
+    {
+        let mut kv: Kv<Key, Value> = match Kv::new(alloc) {
+            Ok(kv) => kv,
+            Err(why) => return Err(why),
+        };
+        let root = match Path::parse(alloc, b"/") {
+            Ok(root) => root,
+            Err(_) => return Err(OutOfMemory),
+        };
+        let top = match root.copy(alloc) {
+            Ok(top) => top,
+            Err(why) => return Err(why),
+        };
+        if let Err(why) = kv.seed(Key::Path(root), Value::Node(Node::Folder)) {
+            return Err(why);
+        }
+        if let Err(why) = kv.seed(Key::Dir(top), Value::Names(NameSet::new(alloc))) {
+            return Err(why);
+        }
+        Ok(Tables {
+            alloc,
+            kv,
+            next_tx: 1,
+            clients: IndexMap::new(alloc),
+        })
+    }
+
+    /// The number of installs.
+    pub(crate) fn number(&self) -> u64
+        ensures { result ≡ self.now.kv.number }
+    {
+        self.kv.number()
+    }
+
+    /// The number of the transaction that begins next.
+    pub(crate) fn next_tx(&self) -> u64
+        ensures { result ≡ self.now.next_tx }
+    {
+        self.next_tx
+    }
+
+    /// The store of the metadata.
+    pub(crate) fn kv(&self) -> &Kv<Key, Value>
+        ensures { result.now ≡ self.now.kv }
+    {
+        &self.kv
+    }
+
+    /// A transaction begins for a client that has none.
+    pub(crate) fn begin(&mut self, c: u8) -> Result<Answer, OutOfMemory>
+        requires sound { AreSound self.old }
+        requires room { self.old.next_tx < 2 ^ 63 }
+        ensures turn { IfOk result (λ a. MatchOption (of_client self.old.clients c)
+            (Begins self.old self.new c a) (λ x. Refuses self.old self.new c InTx a)) }
+        ensures err_sound { OnErr result (AreSound self.new) }
+        ensures err { OnErr result (IsAlike self.old self.new) }
+    {
+        if self.clients.contains_key(&c) {
+            return Ok(Answer::Refused(Word::InTx));
+        }
+        if let Err(_) = self.clients.reserve(1) {
+            return Err(OutOfMemory);
+        }
+        let number = self.kv.number();
+        let txn = match Txn::begin(self.alloc, &mut self.kv, TxId(self.next_tx)) {
+            Ok(txn) => txn,
+            Err(why) => return Err(why),
+        };
+        match self.clients.insert(c, txn) {
+            Ok(_) => {
+                self.next_tx = self.next_tx + 1;
+                return Ok(Answer::Begun(number));
+            }
+            Err(_) => unreachable!(),
+        }
+    }
+
+    /// A call of a client.
+    pub(crate) fn call<S: SliceStore>(
+        &mut self,
+        dev: &mut Dev<'_, S>,
+        c: u8,
+        op: Op<Bytes>,
+    ) -> Result<Answer, Fault>
+        requires sound { AreSound self.old }
+        requires dev { IsSoundDev dev.old }
+        requires built { is_built_op op ≡ true }
+        requires form { IsFormOp IsData op }
+        ensures turn { IfOk result (λ a. ClientTurn (TellsAll S.kind (stores dev.old))
+            dev.old.settings.region
+            (byte_at S.kind (stores dev.old)) (byte_at S.kind (stores dev.new))
+            self.old self.new c (verb.Call op) a) }
+        ensures err_sound { OnErr result (AreSound self.new) }
+        ensures err { OnErr result (IsAlike self.old self.new) }
+        ensures fault { IfErr result (λ why. why ≡ Fault.Memory) }
+        ensures dev { GoesOn S.kind dev.old dev.new [] }
+    {
+        let Some(txn) = self.clients.get_mut(&c) else {
+            return Ok(Answer::Refused(Word::NoTx));
+        };
+        let answer = match txn.call(dev, &self.kv, op) {
+            Ok(answer) => answer,
+            Err(why) => return Err(why),
+        };
+        Ok(answer)
+    }
+
+    /// A client's attempt to commit.
+    pub(crate) fn attempt(&mut self, c: u8) -> Result<Answer, OutOfMemory>
+        requires sound { AreSound self.old }
+        requires room { self.old.kv.number < 2 ^ 63 }
+        ensures turn { IfOk result (λ a. MatchOption (of_client self.old.clients c)
+            (Refuses self.old self.new c NoTx a) (λ x. TryTurn self.old self.new c x a)) }
+        ensures err_sound { OnErr result (AreSound self.new) }
+        ensures err { OnErr result (IsAlike self.old self.new) }
+    {
+        let Some(txn) = self.clients.get_mut(&c) else {
+            return Ok(Answer::Refused(Word::NoTx));
+        };
+        let answer = match txn.attempt(&mut self.kv) {
+            Ok(answer) => answer,
+            Err(why) => return Err(why),
+        };
+        if !txn.ended() {
+            return Ok(answer);
+        }
+        self.end(c);
+        Ok(answer)
+    }
+
+    /// A client's next call is replayed.
+    pub(crate) fn step<S: SliceStore>(
+        &mut self,
+        dev: &mut Dev<'_, S>,
+        c: u8,
+    ) -> Result<Answer, Fault>
+        requires sound { AreSound self.old }
+        requires dev { IsSoundDev dev.old }
+        ensures turn { IfOk result (λ a. ClientTurn (TellsAll S.kind (stores dev.old))
+            dev.old.settings.region
+            (byte_at S.kind (stores dev.old)) (byte_at S.kind (stores dev.new))
+            self.old self.new c verb.Step a) }
+        ensures err_sound { OnErr result (AreSound self.new) }
+        ensures err { OnErr result (IsAlike self.old self.new) }
+        ensures fault { IfErr result (λ why. why ≡ Fault.Memory) }
+        ensures dev { GoesOn S.kind dev.old dev.new [] }
+    {
+        let Some(txn) = self.clients.get_mut(&c) else {
+            return Ok(Answer::Refused(Word::NoTx));
+        };
+        let answer = match txn.step(dev, &self.kv) {
+            Ok(answer) => answer,
+            Err(why) => return Err(why),
+        };
+        if !txn.ended() {
+            return Ok(answer);
+        }
+        self.end(c);
+        Ok(answer)
+    }
+
+    /// A client's commit, by an attempt or by a replay of all calls.
+    pub(crate) fn commit<S: SliceStore>(
+        &mut self,
+        dev: &mut Dev<'_, S>,
+        c: u8,
+    ) -> Result<Answer, Fault>
+        requires sound { AreSound self.old }
+        requires dev { IsSoundDev dev.old }
+        requires room { self.old.kv.number < 2 ^ 63 }
+        ensures turn { IfOk result (λ a. ClientTurn (TellsAll S.kind (stores dev.old))
+            dev.old.settings.region
+            (byte_at S.kind (stores dev.old)) (byte_at S.kind (stores dev.new))
+            self.old self.new c verb.Commit a) }
+        ensures err_sound { OnErr result (AreSound self.new) }
+        ensures err { OnErr result (IsAlike self.old self.new) }
+        ensures fault { IfErr result (λ why. why ≡ Fault.Memory) }
+        ensures dev { GoesOn S.kind dev.old dev.new [] }
+    {
+        let Some(txn) = self.clients.get_mut(&c) else {
+            return Ok(Answer::Refused(Word::NoTx));
+        };
+        let answer = match txn.commit(dev, &mut self.kv) {
+            Ok(answer) => answer,
+            Err(why) => return Err(why),
+        };
+        self.end(c);
+        Ok(answer)
+    }
+
+    /// A client gives its transaction up.
+    pub(crate) fn abort(&mut self, c: u8) -> Answer
+        requires sound { AreSound self.old }
+        ensures turn { MatchOption (of_client self.old.clients c)
+            (Refuses self.old self.new c NoTx result)
+            (λ x. Drops self.old self.new c x result) }
+    {
+        if !self.clients.contains_key(&c) {
+            return Answer::Refused(Word::NoTx);
+        }
+        self.end(c);
+        Answer::Okay
+    }
+
+    /// Drops versions that no one sees any more, once there are enough of them.
+    pub(crate) fn tidy(&mut self)
+        ensures { IsTidied self.old self.new }
+    {
+        self.kv.prune_when_due();
+    }
+
+    /// The transaction of a client goes, with the pin of its base.
+    fn end(&mut self, c: u8)
+        requires pinned { IfSome (of_client self.old.clients c)
+            (λ x. IsTrue (is_pinned self.old.kv x.at.base)) }
+        ensures clients { Sets c None self.old.clients self.new.clients }
+        ensures kv { IfSome (of_client self.old.clients c) (λ x. self.new.kv ≡
+            record self.old.kv { pins = remove_key (nat_eq x.at.base) self.old.kv.pins }) }
+        ensures unpinned { IfSome (of_client self.old.clients c)
+            (λ x. IsPinnedOnceMore x.at.base self.new.kv self.old.kv) }
+        ensures next { self.new.next_tx ≡ self.old.next_tx }
+    {
+        match self.clients.shift_remove(&c) {
+            Some(txn) => txn.drop_all(&mut self.kv),
+            None => {}
+        }
+    }
+}
