@@ -1,12 +1,13 @@
 -- What a call recorded of a file, and how it changed it.
-use Rattle.std.specs.Prelude.{ℕ, Bool, List, []}
+use Rattle.std.specs.Prelude.{ℕ, ◌+◌, ◌*◌, ◌<◌, Bool, List, []}
 use Rattle.wtf_base.specs.declared.ids.InodeId.{InodeId}
 use Rattle.wtf_occ.specs.Attempts.{Attempted, GrowsBy}
 use Rattle.wtf_overlay.specs.Origin.{Place, part_origin, pieces_len, pieces_origin}
 use Rattle.wtf_overlay.specs.declared.part.Piece.{Piece}
 use Rattle.wtf_values.specs.declared.key.Key.{Key}
 use Rattle.wtf_values.specs.declared.value.Delta.{Delta}
-use Rattle.wtf_meta.specs.Files.{FileView}
+use Rattle.wtf_model.specs.declared.limits.TheConstants.{MAX_REGIONS}
+use Rattle.wtf_meta.specs.Files.{FileView, end_of, file_len}
 use Rattle.wtf_meta.specs.FileEdits.{FileEdit, edits_of}
 use Rattle.wtf_meta.specs.Bytes.{PartBytes, PiecesBytes, EditsBytes}
 use Rattle.wtf_meta.specs.Ranges.{Covers, Lays}
@@ -42,6 +43,11 @@ pub record LaysPieces (b off : ℕ) (i : InodeId) (ps : List Piece) (ds : List F
 pub record AddsPieces (b : ℕ) (i : InodeId) (read : FileView) (ps : List Piece) (ds : List FileEdit) : Type 0 where
   pub appends : Appends b read (append_keys b read (pieces_len ps)) ds (pieces_len ps) (pieces_origin ps)
   pub names : NamesOnly i ps ds
+
+-- n bytes find no room in the last region of a file, nor below the greatest length
+pub record LacksRoom (b : ℕ) (v : FileView) (n : ℕ) : Type 0 where
+  pub region : b < end_of (v.region v.last) + n
+  pub file : MAX_REGIONS * b < file_len b v + n
 
 -- pieces were refused: no file that agrees with the one that was read has room for them, and nothing was changed
 pub record IsTooBig (b : ℕ) (i : InodeId) (read : FileView) (ps : List Piece) (old new : Attempted Key Delta) : Type 0 where

@@ -8,7 +8,7 @@ ghost use Rattle.wtf_overlay.specs.Lengths.{HasLength};
 ghost use Rattle.wtf_model.specs.declared.limits.TheConstants.{MAX_REGIONS};
 ghost use Rattle.wtf_meta.specs.Maps.{seen};
 ghost use Rattle.wtf_meta.specs.FileEdits.{file_of, Push, RaiseLast};
-ghost use Rattle.wtf_region.specs.Edited.{Edited, CoversPart, LaysPieces, IsAdded};
+ghost use Rattle.wtf_region.specs.Edited.{Edited, CoversPart, LaysPieces, LacksRoom, IsAdded};
 
 use crate::Added;
 use crate::part::part_at;
@@ -124,6 +124,8 @@ pub fn add_pieces(
     requires { IsTrue (is_pinned kv.now at.old.base) }
     ensures added { IfOk result (IsAdded settings.region inode
         (file_of inode (seen kv.now at.old)) pieces.now at.old at.new) }
+    ensures full { IfOk result (λ a. a ≡ Added.TooBig → LacksRoom settings.region
+        (file_of inode (seen kv.now at.old)) (pieces_len pieces.now)) }
     ensures grows { Grows at.old at.new }
 {
     let len = bytes_of(pieces);
