@@ -1,0 +1,142 @@
+use Rattle.std.proofs.Common.{◌≡◌, ℕ, [], ◌∷◌, length, Option, Some, refl, sym, ap, ◌∙◌, subst, arith}
+use Rattle.wtf_base.specs.declared.ids.InodeId.{InodeId}
+use Rattle.wtf_base.specs.declared.slice.Slice.{Slice}
+use Rattle.wtf_occ.proofs.AttemptLaws.{GrowsBy-nothing}
+use Rattle.wtf_overlay.specs.Origin.{pieces_len}
+use Rattle.wtf_model.specs.declared.answer.Answer.TheVariants as answer
+use Rattle.wtf_model.specs.declared.answer.Word.TheVariants.{NoHandle, TooBig}
+use Rattle.wtf_model.specs.declared.op.Op.TheVariants as op
+use Rattle.wtf_replica.specs.Bytes.{byte_at}
+use Rattle.wtf_meta.specs.declared.session.Handle.{Handle}
+use Rattle.wtf_meta.specs.Maps.{seen}
+use Rattle.wtf_meta.specs.FileEdits.{file_of}
+use Rattle.wtf_meta.specs.Appends.{keys_of, append_keys as file_append_keys}
+use Rattle.wtf_meta.specs.Sessions.{handle_in}
+use Rattle.wtf_meta.specs.Calls.{cap_for}
+use Rattle.std.specs.Prelude.{IfSome, IsSome}
+use Rattle.wtf_replica.specs.Copies.{IsStored}
+use Rattle.wtf_region.specs.Devs.{stores, between, place_in}
+use Rattle.wtf_region.specs.declared.added.Added.{Added}
+use Rattle.wtf_region.specs.declared.added.Added.TheVariants as added
+use Rattle.wtf_region.specs.Edited.{Recorded, LacksRoom, IsAdded}
+use Rattle.wtf_rw.specs.Steps.{in_hand}
+use Rattle.wtf_rw.specs.Stored.{HasRoom, ArePieces, end_place}
+use Rattle.wtf_rw.proofs.ModelCalls.{append-none}
+use Rattle.wtf_rw.proofs.Ways.{no_handle, spot_open, spot_closed}
+use Rattle.wtf_rw.proofs.StoredBytes.{tell_stored, step_only}
+use Rattle.wtf_rw.proofs.AppendWays.{step_added, keys_due, adds, added_keys, adds_nothing, nothing_told, adds_full, full_keys, added_in_room}
+use Rattle.wtf_rw.proofs.FaultWays.{append_due}
+use Rattle.wtf_rw.proofs.appends.append_fresh.Goals as goal
+
+pub returns-in_default-clause-step : goal.returns-in_default-clause-step
+returns-in_default-clause-step g c x size =
+    let s = c.args.s.now in
+    let f = c.args.f in
+    let b = seen c.args.kv.now c.args.at.now in
+    let o = op.Append f c.args.bytes.now in
+    let at = in_hand c.args.at.now s in
+    step_only g.S.SliceStore.kind (stores c.args.dev.now) (stores c.args.dev.now) c.only.result x b at at [] o (answer.Refused NoHandle) c.only.ensures.answer c.only.ensures.own (GrowsBy-nothing c.args.at.now)
+    (no_handle x b s f o (spot_closed c.handle_of.result (handle_in s f) c.handle_of.ensures c.in_default.is) (λ S none. append-none (cap_for x) S f c.args.bytes.now none))
+
+pub returns-then-len-eq0-clause-step : goal.returns-then-len-eq0-clause-step
+returns-then-len-eq0-clause-step g c x size =
+    let s = c.args.s.now in
+    let f = c.args.f in
+    let b = seen c.args.kv.now c.args.at.now in
+    let bytes = c.args.bytes.now in
+    let open_at = spot_open c.handle_of.result (handle_in s f) c.in-Some.spot c.handle_of.ensures c.in-Some.is in
+    let one = adds_nothing x b s f open_at.handle bytes c.args.at.now open_at.is c.if-len-eq0.true in
+    step_added g.S.SliceStore.kind (stores c.args.dev.now) (stores c.args.dev.now) c.only-then-len-eq0.result x b s f [] bytes c.args.at.now c.args.at.now answer.Okay c.only-then-len-eq0.ensures.answer
+    (subst (λ (w : Option Slice). ArePieces w []) (sym c.only-then-len-eq0.ensures.own) refl)
+    (λ tells. nothing_told (byte_at g.S.SliceStore.kind (stores c.args.dev.now)) bytes c.if-len-eq0.true) one
+
+pub returns-in-Ok-file_len-clause-step : goal.returns-in-Ok-file_len-clause-step
+returns-in-Ok-file_len-clause-step g c x size =
+    let s = c.args.s.now in
+    let f = c.args.f in
+    let b = seen c.args.kv.now c.args.at.now in
+    let bytes = c.args.bytes.now in
+    let open_at = spot_open c.handle_of.result (handle_in s f) c.in-Some.spot c.handle_of.ensures c.in-Some.is in
+    let h = open_at.handle in
+    let i0 = c.in-Some.spot.inode in
+    let lacks0 : LacksRoom x.size (file_of i0 b) (length bytes) = subst (λ (z : ℕ). LacksRoom z (file_of i0 b) (length bytes)) (sym size) (c.in-Ok.ensures.full c.in_default-place.is) in
+    let lacks : LacksRoom x.size (file_of h.inode b) (length bytes) = subst (λ (i : InodeId). LacksRoom x.size (file_of i b) (length bytes)) open_at.inode lacks0 in
+    let went : Recorded h.inode (file_append_keys x.size (file_of h.inode b) (length bytes)) c.args.at.now c.file_len.new.at =
+    subst (λ (i : InodeId). Recorded i (file_append_keys x.size (file_of i b) (length bytes)) c.args.at.now c.file_len.new.at) open_at.inode
+    (full_keys x.size i0 b (length bytes) c.args.at.now c.file_len.new.at c.if-len-eq0.false lacks0 c.in-Ok-file_len.ensures.recorded) in
+    step_only g.S.SliceStore.kind (stores c.args.dev.now) (stores c.args.dev.now) c.only-in-Ok-file_len.result x b (in_hand c.args.at.now s) (in_hand c.file_len.new.at s)
+    (keys_of h.inode (file_append_keys x.size (file_of h.inode b) (length bytes))) (op.Append f bytes) (answer.Refused TooBig) c.only-in-Ok-file_len.ensures.answer c.only-in-Ok-file_len.ensures.own went
+    (adds_full x b s f h bytes open_at.is c.if-len-eq0.false lacks)
+
+pub returns-in-Ok-add_pieces-clause-keys : goal.returns-in-Ok-add_pieces-clause-keys
+returns-in-Ok-add_pieces-clause-keys g c =
+    let s = c.args.s.now in
+    let f = c.args.f in
+    let b = seen c.args.kv.now c.args.at.now in
+    let i = c.in-Some.spot.inode in
+    let z = c.args.dev.now.settings.region in
+    let p = c.piece_of.result in
+    let len : p.len ≡ length c.args.bytes.now = c.piece_of.ensures.len ∙ c.in-Ok-store_bytes.ensures.stored.len in
+    let open_at = spot_open c.handle_of.result (handle_in s f) c.in-Some.spot c.handle_of.ensures c.in-Some.is in
+    keys_due z b (handle_in s f) open_at.handle i (pieces_len (p ∷ [])) (length c.args.bytes.now) c.add_pieces.new.at.reads c.args.at.now.reads open_at.is open_at.inode (omega (arith, len))
+    (added_keys z i (file_of i b) (p ∷ []) c.args.at.now c.add_pieces.new.at c.in-Ok-add_pieces.field-0 c.in-Ok-add_pieces.ensures.added)
+
+pub returns-in-Ok-add_pieces-clause-step : goal.returns-in-Ok-add_pieces-clause-step
+returns-in-Ok-add_pieces-clause-step g c x size =
+    let s = c.args.s.now in
+    let f = c.args.f in
+    let b = seen c.args.kv.now c.args.at.now in
+    let bytes = c.args.bytes.now in
+    let p = c.piece_of.result in
+    let slice = c.in-Ok-store_bytes.slice in
+    let at = c.args.at.now in
+    let new = c.add_pieces.new.at in
+    let r = c.in-Ok-add_pieces.field-0 in
+    let len : p.len ≡ length bytes = c.piece_of.ensures.len ∙ c.in-Ok-store_bytes.ensures.stored.len in
+    let open_at = spot_open c.handle_of.result (handle_in s f) c.in-Some.spot c.handle_of.ensures c.in-Some.is in
+    let h = open_at.handle in
+    let i0 = c.in-Some.spot.inode in
+    let z = c.args.dev.now.settings.region in
+    let room : HasRoom z (file_of i0 b) (length bytes) = c.in-Ok.ensures.room (subst (λ (o : Option ℕ). IsSome o) (sym c.in-Some-place.is) refl) in
+    let lacks : r ≡ added.TooBig → LacksRoom z (file_of i0 b) (length bytes) = λ e. subst (λ (k : ℕ). LacksRoom z (file_of i0 b) k) (omega (arith, len)) (c.in-Ok-add_pieces.ensures.full e) in
+    let done : r ≡ added.Done = added_in_room z (file_of i0 b) (length bytes) r room lacks in
+    let is : IsAdded x.size h.inode (file_of h.inode b) (p ∷ []) at new added.Done =
+    subst (λ (i : InodeId). IsAdded x.size i (file_of i b) (p ∷ []) at new added.Done) open_at.inode
+    (subst (λ (y : ℕ). IsAdded y i0 (file_of i0 b) (p ∷ []) at new added.Done) (sym size)
+    (subst (λ (q : Added). IsAdded z i0 (file_of i0 b) (p ∷ []) at new q) done c.in-Ok-add_pieces.ensures.added)) in
+    step_added g.S.SliceStore.kind (stores c.args.dev.now) (stores c.store_bytes.new.dev) (record { answer = answer.Okay; own = Some slice }) x b s f (p ∷ []) bytes at new answer.Okay refl
+    (record { piece = p; one = refl; len = c.piece_of.ensures.len; part = c.piece_of.ensures.part })
+    (λ tells. tell_stored (byte_at g.S.SliceStore.kind (stores c.store_bytes.new.dev)) slice p bytes c.piece_of.ensures.len c.piece_of.ensures.part c.in-Ok-store_bytes.ensures.stored.len (c.in-Ok-store_bytes.ensures.holds tells))
+    (adds x b s f h (p ∷ []) bytes at new added.Done open_at.is (omega (arith, len)) is)
+
+pub returns-in-Err-store_bytes-clause-due : goal.returns-in-Err-store_bytes-clause-due
+returns-in-Err-store_bytes-clause-due g c =
+    let s = c.args.s.now in
+    let f = c.args.f in
+    let b = seen c.args.kv.now c.args.at.now in
+    let bytes = c.args.bytes.now in
+    let settings = c.args.dev.now.settings in
+    let open_at = spot_open c.handle_of.result (handle_in s f) c.in-Some.spot c.handle_of.ensures c.in-Some.is in
+    let room0 : HasRoom settings.region (file_of c.in-Some.spot.inode b) (length bytes) = c.in-Ok.ensures.room (subst (λ (o : Option ℕ). IsSome o) (sym c.in-Some-place.is) refl) in
+    let room : HasRoom settings.region (file_of open_at.handle.inode b) (length bytes) = subst (λ (i : InodeId). HasRoom settings.region (file_of i b) (length bytes)) open_at.inode room0 in
+    append_due g.S.SliceStore.kind (between c.args.dev.now c.store_bytes.new.dev) settings b s f open_at.handle bytes c.in-Err-store_bytes.why open_at.is (omega (arith, c.if-len-eq0.false)) room c.in-Err-store_bytes.ensures.fault
+
+pub returns-in-Ok-add_pieces-clause-own : goal.returns-in-Ok-add_pieces-clause-own
+returns-in-Ok-add_pieces-clause-own g c h e =
+    let s = c.args.s.now in
+    let f = c.args.f in
+    let b = seen c.args.kv.now c.args.at.now in
+    let dev = c.args.dev.now in
+    let slice = c.in-Ok-store_bytes.slice in
+    let kind = g.S.SliceStore.kind in
+    let open_at = spot_open c.handle_of.result (handle_in s f) c.in-Some.spot c.handle_of.ensures c.in-Some.is in
+    let both : Some open_at.handle ≡ Some h = sym open_at.is ∙ e in
+    let same : open_at.handle ≡ h = cc in
+    let inode : c.in-Some.spot.inode ≡ h.inode = open_at.inode ∙ ap (λ (k : Handle). k.inode) same in
+    let off : c.in-Some-place.off ≡ end_place dev.settings.region (file_of c.in-Some.spot.inode b) =
+    subst (λ (o : Option ℕ). IfSome o (λ k. k ≡ end_place dev.settings.region (file_of c.in-Some.spot.inode b))) c.in-Some-place.is c.in-Ok.ensures.place in
+    let at_end = subst (λ (k : ℕ). IsStored kind (between dev c.store_bytes.new.dev) dev.settings.replicas (place_in dev c.in-Some.spot.inode k) c.args.bytes.now slice) off c.in-Ok-store_bytes.ensures.stored in (
+      subst (λ (i : InodeId). IsStored kind (between dev c.store_bytes.new.dev) dev.settings.replicas (place_in dev i (end_place dev.settings.region (file_of i b))) c.args.bytes.now slice) inode at_end,
+      c.in-Ok-store_bytes.ensures.inside,
+      c.in-Ok-store_bytes.ensures.known,
+    )

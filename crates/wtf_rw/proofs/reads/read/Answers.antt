@@ -1,0 +1,172 @@
+use Rattle.std.proofs.Common.{◌≡◌, ℕ, ◌+◌, ◌++◌, List, [], Option, Some, refl, sym, ap, ◌∙◌, subst, arith, inr}
+use Rattle.std.specs.Option.{option_map}
+use Rattle.std.specs.Prelude.{slice_index_or}
+use Rattle.wtf_base.specs.declared.ids.InodeId.{InodeId}
+use Rattle.wtf_occ.specs.Attempts.{GrowsBy}
+use Rattle.wtf_occ.proofs.AttemptLaws.{GrowsBy-nothing}
+use Rattle.wtf_overlay.specs.Origin.{Plans, pieces_origin}
+use Rattle.wtf_overlay.specs.declared.part.Piece.{Piece}
+use Rattle.wtf_replica.specs.Bytes.{byte_at}
+use Rattle.wtf_model.specs.declared.answer.Answer.TheVariants as answer
+use Rattle.wtf_model.specs.declared.op.Op.TheVariants as op
+use Rattle.wtf_meta.specs.declared.session.Handle.{Handle}
+use Rattle.wtf_meta.specs.Bytes.{PiecesBytes}
+use Rattle.wtf_meta.specs.Maps.{Map, seen}
+use Rattle.wtf_meta.specs.Files.{file_origin}
+use Rattle.wtf_meta.specs.FileEdits.{file_of}
+use Rattle.wtf_meta.specs.Appends.{keys_of, region_keys, touched, length_keys}
+use Rattle.wtf_meta.specs.Sessions.{handle_in, SetsHandle, moved_to}
+use Rattle.wtf_meta.specs.Calls.{cap_for, IsCall}
+use Rattle.wtf_meta.proofs.Named.{PiecesBytes-read}
+use Rattle.wtf_region.specs.Devs.{stores, is_down_in, between}
+use Rattle.wtf_region.specs.Inside.{is_inside}
+use Rattle.wtf_region.specs.Showing.{Shown, IsShowFault, pieces_in, AreReadable}
+use Rattle.wtf_region.proofs.InsideLaws.{readable_from}
+use Rattle.wtf_region.proofs.Recording.{still_seen}
+use Rattle.wtf_region.proofs.ShowLaws.{readable_stays}
+use Rattle.wtf_region.proofs.Spans.{goes_on}
+use Rattle.wtf_rw.specs.Recorded.{found_in, len_keys}
+use Rattle.wtf_index.proofs.Going.{keys_more}
+use Rattle.wtf_rw.proofs.ModelCalls.{read-none}
+use Rattle.wtf_rw.proofs.Ways.{only_keys, no_handle, spot_open, spot_closed}
+use Rattle.wtf_rw.proofs.FaultWays.{read_due}
+use Rattle.wtf_rw.proofs.ReadWays.{shows, reads_call, same_touched, shown_tells, found_due, plans_due, shown_len}
+use Rattle.wtf_rw.proofs.reads.read.Goals as goal
+
+pub returns-in_default-clause-step : goal.returns-in_default-clause-step
+returns-in_default-clause-step g c x size =
+    let s = c.args.s.now in
+    let f = c.args.f in
+    record {
+      did = only_keys [];
+      grows = GrowsBy-nothing c.args.at.now;
+      is_call = no_handle x (seen c.args.kv.now c.args.at.now) s f (op.Read f c.args.n) (spot_closed c.handle_of.result (handle_in s f) c.handle_of.ensures c.in_default.is) (λ S none. read-none (cap_for x) S f c.args.n none);
+      more = record { stored = refl; told = λ map. tt };
+    }
+
+pub show-requires-clause-readable : goal.show-requires-clause-readable
+show-requires-clause-readable g c =
+    let kind = g.S.SliceStore.kind in
+    let dev = c.args.dev.now in
+    let mid = c.pieces.new.dev in
+    let i = c.in-Some.spot.inode in
+    let b = seen c.args.kv.now c.args.at.now in
+    let z = dev.settings.region in
+    let ps = c.in-Ok-pieces.found.items in
+    let same : seen c.args.kv.now c.file_len.new.at ≡ b = still_seen c.args.kv.now i (length_keys (file_of i b)) c.args.at.now c.file_len.new.at c.in-Ok.ensures.recorded in
+    let plans : Plans ps c.count-k.result (λ j. file_origin z (file_of i b) (c.start-from.result + j)) =
+    subst (λ (w : Map). Plans ps c.count-k.result (λ j. file_origin z (file_of i w) (c.start-from.result + j))) same c.in-Ok-pieces.ensures.plans in
+    let inside : PiecesBytes (is_inside kind (stores dev) dev.settings) ps =
+    PiecesBytes-read (is_inside kind (stores dev) dev.settings) refl z i b ps c.start-from.result c.count-k.result c.requires.inside plans in
+    subst (λ (qs : List Piece). AreReadable kind (is_down_in mid) (stores mid) qs) (sym c.as_slice.ensures.value)
+    (λ k d below. readable_stays g.met.S.SliceStore.laws (is_down_in mid) c.in-Ok-pieces.ensures.dev.each (slice_index_or ps k d).part
+    (readable_from kind (is_down_in mid) (stores dev) dev.settings ps c.requires.sound.shelf inside k d below))
+
+pub returns-in-Err-show-clause-fault : goal.returns-in-Err-show-clause-fault
+returns-in-Err-show-clause-fault g c h e =
+    let kind = g.S.SliceStore.kind in
+    let dev = c.args.dev.now in
+    let mid = c.pieces.new.dev in
+    let i = c.in-Some.spot.inode in
+    let b = seen c.args.kv.now c.args.at.now in
+    let z = dev.settings.region in
+    let ps = c.in-Ok-pieces.found.items in
+    let k = c.count-k.result in
+    let same : seen c.args.kv.now c.file_len.new.at ≡ b = still_seen c.args.kv.now i (length_keys (file_of i b)) c.args.at.now c.file_len.new.at c.in-Ok.ensures.recorded in
+    let open_at = spot_open c.handle_of.result (handle_in c.args.s.now c.args.f) c.in-Some.spot c.handle_of.ensures c.in-Some.is in
+    let both : Some open_at.handle ≡ Some h = sym open_at.is ∙ e in
+    let one : open_at.handle ≡ h = cc in
+    let inode : i ≡ h.inode = open_at.inode ∙ ap (λ (q : Handle). q.inode) one in
+    let off : c.in-Some.spot.off ≡ h.off = open_at.off ∙ ap (λ (q : Handle). q.off) one in
+    let count : k ≡ found_in z b h c.args.n = found_due c.cap.result z c.in-Ok.len c.in-Some.spot.off c.args.n k i b h c.count-k.ensures c.cap.ensures c.in-Ok.ensures.value inode off in
+    inr (record {
+      mid = mid;
+      goes = c.in-Ok-pieces.ensures.dev;
+      pieces = ps;
+      plans = subst (λ (m : ℕ). Plans ps m (λ j. file_origin z (file_of h.inode b) (h.off + j))) count
+          (plans_due z (seen c.args.kv.now c.file_len.new.at) b h i c.in-Some.spot.off c.start-from.result k ps same inode off c.start-from.ensures.some c.in-Ok-pieces.ensures.plans);
+      fault = subst (λ (m : ℕ). IsShowFault kind (between mid c.show.new.dev) (pieces_in 0 m ps) c.in-Err-show.why) count
+          (subst (λ (qs : List Piece). IsShowFault kind (between mid c.show.new.dev) (pieces_in 0 k qs) c.in-Err-show.why) c.as_slice.ensures.value c.in-Err-show.ensures.fault);
+    })
+
+pub returns-in-Err-show-clause-due : goal.returns-in-Err-show-clause-due
+returns-in-Err-show-clause-due g c =
+    let kind = g.S.SliceStore.kind in
+    let dev = c.args.dev.now in
+    let mid = c.pieces.new.dev in
+    let s = c.args.s.now in
+    let f = c.args.f in
+    let i = c.in-Some.spot.inode in
+    let b = seen c.args.kv.now c.args.at.now in
+    let z = dev.settings.region in
+    let ps = c.in-Ok-pieces.found.items in
+    let k = c.count-k.result in
+    let same : seen c.args.kv.now c.file_len.new.at ≡ b = still_seen c.args.kv.now i (length_keys (file_of i b)) c.args.at.now c.file_len.new.at c.in-Ok.ensures.recorded in
+    let open_at = spot_open c.handle_of.result (handle_in s f) c.in-Some.spot c.handle_of.ensures c.in-Some.is in
+    let h = open_at.handle in
+    let count : k ≡ found_in z b h c.args.n = found_due c.cap.result z c.in-Ok.len c.in-Some.spot.off c.args.n k i b h c.count-k.ensures c.cap.ensures c.in-Ok.ensures.value open_at.inode open_at.off in
+    let plans : Plans ps k (λ j. file_origin z (file_of i b) (c.start-from.result + j)) =
+    subst (λ (w : Map). Plans ps k (λ j. file_origin z (file_of i w) (c.start-from.result + j))) same c.in-Ok-pieces.ensures.plans in
+    let inside : PiecesBytes (is_inside kind (stores dev) dev.settings) ps =
+    PiecesBytes-read (is_inside kind (stores dev) dev.settings) refl z i b ps c.start-from.result k c.requires.inside plans in
+    read_due kind (between mid c.show.new.dev) (stores dev) dev.settings b s f c.args.n k h ps c.in-Err-show.why open_at.is c.requires.sound.shelf count inside
+    (subst (λ (qs : List Piece). IsShowFault kind (between mid c.show.new.dev) (pieces_in 0 k qs) c.in-Err-show.why) c.as_slice.ensures.value c.in-Err-show.ensures.fault)
+
+pub returns-in-Err-show-clause-dev : goal.returns-in-Err-show-clause-dev
+returns-in-Err-show-clause-dev g c = goes_on g.met.S.SliceStore.laws c.in-Ok-pieces.ensures.dev c.in-Err-show.ensures.dev
+
+pub returns-clause-dev : goal.returns-clause-dev
+returns-clause-dev g c = goes_on g.met.S.SliceStore.laws c.in-Ok-pieces.ensures.dev c.in-Ok-show.ensures.dev
+
+pub returns-clause-step : goal.returns-clause-step
+returns-clause-step g c x size =
+    let kind = g.S.SliceStore.kind in
+    let laws = g.met.S.SliceStore.laws in
+    let dev = c.args.dev.now in
+    let mid = c.pieces.new.dev in
+    let s = c.args.s.now in
+    let t = c.move_handle.new.self in
+    let f = c.args.f in
+    let n = c.args.n in
+    let i = c.in-Some.spot.inode in
+    let b = seen c.args.kv.now c.args.at.now in
+    let z = dev.settings.region in
+    let ps = c.in-Ok-pieces.found.items in
+    let k = c.count-k.result in
+    let at = c.args.at.now in
+    let read = c.file_len.new.at in
+    let new = c.pieces.new.at in
+    let bytes = c.show.new.out.items in
+    let same : seen c.args.kv.now read ≡ b = still_seen c.args.kv.now i (length_keys (file_of i b)) at read c.in-Ok.ensures.recorded in
+    let open_at = spot_open c.handle_of.result (handle_in s f) c.in-Some.spot c.handle_of.ensures c.in-Some.is in
+    let h = open_at.handle in
+    let inode : i ≡ h.inode = open_at.inode in
+    let off : c.in-Some.spot.off ≡ h.off = open_at.off in
+    let count0 : k ≡ found_in z b h n = found_due c.cap.result z c.in-Ok.len c.in-Some.spot.off n k i b h c.count-k.ensures c.cap.ensures c.in-Ok.ensures.value inode off in
+    let count : k ≡ found_in x.size b h n = count0 ∙ ap (λ (m : ℕ). found_in m b h n) (sym size) in
+    let plans0 : Plans ps k (λ j. file_origin z (file_of h.inode b) (h.off + j)) =
+    plans_due z (seen c.args.kv.now read) b h i c.in-Some.spot.off c.start-from.result k ps same inode off c.start-from.ensures.some c.in-Ok-pieces.ensures.plans in
+    let plans : Plans ps k (λ j. file_origin x.size (file_of h.inode b) (h.off + j)) = subst (λ (m : ℕ). Plans ps k (λ j. file_origin m (file_of h.inode b) (h.off + j))) (sym size) plans0 in
+    let shown : Shown (byte_at kind (stores mid)) k (λ j. pieces_origin ps (0 + j)) [] bytes =
+    subst (λ (old : List ℕ). Shown (byte_at kind (stores mid)) k (λ j. pieces_origin ps (0 + j)) old bytes) c.new-out.ensures.items
+    (subst (λ (qs : List Piece). Shown (byte_at kind (stores mid)) k (λ j. pieces_origin qs (0 + j)) c.new-out.result.items bytes) c.as_slice.ensures.value c.in-Ok-show.ensures.shown) in
+    let set : SetsHandle f (Some (moved_to (h.off + k) h)) s t =
+    subst (λ (m : ℕ). SetsHandle f (Some (moved_to (m + k) h)) s t) off
+    (subst (λ (o : Option Handle). SetsHandle f (option_map (moved_to (c.in-Some.spot.off + k)) o) s t) open_at.is c.move_handle.ensures) in
+    let first : GrowsBy at read (len_keys b h.inode) [] = subst (λ (q : InodeId). GrowsBy at read (len_keys b q) []) inode c.in-Ok.ensures.recorded in
+    let next0 : GrowsBy read new (keys_of h.inode (region_keys (touched z c.start-from.result k))) [] =
+    subst (λ (q : InodeId). GrowsBy read new (keys_of q (region_keys (touched z c.start-from.result k))) []) inode c.in-Ok-pieces.ensures.recorded in
+    let range : touched z c.start-from.result k ≡ touched x.size h.off k =
+    same_touched z c.start-from.result h.off k (λ some. c.start-from.ensures.some some ∙ off) ∙ ap (λ (m : ℕ). touched m h.off k) (sym size) in
+    let next : GrowsBy read new (keys_of h.inode (region_keys (touched x.size h.off k))) [] =
+    subst (λ (rs : List ℕ). GrowsBy read new (keys_of h.inode (region_keys rs)) []) range next0 in
+    record {
+      did = shows (len_keys b h.inode ++ keys_of h.inode (region_keys (touched x.size h.off k))) ps bytes;
+      grows = keys_more at read new (len_keys b h.inode) (keys_of h.inode (region_keys (touched x.size h.off k))) first next;
+      is_call = subst (λ (l : List ℕ). IsCall x b s t (shows (len_keys b h.inode ++ keys_of h.inode (region_keys (touched x.size h.off k))) ps bytes) (op.Read f n) (answer.Shown l)) (sym c.of.ensures)
+          (reads_call x b s t f n k h ps bytes (omega (arith, size, dev.settings.limits)) open_at.is count plans (shown_len shown) set);
+      more = record {
+        stored = refl;
+        told = λ map. (shown_tells laws c.in-Ok-pieces.ensures.dev.each c.in-Ok-show.ensures.dev.each z h.inode b ps h.off k bytes plans0 shown map, tt);
+      };
+    }

@@ -1,0 +1,58 @@
+use Rattle.std.proofs.Common.{◌≡◌, ℕ, ◌*◌, [], Option, Some, None, sym, ap, ◌∙◌, subst}
+use Rattle.std.specs.Option.{option_map}
+use Rattle.wtf_base.specs.declared.ids.InodeId.{InodeId}
+use Rattle.wtf_occ.specs.Attempts.{GrowsBy}
+use Rattle.wtf_occ.proofs.AttemptLaws.{GrowsBy-nothing}
+use Rattle.wtf_model.specs.declared.answer.Answer.{Answer}
+use Rattle.wtf_model.specs.declared.answer.Answer.TheVariants as answer
+use Rattle.wtf_model.specs.declared.answer.Word.TheVariants.{NoHandle, Range}
+use Rattle.wtf_model.specs.declared.op.Op.TheVariants as op
+use Rattle.wtf_model.specs.declared.op.Seek.{Seek}
+use Rattle.wtf_model.specs.declared.op.Seek.TheVariants as to
+use Rattle.wtf_meta.specs.declared.session.Handle.{Handle}
+use Rattle.wtf_meta.specs.Maps.{Map, seen}
+use Rattle.wtf_meta.specs.Files.{file_len}
+use Rattle.wtf_meta.specs.FileEdits.{file_of}
+use Rattle.wtf_meta.specs.Sessions.{SessionView, SetsHandle, handle_in, moved_to}
+use Rattle.wtf_meta.specs.Calls.{Caller, cap_for, IsCall}
+use Rattle.wtf_rw.specs.Steps.{in_hand}
+use Rattle.wtf_rw.specs.Recorded.{place_keys}
+use Rattle.wtf_rw.specs.Seeks.{lands, IsSought}
+use Rattle.wtf_rw.proofs.ModelCalls.{seek-none}
+use Rattle.wtf_rw.proofs.Ways.{only_keys, no_handle, seeks, seeks_nowhere, step_of, spot_open, spot_closed}
+use Rattle.wtf_rw.proofs.seeks.seek.Goals as goal
+
+pub returns-in_default-clause-step : goal.returns-in_default-clause-step
+returns-in_default-clause-step c x size =
+    let s = c.args.s.now in
+    let f = c.args.f in
+    let b = seen c.args.kv.now c.args.at.now in
+    step_of x b (in_hand c.args.at.now s) (in_hand c.args.at.now s) [] (op.Seek f c.args.place) (answer.Refused NoHandle) (GrowsBy-nothing c.args.at.now)
+    (no_handle x b s f (op.Seek f c.args.place) (spot_closed c.handle_of.result (handle_in s f) c.handle_of.ensures c.in_default.is) (λ S none. seek-none (cap_for x) S f c.args.place none))
+
+sought_call : (x : Caller) (b : Map) (s t : SessionView) (f : ℕ) (h : Handle) (place : Seek) (len : ℕ) (where_to : Option ℕ) (a : Answer) → handle_in s f ≡ Some h
+    → (place ≡ to.End → len ≡ file_len x.size (file_of h.inode b)) → where_to ≡ lands (cap_for x) len h.off place → IsSought f where_to s t a
+    → IsCall x b s t (only_keys (place_keys b h.inode place)) (op.Seek f place) a
+sought_call x b s t f h place len (Some n) a e is leads sought =
+    subst (λ (r : Answer). IsCall x b s t (only_keys (place_keys b h.inode place)) (op.Seek f place) r) (sym sought.1)
+    (seeks x b s t f h place len n e is (sym leads) (subst (λ (o : Option Handle). SetsHandle f (option_map (moved_to n) o) s t) e sought.0))
+sought_call x b s t f h place len None a e is leads sought =
+    subst (λ (r : Answer). IsCall x b s t (only_keys (place_keys b h.inode place)) (op.Seek f place) r) (sym sought.1)
+    (subst (λ (v : SessionView). IsCall x b s v (only_keys (place_keys b h.inode place)) (op.Seek f place) (answer.Refused Range)) (sym sought.0)
+    (seeks_nowhere x b s f h place len e is (sym leads)))
+
+pub returns-clause-step : goal.returns-clause-step
+returns-clause-step c x size =
+    let s = c.args.s.now in
+    let f = c.args.f in
+    let b = seen c.args.kv.now c.args.at.now in
+    let place = c.args.place in
+    let open_at = spot_open c.handle_of.result (handle_in s f) c.in-Some.spot c.handle_of.ensures c.in-Some.is in
+    let h = open_at.handle in
+    let len : place ≡ to.End → c.in_ok-len.len ≡ file_len x.size (file_of h.inode b) = λ e.
+    c.in_ok-len.ensures.value e ∙ ap (λ (n : ℕ). file_len n (file_of c.in-Some.spot.inode b)) (sym size) ∙ ap (λ (i : InodeId). file_len x.size (file_of i b)) open_at.inode in
+    let leads : c.landing-to.result ≡ lands (cap_for x) c.in_ok-len.len h.off place =
+    c.landing-to.ensures ∙ ap (λ (n : ℕ). lands n c.in_ok-len.len c.in-Some.spot.off place) (c.cap.ensures ∙ ap (λ (n : ℕ). 4096 * n) (sym size)) ∙ ap (λ (n : ℕ). lands (cap_for x) c.in_ok-len.len n place) open_at.off in
+    step_of x b (in_hand c.args.at.now s) (in_hand c.len_for.new.at c.move_to-answer.new.s) (place_keys b h.inode place) (op.Seek f place) c.move_to-answer.result
+    (subst (λ (i : InodeId). GrowsBy c.args.at.now c.len_for.new.at (place_keys b i place) []) open_at.inode c.in_ok-len.ensures.went)
+    (sought_call x b s c.move_to-answer.new.s f h place c.in_ok-len.len c.landing-to.result c.move_to-answer.result open_at.is len leads c.move_to-answer.ensures.sought)

@@ -1,0 +1,90 @@
+use Rattle.std.proofs.Common.{◌≡◌, ℕ, ◌+◌, [], ◌∷◌, length, Option, Some, refl, sym, ◌∙◌, subst, arith}
+use Rattle.std.specs.Option.{option_map}
+use Rattle.wtf_base.specs.declared.ids.InodeId.{InodeId}
+use Rattle.wtf_occ.proofs.AttemptLaws.{GrowsBy-nothing}
+use Rattle.wtf_model.specs.declared.answer.Answer.TheVariants as answer
+use Rattle.wtf_model.specs.declared.answer.Word.TheVariants.{NoHandle, TooBig}
+use Rattle.wtf_model.specs.declared.op.Op.TheVariants as op
+use Rattle.wtf_replica.specs.Bytes.{byte_at}
+use Rattle.wtf_meta.specs.declared.session.Handle.{Handle}
+use Rattle.wtf_meta.specs.Sessions.{handle_in, SetsHandle, moved_to}
+use Rattle.wtf_meta.specs.Calls.{cap_for}
+use Rattle.wtf_region.specs.Devs.{stores, between}
+use Rattle.wtf_region.specs.Edited.{Edited, LaysPieces}
+use Rattle.wtf_rw.specs.Steps.{in_hand}
+use Rattle.wtf_rw.proofs.ModelCalls.{write-none}
+use Rattle.wtf_rw.proofs.Ways.{no_handle, spot_open, spot_closed}
+use Rattle.wtf_rw.proofs.FileWays.{brings, writes, writes_nothing, writes_too_far}
+use Rattle.wtf_rw.proofs.StoredBytes.{tell_stored, step_only}
+use Rattle.wtf_rw.proofs.FaultWays.{write_due}
+use Rattle.wtf_rw.proofs.writes.write_fresh.Goals as goal
+
+pub returns-in_default-clause-step : goal.returns-in_default-clause-step
+returns-in_default-clause-step g c x b size =
+    let s = c.args.s.now in
+    let f = c.args.f in
+    let o = op.Write f c.args.bytes.now in
+    let at = in_hand c.args.at.now s in
+    step_only g.S.SliceStore.kind (stores c.args.dev.now) (stores c.args.dev.now) c.only.result x b at at [] o (answer.Refused NoHandle) c.only.ensures.answer c.only.ensures.own (GrowsBy-nothing c.args.at.now)
+    (no_handle x b s f o (spot_closed c.handle_of.result (handle_in s f) c.handle_of.ensures c.in_default.is) (λ S none. write-none (cap_for x) S f c.args.bytes.now none))
+
+pub returns-then-len-eq0-clause-step : goal.returns-then-len-eq0-clause-step
+returns-then-len-eq0-clause-step g c x b size =
+    let s = c.args.s.now in
+    let f = c.args.f in
+    let o = op.Write f c.args.bytes.now in
+    let at = in_hand c.args.at.now s in
+    let open_at = spot_open c.handle_of.result (handle_in s f) c.in-Some.spot c.handle_of.ensures c.in-Some.is in
+    step_only g.S.SliceStore.kind (stores c.args.dev.now) (stores c.args.dev.now) c.only-then-len-eq0.result x b at at [] o answer.Okay c.only-then-len-eq0.ensures.answer c.only-then-len-eq0.ensures.own (GrowsBy-nothing c.args.at.now)
+    (writes_nothing x b s f open_at.handle open_at.is c.args.bytes.now c.if-len-eq0.true)
+
+pub returns-then-not-ends_within-clause-step : goal.returns-then-not-ends_within-clause-step
+returns-then-not-ends_within-clause-step g c x b size =
+    let s = c.args.s.now in
+    let f = c.args.f in
+    let o = op.Write f c.args.bytes.now in
+    let at = in_hand c.args.at.now s in
+    let open_at = spot_open c.handle_of.result (handle_in s f) c.in-Some.spot c.handle_of.ensures c.in-Some.is in
+    let past = c.ends_within.ensures.past c.if-not-ends_within.true in
+    step_only g.S.SliceStore.kind (stores c.args.dev.now) (stores c.args.dev.now) c.only-then-not-ends_within.result x b at at [] o (answer.Refused TooBig) c.only-then-not-ends_within.ensures.answer c.only-then-not-ends_within.ensures.own (GrowsBy-nothing c.args.at.now)
+    (writes_too_far x b s f open_at.handle open_at.is c.args.bytes.now (omega (arith, c.if-len-eq0.false)) (omega (arith, past, c.cap.ensures, size, open_at.off)))
+
+pub returns-in-Ok-lay-clause-step : goal.returns-in-Ok-lay-clause-step
+returns-in-Ok-lay-clause-step g c x b size =
+    let s = c.args.s.now in
+    let t = c.lay.new.s in
+    let f = c.args.f in
+    let bytes = c.args.bytes.now in
+    let open_at = spot_open c.handle_of.result (handle_in s f) c.in-Some.spot c.handle_of.ensures c.in-Some.is in
+    let h = open_at.handle in
+    let p = c.piece_of.result in
+    let slice = c.in-Ok.slice in
+    let len : p.len ≡ length bytes = c.piece_of.ensures.len ∙ c.in-Ok.ensures.stored.len in
+    let fit = c.ends_within.ensures.within c.if-not-ends_within.false in
+    let edited : Edited h.inode [] (LaysPieces x.size h.off h.inode (p ∷ [])) c.args.at.now c.lay.new.at =
+    subst (λ (i : InodeId). Edited i [] (LaysPieces x.size h.off i (p ∷ [])) c.args.at.now c.lay.new.at) open_at.inode
+    (subst (λ (k : ℕ). Edited c.in-Some.spot.inode [] (LaysPieces x.size k c.in-Some.spot.inode (p ∷ [])) c.args.at.now c.lay.new.at) open_at.off
+    (subst (λ (z : ℕ). Edited c.in-Some.spot.inode [] (LaysPieces z c.in-Some.spot.off c.in-Some.spot.inode (p ∷ [])) c.args.at.now c.lay.new.at) (sym size) c.in-Ok-lay.ensures.laid)) in
+    let to : c.in-Some.spot.off + p.len ≡ h.off + length bytes = omega (arith, open_at.off, len) in
+    let set : SetsHandle f (Some (moved_to (h.off + length bytes) h)) s t =
+    subst (λ (k : ℕ). SetsHandle f (Some (moved_to k h)) s t) to
+    (subst (λ (o : Option Handle). SetsHandle f (option_map (moved_to (c.in-Some.spot.off + p.len)) o) s t) open_at.is c.in-Ok-lay.ensures.moved) in
+    record {
+      did = brings h.inode [] edited.edits (p ∷ []) bytes;
+      grows = edited.grows;
+      is_call = writes x b s f h open_at.is t edited.edits (p ∷ []) bytes (omega (arith, c.if-len-eq0.false)) (omega (arith, fit, c.cap.ensures, size, open_at.off))
+          (omega (arith, len)) edited.does set;
+      more = record {
+        stored = record { piece = p; one = refl; len = c.piece_of.ensures.len; part = c.piece_of.ensures.part };
+        told = λ tells. (tell_stored (byte_at g.S.SliceStore.kind (stores c.store_bytes.new.dev)) slice p bytes c.piece_of.ensures.len c.piece_of.ensures.part c.in-Ok.ensures.stored.len (c.in-Ok.ensures.holds tells), tt);
+      };
+    }
+
+pub returns-in-Err-clause-due : goal.returns-in-Err-clause-due
+returns-in-Err-clause-due g c w =
+    let s = c.args.s.now in
+    let f = c.args.f in
+    let open_at = spot_open c.handle_of.result (handle_in s f) c.in-Some.spot c.handle_of.ensures c.in-Some.is in
+    let fit = c.ends_within.ensures.within c.if-not-ends_within.false in
+    write_due g.S.SliceStore.kind (between c.args.dev.now c.store_bytes.new.dev) c.args.dev.now.settings w s f open_at.handle c.args.bytes.now c.in-Err.why open_at.is
+    (omega (arith, c.if-len-eq0.false)) (omega (arith, fit, c.cap.ensures, open_at.off)) c.in-Err.ensures.fault

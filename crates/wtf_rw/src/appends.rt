@@ -1,0 +1,218 @@
+//! The call that adds bytes at a file's end.
+
+ghost use Rattle.std.specs.Prelude.{◌≡◌, ◌<◌, ◌≤◌, ◌*◌, ◌++◌, [], ℕ, List, length, Some, None, IfOk, IfErr, IfSome, OnOk, IsTrue, IsSome};
+ghost use Rattle.wtf_kv.specs.Stores.{is_pinned};
+ghost use Rattle.wtf_occ.specs.Attempts.{Grows};
+ghost use Rattle.wtf_model.specs.declared.limits.TheConstants.{MAX_HANDLES, MAX_REGIONS, MAX_WRITTEN};
+ghost use Rattle.wtf_model.specs.Steps.{IsLogged};
+ghost use Rattle.wtf_meta.specs.declared.session.Handle as handle;
+ghost use Rattle.wtf_meta.specs.Maps.{seen};
+ghost use Rattle.wtf_meta.specs.Files.{end_of};
+ghost use Rattle.wtf_meta.specs.FileEdits.{file_of, last_of, region_of};
+ghost use Rattle.wtf_meta.specs.Sessions.{handle_in};
+ghost use Rattle.wtf_meta.specs.Calls.{Caller};
+ghost use Rattle.wtf_region.specs.Devs.{IsSoundDev, GoesOn, stores, place_in};
+ghost use Rattle.wtf_region.specs.Edited.{LacksRoom};
+ghost use Rattle.wtf_rw.specs.Recorded.{append_keys};
+ghost use Rattle.wtf_rw.specs.Steps.{in_hand, IsStepWith, IsRefusal};
+ghost use Rattle.wtf_rw.specs.Stored.{TellsOwn, IsOwn, IsPutFault, BringsSlice, Answers, HasRoom, end_place, answer_of};
+ghost use Rattle.wtf_rw.specs.Faults.{MayFault};
+
+use crate::Done;
+use crate::handles::handle_of;
+use crate::writes::{only, piece_of};
+use std::alloc::Global;
+use wtf_base::{Fault, InodeId, Kept, OutOfMemory, Settings};
+use wtf_dev::SliceStore;
+use wtf_kv::Kv;
+use wtf_meta::Session;
+use wtf_model::{Answer, Op, Word};
+use wtf_occ::{Attempt, Mark};
+use wtf_overlay::{Part, Piece};
+use wtf_region::{Added, Dev, add_pieces, file_len, store_bytes};
+use wtf_values::{Delta, Key, Value};
+
+/// The last region that a value tells, 0 where it tells none.
+fn last_in(value: &Option<Value>) -> u16
+    ensures { result ≡ last_of value.now }
+{
+    match value {
+        Some(Value::Last(n)) => *n,
+        _ => 0,
+    }
+}
+
+/// Where the region of a value ends, 0 where it is none.
+fn end_in(value: &Option<Value>) -> u32
+    ensures { result ≡ end_of (region_of value.now) }
+{
+    match value {
+        Some(Value::Region(v)) => v.end,
+        _ => 0,
+    }
+}
+
+/// Where so many bytes go that are to be added at a file's end; `None` where they find no room in
+/// its last region, nor below the greatest length. Nothing is recorded.
+fn room(
+    kv: &Kv<Key, Value>,
+    at: &Attempt<Key, Value>,
+    inode: InodeId,
+    len: u64,
+    settings: Settings,
+) -> Result<Option<u64>, OutOfMemory>
+    requires pinned { IsTrue (is_pinned kv.now at.now.base) }
+    requires few { len ≤ MAX_WRITTEN }
+    ensures place { IfOk result (λ o. IfSome o (λ off. off ≡
+        end_place settings.region (file_of inode (seen kv.now at.now)))) }
+    ensures room { IfOk result (λ o. IsSome o →
+        HasRoom settings.region (file_of inode (seen kv.now at.now)) len) }
+    ensures full { IfOk result (λ o. o ≡ None →
+        LacksRoom settings.region (file_of inode (seen kv.now at.now)) len) }
+{
+    let value = at.peek(kv, &Key::Inode(inode))?;
+    let last = last_in(&value);
+    let value = at.peek(kv, &Key::Region(inode, last))?;
+    let end = end_in(&value);
+    let size = settings.region as u64;
+    let cap = settings.cap();
+    let off = last as u64 * size + end as u64;
+    let place = off.min(cap - 1);
+    if end as u64 + len <= size {
+        return Ok(Some(place));
+    }
+    if off + len <= cap {
+        return Ok(Some(place));
+    }
+    Ok(None)
+}
+
+/// The answer to an append of which this came.
+fn answer_to(added: Added) -> Answer
+    ensures value { result ≡ answer_of added }
+    ensures logged { IsLogged result }
+{
+    match added {
+        Added::Done => return Answer::Okay,
+        Added::TooBig => return Answer::Refused(Word::TooBig),
+    }
+}
+
+/// Stores bytes and adds them at the end of the file of a handle. It is refused for a handle that
+/// is not open, and where the file would pass the greatest length; then nothing changes. `Write`
+/// where fewer servers than replicas took the bytes. A fault may leave the attempt grown.
+pub(crate) fn append_fresh<S: SliceStore>(
+    alloc: Global,
+    dev: &mut Dev<'_, S>,
+    kv: &Kv<Key, Value>,
+    at: &mut Attempt<Key, Value>,
+    s: &Session,
+    f: u8,
+    bytes: &[u8],
+) -> Result<Done, Fault>
+    requires sound { IsSoundDev dev.old }
+    requires pinned { IsTrue (is_pinned kv.now at.old.base) }
+    requires label { f < MAX_HANDLES }
+    requires few { length bytes.now ≤ MAX_WRITTEN }
+    ensures keys { OnOk result (at.new.reads ≡ at.old.reads ++ append_keys
+        dev.old.settings.region (seen kv.now at.old) (handle_in s.now f) (length bytes.now)) }
+    ensures step { IfOk result (λ d. (x : Caller) → x.size ≡ dev.old.settings.region →
+        IsStepWith (TellsOwn S.kind (stores dev.old) (stores dev.new) d.own) x
+        (seen kv.now at.old) (in_hand at.old s.now) (in_hand at.new s.now)
+        (Op.Append f bytes.now) d.answer) }
+    ensures own { IfOk result (λ d. (h : handle.Handle) → handle_in s.now f ≡ Some h →
+        IsOwn S.kind dev.old dev.new (place_in dev.old h.inode (end_place
+        dev.old.settings.region (file_of h.inode (seen kv.now at.old)))) bytes.now d.own) }
+    ensures closed { IfOk result
+        (λ d. handle_in s.now f ≡ None → (dev.new ≡ dev.old) × (d.own ≡ None)) }
+    ensures logged { IfOk result (λ d. IsLogged d.answer) }
+    ensures refused { IfOk result (λ d. IsRefusal d.answer →
+        (dev.new ≡ dev.old) × (d.own ≡ None) × (at.new.changes ≡ at.old.changes)) }
+    ensures fault { IfErr result (IsPutFault S.kind dev.old dev.new bytes.now) }
+    ensures due { IfErr result (MayFault dev.old.settings (seen kv.now at.old) s.now
+        (Op.Append f bytes.now)) }
+    ensures grows { Grows at.old at.new }
+    ensures dev { GoesOn S.kind dev.old dev.new [] }
+{
+    let Some(spot) = handle_of(s, f) else {
+        return Ok(only(Answer::Refused(Word::NoHandle)));
+    };
+    let len = bytes.len() as u64;
+    if len == 0 {
+        return Ok(only(Answer::Okay));
+    }
+    let settings = dev.settings;
+    let place = match room(kv, at, spot.inode, len, settings) {
+        Ok(place) => place,
+        Err(_) => return Err(Fault::Memory),
+    };
+    let Some(off) = place else {
+        match file_len(kv, at, spot.inode, settings) {
+            Ok(_) => return Ok(only(Answer::Refused(Word::TooBig))),
+            Err(_) => return Err(Fault::Memory),
+        }
+    };
+    let slice = match store_bytes(dev, spot.inode, off, bytes) {
+        Ok(slice) => slice,
+        Err(why) => return Err(why),
+    };
+    match add_pieces(alloc, kv, at, spot.inode, &[piece_of(slice)], settings) {
+        Ok(_) => {
+            return Ok(Done {
+                answer: Answer::Okay,
+                own: Some(slice),
+            });
+        }
+        Err(_) => return Err(Fault::Memory),
+    }
+}
+
+/// Adds bytes that were stored before at the end of the file of a handle. It is refused as
+/// `append_fresh` is. Without a slice for them the keys are recorded and nothing else is changed,
+/// and the answer alone is due. Want of memory may leave the attempt grown.
+pub(crate) fn append_stored(
+    alloc: Global,
+    kv: &Kv<Key, Value>,
+    at: &mut Attempt<Key, Value>,
+    s: &Session,
+    f: u8,
+    kept: Kept,
+    settings: Settings,
+) -> Result<Answer, OutOfMemory>
+    requires pinned { IsTrue (is_pinned kv.now at.old.base) }
+    requires label { f < MAX_HANDLES }
+    ensures keys { OnOk result (at.new.reads ≡ at.old.reads ++ append_keys
+        settings.region (seen kv.now at.old) (handle_in s.now f) kept.len) }
+    ensures step { IfOk result (λ a. (x : Caller) (bytes : List ℕ) → x.size ≡ settings.region →
+        length bytes ≡ kept.len → (kept.slice ≡ None → kept.len ≡ 0) →
+        IsStepWith (BringsSlice kept.slice bytes) x (seen kv.now at.old) (in_hand at.old s.now)
+        (in_hand at.new s.now) (Op.Append f bytes) a) }
+    ensures answers { IfOk result (λ a. (x : Caller) (bytes : List ℕ) → x.size ≡ settings.region →
+        length bytes ≡ kept.len → kept.slice ≡ None → Answers x (seen kv.now at.old) s.now
+        (append_keys settings.region (seen kv.now at.old) (handle_in s.now f) kept.len)
+        (Op.Append f bytes) a) }
+    ensures bare { OnOk result (kept.slice ≡ None → at.new.changes ≡ at.old.changes) }
+    ensures logged { IfOk result (λ a. IsLogged a) }
+    ensures refused { IfOk result (λ a. IsRefusal a → at.new.changes ≡ at.old.changes) }
+    ensures grows { Grows at.old at.new }
+{
+    let Some(spot) = handle_of(s, f) else {
+        return Ok(Answer::Refused(Word::NoHandle));
+    };
+    if kept.len == 0 {
+        return Ok(Answer::Okay);
+    }
+    let Some(slice) = kept.slice else {
+        let before = at.mark();
+        let hole = Piece::of(kept.len as u64, Part::Zero);
+        let added = add_pieces(alloc, kv, at, spot.inode, &[hole], settings)?;
+        let after = at.mark();
+        at.rewind(Mark {
+            reads: after.reads,
+            changes: before.changes,
+        });
+        return Ok(answer_to(added));
+    };
+    let added = add_pieces(alloc, kv, at, spot.inode, &[piece_of(slice)], settings)?;
+    Ok(answer_to(added))
+}

@@ -1,0 +1,105 @@
+//! The call that shows bytes of a file.
+
+ghost use Rattle.std.specs.Prelude.{◌≡◌, ◌⊎◌, ◌<◌, ◌≤◌, ◌*◌, ◌++◌, [], ℕ, min, IfOk, IfErr, OnOk, OnErr, IsTrue, Some};
+ghost use Rattle.wtf_kv.specs.Stores.{is_pinned};
+ghost use Rattle.wtf_occ.specs.Attempts.{Grows};
+ghost use Rattle.wtf_model.specs.declared.limits.TheConstants.{MAX_HANDLES, MAX_REGIONS, MAX_SHOWN};
+ghost use Rattle.wtf_model.specs.Steps.{IsLogged};
+ghost use Rattle.wtf_meta.specs.declared.session.Handle as handle;
+ghost use Rattle.wtf_meta.specs.Maps.{seen};
+ghost use Rattle.wtf_meta.specs.Sessions.{handle_in};
+ghost use Rattle.wtf_meta.specs.Calls.{Caller};
+ghost use Rattle.wtf_region.specs.Devs.{IsSoundDev, GoesOn, stores};
+ghost use Rattle.wtf_region.specs.Inside.{IsStoredInside};
+ghost use Rattle.wtf_rw.specs.Recorded.{read_keys, found, found_in};
+ghost use Rattle.wtf_rw.specs.Reads.{TellsRead, LacksBytes, read_origin};
+ghost use Rattle.wtf_rw.specs.Faults.{MayFault};
+ghost use Rattle.wtf_rw.specs.Steps.{in_hand, IsStepWith, IsRefusal};
+
+use crate::handles::handle_of;
+use std::alloc::Global;
+use wtf_base::{Bytes, Fault};
+use wtf_dev::SliceStore;
+use wtf_kv::Kv;
+use wtf_meta::Session;
+use wtf_model::{Answer, Op, Word};
+use wtf_occ::Attempt;
+use wtf_region::{Dev, file_len, pieces, show};
+use wtf_values::{Delta, Key, Value};
+
+/// How many of `n` bytes a file of `len` bytes has from an offset on.
+fn count(off: u64, n: u64, len: u64, cap: u64) -> u64
+    ensures { result ≡ found cap len off n }
+{
+    n.min(len.min(cap).saturating_sub(off))
+}
+
+/// Where a range of `n` bytes begins; one of no byte anywhere.
+fn start(off: u64, n: u64) -> u64
+    ensures some { 0 < n → result ≡ off }
+    ensures none { n ≡ 0 → result ≡ 0 }
+{
+    if n == 0 {
+        return 0;
+    }
+    off
+}
+
+/// Shows the next `n` bytes of the file of a handle, or those that are left; its offset grows by
+/// their number. It is refused for a handle that is not open; then nothing changes. `Read` where no
+/// copy of some of the bytes could be read. A fault leaves the session, and may leave the attempt
+/// grown.
+pub(crate) fn read<S: SliceStore>(
+    alloc: Global,
+    dev: &mut Dev<'_, S>,
+    kv: &Kv<Key, Value>,
+    at: &mut Attempt<Key, Value>,
+    s: &mut Session,
+    f: u8,
+    n: u64,
+) -> Result<Answer, Fault>
+    requires sound { IsSoundDev dev.old }
+    requires pinned { IsTrue (is_pinned kv.now at.old.base) }
+    requires inside { IsStoredInside S.kind (stores dev.old) dev.old.settings (seen kv.now at.old) }
+    requires label { f < MAX_HANDLES }
+    requires few { n ≤ MAX_SHOWN }
+    ensures keys { OnOk result (at.new.reads ≡ at.old.reads ++ read_keys dev.old.settings.region
+        (seen kv.now at.old) (handle_in s.old f) n) }
+    ensures step { IfOk result (λ a. (x : Caller) → x.size ≡ dev.old.settings.region →
+        IsStepWith (TellsRead S.kind (stores dev.old) (stores dev.new) (seen kv.now at.old)) x
+        (seen kv.now at.old) (in_hand at.old s.old) (in_hand at.new s.new) (Op.Read f n) a) }
+    ensures logged { IfOk result (λ a. IsLogged a) }
+    ensures refused { IfOk result (λ a. IsRefusal a →
+        (dev.new ≡ dev.old) × (at.new.changes ≡ at.old.changes) × (s.new ≡ s.old)) }
+    ensures fault { IfErr result (λ why. (h : handle.Handle) → handle_in s.old f ≡ Some h →
+        (why ≡ Fault.Memory) ⊎ LacksBytes S.kind dev.old dev.new
+        (found_in dev.old.settings.region (seen kv.now at.old) h n)
+        (read_origin dev.old.settings.region (seen kv.now at.old) h) why) }
+    ensures due { IfErr result
+        (MayFault dev.old.settings (seen kv.now at.old) s.old (Op.Read f n)) }
+    ensures err { OnErr result (s.new ≡ s.old) }
+    ensures grows { Grows at.old at.new }
+    ensures dev { GoesOn S.kind dev.old dev.new [] }
+{
+    let Some(spot) = handle_of(s, f) else {
+        return Ok(Answer::Refused(Word::NoHandle));
+    };
+    let settings = dev.settings;
+    let len = match file_len(kv, at, spot.inode, settings) {
+        Ok(len) => len,
+        Err(_) => return Err(Fault::Memory),
+    };
+    let k = count(spot.off, n, len, settings.cap());
+    let from = start(spot.off, k);
+    let found = match pieces(alloc, dev, kv, at, spot.inode, from, k) {
+        Ok(found) => found,
+        Err(why) => return Err(why),
+    };
+    let mut out = Vec::new(alloc);
+    match show(dev, found.as_slice(), 0, k, &mut out) {
+        Ok(()) => {}
+        Err(why) => return Err(why),
+    }
+    s.move_handle(f, spot.off + k);
+    Ok(Answer::Shown(Bytes::of(out)))
+}

@@ -1,0 +1,156 @@
+//! The calls that move a handle, and show what stands at a path.
+
+ghost use Rattle.std.specs.Prelude.{◌≡◌, ◌<◌, ◌*◌, ◌++◌, [], ℕ, IsTrue, IfOk, OnOk, OnErr, IsSome};
+ghost use Rattle.std.specs.Option.{option_map};
+ghost use Rattle.wtf_kv.specs.Stores.{is_pinned};
+ghost use Rattle.wtf_occ.specs.Attempts.{Grows, GrowsBy};
+ghost use Rattle.wtf_model.specs.declared.limits.TheConstants.{MAX_HANDLES};
+ghost use Rattle.wtf_model.specs.Steps.{IsLogged};
+ghost use Rattle.wtf_meta.specs.Maps.{seen};
+ghost use Rattle.wtf_meta.specs.Files.{file_len as file_length};
+ghost use Rattle.wtf_meta.specs.FileEdits.{file_of};
+ghost use Rattle.wtf_meta.specs.Sessions.{SessionView, handle_in};
+ghost use Rattle.wtf_meta.specs.Calls.{Caller};
+ghost use Rattle.wtf_rw.specs.Steps.{in_hand, IsStepWith, NeedsNoBytes, IsRefusal};
+ghost use Rattle.wtf_rw.specs.Recorded.{seek_keys, place_keys, stat_keys};
+ghost use Rattle.wtf_rw.specs.Seeks.{lands, IsSought};
+
+use crate::handles::handle_of;
+use std::alloc::Global;
+use wtf_base::{InodeId, OutOfMemory, Settings};
+use wtf_index::look_up;
+use wtf_kv::Kv;
+use wtf_meta::Session;
+use wtf_model::{Answer, Op, Seek, Word};
+use wtf_occ::Attempt;
+use wtf_path::Path;
+use wtf_region::file_len;
+use wtf_values::{Delta, Key, Node, Value};
+
+/// The length of a file that a seek to its end looks at; another one looks at nothing.
+fn len_for(
+    kv: &Kv<Key, Value>,
+    at: &mut Attempt<Key, Value>,
+    inode: InodeId,
+    place: Seek,
+    settings: Settings,
+) -> Result<u64, OutOfMemory>
+    requires { IsTrue (is_pinned kv.now at.old.base) }
+    ensures value { IfOk result (λ n. place ≡ Seek.End →
+        n ≡ file_length settings.region (file_of inode (seen kv.now at.old))) }
+    ensures went { OnOk result
+        (GrowsBy at.old at.new (place_keys (seen kv.now at.old) inode place) []) }
+    ensures grows { Grows at.old at.new }
+{
+    match place {
+        Seek::End => {
+            let len = file_len(kv, at, inode, settings)?;
+            return Ok(len);
+        }
+        Seek::Set(_) => return Ok(0),
+        Seek::Fwd(_) => return Ok(0),
+        Seek::Back(_) => return Ok(0),
+    }
+}
+
+/// Where a seek leads, if anywhere.
+fn landing(place: Seek, off: u64, len: u64, cap: u64) -> Option<u64>
+    ensures { result ≡ lands cap len off place }
+{
+    match place {
+        Seek::Set(n) => {
+            if n <= cap {
+                return Some(n);
+            }
+            return None;
+        }
+        Seek::Fwd(n) => {
+            if off <= cap && n <= cap - off {
+                return Some(off + n);
+            }
+            return None;
+        }
+        Seek::Back(n) => {
+            if n <= off {
+                return Some(off - n);
+            }
+            return None;
+        }
+        Seek::End => return Some(len),
+    }
+}
+
+/// Moves an open handle, if that leads anywhere.
+fn move_to(s: &mut Session, f: u8, to: Option<u64>) -> Answer
+    requires label { f < MAX_HANDLES }
+    requires open { IsSome (handle_in s.old f) }
+    ensures sought { IsSought f to s.old s.new result }
+    ensures logged { IsLogged result }
+    ensures refused { IsRefusal result → s.new ≡ s.old }
+{
+    let Some(to) = to else {
+        return Answer::Refused(Word::Range);
+    };
+    s.move_handle(f, to);
+    Answer::Okay
+}
+
+/// Moves a handle. It is refused for one that is not open, and where that leads below 0 or past the
+/// greatest length of a file; then nothing changes. Want of memory may leave the attempt grown.
+pub(crate) fn seek(
+    kv: &Kv<Key, Value>,
+    at: &mut Attempt<Key, Value>,
+    s: &mut Session,
+    f: u8,
+    place: Seek,
+    settings: Settings,
+) -> Result<Answer, OutOfMemory>
+    requires pinned { IsTrue (is_pinned kv.now at.old.base) }
+    requires label { f < MAX_HANDLES }
+    ensures keys { OnOk result (at.new.reads ≡
+        at.old.reads ++ seek_keys (seen kv.now at.old) (handle_in s.old f) place) }
+    ensures step { IfOk result (λ a. (x : Caller) → x.size ≡ settings.region →
+        IsStepWith NeedsNoBytes x (seen kv.now at.old) (in_hand at.old s.old) (in_hand at.new s.new)
+        (Op.Seek f place) a) }
+    ensures logged { IfOk result (λ a. IsLogged a) }
+    ensures refused { IfOk result
+        (λ a. IsRefusal a → (at.new.changes ≡ at.old.changes) × (s.new ≡ s.old)) }
+    ensures grows { Grows at.old at.new }
+    ensures err { OnErr result (s.new ≡ s.old) }
+{
+    let Some(spot) = handle_of(s, f) else {
+        return Ok(Answer::Refused(Word::NoHandle));
+    };
+    let len = len_for(kv, at, spot.inode, place, settings)?;
+    let to = landing(place, spot.off, len, settings.cap());
+    let answer = move_to(s, f, to);
+    Ok(answer)
+}
+
+/// Tells what stands at a path, and a file's length. It is refused where nothing stands. Nothing
+/// changes. Want of memory may leave the attempt grown.
+pub(crate) fn stat(
+    alloc: Global,
+    kv: &Kv<Key, Value>,
+    at: &mut Attempt<Key, Value>,
+    p: &Path,
+    settings: Settings,
+) -> Result<Answer, OutOfMemory>
+    requires { IsTrue (is_pinned kv.now at.old.base) }
+    ensures keys { OnOk result
+        (at.new.reads ≡ at.old.reads ++ stat_keys (seen kv.now at.old) p.now) }
+    ensures step { IfOk result (λ a. (x : Caller) (s : SessionView) → x.size ≡ settings.region →
+        IsStepWith NeedsNoBytes x (seen kv.now at.old) (in_hand at.old s) (in_hand at.new s)
+        (Op.Stat p.now) a) }
+    ensures logged { IfOk result (λ a. IsLogged a) }
+    ensures same { OnOk result (at.new.changes ≡ at.old.changes) }
+    ensures grows { Grows at.old at.new }
+{
+    let inode = match look_up(alloc, kv, at, p)? {
+        Some(Node::File(inode)) => inode,
+        Some(Node::Folder) => return Ok(Answer::Dir),
+        None => return Ok(Answer::Refused(Word::NoEnt)),
+    };
+    let len = file_len(kv, at, inode, settings)?;
+    Ok(Answer::File { len })
+}
