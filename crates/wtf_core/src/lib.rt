@@ -11,4 +11,6 @@ mod tree;
 pub use store::Core;
 
 #[cfg(test)]
+mod tests;
+#[cfg(test)]
 mod tree_tests;

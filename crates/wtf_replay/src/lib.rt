@@ -9,4 +9,3 @@ mod replay;
 mod txn;
 
 pub use txn::Txn;
-
