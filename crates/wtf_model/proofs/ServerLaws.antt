@@ -13,7 +13,7 @@ use Rattle.wtf_model.specs.declared.event.Event.{Event}
 use Rattle.wtf_model.specs.declared.event.Event.TheVariants as event
 use Rattle.wtf_model.specs.Tree.{Tree}
 use Rattle.wtf_model.specs.Transaction.{Transaction}
-use Rattle.wtf_model.specs.Steps.{Machine, start, is_down, is_logged, logged, with_transaction, called, tried, stepped, committed, after, after_client}
+use Rattle.wtf_model.specs.Steps.{Machine, start, is_down, is_logged, logged, with_transaction, called, tried, stepped, committed, after, saved, after_client}
 use Rattle.wtf_model.proofs.StepLaws.{is_down-start, is_down-down, is_down-down_other, is_down-up, is_down-up_other}
 use Rattle.wtf_model.specs.Lines.{Line, after_line, machine_after}
 use Rattle.wtf_model.specs.Servers.{none_down, set_down, down_after_event, down_after, downs_after}
@@ -64,11 +64,17 @@ ups_go : (m : Machine) (k j : ℕ) (a : Answer) → is_down (after m (event.Up k
 ups_go m k j answer.Okay = brought_up m k j (cases_eq j k)
 ups_go m k j a = refl
 
+saved_keeps : (m : Machine) (a : Answer) → (saved m a).down ≡ m.down
+saved_keeps m (answer.Saved n) = refl
+saved_keeps m answer.FaultSave = refl
+saved_keeps m a = refl
+
 -- an event takes servers down and up as its line tells
 pub is_down-event : (m : Machine) (e : Event) (a : Answer) (j : ℕ) → is_down (after m e a) j ≡ down_after_event (is_down m) e a j
 is_down-event m (event.Client c v) a j = ap (λ d. is_down (record m { down = d }) j) (client_keeps m c (get m.transactions c) v a)
 is_down-event m (event.Down k) a j = downs_go m k j a
 is_down-event m (event.Up k) a j = ups_go m k j a
+is_down-event m event.Save a j = ap (λ d. is_down (record m { down = d }) j) (saved_keeps m a)
 is_down-event m e a j = refl
 
 -- and so does a line

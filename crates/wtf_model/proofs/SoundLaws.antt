@@ -9,7 +9,7 @@ use Rattle.std.specs.Cmp.{nat_cmp_total}
 use Rattle.std.specs.Ordering.{nat_cmp, eq_by_cmp}
 use Rattle.wtf_base.specs.declared.settings.Settings.{Settings}
 use Rattle.wtf_model.specs.declared.answer.Answer.{Answer, Aborted'}
-use Rattle.wtf_model.specs.declared.answer.Answer.TheVariants.{Okay, Begun, Committed, Retry, Replayed}
+use Rattle.wtf_model.specs.declared.answer.Answer.TheVariants.{Okay, Begun, Committed, Retry, Replayed, Saved, FaultSave}
 use Rattle.wtf_model.specs.declared.op.Op.{Op}
 use Rattle.wtf_model.specs.declared.event.Verb.{Verb}
 use Rattle.wtf_model.specs.declared.event.Verb.TheVariants as verb
@@ -18,7 +18,7 @@ use Rattle.wtf_model.specs.declared.event.Event.TheVariants as event
 use Rattle.wtf_model.specs.Form.{IsData, IsFormOp, IsFormVerb, IsFormEvent}
 use Rattle.wtf_model.specs.Tree.{Tree, IsTree}
 use Rattle.wtf_model.specs.Transaction.{Transaction}
-use Rattle.wtf_model.specs.Steps.{Machine, start, cap_of, is_logged, logged, called, ended, installed, rebased, tried, stepped, committed, with_transaction, with_down, after, after_client}
+use Rattle.wtf_model.specs.Steps.{Machine, start, cap_of, is_logged, logged, called, ended, installed, rebased, tried, stepped, committed, saved, with_transaction, with_down, after, after_client}
 use Rattle.wtf_model.specs.Sound.{IsSoundTransaction, IsSoundMachine}
 use Rattle.wtf_model.proofs.Laws.{get-number_same, get-number_other}
 use Rattle.wtf_model.proofs.SessionLaws.{IsTree-session_after}
@@ -42,7 +42,7 @@ taken_sound : (m : FinMap nat_cmp Transaction) (c d : ℕ) (u : Transaction) →
 taken_sound m c d u all there = all d u (left_by (eq_by_cmp nat_cmp d c) (get m d) u (sym (get-remove nat_cmp_total m c d) ∙ there))
 
 with_sound : (m : Machine) (c : ℕ) (t : Transaction) → IsSoundMachine m → IsSoundTransaction t → IsSoundMachine (with_transaction m c t)
-with_sound m c t sound one = record { now_is = sound.now_is; open_are = λ d u there. put_sound m.transactions c d t u (cases_eq d c) sound.open_are one there }
+with_sound m c t sound one = record { now_is = sound.now_is; saved_are = sound.saved_are; open_are = λ d u there. put_sound m.transactions c d t u (cases_eq d c) sound.open_are one there }
 
 logged_sound : (t : Transaction) (o : Op (List ℕ)) (a : Answer) → IsFormOp IsData o → IsSoundTransaction t
     → IsSoundTransaction (record t { ops = t.ops ++ o ∷ []; shown = t.shown ++ a ∷ []; replayed = t.replayed + 1 })
@@ -56,11 +56,12 @@ called_sound m c t o a form sound one =
     ]
 
 ended_sound : (m : Machine) (c : ℕ) → IsSoundMachine m → IsSoundMachine (ended m c)
-ended_sound m c sound = record { now_is = sound.now_is; open_are = λ d u here. taken_sound m.transactions c d u sound.open_are here }
+ended_sound m c sound = record { now_is = sound.now_is; saved_are = sound.saved_are; open_are = λ d u here. taken_sound m.transactions c d u sound.open_are here }
 
 installed_sound : (m : Machine) (c : ℕ) (t : Transaction) (n : ℕ) → IsSoundMachine m → IsSoundTransaction t → IsSoundMachine (installed m c t n)
 installed_sound m c t n sound one = record {
   now_is = IsTree-session_after (cap_of m) m.now t.ops one.form sound.now_is;
+  saved_are = sound.saved_are;
   open_are = λ d u here. taken_sound m.transactions c d u sound.open_are here;
 }
 
@@ -82,6 +83,7 @@ committed_sound m c t a sound one = sound
 client_sound : (m : Machine) (c : ℕ) (o : Option Transaction) (v : Verb) (a : Answer) → IsFormVerb v → get m.transactions c ≡ o → IsSoundMachine m → IsSoundMachine (after_client m c o v a)
 client_sound m c None verb.Begin (Begun n) form there sound = record {
   now_is = sound.now_is;
+  saved_are = sound.saved_are;
   open_are = λ d u there. put_sound m.transactions c d _ u (cases_eq d c) sound.open_are (record { base_is = sound.now_is; form = All-nil (IsFormOp IsData) }) there;
 }
 client_sound m c None verb.Begin a form there sound = sound
@@ -94,12 +96,26 @@ client_sound m c (Some t) (verb.Call o) a form there sound = called_sound m c t 
 client_sound m c o v a form there sound = sound
 
 down_sound : (m : Machine) (down : FinSet nat_cmp) (a : Answer) → IsSoundMachine m → IsSoundMachine (with_down m down a)
-down_sound m down Okay sound = record { now_is = sound.now_is; open_are = sound.open_are }
+down_sound m down Okay sound = record { now_is = sound.now_is; saved_are = sound.saved_are; open_are = sound.open_are }
 down_sound m down a sound = sound
+
+saved_sound : (m : Machine) (a : Answer) → IsSoundMachine m → IsSoundMachine (saved m a)
+saved_sound m (Saved n) sound = record {
+  now_is = sound.now_is;
+  saved_are = All-push IsTree [] m.now (All-nil IsTree) sound.now_is;
+  open_are = sound.open_are;
+}
+saved_sound m FaultSave sound = record {
+  now_is = sound.now_is;
+  saved_are = All-push IsTree m.may_be_saved m.now sound.saved_are sound.now_is;
+  open_are = sound.open_are;
+}
+saved_sound m a sound = sound
 
 pub IsSoundMachine-start : (settings : Settings) (number : ℕ) (tree : Tree) → IsTree tree → IsSoundMachine (start settings number tree)
 IsSoundMachine-start settings number tree is = record {
   now_is = is;
+  saved_are = All-push IsTree [] tree (All-nil IsTree) is;
   open_are = λ c t there. absurd (let none : None ≡ Some t = sym (get-empty nat_cmp c) ∙ there in cc);
 }
 
@@ -107,4 +123,5 @@ pub IsSoundMachine-after : (m : Machine) (e : Event) (a : Answer) → IsFormEven
 IsSoundMachine-after m (event.Client c v) a form sound = client_sound m c (get m.transactions c) v a form.1 refl sound
 IsSoundMachine-after m (event.Down k) a form sound = down_sound m (set.insert m.down k) a sound
 IsSoundMachine-after m (event.Up k) a form sound = down_sound m (set.remove m.down k) a sound
+IsSoundMachine-after m event.Save a form sound = saved_sound m a sound
 IsSoundMachine-after m e a form sound = sound

@@ -1,7 +1,7 @@
 -- What the machine may answer to an event. Its own refusals are tried first, then what the event asks; a store's fault may
 -- come in place of an answer that needs the stores.
 -- NSDI 2016, sections 2.6 and 2.7; refusals and limits are this store's own.
-use Rattle.std.specs.Prelude.{◌≡◌, ◌≢◌, ◌⊎◌, ◌<◌, ◌≤◌, ℕ, ◌+◌, ◌-◌, nat_lt, nat_le, if◌then◌else◌, List, ◌∷◌, length, take, slice_get, Option, Some, None, MatchOption, Result, Ok, Err}
+use Rattle.std.specs.Prelude.{◌≡◌, ◌≢◌, ◌⊎◌, ◌<◌, ◌≤◌, ℕ, ◌+◌, ◌-◌, nat_lt, nat_le, if◌then◌else◌, List, ◌∷◌, length, take, slice_get, false, Option, Some, None, MatchOption, Result, Ok, Err}
 use Rattle.std.specs.Bool.{MatchBool}
 use Rattle.std.specs.FinMap.{get}
 use Rattle.wtf_model.specs.declared.limits.TheConstants.{MAX_DUMPED}
@@ -17,7 +17,7 @@ use Rattle.wtf_model.specs.declared.event.Event.{Event}
 use Rattle.wtf_model.specs.declared.event.Event.TheVariants as event
 use Rattle.wtf_model.specs.Tree.{Tree, ◌>>=◌, source, rows_of}
 use Rattle.wtf_model.specs.Transaction.{Transaction, answers_of}
-use Rattle.wtf_model.specs.Machines.{Machine, cap_of, due, is_live, is_full}
+use Rattle.wtf_model.specs.Machines.{Machine, cap_of, due, is_down, is_live, is_full}
 use Rattle.wtf_model.specs.Later.{is_later}
 
 -- The refusals of a client's line, in their order: no transaction, or one already; a replay that runs, or none; a full
@@ -151,14 +151,21 @@ or_refusal (Err w) = answer.Refused w
 abbrev pub dump_answer : Machine → List ℕ → Answer
 dump_answer m p = or_refusal (dumped m.now p)
 
--- the machine may answer a to the event e, where nothing is left to a later version. Lines of jobs, scans and saves have
--- no row yet.
+-- a save: the number, where no server is down; else a fault, which may also come where a store or the keeper fails
+abbrev pub MaySave : Machine → Answer → Type 0
+MaySave m (answer.Saved n) = (n ≡ m.number) × ((k : ℕ) → k < m.settings.servers → is_down m k ≡ false)
+MaySave m answer.FaultSave = Unit {0}
+MaySave m a = ⊥
+
+-- the machine may answer a to the event e, where nothing is left to a later version. Lines of jobs and scans have no row
+-- yet.
 abbrev pub MayBuilt : Machine → Event → Answer → Type 0
 MayBuilt m (event.Client c v) a = MayClient m (get m.transactions c) v a
 MayBuilt m (event.Down k) a = a ≡ server_answer m k
 MayBuilt m (event.Up k) a = a ≡ server_answer m k
 MayBuilt m (event.Dump p) a = (a ≡ dump_answer m p) ⊎ MayFailRead m.settings.servers (dump_answer m p) a
 MayBuilt m event.Tree a = a ≡ answer.Tree (rows_of m.now)
+MayBuilt m event.Save a = MaySave m a
 MayBuilt m e a = ⊥
 
 -- the machine of this version may answer a to the event e

@@ -13,4 +13,5 @@ pub record IsSoundTransaction (t : Transaction) : Type 0 where
 
 pub record IsSoundMachine (m : Machine) : Type 0 where
   pub now_is : IsTree m.now
+  pub saved_are : All IsTree m.may_be_saved
   pub open_are : (c : ℕ) (t : Transaction) → get m.transactions c ≡ Some t → IsSoundTransaction t

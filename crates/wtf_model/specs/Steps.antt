@@ -115,10 +115,17 @@ abbrev pub with_down : Machine → FinSet nat_cmp → Answer → Machine
 with_down m down answer.Okay = record m { down = down }
 with_down m down a = m
 
+-- The image that is saved is that of the tree now. After a fault it is that, or one of those that it may have been.
+abbrev pub saved : Machine → Answer → Machine
+saved m (answer.Saved n) = record m { may_be_saved = m.now ∷ [] }
+saved m answer.FaultSave = record m { may_be_saved = m.may_be_saved ++ m.now ∷ [] }
+saved m a = m
+
 abbrev pub after : Machine → Event → Answer → Machine
 after m (event.Client c v) a = after_client m c (get m.transactions c) v a
 after m (event.Down k) a = with_down m (set.insert m.down k) a
 after m (event.Up k) a = with_down m (set.remove m.down k) a
+after m event.Save a = saved m a
 after m e a = m
 
 -- The machine may give these answers to these events, one after another, and what it is then

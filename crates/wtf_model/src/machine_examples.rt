@@ -1,7 +1,7 @@
 //! Worked examples of the machine's steps, each proved. They say of each line what may answer it where nothing is left to a
 //! later version, and what it leaves.
 
-ghost use Rattle.std.specs.Prelude.{◌≡◌, ◌≢◌, ◌↔◌, ℕ, ◌+◌, ◌≤◌, ◌<◌, Bool, true, false, List, [], ◌∷◌, length, slice_get, Some, None};
+ghost use Rattle.std.specs.Prelude.{◌≡◌, ◌≢◌, ◌↔◌, ℕ, ◌+◌, ◌≤◌, ◌<◌, Bool, true, false, List, [], ◌∷◌, ◌++◌, length, slice_get, Some, None};
 ghost use Rattle.std.specs.FinMap.{get};
 ghost use Rattle.wtf_base.specs.declared.settings.Settings.{Settings};
 ghost use Rattle.wtf_model.specs.declared.answer.Answer.{Answer};
@@ -18,7 +18,7 @@ ghost use Rattle.wtf_model.specs.Tree as node;
 ghost use Rattle.wtf_model.specs.Session.{Session, Handle};
 ghost use Rattle.wtf_model.specs.Transaction.{Transaction, session_after, answers_of};
 ghost use Rattle.wtf_model.specs.Lawful.{Deviates};
-ghost use Rattle.wtf_model.specs.Steps.{Machine, MayBuilt, Accepts, start, after, cap_of, due, is_live, is_full, is_later_call};
+ghost use Rattle.wtf_model.specs.Steps.{Machine, MayBuilt, Accepts, start, after, cap_of, due, is_down, is_live, is_full, is_later_call};
 ghost use Rattle.wtf_model.specs.Examples.{Only, IsAborted, first_transaction};
 
 /// A transaction begins on the tree now, with the next stamp, which is then another. A client has one at a time.
@@ -171,6 +171,18 @@ pub fn shows_the_tree()
         Only m (event.Dump p) (answer.Refused word.NoEnt) }
     ensures tree { (m : Machine) → Only m event.Tree (answer.Tree (rows_of m.now)) }
     ensures leaves { (m : Machine) (p : List ℕ) (a : Answer) → after m (event.Dump p) a ≡ m }
+{}
+
+/// A save answers the number, and only where no server is down; its image is then that of the tree now. A fault may come
+/// at any time; the image is then one of those that it may have been, or that of the tree now.
+pub fn saves()
+    ensures saved { (m : Machine) (n : ℕ) → MayBuilt m event.Save (answer.Saved n) ↔
+        ((n ≡ m.number) × ((k : ℕ) → k < m.settings.servers → is_down m k ≡ false)) }
+    ensures fault { (m : Machine) → MayBuilt m event.Save answer.FaultSave }
+    ensures image { (m : Machine) (n : ℕ) →
+        after m event.Save (answer.Saved n) ≡ record m { may_be_saved = m.now ∷ [] } }
+    ensures either { (m : Machine) → after m event.Save answer.FaultSave ≡
+        record m { may_be_saved = m.may_be_saved ++ m.now ∷ [] } }
 {}
 
 /// A run has as many answers as events, and the first saved image may stand for the first tree alone.
