@@ -9,6 +9,8 @@ mod folders;
 mod looks;
 mod moves;
 
+pub use checks::{source, target};
+pub use edits::make_file;
 pub use files::{create, unlink};
 pub use folders::{list, mkdir, rmdir};
 pub use looks::look_up;

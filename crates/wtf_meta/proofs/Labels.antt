@@ -1,8 +1,10 @@
 -- Lists by label, once one label is set.
-use Rattle.std.proofs.Common.{◌≡◌, ◌≢◌, ℕ, zero, suc, ◌<◌, List, [], ◌∷◌, length, set, map, Option, None, Some, refl, ap, ◌∙◌, arith, subst, Global}
+use Rattle.std.proofs.Common.{◌≡◌, ◌≢◌, ℕ, zero, suc, ◌+◌, ◌<◌, List, [], ◌∷◌, length, get_or, set, map, Option, None, Some, refl, sym, ap, ◌∙◌, arith, subst, inl, inr, Global}
 use Rattle.std.specs.Prelude.{Vec}
 use Rattle.std.specs.Option.{option_map}
-use Rattle.std.proofs.lemmas.List.{map-set}
+use Rattle.std.proofs.lemmas.List.{map-set, get_or-set_same, get_or-set_other, same_lists}
+use Rattle.std.proofs.lemmas.Option.{get_or_from_slice_get, slice_get_read, slice_get-map}
+use Rattle.std.proofs.lemmas.Bool.{cases_eq}
 use Rattle.wtf_overlay.specs.declared.part.Piece.{Piece}
 use Rattle.wtf_meta.specs.declared.session.Handle.{Handle}
 use Rattle.wtf_meta.specs.Sessions.{SessionView, at_label, session_view, SetsSlice}
@@ -41,3 +43,34 @@ pub at_label_within : {A : Type 0} (xs : List (Option A)) (i : ℕ) (x : A) → 
 at_label_within [] i x h = absurd (cc)
 at_label_within (y ∷ ys) zero x h = omega arith
 at_label_within (y ∷ ys) (suc i) x h = omega (arith, at_label_within ys i x h)
+
+-- Lists that are copied element by element: those before n are equal.
+abbrev pub IsCopiedTo : {A : Type 0} → List A → List A → ℕ → Type 0
+IsCopiedTo {A} from to n = (k : ℕ) (d : A) → k < n → get_or to k d ≡ get_or from k d
+
+element_at : {A : Type 0} (xs : List A) (n : ℕ) (x d : A) → n < length xs → x ≡ get_or xs n x → get_or xs n d ≡ x
+element_at xs n x d h is = get_or_from_slice_get xs n x d (slice_get_read xs (length xs) n x refl h is)
+
+-- one more element is copied
+pub copied_more : {A : Type 0} (from to : List A) (n : ℕ) (x : A) → n < length from → n < length to → IsCopiedTo from to n → x ≡ get_or from n x → IsCopiedTo from (set to n x) (n + 1)
+copied_more from to n x h g before is k d below = elim (cases_eq k n) [
+  | inl e ↦ subst (λ j. get_or (set to n x) j d ≡ get_or from j d) (sym e) (get_or-set_same to n x d g ∙ sym (element_at from n x d h is))
+  | inr apart ↦ get_or-set_other to n k x d apart ∙ before k d (omega (arith, below, apart))
+]
+
+-- and of what is seen of the elements
+pub copied_more_by : {A B : Type 0} (f : A → B) (from to : List A) (n : ℕ) (x y : A) → n < length from → n < length to → IsCopiedTo (map f from) (map f to) n → y ≡ get_or from n y → f x ≡ f y
+    → IsCopiedTo (map f from) (map f (set to n x)) (n + 1)
+copied_more_by f from to n x y h g before is same =
+    let seen = slice_get-map f from n ∙ ap (option_map f) (slice_get_read from (length from) n y refl h is) in
+    subst (λ l. IsCopiedTo (map f from) l (n + 1)) (sym (map-set f to n x))
+    (copied_more (map f from) (map f to) n (f x) (omega (arith, h, map_length f from)) (omega (arith, g, map_length f to)) before
+    (same ∙ sym (get_or_from_slice_get (map f from) n (f y) (f x) seen)))
+
+-- all were copied
+pub copied_all : {A : Type 0} (from to : List A) → length from ≡ length to → IsCopiedTo from to (length to) → to ≡ from
+copied_all from to same all = same_lists to from (sym same) (λ k d below. all k d below)
+
+pub copied_all_by : {A B : Type 0} (f : A → B) (from to : List A) → length from ≡ length to → IsCopiedTo (map f from) (map f to) (length to) → map f to ≡ map f from
+copied_all_by f from to same all = copied_all (map f from) (map f to) (omega (arith, same, map_length f from, map_length f to))
+    (λ k d below. all k d (omega (arith, below, map_length f to)))

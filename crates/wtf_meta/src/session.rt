@@ -4,7 +4,7 @@ ghost use Rattle.std.specs.Prelude.{◌≡◌, ◌≢◌, ◌<◌, ℕ, IfOk, Is
 ghost use Rattle.std.specs.Option.{option_copied, option_map};
 ghost use Rattle.wtf_overlay.specs.declared.part.Piece as Piece;
 ghost use Rattle.wtf_model.specs.declared.limits.TheConstants.{MAX_HANDLES, MAX_SLICES};
-ghost use Rattle.wtf_meta.specs.Sessions.{nothing_open, handle_in, slice_in, SetsHandle, SetsSlice, moved_to, IsOff};
+ghost use Rattle.wtf_meta.specs.Sessions.{nothing_open, items_of, handle_in, slice_in, SetsHandle, SetsSlice, moved_to, IsOff};
 
 use std::alloc::Global;
 use std::marker::Model;
@@ -42,6 +42,10 @@ impl Model for Session {
     ghost coded = { Prim.hlevel (codes, piece.the_row.coded) };
 
     ghost view = { λ s. session_view s.handles s.slices };
+
+    ghost use Rattle.wtf_meta.specs.Sessions.{AreLabels};
+
+    ghost invariant = { λ s. AreLabels s.handles s.slices };
 }
 
 impl Session {
@@ -59,6 +63,25 @@ impl Session {
                 None, None,
             ],
         })
+    }
+
+    /// The same handles and slices, in memory of their own.
+    pub fn copy(&self, alloc: Global) -> Result<Session, OutOfMemory>
+        ensures { IfOk result (λ s. s ≡ self.now) }
+    {
+        let mut handles = [
+            None, None, None, None, None, None, None, None, None, None, None, None, None, None,
+            None, None,
+        ];
+        let mut slices = [
+            None, None, None, None, None, None, None, None, None, None, None, None, None, None,
+            None, None,
+        ];
+        for label in 0..16usize {
+            handles[label] = copy_handle(alloc, &self.handles[label])?;
+            slices[label] = copy_slice(alloc, &self.slices[label])?;
+        }
+        Ok(Session { handles, slices })
     }
 
     /// The handle of a label.
@@ -139,4 +162,30 @@ fn is_by(handle: &Option<Handle>, p: &Path) -> bool
         return false;
     };
     h.path.as_bytes() == p.as_bytes()
+}
+
+/// A copy of a handle, if there is one.
+fn copy_handle(alloc: Global, from: &Option<Handle>) -> Result<Option<Handle>, OutOfMemory>
+    ensures { IfOk result (λ h. h ≡ from.now) }
+{
+    let Some(h) = from else {
+        return Ok(None);
+    };
+    let path = h.path.copy(alloc)?;
+    Ok(Some(Handle {
+        path,
+        inode: h.inode,
+        off: h.off,
+    }))
+}
+
+/// A copy of the pieces of a slice, if there is one.
+fn copy_slice(alloc: Global, from: &Option<Vec<Piece>>) -> Result<Option<Vec<Piece>>, OutOfMemory>
+    ensures { IfOk result (λ pieces. option_map items_of pieces ≡ option_map items_of from.now) }
+{
+    let Some(pieces) = from else {
+        return Ok(None);
+    };
+    let copy = Vec::from_slice(alloc, pieces.as_slice())?;
+    Ok(Some(copy))
 }

@@ -31,7 +31,10 @@ fn each_label_stands_alone(rt: HostRuntime) -> Result<(), Fail> {
     let count = session.slice(3).map(|pieces| pieces.len());
     assert_eq!(rt; count, Some(1));
     assert!(rt; session.slice(15).is_none());
+    let copy = session.copy(alloc)?;
     session.end_handle(15);
+    assert_eq!(rt; copy.handle(15).map(|h| h.off), Some(7));
+    assert_eq!(rt; copy.slice(3).map(|pieces| pieces.len()), Some(1));
     assert!(rt; session.handle(15).is_none());
     Ok(())
 }

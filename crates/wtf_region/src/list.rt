@@ -1,7 +1,8 @@
 //! The list of a region.
 
 ghost use Rattle.std.specs.Prelude.{◌≡◌, [], IfOk, IfErr};
-ghost use Rattle.wtf_region.specs.Devs.{IsSoundDev, GoesOn};
+ghost use Rattle.wtf_region.specs.Devs.{IsSoundDev, GoesOn, between};
+ghost use Rattle.wtf_region.specs.Showing.{OnlyRead};
 
 use crate::Dev;
 use wtf_base::Fault;
@@ -18,6 +19,7 @@ pub fn region_list<S: SliceStore>(
     requires sound { IsSoundDev dev.old }
     ensures list { IfOk result (λ list. list ≡ value.now.list) }
     ensures fault { IfErr result (λ why. why ≡ Fault.Memory) }
+    ensures reads { OnlyRead S.kind (between dev.old dev.new) }
     ensures dev { GoesOn S.kind dev.old dev.new [] }
 {
     match value.list.share() {

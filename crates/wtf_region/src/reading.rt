@@ -10,7 +10,8 @@ ghost use Rattle.wtf_meta.specs.Maps.{seen};
 ghost use Rattle.wtf_meta.specs.Files.{end_of, file_len as file_length, file_origin, region_origin};
 ghost use Rattle.wtf_meta.specs.FileEdits.{file_of, last_of, region_of};
 ghost use Rattle.wtf_meta.specs.Appends.{OfLast, OfRegion, length_keys, region_keys, touched};
-ghost use Rattle.wtf_region.specs.Devs.{IsSoundDev, GoesOn};
+ghost use Rattle.wtf_region.specs.Devs.{IsSoundDev, GoesOn, between};
+ghost use Rattle.wtf_region.specs.Showing.{OnlyRead};
 ghost use Rattle.wtf_region.specs.Edited.{Recorded};
 
 use crate::part::{RegionPart, part_at};
@@ -122,6 +123,7 @@ fn value_pieces<S: SliceStore>(
     ensures plans { IfOk result
         (λ v. Plans v.items len (λ i. region_origin (region_of value.now) (off + i))) }
     ensures fault { IfErr result (λ why. why ≡ Fault.Memory) }
+    ensures reads { OnlyRead S.kind (between dev.old dev.new) }
     ensures dev { GoesOn S.kind dev.old dev.new [] }
 {
     let Some(Value::Region(v)) = value else {
@@ -167,6 +169,7 @@ fn region_pieces<S: SliceStore>(
     ensures recorded { OnOk result (Recorded inode (OfRegion part.region ∷ []) at.old at.new) }
     ensures grows { Grows at.old at.new }
     ensures fault { IfErr result (λ why. why ≡ Fault.Memory) }
+    ensures reads { OnlyRead S.kind (between dev.old dev.new) }
     ensures dev { GoesOn S.kind dev.old dev.new [] }
 {
     let value = match at.read(kv, &Key::Region(inode, part.region)) {
@@ -198,6 +201,7 @@ pub fn pieces<S: SliceStore>(
         (Recorded inode (region_keys (touched dev.old.settings.region off len)) at.old at.new) }
     ensures grows { Grows at.old at.new }
     ensures fault { IfErr result (λ why. why ≡ Fault.Memory) }
+    ensures reads { OnlyRead S.kind (between dev.old dev.new) }
     ensures dev { GoesOn S.kind dev.old dev.new [] }
 {
     let size = dev.settings.region;

@@ -7,6 +7,7 @@ use Rattle.wtf_meta.specs.Appends.{touched, region_keys}
 use Rattle.wtf_meta.proofs.Places.{at_place}
 use Rattle.wtf_meta.proofs.Touching.{touched-more}
 use Rattle.wtf_region.proofs.Recording.{still_seen, recorded_region, at_border}
+use Rattle.wtf_region.proofs.ShowLaws.{reads_over}
 use Rattle.wtf_region.proofs.Spans.{goes_on}
 use Rattle.wtf_region.proofs.reading.pieces.Goals as goal
 
@@ -41,5 +42,6 @@ loop-done-preserved g c =
         | inl whole ↦ inr (inl whole)
         | inr full ↦ inr (inr (p.region + 1, omega (arith, e.place, full)))
       ];
+      reads = reads_over g.S.SliceStore.kind c.args.dev.now c.loop-done.dev c.region_pieces.new.dev inv.each inv.reads c.in_ok-more.ensures.reads;
       each = goes_on g.met.S.SliceStore.laws inv.each c.in_ok-more.ensures.dev;
     }

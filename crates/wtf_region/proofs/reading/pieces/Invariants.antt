@@ -4,7 +4,8 @@ use Rattle.wtf_meta.specs.Maps.{seen}
 use Rattle.wtf_meta.specs.Files.{file_origin}
 use Rattle.wtf_meta.specs.FileEdits.{file_of}
 use Rattle.wtf_meta.specs.Appends.{region_keys, touched}
-use Rattle.wtf_region.specs.Devs.{GoesOn}
+use Rattle.wtf_region.specs.Devs.{GoesOn, between}
+use Rattle.wtf_region.specs.Showing.{OnlyRead}
 use Rattle.wtf_region.specs.Edited.{Recorded}
 use Rattle.wtf_region.proofs.reading.pieces.Given as goal
 
@@ -15,6 +16,7 @@ invariant-loop-done g l = record {
   plans : Plans l.out.items l.done (λ i. file_origin l.fn.dev.settings.region (file_of l.inode (seen l.kv l.fn.at)) (l.off + i));
   recorded : Recorded l.inode (region_keys (touched l.fn.dev.settings.region l.off l.done)) l.fn.at l.at;
   border : (l.done ≡ 0) ⊎ ((l.done ≡ l.len) ⊎ ((q : ℕ) × (q * l.fn.dev.settings.region ≡ l.off + l.done)));
+  reads : OnlyRead g.S.SliceStore.kind (between l.fn.dev l.dev);
   each : GoesOn g.S.SliceStore.kind l.fn.dev l.dev [];
 }
 
