@@ -192,6 +192,7 @@ pub adds_answer : (x : Caller) (b : Map) (s : SessionView) (f : ℕ) (h : Handle
 adds_answer x b s f h ps bytes zeros old new added.Done here len same tells is = record {
   edits = edits_of h.inode is.edits;
   fits = fits_anywhere h.inode is.edits b is.does.appends.fit;
+  refused = λ h. absurd h;
   due = λ told w S agree fits st holds.
       let on = on_file x told w s S st holds f h here in
       let was : List ℕ = bytes_of_handle S on.handle in
@@ -202,6 +203,7 @@ adds_answer x b s f h ps bytes zeros old new added.Done here len same tells is =
 adds_answer x b s f h ps bytes zeros old new added.TooBig here len same tells is = record {
   edits = [];
   fits = refl;
+  refused = λ h. refl;
   due = λ told w S agree fits st holds.
       let on = on_file x told w s S st holds f h here in
       let was : List ℕ = bytes_of_handle S on.handle in
@@ -213,6 +215,7 @@ pub nothing_answer : (x : Caller) (b : Map) (s : SessionView) (f : ℕ) (h : Han
 nothing_answer x b s f h keys bytes here none = record {
   edits = [];
   fits = refl;
+  refused = λ h. refl;
   due = λ told w S agree fits st holds.
       let on = on_file x told w s S st holds f h here in
       ap (λ (d : Done). d.answer) (append-open (cap_for x) S f on.handle on.there bytes
@@ -223,6 +226,7 @@ pub closed_answer : (x : Caller) (b : Map) (s : SessionView) (f : ℕ) (keys : L
 closed_answer x b s f keys bytes e = record {
   edits = [];
   fits = refl;
+  refused = λ h. refl;
   due = λ told w S agree fits st holds. ap (λ (d : Done). d.answer) (append-none (cap_for x) S f bytes (not_open x told w s S st holds f e));
 }
 

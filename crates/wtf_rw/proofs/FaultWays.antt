@@ -87,7 +87,7 @@ if_All : (P : Piece → Type 0) (c : Bool) (xs ys : List Piece) → All P xs →
 if_All P true xs ys first second = first
 if_All P false xs ys first second = second
 
-pieces_in-All : (P : Piece → Type 0) (off n : ℕ) (ps : List Piece) → All P ps → All P (pieces_in off n ps)
+pub pieces_in-All : (P : Piece → Type 0) (off n : ℕ) (ps : List Piece) → All P ps → All P (pieces_in off n ps)
 pieces_in-All P off n [] all = All-nil P
 pieces_in-All P off n (p ∷ ps) all =
     let rest = All-tail P p ps all in
@@ -95,7 +95,7 @@ pieces_in-All P off n (p ∷ ps) all =
     (if_All P (nat_le p.len off) (pieces_in (off - p.len) n ps) (p ∷ pieces_in 0 (n - (p.len - off)) ps) (pieces_in-All P (off - p.len) n ps rest)
     (All-cons P p (pieces_in 0 (n - (p.len - off)) ps) (All-head P p ps all) (pieces_in-All P 0 (n - (p.len - off)) ps rest)))
 
-All-middle : (P : Piece → Type 0) (before : List Piece) (p : Piece) (after : List Piece) → All P (before ++ p ∷ after) → P p
+pub All-middle : (P : Piece → Type 0) (before : List Piece) (p : Piece) (after : List Piece) → All P (before ++ p ∷ after) → P p
 All-middle P [] p after all = All-head P p after all
 All-middle P (q ∷ before) p after all = All-middle P before p after (All-tail P q (before ++ p ∷ after) all)
 
@@ -104,13 +104,13 @@ no_pieces off [] = refl
 no_pieces off (p ∷ ps) = refl
 
 -- where one of the pieces was not shown, some byte was to be shown
-some_byte : (n : ℕ) (ps before : List Piece) (p : Piece) (after : List Piece) → pieces_in 0 n ps ≡ before ++ p ∷ after → 0 < n
+pub some_byte : (n : ℕ) (ps before : List Piece) (p : Piece) (after : List Piece) → pieces_in 0 n ps ≡ before ++ p ∷ after → 0 < n
 some_byte zero ps before p after split =
     let none : 0 ≡ length before + suc (length after) = ap length (sym (no_pieces 0 ps) ∙ split) ∙ length-append before (p ∷ after) in absurd (omega (arith, none))
 some_byte (suc n) ps before p after split = omega arith
 
 -- the servers of a byte's places are of the settings
-servers_known : {S : Type 0} (kind : StoreKind S) (shelf : List S) (settings : Settings) (i : ℕ) (ps : List Pointer) → settings.servers ≤ length shelf
+pub servers_known : {S : Type 0} (kind : StoreKind S) (shelf : List S) (settings : Settings) (i : ℕ) (ps : List Pointer) → settings.servers ≤ length shelf
     → is_inside kind shelf settings (map (place_in i) ps) ≡ true → All (λ (p : Pointer). p.server.0 < settings.servers) ps
 servers_known kind shelf settings i [] enough h = All-nil (λ (p : Pointer). p.server.0 < settings.servers)
 servers_known kind shelf settings i (p ∷ ps) enough h =
@@ -122,7 +122,7 @@ last_known n k [] low all = low
 last_known n k (p ∷ ps) low all = last_known n p.server.0 ps (All-head (λ (q : Pointer). q.server.0 < n) p ps all) (All-tail (λ (q : Pointer). q.server.0 < n) p ps all)
 
 -- and so is that of the copy that was tried last
-lacks_known : {S : Type 0} (kind : StoreKind S) (t : Span S) (shelf : List S) (settings : Settings) (n k : ℕ) (ps : List Piece) → settings.servers ≤ length shelf
+pub lacks_known : {S : Type 0} (kind : StoreKind S) (t : Span S) (shelf : List S) (settings : Settings) (n k : ℕ) (ps : List Piece) → settings.servers ≤ length shelf
     → PiecesBytes (is_inside kind shelf settings) ps → LacksPiece kind t (pieces_in 0 n ps) k → k < settings.servers
 lacks_known kind t shelf settings n k ps enough named lacks =
     let P : Piece → Type 0 = λ p. PartBytes (is_inside kind shelf settings) p.len p.part in

@@ -42,26 +42,26 @@ use Rattle.wtf_rw.specs.Stored.{ArePieces, SliceBytes, IsOwn}
 
 -- what follows of the places of a byte does so of all bytes
 module _ (P Q : List Place → Bool) (stays : (places : List Place) → P places ≡ true → Q places ≡ true) where
-  part_stays : (n : ℕ) (p : Part) → PartBytes P n p → PartBytes Q n p
+  pub part_stays : (n : ℕ) (p : Part) → PartBytes P n p → PartBytes Q n p
   part_stays n p h = λ i below. stays (part_origin p i) (h i below)
 
-  value_stays : (v : Option Value) → ValueBytes P v → ValueBytes Q v
+  pub value_stays : (v : Option Value) → ValueBytes P v → ValueBytes Q v
   value_stays None h = tt
   value_stays (Some (value.Node n)) h = tt
   value_stays (Some (value.Names ns)) h = tt
   value_stays (Some (value.Last r)) h = tt
   value_stays (Some (value.Region v)) h = record { plain = h.plain; entries = All-weaker (EntryBytes P) (EntryBytes Q) (λ (e : Entry) was. part_stays e.len e.part was) v.list h.entries }
 
-  map_stays : (w : Map) → MapBytes P w → MapBytes Q w
+  pub map_stays : (w : Map) → MapBytes P w → MapBytes Q w
   map_stays w h = λ q. value_stays (w q) (h q)
 
-  pieces_stay : (ps : List Piece) → PiecesBytes P ps → PiecesBytes Q ps
+  pub pieces_stay : (ps : List Piece) → PiecesBytes P ps → PiecesBytes Q ps
   pieces_stay ps h = All-weaker (λ (p : Piece). PartBytes P p.len p.part) (λ (p : Piece). PartBytes Q p.len p.part) (λ (p : Piece) was. part_stays p.len p.part was) ps h
 
-  session_stays : (s : SessionView) → SessionBytes P s → SessionBytes Q s
+  pub session_stays : (s : SessionView) → SessionBytes P s → SessionBytes Q s
   session_stays s h = λ label ps e. pieces_stay ps (h label ps e)
 
-  slice_stays : (o : Option Slice) → SliceBytes P o → SliceBytes Q o
+  pub slice_stays : (o : Option Slice) → SliceBytes P o → SliceBytes Q o
   slice_stays None h = tt
   slice_stays (Some s) h = part_stays (len_of s) (Held s) h
 
@@ -93,7 +93,7 @@ own_by_inside kind old new (Some h) place bytes own is = own_inside kind old new
 no_slice_inside : (P : List Place → Bool) (own : Option Slice) → own ≡ None → SliceBytes P own
 no_slice_inside P own is = subst (SliceBytes P) (sym is) tt
 
-rw_own_inside : {S : Type 0} (kind : StoreKind S) (old new : Dev S) (w : Map) (s : SessionView) (o : RwOp) (own : Option Slice) → IsRwOwn kind old new w s o own
+pub rw_own_inside : {S : Type 0} (kind : StoreKind S) (old new : Dev S) (w : Map) (s : SessionView) (o : RwOp) (own : Option Slice) → IsRwOwn kind old new w s o own
     → SliceBytes (is_inside kind (stores new) old.settings) own
 rw_own_inside kind old new w s (rw.Write f (Fresh bs)) own is = own_by_inside kind old new (handle_in s f) _ bs.now own is
 rw_own_inside kind old new w s (rw.Append f (Fresh bs)) own is = own_by_inside kind old new (handle_in s f) _ bs.now own is
@@ -109,7 +109,7 @@ rw_own_inside kind old new w s (rw.Punch f n) own is = no_slice_inside (is_insid
 rw_own_inside kind old new w s (rw.Stat p) own is = no_slice_inside (is_inside kind (stores new) old.settings) own is.1
 
 -- P holds of the bytes that a call stored itself or was given
-own_named : (P : List Place → Bool) (own : Option Slice) (ps : List Piece) → ArePieces own ps → SliceBytes P own → PiecesBytes P ps
+pub own_named : (P : List Place → Bool) (own : Option Slice) (ps : List Piece) → ArePieces own ps → SliceBytes P own → PiecesBytes P ps
 own_named P None ps is h = subst (λ (qs : List Piece). PiecesBytes P qs) (sym is) (PiecesBytes-none P)
 own_named P (Some s) ps is h =
     subst (λ (qs : List Piece). PiecesBytes P qs) (sym is.one)
@@ -119,7 +119,7 @@ own_named P (Some s) ps is h =
 none_named : (P : List Place → Bool) (ps : List Piece) → ps ≡ [] → PiecesBytes P ps
 none_named P ps is = subst (λ (qs : List Piece). PiecesBytes P qs) (sym is) (PiecesBytes-none P)
 
-does_named : (P : List Place → Bool) {S : Type 0} (sc : Scene S) (o : RwOp) (own : Option Slice) (bytes : List ℕ) (did : Did) → DoesRw sc o own bytes did → RwBytes P o → SliceBytes P own
+pub does_named : (P : List Place → Bool) {S : Type 0} (sc : Scene S) (o : RwOp) (own : Option Slice) (bytes : List ℕ) (did : Did) → DoesRw sc o own bytes did → RwBytes P o → SliceBytes P own
     → PiecesBytes P did.stored
 does_named P sc (rw.Write f (Fresh bs)) own bytes did does given stored = own_named P own did.stored does.stored stored
 does_named P sc (rw.Write f (Stored kept)) own bytes did does given stored = does.0.named P given
@@ -135,7 +135,7 @@ does_named P sc (rw.Punch f n) own bytes did does given stored = none_named P di
 does_named P sc (rw.Stat p) own bytes did does given stored = none_named P did.stored does.0.stored
 
 -- some bytes that the data may be
-some_data : (o : RwOp) → (bytes : List ℕ) × Writes o bytes
+pub some_data : (o : RwOp) → (bytes : List ℕ) × Writes o bytes
 some_data (rw.Write f (Fresh bs)) = (bs.now, refl)
 some_data (rw.Write f (Stored kept)) = (replicate kept.len 0, length-replicate kept.len 0)
 some_data (rw.Append f (Fresh bs)) = (bs.now, refl)

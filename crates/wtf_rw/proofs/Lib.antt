@@ -1,11 +1,11 @@
 pub mod FitsAnywhere
-mod ModelCalls
-mod Ways
-mod FileWays
+pub mod ModelCalls
+pub mod Ways
+pub mod FileWays
 mod SizeEdits
-mod StoredBytes
-mod AppendWays
-mod ReadWays
-mod FaultWays
-mod InsideWays
+pub mod StoredBytes
+pub mod AppendWays
+pub mod ReadWays
+pub mod FaultWays
+pub mod InsideWays
 mod Dispatch

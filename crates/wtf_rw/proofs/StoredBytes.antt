@@ -41,7 +41,7 @@ some_pointer n (Two a b) = (pointer_to n a, pointer_to n b ∷ [], refl)
 some_pointer n (Three a b c) = (pointer_to n a, pointer_to n b ∷ pointer_to n c ∷ [], refl)
 
 -- a byte that every copy of a slice holds
-held_meaning : (told : Told) (s : Slice) (i b : ℕ) → HasByte told s i b → meaning told (places_of s i) ≡ Some b
+pub held_meaning : (told : Told) (s : Slice) (i b : ℕ) → HasByte told s i b → meaning told (places_of s i) ≡ Some b
 held_meaning told s i b all =
     let (p, ps, is) = some_pointer s.len s.extents in
     subst (λ (l : List Pointer). meaning told (map (place_in i) l) ≡ Some b) (sym is)

@@ -24,7 +24,7 @@ use Rattle.wtf_rw.specs.declared.op.Given.{Given}
 use Rattle.wtf_rw.specs.declared.op.Given.TheVariants.{Fresh, Stored}
 use Rattle.wtf_rw.specs.declared.op.RwOp.{RwOp}
 use Rattle.wtf_rw.specs.declared.op.RwOp.TheVariants as rw
-use Rattle.wtf_rw.specs.Steps.{IsStepWith, NeedsNoBytes}
+use Rattle.wtf_rw.specs.Steps.{IsStepWith, NeedsNoBytes, IsRefusal}
 use Rattle.wtf_rw.specs.Recorded.{open_keys, seek_keys, stat_keys, append_keys, read_keys, found_in}
 use Rattle.wtf_rw.specs.Stored.{TellsOwn, BringsSlice, SliceBytes, IsOwn, IsPutFault, Answers, end_place}
 use Rattle.wtf_rw.specs.Reads.{TellsRead, LacksBytes, read_origin}
@@ -141,12 +141,24 @@ IsRwOwn kind old new w s (rw.Append f (Fresh bs)) own = OwnBy kind old new (hand
 IsRwOwn kind old new w s (rw.Read f n) own = own ≡ None
 IsRwOwn kind old new w s o own = (new ≡ old) × (own ≡ None)
 
+-- fresh data of which nothing was stored has no byte, or its call was refused
+abbrev pub LacksOwn : RwOp → Option Slice → Answer → Type 0
+LacksOwn (rw.Write f (Fresh bs)) own a = own ≡ None → (length bs.now ≡ 0) ⊎ IsRefusal a
+LacksOwn (rw.Append f (Fresh bs)) own a = own ≡ None → (length bs.now ≡ 0) ⊎ IsRefusal a
+LacksOwn o own a = ⊤
+
+-- a call that is to store no byte
+abbrev pub StoresNone : RwOp → Type 0
+StoresNone (rw.Write f (Fresh bs)) = ⊥
+StoresNone (rw.Append f (Fresh bs)) = ⊥
+StoresNone o = ⊤
+
 -- why a call gave a fault; memory may be short at any time
 abbrev pub IsRwFault : {S : Type 0} → StoreKind S → (old new : Dev S) → Map → SessionView → RwOp → Fault → Type 0
 IsRwFault kind old new w s (rw.Write f (Fresh bs)) why = IsPutFault kind old new bs.now why
 IsRwFault kind old new w s (rw.Append f (Fresh bs)) why = IsPutFault kind old new bs.now why
 IsRwFault kind old new w s (rw.Read f n) why =
-    (h : Handle) → handle_in s f ≡ Some h → (why ≡ fault.Memory) ⊎ LacksBytes kind old new (found_in old.settings.region w h n) (read_origin old.settings.region w h) why
+    (why ≡ fault.Memory) ⊎ ((h : Handle) × (handle_in s f ≡ Some h) × LacksBytes kind old new (found_in old.settings.region w h n) (read_origin old.settings.region w h) why)
 IsRwFault kind old new w s o why = why ≡ fault.Memory
 
 -- and it may come in place of what is due, whatever the bytes are

@@ -34,6 +34,7 @@ use Rattle.wtf_meta.specs.Calls.{Caller, Did, TellFacts, cap_for}
 use Rattle.wtf_region.specs.declared.dev.Dev.{Dev}
 use Rattle.wtf_region.specs.Devs.{stores, between}
 use Rattle.wtf_region.specs.Inside.{IsOnServers}
+use Rattle.wtf_rw.specs.Steps.{IsRefusal}
 
 -- the pieces are one, that is the slice
 pub record IsPieceOf (s : Slice) (ps : List Piece) : Type 0 where
@@ -78,10 +79,12 @@ pub record BringsSlice (s : Option Slice) (bytes : List ℕ) (did : Did) : Type 
   pub named : (P : List Place → Bool) → SliceBytes P s → PiecesBytes P did.stored
   pub told : (told : Told) → TellSlice told s bytes → TellFacts told did.facts
 
--- on each map that agrees with b on the keys, and that these changes fit, the answer is that of the definitions' call
+-- On each map that agrees with b on the keys, and that these changes fit, the answer is that of the definitions' call; a
+-- refusal needs no changes to fit.
 pub record Answers (x : Caller) (b : Map) (s : SessionView) (keys : List Key) (o : Op (List ℕ)) (a : Answer) : Type 0 where
   pub edits : Edits
   pub fits : AllFit edits b
+  pub refused : IsRefusal a → edits ≡ []
   pub due : (told : Told) (w : Map) (S : Session) → Agree keys b w → AllFit edits w → Stands x.size told x.tx x.calls w S.tree → Holds told w s S
       → (call (cap_for x) S o).answer ≡ a
 

@@ -1,6 +1,6 @@
 //! The call that adds bytes at a file's end.
 
-ghost use Rattle.std.specs.Prelude.{◌≡◌, ◌<◌, ◌≤◌, ◌*◌, ◌++◌, [], ℕ, List, length, Some, None, IfOk, IfErr, IfSome, OnOk, IsTrue, IsSome};
+ghost use Rattle.std.specs.Prelude.{◌≡◌, ◌⊎◌, ◌<◌, ◌≤◌, ◌*◌, ◌++◌, [], ℕ, List, length, Some, None, IfOk, IfErr, IfSome, OnOk, IsTrue, IsSome};
 ghost use Rattle.wtf_kv.specs.Stores.{is_pinned};
 ghost use Rattle.wtf_occ.specs.Attempts.{Grows};
 ghost use Rattle.wtf_model.specs.declared.limits.TheConstants.{MAX_HANDLES, MAX_REGIONS, MAX_WRITTEN};
@@ -125,6 +125,9 @@ pub(crate) fn append_fresh<S: SliceStore>(
         dev.old.settings.region (file_of h.inode (seen kv.now at.old)))) bytes.now d.own) }
     ensures closed { IfOk result
         (λ d. handle_in s.now f ≡ None → (dev.new ≡ dev.old) × (d.own ≡ None)) }
+    ensures lacks { IfOk result (λ d. d.own ≡ None →
+        (length bytes.now ≡ 0) ⊎ IsRefusal d.answer) }
+    ensures done { IfOk result (λ d. IsSome d.own → d.answer ≡ Answer.Okay) }
     ensures logged { IfOk result (λ d. IsLogged d.answer) }
     ensures refused { IfOk result (λ d. IsRefusal d.answer →
         (dev.new ≡ dev.old) × (d.own ≡ None) × (at.new.changes ≡ at.old.changes)) }

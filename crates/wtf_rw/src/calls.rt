@@ -1,14 +1,16 @@
 //! Any of the calls.
 
-ghost use Rattle.std.specs.Prelude.{◌≡◌, ◌++◌, [], IfOk, IfErr, OnOk, OnErr, IsTrue, None};
+ghost use Rattle.std.specs.Prelude.{◌≡◌, ◌++◌, [], IfOk, IfErr, OnOk, OnErr, IsTrue, IsSome, None};
+ghost use Rattle.wtf_model.specs.declared.answer.Answer.TheVariants as answer;
 ghost use Rattle.wtf_kv.specs.Stores.{is_pinned};
 ghost use Rattle.wtf_occ.specs.Attempts.{Grows};
 ghost use Rattle.wtf_model.specs.Steps.{IsLogged};
 ghost use Rattle.wtf_meta.specs.Maps.{seen};
 ghost use Rattle.wtf_meta.specs.Sessions.{SessionBytes};
-ghost use Rattle.wtf_region.specs.Devs.{IsSoundDev, GoesOn, stores};
+ghost use Rattle.wtf_region.specs.Devs.{IsSoundDev, GoesOn, stores, between};
+ghost use Rattle.wtf_region.specs.Showing.{OnlyRead};
 ghost use Rattle.wtf_region.specs.Inside.{is_inside, IsStoredInside};
-ghost use Rattle.wtf_rw.specs.Ops.{IsFormRw, IsWhole, RwBytes, AreInside, IsRwStep, rw_keys, IsRwOwn, IsRwFault, MayRwFault, IsBare, IsBareAnswer};
+ghost use Rattle.wtf_rw.specs.Ops.{IsFormRw, IsWhole, RwBytes, AreInside, IsRwStep, rw_keys, IsRwOwn, LacksOwn, StoresNone, IsRwFault, MayRwFault, IsBare, IsBareAnswer};
 ghost use Rattle.wtf_rw.specs.Steps.{in_hand, IsRefusal};
 
 use crate::appends::{append_fresh, append_stored};
@@ -51,6 +53,8 @@ fn run<S: SliceStore>(
         op.now d.own d.answer) }
     ensures own { IfOk result (λ d.
         IsRwOwn S.kind dev.old dev.new (seen kv.now at.old) s.old op.now d.own) }
+    ensures lacks { IfOk result (λ d. LacksOwn op.now d.own d.answer) }
+    ensures done { IfOk result (λ d. IsSome d.own → d.answer ≡ answer.Okay) }
     ensures logged { IfOk result (λ d. IsLogged d.answer) }
     ensures refused { IfOk result (λ d. IsRefusal d.answer → (dev.new ≡ dev.old) ×
         (d.own ≡ None) × (at.new.changes ≡ at.old.changes) × (s.new ≡ s.old)) }
@@ -64,6 +68,7 @@ fn run<S: SliceStore>(
         (MayRwFault dev.old.settings (seen kv.now at.old) s.old op.now) }
     ensures err { OnErr result (s.new ≡ s.old) }
     ensures grows { Grows at.old at.new }
+    ensures reads { StoresNone op.now → OnlyRead S.kind (between dev.old dev.new) }
     ensures dev { GoesOn S.kind dev.old dev.new [] }
 {
     let settings = dev.settings;
@@ -150,6 +155,8 @@ pub fn call<S: SliceStore>(
         op.now d.own d.answer) }
     ensures own { IfOk result (λ d.
         IsRwOwn S.kind dev.old dev.new (seen kv.now at.old) s.old op.now d.own) }
+    ensures lacks { IfOk result (λ d. LacksOwn op.now d.own d.answer) }
+    ensures done { IfOk result (λ d. IsSome d.own → d.answer ≡ answer.Okay) }
     ensures logged { IfOk result (λ d. IsLogged d.answer) }
     ensures refused { IfOk result (λ d. IsRefusal d.answer → (dev.new ≡ dev.old) ×
         (d.own ≡ None) × (at.new.changes ≡ at.old.changes) × (s.new ≡ s.old)) }
@@ -167,6 +174,7 @@ pub fn call<S: SliceStore>(
         (MayRwFault dev.old.settings (seen kv.now at.old) s.old op.now) }
     ensures err { OnErr result ((at.new ≡ at.old) × (s.new ≡ s.old)) }
     ensures grows { Grows at.old at.new }
+    ensures reads { StoresNone op.now → OnlyRead S.kind (between dev.old dev.new) }
     ensures dev { GoesOn S.kind dev.old dev.new [] }
 {
     let mark = at.mark();

@@ -24,15 +24,15 @@ use wtf_values::{Delta, Key, Node, Value};
 
 /// The file of an open handle, and where it stands.
 #[derive(Clone, Copy, Debug)]
-pub(crate) struct Spot {
+pub struct Spot {
     /// The file.
-    pub(crate) inode: InodeId,
+    pub inode: InodeId,
     /// The offset, in bytes.
-    pub(crate) off: u64,
+    pub off: u64,
 }
 
 /// Where a handle stands, if it is open.
-pub(crate) fn handle_of(s: &Session, f: u8) -> Option<Spot>
+pub fn handle_of(s: &Session, f: u8) -> Option<Spot>
     requires { f < MAX_HANDLES }
     ensures { result ≡ option_map spot_of (handle_in s.now f) }
 {

@@ -13,6 +13,7 @@ mod sizes;
 mod writes;
 
 pub use calls::call;
+pub use handles::{Spot, handle_of};
 pub use op::{Done, Given, RwOp};
 
 #[cfg(test)]

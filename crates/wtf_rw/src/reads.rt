@@ -9,8 +9,9 @@ ghost use Rattle.wtf_meta.specs.declared.session.Handle as handle;
 ghost use Rattle.wtf_meta.specs.Maps.{seen};
 ghost use Rattle.wtf_meta.specs.Sessions.{handle_in};
 ghost use Rattle.wtf_meta.specs.Calls.{Caller};
-ghost use Rattle.wtf_region.specs.Devs.{IsSoundDev, GoesOn, stores};
+ghost use Rattle.wtf_region.specs.Devs.{IsSoundDev, GoesOn, stores, between};
 ghost use Rattle.wtf_region.specs.Inside.{IsStoredInside};
+ghost use Rattle.wtf_region.specs.Showing.{OnlyRead};
 ghost use Rattle.wtf_rw.specs.Recorded.{read_keys, found, found_in};
 ghost use Rattle.wtf_rw.specs.Reads.{TellsRead, LacksBytes, read_origin};
 ghost use Rattle.wtf_rw.specs.Faults.{MayFault};
@@ -71,14 +72,15 @@ pub(crate) fn read<S: SliceStore>(
     ensures logged { IfOk result (λ a. IsLogged a) }
     ensures refused { IfOk result (λ a. IsRefusal a →
         (dev.new ≡ dev.old) × (at.new.changes ≡ at.old.changes) × (s.new ≡ s.old)) }
-    ensures fault { IfErr result (λ why. (h : handle.Handle) → handle_in s.old f ≡ Some h →
-        (why ≡ Fault.Memory) ⊎ LacksBytes S.kind dev.old dev.new
+    ensures fault { IfErr result (λ why. (why ≡ Fault.Memory) ⊎ ((h : handle.Handle) ×
+        (handle_in s.old f ≡ Some h) × LacksBytes S.kind dev.old dev.new
         (found_in dev.old.settings.region (seen kv.now at.old) h n)
-        (read_origin dev.old.settings.region (seen kv.now at.old) h) why) }
+        (read_origin dev.old.settings.region (seen kv.now at.old) h) why)) }
     ensures due { IfErr result
         (MayFault dev.old.settings (seen kv.now at.old) s.old (Op.Read f n)) }
     ensures err { OnErr result (s.new ≡ s.old) }
     ensures grows { Grows at.old at.new }
+    ensures reads { OnlyRead S.kind (between dev.old dev.new) }
     ensures dev { GoesOn S.kind dev.old dev.new [] }
 {
     let Some(spot) = handle_of(s, f) else {

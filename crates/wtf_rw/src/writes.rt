@@ -1,6 +1,6 @@
 //! The call that writes bytes at a handle's offset.
 
-ghost use Rattle.std.specs.Prelude.{◌≡◌, ◌<◌, ◌≤◌, ◌+◌, ◌*◌, ◌∷◌, [], ℕ, List, length, true, false, Some, None, IfOk, IfErr, OnOk, OnErr, IsSome};
+ghost use Rattle.std.specs.Prelude.{◌≡◌, ◌⊎◌, ◌<◌, ◌≤◌, ◌+◌, ◌*◌, ◌∷◌, [], ℕ, List, length, true, false, Some, None, IfOk, IfErr, OnOk, OnErr, IsSome};
 ghost use Rattle.std.specs.Option.{option_map};
 ghost use Rattle.wtf_base.specs.Slices.{len_of};
 ghost use Rattle.wtf_occ.specs.Attempts.{Grows};
@@ -99,6 +99,9 @@ pub(crate) fn write_fresh<S: SliceStore>(
         IsOwn S.kind dev.old dev.new (place_in dev.old h.inode h.off) bytes.now d.own) }
     ensures closed { IfOk result
         (λ d. handle_in s.old f ≡ None → (dev.new ≡ dev.old) × (d.own ≡ None)) }
+    ensures lacks { IfOk result (λ d. d.own ≡ None →
+        (length bytes.now ≡ 0) ⊎ IsRefusal d.answer) }
+    ensures done { IfOk result (λ d. IsSome d.own → d.answer ≡ Answer.Okay) }
     ensures logged { IfOk result (λ d. IsLogged d.answer) }
     ensures refused { IfOk result (λ d. IsRefusal d.answer → (dev.new ≡ dev.old) ×
         (d.own ≡ None) × (at.new.changes ≡ at.old.changes) × (s.new ≡ s.old)) }

@@ -63,7 +63,7 @@ show-requires-clause-readable g c =
     (readable_from kind (is_down_in mid) (stores dev) dev.settings ps c.requires.sound.shelf inside k d below))
 
 pub returns-in-Err-show-clause-fault : goal.returns-in-Err-show-clause-fault
-returns-in-Err-show-clause-fault g c h e =
+returns-in-Err-show-clause-fault g c =
     let kind = g.S.SliceStore.kind in
     let dev = c.args.dev.now in
     let mid = c.pieces.new.dev in
@@ -74,12 +74,11 @@ returns-in-Err-show-clause-fault g c h e =
     let k = c.count-k.result in
     let same : seen c.args.kv.now c.file_len.new.at ≡ b = still_seen c.args.kv.now i (length_keys (file_of i b)) c.args.at.now c.file_len.new.at c.in-Ok.ensures.recorded in
     let open_at = spot_open c.handle_of.result (handle_in c.args.s.now c.args.f) c.in-Some.spot c.handle_of.ensures c.in-Some.is in
-    let both : Some open_at.handle ≡ Some h = sym open_at.is ∙ e in
-    let one : open_at.handle ≡ h = cc in
-    let inode : i ≡ h.inode = open_at.inode ∙ ap (λ (q : Handle). q.inode) one in
-    let off : c.in-Some.spot.off ≡ h.off = open_at.off ∙ ap (λ (q : Handle). q.off) one in
+    let h = open_at.handle in
+    let inode : i ≡ h.inode = open_at.inode in
+    let off : c.in-Some.spot.off ≡ h.off = open_at.off in
     let count : k ≡ found_in z b h c.args.n = found_due c.cap.result z c.in-Ok.len c.in-Some.spot.off c.args.n k i b h c.count-k.ensures c.cap.ensures c.in-Ok.ensures.value inode off in
-    inr (record {
+    inr (h, open_at.is, record {
       mid = mid;
       goes = c.in-Ok-pieces.ensures.dev;
       pieces = ps;
