@@ -1,0 +1,113 @@
+-- Each way through a copy of a file, on all maps at once.
+use Rattle.std.proofs.Common.{◌≡◌, ℕ, ◌≤◌, List, [], ◌++◌, Ok, Err, refl, sym, ap, ◌∙◌, subst}
+use Rattle.wtf_base.specs.declared.ids.InodeId.{InodeId}
+use Rattle.wtf_kv.proofs.EditLaws.{Agree-parts, Fits-append}
+use Rattle.wtf_occ.specs.Attempts.{Attempted, GrowsBy}
+use Rattle.wtf_occ.proofs.AttemptLaws.{GrowsBy-append}
+use Rattle.wtf_path.specs.Grammar.{IsPath}
+use Rattle.wtf_model.specs.declared.answer.Word.{Word}
+use Rattle.wtf_model.specs.declared.answer.Answer.{Answer}
+use Rattle.wtf_model.specs.declared.answer.Answer.TheVariants as answer
+use Rattle.wtf_model.specs.declared.op.Op.{Op}
+use Rattle.wtf_model.specs.declared.op.Op.TheVariants as op
+use Rattle.wtf_model.specs.Tree.{target, bytes_of}
+use Rattle.wtf_model.specs.Done.{Done, put_bytes}
+use Rattle.wtf_model.specs.Call.{call}
+use Rattle.wtf_values.specs.declared.key.Key.{Key}
+use Rattle.wtf_values.specs.declared.value.Delta.{Delta}
+use Rattle.wtf_values.specs.Keys.{key_cmp}
+use Rattle.wtf_values.specs.Outcomes.{outcome_of}
+use Rattle.wtf_meta.specs.Maps.{Map, Edits, with}
+use Rattle.wtf_meta.specs.Contents.{is_told}
+use Rattle.wtf_meta.specs.Files.{FileView}
+use Rattle.wtf_meta.specs.FileEdits.{file_of}
+use Rattle.wtf_meta.specs.NameEdits.{create_edits}
+use Rattle.wtf_meta.specs.Sessions.{SessionView}
+use Rattle.wtf_meta.specs.Calls.{Caller, cap_for, Did, InHand, IsDone, IsCall}
+use Rattle.wtf_meta.proofs.KeyPuts.{with-append}
+use Rattle.wtf_meta.proofs.MapBytes.{with_bytes}
+use Rattle.wtf_meta.proofs.Named.{EditsBytes-append}
+use Rattle.wtf_meta.proofs.Standing.{leads-file}
+use Rattle.wtf_meta.proofs.Touching.{agree_file}
+use Rattle.wtf_index.specs.Checks.{source_of, target_of}
+use Rattle.wtf_index.specs.Recorded.{source_keys, target_keys, keys_if}
+use Rattle.wtf_index.proofs.Going.{keys_then, keys_more}
+use Rattle.wtf_index.proofs.Checked.{source-refused, source-leads, source-agrees, target-refused, target-free, target-agrees}
+use Rattle.wtf_index.proofs.Ways.{create-made}
+use Rattle.wtf_rw.specs.Steps.{IsStepWith, NeedsNoBytes}
+use Rattle.wtf_rw.proofs.Ways.{only_keys, stays}
+use Rattle.wtf_slicing.specs.Copies.{regions_of, fill_edits}
+use Rattle.wtf_slicing.specs.Recorded.{whole_keys, file_keys, copied_keys, copy_keys}
+use Rattle.wtf_slicing.specs.Steps.{IsNewFor}
+use Rattle.wtf_slicing.proofs.ModelCalls.{copy-by}
+use Rattle.wtf_slicing.proofs.FileLists.{whole_last, whole_region}
+use Rattle.wtf_slicing.proofs.Regions.{fill_fits, fill_named, fill_changes, fill_body}
+use Rattle.wtf_slicing.proofs.MakeWays.{made, made_regions, made_bytes, filled_done}
+
+-- keys and changes of a call that reads and stores no byte
+abbrev pub makes : List Key → Edits → Did
+makes keys edits = record { keys = keys; edits = edits; facts = []; stored = [] }
+
+-- a file that is made, with all regions of another
+abbrev pub copy_edits : List ℕ → List ℕ → InodeId → FileView → Edits
+copy_edits dir q new v = create_edits dir q new ++ fill_edits new v.last (regions_of v)
+
+-- keys, three times, and then changes twice
+pub went_all : (a b c d e f : Attempted Key Delta) (ks ls ms : List Key) (es fs : Edits) → GrowsBy a b ks [] → GrowsBy b c ls [] → GrowsBy c d ms [] → GrowsBy d e [] es → GrowsBy e f [] fs
+    → GrowsBy a f (ks ++ (ls ++ ms)) (es ++ fs)
+went_all a b c d e f ks ls ms es fs first second third fourth fifth =
+    keys_then a d f (ks ++ (ls ++ ms)) (es ++ fs) (keys_more a b d ks (ls ++ ms) first (keys_more b c d ls ms second third)) (GrowsBy-append d e f [] [] es fs fourth fifth)
+
+-- the keys of a copy that is made
+pub copy_keys_are : (b : Map) (p q dir : List ℕ) (i : InodeId) → source_of b p ≡ Ok i → target_of b q ≡ Ok dir → copy_keys b p q ≡ source_keys p ++ (target_keys b q ++ file_keys b i)
+copy_keys_are b p q dir i e f =
+    ap (λ r. source_keys p ++ keys_if r (target_keys b q ++ keys_if (target_of b q) (copied_keys b r))) e ∙ ap (λ r. source_keys p ++ (target_keys b q ++ keys_if r (file_keys b i))) f
+
+-- the step of a call that makes a file
+pub step_made : (x : Caller) (b : Map) (old new : InHand) (keys : List Key) (edits : Edits) (o : Op (List ℕ)) (a : Answer) → GrowsBy old.at new.at keys edits → IsCall x b old.session new.session (makes keys edits) o a
+    → IsStepWith NeedsNoBytes x b old new o a
+step_made x b old new keys edits o a grows is = record { did = makes keys edits; grows = grows; is_call = is; more = record { facts = refl; stored = refl } }
+
+module _ (x : Caller) (b : Map) (s : SessionView) (p q : List ℕ) where
+  pub copies_nothing : (word : Word) → source_of b p ≡ Err word → IsCall x b s s (only_keys (source_keys p)) (op.Copy p q) (answer.Refused word)
+  copies_nothing word e = stays x b s (source_keys p) (op.Copy p q) (answer.Refused word) (λ told w S agree st holds.
+      copy-by (cap_for x) S p q (Err word) (target S.tree q) (source-refused x.size told x.tx x.calls w S.tree st p word (source-agrees b w p agree ∙ e)) refl)
+
+  pub copies_nowhere : (i : InodeId) (word : Word) → source_of b p ≡ Ok i → target_of b q ≡ Err word → IsCall x b s s (only_keys (source_keys p ++ target_keys b q)) (op.Copy p q) (answer.Refused word)
+  copies_nowhere i word e f = stays x b s (source_keys p ++ target_keys b q) (op.Copy p q) (answer.Refused word) (λ told w S agree st holds.
+      let parts = Agree-parts (source_keys p) (target_keys b q) b w agree in
+      let file = leads-file x.size told x.tx x.calls w S.tree st p i (source-leads w p i (source-agrees b w p parts.0 ∙ e)) in
+      copy-by (cap_for x) S p q (Ok file.bytes) (Err word) (ap bytes_of file.there) (target-refused x.size told x.tx x.calls w S.tree st q word (target-agrees b w q parts.1 ∙ f)))
+
+  pub copies : (dir : List ℕ) (i new : InodeId) → IsNewFor x new → IsPath q → source_of b p ≡ Ok i → target_of b q ≡ Ok dir
+      → IsCall x b s s (makes (source_keys p ++ (target_keys b q ++ file_keys b i)) (copy_edits dir q new (file_of i b))) (op.Copy p q) answer.Okay
+  copies dir i new own path e f =
+      let v : FileView = file_of i b in
+      let edits : Edits = create_edits dir q new in
+      let rest : Edits = fill_edits new v.last (regions_of v) in
+      record {
+        fits = Fits-append key_cmp outcome_of edits rest b (create-made x b q dir new own.tx own.index path f s tt).fits (fill_fits new v.last (regions_of v) (with edits b));
+        names = λ P hole map old stored. record {
+          edits = EditsBytes-append P edits rest (tt, (tt, (tt, tt))) (fill_named P new i v b map (λ r below. refl));
+          facts = tt;
+          slices = old;
+        };
+        acts = λ told w S agree fits facts st holds.
+            let parts = Agree-parts (source_keys p) (target_keys b q ++ file_keys b i) b w agree in
+            let more = Agree-parts (target_keys b q) (file_keys b i) b w parts.1 in
+            let there : source_of w p ≡ Ok i = source-agrees b w p parts.0 ∙ e in
+            let open_q : target_of w q ≡ Ok dir = target-agrees b w q more.0 ∙ f in
+            let file = leads-file x.size told x.tx x.calls w S.tree st p i (source-leads w p i there) in
+            let same = agree_file i (whole_keys v) b w more.1 in
+            let last = whole_last v (file_of i w) same in
+            let region : (r : ℕ) → r ≤ v.last → v.region r ≡ (file_of i w).region r = λ r below. whole_region v (file_of i w) r same below in
+            let one : Map = made x told w s S st holds q dir new own path open_q in
+            let full : Map = with rest one in
+            let body = fill_body x.size told new i v one w file.bytes (made_regions x told w s S st holds q dir new own path open_q) last region file.body in
+            let told_bytes = with_bytes (is_told told) refl rest one (made_bytes x told w s S st holds q dir new own path open_q) (fill_named (is_told told) new i v w st.bytes region) in
+            let done = filled_done x told w s S st holds q dir new own path open_q full file.bytes (fill_changes new v.last (regions_of v) one) body told_bytes in
+            let due : call (cap_for x) S (op.Copy p q) ≡ record { session = put_bytes S q file.bytes; answer = answer.Okay } =
+            copy-by (cap_for x) S p q (Ok file.bytes) (Ok tt) (ap bytes_of file.there) (target-free x.size told x.tx x.calls w S.tree st q dir open_q) in
+            subst (λ (m : Map). IsDone x told w m s (call (cap_for x) S (op.Copy p q)) answer.Okay) (sym (with-append edits rest w))
+            (subst (λ (d : Done). IsDone x told w full s d answer.Okay) (sym due) done);
+      }

@@ -1,0 +1,15 @@
+mod ModelCalls
+mod Slices
+mod SliceWays
+mod PeekWays
+mod LayWays
+mod Filling
+mod FileLists
+mod Loops
+mod Regions
+mod MakeWays
+mod CopyWays
+mod ConcatWays
+mod NameBytes
+mod Dispatch
+pub mod InsideSlices

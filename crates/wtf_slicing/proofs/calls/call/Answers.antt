@@ -1,0 +1,20 @@
+use Rattle.std.proofs.Common.{ap}
+use Rattle.wtf_occ.specs.Attempts.{Attempted}
+use Rattle.wtf_values.specs.declared.key.Key.{Key}
+use Rattle.wtf_values.specs.declared.value.Delta.{Delta}
+use Rattle.wtf_meta.specs.Maps.{seen}
+use Rattle.wtf_rw.proofs.InsideWays.{stays_inside}
+use Rattle.wtf_slicing.proofs.InsideSlices.{keeps_inside}
+use Rattle.wtf_slicing.proofs.calls.call.Goals as goal
+
+pub returns-in-Ok-clause-inside : goal.returns-in-Ok-clause-inside
+returns-in-Ok-clause-inside g c counted =
+    keeps_inside g.met.S.SliceStore.laws c.args.dev.now c.run.new.dev c.args.kv.now c.args.at.now c.run.new.at c.args.s.now c.run.new.s c.args.new c.args.op.now c.in-Ok.answer
+    c.requires.sound.shelf c.in-Ok.ensures.dev.each c.in-Ok.ensures.step counted c.requires.inside
+
+pub returns-in-Err-clause-inside : goal.returns-in-Err-clause-inside
+returns-in-Err-clause-inside g c counted =
+    let kv = c.args.kv.now in
+    let back = c.rewind.ensures.back c.args.at.now c.in-Err.ensures.grows c.mark-mark.ensures in
+    stays_inside g.met.S.SliceStore.laws c.args.dev.now c.run.new.dev (seen kv c.args.at.now) (seen kv c.rewind.new.self) c.args.s.now c.run.new.s c.requires.sound.shelf c.in-Err.ensures.dev.each
+    (ap (λ (at : Attempted Key Delta). seen kv at) back) c.in-Err.ensures.err c.requires.inside

@@ -1,0 +1,69 @@
+use Rattle.std.proofs.Common.{refl}
+use Rattle.wtf_meta.specs.Maps.{seen}
+use Rattle.wtf_region.specs.Devs.{stores}
+use Rattle.wtf_rw.specs.Steps.{in_hand}
+use Rattle.wtf_slicing.specs.declared.op.SliceOp.TheVariants.{Yank, Peek, Cut, Paste, Glue, Concat, Copy}
+use Rattle.wtf_slicing.proofs.Dispatch.{as_named, fault_as}
+use Rattle.wtf_slicing.proofs.calls.run.Goals as goal
+
+pub returns-in-Ok-clause-step : goal.returns-in-Ok-clause-step
+returns-in-Ok-clause-step g c =
+    let dev = c.args.dev.now in
+    let old = in_hand c.args.at.now c.args.s.now in
+    as_named (record { kind = g.S.SliceStore.kind; before = stores dev; after = stores c.yank.new.dev; map = seen c.args.kv.now c.args.at.now }) dev.settings.region c.args.new old (in_hand c.yank.new.at c.yank.new.s)
+    c.args.op.now (Yank c.in-Yank.f c.in-Yank.n c.in-Yank.label) c.in-Ok.answer c.in-Yank.is (λ x size own. c.in-Ok.ensures.step x size)
+
+pub returns-in-Ok-peek-clause-step : goal.returns-in-Ok-peek-clause-step
+returns-in-Ok-peek-clause-step g c =
+    let dev = c.args.dev.now in
+    let b = seen c.args.kv.now c.args.at.now in
+    let old = in_hand c.args.at.now c.args.s.now in
+    as_named (record { kind = g.S.SliceStore.kind; before = stores dev; after = stores c.peek.new.dev; map = b }) dev.settings.region c.args.new old old
+    c.args.op.now (Peek c.in-Peek.from c.in-Peek.off c.in-Peek.len) c.in-Ok-peek.answer c.in-Peek.is (λ x size own. c.in-Ok-peek.ensures.step x b old refl)
+
+pub returns-in-Err-peek-clause-due : goal.returns-in-Err-peek-clause-due
+returns-in-Err-peek-clause-due g c =
+    let b = seen c.args.kv.now c.args.at.now in
+    fault_as c.args.dev.now.settings b c.args.s.now c.args.op.now (Peek c.in-Peek.from c.in-Peek.off c.in-Peek.len) c.in-Err-peek.why c.in-Peek.is (c.in-Err-peek.ensures.due b)
+
+pub returns-in-Ok-cut-clause-step : goal.returns-in-Ok-cut-clause-step
+returns-in-Ok-cut-clause-step g c =
+    let dev = c.args.dev.now in
+    let b = seen c.args.kv.now c.args.at.now in
+    let old = in_hand c.args.at.now c.args.s.now in
+    as_named (record { kind = g.S.SliceStore.kind; before = stores dev; after = stores dev; map = b }) dev.settings.region c.args.new old (in_hand c.args.at.now c.cut.new.s)
+    c.args.op.now (Cut c.in-Cut.from c.in-Cut.off c.in-Cut.len c.in-Cut.to) c.in-Ok-cut.answer c.in-Cut.is (λ x size own. c.in-Ok-cut.ensures.step x b old refl)
+
+pub returns-in-Ok-paste-clause-step : goal.returns-in-Ok-paste-clause-step
+returns-in-Ok-paste-clause-step g c =
+    let dev = c.args.dev.now in
+    let b = seen c.args.kv.now c.args.at.now in
+    let old = in_hand c.args.at.now c.args.s.now in
+    as_named (record { kind = g.S.SliceStore.kind; before = stores dev; after = stores dev; map = b }) dev.settings.region c.args.new old (in_hand c.paste.new.at c.paste.new.s)
+    c.args.op.now (Paste c.in-Paste.f c.in-Paste.label) c.in-Ok-paste.answer c.in-Paste.is (λ x size own. c.in-Ok-paste.ensures.step x b size)
+
+pub returns-in-Ok-glue-clause-step : goal.returns-in-Ok-glue-clause-step
+returns-in-Ok-glue-clause-step g c =
+    let dev = c.args.dev.now in
+    let b = seen c.args.kv.now c.args.at.now in
+    let old = in_hand c.args.at.now c.args.s.now in
+    as_named (record { kind = g.S.SliceStore.kind; before = stores dev; after = stores dev; map = b }) dev.settings.region c.args.new old (in_hand c.glue.new.at c.args.s.now)
+    c.args.op.now (Glue c.in-Glue.f c.in-Glue.label) c.in-Ok-glue.answer c.in-Glue.is (λ x size own. c.in-Ok-glue.ensures.step x size)
+
+pub returns-in-Ok-concat-clause-step : goal.returns-in-Ok-concat-clause-step
+returns-in-Ok-concat-clause-step g c =
+    let dev = c.args.dev.now in
+    let b = seen c.args.kv.now c.args.at.now in
+    let s = c.args.s.now in
+    let old = in_hand c.args.at.now s in
+    as_named (record { kind = g.S.SliceStore.kind; before = stores dev; after = stores c.concat.new.dev; map = b }) dev.settings.region c.args.new old (in_hand c.concat.new.at s)
+    c.args.op.now (Concat c.in-Concat.q c.in-Concat.paths) c.in-Ok-concat.answer c.in-Concat.is (λ x size own. c.in-Ok-concat.ensures.step x s size own)
+
+pub returns-in-Ok-copy-clause-step : goal.returns-in-Ok-copy-clause-step
+returns-in-Ok-copy-clause-step g c =
+    let dev = c.args.dev.now in
+    let b = seen c.args.kv.now c.args.at.now in
+    let s = c.args.s.now in
+    let old = in_hand c.args.at.now s in
+    as_named (record { kind = g.S.SliceStore.kind; before = stores dev; after = stores dev; map = b }) dev.settings.region c.args.new old (in_hand c.copy.new.at s)
+    c.args.op.now (Copy c.in-Copy.p c.in-Copy.q) c.in-Ok-copy.answer c.in-Copy.is (λ x size own. c.in-Ok-copy.ensures.step x s own)

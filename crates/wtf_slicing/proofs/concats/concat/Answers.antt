@@ -1,0 +1,199 @@
+use Rattle.std.proofs.Common.{◌≡◌, ◌+◌, ◌*◌, ◌<◌, ◌≤◌, ℕ, List, [], ◌++◌, Ok, Err, sym, ap, ◌∙◌, subst, arith}
+use Rattle.wtf_base.specs.declared.ids.InodeId.{InodeId}
+use Rattle.wtf_occ.specs.Attempts.{Attempted, GrowsBy}
+use Rattle.wtf_overlay.specs.Origin.{pieces_len}
+use Rattle.wtf_overlay.specs.declared.part.Piece.{Piece}
+use Rattle.wtf_model.specs.declared.answer.Answer.TheVariants as answer
+use Rattle.wtf_model.specs.declared.answer.Word.TheVariants.{TooBig}
+use Rattle.wtf_model.specs.declared.limits.TheConstants.{MAX_REGIONS}
+use Rattle.wtf_model.specs.declared.op.Op.TheVariants as op
+use Rattle.wtf_values.specs.declared.key.Key.{Key}
+use Rattle.wtf_values.specs.declared.value.Delta.{Delta}
+use Rattle.wtf_meta.specs.Maps.{Map, seen}
+use Rattle.wtf_meta.specs.FileEdits.{edits_of}
+use Rattle.wtf_meta.specs.NameEdits.{create_edits}
+use Rattle.wtf_index.specs.Checks.{target_of}
+use Rattle.wtf_index.specs.Recorded.{target_keys}
+use Rattle.wtf_index.proofs.Going.{keys_more, seen-same}
+use Rattle.wtf_region.specs.Edited.{Edited, LaysPieces}
+use Rattle.wtf_rw.specs.Steps.{in_hand}
+use Rattle.wtf_rw.proofs.Ways.{step_of}
+use Rattle.wtf_slicing.specs.Recorded.{sources_keys, files_keys}
+use Rattle.wtf_slicing.specs.Sources.{sources_of, lens_of, ArePlans}
+use Rattle.wtf_slicing.proofs.CopyWays.{went_all, step_made}
+use Rattle.wtf_slicing.proofs.ConcatWays.{grown, all_keys, concat_keys_are, not_more, too_many, concats_nowhere, concats_nothing, concats_too_much, concats}
+use Rattle.wtf_slicing.proofs.FileLists.{plans_len}
+use Rattle.wtf_slicing.proofs.concats.concat.Goals as goal
+
+pub returns-in-Ok-Err-clause-step : goal.returns-in-Ok-Err-clause-step
+returns-in-Ok-Err-clause-step g c x s size own =
+    let q : List ℕ = c.args.q.now in
+    let ps : List (List ℕ) = c.args.paths.now in
+    let b : Map = seen c.args.kv.now c.args.at.now in
+    let e : target_of b q ≡ Err c.in-Ok-Err.word = sym c.in-Ok-Err.ensures.value ∙ c.in-Ok-Err.field-0-is in
+    step_of x b (in_hand c.args.at.now s) (in_hand c.target.new.at s) (target_keys b q) (op.Concat q ps) (answer.Refused c.in-Ok-Err.word) c.in-Ok-Err.ensures.went
+    (concats_nowhere x b s q ps c.in-Ok-Err.word e)
+
+pub returns-in-Ok-Err-sources-clause-step : goal.returns-in-Ok-Err-sources-clause-step
+returns-in-Ok-Err-sources-clause-step g c x s size own =
+    let kv = c.args.kv.now in
+    let at = c.args.at.now in
+    let mid = c.target.new.at in
+    let new = c.sources.new.at in
+    let q : List ℕ = c.args.q.now in
+    let ps : List (List ℕ) = c.args.paths.now in
+    let word = c.in-Ok-Err-sources.word in
+    let b : Map = seen kv at in
+    let first : GrowsBy at mid (target_keys b q) [] = c.in-Ok-Ok.ensures.went in
+    let same : seen kv mid ≡ b = seen-same kv at mid (target_keys b q) first in
+    let e : target_of b q ≡ Ok c.in-Ok-Ok.dir = sym c.in-Ok-Ok.ensures.value ∙ c.in-Ok-Ok.field-0-is in
+    let f0 = rw c.in-Ok-Err-sources.field-0-is at c.in-Ok-Err-sources.ensures.refused in
+    let f : sources_of b ps ≡ Err word =
+    subst (λ (m : Map). sources_of m ps ≡ Err word) same (subst (λ (l : List (List ℕ)). sources_of (seen kv mid) l ≡ Err word) c.as_slice.ensures f0) in
+    let second : GrowsBy mid new (sources_keys b ps) [] =
+    subst (λ (m : Map). GrowsBy mid new (sources_keys m ps) []) same
+    (subst (λ (l : List (List ℕ)). GrowsBy mid new (sources_keys (seen kv mid) l) []) c.as_slice.ensures c.in-Ok-Err-sources.ensures.went) in
+    step_of x b (in_hand at s) (in_hand new s) (target_keys b q ++ sources_keys b ps) (op.Concat q ps) (answer.Refused word)
+    (keys_more at mid new (target_keys b q) (sources_keys b ps) first second) (concats_nothing x b s q ps c.in-Ok-Ok.dir e word f)
+
+pub returns-then-len-cap-clause-step : goal.returns-then-len-cap-clause-step
+returns-then-len-cap-clause-step g c x s size own =
+    let kv = c.args.kv.now in
+    let at = c.args.at.now in
+    let mid = c.target.new.at in
+    let far = c.sources.new.at in
+    let new = c.total_len.new.at in
+    let z = c.args.dev.now.settings.region in
+    let q : List ℕ = c.args.q.now in
+    let ps : List (List ℕ) = c.args.paths.now in
+    let is : List InodeId = c.in-Ok-Ok-sources.inodes.items in
+    let b : Map = seen kv at in
+    let first : GrowsBy at mid (target_keys b q) [] = c.in-Ok-Ok.ensures.went in
+    let same : seen kv mid ≡ b = seen-same kv at mid (target_keys b q) first in
+    let e : target_of b q ≡ Ok c.in-Ok-Ok.dir = sym c.in-Ok-Ok.ensures.value ∙ c.in-Ok-Ok.field-0-is in
+    let f0 = rw c.in-Ok-Ok-sources.field-0-is at c.in-Ok-Ok-sources.ensures.found in
+    let f : sources_of b ps ≡ Ok is =
+    subst (λ (m : Map). sources_of m ps ≡ Ok is) same (subst (λ (l : List (List ℕ)). sources_of (seen kv mid) l ≡ Ok is) c.as_slice.ensures f0) in
+    let second : GrowsBy mid far (sources_keys b ps) [] =
+    subst (λ (m : Map). GrowsBy mid far (sources_keys m ps) []) same
+    (subst (λ (l : List (List ℕ)). GrowsBy mid far (sources_keys (seen kv mid) l) []) c.as_slice.ensures c.in-Ok-Ok-sources.ensures.went) in
+    let again : seen kv far ≡ b = seen-same kv mid far (sources_keys b ps) second ∙ same in
+    let third : GrowsBy far new (files_keys b is) [] =
+    subst (λ (m : Map). GrowsBy far new (files_keys m is) []) again
+    (subst (λ (l : List InodeId). GrowsBy far new (files_keys (seen kv far) l) []) c.as_slice-2.ensures.value c.in-Ok.ensures.went) in
+    let past : MAX_REGIONS * z < lens_of z b is =
+    subst (λ (m : Map). MAX_REGIONS * z < lens_of z m is) again
+    (subst (λ (l : List InodeId). MAX_REGIONS * z < lens_of z (seen kv far) l) c.as_slice-2.ensures.value
+    (too_many c.in-Ok.len (lens_of z (seen kv far) c.as_slice-2.result.now) c.cap.result z c.in-Ok.ensures.value c.if-len-cap.true c.cap.ensures)) in
+    step_of x b (in_hand at s) (in_hand new s) (all_keys b q ps is) (op.Concat q ps) (answer.Refused TooBig)
+    (keys_more at mid new (target_keys b q) (sources_keys b ps ++ files_keys b is) first (keys_more mid far new (sources_keys b ps) (files_keys b is) second third))
+    (concats_too_much x b s q ps c.in-Ok-Ok.dir e is f (subst (λ (k : ℕ). MAX_REGIONS * k < lens_of k b is) (sym size) past))
+
+within : (n m lens cap : ℕ) → n ≡ m → m ≡ lens → lens ≤ cap → 0 + n ≤ cap
+within n m lens cap first next fit = omega (arith, first, next, fit)
+
+pub put_pieces-requires : goal.put_pieces-requires
+put_pieces-requires g c =
+    let kv = c.args.kv.now in
+    let far = c.sources.new.at in
+    let z = c.args.dev.now.settings.region in
+    let is : List InodeId = c.in-Ok-Ok-sources.inodes.items in
+    let out : List Piece = c.in-Ok-all_pieces.found.items in
+    let same : seen kv c.total_len.new.at ≡ seen kv far =
+    seen-same kv far c.total_len.new.at (files_keys (seen kv far) c.as_slice-2.result.now) c.in-Ok.ensures.went in
+    let plans : ArePlans z (seen kv far) is out =
+    subst (λ (m : Map). ArePlans z m is out) same
+    (subst (λ (l : List InodeId). ArePlans z (seen kv c.total_len.new.at) l out) c.as_slice-3.ensures.value c.in-Ok-all_pieces.ensures.plans) in
+    let fit : lens_of z (seen kv far) is ≤ MAX_REGIONS * z =
+    subst (λ (l : List InodeId). lens_of z (seen kv far) l ≤ MAX_REGIONS * z) c.as_slice-2.ensures.value
+    (not_more c.in-Ok.len (lens_of z (seen kv far) c.as_slice-2.result.now) c.cap.result z c.in-Ok.ensures.value c.if-len-cap.false c.cap.ensures (omega (arith, c.args.dev.now.settings.limits))) in
+    record { cap = within (pieces_len c.as_slice-4.result.now) (pieces_len out) (lens_of z (seen kv far) is) (MAX_REGIONS * z) (ap pieces_len c.as_slice-4.ensures.value) (plans_len z (seen kv far) is out plans) fit }
+
+pub returns-in-Ok-put_pieces-clause-keys : goal.returns-in-Ok-put_pieces-clause-keys
+returns-in-Ok-put_pieces-clause-keys g c =
+    let kv = c.args.kv.now in
+    let at = c.args.at.now in
+    let mid = c.target.new.at in
+    let far = c.sources.new.at in
+    let read = c.total_len.new.at in
+    let q : List ℕ = c.args.q.now in
+    let ps : List (List ℕ) = c.args.paths.now in
+    let is : List InodeId = c.in-Ok-Ok-sources.inodes.items in
+    let dir = c.in-Ok-Ok.dir in
+    let b : Map = seen kv at in
+    let first : GrowsBy at mid (target_keys b q) [] = c.in-Ok-Ok.ensures.went in
+    let same : seen kv mid ≡ b = seen-same kv at mid (target_keys b q) first in
+    let e : target_of b q ≡ Ok dir = sym c.in-Ok-Ok.ensures.value ∙ c.in-Ok-Ok.field-0-is in
+    let f0 = rw c.in-Ok-Ok-sources.field-0-is at c.in-Ok-Ok-sources.ensures.found in
+    let f : sources_of b ps ≡ Ok is =
+    subst (λ (m : Map). sources_of m ps ≡ Ok is) same (subst (λ (l : List (List ℕ)). sources_of (seen kv mid) l ≡ Ok is) c.as_slice.ensures f0) in
+    let second : GrowsBy mid far (sources_keys b ps) [] =
+    subst (λ (m : Map). GrowsBy mid far (sources_keys m ps) []) same
+    (subst (λ (l : List (List ℕ)). GrowsBy mid far (sources_keys (seen kv mid) l) []) c.as_slice.ensures c.in-Ok-Ok-sources.ensures.went) in
+    let again : seen kv far ≡ b = seen-same kv mid far (sources_keys b ps) second ∙ same in
+    let third : GrowsBy far read (files_keys b is) [] =
+    subst (λ (m : Map). GrowsBy far read (files_keys m is) []) again
+    (subst (λ (l : List InodeId). GrowsBy far read (files_keys (seen kv far) l) []) c.as_slice-2.ensures.value c.in-Ok.ensures.went) in
+    let made : GrowsBy read c.make_file.new.at [] (create_edits dir q c.args.new) =
+    subst (λ (a : Attempted Key Delta). GrowsBy a c.make_file.new.at [] (create_edits dir q c.args.new)) c.in-Ok-all_pieces.ensures.same c.in-Ok-make_file.ensures.went in
+    let laid = c.in-Ok-put_pieces.ensures.ok in
+    let all = went_all at mid far read c.make_file.new.at c.put_pieces.new.at (target_keys b q) (sources_keys b ps) (files_keys b is) (create_edits dir q c.args.new) (edits_of c.args.new laid.edits) first second third made laid.grows in
+    all.reads ∙ ap (λ (l : List Key). at.reads ++ l) (sym (concat_keys_are b q dir ps is e f))
+
+pub returns-in-Ok-put_pieces-clause-step : goal.returns-in-Ok-put_pieces-clause-step
+returns-in-Ok-put_pieces-clause-step g c x s size own =
+    let kv = c.args.kv.now in
+    let at = c.args.at.now in
+    let mid = c.target.new.at in
+    let far = c.sources.new.at in
+    let read = c.total_len.new.at in
+    let into = c.put_pieces.new.at in
+    let z = c.args.dev.now.settings.region in
+    let new = c.args.new in
+    let q : List ℕ = c.args.q.now in
+    let ps : List (List ℕ) = c.args.paths.now in
+    let is : List InodeId = c.in-Ok-Ok-sources.inodes.items in
+    let out : List Piece = c.in-Ok-all_pieces.found.items in
+    let dir = c.in-Ok-Ok.dir in
+    let b : Map = seen kv at in
+    let first : GrowsBy at mid (target_keys b q) [] = c.in-Ok-Ok.ensures.went in
+    let same : seen kv mid ≡ b = seen-same kv at mid (target_keys b q) first in
+    let e : target_of b q ≡ Ok dir = sym c.in-Ok-Ok.ensures.value ∙ c.in-Ok-Ok.field-0-is in
+    let f0 = rw c.in-Ok-Ok-sources.field-0-is at c.in-Ok-Ok-sources.ensures.found in
+    let f : sources_of b ps ≡ Ok is =
+    subst (λ (m : Map). sources_of m ps ≡ Ok is) same (subst (λ (l : List (List ℕ)). sources_of (seen kv mid) l ≡ Ok is) c.as_slice.ensures f0) in
+    let second : GrowsBy mid far (sources_keys b ps) [] =
+    subst (λ (m : Map). GrowsBy mid far (sources_keys m ps) []) same
+    (subst (λ (l : List (List ℕ)). GrowsBy mid far (sources_keys (seen kv mid) l) []) c.as_slice.ensures c.in-Ok-Ok-sources.ensures.went) in
+    let again : seen kv far ≡ b = seen-same kv mid far (sources_keys b ps) second ∙ same in
+    let third : GrowsBy far read (files_keys b is) [] =
+    subst (λ (m : Map). GrowsBy far read (files_keys m is) []) again
+    (subst (λ (l : List InodeId). GrowsBy far read (files_keys (seen kv far) l) []) c.as_slice-2.ensures.value c.in-Ok.ensures.went) in
+    let last : seen kv read ≡ b = seen-same kv far read (files_keys b is) third ∙ again in
+    let made : GrowsBy read c.make_file.new.at [] (create_edits dir q new) =
+    subst (λ (a : Attempted Key Delta). GrowsBy a c.make_file.new.at [] (create_edits dir q new)) c.in-Ok-all_pieces.ensures.same c.in-Ok-make_file.ensures.went in
+    let laid : Edited new [] (LaysPieces x.size 0 new out) c.make_file.new.at into =
+    subst (λ (k : ℕ). Edited new [] (LaysPieces k 0 new out) c.make_file.new.at into) (sym size)
+    (subst (λ (l : List Piece). Edited new [] (LaysPieces z 0 new l) c.make_file.new.at into) c.as_slice-4.ensures.value c.in-Ok-put_pieces.ensures.ok) in
+    let plans0 : ArePlans z b is out =
+    subst (λ (m : Map). ArePlans z m is out) last
+    (subst (λ (l : List InodeId). ArePlans z (seen kv read) l out) c.as_slice-3.ensures.value c.in-Ok-all_pieces.ensures.plans) in
+    let fit0 : lens_of z b is ≤ MAX_REGIONS * z =
+    subst (λ (m : Map). lens_of z m is ≤ MAX_REGIONS * z) again
+    (subst (λ (l : List InodeId). lens_of z (seen kv far) l ≤ MAX_REGIONS * z) c.as_slice-2.ensures.value
+    (not_more c.in-Ok.len (lens_of z (seen kv far) c.as_slice-2.result.now) c.cap.result z c.in-Ok.ensures.value c.if-len-cap.false c.cap.ensures (omega (arith, c.args.dev.now.settings.limits)))) in
+    let plans : ArePlans x.size b is out = subst (λ (k : ℕ). ArePlans k b is out) (sym size) plans0 in
+    let fit : lens_of x.size b is ≤ MAX_REGIONS * x.size = subst (λ (k : ℕ). lens_of k b is ≤ MAX_REGIONS * k) (sym size) fit0 in
+    step_made x b (in_hand at s) (in_hand into s) (all_keys b q ps is) (create_edits dir q new ++ edits_of new laid.edits) (op.Concat q ps) answer.Okay
+    (went_all at mid far read c.make_file.new.at into (target_keys b q) (sources_keys b ps) (files_keys b is) (create_edits dir q new) (edits_of new laid.edits) first second third made laid.grows)
+    (concats x b s q ps dir e is f new out laid.edits (omega (arith, size, c.args.dev.now.settings.limits)) own c.in-Ok-Ok.ensures.path fit plans laid.does)
+
+pub returns-in-Ok-put_pieces-clause-grows : goal.returns-in-Ok-put_pieces-clause-grows
+returns-in-Ok-put_pieces-clause-grows g c =
+    grown c.args.at.now c.target.new.at c.sources.new.at c.total_len.new.at c.all_pieces.new.at c.make_file.new.at c.put_pieces.new.at c.in-Ok-Ok.ensures.grows c.in-Ok-Ok-sources.ensures.grows
+    c.in-Ok.ensures.grows c.in-Ok-all_pieces.ensures.grows c.in-Ok-make_file.ensures.grows c.in-Ok-put_pieces.ensures.grows
+
+pub returns-in-Err-put_pieces-clause-grows : goal.returns-in-Err-put_pieces-clause-grows
+returns-in-Err-put_pieces-clause-grows g c =
+    grown c.args.at.now c.target.new.at c.sources.new.at c.total_len.new.at c.all_pieces.new.at c.make_file.new.at c.put_pieces.new.at c.in-Ok-Ok.ensures.grows c.in-Ok-Ok-sources.ensures.grows
+    c.in-Ok.ensures.grows c.in-Ok-all_pieces.ensures.grows c.in-Ok-make_file.ensures.grows c.in-Err-put_pieces.ensures.grows

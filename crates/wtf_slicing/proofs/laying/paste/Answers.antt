@@ -1,0 +1,92 @@
+use Rattle.std.proofs.Common.{◌≡◌, ℕ, ◌+◌, ◌-◌, ◌*◌, ◌^◌, ◌<◌, ◌≤◌, min, [], Option, Some, refl, sym, ap, ◌∙◌, subst, arith}
+use Rattle.std.specs.Option.{option_copied, option_map}
+use Rattle.wtf_base.specs.declared.ids.InodeId.{InodeId}
+use Rattle.wtf_occ.proofs.AttemptLaws.{GrowsBy-nothing}
+use Rattle.wtf_overlay.specs.Origin.{pieces_len}
+use Rattle.wtf_model.specs.declared.answer.Answer.TheVariants as answer
+use Rattle.wtf_model.specs.declared.answer.Word.TheVariants.{NoHandle, NoSlice, TooBig}
+use Rattle.wtf_model.specs.declared.limits.TheConstants.{MAX_REGIONS}
+use Rattle.wtf_model.specs.declared.op.Op.TheVariants as op
+use Rattle.wtf_meta.specs.declared.session.Handle.{Handle}
+use Rattle.wtf_meta.specs.Sessions.{handle_in, slice_in, SetsHandle, moved_to}
+use Rattle.wtf_meta.specs.Calls.{cap_for}
+use Rattle.wtf_region.specs.Edited.{Edited, LaysPieces}
+use Rattle.wtf_rw.specs.Steps.{in_hand}
+use Rattle.wtf_rw.proofs.Ways.{no_handle, step_of, spot_open, spot_closed}
+use Rattle.wtf_slicing.proofs.ModelCalls.{paste-none}
+use Rattle.wtf_slicing.proofs.LayWays.{lays, pastes_unset, pastes_nothing, pastes_too_far, pastes}
+use Rattle.wtf_slicing.proofs.laying.paste.Goals as goal
+
+pub returns-in_default-clause-step : goal.returns-in_default-clause-step
+returns-in_default-clause-step c x b size =
+    let s = c.args.s.now in
+    let f = c.args.f in
+    let o = op.Paste f c.args.label in
+    let at = in_hand c.args.at.now s in
+    step_of x b at at [] o (answer.Refused NoHandle) (GrowsBy-nothing c.args.at.now)
+    (no_handle x b s f o (spot_closed c.handle_of.result (handle_in s f) c.handle_of.ensures c.in_default.is) (λ S none. paste-none (cap_for x) S f c.args.label none))
+
+pub returns-in_default-slice-clause-step : goal.returns-in_default-slice-clause-step
+returns-in_default-slice-clause-step c x b size =
+    let s = c.args.s.now in
+    let f = c.args.f in
+    let at = in_hand c.args.at.now s in
+    let open_at = spot_open c.handle_of.result (handle_in s f) c.in-Some.spot c.handle_of.ensures c.in-Some.is in
+    step_of x b at at [] (op.Paste f c.args.label) (answer.Refused NoSlice) (GrowsBy-nothing c.args.at.now)
+    (pastes_unset x b s f c.args.label open_at.handle open_at.is (sym c.slice.ensures ∙ ap option_copied c.in_default-slice.is))
+
+pub returns-then-len-eq0-clause-step : goal.returns-then-len-eq0-clause-step
+returns-then-len-eq0-clause-step c x b size =
+    let s = c.args.s.now in
+    let f = c.args.f in
+    let at = in_hand c.args.at.now s in
+    let ps = c.in-Some-slice.pieces.now in
+    let there : slice_in s c.args.label ≡ Some ps = sym c.slice.ensures ∙ ap option_copied c.in-Some-slice.is in
+    let open_at = spot_open c.handle_of.result (handle_in s f) c.in-Some.spot c.handle_of.ensures c.in-Some.is in
+    step_of x b at at [] (op.Paste f c.args.label) answer.Okay (GrowsBy-nothing c.args.at.now)
+    (pastes_nothing x b s f c.args.label open_at.handle open_at.is ps there (omega (arith, c.bytes_of-len.ensures, c.if-len-eq0.true)))
+
+pub returns-then-not-ends_within-clause-step : goal.returns-then-not-ends_within-clause-step
+returns-then-not-ends_within-clause-step c x b size =
+    let s = c.args.s.now in
+    let f = c.args.f in
+    let at = in_hand c.args.at.now s in
+    let ps = c.in-Some-slice.pieces.now in
+    let there : slice_in s c.args.label ≡ Some ps = sym c.slice.ensures ∙ ap option_copied c.in-Some-slice.is in
+    let open_at = spot_open c.handle_of.result (handle_in s f) c.in-Some.spot c.handle_of.ensures c.in-Some.is in
+    let past = c.ends_within.ensures.past c.if-not-ends_within.true in
+    step_of x b at at [] (op.Paste f c.args.label) (answer.Refused TooBig) (GrowsBy-nothing c.args.at.now)
+    (pastes_too_far x b s f c.args.label open_at.handle open_at.is ps there (omega (arith, c.bytes_of-len.ensures, c.if-len-eq0.false))
+    (omega (arith, past, c.bytes_of-len.ensures, c.cap.ensures, size, open_at.off)))
+
+whole : (n len off cap region : ℕ) → n ≡ min len (2 ^ 64 - 1) → off + n ≤ cap → cap ≡ MAX_REGIONS * region → region < 2 ^ 32 → n ≡ len
+whole n len off cap region is fit e small = omega (arith, is, fit, e, small)
+
+pub returns-clause-step : goal.returns-clause-step
+returns-clause-step c x b size =
+    let s = c.args.s.now in
+    let t = c.move_handle.new.self in
+    let f = c.args.f in
+    let old = c.args.at.now in
+    let new = c.put_pieces.new.at in
+    let ps = c.in-Some-slice.pieces.now in
+    let spot = c.in-Some.spot in
+    let there : slice_in s c.args.label ≡ Some ps = sym c.slice.ensures ∙ ap option_copied c.in-Some-slice.is in
+    let open_at = spot_open c.handle_of.result (handle_in s f) spot c.handle_of.ensures c.in-Some.is in
+    let h = open_at.handle in
+    let fit = c.ends_within.ensures.within c.if-not-ends_within.false in
+    let len : c.bytes_of-len.result ≡ pieces_len ps = whole c.bytes_of-len.result (pieces_len ps) spot.off c.cap.result c.args.settings.region c.bytes_of-len.ensures fit c.cap.ensures (omega (arith, c.args.settings.limits)) in
+    let edited : Edited h.inode [] (LaysPieces x.size h.off h.inode ps) old new =
+    subst (λ (i : InodeId). Edited i [] (LaysPieces x.size h.off i ps) old new) open_at.inode
+    (subst (λ (k : ℕ). Edited spot.inode [] (LaysPieces x.size k spot.inode ps) old new) open_at.off
+    (subst (λ (z : ℕ). Edited spot.inode [] (LaysPieces z spot.off spot.inode ps) old new) (sym size) c.in_ok-put_pieces.ensures.ok)) in
+    let to : spot.off + c.bytes_of-len.result ≡ h.off + pieces_len ps = omega (arith, open_at.off, len) in
+    let set : SetsHandle f (Some (moved_to (h.off + pieces_len ps) h)) s t =
+    subst (λ (k : ℕ). SetsHandle f (Some (moved_to k h)) s t) to
+    (subst (λ (o : Option Handle). SetsHandle f (option_map (moved_to (spot.off + c.bytes_of-len.result)) o) s t) open_at.is c.move_handle.ensures) in
+    record {
+      did = lays [] h.inode edited.edits;
+      grows = edited.grows;
+      is_call = pastes x b s f c.args.label h open_at.is ps there t edited.edits (omega (arith, len, c.if-len-eq0.false)) (omega (arith, fit, len, c.cap.ensures, size, open_at.off)) edited.does set;
+      more = record { facts = refl; stored = refl };
+    }

@@ -1,0 +1,14 @@
+use Rattle.std.proofs.Common.{◌≤◌}
+use Rattle.wtf_dev.specs.Memory.{mem_store}
+use Rattle.wtf_meta.specs.Maps.{seen}
+use Rattle.wtf_region.specs.Devs.{IsSoundDev, stores}
+use Rattle.wtf_rw.specs.Ops.{AreInside}
+use Rattle.wtf_slicing.proofs.tests.all_come.Given as goal
+
+-- what is lent is sound, and all bytes lie inside the stores
+abbrev pub invariant-loop-step : goal.invariant-loop-step
+invariant-loop-step g l = record {
+  sound : IsSoundDev l.dev;
+  inside : AreInside mem_store (stores l.dev) l.dev.settings (seen l.kv l.at) l.s;
+  counted : 1 ≤ l.index;
+}

@@ -1,0 +1,6 @@
+pub mod Sources
+pub mod Copies
+pub mod Recorded
+pub mod Steps
+pub mod Shown
+pub mod Ops

@@ -1,0 +1,151 @@
+//! Any of the calls.
+
+ghost use Rattle.std.specs.Prelude.{◌≡◌, ◌≤◌, ◌++◌, [], IfOk, IfErr, OnOk, OnErr, IsTrue};
+ghost use Rattle.wtf_kv.specs.Stores.{is_pinned};
+ghost use Rattle.wtf_occ.specs.Attempts.{Grows};
+ghost use Rattle.wtf_model.specs.Steps.{IsLogged};
+ghost use Rattle.wtf_meta.specs.Maps.{seen};
+ghost use Rattle.wtf_region.specs.Devs.{IsSoundDev, GoesOn, stores, between};
+ghost use Rattle.wtf_region.specs.Showing.{OnlyRead};
+ghost use Rattle.wtf_rw.specs.Ops.{AreInside};
+ghost use Rattle.wtf_rw.specs.Steps.{in_hand, IsRefusal};
+ghost use Rattle.wtf_slicing.specs.Ops.{IsFormSlice, IsSliceStep, slice_keys, IsSliceFault, MaySliceFault, NeedsNoStore};
+
+use crate::SliceOp;
+use crate::concats::concat;
+use crate::copies::copy;
+use crate::cutting::{cut, peek};
+use crate::laying::{glue, paste};
+use crate::yanks::{Take, yank};
+use std::alloc::Global;
+use wtf_base::{Fault, InodeId};
+use wtf_dev::SliceStore;
+use wtf_kv::Kv;
+use wtf_meta::Session;
+use wtf_model::Answer;
+use wtf_occ::Attempt;
+use wtf_region::Dev;
+use wtf_values::{Delta, Key, Value};
+
+/// The call itself. A fault leaves the session, and may leave the attempt grown.
+fn run<S: SliceStore>(
+    alloc: Global,
+    dev: &mut Dev<'_, S>,
+    kv: &Kv<Key, Value>,
+    at: &mut Attempt<Key, Value>,
+    s: &mut Session,
+    new: InodeId,
+    op: &SliceOp<'_>,
+) -> Result<Answer, Fault>
+    requires sound { IsSoundDev dev.old }
+    requires pinned { IsTrue (is_pinned kv.now at.old.base) }
+    requires form { IsFormSlice op.now }
+    requires inside { AreInside S.kind (stores dev.old) dev.old.settings (seen kv.now at.old) s.old }
+    ensures keys { OnOk result (at.new.reads ≡ at.old.reads ++
+        slice_keys dev.old.settings.region (seen kv.now at.old) s.old op.now) }
+    ensures step { IfOk result (λ a. IsSliceStep (record {
+      kind = S.kind;
+      before = stores dev.old;
+      after = stores dev.new;
+      map = seen kv.now at.old;
+    }) dev.old.settings.region new (in_hand at.old s.old) (in_hand at.new s.new) op.now a) }
+    ensures logged { IfOk result (λ a. IsLogged a) }
+    ensures refused { IfOk result (λ a. IsRefusal a →
+        (dev.new ≡ dev.old) × (at.new.changes ≡ at.old.changes) × (s.new ≡ s.old)) }
+    ensures fault { IfErr result (IsSliceFault S.kind dev.old dev.new s.old op.now) }
+    ensures due { IfErr result
+        (MaySliceFault dev.old.settings (seen kv.now at.old) s.old op.now) }
+    ensures err { OnErr result (s.new ≡ s.old) }
+    ensures grows { Grows at.old at.new }
+    ensures still { NeedsNoStore op.now → dev.new ≡ dev.old }
+    ensures reads { OnlyRead S.kind (between dev.old dev.new) }
+    ensures dev { GoesOn S.kind dev.old dev.new [] }
+{
+    let settings = dev.settings;
+    match op {
+        SliceOp::Yank(f, n, label) => {
+            let take = Take {
+                handle: *f,
+                len: *n,
+                slice: *label,
+            };
+            match yank(alloc, dev, kv, at, s, take) {
+                Ok(answer) => return Ok(answer),
+                Err(why) => return Err(why),
+            }
+        }
+        SliceOp::Peek { from, off, len } => match peek(alloc, dev, s, *from, *off, *len) {
+            Ok(answer) => return Ok(answer),
+            Err(why) => return Err(why),
+        },
+        SliceOp::Cut { from, off, len, to } => match cut(alloc, s, *from, *off, *len, *to) {
+            Ok(answer) => return Ok(answer),
+            Err(_) => return Err(Fault::Memory),
+        },
+        SliceOp::Paste(f, label) => match paste(at, s, *f, *label, settings) {
+            Ok(answer) => return Ok(answer),
+            Err(_) => return Err(Fault::Memory),
+        },
+        SliceOp::Glue(f, label) => match glue(alloc, kv, at, s, *f, *label, settings) {
+            Ok(answer) => return Ok(answer),
+            Err(_) => return Err(Fault::Memory),
+        },
+        SliceOp::Concat(q, paths) => match concat(alloc, dev, kv, at, new, q, paths) {
+            Ok(answer) => return Ok(answer),
+            Err(why) => return Err(why),
+        },
+        SliceOp::Copy(p, q) => match copy(alloc, kv, at, new, p, q) {
+            Ok(answer) => return Ok(answer),
+            Err(_) => return Err(Fault::Memory),
+        },
+    }
+}
+
+/// A call on slices, or one that makes a file of others, of the inode `new`, which is that of its
+/// transaction's next call. It answers as the definitions' call, records the keys that its answer
+/// rests on, and makes its changes. It stores no byte; only `peek` reads some: `Read` where no copy
+/// of bytes that it was to show could be read. A fault leaves session and attempt as they were.
+pub fn call<S: SliceStore>(
+    alloc: Global,
+    dev: &mut Dev<'_, S>,
+    kv: &Kv<Key, Value>,
+    at: &mut Attempt<Key, Value>,
+    s: &mut Session,
+    new: InodeId,
+    op: &SliceOp<'_>,
+) -> Result<Answer, Fault>
+    requires sound { IsSoundDev dev.old }
+    requires pinned { IsTrue (is_pinned kv.now at.old.base) }
+    requires form { IsFormSlice op.now }
+    requires inside { AreInside S.kind (stores dev.old) dev.old.settings (seen kv.now at.old) s.old }
+    ensures keys { OnOk result (at.new.reads ≡ at.old.reads ++
+        slice_keys dev.old.settings.region (seen kv.now at.old) s.old op.now) }
+    ensures step { IfOk result (λ a. IsSliceStep (record {
+      kind = S.kind;
+      before = stores dev.old;
+      after = stores dev.new;
+      map = seen kv.now at.old;
+    }) dev.old.settings.region new (in_hand at.old s.old) (in_hand at.new s.new) op.now a) }
+    ensures logged { IfOk result (λ a. IsLogged a) }
+    ensures refused { IfOk result (λ a. IsRefusal a →
+        (dev.new ≡ dev.old) × (at.new.changes ≡ at.old.changes) × (s.new ≡ s.old)) }
+    ensures inside { 1 ≤ new.index →
+        AreInside S.kind (stores dev.new) dev.old.settings (seen kv.now at.new) s.new }
+    ensures fault { IfErr result (IsSliceFault S.kind dev.old dev.new s.old op.now) }
+    ensures due { IfErr result
+        (MaySliceFault dev.old.settings (seen kv.now at.old) s.old op.now) }
+    ensures err { OnErr result ((at.new ≡ at.old) × (s.new ≡ s.old)) }
+    ensures grows { Grows at.old at.new }
+    ensures still { NeedsNoStore op.now → dev.new ≡ dev.old }
+    ensures reads { OnlyRead S.kind (between dev.old dev.new) }
+    ensures dev { GoesOn S.kind dev.old dev.new [] }
+{
+    let mark = at.mark();
+    match run(alloc, dev, kv, at, s, new, op) {
+        Ok(answer) => return Ok(answer),
+        Err(why) => {
+            at.rewind(mark);
+            return Err(why);
+        }
+    }
+}

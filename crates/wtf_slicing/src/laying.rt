@@ -1,0 +1,118 @@
+//! The calls that lay a slice over a file, and add one at its end.
+
+ghost use Rattle.std.specs.Prelude.{◌≡◌, ◌<◌, ◌≤◌, ◌+◌, ◌*◌, ◌++◌, [], true, false, IsTrue, IfOk, OnOk, OnErr, IsSome, IsSomeAnd};
+ghost use Rattle.wtf_kv.specs.Stores.{is_pinned};
+ghost use Rattle.wtf_occ.specs.Attempts.{Grows};
+ghost use Rattle.wtf_overlay.specs.Origin.{pieces_len};
+ghost use Rattle.wtf_model.specs.Form.{IsHandle, IsSlice};
+ghost use Rattle.wtf_model.specs.Steps.{IsLogged};
+ghost use Rattle.wtf_meta.specs.Maps.{Map, seen};
+ghost use Rattle.wtf_meta.specs.Sessions.{handle_in, slice_in};
+ghost use Rattle.wtf_meta.specs.Calls.{Caller};
+ghost use Rattle.wtf_rw.specs.Steps.{in_hand, IsStepWith, NeedsNoBytes, IsRefusal};
+ghost use Rattle.wtf_rw.specs.Stored.{answer_of};
+ghost use Rattle.wtf_slicing.specs.Recorded.{glue_keys};
+
+use crate::cutting::bytes_of;
+use std::alloc::Global;
+use wtf_base::{OutOfMemory, Settings};
+use wtf_kv::Kv;
+use wtf_meta::Session;
+use wtf_model::{Answer, Op, Word};
+use wtf_occ::Attempt;
+use wtf_region::{Added, add_pieces, put_pieces};
+use wtf_rw::handle_of;
+use wtf_values::{Delta, Key, Value};
+
+/// Whether so many bytes from an offset on end below the greatest length.
+fn ends_within(off: u64, len: u64, cap: u64) -> bool
+    ensures within { result ≡ true → off + len ≤ cap }
+    ensures past { result ≡ false → cap < off + len }
+{
+    off <= cap && len <= cap - off
+}
+
+/// Lays a slice over the file of a handle at its offset, which grows by the number of its bytes. It
+/// is refused for a handle that is not open, for a slice that was never set, and where the bytes
+/// would pass the greatest length; then nothing changes, and so for no byte. Want of memory leaves
+/// the session, and may leave the attempt grown.
+pub(crate) fn paste(
+    at: &mut Attempt<Key, Value>,
+    s: &mut Session,
+    f: u8,
+    label: u8,
+    settings: Settings,
+) -> Result<Answer, OutOfMemory>
+    requires handle { IsHandle f }
+    requires slice { IsSlice label }
+    ensures keys { OnOk result (at.new.reads ≡ at.old.reads) }
+    ensures step { IfOk result (λ a. (x : Caller) (b : Map) → x.size ≡ settings.region →
+        IsStepWith NeedsNoBytes x b (in_hand at.old s.old) (in_hand at.new s.new)
+        (Op.Paste f label) a) }
+    ensures logged { IfOk result (λ a. IsLogged a) }
+    ensures refused { IfOk result
+        (λ a. IsRefusal a → (at.new.changes ≡ at.old.changes) × (s.new ≡ s.old)) }
+    ensures err { OnErr result (s.new ≡ s.old) }
+    ensures grows { Grows at.old at.new }
+{
+    let Some(spot) = handle_of(s, f) else {
+        return Ok(Answer::Refused(Word::NoHandle));
+    };
+    let Some(pieces) = s.slice(label) else {
+        return Ok(Answer::Refused(Word::NoSlice));
+    };
+    let len = bytes_of(pieces);
+    if len == 0 {
+        return Ok(Answer::Okay);
+    }
+    if !ends_within(spot.off, len, settings.cap()) {
+        return Ok(Answer::Refused(Word::TooBig));
+    }
+    put_pieces(at, spot.inode, spot.off, pieces, settings)?;
+    s.move_handle(f, spot.off + len);
+    Ok(Answer::Okay)
+}
+
+/// The answer to a call that added pieces, of which this came.
+fn answer_to(added: Added) -> Answer
+    ensures value { result ≡ answer_of added }
+    ensures logged { IsLogged result }
+{
+    match added {
+        Added::Done => return Answer::Okay,
+        Added::TooBig => return Answer::Refused(Word::TooBig),
+    }
+}
+
+/// Adds a slice at the end of the file of a handle. It is refused as `paste` is, here where the file
+/// would pass the greatest length. Want of memory may leave the attempt grown.
+pub(crate) fn glue(
+    alloc: Global,
+    kv: &Kv<Key, Value>,
+    at: &mut Attempt<Key, Value>,
+    s: &Session,
+    f: u8,
+    label: u8,
+    settings: Settings,
+) -> Result<Answer, OutOfMemory>
+    requires pinned { IsTrue (is_pinned kv.now at.old.base) }
+    requires handle { IsHandle f }
+    requires slice { IsSlice label }
+    ensures keys { OnOk result (at.new.reads ≡ at.old.reads ++ glue_keys settings.region
+        (seen kv.now at.old) (handle_in s.now f) (slice_in s.now label)) }
+    ensures step { IfOk result (λ a. (x : Caller) → x.size ≡ settings.region →
+        IsStepWith NeedsNoBytes x (seen kv.now at.old) (in_hand at.old s.now)
+        (in_hand at.new s.now) (Op.Glue f label) a) }
+    ensures logged { IfOk result (λ a. IsLogged a) }
+    ensures refused { IfOk result (λ a. IsRefusal a → at.new.changes ≡ at.old.changes) }
+    ensures grows { Grows at.old at.new }
+{
+    let Some(spot) = handle_of(s, f) else {
+        return Ok(Answer::Refused(Word::NoHandle));
+    };
+    let Some(pieces) = s.slice(label) else {
+        return Ok(Answer::Refused(Word::NoSlice));
+    };
+    let added = add_pieces(alloc, kv, at, spot.inode, pieces, settings)?;
+    Ok(answer_to(added))
+}

@@ -1,0 +1,104 @@
+//! The call that takes a slice out of a file.
+
+ghost use Rattle.std.specs.Prelude.{◌≡◌, ◌<◌, ◌*◌, ◌++◌, [], IfOk, IfErr, OnOk, OnErr, IsTrue};
+ghost use Rattle.wtf_kv.specs.Stores.{is_pinned};
+ghost use Rattle.wtf_occ.specs.Attempts.{Grows};
+ghost use Rattle.wtf_model.specs.declared.limits.TheConstants.{MAX_REGIONS};
+ghost use Rattle.wtf_model.specs.Form.{IsHandle, IsSlice};
+ghost use Rattle.wtf_model.specs.Steps.{IsLogged};
+ghost use Rattle.wtf_meta.specs.Maps.{seen};
+ghost use Rattle.wtf_meta.specs.Sessions.{handle_in};
+ghost use Rattle.wtf_meta.specs.Calls.{Caller};
+ghost use Rattle.wtf_region.specs.Devs.{IsSoundDev, GoesOn, between};
+ghost use Rattle.wtf_region.specs.Showing.{OnlyRead};
+ghost use Rattle.wtf_rw.specs.Recorded.{read_keys, found};
+ghost use Rattle.wtf_rw.specs.Steps.{in_hand, IsStepWith, NeedsNoBytes, IsRefusal};
+
+use std::alloc::Global;
+use wtf_base::Fault;
+use wtf_dev::SliceStore;
+use wtf_kv::Kv;
+use wtf_meta::Session;
+use wtf_model::{Answer, Op, Word};
+use wtf_occ::Attempt;
+use wtf_region::{Dev, file_len, pieces};
+use wtf_rw::handle_of;
+use wtf_values::{Delta, Key, Value};
+
+/// How many of `n` bytes a file of `len` bytes has from an offset on.
+fn count(off: u64, n: u64, len: u64, cap: u64) -> u64
+    ensures { result ≡ found cap len off n }
+{
+    n.min(len.min(cap).saturating_sub(off))
+}
+
+/// Where a range of `n` bytes begins; one of no byte anywhere.
+fn start(off: u64, n: u64) -> u64
+    ensures some { 0 < n → result ≡ off }
+    ensures none { n ≡ 0 → result ≡ 0 }
+{
+    if n == 0 {
+        return 0;
+    }
+    off
+}
+
+/// What a yank takes: bytes of the file of a handle, for a slice.
+#[derive(Clone, Copy, Debug)]
+pub(crate) struct Take {
+    /// The label of the handle.
+    pub(crate) handle: u8,
+    /// How many bytes, where there are so many.
+    pub(crate) len: u64,
+    /// The label of the slice.
+    pub(crate) slice: u8,
+}
+
+/// Keeps the next `len` bytes of the file of a handle, or those that are left, as a slice: as pieces,
+/// so that no byte is read. The handle's offset grows by their number, which is the answer. It is
+/// refused for a handle that is not open; then nothing changes. Want of memory leaves the session,
+/// and may leave the attempt grown.
+pub(crate) fn yank<S: SliceStore>(
+    alloc: Global,
+    dev: &mut Dev<'_, S>,
+    kv: &Kv<Key, Value>,
+    at: &mut Attempt<Key, Value>,
+    s: &mut Session,
+    take: Take,
+) -> Result<Answer, Fault>
+    requires sound { IsSoundDev dev.old }
+    requires pinned { IsTrue (is_pinned kv.now at.old.base) }
+    requires handle { IsHandle take.handle }
+    requires slice { IsSlice take.slice }
+    ensures keys { OnOk result (at.new.reads ≡ at.old.reads ++ read_keys dev.old.settings.region
+        (seen kv.now at.old) (handle_in s.old take.handle) take.len) }
+    ensures step { IfOk result (λ a. (x : Caller) → x.size ≡ dev.old.settings.region →
+        IsStepWith NeedsNoBytes x (seen kv.now at.old) (in_hand at.old s.old)
+        (in_hand at.new s.new) (Op.Yank take.handle take.len take.slice) a) }
+    ensures logged { IfOk result (λ a. IsLogged a) }
+    ensures refused { IfOk result (λ a. IsRefusal a →
+        (dev.new ≡ dev.old) × (at.new.changes ≡ at.old.changes) × (s.new ≡ s.old)) }
+    ensures fault { IfErr result (λ why. why ≡ Fault.Memory) }
+    ensures err { OnErr result (s.new ≡ s.old) }
+    ensures grows { Grows at.old at.new }
+    ensures reads { OnlyRead S.kind (between dev.old dev.new) }
+    ensures dev { GoesOn S.kind dev.old dev.new [] }
+{
+    let Some(spot) = handle_of(s, take.handle) else {
+        return Ok(Answer::Refused(Word::NoHandle));
+    };
+    let settings = dev.settings;
+    let len = match file_len(kv, at, spot.inode, settings) {
+        Ok(len) => len,
+        Err(_) => return Err(Fault::Memory),
+    };
+    let k = count(spot.off, take.len, len, settings.cap());
+    let begin = start(spot.off, k);
+    let found = match pieces(alloc, dev, kv, at, spot.inode, begin, k) {
+        Ok(found) => found,
+        Err(why) => return Err(why),
+    };
+    s.put_slice(take.slice, found);
+    s.move_handle(take.handle, spot.off + k);
+    Ok(Answer::Len(k))
+}
