@@ -16,8 +16,8 @@ use Rattle.wtf_meta.specs.Maps.{Map, with, metadata_at, seen}
 use Rattle.wtf_meta.specs.Contents.{Told}
 use Rattle.wtf_meta.specs.Trees.{Stands}
 use Rattle.wtf_meta.specs.Calls.{cap_for, Ran}
-use Rattle.wtf_replay.specs.Views.{TxnView, hand_of}
-use Rattle.wtf_replay.specs.Sounds.{tells_slice, caller_at, first_of, IsSound, IsToldStep}
+use Rattle.wtf_replay.specs.Views.{TxnView}
+use Rattle.wtf_replay.specs.Sounds.{tells_slice, caller_at, first_of, IsSound, IsDue}
 use Rattle.wtf_replay.specs.Replays.{DeviatesOn}
 
 -- the first of the answers are the answers to the first calls
@@ -42,26 +42,28 @@ module _ (size : ℕ) (kv : Store Key Value) (told : Told) (x : TxnView) (ops : 
       → Ran (caller_at size x.tx 0) told (metadata_at kv x.at.base) (with x.at.changes (metadata_at kv x.at.base)) x.session t (first_of x ops x.replayed)
   at_base t st = sound.run.acts told (metadata_at kv x.at.base) t (Agree-itself x.at.reads (metadata_at kv x.at.base)) sound.run.fits sound.told_are st
 
+  -- the map that the next call sees stands for the tree before it
+  pub before_next : (t : Tree) → Stands size told x.tx 0 (metadata_at kv x.at.base) t → x.replayed ≤ length ops
+      → Stands size told x.tx x.replayed (seen kv x.at) (session_after (cap_for (caller_at size x.tx 0)) t (take x.replayed ops)).tree
+  before_next t st le =
+      subst (λ n. Stands size told x.tx n (seen kv x.at) (session_after (cap_for (caller_at size x.tx 0)) t (take x.replayed ops)).tree) (length-take-le x.replayed ops le) (at_base t st).stands
+
   -- the next call answers otherwise than was shown
-  pub deviates : (new : TxnView) (o : Op (List ℕ)) (a : Answer) → x.replayed ≤ length x.log.ops
-      → IsToldStep told (caller_at size x.tx x.replayed) (seen kv x.at) (hand_of x) (hand_of new) o a
+  pub deviates : (o : Op (List ℕ)) (a : Answer) → x.replayed ≤ length x.log.ops
+      → IsDue told (caller_at size x.tx x.replayed) (seen kv x.at) x.session o a
       → slice_get ops x.replayed ≡ Some o → slice_get x.log.shown x.replayed ≢ Some a
       → DeviatesOn (metadata_at kv x.at.base) size told x ops (x.replayed + 1) a
-  deviates new o a most step at_op differs t st =
+  deviates o a most due at_op differs t st =
       let cap : ℕ = cap_for (caller_at size x.tx 0) in
       let same : length x.log.ops ≡ length ops = OpsStandFor-length (tells_slice told) x.log.ops ops sound.ops_are in
       let le : x.replayed ≤ length ops = omega (arith, most, same) in
-      let done : List (Op (List ℕ)) = take x.replayed ops in
-      let count : length done ≡ x.replayed = length-take-le x.replayed ops le in
       let ran = at_base t st in
-      let S : Session = session_after cap t done in
-      let w : Map = seen kv x.at in
-      let stands : Stands size told x.tx x.replayed w S.tree = subst (λ n. Stands size told x.tx n w S.tree) count ran.stands in
-      let called = step.step.is_call.acts told w S (Agree-itself step.step.did.keys w) step.step.is_call.fits step.told_are stands ran.holds in
+      let S : Session = session_after cap t (take x.replayed ops) in
+      let answer : (call cap S o).answer ≡ a = due S (before_next t st le) ran.holds in
       let down : x.replayed + 1 - 1 ≡ x.replayed = omega arith in
       record {
         counted = omega arith;
         agree = ap (λ n. take n (answers_of cap t ops)) down ∙ answers_from-take cap (fresh t) ops x.replayed ∙ ran.answers ∙ ap (λ n. take n x.log.shown) (sym down);
-        answer_is = ap (slice_get (answers_of cap t ops)) down ∙ answers_from-at cap (fresh t) ops x.replayed o at_op ∙ ap Some (sym called.answer);
+        answer_is = ap (slice_get (answers_of cap t ops)) down ∙ answers_from-at cap (fresh t) ops x.replayed o at_op ∙ ap Some answer;
         differs = λ e. differs (ap (slice_get x.log.shown) (sym down) ∙ e);
       }

@@ -35,19 +35,12 @@ pub ended_aborted : (r : Answer) (i : ℕ) (a : Answer) (kv after : Store Key Va
 ended_aborted (Aborted' j box b) i a kv after is same = same
 ended_aborted r i a kv after is same = absurd is
 
-pub true_end_aborted : (r : Answer) (i : ℕ) (a : Answer) (size : ℕ) (told : Told) (kv after : Store Key Value) (x : TxnView) (ops : List (Op (List ℕ))) → IsAbortedAt r i a
-    → DeviatesOn (metadata_at kv kv.number) size told x ops i a → IsTrueEnd size told kv after x ops r
+pub true_end_aborted : (r : Answer) (i : ℕ) (a : Answer) (size : ℕ) (told : Told × Told) (kv after : Store Key Value) (x : TxnView) (ops : List (Op (List ℕ))) → IsAbortedAt r i a
+    → DeviatesOn (metadata_at kv kv.number) size told.0 x ops i a → IsTrueEnd size told kv after x ops r
 true_end_aborted (Aborted' j box b) i a size told kv after x ops is deviates =
-    subst (λ n. DeviatesOn (metadata_at kv kv.number) size told x ops n b) (sym is.0)
-    (subst (λ c. DeviatesOn (metadata_at kv kv.number) size told x ops i c) (sym is.1) deviates)
+    subst (λ n. DeviatesOn (metadata_at kv kv.number) size told.0 x ops n b) (sym is.0)
+    (subst (λ c. DeviatesOn (metadata_at kv kv.number) size told.0 x ops i c) (sym is.1) deviates)
 true_end_aborted r i a size told kv after x ops is deviates = absurd is
-
--- what a step means over stores that tell more
-pub true_step_later : (r : Answer) (size : ℕ) (told later : Told) (kv : Store Key Value) (txns : TxnView × TxnView) (ops : List (Op (List ℕ)))
-    → (IsSound size kv told txns.1 ops → IsSound size kv later txns.1 ops) → IsTrueStep size (told, told) kv txns ops r → IsTrueStep size (told, later) kv txns ops r
-true_step_later (answer.Replayed i) size told later kv txns ops on h = on h
-true_step_later (Aborted' i box a) size told later kv txns ops on h = h
-true_step_later r size told later kv txns ops on h = tt
 
 -- deviations speak of the number and of what was shown alone
 deviates_as : (w : Map) (size : ℕ) (told : Told) (x y : TxnView) (ops : List (Op (List ℕ))) (i : ℕ) (a : Answer) → y.tx ≡ x.tx → y.log ≡ x.log → DeviatesOn w size told x ops i a → DeviatesOn w size told y ops i a
@@ -70,9 +63,9 @@ final_as size told kv after x y ops n tx log f = record {
 }
 
 -- and so does the meaning of a commit
-pub true_end_as : (r : Answer) (size : ℕ) (told : Told) (kv after : Store Key Value) (x y : TxnView) (ops : List (Op (List ℕ))) → y.tx ≡ x.tx → y.log ≡ x.log → IsTrueEnd size told kv after x ops r → IsTrueEnd size told kv after y ops r
-true_end_as (answer.Committed n) size told kv after x y ops tx log h = final_as size told kv after x y ops n tx log h
-true_end_as (Aborted' i box a) size told kv after x y ops tx log h = deviates_as (metadata_at kv kv.number) size told x y ops i a tx log h
+pub true_end_as : (r : Answer) (size : ℕ) (told : Told × Told) (kv after : Store Key Value) (x y : TxnView) (ops : List (Op (List ℕ))) → y.tx ≡ x.tx → y.log ≡ x.log → IsTrueEnd size told kv after x ops r → IsTrueEnd size told kv after y ops r
+true_end_as (answer.Committed n) size told kv after x y ops tx log h = final_as size told.1 kv after x y ops n tx log h
+true_end_as (Aborted' i box a) size told kv after x y ops tx log h = deviates_as (metadata_at kv kv.number) size told.0 x y ops i a tx log h
 true_end_as r size told kv after x y ops tx log h = tt
 
 -- the same of stores that show the same maps
@@ -87,10 +80,10 @@ final_along size told kv kv2 after after2 x ops n number map number2 maps f = re
   ran = λ t st. subst (λ (w : Map). Ran (caller_at size x.tx 0) told w (with f.changes w) f.session t (ops, x.log.shown)) (sym map) (f.ran t (subst (λ w. Stands size told x.tx 0 w t) map st));
 }
 
-pub true_end_along : (r : Answer) (size : ℕ) (told : Told) (kv kv2 after after2 : Store Key Value) (x : TxnView) (ops : List (Op (List ℕ))) → kv2.number ≡ kv.number → metadata_at kv2 kv2.number ≡ metadata_at kv kv.number
+pub true_end_along : (r : Answer) (size : ℕ) (told : Told × Told) (kv kv2 after after2 : Store Key Value) (x : TxnView) (ops : List (Op (List ℕ))) → kv2.number ≡ kv.number → metadata_at kv2 kv2.number ≡ metadata_at kv kv.number
     → after2.number ≡ after.number → ((m : ℕ) → metadata_at after2 m ≡ metadata_at after m) → IsTrueEnd size told kv after x ops r → IsTrueEnd size told kv2 after2 x ops r
-true_end_along (answer.Committed n) size told kv kv2 after after2 x ops number map number2 maps h = final_along size told kv kv2 after after2 x ops n number map number2 maps h
-true_end_along (Aborted' i box a) size told kv kv2 after after2 x ops number map number2 maps h = subst (λ w. DeviatesOn w size told x ops i a) (sym map) h
+true_end_along (answer.Committed n) size told kv kv2 after after2 x ops number map number2 maps h = final_along size told.1 kv kv2 after after2 x ops n number map number2 maps h
+true_end_along (Aborted' i box a) size told kv kv2 after after2 x ops number map number2 maps h = subst (λ w. DeviatesOn w size told.0 x ops i a) (sym map) h
 true_end_along r size told kv kv2 after after2 x ops number map number2 maps h = tt
 
 pub ended_along : (r : Answer) (kv kv2 after after2 : Store Key Value) → kv2.number ≡ kv.number → after2.number ≡ after.number → IsEnded kv after r → IsEnded kv2 after2 r

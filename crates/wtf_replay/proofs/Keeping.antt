@@ -1,5 +1,5 @@
 -- What holds of a transaction over every device goes on holding.
-use Rattle.std.proofs.Common.{◌≡◌, ◌≢◌, ◌≤◌, ◌<◌, ℕ, ◌+◌, true, false, nat_eq, count_by, length, refl, sym, ap, ◌∙◌, subst, arith, ⊎_elim}
+use Rattle.std.proofs.Common.{◌≡◌, ◌≢◌, ◌≤◌, ◌<◌, ℕ, zero, suc, ◌+◌, List, [], ◌∷◌, ◌++◌, Some, slice_get, true, false, nat_eq, count_by, length, refl, sym, ap, ◌∙◌, subst, arith, ⊎_elim}
 use Rattle.std.specs.Prelude.{IsTrue, if◌then◌else◌}
 use Rattle.std.proofs.lemmas.Bool.{cases_lt, eq-eqb, ne_eqb}
 use Rattle.std.proofs.lemmas.List.{length_push}
@@ -19,13 +19,24 @@ use Rattle.wtf_values.specs.declared.value.Delta.{Delta}
 use Rattle.wtf_log.specs.Calls.{Calls, with_call}
 use Rattle.wtf_meta.specs.Maps.{AllFit, metadata_at}
 use Rattle.wtf_replay.specs.Views.{TxnView, rebased}
-use Rattle.wtf_replay.specs.Built.{is_built_op}
+use Rattle.wtf_replay.specs.Keeps.{IsKeptFor}
 use Rattle.wtf_replay.specs.Fits.{IsLog, IsFit}
 use Rattle.wtf_replay.specs.Tried.{KeepsMaps, KeepsPins, MovesPin}
 
+-- what is kept of one call more
+kept_push : (ops : List (Op Kept)) (shown : List Answer) (o : Op Kept) (a : Answer) → length shown ≡ length ops
+    → ((k : ℕ) (p : Op Kept) (b : Answer) → slice_get ops k ≡ Some p → slice_get shown k ≡ Some b → IsKeptFor p b) → IsKeptFor o a
+    → (k : ℕ) (p : Op Kept) (b : Answer) → slice_get (ops ++ o ∷ []) k ≡ Some p → slice_get (shown ++ a ∷ []) k ≡ Some b → IsKeptFor p b
+kept_push [] [] o a len h one zero p b e f = let same : o ≡ p = cc in let answer : a ≡ b = cc in subst (λ q. IsKeptFor q b) same (subst (λ c. IsKeptFor o c) answer one)
+kept_push [] [] o a len h one (suc k) p b e f = absurd (cc)
+kept_push (q ∷ ops) (c ∷ shown) o a len h one zero p b e f = h zero p b e f
+kept_push (q ∷ ops) (c ∷ shown) o a len h one (suc k) p b e f = kept_push ops shown o a (omega (arith, len)) (λ j. h (suc j)) one k p b e f
+kept_push [] (c ∷ shown) o a len h one k p b e f = absurd (omega (arith, len))
+kept_push (q ∷ ops) [] o a len h one k p b e f = absurd (omega (arith, len))
+
 -- a log with one call more
-pub log_called : (log : Calls) (k : Op Kept) (a : Answer) → IsLog log → length log.ops ≢ MAX_LOGGED → IsFormOp IsKeptData k → is_built_op k ≡ true → IsLogged a → IsLog (with_call log k a)
-log_called log k a is room form built logged =
+pub log_called : (log : Calls) (k : Op Kept) (a : Answer) → IsLog log → length log.ops ≢ MAX_LOGGED → IsFormOp IsKeptData k → IsLogged a → IsKeptFor k a → IsLog (with_call log k a)
+log_called log k a is room form logged kept =
     let ops = length_push log.ops k in
     let shown = length_push log.shown a in
     let answers = is.answers in
@@ -34,8 +45,8 @@ log_called log k a is room form built logged =
       answers = shown ∙ ap (λ n. n + 1) answers ∙ sym ops;
       few = ⊎_elim (λ lt. omega (arith, ops, lt)) (λ le. let full : length log.ops ≡ MAX_LOGGED = omega (arith, le, few) in absurd (room full)) (cases_lt (length log.ops) MAX_LOGGED);
       form = All-push (IsFormOp IsKeptData) log.ops k is.form form;
-      built = All-push (λ o. is_built_op o ≡ true) log.ops k is.built built;
       shown = All-push IsLogged log.shown a is.shown logged;
+      kept = kept_push log.ops log.shown k a is.answers is.kept kept;
     }
 
 -- a transaction that stays as it was, but for its end, over a store that keeps its base

@@ -1,4 +1,4 @@
-pub mod Ops
+pub mod OpLaws
 pub mod Looking
 pub mod Sounding
 pub mod Deviating
@@ -8,3 +8,9 @@ pub mod Ending
 pub mod Again
 pub mod Keeping
 pub mod Refusing
+pub mod Later
+pub mod RwLaws
+pub mod SliceLaws
+pub mod Making
+pub mod Insiding
+pub mod Faulting

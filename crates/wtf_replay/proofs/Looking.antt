@@ -34,10 +34,12 @@ use Rattle.wtf_values.specs.Keys.{key_cmp}
 use Rattle.wtf_values.specs.Outcomes.{outcome_of}
 use Rattle.wtf_meta.specs.declared.session.Handle.{Handle}
 use Rattle.wtf_meta.specs.Maps.{Map, AllFit, metadata_at, seen}
-use Rattle.wtf_meta.specs.Contents.{Told}
+use Rattle.wtf_meta.specs.Contents.{Told, is_told}
+use Rattle.wtf_meta.proofs.Named.{PiecesBytes-none}
 use Rattle.wtf_meta.specs.Trees.{LeadsTo}
 use Rattle.wtf_meta.specs.NameEdits.{node_of}
-use Rattle.wtf_meta.specs.Sessions.{SessionView, HandleAt, IsOff, SessionBytes, handle_in, slice_in, at_label, nothing_open}
+use Rattle.wtf_meta.specs.Sessions.{SessionView, HandleAt, IsOff, handle_in, nothing_open}
+use Rattle.wtf_meta.proofs.Nothing.{none_at, nothing_kept}
 use Rattle.wtf_meta.specs.Calls.{Caller, cap_for, IsDone, IsNameStep, IsFreeToMove}
 use Rattle.wtf_meta.proofs.Nodes.{node_of-is, node-file}
 use Rattle.wtf_meta.proofs.Moves.{done-same}
@@ -56,17 +58,9 @@ pub named_call : (x : Caller) (b : Map) (s : SessionView) (old new : Attempted K
     → IsNameStep x b old new p a → IsFreeToMove p s → o ≡ p → IsNameCall x b s old new o a
 named_call x b s old new p o a step free is = subst (λ q. IsNameCall x b s old new q a) (sym is) (quiet_call x b s old new p a step free)
 
--- no label has something where nothing is open
-pub none_at : {A : Type 0} (x : Option A) (n f : ℕ) → x ≡ None → at_label (replicate n x) f ≡ None
-none_at x zero f e = refl
-none_at x (suc n) zero e = e
-none_at x (suc n) (suc f) e = none_at x n f e
-
+-- no handle is on a path where nothing is open
 nothing_off : (p : List ℕ) → IsOff p nothing_open
 nothing_off p f h e = let none : handle_in nothing_open f ≡ None = none_at None MAX_HANDLES f refl in let bad : None ≡ Some h = sym none ∙ e in absurd (cc)
-
-pub nothing_kept : (P : List Place → Bool) → SessionBytes P nothing_open
-nothing_kept P label ps e = let none : slice_in nothing_open label ≡ None = none_at None MAX_SLICES label refl in let bad : None ≡ Some ps = sym none ∙ e in absurd (cc)
 
 -- what a handle on a path says of the map, and of the definitions' session
 record HeldAt (w : Map) (p : List ℕ) (o : Option model.Handle) : Type 0 where
@@ -190,6 +184,7 @@ pub told_call : (told : Told) (x : Caller) (b : Map) (s : SessionView) (old new 
 told_call told x b s old new o a call = record {
   step = record { did = record { keys = call.keys; edits = call.edits; facts = []; stored = [] }; grows = call.grows; is_call = call.is_call };
   told_are = tt;
+  stored_are = PiecesBytes-none (is_told told);
 }
 
 -- after which the changes fit at the base

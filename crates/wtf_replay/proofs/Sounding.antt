@@ -21,12 +21,14 @@ use Rattle.wtf_log.specs.Calls.{with_call}
 use Rattle.wtf_log.specs.Standing.{OpStandsFor, OpsStandFor}
 use Rattle.wtf_log.proofs.StandingLaws.{OpsStandFor-length, OpsStandFor-push, OpsStandFor-weaker}
 use Rattle.wtf_meta.specs.Maps.{Map, with, metadata_at, seen}
-use Rattle.wtf_meta.specs.Contents.{Told}
+use Rattle.wtf_meta.specs.Contents.{Told, is_told}
+use Rattle.wtf_meta.proofs.Named.{PiecesBytes-append}
+use Rattle.wtf_rw.proofs.InsideWays.{pieces_stay}
 use Rattle.wtf_meta.specs.Sessions.{SessionView}
 use Rattle.wtf_meta.specs.Calls.{Fact, Did, TellFacts, IsCall, IsRun}
 use Rattle.wtf_meta.proofs.Facts.{TellFacts-append}
 use Rattle.wtf_meta.proofs.Running.{run_on}
-use Rattle.wtf_meta.proofs.Telling.{TellsOn, TellBytes-later}
+use Rattle.wtf_meta.proofs.Telling.{TellsOn, TellBytes-later, is_told-later}
 use Rattle.wtf_overlay.specs.Origin.{pieces_len, pieces_origin}
 use Rattle.wtf_replay.specs.Views.{TxnView, hand_of}
 use Rattle.wtf_replay.specs.Fits.{IsLog}
@@ -60,6 +62,7 @@ sound_later size kv told later x ops on sound = record {
   stored = sound.stored;
   ops_are = OpsStandFor-weaker (tells_slice told) (tells_slice later) x.log.ops ops (λ k s bytes own. TellBytes-later told later (len_of s) (part_origin (Held s)) bytes on) sound.ops_are;
   told_are = facts_later told later sound.facts on sound.told_are;
+  stored_are = pieces_stay (is_told told) (is_told later) (λ places h. is_told-later told later places on h) sound.stored sound.stored_are;
   run = sound.run;
 }
 
@@ -70,6 +73,7 @@ sound_along size kv after told x ops same sound = record {
   stored = sound.stored;
   ops_are = sound.ops_are;
   told_are = sound.told_are;
+  stored_are = sound.stored_are;
   run = subst (λ w. IsRun (caller_at size x.tx 0) w x.session (did_by x.at sound.facts sound.stored) (first_of x ops x.replayed)) (sym same) sound.run;
 }
 
@@ -101,6 +105,7 @@ module _ (size : ℕ) (kv : Store Key Value) (told : Told) where
         stored = sound.stored ++ did.stored;
         ops_are = stand;
         told_are = TellFacts-append told sound.facts did.facts sound.told_are step.told_are;
+        stored_are = PiecesBytes-append (is_told told) sound.stored did.stored sound.stored_are step.stored_are;
         run = subst (λ c. IsRun (caller_at size c 0) (metadata_at kv new.at.base) new.session whole (first_of new ops2 new.replayed)) (sym tx)
             (subst (λ n. IsRun (caller_at size old.tx 0) (metadata_at kv n) new.session whole (first_of new ops2 new.replayed)) (sym base)
             (subst (λ l. IsRun (caller_at size old.tx 0) b new.session whole (l, take new.replayed new.log.shown)) (sym done)

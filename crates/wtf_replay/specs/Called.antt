@@ -1,17 +1,14 @@
 -- What a call makes of a transaction.
-use Rattle.std.specs.Prelude.{◌≡◌, ℕ, ◌+◌, List, ⊤}
+use Rattle.std.specs.Prelude.{◌≡◌, ℕ, ◌+◌, List, Option}
 use Rattle.wtf_base.specs.declared.kept.Kept.{Kept}
+use Rattle.wtf_base.specs.declared.slice.Slice.{Slice}
 use Rattle.wtf_occ.specs.Attempts.{Grows}
 use Rattle.wtf_model.specs.declared.answer.Answer.{Answer}
 use Rattle.wtf_model.specs.declared.op.Op.{Op}
 use Rattle.wtf_model.specs.Steps.{IsLogged}
 use Rattle.wtf_log.specs.Calls.{with_call}
-use Rattle.wtf_log.specs.Standing.{OpStandsFor}
 use Rattle.wtf_replay.specs.Views.{TxnView}
-
--- a logged call has the verb and the arguments of a call, and counts its bytes
-abbrev pub IsKeptOf : Op Kept → Op (List ℕ) → Type 0
-IsKeptOf kept o = OpStandsFor (λ s bytes. ⊤) kept o
+use Rattle.wtf_replay.specs.Keeps.{IsKeptOf, LacksData}
 
 -- a logged call stands in the log with its answer, and the transaction goes on at its base
 pub record IsLoggedAs (old new : TxnView) (kept : Op Kept) (a : Answer) : Type 0 where
@@ -22,8 +19,9 @@ pub record IsLoggedAs (old new : TxnView) (kept : Op Kept) (a : Answer) : Type 0
   pub replayed : new.replayed ≡ old.replayed + 1
   pub ended : new.ended ≡ old.ended
 
--- and so does a call
-pub record IsCalled (old new : TxnView) (o : Op (List ℕ)) (a : Answer) : Type 0 where
+-- and so does a call, which the log keeps with the slice that was stored of its data
+pub record IsCalled (old new : TxnView) (o : Op (List ℕ)) (own : Option Slice) (a : Answer) : Type 0 where
   pub kept : Op Kept
-  pub kept_is : IsKeptOf kept o
+  pub kept_is : IsKeptOf o own kept
+  pub lacks : LacksData o own a
   pub logged : IsLoggedAs old new kept a

@@ -1,8 +1,11 @@
 pub mod Views
 pub mod Built
+pub mod Keeps
 pub mod Refusals
 pub mod Fits
 pub mod Sounds
+pub mod Insides
+pub mod Causes
 pub mod Called
 pub mod Tried
 pub mod Replays

@@ -1,13 +1,11 @@
 -- The refusals of a transaction itself: they are answered, and leave all as it was.
-use Rattle.std.specs.Prelude.{ℕ, if◌then◌else◌, List, Option, Some, None}
+use Rattle.std.specs.Prelude.{if◌then◌else◌, Option, Some, None}
 use Rattle.std.specs.Option.{option_map}
 use Rattle.wtf_model.specs.declared.answer.Answer.{Answer}
 use Rattle.wtf_model.specs.declared.answer.Answer.TheVariants as answer
 use Rattle.wtf_model.specs.declared.answer.Word.{Word}
 use Rattle.wtf_model.specs.declared.answer.Word.TheVariants.{Replaying, Full, Live}
-use Rattle.wtf_model.specs.declared.op.Op.{Op}
 use Rattle.wtf_replay.specs.Views.{TxnView, is_live, is_full}
-use Rattle.wtf_replay.specs.Built.{is_built_op}
 
 -- of a call, in their order: a replay runs, the log is full
 abbrev pub call_refusal : TxnView → Option Word
@@ -21,6 +19,6 @@ try_refusal x = if is_live x then None else Some Replaying
 abbrev pub step_refusal : TxnView → Option Word
 step_refusal x = if is_live x then Some Live else None
 
--- what is answered to a call that is not made: it is not built yet, or it is refused
-abbrev pub unmade : TxnView → Op (List ℕ) → Option Answer
-unmade x o = if is_built_op o then option_map answer.Refused (call_refusal x) else Some answer.NotBuilt
+-- what is answered to a call that is not made: it is refused
+abbrev pub unmade : TxnView → Option Answer
+unmade x = option_map answer.Refused (call_refusal x)

@@ -64,13 +64,13 @@ IsEnded kv after (answer.Committed n) = (n ≡ kv.number + 1) × (after.number �
 IsEnded kv after (Aborted' i box a) = after.number ≡ kv.number
 IsEnded kv after a = ⊥
 
--- the meaning of a commit: a run on the map now, or calls that deviate there
-abbrev pub IsTrueEnd : ℕ → Told → Store Key Value → Store Key Value → TxnView → List (Op (List ℕ)) → Answer → Type 0
-IsTrueEnd size told kv after x ops (answer.Committed n) = IsFinal size told kv after x ops n
-IsTrueEnd size told kv after x ops (Aborted' i box a) = DeviatesOn (metadata_at kv kv.number) size told x ops i a
+-- the meaning of a commit, by what the stores tell before and after: a run on the map now, or calls that deviate there
+abbrev pub IsTrueEnd : ℕ → Told × Told → Store Key Value → Store Key Value → TxnView → List (Op (List ℕ)) → Answer → Type 0
+IsTrueEnd size told kv after x ops (answer.Committed n) = IsFinal size told.1 kv after x ops n
+IsTrueEnd size told kv after x ops (Aborted' i box a) = DeviatesOn (metadata_at kv kv.number) size told.0 x ops i a
 IsTrueEnd size told kv after x ops a = ⊤
 
 -- a whole replay: all answers are what was shown, or one is not
-abbrev pub IsReplay : ℕ → Store Key Value → Told → TxnView → List (Op (List ℕ)) → Option (ℕ × Answer) → Type 0
-IsReplay size kv told x ops None = IsSound size kv told x ops
-IsReplay size kv told x ops (Some p) = DeviatesOn (metadata_at kv x.at.base) size told x ops p.0 p.1
+abbrev pub IsReplay : ℕ → Store Key Value → Told × Told → TxnView → List (Op (List ℕ)) → Option (ℕ × Answer) → Type 0
+IsReplay size kv told x ops None = IsSound size kv told.1 x ops
+IsReplay size kv told x ops (Some p) = DeviatesOn (metadata_at kv x.at.base) size told.0 x ops p.0 p.1

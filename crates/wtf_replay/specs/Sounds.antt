@@ -1,6 +1,8 @@
 -- What holds of a transaction over stores that tell their content: its calls are the definitions' run.
 -- NSDI 2016, section 2.6 (a replay must show what was shown).
-use Rattle.std.specs.Prelude.{ℕ, List, take}
+use Rattle.std.specs.Prelude.{◌≡◌, ℕ, List, take}
+use Rattle.wtf_dev.specs.Store.{StoreKind}
+use Rattle.wtf_dev.specs.Sums.{TellsAll}
 use Rattle.wtf_kv.specs.Stores.{Store}
 use Rattle.wtf_base.specs.declared.slice.Slice.{Slice}
 use Rattle.wtf_base.specs.Slices.{len_of}
@@ -8,15 +10,21 @@ use Rattle.wtf_overlay.specs.Origin.{part_origin}
 use Rattle.wtf_overlay.specs.declared.part.Part.TheVariants.{Held}
 use Rattle.wtf_overlay.specs.declared.part.Piece.{Piece}
 use Rattle.wtf_occ.specs.Attempts.{Attempted}
+use Rattle.wtf_replica.specs.Bytes.{byte_at}
 use Rattle.wtf_model.specs.declared.answer.Answer.{Answer}
 use Rattle.wtf_model.specs.declared.op.Op.{Op}
+use Rattle.wtf_model.specs.Session.{Session}
+use Rattle.wtf_model.specs.Call.{call}
 use Rattle.wtf_values.specs.declared.key.Key.{Key}
 use Rattle.wtf_values.specs.declared.value.Value.{Value}
 use Rattle.wtf_values.specs.declared.value.Delta.{Delta}
 use Rattle.wtf_log.specs.Standing.{OpsStandFor}
 use Rattle.wtf_meta.specs.Maps.{Map, metadata_at}
-use Rattle.wtf_meta.specs.Contents.{Told, TellBytes}
-use Rattle.wtf_meta.specs.Calls.{Caller, Fact, Did, InHand, TellFacts, IsStep, IsRun}
+use Rattle.wtf_meta.specs.Bytes.{MapBytes, PiecesBytes}
+use Rattle.wtf_meta.specs.Contents.{Told, TellBytes, is_told}
+use Rattle.wtf_meta.specs.Trees.{Stands}
+use Rattle.wtf_meta.specs.Sessions.{SessionView, SessionBytes, Holds}
+use Rattle.wtf_meta.specs.Calls.{Caller, Fact, Did, InHand, TellFacts, IsStep, IsRun, cap_for}
 use Rattle.wtf_replay.specs.Views.{TxnView}
 
 -- the bytes of a slice are told
@@ -36,15 +44,31 @@ abbrev pub first_of : TxnView → List (Op (List ℕ)) → ℕ → List (Op (Lis
 first_of x ops n = (take n ops, take n x.log.shown)
 
 -- The logged calls stand for calls; and what the attempt did is the run, on the map at its base, of those that are done
--- there, over stores that tell its facts.
+-- there, over stores that tell its facts and what it stored.
 pub record IsSound (size : ℕ) (kv : Store Key Value) (told : Told) (x : TxnView) (ops : List (Op (List ℕ))) : Type 0 where
   pub facts : List Fact
   pub stored : List Piece
   pub ops_are : OpsStandFor (tells_slice told) x.log.ops ops
   pub told_are : TellFacts told facts
+  pub stored_are : PiecesBytes (is_told told) stored
   pub run : IsRun (caller_at size x.tx 0) (metadata_at kv x.at.base) x.session (did_by x.at facts stored) (first_of x ops x.replayed)
 
--- one call more, whose facts the stores tell
+-- the stores tell their content, and each byte that a map names
+pub record TellsMap {S : Type 0} (kind : StoreKind S) (shelf : List S) (w : Map) : Type 0 where
+  pub all : TellsAll kind shelf
+  pub map : MapBytes (is_told (byte_at kind shelf)) w
+
+-- and each byte of the slices in hand
+pub record TellsHand {S : Type 0} (kind : StoreKind S) (shelf : List S) (w : Map) (s : SessionView) : Type 0 where
+  pub seen : TellsMap kind shelf w
+  pub slices : SessionBytes (is_told (byte_at kind shelf)) s
+
+-- one call more, whose facts the stores tell, and what it stored
 pub record IsToldStep (told : Told) (x : Caller) (b : Map) (old new : InHand) (o : Op (List ℕ)) (a : Answer) : Type 0 where
   pub step : IsStep x b old new o a
   pub told_are : TellFacts told step.did.facts
+  pub stored_are : PiecesBytes (is_told told) step.did.stored
+
+-- on the map, and with this in hand, the definitions' call answers so
+abbrev pub IsDue : Told → Caller → Map → SessionView → Op (List ℕ) → Answer → Type 0
+IsDue told x w s o a = (S : Session) → Stands x.size told x.tx x.calls w S.tree → Holds told w s S → (call (cap_for x) S o).answer ≡ a

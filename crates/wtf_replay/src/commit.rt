@@ -1,6 +1,9 @@
 //! Commits by a whole replay.
 
-ghost use Rattle.std.specs.Prelude.{◌≡◌, ◌+◌, ◌<◌, ◌≤◌, ◌^◌, ℕ, List, [], IsTrue, IfOk, IfErr, OnOk, OnErr, length};
+ghost use Rattle.std.specs.Prelude.{◌≡◌, ◌⊎◌, ◌+◌, ◌<◌, ◌≤◌, ◌^◌, ℕ, Bool, true, List, [], IsTrue, IfOk, IfErr, OnOk, OnErr, length};
+ghost use Rattle.wtf_replica.specs.Bytes.{byte_at};
+ghost use Rattle.wtf_overlay.specs.Origin.{Place};
+ghost use Rattle.wtf_meta.specs.Bytes.{MapBytes};
 ghost use Rattle.wtf_kv.specs.Stores.{is_pinned};
 ghost use Rattle.wtf_occ.specs.Attempts.{Grows};
 ghost use Rattle.wtf_occ.specs.Tries.{IsInstalled};
@@ -8,13 +11,16 @@ ghost use Rattle.wtf_values.specs.Keys.{key_cmp};
 ghost use Rattle.wtf_values.specs.Outcomes.{outcome_of};
 ghost use Rattle.wtf_model.specs.Same.{IsAbortedAt};
 ghost use Rattle.wtf_log.specs.Standing.{OpsStandFor};
-ghost use Rattle.wtf_meta.specs.Contents.{Told};
 ghost use Rattle.wtf_meta.specs.Maps.{AllFit, metadata_at};
 ghost use Rattle.wtf_meta.specs.Sessions.{nothing_open};
-ghost use Rattle.wtf_region.specs.Devs.{IsSoundDev, GoesOn};
-ghost use Rattle.wtf_replay.specs.Views.{replaying, untouched};
+ghost use Rattle.wtf_region.specs.Devs.{IsSoundDev, GoesOn, stores, between};
+ghost use Rattle.wtf_region.specs.Inside.{IsStoredInside};
+ghost use Rattle.wtf_region.specs.Showing.{OnlyRead};
+ghost use Rattle.wtf_replay.specs.Views.{in_hand, replaying, untouched};
 ghost use Rattle.wtf_replay.specs.Fits.{IsLog};
-ghost use Rattle.wtf_replay.specs.Sounds.{IsSound, tells_slice};
+ghost use Rattle.wtf_replay.specs.Sounds.{IsSound, TellsMap, tells_slice};
+ghost use Rattle.wtf_replay.specs.Insides.{IsHandInside, IsLogInside, HandBytes, LogBytes};
+ghost use Rattle.wtf_replay.specs.Causes.{ReplayFault};
 ghost use Rattle.wtf_replay.specs.Tried.{KeepsMaps, KeepsPins};
 ghost use Rattle.wtf_replay.specs.Replays.{IsEnded, IsTrueEnd};
 
@@ -71,7 +77,7 @@ pub(crate) fn replay_and_install<S: SliceStore>(
     dev: &mut Dev<'_, S>,
     kv: &mut Kv<Key, Value>,
     at: &mut Attempt<Key, Value>,
-    session: &Session,
+    session: &mut Session,
     tx: TxId,
     log: &Log,
     from: u32,
@@ -83,17 +89,33 @@ pub(crate) fn replay_and_install<S: SliceStore>(
     requires fits { AllFit at.old.changes (metadata_at kv.old at.old.base) }
     requires log { IsLog log.now }
     requires from { from ≤ length log.now.ops }
+    requires inside { IsHandInside S.kind (stores dev.old) dev.old.settings kv.old
+        (in_hand at.old session.old) }
+    requires logged { IsLogInside S.kind (stores dev.old) dev.old.settings log.now }
     ensures ended { IfOk result (λ a. IsEnded kv.old kv.new a) }
-    ensures meaning { IfOk result (λ a. (size : ℕ) (told : Told) (ops : List (Op (List ℕ))) →
-        IsSound size kv.old told (replaying tx.0 at.old session.now log.now from) ops →
-        IsTrueEnd size told kv.old kv.new
-        (replaying tx.0 at.old session.now log.now from) ops a) }
+    ensures meaning { IfOk result (λ a. (ops : List (Op (List ℕ))) →
+        TellsMap S.kind (stores dev.old) (metadata_at kv.old kv.old.number) →
+        IsSound dev.old.settings.region kv.old (byte_at S.kind (stores dev.old))
+        (replaying tx.0 at.old session.old log.now from) ops →
+        IsTrueEnd dev.old.settings.region
+        (byte_at S.kind (stores dev.old), byte_at S.kind (stores dev.new)) kv.old kv.new
+        (replaying tx.0 at.old session.old log.now from) ops a) }
+    ensures named { OnOk result ((P : List Place → Bool) → P [] ≡ true →
+        HandBytes P kv.old (in_hand at.old session.old) → LogBytes P log.now →
+        MapBytes P (metadata_at kv.new kv.new.number)) }
     ensures maps { KeepsMaps kv.old kv.new }
     ensures pins { kv.new.pins ≡ kv.old.pins }
     ensures err { OnErr result (kv.new.number ≡ kv.old.number) }
     ensures grows { Grows at.old at.new }
     ensures fit { AllFit at.new.changes (metadata_at kv.old at.new.base) }
-    ensures fault { IfErr result (λ why. why ≡ Fault.Memory) }
+    ensures inside { IsHandInside S.kind (stores dev.new) dev.old.settings kv.new
+        (in_hand at.new session.new) }
+    ensures inside_now { IsStoredInside S.kind (stores dev.new) dev.old.settings
+        (metadata_at kv.new kv.new.number) }
+    ensures fault { IfErr result (λ why. (why ≡ Fault.Memory) ⊎
+        ReplayFault S.kind dev.old dev.new kv.old
+        (replaying tx.0 at.old session.old log.now from) why) }
+    ensures reads { OnlyRead S.kind (between dev.old dev.new) }
     ensures dev { GoesOn S.kind dev.old dev.new [] }
 {
     let other = match replay_from(alloc, dev, kv, at, session, tx, log, from) {
@@ -127,15 +149,28 @@ pub(crate) fn commit_now<S: SliceStore>(
     requires sound { IsSoundDev dev.old }
     requires room { kv.old.number < 2 ^ 63 }
     requires log { IsLog log.now }
+    requires inside { IsStoredInside S.kind (stores dev.old) dev.old.settings
+        (metadata_at kv.old kv.old.number) }
+    requires logged { IsLogInside S.kind (stores dev.old) dev.old.settings log.now }
     ensures ended { IfOk result (λ a. IsEnded kv.old kv.new a) }
-    ensures meaning { IfOk result (λ a. (size : ℕ) (told : Told) (ops : List (Op (List ℕ))) →
-        OpsStandFor (tells_slice told) log.now.ops ops →
-        IsTrueEnd size told kv.old kv.new
+    ensures meaning { IfOk result (λ a. (ops : List (Op (List ℕ))) →
+        TellsMap S.kind (stores dev.old) (metadata_at kv.old kv.old.number) →
+        OpsStandFor (tells_slice (byte_at S.kind (stores dev.old))) log.now.ops ops →
+        IsTrueEnd dev.old.settings.region
+        (byte_at S.kind (stores dev.old), byte_at S.kind (stores dev.new)) kv.old kv.new
         (replaying tx.0 (untouched kv.old.number) nothing_open log.now 0) ops a) }
+    ensures named { OnOk result ((P : List Place → Bool) → P [] ≡ true →
+        MapBytes P (metadata_at kv.old kv.old.number) → LogBytes P log.now →
+        MapBytes P (metadata_at kv.new kv.new.number)) }
     ensures maps { KeepsMaps kv.old kv.new }
     ensures pins { KeepsPins kv.old kv.new }
     ensures err { OnErr result (kv.new.number ≡ kv.old.number) }
-    ensures fault { IfErr result (λ why. why ≡ Fault.Memory) }
+    ensures inside { IsStoredInside S.kind (stores dev.new) dev.old.settings
+        (metadata_at kv.new kv.new.number) }
+    ensures fault { IfErr result (λ why. (why ≡ Fault.Memory) ⊎
+        ReplayFault S.kind dev.old dev.new kv.old
+        (replaying tx.0 (untouched kv.old.number) nothing_open log.now 0) why) }
+    ensures reads { OnlyRead S.kind (between dev.old dev.new) }
     ensures dev { GoesOn S.kind dev.old dev.new [] }
 {
     let number = kv.number();
@@ -143,14 +178,14 @@ pub(crate) fn commit_now<S: SliceStore>(
         Ok(at) => at,
         Err(_) => return Err(Fault::Memory),
     };
-    let session = match Session::new(alloc) {
+    let mut session = match Session::new(alloc) {
         Ok(session) => session,
         Err(_) => return Err(Fault::Memory),
     };
     if let Err(_) = kv.pin(number) {
         return Err(Fault::Memory);
     }
-    match replay_and_install(alloc, dev, kv, &mut at, &session, tx, log, 0) {
+    match replay_and_install(alloc, dev, kv, &mut at, &mut session, tx, log, 0) {
         Ok(answer) => {
             kv.unpin(number);
             return Ok(answer);

@@ -5,6 +5,7 @@
 
 mod commit;
 mod names;
+mod ops;
 mod replay;
 mod txn;
 

@@ -1,16 +1,16 @@
-//! The calls that are built so far: those on names.
+//! The calls on names.
 
-ghost use Rattle.std.specs.Prelude.{◌≡◌, ◌+◌, ℕ, List, true, false, IsTrue, IfOk, MatchOption};
+ghost use Rattle.std.specs.Prelude.{◌≡◌, ◌+◌, ℕ, List, true, false, IsTrue, IfOk};
 ghost use Rattle.wtf_kv.specs.Stores.{is_pinned};
 ghost use Rattle.wtf_occ.specs.Attempts.{Grows};
 ghost use Rattle.wtf_model.specs.Steps.{IsLogged};
 ghost use Rattle.wtf_meta.specs.Maps.{seen};
 ghost use Rattle.wtf_meta.specs.Calls.{Caller};
-ghost use Rattle.wtf_replay.specs.Built.{is_built_op, IsNameOp};
+ghost use Rattle.wtf_replay.specs.Built.{is_rw_op, is_slice_op, IsNameOp};
 ghost use Rattle.wtf_replay.specs.Looked.{IsLooked, IsNameCall};
 
 use std::alloc::Global;
-use wtf_base::{Bytes, InodeId, Kept, OutOfMemory};
+use wtf_base::{InodeId, OutOfMemory};
 use wtf_index::{create, list, look_up, mkdir, rename, rmdir, unlink};
 use wtf_kv::Kv;
 use wtf_meta::Session;
@@ -19,33 +19,18 @@ use wtf_occ::Attempt;
 use wtf_path::Path;
 use wtf_values::{Key, Node, Value};
 
-/// The call as a log keeps it; none where it is not built.
-pub(crate) fn named(op: Op<Bytes>) -> Option<Op<Kept>>
-    ensures { MatchOption result (is_built_op op ≡ false)
-        (λ kept. (is_built_op op ≡ true) × IsNameOp kept op) }
-{
-    match op {
-        Op::Mkdir(p) => Some(Op::Mkdir(p)),
-        Op::Rmdir(p) => Some(Op::Rmdir(p)),
-        Op::Create(p) => Some(Op::Create(p)),
-        Op::Unlink(p) => Some(Op::Unlink(p)),
-        Op::Rename(p, q) => Some(Op::Rename(p, q)),
-        Op::List(p) => Some(Op::List(p)),
-        _ => None,
-    }
-}
-
 /// Makes a call on names. Want of memory may leave the attempt grown.
-pub(crate) fn name_call(
+pub(crate) fn name_call<D>(
     alloc: Global,
     kv: &Kv<Key, Value>,
     at: &mut Attempt<Key, Value>,
     session: &Session,
     new: InodeId,
-    op: &Op<Kept>,
+    op: &Op<D>,
 ) -> Result<Answer, OutOfMemory>
     requires pinned { IsTrue (is_pinned kv.now at.old.base) }
-    requires built { is_built_op op.now ≡ true }
+    requires plain { is_rw_op op.now ≡ false }
+    requires names { is_slice_op op.now ≡ false }
     ensures step { IfOk result (λ a. (x : Caller) (o : Op (List ℕ)) → IsNameOp op.now o →
         new.tx.0 ≡ x.tx → new.index ≡ x.calls + 1 →
         IsNameCall x (seen kv.now at.old) session.now at.old at.new o a) }
@@ -59,7 +44,7 @@ pub(crate) fn name_call(
         Op::Unlink(p) => return unlink_closed(alloc, kv, at, session, p),
         Op::Rename(p, q) => return rename_closed(alloc, kv, at, session, p, q),
         Op::List(p) => return list(alloc, kv, at, p),
-        _ => return Ok(Answer::NotBuilt),
+        _ => unreachable!(),
     }
 }
 

@@ -1,59 +1,68 @@
 //! One call, and calls made once more.
 
-ghost use Rattle.std.specs.Prelude.{◌≡◌, ◌≢◌, ◌+◌, ◌<◌, ◌≤◌, ◌^◌, ◌↔◌, ℕ, List, [], true, Ok, Some, IsTrue, IfOk, IfErr, OnOk, OnErr, length, slice_get};
+ghost use Rattle.std.specs.Prelude.{◌≡◌, ◌≢◌, ◌+◌, ◌<◌, ◌≤◌, ◌^◌, ◌↔◌, ℕ, List, [], true, false, Ok, None, Some, IsTrue, IsSome, IfOk, IfErr, IfSome, OnOk, OnErr, length, slice_get};
+ghost use Rattle.wtf_base.specs.Slices.{len_of};
+ghost use Rattle.wtf_dev.specs.Sums.{TellsAll};
+ghost use Rattle.wtf_replica.specs.Bytes.{byte_at};
 ghost use Rattle.wtf_kv.specs.Stores.{is_pinned};
+ghost use Rattle.wtf_overlay.specs.Origin.{Place};
 ghost use Rattle.wtf_occ.specs.Attempts.{Grows};
+ghost use Rattle.wtf_model.specs.declared.answer.Answer.TheVariants as answer;
 ghost use Rattle.wtf_model.specs.declared.limits.TheConstants.{MAX_LOGGED};
+ghost use Rattle.wtf_model.specs.Form.{IsFormOp, IsData, IsKeptData};
 ghost use Rattle.wtf_model.specs.Steps.{IsLogged};
-ghost use Rattle.wtf_log.specs.Calls.{with_call};
-ghost use Rattle.wtf_meta.specs.Contents.{Told};
+ghost use Rattle.wtf_log.specs.Calls.{with_call, own_of};
+ghost use Rattle.wtf_log.specs.Standing.{OpStandsFor};
 ghost use Rattle.wtf_meta.specs.Maps.{seen, AllFit, metadata_at};
 ghost use Rattle.wtf_meta.specs.Calls.{Caller};
-ghost use Rattle.wtf_region.specs.Devs.{IsSoundDev, GoesOn};
+ghost use Rattle.wtf_region.specs.Devs.{IsSoundDev, GoesOn, stores, between};
+ghost use Rattle.wtf_region.specs.Inside.{is_inside};
+ghost use Rattle.wtf_region.specs.Showing.{OnlyRead};
+ghost use Rattle.wtf_rw.specs.Faults.{MayFault};
+ghost use Rattle.wtf_rw.specs.Stored.{SliceBytes, TellSlice};
 ghost use Rattle.wtf_replay.specs.Views.{in_hand, replaying};
-ghost use Rattle.wtf_replay.specs.Built.{is_built_op, IsNameOp};
+ghost use Rattle.wtf_replay.specs.Built.{is_rw_op, is_slice_op, IsNameOp, IsPlainOp, IsFormPlain, data_of};
+ghost use Rattle.wtf_replay.specs.Keeps.{IsKeptFor, LacksData};
 ghost use Rattle.wtf_replay.specs.Fits.{IsLog};
-ghost use Rattle.wtf_replay.specs.Sounds.{IsSound, IsToldStep, caller_at};
+ghost use Rattle.wtf_replay.specs.Sounds.{IsSound, IsToldStep, IsDue, TellsMap, TellsHand, tells_slice, caller_at};
+ghost use Rattle.wtf_replay.specs.Insides.{HandBytes, IsHandInside, IsLogInside, NamesHand, NamesAgain};
+ghost use Rattle.wtf_replay.specs.Causes.{IsOwnOf, StoresNothing, IsStillOp, IsPlainFault, IsCallFault, IsAgainFault, MayAgainFault, FaultAt, ReplayFault};
+ghost use Rattle.wtf_replay.specs.Looked.{IsNameCall};
 ghost use Rattle.wtf_replay.specs.Replays.{IsReplay};
 
 use crate::names::name_call;
+use crate::ops::{fresh_of, slice_of, stored_of};
 use std::alloc::Global;
-use wtf_base::{Fault, InodeId, Kept, OutOfMemory, TxId};
+use wtf_base::{Bytes, Fault, InodeId, Kept, TxId};
 use wtf_dev::SliceStore;
 use wtf_kv::Kv;
 use wtf_log::{Log, LogError};
 use wtf_meta::Session;
 use wtf_model::{Answer, Op, is_same_answer};
-use wtf_occ::{Attempt, Tried};
+use wtf_occ::Attempt;
 use wtf_region::Dev;
+use wtf_rw::Done;
 use wtf_values::{Key, Value};
 
-/// Makes a call. After a fault the attempt is as it was. The calls so far are on names, and need no
-/// store.
-pub(crate) fn make_call<S: SliceStore>(
+/// Makes a call on names. After a fault the attempt is as it was.
+fn make_name<D>(
     alloc: Global,
-    _dev: &mut Dev<'_, S>,
     kv: &Kv<Key, Value>,
     at: &mut Attempt<Key, Value>,
     session: &Session,
     new: InodeId,
-    op: &Op<Kept>,
+    op: &Op<D>,
 ) -> Result<Answer, Fault>
-    requires sound { IsSoundDev _dev.old }
     requires pinned { IsTrue (is_pinned kv.now at.old.base) }
-    requires built { is_built_op op.now ≡ true }
-    requires counted { 1 ≤ new.index }
-    requires fits { AllFit at.old.changes (metadata_at kv.now at.old.base) }
-    ensures step { IfOk result (λ a. (told : Told) (x : Caller) (o : Op (List ℕ)) →
-        IsNameOp op.now o → new.tx.0 ≡ x.tx → new.index ≡ x.calls + 1 →
-        IsToldStep told x (seen kv.now at.old)
-        (in_hand at.old session.now) (in_hand at.new session.now) o a) }
+    requires plain { is_rw_op op.now ≡ false }
+    requires names { is_slice_op op.now ≡ false }
+    ensures step { IfOk result (λ a. (x : Caller) (o : Op (List ℕ)) → IsNameOp op.now o →
+        new.tx.0 ≡ x.tx → new.index ≡ x.calls + 1 →
+        IsNameCall x (seen kv.now at.old) session.now at.old at.new o a) }
     ensures logged { IfOk result (λ a. IsLogged a) }
     ensures grows { Grows at.old at.new }
-    ensures fit { OnOk result (AllFit at.new.changes (metadata_at kv.now at.new.base)) }
     ensures err { OnErr result (at.new ≡ at.old) }
     ensures fault { IfErr result (λ why. why ≡ Fault.Memory) }
-    ensures dev { GoesOn S.kind _dev.old _dev.new [] }
 {
     let mark = at.mark();
     match name_call(alloc, kv, at, session, new, op) {
@@ -62,6 +71,175 @@ pub(crate) fn make_call<S: SliceStore>(
             at.rewind(mark);
             return Err(Fault::Memory);
         }
+    }
+}
+
+/// Makes a call that has no data: one on names, on slices, or one that makes a file of others. After
+/// a fault the attempt and what is in hand are as they were.
+fn make_plain<S: SliceStore, D>(
+    alloc: Global,
+    dev: &mut Dev<'_, S>,
+    kv: &Kv<Key, Value>,
+    at: &mut Attempt<Key, Value>,
+    session: &mut Session,
+    new: InodeId,
+    op: &Op<D>,
+) -> Result<Answer, Fault>
+    requires sound { IsSoundDev dev.old }
+    requires pinned { IsTrue (is_pinned kv.now at.old.base) }
+    requires plain { is_rw_op op.now ≡ false }
+    requires form { IsFormPlain op.now }
+    requires counted { 1 ≤ new.index }
+    requires fits { AllFit at.old.changes (metadata_at kv.now at.old.base) }
+    requires inside { IsHandInside S.kind (stores dev.old) dev.old.settings kv.now
+        (in_hand at.old session.old) }
+    ensures step { IfOk result (λ a. (x : Caller) (o : Op (List ℕ)) → IsPlainOp op.now o →
+        x.size ≡ dev.old.settings.region → new.tx.0 ≡ x.tx → new.index ≡ x.calls + 1 →
+        TellsHand S.kind (stores dev.old) (seen kv.now at.old) session.old →
+        IsToldStep (byte_at S.kind (stores dev.new)) x (seen kv.now at.old)
+        (in_hand at.old session.old) (in_hand at.new session.new) o a) }
+    ensures named { OnOk result (NamesHand kv.now (in_hand at.old session.old)
+        (in_hand at.new session.new) None) }
+    ensures logged { IfOk result (λ a. IsLogged a) }
+    ensures grows { Grows at.old at.new }
+    ensures fit { OnOk result (AllFit at.new.changes (metadata_at kv.now at.new.base)) }
+    ensures inside { IsHandInside S.kind (stores dev.new) dev.old.settings kv.now
+        (in_hand at.new session.new) }
+    ensures still { IsStillOp op.now → dev.new ≡ dev.old }
+    ensures err { OnErr result ((at.new ≡ at.old) × (session.new ≡ session.old)) }
+    ensures fault { IfErr result (IsPlainFault S.kind dev.old dev.new session.old op.now) }
+    ensures due { IfErr result (λ why. (o : Op (List ℕ)) → IsPlainOp op.now o →
+        MayFault dev.old.settings (seen kv.now at.old) session.old o why) }
+    ensures reads { OnlyRead S.kind (between dev.old dev.new) }
+    ensures dev { GoesOn S.kind dev.old dev.new [] }
+{
+    match slice_of(op) {
+        Some(made) => match wtf_slicing::call(alloc, dev, kv, at, session, new, &made) {
+            Ok(answer) => return Ok(answer),
+            Err(why) => return Err(why),
+        },
+        None => match make_name(alloc, kv, at, session, new, op) {
+            Ok(answer) => return Ok(answer),
+            Err(why) => return Err(why),
+        },
+    }
+}
+
+/// Makes a call for the first time, and stores what it writes. After a fault the attempt and what
+/// is in hand are as they were.
+pub(crate) fn make_fresh<S: SliceStore>(
+    alloc: Global,
+    dev: &mut Dev<'_, S>,
+    kv: &Kv<Key, Value>,
+    at: &mut Attempt<Key, Value>,
+    session: &mut Session,
+    new: InodeId,
+    op: &Op<Bytes>,
+) -> Result<Done, Fault>
+    requires sound { IsSoundDev dev.old }
+    requires pinned { IsTrue (is_pinned kv.now at.old.base) }
+    requires form { IsFormOp IsData op.now }
+    requires counted { 1 ≤ new.index }
+    requires fits { AllFit at.old.changes (metadata_at kv.now at.old.base) }
+    requires inside { IsHandInside S.kind (stores dev.old) dev.old.settings kv.now
+        (in_hand at.old session.old) }
+    ensures step { IfOk result (λ d. (x : Caller) → x.size ≡ dev.old.settings.region →
+        new.tx.0 ≡ x.tx → new.index ≡ x.calls + 1 →
+        TellsHand S.kind (stores dev.old) (seen kv.now at.old) session.old →
+        IsToldStep (byte_at S.kind (stores dev.new)) x (seen kv.now at.old)
+        (in_hand at.old session.old) (in_hand at.new session.new) op.now d.answer) }
+    ensures own { IfOk result (λ d.
+        IsOwnOf S.kind dev.old dev.new (seen kv.now at.old) session.old op.now d.own) }
+    ensures own_len { IfOk result (λ d. IfSome d.own (λ s. len_of s ≡ length (data_of op.now))) }
+    ensures own_told { IfOk result (λ d. TellsAll S.kind (stores dev.old) →
+        TellSlice (byte_at S.kind (stores dev.new)) d.own (data_of op.now)) }
+    ensures own_inside { IfOk result (λ d.
+        SliceBytes (is_inside S.kind (stores dev.new) dev.old.settings) d.own) }
+    ensures named { IfOk result (λ d. NamesHand kv.now (in_hand at.old session.old)
+        (in_hand at.new session.new) d.own) }
+    ensures lacks { IfOk result (λ d. LacksData op.now d.own d.answer) }
+    ensures done { IfOk result (λ d. IsSome d.own → d.answer ≡ answer.Okay) }
+    ensures logged { IfOk result (λ d. IsLogged d.answer) }
+    ensures grows { Grows at.old at.new }
+    ensures fit { OnOk result (AllFit at.new.changes (metadata_at kv.now at.new.base)) }
+    ensures inside { IsHandInside S.kind (stores dev.new) dev.old.settings kv.now
+        (in_hand at.new session.new) }
+    ensures err { OnErr result ((at.new ≡ at.old) × (session.new ≡ session.old)) }
+    ensures fault { IfErr result
+        (IsCallFault S.kind dev.old dev.new (seen kv.now at.old) session.old op.now) }
+    ensures due { IfErr result
+        (MayFault dev.old.settings (seen kv.now at.old) session.old op.now) }
+    ensures reads { StoresNothing op.now → OnlyRead S.kind (between dev.old dev.new) }
+    ensures dev { GoesOn S.kind dev.old dev.new [] }
+{
+    match fresh_of(op) {
+        Some(made) => match wtf_rw::call(alloc, dev, kv, at, session, &made) {
+            Ok(done) => return Ok(done),
+            Err(why) => return Err(why),
+        },
+        None => match make_plain(alloc, dev, kv, at, session, new, op) {
+            Ok(answer) => return Ok(Done { answer, own: None }),
+            Err(why) => return Err(why),
+        },
+    }
+}
+
+/// Makes a call of a log once more, on what the log kept of its bytes, and stores nothing. Where
+/// the log kept no slice of them the answer alone is due. After a fault the attempt and what is in
+/// hand are as they were.
+pub(crate) fn make_stored<S: SliceStore>(
+    alloc: Global,
+    dev: &mut Dev<'_, S>,
+    kv: &Kv<Key, Value>,
+    at: &mut Attempt<Key, Value>,
+    session: &mut Session,
+    new: InodeId,
+    op: &Op<Kept>,
+) -> Result<Answer, Fault>
+    requires sound { IsSoundDev dev.old }
+    requires pinned { IsTrue (is_pinned kv.now at.old.base) }
+    requires form { IsFormOp IsKeptData op.now }
+    requires counted { 1 ≤ new.index }
+    requires fits { AllFit at.old.changes (metadata_at kv.now at.old.base) }
+    requires inside { IsHandInside S.kind (stores dev.old) dev.old.settings kv.now
+        (in_hand at.old session.old) }
+    requires given { SliceBytes (is_inside S.kind (stores dev.old) dev.old.settings)
+        (own_of op.now) }
+    ensures step { IfOk result (λ a. IsKeptFor op.now a → (x : Caller) (o : Op (List ℕ)) →
+        x.size ≡ dev.old.settings.region → new.tx.0 ≡ x.tx → new.index ≡ x.calls + 1 →
+        TellsHand S.kind (stores dev.old) (seen kv.now at.old) session.old →
+        OpStandsFor (tells_slice (byte_at S.kind (stores dev.old))) op.now o →
+        IsToldStep (byte_at S.kind (stores dev.new)) x (seen kv.now at.old)
+        (in_hand at.old session.old) (in_hand at.new session.new) o a) }
+    ensures due { IfOk result (λ a. (x : Caller) (o : Op (List ℕ)) →
+        x.size ≡ dev.old.settings.region → new.tx.0 ≡ x.tx → new.index ≡ x.calls + 1 →
+        TellsHand S.kind (stores dev.old) (seen kv.now at.old) session.old →
+        OpStandsFor (tells_slice (byte_at S.kind (stores dev.old))) op.now o →
+        IsDue (byte_at S.kind (stores dev.new)) x (seen kv.now at.old) session.old o a) }
+    ensures named { OnOk result (NamesHand kv.now (in_hand at.old session.old)
+        (in_hand at.new session.new) (own_of op.now)) }
+    ensures logged { IfOk result (λ a. IsLogged a) }
+    ensures grows { Grows at.old at.new }
+    ensures fit { OnOk result (AllFit at.new.changes (metadata_at kv.now at.new.base)) }
+    ensures inside { IsHandInside S.kind (stores dev.new) dev.old.settings kv.now
+        (in_hand at.new session.new) }
+    ensures err { OnErr result ((at.new ≡ at.old) × (session.new ≡ session.old)) }
+    ensures fault { IfErr result
+        (IsAgainFault S.kind dev.old dev.new (seen kv.now at.old) session.old op.now) }
+    ensures may { IfErr result
+        (MayAgainFault dev.old.settings (seen kv.now at.old) session.old op.now) }
+    ensures reads { OnlyRead S.kind (between dev.old dev.new) }
+    ensures dev { GoesOn S.kind dev.old dev.new [] }
+{
+    match stored_of(op) {
+        Some(made) => match wtf_rw::call(alloc, dev, kv, at, session, &made) {
+            Ok(done) => return Ok(done.answer),
+            Err(why) => return Err(why),
+        },
+        None => match make_plain(alloc, dev, kv, at, session, new, op) {
+            Ok(answer) => return Ok(answer),
+            Err(why) => return Err(why),
+        },
     }
 }
 
@@ -84,13 +262,13 @@ pub(crate) fn note(alloc: Global, log: &mut Log, op: Op<Kept>, answer: &Answer) 
 }
 
 /// Makes call `k` of a log, from 0 on, once more, and says whether its answer is what was shown.
-/// After a fault the attempt is as it was.
+/// After a fault the attempt and what is in hand are as they were.
 pub(crate) fn make_again<S: SliceStore>(
     alloc: Global,
     dev: &mut Dev<'_, S>,
     kv: &Kv<Key, Value>,
     at: &mut Attempt<Key, Value>,
-    session: &Session,
+    session: &mut Session,
     tx: TxId,
     log: &Log,
     k: u32,
@@ -100,21 +278,38 @@ pub(crate) fn make_again<S: SliceStore>(
     requires fits { AllFit at.old.changes (metadata_at kv.now at.old.base) }
     requires log { IsLog log.now }
     requires left { k < length log.now.ops }
-    ensures step { IfOk result (λ r. (size : ℕ) (told : Told) (kept : Op Kept) (o : Op (List ℕ)) →
-        slice_get log.now.ops k ≡ Some kept → IsNameOp kept o →
-        IsToldStep told (caller_at size tx.0 k) (seen kv.now at.old)
-        (in_hand at.old session.now) (in_hand at.new session.now) o r.0) }
+    requires inside { IsHandInside S.kind (stores dev.old) dev.old.settings kv.now
+        (in_hand at.old session.old) }
+    requires logged { IsLogInside S.kind (stores dev.old) dev.old.settings log.now }
+    ensures step { IfOk result (λ r. IsTrue r.1 → (kept : Op Kept) (o : Op (List ℕ)) →
+        slice_get log.now.ops k ≡ Some kept →
+        TellsHand S.kind (stores dev.old) (seen kv.now at.old) session.old →
+        OpStandsFor (tells_slice (byte_at S.kind (stores dev.old))) kept o →
+        IsToldStep (byte_at S.kind (stores dev.new)) (caller_at dev.old.settings.region tx.0 k)
+        (seen kv.now at.old) (in_hand at.old session.old) (in_hand at.new session.new) o r.0) }
+    ensures due { IfOk result (λ r. (kept : Op Kept) (o : Op (List ℕ)) →
+        slice_get log.now.ops k ≡ Some kept →
+        TellsHand S.kind (stores dev.old) (seen kv.now at.old) session.old →
+        OpStandsFor (tells_slice (byte_at S.kind (stores dev.old))) kept o →
+        IsDue (byte_at S.kind (stores dev.new)) (caller_at dev.old.settings.region tx.0 k)
+        (seen kv.now at.old) session.old o r.0) }
+    ensures named { OnOk result (NamesAgain kv.now (in_hand at.old session.old)
+        (in_hand at.new session.new) log.now) }
     ensures same { IfOk result (λ r. IsTrue r.1 ↔ (slice_get log.now.shown k ≡ Some r.0)) }
     ensures grows { Grows at.old at.new }
     ensures fit { OnOk result (AllFit at.new.changes (metadata_at kv.now at.new.base)) }
-    ensures err { OnErr result (at.new ≡ at.old) }
-    ensures fault { IfErr result (λ why. why ≡ Fault.Memory) }
+    ensures inside { IsHandInside S.kind (stores dev.new) dev.old.settings kv.now
+        (in_hand at.new session.new) }
+    ensures err { OnErr result ((at.new ≡ at.old) × (session.new ≡ session.old)) }
+    ensures fault { IfErr result
+        (FaultAt S.kind dev.old dev.new kv.now (in_hand at.old session.old) log.now k) }
+    ensures reads { OnlyRead S.kind (between dev.old dev.new) }
     ensures dev { GoesOn S.kind dev.old dev.new [] }
 {
     let _few = log.len();
     let new = InodeId { tx, index: k + 1 };
     let op = log.op(k + 1);
-    let answer = match make_call(alloc, dev, kv, at, session, new, op) {
+    let answer = match make_stored(alloc, dev, kv, at, session, new, op) {
         Ok(answer) => answer,
         Err(why) => return Err(why),
     };
@@ -130,7 +325,7 @@ pub(crate) fn replay_from<S: SliceStore>(
     dev: &mut Dev<'_, S>,
     kv: &Kv<Key, Value>,
     at: &mut Attempt<Key, Value>,
-    session: &Session,
+    session: &mut Session,
     tx: TxId,
     log: &Log,
     from: u32,
@@ -140,13 +335,25 @@ pub(crate) fn replay_from<S: SliceStore>(
     requires fits { AllFit at.old.changes (metadata_at kv.now at.old.base) }
     requires log { IsLog log.now }
     requires from { from ≤ length log.now.ops }
-    ensures replay { IfOk result (λ r. (size : ℕ) (told : Told) (ops : List (Op (List ℕ))) →
-        IsSound size kv.now told (replaying tx.0 at.old session.now log.now from) ops →
-        IsReplay size kv.now told
-        (replaying tx.0 at.new session.now log.now (length log.now.ops)) ops r) }
+    requires inside { IsHandInside S.kind (stores dev.old) dev.old.settings kv.now
+        (in_hand at.old session.old) }
+    requires logged { IsLogInside S.kind (stores dev.old) dev.old.settings log.now }
+    ensures replay { IfOk result (λ r. (ops : List (Op (List ℕ))) →
+        TellsMap S.kind (stores dev.old) (metadata_at kv.now at.old.base) →
+        IsSound dev.old.settings.region kv.now (byte_at S.kind (stores dev.old))
+        (replaying tx.0 at.old session.old log.now from) ops →
+        IsReplay dev.old.settings.region kv.now
+        (byte_at S.kind (stores dev.old), byte_at S.kind (stores dev.new))
+        (replaying tx.0 at.new session.new log.now (length log.now.ops)) ops r) }
+    ensures named { OnOk result (NamesAgain kv.now (in_hand at.old session.old)
+        (in_hand at.new session.new) log.now) }
     ensures grows { Grows at.old at.new }
     ensures fit { AllFit at.new.changes (metadata_at kv.now at.new.base) }
-    ensures fault { IfErr result (λ why. why ≡ Fault.Memory) }
+    ensures inside { IsHandInside S.kind (stores dev.new) dev.old.settings kv.now
+        (in_hand at.new session.new) }
+    ensures fault { IfErr result (ReplayFault S.kind dev.old dev.new kv.now
+        (replaying tx.0 at.old session.old log.now from)) }
+    ensures reads { OnlyRead S.kind (between dev.old dev.new) }
     ensures dev { GoesOn S.kind dev.old dev.new [] }
 {
     for k in from..log.len() {

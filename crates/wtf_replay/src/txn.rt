@@ -1,32 +1,36 @@
 //! Transactions.
 
-ghost use Rattle.std.specs.Prelude.{◌≡◌, ◌≢◌, ◌+◌, ◌<◌, ◌≤◌, ◌^◌, ℕ, List, [], ◌∷◌, ◌++◌, true, false, Ok, None, IsTrue, IfOk, IfErr, IfSome, OnOk, OnErr, length, nat_eq};
+ghost use Rattle.std.specs.Prelude.{◌≡◌, ◌≢◌, ◌⊎◌, ◌+◌, ◌<◌, ◌≤◌, ◌^◌, ℕ, List, [], ◌∷◌, ◌++◌, true, false, Ok, None, Option, IsTrue, IsSome, IfOk, IfErr, IfSome, OnOk, OnErr, length, nat_eq};
 ghost use Rattle.std.specs.Set.{remove_key};
-ghost use Rattle.wtf_dev.specs.Sums.{TellsAll};
+ghost use Rattle.wtf_base.specs.declared.slice.Slice.{Slice};
 ghost use Rattle.wtf_replica.specs.Bytes.{byte_at};
 ghost use Rattle.wtf_kv.specs.Stores.{is_pinned, IsPinnedOnceMore};
 ghost use Rattle.wtf_occ.specs.Tries.{Stays};
 ghost use Rattle.wtf_values.specs.Keys.{key_cmp};
 ghost use Rattle.wtf_model.specs.declared.limits.TheConstants.{MAX_LOGGED};
-ghost use Rattle.wtf_model.specs.Form.{IsFormOp, IsData, IsKeptData};
+ghost use Rattle.wtf_model.specs.Form.{IsFormOp, IsData};
 ghost use Rattle.wtf_meta.specs.Contents.{Told};
-ghost use Rattle.wtf_meta.specs.Maps.{metadata_at};
-ghost use Rattle.wtf_region.specs.Devs.{IsSoundDev, GoesOn, stores};
-ghost use Rattle.wtf_replay.specs.Views.{TxnView, begun, rebased, is_live};
-ghost use Rattle.wtf_replay.specs.Built.{is_built_op, IsNameOp};
+ghost use Rattle.wtf_meta.specs.Maps.{seen, metadata_at};
+ghost use Rattle.wtf_region.specs.Devs.{IsSoundDev, GoesOn, stores, between};
+ghost use Rattle.wtf_region.specs.Inside.{IsStoredInside};
+ghost use Rattle.wtf_region.specs.Showing.{OnlyRead};
+ghost use Rattle.wtf_rw.specs.Faults.{MayFault};
+ghost use Rattle.wtf_replay.specs.Views.{TxnView, begun, rebased, is_live, hand_of};
 ghost use Rattle.wtf_replay.specs.Refusals.{unmade, try_refusal, step_refusal};
 ghost use Rattle.wtf_replay.specs.Fits.{IsFit};
-ghost use Rattle.wtf_replay.specs.Sounds.{IsSound};
-ghost use Rattle.wtf_replay.specs.Called.{IsCalled, IsLoggedAs};
+ghost use Rattle.wtf_replay.specs.Sounds.{IsSound, TellsMap};
+ghost use Rattle.wtf_replay.specs.Insides.{IsInsideTxn, NamesTxn, NamesNow};
+ghost use Rattle.wtf_replay.specs.Causes.{IsOwnOf, StoresNothing, IsCallFault, FaultAt, IsCommitFault, MayStepFault, MayCommitFault};
+ghost use Rattle.wtf_replay.specs.Called.{IsCalled};
 ghost use Rattle.wtf_replay.specs.Tried.{IsAttempted, KeepsMaps, KeepsPins, MovesPin};
 ghost use Rattle.wtf_replay.specs.Replays.{IsStepped, IsOver, IsEnded, IsTrueAttempt, IsTrueStep, IsTrueEnd};
 
-use crate::commit::{aborted, commit_now, replay_and_install};
-use crate::names::named;
-use crate::replay::{make_again, make_call, note};
+use crate::commit::{commit_now, replay_and_install};
+use crate::ops::kept_of;
+use crate::replay::{make_again, make_fresh, note};
 use std::alloc::Global;
 use std::marker::Model;
-use wtf_base::{Bytes, Fault, InodeId, Kept, OutOfMemory, TxId};
+use wtf_base::{Bytes, Fault, InodeId, OutOfMemory, TxId};
 use wtf_dev::SliceStore;
 use wtf_kv::Kv;
 use wtf_log::Log;
@@ -137,9 +141,10 @@ impl Txn {
         self.replayed == self.log.len()
     }
 
-    /// Makes a call, and logs it with its answer. Instead it answers `NotBuilt` where the call is
-    /// not built yet, is refused as `Replaying` while a replay runs, and as `Full` where the log is
-    /// full: these log nothing and leave all as it was. After a fault the transaction is as it was.
+    /// Makes a call, and logs it with its answer and with the slice that was stored of its data.
+    /// Instead it is refused as `Replaying` while a replay runs, and as `Full` where the log is full:
+    /// these log nothing and leave all as it was. After a fault the transaction is as it was; where memory was short, handles may have
+    /// moved.
     pub fn call<S: SliceStore>(
         &mut self,
         dev: &mut Dev<'_, S>,
@@ -149,58 +154,77 @@ impl Txn {
         requires going { self.old.ended ≡ false }
         requires sound { IsSoundDev dev.old }
         requires fit { IsFit kv.now self.old }
+        requires inside { IsInsideTxn S.kind (stores dev.old) dev.old.settings kv.now self.old }
         requires form { IsFormOp IsData op }
-        ensures unmade { IfSome (unmade self.old op)
-            (λ a. (result ≡ Ok a) × (self.new ≡ self.old)) }
-        ensures made { unmade self.old op ≡ None →
-            IfOk result (λ a. IsCalled self.old self.new op a) }
-        ensures meaning { unmade self.old op ≡ None → OnOk result
-            (TellsAll S.kind (stores dev.old) → (ops : List (Op (List ℕ))) →
+        ensures unmade { IfSome (unmade self.old)
+            (λ a. (result ≡ Ok a) × (self.new ≡ self.old) × (dev.new ≡ dev.old)) }
+        ensures made { unmade self.old ≡ None → IfOk result (λ a. (own : Option Slice) ×
+            IsCalled self.old self.new op own a ×
+            IsOwnOf S.kind dev.old dev.new (seen kv.now self.old.at) self.old.session op own ×
+            NamesTxn kv.now self.old self.new own × (IsSome own → a ≡ Answer.Okay)) }
+        ensures meaning { unmade self.old ≡ None → OnOk result ((ops : List (Op (List ℕ))) →
+            TellsMap S.kind (stores dev.old) (metadata_at kv.now self.old.at.base) →
             IsSound dev.old.settings.region kv.now (byte_at S.kind (stores dev.old)) self.old ops →
             IsSound dev.old.settings.region kv.now (byte_at S.kind (stores dev.new)) self.new
             (ops ++ op ∷ [])) }
         ensures fit { IsFit kv.now self.new }
-        ensures err { OnErr result (self.new ≡ self.old) }
-        ensures fault { IfErr result (λ why. why ≡ Fault.Memory) }
+        ensures inside { IsInsideTxn S.kind (stores dev.new) dev.old.settings kv.now self.new }
+        ensures err { IfErr result (λ why. why ≢ Fault.Memory → self.new ≡ self.old) }
+        ensures err_hand { OnErr result
+            (self.new ≡ record self.old { session = self.new.session }) }
+        ensures fault { IfErr result
+            (IsCallFault S.kind dev.old dev.new (seen kv.now self.old.at) self.old.session op) }
+        ensures due { IfErr result
+            (MayFault dev.old.settings (seen kv.now self.old.at) self.old.session op) }
+        ensures reads { StoresNothing op → OnlyRead S.kind (between dev.old dev.new) }
         ensures dev { GoesOn S.kind dev.old dev.new [] }
     {
-        let Some(kept) = named(op) else {
-            return Ok(Answer::NotBuilt);
-        };
         if !self.is_live() {
             return Ok(Answer::Refused(Word::Replaying));
         }
         if self.log.is_full() {
             return Ok(Answer::Refused(Word::Full));
         }
-        let answer = match self.call_live(dev, kv, kept) {
+        let answer = match self.call_live(dev, kv, op) {
             Ok(answer) => answer,
             Err(why) => return Err(why),
         };
         Ok(answer)
     }
 
-    /// Makes a call that is built, where all others are done and the log has room.
+    /// Makes a call, where all others are done and the log has room.
     fn call_live<S: SliceStore>(
         &mut self,
         dev: &mut Dev<'_, S>,
         kv: &Kv<Key, Value>,
-        op: Op<Kept>,
+        op: Op<Bytes>,
     ) -> Result<Answer, Fault>
         requires going { self.old.ended ≡ false }
         requires sound { IsSoundDev dev.old }
         requires fit { IsFit kv.now self.old }
+        requires inside { IsInsideTxn S.kind (stores dev.old) dev.old.settings kv.now self.old }
         requires live { self.old.replayed ≡ length self.old.log.ops }
         requires room { length self.old.log.ops ≢ MAX_LOGGED }
-        requires built { is_built_op op ≡ true }
-        requires form { IsFormOp IsKeptData op }
-        ensures logged { IfOk result (λ a. IsLoggedAs self.old self.new op a) }
-        ensures meaning { OnOk result ((size : ℕ) (told : Told) (ops : List (Op (List ℕ)))
-            (o : Op (List ℕ)) → IsNameOp op o → IsSound size kv.now told self.old ops →
-            IsSound size kv.now told self.new (ops ++ o ∷ [])) }
+        requires form { IsFormOp IsData op }
+        ensures made { IfOk result (λ a. (own : Option Slice) ×
+            IsCalled self.old self.new op own a ×
+            IsOwnOf S.kind dev.old dev.new (seen kv.now self.old.at) self.old.session op own ×
+            NamesTxn kv.now self.old self.new own × (IsSome own → a ≡ Answer.Okay)) }
+        ensures meaning { OnOk result ((ops : List (Op (List ℕ))) →
+            TellsMap S.kind (stores dev.old) (metadata_at kv.now self.old.at.base) →
+            IsSound dev.old.settings.region kv.now (byte_at S.kind (stores dev.old)) self.old ops →
+            IsSound dev.old.settings.region kv.now (byte_at S.kind (stores dev.new)) self.new
+            (ops ++ op ∷ [])) }
         ensures fit { IsFit kv.now self.new }
-        ensures err { OnErr result (self.new ≡ self.old) }
-        ensures fault { IfErr result (λ why. why ≡ Fault.Memory) }
+        ensures inside { IsInsideTxn S.kind (stores dev.new) dev.old.settings kv.now self.new }
+        ensures err { IfErr result (λ why. why ≢ Fault.Memory → self.new ≡ self.old) }
+        ensures err_hand { OnErr result
+            (self.new ≡ record self.old { session = self.new.session }) }
+        ensures fault { IfErr result
+            (IsCallFault S.kind dev.old dev.new (seen kv.now self.old.at) self.old.session op) }
+        ensures due { IfErr result
+            (MayFault dev.old.settings (seen kv.now self.old.at) self.old.session op) }
+        ensures reads { StoresNothing op → OnlyRead S.kind (between dev.old dev.new) }
         ensures dev { GoesOn S.kind dev.old dev.new [] }
     {
         let mark = self.at.mark();
@@ -209,11 +233,21 @@ impl Txn {
             tx: self.tx,
             index: self.replayed + 1,
         };
-        let answer = match make_call(self.alloc, dev, kv, &mut self.at, &self.session, new, &op) {
-            Ok(answer) => answer,
+        let done = match make_fresh(
+            self.alloc,
+            dev,
+            kv,
+            &mut self.at,
+            &mut self.session,
+            new,
+            &op,
+        ) {
+            Ok(done) => done,
             Err(why) => return Err(why),
         };
-        if let Err(why) = note(self.alloc, &mut self.log, op, &answer) {
+        let kept = kept_of(op, done.own);
+        let answer = done.answer;
+        if let Err(why) = note(self.alloc, &mut self.log, kept, &answer) {
             self.at.rewind(mark);
             return Err(why);
         }
@@ -320,8 +354,8 @@ impl Txn {
     }
 
     /// Replays the next call. Where its answer is what was shown, it answers `Replayed`, else
-    /// `Aborted`, and ends. It is refused as `Live` where no replay runs. After a fault the
-    /// transaction is as it was.
+    /// `Aborted`, and ends. It is refused as `Live` where no replay runs. It stores nothing. After
+    /// a fault the transaction is as it was.
     pub fn step<S: SliceStore>(
         &mut self,
         dev: &mut Dev<'_, S>,
@@ -330,19 +364,29 @@ impl Txn {
         requires going { self.old.ended ≡ false }
         requires sound { IsSoundDev dev.old }
         requires fit { IsFit kv.now self.old }
+        requires inside { IsInsideTxn S.kind (stores dev.old) dev.old.settings kv.now self.old }
         ensures refused { IfSome (step_refusal self.old)
             (λ w. (result ≡ Ok (Answer.Refused w)) × (self.new ≡ self.old)) }
         ensures stepped { step_refusal self.old ≡ None →
             IfOk result (λ a. IsStepped self.old self.new a) }
         ensures meaning { step_refusal self.old ≡ None → IfOk result
-            (λ a. TellsAll S.kind (stores dev.old) → (ops : List (Op (List ℕ))) →
+            (λ a. (ops : List (Op (List ℕ))) →
+            TellsMap S.kind (stores dev.old) (metadata_at kv.now self.old.at.base) →
             IsSound dev.old.settings.region kv.now (byte_at S.kind (stores dev.old)) self.old ops →
             IsTrueStep dev.old.settings.region
             (byte_at S.kind (stores dev.old), byte_at S.kind (stores dev.new)) kv.now
             (self.old, self.new) ops a) }
+        ensures named { OnOk result (NamesTxn kv.now self.old self.new None) }
         ensures fit { IsFit kv.now self.new }
+        ensures inside { IsInsideTxn S.kind (stores dev.new) dev.old.settings kv.now self.new }
         ensures err { OnErr result (self.new ≡ self.old) }
-        ensures fault { IfErr result (λ why. why ≡ Fault.Memory) }
+        ensures fault { IfErr result (λ why. (why ≡ Fault.Memory) ⊎ FaultAt S.kind dev.old dev.new
+            kv.now (hand_of self.old) self.old.log self.old.replayed why) }
+        ensures due { IfErr result (λ why. (ops : List (Op (List ℕ))) →
+            IsSound dev.old.settings.region kv.now (byte_at S.kind (stores dev.old)) self.old ops →
+            MayStepFault dev.old.settings (metadata_at kv.now self.old.at.base)
+            (byte_at S.kind (stores dev.old)) self.old ops why) }
+        ensures reads { OnlyRead S.kind (between dev.old dev.new) }
         ensures dev { GoesOn S.kind dev.old dev.new [] }
     {
         if self.is_live() {
@@ -355,7 +399,8 @@ impl Txn {
         Ok(answer)
     }
 
-    /// Replays the next call.
+    /// Replays the next call. The answer that ends a transaction has its memory before the call is
+    /// made, since a handle that has moved is not moved back.
     fn step_next<S: SliceStore>(
         &mut self,
         dev: &mut Dev<'_, S>,
@@ -364,25 +409,40 @@ impl Txn {
         requires going { self.old.ended ≡ false }
         requires sound { IsSoundDev dev.old }
         requires fit { IsFit kv.now self.old }
+        requires inside { IsInsideTxn S.kind (stores dev.old) dev.old.settings kv.now self.old }
         requires left { self.old.replayed < length self.old.log.ops }
         ensures stepped { IfOk result (λ a. IsStepped self.old self.new a) }
         ensures meaning { IfOk result
-            (λ a. (size : ℕ) (told : Told) (ops : List (Op (List ℕ))) →
-            IsSound size kv.now told self.old ops →
-            IsTrueStep size (told, told) kv.now (self.old, self.new) ops a) }
+            (λ a. (ops : List (Op (List ℕ))) →
+            TellsMap S.kind (stores dev.old) (metadata_at kv.now self.old.at.base) →
+            IsSound dev.old.settings.region kv.now (byte_at S.kind (stores dev.old)) self.old ops →
+            IsTrueStep dev.old.settings.region
+            (byte_at S.kind (stores dev.old), byte_at S.kind (stores dev.new)) kv.now
+            (self.old, self.new) ops a) }
+        ensures named { OnOk result (NamesTxn kv.now self.old self.new None) }
         ensures fit { IsFit kv.now self.new }
+        ensures inside { IsInsideTxn S.kind (stores dev.new) dev.old.settings kv.now self.new }
         ensures err { OnErr result (self.new ≡ self.old) }
-        ensures fault { IfErr result (λ why. why ≡ Fault.Memory) }
+        ensures fault { IfErr result (λ why. (why ≡ Fault.Memory) ⊎ FaultAt S.kind dev.old dev.new
+            kv.now (hand_of self.old) self.old.log self.old.replayed why) }
+        ensures due { IfErr result (λ why. (ops : List (Op (List ℕ))) →
+            IsSound dev.old.settings.region kv.now (byte_at S.kind (stores dev.old)) self.old ops →
+            MayStepFault dev.old.settings (metadata_at kv.now self.old.at.base)
+            (byte_at S.kind (stores dev.old)) self.old ops why) }
+        ensures reads { OnlyRead S.kind (between dev.old dev.new) }
         ensures dev { GoesOn S.kind dev.old dev.new [] }
     {
-        let mark = self.at.mark();
         let k = self.replayed;
+        let mut held = match Box::new(self.alloc, Answer::Okay) {
+            Ok(held) => held,
+            Err(_) => return Err(Fault::Memory),
+        };
         let (answer, same) = match make_again(
             self.alloc,
             dev,
             kv,
             &mut self.at,
-            &self.session,
+            &mut self.session,
             self.tx,
             &self.log,
             k,
@@ -395,22 +455,16 @@ impl Txn {
             self.replayed = k + 1;
             return Ok(Answer::Replayed(k + 1));
         }
-        match aborted(self.alloc, k + 1, answer) {
-            Ok(answer) => {
-                self.ended = true;
-                return Ok(answer);
-            }
-            Err(why) => {
-                self.at.rewind(mark);
-                return Err(why);
-            }
-        }
+        *held = answer;
+        self.ended = true;
+        Ok(Answer::Aborted(k + 1, held))
     }
 
     /// Commits, or aborts, and ends. A live transaction is installed where no key is in the way.
     /// Else, and where a replay runs, its calls are made once more on the map now, all of them or
     /// those that are left of a replay that runs there, and installed where each answers what was
-    /// shown. After a fault the transaction is as it was, and the store shows what it showed.
+    /// shown. It stores nothing. After a fault the transaction is as it was, and the store shows
+    /// what it showed.
     pub fn commit<S: SliceStore>(
         &mut self,
         dev: &mut Dev<'_, S>,
@@ -419,21 +473,36 @@ impl Txn {
         requires going { self.old.ended ≡ false }
         requires sound { IsSoundDev dev.old }
         requires fit { IsFit kv.old self.old }
+        requires inside { IsInsideTxn S.kind (stores dev.old) dev.old.settings kv.old self.old }
+        requires inside_now { IsStoredInside S.kind (stores dev.old) dev.old.settings
+            (metadata_at kv.old kv.old.number) }
         requires room { kv.old.number < 2 ^ 63 }
         ensures ended { IfOk result (λ a. IsEnded kv.old kv.new a) }
         ensures over { OnOk result (IsOver self.old self.new) }
         ensures meaning { IfOk result
-            (λ a. TellsAll S.kind (stores dev.old) → (ops : List (Op (List ℕ))) →
+            (λ a. (ops : List (Op (List ℕ))) →
+            TellsMap S.kind (stores dev.old) (metadata_at kv.old kv.old.number) →
             IsSound dev.old.settings.region kv.old (byte_at S.kind (stores dev.old)) self.old ops →
-            IsTrueEnd dev.old.settings.region (byte_at S.kind (stores dev.old)) kv.old kv.new
+            IsTrueEnd dev.old.settings.region
+            (byte_at S.kind (stores dev.old), byte_at S.kind (stores dev.new)) kv.old kv.new
             self.old ops a) }
+        ensures named { OnOk result (NamesNow kv.old kv.new self.old) }
         ensures maps { KeepsMaps kv.old kv.new }
         ensures pins { KeepsPins kv.old kv.new }
         ensures fit { IsFit kv.new self.new }
+        ensures inside { IsInsideTxn S.kind (stores dev.new) dev.old.settings kv.new self.new }
+        ensures inside_now { IsStoredInside S.kind (stores dev.new) dev.old.settings
+            (metadata_at kv.new kv.new.number) }
         ensures err { OnErr result (self.new ≡ self.old) }
         ensures err_number { OnErr result (kv.new.number ≡ kv.old.number) }
-        ensures fault { IfErr result (λ why. why ≡ Fault.Memory) }
+        ensures fault { IfErr result (IsCommitFault S.kind dev.old dev.new kv.old self.old) }
+        ensures reads { OnlyRead S.kind (between dev.old dev.new) }
         ensures dev { GoesOn S.kind dev.old dev.new [] }
+        ensures due { IfErr result (λ why. (ops : List (Op (List ℕ))) →
+            TellsMap S.kind (stores dev.old) (metadata_at kv.old kv.old.number) →
+            IsSound dev.old.settings.region kv.old (byte_at S.kind (stores dev.old)) self.old ops →
+            MayCommitFault dev.old.settings (metadata_at kv.old kv.old.number)
+            (byte_at S.kind (stores dev.old)) self.old why) }
     {
         let number = kv.number();
         if self.is_live() {
@@ -466,21 +535,37 @@ impl Txn {
     ) -> Result<Answer, Fault>
         requires sound { IsSoundDev dev.old }
         requires fit { IsFit kv.old self.old }
+        requires inside { IsInsideTxn S.kind (stores dev.old) dev.old.settings kv.old self.old }
+        requires inside_now { IsStoredInside S.kind (stores dev.old) dev.old.settings
+            (metadata_at kv.old kv.old.number) }
         requires room { kv.old.number < 2 ^ 63 }
         requires live { self.old.replayed ≡ length self.old.log.ops }
         ensures ended { IfOk result (λ a. IsEnded kv.old kv.new a) }
         ensures over { OnOk result (IsOver self.old self.new) }
         ensures meaning { IfOk result
-            (λ a. (size : ℕ) (told : Told) (ops : List (Op (List ℕ))) →
-            IsSound size kv.old told self.old ops →
-            IsTrueEnd size told kv.old kv.new self.old ops a) }
+            (λ a. (ops : List (Op (List ℕ))) →
+            TellsMap S.kind (stores dev.old) (metadata_at kv.old kv.old.number) →
+            IsSound dev.old.settings.region kv.old (byte_at S.kind (stores dev.old)) self.old ops →
+            IsTrueEnd dev.old.settings.region
+            (byte_at S.kind (stores dev.old), byte_at S.kind (stores dev.new)) kv.old kv.new
+            self.old ops a) }
+        ensures named { OnOk result (NamesNow kv.old kv.new self.old) }
         ensures maps { KeepsMaps kv.old kv.new }
         ensures pins { KeepsPins kv.old kv.new }
         ensures fit { IsFit kv.new self.new }
+        ensures inside { IsInsideTxn S.kind (stores dev.new) dev.old.settings kv.new self.new }
+        ensures inside_now { IsStoredInside S.kind (stores dev.new) dev.old.settings
+            (metadata_at kv.new kv.new.number) }
         ensures err { OnErr result (self.new ≡ self.old) }
         ensures err_number { OnErr result (kv.new.number ≡ kv.old.number) }
-        ensures fault { IfErr result (λ why. why ≡ Fault.Memory) }
+        ensures fault { IfErr result (IsCommitFault S.kind dev.old dev.new kv.old self.old) }
+        ensures reads { OnlyRead S.kind (between dev.old dev.new) }
         ensures dev { GoesOn S.kind dev.old dev.new [] }
+        ensures due { IfErr result (λ why. (ops : List (Op (List ℕ))) →
+            TellsMap S.kind (stores dev.old) (metadata_at kv.old kv.old.number) →
+            IsSound dev.old.settings.region kv.old (byte_at S.kind (stores dev.old)) self.old ops →
+            MayCommitFault dev.old.settings (metadata_at kv.old kv.old.number)
+            (byte_at S.kind (stores dev.old)) self.old why) }
     {
         let _number = kv.number();
         let installed = match self.at.install(kv) {
@@ -502,7 +587,8 @@ impl Txn {
         }
     }
 
-    /// Goes on with a replay that runs at the number, and installs what was done.
+    /// Goes on with a replay that runs at the number, and installs what was done. The calls are
+    /// made with a copy of what is in hand, which a fault leaves.
     fn go_on<S: SliceStore>(
         &mut self,
         dev: &mut Dev<'_, S>,
@@ -510,29 +596,49 @@ impl Txn {
     ) -> Result<Answer, Fault>
         requires sound { IsSoundDev dev.old }
         requires fit { IsFit kv.old self.old }
+        requires inside { IsInsideTxn S.kind (stores dev.old) dev.old.settings kv.old self.old }
+        requires inside_now { IsStoredInside S.kind (stores dev.old) dev.old.settings
+            (metadata_at kv.old kv.old.number) }
         requires room { kv.old.number < 2 ^ 63 }
         requires base { self.old.at.base ≡ kv.old.number }
         ensures ended { IfOk result (λ a. IsEnded kv.old kv.new a) }
         ensures over { OnOk result (IsOver self.old self.new) }
         ensures meaning { IfOk result
-            (λ a. (size : ℕ) (told : Told) (ops : List (Op (List ℕ))) →
-            IsSound size kv.old told self.old ops →
-            IsTrueEnd size told kv.old kv.new self.old ops a) }
+            (λ a. (ops : List (Op (List ℕ))) →
+            TellsMap S.kind (stores dev.old) (metadata_at kv.old kv.old.number) →
+            IsSound dev.old.settings.region kv.old (byte_at S.kind (stores dev.old)) self.old ops →
+            IsTrueEnd dev.old.settings.region
+            (byte_at S.kind (stores dev.old), byte_at S.kind (stores dev.new)) kv.old kv.new
+            self.old ops a) }
+        ensures named { OnOk result (NamesNow kv.old kv.new self.old) }
         ensures maps { KeepsMaps kv.old kv.new }
         ensures pins { KeepsPins kv.old kv.new }
         ensures fit { IsFit kv.new self.new }
+        ensures inside { IsInsideTxn S.kind (stores dev.new) dev.old.settings kv.new self.new }
+        ensures inside_now { IsStoredInside S.kind (stores dev.new) dev.old.settings
+            (metadata_at kv.new kv.new.number) }
         ensures err { OnErr result (self.new ≡ self.old) }
         ensures err_number { OnErr result (kv.new.number ≡ kv.old.number) }
-        ensures fault { IfErr result (λ why. why ≡ Fault.Memory) }
+        ensures fault { IfErr result (IsCommitFault S.kind dev.old dev.new kv.old self.old) }
+        ensures reads { OnlyRead S.kind (between dev.old dev.new) }
         ensures dev { GoesOn S.kind dev.old dev.new [] }
+        ensures due { IfErr result (λ why. (ops : List (Op (List ℕ))) →
+            TellsMap S.kind (stores dev.old) (metadata_at kv.old kv.old.number) →
+            IsSound dev.old.settings.region kv.old (byte_at S.kind (stores dev.old)) self.old ops →
+            MayCommitFault dev.old.settings (metadata_at kv.old kv.old.number)
+            (byte_at S.kind (stores dev.old)) self.old why) }
     {
         let mark = self.at.mark();
+        let mut session = match self.session.copy(self.alloc) {
+            Ok(session) => session,
+            Err(_) => return Err(Fault::Memory),
+        };
         match replay_and_install(
             self.alloc,
             dev,
             kv,
             &mut self.at,
-            &self.session,
+            &mut session,
             self.tx,
             &self.log,
             self.replayed,
@@ -556,20 +662,36 @@ impl Txn {
     ) -> Result<Answer, Fault>
         requires sound { IsSoundDev dev.old }
         requires fit { IsFit kv.old self.old }
+        requires inside { IsInsideTxn S.kind (stores dev.old) dev.old.settings kv.old self.old }
+        requires inside_now { IsStoredInside S.kind (stores dev.old) dev.old.settings
+            (metadata_at kv.old kv.old.number) }
         requires room { kv.old.number < 2 ^ 63 }
         ensures ended { IfOk result (λ a. IsEnded kv.old kv.new a) }
         ensures over { OnOk result (IsOver self.old self.new) }
         ensures meaning { IfOk result
-            (λ a. (size : ℕ) (told : Told) (ops : List (Op (List ℕ))) →
-            IsSound size kv.old told self.old ops →
-            IsTrueEnd size told kv.old kv.new self.old ops a) }
+            (λ a. (ops : List (Op (List ℕ))) →
+            TellsMap S.kind (stores dev.old) (metadata_at kv.old kv.old.number) →
+            IsSound dev.old.settings.region kv.old (byte_at S.kind (stores dev.old)) self.old ops →
+            IsTrueEnd dev.old.settings.region
+            (byte_at S.kind (stores dev.old), byte_at S.kind (stores dev.new)) kv.old kv.new
+            self.old ops a) }
+        ensures named { OnOk result (NamesNow kv.old kv.new self.old) }
         ensures maps { KeepsMaps kv.old kv.new }
         ensures pins { KeepsPins kv.old kv.new }
         ensures fit { IsFit kv.new self.new }
+        ensures inside { IsInsideTxn S.kind (stores dev.new) dev.old.settings kv.new self.new }
+        ensures inside_now { IsStoredInside S.kind (stores dev.new) dev.old.settings
+            (metadata_at kv.new kv.new.number) }
         ensures err { OnErr result (self.new ≡ self.old) }
         ensures err_number { OnErr result (kv.new.number ≡ kv.old.number) }
-        ensures fault { IfErr result (λ why. why ≡ Fault.Memory) }
+        ensures fault { IfErr result (IsCommitFault S.kind dev.old dev.new kv.old self.old) }
+        ensures reads { OnlyRead S.kind (between dev.old dev.new) }
         ensures dev { GoesOn S.kind dev.old dev.new [] }
+        ensures due { IfErr result (λ why. (ops : List (Op (List ℕ))) →
+            TellsMap S.kind (stores dev.old) (metadata_at kv.old kv.old.number) →
+            IsSound dev.old.settings.region kv.old (byte_at S.kind (stores dev.old)) self.old ops →
+            MayCommitFault dev.old.settings (metadata_at kv.old kv.old.number)
+            (byte_at S.kind (stores dev.old)) self.old why) }
     {
         let _number = kv.number();
         match commit_now(self.alloc, dev, kv, self.tx, &self.log) {

@@ -1,15 +1,28 @@
-use Rattle.std.proofs.Common.{◌≡◌, ◌≤◌, refl, sym, ap, ◌∙◌, subst}
+use Rattle.std.proofs.Common.{◌≡◌, ◌≤◌, refl, sym, ap, ◌∙◌, subst, inl, inr}
+use Rattle.wtf_replica.specs.Bytes.{byte_at}
+use Rattle.wtf_meta.specs.Contents.{Told}
 use Rattle.wtf_meta.specs.Maps.{metadata_at}
+use Rattle.wtf_region.specs.Devs.{stores}
 use Rattle.wtf_meta.specs.Sessions.{nothing_open}
-use Rattle.wtf_replay.specs.Views.{replaying, untouched}
-use Rattle.wtf_replay.specs.Sounds.{IsSound}
+use Rattle.wtf_meta.specs.Bytes.{MapBytes}
+use Rattle.wtf_replay.specs.Views.{in_hand, replaying, untouched}
+use Rattle.wtf_replay.specs.Insides.{HandBytes}
+use Rattle.wtf_meta.proofs.Nothing.{nothing_kept}
+use Rattle.wtf_replay.specs.Sounds.{IsSound, TellsMap}
+use Rattle.wtf_replay.specs.Causes.{ReplayFault}
+use Rattle.wtf_replay.proofs.Faulting.{fault_along}
 use Rattle.wtf_replay.proofs.Starting.{sound_rebased}
 use Rattle.wtf_replay.proofs.Ending.{true_end_as, true_end_along}
 use Rattle.wtf_replay.proofs.Keeping.{pins_back}
 use Rattle.wtf_replay.proofs.commit.commit_now.Goals as goal
 
 pub returns-in-Ok-replay_and_install-clause-meaning : goal.returns-in-Ok-replay_and_install-clause-meaning
-returns-in-Ok-replay_and_install-clause-meaning g c = λ size told ops stand.
+returns-in-Ok-replay_and_install-clause-meaning g c = λ ops tells stand.
+    let kind = g.S.SliceStore.kind in
+    let dev = c.args.dev.now in
+    let size = dev.settings.region in
+    let before : Told = byte_at kind (stores dev) in
+    let told : Told × Told = (before, byte_at kind (stores c.replay_and_install.new.dev)) in
     let kv = c.args.kv.now in
     let pinned = c.pin.new.self in
     let mid = c.replay_and_install.new.kv in
@@ -19,12 +32,13 @@ returns-in-Ok-replay_and_install-clause-meaning g c = λ size told ops stand.
     let fresh = replaying tx (untouched n) nothing_open log 0 in
     let first = c.in-Ok.ensures in
     let at : c.in-Ok.at ≡ untouched n = cc in
-    let start = subst (λ s. IsSound size pinned told (replaying tx c.in-Ok.at s log 0) ops) (sym c.in-Ok-new.ensures)
-    (subst (λ a. IsSound size pinned told (replaying tx a nothing_open log 0) ops) (sym at) (sound_rebased size pinned told fresh n ops stand)) in
+    let start = subst (λ s. IsSound size pinned before (replaying tx c.in-Ok.at s log 0) ops) (sym c.in-Ok-new.ensures)
+    (subst (λ a. IsSound size pinned before (replaying tx a nothing_open log 0) ops) (sym at) (sound_rebased size pinned before fresh n ops stand)) in
+    let map : TellsMap kind (stores dev) (metadata_at pinned pinned.number) = subst (TellsMap kind (stores dev)) (ap (λ s. metadata_at s s.number) (sym c.in_default.ensures.ok)) tells in
     let run = replaying tx c.in-Ok.at c.in-Ok-new.session log 0 in
     let goal_run = replaying tx (untouched kv.number) nothing_open log 0 in
     let a = c.in-Ok-replay_and_install.answer in
-    let meant = c.in-Ok-replay_and_install.ensures.meaning size told ops start in
+    let meant = c.in-Ok-replay_and_install.ensures.meaning ops map start in
     true_end_along a size told pinned kv mid c.unpin.new.self goal_run ops
     (ap (λ s. s.number) (sym c.in_default.ensures.ok)) (ap (λ s. metadata_at s s.number) (sym c.in_default.ensures.ok)) (ap (λ s. s.number) c.unpin.ensures.rest) (λ m. ap (λ s. metadata_at s m) c.unpin.ensures.rest)
     (true_end_as a size told pinned mid run goal_run ops refl refl meant)
@@ -48,3 +62,39 @@ returns-in-Err-replay_and_install-clause-maps g c = λ n le.
 pub returns-in-Err-replay_and_install-clause-pins : goal.returns-in-Err-replay_and_install-clause-pins
 returns-in-Err-replay_and_install-clause-pins g c =
     pins_back c.args.kv.now c.pin.new.self c.replay_and_install.new.kv c.unpin-in-Err-replay_and_install.new.self c.number-number.result c.in_default.ensures.once c.replay_and_install.ensures.pins c.unpin-in-Err-replay_and_install.ensures.once
+
+pub returns-in-Err-replay_and_install-clause-fault : goal.returns-in-Err-replay_and_install-clause-fault
+returns-in-Err-replay_and_install-clause-fault g c =
+    let kind = g.S.SliceStore.kind in
+    let dev = c.args.dev.now in
+    let new = c.replay_and_install.new.dev in
+    let kv = c.args.kv.now in
+    let pinned = c.pin.new.self in
+    let tx = c.args.tx.0 in
+    let log = c.args.log.now in
+    let why = c.in-Err-replay_and_install.why in
+    let first = c.in-Ok.ensures in
+    let number = c.number-number.ensures.number in
+    let at : c.in-Ok.at ≡ untouched kv.number = cc in
+    elim c.in-Err-replay_and_install.ensures.fault [
+      | inl short ↦ inl short
+      | inr f ↦ inr (fault_along kind dev new pinned kv (replaying tx (untouched kv.number) nothing_open log 0) why (λ m. ap (λ s. metadata_at s m) c.in_default.ensures.ok)
+          (subst (λ a. ReplayFault kind dev new pinned (replaying tx a nothing_open log 0) why) at (subst (λ s. ReplayFault kind dev new pinned (replaying tx c.in-Ok.at s log 0) why) c.in-Ok-new.ensures f)))
+    ]
+
+pub returns-in-Ok-replay_and_install-clause-named : goal.returns-in-Ok-replay_and_install-clause-named
+returns-in-Ok-replay_and_install-clause-named g c = λ P hole now logged.
+    let kv = c.args.kv.now in
+    let pinned = c.pin.new.self in
+    let number = c.number-number.ensures.number in
+    let first = c.in-Ok.ensures in
+    let at : c.in-Ok.at ≡ untouched kv.number = cc in
+    let none : HandBytes P kv (in_hand (untouched kv.number) nothing_open) = record { base = now; changes = tt; slices = nothing_kept P } in
+    let there : HandBytes P kv (in_hand c.in-Ok.at c.in-Ok-new.session) = subst (λ a. HandBytes P kv (in_hand a c.in-Ok-new.session)) (sym at) (subst (λ s. HandBytes P kv (in_hand (untouched kv.number) s)) (sym c.in-Ok-new.ensures) none) in
+    let here : HandBytes P pinned (in_hand c.in-Ok.at c.in-Ok-new.session) = record {
+      base = subst (λ s. MapBytes P (metadata_at s c.in-Ok.at.base)) (sym c.in_default.ensures.ok) there.base;
+      changes = there.changes;
+      slices = there.slices;
+    } in
+    let then = c.in-Ok-replay_and_install.ensures.named P hole here logged in
+    subst (λ s. MapBytes P (metadata_at s s.number)) (sym c.unpin.ensures.rest) then

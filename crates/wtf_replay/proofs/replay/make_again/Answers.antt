@@ -1,11 +1,30 @@
 use Rattle.std.proofs.Common.{◌≡◌, ◌+◌, ◌-◌, Some, slice_get, refl, sym, ap, ◌∙◌, subst, arith}
-use Rattle.wtf_replay.specs.Built.{IsNameOp}
-use Rattle.wtf_replay.specs.Sounds.{caller_at}
+use Rattle.wtf_log.specs.Standing.{OpStandsFor}
+use Rattle.wtf_replica.specs.Bytes.{byte_at}
+use Rattle.wtf_region.specs.Devs.{stores}
+use Rattle.wtf_replay.specs.Keeps.{IsKeptFor}
+use Rattle.wtf_replay.specs.Sounds.{caller_at, tells_slice}
+use Rattle.wtf_replay.proofs.Insiding.{log_at}
 use Rattle.wtf_replay.proofs.replay.make_again.Goals as goal
 
 pub returns-clause-step : goal.returns-clause-step
-returns-clause-step g c = λ size told kept o at is.
+returns-clause-step g c = λ hit kept o at tells stands.
+    let log = c.args.log.now in
     let down : c.args.k + 1 - 1 ≡ c.args.k = omega arith in
-    let there : Some kept ≡ Some c.op-op.result.now = sym at ∙ ap (slice_get c.args.log.now.ops) (sym down) ∙ c.op-op.ensures in
+    let there : Some kept ≡ Some c.op-op.result.now = sym at ∙ ap (slice_get log.ops) (sym down) ∙ c.op-op.ensures in
     let same : kept ≡ c.op-op.result.now = cc in
-    c.in-Ok.ensures.step told (caller_at size c.args.tx.0 c.args.k) o (subst (λ k. IsNameOp k o) same is) refl refl
+    let shown : slice_get log.shown c.args.k ≡ Some c.in-Ok.answer = ap (slice_get log.shown) (sym down) ∙ c.shown-shown.ensures ∙ ap Some (c.is_same_answer-same.ensures.0 hit) in
+    c.in-Ok.ensures.step (subst (λ q. IsKeptFor q c.in-Ok.answer) same (c.requires.log.kept c.args.k kept c.in-Ok.answer at shown)) (caller_at c.args.dev.now.settings.region c.args.tx.0 c.args.k) o refl refl refl tells
+    (subst (λ q. OpStandsFor (tells_slice (byte_at g.S.SliceStore.kind (stores c.args.dev.now))) q o) same stands)
+
+pub returns-clause-due : goal.returns-clause-due
+returns-clause-due g c = λ kept o at tells stands.
+    let log = c.args.log.now in
+    let down : c.args.k + 1 - 1 ≡ c.args.k = omega arith in
+    let there : Some kept ≡ Some c.op-op.result.now = sym at ∙ ap (slice_get log.ops) (sym down) ∙ c.op-op.ensures in
+    let same : kept ≡ c.op-op.result.now = cc in
+    c.in-Ok.ensures.due (caller_at c.args.dev.now.settings.region c.args.tx.0 c.args.k) o refl refl refl tells
+    (subst (λ q. OpStandsFor (tells_slice (byte_at g.S.SliceStore.kind (stores c.args.dev.now))) q o) same stands)
+
+pub returns-clause-named : goal.returns-clause-named
+returns-clause-named g c = λ P hole were logged. c.in-Ok.ensures.named P hole were (log_at P c.args.log.now (c.args.k + 1 - 1) c.op-op.result.now c.op-op.ensures logged)

@@ -1,10 +1,19 @@
-use Rattle.std.proofs.Common.{◌≡◌, ◌≢◌, ◌<◌, ◌+◌, length, true, false, Some, slice_get, refl, sym, ◌∙◌, subst, arith}
+use Rattle.std.proofs.Common.{◌≡◌, ◌≢◌, ◌<◌, ◌≤◌, ◌+◌, ℕ, length, true, false, Some, slice_get, refl, sym, ap, ◌∙◌, subst, arith}
+use Rattle.wtf_base.specs.declared.settings.Settings.{Settings}
 use Rattle.wtf_occ.proofs.AttemptLaws.{Grows-on}
+use Rattle.wtf_replica.specs.Bytes.{byte_at}
 use Rattle.wtf_meta.specs.Maps.{metadata_at}
 use Rattle.wtf_meta.specs.Trees.{Stands}
+use Rattle.wtf_region.specs.Devs.{stores}
+use Rattle.wtf_region.proofs.ShowLaws.{reads_over}
 use Rattle.wtf_region.proofs.Spans.{goes_on}
-use Rattle.wtf_replay.specs.Views.{replaying}
+use Rattle.wtf_replay.specs.Views.{in_hand, replaying}
+use Rattle.wtf_replay.specs.Insides.{IsHandInside}
+use Rattle.wtf_replay.specs.Replays.{DeviatesOn}
+use Rattle.wtf_replay.specs.Sounds.{IsSound, TellsMap}
 use Rattle.wtf_replay.proofs.Again.{again_same, again_other}
+use Rattle.wtf_replay.proofs.Insiding.{log_later}
+use Rattle.wtf_replay.proofs.Later.{tells_on, tells_map_on, deviates_since}
 use Rattle.wtf_replay.proofs.replay.replay_from.Goals as goal
 
 pub returns-in-Err-clause-dev : goal.returns-in-Err-clause-dev
@@ -14,31 +23,65 @@ pub returns-then-not-same-clause-dev : goal.returns-then-not-same-clause-dev
 returns-then-not-same-clause-dev g c = goes_on g.met.S.SliceStore.laws c.loop-k.invariant.dev c.make_again.ensures.dev
 
 pub returns-then-not-same-clause-replay : goal.returns-then-not-same-clause-replay
-returns-then-not-same-clause-replay g c = λ size told ops start.
+returns-then-not-same-clause-replay g c = λ ops tells start.
+    let kind = g.S.SliceStore.kind in
+    let laws = g.met.S.SliceStore.laws in
     let kv = c.args.kv.now in
     let log = c.args.log.now in
-    let end = c.loop-k.invariant.end in
+    let dev = c.args.dev.now in
+    let mid = c.loop-k.dev in
+    let inv = c.loop-k.invariant in
+    let end = inv.end in
     let test = c.loop-k-test.true in
     let left : c.loop-k.k < length log.ops = omega (arith, test, end) in
+    let x = replaying c.args.tx.0 c.loop-k.at c.loop-k.session log c.loop-k.k in
+    let size : mid.settings.region ≡ dev.settings.region = ap (λ (s : Settings). s.region) inv.dev.settings in
+    let tells_mid : TellsMap kind (stores mid) (metadata_at kv c.loop-k.at.base) =
+    subst (λ n. TellsMap kind (stores mid) (metadata_at kv n)) (sym inv.grows.base) (tells_map_on laws inv.dev.each (metadata_at kv c.args.at.now.base) tells) in
+    let sound : IsSound mid.settings.region kv (byte_at kind (stores mid)) x ops = subst (λ z. IsSound z kv (byte_at kind (stores mid)) x ops) (sym size) (inv.sound ops tells start) in
     let differs : slice_get log.shown c.loop-k.k ≢ Some c.in-Ok.both.0 = λ e. let hit : c.in-Ok.both.1 ≡ true = c.in-Ok.ensures.same.1 e in let bad : true ≡ false = sym hit ∙ c.if-not-same.true in cc in
-    let other = again_other size kv told (replaying c.args.tx.0 c.loop-k.at c.args.session.now log c.loop-k.k) ops (c.loop-k.invariant.sound size told ops start) c.requires.log left
-    (replaying c.args.tx.0 c.make_again.new.at c.args.session.now log (c.loop-k.k + 1)) c.in-Ok.both.0 c.in-Ok.ensures.step differs in
-    λ t st. other t (subst (λ b. Stands size told c.args.tx.0 0 (metadata_at kv b) t) c.make_again.ensures.grows.base st)
+    let other = again_other laws c.make_again.ensures.dev.each mid.settings.region kv x ops sound tells_mid left c.in-Ok.both.0 c.in-Ok.ensures.due differs in
+    let here = subst (λ z. DeviatesOn (metadata_at kv c.loop-k.at.base) z (byte_at kind (stores mid)) x ops (c.loop-k.k + 1) c.in-Ok.both.0) size other in
+    let first = deviates_since (metadata_at kv c.loop-k.at.base) dev.settings.region (byte_at kind (stores dev)) (byte_at kind (stores mid)) x ops (c.loop-k.k + 1) c.in-Ok.both.0 (tells_on laws inv.dev.each) here in
+    λ t st. first t (subst (λ b. Stands dev.settings.region (byte_at kind (stores dev)) c.args.tx.0 0 (metadata_at kv b) t) c.make_again.ensures.grows.base st)
 
 pub loop-k-preserved : goal.loop-k-preserved
 loop-k-preserved g c =
+    let kind = g.S.SliceStore.kind in
+    let laws = g.met.S.SliceStore.laws in
     let kv = c.args.kv.now in
     let log = c.args.log.now in
-    let end = c.loop-k.invariant.end in
+    let dev = c.args.dev.now in
+    let mid = c.loop-k.dev in
+    let new = c.make_again.new.dev in
+    let inv = c.loop-k.invariant in
+    let end = inv.end in
+    let from = inv.from in
     let test = c.loop-k-test.true in
     let left : c.loop-k.k < length log.ops = omega (arith, test, end) in
+    let x = replaying c.args.tx.0 c.loop-k.at c.loop-k.session log c.loop-k.k in
+    let y = replaying c.args.tx.0 c.make_again.new.at c.make_again.new.session log (c.loop-k.k + 1) in
+    let size : mid.settings.region ≡ dev.settings.region = ap (λ (s : Settings). s.region) inv.dev.settings in
+    let enough : dev.settings.servers ≤ length (stores mid) = subst (λ (s : Settings). s.servers ≤ length (stores mid)) inv.dev.settings inv.dev.sound.shelf in
     record {
+      from = omega (arith, from);
       upto = omega (arith, left);
       end = end;
-      grows = Grows-on c.args.at.now c.loop-k.at c.make_again.new.at c.loop-k.invariant.grows c.make_again.ensures.grows;
+      grows = Grows-on c.args.at.now c.loop-k.at c.make_again.new.at inv.grows c.make_again.ensures.grows;
       fit = c.in-Ok.ensures.fit;
-      dev = goes_on g.met.S.SliceStore.laws c.loop-k.invariant.dev c.make_again.ensures.dev;
-      sound = λ size told ops start.
-          again_same size kv told (replaying c.args.tx.0 c.loop-k.at c.args.session.now log c.loop-k.k) ops (c.loop-k.invariant.sound size told ops start) c.requires.log left
-          (replaying c.args.tx.0 c.make_again.new.at c.args.session.now log (c.loop-k.k + 1)) c.in-Ok.both.0 c.in-Ok.ensures.step (c.in-Ok.ensures.same.0 c.if-not-same.false) refl refl refl;
+      inside = subst (λ (s : Settings). IsHandInside kind (stores new) s kv (in_hand c.make_again.new.at c.make_again.new.session)) inv.dev.settings c.in-Ok.ensures.inside;
+      named = λ P hole were logged. c.in-Ok.ensures.named P hole (inv.named P hole were logged) logged;
+      logged = log_later laws c.make_again.ensures.dev.each dev.settings enough log inv.logged;
+      reads = reads_over kind dev mid new inv.dev inv.reads c.make_again.ensures.reads;
+      dev = goes_on laws inv.dev c.make_again.ensures.dev;
+      sound = λ ops tells start.
+          let tells_mid : TellsMap kind (stores mid) (metadata_at kv c.loop-k.at.base) =
+          subst (λ n. TellsMap kind (stores mid) (metadata_at kv n)) (sym inv.grows.base) (tells_map_on laws inv.dev.each (metadata_at kv c.args.at.now.base) tells) in
+          let sound : IsSound mid.settings.region kv (byte_at kind (stores mid)) x ops = subst (λ z. IsSound z kv (byte_at kind (stores mid)) x ops) (sym size) (inv.sound ops tells start) in
+          subst (λ z. IsSound z kv (byte_at kind (stores new)) y ops) size
+          (again_same laws c.make_again.ensures.dev.each mid.settings.region kv x ops sound tells_mid left y c.in-Ok.both.0 (c.in-Ok.ensures.step c.if-not-same.false)
+          (c.in-Ok.ensures.same.0 c.if-not-same.false) refl refl refl);
     }
+
+pub returns-then-not-same-clause-named : goal.returns-then-not-same-clause-named
+returns-then-not-same-clause-named g c = λ P hole were logged. c.in-Ok.ensures.named P hole (c.loop-k.invariant.named P hole were logged) logged

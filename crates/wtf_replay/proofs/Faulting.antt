@@ -1,0 +1,168 @@
+-- A fault of a call that is made once more comes only where the machine allows it.
+use Rattle.std.proofs.Common.{◌≡◌, ◌⊎◌, ◌<◌, ◌≤◌, ℕ, Bool, List, [], ◌∷◌, length, take, Option, None, Some, refl, sym, ap, ◌∙◌, subst, arith, slice_get, inl, inr}
+use Rattle.std.proofs.lemmas.Option.{slice_get_within}
+use Rattle.wtf_base.specs.declared.fault.Fault.{Fault}
+use Rattle.wtf_base.specs.declared.fault.Fault.TheVariants as fault
+use Rattle.wtf_base.specs.declared.kept.Kept.{Kept}
+use Rattle.wtf_base.specs.declared.slice.Slice.{Slice}
+use Rattle.wtf_base.specs.declared.settings.Settings.{Settings}
+use Rattle.wtf_dev.specs.Store.{StoreKind, KindLaws}
+use Rattle.wtf_kv.specs.Stores.{Store}
+use Rattle.wtf_model.specs.declared.answer.Answer.{Answer}
+use Rattle.wtf_model.specs.declared.answer.Answer.TheVariants as answer
+use Rattle.wtf_model.specs.declared.op.Op.{Op}
+use Rattle.wtf_model.specs.declared.op.Op.TheVariants as op
+use Rattle.wtf_model.specs.Lawful.{IsDone, IsReadFault, MayFailRead, MayFailPeek}
+use Rattle.wtf_model.specs.Session.{Session, fresh}
+use Rattle.wtf_model.specs.Call.{call}
+use Rattle.wtf_model.specs.Transaction.{answers_of, session_after}
+use Rattle.wtf_values.specs.declared.key.Key.{Key}
+use Rattle.wtf_values.specs.declared.value.Value.{Value}
+use Rattle.wtf_log.specs.Standing.{OpStandsFor}
+use Rattle.wtf_log.proofs.StandingLaws.{OpsStandFor-get, OpStandsFor-weaker}
+use Rattle.wtf_meta.specs.Contents.{Told}
+use Rattle.wtf_replica.specs.Bytes.{byte_at}
+use Rattle.wtf_meta.specs.Bytes.{MapBytes}
+use Rattle.wtf_meta.specs.Maps.{Map, with, metadata_at, seen}
+use Rattle.wtf_meta.specs.Trees.{Stands}
+use Rattle.wtf_meta.specs.Sessions.{SessionView}
+use Rattle.wtf_meta.specs.Calls.{cap_for}
+use Rattle.wtf_region.specs.declared.dev.Dev.{Dev}
+use Rattle.wtf_region.specs.Devs.{stores}
+use Rattle.wtf_rw.specs.Faults.{MayStandFor}
+use Rattle.wtf_replay.specs.Views.{TxnView, hand_of, replaying, rebased}
+use Rattle.wtf_replay.specs.Sounds.{tells_slice, caller_at, IsSound, TellsMap}
+use Rattle.wtf_replay.specs.Causes.{IsAgainFault, MayAgainFault, FaultAt, ReplayFault, IsCommitFault, fault_answer, MayFaultAt, MayStepFault, MayEndFault, MayCommitFault}
+use Rattle.wtf_replay.proofs.Later.{tells_on, stands_later}
+use Rattle.wtf_replay.proofs.Sounding.{sound_along}
+use Rattle.wtf_replay.proofs.Deviating.{answers_from-at, at_base, before_next}
+
+read_done : (servers : ℕ) (d a : Answer) → MayFailRead servers d a → IsDone (Some d) × IsReadFault servers a
+read_done servers (answer.Shown (b ∷ bs)) a h = (tt, h)
+read_done servers (answer.Shown []) a h = absurd h
+read_done servers d a h = absurd h
+
+-- of a read that is due to answer d
+may_at : (servers f n : ℕ) (answers : List Answer) (k : ℕ) (d : Answer) (why : Fault) → slice_get answers k ≡ Some d → MayStandFor servers (op.Read f n) d why → MayFaultAt servers answers k (fault_answer why)
+may_at servers f n answers k d (fault.Read j) is h = let r = read_done servers d (answer.FaultRead j.0) h in (subst IsDone (sym is) r.0, r.1)
+may_at servers f n answers k d fault.Write is h = let r = read_done servers d answer.FaultWrite h in (subst IsDone (sym is) r.0, r.1)
+may_at servers f n answers k d (fault.Punch j) is h = let r = read_done servers d (answer.FaultPunch j.0) h in (subst IsDone (sym is) r.0, r.1)
+may_at servers f n answers k d (fault.Damaged j) is h = let r = read_done servers d (answer.Damaged j.0) h in (subst IsDone (sym is) r.0, r.1)
+may_at servers f n answers k d fault.Memory is h = tt
+
+-- and of bytes of a slice that are to be shown
+peek_done : (servers : ℕ) (d : Answer) (j : ℕ) → MayFailPeek servers d (answer.FaultRead j) → IsDone (Some d) × IsReadFault servers (answer.FaultRead j)
+peek_done servers (answer.Shown (b ∷ bs)) j h = (tt, h)
+peek_done servers (answer.Shown []) j h = absurd h
+peek_done servers d j h = absurd h
+
+peek_no : (servers : ℕ) (d a : Answer) → MayFailPeek servers d a → ((j : ℕ) → a ≡ answer.FaultRead j → ⊥) → ⊥
+peek_no servers (answer.Shown (b ∷ bs)) (answer.FaultRead j) h not = not j refl
+peek_no servers (answer.Shown (b ∷ bs)) a h not = absurd h
+peek_no servers d a h not = absurd h
+
+may_peek : (servers l off n : ℕ) (answers : List Answer) (k : ℕ) (d : Answer) (why : Fault) → slice_get answers k ≡ Some d → MayStandFor servers (op.Peek l off n) d why → MayFaultAt servers answers k (fault_answer why)
+may_peek servers l off n answers k d (fault.Read j) is h = let r = peek_done servers d j.0 h in (subst IsDone (sym is) r.0, r.1)
+may_peek servers l off n answers k d fault.Write is h = absurd (peek_no servers d answer.FaultWrite h (λ j e. absurd (cc)))
+may_peek servers l off n answers k d (fault.Punch j) is h = absurd (peek_no servers d (answer.FaultPunch j.0) h (λ i e. absurd (cc)))
+may_peek servers l off n answers k d (fault.Damaged j) is h = absurd (peek_no servers d (answer.Damaged j.0) h (λ i e. absurd (cc)))
+may_peek servers l off n answers k d fault.Memory is h = tt
+
+short : (servers : ℕ) (answers : List Answer) (k : ℕ) (why : Fault) → why ≡ fault.Memory → MayFaultAt servers answers k (fault_answer why)
+short servers answers k why e = subst (λ y. MayFaultAt servers answers k (fault_answer y)) (sym e) tt
+
+-- and of any call
+by_cause : {S : Type 0} (kind : StoreKind S) (old new : Dev S) (w : Map) (s : SessionView) (P : Slice → List ℕ → Type 0) (kept : Op Kept) (o : Op (List ℕ)) (servers : ℕ) (answers : List Answer) (k : ℕ) (d : Answer) (why : Fault)
+    → OpStandsFor P kept o → IsAgainFault kind old new w s kept why → slice_get answers k ≡ Some d → MayStandFor servers o d why → MayFaultAt servers answers k (fault_answer why)
+by_cause kind old new w s P (op.Read f n) o servers answers k d why stands cause is may = may_at servers f n answers k d why is (subst (λ q. MayStandFor servers q d why) stands may)
+by_cause kind old new w s P (op.Peek l off n) o servers answers k d why stands cause is may = may_peek servers l off n answers k d why is (subst (λ q. MayStandFor servers q d why) stands may)
+by_cause kind old new w s P kept o servers answers k d why stands cause is may = short servers answers k why cause
+
+pub step_fault : {S : Type 0} (kind : StoreKind S) (old new : Dev S) (kv : Store Key Value) (told : Told) (x : TxnView) (ops : List (Op (List ℕ))) (why : Fault) → IsSound old.settings.region kv told x ops
+    → FaultAt kind old new kv (hand_of x) x.log x.replayed why → MayStepFault old.settings (metadata_at kv x.at.base) told x ops why
+step_fault kind old new kv told x ops why sound f t st =
+    let size : ℕ = old.settings.region in
+    let cap : ℕ = cap_for (caller_at size x.tx 0) in
+    let there = OpsStandFor-get (tells_slice told) x.log.ops ops x.replayed f.op sound.ops_are f.at_op in
+    let o : Op (List ℕ) = there.0 in
+    let within : x.replayed < length ops = slice_get_within ops x.replayed o there.1.0 in
+    let S : Session = session_after cap t (take x.replayed ops) in
+    let ran = at_base size kv told x ops sound t st in
+    let st2 = before_next size kv told x ops sound t st (omega (arith, within)) in
+    let may = f.due o (OpStandsFor-weaker (tells_slice told) (λ p bytes. Unit {0}) f.op o (λ sl bytes own h. tt) there.1.1) (caller_at size x.tx x.replayed) told S refl st2 ran.holds in
+    by_cause kind old new (seen kv x.at) x.session (tells_slice told) f.op o old.settings.servers (answers_of cap t ops) x.replayed (call cap S o).answer why there.1.1 f.cause
+    (answers_from-at cap (fresh t) ops x.replayed o there.1.0) may
+
+-- a replay's fault over a store that shows the same maps
+pub fault_along : {S : Type 0} (kind : StoreKind S) (old new : Dev S) (kv after : Store Key Value) (x : TxnView) (why : Fault) → ((m : ℕ) → metadata_at kv m ≡ metadata_at after m)
+    → ReplayFault kind old new kv x why → ReplayFault kind old new after x why
+fault_along kind old new kv after x why same f = record {
+  mid = f.mid;
+  goes = f.goes;
+  at = f.at;
+  session = f.session;
+  k = f.k;
+  from = f.from;
+  base = f.base;
+  named = λ P hole were logged.
+      let then = f.named P hole (record { base = subst (MapBytes P) (sym (same x.at.base)) were.base; changes = were.changes; slices = were.slices }) logged in
+      record { base = subst (MapBytes P) (same f.at.base) then.base; changes = then.changes; slices = then.slices };
+  done = λ ops tells sound.
+      sound_along old.settings.region kv after (byte_at kind (stores f.mid)) (replaying x.tx f.at f.session x.log f.k) ops (sym (same f.at.base))
+      (f.done ops (subst (TellsMap kind (stores old)) (sym (same x.at.base)) tells) (sound_along old.settings.region after kv (byte_at kind (stores old)) x ops (same x.at.base) sound));
+  fault = record {
+    op = f.fault.op;
+    at_op = f.fault.at_op;
+    cause = subst (λ w. IsAgainFault kind f.mid new w f.session f.fault.op why) (ap (with f.at.changes) (same f.at.base)) f.fault.cause;
+    due = subst (λ w. MayAgainFault f.mid.settings w f.session f.fault.op why) (ap (with f.at.changes) (same f.at.base)) f.fault.due;
+  };
+}
+
+-- and a commit's
+pub commit_fault_along : {S : Type 0} (kind : StoreKind S) (old new : Dev S) (kv after : Store Key Value) (x : TxnView) (why : Fault) → kv.number ≡ after.number → ((m : ℕ) → metadata_at kv m ≡ metadata_at after m)
+    → IsCommitFault kind old new kv x why → IsCommitFault kind old new after x why
+commit_fault_along kind old new kv after x why number same (inl short) = inl short
+commit_fault_along kind old new kv after x why number same (inr (inl f)) = inr (inl (f.0 ∙ number, fault_along kind old new kv after x why same f.1))
+commit_fault_along kind old new kv after x why number same (inr (inr f)) = inr (inr (subst (λ n. ReplayFault kind old new after (rebased x n) why) number (fault_along kind old new kv after (rebased x kv.number) why same f)))
+
+-- no replay reads whether a transaction has ended
+pub fault_as : {S : Type 0} (kind : StoreKind S) (old new : Dev S) (kv : Store Key Value) (x : TxnView) (over : Bool) (why : Fault) → ReplayFault kind old new kv x why → ReplayFault kind old new kv (record x { ended = over }) why
+fault_as kind old new kv x over why f = record {
+  mid = f.mid;
+  goes = f.goes;
+  at = f.at;
+  session = f.session;
+  k = f.k;
+  from = f.from;
+  base = f.base;
+  named = f.named;
+  done = λ ops tells sound.
+      f.done ops tells (record { facts = sound.facts; stored = sound.stored; ops_are = sound.ops_are; told_are = sound.told_are; stored_are = sound.stored_are; run = sound.run });
+  fault = f.fault;
+}
+
+-- a fault of a replay comes only where the machine allows it
+pub replay_fault : {S : Type 0} {kind : StoreKind S} → KindLaws kind → (old new : Dev S) (kv : Store Key Value) (x : TxnView) (ops : List (Op (List ℕ))) (why : Fault) → TellsMap kind (stores old) (metadata_at kv x.at.base)
+    → IsSound old.settings.region kv (byte_at kind (stores old)) x ops → ReplayFault kind old new kv x why → MayCommitFault old.settings (metadata_at kv x.at.base) (byte_at kind (stores old)) x why
+replay_fault {kind = kind} laws old new kv x ops why tells sound f t st =
+    let y : TxnView = replaying x.tx f.at f.session x.log f.k in
+    let told : Told = byte_at kind (stores f.mid) in
+    let size : f.mid.settings.region ≡ old.settings.region = ap (λ (s : Settings). s.region) f.goes.settings in
+    let here : IsSound f.mid.settings.region kv told y ops = subst (λ z. IsSound z kv told y ops) (sym size) (f.done ops tells sound) in
+    let later = stands_later old.settings.region (byte_at kind (stores old)) told x.tx 0 (metadata_at kv x.at.base) t (tells_on laws f.goes.each) st in
+    let stands : Stands f.mid.settings.region told x.tx 0 (metadata_at kv f.at.base) t =
+    subst (λ n. Stands f.mid.settings.region told x.tx 0 (metadata_at kv n) t) (sym f.base) (subst (λ z. Stands z told x.tx 0 (metadata_at kv x.at.base) t) (sym size) later) in
+    let may = step_fault kind f.mid new kv told y ops why here f.fault t stands in
+    let servers : f.mid.settings.servers ≡ old.settings.servers = ap (λ (s : Settings). s.servers) f.goes.settings in
+    subst (λ n. MayEndFault n (fault_answer why)) servers (end_fault f.mid.settings.servers _ f.k (fault_answer why) may)
+  where
+    end_fault : (servers : ℕ) (answers : List Answer) (k : ℕ) (o : Option Answer) → MayFaultAt servers answers k o → MayEndFault servers o
+    end_fault servers answers k None h = tt
+    end_fault servers answers k (Some a) h = h.1
+
+-- so does one at the map now
+pub end_due : {S : Type 0} {kind : StoreKind S} → KindLaws kind → (old new : Dev S) (kv : Store Key Value) (x y : TxnView) (ops : List (Op (List ℕ))) (why : Fault) → x.tx ≡ y.tx → TellsMap kind (stores old) (metadata_at kv x.at.base)
+    → IsSound old.settings.region kv (byte_at kind (stores old)) x ops → (why ≡ fault.Memory) ⊎ ReplayFault kind old new kv x why → MayCommitFault old.settings (metadata_at kv x.at.base) (byte_at kind (stores old)) y why
+end_due laws old new kv x y ops why tx tells sound (inl short) t st = subst (λ (w : Fault). MayEndFault old.settings.servers (fault_answer w)) (sym short) tt
+end_due {kind = kind} laws old new kv x y ops why tx tells sound (inr f) t st =
+    replay_fault laws old new kv x ops why tells sound f t (subst (λ n. Stands old.settings.region (byte_at kind (stores old)) n 0 (metadata_at kv x.at.base) t) (sym tx) st)

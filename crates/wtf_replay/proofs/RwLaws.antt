@@ -1,0 +1,206 @@
+-- Calls on handles and bytes, as calls of a transaction: made for the first time, and made once more.
+use Rattle.std.proofs.Common.{◌≡◌, ◌⊎◌, ◌<◌, ◌≤◌, ℕ, true, List, [], ◌∷◌, length, Option, None, Some, Ok, get_or, refl, sym, ap, ◌∙◌, subst, inl, inr, arith}
+use Rattle.std.specs.Prelude.{Bool, IfSome, Result, Err, ⊤}
+use Rattle.wtf_base.specs.declared.fault.Fault.{Fault}
+use Rattle.wtf_base.specs.declared.kept.Kept.{Kept}
+use Rattle.wtf_base.specs.declared.slice.Slice.{Slice}
+use Rattle.wtf_base.specs.Slices.{len_of}
+use Rattle.wtf_dev.specs.Store.{StoreKind}
+use Rattle.wtf_dev.specs.Sums.{TellsAll}
+use Rattle.wtf_overlay.specs.Origin.{Place, part_origin}
+use Rattle.wtf_overlay.specs.declared.part.Part.TheVariants.{Held}
+use Rattle.wtf_ring.specs.Points.{PlaceView}
+use Rattle.wtf_replica.specs.Bytes.{byte_at}
+use Rattle.wtf_replica.proofs.Bytes.{stored_bytes}
+use Rattle.wtf_model.specs.declared.answer.Answer.{Answer}
+use Rattle.wtf_model.specs.declared.op.Op.{Op}
+use Rattle.wtf_model.specs.declared.op.Op.TheVariants as op
+use Rattle.wtf_model.specs.Form.{IsFormOp, IsKeptData}
+use Rattle.wtf_log.specs.Calls.{own_of}
+use Rattle.wtf_log.specs.Standing.{OpStandsFor}
+use Rattle.wtf_meta.specs.declared.session.Handle.{Handle}
+use Rattle.wtf_meta.specs.Bytes.{PartBytes}
+use Rattle.wtf_meta.specs.Contents.{Told, is_told}
+use Rattle.wtf_meta.specs.Maps.{Map}
+use Rattle.wtf_meta.specs.Sessions.{SessionView, handle_in}
+use Rattle.wtf_meta.proofs.Telling.{told_from}
+use Rattle.wtf_region.specs.declared.dev.Dev.{Dev}
+use Rattle.wtf_region.specs.Devs.{stores}
+use Rattle.wtf_rw.specs.declared.op.Given.{Given}
+use Rattle.wtf_rw.specs.declared.op.Given.TheVariants.{Fresh, Stored}
+use Rattle.wtf_rw.specs.declared.op.RwOp.{RwOp}
+use Rattle.wtf_rw.specs.declared.op.RwOp.TheVariants as rw
+use Rattle.wtf_rw.specs.Steps.{IsRefusal}
+use Rattle.wtf_rw.specs.Stored.{SliceBytes, TellSlice, IsOwn, IsPutFault}
+use Rattle.wtf_rw.specs.Ops.{op_of, Writes, IsWhole, RwBytes, IsFormRw, OwnBy, IsRwOwn, LacksOwn, StoresNone, IsRwFault, IsBare, LacksSlice}
+use Rattle.wtf_rw.proofs.StoredBytes.{held_meaning}
+use Rattle.wtf_replay.specs.Built.{IsOpOf, IsFresh, IsStored, data_of}
+use Rattle.wtf_replay.specs.Keeps.{IsWholeOp, LacksData}
+use Rattle.wtf_replay.specs.Causes.{IsOwnOf, IsCallFault, IsAgainFault, StoresNothing}
+use Rattle.wtf_replay.specs.Sounds.{tells_slice}
+
+-- slices that are told have only bytes that are
+pub told_slice : (told : Told) (own : Option Slice) (bytes : List ℕ) → TellSlice told own bytes → SliceBytes (is_told told) own
+told_slice told None bytes h = tt
+told_slice told (Some s) bytes h = λ i below. told_from told (part_origin (Held s) i) (get_or bytes i 0) (h.tells i below)
+
+-- a call whose bytes were not kept
+abbrev pub Lacks : RwOp → Type 0
+Lacks (rw.Write f d) = LacksSlice d
+Lacks (rw.Append f d) = LacksSlice d
+Lacks r = ⊥
+
+pub lacks_bare : (r : RwOp) → Lacks r → IsBare r
+lacks_bare (rw.Write f d) h = h
+lacks_bare (rw.Append f d) h = h
+lacks_bare r h = absurd h
+
+module _ {S : Type 0} (kind : StoreKind S) (old new : Dev S) (w : Map) (s : SessionView) where
+  -- a call that is made for the first time
+  pub record FreshWays (r : RwOp) (o : Op (List ℕ)) : Type 0 where
+    pub own : (q : Option Slice) → IsRwOwn kind old new w s r q → IsOwnOf kind old new w s o q
+    pub fault : (why : Fault) → IsRwFault kind old new w s r why → IsCallFault kind old new w s o why
+    pub lacks : (q : Option Slice) (a : Answer) → LacksOwn r q a → LacksData o q a
+    pub none : StoresNothing o → StoresNone r
+
+  pub fresh_ways : (r : RwOp) (o : Op (List ℕ)) → IsOpOf IsFresh r o → FreshWays r o
+  fresh_ways (rw.Open f p) o e = subst (FreshWays (rw.Open f p)) (sym e) (record { own = λ q h. h; fault = λ why h. h; lacks = λ q a l none. inl refl; none = λ h. h })
+  fresh_ways (rw.Close f) o e = subst (FreshWays (rw.Close f)) (sym e) (record { own = λ q h. h; fault = λ why h. h; lacks = λ q a l none. inl refl; none = λ h. h })
+  fresh_ways (rw.Seek f place) o e = subst (FreshWays (rw.Seek f place)) (sym e) (record { own = λ q h. h; fault = λ why h. h; lacks = λ q a l none. inl refl; none = λ h. h })
+  fresh_ways (rw.Tell f) o e = subst (FreshWays (rw.Tell f)) (sym e) (record { own = λ q h. h; fault = λ why h. h; lacks = λ q a l none. inl refl; none = λ h. h })
+  fresh_ways (rw.Read f n) o e = subst (FreshWays (rw.Read f n)) (sym e) (record { own = λ q h. h; fault = λ why h. h; lacks = λ q a l none. inl refl; none = λ h. h })
+  fresh_ways (rw.Truncate f n) o e = subst (FreshWays (rw.Truncate f n)) (sym e) (record { own = λ q h. h; fault = λ why h. h; lacks = λ q a l none. inl refl; none = λ h. h })
+  fresh_ways (rw.Punch f n) o e = subst (FreshWays (rw.Punch f n)) (sym e) (record { own = λ q h. h; fault = λ why h. h; lacks = λ q a l none. inl refl; none = λ h. h })
+  fresh_ways (rw.Stat p) o e = subst (FreshWays (rw.Stat p)) (sym e) (record { own = λ q h. h; fault = λ why h. h; lacks = λ q a l none. inl refl; none = λ h. h })
+  fresh_ways (rw.Write f (Fresh bs)) o (bytes, e, is) = subst (FreshWays (rw.Write f (Fresh bs))) (sym (e ∙ ap (op.Write f) is)) (record { own = λ q h. h; fault = λ why h. h; lacks = λ q a l. l; none = λ h. h })
+  fresh_ways (rw.Append f (Fresh bs)) o (bytes, e, is) = subst (FreshWays (rw.Append f (Fresh bs))) (sym (e ∙ ap (op.Append f) is)) (record { own = λ q h. h; fault = λ why h. h; lacks = λ q a l. l; none = λ h. h })
+  fresh_ways (rw.Write f (Stored kept)) o (bytes, e, is) = absurd is
+  fresh_ways (rw.Append f (Stored kept)) o (bytes, e, is) = absurd is
+
+  -- the slice that was stored has as many bytes as the data
+  by_len : (o : Option Handle) (place : Handle → PlaceView) (bytes : List ℕ) (q : Option Slice) → OwnBy kind old new o place bytes q → IfSome q (λ sl. len_of sl ≡ length bytes)
+  by_len None place bytes q h = subst (λ z. IfSome z (λ sl. len_of sl ≡ length bytes)) (sym h.1) tt
+  by_len (Some g) place bytes None h = tt
+  by_len (Some g) place bytes (Some sl) h = h.0.len
+
+  pub own_len_of : (o : Op (List ℕ)) (q : Option Slice) → IsOwnOf kind old new w s o q → IfSome q (λ sl. len_of sl ≡ length (data_of o))
+  own_len_of (op.Write f bytes) q h = by_len (handle_in s f) _ bytes q h
+  own_len_of (op.Append f bytes) q h = by_len (handle_in s f) _ bytes q h
+  own_len_of (op.Read f n) q h = subst (λ z. IfSome z (λ sl. len_of sl ≡ 0)) (sym h) tt
+  own_len_of (op.Yank f n l) q h = subst (λ z. IfSome z (λ sl. len_of sl ≡ 0)) (sym h) tt
+  own_len_of (op.Peek l off n) q h = subst (λ z. IfSome z (λ sl. len_of sl ≡ 0)) (sym h) tt
+  own_len_of (op.Concat p paths) q h = subst (λ z. IfSome z (λ sl. len_of sl ≡ 0)) (sym h) tt
+  own_len_of o q h = subst (λ z. IfSome z (λ sl. len_of sl ≡ length (data_of o))) (sym h.1) tt
+
+  -- and the stores tell them there
+  tell_own : (place : PlaceView) (bytes : List ℕ) (q : Option Slice) → length (stores new) ≡ length (stores old) → TellsAll kind (stores old) → IsOwn kind old new place bytes q → TellSlice (byte_at kind (stores new)) q bytes
+  tell_own place bytes None same tells is = tt
+  tell_own place bytes (Some sl) same tells is =
+      let holds = stored_bytes is.0 same tells in
+      record { len = is.0.len; tells = λ i below. held_meaning (byte_at kind (stores new)) sl i (get_or bytes i 0) (holds i (omega (arith, below, is.0.len))) }
+
+  by_told : (o : Option Handle) (place : Handle → PlaceView) (bytes : List ℕ) (q : Option Slice) → length (stores new) ≡ length (stores old) → TellsAll kind (stores old) → OwnBy kind old new o place bytes q
+      → TellSlice (byte_at kind (stores new)) q bytes
+  by_told None place bytes q same tells h = subst (λ z. TellSlice (byte_at kind (stores new)) z bytes) (sym h.1) tt
+  by_told (Some g) place bytes q same tells h = tell_own (place g) bytes q same tells h
+
+  pub own_told_of : (o : Op (List ℕ)) (q : Option Slice) → length (stores new) ≡ length (stores old) → TellsAll kind (stores old) → IsOwnOf kind old new w s o q → TellSlice (byte_at kind (stores new)) q (data_of o)
+  own_told_of (op.Write f bytes) q same tells h = by_told (handle_in s f) _ bytes q same tells h
+  own_told_of (op.Append f bytes) q same tells h = by_told (handle_in s f) _ bytes q same tells h
+  own_told_of (op.Read f n) q same tells h = subst (λ z. TellSlice (byte_at kind (stores new)) z []) (sym h) tt
+  own_told_of (op.Yank f n l) q same tells h = subst (λ z. TellSlice (byte_at kind (stores new)) z []) (sym h) tt
+  own_told_of (op.Peek l off n) q same tells h = subst (λ z. TellSlice (byte_at kind (stores new)) z []) (sym h) tt
+  own_told_of (op.Concat p paths) q same tells h = subst (λ z. TellSlice (byte_at kind (stores new)) z []) (sym h) tt
+  own_told_of o q same tells h = subst (λ z. TellSlice (byte_at kind (stores new)) z (data_of o)) (sym h.1) tt
+
+  -- a call that is made once more
+  pub record AgainWays (r : RwOp) (k : Op Kept) : Type 0 where
+    pub form : IsFormOp IsKeptData k → IsFormRw r
+    pub given : (P : List Place → Bool) → SliceBytes P (own_of k) → RwBytes P r
+    pub none : StoresNone r
+    pub whole : IsWholeOp k → IsWhole r
+    pub either : IsWhole r ⊎ Lacks r
+    pub fault : (why : Fault) → IsRwFault kind old new w s r why → IsAgainFault kind old new w s k why
+
+  kept_either : (o : Option Slice) (n : ℕ) → (o ≡ None → n ≡ 0) ⊎ (o ≡ None)
+  kept_either None n = inr refl
+  kept_either (Some sl) n = inl (λ e. absurd (cc))
+
+  pub again_ways : (r : RwOp) (k : Op Kept) → IsOpOf IsStored r k → AgainWays r k
+  again_ways (rw.Open f p) k e = subst (AgainWays (rw.Open f p)) (sym e) (record { form = λ h. h.0; given = λ P h. tt; none = tt; whole = λ h. tt; either = inl tt; fault = λ why h. h })
+  again_ways (rw.Close f) k e = subst (AgainWays (rw.Close f)) (sym e) (record { form = λ h. h; given = λ P h. tt; none = tt; whole = λ h. tt; either = inl tt; fault = λ why h. h })
+  again_ways (rw.Seek f place) k e = subst (AgainWays (rw.Seek f place)) (sym e) (record { form = λ h. h.0; given = λ P h. tt; none = tt; whole = λ h. tt; either = inl tt; fault = λ why h. h })
+  again_ways (rw.Tell f) k e = subst (AgainWays (rw.Tell f)) (sym e) (record { form = λ h. h; given = λ P h. tt; none = tt; whole = λ h. tt; either = inl tt; fault = λ why h. h })
+  again_ways (rw.Read f n) k e = subst (AgainWays (rw.Read f n)) (sym e) (record { form = λ h. h; given = λ P h. tt; none = tt; whole = λ h. tt; either = inl tt; fault = λ why h. h })
+  again_ways (rw.Truncate f n) k e = subst (AgainWays (rw.Truncate f n)) (sym e) (record { form = λ h. h.0; given = λ P h. tt; none = tt; whole = λ h. tt; either = inl tt; fault = λ why h. h })
+  again_ways (rw.Punch f n) k e = subst (AgainWays (rw.Punch f n)) (sym e) (record { form = λ h. h.0; given = λ P h. tt; none = tt; whole = λ h. tt; either = inl tt; fault = λ why h. h })
+  again_ways (rw.Stat p) k e = subst (AgainWays (rw.Stat p)) (sym e) (record { form = λ h. tt; given = λ P h. tt; none = tt; whole = λ h. tt; either = inl tt; fault = λ why h. h })
+  again_ways (rw.Write f (Stored kept)) k (x, e, is) = subst (AgainWays (rw.Write f (Stored kept))) (sym (e ∙ ap (op.Write f) is)) (record { form = λ h. h; given = λ P h. h; none = tt; whole = λ h. h; either = kept_either kept.slice kept.len; fault = λ why h. h })
+  again_ways (rw.Append f (Stored kept)) k (x, e, is) = subst (AgainWays (rw.Append f (Stored kept))) (sym (e ∙ ap (op.Append f) is)) (record { form = λ h. h; given = λ P h. h; none = tt; whole = λ h. h; either = kept_either kept.slice kept.len; fault = λ why h. h })
+  again_ways (rw.Write f (Fresh bs)) k (x, e, is) = absurd is
+  again_ways (rw.Append f (Fresh bs)) k (x, e, is) = absurd is
+
+-- the bytes of a call that is made once more, as P tells them of its slice
+module _ (P : Slice → List ℕ → Type 0) where
+  -- P holds of the slice that a call is given
+  abbrev pub RwTell : RwOp → List ℕ → Type 0
+  RwTell (rw.Write f (Stored kept)) bytes = IfSome kept.slice (λ s. P s bytes)
+  RwTell (rw.Append f (Stored kept)) bytes = IfSome kept.slice (λ s. P s bytes)
+  RwTell r bytes = ⊤
+
+  pub record Brought (r : RwOp) (o : Op (List ℕ)) : Type 0 where
+    pub bytes : List ℕ
+    pub is : op_of r bytes ≡ o
+    pub writes : Writes r bytes
+    pub tell : RwTell r bytes
+
+  plain_brought : (r : RwOp) (k : Op Kept) (p : Op (List ℕ)) (o : Op (List ℕ)) → o ≡ p → op_of r [] ≡ p → Writes r [] → RwTell r [] → Brought r o
+  plain_brought r k p o e is writes tell = record { bytes = []; is = is ∙ sym e; writes = writes; tell = tell }
+
+  pub brought_for : (r : RwOp) (k : Op Kept) (o : Op (List ℕ)) → IsOpOf IsStored r k → OpStandsFor P k o → Brought r o
+  brought_for (rw.Open f p) k o e h = plain_brought (rw.Open f p) k (op.Open f p.now) o (subst (λ q. OpStandsFor P q o) e h) refl tt tt
+  brought_for (rw.Close f) k o e h = plain_brought (rw.Close f) k (op.Close f) o (subst (λ q. OpStandsFor P q o) e h) refl tt tt
+  brought_for (rw.Seek f place) k o e h = plain_brought (rw.Seek f place) k (op.Seek f place) o (subst (λ q. OpStandsFor P q o) e h) refl tt tt
+  brought_for (rw.Tell f) k o e h = plain_brought (rw.Tell f) k (op.Tell f) o (subst (λ q. OpStandsFor P q o) e h) refl tt tt
+  brought_for (rw.Read f n) k o e h = plain_brought (rw.Read f n) k (op.Read f n) o (subst (λ q. OpStandsFor P q o) e h) refl tt tt
+  brought_for (rw.Truncate f n) k o e h = plain_brought (rw.Truncate f n) k (op.Truncate f n) o (subst (λ q. OpStandsFor P q o) e h) refl tt tt
+  brought_for (rw.Punch f n) k o e h = plain_brought (rw.Punch f n) k (op.Punch f n) o (subst (λ q. OpStandsFor P q o) e h) refl tt tt
+  brought_for (rw.Stat p) k o e h = plain_brought (rw.Stat p) k (op.Stat p.now) o (subst (λ q. OpStandsFor P q o) e h) refl tt tt
+  brought_for (rw.Write f (Stored kept)) k o (x, e, is) h =
+      let g = subst (λ q. OpStandsFor P q o) (e ∙ ap (op.Write f) is) h in
+      record { bytes = g.bytes; is = sym g.is; writes = sym g.stands.len; tell = g.stands.slice }
+  brought_for (rw.Append f (Stored kept)) k o (x, e, is) h =
+      let g = subst (λ q. OpStandsFor P q o) (e ∙ ap (op.Append f) is) h in
+      record { bytes = g.bytes; is = sym g.is; writes = sym g.stands.len; tell = g.stands.slice }
+  brought_for (rw.Write f (Fresh bs)) k o (x, e, is) h = absurd is
+  brought_for (rw.Append f (Fresh bs)) k o (x, e, is) h = absurd is
+
+  -- a call that is made for the first time is given no slice
+  pub fresh_tell : (r : RwOp) (o : Op (List ℕ)) (bytes : List ℕ) → IsOpOf IsFresh r o → RwTell r bytes
+  fresh_tell (rw.Write f (Stored kept)) o bytes (x, e, is) = absurd is
+  fresh_tell (rw.Append f (Stored kept)) o bytes (x, e, is) = absurd is
+  fresh_tell (rw.Write f (Fresh bs)) o bytes e = tt
+  fresh_tell (rw.Append f (Fresh bs)) o bytes e = tt
+  fresh_tell (rw.Open f p) o bytes e = tt
+  fresh_tell (rw.Close f) o bytes e = tt
+  fresh_tell (rw.Seek f place) o bytes e = tt
+  fresh_tell (rw.Tell f) o bytes e = tt
+  fresh_tell (rw.Read f n) o bytes e = tt
+  fresh_tell (rw.Truncate f n) o bytes e = tt
+  fresh_tell (rw.Punch f n) o bytes e = tt
+  fresh_tell (rw.Stat p) o bytes e = tt
+
+-- a call that is to store no byte stores no slice
+pub none_stored : {S : Type 0} (kind : StoreKind S) (old new : Dev S) (w : Map) (s : SessionView) (r : RwOp) (q : Option Slice) → StoresNone r → IsRwOwn kind old new w s r q → q ≡ None
+none_stored kind old new w s (rw.Write f (Stored kept)) q n h = h.1
+none_stored kind old new w s (rw.Append f (Stored kept)) q n h = h.1
+none_stored kind old new w s (rw.Write f (Fresh bs)) q n h = absurd n
+none_stored kind old new w s (rw.Append f (Fresh bs)) q n h = absurd n
+none_stored kind old new w s (rw.Open f p) q n h = h.1
+none_stored kind old new w s (rw.Close f) q n h = h.1
+none_stored kind old new w s (rw.Seek f place) q n h = h.1
+none_stored kind old new w s (rw.Tell f) q n h = h.1
+none_stored kind old new w s (rw.Read f n2) q n h = h
+none_stored kind old new w s (rw.Truncate f n2) q n h = h.1
+none_stored kind old new w s (rw.Punch f n2) q n h = h.1
+none_stored kind old new w s (rw.Stat p) q n h = h.1

@@ -1,0 +1,149 @@
+-- Why a call, a step or a commit gave a fault, and when one may come.
+use Rattle.std.specs.Prelude.{◌≡◌, ◌⊎◌, ◌<◌, ◌≤◌, ℕ, List, [], ◌∷◌, Option, None, Some, slice_get, ⊤}
+use Rattle.wtf_base.specs.declared.fault.Fault.{Fault}
+use Rattle.wtf_base.specs.declared.fault.Fault.TheVariants as fault
+use Rattle.wtf_base.specs.declared.kept.Kept.{Kept}
+use Rattle.wtf_base.specs.declared.settings.Settings.{Settings}
+use Rattle.wtf_base.specs.declared.slice.Slice.{Slice}
+use Rattle.wtf_dev.specs.Store.{StoreKind}
+use Rattle.wtf_replica.specs.Bytes.{byte_at}
+use Rattle.wtf_kv.specs.Stores.{Store}
+use Rattle.wtf_occ.specs.Attempts.{Attempted}
+use Rattle.wtf_model.specs.declared.answer.Answer.{Answer}
+use Rattle.wtf_model.specs.declared.answer.Answer.TheVariants as answer
+use Rattle.wtf_model.specs.declared.op.Op.{Op}
+use Rattle.wtf_model.specs.declared.op.Op.TheVariants as op
+use Rattle.wtf_model.specs.Lawful.{IsDone, IsReadFault}
+use Rattle.wtf_model.specs.Transaction.{answers_of}
+use Rattle.wtf_model.specs.Tree.{Tree}
+use Rattle.wtf_values.specs.declared.key.Key.{Key}
+use Rattle.wtf_values.specs.declared.value.Value.{Value}
+use Rattle.wtf_values.specs.declared.value.Delta.{Delta}
+use Rattle.wtf_log.specs.Calls.{Calls}
+use Rattle.wtf_log.specs.Standing.{OpStandsFor}
+use Rattle.wtf_meta.specs.declared.session.Handle.{Handle}
+use Rattle.wtf_meta.specs.Contents.{Told}
+use Rattle.wtf_meta.specs.FileEdits.{file_of}
+use Rattle.wtf_meta.specs.Maps.{Map, seen, metadata_at}
+use Rattle.wtf_meta.specs.Sessions.{SessionView, handle_in, slice_in}
+use Rattle.wtf_meta.specs.Trees.{Stands}
+use Rattle.wtf_meta.specs.Calls.{InHand, cap_for}
+use Rattle.wtf_region.specs.declared.dev.Dev.{Dev}
+use Rattle.wtf_region.specs.Devs.{GoesOn, place_in, stores}
+use Rattle.wtf_rw.specs.Faults.{MayFault}
+use Rattle.wtf_rw.specs.Ops.{OwnBy}
+use Rattle.wtf_rw.specs.Reads.{LacksBytes, read_origin}
+use Rattle.wtf_rw.specs.Recorded.{found_in}
+use Rattle.wtf_rw.specs.Stored.{IsPutFault, end_place}
+use Rattle.wtf_slicing.specs.Shown.{LacksSlice}
+use Rattle.wtf_replay.specs.Views.{TxnView, in_hand, hand_of, replaying, rebased}
+use Rattle.wtf_replay.specs.Insides.{NamesAgain}
+use Rattle.wtf_replay.specs.Sounds.{IsSound, TellsMap, caller_at}
+
+-- what came of the bytes that a call was to store: those that are written go to the region of the handle's offset, and those
+-- that are appended to that of the file's end
+abbrev pub IsOwnOf : {S : Type 0} → StoreKind S → (old new : Dev S) → Map → SessionView → Op (List ℕ) → Option Slice → Type 0
+IsOwnOf kind old new w s (op.Write f bytes) own = OwnBy kind old new (handle_in s f) (λ h. place_in old h.inode h.off) bytes own
+IsOwnOf kind old new w s (op.Append f bytes) own = OwnBy kind old new (handle_in s f) (λ h. place_in old h.inode (end_place old.settings.region (file_of h.inode w))) bytes own
+IsOwnOf kind old new w s (op.Read f n) own = own ≡ None
+IsOwnOf kind old new w s (op.Yank f n label) own = own ≡ None
+IsOwnOf kind old new w s (op.Peek label off n) own = own ≡ None
+IsOwnOf kind old new w s (op.Concat q paths) own = own ≡ None
+IsOwnOf kind old new w s o own = (new ≡ old) × (own ≡ None)
+
+-- a call that needs neither bytes nor lists
+abbrev pub IsStillOp : {D : Type 0} → Op D → Type 0
+IsStillOp (op.Yank f n label) = ⊥
+IsStillOp (op.Peek label off n) = ⊥
+IsStillOp (op.Concat q paths) = ⊥
+IsStillOp o = ⊤
+
+-- why n bytes of a slice were not shown; memory may be short at any time
+abbrev pub IsPeekCause : {S : Type 0} → StoreKind S → (old new : Dev S) → SessionView → ℕ → ℕ → ℕ → Fault → Type 0
+IsPeekCause kind old new s label off n why = (why ≡ fault.Memory) ⊎ LacksSlice kind old new (slice_in s label) off n why
+
+-- why a call without data gave a fault: only bytes of a slice that are to be shown are read
+abbrev pub IsPlainFault : {S D : Type 0} → StoreKind S → (old new : Dev S) → SessionView → Op D → Fault → Type 0
+IsPlainFault kind old new s (op.Peek label off n) why = IsPeekCause kind old new s label off n why
+IsPlainFault kind old new s o why = why ≡ fault.Memory
+
+-- a call that is to store no byte
+abbrev pub StoresNothing : Op (List ℕ) → Type 0
+StoresNothing (op.Write f bytes) = ⊥
+StoresNothing (op.Append f bytes) = ⊥
+StoresNothing o = ⊤
+
+-- why n bytes from a handle's offset on were not shown; memory may be short at any time
+abbrev pub IsReadCause : {S : Type 0} → StoreKind S → (old new : Dev S) → Map → SessionView → ℕ → ℕ → Fault → Type 0
+IsReadCause kind old new w s f n why =
+    (why ≡ fault.Memory) ⊎ ((h : Handle) × (handle_in s f ≡ Some h) × LacksBytes kind old new (found_in old.settings.region w h n) (read_origin old.settings.region w h) why)
+
+-- of a call that is made for the first time
+abbrev pub IsCallFault : {S : Type 0} → StoreKind S → (old new : Dev S) → Map → SessionView → Op (List ℕ) → Fault → Type 0
+IsCallFault kind old new w s (op.Write f bytes) why = IsPutFault kind old new bytes why
+IsCallFault kind old new w s (op.Append f bytes) why = IsPutFault kind old new bytes why
+IsCallFault kind old new w s (op.Read f n) why = IsReadCause kind old new w s f n why
+IsCallFault kind old new w s (op.Peek label off n) why = IsPeekCause kind old new s label off n why
+IsCallFault kind old new w s o why = why ≡ fault.Memory
+
+-- and of one that is made once more, which stores nothing
+abbrev pub IsAgainFault : {S : Type 0} → StoreKind S → (old new : Dev S) → Map → SessionView → Op Kept → Fault → Type 0
+IsAgainFault kind old new w s (op.Read f n) why = IsReadCause kind old new w s f n why
+IsAgainFault kind old new w s (op.Peek label off n) why = IsPeekCause kind old new s label off n why
+IsAgainFault kind old new w s k why = why ≡ fault.Memory
+
+-- it may come in place of what is due, for whatever bytes the call stands
+abbrev pub MayAgainFault : Settings → Map → SessionView → Op Kept → Fault → Type 0
+MayAgainFault settings w s k why = (o : Op (List ℕ)) → OpStandsFor (λ p bytes. ⊤) k o → MayFault settings w s o why
+
+-- call k of a log gave the fault when it was made once more with this in hand
+pub record FaultAt {S : Type 0} (kind : StoreKind S) (mid new : Dev S) (kv : Store Key Value) (hand : InHand) (log : Calls) (k : ℕ) (why : Fault) : Type 0 where
+  pub op : Op Kept
+  pub at_op : slice_get log.ops k ≡ Some op
+  pub cause : IsAgainFault kind mid new (seen kv hand.at) hand.session op why
+  pub due : MayAgainFault mid.settings (seen kv hand.at) hand.session op why
+
+-- A replay that began as x gave the fault at one of the calls that were left, where those before it were done.
+pub record ReplayFault {S : Type 0} (kind : StoreKind S) (old new : Dev S) (kv : Store Key Value) (x : TxnView) (why : Fault) : Type 0 where
+  pub mid : Dev S
+  pub goes : GoesOn kind old mid []
+  pub at : Attempted Key Delta
+  pub session : SessionView
+  pub k : ℕ
+  pub from : x.replayed ≤ k
+  pub base : at.base ≡ x.at.base
+  pub named : NamesAgain kv (hand_of x) (in_hand at session) x.log
+  pub done : (ops : List (Op (List ℕ))) → TellsMap kind (stores old) (metadata_at kv x.at.base) → IsSound old.settings.region kv (byte_at kind (stores old)) x ops
+      → IsSound old.settings.region kv (byte_at kind (stores mid)) (replaying x.tx at session x.log k) ops
+  pub fault : FaultAt kind mid new kv (in_hand at session) x.log k why
+
+-- Memory was short, or it was a replay on the map now: of the calls that were left, or of all.
+abbrev pub IsCommitFault : {S : Type 0} → StoreKind S → (old new : Dev S) → Store Key Value → TxnView → Fault → Type 0
+IsCommitFault kind old new kv x why =
+    (why ≡ fault.Memory) ⊎ (((x.at.base ≡ kv.number) × ReplayFault kind old new kv x why) ⊎ ReplayFault kind old new kv (rebased x kv.number) why)
+
+-- The machine's answer to a fault; want of memory has none.
+abbrev pub fault_answer : Fault → Option Answer
+fault_answer (fault.Read k) = Some (answer.FaultRead k.0)
+fault_answer fault.Write = Some answer.FaultWrite
+fault_answer (fault.Punch k) = Some (answer.FaultPunch k.0)
+fault_answer (fault.Damaged k) = Some (answer.Damaged k.0)
+fault_answer fault.Memory = None
+
+-- where call k is to be made once more, the machine allows the answer of a fault: the call would not be refused
+abbrev pub MayFaultAt : ℕ → List Answer → ℕ → Option Answer → Type 0
+MayFaultAt servers answers k None = ⊤
+MayFaultAt servers answers k (Some a) = IsDone (slice_get answers k) × IsReadFault servers a
+
+-- on each tree for which the map stands
+abbrev pub MayStepFault : Settings → Map → Told → TxnView → List (Op (List ℕ)) → Fault → Type 0
+MayStepFault settings w told x ops why =
+    (t : Tree) → Stands settings.region told x.tx 0 w t → MayFaultAt settings.servers (answers_of (cap_for (caller_at settings.region x.tx 0)) t ops) x.replayed (fault_answer why)
+
+-- and where calls are replayed to an end, it allows each read's
+abbrev pub MayEndFault : ℕ → Option Answer → Type 0
+MayEndFault servers None = ⊤
+MayEndFault servers (Some a) = IsReadFault servers a
+
+abbrev pub MayCommitFault : Settings → Map → Told → TxnView → Fault → Type 0
+MayCommitFault settings w told x why = (t : Tree) → Stands settings.region told x.tx 0 w t → MayEndFault settings.servers (fault_answer why)
