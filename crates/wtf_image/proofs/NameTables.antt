@@ -1,0 +1,51 @@
+-- Tables of the names in directories, made path by path.
+use Rattle.std.proofs.Common.{◌≡◌, ℕ, ◌+◌, ◌<◌, Bool, true, false, cond, List, [], ◌∷◌, ◌++◌, take, length, get_or, Option, Some, refl, sym, ap, ◌∙◌, inl, inr}
+use Rattle.std.specs.Option.{unwrap_or}
+use Rattle.std.specs.Map.{lookup}
+use Rattle.std.specs.BTreeMap.{is_at}
+use Rattle.std.specs.Prelude.{bytes_eq}
+use Rattle.std.specs.Ordering.{nat_cmp}
+use Rattle.std.specs.Cmp.Lexicographic.{slice_cmp}
+use Rattle.std.proofs.lemmas.Bool.{cases_Bool}
+use Rattle.std.proofs.lemmas.List.{take_more}
+use Rattle.std.proofs.lemmas.Map.Text.{is_eq-slice_cmp}
+use Rattle.std.proofs.lemmas.Slice.Eq.{bytes_eq-Decides}
+use Rattle.wtf_path.specs.Parts.{parent_of, name_of}
+use Rattle.wtf_values.specs.Names.{NamesOf, no_names, with_name}
+use Rattle.wtf_model.specs.Tree.{is_at as stands_at}
+use Rattle.wtf_image.specs.declared.records.PathRecord.{PathRecord}
+use Rattle.wtf_image.specs.Lookups.{added_name, names_from, names_under}
+use Rattle.wtf_image.specs.Tables.{names_in}
+
+abbrev Dirs : Type 0
+Dirs = List (List ℕ × NamesOf)
+
+abbrev at : Dirs → List ℕ → Option NamesOf
+at es d = lookup (is_at (slice_cmp nat_cmp d)) es
+
+-- by whether a path stands in d
+added : (d up : List ℕ) (name : List ℕ) (old : NamesOf) (b : Bool) → bytes_eq up d ≡ b → cond (stands_at d (Some up)) (with_name old name) old ≡ cond b (with_name old name) old
+added d up name old b e = ap (λ b. cond b (with_name old name) old) e
+
+-- one directory has the names that it had and one more
+pub name_added : (old new : Dirs) (d up p : List ℕ) (names : NamesOf) → at new d ≡ cond (is_at (slice_cmp nat_cmp up) d) (Some names) (at old d)
+    → names ≡ with_name (names_in old up) (name_of p) → parent_of p ≡ Some up → names_in new d ≡ added_name d p (names_in old d)
+name_added old new d up p names set is parent =
+    let test : is_at (slice_cmp nat_cmp up) d ≡ bytes_eq up d = is_eq-slice_cmp up d in
+    let goal_is : (o : Option (List ℕ)) → NamesOf = λ o. cond (stands_at d o) (with_name (names_in old d) (name_of p)) (names_in old d) in
+    elim (cases_Bool (bytes_eq up d)) [
+      | inl tie ↦ (let same : up ≡ d = (bytes_eq-Decides up d).0 tie in
+          ap (λ o. unwrap_or o no_names) (set ∙ ap (λ b. cond b (Some names) (at old d)) (test ∙ tie))
+          ∙ is ∙ ap (λ x. with_name (names_in old x) (name_of p)) same
+          ∙ sym (ap goal_is parent ∙ added d up (name_of p) (names_in old d) true tie))
+      | inr off ↦ ap (λ o. unwrap_or o no_names) (set ∙ ap (λ b. cond b (Some names) (at old d)) (test ∙ off))
+          ∙ sym (ap goal_is parent ∙ added d up (name_of p) (names_in old d) false off)
+    ]
+
+names_from-push : (s : NamesOf) (d : List ℕ) (rs : List PathRecord) (r : PathRecord) → names_from s d (rs ++ r ∷ []) ≡ added_name d r.path (names_from s d rs)
+names_from-push s d [] r = refl
+names_from-push s d (x ∷ rs) r = names_from-push (added_name d x.path s) d rs r
+
+pub names_more : (d : List ℕ) (rs : List PathRecord) (i : ℕ) (r : PathRecord) → i < length rs → r ≡ get_or rs i r → names_under d (take (i + 1) rs) ≡ added_name d r.path (names_under d (take i rs))
+names_more d rs i r lt is =
+    ap (names_under d) (take_more rs i r lt ∙ ap (λ (y : PathRecord). take i rs ++ y ∷ []) (sym is)) ∙ names_from-push no_names d (take i rs) r

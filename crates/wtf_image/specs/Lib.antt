@@ -1,0 +1,15 @@
+pub mod Rows
+pub mod Texts
+pub mod Shapes
+pub mod Reading
+pub mod Images
+pub mod Writing
+pub mod Lookups
+pub mod Seeds
+pub mod Rules
+pub mod Loading
+pub mod Tables
+pub mod Outcome
+pub mod Saving
+pub mod Savable
+pub mod Kept

@@ -1,0 +1,109 @@
+-- What is loaded of an image, and why bytes are refused.
+use Rattle.std.specs.Prelude.{◌≡◌, ℕ, true, false, List, [], Option, None, Some, ⊤}
+use Rattle.wtf_base.specs.declared.settings.Settings.{Settings}
+use Rattle.wtf_kv.specs.Stores.{Store, versions_of}
+use Rattle.wtf_values.specs.Keys.{key_cmp}
+use Rattle.wtf_values.specs.declared.key.Key.{Key}
+use Rattle.wtf_values.specs.declared.key.Key.TheVariants as keys
+use Rattle.wtf_values.specs.declared.value.Value.{Value}
+use Rattle.wtf_image.specs.declared.error.LoadError.{LoadError}
+use Rattle.wtf_image.specs.declared.error.LoadError.TheVariants as error
+use Rattle.wtf_image.specs.Rows.{ImageRows}
+use Rattle.wtf_image.specs.Images.{HasText, IsNoImage}
+use Rattle.wtf_image.specs.Lookups.{Plain, row_at}
+use Rattle.wtf_image.specs.Rules.{AreGoodSettings, IsGoodTree, are_inside}
+use Rattle.wtf_image.specs.Seeds.{IsOnly}
+use Rattle.wtf_image.specs.Tables.{shown, ShowsRows}
+
+-- the settings are those of the image
+pub record AreSettingsOf (x : ImageRows) (s : Settings) : Type 0 where
+  pub servers : s.servers ≡ x.header.servers
+  pub replicas : s.replicas ≡ x.header.replicas
+  pub region : s.region ≡ x.header.region
+
+-- the bytes are an image with good settings, which are these
+pub record IsChecked (bytes : List ℕ) (s : Settings) : Type 0 where
+  pub rows : ImageRows
+  pub text : HasText rows bytes
+  pub good : AreGoodSettings rows
+  pub settings : AreSettingsOf rows s
+
+-- an image whose settings or numbers break a rule
+pub record HasBadSettings (bytes : List ℕ) : Type 0 where
+  pub rows : ImageRows
+  pub text : HasText rows bytes
+  pub bad : AreGoodSettings rows → ⊥
+
+-- why a check refuses bytes; memory may be wanted at any time
+abbrev pub IsCheckRefusal : List ℕ → LoadError → Type 0
+IsCheckRefusal bytes error.NotAnImage = IsNoImage bytes
+IsCheckRefusal bytes error.BadSettings = HasBadSettings bytes
+IsCheckRefusal bytes error.BadTree = ⊥
+IsCheckRefusal bytes error.PointerOutside = ⊥
+IsCheckRefusal bytes error.Memory = ⊤
+
+-- a key has the one version n with what an image says of it, and none where that is nothing
+abbrev pub IsSeededBy : ℕ → List (ℕ × Option Value) → Option Plain → Type 0
+IsSeededBy n vs None = vs ≡ []
+IsSeededBy n vs (Some s) = IsOnly n vs s
+
+-- what an image says of a key that is no directory's
+abbrev pub row_but_names : ImageRows → Key → Option Plain
+row_but_names x (keys.Path p) = row_at x (keys.Path p)
+row_but_names x (keys.Dir p) = None
+row_but_names x (keys.Inode i) = row_at x (keys.Inode i)
+row_but_names x (keys.Region i r) = row_at x (keys.Region i r)
+
+-- a store with the files and the paths of an image, and no directory
+pub record IsPartly (x : ImageRows) (kv : Store Key Value) : Type 0 where
+  pub number : kv.number ≡ x.header.installs
+  pub pins : kv.pins ≡ []
+  pub rows : ShowsRows (shown kv) x.paths x.files
+  pub versions : (q : Key) → IsSeededBy kv.number (versions_of key_cmp kv q) (row_but_names x q)
+  pub no_dirs : (p : List ℕ) → versions_of key_cmp kv (keys.Dir p) ≡ []
+
+-- a store is what an image says: at its number of installs, nothing is pinned, and each key has just what the image says
+-- of it, as its one version, which is the number
+pub record IsLoaded (x : ImageRows) (kv : Store Key Value) : Type 0 where
+  pub number : kv.number ≡ x.header.installs
+  pub pins : kv.pins ≡ []
+  pub versions : (q : Key) → IsSeededBy kv.number (versions_of key_cmp kv q) (row_at x q)
+  pub map : (q : Key) → shown kv q ≡ row_at x q
+
+-- an image with good settings that makes no tree
+pub record HasBadTree (bytes : List ℕ) : Type 0 where
+  pub rows : ImageRows
+  pub text : HasText rows bytes
+  pub good : AreGoodSettings rows
+  pub bad : IsGoodTree rows → ⊥
+
+-- an image with good settings and a good tree that names bytes outside the stores, whose files have these sizes
+pub record HasPointerOutside (size : ℕ → ℕ → ℕ) (bytes : List ℕ) : Type 0 where
+  pub rows : ImageRows
+  pub text : HasText rows bytes
+  pub good : AreGoodSettings rows
+  pub tree : IsGoodTree rows
+  pub outside : are_inside size rows ≡ false
+
+-- why bytes are refused: the first rule that they break; memory may be wanted at any time
+abbrev pub IsRefusal : (ℕ → ℕ → ℕ) → List ℕ → LoadError → Type 0
+IsRefusal size bytes error.NotAnImage = IsNoImage bytes
+IsRefusal size bytes error.BadSettings = HasBadSettings bytes
+IsRefusal size bytes error.BadTree = HasBadTree bytes
+IsRefusal size bytes error.PointerOutside = HasPointerOutside size bytes
+IsRefusal size bytes error.Memory = ⊤
+
+-- the same of an image with good settings
+abbrev pub IsLateRefusal : (ℕ → ℕ → ℕ) → ImageRows → LoadError → Type 0
+IsLateRefusal size x error.NotAnImage = ⊥
+IsLateRefusal size x error.BadSettings = ⊥
+IsLateRefusal size x error.BadTree = IsGoodTree x → ⊥
+IsLateRefusal size x error.PointerOutside = IsGoodTree x × (are_inside size x ≡ false)
+IsLateRefusal size x error.Memory = ⊤
+
+-- the bytes are an image that breaks no rule
+pub record IsTaken (size : ℕ → ℕ → ℕ) (bytes : List ℕ) (x : ImageRows) : Type 0 where
+  pub text : HasText x bytes
+  pub good : AreGoodSettings x
+  pub tree : IsGoodTree x
+  pub inside : are_inside size x ≡ true

@@ -1,0 +1,59 @@
+-- Tables by which the rules of a tree are tried, and what a store shows of them.
+use Rattle.std.specs.Prelude.{◌≡◌, ℕ, Bool, true, false, List, Option, None, Some, is_some}
+use Rattle.std.specs.Option.{option_map, unwrap_or}
+use Rattle.std.specs.Map.{lookup}
+use Rattle.std.specs.BTreeMap.{is_at}
+use Rattle.std.specs.Ordering.{nat_cmp}
+use Rattle.std.specs.Cmp.Lexicographic.{slice_cmp}
+use Rattle.wtf_base.specs.declared.ids.InodeId.{InodeId}
+use Rattle.wtf_kv.specs.Stores.{Store, map_at}
+use Rattle.wtf_path.specs.Parts.{parent_of}
+use Rattle.wtf_values.specs.Keys.{key_cmp, inode_cmp}
+use Rattle.wtf_values.specs.Names.{NamesOf, no_names}
+use Rattle.wtf_values.specs.declared.key.Key.{Key}
+use Rattle.wtf_values.specs.declared.key.Key.TheVariants as keys
+use Rattle.wtf_values.specs.declared.value.Node.{Node}
+use Rattle.wtf_values.specs.declared.value.Node.TheVariants.{Folder, File}
+use Rattle.wtf_values.specs.declared.value.Value.{Value}
+use Rattle.wtf_image.specs.declared.records.PathRecord.{PathRecord}
+use Rattle.wtf_image.specs.Rows.{FileRow}
+use Rattle.wtf_image.specs.Lookups.{Plain, NodeIs, NamesAre, LastIs, RegionIs, plain, node_at, last_at}
+
+-- how often an inode is named, by a table
+abbrev pub count_in : List (InodeId × ℕ) → InodeId → ℕ
+count_in counts i = unwrap_or (lookup (is_at (inode_cmp i)) counts) 0
+
+-- the names in a directory, by a table
+abbrev pub names_in : List (List ℕ × NamesOf) → List ℕ → NamesOf
+names_in dirs d = unwrap_or (lookup (is_at (slice_cmp nat_cmp d)) dirs) no_names
+
+-- what a store shows of a key
+abbrev pub Shown : Type 0
+Shown = Key → Option Plain
+
+abbrev pub shown : Store Key Value → Shown
+shown kv q = option_map plain (map_at key_cmp kv kv.number q)
+
+-- it shows just these paths and files
+pub record ShowsRows (m : Shown) (paths : List PathRecord) (files : List FileRow) : Type 0 where
+  pub nodes : (p : List ℕ) → m (keys.Path p) ≡ option_map NodeIs (node_at paths p)
+  pub lasts : (i : InodeId) → m (keys.Inode i) ≡ option_map LastIs (last_at files i)
+
+abbrev pub is_shown_folder : Option Plain → Bool
+is_shown_folder None = false
+is_shown_folder (Some (NodeIs Folder)) = true
+is_shown_folder (Some (NodeIs (File i))) = false
+is_shown_folder (Some (NamesAre names)) = false
+is_shown_folder (Some (LastIs n)) = false
+is_shown_folder (Some (RegionIs end base entries)) = false
+
+abbrev pub is_shown_in : Shown → Option (List ℕ) → Bool
+is_shown_in m None = true
+is_shown_in m (Some dir) = is_shown_folder (m (keys.Path dir))
+
+abbrev pub has_shown_parent : Shown → PathRecord → Bool
+has_shown_parent m r = is_shown_in m (parent_of r.path)
+
+abbrev pub is_shown_node : Shown → Node → Bool
+is_shown_node m Folder = true
+is_shown_node m (File i) = is_some (m (keys.Inode i))

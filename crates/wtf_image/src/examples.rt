@@ -1,0 +1,45 @@
+//! What the definitions say, as contracts of functions that do nothing.
+
+ghost use Rattle.std.specs.Prelude.{◌≡◌, ◌<◌, ◌++◌, ℕ, List, []};
+ghost use Rattle.wtf_base.specs.declared.settings.Settings.{Settings};
+ghost use Rattle.wtf_kv.specs.Stores.{Store};
+ghost use Rattle.wtf_values.specs.declared.key.Key.{Key};
+ghost use Rattle.wtf_values.specs.declared.value.Value.{Value};
+ghost use Rattle.wtf_image.specs.declared.error.LoadError.{LoadError};
+ghost use Rattle.wtf_image.specs.declared.loads.Loaded.{Loaded};
+ghost use Rattle.wtf_model.specs.Tree.{Tree};
+ghost use Rattle.wtf_meta.specs.Maps.{metadata_at};
+ghost use Rattle.wtf_meta.specs.Contents.{Told};
+ghost use Rattle.wtf_meta.specs.Trees.{Stands};
+ghost use Rattle.wtf_image.specs.Tables.{shown};
+ghost use Rattle.wtf_image.specs.Savable.{AreBefore, IsSavable};
+ghost use Rattle.wtf_image.specs.Rows.{ImageRows};
+ghost use Rattle.wtf_image.specs.Images.{HasText};
+ghost use Rattle.wtf_image.specs.Loading.{IsRefusal};
+ghost use Rattle.wtf_image.specs.Outcome.{IsLoadOf};
+ghost use Rattle.wtf_image.specs.Kept.{IsKept, IsSameAs, IsPointerOrMemory};
+
+/// Bytes are one image at most, and no image is a proper front of another.
+pub fn images_are_apart()
+    ensures { (x y : ImageRows) (a rest : List ℕ) → HasText x a → HasText y (a ++ rest) →
+        (x ≡ y) × (rest ≡ []) }
+{}
+
+/// What was saved is loaded again: the same map at the same number, with the same settings and the
+/// same next transaction; a refusal names a pointer outside the stores, unless memory ran out.
+pub fn what_was_saved_is_loaded()
+    ensures same { (kv : Store Key Value) (s : Settings) (n : ℕ) (bytes : List ℕ) →
+        IsKept kv s n bytes → (size : ℕ → ℕ → ℕ) (l : Loaded) → IsLoadOf size bytes l →
+        IsSameAs kv s n l }
+    ensures taken { (kv : Store Key Value) (s : Settings) (n : ℕ) (bytes : List ℕ) →
+        IsKept kv s n bytes → (size : ℕ → ℕ → ℕ) (why : LoadError) → IsRefusal size bytes why →
+        IsPointerOrMemory why }
+{}
+
+/// Metadata that stand for a tree of files can be saved, where the next transaction is after that of
+/// each inode.
+pub fn what_stands_can_be_saved()
+    ensures { (b : ℕ) (told : Told) (tx calls n : ℕ) (kv : Store Key Value) (t : Tree) →
+        Stands b told tx calls (metadata_at kv kv.number) t → 0 < n →
+        AreBefore n (metadata_at kv kv.number) → IsSavable b n (shown kv) }
+{}

@@ -1,0 +1,155 @@
+//! The records of a store as it stands, in the order of their keys.
+
+ghost use Rattle.std.specs.Prelude.{◌≡◌, ◌+◌, IfOk, OnOk};
+ghost use Rattle.wtf_base.specs.declared.ids.InodeId.{InodeId};
+ghost use Rattle.wtf_values.specs.declared.key.Key.TheVariants as keys;
+ghost use Rattle.wtf_values.specs.declared.value.Value.TheVariants as values;
+ghost use Rattle.wtf_image.specs.Rows.{region_row, region_rows, file_row, file_rows};
+ghost use Rattle.wtf_image.specs.Lookups.{plain};
+ghost use Rattle.wtf_image.specs.Tables.{shown};
+ghost use Rattle.wtf_image.specs.Saving.{node_now, last_now, region_now, region_in, with_one, file_with, path_due, file_due, ArePathsOf, AreFilesOf};
+
+use crate::records::{FileRecord, PathRecord, RegionRecord};
+use std::alloc::Global;
+use wtf_base::{InodeId, OutOfMemory};
+use wtf_kv::Kv;
+use wtf_values::{Key, Node, RegionValue, Value};
+
+/// What stands at each path, in the order of paths.
+pub(crate) fn paths_now(alloc: Global, kv: &Kv<Key, Value>) -> Result<Vec<PathRecord>, OutOfMemory>
+    ensures { IfOk result (λ v. ArePathsOf (shown kv.now) v.items) }
+{
+    let mut paths = Vec::new(alloc);
+    let mut at = kv.next_key(None);
+    while let Some(key) = at {
+        add_path(alloc, kv, key, &mut paths)?;
+        at = kv.next_key(Some(key));
+    }
+    Ok(paths)
+}
+
+/// Adds what stands at a path, where the key is one's.
+fn add_path(
+    alloc: Global,
+    kv: &Kv<Key, Value>,
+    key: &Key,
+    paths: &mut Vec<PathRecord>,
+) -> Result<(), OutOfMemory>
+    ensures { OnOk result (paths.new.items ≡
+        with_one paths.old.items (path_due (shown kv.now) key.now)) }
+{
+    let Key::Path(path) = key else {
+        return Ok(());
+    };
+    let Some(node) = node_of(kv, key) else {
+        return Ok(());
+    };
+    let path = path.copy(alloc)?;
+    paths.push(PathRecord { path, node })?;
+    Ok(())
+}
+
+fn node_of(kv: &Kv<Key, Value>, key: &Key) -> Option<Node>
+    ensures { result ≡ node_now (shown kv.now key.now) }
+{
+    match kv.read_at(kv.number(), key) {
+        Some(Value::Node(node)) => Some(*node),
+        _ => None,
+    }
+}
+
+/// The files, in the order of inodes.
+pub(crate) fn files_now(alloc: Global, kv: &Kv<Key, Value>) -> Result<Vec<FileRecord>, OutOfMemory>
+    ensures { IfOk result (λ v. AreFilesOf (shown kv.now) (file_rows v.items)) }
+{
+    let mut files = Vec::new(alloc);
+    let mut at = kv.next_key(None);
+    while let Some(key) = at {
+        add_file(alloc, kv, key, &mut files)?;
+        at = kv.next_key(Some(key));
+    }
+    Ok(files)
+}
+
+/// Adds a file, where the key is one's.
+fn add_file(
+    alloc: Global,
+    kv: &Kv<Key, Value>,
+    key: &Key,
+    files: &mut Vec<FileRecord>,
+) -> Result<(), OutOfMemory>
+    ensures { OnOk result (file_rows files.new.items ≡
+        with_one (file_rows files.old.items) (file_due (shown kv.now) key.now)) }
+{
+    let Key::Inode(inode) = key else {
+        return Ok(());
+    };
+    let Some(last) = last_of(kv, key) else {
+        return Ok(());
+    };
+    let file = file_of(alloc, kv, *inode, last)?;
+    files.push(file)?;
+    Ok(())
+}
+
+fn last_of(kv: &Kv<Key, Value>, key: &Key) -> Option<u16>
+    ensures { result ≡ last_now (shown kv.now key.now) }
+{
+    match kv.read_at(kv.number(), key) {
+        Some(Value::Last(last)) => Some(*last),
+        _ => None,
+    }
+}
+
+/// A file with its regions up to the last one. It takes the time of a search for each number up to it.
+fn file_of(
+    alloc: Global,
+    kv: &Kv<Key, Value>,
+    inode: InodeId,
+    last: u16,
+) -> Result<FileRecord, OutOfMemory>
+    ensures { IfOk result (λ f. file_row f ≡ file_with (shown kv.now) inode last) }
+{
+    let mut regions = Vec::new(alloc);
+    for r in 0..last as u32 + 1 {
+        add_region(kv, inode, r as u16, &mut regions)?;
+    }
+    Ok(FileRecord {
+        inode,
+        last,
+        regions,
+    })
+}
+
+/// Adds a region, if it is there.
+fn add_region(
+    kv: &Kv<Key, Value>,
+    inode: InodeId,
+    number: u16,
+    regions: &mut Vec<RegionRecord>,
+) -> Result<(), OutOfMemory>
+    ensures { OnOk result (region_rows regions.new.items ≡
+        with_one (region_rows regions.old.items) (region_in (shown kv.now) inode number)) }
+{
+    match kv.read_at(kv.number(), &Key::Region(inode, number)) {
+        Some(Value::Region(value)) => {
+            let region = region_of(number, value)?;
+            regions.push(region)?;
+            return Ok(());
+        }
+        _ => return Ok(()),
+    }
+}
+
+/// The record of a region, which shares the entries.
+fn region_of(number: u16, value: &RegionValue) -> Result<RegionRecord, OutOfMemory>
+    ensures { IfOk result (λ r. Some (region_row r) ≡
+        region_now number (Some (plain (values.Region value.now)))) }
+{
+    let list = value.list.share()?;
+    Ok(RegionRecord {
+        number,
+        end: value.end,
+        list,
+    })
+}

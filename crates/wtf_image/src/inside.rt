@@ -1,0 +1,103 @@
+//! Whether pointers name bytes inside the stores.
+
+ghost use Rattle.std.specs.Prelude.{◌≡◌, ◌≤◌, ◌<◌, length};
+ghost use Rattle.std.specs.List.{list_all};
+ghost use Rattle.wtf_base.specs.Slices.{pointers_of};
+ghost use Rattle.wtf_image.specs.Rows.{part_row, entry_rows, region_rows, file_rows};
+ghost use Rattle.wtf_image.specs.Rules.{size_in, is_inside, is_part_inside, is_region_inside, is_file_inside};
+
+use crate::records::{FileRecord, RegionRecord};
+use wtf_base::{Pointer, Slice};
+use wtf_dev::{Shelf, SliceStore};
+use wtf_overlay::{Overlay, Part};
+
+/// The length of a backing file, in bytes.
+fn size_of<S: SliceStore>(shelf: &Shelf<S>, k: u8, file: u8) -> u64
+    requires k { k < length shelf.now }
+    requires file { file < 8 }
+    ensures { result ≡ size_in S.kind shelf.now k file }
+{
+    shelf.length(k, file)
+}
+
+fn is_inside<S: SliceStore>(servers: u8, shelf: &Shelf<S>, pointer: Pointer) -> bool
+    requires { servers ≤ length shelf.now }
+    ensures { result ≡ is_inside servers (size_in S.kind shelf.now) pointer }
+{
+    if pointer.server.0 >= servers || pointer.file >= 8 {
+        return false;
+    }
+    let size = size_of(shelf, pointer.server.0, pointer.file);
+    pointer.at <= size && pointer.len as u64 <= size - pointer.at
+}
+
+fn is_slice_inside<S: SliceStore>(servers: u8, shelf: &Shelf<S>, slice: &Slice) -> bool
+    requires { servers ≤ length shelf.now }
+    ensures { result ≡ list_all (is_inside servers (size_in S.kind shelf.now))
+        (pointers_of slice.now) }
+{
+    for i in 0..slice.width() {
+        if !is_inside(servers, shelf, slice.pointer(i)) {
+            return false;
+        }
+    }
+    true
+}
+
+fn is_part_inside<S: SliceStore>(servers: u8, shelf: &Shelf<S>, part: Part) -> bool
+    requires { servers ≤ length shelf.now }
+    ensures { result ≡ is_part_inside servers (size_in S.kind shelf.now) (part_row part) }
+{
+    match part {
+        Part::Zero => true,
+        Part::Held(slice) => is_slice_inside(servers, shelf, &slice),
+    }
+}
+
+fn is_list_inside<S: SliceStore>(servers: u8, shelf: &Shelf<S>, list: &Overlay) -> bool
+    requires { servers ≤ length shelf.now }
+    ensures { result ≡ list_all (λ e. is_part_inside servers (size_in S.kind shelf.now) e.part)
+        (entry_rows list.now) }
+{
+    for i in 0..list.len() {
+        if !is_part_inside(servers, shelf, list.get(i).part) {
+            return false;
+        }
+    }
+    true
+}
+
+fn are_regions_inside<S: SliceStore>(
+    servers: u8,
+    shelf: &Shelf<S>,
+    regions: &[RegionRecord],
+) -> bool
+    requires { servers ≤ length shelf.now }
+    ensures { result ≡ list_all (is_region_inside servers (size_in S.kind shelf.now))
+        (region_rows regions.now) }
+{
+    for region in regions {
+        if !is_list_inside(servers, shelf, &region.list) {
+            return false;
+        }
+    }
+    true
+}
+
+/// Whether each pointer of the files names bytes inside the stores of so many servers.
+pub(crate) fn are_files_inside<S: SliceStore>(
+    servers: u8,
+    shelf: &Shelf<S>,
+    files: &[FileRecord],
+) -> bool
+    requires { servers ≤ length shelf.now }
+    ensures { result ≡ list_all (is_file_inside servers (size_in S.kind shelf.now))
+        (file_rows files.now) }
+{
+    for file in files {
+        if !are_regions_inside(servers, shelf, file.regions.as_slice()) {
+            return false;
+        }
+    }
+    true
+}

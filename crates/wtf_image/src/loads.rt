@@ -1,0 +1,148 @@
+//! An image is loaded, or refused.
+
+ghost use Rattle.std.specs.Prelude.{◌≡◌, ◌≤◌, ℕ, List, [], true, length, IfOk, IfErr, OnOk};
+ghost use Rattle.std.specs.List.{flat_map};
+ghost use Rattle.wtf_kv.specs.Stores.{versions_of};
+ghost use Rattle.wtf_values.specs.Keys.{key_cmp};
+ghost use Rattle.wtf_values.specs.declared.key.Key.TheVariants as keys;
+ghost use Rattle.wtf_image.specs.Rows.{ImageRows, rows_of};
+ghost use Rattle.wtf_image.specs.Shapes.{ascends, path_before, IsImage};
+ghost use Rattle.wtf_image.specs.Images.{HasText};
+ghost use Rattle.wtf_image.specs.Seeds.{Adds, dir_seed};
+ghost use Rattle.wtf_image.specs.Tables.{shown, ShowsRows};
+ghost use Rattle.wtf_image.specs.Rules.{AreGoodSettings, IsGoodTree, size_in, are_inside};
+ghost use Rattle.wtf_image.specs.Loading.{IsChecked, IsRefusal, IsCheckRefusal, IsLateRefusal, IsPartly};
+ghost use Rattle.wtf_image.specs.Outcome.{IsLoadOf};
+
+use crate::LoadError;
+use crate::inside::are_files_inside;
+use crate::names::{directories, seed_dirs};
+use crate::parse::parse;
+use crate::records::{Image, PathRecord};
+use crate::seeding::{seed_files, seed_paths};
+use crate::settings::good_settings;
+use crate::tree::is_tree;
+use std::alloc::Global;
+use wtf_base::{OutOfMemory, Settings};
+use wtf_dev::{Shelf, SliceStore};
+use wtf_kv::Kv;
+use wtf_values::{Key, Value};
+
+/// What was loaded: the metadata of all files, the settings, and the number of the transaction that
+/// begins next.
+#[derive(Drop)]
+pub struct Loaded {
+    pub kv: Kv<Key, Value>,
+    pub settings: Settings,
+    pub next_tx: u64,
+}
+
+/// The settings of an image. It answers `NotAnImage` and `BadSettings`, and looks neither at the tree
+/// nor at pointers.
+pub fn check(alloc: Global, bytes: &[u8]) -> Result<Settings, LoadError>
+    ensures settings { IfOk result (IsChecked bytes.now) }
+    ensures cause { IfErr result (IsCheckRefusal bytes.now) }
+{
+    let image = match parse(alloc, bytes) {
+        Ok(image) => image,
+        Err(why) => return Err(why),
+    };
+    match good_settings(&image) {
+        Some(settings) => return Ok(settings),
+        None => return Err(LoadError::BadSettings),
+    }
+}
+
+/// The store with the files and the paths of an image, at its number of installs.
+fn store_of(alloc: Global, image: &Image) -> Result<Kv<Key, Value>, OutOfMemory>
+    requires { IsImage (rows_of image.now) }
+    ensures { IfOk result (IsPartly (rows_of image.now)) }
+{
+    let mut kv = Kv::start(alloc, image.header.installs)?;
+    seed_files(&mut kv, image.files.as_slice())?;
+    seed_paths(alloc, &mut kv, image.paths.as_slice())?;
+    Ok(kv)
+}
+
+/// The names in directories are added.
+fn add_names(
+    alloc: Global,
+    kv: &mut Kv<Key, Value>,
+    paths: &[PathRecord],
+) -> Result<(), OutOfMemory>
+    requires pins { kv.old.pins ≡ [] }
+    requires ascend { ascends path_before paths.now ≡ true }
+    requires fresh { (p : List ℕ) → versions_of key_cmp kv.old (keys.Dir p) ≡ [] }
+    ensures { OnOk result (Adds kv.old kv.new (flat_map (dir_seed paths.now) paths.now)) }
+{
+    let dirs = directories(alloc, paths)?;
+    seed_dirs(alloc, kv, &dirs, paths)?;
+    Ok(())
+}
+
+/// Whether the tree and the pointers of an image with good settings are good; the store has its files
+/// and paths.
+fn try_rules<S: SliceStore>(
+    alloc: Global,
+    kv: &Kv<Key, Value>,
+    image: &Image,
+    shelf: &Shelf<S>,
+) -> Result<(), LoadError>
+    requires rows { ShowsRows (shown kv.now) (rows_of image.now).paths (rows_of image.now).files }
+    requires shelf { image.now.header.servers ≤ length shelf.now }
+    ensures tree { OnOk result (IsGoodTree (rows_of image.now)) }
+    ensures inside { OnOk result (are_inside (size_in S.kind shelf.now) (rows_of image.now) ≡ true) }
+    ensures cause { IfErr result (IsLateRefusal (size_in S.kind shelf.now) (rows_of image.now)) }
+{
+    let good = match is_tree(alloc, kv, image) {
+        Ok(good) => good,
+        Err(_) => return Err(LoadError::Memory),
+    };
+    if !good {
+        return Err(LoadError::BadTree);
+    }
+    if !are_files_inside(image.header.servers, shelf, image.files.as_slice()) {
+        return Err(LoadError::PointerOutside);
+    }
+    Ok(())
+}
+
+/// The metadata of an image, over stores that have as many servers as its settings say. The store is at
+/// the image's number of installs, nothing is pinned, and each key has that number as its version.
+/// Bytes are refused by the first rule that they break, in the order of `LoadError`.
+pub fn load<S: SliceStore>(
+    alloc: Global,
+    bytes: &[u8],
+    shelf: &Shelf<S>,
+) -> Result<Loaded, LoadError>
+    requires { (x : ImageRows) → HasText x bytes.now → AreGoodSettings x →
+        x.header.servers ≤ length shelf.now }
+    ensures loaded { IfOk result (IsLoadOf (size_in S.kind shelf.now) bytes.now) }
+    ensures cause { IfErr result (IsRefusal (size_in S.kind shelf.now) bytes.now) }
+{
+    let image = match parse(alloc, bytes) {
+        Ok(image) => image,
+        Err(why) => return Err(why),
+    };
+    let settings = match good_settings(&image) {
+        Some(settings) => settings,
+        None => return Err(LoadError::BadSettings),
+    };
+    let mut kv = match store_of(alloc, &image) {
+        Ok(kv) => kv,
+        Err(_) => return Err(LoadError::Memory),
+    };
+    match try_rules(alloc, &kv, &image, shelf) {
+        Ok(()) => {}
+        Err(why) => return Err(why),
+    }
+    match add_names(alloc, &mut kv, image.paths.as_slice()) {
+        Ok(()) => {}
+        Err(_) => return Err(LoadError::Memory),
+    }
+    Ok(Loaded {
+        kv,
+        settings,
+        next_tx: image.header.next_tx,
+    })
+}

@@ -1,0 +1,255 @@
+//! The records of an image, read from left to right. No memory is set aside for a count that the
+//! bytes only claim: a vector grows as its records come.
+
+ghost use Rattle.std.specs.Prelude.{◌≡◌, MatchOption};
+ghost use Rattle.wtf_path.specs.Refusals.{number_of as path_number};
+ghost use Rattle.wtf_image.specs.Rows.{region_row, region_rows, file_row, file_rows, rows_of};
+ghost use Rattle.wtf_image.specs.Texts.{magic};
+ghost use Rattle.wtf_image.specs.Reading.{Gives, many_at, region_at, inode_at, file_at, node_at, name_at, path_by, text_at, path_at, paths_at, files_at, magic_at, header_at, image_of};
+
+use crate::LoadError;
+use crate::order::{files_ascend, paths_ascend, regions_ascend};
+use crate::reader::{entries_of, u8_at, u16_at, u32_at, u64_at};
+use crate::records::{FileRecord, Header, Image, PathRecord, RegionRecord};
+use std::alloc::Global;
+use wtf_base::{InodeId, TxId};
+use wtf_path::{Path, PathError};
+use wtf_values::Node;
+
+#[tactic(auto, unfolding(crate::specs::Reading::region_at))]
+fn region_of(alloc: Global, bytes: &[u8]) -> Result<(RegionRecord, &[u8]), LoadError>
+    ensures { Gives (λ x. (region_row x.0, x.1.now)) result (region_at bytes.now) }
+{
+    let (number, rest) = u16_at(bytes)?;
+    let (end, rest) = u32_at(rest)?;
+    let (base, rest) = u8_at(rest)?;
+    if base != 0 {
+        return Err(LoadError::NotAnImage);
+    }
+    let (count, rest) = u32_at(rest)?;
+    let (list, rest) = entries_of(alloc, end, count, rest)?;
+    Ok((RegionRecord { number, end, list }, rest))
+}
+
+fn regions_of(
+    alloc: Global,
+    count: u16,
+    bytes: &[u8],
+) -> Result<(Vec<RegionRecord>, &[u8]), LoadError>
+    ensures { Gives (λ x. (region_rows x.0.items, x.1.now)) result
+        (many_at region_at count bytes.now) }
+{
+    let mut regions = Vec::new(alloc);
+    let mut rest = bytes;
+    for _ in 0..count {
+        let (region, after) = region_of(alloc, rest)?;
+        regions.push(region)?;
+        rest = after;
+    }
+    Ok((regions, rest))
+}
+
+#[tactic(auto, unfolding(crate::specs::Reading::inode_at))]
+fn inode_of(bytes: &[u8]) -> Result<(InodeId, &[u8]), LoadError>
+    ensures { Gives (λ x. (x.0, x.1.now)) result (inode_at bytes.now) }
+{
+    let (tx, rest) = u64_at(bytes)?;
+    let (index, rest) = u32_at(rest)?;
+    let inode = InodeId {
+        tx: TxId(tx),
+        index,
+    };
+    Ok((inode, rest))
+}
+
+#[tactic(auto, unfolding(crate::specs::Reading::file_at))]
+fn file_of(alloc: Global, bytes: &[u8]) -> Result<(FileRecord, &[u8]), LoadError>
+    ensures { Gives (λ x. (file_row x.0, x.1.now)) result (file_at bytes.now) }
+{
+    let (inode, rest) = inode_of(bytes)?;
+    let (last, rest) = u16_at(rest)?;
+    let (count, rest) = u16_at(rest)?;
+    let (regions, rest) = regions_of(alloc, count, rest)?;
+    if !regions_ascend(regions.as_slice()) {
+        return Err(LoadError::NotAnImage);
+    }
+    let file = FileRecord {
+        inode,
+        last,
+        regions,
+    };
+    Ok((file, rest))
+}
+
+fn some_files_of(
+    alloc: Global,
+    count: u32,
+    bytes: &[u8],
+) -> Result<(Vec<FileRecord>, &[u8]), LoadError>
+    ensures { Gives (λ x. (file_rows x.0.items, x.1.now)) result
+        (many_at file_at count bytes.now) }
+{
+    let mut files = Vec::new(alloc);
+    let mut rest = bytes;
+    for _ in 0..count {
+        let (file, after) = file_of(alloc, rest)?;
+        files.push(file)?;
+        rest = after;
+    }
+    Ok((files, rest))
+}
+
+#[tactic(auto, unfolding(crate::specs::Reading::files_at))]
+fn files_of(alloc: Global, bytes: &[u8]) -> Result<(Vec<FileRecord>, &[u8]), LoadError>
+    ensures { Gives (λ x. (file_rows x.0.items, x.1.now)) result (files_at bytes.now) }
+{
+    let (count, rest) = u32_at(bytes)?;
+    let (files, rest) = some_files_of(alloc, count, rest)?;
+    if !files_ascend(files.as_slice()) {
+        return Err(LoadError::NotAnImage);
+    }
+    Ok((files, rest))
+}
+
+#[tactic(auto, unfolding(crate::specs::Reading::node_at))]
+fn node_of(bytes: &[u8]) -> Result<(Node, &[u8]), LoadError>
+    ensures { Gives (λ x. (x.0, x.1.now)) result (node_at bytes.now) }
+{
+    let (kind, rest) = u8_at(bytes)?;
+    match kind {
+        0 => Ok((Node::Folder, rest)),
+        1 => {
+            let (inode, rest) = inode_of(rest)?;
+            Ok((Node::File(inode), rest))
+        }
+        _ => Err(LoadError::NotAnImage),
+    }
+}
+
+#[tactic(auto, unfolding(crate::specs::Reading::text_at))]
+fn text_of(len: u16, bytes: &[u8]) -> Result<(&[u8], &[u8]), LoadError>
+    ensures { Gives (λ x. (x.0.now, x.1.now)) result (text_at len bytes.now) }
+{
+    let len = len as usize;
+    if bytes.len() < len {
+        return Err(LoadError::NotAnImage);
+    }
+    Ok(bytes.split_at(len))
+}
+
+/// The path that a text spells.
+fn path_by(alloc: Global, text: &[u8]) -> Result<Path, LoadError>
+    ensures { Gives (λ path. path) result (path_by text.now) }
+{
+    match Path::parse(alloc, text) {
+        Ok(path) => Ok(path),
+        Err(why) => Err(no_path(why)),
+    }
+}
+
+/// Why a text gives no path.
+fn no_path(why: PathError) -> LoadError
+    ensures { MatchOption (path_number why) (result ≡ LoadError.Memory)
+        (λ n. result ≡ LoadError.NotAnImage) }
+{
+    match why.number() {
+        Some(_) => LoadError::NotAnImage,
+        None => LoadError::Memory,
+    }
+}
+
+#[tactic(auto, unfolding(crate::specs::Reading::name_at))]
+fn name_of(alloc: Global, bytes: &[u8]) -> Result<(Path, &[u8]), LoadError>
+    ensures { Gives (λ x. (x.0, x.1.now)) result (name_at bytes.now) }
+{
+    let (len, rest) = u16_at(bytes)?;
+    let (text, rest) = text_of(len, rest)?;
+    let path = path_by(alloc, text)?;
+    Ok((path, rest))
+}
+
+#[tactic(auto, unfolding(crate::specs::Reading::path_at))]
+fn path_of(alloc: Global, bytes: &[u8]) -> Result<(PathRecord, &[u8]), LoadError>
+    ensures { Gives (λ x. (x.0, x.1.now)) result (path_at bytes.now) }
+{
+    let (path, rest) = name_of(alloc, bytes)?;
+    let (node, rest) = node_of(rest)?;
+    Ok((PathRecord { path, node }, rest))
+}
+
+fn some_paths_of(
+    alloc: Global,
+    count: u32,
+    bytes: &[u8],
+) -> Result<(Vec<PathRecord>, &[u8]), LoadError>
+    ensures { Gives (λ x. (x.0.items, x.1.now)) result (many_at path_at count bytes.now) }
+{
+    let mut paths = Vec::new(alloc);
+    let mut rest = bytes;
+    for _ in 0..count {
+        let (path, after) = path_of(alloc, rest)?;
+        paths.push(path)?;
+        rest = after;
+    }
+    Ok((paths, rest))
+}
+
+#[tactic(auto, unfolding(crate::specs::Reading::paths_at))]
+fn paths_of(alloc: Global, bytes: &[u8]) -> Result<(Vec<PathRecord>, &[u8]), LoadError>
+    ensures { Gives (λ x. (x.0.items, x.1.now)) result (paths_at bytes.now) }
+{
+    let (count, rest) = u32_at(bytes)?;
+    let (paths, rest) = some_paths_of(alloc, count, rest)?;
+    if !paths_ascend(paths.as_slice()) {
+        return Err(LoadError::NotAnImage);
+    }
+    Ok((paths, rest))
+}
+
+#[tactic(auto, unfolding(crate::specs::Reading::magic_at))]
+fn magic_of(bytes: &[u8]) -> Result<&[u8], LoadError>
+    ensures { Gives (λ x. (magic, x.now)) result (magic_at bytes.now) }
+{
+    let (front, rest) = text_of(8, bytes)?;
+    if front != b"WTFIMG01".as_slice() {
+        return Err(LoadError::NotAnImage);
+    }
+    Ok(rest)
+}
+
+#[tactic(auto, unfolding(crate::specs::Reading::header_at))]
+fn header_of(bytes: &[u8]) -> Result<(Header, &[u8]), LoadError>
+    ensures { Gives (λ x. (x.0, x.1.now)) result (header_at bytes.now) }
+{
+    let (servers, rest) = u8_at(bytes)?;
+    let (replicas, rest) = u8_at(rest)?;
+    let (region, rest) = u32_at(rest)?;
+    let (installs, rest) = u64_at(rest)?;
+    let (next_tx, rest) = u64_at(rest)?;
+    let header = Header {
+        servers,
+        replicas,
+        region,
+        installs,
+        next_tx,
+    };
+    Ok((header, rest))
+}
+
+#[tactic(auto, unfolding(crate::specs::Reading::image_of, crate::specs::Reading::image_at))]
+pub(crate) fn image_of(alloc: Global, bytes: &[u8]) -> Result<Image, LoadError>
+    ensures { Gives rows_of result (image_of bytes.now) }
+{
+    let rest = magic_of(bytes)?;
+    let (header, rest) = header_of(rest)?;
+    let (paths, rest) = paths_of(alloc, rest)?;
+    let (files, rest) = files_of(alloc, rest)?;
+    if !rest.is_empty() {
+        return Err(LoadError::NotAnImage);
+    }
+    Ok(Image {
+        header,
+        paths,
+        files,
+    })
+}

@@ -1,0 +1,53 @@
+//! What an image holds, record by record.
+
+ghost use Rattle.wtf_overlay.specs.Clips.{Within};
+
+use wtf_base::InodeId;
+use wtf_overlay::Overlay;
+use wtf_path::Path;
+use wtf_values::Node;
+
+/// The settings as they stand in the image, and its two numbers.
+#[derive(Clone, Copy, Debug, PartialEq, Eq)]
+pub(crate) struct Header {
+    pub(crate) servers: u8,
+    pub(crate) replicas: u8,
+    /// The size of a region, in bytes.
+    pub(crate) region: u32,
+    /// The number of installs.
+    pub(crate) installs: u64,
+    /// The number of the transaction that begins next.
+    pub(crate) next_tx: u64,
+}
+
+/// What stands at a path.
+#[derive(Debug, Drop)]
+pub(crate) struct PathRecord {
+    pub(crate) path: Path,
+    pub(crate) node: Node,
+}
+
+/// A region of a file, by its number: where it ends, and its entries, none of which passes the end.
+#[derive(Debug, Drop)]
+pub(crate) struct RegionRecord {
+    pub(crate) number: u16,
+    pub(crate) end: u32,
+    pub(crate) list: Overlay,
+    pub ghost within: { Within end list },
+}
+
+/// A file: its inode, the number of its last region, and its regions.
+#[derive(Debug, Drop)]
+pub(crate) struct FileRecord {
+    pub(crate) inode: InodeId,
+    pub(crate) last: u16,
+    pub(crate) regions: Vec<RegionRecord>,
+}
+
+/// An image that was read, or is to be written.
+#[derive(Debug, Drop)]
+pub(crate) struct Image {
+    pub(crate) header: Header,
+    pub(crate) paths: Vec<PathRecord>,
+    pub(crate) files: Vec<FileRecord>,
+}

@@ -1,0 +1,124 @@
+//! The keys of a store, given their first values.
+
+ghost use Rattle.std.specs.Prelude.{◌≡◌, ℕ, List, [], true, OnOk, IfOk};
+ghost use Rattle.std.specs.List.{flat_map};
+ghost use Rattle.wtf_kv.specs.Stores.{versions_of};
+ghost use Rattle.wtf_values.specs.Keys.{key_cmp};
+ghost use Rattle.wtf_values.specs.declared.key.Key.TheVariants as keys;
+ghost use Rattle.wtf_base.specs.declared.ids.InodeId.{InodeId};
+ghost use Rattle.wtf_image.specs.Rows.{region_row, region_rows, file_row, file_rows};
+ghost use Rattle.wtf_image.specs.Shapes.{ascends, path_before, file_before, region_before};
+ghost use Rattle.wtf_image.specs.Seeds.{Adds, path_seed, last_seed, region_seed, file_seeds, AreRegionsAscending};
+
+use crate::records::{FileRecord, PathRecord, RegionRecord};
+use std::alloc::Global;
+use wtf_base::{InodeId, OutOfMemory};
+use wtf_kv::Kv;
+use wtf_values::{Key, RegionValue, Value};
+
+/// What stands at each path.
+pub(crate) fn seed_paths(
+    alloc: Global,
+    kv: &mut Kv<Key, Value>,
+    paths: &[PathRecord],
+) -> Result<(), OutOfMemory>
+    requires pins { kv.old.pins ≡ [] }
+    requires ascend { ascends path_before paths.now ≡ true }
+    requires fresh { (p : List ℕ) → versions_of key_cmp kv.old (keys.Path p) ≡ [] }
+    ensures { OnOk result (Adds kv.old kv.new (flat_map path_seed paths.now)) }
+{
+    for record in paths {
+        seed_path(alloc, kv, record)?;
+    }
+    Ok(())
+}
+
+fn seed_path(alloc: Global, kv: &mut Kv<Key, Value>, entry: &PathRecord) -> Result<(), OutOfMemory>
+    requires pins { kv.old.pins ≡ [] }
+    requires fresh { versions_of key_cmp kv.old (keys.Path entry.now.path) ≡ [] }
+    ensures { OnOk result (Adds kv.old kv.new (path_seed entry.now)) }
+{
+    let path = entry.path.copy(alloc)?;
+    kv.seed(Key::Path(path), Value::Node(entry.node))?;
+    Ok(())
+}
+
+/// The last region of each file, and all regions.
+pub(crate) fn seed_files(kv: &mut Kv<Key, Value>, files: &[FileRecord]) -> Result<(), OutOfMemory>
+    requires pins { kv.old.pins ≡ [] }
+    requires ascend { ascends file_before (file_rows files.now) ≡ true }
+    requires regions { AreRegionsAscending (file_rows files.now) }
+    requires inodes { (i : InodeId) → versions_of key_cmp kv.old (keys.Inode i) ≡ [] }
+    requires fresh { (i : InodeId) (r : ℕ) → versions_of key_cmp kv.old (keys.Region i r) ≡ [] }
+    ensures { OnOk result (Adds kv.old kv.new (flat_map file_seeds (file_rows files.now))) }
+{
+    for file in files {
+        seed_file(kv, file)?;
+    }
+    Ok(())
+}
+
+fn seed_file(kv: &mut Kv<Key, Value>, file: &FileRecord) -> Result<(), OutOfMemory>
+    requires pins { kv.old.pins ≡ [] }
+    requires ascend { ascends region_before (region_rows file.now.regions.items) ≡ true }
+    requires inode { versions_of key_cmp kv.old (keys.Inode file.now.inode) ≡ [] }
+    requires fresh { (r : ℕ) → versions_of key_cmp kv.old (keys.Region file.now.inode r) ≡ [] }
+    ensures { OnOk result (Adds kv.old kv.new (file_seeds (file_row file.now))) }
+{
+    seed_last(kv, file.inode, file.last)?;
+    seed_regions(kv, file.inode, file.regions.as_slice())?;
+    Ok(())
+}
+
+fn seed_last(kv: &mut Kv<Key, Value>, inode: InodeId, last: u16) -> Result<(), OutOfMemory>
+    requires pins { kv.old.pins ≡ [] }
+    requires fresh { versions_of key_cmp kv.old (keys.Inode inode) ≡ [] }
+    ensures { OnOk result (Adds kv.old kv.new (last_seed inode last)) }
+{
+    kv.seed(Key::Inode(inode), Value::Last(last))
+}
+
+fn seed_regions(
+    kv: &mut Kv<Key, Value>,
+    inode: InodeId,
+    regions: &[RegionRecord],
+) -> Result<(), OutOfMemory>
+    requires pins { kv.old.pins ≡ [] }
+    requires ascend { ascends region_before (region_rows regions.now) ≡ true }
+    requires fresh { (r : ℕ) → versions_of key_cmp kv.old (keys.Region inode r) ≡ [] }
+    ensures { OnOk result (Adds kv.old kv.new
+        (flat_map (region_seed inode) (region_rows regions.now))) }
+{
+    for region in regions {
+        seed_region(kv, inode, region)?;
+    }
+    Ok(())
+}
+
+fn seed_region(
+    kv: &mut Kv<Key, Value>,
+    inode: InodeId,
+    region: &RegionRecord,
+) -> Result<(), OutOfMemory>
+    requires pins { kv.old.pins ≡ [] }
+    requires fresh { versions_of key_cmp kv.old (keys.Region inode region.now.number) ≡ [] }
+    ensures { OnOk result (Adds kv.old kv.new (region_seed inode (region_row region.now))) }
+{
+    let value = value_of(region)?;
+    kv.seed(Key::Region(inode, region.number), Value::Region(value))?;
+    Ok(())
+}
+
+/// The value of a region, which shares the entries.
+fn value_of(region: &RegionRecord) -> Result<RegionValue, OutOfMemory>
+    ensures end { IfOk result (λ v. v.end ≡ region.now.end) }
+    ensures base { IfOk result (λ v. v.base ≡ None) }
+    ensures list { IfOk result (λ v. v.list ≡ region.now.list) }
+{
+    let list = region.list.share()?;
+    Ok(RegionValue {
+        end: region.end,
+        base: None,
+        list,
+    })
+}

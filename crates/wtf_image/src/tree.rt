@@ -1,0 +1,209 @@
+//! The rules of a tree: paths stand in directories, and each file is named by exactly one path.
+
+ghost use Rattle.std.specs.Prelude.{◌≡◌, ◌+◌, ◌<◌, ◌^◌, ◌==◌, if◌then◌else◌, count_by, IfOk, OnOk, MatchBool};
+ghost use Rattle.std.specs.List.{list_all, list_any};
+ghost use Rattle.wtf_base.specs.declared.ids.InodeId.{InodeId};
+ghost use Rattle.wtf_path.specs.Grammar.{IsPath};
+ghost use Rattle.wtf_values.specs.declared.key.Key.TheVariants as keys;
+ghost use Rattle.wtf_image.specs.Rows.{region_rows, file_row, file_rows, rows_of};
+ghost use Rattle.wtf_image.specs.Rules.{is_name_of, is_good_region, is_last, is_good_file, IsGoodTree};
+ghost use Rattle.wtf_image.specs.Tables.{count_in, shown, ShowsRows, is_shown_folder, has_shown_parent, is_shown_node};
+
+use crate::records::{FileRecord, Image, PathRecord, RegionRecord};
+use std::alloc::Global;
+use std::collections::BTreeMap;
+use wtf_base::{InodeId, OutOfMemory};
+use wtf_kv::Kv;
+use wtf_path::Path;
+use wtf_values::{Key, Node, Value};
+
+/// Whether the paths and files of an image, which the store has, make a tree. Each path takes the
+/// time of a few searches among the keys.
+pub(crate) fn is_tree(
+    alloc: Global,
+    kv: &Kv<Key, Value>,
+    image: &Image,
+) -> Result<bool, OutOfMemory>
+    requires { ShowsRows (shown kv.now) image.now.paths.items (file_rows image.now.files.items) }
+    ensures { IfOk result (λ b. MatchBool b (IsGoodTree (rows_of image.now))
+        (IsGoodTree (rows_of image.now) → ⊥)) }
+{
+    let paths = image.paths.as_slice();
+    let files = image.files.as_slice();
+    if !is_folder(alloc, kv, b"/")? {
+        return Ok(false);
+    }
+    if !have_parents(alloc, kv, paths)? {
+        return Ok(false);
+    }
+    if !are_recorded(kv, paths) {
+        return Ok(false);
+    }
+    let counts = counts_of(alloc, paths)?;
+    if !are_named_once(&counts, files) {
+        return Ok(false);
+    }
+    Ok(are_good_files(image.header.region, files))
+}
+
+/// Whether a directory stands at a path.
+fn is_folder(alloc: Global, kv: &Kv<Key, Value>, path: &[u8]) -> Result<bool, OutOfMemory>
+    requires { IsPath path.now }
+    ensures { IfOk result (λ b. b ≡ is_shown_folder (shown kv.now (keys.Path path.now))) }
+{
+    let key = match Path::parse(alloc, path) {
+        Ok(path) => Key::Path(path),
+        Err(_) => return Err(OutOfMemory),
+    };
+    match kv.read_at(kv.number(), &key) {
+        Some(Value::Node(Node::Folder)) => Ok(true),
+        _ => Ok(false),
+    }
+}
+
+/// Whether each path but the root stands in a directory.
+fn have_parents(
+    alloc: Global,
+    kv: &Kv<Key, Value>,
+    paths: &[PathRecord],
+) -> Result<bool, OutOfMemory>
+    ensures { IfOk result (λ b. b ≡ list_all (has_shown_parent (shown kv.now)) paths.now) }
+{
+    for record in paths {
+        if !has_parent(alloc, kv, record)? {
+            return Ok(false);
+        }
+    }
+    Ok(true)
+}
+
+fn has_parent(alloc: Global, kv: &Kv<Key, Value>, entry: &PathRecord) -> Result<bool, OutOfMemory>
+    ensures { IfOk result (λ b. b ≡ has_shown_parent (shown kv.now) entry.now) }
+{
+    match entry.path.parent() {
+        None => Ok(true),
+        Some(parent) => is_folder(alloc, kv, parent),
+    }
+}
+
+/// Whether each inode that a path names has a record.
+fn are_recorded(kv: &Kv<Key, Value>, paths: &[PathRecord]) -> bool
+    ensures { result ≡ list_all (λ r. is_shown_node (shown kv.now) r.node) paths.now }
+{
+    for record in paths {
+        if !is_recorded(kv, record.node) {
+            return false;
+        }
+    }
+    true
+}
+
+fn is_recorded(kv: &Kv<Key, Value>, node: Node) -> bool
+    ensures { result ≡ is_shown_node (shown kv.now) node }
+{
+    match node {
+        Node::Folder => true,
+        Node::File(inode) => kv.read_at(kv.number(), &Key::Inode(inode)).is_some(),
+    }
+}
+
+/// How often each inode is named by a path.
+fn counts_of(alloc: Global, paths: &[PathRecord]) -> Result<BTreeMap<InodeId, u64>, OutOfMemory>
+    ensures { IfOk result (λ counts. (i : InodeId) →
+        count_in counts.entries i ≡ count_by (λ r. is_name_of i r.node) paths.now) }
+{
+    let mut counts = BTreeMap::new(alloc);
+    for record in paths {
+        count(&mut counts, record.node)?;
+    }
+    Ok(counts)
+}
+
+/// Counts the inode that a path names once more.
+fn count(counts: &mut BTreeMap<InodeId, u64>, node: Node) -> Result<(), OutOfMemory>
+    requires { (i : InodeId) → count_in counts.old.entries i + 1 < 2 ^ 64 }
+    ensures { OnOk result ((i : InodeId) → count_in counts.new.entries i ≡
+        count_in counts.old.entries i + (if is_name_of i node then 1 else 0)) }
+{
+    let inode = match node {
+        Node::Folder => return Ok(()),
+        Node::File(inode) => inode,
+    };
+    let had = count_now(counts, inode);
+    let _ = counts.insert(inode, had + 1)?;
+    Ok(())
+}
+
+fn count_now(counts: &BTreeMap<InodeId, u64>, inode: InodeId) -> u64
+    ensures { result ≡ count_in counts.now.entries inode }
+{
+    match counts.get(&inode) {
+        Some(n) => *n,
+        None => 0,
+    }
+}
+
+/// Whether each file is named by exactly one path.
+fn are_named_once(counts: &BTreeMap<InodeId, u64>, files: &[FileRecord]) -> bool
+    ensures { result ≡ list_all (λ f. count_in counts.now.entries f.inode == 1)
+        (file_rows files.now) }
+{
+    for file in files {
+        if count_now(counts, file.inode) != 1 {
+            return false;
+        }
+    }
+    true
+}
+
+/// Whether the regions of each file are good, where a region has at most so many bytes.
+fn are_good_files(region: u32, files: &[FileRecord]) -> bool
+    ensures { result ≡ list_all (is_good_file region) (file_rows files.now) }
+{
+    for file in files {
+        if !is_good_file(region, file) {
+            return false;
+        }
+    }
+    true
+}
+
+fn is_good_file(region: u32, file: &FileRecord) -> bool
+    ensures { result ≡ is_good_file region (file_row file.now) }
+{
+    let regions = file.regions.as_slice();
+    if file.last > 4_095 {
+        return false;
+    }
+    if !are_good_regions(region, file.last, regions) {
+        return false;
+    }
+    if file.last == 0 {
+        return true;
+    }
+    has_last(file.last, regions)
+}
+
+/// Whether regions lie up to the last one, and none is too long.
+fn are_good_regions(region: u32, last: u16, regions: &[RegionRecord]) -> bool
+    ensures { result ≡ list_all (is_good_region region last) (region_rows regions.now) }
+{
+    for r in regions {
+        if r.number > last || r.end > region {
+            return false;
+        }
+    }
+    true
+}
+
+/// Whether the last region is there, and has bytes.
+fn has_last(last: u16, regions: &[RegionRecord]) -> bool
+    ensures { result ≡ list_any (is_last last) (region_rows regions.now) }
+{
+    for r in regions {
+        if r.number == last && r.end > 0 {
+            return true;
+        }
+    }
+    false
+}

@@ -1,0 +1,239 @@
+//! The text of an image, record by record. What was written has the widths of its fields; where a
+//! count is too great for its width, it is refused as want of memory.
+
+ghost use Rattle.std.specs.Prelude.{◌≡◌, ◌<◌, ◌≤◌, ◌+◌, ◌^◌, OnOk, IfOk};
+ghost use Rattle.std.specs.Int.{w16, w32, to_be_bytes};
+ghost use Rattle.wtf_base.specs.Slices.{pointers_of, len_of};
+ghost use Rattle.wtf_overlay.specs.Clips.{Within};
+ghost use Rattle.wtf_image.specs.Rows.{part_row, entry_row, entry_rows, region_row, region_rows, file_row, file_rows, rows_of};
+ghost use Rattle.wtf_image.specs.Texts.{pointer_text, slice_text, part_text, entry_text, entries_text, region_text, regions_text, inode_text, file_text, files_text, node_text, name_text, path_text, paths_text, header_text, image_text};
+ghost use Rattle.wtf_image.specs.Shapes.{IsPointer, IsSlice, IsEntry, IsRegion, IsInode, IsNode, IsPathRow, IsHeader};
+ghost use Rattle.wtf_image.specs.Writing.{Writes, IsHeld, AreEntries, AreRegions, IsWideFile, AreWideFiles, AreWidePaths, IsWide};
+
+use crate::records::{FileRecord, Header, Image, PathRecord, RegionRecord};
+use std::alloc::Global;
+use wtf_base::{InodeId, OutOfMemory, Pointer, Slice};
+use wtf_overlay::{Entry, Overlay, Part};
+use wtf_path::Path;
+use wtf_values::Node;
+
+/// A number of things, in two bytes.
+fn put_u16(out: &mut Vec<u8>, count: usize) -> Result<(), OutOfMemory>
+    ensures { OnOk result (Writes out.old.items out.new.items
+        (to_be_bytes w16 count) (count < 2 ^ 16)) }
+{
+    if count > 65_535 {
+        return Err(OutOfMemory);
+    }
+    out.extend_from_slice(&(count as u16).to_be_bytes())?;
+    Ok(())
+}
+
+/// A number of things, in four bytes.
+fn put_u32(out: &mut Vec<u8>, count: usize) -> Result<(), OutOfMemory>
+    ensures { OnOk result (Writes out.old.items out.new.items
+        (to_be_bytes w32 count) (count < 2 ^ 32)) }
+{
+    if count > 4_294_967_295 {
+        return Err(OutOfMemory);
+    }
+    out.extend_from_slice(&(count as u32).to_be_bytes())?;
+    Ok(())
+}
+
+#[tactic(auto, unfolding(crate::specs::Texts::pointer_text))]
+fn put_pointer(out: &mut Vec<u8>, pointer: Pointer) -> Result<(), OutOfMemory>
+    ensures { OnOk result (Writes out.old.items out.new.items
+        (pointer_text pointer) (IsPointer pointer.len pointer)) }
+{
+    out.push(pointer.server.0)?;
+    out.push(pointer.file)?;
+    out.extend_from_slice(&pointer.at.to_be_bytes())?;
+    Ok(())
+}
+
+#[tactic(auto, unfolding(crate::specs::Texts::slice_text))]
+fn put_slice(out: &mut Vec<u8>, slice: &Slice) -> Result<(), OutOfMemory>
+    ensures { OnOk result (Writes out.old.items out.new.items (slice_text (pointers_of slice.now))
+        (IsSlice (len_of slice.now) (pointers_of slice.now))) }
+{
+    let width = slice.width();
+    out.push(width)?;
+    for i in 0..width {
+        put_pointer(out, slice.pointer(i))?;
+    }
+    Ok(())
+}
+
+#[tactic(auto, unfolding(crate::specs::Texts::part_text))]
+fn put_part(out: &mut Vec<u8>, part: &Part) -> Result<(), OutOfMemory>
+    ensures { OnOk result (Writes out.old.items out.new.items (part_text (part_row part.now))
+        (IsHeld part.now)) }
+{
+    match part {
+        Part::Zero => {
+            out.push(0)?;
+            return Ok(());
+        }
+        Part::Held(slice) => {
+            out.push(1)?;
+            put_slice(out, slice)?;
+            return Ok(());
+        }
+    }
+}
+
+/// An entry of a region that ends at `end`.
+#[tactic(auto, unfolding(crate::specs::Texts::entry_text))]
+fn put_entry(out: &mut Vec<u8>, end: u32, entry: Entry) -> Result<(), OutOfMemory>
+    requires { entry.off + entry.len ≤ end }
+    ensures { OnOk result (Writes out.old.items out.new.items (entry_text (entry_row entry))
+        (IsEntry end (entry_row entry))) }
+{
+    out.extend_from_slice(&entry.off.to_be_bytes())?;
+    out.extend_from_slice(&entry.len.to_be_bytes())?;
+    put_part(out, &entry.part)?;
+    Ok(())
+}
+
+/// The entries of a region that ends at `end`, behind their number.
+#[tactic(auto, unfolding(crate::specs::Texts::entries_text))]
+fn put_entries(out: &mut Vec<u8>, end: u32, list: &Overlay) -> Result<(), OutOfMemory>
+    requires { Within end list.now }
+    ensures { OnOk result (Writes out.old.items out.new.items (entries_text (entry_rows list.now))
+        (AreEntries end (entry_rows list.now))) }
+{
+    let count = list.len();
+    put_u32(out, count)?;
+    for i in 0..count {
+        put_entry(out, end, list.get(i))?;
+    }
+    Ok(())
+}
+
+#[tactic(auto, unfolding(crate::specs::Texts::region_text))]
+fn put_region(out: &mut Vec<u8>, region: &RegionRecord) -> Result<(), OutOfMemory>
+    ensures { OnOk result (Writes out.old.items out.new.items (region_text (region_row region.now))
+        (IsRegion (region_row region.now))) }
+{
+    out.extend_from_slice(&region.number.to_be_bytes())?;
+    out.extend_from_slice(&region.end.to_be_bytes())?;
+    out.push(0)?;
+    put_entries(out, region.end, &region.list)?;
+    Ok(())
+}
+
+/// The regions of a file, behind their number.
+#[tactic(auto, unfolding(crate::specs::Texts::regions_text))]
+fn put_regions(out: &mut Vec<u8>, regions: &[RegionRecord]) -> Result<(), OutOfMemory>
+    ensures { OnOk result (Writes out.old.items out.new.items
+        (regions_text (region_rows regions.now)) (AreRegions (region_rows regions.now))) }
+{
+    put_u16(out, regions.len())?;
+    for region in regions {
+        put_region(out, region)?;
+    }
+    Ok(())
+}
+
+#[tactic(auto, unfolding(crate::specs::Texts::inode_text))]
+fn put_inode(out: &mut Vec<u8>, inode: InodeId) -> Result<(), OutOfMemory>
+    ensures { OnOk result (Writes out.old.items out.new.items (inode_text inode) (IsInode inode)) }
+{
+    out.extend_from_slice(&inode.tx.0.to_be_bytes())?;
+    out.extend_from_slice(&inode.index.to_be_bytes())?;
+    Ok(())
+}
+
+#[tactic(auto, unfolding(crate::specs::Texts::file_text))]
+fn put_file(out: &mut Vec<u8>, file: &FileRecord) -> Result<(), OutOfMemory>
+    ensures { OnOk result (Writes out.old.items out.new.items (file_text (file_row file.now))
+        (IsWideFile (file_row file.now))) }
+{
+    put_inode(out, file.inode)?;
+    out.extend_from_slice(&file.last.to_be_bytes())?;
+    put_regions(out, file.regions.as_slice())?;
+    Ok(())
+}
+
+/// The files, behind their number.
+#[tactic(auto, unfolding(crate::specs::Texts::files_text))]
+fn put_files(out: &mut Vec<u8>, files: &[FileRecord]) -> Result<(), OutOfMemory>
+    ensures { OnOk result (Writes out.old.items out.new.items
+        (files_text (file_rows files.now)) (AreWideFiles (file_rows files.now))) }
+{
+    put_u32(out, files.len())?;
+    for file in files {
+        put_file(out, file)?;
+    }
+    Ok(())
+}
+
+#[tactic(auto, unfolding(crate::specs::Texts::node_text))]
+fn put_node(out: &mut Vec<u8>, node: Node) -> Result<(), OutOfMemory>
+    ensures { OnOk result (Writes out.old.items out.new.items (node_text node) (IsNode node)) }
+{
+    match node {
+        Node::Folder => {
+            out.push(0)?;
+            return Ok(());
+        }
+        Node::File(inode) => {
+            out.push(1)?;
+            put_inode(out, inode)?;
+            return Ok(());
+        }
+    }
+}
+
+#[tactic(auto, unfolding(crate::specs::Texts::path_text, crate::specs::Texts::name_text))]
+fn put_path(out: &mut Vec<u8>, entry: &PathRecord) -> Result<(), OutOfMemory>
+    ensures { OnOk result (Writes out.old.items out.new.items (path_text entry.now)
+        (IsPathRow entry.now)) }
+{
+    let path = entry.path.as_bytes();
+    put_u16(out, path.len())?;
+    out.extend_from_slice(path)?;
+    put_node(out, entry.node)?;
+    Ok(())
+}
+
+/// What stands at each path, behind the number of paths.
+#[tactic(auto, unfolding(crate::specs::Texts::paths_text))]
+fn put_paths(out: &mut Vec<u8>, paths: &[PathRecord]) -> Result<(), OutOfMemory>
+    ensures { OnOk result (Writes out.old.items out.new.items
+        (paths_text paths.now) (AreWidePaths paths.now)) }
+{
+    put_u32(out, paths.len())?;
+    for path in paths {
+        put_path(out, path)?;
+    }
+    Ok(())
+}
+
+#[tactic(auto, unfolding(crate::specs::Texts::header_text))]
+fn put_header(out: &mut Vec<u8>, header: Header) -> Result<(), OutOfMemory>
+    ensures { OnOk result (Writes out.old.items out.new.items (header_text header)
+        (IsHeader header)) }
+{
+    out.push(header.servers)?;
+    out.push(header.replicas)?;
+    out.extend_from_slice(&header.region.to_be_bytes())?;
+    out.extend_from_slice(&header.installs.to_be_bytes())?;
+    out.extend_from_slice(&header.next_tx.to_be_bytes())?;
+    Ok(())
+}
+
+/// The text of an image. Where there are too many records to be counted it answers want of memory.
+#[tactic(auto, unfolding(crate::specs::Texts::image_text))]
+pub(crate) fn write(alloc: Global, image: &Image) -> Result<Vec<u8>, OutOfMemory>
+    ensures text { IfOk result (λ v. v.items ≡ image_text (rows_of image.now)) }
+    ensures wide { OnOk result (IsWide (rows_of image.now)) }
+{
+    let mut out = Vec::new(alloc);
+    out.extend_from_slice(b"WTFIMG01")?;
+    put_header(&mut out, image.header)?;
+    put_paths(&mut out, image.paths.as_slice())?;
+    put_files(&mut out, image.files.as_slice())?;
+    Ok(out)
+}
