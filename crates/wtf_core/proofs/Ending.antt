@@ -13,7 +13,7 @@ use Rattle.wtf_model.specs.declared.answer.Answer.TheVariants as answer
 use Rattle.wtf_model.specs.Tree.{Tree}
 use Rattle.wtf_model.specs.Transaction.{Transaction, answers_of, session_after}
 use Rattle.wtf_model.specs.Machines.{Machine, cap_of}
-use Rattle.wtf_model.specs.Lawful.{Deviates, MayInstall, MayTry, MayStep, MayCommit}
+use Rattle.wtf_model.specs.Lawful.{Deviates, IsDone, IsReadFault, MayInstall, MayTry, MayStep, MayCommit}
 use Rattle.wtf_model.specs.Steps.{with_transaction, ended, installed, rebased as machine_rebased, tried, stepped, committed}
 use Rattle.wtf_model.proofs.Laws.{get-number_same, get-number_other}
 use Rattle.wtf_meta.specs.Maps.{Map, with, metadata_at}
@@ -31,9 +31,10 @@ use Rattle.wtf_replay.proofs.Deviating.{at_base}
 use Rattle.wtf_core.specs.Views.{TablesView, of_client, metadata_now}
 use Rattle.wtf_core.specs.Tables.{owned, IsOpen, AreSound}
 use Rattle.wtf_core.specs.Standing.{StandsForTxn, StandsForSlot, TablesStand}
-use Rattle.wtf_core.specs.Turns.{Keeps, Ends, Commits, Retries, Tries, Replays, Aborts, Finishes, GivesUp, Steps, Finals}
+use Rattle.wtf_core.specs.Turns.{Keeps, Ends, Commits, Retries, Tries, Replays, Aborts, StepFails, Finishes, GivesUp, Steps, Finals}
 use Rattle.wtf_core.proofs.Later.{Stands-later}
 use Rattle.wtf_core.proofs.Frames.{Turned, sound_turned, stands_turned}
+use Rattle.wtf_core.proofs.Staying.{stays_sound, stays_stand}
 use Rattle.wtf_core.proofs.Machines.{gone_here, gone_there, cap_is, answer_shown}
 
 -- ---- one client's transaction
@@ -93,39 +94,37 @@ module _ (old new : TablesView) (mid : Store Key Value) (c : ℕ) (x : TxnView) 
 
   -- the tables stand for a machine without the transaction, where the tree now is that of the map that it left
   pub ends_stand : (size : ℕ) (told later : Told) (m after : Machine) → TablesStand size told old m → TellsOn told later → after.transactions ≡ remove m.transactions c → after.number ≡ mid.number
-      → ((tx : ℕ) → tx ≢ x.tx → Stands size told tx 0 (metadata_now old.kv) m.now → Stands size told tx 0 (metadata_now mid) after.now)
+      → ((tx : ℕ) → tx ≢ x.tx → Stands size told tx 0 (metadata_now old.kv) m.now → Stands size later tx 0 (metadata_now mid) after.now)
       → TablesStand size later new after
   ends_stand size told later m after st on gone number trees =
       stands_turned size told later old new m after c None sound st on ends_turned
       (λ d ne. ap (λ ones. get ones d) gone ∙ gone_there m.transactions c d ne)
       (number ∙ sym ends_number)
       (subst (λ o. StandsForSlot size later new.kv after.now None o) (sym (ap (λ ones. get ones c) gone ∙ gone_here m.transactions c)) tt)
-      (λ tx other was.
-      subst (λ w. Stands size later tx 0 w after.now) (sym ends_now)
-      (Stands-later told later on size tx 0 (metadata_now mid) after.now (trees tx (other x here) was)))
+      (λ tx other was. subst (λ w. Stands size later tx 0 w after.now) (sym ends_now) (trees tx (other x here) was))
 
   -- an end that leaves the tree as it was
   pub leaves_stand : (size : ℕ) (told later : Told) (m : Machine) → TablesStand size told old m → TellsOn told later → mid.number ≡ old.kv.number → TablesStand size later new (ended m c)
   leaves_stand size told later m st on same =
       let map : metadata_now mid ≡ metadata_now old.kv = ap (λ n. metadata_at mid n) same ∙ ends.maps old.kv.number (omega arith) in
-      ends_stand size told later m (ended m c) st on refl (st.number ∙ sym same) (λ tx other was. subst (λ w. Stands size told tx 0 w m.now) (sym map) was)
+      ends_stand size told later m (ended m c) st on refl (st.number ∙ sym same) (λ tx other was. subst (λ w. Stands size later tx 0 w m.now) (sym map) (Stands-later told later on size tx 0 (metadata_now old.kv) m.now was))
 
   -- an install: the calls run on the tree now
   pub installs_stand : (size : ℕ) (told later : Told) (m : Machine) (t : Transaction) (n : ℕ) → TablesStand size told old m → TellsOn told later → m.settings.region ≡ size → get m.transactions c ≡ Some t
-      → IsFinal size told old.kv mid x t.ops n → MayInstall m t n × TablesStand size later new (installed m c t n)
+      → IsFinal size later old.kv mid x t.ops n → MayInstall m t n × TablesStand size later new (installed m c t n)
   installs_stand size told later m t n st on region there final =
       let txn = txn_in size told old m c x t st here there in
-      let ran = final.ran m.now txn.now in
+      let ran = final.ran m.now (Stands-later told later on size x.tx 0 (metadata_now old.kv) m.now txn.now) in
       let changed : Map = with final.changes (metadata_now old.kv) in
       let map : metadata_now mid ≡ changed = ap (λ k. metadata_at mid k) final.number ∙ final.map in
       let cap : cap_of m ≡ _ = cap_is m size region in
       let now : Tree = (session_after (cap_of m) m.now t.ops).tree in
-      let stands : Stands size told x.tx (length t.ops) changed now = subst (λ k. Stands size told x.tx (length t.ops) changed (session_after k m.now t.ops).tree) (sym cap) ran.stands in (
+      let stands : Stands size later x.tx (length t.ops) changed now = subst (λ k. Stands size later x.tx (length t.ops) changed (session_after k m.now t.ops).tree) (sym cap) ran.stands in (
         (final.next ∙ ap (λ k. k + 1) (sym st.number), ap (λ k. answers_of k m.now t.ops) cap ∙ ran.answers ∙ sym txn.shown),
         ends_stand size told later m (installed m c t n) st on refl (sym final.number)
             (λ tx other was.
-            subst (λ w. Stands size told tx 0 w now) (sym map)
-            (stands_other size told x.tx tx (length t.ops) changed now stands (λ i own some. ran.own i (λ e. other (sym own ∙ e)) (was.fresh i own some)))),
+            subst (λ w. Stands size later tx 0 w now) (sym map)
+            (stands_other size later x.tx tx (length t.ops) changed now stands (λ i own some. ran.own i (λ e. other (sym own ∙ e)) (was.fresh i own some)))),
       )
 
 -- ---- a transaction that goes on at its base
@@ -286,12 +285,12 @@ pub tries_stand : (size : ℕ) (told later : Told) (old new : TablesView) (m : M
     → Tries old new c x a → MayTry m t a × TablesStand size later new (tried m c t a)
 tries_stand size told later old new m c x t (answer.Committed n) sound region st on here there asked turn =
     installs_stand old new turn.mid c x sound here (commit_up old new c x n turn) turn.ends size told later m t n st on region there
-    (turn.final size told t.ops (txn_in size told old m c x t st here there).sound)
+    (turn.final size later t.ops (sound_later size old.kv told later x t.ops on (txn_in size told old m c x t st here there).sound))
 tries_stand size told later old new m c x t (answer.Retry b n) sound region st on here there asked turn = retry_stand old new c x b n sound here turn size told later m t st on there
 tries_stand size told later old new m c x t a sound region st on here there asked turn = absurd turn
 
 -- ---- a step
-module _ (Telling : Type 0) (size : ℕ) (told later : Told) (old new : TablesView) (c : ℕ) (x : TxnView) (i : ℕ) (sound : AreSound old) (here : of_client old.clients c ≡ Some x) (turn : Replays Telling size told later old new c x i) where
+module _ (Telling : Type 0) (servers size : ℕ) (told later : Told) (old new : TablesView) (c : ℕ) (x : TxnView) (i : ℕ) (sound : AreSound old) (here : of_client old.clients c ≡ Some x) (turn : Replays Telling servers size told later old new c x i) where
   -- the transaction with one call more done
   abbrev onward : TxnView
   onward = turn.later_one
@@ -338,18 +337,18 @@ module _ (Telling : Type 0) (size : ℕ) (told later : Told) (old new : TablesVi
       → MayStep m t (answer.Replayed i) × TablesStand size later new (stepped m c t (answer.Replayed i))
   replay_stand m t region st on there telling =
       let txn = txn_in size told old m c x t st here there in
-      let run : IsSound size old.kv later onward t.ops = turn.sound telling t.ops txn.sound in (
+      let run : IsSound size old.kv later onward t.ops = turn.sound (telling, txn.tree.bytes) t.ops txn.sound in (
         replay_may m t region txn on run,
         goes_stand old new c x onward sound here turn.keeps replay_tx turn.replayed.base replay_going turn.fit size told later m t (record t { replayed = i }) st on there run
             refl refl (txn.shown ∙ sym replay_shown) (sym replay_count),
       )
 
 -- a call that deviates at the base ends the transaction
-abort_may : (Telling : Type 0) (size : ℕ) (told later : Told) (old new : TablesView) (c : ℕ) (x : TxnView) (i : ℕ) (a : Answer) (m : Machine) (t : Transaction)
-    → Aborts Telling size told later old new c x i a → m.settings.region ≡ size → StandsForTxn size told old.kv m.now x t → Telling
+abort_may : (Telling : Type 0) (servers size : ℕ) (told later : Told) (old new : TablesView) (c : ℕ) (x : TxnView) (i : ℕ) (a : Answer) (m : Machine) (t : Transaction)
+    → Aborts Telling servers size told later old new c x i a → m.settings.region ≡ size → StandsForTxn size told old.kv m.now x t → Telling
     → (i ≡ t.replayed + 1) × (slice_get (answers_of (cap_of m) t.tree t.ops) t.replayed ≡ Some a) × (slice_get t.shown t.replayed ≢ Some a)
-abort_may Telling size told later old new c x i a m t turn region txn telling =
-    let d = turn.deviates telling t.ops txn.sound t.tree txn.tree in
+abort_may Telling servers size told later old new c x i a m t turn region txn telling =
+    let d = turn.deviates (telling, txn.tree.bytes) t.ops txn.sound t.tree txn.tree in
     let index = turn.index in
     let done = txn.replayed in
     let place : t.replayed ≡ i - 1 = omega (arith, index, done) in (
@@ -358,57 +357,71 @@ abort_may Telling size told later old new c x i a m t turn region txn telling =
       λ e. d.differs (ap (slice_get x.log.shown) (sym place) ∙ ap (λ l. slice_get l t.replayed) (sym txn.shown) ∙ e),
     )
 
+-- the bytes of the next call were not read
+step_fault_may : (Telling : Type 0) (servers size : ℕ) (told later : Told) (old new : TablesView) (c : ℕ) (x : TxnView) (a : Answer) (m : Machine) (t : Transaction)
+    → StepFails Telling servers size told later old new c x a → m.settings.region ≡ size → m.settings.servers ≡ servers → StandsForTxn size told old.kv m.now x t
+    → IsDone (slice_get (answers_of (cap_of m) t.tree t.ops) t.replayed) × IsReadFault m.settings.servers a
+step_fault_may Telling servers size told later old new c x a m t turn region count txn =
+    let may = turn.may t.ops txn.sound t.tree txn.tree in (
+      subst (λ k. IsDone (slice_get (answers_of k t.tree t.ops) t.replayed)) (sym (cap_is m size region))
+          (subst (λ n. IsDone (slice_get (answers_of (cap_for (caller_at size x.tx 0)) t.tree t.ops) n)) (sym txn.replayed) may.0),
+      subst (λ n. IsReadFault n a) (sym count) may.1,
+    )
+
 -- the tables stay sound
-pub steps_sound : (Telling : Type 0) (size : ℕ) (told later : Told) (old new : TablesView) (c : ℕ) (x : TxnView) (a : Answer) → AreSound old → of_client old.clients c ≡ Some x → Steps Telling size told later old new c x a → AreSound new
-steps_sound Telling size told later old new c x (answer.Replayed i) sound here turn = replay_sound Telling size told later old new c x i sound here turn
-steps_sound Telling size told later old new c x (Aborted' i box a) sound here turn = ends_sound old new old.kv c x sound here (omega arith) turn.ends
-steps_sound Telling size told later old new c x a sound here turn = absurd turn
+pub steps_sound : (Telling : Type 0) (servers size : ℕ) (told later : Told) (old new : TablesView) (c : ℕ) (x : TxnView) (a : Answer) → AreSound old → of_client old.clients c ≡ Some x → Steps Telling servers size told later old new c x a → AreSound new
+steps_sound Telling servers size told later old new c x (answer.Replayed i) sound here turn = replay_sound Telling servers size told later old new c x i sound here turn
+steps_sound Telling servers size told later old new c x (Aborted' i box a) sound here turn = ends_sound old new old.kv c x sound here (omega arith) turn.ends
+steps_sound Telling servers size told later old new c x a sound here turn = stays_sound old new c sound turn.fails.stays
 
 -- the machine may answer so, and the tables stand for what it then is
-pub steps_stand : (Telling : Type 0) (size : ℕ) (told later : Told) (old new : TablesView) (m : Machine) (c : ℕ) (x : TxnView) (t : Transaction) (a : Answer)
-    → AreSound old → m.settings.region ≡ size → TablesStand size told old m → TellsOn told later
+pub steps_stand : (Telling : Type 0) (servers size : ℕ) (told later : Told) (old new : TablesView) (m : Machine) (c : ℕ) (x : TxnView) (t : Transaction) (a : Answer)
+    → AreSound old → m.settings.region ≡ size → m.settings.servers ≡ servers → TablesStand size told old m → TellsOn told later
     → of_client old.clients c ≡ Some x → get m.transactions c ≡ Some t → step_refusal x ≡ None → Telling
-    → Steps Telling size told later old new c x a → MayStep m t a × TablesStand size later new (stepped m c t a)
-steps_stand Telling size told later old new m c x t (answer.Replayed i) sound region st on here there asked telling turn = replay_stand Telling size told later old new c x i sound here turn m t region st on there telling
-steps_stand Telling size told later old new m c x t (Aborted' i box a) sound region st on here there asked telling turn = (
-  abort_may Telling size told later old new c x i a m t turn region (txn_in size told old m c x t st here there) telling,
+    → Steps Telling servers size told later old new c x a → MayStep m t a × TablesStand size later new (stepped m c t a)
+steps_stand Telling servers size told later old new m c x t (answer.Replayed i) sound region count st on here there asked telling turn = replay_stand Telling servers size told later old new c x i sound here turn m t region st on there telling
+steps_stand Telling servers size told later old new m c x t (Aborted' i box a) sound region count st on here there asked telling turn = (
+  abort_may Telling servers size told later old new c x i a m t turn region (txn_in size told old m c x t st here there) telling,
   leaves_stand old new old.kv c x sound here (omega arith) turn.ends size told later m st on refl,
 )
-steps_stand Telling size told later old new m c x t a sound region st on here there asked telling turn = absurd turn
+steps_stand Telling servers size told later old new m c x t a sound region count st on here there asked telling turn =
+    (step_fault_may Telling servers size told later old new c x a m t turn region count (txn_in size told old m c x t st here there), stays_stand old new c sound turn.fails.stays size told later m st on)
 
 -- ---- a commit
 -- a commit by replay raises the number
-finish_up : (Telling : Type 0) (size : ℕ) (told later : Told) (old new : TablesView) (c : ℕ) (x : TxnView) (n : ℕ) (turn : Finishes Telling size told later old new c x n) → old.kv.number ≤ turn.mid.number
-finish_up Telling size told later old new c x n turn = let number = turn.number in let next = turn.next in omega (arith, number, next)
+finish_up : (Telling : Type 0) (servers size : ℕ) (told later : Told) (old new : TablesView) (c : ℕ) (x : TxnView) (n : ℕ) (turn : Finishes Telling servers size told later old new c x n) → old.kv.number ≤ turn.mid.number
+finish_up Telling servers size told later old new c x n turn = let number = turn.number in let next = turn.next in omega (arith, number, next)
 
 -- a replay that is given up leaves the number
-give_up : (Telling : Type 0) (size : ℕ) (told later : Told) (old new : TablesView) (c : ℕ) (x : TxnView) (i : ℕ) (a : Answer) (turn : GivesUp Telling size told later old new c x i a) → old.kv.number ≤ turn.mid.number
-give_up Telling size told later old new c x i a turn = let number = turn.number in omega (arith, number)
+give_up : (Telling : Type 0) (servers size : ℕ) (told later : Told) (old new : TablesView) (c : ℕ) (x : TxnView) (i : ℕ) (a : Answer) (turn : GivesUp Telling servers size told later old new c x i a) → old.kv.number ≤ turn.mid.number
+give_up Telling servers size told later old new c x i a turn = let number = turn.number in omega (arith, number)
 
 -- calls that deviate on the map now do so on the tree now
-give_up_may : (Telling : Type 0) (size : ℕ) (told later : Told) (old new : TablesView) (c : ℕ) (x : TxnView) (i : ℕ) (a : Answer) (m : Machine) (t : Transaction)
-    → GivesUp Telling size told later old new c x i a → m.settings.region ≡ size → StandsForTxn size told old.kv m.now x t → Telling
+give_up_may : (Telling : Type 0) (servers size : ℕ) (told later : Told) (old new : TablesView) (c : ℕ) (x : TxnView) (i : ℕ) (a : Answer) (m : Machine) (t : Transaction)
+    → GivesUp Telling servers size told later old new c x i a → m.settings.region ≡ size → StandsForTxn size told old.kv m.now x t → Telling
     → Deviates (answers_of (cap_of m) m.now t.ops) t.shown i a
-give_up_may Telling size told later old new c x i a m t turn region txn telling =
+give_up_may Telling servers size told later old new c x i a m t turn region txn telling =
     subst (λ k. Deviates (answers_of k m.now t.ops) t.shown i a) (sym (cap_is m size region))
-    (subst (λ l. Deviates (answers_of (cap_for (caller_at size x.tx 0)) m.now t.ops) l i a) (sym txn.shown) (turn.deviates telling t.ops txn.sound m.now txn.now))
+    (subst (λ l. Deviates (answers_of (cap_for (caller_at size x.tx 0)) m.now t.ops) l i a) (sym txn.shown) (turn.deviates (telling, txn.now.bytes) t.ops txn.sound m.now txn.now))
 
 -- the tables stay sound
-pub finals_sound : (Telling : Type 0) (size : ℕ) (told later : Told) (old new : TablesView) (c : ℕ) (x : TxnView) (a : Answer) → AreSound old → of_client old.clients c ≡ Some x → Finals Telling size told later old new c x a → AreSound new
-finals_sound Telling size told later old new c x (answer.Committed n) sound here turn = ends_sound old new turn.mid c x sound here (finish_up Telling size told later old new c x n turn) turn.ends
-finals_sound Telling size told later old new c x (Aborted' i box a) sound here turn = ends_sound old new turn.mid c x sound here (give_up Telling size told later old new c x i a turn) turn.ends
-finals_sound Telling size told later old new c x a sound here turn = absurd turn
+pub finals_sound : (Telling : Type 0) (servers size : ℕ) (told later : Told) (old new : TablesView) (c : ℕ) (x : TxnView) (a : Answer) → AreSound old → of_client old.clients c ≡ Some x → Finals Telling servers size told later old new c x a → AreSound new
+finals_sound Telling servers size told later old new c x (answer.Committed n) sound here turn = ends_sound old new turn.mid c x sound here (finish_up Telling servers size told later old new c x n turn) turn.ends
+finals_sound Telling servers size told later old new c x (Aborted' i box a) sound here turn = ends_sound old new turn.mid c x sound here (give_up Telling servers size told later old new c x i a turn) turn.ends
+finals_sound Telling servers size told later old new c x a sound here turn = stays_sound old new c sound turn.fails.stays
 
 -- the machine may answer so, and the tables stand for what it then is
-pub finals_stand : (Telling : Type 0) (size : ℕ) (told later : Told) (old new : TablesView) (m : Machine) (c : ℕ) (x : TxnView) (t : Transaction) (a : Answer)
-    → AreSound old → m.settings.region ≡ size → TablesStand size told old m → TellsOn told later
+pub finals_stand : (Telling : Type 0) (servers size : ℕ) (told later : Told) (old new : TablesView) (m : Machine) (c : ℕ) (x : TxnView) (t : Transaction) (a : Answer)
+    → AreSound old → m.settings.region ≡ size → m.settings.servers ≡ servers → TablesStand size told old m → TellsOn told later
     → of_client old.clients c ≡ Some x → get m.transactions c ≡ Some t → Telling
-    → Finals Telling size told later old new c x a → MayCommit m t a × TablesStand size later new (committed m c t a)
-finals_stand Telling size told later old new m c x t (answer.Committed n) sound region st on here there telling turn =
-    installs_stand old new turn.mid c x sound here (finish_up Telling size told later old new c x n turn) turn.ends size told later m t n st on region there
-    (turn.final telling t.ops (txn_in size told old m c x t st here there).sound)
-finals_stand Telling size told later old new m c x t (Aborted' i box a) sound region st on here there telling turn = (
-  give_up_may Telling size told later old new c x i a m t turn region (txn_in size told old m c x t st here there) telling,
-  leaves_stand old new turn.mid c x sound here (give_up Telling size told later old new c x i a turn) turn.ends size told later m st on turn.number,
+    → Finals Telling servers size told later old new c x a → MayCommit m t a × TablesStand size later new (committed m c t a)
+finals_stand Telling servers size told later old new m c x t (answer.Committed n) sound region count st on here there telling turn =
+    installs_stand old new turn.mid c x sound here (finish_up Telling servers size told later old new c x n turn) turn.ends size told later m t n st on region there
+    (turn.final (telling, (txn_in size told old m c x t st here there).now.bytes) t.ops (txn_in size told old m c x t st here there).sound)
+finals_stand Telling servers size told later old new m c x t (Aborted' i box a) sound region count st on here there telling turn = (
+  give_up_may Telling servers size told later old new c x i a m t turn region (txn_in size told old m c x t st here there) telling,
+  leaves_stand old new turn.mid c x sound here (give_up Telling servers size told later old new c x i a turn) turn.ends size told later m st on turn.number,
 )
-finals_stand Telling size told later old new m c x t a sound region st on here there telling turn = absurd turn
+finals_stand Telling servers size told later old new m c x t a sound region count st on here there telling turn =
+    let txn = txn_in size told old m c x t st here there in
+    (subst (λ n. IsReadFault n a) (sym count) (turn.may (telling, txn.now.bytes) t.ops txn.sound m.now txn.now), stays_stand old new c sound turn.fails.stays size told later m st on)

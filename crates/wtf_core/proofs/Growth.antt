@@ -1,5 +1,5 @@
 -- A line raises the number of installs, and the number of the transaction that begins next, by at most one.
-use Rattle.std.proofs.Common.{◌≡◌, ◌≤◌, ℕ, ◌+◌, Option, None, Some, MatchOption, ap, arith}
+use Rattle.std.proofs.Common.{◌≡◌, ◌≤◌, ℕ, ◌+◌, Option, None, Some, MatchOption, ap, ⊎_elim, arith}
 use Rattle.wtf_kv.specs.Stores.{Store}
 use Rattle.wtf_values.specs.declared.key.Key.{Key}
 use Rattle.wtf_values.specs.declared.value.Value.{Value}
@@ -13,7 +13,7 @@ use Rattle.wtf_meta.specs.Contents.{Told}
 use Rattle.wtf_replay.specs.Views.{TxnView}
 use Rattle.wtf_replay.specs.Refusals.{call_refusal, try_refusal, step_refusal}
 use Rattle.wtf_core.specs.Views.{TablesView, of_client}
-use Rattle.wtf_core.specs.Turns.{Keeps, Refuses, Begins, Ends, Tries, Steps, Finals, LoneTurn, TxnTurn, ClientTurn}
+use Rattle.wtf_core.specs.Turns.{Keeps, Stays, Refuses, Begins, Ends, Tries, Steps, Finals, LoneTurn, TxnTurn, ClientTurn}
 
 -- by at most one each
 pub record Rises (old new : TablesView) : Type 0 where
@@ -29,6 +29,9 @@ keeps_rise old new c now h = rises old new old.kv.number old.next_tx (ap (λ (s 
 refuses_rise : (old new : TablesView) (c : ℕ) (w : Word) (a : Answer) → Refuses old new c w a → Rises old new
 refuses_rise old new c w a h = keeps_rise old new c (of_client old.clients c) h.keeps
 
+pub stays_rise : (old new : TablesView) (c : ℕ) → Stays old new c → Rises old new
+stays_rise old new c h = rises old new old.kv.number old.next_tx h.number h.next_tx (omega arith) (omega arith)
+
 ends_rise : (old new : TablesView) (mid : Store Key Value) (c : ℕ) (x : TxnView) → mid.number ≤ old.kv.number + 1 → Ends old new mid c x → Rises old new
 ends_rise old new mid c x up h = rises old new mid.number old.next_tx (ap (λ (s : Store Key Value). s.number) h.kv) h.next_tx up (omega arith)
 
@@ -43,40 +46,40 @@ tries_rise old new c x (answer.Committed n) h =
 tries_rise old new c x (answer.Retry b n) h = rises old new old.kv.number old.next_tx h.retried.number h.next_tx (omega arith) (omega arith)
 tries_rise old new c x a h = absurd h
 
-module _ (Telling : Type 0) (size : ℕ) (told later : Told) (old new : TablesView) (c : ℕ) where
-  steps_rise : (x : TxnView) (a : Answer) → Steps Telling size told later old new c x a → Rises old new
+module _ (Telling : Type 0) (servers size : ℕ) (told later : Told) (old new : TablesView) (c : ℕ) where
+  steps_rise : (x : TxnView) (a : Answer) → Steps Telling servers size told later old new c x a → Rises old new
   steps_rise x (answer.Replayed i) h = keeps_rise old new c (Some h.later_one) h.keeps
   steps_rise x (Aborted' i box a) h = ends_rise old new old.kv c x (omega arith) h.ends
-  steps_rise x a h = absurd h
+  steps_rise x a h = stays_rise old new c h.fails.stays
 
-  finals_rise : (x : TxnView) (a : Answer) → Finals Telling size told later old new c x a → Rises old new
+  finals_rise : (x : TxnView) (a : Answer) → Finals Telling servers size told later old new c x a → Rises old new
   finals_rise x (answer.Committed n) h =
       let is = h.number in
       let next = h.next in
       ends_rise old new h.mid c x (omega (arith, is, next)) h.ends
   finals_rise x (Aborted' i box a) h = let is = h.number in ends_rise old new h.mid c x (omega (arith, is)) h.ends
-  finals_rise x a h = absurd h
+  finals_rise x a h = stays_rise old new c h.fails.stays
 
   -- unless it is refused
   or_refused : (P : Type 0) (a : Answer) (r : Option Word) → (P → Rises old new) → MatchOption r P (λ w. Refuses old new c w a) → Rises old new
   or_refused P a None rise h = rise h
   or_refused P a (Some w) rise h = refuses_rise old new c w a h
 
-  lone_rise : (v : Verb) (a : Answer) → LoneTurn Telling size told later old new c v a → Rises old new
+  lone_rise : (v : Verb) (a : Answer) → LoneTurn Telling servers size told later old new c v a → Rises old new
   lone_rise verb.Begin a h = begins_rise old new c a h
   lone_rise v a h = refuses_rise old new c NoTx a h
 
-  txn_rise : (x : TxnView) (v : Verb) (a : Answer) → TxnTurn Telling size told later old new c x v a → Rises old new
+  txn_rise : (x : TxnView) (v : Verb) (a : Answer) → TxnTurn Telling servers size told later old new c x v a → Rises old new
   txn_rise x verb.Begin a h = refuses_rise old new c InTx a h
   txn_rise x verb.Try a h = or_refused (Tries old new c x a) a (try_refusal x) (tries_rise old new c x a) h
-  txn_rise x verb.Step a h = or_refused (Steps Telling size told later old new c x a) a (step_refusal x) (steps_rise x a) h
+  txn_rise x verb.Step a h = or_refused (Steps Telling servers size told later old new c x a) a (step_refusal x) (steps_rise x a) h
   txn_rise x verb.Commit a h = finals_rise x a h
   txn_rise x verb.Abort a h = ends_rise old new old.kv c x (omega arith) h.1
-  txn_rise x (verb.Call o) a h = or_refused _ a (call_refusal x) (λ made. keeps_rise old new c (Some made.later_one) made.keeps) h
+  txn_rise x (verb.Call o) a h = or_refused _ a (call_refusal x) (λ t. ⊎_elim (λ made. keeps_rise old new c (Some made.later_one) made.keeps) (λ failed. stays_rise old new c failed.fails.stays) t) h
 
-  pub client_rises : (v : Verb) (a : Answer) → ClientTurn Telling size told later old new c v a → Rises old new
+  pub client_rises : (v : Verb) (a : Answer) → ClientTurn Telling servers size told later old new c v a → Rises old new
   client_rises v a h = by (of_client old.clients c) h
     where
-      by : (o : Option TxnView) → MatchOption o (LoneTurn Telling size told later old new c v a) (λ x. TxnTurn Telling size told later old new c x v a) → Rises old new
+      by : (o : Option TxnView) → MatchOption o (LoneTurn Telling servers size told later old new c v a) (λ x. TxnTurn Telling servers size told later old new c x v a) → Rises old new
       by None g = lone_rise v a g
       by (Some x) g = txn_rise x v a g

@@ -1,6 +1,7 @@
 pub mod Later
 pub mod Pins
 pub mod Frames
+pub mod Staying
 pub mod Machines
 pub mod Ending
 pub mod Plain
@@ -14,3 +15,9 @@ pub mod Growth
 pub mod Whole
 pub mod Started
 pub mod Tidying
+pub mod Unread
+pub mod Dumping
+pub mod Naming
+pub mod Caused
+pub mod Serving
+pub mod Answering

@@ -1,9 +1,10 @@
 -- What the calls of a client's transaction make of the tables.
-use Rattle.std.proofs.Common.{◌≡◌, ℕ, ◌+◌, true, false, cond, nat_eq, List, [], ◌∷◌, ◌++◌, Option, None, Some, is_some, Result, Ok, IfSome, MatchOption, refl, sym, ap, subst, ◌∙◌, true≢false, inr, arith}
-use Rattle.std.specs.Prelude.{if◌then◌else◌}
+use Rattle.std.proofs.Common.{◌≡◌, ℕ, ◌+◌, true, false, cond, nat_eq, List, [], ◌∷◌, ◌++◌, Option, None, Some, is_some, Result, Ok, IfOk, OnErr, IfSome, MatchOption, refl, sym, ap, subst, ◌∙◌, true≢false, ◌⊎◌, inl, inr, Err, slice_get, arith}
 use Rattle.std.specs.Option.{option_map}
 use Rattle.std.specs.Set.{remove_key}
 use Rattle.wtf_base.specs.declared.fault.Fault.{Fault}
+use Rattle.wtf_base.specs.declared.fault.Fault.TheVariants as fault
+use Rattle.wtf_base.specs.declared.slice.Slice.{Slice}
 use Rattle.wtf_base.specs.declared.memory.OutOfMemory.{OutOfMemory}
 use Rattle.wtf_kv.specs.Stores.{Store, IsPinnedOnceMore, times_pinned}
 use Rattle.wtf_values.specs.declared.key.Key.{Key}
@@ -14,27 +15,39 @@ use Rattle.wtf_model.specs.declared.answer.Word.{Word}
 use Rattle.wtf_model.specs.declared.answer.Word.TheVariants.{InTx, NoTx}
 use Rattle.wtf_model.specs.declared.op.Op.{Op}
 use Rattle.wtf_model.specs.declared.event.Verb.TheVariants as verb
-use Rattle.wtf_meta.specs.Contents.{Told}
+use Rattle.wtf_model.specs.Tree.{Tree}
+use Rattle.wtf_model.specs.Session.{Session}
+use Rattle.wtf_model.specs.Call.{call}
+use Rattle.wtf_model.specs.Transaction.{answers_of}
+use Rattle.wtf_model.specs.Lawful.{IsDone, IsReadFault, MayFail}
+use Rattle.wtf_meta.specs.Bytes.{MapBytes}
+use Rattle.wtf_meta.specs.Contents.{Told, is_told}
+use Rattle.wtf_meta.specs.Maps.{metadata_at, seen}
+use Rattle.wtf_meta.specs.Trees.{Stands}
+use Rattle.wtf_meta.specs.Sessions.{Holds}
+use Rattle.wtf_meta.specs.Calls.{Caller, cap_for}
+use Rattle.wtf_rw.specs.Faults.{MayStandFor}
 use Rattle.wtf_replay.specs.Views.{TxnView, begun}
-use Rattle.wtf_replay.specs.Built.{is_built_op}
 use Rattle.wtf_replay.specs.Refusals.{call_refusal, try_refusal, step_refusal, unmade}
 use Rattle.wtf_replay.specs.Fits.{IsFit}
-use Rattle.wtf_replay.specs.Sounds.{IsSound}
+use Rattle.wtf_replay.specs.Sounds.{IsSound, caller_at}
+use Rattle.wtf_replay.specs.Causes.{fault_answer, MayFaultAt, MayEndFault}
 use Rattle.wtf_replay.specs.Called.{IsCalled}
 use Rattle.wtf_replay.specs.Tried.{IsAttempted, KeepsMaps, KeepsPins}
 use Rattle.wtf_replay.specs.Replays.{IsStepped, IsOver, IsEnded, IsTrueAttempt, IsTrueStep, IsTrueEnd}
 use Rattle.wtf_replay.proofs.Keeping.{fit_after}
-use Rattle.wtf_core.specs.Views.{Clients, TablesView, of_client}
+use Rattle.wtf_core.specs.Views.{Clients, TablesView, of_client, metadata_now}
 use Rattle.wtf_core.specs.Tables.{owned, IsOpen, AreSound, Sets}
-use Rattle.wtf_core.specs.Turns.{Refuses, Begins, Ends, Tries, TryTurn, Calls, Steps, Finals, ClientTurn}
+use Rattle.wtf_core.specs.Turns.{Refuses, Begins, Ends, Tries, TryTurn, Stays, Calls, CallFails, Steps, Finals, ClientTurn}
 use Rattle.wtf_core.proofs.Lists.{sets_added, sets_then}
 use Rattle.wtf_core.proofs.Frames.{sound_turned}
+use Rattle.wtf_core.proofs.Staying.{fault_is, same_stays}
 
 -- a match on an option that is known
 at_none : {A : Type 0} (o : Option A) (P : Type 0) (Q : A → Type 0) → o ≡ None → P → MatchOption o P Q
 at_none o P Q is p = subst (λ r. MatchOption r P Q) (sym is) p
 
-at_some : {A : Type 0} (o : Option A) (x : A) (P : Type 0) (Q : A → Type 0) → o ≡ Some x → Q x → MatchOption o P Q
+pub at_some : {A : Type 0} (o : Option A) (x : A) (P : Type 0) (Q : A → Type 0) → o ≡ Some x → Q x → MatchOption o P Q
 at_some o x P Q is q = subst (λ r. MatchOption r P Q) (sym is) q
 
 nothing_there : {A : Type 0} (o : Option A) → is_some o ≡ false → o ≡ None
@@ -42,11 +55,27 @@ nothing_there None h = refl
 nothing_there (Some x) h = absurd (true≢false h)
 
 -- the call answered so
-abbrev answered : Type 0 → Answer → Answer → Type 0
+abbrev pub answered : Type 0 → Answer → Answer → Type 0
 answered E a b = ◌≡◌ {A = Result Answer E} (Ok a) (Ok b)
 
-same_answer : (E : Type 0) (a b : Answer) → answered E a b → a ≡ b
+pub same_answer : (E : Type 0) (a b : Answer) → answered E a b → a ≡ b
 same_answer E a b e = cc
+
+-- or failed, which is another thing
+abbrev pub failed : Fault → Answer → Type 0
+failed why b = ◌≡◌ {A = Result Answer Fault} (Err why) (Ok b)
+
+pub never : (why : Fault) (b : Answer) → failed why b → ⊥
+never why b e = cc
+
+-- what follows of each answer
+pub if_ok : {E : Type 0} (r : Result Answer E) (P Q : Answer → Type 0) → IfOk r P → ((a : Answer) → P a → Q a) → IfOk r Q
+if_ok (Ok a) P Q h on = on a h
+if_ok (Err e) P Q h on = tt
+
+pub on_err : {E A : Type 0} (r : Result A E) (Q : Type 0) → Q → OnErr r Q
+on_err (Ok a) Q h = tt
+on_err (Err e) Q h = h
 
 -- ---- what holds over every device goes on holding
 pub kept_sound : (old : TablesView) (kv : Store Key Value) (clients : Clients) (c : ℕ) (x y : TxnView) → AreSound old → of_client old.clients c ≡ Some x
@@ -107,39 +136,97 @@ begin_turn old kv mid clients c number x free is_number is_mid last seen is_x is
     })
 
 -- ---- a call
-module _ (Telling : Type 0) (size : ℕ) (told later : Told) (old : TablesView) (clients : Clients) (c : ℕ) (x y : TxnView) (o : Op (List ℕ)) (a : Answer) where
+module _ (Telling : Type 0) (servers size : ℕ) (told later : Told) (old : TablesView) (clients : Clients) (c : ℕ) (x y : TxnView) (o : Op (List ℕ)) (a : Answer) where
   abbrev now_called : TablesView
   now_called = record { kv = old.kv; next_tx = old.next_tx; clients = clients }
 
-  call_on : (r : Option Word) → call_refusal x ≡ r → is_built_op o ≡ true → of_client old.clients c ≡ Some x → Sets c (Some y) old.clients clients
-      → IfSome (unmade x o) (λ b. (answered Fault a b) × (y ≡ x)) → (unmade x o ≡ None → IsCalled x y o a)
-      → (unmade x o ≡ None → Telling → (ops : List (Op (List ℕ))) → IsSound size old.kv told x ops → IsSound size old.kv later y (ops ++ o ∷ []))
+  call_on : (N : Type 0) (r : Option Word) → call_refusal x ≡ r → of_client old.clients c ≡ Some x → Sets c (Some y) old.clients clients
+      → IfSome (unmade x) (λ b. (answered Fault a b) × (y ≡ x) × N) → (unmade x ≡ None → (own : Option Slice) × IsCalled x y o own a)
+      → (unmade x ≡ None → Telling × MapBytes (is_told told) (metadata_at old.kv x.at.base) → (ops : List (Op (List ℕ))) → IsSound size old.kv told x ops → IsSound size old.kv later y (ops ++ o ∷ []))
       → IsFit old.kv y
-      → MatchOption r (Calls Telling size told later old now_called c x o a) (λ w. Refuses old now_called c w a)
-  call_on None is built there sets stopped made meaning fit =
-      let free : unmade x o ≡ None = ap (λ b. if b then option_map answer.Refused (call_refusal x) else Some answer.NotBuilt) built ∙ ap (option_map answer.Refused) is in
-      record {
+      → MatchOption r (Calls Telling servers size told later old now_called c x o a ⊎ CallFails Telling servers size told later old now_called c x o a) (λ w. Refuses old now_called c w a)
+  call_on N None is there sets stopped made meaning fit =
+      let free : unmade x ≡ None = ap (option_map answer.Refused) is in
+      inl (record {
         later_one = y;
+        own = (made free).0;
         keeps = record { clients = sets; kv = refl; next_tx = refl };
-        called = made free;
+        called = (made free).1;
         fit = fit;
         sound = meaning free;
-      }
-  call_on (Some w) is built there sets stopped made meaning fit =
-      let held : unmade x o ≡ Some (answer.Refused w) = ap (λ b. if b then option_map answer.Refused (call_refusal x) else Some answer.NotBuilt) built ∙ ap (option_map answer.Refused) is in
-      let both : (answered Fault a (answer.Refused w)) × (y ≡ x) = subst (λ m. IfSome m (λ b. (answered Fault a b) × (y ≡ x))) held stopped in
+      })
+  call_on N (Some w) is there sets stopped made meaning fit =
+      let held : unmade x ≡ Some (answer.Refused w) = ap (option_map answer.Refused) is in
+      let both : (answered Fault a (answer.Refused w)) × (y ≡ x) × N = subst (λ m. IfSome m (λ b. (answered Fault a b) × (y ≡ x) × N)) held stopped in
       refuses old now_called c x y w a there sets both.1 refl refl (same_answer Fault a (answer.Refused w) both.0)
 
-  pub call_turn : is_built_op o ≡ true → of_client old.clients c ≡ Some x → Sets c (Some y) old.clients clients
-      → IfSome (unmade x o) (λ b. (answered Fault a b) × (y ≡ x)) → (unmade x o ≡ None → IsCalled x y o a)
-      → (unmade x o ≡ None → Telling → (ops : List (Op (List ℕ))) → IsSound size old.kv told x ops → IsSound size old.kv later y (ops ++ o ∷ []))
+  pub call_turn : (N : Type 0) → of_client old.clients c ≡ Some x → Sets c (Some y) old.clients clients
+      → IfSome (unmade x) (λ b. (answered Fault a b) × (y ≡ x) × N) → (unmade x ≡ None → (own : Option Slice) × IsCalled x y o own a)
+      → (unmade x ≡ None → Telling × MapBytes (is_told told) (metadata_at old.kv x.at.base) → (ops : List (Op (List ℕ))) → IsSound size old.kv told x ops → IsSound size old.kv later y (ops ++ o ∷ []))
       → IsFit old.kv y
-      → ClientTurn Telling size told later old (record { kv = old.kv; next_tx = old.next_tx; clients = clients }) c (verb.Call o) a
-  call_turn built there sets stopped made meaning fit =
-      at_some (of_client old.clients c) x _ _ there (call_on (call_refusal x) refl built there sets stopped made meaning fit)
+      → ClientTurn Telling servers size told later old (record { kv = old.kv; next_tx = old.next_tx; clients = clients }) c (verb.Call o) a
+  call_turn N there sets stopped made meaning fit =
+      at_some (of_client old.clients c) x _ _ there (call_on N (call_refusal x) refl there sets stopped made meaning fit)
+
+  -- a call that failed
+  pub call_failed : (why : Fault) → of_client old.clients c ≡ Some x → Sets c (Some y) old.clients clients → y ≡ x → call_refusal x ≡ None → fault_answer why ≡ Some a
+      → ((z : Caller) (u : Told) (S : Session) → z.size ≡ size → Stands z.size u z.tx z.calls (seen old.kv x.at) S.tree → Holds u (seen old.kv x.at) x.session S → MayFail servers o (call (cap_for z) S o).answer a)
+      → ClientTurn Telling servers size told later old (record { kv = old.kv; next_tx = old.next_tx; clients = clients }) c (verb.Call o) a
+  call_failed why there sets same asked is may =
+      at_some (of_client old.clients c) x _ _ there (at_none (call_refusal x) _ _ asked (inr (record {
+        fails = record { why = why; answer = is; stays = same_stays old now_called c x y there sets same refl (λ n le. refl) (λ n. refl) refl };
+        may = may;
+      })))
+
+-- a call that was made and failed was not refused
+pub not_refused : (N : Type 0) (x : TxnView) (why : Fault) (y : TxnView) → IfSome (unmade x) (λ b. (failed why b) × (y ≡ x) × N) → call_refusal x ≡ None
+not_refused N x why y stopped = by (call_refusal x) refl
+  where
+    by : (r : Option Word) → call_refusal x ≡ r → r ≡ None
+    by None is = refl
+    by (Some w) is =
+        let held : unmade x ≡ Some (answer.Refused w) = ap (option_map answer.Refused) is in
+        absurd (never why (answer.Refused w) (subst (λ m. IfSome m (λ b. (failed why b) × (y ≡ x) × N)) held stopped).0)
+
+-- a fault that may stand for an answer is allowed in its place
+pub stand_fail : (servers : ℕ) (o : Op (List ℕ)) (d : Answer) (why : Fault) (a : Answer) → fault_answer why ≡ Some a → MayStandFor servers o d why → MayFail servers o d a
+stand_fail servers o d (fault.Read k) a is h = subst (MayFail servers o d) (let e : answer.FaultRead k.0 ≡ a = cc in e) h
+stand_fail servers o d fault.Write a is h = subst (MayFail servers o d) (let e : answer.FaultWrite ≡ a = cc in e) h
+stand_fail servers o d (fault.Punch k) a is h = subst (MayFail servers o d) (let e : answer.FaultPunch k.0 ≡ a = cc in e) h
+stand_fail servers o d (fault.Damaged k) a is h = subst (MayFail servers o d) (let e : answer.Damaged k.0 ≡ a = cc in e) h
+stand_fail servers o d fault.Memory a is h = absurd (let e : None ≡ Some a = is in cc)
+
+pub step_left : (servers : ℕ) (answers : List Answer) (k : ℕ) (why : Fault) (a : Answer) → fault_answer why ≡ Some a → MayFaultAt servers answers k (fault_answer why) → IsDone (slice_get answers k) × IsReadFault servers a
+step_left servers answers k why a is h = subst (MayFaultAt servers answers k) is h
+
+pub commit_left : (servers : ℕ) (why : Fault) (a : Answer) → fault_answer why ≡ Some a → MayEndFault servers (fault_answer why) → IsReadFault servers a
+commit_left servers why a is h = subst (MayEndFault servers) is h
+
+-- a step that was made and failed was not refused
+pub not_live : (x : TxnView) (why : Fault) (y : TxnView) → IfSome (step_refusal x) (λ w. (failed why (answer.Refused w)) × (y ≡ x)) → step_refusal x ≡ None
+not_live x why y stopped = by (step_refusal x) refl
+  where
+    by : (r : Option Word) → step_refusal x ≡ r → r ≡ None
+    by None is = refl
+    by (Some w) is = absurd (never why (answer.Refused w) (subst (λ m. IfSome m (λ v. (failed why (answer.Refused v)) × (y ≡ x))) is stopped).0)
+
+-- a step after which the transaction has ended left its base
+over_by : (x y : TxnView) (a : Answer) → x.ended ≡ false → IsStepped x y a → y.ended ≡ true → y.at.base ≡ x.at.base
+over_by x y (answer.Replayed i) going h over = h.base
+over_by x y (Aborted' i box a) going h over = h.over.base
+over_by x y a going h over = absurd h
+
+pub step_over : (x y : TxnView) (a : Answer) → x.ended ≡ false → IfSome (step_refusal x) (λ w. (answered Fault a (answer.Refused w)) × (y ≡ x)) → (step_refusal x ≡ None → IsStepped x y a) → y.ended ≡ true → y.at.base ≡ x.at.base
+step_over x y a going stopped stepped over = by (step_refusal x) refl
+  where
+    by : (r : Option Word) → step_refusal x ≡ r → y.at.base ≡ x.at.base
+    by None is = over_by x y a going (stepped is) over
+    by (Some w) is =
+        let both : (answered Fault a (answer.Refused w)) × (y ≡ x) = subst (λ m. IfSome m (λ v. (answered Fault a (answer.Refused v)) × (y ≡ x))) is stopped in
+        ap (λ (z : TxnView). z.at.base) both.1
 
 -- ---- the transaction goes: its client has none, and one pin of its base is undone
-ends : (old new : TablesView) (kv : Store Key Value) (mid : Clients) (c : ℕ) (x y : TxnView) → Sets c (Some y) old.clients mid → Sets c None mid new.clients → new.next_tx ≡ old.next_tx
+pub ends : (old new : TablesView) (kv : Store Key Value) (mid : Clients) (c : ℕ) (x y : TxnView) → Sets c (Some y) old.clients mid → Sets c None mid new.clients → new.next_tx ≡ old.next_tx
     → y.at.base ≡ x.at.base → KeepsMaps old.kv kv → KeepsPins old.kv kv → new.kv ≡ record kv { pins = remove_key (nat_eq y.at.base) kv.pins } → IsPinnedOnceMore y.at.base new.kv kv
     → Ends old new kv c x
 ends old new kv mid c x y first last next base maps pins is_kv unpinned = record {
@@ -204,15 +291,15 @@ module _ (old : TablesView) (kv : Store Key Value) (mid : Clients) (c : ℕ) (x 
     try_ends over = at_some (of_client old.clients c) x _ _ there (ends_on (try_refusal x) refl over)
 
 -- ---- a step
-module _ (Telling : Type 0) (size : ℕ) (told later : Told) (old : TablesView) (mid : Clients) (c : ℕ) (x y : TxnView) (a : Answer) (going : x.ended ≡ false) (there : of_client old.clients c ≡ Some x) (sets : Sets c (Some y) old.clients mid)
+module _ (Telling : Type 0) (servers size : ℕ) (told later : Told) (old : TablesView) (mid : Clients) (c : ℕ) (x y : TxnView) (a : Answer) (going : x.ended ≡ false) (there : of_client old.clients c ≡ Some x) (sets : Sets c (Some y) old.clients mid)
     (stopped : IfSome (step_refusal x) (λ w. (answered Fault a (answer.Refused w)) × (y ≡ x)))
     (stepped : step_refusal x ≡ None → IsStepped x y a)
-    (meaning : step_refusal x ≡ None → Telling → (ops : List (Op (List ℕ))) → IsSound size old.kv told x ops → IsTrueStep size (told, later) old.kv (x, y) ops a)
+    (meaning : step_refusal x ≡ None → Telling × MapBytes (is_told told) (metadata_at old.kv x.at.base) → (ops : List (Op (List ℕ))) → IsSound size old.kv told x ops → IsTrueStep size (told, later) old.kv (x, y) ops a)
     (fit : IsFit old.kv y) where
   abbrev now_stepped : TablesView
   now_stepped = record { kv = old.kv; next_tx = old.next_tx; clients = mid }
 
-  step_goes_by : (b : Answer) → y.ended ≡ false → IsStepped x y b → (Telling → (ops : List (Op (List ℕ))) → IsSound size old.kv told x ops → IsTrueStep size (told, later) old.kv (x, y) ops b) → Steps Telling size told later old now_stepped c x b
+  step_goes_by : (b : Answer) → y.ended ≡ false → IsStepped x y b → (Telling × MapBytes (is_told told) (metadata_at old.kv x.at.base) → (ops : List (Op (List ℕ))) → IsSound size old.kv told x ops → IsTrueStep size (told, later) old.kv (x, y) ops b) → Steps Telling servers size told later old now_stepped c x b
   step_goes_by (answer.Replayed i) still h m = record {
     later_one = y;
     keeps = record { clients = sets; kv = refl; next_tx = refl };
@@ -223,17 +310,17 @@ module _ (Telling : Type 0) (size : ℕ) (told later : Told) (old : TablesView) 
   step_goes_by (Aborted' i box b) still h m = absurd (true≢false (sym h.over.ended ∙ still))
   step_goes_by b still h m = absurd h
 
-  step_goes_on : (r : Option Word) → step_refusal x ≡ r → y.ended ≡ false → MatchOption r (Steps Telling size told later old now_stepped c x a) (λ w. Refuses old now_stepped c w a)
+  step_goes_on : (r : Option Word) → step_refusal x ≡ r → y.ended ≡ false → MatchOption r (Steps Telling servers size told later old now_stepped c x a) (λ w. Refuses old now_stepped c w a)
   step_goes_on None is still = step_goes_by a still (stepped is) (meaning is)
   step_goes_on (Some w) is still =
       let both : (answered Fault a (answer.Refused w)) × (y ≡ x) = subst (λ m. IfSome m (λ v. (answered Fault a (answer.Refused v)) × (y ≡ x))) is stopped in
       refuses old now_stepped c x y w a there sets both.1 refl refl (same_answer Fault a (answer.Refused w) both.0)
 
-  pub step_goes : y.ended ≡ false → ClientTurn Telling size told later old (record { kv = old.kv; next_tx = old.next_tx; clients = mid }) c verb.Step a
+  pub step_goes : y.ended ≡ false → ClientTurn Telling servers size told later old (record { kv = old.kv; next_tx = old.next_tx; clients = mid }) c verb.Step a
   step_goes still = at_some (of_client old.clients c) x _ _ there (step_goes_on (step_refusal x) refl still)
 
   module _ (new : TablesView) (taken : Sets c None mid new.clients) (next : new.next_tx ≡ old.next_tx) (is_kv : new.kv ≡ record old.kv { pins = remove_key (nat_eq y.at.base) old.kv.pins }) (unpinned : IsPinnedOnceMore y.at.base new.kv old.kv) where
-    step_ends_by : (b : Answer) → y.ended ≡ true → IsStepped x y b → (Telling → (ops : List (Op (List ℕ))) → IsSound size old.kv told x ops → IsTrueStep size (told, later) old.kv (x, y) ops b) → Steps Telling size told later old new c x b
+    step_ends_by : (b : Answer) → y.ended ≡ true → IsStepped x y b → (Telling × MapBytes (is_told told) (metadata_at old.kv x.at.base) → (ops : List (Op (List ℕ))) → IsSound size old.kv told x ops → IsTrueStep size (told, later) old.kv (x, y) ops b) → Steps Telling servers size told later old new c x b
     step_ends_by (answer.Replayed i) over h m = absurd (true≢false (sym over ∙ ap (λ (z : TxnView). z.ended) h.is ∙ going))
     step_ends_by (Aborted' i box b) over h m = record {
       index = h.index;
@@ -242,26 +329,59 @@ module _ (Telling : Type 0) (size : ℕ) (told later : Told) (old : TablesView) 
     }
     step_ends_by b over h m = absurd h
 
-    step_ends_on : (r : Option Word) → step_refusal x ≡ r → y.ended ≡ true → MatchOption r (Steps Telling size told later old new c x a) (λ w. Refuses old new c w a)
+    step_ends_on : (r : Option Word) → step_refusal x ≡ r → y.ended ≡ true → MatchOption r (Steps Telling servers size told later old new c x a) (λ w. Refuses old new c w a)
     step_ends_on None is over = step_ends_by a over (stepped is) (meaning is)
     step_ends_on (Some w) is over =
         let both : (answered Fault a (answer.Refused w)) × (y ≡ x) = subst (λ m. IfSome m (λ v. (answered Fault a (answer.Refused v)) × (y ≡ x))) is stopped in
         absurd (true≢false (sym over ∙ ap (λ (z : TxnView). z.ended) both.1 ∙ going))
 
-    pub step_ends : y.ended ≡ true → ClientTurn Telling size told later old new c verb.Step a
+    pub step_ends : y.ended ≡ true → ClientTurn Telling servers size told later old new c verb.Step a
     step_ends over = at_some (of_client old.clients c) x _ _ there (step_ends_on (step_refusal x) refl over)
 
+-- ---- a step that failed
+module _ (Telling : Type 0) (servers size : ℕ) (told later : Told) (old : TablesView) (clients : Clients) (c : ℕ) (x y : TxnView) where
+  pub step_failed : (why : Fault) (a : Answer) → of_client old.clients c ≡ Some x → Sets c (Some y) old.clients clients → y ≡ x → step_refusal x ≡ None → fault_answer why ≡ Some a
+      → ((ops : List (Op (List ℕ))) → IsSound size old.kv told x ops → (t : Tree) → Stands size told x.tx 0 (metadata_at old.kv x.at.base) t
+      → IsDone (slice_get (answers_of (cap_for (caller_at size x.tx 0)) t ops) x.replayed) × IsReadFault servers a)
+      → ClientTurn Telling servers size told later old (record { kv = old.kv; next_tx = old.next_tx; clients = clients }) c verb.Step a
+  step_failed why a there sets same asked is may = at_some (of_client old.clients c) x _ _ there (at_none (step_refusal x) _ _ asked (by a is may))
+    where
+      by : (b : Answer) → fault_answer why ≡ Some b
+          → ((ops : List (Op (List ℕ))) → IsSound size old.kv told x ops → (t : Tree) → Stands size told x.tx 0 (metadata_at old.kv x.at.base) t
+          → IsDone (slice_get (answers_of (cap_for (caller_at size x.tx 0)) t ops) x.replayed) × IsReadFault servers b)
+          → Steps Telling servers size told later old (record { kv = old.kv; next_tx = old.next_tx; clients = clients }) c x b
+      by (answer.Replayed i) e f = absurd (fault_is why (answer.Replayed i) e)
+      by (Aborted' i box b) e f = absurd (fault_is why (Aborted' i box b) e)
+      by b e f = record { fails = record { why = why; answer = e; stays = same_stays old (record { kv = old.kv; next_tx = old.next_tx; clients = clients }) c x y there sets same refl (λ n le. refl) (λ n. refl) refl }; may = f }
+
 -- ---- a commit
-module _ (Telling : Type 0) (size : ℕ) (told later : Told) (old new : TablesView) (kv : Store Key Value) (mid : Clients) (c : ℕ) (x y : TxnView) where
+module _ (Telling : Type 0) (servers size : ℕ) (told later : Told) (old new : TablesView) (kv : Store Key Value) (mid : Clients) (c : ℕ) (x y : TxnView) where
   commit_by : (a : Answer) → Ends old new kv c x → IsEnded old.kv kv a
-      → (Telling → (ops : List (Op (List ℕ))) → IsSound size old.kv told x ops → IsTrueEnd size told old.kv kv x ops a) → Finals Telling size told later old new c x a
+      → (Telling × MapBytes (is_told told) (metadata_now old.kv) → (ops : List (Op (List ℕ))) → IsSound size old.kv told x ops → IsTrueEnd size (told, later) old.kv kv x ops a) → Finals Telling servers size told later old new c x a
   commit_by (answer.Committed n) over h m = record { mid = kv; next = h.0; number = h.1; ends = over; final = m }
   commit_by (Aborted' i box b) over h m = record { mid = kv; number = h; ends = over; deviates = m }
   commit_by b over h m = absurd h
 
   pub commit_turn : (a : Answer) → of_client old.clients c ≡ Some x → Sets c (Some y) old.clients mid → Sets c None mid new.clients → new.next_tx ≡ old.next_tx → IsOver x y → KeepsMaps old.kv kv → KeepsPins old.kv kv
       → new.kv ≡ record kv { pins = remove_key (nat_eq y.at.base) kv.pins } → IsPinnedOnceMore y.at.base new.kv kv → IsEnded old.kv kv a
-      → (Telling → (ops : List (Op (List ℕ))) → IsSound size old.kv told x ops → IsTrueEnd size told old.kv kv x ops a)
-      → ClientTurn Telling size told later old new c verb.Commit a
+      → (Telling × MapBytes (is_told told) (metadata_now old.kv) → (ops : List (Op (List ℕ))) → IsSound size old.kv told x ops → IsTrueEnd size (told, later) old.kv kv x ops a)
+      → ClientTurn Telling servers size told later old new c verb.Commit a
   commit_turn a there sets taken next over maps pins is_kv unpinned h m =
       at_some (of_client old.clients c) x _ _ there (commit_by a (ends old new kv mid c x y sets taken next over.base maps pins is_kv unpinned) h m)
+
+  -- a commit that failed
+  pub commit_failed : (why : Fault) (a : Answer) → of_client old.clients c ≡ Some x → Sets c (Some y) old.clients new.clients → y ≡ x → new.kv ≡ kv → new.next_tx ≡ old.next_tx → kv.number ≡ old.kv.number → KeepsMaps old.kv kv → KeepsPins old.kv kv
+      → fault_answer why ≡ Some a
+      → (Telling × MapBytes (is_told told) (metadata_now old.kv) → (ops : List (Op (List ℕ))) → IsSound size old.kv told x ops → (t : Tree) → Stands size told x.tx 0 (metadata_now old.kv) t → IsReadFault servers a)
+      → Finals Telling servers size told later old new c x a
+  commit_failed why a there sets same is_kv next number maps pins is may = by a is may
+    where
+      stays : Stays old new c
+      stays = same_stays old new c x y there sets same (ap (λ (s : Store Key Value). s.number) is_kv ∙ number) (λ n le. ap (λ (s : Store Key Value). metadata_at s n) is_kv ∙ maps n le) (λ n. ap (λ (s : Store Key Value). times_pinned s n) is_kv ∙ pins n) next
+
+      by : (b : Answer) → fault_answer why ≡ Some b
+          → (Telling × MapBytes (is_told told) (metadata_now old.kv) → (ops : List (Op (List ℕ))) → IsSound size old.kv told x ops → (t : Tree) → Stands size told x.tx 0 (metadata_now old.kv) t → IsReadFault servers b)
+          → Finals Telling servers size told later old new c x b
+      by (answer.Committed n) e f = absurd (fault_is why (answer.Committed n) e)
+      by (Aborted' i box b) e f = absurd (fault_is why (Aborted' i box b) e)
+      by b e f = record { fails = record { why = why; answer = e; stays = stays }; may = f }

@@ -7,7 +7,7 @@ use Rattle.std.proofs.Math.Seq.{take-length}
 use Rattle.std.proofs.lemmas.Bool.{eqb-true}
 use Rattle.std.proofs.lemmas.List.{length_push, append_cancel_left}
 use Rattle.std.specs.FinMap.{get}
-use Rattle.wtf_kv.specs.Stores.{Store, times_pinned}
+use Rattle.wtf_kv.specs.Stores.{Store}
 use Rattle.wtf_values.specs.declared.key.Key.{Key}
 use Rattle.wtf_values.specs.declared.value.Value.{Value}
 use Rattle.wtf_model.specs.declared.limits.TheConstants.{MAX_REGIONS}
@@ -16,69 +16,47 @@ use Rattle.wtf_model.specs.declared.answer.Answer.TheVariants as answer
 use Rattle.wtf_model.specs.declared.answer.Word.{Word}
 use Rattle.wtf_model.specs.declared.op.Op.{Op}
 use Rattle.wtf_model.specs.declared.event.Verb.TheVariants as verb
-use Rattle.wtf_model.specs.Session.{fresh}
+use Rattle.wtf_model.specs.Session.{Session, fresh}
 use Rattle.wtf_model.specs.Tree.{Tree}
 use Rattle.wtf_model.specs.Call.{call}
 use Rattle.wtf_model.specs.Transaction.{Transaction, answers_of, session_after}
 use Rattle.wtf_model.specs.Machines.{Machine, cap_of, due}
-use Rattle.wtf_model.specs.Lawful.{MayCall, MayAsk}
+use Rattle.wtf_model.specs.Lawful.{MayCall, MayAsk, MayFail}
 use Rattle.wtf_model.specs.Steps.{IsLogged, is_logged, with_transaction, begun as machine_begun, logged, called, aborted}
 use Rattle.wtf_model.proofs.Laws.{get-number_same, get-number_other, answers_from-push}
 use Rattle.wtf_log.specs.Calls.{with_call}
 use Rattle.wtf_log.proofs.StandingLaws.{OpsStandFor-length}
 use Rattle.wtf_meta.specs.Contents.{Told}
-use Rattle.wtf_meta.specs.Maps.{metadata_at}
+use Rattle.wtf_meta.specs.Maps.{metadata_at, seen}
+use Rattle.wtf_meta.specs.Sessions.{Holds}
+use Rattle.wtf_meta.specs.Calls.{Caller, cap_for}
 use Rattle.wtf_meta.specs.Trees.{Stands}
 use Rattle.wtf_meta.proofs.Telling.{TellsOn}
 use Rattle.wtf_replay.specs.Views.{TxnView, begun, is_live}
 use Rattle.wtf_replay.specs.Refusals.{call_refusal}
 use Rattle.wtf_replay.specs.Fits.{IsFit}
-use Rattle.wtf_replay.specs.Sounds.{IsSound, tells_slice}
+use Rattle.wtf_replay.specs.Sounds.{IsSound, tells_slice, caller_at}
 use Rattle.wtf_replay.proofs.Deviating.{at_base}
 use Rattle.wtf_core.specs.Views.{TablesView, of_client, metadata_now}
 use Rattle.wtf_core.specs.Tables.{owned, IsOpen, AreSound}
 use Rattle.wtf_core.specs.Standing.{StandsForTxn, StandsForSlot, TablesStand}
-use Rattle.wtf_core.specs.Turns.{Refuses, Begins, Calls, Ends}
+use Rattle.wtf_core.specs.Turns.{Refuses, Begins, Calls, CallFails, Ends}
 use Rattle.wtf_core.proofs.Pins.{one_some}
-use Rattle.wtf_core.proofs.Frames.{Turned, txn_on, slot_on, sound_turned, stands_turned}
+use Rattle.wtf_core.proofs.Frames.{Turned, sound_turned, stands_turned}
 use Rattle.wtf_core.proofs.Later.{Stands-later}
+use Rattle.wtf_core.proofs.Staying.{IsFault, fault_is, keeps_stays, stays_sound, stays_stand}
 use Rattle.wtf_core.proofs.Machines.{cap_is}
 use Rattle.wtf_core.proofs.Ending.{txn_in, ends_sound, leaves_stand, goes_sound, goes_stand}
 
 -- ---- a line that is refused
 module _ (old new : TablesView) (c : ℕ) (w : Word) (a : Answer) (sound : AreSound old) (refuses : Refuses old new c w a) where
-  -- all is as it was
-  refuses_turned : Turned old new c (of_client old.clients c)
-  refuses_turned =
-      let keeps = refuses.keeps in
-      let number : new.kv.number ≡ old.kv.number = ap (λ (k : Store Key Value). k.number) keeps.kv in
-      let next = keeps.next_tx in
-      record {
-        sets = keeps.clients;
-        later = omega (arith, number);
-        maps = λ n le. ap (λ (k : Store Key Value). metadata_at k n) keeps.kv;
-        more = omega (arith, next);
-        pins = λ n. ap (λ (k : Store Key Value). times_pinned k n + owned n (of_client old.clients c)) keeps.kv;
-        own = λ x is. subst (λ k. IsOpen k new.next_tx x) (sym keeps.kv) (subst (λ n. IsOpen old.kv n x) (sym keeps.next_tx) (sound.each c x is));
-        whose = λ x is. inr (x, is, refl);
-      }
-
   -- the tables stay sound
   pub refuses_sound : AreSound new
-  refuses_sound = sound_turned old new c (of_client old.clients c) sound refuses_turned
+  refuses_sound = stays_sound old new c sound (keeps_stays old new c refuses.keeps)
 
   -- and they stand for the machine as it was
   pub refuses_stand : (size : ℕ) (told later : Told) (m : Machine) → TablesStand size told old m → TellsOn told later → TablesStand size later new m
-  refuses_stand size told later m st on =
-      let now_is : metadata_now new.kv ≡ metadata_now old.kv = ap (λ (k : Store Key Value). metadata_now k) refuses.keeps.kv in
-      let trees : (tx : ℕ) → Stands size told tx 0 (metadata_now old.kv) m.now → Stands size later tx 0 (metadata_now new.kv) m.now = λ tx s.
-      subst (λ v. Stands size later tx 0 v m.now) (sym now_is) (Stands-later told later on size tx 0 (metadata_now old.kv) m.now s) in
-      stands_turned size told later old new m m c (of_client old.clients c) sound st on refuses_turned (λ d other. refl)
-      (st.number ∙ ap (λ (k : Store Key Value). k.number) (sym refuses.keeps.kv))
-      (slot_on size told later old.kv new.kv m.now m.now (of_client old.clients c) (get m.transactions c)
-      (λ x t is txn. txn_on size told later old.kv new.kv m.now m.now x t on (sound.each c x is).based (λ n le. ap (λ (k : Store Key Value). metadata_at k n) refuses.keeps.kv) (trees x.tx txn.now) txn)
-      (st.each c))
-      (λ tx other s. trees tx s)
+  refuses_stand size told later m st on = stays_stand old new c sound (keeps_stays old new c refuses.keeps) size told later m st on
 
 -- ---- a transaction begins
 module _ (old new : TablesView) (c : ℕ) (a : Answer) (sound : AreSound old) (none : of_client old.clients c ≡ None) (begins : Begins old new c a) where
@@ -178,8 +156,8 @@ all_answers size kv told x ops tree sound fit live stands =
 called_is : (m : Machine) (c : ℕ) (t : Transaction) (o : Op (List ℕ)) (a : Answer) → IsLogged a → called m c t o a ≡ with_transaction m c (logged t o a)
 called_is m c t o a h = ap (λ b. if b then with_transaction m c (logged t o a) else m) (is_true_of (is_logged a) h)
 
-module _ (Telling : Type 0) (size : ℕ) (told later : Told) (old new : TablesView) (c : ℕ) (x : TxnView) (o : Op (List ℕ)) (a : Answer)
-    (sound : AreSound old) (here : of_client old.clients c ≡ Some x) (calls : Calls Telling size told later old new c x o a) where
+module _ (Telling : Type 0) (servers size : ℕ) (told later : Told) (old new : TablesView) (c : ℕ) (x : TxnView) (o : Op (List ℕ)) (a : Answer)
+    (sound : AreSound old) (here : of_client old.clients c ≡ Some x) (calls : Calls Telling servers size told later old new c x o a) where
   -- the tables stay sound
   pub calls_sound : AreSound new
   calls_sound =
@@ -195,7 +173,7 @@ module _ (Telling : Type 0) (size : ℕ) (told later : Told) (old new : TablesVi
       let txn = txn_in size told old m c x t st here there in
       let fit : IsFit old.kv x = (sound.each c x here).fit in
       let live = call_live x asked in
-      let calls_are : IsSound size old.kv later y (t.ops ++ o ∷ []) = calls.sound telling t.ops txn.sound in
+      let calls_are : IsSound size old.kv later y (t.ops ++ o ∷ []) = calls.sound (telling, txn.tree.bytes) t.ops txn.sound in
       let log : y.log ≡ with_call x.log calls.called.kept a = is.log in
       let shown : y.log.shown ≡ x.log.shown ++ a ∷ [] = ap (λ l. l.shown) log in
       let live2 : y.replayed ≡ length y.log.ops = is.replayed ∙ ap (λ n. n + 1) live ∙ sym (length_push x.log.ops calls.called.kept) ∙ ap (λ l. length l.ops) (sym log) in
@@ -211,6 +189,42 @@ module _ (Telling : Type 0) (size : ℕ) (told later : Told) (old new : TablesVi
         subst (λ u. TablesStand size later new u) (sym (called_is m c t o a is.answer))
             (goes_stand old new c x y sound here calls.keeps is.tx is.grows.base is.ended calls.fit size told later m t (logged t o a) st on there calls_are refl refl
             (ap (λ l. l ++ a ∷ []) txn.shown ∙ sym shown) (ap (λ n. n + 1) txn.replayed ∙ sym is.replayed)),
+      )
+
+-- a fault is answered: it is not logged
+fault_unlogged : (a : Answer) → IsFault a → is_logged a ≡ false
+fault_unlogged (answer.FaultRead k) h = refl
+fault_unlogged answer.FaultWrite h = refl
+fault_unlogged (answer.FaultPunch k) h = refl
+fault_unlogged (answer.Damaged k) h = refl
+fault_unlogged a h = absurd h
+
+-- what the calls that are done have left of the tree at the base is what the next call runs on
+module _ (size : ℕ) (kv : Store Key Value) (told : Told) (x : TxnView) (t : Transaction) (sound : IsSound size kv told x t.ops) (live : x.replayed ≡ length x.log.ops) (stands : Stands size told x.tx 0 (metadata_at kv x.at.base) t.tree) where
+  done_all : take x.replayed t.ops ≡ t.ops
+  done_all = ap (λ n. take n t.ops) (live ∙ OpsStandFor-length (tells_slice told) x.log.ops t.ops sound.ops_are) ∙ take-length t.ops
+
+  pub next_may : (servers : ℕ) (o : Op (List ℕ)) (a : Answer)
+      → ((y : Caller) (u : Told) (S : Session) → y.size ≡ size → Stands y.size u y.tx y.calls (seen kv x.at) S.tree → Holds u (seen kv x.at) x.session S → MayFail servers o (call (cap_for y) S o).answer a)
+      → MayFail servers o (call (MAX_REGIONS * size) (session_after (MAX_REGIONS * size) t.tree t.ops) o).answer a
+  next_may servers o a may =
+      let ran = at_base size kv told x t.ops sound t.tree stands in
+      subst (λ ops. MayFail servers o (call (MAX_REGIONS * size) (session_after (MAX_REGIONS * size) t.tree ops) o).answer a) done_all
+      (may (caller_at size x.tx (length (take x.replayed t.ops))) told (session_after (MAX_REGIONS * size) t.tree (take x.replayed t.ops)) refl ran.stands ran.holds)
+
+module _ (Telling : Type 0) (servers size : ℕ) (told later : Told) (old new : TablesView) (c : ℕ) (x : TxnView) (o : Op (List ℕ)) (a : Answer)
+    (sound : AreSound old) (here : of_client old.clients c ≡ Some x) (fails : CallFails Telling servers size told later old new c x o a) where
+  -- a call that failed: the machine may answer so, and is then as it was
+  pub fails_stand : (m : Machine) (t : Transaction) → m.settings.region ≡ size → m.settings.servers ≡ servers → TablesStand size told old m → TellsOn told later → get m.transactions c ≡ Some t → call_refusal x ≡ None
+      → MayCall m t o a × TablesStand size later new (called m c t o a)
+  fails_stand m t region count st on there asked =
+      let txn = txn_in size told old m c x t st here there in
+      let cap : cap_of m ≡ MAX_REGIONS * size = cap_is m size region in
+      let may = next_may size old.kv told x t txn.sound (call_live x asked) txn.tree servers o a fails.may in
+      let same : called m c t o a ≡ m = ap (λ b. if b then with_transaction m c (logged t o a) else m) (fault_unlogged a (fault_is fails.fails.why a fails.fails.answer)) in (
+        inr (subst (λ k. MayFail m.settings.servers o (call k (session_after k t.tree t.ops) o).answer a) (sym cap)
+            (subst (λ n. MayFail n o (call (MAX_REGIONS * size) (session_after (MAX_REGIONS * size) t.tree t.ops) o).answer a) (sym count) may)),
+        subst (λ u. TablesStand size later new u) (sym same) (stays_stand old new c sound fails.fails.stays size told later m st on),
       )
 
 -- ---- an abort

@@ -1,17 +1,27 @@
 -- The core before the first line.
-use Rattle.std.proofs.Common.{◌≡◌, ℕ, [], false, None, refl, sym, ap, subst, ◌∙◌}
+use Rattle.std.proofs.Common.{◌≡◌, ℕ, Bool, List, [], false, None, Some, refl, sym, ap, subst, ◌∙◌, ⊎_elim}
 use Rattle.std.specs.FinMap.{get-empty}
 use Rattle.std.specs.Ordering.{nat_cmp}
 use Rattle.wtf_base.specs.declared.settings.Settings.{Settings}
 use Rattle.wtf_replica.specs.declared.replicas.Replicas.{Replicas}
 use Rattle.wtf_replica.specs.Downs.{is_down}
 use Rattle.wtf_model.specs.Machines.{start}
-use Rattle.wtf_model.specs.Tree.{root_alone}
+use Rattle.wtf_overlay.specs.Origin.{Place}
+use Rattle.wtf_values.specs.declared.key.Key.{Key}
+use Rattle.wtf_values.specs.declared.key.Key.TheVariants.{Path, Dir, Inode, Region}
+use Rattle.wtf_values.specs.declared.value.Node.TheVariants.{Folder}
+use Rattle.wtf_values.specs.declared.value.Value.TheVariants as value
+use Rattle.wtf_values.specs.Names.{no_names}
+use Rattle.wtf_model.specs.Tree.{root, root_alone}
+use Rattle.wtf_model.proofs.TreeLaws.{same_or_other}
 use Rattle.wtf_model.proofs.StepLaws.{is_down-start}
 use Rattle.wtf_meta.specs.Contents.{Told}
+use Rattle.wtf_meta.specs.Bytes.{ValueBytes}
+use Rattle.wtf_meta.specs.Maps.{Map}
 use Rattle.wtf_meta.specs.Trees.{IsFirst}
 use Rattle.wtf_meta.proofs.Starting.{stands-first}
 use Rattle.wtf_core.specs.Views.{Clients, TablesView, of_client, metadata_now}
+use Rattle.wtf_core.specs.Named.{TablesBytes}
 use Rattle.wtf_core.specs.Standing.{StandsForSlot, StandsFor}
 
 none_of : (clients : Clients) (c : ℕ) → clients ≡ [] → of_client clients c ≡ None
@@ -28,4 +38,24 @@ stands_first told settings tables replicas number clients first up = record {
     later = λ tx le. stands-first settings.region told tx 0 (metadata_now tables.kv) first;
   };
   down = λ k. up k ∙ sym (is_down-start settings 0 root_alone k);
+}
+
+-- it names no byte
+module _ (P : List Place → Bool) (w : Map) (first : IsFirst w) where
+  value_first : (q : Key) → ValueBytes P (w q)
+  value_first (Path q) = ⊎_elim
+      (λ same. subst (λ v. ValueBytes P v) (sym (subst (λ x. w (Path x) ≡ Some (value.Node Folder)) (sym same) first.top)) tt)
+      (λ other. subst (λ v. ValueBytes P v) (sym (first.paths q other)) tt)
+      (same_or_other q root)
+  value_first (Dir q) = ⊎_elim
+      (λ same. subst (λ v. ValueBytes P v) (sym (subst (λ x. w (Dir x) ≡ Some (value.Names no_names)) (sym same) first.names)) tt)
+      (λ other. subst (λ v. ValueBytes P v) (sym (first.dirs q other)) tt)
+      (same_or_other q root)
+  value_first (Inode i) = subst (λ v. ValueBytes P v) (sym (first.inodes i)) tt
+  value_first (Region i r) = subst (λ v. ValueBytes P v) (sym (first.regions i r)) tt
+
+pub bytes_first : (P : List Place → Bool) (tables : TablesView) → tables.clients ≡ [] → IsFirst (metadata_now tables.kv) → TablesBytes P tables
+bytes_first P tables clients first = record {
+  now = value_first P (metadata_now tables.kv) first;
+  each = λ c x is. absurd (let none : None ≡ Some x = sym (none_of tables.clients c clients) ∙ is in cc);
 }

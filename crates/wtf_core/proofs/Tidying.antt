@@ -24,15 +24,15 @@ pinned_live kv n pinned = by (nat_eq n kv.number)
     by true = refl
     by false = pinned
 
-number_live : (kv : Store Key Value) → IsTrue (is_live kv kv.number)
+pub number_live : (kv : Store Key Value) → IsTrue (is_live kv kv.number)
 number_live kv = ap (λ b. b || is_pinned kv kv.number) (eq-eqb kv.number kv.number refl)
 
 module _ (old new : TablesView) (sound : AreSound old) (tidy : IsTidied old new) where
   -- the map at the base of an open transaction, and the map now, are what they were
-  base_same : (c : ℕ) (x : TxnView) → of_client old.clients c ≡ Some x → metadata_at new.kv x.at.base ≡ metadata_at old.kv x.at.base
+  pub base_same : (c : ℕ) (x : TxnView) → of_client old.clients c ≡ Some x → metadata_at new.kv x.at.base ≡ metadata_at old.kv x.at.base
   base_same c x there = tidy.maps x.at.base (pinned_live old.kv x.at.base (sound.each c x there).fit.pinned)
 
-  now_same : metadata_now new.kv ≡ metadata_now old.kv
+  pub now_same : metadata_now new.kv ≡ metadata_now old.kv
   now_same = ap (metadata_at new.kv) tidy.number ∙ tidy.maps old.kv.number (number_live old.kv)
 
   was : (c : ℕ) (x : TxnView) → of_client new.clients c ≡ Some x → of_client old.clients c ≡ Some x

@@ -1,5 +1,5 @@
 -- What a core answers to a line is what the machine may, and the core goes on to stand for it.
-use Rattle.std.proofs.Common.{◌≡◌, ◌≢◌, ◌⊎◌, ℕ, Bool, true, false, nat_eq, nat_lt, if◌then◌else◌, Option, None, Some, Result, Ok, Err, IfOk, OnErr, refl, sym, ap, subst, ◌∙◌, inl, inr, arith, ne_eqb, eq-eqb}
+use Rattle.std.proofs.Common.{◌≡◌, ◌≢◌, ◌⊎◌, ℕ, Bool, true, false, nat_eq, nat_lt, if◌then◌else◌, List, Option, None, Some, Result, Ok, Err, IfOk, OnErr, refl, sym, ap, subst, ◌∙◌, inl, inr, arith, ne_eqb, eq-eqb}
 use Rattle.std.specs.Bool.{MatchBool}
 use Rattle.std.specs.FinMap.{get}
 use Rattle.wtf_base.specs.declared.settings.Settings.{Settings}
@@ -13,7 +13,7 @@ use Rattle.wtf_model.specs.declared.event.Verb.{Verb}
 use Rattle.wtf_model.specs.declared.event.Verb.TheVariants as verb
 use Rattle.wtf_model.specs.Machines.{Machine}
 use Rattle.wtf_model.specs.Machines as machine
-use Rattle.wtf_model.specs.Lawful.{server_answer, MayBuilt}
+use Rattle.wtf_model.specs.Lawful.{server_answer, dump_answer, MayFailRead, MayBuilt}
 use Rattle.wtf_model.specs.Transaction.{Transaction}
 use Rattle.wtf_model.specs.Steps.{after, after_client, begun, tried, stepped, committed, aborted, is_logged, logged, with_transaction}
 use Rattle.wtf_model.proofs.StepLaws.{after-NotBuilt}
@@ -23,15 +23,16 @@ use Rattle.wtf_meta.specs.Trees.{Stands}
 use Rattle.wtf_meta.proofs.Telling.{TellsOn}
 use Rattle.wtf_core.specs.Views.{TablesView, CoreView, of_client, metadata_now}
 use Rattle.wtf_core.specs.Tables.{AreSound}
-use Rattle.wtf_core.specs.Built.{is_built, is_built_verb}
+use Rattle.wtf_core.specs.Built.{is_built}
 use Rattle.wtf_core.specs.Standing.{StandsForSlot, TablesStand, StandsFor}
-use Rattle.wtf_core.specs.Turns.{ServerTurn, ClientTurn, Switches, BuiltTurn, LineTurn}
+use Rattle.wtf_core.specs.Turns.{ServerTurn, ClientTurn, Switches, Dumps, BuiltTurn, LineTurn}
 use Rattle.wtf_core.specs.Answers.{IsEvent}
 use Rattle.wtf_core.proofs.Pins.{number_cases}
 use Rattle.wtf_core.proofs.Plain.{refuses_stand}
 use Rattle.wtf_core.proofs.Lists.{sets_same}
 use Rattle.wtf_core.proofs.Lines.{client_sound, client_stands}
-use Rattle.wtf_core.proofs.Growth.{Rises, client_rises}
+use Rattle.wtf_core.proofs.Staying.{stays_sound, stays_stand}
+use Rattle.wtf_core.proofs.Growth.{Rises, stays_rise, client_rises}
 
 -- ---- no line changes the settings of the machine
 begun_settings : (m : Machine) (c : ℕ) (a : Answer) → (begun m c a).settings ≡ m.settings
@@ -162,12 +163,13 @@ module _ (Telling : Type 0) (told later : Told) (old new : CoreView) (m : Machin
         (subst (λ n. StandsFor later new n) (sym (after-NotBuilt m e)) (subst (λ (core : CoreView). StandsFor later core m) (sym h.1) (stays told later old m sound stands on)));
   }
 
-  built_client : (c : ℕ) (v : Verb) → is_built_verb v ≡ true → BuiltTurn Telling (told, later) old new (event.Client c v) a → IsEvent later new m (event.Client c v) a
-  built_client c v is h =
+  built_client : (c : ℕ) (v : Verb) → BuiltTurn Telling (told, later) old new (event.Client c v) a → IsEvent later new m (event.Client c v) a
+  built_client c v h =
       let region : m.settings.region ≡ old.settings.region = ap (λ (s : Settings). s.region) stands.settings in
-      let both = client_stands Telling old.settings.region told later old.tables new.tables m c v a sound region stands.tables on tell h.0 in
+      let count : m.settings.servers ≡ old.settings.servers = ap (λ (s : Settings). s.servers) stands.settings in
+      let both = client_stands Telling old.settings.servers old.settings.region told later old.tables new.tables m c v a sound region count stands.tables on tell h.0 in
       record {
-        may = subst (λ b. MatchBool b (MayBuilt m (event.Client c v) a) (a ≡ answer.NotBuilt)) (sym is) both.0;
+        may = both.0;
         stands = subst (λ (core : CoreView). StandsFor later core (after m (event.Client c v) a)) (sym h.1) (record {
           settings = client_settings m c (get m.transactions c) v a ∙ stands.settings;
           tables = both.1;
@@ -175,14 +177,22 @@ module _ (Telling : Type 0) (told later : Told) (old new : CoreView) (m : Machin
         });
       }
 
-  client_line : (c : ℕ) (v : Verb) (b : Bool) → is_built_verb v ≡ b → MatchBool b (BuiltTurn Telling (told, later) old new (event.Client c v) a) ((a ≡ answer.NotBuilt) × (new ≡ old)) → IsEvent later new m (event.Client c v) a
-  client_line c v true is h = built_client c v is h
-  client_line c v false is h = not_built (event.Client c v) is h
-
   pub line_stands : (e : Event) → LineTurn Telling (told, later) old new e a → IsEvent later new m e a
-  line_stands (event.Client c v) h = client_line c v (is_built_verb v) refl h
+  line_stands (event.Client c v) h = built_client c v h
   line_stands (event.Down k) h = let both = down_line told later old new m k a sound stands on h in record { may = both.0; stands = both.1 }
   line_stands (event.Up k) h = let both = up_line told later old new m k a sound stands on h in record { may = both.0; stands = both.1 }
+  line_stands (event.Dump p) h =
+      let due : (a ≡ dump_answer m p) ⊎ MayFailRead m.settings.servers (dump_answer m p) a =
+      subst (λ n. (a ≡ dump_answer m p) ⊎ MayFailRead n (dump_answer m p) a) (sym (ap (λ (s : Settings). s.servers) stands.settings))
+      (h.0.shows old.tables.next_tx 0 m.now (stands.tables.later old.tables.next_tx (omega arith))) in
+      record {
+        may = due;
+        stands = subst (λ (core : CoreView). StandsFor later core m) (sym h.1) (record {
+          settings = stands.settings;
+          tables = stays_stand old.tables new.tables 0 sound (h.0.stays 0) old.settings.region told later m stands.tables on;
+          down = stands.down;
+        });
+      }
   line_stands event.Tree h = record {
     may = h.0 told old.tables.next_tx 0 m.now (stands.tables.later old.tables.next_tx (omega arith));
     stands = subst (λ (core : CoreView). StandsFor later core m) (sym h.1) (stays told later old m sound stands on);
@@ -202,13 +212,14 @@ module _ (Telling : Type 0) (told : Told × Told) (old new : CoreView) (a : Answ
   server_rises k to false h = tables_same old new h.1
 
   client_by : (c : ℕ) (v : Verb) (b : Bool) → MatchBool b (BuiltTurn Telling told old new (event.Client c v) a) ((a ≡ answer.NotBuilt) × (new ≡ old)) → Rises old.tables new.tables
-  client_by c v true h = client_rises Telling old.settings.region told.0 told.1 old.tables new.tables c v a h.0
+  client_by c v true h = client_rises Telling old.settings.servers old.settings.region told.0 told.1 old.tables new.tables c v a h.0
   client_by c v false h = tables_same old new h.1
 
   pub line_rises : (e : Event) → LineTurn Telling told old new e a → Rises old.tables new.tables
-  line_rises (event.Client c v) h = client_by c v (is_built_verb v) h
+  line_rises (event.Client c v) h = client_by c v true h
   line_rises (event.Down k) h = server_rises k true (nat_lt k old.settings.servers) h
   line_rises (event.Up k) h = server_rises k false (nat_lt k old.settings.servers) h
+  line_rises (event.Dump p) h = stays_rise old.tables new.tables 0 (h.0.stays 0)
   line_rises event.Tree h = tables_same old new h.1
   line_rises e h = tables_same old new h.1
 
@@ -217,7 +228,12 @@ pub sound_either : {E : Type 0} (r : Result Answer E) (P : Answer → Type 0) (Q
 sound_either (Ok a) P Q ok err on = on a ok
 sound_either (Err why) P Q ok err on = err
 
-pub sound_after : {E : Type 0} (r : Result Answer E) (Telling : Type 0) (size : ℕ) (told later : Told) (old new : TablesView) (c : ℕ) (v : Verb) → AreSound old
-    → IfOk r (λ a. ClientTurn Telling size told later old new c v a) → OnErr r (AreSound new) → AreSound new
-sound_after r Telling size told later old new c v sound ok err =
-    sound_either r (λ a. ClientTurn Telling size told later old new c v a) (AreSound new) ok err (λ a turn. client_sound Telling size told later old new c v a sound turn)
+pub sound_after : {E : Type 0} (r : Result Answer E) (Telling : Type 0) (servers size : ℕ) (told later : Told) (old new : TablesView) (c : ℕ) (v : Verb) → AreSound old
+    → IfOk r (λ a. ClientTurn Telling servers size told later old new c v a) → OnErr r (AreSound new) → AreSound new
+sound_after r Telling servers size told later old new c v sound ok err =
+    sound_either r (λ a. ClientTurn Telling servers size told later old new c v a) (AreSound new) ok err (λ a turn. client_sound Telling servers size told later old new c v a sound turn)
+
+-- and after a dump
+pub sound_dumped : {E : Type 0} (r : Result Answer E) (servers size : ℕ) (told : Told) (old new : TablesView) (p : List ℕ) → AreSound old
+    → IfOk r (Dumps servers size told old new p) → OnErr r (AreSound new) → AreSound new
+sound_dumped r servers size told old new p sound ok err = sound_either r (Dumps servers size told old new p) (AreSound new) ok err (λ a turn. stays_sound old new 0 sound (turn.stays 0))

@@ -3,6 +3,11 @@ pub mod Tables
 pub mod Built
 pub mod Standing
 pub mod Turns
+pub mod Named
+pub mod Asked
+pub mod Serves
+pub mod Dumped
+pub mod Outcomes
 pub mod Answers
 pub mod Made
 pub mod Rows

@@ -4,7 +4,7 @@ use Rattle.wtf_base.specs.declared.settings.Settings.{Settings}
 use Rattle.wtf_base.specs.Limits.{AreSettings}
 use Rattle.wtf_replica.specs.declared.replicas.Replicas.{Replicas}
 use Rattle.wtf_replica.specs.Downs.{settings_of}
-use Rattle.wtf_ring.specs.Points.{RingView, PlaceView}
+use Rattle.wtf_ring.specs.Points.{RingView, PlaceView, IsRing}
 use Rattle.wtf_region.specs.declared.cache.RegionKey.{RegionKey}
 use Rattle.wtf_region.specs.Cached.{AreFrom}
 use Rattle.wtf_core.specs.Views.{TablesView}
@@ -15,5 +15,6 @@ pub record IsMade (settings : Settings) (tables : TablesView) (replicas : Replic
   pub settings_are : AreSettings settings.servers settings.replicas settings.region
   pub replicas_are : settings_of replicas ≡ settings
   pub ring_is : ring.servers ≡ settings.servers
+  pub points_are : IsRing settings.servers ring.points
   pub cache_is : AreFrom ring cache
   pub tables_are : AreSound tables

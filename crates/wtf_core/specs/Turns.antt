@@ -1,8 +1,10 @@
 -- What a line makes of a core, over every device.
 -- NSDI 2016, sections 2.6 and 2.7.
-use Rattle.std.specs.Prelude.{◌≡◌, ◌≢◌, ℕ, ◌+◌, nat_lt, nat_eq, List, [], ◌∷◌, ◌++◌, Bool, true, false, Option, Some, None, MatchOption}
+use Rattle.std.specs.Prelude.{◌≡◌, ◌≢◌, ◌⊎◌, ℕ, ◌+◌, nat_lt, nat_eq, List, [], ◌∷◌, ◌++◌, Bool, true, false, Option, Some, None, MatchOption, slice_get, ⊤}
 use Rattle.std.specs.Bool.{MatchBool}
 use Rattle.std.specs.Set.{remove_key}
+use Rattle.wtf_base.specs.declared.fault.Fault.{Fault}
+use Rattle.wtf_base.specs.declared.slice.Slice.{Slice}
 use Rattle.wtf_kv.specs.Stores.{Store, IsPinnedOnceMore}
 use Rattle.wtf_replica.specs.Downs.{is_down}
 use Rattle.wtf_values.specs.declared.key.Key.{Key}
@@ -16,14 +18,22 @@ use Rattle.wtf_model.specs.declared.event.Verb.{Verb}
 use Rattle.wtf_model.specs.declared.event.Event.{Event}
 use Rattle.wtf_model.specs.declared.event.Event.TheVariants as event
 use Rattle.wtf_model.specs.Tree.{Tree, rows_of}
+use Rattle.wtf_model.specs.Session.{Session}
+use Rattle.wtf_model.specs.Call.{call}
+use Rattle.wtf_model.specs.Transaction.{answers_of}
+use Rattle.wtf_model.specs.Lawful.{IsDone, IsReadFault, MayFail, MayFailRead, dumped, or_refusal}
 use Rattle.wtf_model.specs.declared.event.Verb.TheVariants as verb
-use Rattle.wtf_meta.specs.Contents.{Told}
-use Rattle.wtf_meta.specs.Maps.{metadata_at}
+use Rattle.wtf_meta.specs.Bytes.{MapBytes}
+use Rattle.wtf_meta.specs.Contents.{Told, is_told}
+use Rattle.wtf_meta.specs.Maps.{Map, metadata_at, seen}
 use Rattle.wtf_meta.specs.Trees.{Stands}
+use Rattle.wtf_meta.specs.Sessions.{Holds}
+use Rattle.wtf_meta.specs.Calls.{Caller, cap_for}
 use Rattle.wtf_replay.specs.Views.{TxnView, begun}
 use Rattle.wtf_replay.specs.Refusals.{call_refusal, try_refusal, step_refusal}
 use Rattle.wtf_replay.specs.Fits.{IsFit}
-use Rattle.wtf_replay.specs.Sounds.{IsSound}
+use Rattle.wtf_replay.specs.Sounds.{IsSound, caller_at}
+use Rattle.wtf_replay.specs.Causes.{fault_answer}
 use Rattle.wtf_replay.specs.Called.{IsCalled}
 use Rattle.wtf_replay.specs.Tried.{IsCommitted, IsRetried, IsFinal, KeepsMaps, KeepsPins}
 use Rattle.wtf_replay.specs.Replays.{IsReplayed, DeviatesOn}
@@ -92,16 +102,50 @@ TryTurn old new c x a = MatchOption (try_refusal x) (Tries old new c x a) (λ w.
 abbrev pub Drops : TablesView → TablesView → ℕ → TxnView → Answer → Type 0
 Drops old new c x a = (a ≡ answer.Okay) × Ends old new old.kv c x
 
--- `Telling` says that the stores tell their content: `told` before the line and `later` after it; a region has `size` bytes
-module _ (Telling : Type 0) (size : ℕ) (told later : Told) where
+-- a line left all that is seen of the tables: of their store, the number, the maps and how often each number is pinned
+pub record Stays (old new : TablesView) (c : ℕ) : Type 0 where
+  pub clients : Sets c (of_client old.clients c) old.clients new.clients
+  pub number : new.kv.number ≡ old.kv.number
+  pub maps : KeepsMaps old.kv new.kv
+  pub pins : KeepsPins old.kv new.kv
+  pub next_tx : new.next_tx ≡ old.next_tx
+
+-- a fault of the stores was answered, and left all as it was
+pub record Fails (old new : TablesView) (c : ℕ) (a : Answer) : Type 0 where
+  pub why : Fault
+  pub answer : fault_answer why ≡ Some a
+  pub stays : Stays old new c
+
+-- The dump of a path shows the bytes of the file on each tree for which the map now stands, or is refused; where it is to
+-- show bytes a fault of the stores may come in their place. It leaves all as it was.
+pub record Dumps (servers size : ℕ) (told : Told) (old new : TablesView) (p : List ℕ) (a : Answer) : Type 0 where
+  pub stays : (c : ℕ) → Stays old new c
+  pub built : a ≢ answer.NotBuilt
+  pub shows : (tx k : ℕ) (t : Tree) → Stands size told tx k (metadata_now old.kv) t
+      → (a ≡ or_refusal (dumped t p)) ⊎ MayFailRead servers (or_refusal (dumped t p)) a
+
+-- `Telling` says that the stores tell their content: `told` before the line and `later` after it; there are so many servers,
+-- and a region has `size` bytes
+module _ (Telling : Type 0) (servers size : ℕ) (told later : Told) where
+  -- the stores also tell each byte of a map
+  abbrev pub Tells : Map → Type 0
+  Tells w = Telling × MapBytes (is_told told) w
+
   -- a call is logged with its answer
   pub record Calls (old new : TablesView) (c : ℕ) (x : TxnView) (o : Op (List ℕ)) (a : Answer) : Type 0 where
     pub later_one : TxnView
+    pub own : Option Slice
     pub keeps : Keeps old new c (Some later_one)
-    pub called : IsCalled x later_one o a
+    pub called : IsCalled x later_one o own a
     pub fit : IsFit old.kv later_one
-    pub sound : Telling → (ops : List (Op (List ℕ))) → IsSound size old.kv told x ops
+    pub sound : Tells (metadata_at old.kv x.at.base) → (ops : List (Op (List ℕ))) → IsSound size old.kv told x ops
         → IsSound size old.kv later later_one (ops ++ o ∷ [])
+
+  -- or a fault of the stores came in place of the answer that is due
+  pub record CallFails (old new : TablesView) (c : ℕ) (x : TxnView) (o : Op (List ℕ)) (a : Answer) : Type 0 where
+    pub fails : Fails old new c a
+    pub may : (y : Caller) (t : Told) (S : Session) → y.size ≡ size → Stands y.size t y.tx y.calls (seen old.kv x.at) S.tree
+        → Holds t (seen old.kv x.at) x.session S → MayFail servers o (call (cap_for y) S o).answer a
 
   -- one more call was replayed, and answered what was shown
   pub record Replays (old new : TablesView) (c : ℕ) (x : TxnView) (i : ℕ) : Type 0 where
@@ -109,15 +153,21 @@ module _ (Telling : Type 0) (size : ℕ) (told later : Told) where
     pub keeps : Keeps old new c (Some later_one)
     pub replayed : IsReplayed x later_one i
     pub fit : IsFit old.kv later_one
-    pub sound : Telling → (ops : List (Op (List ℕ))) → IsSound size old.kv told x ops
+    pub sound : Tells (metadata_at old.kv x.at.base) → (ops : List (Op (List ℕ))) → IsSound size old.kv told x ops
         → IsSound size old.kv later later_one ops
 
   -- the next call answered otherwise at the base, and the transaction has ended
   pub record Aborts (old new : TablesView) (c : ℕ) (x : TxnView) (i : ℕ) (a : Answer) : Type 0 where
     pub index : i ≡ x.replayed + 1
     pub ends : Ends old new old.kv c x
-    pub deviates : Telling → (ops : List (Op (List ℕ))) → IsSound size old.kv told x ops
+    pub deviates : Tells (metadata_at old.kv x.at.base) → (ops : List (Op (List ℕ))) → IsSound size old.kv told x ops
         → DeviatesOn (metadata_at old.kv x.at.base) size told x ops i a
+
+  -- the bytes of the next call were not read, which would not be refused
+  pub record StepFails (old new : TablesView) (c : ℕ) (x : TxnView) (a : Answer) : Type 0 where
+    pub fails : Fails old new c a
+    pub may : (ops : List (Op (List ℕ))) → IsSound size old.kv told x ops → (t : Tree) → Stands size told x.tx 0 (metadata_at old.kv x.at.base) t
+        → IsDone (slice_get (answers_of (cap_for (caller_at size x.tx 0)) t ops) x.replayed) × IsReadFault servers a
 
   -- the calls have run on the map now, by the attempt or by a whole replay
   pub record Finishes (old new : TablesView) (c : ℕ) (x : TxnView) (n : ℕ) : Type 0 where
@@ -125,27 +175,33 @@ module _ (Telling : Type 0) (size : ℕ) (told later : Told) where
     pub next : n ≡ old.kv.number + 1
     pub number : mid.number ≡ n
     pub ends : Ends old new mid c x
-    pub final : Telling → (ops : List (Op (List ℕ))) → IsSound size old.kv told x ops
-        → IsFinal size told old.kv mid x ops n
+    pub final : Tells (metadata_now old.kv) → (ops : List (Op (List ℕ))) → IsSound size old.kv told x ops
+        → IsFinal size later old.kv mid x ops n
 
   -- run on the map now, the calls first answer otherwise than was shown at call i, and there a
   pub record GivesUp (old new : TablesView) (c : ℕ) (x : TxnView) (i : ℕ) (a : Answer) : Type 0 where
     pub mid : Store Key Value
     pub number : mid.number ≡ old.kv.number
     pub ends : Ends old new mid c x
-    pub deviates : Telling → (ops : List (Op (List ℕ))) → IsSound size old.kv told x ops
+    pub deviates : Tells (metadata_now old.kv) → (ops : List (Op (List ℕ))) → IsSound size old.kv told x ops
         → DeviatesOn (metadata_now old.kv) size told x ops i a
+
+  -- the bytes of a call that was replayed were not read
+  pub record CommitFails (old new : TablesView) (c : ℕ) (x : TxnView) (a : Answer) : Type 0 where
+    pub fails : Fails old new c a
+    pub may : Tells (metadata_now old.kv) → (ops : List (Op (List ℕ))) → IsSound size old.kv told x ops
+        → (t : Tree) → Stands size told x.tx 0 (metadata_now old.kv) t → IsReadFault servers a
 
   abbrev pub Steps : TablesView → TablesView → ℕ → TxnView → Answer → Type 0
   Steps old new c x (answer.Replayed i) = Replays old new c x i
   Steps old new c x (Aborted' i box a) = Aborts old new c x i a
-  Steps old new c x a = ⊥
+  Steps old new c x a = StepFails old new c x a
 
   -- a commit never asks for another try
   abbrev pub Finals : TablesView → TablesView → ℕ → TxnView → Answer → Type 0
   Finals old new c x (answer.Committed n) = Finishes old new c x n
   Finals old new c x (Aborted' i box a) = GivesUp old new c x i a
-  Finals old new c x a = ⊥
+  Finals old new c x a = CommitFails old new c x a
 
   -- a line of a client without a transaction: it may begin one
   abbrev pub LoneTurn : TablesView → TablesView → ℕ → Verb → Answer → Type 0
@@ -159,7 +215,7 @@ module _ (Telling : Type 0) (size : ℕ) (told later : Told) where
   TxnTurn old new c x verb.Step a = MatchOption (step_refusal x) (Steps old new c x a) (λ w. Refuses old new c w a)
   TxnTurn old new c x verb.Commit a = Finals old new c x a
   TxnTurn old new c x verb.Abort a = Drops old new c x a
-  TxnTurn old new c x (verb.Call o) a = MatchOption (call_refusal x) (Calls old new c x o a) (λ w. Refuses old new c w a)
+  TxnTurn old new c x (verb.Call o) a = MatchOption (call_refusal x) (Calls old new c x o a ⊎ CallFails old new c x o a) (λ w. Refuses old new c w a)
 
   -- a line of a client
   abbrev pub ClientTurn : TablesView → TablesView → ℕ → Verb → Answer → Type 0
@@ -181,13 +237,19 @@ ServerTurn old new k down a =
 abbrev pub ShowsTree : ℕ → Store Key Value → Answer → Type 0
 ShowsTree size kv a = (told : Told) (tx k : ℕ) (t : Tree) → Stands size told tx k (metadata_now kv) t → a ≡ answer.Tree (rows_of t)
 
+abbrev pub IsTreeAnswer : Answer → Type 0
+IsTreeAnswer (answer.Tree rows) = ⊤
+IsTreeAnswer a = ⊥
+
 -- a line, where the stores tell `told.0` before it and `told.1` after it; one that is not built changes nothing
 abbrev pub BuiltTurn : Type 0 → Told × Told → CoreView → CoreView → Event → Answer → Type 0
 BuiltTurn Telling told old new (event.Client c v) a =
-    ClientTurn Telling old.settings.region told.0 told.1 old.tables new.tables c v a × (new ≡ record old { tables = new.tables })
+    ClientTurn Telling old.settings.servers old.settings.region told.0 told.1 old.tables new.tables c v a × (new ≡ record old { tables = new.tables })
 BuiltTurn Telling told old new (event.Down k) a = ServerTurn old new k true a
 BuiltTurn Telling told old new (event.Up k) a = ServerTurn old new k false a
-BuiltTurn Telling told old new event.Tree a = ShowsTree old.settings.region old.tables.kv a × (new ≡ old)
+BuiltTurn Telling told old new (event.Dump p) a =
+    Dumps old.settings.servers old.settings.region told.0 old.tables new.tables p a × (new ≡ record old { tables = new.tables })
+BuiltTurn Telling told old new event.Tree a = ShowsTree old.settings.region old.tables.kv a × (new ≡ old) × IsTreeAnswer a
 BuiltTurn Telling told old new e a = ⊥
 
 abbrev pub LineTurn : Type 0 → Told × Told → CoreView → CoreView → Event → Answer → Type 0

@@ -3,6 +3,8 @@
 //! whole, one by one (NSDI 2016, sections 2.6 and 2.7).
 #![tactic(auto)]
 
+mod dump;
+mod faults;
 mod ops;
 mod store;
 mod tables;
@@ -10,7 +12,5 @@ mod tree;
 
 pub use store::Core;
 
-#[cfg(test)]
-mod tests;
 #[cfg(test)]
 mod tree_tests;

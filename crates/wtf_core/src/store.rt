@@ -1,29 +1,40 @@
 //! The core.
 
-ghost use Rattle.std.specs.Prelude.{◌≡◌, ◌+◌, ◌<◌, ◌≤◌, ◌^◌, ℕ, [], true, false, IfOk, OnOk, OnErr, length};
+ghost use Rattle.std.specs.Prelude.{◌≡◌, ◌↔◌, ◌+◌, ◌<◌, ◌≤◌, ◌^◌, ℕ, Bool, List, [], true, false, IfOk, OnOk, OnErr, length};
 ghost use Rattle.wtf_dev.specs.Each.{EachFollows};
 ghost use Rattle.wtf_dev.specs.Sums.{TellsAll};
 ghost use Rattle.wtf_base.specs.Limits.{AreSettings};
+ghost use Rattle.wtf_overlay.specs.Origin.{Place};
 ghost use Rattle.wtf_replica.specs.Bytes.{byte_at};
+ghost use Rattle.wtf_replica.specs.Downs.{is_down};
+ghost use Rattle.wtf_replica.specs.Spans.{span};
 ghost use Rattle.wtf_model.specs.Form.{IsFormEvent, IsFormVerb, IsFormOp, IsData};
 ghost use Rattle.wtf_model.specs.declared.event.Event.TheVariants as event;
 ghost use Rattle.wtf_model.specs.declared.event.Verb.TheVariants as verb;
+ghost use Rattle.wtf_model.specs.declared.answer.Answer.TheVariants as answer;
 ghost use Rattle.wtf_model.specs.Machines.{Machine, start};
+ghost use Rattle.wtf_model.specs.Servers.{down_after_event};
 ghost use Rattle.wtf_model.specs.Tree.{root_alone};
 ghost use Rattle.wtf_meta.specs.Contents.{Told};
 ghost use Rattle.wtf_core.specs.Tables.{AreSound, IsAlike};
 ghost use Rattle.wtf_core.specs.Standing.{StandsFor};
-ghost use Rattle.wtf_core.specs.Turns.{LineTurn, IsLine, ServerTurn, ShowsTree};
+ghost use Rattle.wtf_core.specs.Turns.{LineTurn, IsLine, ServerTurn, ShowsTree, IsTreeAnswer};
 ghost use Rattle.wtf_core.specs.Answers.{IsEvent};
+ghost use Rattle.wtf_core.specs.Built.{is_built};
+ghost use Rattle.wtf_core.specs.Named.{CoreBytes, IsInside, IsFull};
+ghost use Rattle.wtf_core.specs.Outcomes.{AddsBytes, HasCause, data_of, data_of_op, data_of_verb};
+ghost use Rattle.wtf_core.specs.Asked.{asked_of, IsPlaced, HasFailed};
+ghost use Rattle.wtf_core.specs.Serves.{ServesLine};
 
 use crate::ops::copy_op;
 use crate::tables::Tables;
 use crate::tree::tree_now;
 use std::alloc::Global;
 use std::marker::Model;
-use wtf_base::{Bytes, Fault, OutOfMemory, Settings};
+use wtf_base::{Bytes, OutOfMemory, Settings};
 use wtf_dev::{Keeper, Shelf, SliceStore};
 use wtf_model::{Answer, Event, Op, Verb, Word};
+use wtf_path::Path;
 use wtf_region::{Dev, RegionCache};
 use wtf_replica::Replicas;
 use wtf_ring::Ring;
@@ -80,6 +91,8 @@ impl Core {
         ensures sound { IfOk result (λ core. AreSound core.tables) }
         ensures stands { IfOk result (λ core. (told : Told) →
             StandsFor told core (start settings 0 root_alone)) }
+        ensures inside { IfOk result (λ core. (P : List Place → Bool) → CoreBytes P core) }
+        ensures up { IfOk result (λ core. (k : ℕ) → is_down core.replicas k ≡ false) }
     {
         let tables = match Tables::new(alloc) {
             Ok(tables) => tables,
@@ -145,11 +158,31 @@ impl Core {
         requires form { IsFormEvent event.now }
         requires number { self.old.tables.kv.number < 2 ^ 63 }
         requires next_tx { self.old.tables.next_tx < 2 ^ 63 }
+        requires inside { IsInside S.kind shelf.old self.old }
         ensures answers { IfOk result (λ a. TellsAll S.kind shelf.old → (m : Machine) →
             StandsFor (byte_at S.kind shelf.old) self.old m →
             IsEvent (byte_at S.kind shelf.new) self.new m event.now a) }
         ensures turn { IfOk result (λ a. IsLine (TellsAll S.kind shelf.old)
             (byte_at S.kind shelf.old, byte_at S.kind shelf.new) self.old self.new event.now a) }
+        ensures exact { IfOk result
+            (λ a. (a ≡ answer.NotBuilt) ↔ (is_built event.now ≡ false)) }
+        ensures down { IfOk result (λ a. (k : ℕ) → is_down self.new.replicas k ≡
+            down_after_event (is_down self.old.replicas) event.now a k) }
+        ensures adds { IfOk result (AddsBytes S.kind
+            (span (is_down self.old.replicas) shelf.old shelf.new) self.old.settings
+            (data_of event.now)) }
+        ensures placed { IfOk result (IsPlaced S.kind
+            (span (is_down self.old.replicas) shelf.old shelf.new) self.old.settings
+            (asked_of S.kind (span (is_down self.old.replicas) shelf.old shelf.new)
+            self.old.settings self.old.tables event.now)) }
+        ensures caused { IfOk result (HasCause S.kind
+            (span (is_down self.old.replicas) shelf.old shelf.new) self.old.settings
+            (IsFull self.old) (data_of event.now)) }
+        ensures cause { IfOk result (HasFailed
+            (asked_of S.kind (span (is_down self.old.replicas) shelf.old shelf.new)
+            self.old.settings self.old.tables event.now).fails) }
+        ensures inside { OnOk result (IsInside S.kind shelf.new self.new) }
+        ensures full { OnOk result (IsFull self.old → IsFull self.new) }
         ensures sound { AreSound self.new.tables }
         ensures open { OnOk result (self.new.closed ≡ false) }
         ensures closed { OnErr result (self.new.closed ≡ true) }
@@ -180,11 +213,15 @@ impl Core {
         event: &Event,
     ) -> Result<Answer, OutOfMemory>
         requires shelf { self.old.settings.servers ≤ length shelf.old }
+        requires inside { IsInside S.kind shelf.old self.old }
         requires form { IsFormEvent event.now }
         requires number { self.old.tables.kv.number < 2 ^ 63 }
         requires next_tx { self.old.tables.next_tx < 2 ^ 63 }
         ensures turn { IfOk result (λ a. LineTurn (TellsAll S.kind shelf.old)
             (byte_at S.kind shelf.old, byte_at S.kind shelf.new) self.old self.new event.now a) }
+        ensures serves { IfOk result (ServesLine S.kind
+            (span (is_down self.old.replicas) shelf.old shelf.new) self.old.settings
+            self.old.tables self.new.tables event.now) }
         ensures err { OnErr result (IsAlike self.old.tables self.new.tables) }
         ensures settings { self.new.settings ≡ self.old.settings }
         ensures closed { self.new.closed ≡ self.old.closed }
@@ -194,6 +231,7 @@ impl Core {
             Event::Client(c, verb) => return self.client(shelf, *c, verb),
             Event::Down(k) => return Ok(self.server(*k, true)),
             Event::Up(k) => return Ok(self.server(*k, false)),
+            Event::Dump(p) => return self.dump(shelf, p),
             Event::Tree => match self.show() {
                 Ok(answer) => return Ok(answer),
                 Err(why) => return Err(why),
@@ -204,7 +242,8 @@ impl Core {
 
     /// Shows the tree now.
     fn show(&self) -> Result<Answer, OutOfMemory>
-        ensures { IfOk result (λ a. ShowsTree self.now.settings.region self.now.tables.kv a) }
+        ensures shows { IfOk result (λ a. ShowsTree self.now.settings.region self.now.tables.kv a) }
+        ensures tree { IfOk result IsTreeAnswer }
     {
         tree_now(self.alloc, self.tables.kv(), self.settings)
     }
@@ -217,12 +256,16 @@ impl Core {
         verb: &Verb,
     ) -> Result<Answer, OutOfMemory>
         requires shelf { self.old.settings.servers ≤ length shelf.old }
+        requires inside { IsInside S.kind shelf.old self.old }
         requires form { IsFormVerb verb.now }
         requires number { self.old.tables.kv.number < 2 ^ 63 }
         requires next_tx { self.old.tables.next_tx < 2 ^ 63 }
         ensures turn { IfOk result (λ a. LineTurn (TellsAll S.kind shelf.old)
             (byte_at S.kind shelf.old, byte_at S.kind shelf.new) self.old self.new
             (event.Client c verb.now) a) }
+        ensures serves { IfOk result (ServesLine S.kind
+            (span (is_down self.old.replicas) shelf.old shelf.new) self.old.settings
+            self.old.tables self.new.tables (event.Client c verb.now)) }
         ensures err { OnErr result (IsAlike self.old.tables self.new.tables) }
         ensures settings { self.new.settings ≡ self.old.settings }
         ensures closed { self.new.closed ≡ self.old.closed }
@@ -246,21 +289,22 @@ impl Core {
         op: &Op<Bytes>,
     ) -> Result<Answer, OutOfMemory>
         requires shelf { self.old.settings.servers ≤ length shelf.old }
+        requires inside { IsInside S.kind shelf.old self.old }
         requires form { IsFormOp IsData op.now }
         ensures turn { IfOk result (λ a. LineTurn (TellsAll S.kind shelf.old)
             (byte_at S.kind shelf.old, byte_at S.kind shelf.new) self.old self.new
             (event.Client c (verb.Call op.now)) a) }
+        ensures serves { IfOk result (ServesLine S.kind
+            (span (is_down self.old.replicas) shelf.old shelf.new) self.old.settings
+            self.old.tables self.new.tables (event.Client c (verb.Call op.now))) }
         ensures err { OnErr result (IsAlike self.old.tables self.new.tables) }
         ensures settings { self.new.settings ≡ self.old.settings }
         ensures closed { self.new.closed ≡ self.old.closed }
         ensures shelf { EachFollows S.kind shelf.old shelf.new [] }
     {
-        let copied = match copy_op(self.alloc, op) {
-            Ok(copied) => copied,
+        let made = match copy_op(self.alloc, op) {
+            Ok(made) => made,
             Err(why) => return Err(why),
-        };
-        let Some(made) = copied else {
-            return Ok(Answer::NotBuilt);
         };
         let mut dev = Dev {
             shelf,
@@ -271,16 +315,20 @@ impl Core {
         };
         match self.tables.call(&mut dev, c, made) {
             Ok(answer) => return Ok(answer),
-            Err(_) => return Err(OutOfMemory),
+            Err(why) => return Err(why),
         }
     }
 
     /// Replays the next call of a client.
     fn step<S: SliceStore>(&mut self, shelf: &mut Shelf<S>, c: u8) -> Result<Answer, OutOfMemory>
         requires shelf { self.old.settings.servers ≤ length shelf.old }
+        requires inside { IsInside S.kind shelf.old self.old }
         ensures turn { IfOk result (λ a. LineTurn (TellsAll S.kind shelf.old)
             (byte_at S.kind shelf.old, byte_at S.kind shelf.new) self.old self.new
             (event.Client c verb.Step) a) }
+        ensures serves { IfOk result (ServesLine S.kind
+            (span (is_down self.old.replicas) shelf.old shelf.new) self.old.settings
+            self.old.tables self.new.tables (event.Client c verb.Step)) }
         ensures err { OnErr result (IsAlike self.old.tables self.new.tables) }
         ensures settings { self.new.settings ≡ self.old.settings }
         ensures closed { self.new.closed ≡ self.old.closed }
@@ -295,17 +343,21 @@ impl Core {
         };
         match self.tables.step(&mut dev, c) {
             Ok(answer) => return Ok(answer),
-            Err(_) => return Err(OutOfMemory),
+            Err(why) => return Err(why),
         }
     }
 
     /// Commits the transaction of a client.
     fn commit<S: SliceStore>(&mut self, shelf: &mut Shelf<S>, c: u8) -> Result<Answer, OutOfMemory>
         requires shelf { self.old.settings.servers ≤ length shelf.old }
+        requires inside { IsInside S.kind shelf.old self.old }
         requires number { self.old.tables.kv.number < 2 ^ 63 }
         ensures turn { IfOk result (λ a. LineTurn (TellsAll S.kind shelf.old)
             (byte_at S.kind shelf.old, byte_at S.kind shelf.new) self.old self.new
             (event.Client c verb.Commit) a) }
+        ensures serves { IfOk result (ServesLine S.kind
+            (span (is_down self.old.replicas) shelf.old shelf.new) self.old.settings
+            self.old.tables self.new.tables (event.Client c verb.Commit)) }
         ensures err { OnErr result (IsAlike self.old.tables self.new.tables) }
         ensures settings { self.new.settings ≡ self.old.settings }
         ensures closed { self.new.closed ≡ self.old.closed }
@@ -320,7 +372,35 @@ impl Core {
         };
         match self.tables.commit(&mut dev, c) {
             Ok(answer) => return Ok(answer),
-            Err(_) => return Err(OutOfMemory),
+            Err(why) => return Err(why),
+        }
+    }
+
+    /// Shows all bytes of the file at a path as it stands now.
+    fn dump<S: SliceStore>(&mut self, shelf: &mut Shelf<S>, p: &Path) -> Result<Answer, OutOfMemory>
+        requires shelf { self.old.settings.servers ≤ length shelf.old }
+        requires inside { IsInside S.kind shelf.old self.old }
+        ensures turn { IfOk result (λ a. LineTurn (TellsAll S.kind shelf.old)
+            (byte_at S.kind shelf.old, byte_at S.kind shelf.new) self.old self.new
+            (event.Dump p.now) a) }
+        ensures serves { IfOk result (ServesLine S.kind
+            (span (is_down self.old.replicas) shelf.old shelf.new) self.old.settings
+            self.old.tables self.new.tables (event.Dump p.now)) }
+        ensures err { OnErr result (IsAlike self.old.tables self.new.tables) }
+        ensures settings { self.new.settings ≡ self.old.settings }
+        ensures closed { self.new.closed ≡ self.old.closed }
+        ensures shelf { EachFollows S.kind shelf.old shelf.new [] }
+    {
+        let mut dev = Dev {
+            shelf,
+            replicas: &self.replicas,
+            ring: &self.ring,
+            cache: &mut self.cache,
+            settings: self.settings,
+        };
+        match self.tables.dump(&mut dev, p) {
+            Ok(answer) => return Ok(answer),
+            Err(why) => return Err(why),
         }
     }
 

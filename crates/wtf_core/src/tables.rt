@@ -1,25 +1,31 @@
 //! The store of the metadata with the open transactions, and what a client's line makes of them.
 
-ghost use Rattle.std.specs.Prelude.{◌≡◌, ◌+◌, ◌<◌, ◌^◌, ℕ, List, [], true, false, None, Some, Ok, IsTrue, IfOk, OnOk, OnErr, IfErr, IfSome, MatchOption};
+ghost use Rattle.std.specs.Prelude.{◌≡◌, ◌+◌, ◌<◌, ◌^◌, ℕ, List, [], true, false, None, Some, Ok, IsTrue, IfOk, OnOk, OnErr, IfSome, MatchOption};
 ghost use Rattle.std.specs.Set.{remove_key};
 ghost use Rattle.std.specs.Prelude.{nat_eq};
 ghost use Rattle.wtf_dev.specs.Sums.{TellsAll};
+ghost use Rattle.wtf_ring.specs.Points.{IsRing};
 ghost use Rattle.wtf_replica.specs.Bytes.{byte_at};
 ghost use Rattle.wtf_kv.specs.Stores.{is_pinned, IsPinnedOnceMore};
 ghost use Rattle.wtf_model.specs.Form.{IsFormOp, IsData};
 ghost use Rattle.wtf_model.specs.declared.answer.Word.TheVariants.{InTx, NoTx};
+ghost use Rattle.wtf_model.specs.declared.event.Event.TheVariants as event;
 ghost use Rattle.wtf_model.specs.declared.event.Verb.TheVariants as verb;
-ghost use Rattle.wtf_region.specs.Devs.{IsSoundDev, GoesOn, stores};
-ghost use Rattle.wtf_replay.specs.Built.{is_built_op};
+ghost use Rattle.wtf_region.specs.Devs.{IsSoundDev, GoesOn, stores, between};
+ghost use Rattle.wtf_region.specs.Inside.{is_inside};
 ghost use Rattle.wtf_meta.specs.Trees.{IsFirst};
 ghost use Rattle.wtf_core.specs.Views.{of_client, metadata_now};
 ghost use Rattle.wtf_core.specs.Tables.{AreSound, Sets, IsAlike, IsTidied};
-ghost use Rattle.wtf_core.specs.Turns.{Refuses, Begins, TryTurn, Drops, ClientTurn};
+ghost use Rattle.wtf_core.specs.Turns.{Refuses, Begins, TryTurn, Drops, Dumps, ClientTurn};
+ghost use Rattle.wtf_core.specs.Named.{TablesBytes};
+ghost use Rattle.wtf_core.specs.Serves.{ServesLine};
 
+use crate::dump::dump_now;
+use crate::faults::answer_to;
 use indexmap::IndexMap;
 use std::alloc::Global;
 use std::marker::Model;
-use wtf_base::{Bytes, Fault, OutOfMemory, TxId};
+use wtf_base::{Bytes, OutOfMemory, TxId};
 use wtf_dev::SliceStore;
 use wtf_kv::Kv;
 use wtf_model::{Answer, Op, Word};
@@ -149,18 +155,21 @@ impl Tables {
         dev: &mut Dev<'_, S>,
         c: u8,
         op: Op<Bytes>,
-    ) -> Result<Answer, Fault>
+    ) -> Result<Answer, OutOfMemory>
         requires sound { AreSound self.old }
         requires dev { IsSoundDev dev.old }
-        requires built { is_built_op op ≡ true }
+        requires ring { IsRing dev.old.settings.servers dev.old.ring.now.points }
+        requires inside { TablesBytes (is_inside S.kind (stores dev.old) dev.old.settings)
+            self.old }
         requires form { IsFormOp IsData op }
         ensures turn { IfOk result (λ a. ClientTurn (TellsAll S.kind (stores dev.old))
-            dev.old.settings.region
+            dev.old.settings.servers dev.old.settings.region
             (byte_at S.kind (stores dev.old)) (byte_at S.kind (stores dev.new))
             self.old self.new c (verb.Call op) a) }
+        ensures serves { IfOk result (ServesLine S.kind (between dev.old dev.new)
+            dev.old.settings self.old self.new (event.Client c (verb.Call op))) }
         ensures err_sound { OnErr result (AreSound self.new) }
         ensures err { OnErr result (IsAlike self.old self.new) }
-        ensures fault { IfErr result (λ why. why ≡ Fault.Memory) }
         ensures dev { GoesOn S.kind dev.old dev.new [] }
     {
         let Some(txn) = self.clients.get_mut(&c) else {
@@ -168,7 +177,7 @@ impl Tables {
         };
         let answer = match txn.call(dev, &self.kv, op) {
             Ok(answer) => answer,
-            Err(why) => return Err(why),
+            Err(why) => return answer_to(why),
         };
         Ok(answer)
     }
@@ -201,16 +210,20 @@ impl Tables {
         &mut self,
         dev: &mut Dev<'_, S>,
         c: u8,
-    ) -> Result<Answer, Fault>
+    ) -> Result<Answer, OutOfMemory>
         requires sound { AreSound self.old }
         requires dev { IsSoundDev dev.old }
+        requires ring { IsRing dev.old.settings.servers dev.old.ring.now.points }
+        requires inside { TablesBytes (is_inside S.kind (stores dev.old) dev.old.settings)
+            self.old }
         ensures turn { IfOk result (λ a. ClientTurn (TellsAll S.kind (stores dev.old))
-            dev.old.settings.region
+            dev.old.settings.servers dev.old.settings.region
             (byte_at S.kind (stores dev.old)) (byte_at S.kind (stores dev.new))
             self.old self.new c verb.Step a) }
+        ensures serves { IfOk result (ServesLine S.kind (between dev.old dev.new)
+            dev.old.settings self.old self.new (event.Client c verb.Step)) }
         ensures err_sound { OnErr result (AreSound self.new) }
         ensures err { OnErr result (IsAlike self.old self.new) }
-        ensures fault { IfErr result (λ why. why ≡ Fault.Memory) }
         ensures dev { GoesOn S.kind dev.old dev.new [] }
     {
         let Some(txn) = self.clients.get_mut(&c) else {
@@ -218,7 +231,7 @@ impl Tables {
         };
         let answer = match txn.step(dev, &self.kv) {
             Ok(answer) => answer,
-            Err(why) => return Err(why),
+            Err(why) => return answer_to(why),
         };
         if !txn.ended() {
             return Ok(answer);
@@ -232,17 +245,21 @@ impl Tables {
         &mut self,
         dev: &mut Dev<'_, S>,
         c: u8,
-    ) -> Result<Answer, Fault>
+    ) -> Result<Answer, OutOfMemory>
         requires sound { AreSound self.old }
         requires dev { IsSoundDev dev.old }
+        requires ring { IsRing dev.old.settings.servers dev.old.ring.now.points }
+        requires inside { TablesBytes (is_inside S.kind (stores dev.old) dev.old.settings)
+            self.old }
         requires room { self.old.kv.number < 2 ^ 63 }
         ensures turn { IfOk result (λ a. ClientTurn (TellsAll S.kind (stores dev.old))
-            dev.old.settings.region
+            dev.old.settings.servers dev.old.settings.region
             (byte_at S.kind (stores dev.old)) (byte_at S.kind (stores dev.new))
             self.old self.new c verb.Commit a) }
+        ensures serves { IfOk result (ServesLine S.kind (between dev.old dev.new)
+            dev.old.settings self.old self.new (event.Client c verb.Commit)) }
         ensures err_sound { OnErr result (AreSound self.new) }
         ensures err { OnErr result (IsAlike self.old self.new) }
-        ensures fault { IfErr result (λ why. why ≡ Fault.Memory) }
         ensures dev { GoesOn S.kind dev.old dev.new [] }
     {
         let Some(txn) = self.clients.get_mut(&c) else {
@@ -250,10 +267,35 @@ impl Tables {
         };
         let answer = match txn.commit(dev, &mut self.kv) {
             Ok(answer) => answer,
-            Err(why) => return Err(why),
+            Err(why) => return answer_to(why),
         };
         self.end(c);
         Ok(answer)
+    }
+
+    /// Shows all bytes of the file at a path as it stands now.
+    pub(crate) fn dump<S: SliceStore>(
+        &mut self,
+        dev: &mut Dev<'_, S>,
+        p: &Path,
+    ) -> Result<Answer, OutOfMemory>
+        requires sound { AreSound self.old }
+        requires dev { IsSoundDev dev.old }
+        requires ring { IsRing dev.old.settings.servers dev.old.ring.now.points }
+        requires inside { TablesBytes (is_inside S.kind (stores dev.old) dev.old.settings)
+            self.old }
+        ensures turn { IfOk result (Dumps dev.old.settings.servers dev.old.settings.region
+            (byte_at S.kind (stores dev.old)) self.old self.new p.now) }
+        ensures serves { IfOk result (ServesLine S.kind (between dev.old dev.new)
+            dev.old.settings self.old self.new (event.Dump p.now)) }
+        ensures err_sound { OnErr result (AreSound self.new) }
+        ensures err { OnErr result (IsAlike self.old self.new) }
+        ensures dev { GoesOn S.kind dev.old dev.new [] }
+    {
+        match dump_now(self.alloc, dev, &mut self.kv, p) {
+            Ok(answer) => return Ok(answer),
+            Err(why) => return answer_to(why),
+        }
     }
 
     /// A client gives its transaction up.

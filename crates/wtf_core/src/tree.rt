@@ -10,6 +10,7 @@ ghost use Rattle.wtf_meta.specs.Files.{end_of, file_len as file_length};
 ghost use Rattle.wtf_meta.specs.FileEdits.{file_of};
 ghost use Rattle.wtf_meta.specs.Contents.{Told};
 ghost use Rattle.wtf_meta.specs.Trees.{Stands};
+ghost use Rattle.wtf_core.specs.Turns.{IsTreeAnswer};
 ghost use Rattle.wtf_core.specs.Rows.{map_now, shown_node, shown_at, with_row, IsShown};
 
 use std::alloc::Global;
@@ -29,6 +30,7 @@ pub(crate) fn tree_now(
     ensures rows { IfOk result (λ a. (told : Told) (tx k : ℕ) (t : Tree) →
         Stands settings.region told tx k (metadata_at kv.now kv.now.number) t →
         a ≡ answer.Tree (rows_of t)) }
+    ensures tree { IfOk result IsTreeAnswer }
 {
     let rows = rows_now(alloc, kv, settings)?;
     Ok(Answer::Tree(Rows::of(rows)))

@@ -15,8 +15,9 @@ invariant_of-self g c =
       settings_are = was.settings_are;
       replicas_are = was.replicas_are;
       ring_is = was.ring_is;
+      points_are = was.points_are;
       cache_is = subst (λ r. AreFrom r.now c.call.new.dev.cache.now) did.dev.ring did.dev.sound.cache;
-      tables_are = sound_after c.call.result (TellsAll kind c.args.shelf.now) c.self.inside.settings.region (byte_at kind c.args.shelf.now) (byte_at kind c.call.new.dev.shelf.now) c.self.inside.tables c.call.new.self c.args.c (verb.Call c.in-Some.made) was.tables_are did.turn did.err_sound;
+      tables_are = sound_after c.call.result (TellsAll kind c.args.shelf.now) c.self.inside.settings.servers c.self.inside.settings.region (byte_at kind c.args.shelf.now) (byte_at kind c.call.new.dev.shelf.now) c.self.inside.tables c.call.new.self c.args.c (verb.Call c.in-Ok.made) was.tables_are did.turn did.err_sound;
     }
 
 pub invariant_of-self-in-Err-call : goal.invariant_of-self-in-Err-call
@@ -28,6 +29,7 @@ invariant_of-self-in-Err-call g c =
       settings_are = was.settings_are;
       replicas_are = was.replicas_are;
       ring_is = was.ring_is;
+      points_are = was.points_are;
       cache_is = subst (λ r. AreFrom r.now c.call.new.dev.cache.now) did.dev.ring did.dev.sound.cache;
-      tables_are = sound_after c.call.result (TellsAll kind c.args.shelf.now) c.self.inside.settings.region (byte_at kind c.args.shelf.now) (byte_at kind c.call.new.dev.shelf.now) c.self.inside.tables c.call.new.self c.args.c (verb.Call c.in-Some.made) was.tables_are did.turn did.err_sound;
+      tables_are = sound_after c.call.result (TellsAll kind c.args.shelf.now) c.self.inside.settings.servers c.self.inside.settings.region (byte_at kind c.args.shelf.now) (byte_at kind c.call.new.dev.shelf.now) c.self.inside.tables c.call.new.self c.args.c (verb.Call c.in-Ok.made) was.tables_are did.turn did.err_sound;
     }

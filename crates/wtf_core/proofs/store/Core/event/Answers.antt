@@ -1,4 +1,12 @@
-use Rattle.std.proofs.Common.{◌≡◌, refl, sym, subst, arith}
+use Rattle.std.proofs.Common.{◌≡◌, ◌∙◌, refl, sym, ap, subst, arith}
+use Rattle.wtf_base.specs.declared.settings.Settings.{Settings}
+use Rattle.wtf_replica.specs.Downs.{is_down}
+use Rattle.wtf_replica.specs.Spans.{span}
+use Rattle.wtf_region.specs.Inside.{is_inside}
+use Rattle.wtf_core.specs.Named.{TablesBytes, has_copies}
+use Rattle.wtf_core.specs.Serves.{ServesLine}
+use Rattle.wtf_core.proofs.Answering.{line_exact, line_downs}
+use Rattle.wtf_core.proofs.Naming.{tidied_bytes}
 use Rattle.wtf_dev.specs.Sums.{TellsAll}
 use Rattle.wtf_replica.specs.Bytes.{byte_at}
 use Rattle.wtf_replica.proofs.Bytes.{byte_at-kept}
@@ -17,6 +25,7 @@ invariant_of-self g c =
       settings_are = was.settings_are;
       replicas_are = was.replicas_are;
       ring_is = was.ring_is;
+      points_are = was.points_are;
       cache_is = was.cache_is;
       tables_are = tidied_sound c.self-2.inside.tables c.tidy.new.self was.tables_are c.tidy.ensures;
     }
@@ -65,3 +74,48 @@ returns-in-Ok-clause-next_tx g c =
 
 pub returns-in-Ok-clause-sound : goal.returns-in-Ok-clause-sound
 returns-in-Ok-clause-sound g c = tidied_sound c.self-2.inside.tables c.tidy.new.self c.self-2.invariant.tables_are c.tidy.ensures
+
+pub returns-in-Ok-clause-down : goal.returns-in-Ok-clause-down
+returns-in-Ok-clause-down g c = λ k.
+    let kind = g.S.SliceStore.kind in
+    let at = c.self-2.inside in
+    let answered : CoreView = record { settings = at.settings; tables = at.tables; replicas = at.replicas; closed = at.closed } in
+    let turn = subst (λ (core : CoreView). LineTurn (TellsAll kind c.args.shelf.now) (byte_at kind c.args.shelf.now, byte_at kind c.answer.new.shelf) c.args.self.now core c.args.event.now c.in-Ok.answer) (sym c.self-2.view_is) c.in-Ok.ensures.turn in
+    line_downs (TellsAll kind c.args.shelf.now) (byte_at kind c.args.shelf.now, byte_at kind c.answer.new.shelf) c.args.self.now answered c.in-Ok.answer c.args.event.now turn k
+
+pub returns-in-Ok-clause-inside : goal.returns-in-Ok-clause-inside
+returns-in-Ok-clause-inside g c =
+    let kind = g.S.SliceStore.kind in
+    let at = c.self-2.inside in
+    let old = c.args.self.now in
+    let serves = subst (λ (core : CoreView). ServesLine kind (span (is_down old.replicas) c.args.shelf.now c.answer.new.shelf) old.settings old.tables core.tables c.args.event.now c.in-Ok.answer) (sym c.self-2.view_is) c.in-Ok.ensures.serves in
+    let same : at.settings ≡ old.settings = ap (λ (core : CoreView). core.settings) c.self-2.view_is ∙ c.answer.ensures.settings in
+    subst (λ (s : Settings). TablesBytes (is_inside kind c.answer.new.shelf s) c.tidy.new.self) (sym same)
+    (tidied_bytes (is_inside kind c.answer.new.shelf old.settings) at.tables c.tidy.new.self c.self-2.invariant.tables_are c.tidy.ensures serves.inside)
+
+pub returns-in-Ok-clause-full : goal.returns-in-Ok-clause-full
+returns-in-Ok-clause-full g c = λ h.
+    let kind = g.S.SliceStore.kind in
+    let at = c.self-2.inside in
+    let old = c.args.self.now in
+    let serves = subst (λ (core : CoreView). ServesLine kind (span (is_down old.replicas) c.args.shelf.now c.answer.new.shelf) old.settings old.tables core.tables c.args.event.now c.in-Ok.answer) (sym c.self-2.view_is) c.in-Ok.ensures.serves in
+    let same : at.settings ≡ old.settings = ap (λ (core : CoreView). core.settings) c.self-2.view_is ∙ c.answer.ensures.settings in
+    subst (λ (s : Settings). TablesBytes (has_copies s.replicas) c.tidy.new.self) (sym same)
+    (tidied_bytes (has_copies old.settings.replicas) at.tables c.tidy.new.self c.self-2.invariant.tables_are c.tidy.ensures (serves.full h))
+
+pub returns-in-Ok-clause-exact : goal.returns-in-Ok-clause-exact
+returns-in-Ok-clause-exact g c =
+    let kind = g.S.SliceStore.kind in
+    line_exact (TellsAll kind c.args.shelf.now) (byte_at kind c.args.shelf.now, byte_at kind c.answer.new.shelf) c.args.self.now c.answer.new.self c.in-Ok.answer c.args.event.now c.in-Ok.ensures.turn
+
+pub returns-in-Ok-clause-adds : goal.returns-in-Ok-clause-adds
+returns-in-Ok-clause-adds g c = c.in-Ok.ensures.serves.adds
+
+pub returns-in-Ok-clause-caused : goal.returns-in-Ok-clause-caused
+returns-in-Ok-clause-caused g c = c.in-Ok.ensures.serves.caused
+
+pub returns-in-Ok-clause-placed : goal.returns-in-Ok-clause-placed
+returns-in-Ok-clause-placed g c = c.in-Ok.ensures.serves.placed
+
+pub returns-in-Ok-clause-cause : goal.returns-in-Ok-clause-cause
+returns-in-Ok-clause-cause g c = c.in-Ok.ensures.serves.failed

@@ -1,0 +1,155 @@
+-- What holds of the places of each byte that the tables name goes on holding.
+use Rattle.std.proofs.Common.{◌≡◌, ℕ, Bool, true, List, [], Option, None, Some, refl, sym, ap, ◌∙◌, subst, ⊎_elim, arith}
+use Rattle.std.specs.Prelude.{MatchOption}
+use Rattle.wtf_overlay.specs.Origin.{Place}
+use Rattle.wtf_kv.specs.Stores.{Store}
+use Rattle.wtf_values.specs.declared.key.Key.{Key}
+use Rattle.wtf_values.specs.declared.value.Value.{Value}
+use Rattle.wtf_model.specs.declared.answer.Answer.{Answer}
+use Rattle.wtf_model.specs.declared.answer.Answer.TheVariants as answer
+use Rattle.wtf_model.specs.declared.answer.Word.{Word}
+use Rattle.wtf_model.specs.declared.answer.Word.TheVariants.{InTx, NoTx}
+use Rattle.wtf_model.specs.declared.event.Verb.{Verb}
+use Rattle.wtf_model.specs.declared.event.Verb.TheVariants as verb
+use Rattle.wtf_meta.specs.Bytes.{MapBytes}
+use Rattle.wtf_meta.specs.Contents.{Told}
+use Rattle.wtf_meta.specs.Maps.{metadata_at}
+use Rattle.wtf_meta.proofs.MapBytes.{with_bytes}
+use Rattle.wtf_meta.proofs.Nothing.{nothing_kept}
+use Rattle.std.proofs.lemmas.List.Elements.{All-nil}
+use Rattle.wtf_replay.specs.Views.{TxnView, begun, rebased}
+use Rattle.wtf_replay.specs.Insides.{TxnBytes}
+use Rattle.wtf_replay.specs.Refusals.{try_refusal}
+use Rattle.wtf_replay.specs.Tried.{KeepsMaps}
+use Rattle.wtf_core.specs.Views.{TablesView, of_client, metadata_now}
+use Rattle.wtf_core.specs.Tables.{AreSound, Sets, IsTidied}
+use Rattle.wtf_core.specs.Named.{TablesBytes}
+use Rattle.wtf_core.specs.Serves.{NamesTables}
+use Rattle.wtf_core.specs.Turns.{Keeps, Refuses, Begins, Ends, Commits, Retries, Tries, Stays, LoneTurn, TxnTurn, ClientTurn}
+use Rattle.wtf_core.proofs.Pins.{number_cases}
+use Rattle.wtf_core.proofs.Staying.{keeps_stays}
+use Rattle.wtf_core.proofs.Tidying.{base_same, now_same}
+
+module _ (P : List Place → Bool) where
+  -- a transaction over a store that shows the same at its base
+  pub txn_along : (kv after : Store Key Value) (x : TxnView) → metadata_at after x.at.base ≡ metadata_at kv x.at.base → TxnBytes P kv x → TxnBytes P after x
+  txn_along kv after x same h = record {
+    hand = record { base = subst (MapBytes P) (sym same) h.hand.base; changes = h.hand.changes; slices = h.hand.slices };
+    log = h.log;
+  }
+
+  -- of all transactions one alone is now this one, or none
+  pub bytes_set : (old new : TablesView) (c : ℕ) (now : Option TxnView) → AreSound old → Sets c now old.clients new.clients → KeepsMaps old.kv new.kv → TablesBytes P old → MapBytes P (metadata_now new.kv)
+      → ((x : TxnView) → now ≡ Some x → TxnBytes P new.kv x) → TablesBytes P new
+  bytes_set old new c now sound sets maps h map own = record {
+    now = map;
+    each = λ d x is. ⊎_elim
+        (λ same. own x (sym sets.is ∙ ap (of_client new.clients) (sym same) ∙ is))
+        (λ other. let was : of_client old.clients d ≡ Some x = sym (sets.others d other) ∙ is in txn_along old.kv new.kv x (maps x.at.base (sound.each d x was).based) (h.each d x was))
+        (number_cases d c);
+  }
+
+  -- the map now, where the number stays
+  now_along : (old new : Store Key Value) → new.number ≡ old.number → KeepsMaps old new → MapBytes P (metadata_now old) → MapBytes P (metadata_now new)
+  now_along old new number maps h = subst (MapBytes P) (sym (ap (metadata_at new) number ∙ maps old.number (omega arith))) h
+
+  pub stays_bytes : (old new : TablesView) (c : ℕ) → AreSound old → Stays old new c → TablesBytes P old → TablesBytes P new
+  stays_bytes old new c sound st h =
+      bytes_set old new c (of_client old.clients c) sound st.clients st.maps h (now_along old.kv new.kv st.number st.maps h.now)
+      (λ x is. txn_along old.kv new.kv x (st.maps x.at.base (sound.each c x is).based) (h.each c x is))
+
+  -- a transaction goes on at its base
+  pub keeps_bytes : (old new : TablesView) (c : ℕ) (y : TxnView) → AreSound old → Keeps old new c (Some y) → TxnBytes P old.kv y → TablesBytes P old → TablesBytes P new
+  keeps_bytes old new c y sound keeps own h =
+      let maps : KeepsMaps old.kv new.kv = λ n le. ap (λ (s : Store Key Value). metadata_at s n) keeps.kv in
+      bytes_set old new c (Some y) sound keeps.clients maps h (subst (λ (s : Store Key Value). MapBytes P (metadata_now s)) (sym keeps.kv) h.now)
+      (λ x is. subst (λ (s : Store Key Value). TxnBytes P s x) (sym keeps.kv) (subst (TxnBytes P old.kv) (let e : y ≡ x = cc in e) own))
+
+  -- it has ended
+  pub ends_bytes : (old new : TablesView) (mid : Store Key Value) (c : ℕ) (x : TxnView) → AreSound old → Ends old new mid c x → MapBytes P (metadata_now mid) → TablesBytes P old → TablesBytes P new
+  ends_bytes old new mid c x sound ends map h =
+      let at : (n : ℕ) → metadata_at new.kv n ≡ metadata_at mid n = λ n. ap (λ (s : Store Key Value). metadata_at s n) ends.kv in
+      bytes_set old new c None sound ends.clients (λ n le. at n ∙ ends.maps n le) h
+      (subst (MapBytes P) (sym (ap (λ (s : Store Key Value). metadata_now s) ends.kv)) map)
+      (λ y is. absurd (cc))
+
+  -- it ended, and the map now is as it was
+  pub leaves_bytes : (old new : TablesView) (mid : Store Key Value) (c : ℕ) (x : TxnView) → AreSound old → Ends old new mid c x → mid.number ≡ old.kv.number → TablesBytes P old → TablesBytes P new
+  leaves_bytes old new mid c x sound ends same h = ends_bytes old new mid c x sound ends (now_along old.kv mid same ends.maps h.now) h
+
+  module _ (hole : P [] ≡ true) where
+    begins_bytes : (old new : TablesView) (c : ℕ) (a : Answer) → AreSound old → Begins old new c a → TablesBytes P old → TablesBytes P new
+    begins_bytes old new c a sound begins h =
+        let at : (n : ℕ) → metadata_at new.kv n ≡ metadata_at old.kv n = λ n. ap (λ (s : Store Key Value). metadata_at s n) begins.kv in
+        let x : TxnView = begun old.next_tx old.kv.number in
+        let own : TxnBytes P new.kv x = record {
+          hand = record { base = subst (MapBytes P) (sym (at old.kv.number)) h.now; changes = tt; slices = nothing_kept P };
+          log = All-nil _;
+        } in
+        bytes_set old new c (Some x) sound begins.clients (λ n le. at n) h
+        (subst (MapBytes P) (sym (ap (λ (s : Store Key Value). metadata_now s) begins.kv)) h.now)
+        (λ y is. subst (TxnBytes P new.kv) (let e : x ≡ y = cc in e) own)
+
+    commits_bytes : (old new : TablesView) (c : ℕ) (x : TxnView) (n : ℕ) → AreSound old → of_client old.clients c ≡ Some x → Commits old new c x n → TablesBytes P old → TablesBytes P new
+    commits_bytes old new c x n sound here turn h =
+        let is = turn.committed.installed in
+        let map : metadata_now turn.mid ≡ _ = ap (metadata_at turn.mid) is.number ∙ is.map in
+        ends_bytes old new turn.mid c x sound turn.ends (subst (MapBytes P) (sym map) (with_bytes P hole x.at.changes (metadata_now old.kv) h.now (h.each c x here).hand.changes)) h
+
+    retries_bytes : (old new : TablesView) (c : ℕ) (x : TxnView) (b n : ℕ) → AreSound old → of_client old.clients c ≡ Some x → Retries old new c x b n → TablesBytes P old → TablesBytes P new
+    retries_bytes old new c x b n sound here turn h =
+        let is = turn.retried.is in
+        let now : MapBytes P (metadata_now new.kv) = now_along old.kv new.kv turn.retried.number turn.maps h.now in
+        let base : metadata_at new.kv n ≡ metadata_now new.kv = ap (metadata_at new.kv) (turn.retried.number_is ∙ sym turn.retried.number) in
+        let own : TxnBytes P new.kv (rebased x n) = record {
+          hand = record { base = subst (MapBytes P) (sym base) now; changes = tt; slices = nothing_kept P };
+          log = (h.each c x here).log;
+        } in
+        bytes_set old new c (Some turn.later) sound turn.clients turn.maps h now
+        (λ y same. subst (TxnBytes P new.kv) (sym is ∙ (let e : turn.later ≡ y = cc in e)) own)
+
+    tries_bytes : (old new : TablesView) (c : ℕ) (x : TxnView) (a : Answer) → AreSound old → of_client old.clients c ≡ Some x → Tries old new c x a → TablesBytes P old → TablesBytes P new
+    tries_bytes old new c x (answer.Committed n) sound here turn h = commits_bytes old new c x n sound here turn h
+    tries_bytes old new c x (answer.Retry b n) sound here turn h = retries_bytes old new c x b n sound here turn h
+    tries_bytes old new c x a sound here turn h = absurd turn
+
+    refuses_bytes : (old new : TablesView) (c : ℕ) (w : Word) (a : Answer) → AreSound old → Refuses old new c w a → TablesBytes P old → TablesBytes P new
+    refuses_bytes old new c w a sound turn h = stays_bytes old new c sound (keeps_stays old new c turn.keeps) h
+
+    try_bytes : (r : Option Word) (old new : TablesView) (c : ℕ) (x : TxnView) (a : Answer) → AreSound old → of_client old.clients c ≡ Some x → MatchOption r (Tries old new c x a) (λ w. Refuses old new c w a) → TablesBytes P old → TablesBytes P new
+    try_bytes None old new c x a sound here turn h = tries_bytes old new c x a sound here turn h
+    try_bytes (Some w) old new c x a sound here turn h = refuses_bytes old new c w a sound turn h
+
+-- lines that need no store: of a client that begins, attempts or aborts
+abbrev pub IsLocal : Verb → Type 0
+IsLocal verb.Begin = Unit {0}
+IsLocal verb.Try = Unit {0}
+IsLocal verb.Abort = Unit {0}
+IsLocal v = ⊥
+
+pub local_names : (Telling : Type 0) (servers size : ℕ) (told later : Told) (old new : TablesView) (c : ℕ) (v : Verb) (a : Answer) → IsLocal v → AreSound old → ClientTurn Telling servers size told later old new c v a → NamesTables old new
+local_names Telling servers size told later old new c v a local sound turn P hole h = by (of_client old.clients c) v local refl turn
+  where
+    by : (o : Option TxnView) (u : Verb) → IsLocal u → of_client old.clients c ≡ o
+        → MatchOption o (LoneTurn Telling servers size told later old new c u a) (λ x. TxnTurn Telling servers size told later old new c x u a) → TablesBytes P new
+    by None verb.Begin l here t = begins_bytes P hole old new c a sound t h
+    by None verb.Try l here t = refuses_bytes P hole old new c NoTx a sound t h
+    by None verb.Abort l here t = refuses_bytes P hole old new c NoTx a sound t h
+    by None verb.Step l here t = absurd l
+    by None verb.Commit l here t = absurd l
+    by None (verb.Call o) l here t = absurd l
+    by (Some x) verb.Begin l here t = refuses_bytes P hole old new c InTx a sound t h
+    by (Some x) verb.Try l here t = try_bytes P hole (try_refusal x) old new c x a sound here t h
+    by (Some x) verb.Abort l here t = leaves_bytes P old new old.kv c x sound t.1 refl h
+    by (Some x) verb.Step l here t = absurd l
+    by (Some x) verb.Commit l here t = absurd l
+    by (Some x) (verb.Call o) l here t = absurd l
+
+-- dropping versions that no one sees leaves the bytes that are named
+pub tidied_bytes : (P : List Place → Bool) (old new : TablesView) → AreSound old → IsTidied old new → TablesBytes P old → TablesBytes P new
+tidied_bytes P old new sound tidy h = record {
+  now = subst (MapBytes P) (sym (now_same old new sound tidy)) h.now;
+  each = λ c x is.
+      let was : of_client old.clients c ≡ Some x = ap (λ l. of_client l c) (sym tidy.clients) ∙ is in
+      txn_along P old.kv new.kv x (base_same old new sound tidy c x was) (h.each c x was);
+}

@@ -1,0 +1,33 @@
+use Rattle.std.proofs.Common.{subst}
+use Rattle.wtf_region.specs.Cached.{AreFrom}
+use Rattle.wtf_replica.specs.Bytes.{byte_at}
+use Rattle.wtf_core.proofs.Whole.{sound_dumped}
+use Rattle.wtf_core.proofs.store.Core.dump.Goals as goal
+
+pub invariant_of-self : goal.invariant_of-self
+invariant_of-self g c =
+    let kind = g.S.SliceStore.kind in
+    let was = c.self.invariant in
+    let did = c.dump.ensures in
+    record {
+      settings_are = was.settings_are;
+      replicas_are = was.replicas_are;
+      ring_is = was.ring_is;
+      points_are = was.points_are;
+      cache_is = subst (λ r. AreFrom r.now c.dump.new.dev.cache.now) did.dev.ring did.dev.sound.cache;
+      tables_are = sound_dumped c.dump.result c.self.inside.settings.servers c.self.inside.settings.region (byte_at kind c.args.shelf.now) c.self.inside.tables c.dump.new.self c.args.p.now was.tables_are did.turn did.err_sound;
+    }
+
+pub invariant_of-self-in-Err : goal.invariant_of-self-in-Err
+invariant_of-self-in-Err g c =
+    let kind = g.S.SliceStore.kind in
+    let was = c.self.invariant in
+    let did = c.dump.ensures in
+    record {
+      settings_are = was.settings_are;
+      replicas_are = was.replicas_are;
+      ring_is = was.ring_is;
+      points_are = was.points_are;
+      cache_is = subst (λ r. AreFrom r.now c.dump.new.dev.cache.now) did.dev.ring did.dev.sound.cache;
+      tables_are = sound_dumped c.dump.result c.self.inside.settings.servers c.self.inside.settings.region (byte_at kind c.args.shelf.now) c.self.inside.tables c.dump.new.self c.args.p.now was.tables_are did.turn did.err_sound;
+    }

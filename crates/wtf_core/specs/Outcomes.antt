@@ -1,0 +1,77 @@
+-- What a line adds to the stores, and why one is answered by a fault.
+use Rattle.std.specs.Prelude.{◌≡◌, ◌<◌, ◌≤◌, ◌+◌, ℕ, List, [], ◌∷◌, length, ⊤}
+use Rattle.std.specs.List.{All}
+use Rattle.wtf_base.specs.declared.settings.Settings.{Settings}
+use Rattle.wtf_base.specs.declared.slice.Slice.{Slice}
+use Rattle.wtf_dev.specs.Store.{StoreKind}
+use Rattle.wtf_overlay.specs.Origin.{Place}
+use Rattle.wtf_ring.specs.Points.{PlaceView}
+use Rattle.wtf_replica.specs.Spans.{Span}
+use Rattle.wtf_replica.specs.Outs.{IsOut, SameLengths}
+use Rattle.wtf_replica.specs.Copies.{IsStored}
+use Rattle.wtf_replica.specs.Faults.{AreTooFew}
+use Rattle.wtf_model.specs.declared.op.Op.{Op}
+use Rattle.wtf_model.specs.declared.op.Op.TheVariants as op
+use Rattle.wtf_model.specs.declared.event.Verb.{Verb}
+use Rattle.wtf_model.specs.declared.event.Verb.TheVariants as verb
+use Rattle.wtf_model.specs.declared.event.Event.{Event}
+use Rattle.wtf_model.specs.declared.event.Event.TheVariants as event
+use Rattle.wtf_model.specs.declared.answer.Answer.{Answer}
+use Rattle.wtf_model.specs.declared.answer.Answer.TheVariants as answer
+
+-- the bytes that an event hands in to be written
+abbrev pub data_of_op : Op (List ℕ) → List ℕ
+data_of_op (op.Write f bytes) = bytes
+data_of_op (op.Append f bytes) = bytes
+data_of_op other = []
+
+abbrev pub data_of_verb : Verb → List ℕ
+data_of_verb (verb.Call o) = data_of_op o
+data_of_verb other = []
+
+abbrev pub data_of : Event → List ℕ
+data_of (event.Client c v) = data_of_verb v
+data_of other = []
+
+-- What a line adds: the bytes of a write or an append that answers `ok`, once on each server that is to have a copy, and what
+-- a store that failed in it may have taken; one that fails may leave some; no other line adds a byte.
+abbrev pub AddsBytes : {S : Type 0} → StoreKind S → Span S → Settings → List ℕ → Answer → Type 0
+AddsBytes kind t settings (b ∷ bs) answer.Okay =
+    (place : PlaceView) × (slice : Slice) × IsStored kind t settings.replicas place (b ∷ bs) slice
+AddsBytes kind t settings given answer.FaultWrite = ⊤
+AddsBytes kind t settings given a = SameLengths kind t.before t.after
+
+-- the places go up by server, from server `from` on
+abbrev pub AscendFrom : ℕ → List Place → Type 0
+AscendFrom from [] = ⊤
+AscendFrom from (p ∷ ps) = (from ≤ p.server) × AscendFrom (p.server + 1) ps
+
+-- the server of the last of these places
+abbrev pub last_of : List Place → ℕ → ℕ
+last_of [] k = k
+last_of (p ∷ ps) k = last_of ps p.server
+
+-- A byte with these places was not read: there is a copy of it, the servers of all its copies are out, and k is that of the
+-- last one.
+pub record IsLost {S : Type 0} (kind : StoreKind S) (t : Span S) (settings : Settings) (places : List Place) (k : ℕ) : Type 0 where
+  pub some : 0 < length places
+  pub ascend : AscendFrom 0 places
+  pub known : All (λ p. p.server < settings.servers) places
+  pub out : All (λ p. IsOut kind t p.server) places
+  pub last : last_of places 0 ≡ k
+
+-- Some byte that a line needs was not read. Where each slice is `full` it has as many copies as there are replicas.
+pub record IsUnread {S : Type 0} (kind : StoreKind S) (t : Span S) (settings : Settings) (full : Type 0) (k : ℕ) : Type 0 where
+  pub places : List Place
+  pub lost : IsLost kind t settings places k
+  pub width : full → length places ≡ settings.replicas
+
+-- Why a line is answered by a fault: `fault read K` where a byte that it needs was not read, and `fault write` where fewer
+-- servers than replicas are not out and there are bytes to store. No line answers another fault.
+abbrev pub HasCause : {S : Type 0} → StoreKind S → Span S → Settings → Type 0 → List ℕ → Answer → Type 0
+HasCause kind t settings full given (answer.FaultRead k) = IsUnread kind t settings full k
+HasCause kind t settings full given answer.FaultWrite = (0 < length given) × AreTooFew kind t settings.servers settings.replicas
+HasCause kind t settings full given (answer.FaultPunch k) = ⊥
+HasCause kind t settings full given answer.FaultSave = ⊥
+HasCause kind t settings full given (answer.Damaged k) = ⊥
+HasCause kind t settings full given a = ⊤
