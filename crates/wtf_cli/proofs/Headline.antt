@@ -1,5 +1,5 @@
 -- The headline of a run over devices that tell what they hold.
-use Rattle.std.proofs.Common.{◌≡◌, ◌≢◌, ℕ, Bool, true, false, List, [], Some, refl, sym, ◌∙◌, arith}
+use Rattle.std.proofs.Common.{◌≡◌, ℕ, Bool, true, false, List, [], Some, refl, sym, ◌∙◌, arith}
 use Rattle.wtf_dev.specs.Store.{StoreKind}
 use Rattle.wtf_dev.specs.Sums.{TellsAll}
 use Rattle.wtf_cli.specs.Scripts.{IsEndStatus}

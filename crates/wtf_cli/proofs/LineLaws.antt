@@ -1,44 +1,28 @@
--- The clauses on a line, as its event is a step.
-use Rattle.std.proofs.Common.{◌+◌, ◌≤◌, ℕ, List, Option, Some, None, Ok, Err, refl, arith}
+-- What answering a line promises, for one that asks nothing, and for an event by what the core promises.
+use Rattle.std.proofs.Common.{◌≡◌, ◌↔◌, ◌≤◌, ◌+◌, ℕ, false, List, Ok, Err, refl, ap, arith}
 use Rattle.std.proofs.Math.Path.{fun_ext}
+use Rattle.wtf_base.specs.declared.settings.Settings.{Settings}
+use Rattle.wtf_dev.specs.Store.{StoreKind}
+use Rattle.wtf_dev.specs.Sums.{TellsAll}
+use Rattle.wtf_replica.specs.Bytes.{byte_at}
+use Rattle.wtf_replica.specs.Downs.{is_down}
 use Rattle.wtf_model.specs.declared.answer.Answer.{Answer}
 use Rattle.wtf_model.specs.declared.answer.Answer.TheVariants as answer
 use Rattle.wtf_model.specs.declared.event.Event.{Event}
-use Rattle.wtf_cli.specs.declared.state.Running.{Running}
-use Rattle.wtf_cli.specs.declared.state.State.{State}
-use Rattle.wtf_dev.specs.Store.{StoreKind}
-use Rattle.wtf_cli.specs.StandsFor.{IsSoundState}
-use Rattle.wtf_cli.specs.Inodes.{AreNumbered}
-use Rattle.wtf_cli.specs.Events.{IsStep}
+use Rattle.wtf_model.specs.Machines.{Machine}
+use Rattle.wtf_model.specs.Servers.{down_after_event}
+use Rattle.wtf_core.specs.Views.{CoreView}
+use Rattle.wtf_core.specs.Built.{is_built}
+use Rattle.wtf_core.specs.Standing.{StandsFor}
+use Rattle.wtf_core.specs.Answers.{IsEvent}
+use Rattle.wtf_cli.specs.Answering.{IsBad}
+use Rattle.wtf_core.specs.Named.{IsFull}
 use Rattle.wtf_cli.specs.Engines.{Step, step, GoesOn, Obeys, Stores, IsCaused}
-use Rattle.wtf_cli.specs.LineSteps.{IsBad, engine}
+use Rattle.wtf_cli.specs.Cores.{IsSoundCore, engine}
 
--- the number of the next transaction grows by one at most
-next_number : (n n' : ℕ) (r r' : Option Running) → AreNumbered n r n' r' → n' ≤ n + 1
-next_number n n' None None h = omega (arith, h)
-next_number n n' None (Some r') h = omega (arith, h.1)
-next_number n n' (Some r) None h = omega (arith, h)
-next_number n n' (Some r) (Some r') h = omega (arith, h.1)
-
-module _ {S : Type 0} (kind : StoreKind S) (t : Step S State) (e : Event) (a : Answer) (is : IsStep kind t.before t.after t.old t.new e a) where
-  pub event_goes_on : GoesOn (engine kind) t (Ok e) a
-  event_goes_on = record {
-    sound = is.sound;
-    settings = is.settings;
-    down = fun_ext is.down;
-    number = is.number;
-    next_tx = next_number t.old.next_tx t.new.next_tx t.old.running t.new.running is.numbered;
-    full = λ f. f;
-    bad = tt;
-  }
-
-  pub event_obeys : Obeys (engine kind) t (Ok e) a
-  event_obeys = λ tells m stands. record { stands = is.stands m stands; may = is.may m stands tells; exact = is.later m stands }
-
--- a line that asks nothing leaves the state
-module _ {S : Type 0} (kind : StoreKind S) (shelf : List S) (state : State) (bad : Answer) where
-  pub bad_goes_on : IsSoundState kind shelf state
-      → GoesOn (engine kind) (step shelf shelf state state) (Err bad) bad
+-- a line that asks nothing leaves the core
+module _ {S : Type 0} (kind : StoreKind S) (shelf : List S) (core : CoreView) (bad : Answer) where
+  pub bad_goes_on : IsSoundCore kind shelf core → GoesOn (engine kind) (step shelf shelf core core) (Err bad) bad
   bad_goes_on sound = record {
     sound = sound;
     settings = refl;
@@ -46,19 +30,41 @@ module _ {S : Type 0} (kind : StoreKind S) (shelf : List S) (state : State) (bad
     number = omega arith;
     next_tx = omega arith;
     full = λ f. f;
-    bad = refl;
+    exact = refl;
   }
 
-  pub bad_obeys : Obeys (engine kind) (step shelf shelf state state) (Err bad) bad
-  bad_obeys = λ tells m stands. record { stands = stands; may = refl; exact = refl }
+  pub bad_obeys : Obeys (engine kind) (step shelf shelf core core) (Err bad) bad
+  bad_obeys = λ tells m stands. record { stands = stands; may = refl }
 
--- the answer of a line that asks nothing is no fault
-pub bad_caused : {S : Type 0} (kind : StoreKind S) (t : Step S State) (bad : Answer) → IsBad bad → IsCaused (engine kind) t (Err bad) bad
-bad_caused kind t answer.NotBuilt is = tt
+-- its answer is no fault, and it adds nothing
+pub bad_caused : {S : Type 0} (kind : StoreKind S) (t : Step S CoreView) (bad : Answer) → IsBad bad → IsCaused (engine kind) t (Err bad) bad
 bad_caused kind t (answer.Bad k) is = tt
 bad_caused kind t a is = absurd is
 
-pub bad_stored : {S : Type 0} (kind : StoreKind S) (shelf : List S) (state : State) (bad : Answer) → IsBad bad → Stores (engine kind) (step shelf shelf state state) (Err bad) bad
-bad_stored kind shelf state answer.NotBuilt is = λ k d h f. refl
-bad_stored kind shelf state (answer.Bad w) is = λ k d h f. refl
-bad_stored kind shelf state a is = absurd is
+pub bad_stored : {S : Type 0} (kind : StoreKind S) (shelf : List S) (core : CoreView) (bad : Answer) → IsBad bad → Stores (engine kind) (step shelf shelf core core) (Err bad) bad
+bad_stored kind shelf core (answer.Bad w) is = λ k d h f. refl
+bad_stored kind shelf core a is = absurd is
+
+-- an event's answer, with the core sound behind it
+pub event_goes_on : {S : Type 0} (kind : StoreKind S) (t : Step S CoreView) (e : Event) (a : Answer) → IsSoundCore kind t.after t.new → t.new.settings ≡ t.old.settings
+    → ((k : ℕ) → is_down t.new.replicas k ≡ down_after_event (is_down t.old.replicas) e a k) → t.new.tables.kv.number ≤ t.old.tables.kv.number + 1
+    → t.new.tables.next_tx ≤ t.old.tables.next_tx + 1 → (IsFull t.old → IsFull t.new) → (a ≡ answer.NotBuilt) ↔ (is_built e ≡ false)
+    → GoesOn (engine kind) t (Ok e) a
+event_goes_on kind t e a sound settings down number next_tx full exact = record {
+  sound = sound;
+  settings = settings;
+  down = fun_ext down;
+  number = number;
+  next_tx = next_tx;
+  full = full;
+  exact = exact;
+}
+
+pub event_obeys : {S : Type 0} (kind : StoreKind S) (t : Step S CoreView) (e : Event) (a : Answer)
+    → (TellsAll kind t.before → (m : Machine) → StandsFor (byte_at kind t.before) t.old m → IsEvent (byte_at kind t.after) t.new m e a)
+    → Obeys (engine kind) t (Ok e) a
+event_obeys kind t e a is = λ tells m stands. let both = is tells m stands in record { stands = both.stands; may = both.may }
+
+-- as many servers as the stores had before are there behind it
+pub servers_stay : (old new : Settings) (n m : ℕ) → new ≡ old → old.servers ≤ n → m ≡ n → new.servers ≤ m
+servers_stay old new n m same enough length_is = omega (arith, ap (λ (s : Settings). s.servers) same, enough, length_is)

@@ -6,25 +6,25 @@ use Rattle.wtf_base.specs.declared.settings.Settings.{Settings}
 use Rattle.wtf_dev.specs.Store.{StoreKind, KindLaws}
 use Rattle.wtf_dev.specs.Each.{EachFollows}
 use Rattle.wtf_dev.specs.Sums.{TellsAll, all_stored, all_faults}
-use Rattle.wtf_ring.specs.Points.{PlaceView}
 use Rattle.wtf_replica.specs.Spans.{Span, span}
 use Rattle.wtf_replica.specs.Outs.{HasRisen}
 use Rattle.wtf_model.specs.declared.answer.Answer.{Answer}
 use Rattle.wtf_model.specs.declared.answer.Answer.TheVariants as answer
 use Rattle.wtf_model.specs.Machines.{Machine}
-use Rattle.wtf_model.specs.Lines.{Line, AlongBy, MayLine, after_line, Along, machine_after}
+use Rattle.wtf_model.specs.Lines.{Line, AlongBy, after_line, Along, machine_after}
 use Rattle.wtf_model.specs.Servers.{none_down, down_after, downs_after, AlongDowns, is_device_fault, is_device_fault_of_run, count_along}
-use Rattle.wtf_model.proofs.LineLaws.{state_after-push, AlongBy-lengths, AlongBy-push, count_by-none, count_by-push, Accepts-from_lines}
+use Rattle.wtf_model.proofs.LineLaws.{state_after-push, AlongBy-lengths, AlongBy-push, count_by-none, count_by-push}
 use Rattle.wtf_cli.specs.Scripts.{line_of}
-use Rattle.wtf_dev.specs.Store.{StoreKind, KindLaws}
-use Rattle.wtf_cli.specs.Outcomes.{AddsBytes, Demand, demand, HasCause, line_data}
-use Rattle.wtf_cli.specs.Engines.{Engine, Step, IsNotBuiltExactly, IsBadAnswer, IsLawful, IsAnswer}
+use Rattle.wtf_core.specs.Outcomes.{AddsBytes, HasCause}
+use Rattle.wtf_cli.specs.Answering.{MayLine, IsNotBuiltExactly, line_data}
+use Rattle.wtf_cli.specs.Engines.{Engine, Step, IsLawful, IsAnswer}
 use Rattle.wtf_cli.specs.Runs.{Opening, Log, asked, first, IsServed, is_write_fault, write_fault_count, if_okay, written_bytes, RoseBy, AreStoresStill, Ran}
 use Rattle.wtf_base.proofs.Elements.{element}
 use Rattle.wtf_replica.proofs.Spans.{EachKept, same_lengths-stored}
 use Rattle.wtf_dev.proofs.Each.{each_same, each_on}
 use Rattle.wtf_replica.proofs.Spans.{each_kept}
 use Rattle.wtf_dev.proofs.Sums.{all_faults-grows, tells_all-kept}
+use Rattle.wtf_cli.proofs.Accepting.{accepts_lines}
 use Rattle.wtf_cli.proofs.Rising.{one, raises, raises_of_run}
 
 -- the lines so far, and one more
@@ -38,12 +38,12 @@ pub along_none : {S : Type 0} (next : S → Line → Answer → S) (P : S → Li
 unfolding AlongBy
 along_none next P s = tt
 
-served_of : {S : Type 0} (kind : StoreKind S) (t : Span S) (settings : Settings) (asks : Demand) (a : Answer)
-    → HasCause kind t settings asks a → IsServed a
-served_of kind t settings asks (answer.FaultPunch k) h = h
-served_of kind t settings asks answer.FaultSave h = h
-served_of kind t settings asks (answer.Damaged k) h = h
-served_of kind t settings asks a h = tt
+served_of : {S : Type 0} (kind : StoreKind S) (t : Span S) (settings : Settings) (full : Type 0) (given : List ℕ) (a : Answer)
+    → HasCause kind t settings full given a → IsServed a
+served_of kind t settings full given (answer.FaultPunch k) h = h
+served_of kind t settings full given answer.FaultSave h = h
+served_of kind t settings full given (answer.Damaged k) h = h
+served_of kind t settings full given a h = tt
 
 write_fault_count-push : (answers : List Answer) (a : Answer) → write_fault_count (answers ++ a ∷ []) ≡ write_fault_count answers + one (is_write_fault a)
 write_fault_count-push [] a = omega arith
@@ -61,14 +61,14 @@ is_false true h = absurd (omega (arith, h))
 is_false false h = refl
 
 grown : {S : Type 0} (kind : StoreKind S) (t : Span S) → length t.after ≡ length t.before → ((k : ℕ) → HasRisen kind t.before t.after k → ⊥)
-    → (settings : Settings) (Target : PlaceView → Type 0) (given : List ℕ) (a : Answer) → AddsBytes kind t settings Target given a
+    → (settings : Settings) (given : List ℕ) (a : Answer) → AddsBytes kind t settings given a
     → is_write_fault a ≡ false → all_stored kind t.after ≡ all_stored kind t.before + settings.replicas * if_okay a (length given)
-grown kind t same none settings Target (b ∷ bs) answer.Okay adds no_fault = adds.3.total none
-grown kind t same none settings Target (b ∷ bs) answer.FaultWrite adds no_fault = cc
-grown kind t same none settings Target (b ∷ bs) a adds no_fault = omega (arith, same_lengths-stored kind t.before t.after same adds)
-grown kind t same none settings Target [] answer.FaultWrite adds no_fault = cc
-grown kind t same none settings Target [] answer.Okay adds no_fault = omega (arith, same_lengths-stored kind t.before t.after same adds)
-grown kind t same none settings Target [] a adds no_fault = omega (arith, same_lengths-stored kind t.before t.after same adds)
+grown kind t same none settings (b ∷ bs) answer.Okay adds no_fault = adds.2.total none
+grown kind t same none settings (b ∷ bs) answer.FaultWrite adds no_fault = cc
+grown kind t same none settings (b ∷ bs) a adds no_fault = omega (arith, same_lengths-stored kind t.before t.after same adds)
+grown kind t same none settings [] answer.FaultWrite adds no_fault = cc
+grown kind t same none settings [] answer.Okay adds no_fault = omega (arith, same_lengths-stored kind t.before t.after same adds)
+grown kind t same none settings [] a adds no_fault = omega (arith, same_lengths-stored kind t.before t.after same adds)
 
 by_products : (r s t u x y z : ℕ) → t ≡ s + r * x → u ≡ t + r * y → z ≡ x + y → u ≡ s + r * z
 by_products r s t u x y z early more all = more ∙ ap (λ (w : ℕ). w + r * y) early ∙ grind (arith) ∙ ap (λ (w : ℕ). s + r * w) (sym all)
@@ -116,10 +116,9 @@ count_more counts log line a same =
 -- no line has run
 pub ran_none : {S : Type 0} (kind : StoreKind S) → KindLaws kind → (opening : Opening) (shelf : List S) → Ran kind opening (record { lines = []; answers = [] }) shelf shelf
 ran_none kind laws opening shelf = record {
-  accepts = λ tells. Accepts-from_lines (first opening) [] [] (along_none after_line MayLine (first opening));
+  accepts = λ tells. accepts_lines (first opening) [] [] (along_none after_line MayLine (first opening));
   accepted = λ tells. along_none after_line MayLine (first opening);
-  exact = λ tells. along_none after_line IsNotBuiltExactly (first opening);
-  bad = along_none down_after (λ down e a. IsBadAnswer e a) none_down;
+  exact = along_none down_after (λ down e a. IsNotBuiltExactly e a) none_down;
   served = All-nil IsServed;
   faults = λ low. omega (arith, count_by-none down_after (is_device_fault opening.settings) none_down);
   faults_of_run = λ empty low. omega (arith, count_by-none down_after (is_device_fault_of_run opening.settings) none_down);
@@ -137,7 +136,7 @@ module _ {S State : Type 0} (engine : Engine S State) (laws : KindLaws engine.ki
     (line : List ℕ) (a : Answer) (is : IsAnswer engine t (line_of line) a) (next : EachFollows engine.kind t.before t.after []) where
   -- each line so far has its answer
   same : length (asked log) ≡ length log.answers
-  same = AlongBy-lengths down_after _ none_down (asked log) log.answers ran.bad
+  same = AlongBy-lengths down_after _ none_down (asked log) log.answers ran.exact
 
   was : EachKept engine.kind before t.before
   was = each_kept laws ran.follows_on
@@ -169,8 +168,8 @@ module _ {S State : Type 0} (engine : Engine S State) (laws : KindLaws engine.ki
       (count_along (counts opening.settings) none_down (asked log) log.answers) (counts opening.settings (downs_after none_down (asked log) log.answers) a) early
       (λ low fault. raised low (here ∙ fault)))
 
-  adds : AddsBytes engine.kind (span (engine.down t.old) t.before t.after) opening.settings (engine.target t.old (line_of line)) (line_data (line_of line)) a
-  adds = subst (λ (s : Settings). AddsBytes engine.kind (span (engine.down t.old) t.before t.after) s (engine.target t.old (line_of line)) (line_data (line_of line)) a)
+  adds : AddsBytes engine.kind (span (engine.down t.old) t.before t.after) opening.settings (line_data (line_of line)) a
+  adds = subst (λ (s : Settings). AddsBytes engine.kind (span (engine.down t.old) t.before t.after) s (line_data (line_of line)) a)
       settings_is is.stored
 
   grew : AreStoresStill engine.kind before t.after → write_fault_count (log.answers ++ a ∷ []) ≡ 0
@@ -180,7 +179,7 @@ module _ {S State : Type 0} (engine : Engine S State) (laws : KindLaws engine.ki
       let there = is_false (is_write_fault a) (omega (arith, none, both)) in
       let more : all_stored engine.kind t.after ≡ all_stored engine.kind t.before + opening.settings.replicas * if_okay a (length (line_data (line_of line)))
       = grown engine.kind (span (engine.down t.old) t.before t.after) next.same_length (still_back engine.kind before t.before t.after ran.follows_on.same_length next.same_length was still)
-      opening.settings (engine.target t.old (line_of line)) (line_data (line_of line)) a adds there in
+      opening.settings (line_data (line_of line)) a adds there in
       let bytes : written_bytes (asked (longer log line a)) (log.answers ++ a ∷ []) ≡ written_bytes (asked log) log.answers + if_okay a (length (line_data (line_of line)))
       = ap (λ (x : List Line). written_bytes x (log.answers ++ a ∷ [])) (asked-longer log line a) ∙ written_bytes-push (asked log) log.answers (line_of line) a same in
       let earlier = ran.grew (still_front engine.kind before t.before t.after ran.follows_on.same_length next.same_length was kept still) (omega (arith, none, both)) in
@@ -192,13 +191,12 @@ module _ {S State : Type 0} (engine : Engine S State) (laws : KindLaws engine.ki
       let accepted : TellsAll engine.kind before → Along MayLine (first opening) (asked (longer log line a)) (log.answers ++ a ∷ [])
       = λ tells. along MayLine (ran.accepted tells) (lawful tells).may in
       record {
-        accepts = λ tells. Accepts-from_lines (first opening) (asked (longer log line a)) (log.answers ++ a ∷ []) (accepted tells);
+        accepts = λ tells. accepts_lines (first opening) (asked (longer log line a)) (log.answers ++ a ∷ []) (accepted tells);
         accepted = accepted;
-        exact = λ tells. along IsNotBuiltExactly (ran.exact tells) (lawful tells).exact;
-        bad = subst (λ (x : List Line). AlongDowns (λ down e b. IsBadAnswer e b) none_down x (log.answers ++ a ∷ [])) (sym (asked-longer log line a))
-            (AlongBy-push down_after (λ down e b. IsBadAnswer e b) none_down (asked log) log.answers (line_of line) a ran.bad is.goes_on.bad);
+        exact = subst (λ (x : List Line). AlongDowns (λ down e b. IsNotBuiltExactly e b) none_down x (log.answers ++ a ∷ [])) (sym (asked-longer log line a))
+            (AlongBy-push down_after (λ down e b. IsNotBuiltExactly e b) none_down (asked log) log.answers (line_of line) a ran.exact is.goes_on.exact);
         served = All-append IsServed log.answers (a ∷ []) ran.served
-            (All-cons IsServed a [] (served_of engine.kind (span (engine.down t.old) t.before t.after) (engine.settings t.old) (demand (engine.needs t.old (line_of line)) (engine.full t.old) (line_data (line_of line))) a is.caused) (All-nil IsServed));
+            (All-cons IsServed a [] (served_of engine.kind (span (engine.down t.old) t.before t.after) (engine.settings t.old) (engine.full t.old) (line_data (line_of line)) a is.caused) (All-nil IsServed));
         faults = rose is_device_fault (raises engine laws t next (line_of line) a is.caused) ran.faults;
         faults_of_run = λ empty. rose is_device_fault_of_run (raises_of_run engine laws t next (line_of line) a (full empty) is.caused) (ran.faults_of_run empty);
         grew = grew;

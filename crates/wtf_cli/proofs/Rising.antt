@@ -2,7 +2,7 @@
 use Rattle.std.proofs.Common.{◌≡◌, ◌≢◌, ◌⊎◌, ℕ, zero, suc, ◌+◌, ◌-◌, ◌<◌, ◌≤◌, ◌^◌, Bool, true, false, not, ◌||◌, if◌then◌else◌, List, [], ◌∷◌, length, get_or, refl, sym, ◌∙◌, ap, subst, arith, inl, inr}
 use Rattle.std.specs.Prelude.{nat_lt}
 use Rattle.std.specs.List.{All, Contains}
-use Rattle.std.proofs.lemmas.Bool.{cases_lt, le-ltb, le-leb, lt-leb}
+use Rattle.std.proofs.lemmas.Bool.{cases_lt, eq-eqb, le-ltb, le-leb, lt-leb}
 use Rattle.std.proofs.lemmas.List.Elements.{All-head, All-tail, All-weaker}
 use Rattle.wtf_base.specs.declared.settings.Settings.{Settings}
 use Rattle.wtf_dev.specs.Store.{StoreKind, KindLaws}
@@ -15,11 +15,10 @@ use Rattle.wtf_replica.specs.Outs.{HasRisen, IsOut}
 use Rattle.wtf_replica.specs.Faults.{AreTooFew}
 use Rattle.wtf_model.specs.declared.answer.Answer.{Answer}
 use Rattle.wtf_model.specs.declared.answer.Answer.TheVariants as answer
-use Rattle.wtf_cli.specs.Stored.{AscendFrom}
-use Rattle.wtf_cli.specs.Outcomes.{last_of, IsLost, Demand, demand, HasCause, line_data}
-use Rattle.wtf_dev.specs.Store.{StoreKind, KindLaws}
+use Rattle.wtf_core.specs.Outcomes.{AscendFrom, last_of, IsLost, HasCause}
 use Rattle.wtf_model.specs.Lines.{Line, AlongBy, count_by}
 use Rattle.wtf_model.specs.Servers.{downs_below, downs, down_after, AlongDowns, is_device_fault, is_device_fault_of_run, count_along, IsAllUp}
+use Rattle.wtf_cli.specs.Answering.{line_data}
 use Rattle.wtf_cli.specs.Engines.{Engine, Step, IsCaused}
 use Rattle.wtf_cli.specs.Runs.{is_fault, fault_count}
 use Rattle.wtf_base.proofs.Elements.{contains_cons, in_tail, element}
@@ -150,15 +149,17 @@ module _ {S : Type 0} (kind : StoreKind S) (t : Span S) (none : (k : ℕ) → Ha
       (λ k h. elim (few.out k h) [ inl c ↦ inl c | inr out ↦ inr (out_down k out) ]) in
       lt-leb (settings.replicas + downs settings t.down) settings.servers (omega (arith, enough, few.few))
 
-  no_fault : (asks : Demand) (a : Answer) → HasCause kind t settings asks a → is_device_fault settings t.down a ≡ false
-  no_fault asks (answer.FaultRead k) cause = ap not (last_down cause.places k cause.lost)
-  no_fault asks answer.FaultWrite cause = no_write cause.1
-  no_fault asks a cause = refl
+  no_fault : (full : Type 0) (given : List ℕ) (a : Answer) → HasCause kind t settings full given a → is_device_fault settings t.down a ≡ false
+  no_fault full given (answer.FaultRead k) cause = ap not (last_down cause.places k cause.lost)
+  no_fault full given answer.FaultWrite cause = no_write cause.1
+  no_fault full given answer.FaultSave cause = absurd cause
+  no_fault full given a cause = refl
 
-  no_fault_of_run : (asks : Demand) (a : Answer) → asks.full → HasCause kind t settings asks a → is_device_fault_of_run settings t.down a ≡ false
-  no_fault_of_run asks (answer.FaultRead k) is_full cause = no_read_of_run cause.places k (cause.width is_full) cause.lost
-  no_fault_of_run asks answer.FaultWrite is_full cause = no_write cause.1
-  no_fault_of_run asks a is_full cause = refl
+  no_fault_of_run : (full : Type 0) (given : List ℕ) (a : Answer) → full → HasCause kind t settings full given a → is_device_fault_of_run settings t.down a ≡ false
+  no_fault_of_run full given (answer.FaultRead k) is_full cause = no_read_of_run cause.places k (cause.width is_full) cause.lost
+  no_fault_of_run full given answer.FaultWrite is_full cause = no_write cause.1
+  no_fault_of_run full given answer.FaultSave is_full cause = absurd cause
+  no_fault_of_run full given a is_full cause = refl
 
 -- One line
 
@@ -171,7 +172,7 @@ raises engine laws t e line a cause low fault = elim (rose_or_still laws t.befor
   | inl more ↦ more
   | inr none ↦
       let not_one : is_device_fault (engine.settings t.old) (engine.down t.old) a ≡ false
-      = no_fault engine.kind (span (engine.down t.old) t.before t.after) none (engine.settings t.old) (demand (engine.needs t.old line) (engine.full t.old) (line_data line)) a cause in
+      = no_fault engine.kind (span (engine.down t.old) t.before t.after) none (engine.settings t.old) (engine.full t.old) (line_data line) a cause in
       absurd (cc)
 ]
 
@@ -184,7 +185,7 @@ raises_of_run engine laws t e line a full cause low fault = elim (rose_or_still 
   | inl more ↦ more
   | inr none ↦
       let not_one : is_device_fault_of_run (engine.settings t.old) (engine.down t.old) a ≡ false
-      = no_fault_of_run engine.kind (span (engine.down t.old) t.before t.after) none (engine.settings t.old) (demand (engine.needs t.old line) (engine.full t.old) (line_data line)) a full cause in
+      = no_fault_of_run engine.kind (span (engine.down t.old) t.before t.after) none (engine.settings t.old) (engine.full t.old) (line_data line) a full cause in
       absurd (cc)
 ]
 
@@ -196,6 +197,8 @@ up_fault settings down (answer.FaultRead k) up = ap (λ (b : Bool). one (not b))
 up_fault settings down answer.FaultWrite up =
     let fits : settings.replicas + downs settings down ≤ settings.servers = omega (arith, no_downs down up settings.servers, settings.limits) in
     one-true (is_device_fault settings down answer.FaultWrite) (le-leb (settings.replicas + downs settings down) settings.servers fits)
+up_fault settings down answer.FaultSave up =
+    one-true (is_device_fault settings down answer.FaultSave) (eq-eqb (downs settings down) 0 (no_downs down up settings.servers))
 up_fault settings down a up = refl
 
 pub up_faults : (settings : Settings) (down : ℕ → Bool) (lines : List Line) (answers : List Answer) → AlongDowns IsAllUp down lines answers

@@ -1,23 +1,20 @@
 -- What a run is given of the state that answers its lines, and what answering one line is.
-use Rattle.std.specs.Prelude.{◌≡◌, ◌↔◌, ◌+◌, ◌≤◌, ℕ, Bool, true, List, Ok, Err}
+use Rattle.std.specs.Prelude.{◌≡◌, ◌+◌, ◌≤◌, ℕ, Bool, List}
 use Rattle.wtf_base.specs.declared.settings.Settings.{Settings}
-use Rattle.wtf_dev.specs.Sums.{TellsAll}
-use Rattle.wtf_overlay.specs.Origin.{Place}
-use Rattle.wtf_replica.specs.Spans.{span}
-use Rattle.wtf_ring.specs.Points.{PlaceView}
-use Rattle.wtf_model.specs.declared.answer.Answer.{Answer}
-use Rattle.wtf_model.specs.declared.answer.Answer.TheVariants as answer
-use Rattle.wtf_model.specs.Machines.{Machine}
-use Rattle.wtf_model.specs.Later.{is_later}
-use Rattle.wtf_model.specs.Lines.{Line, MayLine, after_line}
-use Rattle.wtf_model.specs.Servers.{down_after}
 use Rattle.wtf_dev.specs.Store.{StoreKind}
-use Rattle.wtf_cli.specs.Outcomes.{AddsBytes, demand, HasCause, line_data}
+use Rattle.wtf_dev.specs.Sums.{TellsAll}
+use Rattle.wtf_replica.specs.Spans.{span}
+use Rattle.wtf_model.specs.declared.answer.Answer.{Answer}
+use Rattle.wtf_model.specs.Machines.{Machine}
+use Rattle.wtf_model.specs.Lines.{Line, after_line}
+use Rattle.wtf_model.specs.Servers.{down_after}
+use Rattle.wtf_core.specs.Outcomes.{AddsBytes, HasCause}
+use Rattle.wtf_cli.specs.Answering.{MayLine, IsNotBuiltExactly, line_data}
 
 -- What a run is given of the state that answers its lines: the kind of its stores; the settings, which servers are down,
 -- how many commits there were and the number of the next transaction; when it is sound over stores, and when it stands
--- for a machine; the places of the byte at each position of what a line is to show, and the place that a line stores at;
--- and when each slice has as many copies as there are replicas, as it has where the keeper held nothing at the begin.
+-- for a machine; and when each slice has as many copies as there are replicas, as it has where the keeper held nothing at
+-- the begin.
 pub record Engine (S State : Type 0) : Type 1 where
   pub kind : StoreKind S
   pub settings : State → Settings
@@ -26,8 +23,6 @@ pub record Engine (S State : Type 0) : Type 1 where
   pub next_tx : State → ℕ
   pub sound : List S → State → Type 0
   pub stands : List S → State → Machine → Type 0
-  pub needs : State → Line → ℕ → List Place → Type 0
-  pub target : State → Line → PlaceView → Type 0
   pub full : State → Type 0
 
 -- the stores and the state before a line and after its answer
@@ -40,20 +35,10 @@ pub record Step (S State : Type 0) : Type 0 where
 abbrev pub step : {S State : Type 0} → List S → List S → State → State → Step S State
 step before after old new = record { before = before; after = after; old = old; new = new }
 
--- a line that asks nothing gets its own answer, and each other one `notbuilt` exactly where the definitions leave it to a
--- later version
-abbrev pub IsNotBuiltExactly : Machine → Line → Answer → Type 0
-IsNotBuiltExactly m (Err bad) a = a ≡ bad
-IsNotBuiltExactly m (Ok e) a = (a ≡ answer.NotBuilt) ↔ (is_later m e ≡ true)
-
--- a line that asks nothing gets its own answer
-abbrev pub IsBadAnswer : Line → Answer → Type 0
-IsBadAnswer (Err bad) a = a ≡ bad
-IsBadAnswer (Ok e) a = Unit {0}
-
 -- What answering a line is, in four parts of which none needs another:
 
--- the state goes on: it is sound, under the same settings, and which servers are down follows the lines `down` and `up`
+-- the state goes on: it is sound, under the same settings, and which servers are down follows the lines `down` and `up`;
+-- `notbuilt` comes exactly at the verbs that are left to a later version
 pub record GoesOn {S State : Type 0} (engine : Engine S State) (t : Step S State) (line : Line) (a : Answer) : Type 0 where
   pub sound : engine.sound t.after t.new
   pub settings : engine.settings t.new ≡ engine.settings t.old
@@ -61,14 +46,12 @@ pub record GoesOn {S State : Type 0} (engine : Engine S State) (t : Step S State
   pub number : engine.number t.new ≤ engine.number t.old + 1
   pub next_tx : engine.next_tx t.new ≤ engine.next_tx t.old + 1
   pub full : engine.full t.old → engine.full t.new
-  pub bad : IsBadAnswer line a
+  pub exact : IsNotBuiltExactly line a
 
--- the state stood for a machine: the machine may give that answer, and the state stands for its next. `notbuilt` comes
--- exactly where the definitions leave the line to a later version.
+-- the state stood for a machine: the machine may give that answer, and the state stands for its next
 pub record IsLawful {S State : Type 0} (engine : Engine S State) (t : Step S State) (m : Machine) (line : Line) (a : Answer) : Type 0 where
   pub stands : engine.stands t.after t.new (after_line m line a)
   pub may : MayLine m line a
-  pub exact : IsNotBuiltExactly m line a
 
 -- the same of each machine that the state stands for, where the stores tell their content
 abbrev pub Obeys : {S State : Type 0} → Engine S State → Step S State → Line → Answer → Type 0
@@ -76,13 +59,12 @@ Obeys engine t line a = TellsAll engine.kind t.before → (m : Machine) → engi
 
 -- the stores grew by what the line writes
 abbrev pub Stores : {S State : Type 0} → Engine S State → Step S State → Line → Answer → Type 0
-Stores engine t line a =
-    AddsBytes engine.kind (span (engine.down t.old) t.before t.after) (engine.settings t.old) (engine.target t.old line) (line_data line) a
+Stores engine t line a = AddsBytes engine.kind (span (engine.down t.old) t.before t.after) (engine.settings t.old) (line_data line) a
 
 -- a fault has its cause in this very line
 abbrev pub IsCaused : {S State : Type 0} → Engine S State → Step S State → Line → Answer → Type 0
 IsCaused engine t line a =
-    HasCause engine.kind (span (engine.down t.old) t.before t.after) (engine.settings t.old) (demand (engine.needs t.old line) (engine.full t.old) (line_data line)) a
+    HasCause engine.kind (span (engine.down t.old) t.before t.after) (engine.settings t.old) (engine.full t.old) (line_data line) a
 
 -- all four
 pub record IsAnswer {S State : Type 0} (engine : Engine S State) (t : Step S State) (line : Line) (a : Answer) : Type 0 where

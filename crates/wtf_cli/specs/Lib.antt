@@ -1,15 +1,7 @@
 pub mod Scripts
-pub mod Clusters
-pub mod Stored
-pub mod Tables
-pub mod StandsFor
-pub mod Outcomes
-pub mod Needs
-pub mod Inodes
-pub mod Calls
-pub mod Events
+pub mod Answering
 pub mod Engines
-pub mod LineSteps
+pub mod Cores
 pub mod Turns
 pub mod Passes
 pub mod Runs

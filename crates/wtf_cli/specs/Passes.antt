@@ -10,7 +10,7 @@ use Rattle.wtf_script.specs.declared.limits.TheConstants.{SCRIPT_BYTES}
 use Rattle.wtf_script.specs.Reading.{Held, ReadsLine, ReadsEnd, ReadsFault, ReadsTooMuch, Counts, Draws, work}
 use Rattle.wtf_cli.specs.Scripts.{line_of}
 use Rattle.wtf_cli.specs.Engines.{Engine, Step}
-use Rattle.wtf_cli.specs.LineSteps.{IsFormLine}
+use Rattle.wtf_cli.specs.Answering.{IsFormLine}
 use Rattle.wtf_cli.specs.Turns.{IsDone, IsCutOff}
 
 -- what a run reads its lines from: the source, and what the reader holds of it

@@ -10,8 +10,7 @@ use Rattle.wtf_model.specs.declared.answer.Answer.{Answer}
 use Rattle.wtf_model.specs.declared.answer.Answer.TheVariants as answer
 use Rattle.wtf_model.specs.Tree.{Tree, root_alone}
 use Rattle.wtf_model.specs.Machines.{Machine, start}
-use Rattle.wtf_model.specs.Steps.{Accepts}
-use Rattle.wtf_model.specs.Lines.{Line, MayLine, Along, events_of, answers_to}
+use Rattle.wtf_model.specs.Lines.{Line, Along, events_of, answers_to}
 use Rattle.wtf_model.specs.Servers.{none_down, AlongDowns, is_device_fault, is_device_fault_of_run, count_along, IsAllUp}
 use Rattle.wtf_cli.specs.declared.service.Stop.{Stop}
 use Rattle.wtf_cli.specs.declared.service.Stop.TheVariants as stop
@@ -19,8 +18,7 @@ use Rattle.wtf_script.specs.declared.limits.TheConstants.{SCRIPT_BYTES}
 use Rattle.wtf_script.specs.ScriptLines.{lines_of, ended_of}
 use Rattle.wtf_cli.specs.Scripts.{line_of, has_bad, IsEndStatus, end_status, line_text, settings_line}
 use Rattle.wtf_dev.specs.Store.{StoreKind}
-use Rattle.wtf_cli.specs.Outcomes.{line_data}
-use Rattle.wtf_cli.specs.Engines.{IsNotBuiltExactly, IsBadAnswer}
+use Rattle.wtf_cli.specs.Answering.{MayLine, Accepts, IsNotBuiltExactly, line_data}
 use Rattle.wtf_cli.specs.Turns.{WroteFront}
 
 -- What a run starts from: the settings, how many commits there were, the tree, and what the keeper held.
@@ -65,6 +63,7 @@ IsServed a = Unit {0}
 abbrev pub is_fault : Answer → Bool
 is_fault (answer.FaultRead k) = true
 is_fault answer.FaultWrite = true
+is_fault answer.FaultSave = true
 is_fault a = false
 
 abbrev pub is_write_fault : Answer → Bool
@@ -84,7 +83,7 @@ abbrev pub if_okay : Answer → ℕ → ℕ
 if_okay answer.Okay n = n
 if_okay a n = 0
 
--- the bytes that writes with the answer `ok` handed in
+-- the bytes that writes and appends with the answer `ok` handed in
 abbrev pub written_bytes : List (Line) → List Answer → ℕ
 written_bytes (e ∷ es) (a ∷ answers) = if_okay a (length (line_data e)) + written_bytes es answers
 written_bytes es answers = 0
@@ -111,17 +110,16 @@ pub record Ran {S : Type 0} (kind : StoreKind S) (opening : Opening) (log : Log)
   pub accepts : TellsAll kind before → Accepts (first opening) (events_of (asked log)) (answers_to (asked log) log.answers)
   -- the same line by line, with the lines that ask nothing
   pub accepted : TellsAll kind before → Along MayLine (first opening) (asked log) log.answers
-  -- and `notbuilt` comes exactly where a line asks nothing that is built
-  pub exact : TellsAll kind before → Along IsNotBuiltExactly (first opening) (asked log) log.answers
-  -- over every store each line has one answer, and one that asks nothing has its own
-  pub bad : AlongDowns (λ down e a. IsBadAnswer e a) none_down (asked log) log.answers
+  -- over every store each line has one answer: one that asks nothing has its own, and `notbuilt` comes exactly at the verbs
+  -- that are left to a later version
+  pub exact : AlongDowns (λ down e a. IsNotBuiltExactly e a) none_down (asked log) log.answers
   pub served : All IsServed log.answers
   -- each line whose fault only a store can have caused raised a store's count
   pub faults : RoseBy kind before after (count_along (is_device_fault opening.settings) none_down (asked log) log.answers)
   -- and so did, where the keeper held nothing, each read that failed while fewer servers were down than a slice has copies
   pub faults_of_run : opening.kept ≡ Some []
       → RoseBy kind before after (count_along (is_device_fault_of_run opening.settings) none_down (asked log) log.answers)
-  -- where no store failed they grew by the bytes of the writes that answered `ok`, once on each replica
+  -- where no store failed they grew by the bytes of the writes and appends that answered `ok`, once on each replica
   pub grew : AreStoresStill kind before after → write_fault_count log.answers ≡ 0
       → all_stored kind after ≡ all_stored kind before + opening.settings.replicas * written_bytes (asked log) log.answers
   -- nothing was punched

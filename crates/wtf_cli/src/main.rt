@@ -5,14 +5,10 @@ ghost use Rattle.std.specs.Prelude.{◌≡◌, drop, length, replicate, IfOk, If
 ghost use Rattle.std.specs.Process.{exit_status};
 ghost use Rattle.wtf_cli.specs.Program.{IsStatus, empty_store, open_status};
 
-mod calls;
-mod cluster;
-mod file;
 mod program;
+#[cfg(test)]
+mod rows;
 mod service;
-mod slices;
-mod state;
-mod tables;
 #[cfg(test)]
 mod tests;
 

@@ -1,20 +1,20 @@
 //! The run of a script over any source, sink, stores and keeper.
 
-ghost use Rattle.std.specs.Prelude.{◌≡◌, ◌≢◌, ◌<◌, ◌≤◌, ◌^◌, ◌++◌, ◌∷◌, ◌||◌, ℕ, List, [], Some, Err, OnOk, OnErr};
+ghost use Rattle.std.specs.Prelude.{◌≡◌, ◌≢◌, ◌<◌, ◌≤◌, ◌^◌, ◌++◌, ◌∷◌, ◌||◌, ℕ, List, [], Some, Ok, Err, IfOk, IfErr, OnOk, OnErr};
 ghost use Rattle.wtf_dev.specs.Counts.{Rose};
 ghost use Rattle.wtf_dev.specs.Each.{EachFollows};
 ghost use Rattle.wtf_cli.specs.Runs.{Served, new_opening, devices, stop_status};
 ghost use Rattle.wtf_cli.specs.Turns.{AllTaken, TurnIs};
 ghost use Rattle.wtf_cli.specs.Passes.{Came, HasDrawn, PassIs, IsFormRead, input, hand};
-ghost use Rattle.wtf_cli.specs.Engines.{step};
-ghost use Rattle.wtf_cli.specs.LineSteps.{IsFormLine, engine};
-ghost use Rattle.wtf_cli.specs.StandsFor.{IsSoundState};
+ghost use Rattle.wtf_cli.specs.Answering.{IsFormLine};
+ghost use Rattle.wtf_cli.specs.Engines.{GoesOn, Obeys, Stores, IsCaused, step};
+ghost use Rattle.wtf_cli.specs.Cores.{IsSoundCore, engine};
 ghost use Rattle.wtf_cli.specs.Scripts.{end_status, line_text, settings_line};
 ghost use Rattle.wtf_script.specs.declared.limits.TheConstants.{SCRIPT_BYTES};
 
-use crate::state::State;
 use std::alloc::Global;
 use wtf_base::{OutOfMemory, Settings};
+use wtf_core::Core;
 use wtf_dev::{Failed, Keeper, Shelf, Sink, SliceStore, Source};
 use wtf_model::{Answer, Event, Kind};
 use wtf_print::{print_answer, print_settings};
@@ -81,20 +81,28 @@ fn write_all<O: Sink>(out: &mut O, text: &[u8]) -> Result<(), Failed>
     Ok(())
 }
 
+/// What the lines of a script are read with.
+#[derive(Drop)]
+struct Reader {
+    alloc: Global,
+    lines: Lines,
+}
+
 /// Reads the next line: its event, or the answer of one that asks nothing; `None` is the end of the script.
 fn read_line<I: Source>(
-    alloc: Global,
-    lines: &mut Lines,
+    reader: &mut Reader,
     script: &mut I,
 ) -> Result<Option<Result<Event, Answer>>, Stop>
-    requires count { lines.old.count ≤ SCRIPT_BYTES }
-    ensures came { Came (input (I.view script.old) lines.old) (input (I.view script.new) lines.new) result }
-    ensures drawn { HasDrawn (input (I.view script.old) lines.old) (input (I.view script.new) lines.new) }
-    ensures limit { result ≢ Err Stop.TooMuch → lines.new.count ≤ SCRIPT_BYTES }
+    requires count { reader.old.lines.count ≤ SCRIPT_BYTES }
+    ensures came { Came (input (I.view script.old) reader.old.lines)
+        (input (I.view script.new) reader.new.lines) result }
+    ensures drawn { HasDrawn (input (I.view script.old) reader.old.lines)
+        (input (I.view script.new) reader.new.lines) }
+    ensures limit { result ≢ Err Stop.TooMuch → reader.new.lines.count ≤ SCRIPT_BYTES }
     ensures form { IsFormRead result }
 {
-    match lines.next(script) {
-        Ok(Some(Line::Whole(line))) => match parse_line(alloc, line.as_slice()) {
+    match reader.lines.next(script) {
+        Ok(Some(Line::Whole(line))) => match parse_line(reader.alloc, line.as_slice()) {
             Ok(event) => Ok(Some(Ok(event))),
             Err(LineError::Bad(kind)) => Ok(Some(Err(Answer::Bad(kind)))),
             Err(LineError::Memory) => Err(Stop::Memory),
@@ -104,6 +112,38 @@ fn read_line<I: Source>(
         Err(ReadError::Failed) => Err(Stop::Unread),
         Err(ReadError::TooMuch) => Err(Stop::TooMuch),
         Err(ReadError::Memory) => Err(Stop::Memory),
+    }
+}
+
+/// Answers a line: its event, or with the answer of one that asks nothing. After want of memory the core is closed.
+fn answer<S: SliceStore, K: Keeper>(
+    core: &mut Core,
+    shelf: &mut Shelf<S>,
+    keeper: &mut K,
+    line: Result<Event, Answer>,
+) -> Result<Answer, OutOfMemory>
+    requires number { core.old.tables.kv.number < 2 ^ 63 }
+    requires next_tx { core.old.tables.next_tx < 2 ^ 63 }
+    requires form { IsFormLine line }
+    requires sound { IsSoundCore S.kind shelf.old core.old }
+    ensures goes_on { IfOk result
+        (GoesOn (engine S.kind) (step shelf.old shelf.new core.old core.new) line) }
+    ensures lawful { IfOk result
+        (Obeys (engine S.kind) (step shelf.old shelf.new core.old core.new) line) }
+    ensures stored { IfOk result
+        (Stores (engine S.kind) (step shelf.old shelf.new core.old core.new) line) }
+    ensures caused { IfOk result
+        (IsCaused (engine S.kind) (step shelf.old shelf.new core.old core.new) line) }
+    ensures bad { IfErr line (λ bad. result ≡ Ok bad) }
+    ensures follows { EachFollows S.kind shelf.old shelf.new [] }
+    ensures unkept { keeper.new ≡ keeper.old }
+{
+    match line {
+        Ok(event) => {
+            let answer = core.event(shelf, keeper, &event)?;
+            Ok(answer)
+        }
+        Err(bad) => Ok(bad),
     }
 }
 
@@ -126,23 +166,25 @@ fn push_settings(settings: Settings, text: &mut Vec<u8>) -> Result<(), OutOfMemo
 }
 
 /// Answers a line, and writes the answer. `text` is kept from line to line.
-fn turn<O: Sink, S: SliceStore>(
-    state: &mut State,
+fn turn<O: Sink, S: SliceStore, K: Keeper>(
+    core: &mut Core,
     shelf: &mut Shelf<S>,
+    keeper: &mut K,
     out: &mut O,
     text: &mut Vec<u8>,
     line: Result<Event, Answer>,
 ) -> Result<(), Stop>
-    requires number { state.old.number < 2 ^ 63 }
-    requires next { state.old.next_tx < 2 ^ 63 }
+    requires number { core.old.tables.kv.number < 2 ^ 63 }
+    requires next_tx { core.old.tables.next_tx < 2 ^ 63 }
     requires form { IsFormLine line }
-    requires sound { IsSoundState S.kind shelf.old state.old }
-    ensures turn { TurnIs (engine S.kind) (step shelf.old shelf.new state.old state.new) line
+    requires sound { IsSoundCore S.kind shelf.old core.old }
+    ensures turn { TurnIs (engine S.kind) (step shelf.old shelf.new core.old core.new) line
         (O.view out.old) (O.view out.new) result }
     ensures faults { (O.view out.old).faults ≤ (O.view out.new).faults }
     ensures follows { EachFollows S.kind shelf.old shelf.new [] }
+    ensures unkept { keeper.new ≡ keeper.old }
 {
-    let Ok(answer) = state.answer(shelf, line) else {
+    let Ok(answer) = answer(core, shelf, keeper, line) else {
         return Err(Stop::Memory);
     };
     text.clear();
@@ -157,30 +199,32 @@ fn turn<O: Sink, S: SliceStore>(
 
 /// Reads a line, answers it and writes its answer, before another line is read: whether it asked nothing. `None` is the
 /// end of the script.
-fn pass<I: Source, O: Sink, S: SliceStore>(
-    alloc: Global,
-    lines: &mut Lines,
+fn pass<I: Source, O: Sink, S: SliceStore, K: Keeper>(
+    reader: &mut Reader,
     script: &mut I,
-    state: &mut State,
+    core: &mut Core,
     shelf: &mut Shelf<S>,
+    keeper: &mut K,
     out: &mut O,
     text: &mut Vec<u8>,
 ) -> Result<Option<bool>, Stop>
-    requires count { lines.old.count ≤ SCRIPT_BYTES }
-    requires number { state.old.number < 2 ^ 63 }
-    requires next { state.old.next_tx < 2 ^ 63 }
-    requires sound { IsSoundState S.kind shelf.old state.old }
+    requires count { reader.old.lines.count ≤ SCRIPT_BYTES }
+    requires number { core.old.tables.kv.number < 2 ^ 63 }
+    requires next_tx { core.old.tables.next_tx < 2 ^ 63 }
+    requires sound { IsSoundCore S.kind shelf.old core.old }
     ensures pass { PassIs (engine S.kind)
-        (hand (input (I.view script.old) lines.old) (O.view out.old) shelf.old state.old)
-        (hand (input (I.view script.new) lines.new) (O.view out.new) shelf.new state.new) result }
+        (hand (input (I.view script.old) reader.old.lines) (O.view out.old) shelf.old core.old)
+        (hand (input (I.view script.new) reader.new.lines) (O.view out.new) shelf.new core.new)
+        result }
+    ensures unkept { keeper.new ≡ keeper.old }
 {
-    let line = match read_line(alloc, lines, script) {
+    let line = match read_line(reader, script) {
         Ok(Some(line)) => line,
         Ok(None) => return Ok(None),
         Err(stop) => return Err(stop),
     };
     let bad = line.is_err();
-    match turn(state, shelf, out, text, line) {
+    match turn(core, shelf, keeper, out, text, line) {
         Ok(()) => Ok(Some(bad)),
         Err(stop) => Err(stop),
     }
@@ -218,15 +262,14 @@ pub fn serve<I: Source, O: Sink, S: SliceStore, K: Keeper>(
     ensures untouched { result ≡ 2 → shelf.new ≡ shelf.old }
     ensures unkept { keeper.new ≡ keeper.old }
 {
-    // The keeper is not called before there are images.
-    let _ = keeper;
     if shelf.len() < settings.servers {
         return WORDS_REFUSED;
     }
-    let Ok(mut lines) = Lines::new(alloc) else {
+    let Ok(lines) = Lines::new(alloc) else {
         return OUT_OF_MEMORY;
     };
-    let Ok(mut state) = State::new(alloc, settings) else {
+    let mut reader = Reader { alloc, lines };
+    let Ok(mut core) = Core::new(alloc, settings) else {
         return OUT_OF_MEMORY;
     };
     let mut text = Vec::new(alloc);
@@ -238,7 +281,15 @@ pub fn serve<I: Source, O: Sink, S: SliceStore, K: Keeper>(
     };
     let mut bad = false;
     loop {
-        match pass(alloc, &mut lines, script, &mut state, shelf, out, &mut text) {
+        match pass(
+            &mut reader,
+            script,
+            &mut core,
+            shelf,
+            keeper,
+            out,
+            &mut text,
+        ) {
             Ok(Some(more)) => bad = either(bad, more),
             Ok(None) => return ended(bad),
             Err(stop) => return stop.status(),

@@ -6,6 +6,7 @@ ghost use Rattle.wtf_cli.specs.Scripts.{IsEndStatus};
 
 use crate::open_stores;
 use crate::program::wtf;
+use crate::rows::{ROWS, Row};
 use crate::service::serve;
 use std::alloc::Global;
 use std::test::Fail;
@@ -19,15 +20,22 @@ const SCRIPT: &[u8] =
 const OUTPUT: &[u8] =
     b"wtf servers 4 replicas 2 region 65536 number 0\nbegun 0\nok\nok\nok\nok\ndata x:616263646566\ncommitted 1\n";
 
+/// A file that is one byte too long to be shown, and then is not.
+const LONG_FILE: &str = "c0 begin => begun 0
+c0 create /a => ok
+c0 open f0 /a => ok
+c0 seek f0 set 1048576 => ok
+c0 write f0 t:x => ok
+c0 try => committed 1
+sys dump /a => refused long
+c0 begin => begun 1
+c0 open f0 /a => ok
+c0 truncate f0 1048576 => ok
+c0 try => committed 2
+";
+
 /// The settings line alone.
 const FIRST_LINE: &[u8] = b"wtf servers 4 replicas 2 region 65536 number 0\n";
-
-/// Both copies of a slice go down, one after the other, and a server that is not there.
-const DOWN_SCRIPT: &[u8] =
-    b"c0 begin\nc0 create /a\nc0 open f0 /a\nc0 write f0 t:ab\nsys down 0\nc0 seek f0 set 0\nc0 read f0 2\nsys down 1\nc0 seek f0 set 0\nc0 read f0 2\nsys down 2\n";
-
-const DOWN_OUTPUT: &[u8] =
-    b"wtf servers 2 replicas 2 region 65536 number 0\nbegun 0\nok\nok\nok\nok\nok\ndata x:6162\nok\nok\nfault read 1\nrefused noserver\n";
 
 /// A write with one of three servers down, one with two of them down, and reads with all down and with all up again.
 const THREE_SCRIPT: &[u8] =
@@ -40,14 +48,6 @@ const THREE_OUTPUT: &[u8] =
 /// stays empty.
 const THREE_UNWRITTEN: &[u8] =
     b"wtf servers 3 replicas 2 region 65536 number 0\nbegun 0\nok\nok\nok\nfault write\nok\ndata x:\nok\nfault write\nok\nok\ndata x:\nok\nok\nok\ndata x:\ncommitted 1\n";
-
-/// Over other settings, each kind of answer at least once: a path that is there, one that is not, a label that is not open,
-/// an empty write, a seek elsewhere, a second transaction, a bad byte.
-const EACH_SCRIPT: &[u8] =
-    b"c0 begin\nc0 create /a\nc0 create /a\nc0 open f0 /b\nc0 read f1 1\nc0 open f0 /a\nc0 write f0 t:\nc0 write f0 t:abc\nc0 seek f0 set 1\nc0 read f0 8\nc0 seek f0 end 0\nc1 begin\n\x01\nsys down 5\nc0 try\nc1 begin\nc1 open f0 /a\nc1 read f0 9\nc1 try\n";
-
-const EACH_OUTPUT: &[u8] =
-    b"wtf servers 5 replicas 3 region 64 number 0\nbegun 0\nok\nrefused exists\nrefused noent\nrefused nohandle\nok\nok\nok\nok\ndata x:6263\nbad count\nnotbuilt\nbad byte\nrefused noserver\ncommitted 1\nbegun 1\nok\ndata x:616263\ncommitted 2\n";
 
 /// Lines with each kind of fault; a line of 65,537 bytes stands between the two parts, and the last has no line feed.
 const BAD_FRONT: &[u8] = b"c0 fly\nc0 write f0 x:123\n";
@@ -93,6 +93,20 @@ fn run(
     let mut shelf = stores(alloc, 16, 0, None)?;
     let mut keeper = MemKeeper::new(alloc, Vec::new(alloc), Vec::new(alloc));
     let status = wtf(alloc, words, &mut script, &mut out, &mut shelf, &mut keeper);
+    Ok((status, out.taken().to_vec(alloc)?))
+}
+
+/// The status and the output of a script over these stores.
+fn run_over(
+    alloc: Global,
+    words: &[String],
+    script: &[u8],
+    shelf: &mut Shelf<MemStore>,
+) -> Result<(u8, Vec<u8>), Fail> {
+    let mut script = MemSource::new(alloc, script.to_vec(alloc)?, Vec::new(alloc));
+    let mut out = MemSink::new(alloc, Vec::new(alloc));
+    let mut keeper = MemKeeper::new(alloc, Vec::new(alloc), Vec::new(alloc));
+    let status = wtf(alloc, words, &mut script, &mut out, shelf, &mut keeper);
     Ok((status, out.taken().to_vec(alloc)?))
 }
 
@@ -188,21 +202,118 @@ fn too_few_stores_are_refused(rt: HostRuntime) -> Result<(), Fail> {
     Ok(())
 }
 
-/// An empty script has the settings line alone.
+/// A script with the output that is wanted of it.
+#[derive(Drop)]
+struct Wanted {
+    script: Vec<u8>,
+    output: Vec<u8>,
+}
+
+impl Wanted {
+    /// The empty script, and the line of the settings.
+    fn new(alloc: Global, settings: &str) -> Result<Wanted, Fail> {
+        let mut output = Vec::new(alloc);
+        output.extend_from_slice(settings.as_bytes())?;
+        Ok(Wanted {
+            script: Vec::new(alloc),
+            output,
+        })
+    }
+
+    /// Adds lines as they stand in rows.
+    fn add(&mut self, lines: &str) -> Result<(), Fail> {
+        for line in lines.split('\n') {
+            if let Some((asked, answer)) = line.split_once(" => ") {
+                self.script.extend_from_slice(asked.as_bytes())?;
+                self.script.push(b'\n')?;
+                self.output.extend_from_slice(answer.as_bytes())?;
+                self.output.push(b'\n')?;
+            }
+        }
+        Ok(())
+    }
+
+    /// Adds a transaction that makes `/a` with this text.
+    fn add_file(&mut self, alloc: Global, text: &str) -> Result<(), Fail> {
+        let write = format!(in alloc; "c0 write f0 t:{text} => ok\nc0 try => committed 1\n")?;
+        self.add("c0 begin => begun 0\nc0 create /a => ok\nc0 open f0 /a => ok\n")?;
+        self.add(write.as_str())
+    }
+}
+
+/// How many bytes all stores hold.
+fn stored(shelf: &Shelf<MemStore>) -> u64 {
+    let mut sum = 0u64;
+    for k in 0..shelf.len() {
+        for file in 0..8u8 {
+            sum = sum.saturating_add(shelf.length(k, file));
+        }
+    }
+    sum
+}
+
+/// The script and the output of a row.
+fn wanted_of(alloc: Global, row: &Row) -> Result<Wanted, Fail> {
+    let mut wanted = Wanted::new(alloc, row.settings)?;
+    if !row.text.is_empty() {
+        wanted.add_file(alloc, row.text)?;
+    }
+    wanted.add(row.lines)?;
+    Ok(wanted)
+}
+
+/// Each row, and how many bytes the stores hold after it.
+#[test]
+fn rows_are_answered(rt: HostRuntime) -> Result<(), Fail> {
+    let alloc = rt.alloc();
+    for row in ROWS.iter() {
+        let wanted = wanted_of(alloc, row)?;
+        let words = words_of(alloc, row.words)?;
+        let mut shelf = stores(alloc, 16, 0, None)?;
+        let script = wanted.script.as_slice();
+        let (status, output) = run_over(alloc, words.as_slice(), script, &mut shelf)?;
+        assert_eq!(rt; output.as_slice(), wanted.output.as_slice(), "{}", row.name);
+        assert_eq!(rt; status, 0, "{}", row.name);
+        assert_eq!(rt; stored(&shelf), row.stored, "{}", row.name);
+    }
+    Ok(())
+}
+
+/// A log has room for 4,096 calls, refused ones counted, and a file of 1,048,576 bytes is shown, but no longer one.
+#[test]
+fn limits_are_kept(rt: HostRuntime) -> Result<(), Fail> {
+    let alloc = rt.alloc();
+    let mut calls = Wanted::new(alloc, "wtf servers 4 replicas 2 region 65536 number 0\n")?;
+    calls.add("c0 begin => begun 0\n")?;
+    for _ in 0..4_096u16 {
+        calls.add("c0 tell f0 => refused nohandle\n")?;
+    }
+    calls.add("c0 tell f0 => refused full\nc0 try => committed 1\n")?;
+    let mut long = Wanted::new(alloc, "wtf servers 4 replicas 2 region 65536 number 0\n")?;
+    long.add(LONG_FILE)?;
+    long.script.extend_from_slice(b"sys dump /a\n")?;
+    long.output.extend_from_slice(b"data x:")?;
+    long.output
+        .extend_from_slice(vec![in alloc; b'0'; 2_097_152]?.as_slice())?;
+    long.output.push(b'\n')?;
+    for wanted in [calls, long] {
+        let mut shelf = stores(alloc, 16, 0, None)?;
+        let (status, output) = run_over(alloc, &[], wanted.script.as_slice(), &mut shelf)?;
+        assert_eq!(rt; status, 0);
+        assert!(rt; output.as_slice() == wanted.output.as_slice());
+    }
+    Ok(())
+}
+
+/// With one of three servers down both others are needed for a write.
 #[test]
 fn scripts_are_answered(rt: HostRuntime) -> Result<(), Fail> {
     let alloc = rt.alloc();
-    for (servers, replicas, region, script, want, status) in [
-        (4, 2, 65_536, &[] as &[u8], FIRST_LINE, 0),
-        (4, 2, 65_536, SCRIPT, OUTPUT, 0),
-        (2, 2, 65_536, DOWN_SCRIPT, DOWN_OUTPUT, 0),
-        (3, 2, 65_536, THREE_SCRIPT, THREE_OUTPUT, 0),
-        (5, 3, 64, EACH_SCRIPT, EACH_OUTPUT, 1),
-    ] {
-        let settings = Settings::new(servers, replicas, region).ok_or("settings")?;
+    for (servers, script, want) in [(4, SCRIPT, OUTPUT), (3, THREE_SCRIPT, THREE_OUTPUT)] {
+        let settings = Settings::new(servers, 2, 65_536).ok_or("settings")?;
         let mut shelf = stores(alloc, 16, 0, None)?;
         let (ended, output) = answers(alloc, settings, script, &mut shelf)?;
-        assert_eq!(rt; ended, status, "{servers} servers");
+        assert_eq!(rt; ended, 0, "{servers} servers");
         assert_eq!(rt; output.as_slice(), want, "{servers} servers");
     }
     Ok(())

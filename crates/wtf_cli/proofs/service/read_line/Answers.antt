@@ -7,5 +7,5 @@ use Rattle.wtf_cli.proofs.service.read_line.Goals as goal
 pub returns-in-Ok-Some-Long-clause-came : goal.returns-in-Ok-Some-Long-clause-came
 returns-in-Ok-Some-Long-clause-came g c =
     let is : c.next.result ≡ Ok (Some line.Long) = cc in
-    line_long (input (g.I.Source.view c.args.script.now) c.args.lines.now) (input (g.I.Source.view c.next.new.source) c.next.new.self)
+    line_long (input (g.I.Source.view c.args.script.now) c.args.reader.now.lines) (input (g.I.Source.view c.next.new.source) c.next.new.self)
     c.next.result is c.next.ensures.told c.next.ensures.progress

@@ -1,0 +1,402 @@
+//! Scripts with their answers. A line and its answer stand on one line here, with ` => ` between.
+
+/// A script that is run on empty stores which never fail.
+#[derive(Clone, Copy)]
+pub(crate) struct Row {
+    pub(crate) name: &'static str,
+    pub(crate) words: &'static str,
+    /// The line that the output begins with.
+    pub(crate) settings: &'static str,
+    /// Where it is not empty, a transaction before the lines makes `/a` with these bytes.
+    pub(crate) text: &'static str,
+    pub(crate) lines: &'static str,
+    /// How many bytes all stores hold in the end.
+    pub(crate) stored: u64,
+}
+
+const DEFAULTS: &str = "wtf servers 4 replicas 2 region 65536 number 0\n";
+
+const SMALL_REGIONS: &str = "wtf servers 4 replicas 2 region 64 number 0\n";
+
+const TWO_SERVERS: &str = "wtf servers 2 replicas 2 region 65536 number 0\n";
+
+pub(crate) const ROWS: [Row; 19] = [
+    Row {
+        name: "nothing",
+        words: "",
+        settings: DEFAULTS,
+        text: "",
+        lines: "",
+        stored: 0,
+    },
+    Row {
+        name: "later bytes hide earlier ones",
+        words: "",
+        settings: DEFAULTS,
+        text: "abcdef",
+        lines: "c0 begin => begun 1
+c0 open f0 /a => ok
+c0 seek f0 set 2 => ok
+c0 write f0 t:XY => ok
+c0 try => committed 2
+sys dump /a => data x:616258596566
+",
+        stored: 16,
+    },
+    Row {
+        name: "a write across the border of a region",
+        words: "--region 64",
+        settings: SMALL_REGIONS,
+        text: "",
+        lines: "c0 begin => begun 0
+c0 create /a => ok
+c0 open f0 /a => ok
+c0 seek f0 set 60 => ok
+c0 write f0 t:0123456789 => ok
+c0 stat /a => file 70
+c0 seek f0 set 58 => ok
+c0 read f0 20 => data x:000030313233343536373839
+c0 try => committed 1
+",
+        stored: 20,
+    },
+    Row {
+        name: "two appends from one base",
+        words: "",
+        settings: DEFAULTS,
+        text: "",
+        lines: "c0 begin => begun 0
+c0 create /a => ok
+c0 try => committed 1
+c0 begin => begun 1
+c0 open f0 /a => ok
+c1 begin => begun 1
+c1 open f0 /a => ok
+c0 append f0 t:ab => ok
+c1 append f0 t:cd => ok
+c1 try => committed 2
+c0 try => committed 3
+sys dump /a => data x:63646162
+",
+        stored: 8,
+    },
+    Row {
+        name: "an append to a region that is full by then",
+        words: "--region 64",
+        settings: SMALL_REGIONS,
+        text: "aaaaaaaaaaaaaaaaaaaaaaaaaaaaaaaaaaaaaaaaaaaaaaaaaaaaaaaaaaaa",
+        lines: "c0 begin => begun 1
+c0 open f0 /a => ok
+c1 begin => begun 1
+c1 open f0 /a => ok
+c0 append f0 t:1234 => ok
+c1 append f0 t:5678 => ok
+c0 try => committed 2
+c1 try => retry 1 2
+c1 step => replayed 1
+c1 step => replayed 2
+c1 try => committed 3
+c1 begin => begun 3
+c1 stat /a => file 68
+c1 abort => ok
+",
+        stored: 136,
+    },
+    Row {
+        name: "a difference that was shown",
+        words: "",
+        settings: DEFAULTS,
+        text: "",
+        lines: "c0 begin => begun 0
+c0 create /a => ok
+c0 try => committed 1
+c0 begin => begun 1
+c0 stat /a => file 0
+c1 begin => begun 1
+c1 open f0 /a => ok
+c1 append f0 t:xyz => ok
+c1 try => committed 2
+c0 commit => aborted 1 file 3
+",
+        stored: 6,
+    },
+    Row {
+        name: "the same bytes in another slice",
+        words: "",
+        settings: DEFAULTS,
+        text: "ab",
+        lines: "c0 begin => begun 1
+c0 open f0 /a => ok
+c0 read f0 2 => data x:6162
+c1 begin => begun 1
+c1 open f0 /a => ok
+c1 write f0 t:ab => ok
+c1 try => committed 2
+c0 create /b => ok
+c0 commit => committed 3
+",
+        stored: 8,
+    },
+    Row {
+        name: "the greatest file",
+        words: "--region 64",
+        settings: SMALL_REGIONS,
+        text: "",
+        lines: "c0 begin => begun 0
+c0 create /a => ok
+c0 open f0 /a => ok
+c0 seek f0 set 262145 => refused range
+c0 seek f0 set 262144 => ok
+c0 write f0 t:x => refused toobig
+c0 seek f0 back 1 => ok
+c0 write f0 t:x => ok
+c0 tell f0 => at 262144
+c0 stat /a => file 262144
+c0 append f0 t:y => refused toobig
+c0 truncate f0 262145 => refused toobig
+c0 seek f0 end => ok
+c0 seek f0 fwd 1 => refused range
+c0 seek f0 back 2 => ok
+c0 read f0 4 => data x:0078
+c0 try => committed 1
+",
+        stored: 2,
+    },
+    Row {
+        name: "punch and truncate",
+        words: "",
+        settings: DEFAULTS,
+        text: "abcdef",
+        lines: "c0 begin => begun 1
+c0 open f0 /a => ok
+c0 seek f0 set 4 => ok
+c0 punch f0 10 => ok
+c0 tell f0 => at 4
+c0 stat /a => file 6
+c0 seek f0 set 0 => ok
+c0 read f0 9 => data x:616263640000
+c0 truncate f0 2 => ok
+c0 truncate f0 8 => ok
+c0 seek f0 set 0 => ok
+c0 read f0 9 => data x:6162000000000000
+c0 read f0 9 => data x:
+c0 try => committed 2
+",
+        stored: 12,
+    },
+    Row {
+        name: "the servers of all copies go down",
+        words: "--servers 2",
+        settings: TWO_SERVERS,
+        text: "",
+        lines: "c0 begin => begun 0
+c0 create /a => ok
+c0 open f0 /a => ok
+c0 write f0 t:ab => ok
+sys down 0 => ok
+c0 seek f0 set 0 => ok
+c0 read f0 2 => data x:6162
+sys down 1 => ok
+c0 seek f0 set 0 => ok
+c0 read f0 2 => fault read 1
+sys down 2 => refused noserver
+",
+        stored: 4,
+    },
+    Row {
+        name: "three clients",
+        words: "",
+        settings: DEFAULTS,
+        text: "",
+        lines: "c0 begin => begun 0
+c1 begin => begun 0
+c2 begin => begun 0
+c0 create /a => ok
+c1 create /a => ok
+c2 create /b => ok
+c0 try => committed 1
+c1 try => retry 0 1
+c1 create /c => refused replaying
+c2 try => committed 2
+c1 abort => ok
+sys tree => tree d:/ f:/a:0 f:/b:0
+",
+        stored: 0,
+    },
+    Row {
+        name: "a refused append whose length counts",
+        words: "--region 64",
+        settings: SMALL_REGIONS,
+        text: "",
+        lines: "c0 begin => begun 0
+c0 create /a => ok
+c0 open f0 /a => ok
+c0 truncate f0 262144 => ok
+c0 try => committed 1
+c0 begin => begun 1
+c0 open f0 /a => ok
+c0 append f0 t:ab => refused toobig
+c1 begin => begun 1
+c1 open f0 /a => ok
+c1 truncate f0 262143 => ok
+c1 try => committed 2
+c0 commit => committed 3
+",
+        stored: 0,
+    },
+    Row {
+        name: "a refused append that fits by then",
+        words: "--region 64",
+        settings: SMALL_REGIONS,
+        text: "",
+        lines: "c0 begin => begun 0
+c0 create /a => ok
+c0 open f0 /a => ok
+c0 truncate f0 262144 => ok
+c0 try => committed 1
+c0 begin => begun 1
+c0 open f0 /a => ok
+c0 append f0 t:ab => refused toobig
+c1 begin => begun 1
+c1 open f0 /a => ok
+c1 truncate f0 262142 => ok
+c1 try => committed 2
+c0 commit => aborted 2 ok
+",
+        stored: 0,
+    },
+    Row {
+        name: "a yanked slice whose bytes were not shown",
+        words: "",
+        settings: DEFAULTS,
+        text: "abcd",
+        lines: "c0 begin => begun 1
+c0 open f0 /a => ok
+c0 yank f0 4 s0 => len 4
+c0 create /b => ok
+c0 open f1 /b => ok
+c0 paste f1 s0 => ok
+c1 begin => begun 1
+c1 open f0 /a => ok
+c1 write f0 t:WXYZ => ok
+c1 try => committed 2
+c0 commit => committed 3
+sys dump /b => data x:5758595a
+",
+        stored: 16,
+    },
+    Row {
+        name: "a yanked slice whose bytes were shown",
+        words: "",
+        settings: DEFAULTS,
+        text: "abcd",
+        lines: "c0 begin => begun 1
+c0 open f0 /a => ok
+c0 yank f0 4 s0 => len 4
+c0 peek s0 0 4 => data x:61626364
+c0 create /b => ok
+c0 open f1 /b => ok
+c0 paste f1 s0 => ok
+c1 begin => begun 1
+c1 open f0 /a => ok
+c1 write f0 t:WXYZ => ok
+c1 try => committed 2
+c0 commit => aborted 3 data x:5758595a
+sys dump /b => refused noent
+",
+        stored: 16,
+    },
+    Row {
+        name: "names, refusals and empty parts",
+        words: "",
+        settings: DEFAULTS,
+        text: "ab",
+        lines: "c0 begin => begun 1
+c0 copy /a /a => refused exists
+c0 open f0 /a => ok
+c0 open f0 /a => refused inuse
+c0 rename /a /b => refused busy
+c0 unlink /a => refused busy
+c0 write f0 x: => ok
+c0 yank f0 0 s0 => len 0
+c0 paste f0 s1 => refused noslice
+c0 peek s0 0 1 => refused range
+c0 close f0 => ok
+c0 close f0 => refused nohandle
+c0 concat /c /a /a /a /a => ok
+c0 stat /c => file 8
+c0 mkdir / => refused exists
+c0 rmdir / => refused root
+c0 mkdir /x/y => refused noparent
+c0 create /a/b => refused noparent
+c0 rmdir /a => refused notdir
+c0 unlink / => refused isdir
+c0 list /a => refused notdir
+c0 open f0 /q => refused noent
+c0 mkdir /d => ok
+c0 rmdir /d => ok
+c0 rename /a /b => ok
+c0 list / => names b c
+c0 try => committed 2
+sys dump /c => data x:6162616261626162
+",
+        stored: 4,
+    },
+    Row {
+        name: "a sharded log",
+        words: "",
+        settings: DEFAULTS,
+        text: "",
+        lines: "c0 begin => begun 0
+c0 mkdir /logs => ok
+c0 create /logs/mon => ok
+c0 create /logs/tue => ok
+c0 open f0 /logs/mon => ok
+c0 write f0 t:m1m2 => ok
+c0 open f1 /logs/tue => ok
+c0 write f1 t:t1 => ok
+c0 try => committed 1
+c1 begin => begun 1
+c1 concat /logs/week /logs/mon /logs/tue => ok
+c1 open f0 /logs/week => ok
+c1 yank f0 2 s0 => len 2
+c1 glue f0 s0 => ok
+c1 cut s0 1 1 s1 => ok
+c1 peek s1 0 1 => data x:31
+c1 rmdir /logs => refused notempty
+c1 try => committed 2
+sys tree => tree d:/ d:/logs f:/logs/mon:4 f:/logs/tue:2 f:/logs/week:8
+sys dump /logs/week => data x:6d316d3274316d31
+",
+        stored: 12,
+    },
+    Row {
+        name: "refusals of the machine",
+        words: "",
+        settings: DEFAULTS,
+        text: "ab",
+        lines: "c0 step => refused notx
+c0 begin => begun 1
+c0 begin => refused intx
+c0 step => refused live
+c0 abort => ok
+sys down 4 => refused noserver
+sys dump / => refused isdir
+",
+        stored: 4,
+    },
+    Row {
+        name: "verbs that are left to a later version",
+        words: "",
+        settings: DEFAULTS,
+        text: "",
+        lines: "sys plan j0 compact /a 0 => notbuilt
+sys put j0 => notbuilt
+sys scan => notbuilt
+sys piece 64 => notbuilt
+sys collect 0 => notbuilt
+sys save => notbuilt
+",
+        stored: 0,
+    },
+];
