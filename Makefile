@@ -12,7 +12,7 @@ build: ## prove the program, and put it at build/wtf
 
 demo: ## run the scripts of examples/, built fast and without a proof, and compare what they print
 	@mkdir -p build
-	@for name in first servers; do \
+	@for name in first servers clients appends replay abort; do \
 		(cd $(PROGRAM) && rt try -- - < ../../examples/$$name.wtf > ../../build/$$name.out) || exit 1; \
 		cat build/$$name.out; \
 		diff examples/$$name.out build/$$name.out || exit 1; \
@@ -22,8 +22,10 @@ demo: ## run the scripts of examples/, built fast and without a proof, and compa
 test: ## the gate: prove every crate, try the wrong bodies, run the tests and the programs
 	rt ci
 
-bench: ## print the tables of what calls cost, with ratios
+bench: build ## print the tables of what calls cost, and how many lines a second the program answers, with ratios
 	@cd crates/wtf_bench && rt run
+	@echo
+	@tools/bench-lines build/wtf
 
 clean: ## remove what was built
 	rm -rf build crates/*/out
