@@ -7,21 +7,21 @@ PROGRAM := crates/wtf_cli
 DIR := -
 WORDS :=
 
-build: ## prove the program and put it at build/wtf (long the first time)
+build: ## prove the program, put it at build/wtf (minutes a crate)
 	cd $(PROGRAM) && rt run -- - < /dev/null > /dev/null
 	mkdir -p build
 	cp $(PROGRAM)/out/wtf_cli build/wtf
 
-demo: ## run and compare examples/, built fast, with no proof (1 to 2 minutes)
+demo: ## run examples/ and compare, built fast, unproved (1 to 2 minutes)
 	@tools/demo
 
-run: ## SCRIPT=FILE [DIR=..] [WORDS=..]: run a script so (1 to 2 minutes)
+run: ## SCRIPT=FILE [DIR=..] [WORDS=..]: run a script (1 to 2 minutes)
 	@tools/run-fast "$(SCRIPT)" "$(DIR)" $(WORDS)
 
-demo-bytes: build ## put 1 MiB in and take it out, by build/wtf (seconds)
+demo-bytes: build ## put 1 MiB in and take it out (seconds after the build)
 	@examples/bytes.sh
 
-test: ## the gate, rt ci: proofs, wrong bodies, tests, programs (the longest)
+test: ## the gate, rt ci, on everything (the first time, the longest)
 	rt ci
 
 bench: build ## print tables of what calls and lines cost (minutes)
