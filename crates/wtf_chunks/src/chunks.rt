@@ -1,38 +1,42 @@
 //! The list in chunks.
 
-ghost use Rattle.std.specs.Prelude.{◌≡◌, ◌<◌, ◌++◌, [], ◌∷◌, length, slice_get, Some, IfOk, OnOk, OnErr, IsTrue, ◌↔◌};
+ghost use Rattle.std.specs.Prelude.{◌≡◌, ◌<◌, ◌≤◌, ◌++◌, [], ◌∷◌, length, slice_get, take, vec_len, Some, IfOk, OnOk, OnErr, IsTrue, ◌↔◌};
+ghost use Rattle.std.specs.List.{flat_map};
+ghost use Rattle.std.specs.Rc.{rc_slice_items};
+ghost use Rattle.std.specs.Vec.{vec_capacity};
 
 use std::alloc::{AllocError, Global};
 use std::marker::Model;
 use std::rc::RcSlice;
 
-/// The number of items of a sealed chunk.
+/// The number of items at which the open chunk is sealed.
 pub const CHUNK: usize = 64;
+
+/// A sealed chunk, which holders share.
+type Sealed<T> = RcSlice<T, Global>;
 
 /// A list whose holders share what is sealed. A version of a file's metadata that is pushed to keeps all
 /// but the last few entries of the version before it (NSDI 2016, section 2.1: entries are appended).
-/// It keeps its allocator.
+/// The sealed chunks get longer towards the front, so that a list of n items has about log n of them,
+/// and each item is copied about log n times. It keeps its allocator.
 #[derive(Debug, Drop)]
 pub struct Chunks<T: Copy + Drop> {
     alloc: Global,
-    sealed: Vec<RcSlice<T, Global>>,
+    sealed: Vec<Sealed<T>>,
     last: Vec<T>,
     count: usize,
 }
 
 impl<T: Copy + Drop> Model for Chunks<T> {
-    ghost use Rattle.std.specs.Prelude.{List, ℕ, ◌≡◌, ◌≤◌, ◌++◌, length};
-    ghost use Rattle.std.specs.List.{All, flat_map};
+    ghost use Rattle.std.specs.Prelude.{List, ◌≡◌, ◌++◌, length};
+    ghost use Rattle.std.specs.List.{flat_map};
     ghost use Rattle.std.specs.Rc.{rc_slice_items};
-    ghost use Rattle.wtf_chunks.specs.declared.chunks.TheConstants.{CHUNK};
 
     ghost Value = { List T };
 
     ghost view = { λ a. flat_map rc_slice_items a.sealed.items ++ a.last.items };
 
-    ghost invariant = { λ a. All (λ c. length (rc_slice_items c) ≡ CHUNK) a.sealed.items
-        × (length a.last.items ≤ CHUNK)
-        × (a.count ≡ length (flat_map rc_slice_items a.sealed.items ++ a.last.items)) };
+    ghost invariant = { λ a. a.count ≡ length (flat_map rc_slice_items a.sealed.items ++ a.last.items) };
 }
 
 impl<T: Copy + Drop> Chunks<T> {
@@ -62,17 +66,20 @@ impl<T: Copy + Drop> Chunks<T> {
         self.count == 0
     }
 
-    /// The item at `i`, counted from 0.
+    /// The item at `i`, counted from 0. It costs a step for each sealed chunk before it.
     pub fn get(&self, i: usize) -> T
         requires { i < length self.now }
         ensures { slice_get self.now i ≡ Some result }
     {
-        let chunk = i / CHUNK;
-        if chunk < self.sealed.len() {
-            self.sealed[chunk].as_slice()[i % CHUNK]
-        } else {
-            self.last[i - CHUNK * self.sealed.len()]
+        let mut at = i;
+        for chunk in &self.sealed {
+            let items = chunk.as_slice();
+            if at < items.len() {
+                return items[at];
+            }
+            at -= items.len();
         }
+        self.last[at]
     }
 
     /// Puts `item` at the end. After an error the list is as before. Other holders see nothing of it.
@@ -81,18 +88,16 @@ impl<T: Copy + Drop> Chunks<T> {
         ensures err { OnErr result (self.new ≡ self.old) }
     {
         let count = self.count.checked_add(1).ok_or(AllocError)?;
-        if self.last.len() == CHUNK {
-            let chunk = RcSlice::from_slice(self.alloc, self.last.as_slice())?;
-            self.sealed.push(chunk)?;
-            self.last.clear();
+        if self.last.len() >= CHUNK {
+            seal(self.alloc, &mut self.sealed, &mut self.last)?;
         }
         self.last.push(item)?;
         self.count = count;
         Ok(())
     }
 
-    /// The same list for a second holder. It costs a step for each sealed chunk, and copies the items of
-    /// the open one alone.
+    /// The same list for a second holder. It costs a step for each sealed chunk, of which there are
+    /// about log n, and copies the items of the open one alone.
     pub fn share(&self) -> Result<Chunks<T>, AllocError>
         ensures { IfOk result (λ c. c ≡ self.now) }
     {
@@ -105,4 +110,77 @@ impl<T: Copy + Drop> Chunks<T> {
             count: self.count,
         })
     }
+
+    /// Whether two lists are sure to be the same, where `==` of items tells that. It costs a look at
+    /// each item. `false` says nothing.
+    pub fn is_same(&self, other: &Chunks<T>) -> bool
+    where
+        T: PartialEq,
+        requires exact { (x y : T) → IsTrue (T.eq x y) → x ≡ y }
+        ensures { IsTrue result → self.now ≡ other.now }
+    {
+        self.sealed == other.sealed && self.last == other.last
+    }
+}
+
+/// Seals the open chunk together with the last sealed ones. After an error all is as before.
+fn seal<T: Copy + Drop>(
+    alloc: Global,
+    sealed: &mut Vec<Sealed<T>>,
+    last: &mut Vec<T>,
+) -> Result<(), AllocError>
+    ensures { flat_map rc_slice_items sealed.new.items ++ last.new.items ≡
+        flat_map rc_slice_items sealed.old.items ++ last.old.items }
+{
+    let from = joined_from(sealed.as_slice(), last.len());
+    let (_kept, joined) = sealed.as_slice().split_at(from);
+    let chunk = RcSlice::from_vec(together(alloc, joined, last.as_slice())?)?;
+    sealed.reserve(1)?;
+    replace_top(sealed, from, chunk);
+    last.clear();
+    Ok(())
+}
+
+/// Where the chunks begin that are joined with a further one of `len` items: each of them is no longer
+/// than all that follow it.
+fn joined_from<T>(sealed: &[Sealed<T>], len: usize) -> usize
+    ensures { result ≤ length sealed.now }
+{
+    let mut from = sealed.len();
+    let mut sum = len;
+    while from > 0 {
+        let before = sealed[from - 1].len();
+        if before > sum {
+            break;
+        }
+        sum = sum.saturating_add(before);
+        from -= 1;
+    }
+    from
+}
+
+/// The items of some chunks, and then further ones.
+fn together<T: Copy + Drop>(
+    alloc: Global,
+    chunks: &[Sealed<T>],
+    more: &[T],
+) -> Result<Vec<T>, AllocError>
+    ensures { IfOk result (λ v. v.items ≡ flat_map rc_slice_items chunks.now ++ more.now) }
+{
+    let mut items = Vec::new(alloc);
+    for chunk in chunks {
+        items.extend_from_slice(chunk.as_slice())?;
+    }
+    items.extend_from_slice(more)?;
+    Ok(items)
+}
+
+/// Puts a chunk in place of those from `from` on.
+fn replace_top<T: Drop>(sealed: &mut Vec<Sealed<T>>, from: usize, chunk: Sealed<T>)
+    requires within { from ≤ length sealed.old.items }
+    requires room { vec_len sealed.old < vec_capacity sealed.old }
+    ensures { sealed.new.items ≡ take from sealed.old.items ++ chunk ∷ [] }
+{
+    sealed.truncate(from);
+    let _room = sealed.push(chunk);
 }

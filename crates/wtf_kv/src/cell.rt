@@ -1,6 +1,6 @@
 //! What the store asks of its keys and values.
 
-ghost use Rattle.std.specs.Prelude.{◌≡◌, Option, IfOk};
+ghost use Rattle.std.specs.Prelude.{◌≡◌, Option, IfOk, IsTrue};
 ghost use Rattle.std.specs.Option.{option_copied};
 ghost use Rattle.std.specs.declared.cmp.Ordering.TheVariants.{Equal};
 ghost use Rattle.wtf_kv.specs.declared.cell.Applied.{Applied};
@@ -38,6 +38,11 @@ pub trait Cell: Drop {
     /// A value that is equal to this one.
     fn copy(&self, alloc: Global) -> Result<Self, OutOfMemory>
         ensures { IfOk result (λ made. made ≡ self.now) };
+
+    /// Whether two values are sure to be the same, by about `looks` looks at their parts at most.
+    /// `false` says nothing.
+    fn is_same(&self, other: &Self, looks: usize) -> bool
+        ensures { IsTrue result → self.now ≡ other.now };
 }
 
 /// A key of the store, in order.

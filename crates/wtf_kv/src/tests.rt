@@ -63,6 +63,10 @@ impl Cell for Count {
     fn copy(&self, _alloc: Global) -> Result<Count, OutOfMemory> {
         Ok(Count { n: self.n })
     }
+
+    fn is_same(&self, other: &Count, _looks: usize) -> bool {
+        self.n == other.n
+    }
 }
 
 fn value(kv: &Kv<Name, Count>, n: u64, id: u64) -> u64

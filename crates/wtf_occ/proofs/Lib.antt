@@ -3,3 +3,4 @@ mod Agree
 mod Growing
 mod Indexed
 mod Noted
+mod Knowing

@@ -8,7 +8,7 @@ use Rattle.std.specs.Map.{lookup}
 use Rattle.std.specs.BTreeMap.{is_at}
 use Rattle.std.specs.Cmp.{Equal-is}
 use Rattle.std.proofs.Math.Seq.{take-append_seam, take-length}
-use Rattle.std.proofs.lemmas.List.{take_more}
+use Rattle.std.proofs.lemmas.List.{take_more, get_or-append_right}
 use Rattle.std.proofs.lemmas.Map.Made.{lookup-map_values}
 use Rattle.std.proofs.lemmas.Bool.{cases_Bool, eqb-true}
 use Rattle.wtf_kv.specs.declared.changes.Change.{Change}
@@ -51,6 +51,12 @@ pub ends_with : {X : Type 0} (xs : List X) (x : X) → 0 < length xs → x ≡ g
 ends_with xs x some is =
     let e : length xs ≡ (length xs - 1) + 1 = omega arith in
     sym (take-length xs) ∙ ap (λ k. take k xs) e ∙ take_more xs (length xs - 1) x (omega arith) ∙ ap (λ y. take (length xs - 1) xs ++ y ∷ []) (sym is)
+
+-- the last element of a list that goes on by one
+pub last_is : {X : Type 0} (xs more : List X) (x y : X) (n : ℕ) → more ≡ xs ++ x ∷ [] → n ≡ length xs → y ≡ get_or more n y → y ≡ x
+last_is xs more x y n is at found =
+    let zeroth : n - length xs ≡ 0 = omega arith in
+    found ∙ ap (λ l. get_or l n y) is ∙ get_or-append_right xs (x ∷ []) (length xs) n y refl (omega arith) ∙ ap (λ k. get_or (x ∷ []) k y) zeroth
 
 module _ {K D : Type 0} (R : K → K → Ordering) (cs more : List (Change K D)) (c : Change K D) (es fs : List (K × List ℕ)) (cuts after : List ℕ) where
   -- a change comes to the end, and its position is noted

@@ -72,6 +72,7 @@ impl<K: StoreKey, C: Cell> Attempt<K, C> {
         ensures err { OnErr result (self.new ≡ self.old) }
         ensures grows { Grows self.old self.new }
     {
+        self.settle(kv, key)?;
         let value = self.peek(kv, key)?;
         let key = key.copy(self.alloc)?;
         match self.reads.push(key) {
@@ -82,12 +83,21 @@ impl<K: StoreKey, C: Cell> Attempt<K, C> {
 
     /// The value of a key at the base, with the attempt's own changes applied in order. Nothing is
     /// recorded. It takes the time of a read of the base and a walk over the attempt's changes of this
-    /// key and its cuts.
+    /// key and its cuts; where the key is settled, no walk but looks at the value at the base.
     pub fn peek(&self, kv: &Kv<K, C>, key: &K) -> Result<Option<C>, OutOfMemory>
         requires { IsTrue (is_pinned kv.now self.now.base) }
         ensures { IfOk result (λ value. value ≡ map_seen K.cmp C.outcome kv.now self.now key.now) }
     {
         self.changes.value(kv, self.base, key)
+    }
+
+    /// Makes later looks at a key cost no walk over the attempt's changes of it, up to the next cut. It
+    /// takes the time of a `peek`, and none where the key is settled or the attempt has no change of it.
+    pub fn settle(&mut self, kv: &Kv<K, C>, key: &K) -> Result<(), OutOfMemory>
+        requires { IsTrue (is_pinned kv.now self.old.base) }
+        ensures { self.new ≡ self.old }
+    {
+        self.changes.settle(kv, self.base, key)
     }
 
     /// Adds a change of a key's value. Want of memory leaves the attempt as it was.

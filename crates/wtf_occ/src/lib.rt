@@ -4,6 +4,7 @@
 
 mod attempt;
 pub mod examples;
+mod known;
 mod tried;
 mod values;
 mod write_set;

@@ -68,6 +68,10 @@ impl Cell for Count {
     fn copy(&self, _alloc: Global) -> Result<Count, OutOfMemory> {
         Ok(Count { n: self.n })
     }
+
+    fn is_same(&self, other: &Count, _looks: usize) -> bool {
+        self.n == other.n
+    }
 }
 
 /// A store in which install 1 set key 7 to a number; 1 is pinned.
@@ -189,5 +193,48 @@ fn goes_back_to_a_mark(rt: HostRuntime) -> Result<(), Fail> {
     assert!(rt; matches!(attempt.peek(&kv, &Name { id: 7 })?, Some(Count { n: 5 })));
     attempt.rewind(mark);
     assert!(rt; matches!(attempt.peek(&kv, &Name { id: 7 })?, Some(Count { n: 53 })));
+    Ok(())
+}
+
+/// The number of key 7 that an attempt reads; 0 where it has no value.
+fn read_seven(
+    rt: &impl Abort,
+    attempt: &mut Attempt<Name, Count>,
+    kv: &Kv<Name, Count>,
+) -> Result<u64, OutOfMemory> {
+    assert!(rt; kv.is_pinned(attempt.base()));
+    match attempt.read(kv, &Name { id: 7 })? {
+        Some(count) => Ok(count.n),
+        None => Ok(0),
+    }
+}
+
+/// Goes back to a mark.
+fn go_back(rt: &impl Abort, attempt: &mut Attempt<Name, Count>, mark: Mark) {
+    let now = attempt.mark();
+    assert!(rt; mark.reads <= now.reads);
+    assert!(rt; mark.changes <= now.changes);
+    attempt.rewind(mark);
+}
+
+#[test]
+fn a_read_sees_each_change(rt: HostRuntime) -> Result<(), Fail> {
+    let kv = store(rt.alloc(), 20)?;
+    let other = store(rt.alloc(), 50)?;
+    let mut attempt = Attempt::new(rt.alloc(), 1)?;
+    for n in 21..30 {
+        attempt.delta(Name { id: 7 }, 1)?;
+        assert_eq!(rt; read_seven(&rt, &mut attempt, &kv)?, n);
+    }
+    assert_eq!(rt; read_seven(&rt, &mut attempt, &other)?, 59);
+    let mark = attempt.mark();
+    attempt.delta(Name { id: 7 }, 4)?;
+    assert_eq!(rt; read_seven(&rt, &mut attempt, &kv)?, 33);
+    go_back(&rt, &mut attempt, mark);
+    assert_eq!(rt; read_seven(&rt, &mut attempt, &kv)?, 29);
+    attempt.cut_range(Name { id: 7 }, Name { id: 8 })?;
+    assert_eq!(rt; read_seven(&rt, &mut attempt, &kv)?, 0);
+    attempt.delta(Name { id: 7 }, 3)?;
+    assert_eq!(rt; read_seven(&rt, &mut attempt, &kv)?, 3);
     Ok(())
 }

@@ -1,16 +1,17 @@
 //! What an attempt's changes make of a key's value.
 
-ghost use Rattle.std.specs.Prelude.{◌≡◌, IsTrue, IfOk, cond, nat_eq, length};
-ghost use Rattle.wtf_kv.specs.Stores.{map_at, is_pinned};
+ghost use Rattle.std.specs.Prelude.{◌≡◌, None, IfOk, cond, nat_eq, length};
+ghost use Rattle.std.specs.Option.{option_copied};
 ghost use Rattle.wtf_kv.specs.Edits.{after_change};
 ghost use Rattle.wtf_occ.specs.Positions.{AllBelow, covers, past_cover, after_positions};
 
+use crate::known::copied;
 use std::alloc::Global;
 use wtf_base::OutOfMemory;
-use wtf_kv::{Applied, Cell, Change, Kv, StoreKey};
+use wtf_kv::{Applied, Cell, Change, StoreKey};
 
 /// What a change makes of a key's value.
-fn changed<K: StoreKey, C: Cell>(
+pub(crate) fn changed<K: StoreKey, C: Cell>(
     alloc: Global,
     change: &Change<K, C::Delta>,
     key: &K,
@@ -65,24 +66,18 @@ fn is_covered<K: StoreKey, D>(change: &Change<K, D>, key: &K) -> bool
 
 /// The value from which the changes at `from` and past it start: the one at the base, or none where a
 /// cut stands before them.
-pub(crate) fn value_before<K: StoreKey, C: Cell>(
+pub(crate) fn value_before<C: Cell>(
     alloc: Global,
-    kv: &Kv<K, C>,
-    base: u64,
+    at_base: Option<&C>,
     from: usize,
-    key: &K,
 ) -> Result<Option<C>, OutOfMemory>
-    requires { IsTrue (is_pinned kv.now base) }
     ensures { IfOk result (λ value. value ≡
-        cond (nat_eq from 0) (map_at K.cmp kv.now base key.now) None) }
+        cond (nat_eq from 0) (option_copied at_base.entry) None) }
 {
     if from != 0 {
         return Ok(None);
     }
-    match kv.read_at(base, key) {
-        Some(value) => Ok(Some(value.copy(alloc)?)),
-        None => Ok(None),
-    }
+    copied(alloc, at_base)
 }
 
 /// What the changes at those of the positions that are at least `from` make of a key's value.

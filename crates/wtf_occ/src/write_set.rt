@@ -1,12 +1,15 @@
 //! The changes of an attempt, in order, with an index of the positions at which those of a key stand. A read
-//! walks the changes of its key and the cuts by it, and not all changes.
+//! walks the changes of its key and the cuts by it, and not all changes. Where the key is settled, it walks
+//! none.
 
-ghost use Rattle.std.specs.Prelude.{◌≡◌, ℕ, ◌-◌, ◌<◌, ◌≤◌, ◌∷◌, [], ◌++◌, IsTrue, IfOk, OnErr, OnOk, cond, length, take};
+ghost use Rattle.std.specs.Prelude.{◌≡◌, ℕ, ◌-◌, ◌<◌, ◌≤◌, ◌∷◌, [], ◌++◌, IsTrue, IfOk, IfSome, OnErr, OnOk, cond, length, take};
 ghost use Rattle.std.specs.BTreeMap.{is_at};
-ghost use Rattle.wtf_kv.specs.Edits.{over};
+ghost use Rattle.std.specs.Option.{option_copied};
+ghost use Rattle.wtf_kv.specs.Edits.{over, after_changes};
 ghost use Rattle.wtf_kv.specs.Stores.{map_at, is_pinned};
 ghost use Rattle.wtf_occ.specs.Positions.{listed_positions, positions_of, front, is_cut, is_delta_of};
 
+use crate::known::{Known, KnownValues, are_same, copied, follow, unlearn};
 use crate::values::{past_cuts, value_after, value_before};
 use std::alloc::Global;
 use std::collections::BTreeMap;
@@ -17,25 +20,31 @@ use wtf_kv::{Cell, Change, Changes, Kv, StoreKey};
 /// The positions of each key's deltas in a list of changes, ascending.
 type Positions<K> = BTreeMap<K, Vec<usize>>;
 
-/// Changes, in order, with their index. Contracts see the list of them.
+/// So many looks at parts of a value cost no more than the application of one change.
+const LOOKS: usize = 128;
+
+/// Changes, in order, with their index, and the values that are known. Contracts see the list of changes.
 #[derive(Drop)]
 pub(crate) struct WriteSet<K: StoreKey, C: Cell> {
     alloc: Global,
     changes: Changes<K, C>,
     positions: Positions<K>,
     cuts: Vec<usize>,
+    known: KnownValues<K, C>,
 }
 
 impl<K: StoreKey, C: Cell> Model for WriteSet<K, C> {
     ghost use Rattle.std.specs.Prelude.{List};
     ghost use Rattle.wtf_kv.specs.declared.changes.Change.{Change};
     ghost use Rattle.wtf_occ.specs.Positions.{IsIndex, listed_positions};
+    ghost use Rattle.wtf_occ.specs.Known.{AreMade};
 
     ghost Value = { List (Change K C.Delta) };
 
     ghost view = { λ w. w.changes };
 
-    ghost invariant = { λ w. IsIndex K.cmp w.changes (listed_positions w.positions.entries) w.cuts.items };
+    ghost invariant = { λ w. IsIndex K.cmp w.changes (listed_positions w.positions.entries) w.cuts.items
+        × AreMade K.cmp C.outcome w.changes w.known.entries };
 }
 
 impl<K: StoreKey, C: Cell> WriteSet<K, C> {
@@ -48,6 +57,7 @@ impl<K: StoreKey, C: Cell> WriteSet<K, C> {
             changes: Changes::new(alloc),
             positions: BTreeMap::new(alloc),
             cuts: Vec::new(alloc),
+            known: BTreeMap::new(alloc),
         }
     }
 
@@ -71,11 +81,56 @@ impl<K: StoreKey, C: Cell> WriteSet<K, C> {
         ensures { IfOk result
             (λ value. value ≡ over K.cmp C.outcome self.now (map_at K.cmp kv.now base) key.now) }
     {
+        let at_base = kv.read_at(base, key);
+        match self.known_from(at_base, key) {
+            Some(known) => copied(self.alloc, known.after.as_ref()),
+            None => self.made_of(at_base, key),
+        }
+    }
+
+    /// What is known of a key, where that is sure to start from this value.
+    fn known_from(&self, at_base: Option<&C>, key: &K) -> Option<&Known<C>>
+        ensures { IfSome result (λ known. known.now.after ≡
+            after_changes K.cmp C.outcome self.now key.now (option_copied at_base.entry)) }
+    {
+        let known = self.known.get(key)?;
+        let changes = positions_in(&self.positions, key).len();
+        let looks = changes.saturating_mul(LOOKS);
+        if are_same(known.before.as_ref(), at_base, looks) {
+            Some(known)
+        } else {
+            None
+        }
+    }
+
+    /// What the changes make of a value of a key, by a walk over those of the key and the cuts.
+    fn made_of(&self, at_base: Option<&C>, key: &K) -> Result<Option<C>, OutOfMemory>
+        ensures { IfOk result (λ value. value ≡
+            after_changes K.cmp C.outcome self.now key.now (option_copied at_base.entry)) }
+    {
         let changes = self.changes.as_slice();
         let from = past_cuts(changes, self.cuts.as_slice(), key);
-        let before = value_before(self.alloc, kv, base, from, key)?;
+        let before = value_before(self.alloc, at_base, from)?;
         let positions = positions_in(&self.positions, key);
         value_after(self.alloc, changes, positions, from, key, before)
+    }
+
+    /// Makes the value of a key known, unless it is or no delta is of this key.
+    pub(crate) fn settle(&mut self, kv: &Kv<K, C>, base: u64, key: &K) -> Result<(), OutOfMemory>
+        requires { IsTrue (is_pinned kv.now base) }
+        ensures { self.new ≡ self.old }
+    {
+        if positions_in(&self.positions, key).is_empty() || self.known.contains_key(key) {
+            return Ok(());
+        }
+        let at_base = kv.read_at(base, key);
+        let before = copied(self.alloc, at_base)?;
+        let after = self.made_of(at_base, key)?;
+        let own = key.copy(self.alloc)?;
+        match self.known.insert(own, Known { before, after }) {
+            Ok(_) => Ok(()),
+            Err(_) => Err(OutOfMemory),
+        }
     }
 
     /// Adds a change of a key's value. Want of memory leaves the list as it was.
@@ -92,6 +147,8 @@ impl<K: StoreKey, C: Cell> WriteSet<K, C> {
             self.changes.shorten(position);
             return Err(why);
         }
+        let all = self.changes.as_slice();
+        follow(self.alloc, &mut self.known, &all[position]);
         Ok(())
     }
 
@@ -109,6 +166,7 @@ impl<K: StoreKey, C: Cell> WriteSet<K, C> {
             self.changes.shorten(position);
             return Err(why);
         }
+        self.known.clear();
         Ok(())
     }
 
@@ -119,7 +177,9 @@ impl<K: StoreKey, C: Cell> WriteSet<K, C> {
     {
         let last = self.changes.len() - 1;
         let all = self.changes.as_slice();
-        forget(&mut self.positions, &mut self.cuts, &all[last]);
+        let change = &all[last];
+        forget(&mut self.positions, &mut self.cuts, change);
+        unlearn(&mut self.known, change);
         self.changes.shorten(last);
     }
 

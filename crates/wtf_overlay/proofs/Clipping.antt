@@ -61,7 +61,7 @@ entry_eq x y o l p = λ i. record {
 }
 
 -- and slices where their lengths and extents are
-slice_eq : (s t : Slice) → s.len ≡ t.len → s.extents ≡ t.extents → s ≡ t
+pub slice_eq : (s t : Slice) → s.len ≡ t.len → s.extents ≡ t.extents → s ≡ t
 slice_eq s t l e = λ i. record {
   len = l i;
   extents = e i;

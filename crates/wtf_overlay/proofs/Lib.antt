@@ -12,3 +12,4 @@ mod Standing
 mod Joining
 mod Compacts
 mod Wholes
+pub mod SameEntries

@@ -1,6 +1,6 @@
 //! The list of entries, and the runs that show what it shows.
 
-ghost use Rattle.std.specs.Prelude.{◌≡◌, ℕ, ◌*◌, ◌+◌, ◌<◌, ◌≤◌, ◌++◌, [], ◌∷◌, length, Some, OnOk, OnErr, IfOk, slice_get};
+ghost use Rattle.std.specs.Prelude.{◌≡◌, ℕ, ◌*◌, ◌+◌, ◌<◌, ◌≤◌, ◌++◌, [], ◌∷◌, length, Some, OnOk, OnErr, IfOk, IsTrue, slice_get};
 ghost use Rattle.std.specs.Bool.{OnFalse};
 ghost use Rattle.wtf_overlay.specs.Clips.{Within};
 ghost use Rattle.wtf_overlay.specs.Origin.{origin, Plans};
@@ -91,7 +91,7 @@ impl Overlay {
     }
 
     /// The same list for a second holder. What is pushed to one leaves the other as it is. It costs a step
-    /// for each sealed chunk of entries and for each run.
+    /// for each sealed chunk of entries and for each run, about log n of both.
     pub fn share(&self) -> Result<Overlay, OutOfMemory>
         ensures { IfOk result (λ o. o ≡ self.now) }
     {
@@ -102,6 +102,14 @@ impl Overlay {
             runs,
             reach: self.reach,
         })
+    }
+
+    /// Whether two lists are sure to be of the same entries. It costs a look at each entry. `false` says
+    /// nothing.
+    pub fn is_same(&self, other: &Overlay) -> bool
+        ensures { IsTrue result → self.now ≡ other.now }
+    {
+        self.entries.is_same(&other.entries)
     }
 
     /// The `len` bytes from `off` on as consecutive pieces, each of one entry or of a hole. Where `len` is

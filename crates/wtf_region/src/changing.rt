@@ -134,6 +134,7 @@ pub fn add_pieces(
     }
     let size = settings.region;
     let last = last_region(kv, at, inode)?;
+    at.settle(kv, &Key::Region(inode, last))?;
     let end = peek_end(kv, at, inode, last)?;
     if has_room(end, len, size) {
         let pieces = Pieces::of(alloc, pieces)?;

@@ -1,6 +1,6 @@
 //! What a change makes of a region.
 
-ghost use Rattle.std.specs.Prelude.{◌≡◌, ◌+◌, ◌<◌, ◌^◌, [], IfOk, None, Some};
+ghost use Rattle.std.specs.Prelude.{◌≡◌, ◌+◌, ◌<◌, ◌^◌, [], IfOk, IsTrue, None, Some};
 ghost use Rattle.wtf_overlay.specs.Clips.{Within};
 ghost use Rattle.wtf_overlay.specs.Origin.{pieces_len};
 ghost use Rattle.wtf_values.specs.Bases.{seen_upto, base_below};
@@ -79,6 +79,17 @@ impl RegionValue {
             base: self.base,
             list,
         })
+    }
+
+    /// Whether two regions are sure to be the same, told where the list has `looks` entries at most.
+    /// `false` says nothing.
+    pub(crate) fn is_same(&self, other: &RegionValue, looks: usize) -> bool
+        ensures { IsTrue result → self.now ≡ other.now }
+    {
+        self.list.len() <= looks
+            && self.end == other.end
+            && self.base == other.base
+            && self.list.is_same(&other.list)
     }
 
     /// The region with an entry laid over it.

@@ -31,6 +31,16 @@ impl Cell for Value {
     fn copy(&self, _alloc: Global) -> Result<Value, OutOfMemory> {
         copy_of(self)
     }
+
+    fn is_same(&self, other: &Value, looks: usize) -> bool {
+        match (self, other) {
+            (Value::Node(a), Value::Node(b)) => a == b,
+            (Value::Names(a), Value::Names(b)) => a.is_same(b, looks),
+            (Value::Last(a), Value::Last(b)) => a == b,
+            (Value::Region(a), Value::Region(b)) => a.is_same(b, looks),
+            _ => false,
+        }
+    }
 }
 
 /// The same value for another holder.

@@ -1,6 +1,6 @@
 //! The names in a directory.
 
-ghost use Rattle.std.specs.Prelude.{◌≡◌, ℕ, List, ◌<◌, ◌≤◌, ◌++◌, length, take, drop, slice_get, Some, IfOk, IfErr, OnOk};
+ghost use Rattle.std.specs.Prelude.{◌≡◌, ℕ, List, ◌<◌, ◌≤◌, ◌++◌, length, take, drop, slice_get, Some, IfOk, IfErr, OnOk, IsTrue};
 ghost use Rattle.wtf_values.specs.Names.{no_names, names_in, has_name, with_name, without_name, IsAt, IsGap};
 
 use crate::Name;
@@ -74,6 +74,14 @@ impl NameSet {
         Ok(NameSet { names })
     }
 
+    /// Whether two sets are sure to be the same, told where they have `looks` names at most. `false`
+    /// says nothing.
+    pub(crate) fn is_same(&self, other: &NameSet, looks: usize) -> bool
+        ensures { IsTrue result → self.now ≡ other.now }
+    {
+        self.names.len() <= looks && are_same(self.names.as_slice(), other.names.as_slice())
+    }
+
     /// The set with a name, which may be there already. It costs a handle a name.
     pub fn with(&self, name: &Name) -> Result<NameSet, OutOfMemory>
         ensures { IfOk result (λ s. s ≡ with_name self.now name.now) }
@@ -129,6 +137,21 @@ impl NameSet {
         share_all(&mut names, after)?;
         Ok(NameSet { names })
     }
+}
+
+/// Whether two lists are of the same names.
+fn are_same(names: &[Name], others: &[Name]) -> bool
+    ensures { IsTrue result → names.now ≡ others.now }
+{
+    if names.len() != others.len() {
+        return false;
+    }
+    for (i, name) in names.iter().enumerate() {
+        if name.as_bytes() != others[i].as_bytes() {
+            return false;
+        }
+    }
+    true
 }
 
 /// Adds these names for another holder.

@@ -1,10 +1,10 @@
-use Rattle.std.proofs.Common.{◌≡◌, ℕ, ◌+◌, ◌*◌, ◌<◌, ◌≤◌, ◌++◌, [], ◌∷◌, List, arith, ap, subst}
+use Rattle.std.proofs.Common.{◌≡◌, ℕ, ◌+◌, ◌*◌, ◌<◌, ◌≤◌, ◌++◌, [], ◌∷◌, List, arith, ap, subst, sym}
 use Rattle.wtf_overlay.specs.declared.part.Piece.{Piece}
 use Rattle.wtf_meta.specs.Maps.{seen}
 use Rattle.wtf_meta.specs.Files.{end_of, file_len}
 use Rattle.wtf_meta.specs.FileEdits.{PushRel, edit_of, file_of}
 use Rattle.wtf_meta.specs.Appends.{OfLast}
-use Rattle.wtf_region.specs.Edited.{Edited, LaysPieces}
+use Rattle.wtf_region.specs.Edited.{Edited, LaysPieces, Recorded}
 use Rattle.wtf_region.proofs.PieceEdits.{end_seen, recorded_length, adds_none, adds_rel, adds_laid}
 use Rattle.wtf_region.proofs.changing.add_pieces.Goals as goal
 
@@ -19,12 +19,14 @@ returns-then-has_room-clause-added c =
     let b = c.args.settings.region in
     let ps = c.args.pieces.now in
     let v = file_of i (seen c.args.kv.now c.args.at.now) in
+    let at = c.settle.new.self in
+    let first : Recorded i (OfLast ∷ []) c.args.at.now at = subst (Recorded i (OfLast ∷ []) c.args.at.now) (sym c.settle.ensures) c.in_ok-last.ensures.recorded in
     let end : c.in_ok-end.end ≡ end_of (v.region v.last) =
-    end_seen c.args.kv.now i (OfLast ∷ []) c.args.at.now c.last_region.new.at c.in_ok-last.last c.in_ok-end.end c.in_ok-last.ensures.recorded c.in_ok-last.ensures.value c.in_ok-end.ensures in
+    end_seen c.args.kv.now i (OfLast ∷ []) c.args.at.now at c.in_ok-last.last c.in_ok-end.end first c.in_ok-last.ensures.value c.in_ok-end.ensures in
     let room : c.in_ok-end.end + c.bytes_of-len.result ≤ b = c.has_room.ensures.room c.if-has_room.true in
-    adds_rel b i v c.in_ok-last.last ps c.args.at.now c.last_region.new.at c.delta.new.self (omega (arith, c.args.settings.limits)) (omega (arith, c.args.settings.limits))
-    (λ e. c.if-len-eq0.false (omega (arith, e, c.bytes_of-len.ensures))) (omega (arith, end, room, c.bytes_of-len.ensures, c.args.settings.limits)) c.in_ok-last.ensures.value c.in_ok-last.ensures.recorded
-    (subst (λ (qs : List Piece). c.delta.new.self ≡ record c.last_region.new.at { changes = c.last_region.new.at.changes ++ edit_of i (PushRel c.in_ok-last.last qs b) ∷ [] }) c.in_ok-pieces.ensures c.in_ok-delta.ensures.ok)
+    adds_rel b i v c.in_ok-last.last ps c.args.at.now at c.delta.new.self (omega (arith, c.args.settings.limits)) (omega (arith, c.args.settings.limits))
+    (λ e. c.if-len-eq0.false (omega (arith, e, c.bytes_of-len.ensures))) (omega (arith, end, room, c.bytes_of-len.ensures, c.args.settings.limits)) c.in_ok-last.ensures.value first
+    (subst (λ (qs : List Piece). c.delta.new.self ≡ record at { changes = at.changes ++ edit_of i (PushRel c.in_ok-last.last qs b) ∷ [] }) c.in_ok-pieces.ensures c.in_ok-delta.ensures.ok)
 
 pub returns-clause-added : goal.returns-clause-added
 returns-clause-added c =
@@ -32,13 +34,15 @@ returns-clause-added c =
     let b = c.args.settings.region in
     let ps = c.args.pieces.now in
     let v = file_of i (seen c.args.kv.now c.args.at.now) in
+    let at = c.settle.new.self in
+    let first : Recorded i (OfLast ∷ []) c.args.at.now at = subst (Recorded i (OfLast ∷ []) c.args.at.now) (sym c.settle.ensures) c.in_ok-last.ensures.recorded in
     let peeked : c.in_ok-end.end ≡ end_of (v.region v.last) =
-    end_seen c.args.kv.now i (OfLast ∷ []) c.args.at.now c.last_region.new.at c.in_ok-last.last c.in_ok-end.end c.in_ok-last.ensures.recorded c.in_ok-last.ensures.value c.in_ok-end.ensures in
+    end_seen c.args.kv.now i (OfLast ∷ []) c.args.at.now at c.in_ok-last.last c.in_ok-end.end first c.in_ok-last.ensures.value c.in_ok-end.ensures in
     let end : c.in_ok-end-2.end ≡ end_of (v.region v.last) =
-    end_seen c.args.kv.now i (OfLast ∷ []) c.args.at.now c.last_region.new.at c.in_ok-last.last c.in_ok-end-2.end c.in_ok-last.ensures.recorded c.in_ok-last.ensures.value c.in_ok-end-2.ensures.value in
+    end_seen c.args.kv.now i (OfLast ∷ []) c.args.at.now at c.in_ok-last.last c.in_ok-end-2.end first c.in_ok-last.ensures.value c.in_ok-end-2.ensures.value in
     let full : b < c.in_ok-end.end + c.bytes_of-len.result = c.has_room.ensures.full c.if-has_room.false in
     let off : c.in_ok-last.last * b + c.in_ok-end-2.end ≡ file_len b v = omega (arith, end, ap (λ (r : ℕ). r * b) c.in_ok-last.ensures.value) in
     adds_laid b i v ps c.args.at.now c.region_end.new.at c.put_pieces.new.at
     (λ e. c.if-len-eq0.false (omega (arith, e, c.bytes_of-len.ensures))) (omega (arith, peeked, full, c.bytes_of-len.ensures))
-    (recorded_length i v c.in_ok-last.last c.args.at.now c.last_region.new.at c.region_end.new.at c.in_ok-last.ensures.value c.in_ok-last.ensures.recorded c.in_ok-end-2.ensures.recorded)
+    (recorded_length i v c.in_ok-last.last c.args.at.now at c.region_end.new.at c.in_ok-last.ensures.value first c.in_ok-end-2.ensures.recorded)
     (subst (λ (o : ℕ). Edited i [] (LaysPieces b o i ps) c.region_end.new.at c.put_pieces.new.at) off c.in_ok-put_pieces.ensures.ok)

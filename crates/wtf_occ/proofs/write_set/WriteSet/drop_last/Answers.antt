@@ -1,5 +1,6 @@
 use Rattle.std.proofs.Common.{sym, ap, ◌∙◌, ◌≡◌, ◌<◌, ◌-◌, ◌∷◌, ◌++◌, [], take, length, get_or, subst}
 use Rattle.wtf_occ.specs.Positions.{listed_positions}
+use Rattle.wtf_occ.specs.Known.{AreMade}
 use Rattle.wtf_occ.proofs.Noted.{index_dropped, ends_with}
 use Rattle.wtf_occ.proofs.write_set.WriteSet.drop_last.Goals as goal
 
@@ -11,8 +12,11 @@ invariant_of-self g c =
     let some : 0 < length all = subst (λ l. 0 < length l) (sym c.self.view_is) c.requires in
     let last : c.len-last.result - 1 ≡ length all - 1 = ap (λ n. n - 1) c.len-last.ensures in
     let is : change ≡ get_or all (length all - 1) change = c.index-all-last.is ∙ ap (λ l. get_or l (c.len-last.result - 1) change) c.as_slice-all.ensures ∙ ap (λ n. get_or all n change) last in
-    index_dropped g.K.Ord.cmp c.shorten.new.self all change (listed_positions c.forget.new.positions.entries) (listed_positions inside.positions.entries) c.forget.new.cuts.items inside.cuts.items
-    c.self.invariant
-    (ends_with all change some is ∙ ap (λ l. l ++ change ∷ []) (sym (c.shorten.ensures ∙ ap (λ n. take n all) last)))
-    c.forget.ensures.deltas
-    c.forget.ensures.cuts
+    let ends : all ≡ c.shorten.new.self ++ change ∷ [] = ends_with all change some is ∙ ap (λ l. l ++ change ∷ []) (sym (c.shorten.ensures ∙ ap (λ n. take n all) last)) in (
+      index_dropped g.K.Ord.cmp c.shorten.new.self all change (listed_positions c.forget.new.positions.entries) (listed_positions inside.positions.entries) c.forget.new.cuts.items inside.cuts.items
+          c.self.invariant.0
+          ends
+          c.forget.ensures.deltas
+          c.forget.ensures.cuts,
+      c.unlearn.ensures c.shorten.new.self (subst (λ l. AreMade g.K.Ord.cmp g.C.Cell.outcome l inside.known.entries) ends c.self.invariant.1),
+    )
