@@ -196,17 +196,17 @@ fn goes_back_to_a_mark(rt: HostRuntime) -> Result<(), Fail> {
     Ok(())
 }
 
-/// The number of key 7 that an attempt reads; 0 where it has no value.
-fn read_seven(
+/// Checks what an attempt reads at key 7; 0 stands for no value.
+fn reads(
     rt: &impl Abort,
     attempt: &mut Attempt<Name, Count>,
     kv: &Kv<Name, Count>,
-) -> Result<u64, OutOfMemory> {
+    want: u64,
+) -> Result<(), OutOfMemory> {
     assert!(rt; kv.is_pinned(attempt.base()));
-    match attempt.read(kv, &Name { id: 7 })? {
-        Some(count) => Ok(count.n),
-        None => Ok(0),
-    }
+    let value = attempt.read(kv, &Name { id: 7 })?;
+    assert!(rt; value.map_or(0, |count| count.n) == want);
+    Ok(())
 }
 
 /// Goes back to a mark.
@@ -223,18 +223,15 @@ fn a_read_sees_each_change(rt: HostRuntime) -> Result<(), Fail> {
     let other = store(rt.alloc(), 50)?;
     let mut attempt = Attempt::new(rt.alloc(), 1)?;
     for n in 21..30 {
+        let mark = attempt.mark();
+        attempt.delta(Name { id: 7 }, 4)?;
+        reads(&rt, &mut attempt, &kv, n + 3)?;
+        go_back(&rt, &mut attempt, mark);
         attempt.delta(Name { id: 7 }, 1)?;
-        assert_eq!(rt; read_seven(&rt, &mut attempt, &kv)?, n);
+        reads(&rt, &mut attempt, &kv, n)?;
     }
-    assert_eq!(rt; read_seven(&rt, &mut attempt, &other)?, 59);
-    let mark = attempt.mark();
-    attempt.delta(Name { id: 7 }, 4)?;
-    assert_eq!(rt; read_seven(&rt, &mut attempt, &kv)?, 33);
-    go_back(&rt, &mut attempt, mark);
-    assert_eq!(rt; read_seven(&rt, &mut attempt, &kv)?, 29);
+    reads(&rt, &mut attempt, &other, 59)?;
     attempt.cut_range(Name { id: 7 }, Name { id: 8 })?;
-    assert_eq!(rt; read_seven(&rt, &mut attempt, &kv)?, 0);
-    attempt.delta(Name { id: 7 }, 3)?;
-    assert_eq!(rt; read_seven(&rt, &mut attempt, &kv)?, 3);
+    reads(&rt, &mut attempt, &kv, 0)?;
     Ok(())
 }
