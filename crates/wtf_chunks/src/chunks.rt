@@ -36,7 +36,8 @@ impl<T: Copy + Drop> Model for Chunks<T> {
 
     ghost view = { λ a. flat_map rc_slice_items a.sealed.items ++ a.last.items };
 
-    ghost invariant = { λ a. a.count ≡ length (flat_map rc_slice_items a.sealed.items ++ a.last.items) };
+    ghost invariant = { λ a. a.count ≡
+        length (flat_map rc_slice_items a.sealed.items ++ a.last.items) };
 }
 
 impl<T: Copy + Drop> Chunks<T> {

@@ -43,7 +43,8 @@ impl<K: StoreKey, C: Cell> Model for WriteSet<K, C> {
 
     ghost view = { λ w. w.changes };
 
-    ghost invariant = { λ w. IsIndex K.cmp w.changes (listed_positions w.positions.entries) w.cuts.items
+    ghost invariant = { λ w.
+        IsIndex K.cmp w.changes (listed_positions w.positions.entries) w.cuts.items
         × AreMade K.cmp C.outcome w.changes w.known.entries };
 }
 
