@@ -78,15 +78,19 @@ returns-in-Err-show-clause-fault g c =
     let inode : i ≡ h.inode = open_at.inode in
     let off : c.in-Some.spot.off ≡ h.off = open_at.off in
     let count : k ≡ found_in z b h c.args.n = found_due c.cap.result z c.in-Ok.len c.in-Some.spot.off c.args.n k i b h c.count-k.ensures c.cap.ensures c.in-Ok.ensures.value inode off in
-    inr (h, open_at.is, record {
-      mid = mid;
-      goes = c.in-Ok-pieces.ensures.dev;
-      pieces = ps;
-      plans = subst (λ (m : ℕ). Plans ps m (λ j. file_origin z (file_of h.inode b) (h.off + j))) count
-          (plans_due z (seen c.args.kv.now c.file_len.new.at) b h i c.in-Some.spot.off c.start-from.result k ps same inode off c.start-from.ensures.some c.in-Ok-pieces.ensures.plans);
-      fault = subst (λ (m : ℕ). IsShowFault kind (between mid c.show.new.dev) (pieces_in 0 m ps) c.in-Err-show.why) count
-          (subst (λ (qs : List Piece). IsShowFault kind (between mid c.show.new.dev) (pieces_in 0 k qs) c.in-Err-show.why) c.as_slice.ensures.value c.in-Err-show.ensures.fault);
-    })
+    inr (
+      h,
+      open_at.is,
+      record {
+        mid = mid;
+        goes = c.in-Ok-pieces.ensures.dev;
+        pieces = ps;
+        plans = subst (λ (m : ℕ). Plans ps m (λ j. file_origin z (file_of h.inode b) (h.off + j))) count
+            (plans_due z (seen c.args.kv.now c.file_len.new.at) b h i c.in-Some.spot.off c.start-from.result k ps same inode off c.start-from.ensures.some c.in-Ok-pieces.ensures.plans);
+        fault = subst (λ (m : ℕ). IsShowFault kind (between mid c.show.new.dev) (pieces_in 0 m ps) c.in-Err-show.why) count
+            (subst (λ (qs : List Piece). IsShowFault kind (between mid c.show.new.dev) (pieces_in 0 k qs) c.in-Err-show.why) c.as_slice.ensures.value c.in-Err-show.ensures.fault);
+      },
+    )
 
 pub returns-in-Err-show-clause-due : goal.returns-in-Err-show-clause-due
 returns-in-Err-show-clause-due g c =
