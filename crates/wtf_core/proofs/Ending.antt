@@ -32,6 +32,8 @@ use Rattle.wtf_core.specs.Views.{TablesView, of_client, metadata_now}
 use Rattle.wtf_core.specs.Tables.{owned, IsOpen, AreSound}
 use Rattle.wtf_core.specs.Standing.{StandsForTxn, StandsForSlot, TablesStand}
 use Rattle.wtf_core.specs.Turns.{Keeps, Ends, Commits, Retries, Tries, Replays, Aborts, StepFails, Finishes, GivesUp, Steps, Finals}
+use Rattle.wtf_image.specs.Savable.{AreBefore}
+use Rattle.wtf_core.proofs.Images.{before_same, before_own}
 use Rattle.wtf_core.proofs.Later.{Stands-later}
 use Rattle.wtf_core.proofs.Frames.{Turned, sound_turned, stands_turned}
 use Rattle.wtf_core.proofs.Staying.{stays_sound, stays_stand}
@@ -84,6 +86,7 @@ module _ (old new : TablesView) (mid : Store Key Value) (c : ℕ) (x : TxnView) 
         let kept = ends.pins n in
         let fewer = ends.unpinned n in
         omega (arith, was, kept, fewer);
+    saved = ends.saved;
     own = λ y e. absurd (cc);
     whose = λ y e. absurd (cc);
   }
@@ -94,12 +97,14 @@ module _ (old new : TablesView) (mid : Store Key Value) (c : ℕ) (x : TxnView) 
 
   -- the tables stand for a machine without the transaction, where the tree now is that of the map that it left
   pub ends_stand : (size : ℕ) (told later : Told) (m after : Machine) → TablesStand size told old m → TellsOn told later → after.transactions ≡ remove m.transactions c → after.number ≡ mid.number
+      → after.may_be_saved ≡ m.may_be_saved → AreBefore old.next_tx (metadata_now mid)
       → ((tx : ℕ) → tx ≢ x.tx → Stands size told tx 0 (metadata_now old.kv) m.now → Stands size later tx 0 (metadata_now mid) after.now)
       → TablesStand size later new after
-  ends_stand size told later m after st on gone number trees =
+  ends_stand size told later m after st on gone number may before trees =
       stands_turned size told later old new m after c None sound st on ends_turned
       (λ d ne. ap (λ ones. get ones d) gone ∙ gone_there m.transactions c d ne)
-      (number ∙ sym ends_number)
+      (number ∙ sym ends_number) may
+      (before_same old.next_tx new.next_tx (metadata_now mid) (metadata_now new.kv) ends_now (let next = ends.next_tx in omega (arith, next)) before)
       (subst (λ o. StandsForSlot size later new.kv after.now None o) (sym (ap (λ ones. get ones c) gone ∙ gone_here m.transactions c)) tt)
       (λ tx other was. subst (λ w. Stands size later tx 0 w after.now) (sym ends_now) (trees tx (other x here) was))
 
@@ -107,7 +112,8 @@ module _ (old new : TablesView) (mid : Store Key Value) (c : ℕ) (x : TxnView) 
   pub leaves_stand : (size : ℕ) (told later : Told) (m : Machine) → TablesStand size told old m → TellsOn told later → mid.number ≡ old.kv.number → TablesStand size later new (ended m c)
   leaves_stand size told later m st on same =
       let map : metadata_now mid ≡ metadata_now old.kv = ap (λ n. metadata_at mid n) same ∙ ends.maps old.kv.number (omega arith) in
-      ends_stand size told later m (ended m c) st on refl (st.number ∙ sym same) (λ tx other was. subst (λ w. Stands size later tx 0 w m.now) (sym map) (Stands-later told later on size tx 0 (metadata_now old.kv) m.now was))
+      ends_stand size told later m (ended m c) st on refl (st.number ∙ sym same) refl
+      (before_same old.next_tx old.next_tx (metadata_now old.kv) (metadata_now mid) map (omega arith) st.before) (λ tx other was. subst (λ w. Stands size later tx 0 w m.now) (sym map) (Stands-later told later on size tx 0 (metadata_now old.kv) m.now was))
 
   -- an install: the calls run on the tree now
   pub installs_stand : (size : ℕ) (told later : Told) (m : Machine) (t : Transaction) (n : ℕ) → TablesStand size told old m → TellsOn told later → m.settings.region ≡ size → get m.transactions c ≡ Some t
@@ -121,7 +127,8 @@ module _ (old new : TablesView) (mid : Store Key Value) (c : ℕ) (x : TxnView) 
       let now : Tree = (session_after (cap_of m) m.now t.ops).tree in
       let stands : Stands size later x.tx (length t.ops) changed now = subst (λ k. Stands size later x.tx (length t.ops) changed (session_after k m.now t.ops).tree) (sym cap) ran.stands in (
         (final.next ∙ ap (λ k. k + 1) (sym st.number), ap (λ k. answers_of k m.now t.ops) cap ∙ ran.answers ∙ sym txn.shown),
-        ends_stand size told later m (installed m c t n) st on refl (sym final.number)
+        ends_stand size told later m (installed m c t n) st on refl (sym final.number) refl
+            (before_same old.next_tx old.next_tx changed (metadata_now mid) map (omega arith) (before_own x.tx old.next_tx (metadata_now old.kv) changed (sound.each c x here).older ran.own st.before))
             (λ tx other was.
             subst (λ w. Stands size later tx 0 w now) (sym map)
             (stands_other size later x.tx tx (length t.ops) changed now stands (λ i own some. ran.own i (λ e. other (sym own ∙ e)) (was.fresh i own some)))),
@@ -153,6 +160,7 @@ module _ (old new : TablesView) (c : ℕ) (x y : TxnView) (sound : AreSound old)
         let is : owned n (Some y) ≡ owned n (Some x) = ap (λ b. if nat_eq n b then 1 else 0) base in
         let kept : times_pinned new.kv n ≡ times_pinned old.kv n = ap (λ s. times_pinned s n) keeps.kv in
         omega (arith, was, is, kept);
+    saved = keeps.saved;
     own = λ z e. let hit : y ≡ z = cc in subst (λ v. IsOpen new.kv new.next_tx v) hit goes_open;
     whose = λ z e. let hit : y ≡ z = cc in inr (x, here, ap (λ (v : TxnView). v.tx) (sym hit) ∙ tx);
   }
@@ -182,7 +190,8 @@ module _ (old new : TablesView) (c : ℕ) (x y : TxnView) (sound : AreSound old)
       } in
       stands_turned size told later old new m (with_transaction m c t2) c (Some y) sound st on goes_turned
       (λ d ne. get-number_other m.transactions c t2 d ne)
-      (st.number ∙ ap (λ (s : Store Key Value). s.number) (sym keeps.kv))
+      (st.number ∙ ap (λ (s : Store Key Value). s.number) (sym keeps.kv)) refl
+      (before_same old.next_tx new.next_tx (metadata_now old.kv) (metadata_now new.kv) (ap (λ (s : Store Key Value). metadata_now s) keeps.kv) (let next = keeps.next_tx in omega (arith, next)) st.before)
       (subst (λ o. StandsForSlot size later new.kv m.now (Some y) o) (sym (get-number_same m.transactions c t2))
       (subst (λ kv. StandsForTxn size later kv m.now y t2) (sym keeps.kv) stands))
       (λ k other was. subst (λ kv. Stands size later k 0 (metadata_now kv) m.now) (sym keeps.kv) (Stands-later told later on size k 0 (metadata_now old.kv) m.now was))
@@ -235,6 +244,7 @@ module _ (old new : TablesView) (c : ℕ) (x : TxnView) (b n : ℕ) (sound : Are
         let is : owned k (Some again) ≡ (if nat_eq k n then 1 else 0) = ap (λ j. if nat_eq k j then 1 else 0) retry_base in
         let moved = turn.retried.pins k in
         omega (arith, was, is, moved);
+    saved = turn.saved;
     own = λ z e. let hit : again ≡ z = cc in subst (λ v. IsOpen new.kv new.next_tx v) hit retry_open;
     whose = λ z e. let hit : again ≡ z = cc in inr (x, here, ap (λ (v : TxnView). v.tx) (sym hit) ∙ retry_tx);
   }
@@ -262,7 +272,8 @@ module _ (old new : TablesView) (c : ℕ) (x : TxnView) (b n : ℕ) (sound : Are
         (turn.retried.base_is ∙ sym txn.base, turn.retried.number_is ∙ sym st.number, turn.retried.later),
         stands_turned size told later old new m (with_transaction m c t2) c (Some again) sound st on retry_turned
             (λ d ne. get-number_other m.transactions c t2 d ne)
-            (st.number ∙ sym turn.retried.number)
+            (st.number ∙ sym turn.retried.number) refl
+            (before_same old.next_tx new.next_tx (metadata_now old.kv) (metadata_now new.kv) retry_now (let next = turn.next_tx in omega (arith, next)) st.before)
             (subst (λ o. StandsForSlot size later new.kv m.now (Some again) o) (sym (get-number_same m.transactions c t2)) stands)
             (λ k other was. subst (λ w. Stands size later k 0 w m.now) (sym retry_now) (Stands-later told later on size k 0 (metadata_now old.kv) m.now was)),
       )

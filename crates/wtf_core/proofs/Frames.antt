@@ -1,11 +1,12 @@
 -- What a line of one client leaves to the others.
 use Rattle.std.proofs.Common.{◌≡◌, ◌≢◌, ◌≤◌, ℕ, ◌+◌, Option, None, Some, refl, sym, ap, ◌∙◌, subst, ◌⊎◌, ⊎_elim, arith}
 use Rattle.std.specs.Prelude.{IsTrue}
+use Rattle.std.specs.List.{Contains}
 use Rattle.std.specs.FinMap.{get}
 use Rattle.wtf_kv.specs.Stores.{Store, is_pinned, times_pinned}
 use Rattle.wtf_values.specs.declared.key.Key.{Key}
 use Rattle.wtf_values.specs.declared.value.Value.{Value}
-use Rattle.wtf_model.specs.Tree.{Tree}
+use Rattle.wtf_model.specs.Tree.{Tree, root_alone}
 use Rattle.wtf_model.specs.Transaction.{Transaction}
 use Rattle.wtf_model.specs.Machines.{Machine}
 use Rattle.wtf_meta.specs.Contents.{Told}
@@ -15,10 +16,12 @@ use Rattle.wtf_meta.proofs.Telling.{TellsOn}
 use Rattle.wtf_replay.specs.Views.{TxnView}
 use Rattle.wtf_replay.specs.Tried.{KeepsMaps}
 use Rattle.wtf_replay.proofs.Sounding.{sound_later, sound_along}
-use Rattle.wtf_core.specs.Views.{TablesView, of_client, metadata_now}
-use Rattle.wtf_core.specs.Tables.{owned, all_owned, IsOpen, AreSound, Sets}
+use Rattle.wtf_image.specs.Savable.{AreBefore}
+use Rattle.wtf_core.specs.Views.{SavedView, TablesView, of_client, metadata_now}
+use Rattle.wtf_core.specs.Tables.{owned, all_owned, all_kept, IsOpen, AreSound, Sets}
 use Rattle.wtf_core.specs.Standing.{StandsForTxn, StandsForSlot, TablesStand}
 use Rattle.wtf_core.proofs.Pins.{number_cases, base_pinned}
+use Rattle.wtf_core.proofs.Images.{image_on}
 use Rattle.wtf_core.proofs.Later.{Stands-later}
 
 -- What a line of client c changed of the tables: its own transaction is now this one, or none. It is the one that it was by
@@ -30,6 +33,7 @@ pub record Turned (old new : TablesView) (c : ℕ) (now : Option TxnView) : Type
   pub more : old.next_tx ≤ new.next_tx
   pub pins : (n : ℕ) → times_pinned new.kv n + owned n (of_client old.clients c) ≡ times_pinned old.kv n + owned n now
   pub own : (x : TxnView) → now ≡ Some x → IsOpen new.kv new.next_tx x
+  pub saved : new.saved ≡ old.saved
   pub whose : (x : TxnView) → now ≡ Some x → (x.tx ≡ old.next_tx) ⊎ ((y : TxnView) × (of_client old.clients c ≡ Some y) × (x.tx ≡ y.tx))
 
 -- a transaction that is open stays so over a store in which its base is pinned and shows the same
@@ -74,12 +78,23 @@ slot_on size told later kv after was is (Some x) (Some t) f st = f x t refl st
 
 module _ (old new : TablesView) (c : ℕ) (now : Option TxnView) (sound : AreSound old) (turned : Turned old new c now) where
   -- a number is pinned as often as it is owned
-  pins_are : (n : ℕ) → times_pinned new.kv n ≡ all_owned n new.clients
+  pins_are : (n : ℕ) → times_pinned new.kv n ≡ all_owned n new.clients + all_kept n new.saved
   pins_are n =
       let moved = turned.pins n in
       let set = turned.sets.pins n in
       let was = sound.pins n in
-      omega (arith, moved, set, was)
+      let kept : all_kept n new.saved ≡ all_kept n old.saved = ap (all_kept n) turned.saved in
+      omega (arith, moved, set, was, kept)
+
+  -- an image that may be on the keeper was there before
+  kept_before : (n : ℕ) → Contains new.saved.images n → Contains old.saved.images n
+  kept_before n here = subst (λ (s : SavedView). Contains s.images n) turned.saved here
+
+  kept_now : (n : ℕ) → Contains new.saved.images n → n ≤ new.kv.number
+  kept_now n here =
+      let was = sound.kept n (kept_before n here) in
+      let up = turned.later in
+      omega (arith, was, up)
 
   -- no other client has a transaction of the number that this one has now
   alone : (d : ℕ) (x y : TxnView) → d ≢ c → now ≡ Some x → of_client old.clients d ≡ Some y → x.tx ≢ y.tx
@@ -94,7 +109,7 @@ module _ (old new : TablesView) (c : ℕ) (now : Option TxnView) (sound : AreSou
       (λ same. turned.own x (sym turned.sets.is ∙ ap (of_client new.clients) (sym same) ∙ is))
       (λ other.
       let was : of_client old.clients d ≡ Some x = sym (turned.sets.others d other) ∙ is in
-      open_on old.kv new.kv old.next_tx new.next_tx x (sound.each d x was) turned.later turned.maps turned.more (base_pinned new.kv new.clients d x pins_are is))
+      open_on old.kv new.kv old.next_tx new.next_tx x (sound.each d x was) turned.later turned.maps turned.more (base_pinned new.kv new.clients new.saved d x pins_are is))
       (number_cases d c)
 
   -- and no two have one number
@@ -113,20 +128,25 @@ module _ (old new : TablesView) (c : ℕ) (now : Option TxnView) (sound : AreSou
 -- the tables stay sound
 pub sound_turned : (old new : TablesView) (c : ℕ) (now : Option TxnView) → AreSound old → Turned old new c now → AreSound new
 sound_turned old new c now sound turned = record {
+  begun = let was = sound.begun in let up = turned.more in omega (arith, was, up);
   each = open_now old new c now sound turned;
   pins = pins_are old new c now sound turned;
+  kept = kept_now old new c now sound turned;
   apart = apart_now old new c now sound turned;
 }
 
--- and they stand for the machine, where the client's own transaction does, and the tree now
+-- and they stand for the machine, where the client's own transaction does, and the tree now, which no inode of a transaction
+-- to come is in
 pub stands_turned : (size : ℕ) (told later : Told) (old new : TablesView) (m after : Machine) (c : ℕ) (now : Option TxnView)
     → AreSound old → TablesStand size told old m → TellsOn told later → Turned old new c now
     → ((d : ℕ) → d ≢ c → get after.transactions d ≡ get m.transactions d)
     → after.number ≡ new.kv.number
+    → after.may_be_saved ≡ m.may_be_saved
+    → AreBefore new.next_tx (metadata_now new.kv)
     → StandsForSlot size later new.kv after.now now (get after.transactions c)
     → ((tx : ℕ) → ((x : TxnView) → of_client old.clients c ≡ Some x → tx ≢ x.tx) → Stands size told tx 0 (metadata_now old.kv) m.now → Stands size later tx 0 (metadata_now new.kv) after.now)
     → TablesStand size later new after
-stands_turned size told later old new m after c now sound st on turned others number here trees =
+stands_turned size told later old new m after c now sound st on turned others number may before here trees =
     let other : (d : ℕ) → d ≢ c → StandsForSlot size later new.kv after.now (of_client old.clients d) (get m.transactions d) = λ d ne.
     slot_on size told later old.kv new.kv m.now after.now (of_client old.clients d) (get m.transactions d)
     (λ x t is txn. txn_on size told later old.kv new.kv m.now after.now x t on (sound.each d x is).based turned.maps (trees x.tx (λ y its same. ne (sound.apart d c x y is its same)) txn.now) txn)
@@ -144,4 +164,9 @@ stands_turned size told later old new m after c now sound st on turned others nu
       later = λ tx le.
           let up = turned.more in
           trees tx (λ x is same. let older = (sound.each c x is).older in absurd (omega (arith, older, same, up, le))) (st.later tx (omega (arith, up, le)));
+      before = before;
+      none = λ is. subst (λ l. Contains l root_alone) (sym may) (st.none (sym (ap (λ (s : SavedView). s.none) turned.saved) ∙ is));
+      images = λ n there.
+          let was : Contains old.saved.images n = kept_before old new c now sound turned n there in
+          image_on size told later old new n m.may_be_saved after.may_be_saved on (turned.maps n (sound.kept n was)) turned.more (λ t listed. subst (λ l. Contains l t) (sym may) listed) (st.images n was);
     }

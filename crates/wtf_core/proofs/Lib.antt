@@ -1,5 +1,6 @@
 pub mod Later
 pub mod Pins
+pub mod Images
 pub mod Frames
 pub mod Staying
 pub mod Machines

@@ -8,8 +8,8 @@ use Rattle.wtf_kv.proofs.PinLaws.{any-count}
 use Rattle.wtf_values.specs.declared.key.Key.{Key}
 use Rattle.wtf_values.specs.declared.value.Value.{Value}
 use Rattle.wtf_replay.specs.Views.{TxnView}
-use Rattle.wtf_core.specs.Views.{Clients, of_client}
-use Rattle.wtf_core.specs.Tables.{owned, all_owned}
+use Rattle.wtf_core.specs.Views.{Clients, SavedView, of_client}
+use Rattle.wtf_core.specs.Tables.{owned, all_owned, all_kept}
 
 -- two numbers are one, or they are not
 pub number_cases : (a b : ℕ) → (a ≡ b) ⊎ (a ≢ b)
@@ -43,11 +43,11 @@ base_owned ((k, y) ∷ es) c x is = ⊎_elim
     omega (arith, whole, more))
     (cases_Bool (nat_eq c k))
 
--- so it is pinned, where each number is pinned as often as it is owned
-pub base_pinned : (kv : Store Key Value) (clients : Clients) (c : ℕ) (x : TxnView) → ((n : ℕ) → times_pinned kv n ≡ all_owned n clients) → of_client clients c ≡ Some x → IsTrue (is_pinned kv x.at.base)
-base_pinned kv clients c x pins is =
+-- so it is pinned, where each number is pinned as often as a transaction or an image owns it
+pub base_pinned : (kv : Store Key Value) (clients : Clients) (saved : SavedView) (c : ℕ) (x : TxnView) → ((n : ℕ) → times_pinned kv n ≡ all_owned n clients + all_kept n saved) → of_client clients c ≡ Some x → IsTrue (is_pinned kv x.at.base)
+base_pinned kv clients saved c x pins is =
     let some = base_owned clients c x is in
-    let same : times_pinned kv x.at.base ≡ all_owned x.at.base clients = pins x.at.base in
+    let same : times_pinned kv x.at.base ≡ all_owned x.at.base clients + all_kept x.at.base saved = pins x.at.base in
     any-count x.at.base kv.pins (omega (arith, some, same))
 
 -- a client has one transaction

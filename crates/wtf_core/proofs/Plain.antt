@@ -43,6 +43,7 @@ use Rattle.wtf_core.specs.Standing.{StandsForTxn, StandsForSlot, TablesStand}
 use Rattle.wtf_core.specs.Turns.{Refuses, Begins, Calls, CallFails, Ends}
 use Rattle.wtf_core.proofs.Pins.{one_some}
 use Rattle.wtf_core.proofs.Frames.{Turned, sound_turned, stands_turned}
+use Rattle.wtf_core.proofs.Images.{before_same}
 use Rattle.wtf_core.proofs.Later.{Stands-later}
 use Rattle.wtf_core.proofs.Staying.{IsFault, fault_is, keeps_stays, stays_sound, stays_stand}
 use Rattle.wtf_core.proofs.Machines.{cap_is}
@@ -75,6 +76,7 @@ module _ (old new : TablesView) (c : ℕ) (a : Answer) (sound : AreSound old) (n
             let more = begins.pinned n in
             let was : owned n (of_client old.clients c) ≡ 0 = ap (owned n) none in
             omega (arith, more, was);
+        saved = begins.saved;
         own = λ z is. subst (λ v. IsOpen new.kv new.next_tx v) (one_some (Some x) x z refl is) (record {
           going = refl;
           fit = begins.fit;
@@ -111,7 +113,8 @@ module _ (old new : TablesView) (c : ℕ) (a : Answer) (sound : AreSound old) (n
         subst (λ r. TablesStand size later new (machine_begun m c r)) (sym begins.answer)
             (stands_turned size told later old new m after c (Some x) sound st on begins_turned
             (λ d other. get-number_other m.transactions c t d other)
-            (st.number ∙ ap (λ (k : Store Key Value). k.number) (sym begins.kv))
+            (st.number ∙ ap (λ (k : Store Key Value). k.number) (sym begins.kv)) refl
+            (before_same old.next_tx new.next_tx (metadata_now old.kv) (metadata_now new.kv) now_is (let next = begins.next_tx in omega (arith, next)) st.before)
             (subst (λ o. StandsForSlot size later new.kv m.now (Some x) o) (sym (get-number_same m.transactions c t)) stands)
             (λ tx other s. trees tx s)),
       )

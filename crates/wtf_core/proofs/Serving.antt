@@ -142,14 +142,14 @@ module _ {S : Type 0} {kind : StoreKind S} (laws : KindLaws kind) (old new : Dev
 
   -- a client's transaction goes on
   pub goes_names : (clients : Clients) (c : ℕ) (x y : TxnView) → of_client before.clients c ≡ Some x → Sets c (Some y) before.clients clients → NamesTxn before.kv x y None
-      → NamesTables before (record { kv = before.kv; next_tx = before.next_tx; clients = clients })
+      → NamesTables before (record { kv = before.kv; next_tx = before.next_tx; clients = clients; saved = before.saved })
   goes_names clients c x y there sets named P hole h =
-      keeps_bytes P before (record { kv = before.kv; next_tx = before.next_tx; clients = clients }) c y sound (record { clients = sets; kv = refl; next_tx = refl }) (named P hole (h.each c x there) tt) h
+      keeps_bytes P before (record { kv = before.kv; next_tx = before.next_tx; clients = clients; saved = before.saved }) c y sound (record { clients = sets; kv = refl; next_tx = refl; saved = refl }) (named P hole (h.each c x there) tt) h
 
   pub same_names : (clients : Clients) (c : ℕ) (x y : TxnView) → of_client before.clients c ≡ Some x → Sets c (Some y) before.clients clients → y ≡ x
-      → NamesTables before (record { kv = before.kv; next_tx = before.next_tx; clients = clients })
+      → NamesTables before (record { kv = before.kv; next_tx = before.next_tx; clients = clients; saved = before.saved })
   same_names clients c x y there sets same P hole h =
-      keeps_bytes P before (record { kv = before.kv; next_tx = before.next_tx; clients = clients }) c y sound (record { clients = sets; kv = refl; next_tx = refl }) (subst (TxnBytes P before.kv) (sym same) (h.each c x there)) h
+      keeps_bytes P before (record { kv = before.kv; next_tx = before.next_tx; clients = clients; saved = before.saved }) c y sound (record { clients = sets; kv = refl; next_tx = refl; saved = refl }) (subst (TxnBytes P before.kv) (sym same) (h.each c x there)) h
 
   -- or has ended
   pub leaves_names : (after : TablesView) (c : ℕ) (x : TxnView) → Ends before after before.kv c x → NamesTables before after
@@ -163,14 +163,14 @@ module _ {S : Type 0} {kind : StoreKind S} (laws : KindLaws kind) (old new : Dev
 
   module _ (clients : Clients) (c : ℕ) (x y : TxnView) (there : of_client before.clients c ≡ Some x) (sets : Sets c (Some y) before.clients clients) (own : IsInsideTxn kind (stores new) old.settings before.kv y) where
     abbrev called : TablesView
-    called = record { kv = before.kv; next_tx = before.next_tx; clients = clients }
+    called = record { kv = before.kv; next_tx = before.next_tx; clients = clients; saved = before.saved }
 
     set_serves : (asked : Asked) (a : Answer) → (AreFull old.settings before → TxnBytes (has_copies old.settings.replicas) before.kv y) → AddsBytes kind (between old new) old.settings asked.given a
         → HasCause kind (between old new) old.settings (AreFull old.settings before) asked.given a → IsPlaced kind (between old new) old.settings asked a → HasFailed asked.fails a
         → Serves kind (between old new) old.settings before called asked a
     set_serves asked a full adds caused placed failed = record {
-      inside = keeps_bytes (is_inside kind (stores new) old.settings) before called c y sound (record { clients = sets; kv = refl; next_tx = refl }) own later;
-      full = λ h. keeps_bytes (has_copies old.settings.replicas) before called c y sound (record { clients = sets; kv = refl; next_tx = refl }) (full h) h;
+      inside = keeps_bytes (is_inside kind (stores new) old.settings) before called c y sound (record { clients = sets; kv = refl; next_tx = refl; saved = refl }) own later;
+      full = λ h. keeps_bytes (has_copies old.settings.replicas) before called c y sound (record { clients = sets; kv = refl; next_tx = refl; saved = refl }) (full h) h;
       adds = adds;
       caused = caused;
       placed = placed;
@@ -189,7 +189,7 @@ module _ {S : Type 0} {kind : StoreKind S} (laws : KindLaws kind) (old new : Dev
         → (StoresNothing o → OnlyRead kind (between old new)) → Serves kind (between old new) old.settings before called (asked o) a
     call_serves ring o a stopped made reads = by (call_refusal x) refl
       where
-        by : (r : Option Word) → call_refusal x ≡ r → Serves kind (between old new) old.settings before (record { kv = before.kv; next_tx = before.next_tx; clients = clients }) (asked_of kind (between old new) old.settings before (event.Client c (verb.Call o))) a
+        by : (r : Option Word) → call_refusal x ≡ r → Serves kind (between old new) old.settings before (record { kv = before.kv; next_tx = before.next_tx; clients = clients; saved = before.saved }) (asked_of kind (between old new) old.settings before (event.Client c (verb.Call o))) a
         by None is =
             let free : unmade x ≡ None = ap (option_map answer.Refused) is in
             let did = made free in
@@ -204,7 +204,7 @@ module _ {S : Type 0} {kind : StoreKind S} (laws : KindLaws kind) (old new : Dev
             let held : unmade x ≡ Some (answer.Refused w) = ap (option_map answer.Refused) is in
             let all : (answered Fault a (answer.Refused w)) × (y ≡ x) × (new ≡ old) = subst (λ m. IfSome m (λ b. (answered Fault a b) × (y ≡ x) × (new ≡ old))) held stopped in
             let word : answer.Refused w ≡ a = sym (same_answer Fault a (answer.Refused w) all.0) in
-            subst (λ (r : Answer). Serves kind (between old new) old.settings before (record { kv = before.kv; next_tx = before.next_tx; clients = clients }) (asked_of kind (between old new) old.settings before (event.Client c (verb.Call o))) r) word
+            subst (λ (r : Answer). Serves kind (between old new) old.settings before (record { kv = before.kv; next_tx = before.next_tx; clients = clients; saved = before.saved }) (asked_of kind (between old new) old.settings before (event.Client c (verb.Call o))) r) word
             (set_serves (asked_of kind (between old new) old.settings before (event.Client c (verb.Call o))) (answer.Refused w) (same_full all.1)
             (refused_adds kind (between old new) old.settings (data_of_op o) (answer.Refused w) tt (same_lengths kind old new all.2))
             (plain_caused kind (between old new) old.settings (AreFull old.settings before) (data_of_op o) (answer.Refused w) tt)

@@ -22,6 +22,7 @@ use Rattle.wtf_core.specs.Tables.{owned, IsOpen, AreSound, Sets}
 use Rattle.wtf_core.specs.Standing.{TablesStand}
 use Rattle.wtf_core.specs.Turns.{Keeps, Stays}
 use Rattle.wtf_core.proofs.Frames.{Turned, txn_on, slot_on, sound_turned, stands_turned}
+use Rattle.wtf_core.proofs.Images.{before_same}
 use Rattle.wtf_core.proofs.Later.{Stands-later}
 
 -- the answers to faults of the stores
@@ -47,17 +48,19 @@ keeps_stays old new c h = record {
   maps = λ n le. ap (λ (s : Store Key Value). metadata_at s n) h.kv;
   pins = λ n. ap (λ (s : Store Key Value). times_pinned s n) h.kv;
   next_tx = h.next_tx;
+  saved = h.saved;
 }
 
 -- the transaction of the client is what it was
 pub same_stays : (old new : TablesView) (c : ℕ) (x y : TxnView) → of_client old.clients c ≡ Some x → Sets c (Some y) old.clients new.clients → y ≡ x
-    → new.kv.number ≡ old.kv.number → KeepsMaps old.kv new.kv → KeepsPins old.kv new.kv → new.next_tx ≡ old.next_tx → Stays old new c
-same_stays old new c x y there sets same number maps pins next = record {
+    → new.kv.number ≡ old.kv.number → KeepsMaps old.kv new.kv → KeepsPins old.kv new.kv → new.next_tx ≡ old.next_tx → new.saved ≡ old.saved → Stays old new c
+same_stays old new c x y there sets same number maps pins next saved = record {
   clients = subst (λ o. Sets c o old.clients new.clients) (ap Some same ∙ sym there) sets;
   number = number;
   maps = maps;
   pins = pins;
   next_tx = next;
+  saved = saved;
 }
 
 module _ (old new : TablesView) (c : ℕ) (sound : AreSound old) (st : Stays old new c) where
@@ -81,6 +84,7 @@ module _ (old new : TablesView) (c : ℕ) (sound : AreSound old) (st : Stays old
               based = omega (arith, based, number);
               older = omega (arith, older, next);
             };
+        saved = st.saved;
         whose = λ x is. inr (x, is, refl);
       }
 
@@ -95,7 +99,8 @@ module _ (old new : TablesView) (c : ℕ) (sound : AreSound old) (st : Stays old
       let trees : (tx : ℕ) → Stands size told tx 0 (metadata_now old.kv) m.now → Stands size later tx 0 (metadata_now new.kv) m.now = λ tx s.
       subst (λ v. Stands size later tx 0 v m.now) (sym now_is) (Stands-later told later on size tx 0 (metadata_now old.kv) m.now s) in
       stands_turned size told later old new m m c (of_client old.clients c) sound stand on stays_turned (λ d other. refl)
-      (stand.number ∙ sym st.number)
+      (stand.number ∙ sym st.number) refl
+      (before_same old.next_tx new.next_tx (metadata_now old.kv) (metadata_now new.kv) now_is (let next = st.next_tx in omega (arith, next)) stand.before)
       (slot_on size told later old.kv new.kv m.now m.now (of_client old.clients c) (get m.transactions c)
       (λ x t is txn. txn_on size told later old.kv new.kv m.now m.now x t on (sound.each c x is).based st.maps (trees x.tx txn.now) txn)
       (stand.each c))

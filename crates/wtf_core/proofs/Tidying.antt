@@ -1,6 +1,7 @@
 -- Dropping versions that no one sees changes nothing that holds.
-use Rattle.std.proofs.Common.{◌≡◌, ◌≤◌, ◌<◌, ℕ, Bool, true, false, IsTrue, nat_eq, count_by, ◌||◌, Option, None, Some, sym, ap, subst, ◌∙◌, eq-eqb, refl}
+use Rattle.std.proofs.Common.{◌≡◌, ◌≤◌, ◌<◌, ℕ, Bool, true, false, IsTrue, nat_eq, count_by, ◌||◌, ◌+◌, Option, None, Some, sym, ap, subst, ◌∙◌, eq-eqb, refl, arith}
 use Rattle.std.specs.FinMap.{get}
+use Rattle.std.specs.List.{Contains}
 use Rattle.wtf_kv.specs.Stores.{Store, is_pinned, is_live}
 use Rattle.wtf_values.specs.declared.key.Key.{Key}
 use Rattle.wtf_values.specs.declared.value.Value.{Value}
@@ -12,9 +13,10 @@ use Rattle.wtf_meta.specs.Maps.{AllFit, Map, metadata_at}
 use Rattle.wtf_meta.specs.Trees.{Stands}
 use Rattle.wtf_replay.specs.Views.{TxnView}
 use Rattle.wtf_replay.proofs.Sounding.{sound_along}
-use Rattle.wtf_core.specs.Views.{TablesView, CoreView, of_client, metadata_now}
-use Rattle.wtf_core.specs.Tables.{all_owned, IsOpen, AreSound, IsTidied}
+use Rattle.wtf_core.specs.Views.{SavedView, TablesView, CoreView, of_client, metadata_now}
+use Rattle.wtf_core.specs.Tables.{all_owned, all_kept, IsOpen, AreSound, IsTidied}
 use Rattle.wtf_core.specs.Standing.{StandsForTxn, StandsForSlot, TablesStand, StandsFor}
+use Rattle.wtf_core.proofs.Images.{kept_pinned, before_same, image_on}
 
 -- what is pinned can be read, and so can the number
 pinned_live : (kv : Store Key Value) (n : ℕ) → IsTrue (is_pinned kv n) → IsTrue (is_live kv n)
@@ -35,8 +37,14 @@ module _ (old new : TablesView) (sound : AreSound old) (tidy : IsTidied old new)
   pub now_same : metadata_now new.kv ≡ metadata_now old.kv
   now_same = ap (metadata_at new.kv) tidy.number ∙ tidy.maps old.kv.number (number_live old.kv)
 
+  next_up : old.next_tx ≤ new.next_tx
+  next_up = let next = tidy.next_tx in omega (arith, next)
+
   was : (c : ℕ) (x : TxnView) → of_client new.clients c ≡ Some x → of_client old.clients c ≡ Some x
   was c x there = ap (λ l. of_client l c) (sym tidy.clients) ∙ there
+
+  kept_was : (n : ℕ) → Contains new.saved.images n → Contains old.saved.images n
+  kept_was n here = subst (λ (s : SavedView). Contains s.images n) tidy.saved here
 
   open_still : (c : ℕ) (x : TxnView) → of_client old.clients c ≡ Some x → IsOpen new.kv new.next_tx x
   open_still c x there =
@@ -55,8 +63,10 @@ module _ (old new : TablesView) (sound : AreSound old) (tidy : IsTidied old new)
 
   pub tidied_sound : AreSound new
   tidied_sound = record {
+    begun = let was = sound.begun in let up = next_up in omega (arith, was, up);
     each = λ c x there. open_still c x (was c x there);
-    pins = λ n. ap (λ l. count_by (nat_eq n) l) tidy.pins ∙ sound.pins n ∙ ap (all_owned n) (sym tidy.clients);
+    pins = λ n. ap (λ l. count_by (nat_eq n) l) tidy.pins ∙ sound.pins n ∙ ap (λ l. all_owned n l + all_kept n old.saved) (sym tidy.clients) ∙ ap (λ s. all_owned n new.clients + all_kept n s) (sym tidy.saved);
+    kept = λ n here. subst (λ k. n ≤ k) (sym tidy.number) (sound.kept n (kept_was n here));
     apart = λ c d x y here there same. sound.apart c d x y (was c x here) (was d y there) same;
   }
 
@@ -82,6 +92,11 @@ module _ (old new : TablesView) (sound : AreSound old) (tidy : IsTidied old new)
     each = λ c. subst (λ l. StandsForSlot size told new.kv m.now (of_client l c) (get m.transactions c)) (sym tidy.clients)
         (slot_still size told m.now c (of_client old.clients c) (get m.transactions c) refl (stands.each c));
     later = λ tx le. subst (λ (w : Map). Stands size told tx 0 w m.now) (sym now_same) (stands.later tx (subst (λ n. n ≤ tx) tidy.next_tx le));
+    before = before_same old.next_tx new.next_tx (metadata_now old.kv) (metadata_now new.kv) now_same next_up stands.before;
+    none = λ is. stands.none (sym (ap (λ (s : SavedView). s.none) tidy.saved) ∙ is);
+    images = λ n here.
+        let there : Contains old.saved.images n = kept_was n here in
+        image_on size told told old new n m.may_be_saved m.may_be_saved (λ p b is. is) (tidy.maps n (pinned_live old.kv n (kept_pinned old n sound there))) next_up (λ t listed. listed) (stands.images n there);
   }
 
 -- the core stands for the machine as before

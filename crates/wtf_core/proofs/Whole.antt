@@ -2,6 +2,7 @@
 use Rattle.std.proofs.Common.{◌≡◌, ◌≢◌, ◌⊎◌, ℕ, Bool, true, false, nat_eq, nat_lt, if◌then◌else◌, List, Option, None, Some, Result, Ok, Err, IfOk, OnErr, refl, sym, ap, subst, ◌∙◌, inl, inr, arith, ne_eqb, eq-eqb}
 use Rattle.std.specs.Bool.{MatchBool}
 use Rattle.std.specs.FinMap.{get}
+use Rattle.std.specs.List.{Contains}
 use Rattle.wtf_base.specs.declared.settings.Settings.{Settings}
 use Rattle.wtf_replica.specs.Downs.{is_down}
 use Rattle.wtf_model.specs.declared.answer.Answer.{Answer, Aborted'}
@@ -12,6 +13,7 @@ use Rattle.wtf_model.specs.declared.event.Event.TheVariants as event
 use Rattle.wtf_model.specs.declared.event.Verb.{Verb}
 use Rattle.wtf_model.specs.declared.event.Verb.TheVariants as verb
 use Rattle.wtf_model.specs.Machines.{Machine}
+use Rattle.wtf_model.specs.Tree.{root_alone}
 use Rattle.wtf_model.specs.Machines as machine
 use Rattle.wtf_model.specs.Lawful.{server_answer, dump_answer, MayFailRead, MayBuilt}
 use Rattle.wtf_model.specs.Transaction.{Transaction}
@@ -24,7 +26,7 @@ use Rattle.wtf_meta.proofs.Telling.{TellsOn}
 use Rattle.wtf_core.specs.Views.{TablesView, CoreView, of_client, metadata_now}
 use Rattle.wtf_core.specs.Tables.{AreSound}
 use Rattle.wtf_core.specs.Built.{is_built}
-use Rattle.wtf_core.specs.Standing.{StandsForSlot, TablesStand, StandsFor}
+use Rattle.wtf_core.specs.Standing.{IsImageTree, StandsForSlot, TablesStand, StandsFor}
 use Rattle.wtf_core.specs.Turns.{ServerTurn, ClientTurn, Switches, Dumps, BuiltTurn, LineTurn}
 use Rattle.wtf_core.specs.Answers.{IsEvent}
 use Rattle.wtf_core.proofs.Pins.{number_cases}
@@ -75,7 +77,7 @@ client_settings m c o v a = refl
 tables_later : (size : ℕ) (told later : Told) (tables : TablesView) (m : Machine) → AreSound tables → TablesStand size told tables m → TellsOn told later → TablesStand size later tables m
 tables_later size told later tables m sound stands on =
     refuses_stand tables tables 0 NoTx (answer.Refused NoTx) sound
-    (record { answer = refl; keeps = record { clients = sets_same 0 tables.clients tables.clients refl; kv = refl; next_tx = refl } })
+    (record { answer = refl; keeps = record { clients = sets_same 0 tables.clients tables.clients refl; kv = refl; next_tx = refl; saved = refl } })
     size told later m stands on
 
 stays : (told later : Told) (core : CoreView) (m : Machine) → AreSound core.tables → StandsFor told core m → TellsOn told later → StandsFor later core m
@@ -105,14 +107,17 @@ module _ (told later : Told) (old new : CoreView) (m : Machine) (k : ℕ) (to : 
       by j (inr ne) = turn.others j ne ∙ stands.down j ∙ sym (ap (λ b. if b then to else machine.is_down m j) (ne_eqb j k ne)) ∙ sym (is j)
 
   -- the tables stand for a machine that differs in its servers alone
-  tables_beside : (next : Machine) → next.number ≡ m.number → next.now ≡ m.now → next.transactions ≡ m.transactions → TablesStand old.settings.region later old.tables next
-  tables_beside next number now transactions =
+  tables_beside : (next : Machine) → next.number ≡ m.number → next.now ≡ m.now → next.transactions ≡ m.transactions → next.may_be_saved ≡ m.may_be_saved → TablesStand old.settings.region later old.tables next
+  tables_beside next number now transactions may =
       let same = tables_later old.settings.region told later old.tables m sound stands.tables on in
       record {
         number = number ∙ same.number;
         each = λ c. subst (λ t. StandsForSlot old.settings.region later old.tables.kv t (of_client old.tables.clients c) (get next.transactions c)) (sym now)
             (subst (λ ts. StandsForSlot old.settings.region later old.tables.kv m.now (of_client old.tables.clients c) (get ts c)) (sym transactions) (same.each c));
         later = λ tx le. subst (λ t. Stands old.settings.region later tx 0 (metadata_now old.tables.kv) t) (sym now) (same.later tx le);
+        before = same.before;
+        none = λ is. subst (λ l. Contains l root_alone) (sym may) (same.none is);
+        images = λ n there. subst (λ l. IsImageTree old.settings.region later old.tables n l) (sym may) (same.images n there);
       }
 
 down_line : (told later : Told) (old new : CoreView) (m : Machine) (k : ℕ) (a : Answer) → AreSound old.tables → StandsFor told old m → TellsOn told later → ServerTurn old new k true a
@@ -128,7 +133,7 @@ down_line told later old new m k a sound stands on turn = by (nat_lt k old.setti
         let next = after m (event.Down k) answer.Okay in (
           due,
           subst (λ b. StandsFor later new (after m (event.Down k) b)) (sym t.answer)
-              (switched told later old new m k true a sound stands on t next refl (tables_beside told later old new m k true a sound stands on next refl refl refl) (is_down-event m (event.Down k) answer.Okay)),
+              (switched told later old new m k true a sound stands on t next refl (tables_beside told later old new m k true a sound stands on next refl refl refl refl) (is_down-event m (event.Down k) answer.Okay)),
         )
     by false is t =
         let due : a ≡ server_answer m k = t.0 ∙ sym (ap (λ b. if b then answer.Okay else answer.Refused NoServer) (servers ∙ is)) in
@@ -147,7 +152,7 @@ up_line told later old new m k a sound stands on turn = by (nat_lt k old.setting
         let next = after m (event.Up k) answer.Okay in (
           due,
           subst (λ b. StandsFor later new (after m (event.Up k) b)) (sym t.answer)
-              (switched told later old new m k false a sound stands on t next refl (tables_beside told later old new m k false a sound stands on next refl refl refl) (is_down-event m (event.Up k) answer.Okay)),
+              (switched told later old new m k false a sound stands on t next refl (tables_beside told later old new m k false a sound stands on next refl refl refl refl) (is_down-event m (event.Up k) answer.Okay)),
         )
     by false is t =
         let due : a ≡ server_answer m k = t.0 ∙ sym (ap (λ b. if b then answer.Okay else answer.Refused NoServer) (servers ∙ is)) in

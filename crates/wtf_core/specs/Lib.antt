@@ -2,6 +2,7 @@ pub mod Views
 pub mod Tables
 pub mod Built
 pub mod Standing
+pub mod Saves
 pub mod Turns
 pub mod Named
 pub mod Asked
@@ -9,5 +10,7 @@ pub mod Serves
 pub mod Dumped
 pub mod Outcomes
 pub mod Answers
+pub mod Keeping
+pub mod Pictured
 pub mod Made
 pub mod Rows

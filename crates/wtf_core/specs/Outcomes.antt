@@ -66,6 +66,10 @@ pub record IsUnread {S : Type 0} (kind : StoreKind S) (t : Span S) (settings : S
   pub lost : IsLost kind t settings places k
   pub width : full → length places ≡ settings.replicas
 
+-- one of so many servers is out
+abbrev pub SomeOut : {S : Type 0} → StoreKind S → Span S → ℕ → Type 0
+SomeOut kind t servers = (k : ℕ) × (k < servers) × IsOut kind t k
+
 -- Why a line is answered by a fault: `fault read K` where a byte that it needs was not read, and `fault write` where fewer
 -- servers than replicas are not out and there are bytes to store. No line answers another fault.
 abbrev pub HasCause : {S : Type 0} → StoreKind S → Span S → Settings → Type 0 → List ℕ → Answer → Type 0

@@ -41,11 +41,12 @@ use Rattle.wtf_core.specs.Views.{TablesView, CoreView, of_client, metadata_now}
 use Rattle.wtf_core.specs.Built.{is_built}
 use Rattle.wtf_core.specs.Tables.{Sets, IsTidied}
 
--- client c has now this transaction, or none, and the store of the metadata is what it was
+-- client c has now this transaction, or none; the store of the metadata, and what may be on the keeper, are what they were
 pub record Keeps (old new : TablesView) (c : ℕ) (now : Option TxnView) : Type 0 where
   pub clients : Sets c now old.clients new.clients
   pub kv : new.kv ≡ old.kv
   pub next_tx : new.next_tx ≡ old.next_tx
+  pub saved : new.saved ≡ old.saved
 
 -- a line of client c is refused, and leaves all as it was
 pub record Refuses (old new : TablesView) (c : ℕ) (w : Word) (a : Answer) : Type 0 where
@@ -59,6 +60,7 @@ pub record Begins (old new : TablesView) (c : ℕ) (a : Answer) : Type 0 where
   pub kv : new.kv ≡ record old.kv { pins = old.kv.pins ++ old.kv.number ∷ [] }
   pub pinned : IsPinnedOnceMore old.kv.number old.kv new.kv
   pub next_tx : new.next_tx ≡ old.next_tx + 1
+  pub saved : new.saved ≡ old.saved
   pub fit : IsFit new.kv (begun old.next_tx old.kv.number)
   pub sound : (size : ℕ) (told : Told) → IsSound size new.kv told (begun old.next_tx old.kv.number) []
 
@@ -66,6 +68,7 @@ pub record Begins (old new : TablesView) (c : ℕ) (a : Answer) : Type 0 where
 pub record Ends (old new : TablesView) (mid : Store Key Value) (c : ℕ) (x : TxnView) : Type 0 where
   pub clients : Sets c None old.clients new.clients
   pub next_tx : new.next_tx ≡ old.next_tx
+  pub saved : new.saved ≡ old.saved
   pub maps : KeepsMaps old.kv mid
   pub pins : KeepsPins old.kv mid
   pub kv : new.kv ≡ record mid { pins = remove_key (nat_eq x.at.base) mid.pins }
@@ -84,6 +87,7 @@ pub record Retries (old new : TablesView) (c : ℕ) (x : TxnView) (b n : ℕ) : 
   pub later : TxnView
   pub clients : Sets c (Some later) old.clients new.clients
   pub next_tx : new.next_tx ≡ old.next_tx
+  pub saved : new.saved ≡ old.saved
   pub retried : IsRetried old.kv new.kv x later b n
   pub maps : KeepsMaps old.kv new.kv
   pub fit : IsFit new.kv later
@@ -102,13 +106,15 @@ TryTurn old new c x a = MatchOption (try_refusal x) (Tries old new c x a) (λ w.
 abbrev pub Drops : TablesView → TablesView → ℕ → TxnView → Answer → Type 0
 Drops old new c x a = (a ≡ answer.Okay) × Ends old new old.kv c x
 
--- a line left all that is seen of the tables: of their store, the number, the maps and how often each number is pinned
+-- A line left all that is seen of the tables: of their store, the number, the maps and how often each number is pinned; and
+-- what may be on the keeper.
 pub record Stays (old new : TablesView) (c : ℕ) : Type 0 where
   pub clients : Sets c (of_client old.clients c) old.clients new.clients
   pub number : new.kv.number ≡ old.kv.number
   pub maps : KeepsMaps old.kv new.kv
   pub pins : KeepsPins old.kv new.kv
   pub next_tx : new.next_tx ≡ old.next_tx
+  pub saved : new.saved ≡ old.saved
 
 -- a fault of the stores was answered, and left all as it was
 pub record Fails (old new : TablesView) (c : ℕ) (a : Answer) : Type 0 where

@@ -1,5 +1,5 @@
 -- What contracts see of a core.
-use Rattle.std.specs.Prelude.{ℕ, Bool, List, Option, nat_eq}
+use Rattle.std.specs.Prelude.{ℕ, Bool, true, List, [], Option, nat_eq}
 use Rattle.std.specs.Map.{lookup}
 use Rattle.wtf_base.specs.declared.settings.Settings.{Settings}
 use Rattle.wtf_kv.specs.Stores.{Store}
@@ -17,11 +17,22 @@ Clients = List (ℕ × TxnView)
 abbrev pub of_client : Clients → ℕ → Option TxnView
 of_client clients c = lookup (nat_eq c) clients
 
--- the store of the metadata, the number of the transaction that begins next, and the open transactions
+-- the numbers of the images that may be on the keeper, and whether it may still hold nothing
+pub record SavedView : Type 0 where
+  pub images : List ℕ
+  pub none : Bool
+
+-- nothing was saved yet
+abbrev pub unsaved : SavedView
+unsaved = record { images = []; none = true }
+
+-- the store of the metadata, the number of the transaction that begins next, the open transactions, and what may be on the
+-- keeper
 pub record TablesView : Type 0 where
   pub kv : Store Key Value
   pub next_tx : ℕ
   pub clients : Clients
+  pub saved : SavedView
 
 -- the metadata as they stand now
 abbrev pub metadata_now : Store Key Value → Map

@@ -6,6 +6,7 @@
 mod dump;
 mod faults;
 mod ops;
+mod saved;
 mod store;
 mod tables;
 mod tree;

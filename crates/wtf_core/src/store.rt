@@ -16,6 +16,7 @@ ghost use Rattle.wtf_model.specs.Machines.{Machine, start};
 ghost use Rattle.wtf_model.specs.Servers.{down_after_event};
 ghost use Rattle.wtf_model.specs.Tree.{root_alone};
 ghost use Rattle.wtf_meta.specs.Contents.{Told};
+ghost use Rattle.wtf_core.specs.Views.{unsaved};
 ghost use Rattle.wtf_core.specs.Tables.{AreSound, IsAlike};
 ghost use Rattle.wtf_core.specs.Standing.{StandsFor};
 ghost use Rattle.wtf_core.specs.Turns.{LineTurn, IsLine, ServerTurn, ShowsTree, IsTreeAnswer};
@@ -81,13 +82,14 @@ impl Model for Core {
 }
 
 impl Core {
-    /// The root alone, no transaction, and all servers up.
+    /// The root alone, no transaction, all servers up, and nothing saved.
     pub fn new(alloc: Global, settings: Settings) -> Result<Core, OutOfMemory>
         requires settings { AreSettings settings.servers settings.replicas settings.region }
         ensures settings { IfOk result (λ core. core.settings ≡ settings) }
         ensures open { IfOk result (λ core. core.closed ≡ false) }
         ensures number { IfOk result (λ core. core.tables.kv.number ≡ 0) }
         ensures next_tx { IfOk result (λ core. core.tables.next_tx ≡ 1) }
+        ensures unsaved { IfOk result (λ core. core.tables.saved ≡ unsaved) }
         ensures sound { IfOk result (λ core. AreSound core.tables) }
         ensures stands { IfOk result (λ core. (told : Told) →
             StandsFor told core (start settings 0 root_alone)) }

@@ -14,7 +14,7 @@ ghost use Rattle.wtf_model.specs.declared.event.Verb.TheVariants as verb;
 ghost use Rattle.wtf_region.specs.Devs.{IsSoundDev, GoesOn, stores, between};
 ghost use Rattle.wtf_region.specs.Inside.{is_inside};
 ghost use Rattle.wtf_meta.specs.Trees.{IsFirst};
-ghost use Rattle.wtf_core.specs.Views.{of_client, metadata_now};
+ghost use Rattle.wtf_core.specs.Views.{of_client, metadata_now, unsaved};
 ghost use Rattle.wtf_core.specs.Tables.{AreSound, Sets, IsAlike, IsTidied};
 ghost use Rattle.wtf_core.specs.Turns.{Refuses, Begins, TryTurn, Drops, Dumps, ClientTurn};
 ghost use Rattle.wtf_core.specs.Named.{TablesBytes};
@@ -22,6 +22,7 @@ ghost use Rattle.wtf_core.specs.Serves.{ServesLine};
 
 use crate::dump::dump_now;
 use crate::faults::answer_to;
+use crate::saved::Saved;
 use indexmap::IndexMap;
 use std::alloc::Global;
 use std::marker::Model;
@@ -34,14 +35,15 @@ use wtf_region::Dev;
 use wtf_replay::Txn;
 use wtf_values::{Key, NameSet, Node, Value};
 
-/// The store of the metadata, the number of the transaction that begins next, and the open
-/// transactions by client, in the order of their begin.
+/// The store of the metadata, the number of the transaction that begins next, the open transactions by
+/// client, in the order of their begin, and which images may be on the keeper.
 #[derive(Drop)]
 pub(crate) struct Tables {
     alloc: Global,
     kv: Kv<Key, Value>,
     next_tx: u64,
     clients: IndexMap<u8, Txn>,
+    saved: Saved,
 }
 
 impl Model for Tables {
@@ -61,15 +63,21 @@ impl Model for Tables {
       txn.the_row.coded,
     ) };
 
-    ghost view = { λ t. record { kv = t.kv; next_tx = t.next_tx; clients = t.clients.entries } };
+    ghost view = { λ t. record {
+      kv = t.kv;
+      next_tx = t.next_tx;
+      clients = t.clients.entries;
+      saved = t.saved;
+    } };
 }
 
 impl Tables {
-    /// The root alone, and no transaction.
+    /// The root alone, no transaction, and nothing saved.
     pub(crate) fn new(alloc: Global) -> Result<Tables, OutOfMemory>
         ensures number { IfOk result (λ t. t.kv.number ≡ 0) }
         ensures next { IfOk result (λ t. t.next_tx ≡ 1) }
         ensures clients { IfOk result (λ t. t.clients ≡ []) }
+        ensures saved { IfOk result (λ t. t.saved ≡ unsaved) }
         ensures first { IfOk result (λ t. IsFirst (metadata_now t.kv)) }
         ensures sound { IfOk result (λ t. AreSound t) }
     {
@@ -96,6 +104,7 @@ impl Tables {
             kv,
             next_tx: 1,
             clients: IndexMap::new(alloc),
+            saved: Saved::new(alloc),
         })
     }
 
@@ -329,6 +338,7 @@ impl Tables {
         ensures unpinned { IfSome (of_client self.old.clients c)
             (λ x. IsPinnedOnceMore x.at.base self.new.kv self.old.kv) }
         ensures next { self.new.next_tx ≡ self.old.next_tx }
+        ensures saved { self.new.saved ≡ self.old.saved }
     {
         match self.clients.shift_remove(&c) {
             Some(txn) => txn.drop_all(&mut self.kv),

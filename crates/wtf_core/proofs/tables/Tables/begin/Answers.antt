@@ -10,8 +10,8 @@ use Rattle.wtf_core.proofs.tables.Tables.begin.Goals as goal
 pub returns-in-Ok-insert-clause-turn : goal.returns-in-Ok-insert-clause-turn
 returns-in-Ok-insert-clause-turn c =
     let at = c.self.inside in
-    let old : TablesView = record { kv = at.kv; next_tx = at.next_tx; clients = at.clients.entries } in
-    let new : TablesView = record { kv = c.begin.new.kv; next_tx = at.next_tx + 1; clients = c.insert.new.self.entries } in
+    let old : TablesView = record { kv = at.kv; next_tx = at.next_tx; clients = at.clients.entries; saved = at.saved } in
+    let new : TablesView = record { kv = c.begin.new.kv; next_tx = at.next_tx + 1; clients = c.insert.new.self.entries; saved = at.saved } in
     let made = c.in-Ok.ensures in
     let put = c.in-Ok-insert.ensures in
     subst (λ (t : TablesView). MatchOption (of_client t.clients c.args.c) (Begins t new c.args.c (answer.Begun c.number-number.result)) (λ x. Refuses t new c.args.c InTx (answer.Begun c.number-number.result)))

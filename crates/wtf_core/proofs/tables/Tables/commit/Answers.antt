@@ -24,27 +24,27 @@ use Rattle.wtf_core.proofs.tables.Tables.commit.Goals as goal
 
 pub commit-requires-clause-going : goal.commit-requires-clause-going
 commit-requires-clause-going g c =
-    let sound : AreSound (record { kv = c.self.inside.kv; next_tx = c.self.inside.next_tx; clients = c.self.inside.clients.entries }) = subst (λ t. AreSound t) (sym c.self.view_is) c.requires.sound in
+    let sound : AreSound (record { kv = c.self.inside.kv; next_tx = c.self.inside.next_tx; clients = c.self.inside.clients.entries; saved = c.self.inside.saved }) = subst (λ t. AreSound t) (sym c.self.view_is) c.requires.sound in
     let there = sym c.get_mut.ensures.value ∙ ap option_copied_mut c.in-Some.is in
     (sound.each c.args.c c.in-Some.txn.now there).going
 
 pub commit-requires-clause-fit : goal.commit-requires-clause-fit
 commit-requires-clause-fit g c =
-    let sound : AreSound (record { kv = c.self.inside.kv; next_tx = c.self.inside.next_tx; clients = c.self.inside.clients.entries }) = subst (λ t. AreSound t) (sym c.self.view_is) c.requires.sound in
+    let sound : AreSound (record { kv = c.self.inside.kv; next_tx = c.self.inside.next_tx; clients = c.self.inside.clients.entries; saved = c.self.inside.saved }) = subst (λ t. AreSound t) (sym c.self.view_is) c.requires.sound in
     let there = sym c.get_mut.ensures.value ∙ ap option_copied_mut c.in-Some.is in
     (sound.each c.args.c c.in-Some.txn.now there).fit
 
 pub commit-requires-clause-inside : goal.commit-requires-clause-inside
 commit-requires-clause-inside g c =
     let dev = c.args.dev.now in
-    let inside : TablesBytes (is_inside g.S.SliceStore.kind (stores dev) dev.settings) (record { kv = c.self.inside.kv; next_tx = c.self.inside.next_tx; clients = c.self.inside.clients.entries }) = subst (TablesBytes (is_inside g.S.SliceStore.kind (stores dev) dev.settings)) (sym c.self.view_is) c.requires.inside in
+    let inside : TablesBytes (is_inside g.S.SliceStore.kind (stores dev) dev.settings) (record { kv = c.self.inside.kv; next_tx = c.self.inside.next_tx; clients = c.self.inside.clients.entries; saved = c.self.inside.saved }) = subst (TablesBytes (is_inside g.S.SliceStore.kind (stores dev) dev.settings)) (sym c.self.view_is) c.requires.inside in
     let there = sym c.get_mut.ensures.value ∙ ap option_copied_mut c.in-Some.is in
     inside.each c.args.c c.in-Some.txn.now there
 
 pub commit-requires-clause-inside_now : goal.commit-requires-clause-inside_now
 commit-requires-clause-inside_now g c =
     let dev = c.args.dev.now in
-    let inside : TablesBytes (is_inside g.S.SliceStore.kind (stores dev) dev.settings) (record { kv = c.self.inside.kv; next_tx = c.self.inside.next_tx; clients = c.self.inside.clients.entries }) = subst (TablesBytes (is_inside g.S.SliceStore.kind (stores dev) dev.settings)) (sym c.self.view_is) c.requires.inside in
+    let inside : TablesBytes (is_inside g.S.SliceStore.kind (stores dev) dev.settings) (record { kv = c.self.inside.kv; next_tx = c.self.inside.next_tx; clients = c.self.inside.clients.entries; saved = c.self.inside.saved }) = subst (TablesBytes (is_inside g.S.SliceStore.kind (stores dev) dev.settings)) (sym c.self.view_is) c.requires.inside in
     inside.now
 
 pub returns-in-Err-clause-err_sound : goal.returns-in-Err-clause-err_sound
@@ -52,7 +52,7 @@ returns-in-Err-clause-err_sound g c =
     let kind = g.S.SliceStore.kind in
     let dev = c.args.dev.now in
     let at = c.self.inside in
-    let old : TablesView = record { kv = at.kv; next_tx = at.next_tx; clients = at.clients.entries } in
+    let old : TablesView = record { kv = at.kv; next_tx = at.next_tx; clients = at.clients.entries; saved = at.saved } in
     let sound : AreSound old = subst (λ t. AreSound t) (sym c.self.view_is) c.requires.sound in
     let x = c.in-Some.txn.now in
     let y = c.commit.new.self in
@@ -66,7 +66,7 @@ returns-in-Err-clause-err g c =
     let kind = g.S.SliceStore.kind in
     let dev = c.args.dev.now in
     let at = c.self.inside in
-    let old : TablesView = record { kv = at.kv; next_tx = at.next_tx; clients = at.clients.entries } in
+    let old : TablesView = record { kv = at.kv; next_tx = at.next_tx; clients = at.clients.entries; saved = at.saved } in
     let sound : AreSound old = subst (λ t. AreSound t) (sym c.self.view_is) c.requires.sound in
     let x = c.in-Some.txn.now in
     let y = c.commit.new.self in
@@ -74,10 +74,11 @@ returns-in-Err-clause-err g c =
     let lent = c.get_mut.follows.lender y in
     let sets : Sets c.args.c (Some y) old.clients lent.entries = written c.args.c at.clients lent x y there (c.get_mut.follows.holds y) in
     let number = c.in-Err.ensures.err_number in
-    on_err c.answer_to.result _ (subst (λ (t : TablesView). IsAlike t (record { kv = c.commit.new.kv; next_tx = at.next_tx; clients = lent.entries })) c.self.view_is (record {
+    on_err c.answer_to.result _ (subst (λ (t : TablesView). IsAlike t (record { kv = c.commit.new.kv; next_tx = at.next_tx; clients = lent.entries; saved = at.saved })) c.self.view_is (record {
       number = number;
       map = ap (metadata_at c.commit.new.kv) number ∙ c.in-Err.ensures.maps at.kv.number (omega arith);
       next_tx = refl;
+      saved = refl;
     }))
 
 pub returns-in-Err-clause-turn : goal.returns-in-Err-clause-turn
@@ -85,7 +86,7 @@ returns-in-Err-clause-turn g c =
     let kind = g.S.SliceStore.kind in
     let dev = c.args.dev.now in
     let at = c.self.inside in
-    let old : TablesView = record { kv = at.kv; next_tx = at.next_tx; clients = at.clients.entries } in
+    let old : TablesView = record { kv = at.kv; next_tx = at.next_tx; clients = at.clients.entries; saved = at.saved } in
     let sound : AreSound old = subst (λ t. AreSound t) (sym c.self.view_is) c.requires.sound in
     let x = c.in-Some.txn.now in
     let y = c.commit.new.self in
@@ -93,10 +94,10 @@ returns-in-Err-clause-turn g c =
     let lent = c.get_mut.follows.lender y in
     let sets : Sets c.args.c (Some y) old.clients lent.entries = written c.args.c at.clients lent x y there (c.get_mut.follows.holds y) in
     let why = c.in-Err.why in
-    subst (λ (t : TablesView). IfOk c.answer_to.result (λ a. ClientTurn (TellsAll kind (stores dev)) dev.settings.servers dev.settings.region (byte_at kind (stores dev)) (byte_at kind (stores c.commit.new.dev)) t (record { kv = c.commit.new.kv; next_tx = at.next_tx; clients = lent.entries }) c.args.c verb.Commit a)) c.self.view_is
+    subst (λ (t : TablesView). IfOk c.answer_to.result (λ a. ClientTurn (TellsAll kind (stores dev)) dev.settings.servers dev.settings.region (byte_at kind (stores dev)) (byte_at kind (stores c.commit.new.dev)) t (record { kv = c.commit.new.kv; next_tx = at.next_tx; clients = lent.entries; saved = at.saved }) c.args.c verb.Commit a)) c.self.view_is
     (if_ok c.answer_to.result (λ a. fault_answer why ≡ Some a) _ c.answer_to.ensures.answer
     (λ a is. at_some (of_client old.clients c.args.c) x _ _ there
-    (commit_failed (TellsAll kind (stores dev)) dev.settings.servers dev.settings.region (byte_at kind (stores dev)) (byte_at kind (stores c.commit.new.dev)) old (record { kv = c.commit.new.kv; next_tx = at.next_tx; clients = lent.entries }) c.commit.new.kv lent.entries c.args.c x y why a there sets c.in-Err.ensures.err refl refl c.in-Err.ensures.err_number c.in-Err.ensures.maps c.in-Err.ensures.pins is
+    (commit_failed (TellsAll kind (stores dev)) dev.settings.servers dev.settings.region (byte_at kind (stores dev)) (byte_at kind (stores c.commit.new.dev)) old (record { kv = c.commit.new.kv; next_tx = at.next_tx; clients = lent.entries; saved = at.saved }) c.commit.new.kv lent.entries c.args.c x y why a there sets c.in-Err.ensures.err refl refl refl c.in-Err.ensures.err_number c.in-Err.ensures.maps c.in-Err.ensures.pins is
     (λ tells ops run t st. commit_left dev.settings.servers why a is (c.in-Err.ensures.due ops (record { all = tells.0; map = tells.1 }) run t st)))))
 
 pub returns-in-Err-clause-serves : goal.returns-in-Err-clause-serves
@@ -104,7 +105,7 @@ returns-in-Err-clause-serves g c =
     let kind = g.S.SliceStore.kind in
     let dev = c.args.dev.now in
     let at = c.self.inside in
-    let old : TablesView = record { kv = at.kv; next_tx = at.next_tx; clients = at.clients.entries } in
+    let old : TablesView = record { kv = at.kv; next_tx = at.next_tx; clients = at.clients.entries; saved = at.saved } in
     let sound : AreSound old = subst (λ t. AreSound t) (sym c.self.view_is) c.requires.sound in
     let x = c.in-Some.txn.now in
     let y = c.commit.new.self in
@@ -115,11 +116,11 @@ returns-in-Err-clause-serves g c =
     let why = c.in-Err.why in
     let laws = g.met.S.SliceStore.laws in
     let new = c.commit.new.dev in
-    subst (λ (t : TablesView). IfOk c.answer_to.result (ServesLine kind (between dev new) dev.settings t (record { kv = c.commit.new.kv; next_tx = at.next_tx; clients = lent.entries }) (event.Client c.args.c verb.Commit))) c.self.view_is
+    subst (λ (t : TablesView). IfOk c.answer_to.result (ServesLine kind (between dev new) dev.settings t (record { kv = c.commit.new.kv; next_tx = at.next_tx; clients = lent.entries; saved = at.saved }) (event.Client c.args.c verb.Commit))) c.self.view_is
     (if_ok c.answer_to.result (λ a. fault_answer why ≡ Some a) _ c.answer_to.ensures.answer
-    (λ a is. read_failed laws dev new c.in-Err.ensures.dev c.requires.dev.shelf old sound inside (record { kv = c.commit.new.kv; next_tx = at.next_tx; clients = lent.entries }) _ _ a
-    (stays_names laws dev new c.in-Err.ensures.dev c.requires.dev.shelf old sound inside (record { kv = c.commit.new.kv; next_tx = at.next_tx; clients = lent.entries }) c.args.c
-    (same_stays old (record { kv = c.commit.new.kv; next_tx = at.next_tx; clients = lent.entries }) c.args.c x y there sets c.in-Err.ensures.err c.in-Err.ensures.err_number c.in-Err.ensures.maps c.in-Err.ensures.pins refl)) c.in-Err.ensures.reads
+    (λ a is. read_failed laws dev new c.in-Err.ensures.dev c.requires.dev.shelf old sound inside (record { kv = c.commit.new.kv; next_tx = at.next_tx; clients = lent.entries; saved = at.saved }) _ _ a
+    (stays_names laws dev new c.in-Err.ensures.dev c.requires.dev.shelf old sound inside (record { kv = c.commit.new.kv; next_tx = at.next_tx; clients = lent.entries; saved = at.saved }) c.args.c
+    (same_stays old (record { kv = c.commit.new.kv; next_tx = at.next_tx; clients = lent.entries; saved = at.saved }) c.args.c x y there sets c.in-Err.ensures.err c.in-Err.ensures.err_number c.in-Err.ensures.maps c.in-Err.ensures.pins refl refl)) c.in-Err.ensures.reads
     (commit_caused laws dev new c.in-Err.ensures.dev c.requires.dev.shelf old sound inside c.args.c x why a there is c.in-Err.ensures.fault)
     (has_failed _ why a is (dev, new, lent_to dev new c.requires.ring, (x, there, c.in-Err.ensures.fault)))))
 
@@ -128,7 +129,7 @@ returns-clause-turn g c =
     let kind = g.S.SliceStore.kind in
     let dev = c.args.dev.now in
     let at = c.self.inside in
-    let old : TablesView = record { kv = at.kv; next_tx = at.next_tx; clients = at.clients.entries } in
+    let old : TablesView = record { kv = at.kv; next_tx = at.next_tx; clients = at.clients.entries; saved = at.saved } in
     let sound : AreSound old = subst (λ t. AreSound t) (sym c.self.view_is) c.requires.sound in
     let x = c.in-Some.txn.now in
     let y = c.commit.new.self in
@@ -139,7 +140,7 @@ returns-clause-turn g c =
     let gone = c.end.ensures in
     let mine = sets.is in
     subst (λ (t : TablesView). ClientTurn (TellsAll kind (stores dev)) dev.settings.servers dev.settings.region (byte_at kind (stores dev)) (byte_at kind (stores c.commit.new.dev)) t c.end.new.self c.args.c verb.Commit c.in-Ok.answer) c.self.view_is
-    (commit_turn (TellsAll kind (stores dev)) dev.settings.servers dev.settings.region (byte_at kind (stores dev)) (byte_at kind (stores c.commit.new.dev)) old c.end.new.self c.commit.new.kv lent.entries c.args.c x y c.in-Ok.answer there sets gone.clients gone.next did.over did.maps did.pins
+    (commit_turn (TellsAll kind (stores dev)) dev.settings.servers dev.settings.region (byte_at kind (stores dev)) (byte_at kind (stores c.commit.new.dev)) old c.end.new.self c.commit.new.kv lent.entries c.args.c x y c.in-Ok.answer there sets gone.clients gone.next gone.saved did.over did.maps did.pins
     (subst (λ o. IfSome o (λ z. c.end.new.self.kv ≡ record c.commit.new.kv { pins = remove_key (nat_eq z.at.base) c.commit.new.kv.pins })) mine gone.kv)
     (subst (λ o. IfSome o (λ z. IsPinnedOnceMore z.at.base c.end.new.self.kv c.commit.new.kv)) mine gone.unpinned)
     did.ended (λ tells ops run. did.meaning ops (record { all = tells.0; map = tells.1 }) run))
@@ -149,7 +150,7 @@ returns-clause-serves g c =
     let kind = g.S.SliceStore.kind in
     let dev = c.args.dev.now in
     let at = c.self.inside in
-    let old : TablesView = record { kv = at.kv; next_tx = at.next_tx; clients = at.clients.entries } in
+    let old : TablesView = record { kv = at.kv; next_tx = at.next_tx; clients = at.clients.entries; saved = at.saved } in
     let sound : AreSound old = subst (λ t. AreSound t) (sym c.self.view_is) c.requires.sound in
     let x = c.in-Some.txn.now in
     let y = c.commit.new.self in
@@ -165,7 +166,7 @@ returns-clause-serves g c =
     subst (λ (t : TablesView). ServesLine kind (between dev new) dev.settings t c.end.new.self (event.Client c.args.c verb.Commit) c.in-Ok.answer) c.self.view_is
     (read_serves laws dev new did.dev c.requires.dev.shelf old sound inside c.end.new.self _ _ c.in-Ok.answer
     (ends_names laws dev new did.dev c.requires.dev.shelf old sound inside c.end.new.self c.commit.new.kv c.args.c x there
-    (ends old c.end.new.self c.commit.new.kv lent.entries c.args.c x y sets gone.clients gone.next did.over.base did.maps did.pins
+    (ends old c.end.new.self c.commit.new.kv lent.entries c.args.c x y sets gone.clients gone.next gone.saved did.over.base did.maps did.pins
     (subst (λ o. IfSome o (λ z. c.end.new.self.kv ≡ record c.commit.new.kv { pins = remove_key (nat_eq z.at.base) c.commit.new.kv.pins })) mine gone.kv)
     (subst (λ o. IfSome o (λ z. IsPinnedOnceMore z.at.base c.end.new.self.kv c.commit.new.kv)) mine gone.unpinned)) did.named) did.reads
     (ended_plain at.kv c.commit.new.kv c.in-Ok.answer did.ended))

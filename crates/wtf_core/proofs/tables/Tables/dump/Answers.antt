@@ -22,7 +22,7 @@ use Rattle.wtf_core.proofs.tables.Tables.dump.Goals as goal
 pub dump_now-requires-clause-inside : goal.dump_now-requires-clause-inside
 dump_now-requires-clause-inside g c =
     let dev = c.args.dev.now in
-    let inside : TablesBytes (is_inside g.S.SliceStore.kind (stores dev) dev.settings) (record { kv = c.self.inside.kv; next_tx = c.self.inside.next_tx; clients = c.self.inside.clients.entries }) = subst (TablesBytes (is_inside g.S.SliceStore.kind (stores dev) dev.settings)) (sym c.self.view_is) c.requires.inside in
+    let inside : TablesBytes (is_inside g.S.SliceStore.kind (stores dev) dev.settings) (record { kv = c.self.inside.kv; next_tx = c.self.inside.next_tx; clients = c.self.inside.clients.entries; saved = c.self.inside.saved }) = subst (TablesBytes (is_inside g.S.SliceStore.kind (stores dev) dev.settings)) (sym c.self.view_is) c.requires.inside in
     inside.now
 
 pub returns-in-Ok-clause-turn : goal.returns-in-Ok-clause-turn
@@ -31,11 +31,11 @@ returns-in-Ok-clause-turn g c =
     let dev = c.args.dev.now in
     let new = c.dump_now.new.dev in
     let at = c.self.inside in
-    let old : TablesView = record { kv = at.kv; next_tx = at.next_tx; clients = at.clients.entries } in
-    let after : TablesView = record { kv = c.dump_now.new.kv; next_tx = at.next_tx; clients = at.clients.entries } in
+    let old : TablesView = record { kv = at.kv; next_tx = at.next_tx; clients = at.clients.entries; saved = at.saved } in
+    let after : TablesView = record { kv = c.dump_now.new.kv; next_tx = at.next_tx; clients = at.clients.entries; saved = at.saved } in
     let sound : AreSound old = subst (λ t. AreSound t) (sym c.self.view_is) c.requires.sound in
     let inside : TablesBytes (is_inside kind (stores dev) dev.settings) old = subst (TablesBytes (is_inside kind (stores dev) dev.settings)) (sym c.self.view_is) c.requires.inside in
-    let stays : (d : ℕ) → Stays old after d = λ d. record { clients = sets_same d at.clients.entries at.clients.entries refl; number = c.in-Ok.ensures.number; maps = c.in-Ok.ensures.maps; pins = c.in-Ok.ensures.pins; next_tx = refl } in
+    let stays : (d : ℕ) → Stays old after d = λ d. record { clients = sets_same d at.clients.entries at.clients.entries refl; number = c.in-Ok.ensures.number; maps = c.in-Ok.ensures.maps; pins = c.in-Ok.ensures.pins; next_tx = refl; saved = refl } in
     subst (λ (t : TablesView). Dumps dev.settings.servers dev.settings.region (byte_at kind (stores dev)) t after c.args.p.now c.in-Ok.answer) c.self.view_is
     (record { stays = stays; built = λ e. subst IsDumpAnswer e c.in-Ok.ensures.answered; shows = λ tx k t st. inl (c.in-Ok.ensures.shows tx k t st) })
 
@@ -45,11 +45,11 @@ returns-in-Ok-clause-serves g c =
     let dev = c.args.dev.now in
     let new = c.dump_now.new.dev in
     let at = c.self.inside in
-    let old : TablesView = record { kv = at.kv; next_tx = at.next_tx; clients = at.clients.entries } in
-    let after : TablesView = record { kv = c.dump_now.new.kv; next_tx = at.next_tx; clients = at.clients.entries } in
+    let old : TablesView = record { kv = at.kv; next_tx = at.next_tx; clients = at.clients.entries; saved = at.saved } in
+    let after : TablesView = record { kv = c.dump_now.new.kv; next_tx = at.next_tx; clients = at.clients.entries; saved = at.saved } in
     let sound : AreSound old = subst (λ t. AreSound t) (sym c.self.view_is) c.requires.sound in
     let inside : TablesBytes (is_inside kind (stores dev) dev.settings) old = subst (TablesBytes (is_inside kind (stores dev) dev.settings)) (sym c.self.view_is) c.requires.inside in
-    let stays : (d : ℕ) → Stays old after d = λ d. record { clients = sets_same d at.clients.entries at.clients.entries refl; number = c.in-Ok.ensures.number; maps = c.in-Ok.ensures.maps; pins = c.in-Ok.ensures.pins; next_tx = refl } in
+    let stays : (d : ℕ) → Stays old after d = λ d. record { clients = sets_same d at.clients.entries at.clients.entries refl; number = c.in-Ok.ensures.number; maps = c.in-Ok.ensures.maps; pins = c.in-Ok.ensures.pins; next_tx = refl; saved = refl } in
     subst (λ (t : TablesView). ServesLine kind (between dev new) dev.settings t after (event.Dump c.args.p.now) c.in-Ok.answer) c.self.view_is
     (read_serves g.met.S.SliceStore.laws dev new c.in-Ok.ensures.dev c.requires.dev.shelf old sound inside after _ _ c.in-Ok.answer
     (stays_names g.met.S.SliceStore.laws dev new c.in-Ok.ensures.dev c.requires.dev.shelf old sound inside after 0 (stays 0)) c.in-Ok.ensures.reads
@@ -61,11 +61,11 @@ returns-in-Err-clause-turn g c =
     let dev = c.args.dev.now in
     let new = c.dump_now.new.dev in
     let at = c.self.inside in
-    let old : TablesView = record { kv = at.kv; next_tx = at.next_tx; clients = at.clients.entries } in
-    let after : TablesView = record { kv = c.dump_now.new.kv; next_tx = at.next_tx; clients = at.clients.entries } in
+    let old : TablesView = record { kv = at.kv; next_tx = at.next_tx; clients = at.clients.entries; saved = at.saved } in
+    let after : TablesView = record { kv = c.dump_now.new.kv; next_tx = at.next_tx; clients = at.clients.entries; saved = at.saved } in
     let sound : AreSound old = subst (λ t. AreSound t) (sym c.self.view_is) c.requires.sound in
     let inside : TablesBytes (is_inside kind (stores dev) dev.settings) old = subst (TablesBytes (is_inside kind (stores dev) dev.settings)) (sym c.self.view_is) c.requires.inside in
-    let stays : (d : ℕ) → Stays old after d = λ d. record { clients = sets_same d at.clients.entries at.clients.entries refl; number = c.in-Err.ensures.number; maps = c.in-Err.ensures.maps; pins = c.in-Err.ensures.pins; next_tx = refl } in
+    let stays : (d : ℕ) → Stays old after d = λ d. record { clients = sets_same d at.clients.entries at.clients.entries refl; number = c.in-Err.ensures.number; maps = c.in-Err.ensures.maps; pins = c.in-Err.ensures.pins; next_tx = refl; saved = refl } in
     let why = c.in-Err.why in
     subst (λ (t : TablesView). IfOk c.answer_to.result (Dumps dev.settings.servers dev.settings.region (byte_at kind (stores dev)) t after c.args.p.now)) c.self.view_is
     (if_ok c.answer_to.result (λ a. fault_answer why ≡ Some a) _ c.answer_to.ensures.answer
@@ -81,11 +81,11 @@ returns-in-Err-clause-serves g c =
     let dev = c.args.dev.now in
     let new = c.dump_now.new.dev in
     let at = c.self.inside in
-    let old : TablesView = record { kv = at.kv; next_tx = at.next_tx; clients = at.clients.entries } in
-    let after : TablesView = record { kv = c.dump_now.new.kv; next_tx = at.next_tx; clients = at.clients.entries } in
+    let old : TablesView = record { kv = at.kv; next_tx = at.next_tx; clients = at.clients.entries; saved = at.saved } in
+    let after : TablesView = record { kv = c.dump_now.new.kv; next_tx = at.next_tx; clients = at.clients.entries; saved = at.saved } in
     let sound : AreSound old = subst (λ t. AreSound t) (sym c.self.view_is) c.requires.sound in
     let inside : TablesBytes (is_inside kind (stores dev) dev.settings) old = subst (TablesBytes (is_inside kind (stores dev) dev.settings)) (sym c.self.view_is) c.requires.inside in
-    let stays : (d : ℕ) → Stays old after d = λ d. record { clients = sets_same d at.clients.entries at.clients.entries refl; number = c.in-Err.ensures.number; maps = c.in-Err.ensures.maps; pins = c.in-Err.ensures.pins; next_tx = refl } in
+    let stays : (d : ℕ) → Stays old after d = λ d. record { clients = sets_same d at.clients.entries at.clients.entries refl; number = c.in-Err.ensures.number; maps = c.in-Err.ensures.maps; pins = c.in-Err.ensures.pins; next_tx = refl; saved = refl } in
     let why = c.in-Err.why in
     subst (λ (t : TablesView). IfOk c.answer_to.result (ServesLine kind (between dev new) dev.settings t after (event.Dump c.args.p.now))) c.self.view_is
     (if_ok c.answer_to.result (λ a. fault_answer why ≡ Some a) _ c.answer_to.ensures.answer
@@ -100,11 +100,11 @@ returns-in-Err-clause-err_sound g c =
     let dev = c.args.dev.now in
     let new = c.dump_now.new.dev in
     let at = c.self.inside in
-    let old : TablesView = record { kv = at.kv; next_tx = at.next_tx; clients = at.clients.entries } in
-    let after : TablesView = record { kv = c.dump_now.new.kv; next_tx = at.next_tx; clients = at.clients.entries } in
+    let old : TablesView = record { kv = at.kv; next_tx = at.next_tx; clients = at.clients.entries; saved = at.saved } in
+    let after : TablesView = record { kv = c.dump_now.new.kv; next_tx = at.next_tx; clients = at.clients.entries; saved = at.saved } in
     let sound : AreSound old = subst (λ t. AreSound t) (sym c.self.view_is) c.requires.sound in
     let inside : TablesBytes (is_inside kind (stores dev) dev.settings) old = subst (TablesBytes (is_inside kind (stores dev) dev.settings)) (sym c.self.view_is) c.requires.inside in
-    let stays : (d : ℕ) → Stays old after d = λ d. record { clients = sets_same d at.clients.entries at.clients.entries refl; number = c.in-Err.ensures.number; maps = c.in-Err.ensures.maps; pins = c.in-Err.ensures.pins; next_tx = refl } in
+    let stays : (d : ℕ) → Stays old after d = λ d. record { clients = sets_same d at.clients.entries at.clients.entries refl; number = c.in-Err.ensures.number; maps = c.in-Err.ensures.maps; pins = c.in-Err.ensures.pins; next_tx = refl; saved = refl } in
     on_err c.answer_to.result _ (stays_sound old after 0 sound (stays 0))
 
 pub returns-in-Err-clause-err : goal.returns-in-Err-clause-err
@@ -113,8 +113,8 @@ returns-in-Err-clause-err g c =
     let dev = c.args.dev.now in
     let new = c.dump_now.new.dev in
     let at = c.self.inside in
-    let old : TablesView = record { kv = at.kv; next_tx = at.next_tx; clients = at.clients.entries } in
-    let after : TablesView = record { kv = c.dump_now.new.kv; next_tx = at.next_tx; clients = at.clients.entries } in
+    let old : TablesView = record { kv = at.kv; next_tx = at.next_tx; clients = at.clients.entries; saved = at.saved } in
+    let after : TablesView = record { kv = c.dump_now.new.kv; next_tx = at.next_tx; clients = at.clients.entries; saved = at.saved } in
     let sound : AreSound old = subst (λ t. AreSound t) (sym c.self.view_is) c.requires.sound in
     let inside : TablesBytes (is_inside kind (stores dev) dev.settings) old = subst (TablesBytes (is_inside kind (stores dev) dev.settings)) (sym c.self.view_is) c.requires.inside in
     let number = c.in-Err.ensures.number in
@@ -122,4 +122,5 @@ returns-in-Err-clause-err g c =
       number = number;
       map = ap (metadata_at c.dump_now.new.kv) number ∙ c.in-Err.ensures.maps at.kv.number (omega arith);
       next_tx = refl;
+      saved = refl;
     }))

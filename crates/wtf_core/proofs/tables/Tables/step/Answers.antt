@@ -22,20 +22,20 @@ use Rattle.wtf_core.proofs.tables.Tables.step.Goals as goal
 
 pub step-requires-clause-going : goal.step-requires-clause-going
 step-requires-clause-going g c =
-    let sound : AreSound (record { kv = c.self.inside.kv; next_tx = c.self.inside.next_tx; clients = c.self.inside.clients.entries }) = subst (λ t. AreSound t) (sym c.self.view_is) c.requires.sound in
+    let sound : AreSound (record { kv = c.self.inside.kv; next_tx = c.self.inside.next_tx; clients = c.self.inside.clients.entries; saved = c.self.inside.saved }) = subst (λ t. AreSound t) (sym c.self.view_is) c.requires.sound in
     let there = sym c.get_mut.ensures.value ∙ ap option_copied_mut c.in-Some.is in
     (sound.each c.args.c c.in-Some.txn.now there).going
 
 pub step-requires-clause-fit : goal.step-requires-clause-fit
 step-requires-clause-fit g c =
-    let sound : AreSound (record { kv = c.self.inside.kv; next_tx = c.self.inside.next_tx; clients = c.self.inside.clients.entries }) = subst (λ t. AreSound t) (sym c.self.view_is) c.requires.sound in
+    let sound : AreSound (record { kv = c.self.inside.kv; next_tx = c.self.inside.next_tx; clients = c.self.inside.clients.entries; saved = c.self.inside.saved }) = subst (λ t. AreSound t) (sym c.self.view_is) c.requires.sound in
     let there = sym c.get_mut.ensures.value ∙ ap option_copied_mut c.in-Some.is in
     (sound.each c.args.c c.in-Some.txn.now there).fit
 
 pub step-requires-clause-inside : goal.step-requires-clause-inside
 step-requires-clause-inside g c =
     let dev = c.args.dev.now in
-    let inside : TablesBytes (is_inside g.S.SliceStore.kind (stores dev) dev.settings) (record { kv = c.self.inside.kv; next_tx = c.self.inside.next_tx; clients = c.self.inside.clients.entries }) = subst (TablesBytes (is_inside g.S.SliceStore.kind (stores dev) dev.settings)) (sym c.self.view_is) c.requires.inside in
+    let inside : TablesBytes (is_inside g.S.SliceStore.kind (stores dev) dev.settings) (record { kv = c.self.inside.kv; next_tx = c.self.inside.next_tx; clients = c.self.inside.clients.entries; saved = c.self.inside.saved }) = subst (TablesBytes (is_inside g.S.SliceStore.kind (stores dev) dev.settings)) (sym c.self.view_is) c.requires.inside in
     let there = sym c.get_mut.ensures.value ∙ ap option_copied_mut c.in-Some.is in
     inside.each c.args.c c.in-Some.txn.now there
 
@@ -44,7 +44,7 @@ returns-in-Err-clause-err_sound g c =
     let kind = g.S.SliceStore.kind in
     let dev = c.args.dev.now in
     let at = c.self.inside in
-    let old : TablesView = record { kv = at.kv; next_tx = at.next_tx; clients = at.clients.entries } in
+    let old : TablesView = record { kv = at.kv; next_tx = at.next_tx; clients = at.clients.entries; saved = at.saved } in
     let sound : AreSound old = subst (λ t. AreSound t) (sym c.self.view_is) c.requires.sound in
     let x = c.in-Some.txn.now in
     let y = c.step.new.self in
@@ -58,21 +58,21 @@ returns-in-Err-clause-err g c =
     let kind = g.S.SliceStore.kind in
     let dev = c.args.dev.now in
     let at = c.self.inside in
-    let old : TablesView = record { kv = at.kv; next_tx = at.next_tx; clients = at.clients.entries } in
+    let old : TablesView = record { kv = at.kv; next_tx = at.next_tx; clients = at.clients.entries; saved = at.saved } in
     let sound : AreSound old = subst (λ t. AreSound t) (sym c.self.view_is) c.requires.sound in
     let x = c.in-Some.txn.now in
     let y = c.step.new.self in
     let there : of_client old.clients c.args.c ≡ Some x = sym c.get_mut.ensures.value ∙ ap option_copied_mut c.in-Some.is in
     let lent = c.get_mut.follows.lender y in
     let sets : Sets c.args.c (Some y) old.clients lent.entries = written c.args.c at.clients lent x y there (c.get_mut.follows.holds y) in
-    on_err c.answer_to.result _ (subst (λ (t : TablesView). IsAlike t (record { kv = at.kv; next_tx = at.next_tx; clients = lent.entries })) c.self.view_is (record { number = refl; map = refl; next_tx = refl }))
+    on_err c.answer_to.result _ (subst (λ (t : TablesView). IsAlike t (record { kv = at.kv; next_tx = at.next_tx; clients = lent.entries; saved = at.saved })) c.self.view_is (record { number = refl; map = refl; next_tx = refl; saved = refl }))
 
 pub returns-in-Err-clause-turn : goal.returns-in-Err-clause-turn
 returns-in-Err-clause-turn g c =
     let kind = g.S.SliceStore.kind in
     let dev = c.args.dev.now in
     let at = c.self.inside in
-    let old : TablesView = record { kv = at.kv; next_tx = at.next_tx; clients = at.clients.entries } in
+    let old : TablesView = record { kv = at.kv; next_tx = at.next_tx; clients = at.clients.entries; saved = at.saved } in
     let sound : AreSound old = subst (λ t. AreSound t) (sym c.self.view_is) c.requires.sound in
     let x = c.in-Some.txn.now in
     let y = c.step.new.self in
@@ -80,7 +80,7 @@ returns-in-Err-clause-turn g c =
     let lent = c.get_mut.follows.lender y in
     let sets : Sets c.args.c (Some y) old.clients lent.entries = written c.args.c at.clients lent x y there (c.get_mut.follows.holds y) in
     let why = c.in-Err.why in
-    subst (λ (t : TablesView). IfOk c.answer_to.result (λ a. ClientTurn (TellsAll kind (stores dev)) dev.settings.servers dev.settings.region (byte_at kind (stores dev)) (byte_at kind (stores c.step.new.dev)) t (record { kv = at.kv; next_tx = at.next_tx; clients = lent.entries }) c.args.c verb.Step a)) c.self.view_is
+    subst (λ (t : TablesView). IfOk c.answer_to.result (λ a. ClientTurn (TellsAll kind (stores dev)) dev.settings.servers dev.settings.region (byte_at kind (stores dev)) (byte_at kind (stores c.step.new.dev)) t (record { kv = at.kv; next_tx = at.next_tx; clients = lent.entries; saved = at.saved }) c.args.c verb.Step a)) c.self.view_is
     (if_ok c.answer_to.result (λ a. fault_answer why ≡ Some a) _ c.answer_to.ensures.answer
     (λ a is. step_failed (TellsAll kind (stores dev)) dev.settings.servers dev.settings.region (byte_at kind (stores dev)) (byte_at kind (stores c.step.new.dev)) old lent.entries c.args.c x y why a there sets c.in-Err.ensures.err (not_live x why y c.in-Err.ensures.refused) is
     (λ ops run t st. step_left dev.settings.servers _ x.replayed why a is (c.in-Err.ensures.due ops run t st))))
@@ -90,7 +90,7 @@ returns-in-Err-clause-serves g c =
     let kind = g.S.SliceStore.kind in
     let dev = c.args.dev.now in
     let at = c.self.inside in
-    let old : TablesView = record { kv = at.kv; next_tx = at.next_tx; clients = at.clients.entries } in
+    let old : TablesView = record { kv = at.kv; next_tx = at.next_tx; clients = at.clients.entries; saved = at.saved } in
     let sound : AreSound old = subst (λ t. AreSound t) (sym c.self.view_is) c.requires.sound in
     let x = c.in-Some.txn.now in
     let y = c.step.new.self in
@@ -101,9 +101,9 @@ returns-in-Err-clause-serves g c =
     let why = c.in-Err.why in
     let laws = g.met.S.SliceStore.laws in
     let new = c.step.new.dev in
-    subst (λ (t : TablesView). IfOk c.answer_to.result (ServesLine kind (between dev new) dev.settings t (record { kv = at.kv; next_tx = at.next_tx; clients = lent.entries }) (event.Client c.args.c verb.Step))) c.self.view_is
+    subst (λ (t : TablesView). IfOk c.answer_to.result (ServesLine kind (between dev new) dev.settings t (record { kv = at.kv; next_tx = at.next_tx; clients = lent.entries; saved = at.saved }) (event.Client c.args.c verb.Step))) c.self.view_is
     (if_ok c.answer_to.result (λ a. fault_answer why ≡ Some a) _ c.answer_to.ensures.answer
-    (λ a is. read_failed laws dev new c.in-Err.ensures.dev c.requires.dev.shelf old sound inside (record { kv = at.kv; next_tx = at.next_tx; clients = lent.entries }) _ _ a
+    (λ a is. read_failed laws dev new c.in-Err.ensures.dev c.requires.dev.shelf old sound inside (record { kv = at.kv; next_tx = at.next_tx; clients = lent.entries; saved = at.saved }) _ _ a
     (same_names laws dev new c.in-Err.ensures.dev c.requires.dev.shelf old sound inside lent.entries c.args.c x y there sets c.in-Err.ensures.err) c.in-Err.ensures.reads
     (step_caused laws dev new c.in-Err.ensures.dev c.requires.dev.shelf old sound inside c.args.c x why a there is c.in-Err.ensures.fault)
     (has_failed _ why a is (dev, new, lent_to dev new c.requires.ring, (x, there, past_memory why a is c.in-Err.ensures.fault)))))
@@ -113,7 +113,7 @@ returns-then-not-ended-clause-turn g c =
     let kind = g.S.SliceStore.kind in
     let dev = c.args.dev.now in
     let at = c.self.inside in
-    let old : TablesView = record { kv = at.kv; next_tx = at.next_tx; clients = at.clients.entries } in
+    let old : TablesView = record { kv = at.kv; next_tx = at.next_tx; clients = at.clients.entries; saved = at.saved } in
     let sound : AreSound old = subst (λ t. AreSound t) (sym c.self.view_is) c.requires.sound in
     let x = c.in-Some.txn.now in
     let y = c.step.new.self in
@@ -121,7 +121,7 @@ returns-then-not-ended-clause-turn g c =
     let lent = c.get_mut.follows.lender y in
     let sets : Sets c.args.c (Some y) old.clients lent.entries = written c.args.c at.clients lent x y there (c.get_mut.follows.holds y) in
     let did = c.in-Ok.ensures in
-    subst (λ (t : TablesView). ClientTurn (TellsAll kind (stores dev)) dev.settings.servers dev.settings.region (byte_at kind (stores dev)) (byte_at kind (stores c.step.new.dev)) t (record { kv = at.kv; next_tx = at.next_tx; clients = lent.entries }) c.args.c verb.Step c.in-Ok.answer) c.self.view_is
+    subst (λ (t : TablesView). ClientTurn (TellsAll kind (stores dev)) dev.settings.servers dev.settings.region (byte_at kind (stores dev)) (byte_at kind (stores c.step.new.dev)) t (record { kv = at.kv; next_tx = at.next_tx; clients = lent.entries; saved = at.saved }) c.args.c verb.Step c.in-Ok.answer) c.self.view_is
     (step_goes (TellsAll kind (stores dev)) dev.settings.servers dev.settings.region (byte_at kind (stores dev)) (byte_at kind (stores c.step.new.dev)) old lent.entries c.args.c x y c.in-Ok.answer (sound.each c.args.c x there).going there sets did.refused did.stepped
     (λ free tells ops run. did.meaning free ops (record { all = tells.0; map = tells.1 }) run) did.fit
     (sym c.ended.ensures ∙ c.if-not-ended.true))
@@ -131,7 +131,7 @@ returns-then-not-ended-clause-serves g c =
     let kind = g.S.SliceStore.kind in
     let dev = c.args.dev.now in
     let at = c.self.inside in
-    let old : TablesView = record { kv = at.kv; next_tx = at.next_tx; clients = at.clients.entries } in
+    let old : TablesView = record { kv = at.kv; next_tx = at.next_tx; clients = at.clients.entries; saved = at.saved } in
     let sound : AreSound old = subst (λ t. AreSound t) (sym c.self.view_is) c.requires.sound in
     let x = c.in-Some.txn.now in
     let y = c.step.new.self in
@@ -142,8 +142,8 @@ returns-then-not-ended-clause-serves g c =
     let did = c.in-Ok.ensures in
     let laws = g.met.S.SliceStore.laws in
     let new = c.step.new.dev in
-    subst (λ (t : TablesView). ServesLine kind (between dev new) dev.settings t (record { kv = at.kv; next_tx = at.next_tx; clients = lent.entries }) (event.Client c.args.c verb.Step) c.in-Ok.answer) c.self.view_is
-    (read_serves laws dev new did.dev c.requires.dev.shelf old sound inside (record { kv = at.kv; next_tx = at.next_tx; clients = lent.entries }) _ _ c.in-Ok.answer
+    subst (λ (t : TablesView). ServesLine kind (between dev new) dev.settings t (record { kv = at.kv; next_tx = at.next_tx; clients = lent.entries; saved = at.saved }) (event.Client c.args.c verb.Step) c.in-Ok.answer) c.self.view_is
+    (read_serves laws dev new did.dev c.requires.dev.shelf old sound inside (record { kv = at.kv; next_tx = at.next_tx; clients = lent.entries; saved = at.saved }) _ _ c.in-Ok.answer
     (goes_names laws dev new did.dev c.requires.dev.shelf old sound inside lent.entries c.args.c x y there sets did.named) did.reads
     (step_plain x y c.in-Ok.answer did.refused did.stepped))
 
@@ -152,7 +152,7 @@ returns-clause-turn g c =
     let kind = g.S.SliceStore.kind in
     let dev = c.args.dev.now in
     let at = c.self.inside in
-    let old : TablesView = record { kv = at.kv; next_tx = at.next_tx; clients = at.clients.entries } in
+    let old : TablesView = record { kv = at.kv; next_tx = at.next_tx; clients = at.clients.entries; saved = at.saved } in
     let sound : AreSound old = subst (λ t. AreSound t) (sym c.self.view_is) c.requires.sound in
     let x = c.in-Some.txn.now in
     let y = c.step.new.self in
@@ -165,7 +165,7 @@ returns-clause-turn g c =
     subst (λ (t : TablesView). ClientTurn (TellsAll kind (stores dev)) dev.settings.servers dev.settings.region (byte_at kind (stores dev)) (byte_at kind (stores c.step.new.dev)) t c.end.new.self c.args.c verb.Step c.in-Ok.answer) c.self.view_is
     (step_ends (TellsAll kind (stores dev)) dev.settings.servers dev.settings.region (byte_at kind (stores dev)) (byte_at kind (stores c.step.new.dev)) old lent.entries c.args.c x y c.in-Ok.answer (sound.each c.args.c x there).going there sets did.refused did.stepped
     (λ free tells ops run. did.meaning free ops (record { all = tells.0; map = tells.1 }) run) did.fit
-    c.end.new.self gone.clients gone.next
+    c.end.new.self gone.clients gone.next gone.saved
     (subst (λ o. IfSome o (λ z. c.end.new.self.kv ≡ record at.kv { pins = remove_key (nat_eq z.at.base) at.kv.pins })) mine gone.kv)
     (subst (λ o. IfSome o (λ z. IsPinnedOnceMore z.at.base c.end.new.self.kv at.kv)) mine gone.unpinned)
     (sym c.ended.ensures ∙ c.if-not-ended.false))
@@ -175,7 +175,7 @@ returns-clause-serves g c =
     let kind = g.S.SliceStore.kind in
     let dev = c.args.dev.now in
     let at = c.self.inside in
-    let old : TablesView = record { kv = at.kv; next_tx = at.next_tx; clients = at.clients.entries } in
+    let old : TablesView = record { kv = at.kv; next_tx = at.next_tx; clients = at.clients.entries; saved = at.saved } in
     let sound : AreSound old = subst (λ t. AreSound t) (sym c.self.view_is) c.requires.sound in
     let x = c.in-Some.txn.now in
     let y = c.step.new.self in
@@ -192,7 +192,7 @@ returns-clause-serves g c =
     subst (λ (t : TablesView). ServesLine kind (between dev new) dev.settings t c.end.new.self (event.Client c.args.c verb.Step) c.in-Ok.answer) c.self.view_is
     (read_serves laws dev new did.dev c.requires.dev.shelf old sound inside c.end.new.self _ _ c.in-Ok.answer
     (leaves_names laws dev new did.dev c.requires.dev.shelf old sound inside c.end.new.self c.args.c x
-    (ends old c.end.new.self at.kv lent.entries c.args.c x y sets gone.clients gone.next over (λ n le. refl) (λ n. refl)
+    (ends old c.end.new.self at.kv lent.entries c.args.c x y sets gone.clients gone.next gone.saved over (λ n le. refl) (λ n. refl)
     (subst (λ o. IfSome o (λ z. c.end.new.self.kv ≡ record at.kv { pins = remove_key (nat_eq z.at.base) at.kv.pins })) mine gone.kv)
     (subst (λ o. IfSome o (λ z. IsPinnedOnceMore z.at.base c.end.new.self.kv at.kv)) mine gone.unpinned))) did.reads
     (step_plain x y c.in-Ok.answer did.refused did.stepped))
