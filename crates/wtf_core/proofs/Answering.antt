@@ -23,6 +23,7 @@ use Rattle.wtf_replay.specs.Views.{TxnView}
 use Rattle.wtf_replay.specs.Refusals.{call_refusal, try_refusal, step_refusal}
 use Rattle.wtf_core.specs.Views.{TablesView, CoreView, of_client}
 use Rattle.wtf_core.specs.Built.{is_built}
+use Rattle.wtf_core.specs.Saves.{AreUp, SaveTurn}
 use Rattle.wtf_core.specs.Named.{TablesBytes, has_copies}
 use Rattle.wtf_core.specs.Outcomes.{AddsBytes, data_of}
 use Rattle.wtf_core.specs.Asked.{asked_of}
@@ -141,12 +142,17 @@ module _ (Telling : Type 0) (told : Told × Told) (old new : CoreView) (a : Answ
   client_exact c v true h = exact_of true (λ e. client_built Telling old.settings.servers old.settings.region told.0 told.1 old.tables new.tables c v a h.0) (λ e. absurd (true≢false e))
   client_exact c v false h = exact_of false (λ e. absurd (true≢false (sym e))) (λ e. h.0)
 
+  save_built : (b : Answer) → SaveTurn (AreUp old.replicas old.settings.servers) old.tables new.tables b → IsBuiltAnswer b
+  save_built answer.NotBuilt h = absurd h
+  save_built b h = tt
+
   pub line_exact : (e : Event) → LineTurn Telling told old new e a → (a ≡ answer.NotBuilt) ↔ (is_built e ≡ false)
   line_exact (event.Client c v) h = client_exact c v true h
   line_exact (event.Down k) h = exact_of true (λ e. server_built k true (nat_lt k old.settings.servers) h) (λ e. absurd (true≢false e))
   line_exact (event.Up k) h = exact_of true (λ e. server_built k false (nat_lt k old.settings.servers) h) (λ e. absurd (true≢false e))
   line_exact (event.Dump p) h = (λ e. absurd (h.0.built e), λ e. absurd (true≢false e))
   line_exact event.Tree h = exact_of true (λ e. tree_built a h.2) (λ e. absurd (true≢false e))
+  line_exact event.Save h = exact_of true (λ e. save_built a h.0) (λ e. absurd (true≢false e))
   line_exact e h = exact_of false (λ f. absurd (true≢false (sym f))) (λ f. h.0)
 
   -- ---- which servers are down
@@ -180,6 +186,7 @@ module _ (Telling : Type 0) (told : Told × Told) (old new : CoreView) (a : Answ
   line_downs (event.Up k) h = up_line k (nat_lt k old.settings.servers) h
   line_downs (event.Dump p) h = rest_down new.tables h.1
   line_downs event.Tree h = same_down h.1
+  line_downs event.Save h = rest_down new.tables h.1
   line_downs e h = same_down h.1
 
 -- ---- lines that were lent no store
@@ -194,7 +201,7 @@ module _ {S : Type 0} (kind : StoreKind S) (down : ℕ → Bool) (shelf : List S
     inside = names (is_inside kind shelf settings) refl inside;
     full = names (has_copies settings.replicas) refl;
     adds = subst (λ (l : List ℕ). AddsBytes kind (span down shelf shelf) settings l a) (sym none) (none_added kind (span down shelf shelf) settings a (reads_nothing kind down shelf).lengths);
-    caused = plain_caused kind (span down shelf shelf) settings (AreFull settings old) (data_of e) a plain;
+    caused = plain_caused kind (span down shelf shelf) settings ⊥ (AreFull settings old) (data_of e) a plain;
     placed = none_placed kind (span down shelf shelf) settings (asked_of kind (span down shelf shelf) settings old e) a none;
     failed = plain_failed (asked_of kind (span down shelf shelf) settings old e).fails a plain;
   }

@@ -66,7 +66,7 @@ pub plain_failed : (fails : Fault → Type 0) (a : Answer) → IsPlain a → Has
 plain_failed fails (answer.FaultRead k) h = absurd h
 plain_failed fails answer.FaultWrite h = absurd h
 plain_failed fails (answer.FaultPunch k) h = absurd h
-plain_failed fails answer.FaultSave h = absurd h
+plain_failed fails answer.FaultSave h = tt
 plain_failed fails (answer.Damaged k) h = absurd h
 plain_failed fails a h = tt
 
@@ -75,7 +75,7 @@ pub has_failed : (fails : Fault → Type 0) (why : Fault) (a : Answer) → fault
 has_failed fails why (answer.FaultRead k) is h = (why, is, h)
 has_failed fails why answer.FaultWrite is h = (why, is, h)
 has_failed fails why (answer.FaultPunch k) is h = (why, is, h)
-has_failed fails why answer.FaultSave is h = (why, is, h)
+has_failed fails why answer.FaultSave is h = tt
 has_failed fails why (answer.Damaged k) is h = (why, is, h)
 has_failed fails why a is h = tt
 
@@ -91,13 +91,13 @@ fault_placed kind t settings asked why a is ok some = absurd (subst IsFault ok (
 
 module _ {S : Type 0} (kind : StoreKind S) (t : Span S) (settings : Settings) where
   -- needs no cause
-  pub plain_caused : (full : Type 0) (given : List ℕ) (a : Answer) → IsPlain a → HasCause kind t settings full given a
-  plain_caused full given (answer.FaultRead k) h = absurd h
-  plain_caused full given answer.FaultWrite h = absurd h
-  plain_caused full given (answer.FaultPunch k) h = absurd h
-  plain_caused full given answer.FaultSave h = absurd h
-  plain_caused full given (answer.Damaged k) h = absurd h
-  plain_caused full given a h = tt
+  pub plain_caused : (saving full : Type 0) (given : List ℕ) (a : Answer) → IsPlain a → HasCause kind t settings saving full given a
+  plain_caused saving full given (answer.FaultRead k) h = absurd h
+  plain_caused saving full given answer.FaultWrite h = absurd h
+  plain_caused saving full given (answer.FaultPunch k) h = absurd h
+  plain_caused saving full given answer.FaultSave h = absurd h
+  plain_caused saving full given (answer.Damaged k) h = absurd h
+  plain_caused saving full given a h = tt
 
   -- a line that stores nothing
   pub none_added : (a : Answer) → SameLengths kind t.before t.after → AddsBytes kind t settings [] a
@@ -196,10 +196,10 @@ module _ {S : Type 0} (kind : StoreKind S) (old new : Dev S) where
   put_fault (b ∷ bs) (fault.Damaged k) a is (inr few) = absurd few
   put_fault (b ∷ bs) fault.Memory a is (inr few) = absurd few
 
-  put_caused : (full : Type 0) (bytes : List ℕ) (why : Fault) (a : Answer) → fault_answer why ≡ Some a → IsPutFault kind old new bytes why → HasCause kind (between old new) old.settings full bytes a
+  put_caused : (full : Type 0) (bytes : List ℕ) (why : Fault) (a : Answer) → fault_answer why ≡ Some a → IsPutFault kind old new bytes why → HasCause kind (between old new) old.settings ⊥ full bytes a
   put_caused full bytes why a is h =
       let cause = put_fault bytes why a is h in
-      subst (λ (r : Answer). HasCause kind (between old new) old.settings full bytes r) (sym cause.0) (cause.1, cause.2)
+      subst (λ (r : Answer). HasCause kind (between old new) old.settings ⊥ full bytes r) (sym cause.0) (cause.1, cause.2)
 
   put_adds : (bytes : List ℕ) (why : Fault) (a : Answer) → fault_answer why ≡ Some a → IsPutFault kind old new bytes why → AddsBytes kind (between old new) old.settings bytes a
   put_adds bytes why a is h = by bytes (put_fault bytes why a is h)
@@ -230,10 +230,10 @@ piece_bytes P hole (p ∷ ps) i h = elim (cases_lt i p.len) [
 -- why bytes were not read, where each byte of the map and of the slices in hand lies inside the stores
 module _ {S : Type 0} {kind : StoreKind S} (laws : KindLaws kind) (shelf : List S) (settings : Settings) (enough : settings.servers ≤ length shelf) (old new : Dev S) (w : Map) (s : SessionView) (full : Type 0)
     (inside : SeenBytes (is_inside kind shelf settings) w s) (copies : full → SeenBytes (has_copies settings.replicas) w s) where
-  pub read_caused : (f n : ℕ) (given : List ℕ) (why : Fault) (a : Answer) → fault_answer why ≡ Some a → IsReadCause kind old new w s f n why → HasCause kind (between old new) settings full given a
+  pub read_caused : (f n : ℕ) (given : List ℕ) (why : Fault) (a : Answer) → fault_answer why ≡ Some a → IsReadCause kind old new w s f n why → HasCause kind (between old new) settings ⊥ full given a
   read_caused f n given why a is (inl memory) = absurd (memory_none why a is memory)
   read_caused f n given (fault.Read k) a is (inr (h, there, lacks)) =
-      subst (λ (r : Answer). HasCause kind (between old new) settings full given r) (let e : answer.FaultRead k.0 ≡ a = cc in e)
+      subst (λ (r : Answer). HasCause kind (between old new) settings ⊥ full given r) (let e : answer.FaultRead k.0 ≡ a = cc in e)
       (lacks_unread laws shelf settings old new (found_in old.settings.region w h n) (read_origin old.settings.region w h) full k enough
       (λ i below. file_origin_bytes (is_inside kind shelf settings) refl old.settings.region h.inode w (h.off + i) inside.0)
       (λ whole i below. file_origin_bytes (has_copies settings.replicas) refl old.settings.region h.inode w (h.off + i) (copies whole).0) lacks)
@@ -242,11 +242,11 @@ module _ {S : Type 0} {kind : StoreKind S} (laws : KindLaws kind) (shelf : List 
   read_caused f n given (fault.Damaged k) a is (inr (h, there, lacks)) = absurd lacks.fault
   read_caused f n given fault.Memory a is (inr (h, there, lacks)) = absurd (memory_none fault.Memory a is refl)
 
-  peek_by : (label off n : ℕ) (why : Fault) (a : Answer) (o : Option (List Piece)) → slice_in s label ≡ o → fault_answer why ≡ Some a → LacksSlice kind old new o off n why → HasCause kind (between old new) settings full [] a
+  peek_by : (label off n : ℕ) (why : Fault) (a : Answer) (o : Option (List Piece)) → slice_in s label ≡ o → fault_answer why ≡ Some a → LacksSlice kind old new o off n why → HasCause kind (between old new) settings ⊥ full [] a
   peek_by label off n why a None there is h = absurd h
   peek_by label off n why a (Some ps) there is (inl memory) = absurd (memory_none why a is memory)
   peek_by label off n (fault.Read k) a (Some ps) there is (inr lacks) =
-      subst (λ (r : Answer). HasCause kind (between old new) settings full [] r) (let e : answer.FaultRead k.0 ≡ a = cc in e)
+      subst (λ (r : Answer). HasCause kind (between old new) settings ⊥ full [] r) (let e : answer.FaultRead k.0 ≡ a = cc in e)
       (lacks_unread laws shelf settings old new n (λ i. pieces_origin ps (off + i)) full k enough
       (λ i below. piece_bytes (is_inside kind shelf settings) refl ps (off + i) (inside.1 label ps there))
       (λ whole i below. piece_bytes (has_copies settings.replicas) refl ps (off + i) ((copies whole).1 label ps there)) lacks)
@@ -255,12 +255,12 @@ module _ {S : Type 0} {kind : StoreKind S} (laws : KindLaws kind) (shelf : List 
   peek_by label off n (fault.Damaged k) a (Some ps) there is (inr lacks) = absurd lacks.fault
   peek_by label off n fault.Memory a (Some ps) there is (inr lacks) = absurd (memory_none fault.Memory a is refl)
 
-  pub peek_caused : (label off n : ℕ) (why : Fault) (a : Answer) → fault_answer why ≡ Some a → IsPeekCause kind old new s label off n why → HasCause kind (between old new) settings full [] a
+  pub peek_caused : (label off n : ℕ) (why : Fault) (a : Answer) → fault_answer why ≡ Some a → IsPeekCause kind old new s label off n why → HasCause kind (between old new) settings ⊥ full [] a
   peek_caused label off n why a is (inl memory) = absurd (memory_none why a is memory)
   peek_caused label off n why a is (inr h) = peek_by label off n why a (slice_in s label) refl is h
 
   -- why a call failed that was made once more
-  pub again_caused : (k : Op Kept) (why : Fault) (a : Answer) → fault_answer why ≡ Some a → IsAgainFault kind old new w s k why → HasCause kind (between old new) settings full [] a
+  pub again_caused : (k : Op Kept) (why : Fault) (a : Answer) → fault_answer why ≡ Some a → IsAgainFault kind old new w s k why → HasCause kind (between old new) settings ⊥ full [] a
   again_caused (op.Read f n) why a is h = read_caused f n [] why a is h
   again_caused (op.Peek label off n) why a is h = peek_caused label off n why a is h
   again_caused k why a is h = absurd (memory_none why a is h)
@@ -268,7 +268,7 @@ module _ {S : Type 0} {kind : StoreKind S} (laws : KindLaws kind) (shelf : List 
 -- or for the first time
 pub call_caused : {S : Type 0} {kind : StoreKind S} → KindLaws kind → (old new : Dev S) → old.settings.servers ≤ length (stores old) → (w : Map) (s : SessionView) (full : Type 0)
     → SeenBytes (is_inside kind (stores old) old.settings) w s → (full → SeenBytes (has_copies old.settings.replicas) w s)
-    → (o : Op (List ℕ)) (why : Fault) (a : Answer) → fault_answer why ≡ Some a → IsCallFault kind old new w s o why → HasCause kind (between old new) old.settings full (data_of_op o) a
+    → (o : Op (List ℕ)) (why : Fault) (a : Answer) → fault_answer why ≡ Some a → IsCallFault kind old new w s o why → HasCause kind (between old new) old.settings ⊥ full (data_of_op o) a
 call_caused {kind = kind} laws old new enough w s full inside copies (op.Write f bytes) why a is h = put_caused kind old new full bytes why a is h
 call_caused {kind = kind} laws old new enough w s full inside copies (op.Append f bytes) why a is h = put_caused kind old new full bytes why a is h
 call_caused {kind = kind} laws old new enough w s full inside copies (op.Read f n) why a is h = read_caused laws (stores old) old.settings enough old new w s full inside copies f n [] why a is h

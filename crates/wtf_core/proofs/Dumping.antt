@@ -171,12 +171,12 @@ module _ {S : Type 0} {kind : StoreKind S} (laws : KindLaws kind) (old new : Dev
 
   -- and it has its cause
   pub dump_caused : (full : Type 0) → (full → MapBytes (has_copies old.settings.replicas) w) → (why : Fault) (a : Answer) → fault_answer why ≡ Some a → (why ≡ fault.Memory) ⊎ LacksDump kind old new w p why
-      → HasCause kind (between old new) old.settings full [] a
+      → HasCause kind (between old new) old.settings ⊥ full [] a
   dump_caused full copies why a is (inl memory) = absurd (memory_none why a is memory)
   dump_caused full copies (fault.Read k) a is (inr lacks) =
       let z : ℕ = old.settings.region in
       let v : FileView = file_of lacks.inode w in
-      subst (HasCause kind (between old new) old.settings full []) (let e : answer.FaultRead k.0 ≡ a = cc in e)
+      subst (HasCause kind (between old new) old.settings ⊥ full []) (let e : answer.FaultRead k.0 ≡ a = cc in e)
       (lacks_unread laws (stores old) old.settings old new (min (file_len z v) (MAX_REGIONS * z)) (file_origin z v) full k enough
       (λ i below. file_origin_bytes (is_inside kind (stores old) old.settings) refl z lacks.inode w i inside)
       (λ whole i below. file_origin_bytes (has_copies old.settings.replicas) refl z lacks.inode w i (copies whole)) lacks.file.lacks)

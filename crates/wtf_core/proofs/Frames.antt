@@ -37,7 +37,7 @@ pub record Turned (old new : TablesView) (c : ℕ) (now : Option TxnView) : Type
   pub whose : (x : TxnView) → now ≡ Some x → (x.tx ≡ old.next_tx) ⊎ ((y : TxnView) × (of_client old.clients c ≡ Some y) × (x.tx ≡ y.tx))
 
 -- a transaction that is open stays so over a store in which its base is pinned and shows the same
-open_on : (kv after : Store Key Value) (next more : ℕ) (x : TxnView) → IsOpen kv next x → kv.number ≤ after.number → KeepsMaps kv after → next ≤ more → IsTrue (is_pinned after x.at.base) → IsOpen after more x
+pub open_on : (kv after : Store Key Value) (next more : ℕ) (x : TxnView) → IsOpen kv next x → kv.number ≤ after.number → KeepsMaps kv after → next ≤ more → IsTrue (is_pinned after x.at.base) → IsOpen after more x
 open_on kv after next more x is later maps up pinned =
     let based = is.based in
     let older = is.older in

@@ -12,7 +12,8 @@ use Rattle.wtf_model.specs.declared.event.Verb.TheVariants as verb
 use Rattle.wtf_meta.specs.Contents.{Told}
 use Rattle.wtf_replay.specs.Views.{TxnView}
 use Rattle.wtf_replay.specs.Refusals.{call_refusal, try_refusal, step_refusal}
-use Rattle.wtf_core.specs.Views.{TablesView, of_client}
+use Rattle.wtf_core.specs.Views.{SavedView, TablesView, of_client}
+use Rattle.wtf_core.specs.Saves.{Saves}
 use Rattle.wtf_core.specs.Turns.{Keeps, Stays, Refuses, Begins, Ends, Tries, Steps, Finals, LoneTurn, TxnTurn, ClientTurn}
 
 -- by at most one each
@@ -31,6 +32,9 @@ refuses_rise old new c w a h = keeps_rise old new c (of_client old.clients c) h.
 
 pub stays_rise : (old new : TablesView) (c : ℕ) → Stays old new c → Rises old new
 stays_rise old new c h = rises old new old.kv.number old.next_tx h.number h.next_tx (omega arith) (omega arith)
+
+pub saves_rise : (old new : TablesView) (now : SavedView) → Saves old new now → Rises old new
+saves_rise old new now h = rises old new old.kv.number old.next_tx h.number h.next_tx (omega arith) (omega arith)
 
 ends_rise : (old new : TablesView) (mid : Store Key Value) (c : ℕ) (x : TxnView) → mid.number ≤ old.kv.number + 1 → Ends old new mid c x → Rises old new
 ends_rise old new mid c x up h = rises old new mid.number old.next_tx (ap (λ (s : Store Key Value). s.number) h.kv) h.next_tx up (omega arith)

@@ -5,7 +5,7 @@ use Rattle.std.specs.List.{Contains}
 use Rattle.std.proofs.lemmas.Bool.{eq-eqb}
 use Rattle.std.proofs.lemmas.List.Elements.{Contains-append_cases, Contains-push_cases}
 use Rattle.std.proofs.lemmas.List.Sums.{sum_by-cons}
-use Rattle.wtf_kv.specs.Stores.{is_pinned}
+use Rattle.wtf_kv.specs.Stores.{is_pinned, times_pinned}
 use Rattle.wtf_kv.proofs.PinLaws.{any-count}
 use Rattle.wtf_values.specs.declared.key.Key.TheVariants.{Inode}
 use Rattle.wtf_values.specs.declared.value.Value.{Value}
@@ -16,7 +16,7 @@ use Rattle.wtf_meta.specs.Trees.{Stands, Own}
 use Rattle.wtf_meta.proofs.Telling.{TellsOn}
 use Rattle.wtf_image.specs.Savable.{AreBefore}
 use Rattle.wtf_core.specs.Views.{TablesView}
-use Rattle.wtf_core.specs.Tables.{AreSound}
+use Rattle.wtf_core.specs.Tables.{all_kept, AreSound}
 use Rattle.wtf_core.specs.Standing.{IsImageTree}
 use Rattle.wtf_core.proofs.Pins.{number_cases}
 use Rattle.wtf_core.proofs.Later.{Stands-later}
@@ -40,6 +40,10 @@ contained_count n (x ∷ xs) here =
     (Contains-push_cases [] x n first))
     (λ later. let more = contained_count n xs later in omega (arith, whole, more))
     (Contains-append_cases (x ∷ []) xs n here)
+
+-- each image is pinned
+pub kept_enough : (tables : TablesView) → AreSound tables → (n : ℕ) → all_kept n tables.saved ≤ times_pinned tables.kv n
+kept_enough tables sound n = let pins = sound.pins n in omega (arith, pins)
 
 -- the number of an image is pinned
 pub kept_pinned : (tables : TablesView) (n : ℕ) → AreSound tables → Contains tables.saved.images n → IsTrue (is_pinned tables.kv n)

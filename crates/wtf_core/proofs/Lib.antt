@@ -8,6 +8,12 @@ pub mod Ending
 pub mod Plain
 pub mod Lines
 pub mod Lists
+pub mod SaveLaws
+pub mod Pinning
+pub mod SaveServing
+pub mod Going
+pub mod Holding
+pub mod Picturing
 pub mod Making
 pub mod RowsSorted
 pub mod RowsWalk

@@ -50,7 +50,7 @@ module _ (P : List Place → Bool) where
   }
 
   -- the map now, where the number stays
-  now_along : (old new : Store Key Value) → new.number ≡ old.number → KeepsMaps old new → MapBytes P (metadata_now old) → MapBytes P (metadata_now new)
+  pub now_along : (old new : Store Key Value) → new.number ≡ old.number → KeepsMaps old new → MapBytes P (metadata_now old) → MapBytes P (metadata_now new)
   now_along old new number maps h = subst (MapBytes P) (sym (ap (metadata_at new) number ∙ maps old.number (omega arith))) h
 
   pub stays_bytes : (old new : TablesView) (c : ℕ) → AreSound old → Stays old new c → TablesBytes P old → TablesBytes P new

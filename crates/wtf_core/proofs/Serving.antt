@@ -88,8 +88,8 @@ module _ {S : Type 0} {kind : StoreKind S} (laws : KindLaws kind) (old new : Dev
 
   -- a line that only read
   pub read_failed : (after : TablesView) (place : PlaceView → Type 0) (fails : Fault → Type 0) (a : Answer) → NamesTables before after → OnlyRead kind (between old new)
-      → HasCause kind (between old new) old.settings (AreFull old.settings before) [] a → HasFailed fails a
-      → Serves kind (between old new) old.settings before after (record { given = []; goes_to = place; fails = fails }) a
+      → HasCause kind (between old new) old.settings ⊥ (AreFull old.settings before) [] a → HasFailed fails a
+      → Serves kind (between old new) old.settings ⊥ before after (record { given = []; goes_to = place; fails = fails }) a
   read_failed after place fails a names reads caused failed = record {
     inside = names (is_inside kind (stores new) old.settings) refl later;
     full = names (has_copies old.settings.replicas) refl;
@@ -101,9 +101,9 @@ module _ {S : Type 0} {kind : StoreKind S} (laws : KindLaws kind) (old new : Dev
 
   -- and did not fail
   pub read_serves : (after : TablesView) (place : PlaceView → Type 0) (fails : Fault → Type 0) (a : Answer) → NamesTables before after → OnlyRead kind (between old new) → IsPlain a
-      → Serves kind (between old new) old.settings before after (record { given = []; goes_to = place; fails = fails }) a
+      → Serves kind (between old new) old.settings ⊥ before after (record { given = []; goes_to = place; fails = fails }) a
   read_serves after place fails a names reads plain =
-      read_failed after place fails a names reads (plain_caused kind (between old new) old.settings (AreFull old.settings before) [] a plain) (plain_failed fails a plain)
+      read_failed after place fails a names reads (plain_caused kind (between old new) old.settings ⊥ (AreFull old.settings before) [] a plain) (plain_failed fails a plain)
 
   -- what a transaction names
   sees : (c : ℕ) (x : TxnView) → of_client before.clients c ≡ Some x → SeenBytes (is_inside kind (stores old) old.settings) (seen before.kv x.at) x.session
@@ -113,19 +113,19 @@ module _ {S : Type 0} {kind : StoreKind S} (laws : KindLaws kind) (old new : Dev
   sees_full c x there full = hand_sees (has_copies old.settings.replicas) refl before.kv (hand_of x) (full.each c x there).hand
 
   -- a call that was made once more and failed
-  cause_since : (mid : Dev S) (full : Type 0) (a : Answer) → GoesOn kind old mid [] → HasCause kind (between mid new) old.settings full [] a → HasCause kind (between old new) old.settings full [] a
+  cause_since : (mid : Dev S) (full : Type 0) (a : Answer) → GoesOn kind old mid [] → HasCause kind (between mid new) old.settings ⊥ full [] a → HasCause kind (between old new) old.settings ⊥ full [] a
   cause_since mid full (answer.FaultRead k) on h = unread_since laws old mid new old.settings full k on h
   cause_since mid full answer.FaultWrite on h = absurd (let some = h.0 in omega (arith, some))
   cause_since mid full a on h = h
 
   pub step_caused : (c : ℕ) (x : TxnView) (why : Fault) (a : Answer) → of_client before.clients c ≡ Some x → fault_answer why ≡ Some a
-      → (why ≡ fault.Memory) ⊎ FaultAt kind old new before.kv (hand_of x) x.log x.replayed why → HasCause kind (between old new) old.settings (AreFull old.settings before) [] a
+      → (why ≡ fault.Memory) ⊎ FaultAt kind old new before.kv (hand_of x) x.log x.replayed why → HasCause kind (between old new) old.settings ⊥ (AreFull old.settings before) [] a
   step_caused c x why a there is (inl memory) = absurd (memory_none why a is memory)
   step_caused c x why a there is (inr f) =
       again_caused laws (stores old) old.settings enough old new (seen before.kv x.at) x.session (AreFull old.settings before) (sees c x there) (sees_full c x there) f.op why a is f.cause
 
   replay_caused : (y : TxnView) (why : Fault) (a : Answer) → fault_answer why ≡ Some a → ((P : List Place → Bool) → P [] ≡ true → TablesBytes P before → HandBytes P before.kv (hand_of y) × LogBytes P y.log)
-      → ReplayFault kind old new before.kv y why → HasCause kind (between old new) old.settings (AreFull old.settings before) [] a
+      → ReplayFault kind old new before.kv y why → HasCause kind (between old new) old.settings ⊥ (AreFull old.settings before) [] a
   replay_caused y why a is names f =
       let hand : (P : List Place → Bool) → P [] ≡ true → TablesBytes P before → SeenBytes P (seen before.kv f.at) f.session = λ P hole h.
       let both = names P hole h in hand_sees P hole before.kv (in_hand f.at f.session) (f.named P hole both.0 both.1) in
@@ -134,7 +134,7 @@ module _ {S : Type 0} {kind : StoreKind S} (laws : KindLaws kind) (old new : Dev
       (hand (is_inside kind (stores old) old.settings) refl inside) (λ full. hand (has_copies old.settings.replicas) refl full) f.fault.op why a is f.fault.cause)
 
   pub commit_caused : (c : ℕ) (x : TxnView) (why : Fault) (a : Answer) → of_client before.clients c ≡ Some x → fault_answer why ≡ Some a
-      → IsCommitFault kind old new before.kv x why → HasCause kind (between old new) old.settings (AreFull old.settings before) [] a
+      → IsCommitFault kind old new before.kv x why → HasCause kind (between old new) old.settings ⊥ (AreFull old.settings before) [] a
   commit_caused c x why a there is (inl memory) = absurd (memory_none why a is memory)
   commit_caused c x why a there is (inr (inl (base, f))) = replay_caused x why a is (λ P hole h. let own = h.each c x there in (own.hand, own.log)) f
   commit_caused c x why a there is (inr (inr f)) =
@@ -166,8 +166,8 @@ module _ {S : Type 0} {kind : StoreKind S} (laws : KindLaws kind) (old new : Dev
     called = record { kv = before.kv; next_tx = before.next_tx; clients = clients; saved = before.saved }
 
     set_serves : (asked : Asked) (a : Answer) → (AreFull old.settings before → TxnBytes (has_copies old.settings.replicas) before.kv y) → AddsBytes kind (between old new) old.settings asked.given a
-        → HasCause kind (between old new) old.settings (AreFull old.settings before) asked.given a → IsPlaced kind (between old new) old.settings asked a → HasFailed asked.fails a
-        → Serves kind (between old new) old.settings before called asked a
+        → HasCause kind (between old new) old.settings ⊥ (AreFull old.settings before) asked.given a → IsPlaced kind (between old new) old.settings asked a → HasFailed asked.fails a
+        → Serves kind (between old new) old.settings ⊥ before called asked a
     set_serves asked a full adds caused placed failed = record {
       inside = keeps_bytes (is_inside kind (stores new) old.settings) before called c y sound (record { clients = sets; kv = refl; next_tx = refl; saved = refl }) own later;
       full = λ h. keeps_bytes (has_copies old.settings.replicas) before called c y sound (record { clients = sets; kv = refl; next_tx = refl; saved = refl }) (full h) h;
@@ -186,10 +186,10 @@ module _ {S : Type 0} {kind : StoreKind S} (laws : KindLaws kind) (old new : Dev
     -- a call
     pub call_serves : IsRing old.settings.servers old.ring.now.points → (o : Op (List ℕ)) (a : Answer) → IfSome (unmade x) (λ b. (answered Fault a b) × (y ≡ x) × (new ≡ old))
         → (unmade x ≡ None → (own : Option Slice) × IsCalled x y o own a × IsOwnOf kind old new (seen before.kv x.at) x.session o own × NamesTxn before.kv x y own × (IsSome own → a ≡ answer.Okay))
-        → (StoresNothing o → OnlyRead kind (between old new)) → Serves kind (between old new) old.settings before called (asked o) a
+        → (StoresNothing o → OnlyRead kind (between old new)) → Serves kind (between old new) old.settings ⊥ before called (asked o) a
     call_serves ring o a stopped made reads = by (call_refusal x) refl
       where
-        by : (r : Option Word) → call_refusal x ≡ r → Serves kind (between old new) old.settings before (record { kv = before.kv; next_tx = before.next_tx; clients = clients; saved = before.saved }) (asked_of kind (between old new) old.settings before (event.Client c (verb.Call o))) a
+        by : (r : Option Word) → call_refusal x ≡ r → Serves kind (between old new) old.settings ⊥ before (record { kv = before.kv; next_tx = before.next_tx; clients = clients; saved = before.saved }) (asked_of kind (between old new) old.settings before (event.Client c (verb.Call o))) a
         by None is =
             let free : unmade x ≡ None = ap (option_map answer.Refused) is in
             let did = made free in
@@ -197,23 +197,23 @@ module _ {S : Type 0} {kind : StoreKind S} (laws : KindLaws kind) (old new : Dev
             set_serves (asked_of kind (between old new) old.settings before (event.Client c (verb.Call o))) a
             (λ h. did.3 (has_copies old.settings.replicas) refl (h.each c x there) (own_full kind old new (seen before.kv x.at) x.session o did.0 did.2))
             (call_adds kind old new (seen before.kv x.at) x.session o did.0 a did.2 did.1.lacks did.4 reads)
-            (plain_caused kind (between old new) old.settings (AreFull old.settings before) (data_of_op o) a plain)
+            (plain_caused kind (between old new) old.settings ⊥ (AreFull old.settings before) (data_of_op o) a plain)
             (λ ok some. let put = call_placed kind old new (seen before.kv x.at) x.session o did.0 a did.2 did.1.lacks ok some in (put.0, (old, new, lent_to old new ring, (x, there, put.1)), put.2, put.3))
             (plain_failed (asked_of kind (between old new) old.settings before (event.Client c (verb.Call o))).fails a plain)
         by (Some w) is =
             let held : unmade x ≡ Some (answer.Refused w) = ap (option_map answer.Refused) is in
             let all : (answered Fault a (answer.Refused w)) × (y ≡ x) × (new ≡ old) = subst (λ m. IfSome m (λ b. (answered Fault a b) × (y ≡ x) × (new ≡ old))) held stopped in
             let word : answer.Refused w ≡ a = sym (same_answer Fault a (answer.Refused w) all.0) in
-            subst (λ (r : Answer). Serves kind (between old new) old.settings before (record { kv = before.kv; next_tx = before.next_tx; clients = clients; saved = before.saved }) (asked_of kind (between old new) old.settings before (event.Client c (verb.Call o))) r) word
+            subst (λ (r : Answer). Serves kind (between old new) old.settings ⊥ before (record { kv = before.kv; next_tx = before.next_tx; clients = clients; saved = before.saved }) (asked_of kind (between old new) old.settings before (event.Client c (verb.Call o))) r) word
             (set_serves (asked_of kind (between old new) old.settings before (event.Client c (verb.Call o))) (answer.Refused w) (same_full all.1)
             (refused_adds kind (between old new) old.settings (data_of_op o) (answer.Refused w) tt (same_lengths kind old new all.2))
-            (plain_caused kind (between old new) old.settings (AreFull old.settings before) (data_of_op o) (answer.Refused w) tt)
+            (plain_caused kind (between old new) old.settings ⊥ (AreFull old.settings before) (data_of_op o) (answer.Refused w) tt)
             (refused_placed kind (between old new) old.settings (asked_of kind (between old new) old.settings before (event.Client c (verb.Call o))) (answer.Refused w) tt)
             (plain_failed (asked_of kind (between old new) old.settings before (event.Client c (verb.Call o))).fails (answer.Refused w) tt))
 
     -- a call that failed
     pub fault_serves : IsRing old.settings.servers old.ring.now.points → (o : Op (List ℕ)) (why : Fault) (a : Answer) → fault_answer why ≡ Some a → y ≡ x → IsCallFault kind old new (seen before.kv x.at) x.session o why
-        → (StoresNothing o → OnlyRead kind (between old new)) → Serves kind (between old new) old.settings before called (asked o) a
+        → (StoresNothing o → OnlyRead kind (between old new)) → Serves kind (between old new) old.settings ⊥ before called (asked o) a
     fault_serves ring o why a is same h reads =
         set_serves (asked o) a (same_full same)
         (fault_adds kind old new (seen before.kv x.at) x.session o why a is h reads)

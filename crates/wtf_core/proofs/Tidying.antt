@@ -19,7 +19,7 @@ use Rattle.wtf_core.specs.Standing.{StandsForTxn, StandsForSlot, TablesStand, St
 use Rattle.wtf_core.proofs.Images.{kept_pinned, before_same, image_on}
 
 -- what is pinned can be read, and so can the number
-pinned_live : (kv : Store Key Value) (n : ℕ) → IsTrue (is_pinned kv n) → IsTrue (is_live kv n)
+pub pinned_live : (kv : Store Key Value) (n : ℕ) → IsTrue (is_pinned kv n) → IsTrue (is_live kv n)
 pinned_live kv n pinned = by (nat_eq n kv.number)
   where
     by : (b : Bool) → b || is_pinned kv n ≡ true

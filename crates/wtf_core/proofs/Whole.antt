@@ -1,5 +1,5 @@
 -- What a core answers to a line is what the machine may, and the core goes on to stand for it.
-use Rattle.std.proofs.Common.{◌≡◌, ◌≢◌, ◌⊎◌, ℕ, Bool, true, false, nat_eq, nat_lt, if◌then◌else◌, List, Option, None, Some, Result, Ok, Err, IfOk, OnErr, refl, sym, ap, subst, ◌∙◌, inl, inr, arith, ne_eqb, eq-eqb}
+use Rattle.std.proofs.Common.{◌≡◌, ◌≢◌, ◌<◌, ◌⊎◌, ℕ, Bool, true, false, nat_eq, nat_lt, if◌then◌else◌, List, Option, None, Some, Result, Ok, Err, IfOk, OnErr, refl, sym, ap, subst, ◌∙◌, inl, inr, arith, ne_eqb, eq-eqb}
 use Rattle.std.specs.Bool.{MatchBool}
 use Rattle.std.specs.FinMap.{get}
 use Rattle.std.specs.List.{Contains}
@@ -15,9 +15,9 @@ use Rattle.wtf_model.specs.declared.event.Verb.TheVariants as verb
 use Rattle.wtf_model.specs.Machines.{Machine}
 use Rattle.wtf_model.specs.Tree.{root_alone}
 use Rattle.wtf_model.specs.Machines as machine
-use Rattle.wtf_model.specs.Lawful.{server_answer, dump_answer, MayFailRead, MayBuilt}
+use Rattle.wtf_model.specs.Lawful.{MaySave, server_answer, dump_answer, MayFailRead, MayBuilt}
 use Rattle.wtf_model.specs.Transaction.{Transaction}
-use Rattle.wtf_model.specs.Steps.{after, after_client, begun, tried, stepped, committed, aborted, is_logged, logged, with_transaction}
+use Rattle.wtf_model.specs.Steps.{after, after_client, begun, tried, stepped, committed, aborted, is_logged, logged, with_transaction, saved}
 use Rattle.wtf_model.proofs.StepLaws.{after-NotBuilt}
 use Rattle.wtf_model.proofs.ServerLaws.{is_down-event}
 use Rattle.wtf_meta.specs.Contents.{Told}
@@ -34,7 +34,9 @@ use Rattle.wtf_core.proofs.Plain.{refuses_stand}
 use Rattle.wtf_core.proofs.Lists.{sets_same}
 use Rattle.wtf_core.proofs.Lines.{client_sound, client_stands}
 use Rattle.wtf_core.proofs.Staying.{stays_sound, stays_stand}
-use Rattle.wtf_core.proofs.Growth.{Rises, stays_rise, client_rises}
+use Rattle.wtf_core.proofs.Growth.{Rises, stays_rise, saves_rise, client_rises}
+use Rattle.wtf_core.specs.Saves.{AreUp, SaveTurn, only_image, with_image}
+use Rattle.wtf_core.proofs.SaveLaws.{save_sound, save_stands}
 
 -- ---- no line changes the settings of the machine
 begun_settings : (m : Machine) (c : ℕ) (a : Answer) → (begun m c a).settings ≡ m.settings
@@ -182,6 +184,32 @@ module _ (Telling : Type 0) (told later : Told) (old new : CoreView) (m : Machin
         });
       }
 
+  save_may : SaveTurn (AreUp old.replicas old.settings.servers) old.tables new.tables a → MaySave m a
+  save_may turn = by a turn
+    where
+      by : (b : Answer) → SaveTurn (AreUp old.replicas old.settings.servers) old.tables new.tables b → MaySave m b
+      by (answer.Saved n) (number, up, saves) = (
+        number ∙ sym stands.tables.number,
+        λ k lt. sym (stands.down k) ∙ up k (subst (λ (s : Settings). k < s.servers) stands.settings lt),
+      )
+      by answer.FaultSave t = tt
+      by b t = absurd t
+
+  save_settings : (b : Answer) → (saved m b).settings ≡ m.settings
+  save_settings (answer.Saved n) = refl
+  save_settings answer.FaultSave = refl
+  save_settings b = refl
+
+  save_event : BuiltTurn Telling (told, later) old new event.Save a → IsEvent later new m event.Save a
+  save_event h = record {
+    may = save_may h.0;
+    stands = subst (λ (core : CoreView). StandsFor later core (saved m a)) (sym h.1) (record {
+      settings = save_settings a ∙ stands.settings;
+      tables = save_stands (AreUp old.replicas old.settings.servers) old.tables new.tables sound old.settings.region told later m a stands.tables on h.0;
+      down = λ k. stands.down k ∙ sym (is_down-event m event.Save a k);
+    });
+  }
+
   pub line_stands : (e : Event) → LineTurn Telling (told, later) old new e a → IsEvent later new m e a
   line_stands (event.Client c v) h = built_client c v h
   line_stands (event.Down k) h = let both = down_line told later old new m k a sound stands on h in record { may = both.0; stands = both.1 }
@@ -202,6 +230,7 @@ module _ (Telling : Type 0) (told later : Told) (old new : CoreView) (m : Machin
     may = h.0 told old.tables.next_tx 0 m.now (stands.tables.later old.tables.next_tx (omega arith));
     stands = subst (λ (core : CoreView). StandsFor later core m) (sym h.1) (stays told later old m sound stands on);
   }
+  line_stands event.Save h = save_event h
   line_stands e h = not_built e refl h
 
 -- ---- a line raises both numbers by at most one
@@ -220,12 +249,19 @@ module _ (Telling : Type 0) (told : Told × Told) (old new : CoreView) (a : Answ
   client_by c v true h = client_rises Telling old.settings.servers old.settings.region told.0 told.1 old.tables new.tables c v a h.0
   client_by c v false h = tables_same old new h.1
 
+  save_rises : (b : Answer) → SaveTurn (AreUp old.replicas old.settings.servers) old.tables new.tables b → Rises old.tables new.tables
+  save_rises (answer.Saved n) (number, up, saves) = saves_rise old.tables new.tables (only_image n) saves
+  save_rises answer.FaultSave (inl saves) = saves_rise old.tables new.tables old.tables.saved saves
+  save_rises answer.FaultSave (inr saves) = saves_rise old.tables new.tables (with_image old.tables.saved old.tables.kv.number) saves
+  save_rises b t = absurd t
+
   pub line_rises : (e : Event) → LineTurn Telling told old new e a → Rises old.tables new.tables
   line_rises (event.Client c v) h = client_by c v true h
   line_rises (event.Down k) h = server_rises k true (nat_lt k old.settings.servers) h
   line_rises (event.Up k) h = server_rises k false (nat_lt k old.settings.servers) h
   line_rises (event.Dump p) h = stays_rise old.tables new.tables 0 (h.0.stays 0)
   line_rises event.Tree h = tables_same old new h.1
+  line_rises event.Save h = save_rises a h.0
   line_rises e h = tables_same old new h.1
 
 -- ---- the tables are sound after a line of a client, whatever came of it
@@ -242,3 +278,11 @@ sound_after r Telling servers size told later old new c v sound ok err =
 pub sound_dumped : {E : Type 0} (r : Result Answer E) (servers size : ℕ) (told : Told) (old new : TablesView) (p : List ℕ) → AreSound old
     → IfOk r (Dumps servers size told old new p) → OnErr r (AreSound new) → AreSound new
 sound_dumped r servers size told old new p sound ok err = sound_either r (Dumps servers size told old new p) (AreSound new) ok err (λ a turn. stays_sound old new 0 sound (turn.stays 0))
+
+-- and after a save
+pub sound_saved : {E : Type 0} (r : Result Answer E) (Up : Type 0) (old new : TablesView) → AreSound old → IfOk r (SaveTurn Up old new) → OnErr r (new ≡ old) → AreSound new
+sound_saved r Up old new sound ok err = sound_either r (SaveTurn Up old new) (AreSound new) ok (kept r err) (λ a turn. save_sound Up old new sound a turn)
+  where
+    kept : {E : Type 0} (q : Result Answer E) → OnErr q (new ≡ old) → OnErr q (AreSound new)
+    kept (Ok a) h = tt
+    kept (Err e) h = subst AreSound (sym h) sound

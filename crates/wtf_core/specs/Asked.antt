@@ -82,11 +82,10 @@ IsPlaced kind t settings asked a = a ≡ answer.Okay → 0 < length asked.given
 abbrev pub IsBecause : (Fault → Type 0) → Answer → Type 0
 IsBecause fails a = (why : Fault) × (fault_answer why ≡ Some a) × fails why
 
--- a fault of the stores has such a cause
+-- a fault of the stores has such a cause; why a save fails is said by `HasCause`
 abbrev pub HasFailed : (Fault → Type 0) → Answer → Type 0
 HasFailed fails (answer.FaultRead k) = IsBecause fails (answer.FaultRead k)
 HasFailed fails answer.FaultWrite = IsBecause fails answer.FaultWrite
 HasFailed fails (answer.FaultPunch k) = IsBecause fails (answer.FaultPunch k)
-HasFailed fails answer.FaultSave = IsBecause fails answer.FaultSave
 HasFailed fails (answer.Damaged k) = IsBecause fails (answer.Damaged k)
 HasFailed fails a = ⊤

@@ -1,4 +1,4 @@
--- The lines that are built so far: those of transactions, servers, the bytes of a file, and the tree.
+-- The lines that are built so far: those of transactions, servers, the bytes of a file, the tree, and saving.
 use Rattle.std.specs.Prelude.{Bool, true, false}
 use Rattle.wtf_model.specs.declared.event.Event.{Event}
 use Rattle.wtf_model.specs.declared.event.Event.TheVariants as event
@@ -10,4 +10,5 @@ is_built (event.Down k) = true
 is_built (event.Up k) = true
 is_built (event.Dump p) = true
 is_built event.Tree = true
+is_built event.Save = true
 is_built e = false

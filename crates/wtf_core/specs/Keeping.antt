@@ -30,38 +30,41 @@ pub record KeeperSpan : Type 1 where
   pub untouched : Type 0
 
 abbrev pub keeper_span : {K : Type 0} → (K → KeeperView) → (K → K → List (List ℕ) → Type 0) → K → K → KeeperSpan
-keeper_span view follows old new = record { before = view old; after = view new; handed = follows old new; untouched = new ≡ old }
+keeper_span view follows old new =
+    record { before = view old; after = view new; handed = follows old new; untouched = new ≡ old }
 
--- A save brought all stores' bytes to where they last, and handed these bytes to the keeper: the image of the metadata at the
--- number.
-pub record Hands {S : Type 0} (kind : StoreKind S) (t : Span S) (k : KeeperSpan) (settings : Settings) (tables : TablesView) : Type 0 where
-  pub bytes : List ℕ
-  pub image : IsSaveOf tables.kv settings tables.next_tx bytes
-  pub handed : k.handed (bytes ∷ [])
-  pub synced : (j : ℕ) → j < settings.servers → HasSynced kind t.before t.after j
+-- where the stores go through this span, and the keeper through this one
+module _ {S : Type 0} (kind : StoreKind S) (t : Span S) (k : KeeperSpan) (settings : Settings) where
+  -- A save brought all stores' bytes to where they last, and handed these bytes to the keeper: the image of the metadata at
+  -- the number.
+  pub record Hands (tables : TablesView) : Type 0 where
+    pub bytes : List ℕ
+    pub image : IsSaveOf tables.kv settings tables.next_tx bytes
+    pub handed : k.handed (bytes ∷ [])
+    pub synced : (j : ℕ) → j < settings.servers → HasSynced kind t.before t.after j
 
--- it was saved: a keeper that tells what it holds has just these bytes
-pub record HasSaved {S : Type 0} (kind : StoreKind S) (t : Span S) (k : KeeperSpan) (settings : Settings) (tables : TablesView) : Type 0 where
-  pub hands : Hands kind t k settings tables
-  pub held : k.before.tells ≡ true → k.after.held ≡ Some hands.bytes
+  -- it was saved: a keeper that tells what it holds has just these bytes
+  pub record HasSaved (tables : TablesView) : Type 0 where
+    pub hands : Hands tables
+    pub held : k.before.tells ≡ true → k.after.held ≡ Some hands.bytes
 
--- a server was out, so nothing was handed over, and the images that may be on the keeper are those before
-pub record SyncFailed {S : Type 0} (kind : StoreKind S) (t : Span S) (k : KeeperSpan) (settings : Settings) (old new : TablesView) : Type 0 where
-  pub out : SomeOut kind t settings.servers
-  pub untouched : k.untouched
-  pub saved : new.saved ≡ old.saved
+  -- a server was out, so nothing was handed over, and the images that may be on the keeper are those before
+  pub record SyncFailed (old new : TablesView) : Type 0 where
+    pub out : SomeOut kind t settings.servers
+    pub untouched : k.untouched
+    pub saved : new.saved ≡ old.saved
 
--- the keeper failed, so it may hold the new image, or what it held
-pub record KeeperFailed {S : Type 0} (kind : StoreKind S) (t : Span S) (k : KeeperSpan) (settings : Settings) (old new : TablesView) : Type 0 where
-  pub hands : Hands kind t k settings old
-  pub rose : Rose k.before.faults k.after.faults
-  pub saved : new.saved ≡ with_image old.saved old.kv.number
+  -- the keeper failed, so it may hold the new image, or what it held
+  pub record KeeperFailed (old new : TablesView) : Type 0 where
+    pub hands : Hands old
+    pub rose : Rose k.before.faults k.after.faults
+    pub saved : new.saved ≡ with_image old.saved old.kv.number
 
--- what a line did to the keeper: a save alone hands it something
-abbrev pub KeeperTurn : {S : Type 0} → StoreKind S → Span S → KeeperSpan → Settings → TablesView → TablesView → Event → Answer → Type 0
-KeeperTurn kind t k settings old new event.Save (answer.Saved n) = HasSaved kind t k settings old
-KeeperTurn kind t k settings old new event.Save answer.FaultSave = SyncFailed kind t k settings old new ⊎ KeeperFailed kind t k settings old new
-KeeperTurn kind t k settings old new e a = k.untouched
+  -- what a line did to the keeper: a save alone hands it something
+  abbrev pub KeeperTurn : TablesView → TablesView → Event → Answer → Type 0
+  KeeperTurn old new event.Save (answer.Saved n) = HasSaved old
+  KeeperTurn old new event.Save answer.FaultSave = SyncFailed old new ⊎ KeeperFailed old new
+  KeeperTurn old new e a = k.untouched
 
 -- the bytes are an image of the metadata at the number n, made before the next transaction began
 pub record IsImageAt (tables : TablesView) (settings : Settings) (n : ℕ) (bytes : List ℕ) : Type 0 where
@@ -75,7 +78,8 @@ pub record IsImageAt (tables : TablesView) (settings : Settings) (n : ℕ) (byte
 -- they are what a keeper may hold: nothing, or an image at a number that is kept for it
 abbrev pub IsHeldBy : TablesView → Settings → List ℕ → Type 0
 IsHeldBy tables settings bytes =
-    ((bytes ≡ []) × (tables.saved.none ≡ true)) ⊎ ((n : ℕ) × Contains tables.saved.images n × IsImageAt tables settings n bytes)
+    ((bytes ≡ []) × (tables.saved.none ≡ true))
+    ⊎ ((n : ℕ) × Contains tables.saved.images n × IsImageAt tables settings n bytes)
 
 -- a keeper holds such bytes, and tells them
 abbrev pub HoldsKept : KeeperView → Settings → TablesView → Type 0

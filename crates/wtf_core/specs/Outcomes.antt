@@ -1,5 +1,5 @@
 -- What a line adds to the stores, and why one is answered by a fault.
-use Rattle.std.specs.Prelude.{◌≡◌, ◌<◌, ◌≤◌, ◌+◌, ℕ, List, [], ◌∷◌, length, ⊤}
+use Rattle.std.specs.Prelude.{◌≡◌, ◌⊎◌, ◌<◌, ◌≤◌, ◌+◌, ℕ, List, [], ◌∷◌, length, ⊤}
 use Rattle.std.specs.List.{All}
 use Rattle.wtf_base.specs.declared.settings.Settings.{Settings}
 use Rattle.wtf_base.specs.declared.slice.Slice.{Slice}
@@ -70,12 +70,18 @@ pub record IsUnread {S : Type 0} (kind : StoreKind S) (t : Span S) (settings : S
 abbrev pub SomeOut : {S : Type 0} → StoreKind S → Span S → ℕ → Type 0
 SomeOut kind t servers = (k : ℕ) × (k < servers) × IsOut kind t k
 
--- Why a line is answered by a fault: `fault read K` where a byte that it needs was not read, and `fault write` where fewer
--- servers than replicas are not out and there are bytes to store. No line answers another fault.
-abbrev pub HasCause : {S : Type 0} → StoreKind S → Span S → Settings → Type 0 → List ℕ → Answer → Type 0
-HasCause kind t settings full given (answer.FaultRead k) = IsUnread kind t settings full k
-HasCause kind t settings full given answer.FaultWrite = (0 < length given) × AreTooFew kind t settings.servers settings.replicas
-HasCause kind t settings full given (answer.FaultPunch k) = ⊥
-HasCause kind t settings full given answer.FaultSave = ⊥
-HasCause kind t settings full given (answer.Damaged k) = ⊥
-HasCause kind t settings full given a = ⊤
+-- why a save fails, where `rose` says that the keeper's count of faults rose; no other line does
+abbrev pub SaveFault : {S : Type 0} → StoreKind S → Span S → Settings → Type 0 → Event → Type 0
+SaveFault kind t settings rose event.Save = SomeOut kind t settings.servers ⊎ rose
+SaveFault kind t settings rose e = ⊥
+
+-- Why a line is answered by a fault: `fault read K` where a byte that it needs was not read, `fault write` where fewer
+-- servers than replicas are not out and there are bytes to store, and `fault save` for `saving`. No line answers another
+-- fault.
+abbrev pub HasCause : {S : Type 0} → StoreKind S → Span S → Settings → (saving full : Type 0) → List ℕ → Answer → Type 0
+HasCause kind t settings saving full given (answer.FaultRead k) = IsUnread kind t settings full k
+HasCause kind t settings saving full given answer.FaultWrite = (0 < length given) × AreTooFew kind t settings.servers settings.replicas
+HasCause kind t settings saving full given (answer.FaultPunch k) = ⊥
+HasCause kind t settings saving full given answer.FaultSave = saving
+HasCause kind t settings saving full given (answer.Damaged k) = ⊥
+HasCause kind t settings saving full given a = ⊤

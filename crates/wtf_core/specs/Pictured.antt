@@ -23,7 +23,8 @@ pub record IsImageOfTree (told : Told) (bytes : List ℕ) (t : Tree) : Type 0 wh
 
 -- they stand for one of these trees; no bytes stand for the root alone
 abbrev pub IsImageOfOne : Told → List ℕ → List Tree → Type 0
-IsImageOfOne told bytes may = ((bytes ≡ []) × Contains may root_alone) ⊎ ((t : Tree) × Contains may t × IsImageOfTree told bytes t)
+IsImageOfOne told bytes may =
+    ((bytes ≡ []) × Contains may root_alone) ⊎ ((t : Tree) × Contains may t × IsImageOfTree told bytes t)
 
 -- a keeper holds such bytes, and tells them
 abbrev pub HoldsTree : KeeperView → Told → List Tree → Type 0

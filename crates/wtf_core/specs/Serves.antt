@@ -11,7 +11,7 @@ use Rattle.wtf_core.specs.Views.{TablesView}
 use Rattle.wtf_core.specs.Named.{TablesBytes, has_copies}
 use Rattle.wtf_model.specs.declared.event.Event.{Event}
 use Rattle.wtf_core.specs.Asked.{Asked, asked_of, IsPlaced, HasFailed}
-use Rattle.wtf_core.specs.Outcomes.{AddsBytes, HasCause}
+use Rattle.wtf_core.specs.Outcomes.{AddsBytes, SaveFault, HasCause}
 
 -- what is named was named before: what holds of the places of each of those bytes, and of a hole, goes on holding
 abbrev pub NamesTables : TablesView → TablesView → Type 0
@@ -32,14 +32,18 @@ AreFull settings tables = TablesBytes (has_copies settings.replicas) tables
 
 -- What the tables name lies inside the stores as they are left, and has as many copies as there are replicas where it had
 -- before. The stores grew by what the line was to store, and a fault has its cause in the line.
-pub record Serves {S : Type 0} (kind : StoreKind S) (t : Span S) (settings : Settings) (old new : TablesView) (asked : Asked) (a : Answer) : Type 0 where
+pub record Serves {S : Type 0} (kind : StoreKind S) (t : Span S) (settings : Settings) (saving : Type 0) (old new : TablesView) (asked : Asked) (a : Answer) : Type 0 where
   pub inside : TablesBytes (is_inside kind t.after settings) new
   pub full : AreFull settings old → AreFull settings new
   pub adds : AddsBytes kind t settings asked.given a
-  pub caused : HasCause kind t settings (AreFull settings old) asked.given a
+  pub caused : HasCause kind t settings saving (AreFull settings old) asked.given a
   pub placed : IsPlaced kind t settings asked a
   pub failed : HasFailed asked.fails a
 
--- the same of a line
+-- the same of a line that is lent no keeper
 abbrev pub ServesLine : {S : Type 0} → StoreKind S → Span S → Settings → (old new : TablesView) → Event → Answer → Type 0
-ServesLine kind t settings old new e a = Serves kind t settings old new (asked_of kind t settings old e) a
+ServesLine kind t settings old new e a = Serves kind t settings ⊥ old new (asked_of kind t settings old e) a
+
+-- and of each line, where `rose` says that the keeper's count of faults rose
+abbrev pub ServesEvent : {S : Type 0} → StoreKind S → Span S → Settings → (rose : Type 0) → (old new : TablesView) → Event → Answer → Type 0
+ServesEvent kind t settings rose old new e a = Serves kind t settings (SaveFault kind t settings rose e) old new (asked_of kind t settings old e) a

@@ -39,6 +39,7 @@ use Rattle.wtf_replay.specs.Tried.{IsCommitted, IsRetried, IsFinal, KeepsMaps, K
 use Rattle.wtf_replay.specs.Replays.{IsReplayed, DeviatesOn}
 use Rattle.wtf_core.specs.Views.{TablesView, CoreView, of_client, metadata_now}
 use Rattle.wtf_core.specs.Built.{is_built}
+use Rattle.wtf_core.specs.Saves.{AreUp, SaveTurn}
 use Rattle.wtf_core.specs.Tables.{Sets, IsTidied}
 
 -- client c has now this transaction, or none; the store of the metadata, and what may be on the keeper, are what they were
@@ -256,6 +257,8 @@ BuiltTurn Telling told old new (event.Up k) a = ServerTurn old new k false a
 BuiltTurn Telling told old new (event.Dump p) a =
     Dumps old.settings.servers old.settings.region told.0 old.tables new.tables p a × (new ≡ record old { tables = new.tables })
 BuiltTurn Telling told old new event.Tree a = ShowsTree old.settings.region old.tables.kv a × (new ≡ old) × IsTreeAnswer a
+BuiltTurn Telling told old new event.Save a =
+    SaveTurn (AreUp old.replicas old.settings.servers) old.tables new.tables a × (new ≡ record old { tables = new.tables })
 BuiltTurn Telling told old new e a = ⊥
 
 abbrev pub LineTurn : Type 0 → Told × Told → CoreView → CoreView → Event → Answer → Type 0

@@ -7,6 +7,7 @@ mod dump;
 mod faults;
 mod ops;
 mod saved;
+mod saving;
 mod store;
 mod tables;
 mod tree;

@@ -23,9 +23,14 @@ ghost use Rattle.wtf_core.specs.Turns.{LineTurn, IsLine, ServerTurn, ShowsTree, 
 ghost use Rattle.wtf_core.specs.Answers.{IsEvent};
 ghost use Rattle.wtf_core.specs.Built.{is_built};
 ghost use Rattle.wtf_core.specs.Named.{CoreBytes, IsInside, IsFull};
-ghost use Rattle.wtf_core.specs.Outcomes.{AddsBytes, HasCause, data_of, data_of_op, data_of_verb};
+ghost use Rattle.wtf_core.specs.Outcomes.{AddsBytes, SaveFault, HasCause, data_of, data_of_op, data_of_verb};
 ghost use Rattle.wtf_core.specs.Asked.{asked_of, IsPlaced, HasFailed};
-ghost use Rattle.wtf_core.specs.Serves.{ServesLine};
+ghost use Rattle.wtf_core.specs.Serves.{ServesLine, ServesEvent};
+ghost use Rattle.wtf_core.specs.Keeping.{KeeperTurn, HoldsKept, keeper_span};
+ghost use Rattle.wtf_core.specs.Pictured.{HoldsTree};
+ghost use Rattle.wtf_dev.specs.Counts.{Rose};
+ghost use Rattle.wtf_replica.specs.Outs.{SameLengths};
+ghost use Rattle.wtf_model.specs.Steps.{after};
 
 use crate::ops::copy_op;
 use crate::tables::Tables;
@@ -152,7 +157,7 @@ impl Core {
     pub fn event<S: SliceStore, K: Keeper>(
         &mut self,
         shelf: &mut Shelf<S>,
-        _keeper: &mut K,
+        keeper: &mut K,
         event: &Event,
     ) -> Result<Answer, OutOfMemory>
         requires open { self.old.closed ≡ false }
@@ -179,7 +184,9 @@ impl Core {
             self.old.settings self.old.tables event.now)) }
         ensures caused { IfOk result (HasCause S.kind
             (span (is_down self.old.replicas) shelf.old shelf.new) self.old.settings
-            (IsFull self.old) (data_of event.now)) }
+            (SaveFault S.kind (span (is_down self.old.replicas) shelf.old shelf.new)
+            self.old.settings (Rose (K.view keeper.old).faults (K.view keeper.new).faults)
+            event.now) (IsFull self.old) (data_of event.now)) }
         ensures cause { IfOk result (HasFailed
             (asked_of S.kind (span (is_down self.old.replicas) shelf.old shelf.new)
             self.old.settings self.old.tables event.now).fails) }
@@ -193,10 +200,24 @@ impl Core {
         ensures number { self.new.tables.kv.number ≤ self.old.tables.kv.number + 1 }
         ensures next_tx { self.new.tables.next_tx ≤ self.old.tables.next_tx + 1 }
         ensures shelf { EachFollows S.kind shelf.old shelf.new [] }
-        ensures keeper { _keeper.new ≡ _keeper.old }
+        ensures keeper { IfOk result (KeeperTurn S.kind
+            (span (is_down self.old.replicas) shelf.old shelf.new)
+            (keeper_span K.view K.follows keeper.old keeper.new) self.old.settings
+            self.old.tables self.new.tables event.now) }
+        ensures held { OnOk result ((K.view keeper.old).tells ≡ true →
+            HoldsKept (K.view keeper.old) self.old.settings self.old.tables →
+            HoldsKept (K.view keeper.new) self.new.settings self.new.tables) }
+        ensures trees { IfOk result (λ a. TellsAll S.kind shelf.old →
+            (K.view keeper.old).tells ≡ true → self.old.tables.kv.number ≤ 2 ^ 62 →
+            self.old.tables.next_tx ≤ 2 ^ 62 → (m : Machine) →
+            StandsFor (byte_at S.kind shelf.old) self.old m →
+            HoldsTree (K.view keeper.old) (byte_at S.kind shelf.old) m.may_be_saved →
+            HoldsTree (K.view keeper.new) (byte_at S.kind shelf.new)
+            (after m event.now a).may_be_saved) }
+        ensures untouched { OnErr result (keeper.new ≡ keeper.old) }
     {
         let _number = self.tables.number();
-        match self.answer(shelf, event) {
+        match self.answer(shelf, keeper, event) {
             Ok(answer) => {
                 self.tables.tidy();
                 return Ok(answer);
@@ -208,10 +229,63 @@ impl Core {
         }
     }
 
-    /// Answers one line.
-    fn answer<S: SliceStore>(
+    /// Saves the tree as it stands, as the line `save` does.
+    pub fn save<S: SliceStore, K: Keeper>(
         &mut self,
         shelf: &mut Shelf<S>,
+        keeper: &mut K,
+    ) -> Result<Answer, OutOfMemory>
+        requires open { self.old.closed ≡ false }
+        requires shelf { self.old.settings.servers ≤ length shelf.old }
+        requires number { self.old.tables.kv.number < 2 ^ 63 }
+        requires next_tx { self.old.tables.next_tx < 2 ^ 63 }
+        requires inside { IsInside S.kind shelf.old self.old }
+        ensures answers { IfOk result (λ a. TellsAll S.kind shelf.old → (m : Machine) →
+            StandsFor (byte_at S.kind shelf.old) self.old m →
+            IsEvent (byte_at S.kind shelf.new) self.new m event.Save a) }
+        ensures turn { IfOk result (λ a. IsLine (TellsAll S.kind shelf.old)
+            (byte_at S.kind shelf.old, byte_at S.kind shelf.new) self.old self.new event.Save a) }
+        ensures caused { IfOk result (HasCause S.kind
+            (span (is_down self.old.replicas) shelf.old shelf.new) self.old.settings
+            (SaveFault S.kind (span (is_down self.old.replicas) shelf.old shelf.new)
+            self.old.settings (Rose (K.view keeper.old).faults (K.view keeper.new).faults)
+            event.Save) (IsFull self.old) []) }
+        ensures keeper { IfOk result (KeeperTurn S.kind
+            (span (is_down self.old.replicas) shelf.old shelf.new)
+            (keeper_span K.view K.follows keeper.old keeper.new) self.old.settings
+            self.old.tables self.new.tables event.Save) }
+        ensures held { OnOk result ((K.view keeper.old).tells ≡ true →
+            HoldsKept (K.view keeper.old) self.old.settings self.old.tables →
+            HoldsKept (K.view keeper.new) self.new.settings self.new.tables) }
+        ensures trees { IfOk result (λ a. TellsAll S.kind shelf.old →
+            (K.view keeper.old).tells ≡ true → self.old.tables.kv.number ≤ 2 ^ 62 →
+            self.old.tables.next_tx ≤ 2 ^ 62 → (m : Machine) →
+            StandsFor (byte_at S.kind shelf.old) self.old m →
+            HoldsTree (K.view keeper.old) (byte_at S.kind shelf.old) m.may_be_saved →
+            HoldsTree (K.view keeper.new) (byte_at S.kind shelf.new)
+            (after m event.Save a).may_be_saved) }
+        ensures untouched { OnErr result (keeper.new ≡ keeper.old) }
+        ensures lengths { OnOk result (SameLengths S.kind shelf.old shelf.new) }
+        ensures inside { OnOk result (IsInside S.kind shelf.new self.new) }
+        ensures full { OnOk result (IsFull self.old → IsFull self.new) }
+        ensures sound { AreSound self.new.tables }
+        ensures open { OnOk result (self.new.closed ≡ false) }
+        ensures closed { OnErr result (self.new.closed ≡ true) }
+        ensures err { OnErr result (IsAlike self.old.tables self.new.tables) }
+        ensures settings { self.new.settings ≡ self.old.settings }
+        ensures number { self.new.tables.kv.number ≡ self.old.tables.kv.number }
+        ensures next_tx { self.new.tables.next_tx ≡ self.old.tables.next_tx }
+        ensures shelf { EachFollows S.kind shelf.old shelf.new [] }
+    {
+        let line = Event::Save;
+        self.event(shelf, keeper, &line)
+    }
+
+    /// Answers one line.
+    fn answer<S: SliceStore, K: Keeper>(
+        &mut self,
+        shelf: &mut Shelf<S>,
+        keeper: &mut K,
         event: &Event,
     ) -> Result<Answer, OutOfMemory>
         requires shelf { self.old.settings.servers ≤ length shelf.old }
@@ -221,9 +295,15 @@ impl Core {
         requires next_tx { self.old.tables.next_tx < 2 ^ 63 }
         ensures turn { IfOk result (λ a. LineTurn (TellsAll S.kind shelf.old)
             (byte_at S.kind shelf.old, byte_at S.kind shelf.new) self.old self.new event.now a) }
-        ensures serves { IfOk result (ServesLine S.kind
+        ensures serves { IfOk result (ServesEvent S.kind
             (span (is_down self.old.replicas) shelf.old shelf.new) self.old.settings
+            (Rose (K.view keeper.old).faults (K.view keeper.new).faults)
             self.old.tables self.new.tables event.now) }
+        ensures keeper { IfOk result (KeeperTurn S.kind
+            (span (is_down self.old.replicas) shelf.old shelf.new)
+            (keeper_span K.view K.follows keeper.old keeper.new) self.old.settings
+            self.old.tables self.new.tables event.now) }
+        ensures untouched { OnErr result (keeper.new ≡ keeper.old) }
         ensures err { OnErr result (IsAlike self.old.tables self.new.tables) }
         ensures settings { self.new.settings ≡ self.old.settings }
         ensures closed { self.new.closed ≡ self.old.closed }
@@ -238,7 +318,41 @@ impl Core {
                 Ok(answer) => return Ok(answer),
                 Err(why) => return Err(why),
             },
+            Event::Save => return self.save_now(shelf, keeper),
             _ => return Ok(Answer::NotBuilt),
+        }
+    }
+
+    /// Saves the tree now.
+    fn save_now<S: SliceStore, K: Keeper>(
+        &mut self,
+        shelf: &mut Shelf<S>,
+        keeper: &mut K,
+    ) -> Result<Answer, OutOfMemory>
+        requires shelf { self.old.settings.servers ≤ length shelf.old }
+        requires inside { IsInside S.kind shelf.old self.old }
+        ensures turn { IfOk result (λ a. LineTurn (TellsAll S.kind shelf.old)
+            (byte_at S.kind shelf.old, byte_at S.kind shelf.new) self.old self.new event.Save a) }
+        ensures serves { IfOk result (ServesEvent S.kind
+            (span (is_down self.old.replicas) shelf.old shelf.new) self.old.settings
+            (Rose (K.view keeper.old).faults (K.view keeper.new).faults)
+            self.old.tables self.new.tables event.Save) }
+        ensures keeper { IfOk result (KeeperTurn S.kind
+            (span (is_down self.old.replicas) shelf.old shelf.new)
+            (keeper_span K.view K.follows keeper.old keeper.new) self.old.settings
+            self.old.tables self.new.tables event.Save) }
+        ensures untouched { OnErr result (keeper.new ≡ keeper.old) }
+        ensures err { OnErr result (IsAlike self.old.tables self.new.tables) }
+        ensures settings { self.new.settings ≡ self.old.settings }
+        ensures closed { self.new.closed ≡ self.old.closed }
+        ensures shelf { EachFollows S.kind shelf.old shelf.new [] }
+    {
+        match self
+            .tables
+            .save(&self.replicas, self.settings, shelf, keeper)
+        {
+            Ok(answer) => return Ok(answer),
+            Err(why) => return Err(why),
         }
     }
 

@@ -2,11 +2,11 @@
 
 ghost use Rattle.std.specs.Prelude.{◌≡◌, ◌+◌, ◌<◌, ◌^◌, ℕ, List, [], true, false, None, Some, Ok, IsTrue, IfOk, OnOk, OnErr, IfSome, MatchOption};
 ghost use Rattle.std.specs.Set.{remove_key};
-ghost use Rattle.std.specs.Prelude.{nat_eq};
+ghost use Rattle.std.specs.Prelude.{◌≤◌, nat_eq, count_by, length};
 ghost use Rattle.wtf_dev.specs.Sums.{TellsAll};
 ghost use Rattle.wtf_ring.specs.Points.{IsRing};
 ghost use Rattle.wtf_replica.specs.Bytes.{byte_at};
-ghost use Rattle.wtf_kv.specs.Stores.{is_pinned, IsPinnedOnceMore};
+ghost use Rattle.wtf_kv.specs.Stores.{is_pinned, times_pinned, IsPinnedOnceMore};
 ghost use Rattle.wtf_model.specs.Form.{IsFormOp, IsData};
 ghost use Rattle.wtf_model.specs.declared.answer.Word.TheVariants.{InTx, NoTx};
 ghost use Rattle.wtf_model.specs.declared.event.Event.TheVariants as event;
@@ -14,8 +14,10 @@ ghost use Rattle.wtf_model.specs.declared.event.Verb.TheVariants as verb;
 ghost use Rattle.wtf_region.specs.Devs.{IsSoundDev, GoesOn, stores, between};
 ghost use Rattle.wtf_region.specs.Inside.{is_inside};
 ghost use Rattle.wtf_meta.specs.Trees.{IsFirst};
-ghost use Rattle.wtf_core.specs.Views.{of_client, metadata_now, unsaved};
-ghost use Rattle.wtf_core.specs.Tables.{AreSound, Sets, IsAlike, IsTidied};
+ghost use Rattle.wtf_core.specs.Views.{SavedView, of_client, metadata_now, unsaved};
+ghost use Rattle.wtf_core.specs.Tables.{AreSound, Sets, IsAlike, IsTidied, all_kept};
+ghost use Rattle.wtf_core.specs.Saves.{with_image, only_image, Saves};
+ghost use Rattle.wtf_image.specs.Saving.{IsSaveOf};
 ghost use Rattle.wtf_core.specs.Turns.{Refuses, Begins, TryTurn, Drops, Dumps, ClientTurn};
 ghost use Rattle.wtf_core.specs.Named.{TablesBytes};
 ghost use Rattle.wtf_core.specs.Serves.{ServesLine};
@@ -26,8 +28,9 @@ use crate::saved::Saved;
 use indexmap::IndexMap;
 use std::alloc::Global;
 use std::marker::Model;
-use wtf_base::{Bytes, OutOfMemory, TxId};
+use wtf_base::{Bytes, OutOfMemory, Settings, TxId};
 use wtf_dev::SliceStore;
+use wtf_image::save;
 use wtf_kv::Kv;
 use wtf_model::{Answer, Op, Word};
 use wtf_path::Path;
@@ -35,8 +38,8 @@ use wtf_region::Dev;
 use wtf_replay::Txn;
 use wtf_values::{Key, NameSet, Node, Value};
 
-/// The store of the metadata, the number of the transaction that begins next, the open transactions by
-/// client, in the order of their begin, and which images may be on the keeper.
+/// The store of the metadata, the number of the transaction that begins next, the open transactions
+/// by client, in the order of their begin, and which images may be on the keeper.
 #[derive(Drop)]
 pub(crate) struct Tables {
     alloc: Global,
@@ -344,5 +347,71 @@ impl Tables {
             Some(txn) => txn.drop_all(&mut self.kv),
             None => {}
         }
+    }
+
+    /// The image of the store as it stands, with the settings.
+    pub(crate) fn image(&self, settings: Settings) -> Result<Vec<u8>, OutOfMemory>
+        ensures { IfOk result
+            (λ v. IsSaveOf self.now.kv settings self.now.next_tx v.items) }
+    {
+        save(self.alloc, &self.kv, settings, self.next_tx)
+    }
+
+    /// The image of the number may be on the keeper from now on, beside the others. Want of memory
+    /// leaves all as it was.
+    pub(crate) fn keep_image(&mut self) -> Result<(), OutOfMemory>
+        ensures ok { OnOk result (Saves self.old self.new
+            (with_image self.old.saved self.old.kv.number)) }
+        ensures pinned { OnOk result (IsTrue (is_pinned self.new.kv self.old.kv.number)) }
+        ensures err { OnErr result (self.new ≡ self.old) }
+    {
+        let number = self.kv.number();
+        match self.saved.add(number) {
+            Ok(()) => {}
+            Err(why) => return Err(why),
+        }
+        if let Err(why) = self.kv.pin(number) {
+            self.saved.drop_last();
+            return Err(why);
+        }
+        Ok(())
+    }
+
+    /// The image that was kept last was not handed to the keeper.
+    pub(crate) fn forget_image(&mut self)
+        requires pinned { IsTrue (is_pinned self.old.kv self.old.kv.number) }
+        requires some { 0 < length self.old.saved.images }
+        ensures { (before : SavedView) →
+            self.old.saved ≡ with_image before self.old.kv.number →
+            Saves self.old self.new before }
+    {
+        let number = self.kv.number();
+        self.saved.drop_last();
+        self.kv.unpin(number);
+    }
+
+    /// The image that was kept last is the only one that may be on the keeper.
+    pub(crate) fn settle_image(&mut self)
+        requires pinned { (n : ℕ) → all_kept n self.old.saved ≤ times_pinned self.old.kv n }
+        requires some { 0 < length self.old.saved.images }
+        ensures { (before : SavedView) →
+            self.old.saved ≡ with_image before self.old.kv.number →
+            Saves self.old self.new (only_image self.old.kv.number) }
+    {
+        let number = self.kv.number();
+        unpin_all(&mut self.kv, self.saved.others());
+        self.saved.settle(number);
+    }
+}
+
+/// Undoes one pin of each of these numbers.
+fn unpin_all(kv: &mut Kv<Key, Value>, numbers: &[u64])
+    requires { (n : ℕ) → count_by (nat_eq n) numbers.now ≤ times_pinned kv.old n }
+    ensures pins { (n : ℕ) → times_pinned kv.new n + count_by (nat_eq n) numbers.now ≡
+        times_pinned kv.old n }
+    ensures rest { kv.new ≡ record kv.old { pins = kv.new.pins } }
+{
+    for number in numbers {
+        kv.unpin(*number);
     }
 }

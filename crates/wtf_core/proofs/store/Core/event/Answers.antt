@@ -4,7 +4,12 @@ use Rattle.wtf_replica.specs.Downs.{is_down}
 use Rattle.wtf_replica.specs.Spans.{span}
 use Rattle.wtf_region.specs.Inside.{is_inside}
 use Rattle.wtf_core.specs.Named.{TablesBytes, has_copies}
-use Rattle.wtf_core.specs.Serves.{ServesLine}
+use Rattle.wtf_core.specs.Serves.{ServesEvent}
+use Rattle.wtf_base.specs.Limits.{AreSettings}
+use Rattle.wtf_dev.specs.Counts.{Rose}
+use Rattle.wtf_core.specs.Keeping.{KeeperSpan, KeeperTurn, IsHeldBy, keeper_span}
+use Rattle.wtf_core.proofs.Holding.{KeeperLaws, tidied_held, keeper_on, line_held}
+use Rattle.wtf_core.proofs.Picturing.{line_tree}
 use Rattle.wtf_core.proofs.Answering.{line_exact, line_downs}
 use Rattle.wtf_core.proofs.Naming.{tidied_bytes}
 use Rattle.wtf_dev.specs.Sums.{TellsAll}
@@ -88,7 +93,7 @@ returns-in-Ok-clause-inside g c =
     let kind = g.S.SliceStore.kind in
     let at = c.self-2.inside in
     let old = c.args.self.now in
-    let serves = subst (λ (core : CoreView). ServesLine kind (span (is_down old.replicas) c.args.shelf.now c.answer.new.shelf) old.settings old.tables core.tables c.args.event.now c.in-Ok.answer) (sym c.self-2.view_is) c.in-Ok.ensures.serves in
+    let serves = subst (λ (core : CoreView). ServesEvent kind (span (is_down old.replicas) c.args.shelf.now c.answer.new.shelf) old.settings (Rose (g.K.Keeper.view c.args.keeper.now).faults (g.K.Keeper.view c.answer.new.keeper).faults) old.tables core.tables c.args.event.now c.in-Ok.answer) (sym c.self-2.view_is) c.in-Ok.ensures.serves in
     let same : at.settings ≡ old.settings = ap (λ (core : CoreView). core.settings) c.self-2.view_is ∙ c.answer.ensures.settings in
     subst (λ (s : Settings). TablesBytes (is_inside kind c.answer.new.shelf s) c.tidy.new.self) (sym same)
     (tidied_bytes (is_inside kind c.answer.new.shelf old.settings) at.tables c.tidy.new.self c.self-2.invariant.tables_are c.tidy.ensures serves.inside)
@@ -98,7 +103,7 @@ returns-in-Ok-clause-full g c = λ h.
     let kind = g.S.SliceStore.kind in
     let at = c.self-2.inside in
     let old = c.args.self.now in
-    let serves = subst (λ (core : CoreView). ServesLine kind (span (is_down old.replicas) c.args.shelf.now c.answer.new.shelf) old.settings old.tables core.tables c.args.event.now c.in-Ok.answer) (sym c.self-2.view_is) c.in-Ok.ensures.serves in
+    let serves = subst (λ (core : CoreView). ServesEvent kind (span (is_down old.replicas) c.args.shelf.now c.answer.new.shelf) old.settings (Rose (g.K.Keeper.view c.args.keeper.now).faults (g.K.Keeper.view c.answer.new.keeper).faults) old.tables core.tables c.args.event.now c.in-Ok.answer) (sym c.self-2.view_is) c.in-Ok.ensures.serves in
     let same : at.settings ≡ old.settings = ap (λ (core : CoreView). core.settings) c.self-2.view_is ∙ c.answer.ensures.settings in
     subst (λ (s : Settings). TablesBytes (has_copies s.replicas) c.tidy.new.self) (sym same)
     (tidied_bytes (has_copies old.settings.replicas) at.tables c.tidy.new.self c.self-2.invariant.tables_are c.tidy.ensures (serves.full h))
@@ -119,3 +124,50 @@ returns-in-Ok-clause-placed g c = c.in-Ok.ensures.serves.placed
 
 pub returns-in-Ok-clause-cause : goal.returns-in-Ok-clause-cause
 returns-in-Ok-clause-cause g c = c.in-Ok.ensures.serves.failed
+
+pub returns-in-Ok-clause-keeper : goal.returns-in-Ok-clause-keeper
+returns-in-Ok-clause-keeper g c =
+    let kind = g.S.SliceStore.kind in
+    let old = c.args.self.now in
+    let k : KeeperSpan = keeper_span g.K.Keeper.view g.K.Keeper.follows c.args.keeper.now c.answer.new.keeper in
+    let t = span (is_down old.replicas) c.args.shelf.now c.answer.new.shelf in
+    let did = subst (λ (core : CoreView). KeeperTurn kind t k old.settings old.tables core.tables c.args.event.now c.in-Ok.answer) (sym c.self-2.view_is) c.in-Ok.ensures.keeper in
+    keeper_on kind t k old.settings old.tables c.self-2.inside.tables c.tidy.new.self c.tidy.ensures.saved c.args.event.now c.in-Ok.answer did
+
+pub returns-in-Ok-clause-held : goal.returns-in-Ok-clause-held
+returns-in-Ok-clause-held g c = λ tells held.
+    let kind = g.S.SliceStore.kind in
+    let told = byte_at kind c.args.shelf.now in
+    let later = byte_at kind c.answer.new.shelf in
+    let at = c.self-2.inside in
+    let old = c.args.self.now in
+    let answered : CoreView = record { settings = at.settings; tables = at.tables; replicas = at.replicas; closed = at.closed } in
+    let k : KeeperSpan = keeper_span g.K.Keeper.view g.K.Keeper.follows c.args.keeper.now c.answer.new.keeper in
+    let laws : KeeperLaws k = record { kept = λ images handed. g.met.K.Keeper.keeps c.args.keeper.now c.answer.new.keeper images handed; same = λ is. ap g.K.Keeper.view is } in
+    let t = span (is_down old.replicas) c.args.shelf.now c.answer.new.shelf in
+    let turn = subst (λ (core : CoreView). LineTurn (TellsAll kind c.args.shelf.now) (told, later) old core c.args.event.now c.in-Ok.answer) (sym c.self-2.view_is) c.in-Ok.ensures.turn in
+    let did = subst (λ (core : CoreView). KeeperTurn kind t k old.settings old.tables core.tables c.args.event.now c.in-Ok.answer) (sym c.self-2.view_is) c.in-Ok.ensures.keeper in
+    let sound : AreSound old.tables = subst (λ (core : CoreView). AreSound core.tables) c.self.view_is c.self.invariant.tables_are in
+    let on = line_held kind t k laws (TellsAll kind c.args.shelf.now) (told, later) old answered sound c.in-Ok.answer c.args.event.now turn did tells held in
+    let same : at.settings ≡ old.settings = ap (λ (core : CoreView). core.settings) c.self-2.view_is ∙ c.answer.ensures.settings in (
+      on.0,
+      on.1,
+      subst (λ (s : Settings). IsHeldBy c.tidy.new.self s on.0) (sym same) (tidied_held at.tables c.tidy.new.self old.settings on.0 c.self-2.invariant.tables_are c.tidy.ensures on.2),
+    )
+
+pub returns-in-Ok-clause-trees : goal.returns-in-Ok-clause-trees
+returns-in-Ok-clause-trees g c = λ telling tells few next m stands held.
+    let kind = g.S.SliceStore.kind in
+    let told = byte_at kind c.args.shelf.now in
+    let later = byte_at kind c.answer.new.shelf in
+    let at = c.self-2.inside in
+    let old = c.args.self.now in
+    let answered : CoreView = record { settings = at.settings; tables = at.tables; replicas = at.replicas; closed = at.closed } in
+    let k : KeeperSpan = keeper_span g.K.Keeper.view g.K.Keeper.follows c.args.keeper.now c.answer.new.keeper in
+    let laws : KeeperLaws k = record { kept = λ images handed. g.met.K.Keeper.keeps c.args.keeper.now c.answer.new.keeper images handed; same = λ is. ap g.K.Keeper.view is } in
+    let t = span (is_down old.replicas) c.args.shelf.now c.answer.new.shelf in
+    let turn = subst (λ (core : CoreView). LineTurn (TellsAll kind c.args.shelf.now) (told, later) old core c.args.event.now c.in-Ok.answer) (sym c.self-2.view_is) c.in-Ok.ensures.turn in
+    let did = subst (λ (core : CoreView). KeeperTurn kind t k old.settings old.tables core.tables c.args.event.now c.in-Ok.answer) (sym c.self-2.view_is) c.in-Ok.ensures.keeper in
+    let sound : AreSound old.tables = subst (λ (core : CoreView). AreSound core.tables) c.self.view_is c.self.invariant.tables_are in
+    let limits = subst (λ (core : CoreView). AreSettings core.settings.servers core.settings.replicas core.settings.region) c.self.view_is c.self.invariant.settings_are in
+    line_tree kind t k laws (TellsAll kind c.args.shelf.now) told later (λ p b there. byte_at-kept g.met.S.SliceStore.laws c.answer.ensures.shelf p b tt there) old answered m limits sound few next stands.tables c.in-Ok.answer c.args.event.now turn did tells held

@@ -1,0 +1,151 @@
+-- What a keeper holds goes on standing for one of the trees that the machine may have saved.
+use Rattle.std.proofs.Common.{◌≡◌, ◌≢◌, ◌≤◌, ◌^◌, ℕ, true, false, Bool, if◌then◌else◌, List, [], ◌∷◌, ◌++◌, Option, Some, None, refl, sym, ap, ◌∙◌, subst, inl, inr, ⊎_elim, arith}
+use Rattle.std.specs.FinMap.{get}
+use Rattle.std.specs.List.{Contains}
+use Rattle.std.proofs.lemmas.List.Elements.{Contains-append_left, Contains-push}
+use Rattle.wtf_base.specs.declared.settings.Settings.{Settings}
+use Rattle.wtf_base.specs.Limits.{AreSettings}
+use Rattle.wtf_dev.specs.Store.{StoreKind}
+use Rattle.wtf_replica.specs.Spans.{Span}
+use Rattle.wtf_model.specs.declared.answer.Answer.{Answer, Aborted'}
+use Rattle.wtf_model.specs.declared.answer.Answer.TheVariants as answer
+use Rattle.wtf_model.specs.declared.event.Event.{Event}
+use Rattle.wtf_model.specs.declared.event.Event.TheVariants as event
+use Rattle.wtf_model.specs.declared.event.Verb.{Verb}
+use Rattle.wtf_model.specs.declared.event.Verb.TheVariants as verb
+use Rattle.wtf_model.specs.Tree.{Tree, root_alone}
+use Rattle.wtf_model.specs.Transaction.{Transaction}
+use Rattle.wtf_model.specs.Machines.{Machine}
+use Rattle.wtf_model.specs.Steps.{after, after_client, begun, tried, stepped, committed, aborted, is_logged, logged, with_transaction, saved}
+use Rattle.wtf_meta.specs.Contents.{Told}
+use Rattle.wtf_meta.specs.Trees.{Stands}
+use Rattle.wtf_meta.proofs.Telling.{TellsOn}
+use Rattle.wtf_image.specs.Kept.{IsKept}
+use Rattle.wtf_image.proofs.SaveMap.{is_kept}
+use Rattle.wtf_image.proofs.StandsLaws.{stands_savable}
+use Rattle.wtf_core.specs.Views.{TablesView, CoreView, metadata_now}
+use Rattle.wtf_core.specs.Tables.{AreSound}
+use Rattle.wtf_core.specs.Standing.{TablesStand}
+use Rattle.wtf_core.specs.Saves.{SaveTurn}
+use Rattle.wtf_core.specs.Turns.{LineTurn}
+use Rattle.wtf_core.specs.Keeping.{KeeperSpan, Hands, KeeperFailed, KeeperTurn}
+use Rattle.wtf_core.specs.Pictured.{IsImageOfTree, IsImageOfOne, HoldsTree}
+use Rattle.wtf_core.proofs.Holding.{KeeperLaws, handed_one}
+use Rattle.wtf_core.proofs.Later.{Stands-later}
+
+-- ---- only a save changes the trees that may be saved
+begun_may : (m : Machine) (c : ℕ) (a : Answer) → (begun m c a).may_be_saved ≡ m.may_be_saved
+begun_may m c (answer.Begun n) = refl
+begun_may m c a = refl
+
+tried_may : (m : Machine) (c : ℕ) (t : Transaction) (a : Answer) → (tried m c t a).may_be_saved ≡ m.may_be_saved
+tried_may m c t (answer.Committed n) = refl
+tried_may m c t (answer.Retry b n) = refl
+tried_may m c t a = refl
+
+stepped_may : (m : Machine) (c : ℕ) (t : Transaction) (a : Answer) → (stepped m c t a).may_be_saved ≡ m.may_be_saved
+stepped_may m c t (answer.Replayed i) = refl
+stepped_may m c t (Aborted' i box a) = refl
+stepped_may m c t a = refl
+
+committed_may : (m : Machine) (c : ℕ) (t : Transaction) (a : Answer) → (committed m c t a).may_be_saved ≡ m.may_be_saved
+committed_may m c t (answer.Committed n) = refl
+committed_may m c t (Aborted' i box a) = refl
+committed_may m c t a = refl
+
+aborted_may : (m : Machine) (c : ℕ) (a : Answer) → (aborted m c a).may_be_saved ≡ m.may_be_saved
+aborted_may m c answer.Okay = refl
+aborted_may m c a = refl
+
+called_may : (m later : Machine) (b : Bool) → later.may_be_saved ≡ m.may_be_saved → (if b then later else m).may_be_saved ≡ m.may_be_saved
+called_may m later true h = h
+called_may m later false h = refl
+
+client_may : (m : Machine) (c : ℕ) (o : Option Transaction) (v : Verb) (a : Answer) → (after_client m c o v a).may_be_saved ≡ m.may_be_saved
+client_may m c None verb.Begin a = begun_may m c a
+client_may m c (Some t) verb.Try a = tried_may m c t a
+client_may m c (Some t) verb.Step a = stepped_may m c t a
+client_may m c (Some t) verb.Commit a = committed_may m c t a
+client_may m c (Some t) verb.Abort a = aborted_may m c a
+client_may m c (Some t) (verb.Call o) a = called_may m (with_transaction m c (logged t o a)) (is_logged a) refl
+client_may m c o v a = refl
+
+down_may : (m : Machine) (k : ℕ) (a : Answer) → (after m (event.Down k) a).may_be_saved ≡ m.may_be_saved
+down_may m k answer.Okay = refl
+down_may m k a = refl
+
+up_may : (m : Machine) (k : ℕ) (a : Answer) → (after m (event.Up k) a).may_be_saved ≡ m.may_be_saved
+up_may m k answer.Okay = refl
+up_may m k a = refl
+
+event_may : (m : Machine) (e : Event) (a : Answer) → e ≢ event.Save → (after m e a).may_be_saved ≡ m.may_be_saved
+event_may m (event.Client c v) a ne = client_may m c (get m.transactions c) v a
+event_may m (event.Down k) a ne = down_may m k a
+event_may m (event.Up k) a ne = up_may m k a
+event_may m event.Save a ne = absurd (ne refl)
+event_may m e a ne = refl
+
+-- ---- the trees of images
+module _ (told later : Told) (on : TellsOn told later) where
+  image_later : (bytes : List ℕ) (t : Tree) → IsImageOfTree told bytes t → IsImageOfTree later bytes t
+  image_later bytes t h = record {
+    rows = h.rows;
+    map = h.map;
+    text = h.text;
+    says = h.says;
+    stands = λ tx le. Stands-later told later on h.rows.header.region tx 0 h.map t (h.stands tx le);
+  }
+
+  one_later : (bytes : List ℕ) (may more : List Tree) → ((t : Tree) → Contains may t → Contains more t) → IsImageOfOne told bytes may → IsImageOfOne later bytes more
+  one_later bytes may more on_list (inl (empty, there)) = inl (empty, on_list root_alone there)
+  one_later bytes may more on_list (inr (t, there, image)) = inr (t, on_list t there, image_later bytes t image)
+
+module _ {S : Type 0} (kind : StoreKind S) (span : Span S) (k : KeeperSpan) (laws : KeeperLaws k) (settings : Settings) (old new : TablesView) (told later : Told) (on : TellsOn told later) (m : Machine)
+    (limits : AreSettings settings.servers settings.replicas settings.region) (begun_one : AreSound old) (few : old.kv.number ≤ 2 ^ 62) (next : old.next_tx ≤ 2 ^ 62) (st : TablesStand settings.region told old m) where
+  -- the new image is that of the tree now
+  handed_tree : (hands : Hands kind span k settings old) → IsImageOfTree later hands.bytes m.now
+  handed_tree hands =
+      let kept : IsKept old.kv settings old.next_tx hands.bytes =
+      is_kept old.kv settings old.next_tx hands.bytes hands.image limits few next
+      (stands_savable settings.region told old.next_tx 0 (metadata_now old.kv) m.now (st.later old.next_tx (omega arith)) old.next_tx begun_one.begun st.before) in
+      let region : kept.rows.header.region ≡ settings.region = ap (λ h. h.region) kept.header in
+      let begins : kept.rows.header.next_tx ≡ old.next_tx = ap (λ h. h.next_tx) kept.header in
+      record {
+        rows = kept.rows;
+        map = metadata_now old.kv;
+        text = kept.text;
+        says = λ q. sym (kept.map q);
+        stands = λ tx le. subst (λ b. Stands b later tx 0 (metadata_now old.kv) m.now) (sym region)
+            (Stands-later told later on settings.region tx 0 (metadata_now old.kv) m.now (st.later tx (subst (λ n. n ≤ tx) begins le)));
+      }
+
+  untouched_tree : (more : List Tree) → ((t : Tree) → Contains m.may_be_saved t → Contains more t) → k.untouched → HoldsTree k.before told m.may_be_saved → HoldsTree k.after later more
+  untouched_tree more listed untouched (bytes, held, is) = (bytes, ap (λ v. v.held) (laws.same untouched) ∙ held, one_later told later on bytes m.may_be_saved more listed is)
+
+  failed_tree : KeeperFailed kind span k settings old new → HoldsTree k.before told m.may_be_saved → HoldsTree k.after later (m.may_be_saved ++ m.now ∷ [])
+  failed_tree failed (bytes, held, is) = ⊎_elim
+      (λ stays. (bytes, stays, one_later told later on bytes m.may_be_saved (m.may_be_saved ++ m.now ∷ []) (λ t there. Contains-append_left m.may_be_saved (m.now ∷ []) t there) is))
+      (λ (image, there, holds).
+      let same : failed.hands.bytes ≡ image = handed_one failed.hands.bytes image there in
+      (failed.hands.bytes, holds ∙ ap Some (sym same), inr (m.now, Contains-push m.may_be_saved m.now, handed_tree failed.hands)))
+      ((laws.kept (failed.hands.bytes ∷ []) failed.hands.handed).bytes bytes held)
+
+  save_tree : (Up : Type 0) (a : Answer) → SaveTurn Up old new a → KeeperTurn kind span k settings old new event.Save a → k.before.tells ≡ true → HoldsTree k.before told m.may_be_saved → HoldsTree k.after later (saved m a).may_be_saved
+  save_tree Up (answer.Saved n) turn did tells held = (did.hands.bytes, did.held tells, inr (m.now, Contains-push [] m.now, handed_tree did.hands))
+  save_tree Up answer.FaultSave turn (inl did) tells held = untouched_tree (m.may_be_saved ++ m.now ∷ []) (λ t there. Contains-append_left m.may_be_saved (m.now ∷ []) t there) did.untouched held
+  save_tree Up answer.FaultSave turn (inr did) tells held = failed_tree did held
+  save_tree Up a turn did tells held = absurd turn
+
+-- each line
+module _ {S : Type 0} (kind : StoreKind S) (span : Span S) (k : KeeperSpan) (laws : KeeperLaws k) (Telling : Type 0) (told later : Told) (on : TellsOn told later) (old new : CoreView) (m : Machine)
+    (limits : AreSettings old.settings.servers old.settings.replicas old.settings.region) (sound : AreSound old.tables) (few : old.tables.kv.number ≤ 2 ^ 62) (next : old.tables.next_tx ≤ 2 ^ 62)
+    (st : TablesStand old.settings.region told old.tables m) (a : Answer) where
+  other_tree : (e : Event) → e ≢ event.Save → k.untouched → HoldsTree k.before told m.may_be_saved → HoldsTree k.after later (after m e a).may_be_saved
+  other_tree e ne untouched held =
+      untouched_tree kind span k laws old.settings old.tables new.tables told later on m limits sound few next st (after m e a).may_be_saved
+      (λ t there. subst (λ l. Contains l t) (sym (event_may m e a ne)) there) untouched held
+
+  pub line_tree : (e : Event) → LineTurn Telling (told, later) old new e a → KeeperTurn kind span k old.settings old.tables new.tables e a → k.before.tells ≡ true
+      → HoldsTree k.before told m.may_be_saved → HoldsTree k.after later (after m e a).may_be_saved
+  line_tree event.Save turn did tells held = save_tree kind span k laws old.settings old.tables new.tables told later on m limits sound few next st _ a turn.0 did tells held
+  line_tree e turn did tells held = other_tree e (λ is. absurd (cc)) did held

@@ -1,0 +1,54 @@
+use Rattle.std.proofs.Common.{refl, subst}
+use Rattle.wtf_dev.specs.Counts.{Rose}
+use Rattle.wtf_dev.specs.Sums.{TellsAll}
+use Rattle.wtf_replica.specs.Bytes.{byte_at}
+use Rattle.wtf_replica.specs.Downs.{is_down}
+use Rattle.wtf_replica.specs.Spans.{span}
+use Rattle.wtf_model.specs.declared.event.Event.TheVariants as event
+use Rattle.wtf_core.specs.Views.{CoreView}
+use Rattle.wtf_core.specs.Serves.{ServesEvent}
+use Rattle.wtf_core.specs.Turns.{LineTurn}
+use Rattle.wtf_core.specs.Saves.{AreUp}
+use Rattle.wtf_core.proofs.Whole.{sound_saved}
+use Rattle.wtf_core.proofs.store.Core.save_now.Goals as goal
+
+pub invariant_of-self : goal.invariant_of-self
+invariant_of-self g c =
+    let was = c.self.invariant in
+    let did = c.save.ensures in
+    record {
+      settings_are = was.settings_are;
+      replicas_are = was.replicas_are;
+      ring_is = was.ring_is;
+      points_are = was.points_are;
+      cache_is = was.cache_is;
+      tables_are = sound_saved c.save.result (AreUp c.self.inside.replicas c.self.inside.settings.servers) c.self.inside.tables c.save.new.self was.tables_are did.turn did.err;
+    }
+
+pub invariant_of-self-in-Err : goal.invariant_of-self-in-Err
+invariant_of-self-in-Err g c =
+    let was = c.self.invariant in
+    let did = c.save.ensures in
+    record {
+      settings_are = was.settings_are;
+      replicas_are = was.replicas_are;
+      ring_is = was.ring_is;
+      points_are = was.points_are;
+      cache_is = was.cache_is;
+      tables_are = sound_saved c.save.result (AreUp c.self.inside.replicas c.self.inside.settings.servers) c.self.inside.tables c.save.new.self was.tables_are did.turn did.err;
+    }
+
+pub returns-in-Ok-clause-turn : goal.returns-in-Ok-clause-turn
+returns-in-Ok-clause-turn g c =
+    let kind = g.S.SliceStore.kind in
+    let at = c.self.inside in
+    let new : CoreView = record { settings = at.settings; tables = c.save.new.self; replicas = at.replicas; closed = at.closed } in
+    subst (λ (core : CoreView). LineTurn (TellsAll kind c.args.shelf.now) (byte_at kind c.args.shelf.now, byte_at kind c.save.new.shelf) core new event.Save c.in-Ok.answer) c.self.view_is
+    (c.in-Ok.ensures.turn, refl)
+
+pub returns-in-Ok-clause-serves : goal.returns-in-Ok-clause-serves
+returns-in-Ok-clause-serves g c =
+    let kind = g.S.SliceStore.kind in
+    let rose = Rose (g.K.Keeper.view c.args.keeper.now).faults (g.K.Keeper.view c.save.new.keeper).faults in
+    subst (λ (core : CoreView). ServesEvent kind (span (is_down core.replicas) c.args.shelf.now c.save.new.shelf) core.settings rose core.tables c.save.new.self event.Save c.in-Ok.answer) c.self.view_is
+    c.in-Ok.ensures.serves
