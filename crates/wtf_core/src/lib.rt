@@ -15,4 +15,6 @@ mod tree;
 pub use store::Core;
 
 #[cfg(test)]
+mod saving_tests;
+#[cfg(test)]
 mod tree_tests;

@@ -153,7 +153,9 @@ impl Core {
     }
 
     /// Answers one line. The answer is that of the machine, which the core goes on to stand for.
-    /// After want of memory the metadata now are as they were, and the core is closed.
+    /// What a keeper tells that it holds goes on being the image at a number that is kept for it,
+    /// of a tree that the machine may have saved; a save alone hands it something. After want of
+    /// memory the metadata now are as they were, and the core is closed.
     pub fn event<S: SliceStore, K: Keeper>(
         &mut self,
         shelf: &mut Shelf<S>,
@@ -229,7 +231,9 @@ impl Core {
         }
     }
 
-    /// Saves the tree as it stands, as the line `save` does.
+    /// Saves the tree as it stands, as the line `save` does: the bytes of all stores are brought to
+    /// where they last, and then the keeper is handed the image of the metadata. `FaultSave` where a
+    /// server is down, a store failed or the keeper did.
     pub fn save<S: SliceStore, K: Keeper>(
         &mut self,
         shelf: &mut Shelf<S>,
