@@ -19,3 +19,4 @@ pub mod SaveFiles
 pub mod SaveMap
 pub mod StandsLaws
 pub mod PlainLaws
+pub mod Said

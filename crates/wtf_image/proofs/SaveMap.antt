@@ -77,7 +77,7 @@ or_none : {A : Type 0} (o : Option A) → option_or o None ≡ o
 or_none None = refl
 or_none (Some x) = refl
 
-in_file : (i : InodeId) (r : ℕ) (fs : List FileRow) (f : FileRow) → ascends file_before fs ≡ true → file_at fs i ≡ Some f → region_at fs i r ≡ find place_cmp (i, r) (region_entries f)
+pub in_file : (i : InodeId) (r : ℕ) (fs : List FileRow) (f : FileRow) → ascends file_before fs ≡ true → file_at fs i ≡ Some f → region_at fs i r ≡ find place_cmp (i, r) (region_entries f)
 in_file i r [] f h e = absurd (cc)
 in_file i r (g ∷ fs) f h e = elim (cases_Bool (is_eq (inode_cmp i g.inode))) [
   | inl tie ↦ (
@@ -95,10 +95,10 @@ in_file i r (g ∷ fs) f h e = elim (cases_Bool (is_eq (inode_cmp i g.inode))) [
 
 -- ---- the regions below a number
 
-place_is : (i : InodeId) (r n : ℕ) → eq_by_cmp place_cmp (i, r) (i, n) ≡ is_eq (nat_cmp r n)
+pub place_is : (i : InodeId) (r n : ℕ) → eq_by_cmp place_cmp (i, r) (i, n) ≡ is_eq (nat_cmp r n)
 place_is i r n = ap (λ o. is_eq (ordering_then o (nat_cmp r n))) (inode_itself i)
 
-number_tie : (n : ℕ) → is_eq (nat_cmp n n) ≡ true
+pub number_tie : (n : ℕ) → is_eq (nat_cmp n n) ≡ true
 number_tie n = ap is_eq (tied_itself nat_cmp_total n)
 
 equal_is : (o : Ordering) → is_eq o ≡ true → o ≡ Equal
@@ -106,8 +106,11 @@ equal_is Less e = cc
 equal_is Equal e = refl
 equal_is Greater e = cc
 
-number_off : (r n : ℕ) → r ≢ n → is_eq (nat_cmp r n) ≡ false
-number_off r n off = elim (cases_Bool (is_eq (nat_cmp r n))) [ inl tie ↦ absurd (off (exact_unsigned r n (equal_is _ tie))) | inr h ↦ h ]
+pub number_same : (r n : ℕ) → is_eq (nat_cmp r n) ≡ true → r ≡ n
+number_same r n tie = exact_unsigned r n (equal_is _ tie)
+
+pub number_off : (r n : ℕ) → r ≢ n → is_eq (nat_cmp r n) ≡ false
+number_off r n off = elim (cases_Bool (is_eq (nat_cmp r n))) [ inl tie ↦ absurd (off (number_same r n tie)) | inr h ↦ h ]
 
 module _ (i : InodeId) (now : ℕ → Option RegionRow) (numbered : (r : ℕ) (row : RegionRow) → now r ≡ Some row → row.number ≡ r) where
   abbrev found : List RegionRow → ℕ → Option RegionRow

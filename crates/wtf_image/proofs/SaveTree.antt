@@ -79,7 +79,7 @@ folder_is : (o : Option Node) → o ≡ Some Folder → is_folder o ≡ true
 folder_is o e = ap is_folder e
 
 -- the last of a file is told by its row
-last_is : (fs : List FileRow) (i : InodeId) → last_at fs i ≡ option_map (λ f. f.last) (file_at fs i)
+pub last_is : (fs : List FileRow) (i : InodeId) → last_at fs i ≡ option_map (λ f. f.last) (file_at fs i)
 last_is [] i = refl
 last_is (f ∷ fs) i = elim (eq_by_cmp inode_cmp i f.inode) as (λ b. cond b (Some f.last) (last_at fs i) ≡ option_map (λ (f : FileRow). f.last) (cond b (Some f) (file_at fs i))) [ true ↦ refl | false ↦ last_is fs i ]
 

@@ -17,6 +17,7 @@ ghost use Rattle.wtf_image.specs.Rows.{ImageRows};
 ghost use Rattle.wtf_image.specs.Images.{HasText};
 ghost use Rattle.wtf_image.specs.Loading.{IsRefusal};
 ghost use Rattle.wtf_image.specs.Outcome.{IsLoadOf};
+ghost use Rattle.wtf_image.specs.Saving.{IsSaveOf};
 ghost use Rattle.wtf_image.specs.Kept.{IsKept, IsSameAs, IsPointerOrMemory};
 
 /// Bytes are one image at most, and no image is a proper front of another.
@@ -34,6 +35,15 @@ pub fn what_was_saved_is_loaded()
     ensures taken { (kv : Store Key Value) (s : Settings) (n : ℕ) (bytes : List ℕ) →
         IsKept kv s n bytes → (size : ℕ → ℕ → ℕ) (why : LoadError) → IsRefusal size bytes why →
         IsPointerOrMemory why }
+{}
+
+/// The bytes are the image of what was loaded of them. Each of its inodes is of a transaction before
+/// the next one.
+pub fn what_was_loaded_is_its_image()
+    ensures image { (size : ℕ → ℕ → ℕ) (bytes : List ℕ) (l : Loaded) →
+        IsLoadOf size bytes l → IsSaveOf l.kv l.settings l.next_tx bytes }
+    ensures before { (size : ℕ → ℕ → ℕ) (bytes : List ℕ) (l : Loaded) →
+        IsLoadOf size bytes l → AreBefore l.next_tx (metadata_at l.kv l.kv.number) }
 {}
 
 /// Metadata that stand for a tree of files can be saved, where the next transaction is after that of

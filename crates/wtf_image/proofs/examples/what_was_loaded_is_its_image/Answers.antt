@@ -1,0 +1,8 @@
+use Rattle.wtf_image.proofs.Said.{saves_again, loaded_before}
+use Rattle.wtf_image.proofs.examples.what_was_loaded_is_its_image.Goals as goal
+
+pub returns-clause-image : goal.returns-clause-image
+returns-clause-image c = λ size bytes l load. saves_again size bytes l load
+
+pub returns-clause-before : goal.returns-clause-before
+returns-clause-before c = λ size bytes l load. loaded_before size bytes l load
