@@ -21,6 +21,8 @@ pub mod RowsShown
 pub mod Growth
 pub mod Whole
 pub mod Started
+pub mod Fetched
+pub mod Restored
 pub mod Tidying
 pub mod Unread
 pub mod Dumping

@@ -1,11 +1,10 @@
 -- The core before the first line.
-use Rattle.std.proofs.Common.{◌≡◌, ℕ, Bool, List, [], false, None, Some, refl, sym, ap, subst, ◌∙◌, ⊎_elim}
+use Rattle.std.proofs.Common.{◌≡◌, ℕ, Bool, List, [], false, None, Some, sym, ap, subst, ◌∙◌, ⊎_elim}
 use Rattle.std.specs.FinMap.{get-empty}
 use Rattle.std.specs.List.{Contains}
 use Rattle.std.proofs.lemmas.List.Elements.{Contains-push}
 use Rattle.std.specs.Ordering.{nat_cmp}
 use Rattle.wtf_base.specs.declared.settings.Settings.{Settings}
-use Rattle.wtf_replica.specs.declared.replicas.Replicas.{Replicas}
 use Rattle.wtf_replica.specs.Downs.{is_down}
 use Rattle.wtf_model.specs.Machines.{start}
 use Rattle.wtf_overlay.specs.Origin.{Place}
@@ -22,27 +21,27 @@ use Rattle.wtf_meta.specs.Bytes.{ValueBytes}
 use Rattle.wtf_meta.specs.Maps.{Map}
 use Rattle.wtf_meta.specs.Trees.{IsFirst}
 use Rattle.wtf_meta.proofs.Starting.{stands-first}
-use Rattle.wtf_core.specs.Views.{Clients, SavedView, unsaved, TablesView, of_client, metadata_now}
+use Rattle.wtf_core.specs.Views.{Clients, SavedView, unsaved, TablesView, CoreView, of_client, metadata_now}
 use Rattle.wtf_core.specs.Named.{TablesBytes}
-use Rattle.wtf_core.specs.Standing.{StandsForSlot, StandsFor}
+use Rattle.wtf_core.specs.Standing.{StandsForSlot, TablesStand, StandsFor}
 use Rattle.wtf_core.proofs.Images.{none_in, some_of_none}
 
-none_of : (clients : Clients) (c : ℕ) → clients ≡ [] → of_client clients c ≡ None
+pub none_of : (clients : Clients) (c : ℕ) → clients ≡ [] → of_client clients c ≡ None
 none_of clients c is = ap (λ l. of_client l c) is
 
-pub stands_first : (told : Told) (settings : Settings) (tables : TablesView) (replicas : Replicas) → tables.kv.number ≡ 0 → tables.clients ≡ [] → tables.saved ≡ unsaved → IsFirst (metadata_now tables.kv) → ((k : ℕ) → is_down replicas k ≡ false)
-    → StandsFor told (record { settings = settings; tables = tables; replicas = replicas; closed = false }) (start settings 0 root_alone)
-stands_first told settings tables replicas number clients saved first up = record {
-  settings = refl;
-  tables = record {
+pub stands_first : (told : Told) (settings : Settings) (tables : TablesView) (core : CoreView) → core.settings ≡ settings → core.tables ≡ tables → tables.kv.number ≡ 0 → tables.clients ≡ [] → tables.saved ≡ unsaved → IsFirst (metadata_now tables.kv)
+    → ((k : ℕ) → is_down core.replicas k ≡ false) → StandsFor told core (start settings 0 root_alone)
+stands_first told settings tables core is_settings is_tables number clients saved first up = record {
+  settings = sym is_settings;
+  tables = subst (λ t. TablesStand core.settings.region told t (start settings 0 root_alone)) (sym is_tables) (record {
     number = sym number;
-    each = λ c. subst (λ t. StandsForSlot settings.region told tables.kv root_alone (of_client tables.clients c) t) (sym (get-empty nat_cmp c))
-        (subst (λ s. StandsForSlot settings.region told tables.kv root_alone s None) (sym (none_of tables.clients c clients)) tt);
-    later = λ tx le. stands-first settings.region told tx 0 (metadata_now tables.kv) first;
+    each = λ c. subst (λ t. StandsForSlot core.settings.region told tables.kv root_alone (of_client tables.clients c) t) (sym (get-empty nat_cmp c))
+        (subst (λ s. StandsForSlot core.settings.region told tables.kv root_alone s None) (sym (none_of tables.clients c clients)) tt);
+    later = λ tx le. stands-first core.settings.region told tx 0 (metadata_now tables.kv) first;
     before = λ i some. absurd (some_of_none (metadata_now tables.kv (Inode i)) (first.inodes i) some);
     none = λ is. Contains-push [] root_alone;
     images = λ n there. absurd (none_in n (subst (λ (s : SavedView). Contains s.images n) saved there));
-  };
+  });
   down = λ k. up k ∙ sym (is_down-start settings 0 root_alone k);
 }
 

@@ -12,5 +12,6 @@ pub mod Outcomes
 pub mod Answers
 pub mod Keeping
 pub mod Pictured
+pub mod Loading
 pub mod Made
 pub mod Rows

@@ -15,6 +15,8 @@ mod tree;
 pub use store::Core;
 
 #[cfg(test)]
+mod load_tests;
+#[cfg(test)]
 mod saving_tests;
 #[cfg(test)]
 mod tree_tests;

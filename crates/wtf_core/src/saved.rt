@@ -1,6 +1,6 @@
 //! Which images may be on the keeper.
 
-ghost use Rattle.std.specs.Prelude.{◌≡◌, ◌<◌, ◌-◌, [], true, take, length, OnOk, OnErr};
+ghost use Rattle.std.specs.Prelude.{◌≡◌, ◌<◌, ◌-◌, [], true, take, length, IfOk, OnOk, OnErr};
 ghost use Rattle.wtf_core.specs.Saves.{with_image, only_image};
 
 use std::alloc::Global;
@@ -37,6 +37,20 @@ impl Saved {
         Saved {
             images: Vec::new(alloc),
             none: true,
+        }
+    }
+
+    /// The image of this number alone is on the keeper.
+    pub(crate) fn of(alloc: Global, number: u64) -> Result<Saved, OutOfMemory>
+        ensures { IfOk result (λ s. s ≡ only_image number) }
+    {
+        let mut images = Vec::new(alloc);
+        match images.push(number) {
+            Ok(()) => return Ok(Saved {
+                images,
+                none: false,
+            }),
+            Err(_) => return Err(OutOfMemory),
         }
     }
 

@@ -1,6 +1,6 @@
 //! The core.
 
-ghost use Rattle.std.specs.Prelude.{◌≡◌, ◌↔◌, ◌+◌, ◌<◌, ◌≤◌, ◌^◌, ℕ, Bool, List, [], true, false, IfOk, OnOk, OnErr, length};
+ghost use Rattle.std.specs.Prelude.{◌≡◌, ◌↔◌, ◌+◌, ◌<◌, ◌≤◌, ◌^◌, ℕ, Bool, List, [], true, false, IfOk, IfErr, OnOk, OnErr, length};
 ghost use Rattle.wtf_dev.specs.Each.{EachFollows};
 ghost use Rattle.wtf_dev.specs.Sums.{TellsAll};
 ghost use Rattle.wtf_base.specs.Limits.{AreSettings};
@@ -14,8 +14,13 @@ ghost use Rattle.wtf_model.specs.declared.event.Verb.TheVariants as verb;
 ghost use Rattle.wtf_model.specs.declared.answer.Answer.TheVariants as answer;
 ghost use Rattle.wtf_model.specs.Machines.{Machine, start};
 ghost use Rattle.wtf_model.specs.Servers.{down_after_event};
-ghost use Rattle.wtf_model.specs.Tree.{root_alone};
+ghost use Rattle.wtf_model.specs.Tree.{Tree, root_alone};
 ghost use Rattle.wtf_meta.specs.Contents.{Told};
+ghost use Rattle.wtf_image.specs.Rows.{ImageRows};
+ghost use Rattle.wtf_image.specs.Images.{HasText};
+ghost use Rattle.wtf_image.specs.Rules.{AreGoodSettings, size_in};
+ghost use Rattle.wtf_image.specs.Loading.{IsRefusal};
+ghost use Rattle.wtf_image.specs.Outcome.{IsLoadOf};
 ghost use Rattle.wtf_core.specs.Views.{unsaved};
 ghost use Rattle.wtf_core.specs.Tables.{AreSound, IsAlike};
 ghost use Rattle.wtf_core.specs.Standing.{StandsFor};
@@ -26,11 +31,12 @@ ghost use Rattle.wtf_core.specs.Named.{CoreBytes, IsInside, IsFull};
 ghost use Rattle.wtf_core.specs.Outcomes.{AddsBytes, SaveFault, HasCause, data_of, data_of_op, data_of_verb};
 ghost use Rattle.wtf_core.specs.Asked.{asked_of, IsPlaced, HasFailed};
 ghost use Rattle.wtf_core.specs.Serves.{ServesLine, ServesEvent};
-ghost use Rattle.wtf_core.specs.Keeping.{KeeperTurn, HoldsKept, keeper_span};
-ghost use Rattle.wtf_core.specs.Pictured.{HoldsTree};
+ghost use Rattle.wtf_core.specs.Keeping.{KeeperTurn, HoldsKept, IsHeldBy, keeper_span};
+ghost use Rattle.wtf_core.specs.Pictured.{IsImageOfTree, HoldsTree};
 ghost use Rattle.wtf_dev.specs.Counts.{Rose};
 ghost use Rattle.wtf_replica.specs.Outs.{SameLengths};
 ghost use Rattle.wtf_model.specs.Steps.{after};
+ghost use Rattle.wtf_core.specs.Loading.{IsCoreOf};
 
 use crate::ops::copy_op;
 use crate::tables::Tables;
@@ -39,6 +45,7 @@ use std::alloc::Global;
 use std::marker::Model;
 use wtf_base::{Bytes, OutOfMemory, Settings};
 use wtf_dev::{Keeper, Shelf, SliceStore};
+use wtf_image::{LoadError, Loaded};
 use wtf_model::{Answer, Event, Op, Verb, Word};
 use wtf_path::Path;
 use wtf_region::{Dev, RegionCache};
@@ -105,6 +112,73 @@ impl Core {
             Ok(tables) => tables,
             Err(why) => return Err(why),
         };
+        match Core::over(alloc, settings, tables) {
+            Ok(core) => return Ok(core),
+            Err(why) => return Err(why),
+        }
+    }
+
+    /// The core that an image says, over stores that have as many servers as its settings: the
+    /// metadata at its number, no transaction, and all servers up. Bytes are refused by the first rule
+    /// that they break, in the order of `LoadError`.
+    pub fn load<S: SliceStore>(
+        alloc: Global,
+        bytes: &[u8],
+        shelf: &Shelf<S>,
+    ) -> Result<Core, LoadError>
+        requires { (x : ImageRows) → HasText x bytes.now → AreGoodSettings x →
+            x.header.servers ≤ length shelf.now }
+        ensures loaded { IfOk result (IsCoreOf (size_in S.kind shelf.now) bytes.now) }
+        ensures open { IfOk result (λ core. core.closed ≡ false) }
+        ensures sound { IfOk result (λ core. AreSound core.tables) }
+        ensures up { IfOk result (λ core. (k : ℕ) → is_down core.replicas k ≡ false) }
+        ensures inside { IfOk result (IsInside S.kind shelf.now) }
+        ensures stands { IfOk result (λ core. (told : Told) (t : Tree) →
+            IsImageOfTree told bytes.now t →
+            StandsFor told core (start core.settings core.tables.kv.number t)) }
+        ensures held { IfOk result (λ core. IsHeldBy core.tables core.settings bytes.now) }
+        ensures cause { IfErr result (IsRefusal (size_in S.kind shelf.now) bytes.now) }
+    {
+        let loaded = match wtf_image::load(alloc, bytes, shelf) {
+            Ok(loaded) => loaded,
+            Err(refusal) => return Err(refusal),
+        };
+        match Core::restored(alloc, loaded) {
+            Ok(core) => return Ok(core),
+            Err(_) => return Err(LoadError::Memory),
+        }
+    }
+
+    /// The core over what was loaded of the keeper's image.
+    fn restored(alloc: Global, loaded: Loaded) -> Result<Core, OutOfMemory>
+        requires pins { loaded.kv.pins ≡ [] }
+        requires begun { 0 < loaded.next_tx }
+        ensures loaded { IfOk result (λ core. (size : ℕ → ℕ → ℕ) (bytes : List ℕ) →
+            IsLoadOf size bytes loaded → IsCoreOf size bytes core) }
+        ensures closed { IfOk result (λ core. core.closed ≡ false) }
+        ensures sound { IfOk result (λ core. AreSound core.tables) }
+        ensures up { IfOk result (λ core. (k : ℕ) → is_down core.replicas k ≡ false) }
+    {
+        let settings = loaded.settings;
+        let tables = match Tables::of_image(alloc, loaded) {
+            Ok(tables) => tables,
+            Err(why) => return Err(why),
+        };
+        match Core::over(alloc, settings, tables) {
+            Ok(core) => return Ok(core),
+            Err(why) => return Err(why),
+        }
+    }
+
+    /// A core over tables, with all servers up.
+    fn over(alloc: Global, settings: Settings, tables: Tables) -> Result<Core, OutOfMemory>
+        requires settings { AreSettings settings.servers settings.replicas settings.region }
+        requires sound { AreSound tables }
+        ensures settings { IfOk result (λ core. core.settings ≡ settings) }
+        ensures tables { IfOk result (λ core. core.tables ≡ tables) }
+        ensures closed { IfOk result (λ core. core.closed ≡ false) }
+        ensures up { IfOk result (λ core. (k : ℕ) → is_down core.replicas k ≡ false) }
+    {
         let ring = match Ring::new(alloc, settings.servers) {
             Ok(ring) => ring,
             Err(why) => return Err(why),

@@ -1,6 +1,6 @@
 //! The store of the metadata with the open transactions, and what a client's line makes of them.
 
-ghost use Rattle.std.specs.Prelude.{◌≡◌, ◌+◌, ◌<◌, ◌^◌, ℕ, List, [], true, false, None, Some, Ok, IsTrue, IfOk, OnOk, OnErr, IfSome, MatchOption};
+ghost use Rattle.std.specs.Prelude.{◌≡◌, ◌+◌, ◌<◌, ◌^◌, ℕ, List, [], ◌∷◌, true, false, None, Some, Ok, IsTrue, IfOk, OnOk, OnErr, IfSome, MatchOption};
 ghost use Rattle.std.specs.Set.{remove_key};
 ghost use Rattle.std.specs.Prelude.{◌≤◌, nat_eq, count_by, length};
 ghost use Rattle.wtf_dev.specs.Sums.{TellsAll};
@@ -30,7 +30,7 @@ use std::alloc::Global;
 use std::marker::Model;
 use wtf_base::{Bytes, OutOfMemory, Settings, TxId};
 use wtf_dev::SliceStore;
-use wtf_image::save;
+use wtf_image::{Loaded, save};
 use wtf_kv::Kv;
 use wtf_model::{Answer, Op, Word};
 use wtf_path::Path;
@@ -108,6 +108,35 @@ impl Tables {
             next_tx: 1,
             clients: IndexMap::new(alloc),
             saved: Saved::new(alloc),
+        })
+    }
+
+    /// What was loaded of the keeper's image, and no transaction. The number is pinned for the image.
+    pub(crate) fn of_image(alloc: Global, loaded: Loaded) -> Result<Tables, OutOfMemory>
+        requires pins { loaded.kv.pins ≡ [] }
+        requires begun { 0 < loaded.next_tx }
+        ensures kv { IfOk result
+            (λ t. t.kv ≡ record loaded.kv { pins = loaded.kv.number ∷ [] }) }
+        ensures next { IfOk result (λ t. t.next_tx ≡ loaded.next_tx) }
+        ensures clients { IfOk result (λ t. t.clients ≡ []) }
+        ensures saved { IfOk result (λ t. t.saved ≡ only_image loaded.kv.number) }
+        ensures sound { IfOk result (λ t. AreSound t) }
+    {
+        let mut kv = loaded.kv;
+        let number = kv.number();
+        if let Err(why) = kv.pin(number) {
+            return Err(why);
+        }
+        let saved = match Saved::of(alloc, number) {
+            Ok(saved) => saved,
+            Err(why) => return Err(why),
+        };
+        Ok(Tables {
+            alloc,
+            kv,
+            next_tx: loaded.next_tx,
+            clients: IndexMap::new(alloc),
+            saved,
         })
     }
 

@@ -1,12 +1,16 @@
+use Rattle.std.proofs.Common.{sym, subst}
+use Rattle.wtf_core.specs.Views.{TablesView}
+use Rattle.wtf_core.specs.Named.{TablesBytes}
 use Rattle.wtf_core.proofs.Started.{stands_first, bytes_first}
 use Rattle.wtf_core.proofs.store.Core.new.Goals as goal
 
-pub returns-clause-stands : goal.returns-clause-stands
-returns-clause-stands c = λ told.
+pub returns-in-Ok-over-clause-stands : goal.returns-in-Ok-over-clause-stands
+returns-in-Ok-over-clause-stands c = λ told.
     let made = c.in-Ok.ensures in
-    stands_first told c.args.settings c.in-Ok.tables c.new-4.result made.number made.clients made.saved made.first c.new-4.ensures.up
+    let core = c.in-Ok-over.ensures in
+    stands_first told c.args.settings c.in-Ok.tables c.in-Ok-over.core core.settings core.tables made.number made.clients made.saved made.first core.up
 
-pub returns-clause-inside : goal.returns-clause-inside
-returns-clause-inside c = λ P.
+pub returns-in-Ok-over-clause-inside : goal.returns-in-Ok-over-clause-inside
+returns-in-Ok-over-clause-inside c = λ P.
     let made = c.in-Ok.ensures in
-    bytes_first P c.in-Ok.tables made.clients made.first
+    subst (λ (t : TablesView). TablesBytes P t) (sym c.in-Ok-over.ensures.tables) (bytes_first P c.in-Ok.tables made.clients made.first)

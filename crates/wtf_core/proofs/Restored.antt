@@ -1,0 +1,132 @@
+-- A core that was loaded of an image: what it stands for, and that the keeper holds its image.
+use Rattle.std.proofs.Common.{◌≡◌, ◌≤◌, ℕ, false, List, [], ◌∷◌, None, Some, refl, sym, ap, subst, ◌∙◌, true≢false, arith, inl, inr}
+use Rattle.std.specs.FinMap.{get-empty}
+use Rattle.std.specs.List.{Contains}
+use Rattle.std.specs.Ordering.{nat_cmp}
+use Rattle.std.proofs.lemmas.List.{append-nil}
+use Rattle.std.proofs.lemmas.List.Elements.{Contains-push, Contains-push_cases}
+use Rattle.wtf_replica.specs.Downs.{is_down}
+use Rattle.wtf_dev.specs.Store.{StoreKind}
+use Rattle.wtf_kv.specs.Stores.{Store}
+use Rattle.wtf_values.specs.declared.key.Key.{Key}
+use Rattle.wtf_values.specs.declared.value.Value.{Value}
+use Rattle.wtf_model.specs.Machines.{start}
+use Rattle.wtf_model.specs.Tree.{Tree}
+use Rattle.wtf_model.proofs.StepLaws.{is_down-start}
+use Rattle.wtf_meta.specs.Contents.{Told}
+use Rattle.wtf_meta.specs.Maps.{Map}
+use Rattle.wtf_meta.specs.Trees.{Stands}
+use Rattle.wtf_image.specs.declared.loads.Loaded.{Loaded}
+use Rattle.wtf_image.specs.Loading.{AreSettingsOf}
+use Rattle.wtf_image.specs.Outcome.{IsLoadOf}
+use Rattle.wtf_image.specs.Tables.{shown}
+use Rattle.wtf_image.specs.Rows.{ImageRows}
+use Rattle.wtf_image.specs.Rules.{size_in}
+use Rattle.wtf_image.specs.Images.{HasText}
+use Rattle.wtf_image.specs.Lookups.{row_at}
+use Rattle.wtf_image.specs.Saving.{Says}
+use Rattle.wtf_image.specs.Savable.{AreBefore}
+use Rattle.wtf_image.specs.Texts.{image_text}
+use Rattle.wtf_image.proofs.Forms.{one_image}
+use Rattle.wtf_image.proofs.PlainLaws.{same_optional}
+use Rattle.wtf_image.proofs.Said.{says_itself, before_of}
+use Rattle.wtf_core.proofs.Fetched.{image_inside}
+use Rattle.wtf_core.proofs.Started.{none_of}
+use Rattle.wtf_core.specs.Views.{SavedView, TablesView, CoreView, of_client, metadata_now}
+use Rattle.wtf_core.specs.Standing.{IsImageTree, StandsForSlot, StandsFor}
+use Rattle.wtf_core.specs.Named.{IsInside}
+use Rattle.wtf_core.specs.Loading.{IsCoreOf}
+use Rattle.wtf_core.specs.Saves.{only_image}
+use Rattle.wtf_core.specs.Keeping.{IsHeldBy}
+use Rattle.wtf_core.specs.Pictured.{IsImageOfTree}
+
+-- bytes are one image at most
+same_rows : (x y : ImageRows) (bytes : List ℕ) → HasText x bytes → HasText y bytes → x ≡ y
+same_rows x y bytes one two = (one_image x y [] one.shape two.shape (sym two.text ∙ one.text ∙ sym (append-nil (image_text x)))).0
+
+-- one number alone
+only_one : (n m : ℕ) → Contains (m ∷ []) n → n ≡ m
+only_one n m here = elim (Contains-push_cases [] m n here) [ inl never ↦ absurd (let below = never.1 in omega (arith, below)) | inr same ↦ sym same ]
+
+-- the core over the tables of what was loaded
+pub core_of : (size : ℕ → ℕ → ℕ) (bytes : List ℕ) (l : Loaded) (tables : TablesView) (core : CoreView) → IsLoadOf size bytes l → core.settings ≡ l.settings → core.tables ≡ tables
+    → tables.kv ≡ record l.kv { pins = l.kv.number ∷ [] } → tables.next_tx ≡ l.next_tx → tables.clients ≡ [] → tables.saved ≡ only_image l.kv.number → IsCoreOf size bytes core
+core_of size bytes l tables core load settings same kv next clients saved =
+    let is_kv : core.tables.kv ≡ record l.kv { pins = l.kv.number ∷ [] } = ap (λ (t : TablesView). t.kv) same ∙ kv in
+    let number : core.tables.kv.number ≡ l.kv.number = ap (λ (s : Store Key Value). s.number) is_kv in
+    record {
+      rows = load.rows;
+      taken = load.taken;
+      settings = subst (λ s. AreSettingsOf load.rows s) (sym settings) load.settings;
+      number = number ∙ load.store.number;
+      next_tx = ap (λ (t : TablesView). t.next_tx) same ∙ next ∙ load.next_tx;
+      map = λ q. ap (λ (s : Store Key Value). shown s q) is_kv ∙ load.store.map q;
+      clients = ap (λ (t : TablesView). t.clients) same ∙ clients;
+      saved = ap (λ (t : TablesView). t.saved) same ∙ saved ∙ ap only_image (sym number);
+    }
+
+module _ (size : ℕ → ℕ → ℕ) (bytes : List ℕ) (core : CoreView) (of_it : IsCoreOf size bytes core) where
+  abbrev now : Map
+  now = metadata_now core.tables.kv
+
+  pub before_now : AreBefore core.tables.next_tx now
+  before_now = subst (λ n. AreBefore n now) (sym of_it.next_tx) (before_of of_it.rows now of_it.taken.good of_it.map)
+
+  -- the map now is that of the image
+  pub stands_now : (told : Told) (t : Tree) → IsImageOfTree told bytes t → (tx : ℕ) → core.tables.next_tx ≤ tx → Stands core.settings.region told tx 0 now t
+  stands_now told t image tx le =
+      let same : image.rows ≡ of_it.rows = same_rows image.rows of_it.rows bytes image.text of_it.taken.text in
+      let each : (q : Key) → image.map q ≡ now q = λ q. same_optional (image.map q) (now q) (image.says q ∙ ap (λ (x : ImageRows). row_at x q) same ∙ sym (of_it.map q)) in
+      let region : image.rows.header.region ≡ core.settings.region = ap (λ (x : ImageRows). x.header.region) same ∙ sym of_it.settings.region in
+      let next : image.rows.header.next_tx ≡ core.tables.next_tx = ap (λ (x : ImageRows). x.header.next_tx) same ∙ sym of_it.next_tx in
+      subst (λ w. Stands core.settings.region told tx 0 w t) (λ i q. each q i)
+      (subst (λ b. Stands b told tx 0 image.map t) region (image.stands tx (omega (arith, le, next))))
+
+  -- the core stands for the machine that starts with the tree of the image
+  pub stands_loaded : ((k : ℕ) → is_down core.replicas k ≡ false) → (told : Told) (t : Tree) → IsImageOfTree told bytes t → StandsFor told core (start core.settings core.tables.kv.number t)
+  stands_loaded up told t image = record {
+    settings = refl;
+    tables = record {
+      number = refl;
+      each = λ c. subst (λ o. StandsForSlot core.settings.region told core.tables.kv t (of_client core.tables.clients c) o) (sym (get-empty nat_cmp c))
+          (subst (λ s. StandsForSlot core.settings.region told core.tables.kv t s None) (sym (none_of core.tables.clients c of_it.clients)) tt);
+      later = stands_now told t image;
+      before = before_now;
+      none = λ is. absurd (true≢false (sym is ∙ ap (λ (s : SavedView). s.none) of_it.saved));
+      images = λ n here. subst (λ m. IsImageTree core.settings.region told core.tables m (t ∷ [])) (sym (only_one n core.tables.kv.number (subst (λ (s : SavedView). Contains s.images n) of_it.saved here))) (record {
+        tree = t;
+        listed = Contains-push [] t;
+        before = before_now;
+        stands = stands_now told t image;
+      });
+    };
+    down = λ k. up k ∙ sym (is_down-start core.settings core.tables.kv.number t k);
+  }
+
+  -- the bytes are the image that the core knows of
+  pub held_loaded : IsHeldBy core.tables core.settings bytes
+  held_loaded = inr (
+    core.tables.kv.number,
+    subst (λ (s : SavedView). Contains s.images core.tables.kv.number) (sym of_it.saved) (Contains-push [] core.tables.kv.number),
+    record {
+      rows = of_it.rows;
+      text = of_it.taken.text;
+      next = core.tables.next_tx;
+      begun = omega arith;
+      header = λ j. record {
+        servers = sym of_it.settings.servers j;
+        replicas = sym of_it.settings.replicas j;
+        region = sym of_it.settings.region j;
+        installs = sym of_it.number j;
+        next_tx = sym of_it.next_tx j;
+      };
+      says = subst (λ m. Says m of_it.rows) (λ j q. sym (of_it.map q) j) (says_itself of_it.rows of_it.taken.text.shape of_it.taken.tree);
+    },
+  )
+
+-- what it names lies inside the stores, as the image's pointers do
+pub inside_loaded : {S : Type 0} (kind : StoreKind S) (shelf : List S) (bytes : List ℕ) (core : CoreView) → IsCoreOf (size_in kind shelf) bytes core → IsInside kind shelf core
+inside_loaded kind shelf bytes core of_it = record {
+  now = image_inside kind shelf core.settings of_it.rows (metadata_now core.tables.kv) (sym of_it.settings.servers) of_it.taken.inside of_it.map;
+  each = λ c x is. absurd (let none : None ≡ Some x = sym (none_of core.tables.clients c of_it.clients) ∙ is in cc);
+}
