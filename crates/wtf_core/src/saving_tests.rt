@@ -1,4 +1,4 @@
-//! Saving from outside: over servers that are down, and a keeper that fails.
+//! Saving from outside: over a server that is down, and a keeper that fails.
 
 use crate::Core;
 use std::alloc::Global;
@@ -15,48 +15,59 @@ const IMAGE: [u8; 42] = [
     0, 0, 0, 0, 0, 0, 1, 0, 0, 0, 1, 0, 1, 0x2f, 0, 0, 0, 0, 0,
 ];
 
-/// The answer to a save or to a server's line.
-fn text(alloc: Global, answer: &Answer) -> Result<String, Fail> {
+/// Two stores that never fail.
+fn shelf(alloc: Global) -> Result<Shelf<MemStore>, Fail> {
+    let mut stores = Vec::new(alloc);
+    stores.push(MemStore::new(alloc, Vec::new(alloc)))?;
+    stores.push(MemStore::new(alloc, Vec::new(alloc)))?;
+    Ok(Shelf::new(alloc, stores))
+}
+
+/// Whether a save answered this number.
+fn is_saved(answer: &Answer, number: u64) -> bool {
     match answer {
-        Answer::Saved(n) => Ok(format!(in alloc; "saved {n}")?),
-        Answer::FaultSave => Ok(String::from_str(alloc, "fault save")?),
-        Answer::Okay => Ok(String::from_str(alloc, "ok")?),
-        _ => Ok(String::from_str(alloc, "another answer")?),
+        Answer::Saved(n) => *n == number,
+        _ => false,
+    }
+}
+
+/// Whether a save failed.
+fn is_fault(answer: &Answer) -> bool {
+    match answer {
+        Answer::FaultSave => true,
+        _ => false,
     }
 }
 
 #[test]
-fn saves_where_all_devices_are_up(rt: HostRuntime) -> Result<(), Fail> {
+fn a_server_that_is_down_keeps_the_image(rt: HostRuntime) -> Result<(), Fail> {
     let alloc = rt.alloc();
     let settings = Settings::new(2, 2, 64).ok_or("settings")?;
-    let mut stores = Vec::new(alloc);
-    stores.push(MemStore::new(alloc, Vec::new(alloc)))?;
-    stores.push(MemStore::new(alloc, Vec::new(alloc)))?;
-    let mut shelf = Shelf::new(alloc, stores);
+    let mut shelf = shelf(alloc)?;
+    let mut keeper = MemKeeper::new(alloc, Vec::new(alloc), Vec::new(alloc));
+    let mut core = Core::new(alloc, settings)?;
+    assert!(rt; settings.servers <= shelf.len());
+    core.event(&mut shelf, &mut keeper, &Event::Down(1))?;
+    let answer = core.save(&mut shelf, &mut keeper)?;
+    assert!(rt; is_fault(&answer));
+    assert_eq!(rt; keeper.held().len(), 0);
+    Ok(())
+}
+
+#[test]
+fn a_keeper_that_failed_is_handed_the_image_again(rt: HostRuntime) -> Result<(), Fail> {
+    let alloc = rt.alloc();
+    let settings = Settings::new(2, 2, 64).ok_or("settings")?;
+    let mut shelf = shelf(alloc)?;
     let mut fails = Vec::new(alloc);
     fails.push(0)?;
     let mut keeper = MemKeeper::new(alloc, Vec::new(alloc), fails);
     let mut core = Core::new(alloc, settings)?;
     assert!(rt; settings.servers <= shelf.len());
-    let downed = core.event(&mut shelf, &mut keeper, &Event::Down(1))?;
-    assert_eq!(rt; text(alloc, &downed)?.as_str(), "ok");
     let answer = core.save(&mut shelf, &mut keeper)?;
-    assert_eq!(rt;
-        text(alloc, &answer)?.as_str(),
-        "fault save",
-        "a server is down"
-    );
-    assert_eq!(rt; keeper.held().len(), 0);
-    let upped = core.event(&mut shelf, &mut keeper, &Event::Up(1))?;
-    assert_eq!(rt; text(alloc, &upped)?.as_str(), "ok");
+    assert!(rt; is_fault(&answer));
     let answer = core.save(&mut shelf, &mut keeper)?;
-    assert_eq!(rt;
-        text(alloc, &answer)?.as_str(),
-        "fault save",
-        "the keeper fails"
-    );
-    let answer = core.save(&mut shelf, &mut keeper)?;
-    assert_eq!(rt; text(alloc, &answer)?.as_str(), "saved 0");
+    assert!(rt; is_saved(&answer, 0));
     assert!(rt; keeper.held() == IMAGE.as_slice());
     Ok(())
 }
