@@ -18,8 +18,9 @@ demo: ## run examples/ and compare, built fast, unproved (1 to 2 minutes)
 run: ## SCRIPT=FILE [DIR=..] [WORDS=..]: run a script (1 to 2 minutes)
 	@tools/run-fast "$(SCRIPT)" "$(DIR)" $(WORDS)
 
-demo-bytes: build ## put 1 MiB in and take it out (seconds after the build)
+demo-bytes: build ## 1 MiB in and out; a store gone on with (seconds after the build)
 	@examples/bytes.sh
+	@examples/again/run.sh
 
 test: ## the gate, rt ci, on everything (the first time, the longest)
 	rt ci
