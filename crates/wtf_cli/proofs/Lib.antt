@@ -2,9 +2,17 @@ pub mod ScriptLaws
 pub mod Passing
 pub mod Accepting
 pub mod LineLaws
+pub mod Keeping
 pub mod Rising
+pub mod Picturing
 pub mod RanLaws
 pub mod Telling
 pub mod Starting
 pub mod Going
+pub mod Closing
+pub mod Finishing
+pub mod Unstarted
+pub mod Unopening
+pub mod Underway
+pub mod Refusing
 pub mod Headline

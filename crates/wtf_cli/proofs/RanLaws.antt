@@ -1,24 +1,29 @@
 -- One more line with its answer, behind those that ran.
-use Rattle.std.proofs.Common.{◌≡◌, ◌<◌, ◌≤◌, ◌+◌, ◌-◌, ◌*◌, ◌^◌, ℕ, Bool, true, false, List, [], ◌∷◌, ◌++◌, length, Some, refl, sym, ◌∙◌, ap, subst, arith, get_or}
+use Rattle.std.proofs.Common.{◌≡◌, ◌≤◌, ◌+◌, ◌*◌, ℕ, Bool, true, false, List, [], ◌∷◌, ◌++◌, length, refl, sym, ◌∙◌, ap, subst, arith}
 use Rattle.std.proofs.lemmas.List.{map-append}
 use Rattle.std.proofs.lemmas.List.Elements.{All-append, All-nil, All-cons}
 use Rattle.wtf_base.specs.declared.settings.Settings.{Settings}
 use Rattle.wtf_dev.specs.Store.{StoreKind, KindLaws}
 use Rattle.wtf_dev.specs.Each.{EachFollows}
 use Rattle.wtf_dev.specs.Sums.{TellsAll, all_stored, all_faults}
-use Rattle.wtf_replica.specs.Spans.{Span, span}
+use Rattle.wtf_replica.specs.Bytes.{byte_at}
+use Rattle.wtf_replica.specs.Spans.{Span}
 use Rattle.wtf_replica.specs.Outs.{HasRisen}
 use Rattle.wtf_model.specs.declared.answer.Answer.{Answer}
 use Rattle.wtf_model.specs.declared.answer.Answer.TheVariants as answer
 use Rattle.wtf_model.specs.Machines.{Machine}
+use Rattle.wtf_model.specs.Tree.{Tree}
 use Rattle.wtf_model.specs.Lines.{Line, AlongBy, after_line, Along, machine_after}
 use Rattle.wtf_model.specs.Servers.{none_down, down_after, downs_after, AlongDowns, is_device_fault, is_device_fault_of_run, count_along}
 use Rattle.wtf_model.proofs.LineLaws.{state_after-push, AlongBy-lengths, AlongBy-push, count_by-none, count_by-push}
 use Rattle.wtf_cli.specs.Scripts.{line_of}
 use Rattle.wtf_core.specs.Outcomes.{AddsBytes, HasCause}
 use Rattle.wtf_cli.specs.Answering.{MayLine, IsNotBuiltExactly, line_data}
-use Rattle.wtf_cli.specs.Engines.{Engine, Step, IsLawful, IsAnswer}
-use Rattle.wtf_cli.specs.Runs.{Opening, Log, asked, first, IsServed, is_write_fault, write_fault_count, if_okay, written_bytes, RoseBy, AreStoresStill, Ran}
+use Rattle.wtf_cli.specs.Engines.{Engine, Step, span_of, IsSaveFailure, IsLawful, IsAnswer}
+use Rattle.wtf_cli.specs.Logs.{Log, asked, last, last_downs, IsServed, is_write_fault, write_fault_count, if_okay, written_bytes}
+use Rattle.wtf_cli.specs.Openings.{Opening, StartsFrom, first}
+use Rattle.wtf_cli.specs.Runs.{AreStoresStill, Ran}
+use Rattle.wtf_cli.specs.Stocks.{Stock, faults_in, AreCounting, RoseBy}
 use Rattle.wtf_base.proofs.Elements.{element}
 use Rattle.wtf_replica.proofs.Spans.{EachKept, same_lengths-stored}
 use Rattle.wtf_dev.proofs.Each.{each_same, each_on}
@@ -38,12 +43,11 @@ pub along_none : {S : Type 0} (next : S → Line → Answer → S) (P : S → Li
 unfolding AlongBy
 along_none next P s = tt
 
-served_of : {S : Type 0} (kind : StoreKind S) (t : Span S) (settings : Settings) (full : Type 0) (given : List ℕ) (a : Answer)
-    → HasCause kind t settings full given a → IsServed a
-served_of kind t settings full given (answer.FaultPunch k) h = h
-served_of kind t settings full given answer.FaultSave h = h
-served_of kind t settings full given (answer.Damaged k) h = h
-served_of kind t settings full given a h = tt
+served_of : {S : Type 0} (kind : StoreKind S) (t : Span S) (settings : Settings) (saving full : Type 0) (given : List ℕ) (a : Answer)
+    → HasCause kind t settings saving full given a → IsServed a
+served_of kind t settings saving full given (answer.FaultPunch k) h = h
+served_of kind t settings saving full given (answer.Damaged k) h = h
+served_of kind t settings saving full given a h = tt
 
 write_fault_count-push : (answers : List Answer) (a : Answer) → write_fault_count (answers ++ a ∷ []) ≡ write_fault_count answers + one (is_write_fault a)
 write_fault_count-push [] a = omega arith
@@ -84,7 +88,7 @@ still_front kind before now after' front back early late still = λ k d h.
     (omega (arith, both.0, was.faults, is.faults), omega (arith, both.1, is.faults))
 
 -- and in the second no store rose
-still_back : {S : Type 0} (kind : StoreKind S) (before now after' : List S) → length now ≡ length before → length after' ≡ length now
+pub still_back : {S : Type 0} (kind : StoreKind S) (before now after' : List S) → length now ≡ length before → length after' ≡ length now
     → EachKept kind before now → AreStoresStill kind before after' → (k : ℕ) → HasRisen kind now after' k → ⊥
 still_back kind before now after' front back early still k risen =
     let d = element now k risen.0 in
@@ -94,14 +98,21 @@ still_back kind before now after' front back early still k risen =
 
 -- The counts of faults over one more line
 
-rose_more : {S : Type 0} (kind : StoreKind S) (before now after' : List S) → length after' ≡ length now → EachKept kind now after' → all_faults kind now ≤ all_faults kind after'
+pub counting_before : {S : Type 0} (kind : StoreKind S) (now after' : Stock S) → length after'.shelf ≡ length now.shelf → EachKept kind now.shelf after'.shelf
+    → now.keeper.faults ≤ after'.keeper.faults → AreCounting kind after' → AreCounting kind now
+counting_before kind now after' same kept grew low = (
+  λ k d h. omega (arith, (kept k d h).faults, low.0 k d (omega (arith, h, same))),
+  omega (arith, grew, low.1),
+)
+
+pub rose_more : {S : Type 0} (kind : StoreKind S) (before now after' : Stock S) → length after'.shelf ≡ length now.shelf → EachKept kind now.shelf after'.shelf
+    → now.keeper.faults ≤ after'.keeper.faults → faults_in kind now ≤ faults_in kind after'
     → (n : ℕ) (b : Bool) → RoseBy kind before now n
-    → (((k : ℕ) (d : S) → k < length after' → (kind.view (get_or after' k d)).faults < 2 ^ 64 - 1) → b ≡ true → all_faults kind now + 1 ≤ all_faults kind after')
+    → (AreCounting kind after' → b ≡ true → faults_in kind now + 1 ≤ faults_in kind after')
     → RoseBy kind before after' (n + one b)
-rose_more {S = S} kind before now after' same kept grows n b rose raises = λ low.
-    let early : (k : ℕ) (d : S) → k < length now → (kind.view (get_or now k d)).faults < 2 ^ 64 - 1
-    = λ k d h. omega (arith, (kept k d h).faults, low k d (omega (arith, h, same))) in
-    elim b as (λ (c : Bool). b ≡ c → all_faults kind before + (n + one c) ≤ all_faults kind after') [
+rose_more {S = S} kind before now after' same kept grew grows n b rose raises = λ low.
+    let early : AreCounting kind now = counting_before kind now after' same kept grew low in
+    elim b as (λ (c : Bool). b ≡ c → faults_in kind before + (n + one c) ≤ faults_in kind after') [
       | true ↦ λ e. omega (arith, rose early, raises low e)
       | false ↦ λ e. omega (arith, rose early, grows)
     ] refl
@@ -114,104 +125,115 @@ count_more counts log line a same =
     ∙ ap (λ (x : List Line). count_along counts none_down x (log.answers ++ a ∷ [])) (sym (asked-longer log line a))
 
 -- no line has run
-pub ran_none : {S : Type 0} (kind : StoreKind S) → KindLaws kind → (opening : Opening) (shelf : List S) → Ran kind opening (record { lines = []; answers = [] }) shelf shelf
-ran_none kind laws opening shelf = record {
-  accepts = λ tells. accepts_lines (first opening) [] [] (along_none after_line MayLine (first opening));
-  accepted = λ tells. along_none after_line MayLine (first opening);
-  exact = along_none down_after (λ down e a. IsNotBuiltExactly e a) none_down;
-  served = All-nil IsServed;
-  faults = λ low. omega (arith, count_by-none down_after (is_device_fault opening.settings) none_down);
-  faults_of_run = λ empty low. omega (arith, count_by-none down_after (is_device_fault_of_run opening.settings) none_down);
-  grew = λ still none. omega arith;
-  follows_on = each_same laws shelf;
-}
+pub ran_none : {S : Type 0} (kind : StoreKind S) → KindLaws kind → (opening : Opening) (old new : Stock S) → new.shelf ≡ old.shelf
+    → old.keeper.faults ≤ new.keeper.faults → Ran kind opening (record { lines = []; answers = [] }) old new
+ran_none kind laws opening old new same grew =
+    let faults : all_faults kind new.shelf ≡ all_faults kind old.shelf = ap (all_faults kind) same in
+    record {
+      accepts = λ tells t from. accepts_lines (first opening t) [] [] (along_none after_line MayLine (first opening t));
+      accepted = λ tells t from. along_none after_line MayLine (first opening t);
+      exact = along_none down_after (λ down e a. IsNotBuiltExactly e a) none_down;
+      served = All-nil IsServed;
+      faults = λ low. omega (arith, faults, grew, count_by-none down_after (is_device_fault opening.settings) none_down);
+      faults_of_run = λ empty low. omega (arith, faults, grew, count_by-none down_after (is_device_fault_of_run opening.settings) none_down);
+      grew = λ still none. omega (arith, ap (all_stored kind) same);
+      follows_on = subst (λ (shelf : List _). EachFollows kind old.shelf shelf []) (sym same) (each_same laws old.shelf);
+    }
 
 -- One more line
 
-module _ {S State : Type 0} (engine : Engine S State) (laws : KindLaws engine.kind) (opening : Opening) (before : List S) (log : Log) (t : Step S State)
+module _ {S State : Type 0} (engine : Engine S State) (laws : KindLaws engine.kind) (opening : Opening) (before : Stock S) (log : Log) (t : Step S State)
     (ran : Ran engine.kind opening log before t.before) (settings_is : engine.settings t.old ≡ opening.settings)
-    (downs_are : engine.down t.old ≡ downs_after none_down (asked log) log.answers)
-    (full : opening.kept ≡ Some [] → engine.full t.old)
-    (stands : TellsAll engine.kind before → engine.stands t.before t.old (machine_after (first opening) (asked log) log.answers))
-    (line : List ℕ) (a : Answer) (is : IsAnswer engine t (line_of line) a) (next : EachFollows engine.kind t.before t.after []) where
+    (downs_are : engine.down t.old ≡ last_downs log)
+    (full : opening.bytes ≡ [] → engine.full t.old)
+    (stands : TellsAll engine.kind before.shelf → (tree : Tree) → StartsFrom (byte_at engine.kind before.shelf) opening.bytes tree
+    → engine.stands t.before.shelf t.old (last opening tree log))
+    (line : List ℕ) (a : Answer) (is : IsAnswer engine t (line_of line) a) (next : EachFollows engine.kind t.before.shelf t.after.shelf [])
+    (keeper : t.before.keeper.faults ≤ t.after.keeper.faults) where
   -- each line so far has its answer
   same : length (asked log) ≡ length log.answers
   same = AlongBy-lengths down_after _ none_down (asked log) log.answers ran.exact
 
-  was : EachKept engine.kind before t.before
+  was : EachKept engine.kind before.shelf t.before.shelf
   was = each_kept laws ran.follows_on
 
-  kept : EachKept engine.kind t.before t.after
+  kept : EachKept engine.kind t.before.shelf t.after.shelf
   kept = each_kept laws next
 
-  tells_now : TellsAll engine.kind before → TellsAll engine.kind t.before
+  tells_now : TellsAll engine.kind before.shelf → TellsAll engine.kind t.before.shelf
   tells_now tells = tells_all-kept laws ran.follows_on tells
 
-  lawful : TellsAll engine.kind before → IsLawful engine t (machine_after (first opening) (asked log) log.answers) (line_of line) a
-  lawful tells = is.lawful (tells_now tells) (machine_after (first opening) (asked log) log.answers) (stands tells)
+  pub lawful_more : TellsAll engine.kind before.shelf → (tree : Tree) → StartsFrom (byte_at engine.kind before.shelf) opening.bytes tree
+      → IsLawful engine t (last opening tree log) (line_of line) a
+  lawful_more tells tree from = is.lawful (tells_now tells) (last opening tree log) (stands tells tree from)
 
-  along : (P : Machine → Line → Answer → Type 0) → Along P (first opening) (asked log) log.answers → P (machine_after (first opening) (asked log) log.answers) (line_of line) a
-      → Along P (first opening) (asked (longer log line a)) (log.answers ++ a ∷ [])
-  along P early here = subst (λ (x : List Line). Along P (first opening) x (log.answers ++ a ∷ [])) (sym (asked-longer log line a))
-      (AlongBy-push after_line P (first opening) (asked log) log.answers (line_of line) a early here)
+  along : (P : Machine → Line → Answer → Type 0) (m : Machine) → Along P m (asked log) log.answers → P (machine_after m (asked log) log.answers) (line_of line) a
+      → Along P m (asked (longer log line a)) (log.answers ++ a ∷ [])
+  along P m early here = subst (λ (x : List Line). Along P m x (log.answers ++ a ∷ [])) (sym (asked-longer log line a))
+      (AlongBy-push after_line P m (asked log) log.answers (line_of line) a early here)
 
   rose : (counts : Settings → (ℕ → Bool) → Answer → Bool)
-      → (((k : ℕ) (d : S) → k < length t.after → (engine.kind.view (get_or t.after k d)).faults < 2 ^ 64 - 1)
-      → counts (engine.settings t.old) (engine.down t.old) a ≡ true → all_faults engine.kind t.before + 1 ≤ all_faults engine.kind t.after)
+      → (AreCounting engine.kind t.after
+      → counts (engine.settings t.old) (engine.down t.old) a ≡ true → faults_in engine.kind t.before + 1 ≤ faults_in engine.kind t.after)
       → RoseBy engine.kind before t.before (count_along (counts opening.settings) none_down (asked log) log.answers)
       → RoseBy engine.kind before t.after (count_along (counts opening.settings) none_down (asked (longer log line a)) (log.answers ++ a ∷ []))
   rose counts raised early =
-      let here : counts (engine.settings t.old) (engine.down t.old) a ≡ counts opening.settings (downs_after none_down (asked log) log.answers) a
+      let here : counts (engine.settings t.old) (engine.down t.old) a ≡ counts opening.settings (last_downs log) a
       = ap (λ (s : Settings). counts s (engine.down t.old) a) settings_is ∙ ap (λ (d : ℕ → Bool). counts opening.settings d a) downs_are in
+      let grows : faults_in engine.kind t.before ≤ faults_in engine.kind t.after = omega (arith, all_faults-grows laws next, keeper) in
       subst (λ (n : ℕ). RoseBy engine.kind before t.after n) (count_more (counts opening.settings) log line a same)
-      (rose_more engine.kind before t.before t.after next.same_length kept (all_faults-grows laws next)
-      (count_along (counts opening.settings) none_down (asked log) log.answers) (counts opening.settings (downs_after none_down (asked log) log.answers) a) early
+      (rose_more engine.kind before t.before t.after next.same_length kept keeper grows
+      (count_along (counts opening.settings) none_down (asked log) log.answers) (counts opening.settings (last_downs log) a) early
       (λ low fault. raised low (here ∙ fault)))
 
-  adds : AddsBytes engine.kind (span (engine.down t.old) t.before t.after) opening.settings (line_data (line_of line)) a
-  adds = subst (λ (s : Settings). AddsBytes engine.kind (span (engine.down t.old) t.before t.after) s (line_data (line_of line)) a)
+  adds : AddsBytes engine.kind (span_of engine t) opening.settings (line_data (line_of line)) a
+  adds = subst (λ (s : Settings). AddsBytes engine.kind (span_of engine t) s (line_data (line_of line)) a)
       settings_is is.stored
 
-  grew : AreStoresStill engine.kind before t.after → write_fault_count (log.answers ++ a ∷ []) ≡ 0
-      → all_stored engine.kind t.after ≡ all_stored engine.kind before + opening.settings.replicas * written_bytes (asked (longer log line a)) (log.answers ++ a ∷ [])
+  grew : AreStoresStill engine.kind before.shelf t.after.shelf → write_fault_count (log.answers ++ a ∷ []) ≡ 0
+      → all_stored engine.kind t.after.shelf ≡ all_stored engine.kind before.shelf + opening.settings.replicas * written_bytes (asked (longer log line a)) (log.answers ++ a ∷ [])
   grew still none =
       let both = write_fault_count-push log.answers a in
       let there = is_false (is_write_fault a) (omega (arith, none, both)) in
-      let more : all_stored engine.kind t.after ≡ all_stored engine.kind t.before + opening.settings.replicas * if_okay a (length (line_data (line_of line)))
-      = grown engine.kind (span (engine.down t.old) t.before t.after) next.same_length (still_back engine.kind before t.before t.after ran.follows_on.same_length next.same_length was still)
+      let more : all_stored engine.kind t.after.shelf ≡ all_stored engine.kind t.before.shelf + opening.settings.replicas * if_okay a (length (line_data (line_of line)))
+      = grown engine.kind (span_of engine t) next.same_length (still_back engine.kind before.shelf t.before.shelf t.after.shelf ran.follows_on.same_length next.same_length was still)
       opening.settings (line_data (line_of line)) a adds there in
       let bytes : written_bytes (asked (longer log line a)) (log.answers ++ a ∷ []) ≡ written_bytes (asked log) log.answers + if_okay a (length (line_data (line_of line)))
       = ap (λ (x : List Line). written_bytes x (log.answers ++ a ∷ [])) (asked-longer log line a) ∙ written_bytes-push (asked log) log.answers (line_of line) a same in
-      let earlier = ran.grew (still_front engine.kind before t.before t.after ran.follows_on.same_length next.same_length was kept still) (omega (arith, none, both)) in
-      by_products opening.settings.replicas (all_stored engine.kind before) (all_stored engine.kind t.before) (all_stored engine.kind t.after)
+      let earlier = ran.grew (still_front engine.kind before.shelf t.before.shelf t.after.shelf ran.follows_on.same_length next.same_length was kept still) (omega (arith, none, both)) in
+      by_products opening.settings.replicas (all_stored engine.kind before.shelf) (all_stored engine.kind t.before.shelf) (all_stored engine.kind t.after.shelf)
       (written_bytes (asked log) log.answers) (if_okay a (length (line_data (line_of line)))) (written_bytes (asked (longer log line a)) (log.answers ++ a ∷ [])) earlier more bytes
 
   pub ran_more : Ran engine.kind opening (longer log line a) before t.after
   ran_more =
-      let accepted : TellsAll engine.kind before → Along MayLine (first opening) (asked (longer log line a)) (log.answers ++ a ∷ [])
-      = λ tells. along MayLine (ran.accepted tells) (lawful tells).may in
+      let accepted : TellsAll engine.kind before.shelf → (tree : Tree) → StartsFrom (byte_at engine.kind before.shelf) opening.bytes tree
+      → Along MayLine (first opening tree) (asked (longer log line a)) (log.answers ++ a ∷ [])
+      = λ tells tree from. along MayLine (first opening tree) (ran.accepted tells tree from) (lawful_more tells tree from).may in
       record {
-        accepts = λ tells. accepts_lines (first opening) (asked (longer log line a)) (log.answers ++ a ∷ []) (accepted tells);
+        accepts = λ tells tree from. accepts_lines (first opening tree) (asked (longer log line a)) (log.answers ++ a ∷ []) (accepted tells tree from);
         accepted = accepted;
         exact = subst (λ (x : List Line). AlongDowns (λ down e b. IsNotBuiltExactly e b) none_down x (log.answers ++ a ∷ [])) (sym (asked-longer log line a))
             (AlongBy-push down_after (λ down e b. IsNotBuiltExactly e b) none_down (asked log) log.answers (line_of line) a ran.exact is.goes_on.exact);
         served = All-append IsServed log.answers (a ∷ []) ran.served
-            (All-cons IsServed a [] (served_of engine.kind (span (engine.down t.old) t.before t.after) (engine.settings t.old) (engine.full t.old) (line_data (line_of line)) a is.caused) (All-nil IsServed));
-        faults = rose is_device_fault (raises engine laws t next (line_of line) a is.caused) ran.faults;
-        faults_of_run = λ empty. rose is_device_fault_of_run (raises_of_run engine laws t next (line_of line) a (full empty) is.caused) (ran.faults_of_run empty);
+            (All-cons IsServed a [] (served_of engine.kind (span_of engine t) (engine.settings t.old) (IsSaveFailure engine t (line_of line)) (engine.full t.old) (line_data (line_of line)) a is.caused) (All-nil IsServed));
+        faults = rose is_device_fault (raises engine laws t next keeper (line_of line) a is.caused) ran.faults;
+        faults_of_run = λ empty. rose is_device_fault_of_run (raises_of_run engine laws t next keeper (line_of line) a (full empty) is.caused) (ran.faults_of_run empty);
         grew = grew;
         follows_on = each_on laws ran.follows_on next;
       }
 
-  -- what the state stands for, and which servers are down, behind it
-  pub stands_more : TellsAll engine.kind before → engine.stands t.after t.new (machine_after (first opening) (asked (longer log line a)) (log.answers ++ a ∷ []))
-  stands_more tells =
-      subst (λ (m : Machine). engine.stands t.after t.new m)
-      (sym (state_after-push after_line (first opening) (asked log) log.answers (line_of line) a same)
-      ∙ ap (λ (x : List Line). machine_after (first opening) x (log.answers ++ a ∷ [])) (sym (asked-longer log line a)))
-      (lawful tells).stands
+  -- the machine behind it
+  pub last_more : (tree : Tree) → after_line (last opening tree log) (line_of line) a ≡ last opening tree (longer log line a)
+  last_more tree =
+      sym (state_after-push after_line (first opening tree) (asked log) log.answers (line_of line) a same)
+      ∙ ap (λ (x : List Line). machine_after (first opening tree) x (log.answers ++ a ∷ [])) (sym (asked-longer log line a))
 
-  pub downs_more : engine.down t.new ≡ downs_after none_down (asked (longer log line a)) (log.answers ++ a ∷ [])
+  -- what the state stands for, and which servers are down, behind it
+  pub stands_more : TellsAll engine.kind before.shelf → (tree : Tree) → StartsFrom (byte_at engine.kind before.shelf) opening.bytes tree
+      → engine.stands t.after.shelf t.new (last opening tree (longer log line a))
+  stands_more tells tree from = subst (λ (m : Machine). engine.stands t.after.shelf t.new m) (last_more tree) (lawful_more tells tree from).stands
+
+  pub downs_more : engine.down t.new ≡ last_downs (longer log line a)
   downs_more =
       is.goes_on.down ∙ ap (λ (d : ℕ → Bool). down_after d (line_of line) a) downs_are
       ∙ sym (state_after-push down_after none_down (asked log) log.answers (line_of line) a same)

@@ -1,26 +1,31 @@
--- Where a line answers a fault that only a store that failed can have caused, the counts of faults rise.
-use Rattle.std.proofs.Common.{◌≡◌, ◌≢◌, ◌⊎◌, ℕ, zero, suc, ◌+◌, ◌-◌, ◌<◌, ◌≤◌, ◌^◌, Bool, true, false, not, ◌||◌, if◌then◌else◌, List, [], ◌∷◌, length, get_or, refl, sym, ◌∙◌, ap, subst, arith, inl, inr}
+-- Where a line answers a fault that only a store or a keeper that failed can have caused, the counts of faults rise.
+use Rattle.std.proofs.Common.{◌≡◌, ◌≢◌, ◌⊎◌, ℕ, zero, suc, ◌+◌, ◌<◌, ◌≤◌, Bool, true, false, not, ◌||◌, if◌then◌else◌, List, [], ◌∷◌, length, Ok, Err, refl, sym, ◌∙◌, ap, subst, arith, inl, inr}
 use Rattle.std.specs.Prelude.{nat_lt}
 use Rattle.std.specs.List.{All, Contains}
-use Rattle.std.proofs.lemmas.Bool.{cases_lt, eq-eqb, le-ltb, le-leb, lt-leb}
+use Rattle.std.proofs.lemmas.Bool.{cases_lt, eq-eqb, ne_eqb, le-ltb, le-leb, lt-leb}
 use Rattle.std.proofs.lemmas.List.Elements.{All-head, All-tail, All-weaker}
 use Rattle.wtf_base.specs.declared.settings.Settings.{Settings}
+use Rattle.wtf_dev.specs.Counts.{Rose}
+use Rattle.wtf_dev.specs.Keep.{KeeperView}
 use Rattle.wtf_dev.specs.Store.{StoreKind, KindLaws}
 use Rattle.wtf_dev.specs.Each.{EachFollows}
 use Rattle.wtf_dev.specs.Sums.{all_faults}
-use Rattle.wtf_dev.proofs.Sums.{sum_still}
+use Rattle.wtf_dev.proofs.Sums.{sum_still, all_faults-grows}
 use Rattle.wtf_overlay.specs.Origin.{Place}
-use Rattle.wtf_replica.specs.Spans.{Span, span}
+use Rattle.wtf_replica.specs.Spans.{Span}
 use Rattle.wtf_replica.specs.Outs.{HasRisen, IsOut}
 use Rattle.wtf_replica.specs.Faults.{AreTooFew}
 use Rattle.wtf_model.specs.declared.answer.Answer.{Answer}
 use Rattle.wtf_model.specs.declared.answer.Answer.TheVariants as answer
-use Rattle.wtf_core.specs.Outcomes.{AscendFrom, last_of, IsLost, HasCause}
+use Rattle.wtf_model.specs.declared.event.Event.{Event}
+use Rattle.wtf_model.specs.declared.event.Event.TheVariants as event
+use Rattle.wtf_core.specs.Outcomes.{AscendFrom, last_of, IsLost, SaveFault, HasCause}
 use Rattle.wtf_model.specs.Lines.{Line, AlongBy, count_by}
 use Rattle.wtf_model.specs.Servers.{downs_below, downs, down_after, AlongDowns, is_device_fault, is_device_fault_of_run, count_along, IsAllUp}
 use Rattle.wtf_cli.specs.Answering.{line_data}
-use Rattle.wtf_cli.specs.Engines.{Engine, Step, IsCaused}
-use Rattle.wtf_cli.specs.Runs.{is_fault, fault_count}
+use Rattle.wtf_cli.specs.Engines.{Engine, Step, span_of, IsSaveFailure, IsCaused}
+use Rattle.wtf_cli.specs.Logs.{is_fault, fault_count}
+use Rattle.wtf_cli.specs.Stocks.{Stock, faults_in, AreCounting, IsSaveFault}
 use Rattle.wtf_base.proofs.Elements.{contains_cons, in_tail, element}
 use Rattle.wtf_replica.proofs.Spans.{each_kept}
 
@@ -106,24 +111,31 @@ no_downs down up (suc n) = omega (arith, one-false (down n) (up n), no_downs dow
 
 -- Where no store failed
 
--- the counts of faults grew, or no store's did
-rose_or_still : {S : Type 0} {kind : StoreKind S} → KindLaws kind → (old new : List S) → EachFollows kind old new []
-    → ((k : ℕ) (d : S) → k < length new → (kind.view (get_or new k d)).faults < 2 ^ 64 - 1)
-    → (all_faults kind old + 1 ≤ all_faults kind new) ⊎ ((k : ℕ) → HasRisen kind old new k → ⊥)
-rose_or_still {kind = kind} laws old new e low = elim (cases_lt (all_faults kind old) (all_faults kind new)) [
+-- the counts of faults grew, or no store's and not the keeper's did
+pub rose_or_still : {S : Type 0} {kind : StoreKind S} → KindLaws kind → (old new : Stock S) → EachFollows kind old.shelf new.shelf []
+    → old.keeper.faults ≤ new.keeper.faults → AreCounting kind new
+    → (faults_in kind old + 1 ≤ faults_in kind new) ⊎ (((k : ℕ) → HasRisen kind old.shelf new.shelf k → ⊥) × (Rose old.keeper.faults new.keeper.faults → ⊥))
+rose_or_still {kind = kind} laws old new e grew low = elim (cases_lt (faults_in kind old) (faults_in kind new)) [
   | inl more ↦ inl (omega (arith, more))
-  | inr less ↦ inr (λ k risen.
-      let d = element old k risen.0 in
-      let same = sum_still (λ s. (kind.view s).faults) old new e.same_length (λ j x h. (each_kept laws e j x h).faults) less k d risen.0 in
-      omega (arith, same, risen.1 d (low k d (omega (arith, risen.0, e.same_length)))))
+  | inr less ↦
+      let grows = all_faults-grows laws e in
+      let least : all_faults kind new.shelf ≤ all_faults kind old.shelf = omega (arith, less, grows, grew) in
+      inr (
+        λ k risen.
+            let d = element old.shelf k risen.0 in
+            let same = sum_still (λ s. (kind.view s).faults) old.shelf new.shelf e.same_length (λ j x h. (each_kept laws e j x h).faults) least k d risen.0 in
+            omega (arith, same, risen.1 d (low.0 k d (omega (arith, risen.0, e.same_length)))),
+        λ rose. omega (arith, rose low.1, less, grows, grew),
+      )
 ]
 
 or-false : (a b : Bool) → a ≡ true → b ≡ false → (not a || b) ≡ false
 or-false true b e f = f
 or-false false b e f = cc
 
--- then no fault is one that only a store that failed can have caused
-module _ {S : Type 0} (kind : StoreKind S) (t : Span S) (none : (k : ℕ) → HasRisen kind t.before t.after k → ⊥) (settings : Settings) where
+-- then no fault is one that only a store or a keeper that failed can have caused
+module _ {S : Type 0} (kind : StoreKind S) (t : Span S) (none : (k : ℕ) → HasRisen kind t.before t.after k → ⊥) (settings : Settings)
+    (old new : KeeperView) (steady : Rose old.faults new.faults → ⊥) where
   -- each server that is out is down
   out_down : (k : ℕ) → IsOut kind t k → t.down k ≡ true
   out_down k (inl is) = is
@@ -149,43 +161,65 @@ module _ {S : Type 0} (kind : StoreKind S) (t : Span S) (none : (k : ℕ) → Ha
       (λ k h. elim (few.out k h) [ inl c ↦ inl c | inr out ↦ inr (out_down k out) ]) in
       lt-leb (settings.replicas + downs settings t.down) settings.servers (omega (arith, enough, few.few))
 
-  no_fault : (full : Type 0) (given : List ℕ) (a : Answer) → HasCause kind t settings full given a → is_device_fault settings t.down a ≡ false
-  no_fault full given (answer.FaultRead k) cause = ap not (last_down cause.places k cause.lost)
-  no_fault full given answer.FaultWrite cause = no_write cause.1
-  no_fault full given answer.FaultSave cause = absurd cause
-  no_fault full given a cause = refl
+  pub no_save : IsSaveFault kind t settings.servers old new → is_device_fault settings t.down answer.FaultSave ≡ false
+  no_save (inl (k, below, out)) =
+      let one_more : downs_below t.down k + 1 ≤ downs settings t.down
+      = omega (arith, downs-next t.down k (out_down k out), downs-more t.down (k + 1) settings.servers (omega (arith, below))) in
+      ne_eqb (downs settings t.down) 0 (λ e. omega (arith, e, one_more))
+  no_save (inr rose) = absurd (steady rose)
 
-  no_fault_of_run : (full : Type 0) (given : List ℕ) (a : Answer) → full → HasCause kind t settings full given a → is_device_fault_of_run settings t.down a ≡ false
-  no_fault_of_run full given (answer.FaultRead k) is_full cause = no_read_of_run cause.places k (cause.width is_full) cause.lost
-  no_fault_of_run full given answer.FaultWrite is_full cause = no_write cause.1
-  no_fault_of_run full given answer.FaultSave is_full cause = absurd cause
-  no_fault_of_run full given a is_full cause = refl
+  no_fault : (saving full : Type 0) (given : List ℕ) (a : Answer) → (saving → IsSaveFault kind t settings.servers old new) → HasCause kind t settings saving full given a
+      → is_device_fault settings t.down a ≡ false
+  no_fault saving full given (answer.FaultRead k) save cause = ap not (last_down cause.places k cause.lost)
+  no_fault saving full given answer.FaultWrite save cause = no_write cause.1
+  no_fault saving full given answer.FaultSave save cause = no_save (save cause)
+  no_fault saving full given a save cause = refl
+
+  no_fault_of_run : (saving full : Type 0) (given : List ℕ) (a : Answer) → (saving → IsSaveFault kind t settings.servers old new) → full → HasCause kind t settings saving full given a
+      → is_device_fault_of_run settings t.down a ≡ false
+  no_fault_of_run saving full given (answer.FaultRead k) save is_full cause = no_read_of_run cause.places k (cause.width is_full) cause.lost
+  no_fault_of_run saving full given answer.FaultWrite save is_full cause = no_write cause.1
+  no_fault_of_run saving full given answer.FaultSave save is_full cause = no_save (save cause)
+  no_fault_of_run saving full given a save is_full cause = refl
 
 -- One line
 
--- a line that answers a fault that only a store that failed can have caused raises the counts
-pub raises : {S State : Type 0} (engine : Engine S State) → KindLaws engine.kind → (t : Step S State) → EachFollows engine.kind t.before t.after []
-    → (line : Line) (a : Answer) → IsCaused engine t line a
-    → ((k : ℕ) (d : S) → k < length t.after → (engine.kind.view (get_or t.after k d)).faults < 2 ^ 64 - 1)
-    → is_device_fault (engine.settings t.old) (engine.down t.old) a ≡ true → all_faults engine.kind t.before + 1 ≤ all_faults engine.kind t.after
-raises engine laws t e line a cause low fault = elim (rose_or_still laws t.before t.after e low) [
+-- why a save failed, whatever the line
+save_event : {S : Type 0} (kind : StoreKind S) (t : Span S) (settings : Settings) (old new : KeeperView) (e : Event)
+    → SaveFault kind t settings (Rose old.faults new.faults) e → IsSaveFault kind t settings.servers old new
+save_event kind t settings old new event.Save why = why
+save_event kind t settings old new e why = absurd why
+
+save_fault : {S State : Type 0} (engine : Engine S State) (t : Step S State) (line : Line) → IsSaveFailure engine t line
+    → IsSaveFault engine.kind (span_of engine t) (engine.settings t.old).servers t.before.keeper t.after.keeper
+save_fault engine t (Ok e) why = save_event engine.kind (span_of engine t) (engine.settings t.old) t.before.keeper t.after.keeper e why
+save_fault engine t (Err bad) why = absurd why
+
+-- a line that answers a fault that only a store or a keeper that failed can have caused raises the counts
+pub raises : {S State : Type 0} (engine : Engine S State) → KindLaws engine.kind → (t : Step S State) → EachFollows engine.kind t.before.shelf t.after.shelf []
+    → t.before.keeper.faults ≤ t.after.keeper.faults → (line : Line) (a : Answer) → IsCaused engine t line a
+    → AreCounting engine.kind t.after
+    → is_device_fault (engine.settings t.old) (engine.down t.old) a ≡ true → faults_in engine.kind t.before + 1 ≤ faults_in engine.kind t.after
+raises engine laws t e grew line a cause low fault = elim (rose_or_still laws t.before t.after e grew low) [
   | inl more ↦ more
-  | inr none ↦
+  | inr (none, steady) ↦
       let not_one : is_device_fault (engine.settings t.old) (engine.down t.old) a ≡ false
-      = no_fault engine.kind (span (engine.down t.old) t.before t.after) none (engine.settings t.old) (engine.full t.old) (line_data line) a cause in
+      = no_fault engine.kind (span_of engine t) none (engine.settings t.old) t.before.keeper t.after.keeper steady (IsSaveFailure engine t line) (engine.full t.old) (line_data line) a
+      (save_fault engine t line) cause in
       absurd (cc)
 ]
 
 -- and so does one that only such a store can have caused where each slice has as many copies as there are replicas
-pub raises_of_run : {S State : Type 0} (engine : Engine S State) → KindLaws engine.kind → (t : Step S State) → EachFollows engine.kind t.before t.after []
-    → (line : Line) (a : Answer) → engine.full t.old → IsCaused engine t line a
-    → ((k : ℕ) (d : S) → k < length t.after → (engine.kind.view (get_or t.after k d)).faults < 2 ^ 64 - 1)
-    → is_device_fault_of_run (engine.settings t.old) (engine.down t.old) a ≡ true → all_faults engine.kind t.before + 1 ≤ all_faults engine.kind t.after
-raises_of_run engine laws t e line a full cause low fault = elim (rose_or_still laws t.before t.after e low) [
+pub raises_of_run : {S State : Type 0} (engine : Engine S State) → KindLaws engine.kind → (t : Step S State) → EachFollows engine.kind t.before.shelf t.after.shelf []
+    → t.before.keeper.faults ≤ t.after.keeper.faults → (line : Line) (a : Answer) → engine.full t.old → IsCaused engine t line a
+    → AreCounting engine.kind t.after
+    → is_device_fault_of_run (engine.settings t.old) (engine.down t.old) a ≡ true → faults_in engine.kind t.before + 1 ≤ faults_in engine.kind t.after
+raises_of_run engine laws t e grew line a full cause low fault = elim (rose_or_still laws t.before t.after e grew low) [
   | inl more ↦ more
-  | inr none ↦
+  | inr (none, steady) ↦
       let not_one : is_device_fault_of_run (engine.settings t.old) (engine.down t.old) a ≡ false
-      = no_fault_of_run engine.kind (span (engine.down t.old) t.before t.after) none (engine.settings t.old) (engine.full t.old) (line_data line) a full cause in
+      = no_fault_of_run engine.kind (span_of engine t) none (engine.settings t.old) t.before.keeper t.after.keeper steady (IsSaveFailure engine t line) (engine.full t.old) (line_data line) a
+      (save_fault engine t line) full cause in
       absurd (cc)
 ]
 

@@ -8,8 +8,8 @@ use Rattle.std.proofs.lemmas.List.Elements.{All-append, All-nil, All-cons}
 use Rattle.wtf_script.specs.declared.limits.TheConstants.{SCRIPT_BYTES}
 use Rattle.wtf_script.specs.ScriptLines.{lines_of, ended_of, fed, HasNoFeed}
 use Rattle.wtf_script.specs.Reading.{Held, ReadsLine, ReadsEnd, ReadsFault, ReadsTooMuch}
-use Rattle.wtf_cli.specs.Scripts.{IsEndStatus}
-use Rattle.wtf_cli.specs.Runs.{HasRead}
+use Rattle.wtf_cli.specs.Scripts.{IsWholeStatus}
+use Rattle.wtf_cli.specs.Traces.{HasRead}
 use Rattle.wtf_script.proofs.LinesOf.{lines_of-fed, ended_of-fed, fed-push, lines_of-plain, ended_of-plain}
 
 -- the lines came, and the reader holds the next bytes; when it has seen the end, these were all
@@ -94,7 +94,7 @@ end_at script left left' held held' lines false is told (ended, bytes, last) =
     (sym (ap lines_of (was.0 ∙ ap (λ (x : List ℕ). fed lines ++ x) none.0) ∙ lines_of-fed lines [] was.1 ∙ append-nil lines), none.1)
 
 pub told_end : (script : List ℕ) (left left' : Option (List ℕ)) (held held' : Held) (lines : List (List ℕ)) → Told script left held lines
-    → ((rest : List ℕ) → left ≡ Some rest → ReadsEnd held rest held' left') → (status : ℕ) → IsEndStatus status → HasRead script left' status lines
+    → ((rest : List ℕ) → left ≡ Some rest → ReadsEnd held rest held' left') → (status : ℕ) → IsWholeStatus status → HasRead script left' status lines
 told_end script left left' held held' lines told came status ends = record {
   front = told_front script left held lines told;
   whole = λ _. end_at script left left' held held' lines held.ended refl told (came told.rest told.left_is);
@@ -160,7 +160,7 @@ told_much script left left' held held' lines unended few told reads counted =
     }
 
 -- the run ends after these lines for another reason
-pub told_other : (script : List ℕ) (left left' : Option (List ℕ)) (held : Held) (lines : List (List ℕ)) (status : ℕ) → (IsEndStatus status → ⊥) → status ≢ 3 → status ≢ 9 → Told script left held lines → HasRead script left' status lines
+pub told_other : (script : List ℕ) (left left' : Option (List ℕ)) (held : Held) (lines : List (List ℕ)) (status : ℕ) → (IsWholeStatus status → ⊥) → status ≢ 3 → status ≢ 9 → Told script left held lines → HasRead script left' status lines
 told_other script left left' held lines status not_0 not_3 not_9 told = record {
   front = told_front script left held lines told;
   whole = λ e. absurd (not_0 e);

@@ -1,5 +1,5 @@
 -- What reading a line, answering it and writing its answer give.
-use Rattle.std.specs.Prelude.{◌≡◌, ◌≢◌, ◌<◌, ◌≤◌, ◌+◌, ℕ, Bool, true, List, [], Option, Some, None, Result, Ok, Err, is_err}
+use Rattle.std.specs.Prelude.{◌≡◌, ◌≢◌, ◌⊎◌, ◌<◌, ◌≤◌, ◌+◌, ℕ, Bool, true, List, [], Option, Some, None, Result, Ok, Err, is_err}
 use Rattle.wtf_dev.specs.Counts.{Rose}
 use Rattle.wtf_dev.specs.Streams.{SourceView, SinkView}
 use Rattle.wtf_dev.specs.Each.{EachFollows}
@@ -11,7 +11,8 @@ use Rattle.wtf_script.specs.Reading.{Held, ReadsLine, ReadsEnd, ReadsFault, Read
 use Rattle.wtf_cli.specs.Scripts.{line_of}
 use Rattle.wtf_cli.specs.Engines.{Engine, Step}
 use Rattle.wtf_cli.specs.Answering.{IsFormLine}
-use Rattle.wtf_cli.specs.Turns.{IsDone, IsCutOff}
+use Rattle.wtf_cli.specs.Stocks.{Stock, KeeperGoesOn}
+use Rattle.wtf_cli.specs.Turns.{IsDone, IsCutOff, IsUnwritten}
 
 -- what a run reads its lines from: the source, and what the reader holds of it
 pub record Input : Type 0 where
@@ -65,18 +66,18 @@ pub record HasDrawn (i i' : Input) : Type 0 where
   pub counted : Counts i.held i'.held i.source i'.source
   pub faults : i.source.faults ≤ i'.source.faults
 
--- What a run has in hand: what it reads from, what it writes to, the stores, and the state that answers
+-- What a run has in hand: what it reads from, what it writes to, the stores with the keeper, and the state that answers
 pub record Hand (S State : Type 0) : Type 0 where
   pub input : Input
   pub sink : SinkView
-  pub shelf : List S
+  pub stock : Stock S
   pub state : State
 
-abbrev pub hand : {S State : Type 0} → Input → SinkView → List S → State → Hand S State
-hand i sink shelf state = record { input = i; sink = sink; shelf = shelf; state = state }
+abbrev pub hand : {S State : Type 0} → Input → SinkView → Stock S → State → Hand S State
+hand i sink stock state = record { input = i; sink = sink; stock = stock; state = state }
 
 abbrev pub step_of : {S State : Type 0} → Hand S State → Hand S State → Step S State
-step_of h h' = record { before = h.shelf; after = h'.shelf; old = h.state; new = h'.state }
+step_of h h' = record { before = h.stock; after = h'.stock; old = h.state; new = h'.state }
 
 -- one line was read, and that line was answered, and its answer written, before the next one is read; whether it asked
 -- nothing
@@ -93,18 +94,29 @@ pub record IsCutShort {S State : Type 0} (engine : Engine S State) (h h' : Hand 
   pub came : CameLine h.input h'.input line
   pub cut : IsCutOff engine (step_of h h') (line_of line) h.sink h'.sink
 
--- neither the stores nor the state nor the sink was touched
+-- one line was read, and it was answered, and no memory was found for its answer
+pub record IsLeftOut {S State : Type 0} (engine : Engine S State) (h h' : Hand S State) : Type 0 where
+  pub line : List ℕ
+  pub came : CameLine h.input h'.input line
+  pub out : IsUnwritten engine (step_of h h') (line_of line)
+
+-- neither the stores nor the keeper nor the state nor the sink was touched
 pub record IsQuiet {S State : Type 0} (h h' : Hand S State) : Type 0 where
-  pub shelf : h'.shelf ≡ h.shelf
+  pub stock : h'.stock ≡ h.stock
   pub state : h'.state ≡ h.state
   pub sink : h'.sink ≡ h.sink
 
--- whether there was a line; without one, and for want of memory, nothing is written
+-- for want of memory nothing is written, and the keeper is as it was, unless a line was answered before
+pub record IsShort {S State : Type 0} (engine : Engine S State) (h h' : Hand S State) : Type 0 where
+  pub sink : h'.sink ≡ h.sink
+  pub kept : (h'.stock.keeper ≡ h.stock.keeper) ⊎ IsLeftOut engine h h'
+
+-- whether there was a line; without one nothing is written
 abbrev pub PassCame : {S State : Type 0} → Engine S State → Hand S State → Hand S State → Result (Option Bool) Stop → Type 0
 PassCame engine h h' (Ok (Some bad)) = IsAnswered engine h h' bad
 PassCame engine h h' (Ok None) = CameEnd h.input h'.input × IsQuiet h h'
 PassCame engine h h' (Err stop.Unwritten) = IsCutShort engine h h'
-PassCame engine h h' (Err stop.Memory) = h'.sink ≡ h.sink
+PassCame engine h h' (Err stop.Memory) = IsShort engine h h'
 PassCame engine h h' (Err why) = CameStop h.input h'.input why × IsQuiet h h'
 
 pub record PassIs {S State : Type 0} (engine : Engine S State) (h h' : Hand S State) (result : Result (Option Bool) Stop) : Type 0 where
@@ -112,4 +124,5 @@ pub record PassIs {S State : Type 0} (engine : Engine S State) (h h' : Hand S St
   pub drawn : HasDrawn h.input h'.input
   pub limit : result ≢ Err stop.TooMuch → h'.input.held.count ≤ SCRIPT_BYTES
   pub sink_faults : h.sink.faults ≤ h'.sink.faults
-  pub follows_on : EachFollows engine.kind h.shelf h'.shelf []
+  pub keeper : KeeperGoesOn h.stock.keeper h'.stock.keeper
+  pub follows_on : EachFollows engine.kind h.stock.shelf h'.stock.shelf []

@@ -28,6 +28,10 @@ has_bad lines = list_any is_err lines
 abbrev pub IsEndStatus : ℕ → Type 0
 IsEndStatus status = (status ≡ 0) ⊎ (status ≡ 1)
 
+-- the statuses of a run that read its script to its end, also where the tree could not be saved then
+abbrev pub IsWholeStatus : ℕ → Type 0
+IsWholeStatus status = IsEndStatus status ⊎ (status ≡ 5)
+
 abbrev pub end_status : Bool → ℕ
 end_status bad = if bad then 1 else 0
 

@@ -1,5 +1,5 @@
 -- What writing a text, and answering a line with its text, give.
-use Rattle.std.specs.Prelude.{◌≡◌, ℕ, List, ◌++◌, Option, Some, Result, Ok, Err}
+use Rattle.std.specs.Prelude.{◌≡◌, ◌⊎◌, ℕ, List, ◌++◌, Option, Some, Result, Ok, Err}
 use Rattle.wtf_dev.specs.Counts.{Rose}
 use Rattle.wtf_dev.specs.Streams.{SinkView}
 use Rattle.wtf_model.specs.declared.answer.Answer.{Answer}
@@ -31,9 +31,14 @@ pub record IsCutOff {S State : Type 0} (engine : Engine S State) (t : Step S Sta
   pub wrote : (old : List ℕ) → sink.taken ≡ Some old → WroteFront old (line_text answer) sink'.taken
   pub cause : Rose sink.faults sink'.faults
 
--- what came of a line: for want of memory nothing is written
+-- a line was answered, and no memory was found for the text
+pub record IsUnwritten {S State : Type 0} (engine : Engine S State) (t : Step S State) (line : Line) : Type 0 where
+  pub answer : Answer
+  pub is : IsAnswer engine t line answer
+
+-- what came of a line: for want of memory nothing is written, and unless it was answered the keeper is as it was
 abbrev pub TurnIs : {S State : Type 0} → Engine S State → Step S State → Line → SinkView → SinkView → Result (Unit {0}) Stop → Type 0
 TurnIs engine t line sink sink' (Ok u) = IsDone engine t line sink sink'
 TurnIs engine t line sink sink' (Err stop.Unwritten) = IsCutOff engine t line sink sink'
-TurnIs engine t line sink sink' (Err stop.Memory) = sink' ≡ sink
+TurnIs engine t line sink sink' (Err stop.Memory) = (sink' ≡ sink) × ((t.after.keeper ≡ t.before.keeper) ⊎ IsUnwritten engine t line)
 TurnIs engine t line sink sink' (Err other) = ⊥

@@ -5,6 +5,7 @@ ghost use Rattle.std.specs.Prelude.{◌≡◌, drop, length, replicate, IfOk, If
 ghost use Rattle.std.specs.Process.{exit_status};
 ghost use Rattle.wtf_cli.specs.Program.{IsStatus, empty_store, open_status};
 
+mod opening;
 mod program;
 #[cfg(test)]
 mod rows;

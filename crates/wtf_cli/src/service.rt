@@ -3,15 +3,19 @@
 ghost use Rattle.std.specs.Prelude.{◌≡◌, ◌≢◌, ◌<◌, ◌≤◌, ◌^◌, ◌++◌, ◌∷◌, ◌||◌, ℕ, List, [], Some, Ok, Err, IfOk, IfErr, OnOk, OnErr};
 ghost use Rattle.wtf_dev.specs.Counts.{Rose};
 ghost use Rattle.wtf_dev.specs.Each.{EachFollows};
-ghost use Rattle.wtf_cli.specs.Runs.{Served, new_opening, devices, stop_status};
+ghost use Rattle.wtf_cli.specs.Endings.{devices, stop_status};
+ghost use Rattle.wtf_cli.specs.Unopened.{IsRun};
 ghost use Rattle.wtf_cli.specs.Turns.{AllTaken, TurnIs};
 ghost use Rattle.wtf_cli.specs.Passes.{Came, HasDrawn, PassIs, IsFormRead, input, hand};
 ghost use Rattle.wtf_cli.specs.Answering.{IsFormLine};
-ghost use Rattle.wtf_cli.specs.Engines.{GoesOn, Obeys, Stores, IsCaused, step};
+ghost use Rattle.wtf_cli.specs.Beginnings.{Closes};
+ghost use Rattle.wtf_cli.specs.Engines.{GoesOn, Obeys, Stores, IsCaused, Keeps, step};
 ghost use Rattle.wtf_cli.specs.Cores.{IsSoundCore, engine};
 ghost use Rattle.wtf_cli.specs.Scripts.{end_status, line_text, settings_line};
+ghost use Rattle.wtf_cli.specs.Stocks.{stock, KeeperGoesOn, HandsOver};
 ghost use Rattle.wtf_script.specs.declared.limits.TheConstants.{SCRIPT_BYTES};
 
+use crate::opening::open;
 use std::alloc::Global;
 use wtf_base::{OutOfMemory, Settings};
 use wtf_core::Core;
@@ -45,7 +49,16 @@ pub(crate) const READING_FAILED: u8 = 3;
 
 pub(crate) const WRITING_FAILED: u8 = 4;
 
+/// The tree could not be saved at the end of the script.
+pub(crate) const SAVING_FAILED: u8 = 5;
+
+/// What the keeper holds is no image that can be loaded.
+pub(crate) const IMAGE_REFUSED: u8 = 6;
+
 pub(crate) const OUT_OF_MEMORY: u8 = 7;
+
+/// The keeper did not give what it holds.
+pub(crate) const LOADING_FAILED: u8 = 8;
 
 pub(crate) const SCRIPT_TOO_LONG: u8 = 9;
 
@@ -64,7 +77,7 @@ impl Stop {
 }
 
 /// Writes all of a text.
-fn write_all<O: Sink>(out: &mut O, text: &[u8]) -> Result<(), Failed>
+pub(crate) fn write_all<O: Sink>(out: &mut O, text: &[u8]) -> Result<(), Failed>
     ensures told { (old : List ℕ) → (O.view out.old).taken ≡ Some old →
         AllTaken old text.now (O.view out.new).taken result }
     ensures faults { (O.view out.old).faults ≤ (O.view out.new).faults }
@@ -126,17 +139,26 @@ fn answer<S: SliceStore, K: Keeper>(
     requires next_tx { core.old.tables.next_tx < 2 ^ 63 }
     requires form { IsFormLine line }
     requires sound { IsSoundCore S.kind shelf.old core.old }
-    ensures goes_on { IfOk result
-        (GoesOn (engine S.kind) (step shelf.old shelf.new core.old core.new) line) }
-    ensures lawful { IfOk result
-        (Obeys (engine S.kind) (step shelf.old shelf.new core.old core.new) line) }
-    ensures stored { IfOk result
-        (Stores (engine S.kind) (step shelf.old shelf.new core.old core.new) line) }
-    ensures caused { IfOk result
-        (IsCaused (engine S.kind) (step shelf.old shelf.new core.old core.new) line) }
+    ensures goes_on { IfOk result (GoesOn (engine S.kind)
+        (step (stock shelf.old (K.view keeper.old)) (stock shelf.new (K.view keeper.new))
+        core.old core.new) line) }
+    ensures lawful { IfOk result (Obeys (engine S.kind)
+        (step (stock shelf.old (K.view keeper.old)) (stock shelf.new (K.view keeper.new))
+        core.old core.new) line) }
+    ensures stored { IfOk result (Stores (engine S.kind)
+        (step (stock shelf.old (K.view keeper.old)) (stock shelf.new (K.view keeper.new))
+        core.old core.new) line) }
+    ensures caused { IfOk result (IsCaused (engine S.kind)
+        (step (stock shelf.old (K.view keeper.old)) (stock shelf.new (K.view keeper.new))
+        core.old core.new) line) }
+    ensures kept { IfOk result (Keeps (engine S.kind)
+        (step (stock shelf.old (K.view keeper.old)) (stock shelf.new (K.view keeper.new))
+        core.old core.new) line) }
     ensures bad { IfErr line (λ bad. result ≡ Ok bad) }
     ensures follows { EachFollows S.kind shelf.old shelf.new [] }
-    ensures unkept { keeper.new ≡ keeper.old }
+    ensures keeper { KeeperGoesOn (K.view keeper.old) (K.view keeper.new) }
+    ensures handed { HandsOver (K.follows keeper.old keeper.new) }
+    ensures unkept { OnErr result (keeper.new ≡ keeper.old) }
 {
     match line {
         Ok(event) => {
@@ -156,11 +178,12 @@ fn push_answer(answer: &Answer, text: &mut Vec<u8>) -> Result<(), OutOfMemory>
     Ok(())
 }
 
-/// Appends the line of the settings.
-fn push_settings(settings: Settings, text: &mut Vec<u8>) -> Result<(), OutOfMemory>
-    ensures { OnOk result (text.new.items ≡ text.old.items ++ settings_line settings 0) }
+/// Appends the line of the settings, with the number of the installs so far.
+fn push_settings(core: &Core, text: &mut Vec<u8>) -> Result<(), OutOfMemory>
+    ensures { OnOk result (text.new.items ≡ text.old.items ++
+        settings_line core.now.settings core.now.tables.kv.number) }
 {
-    print_settings(settings, 0, text)?;
+    print_settings(core.settings(), core.number(), text)?;
     text.push(b'\n')?;
     Ok(())
 }
@@ -178,11 +201,14 @@ fn turn<O: Sink, S: SliceStore, K: Keeper>(
     requires next_tx { core.old.tables.next_tx < 2 ^ 63 }
     requires form { IsFormLine line }
     requires sound { IsSoundCore S.kind shelf.old core.old }
-    ensures turn { TurnIs (engine S.kind) (step shelf.old shelf.new core.old core.new) line
-        (O.view out.old) (O.view out.new) result }
+    ensures turn { TurnIs (engine S.kind)
+        (step (stock shelf.old (K.view keeper.old)) (stock shelf.new (K.view keeper.new))
+        core.old core.new)
+        line (O.view out.old) (O.view out.new) result }
     ensures faults { (O.view out.old).faults ≤ (O.view out.new).faults }
     ensures follows { EachFollows S.kind shelf.old shelf.new [] }
-    ensures unkept { keeper.new ≡ keeper.old }
+    ensures keeper { KeeperGoesOn (K.view keeper.old) (K.view keeper.new) }
+    ensures handed { HandsOver (K.follows keeper.old keeper.new) }
 {
     let Ok(answer) = answer(core, shelf, keeper, line) else {
         return Err(Stop::Memory);
@@ -213,10 +239,11 @@ fn pass<I: Source, O: Sink, S: SliceStore, K: Keeper>(
     requires next_tx { core.old.tables.next_tx < 2 ^ 63 }
     requires sound { IsSoundCore S.kind shelf.old core.old }
     ensures pass { PassIs (engine S.kind)
-        (hand (input (I.view script.old) reader.old.lines) (O.view out.old) shelf.old core.old)
-        (hand (input (I.view script.new) reader.new.lines) (O.view out.new) shelf.new core.new)
-        result }
-    ensures unkept { keeper.new ≡ keeper.old }
+        (hand (input (I.view script.old) reader.old.lines) (O.view out.old)
+        (stock shelf.old (K.view keeper.old)) core.old)
+        (hand (input (I.view script.new) reader.new.lines) (O.view out.new)
+        (stock shelf.new (K.view keeper.new)) core.new) result }
+    ensures handed { HandsOver (K.follows keeper.old keeper.new) }
 {
     let line = match read_line(reader, script) {
         Ok(Some(line)) => line,
@@ -244,8 +271,35 @@ fn ended(bad: bool) -> u8
     if bad { BAD_LINES } else { FINISHED }
 }
 
-/// Answers a script: writes the settings, and one answer a line. With fewer stores than servers nothing is read and
-/// nothing is written.
+/// Saves the tree at the end of a script.
+fn close<S: SliceStore, K: Keeper>(
+    core: &mut Core,
+    shelf: &mut Shelf<S>,
+    keeper: &mut K,
+    bad: bool,
+) -> u8
+    requires number { core.old.tables.kv.number < 2 ^ 63 }
+    requires next_tx { core.old.tables.next_tx < 2 ^ 63 }
+    requires sound { IsSoundCore S.kind shelf.old core.old }
+    ensures closes { Closes (engine S.kind)
+        (step (stock shelf.old (K.view keeper.old)) (stock shelf.new (K.view keeper.new))
+        core.old core.new) bad result }
+    ensures follows { EachFollows S.kind shelf.old shelf.new [] }
+    ensures keeper { KeeperGoesOn (K.view keeper.old) (K.view keeper.new) }
+    ensures handed { HandsOver (K.follows keeper.old keeper.new) }
+{
+    let Ok(answer) = answer(core, shelf, keeper, Ok(Event::Save)) else {
+        return OUT_OF_MEMORY;
+    };
+    match answer {
+        Answer::Saved(_) => ended(bad),
+        _ => SAVING_FAILED,
+    }
+}
+
+/// Answers a script: loads what the keeper holds, writes the settings, and one answer a line, and saves the tree at the
+/// end. What the keeper holds has settings of its own, which win over those that are asked for. An image that breaks a
+/// rule is refused, and stays on the keeper. With fewer stores than servers nothing is read and nothing is written.
 pub fn serve<I: Source, O: Sink, S: SliceStore, K: Keeper>(
     alloc: Global,
     settings: Settings,
@@ -254,26 +308,25 @@ pub fn serve<I: Source, O: Sink, S: SliceStore, K: Keeper>(
     shelf: &mut Shelf<S>,
     keeper: &mut K,
 ) -> u8
-    ensures served { Served S.kind (new_opening settings (K.view keeper.old).held) result
-        (devices (I.view script.old) (O.view out.old) shelf.old)
-        (devices (I.view script.new) (O.view out.new) shelf.new) }
+    ensures served { IsRun S.kind (K.follows keeper.old keeper.new) settings result
+        (devices (I.view script.old) (O.view out.old) shelf.old (K.view keeper.old))
+        (devices (I.view script.new) (O.view out.new) shelf.new (K.view keeper.new)) }
     ensures unread { result ≡ 2 → script.new ≡ script.old }
     ensures unwritten { result ≡ 2 → out.new ≡ out.old }
     ensures untouched { result ≡ 2 → shelf.new ≡ shelf.old }
-    ensures unkept { keeper.new ≡ keeper.old }
+    ensures unkept { result ≡ 2 → K.follows keeper.old keeper.new [] }
+    ensures handed { HandsOver (K.follows keeper.old keeper.new) }
 {
-    if shelf.len() < settings.servers {
-        return WORDS_REFUSED;
-    }
+    let mut core = match open(alloc, settings, out, shelf, keeper) {
+        Ok(core) => core,
+        Err(status) => return status,
+    };
     let Ok(lines) = Lines::new(alloc) else {
         return OUT_OF_MEMORY;
     };
     let mut reader = Reader { alloc, lines };
-    let Ok(mut core) = Core::new(alloc, settings) else {
-        return OUT_OF_MEMORY;
-    };
     let mut text = Vec::new(alloc);
-    let Ok(()) = push_settings(settings, &mut text) else {
+    let Ok(()) = push_settings(&core, &mut text) else {
         return OUT_OF_MEMORY;
     };
     let Ok(()) = write_all(out, text.as_slice()) else {
@@ -291,7 +344,7 @@ pub fn serve<I: Source, O: Sink, S: SliceStore, K: Keeper>(
             &mut text,
         ) {
             Ok(Some(more)) => bad = either(bad, more),
-            Ok(None) => return ended(bad),
+            Ok(None) => return close(&mut core, shelf, keeper, bad),
             Err(stop) => return stop.status(),
         }
     }
