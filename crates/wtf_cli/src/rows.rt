@@ -12,15 +12,18 @@ pub(crate) struct Row {
     pub(crate) lines: &'static str,
     /// How many bytes all stores hold in the end.
     pub(crate) stored: u64,
+    pub(crate) status: u8,
 }
 
 const DEFAULTS: &str = "wtf servers 4 replicas 2 region 65536 number 0\n";
 
 const SMALL_REGIONS: &str = "wtf servers 4 replicas 2 region 64 number 0\n";
 
+const THREE_SERVERS: &str = "wtf servers 3 replicas 2 region 65536 number 0\n";
+
 const TWO_SERVERS: &str = "wtf servers 2 replicas 2 region 65536 number 0\n";
 
-pub(crate) const ROWS: [Row; 19] = [
+pub(crate) const ROWS: [Row; 21] = [
     Row {
         name: "nothing",
         words: "",
@@ -28,6 +31,7 @@ pub(crate) const ROWS: [Row; 19] = [
         text: "",
         lines: "",
         stored: 0,
+        status: 0,
     },
     Row {
         name: "later bytes hide earlier ones",
@@ -42,6 +46,7 @@ c0 try => committed 2
 sys dump /a => data x:616258596566
 ",
         stored: 16,
+        status: 0,
     },
     Row {
         name: "a write across the border of a region",
@@ -59,6 +64,7 @@ c0 read f0 20 => data x:000030313233343536373839
 c0 try => committed 1
 ",
         stored: 20,
+        status: 0,
     },
     Row {
         name: "two appends from one base",
@@ -79,6 +85,7 @@ c0 try => committed 3
 sys dump /a => data x:63646162
 ",
         stored: 8,
+        status: 0,
     },
     Row {
         name: "an append to a region that is full by then",
@@ -101,6 +108,7 @@ c1 stat /a => file 68
 c1 abort => ok
 ",
         stored: 136,
+        status: 0,
     },
     Row {
         name: "a difference that was shown",
@@ -119,6 +127,7 @@ c1 try => committed 2
 c0 commit => aborted 1 file 3
 ",
         stored: 6,
+        status: 0,
     },
     Row {
         name: "the same bytes in another slice",
@@ -136,6 +145,7 @@ c0 create /b => ok
 c0 commit => committed 3
 ",
         stored: 8,
+        status: 0,
     },
     Row {
         name: "the greatest file",
@@ -161,6 +171,7 @@ c0 read f0 4 => data x:0078
 c0 try => committed 1
 ",
         stored: 2,
+        status: 0,
     },
     Row {
         name: "punch and truncate",
@@ -183,6 +194,7 @@ c0 read f0 9 => data x:
 c0 try => committed 2
 ",
         stored: 12,
+        status: 0,
     },
     Row {
         name: "the servers of all copies go down",
@@ -202,6 +214,60 @@ c0 read f0 2 => fault read 1
 sys down 2 => refused noserver
 ",
         stored: 4,
+        status: 5,
+    },
+    Row {
+        name: "servers go down and come up",
+        words: "--servers 3",
+        settings: THREE_SERVERS,
+        text: "",
+        lines: "c0 begin => begun 0
+c0 create /a => ok
+c0 open f0 /a => ok
+sys down 0 => ok
+c0 write f0 t:ab => ok
+c0 seek f0 set 0 => ok
+c0 read f0 2 => data x:6162
+sys down 1 => ok
+c0 write f0 t:c => fault write
+sys save => fault save
+sys down 2 => ok
+c0 seek f0 set 0 => ok
+c0 read f0 2 => fault read 2
+sys up 0 => ok
+sys up 1 => ok
+sys up 2 => ok
+c0 read f0 2 => data x:6162
+c0 try => committed 1
+",
+        stored: 5,
+        status: 0,
+    },
+    Row {
+        name: "a server is down at the end",
+        words: "--servers 3",
+        settings: THREE_SERVERS,
+        text: "",
+        lines: "c0 begin => begun 0
+c0 create /a => ok
+c0 open f0 /a => ok
+sys down 0 => ok
+c0 write f0 t:ab => ok
+c0 seek f0 set 0 => ok
+c0 read f0 2 => data x:6162
+sys down 1 => ok
+c0 write f0 t:c => fault write
+sys save => fault save
+sys down 2 => ok
+c0 seek f0 set 0 => ok
+c0 read f0 2 => fault read 2
+sys up 1 => ok
+sys up 2 => ok
+c0 read f0 2 => data x:6162
+c0 try => committed 1
+",
+        stored: 5,
+        status: 5,
     },
     Row {
         name: "three clients",
@@ -222,6 +288,7 @@ c1 abort => ok
 sys tree => tree d:/ f:/a:0 f:/b:0
 ",
         stored: 0,
+        status: 0,
     },
     Row {
         name: "a refused append whose length counts",
@@ -243,6 +310,7 @@ c1 try => committed 2
 c0 commit => committed 3
 ",
         stored: 0,
+        status: 0,
     },
     Row {
         name: "a refused append that fits by then",
@@ -264,6 +332,7 @@ c1 try => committed 2
 c0 commit => aborted 2 ok
 ",
         stored: 0,
+        status: 0,
     },
     Row {
         name: "a yanked slice whose bytes were not shown",
@@ -284,6 +353,7 @@ c0 commit => committed 3
 sys dump /b => data x:5758595a
 ",
         stored: 16,
+        status: 0,
     },
     Row {
         name: "a yanked slice whose bytes were shown",
@@ -305,6 +375,7 @@ c0 commit => aborted 3 data x:5758595a
 sys dump /b => refused noent
 ",
         stored: 16,
+        status: 0,
     },
     Row {
         name: "names, refusals and empty parts",
@@ -341,6 +412,7 @@ c0 try => committed 2
 sys dump /c => data x:6162616261626162
 ",
         stored: 4,
+        status: 0,
     },
     Row {
         name: "a sharded log",
@@ -369,6 +441,7 @@ sys tree => tree d:/ d:/logs f:/logs/mon:4 f:/logs/tue:2 f:/logs/week:8
 sys dump /logs/week => data x:6d316d3274316d31
 ",
         stored: 12,
+        status: 0,
     },
     Row {
         name: "refusals of the machine",
@@ -384,6 +457,7 @@ sys down 4 => refused noserver
 sys dump / => refused isdir
 ",
         stored: 4,
+        status: 0,
     },
     Row {
         name: "verbs that are left to a later version",
@@ -395,8 +469,8 @@ sys put j0 => notbuilt
 sys scan => notbuilt
 sys piece 64 => notbuilt
 sys collect 0 => notbuilt
-sys save => notbuilt
 ",
         stored: 0,
+        status: 0,
     },
 ];

@@ -1,10 +1,14 @@
 //! Whole runs over devices in memory.
 
-ghost use Rattle.std.specs.Prelude.{◌≡◌, ◌≤◌, [], Some, length, IfOk};
-ghost use Rattle.wtf_cli.specs.Runs.{IsTold, new_opening};
+ghost use Rattle.std.specs.Prelude.{◌≡◌, ◌≤◌, length, IfOk};
+ghost use Rattle.wtf_dev.specs.Memory.{mem_store};
+ghost use Rattle.wtf_replica.specs.Bytes.{byte_at};
+ghost use Rattle.wtf_model.specs.Tree.{root_alone};
+ghost use Rattle.wtf_cli.specs.Endings.{IsTold};
+ghost use Rattle.wtf_cli.specs.Openings.{new_opening};
 ghost use Rattle.wtf_cli.specs.Scripts.{IsEndStatus};
 
-use crate::open_stores;
+use crate::in_folders;
 use crate::program::wtf;
 use crate::rows::{ROWS, Row};
 use crate::service::serve;
@@ -12,7 +16,7 @@ use std::alloc::Global;
 use std::test::Fail;
 use std::{env, fs, process};
 use wtf_base::Settings;
-use wtf_dev::{MemKeeper, MemSink, MemSource, MemStore, Shelf, SliceStore};
+use wtf_dev::{Keeper, MemKeeper, MemSink, MemSource, MemStore, Shelf, SliceStore};
 
 const SCRIPT: &[u8] =
     b"c0 begin\nc0 create /a\nc0 open f0 /a\nc0 write f0 t:abcdef\nc0 seek f0 set 0\nc0 read f0 9\nc0 try\n";
@@ -36,6 +40,27 @@ c0 try => committed 2
 
 /// The settings line alone.
 const FIRST_LINE: &[u8] = b"wtf servers 4 replicas 2 region 65536 number 0\n";
+
+/// The image of an empty store.
+const EMPTY_IMAGE: &[u8] =
+    b"WTFIMG01\x04\x02\x00\x01\x00\x00\x00\x00\x00\x00\x00\x00\x00\x00\x00\x00\x00\x00\x00\x00\x00\x01\x00\x00\x00\x01\x00\x01/\x00\x00\x00\x00\x00";
+
+/// The lines of refused images.
+const REFUSALS: [&[u8]; 4] = [
+    b"image refused 1 notanimage\n",
+    b"image refused 2 badtree\n",
+    b"image refused 3 pointeroutside\n",
+    b"image refused 4 badsettings\n",
+];
+
+/// A run on what one before left.
+const LATER_SCRIPT: &[u8] = b"c0 begin\nc0 stat /a\nc0 try\n";
+
+const AFTER_FIRST: &[u8] =
+    b"wtf servers 4 replicas 2 region 65536 number 1\nbegun 1\nfile 6\ncommitted 2\n";
+
+const LATER_OUTPUT: &[u8] =
+    b"wtf servers 3 replicas 2 region 65536 number 1\nbegun 1\nfile 2\ncommitted 2\n";
 
 /// A write with one of three servers down, one with two of them down, and reads with all down and with all up again.
 const THREE_SCRIPT: &[u8] =
@@ -81,64 +106,91 @@ fn stores(alloc: Global, count: u8, server: u8, call: Option<u64>) -> Result<She
     Ok(Shelf::new(alloc, stores))
 }
 
-/// The status and the output of a run with these words, whose source and sink fail at these calls.
-fn run(
-    alloc: Global,
-    words: &[String],
+/// What a run came to: its status, its output, and what the keeper holds then.
+#[derive(Drop)]
+struct Ended {
+    status: u8,
+    output: Vec<u8>,
+    kept: Vec<u8>,
+}
+
+/// Which call of each device fails.
+#[derive(Clone, Copy)]
+struct Failing {
     source: Option<u64>,
     sink: Option<u64>,
-) -> Result<(u8, Vec<u8>), Fail> {
-    let mut script = MemSource::new(alloc, SCRIPT.to_vec(alloc)?, calls(alloc, source)?);
-    let mut out = MemSink::new(alloc, calls(alloc, sink)?);
-    let mut shelf = stores(alloc, 16, 0, None)?;
-    let mut keeper = MemKeeper::new(alloc, Vec::new(alloc), Vec::new(alloc));
-    let status = wtf(alloc, words, &mut script, &mut out, &mut shelf, &mut keeper);
-    Ok((status, out.taken().to_vec(alloc)?))
+    keeper: Option<u64>,
 }
 
-/// The status and the output of a script over these stores.
-fn run_over(
+const NONE: Failing = Failing {
+    source: None,
+    sink: None,
+    keeper: None,
+};
+
+/// A run over these stores and a keeper that holds these bytes.
+fn run_on(
     alloc: Global,
-    words: &[String],
+    words: &str,
     script: &[u8],
+    failing: Failing,
     shelf: &mut Shelf<MemStore>,
-) -> Result<(u8, Vec<u8>), Fail> {
-    let mut script = MemSource::new(alloc, script.to_vec(alloc)?, Vec::new(alloc));
-    let mut out = MemSink::new(alloc, Vec::new(alloc));
-    let mut keeper = MemKeeper::new(alloc, Vec::new(alloc), Vec::new(alloc));
+    kept: &[u8],
+) -> Result<Ended, Fail> {
+    let words = words_of(alloc, words)?;
+    let mut script = MemSource::new(alloc, script.to_vec(alloc)?, calls(alloc, failing.source)?);
+    let mut out = MemSink::new(alloc, calls(alloc, failing.sink)?);
+    let mut keeper = MemKeeper::new(alloc, kept.to_vec(alloc)?, calls(alloc, failing.keeper)?);
+    let words = words.as_slice();
     let status = wtf(alloc, words, &mut script, &mut out, shelf, &mut keeper);
-    Ok((status, out.taken().to_vec(alloc)?))
+    Ok(Ended {
+        status,
+        output: out.taken().to_vec(alloc)?,
+        kept: keeper.held().to_vec(alloc)?,
+    })
 }
 
-/// The status and the output of a script over these stores. Devices in memory tell what they hold, so a run that reads its
-/// script to its end answers each line as one tree would, on which committed transactions ran whole.
+/// A run of the first script over sixteen empty stores and an empty keeper.
+fn run(alloc: Global, words: &str, failing: Failing) -> Result<Ended, Fail> {
+    let mut shelf = stores(alloc, 16, 0, None)?;
+    run_on(alloc, words, SCRIPT, failing, &mut shelf, &[])
+}
+
+/// A run of a script over these stores and an empty keeper. Devices in memory tell what they hold, so a run that reads its
+/// script to its end answers each line as one tree would, on which committed transactions ran whole; and it leaves the
+/// image of that tree.
 fn answers(
     alloc: Global,
     settings: Settings,
     script: &[u8],
     shelf: &mut Shelf<MemStore>,
-) -> Result<(u8, Vec<u8>), Fail>
-    ensures { IfOk result (λ r. IsEndStatus r.0 →
-        IsTold (new_opening settings (Some [])) script.now r.1.items) }
+) -> Result<Ended, Fail>
+    ensures { IfOk result (λ ended. IsEndStatus ended.status →
+        IsTold (byte_at mem_store shelf.new) (new_opening settings) root_alone script.now
+        ended.output.items ended.kept.items) }
 {
     let mut script = MemSource::new(alloc, script.to_vec(alloc)?, Vec::new(alloc));
     let mut out = MemSink::new(alloc, Vec::new(alloc));
     let mut keeper = MemKeeper::new(alloc, Vec::new(alloc), Vec::new(alloc));
     let status = serve(alloc, settings, &mut script, &mut out, shelf, &mut keeper);
-    Ok((status, out.taken().to_vec(alloc)?))
+    Ok(Ended {
+        status,
+        output: out.taken().to_vec(alloc)?,
+        kept: keeper.held().to_vec(alloc)?,
+    })
 }
 
-/// The same over any stores.
-fn answers_over<S: SliceStore>(
+/// The status and the output of a script over any stores and keeper.
+fn answers_over<S: SliceStore, K: Keeper>(
     alloc: Global,
     settings: Settings,
     script: &[u8],
     shelf: &mut Shelf<S>,
+    keeper: &mut K,
 ) -> Result<(u8, Vec<u8>), Fail> {
     let mut script = MemSource::new(alloc, script.to_vec(alloc)?, Vec::new(alloc));
     let mut out = MemSink::new(alloc, Vec::new(alloc));
-    let mut keeper = MemKeeper::new(alloc, Vec::new(alloc), Vec::new(alloc));
-    let status = serve(alloc, settings, &mut script, &mut out, shelf, &mut keeper);
+    let status = serve(alloc, settings, &mut script, &mut out, shelf, keeper);
     Ok((status, out.taken().to_vec(alloc)?))
 }
 
@@ -175,14 +227,14 @@ fn words_have_their_status(rt: HostRuntime) -> Result<(), Fail> {
         ("--help", 2),
         ("3", 2),
     ] {
-        let words = words_of(alloc, line)?;
-        let (ended, output) = run(alloc, words.as_slice(), None, None)?;
-        assert_eq!(rt; ended, status, "{line}");
-        assert_eq!(rt; output.is_empty(), status == 2, "{line}");
+        let ended = run(alloc, line, NONE)?;
+        assert_eq!(rt; ended.status, status, "{line}");
+        assert_eq!(rt; ended.output.is_empty(), status == 2, "{line}");
+        assert_eq!(rt; ended.kept.is_empty(), status == 2, "{line}");
     }
-    let words = words_of(alloc, "--servers=5 --replicas=3 --region=64")?;
-    let (_, output) = run(alloc, words.as_slice(), None, None)?;
-    assert!(rt; output.starts_with(b"wtf servers 5 replicas 3 region 64 number 0\n".as_slice()));
+    let ended = run(alloc, "--servers=5 --replicas=3 --region=64", NONE)?;
+    let first = b"wtf servers 5 replicas 3 region 64 number 0\n";
+    assert!(rt; ended.output.starts_with(first.as_slice()));
     Ok(())
 }
 
@@ -192,13 +244,14 @@ fn too_few_stores_are_refused(rt: HostRuntime) -> Result<(), Fail> {
     let alloc = rt.alloc();
     let settings = Settings::new(4, 2, 65_536).ok_or("settings")?;
     let mut few = stores(alloc, 3, 0, None)?;
-    let (refused, nothing) = answers(alloc, settings, SCRIPT, &mut few)?;
-    assert_eq!(rt; refused, 2);
-    assert!(rt; nothing.is_empty());
+    let refused = answers(alloc, settings, SCRIPT, &mut few)?;
+    assert_eq!(rt; refused.status, 2);
+    assert!(rt; refused.output.is_empty());
+    assert!(rt; refused.kept.is_empty());
     let mut enough = stores(alloc, 4, 0, None)?;
-    let (ended, output) = answers(alloc, settings, SCRIPT, &mut enough)?;
-    assert_eq!(rt; ended, 0);
-    assert_eq!(rt; output.as_slice(), OUTPUT);
+    let ended = answers(alloc, settings, SCRIPT, &mut enough)?;
+    assert_eq!(rt; ended.status, 0);
+    assert_eq!(rt; ended.output.as_slice(), OUTPUT);
     Ok(())
 }
 
@@ -268,12 +321,16 @@ fn rows_are_answered(rt: HostRuntime) -> Result<(), Fail> {
     let alloc = rt.alloc();
     for row in ROWS.iter() {
         let wanted = wanted_of(alloc, row)?;
-        let words = words_of(alloc, row.words)?;
         let mut shelf = stores(alloc, 16, 0, None)?;
         let script = wanted.script.as_slice();
-        let (status, output) = run_over(alloc, words.as_slice(), script, &mut shelf)?;
-        assert_eq!(rt; output.as_slice(), wanted.output.as_slice(), "{}", row.name);
-        assert_eq!(rt; status, 0, "{}", row.name);
+        let ended = run_on(alloc, row.words, script, NONE, &mut shelf, &[])?;
+        assert_eq!(rt;
+            ended.output.as_slice(),
+            wanted.output.as_slice(),
+            "{}",
+            row.name
+        );
+        assert_eq!(rt; ended.status, row.status, "{}", row.name);
         assert_eq!(rt; stored(&shelf), row.stored, "{}", row.name);
     }
     Ok(())
@@ -298,9 +355,9 @@ fn limits_are_kept(rt: HostRuntime) -> Result<(), Fail> {
     long.output.push(b'\n')?;
     for wanted in [calls, long] {
         let mut shelf = stores(alloc, 16, 0, None)?;
-        let (status, output) = run_over(alloc, &[], wanted.script.as_slice(), &mut shelf)?;
-        assert_eq!(rt; status, 0);
-        assert!(rt; output.as_slice() == wanted.output.as_slice());
+        let ended = run_on(alloc, "", wanted.script.as_slice(), NONE, &mut shelf, &[])?;
+        assert_eq!(rt; ended.status, 0);
+        assert!(rt; ended.output.as_slice() == wanted.output.as_slice());
     }
     Ok(())
 }
@@ -312,14 +369,14 @@ fn scripts_are_answered(rt: HostRuntime) -> Result<(), Fail> {
     for (servers, script, want) in [(4, SCRIPT, OUTPUT), (3, THREE_SCRIPT, THREE_OUTPUT)] {
         let settings = Settings::new(servers, 2, 65_536).ok_or("settings")?;
         let mut shelf = stores(alloc, 16, 0, None)?;
-        let (ended, output) = answers(alloc, settings, script, &mut shelf)?;
-        assert_eq!(rt; ended, 0, "{servers} servers");
-        assert_eq!(rt; output.as_slice(), want, "{servers} servers");
+        let ended = answers(alloc, settings, script, &mut shelf)?;
+        assert_eq!(rt; ended.status, 0, "{servers} servers");
+        assert_eq!(rt; ended.output.as_slice(), want, "{servers} servers");
     }
     Ok(())
 }
 
-/// The same over folders, and over what a run before this one left in them.
+/// The same over folders, where a run after this one goes on with what it left.
 #[test]
 fn scripts_are_answered_over_folders(rt: HostRuntime) -> Result<(), Fail> {
     let alloc = rt.alloc();
@@ -327,12 +384,16 @@ fn scripts_are_answered_over_folders(rt: HostRuntime) -> Result<(), Fail> {
     let id = process::id(rt.process());
     let dir = format!(in alloc; "{}/wtf_cli_{id}", top.as_str())?;
     let _ = fs::remove_dir_all(&rt, dir.as_str());
+    fs::create_dir(&rt, dir.as_str())?;
     let settings = Settings::new(3, 2, 65_536).ok_or("settings")?;
-    for _ in 0..2u8 {
-        let mut shelf = Shelf::new(alloc, open_stores(&rt, dir.as_str())?);
-        let (status, output) = answers_over(alloc, settings, THREE_SCRIPT, &mut shelf)?;
+    for (script, want) in [(THREE_SCRIPT, THREE_OUTPUT), (LATER_SCRIPT, LATER_OUTPUT)] {
+        let Ok(mut opened) = in_folders(&rt, dir.as_str()) else {
+            return Err(Fail::from("folders"));
+        };
+        let shelf = &mut opened.shelf;
+        let (status, output) = answers_over(alloc, settings, script, shelf, &mut opened.keeper)?;
         assert_eq!(rt; status, 0);
-        assert_eq!(rt; output.as_slice(), THREE_OUTPUT);
+        assert_eq!(rt; output.as_slice(), want);
     }
     fs::remove_dir_all(&rt, dir.as_str())?;
     Ok(())
@@ -346,9 +407,9 @@ fn ill_formed_lines_are_told(rt: HostRuntime) -> Result<(), Fail> {
     script.extend_from_slice(vec![in alloc; b'a'; 65_537]?.as_slice())?;
     script.extend_from_slice(BAD_BACK)?;
     let mut shelf = stores(alloc, 4, 0, None)?;
-    let (status, output) = answers(alloc, settings, script.as_slice(), &mut shelf)?;
-    assert_eq!(rt; status, 1);
-    assert_eq!(rt; output.as_slice(), BAD_OUTPUT);
+    let ended = answers(alloc, settings, script.as_slice(), &mut shelf)?;
+    assert_eq!(rt; ended.status, 1);
+    assert_eq!(rt; ended.output.as_slice(), BAD_OUTPUT);
     Ok(())
 }
 
@@ -356,9 +417,10 @@ fn ill_formed_lines_are_told(rt: HostRuntime) -> Result<(), Fail> {
 #[test]
 fn each_read_of_the_script_fails_once(rt: HostRuntime) -> Result<(), Fail> {
     for (call, status, want) in [(0, 3, FIRST_LINE), (1, 3, OUTPUT), (2, 0, OUTPUT)] {
-        let (ended, output) = run(rt.alloc(), &[], Some(call), None)?;
-        assert_eq!(rt; ended, status, "read {call}");
-        assert_eq!(rt; output.as_slice(), want, "read {call}");
+        let source = Some(call);
+        let ended = run(rt.alloc(), "", Failing { source, ..NONE })?;
+        assert_eq!(rt; ended.status, status, "read {call}");
+        assert_eq!(rt; ended.output.as_slice(), want, "read {call}");
     }
     Ok(())
 }
@@ -368,15 +430,18 @@ fn each_read_of_the_script_fails_once(rt: HostRuntime) -> Result<(), Fail> {
 fn each_write_of_an_answer_fails_once(rt: HostRuntime) -> Result<(), Fail> {
     let alloc = rt.alloc();
     for call in 0..8u64 {
-        let (status, output) = run(alloc, &[], None, Some(call))?;
-        assert_eq!(rt; status, 4, "write {call}");
-        let feeds = output.iter().filter(|b| **b == b'\n').count();
+        let sink = Some(call);
+        let ended = run(alloc, "", Failing { sink, ..NONE })?;
+        assert_eq!(rt; ended.status, 4, "write {call}");
+        let feeds = ended.output.iter().filter(|b| **b == b'\n').count();
         assert_eq!(rt; feeds as u64, call, "write {call}");
-        assert!(rt; OUTPUT.starts_with(output.as_slice()), "write {call}");
+        assert!(rt; OUTPUT.starts_with(ended.output.as_slice()), "write {call}");
+        assert!(rt; ended.kept.is_empty(), "write {call}");
     }
-    let (status, output) = run(alloc, &[], None, Some(8))?;
-    assert_eq!(rt; status, 0);
-    assert_eq!(rt; output.as_slice(), OUTPUT);
+    let sink = Some(8);
+    let ended = run(alloc, "", Failing { sink, ..NONE })?;
+    assert_eq!(rt; ended.status, 0);
+    assert_eq!(rt; ended.output.as_slice(), OUTPUT);
     Ok(())
 }
 
@@ -396,42 +461,43 @@ fn was_made(shelf: &mut Shelf<MemStore>, server: u8, call: u64) -> bool {
     true
 }
 
-/// The output of a script over so many servers with two copies of each slice, where the store of one fails at one call;
-/// `None` where that call was not made.
-fn failing(
+/// The status and the output of a script over so many servers with two copies of each slice, where the store of one fails
+/// at one call; `None` where that call was not made.
+fn run_with_fault(
     alloc: Global,
     servers: u8,
     script: &[u8],
     server: u8,
     call: u64,
-) -> Result<Option<Vec<u8>>, Fail> {
+) -> Result<Option<(u8, Vec<u8>)>, Fail> {
     let settings = Settings::new(servers, 2, 65_536).ok_or("settings")?;
     let mut shelf = stores(alloc, 16, server, Some(call))?;
-    let (status, output) = answers(alloc, settings, script, &mut shelf)?;
-    if status != 0 {
-        return Err(Fail::from("status"));
-    }
+    let ended = answers(alloc, settings, script, &mut shelf)?;
     if was_made(&mut shelf, server, call) {
-        return Ok(Some(output));
+        return Ok(Some((ended.status, ended.output)));
     }
     Ok(None)
 }
 
-/// With four servers one store that fails leaves enough for two copies, and the other copy is read in its place.
+/// With four servers one store that fails leaves enough for two copies, and the other copy is read in its place. The last
+/// call of each store is that of the closing save.
 #[test]
 fn each_call_of_a_store_of_four_fails_once(rt: HostRuntime) -> Result<(), Fail> {
+    let mut statuses = 0u8;
     let mut made = 0u8;
     for server in 0..4u8 {
         for call in 0..9u64 {
-            let Some(output) = failing(rt.alloc(), 4, SCRIPT, server, call)? else {
+            let Some((status, output)) = run_with_fault(rt.alloc(), 4, SCRIPT, server, call)? else {
                 break;
             };
             assert_eq!(rt; output.as_slice(), OUTPUT, "call {call} of server {server}");
+            statuses = statuses.saturating_add(status);
             made = made.saturating_add(1);
         }
     }
-    // Two appends and one read.
-    assert_eq!(rt; made, 3);
+    // Two appends, one read, and for each store a sync that ends the run with status 5.
+    assert_eq!(rt; made, 7);
+    assert_eq!(rt; statuses, 20);
     Ok(())
 }
 
@@ -440,11 +506,12 @@ fn each_call_of_a_store_of_four_fails_once(rt: HostRuntime) -> Result<(), Fail> 
 fn each_call_of_a_store_of_three_fails_once(rt: HostRuntime) -> Result<(), Fail> {
     for server in 0..3u8 {
         for call in 0..9u64 {
-            let Some(output) = failing(rt.alloc(), 3, THREE_SCRIPT, server, call)? else {
+            let Some((_, output)) = run_with_fault(rt.alloc(), 3, THREE_SCRIPT, server, call)?
+            else {
                 break;
             };
-            // The first call on a store that is up is the append of the first write.
-            let want = if call == 0 {
+            // Servers 1 and 2 are up in the first write, and an append is the first call of their stores.
+            let want = if call == 0 && server != 0 {
                 THREE_UNWRITTEN
             } else {
                 THREE_OUTPUT
@@ -452,5 +519,104 @@ fn each_call_of_a_store_of_three_fails_once(rt: HostRuntime) -> Result<(), Fail>
             assert_eq!(rt; output.as_slice(), want, "call {call} of server {server}");
         }
     }
+    Ok(())
+}
+
+/// A run leaves its image, and the next one goes on with it, whatever its words ask for.
+#[test]
+fn a_run_goes_on_where_one_ended(rt: HostRuntime) -> Result<(), Fail> {
+    let alloc = rt.alloc();
+    let mut shelf = stores(alloc, 16, 0, None)?;
+    let empty = run_on(alloc, "", &[], NONE, &mut shelf, &[])?;
+    assert_eq!(rt; empty.status, 0);
+    assert_eq!(rt; empty.output.as_slice(), FIRST_LINE);
+    assert_eq!(rt; empty.kept.as_slice(), EMPTY_IMAGE);
+    let first = run_on(alloc, "", SCRIPT, NONE, &mut shelf, empty.kept.as_slice())?;
+    assert_eq!(rt; first.status, 0);
+    assert_eq!(rt; first.output.as_slice(), OUTPUT);
+    let kept = first.kept.as_slice();
+    let later = run_on(alloc, "--region 64", LATER_SCRIPT, NONE, &mut shelf, kept)?;
+    assert_eq!(rt; later.status, 0);
+    assert_eq!(rt; later.output.as_slice(), AFTER_FIRST);
+    let mut few = stores(alloc, 3, 0, None)?;
+    let refused = run_on(alloc, "--servers 3", &[], NONE, &mut few, kept)?;
+    assert_eq!(rt; refused.status, 2);
+    assert!(rt; refused.output.is_empty());
+    Ok(())
+}
+
+/// The load fails, or the replace at the end; the keeper then holds what it held.
+#[test]
+fn each_call_of_the_keeper_fails_once(rt: HostRuntime) -> Result<(), Fail> {
+    let alloc = rt.alloc();
+    for (call, status, output) in [
+        (0, 8, b"".as_slice()),
+        (1, 5, FIRST_LINE),
+        (2, 0, FIRST_LINE),
+    ] {
+        let mut shelf = stores(alloc, 16, 0, None)?;
+        let keeper = Some(call);
+        let failing = Failing { keeper, ..NONE };
+        let ended = run_on(alloc, "", &[], failing, &mut shelf, EMPTY_IMAGE)?;
+        assert_eq!(rt; ended.status, status, "call {call}");
+        assert_eq!(rt; ended.output.as_slice(), output, "call {call}");
+        assert_eq!(rt; ended.kept.as_slice(), EMPTY_IMAGE, "call {call}");
+    }
+    Ok(())
+}
+
+/// Whether a run with an empty script took an image, or refused it and left it.
+fn is_taken_or_left(ended: &Ended, image: &[u8]) -> bool {
+    let output = ended.output.as_slice();
+    match ended.status {
+        0 => output.starts_with(b"wtf servers ") && output.ends_with(b"\n"),
+        6 => REFUSALS.iter().any(|line| *line == output) && ended.kept.as_slice() == image,
+        _ => false,
+    }
+}
+
+/// Each byte of an image is spoiled in turn, and the image ends before each of its bytes.
+#[test]
+fn damaged_images_are_taken_or_refused(rt: HostRuntime) -> Result<(), Fail> {
+    let alloc = rt.alloc();
+    let mut shelf = stores(alloc, 16, 0, None)?;
+    let first = run_on(alloc, "", SCRIPT, NONE, &mut shelf, &[])?;
+    let whole = first.kept.as_slice();
+    for at in 0..whole.len() {
+        let mut spoiled = whole.to_vec(alloc)?;
+        if let Some(byte) = spoiled.get_mut(at) {
+            *byte = 0xff;
+        }
+        let ended = run_on(alloc, "", &[], NONE, &mut shelf, spoiled.as_slice())?;
+        assert!(rt; is_taken_or_left(&ended, spoiled.as_slice()), "byte {at}");
+        let front = &whole[..at];
+        let ended = run_on(alloc, "", &[], NONE, &mut shelf, front)?;
+        assert!(rt; is_taken_or_left(&ended, front), "front of {at}");
+        assert_eq!(rt; ended.status == 6, at > 0, "front of {at}");
+    }
+    Ok(())
+}
+
+/// Each refusal, and its line.
+#[test]
+fn refused_images_are_told(rt: HostRuntime) -> Result<(), Fail> {
+    let alloc = rt.alloc();
+    // The servers, and the kind of what stands at the root, of the image of an empty store, and one byte less.
+    for (at, byte, line) in [(8, 0, REFUSALS[3]), (37, 1, REFUSALS[0])] {
+        let mut shelf = stores(alloc, 16, 0, None)?;
+        let mut image = EMPTY_IMAGE.to_vec(alloc)?;
+        if let Some(place) = image.get_mut(at) {
+            *place = byte;
+        }
+        let ended = run_on(alloc, "", SCRIPT, NONE, &mut shelf, image.as_slice())?;
+        assert_eq!(rt; ended.status, 6);
+        assert_eq!(rt; ended.output.as_slice(), line);
+    }
+    let mut shelf = stores(alloc, 16, 0, None)?;
+    let less = &EMPTY_IMAGE[..41];
+    let ended = run_on(alloc, "", SCRIPT, NONE, &mut shelf, less)?;
+    assert_eq!(rt; ended.status, 6);
+    assert_eq!(rt; ended.output.as_slice(), REFUSALS[0]);
+    assert_eq!(rt; ended.kept.as_slice(), less);
     Ok(())
 }
