@@ -20,7 +20,8 @@ use Rattle.wtf_cli.specs.Unopened.{IsRefusedBy, Refuses}
 
 -- A state that a run can begin with: what it was opened with is the state's, all servers are up, and it stands for the
 -- machine before the first line. There are stores enough, and an image is taken.
-pub record IsReady {S State : Type 0} (engine : Engine S State) (opening : Opening) (shelf : List S) (state : State) : Type 0 where
+pub record IsReady {S State : Type 0} (engine : Engine S State) (opening : Opening) (shelf : List S) (state : State)
+    : Type 0 where
   pub sound : engine.sound shelf state
   pub settings : engine.settings state ≡ opening.settings
   pub number : engine.number state ≡ opening.number
@@ -32,14 +33,16 @@ pub record IsReady {S State : Type 0} (engine : Engine S State) (opening : Openi
   pub taken : IsTakenOver (size_in engine.kind shelf) opening.bytes
 
 -- bytes that a keeper gave open a run, with which this state can begin, where these settings were asked for
-pub record IsOpenedBy {S State : Type 0} (engine : Engine S State) (asked : Settings) (bytes : List ℕ) (shelf : List S) (state : State) : Type 0 where
+pub record IsOpenedBy {S State : Type 0} (engine : Engine S State) (asked : Settings) (bytes : List ℕ) (shelf : List S)
+    (state : State) : Type 0 where
   pub opening : Opening
   pub bytes_are : opening.bytes ≡ bytes
   pub opens : Opens asked opening.bytes opening
   pub ready : IsReady engine opening shelf state
 
 -- the same of what a keeper held, where it tells that
-pub record IsOpenedFrom {S State : Type 0} (engine : Engine S State) (asked : Settings) (keeper : KeeperView) (shelf : List S) (state : State) : Type 0 where
+pub record IsOpenedFrom {S State : Type 0} (engine : Engine S State) (asked : Settings) (keeper : KeeperView) (shelf : List S)
+    (state : State) : Type 0 where
   pub opening : Opening
   pub opens : Opens asked opening.bytes opening
   pub given : (held : List ℕ) → keeper.held ≡ Some held → opening.bytes ≡ held

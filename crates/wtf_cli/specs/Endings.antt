@@ -68,7 +68,8 @@ pub record IsKept (handed : List (List ℕ) → Type 0) (old new : KeeperView) :
 
 -- A run that ended before its first line was written: with few stores, for want of memory, or as the sink failed. Nothing
 -- was read, no store was touched, nothing was handed to the keeper, and only where the sink failed anything was written.
-pub record IsUnstarted {S : Type 0} (handed : List (List ℕ) → Type 0) (status : ℕ) (lines : List (List ℕ)) (old new : Devices S) : Type 0 where
+pub record IsUnstarted {S : Type 0} (handed : List (List ℕ) → Type 0) (status : ℕ) (lines : List (List ℕ))
+    (old new : Devices S) : Type 0 where
   pub status_is : (status ≡ 2) ⊎ (status ≡ 4) ⊎ (status ≡ 7)
   pub none : lines ≡ []
   pub source_is : new.source ≡ old.source
@@ -82,7 +83,8 @@ closing_faults settings status down = if (status == 5) && is_device_fault settin
 
 -- the next line of the script behind these was answered, and the bytes are the image of a tree that the machine may have
 -- saved then
-pub record IsOfNext (told : Told) (m : Machine) (script : Option (List ℕ)) (lines : List (List ℕ)) (bytes : List ℕ) : Type 0 where
+pub record IsOfNext (told : Told) (m : Machine) (script : Option (List ℕ)) (lines : List (List ℕ)) (bytes : List ℕ)
+    : Type 0 where
   pub line : List ℕ
   pub next : (all : List ℕ) → script ≡ Some all → (more : List (List ℕ)) × (lines_of all ≡ lines ++ line ∷ more)
   pub answer : Answer
@@ -92,14 +94,16 @@ pub record IsOfNext (told : Told) (m : Machine) (script : Option (List ℕ)) (li
 -- The bytes that a run leaves on the keeper, by its status: the image of the tree behind all lines; or, where the closing
 -- save failed, also of one that may have been saved before; or, where it ended at once, one of the latter. For want of memory
 -- it may be that of the line for whose answer there was none.
-pub record IsLeft (told : Told) (m : Machine) (script : Option (List ℕ)) (lines : List (List ℕ)) (status : ℕ) (bytes : List ℕ) : Type 0 where
+pub record IsLeft (told : Told) (m : Machine) (script : Option (List ℕ)) (lines : List (List ℕ)) (status : ℕ)
+    (bytes : List ℕ) : Type 0 where
   pub saved : IsEndStatus status → IsImageOfTree told bytes m.now
   pub failed : status ≡ 5 → IsImageOfOne told bytes (m.may_be_saved ++ m.now ∷ [])
   pub early : IsEarlyStatus status → IsImageOfOne told bytes m.may_be_saved
   pub memory : status ≡ 7 → IsImageOfOne told bytes m.may_be_saved ⊎ IsOfNext told m script lines bytes
 
 -- A run that was opened, with the devices before and after it; `handed` says which images were handed to the keeper
-pub record Served {S : Type 0} (kind : StoreKind S) (handed : List (List ℕ) → Type 0) (opening : Opening) (status : ℕ) (old new : Devices S) : Type 0 where
+pub record Served {S : Type 0} (kind : StoreKind S) (handed : List (List ℕ) → Type 0) (opening : Opening) (status : ℕ)
+    (old new : Devices S) : Type 0 where
   -- the lines that were answered, in order, with their answers; and whether the first line of the output was written
   pub log : Log
   pub started : Bool
@@ -122,7 +126,8 @@ pub record Served {S : Type 0} (kind : StoreKind S) (handed : List (List ℕ) �
   -- status 9 comes exactly where more than 1,073,741,824 bytes came
   pub given : old.source.given ≤ 2 ^ 64 - 1 → new.source.given ≡ min (old.source.given + taken) (2 ^ 64 - 1)
   pub limit : (status ≡ 9) ↔ (SCRIPT_BYTES < taken)
-  pub counted : (script left : List ℕ) → old.source.rest ≡ Some script → new.source.rest ≡ Some left → length script ≡ length left + taken
+  pub counted : (script left : List ℕ) → old.source.rest ≡ Some script → new.source.rest ≡ Some left
+      → length script ≡ length left + taken
   -- the statuses, and the causes of 2, 3, 4 and 5
   pub statuses : IsServedStatus status
   -- where all was saved at the end of the script the status is 1 exactly where a line asked nothing
@@ -133,25 +138,30 @@ pub record Served {S : Type 0} (kind : StoreKind S) (handed : List (List ℕ) �
   pub source_cause : status ≡ 3 → Rose old.source.faults new.source.faults
   pub sink_cause : status ≡ 4 → Rose old.sink.faults new.sink.faults
   -- the closing save alone: a server was down, or its store or the keeper failed
-  pub save_cause : status ≡ 5 → IsSaveFault kind (span (last_downs log) mid.shelf new.stock.shelf) opening.settings.servers mid.keeper new.stock.keeper
+  pub save_cause : status ≡ 5
+      → IsSaveFault kind (span (last_downs log) mid.shelf new.stock.shelf) opening.settings.servers mid.keeper new.stock.keeper
   pub source_faults : old.source.faults ≤ new.source.faults
   pub sink_faults : old.sink.faults ≤ new.sink.faults
   -- over the whole run: each fault of a line and of the closing save that only a store or the keeper can have caused raised
   -- a count
   pub faults : RoseBy kind old.stock new.stock
-      (count_along (is_device_fault opening.settings) none_down (asked log) log.answers + closing_faults opening.settings status (last_downs log))
+      (count_along (is_device_fault opening.settings) none_down (asked log) log.answers
+      + closing_faults opening.settings status (last_downs log))
   pub faults_of_run : opening.bytes ≡ [] → RoseBy kind old.stock new.stock
-      (count_along (is_device_fault_of_run opening.settings) none_down (asked log) log.answers + closing_faults opening.settings status (last_downs log))
+      (count_along (is_device_fault_of_run opening.settings) none_down (asked log) log.answers
+      + closing_faults opening.settings status (last_downs log))
   -- nothing is punched
   pub follows_on : EachFollows kind old.stock.shelf new.stock.shelf []
   -- where there are stores enough, no device failed, and no server was down at any line or at the end, no line answers a
   -- fault, and the status is 0, 1, 7 or 9
-  pub complete : opening.settings.servers ≤ length old.stock.shelf → AreStill kind old new → AlongDowns IsAllUp none_down (asked log) log.answers
-      → ((k : ℕ) → last_downs log k ≡ false) → (fault_count log.answers ≡ 0) × (IsEndStatus status ⊎ (status ≡ 7) ⊎ (status ≡ 9))
+  pub complete : opening.settings.servers ≤ length old.stock.shelf → AreStill kind old new
+      → AlongDowns IsAllUp none_down (asked log) log.answers → ((k : ℕ) → last_downs log k ≡ false)
+      → (fault_count log.answers ≡ 0) × (IsEndStatus status ⊎ (status ≡ 7) ⊎ (status ≡ 9))
   -- Where stores and keeper tell, and the numbers of the image leave room for the script's, the run leaves on the keeper the
   -- image of what the lines made of the tree that it started from.
   pub left : started ≡ true → TellsAll kind old.stock.shelf → IsTelling old.stock.keeper opening.bytes
-      → opening.number ≤ 2 ^ 61 → opening.next_tx ≤ 2 ^ 61 → (t : Tree) → StartsFrom (byte_at kind old.stock.shelf) opening.bytes t
+      → opening.number ≤ 2 ^ 61 → opening.next_tx ≤ 2 ^ 61
+      → (t : Tree) → StartsFrom (byte_at kind old.stock.shelf) opening.bytes t
       → (bytes : List ℕ) → new.stock.keeper.held ≡ Some bytes
       → IsLeft (byte_at kind new.stock.shelf) (last opening t log) old.source.rest log.lines status bytes
 

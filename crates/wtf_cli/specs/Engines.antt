@@ -61,15 +61,17 @@ pub record GoesOn {S State : Type 0} (engine : Engine S State) (t : Step S State
 -- the state stood for a machine: the machine may give that answer, and the state stands for its next; and a keeper that tells
 -- what it is handed, and held the image of a tree that the machine may have saved, does so behind the line, as long as an image
 -- has room for the numbers
-pub record IsLawful {S State : Type 0} (engine : Engine S State) (t : Step S State) (m : Machine) (line : Line) (a : Answer) : Type 0 where
+pub record IsLawful {S State : Type 0} (engine : Engine S State) (t : Step S State) (m : Machine) (line : Line) (a : Answer)
+    : Type 0 where
   pub stands : engine.stands t.after.shelf t.new (after_line m line a)
   pub may : MayLine m line a
-  pub saved : t.before.keeper.tells ≡ true → engine.number t.old ≤ 2 ^ 62 → engine.next_tx t.old ≤ 2 ^ 62 → HoldsOneOf engine.kind t.before m.may_be_saved
-      → HoldsOneOf engine.kind t.after (after_line m line a).may_be_saved
+  pub saved : t.before.keeper.tells ≡ true → engine.number t.old ≤ 2 ^ 62 → engine.next_tx t.old ≤ 2 ^ 62
+      → HoldsOneOf engine.kind t.before m.may_be_saved → HoldsOneOf engine.kind t.after (after_line m line a).may_be_saved
 
 -- the same of each machine that the state stands for, where the stores tell their content
 abbrev pub Obeys : {S State : Type 0} → Engine S State → Step S State → Line → Answer → Type 0
-Obeys engine t line a = TellsAll engine.kind t.before.shelf → (m : Machine) → engine.stands t.before.shelf t.old m → IsLawful engine t m line a
+Obeys engine t line a =
+    TellsAll engine.kind t.before.shelf → (m : Machine) → engine.stands t.before.shelf t.old m → IsLawful engine t m line a
 
 -- the stores grew by what the line writes
 abbrev pub Stores : {S State : Type 0} → Engine S State → Step S State → Line → Answer → Type 0
@@ -77,18 +79,21 @@ Stores engine t line a = AddsBytes engine.kind (span_of engine t) (engine.settin
 
 -- a save may have failed in a line that is one
 abbrev pub IsSaveFailure : {S State : Type 0} → Engine S State → Step S State → Line → Type 0
-IsSaveFailure engine t (Ok e) = SaveFault engine.kind (span_of engine t) (engine.settings t.old) (Rose t.before.keeper.faults t.after.keeper.faults) e
+IsSaveFailure engine t (Ok e) =
+    SaveFault engine.kind (span_of engine t) (engine.settings t.old) (Rose t.before.keeper.faults t.after.keeper.faults) e
 IsSaveFailure engine t (Err bad) = ⊥
 
 -- a fault has its cause in this very line
 abbrev pub IsCaused : {S State : Type 0} → Engine S State → Step S State → Line → Answer → Type 0
 IsCaused engine t line a =
-    HasCause engine.kind (span_of engine t) (engine.settings t.old) (IsSaveFailure engine t line) (engine.full t.old) (line_data line) a
+    HasCause engine.kind (span_of engine t) (engine.settings t.old) (IsSaveFailure engine t line) (engine.full t.old)
+    (line_data line) a
 
 -- what a save leaves on the keeper: an image, or there is a cause why it failed
 abbrev pub Saves : {S State : Type 0} → Engine S State → Step S State → Answer → Type 0
 Saves engine t (answer.Saved n) = HoldsSome t.before.keeper t.after.keeper
-Saves engine t answer.FaultSave = IsSaveFault engine.kind (span_of engine t) (engine.settings t.old).servers t.before.keeper t.after.keeper
+Saves engine t answer.FaultSave =
+    IsSaveFault engine.kind (span_of engine t) (engine.settings t.old).servers t.before.keeper t.after.keeper
 Saves engine t a = ⊥
 
 abbrev pub is_save_event : Event → Bool

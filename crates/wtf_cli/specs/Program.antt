@@ -14,7 +14,8 @@ use Rattle.wtf_cli.specs.Endings.{Devices}
 use Rattle.wtf_cli.specs.Unopened.{IsRun, IsRunStatus}
 
 -- a whole run over the servers and copies that were asked for
-pub record IsRunOf {S : Type 0} (kind : StoreKind S) (handed : List (List ℕ) → Type 0) (asked : Numbers) (status : ℕ) (old new : Devices S) : Type 0 where
+pub record IsRunOf {S : Type 0} (kind : StoreKind S) (handed : List (List ℕ) → Type 0) (asked : Numbers) (status : ℕ)
+    (old new : Devices S) : Type 0 where
   pub settings : Settings
   pub asked_is : numbers settings ≡ asked
   pub run : IsRun kind handed settings status old new
@@ -27,7 +28,8 @@ IsUntouched handed old new = (new ≡ old) × handed []
 -- comes before they are read
 abbrev pub IsProgramRun : {S : Type 0} → StoreKind S → (List (List ℕ) → Type 0) → Option Numbers → ℕ → Devices S → Devices S → Type 0
 IsProgramRun kind handed None status old new = ((status ≡ 2) ⊎ (status ≡ 7)) × IsUntouched handed old new
-IsProgramRun kind handed (Some asked) status old new = ((status ≡ 7) × IsUntouched handed old new) ⊎ IsRunOf kind handed asked status old new
+IsProgramRun kind handed (Some asked) status old new =
+    ((status ≡ 7) × IsUntouched handed old new) ⊎ IsRunOf kind handed asked status old new
 
 -- an image whose settings have more servers than there are stores
 pub record HasManyServers (bytes : List ℕ) (stores : ℕ) : Type 0 where

@@ -25,7 +25,8 @@ faults_in kind s = all_faults kind s.shelf + s.keeper.faults
 -- no count of faults stands at its type's end
 abbrev pub AreCounting : {S : Type 0} → StoreKind S → Stock S → Type 0
 AreCounting {S} kind s =
-    ((k : ℕ) (d : S) → k < length s.shelf → (kind.view (slice_index_or s.shelf k d)).faults < 2 ^ 64 - 1) × (s.keeper.faults < 2 ^ 64 - 1)
+    ((k : ℕ) (d : S) → k < length s.shelf → (kind.view (slice_index_or s.shelf k d)).faults < 2 ^ 64 - 1)
+    × (s.keeper.faults < 2 ^ 64 - 1)
 
 -- the counts of faults rose by n, unless one of them stands at its type's end
 abbrev pub RoseBy : {S : Type 0} → StoreKind S → Stock S → Stock S → ℕ → Type 0

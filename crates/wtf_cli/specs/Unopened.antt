@@ -65,14 +65,16 @@ IsWhy kind status old new =
     ⊎ HasRefused kind status old new
 
 -- A run that was not opened: nothing was read, no store was touched, and nothing was handed to the keeper.
-pub record IsUnopened {S : Type 0} (kind : StoreKind S) (handed : List (List ℕ) → Type 0) (status : ℕ) (old new : Devices S) : Type 0 where
+pub record IsUnopened {S : Type 0} (kind : StoreKind S) (handed : List (List ℕ) → Type 0) (status : ℕ)
+    (old new : Devices S) : Type 0 where
   pub why : IsWhy kind status old new
   pub source_is : new.source ≡ old.source
   pub shelf_is : new.stock.shelf ≡ old.stock.shelf
   pub kept : IsKept handed old.stock.keeper new.stock.keeper
 
 -- A run that was opened by what the keeper gave, which is what it held where it tells that
-pub record IsOpened {S : Type 0} (kind : StoreKind S) (handed : List (List ℕ) → Type 0) (settings : Settings) (status : ℕ) (old new : Devices S) : Type 0 where
+pub record IsOpened {S : Type 0} (kind : StoreKind S) (handed : List (List ℕ) → Type 0) (settings : Settings) (status : ℕ)
+    (old new : Devices S) : Type 0 where
   pub opening : Opening
   pub opens : Opens settings opening.bytes opening
   pub given : (held : List ℕ) → old.stock.keeper.held ≡ Some held → opening.bytes ≡ held

@@ -135,7 +135,8 @@ pub(crate) fn open<O: Sink, S: SliceStore, K: Keeper>(
         IsRun S.kind (K.follows keeper.old keeper.new) settings status
         (devices source (O.view out.old) shelf.now (K.view keeper.old))
         (devices source (O.view out.new) shelf.now (K.view keeper.new))) }
-    ensures kept { IsKept (K.follows keeper.old keeper.new) (K.view keeper.old) (K.view keeper.new) }
+    ensures kept { IsKept (K.follows keeper.old keeper.new) (K.view keeper.old)
+        (K.view keeper.new) }
     ensures unwritten { OnOk result (out.new ≡ out.old) }
     ensures refused { result ≡ Err 2 → out.new ≡ out.old }
 {
