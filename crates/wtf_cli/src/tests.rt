@@ -56,6 +56,10 @@ const REFUSALS: [&[u8]; 4] = [
 /// A run on what one before left.
 const LATER_SCRIPT: &[u8] = b"c0 begin\nc0 stat /a\nc0 try\n";
 
+/// Files in a directory, one of which is joined of the others.
+const LOG_SCRIPT: &[u8] =
+    b"c0 begin\nc0 mkdir /logs\nc0 create /logs/mon\nc0 create /logs/tue\nc0 open f0 /logs/mon\nc0 write f0 t:m1m2\nc0 open f1 /logs/tue\nc0 write f1 t:t1\nc0 try\nc1 begin\nc1 concat /logs/week /logs/mon /logs/tue\nc1 open f0 /logs/week\nc1 yank f0 2 s0\nc1 glue f0 s0\nc1 cut s0 1 1 s1\nc1 peek s1 0 1\nc1 rmdir /logs\nc1 try\nsys tree\nsys dump /logs/week\n";
+
 const AFTER_FIRST: &[u8] =
     b"wtf servers 4 replicas 2 region 65536 number 1\nbegun 1\nfile 6\ncommitted 2\n";
 
@@ -580,7 +584,7 @@ fn is_taken_or_left(ended: &Ended, image: &[u8]) -> bool {
 fn damaged_images_are_taken_or_refused(rt: HostRuntime) -> Result<(), Fail> {
     let alloc = rt.alloc();
     let mut shelf = stores(alloc, 16, 0, None)?;
-    let first = run_on(alloc, "", SCRIPT, NONE, &mut shelf, &[])?;
+    let first = run_on(alloc, "", LOG_SCRIPT, NONE, &mut shelf, &[])?;
     let whole = first.kept.as_slice();
     for at in 0..whole.len() {
         let mut spoiled = whole.to_vec(alloc)?;
