@@ -23,6 +23,22 @@ pub IsRunIn-push : (lo x z : ℕ) (es : List Entry) (e : Entry) → x ≤ e.off 
 IsRunIn-push lo x z [] e from to run = (omega arith, to)
 IsRunIn-push lo x z (f ∷ es) e from to run = (run.0, IsRunIn-push (f.off + f.len) x z es e from to run.1)
 
+-- a run, and one that begins where it ends or later
+pub IsRunIn-append : (lo x hi : ℕ) (es fs : List Entry) → IsRunIn lo x es → IsRunIn x hi fs → IsRunIn lo hi (es ++ fs)
+IsRunIn-append lo x hi [] fs front back = IsRunIn-lower lo x hi fs front back
+IsRunIn-append lo x hi (e ∷ es) fs front back = (front.0, IsRunIn-append (e.off + e.len) x hi es fs front.1 back)
+
+-- what comes after the first entries
+pub IsRunIn-back : (lo hi : ℕ) (es fs : List Entry) → IsRunIn lo hi (es ++ fs) → IsRunIn lo hi fs
+IsRunIn-back lo hi [] fs run = run
+IsRunIn-back lo hi (e ∷ es) fs run =
+    IsRunIn-lower lo (e.off + e.len) hi fs (omega (arith, run.0)) (IsRunIn-back (e.off + e.len) hi es fs run.1)
+
+-- a run ends where its last entry does
+pub IsRunIn-last : (lo hi : ℕ) (es : List Entry) (e : Entry) → IsRunIn lo hi (es ++ e ∷ []) → IsRunIn lo (e.off + e.len) (es ++ e ∷ [])
+IsRunIn-last lo hi [] e run = (run.0, omega arith)
+IsRunIn-last lo hi (d ∷ es) e run = (run.0, IsRunIn-last (d.off + d.len) hi es e run.1)
+
 -- before its start a run shows what is below it
 pub run_before : (lo hi : ℕ) (es : List Entry) (b : List Place) (y : ℕ) → IsRunIn lo hi es → y < lo → origin_from b es y ≡ b
 run_before lo hi [] b y run h = refl

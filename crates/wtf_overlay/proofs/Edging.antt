@@ -11,6 +11,14 @@ pub EdgesIn-push : (p : ℕ → Bool) (es : List Entry) (e : Entry) → EdgesIn 
 EdgesIn-push p [] e edges start stop = (start, stop, edges)
 EdgesIn-push p (f ∷ es) e edges start stop = (edges.0, edges.1, EdgesIn-push p es e edges.2 start stop)
 
+EdgesIn-append : (p : ℕ → Bool) (es fs : List Entry) → EdgesIn p es → EdgesIn p fs → EdgesIn p (es ++ fs)
+EdgesIn-append p [] fs front back = back
+EdgesIn-append p (e ∷ es) fs front back = (front.0, front.1, EdgesIn-append p es fs front.2 back)
+
+-- a list that is one and then the other
+pub EdgesIn-joined : (p : ℕ → Bool) (es fs all : List Entry) → all ≡ es ++ fs → EdgesIn p es → EdgesIn p fs → EdgesIn p all
+EdgesIn-joined p es fs all is front back = rw is (EdgesIn-append p es fs front back)
+
 -- a part of an entry from x on begins at an edge
 start_edge : (p : ℕ → Bool) (e : Entry) (x s : ℕ) → p e.off ≡ true → (p x ≡ true) ⊎ (x ≡ 0) → s ≡ max x e.off → p s ≡ true
 start_edge p e x s off at is = elim (cases_lt e.off x) [

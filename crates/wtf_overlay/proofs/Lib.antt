@@ -9,6 +9,7 @@ mod Dropping
 mod Edging
 mod Stacking
 mod Standing
+mod Tailing
 mod Joining
 mod Compacts
 mod Wholes

@@ -1,10 +1,12 @@
--- What one run laid over another shows, where an entry of the newer one is next.
-use Rattle.std.proofs.Common.{◌≡◌, ℕ, ◌+◌, ◌-◌, ◌<◌, ◌≤◌, List, [], ◌∷◌, sym, ◌∙◌, arith, inl, inr}
+-- What one run laid over another shows: where an entry of the newer one is next, and where one ends before the
+-- other begins.
+use Rattle.std.proofs.Common.{◌≡◌, ℕ, ◌+◌, ◌-◌, ◌<◌, ◌≤◌, ◌++◌, List, [], ◌∷◌, refl, ap, sym, ◌∙◌, arith, inl, inr}
 use Rattle.std.proofs.lemmas.Bool.{cases_lt}
 use Rattle.wtf_overlay.specs.declared.part.Entry.{Entry}
-use Rattle.wtf_overlay.specs.Origin.{Place, part_origin, origin_from}
+use Rattle.wtf_overlay.specs.Origin.{Place, part_origin, over, origin_from}
 use Rattle.wtf_overlay.specs.Runs.{IsRunIn, laid_over, Shows, Built, SameFrom, Tells}
-use Rattle.wtf_overlay.proofs.Building.{run_before, run_after, run_first}
+use Rattle.wtf_overlay.proofs.Origins.{origin_from-append, over_after}
+use Rattle.wtf_overlay.proofs.Building.{IsRunIn-append, IsRunIn-back, IsRunIn-last, run_before, run_after, run_first}
 
 -- before its start the older one shows
 pub both_before : (hi x : ℕ) (newer older rest after : List Entry) (e : Entry)
@@ -31,3 +33,36 @@ both_shown hi newer older out new old built = λ b y. elim (cases_lt y hi) [
   | inr g ↦ run_after 0 hi out b y built.run g
       ∙ sym (run_after 0 hi newer (origin_from b older y) y new g ∙ run_after 0 hi older b y old g)
 ]
+
+-- two runs of which one ends before the other begins
+pub run_joined : (hi : ℕ) (first second before after : List Entry) (last next : Entry) → first ≡ before ++ last ∷ [] → second ≡ next ∷ after
+    → IsRunIn 0 hi first → IsRunIn 0 hi second → last.off + last.len ≤ next.off → IsRunIn 0 hi (first ++ second)
+run_joined hi first second before after last next ends begins one two apart =
+    let front = IsRunIn-last 0 hi before last (rw ends at one) in
+    let back = rw begins at two in
+    rw (ends, begins) (IsRunIn-append 0 (last.off + last.len) hi (before ++ last ∷ []) (next ∷ after) front (apart, back.1))
+
+-- an entry that ends before a run begins may be laid before it or after it
+over_apart : (hi : ℕ) (e : Entry) (es : List Entry) (b : List Place) (y : ℕ) → IsRunIn (e.off + e.len) hi es
+    → origin_from (over e y b) es y ≡ over e y (origin_from b es y)
+over_apart hi e es b y run = elim (cases_lt y (e.off + e.len)) [
+  | inl l ↦ run_before (e.off + e.len) hi es (over e y b) y run l ∙ sym (ap (over e y) (run_before (e.off + e.len) hi es b y run l))
+  | inr g ↦ ap (λ c. origin_from c es y) (over_after e y b g) ∙ sym (over_after e y (origin_from b es y) g)
+]
+
+-- the first entries of a run may be laid before the others or after them
+pub either_first : (lo hi : ℕ) (first second : List Entry) (b : List Place) (y : ℕ) → IsRunIn lo hi (first ++ second)
+    → origin_from (origin_from b first y) second y ≡ origin_from (origin_from b second y) first y
+either_first lo hi [] second b y run = refl
+either_first lo hi (e ∷ first) second b y run =
+    either_first (e.off + e.len) hi first second (over e y b) y run.1
+    ∙ ap (λ c. origin_from c first y) (over_apart hi e second b y (IsRunIn-back (e.off + e.len) hi first second run.1))
+
+-- the older run with the newer one after it shows the newer one over it
+pub older_first : (newer older all : List Entry) → all ≡ older ++ newer → Shows all (laid_over newer older)
+older_first newer older all is = λ b y. ap (λ es. origin_from b es y) is ∙ origin_from-append b older newer y
+
+-- and so does the newer one with the older one after it, where they are a run
+pub newer_first : (hi : ℕ) (newer older all : List Entry) → all ≡ newer ++ older → IsRunIn 0 hi (newer ++ older) → Shows all (laid_over newer older)
+newer_first hi newer older all is run = λ b y.
+    ap (λ es. origin_from b es y) is ∙ origin_from-append b newer older y ∙ either_first 0 hi newer older b y run

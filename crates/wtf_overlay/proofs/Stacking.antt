@@ -3,8 +3,8 @@ use Rattle.std.proofs.Common.{◌≡◌, ℕ, Bool, true, ◌<◌, ◌≤◌, Li
 use Rattle.std.specs.Rc.{rc_slice_items}
 use Rattle.std.specs.List.{AllZip}
 use Rattle.wtf_overlay.specs.declared.part.Entry.{Entry}
-use Rattle.wtf_overlay.specs.Origin.{Place, over, origin_from}
-use Rattle.wtf_overlay.specs.Runs.{IsRun, Shows}
+use Rattle.wtf_overlay.specs.Origin.{Place, origin_from}
+use Rattle.wtf_overlay.specs.Runs.{IsRun}
 use Rattle.wtf_overlay.specs.Edges.{EdgesIn, is_edge}
 use Rattle.wtf_overlay.specs.Stacks.{Shared, stack, AreRuns, EdgesOf, StandFor}
 
@@ -85,11 +85,13 @@ EdgesOf-alike p [] (q ∷ qs) alike all = absurd alike
 EdgesOf-alike p (r ∷ rs) [] alike all = absurd alike
 EdgesOf-alike p (r ∷ rs) (q ∷ qs) alike all = (subst (λ es. EdgesIn p es) (sym alike.0) all.0, EdgesOf-alike p rs qs alike.1 all.1)
 
-pub StandFor-alike : (es : List Entry) (rs qs : List Shared) → AllZip (λ r q. rc_slice_items q ≡ rc_slice_items r) rs qs → StandFor es rs → StandFor es qs
-StandFor-alike es rs qs alike old = record {
+pub StandFor-alike : (es tail : List Entry) (rs qs : List Shared) → AllZip (λ r q. rc_slice_items q ≡ rc_slice_items r) rs qs
+    → StandFor es rs tail → StandFor es qs tail
+StandFor-alike es tail rs qs alike old = record {
   runs = AreRuns-alike rs qs alike old.runs;
-  shows = λ b y. stack-alike rs qs b y alike ∙ old.shows b y;
+  shows = λ b y. ap (λ below. origin_from below tail y) (stack-alike rs qs b y alike) ∙ old.shows b y;
   edges = EdgesOf-alike (is_edge es) rs qs alike old.edges;
+  tail_edges = old.tail_edges;
 }
 
 -- the newest runs down to the one at n, which was read, where `all` shows those after it

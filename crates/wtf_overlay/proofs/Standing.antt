@@ -1,14 +1,16 @@
--- An entry more on a list and on the runs that stand for it.
-use Rattle.std.proofs.Common.{◌≡◌, ℕ, ◌+◌, ◌++◌, Bool, true, false, ◌||◌, List, [], ◌∷◌, ◌∙◌, ap, sym, refl, take, drop, nat_eq, inl, inr}
+-- An entry more on a list and on its tail, and the tail merged into the runs.
+use Rattle.std.proofs.Common.{◌≡◌, ℕ, ◌+◌, ◌^◌, ◌++◌, Bool, true, false, ◌||◌, List, [], ◌∷◌, ◌∙◌, ap, sym, refl, take, drop, nat_eq, inl, inr}
 use Rattle.std.specs.Rc.{rc_slice_items}
 use Rattle.std.proofs.lemmas.Bool.{or_left, or_right, or_cases, eq-eqb}
 use Rattle.wtf_overlay.specs.declared.part.Entry.{Entry}
-use Rattle.wtf_overlay.specs.Origin.{over}
-use Rattle.wtf_overlay.specs.Runs.{IsRun, Shows}
+use Rattle.wtf_overlay.specs.Origin.{over, origin_from}
+use Rattle.wtf_overlay.specs.Runs.{IsRun, Shows, SameWithin}
 use Rattle.wtf_overlay.specs.Edges.{EdgesIn, is_edge}
-use Rattle.wtf_overlay.specs.Stacks.{Shared, stack, AreRuns, EdgesOf, StandFor}
+use Rattle.wtf_overlay.specs.Stacks.{Shared, stack, EdgesOf, StandFor}
 use Rattle.wtf_overlay.proofs.Origins.{origin_from-push}
-use Rattle.wtf_overlay.proofs.Stacking.{stack-append, stack_split, AreRuns-take, AreRuns-push, EdgesOf-take, EdgesOf-push, EdgesOf-weaker}
+use Rattle.wtf_overlay.proofs.Stacking.{stack-append, stack_split, AreRuns-take, AreRuns-push, EdgesOf-take, EdgesOf-push, EdgesOf-weaker, EdgesIn-weaker}
+use Rattle.wtf_overlay.proofs.Edging.{EdgesIn-push}
+use Rattle.wtf_overlay.proofs.Wholes.{same_all}
 
 or_more : (a b c d : Bool) → (c ≡ true → d ≡ true) → (a || (b || c)) ≡ true → (a || (b || d)) ≡ true
 or_more a b c d more h = elim (or_cases a (b || c) h) [
@@ -36,18 +38,30 @@ starts e = or_left (nat_eq e.off e.off) (nat_eq (e.off + e.len) e.off || false) 
 ends : (e : Entry) → is_edge (e ∷ []) (e.off + e.len) ≡ true
 ends e = let x = e.off + e.len in or_right (nat_eq e.off x) (nat_eq x x || false) (or_left (nat_eq x x) false (eq-eqb x x refl))
 
--- the runs from n on replaced by one that shows what they show under e
-pub StandFor-push : (es : List Entry) (e : Entry) (rs : List Shared) (n : ℕ) (top : Shared) → StandFor es rs
-    → IsRun (rc_slice_items top) → Shows (rc_slice_items top) (λ b y. over e y (stack (drop n rs) b y))
-    → ((p : ℕ → Bool) → EdgesIn p (e ∷ []) → EdgesOf p rs → EdgesIn p (rc_slice_items top))
-    → StandFor (es ++ e ∷ []) (take n rs ++ top ∷ [])
-StandFor-push es e rs n top old run shows edges =
+-- a list whose tail gets the entry too
+pub StandFor-push : (es tail : List Entry) (e : Entry) (rs : List Shared) → StandFor es rs tail → StandFor (es ++ e ∷ []) rs (tail ++ e ∷ [])
+StandFor-push es tail e rs old =
     let p = is_edge (es ++ e ∷ []) in
-    let all : EdgesOf p rs = EdgesOf-weaker (is_edge es) p rs (edge_more es e) old.edges in
-    let own : EdgesIn p (e ∷ []) = (edge_last es e e.off (starts e), edge_last es e (e.off + e.len) (ends e), tt) in
+    record {
+      runs = old.runs;
+      shows = λ b y. origin_from-push (stack rs b y) tail e y ∙ ap (over e y) (old.shows b y) ∙ sym (origin_from-push b es e y);
+      edges = EdgesOf-weaker (is_edge es) p rs (edge_more es e) old.edges;
+      tail_edges = EdgesIn-push p tail e (EdgesIn-weaker (is_edge es) p tail (edge_more es e) old.tail_edges)
+          (edge_last es e e.off (starts e)) (edge_last es e (e.off + e.len) (ends e));
+    }
+
+-- the runs from n on and the tail replaced by one run that shows what they show
+pub StandFor-fold : (es tail newest : List Entry) (rs : List Shared) (n : ℕ) (top : Shared) → StandFor es rs tail
+    → SameWithin 0 (2 ^ 32) tail newest → ((p : ℕ → Bool) → EdgesIn p tail → EdgesIn p newest)
+    → IsRun (rc_slice_items top) → Shows (rc_slice_items top) (λ b y. origin_from (stack (drop n rs) b y) newest y)
+    → ((p : ℕ → Bool) → EdgesIn p newest → EdgesOf p rs → EdgesIn p (rc_slice_items top))
+    → StandFor es (take n rs ++ top ∷ []) []
+StandFor-fold es tail newest rs n top old same laid run shows edges =
+    let p = is_edge es in
     record {
       runs = AreRuns-push (take n rs) top (AreRuns-take rs n old.runs) run;
       shows = λ b y. stack-append (take n rs) (top ∷ []) b y ∙ shows (stack (take n rs) b y) y
-          ∙ ap (over e y) (stack_split rs n b y ∙ old.shows b y) ∙ sym (origin_from-push b es e y);
-      edges = EdgesOf-push p (take n rs) top (EdgesOf-take p rs n all) (edges p own all);
+          ∙ ap (λ below. origin_from below newest y) (stack_split rs n b y) ∙ sym (same_all tail newest same (stack rs b y) y) ∙ old.shows b y;
+      edges = EdgesOf-push p (take n rs) top (EdgesOf-take p rs n old.edges) (edges p (laid p old.tail_edges) old.edges);
+      tail_edges = tt;
     }

@@ -1,13 +1,13 @@
 -- Single runs: how far they reach, how many entries they have, and that they stand for themselves.
-use Rattle.std.proofs.Common.{◌≡◌, ℕ, ◌+◌, ◌*◌, ◌<◌, ◌≤◌, ◌^◌, ◌++◌, ◌||◌, true, false, Bool, List, [], ◌∷◌, refl, ap, sym, subst, ◌∙◌, arith, length, nat_eq}
+use Rattle.std.proofs.Common.{◌≡◌, ℕ, ◌+◌, ◌*◌, ◌<◌, ◌≤◌, ◌^◌, ◌++◌, ◌||◌, List, [], ◌∷◌, refl, ap, sym, subst, ◌∙◌, arith, length, nat_eq, inl, inr}
 use Rattle.std.specs.Rc.{rc_slice_items}
-use Rattle.std.proofs.lemmas.Bool.{or_left, or_right, eq-eqb}
+use Rattle.std.proofs.lemmas.Bool.{or_left, or_right, eq-eqb, cases_lt}
 use Rattle.std.proofs.lemmas.List.Elements.{All-push, All-cons}
 use Rattle.wtf_overlay.specs.declared.part.Entry.{Entry}
-use Rattle.wtf_overlay.specs.Origin.{Place, origin_from, origin}
+use Rattle.wtf_overlay.specs.Origin.{Place, origin_from}
 use Rattle.wtf_overlay.specs.Clips.{Within}
 use Rattle.wtf_overlay.specs.Borders.{borders_above}
-use Rattle.wtf_overlay.specs.Runs.{IsRunIn, IsRun}
+use Rattle.wtf_overlay.specs.Runs.{IsRunIn, IsRun, SameWithin}
 use Rattle.wtf_overlay.specs.Edges.{EdgesIn, is_edge}
 use Rattle.wtf_overlay.specs.Stacks.{Shared, StandFor}
 use Rattle.wtf_overlay.proofs.Origins.{over_after}
@@ -39,6 +39,13 @@ fits_past b (e ∷ es) x past =
     let fits : e.off + e.len < 2 ^ 32 = e.fits in
     ap (λ w. origin_from w es x) (over_after e x b (omega arith)) ∙ fits_past b es x past
 
+-- lists that show the same up to the last place show the same
+pub same_all : (es rs : List Entry) → SameWithin 0 (2 ^ 32) es rs → (b : List Place) (y : ℕ) → origin_from b es y ≡ origin_from b rs y
+same_all es rs same b y = elim (cases_lt y (2 ^ 32)) [
+  | inl l ↦ same b y (omega arith) l
+  | inr g ↦ fits_past b es y g ∙ sym (fits_past b rs y g)
+]
+
 -- a list begins and ends where its entries do
 own_edges : (es : List Entry) → EdgesIn (is_edge es) es
 own_edges [] = tt
@@ -52,11 +59,12 @@ own_edges (e ∷ es) =
     )
 
 -- a run stands for itself
-pub StandFor-one : (es : List Entry) (r : Shared) → rc_slice_items r ≡ es → IsRun es → StandFor es (r ∷ [])
+pub StandFor-one : (es : List Entry) (r : Shared) → rc_slice_items r ≡ es → IsRun es → StandFor es (r ∷ []) []
 StandFor-one es r is run = record {
   runs = (subst (λ l. IsRun l) (sym is) run, tt);
   shows = λ b y. ap (λ l. origin_from b l y) is;
   edges = (subst (λ l. EdgesIn (is_edge es) l) (sym is) (own_edges es), tt);
+  tail_edges = tt;
 }
 
 run_count : (es rs : List Entry) (lo hi : ℕ) → IsRunIn lo hi rs → EdgesIn (is_edge es) rs → length rs ≤ borders_above es lo

@@ -1,6 +1,6 @@
 -- Runs: lists of entries of which no two cover one byte, in the order of their offsets. What a list shows is
 -- said over whatever lies below it, so that nothing need be said of which bytes it covers.
-use Rattle.std.specs.Prelude.{◌≡◌, ⊤, ℕ, ◌+◌, ◌<◌, ◌≤◌, ◌^◌, List, [], ◌∷◌}
+use Rattle.std.specs.Prelude.{◌≡◌, ⊤, ◌⊎◌, ℕ, ◌+◌, ◌<◌, ◌≤◌, ◌^◌, List, [], ◌∷◌}
 use Rattle.wtf_overlay.specs.declared.part.Entry.{Entry}
 use Rattle.wtf_overlay.specs.Origin.{Place, origin_from}
 
@@ -46,3 +46,7 @@ pub record Built (es : List Entry) (x : ℕ) (f : List Place → ℕ → List Pl
 abbrev pub BeginsPast : ℕ → List Entry → Type 0
 BeginsPast x [] = ⊤
 BeginsPast x (e ∷ es) = x < e.off + e.len
+
+-- the entry lies before x or from z on
+abbrev pub Misses : ℕ → ℕ → Entry → Type 0
+Misses x z e = (z ≤ e.off) ⊎ (e.off + e.len ≤ x)

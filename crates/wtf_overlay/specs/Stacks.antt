@@ -1,5 +1,5 @@
 -- Runs that lie over one another, the lowest first, and the list that they stand for.
-use Rattle.std.specs.Prelude.{◌≡◌, ⊤, ℕ, ◌+◌, true, Bool, List, [], ◌∷◌}
+use Rattle.std.specs.Prelude.{◌≡◌, ⊤, ℕ, Bool, List, [], ◌∷◌}
 use Rattle.std.specs.Rc.{rc_slice_items}
 use Rattle.std.proofs.Common.{Global}
 use Rattle.std.specs.declared.rc.RcSlice.{RcSlice}
@@ -26,8 +26,9 @@ abbrev pub EdgesOf : (ℕ → Bool) → List Shared → Type 0
 EdgesOf p [] = ⊤
 EdgesOf p (r ∷ rs) = EdgesIn p (rc_slice_items r) × EdgesOf p rs
 
--- the runs show what the list shows, and begin and end where its entries do
-pub record StandFor (es : List Entry) (rs : List Shared) : Type 0 where
+-- the runs with the tail over them show what the list shows, and begin and end where its entries do
+pub record StandFor (es : List Entry) (rs : List Shared) (tail : List Entry) : Type 0 where
   pub runs : AreRuns rs
-  pub shows : (b : List Place) (y : ℕ) → stack rs b y ≡ origin_from b es y
+  pub shows : (b : List Place) (y : ℕ) → origin_from (stack rs b y) tail y ≡ origin_from b es y
   pub edges : EdgesOf (is_edge es) rs
+  pub tail_edges : EdgesIn (is_edge es) tail

@@ -12,7 +12,8 @@ use wtf_base::OutOfMemory;
 
 impl Overlay {
     /// The compact list of the same bytes at the same places: slices alone, sorted and disjoint, and no two
-    /// neighbours that could be one. It costs one pass over the entries of the runs.
+    /// neighbours that could be one. It costs one pass over the entries of the runs and of
+    /// the tail.
     pub fn compact(&self) -> Result<Overlay, OutOfMemory>
         ensures compact { IfOk result (λ o. IsCompact o) }
         ensures origins { IfOk result (λ o. (x : ℕ) → origin o x ≡ origin self.now x) }

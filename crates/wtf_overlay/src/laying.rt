@@ -1,6 +1,6 @@
 //! One run laid over another, from left to right.
 
-ghost use Rattle.std.specs.Prelude.{◌≡◌, ℕ, ◌*◌, ◌+◌, ◌-◌, ◌<◌, ◌≤◌, ◌^◌, length, IfOk, List, Bool, true, ◌⊎◌};
+ghost use Rattle.std.specs.Prelude.{◌≡◌, ℕ, ◌*◌, ◌+◌, ◌-◌, ◌<◌, ◌≤◌, ◌^◌, ◌++◌, length, IfOk, IsTrue, List, Bool, true, ◌⊎◌};
 ghost use Rattle.wtf_overlay.specs.Edges.{EdgesIn};
 ghost use Rattle.wtf_overlay.specs.Origin.{Place, part_origin};
 ghost use Rattle.wtf_overlay.specs.Runs.{IsRun, laid_over, Shows, SameFrom, Tells, Built};
@@ -71,12 +71,8 @@ pub(crate) fn lay_part<'a>(
     Ok(rest)
 }
 
-/// `newer` laid over `older`.
-pub(crate) fn merge(
-    alloc: Global,
-    newer: &[Entry],
-    older: &[Entry],
-) -> Result<Vec<Entry>, OutOfMemory>
+/// `newer` laid over `older`, entry by entry.
+fn interleaved(alloc: Global, newer: &[Entry], older: &[Entry]) -> Result<Vec<Entry>, OutOfMemory>
     requires newer { IsRun newer.now }
     requires older { IsRun older.now }
     ensures run { IfOk result (λ v. IsRun v.items) }
@@ -96,4 +92,52 @@ pub(crate) fn merge(
     }
     let _last = lay_part(&mut out, rest, x, LIMIT)?;
     Ok(out)
+}
+
+/// Whether `first` ends before `second` begins, or one of them is empty.
+fn lies_before(first: &[Entry], second: &[Entry]) -> bool
+    requires first { IsRun first.now }
+    requires second { IsRun second.now }
+    ensures { IsTrue result → IsRun (first.now ++ second.now) }
+{
+    let Some((last, _)) = first.split_last() else {
+        return true;
+    };
+    let Some((next, _)) = second.split_first() else {
+        return true;
+    };
+    last.end() <= next.off
+}
+
+/// The entries of `first` and then those of `second`, copied as they are.
+fn joined(alloc: Global, first: &[Entry], second: &[Entry]) -> Result<Vec<Entry>, OutOfMemory>
+    ensures { IfOk result (λ v. v.items ≡ first.now ++ second.now) }
+{
+    let mut out = Vec::with_capacity(alloc, first.len().saturating_add(second.len()))?;
+    out.extend_from_slice(first)?;
+    out.extend_from_slice(second)?;
+    Ok(out)
+}
+
+/// `newer` laid over `older`. Where one of them lies wholly before the other, as with entries that are
+/// appended, it costs a copy alone.
+pub(crate) fn merge(
+    alloc: Global,
+    newer: &[Entry],
+    older: &[Entry],
+) -> Result<Vec<Entry>, OutOfMemory>
+    requires newer { IsRun newer.now }
+    requires older { IsRun older.now }
+    ensures run { IfOk result (λ v. IsRun v.items) }
+    ensures shows { IfOk result (λ v. Shows v.items (laid_over newer.now older.now)) }
+    ensures edges { IfOk result (λ v. (p : ℕ → Bool)
+        → EdgesIn p newer.now → EdgesIn p older.now → EdgesIn p v.items) }
+{
+    if lies_before(older, newer) {
+        return joined(alloc, older, newer);
+    }
+    if lies_before(newer, older) {
+        return joined(alloc, newer, older);
+    }
+    interleaved(alloc, newer, older)
 }

@@ -11,6 +11,7 @@ mod overlay;
 mod part;
 mod planning;
 mod stacks;
+mod tails;
 
 pub use overlay::Overlay;
 pub use part::{Entry, Part, Piece};

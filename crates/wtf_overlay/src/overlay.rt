@@ -4,12 +4,13 @@ ghost use Rattle.std.specs.Prelude.{◌≡◌, ℕ, ◌*◌, ◌+◌, ◌<◌, �
 ghost use Rattle.std.specs.Bool.{OnFalse};
 ghost use Rattle.wtf_overlay.specs.Clips.{Within};
 ghost use Rattle.wtf_overlay.specs.Origin.{origin, Plans};
-ghost use Rattle.wtf_overlay.specs.Runs.{IsRun};
+ghost use Rattle.wtf_overlay.specs.Runs.{IsRun, SameWithin};
 ghost use Rattle.wtf_overlay.specs.Edges.{EdgesIn, is_edge};
 
 use crate::laying::LIMIT;
 use crate::planning::pieces;
 use crate::stacks::{Run, replace_top, shown, top_with};
+use crate::tails::{FULL, laid, whole_tail};
 use crate::{Entry, Piece};
 use std::alloc::Global;
 use std::marker::Model;
@@ -20,12 +21,14 @@ use wtf_chunks::Chunks;
 /// A list of entries, each of which hides what earlier ones hold at its place. A place that no entry
 /// covers is a hole, which reads as zeros (NSDI 2016, section 2.1).
 ///
-/// Beside its entries a list keeps runs, sorted and disjoint lists that show the same when they lie over
-/// one another. A range is found in them by search, however many entries there are. Holders share both.
+/// Beside its entries a list keeps runs, sorted and disjoint lists that lie over one another, and over them a
+/// short tail of the newest entries. Together they show the same. A range is found in the runs by search,
+/// however many entries there are. Holders share the entries and the runs.
 #[derive(Debug, Drop)]
 pub struct Overlay {
     entries: Chunks<Entry>,
     runs: Vec<Run>,
+    tail: Vec<Entry>,
     reach: u32,
 }
 
@@ -44,7 +47,8 @@ impl Model for Overlay {
 
     ghost view = { λ o. o.entries };
 
-    ghost invariant = { λ o. StandFor o.entries o.runs.items × Within o.reach o.entries };
+    ghost invariant = { λ o. StandFor o.entries o.runs.items o.tail.items
+        × Within o.reach o.entries };
 }
 
 impl Overlay {
@@ -56,6 +60,7 @@ impl Overlay {
         Ok(Overlay {
             entries,
             runs: Vec::new(alloc),
+            tail: Vec::new(alloc),
             reach: 0,
         })
     }
@@ -75,31 +80,55 @@ impl Overlay {
         self.entries.get(i)
     }
 
-    /// Lays `e` over the list. After an error the list is as before. Over many pushes each entry is merged
-    /// about log n times, where n is the number of entries.
+    /// Lays `e` over the list. After an error the list is as before. Most pushes cost a copy of `e`. Over
+    /// many pushes each entry is merged about log n times, where n is the number of entries.
     pub fn push(&mut self, e: Entry) -> Result<(), OutOfMemory>
         ensures ok { OnOk result (self.new ≡ self.old ++ e ∷ []) }
         ensures err { OnErr result (self.new ≡ self.old) }
     {
-        let top = top_with(self.alloc(), self.runs.as_slice(), e)?;
-        let run = RcSlice::from_vec(top.run)?;
-        self.runs.reserve(1)?;
+        self.make_room()?;
+        self.tail.reserve(1)?;
         self.entries.push(e)?;
-        replace_top(&mut self.runs, top.below, run);
+        let _room = self.tail.push(e);
         self.reach = self.reach.max(e.end());
         Ok(())
     }
 
+    /// Merges the tail into the runs where it is full.
+    fn make_room(&mut self) -> Result<(), OutOfMemory>
+        ensures { self.new ≡ self.old }
+    {
+        if self.tail.len() >= FULL {
+            self.fold()?;
+        }
+        Ok(())
+    }
+
+    /// Merges the tail into the runs.
+    fn fold(&mut self) -> Result<(), OutOfMemory>
+        ensures { self.new ≡ self.old }
+    {
+        let newest = whole_tail(self.alloc(), self.tail.as_slice())?;
+        let top = top_with(newest, self.runs.as_slice())?;
+        let run = RcSlice::from_vec(top.run)?;
+        self.runs.reserve(1)?;
+        replace_top(&mut self.runs, top.below, run);
+        self.tail.clear();
+        Ok(())
+    }
+
     /// The same list for a second holder. What is pushed to one leaves the other as it is. It costs a step
-    /// for each sealed chunk of entries and for each run, about log n of both.
+    /// for each sealed chunk of entries and for each run, about log n of both, and a copy of the tail.
     pub fn share(&self) -> Result<Overlay, OutOfMemory>
         ensures { IfOk result (λ o. o ≡ self.now) }
     {
         let entries = self.entries.share()?;
         let runs = self.runs.clone()?;
+        let tail = self.tail.to_vec(self.alloc())?;
         Ok(Overlay {
             entries,
             runs,
+            tail,
             reach: self.reach,
         })
     }
@@ -114,15 +143,14 @@ impl Overlay {
 
     /// The `len` bytes from `off` on as consecutive pieces, each of one entry or of a hole. Where `len` is
     /// 0 there is none. Holes reach past every entry, and past 2^32 too. It costs a search in each run,
-    /// and a merge of what they show in the range.
+    /// a look at each entry of the tail, and a merge of what they show in the range.
     pub fn plan(&self, off: u32, len: u32) -> Result<Vec<Piece>, OutOfMemory>
         ensures origins { IfOk result (λ v. Plans v.items len (λ i. origin self.now (off + i))) }
         ensures count { IfOk result (λ v. length v.items ≤ 2 * length self.now + 1) }
     {
-        let alloc = self.alloc();
         let from = off as u64;
-        let all = shown(alloc, self.runs.as_slice(), from, from + len as u64)?;
-        let out = pieces(alloc, all.as_slice(), off, len)?;
+        let all = self.shown_in(from, from + len as u64)?;
+        let out = pieces(self.alloc(), all.as_slice(), off, len)?;
         Ok(out)
     }
 
@@ -144,7 +172,18 @@ impl Overlay {
         ensures origins { IfOk result (λ v. (x : ℕ) → origin v.items x ≡ origin self.now x) }
         ensures edges { IfOk result (λ v. EdgesIn (is_edge self.now) v.items) }
     {
-        let all = shown(self.alloc(), self.runs.as_slice(), 0, LIMIT)?;
+        let all = self.shown_in(0, LIMIT)?;
+        Ok(all)
+    }
+
+    /// What the list shows from `from` up to `to`, as one run.
+    fn shown_in(&self, from: u64, to: u64) -> Result<Vec<Entry>, OutOfMemory>
+        ensures run { IfOk result (λ v. IsRun v.items) }
+        ensures shows { IfOk result (λ v. SameWithin from to self.now v.items) }
+        ensures edges { IfOk result (λ v. EdgesIn (is_edge self.now) v.items) }
+    {
+        let newest = laid(self.alloc(), self.tail.as_slice(), from, to)?;
+        let all = shown(newest, self.runs.as_slice(), from, to)?;
         Ok(all)
     }
 
@@ -160,6 +199,7 @@ impl Overlay {
         Ok(Overlay {
             entries,
             runs,
+            tail: Vec::new(alloc),
             reach,
         })
     }

@@ -3,7 +3,7 @@
 
 ghost use Rattle.std.specs.Prelude.{◌≡◌, ℕ, ◌*◌, ◌+◌, ◌<◌, ◌≤◌, ◌^◌, ◌++◌, ◌∷◌, Bool, true, [], length, IfOk, OnErr, List, take, drop, vec_len};
 ghost use Rattle.std.specs.Vec.{vec_capacity};
-ghost use Rattle.wtf_overlay.specs.Origin.{Place, over, origin, origin_from, Plans};
+ghost use Rattle.wtf_overlay.specs.Origin.{Place, origin_from};
 ghost use Rattle.wtf_overlay.specs.declared.part.Entry.{Entry};
 ghost use Rattle.wtf_overlay.specs.Runs.{IsRun, Shows};
 ghost use Rattle.wtf_overlay.specs.Edges.{EdgesIn, is_edge};
@@ -19,21 +19,24 @@ use wtf_base::OutOfMemory;
 /// A run that the holders of a list share.
 pub(crate) type Run = RcSlice<Entry, Global>;
 
-/// What the runs show from `from` up to `to`, as one run. The newest run comes first, and a run that
-/// shows nothing there costs its search alone.
+/// What the runs show from `from` up to `to` with `newest` over them, as one run. The newest run comes
+/// first, and a run that shows nothing there costs its search alone.
 pub(crate) fn shown(
-    alloc: Global,
+    newest: Vec<Entry>,
     runs: &[Run],
     from: u64,
     to: u64,
 ) -> Result<Vec<Entry>, OutOfMemory>
+    requires newest { IsRun newest.items }
     requires runs { AreRuns runs.now }
     ensures run { IfOk result (λ v. IsRun v.items) }
     ensures shows { IfOk result (λ v. (b : List Place) (y : ℕ) → from ≤ y → y < to
-        → origin_from b v.items y ≡ stack runs.now b y) }
-    ensures edges { IfOk result (λ v. (p : ℕ → Bool) → EdgesOf p runs.now → EdgesIn p v.items) }
+        → origin_from b v.items y ≡ origin_from (stack runs.now b y) newest.items y) }
+    ensures edges { IfOk result (λ v. (p : ℕ → Bool)
+        → EdgesIn p newest.items → EdgesOf p runs.now → EdgesIn p v.items) }
 {
-    let mut all = Vec::new(alloc);
+    let alloc = *newest.allocator();
+    let mut all = newest;
     let mut n = runs.len();
     while n > 0 {
         n -= 1;
@@ -52,18 +55,20 @@ pub(crate) struct Top {
     pub(crate) below: usize,
 }
 
-/// `e` laid over the newest runs, down to one that is at least twice as long as what came together so far.
-pub(crate) fn top_with(alloc: Global, runs: &[Run], e: Entry) -> Result<Top, OutOfMemory>
+/// `newest` laid over the newest runs, down to one that is at least twice as long as what came together so
+/// far.
+pub(crate) fn top_with(newest: Vec<Entry>, runs: &[Run]) -> Result<Top, OutOfMemory>
+    requires newest { IsRun newest.items }
     requires runs { AreRuns runs.now }
     ensures below { IfOk result (λ t. t.below ≤ length runs.now) }
     ensures run { IfOk result (λ t. IsRun t.run.items) }
     ensures shows { IfOk result (λ t. Shows t.run.items
-        (λ b y. over e y (stack (drop t.below runs.now) b y))) }
+        (λ b y. origin_from (stack (drop t.below runs.now) b y) newest.items y)) }
     ensures edges { IfOk result (λ t. (p : ℕ → Bool)
-        → EdgesIn p (e ∷ []) → EdgesOf p runs.now → EdgesIn p t.run.items) }
+        → EdgesIn p newest.items → EdgesOf p runs.now → EdgesIn p t.run.items) }
 {
-    let mut run = Vec::new(alloc);
-    run.push(e)?;
+    let alloc = *newest.allocator();
+    let mut run = newest;
     let mut n = runs.len();
     while n > 0 {
         let next = &runs[n - 1];

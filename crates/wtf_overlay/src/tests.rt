@@ -167,6 +167,42 @@ fn told(alloc: Global, list: &Overlay) -> Result<Vec<Option<u64>>, OutOfMemory> 
 }
 
 #[test]
+fn each_push_shows_whether_merged_or_not(rt: HostRuntime) -> Result<(), Fail> {
+    let alloc = rt.alloc();
+    let mut list = Overlay::new(alloc)?;
+    let mut bytes = vec![in alloc; None; SPAN as usize]?;
+    for i in 0..70 {
+        let e = step(i).ok_or("an entry")?;
+        list.push(e)?;
+        lay(&mut bytes, &e);
+        assert_eq!(rt;
+            told(alloc, &list)?.as_slice(),
+            bytes.as_slice(),
+            "after {i}"
+        );
+    }
+    Ok(())
+}
+
+#[test]
+fn each_appended_entry_shows_whether_merged_or_not(rt: HostRuntime) -> Result<(), Fail> {
+    let alloc = rt.alloc();
+    let mut list = Overlay::new(alloc)?;
+    let mut bytes = vec![in alloc; None; SPAN as usize]?;
+    for i in 0..50u32 {
+        let e = held(i * 5, i as u64 * 16, 1 + i % 5).ok_or("an entry")?;
+        list.push(e)?;
+        lay(&mut bytes, &e);
+        assert_eq!(rt;
+            told(alloc, &list)?.as_slice(),
+            bytes.as_slice(),
+            "after {i}"
+        );
+    }
+    Ok(())
+}
+
+#[test]
 fn shared_lists_stay_as_they_were(rt: HostRuntime) -> Result<(), Fail> {
     let alloc = rt.alloc();
     let mut list = Overlay::new(alloc)?;

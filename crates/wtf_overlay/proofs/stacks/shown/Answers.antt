@@ -1,7 +1,6 @@
-use Rattle.std.proofs.Common.{◌≡◌, ◌-◌, [], ap, sym, ◌∙◌, arith, length}
+use Rattle.std.proofs.Common.{◌≡◌, ◌-◌, ap, sym, ◌∙◌, arith}
 use Rattle.std.specs.Rc.{rc_slice_items}
 use Rattle.wtf_overlay.specs.Origin.{origin_from}
-use Rattle.wtf_overlay.proofs.Building.{nothing}
 use Rattle.wtf_overlay.proofs.Stacking.{shown_next, run_read, edges_read}
 use Rattle.wtf_overlay.proofs.stacks.shown.Goals as goal
 
@@ -27,7 +26,7 @@ loop-n-preserved-then-not-is_empty c =
           let same : origin_from b part y ≡ origin_from b (rc_slice_items r) y =
           sym (found.same b y l k) ∙ ap (λ es. origin_from b es y) run in
           c.in_ok-all.ensures.shows b y ∙ ap (λ es. origin_from below es y) all ∙ i.shows below y l k
-          ∙ shown_next c.args.runs.now c.loop-n.n r part b y (omega arith) (omega arith) c.index-runs-n.is same;
-      edges = λ p edges. c.in_ok-all.ensures.edges p (rw all (i.edges p edges))
+          ∙ ap (λ under. origin_from under c.args.newest.items y) (shown_next c.args.runs.now c.loop-n.n r part b y (omega arith) (omega arith) c.index-runs-n.is same);
+      edges = λ p own edges. c.in_ok-all.ensures.edges p (rw all (i.edges p own edges))
           (found.edges p (rw run (edges_read p c.args.runs.now (c.loop-n.n - 1) r (omega arith) edges c.index-runs-n.is)));
     }

@@ -1,4 +1,4 @@
-use Rattle.std.proofs.Common.{◌≡◌, subst, sym}
+use Rattle.std.proofs.Common.{◌≡◌, subst, sym, ◌∙◌}
 use Rattle.wtf_overlay.specs.Clips.{Within}
 use Rattle.wtf_overlay.specs.Stacks.{StandFor}
 use Rattle.wtf_overlay.proofs.Stacking.{StandFor-alike}
@@ -7,8 +7,9 @@ use Rattle.wtf_overlay.proofs.overlay.Overlay.share.Goals as goal
 pub invariant_of-result : goal.invariant_of-result
 invariant_of-result c =
     let old = c.self.inside in
-    let same : c.in_ok-entries.entries ≡ old.entries = c.in_ok-entries.ensures in (
-      subst (λ es. StandFor es c.in_ok-runs.runs.items) (sym same)
-          (StandFor-alike old.entries old.runs.items c.in_ok-runs.runs.items c.in_ok-runs.ensures.cases.0 c.self.invariant.0),
+    let same : c.in_ok-entries.entries ≡ old.entries = c.in_ok-entries.ensures in
+    let tail : c.in_ok-tail.tail.items ≡ old.tail.items = c.in_ok-tail.ensures.items_if_clones_equal (λ x y same. same) ∙ c.deref.ensures.value in (
+      subst (λ es. StandFor es c.in_ok-runs.runs.items c.in_ok-tail.tail.items) (sym same) (subst (λ l. StandFor old.entries c.in_ok-runs.runs.items l) (sym tail)
+          (StandFor-alike old.entries old.tail.items old.runs.items c.in_ok-runs.runs.items c.in_ok-runs.ensures.cases.0 c.self.invariant.0)),
       subst (λ es. Within old.reach es) (sym same) c.self.invariant.1,
     )

@@ -1,7 +1,7 @@
 use Rattle.std.proofs.Common.{◌≡◌, ℕ, ◌*◌, ◌+◌, ◌≤◌, ◌^◌, length, Bool, true, ◌⊎◌}
 use Rattle.wtf_overlay.specs.Edges.{EdgesIn}
 use Rattle.wtf_overlay.specs.Runs.{IsRun, IsRunIn, laid_over, SameFrom, Built}
-use Rattle.wtf_overlay.proofs.laying.merge.Given as goal
+use Rattle.wtf_overlay.proofs.laying.interleaved.Given as goal
 
 -- up to x all is laid, and from x on `over` and `rest` show what newer and older show
 abbrev pub invariant-loop-e : goal.invariant-loop-e
