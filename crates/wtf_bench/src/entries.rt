@@ -2,7 +2,7 @@
 
 use std::alloc::Global;
 use wtf_base::OutOfMemory;
-use wtf_kv::{Applied, Cell, StoreKey};
+use wtf_kv::{Cell, StoreKey};
 
 #[derive(Drop, PartialEq, Eq, PartialOrd, Ord)]
 pub struct Name {
@@ -33,12 +33,9 @@ impl Cell for Count {
 
     ghost outcome = { λ _now to. Is (record { n = to }) };
 
-    fn apply(
-        _alloc: Global,
-        _now: Option<&Count>,
-        delta: &u64,
-    ) -> Result<Applied<Count>, OutOfMemory> {
-        Ok(Applied::Is(Count { n: *delta }))
+    fn apply(_alloc: Global, now: &mut Option<Count>, delta: &u64) -> Result<bool, OutOfMemory> {
+        *now = Some(Count { n: *delta });
+        Ok(true)
     }
 
     fn copy(&self, _alloc: Global) -> Result<Count, OutOfMemory> {

@@ -8,6 +8,7 @@ mod Prune
 mod Updated
 mod Next
 mod Fits
+mod Taken
 mod Noting
 mod Ranges
 mod Made

@@ -60,10 +60,10 @@ module _ {C : Type 0} (n : ℕ) (x : Option C) (vs : List (ℕ × Option C)) whe
       (cases_Bool (is_some x || is_some (value_seen (last_seen n (upto n vs)))))
 
 module _ {C : Type 0} (n : ℕ) (new old : List (ℕ × Option C)) (is : IsKeptOrCut n old new) where
-  cut-good : ascends old × within (n + 1) old → ascends new × within (n + 1) new
+  pub cut-good : ascends old × within (n + 1) old → ascends new × within (n + 1) new
   cut-good h = ⊎_elim (λ e. subst (λ vs. ascends vs × within (n + 1) vs) (sym e) h) (λ e. subst (λ vs. ascends vs × within (n + 1) vs) (sym e) (ascends-upto n old h.0, within-more n (upto n old) (within-upto n old))) is
 
-  cut-same : upto n new ≡ upto n old
+  pub cut-same : upto n new ≡ upto n old
   cut-same = ⊎_elim (λ e. ap (upto n) e) (λ e. ap (upto n) e ∙ upto-upto n old) is
 
 -- one key of the cells, of which a version was made ready where b holds, or was to be

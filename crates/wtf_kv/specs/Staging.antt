@@ -1,5 +1,6 @@
 -- How the next version of a key is made ready among its versions.
-use Rattle.std.specs.Prelude.{◌≡◌, ℕ, ◌+◌, Bool, cond, ◌||◌, ◌&&◌, ◌⊎◌, List, [], ◌∷◌, ◌++◌, Option, is_some}
+use Rattle.std.specs.Prelude.{◌≡◌, ℕ, ◌+◌, ◌-◌, Bool, false, cond, ◌||◌, ◌&&◌, ◌⊎◌, List, [], ◌∷◌, ◌++◌, Option, is_some, nat_lt, length, slice_get}
+use Rattle.std.specs.Option.{option_map, unwrap_or}
 use Rattle.std.specs.declared.cmp.Ordering.{Ordering}
 use Rattle.wtf_kv.specs.declared.cell.Applied.{Applied}
 use Rattle.wtf_kv.specs.declared.changes.Change.{Change}
@@ -14,6 +15,10 @@ value_next number vs = value_seen (last_seen (number + 1) vs)
 -- the versions with the next one made ready: a key without a value before and after gets none
 abbrev pub staged : {C : Type 0} → ℕ → Option C → List (ℕ × Option C) → List (ℕ × Option C)
 staged number value vs = cond (is_some value || is_some (value_seen (last_seen number (upto number vs)))) (upto number vs ++ (number + 1, value) ∷ []) (upto number vs)
+
+-- whether the last of the versions lies above the number
+abbrev pub ends_above : {C : Type 0} → ℕ → List (ℕ × Option C) → Bool
+ends_above number vs = unwrap_or (option_map (λ v. nat_lt number v.0) (slice_get vs (length vs - 1))) false
 
 -- the versions that a key had, or those of them up to the number
 abbrev pub IsKeptOrCut : {C : Type 0} → ℕ → List (ℕ × Option C) → List (ℕ × Option C) → Type 0

@@ -1,9 +1,10 @@
 //! What the store asks of its keys and values.
 
-ghost use Rattle.std.specs.Prelude.{◌≡◌, Option, IfOk, IsTrue};
-ghost use Rattle.std.specs.Option.{option_copied};
+ghost use Rattle.std.specs.Prelude.{◌≡◌, Option, None, Some, IfOk, OnOk, IsTrue};
 ghost use Rattle.std.specs.declared.cmp.Ordering.TheVariants.{Equal};
+ghost use Rattle.wtf_kv.specs.Edits.{value_made, fits};
 ghost use Rattle.wtf_kv.specs.declared.cell.Applied.{Applied};
+ghost use Rattle.wtf_kv.specs.Edits.{value_made};
 
 use std::alloc::Global;
 use wtf_base::OutOfMemory;
@@ -27,13 +28,15 @@ pub trait Cell: Drop {
     /// What comes of a delta, by the value that the key has.
     ghost outcome: { Option Self → Self.Delta → Applied Self };
 
-    /// Applies a delta to a value, or to none. The outcome is a function of the two.
+    /// Applies a delta to a value, or to none, and answers whether it fits; one that does not leaves the
+    /// value. Want of memory may leave anything.
     fn apply(
         alloc: Global,
-        now: Option<&Self>,
+        now: &mut Option<Self>,
         delta: &Self::Delta,
-    ) -> Result<Applied<Self>, OutOfMemory>
-        ensures { IfOk result (λ made. made ≡ outcome (option_copied now.entry) delta.now) };
+    ) -> Result<bool, OutOfMemory>
+        ensures fit { IfOk result (λ fit. fit ≡ fits (outcome now.old delta.now)) }
+        ensures value { OnOk result (now.new ≡ value_made (outcome now.old delta.now) now.old) };
 
     /// A value that is equal to this one.
     fn copy(&self, alloc: Global) -> Result<Self, OutOfMemory>
@@ -43,6 +46,32 @@ pub trait Cell: Drop {
     /// `false` says nothing.
     fn is_same(&self, other: &Self, looks: usize) -> bool
         ensures { IsTrue result → self.now ≡ other.now };
+}
+
+/// A value of which a summary tells something without a look at its parts, and follows deltas.
+pub trait Summarized: Cell {
+    /// What is told of a value, or of none.
+    type Summary: Copy + Drop;
+
+    /// The summary of a value, or of none.
+    ghost summary_of: { Option Self → Self.Summary };
+
+    /// The summary of a value.
+    fn summary(&self) -> Self::Summary
+        ensures { result ≡ summary_of (Some self.now) };
+
+    /// The summary of none.
+    fn no_summary() -> Self::Summary
+        ensures { result ≡ summary_of None };
+
+    /// The summary after a delta, told by the one before it.
+    fn summary_after(before: Self::Summary, delta: &Self::Delta) -> Self::Summary
+        ensures { (now : Option Self) → before ≡ summary_of now →
+            result ≡ summary_of (value_made (Self.outcome now delta.now) now) };
+
+    /// Whether two summaries are sure to be the same.
+    fn same_summary(a: Self::Summary, b: Self::Summary) -> bool
+        ensures { IsTrue result → a ≡ b };
 }
 
 /// A key of the store, in order.

@@ -14,11 +14,11 @@ ghost use Rattle.wtf_kv.specs.Order.{IsNextKey};
 ghost use Rattle.wtf_kv.specs.Staging.{staged, next_value, is_taken, IsKeptOrCut, IsStaged, IsStagedBy, IsStagedByAll, delta_made};
 
 use crate::cells::{
-    Cells, clear_cells, first_key, prune_all, seed_cell, shown_in, start_past, value_in,
+    Cells, clear_cells, first_key, prune_all, seed_cell, shown_in, start_past, take_in, value_in,
     valued_keys, version_in,
 };
 use crate::rows::stage_in;
-use crate::{Applied, Cell, Change, NotReady, StoreKey};
+use crate::{Cell, Change, NotReady, StoreKey};
 use std::alloc::Global;
 use std::collections::BTreeMap;
 use std::marker::Model;
@@ -206,14 +206,19 @@ impl<K: StoreKey, C: Drop> History<K, C> {
 }
 
 impl<K: StoreKey, C: Cell> History<K, C> {
-    /// What comes of a delta of the value that the next number sees.
-    fn next_outcome(&self, key: &K, delta: &C::Delta) -> Result<Applied<C>, OutOfMemory>
-        requires { self.now.number < 2 ^ 63 }
-        ensures { IfOk result (λ made. made ≡
-            delta_made K.cmp C.outcome key.now delta.now self.now) }
+    /// Takes the value of a key that the next number sees: the one that is made ready, which goes, or
+    /// else a copy.
+    fn take_value(&mut self, key: &K) -> Result<Option<C>, OutOfMemory>
+        requires { self.old.number < 2 ^ 63 }
+        ensures same { ShowsSame K.cmp self.old self.new }
+        ensures others { (q : K) → is_at (K.cmp key.now) q ≡ false →
+            versions_in K.cmp self.new.cells q ≡ versions_in K.cmp self.old.cells q }
+        ensures value { IfOk result (λ value. value ≡ next_value K.cmp self.old key.now) }
+        ensures kept { (q : K) → IsKeptOrCut self.old.number
+            (versions_in K.cmp self.old.cells q)
+            (versions_in K.cmp self.new.cells q) }
     {
-        let now = value_in(&self.cells, self.number + 1, key);
-        C::apply(self.alloc, now, delta)
+        take_in(self.alloc, &mut self.cells, self.number, key)
     }
 
     /// Makes a delta ready, where it fits.
@@ -229,12 +234,14 @@ impl<K: StoreKey, C: Cell> History<K, C> {
         ensures cause { let made = delta_made K.cmp C.outcome key.now delta.now self.old in
             IfErr result (λ why. IsCause why (cond (fits made) None (Some key.now))) }
     {
-        let value = match self.next_outcome(key, delta) {
-            Ok(Applied::Is(value)) => Some(value),
-            Ok(Applied::Gone) => None,
-            Ok(Applied::Unfit) => return Err(unfit(self.alloc, key)),
-            Err(_) => return Err(NotReady::Memory),
+        let Ok(mut value) = self.take_value(key) else {
+            return Err(NotReady::Memory);
         };
+        match C::apply(self.alloc, &mut value, delta) {
+            Ok(true) => {}
+            Ok(false) => return Err(unfit(self.alloc, key)),
+            Err(_) => return Err(NotReady::Memory),
+        }
         match self.stage_key(key, value) {
             Ok(()) => Ok(()),
             Err(_) => Err(NotReady::Memory),

@@ -14,7 +14,7 @@ mod rows;
 mod store;
 
 pub use calls::{Call, run};
-pub use cell::{Applied, Cell, StoreKey};
+pub use cell::{Applied, Cell, StoreKey, Summarized};
 pub use changes::{Change, Changes};
 pub use ready::{NotReady, Ready};
 pub use rows::Versions;

@@ -1,13 +1,15 @@
 //! The versions of one key: each a number and a value, the oldest first. A removal has no value.
 
-ghost use Rattle.std.specs.Prelude.{◌≡◌, ◌+◌, ◌<◌, ◌≤◌, true, ◌^◌, OnErr, OnOk, nat_le, is_some, length, drop, take};
+ghost use Rattle.std.specs.Prelude.{◌≡◌, ◌+◌, ◌<◌, ◌≤◌, true, ◌^◌, IfOk, OnErr, OnOk, nat_le, is_some, length, drop, take};
 ghost use Rattle.std.specs.Option.{option_copied};
 ghost use Rattle.std.specs.Map.Iter.{TakesFirst};
 ghost use Rattle.std.specs.Iterator.{at_most};
 ghost use Rattle.std.specs.List.{AllWithin};
 ghost use Rattle.wtf_kv.specs.Seen.{last_seen, value_seen, any_below, any_between, is_reported, kept_head, kept_versions, upto, ascends, within, is_settled, has_upto};
-ghost use Rattle.wtf_kv.specs.Staging.{staged};
+ghost use Rattle.wtf_kv.specs.Staging.{staged, value_next, ends_above, IsKeptOrCut};
 
+use crate::Cell;
+use std::alloc::Global;
 use std::marker::{Model, PhantomData};
 use wtf_base::OutOfMemory;
 
@@ -123,6 +125,52 @@ pub(crate) fn keep_upto<C: Drop>(versions: &mut Vec<(u64, Option<C>)>, number: u
 {
     let count = count_upto(versions.as_slice(), number);
     versions.truncate(count);
+}
+
+/// Whether the last version lies above `number`.
+fn ends_above<C>(versions: &[(u64, Option<C>)], number: u64) -> bool
+    ensures { result ≡ ends_above number versions.now }
+{
+    match versions.last() {
+        Some(version) => version.0 > number,
+        None => false,
+    }
+}
+
+/// A copy of the value that `n` sees.
+fn copy_seen<C: Cell>(
+    alloc: Global,
+    versions: &[(u64, Option<C>)],
+    n: u64,
+) -> Result<Option<C>, OutOfMemory>
+    requires { ascends versions.now }
+    ensures { IfOk result (λ value. value ≡ value_seen (last_seen n versions.now)) }
+{
+    match find_version(versions, n) {
+        Some((_, Some(value))) => Ok(Some(value.copy(alloc)?)),
+        _ => Ok(None),
+    }
+}
+
+/// Takes the value that the next number sees: the one that is made ready, which goes, or else a copy.
+pub(crate) fn take_next<C: Cell>(
+    alloc: Global,
+    versions: &mut Vec<(u64, Option<C>)>,
+    number: u64,
+) -> Result<Option<C>, OutOfMemory>
+    requires room { number < 2 ^ 63 }
+    requires order { ascends versions.old.items }
+    requires next { within (number + 1) versions.old.items }
+    ensures value { IfOk result (λ value. value ≡ value_next number versions.old.items) }
+    ensures kept { IsKeptOrCut number versions.old.items versions.new.items }
+{
+    if !ends_above(versions.as_slice(), number) {
+        return copy_seen(alloc, versions.as_slice(), number + 1);
+    }
+    match versions.pop() {
+        Some((_, value)) => Ok(value),
+        None => Ok(None),
+    }
 }
 
 /// Makes the next version ready among those of a key.

@@ -40,24 +40,20 @@ impl Cell for Count {
 
     ghost outcome = { λ now by. cond (nat_eq by 0) Gone (unwrap_or (option_map (λ c. cond (nat_le (c.n + by) 64) (Is (record { n = c.n + by })) Unfit) now) (Is (record { n = by }))) };
 
-    fn apply(
-        _alloc: Global,
-        now: Option<&Count>,
-        delta: &u64,
-    ) -> Result<Applied<Count>, OutOfMemory> {
+    fn apply(_alloc: Global, now: &mut Option<Count>, delta: &u64) -> Result<bool, OutOfMemory> {
         if *delta == 0 {
-            return Ok(Applied::Gone);
+            *now = None;
+            return Ok(true);
         }
         let Some(count) = now else {
-            return Ok(Applied::Is(Count { n: *delta }));
+            *now = Some(Count { n: *delta });
+            return Ok(true);
         };
-        if *delta <= 64 && count.n <= 64 - *delta {
-            Ok(Applied::Is(Count {
-                n: count.n + *delta,
-            }))
-        } else {
-            Ok(Applied::Unfit)
+        if *delta > 64 || count.n > 64 - *delta {
+            return Ok(false);
         }
+        count.n += *delta;
+        Ok(true)
     }
 
     fn copy(&self, _alloc: Global) -> Result<Count, OutOfMemory> {

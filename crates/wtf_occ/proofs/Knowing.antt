@@ -8,10 +8,11 @@ use Rattle.std.specs.Cmp.{Equal-is}
 use Rattle.std.proofs.lemmas.Bool.{cases_Bool}
 use Rattle.wtf_kv.specs.declared.cell.Applied.{Applied}
 use Rattle.wtf_kv.specs.declared.changes.Change.{Change}
-use Rattle.wtf_kv.specs.declared.changes.Change.TheVariants.{Delta}
+use Rattle.wtf_kv.specs.declared.changes.Change.TheVariants.{Delta, Cut}
 use Rattle.wtf_kv.specs.Edits.{value_made, after_change, after_changes}
 use Rattle.wtf_occ.specs.declared.known.Known.{Known}
-use Rattle.wtf_occ.specs.Known.{IsMade, AreMade}
+use Rattle.wtf_occ.specs.declared.known.Summed.{Summed}
+use Rattle.wtf_occ.specs.Known.{IsKnown, AreKnown, Forgets, IsMade, IsSummed}
 
 -- what is taken out is gone, whatever stood there
 pub gone_both : {K X : Type 0} (R : K → K → Ordering) (es fs gs : List (K × X)) (k : K) (w : X)
@@ -22,8 +23,86 @@ gone_both R es fs gs k w gone made q =
     gone q ∙ ap (cond (is_at (R k) q) None) (made q)
     ∙ elim (is_at (R k) q) as (λ b. cond b None (cond b (Some w) (lookup (is_at (R q)) es)) ≡ cond b None (lookup (is_at (R q)) es)) [ true ↦ refl | false ↦ refl ]
 
+module _ {K X D : Type 0} (order : K → K → Ordering) (Is : List (Change K D) → K → X → Type 0) where
+  -- a delta of another key leaves what is known, in both directions
+  pub record StaysKnown : Type 0 where
+    pub on : (cs : List (Change K D)) (k q : K) (d : D) (x : X) → is_at (order k) q ≡ false → Is cs q x → Is (cs ++ Delta k d ∷ []) q x
+    pub back : (cs : List (Change K D)) (k q : K) (d : D) (x : X) → is_at (order k) q ≡ false → Is (cs ++ Delta k d ∷ []) q x → Is cs q x
+
+  pub AreKnown-nothing : (cs : List (Change K D)) (es : List (K × X)) → es ≡ [] → AreKnown order Is cs es
+  AreKnown-nothing cs es none = record { each = λ q. subst (λ l. IsKnown order Is cs q (lookup (is_at (order q)) l)) (sym none) tt }
+
+  module _ (stays : StaysKnown) (exact : (x y : K) → order x y ≡ Equal → x ≡ y) (cs : List (Change K D)) (es fs : List (K × X)) where
+    on : (k q : K) (d : D) (o : Option X) → is_at (order k) q ≡ false → IsKnown order Is cs q o → IsKnown order Is (cs ++ Delta k d ∷ []) q o
+    on k q d None apart known = tt
+    on k q d (Some x) apart known = stays.on cs k q d x apart known
+
+    back : (k q : K) (d : D) (o : Option X) → is_at (order k) q ≡ false → IsKnown order Is (cs ++ Delta k d ∷ []) q o → IsKnown order Is cs q o
+    back k q d None apart known = tt
+    back k q d (Some x) apart known = stays.back cs k q d x apart known
+
+    -- a delta of k comes, of which nothing was known
+    pub AreKnown-absent : (k : K) (d : D) → lookup (is_at (order k)) es ≡ None → AreKnown order Is cs es → AreKnown order Is (cs ++ Delta k d ∷ []) es
+    AreKnown-absent k d none known = record {
+      each = λ q. ⊎_elim
+          (λ at. subst (IsKnown order Is (cs ++ Delta k d ∷ []) q) (sym (ap (λ x. lookup (is_at (order x)) es) (sym (exact k q ((Equal-is (order k q)).0 at))) ∙ none)) tt)
+          (λ apart. on k q d (lookup (is_at (order q)) es) apart (known.each q))
+          (cases_Bool (is_at (order k) q));
+    }
+
+    -- a delta of k comes, and what was known of it is dropped
+    pub AreKnown-dropped : (k : K) (d : D) → ((q : K) → lookup (is_at (order q)) fs ≡ cond (is_at (order k) q) None (lookup (is_at (order q)) es))
+        → AreKnown order Is cs es → AreKnown order Is (cs ++ Delta k d ∷ []) fs
+    AreKnown-dropped k d h known = record {
+      each = λ q.
+          let choose = λ (b : Bool). cond b None (lookup (is_at (order q)) es) in
+          ⊎_elim
+          (λ at. subst (IsKnown order Is (cs ++ Delta k d ∷ []) q) (sym (h q ∙ ap choose at)) tt)
+          (λ apart. subst (IsKnown order Is (cs ++ Delta k d ∷ []) q) (sym (h q ∙ ap choose apart)) (on k q d (lookup (is_at (order q)) es) apart (known.each q)))
+          (cases_Bool (is_at (order k) q));
+    }
+
+    -- a delta of k comes, and what is known of it becomes w
+    pub AreKnown-followed : (k : K) (d : D) (w : X) → Is (cs ++ Delta k d ∷ []) k w
+        → ((q : K) → lookup (is_at (order q)) fs ≡ cond (is_at (order k) q) (Some w) (lookup (is_at (order q)) es))
+        → AreKnown order Is cs es → AreKnown order Is (cs ++ Delta k d ∷ []) fs
+    AreKnown-followed k d w here h known = record {
+      each = λ q.
+          let more = cs ++ Delta k d ∷ [] in
+          let choose = λ (b : Bool). cond b (Some w) (lookup (is_at (order q)) es) in
+          ⊎_elim
+          (λ at. subst (IsKnown order Is more q) (sym (h q ∙ ap choose at)) (subst (λ x. Is more x w) (exact k q ((Equal-is (order k q)).0 at)) here))
+          (λ apart. subst (IsKnown order Is more q) (sym (h q ∙ ap choose apart)) (on k q d (lookup (is_at (order q)) es) apart (known.each q)))
+          (cases_Bool (is_at (order k) q));
+    }
+
+    -- w is known of k
+    pub AreKnown-added : (k : K) (w : X) → Is cs k w
+        → ((q : K) → lookup (is_at (order q)) fs ≡ cond (is_at (order k) q) (Some w) (lookup (is_at (order q)) es))
+        → AreKnown order Is cs es → AreKnown order Is cs fs
+    AreKnown-added k w here h known = record {
+      each = λ q.
+          let choose = λ (b : Bool). cond b (Some w) (lookup (is_at (order q)) es) in
+          ⊎_elim
+          (λ at. subst (IsKnown order Is cs q) (sym (h q ∙ ap choose at)) (subst (λ x. Is cs x w) (exact k q ((Equal-is (order k q)).0 at)) here))
+          (λ apart. subst (IsKnown order Is cs q) (sym (h q ∙ ap choose apart)) (known.each q))
+          (cases_Bool (is_at (order k) q));
+    }
+
+    -- the last change goes, and what was known of what it changes is dropped
+    pub AreKnown-back : (c : Change K D) → Forgets order c es fs → AreKnown order Is (cs ++ c ∷ []) es → AreKnown order Is cs fs
+    AreKnown-back (Delta k d) h known = record {
+      each = λ q.
+          let choose = λ (b : Bool). cond b None (lookup (is_at (order q)) es) in
+          ⊎_elim
+          (λ at. subst (IsKnown order Is cs q) (sym (h q ∙ ap choose at)) tt)
+          (λ apart. subst (IsKnown order Is cs q) (sym (h q ∙ ap choose apart)) (back k q d (lookup (is_at (order q)) es) apart (known.each q)))
+          (cases_Bool (is_at (order k) q));
+    }
+    AreKnown-back (Cut from to) none known = AreKnown-nothing cs fs none
+
 module _ {K C D : Type 0} (order : K → K → Ordering) (outcome : Option C → D → Applied C) where
-  after_push : (cs : List (Change K D)) (c : Change K D) (q : K) (now : Option C) → after_changes order outcome (cs ++ c ∷ []) q now ≡ after_change order outcome c q (after_changes order outcome cs q now)
+  pub after_push : (cs : List (Change K D)) (c : Change K D) (q : K) (now : Option C) → after_changes order outcome (cs ++ c ∷ []) q now ≡ after_change order outcome c q (after_changes order outcome cs q now)
   after_push [] c q now = refl
   after_push (d ∷ cs) c q now = after_push cs c q (after_change order outcome d q now)
 
@@ -33,66 +112,29 @@ module _ {K C D : Type 0} (order : K → K → Ordering) (outcome : Option C →
       let was = after_changes order outcome cs q now in
       after_push cs (Delta k d) q now ∙ ap (λ b. cond b (value_made (outcome was d) was) was) apart
 
-  still : (cs : List (Change K D)) (k q : K) (d : D) (o : Option (Known C)) → is_at (order k) q ≡ false → IsMade order outcome cs q o → IsMade order outcome (cs ++ Delta k d ∷ []) q o
-  still cs k q d None apart made = tt
-  still cs k q d (Some known) apart made = made ∙ sym (after_other cs k q d known.before apart)
+  pub made_stays : StaysKnown order (IsMade order outcome)
+  made_stays = record {
+    on = λ cs k q d x apart made. made ∙ sym (after_other cs k q d x.before apart);
+    back = λ cs k q d x apart made. made ∙ after_other cs k q d x.before apart;
+  }
 
-  back : (cs : List (Change K D)) (k q : K) (d : D) (o : Option (Known C)) → is_at (order k) q ≡ false → IsMade order outcome (cs ++ Delta k d ∷ []) q o → IsMade order outcome cs q o
-  back cs k q d None apart made = tt
-  back cs k q d (Some known) apart made = made ∙ after_other cs k q d known.before apart
+  -- a value that follows a delta is what it makes
+  pub made_followed : (cs : List (Change K D)) (k : K) (d : D) (old w : Known C) → w ≡ record old { after = after_change order outcome (Delta k d) k old.after }
+      → IsMade order outcome cs k old → IsMade order outcome (cs ++ Delta k d ∷ []) k w
+  made_followed cs k d old w is was =
+      ap (λ (x : Known C). x.after) is ∙ ap (after_change order outcome (Delta k d) k) was
+      ∙ sym (after_push cs (Delta k d) k old.before) ∙ ap (after_changes order outcome (cs ++ Delta k d ∷ []) k) (sym (ap (λ (x : Known C). x.before) is))
 
-  pub AreMade-nothing : (cs : List (Change K D)) (es : List (K × Known C)) → es ≡ [] → AreMade order outcome cs es
-  AreMade-nothing cs es none = record { each = λ q. subst (λ l. IsMade order outcome cs q (lookup (is_at (order q)) l)) (sym none) tt }
-
-  module _ (exact : (x y : K) → order x y ≡ Equal → x ≡ y) (cs : List (Change K D)) (es fs : List (K × Known C)) (k : K) (d : D) where
-    -- what was known of k is dropped, and a delta of it comes
-    pub AreMade-dropped : ((q : K) → lookup (is_at (order q)) fs ≡ cond (is_at (order k) q) None (lookup (is_at (order q)) es)) → AreMade order outcome cs es → AreMade order outcome (cs ++ Delta k d ∷ []) fs
-    AreMade-dropped h made = record {
-      each = λ q.
-          let more = cs ++ Delta k d ∷ [] in
-          let choose = λ (b : Bool). cond b None (lookup (is_at (order q)) es) in
-          ⊎_elim
-          (λ at. subst (IsMade order outcome more q) (sym (h q ∙ ap choose at)) tt)
-          (λ apart. subst (IsMade order outcome more q) (sym (h q ∙ ap choose apart)) (still cs k q d (lookup (is_at (order q)) es) apart (made.each q)))
-          (cases_Bool (is_at (order k) q));
+  module _ {S : Type 0} (summary : Option C → S) where
+    pub summed_stays : StaysKnown order (IsSummed order outcome summary)
+    summed_stays = record {
+      on = λ cs k q d x apart summed now is. summed now is ∙ ap summary (sym (after_other cs k q d now apart));
+      back = λ cs k q d x apart summed now is. summed now is ∙ ap summary (after_other cs k q d now apart);
     }
 
-    -- nothing was known of k
-    pub AreMade-absent : lookup (is_at (order k)) es ≡ None → AreMade order outcome cs es → AreMade order outcome (cs ++ Delta k d ∷ []) es
-    AreMade-absent none made = record {
-      each = λ q.
-          let more = cs ++ Delta k d ∷ [] in
-          ⊎_elim
-          (λ at. subst (IsMade order outcome more q) (sym (ap (λ x. lookup (is_at (order x)) es) (sym (exact k q ((Equal-is (order k q)).0 at))) ∙ none)) tt)
-          (λ apart. still cs k q d (lookup (is_at (order q)) es) apart (made.each q))
-          (cases_Bool (is_at (order k) q));
-    }
-
-    -- what was known of k is dropped, and the last change, a delta of it, goes
-    pub AreMade-back : ((q : K) → lookup (is_at (order q)) fs ≡ cond (is_at (order k) q) None (lookup (is_at (order q)) es)) → AreMade order outcome (cs ++ Delta k d ∷ []) es → AreMade order outcome cs fs
-    AreMade-back h made = record {
-      each = λ q.
-          let choose = λ (b : Bool). cond b None (lookup (is_at (order q)) es) in
-          ⊎_elim
-          (λ at. subst (IsMade order outcome cs q) (sym (h q ∙ ap choose at)) tt)
-          (λ apart. subst (IsMade order outcome cs q) (sym (h q ∙ ap choose apart)) (back cs k q d (lookup (is_at (order q)) es) apart (made.each q)))
-          (cases_Bool (is_at (order k) q));
-    }
-
-    -- what is known of k follows the delta
-    pub AreMade-followed : (old w : Known C) → lookup (is_at (order k)) es ≡ Some old → w ≡ record old { after = after_change order outcome (Delta k d) k old.after }
-        → ((q : K) → lookup (is_at (order q)) fs ≡ cond (is_at (order k) q) (Some w) (lookup (is_at (order q)) es))
-        → AreMade order outcome cs es → AreMade order outcome (cs ++ Delta k d ∷ []) fs
-    AreMade-followed old w stood is h made = record {
-      each = λ q.
-          let more = cs ++ Delta k d ∷ [] in
-          let choose = λ (b : Bool). cond b (Some w) (lookup (is_at (order q)) es) in
-          let was : old.after ≡ after_changes order outcome cs k old.before = subst (IsMade order outcome cs k) stood (made.each k) in
-          let here : w.after ≡ after_changes order outcome more k w.before =
-          ap (λ (x : Known C). x.after) is ∙ ap (after_change order outcome (Delta k d) k) was
-          ∙ sym (after_push cs (Delta k d) k old.before) ∙ ap (after_changes order outcome more k) (sym (ap (λ (x : Known C). x.before) is)) in
-          ⊎_elim
-          (λ at. subst (IsMade order outcome more q) (sym (h q ∙ ap choose at)) (subst (λ x. IsMade order outcome more x (Some w)) (exact k q ((Equal-is (order k q)).0 at)) here))
-          (λ apart. subst (IsMade order outcome more q) (sym (h q ∙ ap choose apart)) (still cs k q d (lookup (is_at (order q)) es) apart (made.each q)))
-          (cases_Bool (is_at (order k) q));
-    }
+    -- a summary that follows a delta is that of what it makes
+    pub summed_followed : (cs : List (Change K D)) (k : K) (d : D) (old w : Summed S) → w.before ≡ old.before
+        → ((now : Option C) → old.after ≡ summary now → w.after ≡ summary (after_change order outcome (Delta k d) k now))
+        → IsSummed order outcome summary cs k old → IsSummed order outcome summary (cs ++ Delta k d ∷ []) k w
+    summed_followed cs k d old w before follows was = λ now is.
+        follows (after_changes order outcome cs k now) (was now (sym before ∙ is)) ∙ ap summary (sym (after_push cs (Delta k d) k now))

@@ -12,19 +12,19 @@ use crate::write_set::WriteSet;
 use std::alloc::Global;
 use std::marker::Model;
 use wtf_base::OutOfMemory;
-use wtf_kv::{Cell, Change, Kv, NotReady, StoreKey};
+use wtf_kv::{Cell, Change, Kv, NotReady, StoreKey, Summarized};
 
 /// An attempt at a set of changes over the map at its base. Contracts see its base, the keys that it
 /// has recorded, and its changes.
 #[derive(Drop)]
-pub struct Attempt<K: StoreKey, C: Cell> {
+pub struct Attempt<K: StoreKey, C: Summarized> {
     alloc: Global,
     base: u64,
     reads: Vec<K>,
     changes: WriteSet<K, C>,
 }
 
-impl<K: StoreKey, C: Cell> Model for Attempt<K, C> {
+impl<K: StoreKey, C: Summarized> Model for Attempt<K, C> {
     ghost use Rattle.wtf_occ.specs.Attempts.{Attempted};
 
     ghost Value = { Attempted K C.Delta };
@@ -41,7 +41,7 @@ pub struct Mark {
     pub changes: usize,
 }
 
-impl<K: StoreKey, C: Cell> Attempt<K, C> {
+impl<K: StoreKey, C: Summarized> Attempt<K, C> {
     /// An attempt over the map at `base`, with no recorded key and no change.
     pub fn new(alloc: Global, base: u64) -> Result<Attempt<K, C>, OutOfMemory>
         ensures { result ≡ Ok (record { base = base; reads = []; changes = [] }) }
@@ -74,11 +74,8 @@ impl<K: StoreKey, C: Cell> Attempt<K, C> {
     {
         self.settle(kv, key)?;
         let value = self.peek(kv, key)?;
-        let key = key.copy(self.alloc)?;
-        match self.reads.push(key) {
-            Ok(()) => Ok(value),
-            Err(_) => Err(OutOfMemory),
-        }
+        self.record(key)?;
+        Ok(value)
     }
 
     /// The value of a key at the base, with the attempt's own changes applied in order. Nothing is
@@ -98,6 +95,40 @@ impl<K: StoreKey, C: Cell> Attempt<K, C> {
         ensures { self.new ≡ self.old }
     {
         self.changes.settle(kv, self.base, key)
+    }
+
+    /// The summary of what `peek` would show. Nothing is recorded, and no memory is needed. It takes the
+    /// time of a read of the base and a walk over the attempt's changes of this key and its cuts; where its
+    /// summary is settled, no walk.
+    pub fn summary(&self, kv: &Kv<K, C>, key: &K) -> C::Summary
+        requires { IsTrue (is_pinned kv.now self.now.base) }
+        ensures { result ≡ C.summary_of (map_seen K.cmp C.outcome kv.now self.now key.now) }
+    {
+        self.changes.summary(kv, self.base, key)
+    }
+
+    /// The same, which costs no walk over the changes of this key from then on, up to the next cut, where
+    /// there is memory to keep it.
+    pub fn settled_summary(&mut self, kv: &Kv<K, C>, key: &K) -> C::Summary
+        requires { IsTrue (is_pinned kv.now self.old.base) }
+        ensures value { result ≡ C.summary_of (map_seen K.cmp C.outcome kv.now self.old key.now) }
+        ensures same { self.new ≡ self.old }
+    {
+        self.changes.settled_summary(kv, self.base, key)
+    }
+
+    /// Records a key, whatever its value. Want of memory leaves the attempt as it was.
+    pub fn record(&mut self, key: &K) -> Result<(), OutOfMemory>
+        ensures ok { OnOk result (self.new ≡
+            record self.old { reads = self.old.reads ++ key.now ∷ [] }) }
+        ensures err { OnErr result (self.new ≡ self.old) }
+        ensures grows { Grows self.old self.new }
+    {
+        let key = key.copy(self.alloc)?;
+        match self.reads.push(key) {
+            Ok(()) => Ok(()),
+            Err(_) => Err(OutOfMemory),
+        }
     }
 
     /// Adds a change of a key's value. Want of memory leaves the attempt as it was.

@@ -4,13 +4,13 @@
 ghost use Rattle.std.specs.Prelude.{◌≡◌, ◌++◌, ◌∷◌, [], List, IfOk, OnOk, IsTrue};
 ghost use Rattle.std.specs.Option.{option_copied};
 ghost use Rattle.wtf_kv.specs.Edits.{after_change};
-ghost use Rattle.wtf_occ.specs.Known.{AreMade};
+ghost use Rattle.wtf_occ.specs.Known.{AreMade, AreSummed, Forgets};
 
-use crate::values::changed;
+use crate::values::{change_value, changed_summary};
 use std::alloc::Global;
 use std::collections::BTreeMap;
 use wtf_base::OutOfMemory;
-use wtf_kv::{Cell, Change, StoreKey};
+use wtf_kv::{Cell, Change, StoreKey, Summarized};
 
 /// A value at the base, and what the changes make of it.
 #[derive(Drop)]
@@ -22,8 +22,18 @@ pub(crate) struct Known<C> {
 /// What is known, by key.
 pub(crate) type KnownValues<K, C> = BTreeMap<K, Known<C>>;
 
+/// The summary of a value at the base, and of what the changes make of it.
+#[derive(Clone, Copy, Drop)]
+pub(crate) struct Summed<S> {
+    pub(crate) before: S,
+    pub(crate) after: S,
+}
+
+/// The summaries that are known, by key.
+pub(crate) type KnownSummaries<K, S> = BTreeMap<K, Summed<S>>;
+
 impl<C: Cell> Known<C> {
-    /// Makes a further change of the value. An error leaves none.
+    /// Makes a further change of the value. Want of memory may leave any value.
     fn follow<K: StoreKey>(
         &mut self,
         alloc: Global,
@@ -33,9 +43,7 @@ impl<C: Cell> Known<C> {
         ensures { OnOk result (self.new ≡ record self.old
             { after = after_change K.cmp C.outcome change.now key.now self.old.after }) }
     {
-        let now = self.after.take();
-        self.after = changed::<K, C>(alloc, change, key, now)?;
-        Ok(())
+        change_value::<K, C>(alloc, change, key, &mut self.after)
     }
 }
 
@@ -64,14 +72,28 @@ pub(crate) fn follow<K: StoreKey, C: Cell>(
     }
 }
 
-/// Drops what is known of the values that the last change may have made.
-pub(crate) fn unlearn<K: StoreKey, C: Cell>(
-    known: &mut KnownValues<K, C>,
+/// Makes a further change of the summaries that are known. A cut leaves none of them.
+pub(crate) fn follow_summary<K: StoreKey, C: Summarized>(
+    known: &mut KnownSummaries<K, C::Summary>,
     change: &Change<K, C::Delta>,
 )
     ensures { (cs : List (Change K C.Delta)) →
-        AreMade K.cmp C.outcome (cs ++ change.now ∷ []) known.old.entries →
-        AreMade K.cmp C.outcome cs known.new.entries }
+        AreSummed K.cmp C.outcome C.summary_of cs known.old.entries →
+        AreSummed K.cmp C.outcome C.summary_of (cs ++ change.now ∷ []) known.new.entries }
+{
+    let Change::Delta(key, _) = change else {
+        known.clear();
+        return;
+    };
+    let Some(summed) = known.get_mut(key) else {
+        return;
+    };
+    summed.after = changed_summary::<K, C>(change, key, summed.after);
+}
+
+/// Drops what is known of the values that the last change may have made.
+pub(crate) fn unlearn<K: StoreKey, X: Drop, D>(known: &mut BTreeMap<K, X>, change: &Change<K, D>)
+    ensures { Forgets K.cmp change.now known.old.entries known.new.entries }
 {
     match change {
         Change::Delta(key, _) => {

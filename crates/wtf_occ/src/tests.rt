@@ -11,7 +11,7 @@ use std::alloc::Global;
 use std::process::Abort;
 use std::test::Fail;
 use wtf_base::OutOfMemory;
-use wtf_kv::{Applied, Cell, Change, Changes, Kv, StoreKey};
+use wtf_kv::{Cell, Change, Changes, Kv, StoreKey, Summarized};
 
 #[derive(Debug, Drop, PartialEq, Eq, PartialOrd, Ord)]
 struct Name {
@@ -45,24 +45,20 @@ impl Cell for Count {
 
     ghost outcome = { λ now by. cond (nat_eq by 0) Gone (unwrap_or (option_map (λ c. cond (nat_le (c.n + by) 64) (Is (record { n = c.n + by })) Unfit) now) (Is (record { n = by }))) };
 
-    fn apply(
-        _alloc: Global,
-        now: Option<&Count>,
-        delta: &u64,
-    ) -> Result<Applied<Count>, OutOfMemory> {
+    fn apply(_alloc: Global, now: &mut Option<Count>, delta: &u64) -> Result<bool, OutOfMemory> {
         if *delta == 0 {
-            return Ok(Applied::Gone);
+            *now = None;
+            return Ok(true);
         }
         let Some(count) = now else {
-            return Ok(Applied::Is(Count { n: *delta }));
+            *now = Some(Count { n: *delta });
+            return Ok(true);
         };
-        if *delta <= 64 && count.n <= 64 - *delta {
-            Ok(Applied::Is(Count {
-                n: count.n + *delta,
-            }))
-        } else {
-            Ok(Applied::Unfit)
+        if *delta > 64 || count.n > 64 - *delta {
+            return Ok(false);
         }
+        count.n += *delta;
+        Ok(true)
     }
 
     fn copy(&self, _alloc: Global) -> Result<Count, OutOfMemory> {
@@ -71,6 +67,22 @@ impl Cell for Count {
 
     fn is_same(&self, other: &Count, _looks: usize) -> bool {
         self.n == other.n
+    }
+}
+
+impl Summarized for Count {
+    type Summary = ();
+
+    ghost summary_of = { λ _now. tt };
+
+    fn summary(&self) {}
+
+    fn no_summary() {}
+
+    fn summary_after(_before: (), _delta: &u64) {}
+
+    fn same_summary(_a: (), _b: ()) -> bool {
+        true
     }
 }
 

@@ -1,6 +1,6 @@
 //! What an attempt's changes make of a key's value.
 
-ghost use Rattle.std.specs.Prelude.{◌≡◌, None, IfOk, cond, nat_eq, length};
+ghost use Rattle.std.specs.Prelude.{◌≡◌, None, IfOk, OnOk, Option, cond, nat_eq, length};
 ghost use Rattle.std.specs.Option.{option_copied};
 ghost use Rattle.wtf_kv.specs.Edits.{after_change};
 ghost use Rattle.wtf_occ.specs.Positions.{AllBelow, covers, past_cover, after_positions};
@@ -8,36 +8,31 @@ ghost use Rattle.wtf_occ.specs.Positions.{AllBelow, covers, past_cover, after_po
 use crate::known::copied;
 use std::alloc::Global;
 use wtf_base::OutOfMemory;
-use wtf_kv::{Applied, Cell, Change, StoreKey};
+use wtf_kv::{Cell, Change, StoreKey, Summarized};
 
-/// What a change makes of a key's value.
-pub(crate) fn changed<K: StoreKey, C: Cell>(
+/// Makes a change of a key's value. Want of memory may leave anything.
+pub(crate) fn change_value<K: StoreKey, C: Cell>(
     alloc: Global,
     change: &Change<K, C::Delta>,
     key: &K,
-    now: Option<C>,
-) -> Result<Option<C>, OutOfMemory>
-    ensures { IfOk result (λ made. made ≡ after_change K.cmp C.outcome change.now key.now now) }
+    now: &mut Option<C>,
+) -> Result<(), OutOfMemory>
+    ensures { OnOk result
+        (now.new ≡ after_change K.cmp C.outcome change.now key.now now.old) }
 {
     match change {
         Change::Delta(at, delta) => {
-            if !at.cmp(key).is_eq() {
-                return Ok(now);
-            }
-            match C::apply(alloc, now.as_ref(), delta)? {
-                Applied::Is(value) => Ok(Some(value)),
-                Applied::Gone => Ok(None),
-                Applied::Unfit => Ok(now),
+            if at.cmp(key).is_eq() {
+                C::apply(alloc, now, delta)?;
             }
         }
         Change::Cut(from, to) => {
-            if from.cmp(key).is_gt() || key.cmp(to).is_gt() {
-                Ok(now)
-            } else {
-                Ok(None)
+            if from.cmp(key).is_le() && key.cmp(to).is_le() {
+                *now = None;
             }
         }
     }
+    Ok(())
 }
 
 /// One past the position of the last cut that covers a key, 0 where none does.
@@ -96,8 +91,66 @@ pub(crate) fn value_after<K: StoreKey, C: Cell>(
     let mut now = before;
     for position in positions {
         if from <= *position {
-            now = changed::<K, C>(alloc, &changes[*position], key, now)?;
+            change_value::<K, C>(alloc, &changes[*position], key, &mut now)?;
         }
     }
     Ok(now)
+}
+
+/// The summary of a value, where there is one.
+pub(crate) fn summarized<C: Summarized>(value: Option<&C>) -> C::Summary
+    ensures { result ≡ C.summary_of (option_copied value.entry) }
+{
+    match value {
+        Some(value) => value.summary(),
+        None => C::no_summary(),
+    }
+}
+
+/// The summary of what the changes at those of the positions that are at least `from` make of a key's
+/// value, told by the summary before them.
+pub(crate) fn summary_after<K: StoreKey, C: Summarized>(
+    changes: &[Change<K, C::Delta>],
+    positions: &[usize],
+    from: usize,
+    key: &K,
+    before: C::Summary,
+) -> C::Summary
+    requires { AllBelow (length changes.now) positions.now }
+    ensures { (now : Option C) → before ≡ C.summary_of now → result ≡ C.summary_of
+        (after_positions K.cmp C.outcome changes.now key.now from positions.now now) }
+{
+    let mut summary = before;
+    for position in positions {
+        if *position >= from {
+            summary = changed_summary::<K, C>(&changes[*position], key, summary);
+        }
+    }
+    summary
+}
+
+/// The summary of what a change makes of a key's value, told by the summary before it.
+pub(crate) fn changed_summary<K: StoreKey, C: Summarized>(
+    change: &Change<K, C::Delta>,
+    key: &K,
+    before: C::Summary,
+) -> C::Summary
+    ensures { (now : Option C) → before ≡ C.summary_of now →
+        result ≡ C.summary_of (after_change K.cmp C.outcome change.now key.now now) }
+{
+    match change {
+        Change::Delta(at, delta) => {
+            if !at.cmp(key).is_eq() {
+                return before;
+            }
+            C::summary_after(before, delta)
+        }
+        Change::Cut(from, to) => {
+            if from.cmp(key).is_gt() || key.cmp(to).is_gt() {
+                before
+            } else {
+                C::no_summary()
+            }
+        }
+    }
 }

@@ -2,20 +2,22 @@
 //! walks the changes of its key and the cuts by it, and not all changes. Where the key is settled, it walks
 //! none.
 
-ghost use Rattle.std.specs.Prelude.{◌≡◌, ℕ, ◌-◌, ◌<◌, ◌≤◌, ◌∷◌, [], ◌++◌, IsTrue, IfOk, IfSome, OnErr, OnOk, cond, length, take};
+ghost use Rattle.std.specs.Prelude.{◌≡◌, ℕ, Option, ◌-◌, ◌<◌, ◌≤◌, ◌∷◌, [], ◌++◌, IsTrue, IfOk, IfSome, OnErr, OnOk, cond, length, take};
 ghost use Rattle.std.specs.BTreeMap.{is_at};
 ghost use Rattle.std.specs.Option.{option_copied};
 ghost use Rattle.wtf_kv.specs.Edits.{over, after_changes};
 ghost use Rattle.wtf_kv.specs.Stores.{map_at, is_pinned};
 ghost use Rattle.wtf_occ.specs.Positions.{listed_positions, positions_of, front, is_cut, is_delta_of};
 
-use crate::known::{Known, KnownValues, are_same, copied, follow, unlearn};
-use crate::values::{past_cuts, value_after, value_before};
+use crate::known::{
+    Known, KnownSummaries, KnownValues, Summed, are_same, copied, follow, follow_summary, unlearn,
+};
+use crate::values::{past_cuts, summarized, summary_after, value_after, value_before};
 use std::alloc::Global;
 use std::collections::BTreeMap;
 use std::marker::Model;
 use wtf_base::OutOfMemory;
-use wtf_kv::{Cell, Change, Changes, Kv, StoreKey};
+use wtf_kv::{Cell, Change, Changes, Kv, StoreKey, Summarized};
 
 /// The positions of each key's deltas in a list of changes, ascending.
 type Positions<K> = BTreeMap<K, Vec<usize>>;
@@ -25,19 +27,20 @@ const LOOKS: usize = 128;
 
 /// Changes, in order, with their index, and the values that are known. Contracts see the list of changes.
 #[derive(Drop)]
-pub(crate) struct WriteSet<K: StoreKey, C: Cell> {
+pub(crate) struct WriteSet<K: StoreKey, C: Summarized> {
     alloc: Global,
     changes: Changes<K, C>,
     positions: Positions<K>,
     cuts: Vec<usize>,
     known: KnownValues<K, C>,
+    summaries: KnownSummaries<K, C::Summary>,
 }
 
-impl<K: StoreKey, C: Cell> Model for WriteSet<K, C> {
+impl<K: StoreKey, C: Summarized> Model for WriteSet<K, C> {
     ghost use Rattle.std.specs.Prelude.{List};
     ghost use Rattle.wtf_kv.specs.declared.changes.Change.{Change};
     ghost use Rattle.wtf_occ.specs.Positions.{IsIndex, listed_positions};
-    ghost use Rattle.wtf_occ.specs.Known.{AreMade};
+    ghost use Rattle.wtf_occ.specs.Known.{AreMade, AreSummed};
 
     ghost Value = { List (Change K C.Delta) };
 
@@ -45,10 +48,11 @@ impl<K: StoreKey, C: Cell> Model for WriteSet<K, C> {
 
     ghost invariant = { λ w.
         IsIndex K.cmp w.changes (listed_positions w.positions.entries) w.cuts.items
-        × AreMade K.cmp C.outcome w.changes w.known.entries };
+        × AreMade K.cmp C.outcome w.changes w.known.entries
+        × AreSummed K.cmp C.outcome C.summary_of w.changes w.summaries.entries };
 }
 
-impl<K: StoreKey, C: Cell> WriteSet<K, C> {
+impl<K: StoreKey, C: Summarized> WriteSet<K, C> {
     /// No changes.
     pub(crate) fn new(alloc: Global) -> WriteSet<K, C>
         ensures { result ≡ [] }
@@ -59,6 +63,7 @@ impl<K: StoreKey, C: Cell> WriteSet<K, C> {
             positions: BTreeMap::new(alloc),
             cuts: Vec::new(alloc),
             known: BTreeMap::new(alloc),
+            summaries: BTreeMap::new(alloc),
         }
     }
 
@@ -134,6 +139,72 @@ impl<K: StoreKey, C: Cell> WriteSet<K, C> {
         }
     }
 
+    /// The summary of what the changes make of a key's value in the map at `base`.
+    pub(crate) fn summary(&self, kv: &Kv<K, C>, base: u64, key: &K) -> C::Summary
+        requires { IsTrue (is_pinned kv.now base) }
+        ensures { result ≡ C.summary_of
+            (over K.cmp C.outcome self.now (map_at K.cmp kv.now base) key.now) }
+    {
+        let before = summarized(kv.read_at(base, key));
+        match self.known_summary(before, key) {
+            Some(after) => after,
+            None => self.summary_made_of(before, key),
+        }
+    }
+
+    /// The same, which is known then, where deltas are of this key and there is memory for it.
+    pub(crate) fn settled_summary(&mut self, kv: &Kv<K, C>, base: u64, key: &K) -> C::Summary
+        requires { IsTrue (is_pinned kv.now base) }
+        ensures value { result ≡ C.summary_of
+            (over K.cmp C.outcome self.old (map_at K.cmp kv.now base) key.now) }
+        ensures same { self.new ≡ self.old }
+    {
+        let before = summarized(kv.read_at(base, key));
+        if let Some(after) = self.known_summary(before, key) {
+            return after;
+        }
+        let after = self.summary_made_of(before, key);
+        self.keep_summary(key, before, after);
+        after
+    }
+
+    /// What is known of the summary of a key, where that is sure to start from this one.
+    fn known_summary(&self, before: C::Summary, key: &K) -> Option<C::Summary>
+        ensures { IfSome result (λ after. (now : Option C) → before ≡ C.summary_of now →
+            after ≡ C.summary_of (after_changes K.cmp C.outcome self.now key.now now)) }
+    {
+        match self.summaries.get(key) {
+            Some(summed) if C::same_summary(summed.before, before) => Some(summed.after),
+            _ => None,
+        }
+    }
+
+    /// Makes a summary known, where deltas are of this key and there is memory for it.
+    fn keep_summary(&mut self, key: &K, before: C::Summary, after: C::Summary)
+        requires { (now : Option C) → before ≡ C.summary_of now →
+            after ≡ C.summary_of (after_changes K.cmp C.outcome self.old key.now now) }
+        ensures { self.new ≡ self.old }
+    {
+        if positions_in(&self.positions, key).is_empty() {
+            return;
+        }
+        if let Ok(own) = key.copy(self.alloc) {
+            let _ = self.summaries.insert(own, Summed { before, after });
+        }
+    }
+
+    /// The summary of what the changes make of a key's value, by a walk over those of the key and the cuts.
+    fn summary_made_of(&self, before: C::Summary, key: &K) -> C::Summary
+        ensures { (now : Option C) → before ≡ C.summary_of now →
+            result ≡ C.summary_of (after_changes K.cmp C.outcome self.now key.now now) }
+    {
+        let changes = self.changes.as_slice();
+        let from = past_cuts(changes, self.cuts.as_slice(), key);
+        let start = if from == 0 { before } else { C::no_summary() };
+        let positions = positions_in(&self.positions, key);
+        summary_after::<K, C>(changes, positions, from, key, start)
+    }
+
     /// Adds a change of a key's value. Want of memory leaves the list as it was.
     pub(crate) fn delta(&mut self, key: K, d: C::Delta) -> Result<(), OutOfMemory>
         ensures ok { OnOk result (self.new ≡ self.old ++ Change.Delta key d ∷ []) }
@@ -149,7 +220,9 @@ impl<K: StoreKey, C: Cell> WriteSet<K, C> {
             return Err(why);
         }
         let all = self.changes.as_slice();
-        follow(self.alloc, &mut self.known, &all[position]);
+        let change = &all[position];
+        follow(self.alloc, &mut self.known, change);
+        follow_summary::<K, C>(&mut self.summaries, change);
         Ok(())
     }
 
@@ -168,6 +241,7 @@ impl<K: StoreKey, C: Cell> WriteSet<K, C> {
             return Err(why);
         }
         self.known.clear();
+        self.summaries.clear();
         Ok(())
     }
 
@@ -181,6 +255,7 @@ impl<K: StoreKey, C: Cell> WriteSet<K, C> {
         let change = &all[last];
         forget(&mut self.positions, &mut self.cuts, change);
         unlearn(&mut self.known, change);
+        unlearn(&mut self.summaries, change);
         self.changes.shorten(last);
     }
 

@@ -3,3 +3,4 @@ pub mod NameLaws
 pub mod RegionLaws
 pub mod OutcomeLaws
 mod Summed
+mod SummaryLaws

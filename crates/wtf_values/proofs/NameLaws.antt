@@ -1,6 +1,6 @@
 -- Laws of sets of names.
-use Rattle.std.proofs.Common.{◌≡◌, ◌≢◌, ℕ, zero, suc, ◌+◌, ◌-◌, ◌<◌, ◌≤◌, ◌++◌, Bool, true, false, cond, not, ◌&&◌, ◌||◌, List, [], ◌∷◌, map, take, drop, length, get_or, Option, None, Some, is_some, Result, Ok, Err, IfOk, IfErr, refl, ap, sym, subst, ◌∙◌, arith, append_assoc, inl, inr}
-use Rattle.std.specs.Prelude.{T}
+use Rattle.std.proofs.Common.{◌≡◌, ◌≢◌, ℕ, zero, suc, ◌+◌, ◌-◌, ◌<◌, ◌≤◌, ◌++◌, Bool, true, false, cond, not, ◌&&◌, ◌||◌, List, [], ◌∷◌, map, take, drop, length, get_or, Option, None, Some, is_some, Result, Ok, Err, IfOk, IfErr, refl, ap, sym, subst, ◌∙◌, arith, inl, inr}
+use Rattle.std.specs.Prelude.{T, slice_get}
 use Rattle.std.specs.Ordering.{is_eq, is_lt, ordering_index, ordering_reverse}
 use Rattle.std.specs.Cmp.{tied_itself, eq_by_cmp_equiv}
 use Rattle.std.specs.Cmp.Lexicographic.{nat_list_cmp_total}
@@ -11,6 +11,7 @@ use Rattle.std.specs.FinMap.Entries.{by_order, put, find, where_key, below_all, 
 use Rattle.std.specs.List.{list_any}
 use Rattle.std.specs.List.Sorted.{IsNonDecreasingBy, IsSearchInRange, IsBinarySearchResult}
 use Rattle.std.proofs.lemmas.List.{get_or_default}
+use Rattle.std.proofs.lemmas.Option.{get_or_from_slice_get, slice_get-get_or}
 use Rattle.std.proofs.lemmas.Bool.{cases_Bool, cases_lt, or_left, or_right}
 use Rattle.wtf_values.specs.Names.{name_cmp, NamesOf, no_names, has_name, with_name, without_name, names_in, as_entries, Rise, set_of, IsAt, IsGap}
 
@@ -135,6 +136,11 @@ right_of : (a b : Bool) → T (a && b) → T b
 right_of true b h = h
 right_of false b h = absurd h
 
+less_is : (o : Ordering) → is_lt o ≡ true → o ≡ Less
+less_is Less h = refl
+less_is Equal h = absurd (cc)
+less_is Greater h = absurd (cc)
+
 less_when : (o : Ordering) → T (is_lt o) → o ≡ Less
 less_when Less h = refl
 less_when Equal h = absurd h
@@ -232,6 +238,37 @@ set_of-with names name i rise gap = same_entries_map _ _
     (entries-from_sorted name_cmp (as_entries (take i names ++ name ∷ drop i names)) (Rise-with names name i rise gap) ∙ sym (put_gap names name i gap)
     ∙ ap (put name_cmp name tt) (sym (entries-from_sorted name_cmp (as_entries names) rise)) ∙ sym (entries-insert nat_list_cmp_total (set_of names) name tt))
 
+-- a name that comes after the last one has its gap at the end
+pub last_gap : (names : List (List ℕ)) (last name : List ℕ) → Rise names → slice_get names (length names - 1) ≡ Some last → is_lt (name_cmp last name) ≡ true → IsGap names name (length names)
+last_gap names last name rise at less =
+    let end = length names - 1 in
+    let is : get_or names end name ≡ last = get_or_from_slice_get names end last name at in
+    let before : name_cmp (get_or names end name) name ≡ Less = ap (λ x. name_cmp x name) is ∙ less_is (name_cmp last name) less in
+    record {
+      inside = omega arith;
+      before = λ j lt. elim (cases_lt j end) [
+        | inl lower ↦ nat_list_cmp_total.trans (get_or names j name) (get_or names end name) name (rise_at names j end name rise lower (omega (arith, lt))) before
+        | inr upper ↦ (let s : j ≡ end = omega (arith, lt) in ap (λ n. name_cmp (get_or names n name) name) s ∙ before)
+      ];
+      after = λ j le lt. absurd (omega arith);
+    }
+
+-- and so has any name where there is no other
+pub empty_gap : (names : List (List ℕ)) (name : List ℕ) → slice_get names (length names - 1) ≡ None → IsGap names name (length names)
+empty_gap [] name none = record { inside = omega arith; before = λ j lt. absurd (omega arith); after = λ j le lt. absurd (omega arith) }
+empty_gap (k ∷ ks) name none = absurd (let some = slice_get-get_or (k ∷ ks) (length (k ∷ ks) - 1) name (omega arith) in let no : None ≡ Some (get_or (k ∷ ks) (length (k ∷ ks) - 1) name) = sym none ∙ some in cc)
+
+put_last : (names : List (List ℕ)) (name : List ℕ) → take (length names) names ++ name ∷ drop (length names) names ≡ names ++ name ∷ []
+put_last [] name = refl
+put_last (k ∷ ks) name = ap (λ l. k ∷ l) (put_last ks name)
+
+-- names with one more behind them rise, and are the set with it
+pub Rise-last : (names : List (List ℕ)) (name : List ℕ) → Rise names → IsGap names name (length names) → Rise (names ++ name ∷ [])
+Rise-last names name rise gap = subst Rise (put_last names name) (Rise-with names name (length names) rise gap)
+
+pub set_of-last : (names : List (List ℕ)) (name : List ℕ) → Rise names → IsGap names name (length names) → set_of (names ++ name ∷ []) ≡ with_name (set_of names) name
+set_of-last names name rise gap = ap set_of (sym (put_last names name)) ∙ set_of-with names name (length names) rise gap
+
 -- the test that keeps all but one name
 abbrev others : List ℕ → List ℕ → Bool
 others name x = not (is_eq (name_cmp name x))
@@ -287,13 +324,6 @@ set_of-nil = empty_of_len (set_of []) (len-entries (set_of []) ∙ ap length (en
 -- the names of a set that is made of names that rise, by what it is
 pub named : (names : List (List ℕ)) (s : NamesOf) → set_of names ≡ s → Rise names → names_in s ≡ names
 named names s is rise = ap names_in (sym is) ∙ names_in-set_of names rise
-
--- lists that were joined part by part
-pub joined_three : {A : Type 0} (start a b c all : List A) (x : A) → start ≡ [] → a ≡ start ++ b → all ≡ (a ++ x ∷ []) ++ c → all ≡ b ++ x ∷ c
-joined_three start a b c all x none first next = next ∙ ap (λ l. (l ++ x ∷ []) ++ c) (first ∙ ap (λ l. l ++ b) none) ∙ append_assoc b (x ∷ []) c
-
-pub joined_two : {A : Type 0} (start a b c all : List A) → start ≡ [] → a ≡ start ++ b → all ≡ a ++ c → all ≡ b ++ c
-joined_two start a b c all none first next = next ∙ ap (λ l. l ++ c) (first ∙ ap (λ l. l ++ b) none)
 
 -- a name that is taken out leaves the others
 pub has-other : (s : NamesOf) (name other : List ℕ) → name ≢ other → has_name (without_name s name) other ≡ has_name s other

@@ -3,3 +3,4 @@ pub mod Keys
 pub mod Names
 pub mod Regions
 pub mod Outcomes
+pub mod Summaries

@@ -1,13 +1,17 @@
-//! What comes of a change.
+//! A change of a value.
 
-ghost use Rattle.std.specs.Prelude.{◌≡◌, IfOk, Option, None, Some};
+ghost use Rattle.std.specs.Prelude.{◌≡◌, IfOk, OnOk, Option, None, Some, true};
 ghost use Rattle.std.specs.Option.{option_copied};
+ghost use Rattle.wtf_kv.specs.Edits.{value_made, fits};
+ghost use Rattle.wtf_kv.specs.declared.cell.Applied.TheVariants.{Is};
+ghost use Rattle.wtf_values.specs.declared.value.Value.TheVariants.{Names, Last, Region};
 ghost use Rattle.wtf_values.specs.Outcomes.{makes_region, outcome_kind, outcome_region, outcome_last, outcome_names};
 
-use crate::{Delta, NameSet, RegionValue, Value};
+use crate::summary::{summarize, summary_after};
+use crate::{Delta, NameSet, RegionValue, Summary, Value};
 use std::alloc::Global;
 use wtf_base::OutOfMemory;
-use wtf_kv::{Applied, Cell};
+use wtf_kv::{Cell, Summarized};
 
 impl Cell for Value {
     type Delta = Delta;
@@ -16,16 +20,13 @@ impl Cell for Value {
 
     ghost outcome = { outcome_of };
 
-    fn apply(
-        alloc: Global,
-        now: Option<&Value>,
-        delta: &Delta,
-    ) -> Result<Applied<Value>, OutOfMemory> {
+    fn apply(alloc: Global, now: &mut Option<Value>, delta: &Delta) -> Result<bool, OutOfMemory> {
         match delta {
-            Delta::Put(value) => Ok(Applied::Is(copy_of(value)?)),
-            Delta::Remove => Ok(Applied::Gone),
-            _ => kind_after(alloc, now, delta),
+            Delta::Put(value) => *now = Some(copy_of(value)?),
+            Delta::Remove => *now = None,
+            _ => return change_kind(alloc, now, delta),
         }
+        Ok(true)
     }
 
     fn copy(&self, _alloc: Global) -> Result<Value, OutOfMemory> {
@@ -43,6 +44,30 @@ impl Cell for Value {
     }
 }
 
+impl Summarized for Value {
+    type Summary = Summary;
+
+    ghost use Rattle.wtf_values.specs.Summaries.{summary_of};
+
+    ghost summary_of = { summary_of };
+
+    fn summary(&self) -> Summary {
+        summarize(self)
+    }
+
+    fn no_summary() -> Summary {
+        Summary::Missing
+    }
+
+    fn summary_after(before: Summary, delta: &Delta) -> Summary {
+        summary_after(before, delta)
+    }
+
+    fn same_summary(a: Summary, b: Summary) -> bool {
+        a == b
+    }
+}
+
 /// The same value for another holder.
 fn copy_of(value: &Value) -> Result<Value, OutOfMemory>
     ensures { IfOk result (λ made. made ≡ value.now) }
@@ -55,32 +80,61 @@ fn copy_of(value: &Value) -> Result<Value, OutOfMemory>
     }
 }
 
-/// What comes of a change that neither sets nor takes out.
-fn kind_after(
-    alloc: Global,
-    now: Option<&Value>,
-    delta: &Delta,
-) -> Result<Applied<Value>, OutOfMemory>
-    ensures { IfOk result (λ made. made ≡ outcome_kind (option_copied now.entry) delta.now) }
+/// Makes a change that neither sets nor takes out, where it fits.
+fn change_kind(alloc: Global, now: &mut Option<Value>, delta: &Delta) -> Result<bool, OutOfMemory>
+    ensures fit { IfOk result (λ fit. fit ≡ fits (outcome_kind now.old delta.now)) }
+    ensures value { OnOk result
+        (now.new ≡ value_made (outcome_kind now.old delta.now) now.old) }
 {
+    if !fits(now.as_ref(), delta) {
+        return Ok(false);
+    }
+    *now = kind_after(alloc, now.take(), delta)?;
+    Ok(true)
+}
+
+/// Whether a change that neither sets nor takes out fits.
+fn fits(now: Option<&Value>, delta: &Delta) -> bool
+    ensures { result ≡ fits (outcome_kind (option_copied now.entry) delta.now) }
+{
+    let Delta::PushRel(pieces, size) = delta else {
+        return true;
+    };
     match now {
-        None => none_after(alloc, delta),
-        Some(Value::Node(node)) => Ok(Applied::Is(Value::Node(*node))),
-        Some(Value::Names(names)) => names_after(names, delta),
-        Some(Value::Last(n)) => Ok(last_after(*n, delta)),
-        Some(Value::Region(region)) => region_after(region, delta),
+        None => pieces.bytes() <= *size as u64,
+        Some(Value::Region(region)) => region.has_room(pieces, *size),
+        Some(_) => true,
     }
 }
 
-/// What comes of a change of a missing value.
-fn none_after(alloc: Global, delta: &Delta) -> Result<Applied<Value>, OutOfMemory>
-    ensures { IfOk result (λ made. made ≡ outcome_region None delta.now) }
+/// What a change that neither sets nor takes out makes of a value.
+fn kind_after(
+    alloc: Global,
+    now: Option<Value>,
+    delta: &Delta,
+) -> Result<Option<Value>, OutOfMemory>
+    requires { fits (outcome_kind now delta.now) ≡ true }
+    ensures { IfOk result (λ made. made ≡ value_made (outcome_kind now delta.now) now) }
+{
+    match now {
+        None => none_after(alloc, delta),
+        Some(Value::Node(node)) => Ok(Some(Value::Node(node))),
+        Some(Value::Names(names)) => Ok(Some(Value::Names(names_after(names, delta)?))),
+        Some(Value::Last(n)) => Ok(Some(Value::Last(last_after(n, delta)))),
+        Some(Value::Region(region)) => Ok(Some(Value::Region(region_after(region, delta)?))),
+    }
+}
+
+/// What a change makes of a missing value.
+fn none_after(alloc: Global, delta: &Delta) -> Result<Option<Value>, OutOfMemory>
+    requires { fits (outcome_region None delta.now) ≡ true }
+    ensures { IfOk result (λ made. made ≡ value_made (outcome_region None delta.now) None) }
 {
     if makes_region(delta) {
         let empty = RegionValue::empty(alloc)?;
-        return region_after(&empty, delta);
+        return Ok(Some(Value::Region(region_after(empty, delta)?)));
     }
-    Ok(Applied::Gone)
+    Ok(None)
 }
 
 /// Whether a change makes a missing region.
@@ -95,45 +149,44 @@ fn makes_region(delta: &Delta) -> bool
     }
 }
 
-/// What comes of a change of a region.
-fn region_after(region: &RegionValue, delta: &Delta) -> Result<Applied<Value>, OutOfMemory>
-    ensures { IfOk result (λ made. made ≡ outcome_region (Some region.now) delta.now) }
+/// What a change makes of a region.
+fn region_after(region: RegionValue, delta: &Delta) -> Result<RegionValue, OutOfMemory>
+    requires { fits (outcome_region (Some region) delta.now) ≡ true }
+    ensures { IfOk result (λ made. outcome_region (Some region) delta.now ≡ Is (Region made)) }
 {
     match delta {
-        Delta::Push(e) => Ok(Applied::Is(Value::Region(region.copy()?.push(*e)?))),
+        Delta::Push(e) => region.push(*e),
         Delta::PushRel(pieces, size) => {
-            if region.has_room(pieces, *size) {
-                Ok(Applied::Is(Value::Region(region.copy()?.add_all(pieces.as_slice())?)))
-            } else {
-                Ok(Applied::Unfit)
-            }
+            // Read, so that its range is known.
+            let _size = *size;
+            region.add_all(pieces.as_slice())
         }
-        Delta::Clip(end) => Ok(Applied::Is(Value::Region(region.copy()?.clip(*end)?))),
-        Delta::ZeroWithin(from, upto) => Ok(Applied::Is(Value::Region(
-            region.copy()?.zero_within(*from, *upto)?,
-        ))),
-        _ => Ok(Applied::Is(Value::Region(region.copy()?))),
+        Delta::Clip(end) => region.clip(*end),
+        Delta::ZeroWithin(from, upto) => region.zero_within(*from, *upto),
+        _ => Ok(region),
     }
 }
 
-/// What comes of a change of the number of a last region.
-fn last_after(n: u16, delta: &Delta) -> Applied<Value>
-    ensures { result ≡ outcome_last n delta.now }
+/// What a change makes of the number of a last region.
+fn last_after(n: u16, delta: &Delta) -> u16
+    ensures { outcome_last n delta.now ≡ Is (Last result) }
 {
     match delta {
-        Delta::RaiseLast(r) => Applied::Is(Value::Last(n.max(*r))),
-        Delta::SetLast(r) => Applied::Is(Value::Last(*r)),
-        _ => Applied::Is(Value::Last(n)),
+        Delta::RaiseLast(r) => n.max(*r),
+        Delta::SetLast(r) => *r,
+        _ => n,
     }
 }
 
-/// What comes of a change of the names in a directory.
-fn names_after(names: &NameSet, delta: &Delta) -> Result<Applied<Value>, OutOfMemory>
-    ensures { IfOk result (λ made. made ≡ outcome_names names.now delta.now) }
+/// What a change makes of the names in a directory.
+fn names_after(names: NameSet, delta: &Delta) -> Result<NameSet, OutOfMemory>
+    ensures { IfOk result (λ made. outcome_names names delta.now ≡ Is (Names made)) }
 {
+    let mut names = names;
     match delta {
-        Delta::DirAdd(name) => Ok(Applied::Is(Value::Names(names.with(name)?))),
-        Delta::DirDel(name) => Ok(Applied::Is(Value::Names(names.without(name.as_bytes())?))),
-        _ => Ok(Applied::Is(Value::Names(names.copy()?))),
+        Delta::DirAdd(name) => names.add(name.share()?)?,
+        Delta::DirDel(name) => names.remove(name.as_bytes()),
+        _ => {}
     }
+    Ok(names)
 }

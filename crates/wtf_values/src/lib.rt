@@ -12,6 +12,7 @@ mod name_set;
 mod pieces;
 mod region;
 mod store_key;
+mod summary;
 mod value;
 
 pub use key::Key;
@@ -19,6 +20,7 @@ pub use name::Name;
 pub use name_set::NameSet;
 pub use pieces::Pieces;
 pub use region::{RegionValue, Spill};
+pub use summary::Summary;
 pub use value::{Delta, Node, Value};
 
 #[cfg(test)]

@@ -1,6 +1,6 @@
 //! The names in a directory.
 
-ghost use Rattle.std.specs.Prelude.{◌≡◌, ℕ, List, ◌<◌, ◌≤◌, ◌++◌, length, take, drop, slice_get, Some, IfOk, IfErr, OnOk, IsTrue};
+ghost use Rattle.std.specs.Prelude.{◌≡◌, ℕ, List, ◌<◌, ◌≤◌, ◌++◌, length, take, drop, slice_get, Some, IfOk, IfErr, OnOk, OnErr, IsTrue};
 ghost use Rattle.wtf_values.specs.Names.{no_names, names_in, has_name, with_name, without_name, IsAt, IsGap};
 
 use crate::Name;
@@ -82,23 +82,31 @@ impl NameSet {
         self.names.len() <= looks && are_same(self.names.as_slice(), other.names.as_slice())
     }
 
-    /// The set with a name, which may be there already. It costs a handle a name.
-    pub fn with(&self, name: &Name) -> Result<NameSet, OutOfMemory>
-        ensures { IfOk result (λ s. s ≡ with_name self.now name.now) }
+    /// Adds a name, which may be there already. Behind all others, as where names come in order, it
+    /// costs a step; else a search, and a move of the handles behind it. Want of memory leaves the
+    /// set as it was.
+    pub fn add(&mut self, name: Name) -> Result<(), OutOfMemory>
+        ensures ok { OnOk result (self.new ≡ with_name self.old name) }
+        ensures err { OnErr result (self.new ≡ self.old) }
     {
+        if self.is_behind(name.as_bytes()) {
+            self.names.push(name)?;
+            return Ok(());
+        }
         match self.place(name.as_bytes()) {
-            Ok(_) => self.copy(),
-            Err(at) => self.with_at(at, name),
+            Ok(_) => Ok(()),
+            Err(at) => self.add_at(at, name),
         }
     }
 
-    /// The set without a name, which need not be there. It costs a handle a name.
-    pub fn without(&self, name: &[u8]) -> Result<NameSet, OutOfMemory>
-        ensures { IfOk result (λ s. s ≡ without_name self.now name.now) }
+    /// Takes a name out, which need not be there. It costs a search, and a move of the handles
+    /// behind it.
+    pub fn remove(&mut self, name: &[u8])
+        ensures { self.new ≡ without_name self.old name.now }
     {
         match self.place(name) {
-            Ok(at) => self.without_at(at),
-            Err(_) => self.copy(),
+            Ok(at) => self.remove_at(at),
+            Err(_) => {}
         }
     }
 
@@ -110,32 +118,34 @@ impl NameSet {
         self.names.as_slice().binary_search_by(|n| n.compare(name))
     }
 
-    /// The set with a name at the place where it would go.
-    fn with_at(&self, at: usize, name: &Name) -> Result<NameSet, OutOfMemory>
-        requires { IsGap (names_in self.now) name.now at }
-        ensures { IfOk result (λ s. s ≡ with_name self.now name.now) }
+    /// Whether a name lies behind all others.
+    fn is_behind(&self, name: &[u8]) -> bool
+        ensures { IsTrue result →
+            IsGap (names_in self.now) name.now (length (names_in self.now)) }
     {
-        let (before, after) = self.names.as_slice().split_at(at);
-        let mut names = Vec::with_capacity(*self.names.allocator(), self.names.len() + 1)?;
-        share_all(&mut names, before)?;
-        names.push(name.share()?)?;
-        share_all(&mut names, after)?;
-        Ok(NameSet { names })
+        match self.names.as_slice().last() {
+            Some(last) => last.compare(name).is_lt(),
+            None => true,
+        }
     }
 
-    /// The set without the name at `at`.
-    fn without_at(&self, at: usize) -> Result<NameSet, OutOfMemory>
-        requires { at < length (names_in self.now) }
-        ensures { (name : List ℕ) → IsAt (names_in self.now) name at →
-            IfOk result (λ s. s ≡ without_name self.now name) }
+    /// Adds a name at the place where it would go. Want of memory leaves the set as it was.
+    fn add_at(&mut self, at: usize, name: Name) -> Result<(), OutOfMemory>
+        requires { IsGap (names_in self.old) name at }
+        ensures ok { OnOk result (self.new ≡ with_name self.old name) }
+        ensures err { OnErr result (self.new ≡ self.old) }
     {
-        let all = self.names.as_slice();
-        let (before, _) = all.split_at(at);
-        let (_, after) = all.split_at(at + 1);
-        let mut names = Vec::with_capacity(*self.names.allocator(), self.names.len())?;
-        share_all(&mut names, before)?;
-        share_all(&mut names, after)?;
-        Ok(NameSet { names })
+        self.names.insert(at, name)?;
+        Ok(())
+    }
+
+    /// Takes out the name at `at`.
+    fn remove_at(&mut self, at: usize)
+        requires { at < length (names_in self.old) }
+        ensures { (name : List ℕ) → IsAt (names_in self.old) name at →
+            self.new ≡ without_name self.old name }
+    {
+        self.names.remove(at);
     }
 }
 

@@ -4,7 +4,7 @@ use super::*;
 use std::alloc::Global;
 use std::test::Fail;
 use wtf_base::{InodeId, Pointer, ServerId, Slice, TxId};
-use wtf_kv::{Applied, Cell, StoreKey};
+use wtf_kv::{Cell, StoreKey};
 use wtf_overlay::{Part, Piece};
 use wtf_path::Path;
 
@@ -20,14 +20,13 @@ enum Shape {
     Node(Node),
 }
 
-fn shape_of(applied: &Applied<Value>) -> Shape {
-    match applied {
-        Applied::Gone => Shape::Gone,
-        Applied::Unfit => Shape::Unfit,
-        Applied::Is(Value::Node(node)) => Shape::Node(*node),
-        Applied::Is(Value::Names(names)) => Shape::Names(names.count()),
-        Applied::Is(Value::Last(n)) => Shape::Last(*n),
-        Applied::Is(Value::Region(v)) => {
+fn shape_of(value: Option<&Value>) -> Shape {
+    match value {
+        None => Shape::Gone,
+        Some(Value::Node(node)) => Shape::Node(*node),
+        Some(Value::Names(names)) => Shape::Names(names.count()),
+        Some(Value::Last(n)) => Shape::Last(*n),
+        Some(Value::Region(v)) => {
             Shape::Region(v.end, v.base.map(|spill| spill.visible), v.list.len())
         }
     }
@@ -36,11 +35,26 @@ fn shape_of(applied: &Applied<Value>) -> Shape {
 /// Whether each change makes of the value what stands beside it.
 fn hold(alloc: Global, now: Option<&Value>, rows: &[(Delta, Shape)]) -> Result<bool, Fail> {
     for (delta, want) in rows {
-        if shape_of(&Value::apply(alloc, now, delta)?) != *want {
+        if shape_after(alloc, now, delta)? != *want {
             return Ok(false);
         }
     }
     Ok(true)
+}
+
+/// What comes of a change of a copy of the value. One that does not fit leaves the copy.
+fn shape_after(alloc: Global, now: Option<&Value>, delta: &Delta) -> Result<Shape, Fail> {
+    let mut value = match now {
+        Some(value) => Some(value.copy(alloc)?),
+        None => None,
+    };
+    if Value::apply(alloc, &mut value, delta)? {
+        return Ok(shape_of(value.as_ref()));
+    }
+    if shape_of(value.as_ref()) != shape_of(now) {
+        return Err("an unfit change left another value".into());
+    }
+    Ok(Shape::Unfit)
 }
 
 /// Zeros of `len` bytes, as one piece.
@@ -69,9 +83,16 @@ fn name(alloc: Global, path: &[u8]) -> Result<Name, Fail> {
 
 /// The names b, a and c.
 fn names(alloc: Global) -> Result<NameSet, Fail> {
-    let b = NameSet::new(alloc).with(&name(alloc, b"/b")?)?;
-    let both = b.with(&name(alloc, b"/a")?)?;
-    Ok(both.with(&name(alloc, b"/c")?)?)
+    added(alloc, &[b"/b", b"/a", b"/c"])
+}
+
+/// The names of these paths, added one by one.
+fn added(alloc: Global, paths: &[&[u8]]) -> Result<NameSet, Fail> {
+    let mut set = NameSet::new(alloc);
+    for path in paths {
+        set.add(name(alloc, path)?)?;
+    }
+    Ok(set)
 }
 
 #[test]
@@ -114,9 +135,26 @@ fn other_values_change_as_asked(rt: HostRuntime) -> Result<(), Fail> {
 }
 
 #[test]
+fn names_are_added_in_any_order(rt: HostRuntime) -> Result<(), Fail> {
+    let alloc = rt.alloc();
+    let rows: [&[&[u8]]; 4] = [
+        &[b"/a", b"/b", b"/c"],
+        &[b"/c", b"/a", b"/b"],
+        &[b"/a", b"/a", b"/b", b"/c", b"/c"],
+        &[b"/b", b"/c", b"/b", b"/a"],
+    ];
+    let want = names(alloc)?;
+    for row in rows {
+        assert!(rt; added(alloc, row)?.is_same(&want, 3));
+    }
+    Ok(())
+}
+
+#[test]
 fn names_and_keys_stand_in_order(rt: HostRuntime) -> Result<(), Fail> {
     let alloc = rt.alloc();
-    let set = names(alloc)?.without(b"c")?;
+    let mut set = names(alloc)?;
+    set.remove(b"c");
     assert!(rt; set.contains(b"a") && !set.contains(b"c"));
     if set.count() == 2 {
         assert_eq!(rt; set.name(0), b"a".as_slice());

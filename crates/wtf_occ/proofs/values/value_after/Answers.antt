@@ -3,7 +3,7 @@ use Rattle.std.proofs.lemmas.Bool.{le-leb, lt-leb}
 use Rattle.wtf_kv.specs.Edits.{after_changes}
 use Rattle.wtf_occ.proofs.Indexed.{below-at, change-here, after_positions-step}
 use Rattle.wtf_occ.proofs.values.value_after.Goals as goal
-use Rattle.wtf_occ.proofs.values.value_after.Goals.{then-from-position+in_ok-now, else-from-position}
+use Rattle.wtf_occ.proofs.values.value_after.Goals.{then-from-position+in_ok-change_value, else-from-position}
 
 pub offset_bounds-changes-position : goal.offset_bounds-changes-position
 offset_bounds-changes-position g c = omega (arith, below-at _ c.args.positions.now c.loop-position.position-index 0 c.requires c.loop-position-test.true)
@@ -25,7 +25,7 @@ loop-position-preserved g c =
     let made = after_changes order outcome (take 1 (drop i cs)) key now in
     let next : c.if-from-position.now ≡ cond (nat_le c.args.from i) made now =
     elim c.if-from-position.branch [
-      | then-from-position+in_ok-now w ↦ w.now-is ∙ w.in_ok-now.ensures
+      | then-from-position+in_ok-change_value w ↦ w.now-is ∙ w.in_ok-change_value.ensures
           ∙ sym (change-here order cs key is k c.loop-position-test.true outcome i w.index-changes-position.result now lt w.index-changes-position.is)
           ∙ sym (ap (λ b. cond b made now) (le-leb c.args.from i w.if-from-position.true))
       | else-from-position w ↦ w.now-is ∙ sym (ap (λ b. cond b made now) (lt-leb c.args.from i w.if-from-position.false))

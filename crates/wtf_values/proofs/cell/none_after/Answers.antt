@@ -1,13 +1,17 @@
-use Rattle.std.proofs.Common.{◌≡◌, ◌∙◌, IfOk, Some, sym, subst}
-use Rattle.wtf_kv.specs.declared.cell.Applied.{Applied}
-use Rattle.wtf_values.specs.declared.region.RegionValue.{RegionValue}
-use Rattle.wtf_values.specs.declared.value.Value.{Value}
-use Rattle.wtf_values.specs.Outcomes.{outcome_region}
+use Rattle.std.proofs.Common.{◌≡◌, ◌∙◌, None, Some, true, sym, ap}
+use Rattle.wtf_kv.specs.Edits.{fits, value_made}
+use Rattle.wtf_values.specs.Outcomes.{makes_region, outcome_region}
 use Rattle.wtf_values.proofs.OutcomeLaws.{makes_of_empty}
 use Rattle.wtf_values.proofs.cell.none_after.Goals as goal
+
+pub region_after-requires : goal.region_after-requires
+region_after-requires c =
+    let d = c.args.delta.now in
+    let makes : makes_region d ≡ true = sym c.makes_region.ensures ∙ c.if-makes_region.true in
+    ap (λ v. fits (outcome_region (Some v) d)) c.in_ok-empty.ensures ∙ ap fits (makes_of_empty d makes) ∙ c.requires
 
 pub returns-then-makes_region : goal.returns-then-makes_region
 returns-then-makes_region c =
     let d = c.args.delta.now in
-    subst (λ (w : Applied Value). IfOk c.region_after.result (λ made. made ≡ w)) (makes_of_empty d (sym c.makes_region.ensures ∙ c.if-makes_region.true))
-    (subst (λ (v : RegionValue). IfOk c.region_after.result (λ made. made ≡ outcome_region (Some v) d)) c.in_ok-empty.ensures c.region_after.ensures)
+    let makes : makes_region d ≡ true = sym c.makes_region.ensures ∙ c.if-makes_region.true in
+    sym (ap (λ o. value_made o None) (sym (makes_of_empty d makes) ∙ ap (λ v. outcome_region (Some v) d) (sym c.in_ok-empty.ensures) ∙ c.in_ok-region_after.ensures))

@@ -1,7 +1,7 @@
 use Rattle.std.proofs.Common.{◌≡◌, ◌∙◌, ◌++◌, ◌∷◌, [], ap, sym, subst, refl, cond, get_or}
 use Rattle.std.specs.BTreeMap.{is_at}
 use Rattle.wtf_kv.specs.declared.changes.Change.TheVariants.{Delta}
-use Rattle.wtf_occ.specs.Known.{AreMade}
+use Rattle.wtf_occ.specs.Known.{AreMade, AreSummed}
 use Rattle.wtf_occ.specs.Positions.{listed_positions, positions_of}
 use Rattle.wtf_occ.proofs.Noted.{index_pushed, last_is}
 use Rattle.wtf_occ.proofs.write_set.WriteSet.delta.Goals as goal
@@ -23,4 +23,5 @@ invariant_of-self-2 g c =
           ∙ ap (λ n. cond (is_at (order c.args.key) q) (positions_of order old q ++ n ∷ []) (positions_of order old q)) c.len-position.ensures)
           refl,
       subst (λ l. AreMade order g.C.Cell.outcome l c.follow.new.known.entries) (ap (λ x. inside.changes ++ x ∷ []) last ∙ sym pushed) (c.follow.ensures inside.changes c.self.invariant.1),
+      subst (λ l. AreSummed order g.C.Cell.outcome g.C.Summarized.summary_of l c.follow_summary.new.known.entries) (ap (λ x. inside.changes ++ x ∷ []) last ∙ sym pushed) (c.follow_summary.ensures inside.changes c.self.invariant.2),
     )

@@ -1,11 +1,15 @@
 use Rattle.std.proofs.Common.{sym, ap, ◌∙◌, ◌≡◌, ◌<◌, ◌-◌, ◌∷◌, ◌++◌, [], take, length, get_or, subst}
 use Rattle.wtf_occ.specs.Positions.{listed_positions}
-use Rattle.wtf_occ.specs.Known.{AreMade}
+use Rattle.wtf_occ.specs.Known.{AreMade, AreSummed, IsMade, IsSummed}
+use Rattle.wtf_occ.proofs.Knowing.{AreKnown-back, made_stays, summed_stays}
 use Rattle.wtf_occ.proofs.Noted.{index_dropped, ends_with}
 use Rattle.wtf_occ.proofs.write_set.WriteSet.drop_last.Goals as goal
 
 pub invariant_of-self : goal.invariant_of-self
 invariant_of-self g c =
+    let order = g.K.Ord.cmp in
+    let outcome = g.C.Cell.outcome in
+    let summary = g.C.Summarized.summary_of in
     let inside = c.self.inside in
     let all = inside.changes in
     let change = c.index-all-last.result in
@@ -18,5 +22,8 @@ invariant_of-self g c =
           ends
           c.forget.ensures.deltas
           c.forget.ensures.cuts,
-      c.unlearn.ensures c.shorten.new.self (subst (λ l. AreMade g.K.Ord.cmp g.C.Cell.outcome l inside.known.entries) ends c.self.invariant.1),
+      AreKnown-back order (IsMade order outcome) (made_stays order outcome) g.met.K.StoreKey.exact c.shorten.new.self inside.known.entries c.unlearn.new.known.entries change c.unlearn.ensures
+          (subst (λ l. AreMade order outcome l inside.known.entries) ends c.self.invariant.1),
+      AreKnown-back order (IsSummed order outcome summary) (summed_stays order outcome summary) g.met.K.StoreKey.exact c.shorten.new.self inside.summaries.entries c.unlearn-2.new.known.entries change c.unlearn-2.ensures
+          (subst (λ l. AreSummed order outcome summary l inside.summaries.entries) ends c.self.invariant.2),
     )

@@ -1,0 +1,14 @@
+-- What is told of a value without its parts.
+use Rattle.std.specs.Prelude.{Option, None, Some}
+use Rattle.wtf_values.specs.declared.summary.Summary.{Summary}
+use Rattle.wtf_values.specs.declared.summary.Summary.TheVariants as summary
+use Rattle.wtf_values.specs.declared.value.Value.{Value}
+use Rattle.wtf_values.specs.declared.value.Value.TheVariants.{Node, Names, Last, Region}
+
+-- the number of a last region, or where a region ends
+abbrev pub summary_of : Option Value → Summary
+summary_of None = summary.Missing
+summary_of (Some (Last n)) = summary.Last n
+summary_of (Some (Region v)) = summary.Region v.end
+summary_of (Some (Names s)) = summary.Other
+summary_of (Some (Node n)) = summary.Other
