@@ -1,5 +1,5 @@
 -- Tables of the names in directories, made path by path.
-use Rattle.std.proofs.Common.{◌≡◌, ℕ, ◌+◌, ◌<◌, Bool, true, false, cond, List, [], ◌∷◌, ◌++◌, take, length, get_or, Option, Some, refl, sym, ap, ◌∙◌, inl, inr}
+use Rattle.std.proofs.Common.{◌≡◌, ℕ, ◌+◌, ◌<◌, Bool, cond, List, [], ◌∷◌, ◌++◌, take, length, get_or, Option, Some, refl, sym, ap, ◌∙◌, inl, inr}
 use Rattle.std.specs.Option.{unwrap_or}
 use Rattle.std.specs.Map.{lookup}
 use Rattle.std.specs.BTreeMap.{is_at}
@@ -23,24 +23,25 @@ Dirs = List (List ℕ × NamesOf)
 abbrev at : Dirs → List ℕ → Option NamesOf
 at es d = lookup (is_at (slice_cmp nat_cmp d)) es
 
--- by whether a path stands in d
-added : (d up : List ℕ) (name : List ℕ) (old : NamesOf) (b : Bool) → bytes_eq up d ≡ b → cond (stands_at d (Some up)) (with_name old name) old ≡ cond b (with_name old name) old
-added d up name old b e = ap (λ b. cond b (with_name old name) old) e
-
--- one directory has the names that it had and one more
-pub name_added : (old new : Dirs) (d up p : List ℕ) (names : NamesOf) → at new d ≡ cond (is_at (slice_cmp nat_cmp up) d) (Some names) (at old d)
-    → names ≡ with_name (names_in old up) (name_of p) → parent_of p ≡ Some up → names_in new d ≡ added_name d p (names_in old d)
-name_added old new d up p names set is parent =
+-- a table in which one directory has other names
+pub names_set : (old new : Dirs) (d up : List ℕ) (name : List ℕ) (names : NamesOf) → at new d ≡ cond (is_at (slice_cmp nat_cmp up) d) (Some names) (at old d)
+    → names ≡ with_name (names_in old up) name → names_in new d ≡ cond (is_at (slice_cmp nat_cmp up) d) (with_name (names_in old d) name) (names_in old d)
+names_set old new d up name names set is =
     let test : is_at (slice_cmp nat_cmp up) d ≡ bytes_eq up d = is_eq-slice_cmp up d in
-    let goal_is : (o : Option (List ℕ)) → NamesOf = λ o. cond (stands_at d o) (with_name (names_in old d) (name_of p)) (names_in old d) in
-    elim (cases_Bool (bytes_eq up d)) [
-      | inl tie ↦ (let same : up ≡ d = (bytes_eq-Decides up d).0 tie in
-          ap (λ o. unwrap_or o no_names) (set ∙ ap (λ b. cond b (Some names) (at old d)) (test ∙ tie))
-          ∙ is ∙ ap (λ x. with_name (names_in old x) (name_of p)) same
-          ∙ sym (ap goal_is parent ∙ added d up (name_of p) (names_in old d) true tie))
-      | inr off ↦ ap (λ o. unwrap_or o no_names) (set ∙ ap (λ b. cond b (Some names) (at old d)) (test ∙ off))
-          ∙ sym (ap goal_is parent ∙ added d up (name_of p) (names_in old d) false off)
+    let put = λ (b : Bool). unwrap_or (cond b (Some names) (at old d)) no_names in
+    let more = λ (b : Bool). cond b (with_name (names_in old d) name) (names_in old d) in
+    ap (λ o. unwrap_or o no_names) set ∙ elim (cases_Bool (bytes_eq up d)) [
+      | inl tie ↦ ap put (test ∙ tie) ∙ is ∙ ap (λ x. with_name (names_in old x) name) ((bytes_eq-Decides up d).0 tie) ∙ ap more (sym (test ∙ tie))
+      | inr off ↦ ap put (test ∙ off) ∙ ap more (sym (test ∙ off))
     ]
+
+-- the directory in which a path stands has its name
+pub name_added : (old new : Dirs) (d up p : List ℕ) → names_in new d ≡ cond (is_at (slice_cmp nat_cmp up) d) (with_name (names_in old d) (name_of p)) (names_in old d)
+    → parent_of p ≡ Some up → names_in new d ≡ added_name d p (names_in old d)
+name_added old new d up p set parent =
+    let test : is_at (slice_cmp nat_cmp up) d ≡ bytes_eq up d = is_eq-slice_cmp up d in
+    set ∙ ap (λ b. cond b (with_name (names_in old d) (name_of p)) (names_in old d)) test
+    ∙ sym (ap (λ o. cond (stands_at d o) (with_name (names_in old d) (name_of p)) (names_in old d)) parent)
 
 names_from-push : (s : NamesOf) (d : List ℕ) (rs : List PathRecord) (r : PathRecord) → names_from s d (rs ++ r ∷ []) ≡ added_name d r.path (names_from s d rs)
 names_from-push s d [] r = refl

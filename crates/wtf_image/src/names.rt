@@ -1,7 +1,10 @@
 //! The names in directories, made from the paths.
 
-ghost use Rattle.std.specs.Prelude.{◌≡◌, ℕ, List, [], true, OnOk, IfOk};
+ghost use Rattle.std.specs.Prelude.{◌≡◌, ℕ, cond, List, [], true, OnOk, IfOk};
 ghost use Rattle.std.specs.List.{flat_map};
+ghost use Rattle.std.specs.BTreeMap.{is_at};
+ghost use Rattle.std.specs.Ordering.{nat_cmp};
+ghost use Rattle.std.specs.Cmp.Lexicographic.{slice_cmp};
 ghost use Rattle.wtf_kv.specs.Stores.{versions_of};
 ghost use Rattle.wtf_values.specs.Keys.{key_cmp};
 ghost use Rattle.wtf_values.specs.Names.{with_name};
@@ -50,24 +53,27 @@ fn add_name(
         Err(_) => return Err(OutOfMemory),
     };
     let name = Name::of(alloc, path)?;
-    let names = names_with(alloc, dirs, &parent, &name)?;
-    let _ = dirs.insert(parent, names)?;
-    Ok(())
+    add_in(alloc, dirs, parent, name)
 }
 
-/// The names in a directory, with one more.
-fn names_with(
+/// Adds a name to a directory. No set is copied for it where names come in order.
+fn add_in(
     alloc: Global,
-    dirs: &BTreeMap<Path, NameSet>,
-    dir: &Path,
-    name: &Name,
-) -> Result<NameSet, OutOfMemory>
-    ensures { IfOk result (λ s. s ≡ with_name (names_in dirs.now.entries dir.now) name.now) }
+    dirs: &mut BTreeMap<Path, NameSet>,
+    dir: Path,
+    name: Name,
+) -> Result<(), OutOfMemory>
+    ensures { OnOk result ((d : List ℕ) → names_in dirs.new.entries d ≡
+        cond (is_at (slice_cmp nat_cmp dir) d) (with_name (names_in dirs.old.entries d) name)
+        (names_in dirs.old.entries d)) }
 {
-    match dirs.get(dir) {
-        Some(names) => return names.with(name),
-        None => return NameSet::new(alloc).with(name),
+    if let Some(names) = dirs.get_mut(&dir) {
+        return names.add(name);
     }
+    let mut names = NameSet::new(alloc);
+    names.add(name)?;
+    let _ = dirs.insert(dir, names)?;
+    Ok(())
 }
 
 /// The names in a directory.
