@@ -22,7 +22,7 @@ pub struct RegionKey {
     pub region: u16,
 }
 
-/// Where the regions go that were asked for last: a place is computed once and not with each call.
+/// Where the regions go that were learnt last: a place is computed once and not with each call.
 /// Contracts see the regions with their places.
 #[derive(Drop)]
 pub struct RegionCache {
@@ -53,19 +53,15 @@ impl RegionCache {
         }
     }
 
-    /// Remembers where a region goes, if there is memory, and that it was asked for.
+    /// Remembers where a region goes, if there is memory, in place of that which was learnt first.
     pub(crate) fn learn(&mut self, ring: &Ring, key: RegionKey)
         requires { AreFrom ring.now self.old }
         ensures { AreFrom ring.now self.new }
     {
-        if self.places.contains(&key) {
-            self.places.promote(&key);
-        } else {
-            let place = ring.order(key.inode, key.region);
-            match self.places.put(key, place) {
-                Ok(_) => {}
-                Err(_) => {}
-            }
+        let place = ring.order(key.inode, key.region);
+        match self.places.put(key, place) {
+            Ok(_) => {}
+            Err(_) => {}
         }
     }
 

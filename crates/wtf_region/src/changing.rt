@@ -12,7 +12,7 @@ ghost use Rattle.wtf_region.specs.Edited.{Edited, CoversPart, LaysPieces, LacksR
 
 use crate::Added;
 use crate::part::part_at;
-use crate::reading::{last_region, peek_end, region_end};
+use crate::reading::{last_region, region_end, settled_end};
 use std::alloc::Global;
 use wtf_base::{InodeId, OutOfMemory, Settings};
 use wtf_kv::Kv;
@@ -134,8 +134,7 @@ pub fn add_pieces(
     }
     let size = settings.region;
     let last = last_region(kv, at, inode)?;
-    at.settle(kv, &Key::Region(inode, last))?;
-    let end = peek_end(kv, at, inode, last)?;
+    let end = settled_end(kv, at, inode, last);
     if has_room(end, len, size) {
         let pieces = Pieces::of(alloc, pieces)?;
         at.delta(Key::Region(inode, last), Delta::PushRel(pieces, size))?;

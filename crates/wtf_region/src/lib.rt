@@ -19,7 +19,7 @@ pub use changing::{add_pieces, put_pieces};
 pub use dev::Dev;
 pub use fetching::show;
 pub use list::region_list;
-pub use reading::{file_len, pieces};
+pub use reading::{file_len, peek_end, peek_last, pieces};
 pub use store::store_bytes;
 pub use wtf_meta::{Handle, Session};
 

@@ -1,9 +1,10 @@
 //! What an attempt sees of a file: its length, and ranges of it as pieces.
 
-ghost use Rattle.std.specs.Prelude.{◌≡◌, ◌+◌, ◌*◌, ◌<◌, ◌≤◌, ◌++◌, [], ◌∷◌, IfOk, IfErr, OnOk, IsTrue};
+ghost use Rattle.std.specs.Prelude.{◌≡◌, ◌+◌, ◌*◌, ◌<◌, ◌≤◌, ◌++◌, [], ◌∷◌, IfOk, IfErr, OnOk, IsTrue, Option};
 ghost use Rattle.std.specs.Option.{option_copied};
 ghost use Rattle.wtf_kv.specs.Stores.{is_pinned};
 ghost use Rattle.wtf_occ.specs.Attempts.{Grows, GrowsBy};
+ghost use Rattle.wtf_values.specs.Summaries.{summary_of};
 ghost use Rattle.wtf_overlay.specs.Origin.{Plans};
 ghost use Rattle.wtf_model.specs.declared.limits.TheConstants.{MAX_REGIONS};
 ghost use Rattle.wtf_meta.specs.Maps.{seen};
@@ -20,28 +21,58 @@ use std::alloc::Global;
 use wtf_base::{Fault, InodeId, OutOfMemory, Settings};
 use wtf_dev::SliceStore;
 use wtf_kv::Kv;
-use wtf_meta::{Key, Value};
+use wtf_meta::{Key, Summary, Value};
 use wtf_occ::Attempt;
 use wtf_overlay::{Part, Piece};
 
-/// The last region that a value tells, 0 where it tells none.
-fn last_in(value: &Option<Value>) -> u16
-    ensures { result ≡ last_of value.now }
+/// The last region that a value with this summary tells, 0 where it tells none.
+fn last_told(summary: Summary) -> u16
+    ensures { (now : Option Value) → summary ≡ summary_of now → result ≡ last_of now }
 {
-    match value {
-        Some(Value::Last(n)) => *n,
+    match summary {
+        Summary::Last(n) => n,
         _ => 0,
     }
 }
 
-/// Where the region of a value ends, 0 where it is none.
-fn end_in(value: &Option<Value>) -> u32
-    ensures { result ≡ end_of (region_of value.now) }
+/// Where the region of a value with this summary ends, 0 where it is none.
+fn end_told(summary: Summary) -> u32
+    ensures { (now : Option Value) → summary ≡ summary_of now → result ≡ end_of (region_of now) }
 {
-    match value {
-        Some(Value::Region(v)) => v.end,
+    match summary {
+        Summary::Region(end) => end,
         _ => 0,
     }
+}
+
+/// The number of a file's last region, 0 where it is missing. Nothing is recorded.
+pub fn peek_last(kv: &Kv<Key, Value>, at: &Attempt<Key, Value>, inode: InodeId) -> u16
+    requires { IsTrue (is_pinned kv.now at.now.base) }
+    ensures { result ≡ (file_of inode (seen kv.now at.now)).last }
+{
+    last_told(at.summary(kv, &Key::Inode(inode)))
+}
+
+/// Where a region of a file ends, 0 where it is missing. Nothing is recorded.
+pub fn peek_end(kv: &Kv<Key, Value>, at: &Attempt<Key, Value>, inode: InodeId, r: u16) -> u32
+    requires { IsTrue (is_pinned kv.now at.now.base) }
+    ensures { result ≡ end_of ((file_of inode (seen kv.now at.now)).region r) }
+{
+    end_told(at.summary(kv, &Key::Region(inode, r)))
+}
+
+/// The same. Later looks walk no changes of the region then.
+pub(crate) fn settled_end(
+    kv: &Kv<Key, Value>,
+    at: &mut Attempt<Key, Value>,
+    inode: InodeId,
+    r: u16,
+) -> u32
+    requires { IsTrue (is_pinned kv.now at.old.base) }
+    ensures value { result ≡ end_of ((file_of inode (seen kv.now at.old)).region r) }
+    ensures same { at.new ≡ at.old }
+{
+    end_told(at.settled_summary(kv, &Key::Region(inode, r)))
 }
 
 /// The number of a file's last region, 0 where it is missing. It is recorded.
@@ -55,8 +86,9 @@ pub(crate) fn last_region(
     ensures recorded { OnOk result (Recorded inode (OfLast ∷ []) at.old at.new) }
     ensures grows { Grows at.old at.new }
 {
-    let value = at.read(kv, &Key::Inode(inode))?;
-    Ok(last_in(&value))
+    let last = peek_last(kv, at, inode);
+    at.record(&Key::Inode(inode))?;
+    Ok(last)
 }
 
 /// Where a region of a file ends, 0 where it is missing. It is recorded.
@@ -71,22 +103,9 @@ pub(crate) fn region_end(
     ensures recorded { OnOk result (Recorded inode (OfRegion r ∷ []) at.old at.new) }
     ensures grows { Grows at.old at.new }
 {
-    let value = at.read(kv, &Key::Region(inode, r))?;
-    Ok(end_in(&value))
-}
-
-/// Where a region of a file ends, 0 where it is missing. Nothing is recorded.
-pub(crate) fn peek_end(
-    kv: &Kv<Key, Value>,
-    at: &Attempt<Key, Value>,
-    inode: InodeId,
-    r: u16,
-) -> Result<u32, OutOfMemory>
-    requires { IsTrue (is_pinned kv.now at.now.base) }
-    ensures { IfOk result (λ n. n ≡ end_of ((file_of inode (seen kv.now at.now)).region r)) }
-{
-    let value = at.peek(kv, &Key::Region(inode, r))?;
-    Ok(end_in(&value))
+    let end = peek_end(kv, at, inode, r);
+    at.record(&Key::Region(inode, r))?;
+    Ok(end)
 }
 
 /// The length of a file, in bytes: that of the regions before its last one, and where that one

@@ -7,8 +7,7 @@ ghost use Rattle.wtf_model.specs.declared.limits.TheConstants.{MAX_HANDLES, MAX_
 ghost use Rattle.wtf_model.specs.Steps.{IsLogged};
 ghost use Rattle.wtf_meta.specs.declared.session.Handle as handle;
 ghost use Rattle.wtf_meta.specs.Maps.{seen};
-ghost use Rattle.wtf_meta.specs.Files.{end_of};
-ghost use Rattle.wtf_meta.specs.FileEdits.{file_of, last_of, region_of};
+ghost use Rattle.wtf_meta.specs.FileEdits.{file_of};
 ghost use Rattle.wtf_meta.specs.Sessions.{handle_in};
 ghost use Rattle.wtf_meta.specs.Calls.{Caller};
 ghost use Rattle.wtf_region.specs.Devs.{IsSoundDev, GoesOn, stores, place_in};
@@ -29,28 +28,8 @@ use wtf_meta::Session;
 use wtf_model::{Answer, Op, Word};
 use wtf_occ::{Attempt, Mark};
 use wtf_overlay::{Part, Piece};
-use wtf_region::{Added, Dev, add_pieces, file_len, store_bytes};
+use wtf_region::{Added, Dev, add_pieces, file_len, peek_end, peek_last, store_bytes};
 use wtf_values::{Delta, Key, Value};
-
-/// The last region that a value tells, 0 where it tells none.
-fn last_in(value: &Option<Value>) -> u16
-    ensures { result ≡ last_of value.now }
-{
-    match value {
-        Some(Value::Last(n)) => *n,
-        _ => 0,
-    }
-}
-
-/// Where the region of a value ends, 0 where it is none.
-fn end_in(value: &Option<Value>) -> u32
-    ensures { result ≡ end_of (region_of value.now) }
-{
-    match value {
-        Some(Value::Region(v)) => v.end,
-        _ => 0,
-    }
-}
 
 /// Where so many bytes go that are to be added at a file's end; `None` where they find no room in
 /// its last region, nor below the greatest length. Nothing is recorded.
@@ -60,31 +39,29 @@ fn room(
     inode: InodeId,
     len: u64,
     settings: Settings,
-) -> Result<Option<u64>, OutOfMemory>
+) -> Option<u64>
     requires pinned { IsTrue (is_pinned kv.now at.now.base) }
     requires few { len ≤ MAX_WRITTEN }
-    ensures place { IfOk result (λ o. IfSome o (λ off. off ≡
-        end_place settings.region (file_of inode (seen kv.now at.now)))) }
-    ensures room { IfOk result (λ o. IsSome o →
-        HasRoom settings.region (file_of inode (seen kv.now at.now)) len) }
-    ensures full { IfOk result (λ o. o ≡ None →
-        LacksRoom settings.region (file_of inode (seen kv.now at.now)) len) }
+    ensures place { IfSome result (λ off. off ≡
+        end_place settings.region (file_of inode (seen kv.now at.now))) }
+    ensures room { IsSome result →
+        HasRoom settings.region (file_of inode (seen kv.now at.now)) len }
+    ensures full { result ≡ None →
+        LacksRoom settings.region (file_of inode (seen kv.now at.now)) len }
 {
-    let value = at.peek(kv, &Key::Inode(inode))?;
-    let last = last_in(&value);
-    let value = at.peek(kv, &Key::Region(inode, last))?;
-    let end = end_in(&value);
+    let last = peek_last(kv, at, inode);
+    let end = peek_end(kv, at, inode, last);
     let size = settings.region as u64;
     let cap = settings.cap();
     let off = last as u64 * size + end as u64;
     let place = off.min(cap - 1);
     if end as u64 + len <= size {
-        return Ok(Some(place));
+        return Some(place);
     }
     if off + len <= cap {
-        return Ok(Some(place));
+        return Some(place);
     }
-    Ok(None)
+    None
 }
 
 /// The answer to an append of which this came.
@@ -145,11 +122,7 @@ pub(crate) fn append_fresh<S: SliceStore>(
         return Ok(only(Answer::Okay));
     }
     let settings = dev.settings;
-    let place = match room(kv, at, spot.inode, len, settings) {
-        Ok(place) => place,
-        Err(_) => return Err(Fault::Memory),
-    };
-    let Some(off) = place else {
+    let Some(off) = room(kv, at, spot.inode, len, settings) else {
         match file_len(kv, at, spot.inode, settings) {
             Ok(_) => return Ok(only(Answer::Refused(Word::TooBig))),
             Err(_) => return Err(Fault::Memory),

@@ -19,11 +19,12 @@ returns-then-has_room-clause-added c =
     let b = c.args.settings.region in
     let ps = c.args.pieces.now in
     let v = file_of i (seen c.args.kv.now c.args.at.now) in
-    let at = c.settle.new.self in
-    let first : Recorded i (OfLast ∷ []) c.args.at.now at = subst (Recorded i (OfLast ∷ []) c.args.at.now) (sym c.settle.ensures) c.in_ok-last.ensures.recorded in
-    let end : c.in_ok-end.end ≡ end_of (v.region v.last) =
-    end_seen c.args.kv.now i (OfLast ∷ []) c.args.at.now at c.in_ok-last.last c.in_ok-end.end first c.in_ok-last.ensures.value c.in_ok-end.ensures in
-    let room : c.in_ok-end.end + c.bytes_of-len.result ≤ b = c.has_room.ensures.room c.if-has_room.true in
+    let mid = c.last_region.new.at in
+    let at = c.settled_end-end.new.at in
+    let first : Recorded i (OfLast ∷ []) c.args.at.now at = subst (Recorded i (OfLast ∷ []) c.args.at.now) (sym c.settled_end-end.ensures.same) c.in_ok-last.ensures.recorded in
+    let end : c.settled_end-end.result ≡ end_of (v.region v.last) =
+    end_seen c.args.kv.now i (OfLast ∷ []) c.args.at.now mid c.in_ok-last.last c.settled_end-end.result c.in_ok-last.ensures.recorded c.in_ok-last.ensures.value c.settled_end-end.ensures.value in
+    let room : c.settled_end-end.result + c.bytes_of-len.result ≤ b = c.has_room.ensures.room c.if-has_room.true in
     adds_rel b i v c.in_ok-last.last ps c.args.at.now at c.delta.new.self (omega (arith, c.args.settings.limits)) (omega (arith, c.args.settings.limits))
     (λ e. c.if-len-eq0.false (omega (arith, e, c.bytes_of-len.ensures))) (omega (arith, end, room, c.bytes_of-len.ensures, c.args.settings.limits)) c.in_ok-last.ensures.value first
     (subst (λ (qs : List Piece). c.delta.new.self ≡ record at { changes = at.changes ++ edit_of i (PushRel c.in_ok-last.last qs b) ∷ [] }) c.in_ok-pieces.ensures c.in_ok-delta.ensures.ok)
@@ -34,15 +35,16 @@ returns-clause-added c =
     let b = c.args.settings.region in
     let ps = c.args.pieces.now in
     let v = file_of i (seen c.args.kv.now c.args.at.now) in
-    let at = c.settle.new.self in
-    let first : Recorded i (OfLast ∷ []) c.args.at.now at = subst (Recorded i (OfLast ∷ []) c.args.at.now) (sym c.settle.ensures) c.in_ok-last.ensures.recorded in
-    let peeked : c.in_ok-end.end ≡ end_of (v.region v.last) =
-    end_seen c.args.kv.now i (OfLast ∷ []) c.args.at.now at c.in_ok-last.last c.in_ok-end.end first c.in_ok-last.ensures.value c.in_ok-end.ensures in
-    let end : c.in_ok-end-2.end ≡ end_of (v.region v.last) =
-    end_seen c.args.kv.now i (OfLast ∷ []) c.args.at.now at c.in_ok-last.last c.in_ok-end-2.end first c.in_ok-last.ensures.value c.in_ok-end-2.ensures.value in
-    let full : b < c.in_ok-end.end + c.bytes_of-len.result = c.has_room.ensures.full c.if-has_room.false in
-    let off : c.in_ok-last.last * b + c.in_ok-end-2.end ≡ file_len b v = omega (arith, end, ap (λ (r : ℕ). r * b) c.in_ok-last.ensures.value) in
+    let mid = c.last_region.new.at in
+    let at = c.settled_end-end.new.at in
+    let first : Recorded i (OfLast ∷ []) c.args.at.now at = subst (Recorded i (OfLast ∷ []) c.args.at.now) (sym c.settled_end-end.ensures.same) c.in_ok-last.ensures.recorded in
+    let peeked : c.settled_end-end.result ≡ end_of (v.region v.last) =
+    end_seen c.args.kv.now i (OfLast ∷ []) c.args.at.now mid c.in_ok-last.last c.settled_end-end.result c.in_ok-last.ensures.recorded c.in_ok-last.ensures.value c.settled_end-end.ensures.value in
+    let end : c.in_ok-end.end ≡ end_of (v.region v.last) =
+    end_seen c.args.kv.now i (OfLast ∷ []) c.args.at.now at c.in_ok-last.last c.in_ok-end.end first c.in_ok-last.ensures.value c.in_ok-end.ensures.value in
+    let full : b < c.settled_end-end.result + c.bytes_of-len.result = c.has_room.ensures.full c.if-has_room.false in
+    let off : c.in_ok-last.last * b + c.in_ok-end.end ≡ file_len b v = omega (arith, end, ap (λ (r : ℕ). r * b) c.in_ok-last.ensures.value) in
     adds_laid b i v ps c.args.at.now c.region_end.new.at c.put_pieces.new.at
     (λ e. c.if-len-eq0.false (omega (arith, e, c.bytes_of-len.ensures))) (omega (arith, peeked, full, c.bytes_of-len.ensures))
-    (recorded_length i v c.in_ok-last.last c.args.at.now at c.region_end.new.at c.in_ok-last.ensures.value first c.in_ok-end-2.ensures.recorded)
+    (recorded_length i v c.in_ok-last.last c.args.at.now at c.region_end.new.at c.in_ok-last.ensures.value first c.in_ok-end.ensures.recorded)
     (subst (λ (o : ℕ). Edited i [] (LaysPieces b o i ps) c.region_end.new.at c.put_pieces.new.at) off c.in_ok-put_pieces.ensures.ok)

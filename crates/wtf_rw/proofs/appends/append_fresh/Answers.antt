@@ -50,8 +50,8 @@ returns-then-len-eq0-clause-step g c x size =
     (subst (λ (w : Option Slice). ArePieces w []) (sym c.only-then-len-eq0.ensures.own) refl)
     (λ tells. nothing_told (byte_at g.S.SliceStore.kind (stores c.args.dev.now)) bytes c.if-len-eq0.true) one
 
-pub returns-in-Ok-file_len-clause-step : goal.returns-in-Ok-file_len-clause-step
-returns-in-Ok-file_len-clause-step g c x size =
+pub returns-in-Ok-clause-step : goal.returns-in-Ok-clause-step
+returns-in-Ok-clause-step g c x size =
     let s = c.args.s.now in
     let f = c.args.f in
     let b = seen c.args.kv.now c.args.at.now in
@@ -59,13 +59,13 @@ returns-in-Ok-file_len-clause-step g c x size =
     let open_at = spot_open c.handle_of.result (handle_in s f) c.in-Some.spot c.handle_of.ensures c.in-Some.is in
     let h = open_at.handle in
     let i0 = c.in-Some.spot.inode in
-    let lacks0 : LacksRoom x.size (file_of i0 b) (length bytes) = subst (λ (z : ℕ). LacksRoom z (file_of i0 b) (length bytes)) (sym size) (c.in-Ok.ensures.full c.in_default-place.is) in
+    let lacks0 : LacksRoom x.size (file_of i0 b) (length bytes) = subst (λ (z : ℕ). LacksRoom z (file_of i0 b) (length bytes)) (sym size) (c.room.ensures.full c.in_default-room.is) in
     let lacks : LacksRoom x.size (file_of h.inode b) (length bytes) = subst (λ (i : InodeId). LacksRoom x.size (file_of i b) (length bytes)) open_at.inode lacks0 in
     let went : Recorded h.inode (file_append_keys x.size (file_of h.inode b) (length bytes)) c.args.at.now c.file_len.new.at =
     subst (λ (i : InodeId). Recorded i (file_append_keys x.size (file_of i b) (length bytes)) c.args.at.now c.file_len.new.at) open_at.inode
-    (full_keys x.size i0 b (length bytes) c.args.at.now c.file_len.new.at c.if-len-eq0.false lacks0 c.in-Ok-file_len.ensures.recorded) in
-    step_only g.S.SliceStore.kind (stores c.args.dev.now) (stores c.args.dev.now) c.only-in-Ok-file_len.result x b (in_hand c.args.at.now s) (in_hand c.file_len.new.at s)
-    (keys_of h.inode (file_append_keys x.size (file_of h.inode b) (length bytes))) (op.Append f bytes) (answer.Refused TooBig) c.only-in-Ok-file_len.ensures.answer c.only-in-Ok-file_len.ensures.own went
+    (full_keys x.size i0 b (length bytes) c.args.at.now c.file_len.new.at c.if-len-eq0.false lacks0 c.in-Ok.ensures.recorded) in
+    step_only g.S.SliceStore.kind (stores c.args.dev.now) (stores c.args.dev.now) c.only-in-Ok.result x b (in_hand c.args.at.now s) (in_hand c.file_len.new.at s)
+    (keys_of h.inode (file_append_keys x.size (file_of h.inode b) (length bytes))) (op.Append f bytes) (answer.Refused TooBig) c.only-in-Ok.ensures.answer c.only-in-Ok.ensures.own went
     (adds_full x b s f h bytes open_at.is c.if-len-eq0.false lacks)
 
 pub returns-in-Ok-add_pieces-clause-keys : goal.returns-in-Ok-add_pieces-clause-keys
@@ -97,7 +97,7 @@ returns-in-Ok-add_pieces-clause-step g c x size =
     let h = open_at.handle in
     let i0 = c.in-Some.spot.inode in
     let z = c.args.dev.now.settings.region in
-    let room : HasRoom z (file_of i0 b) (length bytes) = c.in-Ok.ensures.room (subst (λ (o : Option ℕ). IsSome o) (sym c.in-Some-place.is) refl) in
+    let room : HasRoom z (file_of i0 b) (length bytes) = c.room.ensures.room (subst (λ (o : Option ℕ). IsSome o) (sym c.in-Some-room.is) refl) in
     let lacks : r ≡ added.TooBig → LacksRoom z (file_of i0 b) (length bytes) = λ e. subst (λ (k : ℕ). LacksRoom z (file_of i0 b) k) (omega (arith, len)) (c.in-Ok-add_pieces.ensures.full e) in
     let done : r ≡ added.Done = added_in_room z (file_of i0 b) (length bytes) r room lacks in
     let is : IsAdded x.size h.inode (file_of h.inode b) (p ∷ []) at new added.Done =
@@ -117,7 +117,7 @@ returns-in-Err-store_bytes-clause-due g c =
     let bytes = c.args.bytes.now in
     let settings = c.args.dev.now.settings in
     let open_at = spot_open c.handle_of.result (handle_in s f) c.in-Some.spot c.handle_of.ensures c.in-Some.is in
-    let room0 : HasRoom settings.region (file_of c.in-Some.spot.inode b) (length bytes) = c.in-Ok.ensures.room (subst (λ (o : Option ℕ). IsSome o) (sym c.in-Some-place.is) refl) in
+    let room0 : HasRoom settings.region (file_of c.in-Some.spot.inode b) (length bytes) = c.room.ensures.room (subst (λ (o : Option ℕ). IsSome o) (sym c.in-Some-room.is) refl) in
     let room : HasRoom settings.region (file_of open_at.handle.inode b) (length bytes) = subst (λ (i : InodeId). HasRoom settings.region (file_of i b) (length bytes)) open_at.inode room0 in
     append_due g.S.SliceStore.kind (between c.args.dev.now c.store_bytes.new.dev) settings b s f open_at.handle bytes c.in-Err-store_bytes.why open_at.is (omega (arith, c.if-len-eq0.false)) room c.in-Err-store_bytes.ensures.fault
 
@@ -133,8 +133,8 @@ returns-in-Ok-add_pieces-clause-own g c h e =
     let both : Some open_at.handle ≡ Some h = sym open_at.is ∙ e in
     let same : open_at.handle ≡ h = cc in
     let inode : c.in-Some.spot.inode ≡ h.inode = open_at.inode ∙ ap (λ (k : Handle). k.inode) same in
-    let off : c.in-Some-place.off ≡ end_place dev.settings.region (file_of c.in-Some.spot.inode b) =
-    subst (λ (o : Option ℕ). IfSome o (λ k. k ≡ end_place dev.settings.region (file_of c.in-Some.spot.inode b))) c.in-Some-place.is c.in-Ok.ensures.place in
+    let off : c.in-Some-room.off ≡ end_place dev.settings.region (file_of c.in-Some.spot.inode b) =
+    subst (λ (o : Option ℕ). IfSome o (λ k. k ≡ end_place dev.settings.region (file_of c.in-Some.spot.inode b))) c.in-Some-room.is c.room.ensures.place in
     let at_end = subst (λ (k : ℕ). IsStored kind (between dev c.store_bytes.new.dev) dev.settings.replicas (place_in dev c.in-Some.spot.inode k) c.args.bytes.now slice) off c.in-Ok-store_bytes.ensures.stored in (
       subst (λ (i : InodeId). IsStored kind (between dev c.store_bytes.new.dev) dev.settings.replicas (place_in dev i (end_place dev.settings.region (file_of i b))) c.args.bytes.now slice) inode at_end,
       c.in-Ok-store_bytes.ensures.inside,
