@@ -1,6 +1,6 @@
-use Rattle.std.proofs.Common.{◌≡◌, ℕ, List, [], Some, sym, ap, ◌∙◌, ◌++◌, subst, inl, inr}
+use Rattle.std.proofs.Common.{◌≡◌, ℕ, List, [], None, Some, sym, ap, ◌∙◌, ◌++◌, subst, inl, inr}
 use Rattle.wtf_replica.specs.Bytes.{byte_at}
-use Rattle.wtf_values.specs.declared.value.Node.TheVariants.{File}
+use Rattle.wtf_values.specs.declared.value.Node.TheVariants.{Folder, File}
 use Rattle.wtf_meta.specs.FileEdits.{file_of}
 use Rattle.wtf_meta.specs.Maps.{Map, Edits, with, metadata_at, seen}
 use Rattle.wtf_meta.specs.Trees.{IsBody}
@@ -8,8 +8,26 @@ use Rattle.wtf_index.specs.Checks.{stands_at}
 use Rattle.wtf_region.specs.Devs.{stores}
 use Rattle.wtf_replay.specs.Views.{untouched}
 use Rattle.wtf_core.specs.Dumped.{file_answer, LacksFile}
-use Rattle.wtf_core.proofs.Dumping.{dumps_file}
+use Rattle.wtf_core.proofs.Dumping.{dumps_none, dumps_folder, dumps_file}
 use Rattle.wtf_core.proofs.dump.dump_at.Goals as goal
+
+pub returns-in_default-clause-shows : goal.returns-in_default-clause-shows
+returns-in_default-clause-shows g c =
+    let kv = c.args.kv.now in
+    let dev = c.args.dev.now in
+    let w = metadata_at kv c.args.number in
+    let first : c.in-Ok.at ≡ untouched c.args.number = let e = c.in-Ok.ensures in cc in
+    let there : stands_at w c.args.p.now ≡ None = sym (ap (λ a. stands_at (seen kv a) c.args.p.now) first) ∙ sym c.in-Ok-look_up.ensures.value ∙ c.in_default.is in
+    dumps_none dev.settings.region (byte_at g.S.SliceStore.kind (stores dev)) w c.args.p.now there
+
+pub returns-in-Folder-clause-shows : goal.returns-in-Folder-clause-shows
+returns-in-Folder-clause-shows g c =
+    let kv = c.args.kv.now in
+    let dev = c.args.dev.now in
+    let w = metadata_at kv c.args.number in
+    let first : c.in-Ok.at ≡ untouched c.args.number = let e = c.in-Ok.ensures in cc in
+    let there : stands_at w c.args.p.now ≡ Some Folder = sym (ap (λ a. stands_at (seen kv a) c.args.p.now) first) ∙ sym c.in-Ok-look_up.ensures.value ∙ (c.in-Some.is ∙ ap Some c.in-Folder.is) in
+    dumps_folder dev.settings.region (byte_at g.S.SliceStore.kind (stores dev)) w c.args.p.now there
 
 pub returns-in-Ok-dump_file-clause-shows : goal.returns-in-Ok-dump_file-clause-shows
 returns-in-Ok-dump_file-clause-shows g c =
