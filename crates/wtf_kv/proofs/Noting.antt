@@ -1,13 +1,15 @@
 -- Keys that are noted before something is made ready for them.
-use Rattle.std.proofs.Common.{◌≡◌, ℕ, ◌+◌, ◌≤◌, Bool, true, false, cond, ◌||◌, ◌⊎◌, inl, inr, List, [], ◌∷◌, ◌++◌, Result, Ok, Err, OnOk, OnErr, refl, sym, ap, subst, ◌∙◌, length, drop, length-append, arith, Option, ⊎_elim}
+use Rattle.std.proofs.Common.{◌≡◌, ℕ, ◌+◌, ◌≤◌, Bool, true, false, cond, ◌||◌, ◌⊎◌, inl, inr, List, [], ◌∷◌, ◌++◌, Result, Ok, Err, OnOk, OnErr, refl, sym, ap, subst, ◌∙◌, length, drop, Option, ⊎_elim, take}
 use Rattle.std.proofs.lemmas.List.{drop-append-le}
 use Rattle.std.proofs.lemmas.List.Folds.{list_any-append}
 use Rattle.std.proofs.lemmas.Bool.{or_parts, cases_Bool}
 use Rattle.std.specs.declared.cmp.Ordering.{Ordering}
 use Rattle.std.specs.BTreeMap.{is_at}
-use Rattle.wtf_kv.specs.Seen.{within, ascends, upto}
+use Rattle.wtf_kv.specs.Seen.{within, ascends, upto, is_settled}
 use Rattle.wtf_kv.specs.Stores.{names, versions_in}
-use Rattle.wtf_kv.specs.Inside.{Noted, AllGood}
+use Rattle.wtf_kv.specs.Staging.{staged, IsKeptOrCut}
+use Rattle.wtf_kv.specs.Inside.{Noted, AllGood, Sound}
+use Rattle.wtf_kv.proofs.Next.{step-good, step-same}
 use Rattle.wtf_kv.proofs.Prune.{ascends-upto, within-upto, within-more}
 use Rattle.wtf_kv.proofs.Updated.{upto_either}
 
@@ -23,17 +25,6 @@ module _ {K : Type 0} (R : K → K → Ordering) where
   -- a list with one more key names what it named, and that key
   pub names-push : (ks : List K) (k q : K) → names R (ks ++ k ∷ []) q ≡ (names R ks q || is_at (R k) q)
   names-push ks k q = list_any-append (λ x. is_at (R x) q) ks (k ∷ []) ∙ ap (λ b. names R ks q || b) (or-false (is_at (R k) q))
-
-module _ {K C : Type 0} (R : K → K → Ordering) (number fresh : ℕ) (ts : List K) (k : K) (old new : List (K × List (ℕ × Option C))) where
-  -- the key was noted, and the versions of the others are what they were
-  pub noted-push : Noted R number fresh ts old → ((q : K) → is_at (R k) q ≡ false → versions_in R new q ≡ versions_in R old q) → Noted R number fresh (ts ++ k ∷ []) new
-  noted-push h others = record {
-    inside = (let le = h.inside in rw length-append (omega arith));
-    clean = λ q none.
-        let split : (names R (drop fresh ts) q || is_at (R k) q) ≡ false = sym (names-push R (drop fresh ts) k q) ∙ ap (λ l. names R l q) (sym (drop-append-le fresh ts (k ∷ []) h.inside)) ∙ none in
-        let parts = or_parts _ _ split in
-        subst (within number) (sym (others q parts.1)) (h.clean q parts.0);
-  }
 
 module _ {K C : Type 0} (R : K → K → Ordering) (number fresh : ℕ) (ts : List K) (k : K) (old new : List (K × List (ℕ × Option C))) (cleared : (q : K) → versions_in R new q ≡ cond (is_at (R k) q) (upto number (versions_in R old q)) (versions_in R old q)) where
   -- the last key was cleared and taken out
@@ -56,3 +47,33 @@ module _ {K C : Type 0} (R : K → K → Ordering) (number fresh : ℕ) (ts : Li
 
   pub cleared-same : (q : K) → upto number (versions_in R new q) ≡ upto number (versions_in R old q)
   cleared-same q = upto_either number (is_at (R k) q) (versions_in R new q) (versions_in R old q) (cleared q)
+
+-- the key k was noted, and then its next version made ready with x, or not
+module _ {K C : Type 0} (R : K → K → Ordering) (number fresh : ℕ) (x : Option C) (ts us : List K) (k : K) (old new : List (K × List (ℕ × Option C))) (others : (q : K) → is_at (R k) q ≡ false → versions_in R new q ≡ versions_in R old q) where
+  module _ (at : ((q : K) → is_at (R k) q ≡ true → versions_in R new q ≡ staged number x (versions_in R old q)) ⊎ ((q : K) → is_at (R k) q ≡ true → IsKeptOrCut number (versions_in R old q) (versions_in R new q))) where
+    at_key : (q : K) → (is_at (R k) q ≡ true → versions_in R new q ≡ staged number x (versions_in R old q)) ⊎ (is_at (R k) q ≡ true → IsKeptOrCut number (versions_in R old q) (versions_in R new q))
+    at_key q = ⊎_elim (λ ok. inl (ok q)) (λ err. inr (err q)) at
+
+    pub staged_shown : (q : K) → upto number (versions_in R new q) ≡ upto number (versions_in R old q)
+    staged_shown q = step-same number x (is_at (R k) q) (versions_in R new q) (versions_in R old q) (others q) (at_key q)
+
+    pub staged_sound : fresh ≤ length us → take fresh us ≡ take fresh ts → ((q : K) → names R (drop fresh us) q ≡ (names R (drop fresh ts) q || is_at (R k) q)) → Sound R number fresh ts old → Sound R number fresh us new
+    staged_sound inside front named h = record {
+      good = λ q. step-good number x (is_at (R k) q) (versions_in R new q) (versions_in R old q) (others q) (at_key q) (h.good q);
+      noted = record {
+        inside = inside;
+        clean = λ q none.
+            let parts = or_parts _ _ (sym (named q) ∙ none) in
+            subst (within number) (sym (others q parts.1)) (h.noted.clean q parts.0);
+      };
+      loose = λ q none. ap is_settled (staged_shown q) ∙ h.loose q (ap (λ l. names R l q) (sym front) ∙ none);
+    }
+
+  -- each key has what it is to have
+  pub staged_all : ((q : K) → is_at (R k) q ≡ true → versions_in R new q ≡ staged number x (versions_in R old q)) → (q : K) → versions_in R new q ≡ cond (is_at (R k) q) (staged number x (versions_in R old q)) (versions_in R old q)
+  staged_all ok q =
+      let choose = λ (b : Bool). cond b (staged number x (versions_in R old q)) (versions_in R old q) in
+      ⊎_elim
+      (λ here. ok q here ∙ sym (ap choose here))
+      (λ apart. others q apart ∙ sym (ap choose apart))
+      (cases_Bool (is_at (R k) q))

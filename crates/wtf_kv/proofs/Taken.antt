@@ -1,12 +1,12 @@
 -- The version that is made ready, taken out.
-use Rattle.std.proofs.Common.{◌≡◌, ℕ, ◌+◌, ◌-◌, ◌<◌, ◌≤◌, Bool, true, false, cond, List, [], ◌∷◌, ◌++◌, Option, Some, nat_le, nat_lt, refl, sym, ap, subst, ◌∙◌, arith, length, length-append, inl, inr, ⊎_elim}
+use Rattle.std.proofs.Common.{◌≡◌, ℕ, ◌+◌, ◌-◌, ◌<◌, ◌≤◌, Bool, true, false, cond, List, [], ◌∷◌, ◌++◌, Option, Some, is_some, ◌||◌, nat_le, nat_lt, Result, Ok, Err, OnErr, refl, sym, ap, subst, ◌∙◌, arith, length, length-append, inl, inr, ⊎_elim}
 use Rattle.std.specs.List.{slice_get}
 use Rattle.std.specs.Option.{option_map, unwrap_or}
 use Rattle.std.proofs.lemmas.Bool.{cases_Bool, le-leb, lt-leb, ltb-true}
 use Rattle.wtf_kv.specs.Seen.{last_seen, value_seen, upto, ascends, within}
-use Rattle.wtf_kv.specs.Staging.{value_next, ends_above, IsKeptOrCut}
+use Rattle.wtf_kv.specs.Staging.{value_next, staged, ends_above, IsKeptOrCut}
 use Rattle.wtf_kv.proofs.Sees.{last_seen-push}
-use Rattle.wtf_kv.proofs.Next.{upto-all}
+use Rattle.wtf_kv.proofs.Next.{upto-all, cut-same}
 
 slice_get-last : {X : Type 0} (front : List X) (v : X) → slice_get (front ++ v ∷ []) (length front) ≡ Some v
 slice_get-last [] v = refl
@@ -54,3 +54,12 @@ module _ {C : Type 0} where
 
   pub cut_at : (n : ℕ) (b : Bool) (new old : List (ℕ × Option C)) → new ≡ cond b (upto n old) old → IsKeptOrCut n old new
   cut_at n b new old e = ⊎_elim (λ yes. inr (e ∙ ap (λ t. cond t (upto n old) old) yes)) (λ no. inl (e ∙ ap (λ t. cond t (upto n old) old) no)) (cases_Bool b)
+
+-- what is made ready goes by the versions up to the number alone
+pub staged-kept : {C : Type 0} (n : ℕ) (x : Option C) (old new : List (ℕ × Option C)) → IsKeptOrCut n old new → staged n x new ≡ staged n x old
+staged-kept n x old new is = ap (λ us. cond (is_some x || is_some (value_seen (last_seen n us))) (us ++ (n + 1, x) ∷ []) us) (cut-same n new old is)
+
+-- what holds anyway holds of an error
+pub on_err_from : {A E P : Type 0} (r : Result A E) → P → OnErr r P
+on_err_from (Ok x) p = tt
+on_err_from (Err e) p = p

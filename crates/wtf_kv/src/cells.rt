@@ -9,15 +9,14 @@ ghost use Rattle.wtf_kv.specs.Seen.{last_seen, value_seen, number_seen, reported
 ghost use Rattle.wtf_kv.specs.Stores.{listed, versions_in, names};
 ghost use Rattle.wtf_kv.specs.Inside.{AllGood, Noted, Listed};
 ghost use Rattle.wtf_kv.specs.Edits.{is_between};
-ghost use Rattle.wtf_kv.specs.Staging.{value_next, IsKeptOrCut};
+ghost use Rattle.wtf_kv.specs.Staging.{value_next};
 ghost use Rattle.std.specs.Range.Bound.{bound_map};
 ghost use Rattle.wtf_kv.specs.Order.{IsFirstFrom, is_past};
 
+use crate::StoreKey;
 use crate::rows::{
-    begins_by, count_upto, find_version, has_value, keep_upto, prune_versions, settles, take_next,
-    tells,
+    begins_by, count_upto, find_version, has_value, keep_upto, prune_versions, settles, tells,
 };
-use crate::{Cell, StoreKey};
 use std::alloc::Global;
 use std::collections::BTreeMap;
 use std::ops::Bound;
@@ -124,31 +123,6 @@ pub(crate) fn valued_keys<K: StoreKey, C>(
         }
     }
     Ok(keys)
-}
-
-/// Takes the value of a key that the next number sees: the one that is made ready, which goes, or else a
-/// copy.
-pub(crate) fn take_in<K: StoreKey, C: Cell>(
-    alloc: Global,
-    cells: &mut Cells<K, C>,
-    number: u64,
-    key: &K,
-) -> Result<Option<C>, OutOfMemory>
-    requires room { number < 2 ^ 63 }
-    requires good { AllGood K.cmp number (listed cells.old.entries) }
-    ensures others { (q : K) → is_at (K.cmp key.now) q ≡ false →
-        versions_in K.cmp (listed cells.new.entries) q ≡
-        versions_in K.cmp (listed cells.old.entries) q }
-    ensures value { IfOk result (λ value. value ≡
-        value_next number (versions_in K.cmp (listed cells.old.entries) key.now)) }
-    ensures kept { (q : K) → IsKeptOrCut number
-        (versions_in K.cmp (listed cells.old.entries) q)
-        (versions_in K.cmp (listed cells.new.entries) q) }
-{
-    match cells.get_mut(key) {
-        Some(versions) => take_next(alloc, versions, number),
-        None => Ok(None),
-    }
 }
 
 /// Where the keys above `after` start.

@@ -1,7 +1,7 @@
 //! The history of a map: the versions of each key, and those that are made ready for the next install, which no
 //! number that can be read sees. The keys that get one are noted first, so that it can be undone.
 
-ghost use Rattle.std.specs.Prelude.{◌≡◌, ℕ, ◌+◌, ◌<◌, ◌≤◌, ◌∷◌, [], ◌^◌, true, false, OnErr, OnOk, IfOk, IfErr, cond};
+ghost use Rattle.std.specs.Prelude.{◌≡◌, ℕ, ◌+◌, ◌<◌, ◌≤◌, ◌∷◌, [], ◌^◌, true, false, OnErr, OnOk, IfOk, IfErr, IsTrue, cond, ◌||◌, length, take, drop};
 ghost use Rattle.std.specs.Option.{option_copied};
 ghost use Rattle.std.specs.BTreeMap.{is_at};
 ghost use Rattle.wtf_kv.specs.Seen.{ascends, within, kept_versions};
@@ -11,13 +11,13 @@ ghost use Rattle.wtf_kv.specs.Edits.{value_made, fits, Fits, first_unfit, unfit_
 ghost use Rattle.wtf_kv.specs.Causes.{IsCause};
 ghost use Rattle.wtf_kv.specs.Installs.{Planned, IsReady};
 ghost use Rattle.wtf_kv.specs.Order.{IsNextKey};
-ghost use Rattle.wtf_kv.specs.Staging.{staged, next_value, is_taken, IsKeptOrCut, IsStaged, IsStagedBy, IsStagedByAll, delta_made};
+ghost use Rattle.wtf_kv.specs.Staging.{staged, value_next, next_value, is_taken, IsKeptOrCut, IsStaged, IsStagedBy, IsStagedByAll, delta_made};
 
 use crate::cells::{
-    Cells, clear_cells, first_key, prune_all, seed_cell, shown_in, start_past, take_in, value_in,
+    Cells, clear_cells, first_key, prune_all, seed_cell, shown_in, start_past, value_in,
     valued_keys, version_in,
 };
-use crate::rows::stage_in;
+use crate::rows::{stage_delta_in, stage_in};
 use crate::{Cell, Change, NotReady, StoreKey};
 use std::alloc::Global;
 use std::collections::BTreeMap;
@@ -166,8 +166,7 @@ impl<K: StoreKey, C: Drop> History<K, C> {
         ensures same { ShowsSame K.cmp self.old self.new }
         ensures ok { OnOk result (IsStaged K.cmp (is_at (K.cmp key.now)) value self.old self.new) }
     {
-        let noted = key.copy(self.alloc)?;
-        self.touched.push(noted)?;
+        note(self.alloc, &mut self.touched, self.fresh, key)?;
         stage_cell(self.alloc, &mut self.cells, self.number, key, value)
     }
 
@@ -206,19 +205,19 @@ impl<K: StoreKey, C: Drop> History<K, C> {
 }
 
 impl<K: StoreKey, C: Cell> History<K, C> {
-    /// Takes the value of a key that the next number sees: the one that is made ready, which goes, or
-    /// else a copy.
-    fn take_value(&mut self, key: &K) -> Result<Option<C>, OutOfMemory>
+    /// Notes a key, and makes what a delta makes of its value ready. Answers whether the delta fits.
+    fn stage_made(&mut self, key: &K, delta: &C::Delta) -> Result<bool, OutOfMemory>
         requires { self.old.number < 2 ^ 63 }
         ensures same { ShowsSame K.cmp self.old self.new }
-        ensures others { (q : K) → is_at (K.cmp key.now) q ≡ false →
-            versions_in K.cmp self.new.cells q ≡ versions_in K.cmp self.old.cells q }
-        ensures value { IfOk result (λ value. value ≡ next_value K.cmp self.old key.now) }
-        ensures kept { (q : K) → IsKeptOrCut self.old.number
-            (versions_in K.cmp self.old.cells q)
-            (versions_in K.cmp self.new.cells q) }
+        ensures ok { let now = next_value K.cmp self.old key.now in
+            OnOk result
+            (IsStaged K.cmp (is_at (K.cmp key.now))
+            (value_made (C.outcome now delta.now) now) self.old self.new) }
+        ensures fit { IfOk result
+            (λ fit. fit ≡ fits (delta_made K.cmp C.outcome key.now delta.now self.old)) }
     {
-        take_in(self.alloc, &mut self.cells, self.number, key)
+        note(self.alloc, &mut self.touched, self.fresh, key)?;
+        stage_delta_cell(self.alloc, &mut self.cells, self.number, key, delta)
     }
 
     /// Makes a delta ready, where it fits.
@@ -234,16 +233,9 @@ impl<K: StoreKey, C: Cell> History<K, C> {
         ensures cause { let made = delta_made K.cmp C.outcome key.now delta.now self.old in
             IfErr result (λ why. IsCause why (cond (fits made) None (Some key.now))) }
     {
-        let Ok(mut value) = self.take_value(key) else {
-            return Err(NotReady::Memory);
-        };
-        match C::apply(self.alloc, &mut value, delta) {
-            Ok(true) => {}
-            Ok(false) => return Err(unfit(self.alloc, key)),
-            Err(_) => return Err(NotReady::Memory),
-        }
-        match self.stage_key(key, value) {
-            Ok(()) => Ok(()),
+        match self.stage_made(key, delta) {
+            Ok(true) => Ok(()),
+            Ok(false) => Err(unfit(self.alloc, key)),
             Err(_) => Err(NotReady::Memory),
         }
     }
@@ -326,6 +318,63 @@ fn stage_cell<K: StoreKey, C: Drop>(
     if let Some(versions) = cells.get_mut(key) {
         return stage_in(versions, number, value);
     }
+    add_cell(alloc, cells, number, key, value)
+}
+
+/// Makes what a delta makes of a key's value ready, with one search where the key has versions. Answers
+/// whether the delta fits.
+fn stage_delta_cell<K: StoreKey, C: Cell>(
+    alloc: Global,
+    cells: &mut Cells<K, C>,
+    number: u64,
+    key: &K,
+    delta: &C::Delta,
+) -> Result<bool, OutOfMemory>
+    requires room { number < 2 ^ 63 }
+    requires good { AllGood K.cmp number (listed cells.old.entries) }
+    ensures others { (q : K) → is_at (K.cmp key.now) q ≡ false →
+        versions_in K.cmp (listed cells.new.entries) q ≡
+        versions_in K.cmp (listed cells.old.entries) q }
+    ensures fit { let now = value_next number
+        (versions_in K.cmp (listed cells.old.entries) key.now) in
+        IfOk result (λ fit. fit ≡ fits (C.outcome now delta.now)) }
+    ensures ok { let now = value_next number
+        (versions_in K.cmp (listed cells.old.entries) key.now) in
+        OnOk result ((q : K) → is_at (K.cmp key.now) q ≡ true →
+        versions_in K.cmp (listed cells.new.entries) q ≡
+        staged number (value_made (C.outcome now delta.now) now)
+        (versions_in K.cmp (listed cells.old.entries) q)) }
+    ensures err { OnErr result ((q : K) → is_at (K.cmp key.now) q ≡ true →
+        IsKeptOrCut number (versions_in K.cmp (listed cells.old.entries) q)
+        (versions_in K.cmp (listed cells.new.entries) q)) }
+{
+    if let Some(versions) = cells.get_mut(key) {
+        return stage_delta_in(alloc, versions, number, delta);
+    }
+    let mut value = None;
+    let fit = C::apply(alloc, &mut value, delta)?;
+    add_cell(alloc, cells, number, key, value)?;
+    Ok(fit)
+}
+
+/// Adds a key that has no versions, with its next version made ready.
+fn add_cell<K: StoreKey, C: Drop>(
+    alloc: Global,
+    cells: &mut Cells<K, C>,
+    number: u64,
+    key: &K,
+    value: Option<C>,
+) -> Result<(), OutOfMemory>
+    requires room { number < 2 ^ 63 }
+    requires none { versions_in K.cmp (listed cells.old.entries) key.now ≡ [] }
+    ensures others { (q : K) → is_at (K.cmp key.now) q ≡ false →
+        versions_in K.cmp (listed cells.new.entries) q ≡
+        versions_in K.cmp (listed cells.old.entries) q }
+    ensures ok { OnOk result ((q : K) → is_at (K.cmp key.now) q ≡ true →
+        versions_in K.cmp (listed cells.new.entries) q ≡
+        staged number value (versions_in K.cmp (listed cells.old.entries) q)) }
+    ensures err { OnErr result (cells.new.entries ≡ cells.old.entries) }
+{
     let mut versions = Vec::new(alloc);
     stage_in(&mut versions, number, value)?;
     let own = key.copy(alloc)?;
@@ -333,6 +382,40 @@ fn stage_cell<K: StoreKey, C: Drop>(
         Ok(_) => Ok(()),
         Err(_) => Err(OutOfMemory),
     }
+}
+
+/// Whether a key is the one noted last, among those from `fresh` on.
+fn is_noted_last<K: StoreKey>(touched: &[K], fresh: usize, key: &K) -> bool
+    requires { fresh ≤ length touched.now }
+    ensures { IsTrue result → names K.cmp (drop fresh touched.now) key.now ≡ true }
+{
+    let Some(last) = touched[fresh..].last() else {
+        return false;
+    };
+    *last == *key
+}
+
+/// Notes a key before a version of it is made ready. Deltas of one key mostly follow each other: the one
+/// that was noted last is not noted again.
+fn note<K: StoreKey>(
+    alloc: Global,
+    touched: &mut Vec<K>,
+    fresh: usize,
+    key: &K,
+) -> Result<(), OutOfMemory>
+    requires { fresh ≤ length touched.old.items }
+    ensures inside { fresh ≤ length touched.new.items }
+    ensures front { take fresh touched.new.items ≡ take fresh touched.old.items }
+    ensures noted { OnOk result ((q : K) → names K.cmp (drop fresh touched.new.items) q ≡
+        (names K.cmp (drop fresh touched.old.items) q || is_at (K.cmp key.now) q)) }
+    ensures err { OnErr result (touched.new.items ≡ touched.old.items) }
+{
+    if is_noted_last(touched.as_slice(), fresh, key) {
+        return Ok(());
+    }
+    let noted = key.copy(alloc)?;
+    touched.push(noted)?;
+    Ok(())
 }
 
 /// Names a key whose delta does not fit.

@@ -6,6 +6,7 @@ ghost use Rattle.std.specs.Map.Iter.{TakesFirst};
 ghost use Rattle.std.specs.Iterator.{at_most};
 ghost use Rattle.std.specs.List.{AllWithin};
 ghost use Rattle.wtf_kv.specs.Seen.{last_seen, value_seen, any_below, any_between, is_reported, kept_head, kept_versions, upto, ascends, within, is_settled, has_upto};
+ghost use Rattle.wtf_kv.specs.Edits.{value_made, fits};
 ghost use Rattle.wtf_kv.specs.Staging.{staged, value_next, ends_above, IsKeptOrCut};
 
 use crate::Cell;
@@ -153,7 +154,7 @@ fn copy_seen<C: Cell>(
 }
 
 /// Takes the value that the next number sees: the one that is made ready, which goes, or else a copy.
-pub(crate) fn take_next<C: Cell>(
+fn take_next<C: Cell>(
     alloc: Global,
     versions: &mut Vec<(u64, Option<C>)>,
     number: u64,
@@ -193,6 +194,30 @@ pub(crate) fn stage_in<C: Drop>(
         Ok(()) => Ok(()),
         Err(_) => Err(OutOfMemory),
     }
+}
+
+/// Makes what a delta makes of a key's value ready among its versions. Answers whether the delta fits; one
+/// that does not leaves the value, which is put back.
+pub(crate) fn stage_delta_in<C: Cell>(
+    alloc: Global,
+    versions: &mut Vec<(u64, Option<C>)>,
+    number: u64,
+    delta: &C::Delta,
+) -> Result<bool, OutOfMemory>
+    requires room { number < 2 ^ 63 }
+    requires order { ascends versions.old.items }
+    requires next { within (number + 1) versions.old.items }
+    ensures fit { let now = value_next number versions.old.items in
+        IfOk result (λ fit. fit ≡ fits (C.outcome now delta.now)) }
+    ensures ok { let now = value_next number versions.old.items in
+        OnOk result (versions.new.items ≡
+        staged number (value_made (C.outcome now delta.now) now) versions.old.items) }
+    ensures err { OnErr result (IsKeptOrCut number versions.old.items versions.new.items) }
+{
+    let mut value = take_next(alloc, versions, number)?;
+    let fit = C::apply(alloc, &mut value, delta)?;
+    stage_in(versions, number, value)?;
+    Ok(fit)
 }
 
 /// The versions of a key, the oldest first: the number of each with its value, none for a removal.

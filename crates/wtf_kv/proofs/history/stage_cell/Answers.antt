@@ -30,20 +30,7 @@ returns-in-Some-clause-err g c = on_err_weaker c.stage_in.result (λ made q at.
     inr (chosen (is_at (g.K.Ord.cmp c.args.key.now) q) _ (upto c.args.number (versions_in g.K.Ord.cmp (listed c.args.cells.now.entries) q)) (versions_in g.K.Ord.cmp (listed c.args.cells.now.entries) q) at
     (versions_updated g.K.Ord.cmp g.met.K.StoreKey.exact c.args.cells.now.entries _ c.args.key.now c.stage_in.new.versions (upto c.args.number) (held.3 (search rules)).0 (made ∙ ap (upto c.args.number) (sym some)) q))) c.stage_in.ensures.err
 
-pub returns-in-Ok-clause-others : goal.returns-in-Ok-clause-others
-returns-in-Ok-clause-others g c = λ q apart.
-    let same : c.get_mut.follows.lender-at-none.entries ≡ c.args.cells.now.entries = search rules in
-    let own : c.in_ok-own.own ≡ c.args.key.now = c.in_ok-own.ensures in
-    versions_alike g.K.Ord.cmp c.get_mut.follows.lender-at-none.entries _ q (c.in-Ok.ensures.updates.2 q (ap (λ k. is_at (g.K.Ord.cmp k) q) own ∙ apart))
-    ∙ ap (λ es. versions_in g.K.Ord.cmp (listed es) q) same
-
-pub returns-in-Ok-clause-ok : goal.returns-in-Ok-clause-ok
-returns-in-Ok-clause-ok g c = λ q at.
-    let same : c.get_mut.follows.lender-at-none.entries ≡ c.args.cells.now.entries = search rules in
-    let own : c.in_ok-own.own ≡ c.args.key.now = c.in_ok-own.ensures in
-    let absent : lookup (is_at (g.K.Ord.cmp c.args.key.now)) c.get_mut.follows.lender-at-none.entries ≡ None = search rules in
-    let none : lookup (is_at (g.K.Ord.cmp c.in_ok-own.own)) c.get_mut.follows.lender-at-none.entries ≡ None = ap (λ k. lookup (is_at (g.K.Ord.cmp k)) c.get_mut.follows.lender-at-none.entries) own ∙ absent in
-    let old = c.get_mut.follows.lender-at-none.entries in
-    chosen (is_at (g.K.Ord.cmp c.in_ok-own.own) q) _ (staged c.args.number c.args.value (versions_in g.K.Ord.cmp (listed old) q)) (versions_in g.K.Ord.cmp (listed old) q) (ap (λ k. is_at (g.K.Ord.cmp k) q) own ∙ at)
-    (versions_updated g.K.Ord.cmp g.met.K.StoreKey.exact old _ c.in_ok-own.own c.stage_in-2.new.versions (staged c.args.number c.args.value) c.in-Ok.ensures.updates.0 (c.in_ok-stage_in.ensures.ok ∙ ap (staged c.args.number c.args.value) (c.new-versions.ensures.items ∙ sym (versions_none g.K.Ord.cmp old c.in_ok-own.own none))) q)
-    ∙ ap (λ es. staged c.args.number c.args.value (versions_in g.K.Ord.cmp (listed es) q)) same
+pub add_cell-requires-clause-none : goal.add_cell-requires-clause-none
+add_cell-requires-clause-none g c =
+    let none : lookup (is_at (g.K.Ord.cmp c.args.key.now)) c.get_mut.follows.lender-at-none.entries ≡ None = search rules in
+    versions_none g.K.Ord.cmp c.get_mut.follows.lender-at-none.entries c.args.key.now none
