@@ -1,5 +1,5 @@
 -- What a summary tells of the value that has it.
-use Rattle.std.proofs.Common.{◌≡◌, ℕ, ◌+◌, ◌<◌, ◌≤◌, ◌^◌, List, Option, None, Some, refl, ap, sym, subst, ◌∙◌, arith}
+use Rattle.std.proofs.Common.{◌≡◌, ℕ, ◌+◌, ◌<◌, ◌≤◌, ◌^◌, List, Option, None, Some, refl, ap, sym, ◌∙◌, arith}
 use Rattle.wtf_kv.specs.Edits.{value_made}
 use Rattle.wtf_values.specs.declared.region.RegionValue.{RegionValue}
 use Rattle.wtf_values.specs.declared.summary.Summary.TheVariants as summary

@@ -1,4 +1,4 @@
-use Rattle.std.proofs.Common.{◌≡◌, ◌+◌, ◌≤◌, Some, refl, sym, subst, ap, ◌∙◌}
+use Rattle.std.proofs.Common.{◌≡◌, ◌+◌, Some, refl, sym, subst, ap, ◌∙◌}
 use Rattle.wtf_kv.specs.Edits.{value_made}
 use Rattle.wtf_values.specs.declared.summary.Summary.TheVariants as summary
 use Rattle.wtf_values.specs.declared.value.Value.TheVariants as values

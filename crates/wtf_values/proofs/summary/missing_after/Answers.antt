@@ -1,4 +1,4 @@
-use Rattle.std.proofs.Common.{◌≡◌, None, Some, IfSome, subst, sym}
+use Rattle.std.proofs.Common.{◌≡◌, None, subst, sym}
 use Rattle.wtf_kv.specs.Edits.{value_made}
 use Rattle.wtf_values.specs.declared.summary.Summary.TheVariants as summary
 use Rattle.wtf_values.specs.Outcomes.{outcome_region}
