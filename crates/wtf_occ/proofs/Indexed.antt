@@ -1,5 +1,5 @@
 -- What the index of positions is worth: reading by it is reading by all changes.
-use Rattle.std.proofs.Common.{◌≡◌, ℕ, ◌+◌, ◌-◌, ◌<◌, ◌≤◌, suc, zero, Bool, true, false, cond, ◌||◌, ◌⊎◌, inl, inr, List, [], ◌∷◌, Option, None, nat_le, nat_lt, nat_eq, refl, sym, ap, ◌∙◌, arith, ⊎_elim, length, take, drop, get_or}
+use Rattle.std.proofs.Common.{◌≡◌, ℕ, ◌+◌, ◌-◌, ◌<◌, ◌≤◌, suc, zero, Bool, true, false, cond, ◌||◌, ◌⊎◌, inl, inr, List, [], ◌∷◌, Option, None, nat_le, nat_lt, nat_eq, refl, sym, ap, ◌∙◌, subst, arith, ⊎_elim, length, take, drop, get_or}
 use Rattle.std.specs.List.{list_any}
 use Rattle.std.specs.declared.cmp.Ordering.{Ordering}
 use Rattle.std.proofs.Math.Seq.{drop-nil, drop-cons}
@@ -47,6 +47,12 @@ positions-below p (x ∷ xs) i n le =
     let rest : AllBelow n (positions_from (i + 1) p xs) = positions-below p xs (i + 1) n (omega arith) in
     let here : nat_lt i n ≡ true = lt-ltb i n (omega arith) in
     elim (p x) as (λ b. AllBelow n (cond b (i ∷ positions_from (i + 1) p xs) (positions_from (i + 1) p xs))) [ true ↦ (here, rest) | false ↦ rest ]
+
+-- the same of a list and of positions that are known to be these
+pub positions-inside : {X : Type 0} (p : X → Bool) (xs seen : List X) (is : List ℕ) → seen ≡ xs → is ≡ positions_from 0 p xs → AllBelow (length seen) is
+positions-inside p xs seen is same at =
+    subst (λ l. AllBelow (length l) is) (sym same)
+    (subst (AllBelow (length xs)) (sym at) (positions-below p xs 0 (length xs) (omega arith)))
 
 pub below-at : (n : ℕ) (is : List ℕ) (k d : ℕ) → AllBelow n is → k < length is → get_or is k d < n
 below-at n [] k d all lt = absurd (omega arith)
@@ -166,3 +172,10 @@ module _ {K C D : Type 0} (order : K → K → Ordering) (outcome : Option C →
       ∙ sym (ap (λ n. after_changes order outcome (drop n cs) q None) whole)
       ∙ sym (eq value))
       (found_by cs cs 0 0 refl)
+
+  -- the same of a list and of positions that are known to be these
+  pub by_index : (cs seen : List (Change K D)) (cuts places : List ℕ) (value now : Option C) (from : ℕ) → seen ≡ cs → cuts ≡ positions_from 0 is_cut cs → places ≡ positions_from 0 (is_delta_of order q) cs → from ≡ past_cover order seen q cuts 0 → now ≡ cond (nat_eq from 0) value None → after_positions order outcome seen q from places now ≡ after_changes order outcome cs q value
+  by_index cs seen cuts places value now from same at_cuts at_places past start =
+      ap (λ l. after_positions order outcome l q from places now) same
+      ∙ ap (λ is. after_positions order outcome cs q from is now) at_places
+      ∙ by_positions cs value now from (past ∙ ap (λ l. past_cover order l q cuts 0) same ∙ ap (λ is. past_cover order cs q is 0) at_cuts) start

@@ -1,6 +1,6 @@
 //! An attempt: its base, the keys that it has recorded, and its changes.
 
-ghost use Rattle.std.specs.Prelude.{◌≡◌, ℕ, ◌^◌, ◌<◌, ◌≤◌, ◌∷◌, [], ◌++◌, IsTrue, OnErr, OnOk, IfOk, IfSome, length, take};
+ghost use Rattle.std.specs.Prelude.{◌≡◌, ℕ, Some, ◌^◌, ◌<◌, ◌≤◌, ◌∷◌, [], ◌++◌, IsTrue, OnErr, OnOk, IfOk, IfSome, length, take};
 ghost use Rattle.std.specs.Option.{option_copied};
 ghost use Rattle.wtf_kv.specs.Stores.{map_at, version_of, is_pinned};
 ghost use Rattle.wtf_kv.specs.Edits.{Fits};
@@ -217,7 +217,8 @@ impl<K: StoreKey, C: Summarized> Attempt<K, C> {
     }
 }
 
-/// The first of the keys that has a version above `base`.
+/// The first of the keys that has a version above `base`. A key that follows itself is looked at once: an
+/// attempt that appends records the same key each time.
 fn find_moved<'a, K: StoreKey, C: Cell>(
     kv: &Kv<K, C>,
     number: u64,
@@ -228,10 +229,25 @@ fn find_moved<'a, K: StoreKey, C: Cell>(
     ensures first { option_copied result ≡ first_moved K.cmp base keys.now kv.now }
     ensures moved { IfSome result (λ key. base < version_of K.cmp kv.now number key.now) }
 {
+    let mut last = None;
     for key in keys {
+        if is_again(last, key) {
+            continue;
+        }
         if base < kv.version_at(number, key) {
             return Some(key);
         }
+        last = Some(key);
     }
     None
+}
+
+/// Whether a key is the one before it.
+fn is_again<K: StoreKey>(last: Option<&K>, key: &K) -> bool
+    ensures { IsTrue result → option_copied last.entry ≡ Some key.now }
+{
+    let Some(last) = last else {
+        return false;
+    };
+    last == key
 }

@@ -105,6 +105,9 @@ fn pushing(alloc: Global, kv: &Kv<Name, Count>, reads: bool) -> Result<Attempt<N
 {
     let mut attempt = Attempt::new(alloc, 1)?;
     if reads {
+        // The key that moves stands behind one that is recorded twice.
+        attempt.record(&Name { id: 3 })?;
+        attempt.record(&Name { id: 3 })?;
         attempt.read(kv, &Name { id: 7 })?;
     } else {
         attempt.peek(kv, &Name { id: 7 })?;
@@ -198,7 +201,7 @@ fn goes_back_to_a_mark(rt: HostRuntime) -> Result<(), Fail> {
     assert!(rt; kv.is_pinned(1));
     let mut attempt = pushing(rt.alloc(), &kv, true)?;
     let mark = attempt.mark();
-    assert_eq!(rt; (mark.reads, mark.changes), (1, 1));
+    assert_eq!(rt; (mark.reads, mark.changes), (3, 1));
     attempt.delta(Name { id: 7 }, 4)?;
     attempt.cut_range(Name { id: 7 }, Name { id: 8 })?;
     attempt.delta(Name { id: 7 }, 5)?;

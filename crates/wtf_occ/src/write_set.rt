@@ -211,16 +211,15 @@ impl<K: StoreKey, C: Summarized> WriteSet<K, C> {
         ensures err { OnErr result (self.new ≡ self.old) }
     {
         let position = self.changes.len();
-        let own = key.copy(self.alloc)?;
         if let Err(why) = self.changes.delta(key, d) {
-            return Err(why);
-        }
-        if let Err(why) = note(self.alloc, &mut self.positions, own, position) {
-            self.changes.shorten(position);
             return Err(why);
         }
         let all = self.changes.as_slice();
         let change = &all[position];
+        if let Err(why) = note_delta(self.alloc, &mut self.positions, change, position) {
+            self.changes.shorten(position);
+            return Err(why);
+        }
         follow(self.alloc, &mut self.known, change);
         follow_summary::<K, C>(&mut self.summaries, change);
         Ok(())
@@ -270,28 +269,51 @@ impl<K: StoreKey, C: Summarized> WriteSet<K, C> {
     }
 }
 
-/// Notes the position of a delta of a key, which is above those noted before.
-fn note<K: StoreKey>(
+/// Notes the position of a change that is a delta, which is above those noted before.
+fn note_delta<K: StoreKey, D>(
     alloc: Global,
     positions: &mut Positions<K>,
-    key: K,
+    change: &Change<K, D>,
     position: usize,
 ) -> Result<(), OutOfMemory>
     ensures ok { OnOk result ((q : K) →
         positions_of K.cmp (listed_positions positions.new.entries) q ≡
-        cond (is_at (K.cmp key) q) (positions_of K.cmp
+        cond (is_delta_of K.cmp q change.now) (positions_of K.cmp
         (listed_positions positions.old.entries) q ++ position ∷ [])
         (positions_of K.cmp (listed_positions positions.old.entries) q)) }
     ensures err { OnErr result
         ((q : K) → positions_of K.cmp (listed_positions positions.new.entries) q ≡
         positions_of K.cmp (listed_positions positions.old.entries) q) }
 {
-    if let Some(known) = positions.get_mut(&key) {
+    let Change::Delta(key, _) = change else {
+        return Ok(());
+    };
+    note(alloc, positions, key, position)
+}
+
+/// Notes the position of a delta of a key. The key is copied where it has no positions yet.
+fn note<K: StoreKey>(
+    alloc: Global,
+    positions: &mut Positions<K>,
+    key: &K,
+    position: usize,
+) -> Result<(), OutOfMemory>
+    ensures ok { OnOk result ((q : K) →
+        positions_of K.cmp (listed_positions positions.new.entries) q ≡
+        cond (is_at (K.cmp key.now) q) (positions_of K.cmp
+        (listed_positions positions.old.entries) q ++ position ∷ [])
+        (positions_of K.cmp (listed_positions positions.old.entries) q)) }
+    ensures err { OnErr result
+        ((q : K) → positions_of K.cmp (listed_positions positions.new.entries) q ≡
+        positions_of K.cmp (listed_positions positions.old.entries) q) }
+{
+    if let Some(known) = positions.get_mut(key) {
         return push_position(known, position);
     }
+    let own = key.copy(alloc)?;
     let mut fresh = Vec::new(alloc);
     push_position(&mut fresh, position)?;
-    match positions.insert(key, fresh) {
+    match positions.insert(own, fresh) {
         Ok(_) => Ok(()),
         Err(_) => Err(OutOfMemory),
     }
