@@ -2,7 +2,6 @@
 use Rattle.std.proofs.Common.{◌≡◌, ◌≢◌, ℕ, ◌+◌, ◌-◌, ◌*◌, ◌/◌, ◌<◌, ◌≤◌, ◌^◌, ◌++◌, refl, Bool, List, [], ◌∷◌, length, get_or, take, ap, sym, ◌∙◌, subst, arith}
 use Rattle.std.proofs.lemmas.List.{map-append}
 use Rattle.wtf_base.specs.declared.ids.InodeId.{InodeId}
-use Rattle.wtf_kv.specs.Stores.{Store}
 use Rattle.wtf_occ.specs.Attempts.{Attempted}
 use Rattle.wtf_occ.proofs.AttemptLaws.{GrowsBy-change}
 use Rattle.wtf_overlay.specs.Origin.{Place, part_origin, pieces_len, pieces_origin}
@@ -10,12 +9,10 @@ use Rattle.wtf_overlay.specs.declared.part.Entry.{Entry}
 use Rattle.wtf_overlay.specs.declared.part.Piece.{Piece}
 use Rattle.wtf_model.specs.declared.limits.TheConstants.{MAX_REGIONS}
 use Rattle.wtf_values.specs.declared.key.Key.{Key}
-use Rattle.wtf_values.specs.declared.value.Value.{Value}
 use Rattle.wtf_values.specs.declared.value.Delta.{Delta}
-use Rattle.wtf_meta.specs.Maps.{Map, seen}
 use Rattle.wtf_meta.specs.Bytes.{PartBytes, EditsBytes}
 use Rattle.wtf_meta.specs.Files.{FileView, end_of, file_len}
-use Rattle.wtf_meta.specs.FileEdits.{FileEdit, Push, PushRel, RaiseLast, edit_of, edits_of, file_of}
+use Rattle.wtf_meta.specs.FileEdits.{FileEdit, Push, PushRel, RaiseLast, edit_of, edits_of}
 use Rattle.wtf_meta.specs.Ranges.{Covers}
 use Rattle.wtf_meta.specs.Appends.{FileKey, OfLast, OfRegion, length_keys, append_keys}
 use Rattle.wtf_meta.proofs.Named.{EditsBytes-append}
@@ -24,7 +21,7 @@ use Rattle.wtf_meta.proofs.Piecewise.{Covers-part, Covers-piece, Lays-pieces, La
 use Rattle.wtf_meta.proofs.Appending.{keys_none, keys_rel, keys_laid, Appends-none, Appends-rel, Appends-laid, HasNoRoom-full}
 use Rattle.wtf_region.specs.declared.added.Added.TheVariants.{Done, TooBig}
 use Rattle.wtf_region.specs.Edited.{Recorded, Edited, NamesOnly, CoversPart, LaysPieces, AddsPieces, IsAdded}
-use Rattle.wtf_region.proofs.Recording.{still_seen, recorded_on, Edited-none, Edited-as, Edited-recorded}
+use Rattle.wtf_region.proofs.Recording.{recorded_on, Edited-none, Edited-as, Edited-recorded}
 
 -- one change
 pub Edited-one : (i : InodeId) (d : FileEdit) (m n : Attempted Key Delta) → n ≡ record m { changes = m.changes ++ edit_of i d ∷ [] } → Edited i [] (λ ds. ds ≡ d ∷ []) m n
@@ -74,12 +71,6 @@ first_all b off done k last i ps pos all d some cap l ds es first is = subst (λ
 pub first_nothing : (b off done k : ℕ) (i : InodeId) (ps : List Piece) → length ps ≤ k → done ≡ pieces_len (take k ps) → done ≡ 0 → (ds : List FileEdit) → CoversFirst b off i ps k done ds
     → LaysPieces b off i ps ds
 first_nothing b off done k i ps all d none ds first = record { lays = Lays-no_pieces b off done k ps ds all d none first.covers; names = first.names }
-
--- where the last region ends, as it was seen once keys were recorded
-pub end_seen : (kv : Store Key Value) (i : InodeId) (ks : List FileKey) (a m : Attempted Key Delta) (last end : ℕ) → Recorded i ks a m → last ≡ (file_of i (seen kv a)).last
-    → end ≡ end_of ((file_of i (seen kv m)).region last) → end ≡ end_of ((file_of i (seen kv a)).region (file_of i (seen kv a)).last)
-end_seen kv i ks a m last end recorded is here =
-    here ∙ ap (λ (w : Map). end_of ((file_of i w).region last)) (still_seen kv i ks a m recorded) ∙ ap (λ (r : ℕ). end_of ((file_of i (seen kv a)).region r)) is
 
 -- the length was read
 pub recorded_length : (i : InodeId) (v : FileView) (last : ℕ) (a m n : Attempted Key Delta) → last ≡ v.last → Recorded i (OfLast ∷ []) a m → Recorded i (OfRegion last ∷ []) m n

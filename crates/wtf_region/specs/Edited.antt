@@ -1,5 +1,5 @@
 -- What a call recorded of a file, and how it changed it.
-use Rattle.std.specs.Prelude.{ℕ, ◌+◌, ◌*◌, ◌<◌, Bool, List, []}
+use Rattle.std.specs.Prelude.{◌≡◌, ℕ, ◌+◌, ◌*◌, ◌<◌, Bool, List, []}
 use Rattle.wtf_base.specs.declared.ids.InodeId.{InodeId}
 use Rattle.wtf_occ.specs.Attempts.{Attempted, GrowsBy}
 use Rattle.wtf_overlay.specs.Origin.{Place, part_origin, pieces_len, pieces_origin}
@@ -14,6 +14,7 @@ use Rattle.wtf_meta.specs.Ranges.{Covers, Lays}
 use Rattle.wtf_meta.specs.Appends.{FileKey, keys_of, append_keys, Appends, HasNoRoom}
 use Rattle.wtf_region.specs.declared.added.Added.{Added}
 use Rattle.wtf_region.specs.declared.added.Added.TheVariants.{Done, TooBig}
+use Rattle.wtf_region.specs.declared.ends.FileEnd.{FileEnd}
 
 -- an attempt recorded these of a file's keys and made no change
 abbrev pub Recorded : InodeId → List FileKey → Attempted Key Delta → Attempted Key Delta → Type 0
@@ -43,6 +44,11 @@ pub record LaysPieces (b off : ℕ) (i : InodeId) (ps : List Piece) (ds : List F
 pub record AddsPieces (b : ℕ) (i : InodeId) (read : FileView) (ps : List Piece) (ds : List FileEdit) : Type 0 where
   pub appends : Appends b read (append_keys b read (pieces_len ps)) ds (pieces_len ps) (pieces_origin ps)
   pub names : NamesOnly i ps ds
+
+-- a file ends there
+pub record IsFileEnd (v : FileView) (e : FileEnd) : Type 0 where
+  pub region : e.region ≡ v.last
+  pub off : e.off ≡ end_of (v.region v.last)
 
 -- n bytes find no room in the last region of a file, nor below the greatest length
 pub record LacksRoom (b : ℕ) (v : FileView) (n : ℕ) : Type 0 where

@@ -7,12 +7,13 @@ ghost use Rattle.wtf_overlay.specs.Origin.{part_origin, pieces_len};
 ghost use Rattle.wtf_overlay.specs.Lengths.{HasLength};
 ghost use Rattle.wtf_model.specs.declared.limits.TheConstants.{MAX_REGIONS};
 ghost use Rattle.wtf_meta.specs.Maps.{seen};
+ghost use Rattle.wtf_meta.specs.Files.{FileView};
 ghost use Rattle.wtf_meta.specs.FileEdits.{file_of, Push, RaiseLast};
-ghost use Rattle.wtf_region.specs.Edited.{Edited, CoversPart, LaysPieces, LacksRoom, IsAdded};
+ghost use Rattle.wtf_region.specs.Edited.{Edited, CoversPart, LaysPieces, LacksRoom, IsAdded, IsFileEnd};
 
 use crate::Added;
+use crate::ends::{FileEnd, file_end, record_last, record_length};
 use crate::part::part_at;
-use crate::reading::{last_region, region_end, settled_end};
 use std::alloc::Global;
 use wtf_base::{InodeId, OutOfMemory, Settings};
 use wtf_kv::Kv;
@@ -108,11 +109,47 @@ fn has_room(end: u32, len: u64, size: u32) -> bool
     end <= size && len <= (size - end) as u64
 }
 
-/// Adds consecutive pieces at a file's end, unless it would pass the greatest length. No piece
-/// changes nothing and records nothing. Where they fit into its last region, whatever others add
-/// there meanwhile, only that region's number is recorded; else its value is recorded too, and they
-/// are laid at the end that was read. After an error some keys may be recorded and some of the
-/// changes made.
+/// Adds consecutive pieces at the end of a file that was seen to end there, unless it would pass the
+/// greatest length. No piece changes nothing and records nothing. Where they fit into its last region,
+/// whatever others add there meanwhile, only that region's number is recorded; else its value is
+/// recorded too, and they are laid at the end that was seen. After an error some keys may be recorded
+/// and some of the changes made.
+pub fn add_at(
+    alloc: Global,
+    at: &mut Attempt<Key, Value>,
+    inode: InodeId,
+    end: FileEnd,
+    pieces: &[Piece],
+    settings: Settings,
+) -> Result<Added, OutOfMemory>
+    ensures added { (v : FileView) → IsFileEnd v end →
+        IfOk result (IsAdded settings.region inode v pieces.now at.old at.new) }
+    ensures full { (v : FileView) → IsFileEnd v end → IfOk result
+        (λ a. a ≡ Added.TooBig → LacksRoom settings.region v (pieces_len pieces.now)) }
+    ensures grows { Grows at.old at.new }
+{
+    let len = bytes_of(pieces);
+    if len == 0 {
+        return Ok(Added::Done);
+    }
+    let size = settings.region;
+    if has_room(end.off, len, size) {
+        record_last(at, inode)?;
+        let pieces = Pieces::of(alloc, pieces)?;
+        at.delta(Key::Region(inode, end.region), Delta::PushRel(pieces, size))?;
+        return Ok(Added::Done);
+    }
+    record_length(at, inode, end)?;
+    let off = end.region as u64 * size as u64 + end.off as u64;
+    let cap = settings.cap();
+    if off > cap || len > cap - off {
+        return Ok(Added::TooBig);
+    }
+    put_pieces(at, inode, off, pieces, settings)?;
+    Ok(Added::Done)
+}
+
+/// The same at the end that the attempt sees.
 pub fn add_pieces(
     alloc: Global,
     kv: &Kv<Key, Value>,
@@ -128,24 +165,6 @@ pub fn add_pieces(
         (file_of inode (seen kv.now at.old)) (pieces_len pieces.now)) }
     ensures grows { Grows at.old at.new }
 {
-    let len = bytes_of(pieces);
-    if len == 0 {
-        return Ok(Added::Done);
-    }
-    let size = settings.region;
-    let last = last_region(kv, at, inode)?;
-    let end = settled_end(kv, at, inode, last);
-    if has_room(end, len, size) {
-        let pieces = Pieces::of(alloc, pieces)?;
-        at.delta(Key::Region(inode, last), Delta::PushRel(pieces, size))?;
-        return Ok(Added::Done);
-    }
-    let end = region_end(kv, at, inode, last)?;
-    let off = last as u64 * size as u64 + end as u64;
-    let cap = settings.cap();
-    if off > cap || len > cap - off {
-        return Ok(Added::TooBig);
-    }
-    put_pieces(at, inode, off, pieces, settings)?;
-    Ok(Added::Done)
+    let end = file_end(kv, at, inode);
+    add_at(alloc, at, inode, end, pieces, settings)
 }

@@ -7,6 +7,7 @@ mod added;
 mod cache;
 mod changing;
 mod dev;
+mod ends;
 mod fetching;
 mod list;
 mod part;
@@ -15,11 +16,12 @@ mod store;
 
 pub use added::Added;
 pub use cache::{RegionCache, RegionKey};
-pub use changing::{add_pieces, put_pieces};
+pub use changing::{add_at, add_pieces, put_pieces};
 pub use dev::Dev;
+pub use ends::{FileEnd, file_end};
 pub use fetching::show;
 pub use list::region_list;
-pub use reading::{file_len, peek_end, peek_last, pieces};
+pub use reading::{file_len, pieces};
 pub use store::store_bytes;
 pub use wtf_meta::{Handle, Session};
 

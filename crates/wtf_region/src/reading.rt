@@ -4,109 +4,26 @@ ghost use Rattle.std.specs.Prelude.{◌≡◌, ◌+◌, ◌*◌, ◌<◌, ◌≤
 ghost use Rattle.std.specs.Option.{option_copied};
 ghost use Rattle.wtf_kv.specs.Stores.{is_pinned};
 ghost use Rattle.wtf_occ.specs.Attempts.{Grows, GrowsBy};
-ghost use Rattle.wtf_values.specs.Summaries.{summary_of};
 ghost use Rattle.wtf_overlay.specs.Origin.{Plans};
 ghost use Rattle.wtf_model.specs.declared.limits.TheConstants.{MAX_REGIONS};
 ghost use Rattle.wtf_meta.specs.Maps.{seen};
-ghost use Rattle.wtf_meta.specs.Files.{end_of, file_len as file_length, file_origin, region_origin};
-ghost use Rattle.wtf_meta.specs.FileEdits.{file_of, last_of, region_of};
-ghost use Rattle.wtf_meta.specs.Appends.{OfLast, OfRegion, length_keys, region_keys, touched};
+ghost use Rattle.wtf_meta.specs.Files.{file_len as file_length, file_origin, region_origin};
+ghost use Rattle.wtf_meta.specs.FileEdits.{file_of, region_of};
+ghost use Rattle.wtf_meta.specs.Appends.{OfRegion, length_keys, region_keys, touched};
 ghost use Rattle.wtf_region.specs.Devs.{IsSoundDev, GoesOn, between};
 ghost use Rattle.wtf_region.specs.Showing.{OnlyRead};
 ghost use Rattle.wtf_region.specs.Edited.{Recorded};
 
+use crate::ends::{file_end, record_length};
 use crate::part::{RegionPart, part_at};
 use crate::{Dev, region_list};
 use std::alloc::Global;
 use wtf_base::{Fault, InodeId, OutOfMemory, Settings};
 use wtf_dev::SliceStore;
 use wtf_kv::Kv;
-use wtf_meta::{Key, Summary, Value};
+use wtf_meta::{Key, Value};
 use wtf_occ::Attempt;
 use wtf_overlay::{Part, Piece};
-
-/// The last region that a value with this summary tells, 0 where it tells none.
-fn last_told(summary: Summary) -> u16
-    ensures { (now : Option Value) → summary ≡ summary_of now → result ≡ last_of now }
-{
-    match summary {
-        Summary::Last(n) => n,
-        _ => 0,
-    }
-}
-
-/// Where the region of a value with this summary ends, 0 where it is none.
-fn end_told(summary: Summary) -> u32
-    ensures { (now : Option Value) → summary ≡ summary_of now → result ≡ end_of (region_of now) }
-{
-    match summary {
-        Summary::Region(end) => end,
-        _ => 0,
-    }
-}
-
-/// The number of a file's last region, 0 where it is missing. Nothing is recorded.
-pub fn peek_last(kv: &Kv<Key, Value>, at: &Attempt<Key, Value>, inode: InodeId) -> u16
-    requires { IsTrue (is_pinned kv.now at.now.base) }
-    ensures { result ≡ (file_of inode (seen kv.now at.now)).last }
-{
-    last_told(at.summary(kv, &Key::Inode(inode)))
-}
-
-/// Where a region of a file ends, 0 where it is missing. Nothing is recorded.
-pub fn peek_end(kv: &Kv<Key, Value>, at: &Attempt<Key, Value>, inode: InodeId, r: u16) -> u32
-    requires { IsTrue (is_pinned kv.now at.now.base) }
-    ensures { result ≡ end_of ((file_of inode (seen kv.now at.now)).region r) }
-{
-    end_told(at.summary(kv, &Key::Region(inode, r)))
-}
-
-/// The same. Later looks walk no changes of the region then.
-pub(crate) fn settled_end(
-    kv: &Kv<Key, Value>,
-    at: &mut Attempt<Key, Value>,
-    inode: InodeId,
-    r: u16,
-) -> u32
-    requires { IsTrue (is_pinned kv.now at.old.base) }
-    ensures value { result ≡ end_of ((file_of inode (seen kv.now at.old)).region r) }
-    ensures same { at.new ≡ at.old }
-{
-    end_told(at.settled_summary(kv, &Key::Region(inode, r)))
-}
-
-/// The number of a file's last region, 0 where it is missing. It is recorded.
-pub(crate) fn last_region(
-    kv: &Kv<Key, Value>,
-    at: &mut Attempt<Key, Value>,
-    inode: InodeId,
-) -> Result<u16, OutOfMemory>
-    requires { IsTrue (is_pinned kv.now at.old.base) }
-    ensures value { IfOk result (λ r. r ≡ (file_of inode (seen kv.now at.old)).last) }
-    ensures recorded { OnOk result (Recorded inode (OfLast ∷ []) at.old at.new) }
-    ensures grows { Grows at.old at.new }
-{
-    let last = peek_last(kv, at, inode);
-    at.record(&Key::Inode(inode))?;
-    Ok(last)
-}
-
-/// Where a region of a file ends, 0 where it is missing. It is recorded.
-pub(crate) fn region_end(
-    kv: &Kv<Key, Value>,
-    at: &mut Attempt<Key, Value>,
-    inode: InodeId,
-    r: u16,
-) -> Result<u32, OutOfMemory>
-    requires { IsTrue (is_pinned kv.now at.old.base) }
-    ensures value { IfOk result (λ n. n ≡ end_of ((file_of inode (seen kv.now at.old)).region r)) }
-    ensures recorded { OnOk result (Recorded inode (OfRegion r ∷ []) at.old at.new) }
-    ensures grows { Grows at.old at.new }
-{
-    let end = peek_end(kv, at, inode, r);
-    at.record(&Key::Region(inode, r))?;
-    Ok(end)
-}
 
 /// The length of a file, in bytes: that of the regions before its last one, and where that one
 /// ends. A missing file has none. The last region's number and its value are recorded. After an
@@ -124,9 +41,9 @@ pub fn file_len(
         (Recorded inode (length_keys (file_of inode (seen kv.now at.old))) at.old at.new) }
     ensures grows { Grows at.old at.new }
 {
-    let last = last_region(kv, at, inode)?;
-    let end = region_end(kv, at, inode, last)?;
-    Ok(last as u64 * settings.region as u64 + end as u64)
+    let end = file_end(kv, at, inode);
+    record_length(at, inode, end)?;
+    Ok(end.region as u64 * settings.region as u64 + end.off as u64)
 }
 
 /// A part of what a value has of a region, as pieces; a hole where it has no region.

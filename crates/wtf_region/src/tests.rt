@@ -123,6 +123,14 @@ fn a_write_over_a_border_and_an_append_past_the_end(rt: HostRuntime) -> Result<(
         add_zeros(&rt, alloc, &kv, &mut at, 262_074)?,
         (Added::Done, 262_144)
     );
+    assert!(rt; kv.is_pinned(at.base()));
+    assert_eq!(rt;
+        file_end(&kv, &mut at, FILE),
+        FileEnd {
+            region: 4095,
+            off: 64
+        }
+    );
     Ok(())
 }
 

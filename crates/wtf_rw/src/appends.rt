@@ -3,15 +3,16 @@
 ghost use Rattle.std.specs.Prelude.{◌≡◌, ◌⊎◌, ◌<◌, ◌≤◌, ◌*◌, ◌++◌, [], ℕ, List, length, Some, None, IfOk, IfErr, IfSome, OnOk, IsTrue, IsSome};
 ghost use Rattle.wtf_kv.specs.Stores.{is_pinned};
 ghost use Rattle.wtf_occ.specs.Attempts.{Grows};
-ghost use Rattle.wtf_model.specs.declared.limits.TheConstants.{MAX_HANDLES, MAX_REGIONS, MAX_WRITTEN};
+ghost use Rattle.wtf_model.specs.declared.limits.TheConstants.{MAX_HANDLES, MAX_WRITTEN};
 ghost use Rattle.wtf_model.specs.Steps.{IsLogged};
 ghost use Rattle.wtf_meta.specs.declared.session.Handle as handle;
 ghost use Rattle.wtf_meta.specs.Maps.{seen};
+ghost use Rattle.wtf_meta.specs.Files.{FileView};
 ghost use Rattle.wtf_meta.specs.FileEdits.{file_of};
 ghost use Rattle.wtf_meta.specs.Sessions.{handle_in};
 ghost use Rattle.wtf_meta.specs.Calls.{Caller};
 ghost use Rattle.wtf_region.specs.Devs.{IsSoundDev, GoesOn, stores, place_in};
-ghost use Rattle.wtf_region.specs.Edited.{LacksRoom};
+ghost use Rattle.wtf_region.specs.Edited.{IsFileEnd, LacksRoom};
 ghost use Rattle.wtf_rw.specs.Recorded.{append_keys};
 ghost use Rattle.wtf_rw.specs.Steps.{in_hand, IsStepWith, IsRefusal};
 ghost use Rattle.wtf_rw.specs.Stored.{TellsOwn, IsOwn, IsPutFault, BringsSlice, Answers, HasRoom, end_place, answer_of};
@@ -21,41 +22,32 @@ use crate::Done;
 use crate::handles::handle_of;
 use crate::writes::{only, piece_of};
 use std::alloc::Global;
-use wtf_base::{Fault, InodeId, Kept, OutOfMemory, Settings};
+use wtf_base::{Fault, Kept, OutOfMemory, Settings};
 use wtf_dev::SliceStore;
 use wtf_kv::Kv;
 use wtf_meta::Session;
 use wtf_model::{Answer, Op, Word};
 use wtf_occ::{Attempt, Mark};
 use wtf_overlay::{Part, Piece};
-use wtf_region::{Added, Dev, add_pieces, file_len, peek_end, peek_last, store_bytes};
-use wtf_values::{Delta, Key, Value};
+use wtf_region::{Added, Dev, FileEnd, add_at, add_pieces, file_end, file_len, store_bytes};
+use wtf_values::{Key, Value};
 
-/// Where so many bytes go that are to be added at a file's end; `None` where they find no room in
-/// its last region, nor below the greatest length. Nothing is recorded.
-fn room(
-    kv: &Kv<Key, Value>,
-    at: &Attempt<Key, Value>,
-    inode: InodeId,
-    len: u64,
-    settings: Settings,
-) -> Option<u64>
-    requires pinned { IsTrue (is_pinned kv.now at.now.base) }
-    requires few { len ≤ MAX_WRITTEN }
-    ensures place { IfSome result (λ off. off ≡
-        end_place settings.region (file_of inode (seen kv.now at.now))) }
-    ensures room { IsSome result →
-        HasRoom settings.region (file_of inode (seen kv.now at.now)) len }
-    ensures full { result ≡ None →
-        LacksRoom settings.region (file_of inode (seen kv.now at.now)) len }
+/// Where so many bytes go that are to be added to a file that ends there; `None` where they find no
+/// room in its last region, nor below the greatest length.
+fn room(end: FileEnd, len: u64, settings: Settings) -> Option<u64>
+    requires { len ≤ MAX_WRITTEN }
+    ensures place { (v : FileView) → IsFileEnd v end →
+        IfSome result (λ off. off ≡ end_place settings.region v) }
+    ensures room { (v : FileView) → IsFileEnd v end →
+        IsSome result → HasRoom settings.region v len }
+    ensures full { (v : FileView) → IsFileEnd v end →
+        result ≡ None → LacksRoom settings.region v len }
 {
-    let last = peek_last(kv, at, inode);
-    let end = peek_end(kv, at, inode, last);
     let size = settings.region as u64;
     let cap = settings.cap();
-    let off = last as u64 * size + end as u64;
+    let off = end.region as u64 * size + end.off as u64;
     let place = off.min(cap - 1);
-    if end as u64 + len <= size {
+    if end.off as u64 + len <= size {
         return Some(place);
     }
     if off + len <= cap {
@@ -122,7 +114,8 @@ pub(crate) fn append_fresh<S: SliceStore>(
         return Ok(only(Answer::Okay));
     }
     let settings = dev.settings;
-    let Some(off) = room(kv, at, spot.inode, len, settings) else {
+    let end = file_end(kv, at, spot.inode);
+    let Some(off) = room(end, len, settings) else {
         match file_len(kv, at, spot.inode, settings) {
             Ok(_) => return Ok(only(Answer::Refused(Word::TooBig))),
             Err(_) => return Err(Fault::Memory),
@@ -132,7 +125,7 @@ pub(crate) fn append_fresh<S: SliceStore>(
         Ok(slice) => slice,
         Err(why) => return Err(why),
     };
-    match add_pieces(alloc, kv, at, spot.inode, &[piece_of(slice)], settings) {
+    match add_at(alloc, at, spot.inode, end, &[piece_of(slice)], settings) {
         Ok(_) => {
             return Ok(Done {
                 answer: Answer::Okay,

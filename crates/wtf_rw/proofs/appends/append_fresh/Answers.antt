@@ -1,16 +1,19 @@
 use Rattle.std.proofs.Common.{◌≡◌, ℕ, [], ◌∷◌, length, Option, Some, refl, sym, ap, ◌∙◌, subst, arith}
 use Rattle.wtf_base.specs.declared.ids.InodeId.{InodeId}
 use Rattle.wtf_base.specs.declared.slice.Slice.{Slice}
+use Rattle.wtf_occ.specs.Attempts.{Attempted}
 use Rattle.wtf_occ.proofs.AttemptLaws.{GrowsBy-nothing}
 use Rattle.wtf_overlay.specs.Origin.{pieces_len}
 use Rattle.wtf_model.specs.declared.answer.Answer.TheVariants as answer
 use Rattle.wtf_model.specs.declared.answer.Word.TheVariants.{NoHandle, TooBig}
 use Rattle.wtf_model.specs.declared.op.Op.TheVariants as op
 use Rattle.wtf_replica.specs.Bytes.{byte_at}
+use Rattle.wtf_values.specs.declared.key.Key.{Key}
+use Rattle.wtf_values.specs.declared.value.Delta.{Delta}
 use Rattle.wtf_meta.specs.declared.session.Handle.{Handle}
 use Rattle.wtf_meta.specs.Maps.{seen}
 use Rattle.wtf_meta.specs.FileEdits.{file_of}
-use Rattle.wtf_meta.specs.Appends.{keys_of, append_keys as file_append_keys}
+use Rattle.wtf_meta.specs.Appends.{keys_of, length_keys, append_keys as file_append_keys}
 use Rattle.wtf_meta.specs.Sessions.{handle_in}
 use Rattle.wtf_meta.specs.Calls.{cap_for}
 use Rattle.std.specs.Prelude.{IfSome, IsSome}
@@ -18,7 +21,7 @@ use Rattle.wtf_replica.specs.Copies.{IsStored}
 use Rattle.wtf_region.specs.Devs.{stores, between, place_in}
 use Rattle.wtf_region.specs.declared.added.Added.{Added}
 use Rattle.wtf_region.specs.declared.added.Added.TheVariants as added
-use Rattle.wtf_region.specs.Edited.{Recorded, LacksRoom, IsAdded}
+use Rattle.wtf_region.specs.Edited.{IsFileEnd, Recorded, LacksRoom, IsAdded}
 use Rattle.wtf_rw.specs.Steps.{in_hand}
 use Rattle.wtf_rw.specs.Stored.{HasRoom, ArePieces, end_place}
 use Rattle.wtf_rw.proofs.ModelCalls.{append-none}
@@ -59,30 +62,61 @@ returns-in-Ok-clause-step g c x size =
     let open_at = spot_open c.handle_of.result (handle_in s f) c.in-Some.spot c.handle_of.ensures c.in-Some.is in
     let h = open_at.handle in
     let i0 = c.in-Some.spot.inode in
-    let lacks0 : LacksRoom x.size (file_of i0 b) (length bytes) = subst (λ (z : ℕ). LacksRoom z (file_of i0 b) (length bytes)) (sym size) (c.room.ensures.full c.in_default-room.is) in
+    let lacks0 : LacksRoom x.size (file_of i0 b) (length bytes) = subst (λ (z : ℕ). LacksRoom z (file_of i0 b) (length bytes)) (sym size) (c.room.ensures.full (file_of i0 b) c.file_end-end.ensures.end c.in_default-room.is) in
     let lacks : LacksRoom x.size (file_of h.inode b) (length bytes) = subst (λ (i : InodeId). LacksRoom x.size (file_of i b) (length bytes)) open_at.inode lacks0 in
+    let recorded : Recorded i0 (length_keys (file_of i0 b)) c.args.at.now c.file_len.new.at =
+    subst (λ (a : Attempted Key Delta). Recorded i0 (length_keys (file_of i0 (seen c.args.kv.now a))) a c.file_len.new.at) c.file_end-end.ensures.same c.in-Ok.ensures.recorded in
     let went : Recorded h.inode (file_append_keys x.size (file_of h.inode b) (length bytes)) c.args.at.now c.file_len.new.at =
     subst (λ (i : InodeId). Recorded i (file_append_keys x.size (file_of i b) (length bytes)) c.args.at.now c.file_len.new.at) open_at.inode
-    (full_keys x.size i0 b (length bytes) c.args.at.now c.file_len.new.at c.if-len-eq0.false lacks0 c.in-Ok.ensures.recorded) in
+    (full_keys x.size i0 b (length bytes) c.args.at.now c.file_len.new.at c.if-len-eq0.false lacks0 recorded) in
     step_only g.S.SliceStore.kind (stores c.args.dev.now) (stores c.args.dev.now) c.only-in-Ok.result x b (in_hand c.args.at.now s) (in_hand c.file_len.new.at s)
     (keys_of h.inode (file_append_keys x.size (file_of h.inode b) (length bytes))) (op.Append f bytes) (answer.Refused TooBig) c.only-in-Ok.ensures.answer c.only-in-Ok.ensures.own went
     (adds_full x b s f h bytes open_at.is c.if-len-eq0.false lacks)
 
-pub returns-in-Ok-add_pieces-clause-keys : goal.returns-in-Ok-add_pieces-clause-keys
-returns-in-Ok-add_pieces-clause-keys g c =
+pub returns-in-Ok-clause-keys : goal.returns-in-Ok-clause-keys
+returns-in-Ok-clause-keys g c =
+    let s = c.args.s.now in
+    let f = c.args.f in
+    let b = seen c.args.kv.now c.args.at.now in
+    let i = c.in-Some.spot.inode in
+    let z = c.args.dev.now.settings.region in
+    let n = length c.args.bytes.now in
+    let old = c.args.at.now in
+    let new = c.file_len.new.at in
+    let open_at = spot_open c.handle_of.result (handle_in s f) c.in-Some.spot c.handle_of.ensures c.in-Some.is in
+    let lacks : LacksRoom z (file_of i b) n = c.room.ensures.full (file_of i b) c.file_end-end.ensures.end c.in_default-room.is in
+    let recorded : Recorded i (length_keys (file_of i b)) old new =
+    subst (λ (a : Attempted Key Delta). Recorded i (length_keys (file_of i (seen c.args.kv.now a))) a new) c.file_end-end.ensures.same c.in-Ok.ensures.recorded in
+    let went : Recorded i (file_append_keys z (file_of i b) n) old new = full_keys z i b n old new c.if-len-eq0.false lacks recorded in
+    keys_due z b (handle_in s f) open_at.handle i n n new.reads old.reads open_at.is open_at.inode refl went.reads
+
+pub store_bytes-requires-clause-cap : goal.store_bytes-requires-clause-cap
+store_bytes-requires-clause-cap g c =
+    let b = seen c.args.kv.now c.args.at.now in
+    let i = c.in-Some.spot.inode in
+    let z = c.args.dev.now.settings.region in
+    let off : c.in-Some-room.off ≡ end_place z (file_of i b) =
+    subst (λ (o : Option ℕ). IfSome o (λ k. k ≡ end_place z (file_of i b))) c.in-Some-room.is (c.room.ensures.place (file_of i b) c.file_end-end.ensures.end) in
+    omega (arith, off, c.args.dev.now.settings.limits)
+
+pub returns-in-Ok-add_at-clause-keys : goal.returns-in-Ok-add_at-clause-keys
+returns-in-Ok-add_at-clause-keys g c =
     let s = c.args.s.now in
     let f = c.args.f in
     let b = seen c.args.kv.now c.args.at.now in
     let i = c.in-Some.spot.inode in
     let z = c.args.dev.now.settings.region in
     let p = c.piece_of.result in
+    let r = c.in-Ok-add_at.field-0 in
     let len : p.len ≡ length c.args.bytes.now = c.piece_of.ensures.len ∙ c.in-Ok-store_bytes.ensures.stored.len in
     let open_at = spot_open c.handle_of.result (handle_in s f) c.in-Some.spot c.handle_of.ensures c.in-Some.is in
-    keys_due z b (handle_in s f) open_at.handle i (pieces_len (p ∷ [])) (length c.args.bytes.now) c.add_pieces.new.at.reads c.args.at.now.reads open_at.is open_at.inode (omega (arith, len))
-    (added_keys z i (file_of i b) (p ∷ []) c.args.at.now c.add_pieces.new.at c.in-Ok-add_pieces.field-0 c.in-Ok-add_pieces.ensures.added)
+    keys_due z b (handle_in s f) open_at.handle i (pieces_len (p ∷ [])) (length c.args.bytes.now) c.add_at.new.at.reads c.args.at.now.reads open_at.is open_at.inode (omega (arith, len))
+    (added_keys z i (file_of i b) (p ∷ []) c.args.at.now c.add_at.new.at r
+    (subst (λ (a : Attempted Key Delta). IsAdded z i (file_of i b) (p ∷ []) a c.add_at.new.at r) c.file_end-end.ensures.same
+    (c.in-Ok-add_at.ensures.added (file_of i b) c.file_end-end.ensures.end)))
 
-pub returns-in-Ok-add_pieces-clause-step : goal.returns-in-Ok-add_pieces-clause-step
-returns-in-Ok-add_pieces-clause-step g c x size =
+pub returns-in-Ok-add_at-clause-step : goal.returns-in-Ok-add_at-clause-step
+returns-in-Ok-add_at-clause-step g c x size =
     let s = c.args.s.now in
     let f = c.args.f in
     let b = seen c.args.kv.now c.args.at.now in
@@ -90,20 +124,23 @@ returns-in-Ok-add_pieces-clause-step g c x size =
     let p = c.piece_of.result in
     let slice = c.in-Ok-store_bytes.slice in
     let at = c.args.at.now in
-    let new = c.add_pieces.new.at in
-    let r = c.in-Ok-add_pieces.field-0 in
+    let new = c.add_at.new.at in
+    let r = c.in-Ok-add_at.field-0 in
     let len : p.len ≡ length bytes = c.piece_of.ensures.len ∙ c.in-Ok-store_bytes.ensures.stored.len in
     let open_at = spot_open c.handle_of.result (handle_in s f) c.in-Some.spot c.handle_of.ensures c.in-Some.is in
     let h = open_at.handle in
     let i0 = c.in-Some.spot.inode in
     let z = c.args.dev.now.settings.region in
-    let room : HasRoom z (file_of i0 b) (length bytes) = c.room.ensures.room (subst (λ (o : Option ℕ). IsSome o) (sym c.in-Some-room.is) refl) in
-    let lacks : r ≡ added.TooBig → LacksRoom z (file_of i0 b) (length bytes) = λ e. subst (λ (k : ℕ). LacksRoom z (file_of i0 b) k) (omega (arith, len)) (c.in-Ok-add_pieces.ensures.full e) in
+    let end : IsFileEnd (file_of i0 b) c.file_end-end.result = c.file_end-end.ensures.end in
+    let room : HasRoom z (file_of i0 b) (length bytes) = c.room.ensures.room (file_of i0 b) end (subst (λ (o : Option ℕ). IsSome o) (sym c.in-Some-room.is) refl) in
+    let lacks : r ≡ added.TooBig → LacksRoom z (file_of i0 b) (length bytes) = λ e. subst (λ (k : ℕ). LacksRoom z (file_of i0 b) k) (omega (arith, len)) (c.in-Ok-add_at.ensures.full (file_of i0 b) end e) in
     let done : r ≡ added.Done = added_in_room z (file_of i0 b) (length bytes) r room lacks in
+    let laid : IsAdded z i0 (file_of i0 b) (p ∷ []) at new r =
+    subst (λ (a : Attempted Key Delta). IsAdded z i0 (file_of i0 b) (p ∷ []) a new r) c.file_end-end.ensures.same (c.in-Ok-add_at.ensures.added (file_of i0 b) end) in
     let is : IsAdded x.size h.inode (file_of h.inode b) (p ∷ []) at new added.Done =
     subst (λ (i : InodeId). IsAdded x.size i (file_of i b) (p ∷ []) at new added.Done) open_at.inode
     (subst (λ (y : ℕ). IsAdded y i0 (file_of i0 b) (p ∷ []) at new added.Done) (sym size)
-    (subst (λ (q : Added). IsAdded z i0 (file_of i0 b) (p ∷ []) at new q) done c.in-Ok-add_pieces.ensures.added)) in
+    (subst (λ (q : Added). IsAdded z i0 (file_of i0 b) (p ∷ []) at new q) done laid)) in
     step_added g.S.SliceStore.kind (stores c.args.dev.now) (stores c.store_bytes.new.dev) (record { answer = answer.Okay; own = Some slice }) x b s f (p ∷ []) bytes at new answer.Okay refl
     (record { piece = p; one = refl; len = c.piece_of.ensures.len; part = c.piece_of.ensures.part })
     (λ tells. tell_stored (byte_at g.S.SliceStore.kind (stores c.store_bytes.new.dev)) slice p bytes c.piece_of.ensures.len c.piece_of.ensures.part c.in-Ok-store_bytes.ensures.stored.len (c.in-Ok-store_bytes.ensures.holds tells))
@@ -117,12 +154,12 @@ returns-in-Err-store_bytes-clause-due g c =
     let bytes = c.args.bytes.now in
     let settings = c.args.dev.now.settings in
     let open_at = spot_open c.handle_of.result (handle_in s f) c.in-Some.spot c.handle_of.ensures c.in-Some.is in
-    let room0 : HasRoom settings.region (file_of c.in-Some.spot.inode b) (length bytes) = c.room.ensures.room (subst (λ (o : Option ℕ). IsSome o) (sym c.in-Some-room.is) refl) in
+    let room0 : HasRoom settings.region (file_of c.in-Some.spot.inode b) (length bytes) = c.room.ensures.room (file_of c.in-Some.spot.inode b) c.file_end-end.ensures.end (subst (λ (o : Option ℕ). IsSome o) (sym c.in-Some-room.is) refl) in
     let room : HasRoom settings.region (file_of open_at.handle.inode b) (length bytes) = subst (λ (i : InodeId). HasRoom settings.region (file_of i b) (length bytes)) open_at.inode room0 in
     append_due g.S.SliceStore.kind (between c.args.dev.now c.store_bytes.new.dev) settings b s f open_at.handle bytes c.in-Err-store_bytes.why open_at.is (omega (arith, c.if-len-eq0.false)) room c.in-Err-store_bytes.ensures.fault
 
-pub returns-in-Ok-add_pieces-clause-own : goal.returns-in-Ok-add_pieces-clause-own
-returns-in-Ok-add_pieces-clause-own g c h e =
+pub returns-in-Ok-add_at-clause-own : goal.returns-in-Ok-add_at-clause-own
+returns-in-Ok-add_at-clause-own g c h e =
     let s = c.args.s.now in
     let f = c.args.f in
     let b = seen c.args.kv.now c.args.at.now in
@@ -134,7 +171,7 @@ returns-in-Ok-add_pieces-clause-own g c h e =
     let same : open_at.handle ≡ h = cc in
     let inode : c.in-Some.spot.inode ≡ h.inode = open_at.inode ∙ ap (λ (k : Handle). k.inode) same in
     let off : c.in-Some-room.off ≡ end_place dev.settings.region (file_of c.in-Some.spot.inode b) =
-    subst (λ (o : Option ℕ). IfSome o (λ k. k ≡ end_place dev.settings.region (file_of c.in-Some.spot.inode b))) c.in-Some-room.is c.room.ensures.place in
+    subst (λ (o : Option ℕ). IfSome o (λ k. k ≡ end_place dev.settings.region (file_of c.in-Some.spot.inode b))) c.in-Some-room.is (c.room.ensures.place (file_of c.in-Some.spot.inode b) c.file_end-end.ensures.end) in
     let at_end = subst (λ (k : ℕ). IsStored kind (between dev c.store_bytes.new.dev) dev.settings.replicas (place_in dev c.in-Some.spot.inode k) c.args.bytes.now slice) off c.in-Ok-store_bytes.ensures.stored in (
       subst (λ (i : InodeId). IsStored kind (between dev c.store_bytes.new.dev) dev.settings.replicas (place_in dev i (end_place dev.settings.region (file_of i b))) c.args.bytes.now slice) inode at_end,
       c.in-Ok-store_bytes.ensures.inside,
