@@ -1,6 +1,6 @@
 //! Slices made, cut and joined by arithmetic on their pointers.
 
-ghost use Rattle.std.specs.Prelude.{◌≡◌, ℕ, ◌+◌, ◌<◌, ◌≤◌, ◌^◌, map, length, slice_get, Some, IsTrue, IsSome, IfSome, ◌↔◌};
+ghost use Rattle.std.specs.Prelude.{◌≡◌, ◌+◌, ◌<◌, ◌≤◌, ◌^◌, map, length, slice_get, Some, IsTrue, IsSome, IfSome, ◌↔◌};
 ghost use Rattle.wtf_base.specs.Pointers.{is_slice, part_of, follows_on, all_follow_on, lengthened};
 ghost use Rattle.wtf_base.specs.Slices.{len_of, pointers_of};
 ghost use Rattle.wtf_base.specs.Extents.{extent_of, pointer_to};

@@ -1,6 +1,6 @@
 //! The eight files of a store in memory.
 
-ghost use Rattle.std.specs.Prelude.{◌≡◌, ◌≢◌, ◌⊎◌, ◌<◌, ◌≤◌, ◌+◌, ◌^◌, ◌++◌, ℕ, List, [], true, false, length, replicate, slice_set, slice_index, slice_index_or, slice_range};
+ghost use Rattle.std.specs.Prelude.{◌≡◌, ◌<◌, ◌≤◌, ◌+◌, ◌^◌, ◌++◌, ℕ, List, [], true, false, length, replicate, slice_set, slice_index_or};
 ghost use Rattle.wtf_dev.specs.Memory.{Zeroed};
 
 use std::alloc::Global;

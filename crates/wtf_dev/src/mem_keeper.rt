@@ -1,6 +1,6 @@
 //! A keeper in memory, whose calls fail where it is told to.
 
-ghost use Rattle.std.specs.Prelude.{◌≡◌, ◌<◌, ◌≤◌, ℕ, List, [], ◌∷◌, true, Some, IfOk, OnOk, OnErr, IsErrOf};
+ghost use Rattle.std.specs.Prelude.{◌≡◌, ◌<◌, ℕ, List, [], ◌∷◌, true, Some, IfOk, OnOk, OnErr, IsErrOf};
 ghost use Rattle.std.specs.Result.{is_err};
 ghost use Rattle.wtf_dev.specs.Counts.{Rose};
 ghost use Rattle.wtf_dev.specs.Calls.{uncalled, IsCall, IsGrowth, has_failed};

@@ -1,11 +1,10 @@
 //! The cells of a store: the versions of each key, in the order of the keys.
 
-ghost use Rattle.std.specs.Prelude.{◌≡◌, ℕ, ◌+◌, ◌<◌, ◌≤◌, true, false, ◌^◌, IsTrue, not, cond, ◌&&◌, is_some, take, drop, length, ◌∷◌, [], IfOk, OnOk, OnErr};
+ghost use Rattle.std.specs.Prelude.{◌≡◌, ◌+◌, ◌<◌, true, false, ◌^◌, not, cond, ◌&&◌, is_some, take, ◌∷◌, [], IfOk, OnOk, OnErr};
 ghost use Rattle.std.specs.Option.{option_copied};
-ghost use Rattle.std.specs.List.{list_any};
 ghost use Rattle.std.specs.BTreeMap.{is_at};
 ghost use Rattle.std.specs.BTreeMap.Range.{is_from_start};
-ghost use Rattle.wtf_kv.specs.Seen.{last_seen, value_seen, number_seen, reported, kept_versions, upto, ascends, within, is_settled, has_upto};
+ghost use Rattle.wtf_kv.specs.Seen.{last_seen, value_seen, number_seen, reported, kept_versions, upto, ascends, is_settled};
 ghost use Rattle.wtf_kv.specs.Stores.{listed, versions_in, names};
 ghost use Rattle.wtf_kv.specs.Inside.{AllGood, Noted, Listed};
 ghost use Rattle.wtf_kv.specs.Edits.{is_between};

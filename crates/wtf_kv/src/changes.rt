@@ -1,6 +1,6 @@
 //! A list of changes of a map.
 
-ghost use Rattle.std.specs.Prelude.{◌≡◌, ℕ, ◌+◌, ◌<◌, ◌≤◌, ◌∷◌, [], ◌++◌, OnErr, OnOk, IsTrue, ◌↔◌, length, take};
+ghost use Rattle.std.specs.Prelude.{◌≡◌, ◌+◌, ◌<◌, ◌≤◌, ◌∷◌, [], ◌++◌, OnErr, OnOk, IsTrue, ◌↔◌, length, take};
 
 use crate::{Cell, StoreKey};
 use std::alloc::Global;

@@ -1,7 +1,7 @@
 //! The history of a map: the versions of each key, and those that are made ready for the next install, which no
 //! number that can be read sees. The keys that get one are noted first, so that it can be undone.
 
-ghost use Rattle.std.specs.Prelude.{◌≡◌, ℕ, ◌+◌, ◌<◌, ◌≤◌, ◌∷◌, [], ◌^◌, true, false, OnErr, OnOk, IfOk, IfErr, IsTrue, cond, ◌||◌, length, take, drop};
+ghost use Rattle.std.specs.Prelude.{◌≡◌, ◌+◌, ◌<◌, ◌≤◌, ◌∷◌, [], ◌^◌, true, false, OnErr, OnOk, IfOk, IfErr, IsTrue, cond, ◌||◌, length, take, drop};
 ghost use Rattle.std.specs.Option.{option_copied};
 ghost use Rattle.std.specs.BTreeMap.{is_at};
 ghost use Rattle.wtf_kv.specs.Seen.{ascends, within, kept_versions};

@@ -2,7 +2,7 @@
 
 ghost use Rattle.std.specs.Prelude.{◌≡◌, ◌≤◌, ◌<◌, ◌+◌, ◌*◌, IfSome, MatchOption};
 ghost use Rattle.std.specs.List.{list_all};
-ghost use Rattle.wtf_lex.specs.Numbers.{is_digit, value_from, is_numeral, number_within};
+ghost use Rattle.wtf_lex.specs.Numbers.{is_digit, is_numeral, number_within};
 
 /// Whether a word is `0`, or digits without a leading zero.
 fn is_numeral(word: &[u8]) -> bool

@@ -1,6 +1,6 @@
 //! Whether two answers say the same.
 
-ghost use Rattle.std.specs.Prelude.{◌↔◌, ◌≡◌, IsTrue};
+ghost use Rattle.std.specs.Prelude.{◌↔◌, IsTrue};
 ghost use Rattle.wtf_model.specs.Same.{AreSame};
 
 use wtf_model::Answer;

@@ -1,6 +1,6 @@
 //! Worked examples of the definitions, each proved.
 
-ghost use Rattle.std.specs.Prelude.{◌≡◌, ◌≢◌, ◌↔◌, ℕ, ◌+◌, ◌-◌, ◌*◌, ◌≤◌, ◌<◌, List, [], ◌∷◌, length, get_or, max, Option, Some, None, Bool, true, false, codes, All};
+ghost use Rattle.std.specs.Prelude.{◌≡◌, ◌≢◌, ◌↔◌, ℕ, ◌+◌, ◌-◌, ◌*◌, ◌≤◌, ◌<◌, List, [], ◌∷◌, length, get_or, max, Some, None, true, false, codes, All};
 ghost use Rattle.std.specs.FinMap.{get, len};
 ghost use Rattle.wtf_path.specs.Parts.{parent_of};
 ghost use Rattle.wtf_base.specs.declared.settings.Settings.{Settings};
@@ -11,7 +11,6 @@ ghost use Rattle.wtf_model.specs.declared.answer.Word.TheVariants as word;
 ghost use Rattle.wtf_model.specs.declared.op.Op.{Op};
 ghost use Rattle.wtf_model.specs.declared.op.Op.TheVariants as op;
 ghost use Rattle.wtf_model.specs.declared.op.Seek.TheVariants as to;
-ghost use Rattle.wtf_model.specs.declared.event.Verb.{Verb};
 ghost use Rattle.wtf_model.specs.declared.event.Verb.TheVariants as verb;
 ghost use Rattle.wtf_model.specs.declared.event.Event.{Event};
 ghost use Rattle.wtf_model.specs.declared.event.Event.TheVariants as event;
@@ -24,7 +23,7 @@ ghost use Rattle.wtf_model.specs.Session.{Session, Handle};
 ghost use Rattle.wtf_model.specs.Call.{call, bytes_at, written};
 ghost use Rattle.wtf_model.specs.Transaction.{Transaction, session_after, answers_of};
 ghost use Rattle.wtf_model.specs.Lawful.{MayFail};
-ghost use Rattle.wtf_model.specs.Steps.{Machine, Accepts, May, start, after, session_of, due, is_later_client, is_down, is_call_refusal, logged, with_transaction};
+ghost use Rattle.wtf_model.specs.Steps.{Machine, Accepts, May, start, after, session_of, due, is_down, is_call_refusal, logged, with_transaction};
 ghost use Rattle.wtf_model.specs.Lines.{Line, MayLine, after_line, Along, machine_after, events_of, answers_to};
 ghost use Rattle.wtf_model.specs.Servers.{none_down, downs_after};
 ghost use Rattle.wtf_model.specs.Examples.{first_file_events, first_file_answers, overwrite_events, overwrite_answers, gap_calls, gap_answers, fault_events, fault_answers, OnlyNotBuilt, OnlyServer, unchanged, IsStoreFault};

@@ -1,15 +1,14 @@
 //! Worked examples of the calls on names, each proved.
 
-ghost use Rattle.std.specs.Prelude.{◌≡◌, ◌≢◌, ℕ, ◌<◌, ◌≤◌, List, [], ◌∷◌, ◌++◌, length, Some, None, codes};
-ghost use Rattle.std.specs.FinMap.{get, remove, from_sorted};
-ghost use Rattle.wtf_model.specs.declared.lists.Row.{Row};
+ghost use Rattle.std.specs.Prelude.{◌≡◌, ℕ, List, [], ◌∷◌, Some, None, codes};
+ghost use Rattle.std.specs.FinMap.{get};
 ghost use Rattle.wtf_model.specs.declared.answer.Answer.TheVariants as answer;
 ghost use Rattle.wtf_model.specs.declared.answer.Word.TheVariants as word;
 ghost use Rattle.wtf_model.specs.declared.op.Op.TheVariants as op;
-ghost use Rattle.wtf_model.specs.Tree.{Tree, TreeNode, root, names_in, rows_of, paths_in};
+ghost use Rattle.wtf_model.specs.Tree.{TreeNode, root, names_in, rows_of, paths_in};
 ghost use Rattle.wtf_model.specs.Tree as node;
-ghost use Rattle.wtf_model.specs.Session.{Session, Handle};
-ghost use Rattle.wtf_model.specs.Done.{is_closed, put_node, put_bytes, take_out};
+ghost use Rattle.wtf_model.specs.Session.{Session};
+ghost use Rattle.wtf_model.specs.Done.{put_node, put_bytes, take_out};
 ghost use Rattle.wtf_model.specs.Call.{call};
 ghost use Rattle.wtf_model.specs.Examples.{IsFreeIn, IsClosed, IsBusy, answering, unchanged, logs_tree};
 

@@ -1,6 +1,6 @@
 //! Copies of answers and of what they hold, and a test whether a call answers as it did before.
 
-ghost use Rattle.std.specs.Prelude.{◌≡◌, ◌↔◌, IfOk, IsTrue, take, length};
+ghost use Rattle.std.specs.Prelude.{◌≡◌, ◌↔◌, IfOk, IsTrue};
 ghost use Rattle.wtf_model.specs.Same.{AreSame, IsAbortedAt};
 ghost use Rattle.wtf_model.specs.Steps.{IsLogged};
 

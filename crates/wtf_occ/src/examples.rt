@@ -1,6 +1,6 @@
 //! Worked examples of the definitions, each proved.
 
-ghost use Rattle.std.specs.Prelude.{◌≡◌, ℕ, ◌+◌, ◌<◌, ◌≤◌, Option};
+ghost use Rattle.std.specs.Prelude.{◌≡◌, ℕ, ◌+◌, ◌<◌, Option};
 ghost use Rattle.std.specs.Ordering.{nat_cmp};
 ghost use Rattle.wtf_kv.specs.declared.cell.Applied.{Applied};
 ghost use Rattle.wtf_kv.specs.Stores.{Store};

@@ -2,7 +2,7 @@
 //! walks the changes of its key and the cuts by it, and not all changes. Where the key is settled, it walks
 //! none.
 
-ghost use Rattle.std.specs.Prelude.{◌≡◌, ℕ, Option, ◌-◌, ◌<◌, ◌≤◌, ◌∷◌, [], ◌++◌, IsTrue, IfOk, IfSome, OnErr, OnOk, cond, length, take};
+ghost use Rattle.std.specs.Prelude.{◌≡◌, Option, ◌-◌, ◌<◌, ◌≤◌, ◌∷◌, [], ◌++◌, IsTrue, IfOk, IfSome, OnErr, OnOk, cond, length, take};
 ghost use Rattle.std.specs.BTreeMap.{is_at};
 ghost use Rattle.std.specs.Option.{option_copied};
 ghost use Rattle.wtf_kv.specs.Edits.{over, after_changes};

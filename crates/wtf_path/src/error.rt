@@ -1,7 +1,5 @@
 //! Why a text is no path.
 
-ghost use Rattle.std.specs.Prelude.{◌≡◌};
-
 use thiserror::Error;
 
 /// Why a text is no path, in the order in which it is tried: of two that hold the earlier is told.

@@ -1,6 +1,6 @@
 //! The answers that the words of a line spell: one row an answer.
 
-ghost use Rattle.std.specs.Prelude.{◌≡◌, ◌-◌, ◌^◌};
+ghost use Rattle.std.specs.Prelude.{◌-◌, ◌^◌};
 ghost use Rattle.wtf_lex.specs.Words.{words_behind};
 ghost use Rattle.wtf_print.specs.Pieces.{Reads, number_of};
 ghost use Rattle.wtf_print.specs.Reading.{path_kind_of, bad_of, fault_of, alone, call_refused_of, refused_of, call_answer_of, scanning_of, scan_answer_of, wrong_answer_of, plain_answer_of};

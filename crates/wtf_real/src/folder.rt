@@ -1,6 +1,6 @@
 //! The files of one server, in a folder of their own.
 
-ghost use Rattle.std.specs.Prelude.{◌≡◌, ◌≢◌, ◌<◌, ◌≤◌, ◌+◌, ◌-◌, ◌^◌, ℕ, List, true, Some, [], ◌∷◌, length, min, slice_set, slice_index_or, IfOk, OnOk, OnErr, if◌then◌else◌};
+ghost use Rattle.std.specs.Prelude.{◌≡◌, ◌≢◌, ◌<◌, ◌≤◌, ◌+◌, ◌-◌, ◌^◌, ℕ, true, Some, [], ◌∷◌, length, IfOk, OnOk, OnErr, if◌then◌else◌};
 ghost use Rattle.std.specs.Result.{is_err};
 ghost use Rattle.wtf_dev.specs.Counts.{Rose, risen};
 ghost use Rattle.wtf_dev.specs.Store.{Appended, Agrees, SameSizes, Kept};

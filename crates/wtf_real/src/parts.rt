@@ -1,6 +1,6 @@
 //! Parts of one file: what a call of a store or of a keeper does to it.
 
-ghost use Rattle.std.specs.Prelude.{◌≡◌, ◌≤◌, ◌-◌, OnOk, IfOk, IfSome, replicate, take, ◌++◌};
+ghost use Rattle.std.specs.Prelude.{◌≡◌, ◌≤◌, ◌-◌, OnOk, IfOk, IfSome, replicate};
 ghost use Rattle.std.specs.Io.KnownBytes.{Appends};
 ghost use Rattle.wtf_real.specs.Files.{IsWrittenAt, IsSoughtTo};
 

@@ -1,6 +1,6 @@
 //! Each device over real files, and over readers and writers that fail.
 
-ghost use Rattle.std.specs.Prelude.{◌≡◌, ◌≤◌, min, length, IfOk};
+ghost use Rattle.std.specs.Prelude.{min, length};
 
 use super::*;
 use std::cell::RefCell;

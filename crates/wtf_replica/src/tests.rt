@@ -1,6 +1,6 @@
 //! Copies made, read, freed and synced on servers in memory, of which some are down and some fail.
 
-ghost use Rattle.std.specs.Prelude.{◌≡◌, length, IfOk, IfSome};
+ghost use Rattle.std.specs.Prelude.{◌≡◌, length, IfOk};
 ghost use Rattle.wtf_base.specs.Slices.{len_of};
 ghost use Rattle.wtf_dev.specs.Memory.{mem_store};
 ghost use Rattle.wtf_replica.specs.Downs.{settings_of};

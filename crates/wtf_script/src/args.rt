@@ -1,9 +1,9 @@
 //! The arguments of verbs, each from its word.
 
-ghost use Rattle.std.specs.Prelude.{◌≡◌, ◌<◌, ◌≤◌, IfOk, IfSome, MatchOption};
+ghost use Rattle.std.specs.Prelude.{◌≡◌, ◌<◌, ◌≤◌, IfOk, MatchOption};
 ghost use Rattle.wtf_path.specs.Refusals.{number_of};
 ghost use Rattle.wtf_lex.specs.Words.{words_behind};
-ghost use Rattle.wtf_script.specs.Arguments.{Gives, or_wrong, number_of_word, number_from_to, label_of, client_of, handle_of, slice_of, job_of, path_of, path_unless, paths_of};
+ghost use Rattle.wtf_script.specs.Arguments.{Gives, number_of_word, number_from_to, label_of, client_of, handle_of, slice_of, job_of, path_of, paths_of};
 
 use crate::LineError;
 use std::alloc::Global;

@@ -1,6 +1,6 @@
 //! What a client's verb asks, with what stands behind it: one row a verb.
 
-ghost use Rattle.std.specs.Prelude.{◌≡◌, IfOk};
+ghost use Rattle.std.specs.Prelude.{◌≡◌};
 ghost use Rattle.wtf_lex.specs.Words.{words_behind};
 ghost use Rattle.wtf_script.specs.Arguments.{Gives};
 ghost use Rattle.wtf_script.specs.Grammar.{path_alone, two_paths, handle_alone, handle_number, handle_data, handle_slice, open_call, offset_of, place_of, seek_call, read_call, yank_call, peek_call, cut_call, concat_call, slice_call, bytes_call, handle_call, paths_call, path_call, alone, verb_of};

@@ -1,7 +1,7 @@
 //! Bytes that stand in a line.
 
 ghost use Rattle.std.specs.Prelude.{◌≡◌, take, drop};
-ghost use Rattle.wtf_script.specs.Hex.{hex_bytes, decoded};
+ghost use Rattle.wtf_script.specs.Hex.{hex_bytes};
 ghost use Rattle.wtf_script.specs.Arguments.{Gives, or_wrong, data_form, data_of};
 
 use crate::LineError;

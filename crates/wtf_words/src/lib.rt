@@ -1,7 +1,7 @@
 //! The words behind the program's directory: how many servers and copies there are, and how large a region is.
 #![tactic(auto)]
 
-ghost use Rattle.std.specs.Prelude.{◌≡◌, ◌≢◌, ◌≤◌, false, None, Some, [], IfOk, IfSome, IfErr, codes, map, string_bytes, option_map};
+ghost use Rattle.std.specs.Prelude.{◌≡◌, ◌≢◌, ◌≤◌, false, None, Some, [], IfOk, IfSome, IfErr, map, string_bytes, option_map};
 ghost use Rattle.clap.specs.Words.{app_of, fault_of, found_of, matches_of, rows_of, rule_of};
 ghost use Rattle.wtf_words.specs.Words.{asked_of, chosen, number_of, numbers, option_rule, wtf_app};
 
