@@ -1,6 +1,6 @@
 //! What the calls of the tables give at small sizes, without a clock: numbers that are the same in each run.
 
-ghost use Rattle.std.specs.Prelude.{◌<◌, ◌≤◌, length};
+ghost use Rattle.std.specs.Prelude.{◌<◌, length};
 
 use crate::figures::{len_at, pins_of, settings_at};
 use crate::lists::{PLANS, filled, plans};

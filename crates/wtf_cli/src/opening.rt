@@ -1,6 +1,6 @@
 //! How a run begins: the keeper is loaded, and what it gave opens the run or is refused.
 
-ghost use Rattle.std.specs.Prelude.{◌≡◌, ◌≢◌, ◌≤◌, ℕ, List, [], Some, Err, length, IfOk, IfErr, OnOk};
+ghost use Rattle.std.specs.Prelude.{◌≡◌, ◌≢◌, [], Err, IfOk, IfErr, OnOk};
 ghost use Rattle.wtf_dev.specs.Streams.{SourceView};
 ghost use Rattle.wtf_image.specs.declared.error.LoadError.TheVariants as error;
 ghost use Rattle.wtf_cli.specs.Beginnings.{IsOpenedBy, IsUnopenedBy, IsOpenedFrom, EndsBy};

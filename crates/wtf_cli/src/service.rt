@@ -1,6 +1,6 @@
 //! The run of a script over any source, sink, stores and keeper.
 
-ghost use Rattle.std.specs.Prelude.{◌≡◌, ◌≢◌, ◌<◌, ◌≤◌, ◌^◌, ◌++◌, ◌∷◌, ◌||◌, ℕ, List, [], Some, Ok, Err, IfOk, IfErr, OnOk, OnErr};
+ghost use Rattle.std.specs.Prelude.{◌≡◌, ◌≢◌, ◌<◌, ◌≤◌, ◌^◌, ◌++◌, ◌||◌, ℕ, List, [], Some, Ok, Err, IfOk, IfErr, OnOk, OnErr};
 ghost use Rattle.wtf_dev.specs.Counts.{Rose};
 ghost use Rattle.wtf_dev.specs.Each.{EachFollows};
 ghost use Rattle.wtf_cli.specs.Endings.{devices, stop_status};

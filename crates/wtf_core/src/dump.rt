@@ -1,13 +1,12 @@
 //! All bytes of a file as it stands now.
 
-ghost use Rattle.std.specs.Prelude.{◌≡◌, ◌⊎◌, ◌≤◌, ◌*◌, [], min, ℕ, List, IsTrue, IfOk, IfErr, OnOk};
+ghost use Rattle.std.specs.Prelude.{◌≡◌, ◌⊎◌, [], min, ℕ, List, IsTrue, IfOk, IfErr};
 ghost use Rattle.wtf_replica.specs.Bytes.{byte_at};
 ghost use Rattle.wtf_kv.specs.Stores.{is_pinned};
 ghost use Rattle.wtf_model.specs.declared.limits.TheConstants.{MAX_DUMPED};
-ghost use Rattle.wtf_model.specs.Tree.{Tree};
 ghost use Rattle.wtf_meta.specs.Maps.{metadata_at, seen};
 ghost use Rattle.wtf_meta.specs.FileEdits.{file_of};
-ghost use Rattle.wtf_meta.specs.Trees.{IsBody, Stands};
+ghost use Rattle.wtf_meta.specs.Trees.{IsBody};
 ghost use Rattle.wtf_region.specs.Devs.{IsSoundDev, GoesOn, stores, between};
 ghost use Rattle.wtf_region.specs.Inside.{IsStoredInside};
 ghost use Rattle.wtf_region.specs.Showing.{OnlyRead};
@@ -24,7 +23,7 @@ use wtf_model::{Answer, Word};
 use wtf_occ::Attempt;
 use wtf_path::Path;
 use wtf_region::{Dev, file_len, pieces, show};
-use wtf_values::{Delta, Key, Node, Value};
+use wtf_values::{Key, Node, Value};
 
 /// Shows all bytes of the file at a path as it stands now. It is refused where nothing stands
 /// there, for a directory, and for a file of more than `MAX_DUMPED` bytes. `Read` where no copy of

@@ -28,7 +28,7 @@ ghost use Rattle.wtf_core.specs.Turns.{LineTurn, IsLine, ServerTurn, ShowsTree, 
 ghost use Rattle.wtf_core.specs.Answers.{IsEvent};
 ghost use Rattle.wtf_core.specs.Built.{is_built};
 ghost use Rattle.wtf_core.specs.Named.{CoreBytes, IsInside, IsFull};
-ghost use Rattle.wtf_core.specs.Outcomes.{AddsBytes, SaveFault, HasCause, data_of, data_of_op, data_of_verb};
+ghost use Rattle.wtf_core.specs.Outcomes.{AddsBytes, SaveFault, HasCause, data_of};
 ghost use Rattle.wtf_core.specs.Asked.{asked_of, IsPlaced, HasFailed};
 ghost use Rattle.wtf_core.specs.Serves.{ServesLine, ServesEvent};
 ghost use Rattle.wtf_core.specs.Keeping.{KeeperTurn, HoldsKept, IsHeldBy, keeper_span};

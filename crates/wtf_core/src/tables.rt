@@ -1,6 +1,6 @@
 //! The store of the metadata with the open transactions, and what a client's line makes of them.
 
-ghost use Rattle.std.specs.Prelude.{◌≡◌, ◌+◌, ◌<◌, ◌^◌, ℕ, List, [], ◌∷◌, true, false, None, Some, Ok, IsTrue, IfOk, OnOk, OnErr, IfSome, MatchOption};
+ghost use Rattle.std.specs.Prelude.{◌≡◌, ◌+◌, ◌<◌, ◌^◌, ℕ, [], ◌∷◌, None, Some, Ok, IsTrue, IfOk, OnOk, OnErr, IfSome, MatchOption};
 ghost use Rattle.std.specs.Set.{remove_key};
 ghost use Rattle.std.specs.Prelude.{◌≤◌, nat_eq, count_by, length};
 ghost use Rattle.wtf_dev.specs.Sums.{TellsAll};

@@ -2,7 +2,6 @@
 
 ghost use Rattle.std.specs.Prelude.{◌≡◌, ◌+◌, IfOk, OnOk};
 ghost use Rattle.wtf_base.specs.declared.ids.InodeId.{InodeId};
-ghost use Rattle.wtf_values.specs.declared.key.Key.TheVariants as keys;
 ghost use Rattle.wtf_values.specs.declared.value.Value.TheVariants as values;
 ghost use Rattle.wtf_image.specs.Rows.{region_row, region_rows, file_row, file_rows};
 ghost use Rattle.wtf_image.specs.Lookups.{plain};

@@ -14,7 +14,6 @@ use crate::records::{FileRecord, Header, Image, PathRecord, RegionRecord};
 use std::alloc::Global;
 use wtf_base::{InodeId, OutOfMemory, Pointer, Slice};
 use wtf_overlay::{Entry, Overlay, Part};
-use wtf_path::Path;
 use wtf_values::Node;
 
 /// A number of things, in two bytes.

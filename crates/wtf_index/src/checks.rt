@@ -8,7 +8,7 @@ ghost use Rattle.wtf_kv.specs.Stores.{is_pinned};
 ghost use Rattle.wtf_occ.specs.Attempts.{Grows, GrowsBy};
 ghost use Rattle.wtf_meta.specs.Maps.{seen};
 ghost use Rattle.wtf_model.specs.Steps.{is_call_refusal};
-ghost use Rattle.wtf_index.specs.Checks.{target_of, source_of, directory_of, is_inner};
+ghost use Rattle.wtf_index.specs.Checks.{target_of, source_of, directory_of};
 ghost use Rattle.wtf_index.specs.Recorded.{target_keys, source_keys, directory_keys};
 
 use crate::looks::{look_up, names_at};
@@ -18,7 +18,7 @@ use wtf_kv::Kv;
 use wtf_model::Word;
 use wtf_occ::Attempt;
 use wtf_path::Path;
-use wtf_values::{Delta, Key, NameSet, Node, Value};
+use wtf_values::{Key, NameSet, Node, Value};
 
 /// The path of the directory that a path stands in; none for the root.
 pub fn parent_path(alloc: Global, p: &Path) -> Result<Option<Path>, OutOfMemory>

@@ -1,6 +1,6 @@
 //! The changes that the calls make of an attempt. Want of memory may leave some of them made.
 
-ghost use Rattle.std.specs.Prelude.{◌≡◌, [], ◌∷◌, OnOk};
+ghost use Rattle.std.specs.Prelude.{[], ◌∷◌, OnOk};
 ghost use Rattle.wtf_occ.specs.Attempts.{Grows, GrowsBy};
 ghost use Rattle.wtf_meta.specs.NameEdits.{put_at, take_at, add_to, drop_from, mkdir_edits, rmdir_edits, create_edits, unlink_edits, rename_edits};
 ghost use Rattle.wtf_meta.specs.FileEdits.{LAST_REGION};

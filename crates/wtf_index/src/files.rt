@@ -1,6 +1,6 @@
 //! The calls that make a file and take it out.
 
-ghost use Rattle.std.specs.Prelude.{◌≡◌, ◌+◌, ◌++◌, [], IsTrue, IfOk, OnOk};
+ghost use Rattle.std.specs.Prelude.{◌≡◌, ◌+◌, ◌++◌, IsTrue, IfOk, OnOk};
 ghost use Rattle.wtf_kv.specs.Stores.{is_pinned};
 ghost use Rattle.wtf_occ.specs.Attempts.{Grows};
 ghost use Rattle.wtf_model.specs.Steps.{IsLogged};
@@ -16,7 +16,7 @@ use wtf_kv::Kv;
 use wtf_model::{Answer, Op, Word};
 use wtf_occ::Attempt;
 use wtf_path::Path;
-use wtf_values::{Delta, Key, Value};
+use wtf_values::{Key, Value};
 
 /// Makes an empty file at `p`, of the inode `new`, which is that of its transaction's next call. It is
 /// refused for the root, where the parent is no directory, and where something stands at `p`; then nothing

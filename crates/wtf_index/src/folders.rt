@@ -1,6 +1,6 @@
 //! The calls on directories.
 
-ghost use Rattle.std.specs.Prelude.{◌≡◌, ◌++◌, [], List, ℕ, IsTrue, IfOk, OnOk, length, map};
+ghost use Rattle.std.specs.Prelude.{◌≡◌, ◌++◌, List, IsTrue, IfOk, OnOk};
 ghost use Rattle.wtf_kv.specs.Stores.{is_pinned};
 ghost use Rattle.wtf_occ.specs.Attempts.{Grows};
 ghost use Rattle.wtf_values.specs.Names.{names_in};
@@ -17,7 +17,7 @@ use wtf_kv::Kv;
 use wtf_model::{Answer, Names, Op, Word};
 use wtf_occ::Attempt;
 use wtf_path::Path;
-use wtf_values::{Delta, Key, NameSet, Value};
+use wtf_values::{Key, NameSet, Value};
 
 /// Makes an empty directory at `p`. It is refused for the root, where the parent is no directory, and where
 /// something stands at `p`; then nothing changes. Want of memory may leave the attempt grown.

@@ -11,7 +11,7 @@ use wtf_base::OutOfMemory;
 use wtf_kv::Kv;
 use wtf_occ::Attempt;
 use wtf_path::Path;
-use wtf_values::{Delta, Key, NameSet, Node, Value};
+use wtf_values::{Key, NameSet, Node, Value};
 
 /// What stands at a path, if anything. The path is recorded, and no other key. Want of memory may leave
 /// the attempt grown.

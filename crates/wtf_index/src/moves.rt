@@ -1,6 +1,6 @@
 //! The call that moves a file.
 
-ghost use Rattle.std.specs.Prelude.{◌≡◌, ◌++◌, [], IsTrue, IfOk, OnOk};
+ghost use Rattle.std.specs.Prelude.{◌≡◌, ◌++◌, IsTrue, IfOk, OnOk};
 ghost use Rattle.wtf_kv.specs.Stores.{is_pinned};
 ghost use Rattle.wtf_occ.specs.Attempts.{Grows};
 ghost use Rattle.wtf_model.specs.Steps.{IsLogged};
@@ -16,7 +16,7 @@ use wtf_kv::Kv;
 use wtf_model::{Answer, Op, Word};
 use wtf_occ::Attempt;
 use wtf_path::Path;
-use wtf_values::{Delta, Key, Value};
+use wtf_values::{Key, Value};
 
 /// Moves the file `p`, on which no handle is open, to `q`. It is refused for what is not there or a
 /// directory, then for the root as its target, for one whose parent is no directory, and for one at which

@@ -1,8 +1,7 @@
 //! The calls on names one by one, on an attempt that sees its own changes.
 
-ghost use Rattle.std.specs.Prelude.{◌≡◌, IsTrue};
+ghost use Rattle.std.specs.Prelude.{IsTrue};
 ghost use Rattle.wtf_kv.specs.Stores.{is_pinned};
-ghost use Rattle.wtf_occ.specs.Attempts.{Grows};
 
 use super::*;
 use std::alloc::Global;

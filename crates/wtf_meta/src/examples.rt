@@ -1,6 +1,6 @@
 //! What the definitions come to, each proved: where they begin, and the laws by which calls go on.
 
-ghost use Rattle.std.specs.Prelude.{◌≡◌, ◌≢◌, ◌<◌, ℕ, Bool, true, List, [], ◌∷◌, ◌++◌, length, Option, None, Some};
+ghost use Rattle.std.specs.Prelude.{◌≡◌, ◌≢◌, ◌<◌, ℕ, Bool, true, List, [], ◌∷◌, ◌++◌, length, Some};
 ghost use Rattle.wtf_base.specs.declared.ids.InodeId.{InodeId};
 ghost use Rattle.wtf_overlay.specs.Origin.{Place};
 ghost use Rattle.wtf_model.specs.declared.answer.Answer.{Answer};

@@ -1,6 +1,6 @@
 //! The handles and slices of a transaction.
 
-ghost use Rattle.std.specs.Prelude.{◌≡◌, ◌≢◌, ◌<◌, ℕ, IfOk, IsSome, IsSomeAnd, IsTrue, ◌↔◌, Some, None, false};
+ghost use Rattle.std.specs.Prelude.{◌≡◌, ◌<◌, ℕ, IfOk, IsSome, IsSomeAnd, IsTrue, ◌↔◌, Some, None, false};
 ghost use Rattle.std.specs.Option.{option_copied, option_map};
 ghost use Rattle.wtf_overlay.specs.declared.part.Piece as Piece;
 ghost use Rattle.wtf_model.specs.declared.limits.TheConstants.{MAX_HANDLES, MAX_SLICES};

@@ -1,6 +1,6 @@
 //! Compact lists: what a list shows, as slices alone, with neighbours joined where they could be one.
 
-ghost use Rattle.std.specs.Prelude.{◌≡◌, ℕ, ◌*◌, ◌+◌, ◌≤◌, ◌^◌, length, IfOk, OnOk};
+ghost use Rattle.std.specs.Prelude.{◌≡◌, ℕ, ◌*◌, ◌+◌, ◌≤◌, length, IfOk, OnOk};
 ghost use Rattle.wtf_overlay.specs.Origin.{origin};
 ghost use Rattle.wtf_overlay.specs.Compact.{IsCompact};
 ghost use Rattle.wtf_overlay.specs.Runs.{IsRun};

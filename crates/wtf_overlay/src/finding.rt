@@ -1,6 +1,6 @@
 //! The entries of a run that may show something in a range, found by binary search.
 
-ghost use Rattle.std.specs.Prelude.{◌≡◌, ℕ, ◌+◌, ◌<◌, ◌≤◌, ◌^◌, length, take, Bool, true};
+ghost use Rattle.std.specs.Prelude.{ℕ, ◌+◌, ◌<◌, ◌≤◌, length, take, Bool};
 ghost use Rattle.wtf_overlay.specs.Edges.{EdgesIn};
 ghost use Rattle.wtf_overlay.specs.Runs.{IsRun, SameFrom, SameUpTo, SameWithin};
 

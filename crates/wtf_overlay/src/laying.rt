@@ -1,6 +1,6 @@
 //! One run laid over another, from left to right.
 
-ghost use Rattle.std.specs.Prelude.{◌≡◌, ℕ, ◌*◌, ◌+◌, ◌-◌, ◌<◌, ◌≤◌, ◌^◌, ◌++◌, length, IfOk, IsTrue, List, Bool, true, ◌⊎◌};
+ghost use Rattle.std.specs.Prelude.{◌≡◌, ℕ, ◌*◌, ◌+◌, ◌-◌, ◌<◌, ◌≤◌, ◌^◌, ◌++◌, IfOk, IsTrue, List, Bool, true, ◌⊎◌};
 ghost use Rattle.wtf_overlay.specs.Edges.{EdgesIn};
 ghost use Rattle.wtf_overlay.specs.Origin.{Place, part_origin};
 ghost use Rattle.wtf_overlay.specs.Runs.{IsRun, laid_over, Shows, SameFrom, Tells, Built};

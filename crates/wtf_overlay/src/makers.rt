@@ -1,6 +1,6 @@
 //! Entries and pieces made from their fields, and parts of parts.
 
-ghost use Rattle.std.specs.Prelude.{◌≡◌, ℕ, ◌+◌, ◌<◌, ◌≤◌, ◌^◌};
+ghost use Rattle.std.specs.Prelude.{◌≡◌, ℕ, ◌+◌, ◌<◌, ◌^◌};
 ghost use Rattle.wtf_overlay.specs.Lengths.{HasLength, Reaches};
 ghost use Rattle.wtf_overlay.specs.Origin.{part_origin};
 ghost use Rattle.wtf_overlay.specs.Parts.{IsCut};

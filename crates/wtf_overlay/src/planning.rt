@@ -1,7 +1,7 @@
 //! What a range of a run holds, as consecutive pieces. Places are u64, so that a range may end past 2^32.
 
-ghost use Rattle.std.specs.Prelude.{◌≡◌, ℕ, ◌⊎◌, ◌*◌, ◌+◌, ◌-◌, ◌<◌, ◌≤◌, ◌^◌, Bool, true, [], length, IfOk, List};
-ghost use Rattle.wtf_overlay.specs.Origin.{Place, part_origin, origin, origin_from, Plans};
+ghost use Rattle.std.specs.Prelude.{◌≡◌, ℕ, ◌⊎◌, ◌*◌, ◌+◌, ◌-◌, ◌<◌, ◌≤◌, Bool, true, length, IfOk, List};
+ghost use Rattle.wtf_overlay.specs.Origin.{part_origin, origin, Plans};
 ghost use Rattle.wtf_overlay.specs.declared.part.Entry.{Entry};
 ghost use Rattle.wtf_overlay.specs.Runs.{IsRun, SameFrom, BeginsPast};
 ghost use Rattle.wtf_overlay.specs.Edges.{EdgesIn, is_edge};

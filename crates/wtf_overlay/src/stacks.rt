@@ -1,13 +1,13 @@
 //! Runs that lie over one another. Their lengths at least double from the newest to the oldest, so that a
 //! list of n entries has about log n of them, and each entry is merged about log n times.
 
-ghost use Rattle.std.specs.Prelude.{◌≡◌, ℕ, ◌*◌, ◌+◌, ◌<◌, ◌≤◌, ◌^◌, ◌++◌, ◌∷◌, Bool, true, [], length, IfOk, OnErr, List, take, drop, vec_len};
+ghost use Rattle.std.specs.Prelude.{◌≡◌, ℕ, ◌*◌, ◌+◌, ◌<◌, ◌≤◌, ◌++◌, ◌∷◌, Bool, [], length, IfOk, List, take, drop, vec_len};
 ghost use Rattle.std.specs.Vec.{vec_capacity};
 ghost use Rattle.wtf_overlay.specs.Origin.{Place, origin_from};
 ghost use Rattle.wtf_overlay.specs.declared.part.Entry.{Entry};
 ghost use Rattle.wtf_overlay.specs.Runs.{IsRun, Shows};
-ghost use Rattle.wtf_overlay.specs.Edges.{EdgesIn, is_edge};
-ghost use Rattle.wtf_overlay.specs.Stacks.{stack, AreRuns, EdgesOf, StandFor};
+ghost use Rattle.wtf_overlay.specs.Edges.{EdgesIn};
+ghost use Rattle.wtf_overlay.specs.Stacks.{stack, AreRuns, EdgesOf};
 
 use crate::Entry;
 use crate::finding::entries_within;

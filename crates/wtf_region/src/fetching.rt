@@ -1,6 +1,6 @@
 //! Bytes of pieces, read from the servers.
 
-ghost use Rattle.std.specs.Prelude.{◌≡◌, ◌<◌, ◌≤◌, ◌+◌, ℕ, [], All, OnOk, OnErr, IfErr};
+ghost use Rattle.std.specs.Prelude.{◌≡◌, ◌<◌, ◌≤◌, ◌+◌, [], OnOk, OnErr, IfErr};
 ghost use Rattle.wtf_overlay.specs.Origin.{part_origin, pieces_len, pieces_origin};
 ghost use Rattle.wtf_replica.specs.Bytes.{byte_at};
 ghost use Rattle.wtf_region.specs.Devs.{IsSoundDev, GoesOn, stores, is_down_in, between};

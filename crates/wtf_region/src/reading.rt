@@ -1,9 +1,8 @@
 //! What an attempt sees of a file: its length, and ranges of it as pieces.
 
 ghost use Rattle.std.specs.Prelude.{◌≡◌, ◌+◌, ◌*◌, ◌<◌, ◌≤◌, ◌++◌, [], ◌∷◌, IfOk, IfErr, OnOk, IsTrue, Option};
-ghost use Rattle.std.specs.Option.{option_copied};
 ghost use Rattle.wtf_kv.specs.Stores.{is_pinned};
-ghost use Rattle.wtf_occ.specs.Attempts.{Grows, GrowsBy};
+ghost use Rattle.wtf_occ.specs.Attempts.{Grows};
 ghost use Rattle.wtf_overlay.specs.Origin.{Plans};
 ghost use Rattle.wtf_model.specs.declared.limits.TheConstants.{MAX_REGIONS};
 ghost use Rattle.wtf_meta.specs.Maps.{seen};

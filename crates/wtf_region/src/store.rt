@@ -1,6 +1,6 @@
 //! Storing bytes of a file.
 
-ghost use Rattle.std.specs.Prelude.{◌≡◌, ◌<◌, ◌*◌, ◌/◌, ◌^◌, [], length, IfOk, IfErr};
+ghost use Rattle.std.specs.Prelude.{◌<◌, ◌*◌, ◌/◌, ◌^◌, [], length, IfOk, IfErr};
 ghost use Rattle.wtf_dev.specs.Sums.{TellsAll};
 ghost use Rattle.wtf_model.specs.declared.limits.TheConstants.{MAX_REGIONS};
 ghost use Rattle.wtf_replica.specs.Bytes.{byte_at, HoldsSlice};

@@ -1,6 +1,6 @@
 //! Calls as they are given, as they are made, and as a log keeps them.
 
-ghost use Rattle.std.specs.Prelude.{◌≡◌, ◌≤◌, ℕ, List, true, false, IfSome, MatchOption, length};
+ghost use Rattle.std.specs.Prelude.{◌≡◌, List, false, IfSome, MatchOption, length};
 ghost use Rattle.wtf_base.specs.Slices.{len_of};
 ghost use Rattle.wtf_model.specs.Form.{IsFormOp, IsData, IsKeptData};
 ghost use Rattle.wtf_replay.specs.Built.{is_rw_op, is_slice_op, IsOpOf, IsSliceOpOf, IsFresh, IsStored, data_of, with_data};

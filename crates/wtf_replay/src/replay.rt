@@ -1,11 +1,10 @@
 //! One call, and calls made once more.
 
-ghost use Rattle.std.specs.Prelude.{◌≡◌, ◌≢◌, ◌+◌, ◌<◌, ◌≤◌, ◌^◌, ◌↔◌, ℕ, List, [], true, false, Ok, None, Some, IsTrue, IsSome, IfOk, IfErr, IfSome, OnOk, OnErr, length, slice_get};
+ghost use Rattle.std.specs.Prelude.{◌≡◌, ◌≢◌, ◌+◌, ◌<◌, ◌≤◌, ◌↔◌, ℕ, List, [], false, Ok, None, Some, IsTrue, IsSome, IfOk, IfErr, IfSome, OnOk, OnErr, length, slice_get};
 ghost use Rattle.wtf_base.specs.Slices.{len_of};
 ghost use Rattle.wtf_dev.specs.Sums.{TellsAll};
 ghost use Rattle.wtf_replica.specs.Bytes.{byte_at};
 ghost use Rattle.wtf_kv.specs.Stores.{is_pinned};
-ghost use Rattle.wtf_overlay.specs.Origin.{Place};
 ghost use Rattle.wtf_occ.specs.Attempts.{Grows};
 ghost use Rattle.wtf_model.specs.declared.answer.Answer.TheVariants as answer;
 ghost use Rattle.wtf_model.specs.declared.limits.TheConstants.{MAX_LOGGED};
@@ -25,7 +24,7 @@ ghost use Rattle.wtf_replay.specs.Built.{is_rw_op, is_slice_op, IsNameOp, IsPlai
 ghost use Rattle.wtf_replay.specs.Keeps.{IsKeptFor, LacksData};
 ghost use Rattle.wtf_replay.specs.Fits.{IsLog};
 ghost use Rattle.wtf_replay.specs.Sounds.{IsSound, IsToldStep, IsDue, TellsMap, TellsHand, tells_slice, caller_at};
-ghost use Rattle.wtf_replay.specs.Insides.{HandBytes, IsHandInside, IsLogInside, NamesHand, NamesAgain};
+ghost use Rattle.wtf_replay.specs.Insides.{IsHandInside, IsLogInside, NamesHand, NamesAgain};
 ghost use Rattle.wtf_replay.specs.Causes.{IsOwnOf, StoresNothing, IsStillOp, IsPlainFault, IsCallFault, IsAgainFault, MayAgainFault, FaultAt, ReplayFault};
 ghost use Rattle.wtf_replay.specs.Looked.{IsNameCall};
 ghost use Rattle.wtf_replay.specs.Replays.{IsReplay};
@@ -36,7 +35,7 @@ use std::alloc::Global;
 use wtf_base::{Bytes, Fault, InodeId, Kept, TxId};
 use wtf_dev::SliceStore;
 use wtf_kv::Kv;
-use wtf_log::{Log, LogError};
+use wtf_log::Log;
 use wtf_meta::Session;
 use wtf_model::{Answer, Op, is_same_answer};
 use wtf_occ::Attempt;

@@ -1,6 +1,6 @@
 //! Transactions.
 
-ghost use Rattle.std.specs.Prelude.{◌≡◌, ◌≢◌, ◌⊎◌, ◌+◌, ◌<◌, ◌≤◌, ◌^◌, ℕ, List, [], ◌∷◌, ◌++◌, true, false, Ok, None, Option, IsTrue, IsSome, IfOk, IfErr, IfSome, OnOk, OnErr, length, nat_eq};
+ghost use Rattle.std.specs.Prelude.{◌≡◌, ◌≢◌, ◌⊎◌, ◌+◌, ◌<◌, ◌^◌, ℕ, List, [], ◌∷◌, ◌++◌, true, false, Ok, None, Option, IsTrue, IsSome, IfOk, IfErr, IfSome, OnOk, OnErr, length, nat_eq};
 ghost use Rattle.std.specs.Set.{remove_key};
 ghost use Rattle.wtf_base.specs.declared.slice.Slice.{Slice};
 ghost use Rattle.wtf_replica.specs.Bytes.{byte_at};

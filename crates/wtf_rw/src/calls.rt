@@ -27,7 +27,7 @@ use wtf_kv::Kv;
 use wtf_meta::Session;
 use wtf_occ::Attempt;
 use wtf_region::Dev;
-use wtf_values::{Delta, Key, Value};
+use wtf_values::{Key, Value};
 
 /// The call itself. A fault leaves the session, and may leave the attempt grown.
 fn run<S: SliceStore>(

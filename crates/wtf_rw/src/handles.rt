@@ -1,6 +1,6 @@
 //! The calls that open and close a handle, and tell where it stands.
 
-ghost use Rattle.std.specs.Prelude.{◌≡◌, ◌<◌, ◌++◌, [], ℕ, IsTrue, IfOk, OnOk, OnErr};
+ghost use Rattle.std.specs.Prelude.{◌≡◌, ◌<◌, ◌++◌, IsTrue, IfOk, OnOk, OnErr};
 ghost use Rattle.std.specs.Option.{option_map};
 ghost use Rattle.wtf_kv.specs.Stores.{is_pinned};
 ghost use Rattle.wtf_occ.specs.Attempts.{Grows};
@@ -20,7 +20,7 @@ use wtf_meta::{Handle, Session};
 use wtf_model::{Answer, Op, Word};
 use wtf_occ::Attempt;
 use wtf_path::Path;
-use wtf_values::{Delta, Key, Node, Value};
+use wtf_values::{Key, Node, Value};
 
 /// The file of an open handle, and where it stands.
 #[derive(Clone, Copy, Debug)]

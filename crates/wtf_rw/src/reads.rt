@@ -1,9 +1,9 @@
 //! The call that shows bytes of a file.
 
-ghost use Rattle.std.specs.Prelude.{◌≡◌, ◌⊎◌, ◌<◌, ◌≤◌, ◌*◌, ◌++◌, [], ℕ, min, IfOk, IfErr, OnOk, OnErr, IsTrue, Some};
+ghost use Rattle.std.specs.Prelude.{◌≡◌, ◌⊎◌, ◌<◌, ◌≤◌, ◌++◌, [], min, IfOk, IfErr, OnOk, OnErr, IsTrue, Some};
 ghost use Rattle.wtf_kv.specs.Stores.{is_pinned};
 ghost use Rattle.wtf_occ.specs.Attempts.{Grows};
-ghost use Rattle.wtf_model.specs.declared.limits.TheConstants.{MAX_HANDLES, MAX_REGIONS, MAX_SHOWN};
+ghost use Rattle.wtf_model.specs.declared.limits.TheConstants.{MAX_HANDLES, MAX_SHOWN};
 ghost use Rattle.wtf_model.specs.Steps.{IsLogged};
 ghost use Rattle.wtf_meta.specs.declared.session.Handle as handle;
 ghost use Rattle.wtf_meta.specs.Maps.{seen};
@@ -26,7 +26,7 @@ use wtf_meta::Session;
 use wtf_model::{Answer, Op, Word};
 use wtf_occ::Attempt;
 use wtf_region::{Dev, file_len, pieces, show};
-use wtf_values::{Delta, Key, Value};
+use wtf_values::{Key, Value};
 
 /// How many of `n` bytes a file of `len` bytes has from an offset on.
 fn count(off: u64, n: u64, len: u64, cap: u64) -> u64

@@ -1,7 +1,6 @@
 //! The calls that move a handle, and show what stands at a path.
 
-ghost use Rattle.std.specs.Prelude.{◌≡◌, ◌<◌, ◌*◌, ◌++◌, [], ℕ, IsTrue, IfOk, OnOk, OnErr, IsSome};
-ghost use Rattle.std.specs.Option.{option_map};
+ghost use Rattle.std.specs.Prelude.{◌≡◌, ◌<◌, ◌++◌, [], IsTrue, IfOk, OnOk, OnErr, IsSome};
 ghost use Rattle.wtf_kv.specs.Stores.{is_pinned};
 ghost use Rattle.wtf_occ.specs.Attempts.{Grows, GrowsBy};
 ghost use Rattle.wtf_model.specs.declared.limits.TheConstants.{MAX_HANDLES};
@@ -25,7 +24,7 @@ use wtf_model::{Answer, Op, Seek, Word};
 use wtf_occ::Attempt;
 use wtf_path::Path;
 use wtf_region::file_len;
-use wtf_values::{Delta, Key, Node, Value};
+use wtf_values::{Key, Node, Value};
 
 /// The length of a file that a seek to its end looks at; another one looks at nothing.
 fn len_for(

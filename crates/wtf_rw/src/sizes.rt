@@ -1,11 +1,10 @@
 //! The calls that cut a file and make holes in it.
 
-ghost use Rattle.std.specs.Prelude.{◌≡◌, ◌<◌, ◌≤◌, ◌*◌, [], List, IsTrue, IfOk, OnOk};
+ghost use Rattle.std.specs.Prelude.{◌≡◌, ◌<◌, ◌≤◌, ◌*◌, [], IfOk, OnOk};
 ghost use Rattle.wtf_occ.specs.Attempts.{Grows};
 ghost use Rattle.wtf_model.specs.declared.limits.TheConstants.{MAX_HANDLES, MAX_REGIONS};
 ghost use Rattle.wtf_model.specs.Steps.{IsLogged};
 ghost use Rattle.wtf_meta.specs.Maps.{Map};
-ghost use Rattle.wtf_meta.specs.Sessions.{handle_in};
 ghost use Rattle.wtf_meta.specs.Calls.{Caller};
 ghost use Rattle.wtf_region.specs.Edited.{Edited};
 ghost use Rattle.wtf_rw.specs.Steps.{in_hand, IsStepWith, NeedsNoBytes, IsRefusal};

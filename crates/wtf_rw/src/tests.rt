@@ -1,6 +1,6 @@
 //! The calls one by one, on a file of regions of 64 bytes over stores in memory.
 
-ghost use Rattle.std.specs.Prelude.{◌≡◌, ◌≤◌, [], List, Bool, length, true, IsTrue, IfOk, OnOk};
+ghost use Rattle.std.specs.Prelude.{◌≡◌, [], List, Bool, length, true, IsTrue, IfOk, OnOk};
 ghost use Rattle.wtf_dev.specs.Memory.{mem_store};
 ghost use Rattle.wtf_kv.specs.Stores.{is_pinned};
 ghost use Rattle.wtf_overlay.specs.Origin.{Place};

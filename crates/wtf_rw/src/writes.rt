@@ -25,7 +25,7 @@ use wtf_model::{Answer, Op, Word};
 use wtf_occ::Attempt;
 use wtf_overlay::{Part, Piece};
 use wtf_region::{Dev, put_pieces, store_bytes};
-use wtf_values::{Delta, Key, Value};
+use wtf_values::{Key, Value};
 
 /// The piece that is a slice.
 pub(crate) fn piece_of(slice: Slice) -> Piece

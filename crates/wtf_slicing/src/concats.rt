@@ -1,6 +1,6 @@
 //! The call that makes a file of others.
 
-ghost use Rattle.std.specs.Prelude.{◌≡◌, ◌≤◌, ◌*◌, ◌++◌, [], IsTrue, IfOk, IfErr, OnOk};
+ghost use Rattle.std.specs.Prelude.{◌≡◌, ◌++◌, [], IsTrue, IfOk, IfErr, OnOk};
 ghost use Rattle.wtf_kv.specs.Stores.{is_pinned};
 ghost use Rattle.wtf_occ.specs.Attempts.{Grows};
 ghost use Rattle.wtf_model.specs.Steps.{IsLogged};
@@ -24,7 +24,7 @@ use wtf_model::{Answer, Op, Paths, Word};
 use wtf_occ::Attempt;
 use wtf_path::Path;
 use wtf_region::{Dev, put_pieces};
-use wtf_values::{Delta, Key, Value};
+use wtf_values::{Key, Value};
 
 /// Makes a file at `q`, of the inode `new`, with all bytes of other files, in order: as pieces, so
 /// that no byte is read. It is refused for the root as its target, for one whose parent is no

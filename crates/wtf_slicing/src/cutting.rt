@@ -1,6 +1,6 @@
 //! The calls that show a part of a slice, and keep one as another slice.
 
-ghost use Rattle.std.specs.Prelude.{◌≡◌, ◌⊎◌, ◌<◌, ◌≤◌, ◌+◌, ◌-◌, ◌^◌, [], ℕ, min, true, false, IfOk, IfErr, OnErr, Some};
+ghost use Rattle.std.specs.Prelude.{◌≡◌, ◌<◌, ◌≤◌, ◌+◌, ◌-◌, ◌^◌, [], ℕ, min, true, false, IfOk, IfErr, OnErr, Some};
 ghost use Rattle.wtf_overlay.specs.declared.part.Piece as piece;
 ghost use Rattle.wtf_overlay.specs.Origin.{part_origin, pieces_len, pieces_origin, Plans};
 ghost use Rattle.wtf_model.specs.Form.{IsSlice, IsNumber, IsShowable};
@@ -12,7 +12,6 @@ ghost use Rattle.wtf_region.specs.Devs.{IsSoundDev, GoesOn, stores, between};
 ghost use Rattle.wtf_region.specs.Inside.{is_inside};
 ghost use Rattle.wtf_region.specs.Showing.{OnlyRead};
 ghost use Rattle.wtf_rw.specs.Steps.{in_hand, IsStepWith, NeedsNoBytes, IsRefusal};
-ghost use Rattle.wtf_rw.specs.Reads.{LacksBytes};
 ghost use Rattle.wtf_rw.specs.Faults.{MayFault};
 ghost use Rattle.wtf_slicing.specs.Shown.{TellsSlices, LacksSlice};
 

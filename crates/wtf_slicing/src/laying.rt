@@ -1,9 +1,8 @@
 //! The calls that lay a slice over a file, and add one at its end.
 
-ghost use Rattle.std.specs.Prelude.{◌≡◌, ◌<◌, ◌≤◌, ◌+◌, ◌*◌, ◌++◌, [], true, false, IsTrue, IfOk, OnOk, OnErr, IsSome, IsSomeAnd};
+ghost use Rattle.std.specs.Prelude.{◌≡◌, ◌<◌, ◌≤◌, ◌+◌, ◌++◌, true, false, IsTrue, IfOk, OnOk, OnErr};
 ghost use Rattle.wtf_kv.specs.Stores.{is_pinned};
 ghost use Rattle.wtf_occ.specs.Attempts.{Grows};
-ghost use Rattle.wtf_overlay.specs.Origin.{pieces_len};
 ghost use Rattle.wtf_model.specs.Form.{IsHandle, IsSlice};
 ghost use Rattle.wtf_model.specs.Steps.{IsLogged};
 ghost use Rattle.wtf_meta.specs.Maps.{Map, seen};
@@ -22,7 +21,7 @@ use wtf_model::{Answer, Op, Word};
 use wtf_occ::Attempt;
 use wtf_region::{Added, add_pieces, put_pieces};
 use wtf_rw::handle_of;
-use wtf_values::{Delta, Key, Value};
+use wtf_values::{Key, Value};
 
 /// Whether so many bytes from an offset on end below the greatest length.
 fn ends_within(off: u64, len: u64, cap: u64) -> bool

@@ -15,7 +15,7 @@ use wtf_kv::Kv;
 use wtf_model::Word;
 use wtf_occ::Attempt;
 use wtf_path::Path;
-use wtf_values::{Delta, Key, Value};
+use wtf_values::{Key, Value};
 
 /// The inodes of files, in order, or why the first of them that is none is none. The paths are
 /// recorded up to that one.

@@ -1,10 +1,9 @@
 //! The calls one by one, on files of regions of 64 bytes over stores in memory, with the calls of
 //! other crates between them.
 
-ghost use Rattle.std.specs.Prelude.{◌≡◌, ◌<◌, ◌≤◌, ◌^◌, [], List, Bool, length, true, IsTrue, IfOk, OnOk};
+ghost use Rattle.std.specs.Prelude.{◌≡◌, ◌<◌, ◌≤◌, [], List, Bool, length, true, IsTrue, IfOk, OnOk};
 ghost use Rattle.wtf_dev.specs.Memory.{mem_store};
 ghost use Rattle.wtf_kv.specs.Stores.{is_pinned};
-ghost use Rattle.wtf_occ.specs.Attempts.{Grows};
 ghost use Rattle.wtf_overlay.specs.Origin.{Place};
 ghost use Rattle.wtf_meta.specs.Bytes.{MapBytes};
 ghost use Rattle.wtf_meta.specs.Maps.{seen};

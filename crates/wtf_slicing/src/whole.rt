@@ -6,7 +6,7 @@ ghost use Rattle.wtf_occ.specs.Attempts.{Grows, GrowsBy};
 ghost use Rattle.wtf_model.specs.declared.limits.TheConstants.{MAX_REGIONS};
 ghost use Rattle.wtf_meta.specs.Maps.{seen};
 ghost use Rattle.wtf_meta.specs.Files.{end_of};
-ghost use Rattle.wtf_meta.specs.FileEdits.{file_of, last_of, region_of};
+ghost use Rattle.wtf_meta.specs.FileEdits.{file_of};
 ghost use Rattle.wtf_meta.specs.Appends.{OfLast, OfRegion};
 ghost use Rattle.wtf_region.specs.Devs.{IsSoundDev, GoesOn, between};
 ghost use Rattle.wtf_region.specs.Edited.{Recorded};
@@ -22,7 +22,7 @@ use wtf_kv::Kv;
 use wtf_occ::Attempt;
 use wtf_overlay::Piece;
 use wtf_region::{Dev, file_len, pieces};
-use wtf_values::{Delta, Key, RegionValue, Value};
+use wtf_values::{Key, RegionValue, Value};
 
 /// A whole file, as the values of its regions.
 #[derive(Drop)]

@@ -1,9 +1,8 @@
 //! The call that takes a slice out of a file.
 
-ghost use Rattle.std.specs.Prelude.{◌≡◌, ◌<◌, ◌*◌, ◌++◌, [], IfOk, IfErr, OnOk, OnErr, IsTrue};
+ghost use Rattle.std.specs.Prelude.{◌≡◌, ◌<◌, ◌++◌, [], IfOk, IfErr, OnOk, OnErr, IsTrue};
 ghost use Rattle.wtf_kv.specs.Stores.{is_pinned};
 ghost use Rattle.wtf_occ.specs.Attempts.{Grows};
-ghost use Rattle.wtf_model.specs.declared.limits.TheConstants.{MAX_REGIONS};
 ghost use Rattle.wtf_model.specs.Form.{IsHandle, IsSlice};
 ghost use Rattle.wtf_model.specs.Steps.{IsLogged};
 ghost use Rattle.wtf_meta.specs.Maps.{seen};
@@ -23,7 +22,7 @@ use wtf_model::{Answer, Op, Word};
 use wtf_occ::Attempt;
 use wtf_region::{Dev, file_len, pieces};
 use wtf_rw::handle_of;
-use wtf_values::{Delta, Key, Value};
+use wtf_values::{Key, Value};
 
 /// How many of `n` bytes a file of `len` bytes has from an offset on.
 fn count(off: u64, n: u64, len: u64, cap: u64) -> u64

@@ -3,7 +3,7 @@
 ghost use Rattle.std.specs.Prelude.{◌≡◌, ◌+◌, ◌<◌, ◌^◌, [], IfOk, IsTrue, None, Some};
 ghost use Rattle.wtf_overlay.specs.Clips.{Within};
 ghost use Rattle.wtf_overlay.specs.Origin.{pieces_len};
-ghost use Rattle.wtf_values.specs.Bases.{seen_upto, base_below};
+ghost use Rattle.wtf_values.specs.Bases.{base_below};
 ghost use Rattle.wtf_values.specs.Regions.{emptied, pushed, clipped, zeroed_in, with_piece, with_pieces, fits_at_end};
 
 use crate::{Pieces, RegionValue, Spill};

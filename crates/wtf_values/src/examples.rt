@@ -1,6 +1,6 @@
 //! Worked examples of the order of keys and of what comes of changes, each proved.
 
-ghost use Rattle.std.specs.Prelude.{◌≡◌, ◌≢◌, ℕ, ◌<◌, ◌≤◌, true, false, List, Option, Some, None};
+ghost use Rattle.std.specs.Prelude.{◌≡◌, ◌≢◌, ℕ, ◌≤◌, true, false, List, Option, Some, None};
 ghost use Rattle.std.specs.Ordering.{nat_cmp, ordering_then};
 ghost use Rattle.std.specs.Cmp.Lexicographic.{slice_cmp};
 ghost use Rattle.std.specs.declared.cmp.Ordering.TheVariants.{Less};
@@ -18,7 +18,7 @@ ghost use Rattle.wtf_values.specs.declared.value.Value.TheVariants as value;
 ghost use Rattle.wtf_values.specs.declared.value.Delta.TheVariants as delta;
 ghost use Rattle.wtf_values.specs.Keys.{key_cmp};
 ghost use Rattle.wtf_values.specs.Names.{NamesOf, has_name, with_name, without_name};
-ghost use Rattle.wtf_values.specs.Regions.{pushed, clipped, zeroed_in, with_pieces};
+ghost use Rattle.wtf_values.specs.Regions.{clipped, zeroed_in, with_pieces};
 ghost use Rattle.wtf_values.specs.Outcomes.{outcome_of};
 
 /// Paths come before directories, these before inodes, and these before regions. Each kind has an

@@ -1,6 +1,6 @@
 //! The names in a directory.
 
-ghost use Rattle.std.specs.Prelude.{◌≡◌, ℕ, List, ◌<◌, ◌≤◌, ◌++◌, length, take, drop, slice_get, Some, IfOk, IfErr, OnOk, OnErr, IsTrue};
+ghost use Rattle.std.specs.Prelude.{◌≡◌, ℕ, List, ◌<◌, ◌++◌, length, slice_get, Some, IfOk, IfErr, OnOk, OnErr, IsTrue};
 ghost use Rattle.wtf_values.specs.Names.{no_names, names_in, has_name, with_name, without_name, IsAt, IsGap};
 
 use crate::Name;
