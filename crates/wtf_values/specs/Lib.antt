@@ -3,4 +3,5 @@ pub mod Keys
 pub mod Names
 pub mod Regions
 pub mod Outcomes
+pub mod Pieces
 pub mod Summaries

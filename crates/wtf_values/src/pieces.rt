@@ -1,6 +1,6 @@
 //! Pieces that are added to a region.
 
-ghost use Rattle.std.specs.Prelude.{◌≡◌, ◌-◌, ◌^◌, min, IfOk};
+ghost use Rattle.std.specs.Prelude.{◌≡◌, ◌-◌, ◌<◌, ◌^◌, min, IfOk};
 ghost use Rattle.wtf_overlay.specs.Origin.{pieces_len};
 
 use std::alloc::Global;
@@ -8,18 +8,24 @@ use std::marker::Model;
 use wtf_base::OutOfMemory;
 use wtf_overlay::Piece;
 
-/// Consecutive pieces, seen as their list. Their number of bytes is kept beside them, so that it is
-/// told without a walk over them. It stops at 2^64 - 1, far above the size of a region.
+/// Consecutive pieces, seen as their list.
 #[derive(Debug, Drop)]
 pub struct Pieces {
-    list: Vec<Piece>,
-    bytes: u64,
+    kept: OneOrMany,
+}
+
+/// How pieces are kept. A single one, as an append has, stands in place and takes no memory of its
+/// own. Any other number of them stands in a list, with its number of bytes beside it, so that this
+/// is told without a walk over them. It stops at 2^64 - 1, far above the size of a region.
+#[derive(Debug, Drop)]
+enum OneOrMany {
+    One(Piece),
+    Many(Vec<Piece>, u64),
 }
 
 impl Model for Pieces {
-    ghost use Rattle.std.specs.Prelude.{◌≡◌, ◌-◌, ◌^◌, min, List};
+    ghost use Rattle.std.specs.Prelude.{List};
     ghost use Rattle.wtf_overlay.specs.declared.part.Piece.{Piece};
-    ghost use Rattle.wtf_overlay.specs.Origin.{pieces_len};
 
     ghost Value = { List Piece };
 
@@ -28,9 +34,11 @@ impl Model for Pieces {
 
     ghost coded = { coded_list piece.the_row.coded };
 
-    ghost view = { λ p. p.list.items };
+    ghost use Rattle.wtf_values.specs.Pieces.{pieces_in, IsCounted};
 
-    ghost invariant = { λ p. p.bytes ≡ min (pieces_len p.list.items) (2 ^ 64 - 1) };
+    ghost view = { λ p. pieces_in p.kept };
+
+    ghost invariant = { λ p. IsCounted p.kept };
 }
 
 impl Pieces {
@@ -38,23 +46,31 @@ impl Pieces {
     pub fn of(alloc: Global, parts: &[Piece]) -> Result<Pieces, OutOfMemory>
         ensures { IfOk result (λ pieces. pieces ≡ parts.now) }
     {
-        let list = Vec::from_slice(alloc, parts)?;
-        let bytes = bytes_of(parts);
-        Ok(Pieces { list, bytes })
+        let kept = match parts {
+            [piece] => OneOrMany::One(*piece),
+            _ => OneOrMany::Many(Vec::from_slice(alloc, parts)?, bytes_of(parts)),
+        };
+        Ok(Pieces { kept })
     }
 
     /// The pieces, in order.
     pub fn as_slice(&self) -> &[Piece]
         ensures { result.now ≡ self.now }
     {
-        self.list.as_slice()
+        match &self.kept {
+            OneOrMany::One(piece) => std::slice::from_ref(piece),
+            OneOrMany::Many(list, _) => list.as_slice(),
+        }
     }
 
     /// The number of bytes; 2^64 - 1 where there are more.
     pub fn bytes(&self) -> u64
         ensures { result ≡ min (pieces_len self.now) (2 ^ 64 - 1) }
     {
-        self.bytes
+        match &self.kept {
+            OneOrMany::One(piece) => len_of(piece),
+            OneOrMany::Many(_, bytes) => *bytes,
+        }
     }
 }
 
@@ -66,4 +82,13 @@ fn bytes_of(parts: &[Piece]) -> u64
         sum = sum.saturating_add(piece.len);
     }
     sum
+}
+
+// The length of a piece. Its clause says that it fits 64 bits, which the proof of `bytes` does not
+// see of a piece inside a variant.
+fn len_of(piece: &Piece) -> u64
+    ensures len { result ≡ piece.now.len }
+    ensures fits { result < 2 ^ 64 }
+{
+    piece.len
 }

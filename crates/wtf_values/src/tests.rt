@@ -57,12 +57,21 @@ fn shape_after(alloc: Global, now: Option<&Value>, delta: &Delta) -> Result<Shap
     Ok(Shape::Unfit)
 }
 
-/// Zeros of `len` bytes, as one piece.
+/// Zeros of `len` bytes, as one piece; no piece for none.
 fn zeros(alloc: Global, len: u32) -> Result<Pieces, Fail> {
     if len == 0 {
-        return Ok(Pieces::of(alloc, &[])?);
+        return read_back(alloc, &[], 0);
     }
-    Ok(Pieces::of(alloc, &[Piece::of(len as u64, Part::Zero)])?)
+    read_back(alloc, &[Piece::of(len as u64, Part::Zero)], len as u64)
+}
+
+/// Pieces of `bytes` bytes, read back as they were given.
+fn read_back(alloc: Global, parts: &[Piece], bytes: u64) -> Result<Pieces, Fail> {
+    let pieces = Pieces::of(alloc, parts)?;
+    if pieces.as_slice() != parts || pieces.bytes() != bytes {
+        return Err("other pieces were read back".into());
+    }
+    Ok(pieces)
 }
 
 /// A region of 60 bytes, all of them in its base.
@@ -99,9 +108,14 @@ fn added(alloc: Global, paths: &[&[u8]]) -> Result<NameSet, Fail> {
 fn regions_change_as_asked(rt: HostRuntime) -> Result<(), Fail> {
     let alloc = rt.alloc();
     let base = spilled(alloc)?;
+    let none = Delta::PushRel(zeros(alloc, 0)?, 64);
     let four = Delta::PushRel(zeros(alloc, 4)?, 64);
+    let parts = [Piece::of(1, Part::Zero), Piece::of(3, Part::Zero)];
+    let two = Delta::PushRel(read_back(alloc, &parts, 4)?, 64);
     let rows = [
+        (none, Shape::Region(60, Some(60), 0)),
         (four, Shape::Region(64, Some(60), 1)),
+        (two, Shape::Region(64, Some(60), 2)),
         (Delta::Clip(0), Shape::Region(0, None, 0)),
         (Delta::Clip(7), Shape::Region(7, Some(7), 0)),
         (Delta::Clip(64), Shape::Region(64, Some(60), 0)),
