@@ -24,8 +24,16 @@ use wtf_chunks::Chunks;
 /// Beside its entries a list keeps runs, sorted and disjoint lists that lie over one another, and over them a
 /// short tail of the newest entries. Together they show the same. A range is found in the runs by search,
 /// however many entries there are. Holders share the entries and the runs.
+///
+/// A list is one word, so that what holds it is cheap to move.
 #[derive(Debug, Drop)]
 pub struct Overlay {
+    layers: Box<Layers>,
+}
+
+/// What a list keeps: its entries, its runs, the tail over them, and an end that no entry passes.
+#[derive(Debug, Drop)]
+struct Layers {
     entries: Chunks<Entry>,
     runs: Vec<Run>,
     tail: Vec<Entry>,
@@ -45,23 +53,25 @@ impl Model for Overlay {
 
     ghost coded = { coded_list entry.the_row.coded };
 
-    ghost view = { λ o. o.entries };
+    ghost view = { λ o. o.layers.value.entries };
 
-    ghost invariant = { λ o. StandFor o.entries o.runs.items o.tail.items
-        × Within o.reach o.entries };
+    ghost invariant = { λ o. let l = o.layers.value in
+        StandFor l.entries l.runs.items l.tail.items × Within l.reach l.entries };
 }
 
 impl Overlay {
-    /// A list with no entry. It takes no memory yet.
+    /// A list with no entry. It takes one small block of memory.
     pub fn new(alloc: Global) -> Result<Overlay, OutOfMemory>
         ensures { IfOk result (λ o. o ≡ []) }
     {
-        let entries = Chunks::new(alloc)?;
-        Ok(Overlay {
-            entries,
+        let layers = Layers {
+            entries: Chunks::new(alloc)?,
             runs: Vec::new(alloc),
             tail: Vec::new(alloc),
             reach: 0,
+        };
+        Ok(Overlay {
+            layers: Box::new(alloc, layers)?,
         })
     }
 
@@ -69,7 +79,7 @@ impl Overlay {
     pub fn len(&self) -> usize
         ensures { result ≡ length self.now }
     {
-        self.entries.len()
+        self.layers.entries.len()
     }
 
     /// The entry at `i`, counted from 0, the earliest first.
@@ -77,7 +87,7 @@ impl Overlay {
         requires { i < length self.now }
         ensures { slice_get self.now i ≡ Some result }
     {
-        self.entries.get(i)
+        self.layers.entries.get(i)
     }
 
     /// Lays `e` over the list. After an error the list is as before. Most pushes cost a copy of `e`. Over
@@ -87,10 +97,11 @@ impl Overlay {
         ensures err { OnErr result (self.new ≡ self.old) }
     {
         self.make_room()?;
-        self.tail.reserve(1)?;
-        self.entries.push(e)?;
-        let _room = self.tail.push(e);
-        self.reach = self.reach.max(e.end());
+        let layers = &mut *self.layers;
+        layers.tail.reserve(1)?;
+        layers.entries.push(e)?;
+        let _room = layers.tail.push(e);
+        layers.reach = layers.reach.max(e.end());
         Ok(())
     }
 
@@ -98,7 +109,7 @@ impl Overlay {
     fn make_room(&mut self) -> Result<(), OutOfMemory>
         ensures { self.new ≡ self.old }
     {
-        if self.tail.len() >= FULL {
+        if self.layers.tail.len() >= FULL {
             self.fold()?;
         }
         Ok(())
@@ -108,12 +119,14 @@ impl Overlay {
     fn fold(&mut self) -> Result<(), OutOfMemory>
         ensures { self.new ≡ self.old }
     {
-        let newest = whole_tail(self.alloc(), self.tail.as_slice())?;
-        let top = top_with(newest, self.runs.as_slice())?;
+        let alloc = self.alloc();
+        let layers = &mut *self.layers;
+        let newest = whole_tail(alloc, layers.tail.as_slice())?;
+        let top = top_with(newest, layers.runs.as_slice())?;
         let run = RcSlice::from_vec(top.run)?;
-        self.runs.reserve(1)?;
-        replace_top(&mut self.runs, top.below, run);
-        self.tail.clear();
+        layers.runs.reserve(1)?;
+        replace_top(&mut layers.runs, top.below, run);
+        layers.tail.clear();
         Ok(())
     }
 
@@ -122,14 +135,16 @@ impl Overlay {
     pub fn share(&self) -> Result<Overlay, OutOfMemory>
         ensures { IfOk result (λ o. o ≡ self.now) }
     {
-        let entries = self.entries.share()?;
-        let runs = self.runs.clone()?;
-        let tail = self.tail.to_vec(self.alloc())?;
+        let alloc = self.alloc();
+        let layers = &*self.layers;
+        let same = Layers {
+            entries: layers.entries.share()?,
+            runs: layers.runs.clone()?,
+            tail: layers.tail.to_vec(alloc)?,
+            reach: layers.reach,
+        };
         Ok(Overlay {
-            entries,
-            runs,
-            tail,
-            reach: self.reach,
+            layers: Box::new(alloc, same)?,
         })
     }
 
@@ -138,7 +153,7 @@ impl Overlay {
     pub fn is_same(&self, other: &Overlay) -> bool
         ensures { IsTrue result → self.now ≡ other.now }
     {
-        self.entries.is_same(&other.entries)
+        self.layers.entries.is_same(&other.layers.entries)
     }
 
     /// The `len` bytes from `off` on as consecutive pieces, each of one entry or of a hole. Where `len` is
@@ -156,14 +171,14 @@ impl Overlay {
 
     /// The allocator that the list keeps.
     pub(crate) fn alloc(&self) -> Global {
-        *self.runs.allocator()
+        *self.layers.runs.allocator()
     }
 
     /// Whether an entry may end past `end`.
     pub(crate) fn passes(&self, end: u32) -> bool
         ensures { OnFalse result (Within end self.now) }
     {
-        end < self.reach
+        end < self.layers.reach
     }
 
     /// What the list shows, as one run.
@@ -182,8 +197,9 @@ impl Overlay {
         ensures shows { IfOk result (λ v. SameWithin from to self.now v.items) }
         ensures edges { IfOk result (λ v. EdgesIn (is_edge self.now) v.items) }
     {
-        let newest = laid(self.alloc(), self.tail.as_slice(), from, to)?;
-        let all = shown(newest, self.runs.as_slice(), from, to)?;
+        let layers = &*self.layers;
+        let newest = laid(self.alloc(), layers.tail.as_slice(), from, to)?;
+        let all = shown(newest, layers.runs.as_slice(), from, to)?;
         Ok(all)
     }
 
@@ -196,11 +212,14 @@ impl Overlay {
         let reach = reach_of(run.as_slice());
         let mut runs = Vec::new(alloc);
         runs.push(RcSlice::from_vec(run)?)?;
-        Ok(Overlay {
+        let layers = Layers {
             entries,
             runs,
             tail: Vec::new(alloc),
             reach,
+        };
+        Ok(Overlay {
+            layers: Box::new(alloc, layers)?,
         })
     }
 }

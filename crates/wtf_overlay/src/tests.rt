@@ -2,6 +2,7 @@
 
 use super::*;
 use std::alloc::Global;
+use std::mem::size_of;
 use std::test::Fail;
 use wtf_base::{OutOfMemory, Pointer, ServerId, Slice};
 
@@ -61,6 +62,12 @@ fn entries(alloc: Global, list: &Overlay) -> Result<Vec<(u32, Option<u64>, u32)>
         rows.push((e.off, at(e.part), e.len))?;
     }
     Ok(rows)
+}
+
+#[test]
+fn a_list_takes_one_word(rt: HostRuntime) -> Result<(), Fail> {
+    assert_eq!(rt; size_of::<Overlay>(), size_of::<usize>());
+    Ok(())
 }
 
 #[test]

@@ -9,7 +9,8 @@ invariant_of-result c =
     let es = c.args.run.items in
     let r = c.in_ok-from_vec.field-0 in
     let list : c.in_ok-entries.entries ≡ es = c.in_ok-entries.ensures ∙ c.as_slice.ensures.value in
-    let runs : c.push.new.self.items ≡ r ∷ [] = c.in_ok-push.ensures.items ∙ ap (λ l. l ++ r ∷ []) c.new-runs.ensures.items in (
+    let runs : c.push.new.self.items ≡ r ∷ [] = c.in_ok-push.ensures.items ∙ ap (λ l. l ++ r ∷ []) c.new-runs.ensures.items in
+    rw c.in_ok-new.ensures.ok (
       subst (λ l. StandFor l c.push.new.self.items c.new.result.items) (sym list)
           (subst (λ l. StandFor es l c.new.result.items) (sym runs)
           (subst (λ l. StandFor es (r ∷ []) l) (sym c.new.ensures.items) (StandFor-one es r c.in_ok-from_vec.ensures c.requires))),

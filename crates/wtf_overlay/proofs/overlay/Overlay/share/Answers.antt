@@ -1,4 +1,4 @@
-use Rattle.std.proofs.Common.{◌≡◌, subst, sym, ◌∙◌}
+use Rattle.std.proofs.Common.{◌≡◌, subst, sym, ap, ◌∙◌}
 use Rattle.wtf_overlay.specs.Clips.{Within}
 use Rattle.wtf_overlay.specs.Stacks.{StandFor}
 use Rattle.wtf_overlay.proofs.Stacking.{StandFor-alike}
@@ -6,10 +6,15 @@ use Rattle.wtf_overlay.proofs.overlay.Overlay.share.Goals as goal
 
 pub invariant_of-result : goal.invariant_of-result
 invariant_of-result c =
-    let old = c.self.inside in
-    let same : c.in_ok-entries.entries ≡ old.entries = c.in_ok-entries.ensures in
-    let tail : c.in_ok-tail.tail.items ≡ old.tail.items = c.in_ok-tail.ensures.items_if_clones_equal (λ x y same. same) ∙ c.deref.ensures.value in (
-      subst (λ es. StandFor es c.in_ok-runs.runs.items c.in_ok-tail.tail.items) (sym same) (subst (λ l. StandFor old.entries c.in_ok-runs.runs.items l) (sym tail)
-          (StandFor-alike old.entries old.tail.items old.runs.items c.in_ok-runs.runs.items c.in_ok-runs.ensures.cases.0 c.self.invariant.0)),
-      subst (λ es. Within old.reach es) (sym same) c.self.invariant.1,
+    let old = c.self.inside.layers.value in
+    let is = c.deref-layers.ensures in
+    let same : c.in_ok-share.field-0 ≡ old.entries = c.in_ok-share.ensures ∙ ap (λ l. l.entries) is in
+    let tail : c.in_ok-to_vec.field-0.items ≡ old.tail.items =
+    c.in_ok-to_vec.ensures.items_if_clones_equal (λ x y same. same) ∙ c.deref.ensures.value ∙ ap (λ l. l.tail.items) is in
+    rw c.in_ok-new.ensures.ok (
+      subst (λ es. StandFor es c.in_ok-clone.field-0.items c.in_ok-to_vec.field-0.items) (sym same)
+          (subst (λ l. StandFor old.entries c.in_ok-clone.field-0.items l) (sym tail)
+          (StandFor-alike old.entries old.tail.items old.runs.items c.in_ok-clone.field-0.items
+          (rw (sym is) c.in_ok-clone.ensures.cases.0) c.self.invariant.0)),
+      subst (λ es. Within c.deref-layers.result.now.reach es) (sym same) (rw is c.self.invariant.1),
     )
