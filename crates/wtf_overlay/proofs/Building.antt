@@ -2,7 +2,7 @@
 use Rattle.std.proofs.Common.{◌≡◌, ℕ, ◌+◌, ◌-◌, ◌<◌, ◌≤◌, ◌++◌, List, [], ◌∷◌, refl, ap, sym, ◌∙◌, arith, inl, inr, max, length}
 use Rattle.std.proofs.lemmas.Bool.{cases_lt}
 use Rattle.wtf_overlay.specs.declared.part.Entry.{Entry}
-use Rattle.wtf_overlay.specs.Origin.{Place, part_origin, over, origin_from}
+use Rattle.wtf_overlay.specs.Origin.{Place, part_origin, origin_from}
 use Rattle.wtf_overlay.proofs.Origins.{origin_from-push, over_before, over_after, over_within}
 use Rattle.wtf_overlay.specs.Runs.{IsRunIn, Built, SameFrom, Tells}
 

@@ -1,18 +1,18 @@
 -- Lists that are made compact from left to right.
-use Rattle.std.proofs.Common.{◌≡◌, ℕ, ◌+◌, ◌-◌, ◌<◌, ◌≤◌, ◌^◌, ◌++◌, ◌⊎◌, inl, inr, true, false, Bool, List, [], ◌∷◌, refl, ap, sym, subst, ◌∙◌, arith, length, length-append, append_assoc}
+use Rattle.std.proofs.Common.{◌≡◌, ℕ, ◌+◌, ◌-◌, ◌≤◌, ◌^◌, ◌++◌, inl, inr, true, false, List, [], ◌∷◌, refl, ap, sym, subst, ◌∙◌, arith, length, length-append, append_assoc}
 use Rattle.std.specs.List.{All}
 use Rattle.std.proofs.lemmas.Bool.{cases_lt}
 use Rattle.std.proofs.lemmas.List.{append-nil}
-use Rattle.std.proofs.lemmas.List.Elements.{All-push, All-append, All-cons, All-nil, All-head, All-tail}
+use Rattle.std.proofs.lemmas.List.Elements.{All-push, All-cons, All-nil, All-head, All-tail}
 use Rattle.wtf_overlay.specs.declared.part.Part.{Part}
 use Rattle.wtf_overlay.specs.declared.part.Part.TheVariants.{Zero, Held}
 use Rattle.wtf_overlay.specs.declared.part.Entry.{Entry}
 use Rattle.wtf_overlay.specs.Origin.{Place, part_origin, over, origin_from, origin}
 use Rattle.wtf_overlay.specs.Compact.{Neighbours, IsCompact, could_be_one, is_held}
-use Rattle.wtf_overlay.specs.Joins.{IsJoin, Dropped, Pushed, Joined, IsPut}
+use Rattle.wtf_overlay.specs.Joins.{IsJoin, IsPut}
 use Rattle.wtf_overlay.specs.Runs.{IsRunIn, IsRun}
 use Rattle.wtf_overlay.proofs.Origins.{origin_from-append, over_before, over_after, over_within}
-use Rattle.wtf_overlay.proofs.Building.{IsRunIn-order, IsRunIn-lower, run_after}
+use Rattle.wtf_overlay.proofs.Building.{IsRunIn-lower, run_after}
 
 abbrev Held_all : List Entry → Type 0
 Held_all es = All (λ (e : Entry). is_held e.part ≡ true) es

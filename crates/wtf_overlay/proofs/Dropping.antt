@@ -1,5 +1,5 @@
 -- The entries of a run from a place on, and up to one.
-use Rattle.std.proofs.Common.{◌≡◌, ℕ, Bool, zero, suc, ◌+◌, ◌<◌, ◌≤◌, List, [], ◌∷◌, sym, ◌∙◌, subst, arith, length, take, drop, get_or}
+use Rattle.std.proofs.Common.{◌≡◌, ℕ, Bool, zero, suc, ◌+◌, ◌<◌, ◌≤◌, List, [], ◌∷◌, ◌∙◌, subst, arith, length, take, drop, get_or}
 use Rattle.wtf_overlay.specs.declared.part.Entry.{Entry}
 use Rattle.wtf_overlay.specs.Origin.{over}
 use Rattle.wtf_overlay.specs.Runs.{IsRunIn, SameFrom, SameUpTo}

@@ -1,7 +1,6 @@
 -- The edges of runs that are built from left to right.
-use Rattle.std.proofs.Common.{◌≡◌, ℕ, ◌+◌, ◌<◌, ◌≤◌, ◌++◌, ◌⊎◌, Bool, true, List, [], ◌∷◌, ap, ◌∙◌, arith, inl, inr, max, ◌||◌, nat_eq, nat_le, nat_lt, if◌then◌else◌}
-use Rattle.std.proofs.lemmas.Bool.{cases_lt, eqb-true, leb-true, or_cases}
-use Rattle.std.proofs.lemmas.Bool.Decides.{nat_tests}
+use Rattle.std.proofs.Common.{◌≡◌, ℕ, ◌+◌, ◌<◌, ◌++◌, ◌⊎◌, Bool, true, List, [], ◌∷◌, ap, ◌∙◌, arith, inl, inr, max, ◌||◌, nat_eq}
+use Rattle.std.proofs.lemmas.Bool.{cases_lt, eqb-true, or_cases}
 use Rattle.wtf_overlay.specs.Borders.{borders_above}
 use Rattle.wtf_overlay.proofs.Borders.{one_test, one_more, borders_above-le}
 use Rattle.wtf_overlay.specs.declared.part.Entry.{Entry}

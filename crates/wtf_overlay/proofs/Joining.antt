@@ -1,6 +1,5 @@
 -- Slices and entries that are joined.
-use Rattle.std.proofs.Common.{◌≡◌, ℕ, ◌+◌, ◌-◌, ◌<◌, ◌≤◌, ◌^◌, true, false, Bool, List, [], ◌∷◌, map, refl, ap, sym, ◌∙◌, arith, nat_eq, ◌&&◌, zero, ◌↔◌}
-use Rattle.std.specs.Prelude.{IsSome, IsTrue, Option, None, Some}
+use Rattle.std.proofs.Common.{◌≡◌, ℕ, ◌+◌, ◌-◌, ◌≤◌, true, List, [], ◌∷◌, map, refl, ap, sym, ◌∙◌, arith, nat_eq, ◌&&◌}
 use Rattle.std.proofs.lemmas.Bool.{and_parts, eqb-true}
 use Rattle.wtf_base.specs.declared.pointer.Pointer.{Pointer}
 use Rattle.wtf_base.specs.declared.slice.Slice.{Slice}
@@ -13,7 +12,6 @@ use Rattle.wtf_overlay.specs.declared.part.Part.{Part}
 use Rattle.wtf_overlay.specs.declared.part.Part.TheVariants.{Zero, Held}
 use Rattle.wtf_overlay.specs.declared.part.Entry.{Entry}
 use Rattle.wtf_overlay.specs.Origin.{place_in, part_origin}
-use Rattle.wtf_overlay.specs.Lengths.{HasLength}
 use Rattle.wtf_overlay.specs.Compact.{could_be_one, follows_part, is_held}
 use Rattle.wtf_overlay.specs.Joins.{IsJoin}
 

@@ -1,5 +1,5 @@
 -- Compact lists: the shortest form that a region's list is brought to.
-use Rattle.std.specs.Prelude.{◌≡◌, ⊤, ℕ, ◌+◌, ◌≤◌, ◌&&◌, nat_eq, Bool, true, false, List, [], ◌∷◌}
+use Rattle.std.specs.Prelude.{◌≡◌, ⊤, ◌+◌, ◌≤◌, ◌&&◌, nat_eq, Bool, true, false, List, [], ◌∷◌}
 use Rattle.std.specs.List.{All}
 use Rattle.wtf_base.specs.Slices.{pointers_of}
 use Rattle.wtf_base.specs.Pointers.{all_follow_on}

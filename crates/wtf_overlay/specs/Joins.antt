@@ -1,5 +1,5 @@
 -- Entries that are put after others, joined with the last one where they could be one.
-use Rattle.std.specs.Prelude.{◌≡◌, ◌⊎◌, ◌++◌, ℕ, ◌+◌, ◌-◌, ◌<◌, ◌≤◌, true, false, List, [], ◌∷◌, Option, Some, None}
+use Rattle.std.specs.Prelude.{◌≡◌, ◌⊎◌, ◌++◌, ℕ, ◌+◌, ◌-◌, ◌≤◌, true, false, List, [], ◌∷◌, Option, Some, None}
 use Rattle.wtf_overlay.specs.declared.part.Entry.{Entry}
 use Rattle.wtf_overlay.specs.Origin.{part_origin}
 use Rattle.wtf_overlay.specs.Compact.{could_be_one, is_held}

@@ -1,8 +1,8 @@
-use Rattle.std.proofs.Common.{◌≡◌, ◌++◌, ◌∷◌, [], rules, sym, subst, ap, ◌∙◌, arith, length}
+use Rattle.std.proofs.Common.{◌≡◌, ◌∷◌, rules, subst}
 use Rattle.std.proofs.lemmas.List.{append-nil}
 use Rattle.wtf_overlay.specs.Runs.{IsRun}
 use Rattle.wtf_overlay.proofs.Building.{nothing}
-use Rattle.wtf_overlay.proofs.Compacts.{Compacting, Compacting-init, Compacting-done, after_put}
+use Rattle.wtf_overlay.proofs.Compacts.{Compacting-done, after_put}
 use Rattle.wtf_overlay.proofs.compacting.compacted.Goals as goal
 
 pub loop-e-preserved : goal.loop-e-preserved

@@ -1,4 +1,3 @@
-use Rattle.std.proofs.Common.{◌≡◌, ◌∙◌}
 use Rattle.wtf_overlay.proofs.Dropping.{IsRunIn-take, EdgesIn-take}
 use Rattle.wtf_overlay.proofs.finding.entries_within.Goals as goal
 

@@ -1,4 +1,4 @@
-use Rattle.std.proofs.Common.{◌≡◌, ◌+◌, ◌<◌, ◌≤◌, [], ◌∷◌, ap, refl, ◌∙◌, arith, length, length-append, rules, inl, inr}
+use Rattle.std.proofs.Common.{◌≡◌, ◌+◌, ◌<◌, ◌≤◌, ◌∷◌, ap, refl, ◌∙◌, arith, rules, inl, inr}
 use Rattle.wtf_overlay.proofs.Edging.{EdgesIn-push}
 use Rattle.wtf_overlay.specs.Runs.{laid_over}
 use Rattle.wtf_overlay.proofs.Building.{nothing, Built-push, same_rest}

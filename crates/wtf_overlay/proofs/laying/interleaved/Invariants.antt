@@ -1,4 +1,4 @@
-use Rattle.std.proofs.Common.{◌≡◌, ℕ, ◌*◌, ◌+◌, ◌≤◌, ◌^◌, length, Bool, true, ◌⊎◌}
+use Rattle.std.proofs.Common.{◌≡◌, ℕ, ◌^◌, length, Bool, true, ◌⊎◌}
 use Rattle.wtf_overlay.specs.Edges.{EdgesIn}
 use Rattle.wtf_overlay.specs.Runs.{IsRun, IsRunIn, laid_over, SameFrom, Built}
 use Rattle.wtf_overlay.proofs.laying.interleaved.Given as goal

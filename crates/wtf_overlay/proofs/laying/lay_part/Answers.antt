@@ -1,4 +1,4 @@
-use Rattle.std.proofs.Common.{◌≡◌, ◌+◌, ◌<◌, [], ◌∷◌, ap, ◌∙◌, arith, inl, inr, length, length-append, rules, true}
+use Rattle.std.proofs.Common.{◌≡◌, ◌+◌, ◌<◌, ◌∷◌, ap, ◌∙◌, arith, inl, inr, rules, true}
 use Rattle.wtf_overlay.proofs.Edging.{edge_piece}
 use Rattle.wtf_overlay.proofs.Building.{nothing, lay_gap, lay_piece, lay_rest, run_rest, same_rest}
 use Rattle.wtf_overlay.proofs.laying.lay_part.Goals as goal

@@ -1,4 +1,4 @@
-use Rattle.std.proofs.Common.{◌≡◌, ℕ, ◌+◌, ◌≤◌, ◌^◌, length, List, Bool, true, ◌⊎◌}
+use Rattle.std.proofs.Common.{◌≡◌, ℕ, ◌≤◌, length, List, Bool, true, ◌⊎◌}
 use Rattle.wtf_overlay.specs.Edges.{EdgesIn}
 use Rattle.wtf_overlay.specs.Origin.{Place}
 use Rattle.wtf_overlay.specs.Runs.{IsRun, SameFrom, Tells, Built}

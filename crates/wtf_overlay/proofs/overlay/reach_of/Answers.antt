@@ -1,6 +1,4 @@
-use Rattle.std.proofs.Common.{◌≡◌, ◌++◌, ◌∷◌, ◌+◌, [], rules, sym, subst}
-use Rattle.wtf_overlay.specs.Clips.{Within}
-use Rattle.wtf_overlay.specs.Runs.{IsRun}
+use Rattle.std.proofs.Common.{◌≡◌, ◌++◌, ◌∷◌, [], rules}
 use Rattle.wtf_overlay.proofs.Wholes.{within_last}
 use Rattle.wtf_overlay.proofs.overlay.reach_of.Goals as goal
 

@@ -1,4 +1,4 @@
-use Rattle.std.proofs.Common.{ℕ, Bool, ◌^◌, length}
+use Rattle.std.proofs.Common.{ℕ, Bool, length}
 use Rattle.wtf_overlay.specs.Runs.{IsRun, SameFrom}
 use Rattle.wtf_overlay.specs.Edges.{EdgesIn}
 use Rattle.wtf_overlay.proofs.planning.past.Given as goal

@@ -1,4 +1,4 @@
-use Rattle.std.proofs.Common.{◌≡◌, ◌⊎◌, ◌+◌, ◌-◌, ◌≤◌, ◌^◌, length, List}
+use Rattle.std.proofs.Common.{◌≡◌, ◌⊎◌, ◌+◌, ◌-◌, ◌≤◌, length, List}
 use Rattle.wtf_overlay.specs.declared.part.Entry.{Entry}
 use Rattle.wtf_overlay.specs.Origin.{origin, Plans}
 use Rattle.wtf_overlay.specs.Borders.{borders_above}

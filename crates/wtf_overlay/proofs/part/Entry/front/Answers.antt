@@ -1,6 +1,6 @@
-use Rattle.std.proofs.Common.{◌≡◌, ◌∙◌, ap, subst, refl}
+use Rattle.std.proofs.Common.{◌≡◌, ◌∙◌, subst}
 use Rattle.wtf_overlay.specs.Parts.{IsCut}
-use Rattle.wtf_overlay.specs.Clips.{part_front, below_end, below_end_some, below_end_within}
+use Rattle.wtf_overlay.specs.Clips.{below_end, below_end_some, below_end_within}
 use Rattle.wtf_overlay.proofs.Clipping.{clip_entry_front, cut_part_front}
 use Rattle.wtf_overlay.proofs.part.Entry.front.Goals as goal
 

@@ -1,4 +1,4 @@
-use Rattle.std.proofs.Common.{◌≡◌, ◌+◌, true, refl, subst, sym, arith, ◌∙◌}
+use Rattle.std.proofs.Common.{◌≡◌, refl, subst, arith}
 use Rattle.wtf_base.specs.Slices.{len_of}
 use Rattle.wtf_overlay.specs.Lengths.{HasLength}
 use Rattle.wtf_overlay.proofs.Joining.{IsJoin-of}
