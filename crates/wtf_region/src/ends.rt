@@ -44,12 +44,14 @@ fn end_told(summary: Summary) -> u32
     }
 }
 
-/// The number of a file's last region, 0 where it is missing. Nothing is recorded.
-fn peek_last(kv: &Kv<Key, Value>, at: &Attempt<Key, Value>, inode: InodeId) -> u16
-    requires { IsTrue (is_pinned kv.now at.now.base) }
-    ensures { result ≡ (file_of inode (seen kv.now at.now)).last }
+/// The number of a file's last region, 0 where it is missing. Nothing is recorded. Later looks walk
+/// no changes of this number then.
+fn settled_last(kv: &Kv<Key, Value>, at: &mut Attempt<Key, Value>, inode: InodeId) -> u16
+    requires { IsTrue (is_pinned kv.now at.old.base) }
+    ensures value { result ≡ (file_of inode (seen kv.now at.old)).last }
+    ensures same { at.new ≡ at.old }
 {
-    last_told(at.summary(kv, &Key::Inode(inode)))
+    last_told(at.settled_summary(kv, &Key::Inode(inode)))
 }
 
 /// Where a region of a file ends, 0 where it is missing. Nothing is recorded. Later looks walk no
@@ -63,13 +65,13 @@ fn settled_end(kv: &Kv<Key, Value>, at: &mut Attempt<Key, Value>, inode: InodeId
 }
 
 /// Where a file ends; a missing one ends at 0. Nothing is recorded. Later looks walk no changes of
-/// its last region then.
+/// its last region's number nor of its last region then.
 pub fn file_end(kv: &Kv<Key, Value>, at: &mut Attempt<Key, Value>, inode: InodeId) -> FileEnd
     requires { IsTrue (is_pinned kv.now at.old.base) }
     ensures end { IsFileEnd (file_of inode (seen kv.now at.old)) result }
     ensures same { at.new ≡ at.old }
 {
-    let region = peek_last(kv, at, inode);
+    let region = settled_last(kv, at, inode);
     let off = settled_end(kv, at, inode, region);
     FileEnd { region, off }
 }
