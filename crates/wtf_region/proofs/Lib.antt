@@ -4,4 +4,5 @@ pub mod PieceEdits
 pub mod ShowLaws
 pub mod InsideLaws
 mod RegionKeys
+mod Places
 mod Summed

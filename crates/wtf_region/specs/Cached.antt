@@ -1,5 +1,5 @@
 -- Places that are remembered.
-use Rattle.std.specs.Prelude.{◌≡◌, List}
+use Rattle.std.specs.Prelude.{◌≡◌, List, Some, option_map, slice_get}
 use Rattle.std.specs.List.{Contains}
 use Rattle.wtf_ring.specs.Points.{RingView, PlaceView, place_of}
 use Rattle.wtf_ring.specs.Orders.{IsOrder}
@@ -13,3 +13,7 @@ pub record IsPlaceOf (ring : RingView) (key : RegionKey) (place : PlaceView) : T
 -- each place that is remembered is that of the ring
 abbrev pub AreFrom : RingView → List (RegionKey × PlaceView) → Type 0
 AreFrom ring entries = (e : RegionKey × PlaceView) → Contains entries e → IsPlaceOf ring e.0 e.1
+
+-- the region is the first that is remembered
+abbrev pub BeginsAt : RegionKey → List (RegionKey × PlaceView) → Type 0
+BeginsAt key entries = option_map (λ e. e.0) (slice_get entries 0) ≡ Some key

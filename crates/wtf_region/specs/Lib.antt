@@ -1,4 +1,5 @@
 pub mod Cached
+pub mod Lending
 pub mod Devs
 pub mod Edited
 pub mod Showing

@@ -45,12 +45,6 @@ pub fn store_bytes<S: SliceStore>(
         inode,
         region: (off / dev.settings.region as u64) as u16,
     };
-    match dev.cache.place(dev.ring, key) {
-        Some(place) => dev.replicas.create(dev.shelf, place, bytes),
-        None => {
-            dev.cache.learn(dev.ring, key);
-            let place = dev.ring.order(key.inode, key.region);
-            dev.replicas.create(dev.shelf, &place, bytes)
-        }
-    }
+    let place = dev.cache.place(dev.ring, key);
+    dev.replicas.create(dev.shelf, place, bytes)
 }
