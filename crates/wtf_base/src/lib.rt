@@ -20,6 +20,3 @@ pub use memory::OutOfMemory;
 pub use pointer::Pointer;
 pub use settings::Settings;
 pub use slice::Slice;
-
-#[cfg(test)]
-mod tests;

@@ -5,6 +5,3 @@
 mod chunks;
 
 pub use chunks::{CHUNK, Chunks};
-
-#[cfg(test)]
-mod tests;

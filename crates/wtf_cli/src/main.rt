@@ -5,16 +5,9 @@ ghost use Rattle.std.specs.Prelude.{◌≡◌, drop, length, replicate, IfOk, If
 ghost use Rattle.std.specs.Process.{exit_status};
 ghost use Rattle.wtf_cli.specs.Program.{IsStatus, empty_store, open_status};
 
-mod opening;
-mod program;
-#[cfg(test)]
-mod rows;
-mod service;
-#[cfg(test)]
-mod tests;
+mod status;
 
-use crate::program::{NO_DIRECTORY, line_of, open_status, wtf};
-use crate::service::{OUT_OF_MEMORY, WORDS_REFUSED, WRITING_FAILED};
+use crate::status::{NO_DIRECTORY, line_of, open_status};
 use std::alloc::Global;
 use std::env::{self, Env};
 use std::fs::File;
@@ -23,6 +16,7 @@ use std::process::ExitCode;
 use wtf_base::OutOfMemory;
 use wtf_dev::{Keeper, MemKeeper, MemStore, Shelf, SliceStore};
 use wtf_real::{DirStore, FileKeeper, OpenFault, streams};
+use wtf_serve::{OUT_OF_MEMORY, WORDS_REFUSED, WRITING_FAILED, wtf};
 
 /// How many stores there are.
 const STORES: u8 = 16;

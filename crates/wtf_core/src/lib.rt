@@ -13,10 +13,3 @@ mod tables;
 mod tree;
 
 pub use store::Core;
-
-#[cfg(test)]
-mod load_tests;
-#[cfg(test)]
-mod saving_tests;
-#[cfg(test)]
-mod tree_tests;

@@ -26,6 +26,3 @@ pub use mem_store::MemStore;
 pub use shelf::Shelf;
 pub use store::SliceStore;
 pub use stream::{Sink, Source};
-
-#[cfg(test)]
-mod tests;

@@ -21,6 +21,3 @@ mod writer;
 pub use error::LoadError;
 pub use loads::{Loaded, check, load};
 pub use saving::save;
-
-#[cfg(test)]
-mod tests;

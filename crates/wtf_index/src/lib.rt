@@ -15,6 +15,3 @@ pub use files::{create, unlink};
 pub use folders::{list, mkdir, rmdir};
 pub use looks::look_up;
 pub use moves::rename;
-
-#[cfg(test)]
-mod tests;

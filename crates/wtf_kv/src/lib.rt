@@ -19,6 +19,3 @@ pub use changes::{Change, Changes};
 pub use ready::{NotReady, Ready};
 pub use rows::Versions;
 pub use store::Kv;
-
-#[cfg(test)]
-mod tests;

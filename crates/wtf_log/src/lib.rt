@@ -10,6 +10,3 @@ mod same;
 
 pub use error::LogError;
 pub use log::Log;
-
-#[cfg(test)]
-mod tests;

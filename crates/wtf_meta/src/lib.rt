@@ -7,6 +7,3 @@ mod session;
 
 pub use session::{Handle, Session};
 pub use wtf_values::{Delta, Key, Name, NameSet, Node, Pieces, RegionValue, Spill, Summary, Value};
-
-#[cfg(test)]
-mod tests;

@@ -22,6 +22,3 @@ pub use event::{Event, Holder, Verb};
 pub use lists::{Names, Paths, Row, Rows};
 pub use op::{JobKind, Op, Seek};
 pub use same::is_same_answer;
-
-#[cfg(test)]
-mod tests;

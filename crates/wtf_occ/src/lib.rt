@@ -11,6 +11,3 @@ mod write_set;
 
 pub use attempt::{Attempt, Mark};
 pub use tried::Tried;
-
-#[cfg(test)]
-mod tests;

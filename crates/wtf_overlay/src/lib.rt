@@ -15,6 +15,3 @@ mod tails;
 
 pub use overlay::Overlay;
 pub use part::{Entry, Part, Piece};
-
-#[cfg(test)]
-mod tests;

@@ -9,6 +9,3 @@ mod slashes;
 
 pub use error::PathError;
 pub use path::Path;
-
-#[cfg(test)]
-mod tests;

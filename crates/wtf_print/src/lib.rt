@@ -11,6 +11,3 @@ mod refusals;
 pub use error::TextError;
 pub use parse::parse_answer;
 pub use print::{print_answer, print_settings};
-
-#[cfg(test)]
-mod tests;

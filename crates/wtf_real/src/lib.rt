@@ -16,6 +16,3 @@ pub use folder::DirStore;
 pub use image::FileKeeper;
 pub use sink::OutSink;
 pub use source::{InSource, streams};
-
-#[cfg(test)]
-mod tests;

@@ -24,6 +24,3 @@ pub use list::region_list;
 pub use reading::{file_len, pieces};
 pub use store::store_bytes;
 pub use wtf_meta::{Handle, Session};
-
-#[cfg(test)]
-mod tests;

@@ -11,6 +11,3 @@ mod replicas;
 mod sync;
 
 pub use replicas::Replicas;
-
-#[cfg(test)]
-mod tests;

@@ -10,6 +10,3 @@ mod ring;
 
 pub use place::Place;
 pub use ring::Ring;
-
-#[cfg(test)]
-mod tests;

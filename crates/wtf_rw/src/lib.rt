@@ -15,6 +15,3 @@ mod writes;
 pub use calls::call;
 pub use handles::{Spot, handle_of};
 pub use op::{Done, Given, RwOp};
-
-#[cfg(test)]
-mod tests;

@@ -16,6 +16,3 @@ pub use error::{LineError, ReadError};
 pub use limits::{LINE_BYTES, SCRIPT_BYTES};
 pub use lines::{Line, Lines};
 pub use parse::parse_line;
-
-#[cfg(test)]
-mod tests;

@@ -88,6 +88,3 @@ pub fn free<S: SliceStore>(store: &mut S, file: u8, at: u64, len: u64) -> Result
 {
     store.punch(file, at, len)
 }
-
-#[cfg(test)]
-mod tests;

@@ -16,6 +16,3 @@ mod yanks;
 
 pub use calls::call;
 pub use op::SliceOp;
-
-#[cfg(test)]
-mod tests;

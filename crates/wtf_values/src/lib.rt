@@ -22,6 +22,3 @@ pub use pieces::Pieces;
 pub use region::{RegionValue, Spill};
 pub use summary::Summary;
 pub use value::{Delta, Node, Value};
-
-#[cfg(test)]
-mod tests;

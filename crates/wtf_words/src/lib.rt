@@ -13,8 +13,6 @@ use wtf_base::Settings;
 use wtf_lex::number_within;
 
 mod examples;
-#[cfg(test)]
-mod tests;
 
 /// Why no settings came of the words.
 #[derive(Clone, Copy, Debug, PartialEq, Eq, Error)]

@@ -1,0 +1,2 @@
+//! Tests, from outside, of files and transactions.
+#![tactic(auto)]

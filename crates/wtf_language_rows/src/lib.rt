@@ -1,0 +1,2 @@
+//! Tests, from outside, of the language of scripts, and what stands below it.
+#![tactic(auto)]

@@ -1,0 +1,2 @@
+//! Tests, from outside, of lists of pointers and versions.
+#![tactic(auto)]

@@ -1,0 +1,2 @@
+//! Tests, from outside, of whole runs, and the image.
+#![tactic(auto)]

@@ -1,0 +1,75 @@
+-- What a line makes of the keeper, by what the core promises.
+use Rattle.std.proofs.Common.{◌≡◌, ℕ, List, [], ◌∷◌, ◌++◌, Ok, sym, ◌∙◌, ap, subst, inl, inr}
+use Rattle.wtf_base.specs.declared.settings.Settings.{Settings}
+use Rattle.wtf_dev.specs.Keep.{KeeperView, KeeperKept}
+use Rattle.wtf_dev.specs.Store.{StoreKind}
+use Rattle.wtf_replica.specs.Downs.{is_down}
+use Rattle.wtf_replica.specs.Spans.{Span, span}
+use Rattle.wtf_model.specs.declared.answer.Answer.{Answer}
+use Rattle.wtf_model.specs.declared.answer.Answer.TheVariants as answer
+use Rattle.wtf_model.specs.declared.event.Event.{Event}
+use Rattle.wtf_model.specs.declared.event.Event.TheVariants as event
+use Rattle.wtf_meta.specs.Contents.{Told}
+use Rattle.wtf_image.specs.Images.{HasText}
+use Rattle.wtf_image.specs.Rows.{ImageRows}
+use Rattle.wtf_image.specs.Texts.{image_text}
+use Rattle.wtf_core.specs.Views.{TablesView, CoreView}
+use Rattle.wtf_core.specs.Keeping.{KeeperSpan, keeper_span, KeeperTurn, HasSaved}
+use Rattle.wtf_core.specs.Saves.{SaveTurn, AreUp}
+use Rattle.wtf_core.specs.Turns.{IsLine}
+use Rattle.wtf_serve.specs.Cores.{engine}
+use Rattle.wtf_serve.specs.Engines.{Step, step, Saves, Keeps}
+use Rattle.wtf_serve.specs.Stocks.{stock, KeeperGoesOn, HandsOver, HoldsSome}
+
+-- an image has bytes
+text_some : (rows : ImageRows) (bytes : List ℕ) → HasText rows bytes → bytes ≡ [] → ⊥
+unfolding image_text
+text_some rows bytes text none = let never : image_text rows ≡ [] = sym text.text ∙ none in cc
+
+saved_some : {S : Type 0} (kind : StoreKind S) (t : Span S) (k : KeeperSpan) (settings : Settings) (tables : TablesView)
+    → HasSaved kind t k settings tables → HoldsSome k.before k.after
+saved_some kind t k settings tables saved tells =
+    (saved.hands.bytes, saved.held tells, text_some saved.hands.image.rows saved.hands.bytes saved.hands.image.text)
+
+-- A kind of keeper, and a line over two states of one
+module _ {K : Type 0} (view : K → KeeperView) (follows : K → K → List (List ℕ) → Type 0) (itself : (s : K) → follows s s [])
+    (keeps : (a b : K) (xs : List (List ℕ)) → follows a b xs → KeeperKept (view a) (view b) xs) (old new : K) where
+  pub handed_on : HandsOver (follows old new) → KeeperGoesOn (view old) (view new)
+  handed_on (images, f) = let kept = keeps old new images f in record { faults = kept.faults; tells = kept.tells }
+
+  pub handed_none : new ≡ old → HandsOver (follows old new)
+  handed_none same = ([], subst (λ (k : K). follows old k []) (sym same) (itself old))
+
+  pub handed_join : (mid : K) → ((a b c : K) (xs ys : List (List ℕ)) → follows a b xs → follows b c ys → follows a c (xs ++ ys))
+      → HandsOver (follows old mid) → HandsOver (follows mid new) → HandsOver (follows old new)
+  handed_join mid joins (xs, f) (ys, g) = (xs ++ ys, joins old mid new xs ys f g)
+
+  module _ {S : Type 0} (kind : StoreKind S) (t : Span S) (settings : Settings) (was is : TablesView) where
+    save_handed : (a : Answer) → KeeperTurn kind t (keeper_span view follows old new) settings was is event.Save a → HandsOver (follows old new)
+    save_handed (answer.Saved n) turn = (turn.hands.bytes ∷ [], turn.hands.handed)
+    save_handed answer.FaultSave (inl failed) = handed_none failed.untouched
+    save_handed answer.FaultSave (inr failed) = (failed.hands.bytes ∷ [], failed.hands.handed)
+    save_handed a turn = handed_none turn
+
+    pub turn_handed : (e : Event) (a : Answer) → KeeperTurn kind t (keeper_span view follows old new) settings was is e a → HandsOver (follows old new)
+    turn_handed event.Save a turn = save_handed a turn
+    turn_handed e a turn = handed_none turn
+
+-- what the core promises of a line is what a run is given of it
+module _ {K S : Type 0} (view : K → KeeperView) (follows : K → K → List (List ℕ) → Type 0) (old new : K) (kind : StoreKind S) (before after : List S) (core core' : CoreView) where
+  abbrev t : Step S CoreView
+  t = step (stock before (view old)) (stock after (view new)) core core'
+
+  abbrev Turns : Event → Answer → Type 0
+  Turns e a = KeeperTurn kind (span (is_down core.replicas) before after) (keeper_span view follows old new) core.settings core.tables core'.tables e a
+
+  save_kept : (Up : Type 0) (tables : TablesView) (a : Answer) → Turns event.Save a → SaveTurn Up core.tables tables a → Saves (engine kind) t a
+  save_kept Up tables (answer.Saved n) turn is =
+      saved_some kind (span (is_down core.replicas) before after) (keeper_span view follows old new) core.settings core.tables turn
+  save_kept Up tables answer.FaultSave (inl failed) is = inl failed.out
+  save_kept Up tables answer.FaultSave (inr failed) is = inr failed.rose
+  save_kept Up tables a turn is = absurd is
+
+  pub event_kept : (Telling : Type 0) (told : Told × Told) (e : Event) (a : Answer) → Turns e a → IsLine Telling told core core' e a → Keeps (engine kind) t (Ok e) a
+  event_kept Telling told event.Save a turn line = save_kept (AreUp core.replicas core.settings.servers) line.answered.tables a turn line.turn.0
+  event_kept Telling told e a turn line = ap view turn

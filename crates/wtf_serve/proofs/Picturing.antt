@@ -1,0 +1,59 @@
+-- What images stand for, over stores that go on, and at the begin of a run.
+use Rattle.std.proofs.Common.{◌≡◌, ℕ, zero, suc, List, [], ◌∷◌, Some, refl, sym, ◌∙◌, ap, subst, arith, inl, inr}
+use Rattle.std.specs.List.{Contains}
+use Rattle.wtf_dev.specs.Store.{StoreKind, KindLaws}
+use Rattle.wtf_dev.specs.Each.{EachFollows}
+use Rattle.wtf_dev.specs.Keep.{KeeperView}
+use Rattle.wtf_replica.specs.Bytes.{byte_at}
+use Rattle.wtf_model.specs.Tree.{Tree}
+use Rattle.wtf_meta.specs.Contents.{Told}
+use Rattle.wtf_meta.proofs.Telling.{TellsOn}
+use Rattle.wtf_replay.proofs.Later.{tells_on, stands_later}
+use Rattle.wtf_core.specs.Pictured.{IsImageOfTree, IsImageOfOne, HoldsTree}
+use Rattle.wtf_serve.specs.Openings.{StartsFrom}
+use Rattle.wtf_serve.specs.Stocks.{Stock, stock, HoldsOneOf}
+
+-- over stores that tell more
+tree_on : (told later : Told) (bytes : List ℕ) (t : Tree) → TellsOn told later → IsImageOfTree told bytes t → IsImageOfTree later bytes t
+tree_on told later bytes t on is = record {
+  rows = is.rows;
+  text = is.text;
+  map = is.map;
+  says = is.says;
+  stands = λ tx le. stands_later is.rows.header.region told later tx 0 is.map t on (is.stands tx le);
+}
+
+one_on : (told later : Told) (bytes : List ℕ) (may : List Tree) → TellsOn told later → IsImageOfOne told bytes may → IsImageOfOne later bytes may
+one_on told later bytes may on (inl none) = inl none
+one_on told later bytes may on (inr (t, listed, is)) = inr (t, listed, tree_on told later bytes t on is)
+
+-- a keeper that is as it was holds what it held, over stores that go on
+pub holds_on : {S : Type 0} {kind : StoreKind S} → KindLaws kind → (old new : Stock S) (may : List Tree) → EachFollows kind old.shelf new.shelf []
+    → new.keeper ≡ old.keeper → HoldsOneOf kind old may → HoldsOneOf kind new may
+holds_on {kind = kind} laws old new may e same (bytes, held, is) =
+    (bytes, ap (λ (k : KeeperView). k.held) same ∙ held, one_on (byte_at kind old.shelf) (byte_at kind new.shelf) bytes may (tells_on laws e) is)
+
+-- the tree that a run starts from
+starts_one : (told : Told) (bytes : List ℕ) (t : Tree) → StartsFrom told bytes t → IsImageOfOne told bytes (t ∷ [])
+starts_one told [] t is = inl (refl, (0, omega arith, is))
+starts_one told (b ∷ bytes) t is = inr (t, (0, omega arith, refl), is)
+
+some_same : (a b : List ℕ) → Some a ≡ Some b → a ≡ b
+some_same a b e = cc
+
+pub starts_holds : {S : Type 0} (kind : StoreKind S) (shelf : List S) (k : KeeperView) (bytes : List ℕ) (t : Tree) → k.held ≡ Some bytes
+    → StartsFrom (byte_at kind shelf) bytes t → HoldsOneOf kind (stock shelf k) (t ∷ [])
+starts_holds kind shelf k bytes t is from = (bytes, is, starts_one (byte_at kind shelf) bytes t from)
+
+-- what is held are these bytes
+pub image_held : (told : Told) (k : KeeperView) (bytes : List ℕ) (may : List Tree) → HoldsTree k told may → k.held ≡ Some bytes → IsImageOfOne told bytes may
+image_held told k bytes may (held, held_is, is) bytes_are = subst (λ (x : List ℕ). IsImageOfOne told x may) (some_same held bytes (sym held_is ∙ bytes_are)) is
+
+-- the one tree that an image may stand for
+only_tree : (t u : Tree) → Contains (t ∷ []) u → t ≡ u
+only_tree t u (zero, below, is) = is
+only_tree t u (suc n, below, is) = absurd (omega (arith, below))
+
+pub one_alone : (told : Told) (bytes : List ℕ) (t : Tree) → (bytes ≡ [] → ⊥) → IsImageOfOne told bytes (t ∷ []) → IsImageOfTree told bytes t
+one_alone told bytes t some (inl none) = absurd (some none.0)
+one_alone told bytes t some (inr (u, listed, is)) = subst (λ (x : Tree). IsImageOfTree told bytes x) (sym (only_tree t u listed)) is

@@ -1,0 +1,131 @@
+-- With which core a run begins, and why it does not.
+use Rattle.std.proofs.Common.{◌≡◌, ◌≢◌, ◌<◌, ◌≤◌, ℕ, Bool, false, List, [], ◌∷◌, length, refl, sym, ◌∙◌, ap, subst, arith}
+use Rattle.std.proofs.lemmas.List.{append-nil}
+use Rattle.std.proofs.Math.Path.{fun_ext}
+use Rattle.wtf_base.specs.declared.settings.Settings.{Settings}
+use Rattle.wtf_dev.specs.Store.{StoreKind}
+use Rattle.wtf_overlay.specs.Origin.{Place}
+use Rattle.wtf_replica.specs.Bytes.{byte_at}
+use Rattle.wtf_replica.specs.Downs.{is_down}
+use Rattle.wtf_model.specs.Machines.{start}
+use Rattle.wtf_model.specs.Tree.{Tree, root_alone}
+use Rattle.wtf_meta.specs.Contents.{Told}
+use Rattle.wtf_image.specs.declared.error.LoadError.{LoadError}
+use Rattle.wtf_image.specs.declared.error.LoadError.TheVariants as error
+use Rattle.wtf_image.specs.Rows.{ImageRows}
+use Rattle.wtf_image.specs.Images.{HasText}
+use Rattle.wtf_image.specs.Rules.{AreGoodSettings, size_in}
+use Rattle.wtf_image.specs.Texts.{image_text}
+use Rattle.wtf_image.specs.Loading.{IsChecked, IsCheckRefusal, IsRefusal}
+use Rattle.wtf_image.proofs.Forms.{one_image}
+use Rattle.wtf_core.specs.Views.{CoreView}
+use Rattle.wtf_core.specs.Tables.{AreSound}
+use Rattle.wtf_core.specs.Standing.{StandsFor}
+use Rattle.wtf_core.specs.Named.{CoreBytes, IsInside}
+use Rattle.wtf_core.specs.Loading.{IsCoreOf}
+use Rattle.wtf_core.specs.Pictured.{IsImageOfTree}
+use Rattle.wtf_serve.specs.declared.opening.NotOpened.TheVariants.{Image}
+use Rattle.wtf_serve.specs.Beginnings.{IsOpenedBy, IsFewFor, IsUnopenedBy}
+use Rattle.wtf_serve.specs.Cores.{engine}
+use Rattle.wtf_serve.specs.Openings.{new_opening, first}
+use Rattle.wtf_serve.specs.Unopened.{HasServers}
+
+-- bytes are the text of one image
+pub same_rows : (x y : ImageRows) (bytes : List ℕ) → HasText x bytes → HasText y bytes → x ≡ y
+same_rows x y bytes first second = (one_image x y [] first.shape second.shape (sym second.text ∙ first.text ∙ sym (append-nil (image_text x)))).0
+
+-- ---- the core of a keeper that holds nothing
+
+pub new_opened : {S : Type 0} (kind : StoreKind S) (shelf : List S) (settings : Settings) (core : CoreView) → settings.servers ≤ length shelf
+    → core.settings ≡ settings → core.closed ≡ false → core.tables.kv.number ≡ 0 → core.tables.next_tx ≡ 1 → AreSound core.tables
+    → ((told : Told) → StandsFor told core (start settings 0 root_alone)) → ((P : List Place → Bool) → CoreBytes P core)
+    → ((k : ℕ) → is_down core.replicas k ≡ false) → IsOpenedBy (engine kind) settings [] shelf core
+new_opened kind shelf settings core enough settings_is not_closed number next_tx sound stands names up = record {
+  opening = new_opening settings;
+  bytes_are = refl;
+  opens = refl;
+  ready = record {
+    sound = record {
+      not_closed = not_closed;
+      tables = sound;
+      servers = omega (arith, ap (λ (s : Settings). s.servers) settings_is, enough);
+      inside = names _;
+    };
+    settings = settings_is;
+    number = number;
+    next_tx = next_tx;
+    up = fun_ext up;
+    full = λ empty. names _;
+    stands = λ t is. subst (λ (x : Tree). StandsFor (byte_at kind shelf) core (start settings 0 x)) (sym is) (stands (byte_at kind shelf));
+    enough = enough;
+    taken = tt;
+  };
+}
+
+pub new_few : {S : Type 0} (shelf : List S) (settings : Settings) → length shelf < settings.servers → IsFewFor settings [] (length shelf)
+new_few shelf settings few = record { opening = new_opening settings; bytes_are = refl; opens = refl; few = few }
+
+-- ---- the core of an image
+
+-- the settings of the image are those that stores are there for
+enough_for : (size : ℕ → ℕ → ℕ) (image : List ℕ) (core : CoreView) (stores : ℕ) → IsCoreOf size image core → HasServers image stores → core.settings.servers ≤ stores
+enough_for size image core stores is servers = omega (arith, is.settings.servers, servers is.rows is.taken.text is.taken.good)
+
+pub loaded_opened : {S : Type 0} (kind : StoreKind S) (shelf : List S) (asked : Settings) (image : List ℕ) (core : CoreView) → image ≢ []
+    → HasServers image (length shelf) → IsCoreOf (size_in kind shelf) image core → core.closed ≡ false → AreSound core.tables → ((k : ℕ) → is_down core.replicas k ≡ false) → IsInside kind shelf core
+    → ((told : Told) (t : Tree) → IsImageOfTree told image t → StandsFor told core (start core.settings core.tables.kv.number t))
+    → IsOpenedBy (engine kind) asked image shelf core
+loaded_opened kind shelf asked [] core some servers is not_closed sound up inside stands = absurd (some refl)
+loaded_opened kind shelf asked (b ∷ image) core some servers is not_closed sound up inside stands = record {
+  opening = record { bytes = b ∷ image; settings = core.settings; number = core.tables.kv.number; next_tx = core.tables.next_tx };
+  bytes_are = refl;
+  opens = record { rows = is.rows; text = is.taken.text; good = is.taken.good; settings = is.settings; number = is.number; next_tx = is.next_tx };
+  ready = record {
+    sound = record { not_closed = not_closed; tables = sound; servers = enough_for (size_in kind shelf) (b ∷ image) core (length shelf) is servers; inside = inside };
+    settings = refl;
+    number = refl;
+    next_tx = refl;
+    up = fun_ext up;
+    full = λ empty. cc;
+    stands = λ t from. stands (byte_at kind shelf) t from;
+    enough = enough_for (size_in kind shelf) (b ∷ image) core (length shelf) is servers;
+    taken = (is.rows, is.taken);
+  };
+}
+
+-- the servers of an image, by the settings that a check gave
+pub checked_servers : (image : List ℕ) (settings : Settings) (stores : ℕ) → IsChecked image settings → settings.servers ≤ stores → HasServers image stores
+checked_servers image settings stores checked enough = λ x text good.
+    omega (arith, ap (λ (r : ImageRows). r.header.servers) (same_rows x checked.rows image text checked.text), checked.settings.servers, enough)
+
+pub image_few : {S : Type 0} (shelf : List S) (asked settings : Settings) (image : List ℕ) → image ≢ [] → IsChecked image settings → length shelf < settings.servers
+    → IsFewFor asked image (length shelf)
+image_few shelf asked settings [] some checked few = absurd (some refl)
+image_few shelf asked settings (b ∷ image) some checked few = record {
+  opening = record { bytes = b ∷ image; settings = settings; number = checked.rows.header.installs; next_tx = checked.rows.header.next_tx };
+  bytes_are = refl;
+  opens = record { rows = checked.rows; text = checked.text; good = checked.good; settings = checked.settings; number = refl; next_tx = refl };
+  few = few;
+}
+
+pub check_refused : {S : Type 0} (kind : StoreKind S) (shelf : List S) (asked : Settings) (image : List ℕ) (why : LoadError) → image ≢ [] → IsCheckRefusal image why
+    → IsUnopenedBy kind asked image shelf (Image why)
+check_refused kind shelf asked image error.NotAnImage some refusal =
+    record { some = some; refusal = refusal; not_memory = λ e. cc; enough = λ x text good. absurd (refusal x text) }
+check_refused kind shelf asked image error.BadSettings some refusal = record {
+  some = some;
+  refusal = refusal;
+  not_memory = λ e. cc;
+  enough = λ x text good. absurd (refusal.bad (subst (λ (r : ImageRows). AreGoodSettings r) (same_rows x refusal.rows image text refusal.text) good));
+}
+check_refused kind shelf asked image error.BadTree some refusal = absurd refusal
+check_refused kind shelf asked image error.PointerOutside some refusal = absurd refusal
+check_refused kind shelf asked image error.Memory some refusal = tt
+
+pub load_refused : {S : Type 0} (kind : StoreKind S) (shelf : List S) (asked : Settings) (image : List ℕ) (why : LoadError) → image ≢ [] → HasServers image (length shelf)
+    → IsRefusal (size_in kind shelf) image why → IsUnopenedBy kind asked image shelf (Image why)
+load_refused kind shelf asked image error.NotAnImage some enough refusal = record { some = some; refusal = refusal; not_memory = λ e. cc; enough = enough }
+load_refused kind shelf asked image error.BadSettings some enough refusal = record { some = some; refusal = refusal; not_memory = λ e. cc; enough = enough }
+load_refused kind shelf asked image error.BadTree some enough refusal = record { some = some; refusal = refusal; not_memory = λ e. cc; enough = enough }
+load_refused kind shelf asked image error.PointerOutside some enough refusal = record { some = some; refusal = refusal; not_memory = λ e. cc; enough = enough }
+load_refused kind shelf asked image error.Memory some enough refusal = tt

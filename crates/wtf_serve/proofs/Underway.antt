@@ -1,0 +1,117 @@
+-- A run that was opened, on its way.
+use Rattle.std.proofs.Common.{◌≡◌, ◌<◌, ◌≤◌, ◌^◌, ◌++◌, ℕ, Bool, true, false, List, [], ◌∷◌, Some, None, Ok, Err, sym, ◌∙◌, arith, ap, inl, inr}
+use Rattle.std.specs.Prelude.{◌||◌}
+use Rattle.wtf_base.specs.declared.settings.Settings.{Settings}
+use Rattle.wtf_dev.specs.Counts.{Rose}
+use Rattle.wtf_dev.specs.Each.{EachFollows}
+use Rattle.wtf_dev.specs.Keep.{KeeperView}
+use Rattle.wtf_dev.specs.Streams.{SinkView}
+use Rattle.wtf_dev.specs.Store.{KindLaws}
+use Rattle.wtf_serve.specs.declared.service.Stop.{Stop}
+use Rattle.wtf_serve.specs.declared.service.Stop.TheVariants as stop
+use Rattle.wtf_serve.specs.Beginnings.{IsOpenedFrom, Closes}
+use Rattle.wtf_serve.specs.Endings.{Devices, IsKept, Served, stop_status}
+use Rattle.wtf_serve.specs.Engines.{Engine, Step, step}
+use Rattle.wtf_serve.specs.Logs.{first_line}
+use Rattle.wtf_serve.specs.Openings.{Opening, Opens}
+use Rattle.wtf_serve.specs.Passes.{Hand, hand, input, PassIs}
+use Rattle.wtf_serve.specs.Scripts.{end_status, settings_line}
+use Rattle.wtf_serve.specs.Stocks.{Stock, stock, KeeperGoesOn}
+use Rattle.wtf_serve.specs.Turns.{WroteFront}
+use Rattle.wtf_serve.specs.Unopened.{IsRun}
+use Rattle.wtf_serve.proofs.Finishing.{finish_end, finish_stop}
+use Rattle.wtf_serve.proofs.Going.{Going, going_none, going_on}
+use Rattle.wtf_serve.proofs.Unstarted.{unwritten}
+
+-- a run so far, with what opened it
+pub record Underway {S State : Type 0} (engine : Engine S State) (asked : Settings) (start : Devices S) (now : Hand S State) (bad : Bool) : Type 0 where
+  pub opening : Opening
+  pub opens : Opens asked opening.bytes opening
+  pub given : (held : List ℕ) → start.stock.keeper.held ≡ Some held → opening.bytes ≡ held
+  pub going : Going engine opening start now bad
+  pub number : engine.number now.state < 2 ^ 63
+  pub next_tx : engine.next_tx now.state < 2 ^ 63
+
+pub underway : {S State : Type 0} (engine : Engine S State) (asked : Settings) (opening : Opening) (start : Devices S) (now : Hand S State) (bad : Bool)
+    → Opens asked opening.bytes opening → ((held : List ℕ) → start.stock.keeper.held ≡ Some held → opening.bytes ≡ held) → Going engine opening start now bad
+    → Underway engine asked start now bad
+underway engine asked opening start now bad opens given going = record {
+  opening = opening;
+  opens = opens;
+  given = given;
+  going = going;
+  number = omega (arith, going.number, going.room.0);
+  next_tx = omega (arith, going.next_tx, going.room.1);
+}
+
+-- the numbers of an opening leave room
+room_of : (asked : Settings) (bytes : List ℕ) (o : Opening) → Opens asked bytes o → (o.number ≤ 2 ^ 62) × (o.next_tx ≤ 2 ^ 62)
+room_of asked [] o is = (omega (arith, ap (λ (x : Opening). x.number) is), omega (arith, ap (λ (x : Opening). x.next_tx) is))
+room_of asked (b ∷ bytes) o is = (omega (arith, is.number, is.good.installs), omega (arith, is.next_tx, is.good.next_tx))
+
+-- the first line, by the state
+line_of_first : {S State : Type 0} (engine : Engine S State) (o : Opening) (state : State) → engine.settings state ≡ o.settings → engine.number state ≡ o.number
+    → settings_line (engine.settings state) (engine.number state) ≡ first_line o
+line_of_first engine o state settings number =
+    ap (λ (x : Settings). settings_line x (engine.number state)) settings ∙ ap (λ (n : ℕ). settings_line o.settings n) number
+
+-- A run that was opened, at its first line: the text of it went to a sink that was as it had been before.
+module _ {S State : Type 0} (engine : Engine S State) (laws : KindLaws engine.kind) (handed : List (List ℕ) → Type 0) (asked : Settings) (start : Devices S) (keeper' : KeeperView)
+    (state : State) (sink' : SinkView) (text : List ℕ) (o : IsOpenedFrom engine asked start.stock.keeper start.stock.shelf state)
+    (kept : IsKept handed start.stock.keeper keeper') (keeper : KeeperGoesOn start.stock.keeper keeper')
+    (text_is : text ≡ settings_line (engine.settings state) (engine.number state)) (faults : start.sink.faults ≤ sink'.faults) where
+  first_is : text ≡ first_line o.opening
+  first_is = text_is ∙ line_of_first engine o.opening state o.ready.settings o.ready.number
+
+  pub underway_first : ((old : List ℕ) → start.sink.taken ≡ Some old → sink'.taken ≡ Some (old ++ text))
+      → Underway engine asked start (hand (input start.source (record { bytes = []; count = 0; ended = false })) sink' (stock start.stock.shelf keeper') state) false
+  underway_first wrote =
+      underway engine asked o.opening start (hand (input start.source (record { bytes = []; count = 0; ended = false })) sink' (stock start.stock.shelf keeper') state) false o.opens o.given
+      (going_none engine laws o.opening start sink' keeper' state o.ready (room_of asked o.opening.bytes o.opening o.opens) keeper kept.held
+      (λ old e. wrote old e ∙ ap (λ (x : List ℕ). Some (old ++ x)) first_is) faults)
+
+  pub unwritten_first : ((old : List ℕ) → start.sink.taken ≡ Some old → WroteFront old text sink'.taken) → Rose start.sink.faults sink'.faults
+      → IsRun engine.kind handed asked 4 start (record { source = start.source; sink = sink'; stock = stock start.stock.shelf keeper' })
+  unwritten_first cut cause = inr (record {
+    opening = o.opening;
+    opens = o.opens;
+    given = o.given;
+    served = unwritten engine.kind laws handed o.opening start keeper' kept keeper sink' o.ready.enough o.ready.taken
+        (λ old e. let (front, back, all, new) = cut old e in (front, back, sym first_is ∙ all, new)) cause faults;
+  })
+
+-- no run that has begun its lines ends as one with few stores
+pub stop_not_few : (why : Stop) → stop_status why ≡ 2 → ⊥
+stop_not_few stop.Unread e = omega (arith, e)
+stop_not_few stop.Unwritten e = omega (arith, e)
+stop_not_few stop.TooMuch e = omega (arith, e)
+stop_not_few stop.Memory e = omega (arith, e)
+
+end_not_few : (bad : Bool) → end_status bad ≡ 2 → ⊥
+end_not_few true e = omega (arith, e)
+end_not_few false e = omega (arith, e)
+
+pub close_not_few : {S State : Type 0} (engine : Engine S State) (t : Step S State) (bad : Bool) (status : ℕ) → Closes engine t bad status → status ≡ 2 → ⊥
+close_not_few engine t bad status (inl (n, is, done)) e = end_not_few bad (sym is ∙ e)
+close_not_few engine t bad status (inr (inl (is, done))) e = omega (arith, is, e)
+close_not_few engine t bad status (inr (inr (is, same))) e = omega (arith, is, e)
+
+-- how it goes on and ends
+module _ {S State : Type 0} (engine : Engine S State) (laws : KindLaws engine.kind) (handed : List (List ℕ) → Type 0) (asked : Settings) (start : Devices S) (now next : Hand S State)
+    (bad : Bool) (u : Underway engine asked start now bad) where
+  opened : (status : ℕ) (new : Devices S) → Served engine.kind handed u.opening status start new → IsRun engine.kind handed asked status start new
+  opened status new served = inr (record { opening = u.opening; opens = u.opens; given = u.given; served = served })
+
+  pub underway_on : (more : Bool) → PassIs engine now next (Ok (Some more)) → Underway engine asked start next (bad || more)
+  underway_on more pass = underway engine asked u.opening start next (bad || more) u.opens u.given (going_on engine laws u.opening start now next bad u.going more pass)
+
+  pub underway_end : (status : ℕ) (final : Stock S) (state' : State) → PassIs engine now next (Ok None) → EachFollows engine.kind next.stock.shelf final.shelf []
+      → KeeperGoesOn next.stock.keeper final.keeper → Closes engine (step next.stock final next.state state') bad status
+      → IsRun engine.kind handed asked status start (record { source = next.input.source; sink = next.sink; stock = final })
+  underway_end status final state' pass follows keeper closes =
+      opened status (record { source = next.input.source; sink = next.sink; stock = final })
+      (finish_end engine laws handed u.opening start now next bad u.going status final state' pass follows keeper closes)
+
+  pub underway_stop : (why : Stop) → PassIs engine now next (Err why)
+      → IsRun engine.kind handed asked (stop_status why) start (record { source = next.input.source; sink = next.sink; stock = next.stock })
+  underway_stop why pass = opened (stop_status why) (record { source = next.input.source; sink = next.sink; stock = next.stock }) (finish_stop engine laws handed u.opening start now next bad u.going why pass)

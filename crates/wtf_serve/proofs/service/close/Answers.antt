@@ -1,0 +1,25 @@
+use Rattle.std.proofs.Common.{ℕ, Ok, sym, ◌∙◌, subst}
+use Rattle.wtf_model.specs.declared.event.Event.TheVariants as event
+use Rattle.wtf_serve.specs.Beginnings.{Closes}
+use Rattle.wtf_serve.specs.Cores.{engine}
+use Rattle.wtf_serve.specs.Engines.{step, IsAnswer}
+use Rattle.wtf_serve.specs.Stocks.{stock}
+use Rattle.wtf_serve.proofs.Closing.{closes_saved, closes_failed}
+use Rattle.wtf_serve.proofs.service.close.Goals as goal
+use Rattle.wtf_serve.proofs.service.close.Goals.{in-Saved, in_default-answer}
+
+pub returns-clause-closes : goal.returns-clause-closes
+returns-clause-closes g c =
+    let kind = g.S.SliceStore.kind in
+    let view = g.K.Keeper.view in
+    let bad = c.args.bad in
+    let t = step (stock c.args.shelf.now (view c.args.keeper.now)) (stock c.answer.new.shelf (view c.answer.new.keeper)) c.args.core.now c.answer.new.core in
+    let told = c.in-Ok.ensures in
+    let is : IsAnswer (engine kind) t (Ok event.Save) c.in-Ok.answer
+    = record { goes_on = told.goes_on; lawful = told.lawful; stored = told.stored; caused = told.caused; kept = told.kept } in
+    elim c.match-answer-2.branch [
+      | in-Saved w ↦
+          subst (λ (n : ℕ). Closes (engine kind) t bad n) (sym (w.result-is ∙ w.ended.ensures)) (closes_saved (engine kind) t bad c.in-Ok.answer w.in-Saved.field-0 w.in-Saved.is is)
+      | in_default-answer w ↦
+          subst (λ (n : ℕ). Closes (engine kind) t bad n) (sym w.result-is) (closes_failed (engine kind) t bad c.in-Ok.answer (λ n. w.in_default-answer.not-Saved n) is)
+    ]

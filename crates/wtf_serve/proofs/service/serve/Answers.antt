@@ -1,0 +1,147 @@
+use Rattle.std.proofs.Common.{◌≡◌, ◌++◌, ◌≤◌, ℕ, Bool, false, List, [], Some, None, Ok, Err, Result, Option, sym, ◌∙◌, ap, subst}
+use Rattle.wtf_dev.specs.Counts.{Rose}
+use Rattle.wtf_dev.specs.Streams.{SinkView}
+use Rattle.wtf_serve.specs.declared.service.Stop.{Stop}
+use Rattle.wtf_script.specs.Reading.{Held}
+use Rattle.wtf_serve.specs.Cores.{engine}
+use Rattle.wtf_serve.specs.Endings.{devices}
+use Rattle.wtf_serve.specs.Engines.{step}
+use Rattle.wtf_serve.specs.Passes.{input, hand, PassIs}
+use Rattle.wtf_serve.specs.Scripts.{settings_line}
+use Rattle.wtf_serve.specs.Stocks.{stock, KeeperGoesOn}
+use Rattle.wtf_serve.specs.Unopened.{IsRun}
+use Rattle.wtf_serve.proofs.Keeping.{handed_on, handed_join}
+use Rattle.wtf_serve.proofs.Underway.{Underway, underway_first, unwritten_first, underway_on, underway_end, underway_stop, stop_not_few, close_not_few}
+use Rattle.wtf_serve.proofs.service.serve.Given.{Over}
+use Rattle.wtf_serve.proofs.service.serve.Goals as goal
+use Rattle.wtf_serve.proofs.service.serve.Goals.{After-write_all, After-close}
+
+-- the keeper goes on while it is loaded
+loaded : (g : Over) (c : After-write_all g) → KeeperGoesOn (g.K.Keeper.view c.args.keeper.now) (g.K.Keeper.view c.open.new.keeper)
+loaded g c =
+    handed_on g.K.Keeper.view g.K.Keeper.follows g.met.K.Keeper.follows_itself g.met.K.Keeper.keeps c.args.keeper.now c.open.new.keeper ([], c.open.ensures.kept.nothing)
+
+-- the text of the first line
+first_text : (g : Over) (c : After-write_all g) → c.as_slice.result.now ≡ settings_line c.in-Ok.core.settings c.in-Ok.core.tables.kv.number
+first_text g c =
+    c.as_slice.ensures.value ∙ c.in-Ok-push_settings.ensures
+    ∙ ap (λ (x : List ℕ). x ++ settings_line c.in-Ok.core.settings c.in-Ok.core.tables.kv.number) c.new-text.ensures.items
+
+pub returns-in_default-write_all-clause-served : goal.returns-in_default-write_all-clause-served
+returns-in_default-write_all-clause-served g c =
+    let kind = g.S.SliceStore.kind in
+    let view = g.O.Sink.view in
+    let at = (goal.at.returns-in_default-write_all-clause-served g c).After-write_all in
+    let start = devices (g.I.Source.view c.args.script.now) (view c.args.out.now) c.args.shelf.now (g.K.Keeper.view c.args.keeper.now) in
+    let same : view c.open.new.out ≡ view c.args.out.now = ap view c.in-Ok.ensures.unwritten in
+    unwritten_first (engine kind) g.met.S.SliceStore.laws (g.K.Keeper.follows c.args.keeper.now c.open.new.keeper) c.args.settings start (g.K.Keeper.view c.open.new.keeper) c.in-Ok.core
+    (view c.write_all.new.out) c.as_slice.result.now c.in-Ok.ensures.opened c.open.ensures.kept (loaded g at) (first_text g at)
+    (subst (λ (s : SinkView). s.faults ≤ (view c.write_all.new.out).faults) same c.write_all.ensures.faults)
+    (λ old e. c.in_default-write_all.ensures.told old (ap (λ (s : SinkView). s.taken) same ∙ e))
+    (subst (λ (s : SinkView). Rose s.faults (view c.write_all.new.out).faults) same c.in_default-write_all.ensures.cause)
+
+pub loop-more-init : goal.loop-more-init
+loop-more-init g c =
+    let kind = g.S.SliceStore.kind in
+    let view = g.O.Sink.view in
+    let at = (goal.at.loop-more-init g c).After-write_all in
+    let start = devices (g.I.Source.view c.args.script.now) (view c.args.out.now) c.args.shelf.now (g.K.Keeper.view c.args.keeper.now) in
+    let same : view c.open.new.out ≡ view c.args.out.now = ap view c.in-Ok.ensures.unwritten in
+    let now = stock c.args.shelf.now (g.K.Keeper.view c.open.new.keeper) in
+    record {
+      run = subst (λ (held : Held). Underway (engine kind) c.args.settings start (hand (input (g.I.Source.view c.args.script.now) held) (view c.write_all.new.out) now c.in-Ok.core) false)
+          (sym c.in-Ok-new.ensures)
+          (underway_first (engine kind) g.met.S.SliceStore.laws (g.K.Keeper.follows c.args.keeper.now c.open.new.keeper) c.args.settings start (g.K.Keeper.view c.open.new.keeper) c.in-Ok.core
+          (view c.write_all.new.out) c.as_slice.result.now c.in-Ok.ensures.opened c.open.ensures.kept (loaded g at) (first_text g at)
+          (subst (λ (s : SinkView). s.faults ≤ (view c.write_all.new.out).faults) same c.write_all.ensures.faults)
+          (λ old e. c.in-Ok-write_all.ensures.told old (ap (λ (s : SinkView). s.taken) same ∙ e)));
+      handed = ([], c.open.ensures.kept.nothing);
+    }
+
+pub loop-more-preserved : goal.loop-more-preserved
+loop-more-preserved g c =
+    let kind = g.S.SliceStore.kind in
+    let laws = g.met.S.SliceStore.laws in
+    let view = g.K.Keeper.view in
+    let follows = g.K.Keeper.follows in
+    let start = devices (g.I.Source.view c.args.script.now) (g.O.Sink.view c.args.out.now) c.args.shelf.now (view c.args.keeper.now) in
+    let now = hand (input (g.I.Source.view c.loop-more.script) c.loop-more.reader.lines) (g.O.Sink.view c.loop-more.out) (stock c.loop-more.shelf (view c.loop-more.keeper)) c.loop-more.core in
+    let next = hand (input (g.I.Source.view c.pass.new.script) c.pass.new.reader.lines) (g.O.Sink.view c.pass.new.out) (stock c.pass.new.shelf (view c.pass.new.keeper)) c.pass.new.core in
+    let is : c.pass.result ≡ Ok (Some c.in-Ok-Some.more) = cc in
+    record {
+      run = subst (λ (b : Bool). Underway (engine kind) c.args.settings start next b) (sym c.either-bad.ensures)
+          (underway_on (engine kind) laws (follows c.args.keeper.now c.pass.new.keeper) c.args.settings start now next c.loop-more.bad c.loop-more.invariant.run c.in-Ok-Some.more
+          (subst (λ (r : Result (Option Bool) Stop). PassIs (engine kind) now next r) is c.pass.ensures.pass));
+      handed = handed_join view follows g.met.K.Keeper.follows_itself g.met.K.Keeper.keeps c.args.keeper.now c.pass.new.keeper c.loop-more.keeper g.met.K.Keeper.follows_on
+          c.loop-more.invariant.handed c.pass.ensures.handed;
+    }
+
+pub returns-in-Ok-None-clause-served : goal.returns-in-Ok-None-clause-served
+returns-in-Ok-None-clause-served g c =
+    let kind = g.S.SliceStore.kind in
+    let laws = g.met.S.SliceStore.laws in
+    let view = g.K.Keeper.view in
+    let follows = g.K.Keeper.follows in
+    let start = devices (g.I.Source.view c.args.script.now) (g.O.Sink.view c.args.out.now) c.args.shelf.now (view c.args.keeper.now) in
+    let now = hand (input (g.I.Source.view c.loop-more.script) c.loop-more.reader.lines) (g.O.Sink.view c.loop-more.out) (stock c.loop-more.shelf (view c.loop-more.keeper)) c.loop-more.core in
+    let next = hand (input (g.I.Source.view c.pass.new.script) c.pass.new.reader.lines) (g.O.Sink.view c.pass.new.out) (stock c.pass.new.shelf (view c.pass.new.keeper)) c.pass.new.core in
+    let is : c.pass.result ≡ Ok None = cc in
+    underway_end (engine kind) laws (follows c.args.keeper.now c.close.new.keeper) c.args.settings start now next c.loop-more.bad c.loop-more.invariant.run c.close.result
+    (stock c.close.new.shelf (view c.close.new.keeper)) c.close.new.core
+    (subst (λ (r : Result (Option Bool) Stop). PassIs (engine kind) now next r) is c.pass.ensures.pass) c.close.ensures.follows c.close.ensures.keeper c.close.ensures.closes
+
+-- with which status a run that has begun its lines does not end
+closed_few : (g : Over) (c : After-close g) → c.close.result ≡ 2 → ⊥
+closed_few g c e =
+    let view = g.K.Keeper.view in
+    close_not_few (engine g.S.SliceStore.kind) (step (stock c.pass.new.shelf (view c.pass.new.keeper)) (stock c.close.new.shelf (view c.close.new.keeper)) c.pass.new.core c.close.new.core)
+    c.loop-more.bad c.close.result c.close.ensures.closes e
+
+pub returns-in-Ok-None-clause-unread : goal.returns-in-Ok-None-clause-unread
+returns-in-Ok-None-clause-unread g c = λ e. absurd (closed_few g (goal.at.returns-in-Ok-None-clause-unread g c).After-close e)
+
+pub returns-in-Ok-None-clause-unwritten : goal.returns-in-Ok-None-clause-unwritten
+returns-in-Ok-None-clause-unwritten g c = λ e. absurd (closed_few g (goal.at.returns-in-Ok-None-clause-unwritten g c).After-close e)
+
+pub returns-in-Ok-None-clause-untouched : goal.returns-in-Ok-None-clause-untouched
+returns-in-Ok-None-clause-untouched g c = λ e. absurd (closed_few g (goal.at.returns-in-Ok-None-clause-untouched g c).After-close e)
+
+pub returns-in-Ok-None-clause-unkept : goal.returns-in-Ok-None-clause-unkept
+returns-in-Ok-None-clause-unkept g c = λ e. absurd (closed_few g (goal.at.returns-in-Ok-None-clause-unkept g c).After-close e)
+
+pub returns-in-Ok-None-clause-handed : goal.returns-in-Ok-None-clause-handed
+returns-in-Ok-None-clause-handed g c =
+    handed_join g.K.Keeper.view g.K.Keeper.follows g.met.K.Keeper.follows_itself g.met.K.Keeper.keeps c.args.keeper.now c.close.new.keeper c.pass.new.keeper g.met.K.Keeper.follows_on
+    (handed_join g.K.Keeper.view g.K.Keeper.follows g.met.K.Keeper.follows_itself g.met.K.Keeper.keeps c.args.keeper.now c.pass.new.keeper c.loop-more.keeper g.met.K.Keeper.follows_on
+    c.loop-more.invariant.handed c.pass.ensures.handed) c.close.ensures.handed
+
+pub returns-in-Err-pass-clause-served : goal.returns-in-Err-pass-clause-served
+returns-in-Err-pass-clause-served g c =
+    let kind = g.S.SliceStore.kind in
+    let laws = g.met.S.SliceStore.laws in
+    let view = g.K.Keeper.view in
+    let handed = g.K.Keeper.follows c.args.keeper.now c.pass.new.keeper in
+    let start = devices (g.I.Source.view c.args.script.now) (g.O.Sink.view c.args.out.now) c.args.shelf.now (view c.args.keeper.now) in
+    let now = hand (input (g.I.Source.view c.loop-more.script) c.loop-more.reader.lines) (g.O.Sink.view c.loop-more.out) (stock c.loop-more.shelf (view c.loop-more.keeper)) c.loop-more.core in
+    let next = hand (input (g.I.Source.view c.pass.new.script) c.pass.new.reader.lines) (g.O.Sink.view c.pass.new.out) (stock c.pass.new.shelf (view c.pass.new.keeper)) c.pass.new.core in
+    let is : c.pass.result ≡ Err c.in-Err-pass.stop = cc in
+    subst (λ (n : ℕ). IsRun kind handed c.args.settings n start (record { source = next.input.source; sink = next.sink; stock = next.stock })) (sym c.status.ensures)
+    (underway_stop (engine kind) laws handed c.args.settings start now next c.loop-more.bad c.loop-more.invariant.run c.in-Err-pass.stop
+    (subst (λ (r : Result (Option Bool) Stop). PassIs (engine kind) now next r) is c.pass.ensures.pass))
+
+pub returns-in-Err-pass-clause-unread : goal.returns-in-Err-pass-clause-unread
+returns-in-Err-pass-clause-unread g c = λ e. absurd (stop_not_few c.in-Err-pass.stop (sym c.status.ensures ∙ e))
+
+pub returns-in-Err-pass-clause-unwritten : goal.returns-in-Err-pass-clause-unwritten
+returns-in-Err-pass-clause-unwritten g c = λ e. absurd (stop_not_few c.in-Err-pass.stop (sym c.status.ensures ∙ e))
+
+pub returns-in-Err-pass-clause-untouched : goal.returns-in-Err-pass-clause-untouched
+returns-in-Err-pass-clause-untouched g c = λ e. absurd (stop_not_few c.in-Err-pass.stop (sym c.status.ensures ∙ e))
+
+pub returns-in-Err-pass-clause-unkept : goal.returns-in-Err-pass-clause-unkept
+returns-in-Err-pass-clause-unkept g c = λ e. absurd (stop_not_few c.in-Err-pass.stop (sym c.status.ensures ∙ e))
+
+pub returns-in-Err-pass-clause-handed : goal.returns-in-Err-pass-clause-handed
+returns-in-Err-pass-clause-handed g c =
+    handed_join g.K.Keeper.view g.K.Keeper.follows g.met.K.Keeper.follows_itself g.met.K.Keeper.keeps c.args.keeper.now c.pass.new.keeper c.loop-more.keeper g.met.K.Keeper.follows_on
+    c.loop-more.invariant.handed c.pass.ensures.handed

@@ -1,0 +1,33 @@
+use Rattle.std.proofs.Common.{◌≡◌, ◌++◌, ℕ, List, Some, refl, sym, ◌∙◌, ap, inr}
+use Rattle.wtf_serve.specs.Scripts.{line_text}
+use Rattle.wtf_serve.proofs.service.turn.Goals as goal
+
+pub returns-clause-turn : goal.returns-clause-turn
+returns-clause-turn g c =
+    let text : c.as_slice.result.now ≡ line_text c.in-Ok.answer
+    = c.as_slice.ensures.value ∙ c.in-Ok-push_answer.ensures ∙ ap (λ (x : List ℕ). x ++ line_text c.in-Ok.answer) c.clear.ensures.items in
+    record {
+      answer = c.in-Ok.answer;
+      is = record { goes_on = c.in-Ok.ensures.goes_on; lawful = c.in-Ok.ensures.lawful; stored = c.in-Ok.ensures.stored; caused = c.in-Ok.ensures.caused; kept = c.in-Ok.ensures.kept };
+      wrote = λ old e. let (front, back, all, new) = c.in-Err.ensures.told old e in (front, back, sym text ∙ all, new);
+      cause = c.in-Err.ensures.cause;
+    }
+
+pub returns-in-Ok-write_all-clause-turn : goal.returns-in-Ok-write_all-clause-turn
+returns-in-Ok-write_all-clause-turn g c =
+    let text : c.as_slice.result.now ≡ line_text c.in-Ok.answer
+    = c.as_slice.ensures.value ∙ c.in-Ok-push_answer.ensures ∙ ap (λ (x : List ℕ). x ++ line_text c.in-Ok.answer) c.clear.ensures.items in
+    record {
+      answer = c.in-Ok.answer;
+      is = record { goes_on = c.in-Ok.ensures.goes_on; lawful = c.in-Ok.ensures.lawful; stored = c.in-Ok.ensures.stored; caused = c.in-Ok.ensures.caused; kept = c.in-Ok.ensures.kept };
+      wrote = λ old e. c.in-Ok-write_all.ensures.told old e ∙ ap (λ (x : List ℕ). Some (old ++ x)) text;
+    }
+
+pub returns-in_default-push_answer-clause-turn : goal.returns-in_default-push_answer-clause-turn
+returns-in_default-push_answer-clause-turn g c = (
+  refl,
+  inr (record {
+    answer = c.in-Ok.answer;
+    is = record { goes_on = c.in-Ok.ensures.goes_on; lawful = c.in-Ok.ensures.lawful; stored = c.in-Ok.ensures.stored; caused = c.in-Ok.ensures.caused; kept = c.in-Ok.ensures.kept };
+  }),
+)

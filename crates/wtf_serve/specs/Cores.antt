@@ -1,0 +1,30 @@
+-- The engine of a run: the core that answers its lines.
+use Rattle.std.specs.Prelude.{◌≡◌, ◌≤◌, false, List, length}
+use Rattle.wtf_dev.specs.Store.{StoreKind}
+use Rattle.wtf_replica.specs.Bytes.{byte_at}
+use Rattle.wtf_replica.specs.Downs.{is_down}
+use Rattle.wtf_core.specs.Views.{CoreView}
+use Rattle.wtf_core.specs.Tables.{AreSound}
+use Rattle.wtf_core.specs.Standing.{StandsFor}
+use Rattle.wtf_core.specs.Named.{IsInside, IsFull}
+use Rattle.wtf_serve.specs.Engines.{Engine}
+
+-- a core between two lines: it is open, its tables are sound, its servers are there, and all bytes that it names lie
+-- inside the stores
+pub record IsSoundCore {S : Type 0} (kind : StoreKind S) (shelf : List S) (core : CoreView) : Type 0 where
+  pub not_closed : core.closed ≡ false
+  pub tables : AreSound core.tables
+  pub servers : core.settings.servers ≤ length shelf
+  pub inside : IsInside kind shelf core
+
+abbrev pub engine : {S : Type 0} → StoreKind S → Engine S CoreView
+engine kind = record {
+  kind = kind;
+  settings = λ core. core.settings;
+  down = λ core. is_down core.replicas;
+  number = λ core. core.tables.kv.number;
+  next_tx = λ core. core.tables.next_tx;
+  sound = IsSoundCore kind;
+  stands = λ shelf core m. StandsFor (byte_at kind shelf) core m;
+  full = IsFull;
+}

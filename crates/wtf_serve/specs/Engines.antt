@@ -1,0 +1,117 @@
+-- What a run is given of the state that answers its lines, and what answering one line is.
+use Rattle.std.specs.Prelude.{◌≡◌, ◌+◌, ◌≤◌, ◌^◌, ℕ, Bool, true, false, List, Ok, Err}
+use Rattle.std.specs.Bool.{MatchBool}
+use Rattle.wtf_base.specs.declared.settings.Settings.{Settings}
+use Rattle.wtf_dev.specs.Counts.{Rose}
+use Rattle.wtf_dev.specs.Store.{StoreKind}
+use Rattle.wtf_dev.specs.Sums.{TellsAll}
+use Rattle.wtf_replica.specs.Spans.{Span, span}
+use Rattle.wtf_model.specs.declared.answer.Answer.{Answer}
+use Rattle.wtf_model.specs.declared.answer.Answer.TheVariants as answer
+use Rattle.wtf_model.specs.declared.event.Event.{Event}
+use Rattle.wtf_model.specs.declared.event.Event.TheVariants as event
+use Rattle.wtf_model.specs.Machines.{Machine}
+use Rattle.wtf_model.specs.Lines.{Line, after_line}
+use Rattle.wtf_model.specs.Servers.{down_after}
+use Rattle.wtf_core.specs.Outcomes.{AddsBytes, SaveFault, HasCause}
+use Rattle.wtf_serve.specs.Answering.{MayLine, IsNotBuiltExactly, line_data}
+use Rattle.wtf_serve.specs.Stocks.{Stock, IsSaveFault, HoldsOneOf, HoldsSome}
+
+-- What a run is given of the state that answers its lines: the kind of its stores; the settings, which servers are down,
+-- how many commits there were and the number of the next transaction; when it is sound over stores, and when it stands
+-- for a machine; and when each slice has as many copies as there are replicas, as it has where the keeper held nothing at
+-- the begin.
+pub record Engine (S State : Type 0) : Type 1 where
+  pub kind : StoreKind S
+  pub settings : State → Settings
+  pub down : State → ℕ → Bool
+  pub number : State → ℕ
+  pub next_tx : State → ℕ
+  pub sound : List S → State → Type 0
+  pub stands : List S → State → Machine → Type 0
+  pub full : State → Type 0
+
+-- the stores with the keeper, and the state, before a line and after its answer
+pub record Step (S State : Type 0) : Type 0 where
+  pub before : Stock S
+  pub after : Stock S
+  pub old : State
+  pub new : State
+
+abbrev pub step : {S State : Type 0} → Stock S → Stock S → State → State → Step S State
+step before after old new = record { before = before; after = after; old = old; new = new }
+
+-- the stores over a step, with the servers that are down before it
+abbrev pub span_of : {S State : Type 0} → Engine S State → Step S State → Span S
+span_of engine t = span (engine.down t.old) t.before.shelf t.after.shelf
+
+-- What answering a line is, in five parts of which none needs another:
+
+-- the state goes on: it is sound, under the same settings, and which servers are down follows the lines `down` and `up`;
+-- `notbuilt` comes exactly at the verbs that are left to a later version
+pub record GoesOn {S State : Type 0} (engine : Engine S State) (t : Step S State) (line : Line) (a : Answer) : Type 0 where
+  pub sound : engine.sound t.after.shelf t.new
+  pub settings : engine.settings t.new ≡ engine.settings t.old
+  pub down : engine.down t.new ≡ down_after (engine.down t.old) line a
+  pub number : engine.number t.new ≤ engine.number t.old + 1
+  pub next_tx : engine.next_tx t.new ≤ engine.next_tx t.old + 1
+  pub full : engine.full t.old → engine.full t.new
+  pub exact : IsNotBuiltExactly line a
+
+-- the state stood for a machine: the machine may give that answer, and the state stands for its next; and a keeper that tells
+-- what it is handed, and held the image of a tree that the machine may have saved, does so behind the line, as long as an image
+-- has room for the numbers
+pub record IsLawful {S State : Type 0} (engine : Engine S State) (t : Step S State) (m : Machine) (line : Line) (a : Answer)
+    : Type 0 where
+  pub stands : engine.stands t.after.shelf t.new (after_line m line a)
+  pub may : MayLine m line a
+  pub saved : t.before.keeper.tells ≡ true → engine.number t.old ≤ 2 ^ 62 → engine.next_tx t.old ≤ 2 ^ 62
+      → HoldsOneOf engine.kind t.before m.may_be_saved → HoldsOneOf engine.kind t.after (after_line m line a).may_be_saved
+
+-- the same of each machine that the state stands for, where the stores tell their content
+abbrev pub Obeys : {S State : Type 0} → Engine S State → Step S State → Line → Answer → Type 0
+Obeys engine t line a =
+    TellsAll engine.kind t.before.shelf → (m : Machine) → engine.stands t.before.shelf t.old m → IsLawful engine t m line a
+
+-- the stores grew by what the line writes
+abbrev pub Stores : {S State : Type 0} → Engine S State → Step S State → Line → Answer → Type 0
+Stores engine t line a = AddsBytes engine.kind (span_of engine t) (engine.settings t.old) (line_data line) a
+
+-- a save may have failed in a line that is one
+abbrev pub IsSaveFailure : {S State : Type 0} → Engine S State → Step S State → Line → Type 0
+IsSaveFailure engine t (Ok e) =
+    SaveFault engine.kind (span_of engine t) (engine.settings t.old) (Rose t.before.keeper.faults t.after.keeper.faults) e
+IsSaveFailure engine t (Err bad) = ⊥
+
+-- a fault has its cause in this very line
+abbrev pub IsCaused : {S State : Type 0} → Engine S State → Step S State → Line → Answer → Type 0
+IsCaused engine t line a =
+    HasCause engine.kind (span_of engine t) (engine.settings t.old) (IsSaveFailure engine t line) (engine.full t.old)
+    (line_data line) a
+
+-- what a save leaves on the keeper: an image, or there is a cause why it failed
+abbrev pub Saves : {S State : Type 0} → Engine S State → Step S State → Answer → Type 0
+Saves engine t (answer.Saved n) = HoldsSome t.before.keeper t.after.keeper
+Saves engine t answer.FaultSave =
+    IsSaveFault engine.kind (span_of engine t) (engine.settings t.old).servers t.before.keeper t.after.keeper
+Saves engine t a = ⊥
+
+abbrev pub is_save_event : Event → Bool
+is_save_event event.Save = true
+is_save_event e = false
+
+abbrev pub is_save : Line → Bool
+is_save (Ok e) = is_save_event e
+is_save (Err bad) = false
+
+-- a line that is no save leaves the keeper as it was
+abbrev pub Keeps : {S State : Type 0} → Engine S State → Step S State → Line → Answer → Type 0
+Keeps engine t line a = MatchBool (is_save line) (Saves engine t a) (t.after.keeper ≡ t.before.keeper)
+
+-- all five
+pub record IsAnswer {S State : Type 0} (engine : Engine S State) (t : Step S State) (line : Line) (a : Answer) : Type 0 where
+  pub goes_on : GoesOn engine t line a
+  pub lawful : Obeys engine t line a
+  pub stored : Stores engine t line a
+  pub caused : IsCaused engine t line a
+  pub kept : Keeps engine t line a

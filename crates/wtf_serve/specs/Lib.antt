@@ -1,0 +1,15 @@
+pub mod Scripts
+pub mod Answering
+pub mod Stocks
+pub mod Openings
+pub mod Logs
+pub mod Engines
+pub mod Cores
+pub mod Turns
+pub mod Passes
+pub mod Runs
+pub mod Traces
+pub mod Endings
+pub mod Unopened
+pub mod Beginnings
+pub mod Program

@@ -1,0 +1,71 @@
+-- Lines with their answers, and what a run counts along them.
+use Rattle.std.specs.Prelude.{◌+◌, ℕ, Bool, true, false, if◌then◌else◌, List, [], ◌∷◌, ◌++◌, map, length}
+use Rattle.std.specs.List.{flat_map}
+use Rattle.wtf_model.specs.declared.answer.Answer.{Answer}
+use Rattle.wtf_model.specs.declared.answer.Answer.TheVariants as answer
+use Rattle.wtf_model.specs.Lines.{Line, machine_after}
+use Rattle.wtf_model.specs.Machines.{Machine}
+use Rattle.wtf_model.specs.Servers.{none_down, downs_after}
+use Rattle.wtf_model.specs.Tree.{Tree}
+use Rattle.wtf_serve.specs.Answering.{line_data}
+use Rattle.wtf_serve.specs.Openings.{Opening, first}
+use Rattle.wtf_serve.specs.Scripts.{line_of, line_text, settings_line}
+
+-- lines with their answers, in order
+pub record Log : Type 0 where
+  pub lines : List (List ℕ)
+  pub answers : List Answer
+
+-- what the lines ask
+abbrev pub asked : Log → List (Line)
+asked log = map line_of log.lines
+
+-- the machine behind them, where a run starts from this tree
+abbrev pub last : Opening → Tree → Log → Machine
+last opening t log = machine_after (first opening t) (asked log) log.answers
+
+-- the servers that are down behind them
+abbrev pub last_downs : Log → ℕ → Bool
+last_downs log = downs_after none_down (asked log) log.answers
+
+-- the line that a run begins with
+abbrev pub first_line : Opening → List ℕ
+first_line opening = settings_line opening.settings opening.number
+
+-- what is written: the settings, and one line an answer
+abbrev pub output : Opening → List Answer → List ℕ
+output opening answers = first_line opening ++ flat_map line_text answers
+
+-- the faults that lines may answer: of a read, of a write and of a save
+abbrev pub IsServed : Answer → Type 0
+IsServed (answer.FaultPunch k) = ⊥
+IsServed (answer.Damaged k) = ⊥
+IsServed a = Unit {0}
+
+abbrev pub is_fault : Answer → Bool
+is_fault (answer.FaultRead k) = true
+is_fault answer.FaultWrite = true
+is_fault answer.FaultSave = true
+is_fault a = false
+
+abbrev pub is_write_fault : Answer → Bool
+is_write_fault answer.FaultWrite = true
+is_write_fault a = false
+
+-- how many lines answered a fault
+abbrev pub fault_count : List Answer → ℕ
+fault_count [] = 0
+fault_count (a ∷ answers) = (if is_fault a then 1 else 0) + fault_count answers
+
+abbrev pub write_fault_count : List Answer → ℕ
+write_fault_count [] = 0
+write_fault_count (a ∷ answers) = (if is_write_fault a then 1 else 0) + write_fault_count answers
+
+abbrev pub if_okay : Answer → ℕ → ℕ
+if_okay answer.Okay n = n
+if_okay a n = 0
+
+-- the bytes that writes and appends with the answer `ok` handed in
+abbrev pub written_bytes : List (Line) → List Answer → ℕ
+written_bytes (e ∷ es) (a ∷ answers) = if_okay a (length (line_data e)) + written_bytes es answers
+written_bytes es answers = 0

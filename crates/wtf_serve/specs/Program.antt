@@ -1,0 +1,45 @@
+-- What the program promises of its run, by the words that it is given.
+use Rattle.std.specs.Prelude.{◌≡◌, ◌⊎◌, ◌<◌, ℕ, List, Option, Some, None, [], ◌∷◌, ⊤}
+use Rattle.wtf_base.specs.declared.settings.Settings.{Settings}
+use Rattle.wtf_words.specs.Words.{Numbers, numbers}
+use Rattle.wtf_dev.specs.Store.{StoreKind}
+use Rattle.wtf_image.specs.Rows.{ImageRows}
+use Rattle.wtf_image.specs.Images.{HasText}
+use Rattle.wtf_image.specs.Rules.{AreGoodSettings}
+use Rattle.wtf_serve.specs.Endings.{Devices}
+use Rattle.wtf_serve.specs.Unopened.{IsRun}
+
+-- a whole run over the servers and copies that were asked for
+pub record IsRunOf {S : Type 0} (kind : StoreKind S) (handed : List (List ℕ) → Type 0) (asked : Numbers) (status : ℕ)
+    (old new : Devices S) : Type 0 where
+  pub settings : Settings
+  pub asked_is : numbers settings ≡ asked
+  pub run : IsRun kind handed settings status old new
+
+-- no device was touched, and nothing was handed to the keeper
+abbrev pub IsUntouched : {S : Type 0} → (List (List ℕ) → Type 0) → Devices S → Devices S → Type 0
+IsUntouched handed old new = (new ≡ old) × handed []
+
+-- a run of the program by what its words ask for: words that are refused touch nothing, nor does a want of memory that
+-- comes before they are read
+abbrev pub IsProgramRun : {S : Type 0} → StoreKind S → (List (List ℕ) → Type 0) → Option Numbers → ℕ → Devices S → Devices S → Type 0
+IsProgramRun kind handed None status old new = ((status ≡ 2) ⊎ (status ≡ 7)) × IsUntouched handed old new
+IsProgramRun kind handed (Some asked) status old new =
+    ((status ≡ 7) × IsUntouched handed old new) ⊎ IsRunOf kind handed asked status old new
+
+-- an image whose settings have more servers than there are stores
+pub record HasManyServers (bytes : List ℕ) (stores : ℕ) : Type 0 where
+  pub rows : ImageRows
+  pub text : HasText rows bytes
+  pub good : AreGoodSettings rows
+  pub few : stores < rows.header.servers
+
+-- so many stores are too few for what the words ask for, or for the image that is held
+abbrev pub IsFew : Numbers → List ℕ → ℕ → Type 0
+IsFew asked [] stores = stores < asked.servers
+IsFew asked (b ∷ bytes) stores = HasManyServers (b ∷ bytes) stores
+
+-- The words are refused, or so many stores cannot serve what they ask for, where the keeper holds these bytes
+abbrev pub IsRefused : Option Numbers → List ℕ → ℕ → Type 0
+IsRefused None held stores = ⊤
+IsRefused (Some asked) held stores = IsFew asked held stores

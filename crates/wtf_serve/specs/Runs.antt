@@ -1,0 +1,47 @@
+-- What a run promises of the lines that it answered.
+use Rattle.std.specs.Prelude.{◌≡◌, ◌<◌, ◌+◌, ◌-◌, ◌*◌, ◌^◌, ℕ, List, [], length, slice_index_or}
+use Rattle.std.specs.List.{All}
+use Rattle.wtf_dev.specs.Store.{StoreKind}
+use Rattle.wtf_dev.specs.Each.{EachFollows}
+use Rattle.wtf_dev.specs.Sums.{TellsAll, all_stored}
+use Rattle.wtf_replica.specs.Bytes.{byte_at}
+use Rattle.wtf_model.specs.Tree.{Tree}
+use Rattle.wtf_model.specs.Lines.{Along, events_of, answers_to}
+use Rattle.wtf_model.specs.Servers.{none_down, AlongDowns, is_device_fault, is_device_fault_of_run, count_along}
+use Rattle.wtf_serve.specs.Answering.{MayLine, Accepts, IsNotBuiltExactly}
+use Rattle.wtf_serve.specs.Openings.{Opening, StartsFrom, first}
+use Rattle.wtf_serve.specs.Logs.{Log, asked, IsServed, write_fault_count, written_bytes}
+use Rattle.wtf_serve.specs.Stocks.{Stock, RoseBy}
+
+-- a count of faults did not rise, and does not stand at its end
+abbrev pub IsStill : ℕ → ℕ → Type 0
+IsStill before now = (now ≡ before) × (now < 2 ^ 64 - 1)
+
+-- no store failed, as far as the counts of faults tell
+abbrev pub AreStoresStill : {S : Type 0} → StoreKind S → List S → List S → Type 0
+AreStoresStill {S} kind before after = (k : ℕ) (d : S) → k < length after
+    → IsStill (kind.view (slice_index_or before k d)).faults (kind.view (slice_index_or after k d)).faults
+
+-- Lines and their answers, over stores and a keeper that were `before` and are `after`.
+pub record Ran {S : Type 0} (kind : StoreKind S) (opening : Opening) (log : Log) (before after : Stock S) : Type 0 where
+  -- Where the stores tell their content, the machine accepts the lines' events with their answers, from the tree that the
+  -- run starts with: committed transactions ran whole, one by one, on one tree.
+  pub accepts : TellsAll kind before.shelf → (t : Tree) → StartsFrom (byte_at kind before.shelf) opening.bytes t
+      → Accepts (first opening t) (events_of (asked log)) (answers_to (asked log) log.answers)
+  -- the same line by line, with the lines that ask nothing
+  pub accepted : TellsAll kind before.shelf → (t : Tree) → StartsFrom (byte_at kind before.shelf) opening.bytes t
+      → Along MayLine (first opening t) (asked log) log.answers
+  -- over every store each line has one answer: one that asks nothing has its own, and `notbuilt` comes exactly at the verbs
+  -- that are left to a later version
+  pub exact : AlongDowns (λ down e a. IsNotBuiltExactly e a) none_down (asked log) log.answers
+  pub served : All IsServed log.answers
+  -- each line whose fault only a store or the keeper can have caused raised a count
+  pub faults : RoseBy kind before after (count_along (is_device_fault opening.settings) none_down (asked log) log.answers)
+  -- and so did, where the keeper held nothing, each read that failed while fewer servers were down than a slice has copies
+  pub faults_of_run : opening.bytes ≡ []
+      → RoseBy kind before after (count_along (is_device_fault_of_run opening.settings) none_down (asked log) log.answers)
+  -- where no store failed they grew by the bytes of the writes and appends that answered `ok`, once on each replica
+  pub grew : AreStoresStill kind before.shelf after.shelf → write_fault_count log.answers ≡ 0
+      → all_stored kind after.shelf ≡ all_stored kind before.shelf + opening.settings.replicas * written_bytes (asked log) log.answers
+  -- nothing was punched
+  pub follows_on : EachFollows kind before.shelf after.shelf []

@@ -1,0 +1,38 @@
+-- What a run read of its script, and what it wrote, where source and sink tell it.
+use Rattle.std.specs.Prelude.{◌≡◌, ◌≢◌, ℕ, Bool, true, false, List, [], ◌∷◌, ◌++◌, length, Option, Some}
+use Rattle.wtf_model.specs.declared.answer.Answer.{Answer}
+use Rattle.wtf_script.specs.declared.limits.TheConstants.{SCRIPT_BYTES}
+use Rattle.wtf_script.specs.ScriptLines.{lines_of, ended_of}
+use Rattle.wtf_serve.specs.Openings.{Opening}
+use Rattle.wtf_serve.specs.Logs.{first_line, output}
+use Rattle.wtf_serve.specs.Scripts.{IsWholeStatus, line_text}
+use Rattle.wtf_serve.specs.Turns.{WroteFront}
+
+-- What was read of the script, where the source tells it, by the status that the run ended with
+pub record HasRead (script : List ℕ) (left : Option (List ℕ)) (status : ℕ) (lines : List (List ℕ)) : Type 0 where
+  -- the lines that were answered are the first ones
+  pub front : (more : List (List ℕ)) × (lines_of script ≡ lines ++ more)
+  -- 0, 1 and 5: all of them, and the script was read to its end
+  pub whole : IsWholeStatus status → (lines ≡ lines_of script) × (left ≡ Some [])
+  -- 3: each line that a line feed ended before the fault
+  pub fault : status ≡ 3 → (came : List ℕ) × (rest : List ℕ) × (script ≡ came ++ rest) × (left ≡ Some rest) × (lines ≡ ended_of came)
+  -- 9: each line that a line feed ended within the limit
+  pub too_much : status ≡ 9 → (came : List ℕ) × (b : ℕ) × (rest : List ℕ) × (script ≡ came ++ b ∷ rest) × (left ≡ Some rest) × (length came ≡ SCRIPT_BYTES) × (lines ≡ ended_of came)
+
+-- a part of the text of the last answer was written, after all that comes before it
+pub record IsCut (opening : Opening) (answers : List Answer) (old : List ℕ) (new : Option (List ℕ)) : Type 0 where
+  pub earlier : List Answer
+  pub last : Answer
+  pub front : List ℕ
+  pub back : List ℕ
+  pub all : answers ≡ earlier ++ last ∷ []
+  pub text : line_text last ≡ front ++ back
+  pub new_is : new ≡ Some (old ++ (output opening earlier ++ front))
+
+-- What was written, where the sink tells it: where the first line was written, all of the output, but with status 4 the
+-- last line is cut; else, with status 4, a part of the first line
+pub record HasWritten (opening : Opening) (started : Bool) (status : ℕ) (answers : List Answer) (old : List ℕ) (new : Option (List ℕ)) : Type 0 where
+  pub whole : started ≡ true → status ≢ 4 → new ≡ Some (old ++ output opening answers)
+  pub cut : started ≡ true → status ≡ 4 → IsCut opening answers old new
+  pub cut_first : started ≡ false → status ≡ 4 → WroteFront old (first_line opening) new
+  pub nothing : started ≡ false → status ≢ 4 → new ≡ Some old

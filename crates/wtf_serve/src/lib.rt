@@ -1,0 +1,13 @@
+//! A whole run over any source, sink, stores and keeper: what the words ask for, how a run begins, its lines and its closing
+//! save, and the status that it ends with.
+#![tactic(auto)]
+
+mod opening;
+mod program;
+mod service;
+
+pub use program::wtf;
+pub use service::{
+    BAD_LINES, FINISHED, IMAGE_REFUSED, LOADING_FAILED, OUT_OF_MEMORY, READING_FAILED,
+    SAVING_FAILED, SCRIPT_TOO_LONG, WORDS_REFUSED, WRITING_FAILED, serve,
+};

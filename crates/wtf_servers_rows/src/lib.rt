@@ -1,0 +1,2 @@
+//! Tests, from outside, of servers and devices.
+#![tactic(auto)]
