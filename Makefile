@@ -3,19 +3,16 @@
 .DEFAULT_GOAL := build
 .PHONY: build demo demo-bytes run test bench clean help
 
-PROGRAM := crates/wtf_cli
 DIR := -
 WORDS :=
 
-build: ## prove the program, put it at build/wtf (minutes a crate)
-	cd $(PROGRAM) && rt run -- - < /dev/null > /dev/null
-	mkdir -p build
-	cp $(PROGRAM)/out/wtf_cli build/wtf
+build: ## prove all crates side by side, put the programs at build/wtf and build/wtf_file
+	@tools/build
 
 demo: ## run examples/ and compare, built fast, unproved (1 to 2 minutes)
 	@tools/demo
 
-run: ## SCRIPT=FILE [DIR=..] [WORDS=..]: run a script (1 to 2 minutes)
+run: ## SCRIPT=FILE [DIR=..] [WORDS=..]: run a script, by build/wtf where it is newer than the sources
 	@tools/run-fast "$(SCRIPT)" "$(DIR)" $(WORDS)
 
 demo-bytes: build ## 1 MiB in and out; a store gone on with (seconds after the build)
