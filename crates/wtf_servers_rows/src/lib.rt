@@ -1,2 +1,13 @@
 //! Tests, from outside, of servers and devices.
 #![tactic(auto)]
+
+#[cfg(test)]
+mod dev;
+#[cfg(test)]
+mod replica;
+#[cfg(test)]
+mod ring;
+#[cfg(test)]
+mod server;
+#[cfg(test)]
+mod stores;

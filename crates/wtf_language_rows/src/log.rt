@@ -1,0 +1,143 @@
+//! A log of worked calls, row by row, and its limit.
+
+use crate::texts::shown;
+use std::alloc::Global;
+use std::test::Fail;
+use wtf_base::{Kept, Pointer, ServerId, Slice};
+use wtf_log::{Log, LogError};
+use wtf_model::limits::MAX_LOGGED;
+use wtf_model::{Answer, Op, Word};
+
+/// Six bytes in file 0 of server 0.
+fn six_bytes() -> Result<Slice, Fail> {
+    let pointer = Pointer {
+        server: ServerId(0),
+        file: 0,
+        at: 0,
+        len: 6,
+    };
+    Ok(Slice::of(&[pointer]).ok_or("slice")?)
+}
+
+/// What a log keeps of the bytes of a slice.
+fn kept(slice: Slice) -> Kept {
+    Kept {
+        len: slice.len(),
+        slice: Some(slice),
+    }
+}
+
+fn push(log: &mut Log, op: Op<Kept>, answer: Answer) -> Result<(), LogError> {
+    log.push(op, answer)
+}
+
+/// A `tell`, a write that stored, an append that stored nothing, and a read, with what they showed.
+fn worked(alloc: Global, slice: Slice) -> Result<Log, Fail> {
+    let mut log = Log::new(alloc)?;
+    push(&mut log, Op::Tell(0), Answer::At(0))?;
+    push(&mut log, Op::Write(1, kept(slice)), Answer::Okay)?;
+    let nothing = Kept {
+        len: 0,
+        slice: None,
+    };
+    push(
+        &mut log,
+        Op::Append(1, nothing),
+        Answer::Refused(Word::NoHandle),
+    )?;
+    push(&mut log, Op::Read(0, 2), shown(alloc, b"ab")?)?;
+    Ok(log)
+}
+
+fn len(log: &Log) -> u32 {
+    log.len()
+}
+
+/// The slice that a call of the log has stored.
+fn own(log: &Log, i: u32) -> Result<Option<Slice>, Fail> {
+    if i < 1 || i > log.len() {
+        return Err(Fail::from("no such call"));
+    }
+    Ok(log.own(i))
+}
+
+/// Whether the first call is a `tell` of handle 0 that showed offset 0.
+fn begins_with_tell(log: &Log) -> bool {
+    log.len() >= 1 && log.op(1) == &Op::Tell(0) && matches!(log.shown(1), Answer::At(0))
+}
+
+/// Whether what a call showed says the same.
+fn is_answered_as(log: &Log, i: u32, answer: &Answer) -> Result<bool, Fail> {
+    if i < 1 || i > log.len() {
+        return Err(Fail::from("no such call"));
+    }
+    Ok(log.is_answered_as(i, answer))
+}
+
+/// Whether a log is empty when it is cleared.
+fn is_cleared(log: &mut Log) -> bool {
+    log.clear();
+    log.is_empty()
+}
+
+#[test]
+fn a_log_has_the_slices_that_were_stored(rt: HostRuntime) -> Result<(), Fail> {
+    let slice = six_bytes()?;
+    let log = worked(rt.alloc(), slice)?;
+    assert_eq!(rt; len(&log), 4);
+    for (i, want) in [(1, None), (2, Some(slice)), (3, None), (4, None)] {
+        assert_eq!(rt; own(&log, i)?, want, "call {i}");
+    }
+    Ok(())
+}
+
+#[test]
+fn a_log_shows_what_was_pushed(rt: HostRuntime) -> Result<(), Fail> {
+    let alloc = rt.alloc();
+    let mut log = worked(alloc, six_bytes()?)?;
+    assert!(rt; begins_with_tell(&log));
+    for (i, answer, same) in [
+        (1, Answer::At(0), true),
+        (1, Answer::At(1), false),
+        (1, Answer::Len(0), false),
+        (4, shown(alloc, b"ab")?, true),
+        (4, shown(alloc, b"abc")?, false),
+    ] {
+        assert_eq!(rt; is_answered_as(&log, i, &answer)?, same, "{answer:?}");
+    }
+    assert!(rt; is_cleared(&mut log));
+    Ok(())
+}
+
+/// Whether a log takes a call; it is not full before.
+fn takes_a_call(log: &mut Log) -> bool {
+    !log.is_full() && log.push(Op::Tell(0), Answer::Refused(Word::NoHandle)) == Ok(())
+}
+
+/// A log that took as many calls as it may.
+fn full(alloc: Global) -> Result<Log, Fail> {
+    let mut log = Log::new(alloc)?;
+    for _ in 0..MAX_LOGGED {
+        if !takes_a_call(&mut log) {
+            return Err(Fail::from("full too early"));
+        }
+    }
+    Ok(log)
+}
+
+fn is_full(log: &Log) -> bool {
+    log.is_full()
+}
+
+#[test]
+fn a_log_is_full_at_its_limit(rt: HostRuntime) -> Result<(), Fail> {
+    let mut log = full(rt.alloc())?;
+    assert_eq!(rt; len(&log), 4096);
+    assert!(rt; is_full(&log));
+    assert_eq!(rt;
+        push(&mut log, Op::Tell(0), Answer::At(0)),
+        Err(LogError::Full)
+    );
+    assert_eq!(rt; len(&log), 4096);
+    Ok(())
+}
