@@ -1,0 +1,100 @@
+//! What a transaction has in hand, from outside.
+
+use crate::parts::{inode, pieces};
+use std::alloc::Global;
+use std::test::Fail;
+use wtf_meta::{Handle, Session};
+use wtf_path::Path;
+
+/// The offset of the handle of a label, and the number of pieces of its slice.
+fn shown(session: &Session, label: u8) -> (Option<u64>, Option<usize>) {
+    if label >= 16 {
+        return (None, None);
+    }
+    let off = session.handle(label).map(|h| h.off);
+    (off, session.slice(label).map(|pieces| pieces.len()))
+}
+
+fn holds(alloc: Global, session: &Session, path: &[u8]) -> Result<bool, Fail> {
+    Ok(session.holds(&Path::parse(alloc, path)?))
+}
+
+/// Opens a handle at 0.
+fn open(alloc: Global, session: &mut Session, label: u8, path: &[u8]) -> Result<(), Fail> {
+    if label >= 16 {
+        return Err("no label".into());
+    }
+    let handle = Handle {
+        path: Path::parse(alloc, path)?,
+        inode: inode(),
+        off: 0,
+    };
+    session.put_handle(label, handle);
+    Ok(())
+}
+
+fn move_to(session: &mut Session, label: u8, off: u64) -> Result<(), Fail> {
+    if label >= 16 || session.handle(label).is_none() {
+        return Err("no handle".into());
+    }
+    session.move_handle(label, off);
+    Ok(())
+}
+
+fn end(session: &mut Session, label: u8) {
+    if label < 16 {
+        session.end_handle(label);
+    }
+}
+
+/// Keeps a piece of four zeros.
+fn keep(alloc: Global, session: &mut Session, label: u8) -> Result<(), Fail> {
+    if label >= 16 {
+        return Err("no label".into());
+    }
+    session.put_slice(label, pieces(alloc, &[4])?);
+    Ok(())
+}
+
+/// A session with a handle of /a at 7 under 15, and a slice under 3.
+fn filled(alloc: Global) -> Result<Session, Fail> {
+    let mut session = Session::new(alloc)?;
+    open(alloc, &mut session, 15, b"/a")?;
+    move_to(&mut session, 15, 7)?;
+    keep(alloc, &mut session, 3)?;
+    Ok(session)
+}
+
+#[test]
+fn each_label_stands_alone(rt: HostRuntime) -> Result<(), Fail> {
+    let session = filled(rt.alloc())?;
+    let rows = [
+        (15, (Some(7), None)),
+        (0, (None, None)),
+        (3, (None, Some(1))),
+    ];
+    for (label, want) in rows {
+        assert_eq!(rt; shown(&session, label), want, "of {label}");
+    }
+    Ok(())
+}
+
+#[test]
+fn a_path_is_held_by_its_handle(rt: HostRuntime) -> Result<(), Fail> {
+    let alloc = rt.alloc();
+    assert!(rt; !holds(alloc, &Session::new(alloc)?, b"/a")?);
+    assert!(rt; holds(alloc, &filled(alloc)?, b"/a")?);
+    assert!(rt; !holds(alloc, &filled(alloc)?, b"/b")?);
+    Ok(())
+}
+
+#[test]
+fn a_copy_stays_as_it_was(rt: HostRuntime) -> Result<(), Fail> {
+    let mut session = filled(rt.alloc())?;
+    let copy = session.copy(rt.alloc())?;
+    end(&mut session, 15);
+    assert_eq!(rt; shown(&copy, 15), (Some(7), None));
+    assert_eq!(rt; shown(&copy, 3), (None, Some(1)));
+    assert_eq!(rt; shown(&session, 15), (None, None));
+    Ok(())
+}

@@ -1,0 +1,220 @@
+//! Attempts on a store of numbers under small keys: the one that read what moved conflicts, the one
+//! that only peeked does not.
+
+ghost use Rattle.std.specs.Prelude.{◌≡◌, [], ◌∷◌, IfOk};
+ghost use Rattle.std.specs.Option.{option_copied};
+ghost use Rattle.wtf_kv.specs.Edits.{fits};
+
+use crate::counts::{Count, Counts, Name};
+use std::alloc::Global;
+use std::process::Abort;
+use std::test::Fail;
+use wtf_base::OutOfMemory;
+use wtf_kv::{Cell, Change, Changes, Kv};
+use wtf_occ::{Attempt, Mark, Tried};
+
+type Counting = Attempt<Name, Count>;
+
+/// What became of an attempt: the number of its install, or the key of a conflict, with the version that was
+/// seen and the one that is there now.
+#[derive(Clone, Copy, Debug, PartialEq)]
+enum Ended {
+    Installed(u64),
+    Conflict(u64, u64, u64),
+}
+
+fn outcome_of(tried: Tried<Name>) -> Ended {
+    match tried {
+        Tried::Installed(n) => Ended::Installed(n),
+        Tried::Conflict { key, seen, now } => Ended::Conflict(key.id, seen, now),
+    }
+}
+
+/// A store in which install 1 set key 7 to a number; 1 is pinned.
+fn store(alloc: Global, n: u64) -> Result<Counts, Fail> {
+    let mut kv: Counts = Kv::new(alloc)?;
+    let mut sets = Changes::new(alloc);
+    sets.delta(Name { id: 7 }, n)?;
+    let ready = kv.reserve_install(&sets)?;
+    kv.install(ready);
+    kv.pin(1)?;
+    Ok(kv)
+}
+
+/// An attempt from base 1 that reads key 7, or only peeks, and pushes to it. What its install has to know of
+/// it is a clause.
+fn pushing(alloc: Global, kv: &Counts, reads: bool) -> Result<Counting, Fail>
+    ensures { IfOk result (λ a. (a.base ≡ 1) ×
+        (a.changes ≡ Change.Delta (record { id = 7 }) 3 ∷ [])) }
+{
+    if !kv.is_pinned(1) {
+        return Err("1 is not pinned".into());
+    }
+    let mut attempt = Attempt::new(alloc, 1)?;
+    if reads {
+        // The key that moves stands behind one that is recorded twice.
+        attempt.record(&Name { id: 3 })?;
+        attempt.record(&Name { id: 3 })?;
+        attempt.read(kv, &Name { id: 7 })?;
+    } else {
+        attempt.peek(kv, &Name { id: 7 })?;
+    }
+    attempt.delta(Name { id: 7 }, 3)?;
+    Ok(attempt)
+}
+
+/// Whether a push of 3 fits.
+fn fits_three(value: Option<&Count>) -> bool
+    ensures { result ≡ fits (⟦<Count as Cell>⟧.outcome (option_copied value.entry) 3) }
+{
+    match value {
+        Some(count) => count.n <= 61,
+        None => true,
+    }
+}
+
+/// Installs a push of 3 to key 7.
+fn tried(kv: &mut Counts, attempt: &mut Counting) -> Result<Ended, Fail>
+    requires base { attempt.old.base ≡ 1 }
+    requires changes { attempt.old.changes ≡ Change.Delta (record { id = 7 }) 3 ∷ [] }
+{
+    if kv.number() >= 1000 || !kv.is_pinned(1) {
+        return Err("no install is possible".into());
+    }
+    if !fits_three(kv.read_at(1, &Name { id: 7 })) {
+        return Err("the push does not fit".into());
+    }
+    Ok(outcome_of(attempt.install(kv)?))
+}
+
+/// What becomes of two attempts from base 1 that push 3 to key 7, one after the other.
+fn two(alloc: Global, kv: &mut Counts, reads: bool) -> Result<(Ended, Ended), Fail> {
+    let mut first = pushing(alloc, kv, reads)?;
+    let mut second = pushing(alloc, kv, reads)?;
+    let one = tried(kv, &mut first)?;
+    let other = tried(kv, &mut second)?;
+    Ok((one, other))
+}
+
+/// Pins the number, and installs an attempt from it that removes the keys 1 to 9.
+fn cut_all(alloc: Global, kv: &mut Counts) -> Result<Ended, Fail> {
+    let base = kv.number();
+    if base >= 1000 {
+        return Err("no install is possible".into());
+    }
+    kv.pin(base)?;
+    if !kv.is_pinned(base) {
+        return Err("nothing was pinned".into());
+    }
+    let mut cut: Counting = Attempt::new(alloc, base)?;
+    cut.cut_range(Name { id: 1 }, Name { id: 9 })?;
+    Ok(outcome_of(cut.install(kv)?))
+}
+
+/// The value of key 7 now; 0 stands for none.
+fn value(kv: &Counts) -> u64 {
+    kv.read_at(kv.number(), &Name { id: 7 })
+        .map_or(0, |count| count.n)
+}
+
+#[test]
+fn conflicts_where_a_key_moved(rt: HostRuntime) -> Result<(), Fail> {
+    // The second read a key that moved, or its push fits no longer.
+    for (n, reads) in [(50, true), (60, false)] {
+        let mut kv = store(rt.alloc(), n)?;
+        let answers = two(rt.alloc(), &mut kv, reads)?;
+        let want = (Ended::Installed(2), Ended::Conflict(7, 1, 2));
+        assert_eq!(rt; answers, want, "from {n}");
+    }
+    Ok(())
+}
+
+#[test]
+fn installs_what_no_read_forbids(rt: HostRuntime) -> Result<(), Fail> {
+    let mut kv = store(rt.alloc(), 50)?;
+    let answers = two(rt.alloc(), &mut kv, false)?;
+    assert_eq!(rt; answers, (Ended::Installed(2), Ended::Installed(3)));
+    assert_eq!(rt; (kv.number(), value(&kv)), (3, 56));
+    assert_eq!(rt; cut_all(rt.alloc(), &mut kv)?, Ended::Installed(4));
+    assert_eq!(rt; (kv.number(), value(&kv)), (4, 0));
+    Ok(())
+}
+
+/// What an attempt reads at key 7; 0 stands for no value.
+fn read(attempt: &mut Counting, kv: &Counts) -> Result<u64, Fail> {
+    if !kv.is_pinned(attempt.base()) {
+        return Err("the base is not pinned".into());
+    }
+    let value = attempt.read(kv, &Name { id: 7 })?;
+    Ok(value.map_or(0, |count| count.n))
+}
+
+/// What an attempt shows at key 7, before and after it is settled; 0 stands for no value.
+fn peek(attempt: &mut Counting, kv: &Counts) -> Result<(u64, u64), Fail> {
+    if !kv.is_pinned(attempt.base()) {
+        return Err("the base is not pinned".into());
+    }
+    let key = Name { id: 7 };
+    let before = attempt.peek(kv, &key)?.map_or(0, |count| count.n);
+    attempt.settle(kv, &key)?;
+    Ok((before, attempt.peek(kv, &key)?.map_or(0, |count| count.n)))
+}
+
+/// Pushes to key 7.
+fn push(attempt: &mut Counting, by: u64) -> Result<(), OutOfMemory> {
+    attempt.delta(Name { id: 7 }, by)
+}
+
+/// Removes key 7.
+fn cut(attempt: &mut Counting) -> Result<(), OutOfMemory> {
+    attempt.cut_range(Name { id: 7 }, Name { id: 8 })
+}
+
+/// Goes back to a mark.
+fn go_back(attempt: &mut Counting, mark: Mark) -> Result<(), Fail> {
+    let now = attempt.mark();
+    if mark.reads > now.reads || mark.changes > now.changes {
+        return Err("the attempt is not there yet".into());
+    }
+    attempt.rewind(mark);
+    Ok(())
+}
+
+#[test]
+fn goes_back_to_a_mark(rt: HostRuntime) -> Result<(), Fail> {
+    let kv = store(rt.alloc(), 50)?;
+    let mut attempt = pushing(rt.alloc(), &kv, true)?;
+    let mark = attempt.mark();
+    assert_eq!(rt; (mark.reads, mark.changes), (3, 1));
+    push(&mut attempt, 4)?;
+    cut(&mut attempt)?;
+    push(&mut attempt, 5)?;
+    assert_eq!(rt; peek(&mut attempt, &kv)?, (5, 5));
+    go_back(&mut attempt, mark)?;
+    assert_eq!(rt; peek(&mut attempt, &kv)?, (53, 53));
+    Ok(())
+}
+
+/// Checks that a push of 4 shows and goes again, and that a push of 1 makes `n` of the key.
+fn steps(rt: &impl Abort, attempt: &mut Counting, kv: &Counts, n: u64) -> Result<(), Fail> {
+    let mark = attempt.mark();
+    push(attempt, 4)?;
+    assert_eq!(rt; read(attempt, kv)?, n.saturating_add(3));
+    go_back(attempt, mark)?;
+    push(attempt, 1)?;
+    assert_eq!(rt; read(attempt, kv)?, n);
+    Ok(())
+}
+
+#[test]
+fn a_read_sees_each_change(rt: HostRuntime) -> Result<(), Fail> {
+    let kv = store(rt.alloc(), 20)?;
+    let mut attempt = Attempt::new(rt.alloc(), 1)?;
+    for n in 21..30 {
+        steps(&rt, &mut attempt, &kv, n)?;
+    }
+    assert_eq!(rt; read(&mut attempt, &store(rt.alloc(), 50)?)?, 59);
+    cut(&mut attempt)?;
+    assert_eq!(rt; read(&mut attempt, &kv)?, 0);
+    Ok(())
+}

@@ -1,0 +1,79 @@
+//! Slices, entries and pieces made from plain numbers.
+
+use std::alloc::Global;
+use std::test::Fail;
+use wtf_base::{InodeId, OutOfMemory, Pointer, ServerId, Slice, TxId};
+use wtf_overlay::{Entry, Overlay, Part, Piece};
+
+/// An entry: its offset, where its bytes begin in file 0 of server 0 (none: zeros), and how many they are.
+pub(crate) type Row = (u32, Option<u64>, u32);
+
+/// The slice of the `len` bytes at `at`, in file 0 of server 0: A is the 6 bytes at 0, X the 2 at 6.
+pub(crate) fn slice(at: u64, len: u32) -> Option<Slice> {
+    Slice::of(&[Pointer {
+        server: ServerId(0),
+        file: 0,
+        at,
+        len,
+    }])
+}
+
+/// The entry at `off` of the `len` bytes at `at`.
+fn held(off: u32, at: u64, len: u32) -> Option<Entry> {
+    let slice = slice(at, len)?;
+    let _end = off.checked_add(slice.len())?;
+    Some(Entry::of(off, slice.len(), Part::Held(slice)))
+}
+
+/// Zeros of `len` bytes at `off`.
+fn zeros(off: u32, len: u32) -> Option<Entry> {
+    let _end = off.checked_add(len)?;
+    if len == 0 {
+        return None;
+    }
+    Some(Entry::of(off, len, Part::Zero))
+}
+
+/// The entry of a row.
+pub(crate) fn entry(row: Row) -> Option<Entry> {
+    match row {
+        (off, Some(at), len) => held(off, at, len),
+        (off, None, len) => zeros(off, len),
+    }
+}
+
+/// The list of the entries of some rows.
+pub(crate) fn list_of(alloc: Global, rows: &[Row]) -> Result<Overlay, Fail> {
+    let mut list = Overlay::new(alloc)?;
+    for row in rows {
+        list.push(entry(*row).ok_or("no entry")?)?;
+    }
+    Ok(list)
+}
+
+/// Where the bytes of a part begin in file 0 of server 0.
+pub(crate) fn place(part: Part) -> Option<u64> {
+    match part {
+        Part::Zero => None,
+        Part::Held(slice) => Some(slice.pointer(0).at),
+    }
+}
+
+/// Pieces of zeros, of so many bytes each.
+pub(crate) fn pieces(alloc: Global, lens: &[u64]) -> Result<Vec<Piece>, OutOfMemory> {
+    let mut pieces = Vec::new(alloc);
+    for len in lens {
+        if *len > 0 {
+            pieces.push(Piece::of(*len, Part::Zero))?;
+        }
+    }
+    Ok(pieces)
+}
+
+/// An inode.
+pub(crate) fn inode() -> InodeId {
+    InodeId {
+        tx: TxId(1),
+        index: 2,
+    }
+}
