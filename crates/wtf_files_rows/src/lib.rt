@@ -1,2 +1,23 @@
 //! Tests, from outside, of files and transactions.
 #![tactic(auto)]
+
+#[cfg(test)]
+mod index;
+#[cfg(test)]
+mod ops;
+#[cfg(test)]
+mod region;
+#[cfg(test)]
+mod replay;
+#[cfg(test)]
+mod rw;
+#[cfg(test)]
+mod slicing;
+#[cfg(test)]
+mod steps;
+#[cfg(test)]
+mod store;
+#[cfg(test)]
+mod texts;
+#[cfg(test)]
+mod turns;

@@ -1,0 +1,243 @@
+//! Files of regions of 64 bytes, over stores in memory.
+
+ghost use Rattle.std.specs.Prelude.{IfOk, OnOk};
+ghost use Rattle.wtf_dev.specs.Memory.{mem_store};
+ghost use Rattle.wtf_region.specs.Devs.{IsSoundDev, stores};
+ghost use Rattle.wtf_replica.specs.Copies.{IsInside};
+
+use crate::store::{FILE, NEVER, Parts, made_parts, settings};
+use std::alloc::Global;
+use std::test::Fail;
+use wtf_base::Slice;
+use wtf_dev::MemStore;
+use wtf_kv::Kv;
+use wtf_meta::{Delta, Key, Value};
+use wtf_occ::Attempt;
+use wtf_overlay::{Part, Piece};
+use wtf_region::{Added, Dev, FileEnd, add_at, add_pieces, file_end, file_len, pieces, put_pieces, region_list, show, store_bytes};
+
+/// Stores ten digits that are to stand at an offset of the file.
+fn digits_stored(dev: &mut Dev<'_, MemStore>, off: u64) -> Result<Slice, Fail>
+    requires { IsSoundDev dev.old }
+    ensures sound { OnOk result (IsSoundDev dev.new) }
+    ensures inside { IfOk result (IsInside mem_store (stores dev.new)) }
+{
+    if off >= dev.settings.cap() {
+        return Err(Fail::from("an offset past the greatest length"));
+    }
+    let slice = store_bytes(dev, FILE, off, b"0123456789")?;
+    Ok(slice)
+}
+
+/// Lays a slice over the file at an offset.
+fn laid(at: &mut Attempt<Key, Value>, off: u64, slice: Slice) -> Result<(), Fail> {
+    let settings = settings()?;
+    let len = slice.len() as u64;
+    if off > 1000 || len > 1000 {
+        return Err(Fail::from("a range that is too long"));
+    }
+    put_pieces(at, FILE, off, &[Piece::of(len, Part::Held(slice))], settings)?;
+    Ok(())
+}
+
+/// The lengths of the pieces of a range of the file.
+fn piece_lens(
+    alloc: Global,
+    dev: &mut Dev<'_, MemStore>,
+    kv: &Kv<Key, Value>,
+    at: &mut Attempt<Key, Value>,
+    off: u64,
+    len: u64,
+) -> Result<Vec<u64>, Fail>
+    requires { IsSoundDev dev.old }
+{
+    let cap = dev.settings.cap();
+    if off > cap || len > cap - off || !kv.is_pinned(at.base()) {
+        return Err(Fail::from("a range past the greatest length"));
+    }
+    let mut lens = Vec::new(alloc);
+    for piece in &pieces(alloc, dev, kv, at, FILE, off, len)? {
+        lens.push(piece.len)?;
+    }
+    Ok(lens)
+}
+
+/// Where each entry of a region of the file begins, and how long it is.
+fn entries(
+    alloc: Global,
+    dev: &mut Dev<'_, MemStore>,
+    kv: &Kv<Key, Value>,
+    at: &mut Attempt<Key, Value>,
+    region: u16,
+) -> Result<Vec<(u32, u32)>, Fail>
+    requires { IsSoundDev dev.old }
+    ensures { OnOk result (IsSoundDev dev.new) }
+{
+    if !kv.is_pinned(at.base()) {
+        return Err(Fail::from("no pin"));
+    }
+    let Some(Value::Region(value)) = at.read(kv, &Key::Region(FILE, region))? else {
+        return Err(Fail::from("no region"));
+    };
+    let list = region_list(dev, &value)?;
+    let mut all = Vec::new(alloc);
+    for i in 0..list.len() {
+        let entry = list.get(i);
+        all.push((entry.off, entry.len))?;
+    }
+    Ok(all)
+}
+
+fn len(kv: &Kv<Key, Value>, at: &mut Attempt<Key, Value>) -> Result<u64, Fail> {
+    if !kv.is_pinned(at.base()) {
+        return Err(Fail::from("no pin"));
+    }
+    Ok(file_len(kv, at, FILE, settings()?)?)
+}
+
+fn end(kv: &Kv<Key, Value>, at: &mut Attempt<Key, Value>) -> Result<FileEnd, Fail> {
+    if !kv.is_pinned(at.base()) {
+        return Err(Fail::from("no pin"));
+    }
+    Ok(file_end(kv, at, FILE))
+}
+
+/// Adds so many zeros at the end of the file.
+fn zeros_added(
+    alloc: Global,
+    kv: &Kv<Key, Value>,
+    at: &mut Attempt<Key, Value>,
+    len: u64,
+) -> Result<Added, Fail> {
+    if len < 1 || !kv.is_pinned(at.base()) {
+        return Err(Fail::from("no zeros, or no pin"));
+    }
+    let piece = Piece::of(len, Part::Zero);
+    Ok(add_pieces(alloc, kv, at, FILE, &[piece], settings()?)?)
+}
+
+/// Adds so many zeros where the file ends.
+fn zeros_added_at(
+    alloc: Global,
+    at: &mut Attempt<Key, Value>,
+    end: FileEnd,
+    len: u64,
+) -> Result<Added, Fail> {
+    if len < 1 {
+        return Err(Fail::from("no zeros"));
+    }
+    let piece = Piece::of(len, Part::Zero);
+    Ok(add_at(alloc, at, FILE, end, &[piece], settings()?)?)
+}
+
+/// A store that is pinned, and an attempt that has made the file.
+fn begun(alloc: Global) -> Result<(Kv<Key, Value>, Attempt<Key, Value>), Fail> {
+    let mut kv = Kv::new(alloc)?;
+    kv.pin(0)?;
+    let mut at = Attempt::new(alloc, 0)?;
+    at.delta(Key::Inode(FILE), Delta::Put(Value::Last(0)))?;
+    Ok((kv, at))
+}
+
+/// Writes ten digits at offset 60, and tells the lengths of the pieces there, and the entries of the
+/// second region.
+fn digits_laid(
+    alloc: Global,
+    kv: &Kv<Key, Value>,
+    at: &mut Attempt<Key, Value>,
+) -> Result<(Vec<u64>, Vec<(u32, u32)>), Fail> {
+    let Parts {
+        mut shelf,
+        replicas,
+        ring,
+        mut cache,
+        settings,
+    } = made_parts(alloc, NEVER, 2)?;
+    let mut dev = Dev {
+        shelf: &mut shelf,
+        replicas: &replicas,
+        ring: &ring,
+        cache: &mut cache,
+        settings,
+    };
+    let slice = digits_stored(&mut dev, 60)?;
+    laid(at, 60, slice)?;
+    let listed = entries(alloc, &mut dev, kv, at, 1)?;
+    let lens = piece_lens(alloc, &mut dev, kv, at, 60, 10)?;
+    Ok((lens, listed))
+}
+
+#[test]
+fn a_write_over_a_border_and_an_append_past_the_end(rt: HostRuntime) -> Result<(), Fail> {
+    let alloc = rt.alloc();
+    let (kv, mut at) = begun(alloc)?;
+    let (lens, listed) = digits_laid(alloc, &kv, &mut at)?;
+    assert_eq!(rt; len(&kv, &mut at)?, 70);
+    assert_eq!(rt; lens.as_slice(), [4, 6].as_slice());
+    assert_eq!(rt; listed.as_slice(), [(0, 6)].as_slice());
+    // Of 262,144 bytes at most 262,074 are left.
+    let rows = [
+        (262_075, Added::TooBig, 70),
+        (262_074, Added::Done, 262_144),
+    ];
+    for (more, want, whole) in rows {
+        assert_eq!(rt; zeros_added(alloc, &kv, &mut at, more)?, want, "of {more}");
+        assert_eq!(rt; len(&kv, &mut at)?, whole, "of {more}");
+    }
+    let want = FileEnd {
+        region: 4095,
+        off: 64,
+    };
+    assert_eq!(rt; end(&kv, &mut at)?, want);
+    Ok(())
+}
+
+#[test]
+fn zeros_are_added_where_the_file_ends(rt: HostRuntime) -> Result<(), Fail> {
+    let alloc = rt.alloc();
+    let (kv, mut at) = begun(alloc)?;
+    let from = end(&kv, &mut at)?;
+    assert_eq!(rt; zeros_added_at(alloc, &mut at, from, 70)?, Added::Done);
+    assert_eq!(rt; len(&kv, &mut at)?, 70);
+    assert_eq!(rt; end(&kv, &mut at)?, FileEnd { region: 1, off: 6 });
+    Ok(())
+}
+
+/// Stores ten digits, and shows the middle of two zeros with the digits behind them.
+fn show_middle(dev: &mut Dev<'_, MemStore>, out: &mut Vec<u8>) -> Result<(), Fail>
+    requires { IsSoundDev dev.old }
+{
+    let slice = digits_stored(dev, 64)?;
+    let zeros = Piece::of(2, Part::Zero);
+    let digits = Piece::of(slice.len() as u64, Part::Held(slice));
+    show(dev, &[zeros, digits], 1, 5, out)?;
+    Ok(())
+}
+
+/// What is shown of them behind a byte.
+fn middle_shown(alloc: Global) -> Result<Vec<u8>, Fail> {
+    let Parts {
+        mut shelf,
+        replicas,
+        ring,
+        mut cache,
+        settings,
+    } = made_parts(alloc, NEVER, 2)?;
+    let mut dev = Dev {
+        shelf: &mut shelf,
+        replicas: &replicas,
+        ring: &ring,
+        cache: &mut cache,
+        settings,
+    };
+    let mut out = b"x".to_vec(alloc)?;
+    show_middle(&mut dev, &mut out)?;
+    Ok(out)
+}
+
+#[test]
+fn what_is_stored_is_shown(rt: HostRuntime) -> Result<(), Fail> {
+    let out = middle_shown(rt.alloc())?;
+    assert_eq!(rt; out.as_slice(), b"x\x000123".as_slice());
+    Ok(())
+}

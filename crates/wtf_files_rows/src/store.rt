@@ -1,0 +1,114 @@
+//! What calls are lent: two servers with two copies of a slice, and regions of 64 bytes.
+
+ghost use Rattle.std.specs.Prelude.{◌≡◌, [], List, Bool, length, true, IfOk};
+ghost use Rattle.wtf_overlay.specs.Origin.{Place};
+ghost use Rattle.wtf_meta.specs.Bytes.{MapBytes};
+ghost use Rattle.wtf_meta.specs.Maps.{seen};
+ghost use Rattle.wtf_replica.specs.Downs.{settings_of};
+
+use std::alloc::Global;
+use std::test::Fail;
+use wtf_base::{InodeId, Settings, TxId};
+use wtf_dev::{MemStore, Shelf};
+use wtf_kv::Kv;
+use wtf_occ::Attempt;
+use wtf_path::Path;
+use wtf_region::RegionCache;
+use wtf_replica::Replicas;
+use wtf_ring::Ring;
+use wtf_values::{Delta, Key, NameSet, Node, Value};
+
+/// A number that no call of a store reaches.
+pub(crate) const NEVER: u64 = u64::MAX;
+
+/// The file `/a`.
+pub(crate) const FILE: InodeId = InodeId {
+    tx: TxId(1),
+    index: 1,
+};
+
+/// What a `Dev` is made of.
+#[derive(Drop)]
+pub(crate) struct Parts {
+    pub(crate) shelf: Shelf<MemStore>,
+    pub(crate) replicas: Replicas,
+    pub(crate) ring: Ring,
+    pub(crate) cache: RegionCache,
+    pub(crate) settings: Settings,
+}
+
+pub(crate) fn settings() -> Result<Settings, Fail>
+    ensures { IfOk result (λ s. s.servers ≡ 2) }
+{
+    let settings = Settings::new(2, 2, 64).ok_or("settings")?;
+    Ok(settings)
+}
+
+/// The stores of two servers, of which each fails in the call with this number.
+fn two_stores(alloc: Global, fails: u64) -> Result<Shelf<MemStore>, Fail>
+    ensures { IfOk result (λ shelf. length shelf ≡ 2) }
+{
+    let mut stores = Vec::new(alloc);
+    stores.push(MemStore::new(alloc, vec![in alloc; fails]?))?;
+    stores.push(MemStore::new(alloc, vec![in alloc; fails]?))?;
+    Ok(Shelf::new(alloc, stores))
+}
+
+/// Two servers, of which the second is down where only one is to be up.
+fn servers(settings: Settings, up: u8) -> Replicas
+    requires { settings.servers ≡ 2 }
+    ensures { settings_of result ≡ settings }
+{
+    let mut replicas = Replicas::new(settings);
+    if up < 2 {
+        replicas.down(1);
+        return replicas;
+    }
+    replicas
+}
+
+/// The parts, with each store failing in the call `fails`, and the servers from `up` on down.
+pub(crate) fn made_parts(alloc: Global, fails: u64, up: u8) -> Result<Parts, Fail>
+    ensures settings { IfOk result (λ p. p.settings.servers ≡ 2) }
+    ensures replicas { IfOk result (λ p. settings_of p.replicas ≡ p.settings) }
+    ensures ring { IfOk result (λ p. p.ring.servers ≡ p.settings.servers) }
+    ensures shelf { IfOk result (λ p. length p.shelf ≡ 2) }
+    ensures cache { IfOk result (λ p. p.cache ≡ []) }
+{
+    let settings = settings()?;
+    let shelf = two_stores(alloc, fails)?;
+    let replicas = servers(settings, up);
+    let ring = Ring::new(alloc, settings.servers)?;
+    let cache = RegionCache::new(alloc)?;
+    Ok(Parts {
+        shelf,
+        replicas,
+        ring,
+        cache,
+        settings,
+    })
+}
+
+pub(crate) fn path(alloc: Global, text: &str) -> Result<Path, Fail> {
+    Ok(Path::parse(alloc, text.as_bytes())?)
+}
+
+/// An attempt that has made the root, the directory `/d` and the file `/a`.
+pub(crate) fn begun(alloc: Global) -> Result<(Kv<Key, Value>, Attempt<Key, Value>), Fail>
+    ensures bytes { IfOk result
+        (λ r. (P : List Place → Bool) → P [] ≡ true → MapBytes P (seen r.0 r.1)) }
+{
+    let mut kv: Kv<Key, Value> = Kv::new(alloc)?;
+    kv.pin(0)?;
+    let mut at: Attempt<Key, Value> = Attempt::new(alloc, 0)?;
+    let dir = Value::Node(Node::Folder);
+    at.delta(Key::Path(path(alloc, "/")?), Delta::Put(dir))?;
+    let names = Value::Names(NameSet::new(alloc));
+    at.delta(Key::Dir(path(alloc, "/")?), Delta::Put(names))?;
+    let file = Value::Node(Node::File(FILE));
+    at.delta(Key::Path(path(alloc, "/a")?), Delta::Put(file))?;
+    at.delta(Key::Inode(FILE), Delta::Put(Value::Last(0)))?;
+    let dir = Value::Node(Node::Folder);
+    at.delta(Key::Path(path(alloc, "/d")?), Delta::Put(dir))?;
+    Ok((kv, at))
+}
