@@ -1,34 +1,34 @@
 //! The program.
 #![tactic(auto)]
 
-ghost use Rattle.std.specs.Prelude.{◌≡◌, drop, length, replicate, IfOk, IfErr};
+ghost use Rattle.std.specs.Prelude.{◌≡◌, drop, IfErr};
 ghost use Rattle.std.specs.Process.{exit_status};
-ghost use Rattle.wtf_cli.specs.Program.{IsStatus, empty_store, open_status};
+ghost use Rattle.wtf_cli.specs.Program.{IsStatus, open_status};
 
+mod devices;
+mod first_word;
 mod status;
 
+use crate::devices::{Opened, in_folder, in_memory};
+use crate::first_word::{First, USAGE, VERSION, first_of};
 use crate::status::{NO_DIRECTORY, line_of, open_status};
-use std::alloc::Global;
-use std::env::{self, Env};
+use std::env::{self, Env, FillError};
 use std::fs::File;
 use std::io;
 use std::process::ExitCode;
-use wtf_base::OutOfMemory;
-use wtf_dev::{Keeper, MemKeeper, MemStore, Shelf, SliceStore};
-use wtf_real::{DirStore, FileKeeper, OpenFault, streams};
-use wtf_serve::{OUT_OF_MEMORY, WORDS_REFUSED, WRITING_FAILED, wtf};
-
-/// How many stores there are.
-const STORES: u8 = 16;
+use wtf_dev::{Keeper, SliceStore};
+use wtf_real::{FolderLock, OpenFault, StandIns, streams};
+use wtf_serve::{FINISHED, OUT_OF_MEMORY, WORDS_REFUSED, WRITING_FAILED, wtf};
 
 /// The greatest length of a path, in bytes: the system opens no longer one.
 const PATH_BYTES: usize = 4_096;
 
 /// `wtf DIR WORDS..` answers the script on standard input on standard output. DIR holds a folder for each server, `s0` to
-/// `s15`, and the file `image`; what is missing of the folders is made. For the DIR `-` stores and keeper are in memory
-/// and end with the run. A missing DIR, or one where something cannot be opened, ends with status 10 before the words are
-/// read. Else the status is that of the run, and of the words before it; for each status but 0 its line is written on
-/// standard error.
+/// `s15`, the file `image` and the file `lock`; what is missing of these but the image is made. For the DIR `-` stores and
+/// keeper are in memory and end with the run. A DIR that is missing, empty or begins with `-`, one that another run holds,
+/// or one where something cannot be opened, ends with status 10 before the words are read. Else the status is that of the
+/// run, and of the words before it; for each status but 0 its line is written on standard error. `--help` and `--version`
+/// alone show what they say.
 fn main(rt: HostRuntime) -> ExitCode {
     told(&rt, status_of(&rt))
 }
@@ -44,73 +44,64 @@ fn told(rt: &HostRuntime, status: u8) -> ExitCode
     ExitCode::from(status)
 }
 
-/// The stores and the keeper of a run.
-#[derive(Drop)]
-struct Opened<S, K> {
-    shelf: Shelf<S>,
-    keeper: K,
-}
-
-/// Makes the devices that DIR names, runs the script, and answers its status.
+/// Does what the words ask for, and answers its status. The standard streams are all open before any other file is.
 fn status_of(rt: &HostRuntime) -> u8
     ensures { IsStatus result }
 {
-    let dir = match dir_of(rt) {
-        Ok(dir) => dir,
-        Err(status) => return status,
+    let standing = match StandIns::open(rt) {
+        Ok(standing) => standing,
+        Err(fault) => return open_status(fault),
     };
-    if dir.as_str() == "-" {
-        return run(rt, in_memory(rt.alloc()));
-    }
-    run(rt, in_folders(rt, dir.as_str()))
-}
-
-/// DIR, the word behind the program's name, or the status where it cannot be had. The words behind it may be no text.
-fn dir_of(rt: &HostRuntime) -> Result<String, u8>
-    ensures { IfErr result IsStatus }
-{
     let mut bytes = [0u8; PATH_BYTES];
-    let Ok(n) = rt.arg(1, &mut bytes) else {
-        return Err(NO_DIRECTORY);
+    let Some(word) = word_given(rt, &mut bytes) else {
+        return NO_DIRECTORY;
     };
-    let Ok(dir) = str::from_utf8(&bytes[..n]) else {
-        return Err(NO_DIRECTORY);
-    };
-    match dir.to_string(rt.alloc()) {
-        Ok(dir) => Ok(dir),
-        Err(_) => Err(OUT_OF_MEMORY),
+    match first_of(word, is_alone(rt)) {
+        First::Folder => return run_in(rt, &standing, word),
+        First::Memory => return run(rt, in_memory(rt.alloc())),
+        First::Help => return show(rt, USAGE),
+        First::Version => return show(rt, VERSION),
+        First::NoFolder => return NO_DIRECTORY,
     }
 }
 
-/// Stores and a keeper in memory.
-fn in_memory(alloc: Global) -> Result<Opened<MemStore, MemKeeper>, OpenFault>
-    ensures { IfOk result (λ opened. opened.shelf ≡ replicate 16 empty_store) }
-{
-    let Ok(stores) = empty_stores(alloc) else {
-        return Err(OpenFault::Memory);
+/// The word behind the program's name, where there is one that is text. The words behind it may be none.
+fn word_given<'a>(rt: &HostRuntime, bytes: &'a mut [u8]) -> Option<&'a str> {
+    let Ok(n) = rt.arg(1, bytes) else {
+        return None;
     };
-    Ok(Opened {
-        shelf: Shelf::new(alloc, stores),
-        keeper: MemKeeper::new(alloc, Vec::new(alloc), Vec::new(alloc)),
-    })
+    match str::from_utf8(&bytes[..n]) {
+        Ok(word) => Some(word),
+        Err(_) => None,
+    }
 }
 
-/// The folders and the image in a directory.
-fn in_folders(
-    rt: &HostRuntime,
-    dir: &str,
-) -> Result<Opened<DirStore<File>, FileKeeper<HostRuntime>>, OpenFault>
-    ensures { IfOk result (λ opened. length opened.shelf ≡ 16) }
+/// Whether there is no second word.
+fn is_alone(rt: &HostRuntime) -> bool {
+    matches!(rt.arg(2, &mut []), Err(FillError::NotPresent))
+}
+
+/// Writes a text on standard output.
+fn show(rt: &HostRuntime, text: &str) -> u8
+    ensures { IsStatus result }
 {
-    let stores = open_stores(rt, dir)?;
-    let Ok(image) = format!(in rt.alloc(); "{dir}/image") else {
-        return Err(OpenFault::Memory);
+    match print!(rt; "{text}") {
+        Ok(()) => FINISHED,
+        Err(_) => WRITING_FAILED,
+    }
+}
+
+/// Runs the script over the folder of a store, and holds the folder until the run is over.
+fn run_in(rt: &HostRuntime, standing: &StandIns<File>, dir: &str) -> u8
+    ensures { IsStatus result }
+{
+    let lock = match FolderLock::open(rt, standing, dir) {
+        Ok(lock) => lock,
+        Err(fault) => return open_status(fault),
     };
-    let keeper = FileKeeper::open(rt, image.as_str())?;
-    Ok(Opened {
-        shelf: Shelf::new(rt.alloc(), stores),
-        keeper,
-    })
+    let status = run(rt, in_folder(rt, &lock));
+    drop(lock);
+    status
 }
 
 /// Runs the script on standard input over the devices, where they could be opened: else no word is read. The last answers
@@ -124,7 +115,7 @@ fn run<S: SliceStore + Drop, K: Keeper + Drop>(
 {
     let mut opened = match opened {
         Ok(opened) => opened,
-        Err(fault) => return open_status(fault),
+        Err(unopened) => return open_status(unopened),
     };
     let args = match args_of(rt) {
         Ok(args) => args,
@@ -167,37 +158,4 @@ fn args_of(rt: &HostRuntime) -> Result<Vec<String>, u8>
         Ok(args) => Ok(args),
         Err(_) => Err(OUT_OF_MEMORY),
     }
-}
-
-/// Empty stores, which fail only for want of memory.
-fn empty_stores(alloc: Global) -> Result<Vec<MemStore>, OutOfMemory>
-    ensures { IfOk result (λ stores. stores.items ≡ replicate 16 empty_store) }
-{
-    let mut stores = Vec::new(alloc);
-    for _ in 0..STORES {
-        stores.push(MemStore::new(alloc, Vec::new(alloc)))?;
-    }
-    Ok(stores)
-}
-
-/// The stores in the folders `s0` to `s15` of a directory.
-fn open_stores(rt: &HostRuntime, dir: &str) -> Result<Vec<DirStore<File>>, OpenFault>
-    ensures { IfOk result (λ stores. length stores.items ≡ 16) }
-{
-    let mut stores = Vec::new(rt.alloc());
-    for k in 0..STORES {
-        let store = open_store(rt, dir, k)?;
-        if stores.push(store).is_err() {
-            return Err(OpenFault::Memory);
-        }
-    }
-    Ok(stores)
-}
-
-/// The store in the folder of server `k`.
-fn open_store(rt: &HostRuntime, dir: &str, k: u8) -> Result<DirStore<File>, OpenFault> {
-    let Ok(path) = format!(in rt.alloc(); "{dir}/s{k}") else {
-        return Err(OpenFault::Memory);
-    };
-    DirStore::open(rt, path.as_str())
 }

@@ -2,3 +2,5 @@ pub mod Files
 pub mod Gathers
 pub mod Folders
 pub mod Images
+pub mod Numbers
+pub mod Locks

@@ -5,13 +5,16 @@ ghost use Rattle.std.specs.Result.{is_err};
 ghost use Rattle.wtf_dev.specs.Counts.{Rose, risen};
 ghost use Rattle.wtf_dev.specs.Store.{Appended, Agrees, SameSizes, Kept};
 ghost use Rattle.wtf_real.specs.Folders.{folder_view, folder_store, folder_laws};
+ghost use Rattle.wtf_real.specs.Numbers.{IsNoStream};
 
-use crate::OpenFault;
 use crate::counts::Faults;
 use crate::parts::{read_at, sync_all, write_at, zero_at};
+use crate::standing::no_stream;
+use crate::{FolderLock, Lockable, OpenFault};
 use std::fs::{self, OpenFile, OpenOptions};
 use std::io::{Read, Seek, Write};
 use std::marker::Model;
+use std::os::fd::AsRawFd;
 use std::rt::Files;
 use wtf_dev::{Failed, SliceStore};
 
@@ -41,12 +44,13 @@ impl<F> Model for DirStore<F> {
 }
 
 /// A file of a folder, made where it is missing, and its length.
-fn open_file<R: Files + AllocGlobal>(
+fn open_file<F: OpenFile + AsRawFd + Drop, R: Files<File = F> + AllocGlobal>(
     rt: &R,
     path: &str,
     file: u8,
-) -> Result<(R::File, u64), OpenFault>
-    ensures { IfOk result (λ opened. opened.1 < 2 ^ 61) }
+) -> Result<(F, u64), OpenFault>
+    ensures number { IfOk result (λ opened. IsNoStream F.raw_fd opened.0) }
+    ensures length { IfOk result (λ opened. opened.1 < 2 ^ 61) }
 {
     let Ok(name) = format!(in rt.alloc(); "{path}/{file}") else {
         return Err(OpenFault::Memory);
@@ -56,6 +60,7 @@ fn open_file<R: Files + AllocGlobal>(
         .write(true)
         .create(true)
         .open(rt, name.as_str())?;
+    let opened = no_stream(opened)?;
     let len = opened.metadata()?.len();
     if len >= LIMIT {
         return Err(OpenFault::Failed);
@@ -63,16 +68,21 @@ fn open_file<R: Files + AllocGlobal>(
     Ok((opened, len))
 }
 
-impl<F: Read + Write + Seek + OpenFile + Drop> DirStore<F> {
-    /// The store in the folder of this path, which holds the files `0` to `7`: the folder, the folders above it and the
-    /// files are made where they are missing.
+impl<F: OpenFile + AsRawFd + Lockable + Drop> DirStore<F> {
+    /// The store of server K in a folder that is held: in the folder `sK` in it, which holds the files `0` to `7`. These and
+    /// the folder are made where they are missing.
     pub fn open<R: Files<File = F> + AllocGlobal>(
         rt: &R,
-        path: &str,
+        lock: &FolderLock<F>,
+        server: u8,
     ) -> Result<DirStore<F>, OpenFault>
         ensures faults { IfOk result (λ d. d.faults ≡ 0) }
         ensures syncs { IfOk result (λ d. d.syncs ≡ 0) }
     {
+        let Ok(path) = format!(in rt.alloc(); "{}/s{server}", lock.dir()) else {
+            return Err(OpenFault::Memory);
+        };
+        let path = path.as_str();
         fs::create_dir_all(rt, path)?;
         let f0 = open_file(rt, path, 0)?;
         let f1 = open_file(rt, path, 1)?;

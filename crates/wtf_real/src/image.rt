@@ -6,13 +6,15 @@ ghost use Rattle.wtf_dev.specs.Counts.{Rose, risen};
 ghost use Rattle.wtf_dev.specs.Calls.{has_failed};
 ghost use Rattle.wtf_real.specs.Images.{image_view, ImageFollows, image_same, image_on};
 
-use crate::OpenFault;
 use crate::counts::Faults;
 use crate::parts::{read_whole, write_synced};
+use crate::standing::no_stream;
+use crate::{FolderLock, Lockable, OpenFault};
 use std::alloc::Global;
 use std::fs::{self, File, OpenFile};
 use std::io::{self, ErrorKind, Write};
 use std::marker::Model;
+use std::os::fd::AsRawFd;
 use std::rt::Files;
 use wtf_dev::{Failed, Keeper, LoadFault};
 
@@ -37,15 +39,6 @@ impl<R: Files> Model for FileKeeper<R> {
     ghost view = { λ k. record { faults = k.faults } };
 }
 
-/// The folder that holds the file of a path.
-fn folder_of(path: &str) -> &str {
-    match path.rsplit_once('/') {
-        Some(("", _)) => "/",
-        Some((folder, _)) => folder,
-        None => ".",
-    }
-}
-
 /// Whether a path names a file, or nothing.
 fn may_be_image<R: Files>(rt: &R, path: &str) -> io::Result<bool> {
     match fs::metadata(rt, path) {
@@ -55,21 +48,24 @@ fn may_be_image<R: Files>(rt: &R, path: &str) -> io::Result<bool> {
     }
 }
 
-impl<R: Files + AllocGlobal + Copy> FileKeeper<R> {
-    /// The keeper of the image in the file of this path. The file may be missing, but not the folder that it is in.
-    pub fn open(rt: &R, path: &str) -> Result<FileKeeper<R>, OpenFault>
+impl<R: Files + AllocGlobal + Copy> FileKeeper<R>
+where
+    R::File: AsRawFd + Lockable,
+{
+    /// The keeper of the image in a folder that is held: in the file `image` in it, which may be missing.
+    pub fn open(rt: &R, lock: &FolderLock<R::File>) -> Result<FileKeeper<R>, OpenFault>
         ensures { IfOk result (λ k. k.faults ≡ 0) }
     {
-        let folder = File::open(rt, folder_of(path))?;
-        if !may_be_image(rt, path)? {
-            return Err(OpenFault::Failed);
-        }
+        let folder = no_stream(File::open(rt, lock.dir())?)?;
+        let Ok(path) = format!(in rt.alloc(); "{}/image", lock.dir()) else {
+            return Err(OpenFault::Memory);
+        };
         let Ok(beside) = format!(in rt.alloc(); "{path}.new") else {
             return Err(OpenFault::Memory);
         };
-        let Ok(path) = path.to_string(rt.alloc()) else {
-            return Err(OpenFault::Memory);
-        };
+        if !may_be_image(rt, path.as_str())? {
+            return Err(OpenFault::Failed);
+        }
         Ok(FileKeeper {
             rt: *rt,
             folder,

@@ -1,4 +1,5 @@
-//! The devices over the system: standard streams, a folder of eight files for each server, and the file of an image.
+//! The devices over the system: standard streams, a folder of eight files for each server, and the file of an image, in a
+//! folder that is locked.
 //! Each counts its errors, and tells nothing of what a file or a stream holds.
 #![tactic(auto)]
 
@@ -7,12 +8,16 @@ mod fault;
 mod folder;
 mod gathered;
 mod image;
+mod lock;
 mod parts;
 mod sink;
 mod source;
+mod standing;
 
 pub use fault::OpenFault;
 pub use folder::DirStore;
 pub use image::FileKeeper;
+pub use lock::{FolderLock, Lockable};
 pub use sink::OutSink;
 pub use source::{InSource, streams};
+pub use standing::StandIns;

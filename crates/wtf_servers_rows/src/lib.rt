@@ -4,6 +4,8 @@
 #[cfg(test)]
 mod dev;
 #[cfg(test)]
+mod real;
+#[cfg(test)]
 mod replica;
 #[cfg(test)]
 mod ring;

@@ -1,7 +1,7 @@
 use Rattle.std.proofs.Common.{◌≡◌}
 use Rattle.std.specs.Prelude.{replicate}
 use Rattle.wtf_cli.specs.Program.{empty_store}
-use Rattle.wtf_cli.proofs.empty_stores.Given as goal
+use Rattle.wtf_cli.proofs.devices.empty_stores.Given as goal
 
 -- so many stores were made
 abbrev pub invariant-loop : goal.invariant-loop

@@ -1,0 +1,18 @@
+-- What the program's first word asks for.
+use Rattle.std.specs.Prelude.{ℕ, Bool, false, not, ◌&&◌, ◌==◌, if◌then◌else◌, List, [], ◌∷◌, codes}
+use Rattle.std.specs.Str.{bytes_eq}
+use Rattle.wtf_cli.specs.declared.first_word.First.{First}
+use Rattle.wtf_cli.specs.declared.first_word.First.TheVariants.{Folder, Memory, Help, Version, NoFolder}
+
+-- a word that has a byte and does not begin with `-`
+abbrev pub is_name : List ℕ → Bool
+is_name [] = false
+is_name (first ∷ rest) = not (first == 45)
+
+-- `alone` where no word is behind it
+abbrev pub first_of : List ℕ → Bool → First
+first_of word alone =
+    if bytes_eq word (codes "-") then Memory else (
+    if alone && bytes_eq word (codes "--help") then Help else (
+    if alone && bytes_eq word (codes "--version") then Version else (
+    if is_name word then Folder else NoFolder)))

@@ -1,0 +1,76 @@
+//! The stores and the keeper of a run: in memory, or in a folder.
+
+ghost use Rattle.std.specs.Prelude.{◌≡◌, length, replicate, IfOk};
+ghost use Rattle.wtf_cli.specs.Program.{empty_store};
+
+use std::alloc::Global;
+use std::fs::File;
+use wtf_base::OutOfMemory;
+use wtf_dev::{MemKeeper, MemStore, Shelf};
+use wtf_real::{DirStore, FileKeeper, FolderLock, OpenFault};
+
+/// How many stores there are.
+const STORES: u8 = 16;
+
+/// The stores and the keeper of a run.
+#[derive(Drop)]
+pub(crate) struct Opened<S, K> {
+    pub(crate) shelf: Shelf<S>,
+    pub(crate) keeper: K,
+}
+
+/// Stores and a keeper in memory.
+pub(crate) fn in_memory(alloc: Global) -> Result<Opened<MemStore, MemKeeper>, OpenFault>
+    ensures { IfOk result (λ opened. opened.shelf ≡ replicate 16 empty_store) }
+{
+    let Ok(stores) = empty_stores(alloc) else {
+        return Err(OpenFault::Memory);
+    };
+    Ok(Opened {
+        shelf: Shelf::new(alloc, stores),
+        keeper: MemKeeper::new(alloc, Vec::new(alloc), Vec::new(alloc)),
+    })
+}
+
+/// The stores and the image in a folder that is held.
+pub(crate) fn in_folder(
+    rt: &HostRuntime,
+    lock: &FolderLock<File>,
+) -> Result<Opened<DirStore<File>, FileKeeper<HostRuntime>>, OpenFault>
+    ensures { IfOk result (λ opened. length opened.shelf ≡ 16) }
+{
+    let stores = open_stores(rt, lock)?;
+    let keeper = FileKeeper::open(rt, lock)?;
+    Ok(Opened {
+        shelf: Shelf::new(rt.alloc(), stores),
+        keeper,
+    })
+}
+
+/// Empty stores, which fail only for want of memory.
+fn empty_stores(alloc: Global) -> Result<Vec<MemStore>, OutOfMemory>
+    ensures { IfOk result (λ stores. stores.items ≡ replicate 16 empty_store) }
+{
+    let mut stores = Vec::new(alloc);
+    for _ in 0..STORES {
+        stores.push(MemStore::new(alloc, Vec::new(alloc)))?;
+    }
+    Ok(stores)
+}
+
+/// The stores of all servers in a folder that is held.
+fn open_stores(
+    rt: &HostRuntime,
+    lock: &FolderLock<File>,
+) -> Result<Vec<DirStore<File>>, OpenFault>
+    ensures { IfOk result (λ stores. length stores.items ≡ 16) }
+{
+    let mut stores = Vec::new(rt.alloc());
+    for k in 0..STORES {
+        let store = DirStore::open(rt, lock, k)?;
+        if stores.push(store).is_err() {
+            return Err(OpenFault::Memory);
+        }
+    }
+    Ok(stores)
+}
