@@ -1,7 +1,7 @@
 # `make help` lists the targets. Each needs `rt`, the command of the Rattle kit, on the path.
 
 .DEFAULT_GOAL := build
-.PHONY: build demo demo-bytes run test bench clean help
+.PHONY: build demo demo-bytes demo-edges run test bench clean help
 
 DIR := -
 WORDS :=
@@ -18,6 +18,9 @@ run: ## SCRIPT=FILE [DIR=..] [WORDS=..]: run a script, by build/wtf where it is 
 demo-bytes: build ## 1 MiB in and out; a store gone on with (seconds after the build)
 	@examples/bytes.sh
 	@examples/again/run.sh
+
+demo-edges: build ## closed streams, a folder in use, wrong first words (seconds after the build)
+	@tools/edges build/wtf
 
 test: ## the gate, rt ci, on everything (the first time, the longest)
 	rt ci
