@@ -8,7 +8,7 @@ use wtf_path::Path;
 use wtf_values::Node;
 
 /// The settings as they stand in the image, and its two numbers.
-#[derive(Clone, Copy, Debug, PartialEq, Eq)]
+#[derive(Clone, Copy)]
 pub(crate) struct Header {
     pub(crate) servers: u8,
     pub(crate) replicas: u8,
@@ -21,14 +21,14 @@ pub(crate) struct Header {
 }
 
 /// What stands at a path.
-#[derive(Debug, Drop)]
+#[derive(Drop)]
 pub(crate) struct PathRecord {
     pub(crate) path: Path,
     pub(crate) node: Node,
 }
 
 /// A region of a file, by its number: where it ends, and its entries, none of which passes the end.
-#[derive(Debug, Drop)]
+#[derive(Drop)]
 pub(crate) struct RegionRecord {
     pub(crate) number: u16,
     pub(crate) end: u32,
@@ -37,7 +37,7 @@ pub(crate) struct RegionRecord {
 }
 
 /// A file: its inode, the number of its last region, and its regions.
-#[derive(Debug, Drop)]
+#[derive(Drop)]
 pub(crate) struct FileRecord {
     pub(crate) inode: InodeId,
     pub(crate) last: u16,
@@ -45,7 +45,7 @@ pub(crate) struct FileRecord {
 }
 
 /// An image that was read, or is to be written.
-#[derive(Debug, Drop)]
+#[derive(Drop)]
 pub(crate) struct Image {
     pub(crate) header: Header,
     pub(crate) paths: Vec<PathRecord>,
