@@ -21,18 +21,20 @@ use Rattle.wtf_region.specs.Inside.{is_inside}
 use Rattle.wtf_region.proofs.ShowLaws.{reads_nothing}
 use Rattle.wtf_replay.specs.Views.{TxnView}
 use Rattle.wtf_replay.specs.Refusals.{call_refusal, try_refusal, step_refusal}
-use Rattle.wtf_core.specs.Views.{TablesView, CoreView, of_client}
+use Rattle.wtf_clients.specs.Views.{TablesView, of_client}
+use Rattle.wtf_core.specs.Views.{CoreView}
 use Rattle.wtf_core.specs.Built.{is_built}
-use Rattle.wtf_core.specs.Saves.{AreUp, SaveTurn}
-use Rattle.wtf_core.specs.Named.{TablesBytes, has_copies}
-use Rattle.wtf_core.specs.Outcomes.{AddsBytes, data_of}
-use Rattle.wtf_core.specs.Asked.{asked_of}
-use Rattle.wtf_core.specs.Serves.{NamesTables, IsPlain, AreFull, ServesLine}
-use Rattle.wtf_core.specs.Turns.{Refuses, Tries, Calls, CallFails, Steps, Finals, LoneTurn, TxnTurn, ClientTurn, Switches, ServerTurn, IsTreeAnswer, BuiltTurn, LineTurn}
-use Rattle.wtf_core.proofs.Pins.{number_cases}
-use Rattle.wtf_core.proofs.Staying.{IsFault, fault_is}
+use Rattle.wtf_clients.specs.Saves.{AreUp, SaveTurn}
+use Rattle.wtf_clients.specs.Named.{TablesBytes, has_copies}
+use Rattle.wtf_clients.specs.Outcomes.{AddsBytes, data_of}
+use Rattle.wtf_clients.specs.Asked.{asked_of}
+use Rattle.wtf_clients.specs.Serves.{NamesTables, IsPlain, AreFull, ServesLine}
+use Rattle.wtf_clients.specs.Turns.{Refuses, Tries, Calls, CallFails, Steps, Finals, LoneTurn, TxnTurn, ClientTurn}
+use Rattle.wtf_core.specs.Turns.{Switches, ServerTurn, IsTreeAnswer, BuiltTurn, LineTurn}
+use Rattle.wtf_clients.proofs.Pins.{number_cases}
+use Rattle.wtf_clients.proofs.Staying.{IsFault, fault_is}
 use Rattle.wtf_core.proofs.Naming.{IsLocal}
-use Rattle.wtf_core.proofs.Caused.{plain_caused, plain_failed, none_placed, none_added}
+use Rattle.wtf_clients.proofs.Caused.{plain_caused, plain_failed, none_placed, none_added}
 
 -- ---- a line that is built is not answered `notbuilt`
 abbrev IsBuiltAnswer : Answer → Type 0

@@ -4,7 +4,7 @@ use Rattle.std.proofs.Common.{◌≡◌, ◌≢◌, suc, ◌≤◌, ◌<◌, ℕ
 use Rattle.std.specs.Prelude.{if◌then◌else◌}
 use Rattle.std.specs.FinMap.{get, remove}
 use Rattle.wtf_base.specs.declared.ids.InodeId.{InodeId}
-use Rattle.wtf_kv.specs.Stores.{Store, times_pinned}
+use Rattle.wtf_kv.specs.Stores.{Store}
 use Rattle.wtf_values.specs.declared.key.Key.{Key}
 use Rattle.wtf_values.specs.declared.key.Key.TheVariants.{Inode}
 use Rattle.wtf_values.specs.declared.value.Value.{Value}
@@ -28,15 +28,15 @@ use Rattle.wtf_replay.specs.Sounds.{IsSound, caller_at}
 use Rattle.wtf_replay.specs.Tried.{IsFinal}
 use Rattle.wtf_replay.proofs.Sounding.{sound_later}
 use Rattle.wtf_replay.proofs.Deviating.{at_base}
-use Rattle.wtf_core.specs.Views.{TablesView, of_client, metadata_now}
-use Rattle.wtf_core.specs.Tables.{owned, IsOpen, AreSound}
-use Rattle.wtf_core.specs.Standing.{StandsForTxn, StandsForSlot, TablesStand}
-use Rattle.wtf_core.specs.Turns.{Keeps, Ends, Commits, Retries, Tries, Replays, Aborts, StepFails, Finishes, GivesUp, Steps, Finals}
+use Rattle.wtf_clients.specs.Views.{TablesView, of_client, metadata_now}
+use Rattle.wtf_clients.specs.Sounds.{owned, IsOpen, AreSound}
+use Rattle.wtf_clients.specs.Standing.{StandsForTxn, StandsForSlot, TablesStand}
+use Rattle.wtf_clients.specs.Turns.{Keeps, Ends, Commits, Retries, Tries, Replays, Aborts, StepFails, Finishes, GivesUp, Steps, Finals}
 use Rattle.wtf_image.specs.Savable.{AreBefore}
-use Rattle.wtf_core.proofs.Images.{before_same, before_own}
-use Rattle.wtf_core.proofs.Later.{Stands-later}
-use Rattle.wtf_core.proofs.Frames.{Turned, sound_turned, stands_turned}
-use Rattle.wtf_core.proofs.Staying.{stays_sound, stays_stand}
+use Rattle.wtf_clients.proofs.Images.{before_same, before_own}
+use Rattle.wtf_clients.proofs.Later.{Stands-later}
+use Rattle.wtf_clients.proofs.Frames.{Turned, sound_turned, stands_turned}
+use Rattle.wtf_clients.proofs.Staying.{stays_sound, stays_stand, goes_turned, goes_sound}
 use Rattle.wtf_core.proofs.Machines.{gone_here, gone_there, cap_is, answer_shown}
 
 -- ---- one client's transaction
@@ -136,39 +136,6 @@ module _ (old new : TablesView) (mid : Store Key Value) (c : ℕ) (x : TxnView) 
 
 -- ---- a transaction that goes on at its base
 module _ (old new : TablesView) (c : ℕ) (x y : TxnView) (sound : AreSound old) (here : of_client old.clients c ≡ Some x) (keeps : Keeps old new c (Some y)) (tx : y.tx ≡ x.tx) (base : y.at.base ≡ x.at.base) (going : y.ended ≡ x.ended) (fit : IsFit old.kv y) where
-  -- it is open
-  goes_open : IsOpen new.kv new.next_tx y
-  goes_open =
-      let was : IsOpen old.kv old.next_tx x = sound.each c x here in
-      let open_y : IsOpen old.kv old.next_tx y = record {
-        going = going ∙ was.going;
-        fit = fit;
-        based = subst (λ b. b ≤ old.kv.number) (sym base) was.based;
-        older = subst (λ k. k < old.next_tx) (sym tx) was.older;
-      } in
-      subst (λ kv. IsOpen kv new.next_tx y) (sym keeps.kv) (subst (λ k. IsOpen old.kv k y) (sym keeps.next_tx) open_y)
-
-  -- the store is what it was, and the pin is its own
-  pub goes_turned : Turned old new c (Some y)
-  goes_turned = record {
-    sets = keeps.clients;
-    later = let same : new.kv.number ≡ old.kv.number = ap (λ (s : Store Key Value). s.number) keeps.kv in omega (arith, same);
-    maps = λ n le. ap (λ s. metadata_at s n) keeps.kv;
-    more = let same = keeps.next_tx in omega (arith, same);
-    pins = λ n.
-        let was : owned n (of_client old.clients c) ≡ owned n (Some x) = ap (owned n) here in
-        let is : owned n (Some y) ≡ owned n (Some x) = ap (λ b. if nat_eq n b then 1 else 0) base in
-        let kept : times_pinned new.kv n ≡ times_pinned old.kv n = ap (λ s. times_pinned s n) keeps.kv in
-        omega (arith, was, is, kept);
-    saved = keeps.saved;
-    own = λ z e. let hit : y ≡ z = cc in subst (λ v. IsOpen new.kv new.next_tx v) hit goes_open;
-    whose = λ z e. let hit : y ≡ z = cc in inr (x, here, ap (λ (v : TxnView). v.tx) (sym hit) ∙ tx);
-  }
-
-  -- the tables stay sound
-  pub goes_sound : AreSound new
-  goes_sound = sound_turned old new c (Some y) sound goes_turned
-
   -- the tables stand for the machine with this transaction, where that has the base and the tree that it had
   pub goes_stand : (size : ℕ) (told later : Told) (m : Machine) (t t2 : Transaction) → TablesStand size told old m → TellsOn told later → get m.transactions c ≡ Some t
       → IsSound size old.kv later y t2.ops → t2.base ≡ t.base → t2.tree ≡ t.tree → t2.shown ≡ y.log.shown → t2.replayed ≡ y.replayed
@@ -188,7 +155,7 @@ module _ (old new : TablesView) (c : ℕ) (x y : TxnView) (sound : AreSound old)
         tree = Stands-later told later on size y.tx 0 (metadata_at old.kv y.at.base) t2.tree tree;
         now = Stands-later told later on size y.tx 0 (metadata_now old.kv) m.now now;
       } in
-      stands_turned size told later old new m (with_transaction m c t2) c (Some y) sound st on goes_turned
+      stands_turned size told later old new m (with_transaction m c t2) c (Some y) sound st on (goes_turned old new c x y sound here keeps tx base going fit)
       (λ d ne. get-number_other m.transactions c t2 d ne)
       (st.number ∙ ap (λ (s : Store Key Value). s.number) (sym keeps.kv)) refl
       (before_same old.next_tx new.next_tx (metadata_now old.kv) (metadata_now new.kv) (ap (λ (s : Store Key Value). metadata_now s) keeps.kv) (let next = keeps.next_tx in omega (arith, next)) st.before)

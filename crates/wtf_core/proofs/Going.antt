@@ -17,8 +17,10 @@ use Rattle.wtf_meta.specs.Maps.{metadata_at}
 use Rattle.wtf_replay.specs.Views.{TxnView}
 use Rattle.wtf_replay.specs.Refusals.{call_refusal, try_refusal, step_refusal}
 use Rattle.wtf_replay.specs.Tried.{KeepsMaps}
-use Rattle.wtf_core.specs.Views.{TablesView, CoreView, of_client}
-use Rattle.wtf_core.specs.Turns.{Keeps, Stays, Refuses, Begins, Ends, Tries, Steps, Finals, LoneTurn, TxnTurn, ClientTurn, Switches, LineTurn}
+use Rattle.wtf_clients.specs.Views.{TablesView, of_client}
+use Rattle.wtf_core.specs.Views.{CoreView}
+use Rattle.wtf_clients.specs.Turns.{Keeps, Stays, Refuses, Begins, Ends, Tries, Steps, Finals, LoneTurn, TxnTurn, ClientTurn}
+use Rattle.wtf_core.specs.Turns.{Switches, LineTurn}
 
 -- what is read of the images goes on
 pub record Goes (old new : TablesView) : Type 0 where

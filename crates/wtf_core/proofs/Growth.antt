@@ -12,9 +12,9 @@ use Rattle.wtf_model.specs.declared.event.Verb.TheVariants as verb
 use Rattle.wtf_meta.specs.Contents.{Told}
 use Rattle.wtf_replay.specs.Views.{TxnView}
 use Rattle.wtf_replay.specs.Refusals.{call_refusal, try_refusal, step_refusal}
-use Rattle.wtf_core.specs.Views.{SavedView, TablesView, of_client}
-use Rattle.wtf_core.specs.Saves.{Saves}
-use Rattle.wtf_core.specs.Turns.{Keeps, Stays, Refuses, Begins, Ends, Tries, Steps, Finals, LoneTurn, TxnTurn, ClientTurn}
+use Rattle.wtf_clients.specs.Views.{SavedView, TablesView, of_client}
+use Rattle.wtf_clients.specs.Saves.{Saves}
+use Rattle.wtf_clients.specs.Turns.{Keeps, Stays, Refuses, Begins, Ends, Tries, Steps, Finals, LoneTurn, TxnTurn, ClientTurn}
 
 -- by at most one each
 pub record Rises (old new : TablesView) : Type 0 where

@@ -15,12 +15,13 @@ use Rattle.wtf_meta.specs.Contents.{Told}
 use Rattle.wtf_meta.specs.Maps.{Map, metadata_at}
 use Rattle.wtf_image.specs.Lookups.{plain}
 use Rattle.wtf_image.specs.Saving.{Says}
-use Rattle.wtf_core.specs.Views.{SavedView, TablesView, CoreView}
-use Rattle.wtf_core.specs.Tables.{AreSound, IsTidied}
-use Rattle.wtf_core.specs.Saves.{with_image, only_image, Saves, SaveTurn}
+use Rattle.wtf_clients.specs.Views.{SavedView, TablesView}
+use Rattle.wtf_core.specs.Views.{CoreView}
+use Rattle.wtf_clients.specs.Sounds.{AreSound, IsTidied}
+use Rattle.wtf_clients.specs.Saves.{with_image, only_image, Saves, SaveTurn}
 use Rattle.wtf_core.specs.Turns.{LineTurn}
-use Rattle.wtf_core.specs.Keeping.{KeeperSpan, Hands, SyncFailed, KeeperFailed, KeeperTurn, IsImageAt, IsHeldBy, HoldsKept}
-use Rattle.wtf_core.proofs.Images.{kept_pinned}
+use Rattle.wtf_clients.specs.Keeping.{KeeperSpan, Hands, SyncFailed, KeeperFailed, KeeperTurn, IsImageAt, IsHeldBy, HoldsKept}
+use Rattle.wtf_clients.proofs.Images.{kept_pinned}
 use Rattle.wtf_core.proofs.Tidying.{pinned_live}
 use Rattle.wtf_core.proofs.Going.{Goes, line_goes}
 

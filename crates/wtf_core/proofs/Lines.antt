@@ -21,12 +21,12 @@ use Rattle.wtf_meta.proofs.Telling.{TellsOn}
 use Rattle.wtf_replay.specs.Views.{TxnView, is_live, is_full}
 use Rattle.wtf_replay.specs.Refusals.{call_refusal, try_refusal, step_refusal}
 use Rattle.wtf_replay.specs.Sounds.{tells_slice}
-use Rattle.wtf_core.specs.Views.{TablesView, of_client}
-use Rattle.wtf_core.specs.Tables.{AreSound}
-use Rattle.wtf_core.specs.Standing.{StandsForTxn, StandsForSlot, TablesStand}
-use Rattle.wtf_core.specs.Turns.{Refuses, LoneTurn, TxnTurn, ClientTurn}
+use Rattle.wtf_clients.specs.Views.{TablesView, of_client}
+use Rattle.wtf_clients.specs.Sounds.{AreSound}
+use Rattle.wtf_clients.specs.Standing.{StandsForTxn, StandsForSlot, TablesStand}
+use Rattle.wtf_clients.specs.Turns.{Refuses, LoneTurn, TxnTurn, ClientTurn}
 use Rattle.wtf_core.proofs.Plain.{refuses_sound, refuses_stand, begins_sound, begins_stand, calls_sound, calls_stand, fails_stand, aborts_sound, aborts_stand}
-use Rattle.wtf_core.proofs.Staying.{stays_sound}
+use Rattle.wtf_clients.proofs.Staying.{stays_sound}
 use Rattle.wtf_core.proofs.Ending.{tries_sound, steps_sound, finals_sound, tries_stand, steps_stand, finals_stand}
 
 module _ (Telling : Type 0) (servers size : ℕ) (told later : Told) (old new : TablesView) (c : ℕ) (sound : AreSound old) where

@@ -1,5 +1,5 @@
--- What holds of the places of each byte that the tables name goes on holding.
-use Rattle.std.proofs.Common.{◌≡◌, ℕ, Bool, true, List, [], Option, None, Some, refl, sym, ap, ◌∙◌, subst, ⊎_elim, arith}
+-- Lines that need no store, and dropping old versions, keep what holds of the places of each byte that is named.
+use Rattle.std.proofs.Common.{◌≡◌, ℕ, Bool, true, List, [], Option, None, Some, refl, sym, ap, ◌∙◌, subst}
 use Rattle.std.specs.Prelude.{MatchOption}
 use Rattle.wtf_overlay.specs.Origin.{Place}
 use Rattle.wtf_kv.specs.Stores.{Store}
@@ -20,105 +20,57 @@ use Rattle.std.proofs.lemmas.List.Elements.{All-nil}
 use Rattle.wtf_replay.specs.Views.{TxnView, begun, rebased}
 use Rattle.wtf_replay.specs.Insides.{TxnBytes}
 use Rattle.wtf_replay.specs.Refusals.{try_refusal}
-use Rattle.wtf_replay.specs.Tried.{KeepsMaps}
-use Rattle.wtf_core.specs.Views.{TablesView, of_client, metadata_now}
-use Rattle.wtf_core.specs.Tables.{AreSound, Sets, IsTidied}
-use Rattle.wtf_core.specs.Named.{TablesBytes}
-use Rattle.wtf_core.specs.Serves.{NamesTables}
-use Rattle.wtf_core.specs.Turns.{Keeps, Refuses, Begins, Ends, Commits, Retries, Tries, Stays, LoneTurn, TxnTurn, ClientTurn}
-use Rattle.wtf_core.proofs.Pins.{number_cases}
-use Rattle.wtf_core.proofs.Staying.{keeps_stays}
+use Rattle.wtf_clients.specs.Views.{TablesView, of_client, metadata_now}
+use Rattle.wtf_clients.specs.Sounds.{AreSound, IsTidied}
+use Rattle.wtf_clients.specs.Named.{TablesBytes}
+use Rattle.wtf_clients.specs.Serves.{NamesTables}
+use Rattle.wtf_clients.specs.Turns.{Refuses, Begins, Commits, Retries, Tries, LoneTurn, TxnTurn, ClientTurn}
+use Rattle.wtf_clients.proofs.Naming.{txn_along, bytes_set, now_along, stays_bytes, ends_bytes, leaves_bytes}
+use Rattle.wtf_clients.proofs.Staying.{keeps_stays}
 use Rattle.wtf_core.proofs.Tidying.{base_same, now_same}
 
-module _ (P : List Place → Bool) where
-  -- a transaction over a store that shows the same at its base
-  pub txn_along : (kv after : Store Key Value) (x : TxnView) → metadata_at after x.at.base ≡ metadata_at kv x.at.base → TxnBytes P kv x → TxnBytes P after x
-  txn_along kv after x same h = record {
-    hand = record { base = subst (MapBytes P) (sym same) h.hand.base; changes = h.hand.changes; slices = h.hand.slices };
-    log = h.log;
-  }
+module _ (P : List Place → Bool) (hole : P [] ≡ true) where
+  begins_bytes : (old new : TablesView) (c : ℕ) (a : Answer) → AreSound old → Begins old new c a → TablesBytes P old → TablesBytes P new
+  begins_bytes old new c a sound begins h =
+      let at : (n : ℕ) → metadata_at new.kv n ≡ metadata_at old.kv n = λ n. ap (λ (s : Store Key Value). metadata_at s n) begins.kv in
+      let x : TxnView = begun old.next_tx old.kv.number in
+      let own : TxnBytes P new.kv x = record {
+        hand = record { base = subst (MapBytes P) (sym (at old.kv.number)) h.now; changes = tt; slices = nothing_kept P };
+        log = All-nil _;
+      } in
+      bytes_set P old new c (Some x) sound begins.clients (λ n le. at n) h
+      (subst (MapBytes P) (sym (ap (λ (s : Store Key Value). metadata_now s) begins.kv)) h.now)
+      (λ y is. subst (TxnBytes P new.kv) (let e : x ≡ y = cc in e) own)
 
-  -- of all transactions one alone is now this one, or none
-  pub bytes_set : (old new : TablesView) (c : ℕ) (now : Option TxnView) → AreSound old → Sets c now old.clients new.clients → KeepsMaps old.kv new.kv → TablesBytes P old → MapBytes P (metadata_now new.kv)
-      → ((x : TxnView) → now ≡ Some x → TxnBytes P new.kv x) → TablesBytes P new
-  bytes_set old new c now sound sets maps h map own = record {
-    now = map;
-    each = λ d x is. ⊎_elim
-        (λ same. own x (sym sets.is ∙ ap (of_client new.clients) (sym same) ∙ is))
-        (λ other. let was : of_client old.clients d ≡ Some x = sym (sets.others d other) ∙ is in txn_along old.kv new.kv x (maps x.at.base (sound.each d x was).based) (h.each d x was))
-        (number_cases d c);
-  }
+  commits_bytes : (old new : TablesView) (c : ℕ) (x : TxnView) (n : ℕ) → AreSound old → of_client old.clients c ≡ Some x → Commits old new c x n → TablesBytes P old → TablesBytes P new
+  commits_bytes old new c x n sound here turn h =
+      let is = turn.committed.installed in
+      let map : metadata_now turn.mid ≡ _ = ap (metadata_at turn.mid) is.number ∙ is.map in
+      ends_bytes P old new turn.mid c x sound turn.ends (subst (MapBytes P) (sym map) (with_bytes P hole x.at.changes (metadata_now old.kv) h.now (h.each c x here).hand.changes)) h
 
-  -- the map now, where the number stays
-  pub now_along : (old new : Store Key Value) → new.number ≡ old.number → KeepsMaps old new → MapBytes P (metadata_now old) → MapBytes P (metadata_now new)
-  now_along old new number maps h = subst (MapBytes P) (sym (ap (metadata_at new) number ∙ maps old.number (omega arith))) h
+  retries_bytes : (old new : TablesView) (c : ℕ) (x : TxnView) (b n : ℕ) → AreSound old → of_client old.clients c ≡ Some x → Retries old new c x b n → TablesBytes P old → TablesBytes P new
+  retries_bytes old new c x b n sound here turn h =
+      let is = turn.retried.is in
+      let now : MapBytes P (metadata_now new.kv) = now_along P old.kv new.kv turn.retried.number turn.maps h.now in
+      let base : metadata_at new.kv n ≡ metadata_now new.kv = ap (metadata_at new.kv) (turn.retried.number_is ∙ sym turn.retried.number) in
+      let own : TxnBytes P new.kv (rebased x n) = record {
+        hand = record { base = subst (MapBytes P) (sym base) now; changes = tt; slices = nothing_kept P };
+        log = (h.each c x here).log;
+      } in
+      bytes_set P old new c (Some turn.later) sound turn.clients turn.maps h now
+      (λ y same. subst (TxnBytes P new.kv) (sym is ∙ (let e : turn.later ≡ y = cc in e)) own)
 
-  pub stays_bytes : (old new : TablesView) (c : ℕ) → AreSound old → Stays old new c → TablesBytes P old → TablesBytes P new
-  stays_bytes old new c sound st h =
-      bytes_set old new c (of_client old.clients c) sound st.clients st.maps h (now_along old.kv new.kv st.number st.maps h.now)
-      (λ x is. txn_along old.kv new.kv x (st.maps x.at.base (sound.each c x is).based) (h.each c x is))
+  tries_bytes : (old new : TablesView) (c : ℕ) (x : TxnView) (a : Answer) → AreSound old → of_client old.clients c ≡ Some x → Tries old new c x a → TablesBytes P old → TablesBytes P new
+  tries_bytes old new c x (answer.Committed n) sound here turn h = commits_bytes old new c x n sound here turn h
+  tries_bytes old new c x (answer.Retry b n) sound here turn h = retries_bytes old new c x b n sound here turn h
+  tries_bytes old new c x a sound here turn h = absurd turn
 
-  -- a transaction goes on at its base
-  pub keeps_bytes : (old new : TablesView) (c : ℕ) (y : TxnView) → AreSound old → Keeps old new c (Some y) → TxnBytes P old.kv y → TablesBytes P old → TablesBytes P new
-  keeps_bytes old new c y sound keeps own h =
-      let maps : KeepsMaps old.kv new.kv = λ n le. ap (λ (s : Store Key Value). metadata_at s n) keeps.kv in
-      bytes_set old new c (Some y) sound keeps.clients maps h (subst (λ (s : Store Key Value). MapBytes P (metadata_now s)) (sym keeps.kv) h.now)
-      (λ x is. subst (λ (s : Store Key Value). TxnBytes P s x) (sym keeps.kv) (subst (TxnBytes P old.kv) (let e : y ≡ x = cc in e) own))
+  refuses_bytes : (old new : TablesView) (c : ℕ) (w : Word) (a : Answer) → AreSound old → Refuses old new c w a → TablesBytes P old → TablesBytes P new
+  refuses_bytes old new c w a sound turn h = stays_bytes P old new c sound (keeps_stays old new c turn.keeps) h
 
-  -- it has ended
-  pub ends_bytes : (old new : TablesView) (mid : Store Key Value) (c : ℕ) (x : TxnView) → AreSound old → Ends old new mid c x → MapBytes P (metadata_now mid) → TablesBytes P old → TablesBytes P new
-  ends_bytes old new mid c x sound ends map h =
-      let at : (n : ℕ) → metadata_at new.kv n ≡ metadata_at mid n = λ n. ap (λ (s : Store Key Value). metadata_at s n) ends.kv in
-      bytes_set old new c None sound ends.clients (λ n le. at n ∙ ends.maps n le) h
-      (subst (MapBytes P) (sym (ap (λ (s : Store Key Value). metadata_now s) ends.kv)) map)
-      (λ y is. absurd (cc))
-
-  -- it ended, and the map now is as it was
-  pub leaves_bytes : (old new : TablesView) (mid : Store Key Value) (c : ℕ) (x : TxnView) → AreSound old → Ends old new mid c x → mid.number ≡ old.kv.number → TablesBytes P old → TablesBytes P new
-  leaves_bytes old new mid c x sound ends same h = ends_bytes old new mid c x sound ends (now_along old.kv mid same ends.maps h.now) h
-
-  module _ (hole : P [] ≡ true) where
-    begins_bytes : (old new : TablesView) (c : ℕ) (a : Answer) → AreSound old → Begins old new c a → TablesBytes P old → TablesBytes P new
-    begins_bytes old new c a sound begins h =
-        let at : (n : ℕ) → metadata_at new.kv n ≡ metadata_at old.kv n = λ n. ap (λ (s : Store Key Value). metadata_at s n) begins.kv in
-        let x : TxnView = begun old.next_tx old.kv.number in
-        let own : TxnBytes P new.kv x = record {
-          hand = record { base = subst (MapBytes P) (sym (at old.kv.number)) h.now; changes = tt; slices = nothing_kept P };
-          log = All-nil _;
-        } in
-        bytes_set old new c (Some x) sound begins.clients (λ n le. at n) h
-        (subst (MapBytes P) (sym (ap (λ (s : Store Key Value). metadata_now s) begins.kv)) h.now)
-        (λ y is. subst (TxnBytes P new.kv) (let e : x ≡ y = cc in e) own)
-
-    commits_bytes : (old new : TablesView) (c : ℕ) (x : TxnView) (n : ℕ) → AreSound old → of_client old.clients c ≡ Some x → Commits old new c x n → TablesBytes P old → TablesBytes P new
-    commits_bytes old new c x n sound here turn h =
-        let is = turn.committed.installed in
-        let map : metadata_now turn.mid ≡ _ = ap (metadata_at turn.mid) is.number ∙ is.map in
-        ends_bytes old new turn.mid c x sound turn.ends (subst (MapBytes P) (sym map) (with_bytes P hole x.at.changes (metadata_now old.kv) h.now (h.each c x here).hand.changes)) h
-
-    retries_bytes : (old new : TablesView) (c : ℕ) (x : TxnView) (b n : ℕ) → AreSound old → of_client old.clients c ≡ Some x → Retries old new c x b n → TablesBytes P old → TablesBytes P new
-    retries_bytes old new c x b n sound here turn h =
-        let is = turn.retried.is in
-        let now : MapBytes P (metadata_now new.kv) = now_along old.kv new.kv turn.retried.number turn.maps h.now in
-        let base : metadata_at new.kv n ≡ metadata_now new.kv = ap (metadata_at new.kv) (turn.retried.number_is ∙ sym turn.retried.number) in
-        let own : TxnBytes P new.kv (rebased x n) = record {
-          hand = record { base = subst (MapBytes P) (sym base) now; changes = tt; slices = nothing_kept P };
-          log = (h.each c x here).log;
-        } in
-        bytes_set old new c (Some turn.later) sound turn.clients turn.maps h now
-        (λ y same. subst (TxnBytes P new.kv) (sym is ∙ (let e : turn.later ≡ y = cc in e)) own)
-
-    tries_bytes : (old new : TablesView) (c : ℕ) (x : TxnView) (a : Answer) → AreSound old → of_client old.clients c ≡ Some x → Tries old new c x a → TablesBytes P old → TablesBytes P new
-    tries_bytes old new c x (answer.Committed n) sound here turn h = commits_bytes old new c x n sound here turn h
-    tries_bytes old new c x (answer.Retry b n) sound here turn h = retries_bytes old new c x b n sound here turn h
-    tries_bytes old new c x a sound here turn h = absurd turn
-
-    refuses_bytes : (old new : TablesView) (c : ℕ) (w : Word) (a : Answer) → AreSound old → Refuses old new c w a → TablesBytes P old → TablesBytes P new
-    refuses_bytes old new c w a sound turn h = stays_bytes old new c sound (keeps_stays old new c turn.keeps) h
-
-    try_bytes : (r : Option Word) (old new : TablesView) (c : ℕ) (x : TxnView) (a : Answer) → AreSound old → of_client old.clients c ≡ Some x → MatchOption r (Tries old new c x a) (λ w. Refuses old new c w a) → TablesBytes P old → TablesBytes P new
-    try_bytes None old new c x a sound here turn h = tries_bytes old new c x a sound here turn h
-    try_bytes (Some w) old new c x a sound here turn h = refuses_bytes old new c w a sound turn h
+  try_bytes : (r : Option Word) (old new : TablesView) (c : ℕ) (x : TxnView) (a : Answer) → AreSound old → of_client old.clients c ≡ Some x → MatchOption r (Tries old new c x a) (λ w. Refuses old new c w a) → TablesBytes P old → TablesBytes P new
+  try_bytes None old new c x a sound here turn h = tries_bytes old new c x a sound here turn h
+  try_bytes (Some w) old new c x a sound here turn h = refuses_bytes old new c w a sound turn h
 
 -- lines that need no store: of a client that begins, attempts or aborts
 abbrev pub IsLocal : Verb → Type 0

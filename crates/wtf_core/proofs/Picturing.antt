@@ -23,15 +23,16 @@ use Rattle.wtf_meta.proofs.Telling.{TellsOn}
 use Rattle.wtf_image.specs.Kept.{IsKept}
 use Rattle.wtf_image.proofs.SaveMap.{is_kept}
 use Rattle.wtf_image.proofs.StandsLaws.{stands_savable}
-use Rattle.wtf_core.specs.Views.{TablesView, CoreView, metadata_now}
-use Rattle.wtf_core.specs.Tables.{AreSound}
-use Rattle.wtf_core.specs.Standing.{TablesStand}
-use Rattle.wtf_core.specs.Saves.{SaveTurn}
+use Rattle.wtf_clients.specs.Views.{TablesView, metadata_now}
+use Rattle.wtf_core.specs.Views.{CoreView}
+use Rattle.wtf_clients.specs.Sounds.{AreSound}
+use Rattle.wtf_clients.specs.Standing.{TablesStand}
+use Rattle.wtf_clients.specs.Saves.{SaveTurn}
 use Rattle.wtf_core.specs.Turns.{LineTurn}
-use Rattle.wtf_core.specs.Keeping.{KeeperSpan, Hands, KeeperFailed, KeeperTurn}
+use Rattle.wtf_clients.specs.Keeping.{KeeperSpan, Hands, KeeperFailed, KeeperTurn}
 use Rattle.wtf_core.specs.Pictured.{IsImageOfTree, IsImageOfOne, HoldsTree}
 use Rattle.wtf_core.proofs.Holding.{KeeperLaws, handed_one}
-use Rattle.wtf_core.proofs.Later.{Stands-later}
+use Rattle.wtf_clients.proofs.Later.{Stands-later}
 
 -- ---- only a save changes the trees that may be saved
 begun_may : (m : Machine) (c : ℕ) (a : Answer) → (begun m c a).may_be_saved ≡ m.may_be_saved

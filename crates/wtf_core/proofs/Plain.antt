@@ -37,17 +37,18 @@ use Rattle.wtf_replay.specs.Refusals.{call_refusal}
 use Rattle.wtf_replay.specs.Fits.{IsFit}
 use Rattle.wtf_replay.specs.Sounds.{IsSound, tells_slice, caller_at}
 use Rattle.wtf_replay.proofs.Deviating.{at_base}
-use Rattle.wtf_core.specs.Views.{TablesView, of_client, metadata_now}
-use Rattle.wtf_core.specs.Tables.{owned, IsOpen, AreSound}
-use Rattle.wtf_core.specs.Standing.{StandsForTxn, StandsForSlot, TablesStand}
-use Rattle.wtf_core.specs.Turns.{Refuses, Begins, Calls, CallFails, Ends}
-use Rattle.wtf_core.proofs.Pins.{one_some}
-use Rattle.wtf_core.proofs.Frames.{Turned, sound_turned, stands_turned}
-use Rattle.wtf_core.proofs.Images.{before_same}
-use Rattle.wtf_core.proofs.Later.{Stands-later}
-use Rattle.wtf_core.proofs.Staying.{IsFault, fault_is, keeps_stays, stays_sound, stays_stand}
+use Rattle.wtf_clients.specs.Views.{TablesView, of_client, metadata_now}
+use Rattle.wtf_clients.specs.Sounds.{owned, IsOpen, AreSound}
+use Rattle.wtf_clients.specs.Standing.{StandsForTxn, StandsForSlot, TablesStand}
+use Rattle.wtf_clients.specs.Turns.{Refuses, Begins, Calls, CallFails, Ends}
+use Rattle.wtf_clients.proofs.Pins.{one_some}
+use Rattle.wtf_clients.proofs.Frames.{Turned, sound_turned, stands_turned}
+use Rattle.wtf_clients.proofs.Images.{before_same}
+use Rattle.wtf_clients.proofs.Later.{Stands-later}
+use Rattle.wtf_clients.proofs.Staying.{IsFault, fault_is, keeps_stays, stays_sound, stays_stand}
 use Rattle.wtf_core.proofs.Machines.{cap_is}
-use Rattle.wtf_core.proofs.Ending.{txn_in, ends_sound, leaves_stand, goes_sound, goes_stand}
+use Rattle.wtf_core.proofs.Ending.{txn_in, ends_sound, leaves_stand, goes_stand}
+use Rattle.wtf_clients.proofs.Staying.{goes_sound}
 
 -- ---- a line that is refused
 module _ (old new : TablesView) (c : ℕ) (w : Word) (a : Answer) (sound : AreSound old) (refuses : Refuses old new c w a) where

@@ -32,12 +32,14 @@ use Rattle.wtf_image.proofs.PlainLaws.{same_optional}
 use Rattle.wtf_image.proofs.Said.{says_itself, before_of}
 use Rattle.wtf_core.proofs.Fetched.{image_inside}
 use Rattle.wtf_core.proofs.Started.{none_of}
-use Rattle.wtf_core.specs.Views.{SavedView, TablesView, CoreView, of_client, metadata_now}
-use Rattle.wtf_core.specs.Standing.{IsImageTree, StandsForSlot, StandsFor}
+use Rattle.wtf_clients.specs.Views.{SavedView, TablesView, of_client, metadata_now}
+use Rattle.wtf_core.specs.Views.{CoreView}
+use Rattle.wtf_clients.specs.Standing.{IsImageTree, StandsForSlot}
+use Rattle.wtf_core.specs.Standing.{StandsFor}
 use Rattle.wtf_core.specs.Named.{IsInside}
 use Rattle.wtf_core.specs.Loading.{IsCoreOf}
-use Rattle.wtf_core.specs.Saves.{only_image}
-use Rattle.wtf_core.specs.Keeping.{IsHeldBy}
+use Rattle.wtf_clients.specs.Saves.{only_image}
+use Rattle.wtf_clients.specs.Keeping.{IsHeldBy}
 use Rattle.wtf_core.specs.Pictured.{IsImageOfTree}
 
 -- bytes are one image at most

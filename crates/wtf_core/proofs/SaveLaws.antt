@@ -14,14 +14,14 @@ use Rattle.wtf_meta.specs.Maps.{metadata_at}
 use Rattle.wtf_meta.specs.Trees.{Stands}
 use Rattle.wtf_meta.proofs.Telling.{TellsOn}
 use Rattle.wtf_replay.specs.Views.{TxnView}
-use Rattle.wtf_core.specs.Views.{SavedView, TablesView, of_client, metadata_now}
-use Rattle.wtf_core.specs.Tables.{all_owned, all_kept, AreSound}
-use Rattle.wtf_core.specs.Standing.{IsImageTree, StandsForSlot, TablesStand}
-use Rattle.wtf_core.specs.Saves.{with_image, only_image, Saves, SaveTurn}
-use Rattle.wtf_core.proofs.Pins.{base_pinned}
-use Rattle.wtf_core.proofs.Frames.{open_on, txn_on, slot_on}
-use Rattle.wtf_core.proofs.Images.{none_in, before_same, image_on}
-use Rattle.wtf_core.proofs.Later.{Stands-later}
+use Rattle.wtf_clients.specs.Views.{SavedView, TablesView, of_client, metadata_now}
+use Rattle.wtf_clients.specs.Sounds.{all_owned, all_kept, AreSound}
+use Rattle.wtf_clients.specs.Standing.{IsImageTree, StandsForSlot, TablesStand}
+use Rattle.wtf_clients.specs.Saves.{with_image, only_image, Saves, SaveTurn}
+use Rattle.wtf_clients.proofs.Pins.{base_pinned}
+use Rattle.wtf_clients.proofs.Frames.{open_on, txn_on, slot_on}
+use Rattle.wtf_clients.proofs.Images.{none_in, before_same, image_on}
+use Rattle.wtf_clients.proofs.Later.{Stands-later}
 
 module _ (old new : TablesView) (now : SavedView) (sound : AreSound old) (saves : Saves old new now) where
   saves_up : old.kv.number ≤ new.kv.number

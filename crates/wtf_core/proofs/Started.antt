@@ -21,10 +21,12 @@ use Rattle.wtf_meta.specs.Bytes.{ValueBytes}
 use Rattle.wtf_meta.specs.Maps.{Map}
 use Rattle.wtf_meta.specs.Trees.{IsFirst}
 use Rattle.wtf_meta.proofs.Starting.{stands-first}
-use Rattle.wtf_core.specs.Views.{Clients, SavedView, unsaved, TablesView, CoreView, of_client, metadata_now}
-use Rattle.wtf_core.specs.Named.{TablesBytes}
-use Rattle.wtf_core.specs.Standing.{StandsForSlot, TablesStand, StandsFor}
-use Rattle.wtf_core.proofs.Images.{none_in, some_of_none}
+use Rattle.wtf_clients.specs.Views.{Clients, SavedView, unsaved, TablesView, of_client, metadata_now}
+use Rattle.wtf_core.specs.Views.{CoreView}
+use Rattle.wtf_clients.specs.Named.{TablesBytes}
+use Rattle.wtf_clients.specs.Standing.{StandsForSlot, TablesStand}
+use Rattle.wtf_core.specs.Standing.{StandsFor}
+use Rattle.wtf_clients.proofs.Images.{none_in, some_of_none}
 
 pub none_of : (clients : Clients) (c : ℕ) → clients ≡ [] → of_client clients c ≡ None
 none_of clients c is = ap (λ l. of_client l c) is

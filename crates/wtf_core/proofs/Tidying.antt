@@ -13,10 +13,12 @@ use Rattle.wtf_meta.specs.Maps.{AllFit, Map, metadata_at}
 use Rattle.wtf_meta.specs.Trees.{Stands}
 use Rattle.wtf_replay.specs.Views.{TxnView}
 use Rattle.wtf_replay.proofs.Sounding.{sound_along}
-use Rattle.wtf_core.specs.Views.{SavedView, TablesView, CoreView, of_client, metadata_now}
-use Rattle.wtf_core.specs.Tables.{all_owned, all_kept, IsOpen, AreSound, IsTidied}
-use Rattle.wtf_core.specs.Standing.{StandsForTxn, StandsForSlot, TablesStand, StandsFor}
-use Rattle.wtf_core.proofs.Images.{kept_pinned, before_same, image_on}
+use Rattle.wtf_clients.specs.Views.{SavedView, TablesView, of_client, metadata_now}
+use Rattle.wtf_core.specs.Views.{CoreView}
+use Rattle.wtf_clients.specs.Sounds.{all_owned, all_kept, IsOpen, AreSound, IsTidied}
+use Rattle.wtf_clients.specs.Standing.{StandsForTxn, StandsForSlot, TablesStand}
+use Rattle.wtf_core.specs.Standing.{StandsFor}
+use Rattle.wtf_clients.proofs.Images.{kept_pinned, before_same, image_on}
 
 -- what is pinned can be read, and so can the number
 pub pinned_live : (kv : Store Key Value) (n : ℕ) → IsTrue (is_pinned kv n) → IsTrue (is_live kv n)

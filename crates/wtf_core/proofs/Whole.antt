@@ -23,19 +23,22 @@ use Rattle.wtf_model.proofs.ServerLaws.{is_down-event}
 use Rattle.wtf_meta.specs.Contents.{Told}
 use Rattle.wtf_meta.specs.Trees.{Stands}
 use Rattle.wtf_meta.proofs.Telling.{TellsOn}
-use Rattle.wtf_core.specs.Views.{TablesView, CoreView, of_client, metadata_now}
-use Rattle.wtf_core.specs.Tables.{AreSound}
+use Rattle.wtf_clients.specs.Views.{TablesView, of_client, metadata_now}
+use Rattle.wtf_core.specs.Views.{CoreView}
+use Rattle.wtf_clients.specs.Sounds.{AreSound}
 use Rattle.wtf_core.specs.Built.{is_built}
-use Rattle.wtf_core.specs.Standing.{IsImageTree, StandsForSlot, TablesStand, StandsFor}
-use Rattle.wtf_core.specs.Turns.{ServerTurn, ClientTurn, Switches, Dumps, BuiltTurn, LineTurn}
+use Rattle.wtf_clients.specs.Standing.{IsImageTree, StandsForSlot, TablesStand}
+use Rattle.wtf_core.specs.Standing.{StandsFor}
+use Rattle.wtf_clients.specs.Turns.{ClientTurn, Dumps}
+use Rattle.wtf_core.specs.Turns.{ServerTurn, Switches, BuiltTurn, LineTurn}
 use Rattle.wtf_core.specs.Answers.{IsEvent}
-use Rattle.wtf_core.proofs.Pins.{number_cases}
+use Rattle.wtf_clients.proofs.Pins.{number_cases}
 use Rattle.wtf_core.proofs.Plain.{refuses_stand}
-use Rattle.wtf_core.proofs.Lists.{sets_same}
+use Rattle.wtf_clients.proofs.Lists.{sets_same}
 use Rattle.wtf_core.proofs.Lines.{client_sound, client_stands}
-use Rattle.wtf_core.proofs.Staying.{stays_sound, stays_stand}
+use Rattle.wtf_clients.proofs.Staying.{stays_sound, stays_stand}
 use Rattle.wtf_core.proofs.Growth.{Rises, stays_rise, saves_rise, client_rises}
-use Rattle.wtf_core.specs.Saves.{AreUp, SaveTurn, only_image, with_image}
+use Rattle.wtf_clients.specs.Saves.{AreUp, SaveTurn, only_image, with_image}
 use Rattle.wtf_core.proofs.SaveLaws.{save_sound, save_stands}
 
 -- ---- no line changes the settings of the machine

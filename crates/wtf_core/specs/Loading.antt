@@ -6,7 +6,7 @@ use Rattle.wtf_image.specs.Lookups.{row_at}
 use Rattle.wtf_image.specs.Loading.{AreSettingsOf, IsTaken}
 use Rattle.wtf_image.specs.Tables.{shown}
 use Rattle.wtf_core.specs.Views.{CoreView}
-use Rattle.wtf_core.specs.Saves.{only_image}
+use Rattle.wtf_clients.specs.Saves.{only_image}
 
 -- The bytes are an image that breaks no rule, over stores whose files have these sizes. The core has its settings and its
 -- number, says of each key what the image says, and begins next the image's next transaction; none is open. It knows that the

@@ -7,8 +7,8 @@ use Rattle.wtf_replica.specs.Downs.{settings_of}
 use Rattle.wtf_ring.specs.Points.{RingView, PlaceView, IsRing}
 use Rattle.wtf_region.specs.declared.cache.RegionKey.{RegionKey}
 use Rattle.wtf_region.specs.Cached.{AreFrom}
-use Rattle.wtf_core.specs.Views.{TablesView}
-use Rattle.wtf_core.specs.Tables.{AreSound}
+use Rattle.wtf_clients.specs.Views.{TablesView}
+use Rattle.wtf_clients.specs.Sounds.{AreSound}
 
 -- the servers, the ring and the places that are remembered are those of the settings, and the tables are sound
 pub record IsMade (settings : Settings) (tables : TablesView) (replicas : Replicas) (ring : RingView) (cache : List (RegionKey × PlaceView)) : Type 0 where

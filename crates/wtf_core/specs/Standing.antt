@@ -1,58 +1,14 @@
 -- When a core stands for the machine of the definitions: committed transactions ran whole, one by one, on one tree.
 -- NSDI 2016, sections 2.6 and 2.7.
-use Rattle.std.specs.Prelude.{◌≡◌, ◌≤◌, ℕ, true, List, Option, Some, None, ⊤}
-use Rattle.std.specs.List.{Contains}
-use Rattle.std.specs.FinMap.{get}
-use Rattle.wtf_kv.specs.Stores.{Store}
+use Rattle.std.specs.Prelude.{◌≡◌, ℕ}
 use Rattle.wtf_replica.specs.Downs.{is_down}
-use Rattle.wtf_values.specs.declared.key.Key.{Key}
-use Rattle.wtf_values.specs.declared.value.Value.{Value}
-use Rattle.wtf_model.specs.Tree.{Tree, root_alone}
-use Rattle.wtf_model.specs.Transaction.{Transaction}
 use Rattle.wtf_model.specs.Machines.{Machine}
 use Rattle.wtf_model.specs.Machines as machine
 use Rattle.wtf_meta.specs.Contents.{Told}
-use Rattle.wtf_meta.specs.Maps.{metadata_at}
-use Rattle.wtf_meta.specs.Trees.{Stands}
-use Rattle.wtf_image.specs.Savable.{AreBefore}
-use Rattle.wtf_replay.specs.Views.{TxnView}
-use Rattle.wtf_replay.specs.Sounds.{IsSound}
-use Rattle.wtf_core.specs.Views.{TablesView, CoreView, of_client, metadata_now}
+use Rattle.wtf_core.specs.Views.{CoreView}
+pub use Rattle.wtf_clients.specs.Standing.{StandsForTxn, StandsForSlot, IsImageTree, TablesStand}
 
--- A transaction is that of the machine: the same calls with what was shown of them, as many of them done, on the same base.
--- The map at the base stands for the tree there, and the map now, in which none of its inodes stands, for the tree now.
-pub record StandsForTxn (size : ℕ) (told : Told) (kv : Store Key Value) (current : Tree) (x : TxnView) (t : Transaction) : Type 0 where
-  pub sound : IsSound size kv told x t.ops
-  pub base : t.base ≡ x.at.base
-  pub shown : t.shown ≡ x.log.shown
-  pub replayed : t.replayed ≡ x.replayed
-  pub tree : Stands size told x.tx 0 (metadata_at kv x.at.base) t.tree
-  pub now : Stands size told x.tx 0 (metadata_now kv) current
-
-abbrev pub StandsForSlot : ℕ → Told → Store Key Value → Tree → Option TxnView → Option Transaction → Type 0
-StandsForSlot size told kv now None None = ⊤
-StandsForSlot size told kv now (Some x) (Some t) = StandsForTxn size told kv now x t
-StandsForSlot size told kv now x t = ⊥
-
--- The map at a number stands for one of these trees, also for each transaction to come: its inodes are of those before.
-pub record IsImageTree (size : ℕ) (told : Told) (tables : TablesView) (n : ℕ) (may : List Tree) : Type 0 where
-  pub tree : Tree
-  pub listed : Contains may tree
-  pub before : AreBefore tables.next_tx (metadata_at tables.kv n)
-  pub stands : (tx : ℕ) → tables.next_tx ≤ tx → Stands size told tx 0 (metadata_at tables.kv n) tree
-
--- The number of installs, each client's transaction, and the tree now, on which no inode of a later transaction stands, are
--- the machine's. Each image that may be on the keeper is that of a tree that the machine may have saved; where the keeper may
--- hold nothing, the root alone is such a tree.
-pub record TablesStand (size : ℕ) (told : Told) (tables : TablesView) (m : Machine) : Type 0 where
-  pub number : m.number ≡ tables.kv.number
-  pub each : (c : ℕ) → StandsForSlot size told tables.kv m.now (of_client tables.clients c) (get m.transactions c)
-  pub later : (tx : ℕ) → tables.next_tx ≤ tx → Stands size told tx 0 (metadata_now tables.kv) m.now
-  pub before : AreBefore tables.next_tx (metadata_now tables.kv)
-  pub none : tables.saved.none ≡ true → Contains m.may_be_saved root_alone
-  pub images : (n : ℕ) → Contains tables.saved.images n → IsImageTree size told tables n m.may_be_saved
-
--- and so are the settings, and the servers that are down
+-- the tables stand for the machine, and so do the settings, and the servers that are down
 pub record StandsFor (told : Told) (core : CoreView) (m : Machine) : Type 0 where
   pub settings : m.settings ≡ core.settings
   pub tables : TablesStand core.settings.region told core.tables m

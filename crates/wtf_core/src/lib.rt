@@ -3,13 +3,8 @@
 //! whole, one by one (NSDI 2016, sections 2.6 and 2.7).
 #![tactic(auto)]
 
-mod dump;
-mod faults;
 mod ops;
-mod saved;
-mod saving;
 mod store;
-mod tables;
 mod tree;
 
 pub use store::Core;

@@ -8,10 +8,10 @@ use Rattle.wtf_model.specs.declared.event.Verb.TheVariants as verb
 use Rattle.wtf_meta.specs.Contents.{Told}
 use Rattle.wtf_core.specs.Views.{CoreView}
 use Rattle.wtf_core.specs.Named.{IsInside}
-use Rattle.wtf_core.specs.Serves.{ServesLine}
-use Rattle.wtf_core.specs.Turns.{ClientTurn}
+use Rattle.wtf_clients.specs.Serves.{ServesLine}
+use Rattle.wtf_clients.specs.Turns.{ClientTurn}
 use Rattle.wtf_core.proofs.Answering.{local_plain, still_serves}
-use Rattle.wtf_core.proofs.Making.{if_ok}
+use Rattle.wtf_clients.proofs.Making.{if_ok}
 use Rattle.wtf_core.proofs.Naming.{local_names}
 use Rattle.wtf_core.proofs.Whole.{sound_after}
 use Rattle.wtf_core.proofs.Lines.{client_sound}

@@ -3,11 +3,11 @@ use Rattle.wtf_base.specs.declared.settings.Settings.{Settings}
 use Rattle.wtf_replica.specs.Downs.{is_down}
 use Rattle.wtf_replica.specs.Spans.{span}
 use Rattle.wtf_region.specs.Inside.{is_inside}
-use Rattle.wtf_core.specs.Named.{TablesBytes, has_copies}
-use Rattle.wtf_core.specs.Serves.{ServesEvent}
+use Rattle.wtf_clients.specs.Named.{TablesBytes, has_copies}
+use Rattle.wtf_clients.specs.Serves.{ServesEvent}
 use Rattle.wtf_base.specs.Limits.{AreSettings}
 use Rattle.wtf_dev.specs.Counts.{Rose}
-use Rattle.wtf_core.specs.Keeping.{KeeperSpan, KeeperTurn, IsHeldBy, keeper_span}
+use Rattle.wtf_clients.specs.Keeping.{KeeperSpan, KeeperTurn, IsHeldBy, keeper_span}
 use Rattle.wtf_core.proofs.Holding.{KeeperLaws, tidied_held, keeper_on, line_held}
 use Rattle.wtf_core.proofs.Picturing.{line_tree}
 use Rattle.wtf_core.proofs.Answering.{line_exact, line_downs}
@@ -17,7 +17,7 @@ use Rattle.wtf_replica.specs.Bytes.{byte_at}
 use Rattle.wtf_replica.proofs.Bytes.{byte_at-kept}
 use Rattle.wtf_model.specs.Steps.{after}
 use Rattle.wtf_core.specs.Views.{CoreView}
-use Rattle.wtf_core.specs.Tables.{AreSound}
+use Rattle.wtf_clients.specs.Sounds.{AreSound}
 use Rattle.wtf_core.specs.Turns.{LineTurn}
 use Rattle.wtf_core.proofs.Tidying.{tidied_sound, core_tidied}
 use Rattle.wtf_core.proofs.Whole.{line_stands, line_rises}

@@ -1,6 +1,6 @@
 use Rattle.std.proofs.Common.{sym, subst}
-use Rattle.wtf_core.specs.Views.{TablesView}
-use Rattle.wtf_core.specs.Named.{TablesBytes}
+use Rattle.wtf_clients.specs.Views.{TablesView}
+use Rattle.wtf_clients.specs.Named.{TablesBytes}
 use Rattle.wtf_core.proofs.Started.{stands_first, bytes_first}
 use Rattle.wtf_core.proofs.store.Core.new.Goals as goal
 

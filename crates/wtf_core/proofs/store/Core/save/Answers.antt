@@ -1,6 +1,6 @@
 use Rattle.wtf_dev.specs.Sums.{TellsAll}
 use Rattle.wtf_replica.specs.Bytes.{byte_at}
-use Rattle.wtf_core.proofs.SaveServing.{line_numbers}
+use Rattle.wtf_core.proofs.SaveLines.{line_numbers}
 use Rattle.wtf_core.proofs.store.Core.save.Goals as goal
 
 pub returns-clause-number : goal.returns-clause-number

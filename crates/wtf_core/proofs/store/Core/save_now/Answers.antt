@@ -6,9 +6,9 @@ use Rattle.wtf_replica.specs.Downs.{is_down}
 use Rattle.wtf_replica.specs.Spans.{span}
 use Rattle.wtf_model.specs.declared.event.Event.TheVariants as event
 use Rattle.wtf_core.specs.Views.{CoreView}
-use Rattle.wtf_core.specs.Serves.{ServesEvent}
+use Rattle.wtf_clients.specs.Serves.{ServesEvent}
 use Rattle.wtf_core.specs.Turns.{LineTurn}
-use Rattle.wtf_core.specs.Saves.{AreUp}
+use Rattle.wtf_clients.specs.Saves.{AreUp}
 use Rattle.wtf_core.proofs.Whole.{sound_saved}
 use Rattle.wtf_core.proofs.store.Core.save_now.Goals as goal
 

@@ -1,0 +1,276 @@
+-- Why a fault was answered, and what a line added to the stores.
+use Rattle.std.proofs.Common.{◌≡◌, ◌⊎◌, ℕ, ◌+◌, ◌<◌, ◌≤◌, List, [], ◌∷◌, length, Option, None, Some, refl, sym, ap, ◌∙◌, subst, inl, inr, arith}
+use Rattle.std.specs.Prelude.{IsSome, Bool, true, nat_lt, ◌-◌}
+use Rattle.std.proofs.lemmas.Bool.{cases_lt, cond-true, cond-false, lt-ltb, le-ltb}
+use Rattle.std.proofs.lemmas.List.Elements.{All-head, All-tail}
+use Rattle.wtf_overlay.specs.declared.part.Piece.{Piece}
+use Rattle.wtf_overlay.specs.Origin.{Place, part_origin, pieces_origin}
+use Rattle.wtf_slicing.specs.Shown.{LacksSlice}
+use Rattle.wtf_base.specs.declared.fault.Fault.{Fault}
+use Rattle.wtf_base.specs.declared.fault.Fault.TheVariants as fault
+use Rattle.wtf_base.specs.declared.kept.Kept.{Kept}
+use Rattle.wtf_base.specs.declared.settings.Settings.{Settings}
+use Rattle.wtf_base.specs.declared.slice.Slice.{Slice}
+use Rattle.wtf_base.specs.declared.slice.Extents.{Extents}
+use Rattle.wtf_base.specs.declared.slice.Extents.TheVariants.{One, Two, Three}
+use Rattle.wtf_base.specs.Extents.{IsSound}
+use Rattle.wtf_base.specs.Slices.{len_of}
+use Rattle.wtf_dev.specs.Store.{StoreKind, KindLaws}
+use Rattle.wtf_ring.specs.Points.{PlaceView}
+use Rattle.wtf_replica.specs.Downs.{is_down}
+use Rattle.wtf_replica.specs.Faults.{AreTooFew}
+use Rattle.wtf_replica.specs.Outs.{SameLengths}
+use Rattle.wtf_replica.specs.Spans.{Span}
+use Rattle.wtf_model.specs.declared.answer.Answer.{Answer}
+use Rattle.wtf_model.specs.declared.answer.Answer.TheVariants as answer
+use Rattle.wtf_model.specs.declared.op.Op.{Op}
+use Rattle.wtf_model.specs.declared.op.Op.TheVariants as op
+use Rattle.wtf_model.specs.Steps.{IsLogged}
+use Rattle.wtf_meta.specs.declared.session.Handle.{Handle}
+use Rattle.wtf_meta.specs.Bytes.{PartBytes, PiecesBytes, MapBytes}
+use Rattle.wtf_meta.specs.Maps.{Map}
+use Rattle.wtf_meta.specs.Sessions.{SessionView, SessionBytes, handle_in, slice_in}
+use Rattle.wtf_meta.proofs.Named.{file_origin_bytes}
+use Rattle.wtf_region.specs.declared.dev.Dev.{Dev}
+use Rattle.wtf_region.specs.Devs.{stores, between, place_in}
+use Rattle.wtf_region.specs.Inside.{is_inside}
+use Rattle.wtf_region.specs.Showing.{OnlyRead}
+use Rattle.wtf_region.proofs.ShowLaws.{reads_nothing}
+use Rattle.wtf_rw.specs.Ops.{OwnBy}
+use Rattle.wtf_rw.specs.Recorded.{found_in}
+use Rattle.wtf_rw.specs.Reads.{read_origin}
+use Rattle.wtf_rw.specs.Steps.{IsRefusal}
+use Rattle.wtf_meta.specs.FileEdits.{file_of}
+use Rattle.wtf_rw.specs.Stored.{SliceBytes, IsPutFault, end_place}
+use Rattle.wtf_replay.specs.Causes.{StoresNothing, IsOwnOf, IsReadCause, IsPeekCause, IsCallFault, IsAgainFault, fault_answer}
+use Rattle.wtf_replay.specs.Keeps.{LacksData}
+use Rattle.wtf_clients.specs.Named.{has_copies}
+use Rattle.wtf_replica.specs.Copies.{IsStored}
+use Rattle.wtf_clients.specs.Asked.{Asked, IsPlaced, IsCallPlace, HasFailed}
+use Rattle.wtf_clients.specs.Outcomes.{AddsBytes, HasCause, data_of_op}
+use Rattle.wtf_clients.proofs.Staying.{IsFault, fault_is}
+use Rattle.wtf_clients.specs.Serves.{IsPlain}
+use Rattle.wtf_clients.proofs.Unread.{lacks_unread, slice_copies}
+
+-- the answers of calls are no faults
+pub logged_plain : (a : Answer) → IsLogged a → IsPlain a
+logged_plain (answer.FaultRead k) h = absurd h
+logged_plain answer.FaultWrite h = absurd h
+logged_plain (answer.FaultPunch k) h = absurd h
+logged_plain answer.FaultSave h = absurd h
+logged_plain (answer.Damaged k) h = absurd h
+logged_plain a h = tt
+
+-- they need no cause
+pub plain_failed : (fails : Fault → Type 0) (a : Answer) → IsPlain a → HasFailed fails a
+plain_failed fails (answer.FaultRead k) h = absurd h
+plain_failed fails answer.FaultWrite h = absurd h
+plain_failed fails (answer.FaultPunch k) h = absurd h
+plain_failed fails answer.FaultSave h = tt
+plain_failed fails (answer.Damaged k) h = absurd h
+plain_failed fails a h = tt
+
+-- a fault that has one
+pub has_failed : (fails : Fault → Type 0) (why : Fault) (a : Answer) → fault_answer why ≡ Some a → fails why → HasFailed fails a
+has_failed fails why (answer.FaultRead k) is h = (why, is, h)
+has_failed fails why answer.FaultWrite is h = (why, is, h)
+has_failed fails why (answer.FaultPunch k) is h = (why, is, h)
+has_failed fails why answer.FaultSave is h = tt
+has_failed fails why (answer.Damaged k) is h = (why, is, h)
+has_failed fails why a is h = tt
+
+-- what was stored for a line that hands nothing in, for one that is refused, and for one that failed
+pub none_placed : {S : Type 0} (kind : StoreKind S) (t : Span S) (settings : Settings) (asked : Asked) (a : Answer) → asked.given ≡ [] → IsPlaced kind t settings asked a
+none_placed kind t settings asked a none is some = absurd (let len : length asked.given ≡ 0 = ap length none in omega (arith, some, len))
+
+pub refused_placed : {S : Type 0} (kind : StoreKind S) (t : Span S) (settings : Settings) (asked : Asked) (a : Answer) → IsRefusal a → IsPlaced kind t settings asked a
+refused_placed kind t settings asked a refusal is some = absurd (subst IsRefusal is refusal)
+
+pub fault_placed : {S : Type 0} (kind : StoreKind S) (t : Span S) (settings : Settings) (asked : Asked) (why : Fault) (a : Answer) → fault_answer why ≡ Some a → IsPlaced kind t settings asked a
+fault_placed kind t settings asked why a is ok some = absurd (subst IsFault ok (fault_is why a is))
+
+module _ {S : Type 0} (kind : StoreKind S) (t : Span S) (settings : Settings) where
+  -- needs no cause
+  pub plain_caused : (saving full : Type 0) (given : List ℕ) (a : Answer) → IsPlain a → HasCause kind t settings saving full given a
+  plain_caused saving full given (answer.FaultRead k) h = absurd h
+  plain_caused saving full given answer.FaultWrite h = absurd h
+  plain_caused saving full given (answer.FaultPunch k) h = absurd h
+  plain_caused saving full given answer.FaultSave h = absurd h
+  plain_caused saving full given (answer.Damaged k) h = absurd h
+  plain_caused saving full given a h = tt
+
+  -- a line that stores nothing
+  pub none_added : (a : Answer) → SameLengths kind t.before t.after → AddsBytes kind t settings [] a
+  none_added answer.FaultWrite h = tt
+  none_added a h = h
+
+  pub refused_adds : (given : List ℕ) (a : Answer) → IsRefusal a → SameLengths kind t.before t.after → AddsBytes kind t settings given a
+  refused_adds [] (answer.Refused w) r h = h
+  refused_adds (b ∷ bs) (answer.Refused w) r h = h
+  refused_adds given a r h = absurd r
+
+-- want of memory is answered by no fault
+pub memory_none : (why : Fault) (a : Answer) → fault_answer why ≡ Some a → why ≡ fault.Memory → ⊥
+memory_none why a is memory = let e : None ≡ Some a = sym (ap fault_answer memory) ∙ is in cc
+
+-- a slice has a byte
+some_len : (n : ℕ) (e : Extents) → IsSound n e → 0 < n
+some_len n (One a) h = h.0
+some_len n (Two a b) h = h.0
+some_len n (Three a b c) h = h.0
+
+module _ {S : Type 0} (kind : StoreKind S) (old new : Dev S) where
+  -- stores that were not lent
+  pub same_lengths : new ≡ old → SameLengths kind (stores old) (stores new)
+  same_lengths e = subst (λ (d : Dev S). SameLengths kind (stores old) (stores d)) (sym e) (reads_nothing kind (is_down old.replicas.now) (stores old)).lengths
+
+  own_adds : (o : Option Handle) (place : Handle → PlaceView) (bytes : List ℕ) (own : Option Slice) (a : Answer) → OwnBy kind old new o place bytes own
+      → (own ≡ None → (length bytes ≡ 0) ⊎ IsRefusal a) → (IsSome own → a ≡ answer.Okay) → AddsBytes kind (between old new) old.settings bytes a
+  own_adds None place [] own a h lacks done = none_added kind (between old new) old.settings a (same_lengths h.0)
+  own_adds (Some g) place [] None a h lacks done = none_added kind (between old new) old.settings a (same_lengths h)
+  own_adds (Some g) place [] (Some s) a h lacks done = absurd (let some = some_len s.len s.extents s.sound in let len = h.0.len in omega (arith, some, len))
+  own_adds None place (b ∷ bs) own a h lacks done = elim (lacks h.1) [
+    | inl none ↦ absurd (omega (arith, none))
+    | inr refusal ↦ refused_adds kind (between old new) old.settings (b ∷ bs) a refusal (same_lengths h.0)
+  ]
+  own_adds (Some g) place (b ∷ bs) None a h lacks done = elim (lacks refl) [
+    | inl none ↦ absurd (omega (arith, none))
+    | inr refusal ↦ refused_adds kind (between old new) old.settings (b ∷ bs) a refusal (same_lengths h)
+  ]
+  own_adds (Some g) place (b ∷ bs) (Some s) a h lacks done =
+      subst (λ (r : Answer). AddsBytes kind (between old new) old.settings (b ∷ bs) r) (sym (done refl)) (place g, s, h.0)
+
+  -- what a call that was answered stored
+  pub call_adds : (w : Map) (s : SessionView) (o : Op (List ℕ)) (own : Option Slice) (a : Answer) → IsOwnOf kind old new w s o own → LacksData o own a → (IsSome own → a ≡ answer.Okay)
+      → (StoresNothing o → OnlyRead kind (between old new)) → AddsBytes kind (between old new) old.settings (data_of_op o) a
+  call_adds w s (op.Write f bytes) own a h lacks done reads = own_adds (handle_in s f) _ bytes own a h lacks done
+  call_adds w s (op.Append f bytes) own a h lacks done reads = own_adds (handle_in s f) _ bytes own a h lacks done
+  call_adds w s o own a h lacks done reads = none_added kind (between old new) old.settings a (reads tt).lengths
+
+  own_placed : (o : Option Handle) (place : Handle → PlaceView) (Goes : PlaceView → Type 0) (bytes : List ℕ) (own : Option Slice) (a : Answer) → OwnBy kind old new o place bytes own
+      → (own ≡ None → (length bytes ≡ 0) ⊎ IsRefusal a) → ((g : Handle) → o ≡ Some g → Goes (place g)) → a ≡ answer.Okay → 0 < length bytes
+      → (p : PlaceView) × Goes p × (slice : Slice) × IsStored kind (between old new) old.settings.replicas p bytes slice
+  own_placed None place Goes bytes own a h lacks goes ok some = elim (lacks h.1) [
+    | inl none ↦ absurd (omega (arith, none, some))
+    | inr refusal ↦ absurd (subst IsRefusal ok refusal)
+  ]
+  own_placed (Some g) place Goes bytes None a h lacks goes ok some = elim (lacks refl) [
+    | inl none ↦ absurd (omega (arith, none, some))
+    | inr refusal ↦ absurd (subst IsRefusal ok refusal)
+  ]
+  own_placed (Some g) place Goes [] (Some s) a h lacks goes ok some = absurd (omega (arith, some))
+  own_placed (Some g) place Goes (b ∷ bs) (Some s) a h lacks goes ok some = (place g, goes g refl, s, h.0)
+
+  -- and where
+  pub call_placed : (w : Map) (s : SessionView) (o : Op (List ℕ)) (own : Option Slice) (a : Answer) → IsOwnOf kind old new w s o own → LacksData o own a → a ≡ answer.Okay → 0 < length (data_of_op o)
+      → (p : PlaceView) × IsCallPlace old w s o p × (slice : Slice) × IsStored kind (between old new) old.settings.replicas p (data_of_op o) slice
+  call_placed w s (op.Write f bytes) own a h lacks ok some =
+      own_placed (handle_in s f) (λ g. place_in old g.inode g.off) (IsCallPlace old w s (op.Write f bytes)) bytes own a h lacks (λ g is. (g, is, refl)) ok some
+  call_placed w s (op.Append f bytes) own a h lacks ok some =
+      own_placed (handle_in s f) (λ g. place_in old g.inode (end_place old.settings.region (file_of g.inode w))) (IsCallPlace old w s (op.Append f bytes)) bytes own a h lacks (λ g is. (g, is, refl)) ok some
+  call_placed w s o own a h lacks ok some = absurd (omega (arith, some))
+
+  own_by_full : (o : Option Handle) (place : Handle → PlaceView) (bytes : List ℕ) (own : Option Slice) → OwnBy kind old new o place bytes own → SliceBytes (has_copies old.settings.replicas) own
+  own_by_full None place bytes own h = subst (SliceBytes (has_copies old.settings.replicas)) (sym h.1) tt
+  own_by_full (Some g) place bytes None h = tt
+  own_by_full (Some g) place bytes (Some s) h = slice_copies old.settings.replicas s (len_of s) h.0.width
+
+  -- it has as many copies as there are replicas
+  pub own_full : (w : Map) (s : SessionView) (o : Op (List ℕ)) (own : Option Slice) → IsOwnOf kind old new w s o own → SliceBytes (has_copies old.settings.replicas) own
+  own_full w s (op.Write f bytes) own h = own_by_full (handle_in s f) _ bytes own h
+  own_full w s (op.Append f bytes) own h = own_by_full (handle_in s f) _ bytes own h
+  own_full w s (op.Read f n) own h = subst (SliceBytes (has_copies old.settings.replicas)) (sym h) tt
+  own_full w s (op.Yank f n label) own h = subst (SliceBytes (has_copies old.settings.replicas)) (sym h) tt
+  own_full w s (op.Peek label off n) own h = subst (SliceBytes (has_copies old.settings.replicas)) (sym h) tt
+  own_full w s (op.Concat q paths) own h = subst (SliceBytes (has_copies old.settings.replicas)) (sym h) tt
+  own_full w s o own h = subst (SliceBytes (has_copies old.settings.replicas)) (sym h.1) tt
+
+  -- why bytes were not stored
+  put_fault : (bytes : List ℕ) (why : Fault) (a : Answer) → fault_answer why ≡ Some a → IsPutFault kind old new bytes why
+      → (a ≡ answer.FaultWrite) × (0 < length bytes) × AreTooFew kind (between old new) old.settings.servers old.settings.replicas
+  put_fault [] why a is h = absurd (memory_none why a is h)
+  put_fault (b ∷ bs) why a is (inl memory) = absurd (memory_none why a is memory)
+  put_fault (b ∷ bs) fault.Write a is (inr few) = (let e : answer.FaultWrite ≡ a = cc in sym e, omega arith, few)
+  put_fault (b ∷ bs) (fault.Read k) a is (inr few) = absurd few
+  put_fault (b ∷ bs) (fault.Punch k) a is (inr few) = absurd few
+  put_fault (b ∷ bs) (fault.Damaged k) a is (inr few) = absurd few
+  put_fault (b ∷ bs) fault.Memory a is (inr few) = absurd few
+
+  put_caused : (full : Type 0) (bytes : List ℕ) (why : Fault) (a : Answer) → fault_answer why ≡ Some a → IsPutFault kind old new bytes why → HasCause kind (between old new) old.settings ⊥ full bytes a
+  put_caused full bytes why a is h =
+      let cause = put_fault bytes why a is h in
+      subst (λ (r : Answer). HasCause kind (between old new) old.settings ⊥ full bytes r) (sym cause.0) (cause.1, cause.2)
+
+  put_adds : (bytes : List ℕ) (why : Fault) (a : Answer) → fault_answer why ≡ Some a → IsPutFault kind old new bytes why → AddsBytes kind (between old new) old.settings bytes a
+  put_adds bytes why a is h = by bytes (put_fault bytes why a is h)
+    where
+      by : (l : List ℕ) → (a ≡ answer.FaultWrite) × (0 < length l) × AreTooFew kind (between old new) old.settings.servers old.settings.replicas → AddsBytes kind (between old new) old.settings l a
+      by [] cause = absurd (let some = cause.1 in omega (arith, some))
+      by (b ∷ bs) cause = subst (λ (r : Answer). AddsBytes kind (between old new) old.settings (b ∷ bs) r) (sym cause.0) tt
+
+  -- what a call that failed stored
+  pub fault_adds : (w : Map) (s : SessionView) (o : Op (List ℕ)) (why : Fault) (a : Answer) → fault_answer why ≡ Some a → IsCallFault kind old new w s o why
+      → (StoresNothing o → OnlyRead kind (between old new)) → AddsBytes kind (between old new) old.settings (data_of_op o) a
+  fault_adds w s (op.Write f bytes) why a is h reads = put_adds bytes why a is h
+  fault_adds w s (op.Append f bytes) why a is h reads = put_adds bytes why a is h
+  fault_adds w s o why a is h reads = none_added kind (between old new) old.settings a (reads tt).lengths
+
+-- P holds of the bytes of a map, and of those of the slices in hand
+abbrev pub SeenBytes : (List Place → Bool) → Map → SessionView → Type 0
+SeenBytes P w s = MapBytes P w × SessionBytes P s
+
+-- and so of each byte of a slice, and of what lies past it
+piece_bytes : (P : List Place → Bool) → P [] ≡ true → (ps : List Piece) (i : ℕ) → PiecesBytes P ps → P (pieces_origin ps i) ≡ true
+piece_bytes P hole [] i h = hole
+piece_bytes P hole (p ∷ ps) i h = elim (cases_lt i p.len) [
+  | inl l ↦ ap P (cond-true (nat_lt i p.len) (part_origin p.part i) (pieces_origin ps (i - p.len)) (lt-ltb i p.len l)) ∙ All-head (λ (q : Piece). PartBytes P q.len q.part) p ps h i l
+  | inr g ↦ ap P (cond-false (nat_lt i p.len) (part_origin p.part i) (pieces_origin ps (i - p.len)) (le-ltb i p.len g)) ∙ piece_bytes P hole ps (i - p.len) (All-tail (λ (q : Piece). PartBytes P q.len q.part) p ps h)
+]
+
+-- why bytes were not read, where each byte of the map and of the slices in hand lies inside the stores
+module _ {S : Type 0} {kind : StoreKind S} (laws : KindLaws kind) (shelf : List S) (settings : Settings) (enough : settings.servers ≤ length shelf) (old new : Dev S) (w : Map) (s : SessionView) (full : Type 0)
+    (inside : SeenBytes (is_inside kind shelf settings) w s) (copies : full → SeenBytes (has_copies settings.replicas) w s) where
+  pub read_caused : (f n : ℕ) (given : List ℕ) (why : Fault) (a : Answer) → fault_answer why ≡ Some a → IsReadCause kind old new w s f n why → HasCause kind (between old new) settings ⊥ full given a
+  read_caused f n given why a is (inl memory) = absurd (memory_none why a is memory)
+  read_caused f n given (fault.Read k) a is (inr (h, there, lacks)) =
+      subst (λ (r : Answer). HasCause kind (between old new) settings ⊥ full given r) (let e : answer.FaultRead k.0 ≡ a = cc in e)
+      (lacks_unread laws shelf settings old new (found_in old.settings.region w h n) (read_origin old.settings.region w h) full k enough
+      (λ i below. file_origin_bytes (is_inside kind shelf settings) refl old.settings.region h.inode w (h.off + i) inside.0)
+      (λ whole i below. file_origin_bytes (has_copies settings.replicas) refl old.settings.region h.inode w (h.off + i) (copies whole).0) lacks)
+  read_caused f n given fault.Write a is (inr (h, there, lacks)) = absurd lacks.fault
+  read_caused f n given (fault.Punch k) a is (inr (h, there, lacks)) = absurd lacks.fault
+  read_caused f n given (fault.Damaged k) a is (inr (h, there, lacks)) = absurd lacks.fault
+  read_caused f n given fault.Memory a is (inr (h, there, lacks)) = absurd (memory_none fault.Memory a is refl)
+
+  peek_by : (label off n : ℕ) (why : Fault) (a : Answer) (o : Option (List Piece)) → slice_in s label ≡ o → fault_answer why ≡ Some a → LacksSlice kind old new o off n why → HasCause kind (between old new) settings ⊥ full [] a
+  peek_by label off n why a None there is h = absurd h
+  peek_by label off n why a (Some ps) there is (inl memory) = absurd (memory_none why a is memory)
+  peek_by label off n (fault.Read k) a (Some ps) there is (inr lacks) =
+      subst (λ (r : Answer). HasCause kind (between old new) settings ⊥ full [] r) (let e : answer.FaultRead k.0 ≡ a = cc in e)
+      (lacks_unread laws shelf settings old new n (λ i. pieces_origin ps (off + i)) full k enough
+      (λ i below. piece_bytes (is_inside kind shelf settings) refl ps (off + i) (inside.1 label ps there))
+      (λ whole i below. piece_bytes (has_copies settings.replicas) refl ps (off + i) ((copies whole).1 label ps there)) lacks)
+  peek_by label off n fault.Write a (Some ps) there is (inr lacks) = absurd lacks.fault
+  peek_by label off n (fault.Punch k) a (Some ps) there is (inr lacks) = absurd lacks.fault
+  peek_by label off n (fault.Damaged k) a (Some ps) there is (inr lacks) = absurd lacks.fault
+  peek_by label off n fault.Memory a (Some ps) there is (inr lacks) = absurd (memory_none fault.Memory a is refl)
+
+  pub peek_caused : (label off n : ℕ) (why : Fault) (a : Answer) → fault_answer why ≡ Some a → IsPeekCause kind old new s label off n why → HasCause kind (between old new) settings ⊥ full [] a
+  peek_caused label off n why a is (inl memory) = absurd (memory_none why a is memory)
+  peek_caused label off n why a is (inr h) = peek_by label off n why a (slice_in s label) refl is h
+
+  -- why a call failed that was made once more
+  pub again_caused : (k : Op Kept) (why : Fault) (a : Answer) → fault_answer why ≡ Some a → IsAgainFault kind old new w s k why → HasCause kind (between old new) settings ⊥ full [] a
+  again_caused (op.Read f n) why a is h = read_caused f n [] why a is h
+  again_caused (op.Peek label off n) why a is h = peek_caused label off n why a is h
+  again_caused k why a is h = absurd (memory_none why a is h)
+
+-- or for the first time
+pub call_caused : {S : Type 0} {kind : StoreKind S} → KindLaws kind → (old new : Dev S) → old.settings.servers ≤ length (stores old) → (w : Map) (s : SessionView) (full : Type 0)
+    → SeenBytes (is_inside kind (stores old) old.settings) w s → (full → SeenBytes (has_copies old.settings.replicas) w s)
+    → (o : Op (List ℕ)) (why : Fault) (a : Answer) → fault_answer why ≡ Some a → IsCallFault kind old new w s o why → HasCause kind (between old new) old.settings ⊥ full (data_of_op o) a
+call_caused {kind = kind} laws old new enough w s full inside copies (op.Write f bytes) why a is h = put_caused kind old new full bytes why a is h
+call_caused {kind = kind} laws old new enough w s full inside copies (op.Append f bytes) why a is h = put_caused kind old new full bytes why a is h
+call_caused {kind = kind} laws old new enough w s full inside copies (op.Read f n) why a is h = read_caused laws (stores old) old.settings enough old new w s full inside copies f n [] why a is h
+call_caused {kind = kind} laws old new enough w s full inside copies (op.Peek label off n) why a is h = peek_caused laws (stores old) old.settings enough old new w s full inside copies label off n why a is h
+call_caused {kind = kind} laws old new enough w s full inside copies o why a is h = absurd (memory_none why a is h)

@@ -1,0 +1,192 @@
+-- What a dump shows is the file's bytes, and why it did not.
+use Rattle.std.proofs.Common.{◌≡◌, ℕ, ◌+◌, ◌*◌, ◌<◌, ◌≤◌, min, nat_le, Bool, true, false, List, [], ◌∷◌, length, get_or, Option, None, Some, Result, Ok, Err, refl, sym, ap, ◌∙◌, subst, inl, inr, ◌⊎◌, arith, zero-add}
+use Rattle.std.specs.Prelude.{if◌then◌else◌}
+use Rattle.std.specs.FinMap.{get}
+use Rattle.std.proofs.lemmas.Bool.{le-leb, leb-true}
+use Rattle.std.proofs.lemmas.Grind.{same_number_lists}
+use Rattle.wtf_base.specs.declared.fault.Fault.{Fault}
+use Rattle.wtf_base.specs.declared.fault.Fault.TheVariants as fault
+use Rattle.wtf_base.specs.declared.ids.InodeId.{InodeId}
+use Rattle.wtf_base.specs.declared.ids.ServerId.{ServerId}
+use Rattle.wtf_dev.specs.Store.{StoreKind, KindLaws}
+use Rattle.wtf_overlay.specs.Origin.{Place, Plans, pieces_origin}
+use Rattle.wtf_overlay.specs.declared.part.Piece.{Piece}
+use Rattle.wtf_overlay.specs.Meaning.{meaning}
+use Rattle.wtf_model.specs.declared.answer.Answer.{Answer}
+use Rattle.wtf_model.specs.declared.answer.Answer.TheVariants as answer
+use Rattle.wtf_model.specs.declared.answer.Word.{Word}
+use Rattle.wtf_model.specs.declared.answer.Word.TheVariants.{NoEnt, IsDir, Long}
+use Rattle.wtf_model.specs.declared.limits.TheConstants.{MAX_DUMPED, MAX_REGIONS}
+use Rattle.wtf_model.specs.Lawful.{MayFailRead, is_short, dumped, or_refusal}
+use Rattle.wtf_model.specs.Tree.{Tree, TreeNode, Dir, File, ◌>>=◌, bytes_of}
+use Rattle.wtf_values.specs.declared.key.Key.TheVariants.{Path}
+use Rattle.wtf_values.specs.declared.value.Node.TheVariants.{Folder, File as FileNode}
+use Rattle.wtf_values.specs.declared.value.Value.{Value}
+use Rattle.wtf_values.specs.declared.value.Value.TheVariants as value
+use Rattle.wtf_meta.specs.Bytes.{MapBytes, PiecesBytes}
+use Rattle.wtf_meta.specs.Contents.{Told, HasBytes}
+use Rattle.wtf_meta.specs.Files.{FileView, IsFile, file_len, file_origin}
+use Rattle.wtf_meta.specs.FileEdits.{file_of}
+use Rattle.wtf_meta.specs.Maps.{Map}
+use Rattle.wtf_meta.specs.NameEdits.{node_of}
+use Rattle.wtf_meta.specs.Trees.{NodeAt, IsBody, Stands}
+use Rattle.wtf_meta.proofs.Named.{plans_bytes, file_origin_bytes}
+use Rattle.wtf_index.specs.Checks.{stands_at}
+use Rattle.wtf_region.specs.declared.dev.Dev.{Dev}
+use Rattle.wtf_region.specs.Devs.{stores, between}
+use Rattle.wtf_region.specs.Inside.{is_inside}
+use Rattle.wtf_region.specs.Showing.{Shown}
+use Rattle.wtf_rw.proofs.FaultWays.{some_byte, lacks_known}
+use Rattle.wtf_rw.proofs.FileWays.{file_len_cap}
+use Rattle.wtf_rw.proofs.ReadWays.{shown_len}
+use Rattle.wtf_replay.specs.Causes.{fault_answer}
+use Rattle.wtf_clients.specs.Dumped.{file_answer, IsDumpAnswer, IsDumped, LacksDump}
+use Rattle.wtf_clients.specs.Named.{has_copies}
+use Rattle.wtf_clients.specs.Outcomes.{HasCause}
+use Rattle.wtf_clients.specs.Serves.{IsPlain}
+use Rattle.wtf_clients.proofs.Unread.{lacks_unread}
+use Rattle.wtf_clients.proofs.Caused.{memory_none}
+
+-- a file's places from its begin on
+pub plans_whole : (ps : List Piece) (n : ℕ) (f : ℕ → List Place) → Plans ps n (λ i. f (0 + i)) → Plans ps n f
+plans_whole ps n f plans = record { len = plans.len; origin = λ i below. plans.origin i below ∙ ap f (zero-add i) }
+
+-- the bytes that were shown are the file's
+pub shows_file : (told : Told) (z : ℕ) (v : FileView) (ps : List Piece) (n : ℕ) (bytes out : List ℕ) → n ≡ min (file_len z v) (MAX_REGIONS * z) → file_len z v ≤ MAX_DUMPED → IsFile z v → HasBytes told z v bytes
+    → Plans ps n (file_origin z v) → Shown told n (λ i. pieces_origin ps (0 + i)) [] out → answer.Shown out ≡ file_answer bytes
+shows_file told z v ps n bytes out is short file has plans shown =
+    let cap = file_len_cap z v file in
+    let len = has.len in
+    let whole : length out ≡ n = shown_len shown in
+    let same : out ≡ bytes = same_number_lists out bytes (omega (arith, whole, is, cap, len)) (λ i below.
+    let within : i < n = omega (arith, below, whole) in
+    let there : meaning told (pieces_origin ps (0 + i)) ≡ Some (get_or bytes i 0) =
+    ap (λ j. meaning told (pieces_origin ps j)) (zero-add i) ∙ ap (meaning told) (plans.origin i within) ∙ has.tells i in
+    ap (λ l. get_or l i 0) shown.more ∙ shown.are.shows i (get_or bytes i 0) within there) in
+    ap answer.Shown same ∙ sym (ap (λ b. if b then answer.Shown bytes else answer.Refused Long) (le-leb (length bytes) MAX_DUMPED (omega (arith, short, len))))
+
+-- a file that is too long is refused
+pub too_long : (told : Told) (z : ℕ) (v : FileView) (bytes : List ℕ) → MAX_DUMPED < file_len z v → HasBytes told z v bytes → answer.Refused Long ≡ file_answer bytes
+too_long told z v bytes long has =
+    let len = has.len in
+    let more : MAX_DUMPED < length bytes = omega (arith, long, len) in
+    sym (by (nat_le (length bytes) MAX_DUMPED) refl more)
+  where
+    by : (b : Bool) → nat_le (length bytes) MAX_DUMPED ≡ b → MAX_DUMPED < length bytes → (if b then answer.Shown bytes else answer.Refused Long) ≡ answer.Refused Long
+    by true is more = absurd (omega (arith, more, leb-true (length bytes) MAX_DUMPED is))
+    by false is more = refl
+
+-- what stands at a path, by its value
+module _ (b : ℕ) (told : Told) (w : Map) where
+  none_at : (v : Option Value) (o : Option TreeNode) → NodeAt b told w v o → node_of v ≡ None → o ≡ None
+  none_at None None h is = refl
+  none_at None (Some n) h is = absurd h
+  none_at (Some (value.Node n)) o h is = absurd (cc)
+  none_at (Some (value.Names s)) o h is = absurd h
+  none_at (Some (value.Last r)) o h is = absurd h
+  none_at (Some (value.Region g)) o h is = absurd h
+
+  folder_at : (v : Option Value) (o : Option TreeNode) → NodeAt b told w v o → node_of v ≡ Some Folder → o ≡ Some Dir
+  folder_at None o h is = absurd (cc)
+  folder_at (Some (value.Node Folder)) None h is = absurd h
+  folder_at (Some (value.Node Folder)) (Some Dir) h is = refl
+  folder_at (Some (value.Node Folder)) (Some (File bytes)) h is = absurd h
+  folder_at (Some (value.Node (FileNode i))) o h is = absurd (cc)
+  folder_at (Some (value.Names s)) o h is = absurd h
+  folder_at (Some (value.Last r)) o h is = absurd h
+  folder_at (Some (value.Region g)) o h is = absurd h
+
+  file_at : (v : Option Value) (o : Option TreeNode) (i : InodeId) → NodeAt b told w v o → node_of v ≡ Some (FileNode i) → (bytes : List ℕ) × (o ≡ Some (File bytes)) × IsBody b told w i bytes
+  file_at None o i h is = absurd (cc)
+  file_at (Some (value.Node Folder)) o i h is = absurd (cc)
+  file_at (Some (value.Node (FileNode j))) None i h is = absurd h
+  file_at (Some (value.Node (FileNode j))) (Some Dir) i h is = absurd h
+  file_at (Some (value.Node (FileNode j))) (Some (File bytes)) i h is = (bytes, refl, subst (λ k. IsBody b told w k bytes) (let same : j ≡ i = cc in same) h)
+  file_at (Some (value.Names s)) o i h is = absurd h
+  file_at (Some (value.Last r)) o i h is = absurd h
+  file_at (Some (value.Region g)) o i h is = absurd h
+
+-- the definitions' answer, by what stands in the tree
+abbrev answer_at : Option TreeNode → Answer
+answer_at o = or_refusal (do
+  bytes ← bytes_of o
+  _ ← is_short bytes
+  Ok (answer.Shown bytes))
+
+abbrev tested : Bool → Result (Unit {0}) Word
+tested b = if b then Ok tt else Err Long
+
+short_by : (b : Bool) (bytes : List ℕ) → (if b then answer.Shown bytes else answer.Refused Long) ≡ or_refusal (tested b >>= (λ _. Ok (answer.Shown bytes)))
+short_by true bytes = refl
+short_by false bytes = refl
+
+file_whole : (bytes : List ℕ) → file_answer bytes ≡ answer_at (Some (File bytes))
+file_whole bytes = short_by (nat_le (length bytes) MAX_DUMPED) bytes
+
+-- so it answers of a path where nothing stands, or a directory, or a file
+pub dumps_none : (z : ℕ) (told : Told) (w : Map) (p : List ℕ) → stands_at w p ≡ None → IsDumped z told w p (answer.Refused NoEnt)
+dumps_none z told w p is tx k t st = sym (ap answer_at (none_at z told w (w (Path p)) (get t p) (st.nodes p) is))
+
+pub dumps_folder : (z : ℕ) (told : Told) (w : Map) (p : List ℕ) → stands_at w p ≡ Some Folder → IsDumped z told w p (answer.Refused IsDir)
+dumps_folder z told w p is tx k t st = sym (ap answer_at (folder_at z told w (w (Path p)) (get t p) (st.nodes p) is))
+
+pub dumps_file : (z : ℕ) (told : Told) (w : Map) (p : List ℕ) (i : InodeId) (a : Answer) → stands_at w p ≡ Some (FileNode i) → ((bytes : List ℕ) → IsBody z told w i bytes → a ≡ file_answer bytes) → IsDumped z told w p a
+dumps_file z told w p i a is shows tx k t st =
+    let found = file_at z told w (w (Path p)) (get t p) i (st.nodes p) is in
+    shows found.0 found.2 ∙ file_whole found.0 ∙ sym (ap answer_at found.1)
+
+-- ---- why the bytes were not shown
+may_read : (servers k : ℕ) (bytes : List ℕ) (d : Answer) → 0 < length bytes → d ≡ answer.Shown bytes → k < servers → MayFailRead servers d (answer.FaultRead k)
+may_read servers k [] d some is known = absurd (omega arith)
+may_read servers k (b ∷ bs) d some is known = subst (λ (r : Answer). MayFailRead servers r (answer.FaultRead k)) (sym is) known
+
+module _ {S : Type 0} {kind : StoreKind S} (laws : KindLaws kind) (old new : Dev S) (enough : old.settings.servers ≤ length (stores old)) (w : Map) (p : List ℕ) (inside : MapBytes (is_inside kind (stores old) old.settings) w) where
+  -- some byte was to be shown
+  due_read : (k : ServerId) (told : Told) (tx n : ℕ) (t : Tree) → LacksDump kind old new w p (fault.Read k) → Stands old.settings.region told tx n w t → MayFailRead old.settings.servers (or_refusal (dumped t p)) (answer.FaultRead k.0)
+  due_read k told tx n t lacks st =
+      let z : ℕ = old.settings.region in
+      let v : FileView = file_of lacks.inode w in
+      let found = file_at z told w (w (Path p)) (get t p) lacks.inode (st.nodes p) lacks.there in
+      let bytes : List ℕ = found.0 in
+      let len = found.2.bytes_are.len in
+      let short = lacks.file.short in
+      let l = lacks.file.lacks in
+      let count : ℕ = min (file_len z v) (MAX_REGIONS * z) in
+      let named : PiecesBytes (is_inside kind (stores old) old.settings) l.pieces =
+      plans_bytes (is_inside kind (stores old) old.settings) l.pieces count (file_origin z v) l.plans (λ i below. file_origin_bytes (is_inside kind (stores old) old.settings) refl z lacks.inode w i inside) in
+      let some : 0 < count = some_byte count l.pieces l.fault.before l.fault.piece l.fault.after l.fault.split in
+      let known = lacks_known kind (between l.mid new) (stores old) old.settings count k.0 l.pieces enough named l.fault in
+      let whole : file_answer bytes ≡ answer.Shown bytes = ap (λ b. if b then answer.Shown bytes else answer.Refused Long) (le-leb (length bytes) MAX_DUMPED (omega (arith, short, len))) in
+      may_read old.settings.servers k.0 bytes (or_refusal (dumped t p)) (omega (arith, some, len)) (ap answer_at found.1 ∙ sym (file_whole bytes) ∙ whole) known
+
+  -- so the machine allows the fault
+  pub dump_may : (why : Fault) (a : Answer) (told : Told) (tx n : ℕ) (t : Tree) → fault_answer why ≡ Some a → (why ≡ fault.Memory) ⊎ LacksDump kind old new w p why → Stands old.settings.region told tx n w t
+      → MayFailRead old.settings.servers (or_refusal (dumped t p)) a
+  dump_may why a told tx n t is (inl memory) st = absurd (memory_none why a is memory)
+  dump_may (fault.Read k) a told tx n t is (inr lacks) st = subst (MayFailRead old.settings.servers (or_refusal (dumped t p))) (let e : answer.FaultRead k.0 ≡ a = cc in e) (due_read k told tx n t lacks st)
+  dump_may fault.Write a told tx n t is (inr lacks) st = absurd lacks.file.lacks.fault
+  dump_may (fault.Punch k) a told tx n t is (inr lacks) st = absurd lacks.file.lacks.fault
+  dump_may (fault.Damaged k) a told tx n t is (inr lacks) st = absurd lacks.file.lacks.fault
+  dump_may fault.Memory a told tx n t is (inr lacks) st = absurd (memory_none fault.Memory a is refl)
+
+  -- and it has its cause
+  pub dump_caused : (full : Type 0) → (full → MapBytes (has_copies old.settings.replicas) w) → (why : Fault) (a : Answer) → fault_answer why ≡ Some a → (why ≡ fault.Memory) ⊎ LacksDump kind old new w p why
+      → HasCause kind (between old new) old.settings ⊥ full [] a
+  dump_caused full copies why a is (inl memory) = absurd (memory_none why a is memory)
+  dump_caused full copies (fault.Read k) a is (inr lacks) =
+      let z : ℕ = old.settings.region in
+      let v : FileView = file_of lacks.inode w in
+      subst (HasCause kind (between old new) old.settings ⊥ full []) (let e : answer.FaultRead k.0 ≡ a = cc in e)
+      (lacks_unread laws (stores old) old.settings old new (min (file_len z v) (MAX_REGIONS * z)) (file_origin z v) full k enough
+      (λ i below. file_origin_bytes (is_inside kind (stores old) old.settings) refl z lacks.inode w i inside)
+      (λ whole i below. file_origin_bytes (has_copies old.settings.replicas) refl z lacks.inode w i (copies whole)) lacks.file.lacks)
+  dump_caused full copies fault.Write a is (inr lacks) = absurd lacks.file.lacks.fault
+  dump_caused full copies (fault.Punch k) a is (inr lacks) = absurd lacks.file.lacks.fault
+  dump_caused full copies (fault.Damaged k) a is (inr lacks) = absurd lacks.file.lacks.fault
+  dump_caused full copies fault.Memory a is (inr lacks) = absurd (memory_none fault.Memory a is refl)
+
+-- what was shown or refused is no fault
+pub dump_plain : (a : Answer) → IsDumpAnswer a → IsPlain a
+dump_plain (answer.Shown bytes) h = tt
+dump_plain (answer.Refused w) h = tt
+dump_plain a h = absurd h

@@ -1,0 +1,172 @@
+-- What a line of one client leaves to the others.
+use Rattle.std.proofs.Common.{◌≡◌, ◌≢◌, ◌≤◌, ℕ, ◌+◌, Option, None, Some, refl, sym, ap, ◌∙◌, subst, ◌⊎◌, ⊎_elim, arith}
+use Rattle.std.specs.Prelude.{IsTrue}
+use Rattle.std.specs.List.{Contains}
+use Rattle.std.specs.FinMap.{get}
+use Rattle.wtf_kv.specs.Stores.{Store, is_pinned, times_pinned}
+use Rattle.wtf_values.specs.declared.key.Key.{Key}
+use Rattle.wtf_values.specs.declared.value.Value.{Value}
+use Rattle.wtf_model.specs.Tree.{Tree, root_alone}
+use Rattle.wtf_model.specs.Transaction.{Transaction}
+use Rattle.wtf_model.specs.Machines.{Machine}
+use Rattle.wtf_meta.specs.Contents.{Told}
+use Rattle.wtf_meta.specs.Maps.{AllFit, metadata_at}
+use Rattle.wtf_meta.specs.Trees.{Stands}
+use Rattle.wtf_meta.proofs.Telling.{TellsOn}
+use Rattle.wtf_replay.specs.Views.{TxnView}
+use Rattle.wtf_replay.specs.Tried.{KeepsMaps}
+use Rattle.wtf_replay.proofs.Sounding.{sound_later, sound_along}
+use Rattle.wtf_image.specs.Savable.{AreBefore}
+use Rattle.wtf_clients.specs.Views.{SavedView, TablesView, of_client, metadata_now}
+use Rattle.wtf_clients.specs.Sounds.{owned, all_owned, all_kept, IsOpen, AreSound, Sets}
+use Rattle.wtf_clients.specs.Standing.{StandsForTxn, StandsForSlot, TablesStand}
+use Rattle.wtf_clients.proofs.Pins.{number_cases, base_pinned}
+use Rattle.wtf_clients.proofs.Images.{image_on}
+use Rattle.wtf_clients.proofs.Later.{Stands-later}
+
+-- What a line of client c changed of the tables: its own transaction is now this one, or none. It is the one that it was by
+-- its number, or the one that begins next.
+pub record Turned (old new : TablesView) (c : ℕ) (now : Option TxnView) : Type 0 where
+  pub sets : Sets c now old.clients new.clients
+  pub later : old.kv.number ≤ new.kv.number
+  pub maps : KeepsMaps old.kv new.kv
+  pub more : old.next_tx ≤ new.next_tx
+  pub pins : (n : ℕ) → times_pinned new.kv n + owned n (of_client old.clients c) ≡ times_pinned old.kv n + owned n now
+  pub own : (x : TxnView) → now ≡ Some x → IsOpen new.kv new.next_tx x
+  pub saved : new.saved ≡ old.saved
+  pub whose : (x : TxnView) → now ≡ Some x → (x.tx ≡ old.next_tx) ⊎ ((y : TxnView) × (of_client old.clients c ≡ Some y) × (x.tx ≡ y.tx))
+
+-- a transaction that is open stays so over a store in which its base is pinned and shows the same
+pub open_on : (kv after : Store Key Value) (next more : ℕ) (x : TxnView) → IsOpen kv next x → kv.number ≤ after.number → KeepsMaps kv after → next ≤ more → IsTrue (is_pinned after x.at.base) → IsOpen after more x
+open_on kv after next more x is later maps up pinned =
+    let based = is.based in
+    let older = is.older in
+    record {
+      going = is.going;
+      fit = record {
+        pinned = pinned;
+        fits = subst (λ w. AllFit x.at.changes w) (sym (maps x.at.base based)) is.fit.fits;
+        log = is.fit.log;
+        most = is.fit.most;
+      };
+      based = omega (arith, based, later);
+      older = omega (arith, older, up);
+    }
+
+-- and so does what it stands for, with the map now and the tree now that come
+pub txn_on : (size : ℕ) (told later : Told) (kv after : Store Key Value) (was is : Tree) (x : TxnView) (t : Transaction) → TellsOn told later → x.at.base ≤ kv.number → KeepsMaps kv after
+    → Stands size later x.tx 0 (metadata_now after) is → StandsForTxn size told kv was x t → StandsForTxn size later after is x t
+txn_on size told later kv after was is x t on based maps now st =
+    let same : metadata_at after x.at.base ≡ metadata_at kv x.at.base = maps x.at.base based in
+    record {
+      sound = sound_later size after told later x t.ops on (sound_along size kv after told x t.ops same st.sound);
+      base = st.base;
+      shown = st.shown;
+      replayed = st.replayed;
+      tree = Stands-later told later on size x.tx 0 (metadata_at after x.at.base) t.tree (subst (λ w. Stands size told x.tx 0 w t.tree) (sym same) st.tree);
+      now = now;
+    }
+
+-- and so does what a client has, a transaction or none
+pub slot_on : (size : ℕ) (told later : Told) (kv after : Store Key Value) (was is : Tree) (s : Option TxnView) (o : Option Transaction)
+    → ((x : TxnView) (t : Transaction) → s ≡ Some x → StandsForTxn size told kv was x t → StandsForTxn size later after is x t)
+    → StandsForSlot size told kv was s o → StandsForSlot size later after is s o
+slot_on size told later kv after was is None None f st = tt
+slot_on size told later kv after was is None (Some t) f st = absurd st
+slot_on size told later kv after was is (Some x) None f st = absurd st
+slot_on size told later kv after was is (Some x) (Some t) f st = f x t refl st
+
+module _ (old new : TablesView) (c : ℕ) (now : Option TxnView) (sound : AreSound old) (turned : Turned old new c now) where
+  -- a number is pinned as often as it is owned
+  pins_are : (n : ℕ) → times_pinned new.kv n ≡ all_owned n new.clients + all_kept n new.saved
+  pins_are n =
+      let moved = turned.pins n in
+      let set = turned.sets.pins n in
+      let was = sound.pins n in
+      let kept : all_kept n new.saved ≡ all_kept n old.saved = ap (all_kept n) turned.saved in
+      omega (arith, moved, set, was, kept)
+
+  -- an image that may be on the keeper was there before
+  kept_before : (n : ℕ) → Contains new.saved.images n → Contains old.saved.images n
+  kept_before n here = subst (λ (s : SavedView). Contains s.images n) turned.saved here
+
+  kept_now : (n : ℕ) → Contains new.saved.images n → n ≤ new.kv.number
+  kept_now n here =
+      let was = sound.kept n (kept_before n here) in
+      let up = turned.later in
+      omega (arith, was, up)
+
+  -- no other client has a transaction of the number that this one has now
+  alone : (d : ℕ) (x y : TxnView) → d ≢ c → now ≡ Some x → of_client old.clients d ≡ Some y → x.tx ≢ y.tx
+  alone d x y other is its same = ⊎_elim
+      (λ next. let older = (sound.each d y its).older in absurd (omega (arith, next, same, older)))
+      (λ was. other (sound.apart d c y was.0 its was.1 (sym same ∙ was.2)))
+      (turned.whose x is)
+
+  -- each transaction is open: the client's own by its turn, and the others as they were
+  open_now : (d : ℕ) (x : TxnView) → of_client new.clients d ≡ Some x → IsOpen new.kv new.next_tx x
+  open_now d x is = ⊎_elim
+      (λ same. turned.own x (sym turned.sets.is ∙ ap (of_client new.clients) (sym same) ∙ is))
+      (λ other.
+      let was : of_client old.clients d ≡ Some x = sym (turned.sets.others d other) ∙ is in
+      open_on old.kv new.kv old.next_tx new.next_tx x (sound.each d x was) turned.later turned.maps turned.more (base_pinned new.kv new.clients new.saved d x pins_are is))
+      (number_cases d c)
+
+  -- and no two have one number
+  apart_now : (d e : ℕ) (x y : TxnView) → of_client new.clients d ≡ Some x → of_client new.clients e ≡ Some y → x.tx ≡ y.tx → d ≡ e
+  apart_now d e x y is its same = ⊎_elim
+      (λ dc. ⊎_elim
+      (λ ec. dc ∙ sym ec)
+      (λ ec. absurd (alone e x y ec (sym turned.sets.is ∙ ap (of_client new.clients) (sym dc) ∙ is) (sym (turned.sets.others e ec) ∙ its) same))
+      (number_cases e c))
+      (λ dc. ⊎_elim
+      (λ ec. absurd (alone d y x dc (sym turned.sets.is ∙ ap (of_client new.clients) (sym ec) ∙ its) (sym (turned.sets.others d dc) ∙ is) (sym same)))
+      (λ ec. sound.apart d e x y (sym (turned.sets.others d dc) ∙ is) (sym (turned.sets.others e ec) ∙ its) same)
+      (number_cases e c))
+      (number_cases d c)
+
+-- the tables stay sound
+pub sound_turned : (old new : TablesView) (c : ℕ) (now : Option TxnView) → AreSound old → Turned old new c now → AreSound new
+sound_turned old new c now sound turned = record {
+  begun = let was = sound.begun in let up = turned.more in omega (arith, was, up);
+  each = open_now old new c now sound turned;
+  pins = pins_are old new c now sound turned;
+  kept = kept_now old new c now sound turned;
+  apart = apart_now old new c now sound turned;
+}
+
+-- and they stand for the machine, where the client's own transaction does, and the tree now, which no inode of a transaction
+-- to come is in
+pub stands_turned : (size : ℕ) (told later : Told) (old new : TablesView) (m after : Machine) (c : ℕ) (now : Option TxnView)
+    → AreSound old → TablesStand size told old m → TellsOn told later → Turned old new c now
+    → ((d : ℕ) → d ≢ c → get after.transactions d ≡ get m.transactions d)
+    → after.number ≡ new.kv.number
+    → after.may_be_saved ≡ m.may_be_saved
+    → AreBefore new.next_tx (metadata_now new.kv)
+    → StandsForSlot size later new.kv after.now now (get after.transactions c)
+    → ((tx : ℕ) → ((x : TxnView) → of_client old.clients c ≡ Some x → tx ≢ x.tx) → Stands size told tx 0 (metadata_now old.kv) m.now → Stands size later tx 0 (metadata_now new.kv) after.now)
+    → TablesStand size later new after
+stands_turned size told later old new m after c now sound st on turned others number may before here trees =
+    let other : (d : ℕ) → d ≢ c → StandsForSlot size later new.kv after.now (of_client old.clients d) (get m.transactions d) = λ d ne.
+    slot_on size told later old.kv new.kv m.now after.now (of_client old.clients d) (get m.transactions d)
+    (λ x t is txn. txn_on size told later old.kv new.kv m.now after.now x t on (sound.each d x is).based turned.maps (trees x.tx (λ y its same. ne (sound.apart d c x y is its same)) txn.now) txn)
+    (st.each d) in
+    record {
+      number = number;
+      each = λ d. ⊎_elim
+          (λ same.
+          subst (λ k. StandsForSlot size later new.kv after.now (of_client new.clients k) (get after.transactions k)) (sym same)
+          (subst (λ s. StandsForSlot size later new.kv after.now s (get after.transactions c)) (sym turned.sets.is) here))
+          (λ ne.
+          subst (λ s. StandsForSlot size later new.kv after.now s (get after.transactions d)) (sym (turned.sets.others d ne))
+          (subst (λ o. StandsForSlot size later new.kv after.now (of_client old.clients d) o) (sym (others d ne)) (other d ne)))
+          (number_cases d c);
+      later = λ tx le.
+          let up = turned.more in
+          trees tx (λ x is same. let older = (sound.each c x is).older in absurd (omega (arith, older, same, up, le))) (st.later tx (omega (arith, up, le)));
+      before = before;
+      none = λ is. subst (λ l. Contains l root_alone) (sym may) (st.none (sym (ap (λ (s : SavedView). s.none) turned.saved) ∙ is));
+      images = λ n there.
+          let was : Contains old.saved.images n = kept_before old new c now sound turned n there in
+          image_on size told later old new n m.may_be_saved after.may_be_saved on (turned.maps n (sound.kept n was)) turned.more (λ t listed. subst (λ l. Contains l t) (sym may) listed) (st.images n was);
+    }

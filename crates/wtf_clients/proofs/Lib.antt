@@ -1,0 +1,14 @@
+pub mod Later
+pub mod Pins
+pub mod Images
+pub mod Frames
+pub mod Staying
+pub mod Lists
+pub mod Making
+pub mod Pinning
+pub mod Unread
+pub mod Caused
+pub mod Naming
+pub mod Serving
+pub mod SaveServing
+pub mod Dumping

@@ -1,0 +1,63 @@
+-- What holds of the places of each byte that the tables name goes on holding.
+use Rattle.std.proofs.Common.{◌≡◌, ℕ, Bool, List, Option, None, Some, sym, ap, ◌∙◌, subst, ⊎_elim, arith}
+use Rattle.wtf_overlay.specs.Origin.{Place}
+use Rattle.wtf_kv.specs.Stores.{Store}
+use Rattle.wtf_values.specs.declared.key.Key.{Key}
+use Rattle.wtf_values.specs.declared.value.Value.{Value}
+use Rattle.wtf_meta.specs.Bytes.{MapBytes}
+use Rattle.wtf_meta.specs.Maps.{metadata_at}
+use Rattle.wtf_replay.specs.Views.{TxnView}
+use Rattle.wtf_replay.specs.Insides.{TxnBytes}
+use Rattle.wtf_replay.specs.Tried.{KeepsMaps}
+use Rattle.wtf_clients.specs.Views.{TablesView, of_client, metadata_now}
+use Rattle.wtf_clients.specs.Sounds.{AreSound, Sets}
+use Rattle.wtf_clients.specs.Named.{TablesBytes}
+use Rattle.wtf_clients.specs.Turns.{Keeps, Ends, Stays}
+use Rattle.wtf_clients.proofs.Pins.{number_cases}
+
+module _ (P : List Place → Bool) where
+  -- a transaction over a store that shows the same at its base
+  pub txn_along : (kv after : Store Key Value) (x : TxnView) → metadata_at after x.at.base ≡ metadata_at kv x.at.base → TxnBytes P kv x → TxnBytes P after x
+  txn_along kv after x same h = record {
+    hand = record { base = subst (MapBytes P) (sym same) h.hand.base; changes = h.hand.changes; slices = h.hand.slices };
+    log = h.log;
+  }
+
+  -- of all transactions one alone is now this one, or none
+  pub bytes_set : (old new : TablesView) (c : ℕ) (now : Option TxnView) → AreSound old → Sets c now old.clients new.clients → KeepsMaps old.kv new.kv → TablesBytes P old → MapBytes P (metadata_now new.kv)
+      → ((x : TxnView) → now ≡ Some x → TxnBytes P new.kv x) → TablesBytes P new
+  bytes_set old new c now sound sets maps h map own = record {
+    now = map;
+    each = λ d x is. ⊎_elim
+        (λ same. own x (sym sets.is ∙ ap (of_client new.clients) (sym same) ∙ is))
+        (λ other. let was : of_client old.clients d ≡ Some x = sym (sets.others d other) ∙ is in txn_along old.kv new.kv x (maps x.at.base (sound.each d x was).based) (h.each d x was))
+        (number_cases d c);
+  }
+
+  -- the map now, where the number stays
+  pub now_along : (old new : Store Key Value) → new.number ≡ old.number → KeepsMaps old new → MapBytes P (metadata_now old) → MapBytes P (metadata_now new)
+  now_along old new number maps h = subst (MapBytes P) (sym (ap (metadata_at new) number ∙ maps old.number (omega arith))) h
+
+  pub stays_bytes : (old new : TablesView) (c : ℕ) → AreSound old → Stays old new c → TablesBytes P old → TablesBytes P new
+  stays_bytes old new c sound st h =
+      bytes_set old new c (of_client old.clients c) sound st.clients st.maps h (now_along old.kv new.kv st.number st.maps h.now)
+      (λ x is. txn_along old.kv new.kv x (st.maps x.at.base (sound.each c x is).based) (h.each c x is))
+
+  -- a transaction goes on at its base
+  pub keeps_bytes : (old new : TablesView) (c : ℕ) (y : TxnView) → AreSound old → Keeps old new c (Some y) → TxnBytes P old.kv y → TablesBytes P old → TablesBytes P new
+  keeps_bytes old new c y sound keeps own h =
+      let maps : KeepsMaps old.kv new.kv = λ n le. ap (λ (s : Store Key Value). metadata_at s n) keeps.kv in
+      bytes_set old new c (Some y) sound keeps.clients maps h (subst (λ (s : Store Key Value). MapBytes P (metadata_now s)) (sym keeps.kv) h.now)
+      (λ x is. subst (λ (s : Store Key Value). TxnBytes P s x) (sym keeps.kv) (subst (TxnBytes P old.kv) (let e : y ≡ x = cc in e) own))
+
+  -- it has ended
+  pub ends_bytes : (old new : TablesView) (mid : Store Key Value) (c : ℕ) (x : TxnView) → AreSound old → Ends old new mid c x → MapBytes P (metadata_now mid) → TablesBytes P old → TablesBytes P new
+  ends_bytes old new mid c x sound ends map h =
+      let at : (n : ℕ) → metadata_at new.kv n ≡ metadata_at mid n = λ n. ap (λ (s : Store Key Value). metadata_at s n) ends.kv in
+      bytes_set old new c None sound ends.clients (λ n le. at n ∙ ends.maps n le) h
+      (subst (MapBytes P) (sym (ap (λ (s : Store Key Value). metadata_now s) ends.kv)) map)
+      (λ y is. absurd (cc))
+
+  -- it ended, and the map now is as it was
+  pub leaves_bytes : (old new : TablesView) (mid : Store Key Value) (c : ℕ) (x : TxnView) → AreSound old → Ends old new mid c x → mid.number ≡ old.kv.number → TablesBytes P old → TablesBytes P new
+  leaves_bytes old new mid c x sound ends same h = ends_bytes old new mid c x sound ends (now_along old.kv mid same ends.maps h.now) h

@@ -1,0 +1,63 @@
+-- What a save made of the bytes that the tables name, and of the stores.
+use Rattle.std.proofs.Common.{◌≡◌, ◌≤◌, ℕ, Bool, List, [], length, Some, refl, sym, ap, ◌∙◌, inl, inr}
+use Rattle.wtf_base.specs.declared.fault.Fault.{Fault}
+use Rattle.wtf_base.specs.declared.settings.Settings.{Settings}
+use Rattle.wtf_dev.specs.Each.{EachFollows}
+use Rattle.wtf_dev.specs.Store.{StoreKind, KindLaws}
+use Rattle.wtf_replica.specs.Outs.{SameLengths}
+use Rattle.wtf_replica.specs.Spans.{span}
+use Rattle.wtf_model.specs.declared.answer.Answer.{Answer}
+use Rattle.wtf_model.specs.declared.answer.Answer.TheVariants as answer
+use Rattle.wtf_model.specs.declared.event.Event.TheVariants as event
+use Rattle.wtf_region.specs.Inside.{is_inside}
+use Rattle.wtf_replay.proofs.Insiding.{map_later, inside_later}
+use Rattle.wtf_clients.specs.Views.{SavedView, TablesView, of_client, metadata_now}
+use Rattle.wtf_clients.specs.Sounds.{AreSound}
+use Rattle.wtf_clients.specs.Named.{TablesBytes, has_copies}
+use Rattle.wtf_clients.specs.Asked.{asked_of, HasFailed}
+use Rattle.wtf_clients.specs.Outcomes.{SaveFault, HasCause}
+use Rattle.wtf_clients.specs.Saves.{with_image, only_image, Saves, SaveTurn}
+use Rattle.wtf_clients.specs.Serves.{NamesTables, AreFull, ServesEvent}
+use Rattle.wtf_clients.proofs.Caused.{none_placed, none_added}
+use Rattle.wtf_clients.proofs.Naming.{now_along, txn_along}
+
+-- the transactions and the maps stay
+saves_names : (old new : TablesView) (now : SavedView) → AreSound old → Saves old new now → NamesTables old new
+saves_names old new now sound saves P hole h = record {
+  now = now_along P old.kv new.kv saves.number saves.maps h.now;
+  each = λ c x there.
+      let was : of_client old.clients c ≡ Some x = ap (λ l. of_client l c) (sym saves.clients) ∙ there in
+      txn_along P old.kv new.kv x (saves.maps x.at.base (sound.each c x was).based) (h.each c x was);
+}
+
+save_names : (Up : Type 0) (old new : TablesView) (a : Answer) → AreSound old → SaveTurn Up old new a → NamesTables old new
+save_names Up old new (answer.Saved n) sound (number, up, saves) = saves_names old new (only_image n) sound saves
+save_names Up old new answer.FaultSave sound (inl saves) = saves_names old new old.saved sound saves
+save_names Up old new answer.FaultSave sound (inr saves) = saves_names old new (with_image old.saved old.kv.number) sound saves
+save_names Up old new a sound turn = absurd turn
+
+-- a save answers no other fault
+save_failed : (Up : Type 0) (old new : TablesView) (fails : Fault → Type 0) (a : Answer) → SaveTurn Up old new a → HasFailed fails a
+save_failed Up old new fails (answer.Saved n) turn = tt
+save_failed Up old new fails answer.FaultSave turn = tt
+save_failed Up old new fails a turn = absurd turn
+
+module _ {S : Type 0} {kind : StoreKind S} (laws : KindLaws kind) (down : ℕ → Bool) (before after : List S) (goes : EachFollows kind before after []) (lengths : SameLengths kind before after) (settings : Settings) (enough : settings.servers ≤ length before)
+    (Up rose : Type 0) (old new : TablesView) (sound : AreSound old) (inside : TablesBytes (is_inside kind before settings) old) where
+  -- what lies inside the stores goes on doing so
+  inside_on : TablesBytes (is_inside kind after settings) old
+  inside_on = record {
+    now = map_later laws goes settings enough (metadata_now old.kv) inside.now;
+    each = λ c x is. inside_later laws goes settings enough old.kv x (inside.each c x is);
+  }
+
+  pub save_serves : (a : Answer) → SaveTurn Up old new a → HasCause kind (span down before after) settings (SaveFault kind (span down before after) settings rose event.Save) (AreFull settings old) [] a
+      → ServesEvent kind (span down before after) settings rose old new event.Save a
+  save_serves a turn caused = record {
+    inside = save_names Up old new a sound turn (is_inside kind after settings) refl inside_on;
+    full = save_names Up old new a sound turn (has_copies settings.replicas) refl;
+    adds = none_added kind (span down before after) settings a lengths;
+    caused = caused;
+    placed = none_placed kind (span down before after) settings (asked_of kind (span down before after) settings old event.Save) a refl;
+    failed = save_failed Up old new (asked_of kind (span down before after) settings old event.Save).fails a turn;
+  }

@@ -1,0 +1,144 @@
+-- A line that leaves all as it was, refused or answered by a fault.
+use Rattle.std.proofs.Common.{◌≡◌, ◌≤◌, ◌<◌, ℕ, ◌+◌, nat_eq, None, Some, refl, sym, ap, ◌∙◌, subst, inr, arith}
+use Rattle.std.specs.Prelude.{if◌then◌else◌}
+use Rattle.std.specs.FinMap.{get}
+use Rattle.wtf_base.specs.declared.fault.Fault.{Fault}
+use Rattle.wtf_base.specs.declared.fault.Fault.TheVariants as fault
+use Rattle.wtf_kv.specs.Stores.{Store, times_pinned}
+use Rattle.wtf_values.specs.declared.key.Key.{Key}
+use Rattle.wtf_values.specs.declared.value.Value.{Value}
+use Rattle.wtf_model.specs.declared.answer.Answer.{Answer}
+use Rattle.wtf_model.specs.declared.answer.Answer.TheVariants as answer
+use Rattle.wtf_model.specs.Machines.{Machine}
+use Rattle.wtf_meta.specs.Contents.{Told}
+use Rattle.wtf_meta.specs.Maps.{metadata_at}
+use Rattle.wtf_meta.specs.Trees.{Stands}
+use Rattle.wtf_meta.proofs.Telling.{TellsOn}
+use Rattle.wtf_replay.specs.Views.{TxnView}
+use Rattle.wtf_replay.specs.Fits.{IsFit}
+use Rattle.wtf_replay.specs.Tried.{KeepsMaps, KeepsPins}
+use Rattle.wtf_replay.specs.Causes.{fault_answer}
+use Rattle.wtf_replay.proofs.Keeping.{fit_after}
+use Rattle.wtf_clients.specs.Views.{TablesView, of_client, metadata_now}
+use Rattle.wtf_clients.specs.Sounds.{owned, IsOpen, AreSound, Sets}
+use Rattle.wtf_clients.specs.Standing.{TablesStand}
+use Rattle.wtf_clients.specs.Turns.{Keeps, Stays}
+use Rattle.wtf_clients.proofs.Frames.{Turned, txn_on, slot_on, sound_turned, stands_turned}
+use Rattle.wtf_clients.proofs.Images.{before_same}
+use Rattle.wtf_clients.proofs.Later.{Stands-later}
+
+-- the answers to faults of the stores
+abbrev pub IsFault : Answer → Type 0
+IsFault (answer.FaultRead k) = Unit {0}
+IsFault answer.FaultWrite = Unit {0}
+IsFault (answer.FaultPunch k) = Unit {0}
+IsFault (answer.Damaged k) = Unit {0}
+IsFault a = ⊥
+
+pub fault_is : (why : Fault) (a : Answer) → fault_answer why ≡ Some a → IsFault a
+fault_is (fault.Read k) a is = subst IsFault (let e : answer.FaultRead k.0 ≡ a = cc in e) tt
+fault_is fault.Write a is = subst IsFault (let e : answer.FaultWrite ≡ a = cc in e) tt
+fault_is (fault.Punch k) a is = subst IsFault (let e : answer.FaultPunch k.0 ≡ a = cc in e) tt
+fault_is (fault.Damaged k) a is = subst IsFault (let e : answer.Damaged k.0 ≡ a = cc in e) tt
+fault_is fault.Memory a is = absurd (let e : None ≡ Some a = is in cc)
+
+-- the store is what it was
+pub keeps_stays : (old new : TablesView) (c : ℕ) → Keeps old new c (of_client old.clients c) → Stays old new c
+keeps_stays old new c h = record {
+  clients = h.clients;
+  number = ap (λ (s : Store Key Value). s.number) h.kv;
+  maps = λ n le. ap (λ (s : Store Key Value). metadata_at s n) h.kv;
+  pins = λ n. ap (λ (s : Store Key Value). times_pinned s n) h.kv;
+  next_tx = h.next_tx;
+  saved = h.saved;
+}
+
+-- the transaction of the client is what it was
+pub same_stays : (old new : TablesView) (c : ℕ) (x y : TxnView) → of_client old.clients c ≡ Some x → Sets c (Some y) old.clients new.clients → y ≡ x
+    → new.kv.number ≡ old.kv.number → KeepsMaps old.kv new.kv → KeepsPins old.kv new.kv → new.next_tx ≡ old.next_tx → new.saved ≡ old.saved → Stays old new c
+same_stays old new c x y there sets same number maps pins next saved = record {
+  clients = subst (λ o. Sets c o old.clients new.clients) (ap Some same ∙ sym there) sets;
+  number = number;
+  maps = maps;
+  pins = pins;
+  next_tx = next;
+  saved = saved;
+}
+
+module _ (old new : TablesView) (c : ℕ) (sound : AreSound old) (st : Stays old new c) where
+  stays_turned : Turned old new c (of_client old.clients c)
+  stays_turned =
+      let number = st.number in
+      let next = st.next_tx in
+      record {
+        sets = st.clients;
+        later = omega (arith, number);
+        maps = st.maps;
+        more = omega (arith, next);
+        pins = λ n. ap (λ k. k + owned n (of_client old.clients c)) (st.pins n);
+        own = λ x is.
+            let was : IsOpen old.kv old.next_tx x = sound.each c x is in
+            let based = was.based in
+            let older = was.older in
+            record {
+              going = was.going;
+              fit = fit_after old.kv new.kv x x was.fit refl refl refl based st.maps st.pins;
+              based = omega (arith, based, number);
+              older = omega (arith, older, next);
+            };
+        saved = st.saved;
+        whose = λ x is. inr (x, is, refl);
+      }
+
+  -- the tables stay sound
+  pub stays_sound : AreSound new
+  stays_sound = sound_turned old new c (of_client old.clients c) sound stays_turned
+
+  -- and they stand for the machine as it was
+  pub stays_stand : (size : ℕ) (told later : Told) (m : Machine) → TablesStand size told old m → TellsOn told later → TablesStand size later new m
+  stays_stand size told later m stand on =
+      let now_is : metadata_now new.kv ≡ metadata_now old.kv = ap (metadata_at new.kv) st.number ∙ st.maps old.kv.number (omega arith) in
+      let trees : (tx : ℕ) → Stands size told tx 0 (metadata_now old.kv) m.now → Stands size later tx 0 (metadata_now new.kv) m.now = λ tx s.
+      subst (λ v. Stands size later tx 0 v m.now) (sym now_is) (Stands-later told later on size tx 0 (metadata_now old.kv) m.now s) in
+      stands_turned size told later old new m m c (of_client old.clients c) sound stand on stays_turned (λ d other. refl)
+      (stand.number ∙ sym st.number) refl
+      (before_same old.next_tx new.next_tx (metadata_now old.kv) (metadata_now new.kv) now_is (let next = st.next_tx in omega (arith, next)) stand.before)
+      (slot_on size told later old.kv new.kv m.now m.now (of_client old.clients c) (get m.transactions c)
+      (λ x t is txn. txn_on size told later old.kv new.kv m.now m.now x t on (sound.each c x is).based st.maps (trees x.tx txn.now) txn)
+      (stand.each c))
+      (λ tx other s. trees tx s)
+
+-- ---- a transaction that goes on at its base
+module _ (old new : TablesView) (c : ℕ) (x y : TxnView) (sound : AreSound old) (here : of_client old.clients c ≡ Some x) (keeps : Keeps old new c (Some y)) (tx : y.tx ≡ x.tx) (base : y.at.base ≡ x.at.base) (going : y.ended ≡ x.ended) (fit : IsFit old.kv y) where
+  -- it is open
+  goes_open : IsOpen new.kv new.next_tx y
+  goes_open =
+      let was : IsOpen old.kv old.next_tx x = sound.each c x here in
+      let open_y : IsOpen old.kv old.next_tx y = record {
+        going = going ∙ was.going;
+        fit = fit;
+        based = subst (λ b. b ≤ old.kv.number) (sym base) was.based;
+        older = subst (λ k. k < old.next_tx) (sym tx) was.older;
+      } in
+      subst (λ kv. IsOpen kv new.next_tx y) (sym keeps.kv) (subst (λ k. IsOpen old.kv k y) (sym keeps.next_tx) open_y)
+
+  -- the store is what it was, and the pin is its own
+  pub goes_turned : Turned old new c (Some y)
+  goes_turned = record {
+    sets = keeps.clients;
+    later = let same : new.kv.number ≡ old.kv.number = ap (λ (s : Store Key Value). s.number) keeps.kv in omega (arith, same);
+    maps = λ n le. ap (λ s. metadata_at s n) keeps.kv;
+    more = let same = keeps.next_tx in omega (arith, same);
+    pins = λ n.
+        let was : owned n (of_client old.clients c) ≡ owned n (Some x) = ap (owned n) here in
+        let is : owned n (Some y) ≡ owned n (Some x) = ap (λ b. if nat_eq n b then 1 else 0) base in
+        let kept : times_pinned new.kv n ≡ times_pinned old.kv n = ap (λ s. times_pinned s n) keeps.kv in
+        omega (arith, was, is, kept);
+    saved = keeps.saved;
+    own = λ z e. let hit : y ≡ z = cc in subst (λ v. IsOpen new.kv new.next_tx v) hit goes_open;
+    whose = λ z e. let hit : y ≡ z = cc in inr (x, here, ap (λ (v : TxnView). v.tx) (sym hit) ∙ tx);
+  }
+
+  -- the tables stay sound
+  pub goes_sound : AreSound new
+  goes_sound = sound_turned old new c (Some y) sound goes_turned

@@ -1,0 +1,119 @@
+-- A slice that was not read has a byte that was not.
+use Rattle.std.proofs.Common.{◌≡◌, ℕ, ◌<◌, ◌≤◌, Bool, true, List, [], ◌∷◌, length, map, refl, ◌∙◌, subst, arith}
+use Rattle.std.specs.List.{All}
+use Rattle.std.proofs.lemmas.Bool.{eqb-true, eq-eqb}
+use Rattle.std.proofs.lemmas.List.{length-map}
+use Rattle.std.proofs.lemmas.List.Elements.{All-map, All-weaker}
+use Rattle.wtf_base.specs.declared.fault.Fault.TheVariants as fault
+use Rattle.wtf_base.specs.declared.ids.ServerId.{ServerId}
+use Rattle.wtf_base.specs.declared.pointer.Pointer.{Pointer}
+use Rattle.wtf_base.specs.declared.settings.Settings.{Settings}
+use Rattle.wtf_base.specs.declared.slice.Slice.{Slice}
+use Rattle.wtf_base.specs.declared.slice.Extents.{Extents}
+use Rattle.wtf_base.specs.declared.slice.Extents.TheVariants.{One, Two, Three}
+use Rattle.wtf_base.specs.Extents.{IsSound, pointers_to}
+use Rattle.wtf_base.specs.Slices.{pointers_of}
+use Rattle.wtf_base.specs.Places.{place_in}
+use Rattle.wtf_dev.specs.Store.{StoreKind, KindLaws}
+use Rattle.wtf_overlay.specs.declared.part.Part.{Part}
+use Rattle.wtf_overlay.specs.declared.part.Part.TheVariants.{Held}
+use Rattle.wtf_overlay.specs.declared.part.Piece.{Piece}
+use Rattle.wtf_overlay.specs.Origin.{Place, part_origin}
+use Rattle.wtf_replica.specs.Downs.{is_down}
+use Rattle.wtf_replica.specs.Faults.{AreAllOut, last_server}
+use Rattle.wtf_replica.specs.Outs.{IsOut}
+use Rattle.wtf_replica.specs.Spans.{Span, span}
+use Rattle.wtf_replica.proofs.Spans.{each_kept, out_since}
+use Rattle.wtf_meta.specs.Bytes.{PartBytes, PiecesBytes}
+use Rattle.wtf_meta.proofs.Named.{plans_bytes}
+use Rattle.wtf_region.specs.declared.dev.Dev.{Dev}
+use Rattle.wtf_region.specs.Devs.{GoesOn, stores, between}
+use Rattle.wtf_region.specs.Inside.{is_inside}
+use Rattle.wtf_region.specs.Showing.{LacksPiece, pieces_in}
+use Rattle.wtf_rw.specs.Reads.{LacksBytes}
+use Rattle.wtf_rw.proofs.FaultWays.{pieces_in-All, All-middle, servers_known}
+use Rattle.wtf_clients.specs.Named.{has_copies}
+use Rattle.wtf_clients.specs.Outcomes.{AscendFrom, last_of, IsLost, IsUnread}
+
+-- the places of a byte of a slice go up by server
+ascends : (n i : ℕ) (e : Extents) → IsSound n e → AscendFrom 0 (map (place_in i) (pointers_to n e))
+ascends n i (One a) sound = (omega arith, tt)
+ascends n i (Two a b) sound = (omega arith, (omega (arith, sound.3), tt))
+ascends n i (Three a b c) sound = (omega arith, (omega (arith, sound.4), (omega (arith, sound.5), tt)))
+
+-- there is one
+some_place : (n i : ℕ) (e : Extents) → 0 < length (map (place_in i) (pointers_to n e))
+some_place n i (One a) = omega arith
+some_place n i (Two a b) = omega arith
+some_place n i (Three a b c) = omega arith
+
+-- the server of the last place is that of the last copy
+last_place : (i k : ℕ) (ps : List Pointer) → last_of (map (place_in i) ps) k ≡ last_server ps k
+last_place i k [] = refl
+last_place i k (p ∷ ps) = last_place i p.server.0 ps
+
+-- places that are no hole are so many
+pub width_of : (n : ℕ) (places : List Place) → 0 < length places → has_copies n places ≡ true → length places ≡ n
+width_of n [] some h = absurd (omega arith)
+width_of n (p ∷ ps) some h = eqb-true (length (p ∷ ps)) n h
+
+-- and a slice of so many copies has as many places for each byte
+copies_by : (n : ℕ) (places : List Place) → length places ≡ n → has_copies n places ≡ true
+copies_by n [] is = refl
+copies_by n (p ∷ ps) is = eq-eqb (length (p ∷ ps)) n is
+
+pub slice_copies : (n : ℕ) (s : Slice) (k : ℕ) → length (pointers_of s) ≡ n → PartBytes (has_copies n) k (Held s)
+slice_copies n s k width = λ i below. copies_by n (map (place_in i) (pointers_of s)) (length-map (pointers_of s) (place_in i) ∙ width)
+
+module _ {S : Type 0} (kind : StoreKind S) (t : Span S) (shelf : List S) (settings : Settings) (enough : settings.servers ≤ length shelf) where
+  -- a slice all of whose copies are out
+  lost : (s : Slice) (k : ℕ) → is_inside kind shelf settings (part_origin (Held s) 0) ≡ true → AreAllOut kind t s k → IsLost kind t settings (part_origin (Held s) 0) k
+  lost s k inside out = record {
+    some = some_place s.len 0 s.extents;
+    ascend = ascends s.len 0 s.extents s.sound;
+    known = All-map (λ (q : Place). q.server < settings.servers) (place_in 0) (pointers_of s) (servers_known kind shelf settings 0 (pointers_of s) enough inside);
+    out = All-map (λ (q : Place). IsOut kind t q.server) (place_in 0) (pointers_of s) out.out;
+    last = last_place 0 0 (pointers_of s) ∙ out.last;
+  }
+
+  -- a piece that was not shown has such a slice
+  unread : (ps : List Piece) (n : ℕ) (full : Type 0) (k : ℕ) → PiecesBytes (is_inside kind shelf settings) ps → (full → PiecesBytes (has_copies settings.replicas) ps)
+      → LacksPiece kind t (pieces_in 0 n ps) k → IsUnread kind t settings full k
+  unread ps n full k inside copies lacks =
+      let s : Slice = lacks.lacks.slice in
+      let of : (P : List Place → Bool) → PiecesBytes P ps → P (part_origin (Held s) 0) ≡ true = λ P all.
+      let Q : Piece → Type 0 = λ p. PartBytes P p.len p.part in
+      let part : PartBytes P lacks.piece.len lacks.piece.part = All-middle Q lacks.before lacks.piece lacks.after (subst (λ (l : List Piece). All Q l) lacks.split (pieces_in-All Q 0 n ps all)) in
+      subst (λ (q : Part). PartBytes P lacks.piece.len q) lacks.lacks.held part 0 lacks.piece.positive in
+      record {
+        places = part_origin (Held s) 0;
+        lost = lost s k (of (is_inside kind shelf settings) inside) lacks.lacks.out;
+        width = λ h. width_of settings.replicas (part_origin (Held s) 0) (some_place s.len 0 s.extents) (of (has_copies settings.replicas) (copies h));
+      }
+
+-- what was not read in a later part of a span was not read in it
+pub unread_since : {S : Type 0} {kind : StoreKind S} → KindLaws kind → (old mid new : Dev S) (settings : Settings) (full : Type 0) (k : ℕ) → GoesOn kind old mid [] → IsUnread kind (between mid new) settings full k
+    → IsUnread kind (between old new) settings full k
+unread_since {S} {kind} laws old mid new settings full k goes un = record {
+  places = un.places;
+  lost = record {
+    some = un.lost.some;
+    ascend = un.lost.ascend;
+    known = un.lost.known;
+    out = All-weaker (λ (p : Place). IsOut kind (between mid new) p.server) (λ (p : Place). IsOut kind (between old new) p.server)
+        (λ p h. out_since kind (is_down old.replicas.now) (stores old) (stores mid) (stores new) goes.each.same_length (each_kept laws goes.each) p.server
+        (subst (λ r. IsOut kind (span (is_down r.now) (stores mid) (stores new)) p.server) goes.replicas h)) un.places un.lost.out;
+    last = un.lost.last;
+  };
+  width = un.width;
+}
+
+-- bytes that were not shown have one that was not read, where all of them lie inside, and have their copies
+pub lacks_unread : {S : Type 0} {kind : StoreKind S} → KindLaws kind → (shelf : List S) (settings : Settings) (old new : Dev S) (n : ℕ) (f : ℕ → List Place) (full : Type 0) (k : ServerId) → settings.servers ≤ length shelf
+    → ((i : ℕ) → i < n → is_inside kind shelf settings (f i) ≡ true) → (full → (i : ℕ) → i < n → has_copies settings.replicas (f i) ≡ true)
+    → LacksBytes kind old new n f (fault.Read k) → IsUnread kind (between old new) settings full k.0
+lacks_unread {kind = kind} laws shelf settings old new n f full k enough inside copies lacks =
+    unread_since laws old lacks.mid new settings full k.0 lacks.goes
+    (unread kind (between lacks.mid new) shelf settings enough lacks.pieces n full k.0
+    (plans_bytes (is_inside kind shelf settings) lacks.pieces n f lacks.plans inside)
+    (λ h. plans_bytes (has_copies settings.replicas) lacks.pieces n f lacks.plans (copies h)) lacks.fault)

@@ -1,0 +1,81 @@
+use Rattle.std.proofs.Common.{◌≡◌, ◌<◌, ℕ, List, [], ◌∷◌, Some, sym, ap, ◌∙◌, subst, inl, inr}
+use Rattle.wtf_base.specs.declared.settings.Settings.{Settings}
+use Rattle.wtf_clients.specs.Saves.{with_image, only_image, Saves}
+use Rattle.wtf_dev.specs.Counts.{Rose}
+use Rattle.wtf_replica.specs.Downs.{is_down, during}
+use Rattle.wtf_model.specs.declared.answer.Answer.TheVariants as answer
+use Rattle.wtf_clients.specs.Outcomes.{SomeOut}
+use Rattle.wtf_clients.specs.Saves.{AreUp}
+use Rattle.wtf_clients.proofs.SaveServing.{save_serves}
+use Rattle.wtf_clients.proofs.Images.{kept_enough}
+use Rattle.wtf_clients.proofs.Pinning.{saves_then, saves_enough}
+use Rattle.wtf_clients.proofs.tables.Tables.save.Goals as goal
+
+pub returns-in-Err-sync_all-clause-turn : goal.returns-in-Err-sync_all-clause-turn
+returns-in-Err-sync_all-clause-turn g c =
+    let old = c.args.self.now in
+    let mid = c.keep_image.new.self in
+    let kept = c.in_default.ensures.ok in
+    let same : with_image old.saved old.kv.number ≡ with_image old.saved mid.kv.number = ap (with_image old.saved) (sym kept.number) in
+    inl (saves_then old mid c.forget_image.new.self (with_image old.saved old.kv.number) old.saved kept (c.forget_image.ensures old.saved (kept.saved ∙ same)))
+
+pub returns-in-Err-replace-clause-keeper : goal.returns-in-Err-replace-clause-keeper
+returns-in-Err-replace-clause-keeper g c =
+    inr (record {
+      hands = record {
+        bytes = c.in-Ok.bytes.items;
+        image = c.in-Ok.ensures;
+        handed = subst (λ (b : List ℕ). g.K.Keeper.follows c.args.keeper.now c.replace.new.self (b ∷ [])) c.as_slice.ensures.value c.replace.ensures.follows;
+        synced = λ j below. c.in_default-sync_all.ensures.synced j (subst (λ (s : Settings). j < s.servers) (sym c.requires.settings) below);
+      };
+      rose = c.in-Err-replace.ensures.cause;
+      saved = c.in_default.ensures.ok.saved;
+    })
+
+pub settle_image-requires-clause-pinned : goal.settle_image-requires-clause-pinned
+settle_image-requires-clause-pinned g c =
+    let old = c.args.self.now in
+    saves_enough old c.keep_image.new.self (with_image old.saved old.kv.number) c.in_default.ensures.ok (kept_enough old c.requires.sound)
+
+pub returns-clause-turn : goal.returns-clause-turn
+returns-clause-turn g c =
+    let old = c.args.self.now in
+    let mid = c.keep_image.new.self in
+    let kept = c.in_default.ensures.ok in
+    let same : with_image old.saved old.kv.number ≡ with_image old.saved mid.kv.number = ap (with_image old.saved) (sym kept.number) in
+    let settled : Saves mid c.settle_image.new.self (only_image mid.kv.number) = c.settle_image.ensures old.saved (kept.saved ∙ same) in (
+      c.number-number.ensures,
+      λ k below. c.in_default-sync_all.ensures.up k (subst (λ (s : Settings). k < s.servers) (sym c.requires.settings) below),
+      saves_then old mid c.settle_image.new.self (with_image old.saved old.kv.number) (only_image c.number-number.result) kept
+          (subst (λ (n : ℕ). Saves mid c.settle_image.new.self (only_image n)) (kept.number ∙ sym c.number-number.ensures) settled),
+    )
+
+pub returns-clause-keeper : goal.returns-clause-keeper
+returns-clause-keeper g c = record {
+  hands = record {
+    bytes = c.in-Ok.bytes.items;
+    image = c.in-Ok.ensures;
+    handed = subst (λ (b : List ℕ). g.K.Keeper.follows c.args.keeper.now c.replace.new.self (b ∷ [])) c.as_slice.ensures.value c.replace.ensures.follows;
+    synced = λ j below. c.in_default-sync_all.ensures.synced j (subst (λ (s : Settings). j < s.servers) (sym c.requires.settings) below);
+  };
+  held = λ tells. c.in_default-replace.ensures.replaced tells ∙ ap Some c.as_slice.ensures.value;
+}
+
+pub returns-in-Err-sync_all-clause-serves : goal.returns-in-Err-sync_all-clause-serves
+returns-in-Err-sync_all-clause-serves g c =
+    save_serves g.met.S.SliceStore.laws (is_down c.args.replicas.now) c.args.shelf.now c.sync_all.new.shelf c.sync_all.ensures.follows c.sync_all.ensures.lengths c.args.settings c.requires.shelf
+    (AreUp c.args.replicas.now c.args.settings.servers) (Rose (g.K.Keeper.view c.args.keeper.now).faults (g.K.Keeper.view c.args.keeper.now).faults) c.args.self.now c.forget_image.new.self c.requires.sound c.requires.inside answer.FaultSave
+    (returns-in-Err-sync_all-clause-turn g c)
+    (inl (subst (λ (s : Settings). SomeOut g.S.SliceStore.kind (during c.args.replicas.now c.args.shelf.now c.sync_all.new.shelf) s.servers) c.requires.settings c.in-Err-sync_all.ensures.cause))
+
+pub returns-in-Err-replace-clause-serves : goal.returns-in-Err-replace-clause-serves
+returns-in-Err-replace-clause-serves g c =
+    save_serves g.met.S.SliceStore.laws (is_down c.args.replicas.now) c.args.shelf.now c.sync_all.new.shelf c.sync_all.ensures.follows c.sync_all.ensures.lengths c.args.settings c.requires.shelf
+    (AreUp c.args.replicas.now c.args.settings.servers) (Rose (g.K.Keeper.view c.args.keeper.now).faults (g.K.Keeper.view c.replace.new.self).faults) c.args.self.now c.keep_image.new.self c.requires.sound c.requires.inside answer.FaultSave
+    (inr c.in_default.ensures.ok) (inr c.in-Err-replace.ensures.cause)
+
+pub returns-clause-serves : goal.returns-clause-serves
+returns-clause-serves g c =
+    save_serves g.met.S.SliceStore.laws (is_down c.args.replicas.now) c.args.shelf.now c.sync_all.new.shelf c.sync_all.ensures.follows c.sync_all.ensures.lengths c.args.settings c.requires.shelf
+    (AreUp c.args.replicas.now c.args.settings.servers) (Rose (g.K.Keeper.view c.args.keeper.now).faults (g.K.Keeper.view c.replace.new.self).faults) c.args.self.now c.settle_image.new.self c.requires.sound c.requires.inside (answer.Saved c.number-number.result)
+    (returns-clause-turn g c) tt

@@ -1,0 +1,91 @@
+-- What a line asks of the stores: the bytes that it hands in, where they go, and why it may fail.
+use Rattle.std.specs.Prelude.{◌≡◌, ◌<◌, ℕ, List, length, Some, ⊤}
+use Rattle.wtf_base.specs.declared.fault.Fault.{Fault}
+use Rattle.wtf_base.specs.declared.settings.Settings.{Settings}
+use Rattle.wtf_base.specs.declared.slice.Slice.{Slice}
+use Rattle.wtf_dev.specs.Store.{StoreKind}
+use Rattle.wtf_ring.specs.Points.{PlaceView, IsRing}
+use Rattle.wtf_replica.specs.Spans.{Span}
+use Rattle.wtf_replica.specs.Copies.{IsStored}
+use Rattle.wtf_model.specs.declared.answer.Answer.{Answer}
+use Rattle.wtf_model.specs.declared.answer.Answer.TheVariants as answer
+use Rattle.wtf_model.specs.declared.event.Event.{Event}
+use Rattle.wtf_model.specs.declared.event.Event.TheVariants as event
+use Rattle.wtf_model.specs.declared.event.Verb.TheVariants as verb
+use Rattle.wtf_model.specs.declared.op.Op.{Op}
+use Rattle.wtf_model.specs.declared.op.Op.TheVariants as op
+use Rattle.wtf_meta.specs.declared.session.Handle.{Handle}
+use Rattle.wtf_meta.specs.FileEdits.{file_of}
+use Rattle.wtf_meta.specs.Maps.{Map, seen}
+use Rattle.wtf_meta.specs.Sessions.{SessionView, handle_in}
+use Rattle.wtf_region.specs.declared.dev.Dev.{Dev}
+use Rattle.wtf_region.specs.Devs.{between, place_in}
+use Rattle.wtf_rw.specs.Stored.{end_place}
+use Rattle.wtf_replay.specs.Causes.{FaultAt, IsCallFault, IsCommitFault, fault_answer}
+use Rattle.wtf_replay.specs.Views.{TxnView, hand_of}
+use Rattle.wtf_clients.specs.Views.{TablesView, of_client, metadata_now}
+use Rattle.wtf_clients.specs.Dumped.{LacksDump}
+use Rattle.wtf_clients.specs.Outcomes.{data_of}
+
+-- Devices that a line was lent and left: the stores and the servers that are down are those of its span, the settings are
+-- these, and the ring is that of the servers.
+pub record IsLent {S : Type 0} (t : Span S) (settings : Settings) (old new : Dev S) : Type 0 where
+  pub span_is : between old new ≡ t
+  pub settings_are : old.settings ≡ settings
+  pub ring_is : IsRing settings.servers old.ring.now.points
+
+-- Where the bytes of a call go, by the map and the handles of its transaction: those that are written to the region of the
+-- handle's offset, and those that are appended to that of the file's end.
+abbrev pub IsCallPlace : {S : Type 0} → Dev S → Map → SessionView → Op (List ℕ) → PlaceView → Type 0
+IsCallPlace dev w s (op.Write f bytes) place = (h : Handle) × (handle_in s f ≡ Some h) × (place ≡ place_in dev h.inode h.off)
+IsCallPlace dev w s (op.Append f bytes) place = (h : Handle) × (handle_in s f ≡ Some h) × (place ≡ place_in dev h.inode (end_place dev.settings.region (file_of h.inode w)))
+IsCallPlace dev w s o place = ⊥
+
+-- the open transaction of a client is as P says
+abbrev pub OfClient : TablesView → ℕ → (TxnView → Type 0) → Type 0
+OfClient tables c P = (x : TxnView) × (of_client tables.clients c ≡ Some x) × P x
+
+-- the same of a line
+abbrev pub IsLinePlace : {S : Type 0} → Dev S → TablesView → Event → PlaceView → Type 0
+IsLinePlace dev tables (event.Client c (verb.Call o)) place = OfClient tables c (λ x. IsCallPlace dev (seen tables.kv x.at) x.session o place)
+IsLinePlace dev tables e place = ⊥
+
+-- Why a line fails: a call for want of servers, or of a byte that it is to show; a step for want of a byte that the call is to
+-- show which it replays; a commit for want of one of those that it replays, with what is then in hand; a dump for want of a
+-- byte of the file.
+abbrev pub IsLineFault : {S : Type 0} → StoreKind S → (old new : Dev S) → TablesView → Event → Fault → Type 0
+IsLineFault kind old new tables (event.Client c (verb.Call o)) why = OfClient tables c (λ x. IsCallFault kind old new (seen tables.kv x.at) x.session o why)
+IsLineFault kind old new tables (event.Client c verb.Step) why = OfClient tables c (λ x. FaultAt kind old new tables.kv (hand_of x) x.log x.replayed why)
+IsLineFault kind old new tables (event.Client c verb.Commit) why = OfClient tables c (λ x. IsCommitFault kind old new tables.kv x why)
+IsLineFault kind old new tables (event.Dump p) why = LacksDump kind old new (metadata_now tables.kv) p why
+IsLineFault kind old new tables e why = ⊥
+
+-- the bytes that a line hands in, where they are to go, and why it may fail
+pub record Asked : Type 1 where
+  pub given : List ℕ
+  pub goes_to : PlaceView → Type 0
+  pub fails : Fault → Type 0
+
+abbrev pub asked_of : {S : Type 0} → StoreKind S → Span S → Settings → TablesView → Event → Asked
+asked_of {S} kind t settings tables e = record {
+  given = data_of e;
+  goes_to = λ place. (old : Dev S) × (new : Dev S) × IsLent t settings old new × IsLinePlace old tables e place;
+  fails = λ why. (old : Dev S) × (new : Dev S) × IsLent t settings old new × IsLineFault kind old new tables e why;
+}
+
+-- bytes that were handed in and answered `ok` were stored where they go
+abbrev pub IsPlaced : {S : Type 0} → StoreKind S → Span S → Settings → Asked → Answer → Type 0
+IsPlaced kind t settings asked a = a ≡ answer.Okay → 0 < length asked.given
+    → (place : PlaceView) × asked.goes_to place × (slice : Slice) × IsStored kind t settings.replicas place asked.given slice
+
+-- the answer is that of such a fault
+abbrev pub IsBecause : (Fault → Type 0) → Answer → Type 0
+IsBecause fails a = (why : Fault) × (fault_answer why ≡ Some a) × fails why
+
+-- a fault of the stores has such a cause; why a save fails is said by `HasCause`
+abbrev pub HasFailed : (Fault → Type 0) → Answer → Type 0
+HasFailed fails (answer.FaultRead k) = IsBecause fails (answer.FaultRead k)
+HasFailed fails answer.FaultWrite = IsBecause fails answer.FaultWrite
+HasFailed fails (answer.FaultPunch k) = IsBecause fails (answer.FaultPunch k)
+HasFailed fails (answer.Damaged k) = IsBecause fails (answer.Damaged k)
+HasFailed fails a = ⊤

@@ -1,0 +1,11 @@
+pub mod Views
+pub mod Sounds
+pub mod Standing
+pub mod Saves
+pub mod Turns
+pub mod Named
+pub mod Outcomes
+pub mod Dumped
+pub mod Asked
+pub mod Serves
+pub mod Keeping

@@ -1,0 +1,49 @@
+-- What an answered line made of the bytes that the tables name, and of the stores.
+use Rattle.std.specs.Prelude.{◌≡◌, Bool, true, List, [], ⊤}
+use Rattle.wtf_base.specs.declared.settings.Settings.{Settings}
+use Rattle.wtf_dev.specs.Store.{StoreKind}
+use Rattle.wtf_overlay.specs.Origin.{Place}
+use Rattle.wtf_replica.specs.Spans.{Span}
+use Rattle.wtf_model.specs.declared.answer.Answer.{Answer}
+use Rattle.wtf_model.specs.declared.answer.Answer.TheVariants as answer
+use Rattle.wtf_region.specs.Inside.{is_inside}
+use Rattle.wtf_clients.specs.Views.{TablesView}
+use Rattle.wtf_clients.specs.Named.{TablesBytes, has_copies}
+use Rattle.wtf_model.specs.declared.event.Event.{Event}
+use Rattle.wtf_clients.specs.Asked.{Asked, asked_of, IsPlaced, HasFailed}
+use Rattle.wtf_clients.specs.Outcomes.{AddsBytes, SaveFault, HasCause}
+
+-- what is named was named before: what holds of the places of each of those bytes, and of a hole, goes on holding
+abbrev pub NamesTables : TablesView → TablesView → Type 0
+NamesTables old new = (P : List Place → Bool) → P [] ≡ true → TablesBytes P old → TablesBytes P new
+
+-- an answer that is no fault of the stores
+abbrev pub IsPlain : Answer → Type 0
+IsPlain (answer.FaultRead k) = ⊥
+IsPlain answer.FaultWrite = ⊥
+IsPlain (answer.FaultPunch k) = ⊥
+IsPlain answer.FaultSave = ⊥
+IsPlain (answer.Damaged k) = ⊥
+IsPlain a = ⊤
+
+-- each byte has as many copies as there are replicas
+abbrev pub AreFull : Settings → TablesView → Type 0
+AreFull settings tables = TablesBytes (has_copies settings.replicas) tables
+
+-- What the tables name lies inside the stores as they are left, and has as many copies as there are replicas where it had
+-- before. The stores grew by what the line was to store, and a fault has its cause in the line.
+pub record Serves {S : Type 0} (kind : StoreKind S) (t : Span S) (settings : Settings) (saving : Type 0) (old new : TablesView) (asked : Asked) (a : Answer) : Type 0 where
+  pub inside : TablesBytes (is_inside kind t.after settings) new
+  pub full : AreFull settings old → AreFull settings new
+  pub adds : AddsBytes kind t settings asked.given a
+  pub caused : HasCause kind t settings saving (AreFull settings old) asked.given a
+  pub placed : IsPlaced kind t settings asked a
+  pub failed : HasFailed asked.fails a
+
+-- the same of a line that is lent no keeper
+abbrev pub ServesLine : {S : Type 0} → StoreKind S → Span S → Settings → (old new : TablesView) → Event → Answer → Type 0
+ServesLine kind t settings old new e a = Serves kind t settings ⊥ old new (asked_of kind t settings old e) a
+
+-- and of each line, where `rose` says that the keeper's count of faults rose
+abbrev pub ServesEvent : {S : Type 0} → StoreKind S → Span S → Settings → (rose : Type 0) → (old new : TablesView) → Event → Answer → Type 0
+ServesEvent kind t settings rose old new e a = Serves kind t settings (SaveFault kind t settings rose e) old new (asked_of kind t settings old e) a

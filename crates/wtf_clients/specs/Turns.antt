@@ -1,0 +1,223 @@
+-- What a line makes of the tables, over every device.
+-- NSDI 2016, sections 2.6 and 2.7.
+use Rattle.std.specs.Prelude.{◌≡◌, ◌≢◌, ◌⊎◌, ℕ, ◌+◌, nat_eq, List, [], ◌∷◌, ◌++◌, Option, Some, None, MatchOption, slice_get}
+use Rattle.std.specs.Set.{remove_key}
+use Rattle.wtf_base.specs.declared.fault.Fault.{Fault}
+use Rattle.wtf_base.specs.declared.slice.Slice.{Slice}
+use Rattle.wtf_kv.specs.Stores.{Store, IsPinnedOnceMore}
+use Rattle.wtf_values.specs.declared.key.Key.{Key}
+use Rattle.wtf_values.specs.declared.value.Value.{Value}
+use Rattle.wtf_model.specs.declared.answer.Answer.{Answer, Aborted'}
+use Rattle.wtf_model.specs.declared.answer.Answer.TheVariants as answer
+use Rattle.wtf_model.specs.declared.answer.Word.{Word}
+use Rattle.wtf_model.specs.declared.answer.Word.TheVariants.{InTx, NoTx}
+use Rattle.wtf_model.specs.declared.op.Op.{Op}
+use Rattle.wtf_model.specs.declared.event.Verb.{Verb}
+use Rattle.wtf_model.specs.Tree.{Tree}
+use Rattle.wtf_model.specs.Session.{Session}
+use Rattle.wtf_model.specs.Call.{call}
+use Rattle.wtf_model.specs.Transaction.{answers_of}
+use Rattle.wtf_model.specs.Lawful.{IsDone, IsReadFault, MayFail, MayFailRead, dumped, or_refusal}
+use Rattle.wtf_model.specs.declared.event.Verb.TheVariants as verb
+use Rattle.wtf_meta.specs.Bytes.{MapBytes}
+use Rattle.wtf_meta.specs.Contents.{Told, is_told}
+use Rattle.wtf_meta.specs.Maps.{Map, metadata_at, seen}
+use Rattle.wtf_meta.specs.Trees.{Stands}
+use Rattle.wtf_meta.specs.Sessions.{Holds}
+use Rattle.wtf_meta.specs.Calls.{Caller, cap_for}
+use Rattle.wtf_replay.specs.Views.{TxnView, begun}
+use Rattle.wtf_replay.specs.Refusals.{call_refusal, try_refusal, step_refusal}
+use Rattle.wtf_replay.specs.Fits.{IsFit}
+use Rattle.wtf_replay.specs.Sounds.{IsSound, caller_at}
+use Rattle.wtf_replay.specs.Causes.{fault_answer}
+use Rattle.wtf_replay.specs.Called.{IsCalled}
+use Rattle.wtf_replay.specs.Tried.{IsCommitted, IsRetried, IsFinal, KeepsMaps, KeepsPins}
+use Rattle.wtf_replay.specs.Replays.{IsReplayed, DeviatesOn}
+use Rattle.wtf_clients.specs.Views.{TablesView, of_client, metadata_now}
+use Rattle.wtf_clients.specs.Sounds.{Sets}
+
+-- client c has now this transaction, or none; the store of the metadata, and what may be on the keeper, are what they were
+pub record Keeps (old new : TablesView) (c : ℕ) (now : Option TxnView) : Type 0 where
+  pub clients : Sets c now old.clients new.clients
+  pub kv : new.kv ≡ old.kv
+  pub next_tx : new.next_tx ≡ old.next_tx
+  pub saved : new.saved ≡ old.saved
+
+-- a line of client c is refused, and leaves all as it was
+pub record Refuses (old new : TablesView) (c : ℕ) (w : Word) (a : Answer) : Type 0 where
+  pub answer : a ≡ answer.Refused w
+  pub keeps : Keeps old new c (of_client old.clients c)
+
+-- a transaction begins at the number, which it pins
+pub record Begins (old new : TablesView) (c : ℕ) (a : Answer) : Type 0 where
+  pub answer : a ≡ answer.Begun old.kv.number
+  pub clients : Sets c (Some (begun old.next_tx old.kv.number)) old.clients new.clients
+  pub kv : new.kv ≡ record old.kv { pins = old.kv.pins ++ old.kv.number ∷ [] }
+  pub pinned : IsPinnedOnceMore old.kv.number old.kv new.kv
+  pub next_tx : new.next_tx ≡ old.next_tx + 1
+  pub saved : new.saved ≡ old.saved
+  pub fit : IsFit new.kv (begun old.next_tx old.kv.number)
+  pub sound : (size : ℕ) (told : Told) → IsSound size new.kv told (begun old.next_tx old.kv.number) []
+
+-- The transaction x has ended. It left the store as `mid`, and then undid the pin of its base.
+pub record Ends (old new : TablesView) (mid : Store Key Value) (c : ℕ) (x : TxnView) : Type 0 where
+  pub clients : Sets c None old.clients new.clients
+  pub next_tx : new.next_tx ≡ old.next_tx
+  pub saved : new.saved ≡ old.saved
+  pub maps : KeepsMaps old.kv mid
+  pub pins : KeepsPins old.kv mid
+  pub kv : new.kv ≡ record mid { pins = remove_key (nat_eq x.at.base) mid.pins }
+  pub unpinned : IsPinnedOnceMore x.at.base new.kv mid
+
+-- an attempt committed: no recorded key had changed since the base
+pub record Commits (old new : TablesView) (c : ℕ) (x : TxnView) (n : ℕ) : Type 0 where
+  pub mid : Store Key Value
+  pub ended : TxnView
+  pub committed : IsCommitted old.kv mid x ended n
+  pub final : (size : ℕ) (told : Told) (ops : List (Op (List ℕ))) → IsSound size old.kv told x ops → IsFinal size told old.kv mid x ops n
+  pub ends : Ends old new mid c x
+
+-- an attempt met a key in the way: all calls are to be replayed at the number
+pub record Retries (old new : TablesView) (c : ℕ) (x : TxnView) (b n : ℕ) : Type 0 where
+  pub later : TxnView
+  pub clients : Sets c (Some later) old.clients new.clients
+  pub next_tx : new.next_tx ≡ old.next_tx
+  pub saved : new.saved ≡ old.saved
+  pub retried : IsRetried old.kv new.kv x later b n
+  pub maps : KeepsMaps old.kv new.kv
+  pub fit : IsFit new.kv later
+  pub sound : (size : ℕ) (told : Told) (ops : List (Op (List ℕ))) → IsSound size old.kv told x ops → IsSound size new.kv told later ops
+
+abbrev pub Tries : TablesView → TablesView → ℕ → TxnView → Answer → Type 0
+Tries old new c x (answer.Committed n) = Commits old new c x n
+Tries old new c x (answer.Retry b n) = Retries old new c x b n
+Tries old new c x a = ⊥
+
+-- an attempt, unless it is refused
+abbrev pub TryTurn : TablesView → TablesView → ℕ → TxnView → Answer → Type 0
+TryTurn old new c x a = MatchOption (try_refusal x) (Tries old new c x a) (λ w. Refuses old new c w a)
+
+-- a transaction is given up
+abbrev pub Drops : TablesView → TablesView → ℕ → TxnView → Answer → Type 0
+Drops old new c x a = (a ≡ answer.Okay) × Ends old new old.kv c x
+
+-- A line left all that is seen of the tables: of their store, the number, the maps and how often each number is pinned; and
+-- what may be on the keeper.
+pub record Stays (old new : TablesView) (c : ℕ) : Type 0 where
+  pub clients : Sets c (of_client old.clients c) old.clients new.clients
+  pub number : new.kv.number ≡ old.kv.number
+  pub maps : KeepsMaps old.kv new.kv
+  pub pins : KeepsPins old.kv new.kv
+  pub next_tx : new.next_tx ≡ old.next_tx
+  pub saved : new.saved ≡ old.saved
+
+-- a fault of the stores was answered, and left all as it was
+pub record Fails (old new : TablesView) (c : ℕ) (a : Answer) : Type 0 where
+  pub why : Fault
+  pub answer : fault_answer why ≡ Some a
+  pub stays : Stays old new c
+
+-- The dump of a path shows the bytes of the file on each tree for which the map now stands, or is refused; where it is to
+-- show bytes a fault of the stores may come in their place. It leaves all as it was.
+pub record Dumps (servers size : ℕ) (told : Told) (old new : TablesView) (p : List ℕ) (a : Answer) : Type 0 where
+  pub stays : (c : ℕ) → Stays old new c
+  pub built : a ≢ answer.NotBuilt
+  pub shows : (tx k : ℕ) (t : Tree) → Stands size told tx k (metadata_now old.kv) t
+      → (a ≡ or_refusal (dumped t p)) ⊎ MayFailRead servers (or_refusal (dumped t p)) a
+
+-- `Telling` says that the stores tell their content: `told` before the line and `later` after it; there are so many servers,
+-- and a region has `size` bytes
+module _ (Telling : Type 0) (servers size : ℕ) (told later : Told) where
+  -- the stores also tell each byte of a map
+  abbrev pub Tells : Map → Type 0
+  Tells w = Telling × MapBytes (is_told told) w
+
+  -- a call is logged with its answer
+  pub record Calls (old new : TablesView) (c : ℕ) (x : TxnView) (o : Op (List ℕ)) (a : Answer) : Type 0 where
+    pub later_one : TxnView
+    pub own : Option Slice
+    pub keeps : Keeps old new c (Some later_one)
+    pub called : IsCalled x later_one o own a
+    pub fit : IsFit old.kv later_one
+    pub sound : Tells (metadata_at old.kv x.at.base) → (ops : List (Op (List ℕ))) → IsSound size old.kv told x ops
+        → IsSound size old.kv later later_one (ops ++ o ∷ [])
+
+  -- or a fault of the stores came in place of the answer that is due
+  pub record CallFails (old new : TablesView) (c : ℕ) (x : TxnView) (o : Op (List ℕ)) (a : Answer) : Type 0 where
+    pub fails : Fails old new c a
+    pub may : (y : Caller) (t : Told) (S : Session) → y.size ≡ size → Stands y.size t y.tx y.calls (seen old.kv x.at) S.tree
+        → Holds t (seen old.kv x.at) x.session S → MayFail servers o (call (cap_for y) S o).answer a
+
+  -- one more call was replayed, and answered what was shown
+  pub record Replays (old new : TablesView) (c : ℕ) (x : TxnView) (i : ℕ) : Type 0 where
+    pub later_one : TxnView
+    pub keeps : Keeps old new c (Some later_one)
+    pub replayed : IsReplayed x later_one i
+    pub fit : IsFit old.kv later_one
+    pub sound : Tells (metadata_at old.kv x.at.base) → (ops : List (Op (List ℕ))) → IsSound size old.kv told x ops
+        → IsSound size old.kv later later_one ops
+
+  -- the next call answered otherwise at the base, and the transaction has ended
+  pub record Aborts (old new : TablesView) (c : ℕ) (x : TxnView) (i : ℕ) (a : Answer) : Type 0 where
+    pub index : i ≡ x.replayed + 1
+    pub ends : Ends old new old.kv c x
+    pub deviates : Tells (metadata_at old.kv x.at.base) → (ops : List (Op (List ℕ))) → IsSound size old.kv told x ops
+        → DeviatesOn (metadata_at old.kv x.at.base) size told x ops i a
+
+  -- the bytes of the next call were not read, which would not be refused
+  pub record StepFails (old new : TablesView) (c : ℕ) (x : TxnView) (a : Answer) : Type 0 where
+    pub fails : Fails old new c a
+    pub may : (ops : List (Op (List ℕ))) → IsSound size old.kv told x ops → (t : Tree) → Stands size told x.tx 0 (metadata_at old.kv x.at.base) t
+        → IsDone (slice_get (answers_of (cap_for (caller_at size x.tx 0)) t ops) x.replayed) × IsReadFault servers a
+
+  -- the calls have run on the map now, by the attempt or by a whole replay
+  pub record Finishes (old new : TablesView) (c : ℕ) (x : TxnView) (n : ℕ) : Type 0 where
+    pub mid : Store Key Value
+    pub next : n ≡ old.kv.number + 1
+    pub number : mid.number ≡ n
+    pub ends : Ends old new mid c x
+    pub final : Tells (metadata_now old.kv) → (ops : List (Op (List ℕ))) → IsSound size old.kv told x ops
+        → IsFinal size later old.kv mid x ops n
+
+  -- run on the map now, the calls first answer otherwise than was shown at call i, and there a
+  pub record GivesUp (old new : TablesView) (c : ℕ) (x : TxnView) (i : ℕ) (a : Answer) : Type 0 where
+    pub mid : Store Key Value
+    pub number : mid.number ≡ old.kv.number
+    pub ends : Ends old new mid c x
+    pub deviates : Tells (metadata_now old.kv) → (ops : List (Op (List ℕ))) → IsSound size old.kv told x ops
+        → DeviatesOn (metadata_now old.kv) size told x ops i a
+
+  -- the bytes of a call that was replayed were not read
+  pub record CommitFails (old new : TablesView) (c : ℕ) (x : TxnView) (a : Answer) : Type 0 where
+    pub fails : Fails old new c a
+    pub may : Tells (metadata_now old.kv) → (ops : List (Op (List ℕ))) → IsSound size old.kv told x ops
+        → (t : Tree) → Stands size told x.tx 0 (metadata_now old.kv) t → IsReadFault servers a
+
+  abbrev pub Steps : TablesView → TablesView → ℕ → TxnView → Answer → Type 0
+  Steps old new c x (answer.Replayed i) = Replays old new c x i
+  Steps old new c x (Aborted' i box a) = Aborts old new c x i a
+  Steps old new c x a = StepFails old new c x a
+
+  -- a commit never asks for another try
+  abbrev pub Finals : TablesView → TablesView → ℕ → TxnView → Answer → Type 0
+  Finals old new c x (answer.Committed n) = Finishes old new c x n
+  Finals old new c x (Aborted' i box a) = GivesUp old new c x i a
+  Finals old new c x a = CommitFails old new c x a
+
+  -- a line of a client without a transaction: it may begin one
+  abbrev pub LoneTurn : TablesView → TablesView → ℕ → Verb → Answer → Type 0
+  LoneTurn old new c verb.Begin a = Begins old new c a
+  LoneTurn old new c v a = Refuses old new c NoTx a
+
+  -- a line of a client with the transaction x
+  abbrev pub TxnTurn : TablesView → TablesView → ℕ → TxnView → Verb → Answer → Type 0
+  TxnTurn old new c x verb.Begin a = Refuses old new c InTx a
+  TxnTurn old new c x verb.Try a = TryTurn old new c x a
+  TxnTurn old new c x verb.Step a = MatchOption (step_refusal x) (Steps old new c x a) (λ w. Refuses old new c w a)
+  TxnTurn old new c x verb.Commit a = Finals old new c x a
+  TxnTurn old new c x verb.Abort a = Drops old new c x a
+  TxnTurn old new c x (verb.Call o) a = MatchOption (call_refusal x) (Calls old new c x o a ⊎ CallFails old new c x o a) (λ w. Refuses old new c w a)
+
+  -- a line of a client
+  abbrev pub ClientTurn : TablesView → TablesView → ℕ → Verb → Answer → Type 0
+  ClientTurn old new c v a = MatchOption (of_client old.clients c) (LoneTurn old new c v a) (λ x. TxnTurn old new c x v a)

@@ -1,0 +1,446 @@
+//! The store of the metadata with the open transactions, and what a client's line makes of them.
+
+ghost use Rattle.std.specs.Prelude.{◌≡◌, ◌+◌, ◌<◌, ◌^◌, ℕ, [], ◌∷◌, None, Some, Ok, IsTrue, IfOk, OnOk, OnErr, IfSome, MatchOption};
+ghost use Rattle.std.specs.Set.{remove_key};
+ghost use Rattle.std.specs.Prelude.{◌≤◌, nat_eq, count_by, length};
+ghost use Rattle.wtf_dev.specs.Sums.{TellsAll};
+ghost use Rattle.wtf_ring.specs.Points.{IsRing};
+ghost use Rattle.wtf_replica.specs.Bytes.{byte_at};
+ghost use Rattle.wtf_kv.specs.Stores.{is_pinned, times_pinned, IsPinnedOnceMore};
+ghost use Rattle.wtf_model.specs.Form.{IsFormOp, IsData};
+ghost use Rattle.wtf_model.specs.declared.answer.Word.TheVariants.{InTx, NoTx};
+ghost use Rattle.wtf_model.specs.declared.event.Event.TheVariants as event;
+ghost use Rattle.wtf_model.specs.declared.event.Verb.TheVariants as verb;
+ghost use Rattle.wtf_region.specs.Devs.{IsSoundDev, GoesOn, stores, between};
+ghost use Rattle.wtf_region.specs.Inside.{is_inside};
+ghost use Rattle.wtf_meta.specs.Trees.{IsFirst};
+ghost use Rattle.wtf_clients.specs.Views.{SavedView, of_client, metadata_now, unsaved};
+ghost use Rattle.wtf_clients.specs.Sounds.{AreSound, Sets, IsAlike, IsTidied, all_kept};
+ghost use Rattle.wtf_clients.specs.Saves.{with_image, only_image, Saves};
+ghost use Rattle.wtf_image.specs.Saving.{IsSaveOf};
+ghost use Rattle.wtf_clients.specs.Turns.{Refuses, Begins, TryTurn, Drops, Dumps, ClientTurn};
+ghost use Rattle.wtf_clients.specs.Named.{TablesBytes};
+ghost use Rattle.wtf_clients.specs.Serves.{ServesLine};
+
+use crate::dump::dump_now;
+use crate::faults::answer_to;
+use crate::saved::Saved;
+use indexmap::IndexMap;
+use std::alloc::Global;
+use std::marker::Model;
+use wtf_base::{Bytes, OutOfMemory, Settings, TxId};
+use wtf_dev::SliceStore;
+use wtf_image::{Loaded, save};
+use wtf_kv::Kv;
+use wtf_model::{Answer, Op, Word};
+use wtf_path::Path;
+use wtf_region::Dev;
+use wtf_replay::Txn;
+use wtf_values::{Key, NameSet, Node, Value};
+
+/// The store of the metadata, the number of the transaction that begins next, the open transactions
+/// by client, in the order of their begin, and which images may be on the keeper.
+#[derive(Drop)]
+pub struct Tables {
+    alloc: Global,
+    kv: Kv<Key, Value>,
+    next_tx: u64,
+    clients: IndexMap<u8, Txn>,
+    saved: Saved,
+}
+
+impl Model for Tables {
+    ghost use Rattle.wtf_clients.specs.Views.{TablesView};
+
+    ghost Value = { TablesView };
+
+    ghost use Rattle.std.specs.Coded.{codes};
+    ghost use Rattle.wtf_values.specs.contracts.key.Key as key;
+    ghost use Rattle.wtf_values.specs.contracts.value.Value as value;
+    ghost use Rattle.wtf_replay.specs.contracts.txn.Txn as txn;
+
+    ghost coded = { Prim.hlevel (
+      codes,
+      key.the_row.coded,
+      value.the_row.coded,
+      txn.the_row.coded,
+    ) };
+
+    ghost view = { λ t. record {
+      kv = t.kv;
+      next_tx = t.next_tx;
+      clients = t.clients.entries;
+      saved = t.saved;
+    } };
+}
+
+impl Tables {
+    /// The root alone, no transaction, and nothing saved.
+    pub fn new(alloc: Global) -> Result<Tables, OutOfMemory>
+        ensures number { IfOk result (λ t. t.kv.number ≡ 0) }
+        ensures next { IfOk result (λ t. t.next_tx ≡ 1) }
+        ensures clients { IfOk result (λ t. t.clients ≡ []) }
+        ensures saved { IfOk result (λ t. t.saved ≡ unsaved) }
+        ensures first { IfOk result (λ t. IsFirst (metadata_now t.kv)) }
+        ensures sound { IfOk result (λ t. AreSound t) }
+    {
+        let mut kv: Kv<Key, Value> = match Kv::new(alloc) {
+            Ok(kv) => kv,
+            Err(why) => return Err(why),
+        };
+        let root = match Path::parse(alloc, b"/") {
+            Ok(root) => root,
+            Err(_) => return Err(OutOfMemory),
+        };
+        let top = match root.copy(alloc) {
+            Ok(top) => top,
+            Err(why) => return Err(why),
+        };
+        if let Err(why) = kv.seed(Key::Path(root), Value::Node(Node::Folder)) {
+            return Err(why);
+        }
+        if let Err(why) = kv.seed(Key::Dir(top), Value::Names(NameSet::new(alloc))) {
+            return Err(why);
+        }
+        Ok(Tables {
+            alloc,
+            kv,
+            next_tx: 1,
+            clients: IndexMap::new(alloc),
+            saved: Saved::new(alloc),
+        })
+    }
+
+    /// What was loaded of the keeper's image, and no transaction. The number is pinned for the image.
+    pub fn of_image(alloc: Global, loaded: Loaded) -> Result<Tables, OutOfMemory>
+        requires pins { loaded.kv.pins ≡ [] }
+        requires begun { 0 < loaded.next_tx }
+        ensures kv { IfOk result
+            (λ t. t.kv ≡ record loaded.kv { pins = loaded.kv.number ∷ [] }) }
+        ensures next { IfOk result (λ t. t.next_tx ≡ loaded.next_tx) }
+        ensures clients { IfOk result (λ t. t.clients ≡ []) }
+        ensures saved { IfOk result (λ t. t.saved ≡ only_image loaded.kv.number) }
+        ensures sound { IfOk result (λ t. AreSound t) }
+    {
+        let mut kv = loaded.kv;
+        let number = kv.number();
+        if let Err(why) = kv.pin(number) {
+            return Err(why);
+        }
+        let saved = match Saved::of(alloc, number) {
+            Ok(saved) => saved,
+            Err(why) => return Err(why),
+        };
+        Ok(Tables {
+            alloc,
+            kv,
+            next_tx: loaded.next_tx,
+            clients: IndexMap::new(alloc),
+            saved,
+        })
+    }
+
+    /// The number of installs.
+    pub fn number(&self) -> u64
+        ensures { result ≡ self.now.kv.number }
+    {
+        self.kv.number()
+    }
+
+    /// The number of the transaction that begins next.
+    pub fn next_tx(&self) -> u64
+        ensures { result ≡ self.now.next_tx }
+    {
+        self.next_tx
+    }
+
+    /// The store of the metadata.
+    pub fn kv(&self) -> &Kv<Key, Value>
+        ensures { result.now ≡ self.now.kv }
+    {
+        &self.kv
+    }
+
+    /// A transaction begins for a client that has none.
+    pub fn begin(&mut self, c: u8) -> Result<Answer, OutOfMemory>
+        requires sound { AreSound self.old }
+        requires room { self.old.next_tx < 2 ^ 63 }
+        ensures turn { IfOk result (λ a. MatchOption (of_client self.old.clients c)
+            (Begins self.old self.new c a) (λ x. Refuses self.old self.new c InTx a)) }
+        ensures err_sound { OnErr result (AreSound self.new) }
+        ensures err { OnErr result (IsAlike self.old self.new) }
+    {
+        if self.clients.contains_key(&c) {
+            return Ok(Answer::Refused(Word::InTx));
+        }
+        if let Err(_) = self.clients.reserve(1) {
+            return Err(OutOfMemory);
+        }
+        let number = self.kv.number();
+        let txn = match Txn::begin(self.alloc, &mut self.kv, TxId(self.next_tx)) {
+            Ok(txn) => txn,
+            Err(why) => return Err(why),
+        };
+        match self.clients.insert(c, txn) {
+            Ok(_) => {
+                self.next_tx = self.next_tx + 1;
+                return Ok(Answer::Begun(number));
+            }
+            Err(_) => unreachable!(),
+        }
+    }
+
+    /// A call of a client.
+    pub fn call<S: SliceStore>(
+        &mut self,
+        dev: &mut Dev<'_, S>,
+        c: u8,
+        op: Op<Bytes>,
+    ) -> Result<Answer, OutOfMemory>
+        requires sound { AreSound self.old }
+        requires dev { IsSoundDev dev.old }
+        requires ring { IsRing dev.old.settings.servers dev.old.ring.now.points }
+        requires inside { TablesBytes (is_inside S.kind (stores dev.old) dev.old.settings)
+            self.old }
+        requires form { IsFormOp IsData op }
+        ensures turn { IfOk result (λ a. ClientTurn (TellsAll S.kind (stores dev.old))
+            dev.old.settings.servers dev.old.settings.region
+            (byte_at S.kind (stores dev.old)) (byte_at S.kind (stores dev.new))
+            self.old self.new c (verb.Call op) a) }
+        ensures serves { IfOk result (ServesLine S.kind (between dev.old dev.new)
+            dev.old.settings self.old self.new (event.Client c (verb.Call op))) }
+        ensures err_sound { OnErr result (AreSound self.new) }
+        ensures err { OnErr result (IsAlike self.old self.new) }
+        ensures dev { GoesOn S.kind dev.old dev.new [] }
+    {
+        let Some(txn) = self.clients.get_mut(&c) else {
+            return Ok(Answer::Refused(Word::NoTx));
+        };
+        let answer = match txn.call(dev, &self.kv, op) {
+            Ok(answer) => answer,
+            Err(why) => return answer_to(why),
+        };
+        Ok(answer)
+    }
+
+    /// A client's attempt to commit.
+    pub fn attempt(&mut self, c: u8) -> Result<Answer, OutOfMemory>
+        requires sound { AreSound self.old }
+        requires room { self.old.kv.number < 2 ^ 63 }
+        ensures turn { IfOk result (λ a. MatchOption (of_client self.old.clients c)
+            (Refuses self.old self.new c NoTx a) (λ x. TryTurn self.old self.new c x a)) }
+        ensures err_sound { OnErr result (AreSound self.new) }
+        ensures err { OnErr result (IsAlike self.old self.new) }
+    {
+        let Some(txn) = self.clients.get_mut(&c) else {
+            return Ok(Answer::Refused(Word::NoTx));
+        };
+        let answer = match txn.attempt(&mut self.kv) {
+            Ok(answer) => answer,
+            Err(why) => return Err(why),
+        };
+        if !txn.ended() {
+            return Ok(answer);
+        }
+        self.end(c);
+        Ok(answer)
+    }
+
+    /// A client's next call is replayed.
+    pub fn step<S: SliceStore>(
+        &mut self,
+        dev: &mut Dev<'_, S>,
+        c: u8,
+    ) -> Result<Answer, OutOfMemory>
+        requires sound { AreSound self.old }
+        requires dev { IsSoundDev dev.old }
+        requires ring { IsRing dev.old.settings.servers dev.old.ring.now.points }
+        requires inside { TablesBytes (is_inside S.kind (stores dev.old) dev.old.settings)
+            self.old }
+        ensures turn { IfOk result (λ a. ClientTurn (TellsAll S.kind (stores dev.old))
+            dev.old.settings.servers dev.old.settings.region
+            (byte_at S.kind (stores dev.old)) (byte_at S.kind (stores dev.new))
+            self.old self.new c verb.Step a) }
+        ensures serves { IfOk result (ServesLine S.kind (between dev.old dev.new)
+            dev.old.settings self.old self.new (event.Client c verb.Step)) }
+        ensures err_sound { OnErr result (AreSound self.new) }
+        ensures err { OnErr result (IsAlike self.old self.new) }
+        ensures dev { GoesOn S.kind dev.old dev.new [] }
+    {
+        let Some(txn) = self.clients.get_mut(&c) else {
+            return Ok(Answer::Refused(Word::NoTx));
+        };
+        let answer = match txn.step(dev, &self.kv) {
+            Ok(answer) => answer,
+            Err(why) => return answer_to(why),
+        };
+        if !txn.ended() {
+            return Ok(answer);
+        }
+        self.end(c);
+        Ok(answer)
+    }
+
+    /// A client's commit, by an attempt or by a replay of all calls.
+    pub fn commit<S: SliceStore>(
+        &mut self,
+        dev: &mut Dev<'_, S>,
+        c: u8,
+    ) -> Result<Answer, OutOfMemory>
+        requires sound { AreSound self.old }
+        requires dev { IsSoundDev dev.old }
+        requires ring { IsRing dev.old.settings.servers dev.old.ring.now.points }
+        requires inside { TablesBytes (is_inside S.kind (stores dev.old) dev.old.settings)
+            self.old }
+        requires room { self.old.kv.number < 2 ^ 63 }
+        ensures turn { IfOk result (λ a. ClientTurn (TellsAll S.kind (stores dev.old))
+            dev.old.settings.servers dev.old.settings.region
+            (byte_at S.kind (stores dev.old)) (byte_at S.kind (stores dev.new))
+            self.old self.new c verb.Commit a) }
+        ensures serves { IfOk result (ServesLine S.kind (between dev.old dev.new)
+            dev.old.settings self.old self.new (event.Client c verb.Commit)) }
+        ensures err_sound { OnErr result (AreSound self.new) }
+        ensures err { OnErr result (IsAlike self.old self.new) }
+        ensures dev { GoesOn S.kind dev.old dev.new [] }
+    {
+        let Some(txn) = self.clients.get_mut(&c) else {
+            return Ok(Answer::Refused(Word::NoTx));
+        };
+        let answer = match txn.commit(dev, &mut self.kv) {
+            Ok(answer) => answer,
+            Err(why) => return answer_to(why),
+        };
+        self.end(c);
+        Ok(answer)
+    }
+
+    /// Shows all bytes of the file at a path as it stands now.
+    pub fn dump<S: SliceStore>(
+        &mut self,
+        dev: &mut Dev<'_, S>,
+        p: &Path,
+    ) -> Result<Answer, OutOfMemory>
+        requires sound { AreSound self.old }
+        requires dev { IsSoundDev dev.old }
+        requires ring { IsRing dev.old.settings.servers dev.old.ring.now.points }
+        requires inside { TablesBytes (is_inside S.kind (stores dev.old) dev.old.settings)
+            self.old }
+        ensures turn { IfOk result (Dumps dev.old.settings.servers dev.old.settings.region
+            (byte_at S.kind (stores dev.old)) self.old self.new p.now) }
+        ensures serves { IfOk result (ServesLine S.kind (between dev.old dev.new)
+            dev.old.settings self.old self.new (event.Dump p.now)) }
+        ensures err_sound { OnErr result (AreSound self.new) }
+        ensures err { OnErr result (IsAlike self.old self.new) }
+        ensures dev { GoesOn S.kind dev.old dev.new [] }
+    {
+        match dump_now(self.alloc, dev, &mut self.kv, p) {
+            Ok(answer) => return Ok(answer),
+            Err(why) => return answer_to(why),
+        }
+    }
+
+    /// A client gives its transaction up.
+    pub fn abort(&mut self, c: u8) -> Answer
+        requires sound { AreSound self.old }
+        ensures turn { MatchOption (of_client self.old.clients c)
+            (Refuses self.old self.new c NoTx result)
+            (λ x. Drops self.old self.new c x result) }
+    {
+        if !self.clients.contains_key(&c) {
+            return Answer::Refused(Word::NoTx);
+        }
+        self.end(c);
+        Answer::Okay
+    }
+
+    /// Drops versions that no one sees any more, once there are enough of them.
+    pub fn tidy(&mut self)
+        ensures { IsTidied self.old self.new }
+    {
+        self.kv.prune_when_due();
+    }
+
+    /// The transaction of a client goes, with the pin of its base.
+    fn end(&mut self, c: u8)
+        requires pinned { IfSome (of_client self.old.clients c)
+            (λ x. IsTrue (is_pinned self.old.kv x.at.base)) }
+        ensures clients { Sets c None self.old.clients self.new.clients }
+        ensures kv { IfSome (of_client self.old.clients c) (λ x. self.new.kv ≡
+            record self.old.kv { pins = remove_key (nat_eq x.at.base) self.old.kv.pins }) }
+        ensures unpinned { IfSome (of_client self.old.clients c)
+            (λ x. IsPinnedOnceMore x.at.base self.new.kv self.old.kv) }
+        ensures next { self.new.next_tx ≡ self.old.next_tx }
+        ensures saved { self.new.saved ≡ self.old.saved }
+    {
+        match self.clients.shift_remove(&c) {
+            Some(txn) => txn.drop_all(&mut self.kv),
+            None => {}
+        }
+    }
+
+    /// The image of the store as it stands, with the settings.
+    pub(crate) fn image(&self, settings: Settings) -> Result<Vec<u8>, OutOfMemory>
+        ensures { IfOk result
+            (λ v. IsSaveOf self.now.kv settings self.now.next_tx v.items) }
+    {
+        save(self.alloc, &self.kv, settings, self.next_tx)
+    }
+
+    /// The image of the number may be on the keeper from now on, beside the others. Want of memory
+    /// leaves all as it was.
+    pub(crate) fn keep_image(&mut self) -> Result<(), OutOfMemory>
+        ensures ok { OnOk result (Saves self.old self.new
+            (with_image self.old.saved self.old.kv.number)) }
+        ensures pinned { OnOk result (IsTrue (is_pinned self.new.kv self.old.kv.number)) }
+        ensures err { OnErr result (self.new ≡ self.old) }
+    {
+        let number = self.kv.number();
+        match self.saved.add(number) {
+            Ok(()) => {}
+            Err(why) => return Err(why),
+        }
+        if let Err(why) = self.kv.pin(number) {
+            self.saved.drop_last();
+            return Err(why);
+        }
+        Ok(())
+    }
+
+    /// The image that was kept last was not handed to the keeper.
+    pub(crate) fn forget_image(&mut self)
+        requires pinned { IsTrue (is_pinned self.old.kv self.old.kv.number) }
+        requires some { 0 < length self.old.saved.images }
+        ensures { (before : SavedView) →
+            self.old.saved ≡ with_image before self.old.kv.number →
+            Saves self.old self.new before }
+    {
+        let number = self.kv.number();
+        self.saved.drop_last();
+        self.kv.unpin(number);
+    }
+
+    /// The image that was kept last is the only one that may be on the keeper.
+    pub(crate) fn settle_image(&mut self)
+        requires pinned { (n : ℕ) → all_kept n self.old.saved ≤ times_pinned self.old.kv n }
+        requires some { 0 < length self.old.saved.images }
+        ensures { (before : SavedView) →
+            self.old.saved ≡ with_image before self.old.kv.number →
+            Saves self.old self.new (only_image self.old.kv.number) }
+    {
+        let number = self.kv.number();
+        unpin_all(&mut self.kv, self.saved.others());
+        self.saved.settle(number);
+    }
+}
+
+/// Undoes one pin of each of these numbers.
+fn unpin_all(kv: &mut Kv<Key, Value>, numbers: &[u64])
+    requires { (n : ℕ) → count_by (nat_eq n) numbers.now ≤ times_pinned kv.old n }
+    ensures pins { (n : ℕ) → times_pinned kv.new n + count_by (nat_eq n) numbers.now ≡
+        times_pinned kv.old n }
+    ensures rest { kv.new ≡ record kv.old { pins = kv.new.pins } }
+{
+    for number in numbers {
+        kv.unpin(*number);
+    }
+}

@@ -1,0 +1,40 @@
+-- What a line of a save leaves of the numbers and of the stores.
+use Rattle.std.proofs.Common.{◌≡◌, [], Result, Ok, Err, IfOk, OnErr, ◌∙◌, inl, inr}
+use Rattle.wtf_base.specs.declared.settings.Settings.{Settings}
+use Rattle.wtf_dev.specs.Store.{StoreKind}
+use Rattle.wtf_replica.specs.Outs.{SameLengths}
+use Rattle.wtf_replica.specs.Spans.{Span}
+use Rattle.wtf_model.specs.declared.answer.Answer.{Answer}
+use Rattle.wtf_model.specs.declared.answer.Answer.TheVariants as answer
+use Rattle.wtf_model.specs.declared.event.Event.TheVariants as event
+use Rattle.wtf_meta.specs.Contents.{Told}
+use Rattle.wtf_clients.specs.Views.{TablesView}
+use Rattle.wtf_core.specs.Views.{CoreView}
+use Rattle.wtf_clients.specs.Sounds.{IsAlike}
+use Rattle.wtf_clients.specs.Outcomes.{AddsBytes}
+use Rattle.wtf_clients.specs.Saves.{SaveTurn}
+use Rattle.wtf_core.specs.Turns.{IsLine}
+
+-- both numbers stay
+save_numbers : (Up : Type 0) (old new : TablesView) (a : Answer) → SaveTurn Up old new a → (new.kv.number ≡ old.kv.number) × (new.next_tx ≡ old.next_tx)
+save_numbers Up old new (answer.Saved n) (number, up, saves) = (saves.number, saves.next_tx)
+save_numbers Up old new answer.FaultSave (inl saves) = (saves.number, saves.next_tx)
+save_numbers Up old new answer.FaultSave (inr saves) = (saves.number, saves.next_tx)
+save_numbers Up old new a turn = absurd turn
+
+-- both numbers are what they were
+pub line_numbers : {E : Type 0} (r : Result Answer E) (Telling : Type 0) (told : Told × Told) (old new : CoreView) → IfOk r (λ a. IsLine Telling told old new event.Save a) → OnErr r (IsAlike old.tables new.tables)
+    → (new.tables.kv.number ≡ old.tables.kv.number) × (new.tables.next_tx ≡ old.tables.next_tx)
+line_numbers (Ok a) Telling told old new line err =
+    let both = save_numbers _ old.tables line.answered.tables a line.turn.0 in
+    (line.tidied.number ∙ both.0, line.tidied.next_tx ∙ both.1)
+line_numbers (Err e) Telling told old new line err = (err.number, err.next_tx)
+
+-- it adds no byte
+save_lengths : {S : Type 0} (kind : StoreKind S) (t : Span S) (settings : Settings) (Up : Type 0) (old new : TablesView) (a : Answer) → SaveTurn Up old new a → AddsBytes kind t settings [] a → SameLengths kind t.before t.after
+save_lengths kind t settings Up old new (answer.Saved n) turn adds = adds
+save_lengths kind t settings Up old new answer.FaultSave turn adds = adds
+save_lengths kind t settings Up old new a turn adds = absurd turn
+
+pub line_lengths : {S : Type 0} (kind : StoreKind S) (t : Span S) (settings : Settings) (Telling : Type 0) (told : Told × Told) (old new : CoreView) (a : Answer) → IsLine Telling told old new event.Save a → AddsBytes kind t settings [] a → SameLengths kind t.before t.after
+line_lengths kind t settings Telling told old new a line adds = save_lengths kind t settings _ old.tables line.answered.tables a line.turn.0 adds
