@@ -1,2 +1,23 @@
 //! Tests, from outside, of whole runs, and the image.
 #![tactic(auto)]
+
+#[cfg(test)]
+mod cores;
+#[cfg(test)]
+mod damage;
+#[cfg(test)]
+mod devices;
+#[cfg(test)]
+mod faults;
+#[cfg(test)]
+mod folders;
+#[cfg(test)]
+mod image;
+#[cfg(test)]
+mod rows;
+#[cfg(test)]
+mod runs;
+#[cfg(test)]
+mod texts;
+#[cfg(test)]
+mod told;

@@ -1,0 +1,129 @@
+//! Runs over devices in memory.
+
+use crate::texts::SCRIPT;
+use std::alloc::Global;
+use std::test::Fail;
+use wtf_dev::{Keeper, MemKeeper, MemSink, MemSource, MemStore, Shelf, SliceStore};
+use wtf_serve::wtf;
+
+/// No calls, or the one with this number.
+pub(crate) fn calls(alloc: Global, number: Option<u64>) -> Result<Vec<u64>, Fail> {
+    let mut calls = Vec::new(alloc);
+    if let Some(number) = number {
+        calls.push(number)?;
+    }
+    Ok(calls)
+}
+
+/// The shelf of 1 to 16 stores.
+pub(crate) fn shelf_of<S: Drop>(alloc: Global, stores: Vec<S>) -> Result<Shelf<S>, Fail> {
+    if stores.len() < 1 || stores.len() > 16 {
+        return Err(Fail::from("stores"));
+    }
+    Ok(Shelf::new(alloc, stores))
+}
+
+/// So many stores, of which the one of this server fails at this call.
+pub(crate) fn stores(
+    alloc: Global,
+    count: u8,
+    server: u8,
+    call: Option<u64>,
+) -> Result<Shelf<MemStore>, Fail> {
+    let mut stores = Vec::new(alloc);
+    for k in 0..count {
+        let fails = if k == server { call } else { None };
+        stores.push(MemStore::new(alloc, calls(alloc, fails)?))?;
+    }
+    shelf_of(alloc, stores)
+}
+
+/// How many bytes a file of a server holds.
+fn length(shelf: &Shelf<MemStore>, server: u8, file: u8) -> u64 {
+    if server < shelf.len() && file < 8 {
+        return shelf.length(server, file);
+    }
+    0
+}
+
+/// How many bytes all stores hold.
+pub(crate) fn stored(shelf: &Shelf<MemStore>) -> u64 {
+    let mut sum = 0u64;
+    for k in 0..16u8 {
+        for file in 0..8u8 {
+            sum = sum.saturating_add(length(shelf, k, file));
+        }
+    }
+    sum
+}
+
+/// What a run came to: its status, its output, and what the keeper holds then.
+#[derive(Drop)]
+pub(crate) struct Ended {
+    pub(crate) status: u8,
+    pub(crate) output: Vec<u8>,
+    pub(crate) kept: Vec<u8>,
+}
+
+/// Which call of each device fails.
+#[derive(Clone, Copy)]
+pub(crate) struct Failing {
+    pub(crate) source: Option<u64>,
+    pub(crate) sink: Option<u64>,
+    pub(crate) keeper: Option<u64>,
+}
+
+pub(crate) const NONE: Failing = Failing {
+    source: None,
+    sink: None,
+    keeper: None,
+};
+
+/// The words of a line, which stand apart by single spaces.
+fn words_of(alloc: Global, line: &str) -> Result<Vec<String>, Fail> {
+    let mut words = Vec::new(alloc);
+    for word in line.split(' ').filter(|word| !word.is_empty()) {
+        words.push(word.to_string(alloc)?)?;
+    }
+    Ok(words)
+}
+
+/// The status of a run.
+fn status_of(
+    alloc: Global,
+    words: &[String],
+    script: &mut MemSource,
+    out: &mut MemSink,
+    shelf: &mut Shelf<MemStore>,
+    keeper: &mut MemKeeper,
+) -> u8 {
+    wtf(alloc, words, script, out, shelf, keeper)
+}
+
+/// A run over these stores and a keeper that holds these bytes.
+pub(crate) fn run_on(
+    alloc: Global,
+    words: &str,
+    script: &[u8],
+    failing: Failing,
+    shelf: &mut Shelf<MemStore>,
+    kept: &[u8],
+) -> Result<Ended, Fail> {
+    let words = words_of(alloc, words)?;
+    let mut script = MemSource::new(alloc, script.to_vec(alloc)?, calls(alloc, failing.source)?);
+    let mut out = MemSink::new(alloc, calls(alloc, failing.sink)?);
+    let mut keeper = MemKeeper::new(alloc, kept.to_vec(alloc)?, calls(alloc, failing.keeper)?);
+    let words = words.as_slice();
+    let status = status_of(alloc, words, &mut script, &mut out, shelf, &mut keeper);
+    Ok(Ended {
+        status,
+        output: out.taken().to_vec(alloc)?,
+        kept: keeper.held().to_vec(alloc)?,
+    })
+}
+
+/// A run of the first script over sixteen empty stores and an empty keeper.
+pub(crate) fn run(alloc: Global, words: &str, failing: Failing) -> Result<Ended, Fail> {
+    let mut shelf = stores(alloc, 16, 0, None)?;
+    run_on(alloc, words, SCRIPT, failing, &mut shelf, &[])
+}
