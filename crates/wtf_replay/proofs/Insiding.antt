@@ -30,7 +30,8 @@ use Rattle.wtf_meta.proofs.Named.{EditsBytes-append}
 use Rattle.wtf_region.specs.Inside.{is_inside, IsStoredInside}
 use Rattle.wtf_region.proofs.InsideLaws.{inside_stays}
 use Rattle.wtf_rw.specs.Stored.{SliceBytes}
-use Rattle.wtf_rw.proofs.InsideWays.{part_stays, value_stays, map_stays, pieces_stay, session_stays, slice_stays}
+use Rattle.wtf_steps.proofs.InsideWays.{part_stays, value_stays, map_stays, pieces_stay, session_stays}
+use Rattle.wtf_rw.proofs.InsideWays.{slice_stays}
 use Rattle.wtf_replay.specs.Views.{TxnView, in_hand}
 use Rattle.wtf_replay.specs.Tried.{KeepsMaps}
 use Rattle.wtf_replay.specs.Insides.{HandBytes, LogBytes, IsHandInside, IsLogInside, IsInsideTxn}

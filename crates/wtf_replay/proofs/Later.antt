@@ -25,7 +25,7 @@ use Rattle.wtf_meta.specs.Trees.{NodeAt, IsBody, Stands}
 use Rattle.wtf_meta.proofs.Telling.{TellsOn, HasBytes-later, is_told-later}
 use Rattle.wtf_region.specs.Inside.{is_inside}
 use Rattle.wtf_region.proofs.InsideLaws.{inside_stays}
-use Rattle.wtf_rw.proofs.InsideWays.{map_stays}
+use Rattle.wtf_steps.proofs.InsideWays.{map_stays}
 use Rattle.wtf_replay.specs.Views.{TxnView}
 use Rattle.wtf_replay.specs.Sounds.{TellsMap}
 use Rattle.wtf_replay.specs.Replays.{DeviatesOn}

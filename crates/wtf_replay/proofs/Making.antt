@@ -36,9 +36,10 @@ use Rattle.wtf_meta.proofs.Moves.{done-same}
 use Rattle.wtf_rw.specs.declared.op.Given.TheVariants.{Fresh, Stored}
 use Rattle.wtf_rw.specs.declared.op.RwOp.{RwOp}
 use Rattle.wtf_rw.specs.declared.op.RwOp.TheVariants as rw
-use Rattle.wtf_rw.specs.Steps.{IsStepWith, IsRefusal}
+use Rattle.wtf_steps.specs.Steps.{IsStepWith, IsRefusal}
 use Rattle.wtf_rw.specs.Stored.{SliceBytes, TellSlice, Answers}
-use Rattle.wtf_rw.specs.Ops.{Scene, DoesRw, op_of, RwBytes}
+use Rattle.wtf_steps.specs.Scenes.{Scene}
+use Rattle.wtf_rw.specs.Ops.{DoesRw, op_of, RwBytes}
 use Rattle.wtf_rw.proofs.InsideWays.{does_named}
 use Rattle.wtf_replay.specs.Views.{in_hand}
 use Rattle.wtf_replay.specs.Sounds.{TellsMap, IsToldStep, IsDue, tells_slice}

@@ -22,7 +22,7 @@ use Rattle.wtf_rw.specs.declared.op.Given.{Given}
 use Rattle.wtf_rw.specs.declared.op.Given.TheVariants.{Fresh, Stored}
 use Rattle.wtf_rw.specs.declared.op.RwOp.{RwOp}
 use Rattle.wtf_rw.specs.declared.op.RwOp.TheVariants as rw
-use Rattle.wtf_rw.specs.Steps.{IsRefusal}
+use Rattle.wtf_steps.specs.Steps.{IsRefusal}
 use Rattle.wtf_rw.specs.Stored.{SliceBytes, TellSlice}
 use Rattle.wtf_rw.specs.Ops.{op_of, Writes, IsWhole, RwBytes, IsFormRw, IsRwOwn, LacksOwn, StoresNone, IsRwFault, IsBare}
 use Rattle.wtf_replay.specs.Built.{is_rw_op, is_slice_op, IsNameOp, IsPlainOp, IsFormPlain, IsOpOf, IsFresh, IsStored, data_of, with_data}

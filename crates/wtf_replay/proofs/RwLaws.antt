@@ -30,7 +30,7 @@ use Rattle.wtf_rw.specs.declared.op.Given.{Given}
 use Rattle.wtf_rw.specs.declared.op.Given.TheVariants.{Fresh, Stored}
 use Rattle.wtf_rw.specs.declared.op.RwOp.{RwOp}
 use Rattle.wtf_rw.specs.declared.op.RwOp.TheVariants as rw
-use Rattle.wtf_rw.specs.Steps.{IsRefusal}
+use Rattle.wtf_steps.specs.Steps.{IsRefusal}
 use Rattle.wtf_rw.specs.Stored.{SliceBytes, TellSlice, IsOwn, IsPutFault}
 use Rattle.wtf_rw.specs.Ops.{op_of, Writes, IsWhole, RwBytes, IsFormRw, OwnBy, IsRwOwn, LacksOwn, StoresNone, IsRwFault, IsBare, LacksSlice}
 use Rattle.wtf_rw.proofs.StoredBytes.{held_meaning}

@@ -17,9 +17,9 @@ use Rattle.wtf_meta.specs.Sessions.{SessionView}
 use Rattle.wtf_meta.specs.Calls.{Caller, Fact, Did, InHand, TellFacts, IsCall}
 use Rattle.wtf_meta.proofs.Named.{PiecesBytes-none}
 use Rattle.wtf_region.specs.declared.dev.Dev.{Dev}
-use Rattle.wtf_rw.specs.Faults.{MayFault}
-use Rattle.wtf_rw.specs.Steps.{IsStepWith}
-use Rattle.wtf_rw.specs.Ops.{Scene}
+use Rattle.wtf_steps.specs.Faults.{MayFault}
+use Rattle.wtf_steps.specs.Steps.{IsStepWith}
+use Rattle.wtf_steps.specs.Scenes.{Scene}
 use Rattle.wtf_slicing.specs.declared.op.SliceOp.{SliceOp}
 use Rattle.wtf_slicing.specs.declared.op.SliceOp.TheVariants.{Yank, Peek, Cut, Paste, Glue, Concat, Copy}
 use Rattle.wtf_slicing.specs.Ops.{op_of, IsFormSlice, DoesSlice, IsSliceFault, NeedsNoStore}

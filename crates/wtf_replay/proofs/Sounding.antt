@@ -23,7 +23,7 @@ use Rattle.wtf_log.proofs.StandingLaws.{OpsStandFor-length, OpsStandFor-push, Op
 use Rattle.wtf_meta.specs.Maps.{Map, with, metadata_at, seen}
 use Rattle.wtf_meta.specs.Contents.{Told, is_told}
 use Rattle.wtf_meta.proofs.Named.{PiecesBytes-append}
-use Rattle.wtf_rw.proofs.InsideWays.{pieces_stay}
+use Rattle.wtf_steps.proofs.InsideWays.{pieces_stay}
 use Rattle.wtf_meta.specs.Sessions.{SessionView}
 use Rattle.wtf_meta.specs.Calls.{Fact, Did, TellFacts, IsCall, IsRun}
 use Rattle.wtf_meta.proofs.Facts.{TellFacts-append}

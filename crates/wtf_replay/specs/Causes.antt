@@ -30,10 +30,10 @@ use Rattle.wtf_meta.specs.Trees.{Stands}
 use Rattle.wtf_meta.specs.Calls.{InHand, cap_for}
 use Rattle.wtf_region.specs.declared.dev.Dev.{Dev}
 use Rattle.wtf_region.specs.Devs.{GoesOn, place_in, stores}
-use Rattle.wtf_rw.specs.Faults.{MayFault}
+use Rattle.wtf_steps.specs.Faults.{MayFault, LacksBytes}
 use Rattle.wtf_rw.specs.Ops.{OwnBy}
-use Rattle.wtf_rw.specs.Reads.{LacksBytes, read_origin}
-use Rattle.wtf_rw.specs.Recorded.{found_in}
+use Rattle.wtf_rw.specs.Reads.{read_origin}
+use Rattle.wtf_steps.specs.Recorded.{found_in}
 use Rattle.wtf_rw.specs.Stored.{IsPutFault, end_place}
 use Rattle.wtf_slicing.specs.Shown.{LacksSlice}
 use Rattle.wtf_replay.specs.Views.{TxnView, in_hand, hand_of, replaying, rebased}

@@ -8,7 +8,7 @@ use Rattle.wtf_model.specs.declared.op.Op.{Op}
 use Rattle.wtf_model.specs.declared.op.Op.TheVariants as op
 use Rattle.wtf_log.specs.Calls.{Calls, own_of}
 use Rattle.wtf_log.specs.Standing.{OpStandsFor}
-use Rattle.wtf_rw.specs.Steps.{IsRefusal}
+use Rattle.wtf_steps.specs.Steps.{IsRefusal}
 use Rattle.wtf_replay.specs.Built.{data_of}
 
 -- what is kept of a call's data names each of its bytes

@@ -17,7 +17,7 @@ ghost use Rattle.wtf_meta.specs.Calls.{Caller};
 ghost use Rattle.wtf_region.specs.Devs.{IsSoundDev, GoesOn, stores, between};
 ghost use Rattle.wtf_region.specs.Inside.{is_inside};
 ghost use Rattle.wtf_region.specs.Showing.{OnlyRead};
-ghost use Rattle.wtf_rw.specs.Faults.{MayFault};
+ghost use Rattle.wtf_steps.specs.Faults.{MayFault};
 ghost use Rattle.wtf_rw.specs.Stored.{SliceBytes, TellSlice};
 ghost use Rattle.wtf_replay.specs.Views.{in_hand, replaying};
 ghost use Rattle.wtf_replay.specs.Built.{is_rw_op, is_slice_op, IsNameOp, IsPlainOp, IsFormPlain, data_of};

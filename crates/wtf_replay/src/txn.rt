@@ -14,7 +14,7 @@ ghost use Rattle.wtf_meta.specs.Maps.{seen, metadata_at};
 ghost use Rattle.wtf_region.specs.Devs.{IsSoundDev, GoesOn, stores, between};
 ghost use Rattle.wtf_region.specs.Inside.{IsStoredInside};
 ghost use Rattle.wtf_region.specs.Showing.{OnlyRead};
-ghost use Rattle.wtf_rw.specs.Faults.{MayFault};
+ghost use Rattle.wtf_steps.specs.Faults.{MayFault};
 ghost use Rattle.wtf_replay.specs.Views.{TxnView, begun, rebased, is_live, hand_of};
 ghost use Rattle.wtf_replay.specs.Refusals.{unmade, try_refusal, step_refusal};
 ghost use Rattle.wtf_replay.specs.Fits.{IsFit};

@@ -16,9 +16,9 @@ use Rattle.wtf_model.specs.declared.op.Op.TheVariants as op
 use Rattle.wtf_model.specs.Done.{Done, bytes_of_handle}
 use Rattle.wtf_model.specs.declared.limits.TheConstants.{MAX_REGIONS}
 use Rattle.wtf_meta.proofs.BodyReads.{body_appended, body_full}
-use Rattle.wtf_rw.proofs.FitsAnywhere.{fits_anywhere}
-use Rattle.wtf_rw.proofs.ModelCalls.{append-none, append-open, append-big}
-use Rattle.wtf_rw.specs.Recorded.{append_keys as due_keys}
+use Rattle.wtf_steps.proofs.FitsAnywhere.{fits_anywhere}
+use Rattle.wtf_rw.proofs.ModelCalls.{append-none}
+use Rattle.wtf_steps.proofs.ModelCalls.{append-open, append-big}
 use Rattle.wtf_values.specs.declared.key.Key.{Key}
 use Rattle.wtf_values.specs.declared.value.Delta.{Delta}
 use Rattle.wtf_meta.specs.declared.session.Handle.{Handle}
@@ -35,7 +35,8 @@ use Rattle.wtf_meta.proofs.Reading.{PiecesTell-none, PiecesTell-one}
 use Rattle.wtf_region.specs.declared.added.Added.{Added}
 use Rattle.wtf_region.specs.declared.added.Added.TheVariants as added
 use Rattle.wtf_region.specs.Edited.{Recorded, LacksRoom, IsAdded}
-use Rattle.wtf_rw.specs.Stored.{answer_of, Answers, HasRoom, ArePieces, TellsOwn, BringsSlice}
+use Rattle.wtf_steps.specs.Steps.{answer_of, in_hand, IsStepWith}
+use Rattle.wtf_rw.specs.Stored.{Answers, HasRoom, ArePieces, TellsOwn, BringsSlice}
 use Rattle.wtf_base.specs.declared.slice.Slice.{Slice}
 use Rattle.wtf_base.specs.Slices.{len_of}
 use Rattle.wtf_dev.specs.Store.{StoreKind}
@@ -44,10 +45,9 @@ use Rattle.wtf_overlay.specs.declared.part.Part.TheVariants.{Held, Zero}
 use Rattle.wtf_replica.specs.Bytes.{byte_at}
 use Rattle.wtf_meta.specs.Bytes.{PiecesBytes}
 use Rattle.wtf_rw.specs.declared.op.Done as rw
-use Rattle.wtf_rw.specs.Steps.{in_hand, IsStepWith}
 use Rattle.wtf_rw.proofs.StoredBytes.{brought}
-use Rattle.wtf_rw.proofs.Ways.{only_keys, on_file, not_open}
-use Rattle.wtf_rw.proofs.FileWays.{brings, appends, appends_too_much, body_cap, file_len_cap}
+use Rattle.wtf_steps.proofs.Ways.{only_keys, on_file, not_open}
+use Rattle.wtf_steps.proofs.FileWays.{brings, appends, appends_too_much, body_cap, file_len_cap}
 
 -- keys alone, where these pieces were stored all the same
 abbrev pub refuses : List Key → List Piece → Did
@@ -85,12 +85,6 @@ adds x b s f h ps bytes old new added.TooBig here len is = record {
   stored = refl;
   facts = λ told tell. tt;
 }
-
--- the keys that it recorded
-pub added_keys : (z : ℕ) (i : InodeId) (v : FileView) (ps : List Piece) (old new : Attempted Key Delta) (r : Added) → IsAdded z i v ps old new r
-    → new.reads ≡ old.reads ++ keys_of i (append_keys z v (pieces_len ps))
-added_keys z i v ps old new added.Done is = is.grows.reads
-added_keys z i v ps old new added.TooBig is = is.recorded.reads
 
 no_byte_told : (told : Told) (bytes : List ℕ) → length bytes ≡ 0 → PiecesTell told [] bytes
 no_byte_told told [] none = PiecesTell-none told
@@ -149,14 +143,6 @@ step_brought o sl p x b s f bytes old new a r is there len part one =
         told = λ told h. one.facts told (brings_it.told told h).0;
       };
     }
-
--- the keys that are due, by the handle
-pub keys_due : (z : ℕ) (w : Map) (o : Option Handle) (h : Handle) (i : InodeId) (n m : ℕ) (reads old : List Key) → o ≡ Some h → i ≡ h.inode → n ≡ m
-    → reads ≡ old ++ keys_of i (append_keys z (file_of i w) n) → reads ≡ old ++ due_keys z w o m
-keys_due z w o h i n m reads old is inode len e =
-    subst (λ (k : Option Handle). reads ≡ old ++ due_keys z w k m) (sym is)
-    (subst (λ (k : ℕ). reads ≡ old ++ keys_of h.inode (append_keys z (file_of h.inode w) k)) len
-    (subst (λ (j : InodeId). reads ≡ old ++ keys_of j (append_keys z (file_of j w) n)) inode e))
 
 -- an attempt that drops the changes that came, and keeps the keys
 pub record Rewound (old mid new : Attempted Key Delta) : Type 0 where

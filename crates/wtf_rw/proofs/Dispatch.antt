@@ -9,8 +9,9 @@ use Rattle.wtf_meta.specs.Maps.{Map}
 use Rattle.wtf_meta.specs.Calls.{Caller, Did, InHand}
 use Rattle.wtf_meta.specs.Sessions.{SessionView}
 use Rattle.wtf_rw.specs.declared.op.RwOp.{RwOp}
-use Rattle.wtf_rw.specs.Steps.{IsStepWith, NeedsNoBytes}
-use Rattle.wtf_rw.specs.Ops.{Scene, IsRwStep, MayRwFault}
+use Rattle.wtf_steps.specs.Steps.{IsStepWith, NeedsNoBytes}
+use Rattle.wtf_steps.specs.Scenes.{Scene}
+use Rattle.wtf_rw.specs.Ops.{IsRwStep, MayRwFault}
 
 -- the same call, slice and answer by other names
 pub as_named : {S : Type 0} (sc : Scene S) (z : ℕ) (old new : InHand) (o p : RwOp) (own q : Option Slice) (a r : Answer) → o ≡ p → own ≡ q → a ≡ r → IsRwStep sc z old new p q r → IsRwStep sc z old new o own a

@@ -1,7 +1,6 @@
 -- What a call leaves lies inside the stores, where what it met did.
 use Rattle.std.proofs.Common.{◌≡◌, ℕ, ◌≤◌, Bool, true, List, [], length, replicate, Option, None, Some, refl, sym, subst}
 use Rattle.std.proofs.lemmas.List.{length-replicate}
-use Rattle.std.proofs.lemmas.List.Elements.{All-weaker}
 use Rattle.wtf_base.specs.declared.slice.Slice.{Slice}
 use Rattle.wtf_base.specs.Slices.{len_of}
 use Rattle.wtf_dev.specs.Store.{StoreKind, KindLaws}
@@ -9,8 +8,7 @@ use Rattle.wtf_dev.specs.Each.{EachFollows}
 use Rattle.wtf_kv.specs.Stores.{Store}
 use Rattle.wtf_occ.specs.Attempts.{Attempted}
 use Rattle.wtf_occ.proofs.AttemptLaws.{map_seen-by}
-use Rattle.wtf_overlay.specs.Origin.{Place, part_origin}
-use Rattle.wtf_overlay.specs.declared.part.Entry.{Entry}
+use Rattle.wtf_overlay.specs.Origin.{Place}
 use Rattle.wtf_overlay.specs.declared.part.Part.{Part}
 use Rattle.wtf_overlay.specs.declared.part.Part.TheVariants.{Held}
 use Rattle.wtf_overlay.specs.declared.part.Piece.{Piece}
@@ -19,14 +17,13 @@ use Rattle.wtf_model.specs.declared.answer.Answer.{Answer}
 use Rattle.wtf_values.specs.declared.key.Key.{Key}
 use Rattle.wtf_values.specs.declared.value.Delta.{Delta}
 use Rattle.wtf_values.specs.declared.value.Value.{Value}
-use Rattle.wtf_values.specs.declared.value.Value.TheVariants as value
 use Rattle.wtf_values.specs.Keys.{key_cmp}
 use Rattle.wtf_values.specs.Outcomes.{outcome_of}
 use Rattle.wtf_meta.specs.declared.session.Handle.{Handle}
-use Rattle.wtf_meta.specs.Bytes.{PartBytes, EntryBytes, PiecesBytes, ValueBytes, MapBytes}
+use Rattle.wtf_meta.specs.Bytes.{PartBytes, PiecesBytes, MapBytes}
 use Rattle.wtf_meta.specs.Calls.{Did, Names}
 use Rattle.wtf_meta.specs.Maps.{Map, seen}
-use Rattle.wtf_meta.specs.Sessions.{SessionView, SessionBytes, handle_in}
+use Rattle.wtf_meta.specs.Sessions.{SessionView, handle_in}
 use Rattle.wtf_meta.proofs.MapBytes.{with_bytes}
 use Rattle.wtf_meta.proofs.Named.{PiecesBytes-none, PiecesBytes-push}
 use Rattle.wtf_region.specs.declared.dev.Dev.{Dev}
@@ -36,34 +33,16 @@ use Rattle.wtf_region.proofs.InsideLaws.{inside_stays, slice_inside}
 use Rattle.wtf_rw.specs.declared.op.Given.TheVariants.{Fresh, Stored}
 use Rattle.wtf_rw.specs.declared.op.RwOp.{RwOp}
 use Rattle.wtf_rw.specs.declared.op.RwOp.TheVariants as rw
-use Rattle.wtf_rw.specs.Ops.{Scene, DoesRw, Writes, IsWhole, IsRwStep, OwnBy, IsRwOwn, RwBytes, AreInside}
-use Rattle.wtf_rw.specs.Steps.{in_hand}
+use Rattle.wtf_steps.specs.Scenes.{Scene, AreInside}
+use Rattle.wtf_rw.specs.Ops.{DoesRw, Writes, IsWhole, IsRwStep, OwnBy, IsRwOwn, RwBytes}
+use Rattle.wtf_steps.specs.Steps.{in_hand}
 use Rattle.wtf_rw.specs.Stored.{ArePieces, SliceBytes, IsOwn}
+use Rattle.wtf_steps.proofs.InsideWays.{part_stays, map_stays, session_stays}
 
--- what follows of the places of a byte does so of all bytes
 module _ (P Q : List Place → Bool) (stays : (places : List Place) → P places ≡ true → Q places ≡ true) where
-  pub part_stays : (n : ℕ) (p : Part) → PartBytes P n p → PartBytes Q n p
-  part_stays n p h = λ i below. stays (part_origin p i) (h i below)
-
-  pub value_stays : (v : Option Value) → ValueBytes P v → ValueBytes Q v
-  value_stays None h = tt
-  value_stays (Some (value.Node n)) h = tt
-  value_stays (Some (value.Names ns)) h = tt
-  value_stays (Some (value.Last r)) h = tt
-  value_stays (Some (value.Region v)) h = record { plain = h.plain; entries = All-weaker (EntryBytes P) (EntryBytes Q) (λ (e : Entry) was. part_stays e.len e.part was) v.list h.entries }
-
-  pub map_stays : (w : Map) → MapBytes P w → MapBytes Q w
-  map_stays w h = λ q. value_stays (w q) (h q)
-
-  pub pieces_stay : (ps : List Piece) → PiecesBytes P ps → PiecesBytes Q ps
-  pieces_stay ps h = All-weaker (λ (p : Piece). PartBytes P p.len p.part) (λ (p : Piece). PartBytes Q p.len p.part) (λ (p : Piece) was. part_stays p.len p.part was) ps h
-
-  pub session_stays : (s : SessionView) → SessionBytes P s → SessionBytes Q s
-  session_stays s h = λ label ps e. pieces_stay ps (h label ps e)
-
   pub slice_stays : (o : Option Slice) → SliceBytes P o → SliceBytes Q o
   slice_stays None h = tt
-  slice_stays (Some s) h = part_stays (len_of s) (Held s) h
+  slice_stays (Some s) h = part_stays P Q stays (len_of s) (Held s) h
 
   given_stays : (o : RwOp) → RwBytes P o → RwBytes Q o
   given_stays (rw.Write f (Fresh bs)) h = tt
@@ -166,15 +145,4 @@ keeps_inside {kind = kind} laws old new kv at into s t o own a enough each step 
     let names : Names (seen kv at) s t one.did Q = one.is_call.names Q refl map (session_stays P Q stays s were.1) brought in (
       subst (λ (w : Map). MapBytes Q w) (sym (map_seen-by key_cmp outcome_of kv at into one.did.keys one.did.edits one.grows)) (with_bytes Q refl one.did.edits (seen kv at) map names.edits),
       names.slices,
-    )
-
--- also where nothing but the stores goes on
-pub stays_inside : {S : Type 0} {kind : StoreKind S} → KindLaws kind → (old new : Dev S) (w u : Map) (s t : SessionView) → old.settings.servers ≤ length (stores old)
-    → EachFollows kind (stores old) (stores new) [] → u ≡ w → t ≡ s → AreInside kind (stores old) old.settings w s → AreInside kind (stores new) old.settings u t
-stays_inside {kind = kind} laws old new w u s t enough each map hand were =
-    let P : List Place → Bool = is_inside kind (stores old) old.settings in
-    let Q : List Place → Bool = is_inside kind (stores new) old.settings in
-    let stays : (places : List Place) → P places ≡ true → Q places ≡ true = inside_stays laws each old.settings enough in (
-      subst (λ (m : Map). MapBytes Q m) (sym map) (map_stays P Q stays w were.0),
-      subst (λ (v : SessionView). SessionBytes Q v) (sym hand) (session_stays P Q stays s were.1),
     )

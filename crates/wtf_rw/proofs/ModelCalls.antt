@@ -1,5 +1,5 @@
 -- What the definitions' calls on handles and bytes leave and answer, and each refusal.
-use Rattle.std.proofs.Common.{◌≡◌, ℕ, ◌+◌, ◌-◌, ◌≤◌, ◌<◌, nat_le, Bool, true, false, List, [], ◌∷◌, ◌++◌, length, Option, Some, None, Ok, Err, Result, if◌then◌else◌, refl, ap, ◌∙◌, arith}
+use Rattle.std.proofs.Common.{◌≡◌, ℕ, ◌+◌, ◌-◌, ◌≤◌, ◌<◌, nat_le, Bool, true, false, List, [], ◌∷◌, ◌++◌, length, Option, Some, None, Ok, Err, Result, if◌then◌else◌, refl, ap, ◌∙◌}
 use Rattle.std.proofs.lemmas.Bool.{le-leb, lt-leb}
 use Rattle.std.specs.FinMap.{get, remove}
 use Rattle.wtf_model.specs.declared.answer.Word.{Word}
@@ -16,7 +16,6 @@ use Rattle.wtf_model.specs.HandleCalls.{close, seek, tell}
 use Rattle.wtf_model.specs.ByteCalls.{read, write, append, truncate, punch, written, resized, zeroed}
 use Rattle.wtf_model.specs.Call.{call, or_refused}
 use Rattle.wtf_model.specs.Examples.{unchanged}
-use Rattle.wtf_model.proofs.CallLaws.{call-write, call-write_none, call-write_too_big}
 use Rattle.wtf_rw.specs.Seeks.{lands}
 
 module _ (cap : ℕ) (s : Session) (f : ℕ) where
@@ -81,31 +80,6 @@ module _ (cap : ℕ) (s : Session) (f : ℕ) where
     seek-open (to.Fwd n) = ap (λ o. or_refused s (open_handle o >>= (λ h. in_range cap (h.off + n) >>= (λ _. done (moved s f h (h.off + n)) answer.Okay)))) there ∙ tested (nat_le (h.off + n) cap) (h.off + n)
     seek-open (to.Back n) = ap (λ o. or_refused s (open_handle o >>= (λ h. in_range h.off n >>= (λ _. done (moved s f h (h.off - n)) answer.Okay)))) there ∙ tested (nat_le n h.off) (h.off - n)
     seek-open to.End = ap (λ o. or_refused s (open_handle o >>= (λ h. done (moved s f h (length (bytes_of_handle s h))) answer.Okay))) there
-
-    pub write-open : (bytes : List ℕ) → 0 < length bytes → h.off + length bytes ≤ cap
-        → call cap s (op.Write f bytes) ≡ record { session = moved (put_bytes s h.path (written (bytes_of_handle s h) h.off bytes)) f h (h.off + length bytes); answer = answer.Okay }
-    write-open [] some fit = absurd (omega arith)
-    write-open (b ∷ bs) some fit = call-write cap s f b bs h there fit
-
-    pub write-nothing : (bytes : List ℕ) → length bytes ≡ 0 → call cap s (op.Write f bytes) ≡ unchanged s answer.Okay
-    write-nothing [] none = call-write_none cap s f h there
-    write-nothing (b ∷ bs) none = absurd (omega arith)
-
-    pub write-big : (bytes : List ℕ) → 0 < length bytes → cap < h.off + length bytes → call cap s (op.Write f bytes) ≡ unchanged s (answer.Refused TooBig)
-    write-big [] some past = absurd (omega arith)
-    write-big (b ∷ bs) some past = call-write_too_big cap s f b bs h there past
-
-    pub append-open : (bytes : List ℕ) → length (bytes_of_handle s h) + length bytes ≤ cap → call cap s (op.Append f bytes) ≡ record { session = put_bytes s h.path (bytes_of_handle s h ++ bytes); answer = answer.Okay }
-    unfolding append
-    append-open bytes fit =
-        ap (λ o. or_refused s (open_handle o >>= (λ h. fits cap (length (bytes_of_handle s h) + length bytes) >>= (λ _. done (put_bytes s h.path (bytes_of_handle s h ++ bytes)) answer.Okay)))) there
-        ∙ ap (λ v. or_refused s ((if v then Ok tt else Err TooBig) >>= (λ _. done (put_bytes s h.path (bytes_of_handle s h ++ bytes)) answer.Okay))) (le-leb (length (bytes_of_handle s h) + length bytes) cap fit)
-
-    pub append-big : (bytes : List ℕ) → cap < length (bytes_of_handle s h) + length bytes → call cap s (op.Append f bytes) ≡ unchanged s (answer.Refused TooBig)
-    unfolding append
-    append-big bytes past =
-        ap (λ o. or_refused s (open_handle o >>= (λ h. fits cap (length (bytes_of_handle s h) + length bytes) >>= (λ _. done (put_bytes s h.path (bytes_of_handle s h ++ bytes)) answer.Okay)))) there
-        ∙ ap (λ v. or_refused s ((if v then Ok tt else Err TooBig) >>= (λ _. done (put_bytes s h.path (bytes_of_handle s h ++ bytes)) answer.Okay))) (lt-leb (length (bytes_of_handle s h) + length bytes) cap past)
 
     pub truncate-open : (n : ℕ) → n ≤ cap → call cap s (op.Truncate f n) ≡ record { session = put_bytes s h.path (resized (bytes_of_handle s h) n); answer = answer.Okay }
     unfolding truncate

@@ -1,6 +1,5 @@
 -- The way through a read, on all maps at once.
-use Rattle.std.proofs.Common.{◌≡◌, ℕ, ◌+◌, ◌-◌, ◌*◌, ◌<◌, ◌≤◌, min, List, [], ◌∷◌, ◌++◌, length, get_or, Some, refl, sym, ap, ◌∙◌, subst, arith, inl, inr, zero-add}
-use Rattle.std.proofs.lemmas.Bool.{cases_lt}
+use Rattle.std.proofs.Common.{◌≡◌, ℕ, ◌+◌, ◌-◌, ◌*◌, ◌<◌, ◌≤◌, min, List, [], ◌++◌, length, get_or, Some, refl, sym, ap, ◌∙◌, subst, arith, zero-add}
 use Rattle.wtf_base.specs.declared.ids.InodeId.{InodeId}
 use Rattle.wtf_dev.specs.Store.{StoreKind, KindLaws}
 use Rattle.wtf_dev.specs.Each.{EachFollows}
@@ -15,7 +14,6 @@ use Rattle.wtf_model.specs.declared.op.Op.TheVariants as op
 use Rattle.wtf_model.specs.Done.{Done, bytes_of_handle, moved, part}
 use Rattle.wtf_model.specs.Call.{call}
 use Rattle.wtf_model.proofs.CallLaws.{call-read}
-use Rattle.wtf_values.specs.declared.key.Key.{Key}
 use Rattle.wtf_meta.specs.declared.session.Handle.{Handle}
 use Rattle.wtf_meta.specs.Maps.{Map}
 use Rattle.wtf_meta.specs.Bytes.{MapBytes, PiecesBytes}
@@ -24,7 +22,7 @@ use Rattle.wtf_meta.specs.Files.{file_len, file_origin}
 use Rattle.wtf_meta.specs.FileEdits.{file_of}
 use Rattle.wtf_meta.specs.Appends.{keys_of, region_keys, touched}
 use Rattle.wtf_meta.specs.Sessions.{SessionView, handle_in, SetsHandle, moved_to}
-use Rattle.wtf_meta.specs.Calls.{Caller, cap_for, Did, IsDone, IsCall}
+use Rattle.wtf_meta.specs.Calls.{Caller, cap_for, IsDone, IsCall}
 use Rattle.wtf_meta.proofs.BodyReads.{body_length, body_read}
 use Rattle.wtf_meta.proofs.Handling.{holds-moved}
 use Rattle.wtf_meta.proofs.Named.{PiecesBytes-read, pieces_named}
@@ -32,13 +30,10 @@ use Rattle.wtf_meta.proofs.Reading.{TellBytes-one}
 use Rattle.wtf_meta.proofs.Standing.{stands-same}
 use Rattle.wtf_region.specs.Showing.{Shown}
 use Rattle.wtf_region.proofs.ShowLaws.{told_stays, ShowsBytes-tell, shown_since}
-use Rattle.wtf_rw.specs.Recorded.{found, found_in, len_keys}
-use Rattle.wtf_rw.proofs.Ways.{on_file}
-use Rattle.wtf_rw.proofs.FileWays.{file_len_cap}
-
--- keys, and bytes that were read
-abbrev pub shows : List Key → List Piece → List ℕ → Did
-shows keys ps bytes = record { keys = keys; edits = []; facts = record { pieces = ps; bytes = bytes } ∷ []; stored = [] }
+use Rattle.wtf_steps.specs.Recorded.{found_in, len_keys}
+use Rattle.wtf_steps.proofs.Ways.{on_file}
+use Rattle.wtf_steps.proofs.FileWays.{file_len_cap}
+use Rattle.wtf_steps.proofs.ReadWays.{shows}
 
 pub reads_call : (x : Caller) (b : Map) (s t : SessionView) (f n k : ℕ) (h : Handle) (ps : List Piece) (bytes : List ℕ) → 0 < x.size → handle_in s f ≡ Some h → k ≡ found_in x.size b h n
     → Plans ps k (λ j. file_origin x.size (file_of h.inode b) (h.off + j)) → length bytes ≡ k → SetsHandle f (Some (moved_to (h.off + k) h)) s t
@@ -73,19 +68,6 @@ reads_call x b s t f n k h ps bytes pos here count plans len set = record {
       });
 }
 
--- a range of no byte begins anywhere
-pub same_touched : (b from off k : ℕ) → (0 < k → from ≡ off) → touched b from k ≡ touched b off k
-same_touched b from off k is = elim (cases_lt 0 k) [
-  | inl some ↦ ap (λ (o : ℕ). touched b o k) (is some)
-  | inr none ↦ let z : k ≡ 0 = omega arith in ap (λ (m : ℕ). touched b from m) z ∙ sym (ap (λ (m : ℕ). touched b off m) z)
-]
-
-pub same_plans : (ps : List Piece) (from off k : ℕ) (g : ℕ → List Place) → (0 < k → from ≡ off) → Plans ps k (λ j. g (from + j)) → Plans ps k (λ j. g (off + j))
-same_plans ps from off k g is plans = record {
-  len = plans.len;
-  origin = λ i below. plans.origin i below ∙ ap (λ (o : ℕ). g (o + i)) (is (omega (arith, below)));
-}
-
 -- what was shown is told, where all bytes of the map are
 pub shown_tells : {S : Type 0} {kind : StoreKind S} → KindLaws kind → {old mid new : List S} → EachFollows kind old mid [] → EachFollows kind mid new [] → (z : ℕ) (i : InodeId) (w : Map) (ps : List Piece) (off k : ℕ) (bytes : List ℕ)
     → Plans ps k (λ j. file_origin z (file_of i w) (off + j)) → (shown : Shown (byte_at kind mid) k (λ j. pieces_origin ps (0 + j)) [] bytes) → MapBytes (is_told (byte_at kind old)) w → PiecesTell (byte_at kind new) ps bytes
@@ -102,19 +84,6 @@ shown_tells {kind = kind} laws {old = old} {mid = mid} {new = new} first next z 
           told_stays laws next (pieces_origin ps j) (get_or bytes j 0) (told_stays laws first (pieces_origin ps j) (get_or bytes j 0)
           (ap (λ (m : ℕ). meaning told (pieces_origin ps m)) (sym (zero-add j)) ∙ all.tells j (omega (arith, below, plans.len))));
     }
-
--- the bytes that were found, as they are due
-pub found_due : (cap z len off n k : ℕ) (i : InodeId) (w : Map) (h : Handle) → k ≡ found cap len off n → cap ≡ MAX_REGIONS * z → len ≡ file_len z (file_of i w) → i ≡ h.inode → off ≡ h.off → k ≡ found_in z w h n
-found_due cap z len off n k i w h is caps lens inode offs =
-    is ∙ ap (λ (c : ℕ). found c len off n) caps ∙ ap (λ (l : ℕ). found (MAX_REGIONS * z) l off n) (lens ∙ ap (λ (j : InodeId). file_len z (file_of j w)) inode)
-    ∙ ap (λ (o : ℕ). found (MAX_REGIONS * z) (file_len z (file_of h.inode w)) o n) offs
-
-pub plans_due : (z : ℕ) (u w : Map) (h : Handle) (i : InodeId) (off from k : ℕ) (ps : List Piece) → u ≡ w → i ≡ h.inode → off ≡ h.off → (0 < k → from ≡ off) → Plans ps k (λ j. file_origin z (file_of i u) (from + j))
-    → Plans ps k (λ j. file_origin z (file_of h.inode w) (h.off + j))
-plans_due z u w h i off from k ps map inode offs is plans =
-    subst (λ (m : Map). Plans ps k (λ j. file_origin z (file_of h.inode m) (h.off + j))) map
-    (subst (λ (q : InodeId). Plans ps k (λ j. file_origin z (file_of q u) (h.off + j))) inode
-    (subst (λ (o : ℕ). Plans ps k (λ j. file_origin z (file_of i u) (o + j))) offs (same_plans ps from off k (file_origin z (file_of i u)) is plans)))
 
 pub shown_len : {told : Told} {k : ℕ} {f : ℕ → List Place} {bytes : List ℕ} → Shown told k f [] bytes → length bytes ≡ k
 shown_len shown = ap length shown.more ∙ shown.are.len

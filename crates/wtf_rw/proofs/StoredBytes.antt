@@ -30,10 +30,10 @@ use Rattle.wtf_meta.specs.Calls.{Caller, InHand, IsCall}
 use Rattle.wtf_meta.proofs.Named.{PiecesBytes-none, PiecesBytes-push}
 use Rattle.wtf_meta.proofs.Reading.{PiecesTell-one}
 use Rattle.wtf_rw.specs.declared.op.Done.{Done}
-use Rattle.wtf_rw.specs.Steps.{IsStepWith}
+use Rattle.wtf_steps.specs.Steps.{IsStepWith}
 use Rattle.wtf_rw.specs.Stored.{TellsOwn, BringsSlice, SliceBytes, TellSlice}
-use Rattle.wtf_rw.proofs.Ways.{only_keys}
-use Rattle.wtf_rw.proofs.FileWays.{brings}
+use Rattle.wtf_steps.proofs.Ways.{only_keys}
+use Rattle.wtf_steps.proofs.FileWays.{brings}
 
 some_pointer : (n : ℕ) (e : Extents) → (p : Pointer) × (ps : List Pointer) × (pointers_to n e ≡ p ∷ ps)
 some_pointer n (One a) = (pointer_to n a, [], refl)

@@ -1,11 +1,9 @@
 -- Each way through a call on handles, on all maps at once.
-use Rattle.std.proofs.Common.{◌≡◌, ℕ, ◌+◌, List, [], ◌∷◌, length, Option, None, Some, refl, sym, ap, ◌∙◌, subst}
+use Rattle.std.proofs.Common.{◌≡◌, ℕ, ◌+◌, List, [], ◌∷◌, length, None, Some, refl, sym, ap, ◌∙◌, subst}
 use Rattle.std.specs.FinMap.{get, remove}
 use Rattle.wtf_base.specs.declared.ids.InodeId.{InodeId}
 use Rattle.wtf_kv.specs.Edits.{Agree}
-use Rattle.std.specs.Option.{option_map}
-use Rattle.wtf_occ.specs.Attempts.{GrowsBy}
-use Rattle.wtf_model.specs.declared.answer.Word.TheVariants.{NoHandle, InUse, NoEnt, IsDir, Range}
+use Rattle.wtf_model.specs.declared.answer.Word.TheVariants.{InUse, NoEnt, IsDir, Range}
 use Rattle.wtf_model.specs.declared.answer.Answer.{Answer}
 use Rattle.wtf_model.specs.declared.answer.Answer.TheVariants as answer
 use Rattle.wtf_model.specs.declared.op.Op.{Op}
@@ -13,8 +11,7 @@ use Rattle.wtf_model.specs.declared.op.Op.TheVariants as op
 use Rattle.wtf_model.specs.declared.op.Seek.{Seek}
 use Rattle.wtf_model.specs.Tree.{Tree, Dir, File, bytes_of}
 use Rattle.wtf_model.specs.Session.{Session}
-use Rattle.wtf_model.specs.Session as model
-use Rattle.wtf_model.specs.Done.{Done, bytes_of_handle, bytes_or_none, moved}
+use Rattle.wtf_model.specs.Done.{Done, bytes_of_handle, moved}
 use Rattle.wtf_model.specs.Call.{call}
 use Rattle.wtf_model.specs.Examples.{unchanged}
 use Rattle.wtf_model.specs.declared.op.Seek.TheVariants as to
@@ -29,23 +26,18 @@ use Rattle.wtf_meta.specs.Files.{file_len}
 use Rattle.wtf_meta.specs.FileEdits.{file_of}
 use Rattle.wtf_meta.specs.NameEdits.{node_of}
 use Rattle.wtf_meta.specs.Trees.{LeadsTo, IsBody, Stands}
-use Rattle.wtf_meta.specs.Sessions.{SessionView, handle_in, slice_in, SetsHandle, moved_to, IsHandleOf, Holds}
-use Rattle.wtf_meta.specs.Calls.{Caller, cap_for, Did, InHand, IsDone, IsCall}
+use Rattle.wtf_meta.specs.Sessions.{SessionView, handle_in, slice_in, SetsHandle, moved_to, Holds}
+use Rattle.wtf_meta.specs.Calls.{Caller, cap_for, IsDone, IsCall}
 use Rattle.wtf_meta.proofs.BodyReads.{body_length}
-use Rattle.wtf_meta.proofs.Handling.{open_at, closed_at, holds-handle, holds-closed, holds-moved}
-use Rattle.wtf_meta.proofs.Moves.{done-same}
+use Rattle.wtf_meta.proofs.Handling.{holds-handle, holds-closed, holds-moved}
 use Rattle.wtf_meta.proofs.Nodes.{node_of-is, node-missing, node-folder}
 use Rattle.wtf_meta.proofs.Standing.{stands-same, leads-file}
 use Rattle.wtf_index.specs.Checks.{stands_at}
-use Rattle.wtf_rw.specs.Recorded.{len_keys, place_keys}
+use Rattle.wtf_steps.specs.Recorded.{len_keys}
+use Rattle.wtf_rw.specs.Recorded.{place_keys}
 use Rattle.wtf_rw.specs.Seeks.{lands}
-use Rattle.wtf_rw.specs.Steps.{IsStepWith, NeedsNoBytes, spot_of}
-use Rattle.wtf_rw.specs.declared.handles.Spot.{Spot}
+use Rattle.wtf_steps.proofs.Ways.{only_keys, OnFile, on_file, not_open, stays}
 use Rattle.wtf_rw.proofs.ModelCalls.{close-open, tell-open, seek-open, sought, stat-at}
-
--- what was recorded, where nothing was changed, read or stored
-abbrev pub only_keys : List Key → Did
-only_keys keys = record { keys = keys; edits = []; facts = []; stored = [] }
 
 -- what the definitions' call leaves, where it changes handles alone
 pub record Turned (x : Caller) (told : Told) (w : Map) (t : SessionView) (S : Session) (o : Op (List ℕ)) (a : Answer) : Type 0 where
@@ -54,29 +46,7 @@ pub record Turned (x : Caller) (told : Told) (w : Map) (t : SessionView) (S : Se
   pub tree : left.tree ≡ S.tree
   pub holds : Holds told w t left
 
--- an open handle of the definitions' session, and its file
-pub record OnFile (b : ℕ) (told : Told) (w : Map) (S : Session) (f : ℕ) (h : Handle) : Type 0 where
-  pub handle : model.Handle
-  pub there : get S.handles f ≡ Some handle
-  pub of : IsHandleOf w h handle
-  pub body : IsBody b told w h.inode (bytes_of_handle S handle)
-
 module _ (x : Caller) (told : Told) (w : Map) (s : SessionView) (S : Session) (st : Stands x.size told x.tx x.calls w S.tree) (holds : Holds told w s S) where
-  pub on_file : (f : ℕ) (h : Handle) → handle_in s f ≡ Some h → OnFile x.size told w S f h
-  on_file f h e =
-      let at = open_at w (handle_in s f) (get S.handles f) h e (holds.handles f) in
-      let file = leads-file x.size told x.tx x.calls w S.tree st h.path h.inode at.of.leads in
-      let bytes : bytes_of_handle S at.handle ≡ file.bytes = ap (λ (p : List ℕ). bytes_or_none (bytes_of (get S.tree p))) at.of.path ∙ ap (λ o. bytes_or_none (bytes_of o)) file.there in
-      record {
-        handle = at.handle;
-        there = at.there;
-        of = at.of;
-        body = subst (λ (bs : List ℕ). IsBody x.size told w h.inode bs) (sym bytes) file.body;
-      }
-
-  pub not_open : (f : ℕ) → handle_in s f ≡ None → get S.handles f ≡ None
-  not_open f e = closed_at w (handle_in s f) (get S.handles f) e (holds.handles f)
-
   -- a handle that is moved
   pub turned-moved : (t : SessionView) (f off : ℕ) (h : Handle) (o : Op (List ℕ)) (a : Answer) (on : OnFile x.size told w S f h) → SetsHandle f (Some (moved_to off h)) s t
       → call (cap_for x) S o ≡ record { session = moved S f on.handle off; answer = a } → Turned x told w t S o a
@@ -88,17 +58,6 @@ module _ (x : Caller) (told : Told) (w : Map) (s : SessionView) (S : Session) (s
   }
 
 module _ (x : Caller) (b : Map) (s : SessionView) where
-  -- nothing changes
-  pub stays : (keys : List Key) (o : Op (List ℕ)) (a : Answer)
-      → ((told : Told) (w : Map) (S : Session) → Agree keys b w → Stands x.size told x.tx x.calls w S.tree → Holds told w s S → call (cap_for x) S o ≡ unchanged S a)
-      → IsCall x b s s (only_keys keys) o a
-  stays keys o a due = record {
-    fits = refl;
-    names = λ P hole map old stored. record { edits = tt; facts = tt; slices = old };
-    acts = λ told w S agree fit facts st holds.
-        subst (λ (d : Done). IsDone x told w w s d a) (sym (due told w S agree st holds)) (done-same x told w s S st holds a);
-  }
-
   -- handles change alone
   pub turns : (t : SessionView) (keys : List Key) (o : Op (List ℕ)) (a : Answer) → ((label : ℕ) → slice_in t label ≡ slice_in s label)
       → ((told : Told) (w : Map) (S : Session) → Agree keys b w → Stands x.size told x.tx x.calls w S.tree → Holds told w s S → Turned x told w t S o a)
@@ -116,34 +75,29 @@ module _ (x : Caller) (b : Map) (s : SessionView) where
         });
   }
 
-  -- a handle that is not open
-  pub no_handle : (f : ℕ) (o : Op (List ℕ)) → handle_in s f ≡ None
-      → ((S : Session) → get S.handles f ≡ None → call (cap_for x) S o ≡ unchanged S (answer.Refused NoHandle)) → IsCall x b s s (only_keys []) o (answer.Refused NoHandle)
-  no_handle f o e refused = stays [] o (answer.Refused NoHandle) (λ told w S agree st holds. refused S (not_open x told w s S st holds f e))
-
   pub closes : (t : SessionView) (f : ℕ) (h : Handle) → handle_in s f ≡ Some h → SetsHandle f None s t → IsCall x b s t (only_keys []) (op.Close f) answer.Okay
   closes t f h e set = turns t [] (op.Close f) answer.Okay set.slices (λ told w S agree st holds.
       let on = on_file x told w s S st holds f h e in
       record { left = record S { handles = remove S.handles f }; is = close-open (cap_for x) S f on.handle on.there; tree = refl; holds = holds-closed told w s t S holds f set })
 
   pub tells : (f : ℕ) (h : Handle) → handle_in s f ≡ Some h → IsCall x b s s (only_keys []) (op.Tell f) (answer.At h.off)
-  tells f h e = stays [] (op.Tell f) (answer.At h.off) (λ told w S agree st holds.
+  tells f h e = stays x b s [] (op.Tell f) (answer.At h.off) (λ told w S agree st holds.
       let on = on_file x told w s S st holds f h e in
       tell-open (cap_for x) S f on.handle on.there ∙ ap (λ (n : ℕ). unchanged S (answer.At n)) on.of.off)
 
   -- a file that is opened
   pub opens_taken : (f : ℕ) (p : List ℕ) (h : Handle) → handle_in s f ≡ Some h → IsCall x b s s (only_keys []) (op.Open f p) (answer.Refused InUse)
-  opens_taken f p h e = stays [] (op.Open f p) (answer.Refused InUse) (λ told w S agree st holds.
+  opens_taken f p h e = stays x b s [] (op.Open f p) (answer.Refused InUse) (λ told w S agree st holds.
       let on = on_file x told w s S st holds f h e in
       call-open_taken (cap_for x) S f p on.handle on.there)
 
   pub opens_nothing : (f : ℕ) (p : List ℕ) → handle_in s f ≡ None → stands_at b p ≡ None → IsCall x b s s (only_keys (Path p ∷ [])) (op.Open f p) (answer.Refused NoEnt)
-  opens_nothing f p e none = stays (Path p ∷ []) (op.Open f p) (answer.Refused NoEnt) (λ told w S agree st holds.
+  opens_nothing f p e none = stays x b s (Path p ∷ []) (op.Open f p) (answer.Refused NoEnt) (λ told w S agree st holds.
       call-open_refused (cap_for x) S f p NoEnt (not_open x told w s S st holds f e)
       (ap bytes_of (node-missing x.size told w (w (Path p)) (get S.tree p) (st.nodes p) (ap node_of agree.0 ∙ none))))
 
   pub opens_folder : (f : ℕ) (p : List ℕ) → handle_in s f ≡ None → stands_at b p ≡ Some Folder → IsCall x b s s (only_keys (Path p ∷ [])) (op.Open f p) (answer.Refused IsDir)
-  opens_folder f p e is = stays (Path p ∷ []) (op.Open f p) (answer.Refused IsDir) (λ told w S agree st holds.
+  opens_folder f p e is = stays x b s (Path p ∷ []) (op.Open f p) (answer.Refused IsDir) (λ told w S agree st holds.
       call-open_refused (cap_for x) S f p IsDir (not_open x told w s S st holds f e)
       (ap bytes_of (node-folder x.size told w (w (Path p)) (get S.tree p) (st.nodes p) (node_of-is (w (Path p)) Folder (ap node_of agree.0 ∙ is)))))
 
@@ -177,46 +131,23 @@ module _ (x : Caller) (b : Map) (s : SessionView) where
 
   pub seeks_nowhere : (f : ℕ) (h : Handle) (place : Seek) (len : ℕ) → handle_in s f ≡ Some h → (place ≡ to.End → len ≡ file_len x.size (file_of h.inode b))
       → lands (cap_for x) len h.off place ≡ None → IsCall x b s s (only_keys (place_keys b h.inode place)) (op.Seek f place) (answer.Refused Range)
-  seeks_nowhere f h place len e is leads = stays (place_keys b h.inode place) (op.Seek f place) (answer.Refused Range) (λ told w S agree st holds.
+  seeks_nowhere f h place len e is leads = stays x b s (place_keys b h.inode place) (op.Seek f place) (answer.Refused Range) (λ told w S agree st holds.
       let on = on_file x told w s S st holds f h e in
       seek-open (cap_for x) S f on.handle on.there place
       ∙ ap (sought (cap_for x) S f on.handle on.there) (lands_same told w h.inode (bytes_of_handle S on.handle) place len h.off on.handle.off on.body agree is on.of.off ∙ leads))
 
   -- what stands at a path
   pub stats_nothing : (p : List ℕ) → stands_at b p ≡ None → IsCall x b s s (only_keys (Path p ∷ [])) (op.Stat p) (answer.Refused NoEnt)
-  stats_nothing p none = stays (Path p ∷ []) (op.Stat p) (answer.Refused NoEnt) (λ told w S agree st holds.
+  stats_nothing p none = stays x b s (Path p ∷ []) (op.Stat p) (answer.Refused NoEnt) (λ told w S agree st holds.
       stat-at (cap_for x) S p None (node-missing x.size told w (w (Path p)) (get S.tree p) (st.nodes p) (ap node_of agree.0 ∙ none)))
 
   pub stats_folder : (p : List ℕ) → stands_at b p ≡ Some Folder → IsCall x b s s (only_keys (Path p ∷ [])) (op.Stat p) answer.Dir
-  stats_folder p is = stays (Path p ∷ []) (op.Stat p) answer.Dir (λ told w S agree st holds.
+  stats_folder p is = stays x b s (Path p ∷ []) (op.Stat p) answer.Dir (λ told w S agree st holds.
       stat-at (cap_for x) S p (Some Dir) (node-folder x.size told w (w (Path p)) (get S.tree p) (st.nodes p) (node_of-is (w (Path p)) Folder (ap node_of agree.0 ∙ is))))
 
   pub stats_file : (p : List ℕ) (i : InodeId) (n : ℕ) → stands_at b p ≡ Some (FileNode i) → n ≡ file_len x.size (file_of i b) → IsCall x b s s (only_keys (Path p ∷ len_keys b i)) (op.Stat p) (answer.File n)
-  stats_file p i n is len = stays (Path p ∷ len_keys b i) (op.Stat p) (answer.File n) (λ told w S agree st holds.
+  stats_file p i n is len = stays x b s (Path p ∷ len_keys b i) (op.Stat p) (answer.File n) (λ told w S agree st holds.
       let leads : LeadsTo w p i = node_of-is (w (Path p)) (FileNode i) (ap node_of agree.0 ∙ is) in
       let file = leads-file x.size told x.tx x.calls w S.tree st p i leads in
       stat-at (cap_for x) S p (Some (File file.bytes)) file.there
       ∙ ap (λ (k : ℕ). unchanged S (answer.File k)) (sym (body_length x.size told i b w file.bytes agree.1 file.body) ∙ sym len))
-
--- the step of a call that changed no file, and read and stored no byte
-pub step_of : (x : Caller) (b : Map) (old new : InHand) (keys : List Key) (o : Op (List ℕ)) (a : Answer) → GrowsBy old.at new.at keys [] → IsCall x b old.session new.session (only_keys keys) o a
-    → IsStepWith NeedsNoBytes x b old new o a
-step_of x b old new keys o a grows is = record { did = only_keys keys; grows = grows; is_call = is; more = record { facts = refl; stored = refl } }
-
--- the handle where a spot was found
-pub record IsOpen (o : Option Handle) (k : Spot) : Type 0 where
-  pub handle : Handle
-  pub is : o ≡ Some handle
-  pub inode : k.inode ≡ handle.inode
-  pub off : k.off ≡ handle.off
-
-pub spot_open : (r : Option Spot) (o : Option Handle) (k : Spot) → r ≡ option_map spot_of o → r ≡ Some k → IsOpen o k
-spot_open r None k e is = let bad : None ≡ Some k = sym e ∙ is in absurd (cc)
-spot_open r (Some h) k e is =
-    let same : Some (spot_of h) ≡ Some k = sym e ∙ is in
-    let one : spot_of h ≡ k = cc in
-    record { handle = h; is = refl; inode = ap (λ (j : Spot). j.inode) (sym one); off = ap (λ (j : Spot). j.off) (sym one) }
-
-pub spot_closed : (r : Option Spot) (o : Option Handle) → r ≡ option_map spot_of o → r ≡ None → o ≡ None
-spot_closed r None e is = refl
-spot_closed r (Some h) e is = let bad : Some (spot_of h) ≡ None = sym e ∙ is in absurd (cc)

@@ -1,8 +1,9 @@
-pub mod Steps
+pub use Rattle.wtf_steps.specs.Steps
+pub use Rattle.wtf_steps.specs.Scenes
+pub use Rattle.wtf_steps.specs.Faults
 pub mod Recorded
 pub mod Seeks
 pub mod Sizes
 pub mod Stored
 pub mod Reads
-pub mod Faults
 pub mod Ops

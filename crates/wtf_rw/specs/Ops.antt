@@ -15,20 +15,21 @@ use Rattle.wtf_values.specs.declared.key.Key.{Key}
 use Rattle.wtf_meta.specs.declared.session.Handle.{Handle}
 use Rattle.wtf_meta.specs.Maps.{Map}
 use Rattle.wtf_meta.specs.FileEdits.{file_of}
-use Rattle.wtf_meta.specs.Sessions.{SessionView, SessionBytes, handle_in}
+use Rattle.wtf_meta.specs.Sessions.{SessionView, handle_in}
 use Rattle.wtf_meta.specs.Calls.{Caller, Did, InHand}
 use Rattle.wtf_region.specs.declared.dev.Dev.{Dev}
 use Rattle.wtf_region.specs.Devs.{place_in}
-use Rattle.wtf_region.specs.Inside.{is_inside, IsStoredInside}
 use Rattle.wtf_rw.specs.declared.op.Given.{Given}
 use Rattle.wtf_rw.specs.declared.op.Given.TheVariants.{Fresh, Stored}
 use Rattle.wtf_rw.specs.declared.op.RwOp.{RwOp}
 use Rattle.wtf_rw.specs.declared.op.RwOp.TheVariants as rw
-use Rattle.wtf_rw.specs.Steps.{IsStepWith, NeedsNoBytes, IsRefusal}
-use Rattle.wtf_rw.specs.Recorded.{open_keys, seek_keys, stat_keys, append_keys, read_keys, found_in}
+use Rattle.wtf_steps.specs.Steps.{IsStepWith, NeedsNoBytes, IsRefusal}
+use Rattle.wtf_rw.specs.Recorded.{open_keys, seek_keys, stat_keys}
+use Rattle.wtf_steps.specs.Recorded.{append_keys, read_keys, found_in}
 use Rattle.wtf_rw.specs.Stored.{TellsOwn, BringsSlice, SliceBytes, IsOwn, IsPutFault, Answers, end_place}
-use Rattle.wtf_rw.specs.Reads.{TellsRead, LacksBytes, read_origin}
-use Rattle.wtf_rw.specs.Faults.{MayFault}
+use Rattle.wtf_rw.specs.Reads.{TellsRead, read_origin}
+use Rattle.wtf_steps.specs.Faults.{MayFault, LacksBytes}
+use Rattle.wtf_steps.specs.Scenes.{Scene}
 
 -- the definitions' call, on the bytes that it writes, if it writes some
 abbrev pub op_of : RwOp → List ℕ → Op (List ℕ)
@@ -73,10 +74,6 @@ RwBytes P (rw.Write f d) = GivenBytes P d
 RwBytes P (rw.Append f d) = GivenBytes P d
 RwBytes P o = ⊤
 
--- all bytes of a map and of the slices in hand lie inside the stores
-abbrev pub AreInside : {S : Type 0} → StoreKind S → List S → Settings → Map → SessionView → Type 0
-AreInside kind shelf settings w s = IsStoredInside kind shelf settings w × SessionBytes (is_inside kind shelf settings) s
-
 -- the number of bytes of data
 abbrev pub size_of : Given → ℕ
 size_of (Fresh bs) = length bs.now
@@ -103,13 +100,6 @@ rw_keys b w s (rw.Read f n) = read_keys b w (handle_in s f) n
 rw_keys b w s (rw.Append f d) = append_keys b w (handle_in s f) (size_of d)
 rw_keys b w s (rw.Stat p) = stat_keys w p.now
 rw_keys b w s o = []
-
--- the stores before and after a call, and the map that it saw
-pub record Scene (S : Type 0) : Type 1 where
-  pub kind : StoreKind S
-  pub before : List S
-  pub after : List S
-  pub map : Map
 
 -- what is known of the bytes that data brings
 abbrev pub DoesData : {S : Type 0} → Scene S → Given → Option Slice → List ℕ → Did → Type 0

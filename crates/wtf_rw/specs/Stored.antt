@@ -21,11 +21,8 @@ use Rattle.wtf_model.specs.Call.{call}
 use Rattle.wtf_values.specs.declared.key.Key.{Key}
 use Rattle.wtf_meta.specs.Bytes.{PartBytes, PiecesBytes}
 use Rattle.wtf_model.specs.declared.answer.Answer.TheVariants as answer
-use Rattle.wtf_model.specs.declared.answer.Word.TheVariants.{TooBig}
 use Rattle.wtf_model.specs.declared.limits.TheConstants.{MAX_REGIONS}
 use Rattle.wtf_meta.specs.Files.{FileView, end_of, file_len}
-use Rattle.wtf_region.specs.declared.added.Added.{Added}
-use Rattle.wtf_region.specs.declared.added.Added.TheVariants as added
 use Rattle.wtf_meta.specs.Maps.{Map, Edits, AllFit}
 use Rattle.wtf_meta.specs.Contents.{Told, TellBytes}
 use Rattle.wtf_meta.specs.Trees.{Stands}
@@ -34,7 +31,7 @@ use Rattle.wtf_meta.specs.Calls.{Caller, Did, TellFacts, cap_for}
 use Rattle.wtf_region.specs.declared.dev.Dev.{Dev}
 use Rattle.wtf_region.specs.Devs.{stores, between}
 use Rattle.wtf_region.specs.Inside.{IsOnServers}
-use Rattle.wtf_rw.specs.Steps.{IsRefusal}
+use Rattle.wtf_steps.specs.Steps.{IsRefusal}
 
 -- the pieces are one, that is the slice
 pub record IsPieceOf (s : Slice) (ps : List Piece) : Type 0 where
@@ -95,8 +92,3 @@ HasRoom b v n = (end_of (v.region v.last) + n ≤ b) ⊎ (file_len b v + n ≤ M
 -- where bytes that are added at a file's end go
 abbrev pub end_place : ℕ → FileView → ℕ
 end_place b v = min (file_len b v) (MAX_REGIONS * b - 1)
-
--- the answer to an append
-abbrev pub answer_of : Added → Answer
-answer_of added.Done = answer.Okay
-answer_of added.TooBig = answer.Refused TooBig

@@ -1,6 +1,6 @@
 //! The call that adds bytes at a file's end.
 
-ghost use Rattle.std.specs.Prelude.{◌≡◌, ◌⊎◌, ◌<◌, ◌≤◌, ◌*◌, ◌++◌, [], ℕ, List, length, Some, None, IfOk, IfErr, IfSome, OnOk, IsTrue, IsSome};
+ghost use Rattle.std.specs.Prelude.{◌≡◌, ◌⊎◌, ◌<◌, ◌≤◌, ◌++◌, [], ℕ, List, length, Some, None, IfOk, IfErr, IfSome, OnOk, IsTrue, IsSome};
 ghost use Rattle.wtf_kv.specs.Stores.{is_pinned};
 ghost use Rattle.wtf_occ.specs.Attempts.{Grows};
 ghost use Rattle.wtf_model.specs.declared.limits.TheConstants.{MAX_HANDLES, MAX_WRITTEN};
@@ -13,13 +13,12 @@ ghost use Rattle.wtf_meta.specs.Sessions.{handle_in};
 ghost use Rattle.wtf_meta.specs.Calls.{Caller};
 ghost use Rattle.wtf_region.specs.Devs.{IsSoundDev, GoesOn, stores, place_in};
 ghost use Rattle.wtf_region.specs.Edited.{IsFileEnd, LacksRoom};
-ghost use Rattle.wtf_rw.specs.Recorded.{append_keys};
-ghost use Rattle.wtf_rw.specs.Steps.{in_hand, IsStepWith, IsRefusal};
-ghost use Rattle.wtf_rw.specs.Stored.{TellsOwn, IsOwn, IsPutFault, BringsSlice, Answers, HasRoom, end_place, answer_of};
-ghost use Rattle.wtf_rw.specs.Faults.{MayFault};
+ghost use Rattle.wtf_steps.specs.Recorded.{append_keys};
+ghost use Rattle.wtf_steps.specs.Steps.{in_hand, IsStepWith, IsRefusal};
+ghost use Rattle.wtf_rw.specs.Stored.{TellsOwn, IsOwn, IsPutFault, BringsSlice, Answers, HasRoom, end_place};
+ghost use Rattle.wtf_steps.specs.Faults.{MayFault};
 
 use crate::Done;
-use crate::handles::handle_of;
 use crate::writes::{only, piece_of};
 use std::alloc::Global;
 use wtf_base::{Fault, Kept, OutOfMemory, Settings};
@@ -29,7 +28,8 @@ use wtf_meta::Session;
 use wtf_model::{Answer, Op, Word};
 use wtf_occ::{Attempt, Mark};
 use wtf_overlay::{Part, Piece};
-use wtf_region::{Added, Dev, FileEnd, add_at, add_pieces, file_end, file_len, store_bytes};
+use wtf_region::{Dev, FileEnd, add_at, add_pieces, file_end, file_len, store_bytes};
+use wtf_steps::{answer_to, handle_of};
 use wtf_values::{Key, Value};
 
 /// Where so many bytes go that are to be added to a file that ends there; `None` where they find no
@@ -54,17 +54,6 @@ fn room(end: FileEnd, len: u64, settings: Settings) -> Option<u64>
         return Some(place);
     }
     None
-}
-
-/// The answer to an append of which this came.
-fn answer_to(added: Added) -> Answer
-    ensures value { result ≡ answer_of added }
-    ensures logged { IsLogged result }
-{
-    match added {
-        Added::Done => return Answer::Okay,
-        Added::TooBig => return Answer::Refused(Word::TooBig),
-    }
 }
 
 /// Stores bytes and adds them at the end of the file of a handle. It is refused for a handle that

@@ -10,8 +10,9 @@ ghost use Rattle.wtf_meta.specs.Sessions.{SessionBytes};
 ghost use Rattle.wtf_region.specs.Devs.{IsSoundDev, GoesOn, stores, between};
 ghost use Rattle.wtf_region.specs.Showing.{OnlyRead};
 ghost use Rattle.wtf_region.specs.Inside.{is_inside, IsStoredInside};
-ghost use Rattle.wtf_rw.specs.Ops.{IsFormRw, IsWhole, RwBytes, AreInside, IsRwStep, rw_keys, IsRwOwn, LacksOwn, StoresNone, IsRwFault, MayRwFault, IsBare, IsBareAnswer};
-ghost use Rattle.wtf_rw.specs.Steps.{in_hand, IsRefusal};
+ghost use Rattle.wtf_rw.specs.Ops.{IsFormRw, IsWhole, RwBytes, IsRwStep, rw_keys, IsRwOwn, LacksOwn, StoresNone, IsRwFault, MayRwFault, IsBare, IsBareAnswer};
+ghost use Rattle.wtf_steps.specs.Scenes.{AreInside};
+ghost use Rattle.wtf_steps.specs.Steps.{in_hand, IsRefusal};
 
 use crate::appends::{append_fresh, append_stored};
 use crate::handles::{close, open, tell};

@@ -1,7 +1,6 @@
 //! The calls that open and close a handle, and tell where it stands.
 
 ghost use Rattle.std.specs.Prelude.{◌≡◌, ◌<◌, ◌++◌, IsTrue, IfOk, OnOk, OnErr};
-ghost use Rattle.std.specs.Option.{option_map};
 ghost use Rattle.wtf_kv.specs.Stores.{is_pinned};
 ghost use Rattle.wtf_occ.specs.Attempts.{Grows};
 ghost use Rattle.wtf_model.specs.declared.limits.TheConstants.{MAX_HANDLES};
@@ -9,41 +8,19 @@ ghost use Rattle.wtf_model.specs.Steps.{IsLogged};
 ghost use Rattle.wtf_meta.specs.Maps.{Map, seen};
 ghost use Rattle.wtf_meta.specs.Sessions.{handle_in};
 ghost use Rattle.wtf_meta.specs.Calls.{Caller, InHand};
-ghost use Rattle.wtf_rw.specs.Steps.{in_hand, spot_of, IsStepWith, NeedsNoBytes, IsRefusal};
+ghost use Rattle.wtf_steps.specs.Steps.{in_hand, IsStepWith, NeedsNoBytes, IsRefusal};
 ghost use Rattle.wtf_rw.specs.Recorded.{open_keys};
 
 use std::alloc::Global;
-use wtf_base::{InodeId, OutOfMemory};
+use wtf_base::OutOfMemory;
 use wtf_index::look_up;
 use wtf_kv::Kv;
 use wtf_meta::{Handle, Session};
 use wtf_model::{Answer, Op, Word};
 use wtf_occ::Attempt;
 use wtf_path::Path;
+use wtf_steps::handle_of;
 use wtf_values::{Key, Node, Value};
-
-/// The file of an open handle, and where it stands.
-#[derive(Clone, Copy, Debug)]
-pub struct Spot {
-    /// The file.
-    pub inode: InodeId,
-    /// The offset, in bytes.
-    pub off: u64,
-}
-
-/// Where a handle stands, if it is open.
-pub fn handle_of(s: &Session, f: u8) -> Option<Spot>
-    requires { f < MAX_HANDLES }
-    ensures { result ≡ option_map spot_of (handle_in s.now f) }
-{
-    let Some(h) = s.handle(f) else {
-        return None;
-    };
-    Some(Spot {
-        inode: h.inode,
-        off: h.off,
-    })
-}
 
 /// Opens a handle on the file `p`, at its begin. It is refused for a handle that is open, for what
 /// is not there, and for a directory; then nothing changes. Want of memory may leave the attempt

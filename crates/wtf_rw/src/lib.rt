@@ -13,5 +13,5 @@ mod sizes;
 mod writes;
 
 pub use calls::call;
-pub use handles::{Spot, handle_of};
 pub use op::{Done, Given, RwOp};
+pub use wtf_steps::{Spot, handle_of};

@@ -1,6 +1,6 @@
 //! The call that shows bytes of a file.
 
-ghost use Rattle.std.specs.Prelude.{◌≡◌, ◌⊎◌, ◌<◌, ◌≤◌, ◌++◌, [], min, IfOk, IfErr, OnOk, OnErr, IsTrue, Some};
+ghost use Rattle.std.specs.Prelude.{◌≡◌, ◌⊎◌, ◌<◌, ◌≤◌, ◌++◌, [], IfOk, IfErr, OnOk, OnErr, IsTrue, Some};
 ghost use Rattle.wtf_kv.specs.Stores.{is_pinned};
 ghost use Rattle.wtf_occ.specs.Attempts.{Grows};
 ghost use Rattle.wtf_model.specs.declared.limits.TheConstants.{MAX_HANDLES, MAX_SHOWN};
@@ -12,12 +12,11 @@ ghost use Rattle.wtf_meta.specs.Calls.{Caller};
 ghost use Rattle.wtf_region.specs.Devs.{IsSoundDev, GoesOn, stores, between};
 ghost use Rattle.wtf_region.specs.Inside.{IsStoredInside};
 ghost use Rattle.wtf_region.specs.Showing.{OnlyRead};
-ghost use Rattle.wtf_rw.specs.Recorded.{read_keys, found, found_in};
-ghost use Rattle.wtf_rw.specs.Reads.{TellsRead, LacksBytes, read_origin};
-ghost use Rattle.wtf_rw.specs.Faults.{MayFault};
-ghost use Rattle.wtf_rw.specs.Steps.{in_hand, IsStepWith, IsRefusal};
+ghost use Rattle.wtf_steps.specs.Recorded.{read_keys, found_in};
+ghost use Rattle.wtf_rw.specs.Reads.{TellsRead, read_origin};
+ghost use Rattle.wtf_steps.specs.Faults.{LacksBytes, MayFault};
+ghost use Rattle.wtf_steps.specs.Steps.{in_hand, IsStepWith, IsRefusal};
 
-use crate::handles::handle_of;
 use std::alloc::Global;
 use wtf_base::{Bytes, Fault};
 use wtf_dev::SliceStore;
@@ -26,25 +25,8 @@ use wtf_meta::Session;
 use wtf_model::{Answer, Op, Word};
 use wtf_occ::Attempt;
 use wtf_region::{Dev, file_len, pieces, show};
+use wtf_steps::{found_len, handle_of, range_start};
 use wtf_values::{Key, Value};
-
-/// How many of `n` bytes a file of `len` bytes has from an offset on.
-fn count(off: u64, n: u64, len: u64, cap: u64) -> u64
-    ensures { result ≡ found cap len off n }
-{
-    n.min(len.min(cap).saturating_sub(off))
-}
-
-/// Where a range of `n` bytes begins; one of no byte anywhere.
-fn start(off: u64, n: u64) -> u64
-    ensures some { 0 < n → result ≡ off }
-    ensures none { n ≡ 0 → result ≡ 0 }
-{
-    if n == 0 {
-        return 0;
-    }
-    off
-}
 
 /// Shows the next `n` bytes of the file of a handle, or those that are left; its offset grows by
 /// their number. It is refused for a handle that is not open; then nothing changes. `Read` where no
@@ -91,8 +73,8 @@ pub(crate) fn read<S: SliceStore>(
         Ok(len) => len,
         Err(_) => return Err(Fault::Memory),
     };
-    let k = count(spot.off, n, len, settings.cap());
-    let from = start(spot.off, k);
+    let k = found_len(spot.off, n, len, settings.cap());
+    let from = range_start(spot.off, k);
     let found = match pieces(alloc, dev, kv, at, spot.inode, from, k) {
         Ok(found) => found,
         Err(why) => return Err(why),

@@ -10,11 +10,10 @@ ghost use Rattle.wtf_meta.specs.Files.{file_len as file_length};
 ghost use Rattle.wtf_meta.specs.FileEdits.{file_of};
 ghost use Rattle.wtf_meta.specs.Sessions.{SessionView, handle_in};
 ghost use Rattle.wtf_meta.specs.Calls.{Caller};
-ghost use Rattle.wtf_rw.specs.Steps.{in_hand, IsStepWith, NeedsNoBytes, IsRefusal};
+ghost use Rattle.wtf_steps.specs.Steps.{in_hand, IsStepWith, NeedsNoBytes, IsRefusal};
 ghost use Rattle.wtf_rw.specs.Recorded.{seek_keys, place_keys, stat_keys};
 ghost use Rattle.wtf_rw.specs.Seeks.{lands, IsSought};
 
-use crate::handles::handle_of;
 use std::alloc::Global;
 use wtf_base::{InodeId, OutOfMemory, Settings};
 use wtf_index::look_up;
@@ -24,6 +23,7 @@ use wtf_model::{Answer, Op, Seek, Word};
 use wtf_occ::Attempt;
 use wtf_path::Path;
 use wtf_region::file_len;
+use wtf_steps::handle_of;
 use wtf_values::{Key, Node, Value};
 
 /// The length of a file that a seek to its end looks at; another one looks at nothing.

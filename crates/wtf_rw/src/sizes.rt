@@ -7,14 +7,14 @@ ghost use Rattle.wtf_model.specs.Steps.{IsLogged};
 ghost use Rattle.wtf_meta.specs.Maps.{Map};
 ghost use Rattle.wtf_meta.specs.Calls.{Caller};
 ghost use Rattle.wtf_region.specs.Edited.{Edited};
-ghost use Rattle.wtf_rw.specs.Steps.{in_hand, IsStepWith, NeedsNoBytes, IsRefusal};
+ghost use Rattle.wtf_steps.specs.Steps.{in_hand, IsStepWith, NeedsNoBytes, IsRefusal};
 ghost use Rattle.wtf_rw.specs.Sizes.{CutsTo, Zeroes};
 
-use crate::handles::handle_of;
 use wtf_base::{InodeId, OutOfMemory, Settings};
 use wtf_meta::Session;
 use wtf_model::{Answer, Op, Word};
 use wtf_occ::Attempt;
+use wtf_steps::handle_of;
 use wtf_values::{Delta, Key, Value};
 
 /// Makes every file of the inode `n` bytes long.

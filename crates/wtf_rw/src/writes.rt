@@ -1,6 +1,6 @@
 //! The call that writes bytes at a handle's offset.
 
-ghost use Rattle.std.specs.Prelude.{◌≡◌, ◌⊎◌, ◌<◌, ◌≤◌, ◌+◌, ◌*◌, ◌∷◌, [], ℕ, List, length, true, false, Some, None, IfOk, IfErr, OnOk, OnErr, IsSome};
+ghost use Rattle.std.specs.Prelude.{◌≡◌, ◌⊎◌, ◌<◌, ◌≤◌, ◌+◌, ◌*◌, ◌∷◌, [], ℕ, List, length, Some, None, IfOk, IfErr, OnOk, OnErr, IsSome};
 ghost use Rattle.std.specs.Option.{option_map};
 ghost use Rattle.wtf_base.specs.Slices.{len_of};
 ghost use Rattle.wtf_occ.specs.Attempts.{Grows};
@@ -12,12 +12,11 @@ ghost use Rattle.wtf_meta.specs.Sessions.{handle_in, SetsHandle, moved_to};
 ghost use Rattle.wtf_meta.specs.Calls.{Caller};
 ghost use Rattle.wtf_region.specs.Devs.{IsSoundDev, GoesOn, stores, place_in};
 ghost use Rattle.wtf_region.specs.Edited.{Edited, LaysPieces};
-ghost use Rattle.wtf_rw.specs.Steps.{in_hand, IsStepWith, IsRefusal};
+ghost use Rattle.wtf_steps.specs.Steps.{in_hand, IsStepWith, IsRefusal};
 ghost use Rattle.wtf_rw.specs.Stored.{TellsOwn, IsOwn, IsPutFault, BringsSlice, Answers};
-ghost use Rattle.wtf_rw.specs.Faults.{MayFault};
+ghost use Rattle.wtf_steps.specs.Faults.{MayFault};
 
 use crate::Done;
-use crate::handles::{Spot, handle_of};
 use wtf_base::{Fault, Kept, OutOfMemory, Settings, Slice};
 use wtf_dev::SliceStore;
 use wtf_meta::Session;
@@ -25,6 +24,7 @@ use wtf_model::{Answer, Op, Word};
 use wtf_occ::Attempt;
 use wtf_overlay::{Part, Piece};
 use wtf_region::{Dev, put_pieces, store_bytes};
+use wtf_steps::{Spot, ends_within, handle_of};
 use wtf_values::{Key, Value};
 
 /// The piece that is a slice.
@@ -33,14 +33,6 @@ pub(crate) fn piece_of(slice: Slice) -> Piece
     ensures part { result.part ≡ Part.Held slice }
 {
     Piece::of(slice.len() as u64, Part::Held(slice))
-}
-
-/// Whether so many bytes from an offset on end below the greatest length.
-fn ends_within(off: u64, len: u64, cap: u64) -> bool
-    ensures within { result ≡ true → off + len ≤ cap }
-    ensures past { result ≡ false → cap < off + len }
-{
-    off <= cap && len <= cap - off
 }
 
 /// An answer without a slice.

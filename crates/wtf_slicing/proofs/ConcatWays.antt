@@ -39,8 +39,8 @@ use Rattle.wtf_index.specs.Recorded.{target_keys, keys_if}
 use Rattle.wtf_index.proofs.Checked.{target-refused, target-free, target-agrees}
 use Rattle.wtf_index.proofs.Ways.{create-made}
 use Rattle.wtf_region.specs.Edited.{LaysPieces}
-use Rattle.wtf_rw.proofs.FitsAnywhere.{fits_anywhere}
-use Rattle.wtf_rw.proofs.Ways.{only_keys, stays}
+use Rattle.wtf_steps.proofs.FitsAnywhere.{fits_anywhere}
+use Rattle.wtf_steps.proofs.Ways.{only_keys, stays}
 use Rattle.wtf_slicing.specs.Recorded.{files_keys, sources_keys, found_keys, concat_keys}
 use Rattle.wtf_slicing.specs.Sources.{sources_of, lens_of, ArePlans}
 use Rattle.wtf_slicing.specs.Steps.{IsNewFor}

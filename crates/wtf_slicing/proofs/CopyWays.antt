@@ -34,8 +34,8 @@ use Rattle.wtf_index.specs.Recorded.{source_keys, target_keys, keys_if}
 use Rattle.wtf_index.proofs.Going.{keys_then, keys_more}
 use Rattle.wtf_index.proofs.Checked.{source-refused, source-leads, source-agrees, target-refused, target-free, target-agrees}
 use Rattle.wtf_index.proofs.Ways.{create-made}
-use Rattle.wtf_rw.specs.Steps.{IsStepWith, NeedsNoBytes}
-use Rattle.wtf_rw.proofs.Ways.{only_keys, stays}
+use Rattle.wtf_steps.specs.Steps.{IsStepWith, NeedsNoBytes}
+use Rattle.wtf_steps.proofs.Ways.{only_keys, stays}
 use Rattle.wtf_slicing.specs.Copies.{regions_of, fill_edits}
 use Rattle.wtf_slicing.specs.Recorded.{whole_keys, file_keys, copied_keys, copy_keys}
 use Rattle.wtf_slicing.specs.Steps.{IsNewFor}

@@ -7,7 +7,7 @@ use Rattle.wtf_model.specs.declared.answer.Answer.{Answer}
 use Rattle.wtf_meta.specs.Maps.{Map}
 use Rattle.wtf_meta.specs.Calls.{InHand}
 use Rattle.wtf_meta.specs.Sessions.{SessionView}
-use Rattle.wtf_rw.specs.Ops.{Scene}
+use Rattle.wtf_steps.specs.Scenes.{Scene}
 use Rattle.wtf_slicing.specs.declared.op.SliceOp.{SliceOp}
 use Rattle.wtf_slicing.specs.Ops.{IsSliceStep, MaySliceFault}
 

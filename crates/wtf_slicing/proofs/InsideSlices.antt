@@ -24,9 +24,9 @@ use Rattle.wtf_region.specs.declared.dev.Dev.{Dev}
 use Rattle.wtf_region.specs.Devs.{stores}
 use Rattle.wtf_region.specs.Inside.{is_inside}
 use Rattle.wtf_region.proofs.InsideLaws.{inside_stays}
-use Rattle.wtf_rw.specs.Ops.{Scene, AreInside}
-use Rattle.wtf_rw.specs.Steps.{in_hand}
-use Rattle.wtf_rw.proofs.InsideWays.{map_stays, session_stays}
+use Rattle.wtf_steps.specs.Scenes.{Scene, AreInside}
+use Rattle.wtf_steps.specs.Steps.{in_hand}
+use Rattle.wtf_steps.proofs.InsideWays.{map_stays, session_stays}
 use Rattle.wtf_slicing.specs.declared.op.SliceOp.{SliceOp}
 use Rattle.wtf_slicing.specs.declared.op.SliceOp.TheVariants.{Yank, Peek, Cut, Paste, Glue, Concat, Copy}
 use Rattle.wtf_slicing.specs.Ops.{DoesSlice, IsSliceStep}

@@ -25,12 +25,11 @@ use Rattle.wtf_meta.specs.Calls.{Caller, cap_for, Did, IsDone, IsCall}
 use Rattle.wtf_region.specs.declared.added.Added.{Added}
 use Rattle.wtf_region.specs.declared.added.Added.TheVariants as added
 use Rattle.wtf_region.specs.Edited.{LaysPieces, AddsPieces, IsAdded}
-use Rattle.wtf_rw.specs.Steps.{in_hand, IsStepWith, NeedsNoBytes}
-use Rattle.wtf_rw.specs.Stored.{answer_of}
-use Rattle.wtf_rw.proofs.FitsAnywhere.{fits_anywhere}
-use Rattle.wtf_rw.proofs.ModelCalls.{write-nothing, write-big}
-use Rattle.wtf_rw.proofs.Ways.{only_keys, on_file, stays}
-use Rattle.wtf_rw.proofs.FileWays.{writes, appends, appends_too_much}
+use Rattle.wtf_steps.specs.Steps.{in_hand, IsStepWith, NeedsNoBytes, answer_of}
+use Rattle.wtf_steps.proofs.FitsAnywhere.{fits_anywhere}
+use Rattle.wtf_steps.proofs.ModelCalls.{write-nothing, write-big}
+use Rattle.wtf_steps.proofs.Ways.{only_keys, on_file, stays}
+use Rattle.wtf_steps.proofs.FileWays.{writes, appends, appends_too_much}
 use Rattle.wtf_slicing.proofs.ModelCalls.{paste-unset, paste-write, glue-unset, glue-append}
 use Rattle.wtf_slicing.proofs.Slices.{slice_of, no_slice_of}
 

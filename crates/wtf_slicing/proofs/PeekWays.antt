@@ -26,8 +26,8 @@ use Rattle.wtf_meta.proofs.Named.{PiecesBytes-cut, pieces_named}
 use Rattle.wtf_region.specs.Inside.{is_inside}
 use Rattle.wtf_region.specs.Showing.{Shown, IsShowFault, pieces_in}
 use Rattle.wtf_region.proofs.ShowLaws.{told_stays, ShowsBytes-tell}
-use Rattle.wtf_rw.specs.Faults.{MayFault}
-use Rattle.wtf_rw.proofs.FaultWays.{some_byte, lacks_known}
+use Rattle.wtf_steps.specs.Faults.{MayFault}
+use Rattle.wtf_steps.proofs.FaultWays.{some_byte, lacks_known}
 use Rattle.wtf_slicing.proofs.ModelCalls.{peek-part}
 use Rattle.wtf_slicing.proofs.Slices.{slice_of}
 

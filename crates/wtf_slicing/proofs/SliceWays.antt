@@ -29,11 +29,11 @@ use Rattle.wtf_meta.proofs.Handling.{holds-moved, holds-slice}
 use Rattle.wtf_meta.proofs.Named.{PiecesBytes-read, PiecesBytes-cut}
 use Rattle.wtf_meta.proofs.Reading.{PiecesTell-cut, TellBytes-one}
 use Rattle.wtf_meta.proofs.Standing.{stands-same}
-use Rattle.wtf_rw.specs.Recorded.{found_in, len_keys}
-use Rattle.wtf_rw.specs.Steps.{in_hand, IsStepWith, NeedsNoBytes}
-use Rattle.wtf_rw.proofs.Ways.{only_keys, on_file, stays, step_of}
-use Rattle.wtf_rw.proofs.FileWays.{file_len_cap}
-use Rattle.wtf_rw.proofs.ReadWays.{shows}
+use Rattle.wtf_steps.specs.Recorded.{found_in, len_keys}
+use Rattle.wtf_steps.specs.Steps.{in_hand, IsStepWith, NeedsNoBytes}
+use Rattle.wtf_steps.proofs.Ways.{only_keys, on_file, stays, step_of}
+use Rattle.wtf_steps.proofs.FileWays.{file_len_cap}
+use Rattle.wtf_steps.proofs.ReadWays.{shows}
 use Rattle.wtf_slicing.specs.Shown.{TellsSlices}
 use Rattle.wtf_slicing.proofs.ModelCalls.{yank-open, peek-past, peek-part, cut-past, cut-part}
 use Rattle.wtf_slicing.proofs.Slices.{slice_of, no_slice_of, bytes_set, bytes_moved}

@@ -14,10 +14,10 @@ use Rattle.wtf_meta.specs.Maps.{Map}
 use Rattle.wtf_meta.specs.Sessions.{SessionView, handle_in, slice_in}
 use Rattle.wtf_meta.specs.Calls.{Caller, Did, InHand}
 use Rattle.wtf_region.specs.declared.dev.Dev.{Dev}
-use Rattle.wtf_rw.specs.Faults.{MayFault}
-use Rattle.wtf_rw.specs.Ops.{Scene}
-use Rattle.wtf_rw.specs.Recorded.{read_keys}
-use Rattle.wtf_rw.specs.Steps.{IsStepWith, NeedsNoBytes}
+use Rattle.wtf_steps.specs.Faults.{MayFault}
+use Rattle.wtf_steps.specs.Scenes.{Scene}
+use Rattle.wtf_steps.specs.Recorded.{read_keys}
+use Rattle.wtf_steps.specs.Steps.{IsStepWith, NeedsNoBytes}
 use Rattle.wtf_slicing.specs.declared.op.SliceOp.{SliceOp}
 use Rattle.wtf_slicing.specs.declared.op.SliceOp.TheVariants.{Yank, Peek, Cut, Paste, Glue, Concat, Copy}
 use Rattle.wtf_slicing.specs.Recorded.{glue_keys, concat_keys, copy_keys}

@@ -13,7 +13,7 @@ use Rattle.wtf_meta.specs.FileEdits.{file_of}
 use Rattle.wtf_meta.specs.Appends.{FileKey, OfLast, keys_of, region_keys, count_from}
 use Rattle.wtf_index.specs.Checks.{source_of, target_of}
 use Rattle.wtf_index.specs.Recorded.{source_keys, target_keys, keys_if}
-use Rattle.wtf_rw.specs.Recorded.{append_keys}
+use Rattle.wtf_steps.specs.Recorded.{append_keys}
 use Rattle.wtf_slicing.specs.Sources.{sources_of}
 
 -- of a slice that is added at a file's end what an append of its bytes records; of one that was never set nothing

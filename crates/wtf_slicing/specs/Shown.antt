@@ -10,7 +10,7 @@ use Rattle.wtf_meta.specs.Contents.{is_told}
 use Rattle.wtf_meta.specs.Sessions.{SessionView, SessionBytes}
 use Rattle.wtf_meta.specs.Calls.{Did, TellFacts}
 use Rattle.wtf_region.specs.declared.dev.Dev.{Dev}
-use Rattle.wtf_rw.specs.Reads.{LacksBytes}
+use Rattle.wtf_steps.specs.Faults.{LacksBytes}
 
 -- a call stored no byte, and stores that told each byte of the slices in hand tell what it read
 pub record TellsSlices {S : Type 0} (kind : StoreKind S) (old new : List S) (s : SessionView) (did : Did) : Type 0 where

@@ -7,8 +7,8 @@ ghost use Rattle.wtf_model.specs.Steps.{IsLogged};
 ghost use Rattle.wtf_meta.specs.Maps.{seen};
 ghost use Rattle.wtf_region.specs.Devs.{IsSoundDev, GoesOn, stores, between};
 ghost use Rattle.wtf_region.specs.Showing.{OnlyRead};
-ghost use Rattle.wtf_rw.specs.Ops.{AreInside};
-ghost use Rattle.wtf_rw.specs.Steps.{in_hand, IsRefusal};
+ghost use Rattle.wtf_steps.specs.Scenes.{AreInside};
+ghost use Rattle.wtf_steps.specs.Steps.{in_hand, IsRefusal};
 ghost use Rattle.wtf_slicing.specs.Ops.{IsFormSlice, IsSliceStep, slice_keys, IsSliceFault, MaySliceFault, NeedsNoStore};
 
 use crate::SliceOp;

@@ -9,7 +9,7 @@ ghost use Rattle.wtf_meta.specs.Sessions.{SessionView};
 ghost use Rattle.wtf_meta.specs.Calls.{Caller};
 ghost use Rattle.wtf_region.specs.Devs.{IsSoundDev, GoesOn, between};
 ghost use Rattle.wtf_region.specs.Showing.{OnlyRead};
-ghost use Rattle.wtf_rw.specs.Steps.{in_hand, IsStepWith, NeedsNoBytes, IsRefusal};
+ghost use Rattle.wtf_steps.specs.Steps.{in_hand, IsStepWith, NeedsNoBytes, IsRefusal};
 ghost use Rattle.wtf_slicing.specs.Recorded.{concat_keys};
 ghost use Rattle.wtf_slicing.specs.Steps.{IsNewFor};
 

@@ -7,7 +7,7 @@ ghost use Rattle.wtf_model.specs.Steps.{IsLogged};
 ghost use Rattle.wtf_meta.specs.Maps.{seen};
 ghost use Rattle.wtf_meta.specs.Sessions.{SessionView};
 ghost use Rattle.wtf_meta.specs.Calls.{Caller};
-ghost use Rattle.wtf_rw.specs.Steps.{in_hand, IsStepWith, NeedsNoBytes, IsRefusal};
+ghost use Rattle.wtf_steps.specs.Steps.{in_hand, IsStepWith, NeedsNoBytes, IsRefusal};
 ghost use Rattle.wtf_slicing.specs.Recorded.{copy_keys};
 ghost use Rattle.wtf_slicing.specs.Copies.{put_region, put_regions, fill_edits};
 ghost use Rattle.wtf_slicing.specs.Steps.{IsNewFor};

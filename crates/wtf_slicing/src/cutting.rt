@@ -11,8 +11,8 @@ ghost use Rattle.wtf_meta.specs.Calls.{Caller, InHand};
 ghost use Rattle.wtf_region.specs.Devs.{IsSoundDev, GoesOn, stores, between};
 ghost use Rattle.wtf_region.specs.Inside.{is_inside};
 ghost use Rattle.wtf_region.specs.Showing.{OnlyRead};
-ghost use Rattle.wtf_rw.specs.Steps.{in_hand, IsStepWith, NeedsNoBytes, IsRefusal};
-ghost use Rattle.wtf_rw.specs.Faults.{MayFault};
+ghost use Rattle.wtf_steps.specs.Steps.{in_hand, IsStepWith, NeedsNoBytes, IsRefusal};
+ghost use Rattle.wtf_steps.specs.Faults.{MayFault};
 ghost use Rattle.wtf_slicing.specs.Shown.{TellsSlices, LacksSlice};
 
 use std::alloc::Global;

@@ -1,6 +1,6 @@
 //! The calls that lay a slice over a file, and add one at its end.
 
-ghost use Rattle.std.specs.Prelude.{◌≡◌, ◌<◌, ◌≤◌, ◌+◌, ◌++◌, true, false, IsTrue, IfOk, OnOk, OnErr};
+ghost use Rattle.std.specs.Prelude.{◌≡◌, ◌+◌, ◌++◌, IsTrue, IfOk, OnOk, OnErr};
 ghost use Rattle.wtf_kv.specs.Stores.{is_pinned};
 ghost use Rattle.wtf_occ.specs.Attempts.{Grows};
 ghost use Rattle.wtf_model.specs.Form.{IsHandle, IsSlice};
@@ -8,8 +8,7 @@ ghost use Rattle.wtf_model.specs.Steps.{IsLogged};
 ghost use Rattle.wtf_meta.specs.Maps.{Map, seen};
 ghost use Rattle.wtf_meta.specs.Sessions.{handle_in, slice_in};
 ghost use Rattle.wtf_meta.specs.Calls.{Caller};
-ghost use Rattle.wtf_rw.specs.Steps.{in_hand, IsStepWith, NeedsNoBytes, IsRefusal};
-ghost use Rattle.wtf_rw.specs.Stored.{answer_of};
+ghost use Rattle.wtf_steps.specs.Steps.{in_hand, IsStepWith, NeedsNoBytes, IsRefusal};
 ghost use Rattle.wtf_slicing.specs.Recorded.{glue_keys};
 
 use crate::cutting::bytes_of;
@@ -19,17 +18,9 @@ use wtf_kv::Kv;
 use wtf_meta::Session;
 use wtf_model::{Answer, Op, Word};
 use wtf_occ::Attempt;
-use wtf_region::{Added, add_pieces, put_pieces};
-use wtf_rw::handle_of;
+use wtf_region::{add_pieces, put_pieces};
+use wtf_steps::{answer_to, ends_within, handle_of};
 use wtf_values::{Key, Value};
-
-/// Whether so many bytes from an offset on end below the greatest length.
-fn ends_within(off: u64, len: u64, cap: u64) -> bool
-    ensures within { result ≡ true → off + len ≤ cap }
-    ensures past { result ≡ false → cap < off + len }
-{
-    off <= cap && len <= cap - off
-}
 
 /// Lays a slice over the file of a handle at its offset, which grows by the number of its bytes. It
 /// is refused for a handle that is not open, for a slice that was never set, and where the bytes
@@ -70,17 +61,6 @@ pub(crate) fn paste(
     put_pieces(at, spot.inode, spot.off, pieces, settings)?;
     s.move_handle(f, spot.off + len);
     Ok(Answer::Okay)
-}
-
-/// The answer to a call that added pieces, of which this came.
-fn answer_to(added: Added) -> Answer
-    ensures value { result ≡ answer_of added }
-    ensures logged { IsLogged result }
-{
-    match added {
-        Added::Done => return Answer::Okay,
-        Added::TooBig => return Answer::Refused(Word::TooBig),
-    }
 }
 
 /// Adds a slice at the end of the file of a handle. It is refused as `paste` is, here where the file

@@ -1,6 +1,6 @@
 //! The call that takes a slice out of a file.
 
-ghost use Rattle.std.specs.Prelude.{◌≡◌, ◌<◌, ◌++◌, [], IfOk, IfErr, OnOk, OnErr, IsTrue};
+ghost use Rattle.std.specs.Prelude.{◌≡◌, ◌++◌, [], IfOk, IfErr, OnOk, OnErr, IsTrue};
 ghost use Rattle.wtf_kv.specs.Stores.{is_pinned};
 ghost use Rattle.wtf_occ.specs.Attempts.{Grows};
 ghost use Rattle.wtf_model.specs.Form.{IsHandle, IsSlice};
@@ -10,8 +10,8 @@ ghost use Rattle.wtf_meta.specs.Sessions.{handle_in};
 ghost use Rattle.wtf_meta.specs.Calls.{Caller};
 ghost use Rattle.wtf_region.specs.Devs.{IsSoundDev, GoesOn, between};
 ghost use Rattle.wtf_region.specs.Showing.{OnlyRead};
-ghost use Rattle.wtf_rw.specs.Recorded.{read_keys, found};
-ghost use Rattle.wtf_rw.specs.Steps.{in_hand, IsStepWith, NeedsNoBytes, IsRefusal};
+ghost use Rattle.wtf_steps.specs.Recorded.{read_keys};
+ghost use Rattle.wtf_steps.specs.Steps.{in_hand, IsStepWith, NeedsNoBytes, IsRefusal};
 
 use std::alloc::Global;
 use wtf_base::Fault;
@@ -21,26 +21,8 @@ use wtf_meta::Session;
 use wtf_model::{Answer, Op, Word};
 use wtf_occ::Attempt;
 use wtf_region::{Dev, file_len, pieces};
-use wtf_rw::handle_of;
+use wtf_steps::{found_len, handle_of, range_start};
 use wtf_values::{Key, Value};
-
-/// How many of `n` bytes a file of `len` bytes has from an offset on.
-fn count(off: u64, n: u64, len: u64, cap: u64) -> u64
-    ensures { result ≡ found cap len off n }
-{
-    n.min(len.min(cap).saturating_sub(off))
-}
-
-/// Where a range of `n` bytes begins; one of no byte anywhere.
-fn start(off: u64, n: u64) -> u64
-    ensures some { 0 < n → result ≡ off }
-    ensures none { n ≡ 0 → result ≡ 0 }
-{
-    if n == 0 {
-        return 0;
-    }
-    off
-}
 
 /// What a yank takes: bytes of the file of a handle, for a slice.
 #[derive(Clone, Copy, Debug)]
@@ -91,8 +73,8 @@ pub(crate) fn yank<S: SliceStore>(
         Ok(len) => len,
         Err(_) => return Err(Fault::Memory),
     };
-    let k = count(spot.off, take.len, len, settings.cap());
-    let begin = start(spot.off, k);
+    let k = found_len(spot.off, take.len, len, settings.cap());
+    let begin = range_start(spot.off, k);
     let found = match pieces(alloc, dev, kv, at, spot.inode, begin, k) {
         Ok(found) => found,
         Err(why) => return Err(why),

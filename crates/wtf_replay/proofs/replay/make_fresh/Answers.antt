@@ -8,7 +8,7 @@ use Rattle.wtf_meta.specs.Calls.{Caller, IsStep}
 use Rattle.wtf_meta.proofs.Named.{PiecesBytes-none}
 use Rattle.wtf_region.specs.Devs.{stores}
 use Rattle.wtf_region.specs.Inside.{is_inside}
-use Rattle.wtf_rw.specs.Faults.{MayFault}
+use Rattle.wtf_steps.specs.Faults.{MayFault}
 use Rattle.wtf_rw.specs.Ops.{op_of}
 use Rattle.wtf_rw.proofs.InsideWays.{rw_own_inside, does_named}
 use Rattle.wtf_replay.specs.Views.{in_hand}

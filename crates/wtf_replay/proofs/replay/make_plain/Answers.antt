@@ -10,7 +10,7 @@ use Rattle.wtf_meta.proofs.Named.{PiecesBytes-none}
 use Rattle.wtf_region.specs.Devs.{stores, is_down_in}
 use Rattle.wtf_region.specs.Inside.{is_inside}
 use Rattle.wtf_region.proofs.ShowLaws.{reads_nothing}
-use Rattle.wtf_rw.specs.Faults.{MayFault}
+use Rattle.wtf_steps.specs.Faults.{MayFault}
 use Rattle.wtf_slicing.specs.Ops.{op_of}
 use Rattle.wtf_replay.specs.Views.{in_hand}
 use Rattle.wtf_replay.specs.Sounds.{caller_at}

@@ -19,7 +19,7 @@ use Rattle.wtf_meta.proofs.Telling.{TellBytes-later}
 use Rattle.wtf_region.specs.Devs.{stores, is_down_in}
 use Rattle.wtf_region.specs.Inside.{is_inside}
 use Rattle.wtf_region.proofs.ShowLaws.{reads_nothing}
-use Rattle.wtf_rw.specs.Faults.{MayFault, MayStandFor}
+use Rattle.wtf_steps.specs.Faults.{MayFault, MayStandFor}
 use Rattle.wtf_rw.specs.Ops.{op_of, rw_keys, IsWhole}
 use Rattle.wtf_rw.specs.Stored.{SliceBytes, Answers}
 use Rattle.wtf_rw.proofs.InsideWays.{rw_own_inside, does_named, some_data, slice_stays}

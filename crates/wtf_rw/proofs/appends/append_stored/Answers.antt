@@ -15,13 +15,14 @@ use Rattle.wtf_meta.specs.Appends.{keys_of, append_keys as file_append_keys}
 use Rattle.wtf_meta.specs.Sessions.{handle_in}
 use Rattle.wtf_meta.specs.Calls.{cap_for}
 use Rattle.wtf_region.specs.Edited.{IsAdded}
-use Rattle.wtf_rw.specs.Steps.{in_hand}
-use Rattle.wtf_rw.specs.Recorded.{append_keys}
-use Rattle.wtf_rw.specs.Stored.{Answers, answer_of}
+use Rattle.wtf_steps.specs.Steps.{in_hand, answer_of}
+use Rattle.wtf_steps.specs.Recorded.{append_keys}
+use Rattle.wtf_rw.specs.Stored.{Answers}
 use Rattle.wtf_rw.proofs.ModelCalls.{append-none}
-use Rattle.wtf_rw.proofs.Ways.{no_handle, spot_open, spot_closed}
+use Rattle.wtf_steps.proofs.Ways.{no_handle, spot_open, spot_closed}
 use Rattle.wtf_rw.proofs.StoredBytes.{step_stored}
-use Rattle.wtf_rw.proofs.AppendWays.{adds, added_keys, adds_nothing, keys_due, rewound, hole_tells, adds_answer, nothing_answer, closed_answer, step_brought, step_nothing}
+use Rattle.wtf_rw.proofs.AppendWays.{adds, adds_nothing, rewound, hole_tells, adds_answer, nothing_answer, closed_answer, step_brought, step_nothing}
+use Rattle.wtf_steps.proofs.AppendWays.{added_keys, keys_due}
 use Rattle.wtf_rw.proofs.appends.append_stored.Goals as goal
 
 pub returns-in_default-clause-step : goal.returns-in_default-clause-step

@@ -3,7 +3,8 @@ use Rattle.wtf_occ.specs.Attempts.{Attempted}
 use Rattle.wtf_values.specs.declared.key.Key.{Key}
 use Rattle.wtf_values.specs.declared.value.Delta.{Delta}
 use Rattle.wtf_meta.specs.Maps.{seen}
-use Rattle.wtf_rw.proofs.InsideWays.{keeps_inside, stays_inside}
+use Rattle.wtf_rw.proofs.InsideWays.{keeps_inside}
+use Rattle.wtf_steps.proofs.InsideWays.{stays_inside}
 use Rattle.wtf_rw.proofs.calls.call.Goals as goal
 
 pub returns-in-Ok-clause-inside : goal.returns-in-Ok-clause-inside

@@ -5,10 +5,10 @@ use Rattle.wtf_meta.specs.Calls.{Did}
 use Rattle.wtf_region.specs.Devs.{stores}
 use Rattle.wtf_rw.specs.declared.op.Given.TheVariants.{Fresh, Stored}
 use Rattle.wtf_rw.specs.declared.op.RwOp.TheVariants as rw
-use Rattle.wtf_rw.specs.Steps.{in_hand, IsStepWith}
+use Rattle.wtf_steps.specs.Steps.{in_hand, IsStepWith}
 use Rattle.wtf_rw.specs.Stored.{TellsOwn, BringsSlice}
 use Rattle.wtf_rw.specs.Reads.{TellsRead}
-use Rattle.wtf_rw.specs.Faults.{MayFault}
+use Rattle.wtf_steps.specs.Faults.{MayFault}
 use Rattle.wtf_rw.proofs.Dispatch.{as_named, weaker, plain, no_slice, fault_as}
 use Rattle.wtf_rw.proofs.calls.run.Goals as goal
 

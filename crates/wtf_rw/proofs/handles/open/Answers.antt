@@ -7,9 +7,10 @@ use Rattle.wtf_values.specs.declared.key.Key.TheVariants.{Path}
 use Rattle.wtf_values.specs.declared.value.Node.TheVariants.{Folder, File}
 use Rattle.wtf_meta.specs.Maps.{seen}
 use Rattle.wtf_meta.specs.Sessions.{SetsHandle, handle_in}
-use Rattle.wtf_rw.specs.Steps.{in_hand}
+use Rattle.wtf_steps.specs.Steps.{in_hand}
 use Rattle.wtf_index.specs.Checks.{stands_at}
-use Rattle.wtf_rw.proofs.Ways.{opens_taken, opens_nothing, opens_folder, opens_file, step_of, spot_open, spot_closed}
+use Rattle.wtf_rw.proofs.Ways.{opens_taken, opens_nothing, opens_folder, opens_file}
+use Rattle.wtf_steps.proofs.Ways.{step_of, spot_open, spot_closed}
 use Rattle.wtf_rw.proofs.handles.open.Goals as goal
 
 pub returns-in_default-clause-step : goal.returns-in_default-clause-step

@@ -6,7 +6,8 @@ use Rattle.wtf_model.specs.declared.op.Op.TheVariants as op
 use Rattle.wtf_meta.specs.Sessions.{SessionView, handle_in}
 use Rattle.wtf_meta.specs.Calls.{cap_for, IsCall}
 use Rattle.wtf_rw.proofs.ModelCalls.{tell-none}
-use Rattle.wtf_rw.proofs.Ways.{only_keys, no_handle, tells, step_of, spot_open, spot_closed}
+use Rattle.wtf_steps.proofs.Ways.{only_keys, no_handle, step_of, spot_open, spot_closed}
+use Rattle.wtf_rw.proofs.Ways.{tells}
 use Rattle.wtf_rw.proofs.handles.tell.Goals as goal
 
 pub returns-in_default-clause-step : goal.returns-in_default-clause-step

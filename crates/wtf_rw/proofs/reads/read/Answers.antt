@@ -25,12 +25,13 @@ use Rattle.wtf_region.proofs.InsideLaws.{readable_from}
 use Rattle.wtf_region.proofs.Recording.{still_seen}
 use Rattle.wtf_region.proofs.ShowLaws.{readable_stays}
 use Rattle.wtf_region.proofs.Spans.{goes_on}
-use Rattle.wtf_rw.specs.Recorded.{found_in, len_keys}
+use Rattle.wtf_steps.specs.Recorded.{found_in, len_keys}
 use Rattle.wtf_index.proofs.Going.{keys_more}
 use Rattle.wtf_rw.proofs.ModelCalls.{read-none}
-use Rattle.wtf_rw.proofs.Ways.{only_keys, no_handle, spot_open, spot_closed}
+use Rattle.wtf_steps.proofs.Ways.{only_keys, no_handle, spot_open, spot_closed}
 use Rattle.wtf_rw.proofs.FaultWays.{read_due}
-use Rattle.wtf_rw.proofs.ReadWays.{shows, reads_call, same_touched, shown_tells, found_due, plans_due, shown_len}
+use Rattle.wtf_steps.proofs.ReadWays.{shows, same_touched, found_due, plans_due}
+use Rattle.wtf_rw.proofs.ReadWays.{reads_call, shown_tells, shown_len}
 use Rattle.wtf_rw.proofs.reads.read.Goals as goal
 
 pub returns-in_default-clause-step : goal.returns-in_default-clause-step
@@ -54,10 +55,10 @@ show-requires-clause-readable g c =
     let z = dev.settings.region in
     let ps = c.in-Ok-pieces.found.items in
     let same : seen c.args.kv.now c.file_len.new.at ≡ b = still_seen c.args.kv.now i (length_keys (file_of i b)) c.args.at.now c.file_len.new.at c.in-Ok.ensures.recorded in
-    let plans : Plans ps c.count-k.result (λ j. file_origin z (file_of i b) (c.start-from.result + j)) =
-    subst (λ (w : Map). Plans ps c.count-k.result (λ j. file_origin z (file_of i w) (c.start-from.result + j))) same c.in-Ok-pieces.ensures.plans in
+    let plans : Plans ps c.found_len-k.result (λ j. file_origin z (file_of i b) (c.range_start-from.result + j)) =
+    subst (λ (w : Map). Plans ps c.found_len-k.result (λ j. file_origin z (file_of i w) (c.range_start-from.result + j))) same c.in-Ok-pieces.ensures.plans in
     let inside : PiecesBytes (is_inside kind (stores dev) dev.settings) ps =
-    PiecesBytes-read (is_inside kind (stores dev) dev.settings) refl z i b ps c.start-from.result c.count-k.result c.requires.inside plans in
+    PiecesBytes-read (is_inside kind (stores dev) dev.settings) refl z i b ps c.range_start-from.result c.found_len-k.result c.requires.inside plans in
     subst (λ (qs : List Piece). AreReadable kind (is_down_in mid) (stores mid) qs) (sym c.as_slice.ensures.value)
     (λ k d below. readable_stays g.met.S.SliceStore.laws (is_down_in mid) c.in-Ok-pieces.ensures.dev.each (slice_index_or ps k d).part
     (readable_from kind (is_down_in mid) (stores dev) dev.settings ps c.requires.sound.shelf inside k d below))
@@ -71,13 +72,13 @@ returns-in-Err-show-clause-fault g c =
     let b = seen c.args.kv.now c.args.at.now in
     let z = dev.settings.region in
     let ps = c.in-Ok-pieces.found.items in
-    let k = c.count-k.result in
+    let k = c.found_len-k.result in
     let same : seen c.args.kv.now c.file_len.new.at ≡ b = still_seen c.args.kv.now i (length_keys (file_of i b)) c.args.at.now c.file_len.new.at c.in-Ok.ensures.recorded in
     let open_at = spot_open c.handle_of.result (handle_in c.args.s.now c.args.f) c.in-Some.spot c.handle_of.ensures c.in-Some.is in
     let h = open_at.handle in
     let inode : i ≡ h.inode = open_at.inode in
     let off : c.in-Some.spot.off ≡ h.off = open_at.off in
-    let count : k ≡ found_in z b h c.args.n = found_due c.cap.result z c.in-Ok.len c.in-Some.spot.off c.args.n k i b h c.count-k.ensures c.cap.ensures c.in-Ok.ensures.value inode off in
+    let count : k ≡ found_in z b h c.args.n = found_due c.cap.result z c.in-Ok.len c.in-Some.spot.off c.args.n k i b h c.found_len-k.ensures c.cap.ensures c.in-Ok.ensures.value inode off in
     inr (
       h,
       open_at.is,
@@ -86,7 +87,7 @@ returns-in-Err-show-clause-fault g c =
         goes = c.in-Ok-pieces.ensures.dev;
         pieces = ps;
         plans = subst (λ (m : ℕ). Plans ps m (λ j. file_origin z (file_of h.inode b) (h.off + j))) count
-            (plans_due z (seen c.args.kv.now c.file_len.new.at) b h i c.in-Some.spot.off c.start-from.result k ps same inode off c.start-from.ensures.some c.in-Ok-pieces.ensures.plans);
+            (plans_due z (seen c.args.kv.now c.file_len.new.at) b h i c.in-Some.spot.off c.range_start-from.result k ps same inode off c.range_start-from.ensures.some c.in-Ok-pieces.ensures.plans);
         fault = subst (λ (m : ℕ). IsShowFault kind (between mid c.show.new.dev) (pieces_in 0 m ps) c.in-Err-show.why) count
             (subst (λ (qs : List Piece). IsShowFault kind (between mid c.show.new.dev) (pieces_in 0 k qs) c.in-Err-show.why) c.as_slice.ensures.value c.in-Err-show.ensures.fault);
       },
@@ -103,15 +104,15 @@ returns-in-Err-show-clause-due g c =
     let b = seen c.args.kv.now c.args.at.now in
     let z = dev.settings.region in
     let ps = c.in-Ok-pieces.found.items in
-    let k = c.count-k.result in
+    let k = c.found_len-k.result in
     let same : seen c.args.kv.now c.file_len.new.at ≡ b = still_seen c.args.kv.now i (length_keys (file_of i b)) c.args.at.now c.file_len.new.at c.in-Ok.ensures.recorded in
     let open_at = spot_open c.handle_of.result (handle_in s f) c.in-Some.spot c.handle_of.ensures c.in-Some.is in
     let h = open_at.handle in
-    let count : k ≡ found_in z b h c.args.n = found_due c.cap.result z c.in-Ok.len c.in-Some.spot.off c.args.n k i b h c.count-k.ensures c.cap.ensures c.in-Ok.ensures.value open_at.inode open_at.off in
-    let plans : Plans ps k (λ j. file_origin z (file_of i b) (c.start-from.result + j)) =
-    subst (λ (w : Map). Plans ps k (λ j. file_origin z (file_of i w) (c.start-from.result + j))) same c.in-Ok-pieces.ensures.plans in
+    let count : k ≡ found_in z b h c.args.n = found_due c.cap.result z c.in-Ok.len c.in-Some.spot.off c.args.n k i b h c.found_len-k.ensures c.cap.ensures c.in-Ok.ensures.value open_at.inode open_at.off in
+    let plans : Plans ps k (λ j. file_origin z (file_of i b) (c.range_start-from.result + j)) =
+    subst (λ (w : Map). Plans ps k (λ j. file_origin z (file_of i w) (c.range_start-from.result + j))) same c.in-Ok-pieces.ensures.plans in
     let inside : PiecesBytes (is_inside kind (stores dev) dev.settings) ps =
-    PiecesBytes-read (is_inside kind (stores dev) dev.settings) refl z i b ps c.start-from.result k c.requires.inside plans in
+    PiecesBytes-read (is_inside kind (stores dev) dev.settings) refl z i b ps c.range_start-from.result k c.requires.inside plans in
     read_due kind (between mid c.show.new.dev) (stores dev) dev.settings b s f c.args.n k h ps c.in-Err-show.why open_at.is c.requires.sound.shelf count inside
     (subst (λ (qs : List Piece). IsShowFault kind (between mid c.show.new.dev) (pieces_in 0 k qs) c.in-Err-show.why) c.as_slice.ensures.value c.in-Err-show.ensures.fault)
 
@@ -135,7 +136,7 @@ returns-clause-step g c x size =
     let b = seen c.args.kv.now c.args.at.now in
     let z = dev.settings.region in
     let ps = c.in-Ok-pieces.found.items in
-    let k = c.count-k.result in
+    let k = c.found_len-k.result in
     let at = c.args.at.now in
     let read = c.file_len.new.at in
     let new = c.pieces.new.at in
@@ -145,10 +146,10 @@ returns-clause-step g c x size =
     let h = open_at.handle in
     let inode : i ≡ h.inode = open_at.inode in
     let off : c.in-Some.spot.off ≡ h.off = open_at.off in
-    let count0 : k ≡ found_in z b h n = found_due c.cap.result z c.in-Ok.len c.in-Some.spot.off n k i b h c.count-k.ensures c.cap.ensures c.in-Ok.ensures.value inode off in
+    let count0 : k ≡ found_in z b h n = found_due c.cap.result z c.in-Ok.len c.in-Some.spot.off n k i b h c.found_len-k.ensures c.cap.ensures c.in-Ok.ensures.value inode off in
     let count : k ≡ found_in x.size b h n = count0 ∙ ap (λ (m : ℕ). found_in m b h n) (sym size) in
     let plans0 : Plans ps k (λ j. file_origin z (file_of h.inode b) (h.off + j)) =
-    plans_due z (seen c.args.kv.now read) b h i c.in-Some.spot.off c.start-from.result k ps same inode off c.start-from.ensures.some c.in-Ok-pieces.ensures.plans in
+    plans_due z (seen c.args.kv.now read) b h i c.in-Some.spot.off c.range_start-from.result k ps same inode off c.range_start-from.ensures.some c.in-Ok-pieces.ensures.plans in
     let plans : Plans ps k (λ j. file_origin x.size (file_of h.inode b) (h.off + j)) = subst (λ (m : ℕ). Plans ps k (λ j. file_origin m (file_of h.inode b) (h.off + j))) (sym size) plans0 in
     let shown : Shown (byte_at kind (stores mid)) k (λ j. pieces_origin ps (0 + j)) [] bytes =
     subst (λ (old : List ℕ). Shown (byte_at kind (stores mid)) k (λ j. pieces_origin ps (0 + j)) old bytes) c.new-out.ensures.items
@@ -157,10 +158,10 @@ returns-clause-step g c x size =
     subst (λ (m : ℕ). SetsHandle f (Some (moved_to (m + k) h)) s t) off
     (subst (λ (o : Option Handle). SetsHandle f (option_map (moved_to (c.in-Some.spot.off + k)) o) s t) open_at.is c.move_handle.ensures) in
     let first : GrowsBy at read (len_keys b h.inode) [] = subst (λ (q : InodeId). GrowsBy at read (len_keys b q) []) inode c.in-Ok.ensures.recorded in
-    let next0 : GrowsBy read new (keys_of h.inode (region_keys (touched z c.start-from.result k))) [] =
-    subst (λ (q : InodeId). GrowsBy read new (keys_of q (region_keys (touched z c.start-from.result k))) []) inode c.in-Ok-pieces.ensures.recorded in
-    let range : touched z c.start-from.result k ≡ touched x.size h.off k =
-    same_touched z c.start-from.result h.off k (λ some. c.start-from.ensures.some some ∙ off) ∙ ap (λ (m : ℕ). touched m h.off k) (sym size) in
+    let next0 : GrowsBy read new (keys_of h.inode (region_keys (touched z c.range_start-from.result k))) [] =
+    subst (λ (q : InodeId). GrowsBy read new (keys_of q (region_keys (touched z c.range_start-from.result k))) []) inode c.in-Ok-pieces.ensures.recorded in
+    let range : touched z c.range_start-from.result k ≡ touched x.size h.off k =
+    same_touched z c.range_start-from.result h.off k (λ some. c.range_start-from.ensures.some some ∙ off) ∙ ap (λ (m : ℕ). touched m h.off k) (sym size) in
     let next : GrowsBy read new (keys_of h.inode (region_keys (touched x.size h.off k))) [] =
     subst (λ (rs : List ℕ). GrowsBy read new (keys_of h.inode (region_keys rs)) []) range next0 in
     record {

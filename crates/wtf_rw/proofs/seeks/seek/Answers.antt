@@ -15,11 +15,12 @@ use Rattle.wtf_meta.specs.Files.{file_len}
 use Rattle.wtf_meta.specs.FileEdits.{file_of}
 use Rattle.wtf_meta.specs.Sessions.{SessionView, SetsHandle, handle_in, moved_to}
 use Rattle.wtf_meta.specs.Calls.{Caller, cap_for, IsCall}
-use Rattle.wtf_rw.specs.Steps.{in_hand}
+use Rattle.wtf_steps.specs.Steps.{in_hand}
 use Rattle.wtf_rw.specs.Recorded.{place_keys}
 use Rattle.wtf_rw.specs.Seeks.{lands, IsSought}
 use Rattle.wtf_rw.proofs.ModelCalls.{seek-none}
-use Rattle.wtf_rw.proofs.Ways.{only_keys, no_handle, seeks, seeks_nowhere, step_of, spot_open, spot_closed}
+use Rattle.wtf_steps.proofs.Ways.{only_keys, no_handle, step_of, spot_open, spot_closed}
+use Rattle.wtf_rw.proofs.Ways.{seeks, seeks_nowhere}
 use Rattle.wtf_rw.proofs.seeks.seek.Goals as goal
 
 pub returns-in_default-clause-step : goal.returns-in_default-clause-step

@@ -8,11 +8,12 @@ use Rattle.wtf_values.specs.declared.value.Node.TheVariants.{Folder, File}
 use Rattle.wtf_meta.specs.Maps.{Map, seen}
 use Rattle.wtf_meta.specs.Files.{file_len}
 use Rattle.wtf_meta.specs.FileEdits.{file_of}
-use Rattle.wtf_rw.specs.Steps.{in_hand}
+use Rattle.wtf_steps.specs.Steps.{in_hand}
 use Rattle.wtf_index.specs.Checks.{stands_at}
-use Rattle.wtf_rw.specs.Recorded.{len_keys}
+use Rattle.wtf_steps.specs.Recorded.{len_keys}
 use Rattle.wtf_index.proofs.Going.{keys_more, seen-same}
-use Rattle.wtf_rw.proofs.Ways.{stats_nothing, stats_folder, stats_file, step_of}
+use Rattle.wtf_rw.proofs.Ways.{stats_nothing, stats_folder, stats_file}
+use Rattle.wtf_steps.proofs.Ways.{step_of}
 use Rattle.wtf_rw.proofs.seeks.stat.Goals as goal
 
 pub returns-in-Some-Folder-clause-step : goal.returns-in-Some-Folder-clause-step

@@ -11,10 +11,11 @@ use Rattle.wtf_meta.specs.Sessions.{handle_in, SetsHandle, moved_to}
 use Rattle.wtf_meta.specs.Calls.{cap_for}
 use Rattle.wtf_region.specs.Devs.{stores, between}
 use Rattle.wtf_region.specs.Edited.{Edited, LaysPieces}
-use Rattle.wtf_rw.specs.Steps.{in_hand}
+use Rattle.wtf_steps.specs.Steps.{in_hand}
 use Rattle.wtf_rw.proofs.ModelCalls.{write-none}
-use Rattle.wtf_rw.proofs.Ways.{no_handle, spot_open, spot_closed}
-use Rattle.wtf_rw.proofs.FileWays.{brings, writes, writes_nothing, writes_too_far}
+use Rattle.wtf_steps.proofs.Ways.{no_handle, spot_open, spot_closed}
+use Rattle.wtf_steps.proofs.FileWays.{brings, writes}
+use Rattle.wtf_rw.proofs.FileWays.{writes_nothing, writes_too_far}
 use Rattle.wtf_rw.proofs.StoredBytes.{tell_stored, step_only}
 use Rattle.wtf_rw.proofs.FaultWays.{write_due}
 use Rattle.wtf_rw.proofs.writes.write_fresh.Goals as goal

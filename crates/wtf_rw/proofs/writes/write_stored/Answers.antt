@@ -10,10 +10,11 @@ use Rattle.wtf_meta.specs.declared.session.Handle.{Handle}
 use Rattle.wtf_meta.specs.Sessions.{handle_in, SetsHandle, moved_to}
 use Rattle.wtf_meta.specs.Calls.{cap_for}
 use Rattle.wtf_region.specs.Edited.{Edited, LaysPieces}
-use Rattle.wtf_rw.specs.Steps.{in_hand}
+use Rattle.wtf_steps.specs.Steps.{in_hand}
 use Rattle.wtf_rw.proofs.ModelCalls.{write-none}
-use Rattle.wtf_rw.proofs.Ways.{no_handle, spot_open, spot_closed}
-use Rattle.wtf_rw.proofs.FileWays.{brings, writes, writes_nothing, writes_too_far, answers_closed, answers_nothing, answers_too_far, answers_written}
+use Rattle.wtf_steps.proofs.Ways.{no_handle, spot_open, spot_closed}
+use Rattle.wtf_steps.proofs.FileWays.{brings, writes}
+use Rattle.wtf_rw.proofs.FileWays.{writes_nothing, writes_too_far, answers_closed, answers_nothing, answers_too_far, answers_written}
 use Rattle.wtf_rw.proofs.StoredBytes.{brought, step_stored}
 use Rattle.wtf_rw.proofs.writes.write_stored.Goals as goal
 

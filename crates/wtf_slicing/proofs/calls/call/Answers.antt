@@ -3,7 +3,7 @@ use Rattle.wtf_occ.specs.Attempts.{Attempted}
 use Rattle.wtf_values.specs.declared.key.Key.{Key}
 use Rattle.wtf_values.specs.declared.value.Delta.{Delta}
 use Rattle.wtf_meta.specs.Maps.{seen}
-use Rattle.wtf_rw.proofs.InsideWays.{stays_inside}
+use Rattle.wtf_steps.proofs.InsideWays.{stays_inside}
 use Rattle.wtf_slicing.proofs.InsideSlices.{keeps_inside}
 use Rattle.wtf_slicing.proofs.calls.call.Goals as goal
 

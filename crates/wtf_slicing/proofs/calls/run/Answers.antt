@@ -1,7 +1,7 @@
 use Rattle.std.proofs.Common.{refl}
 use Rattle.wtf_meta.specs.Maps.{seen}
 use Rattle.wtf_region.specs.Devs.{stores}
-use Rattle.wtf_rw.specs.Steps.{in_hand}
+use Rattle.wtf_steps.specs.Steps.{in_hand}
 use Rattle.wtf_slicing.specs.declared.op.SliceOp.TheVariants.{Yank, Peek, Cut, Paste, Glue, Concat, Copy}
 use Rattle.wtf_slicing.proofs.Dispatch.{as_named, fault_as}
 use Rattle.wtf_slicing.proofs.calls.run.Goals as goal

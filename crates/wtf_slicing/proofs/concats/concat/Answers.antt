@@ -16,8 +16,8 @@ use Rattle.wtf_index.specs.Checks.{target_of}
 use Rattle.wtf_index.specs.Recorded.{target_keys}
 use Rattle.wtf_index.proofs.Going.{keys_more, seen-same}
 use Rattle.wtf_region.specs.Edited.{Edited, LaysPieces}
-use Rattle.wtf_rw.specs.Steps.{in_hand}
-use Rattle.wtf_rw.proofs.Ways.{step_of}
+use Rattle.wtf_steps.specs.Steps.{in_hand}
+use Rattle.wtf_steps.proofs.Ways.{step_of}
 use Rattle.wtf_slicing.specs.Recorded.{sources_keys, files_keys}
 use Rattle.wtf_slicing.specs.Sources.{sources_of, lens_of, ArePlans}
 use Rattle.wtf_slicing.proofs.CopyWays.{went_all, step_made}

@@ -11,8 +11,8 @@ use Rattle.wtf_meta.specs.NameEdits.{create_edits}
 use Rattle.wtf_index.specs.Checks.{source_of, target_of}
 use Rattle.wtf_index.specs.Recorded.{source_keys, target_keys}
 use Rattle.wtf_index.proofs.Going.{keys_more, seen-same}
-use Rattle.wtf_rw.specs.Steps.{in_hand}
-use Rattle.wtf_rw.proofs.Ways.{step_of}
+use Rattle.wtf_steps.specs.Steps.{in_hand}
+use Rattle.wtf_steps.proofs.Ways.{step_of}
 use Rattle.wtf_slicing.specs.Copies.{regions_of, fill_edits}
 use Rattle.wtf_slicing.specs.Recorded.{file_keys}
 use Rattle.wtf_slicing.proofs.CopyWays.{copy_edits, copies_nothing, copies_nowhere, copies, went_all, copy_keys_are, step_made}

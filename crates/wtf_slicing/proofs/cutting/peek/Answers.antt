@@ -16,7 +16,7 @@ use Rattle.wtf_region.specs.Inside.{is_inside}
 use Rattle.wtf_region.specs.Showing.{Shown, IsShowFault, pieces_in, AreReadable}
 use Rattle.wtf_region.proofs.InsideLaws.{readable_from}
 use Rattle.wtf_region.proofs.Spans.{goes_nowhere}
-use Rattle.wtf_rw.proofs.ReadWays.{shows}
+use Rattle.wtf_steps.proofs.ReadWays.{shows}
 use Rattle.wtf_slicing.specs.Shown.{LacksSlice}
 use Rattle.wtf_slicing.proofs.ModelCalls.{peek-none}
 use Rattle.wtf_slicing.proofs.SliceWays.{no_slice, peeks_past, peeks, step_told}

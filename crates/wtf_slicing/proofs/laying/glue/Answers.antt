@@ -13,9 +13,9 @@ use Rattle.wtf_meta.specs.FileEdits.{file_of}
 use Rattle.wtf_meta.specs.Sessions.{handle_in, slice_in}
 use Rattle.wtf_meta.specs.Calls.{cap_for}
 use Rattle.wtf_region.specs.Edited.{IsAdded}
-use Rattle.wtf_rw.specs.Steps.{in_hand, IsStepWith, NeedsNoBytes}
-use Rattle.wtf_rw.proofs.AppendWays.{added_keys, keys_due}
-use Rattle.wtf_rw.proofs.Ways.{no_handle, step_of, spot_open, spot_closed}
+use Rattle.wtf_steps.specs.Steps.{in_hand, IsStepWith, NeedsNoBytes}
+use Rattle.wtf_steps.proofs.AppendWays.{added_keys, keys_due}
+use Rattle.wtf_steps.proofs.Ways.{no_handle, step_of, spot_open, spot_closed}
 use Rattle.wtf_slicing.specs.Recorded.{glue_keys}
 use Rattle.wtf_slicing.proofs.ModelCalls.{glue-none}
 use Rattle.wtf_slicing.proofs.LayWays.{glues_unset, step_glued}

@@ -15,11 +15,11 @@ use Rattle.wtf_meta.specs.Appends.{keys_of, region_keys, touched, length_keys}
 use Rattle.wtf_meta.specs.Sessions.{handle_in, SetsHandle, moved_to}
 use Rattle.wtf_meta.specs.Calls.{cap_for}
 use Rattle.wtf_region.proofs.Recording.{still_seen}
-use Rattle.wtf_rw.specs.Recorded.{found_in, len_keys}
-use Rattle.wtf_rw.specs.Steps.{in_hand}
+use Rattle.wtf_steps.specs.Recorded.{found_in, len_keys}
+use Rattle.wtf_steps.specs.Steps.{in_hand}
 use Rattle.wtf_index.proofs.Going.{keys_more}
-use Rattle.wtf_rw.proofs.Ways.{no_handle, step_of, spot_open, spot_closed}
-use Rattle.wtf_rw.proofs.ReadWays.{same_touched, found_due, plans_due}
+use Rattle.wtf_steps.proofs.Ways.{no_handle, step_of, spot_open, spot_closed}
+use Rattle.wtf_steps.proofs.ReadWays.{same_touched, found_due, plans_due}
 use Rattle.wtf_slicing.proofs.ModelCalls.{yank-none}
 use Rattle.wtf_slicing.proofs.SliceWays.{yanks}
 use Rattle.wtf_slicing.proofs.yanks.yank.Goals as goal
@@ -47,7 +47,7 @@ returns-clause-step g c x size =
     let b = seen c.args.kv.now c.args.at.now in
     let z = dev.settings.region in
     let ps = c.in-Ok-pieces.found.items in
-    let k = c.count-k.result in
+    let k = c.found_len-k.result in
     let at = c.args.at.now in
     let read = c.file_len.new.at in
     let new = c.pieces.new.at in
@@ -56,20 +56,20 @@ returns-clause-step g c x size =
     let h = open_at.handle in
     let inode : i ≡ h.inode = open_at.inode in
     let off : spot.off ≡ h.off = open_at.off in
-    let count0 : k ≡ found_in z b h n = found_due c.cap.result z c.in-Ok.len spot.off n k i b h c.count-k.ensures c.cap.ensures c.in-Ok.ensures.value inode off in
+    let count0 : k ≡ found_in z b h n = found_due c.cap.result z c.in-Ok.len spot.off n k i b h c.found_len-k.ensures c.cap.ensures c.in-Ok.ensures.value inode off in
     let count : k ≡ found_in x.size b h n = count0 ∙ ap (λ (j : ℕ). found_in j b h n) (sym size) in
     let plans0 : Plans ps k (λ j. file_origin z (file_of h.inode b) (h.off + j)) =
-    plans_due z (seen c.args.kv.now read) b h i spot.off c.start-begin.result k ps same inode off c.start-begin.ensures.some c.in-Ok-pieces.ensures.plans in
+    plans_due z (seen c.args.kv.now read) b h i spot.off c.range_start-begin.result k ps same inode off c.range_start-begin.ensures.some c.in-Ok-pieces.ensures.plans in
     let plans : Plans ps k (λ j. file_origin x.size (file_of h.inode b) (h.off + j)) = subst (λ (q : ℕ). Plans ps k (λ j. file_origin q (file_of h.inode b) (h.off + j))) (sym size) plans0 in
     let there : handle_in m f ≡ Some h = c.put_slice.ensures.handles f ∙ open_at.is in
     let set : SetsHandle f (Some (moved_to (h.off + k) h)) m t =
     subst (λ (o : ℕ). SetsHandle f (Some (moved_to (o + k) h)) m t) off
     (subst (λ (o : Option Handle). SetsHandle f (option_map (moved_to (spot.off + k)) o) m t) there c.move_handle.ensures) in
     let first : GrowsBy at read (len_keys b h.inode) [] = subst (λ (q : InodeId). GrowsBy at read (len_keys b q) []) inode c.in-Ok.ensures.recorded in
-    let next0 : GrowsBy read new (keys_of h.inode (region_keys (touched z c.start-begin.result k))) [] =
-    subst (λ (q : InodeId). GrowsBy read new (keys_of q (region_keys (touched z c.start-begin.result k))) []) inode c.in-Ok-pieces.ensures.recorded in
-    let range : touched z c.start-begin.result k ≡ touched x.size h.off k =
-    same_touched z c.start-begin.result h.off k (λ some. c.start-begin.ensures.some some ∙ off) ∙ ap (λ (j : ℕ). touched j h.off k) (sym size) in
+    let next0 : GrowsBy read new (keys_of h.inode (region_keys (touched z c.range_start-begin.result k))) [] =
+    subst (λ (q : InodeId). GrowsBy read new (keys_of q (region_keys (touched z c.range_start-begin.result k))) []) inode c.in-Ok-pieces.ensures.recorded in
+    let range : touched z c.range_start-begin.result k ≡ touched x.size h.off k =
+    same_touched z c.range_start-begin.result h.off k (λ some. c.range_start-begin.ensures.some some ∙ off) ∙ ap (λ (j : ℕ). touched j h.off k) (sym size) in
     let next : GrowsBy read new (keys_of h.inode (region_keys (touched x.size h.off k))) [] =
     subst (λ rs. GrowsBy read new (keys_of h.inode (region_keys rs)) []) range next0 in
     step_of x b (in_hand at s) (in_hand new t) (len_keys b h.inode ++ keys_of h.inode (region_keys (touched x.size h.off k))) (op.Yank f n c.args.take.slice) (answer.Len k)

@@ -19,7 +19,7 @@ use Rattle.wtf_log.specs.Calls.{own_of}
 use Rattle.wtf_meta.specs.Bytes.{EditsBytes}
 use Rattle.wtf_meta.specs.Maps.{metadata_at, seen}
 use Rattle.wtf_region.specs.Inside.{is_inside, IsStoredInside}
-use Rattle.wtf_rw.specs.Faults.{MayFault}
+use Rattle.wtf_steps.specs.Faults.{MayFault}
 use Rattle.wtf_replay.specs.Insides.{IsInsideTxn, IsLogInside, LogBytes, NamesTxn}
 use Rattle.wtf_replay.proofs.Insiding.{log_later, inside_later, slice_from}
 use Rattle.wtf_region.specs.Devs.{stores}

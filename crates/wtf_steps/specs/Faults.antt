@@ -1,5 +1,5 @@
--- When a fault may come in place of the answer that is due.
-use Rattle.std.specs.Prelude.{◌≡◌, ℕ, List, ⊤}
+-- Why bytes were not shown, and when a fault may come in place of the answer that is due.
+use Rattle.std.specs.Prelude.{◌≡◌, ℕ, List, [], ⊤}
 use Rattle.wtf_base.specs.declared.fault.Fault.{Fault}
 use Rattle.wtf_base.specs.declared.fault.Fault.TheVariants as fault
 use Rattle.wtf_base.specs.declared.settings.Settings.{Settings}
@@ -14,6 +14,12 @@ use Rattle.wtf_meta.specs.Contents.{Told}
 use Rattle.wtf_meta.specs.Trees.{Stands}
 use Rattle.wtf_meta.specs.Sessions.{SessionView, Holds}
 use Rattle.wtf_meta.specs.Calls.{Caller, cap_for}
+use Rattle.wtf_dev.specs.Store.{StoreKind}
+use Rattle.wtf_overlay.specs.Origin.{Place, Plans}
+use Rattle.wtf_overlay.specs.declared.part.Piece.{Piece}
+use Rattle.wtf_region.specs.declared.dev.Dev.{Dev}
+use Rattle.wtf_region.specs.Devs.{GoesOn, between}
+use Rattle.wtf_region.specs.Showing.{IsShowFault, pieces_in}
 
 -- the machine allows the fault's answer where d is due; memory may be short at any time
 abbrev pub MayStandFor : ℕ → Op (List ℕ) → Answer → Fault → Type 0
@@ -28,3 +34,11 @@ abbrev pub MayFault : Settings → Map → SessionView → Op (List ℕ) → Fau
 MayFault settings w s o why =
     (x : Caller) (told : Told) (S : Session) → x.size ≡ settings.region → Stands x.size told x.tx x.calls w S.tree → Holds told w s S
     → MayStandFor settings.servers o (call (cap_for x) S o).answer why
+
+-- n bytes that f tells were not shown, for a fault
+pub record LacksBytes {S : Type 0} (kind : StoreKind S) (old new : Dev S) (n : ℕ) (f : ℕ → List Place) (why : Fault) : Type 0 where
+  pub mid : Dev S
+  pub goes : GoesOn kind old mid []
+  pub pieces : List Piece
+  pub plans : Plans pieces n f
+  pub fault : IsShowFault kind (between mid new) (pieces_in 0 n pieces) why

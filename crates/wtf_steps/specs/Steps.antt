@@ -10,7 +10,10 @@ use Rattle.wtf_meta.specs.declared.session.Handle.{Handle}
 use Rattle.wtf_meta.specs.Maps.{Map}
 use Rattle.wtf_meta.specs.Sessions.{SessionView}
 use Rattle.wtf_meta.specs.Calls.{Caller, Did, InHand, IsCall}
-use Rattle.wtf_rw.specs.declared.handles.Spot.{Spot}
+use Rattle.wtf_model.specs.declared.answer.Word.TheVariants.{TooBig}
+use Rattle.wtf_steps.specs.declared.handles.Spot.{Spot}
+use Rattle.wtf_region.specs.declared.added.Added.{Added}
+use Rattle.wtf_region.specs.declared.added.Added.TheVariants as added
 
 -- an attempt, and what is in hand with it
 abbrev pub in_hand : Attempted Key Delta → SessionView → InHand
@@ -36,3 +39,8 @@ spot_of h = record { inode = h.inode; off = h.off }
 abbrev pub IsRefusal : Answer → Type 0
 IsRefusal (answer.Refused w) = ⊤
 IsRefusal a = ⊥
+
+-- the answer to an append
+abbrev pub answer_of : Added → Answer
+answer_of added.Done = answer.Okay
+answer_of added.TooBig = answer.Refused TooBig

@@ -1,0 +1,8 @@
+pub mod FitsAnywhere
+pub mod ModelCalls
+pub mod Ways
+pub mod FileWays
+pub mod AppendWays
+pub mod ReadWays
+pub mod FaultWays
+pub mod InsideWays

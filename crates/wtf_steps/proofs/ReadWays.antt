@@ -1,0 +1,45 @@
+-- The bytes that a call finds at a handle.
+use Rattle.std.proofs.Common.{◌≡◌, ℕ, ◌+◌, ◌*◌, ◌<◌, List, [], ◌∷◌, sym, ap, ◌∙◌, subst, arith, inl, inr}
+use Rattle.std.proofs.lemmas.Bool.{cases_lt}
+use Rattle.wtf_base.specs.declared.ids.InodeId.{InodeId}
+use Rattle.wtf_overlay.specs.Origin.{Place, Plans}
+use Rattle.wtf_overlay.specs.declared.part.Piece.{Piece}
+use Rattle.wtf_model.specs.declared.limits.TheConstants.{MAX_REGIONS}
+use Rattle.wtf_values.specs.declared.key.Key.{Key}
+use Rattle.wtf_meta.specs.declared.session.Handle.{Handle}
+use Rattle.wtf_meta.specs.Maps.{Map}
+use Rattle.wtf_meta.specs.Files.{file_len, file_origin}
+use Rattle.wtf_meta.specs.FileEdits.{file_of}
+use Rattle.wtf_meta.specs.Appends.{touched}
+use Rattle.wtf_meta.specs.Calls.{Did}
+use Rattle.wtf_steps.specs.Recorded.{found, found_in}
+
+-- keys, and bytes that were read
+abbrev pub shows : List Key → List Piece → List ℕ → Did
+shows keys ps bytes = record { keys = keys; edits = []; facts = record { pieces = ps; bytes = bytes } ∷ []; stored = [] }
+
+-- a range of no byte begins anywhere
+pub same_touched : (b from off k : ℕ) → (0 < k → from ≡ off) → touched b from k ≡ touched b off k
+same_touched b from off k is = elim (cases_lt 0 k) [
+  | inl some ↦ ap (λ (o : ℕ). touched b o k) (is some)
+  | inr none ↦ let z : k ≡ 0 = omega arith in ap (λ (m : ℕ). touched b from m) z ∙ sym (ap (λ (m : ℕ). touched b off m) z)
+]
+
+pub same_plans : (ps : List Piece) (from off k : ℕ) (g : ℕ → List Place) → (0 < k → from ≡ off) → Plans ps k (λ j. g (from + j)) → Plans ps k (λ j. g (off + j))
+same_plans ps from off k g is plans = record {
+  len = plans.len;
+  origin = λ i below. plans.origin i below ∙ ap (λ (o : ℕ). g (o + i)) (is (omega (arith, below)));
+}
+
+-- the bytes that were found, as they are due
+pub found_due : (cap z len off n k : ℕ) (i : InodeId) (w : Map) (h : Handle) → k ≡ found cap len off n → cap ≡ MAX_REGIONS * z → len ≡ file_len z (file_of i w) → i ≡ h.inode → off ≡ h.off → k ≡ found_in z w h n
+found_due cap z len off n k i w h is caps lens inode offs =
+    is ∙ ap (λ (c : ℕ). found c len off n) caps ∙ ap (λ (l : ℕ). found (MAX_REGIONS * z) l off n) (lens ∙ ap (λ (j : InodeId). file_len z (file_of j w)) inode)
+    ∙ ap (λ (o : ℕ). found (MAX_REGIONS * z) (file_len z (file_of h.inode w)) o n) offs
+
+pub plans_due : (z : ℕ) (u w : Map) (h : Handle) (i : InodeId) (off from k : ℕ) (ps : List Piece) → u ≡ w → i ≡ h.inode → off ≡ h.off → (0 < k → from ≡ off) → Plans ps k (λ j. file_origin z (file_of i u) (from + j))
+    → Plans ps k (λ j. file_origin z (file_of h.inode w) (h.off + j))
+plans_due z u w h i off from k ps map inode offs is plans =
+    subst (λ (m : Map). Plans ps k (λ j. file_origin z (file_of h.inode m) (h.off + j))) map
+    (subst (λ (q : InodeId). Plans ps k (λ j. file_origin z (file_of q u) (h.off + j))) inode
+    (subst (λ (o : ℕ). Plans ps k (λ j. file_origin z (file_of i u) (o + j))) offs (same_plans ps from off k (file_origin z (file_of i u)) is plans)))

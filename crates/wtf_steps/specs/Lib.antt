@@ -1,0 +1,4 @@
+pub mod Steps
+pub mod Scenes
+pub mod Recorded
+pub mod Faults
