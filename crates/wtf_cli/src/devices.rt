@@ -59,10 +59,7 @@ fn empty_stores(alloc: Global) -> Result<Vec<MemStore>, OutOfMemory>
 }
 
 /// The stores of all servers in a folder that is held.
-fn open_stores(
-    rt: &HostRuntime,
-    lock: &FolderLock<File>,
-) -> Result<Vec<DirStore<File>>, OpenFault>
+fn open_stores(rt: &HostRuntime, lock: &FolderLock<File>) -> Result<Vec<DirStore<File>>, OpenFault>
     ensures { IfOk result (λ stores. length stores.items ≡ 16) }
 {
     let mut stores = Vec::new(rt.alloc());

@@ -124,7 +124,6 @@ pub(crate) fn slice_op(op: &Op<Bytes>) -> Option<SliceOp<'_>> {
     }
 }
 
-
 /// Whether there is not too much of some data.
 fn is_short(given: &Given<'_>) -> bool
     ensures { result ≡ true → size_of given.now ≤ MAX_WRITTEN }

@@ -14,7 +14,10 @@ use wtf_kv::Kv;
 use wtf_meta::{Delta, Key, Value};
 use wtf_occ::Attempt;
 use wtf_overlay::{Part, Piece};
-use wtf_region::{Added, Dev, FileEnd, add_at, add_pieces, file_end, file_len, pieces, put_pieces, region_list, show, store_bytes};
+use wtf_region::{
+    Added, Dev, FileEnd, add_at, add_pieces, file_end, file_len, pieces, put_pieces, region_list,
+    show, store_bytes,
+};
 
 /// Stores ten digits that are to stand at an offset of the file.
 fn digits_stored(dev: &mut Dev<'_, MemStore>, off: u64) -> Result<Slice, Fail>
@@ -36,7 +39,13 @@ fn laid(at: &mut Attempt<Key, Value>, off: u64, slice: Slice) -> Result<(), Fail
     if off > 1000 || len > 1000 {
         return Err(Fail::from("a range that is too long"));
     }
-    put_pieces(at, FILE, off, &[Piece::of(len, Part::Held(slice))], settings)?;
+    put_pieces(
+        at,
+        FILE,
+        off,
+        &[Piece::of(len, Part::Held(slice))],
+        settings,
+    )?;
     Ok(())
 }
 

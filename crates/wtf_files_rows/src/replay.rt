@@ -2,7 +2,9 @@
 
 use crate::ops::Step;
 use crate::store::{FILE, NEVER, Parts, made_parts, settings};
-use crate::turns::{Whole, attempted, begun_before, calls_come, committed, root_alone, steps_come, whole_comes};
+use crate::turns::{
+    Whole, attempted, begun_before, calls_come, committed, root_alone, steps_come, whole_comes,
+};
 use std::alloc::Global;
 use std::process::Abort;
 use std::test::Fail;
@@ -119,14 +121,8 @@ fn an_append_that_no_longer_fits_is_replayed(rt: HostRuntime) -> Result<(), Fail
         (Step::Open(0, "/a"), "ok"),
         (Step::Write(0, sixty), "ok"),
     ];
-    let between = [
-        (Step::Open(0, "/a"), "ok"),
-        (Step::Append(0, "1234"), "ok"),
-    ];
-    let rows = [
-        (Step::Open(0, "/a"), "ok"),
-        (Step::Append(0, "5678"), "ok"),
-    ];
+    let between = [(Step::Open(0, "/a"), "ok"), (Step::Append(0, "1234"), "ok")];
+    let rows = [(Step::Open(0, "/a"), "ok"), (Step::Append(0, "5678"), "ok")];
     let wholes = [first(&before), second(&between)];
     let wants = ["replayed 1", "replayed 2"];
     let len = replayed(&rt, rt.alloc(), wholes, &rows, &wants)?;

@@ -67,11 +67,7 @@ fn open_null<R: Files>(rt: &R, how: &OpenOptions) -> Result<R::File, OpenFault> 
 }
 
 /// A file of this number, where it was the least that was free.
-fn stand_in<R: Files>(
-    rt: &R,
-    how: &OpenOptions,
-    number: i32,
-) -> Result<Option<R::File>, OpenFault>
+fn stand_in<R: Files>(rt: &R, how: &OpenOptions, number: i32) -> Result<Option<R::File>, OpenFault>
 where
     R::File: AsRawFd,
     ensures { IfOk result (λ kept. IfSome kept (HasNumber R.File.raw_fd number)) }

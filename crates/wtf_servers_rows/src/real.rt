@@ -9,9 +9,7 @@ use std::rc::Rc;
 use std::test::Fail;
 use std::{env, process};
 use wtf_dev::{Failed, Keeper, LoadFault, Sink, SliceStore, Source};
-use wtf_real::{
-    DirStore, FileKeeper, FolderLock, InSource, OpenFault, OutSink, StandIns, streams,
-};
+use wtf_real::{DirStore, FileKeeper, FolderLock, InSource, OpenFault, OutSink, StandIns, streams};
 
 /// What was written and when it was read, in order.
 type Log = Rc<RefCell<Vec<u8>>>;
@@ -121,7 +119,12 @@ fn end<W: Write + Drop>(sink: &mut OutSink<W>) -> Result<(), Failed> {
 fn answers_are_out_before_the_next_read(rt: HostRuntime) -> Result<(), Fail> {
     for (fails, last) in [(false, Ok(0)), (true, Err(Failed))] {
         let log = new_log(rt.alloc())?;
-        let (mut source, mut sink) = short_streams(rt.alloc(), &log, slow_reader(&log, 2, fails)?, 3)?;
+        let (mut source, mut sink) = short_streams(
+            rt.alloc(),
+            &log,
+            slow_reader(&log, 2, fails)?,
+            3,
+        )?;
         let said = [say(&mut sink, b"abcd"), say(&mut sink, b"e")];
         assert_eq!(rt; said, [Ok(4), Ok(1)]);
         let heard = [hear(&mut source), hear(&mut source)];
@@ -207,11 +210,7 @@ fn store(
     DirStore::open(rt, lock, server)
 }
 
-fn append(
-    store: &mut DirStore<File>,
-    file: u8,
-    bytes: &[u8],
-) -> Result<Result<u64, Failed>, Fail> {
+fn append(store: &mut DirStore<File>, file: u8, bytes: &[u8]) -> Result<Result<u64, Failed>, Fail> {
     if file >= 8 {
         return Err(Fail::from("append"));
     }
@@ -329,7 +328,11 @@ fn a_folder_that_fails_is_told(rt: HostRuntime) -> Result<(), Fail> {
     }
     make(&rt, path.as_str(), "s1/4")?;
     for server in [0, 1] {
-        assert_eq!(rt; store(&rt, &lock, server).err(), Some(OpenFault::Failed), "{server}");
+        assert_eq!(rt;
+            store(&rt, &lock, server).err(),
+            Some(OpenFault::Failed),
+            "{server}"
+        );
     }
     fs::remove_dir_all(&rt, path.as_str())?;
     Ok(())
@@ -350,10 +353,7 @@ fn an_append_that_fails_is_told(rt: HostRuntime) -> Result<(), Fail> {
     Ok(())
 }
 
-fn keeper(
-    rt: &HostRuntime,
-    lock: &FolderLock<File>,
-) -> Result<FileKeeper<HostRuntime>, OpenFault> {
+fn keeper(rt: &HostRuntime, lock: &FolderLock<File>) -> Result<FileKeeper<HostRuntime>, OpenFault> {
     FileKeeper::open(rt, lock)
 }
 
