@@ -2,11 +2,10 @@
 
 ghost use Rattle.std.specs.Prelude.{◌<◌, length};
 
-use crate::figures::{len_at, pins_of, settings_at};
-use crate::lists::{PLANS, filled, plans};
-use crate::slices::{create, inode, shelf_of};
-use crate::texts::{answer_of, line_of, prints, reads};
-use std::alloc::AllocError;
+use crate::figures::{len_at, memory, pins_of, settings_at};
+use crate::lists::{PLANS, compact_len, filled, plans};
+use crate::slices::{create, failed, inode, shelf_of};
+use crate::texts::{answer_of, line_of, prints, reads, unread};
 use std::io;
 use wtf_dev::{MemStore, Shelf};
 use wtf_replica::Replicas;
@@ -25,25 +24,22 @@ pub fn print(rt: &HostRuntime) -> io::Result<()> {
 
 /// Of a store of versions: its number, the oldest pinned one, and the sums of what the keys show there.
 fn versions(rt: &HostRuntime) -> io::Result<()> {
-    let memory = |_why| io::Error::from(AllocError);
     let keys = SIZE as u64;
     let kv = crate::filled(rt.alloc(), keys, pins_of(0)).map_err(memory)?;
     let (number, oldest) = (kv.number(), crate::oldest(&kv));
-    let values = crate::reads(&kv, oldest, keys, false);
-    let versions = crate::reads(&kv, oldest, keys, true);
+    let values = crate::reads(&kv, keys, false);
+    let versions = crate::reads(&kv, keys, true);
     println!(rt; "versions: number {number} oldest {oldest} values {values} versions {versions}")
 }
 
 /// Of slices: the copies of each, and the bytes that all stores have taken.
 fn slices(rt: &HostRuntime) -> io::Result<()> {
-    let memory = |_why| io::Error::from(AllocError);
-    let fault = |_why| io::Error::from(AllocError);
     let (settings, bytes) = (settings_at(1), [7; 64]);
     let replicas = Replicas::new(settings);
     let mut shelf = shelf_of(rt.alloc(), settings.servers).map_err(memory)?;
     let ring = Ring::new(rt.alloc(), settings.servers).map_err(memory)?;
     let place = ring.order(inode(0), 0);
-    create(&replicas, &mut shelf, &place, &bytes[..len_at(0)]).map_err(fault)?;
+    create(&replicas, &mut shelf, &place, &bytes[..len_at(0)]).map_err(failed)?;
     let (copies, stored) = (settings.replicas, stored(&shelf));
     println!(rt; "slices: copies {copies} bytes {stored}")
 }
@@ -61,17 +57,14 @@ fn stored(shelf: &Shelf<MemStore>) -> u64 {
 
 /// Of lists of entries: the entries, the pieces of all plans, and the entries of the compact list.
 fn lists(rt: &HostRuntime) -> io::Result<()> {
-    let memory = |_why| io::Error::from(AllocError);
     let list = filled(rt.alloc(), SIZE).map_err(memory)?;
     let (entries, plans, pieces) = (list.len(), PLANS, plans(&list, SIZE).map_err(memory)?);
-    let compact = list.compact().map_err(memory)?.len();
+    let compact = compact_len(&list).map_err(memory)?;
     println!(rt; "lists: entries {entries} plans {plans} pieces {pieces} compact {compact}")
 }
 
 /// Of hexadecimal data: the bytes of all texts that were printed, and those that were read.
 fn texts(rt: &HostRuntime) -> io::Result<()> {
-    let memory = |_why| io::Error::from(AllocError);
-    let unread = |_why| io::Error::from(io::ErrorKind::InvalidData);
     let answer = answer_of(rt.alloc(), SIZE).map_err(memory)?;
     let printed = prints(&mut Vec::new(rt.alloc()), &answer).map_err(memory)?;
     let line = line_of(rt.alloc(), SIZE).map_err(memory)?;

@@ -2,10 +2,9 @@
 
 ghost use Rattle.std.specs.Prelude.{◌+◌, ◌^◌, ◌<◌};
 
-use crate::figures::{ROUNDS, key_at, nanos, show};
-use std::alloc::{AllocError, Global};
+use crate::figures::{Laps, ROUNDS, key_at, least, memory, show};
+use std::alloc::Global;
 use std::io;
-use std::time::Instant;
 use wtf_base::{OutOfMemory, Pointer, ServerId, Slice};
 use wtf_overlay::{Entry, Overlay, Part};
 
@@ -27,7 +26,7 @@ const HEAD: &str =
     "entries  push            plan            compact         share           pieces\n";
 
 /// The costs of a round, and how many pieces a plan had.
-#[derive(Drop)]
+#[derive(Clone, Copy)]
 struct Costs {
     nanos: [u64; 4],
     pieces: u64,
@@ -55,45 +54,49 @@ pub fn table(rt: &HostRuntime) -> io::Result<()> {
 
 /// The nanoseconds of the pushes, the plans, a compact and the shares, each the least of all rounds.
 fn measure(rt: &HostRuntime, n: u32) -> io::Result<Costs> {
-    let mut least = Costs {
+    let mut all = Costs {
         nanos: [u64::MAX; 4],
         pieces: 0,
     };
     for _ in 0..ROUNDS {
         let now = round(rt, n)?;
-        for i in 0..4 {
-            least.nanos[i] = least.nanos[i].min(now.nanos[i]);
-        }
-        least.pieces = now.pieces;
+        all = Costs {
+            nanos: least(all.nanos, now.nanos),
+            pieces: now.pieces,
+        };
     }
-    Ok(least)
+    Ok(all)
 }
 
 /// The same of one round.
 fn round(rt: &HostRuntime, n: u32) -> io::Result<Costs> {
-    let memory = |_why| io::Error::from(AllocError);
-    let start = Instant::now(rt)?;
+    let mut clock = Laps::start(rt)?;
     let list = filled(rt.alloc(), n).map_err(memory)?;
-    let pushed = Instant::now(rt)?;
+    let pushed = clock.lap(rt)?;
     let pieces = plans(&list, n).map_err(memory)?;
-    let planned = Instant::now(rt)?;
-    let compact = list.compact().map_err(memory)?;
-    let compacted = Instant::now(rt)?;
+    let planned = clock.lap(rt)?;
+    let compact = compact_len(&list).map_err(memory)?;
+    let compacted = clock.lap(rt)?;
     let shared = shares(&list).map_err(memory)?;
-    let done = Instant::now(rt)?;
+    let done = clock.lap(rt)?;
     // The lengths are used, so that no compiler leaves the calls out.
-    if (compact.len() as u64).wrapping_add(shared) == u64::MAX {
+    if compact.wrapping_add(shared) == u64::MAX {
         return Err(io::Error::from(io::ErrorKind::InvalidData));
     }
     Ok(Costs {
         nanos: [
-            of_thousand(nanos(start, pushed), n),
-            nanos(pushed, planned),
-            of_thousand(nanos(planned, compacted), n),
-            nanos(compacted, done),
+            of_thousand(pushed, n),
+            planned,
+            of_thousand(compacted, n),
+            done,
         ],
         pieces,
     })
+}
+
+/// How many entries the compact list has.
+pub fn compact_len(list: &Overlay) -> Result<u64, OutOfMemory> {
+    Ok(list.compact()?.len() as u64)
 }
 
 /// What `THOUSAND` entries cost, where `n` cost this.

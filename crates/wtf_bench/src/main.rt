@@ -3,7 +3,7 @@
 //! their number, and those on hexadecimal data, by its length.
 #![tactic(auto)]
 
-ghost use Rattle.std.specs.Prelude.{◌≡◌, ◌+◌, ◌<◌, OnOk, IsTrue};
+ghost use Rattle.std.specs.Prelude.{◌≡◌, ◌+◌, OnOk, IsTrue};
 ghost use Rattle.wtf_kv.specs.Stores.{is_live};
 
 mod counts;
@@ -14,9 +14,8 @@ mod slices;
 mod texts;
 
 use crate::entries::{Count, Name};
-use crate::figures::{ROUNDS, key_at, keys_of, nanos, pins_of, show};
-use std::alloc::{AllocError, Global};
-use std::time::Instant;
+use crate::figures::{Laps, ROUNDS, key_at, keys_of, least, memory, pins_of, show};
+use std::alloc::Global;
 use std::{env, io};
 use wtf_base::OutOfMemory;
 use wtf_kv::{Changes, Kv};
@@ -88,39 +87,49 @@ fn table(rt: &HostRuntime) -> io::Result<()> {
 
 /// The nanoseconds of the reads of values and of versions, the installs and the prune of a round, each
 /// the least of all rounds: so other work on the machine counts little.
-fn measure(rt: &HostRuntime, keys: u64, pins: u64) -> io::Result<[u64; 4]>
-    requires { 0 < keys }
-{
-    let memory = |_why| io::Error::from(AllocError);
+fn measure(rt: &HostRuntime, keys: u64, pins: u64) -> io::Result<[u64; 4]> {
     let mut kv = filled(rt.alloc(), keys, pins).map_err(memory)?;
-    let mut batch = Vec::new(rt.alloc());
-    for i in 0..BATCH {
-        batch.push(set(rt.alloc(), key_at(i, keys), i).map_err(memory)?)?;
-    }
-    let mut least = [u64::MAX; 4];
+    let batch = batch_of(rt.alloc(), keys).map_err(memory)?;
+    let mut costs = [u64::MAX; 4];
     for _ in 0..ROUNDS {
-        let n = oldest(&kv);
-        let start = Instant::now(rt)?;
-        let values = reads(&kv, n, keys, false);
-        let read = Instant::now(rt)?;
-        let versions = reads(&kv, n, keys, true);
-        let told = Instant::now(rt)?;
-        for changes in &batch {
-            install(&mut kv, changes).map_err(memory)?;
-        }
-        let installed = Instant::now(rt)?;
-        kv.prune();
-        let pruned = Instant::now(rt)?;
-        // The sums are used, so that no compiler leaves the reads out.
-        if values == u64::MAX || versions == u64::MAX {
-            return Err(io::Error::from(io::ErrorKind::InvalidData));
-        }
-        least[0] = least[0].min(nanos(start, read));
-        least[1] = least[1].min(nanos(read, told));
-        least[2] = least[2].min(nanos(told, installed));
-        least[3] = least[3].min(nanos(installed, pruned));
+        costs = least(costs, round(rt, &mut kv, batch.as_slice(), keys)?);
     }
-    Ok(least)
+    Ok(costs)
+}
+
+/// The changes of a round.
+fn batch_of(alloc: Global, keys: u64) -> Result<Vec<Sets>, OutOfMemory> {
+    let mut batch = Vec::new(alloc);
+    for i in 0..BATCH {
+        batch.push(set(alloc, key_at(i, keys), i)?)?;
+    }
+    Ok(batch)
+}
+
+/// The same of one round.
+fn round(rt: &HostRuntime, kv: &mut Map, batch: &[Sets], keys: u64) -> io::Result<[u64; 4]> {
+    let mut clock = Laps::start(rt)?;
+    let values = reads(kv, keys, false);
+    let read = clock.lap(rt)?;
+    let versions = reads(kv, keys, true);
+    let told = clock.lap(rt)?;
+    install_all(kv, batch).map_err(memory)?;
+    let installed = clock.lap(rt)?;
+    kv.prune();
+    let pruned = clock.lap(rt)?;
+    // The sums are used, so that no compiler leaves the reads out.
+    if values == u64::MAX || versions == u64::MAX {
+        return Err(io::Error::from(io::ErrorKind::InvalidData));
+    }
+    Ok([read, told, installed, pruned])
+}
+
+/// Installs changes one at a time.
+fn install_all(kv: &mut Map, batch: &[Sets]) -> Result<(), OutOfMemory> {
+    for changes in batch {
+        install(kv, changes)?;
+    }
+    Ok(())
 }
 
 /// A change that gives a key a value.
@@ -131,24 +140,21 @@ fn set(alloc: Global, id: u64, value: u64) -> Result<Sets, OutOfMemory> {
 }
 
 /// A store where each key has a value, with numbers pinned, before an install of one change each.
-fn filled(alloc: Global, keys: u64, pins: u64) -> Result<Map, OutOfMemory>
-    requires { 0 < keys }
-{
+fn filled(alloc: Global, keys: u64, pins: u64) -> Result<Map, OutOfMemory> {
     let mut kv = Kv::new(alloc)?;
     for id in 0..keys {
         install(&mut kv, &set(alloc, id, id)?)?;
     }
     for i in 0..pins {
         kv.pin(kv.number())?;
-        install(&mut kv, &set(alloc, i % keys, i)?)?;
+        install(&mut kv, &set(alloc, i % keys.max(1), i)?)?;
     }
     Ok(kv)
 }
 
 /// Installs changes under the next number; a store with no further number is taken for want of memory.
 fn install(kv: &mut Map, changes: &Sets) -> Result<(), OutOfMemory>
-    ensures pins { kv.new.pins ≡ kv.old.pins }
-    ensures number { OnOk result (kv.new.number ≡ kv.old.number + 1) }
+    ensures { OnOk result (kv.new.number ≡ kv.old.number + 1) }
 {
     if kv.number() >= 1 << 63 {
         return Err(OutOfMemory);
@@ -168,11 +174,9 @@ fn oldest(kv: &Map) -> u64
     }
 }
 
-/// Adds up what `READS` keys show at `n`: their values, or their versions.
-fn reads(kv: &Map, n: u64, keys: u64, versions: bool) -> u64
-    requires live { IsTrue (is_live kv.now n) }
-    requires some { 0 < keys }
-{
+/// Adds up what `READS` keys show at the oldest number: their values, or their versions.
+fn reads(kv: &Map, keys: u64, versions: bool) -> u64 {
+    let n = oldest(kv);
     let mut sum = 0u64;
     for i in 0..READS {
         let name = Name {

@@ -7,10 +7,9 @@ ghost use Rattle.wtf_dev.specs.Memory.{mem_store};
 ghost use Rattle.wtf_replica.specs.Copies.{IsInside};
 ghost use Rattle.wtf_replica.specs.Downs.{settings_of};
 
-use crate::figures::{ROUNDS, len_at, nanos, settings_at, show};
+use crate::figures::{Laps, ROUNDS, least, len_at, memory, settings_at, show};
 use std::alloc::{AllocError, Global};
 use std::io;
-use std::time::Instant;
 use wtf_base::{Fault, InodeId, OutOfMemory, Settings, Slice, TxId};
 use wtf_dev::{MemStore, Shelf};
 use wtf_replica::Replicas;
@@ -52,14 +51,11 @@ fn measure(rt: &HostRuntime, settings: Settings, len: usize) -> io::Result<[u64;
     requires some { 0 < len }
     requires few { len ≤ 16_384 }
 {
-    let mut least = [u64::MAX; 4];
+    let mut costs = [u64::MAX; 4];
     for _ in 0..ROUNDS {
-        let costs = round(rt, settings, len)?;
-        for i in 0..4 {
-            least[i] = least[i].min(costs[i]);
-        }
+        costs = least(costs, round(rt, settings, len)?);
     }
-    Ok(least)
+    Ok(costs)
 }
 
 /// The nanoseconds of one round, on empty stores.
@@ -67,32 +63,42 @@ fn round(rt: &HostRuntime, settings: Settings, len: usize) -> io::Result<[u64; 4
     requires some { 0 < len }
     requires few { len ≤ 16_384 }
 {
-    let memory = |_why| io::Error::from(AllocError);
-    let fault = |_why| io::Error::from(AllocError);
+    let mut clock = Laps::start(rt)?;
+    let ring = Ring::new(rt.alloc(), settings.servers).map_err(memory)?;
+    let made = clock.lap(rt)?;
+    let sum = orders(&ring);
+    let ordered = clock.lap(rt)?;
+    // The sum is used, so that no compiler leaves the calls out.
+    if sum == u64::MAX {
+        return Err(io::Error::from(io::ErrorKind::InvalidData));
+    }
+    let (created, fetched) = stored(rt, settings, &ring.order(inode(0), 0), len)?;
+    Ok([made, ordered, created, fetched])
+}
+
+/// The nanoseconds of the slices stored at a place, and of those fetched.
+fn stored(rt: &HostRuntime, settings: Settings, place: &Place, len: usize) -> io::Result<(u64, u64)>
+    requires place { length place.now.servers ≡ settings.servers }
+    requires some { 0 < len }
+    requires few { len ≤ 16_384 }
+{
     let (bytes, mut out) = ([7; 16_384], [0; 16_384]);
     let replicas = Replicas::new(settings);
     let mut shelf = shelf_of(rt.alloc(), settings.servers).map_err(memory)?;
-    let start = Instant::now(rt)?;
-    let ring = Ring::new(rt.alloc(), settings.servers).map_err(memory)?;
-    let made = Instant::now(rt)?;
-    let sum = orders(&ring);
-    let ordered = Instant::now(rt)?;
-    let place = ring.order(inode(0), 0);
-    let asked = Instant::now(rt)?;
-    let slice = create(&replicas, &mut shelf, &place, &bytes[..len]).map_err(fault)?;
-    let created = Instant::now(rt)?;
-    fetch(&replicas, &mut shelf, &slice, &mut out[..len]).map_err(fault)?;
-    let fetched = Instant::now(rt)?;
-    // The results are used, so that no compiler leaves the calls out.
-    if sum == u64::MAX || out[..len] != bytes[..len] {
+    let mut clock = Laps::start(rt)?;
+    let slice = create(&replicas, &mut shelf, place, &bytes[..len]).map_err(failed)?;
+    let created = clock.lap(rt)?;
+    fetch(&replicas, &mut shelf, &slice, &mut out[..len]).map_err(failed)?;
+    let fetched = clock.lap(rt)?;
+    if out[..len] != bytes[..len] {
         return Err(io::Error::from(io::ErrorKind::InvalidData));
     }
-    Ok([
-        nanos(start, made),
-        nanos(made, ordered),
-        nanos(asked, created),
-        nanos(created, fetched),
-    ])
+    Ok((created, fetched))
+}
+
+/// A store in memory fails only where memory is short.
+pub fn failed(_why: Fault) -> io::Error {
+    io::Error::from(AllocError)
 }
 
 /// The file that call `index` of the first transaction made.

@@ -1,9 +1,8 @@
 //! What hexadecimal data costs to be printed and read, beside a plain copy of as many bytes.
 
-use crate::figures::{ROUNDS, nanos, show};
-use std::alloc::{AllocError, Global};
+use crate::figures::{Laps, ROUNDS, least, memory, show};
+use std::alloc::Global;
 use std::io;
-use std::time::Instant;
 use wtf_base::{Bytes, OutOfMemory};
 use wtf_model::{Answer, Event, Op, Verb};
 use wtf_print::print_answer;
@@ -33,41 +32,37 @@ pub fn table(rt: &HostRuntime) -> io::Result<()> {
 
 /// The nanoseconds of the copies, of the prints and of the reads, each the least of all rounds.
 fn measure(rt: &HostRuntime, n: u32) -> io::Result<[u64; 3]> {
-    let mut least = [u64::MAX; 3];
-    for _ in 0..ROUNDS {
-        let now = round(rt, n)?;
-        for i in 0..3 {
-            least[i] = least[i].min(now[i]);
-        }
-    }
-    Ok(least)
-}
-
-/// The same of one round.
-fn round(rt: &HostRuntime, n: u32) -> io::Result<[u64; 3]> {
-    let memory = |_why| io::Error::from(AllocError);
-    let unread = |_why| io::Error::from(io::ErrorKind::InvalidData);
     let line = line_of(rt.alloc(), n).map_err(memory)?;
     let answer = answer_of(rt.alloc(), n).map_err(memory)?;
+    let mut costs = [u64::MAX; 4];
+    for _ in 0..ROUNDS {
+        costs = least(costs, round(rt, line.as_slice(), &answer)?);
+    }
+    Ok([costs[0], costs[1], costs[2]])
+}
+
+/// The same of one round, and 0 behind them.
+fn round(rt: &HostRuntime, line: &[u8], answer: &Answer) -> io::Result<[u64; 4]> {
     let mut out = Vec::new(rt.alloc());
     // The buffer has its room before the clock starts.
-    copies(&mut out, line.as_slice()).map_err(memory)?;
-    let start = Instant::now(rt)?;
-    let copied = copies(&mut out, line.as_slice()).map_err(memory)?;
-    let between = Instant::now(rt)?;
-    let printed = prints(&mut out, &answer).map_err(memory)?;
-    let then = Instant::now(rt)?;
-    let read = reads(rt.alloc(), line.as_slice()).map_err(unread)?;
-    let done = Instant::now(rt)?;
+    copies(&mut out, line).map_err(memory)?;
+    let mut clock = Laps::start(rt)?;
+    let copied = copies(&mut out, line).map_err(memory)?;
+    let copying = clock.lap(rt)?;
+    let printed = prints(&mut out, answer).map_err(memory)?;
+    let printing = clock.lap(rt)?;
+    let read = reads(rt.alloc(), line).map_err(unread)?;
+    let reading = clock.lap(rt)?;
     // The lengths are used, so that no compiler leaves the calls out.
     if copied.wrapping_add(printed).wrapping_add(read) == u64::MAX {
         return Err(io::Error::from(io::ErrorKind::InvalidData));
     }
-    Ok([
-        nanos(start, between),
-        nanos(between, then),
-        nanos(then, done),
-    ])
+    Ok([copying, printing, reading, 0])
+}
+
+/// A line of the tables has its form.
+pub fn unread(_why: LineError) -> io::Error {
+    io::Error::from(io::ErrorKind::InvalidData)
 }
 
 /// The line that writes `n` bytes.
