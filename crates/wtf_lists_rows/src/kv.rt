@@ -1,5 +1,8 @@
 //! A store of numbers under small keys, row by row.
 
+ghost use Rattle.std.specs.Prelude.{◌≡◌};
+ghost use Rattle.wtf_kv.specs.Stores.{is_live};
+
 use crate::counts::{Count, Counts, Name};
 use std::alloc::Global;
 use std::process::Abort;
@@ -52,9 +55,16 @@ fn unfit(kv: &mut Counts, edits: &Edits) -> Option<u64> {
     }
 }
 
+/// Whether a number can be read.
+fn is_live(kv: &Counts, n: u64) -> bool
+    ensures { result ≡ is_live kv.now n }
+{
+    n == kv.number() || kv.is_pinned(n)
+}
+
 /// What `n` sees of a key: its value, 0 for none, and its version.
 fn seen(kv: &Counts, n: u64, id: u64) -> Result<(u64, u64), Fail> {
-    if n != kv.number() && !kv.is_pinned(n) {
+    if !is_live(kv, n) {
         return Err("the number can't be read".into());
     }
     let key = Name { id };
@@ -65,7 +75,7 @@ fn seen(kv: &Counts, n: u64, id: u64) -> Result<(u64, u64), Fail> {
 }
 
 fn pin(kv: &mut Counts, n: u64) -> Result<(), Fail> {
-    if n != kv.number() && !kv.is_pinned(n) {
+    if !is_live(kv, n) {
         return Err("the number can't be pinned".into());
     }
     kv.pin(n)?;

@@ -4,11 +4,15 @@ use crate::parts::{inode, pieces};
 use std::alloc::Global;
 use std::test::Fail;
 use wtf_meta::{Handle, Session};
+use wtf_model::limits::{MAX_HANDLES, MAX_SLICES};
 use wtf_path::Path;
 
 /// The offset of the handle of a label, and the number of pieces of its slice.
 fn shown(session: &Session, label: u8) -> (Option<u64>, Option<usize>) {
-    if label >= 16 {
+    if label >= MAX_HANDLES {
+        return (None, None);
+    }
+    if label >= MAX_SLICES {
         return (None, None);
     }
     let off = session.handle(label).map(|h| h.off);
@@ -19,37 +23,40 @@ fn holds(alloc: Global, session: &Session, path: &[u8]) -> Result<bool, Fail> {
     Ok(session.holds(&Path::parse(alloc, path)?))
 }
 
-/// Opens a handle at 0.
-fn open(alloc: Global, session: &mut Session, label: u8, path: &[u8]) -> Result<(), Fail> {
-    if label >= 16 {
+/// Opens a handle at 0, and moves it.
+fn open(
+    alloc: Global,
+    session: &mut Session,
+    label: u8,
+    path: &[u8],
+    off: u64,
+) -> Result<(), Fail> {
+    if label >= MAX_HANDLES {
         return Err("no label".into());
     }
-    let handle = Handle {
-        path: Path::parse(alloc, path)?,
-        inode: inode(),
-        off: 0,
-    };
-    session.put_handle(label, handle);
-    Ok(())
-}
-
-fn move_to(session: &mut Session, label: u8, off: u64) -> Result<(), Fail> {
-    if label >= 16 || session.handle(label).is_none() {
-        return Err("no handle".into());
-    }
+    let path = Path::parse(alloc, path)?;
+    let inode = inode();
+    session.put_handle(
+        label,
+        Handle {
+            path,
+            inode,
+            off: 0,
+        },
+    );
     session.move_handle(label, off);
     Ok(())
 }
 
 fn end(session: &mut Session, label: u8) {
-    if label < 16 {
+    if label < MAX_HANDLES {
         session.end_handle(label);
     }
 }
 
 /// Keeps a piece of four zeros.
 fn keep(alloc: Global, session: &mut Session, label: u8) -> Result<(), Fail> {
-    if label >= 16 {
+    if label >= MAX_SLICES {
         return Err("no label".into());
     }
     session.put_slice(label, pieces(alloc, &[4])?);
@@ -59,8 +66,7 @@ fn keep(alloc: Global, session: &mut Session, label: u8) -> Result<(), Fail> {
 /// A session with a handle of /a at 7 under 15, and a slice under 3.
 fn filled(alloc: Global) -> Result<Session, Fail> {
     let mut session = Session::new(alloc)?;
-    open(alloc, &mut session, 15, b"/a")?;
-    move_to(&mut session, 15, 7)?;
+    open(alloc, &mut session, 15, b"/a", 7)?;
     keep(alloc, &mut session, 3)?;
     Ok(session)
 }

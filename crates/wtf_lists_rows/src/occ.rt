@@ -17,16 +17,12 @@ type Counting = Attempt<Name, Count>;
 
 /// What became of an attempt: the number of its install, or the key of a conflict, with the version that was
 /// seen and the one that is there now.
-#[derive(Clone, Copy, Debug, PartialEq)]
-enum Ended {
-    Installed(u64),
-    Conflict(u64, u64, u64),
-}
+type Ended = Result<u64, (u64, u64, u64)>;
 
 fn outcome_of(tried: Tried<Name>) -> Ended {
     match tried {
-        Tried::Installed(n) => Ended::Installed(n),
-        Tried::Conflict { key, seen, now } => Ended::Conflict(key.id, seen, now),
+        Tried::Installed(n) => Ok(n),
+        Tried::Conflict { key, seen, now } => Err((key.id, seen, now)),
     }
 }
 
@@ -78,8 +74,11 @@ fn tried(kv: &mut Counts, attempt: &mut Counting) -> Result<Ended, Fail>
     requires base { attempt.old.base ≡ 1 }
     requires changes { attempt.old.changes ≡ Change.Delta (record { id = 7 }) 3 ∷ [] }
 {
-    if kv.number() >= 1000 || !kv.is_pinned(1) {
-        return Err("no install is possible".into());
+    if kv.number() >= 1000 {
+        return Err("no number is left".into());
+    }
+    if !kv.is_pinned(1) {
+        return Err("1 is not pinned".into());
     }
     if !fits_three(kv.read_at(1, &Name { id: 7 })) {
         return Err("the push does not fit".into());
@@ -100,7 +99,7 @@ fn two(alloc: Global, kv: &mut Counts, reads: bool) -> Result<(Ended, Ended), Fa
 fn cut_all(alloc: Global, kv: &mut Counts) -> Result<Ended, Fail> {
     let base = kv.number();
     if base >= 1000 {
-        return Err("no install is possible".into());
+        return Err("no number is left".into());
     }
     kv.pin(base)?;
     if !kv.is_pinned(base) {
@@ -123,7 +122,7 @@ fn conflicts_where_a_key_moved(rt: HostRuntime) -> Result<(), Fail> {
     for (n, reads) in [(50, true), (60, false)] {
         let mut kv = store(rt.alloc(), n)?;
         let answers = two(rt.alloc(), &mut kv, reads)?;
-        let want = (Ended::Installed(2), Ended::Conflict(7, 1, 2));
+        let want = (Ok(2), Err((7, 1, 2)));
         assert_eq!(rt; answers, want, "from {n}");
     }
     Ok(())
@@ -133,9 +132,9 @@ fn conflicts_where_a_key_moved(rt: HostRuntime) -> Result<(), Fail> {
 fn installs_what_no_read_forbids(rt: HostRuntime) -> Result<(), Fail> {
     let mut kv = store(rt.alloc(), 50)?;
     let answers = two(rt.alloc(), &mut kv, false)?;
-    assert_eq!(rt; answers, (Ended::Installed(2), Ended::Installed(3)));
+    assert_eq!(rt; answers, (Ok(2), Ok(3)));
     assert_eq!(rt; (kv.number(), value(&kv)), (3, 56));
-    assert_eq!(rt; cut_all(rt.alloc(), &mut kv)?, Ended::Installed(4));
+    assert_eq!(rt; cut_all(rt.alloc(), &mut kv)?, Ok(4));
     assert_eq!(rt; (kv.number(), value(&kv)), (4, 0));
     Ok(())
 }
@@ -173,8 +172,11 @@ fn cut(attempt: &mut Counting) -> Result<(), OutOfMemory> {
 /// Goes back to a mark.
 fn go_back(attempt: &mut Counting, mark: Mark) -> Result<(), Fail> {
     let now = attempt.mark();
-    if mark.reads > now.reads || mark.changes > now.changes {
-        return Err("the attempt is not there yet".into());
+    if mark.reads > now.reads {
+        return Err("fewer keys are recorded".into());
+    }
+    if mark.changes > now.changes {
+        return Err("there are fewer changes".into());
     }
     attempt.rewind(mark);
     Ok(())

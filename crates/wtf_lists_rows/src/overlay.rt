@@ -1,12 +1,12 @@
 //! Plans, clipped and compact lists of worked rows, each call once, and lists that are shared and pushed on.
 
-use crate::parts::{Row, entry, list_of, place};
+use crate::parts::{Row, entry, list_of, place, slice};
 use std::alloc::Global;
 use std::mem::size_of;
 use std::process::Abort;
 use std::test::Fail;
 use wtf_base::OutOfMemory;
-use wtf_overlay::{Entry, Overlay};
+use wtf_overlay::{Entry, Overlay, Part};
 
 /// A piece of a plan: where its bytes begin, and how many they are.
 type Told = (Option<u64>, u64);
@@ -80,14 +80,21 @@ fn is_same(alloc: Global, list: &Overlay, rows: &[Row]) -> Result<bool, Fail> {
     Ok(list.is_same(&list_of(alloc, rows)?))
 }
 
-/// The row of the part of `len` bytes from byte `from` of an entry on; none where it does not reach so far.
-fn cut(row: Row, from: u32, len: u32) -> Option<Row> {
-    let e = entry(row)?;
-    if len == 0 || from.checked_add(len)? > e.len {
+/// Where the part of `len` bytes from byte `from` of A begins.
+fn cut(from: u32, len: u32) -> Option<u64> {
+    let slice = slice(0, 6)?;
+    if len == 0 {
         return None;
     }
-    let part = e.part.cut(from, len);
-    Some((e.end(), place(part), len))
+    if from.checked_add(len)? > slice.len() {
+        return None;
+    }
+    place(Part::Held(slice).cut(from, len))
+}
+
+/// Where the entry of a row ends.
+fn end(row: Row) -> Option<u32> {
+    Some(entry(row)?.end())
 }
 
 /// The place of the byte that lies `i` bytes after the first.
@@ -156,7 +163,7 @@ impl Watched {
     }
 
     /// Checks what the list tells.
-    fn tells(&self, rt: &impl Abort, after: u32) -> Result<(), Fail> {
+    fn tells(&self, rt: &impl Abort, after: usize) -> Result<(), Fail> {
         let bytes = told(self.alloc, &self.list)?;
         assert_eq!(rt; bytes.as_slice(), self.bytes.as_slice(), "after {after}");
         Ok(())
@@ -165,8 +172,8 @@ impl Watched {
     /// Checks how many entries there are, and what the list tells, compact too.
     fn tells_of(&self, rt: &impl Abort, count: usize) -> Result<(), Fail> {
         assert_eq!(rt; self.list.len(), count);
-        self.tells(rt, count as u32)?;
-        self.compact()?.tells(rt, count as u32)
+        self.tells(rt, count)?;
+        self.compact()?.tells(rt, count)
     }
 }
 
@@ -256,16 +263,16 @@ fn lists_are_compared_and_parts_are_cut(rt: HostRuntime) -> Result<(), Fail> {
     let list = list_of(rt.alloc(), &[A, X])?;
     assert!(rt; is_same(rt.alloc(), &list, &[A, X])?);
     assert!(rt; !is_same(rt.alloc(), &list, &[A])?);
-    assert_eq!(rt; cut(A, 2, 3), Some((6, Some(2), 3)));
+    assert_eq!(rt; (cut(2, 3), end(X)), (Some(2), Some(4)));
     Ok(())
 }
 
 #[test]
 fn each_push_shows_whether_merged_or_not(rt: HostRuntime) -> Result<(), Fail> {
     let mut watched = Watched::new(rt.alloc())?;
-    for i in 0..70 {
+    for i in 0..70u32 {
         watched.push(step(i))?;
-        watched.tells(&rt, i)?;
+        watched.tells(&rt, i as usize)?;
     }
     Ok(())
 }
@@ -273,9 +280,9 @@ fn each_push_shows_whether_merged_or_not(rt: HostRuntime) -> Result<(), Fail> {
 #[test]
 fn each_appended_entry_shows_whether_merged_or_not(rt: HostRuntime) -> Result<(), Fail> {
     let mut watched = Watched::new(rt.alloc())?;
-    for i in 0..50 {
+    for i in 0..50u32 {
         watched.push(appended(i))?;
-        watched.tells(&rt, i)?;
+        watched.tells(&rt, i as usize)?;
     }
     Ok(())
 }
@@ -285,7 +292,7 @@ fn shared_lists_stay_as_they_were(rt: HostRuntime) -> Result<(), Fail> {
     let alloc = rt.alloc();
     let mut watched = Watched::new(alloc)?;
     let mut shares = Vec::new(alloc);
-    for block in 0..40 {
+    for block in 0..40u32 {
         watched.push_block(block)?;
         if block < 31 {
             shares.push(watched.share()?)?;

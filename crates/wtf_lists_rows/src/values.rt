@@ -1,17 +1,19 @@
 //! What comes of changes of worked rows, and keys in order.
 
-use crate::parts::{Row, entry, inode, list_of, pieces, slice};
+use crate::parts::{Row, entry, inode, pieces, slice};
 use std::alloc::Global;
 use std::process::Abort;
 use std::test::Fail;
+use wtf_base::OutOfMemory;
 use wtf_kv::{Cell, Kv, StoreKey, Summarized};
 use wtf_occ::Attempt;
+use wtf_overlay::Overlay;
 use wtf_path::Path;
 use wtf_values::{Delta, Key, Name, NameSet, Node, Pieces, RegionValue, Summary, Value};
 
 /// What came of a change: a region by its end, how far its base is seen, and the number of its
 /// entries; names by their number.
-#[derive(Clone, Copy, Debug, PartialEq)]
+#[derive(Debug, Drop, PartialEq)]
 enum Shape {
     Gone,
     Unfit,
@@ -22,7 +24,7 @@ enum Shape {
 }
 
 /// A change in plain numbers and texts.
-#[derive(Clone, Copy, Debug)]
+#[derive(Drop)]
 enum Edit<'a> {
     Push(Row),
     /// Zeros of these lengths, in a region of 64 bytes.
@@ -47,15 +49,15 @@ fn zeros(alloc: Global, lens: &[u64]) -> Result<Pieces, Fail> {
 }
 
 /// The change of a store that an edit stands for.
-fn delta(alloc: Global, edit: Edit) -> Result<Delta, Fail> {
+fn delta(alloc: Global, edit: &Edit) -> Result<Delta, Fail> {
     match edit {
-        Edit::Push(row) => Ok(Delta::Push(entry(row).ok_or("no entry")?)),
+        Edit::Push(row) => Ok(Delta::Push(entry(*row).ok_or("no entry")?)),
         Edit::Add(lens) => Ok(Delta::PushRel(zeros(alloc, lens)?, 64)),
-        Edit::Clip(end) => Ok(Delta::Clip(end)),
-        Edit::Zero(from, upto) => Ok(Delta::ZeroWithin(from, upto)),
-        Edit::Raise(n) => Ok(Delta::RaiseLast(n)),
-        Edit::SetLast(n) => Ok(Delta::SetLast(n)),
-        Edit::PutLast(n) => Ok(Delta::Put(Value::Last(n))),
+        Edit::Clip(end) => Ok(Delta::Clip(*end)),
+        Edit::Zero(from, upto) => Ok(Delta::ZeroWithin(*from, *upto)),
+        Edit::Raise(n) => Ok(Delta::RaiseLast(*n)),
+        Edit::SetLast(n) => Ok(Delta::SetLast(*n)),
+        Edit::PutLast(n) => Ok(Delta::Put(Value::Last(*n))),
         Edit::AddName(path) => Ok(Delta::DirAdd(name(alloc, path)?)),
         Edit::DropName(path) => Ok(Delta::DirDel(name(alloc, path)?)),
         Edit::Remove => Ok(Delta::Remove),
@@ -121,9 +123,9 @@ fn changes(
     now: Option<&Value>,
     rows: &[(Edit, Shape)],
 ) -> Result<(), Fail> {
-    for (edit, want) in rows {
-        let made = shape_after(alloc, now, &delta(alloc, *edit)?)?;
-        assert_eq!(rt; made, *want, "by {edit:?}");
+    for (i, (edit, want)) in rows.iter().enumerate() {
+        let made = shape_after(alloc, now, &delta(alloc, edit)?)?;
+        assert_eq!(rt; made, *want, "row {i}");
     }
     Ok(())
 }
@@ -214,12 +216,9 @@ fn pieces_are_read_back(rt: HostRuntime) -> Result<(), Fail> {
     Ok(())
 }
 
-/// The region of one row, up to its end.
-fn listed(alloc: Global, row: Row) -> Result<RegionValue, Fail> {
-    let e = entry(row).ok_or("no entry")?;
-    let mut list = list_of(alloc, &[])?;
-    list.push(e)?;
-    Ok(RegionValue::of_list(list, e.end()))
+/// The region of no entry, up to an end.
+fn listed(alloc: Global, end: u32) -> Result<RegionValue, OutOfMemory> {
+    Ok(RegionValue::of_list(Overlay::new(alloc)?, end))
 }
 
 fn copy_shape(region: &RegionValue) -> Result<Shape, Fail> {
@@ -230,8 +229,8 @@ fn copy_shape(region: &RegionValue) -> Result<Shape, Fail> {
 fn regions_are_made_and_copied(rt: HostRuntime) -> Result<(), Fail> {
     let empty = RegionValue::empty(rt.alloc())?;
     assert_eq!(rt; copy_shape(&empty)?, Shape::Region(0, None, 0));
-    let region = listed(rt.alloc(), (2, Some(6), 2))?;
-    assert_eq!(rt; copy_shape(&region)?, Shape::Region(4, None, 1));
+    let region = listed(rt.alloc(), 4)?;
+    assert_eq!(rt; copy_shape(&region)?, Shape::Region(4, None, 0));
     Ok(())
 }
 
@@ -254,7 +253,10 @@ fn names_are_added_in_any_order(rt: HostRuntime) -> Result<(), Fail> {
 /// Whether these are the names, in order.
 fn are_names(set: &NameSet, want: &[&[u8]]) -> bool {
     for (i, name) in want.iter().enumerate() {
-        if i >= set.count() || set.name(i) != *name {
+        if i >= set.count() {
+            return false;
+        }
+        if set.name(i) != *name {
             return false;
         }
     }
@@ -300,7 +302,7 @@ fn summaries(alloc: Global, edits: &[Edit]) -> Result<(Summary, Summary), Fail> 
     kv.pin(0)?;
     let mut attempt = Attempt::new(alloc, 0)?;
     for edit in edits {
-        attempt.delta(Key::Inode(inode()), delta(alloc, *edit)?)?;
+        attempt.delta(Key::Inode(inode()), delta(alloc, edit)?)?;
     }
     if !kv.is_pinned(attempt.base()) {
         return Err("the base is not pinned".into());
@@ -317,7 +319,7 @@ fn summaries_follow_changes(rt: HostRuntime) -> Result<(), Fail> {
         (&[Edit::PutLast(5), Edit::Raise(7)], Summary::Last(7)),
     ];
     for (edits, want) in rows {
-        assert_eq!(rt; summaries(rt.alloc(), edits)?, (want, want), "{edits:?}");
+        assert_eq!(rt; summaries(rt.alloc(), edits)?, (want, want));
     }
     Ok(())
 }
