@@ -272,6 +272,21 @@ fn names_stand_in_order(rt: HostRuntime) -> Result<(), Fail> {
     Ok(())
 }
 
+/// Whether a name has these bytes, and its share too.
+fn is_named(name: &Name, bytes: &[u8]) -> Result<bool, OutOfMemory> {
+    let shared = name.share()?;
+    Ok(name.as_bytes() == bytes && shared.compare(bytes).is_eq())
+}
+
+#[test]
+fn a_name_is_the_last_of_its_path(rt: HostRuntime) -> Result<(), Fail> {
+    let rows: [(&[u8], &[u8]); 3] = [(b"/a", b"a"), (b"/a/bc", b"bc"), (b"/", b"")];
+    for (path, want) in rows {
+        assert!(rt; is_named(&name(rt.alloc(), path)?, want)?);
+    }
+    Ok(())
+}
+
 /// A key of each kind, in order.
 fn keys(alloc: Global) -> Result<[Key; 4], Fail> {
     Ok([
