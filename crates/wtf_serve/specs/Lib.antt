@@ -13,3 +13,5 @@ pub mod Endings
 pub mod Unopened
 pub mod Beginnings
 pub mod Program
+pub use Rattle.wtf_words.specs.Words
+pub use Rattle.wtf_image.specs.Rules
