@@ -29,7 +29,7 @@ use Rattle.wtf_steps.specs.Recorded.{append_keys, read_keys, found_in}
 use Rattle.wtf_rw.specs.Stored.{TellsOwn, BringsSlice, SliceBytes, IsOwn, IsPutFault, Answers, end_place}
 use Rattle.wtf_rw.specs.Reads.{TellsRead, read_origin}
 use Rattle.wtf_steps.specs.Faults.{MayFault, LacksBytes}
-use Rattle.wtf_steps.specs.Scenes.{Scene}
+pub use Rattle.wtf_steps.specs.Scenes.{Scene, AreInside}
 
 -- the definitions' call, on the bytes that it writes, if it writes some
 abbrev pub op_of : RwOp → List ℕ → Op (List ℕ)
