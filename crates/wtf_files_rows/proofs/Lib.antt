@@ -1,1 +1,3 @@
 mod NameBytes
+mod FirstBytes
+mod TxnLaws

@@ -10,16 +10,16 @@ ghost use Rattle.wtf_rw.specs.Ops.{AreInside};
 
 use crate::ops::{Step, is_fresh, is_rw_form, is_slice_form, op, rw_op, slice_op};
 use crate::store::{Parts, begun, made_parts};
-use crate::texts::came_text;
+use crate::texts::{came_text, done_text, text};
 use std::alloc::Global;
 use std::process::Abort;
 use std::test::Fail;
-use wtf_base::{Bytes, Fault, InodeId, TxId};
+use wtf_base::{Bytes, InodeId, TxId};
 use wtf_dev::MemStore;
 use wtf_index::{create, mkdir};
 use wtf_kv::Kv;
 use wtf_meta::Session;
-use wtf_model::{Answer, Op};
+use wtf_model::Op;
 use wtf_occ::Attempt;
 use wtf_path::Path;
 use wtf_region::Dev;
@@ -32,7 +32,7 @@ fn create_made(
     at: &mut Attempt<Key, Value>,
     new: InodeId,
     p: &Path,
-) -> Result<Answer, Fail>
+) -> Result<String, Fail>
     ensures { OnOk result ((P : List Place → Bool) → P [] ≡ true →
         MapBytes P (seen kv.now at.old) → MapBytes P (seen kv.now at.new)) }
 {
@@ -40,7 +40,8 @@ fn create_made(
         return Err(Fail::from("a call out of form"));
     }
     let answer = create(alloc, kv, at, p, new)?;
-    Ok(answer)
+    let shown = text(alloc, &answer)?;
+    Ok(shown)
 }
 
 /// Makes a directory.
@@ -49,7 +50,7 @@ fn mkdir_made(
     kv: &Kv<Key, Value>,
     at: &mut Attempt<Key, Value>,
     p: &Path,
-) -> Result<Answer, Fail>
+) -> Result<String, Fail>
     ensures { OnOk result ((P : List Place → Bool) → P [] ≡ true →
         MapBytes P (seen kv.now at.old) → MapBytes P (seen kv.now at.new)) }
 {
@@ -57,7 +58,8 @@ fn mkdir_made(
         return Err(Fail::from("a call out of form"));
     }
     let answer = mkdir(alloc, kv, at, p)?;
-    Ok(answer)
+    let shown = text(alloc, &answer)?;
+    Ok(shown)
 }
 
 /// Makes a call on names, whose file, if it makes one, is `new`.
@@ -69,19 +71,19 @@ fn name_came(
     s: &Session,
     new: InodeId,
     op: &Op<Bytes>,
-) -> Result<Result<Answer, Fault>, Fail>
+) -> Result<String, Fail>
     requires { AreInside mem_store (stores dev.now) dev.now.settings (seen kv.now at.old) s.now }
     ensures { OnOk result (AreInside mem_store (stores dev.now) dev.now.settings
         (seen kv.now at.new) s.now) }
 {
     match op {
         Op::Create(p) => {
-            let answer = create_made(alloc, kv, at, new, p)?;
-            return Ok(Ok(answer));
+            let shown = create_made(alloc, kv, at, new, p)?;
+            return Ok(shown);
         }
         Op::Mkdir(p) => {
-            let answer = mkdir_made(alloc, kv, at, p)?;
-            return Ok(Ok(answer));
+            let shown = mkdir_made(alloc, kv, at, p)?;
+            return Ok(shown);
         }
         _ => return Err(Fail::from("no call")),
     }
@@ -95,7 +97,7 @@ fn rw_came(
     at: &mut Attempt<Key, Value>,
     s: &mut Session,
     op: &Op<Bytes>,
-) -> Result<Result<Answer, Fault>, Fail>
+) -> Result<String, Fail>
     requires sound { IsSoundDev dev.old }
     requires inside { AreInside mem_store (stores dev.old) dev.old.settings
         (seen kv.now at.old) s.old }
@@ -109,10 +111,9 @@ fn rw_came(
     if !is_rw_form(&op) || !is_fresh(&op) || !kv.is_pinned(at.base()) {
         return Err(Fail::from("a call out of form"));
     }
-    match wtf_rw::call(alloc, dev, kv, at, s, &op) {
-        Ok(done) => return Ok(Ok(done.answer)),
-        Err(why) => return Ok(Err(why)),
-    }
+    let came = wtf_rw::call(alloc, dev, kv, at, s, &op);
+    let shown = done_text(alloc, came)?;
+    Ok(shown)
 }
 
 /// Makes a call on slices, whose file, if it makes one, is `new`.
@@ -124,7 +125,7 @@ fn slice_came(
     s: &mut Session,
     new: InodeId,
     op: &Op<Bytes>,
-) -> Result<Result<Answer, Fault>, Fail>
+) -> Result<String, Fail>
     requires sound { IsSoundDev dev.old }
     requires inside { AreInside mem_store (stores dev.old) dev.old.settings
         (seen kv.now at.old) s.old }
@@ -138,10 +139,9 @@ fn slice_came(
     if !is_slice_form(&op) || new.index < 1 || !kv.is_pinned(at.base()) {
         return Err(Fail::from("a call out of form"));
     }
-    match wtf_slicing::call(alloc, dev, kv, at, s, new, &op) {
-        Ok(answer) => return Ok(Ok(answer)),
-        Err(why) => return Ok(Err(why)),
-    }
+    let came = wtf_slicing::call(alloc, dev, kv, at, s, new, &op);
+    let shown = came_text(alloc, came)?;
+    Ok(shown)
 }
 
 /// Makes the call of this number.
@@ -152,7 +152,7 @@ fn step_came(
     at: &mut Attempt<Key, Value>,
     s: &mut Session,
     step_at: (Step, u32),
-) -> Result<Result<Answer, Fault>, Fail>
+) -> Result<String, Fail>
     requires sound { IsSoundDev dev.old }
     requires inside { AreInside mem_store (stores dev.old) dev.old.settings
         (seen kv.now at.old) s.old }
@@ -166,15 +166,15 @@ fn step_came(
         index: step_at.1,
     };
     if rw_op(&op).is_some() {
-        let came = rw_came(alloc, dev, kv, at, s, &op)?;
-        return Ok(came);
+        let shown = rw_came(alloc, dev, kv, at, s, &op)?;
+        return Ok(shown);
     }
     if slice_op(&op).is_some() {
-        let came = slice_came(alloc, dev, kv, at, s, new, &op)?;
-        return Ok(came);
+        let shown = slice_came(alloc, dev, kv, at, s, new, &op)?;
+        return Ok(shown);
     }
-    let came = name_came(alloc, dev, kv, at, s, new, &op)?;
-    Ok(came)
+    let shown = name_came(alloc, dev, kv, at, s, new, &op)?;
+    Ok(shown)
 }
 
 /// Makes the calls one after another, and compares what comes of each.
@@ -197,8 +197,7 @@ pub(crate) fn rows_come(
     let mut number = 0u32;
     for (step, want) in rows {
         number = number.saturating_add(1);
-        let came = step_came(alloc, dev, kv, at, s, (*step, number))?;
-        let found = came_text(alloc, came)?;
+        let found = step_came(alloc, dev, kv, at, s, (*step, number))?;
         assert_eq!(rt; found.as_str(), *want, "row {number}");
     }
     Ok(())

@@ -4,6 +4,7 @@ use std::alloc::Global;
 use std::test::Fail;
 use wtf_base::Fault;
 use wtf_model::{Answer, Names, Word};
+use wtf_rw::Done;
 
 /// What came of a call.
 pub(crate) fn came_text(alloc: Global, came: Result<Answer, Fault>) -> Result<String, Fail> {
@@ -12,6 +13,14 @@ pub(crate) fn came_text(alloc: Global, came: Result<Answer, Fault>) -> Result<St
         Err(Fault::Read(k)) => Ok(format!(in alloc; "fault read {}", k.0)?),
         Err(Fault::Write) => Ok(String::from_str(alloc, "fault write")?),
         Err(_) => Ok(String::from_str(alloc, "another fault")?),
+    }
+}
+
+/// What came of a call on handles or bytes.
+pub(crate) fn done_text(alloc: Global, came: Result<Done, Fault>) -> Result<String, Fail> {
+    match came {
+        Ok(done) => text(alloc, &done.answer),
+        Err(why) => came_text(alloc, Err(why)),
     }
 }
 

@@ -65,16 +65,9 @@ fn called(
     if !is_form(&op) || txn.ended() {
         return Err(Fail::from("a call out of form, or too late"));
     }
-    match txn.call(dev, kv, op) {
-        Ok(answer) => {
-            let shown = text(alloc, &answer)?;
-            return Ok(shown);
-        }
-        Err(why) => {
-            let shown = came_text(alloc, Err(why))?;
-            return Ok(shown);
-        }
-    }
+    let came = txn.call(dev, kv, op);
+    let shown = came_text(alloc, came)?;
+    Ok(shown)
 }
 
 /// Makes the calls one after another, and compares what comes of each.
@@ -123,16 +116,9 @@ fn stepped(
     if txn.ended() {
         return Err(Fail::from("it has ended"));
     }
-    match txn.step(dev, kv) {
-        Ok(answer) => {
-            let shown = text(alloc, &answer)?;
-            return Ok(shown);
-        }
-        Err(why) => {
-            let shown = came_text(alloc, Err(why))?;
-            return Ok(shown);
-        }
-    }
+    let came = txn.step(dev, kv);
+    let shown = came_text(alloc, came)?;
+    Ok(shown)
 }
 
 /// Replays calls, and compares what comes of each.
