@@ -3,7 +3,8 @@
 use crate::ops::Step;
 use crate::store::{FILE, NEVER, Parts, made_parts, settings};
 use crate::turns::{
-    Whole, attempted, begun_before, calls_come, committed, root_alone, steps_come, whole_comes,
+    Whole, attempted, begun, begun_before, calls_come, committed, root_alone, steps_come,
+    whole_comes,
 };
 use std::alloc::Global;
 use std::process::Abort;
@@ -40,6 +41,44 @@ fn second<'a>(rows: &'a [(Step, &'a str)]) -> Whole<'a> {
         rows,
         ends: "committed 2",
     }
+}
+
+/// What a transaction alone answers to its try, after these calls.
+fn alone(rt: &impl Abort, alloc: Global, rows: &[(Step, &str)], want: &str) -> Result<u64, Fail> {
+    let Parts {
+        mut shelf,
+        replicas,
+        ring,
+        mut cache,
+        settings,
+    } = made_parts(alloc, NEVER, 2)?;
+    let mut dev = Dev {
+        shelf: &mut shelf,
+        replicas: &replicas,
+        ring: &ring,
+        cache: &mut cache,
+        settings,
+    };
+    let mut kv = root_alone(alloc)?;
+    let mut txn = begun(alloc, &dev, &mut kv, 1)?;
+    calls_come(rt, alloc, &mut dev, &kv, &mut txn, rows)?;
+    let found = attempted(alloc, &dev, &mut kv, &mut txn)?;
+    assert_eq!(rt; found.as_str(), want);
+    assert!(rt; txn.ended());
+    txn.drop_all(&mut kv);
+    len_now(alloc, &mut kv)
+}
+
+#[test]
+fn a_transaction_alone_commits(rt: HostRuntime) -> Result<(), Fail> {
+    let rows = [
+        (Step::Create("/a"), "ok"),
+        (Step::Open(0, "/a"), "ok"),
+        (Step::Append(0, "abc"), "ok"),
+    ];
+    let len = alone(&rt, rt.alloc(), &rows, "committed 1")?;
+    assert_eq!(rt; len, 3);
+    Ok(())
 }
 
 /// After a first transaction one that begins before a second one commits: it makes these calls,

@@ -1,11 +1,12 @@
 //! Transactions one beside another, on a store whose tree is the root alone.
 
-ghost use Rattle.std.specs.Prelude.{◌≡◌, List, Bool, false, IfOk, OnOk};
+ghost use Rattle.std.specs.Prelude.{◌≡◌, ℕ, false, IfOk, OnOk};
 ghost use Rattle.wtf_dev.specs.Memory.{mem_store};
 ghost use Rattle.wtf_meta.specs.Maps.{Map, metadata_at};
 ghost use Rattle.wtf_meta.specs.Trees.{IsFirst};
 ghost use Rattle.wtf_region.specs.Devs.{IsSoundDev, stores};
 ghost use Rattle.wtf_region.specs.Inside.{IsStoredInside};
+ghost use Rattle.wtf_replay.specs.Views.{begun as first};
 ghost use Rattle.wtf_replay.specs.Fits.{IsFit};
 ghost use Rattle.wtf_replay.specs.Insides.{IsInsideTxn};
 
@@ -195,6 +196,26 @@ pub(crate) fn committed(
     Ok(shown)
 }
 
+/// A transaction that begins.
+pub(crate) fn begun(
+    alloc: Global,
+    dev: &Dev<'_, MemStore>,
+    kv: &mut Kv<Key, Value>,
+    tx: u64,
+) -> Result<Txn, Fail>
+    requires { IsStoredInside mem_store (stores dev.now) dev.now.settings
+        (metadata_at kv.old kv.old.number) }
+    ensures value { IfOk result (λ x. x ≡ first tx kv.old.number) }
+    ensures fit { IfOk result (λ x. IsFit kv.new x) }
+    ensures inside { IfOk result
+        (λ x. IsInsideTxn mem_store (stores dev.now) dev.now.settings kv.new x) }
+    ensures maps { OnOk result ((n : ℕ) → metadata_at kv.new n ≡ metadata_at kv.old n) }
+    ensures number { OnOk result (kv.new.number ≡ kv.old.number) }
+{
+    let txn = Txn::begin(alloc, kv, TxId(tx))?;
+    Ok(txn)
+}
+
 /// A transaction from its begin to its end. Then all of the map before lies inside the stores, as
 /// all of the map now.
 pub(crate) fn whole_comes(
@@ -213,7 +234,7 @@ pub(crate) fn whole_comes(
     ensures before { OnOk result (IsStoredInside mem_store (stores dev.new) dev.new.settings
         (metadata_at kv.new kv.old.number)) }
 {
-    let mut txn = Txn::begin(alloc, kv, TxId(whole.tx))?;
+    let mut txn = begun(alloc, dev, kv, whole.tx)?;
     calls_come(rt, alloc, dev, kv, &mut txn, whole.rows)?;
     let found = committed(alloc, dev, kv, &mut txn)?;
     assert_eq!(rt; found.as_str(), whole.ends);
@@ -241,7 +262,7 @@ pub(crate) fn begun_before(
         (λ x. IsInsideTxn mem_store (stores dev.new) dev.new.settings kv.new x) }
 {
     let number = kv.number();
-    let txn = Txn::begin(alloc, kv, TxId(tx))?;
+    let txn = begun(alloc, dev, kv, tx)?;
     whole_comes(rt, alloc, dev, kv, other)?;
     if !kv.is_pinned(number) {
         return Err(Fail::from("no pin"));
