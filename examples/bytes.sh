@@ -1,20 +1,20 @@
 #!/bin/sh
-# Puts a file of random bytes into the store and takes it out again, in one run, and compares the two byte by byte.
+# Puts a file of random bytes into a store and takes it out again, in a run of its own, and compares the two byte by byte.
 #
-#   examples/bytes.sh [PROGRAM [BYTES]]     PROGRAM is build/wtf, BYTES is 1048576
+#   examples/bytes.sh [BYTES]     BYTES is 1048576
+#
+# build/wtf and build/wtf_file are what `make build` makes.
 set -eu
 top=$(cd "$(dirname "$0")/.." && pwd)
-program=${1:-$top/build/wtf}
-bytes=${2:-1048576}
-[ -x "$program" ] || { echo "bytes.sh: there is no $program; 'make build' makes it" >&2; exit 2; }
+bytes=${1:-1048576}
 work=$(mktemp -d)
 trap 'rm -rf "$work"' EXIT
 trap 'exit 1' HUP INT TERM
 
+mkdir "$work/store"
 head -c "$bytes" /dev/urandom > "$work/file"
-"$top/tools/wtf-put" "$work/file" /data/file > "$work/script"
-"$program" "$work/store" < "$work/script" > "$work/answers"
-"$top/tools/wtf-get" /data/file "$work/copy" "$work/script" < "$work/answers"
+"$top/tools/wtf-put" "$work/store" /data/file < "$work/file"
+"$top/tools/wtf-get" "$work/store" /data/file "$work/copy"
 cmp "$work/file" "$work/copy"
 
 stored=$(($(cat "$work"/store/s*/[0-7] | wc -c)))

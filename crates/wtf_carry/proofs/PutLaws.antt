@@ -1,0 +1,107 @@
+-- How the lines that put a file come to be written, piece by piece.
+use Rattle.std.proofs.Common.{rules, ◌≡◌, ℕ, zero, suc, ◌+◌, ◌-◌, ◌^◌, ◌<◌, ◌≤◌, ◌==◌, Bool, true, false, List, [], ◌∷◌, ◌++◌, length, take, drop, Option, Some, None, refl, sym, ap, ◌∙◌, arith, append_assoc, subst}
+use Rattle.std.specs.Prelude.{All}
+use Rattle.std.proofs.lemmas.List.{length-append, append-nil, length-take-le, take-append-drop}
+use Rattle.std.proofs.lemmas.List.Elements.{All-nil, All-cons, All-append, All-weaker}
+use Rattle.hex.specs.Hex.{IsBytes}
+use Rattle.wtf_path.specs.Grammar.{IsPath}
+use Rattle.wtf_model.specs.declared.limits.TheConstants.{MAX_NUMBER, MAX_WRITTEN}
+use Rattle.wtf_carry.specs.declared.TheConstants.{MOST_BYTES}
+use Rattle.wtf_carry.specs.Asked.{Asked, Asks, text_of, turn, total, carried, writes, begin_line, try_line, create_line, open_line, write_line}
+use Rattle.wtf_carry.specs.Ways.{IsWayUp, mkdirs}
+use Rattle.wtf_carry.specs.Puts.{head_lines, put_lines, joined, IsPiece, Puts, HasHead, Carries, CarriesEnd, Sofar}
+use Rattle.wtf_carry.proofs.Events.{begin-asks, try-asks, create-asks, open-asks, write-asks}
+use Rattle.wtf_carry.proofs.Carried.{text_of-append, total-push, carried-push, joined-push, joined-size, carried-asks, mkdirs-ask}
+
+pub sofar-start : (path all old head : List ℕ) (left new : Option (List ℕ)) → HasHead path [] head → left ≡ Some all → new ≡ Some (old ++ head)
+    → Sofar path all old 0 0 left new
+sofar-start path all old head left new h from to = record {
+  is_path = h.is_path;
+  up = h.up;
+  pieces = [];
+  rest = all;
+  way = h.way;
+  bytes = refl;
+  left_is = from;
+  sized = All-nil IsPiece;
+  count = refl;
+  size = refl;
+  new_is = to ∙ ap Some (ap (λ (l : List ℕ). old ++ l) (h.new_is ∙ ap text_of (sym (append-nil (head_lines path h.up)))));
+}
+
+-- a text, and more
+joined_text : (old : List ℕ) (xs ys : List Asked) → (old ++ text_of xs) ++ text_of ys ≡ old ++ text_of (xs ++ ys)
+joined_text old xs ys = append_assoc old (text_of xs) (text_of ys) ∙ ap (λ (l : List ℕ). old ++ l) (sym (text_of-append xs ys))
+
+pub sofar-more : (path all old : List ℕ) (i at n : ℕ) (left new left' new' : Option (List ℕ)) (s : Sofar path all old i at left new)
+    → Carries path i at n s.rest (old ++ text_of (head_lines path s.up ++ carried writes path 0 0 s.pieces)) left' new' → Sofar path all old (i + 1) (at + n) left' new'
+sofar-more path all old i at n left new left' new' s c =
+    let head = head_lines path s.up in
+    let before = carried writes path 0 0 s.pieces in
+    let more = turn try_line path i at ++ write_line c.piece ∷ [] in
+    let push = carried-push writes path 0 0 s.pieces c.piece i at (omega (arith, s.count)) (omega (arith, s.size)) in
+    record {
+      is_path = s.is_path;
+      up = s.up;
+      pieces = s.pieces ++ c.piece ∷ [];
+      rest = c.then;
+      way = s.way;
+      bytes = s.bytes ∙ ap (λ (l : List ℕ). joined s.pieces ++ l) c.rest_is ∙ sym (append_assoc (joined s.pieces) c.piece c.then)
+          ∙ ap (λ (l : List ℕ). l ++ c.then) (sym (joined-push s.pieces c.piece));
+      left_is = c.left_is;
+      sized = All-append IsPiece s.pieces (c.piece ∷ []) s.sized (All-cons IsPiece c.piece [] c.is (All-nil IsPiece));
+      count = omega (arith, length-append s.pieces (c.piece ∷ []), s.count);
+      size = omega (arith, total-push (λ (piece : List ℕ). length piece) s.pieces c.piece, s.size, c.count);
+      new_is = c.new_is ∙ ap Some (joined_text old (head ++ before) more
+          ∙ ap (λ (xs : List Asked). old ++ text_of xs) (append_assoc head before more ∙ ap (λ (xs : List Asked). head ++ xs) (sym push)));
+    }
+
+piece-asks : (piece : List ℕ) → IsPiece piece → Asks (write_line piece)
+piece-asks piece is = write-asks piece is.2 is.1
+
+head-asks : (path : List ℕ) (up : List (List ℕ)) → IsPath path → IsWayUp path up → All Asks (head_lines path up)
+head-asks path up is way =
+    All-cons Asks begin_line (mkdirs up ++ create_line path ∷ open_line path ∷ []) begin-asks
+    (All-append Asks (mkdirs up) (create_line path ∷ open_line path ∷ []) (mkdirs-ask path up way)
+    (All-cons Asks (create_line path) (open_line path ∷ []) (create-asks path is) (All-cons Asks (open_line path) [] (open-asks path is) (All-nil Asks))))
+
+pub sofar-end : (path all old : List ℕ) (i at : ℕ) (left new left' new' then : Option (List ℕ)) (s : Sofar path all old i at left new) → at ≤ MOST_BYTES
+    → CarriesEnd s.rest (old ++ text_of (head_lines path s.up ++ carried writes path 0 0 s.pieces)) left' new'
+    → then ≡ Some ((old ++ text_of (head_lines path s.up ++ carried writes path 0 0 s.pieces)) ++ text_of (try_line ∷ []))
+    → Puts path all old then
+sofar-end path all old i at left new left' new' then s fits c last =
+    let head = head_lines path s.up in
+    let before = carried writes path 0 0 s.pieces in
+    let is = s.is_path in
+    let P : List ℕ → Type 0 = λ piece. Asks (write_line piece) in
+    record {
+      up = s.up;
+      pieces = s.pieces;
+      way = s.way;
+      bytes = sym (s.bytes ∙ ap (λ (l : List ℕ). joined s.pieces ++ l) c.rest_is ∙ append-nil (joined s.pieces));
+      sized = s.sized;
+      new_is = last ∙ ap Some (joined_text old (head ++ before) (try_line ∷ []) ∙ ap (λ (xs : List Asked). old ++ text_of xs) (append_assoc head before (try_line ∷ [])));
+      asks = All-append Asks head (before ++ try_line ∷ []) (head-asks path s.up is s.way)
+          (All-append Asks before (try_line ∷ []) (carried-asks writes path 0 0 s.pieces try-asks is (omega (arith, s.size)) (All-weaker IsPiece P piece-asks s.pieces s.sized))
+          (All-cons Asks try_line [] try-asks (All-nil Asks)));
+    }
+
+pub sofar-too_long : (path all old : List ℕ) (i at : ℕ) (left new : Option (List ℕ)) (s : Sofar path all old i at left new) → MOST_BYTES < at + length s.rest → MOST_BYTES < length all
+sofar-too_long path all old i at left new s h =
+    omega (arith, ap length s.bytes, length-append (joined s.pieces) s.rest, joined-size s.pieces, s.size)
+
+pub carries-one : (path : List ℕ) (i at n : ℕ) (rest old out piece text : List ℕ) (left new : Option (List ℕ)) → n ≤ length rest → take n out ≡ take n rest
+    → left ≡ Some (drop n rest) → piece ≡ take n out → 1 ≤ n → n ≤ MAX_WRITTEN → IsBytes piece
+    → text ≡ text_of (turn try_line path i at ++ write_line piece ∷ []) → new ≡ Some (old ++ text) → Carries path i at n rest old left new
+carries-one path i at n rest old out piece text left new short same from is some most bytes lines to =
+    let p : piece ≡ take n rest = is ∙ same in
+    let size : length piece ≡ n = ap length p ∙ length-take-le n rest short in
+    record {
+      piece = piece;
+      then = drop n rest;
+      rest_is = sym (ap (λ (l : List ℕ). l ++ drop n rest) p ∙ take-append-drop n rest);
+      left_is = from;
+      count = size;
+      is = (omega (arith, size), omega (arith, size), bytes);
+      new_is = to ∙ ap Some (ap (λ (l : List ℕ). old ++ l) lines);
+    }

@@ -1,0 +1,87 @@
+-- The answers to the lines that read a file, and the bytes in them.
+use Rattle.std.specs.Prelude.{◌≡◌, ℕ, ◌+◌, ◌-◌, ◌^◌, ◌<◌, ◌≤◌, ◌==◌, Bool, true, List, [], ◌∷◌, ◌++◌, length, take, drop, codes, bytes_eq, map, Option, Some, None, Result, Ok, Err}
+use Rattle.std.specs.List.{flat_map, All}
+use Rattle.wtf_model.specs.declared.answer.Answer.{Answer}
+use Rattle.wtf_model.specs.declared.answer.Answer.TheVariants as answer
+use Rattle.wtf_carry.specs.declared.stop.Stop.{Stop}
+use Rattle.wtf_script.specs.ScriptLines.{lines_of}
+use Rattle.wtf_script.specs.Reading.{Held}
+use Rattle.wtf_print.specs.Texts.{text_of}
+use Rattle.wtf_print.specs.Forms.{IsWritable}
+
+-- the bytes that an answer shows
+abbrev pub shown : Answer → List ℕ
+shown (answer.Shown bytes) = bytes
+shown a = []
+
+abbrev pub all_shown : List Answer → List ℕ
+all_shown answers = flat_map shown answers
+
+-- the answers that the lines which read a file have where nothing is wrong: `begun`, `ok` and `data`
+abbrev pub IsGood : Answer → Type 0
+IsGood (answer.Begun n) = Unit {0}
+IsGood answer.Okay = Unit {0}
+IsGood (answer.Shown bytes) = Unit {0}
+IsGood a = ⊥
+
+-- the line that answers begin with
+abbrev pub is_first : List ℕ → Bool
+is_first line = bytes_eq (take 12 line) (codes "wtf servers ")
+
+abbrev pub IsFirst : List ℕ → Type 0
+IsFirst line = is_first line ≡ true
+
+-- Lines, but for the first one, are the texts of answers in form
+pub record AreAnswers (lines : List (List ℕ)) (answers : List Answer) : Type 0 where
+  pub first : List ℕ
+  pub begins : IsFirst first
+  pub lines_are : lines ≡ first ∷ map text_of answers
+  pub writable : All IsWritable answers
+
+-- The bytes of a file of this length were taken out of the answers
+pub record Gets (len : ℕ) (lines : List (List ℕ)) (old : List ℕ) (new : Option (List ℕ)) : Type 0 where
+  pub answers : List Answer
+  pub are : AreAnswers lines answers
+  pub good : All IsGood answers
+  pub size : length (all_shown answers) ≡ len
+  pub new_is : new ≡ Some (old ++ all_shown answers)
+
+-- a line was taken, and the bytes that it shows written
+pub record Takes (line : List ℕ) (n : ℕ) (old : List ℕ) (new : Option (List ℕ)) : Type 0 where
+  pub answer : Answer
+  pub is : text_of answer ≡ line
+  pub writable : IsWritable answer
+  pub good : IsGood answer
+  pub size : n ≡ length (shown answer)
+  pub new_is : new ≡ Some (old ++ shown answer)
+
+-- once the end was seen nothing is left
+abbrev pub IsOver : Held → List ℕ → Type 0
+IsOver held rest = held.ended ≡ true → held.bytes ++ rest ≡ []
+
+-- a line was read of what was held and left
+pub record ComesLine (line : List ℕ) (old : Held) (rest : List ℕ) (new : Held) (left : Option (List ℕ)) : Type 0 where
+  pub then : List ℕ
+  pub left_is : left ≡ Some then
+  pub lines_are : lines_of (old.bytes ++ rest) ≡ line ∷ lines_of (new.bytes ++ then)
+  pub over : IsOver new then
+
+-- what came of asking for a line
+abbrev pub Comes : Held → List ℕ → Held → Option (List ℕ) → Result (Option (List ℕ)) Stop → Type 0
+Comes old rest new left (Ok (Some line)) = ComesLine line old rest new left
+Comes old rest new left (Ok None) = lines_of (old.bytes ++ rest) ≡ []
+Comes old rest new left (Err why) = Unit {0}
+
+-- so far these answers were taken
+pub record GetSofar (len left : ℕ) (script : List ℕ) (held : Held) (from : Option (List ℕ)) (old : List ℕ) (new : Option (List ℕ)) : Type 0 where
+  pub first : List ℕ
+  pub answers : List Answer
+  pub rest : List ℕ
+  pub begins : IsFirst first
+  pub from_is : from ≡ Some rest
+  pub lines_are : lines_of script ≡ first ∷ (map text_of answers ++ lines_of (held.bytes ++ rest))
+  pub over : IsOver held rest
+  pub writable : All IsWritable answers
+  pub good : All IsGood answers
+  pub size : length (all_shown answers) + left ≡ len
+  pub new_is : new ≡ Some (old ++ all_shown answers)
