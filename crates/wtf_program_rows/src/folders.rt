@@ -7,7 +7,7 @@ use std::test::Fail;
 use std::{env, process};
 use wtf_base::Settings;
 use wtf_dev::{Keeper, MemSink, MemSource, Shelf, SliceStore};
-use wtf_real::{DirStore, FileKeeper};
+use wtf_real::{DirStore, FileKeeper, FolderLock, StandIns};
 use wtf_serve::serve;
 
 /// A script that writes, one that goes on with what it left, and their outputs.
@@ -23,21 +23,25 @@ fn fresh(rt: &HostRuntime) -> Result<String, Fail> {
     Ok(path)
 }
 
-/// The stores in the folders `s0` to `s15` of a directory.
-fn stores_in(rt: &HostRuntime, dir: &str) -> Result<Shelf<DirStore<File>>, Fail> {
+/// The folder of a store, held.
+fn hold(rt: &HostRuntime, dir: &str) -> Result<FolderLock<File>, Fail> {
+    let standing = StandIns::open(rt)?;
+    Ok(FolderLock::open(rt, &standing, dir)?)
+}
+
+/// The stores of all servers in a folder that is held.
+fn stores_in(rt: &HostRuntime, lock: &FolderLock<File>) -> Result<Shelf<DirStore<File>>, Fail> {
     let mut stores = Vec::new(rt.alloc());
     for k in 0..16u8 {
-        let path = format!(in rt.alloc(); "{dir}/s{k}")?;
-        let store = DirStore::open(rt, path.as_str())?;
+        let store = DirStore::open(rt, lock, k)?;
         stores.push(store)?;
     }
     shelf_of(rt.alloc(), stores)
 }
 
-/// The keeper of the image in a directory.
-fn keeper_in(rt: &HostRuntime, dir: &str) -> Result<FileKeeper<HostRuntime>, Fail> {
-    let image = format!(in rt.alloc(); "{dir}/image")?;
-    Ok(FileKeeper::open(rt, image.as_str())?)
+/// The keeper of the image in a folder that is held.
+fn keeper_in(rt: &HostRuntime, lock: &FolderLock<File>) -> Result<FileKeeper<HostRuntime>, Fail> {
+    Ok(FileKeeper::open(rt, lock)?)
 }
 
 /// The status and the output of a script over three servers with two copies of each slice.
@@ -57,8 +61,9 @@ fn answers_over<S: SliceStore, K: Keeper>(
 
 /// The same over what stands in a directory.
 fn answers_in(rt: &HostRuntime, dir: &str, script: &[u8]) -> Result<(u8, Vec<u8>), Fail> {
-    let mut shelf = stores_in(rt, dir)?;
-    let mut keeper = keeper_in(rt, dir)?;
+    let lock = hold(rt, dir)?;
+    let mut shelf = stores_in(rt, &lock)?;
+    let mut keeper = keeper_in(rt, &lock)?;
     answers_over(rt, script, &mut shelf, &mut keeper)
 }
 
