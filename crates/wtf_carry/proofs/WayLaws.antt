@@ -32,7 +32,7 @@ ways-more path d old then now e long is h to = record {
   up = d ∷ h.up;
   is = (e, (λ k. long (ap length k)), is, h.is);
   new_is = to ∙ ap (λ (l : List ℕ). l ++ ((codes "c0 mkdir " ++ d) ++ line_feed ∷ [])) h.new_is
-    ∙ append_assoc old (text_of (mkdirs h.up)) ((codes "c0 mkdir " ++ d) ++ line_feed ∷ [])
-    ∙ ap (λ (l : List ℕ). old ++ l) (ap (λ (l : List ℕ). text_of (mkdirs h.up) ++ l) (sym (append-nil ((codes "c0 mkdir " ++ d) ++ line_feed ∷ [])))
-    ∙ sym (text_of-append (mkdirs h.up) (mkdir_line d ∷ [])));
+      ∙ append_assoc old (text_of (mkdirs h.up)) ((codes "c0 mkdir " ++ d) ++ line_feed ∷ [])
+      ∙ ap (λ (l : List ℕ). old ++ l) (ap (λ (l : List ℕ). text_of (mkdirs h.up) ++ l) (sym (append-nil ((codes "c0 mkdir " ++ d) ++ line_feed ∷ [])))
+      ∙ sym (text_of-append (mkdirs h.up) (mkdir_line d ∷ [])));
 }

@@ -10,9 +10,8 @@ mod task;
 
 use crate::status::{OUT_OF_MEMORY, WORDS_REFUSED, WRITING_FAILED, line_of, stop_status};
 use crate::task::{Task, task_of};
-use std::env;
-use std::io;
 use std::process::ExitCode;
+use std::{env, io};
 use wtf_carry::{Stop, get, put, reads};
 use wtf_dev::{Sink, Source};
 use wtf_real::streams;

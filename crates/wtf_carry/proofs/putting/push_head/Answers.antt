@@ -18,9 +18,9 @@ returns c =
     let one = text-more old old t1 [] begin_line (sym (append-nil old)) c.in_ok-push_line.ensures in
     let two = texts-more old t1 t2 (begin_line ∷ []) (mkdirs ways.up) one ways.new_is in
     let three = text-more old t2 t3 (begin_line ∷ mkdirs ways.up) (create_line path) two
-        (c.in_ok-push_line-2.ensures ∙ ap (λ (p : List ℕ). t2 ++ ((codes "c0 create " ++ p) ++ line_feed ∷ [])) c.as_bytes.ensures.value) in
+    (c.in_ok-push_line-2.ensures ∙ ap (λ (p : List ℕ). t2 ++ ((codes "c0 create " ++ p) ++ line_feed ∷ [])) c.as_bytes.ensures.value) in
     let four = text-more old t3 t4 (begin_line ∷ (mkdirs ways.up ++ create_line path ∷ [])) (open_line path) three
-        (c.in_ok-push_line-3.ensures ∙ ap (λ (p : List ℕ). t3 ++ ((codes "c0 open f0 " ++ p) ++ line_feed ∷ [])) c.as_bytes-2.ensures.value) in
+    (c.in_ok-push_line-3.ensures ∙ ap (λ (p : List ℕ). t3 ++ ((codes "c0 open f0 " ++ p) ++ line_feed ∷ [])) c.as_bytes-2.ensures.value) in
     record {
       is_path = c.as_bytes.ensures.well_formed;
       up = ways.up;
