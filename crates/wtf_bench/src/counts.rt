@@ -2,7 +2,7 @@
 
 ghost use Rattle.std.specs.Prelude.{◌<◌, length};
 
-use crate::figures::{len_at, memory, pins_of, settings_at};
+use crate::figures::{memory, pins_of, settings_at};
 use crate::lists::{PLANS, compact_len, filled, plans};
 use crate::slices::{create, failed, inode, shelf_of};
 use crate::texts::{answer_of, line_of, prints, reads, unread};
@@ -39,7 +39,7 @@ fn slices(rt: &HostRuntime) -> io::Result<()> {
     let mut shelf = shelf_of(rt.alloc(), settings.servers).map_err(memory)?;
     let ring = Ring::new(rt.alloc(), settings.servers).map_err(memory)?;
     let place = ring.order(inode(0), 0);
-    create(&replicas, &mut shelf, &place, &bytes[..len_at(0)]).map_err(failed)?;
+    create(&replicas, &mut shelf, &place, &bytes).map_err(failed)?;
     let (copies, stored) = (settings.replicas, stored(&shelf));
     println!(rt; "slices: copies {copies} bytes {stored}")
 }

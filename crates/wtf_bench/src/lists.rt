@@ -117,7 +117,7 @@ pub fn filled(alloc: Global, n: u32) -> Result<Overlay, OutOfMemory> {
 fn place(i: u32, n: u32) -> u32
     ensures { result + 1 < 2 ^ 32 }
 {
-    let slot = key_at(i as u64, n.max(1) as u64) as u32;
+    let slot = u32::try_from(key_at(i as u64, n as u64)).unwrap_or(0);
     slot.saturating_mul(STEP).min(u32::MAX - RANGE)
 }
 
