@@ -1,5 +1,5 @@
 -- How the answers to the lines that read a file come to be taken.
-use Rattle.std.proofs.Common.{rules, ◌≡◌, ℕ, zero, suc, ◌+◌, ◌-◌, ◌<◌, ◌≤◌, Bool, true, false, cond, List, [], ◌∷◌, ◌++◌, length, map, Option, Some, None, Result, Ok, Err, refl, sym, ap, ◌∙◌, arith, append_assoc, inl, inr}
+use Rattle.std.proofs.Common.{rules, ◌≡◌, ℕ, zero, suc, ◌+◌, ◌-◌, ◌<◌, ◌≤◌, Bool, true, false, cond, List, [], ◌∷◌, ◌++◌, length, map, Option, Some, None, Result, Ok, Err, refl, sym, ap, ◌∙◌, arith, append_assoc, inl, inr, subst}
 use Rattle.std.proofs.lemmas.Bool.{false≢true}
 use Rattle.std.specs.Prelude.{All}
 use Rattle.std.specs.Bool.{MatchBool}
@@ -15,7 +15,7 @@ use Rattle.wtf_script.specs.declared.error.ReadError.{ReadError}
 use Rattle.wtf_script.proofs.LinesOf.{lines_of-line, lines_of-plain}
 use Rattle.wtf_print.specs.Texts.{text_of}
 use Rattle.wtf_print.specs.Forms.{IsWritable}
-use Rattle.wtf_carry.specs.Gets.{shown, all_shown, IsGood, IsFirst, AreAnswers, Gets, Takes, IsOver, ComesLine, GetSofar}
+use Rattle.wtf_carry.specs.Gets.{shown, all_shown, IsGood, is_first, IsFirst, AreAnswers, Gets, Takes, IsOver, ComesLine, Comes, GetSofar}
 
 nil_of : (xs ys : List ℕ) → xs ++ ys ≡ [] → ys ≡ []
 nil_of [] ys e = e
@@ -106,3 +106,22 @@ came-whole line old new rest left result e r = let k = rw e at r in comes-line l
 pub came-end : (old new : Held) (rest : List ℕ) (left : Option (List ℕ)) (result : Result (Option Line) ReadError) → result ≡ Ok None
     → Reads old rest new left result → IsOver old rest → lines_of (old.bytes ++ rest) ≡ []
 came-end old new rest left result e r over = let k = rw e at r in comes-end old new rest left k over
+
+pub none_of : {A : Type 0} (o : Option A) → ((x : A) → o ≡ Some x → ⊥) → o ≡ None
+none_of (Some x) f = absurd (f x refl)
+none_of None f = refl
+
+pub comes-some : (line : List ℕ) (old new : Held) (rest : List ℕ) (left : Option (List ℕ)) (came : Option (List ℕ)) → came ≡ Some line → Comes old rest new left (Ok came)
+    → ComesLine line old rest new left
+comes-some line old new rest left came e c = let P : Option (List ℕ) → Type 0 = λ o. Comes old rest new left (Ok o) in subst P e c
+
+pub comes-none : (old new : Held) (rest : List ℕ) (left : Option (List ℕ)) (came : Option (List ℕ)) → came ≡ None → Comes old rest new left (Ok came)
+    → lines_of (old.bytes ++ rest) ≡ []
+comes-none old new rest left came e c = let P : Option (List ℕ) → Type 0 = λ o. Comes old rest new left (Ok o) in subst P e c
+
+pub get-begin : (len : ℕ) (script old first : List ℕ) (begin held : Held) (from new : Option (List ℕ)) (came : Option (List ℕ))
+    → begin ≡ record { bytes = []; count = 0; ended = false } → came ≡ Some first → is_first first ≡ true → (IsOver begin script → Comes begin script held from (Ok came))
+    → new ≡ Some old → GetSofar len len script held from old new
+get-begin len script old first begin held from new came e some is f to =
+    let over : IsOver begin script = λ k. absurd (false≢true (sym (ap (λ (h : Held). h.ended) e) ∙ k)) in
+    get_sofar-start len script old first begin held from new (ap (λ (h : Held). h.bytes) e) is (comes-some first begin held script from came some (f over)) to

@@ -1,15 +1,17 @@
 -- How the lines that put a file come to be written, piece by piece.
-use Rattle.std.proofs.Common.{rules, ◌≡◌, ℕ, zero, suc, ◌+◌, ◌-◌, ◌^◌, ◌<◌, ◌≤◌, ◌==◌, Bool, true, false, List, [], ◌∷◌, ◌++◌, length, take, drop, Option, Some, None, refl, sym, ap, ◌∙◌, arith, append_assoc, subst}
+use Rattle.std.proofs.Common.{rules, ◌≡◌, ℕ, zero, suc, ◌+◌, ◌-◌, ◌^◌, ◌<◌, ◌≤◌, ◌==◌, Bool, true, false, List, [], ◌∷◌, ◌++◌, length, take, drop, Option, Some, None, refl, sym, ap, ◌∙◌, arith, append_assoc, subst, Result, Ok, Err}
 use Rattle.std.specs.Prelude.{All}
 use Rattle.std.proofs.lemmas.List.{length-append, append-nil, length-take-le, take-append-drop}
 use Rattle.std.proofs.lemmas.List.Elements.{All-nil, All-cons, All-append, All-weaker}
 use Rattle.hex.specs.Hex.{IsBytes}
 use Rattle.wtf_path.specs.Grammar.{IsPath}
 use Rattle.wtf_model.specs.declared.limits.TheConstants.{MAX_NUMBER, MAX_WRITTEN}
+use Rattle.wtf_carry.specs.declared.stop.Stop.{Stop}
+use Rattle.wtf_carry.specs.declared.stop.Stop.TheVariants as stop
 use Rattle.wtf_carry.specs.declared.TheConstants.{MOST_BYTES}
 use Rattle.wtf_carry.specs.Asked.{Asked, Asks, text_of, turn, total, carried, writes, begin_line, try_line, create_line, open_line, write_line}
 use Rattle.wtf_carry.specs.Ways.{IsWayUp, mkdirs}
-use Rattle.wtf_carry.specs.Puts.{head_lines, put_lines, joined, IsPiece, Puts, HasHead, Carries, CarriesEnd, Sofar}
+use Rattle.wtf_carry.specs.Puts.{head_lines, put_lines, joined, IsPiece, Puts, HasHead, Carries, CarriesEnd, CarriesTo, Sofar}
 use Rattle.wtf_carry.proofs.Events.{begin-asks, try-asks, create-asks, open-asks, write-asks}
 use Rattle.wtf_carry.proofs.Carried.{text_of-append, total-push, carried-push, joined-push, joined-size, carried-asks, mkdirs-ask}
 
@@ -105,3 +107,15 @@ carries-one path i at n rest old out piece text left new short same from is some
       is = (omega (arith, size), omega (arith, size), bytes);
       new_is = to ∙ ap Some (ap (λ (l : List ℕ). old ++ l) lines);
     }
+
+pub carries-some : (path : List ℕ) (i at n : ℕ) (rest old : List ℕ) (left new : Option (List ℕ)) (came : Option ℕ) → came ≡ Some n → CarriesTo path i at rest old left new (Ok came)
+    → Carries path i at n rest old left new
+carries-some path i at n rest old left new came e c = let P : Option ℕ → Type 0 = λ o. CarriesTo path i at rest old left new (Ok o) in subst P e c
+
+pub carries-none : (path : List ℕ) (i at : ℕ) (rest old : List ℕ) (left new : Option (List ℕ)) (came : Option ℕ) → came ≡ None → CarriesTo path i at rest old left new (Ok came)
+    → CarriesEnd rest old left new
+carries-none path i at rest old left new came e c = let P : Option ℕ → Type 0 = λ o. CarriesTo path i at rest old left new (Ok o) in subst P e c
+
+pub carries-too_long : (path : List ℕ) (i at : ℕ) (rest old : List ℕ) (left new : Option (List ℕ)) (result : Result (Option ℕ) Stop) → result ≡ Err stop.TooLong
+    → CarriesTo path i at rest old left new result → MOST_BYTES < at + length rest
+carries-too_long path i at rest old left new result e c = let P : Result (Option ℕ) Stop → Type 0 = λ r. CarriesTo path i at rest old left new r in subst P e c
