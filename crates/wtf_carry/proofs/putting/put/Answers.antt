@@ -50,7 +50,7 @@ returns-in-Ok-write_all-clause-put g c = λ all old from to.
     let mid = old ++ text_of (head_lines path s.up ++ carried writes path 0 0 s.pieces) in
     let e : c.in_ok-n.field-0 ≡ None = search rules in
     let end = carries-none path c.loop-text.i c.loop-text.at s.rest mid (g.I.Source.view c.carry.new.from).rest (g.O.Sink.view c.carry.new.out).taken c.in_ok-n.field-0 e
-        (c.in_ok-n.ensures.carried s.rest mid s.left_is s.new_is) in
+    (c.in_ok-n.ensures.carried s.rest mid s.left_is s.new_is) in
     sofar-end path all old c.loop-text.i c.loop-text.at (g.I.Source.view c.loop-text.from).rest (g.O.Sink.view c.loop-text.out).taken
     (g.I.Source.view c.carry.new.from).rest (g.O.Sink.view c.carry.new.out).taken (g.O.Sink.view c.write_all-2.new.out).taken s c.loop-text.invariant.within end
     (c.in-Ok-write_all.ensures.told mid end.new_is)
