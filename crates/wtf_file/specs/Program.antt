@@ -1,21 +1,14 @@
--- What the words ask for, how the program ends, and the line that it writes for each status.
-use Rattle.std.specs.Prelude.{◌≡◌, ◌⊎◌, ◌≤◌, ◌==◌, if◌then◌else◌, ℕ, List, [], ◌∷◌, Option, Some, None, codes}
+-- What a task writes, how the program ends, and the line that it writes for each status.
+use Rattle.std.specs.Prelude.{◌≡◌, ◌⊎◌, ◌≤◌, ◌==◌, if◌then◌else◌, ℕ, List, Option, Some, None, codes}
 use Rattle.wtf_carry.specs.declared.stop.Stop.{Stop}
 use Rattle.wtf_carry.specs.declared.stop.Stop.TheVariants as stop
 use Rattle.wtf_carry.specs.Puts.{Puts}
 use Rattle.wtf_carry.specs.Reads.{Reads}
 use Rattle.wtf_carry.specs.Gets.{Gets}
 use Rattle.wtf_script.specs.ScriptLines.{lines_of}
-use Rattle.wtf_lex.specs.Numbers.{number_within}
 use Rattle.wtf_model.specs.declared.limits.TheConstants.{MAX_NUMBER}
 use Rattle.wtf_file.specs.declared.task.Task.{Task}
 use Rattle.wtf_file.specs.declared.task.Task.TheVariants as task
-
--- the words ask for a task
-abbrev pub Asks : Task → List (List ℕ) → Type 0
-Asks (task.Put path) words = words ≡ codes "put" ∷ path ∷ []
-Asks (task.Reads path len) words = (text : List ℕ) × (words ≡ codes "reads" ∷ path ∷ text ∷ []) × (number_within MAX_NUMBER text ≡ Some len)
-Asks (task.Get len) words = (text : List ℕ) × (words ≡ codes "get" ∷ text ∷ []) × (number_within MAX_NUMBER text ≡ Some len)
 
 -- a length is a number that a line can name
 abbrev pub HasLength : Task → Type 0
