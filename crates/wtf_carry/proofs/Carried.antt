@@ -1,12 +1,11 @@
 -- Laws of the lines of pieces: one piece more, and that each asks for its event.
-use Rattle.std.proofs.Common.{rules, ◌≡◌, ℕ, zero, suc, ◌+◌, ◌-◌, ◌^◌, ◌<◌, ◌≤◌, ◌==◌, ◌%◌, Bool, true, false, not, ◌||◌, cond, List, [], ◌∷◌, ◌++◌, length, refl, sym, ap, ◌∙◌, arith, append_assoc}
+use Rattle.std.proofs.Common.{◌≡◌, ℕ, ◌+◌, ◌≤◌, Bool, true, false, cond, List, [], ◌∷◌, ◌++◌, length, refl, sym, ap, ◌∙◌, arith, append_assoc}
 use Rattle.std.specs.Prelude.{All}
-use Rattle.std.specs.List.{flat_map}
 use Rattle.std.proofs.lemmas.List.{length-append, append-nil}
 use Rattle.std.proofs.lemmas.List.Concat.{flat_map-append}
 use Rattle.std.proofs.lemmas.List.Elements.{All-nil, All-cons, All-head, All-tail, All-append}
 use Rattle.wtf_path.specs.Grammar.{IsPath}
-use Rattle.wtf_model.specs.declared.limits.TheConstants.{MAX_NUMBER, MAX_SHOWN, MAX_WRITTEN}
+use Rattle.wtf_model.specs.declared.limits.TheConstants.{MAX_NUMBER}
 use Rattle.wtf_script.specs.ScriptLines.{line_feed}
 use Rattle.wtf_carry.specs.Asked.{Asked, Asks, Way, text_of, turn, total, carried, begin_line, open_line, seek_line, mkdir_line}
 use Rattle.wtf_carry.specs.Ways.{IsWayUp, mkdirs}

@@ -1,35 +1,31 @@
 -- The grammar of scripts takes each line that carries a file as the event that it is to ask for.
-use Rattle.std.proofs.Common.{rules, ◌≡◌, ℕ, zero, suc, ◌+◌, ◌*◌, ◌-◌, ◌^◌, ◌<◌, ◌≤◌, ◌==◌, Bool, true, false, not, ◌&&◌, nat_le, cond, List, [], ◌∷◌, ◌++◌, length, codes, decimal, refl, ap, ◌∙◌, arith, Option, Some, None, Result, Ok, Err}
+use Rattle.std.proofs.Common.{rules, ◌≡◌, ℕ, ◌^◌, ◌<◌, ◌≤◌, ◌==◌, Bool, true, false, not, ◌&&◌, nat_le, List, [], ◌∷◌, ◌++◌, length, codes, decimal, refl, ap, ◌∙◌, arith, Option, Some, Result, Ok}
 use Rattle.std.specs.List.{list_all, list_any, onto_first}
 use Rattle.std.proofs.lemmas.Bool.{le-leb, false_from_ne_true, eqb-true}
 use Rattle.std.proofs.lemmas.Fmt.{decimal_nonempty}
 use Rattle.std.proofs.lemmas.List.{length-append}
 use Rattle.std.proofs.lemmas.Fmt.{length-decimal-le}
-use Rattle.hex.specs.Hex.{IsBytes, encode_lower, decode_of}
+use Rattle.hex.specs.Hex.{IsBytes, encode_lower}
 use Rattle.hex.proofs.HexLemmas.{decode_of-encode_lower, length-encode_with}
 use Rattle.hex.specs.Hex.{lower_digits}
-use Rattle.hex.specs.declared.error.FromHexError.{FromHexError}
 use Rattle.wtf_path.specs.Grammar.{IsPath}
 use Rattle.wtf_path.specs.declared.error.PathError.{PathError}
 use Rattle.wtf_path.proofs.Refused.{refused_none}
 use Rattle.wtf_model.specs.declared.answer.Kind.{Kind}
 use Rattle.wtf_model.specs.declared.answer.Kind.TheVariants as kind
-use Rattle.wtf_model.specs.declared.op.Op.{Op}
 use Rattle.wtf_model.specs.declared.op.Op.TheVariants as op
 use Rattle.wtf_model.specs.declared.op.Seek.TheVariants as to
-use Rattle.wtf_model.specs.declared.event.Verb.{Verb}
 use Rattle.wtf_model.specs.declared.event.Verb.TheVariants as verb
 use Rattle.wtf_model.specs.declared.event.Event.{Event}
 use Rattle.wtf_model.specs.declared.event.Event.TheVariants as event
 use Rattle.wtf_model.specs.declared.limits.TheConstants.{MAX_NUMBER, MAX_SHOWN, MAX_WRITTEN}
 use Rattle.wtf_lex.specs.Words.{words_of}
-use Rattle.wtf_lex.specs.Numbers.{number_within}
 use Rattle.wtf_print.proofs.Spelled.{one-word, number-no_space, number-spelled, hex-no_space, path-no_space}
 use Rattle.wtf_script.specs.declared.limits.TheConstants.{LINE_BYTES}
 use Rattle.wtf_script.specs.Hex.{hex_bytes, decoded}
 use Rattle.wtf_script.specs.Arguments.{◌>>=◌, demand, or_wrong, number_of_word, number_from_to, client_of, handle_of, path_unless, path_of, data_of}
 use Rattle.wtf_script.specs.Grammar.{path_alone, handle_data, open_call, offset_of, place_of, seek_call, read_call, bytes_call, handle_call, paths_call, path_call, alone, verb_of, asked_of, words_event, is_printable, is_empty, spelled, event_of}
-use Rattle.wtf_carry.specs.Asked.{Asked, Asks, begin_line, try_line, abort_line, mkdir_line, create_line, open_line, seek_line, write_line, read_line}
+use Rattle.wtf_carry.specs.Asked.{Asks, begin_line, try_line, abort_line, mkdir_line, create_line, open_line, seek_line, write_line, read_line}
 use Rattle.wtf_carry.proofs.Printed.{CanStand, number-stands, hex-stands, path-stands}
 
 -- ---- lines and words

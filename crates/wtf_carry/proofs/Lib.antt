@@ -5,3 +5,4 @@ pub mod WayLaws
 pub mod PutLaws
 pub mod ReadLaws
 pub mod GetLaws
+pub mod NoneLaws

@@ -1,17 +1,17 @@
 -- How the lines that put a file come to be written, piece by piece.
-use Rattle.std.proofs.Common.{rules, ◌≡◌, ℕ, zero, suc, ◌+◌, ◌-◌, ◌^◌, ◌<◌, ◌≤◌, ◌==◌, Bool, true, false, List, [], ◌∷◌, ◌++◌, length, take, drop, Option, Some, None, refl, sym, ap, ◌∙◌, arith, append_assoc, subst, Result, Ok, Err}
+use Rattle.std.proofs.Common.{◌≡◌, ℕ, ◌+◌, ◌<◌, ◌≤◌, List, [], ◌∷◌, ◌++◌, length, take, drop, Option, Some, None, refl, sym, ap, ◌∙◌, arith, append_assoc, subst, Result, Ok, Err}
 use Rattle.std.specs.Prelude.{All}
 use Rattle.std.proofs.lemmas.List.{length-append, append-nil, length-take-le, take-append-drop}
 use Rattle.std.proofs.lemmas.List.Elements.{All-nil, All-cons, All-append, All-weaker}
 use Rattle.hex.specs.Hex.{IsBytes}
 use Rattle.wtf_path.specs.Grammar.{IsPath}
-use Rattle.wtf_model.specs.declared.limits.TheConstants.{MAX_NUMBER, MAX_WRITTEN}
+use Rattle.wtf_model.specs.declared.limits.TheConstants.{MAX_WRITTEN}
 use Rattle.wtf_carry.specs.declared.stop.Stop.{Stop}
 use Rattle.wtf_carry.specs.declared.stop.Stop.TheVariants as stop
 use Rattle.wtf_carry.specs.declared.TheConstants.{MOST_BYTES}
-use Rattle.wtf_carry.specs.Asked.{Asked, Asks, text_of, turn, total, carried, writes, begin_line, try_line, create_line, open_line, write_line}
+use Rattle.wtf_carry.specs.Asked.{Asked, Asks, text_of, turn, carried, writes, begin_line, try_line, create_line, open_line, write_line}
 use Rattle.wtf_carry.specs.Ways.{IsWayUp, mkdirs}
-use Rattle.wtf_carry.specs.Puts.{head_lines, put_lines, joined, IsPiece, Puts, HasHead, Carries, CarriesEnd, CarriesTo, Sofar}
+use Rattle.wtf_carry.specs.Puts.{head_lines, joined, IsPiece, Puts, HasHead, Carries, CarriesEnd, CarriesTo, Sofar}
 use Rattle.wtf_carry.proofs.Events.{begin-asks, try-asks, create-asks, open-asks, write-asks}
 use Rattle.wtf_carry.proofs.Carried.{text_of-append, total-push, carried-push, joined-push, joined-size, carried-asks, mkdirs-ask}
 

@@ -1,12 +1,11 @@
 -- How the lines that read a file come to be written.
-use Rattle.std.proofs.Common.{rules, ◌≡◌, ℕ, zero, suc, ◌+◌, ◌-◌, ◌^◌, ◌<◌, ◌≤◌, List, [], ◌∷◌, ◌++◌, length, Option, Some, None, refl, sym, ap, ◌∙◌, arith, append_assoc}
-use Rattle.std.specs.Prelude.{All}
-use Rattle.std.proofs.lemmas.List.{length-append, append-nil}
+use Rattle.std.proofs.Common.{◌≡◌, ℕ, ◌+◌, ◌≤◌, List, [], ◌∷◌, ◌++◌, Option, Some, refl, sym, ap, ◌∙◌, arith, append_assoc}
+use Rattle.std.proofs.lemmas.List.{length-append}
 use Rattle.std.proofs.lemmas.List.Elements.{All-nil, All-cons, All-append, All-weaker}
 use Rattle.wtf_path.specs.Grammar.{IsPath}
-use Rattle.wtf_model.specs.declared.limits.TheConstants.{MAX_NUMBER, MAX_SHOWN}
-use Rattle.wtf_carry.specs.Asked.{Asked, Asks, text_of, turn, total, carried, shows, begin_line, abort_line, open_line, read_line}
-use Rattle.wtf_carry.specs.Reads.{read_lines, IsShare, Reads, ReadSofar}
+use Rattle.wtf_model.specs.declared.limits.TheConstants.{MAX_NUMBER}
+use Rattle.wtf_carry.specs.Asked.{Asked, Asks, text_of, turn, carried, shows, begin_line, abort_line, open_line, read_line}
+use Rattle.wtf_carry.specs.Reads.{IsShare, Reads, ReadSofar}
 use Rattle.wtf_carry.proofs.Events.{begin-asks, abort-asks, open-asks, read-asks}
 use Rattle.wtf_carry.proofs.Carried.{text_of-append, total-push, carried-push, carried-asks}
 

@@ -1,11 +1,11 @@
 -- The directories on the way to a path.
-use Rattle.std.proofs.Common.{rules, ◌≡◌, ◌≢◌, ℕ, ◌+◌, ◌<◌, ◌≤◌, ◌⊎◌, List, [], ◌∷◌, ◌++◌, length, codes, Option, Some, None, refl, sym, ap, ◌∙◌, arith, append_assoc, inl, inr}
+use Rattle.std.proofs.Common.{◌≡◌, ℕ, List, [], ◌∷◌, ◌++◌, length, codes, Some, None, sym, ap, ◌∙◌, arith, append_assoc, inl, inr}
 use Rattle.std.proofs.lemmas.List.{append-nil}
 use Rattle.wtf_path.specs.Grammar.{IsPath}
 use Rattle.wtf_path.specs.Parts.{parent_of}
 use Rattle.wtf_script.specs.ScriptLines.{line_feed}
-use Rattle.wtf_carry.specs.Asked.{Asked, text_of, mkdir_line}
-use Rattle.wtf_carry.specs.Ways.{IsWayUp, mkdirs, HasWays}
+use Rattle.wtf_carry.specs.Asked.{text_of, mkdir_line}
+use Rattle.wtf_carry.specs.Ways.{mkdirs, HasWays}
 use Rattle.wtf_carry.proofs.Carried.{text_of-append}
 
 alone : (b : ℕ) (bs rest : List ℕ) → b ∷ bs ≡ 47 ∷ rest → length (b ∷ bs) ≡ 1 → b ∷ bs ≡ codes "/"

@@ -1,5 +1,5 @@
 -- The lines that read a file, and how they come to be written.
-use Rattle.std.specs.Prelude.{◌≡◌, ℕ, ◌+◌, ◌≤◌, List, [], ◌∷◌, ◌++◌, length, Option, Some}
+use Rattle.std.specs.Prelude.{◌≡◌, ℕ, ◌≤◌, List, [], ◌∷◌, ◌++◌, length, Option, Some}
 use Rattle.std.specs.List.{All}
 use Rattle.wtf_model.specs.declared.limits.TheConstants.{MAX_SHOWN}
 use Rattle.wtf_carry.specs.Asked.{Asked, Asks, text_of, begin_line, abort_line, open_line, total, carried, shows}

@@ -1,10 +1,11 @@
 //! The bytes in the answers to the lines that read a file.
 
-ghost use Rattle.std.specs.Prelude.{◌≡◌, ◌≢◌, ◌≤◌, ◌<◌, ℕ, List, Some, Ok, Err, take, OnOk, IfOk};
+ghost use Rattle.std.specs.Prelude.{◌≡◌, ◌≢◌, ◌≤◌, ◌<◌, ℕ, List, Some, Ok, Err, length, take, OnOk, IfOk};
 ghost use Rattle.wtf_dev.specs.Counts.{Rose};
 ghost use Rattle.wtf_script.specs.ScriptLines.{lines_of};
 ghost use Rattle.wtf_script.specs.Reading.{work};
-ghost use Rattle.wtf_carry.specs.Gets.{Gets, Takes, Comes, IsOver, is_first};
+ghost use Rattle.wtf_script.specs.declared.limits.TheConstants.{SCRIPT_BYTES};
+ghost use Rattle.wtf_carry.specs.Gets.{Gets, NoneGets, Takes, NoneTakes, Comes, IsOver, is_first};
 
 use crate::Stop;
 use crate::stream::write_all;
@@ -17,7 +18,8 @@ use wtf_print::{TextError, parse_answer};
 use wtf_script::{Line, Lines, ReadError};
 
 /// Turns what a run answered to the lines that read a file of `len` bytes into its bytes. Other answers than `begun`, `ok`
-/// and `data`, or other than so many bytes, are `Wrong`, and what was written by then is to be thrown away.
+/// and `data`, or other than so many bytes, are `Wrong`, as is a line of more than 65,536 bytes; more answers than a script
+/// may have bytes are `TooLong`. What was written by then is to be thrown away.
 pub fn get<I: Source, O: Sink>(
     alloc: Global,
     len: u64,
@@ -31,6 +33,10 @@ pub fn get<I: Source, O: Sink>(
         Rose (I.view from.old).faults (I.view from.new).faults }
     ensures unwritten { result ≡ Err Stop.Unwritten →
         Rose (O.view out.old).faults (O.view out.new).faults }
+    ensures wrong { result ≡ Err Stop.Wrong → (script : List ℕ) →
+        (I.view from.old).rest ≡ Some script → NoneGets len (lines_of script) }
+    ensures too_long { result ≡ Err Stop.TooLong → (script : List ℕ) →
+        (I.view from.old).rest ≡ Some script → SCRIPT_BYTES < length script }
 {
     let mut lines = Lines::new(alloc)?;
     let Some(first) = next_line(&mut lines, from)? else {
@@ -86,13 +92,15 @@ fn front(line: &[u8]) -> &[u8]
 
 /// Writes the bytes that an answer shows, at most `left`, and answers how many.
 fn take_line<O: Sink>(alloc: Global, line: &[u8], left: u64, out: &mut O) -> Result<u64, Stop>
-    ensures takes { IfOk result (λ n. (old : List ℕ) → (O.view out.old).taken ≡ Some old →
-        Takes line.now n old (O.view out.new).taken) }
+    ensures takes { IfOk result (λ n.
+        Takes line.now n (O.view out.old).taken (O.view out.new).taken) }
+    ensures wrong { result ≡ Err Stop.Wrong → NoneTakes line.now left }
     ensures within { IfOk result (λ n. n ≤ left) }
     ensures faults { (O.view out.old).faults ≤ (O.view out.new).faults }
     ensures unwritten { result ≡ Err Stop.Unwritten →
         Rose (O.view out.old).faults (O.view out.new).faults }
     ensures unread { result ≢ Err Stop.Unread }
+    ensures too_long { result ≢ Err Stop.TooLong }
 {
     let answer = match parse_answer(alloc, line) {
         Ok(answer) => answer,

@@ -1,4 +1,4 @@
-use Rattle.std.proofs.Common.{◌≡◌, ◌++◌, ◌∷◌, [], ℕ, List, Some, length, codes, sym, ap, ◌∙◌, arith}
+use Rattle.std.proofs.Common.{◌++◌, ◌∷◌, [], ℕ, List, Some, length, codes, sym, ap, ◌∙◌}
 use Rattle.wtf_script.specs.ScriptLines.{line_feed}
 use Rattle.wtf_carry.proofs.WayLaws.{ways-more}
 use Rattle.wtf_carry.proofs.lines.+push_ways.Goals as goal

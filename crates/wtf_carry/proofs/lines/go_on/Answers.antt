@@ -1,7 +1,7 @@
-use Rattle.std.proofs.Common.{◌≡◌, ◌++◌, ◌∷◌, [], ℕ, List, codes, sym, ap, ◌∙◌}
+use Rattle.std.proofs.Common.{◌++◌, ◌∷◌, [], ℕ, List, codes, sym, ap, ◌∙◌}
 use Rattle.std.proofs.lemmas.List.{append-nil}
 use Rattle.wtf_script.specs.ScriptLines.{line_feed}
-use Rattle.wtf_carry.specs.Asked.{Asked, begin_line, open_line, seek_line}
+use Rattle.wtf_carry.specs.Asked.{begin_line, open_line, seek_line}
 use Rattle.wtf_carry.proofs.Carried.{text-more}
 use Rattle.wtf_carry.proofs.lines.go_on.Goals as goal
 

@@ -1,4 +1,4 @@
-use Rattle.std.proofs.Common.{◌≡◌, ◌≤◌, ◌++◌, ◌∷◌, [], ℕ, List, Some, ap, ◌∙◌, arith}
+use Rattle.std.proofs.Common.{◌≤◌, ◌++◌, ◌∷◌, [], ℕ, List, Some, ap, ◌∙◌, arith}
 use Rattle.wtf_model.specs.declared.limits.TheConstants.{MAX_WRITTEN}
 use Rattle.wtf_carry.specs.Asked.{text_of, turn, try_line, write_line}
 use Rattle.wtf_carry.proofs.PutLaws.{carries-one}

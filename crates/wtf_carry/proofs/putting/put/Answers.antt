@@ -1,4 +1,4 @@
-use Rattle.std.proofs.Common.{◌≡◌, ◌++◌, [], ℕ, List, Some, None, Ok, Err, sym, ap, ◌∙◌, arith, subst, rules}
+use Rattle.std.proofs.Common.{◌≡◌, ◌++◌, ℕ, List, Some, None, Err, ap, ◌∙◌, arith, subst, rules}
 use Rattle.wtf_carry.specs.declared.stop.Stop.TheVariants as stop
 use Rattle.wtf_carry.specs.Asked.{text_of, carried, writes}
 use Rattle.wtf_carry.specs.Puts.{head_lines, HasHead}

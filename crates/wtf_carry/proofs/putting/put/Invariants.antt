@@ -1,4 +1,4 @@
-use Rattle.std.proofs.Common.{◌≡◌, ◌≤◌, ◌-◌, ℕ, List, Some, length}
+use Rattle.std.proofs.Common.{◌≡◌, ◌≤◌, ◌-◌, ℕ, List, Some}
 use Rattle.wtf_carry.specs.declared.TheConstants.{MOST_BYTES}
 use Rattle.wtf_carry.specs.Puts.{Sofar}
 use Rattle.wtf_carry.proofs.putting.put.Given as goal
