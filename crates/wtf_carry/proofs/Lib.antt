@@ -6,3 +6,5 @@ pub mod PutLaws
 pub mod ReadLaws
 pub mod GetLaws
 pub mod NoneLaws
+pub mod RunLaws
+pub mod StoreLaws

@@ -2,7 +2,7 @@
 use Rattle.std.proofs.Common.{◌≡◌, ℕ, ◌+◌, ◌<◌, false, List, [], ◌∷◌, ◌++◌, length, map, take, drop, Option, Some, None, Result, Ok, Err, refl, sym, ap, ◌∙◌, arith, append_assoc, subst}
 use Rattle.std.specs.Prelude.{All}
 use Rattle.std.proofs.lemmas.Bool.{false≢true}
-use Rattle.std.proofs.lemmas.List.{length-append}
+use Rattle.std.proofs.lemmas.List.{length-append, append-nil}
 use Rattle.std.proofs.lemmas.List.Elements.{All-head, All-tail}
 use Rattle.hex.specs.Hex.{IsBytes, encode_lower, decode_of}
 use Rattle.hex.specs.declared.error.FromHexError.{FromHexError}
@@ -169,3 +169,12 @@ pub none-empty : (len : ℕ) (script : List ℕ) (begin held : Held) (from came 
 none-empty len script begin held from came e none f = λ answers are good short size.
     let k : are.first ∷ map text_of answers ≡ [] = sym are.lines_are ∙ same-lines begin script e ∙ comes-none begin held script from came none (f (fresh-over begin script e)) in
     absurd cc
+
+-- ---- the same lines
+
+-- the answers of the same lines show the same
+pub same-all : (lines : List (List ℕ)) (xs ys : List Answer) → AreAnswers lines xs → AreAnswers lines ys → All IsGood xs → All IsGood ys → all_shown xs ≡ all_shown ys
+same-all lines xs ys p q g h =
+    let e : map text_of ys ≡ map text_of xs = tail_of q.first p.first (map text_of ys) (map text_of xs) (sym q.lines_are ∙ p.lines_are) in
+    let b = behind xs ys [] p.writable g q.writable h (e ∙ sym (append-nil (map text_of xs))) in
+    sym (b.shown_is ∙ ap (λ (l : List ℕ). all_shown xs ++ l) (no_rest b.rest b.rest_are) ∙ append-nil (all_shown xs))

@@ -4,3 +4,4 @@ pub mod Streams
 pub mod Puts
 pub mod Reads
 pub mod Gets
+pub mod Runs

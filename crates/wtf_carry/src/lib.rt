@@ -2,6 +2,7 @@
 //! them, and the bytes in the answers to those. Over any source and sink, a piece at a time.
 #![tactic(auto)]
 
+mod examples;
 mod getting;
 mod lines;
 mod putting;
@@ -9,6 +10,7 @@ mod reading;
 mod stop;
 mod stream;
 
+pub use examples::{what_is_put_is_got, what_is_put_is_stored, what_is_read_is_got};
 pub use getting::get;
 pub use putting::put;
 pub use reading::reads;
