@@ -1,3 +1,1 @@
 mod NameBytes
-mod FirstBytes
-mod TxnLaws

@@ -8,8 +8,6 @@ mod ops;
 #[cfg(test)]
 mod region;
 #[cfg(test)]
-mod replay;
-#[cfg(test)]
 mod rw;
 #[cfg(test)]
 mod slicing;
@@ -19,5 +17,3 @@ mod steps;
 mod store;
 #[cfg(test)]
 mod texts;
-#[cfg(test)]
-mod turns;

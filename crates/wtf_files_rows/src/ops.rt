@@ -59,29 +59,61 @@ fn bytes(alloc: Global, text: &str) -> Result<Bytes, Fail> {
     Ok(Bytes::of(text.as_bytes().to_vec(alloc)?))
 }
 
+/// A call that takes no path and no bytes.
+fn plain_op(step: Step) -> Option<Op<Bytes>> {
+    match step {
+        Step::Close(f) => return Some(Op::Close(f)),
+        Step::Seek(f, to) => return Some(Op::Seek(f, to)),
+        Step::Tell(f) => return Some(Op::Tell(f)),
+        Step::Read(f, n) => return Some(Op::Read(f, n)),
+        Step::Truncate(f, n) => return Some(Op::Truncate(f, n)),
+        Step::Punch(f, n) => return Some(Op::Punch(f, n)),
+        Step::Yank(f, n, to) => return Some(Op::Yank(f, n, to)),
+        Step::Peek(from, off, len) => return Some(Op::Peek { from, off, len }),
+        Step::Cut(from, off, len, to) => return Some(Op::Cut { from, off, len, to }),
+        Step::Paste(f, from) => return Some(Op::Paste(f, from)),
+        Step::Glue(f, from) => return Some(Op::Glue(f, from)),
+        _ => return None,
+    }
+}
+
+/// A call that takes one path.
+fn path_op(alloc: Global, step: Step) -> Result<Option<Op<Bytes>>, Fail> {
+    match step {
+        Step::Mkdir(p) => return Ok(Some(Op::Mkdir(path(alloc, p)?))),
+        Step::Create(p) => return Ok(Some(Op::Create(path(alloc, p)?))),
+        Step::Open(f, p) => return Ok(Some(Op::Open(f, path(alloc, p)?))),
+        Step::Stat(p) => return Ok(Some(Op::Stat(path(alloc, p)?))),
+        _ => return Ok(None),
+    }
+}
+
+/// A call that takes bytes, or more than one path.
+fn long_op(alloc: Global, step: Step) -> Result<Op<Bytes>, Fail> {
+    match step {
+        Step::Write(f, text) => return Ok(Op::Write(f, bytes(alloc, text)?)),
+        Step::Append(f, text) => return Ok(Op::Append(f, bytes(alloc, text)?)),
+        Step::Concat(q, sources) => {
+            let q = path(alloc, q)?;
+            return Ok(Op::Concat(q, paths(alloc, sources)?));
+        }
+        Step::Copy(p, q) => {
+            let p = path(alloc, p)?;
+            return Ok(Op::Copy(p, path(alloc, q)?));
+        }
+        _ => return Err(Fail::from("no call")),
+    }
+}
+
 /// A call as a transaction takes it.
 pub(crate) fn op(alloc: Global, step: Step) -> Result<Op<Bytes>, Fail> {
-    match step {
-        Step::Mkdir(p) => Ok(Op::Mkdir(path(alloc, p)?)),
-        Step::Create(p) => Ok(Op::Create(path(alloc, p)?)),
-        Step::Open(f, p) => Ok(Op::Open(f, path(alloc, p)?)),
-        Step::Close(f) => Ok(Op::Close(f)),
-        Step::Seek(f, to) => Ok(Op::Seek(f, to)),
-        Step::Tell(f) => Ok(Op::Tell(f)),
-        Step::Read(f, n) => Ok(Op::Read(f, n)),
-        Step::Write(f, text) => Ok(Op::Write(f, bytes(alloc, text)?)),
-        Step::Append(f, text) => Ok(Op::Append(f, bytes(alloc, text)?)),
-        Step::Truncate(f, n) => Ok(Op::Truncate(f, n)),
-        Step::Punch(f, n) => Ok(Op::Punch(f, n)),
-        Step::Stat(p) => Ok(Op::Stat(path(alloc, p)?)),
-        Step::Yank(f, n, to) => Ok(Op::Yank(f, n, to)),
-        Step::Peek(from, off, len) => Ok(Op::Peek { from, off, len }),
-        Step::Cut(from, off, len, to) => Ok(Op::Cut { from, off, len, to }),
-        Step::Paste(f, from) => Ok(Op::Paste(f, from)),
-        Step::Glue(f, from) => Ok(Op::Glue(f, from)),
-        Step::Concat(q, sources) => Ok(Op::Concat(path(alloc, q)?, paths(alloc, sources)?)),
-        Step::Copy(p, q) => Ok(Op::Copy(path(alloc, p)?, path(alloc, q)?)),
+    if let Some(op) = plain_op(step) {
+        return Ok(op);
     }
+    if let Some(op) = path_op(alloc, step)? {
+        return Ok(op);
+    }
+    long_op(alloc, step)
 }
 
 /// The call on handles or bytes, if it is one.

@@ -217,8 +217,12 @@ fn show_middle(dev: &mut Dev<'_, MemStore>, out: &mut Vec<u8>) -> Result<(), Fai
     requires { IsSoundDev dev.old }
 {
     let slice = digits_stored(dev, 64)?;
+    let len = slice.len() as u64;
+    if len < 10 {
+        return Err(Fail::from("too few digits"));
+    }
     let zeros = Piece::of(2, Part::Zero);
-    let digits = Piece::of(slice.len() as u64, Part::Held(slice));
+    let digits = Piece::of(len, Part::Held(slice));
     show(dev, &[zeros, digits], 1, 5, out)?;
     Ok(())
 }

@@ -144,6 +144,37 @@ fn slice_came(
     Ok(shown)
 }
 
+/// Makes a call, whose file, if it makes one, is `new`.
+fn op_came(
+    alloc: Global,
+    dev: &mut Dev<'_, MemStore>,
+    kv: &Kv<Key, Value>,
+    at: &mut Attempt<Key, Value>,
+    s: &mut Session,
+    new: InodeId,
+    op: &Op<Bytes>,
+) -> Result<String, Fail>
+    requires sound { IsSoundDev dev.old }
+    requires inside { AreInside mem_store (stores dev.old) dev.old.settings
+        (seen kv.now at.old) s.old }
+    ensures sound { OnOk result (IsSoundDev dev.new) }
+    ensures inside { OnOk result (AreInside mem_store (stores dev.new) dev.new.settings
+        (seen kv.now at.new) s.new) }
+{
+    let is_rw = rw_op(op).is_some();
+    if is_rw {
+        let shown = rw_came(alloc, dev, kv, at, s, op)?;
+        return Ok(shown);
+    }
+    let is_slice = slice_op(op).is_some();
+    if is_slice {
+        let shown = slice_came(alloc, dev, kv, at, s, new, op)?;
+        return Ok(shown);
+    }
+    let shown = name_came(alloc, dev, kv, at, s, new, op)?;
+    Ok(shown)
+}
+
 /// Makes the call of this number.
 fn step_came(
     alloc: Global,
@@ -165,15 +196,7 @@ fn step_came(
         tx: TxId(2),
         index: step_at.1,
     };
-    if rw_op(&op).is_some() {
-        let shown = rw_came(alloc, dev, kv, at, s, &op)?;
-        return Ok(shown);
-    }
-    if slice_op(&op).is_some() {
-        let shown = slice_came(alloc, dev, kv, at, s, new, &op)?;
-        return Ok(shown);
-    }
-    let shown = name_came(alloc, dev, kv, at, s, new, &op)?;
+    let shown = op_came(alloc, dev, kv, at, s, new, &op)?;
     Ok(shown)
 }
 
