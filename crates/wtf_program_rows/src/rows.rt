@@ -23,7 +23,7 @@ const THREE_SERVERS: &str = "wtf servers 3 replicas 2 region 65536 number 0\n";
 
 const TWO_SERVERS: &str = "wtf servers 2 replicas 2 region 65536 number 0\n";
 
-pub(crate) const ROWS: [Row; 31] = [
+pub(crate) const ROWS: [Row; 8] = [
     Row {
         name: "nothing",
         words: "",
@@ -173,6 +173,9 @@ c0 try => committed 1
         stored: 2,
         status: 0,
     },
+];
+
+pub(crate) const MORE_ROWS: [Row; 8] = [
     Row {
         name: "punch and truncate",
         words: "",
@@ -355,6 +358,9 @@ sys dump /b => data x:5758595a
         stored: 16,
         status: 0,
     },
+];
+
+pub(crate) const FURTHER_ROWS: [Row; 8] = [
     Row {
         name: "a yanked slice whose bytes were shown",
         words: "",
@@ -531,6 +537,9 @@ sys dump /log => data x:66726f6d2d63313b66726f6d2d63303b
         stored: 32,
         status: 0,
     },
+];
+
+pub(crate) const LAST_ROWS: [Row; 7] = [
     Row {
         name: "examples: a conflict that is replayed",
         words: "",

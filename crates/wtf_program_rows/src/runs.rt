@@ -1,7 +1,7 @@
 //! Whole runs over devices that never fail.
 
 use crate::devices::{NONE, run, run_on, stored, stores};
-use crate::rows::{ROWS, Row};
+use crate::rows::{FURTHER_ROWS, LAST_ROWS, MORE_ROWS, ROWS, Row};
 use crate::texts::*;
 use crate::told::answers_on;
 use std::alloc::Global;
@@ -202,6 +202,30 @@ fn settings_are_answered(rt: HostRuntime) -> Result<(), Fail> {
 #[test]
 fn rows_are_answered(rt: HostRuntime) -> Result<(), Fail> {
     for row in ROWS.iter() {
+        check_row(&rt, rt.alloc(), row)?;
+    }
+    Ok(())
+}
+
+#[test]
+fn more_rows_are_answered(rt: HostRuntime) -> Result<(), Fail> {
+    for row in MORE_ROWS.iter() {
+        check_row(&rt, rt.alloc(), row)?;
+    }
+    Ok(())
+}
+
+#[test]
+fn further_rows_are_answered(rt: HostRuntime) -> Result<(), Fail> {
+    for row in FURTHER_ROWS.iter() {
+        check_row(&rt, rt.alloc(), row)?;
+    }
+    Ok(())
+}
+
+#[test]
+fn last_rows_are_answered(rt: HostRuntime) -> Result<(), Fail> {
+    for row in LAST_ROWS.iter() {
         check_row(&rt, rt.alloc(), row)?;
     }
     Ok(())
