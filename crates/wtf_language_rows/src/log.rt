@@ -27,25 +27,28 @@ fn kept(slice: Slice) -> Kept {
     }
 }
 
-fn push(log: &mut Log, op: Op<Kept>, answer: Answer) -> Result<(), LogError> {
-    log.push(op, answer)
+fn pushes(log: &mut Log, op: Op<Kept>, answer: Answer) -> bool {
+    log.push(op, answer) == Ok(())
 }
 
-/// A `tell`, a write that stored, an append that stored nothing, and a read, with what they showed.
-fn worked(alloc: Global, slice: Slice) -> Result<Log, Fail> {
-    let mut log = Log::new(alloc)?;
-    push(&mut log, Op::Tell(0), Answer::At(0))?;
-    push(&mut log, Op::Write(1, kept(slice)), Answer::Okay)?;
+/// Pushes a write that stored, and an append that stored nothing.
+fn pushes_bytes(log: &mut Log, slice: Slice) -> bool {
     let nothing = Kept {
         len: 0,
         slice: None,
     };
-    push(
-        &mut log,
-        Op::Append(1, nothing),
-        Answer::Refused(Word::NoHandle),
-    )?;
-    push(&mut log, Op::Read(0, 2), shown(alloc, b"ab")?)?;
+    pushes(log, Op::Write(1, kept(slice)), Answer::Okay)
+        && pushes(log, Op::Append(1, nothing), Answer::Refused(Word::NoHandle))
+}
+
+/// A `tell`, a write that stored, an append that stored nothing, and a read, with what they showed.
+fn worked(alloc: Global, slice: Slice) -> Result<Log, Fail> {
+    let read = shown(alloc, b"ab")?;
+    let mut log = Log::new(alloc)?;
+    let begun = pushes(&mut log, Op::Tell(0), Answer::At(0)) && pushes_bytes(&mut log, slice);
+    if !pushes(&mut log, Op::Read(0, 2), read) || !begun {
+        return Err(Fail::from("push"));
+    }
     Ok(log)
 }
 
@@ -53,12 +56,9 @@ fn len(log: &Log) -> u32 {
     log.len()
 }
 
-/// The slice that a call of the log has stored.
-fn own(log: &Log, i: u32) -> Result<Option<Slice>, Fail> {
-    if i < 1 || i > log.len() {
-        return Err(Fail::from("no such call"));
-    }
-    Ok(log.own(i))
+/// Whether this is the slice that a call of the log has stored.
+fn has_own(log: &Log, i: u32, want: Option<Slice>) -> bool {
+    i >= 1 && i <= log.len() && log.own(i) == want
 }
 
 /// Whether the first call is a `tell` of handle 0 that showed offset 0.
@@ -66,12 +66,9 @@ fn begins_with_tell(log: &Log) -> bool {
     log.len() >= 1 && log.op(1) == &Op::Tell(0) && matches!(log.shown(1), Answer::At(0))
 }
 
-/// Whether what a call showed says the same.
-fn is_answered_as(log: &Log, i: u32, answer: &Answer) -> Result<bool, Fail> {
-    if i < 1 || i > log.len() {
-        return Err(Fail::from("no such call"));
-    }
-    Ok(log.is_answered_as(i, answer))
+/// Whether what a call showed says the same, or does not.
+fn is_answered(log: &Log, i: u32, answer: Answer, same: bool) -> bool {
+    i >= 1 && i <= log.len() && log.is_answered_as(i, &answer) == same
 }
 
 /// Whether a log is empty when it is cleared.
@@ -84,27 +81,26 @@ fn is_cleared(log: &mut Log) -> bool {
 fn a_log_has_the_slices_that_were_stored(rt: HostRuntime) -> Result<(), Fail> {
     let slice = six_bytes()?;
     let log = worked(rt.alloc(), slice)?;
-    assert_eq!(rt; len(&log), 4);
-    for (i, want) in [(1, None), (2, Some(slice)), (3, None), (4, None)] {
-        assert_eq!(rt; own(&log, i)?, want, "call {i}");
-    }
+    assert!(rt; len(&log) == 4);
+    assert!(rt; has_own(&log, 1, None));
+    assert!(rt; has_own(&log, 2, Some(slice)));
+    assert!(rt; has_own(&log, 3, None));
+    assert!(rt; has_own(&log, 4, None));
     Ok(())
 }
 
 #[test]
 fn a_log_shows_what_was_pushed(rt: HostRuntime) -> Result<(), Fail> {
     let alloc = rt.alloc();
+    let same = shown(alloc, b"ab")?;
+    let other = shown(alloc, b"abc")?;
     let mut log = worked(alloc, six_bytes()?)?;
     assert!(rt; begins_with_tell(&log));
-    for (i, answer, same) in [
-        (1, Answer::At(0), true),
-        (1, Answer::At(1), false),
-        (1, Answer::Len(0), false),
-        (4, shown(alloc, b"ab")?, true),
-        (4, shown(alloc, b"abc")?, false),
-    ] {
-        assert_eq!(rt; is_answered_as(&log, i, &answer)?, same, "{answer:?}");
-    }
+    assert!(rt; is_answered(&log, 1, Answer::At(0), true));
+    assert!(rt; is_answered(&log, 1, Answer::At(1), false));
+    assert!(rt; is_answered(&log, 1, Answer::Len(0), false));
+    assert!(rt; is_answered(&log, 4, same, true));
+    assert!(rt; is_answered(&log, 4, other, false));
     assert!(rt; is_cleared(&mut log));
     Ok(())
 }
@@ -129,15 +125,17 @@ fn is_full(log: &Log) -> bool {
     log.is_full()
 }
 
+/// Whether a log refuses a call since it is full.
+fn refuses(log: &mut Log) -> bool {
+    log.push(Op::Tell(0), Answer::At(0)) == Err(LogError::Full)
+}
+
 #[test]
 fn a_log_is_full_at_its_limit(rt: HostRuntime) -> Result<(), Fail> {
     let mut log = full(rt.alloc())?;
-    assert_eq!(rt; len(&log), 4096);
+    assert!(rt; len(&log) == 4096);
     assert!(rt; is_full(&log));
-    assert_eq!(rt;
-        push(&mut log, Op::Tell(0), Answer::At(0)),
-        Err(LogError::Full)
-    );
-    assert_eq!(rt; len(&log), 4096);
+    assert!(rt; refuses(&mut log));
+    assert!(rt; len(&log) == 4096);
     Ok(())
 }

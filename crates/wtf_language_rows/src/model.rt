@@ -5,35 +5,34 @@ use std::alloc::Global;
 use std::test::Fail;
 use wtf_model::{Answer, Names, Paths, Rows, Word, is_same_answer};
 
+fn text(alloc: Global, answer: &Answer) -> Result<String, Fail> {
+    Ok(format!(in alloc; "{answer:?}")?)
+}
+
 /// Whether the copy of an answer has the same text.
-fn is_copied(alloc: Global, answer: &Answer) -> Result<bool, Fail> {
+fn is_copied(alloc: Global, answer: Answer) -> Result<bool, Fail> {
     let copied = answer.copy(alloc)?;
-    let text = format!(in alloc; "{answer:?}")?;
-    let copied_text = format!(in alloc; "{copied:?}")?;
-    Ok(copied_text.as_str() == text.as_str())
+    let want = text(alloc, &answer)?;
+    Ok(text(alloc, &copied)?.as_str() == want.as_str())
 }
 
 #[test]
 fn copies_of_plain_answers_are_the_same(rt: HostRuntime) -> Result<(), Fail> {
-    for answer in [
-        Answer::Okay,
-        Answer::At(3),
-        Answer::Len(3),
-        Answer::Dir,
-        Answer::File { len: 3 },
-        Answer::Refused(Word::NoEnt),
-    ] {
-        assert!(rt; is_copied(rt.alloc(), &answer)?, "{answer:?}");
-    }
+    assert!(rt; is_copied(rt.alloc(), Answer::Okay)?);
+    assert!(rt; is_copied(rt.alloc(), Answer::At(3))?);
+    assert!(rt; is_copied(rt.alloc(), Answer::Len(3))?);
+    assert!(rt; is_copied(rt.alloc(), Answer::Dir)?);
+    assert!(rt; is_copied(rt.alloc(), Answer::File { len: 3 })?);
+    assert!(rt; is_copied(rt.alloc(), Answer::Refused(Word::NoEnt))?);
     Ok(())
 }
 
 #[test]
 fn copies_of_bytes_and_names_are_the_same(rt: HostRuntime) -> Result<(), Fail> {
     let alloc = rt.alloc();
-    assert!(rt; is_copied(alloc, &shown(alloc, b"ab")?)?);
-    assert!(rt; is_copied(alloc, &shown(alloc, b"abc")?)?);
-    assert!(rt; is_copied(alloc, &Answer::Names(names(alloc, &[b"mon"])?))?);
+    assert!(rt; is_copied(alloc, shown(alloc, b"ab")?)?);
+    assert!(rt; is_copied(alloc, shown(alloc, b"abc")?)?);
+    assert!(rt; is_copied(alloc, Answer::Names(names(alloc, &[b"mon"])?))?);
     Ok(())
 }
 
@@ -78,7 +77,6 @@ fn is_same_place(shown: u64, now: u64) -> bool {
 
 #[test]
 fn a_call_answers_as_before_or_not(rt: HostRuntime) {
-    for (shown, now, same) in [(3, 3, true), (3, 4, false)] {
-        assert_eq!(rt; is_same_place(shown, now), same, "{shown} {now}");
-    }
+    assert!(rt; is_same_place(3, 3));
+    assert!(rt; !is_same_place(3, 4));
 }

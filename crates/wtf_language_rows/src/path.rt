@@ -13,27 +13,39 @@ fn refusal(alloc: Global, text: &[u8]) -> u8 {
     }
 }
 
+/// A text, and the number of its refusal.
+type Refusal = (&'static [u8], u8);
+
+const REFUSALS: [Refusal; 14] = [
+    (b"", 1),
+    (b"a", 2),
+    (b" ", 2),
+    (b"/a b", 3),
+    (b"/a//b", 6),
+    (b"/.", 6),
+    (b"/a/..", 6),
+    (b"/a/", 6),
+    (b"//", 6),
+    (b"/", 0),
+    (b"/a", 0),
+    (b"/a/b", 0),
+    (b"/.a", 0),
+    (b"/~!", 0),
+];
+
+/// How many rows hold, from the first on.
+fn refusals(alloc: Global, rows: &[Refusal]) -> usize {
+    for (i, (text, want)) in rows.iter().enumerate() {
+        if refusal(alloc, text) != *want {
+            return i;
+        }
+    }
+    rows.len()
+}
+
 #[test]
 fn refuses_by_the_first_rule(rt: HostRuntime) {
-    let rows: [(&[u8], u8); 14] = [
-        (b"", 1),
-        (b"a", 2),
-        (b" ", 2),
-        (b"/a b", 3),
-        (b"/a//b", 6),
-        (b"/.", 6),
-        (b"/a/..", 6),
-        (b"/a/", 6),
-        (b"//", 6),
-        (b"/", 0),
-        (b"/a", 0),
-        (b"/a/b", 0),
-        (b"/.a", 0),
-        (b"/~!", 0),
-    ];
-    for (text, want) in rows {
-        assert_eq!(rt; refusal(rt.alloc(), text), want, "{text:?}");
-    }
+    assert_eq!(rt; refusals(rt.alloc(), &REFUSALS), 14);
 }
 
 /// A text so many times, between two others.
@@ -52,19 +64,37 @@ fn repeated(
     Ok(all)
 }
 
+/// What a text begins with, what is repeated so many times behind it, what it ends with, and the number of its refusal.
+type Long = (&'static [u8], &'static [u8], usize, &'static [u8], u8);
+
+const LIMITS: [Long; 5] = [
+    (b"/", b"a", 1023, b"", 4),
+    (b"/", b"a", 1022, b"", 0),
+    (b"", b"/a", 33, b"", 5),
+    (b"", b"/a", 32, b"", 0),
+    (b"", b"/a", 32, b"/", 5),
+];
+
+/// Whether a text gets its refusal.
+fn is_refused(alloc: Global, row: &Long) -> Result<bool, Fail> {
+    let (front, text, times, end, want) = row;
+    let text = repeated(alloc, front, text, *times, end)?;
+    Ok(refusal(alloc, text.as_slice()) == *want)
+}
+
+/// How many rows hold, from the first on.
+fn limits(alloc: Global, rows: &[Long]) -> Result<usize, Fail> {
+    for (i, row) in rows.iter().enumerate() {
+        if !is_refused(alloc, row)? {
+            return Ok(i);
+        }
+    }
+    Ok(rows.len())
+}
+
 #[test]
 fn keeps_the_limits(rt: HostRuntime) -> Result<(), Fail> {
-    let rows: [(&[u8], &[u8], usize, &[u8], u8); 5] = [
-        (b"/", b"a", 1023, b"", 4),
-        (b"/", b"a", 1022, b"", 0),
-        (b"", b"/a", 33, b"", 5),
-        (b"", b"/a", 32, b"", 0),
-        (b"", b"/a", 32, b"/", 5),
-    ];
-    for (front, text, times, end, want) in rows {
-        let text = repeated(rt.alloc(), front, text, times, end)?;
-        assert_eq!(rt; refusal(rt.alloc(), text.as_slice()), want, "{times}");
-    }
+    assert_eq!(rt; limits(rt.alloc(), &LIMITS)?, 5);
     Ok(())
 }
 
@@ -76,14 +106,9 @@ fn has_parts(alloc: Global, text: &[u8], name: &[u8], parent: Option<&[u8]>) -> 
 
 #[test]
 fn takes_paths_apart(rt: HostRuntime) -> Result<(), Fail> {
-    let rows: [(&[u8], &[u8], Option<&[u8]>); 3] = [
-        (b"/a/b", b"b", Some(b"/a")),
-        (b"/a", b"a", Some(b"/")),
-        (b"/", b"", None),
-    ];
-    for (text, name, parent) in rows {
-        assert!(rt; has_parts(rt.alloc(), text, name, parent)?, "{text:?}");
-    }
+    assert!(rt; has_parts(rt.alloc(), b"/a/b", b"b", Some(b"/a"))?);
+    assert!(rt; has_parts(rt.alloc(), b"/a", b"a", Some(b"/"))?);
+    assert!(rt; has_parts(rt.alloc(), b"/", b"", None)?);
     Ok(())
 }
 

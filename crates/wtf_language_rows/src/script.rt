@@ -127,99 +127,107 @@ fn wrong(alloc: Global, line: &[u8]) -> Result<Option<Kind>, Fail> {
     }
 }
 
+/// A line, and what is wrong with it.
+type Wrong = (&'static [u8], Kind);
+
+/// How many rows hold, from the first on.
+fn wrongs(alloc: Global, rows: &[Wrong]) -> Result<usize, Fail> {
+    for (i, (line, want)) in rows.iter().enumerate() {
+        if wrong(alloc, line)? != Some(*want) {
+            return Ok(i);
+        }
+    }
+    Ok(rows.len())
+}
+
+const BYTES_AND_SPACES: [Wrong; 7] = [
+    (b"", Kind::Empty),
+    (b"c0 begin\r", Kind::Byte),
+    (b"\x7f ", Kind::Byte),
+    (b" ", Kind::Space),
+    (b" c0 begin", Kind::Space),
+    (b"c0  begin", Kind::Space),
+    (b"c0 begin ", Kind::Space),
+];
+
 #[test]
 fn tells_what_is_wrong_with_bytes_and_spaces(rt: HostRuntime) -> Result<(), Fail> {
-    let rows: [(&[u8], Kind); 7] = [
-        (b"", Kind::Empty),
-        (b"c0 begin\r", Kind::Byte),
-        (b"\x7f ", Kind::Byte),
-        (b" ", Kind::Space),
-        (b" c0 begin", Kind::Space),
-        (b"c0  begin", Kind::Space),
-        (b"c0 begin ", Kind::Space),
-    ];
-    for (line, want) in rows {
-        assert_eq!(rt; wrong(rt.alloc(), line)?, Some(want), "{line:?}");
-    }
+    assert_eq!(rt; wrongs(rt.alloc(), &BYTES_AND_SPACES)?, 7);
     Ok(())
 }
+
+const ACTORS_AND_VERBS: [Wrong; 10] = [
+    (b"c32 begin", Kind::Actor),
+    (b"c01 begin", Kind::Actor),
+    (b"c begin", Kind::Actor),
+    (b"x0", Kind::Actor),
+    (b"C0 begin", Kind::Actor),
+    (b"c0", Kind::Verb),
+    (b"c0 fly", Kind::Verb),
+    (b"c0 scan", Kind::Verb),
+    (b"sys", Kind::Verb),
+    (b"sys begin", Kind::Verb),
+];
 
 #[test]
 fn tells_what_is_wrong_with_an_actor_or_a_verb(rt: HostRuntime) -> Result<(), Fail> {
-    let rows: [(&[u8], Kind); 10] = [
-        (b"c32 begin", Kind::Actor),
-        (b"c01 begin", Kind::Actor),
-        (b"c begin", Kind::Actor),
-        (b"x0", Kind::Actor),
-        (b"C0 begin", Kind::Actor),
-        (b"c0", Kind::Verb),
-        (b"c0 fly", Kind::Verb),
-        (b"c0 scan", Kind::Verb),
-        (b"sys", Kind::Verb),
-        (b"sys begin", Kind::Verb),
-    ];
-    for (line, want) in rows {
-        assert_eq!(rt; wrong(rt.alloc(), line)?, Some(want), "{line:?}");
-    }
+    assert_eq!(rt; wrongs(rt.alloc(), &ACTORS_AND_VERBS)?, 10);
     Ok(())
 }
+
+const HANDLES_AND_NUMBERS: [Wrong; 11] = [
+    (b"c0 begin 1", Kind::Count),
+    (b"c0 tell", Kind::Count),
+    (b"c0 tell h0", Kind::Handle),
+    (b"c0 seek f0", Kind::Count),
+    (b"c0 seek f16 up", Kind::Handle),
+    (b"c0 seek f0 up", Kind::Word),
+    (b"c0 seek f0 set", Kind::Count),
+    (b"c0 seek f0 end 3", Kind::Count),
+    (b"c0 seek f0 set 01", Kind::Number),
+    (b"c0 seek f0 fwd +1", Kind::Number),
+    (b"c0 seek f0 back 4294967297", Kind::Number),
+];
 
 #[test]
 fn tells_what_is_wrong_with_a_handle_or_a_number(rt: HostRuntime) -> Result<(), Fail> {
-    let rows: [(&[u8], Kind); 11] = [
-        (b"c0 begin 1", Kind::Count),
-        (b"c0 tell", Kind::Count),
-        (b"c0 tell h0", Kind::Handle),
-        (b"c0 seek f0", Kind::Count),
-        (b"c0 seek f16 up", Kind::Handle),
-        (b"c0 seek f0 up", Kind::Word),
-        (b"c0 seek f0 set", Kind::Count),
-        (b"c0 seek f0 end 3", Kind::Count),
-        (b"c0 seek f0 set 01", Kind::Number),
-        (b"c0 seek f0 fwd +1", Kind::Number),
-        (b"c0 seek f0 back 4294967297", Kind::Number),
-    ];
-    for (line, want) in rows {
-        assert_eq!(rt; wrong(rt.alloc(), line)?, Some(want), "{line:?}");
-    }
+    assert_eq!(rt; wrongs(rt.alloc(), &HANDLES_AND_NUMBERS)?, 11);
     Ok(())
 }
+
+const LENGTHS_AND_DATA: [Wrong; 8] = [
+    (b"c0 read f0 8193", Kind::Limit),
+    (b"c0 read f16 8193", Kind::Handle),
+    (b"c0 peek s16 0 9000", Kind::Slice),
+    (b"c0 peek s0 0 9000", Kind::Limit),
+    (b"c0 write f0 x:123", Kind::DataForm),
+    (b"c0 write f0 t", Kind::DataForm),
+    (b"c0 write f0 y:00", Kind::DataForm),
+    (b"c0 write f0 x:0g", Kind::DataForm),
+];
 
 #[test]
 fn tells_what_is_wrong_with_a_length_or_data(rt: HostRuntime) -> Result<(), Fail> {
-    let rows: [(&[u8], Kind); 8] = [
-        (b"c0 read f0 8193", Kind::Limit),
-        (b"c0 read f16 8193", Kind::Handle),
-        (b"c0 peek s16 0 9000", Kind::Slice),
-        (b"c0 peek s0 0 9000", Kind::Limit),
-        (b"c0 write f0 x:123", Kind::DataForm),
-        (b"c0 write f0 t", Kind::DataForm),
-        (b"c0 write f0 y:00", Kind::DataForm),
-        (b"c0 write f0 x:0g", Kind::DataForm),
-    ];
-    for (line, want) in rows {
-        assert_eq!(rt; wrong(rt.alloc(), line)?, Some(want), "{line:?}");
-    }
+    assert_eq!(rt; wrongs(rt.alloc(), &LENGTHS_AND_DATA)?, 8);
     Ok(())
 }
 
+const PATHS_AND_JOBS: [Wrong; 10] = [
+    (b"c0 mkdir a", Kind::Path(2)),
+    (b"c0 mkdir /a/", Kind::Path(6)),
+    (b"c0 concat /a", Kind::Count),
+    (b"c0 concat /a /b c", Kind::Path(2)),
+    (b"c0 rename q /a/", Kind::Path(2)),
+    (b"sys plan j8 shrink a -1", Kind::Job),
+    (b"sys plan j0 shrink a -1", Kind::Word),
+    (b"sys plan j0 spill /a -1", Kind::Number),
+    (b"sys piece 0", Kind::Limit),
+    (b"sys piece 65", Kind::Limit),
+];
+
 #[test]
 fn tells_what_is_wrong_with_a_path_or_a_job(rt: HostRuntime) -> Result<(), Fail> {
-    let rows: [(&[u8], Kind); 10] = [
-        (b"c0 mkdir a", Kind::Path(2)),
-        (b"c0 mkdir /a/", Kind::Path(6)),
-        (b"c0 concat /a", Kind::Count),
-        (b"c0 concat /a /b c", Kind::Path(2)),
-        (b"c0 rename q /a/", Kind::Path(2)),
-        (b"sys plan j8 shrink a -1", Kind::Job),
-        (b"sys plan j0 shrink a -1", Kind::Word),
-        (b"sys plan j0 spill /a -1", Kind::Number),
-        (b"sys piece 0", Kind::Limit),
-        (b"sys piece 65", Kind::Limit),
-    ];
-    for (line, want) in rows {
-        assert_eq!(rt; wrong(rt.alloc(), line)?, Some(want), "{line:?}");
-    }
+    assert_eq!(rt; wrongs(rt.alloc(), &PATHS_AND_JOBS)?, 10);
     Ok(())
 }
 
@@ -230,17 +238,10 @@ fn wrong_when_long(alloc: Global, text: &[u8], byte: u8, n: usize) -> Result<Opt
 
 #[test]
 fn tells_what_is_too_long(rt: HostRuntime) -> Result<(), Fail> {
-    let rows: [(&[u8], u8, usize, Kind); 2] = [
-        (b"", b' ', 65_537, Kind::Long),
-        (b"c0 write f0 t:", b'a', 16_385, Kind::Limit),
-    ];
-    for (text, byte, n, want) in rows {
-        assert_eq!(rt;
-            wrong_when_long(rt.alloc(), text, byte, n)?,
-            Some(want),
-            "{n}"
-        );
-    }
+    let spaces = wrong_when_long(rt.alloc(), b"", b' ', 65_537)?;
+    assert_eq!(rt; spaces, Some(Kind::Long));
+    let text = wrong_when_long(rt.alloc(), b"c0 write f0 t:", b'a', 16_385)?;
+    assert_eq!(rt; text, Some(Kind::Limit));
     Ok(())
 }
 
@@ -292,22 +293,34 @@ fn row(alloc: Global, line: &[u8]) -> u8 {
     }
 }
 
+/// A line, and the number of its row.
+type Form = (&'static [u8], u8);
+
+const FORMS: [Form; 11] = [
+    (b"c31 begin", 1),
+    (b"c0 try", 2),
+    (b"c1 write f0 t:x:61", 3),
+    (b"c1 append f15 x:01aB", 4),
+    (b"c1 seek f9 back 4294967296", 5),
+    (b"c1 read f1 8192", 6),
+    (b"c1 cut s1 2 3 s4", 7),
+    (b"c1 concat / /a /b", 8),
+    (b"sys piece 64", 9),
+    (b"sys plan j7 compact /a 3", 10),
+    (b"sys up 0", 11),
+];
+
+/// How many lines are those of their rows, from the first on.
+fn forms(alloc: Global, rows: &[Form]) -> usize {
+    for (i, (line, want)) in rows.iter().enumerate() {
+        if row(alloc, line) != *want {
+            return i;
+        }
+    }
+    rows.len()
+}
+
 #[test]
 fn takes_each_form(rt: HostRuntime) {
-    let rows: [(&[u8], u8); 11] = [
-        (b"c31 begin", 1),
-        (b"c0 try", 2),
-        (b"c1 write f0 t:x:61", 3),
-        (b"c1 append f15 x:01aB", 4),
-        (b"c1 seek f9 back 4294967296", 5),
-        (b"c1 read f1 8192", 6),
-        (b"c1 cut s1 2 3 s4", 7),
-        (b"c1 concat / /a /b", 8),
-        (b"sys piece 64", 9),
-        (b"sys plan j7 compact /a 3", 10),
-        (b"sys up 0", 11),
-    ];
-    for (line, want) in rows {
-        assert_eq!(rt; row(rt.alloc(), line), want);
-    }
+    assert_eq!(rt; forms(rt.alloc(), &FORMS), 11);
 }

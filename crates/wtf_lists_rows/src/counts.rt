@@ -8,15 +8,23 @@ use wtf_kv::{Cell, Kv, StoreKey, Summarized};
 pub(crate) type Counts = Kv<Name, Count>;
 
 /// A key.
-#[derive(Debug, Drop, PartialEq, Eq, PartialOrd, Ord)]
+#[derive(Drop, PartialEq, Eq, PartialOrd, Ord)]
 pub(crate) struct Name {
     pub(crate) id: u64,
 }
 
 /// A number; a delta adds to it, at most to 64, and a delta of 0 removes it.
-#[derive(Debug, Drop)]
+#[derive(Drop)]
 pub(crate) struct Count {
     pub(crate) n: u64,
+}
+
+/// The number of a value; 0 stands for none.
+pub(crate) fn number(value: Option<&Count>) -> u64 {
+    match value {
+        Some(count) => count.n,
+        None => 0,
+    }
 }
 
 impl StoreKey for Name {

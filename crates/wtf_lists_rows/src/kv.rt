@@ -3,9 +3,8 @@
 ghost use Rattle.std.specs.Prelude.{◌≡◌};
 ghost use Rattle.wtf_kv.specs.Stores.{is_live};
 
-use crate::counts::{Count, Counts, Name};
+use crate::counts::{Count, Counts, Name, number};
 use std::alloc::Global;
-use std::process::Abort;
 use std::test::Fail;
 use wtf_base::OutOfMemory;
 use wtf_kv::{Call, Change, Changes, Kv, NotReady, run};
@@ -13,12 +12,22 @@ use wtf_kv::{Call, Change, Changes, Kv, NotReady, run};
 type Edits = Changes<Name, Count>;
 
 /// The deltas of these keys and numbers, in order.
-fn deltas(alloc: Global, rows: &[(u64, u64)]) -> Result<Edits, OutOfMemory> {
+pub(crate) fn deltas(alloc: Global, rows: &[(u64, u64)]) -> Result<Edits, OutOfMemory> {
     let mut edits = Changes::new(alloc);
     for (id, by) in rows {
         edits.delta(Name { id: *id }, *by)?;
     }
     Ok(edits)
+}
+
+/// Deltas of two keys, of which the second does not fit 60.
+fn edits(alloc: Global) -> Result<Edits, OutOfMemory> {
+    deltas(alloc, &[(4, 5), (3, 5), (4, 64)])
+}
+
+/// Whether there is one change, which adds 5 to key 4.
+fn is_one(edits: &Edits) -> bool {
+    matches!(edits.as_slice(), [Change::Delta(Name { id: 4 }, 5)]) && !edits.is_empty()
 }
 
 /// The removal of the keys from one up to and with another.
@@ -36,11 +45,13 @@ fn seeded(alloc: Global, number: u64, id: u64, n: u64) -> Result<Counts, OutOfMe
 }
 
 /// Installs changes, and answers the number.
-fn install(kv: &mut Counts, edits: &Edits) -> Result<u64, Fail> {
+pub(crate) fn install(kv: &mut Counts, edits: &Edits) -> Result<u64, Fail> {
     if kv.number() >= 1 << 63 {
         return Err("no number is left".into());
     }
-    let ready = kv.reserve_install(edits)?;
+    let Ok(ready) = kv.reserve_install(edits) else {
+        return Err("an install was refused".into());
+    };
     Ok(kv.install(ready))
 }
 
@@ -68,13 +79,10 @@ fn seen(kv: &Counts, n: u64, id: u64) -> Result<(u64, u64), Fail> {
         return Err("the number can't be read".into());
     }
     let key = Name { id };
-    Ok((
-        kv.read_at(n, &key).map_or(0, |c| c.n),
-        kv.version_at(n, &key),
-    ))
+    Ok((number(kv.read_at(n, &key)), kv.version_at(n, &key)))
 }
 
-fn pin(kv: &mut Counts, n: u64) -> Result<(), Fail> {
+pub(crate) fn pin(kv: &mut Counts, n: u64) -> Result<(), Fail> {
     if !is_live(kv, n) {
         return Err("the number can't be pinned".into());
     }
@@ -82,30 +90,44 @@ fn pin(kv: &mut Counts, n: u64) -> Result<(), Fail> {
     Ok(())
 }
 
-fn unpin(kv: &mut Counts, n: u64) -> Result<(), Fail> {
+fn unpin_and_prune(kv: &mut Counts, n: u64) -> Result<(), Fail> {
     if !kv.is_pinned(n) {
         return Err("the number is not pinned".into());
     }
     kv.unpin(n);
+    kv.prune();
     Ok(())
 }
 
-/// The versions of a key, none for a removal.
-fn kept(alloc: Global, kv: &Counts, id: u64) -> Result<Vec<(u64, Option<u64>)>, OutOfMemory> {
-    let mut rows = Vec::new(alloc);
-    for (n, value) in kv.kept(&Name { id }) {
-        rows.push((n, value.map(|c| c.n)))?;
-    }
-    Ok(rows)
+/// The number of a version, none for a removal.
+fn version(value: Option<&Count>) -> Option<u64> {
+    Some(value?.n)
 }
 
-fn next_key(kv: &Counts, after: Option<u64>) -> Option<u64> {
-    let after = after.map(|id| Name { id });
-    kv.next_key(after.as_ref()).map(|key| key.id)
+/// Whether these are the versions of a key, none for a removal.
+fn keeps(kv: &Counts, id: u64, want: &[(u64, Option<u64>)]) -> bool {
+    let mut rows = want.iter();
+    for (n, value) in kv.kept(&Name { id }) {
+        let Some((at, was)) = rows.next() else {
+            return false;
+        };
+        if n != *at || version(value) != *was {
+            return false;
+        }
+    }
+    rows.next().is_none()
+}
+
+fn first_key(kv: &Counts) -> Option<u64> {
+    Some(kv.next_key(None)?.id)
 }
 
 fn next_pinned(kv: &Counts, after: Option<u64>) -> Option<u64> {
     kv.next_pinned(after)
+}
+
+fn is_pinned_once(kv: &Counts, n: u64) -> bool {
+    kv.is_pinned(n) && kv.times_pinned(n) == 1
 }
 
 /// Makes these calls, of which none takes the last pin of `n`.
@@ -127,83 +149,77 @@ fn first(edits: Edits, n: usize) -> Result<Edits, Fail> {
     Ok(edits)
 }
 
-/// Checks what numbers see of keys: their values and their versions.
-fn sees(rt: &impl Abort, kv: &Counts, rows: &[(u64, u64, (u64, u64))]) -> Result<(), Fail> {
-    for (n, id, want) in rows {
-        assert_eq!(rt; seen(kv, *n, *id)?, *want, "of {id} at {n}");
+/// Whether a number sees this of a key: its value and its version.
+fn sees(kv: &Counts, n: u64, id: u64, want: (u64, u64)) -> Result<bool, Fail> {
+    let (value, version) = seen(kv, n, id)?;
+    Ok(value == want.0 && version == want.1)
+}
+
+/// Installs changes, under this number.
+fn install_as(kv: &mut Counts, edits: &Edits, n: u64) -> Result<(), Fail> {
+    if install(kv, edits)? != n {
+        return Err("another number was installed".into());
     }
     Ok(())
 }
 
-/// Checks the versions of a key.
-fn keeps(
-    rt: &impl Abort,
-    alloc: Global,
-    kv: &Counts,
-    id: u64,
-    want: &[(u64, Option<u64>)],
-) -> Result<(), OutOfMemory> {
-    assert_eq!(rt; kept(alloc, kv, id)?.as_slice(), want, "of {id}");
-    Ok(())
+/// Sets key 7 at 1, pins that, and removes the key at 2.
+fn remove(alloc: Global, kv: &mut Counts) -> Result<(), Fail> {
+    install_as(kv, &deltas(alloc, &[(7, 5)])?, 1)?;
+    pin(kv, 1)?;
+    install_as(kv, &cut(alloc, 7, 9)?, 2)
 }
 
 /// A store in which key 7 was set at 1, which is pinned, and removed at 2.
-fn removed(rt: &impl Abort, alloc: Global) -> Result<Counts, Fail> {
+fn removed(alloc: Global) -> Result<Counts, Fail> {
     let mut kv: Counts = Kv::new(alloc)?;
-    assert_eq!(rt; install(&mut kv, &deltas(alloc, &[(7, 5)])?)?, 1);
-    pin(&mut kv, 1)?;
-    assert_eq!(rt; install(&mut kv, &cut(alloc, 7, 9)?)?, 2);
+    remove(alloc, &mut kv)?;
     Ok(kv)
 }
 
 #[test]
 fn removes_under_a_pin(rt: HostRuntime) -> Result<(), Fail> {
-    let kv = removed(&rt, rt.alloc())?;
-    sees(&rt, &kv, &[(1, 7, (5, 1)), (2, 7, (0, 2))])?;
-    keeps(&rt, rt.alloc(), &kv, 7, &[(1, Some(5)), (2, None)])?;
-    assert_eq!(rt; next_pinned(&kv, Some(0)), Some(1));
-    assert_eq!(rt; next_key(&kv, None), Some(7));
+    let kv = removed(rt.alloc())?;
+    assert!(rt; sees(&kv, 1, 7, (5, 1))? && sees(&kv, 2, 7, (0, 2))?);
+    assert!(rt; keeps(&kv, 7, &[(1, Some(5)), (2, None)]));
+    assert!(rt; next_pinned(&kv, Some(0)) == Some(1));
+    assert!(rt; first_key(&kv) == Some(7));
     Ok(())
 }
 
 #[test]
 fn drops_what_no_pin_sees(rt: HostRuntime) -> Result<(), Fail> {
-    let mut kv = removed(&rt, rt.alloc())?;
-    unpin(&mut kv, 1)?;
-    kv.prune();
-    sees(&rt, &kv, &[(2, 7, (0, 0))])?;
-    keeps(&rt, rt.alloc(), &kv, 7, &[])?;
-    assert_eq!(rt; next_pinned(&kv, None), None);
-    assert_eq!(rt; next_key(&kv, None), None);
+    let mut kv = removed(rt.alloc())?;
+    unpin_and_prune(&mut kv, 1)?;
+    assert!(rt; sees(&kv, 2, 7, (0, 0))?);
+    assert!(rt; keeps(&kv, 7, &[]));
+    assert!(rt; next_pinned(&kv, None).is_none());
+    assert!(rt; first_key(&kv).is_none());
     Ok(())
 }
 
 #[test]
 fn a_pinned_map_stays_where_a_prune_is_due(rt: HostRuntime) -> Result<(), Fail> {
-    let mut kv = removed(&rt, rt.alloc())?;
+    let mut kv = removed(rt.alloc())?;
     kv.prune_when_due();
-    sees(&rt, &kv, &[(1, 7, (5, 1)), (2, 7, (0, 2))])?;
+    assert!(rt; sees(&kv, 1, 7, (5, 1))? && sees(&kv, 2, 7, (0, 2))?);
     Ok(())
 }
 
 #[test]
 fn starts_with_a_seed(rt: HostRuntime) -> Result<(), Fail> {
     let mut kv = seeded(rt.alloc(), 5, 3, 60)?;
-    assert_eq!(rt; kv.number(), 5);
-    sees(&rt, &kv, &[(5, 3, (60, 5))])?;
-    let edits = deltas(rt.alloc(), &[(4, 5), (3, 5), (4, 64)])?;
-    assert_eq!(rt; unfit(&mut kv, &edits), Some(3));
-    keeps(&rt, rt.alloc(), &kv, 4, &[])?;
+    assert!(rt; kv.number() == 5 && sees(&kv, 5, 3, (60, 5))?);
+    assert!(rt; unfit(&mut kv, &edits(rt.alloc())?) == Some(3));
+    assert!(rt; keeps(&kv, 4, &[]));
     Ok(())
 }
 
 #[test]
 fn changes_are_shortened(rt: HostRuntime) -> Result<(), Fail> {
-    let edits = deltas(rt.alloc(), &[(4, 5), (3, 5), (4, 64)])?;
-    assert_eq!(rt; edits.len(), 3);
-    let one = first(edits, 1)?;
-    assert!(rt; matches!(one.as_slice(), [Change::Delta(Name { id: 4 }, 5)]));
-    assert!(rt; !one.is_empty());
+    let edits = edits(rt.alloc())?;
+    assert!(rt; edits.len() == 3);
+    assert!(rt; is_one(&first(edits, 1)?));
     Ok(())
 }
 
@@ -223,10 +239,8 @@ fn keeps_a_pinned_map_over_calls(rt: HostRuntime) -> Result<(), Fail> {
     let mut kv = seeded(rt.alloc(), 5, 3, 60)?;
     pin(&mut kv, 5)?;
     run_all(&mut kv, calls(rt.alloc())?.as_slice(), 5)?;
-    assert!(rt; kv.is_pinned(5));
-    assert_eq!(rt; kv.times_pinned(5), 1);
-    assert_eq!(rt; kv.number(), 6);
-    sees(&rt, &kv, &[(5, 3, (60, 5)), (6, 3, (0, 6))])?;
-    keeps(&rt, rt.alloc(), &kv, 9, &[])?;
+    assert!(rt; is_pinned_once(&kv, 5) && kv.number() == 6);
+    assert!(rt; sees(&kv, 5, 3, (60, 5))? && sees(&kv, 6, 3, (0, 6))?);
+    assert!(rt; keeps(&kv, 9, &[]));
     Ok(())
 }

@@ -7,20 +7,34 @@ use wtf_meta::{Handle, Session};
 use wtf_model::limits::{MAX_HANDLES, MAX_SLICES};
 use wtf_path::Path;
 
-/// The offset of the handle of a label, and the number of pieces of its slice.
-fn shown(session: &Session, label: u8) -> (Option<u64>, Option<usize>) {
+/// The offset of the handle of a label.
+fn offset(session: &Session, label: u8) -> Option<u64> {
     if label >= MAX_HANDLES {
-        return (None, None);
+        return None;
     }
+    Some(session.handle(label)?.off)
+}
+
+/// The number of pieces of the slice of a label.
+fn count(session: &Session, label: u8) -> Option<usize> {
     if label >= MAX_SLICES {
-        return (None, None);
+        return None;
     }
-    let off = session.handle(label).map(|h| h.off);
-    (off, session.slice(label).map(|pieces| pieces.len()))
+    Some(session.slice(label)?.len())
+}
+
+/// Whether a label has a handle at this offset, and a slice of so many pieces.
+fn shows(session: &Session, label: u8, off: Option<u64>, pieces: Option<usize>) -> bool {
+    offset(session, label) == off && count(session, label) == pieces
 }
 
 fn holds(alloc: Global, session: &Session, path: &[u8]) -> Result<bool, Fail> {
     Ok(session.holds(&Path::parse(alloc, path)?))
+}
+
+/// Whether a new session holds a path.
+fn holds_new(alloc: Global, path: &[u8]) -> Result<bool, Fail> {
+    holds(alloc, &Session::new(alloc)?, path)
 }
 
 /// Opens a handle at 0, and moves it.
@@ -74,23 +88,19 @@ fn filled(alloc: Global) -> Result<Session, Fail> {
 #[test]
 fn each_label_stands_alone(rt: HostRuntime) -> Result<(), Fail> {
     let session = filled(rt.alloc())?;
-    let rows = [
-        (15, (Some(7), None)),
-        (0, (None, None)),
-        (3, (None, Some(1))),
-    ];
-    for (label, want) in rows {
-        assert_eq!(rt; shown(&session, label), want, "of {label}");
+    let rows = [(15, Some(7), None), (0, None, None), (3, None, Some(1))];
+    for (label, off, pieces) in rows {
+        assert!(rt; shows(&session, label, off, pieces), "of {label}");
     }
     Ok(())
 }
 
 #[test]
 fn a_path_is_held_by_its_handle(rt: HostRuntime) -> Result<(), Fail> {
-    let alloc = rt.alloc();
-    assert!(rt; !holds(alloc, &Session::new(alloc)?, b"/a")?);
-    assert!(rt; holds(alloc, &filled(alloc)?, b"/a")?);
-    assert!(rt; !holds(alloc, &filled(alloc)?, b"/b")?);
+    let session = filled(rt.alloc())?;
+    assert!(rt; !holds_new(rt.alloc(), b"/a")?);
+    assert!(rt; holds(rt.alloc(), &session, b"/a")?);
+    assert!(rt; !holds(rt.alloc(), &session, b"/b")?);
     Ok(())
 }
 
@@ -99,8 +109,7 @@ fn a_copy_stays_as_it_was(rt: HostRuntime) -> Result<(), Fail> {
     let mut session = filled(rt.alloc())?;
     let copy = session.copy(rt.alloc())?;
     end(&mut session, 15);
-    assert_eq!(rt; shown(&copy, 15), (Some(7), None));
-    assert_eq!(rt; shown(&copy, 3), (None, Some(1)));
-    assert_eq!(rt; shown(&session, 15), (None, None));
+    assert!(rt; shows(&copy, 15, Some(7), None) && shows(&copy, 3, None, Some(1)));
+    assert!(rt; shows(&session, 15, None, None));
     Ok(())
 }

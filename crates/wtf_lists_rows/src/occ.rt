@@ -5,12 +5,12 @@ ghost use Rattle.std.specs.Prelude.{◌≡◌, [], ◌∷◌, IfOk};
 ghost use Rattle.std.specs.Option.{option_copied};
 ghost use Rattle.wtf_kv.specs.Edits.{fits};
 
-use crate::counts::{Count, Counts, Name};
+use crate::counts::{Count, Counts, Name, number};
+use crate::kv::{deltas, install, pin};
 use std::alloc::Global;
-use std::process::Abort;
 use std::test::Fail;
 use wtf_base::OutOfMemory;
-use wtf_kv::{Cell, Change, Changes, Kv};
+use wtf_kv::{Cell, Change, Kv};
 use wtf_occ::{Attempt, Mark, Tried};
 
 type Counting = Attempt<Name, Count>;
@@ -29,11 +29,8 @@ fn outcome_of(tried: Tried<Name>) -> Ended {
 /// A store in which install 1 set key 7 to a number; 1 is pinned.
 fn store(alloc: Global, n: u64) -> Result<Counts, Fail> {
     let mut kv: Counts = Kv::new(alloc)?;
-    let mut sets = Changes::new(alloc);
-    sets.delta(Name { id: 7 }, n)?;
-    let ready = kv.reserve_install(&sets)?;
-    kv.install(ready);
-    kv.pin(1)?;
+    install(&mut kv, &deltas(alloc, &[(7, n)])?)?;
+    pin(&mut kv, 1)?;
     Ok(kv)
 }
 
@@ -86,13 +83,12 @@ fn tried(kv: &mut Counts, attempt: &mut Counting) -> Result<Ended, Fail>
     Ok(outcome_of(attempt.install(kv)?))
 }
 
-/// What becomes of two attempts from base 1 that push 3 to key 7, one after the other.
-fn two(alloc: Global, kv: &mut Counts, reads: bool) -> Result<(Ended, Ended), Fail> {
+/// Whether two attempts from base 1 that push 3 to key 7, one after the other, install at 2 and end so.
+fn two(alloc: Global, kv: &mut Counts, reads: bool, want: Ended) -> Result<bool, Fail> {
     let mut first = pushing(alloc, kv, reads)?;
     let mut second = pushing(alloc, kv, reads)?;
     let one = tried(kv, &mut first)?;
-    let other = tried(kv, &mut second)?;
-    Ok((one, other))
+    Ok(one == Ok(2) && tried(kv, &mut second)? == want)
 }
 
 /// Pins the number, and installs an attempt from it that removes the keys 1 to 9.
@@ -110,10 +106,9 @@ fn cut_all(alloc: Global, kv: &mut Counts) -> Result<Ended, Fail> {
     Ok(outcome_of(cut.install(kv)?))
 }
 
-/// The value of key 7 now; 0 stands for none.
-fn value(kv: &Counts) -> u64 {
-    kv.read_at(kv.number(), &Name { id: 7 })
-        .map_or(0, |count| count.n)
+/// Whether the store is at a number, with this value of key 7; 0 stands for none.
+fn is_at(kv: &Counts, n: u64, value: u64) -> bool {
+    kv.number() == n && number(kv.read_at(kv.number(), &Name { id: 7 })) == value
 }
 
 #[test]
@@ -121,9 +116,10 @@ fn conflicts_where_a_key_moved(rt: HostRuntime) -> Result<(), Fail> {
     // The second read a key that moved, or its push fits no longer.
     for (n, reads) in [(50, true), (60, false)] {
         let mut kv = store(rt.alloc(), n)?;
-        let answers = two(rt.alloc(), &mut kv, reads)?;
-        let want = (Ok(2), Err((7, 1, 2)));
-        assert_eq!(rt; answers, want, "from {n}");
+        assert!(rt;
+            two(rt.alloc(), &mut kv, reads, Err((7, 1, 2)))?,
+            "from {n}"
+        );
     }
     Ok(())
 }
@@ -131,11 +127,10 @@ fn conflicts_where_a_key_moved(rt: HostRuntime) -> Result<(), Fail> {
 #[test]
 fn installs_what_no_read_forbids(rt: HostRuntime) -> Result<(), Fail> {
     let mut kv = store(rt.alloc(), 50)?;
-    let answers = two(rt.alloc(), &mut kv, false)?;
-    assert_eq!(rt; answers, (Ok(2), Ok(3)));
-    assert_eq!(rt; (kv.number(), value(&kv)), (3, 56));
-    assert_eq!(rt; cut_all(rt.alloc(), &mut kv)?, Ok(4));
-    assert_eq!(rt; (kv.number(), value(&kv)), (4, 0));
+    assert!(rt; two(rt.alloc(), &mut kv, false, Ok(3))?);
+    assert!(rt; is_at(&kv, 3, 56));
+    assert!(rt; cut_all(rt.alloc(), &mut kv)? == Ok(4));
+    assert!(rt; is_at(&kv, 4, 0));
     Ok(())
 }
 
@@ -144,19 +139,31 @@ fn read(attempt: &mut Counting, kv: &Counts) -> Result<u64, Fail> {
     if !kv.is_pinned(attempt.base()) {
         return Err("the base is not pinned".into());
     }
-    let value = attempt.read(kv, &Name { id: 7 })?;
-    Ok(value.map_or(0, |count| count.n))
+    Ok(number(attempt.read(kv, &Name { id: 7 })?.as_ref()))
 }
 
-/// What an attempt shows at key 7, before and after it is settled; 0 stands for no value.
-fn peek(attempt: &mut Counting, kv: &Counts) -> Result<(u64, u64), Fail> {
+/// What an attempt shows at key 7; 0 stands for no value.
+fn peek(attempt: &Counting, kv: &Counts) -> Result<u64, Fail> {
     if !kv.is_pinned(attempt.base()) {
         return Err("the base is not pinned".into());
     }
-    let key = Name { id: 7 };
-    let before = attempt.peek(kv, &key)?.map_or(0, |count| count.n);
-    attempt.settle(kv, &key)?;
-    Ok((before, attempt.peek(kv, &key)?.map_or(0, |count| count.n)))
+    Ok(number(attempt.peek(kv, &Name { id: 7 })?.as_ref()))
+}
+
+/// Settles key 7.
+fn settle(attempt: &mut Counting, kv: &Counts) -> Result<(), Fail> {
+    if !kv.is_pinned(attempt.base()) {
+        return Err("the base is not pinned".into());
+    }
+    attempt.settle(kv, &Name { id: 7 })?;
+    Ok(())
+}
+
+/// Whether an attempt shows this at key 7, before and after it is settled.
+fn shows(attempt: &mut Counting, kv: &Counts, value: u64) -> Result<bool, Fail> {
+    let before = peek(attempt, kv)?;
+    settle(attempt, kv)?;
+    Ok(before == value && peek(attempt, kv)? == value)
 }
 
 /// Pushes to key 7.
@@ -167,6 +174,13 @@ fn push(attempt: &mut Counting, by: u64) -> Result<(), OutOfMemory> {
 /// Removes key 7.
 fn cut(attempt: &mut Counting) -> Result<(), OutOfMemory> {
     attempt.cut_range(Name { id: 7 }, Name { id: 8 })
+}
+
+/// Pushes to key 7, removes it, and pushes 5 to it.
+fn change(attempt: &mut Counting) -> Result<(), OutOfMemory> {
+    push(attempt, 4)?;
+    cut(attempt)?;
+    push(attempt, 5)
 }
 
 /// Goes back to a mark.
@@ -187,25 +201,27 @@ fn goes_back_to_a_mark(rt: HostRuntime) -> Result<(), Fail> {
     let kv = store(rt.alloc(), 50)?;
     let mut attempt = pushing(rt.alloc(), &kv, true)?;
     let mark = attempt.mark();
-    assert_eq!(rt; (mark.reads, mark.changes), (3, 1));
-    push(&mut attempt, 4)?;
-    cut(&mut attempt)?;
-    push(&mut attempt, 5)?;
-    assert_eq!(rt; peek(&mut attempt, &kv)?, (5, 5));
+    assert!(rt; mark.reads == 3 && mark.changes == 1);
+    change(&mut attempt)?;
+    assert!(rt; shows(&mut attempt, &kv, 5)?);
     go_back(&mut attempt, mark)?;
-    assert_eq!(rt; peek(&mut attempt, &kv)?, (53, 53));
+    assert!(rt; shows(&mut attempt, &kv, 53)?);
     Ok(())
 }
 
-/// Checks that a push of 4 shows and goes again, and that a push of 1 makes `n` of the key.
-fn steps(rt: &impl Abort, attempt: &mut Counting, kv: &Counts, n: u64) -> Result<(), Fail> {
+/// Whether a push of 4 shows and goes again, and a push of 1 makes `n` of the key.
+fn steps(attempt: &mut Counting, kv: &Counts, n: u64) -> Result<bool, Fail> {
     let mark = attempt.mark();
     push(attempt, 4)?;
-    assert_eq!(rt; read(attempt, kv)?, n.saturating_add(3));
+    let far = read(attempt, kv)?;
     go_back(attempt, mark)?;
     push(attempt, 1)?;
-    assert_eq!(rt; read(attempt, kv)?, n);
-    Ok(())
+    Ok(far == n.saturating_add(3) && read(attempt, kv)? == n)
+}
+
+/// What an attempt reads at key 7 from a store that has 50 there.
+fn read_fifty(alloc: Global, attempt: &mut Counting) -> Result<u64, Fail> {
+    read(attempt, &store(alloc, 50)?)
 }
 
 #[test]
@@ -213,10 +229,10 @@ fn a_read_sees_each_change(rt: HostRuntime) -> Result<(), Fail> {
     let kv = store(rt.alloc(), 20)?;
     let mut attempt = Attempt::new(rt.alloc(), 1)?;
     for n in 21..30 {
-        steps(&rt, &mut attempt, &kv, n)?;
+        assert!(rt; steps(&mut attempt, &kv, n)?, "to {n}");
     }
-    assert_eq!(rt; read(&mut attempt, &store(rt.alloc(), 50)?)?, 59);
+    assert!(rt; read_fifty(rt.alloc(), &mut attempt)? == 59);
     cut(&mut attempt)?;
-    assert_eq!(rt; read(&mut attempt, &kv)?, 0);
+    assert!(rt; read(&mut attempt, &kv)? == 0);
     Ok(())
 }

@@ -3,10 +3,9 @@
 use crate::parts::{Row, entry, list_of, place, slice};
 use std::alloc::Global;
 use std::mem::size_of;
-use std::process::Abort;
 use std::test::Fail;
 use wtf_base::OutOfMemory;
-use wtf_overlay::{Entry, Overlay, Part};
+use wtf_overlay::{Entry, Overlay, Part, Piece};
 
 /// A piece of a plan: where its bytes begin, and how many they are.
 type Told = (Option<u64>, u64);
@@ -14,7 +13,6 @@ type Told = (Option<u64>, u64);
 /// A list pushed entry by entry, and what each byte of its span holds, told byte by byte.
 #[derive(Drop)]
 struct Watched {
-    alloc: Global,
     list: Overlay,
     bytes: Vec<Option<u64>>,
 }
@@ -22,40 +20,37 @@ struct Watched {
 /// How many bytes the lists that are shared reach over.
 const SPAN: u32 = 256;
 
-fn plan(alloc: Global, list: &Overlay, off: u32, len: u32) -> Result<Vec<Told>, OutOfMemory> {
-    let mut rows = Vec::new(alloc);
-    for piece in &list.plan(off, len)? {
-        rows.push((place(piece.part), piece.len))?;
+/// Whether these are the pieces.
+fn are_pieces(pieces: &[Piece], want: &[Told]) -> bool {
+    for (piece, (at, len)) in pieces.iter().zip(want) {
+        if place(piece.part) != *at || piece.len != *len {
+            return false;
+        }
     }
-    Ok(rows)
+    pieces.len() == want.len()
 }
 
-fn entries(alloc: Global, list: &Overlay) -> Result<Vec<Row>, OutOfMemory> {
-    let mut rows = Vec::new(alloc);
+/// Whether the plan of the `len` bytes from `off` on is of these pieces.
+fn plans(list: &Overlay, off: u32, len: u32, want: &[Told]) -> Result<bool, OutOfMemory> {
+    Ok(are_pieces(list.plan(off, len)?.as_slice(), want))
+}
+
+/// Whether an entry is that of a row.
+fn is_entry(e: Entry, (off, at, len): Row) -> bool {
+    e.off == off && place(e.part) == at && e.len == len
+}
+
+/// Whether a list holds these entries.
+fn holds(list: &Overlay, want: &[Row]) -> bool {
     for i in 0..list.len() {
-        let e = list.get(i);
-        rows.push((e.off, place(e.part), e.len))?;
+        let Some(row) = want.get(i) else {
+            return false;
+        };
+        if !is_entry(list.get(i), *row) {
+            return false;
+        }
     }
-    Ok(rows)
-}
-
-/// Checks the plan of the `len` bytes from `off` on.
-fn plans(
-    rt: &impl Abort,
-    alloc: Global,
-    list: &Overlay,
-    (off, len, want): (u32, u32, &[Told]),
-) -> Result<(), OutOfMemory> {
-    let rows = plan(alloc, list, off, len)?;
-    assert_eq!(rt; rows.as_slice(), want, "at {off} by {len}");
-    Ok(())
-}
-
-/// Checks the entries of a list.
-fn holds(rt: &impl Abort, alloc: Global, list: &Overlay, want: &[Row]) -> Result<(), OutOfMemory> {
-    let rows = entries(alloc, list)?;
-    assert_eq!(rt; rows.as_slice(), want);
-    Ok(())
+    list.len() == want.len()
 }
 
 /// What is left of a list below `end`.
@@ -65,9 +60,9 @@ fn clipped(list: Overlay, end: u32) -> Result<Overlay, OutOfMemory> {
     Ok(list)
 }
 
-/// The compact list of some rows.
-fn compact(alloc: Global, rows: &[Row]) -> Result<Overlay, Fail> {
-    Ok(list_of(alloc, rows)?.compact()?)
+/// Whether the compact list of some rows holds these.
+fn compacts(alloc: Global, rows: &[Row], want: &[Row]) -> Result<bool, Fail> {
+    Ok(holds(&list_of(alloc, rows)?.compact()?, want))
 }
 
 /// The list of some rows over what other ones hold below `visible`.
@@ -102,15 +97,25 @@ fn later(begin: Option<u64>, i: u64) -> Option<u64> {
     Some(begin?.saturating_add(i))
 }
 
-/// What each byte of the span holds, by the plan of the list.
-fn told(alloc: Global, list: &Overlay) -> Result<Vec<Option<u64>>, OutOfMemory> {
-    let mut bytes = Vec::new(alloc);
-    for piece in &list.plan(0, SPAN)? {
+/// Whether the bytes of the pieces are these.
+fn are_bytes(pieces: &[Piece], want: &[Option<u64>]) -> bool {
+    let mut left = want.iter();
+    for piece in pieces {
         for i in 0..piece.len {
-            bytes.push(later(place(piece.part), i))?;
+            let Some(byte) = left.next() else {
+                return false;
+            };
+            if later(place(piece.part), i) != *byte {
+                return false;
+            }
         }
     }
-    Ok(bytes)
+    left.next().is_none()
+}
+
+/// Whether each byte of the span holds this, by the plan of the list.
+fn tells(list: &Overlay, want: &[Option<u64>]) -> Result<bool, OutOfMemory> {
+    Ok(are_bytes(list.plan(0, SPAN)?.as_slice(), want))
 }
 
 /// What each byte holds once `e` is laid over it.
@@ -125,7 +130,6 @@ fn lay(bytes: &mut Vec<Option<u64>>, e: &Entry) {
 impl Watched {
     fn new(alloc: Global) -> Result<Watched, Fail> {
         Ok(Watched {
-            alloc,
             list: Overlay::new(alloc)?,
             bytes: vec![in alloc; None; SPAN as usize]?,
         })
@@ -138,19 +142,10 @@ impl Watched {
         Ok(())
     }
 
-    fn share(&self) -> Result<Watched, Fail> {
+    fn share(&self, alloc: Global) -> Result<Watched, Fail> {
         Ok(Watched {
-            alloc: self.alloc,
             list: self.list.share()?,
-            bytes: self.bytes.to_vec(self.alloc)?,
-        })
-    }
-
-    fn compact(&self) -> Result<Watched, Fail> {
-        Ok(Watched {
-            alloc: self.alloc,
-            list: self.list.compact()?,
-            bytes: self.bytes.to_vec(self.alloc)?,
+            bytes: self.bytes.to_vec(alloc)?,
         })
     }
 
@@ -162,18 +157,19 @@ impl Watched {
         Ok(())
     }
 
-    /// Checks what the list tells.
-    fn tells(&self, rt: &impl Abort, after: usize) -> Result<(), Fail> {
-        let bytes = told(self.alloc, &self.list)?;
-        assert_eq!(rt; bytes.as_slice(), self.bytes.as_slice(), "after {after}");
-        Ok(())
+    /// Whether the list tells what each byte holds.
+    fn tells(&self) -> Result<bool, OutOfMemory> {
+        tells(&self.list, self.bytes.as_slice())
     }
 
-    /// Checks how many entries there are, and what the list tells, compact too.
-    fn tells_of(&self, rt: &impl Abort, count: usize) -> Result<(), Fail> {
-        assert_eq!(rt; self.list.len(), count);
-        self.tells(rt, count)?;
-        self.compact()?.tells(rt, count)
+    /// Whether the list tells it where it is compact.
+    fn tells_compact(&self) -> Result<bool, OutOfMemory> {
+        tells(&self.list.compact()?, self.bytes.as_slice())
+    }
+
+    /// Whether there are so many entries, which tell what each byte holds, compact too.
+    fn tells_of(&self, count: usize) -> Result<bool, OutOfMemory> {
+        Ok(self.list.len() == count && self.tells()? && self.tells_compact()?)
     }
 }
 
@@ -196,7 +192,7 @@ const X: Row = (2, Some(6), 2);
 
 #[test]
 fn a_list_takes_one_word(rt: HostRuntime) -> Result<(), Fail> {
-    assert_eq!(rt; size_of::<Overlay>(), size_of::<usize>());
+    assert!(rt; size_of::<Overlay>() == size_of::<usize>());
     Ok(())
 }
 
@@ -209,8 +205,8 @@ fn later_entries_hide_earlier_ones(rt: HostRuntime) -> Result<(), Fail> {
         (4_294_967_295, 2, [(None, 2)].as_slice()),
         (0, 0, [].as_slice()),
     ];
-    for row in rows {
-        plans(&rt, rt.alloc(), &list, row)?;
+    for (off, len, want) in rows {
+        assert!(rt; plans(&list, off, len, want)?, "at {off} by {len}");
     }
     Ok(())
 }
@@ -219,7 +215,7 @@ fn later_entries_hide_earlier_ones(rt: HostRuntime) -> Result<(), Fail> {
 fn lists_are_laid_over_one_another(rt: HostRuntime) -> Result<(), Fail> {
     let alloc = rt.alloc();
     let list = over(alloc, &[A], 2, &[X])?;
-    plans(&rt, alloc, &list, (0, 4, &[(Some(0), 2), (Some(6), 2)]))?;
+    assert!(rt; plans(&list, 0, 4, &[(Some(0), 2), (Some(6), 2)])?);
     Ok(())
 }
 
@@ -227,14 +223,13 @@ fn lists_are_laid_over_one_another(rt: HostRuntime) -> Result<(), Fail> {
 fn lists_are_cut(rt: HostRuntime) -> Result<(), Fail> {
     let alloc = rt.alloc();
     let list = clipped(over(alloc, &[A], 6, &[X])?, 3)?;
-    plans(&rt, alloc, &list, (0, 3, &[(Some(0), 2), (Some(6), 1)]))?;
-    holds(&rt, alloc, &list, &[(0, Some(0), 3), (2, Some(6), 1)])?;
+    assert!(rt; plans(&list, 0, 3, &[(Some(0), 2), (Some(6), 1)])?);
+    assert!(rt; holds(&list, &[(0, Some(0), 3), (2, Some(6), 1)]));
     Ok(())
 }
 
 #[test]
 fn lists_are_made_compact(rt: HostRuntime) -> Result<(), Fail> {
-    let alloc = rt.alloc();
     let rows: [(&[Row], &[Row]); 2] = [
         (
             &[A, X],
@@ -253,7 +248,7 @@ fn lists_are_made_compact(rt: HostRuntime) -> Result<(), Fail> {
         ),
     ];
     for (rows, want) in rows {
-        holds(&rt, alloc, &compact(alloc, rows)?, want)?;
+        assert!(rt; compacts(rt.alloc(), rows, want)?);
     }
     Ok(())
 }
@@ -263,7 +258,7 @@ fn lists_are_compared_and_parts_are_cut(rt: HostRuntime) -> Result<(), Fail> {
     let list = list_of(rt.alloc(), &[A, X])?;
     assert!(rt; is_same(rt.alloc(), &list, &[A, X])?);
     assert!(rt; !is_same(rt.alloc(), &list, &[A])?);
-    assert_eq!(rt; (cut(2, 3), end(X)), (Some(2), Some(4)));
+    assert!(rt; cut(2, 3) == Some(2) && end(X) == Some(4));
     Ok(())
 }
 
@@ -272,7 +267,7 @@ fn each_push_shows_whether_merged_or_not(rt: HostRuntime) -> Result<(), Fail> {
     let mut watched = Watched::new(rt.alloc())?;
     for i in 0..70u32 {
         watched.push(step(i))?;
-        watched.tells(&rt, i as usize)?;
+        assert!(rt; watched.tells()?, "after {i}");
     }
     Ok(())
 }
@@ -282,27 +277,40 @@ fn each_appended_entry_shows_whether_merged_or_not(rt: HostRuntime) -> Result<()
     let mut watched = Watched::new(rt.alloc())?;
     for i in 0..50u32 {
         watched.push(appended(i))?;
-        watched.tells(&rt, i as usize)?;
+        assert!(rt; watched.tells()?, "after {i}");
     }
     Ok(())
 }
 
-#[test]
-fn shared_lists_stay_as_they_were(rt: HostRuntime) -> Result<(), Fail> {
-    let alloc = rt.alloc();
-    let mut watched = Watched::new(alloc)?;
+/// Pushes forty blocks of a hundred entries, and shares the list after each of the first 31.
+fn shares(alloc: Global, watched: &mut Watched) -> Result<Vec<Watched>, Fail> {
     let mut shares = Vec::new(alloc);
     for block in 0..40u32 {
         watched.push_block(block)?;
         if block < 31 {
-            shares.push(watched.share()?)?;
+            shares.push(watched.share(alloc)?)?;
         }
     }
-    watched.tells_of(&rt, 4_000)?;
+    Ok(shares)
+}
+
+/// Whether each list tells of a hundred entries more than the one before it.
+fn tell_of_hundreds(lists: &[Watched]) -> Result<bool, OutOfMemory> {
     let mut count = 0usize;
-    for shared in &shares {
+    for list in lists {
         count = count.wrapping_add(100);
-        shared.tells_of(&rt, count)?;
+        if !list.tells_of(count)? {
+            return Ok(false);
+        }
     }
+    Ok(true)
+}
+
+#[test]
+fn shared_lists_stay_as_they_were(rt: HostRuntime) -> Result<(), Fail> {
+    let mut watched = Watched::new(rt.alloc())?;
+    let shares = shares(rt.alloc(), &mut watched)?;
+    assert!(rt; watched.tells_of(4_000)?);
+    assert!(rt; tell_of_hundreds(shares.as_slice())?);
     Ok(())
 }

@@ -2,25 +2,24 @@
 
 use crate::parts::{Row, entry, inode, pieces, slice};
 use std::alloc::Global;
-use std::process::Abort;
 use std::test::Fail;
 use wtf_base::OutOfMemory;
 use wtf_kv::{Cell, Kv, StoreKey, Summarized};
 use wtf_occ::Attempt;
 use wtf_overlay::Overlay;
 use wtf_path::Path;
-use wtf_values::{Delta, Key, Name, NameSet, Node, Pieces, RegionValue, Summary, Value};
+use wtf_values::{Delta, Key, Name, NameSet, Pieces, RegionValue, Summary, Value};
 
 /// What came of a change: a region by its end, how far its base is seen, and the number of its
 /// entries; names by their number.
-#[derive(Debug, Drop, PartialEq)]
+#[derive(Drop, PartialEq)]
 enum Shape {
     Gone,
     Unfit,
     Region(u32, Option<u32>, usize),
     Last(u16),
     Names(usize),
-    Node(Node),
+    Node,
 }
 
 /// A change in plain numbers and texts.
@@ -67,13 +66,20 @@ fn delta(alloc: Global, edit: &Edit) -> Result<Delta, Fail> {
 fn shape_of(value: Option<&Value>) -> Shape {
     match value {
         None => Shape::Gone,
-        Some(Value::Node(node)) => Shape::Node(*node),
+        Some(Value::Node(_)) => Shape::Node,
         Some(Value::Names(names)) => Shape::Names(names.count()),
         Some(Value::Last(n)) => Shape::Last(*n),
-        Some(Value::Region(v)) => {
-            Shape::Region(v.end, v.base.map(|spill| spill.visible), v.list.len())
-        }
+        Some(Value::Region(v)) => region_shape(v),
     }
+}
+
+fn region_shape(v: &RegionValue) -> Shape {
+    Shape::Region(v.end, visible(v), v.list.len())
+}
+
+/// How far the base of a region is seen.
+fn visible(v: &RegionValue) -> Option<u32> {
+    Some(v.base?.visible)
 }
 
 fn summary_of(value: Option<&Value>) -> Summary {
@@ -110,24 +116,30 @@ fn shape_after(alloc: Global, now: Option<&Value>, delta: &Delta) -> Result<Shap
     if fits {
         return Ok(shape_of(value.as_ref()));
     }
-    if shape_of(value.as_ref()) != shape_of(now) {
+    unfit(now, value.as_ref())
+}
+
+/// What comes of a change that does not fit, of a value that is still the same.
+fn unfit(now: Option<&Value>, left: Option<&Value>) -> Result<Shape, Fail> {
+    if shape_of(left) != shape_of(now) {
         return Err("an unfit change left another value".into());
     }
     Ok(Shape::Unfit)
 }
 
-/// Checks that each edit makes of the value what stands beside it.
-fn changes(
-    rt: &impl Abort,
-    alloc: Global,
-    now: Option<&Value>,
-    rows: &[(Edit, Shape)],
-) -> Result<(), Fail> {
-    for (i, (edit, want)) in rows.iter().enumerate() {
-        let made = shape_after(alloc, now, &delta(alloc, edit)?)?;
-        assert_eq!(rt; made, *want, "row {i}");
+/// Whether an edit makes this of the value.
+fn changes_to(alloc: Global, now: Option<&Value>, edit: &Edit, want: &Shape) -> Result<bool, Fail> {
+    Ok(shape_after(alloc, now, &delta(alloc, edit)?)? == *want)
+}
+
+/// Whether each edit makes of the value what stands beside it.
+fn changes(alloc: Global, now: Option<&Value>, rows: &[(Edit, Shape)]) -> Result<bool, Fail> {
+    for (edit, want) in rows {
+        if !changes_to(alloc, now, edit, want)? {
+            return Ok(false);
+        }
     }
-    Ok(())
+    Ok(true)
 }
 
 /// A region of 60 bytes, all of them in its base.
@@ -145,9 +157,14 @@ fn added(alloc: Global, paths: &[&[u8]]) -> Result<NameSet, Fail> {
     Ok(set)
 }
 
-/// Whether sets of names are sure to be the same, by three looks.
-fn same_names(set: &NameSet, other: &NameSet) -> Result<bool, Fail> {
-    Ok(Value::Names(set.copy()?).is_same(&Value::Names(other.copy()?), 3))
+/// Whether the names of these paths are sure to be a value's, by three looks.
+fn same_names(alloc: Global, paths: &[&[u8]], value: &Value) -> Result<bool, Fail> {
+    Ok(names(alloc, paths)?.is_same(value, 3))
+}
+
+/// The value of the names of these paths.
+fn names(alloc: Global, paths: &[&[u8]]) -> Result<Value, Fail> {
+    Ok(Value::Names(added(alloc, paths)?.copy()?))
 }
 
 #[test]
@@ -162,7 +179,8 @@ fn regions_change_as_asked(rt: HostRuntime) -> Result<(), Fail> {
         (Edit::Zero(59, 90), Shape::Region(60, Some(60), 1)),
         (Edit::Zero(60, 90), Shape::Region(60, Some(60), 0)),
     ];
-    changes(&rt, rt.alloc(), Some(&spilled(rt.alloc())?), &rows)
+    assert!(rt; changes(rt.alloc(), Some(&spilled(rt.alloc())?), &rows)?);
+    Ok(())
 }
 
 #[test]
@@ -174,7 +192,8 @@ fn missing_values_change_as_asked(rt: HostRuntime) -> Result<(), Fail> {
         (Edit::PutLast(5), Shape::Last(5)),
         (Edit::Push((2, Some(6), 2)), Shape::Region(4, None, 1)),
     ];
-    changes(&rt, rt.alloc(), None, &rows)
+    assert!(rt; changes(rt.alloc(), None, &rows)?);
+    Ok(())
 }
 
 #[test]
@@ -186,7 +205,8 @@ fn other_values_change_as_asked(rt: HostRuntime) -> Result<(), Fail> {
         (Edit::Clip(3), Shape::Last(5)),
         (Edit::Remove, Shape::Gone),
     ];
-    changes(&rt, rt.alloc(), Some(&Value::Last(5)), &rows)
+    assert!(rt; changes(rt.alloc(), Some(&Value::Last(5)), &rows)?);
+    Ok(())
 }
 
 #[test]
@@ -196,8 +216,9 @@ fn names_change_as_asked(rt: HostRuntime) -> Result<(), Fail> {
         (Edit::AddName(b"/a"), Shape::Names(1)),
         (Edit::DropName(b"/a"), Shape::Names(0)),
     ];
-    let names = Value::Names(added(rt.alloc(), &[b"/a"])?);
-    changes(&rt, rt.alloc(), Some(&names), &rows)
+    let names = names(rt.alloc(), &[b"/a"])?;
+    assert!(rt; changes(rt.alloc(), Some(&names), &rows)?);
+    Ok(())
 }
 
 /// Whether pieces of zeros are read back, with so many bytes.
@@ -221,16 +242,15 @@ fn listed(alloc: Global, end: u32) -> Result<RegionValue, OutOfMemory> {
     Ok(RegionValue::of_list(Overlay::new(alloc)?, end))
 }
 
-fn copy_shape(region: &RegionValue) -> Result<Shape, Fail> {
-    Ok(shape_of(Some(&Value::Region(region.copy()?))))
+/// Whether the copy of a region without entries and base ends here.
+fn copy_ends(region: &RegionValue, end: u32) -> Result<bool, OutOfMemory> {
+    Ok(region_shape(&region.copy()?) == Shape::Region(end, None, 0))
 }
 
 #[test]
 fn regions_are_made_and_copied(rt: HostRuntime) -> Result<(), Fail> {
-    let empty = RegionValue::empty(rt.alloc())?;
-    assert_eq!(rt; copy_shape(&empty)?, Shape::Region(0, None, 0));
-    let region = listed(rt.alloc(), 4)?;
-    assert_eq!(rt; copy_shape(&region)?, Shape::Region(4, None, 0));
+    assert!(rt; copy_ends(&RegionValue::empty(rt.alloc())?, 0)?);
+    assert!(rt; copy_ends(&listed(rt.alloc(), 4)?, 4)?);
     Ok(())
 }
 
@@ -243,9 +263,9 @@ fn names_are_added_in_any_order(rt: HostRuntime) -> Result<(), Fail> {
         &[b"/a", b"/a", b"/b", b"/c", b"/c"],
         &[b"/b", b"/c", b"/b", b"/a"],
     ];
-    let want = added(rt.alloc(), rows[0])?;
+    let want = names(rt.alloc(), rows[0])?;
     for row in rows {
-        assert!(rt; same_names(&added(rt.alloc(), row)?, &want)?);
+        assert!(rt; same_names(rt.alloc(), row, &want)?);
     }
     Ok(())
 }
@@ -289,9 +309,11 @@ fn a_name_is_the_last_of_its_path(rt: HostRuntime) -> Result<(), Fail> {
 
 /// A key of each kind, in order.
 fn keys(alloc: Global) -> Result<[Key; 4], Fail> {
+    let path = Path::parse(alloc, b"/a")?;
+    let dir = Path::parse(alloc, b"/")?;
     Ok([
-        Key::Path(Path::parse(alloc, b"/a")?),
-        Key::Dir(Path::parse(alloc, b"/")?),
+        Key::Path(path),
+        Key::Dir(dir),
         Key::Inode(inode()),
         Key::Region(inode(), 3),
     ])
@@ -302,28 +324,48 @@ fn stands_before(alloc: Global, key: &Key, next: &Key) -> Result<bool, Fail> {
     Ok(key < next && key.copy(alloc)? == *key)
 }
 
+/// Whether each key stands before the next one.
+fn are_in_order(alloc: Global, keys: &[Key]) -> Result<bool, Fail> {
+    for pair in keys.windows(2) {
+        if !stands_before(alloc, &pair[0], &pair[1])? {
+            return Ok(false);
+        }
+    }
+    Ok(true)
+}
+
 #[test]
 fn keys_stand_in_order(rt: HostRuntime) -> Result<(), Fail> {
-    let keys = keys(rt.alloc())?;
-    for pair in keys.windows(2) {
-        assert!(rt; stands_before(rt.alloc(), &pair[0], &pair[1])?);
+    assert!(rt; are_in_order(rt.alloc(), &keys(rt.alloc())?)?);
+    Ok(())
+}
+
+type Editing = Attempt<Key, Value>;
+
+/// Makes edits of the last region of a file.
+fn edit_all(alloc: Global, attempt: &mut Editing, edits: &[Edit]) -> Result<(), Fail> {
+    for edit in edits {
+        attempt.delta(Key::Inode(inode()), delta(alloc, edit)?)?;
     }
     Ok(())
 }
 
-/// The summaries of the last region of a file that an attempt sets, as told and as settled.
-fn summaries(alloc: Global, edits: &[Edit]) -> Result<(Summary, Summary), Fail> {
-    let mut kv: Kv<Key, Value> = Kv::new(alloc)?;
-    kv.pin(0)?;
-    let mut attempt = Attempt::new(alloc, 0)?;
-    for edit in edits {
-        attempt.delta(Key::Inode(inode()), delta(alloc, edit)?)?;
-    }
+/// Whether this is the summary of the last region of a file, as told and as settled.
+fn is_summary(attempt: &mut Editing, kv: &Kv<Key, Value>, want: Summary) -> Result<bool, Fail> {
     if !kv.is_pinned(attempt.base()) {
         return Err("the base is not pinned".into());
     }
-    let told = attempt.summary(&kv, &Key::Inode(inode()));
-    Ok((told, attempt.settled_summary(&kv, &Key::Inode(inode()))))
+    let key = Key::Inode(inode());
+    Ok(attempt.summary(kv, &key) == want && attempt.settled_summary(kv, &key) == want)
+}
+
+/// Whether this is the summary of the last region of a file that an attempt edits.
+fn sums_to(alloc: Global, edits: &[Edit], want: Summary) -> Result<bool, Fail> {
+    let mut kv: Kv<Key, Value> = Kv::new(alloc)?;
+    kv.pin(0)?;
+    let mut attempt = Attempt::new(alloc, 0)?;
+    edit_all(alloc, &mut attempt, edits)?;
+    is_summary(&mut attempt, &kv, want)
 }
 
 #[test]
@@ -334,7 +376,7 @@ fn summaries_follow_changes(rt: HostRuntime) -> Result<(), Fail> {
         (&[Edit::PutLast(5), Edit::Raise(7)], Summary::Last(7)),
     ];
     for (edits, want) in rows {
-        assert_eq!(rt; summaries(rt.alloc(), edits)?, (want, want));
+        assert!(rt; sums_to(rt.alloc(), edits, want)?);
     }
     Ok(())
 }

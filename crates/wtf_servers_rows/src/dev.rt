@@ -10,29 +10,24 @@ use wtf_dev::{
 /// The backing file of the rows of one store.
 const FILE: u8 = 3;
 
-fn append(store: &mut MemStore, bytes: &[u8]) -> Result<u64, Failed> {
-    store.append(FILE, bytes)
+/// Whether bytes are put behind the file from this place on, or fail to be.
+fn appends(store: &mut MemStore, bytes: &[u8], want: Result<u64, Failed>) -> bool {
+    store.append(FILE, bytes) == want
 }
 
-/// The first two bytes of the file; zeros where it is shorter.
-fn front(store: &mut MemStore) -> Result<[u8; 2], Failed> {
+/// Whether these are the first two bytes of the file.
+fn begins(store: &mut MemStore, want: &[u8; 2]) -> bool {
     let mut out = [0; 2];
-    if store.length(FILE) >= 2 {
-        store.read(FILE, 0, &mut out)?;
-    }
-    Ok(out)
+    store.length(FILE) >= 2 && store.read(FILE, 0, &mut out) == Ok(()) && out == *want
 }
 
-/// Frees the second byte of the file, where it has one.
-fn free_second(store: &mut MemStore) -> Result<(), Failed> {
-    if store.length(FILE) < 2 {
-        return Err(Failed);
-    }
-    store.punch(FILE, 1, 1)
+/// Whether the second byte of the file is freed.
+fn frees_second(store: &mut MemStore) -> bool {
+    store.length(FILE) >= 2 && store.punch(FILE, 1, 1) == Ok(())
 }
 
-fn sync(store: &mut MemStore) -> Result<(), Failed> {
-    store.sync()
+fn syncs(store: &mut MemStore) -> bool {
+    store.sync() == Ok(())
 }
 
 fn short_of_store(store: &MemStore) -> u64 {
@@ -42,13 +37,13 @@ fn short_of_store(store: &MemStore) -> u64 {
 #[test]
 fn a_failed_append_keeps_old_bytes(rt: HostRuntime) -> Result<(), Fail> {
     let mut store = store(rt.alloc(), &[1])?;
-    assert_eq!(rt; append(&mut store, b"ab"), Ok(0));
-    assert_eq!(rt; append(&mut store, b"cd"), Err(Failed));
-    assert_eq!(rt; front(&mut store), Ok(*b"ab"));
-    assert_eq!(rt; free_second(&mut store), Ok(()));
-    assert_eq!(rt; sync(&mut store), Ok(()));
-    assert_eq!(rt; front(&mut store), Ok(*b"a\0"));
-    assert_eq!(rt; short_of_store(&store), 0);
+    assert!(rt; appends(&mut store, b"ab", Ok(0)));
+    assert!(rt; appends(&mut store, b"cd", Err(Failed)));
+    assert!(rt; begins(&mut store, b"ab"));
+    assert!(rt; frees_second(&mut store));
+    assert!(rt; syncs(&mut store));
+    assert!(rt; begins(&mut store, b"a\0"));
+    assert!(rt; short_of_store(&store) == 0);
     Ok(())
 }
 
@@ -58,13 +53,16 @@ fn keeper(alloc: Global, bytes: &[u8], fails: &[u64]) -> Result<MemKeeper, Fail>
     Ok(MemKeeper::new(alloc, bytes, Vec::from_slice(alloc, fails)?))
 }
 
-/// The bytes that a keeper gives.
-fn load(alloc: Global, keeper: &mut MemKeeper) -> Result<Vec<u8>, Fail> {
-    Ok(keeper.load(alloc)?)
+/// Whether these are the bytes that a keeper gives.
+fn loads(alloc: Global, keeper: &mut MemKeeper, want: &[u8]) -> bool {
+    match keeper.load(alloc) {
+        Ok(bytes) => bytes.as_slice() == want,
+        Err(_) => false,
+    }
 }
 
-fn replace(keeper: &mut MemKeeper, bytes: &[u8]) -> Result<(), Failed> {
-    keeper.replace(bytes)
+fn replaces(keeper: &mut MemKeeper, bytes: &[u8], want: Result<(), Failed>) -> bool {
+    keeper.replace(bytes) == want
 }
 
 /// Whether a keeper holds these bytes, and found memory for all that it was handed.
@@ -75,12 +73,9 @@ fn holds(keeper: &MemKeeper, bytes: &[u8]) -> bool {
 #[test]
 fn a_keeper_answers_its_bytes(rt: HostRuntime) -> Result<(), Fail> {
     let mut keeper = keeper(rt.alloc(), b"old", &[2])?;
-    assert_eq!(rt;
-        load(rt.alloc(), &mut keeper)?.as_slice(),
-        b"old".as_slice()
-    );
-    assert_eq!(rt; replace(&mut keeper, b"new"), Ok(()));
-    assert_eq!(rt; replace(&mut keeper, b"lost"), Err(Failed));
+    assert!(rt; loads(rt.alloc(), &mut keeper, b"old"));
+    assert!(rt; replaces(&mut keeper, b"new", Ok(())));
+    assert!(rt; replaces(&mut keeper, b"lost", Err(Failed)));
     assert!(rt; holds(&keeper, b"new"));
     Ok(())
 }
@@ -93,29 +88,26 @@ fn shelf(alloc: Global) -> Result<Shelf<MemStore>, Fail> {
     Ok(Shelf::new(alloc, stores))
 }
 
-/// Three bytes at the end of file 7 of the store of a server, where there is that server.
-fn append_on(shelf: &mut Shelf<MemStore>, server: u8) -> Option<Result<u64, Failed>> {
-    if server >= shelf.len() {
-        return None;
-    }
-    Some(shelf.store(server).append(7, b"xyz"))
+/// Whether three bytes at the end of file 7 of the store of a server lie there from byte 0 on.
+fn appends_on(shelf: &mut Shelf<MemStore>, server: u8) -> bool {
+    server < shelf.len() && shelf.store(server).append(7, b"xyz") == Ok(0)
 }
 
-/// The length of file 7 of the store of a server, where there is that server.
-fn length_on(shelf: &Shelf<MemStore>, server: u8) -> Option<u64> {
+/// Whether this is the length of file 7 of the store of a server; `None` where there is no such server.
+fn has_length(shelf: &Shelf<MemStore>, server: u8, want: Option<u64>) -> bool {
     if server >= shelf.len() {
-        return None;
+        return want.is_none();
     }
-    Some(shelf.length(server, 7))
+    want == Some(shelf.length(server, 7))
 }
 
 #[test]
 fn a_shelf_has_its_stores(rt: HostRuntime) -> Result<(), Fail> {
     let mut shelf = shelf(rt.alloc())?;
-    assert_eq!(rt; append_on(&mut shelf, 1), Some(Ok(0)));
-    for (server, len) in [(0, Some(0)), (1, Some(3)), (2, None)] {
-        assert_eq!(rt; length_on(&shelf, server), len, "server {server}");
-    }
+    assert!(rt; appends_on(&mut shelf, 1));
+    assert!(rt; has_length(&shelf, 0, Some(0)));
+    assert!(rt; has_length(&shelf, 1, Some(3)));
+    assert!(rt; has_length(&shelf, 2, None));
     Ok(())
 }
 
@@ -125,23 +117,26 @@ fn source(alloc: Global, bytes: &[u8]) -> Result<MemSource, Fail> {
     Ok(MemSource::new(alloc, bytes, vec![in alloc; 1]?))
 }
 
-/// Whether a source that is asked for three bytes gives these, or fails where none are told.
-fn gives(source: &mut MemSource, want: Option<&[u8]>) -> bool {
+/// Whether a source that is asked for three bytes gives these.
+fn gives(source: &mut MemSource, want: &[u8]) -> bool {
     let mut out = [0; 3];
-    match (source.read(&mut out), want) {
-        (Ok(n), Some(bytes)) => &out[..n] == bytes,
-        (Err(_), None) => true,
-        _ => false,
+    match source.read(&mut out) {
+        Ok(n) => &out[..n] == want,
+        Err(_) => false,
     }
+}
+
+fn fails(source: &mut MemSource) -> bool {
+    source.read(&mut [0; 3]) == Err(Failed)
 }
 
 #[test]
 fn a_source_gives_its_bytes_in_order(rt: HostRuntime) -> Result<(), Fail> {
     let mut source = source(rt.alloc(), b"abcde")?;
-    let rows: [Option<&[u8]>; 4] = [Some(b"abc"), None, Some(b"de"), Some(b"")];
-    for want in rows {
-        assert!(rt; gives(&mut source, want), "{want:?}");
-    }
+    assert!(rt; gives(&mut source, b"abc"));
+    assert!(rt; fails(&mut source));
+    assert!(rt; gives(&mut source, b"de"));
+    assert!(rt; gives(&mut source, b""));
     Ok(())
 }
 
@@ -150,8 +145,9 @@ fn sink(alloc: Global) -> Result<MemSink, Fail> {
     Ok(MemSink::new(alloc, vec![in alloc; 0]?))
 }
 
-fn write(sink: &mut MemSink, bytes: &[u8]) -> Result<usize, Failed> {
-    sink.write(bytes)
+/// Whether a sink takes so many of these bytes, or fails.
+fn takes(sink: &mut MemSink, bytes: &[u8], want: Result<usize, Failed>) -> bool {
+    sink.write(bytes) == want
 }
 
 /// Whether a sink has these bytes, and found memory for all of them.
@@ -162,9 +158,9 @@ fn has_taken(sink: &MemSink, bytes: &[u8]) -> bool {
 #[test]
 fn a_sink_takes_bytes_in_order(rt: HostRuntime) -> Result<(), Fail> {
     let mut sink = sink(rt.alloc())?;
-    assert_eq!(rt; write(&mut sink, b"abc"), Err(Failed));
-    assert_eq!(rt; write(&mut sink, b"abc"), Ok(3));
-    assert_eq!(rt; write(&mut sink, b"de"), Ok(2));
+    assert!(rt; takes(&mut sink, b"abc", Err(Failed)));
+    assert!(rt; takes(&mut sink, b"abc", Ok(3)));
+    assert!(rt; takes(&mut sink, b"de", Ok(2)));
     assert!(rt; has_taken(&sink, b"abcde"));
     Ok(())
 }

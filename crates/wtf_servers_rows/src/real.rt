@@ -102,39 +102,52 @@ fn full(rt: &HostRuntime, log: &Log) -> Result<OutSink<File>, Fail> {
     Ok(sink)
 }
 
-fn say<W: Write + Drop>(sink: &mut OutSink<W>, bytes: &[u8]) -> Result<usize, Failed> {
-    sink.write(bytes)
+/// Whether a sink takes so many of these bytes, or fails.
+fn says<W: Write + Drop>(sink: &mut OutSink<W>, bytes: &[u8], want: Result<usize, Failed>) -> bool {
+    sink.write(bytes) == want
 }
 
-fn hear(source: &mut InSource<Slow, Short>) -> Result<usize, Failed> {
-    source.read(&mut [0u8; 4])
+/// Whether a source that is asked for four bytes gives so many, or fails.
+fn hears(source: &mut InSource<Slow, Short>, want: Result<usize, Failed>) -> bool {
+    source.read(&mut [0u8; 4]) == want
 }
 
-fn end<W: Write + Drop>(sink: &mut OutSink<W>) -> Result<(), Failed> {
-    sink.finish()
+fn ends<W: Write + Drop>(sink: &mut OutSink<W>, want: Result<(), Failed>) -> bool {
+    sink.finish() == want
+}
+
+/// Whether bytes are said, two are heard, and one more is said.
+fn begins(source: &mut InSource<Slow, Short>, sink: &mut OutSink<Short>) -> bool {
+    says(sink, b"abcd", Ok(4))
+        && says(sink, b"e", Ok(1))
+        && hears(source, Ok(1))
+        && hears(source, Ok(1))
+        && says(sink, b"f", Ok(1))
+}
+
+/// Whether this is heard last, one more byte is said, and the sink ends twice.
+fn closes(
+    source: &mut InSource<Slow, Short>,
+    sink: &mut OutSink<Short>,
+    last: Result<usize, Failed>,
+) -> bool {
+    hears(source, last) && says(sink, b"g", Ok(1)) && ends(sink, Ok(())) && ends(sink, Ok(()))
+}
+
+/// Whether answers are out before the next read where this is heard last.
+fn are_in_order(alloc: Global, fails: bool, last: Result<usize, Failed>) -> Result<bool, Fail> {
+    let log = new_log(alloc)?;
+    let (mut source, mut sink) = short_streams(alloc, &log, slow_reader(&log, 2, fails)?, 3)?;
+    let begun = begins(&mut source, &mut sink);
+    let closed = closes(&mut source, &mut sink, last);
+    Ok(begun && closed && is_noted(&log, b"abcde||f|g"))
 }
 
 /// What is written is held back until the next read, and the end.
 #[test]
 fn answers_are_out_before_the_next_read(rt: HostRuntime) -> Result<(), Fail> {
-    for (fails, last) in [(false, Ok(0)), (true, Err(Failed))] {
-        let log = new_log(rt.alloc())?;
-        let (mut source, mut sink) = short_streams(
-            rt.alloc(),
-            &log,
-            slow_reader(&log, 2, fails)?,
-            3,
-        )?;
-        let said = [say(&mut sink, b"abcd"), say(&mut sink, b"e")];
-        assert_eq!(rt; said, [Ok(4), Ok(1)]);
-        let heard = [hear(&mut source), hear(&mut source)];
-        assert_eq!(rt; heard, [Ok(1), Ok(1)]);
-        assert_eq!(rt; say(&mut sink, b"f"), Ok(1));
-        assert_eq!(rt; hear(&mut source), last);
-        assert_eq!(rt; say(&mut sink, b"g"), Ok(1));
-        assert_eq!(rt; [end(&mut sink), end(&mut sink)], [Ok(()), Ok(())]);
-        assert!(rt; is_noted(&log, b"abcde||f|g"), "fails {fails}");
-    }
+    assert!(rt; are_in_order(rt.alloc(), false, Ok(0))?);
+    assert!(rt; are_in_order(rt.alloc(), true, Err(Failed))?);
     Ok(())
 }
 
@@ -143,10 +156,10 @@ fn answers_are_out_before_the_next_read(rt: HostRuntime) -> Result<(), Fail> {
 fn a_write_that_fails_is_told(rt: HostRuntime) -> Result<(), Fail> {
     let log = new_log(rt.alloc())?;
     let (mut source, mut sink) = short_streams(rt.alloc(), &log, slow_reader(&log, 1, false)?, 0)?;
-    assert_eq!(rt; say(&mut sink, b"ab"), Ok(2));
-    assert_eq!(rt; hear(&mut source), Err(Failed));
-    assert_eq!(rt; say(&mut sink, b"cd"), Err(Failed));
-    assert_eq!(rt; end(&mut sink), Err(Failed));
+    assert!(rt; says(&mut sink, b"ab", Ok(2)));
+    assert!(rt; hears(&mut source, Err(Failed)));
+    assert!(rt; says(&mut sink, b"cd", Err(Failed)));
+    assert!(rt; ends(&mut sink, Err(Failed)));
     assert!(rt; is_noted(&log, b""));
     Ok(())
 }
@@ -156,9 +169,9 @@ fn a_full_disk_is_told(rt: HostRuntime) -> Result<(), Fail> {
     let log = new_log(rt.alloc())?;
     let mut sink = full(&rt, &log)?;
     let much = vec![in rt.alloc(); b'a'; 65_537]?;
-    assert_eq!(rt; say(&mut sink, much.as_slice()), Ok(65_536));
-    assert_eq!(rt; say(&mut sink, &much[65_536..]), Err(Failed));
-    assert_eq!(rt; end(&mut sink), Err(Failed));
+    assert!(rt; says(&mut sink, much.as_slice(), Ok(65_536)));
+    assert!(rt; says(&mut sink, &much[65_536..], Err(Failed)));
+    assert!(rt; ends(&mut sink, Err(Failed)));
     assert!(rt; is_noted(&log, b""));
     Ok(())
 }
@@ -172,6 +185,11 @@ fn fresh(rt: &HostRuntime, name: &str) -> Result<String, Fail> {
     Ok(path)
 }
 
+/// Takes away the folder of a test.
+fn clear(rt: &HostRuntime, path: &str) -> Result<(), Fail> {
+    Ok(fs::remove_dir_all(rt, path)?)
+}
+
 /// What lies at a path behind that of a folder.
 fn below(rt: &HostRuntime, folder: &str, path: &str) -> Result<String, Fail> {
     Ok(format!(in rt.alloc(); "{folder}/{path}")?)
@@ -181,6 +199,12 @@ fn below(rt: &HostRuntime, folder: &str, path: &str) -> Result<String, Fail> {
 fn make(rt: &HostRuntime, folder: &str, path: &str) -> Result<(), Fail> {
     let path = below(rt, folder, path)?;
     Ok(fs::create_dir_all(rt, path.as_str())?)
+}
+
+/// A file of one byte behind the folder of a path.
+fn put(rt: &HostRuntime, folder: &str, path: &str) -> Result<(), Fail> {
+    let path = below(rt, folder, path)?;
+    Ok(fs::write(rt, path.as_str(), "a")?)
 }
 
 /// A link to a full disk behind the folder of a path.
@@ -194,148 +218,153 @@ fn hold(rt: &HostRuntime, folder: &str) -> Result<FolderLock<File>, OpenFault> {
     FolderLock::open(rt, &standing, folder)
 }
 
+/// A folder that could be held.
+fn lock(rt: &HostRuntime, folder: &str) -> Result<FolderLock<File>, Fail> {
+    Ok(hold(rt, folder)?)
+}
+
 /// Whether a folder could be held, and is let go again.
-fn held(rt: &HostRuntime, folder: &str) -> Result<(), OpenFault> {
-    match hold(rt, folder) {
-        Ok(_) => Ok(()),
-        Err(fault) => Err(fault),
-    }
+fn is_free(rt: &HostRuntime, folder: &str) -> bool {
+    hold(rt, folder).is_ok()
 }
 
-fn store(
-    rt: &HostRuntime,
-    lock: &FolderLock<File>,
-    server: u8,
-) -> Result<DirStore<File>, OpenFault> {
-    DirStore::open(rt, lock, server)
+/// Whether a folder could not be held.
+fn is_refused(rt: &HostRuntime, folder: &str) -> bool {
+    matches!(hold(rt, folder), Err(OpenFault::Failed))
 }
 
-fn append(store: &mut DirStore<File>, file: u8, bytes: &[u8]) -> Result<Result<u64, Failed>, Fail> {
+/// Whether what lies behind the folder of a path could not be held.
+fn is_refused_below(rt: &HostRuntime, folder: &str, path: &str) -> Result<bool, Fail> {
+    let path = below(rt, folder, path)?;
+    Ok(is_refused(rt, path.as_str()))
+}
+
+fn store(rt: &HostRuntime, lock: &FolderLock<File>, server: u8) -> Result<DirStore<File>, Fail> {
+    Ok(DirStore::open(rt, lock, server)?)
+}
+
+/// Whether the store of a server could not be opened.
+fn is_no_store(rt: &HostRuntime, lock: &FolderLock<File>, server: u8) -> bool {
+    matches!(DirStore::open(rt, lock, server), Err(OpenFault::Failed))
+}
+
+/// Whether bytes are put behind a file from this place on, or fail to be.
+fn appends(store: &mut DirStore<File>, file: u8, bytes: &[u8], want: Result<u64, Failed>) -> bool {
+    file < 8 && store.append(file, bytes) == want
+}
+
+fn has_length(store: &DirStore<File>, file: u8, want: u64) -> bool {
+    file < 8 && store.length(file) == want
+}
+
+/// Whether bytes of a file, from a place on, are read into `out`.
+fn reads(store: &mut DirStore<File>, file: u8, at: u64, out: &mut [u8]) -> bool {
     if file >= 8 {
-        return Err(Fail::from("append"));
-    }
-    Ok(store.append(file, bytes))
-}
-
-fn length(store: &DirStore<File>, file: u8) -> Result<u64, Fail> {
-    if file >= 8 {
-        return Err(Fail::from("length"));
-    }
-    Ok(store.length(file))
-}
-
-fn read(
-    store: &mut DirStore<File>,
-    file: u8,
-    at: u64,
-    out: &mut [u8],
-) -> Result<Result<(), Failed>, Fail> {
-    if file >= 8 {
-        return Err(Fail::from("read"));
+        return false;
     }
     let all = store.length(file);
     let len = out.len() as u64;
     if len > all || at > all - len {
-        return Err(Fail::from("read"));
+        return false;
     }
-    Ok(store.read(file, at, out))
+    store.read(file, at, out) == Ok(())
 }
 
-fn punch(
-    store: &mut DirStore<File>,
-    file: u8,
-    at: u64,
-    len: u64,
-) -> Result<Result<(), Failed>, Fail> {
+/// Whether these four bytes stand in a file from a place on.
+fn shows(store: &mut DirStore<File>, file: u8, at: u64, want: &[u8; 4]) -> bool {
+    let mut out = [0u8; 4];
+    reads(store, file, at, &mut out) && out == *want
+}
+
+fn punches(store: &mut DirStore<File>, file: u8, at: u64, len: u64) -> bool {
     if file >= 8 {
-        return Err(Fail::from("punch"));
+        return false;
     }
     let all = store.length(file);
     if len > all || at > all - len {
-        return Err(Fail::from("punch"));
+        return false;
     }
-    Ok(store.punch(file, at, len))
+    store.punch(file, at, len) == Ok(())
 }
 
-fn sync(store: &mut DirStore<File>) -> Result<(), Failed> {
-    store.sync()
+fn syncs(store: &mut DirStore<File>) -> bool {
+    store.sync() == Ok(())
 }
 
 /// One folder is held once at a time, and is free again when it was let go.
 #[test]
 fn a_folder_is_held_once(rt: HostRuntime) -> Result<(), Fail> {
     let path = fresh(&rt, "lock")?;
-    let first = hold(&rt, path.as_str())?;
-    assert_eq!(rt; held(&rt, path.as_str()), Err(OpenFault::Failed));
+    let first = lock(&rt, path.as_str())?;
+    assert!(rt; is_refused(&rt, path.as_str()));
     drop(first);
-    assert_eq!(rt; held(&rt, path.as_str()), Ok(()));
-    fs::remove_dir_all(&rt, path.as_str())?;
-    Ok(())
+    assert!(rt; is_free(&rt, path.as_str()));
+    clear(&rt, path.as_str())
 }
 
 #[test]
 fn a_folder_holds_what_was_appended(rt: HostRuntime) -> Result<(), Fail> {
     let path = fresh(&rt, "folder")?;
     let dir = below(&rt, path.as_str(), "a/b")?;
-    let lock = hold(&rt, dir.as_str())?;
-    let mut out = [0u8; 4];
+    let lock = lock(&rt, dir.as_str())?;
     let mut here = store(&rt, &lock, 0)?;
-    for (file, bytes, at) in [(3, "abcd", 0), (3, "ef", 4), (7, "x", 0)] {
-        assert_eq!(rt; append(&mut here, file, bytes.as_bytes())?, Ok(at));
-    }
-    assert_eq!(rt; read(&mut here, 3, 2, &mut out)?, Ok(()));
-    assert_eq!(rt; out, *b"cdef");
-    assert_eq!(rt; punch(&mut here, 3, 1, 2)?, Ok(()));
-    assert_eq!(rt; sync(&mut here), Ok(()));
+    assert!(rt; appends(&mut here, 3, b"abcd", Ok(0)));
+    assert!(rt; appends(&mut here, 3, b"ef", Ok(4)));
+    assert!(rt; appends(&mut here, 7, b"x", Ok(0)));
+    assert!(rt; shows(&mut here, 3, 2, b"cdef"));
+    assert!(rt; punches(&mut here, 3, 1, 2));
+    assert!(rt; syncs(&mut here));
     // Another store finds it all.
     let mut again = store(&rt, &lock, 0)?;
-    for (file, len) in [(0, 0), (7, 1), (3, 6)] {
-        assert_eq!(rt; length(&again, file)?, len);
-    }
-    assert_eq!(rt; read(&mut again, 3, 0, &mut out)?, Ok(()));
-    assert_eq!(rt; out, *b"a\0\0d");
-    assert_eq!(rt; append(&mut again, 3, b"g")?, Ok(6));
-    fs::remove_dir_all(&rt, path.as_str())?;
-    Ok(())
+    assert!(rt; finds_all(&mut again));
+    clear(&rt, path.as_str())
+}
+
+/// Whether a store finds what another appended, and appends to it.
+fn finds_all(store: &mut DirStore<File>) -> bool {
+    has_length(store, 0, 0)
+        && has_length(store, 7, 1)
+        && has_length(store, 3, 6)
+        && shows(store, 3, 0, b"a\0\0d")
+        && appends(store, 3, b"g", Ok(6))
+}
+
+fn zeros(bytes: &[u8]) -> usize {
+    bytes.iter().filter(|b| **b == 0).count()
+}
+
+/// Whether bytes begin and end with a kept one beside a zero.
+fn is_hollow(bytes: &[u8]) -> bool {
+    bytes.starts_with(b"a\0".as_slice()) && bytes.ends_with(b"\0a".as_slice())
 }
 
 /// A long range of zeros is written in parts.
 #[test]
 fn a_long_range_is_punched(rt: HostRuntime) -> Result<(), Fail> {
     let path = fresh(&rt, "long")?;
-    let lock = hold(&rt, path.as_str())?;
+    let lock = lock(&rt, path.as_str())?;
     let mut store = store(&rt, &lock, 0)?;
     let mut all = vec![in rt.alloc(); b'a'; 40_000]?;
-    assert_eq!(rt; append(&mut store, 5, all.as_slice())?, Ok(0));
-    assert_eq!(rt; punch(&mut store, 5, 1, 39_998)?, Ok(()));
-    assert_eq!(rt; read(&mut store, 5, 0, &mut all)?, Ok(()));
-    assert!(rt; all.starts_with(b"a\0".as_slice()) && all.ends_with(b"\0a".as_slice()));
-    assert_eq!(rt; all.iter().filter(|b| **b == 0).count(), 39_998);
-    fs::remove_dir_all(&rt, path.as_str())?;
-    Ok(())
+    assert!(rt; appends(&mut store, 5, all.as_slice(), Ok(0)));
+    assert!(rt; punches(&mut store, 5, 1, 39_998));
+    assert!(rt; reads(&mut store, 5, 0, &mut all));
+    assert!(rt; is_hollow(all.as_slice()));
+    assert!(rt; zeros(all.as_slice()) == 39_998);
+    clear(&rt, path.as_str())
 }
 
 /// A folder below a file, a file in the place of a folder, and a folder in the place of a file.
 #[test]
 fn a_folder_that_fails_is_told(rt: HostRuntime) -> Result<(), Fail> {
     let path = fresh(&rt, "bad")?;
-    let lock = hold(&rt, path.as_str())?;
-    let file = below(&rt, path.as_str(), "s0")?;
-    fs::write(&rt, file.as_str(), "a")?;
-    for place in ["s0", "s0/a"] {
-        let dir = below(&rt, path.as_str(), place)?;
-        assert_eq!(rt; held(&rt, dir.as_str()), Err(OpenFault::Failed), "{place}");
-    }
+    let lock = lock(&rt, path.as_str())?;
+    put(&rt, path.as_str(), "s0")?;
+    assert!(rt; is_refused_below(&rt, path.as_str(), "s0")?);
+    assert!(rt; is_refused_below(&rt, path.as_str(), "s0/a")?);
     make(&rt, path.as_str(), "s1/4")?;
-    for server in [0, 1] {
-        assert_eq!(rt;
-            store(&rt, &lock, server).err(),
-            Some(OpenFault::Failed),
-            "{server}"
-        );
-    }
-    fs::remove_dir_all(&rt, path.as_str())?;
-    Ok(())
+    assert!(rt; is_no_store(&rt, &lock, 0));
+    assert!(rt; is_no_store(&rt, &lock, 1));
+    clear(&rt, path.as_str())
 }
 
 /// A file on a full disk.
@@ -344,64 +373,68 @@ fn an_append_that_fails_is_told(rt: HostRuntime) -> Result<(), Fail> {
     let path = fresh(&rt, "full")?;
     make(&rt, path.as_str(), "s2")?;
     fill(&rt, path.as_str(), "s2/5")?;
-    let lock = hold(&rt, path.as_str())?;
+    let lock = lock(&rt, path.as_str())?;
     let mut store = store(&rt, &lock, 2)?;
-    assert_eq!(rt; append(&mut store, 5, b"ab")?, Err(Failed));
-    assert_eq!(rt; (length(&store, 5)?, length(&store, 4)?), (0, 0));
-    assert_eq!(rt; append(&mut store, 4, b"ab")?, Ok(0));
-    fs::remove_dir_all(&rt, path.as_str())?;
-    Ok(())
+    assert!(rt; appends(&mut store, 5, b"ab", Err(Failed)));
+    assert!(rt; has_length(&store, 5, 0));
+    assert!(rt; has_length(&store, 4, 0));
+    assert!(rt; appends(&mut store, 4, b"ab", Ok(0)));
+    clear(&rt, path.as_str())
 }
 
-fn keeper(rt: &HostRuntime, lock: &FolderLock<File>) -> Result<FileKeeper<HostRuntime>, OpenFault> {
-    FileKeeper::open(rt, lock)
+fn keeper(rt: &HostRuntime, lock: &FolderLock<File>) -> Result<FileKeeper<HostRuntime>, Fail> {
+    Ok(FileKeeper::open(rt, lock)?)
 }
 
-fn load(rt: &HostRuntime, keeper: &mut FileKeeper<HostRuntime>) -> Result<Vec<u8>, LoadFault> {
-    keeper.load(rt.alloc())
+/// Whether the keeper of a folder could not be opened.
+fn is_no_keeper(rt: &HostRuntime, lock: &FolderLock<File>) -> bool {
+    matches!(FileKeeper::open(rt, lock), Err(OpenFault::Failed))
 }
 
 /// Whether these bytes are what a keeper has.
 fn has(rt: &HostRuntime, keeper: &mut FileKeeper<HostRuntime>, wanted: &[u8]) -> bool {
-    match load(rt, keeper) {
+    match keeper.load(rt.alloc()) {
         Ok(bytes) => bytes.as_slice() == wanted,
         Err(_) => false,
     }
 }
 
-fn replace(keeper: &mut FileKeeper<HostRuntime>, bytes: &[u8]) -> Result<(), Failed> {
-    keeper.replace(bytes)
+/// Whether a keeper could not load its image.
+fn is_unread(rt: &HostRuntime, keeper: &mut FileKeeper<HostRuntime>) -> bool {
+    matches!(keeper.load(rt.alloc()), Err(LoadFault::Failed))
+}
+
+fn replaces(keeper: &mut FileKeeper<HostRuntime>, bytes: &[u8], want: Result<(), Failed>) -> bool {
+    keeper.replace(bytes) == want
 }
 
 #[test]
 fn an_image_is_replaced_whole(rt: HostRuntime) -> Result<(), Fail> {
     let path = fresh(&rt, "image")?;
-    let lock = hold(&rt, path.as_str())?;
+    let lock = lock(&rt, path.as_str())?;
     let mut first = keeper(&rt, &lock)?;
     assert!(rt; has(&rt, &mut first, b""));
-    for image in ["old", "image"] {
-        assert_eq!(rt; replace(&mut first, image.as_bytes()), Ok(()), "{image}");
-    }
+    assert!(rt; replaces(&mut first, b"old", Ok(())));
+    assert!(rt; replaces(&mut first, b"image", Ok(())));
     let mut again = keeper(&rt, &lock)?;
     assert!(rt; has(&rt, &mut again, b"image"));
     // On a full disk the file keeps what it held.
     fill(&rt, path.as_str(), "image.new")?;
-    assert_eq!(rt; replace(&mut again, b"lost"), Err(Failed));
+    assert!(rt; replaces(&mut again, b"lost", Err(Failed)));
     assert!(rt; has(&rt, &mut first, b"image"));
-    fs::remove_dir_all(&rt, path.as_str())?;
-    Ok(())
+    clear(&rt, path.as_str())
 }
 
 /// A folder is no image, and an image is in a folder.
 #[test]
 fn an_image_that_fails_is_told(rt: HostRuntime) -> Result<(), Fail> {
     let path = fresh(&rt, "none")?;
-    let lock = hold(&rt, path.as_str())?;
+    let lock = lock(&rt, path.as_str())?;
     let mut first = keeper(&rt, &lock)?;
     make(&rt, path.as_str(), "image")?;
-    assert_eq!(rt; load(&rt, &mut first).err(), Some(LoadFault::Failed));
-    assert_eq!(rt; keeper(&rt, &lock).err(), Some(OpenFault::Failed));
-    fs::remove_dir_all(&rt, path.as_str())?;
-    assert_eq!(rt; keeper(&rt, &lock).err(), Some(OpenFault::Failed));
+    assert!(rt; is_unread(&rt, &mut first));
+    assert!(rt; is_no_keeper(&rt, &lock));
+    clear(&rt, path.as_str())?;
+    assert!(rt; is_no_keeper(&rt, &lock));
     Ok(())
 }

@@ -60,20 +60,24 @@ fn two_copies(shelf: &mut Shelf<MemStore>) -> Result<Slice, Fail>
     Ok(Slice::of(&[first, second]).ok_or("slice")?)
 }
 
-/// Two bytes from byte 1 on of a slice, and the server that they are from, where these servers are down and these calls
-/// fail.
-fn fetched(
-    alloc: Global,
-    down: &[u8],
-    fails: [Option<u64>; 2],
-) -> Result<Result<(ServerId, [u8; 2]), Fault>, Fail> {
-    let mut shelf = shelf(alloc, &fails)?;
-    let slice = two_copies(&mut shelf)?;
+/// The servers that are down, the call of each store that fails, if any, and the bytes that are read with their server,
+/// or the fault.
+type Fetch = (
+    &'static [u8],
+    [Option<u64>; 2],
+    Result<(ServerId, [u8; 2]), Fault>,
+);
+
+/// Whether this is what is read from byte 1 on of a slice.
+fn is_fetched(alloc: Global, row: &Fetch) -> Result<bool, Fail> {
+    let (down, fails, want) = row;
     let replicas = replicas(2, down)?;
+    let mut shelf = shelf(alloc, fails)?;
+    let slice = two_copies(&mut shelf)?;
     let mut out = [0; 2];
     match replicas.fetch(&mut shelf, &slice, 1, &mut out) {
-        Ok(server) => Ok(Ok((server, out))),
-        Err(fault) => Ok(Err(fault)),
+        Ok(server) => Ok(*want == Ok((server, out))),
+        Err(fault) => Ok(*want == Err(fault)),
     }
 }
 
@@ -83,67 +87,95 @@ const SECOND: Result<(ServerId, [u8; 2]), Fault> = Ok((ServerId(1), *b"fg"));
 
 const UNREAD: Result<(ServerId, [u8; 2]), Fault> = Err(Fault::Read(ServerId(1)));
 
+const FETCHES: [Fetch; 9] = [
+    (&[], [None, None], FIRST),
+    (&[0], [None, None], SECOND),
+    (&[1], [None, None], FIRST),
+    (&[0, 1], [None, None], UNREAD),
+    (&[], [Some(1), None], SECOND),
+    (&[], [None, Some(1)], FIRST),
+    (&[], [Some(1), Some(1)], UNREAD),
+    (&[0], [None, Some(1)], UNREAD),
+    (&[1], [Some(1), None], UNREAD),
+];
+
+/// How many rows hold, from the first on.
+fn fetched(alloc: Global, rows: &[Fetch]) -> Result<usize, Fail> {
+    for (i, row) in rows.iter().enumerate() {
+        if !is_fetched(alloc, row)? {
+            return Ok(i);
+        }
+    }
+    Ok(rows.len())
+}
+
 #[test]
 fn the_first_copy_that_can_be_read_is_read(rt: HostRuntime) -> Result<(), Fail> {
-    let rows: [(&[u8], [Option<u64>; 2], Result<(ServerId, [u8; 2]), Fault>); 9] = [
-        (&[], [None, None], FIRST),
-        (&[0], [None, None], SECOND),
-        (&[1], [None, None], FIRST),
-        (&[0, 1], [None, None], UNREAD),
-        (&[], [Some(1), None], SECOND),
-        (&[], [None, Some(1)], FIRST),
-        (&[], [Some(1), Some(1)], UNREAD),
-        (&[0], [None, Some(1)], UNREAD),
-        (&[1], [Some(1), None], UNREAD),
-    ];
-    for (down, fails, want) in rows {
-        assert_eq!(rt;
-            fetched(rt.alloc(), down, fails)?,
-            want,
-            "{down:?} {fails:?}"
-        );
-    }
+    assert_eq!(rt; fetched(rt.alloc(), &FETCHES)?, 9);
     Ok(())
 }
 
-/// What a copy on server 0 holds after a range of it was freed, and the answer, where these servers are down and this
-/// call of the server's store fails.
-fn freed(
-    alloc: Global,
-    down: &[u8],
-    fails: Option<u64>,
-    at: u64,
-    len: u64,
-) -> Result<(Result<(), Fault>, [u8; 4]), Fail> {
-    let mut shelf = shelf(alloc, &[fails, None])?;
-    let _slice = two_copies(&mut shelf)?;
+/// The servers that are down, the call of the first store that fails, if any, a range, the answer, and what the copy then
+/// holds.
+type Freed = (
+    &'static [u8],
+    Option<u64>,
+    (u64, u64),
+    Result<(), Fault>,
+    [u8; 4],
+);
+
+/// Frees a range of the copy on server 0.
+fn free(
+    replicas: &Replicas,
+    shelf: &mut Shelf<MemStore>,
+    range: (u64, u64),
+) -> Option<Result<(), Fault>> {
+    let (at, len) = range;
     if shelf.length(0, FILE) != 4 || len > 4 || at > 4 - len {
-        return Err(Fail::from("range"));
+        return None;
     }
-    let answer = replicas(2, down)?.free(&mut shelf, 0, FILE, at, len);
+    Some(replicas.free(shelf, 0, FILE, at, len))
+}
+
+/// Whether the copy on server 0 holds these bytes.
+fn holds(shelf: &mut Shelf<MemStore>, want: &[u8; 4]) -> bool {
     let mut held = [0; 4];
-    shelf.store(0).read(FILE, 0, &mut held)?;
-    Ok((answer, held))
+    shelf.length(0, FILE) == 4 && shelf.store(0).read(FILE, 0, &mut held) == Ok(()) && held == *want
+}
+
+/// Whether this is the answer when a range of a copy is freed, and what it then holds.
+fn is_freed(alloc: Global, row: &Freed) -> Result<bool, Fail> {
+    let (down, fails, range, want, held) = row;
+    let replicas = replicas(2, down)?;
+    let mut shelf = shelf(alloc, &[*fails, None])?;
+    let _slice = two_copies(&mut shelf)?;
+    Ok(free(&replicas, &mut shelf, *range) == Some(*want) && holds(&mut shelf, held))
 }
 
 const NOT_FREED: Result<(), Fault> = Err(Fault::Punch(ServerId(0)));
 
+const FREED: [Freed; 5] = [
+    (&[], None, (1, 2), Ok(()), *b"a\0\0d"),
+    (&[1], None, (1, 2), Ok(()), *b"a\0\0d"),
+    (&[0], None, (1, 2), NOT_FREED, *b"abcd"),
+    (&[], Some(1), (1, 2), NOT_FREED, *b"abcd"),
+    (&[0, 1], None, (0, 4), NOT_FREED, *b"abcd"),
+];
+
+/// How many rows hold, from the first on.
+fn freed(alloc: Global, rows: &[Freed]) -> Result<usize, Fail> {
+    for (i, row) in rows.iter().enumerate() {
+        if !is_freed(alloc, row)? {
+            return Ok(i);
+        }
+    }
+    Ok(rows.len())
+}
+
 #[test]
 fn a_range_is_freed_on_a_server_that_is_up(rt: HostRuntime) -> Result<(), Fail> {
-    let rows: [(&[u8], Option<u64>, (u64, u64), (Result<(), Fault>, [u8; 4])); 5] = [
-        (&[], None, (1, 2), (Ok(()), *b"a\0\0d")),
-        (&[1], None, (1, 2), (Ok(()), *b"a\0\0d")),
-        (&[0], None, (1, 2), (NOT_FREED, *b"abcd")),
-        (&[], Some(1), (1, 2), (NOT_FREED, *b"abcd")),
-        (&[0, 1], None, (0, 4), (NOT_FREED, *b"abcd")),
-    ];
-    for (down, fails, (at, len), want) in rows {
-        assert_eq!(rt;
-            freed(rt.alloc(), down, fails, at, len)?,
-            want,
-            "{down:?} {fails:?}"
-        );
-    }
+    assert_eq!(rt; freed(rt.alloc(), &FREED)?, 5);
     Ok(())
 }
 
@@ -167,28 +199,40 @@ fn a_freed_copy_is_read_as_zeros(rt: HostRuntime) -> Result<(), Fail> {
     Ok(())
 }
 
-/// The answer of a sync of two stores, where these servers are down and these calls fail.
-fn synced(alloc: Global, down: &[u8], fails: [Option<u64>; 2]) -> Result<Result<(), Failed>, Fail> {
-    let mut shelf = shelf(alloc, &fails)?;
-    Ok(replicas(2, down)?.sync_all(&mut shelf))
+/// The servers that are down, and the call of each store that fails, if any.
+type Downs = (&'static [u8], [Option<u64>; 2]);
+
+/// The answer of a sync of two stores.
+fn sync(alloc: Global, row: &Downs) -> Result<Result<(), Failed>, Fail> {
+    let (down, fails) = row;
+    let replicas = replicas(2, down)?;
+    let mut shelf = shelf(alloc, fails)?;
+    Ok(replicas.sync_all(&mut shelf))
+}
+
+const ALL_UP: Downs = (&[], [None, None]);
+
+const NOT_SYNCED: [Downs; 4] = [
+    (&[0], [None, None]),
+    (&[1], [None, None]),
+    (&[], [Some(0), None]),
+    (&[], [None, Some(0)]),
+];
+
+/// How many rows fail, from the first on.
+fn unsynced(alloc: Global, rows: &[Downs]) -> Result<usize, Fail> {
+    for (i, row) in rows.iter().enumerate() {
+        if sync(alloc, row)? != Err(Failed) {
+            return Ok(i);
+        }
+    }
+    Ok(rows.len())
 }
 
 #[test]
 fn all_stores_are_synced_where_all_are_up(rt: HostRuntime) -> Result<(), Fail> {
-    let rows: [(&[u8], [Option<u64>; 2], Result<(), Failed>); 5] = [
-        (&[], [None, None], Ok(())),
-        (&[0], [None, None], Err(Failed)),
-        (&[1], [None, None], Err(Failed)),
-        (&[], [Some(0), None], Err(Failed)),
-        (&[], [None, Some(0)], Err(Failed)),
-    ];
-    for (down, fails, want) in rows {
-        assert_eq!(rt;
-            synced(rt.alloc(), down, fails)?,
-            want,
-            "{down:?} {fails:?}"
-        );
-    }
+    assert_eq!(rt; sync(rt.alloc(), &ALL_UP)?, Ok(()));
+    assert_eq!(rt; unsynced(rt.alloc(), &NOT_SYNCED)?, 4);
     Ok(())
 }
 
@@ -203,66 +247,83 @@ fn first_place(alloc: Global, servers: u8) -> Result<Place, Fail>
     Ok(ring.order(inode(1, 1), 0))
 }
 
-/// The servers of the copies of a slice that is stored where these servers are down and these calls fail, and the bytes
-/// that are read back; or the fault.
-fn created(
-    alloc: Global,
-    down: &[u8],
-    fails: [Option<u64>; 3],
-) -> Result<Result<(u8, u8), Fault>, Fail> {
-    let mut shelf = shelf(alloc, &fails)?;
-    let replicas = replicas(3, down)?;
+/// The servers that are down, the call of each store that fails, if any, and the servers of the copies of the slice that
+/// is stored, or the fault.
+type Created = (&'static [u8], [Option<u64>; 3], Result<(u8, u8), Fault>);
+
+/// The servers of the two copies of a slice.
+fn servers_of(slice: &Slice) -> Option<(u8, u8)> {
+    if slice.width() != 2 {
+        return None;
+    }
+    Some((slice.pointer(0).server.0, slice.pointer(1).server.0))
+}
+
+/// Whether these are the servers of the copies of a slice that is stored, and its bytes are read back from the first.
+fn is_created(alloc: Global, row: &Created) -> Result<bool, Fail> {
+    let (down, fails, want) = row;
     let place = first_place(alloc, 3)?;
+    let replicas = replicas(3, down)?;
+    let mut shelf = shelf(alloc, fails)?;
     let slice = match replicas.create(&mut shelf, &place, b"abc") {
         Ok(slice) => slice,
-        Err(fault) => return Ok(Err(fault)),
+        Err(fault) => return Ok(*want == Err(fault)),
     };
-    if slice.width() != 2 || slice.len() != 3 {
-        return Err(Fail::from("width"));
+    let Some((first, second)) = servers_of(&slice) else {
+        return Ok(false);
+    };
+    if slice.len() != 3 {
+        return Ok(false);
     }
     let mut out = [0; 2];
     let read = replicas.fetch(&mut shelf, &slice, 1, &mut out);
-    if read != Ok(slice.pointer(0).server) || out != *b"bc" {
-        return Err(Fail::from("bytes"));
+    Ok(*want == Ok((first, second)) && read == Ok(ServerId(first)) && out == *b"bc")
+}
+
+const NONE: Result<(u8, u8), Fault> = Err(Fault::Write);
+
+const CREATED: [Created; 10] = [
+    (&[], [None, None, None], Ok((1, 2))),
+    (&[1], [None, None, None], Ok((0, 2))),
+    (&[2], [None, None, None], Ok((0, 1))),
+    (&[0], [None, None, None], Ok((1, 2))),
+    (&[1, 2], [None, None, None], NONE),
+    (&[], [None, Some(0), None], Ok((0, 2))),
+    (&[], [None, None, Some(0)], Ok((0, 1))),
+    (&[], [Some(0), None, None], Ok((1, 2))),
+    (&[], [None, Some(0), Some(0)], NONE),
+    (&[0], [None, Some(0), None], NONE),
+];
+
+/// How many rows hold, from the first on.
+fn created(alloc: Global, rows: &[Created]) -> Result<usize, Fail> {
+    for (i, row) in rows.iter().enumerate() {
+        if !is_created(alloc, row)? {
+            return Ok(i);
+        }
     }
-    Ok(Ok((slice.pointer(0).server.0, slice.pointer(1).server.0)))
+    Ok(rows.len())
 }
 
 #[test]
 fn a_slice_is_stored_on_the_first_servers_that_take_it(rt: HostRuntime) -> Result<(), Fail> {
-    let none = Err(Fault::Write);
-    let rows: [(&[u8], [Option<u64>; 3], Result<(u8, u8), Fault>); 10] = [
-        (&[], [None, None, None], Ok((1, 2))),
-        (&[1], [None, None, None], Ok((0, 2))),
-        (&[2], [None, None, None], Ok((0, 1))),
-        (&[0], [None, None, None], Ok((1, 2))),
-        (&[1, 2], [None, None, None], none),
-        (&[], [None, Some(0), None], Ok((0, 2))),
-        (&[], [None, None, Some(0)], Ok((0, 1))),
-        (&[], [Some(0), None, None], Ok((1, 2))),
-        (&[], [None, Some(0), Some(0)], none),
-        (&[0], [None, Some(0), None], none),
-    ];
-    for (down, fails, want) in rows {
-        assert_eq!(rt;
-            created(rt.alloc(), down, fails)?,
-            want,
-            "{down:?} {fails:?}"
-        );
-    }
+    assert_eq!(rt; created(rt.alloc(), &CREATED)?, 10);
     Ok(())
 }
 
 /// What is read of a slice of four bytes that was stored on two servers, where these go down after that: the bytes and
 /// the server that they are from.
 fn read_later(alloc: Global, down: &[u8]) -> Result<Result<(ServerId, [u8; 4]), Fault>, Fail> {
+    let place = first_place(alloc, 2)?;
+    let before = replicas(2, &[])?;
+    let after = replicas(2, down)?;
     let mut shelf = shelf(alloc, &[None, None])?;
-    let slice = replicas(2, &[])?.create(&mut shelf, &first_place(alloc, 2)?, b"abcd")?;
+    let slice = before.create(&mut shelf, &place, b"abcd")?;
     if slice.width() != 2 || slice.len() != 4 || shelf.length(0, FILE) != 4 {
         return Err(Fail::from("width"));
     }
     let mut out = [0; 4];
-    match replicas(2, down)?.fetch(&mut shelf, &slice, 0, &mut out) {
+    match after.fetch(&mut shelf, &slice, 0, &mut out) {
         Ok(server) => Ok(Ok((server, out))),
         Err(fault) => Ok(Err(fault)),
     }
@@ -270,13 +331,11 @@ fn read_later(alloc: Global, down: &[u8]) -> Result<Result<(ServerId, [u8; 4]), 
 
 #[test]
 fn what_was_stored_is_read_until_all_servers_are_down(rt: HostRuntime) -> Result<(), Fail> {
-    let rows: [(&[u8], Result<(ServerId, [u8; 4]), Fault>); 2] = [
-        (&[0], Ok((ServerId(1), *b"abcd"))),
-        (&[0, 1], Err(Fault::Read(ServerId(1)))),
-    ];
-    for (down, want) in rows {
-        assert_eq!(rt; read_later(rt.alloc(), down)?, want, "{down:?}");
-    }
+    assert_eq!(rt; read_later(rt.alloc(), &[0])?, Ok((ServerId(1), *b"abcd")));
+    assert_eq!(rt;
+        read_later(rt.alloc(), &[0, 1])?,
+        Err(Fault::Read(ServerId(1)))
+    );
     Ok(())
 }
 

@@ -9,7 +9,7 @@ use wtf_ring::{Place, Ring};
 /// The servers of a ring; a region of the file that a call of a transaction made, as transaction, call and region; its
 /// backing file, and its servers in order. The last row of 4 servers lies above every point, so its order begins with
 /// the first of them.
-const ROWS: [(u8, (u64, u32, u16), u8, &[u8]); 10] = [
+const ROWS: [Row; 10] = [
     (1, (1, 1, 0), 3, &[0]),
     (1, (7, 3, 4095), 5, &[0]),
     (3, (1, 1, 0), 3, &[1, 2, 0]),
@@ -32,6 +32,8 @@ const ROWS: [(u8, (u64, u32, u16), u8, &[u8]); 10] = [
     ),
 ];
 
+type Row = (u8, (u64, u32, u16), u8, &'static [u8]);
+
 /// The place of a region on a ring of so many servers.
 fn place(alloc: Global, servers: u8, tx: u64, index: u32, region: u16) -> Result<Place, Fail> {
     if servers < 1 || servers > 16 {
@@ -50,17 +52,26 @@ fn servers_of(alloc: Global, place: &Place) -> Result<Vec<u8>, Fail> {
     Ok(servers)
 }
 
-fn file_of(place: &Place) -> u8 {
-    place.file()
+/// Whether a region has this file and these servers.
+fn has_place(alloc: Global, row: &Row) -> Result<bool, Fail> {
+    let (servers, (tx, index, region), file, order) = row;
+    let place = place(alloc, *servers, *tx, *index, *region)?;
+    let told = servers_of(alloc, &place)?;
+    Ok(place.file() == *file && told.as_slice() == *order)
+}
+
+/// How many rows hold, from the first on.
+fn placed(alloc: Global, rows: &[Row]) -> Result<usize, Fail> {
+    for (i, row) in rows.iter().enumerate() {
+        if !has_place(alloc, row)? {
+            return Ok(i);
+        }
+    }
+    Ok(rows.len())
 }
 
 #[test]
 fn a_region_has_its_place(rt: HostRuntime) -> Result<(), Fail> {
-    for (servers, (tx, index, region), file, order) in ROWS {
-        let place = place(rt.alloc(), servers, tx, index, region)?;
-        assert_eq!(rt; file_of(&place), file, "{servers}: {tx}.{index}/{region}");
-        let told = servers_of(rt.alloc(), &place)?;
-        assert_eq!(rt; told.as_slice(), order, "{servers}: {tx}.{index}/{region}");
-    }
+    assert_eq!(rt; placed(rt.alloc(), &ROWS)?, 10);
     Ok(())
 }

@@ -15,45 +15,47 @@ fn pointer(server: u8, file: u8, at: u64, len: u32) -> Pointer {
     }
 }
 
-/// Stores one to three bytes in a backing file of a server.
-fn create(
+/// Whether one to three bytes that are stored in a backing file of a server get this pointer, or fail.
+fn creates(
     store: &mut MemStore,
     server: u8,
     file: u8,
     bytes: &[u8],
-) -> Result<Result<Pointer, Failed>, Fail> {
+    want: Result<Pointer, Failed>,
+) -> bool {
     if file >= 8 || bytes.is_empty() || bytes.len() > 3 {
-        return Err(Fail::from("create"));
+        return false;
     }
-    Ok(wtf_server::create(store, ServerId(server), file, bytes))
+    wtf_server::create(store, ServerId(server), file, bytes) == want
 }
 
-/// The two bytes of a pointer.
-fn retrieve(store: &mut MemStore, p: Pointer) -> Result<Result<[u8; 2], Failed>, Fail> {
+/// Whether these are the two bytes of a pointer, or reading them fails where none are told.
+fn gives(store: &mut MemStore, p: Pointer, want: Option<&[u8; 2]>) -> bool {
     if p.file >= 8 || p.len != 2 {
-        return Err(Fail::from("retrieve"));
+        return false;
     }
     let length = store.length(p.file);
     if length < 2 || p.at > length - 2 {
-        return Err(Fail::from("retrieve"));
+        return false;
     }
     let mut out = [0; 2];
-    match wtf_server::retrieve(store, p, &mut out) {
-        Ok(()) => Ok(Ok(out)),
-        Err(failed) => Ok(Err(failed)),
+    match (wtf_server::retrieve(store, p, &mut out), want) {
+        (Ok(()), Some(bytes)) => out == *bytes,
+        (Err(_), None) => true,
+        _ => false,
     }
 }
 
-/// Frees a range of a backing file.
-fn free(store: &mut MemStore, file: u8, at: u64, len: u64) -> Result<Result<(), Failed>, Fail> {
+/// Whether a range of a backing file is freed, or fails to be.
+fn frees(store: &mut MemStore, file: u8, at: u64, len: u64, want: Result<(), Failed>) -> bool {
     if file >= 8 {
-        return Err(Fail::from("free"));
+        return false;
     }
     let length = store.length(file);
     if length < len || at > length - len {
-        return Err(Fail::from("free"));
+        return false;
     }
-    Ok(wtf_server::free(store, file, at, len))
+    wtf_server::free(store, file, at, len) == want
 }
 
 fn short(store: &MemStore) -> u64 {
@@ -64,11 +66,11 @@ fn short(store: &MemStore) -> u64 {
 fn bytes_are_created_retrieved_and_freed(rt: HostRuntime) -> Result<(), Fail> {
     let mut store = store(rt.alloc(), &[])?;
     let part = pointer(5, 2, 1, 2);
-    assert_eq!(rt; create(&mut store, 5, 2, b"abc")?, Ok(pointer(5, 2, 0, 3)));
-    assert_eq!(rt; retrieve(&mut store, part)?, Ok(*b"bc"));
-    assert_eq!(rt; free(&mut store, 2, 1, 1)?, Ok(()));
-    assert_eq!(rt; retrieve(&mut store, part)?, Ok(*b"\0c"));
-    assert_eq!(rt; short(&store), 0);
+    assert!(rt; creates(&mut store, 5, 2, b"abc", Ok(pointer(5, 2, 0, 3))));
+    assert!(rt; gives(&mut store, part, Some(b"bc")));
+    assert!(rt; frees(&mut store, 2, 1, 1, Ok(())));
+    assert!(rt; gives(&mut store, part, Some(b"\0c")));
+    assert!(rt; short(&store) == 0);
     Ok(())
 }
 
@@ -76,10 +78,10 @@ fn bytes_are_created_retrieved_and_freed(rt: HostRuntime) -> Result<(), Fail> {
 fn a_store_that_fails_gives_failed(rt: HostRuntime) -> Result<(), Fail> {
     let mut store = store(rt.alloc(), &[1, 2, 3])?;
     let all = pointer(0, 7, 0, 2);
-    assert_eq!(rt; create(&mut store, 0, 7, b"ab")?, Ok(all));
-    assert_eq!(rt; create(&mut store, 0, 7, b"cd")?, Err(Failed));
-    assert_eq!(rt; retrieve(&mut store, all)?, Err(Failed));
-    assert_eq!(rt; free(&mut store, 7, 0, 2)?, Err(Failed));
-    assert_eq!(rt; retrieve(&mut store, all)?, Ok(*b"ab"));
+    assert!(rt; creates(&mut store, 0, 7, b"ab", Ok(all)));
+    assert!(rt; creates(&mut store, 0, 7, b"cd", Err(Failed)));
+    assert!(rt; gives(&mut store, all, None));
+    assert!(rt; frees(&mut store, 7, 0, 2, Err(Failed)));
+    assert!(rt; gives(&mut store, all, Some(b"ab")));
     Ok(())
 }
