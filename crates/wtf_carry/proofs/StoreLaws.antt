@@ -15,7 +15,7 @@ use Rattle.wtf_model.specs.declared.answer.Answer.TheVariants as answer
 use Rattle.wtf_model.specs.declared.op.Op.TheVariants as op
 use Rattle.wtf_model.specs.Tree.{TreeNode, Tree, Dir, File, root, ◌>>=◌, is_free, is_parent, target_in, target}
 use Rattle.wtf_model.specs.Session.{Session, Handle}
-use Rattle.wtf_model.specs.Done.{Done, done, bytes_at, bytes_or_none, put_node, put_bytes}
+use Rattle.wtf_model.specs.Done.{Done, done, bytes_at, bytes_or_none, put_node, add_file}
 use Rattle.wtf_model.specs.NameCalls.{mkdir}
 use Rattle.wtf_model.specs.ByteCalls.{written}
 use Rattle.wtf_model.specs.Call.{call, or_refused}
@@ -254,10 +254,10 @@ created : (cap : ℕ) (w : Stand) (path : List ℕ) (dir : List ℕ) → parent_
     → get w.seen.handles 0 ≡ None → Written path [] w.seen.tree (after_lines cap w (create_line path ∷ open_line path ∷ []))
 created cap w path dir up there none unused =
     let s = w.seen in
-    let made : (call cap s (op.Create path)).session ≡ put_bytes s path [] = ap (λ (d : Done). d.session) (call-create cap s path (target-free s.tree path dir up there none)) in
+    let made : (call cap s (op.Create path)).session ≡ add_file s path [] = ap (λ (d : Done). d.session) (call-create cap s path (target-free s.tree path dir up there none)) in
     let P : Session → Type 0 = λ x. Written path [] s.tree (record { now = w.now; seen = (call cap x (op.Open 0 path)).session }) in
-    let is : get (put_bytes s path []).tree path ≡ Some (File []) = get-node_same s.tree path (File []) in
-    let e = call-open cap (put_bytes s path []) 0 path [] unused (source-file (put_bytes s path []).tree path [] is) in
+    let is : get (add_file s path []).tree path ≡ Some (File []) = get-node_same s.tree path (File []) in
+    let e = call-open cap (add_file s path []) 0 path [] unused (source-file (add_file s path []).tree path [] is) in
     subst P (sym made) (record {
       file_is = ap (λ (d : Done). get d.session.tree path) e ∙ is;
       handle = ap (λ (d : Done). get d.session.handles 0) e ∙ get-handle_same s.handles 0 (record { path = path; off = 0 });

@@ -23,7 +23,7 @@ use Rattle.wtf_replay.specs.Views.{TxnView}
 use Rattle.wtf_replay.specs.Refusals.{call_refusal, try_refusal, step_refusal}
 use Rattle.wtf_clients.specs.Views.{TablesView, of_client}
 use Rattle.wtf_core.specs.Views.{CoreView}
-use Rattle.wtf_core.specs.Built.{is_built}
+use Rattle.wtf_model.specs.Built.{is_built}
 use Rattle.wtf_clients.specs.Saves.{AreUp, SaveTurn}
 use Rattle.wtf_clients.specs.Named.{TablesBytes, has_copies}
 use Rattle.wtf_clients.specs.Outcomes.{AddsBytes, data_of}

@@ -17,6 +17,7 @@ use Rattle.wtf_model.specs.Tree.{Tree, root_alone}
 use Rattle.wtf_model.specs.Transaction.{Transaction}
 use Rattle.wtf_model.specs.Machines.{Machine}
 use Rattle.wtf_model.specs.Steps.{after, after_client, begun, tried, stepped, committed, aborted, is_logged, logged, with_transaction, saved}
+use Rattle.wtf_model.proofs.MachineLaws.{with_job-rest, put_in_place-rest, dropped-rest, scanning-rest, scanned-rest}
 use Rattle.wtf_meta.specs.Contents.{Told}
 use Rattle.wtf_meta.specs.Trees.{Stands}
 use Rattle.wtf_meta.proofs.Telling.{TellsOn}
@@ -81,6 +82,11 @@ up_may m k a = refl
 
 event_may : (m : Machine) (e : Event) (a : Answer) → e ≢ event.Save → (after m e a).may_be_saved ≡ m.may_be_saved
 event_may m (event.Client c v) a ne = client_may m c (get m.transactions c) v a
+event_may m (event.Plan j kind p r) a ne = ap (λ (x : Machine). x.may_be_saved) (with_job-rest m j kind p r a)
+event_may m (event.Put j) a ne = ap (λ (x : Machine). x.may_be_saved) (put_in_place-rest m j a)
+event_may m (event.DropJob j) a ne = ap (λ (x : Machine). x.may_be_saved) (dropped-rest m j a)
+event_may m event.Scan a ne = ap (λ (x : Machine). x.may_be_saved) (scanning-rest m a)
+event_may m (event.Piece k) a ne = ap (λ (x : Machine). x.may_be_saved) (scanned-rest m a)
 event_may m (event.Down k) a ne = down_may m k a
 event_may m (event.Up k) a ne = up_may m k a
 event_may m event.Save a ne = absurd (ne refl)

@@ -26,7 +26,7 @@ use Rattle.wtf_meta.proofs.Telling.{TellsOn}
 use Rattle.wtf_clients.specs.Views.{TablesView, of_client, metadata_now}
 use Rattle.wtf_core.specs.Views.{CoreView}
 use Rattle.wtf_clients.specs.Sounds.{AreSound}
-use Rattle.wtf_core.specs.Built.{is_built}
+use Rattle.wtf_model.specs.Built.{is_built}
 use Rattle.wtf_clients.specs.Standing.{IsImageTree, StandsForSlot, TablesStand}
 use Rattle.wtf_core.specs.Standing.{StandsFor}
 use Rattle.wtf_clients.specs.Turns.{ClientTurn, Dumps}

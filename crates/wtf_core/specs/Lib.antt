@@ -1,6 +1,5 @@
 pub mod Views
 pub mod Tables
-pub mod Built
 pub mod Standing
 pub mod Turns
 pub mod Named

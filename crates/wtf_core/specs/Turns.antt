@@ -16,7 +16,7 @@ use Rattle.wtf_meta.specs.Contents.{Told}
 use Rattle.wtf_meta.specs.Trees.{Stands}
 use Rattle.wtf_clients.specs.Views.{metadata_now}
 use Rattle.wtf_core.specs.Views.{CoreView}
-use Rattle.wtf_core.specs.Built.{is_built}
+use Rattle.wtf_model.specs.Built.{is_built}
 use Rattle.wtf_clients.specs.Saves.{AreUp, SaveTurn}
 use Rattle.wtf_clients.specs.Sounds.{IsTidied}
 pub use Rattle.wtf_clients.specs.Turns.{Keeps, Refuses, Begins, Ends, Commits, Retries, Tries, TryTurn, Drops, Stays, Fails, Dumps, Tells, Calls, CallFails, Replays, Aborts, StepFails, Finishes, GivesUp, CommitFails, Steps, Finals, LoneTurn, TxnTurn, ClientTurn}

@@ -26,7 +26,7 @@ ghost use Rattle.wtf_clients.specs.Sounds.{AreSound, IsAlike};
 ghost use Rattle.wtf_core.specs.Standing.{StandsFor};
 ghost use Rattle.wtf_core.specs.Turns.{LineTurn, IsLine, ServerTurn, ShowsTree, IsTreeAnswer};
 ghost use Rattle.wtf_core.specs.Answers.{IsEvent};
-ghost use Rattle.wtf_core.specs.Built.{is_built};
+ghost use Rattle.wtf_model.specs.Built.{is_built};
 ghost use Rattle.wtf_core.specs.Named.{CoreBytes, IsInside, IsFull};
 ghost use Rattle.wtf_clients.specs.Outcomes.{AddsBytes, SaveFault, HasCause, data_of};
 ghost use Rattle.wtf_clients.specs.Asked.{asked_of, IsPlaced, HasFailed};

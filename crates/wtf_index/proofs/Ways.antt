@@ -17,7 +17,7 @@ use Rattle.wtf_model.specs.declared.op.Op.{Op}
 use Rattle.wtf_model.specs.declared.op.Op.TheVariants as op
 use Rattle.wtf_model.specs.Tree.{Tree, Dir, root, ◌>>=◌, bytes_of, target, source, is_directory, is_empty, names_in}
 use Rattle.wtf_model.specs.Session.{Session}
-use Rattle.wtf_model.specs.Done.{Done, done, is_closed, put_node, put_bytes, take_out}
+use Rattle.wtf_model.specs.Done.{Done, done, is_closed, put_node, add_file, take_out, move_file}
 use Rattle.wtf_model.specs.NameCalls.{mkdir, create, is_not_root, rmdir, unlink, rename, list}
 use Rattle.wtf_model.specs.Call.{call, or_refused}
 use Rattle.wtf_model.proofs.TreeLaws.{IsTree-taken, nothing_in, file_not_root}
@@ -67,9 +67,9 @@ call_mkdir : (cap : ℕ) (S : Session) (p : List ℕ) (r : Result (Unit {0}) Wor
 unfolding mkdir
 call_mkdir cap S p r e = ap (λ z. or_refused S (z >>= (λ _. done (put_node S p Dir) answer.Okay))) e
 
-call_create : (cap : ℕ) (S : Session) (p : List ℕ) (r : Result (Unit {0}) Word) → target S.tree p ≡ r → call cap S (op.Create p) ≡ or_refused S (r >>= (λ _. done (put_bytes S p []) answer.Okay))
+call_create : (cap : ℕ) (S : Session) (p : List ℕ) (r : Result (Unit {0}) Word) → target S.tree p ≡ r → call cap S (op.Create p) ≡ or_refused S (r >>= (λ _. done (add_file S p []) answer.Okay))
 unfolding create
-call_create cap S p r e = ap (λ z. or_refused S (z >>= (λ _. done (put_bytes S p []) answer.Okay))) e
+call_create cap S p r e = ap (λ z. or_refused S (z >>= (λ _. done (add_file S p []) answer.Okay))) e
 
 call_rmdir : (cap : ℕ) (S : Session) (p : List ℕ) (a c d : Result (Unit {0}) Word) → is_not_root p ≡ a → is_directory (get S.tree p) ≡ c → is_empty S.tree p ≡ d
     → call cap S (op.Rmdir p) ≡ or_refused S (a >>= (λ _. c >>= (λ _. d >>= (λ _. done (take_out S p) answer.Okay))))
@@ -91,12 +91,12 @@ call_unlink cap S p r c e f =
     ∙ ap (λ z. or_refused S (r >>= (λ _. z >>= (λ _. done (take_out S p) answer.Okay)))) f
 
 call_rename : (cap : ℕ) (S : Session) (p q : List ℕ) (r : Result (List ℕ) Word) (c d : Result (Unit {0}) Word) → source S.tree p ≡ r → is_closed S p ≡ c → target S.tree q ≡ d
-    → call cap S (op.Rename p q) ≡ or_refused S (r >>= (λ bytes. c >>= (λ _. d >>= (λ _. done (put_bytes (take_out S p) q bytes) answer.Okay))))
+    → call cap S (op.Rename p q) ≡ or_refused S (r >>= (λ bytes. c >>= (λ _. d >>= (λ _. done (move_file S p q bytes) answer.Okay))))
 unfolding rename
 call_rename cap S p q r c d e f g =
-    ap (λ z. or_refused S (z >>= (λ bytes. is_closed S p >>= (λ _. target S.tree q >>= (λ _. done (put_bytes (take_out S p) q bytes) answer.Okay))))) e
-    ∙ ap (λ z. or_refused S (r >>= (λ bytes. z >>= (λ _. target S.tree q >>= (λ _. done (put_bytes (take_out S p) q bytes) answer.Okay))))) f
-    ∙ ap (λ z. or_refused S (r >>= (λ bytes. c >>= (λ _. z >>= (λ _. done (put_bytes (take_out S p) q bytes) answer.Okay))))) g
+    ap (λ z. or_refused S (z >>= (λ bytes. is_closed S p >>= (λ _. target S.tree q >>= (λ _. done (move_file S p q bytes) answer.Okay))))) e
+    ∙ ap (λ z. or_refused S (r >>= (λ bytes. z >>= (λ _. target S.tree q >>= (λ _. done (move_file S p q bytes) answer.Okay))))) f
+    ∙ ap (λ z. or_refused S (r >>= (λ bytes. c >>= (λ _. z >>= (λ _. done (move_file S p q bytes) answer.Okay))))) g
 
 module _ (x : Caller) (b : Map) where
   -- a way, by what it does on each map that agrees and stands for a session's tree
@@ -137,7 +137,7 @@ module _ (x : Caller) (b : Map) where
   create-made p dir i mine next path e = way (target_keys b p) (create_edits dir p i) (op.Create p) answer.Okay (refl, (refl, (refl, tt))) (λ P. (tt, (tt, (tt, tt)))) (λ told w s S off agree st holds.
       let here : target_of w p ≡ Ok dir = target-agrees b w p agree ∙ e in
       let open_p = target-open x.size told x.tx x.calls w S.tree st p dir here in
-      let left : Done = record { session = put_bytes S p []; answer = answer.Okay } in
+      let left : Done = record { session = add_file S p []; answer = answer.Okay } in
       due_is x told w (with (create_edits dir p i) w) s (call (cap_for x) S (op.Create p)) left answer.Okay
       (call_create (cap_for x) S p (Ok tt) (target-free x.size told x.tx x.calls w S.tree st p dir here))
       (subst (λ d. IsDone x told w (with (create_edits d p i) w) s left answer.Okay) open_p.same (done-create x told w s S st holds p i mine next path open_p.free)))
@@ -230,7 +230,7 @@ module _ (x : Caller) (b : Map) where
       let file = leads-file x.size told x.tx x.calls w S.tree st p i leads in
       let here : target_of w q ≡ Ok dir = target-agrees b w q parts.1 ∙ f in
       let open_q = target-open x.size told x.tx x.calls w S.tree st q dir here in
-      let left : Done = record { session = put_bytes (take_out S p) q file.bytes; answer = answer.Okay } in
+      let left : Done = record { session = move_file S p q file.bytes; answer = answer.Okay } in
       due_is x told w (with (rename_edits up p dir q i) w) s (call (cap_for x) S (op.Rename p q)) left answer.Okay
       (call_rename (cap_for x) S p q (Ok file.bytes) (Ok tt) (Ok tt) (ap bytes_of file.there) (closed-off told w s S p holds off) (target-free x.size told x.tx x.calls w S.tree st q dir here))
       (subst (λ d. IsDone x told w (with (rename_edits up p d q i) w) s left answer.Okay) open_q.same (done-rename x told w s S st holds p up q file.bytes i above file.there leads off path open_q.free)))

@@ -14,7 +14,7 @@ use Rattle.wtf_model.specs.declared.answer.Answer.{Answer}
 use Rattle.wtf_model.specs.declared.answer.Answer.TheVariants as answer
 use Rattle.wtf_model.specs.Tree.{Tree, TreeNode, Dir, File, IsTree}
 use Rattle.wtf_model.specs.Session.{Session}
-use Rattle.wtf_model.specs.Done.{put_node, put_bytes, take_out}
+use Rattle.wtf_model.specs.Done.{put_node, add_file, take_out, move_file}
 use Rattle.wtf_model.proofs.Laws.{get-node_same, get-node_other}
 use Rattle.wtf_model.proofs.TreeLaws.{IsFree, same_or_other, get-taken_same, get-taken_other, IsTree-new, IsTree-unlinked}
 use Rattle.wtf_values.specs.declared.key.Key.{Key}
@@ -168,7 +168,7 @@ module _ (x : Caller) (told : Told) (w : Map) (s : SessionView) (S : Session) (s
         own = λ i other none. none;
       })
 
-  pub done-create : (p : List ℕ) (i : InodeId) → i.tx.0 ≡ x.tx → i.index ≡ x.calls + 1 → IsPath p → (free : IsFree S.tree p) → IsDone x told w (with (create_edits free.dir p i) w) s (record { session = put_bytes S p []; answer = answer.Okay }) answer.Okay
+  pub done-create : (p : List ℕ) (i : InodeId) → i.tx.0 ≡ x.tx → i.index ≡ x.calls + 1 → IsPath p → (free : IsFree S.tree p) → IsDone x told w (with (create_edits free.dir p i) w) s (record { session = add_file S p []; answer = answer.Okay }) answer.Okay
   done-create p i mine next path free =
       let t : Tree = S.tree in
       let dir : List ℕ = free.dir in
@@ -183,7 +183,7 @@ module _ (x : Caller) (told : Told) (w : Map) (s : SessionView) (S : Session) (s
       let at : (q : List ℕ) → q ≢ p → new (Path q) ≡ w (Path q) = λ q other. put-other w (Path p) (Path q) _ (paths-apart p q other) in
       let inodes : (j : InodeId) → j ≢ i → new (Inode j) ≡ w (Inode j) = λ j other. put-other one (Inode i) (Inode j) _ (inodes-apart i j other) in
       let missing : w (DirKey p) ≡ None = names-missing t p (w (DirKey p)) (get t p) (st.names p) (λ e. none_dir Dir (sym free.free ∙ e)) in
-      subst (λ m. IsDone x told w m s (record { session = put_bytes S p []; answer = answer.Okay }) answer.Okay) (sym is) (record {
+      subst (λ m. IsDone x told w m s (record { session = add_file S p []; answer = answer.Okay }) answer.Okay) (sym is) (record {
         answer = refl;
         stands = stands-created x.size told x.tx x.calls w t st new p u i mine next free.free
             (put-same w (Path p) _) (get-node_same t p (File []))
@@ -247,7 +247,7 @@ module _ (x : Caller) (told : Told) (w : Map) (s : SessionView) (S : Session) (s
       })
 
   pub done-rename : (p up q bytes : List ℕ) (i : InodeId) → parent_of p ≡ Some up → get S.tree p ≡ Some (File bytes) → LeadsTo w p i → IsOff p s → IsPath q → (free : IsFree S.tree q)
-      → IsDone x told w (with (rename_edits up p free.dir q i) w) s (record { session = put_bytes (take_out S p) q bytes; answer = answer.Okay }) answer.Okay
+      → IsDone x told w (with (rename_edits up p free.dir q i) w) s (record { session = move_file S p q bytes; answer = answer.Okay }) answer.Okay
   done-rename p up q bytes i stands_in there leads_p off path free =
       let t : Tree = S.tree in
       let left : Tree = remove t p in
@@ -275,7 +275,7 @@ module _ (x : Caller) (told : Told) (w : Map) (s : SessionView) (S : Session) (s
       let at : (z : List ℕ) → z ≢ p → z ≢ q → new (Path z) ≡ w (Path z) = λ z other apart. put-other two (Path q) (Path z) _ (paths-apart q z apart) ∙ put-other w (Path p) (Path z) None (paths-apart p z other) in
       let gone_q : two (DirKey q) ≡ None = names-missing left q (two (DirKey q)) (get left q) (have q) (λ e. none_dir Dir (sym open_q.free ∙ e)) in
       let free_q : w (Path q) ≡ None = path-none x.size told x.tx x.calls w t st q free.free in
-      subst (λ m. IsDone x told w m s (record { session = put_bytes (take_out S p) q bytes; answer = answer.Okay }) answer.Okay) (sym is) (record {
+      subst (λ m. IsDone x told w m s (record { session = move_file S p q bytes; answer = answer.Okay }) answer.Okay) (sym is) (record {
         answer = refl;
         stands = stands-renamed x.size told x.tx x.calls w t st new p q u i bytes leads_p there free.free
             (put-other two (Path q) (Path p) _ (paths-apart q p (λ e. q_p (sym e))) ∙ put-same w (Path p) None, get-node_other left q (File bytes) p (λ e. q_p (sym e)) ∙ get-taken_same t p)

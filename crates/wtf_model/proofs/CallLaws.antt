@@ -13,7 +13,7 @@ use Rattle.wtf_model.specs.Tree.{Dir, File}
 use Rattle.wtf_path.specs.Parts.{parent_of}
 use Rattle.wtf_model.specs.Tree.{Tree, root, ◌>>=◌, is_free, is_parent, bytes_of, target_in, target, source}
 use Rattle.wtf_model.specs.Session.{Session, Handle}
-use Rattle.wtf_model.specs.Done.{done, open_handle, is_unused, fits, in_range, bytes_at, moved, put_bytes}
+use Rattle.wtf_model.specs.Done.{done, open_handle, is_unused, fits, in_range, bytes_at, moved, set_bytes, add_file}
 use Rattle.wtf_model.specs.NameCalls.{create}
 use Rattle.wtf_model.specs.HandleCalls.{open_file, seek}
 use Rattle.wtf_model.specs.ByteCalls.{written, read, write}
@@ -49,13 +49,13 @@ source-directory t p is = ap bytes_of is
 
 -- create
 
-pub call-create : (cap : ℕ) (s : Session) (p : List ℕ) → target s.tree p ≡ Ok tt → call cap s (op.Create p) ≡ record { session = put_bytes s p []; answer = Okay }
+pub call-create : (cap : ℕ) (s : Session) (p : List ℕ) → target s.tree p ≡ Ok tt → call cap s (op.Create p) ≡ record { session = add_file s p []; answer = Okay }
 unfolding create
-call-create cap s p h = ap (λ r. or_refused s (r >>= (λ _. done (put_bytes s p []) Okay))) h
+call-create cap s p h = ap (λ r. or_refused s (r >>= (λ _. done (add_file s p []) Okay))) h
 
 pub call-create_refused : (cap : ℕ) (s : Session) (p : List ℕ) (w : Word) → target s.tree p ≡ Err w → call cap s (op.Create p) ≡ unchanged s (Refused w)
 unfolding create
-call-create_refused cap s p w h = ap (λ r. or_refused s (r >>= (λ _. done (put_bytes s p []) Okay))) h
+call-create_refused cap s p w h = ap (λ r. or_refused s (r >>= (λ _. done (add_file s p []) Okay))) h
 
 -- open
 
@@ -109,11 +109,11 @@ call-read_past cap s f n h there past =
 
 pub call-write : (cap : ℕ) (s : Session) (f b : ℕ) (bs : List ℕ) (h : Handle) → get s.handles f ≡ Some h → h.off + length (b ∷ bs) ≤ cap
     → call cap s (op.Write f (b ∷ bs))
-    ≡ record { session = moved (put_bytes s h.path (written (bytes_at s.tree h.path) h.off (b ∷ bs))) f h (h.off + length (b ∷ bs)); answer = Okay }
+    ≡ record { session = moved (set_bytes s h.path (written (bytes_at s.tree h.path) h.off (b ∷ bs))) f h (h.off + length (b ∷ bs)); answer = Okay }
 unfolding write
 call-write cap s f b bs h there fit =
-    ap (λ o. or_refused s (open_handle o >>= (λ h. fits cap (h.off + length (b ∷ bs)) >>= (λ _. done (moved (put_bytes s h.path (written (bytes_at s.tree h.path) h.off (b ∷ bs))) f h (h.off + length (b ∷ bs))) Okay)))) there
-    ∙ ap (λ v. or_refused s ((if v then Ok tt else Err TooBig) >>= (λ _. done (moved (put_bytes s h.path (written (bytes_at s.tree h.path) h.off (b ∷ bs))) f h (h.off + length (b ∷ bs))) Okay))) (le-leb (h.off + length (b ∷ bs)) cap fit)
+    ap (λ o. or_refused s (open_handle o >>= (λ h. fits cap (h.off + length (b ∷ bs)) >>= (λ _. done (moved (set_bytes s h.path (written (bytes_at s.tree h.path) h.off (b ∷ bs))) f h (h.off + length (b ∷ bs))) Okay)))) there
+    ∙ ap (λ v. or_refused s ((if v then Ok tt else Err TooBig) >>= (λ _. done (moved (set_bytes s h.path (written (bytes_at s.tree h.path) h.off (b ∷ bs))) f h (h.off + length (b ∷ bs))) Okay))) (le-leb (h.off + length (b ∷ bs)) cap fit)
 
 -- no byte changes nothing
 pub call-write_none : (cap : ℕ) (s : Session) (f : ℕ) (h : Handle) → get s.handles f ≡ Some h → call cap s (op.Write f []) ≡ unchanged s Okay
@@ -124,8 +124,8 @@ pub call-write_too_big : (cap : ℕ) (s : Session) (f b : ℕ) (bs : List ℕ) (
     → call cap s (op.Write f (b ∷ bs)) ≡ unchanged s (Refused TooBig)
 unfolding write
 call-write_too_big cap s f b bs h there past =
-    ap (λ o. or_refused s (open_handle o >>= (λ h. fits cap (h.off + length (b ∷ bs)) >>= (λ _. done (moved (put_bytes s h.path (written (bytes_at s.tree h.path) h.off (b ∷ bs))) f h (h.off + length (b ∷ bs))) Okay)))) there
-    ∙ ap (λ v. or_refused s ((if v then Ok tt else Err TooBig) >>= (λ _. done (moved (put_bytes s h.path (written (bytes_at s.tree h.path) h.off (b ∷ bs))) f h (h.off + length (b ∷ bs))) Okay))) (lt-leb (h.off + length (b ∷ bs)) cap past)
+    ap (λ o. or_refused s (open_handle o >>= (λ h. fits cap (h.off + length (b ∷ bs)) >>= (λ _. done (moved (set_bytes s h.path (written (bytes_at s.tree h.path) h.off (b ∷ bs))) f h (h.off + length (b ∷ bs))) Okay)))) there
+    ∙ ap (λ v. or_refused s ((if v then Ok tt else Err TooBig) >>= (λ _. done (moved (set_bytes s h.path (written (bytes_at s.tree h.path) h.off (b ∷ bs))) f h (h.off + length (b ∷ bs))) Okay))) (lt-leb (h.off + length (b ∷ bs)) cap past)
 
 -- seek
 
@@ -148,7 +148,7 @@ call-read_no_handle cap s f n none = ap (λ o. or_refused s (open_handle o >>= (
 pub call-write_no_handle : (cap : ℕ) (s : Session) (f : ℕ) (bytes : List ℕ) → get s.handles f ≡ None → call cap s (op.Write f bytes) ≡ unchanged s (Refused NoHandle)
 unfolding write
 call-write_no_handle cap s f [] none = ap (λ o. or_refused s (open_handle o >>= (λ _. done s Okay))) none
-call-write_no_handle cap s f (b ∷ bs) none = ap (λ o. or_refused s (open_handle o >>= (λ h. fits cap (h.off + length (b ∷ bs)) >>= (λ _. done (moved (put_bytes s h.path (written (bytes_at s.tree h.path) h.off (b ∷ bs))) f h (h.off + length (b ∷ bs))) Okay)))) none
+call-write_no_handle cap s f (b ∷ bs) none = ap (λ o. or_refused s (open_handle o >>= (λ h. fits cap (h.off + length (b ∷ bs)) >>= (λ _. done (moved (set_bytes s h.path (written (bytes_at s.tree h.path) h.off (b ∷ bs))) f h (h.off + length (b ∷ bs))) Okay)))) none
 
 pub call-seek_no_handle : (cap : ℕ) (s : Session) (f n : ℕ) → get s.handles f ≡ None → call cap s (op.Seek f (to.Set n)) ≡ unchanged s (Refused NoHandle)
 unfolding seek

@@ -1,6 +1,5 @@
 -- Steps of one client alone that has the file `/a` open as 0.
-use Rattle.std.proofs.Common.{◌≡◌, ℕ, ◌+◌, ◌<◌, ◌≤◌, is_some, List, [], ◌∷◌, length, take, drop, Some, None, refl, sym, ap, subst, ◌∙◌, arith}
-use Rattle.std.proofs.lemmas.Bool.{le-ltb}
+use Rattle.std.proofs.Common.{◌≡◌, ℕ, ◌+◌, ◌<◌, ◌≤◌, List, [], ◌∷◌, length, take, drop, Some, None, refl, sym, ap, subst, ◌∙◌, arith}
 use Rattle.std.specs.FinMap.{get, insert, empty, get-empty}
 use Rattle.std.specs.Ordering.{nat_cmp}
 use Rattle.wtf_base.specs.declared.settings.Settings.{Settings}
@@ -13,12 +12,12 @@ use Rattle.wtf_model.specs.Tree.{Tree, root}
 use Rattle.wtf_model.specs.Session.{Session, Handle, fresh}
 use Rattle.wtf_model.specs.Done.{Done}
 use Rattle.wtf_model.specs.Call.{call, written}
-use Rattle.wtf_model.specs.Steps.{Machine, May, after, due, passes}
+use Rattle.wtf_model.specs.Steps.{Machine, May, after, due}
 use Rattle.wtf_model.proofs.Laws.{get-handle_same, insert-handle_over, insert-node_over, bytes_at-file_same, source-file_same}
 use Rattle.wtf_model.proofs.CallLaws.{call-create, call-open, call-read, call-write, call-seek, target-free}
 use Rattle.wtf_model.specs.Examples.{a, calls, ShowsBytes}
 use Rattle.wtf_model.proofs.StepLaws.{May-read_fault, May-write_fault, after-FaultRead, after-FaultWrite}
-use Rattle.wtf_model.proofs.Runs.{IsOpen, cap_with, step_call, due_is, is_built, is_asked}
+use Rattle.wtf_model.proofs.Runs.{IsOpen, cap_with, step_call, due_is, is_asked}
 
 abbrev pub handle : ℕ → Handle
 handle off = record { path = a; off = off }
@@ -81,43 +80,37 @@ one_server settings = settings.limits.0
 module _ (settings : Settings) (number : ℕ) (now : Tree) (n : ℕ) (m : Machine) (room : n < 4096) where
   pub step_create : (tree : Tree) → IsOpen settings number now n (fresh tree) m → get tree root ≡ Some Dir → get tree a ≡ None
       → May m (calls (op.Create a)) Okay × IsOpen settings number now (n + 1) (fresh (with_file tree [])) (after m (calls (op.Create a)) Okay)
-  step_create tree i top free = step_call settings number now n _ m i (op.Create a) _ Okay room refl (create_held (cap_with settings) tree top free)
+  step_create tree i top free = step_call settings number now n _ m i (op.Create a) _ Okay room (create_held (cap_with settings) tree top free)
 
   pub step_open : (tree : Tree) (bytes : List ℕ) → IsOpen settings number now n (fresh (with_file tree bytes)) m
       → May m (calls (op.Open 0 a)) Okay × IsOpen settings number now (n + 1) (held tree bytes 0) (after m (calls (op.Open 0 a)) Okay)
-  step_open tree bytes i = step_call settings number now n _ m i (op.Open 0 a) _ Okay room (ap is_some (get-empty nat_cmp 0)) (open_held (cap_with settings) tree bytes)
+  step_open tree bytes i = step_call settings number now n _ m i (op.Open 0 a) _ Okay room (open_held (cap_with settings) tree bytes)
 
   pub step_write : (tree : Tree) (bytes : List ℕ) (off b : ℕ) (bs : List ℕ) → IsOpen settings number now n (held tree bytes off) m → off + length (b ∷ bs) ≤ 64
       → May m (calls (op.Write 0 (b ∷ bs))) Okay
       × IsOpen settings number now (n + 1) (held tree (written bytes off (b ∷ bs)) (off + length (b ∷ bs))) (after m (calls (op.Write 0 (b ∷ bs))) Okay)
   step_write tree bytes off b bs i fit =
       let big : 64 ≤ settings.region = region_least settings in
-      let same : m.settings.region ≡ settings.region = ap (λ x. x.region) i.settings_are in
       step_call settings number now n _ m i (op.Write 0 (b ∷ bs)) _ Okay room
-      (ap (λ h. passes m.settings.region h (length (b ∷ bs))) (get-handle_same empty 0 (handle off)) ∙ le-ltb m.settings.region (off + length (b ∷ bs)) (omega arith))
       (write_held (cap_with settings) tree bytes off b bs (omega arith))
 
   pub step_seek : (tree : Tree) (bytes : List ℕ) (off k : ℕ) → IsOpen settings number now n (held tree bytes off) m → k ≤ 64
       → May m (calls (op.Seek 0 (to.Set k))) Okay × IsOpen settings number now (n + 1) (held tree bytes k) (after m (calls (op.Seek 0 (to.Set k))) Okay)
   step_seek tree bytes off k i fit =
       let big : 64 ≤ settings.region = region_least settings in
-      let same : m.settings.region ≡ settings.region = ap (λ x. x.region) i.settings_are in
-      step_call settings number now n _ m i (op.Seek 0 (to.Set k)) _ Okay room (le-ltb m.settings.region k (omega arith)) (seek_held (cap_with settings) tree bytes off k (omega arith))
+      step_call settings number now n _ m i (op.Seek 0 (to.Set k)) _ Okay room (seek_held (cap_with settings) tree bytes off k (omega arith))
 
   pub step_read : (tree : Tree) (bytes : List ℕ) (off k : ℕ) → IsOpen settings number now n (held tree bytes off) m
       → May m (calls (op.Read 0 k)) (Shown (take k (drop off bytes)))
       × IsOpen settings number now (n + 1) (held tree bytes (off + length (take k (drop off bytes)))) (after m (calls (op.Read 0 k)) (Shown (take k (drop off bytes))))
-  step_read tree bytes off k i = step_call settings number now n _ m i (op.Read 0 k) _ _ room refl (read_held (cap_with settings) tree bytes off k)
+  step_read tree bytes off k i = step_call settings number now n _ m i (op.Read 0 k) _ _ room (read_held (cap_with settings) tree bytes off k)
 
   -- a store's fault leaves the run where it was
   pub step_write_fault : (tree : Tree) (bytes : List ℕ) (off b : ℕ) (bs : List ℕ) → IsOpen settings number now n (held tree bytes off) m → off + length (b ∷ bs) ≤ 64
       → May m (calls (op.Write 0 (b ∷ bs))) FaultWrite × IsOpen settings number now n (held tree bytes off) (after m (calls (op.Write 0 (b ∷ bs))) FaultWrite)
   step_write_fault tree bytes off b bs i fit =
-      let big : 64 ≤ settings.region = region_least settings in
-      let same : m.settings.region ≡ settings.region = ap (λ x. x.region) i.settings_are in (
+      let big : 64 ≤ settings.region = region_least settings in (
         May-write_fault m 0 i.t 0 b bs i.here
-            (is_built settings number now n _ m i (op.Write 0 (b ∷ bs)) room
-            (ap (λ h. passes m.settings.region h (length (b ∷ bs))) (get-handle_same empty 0 (handle off)) ∙ le-ltb m.settings.region (off + length (b ∷ bs)) (omega arith)))
             (is_asked settings number now n _ m i (op.Write 0 (b ∷ bs)) room)
             (due_is settings number now n _ m i (op.Write 0 (b ∷ bs)) ∙ ap (λ d. d.answer) (write_held (cap_with settings) tree bytes off b bs (omega arith))),
         subst (IsOpen settings number now n (held tree bytes off)) (sym (after-FaultWrite m (calls (op.Write 0 (b ∷ bs))))) i,
@@ -129,7 +122,7 @@ module _ (settings : Settings) (number : ℕ) (now : Tree) (n : ℕ) (m : Machin
       let due_are : due m i.t (op.Read 0 k) ≡ Shown (take k (drop off bytes)) =
       due_is settings number now n _ m i (op.Read 0 k) ∙ ap (λ d. d.answer) (read_held (cap_with settings) tree bytes off k) in
       let some : 0 < settings.servers = one_server settings in (
-        May-read_fault m 0 i.t 0 k (FaultRead 0) i.here (is_built settings number now n _ m i (op.Read 0 k) room refl) (is_asked settings number now n _ m i (op.Read 0 k) room)
+        May-read_fault m 0 i.t 0 k (FaultRead 0) i.here (is_asked settings number now n _ m i (op.Read 0 k) room)
             (subst ShowsBytes (sym due_are) shows) (subst (λ x. 0 < x.servers) (sym i.settings_are) some),
         subst (IsOpen settings number now n (held tree bytes off)) (sym (after-FaultRead m (calls (op.Read 0 k)) 0)) i,
       )

@@ -13,7 +13,7 @@ use Rattle.wtf_model.specs.Tree.{TreeNode}
 use Rattle.wtf_model.specs.Tree.{File}
 use Rattle.wtf_model.specs.Tree.{Tree, source, bytes_of}
 use Rattle.wtf_model.specs.Session.{Session, Handle}
-use Rattle.wtf_model.specs.Done.{bytes_at, bytes_or_none, put_bytes}
+use Rattle.wtf_model.specs.Done.{bytes_at, bytes_or_none, set_bytes}
 use Rattle.wtf_model.specs.ByteCalls.{written}
 use Rattle.wtf_model.specs.Call.{call}
 use Rattle.wtf_model.specs.Transaction.{session_from, answers_from}
@@ -158,5 +158,5 @@ bytes_at-file_same t p bytes = ap bytes_or_none (source-file_same t p bytes)
 pub bytes_at-file_other : (t : Tree) (p bytes q : List ℕ) → q ≢ p → bytes_at (insert t p (File bytes)) q ≡ bytes_at t q
 bytes_at-file_other t p bytes q differ = ap bytes_or_none (source-file_other t p bytes q differ)
 
-pub get-put_bytes_other : (s : Session) (p bytes q : List ℕ) → q ≢ p → get (put_bytes s p bytes).tree q ≡ get s.tree q
-get-put_bytes_other s p bytes q differ = get-node_other s.tree p (File bytes) q differ
+pub get-set_bytes_other : (s : Session) (p bytes q : List ℕ) → q ≢ p → get (set_bytes s p bytes).tree q ≡ get s.tree q
+get-set_bytes_other s p bytes q differ = get-node_other s.tree p (File bytes) q differ

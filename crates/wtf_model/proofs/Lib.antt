@@ -1,10 +1,13 @@
 pub mod ExampleTrees
 pub mod Laws
 pub mod CallLaws
+pub mod ByteLaws
+pub mod SliceLaws
 pub mod TreeLaws
 pub mod SessionLaws
 pub mod StepLaws
 pub mod MachineLaws
+pub mod NotBuilt
 pub mod LineLaws
 pub mod ServerLaws
 pub mod SoundLaws
@@ -12,3 +15,5 @@ pub mod Runs
 pub mod Held
 pub mod Worked
 pub mod MachineExamples
+pub mod JobLaws
+pub mod ScanLaws

@@ -1,7 +1,7 @@
 -- Laws of lines with their answers: one more line, weaker promises, and the machine beside its lines.
 use Rattle.std.proofs.Common.{◌≡◌, suc, ◌+◌, Bool, if◌then◌else◌, List, [], ◌∷◌, ◌++◌, length, Ok, Err, refl, ap, ◌∙◌, subst, arith}
 use Rattle.wtf_model.specs.declared.answer.Answer.{Answer}
-use Rattle.wtf_model.specs.Steps.{Machine, Accepts, AcceptsBy, after, after_all}
+use Rattle.wtf_model.specs.Steps.{Machine, Accepts, after, after_all}
 use Rattle.wtf_model.specs.Lines.{Line, state_after, AlongBy, count_by, MayLine, Along, machine_after, events_of, answers_to}
 
 module _ {S : Type 0} (next : S → Line → Answer → S) where
@@ -73,7 +73,7 @@ module _ {S : Type 0} (next : S → Line → Answer → S) where
 
 -- the events of lines that the machine may answer so are accepted
 pub Accepts-from_lines : (m : Machine) (lines : List Line) (answers : List Answer) → Along MayLine m lines answers → Accepts m (events_of lines) (answers_to lines answers)
-unfolding AlongBy AcceptsBy events_of answers_to
+unfolding AlongBy Accepts events_of answers_to
 Accepts-from_lines m [] [] h = tt
 Accepts-from_lines m [] (a ∷ answers) h = absurd h
 Accepts-from_lines m (Ok e ∷ lines) [] h = absurd h

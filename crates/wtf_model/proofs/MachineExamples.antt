@@ -10,15 +10,13 @@ use Rattle.wtf_model.specs.declared.answer.Answer.TheVariants as answer
 use Rattle.wtf_model.specs.declared.answer.Word.{Word}
 use Rattle.wtf_model.specs.declared.answer.Word.TheVariants as word
 use Rattle.wtf_model.specs.declared.op.Op.{Op}
-use Rattle.wtf_model.specs.declared.op.Op.TheVariants as op
 use Rattle.wtf_model.specs.declared.event.Verb.{Verb}
 use Rattle.wtf_model.specs.declared.event.Verb.TheVariants as verb
 use Rattle.wtf_model.specs.declared.event.Event.TheVariants as event
 use Rattle.wtf_model.specs.Tree.{Dir, File}
-use Rattle.wtf_model.specs.Session.{Session}
 use Rattle.wtf_model.specs.Transaction.{Transaction, answers_of}
 use Rattle.wtf_model.specs.Lawful.{client_refusal, MayFailRead, MayAsk, MayClient, MayBuilt, MayStepAt, Deviates, dump_answer}
-use Rattle.wtf_model.specs.Steps.{Machine, after, after_client, cap_of, is_live, is_full, passes, is_later_call}
+use Rattle.wtf_model.specs.Steps.{Machine, after, after_client, cap_of, is_live, is_full}
 use Rattle.wtf_model.specs.Examples.{Only, IsAborted}
 use Rattle.wtf_model.proofs.StepLaws.{MayClient-asked, MayAsk-asked, MayClient-refused, after-client}
 
@@ -66,11 +64,11 @@ live_step t live = ap (λ b. if b then Some word.Live else None) live
 pub replaying_step : (t : Transaction) → is_live t ≡ false → client_refusal (Some t) verb.Step ≡ None
 replaying_step t live = ap (λ b. if b then Some word.Live else None) live
 
--- what was taken out of the open transactions
-pub gone : (open_ones : FinMap nat_cmp Transaction) (c : ℕ) → get (remove open_ones c) c ≡ None
+-- what was taken out of the open transactions, or of the jobs
+pub gone : {X : Type 0} (open_ones : FinMap nat_cmp X) (c : ℕ) → get (remove open_ones c) c ≡ None
 gone open_ones c = get-remove nat_cmp_total open_ones c c ∙ cond-true _ _ _ (unsigned_tied c c ∙ eq-eqb c c refl)
 
-pub left : (open_ones : FinMap nat_cmp Transaction) (c d : ℕ) → d ≢ c → get (remove open_ones c) d ≡ get open_ones d
+pub left : {X : Type 0} (open_ones : FinMap nat_cmp X) (c d : ℕ) → d ≢ c → get (remove open_ones c) d ≡ get open_ones d
 left open_ones c d ne = get-remove nat_cmp_total open_ones c d ∙ cond-false _ _ _ (unsigned_tied d c ∙ ne_eqb d c ne)
 
 -- an abort, by its form
@@ -139,11 +137,6 @@ dump_directory m p dir = rw dir refl
 
 pub dump_missing : (m : Machine) (p : List ℕ) → get m.now p ≡ None → dump_answer m p ≡ answer.Refused word.NoEnt
 dump_missing m p none = rw none refl
-
--- a label that is closed
-pub not_later : (m : Machine) (s : Session) (f : ℕ) (bytes : List ℕ) → get s.handles f ≡ None → is_later_call m s (op.Write f bytes) ≡ false
-not_later m s f [] none = refl
-not_later m s f (b ∷ bs) none = ap (λ o. passes m.settings.region o (length (b ∷ bs))) none
 
 -- of two calls that answer otherwise the first one tells
 pub first_only : (i : ℕ) (a : Answer) → Deviates (answer.Okay ∷ answer.File 3 ∷ []) (answer.File 1 ∷ answer.File 0 ∷ []) i a → i ≡ 1

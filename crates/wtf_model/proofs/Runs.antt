@@ -1,8 +1,8 @@
 -- Steps of one client alone, whose calls go on from session to session.
-use Rattle.std.proofs.Common.{◌≡◌, ℕ, ◌+◌, ◌-◌, ◌*◌, ◌<◌, ◌==◌, ◌||◌, not, cond, if◌then◌else◌, is_some, false, List, [], ◌∷◌, ◌++◌, length, Some, None, refl, sym, ap, subst, ◌∙◌, inl}
+use Rattle.std.proofs.Common.{◌≡◌, ℕ, ◌+◌, ◌*◌, ◌<◌, if◌then◌else◌, List, [], ◌∷◌, ◌++◌, length, Some, None, refl, sym, ap, subst, ◌∙◌, inl}
 use Rattle.std.proofs.lemmas.Bool.{lt-leb, eq-eqb}
 use Rattle.std.proofs.lemmas.List.{length_push}
-use Rattle.std.specs.FinMap.{get, len, get-insert, get-empty, get-remove, len-insert, len-empty, len-remove}
+use Rattle.std.specs.FinMap.{get, get-insert, get-empty, get-remove}
 use Rattle.std.specs.Cmp.{nat_cmp_total}
 use Rattle.std.specs.Ordering.{nat_cmp}
 use Rattle.wtf_base.specs.declared.settings.Settings.{Settings}
@@ -16,9 +16,9 @@ use Rattle.wtf_model.specs.Session.{Session, fresh}
 use Rattle.wtf_model.specs.Call.{call}
 use Rattle.wtf_model.specs.Transaction.{Transaction, session_from, answers_from, session_after, answers_of}
 use Rattle.wtf_model.specs.Lawful.{client_refusal}
-use Rattle.wtf_model.specs.Steps.{is_full, Machine, May, after, start, cap_of, session_of, due, is_later_client, is_later_call, with_transaction, logged, IsLogged}
+use Rattle.wtf_model.specs.Steps.{is_full, Machine, May, after, start, cap_of, session_of, due, with_transaction, logged, IsLogged}
 use Rattle.wtf_model.proofs.Laws.{session_from-push, answers_from-push}
-use Rattle.wtf_model.proofs.StepLaws.{May-built, MayClient-built, after-client, MayClient-asked, MayAsk-asked, IsLogged-call, called-logged, MayCall-logged}
+use Rattle.wtf_model.proofs.StepLaws.{May-client, MayClient-may, after-client, MayClient-asked, MayAsk-asked, IsLogged-call, called-logged, MayCall-logged}
 use Rattle.wtf_model.specs.Examples.{asks, calls}
 
 -- the greatest length of a file
@@ -31,13 +31,11 @@ pub record IsIdle (settings : Settings) (number : ℕ) (tree : Tree) (m : Machin
   pub number_is : m.number ≡ number
   pub now : m.now ≡ tree
   pub none : get m.transactions 0 ≡ None
-  pub empty : len m.transactions ≡ 0
 
 -- client 0 alone has a transaction, whose n calls left the session s; nothing was installed since it began
 pub record IsOpen (settings : Settings) (number : ℕ) (tree : Tree) (n : ℕ) (s : Session) (m : Machine) : Type 0 where
   pub t : Transaction
   pub here : get m.transactions 0 ≡ Some t
-  pub one : len m.transactions ≡ 1
   pub settings_are : m.settings ≡ settings
   pub number_is : m.number ≡ number
   pub now : m.now ≡ tree
@@ -53,7 +51,6 @@ idle_at_start settings number tree = record {
   number_is = refl;
   now = refl;
   none = get-empty nat_cmp 0;
-  empty = len-empty nat_cmp Transaction;
 }
 
 begun_transaction : Machine → Transaction
@@ -63,12 +60,10 @@ pub step_begin : (settings : Settings) (number : ℕ) (tree : Tree) (m : Machine
     → May m (asks verb.Begin) (Begun number) × IsOpen settings number tree 0 (fresh tree) (after m (asks verb.Begin) (Begun number))
 unfolding session_from answers_from begun_transaction
 step_begin settings number tree m i = (
-  May-built m 0 verb.Begin (Begun number) None i.none (ap (λ n. not (n == 0)) i.empty) (ap Begun (sym i.number_is)),
+  May-client m 0 verb.Begin (Begun number) None i.none (ap Begun (sym i.number_is)),
   subst (IsOpen settings number tree 0 (fresh tree)) (sym (after-client m 0 verb.Begin (Begun number) None i.none)) (record {
     t = begun_transaction m;
     here = get-insert nat_cmp_total m.transactions 0 (begun_transaction m) 0;
-    one = len-insert nat_cmp_total m.transactions 0 (begun_transaction m)
-        ∙ ap (λ o. cond (is_some o) (len m.transactions) (len m.transactions + 1)) i.none ∙ ap (λ n. n + 1) i.empty;
     settings_are = i.settings_are;
     number_is = i.number_is;
     now = i.now;
@@ -88,11 +83,6 @@ module _ (settings : Settings) (number : ℕ) (tree : Tree) (n : ℕ) (s : Sessi
   pub due_is : (o : Op (List ℕ)) → due m i.t o ≡ (call (cap_with settings) s o).answer
   due_is o = ap (λ x. (call (4096 * x.region) (session_of m i.t) o).answer) i.settings_are ∙ ap (λ x. (call (cap_with settings) x o).answer) session_is
 
-  pub is_built : (o : Op (List ℕ)) → n < 4096 → is_later_call m s o ≡ false → is_later_client m (Some i.t) (verb.Call o) ≡ false
-  is_built o room near =
-      ap (λ b. b || is_later_call m (session_of m i.t) o) (lt-leb 4096 (length i.t.ops) (subst (λ k. k < 4096) (sym i.calls_are) room))
-      ∙ ap (λ x. is_later_call m x o) session_is ∙ near
-
   pub is_asked : (o : Op (List ℕ)) → n < 4096 → client_refusal (Some i.t) (verb.Call o) ≡ None
   is_asked o room =
       ap (λ b. if b then (if is_full i.t then Some Full else None) else Some Replaying) (eq-eqb i.t.replayed (length i.t.ops) i.live)
@@ -101,20 +91,18 @@ module _ (settings : Settings) (number : ℕ) (tree : Tree) (n : ℕ) (s : Sessi
   tries : client_refusal (Some i.t) verb.Try ≡ None
   tries = ap (λ b. if b then None else Some Replaying) (eq-eqb i.t.replayed (length i.t.ops) i.live)
 
-  pub step_call : (o : Op (List ℕ)) (after_it : Session) (a : Answer) → n < 4096 → is_later_call m s o ≡ false
+  pub step_call : (o : Op (List ℕ)) (after_it : Session) (a : Answer) → n < 4096
       → call (cap_with settings) s o ≡ record { session = after_it; answer = a }
       → May m (calls o) a × IsOpen settings number tree (n + 1) after_it (after m (calls o) a)
-  step_call o after_it a room near is =
+  step_call o after_it a room is =
       let cap : ℕ = cap_with settings in
       let answered : due m i.t o ≡ a = due_is o ∙ ap (λ d. d.answer) is in
       let safe : IsLogged a = subst (λ d. IsLogged d.answer) is (IsLogged-call cap s o) in
       let so : after m (calls o) a ≡ with_transaction m 0 (logged i.t o a) = after-client m 0 (verb.Call o) a (Some i.t) i.here ∙ called-logged m 0 i.t o a safe in (
-        May-built m 0 (verb.Call o) a (Some i.t) i.here (is_built o room near) (MayClient-asked m (Some i.t) (verb.Call o) a (is_asked o room) (inl (sym answered))),
+        May-client m 0 (verb.Call o) a (Some i.t) i.here (MayClient-asked m (Some i.t) (verb.Call o) a (is_asked o room) (inl (sym answered))),
         subst (IsOpen settings number tree (n + 1) after_it) (sym so) (record {
           t = logged i.t o a;
           here = get-insert nat_cmp_total m.transactions 0 (logged i.t o a) 0;
-          one = len-insert nat_cmp_total m.transactions 0 (logged i.t o a)
-              ∙ ap (λ x. cond (is_some x) (len m.transactions) (len m.transactions + 1)) i.here ∙ i.one;
           settings_are = i.settings_are;
           number_is = i.number_is;
           now = i.now;
@@ -133,23 +121,21 @@ module _ (settings : Settings) (number : ℕ) (tree : Tree) (n : ℕ) (s : Sessi
 
   pub step_try : May m (asks verb.Try) (Committed (number + 1)) × IsIdle settings (number + 1) s.tree (after m (asks verb.Try) (Committed (number + 1)))
   step_try = (
-    May-built m 0 verb.Try (Committed (number + 1)) (Some i.t) i.here refl (MayClient-asked m (Some i.t) verb.Try (Committed (number + 1)) tries (ap (λ k. k + 1) (sym i.number_is), agrees)),
+    May-client m 0 verb.Try (Committed (number + 1)) (Some i.t) i.here (MayClient-asked m (Some i.t) verb.Try (Committed (number + 1)) tries (ap (λ k. k + 1) (sym i.number_is), agrees)),
     subst (IsIdle settings (number + 1) s.tree) (sym (after-client m 0 verb.Try (Committed (number + 1)) (Some i.t) i.here)) (record {
       settings_are = i.settings_are;
       number_is = refl;
       now = ap (λ x. (session_after (4096 * x.region) m.now i.t.ops).tree) i.settings_are
           ∙ ap (λ x. (session_after (cap_with settings) x i.t.ops).tree) i.now ∙ ap (λ x. x.tree) i.session;
       none = get-remove nat_cmp_total m.transactions 0 0;
-      empty = len-remove nat_cmp_total m.transactions 0
-          ∙ ap (λ o. cond (is_some o) (len m.transactions - 1) (len m.transactions)) i.here ∙ ap (λ k. k - 1) i.one;
     }),
   )
 
   -- a commit takes the next number
   pub try_number : (k : ℕ) → May m (asks verb.Try) (Committed k) → k ≡ number + 1
-  try_number k h = (MayAsk-asked m (Some i.t) verb.Try (Committed k) tries (MayClient-built m 0 verb.Try (Committed k) (Some i.t) i.here refl h)).0 ∙ ap (λ k. k + 1) i.number_is
+  try_number k h = (MayAsk-asked m (Some i.t) verb.Try (Committed k) tries (MayClient-may m 0 verb.Try (Committed k) (Some i.t) i.here h)).0 ∙ ap (λ k. k + 1) i.number_is
 
   -- an answer of a call that is logged is the one that is due
-  pub call_answer : (o : Op (List ℕ)) (a : Answer) → IsLogged a → n < 4096 → is_later_call m s o ≡ false → May m (calls o) a → a ≡ (call (cap_with settings) s o).answer
-  call_answer o a own room near h =
-      MayCall-logged m i.t o a own (MayAsk-asked m (Some i.t) (verb.Call o) a (is_asked o room) (MayClient-built m 0 (verb.Call o) a (Some i.t) i.here (is_built o room near) h)) ∙ due_is o
+  pub call_answer : (o : Op (List ℕ)) (a : Answer) → IsLogged a → n < 4096 → May m (calls o) a → a ≡ (call (cap_with settings) s o).answer
+  call_answer o a own room h =
+      MayCall-logged m i.t o a own (MayAsk-asked m (Some i.t) (verb.Call o) a (is_asked o room) (MayClient-may m 0 (verb.Call o) a (Some i.t) i.here h)) ∙ due_is o

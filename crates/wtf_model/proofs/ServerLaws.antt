@@ -14,6 +14,7 @@ use Rattle.wtf_model.specs.declared.event.Event.TheVariants as event
 use Rattle.wtf_model.specs.Tree.{Tree}
 use Rattle.wtf_model.specs.Transaction.{Transaction}
 use Rattle.wtf_model.specs.Steps.{Machine, start, is_down, is_logged, logged, with_transaction, called, tried, stepped, committed, after, saved, after_client}
+use Rattle.wtf_model.proofs.MachineLaws.{with_job-rest, put_in_place-rest, dropped-rest, scanning-rest, scanned-rest}
 use Rattle.wtf_model.proofs.StepLaws.{is_down-start, is_down-down, is_down-down_other, is_down-up, is_down-up_other}
 use Rattle.wtf_model.specs.Lines.{Line, after_line, machine_after}
 use Rattle.wtf_model.specs.Servers.{none_down, set_down, down_after_event, down_after, downs_after}
@@ -72,6 +73,11 @@ saved_keeps m a = refl
 -- an event takes servers down and up as its line tells
 pub is_down-event : (m : Machine) (e : Event) (a : Answer) (j : ℕ) → is_down (after m e a) j ≡ down_after_event (is_down m) e a j
 is_down-event m (event.Client c v) a j = ap (λ d. is_down (record m { down = d }) j) (client_keeps m c (get m.transactions c) v a)
+is_down-event m (event.Plan i kind p r) a j = ap (λ (x : Machine). is_down x j) (with_job-rest m i kind p r a)
+is_down-event m (event.Put i) a j = ap (λ (x : Machine). is_down x j) (put_in_place-rest m i a)
+is_down-event m (event.DropJob i) a j = ap (λ (x : Machine). is_down x j) (dropped-rest m i a)
+is_down-event m event.Scan a j = ap (λ (x : Machine). is_down x j) (scanning-rest m a)
+is_down-event m (event.Piece k) a j = ap (λ (x : Machine). is_down x j) (scanned-rest m a)
 is_down-event m (event.Down k) a j = downs_go m k j a
 is_down-event m (event.Up k) a j = ups_go m k j a
 is_down-event m event.Save a j = ap (λ d. is_down (record m { down = d }) j) (saved_keeps m a)

@@ -18,7 +18,7 @@ use Rattle.wtf_model.specs.declared.op.Seek.TheVariants as to
 use Rattle.wtf_model.specs.Form.{IsData, IsFormOp}
 use Rattle.wtf_model.specs.Tree.{Tree, TreeNode, Dir, File, root, IsTree, ◌>>=◌, bytes_of, target, source, sources, is_directory, is_empty}
 use Rattle.wtf_model.specs.Session.{Session, Handle, fresh}
-use Rattle.wtf_model.specs.Done.{Done, open_handle, handle_at, is_unused, slice_at, is_on, is_closed, fits, in_range, moved, put_node, put_bytes, take_out, put_slice}
+use Rattle.wtf_model.specs.Done.{Done, open_handle, handle_at, is_unused, slice_at, is_on, is_closed, fits, in_range, moved, put_node, set_bytes, add_file, take_out, put_slice}
 use Rattle.wtf_model.specs.NameCalls.{mkdir, create, is_not_root, rmdir, unlink, rename, list, shown_node, stat}
 use Rattle.wtf_model.specs.HandleCalls.{open_file, close, seek, tell}
 use Rattle.wtf_model.specs.ByteCalls.{read, write, append, truncate, punch}
@@ -86,7 +86,7 @@ file_behind : (t : Tree) (p q bytes : List ℕ) → (q ≡ p) ⊎ (q ≢ p) → 
 file_behind t p q bytes (inl same) file = record { bytes = bytes; there = subst (λ x. get (insert t p (File bytes)) x ≡ Some (File bytes)) (sym same) (get-node_same t p (File bytes)) }
 file_behind t p q bytes (inr other) file = record { bytes = file.bytes; there = get-node_other t p (File bytes) q other ∙ file.there }
 
-put : (s : Session) (p bytes : List ℕ) → IsTree (insert s.tree p (File bytes)) → IsSession s → IsSession (put_bytes s p bytes)
+put : (s : Session) (p bytes : List ℕ) → IsTree (insert s.tree p (File bytes)) → IsSession s → IsSession (add_file s p bytes)
 put s p bytes tree own = record {
   tree_is = tree;
   files = λ f h there. file_behind s.tree p h.path bytes (same_or_other h.path p) (own.files f h there);
@@ -156,7 +156,7 @@ closed_label s f own = record {
 with_slice : (s : Session) (label : ℕ) (bytes : List ℕ) → IsSession s → IsSession (put_slice s label bytes)
 with_slice s label bytes own = record { tree_is = own.tree_is; files = own.files }
 
-put_over : (s : Session) (p bytes : List ℕ) → IsFile s.tree p → IsSession s → IsSession (put_bytes s p bytes)
+put_over : (s : Session) (p bytes : List ℕ) → IsFile s.tree p → IsSession s → IsSession (set_bytes s p bytes)
 put_over s p bytes file own = put s p bytes (IsTree-bytes s.tree p file.bytes bytes own.tree_is file.there) own
 
 -- a handle on a file
@@ -183,7 +183,7 @@ moved_on : (s : Session) (f off : ℕ) (h : Handle) → handle_at s f ≡ Ok h �
 moved_on s f off h e own = with_handle s f (record h { off = off }) (own.files f h (handle_from (get s.handles f) h e)) own
 
 -- other bytes in the file of a handle
-over_handle : (s : Session) (f : ℕ) (h : Handle) (bytes : List ℕ) → handle_at s f ≡ Ok h → IsSession s → IsSession (put_bytes s h.path bytes)
+over_handle : (s : Session) (f : ℕ) (h : Handle) (bytes : List ℕ) → handle_at s f ≡ Ok h → IsSession s → IsSession (set_bytes s h.path bytes)
 over_handle s f h bytes e own = put_over s h.path bytes (own.files f h (handle_from (get s.handles f) h e)) own
 
 write_keeps : (cap : ℕ) (s : Session) (f : ℕ) (bytes : List ℕ) → IsSession s → IsSession (or_refused s (write cap s f bytes)).session
@@ -191,7 +191,7 @@ unfolding write
 write_keeps cap s f [] own = kept_by s (handle_at s f) _ own (λ h e. own)
 write_keeps cap s f (b ∷ bs) own =
     kept_by s (handle_at s f) _ own (λ h e. kept_by s (fits cap (h.off + length (b ∷ bs))) _ own (λ _ _.
-    moved_on (put_bytes s h.path _) f (h.off + length (b ∷ bs)) h e (over_handle s f h _ e own)))
+    moved_on (set_bytes s h.path _) f (h.off + length (b ∷ bs)) h e (over_handle s f h _ e own)))
 
 append_keeps : (cap : ℕ) (s : Session) (f : ℕ) (bytes : List ℕ) → IsSession s → IsSession (or_refused s (append cap s f bytes)).session
 unfolding append

@@ -9,8 +9,9 @@ use Rattle.std.specs.Cmp.{nat_cmp_total}
 use Rattle.std.specs.Ordering.{nat_cmp, eq_by_cmp}
 use Rattle.wtf_base.specs.declared.settings.Settings.{Settings}
 use Rattle.wtf_model.specs.declared.answer.Answer.{Answer, Aborted'}
-use Rattle.wtf_model.specs.declared.answer.Answer.TheVariants.{Okay, Begun, Committed, Retry, Replayed, Saved, FaultSave}
+use Rattle.wtf_model.specs.declared.answer.Answer.TheVariants.{Okay, Begun, Committed, Retry, Replayed, Planned, Installed, Stale, Scanning, More, Done, Saved, FaultSave}
 use Rattle.wtf_model.specs.declared.op.Op.{Op}
+use Rattle.wtf_model.specs.declared.op.JobKind.{JobKind}
 use Rattle.wtf_model.specs.declared.event.Verb.{Verb}
 use Rattle.wtf_model.specs.declared.event.Verb.TheVariants as verb
 use Rattle.wtf_model.specs.declared.event.Event.{Event}
@@ -18,7 +19,7 @@ use Rattle.wtf_model.specs.declared.event.Event.TheVariants as event
 use Rattle.wtf_model.specs.Form.{IsData, IsFormOp, IsFormVerb, IsFormEvent}
 use Rattle.wtf_model.specs.Tree.{Tree, IsTree}
 use Rattle.wtf_model.specs.Transaction.{Transaction}
-use Rattle.wtf_model.specs.Steps.{Machine, start, cap_of, is_logged, logged, called, ended, installed, rebased, tried, stepped, committed, saved, with_transaction, with_down, after, after_client}
+use Rattle.wtf_model.specs.Steps.{Machine, start, cap_of, is_logged, logged, called, ended, installed, rebased, tried, stepped, committed, saved, with_transaction, with_down, with_job, put_in_place, dropped, scanning, scanned, after, after_client}
 use Rattle.wtf_model.specs.Sound.{IsSoundTransaction, IsSoundMachine}
 use Rattle.wtf_model.proofs.Laws.{get-number_same, get-number_other}
 use Rattle.wtf_model.proofs.SessionLaws.{IsTree-session_after}
@@ -112,6 +113,30 @@ saved_sound m FaultSave sound = record {
 }
 saved_sound m a sound = sound
 
+-- jobs and scans hold no tree
+
+job_sound : (m : Machine) (j : ℕ) (kind : JobKind) (p : List ℕ) (r : ℕ) (a : Answer) → IsSoundMachine m → IsSoundMachine (with_job m j kind p r a)
+job_sound m j kind p r Planned sound = record { now_is = sound.now_is; saved_are = sound.saved_are; open_are = sound.open_are }
+job_sound m j kind p r a sound = sound
+
+put_in_place_sound : (m : Machine) (j : ℕ) (a : Answer) → IsSoundMachine m → IsSoundMachine (put_in_place m j a)
+put_in_place_sound m j (Installed n) sound = record { now_is = sound.now_is; saved_are = sound.saved_are; open_are = sound.open_are }
+put_in_place_sound m j (Stale base now) sound = record { now_is = sound.now_is; saved_are = sound.saved_are; open_are = sound.open_are }
+put_in_place_sound m j a sound = sound
+
+dropped_sound : (m : Machine) (j : ℕ) (a : Answer) → IsSoundMachine m → IsSoundMachine (dropped m j a)
+dropped_sound m j Okay sound = record { now_is = sound.now_is; saved_are = sound.saved_are; open_are = sound.open_are }
+dropped_sound m j a sound = sound
+
+scanning_sound : (m : Machine) (a : Answer) → IsSoundMachine m → IsSoundMachine (scanning m a)
+scanning_sound m Scanning sound = record { now_is = sound.now_is; saved_are = sound.saved_are; open_are = sound.open_are }
+scanning_sound m a sound = sound
+
+scanned_sound : (m : Machine) (a : Answer) → IsSoundMachine m → IsSoundMachine (scanned m a)
+scanned_sound m (More left) sound = record { now_is = sound.now_is; saved_are = sound.saved_are; open_are = sound.open_are }
+scanned_sound m Done sound = record { now_is = sound.now_is; saved_are = sound.saved_are; open_are = sound.open_are }
+scanned_sound m a sound = sound
+
 pub IsSoundMachine-start : (settings : Settings) (number : ℕ) (tree : Tree) → IsTree tree → IsSoundMachine (start settings number tree)
 IsSoundMachine-start settings number tree is = record {
   now_is = is;
@@ -121,6 +146,11 @@ IsSoundMachine-start settings number tree is = record {
 
 pub IsSoundMachine-after : (m : Machine) (e : Event) (a : Answer) → IsFormEvent e → IsSoundMachine m → IsSoundMachine (after m e a)
 IsSoundMachine-after m (event.Client c v) a form sound = client_sound m c (get m.transactions c) v a form.1 refl sound
+IsSoundMachine-after m (event.Plan j kind p r) a form sound = job_sound m j kind p r a sound
+IsSoundMachine-after m (event.Put j) a form sound = put_in_place_sound m j a sound
+IsSoundMachine-after m (event.DropJob j) a form sound = dropped_sound m j a sound
+IsSoundMachine-after m event.Scan a form sound = scanning_sound m a sound
+IsSoundMachine-after m (event.Piece k) a form sound = scanned_sound m a sound
 IsSoundMachine-after m (event.Down k) a form sound = down_sound m (set.insert m.down k) a sound
 IsSoundMachine-after m (event.Up k) a form sound = down_sound m (set.remove m.down k) a sound
 IsSoundMachine-after m event.Save a form sound = saved_sound m a sound

@@ -35,30 +35,16 @@ use Rattle.wtf_model.specs.Call.{row_of, call, or_refused}
 use Rattle.wtf_model.specs.Transaction.{Transaction}
 use Rattle.wtf_model.specs.Examples.{ShowsBytes, IsStoreFault}
 use Rattle.wtf_model.specs.Lawful.{client_refusal, IsReadFault, MayFailRead, MayFailYank, MayFailPeek, MayFailConcat, MayFailWrite, MayFail, MayCall, MayTry, MayAsk, MayClient, May, server_answer}
-use Rattle.wtf_model.specs.Steps.{is_live, is_full, Machine, is_later_call, is_later_client, session_of, cap_of, due, after, after_client, is_logged, IsLogged, is_call_refusal, logged, called, with_transaction, is_down, start}
+use Rattle.wtf_model.specs.Steps.{is_live, is_full, Machine, session_of, cap_of, due, after, after_client, is_logged, IsLogged, is_call_refusal, logged, called, with_transaction, is_down, start}
 
--- a verb that is built
-pub May-built : (m : Machine) (c : ℕ) (v : Verb) (a : Answer) (t : Option Transaction)
-    → get m.transactions c ≡ t → is_later_client m t v ≡ false → MayClient m t v a → May m (event.Client c v) a
-May-built m c v a t there now h =
-    subst (λ o. MatchBool (is_later_client m o v) (a ≡ NotBuilt) (MayClient m o v a)) (sym there)
-    (subst (λ b. MatchBool b (a ≡ NotBuilt) (MayClient m t v a)) (sym now) h)
+-- a client's line
+pub May-client : (m : Machine) (c : ℕ) (v : Verb) (a : Answer) (t : Option Transaction)
+    → get m.transactions c ≡ t → MayClient m t v a → May m (event.Client c v) a
+May-client m c v a t there h = subst (λ o. MayClient m o v a) (sym there) h
 
-pub MayClient-built : (m : Machine) (c : ℕ) (v : Verb) (a : Answer) (t : Option Transaction)
-    → get m.transactions c ≡ t → is_later_client m t v ≡ false → May m (event.Client c v) a → MayClient m t v a
-MayClient-built m c v a t there now h =
-    subst (λ b. MatchBool b (a ≡ NotBuilt) (MayClient m t v a)) now
-    (subst (λ o. MatchBool (is_later_client m o v) (a ≡ NotBuilt) (MayClient m o v a)) there h)
-
--- and one that is left to a later version
-pub May-later : (m : Machine) (c : ℕ) (v : Verb) (t : Option Transaction)
-    → get m.transactions c ≡ t → is_later_client m t v ≡ true → (a : Answer) → May m (event.Client c v) a ↔ (a ≡ NotBuilt)
-May-later m c v t there later a = (
-  λ h. subst (λ b. MatchBool b (a ≡ NotBuilt) (MayClient m t v a)) later
-      (subst (λ o. MatchBool (is_later_client m o v) (a ≡ NotBuilt) (MayClient m o v a)) there h),
-  λ h. subst (λ o. MatchBool (is_later_client m o v) (a ≡ NotBuilt) (MayClient m o v a)) (sym there)
-      (subst (λ b. MatchBool b (a ≡ NotBuilt) (MayClient m t v a)) (sym later) h),
-)
+pub MayClient-may : (m : Machine) (c : ℕ) (v : Verb) (a : Answer) (t : Option Transaction)
+    → get m.transactions c ≡ t → May m (event.Client c v) a → MayClient m t v a
+MayClient-may m c v a t there h = subst (λ o. MayClient m o v a) there h
 
 pub after-client : (m : Machine) (c : ℕ) (v : Verb) (a : Answer) (t : Option Transaction)
     → get m.transactions c ≡ t → after m (event.Client c v) a ≡ after_client m c t v a
@@ -286,7 +272,7 @@ either : (b : Bool) (P Q : Type 0) → MatchBool b P Q → P ⊎ Q
 either true P Q h = inl h
 either false P Q h = inr h
 
-refused_or : (r : Option Word) (a : Answer) (P : Type 0) → MatchOption r P (λ w. a ≡ Refused w) → ((w : Word) × (a ≡ Refused w)) ⊎ P
+pub refused_or : (r : Option Word) (a : Answer) (P : Type 0) → MatchOption r P (λ w. a ≡ Refused w) → ((w : Word) × (a ≡ Refused w)) ⊎ P
 refused_or None a P h = inr h
 refused_or (Some w) a P h = inl (w, h)
 
@@ -315,16 +301,12 @@ replayed-logged t o a all = ap (λ k. k + 1) all ∙ sym (length_push t.ops o)
 pub MayClient-try : (m : Machine) (t : Transaction) (a : Answer) → t.replayed ≡ length t.ops → MayTry m t a → MayClient m (Some t) verb.Try a
 MayClient-try m t a all h = MayClient-asked m (Some t) verb.Try a (ap (λ b. if b then None else Some Replaying) (is_live-all t all)) h
 
-has_room : (full later : Bool) → (full || later) ≡ false → full ≡ false
-has_room true later e = cc
-has_room false later e = refl
-
-pub MayClient-call : (m : Machine) (t : Transaction) (o : Op (List ℕ)) (a : Answer) → t.replayed ≡ length t.ops → is_later_client m (Some t) (verb.Call o) ≡ false → MayCall m t o a
+pub MayClient-call : (m : Machine) (t : Transaction) (o : Op (List ℕ)) (a : Answer) → t.replayed ≡ length t.ops → is_full t ≡ false → MayCall m t o a
     → MayClient m (Some t) (verb.Call o) a
-MayClient-call m t o a all built h =
+MayClient-call m t o a all room h =
     MayClient-asked m (Some t) (verb.Call o) a
     (ap (λ b. if b then (if is_full t then Some Full else None) else Some Replaying) (is_live-all t all)
-    ∙ ap (λ b. if b then Some Full else None) (has_room (is_full t) (is_later_call m (session_of m t) o) built)) h
+    ∙ ap (λ b. if b then Some Full else None) room) h
 
 logged_is_no_fault : (a : Answer) → IsLogged a → IsStoreFault a → ⊥
 logged_is_no_fault (FaultRead k) own fault = own
@@ -336,15 +318,11 @@ logged_is_no_fault a own fault = fault
 pub fault_only : (m : Machine) (c : ℕ) (t : Transaction) (o : Op (List ℕ)) (a : Answer) → IsStoreFault a → get m.transactions c ≡ Some t
     → May m (event.Client c (verb.Call o)) a → MayFail m.settings.servers o (due m t o) a
 fault_only m c t o a fault there h =
-    elim (either (is_later_client m (Some t) (verb.Call o)) (a ≡ NotBuilt) (MayClient m (Some t) (verb.Call o) a)
-    (subst (λ x. MatchBool (is_later_client m x (verb.Call o)) (a ≡ NotBuilt) (MayClient m x (verb.Call o) a)) there h)) [
-      | inl e ↦ absurd (subst IsStoreFault e fault)
-      | inr may ↦ elim (refused_or (client_refusal (Some t) (verb.Call o)) a (MayCall m t o a) may) [
-        | inl refused ↦ absurd (subst IsStoreFault refused.1 fault)
-        | inr asked ↦ elim asked [
-          | inl e ↦ absurd (logged_is_no_fault (due m t o) (IsLogged-call (cap_of m) (session_of m t) o) (subst IsStoreFault e fault))
-          | inr fails ↦ fails
-        ]
+    elim (refused_or (client_refusal (Some t) (verb.Call o)) a (MayCall m t o a) (MayClient-may m c (verb.Call o) a (Some t) there h)) [
+      | inl refused ↦ absurd (subst IsStoreFault refused.1 fault)
+      | inr asked ↦ elim asked [
+        | inl e ↦ absurd (logged_is_no_fault (due m t o) (IsLogged-call (cap_of m) (session_of m t) o) (subst IsStoreFault e fault))
+        | inr fails ↦ fails
       ]
     ]
 
@@ -394,18 +372,18 @@ may_fail_read servers (Shown (b ∷ bs)) a below h = below
 may_fail_read servers d a below h = absurd h
 
 -- a read that is to show bytes may answer a fault of a server, and that what it reads is not as it was stored
-pub May-read_fault : (m : Machine) (c : ℕ) (t : Transaction) (f n : ℕ) (a : Answer) → get m.transactions c ≡ Some t → is_later_client m (Some t) (verb.Call (op.Read f n)) ≡ false
+pub May-read_fault : (m : Machine) (c : ℕ) (t : Transaction) (f n : ℕ) (a : Answer) → get m.transactions c ≡ Some t
     → client_refusal (Some t) (verb.Call (op.Read f n)) ≡ None → ShowsBytes (due m t (op.Read f n)) → IsReadFault m.settings.servers a → May m (event.Client c (verb.Call (op.Read f n))) a
-May-read_fault m c t f n a there built asked shows below =
-    May-built m c (verb.Call (op.Read f n)) a (Some t) there built
+May-read_fault m c t f n a there asked shows below =
+    May-client m c (verb.Call (op.Read f n)) a (Some t) there
     (MayClient-asked m (Some t) (verb.Call (op.Read f n)) a asked (inr (may_fail_read m.settings.servers (due m t (op.Read f n)) a below shows)))
 
 -- a write of at least one byte that is to answer `ok` may answer a fault
 pub May-write_fault : (m : Machine) (c : ℕ) (t : Transaction) (f b : ℕ) (bs : List ℕ) → get m.transactions c ≡ Some t
-    → is_later_client m (Some t) (verb.Call (op.Write f (b ∷ bs))) ≡ false → client_refusal (Some t) (verb.Call (op.Write f (b ∷ bs))) ≡ None → due m t (op.Write f (b ∷ bs)) ≡ Okay
+    → client_refusal (Some t) (verb.Call (op.Write f (b ∷ bs))) ≡ None → due m t (op.Write f (b ∷ bs)) ≡ Okay
     → May m (event.Client c (verb.Call (op.Write f (b ∷ bs)))) FaultWrite
-May-write_fault m c t f b bs there built asked fine =
-    May-built m c (verb.Call (op.Write f (b ∷ bs))) FaultWrite (Some t) there built
+May-write_fault m c t f b bs there asked fine =
+    May-client m c (verb.Call (op.Write f (b ∷ bs))) FaultWrite (Some t) there
     (MayClient-asked m (Some t) (verb.Call (op.Write f (b ∷ bs))) FaultWrite asked (inr (subst (λ d. MayFailWrite d FaultWrite) (sym fine) tt)))
 
 -- servers that go down and come up

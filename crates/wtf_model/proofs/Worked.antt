@@ -14,7 +14,7 @@ use Rattle.wtf_model.specs.Session.{Session}
 use Rattle.wtf_model.specs.Done.{Done}
 use Rattle.wtf_model.specs.Call.{call}
 use Rattle.wtf_model.specs.Transaction.{answers_from, answers_of}
-use Rattle.wtf_model.specs.Steps.{Accepts, AcceptsBy, start}
+use Rattle.wtf_model.specs.Steps.{Accepts, start}
 use Rattle.wtf_model.proofs.Laws.{get-node_same, get-node_other}
 use Rattle.wtf_model.specs.Examples.{a, first_file_events, first_file_answers, overwrite_events, overwrite_answers, gap_calls, gap_answers, fault_events, fault_answers}
 use Rattle.wtf_model.proofs.Runs.{idle_at_start, step_begin, step_try, try_number, call_answer, cap_with}
@@ -27,7 +27,7 @@ free : get root_alone a ≡ None
 free = get-node_other empty root Dir a (λ e. cc) ∙ get-empty (slice_cmp nat_cmp) a
 
 pub first_file : (settings : Settings) → Accepts (start settings 0 root_alone) first_file_events (first_file_answers (Shown (codes "abcdef")) (Committed 1))
-unfolding AcceptsBy
+unfolding Accepts
 first_file settings =
     let b = step_begin settings 0 root_alone _ (idle_at_start settings 0 root_alone) in
     let c = step_create settings 0 root_alone 0 _ (lit< tt) root_alone b.1 top free in
@@ -42,7 +42,7 @@ same_bytes : (xs ys : List ℕ) → Shown xs ≡ Shown ys → xs ≡ ys
 same_bytes xs ys e = cc
 
 pub first_file_bytes : (settings : Settings) (bytes : List ℕ) → Accepts (start settings 0 root_alone) first_file_events (first_file_answers (Shown bytes) (Committed 1)) → bytes ≡ codes "abcdef"
-unfolding AcceptsBy
+unfolding Accepts
 first_file_bytes settings bytes h =
     let b = step_begin settings 0 root_alone _ (idle_at_start settings 0 root_alone) in
     let c = step_create settings 0 root_alone 0 _ (lit< tt) root_alone b.1 top free in
@@ -50,11 +50,11 @@ first_file_bytes settings bytes h =
     let w = step_write settings 0 root_alone 2 _ (lit< tt) root_alone [] 0 97 (codes "bcdef") o.1 (lit≤ tt) in
     let k = step_seek settings 0 root_alone 3 _ (lit< tt) root_alone (codes "abcdef") 6 0 w.1 (lit≤ tt) in
     same_bytes bytes (codes "abcdef")
-    (call_answer settings 0 root_alone 4 _ _ k.1 (op.Read 0 9) (Shown bytes) tt (lit< tt) refl h.1.1.1.1.1.0
+    (call_answer settings 0 root_alone 4 _ _ k.1 (op.Read 0 9) (Shown bytes) tt (lit< tt) h.1.1.1.1.1.0
     ∙ ap (λ d. d.answer) (read_held (cap_with settings) root_alone (codes "abcdef") 0 9))
 
 pub first_file_number : (settings : Settings) (number : ℕ) → Accepts (start settings 0 root_alone) first_file_events (first_file_answers (Shown (codes "abcdef")) (Committed number)) → number ≡ 1
-unfolding AcceptsBy
+unfolding Accepts
 first_file_number settings number h =
     let b = step_begin settings 0 root_alone _ (idle_at_start settings 0 root_alone) in
     let c = step_create settings 0 root_alone 0 _ (lit< tt) root_alone b.1 top free in
@@ -65,7 +65,7 @@ first_file_number settings number h =
     try_number settings 0 root_alone 5 _ _ r.1 number h.1.1.1.1.1.1.0
 
 pub overwrite : (settings : Settings) → Accepts (start settings 0 root_alone) overwrite_events overwrite_answers
-unfolding AcceptsBy
+unfolding Accepts
 overwrite settings =
     let old = codes "abcdef" in
     let new = codes "abXYef" in
@@ -90,7 +90,7 @@ overwrite settings =
     (b.0, (c.0, (o.0, (w.0, (t.0, (b2.0, (o2.0, (k2.0, (w2.0, (s2.0, (r2.0, (t2.0, (b3.0, (o3.0, (r3.0, (t3.0, tt))))))))))))))))
 
 pub faults : (settings : Settings) → Accepts (start settings 0 root_alone) fault_events fault_answers
-unfolding AcceptsBy
+unfolding Accepts
 faults settings =
     let b = step_begin settings 0 root_alone _ (idle_at_start settings 0 root_alone) in
     let c = step_create settings 0 root_alone 0 _ (lit< tt) root_alone b.1 top free in

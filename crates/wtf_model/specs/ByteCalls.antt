@@ -5,7 +5,7 @@ use Rattle.wtf_model.specs.declared.answer.Word.{Word}
 use Rattle.wtf_model.specs.declared.answer.Answer.TheVariants.{Okay, Shown}
 use Rattle.wtf_model.specs.Tree.{◌>>=◌}
 use Rattle.wtf_model.specs.Session.{Session}
-use Rattle.wtf_model.specs.Done.{Done, done, handle_at, bytes_of_handle, part, fits, moved, put_bytes}
+use Rattle.wtf_model.specs.Done.{Done, done, handle_at, bytes_of_handle, part, fits, moved, set_bytes}
 
 -- the bytes with new ones in their place at an offset, after zeros where the old ones end before it
 abbrev pub written : List ℕ → ℕ → List ℕ → List ℕ
@@ -34,24 +34,24 @@ write cap s f [] = do
 write cap s f (b ∷ bs) = do
   h ← handle_at s f
   _ ← fits cap (h.off + length (b ∷ bs))
-  done (moved (put_bytes s h.path (written (bytes_of_handle s h) h.off (b ∷ bs))) f h (h.off + length (b ∷ bs))) Okay
+  done (moved (set_bytes s h.path (written (bytes_of_handle s h) h.off (b ∷ bs))) f h (h.off + length (b ∷ bs))) Okay
 
 -- append F DATA: the bytes are added at the end; the offset stays
 unfoldable pub append : ℕ → Session → ℕ → List ℕ → Result Done Word
 append cap s f bytes = do
   h ← handle_at s f
   _ ← fits cap (length (bytes_of_handle s h) + length bytes)
-  done (put_bytes s h.path (bytes_of_handle s h ++ bytes)) Okay
+  done (set_bytes s h.path (bytes_of_handle s h ++ bytes)) Okay
 
 -- truncate F N: the file is cut to N bytes, or padded up to N; the offset stays
 unfoldable pub truncate : ℕ → Session → ℕ → ℕ → Result Done Word
 truncate cap s f n = do
   h ← handle_at s f
   _ ← fits cap n
-  done (put_bytes s h.path (resized (bytes_of_handle s h) n)) Okay
+  done (set_bytes s h.path (resized (bytes_of_handle s h) n)) Okay
 
 -- punch F N: N bytes from the offset on become zeros, as far as the file goes; the offset stays
 unfoldable pub punch : Session → ℕ → ℕ → Result Done Word
 punch s f n = do
   h ← handle_at s f
-  done (put_bytes s h.path (zeroed (bytes_of_handle s h) h.off n)) Okay
+  done (set_bytes s h.path (zeroed (bytes_of_handle s h) h.off n)) Okay

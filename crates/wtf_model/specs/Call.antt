@@ -10,7 +10,7 @@ use Rattle.wtf_model.specs.NameCalls.{mkdir, create, rmdir, unlink, rename, list
 use Rattle.wtf_model.specs.HandleCalls.{open_file, close, seek, tell}
 use Rattle.wtf_model.specs.ByteCalls.{read, write, append, truncate, punch}
 use Rattle.wtf_model.specs.SliceCalls.{yank, peek, cut, paste, glue, concat, copy}
-pub use Rattle.wtf_model.specs.Done.{Done, bytes_at, moved, put_bytes}
+pub use Rattle.wtf_model.specs.Done.{Done, bytes_at, moved, set_bytes}
 pub use Rattle.wtf_model.specs.ByteCalls.{written}
 
 abbrev pub row_of : ℕ → Session → Op (List ℕ) → Result Done Word

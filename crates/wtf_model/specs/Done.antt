@@ -75,13 +75,21 @@ moved s f h off = record s { handles = insert s.handles f (record h { off = off 
 abbrev pub put_node : Session → List ℕ → TreeNode → Session
 put_node s p n = record s { tree = insert s.tree p n }
 
--- a file with these bytes
-abbrev pub put_bytes : Session → List ℕ → List ℕ → Session
-put_bytes s p bytes = record s { tree = insert s.tree p (File bytes) }
+-- other bytes in a file that is there
+abbrev pub set_bytes : Session → List ℕ → List ℕ → Session
+set_bytes s p bytes = put_node s p (File bytes)
+
+-- a new file with these bytes
+abbrev pub add_file : Session → List ℕ → List ℕ → Session
+add_file s p bytes = put_node s p (File bytes)
 
 -- nothing at a path
 abbrev pub take_out : Session → List ℕ → Session
 take_out s p = record s { tree = remove s.tree p }
+
+-- the file at p, which has these bytes, at q
+abbrev pub move_file : Session → List ℕ → List ℕ → List ℕ → Session
+move_file s p q bytes = add_file (take_out s p) q bytes
 
 -- a slice with these bytes
 abbrev pub put_slice : Session → ℕ → List ℕ → Session

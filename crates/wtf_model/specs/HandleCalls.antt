@@ -1,5 +1,5 @@
 -- The calls on handles: what each does to its session, and what it answers. Refusals come in the order of the lines.
-use Rattle.std.specs.Prelude.{ℕ, ◌+◌, ◌-◌, List, length, Result}
+use Rattle.std.specs.Prelude.{ℕ, ◌+◌, ◌-◌, nat_le, if◌then◌else◌, List, length, Option, Some, None, Result}
 use Rattle.std.specs.FinMap.{get, insert, remove}
 use Rattle.wtf_model.specs.declared.answer.Word.{Word}
 use Rattle.wtf_model.specs.declared.answer.Answer.TheVariants.{Okay, At}
@@ -45,3 +45,10 @@ unfoldable pub tell : Session → ℕ → Result Done Word
 tell s f = do
   h ← handle_at s f
   done s (At h.off)
+
+-- where a seek leads from an offset in a file of so many bytes; nowhere where that is below 0 or above the greatest length
+abbrev pub lands : (cap len off : ℕ) → Seek → Option ℕ
+lands cap len off (to.Set n) = if nat_le n cap then Some n else None
+lands cap len off (to.Fwd n) = if nat_le (off + n) cap then Some (off + n) else None
+lands cap len off (to.Back n) = if nat_le n off then Some (off - n) else None
+lands cap len off to.End = Some len

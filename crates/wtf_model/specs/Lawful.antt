@@ -18,7 +18,10 @@ use Rattle.wtf_model.specs.declared.event.Event.TheVariants as event
 use Rattle.wtf_model.specs.Tree.{Tree, ◌>>=◌, source, rows_of}
 use Rattle.wtf_model.specs.Transaction.{Transaction, answers_of}
 use Rattle.wtf_model.specs.Machines.{Machine, cap_of, due, is_down, is_live, is_full}
-use Rattle.wtf_model.specs.Later.{is_later}
+pub use Rattle.wtf_model.specs.Faults.{IsReadFault, or_refusal}
+use Rattle.wtf_model.specs.Jobs.{plan_answer, MayFailPlan, MayPut, drop_answer}
+use Rattle.wtf_model.specs.Scans.{scan_answer, piece_answer, MayFailPiece, collect_refusal, MayCollect}
+pub use Rattle.wtf_model.specs.Built.{is_built}
 
 -- The refusals of a client's line, in their order: no transaction, or one already; a replay that runs, or none; a full
 -- log.
@@ -31,12 +34,6 @@ client_refusal (Some t) verb.Step = if is_live t then Some Live else None
 client_refusal (Some t) verb.Commit = None
 client_refusal (Some t) verb.Abort = None
 client_refusal (Some t) (verb.Call o) = if is_live t then (if is_full t then Some Full else None) else Some Replaying
-
--- a read of server k fails, or what it gives is not as it was stored
-abbrev pub IsReadFault : ℕ → Answer → Type 0
-IsReadFault servers (answer.FaultRead k) = k < servers
-IsReadFault servers (answer.Damaged k) = k < servers
-IsReadFault servers a = ⊥
 
 -- in place of bytes that are to be shown
 abbrev pub MayFailRead : ℕ → Answer → Answer → Type 0
@@ -144,10 +141,6 @@ dumped tree p = do
   _ ← is_short bytes
   Ok (answer.Shown bytes)
 
-abbrev pub or_refusal : Result Answer Word → Answer
-or_refusal (Ok a) = a
-or_refusal (Err w) = answer.Refused w
-
 abbrev pub dump_answer : Machine → List ℕ → Answer
 dump_answer m p = or_refusal (dumped m.now p)
 
@@ -157,17 +150,23 @@ MaySave m (answer.Saved n) = (n ≡ m.number) × ((k : ℕ) → k < m.settings.s
 MaySave m answer.FaultSave = Unit {0}
 MaySave m a = ⊥
 
--- the machine may answer a to the event e, where nothing is left to a later version. Lines of jobs and scans have no row
--- yet.
+-- the machine may answer a to the event e, where its verb is built
 abbrev pub MayBuilt : Machine → Event → Answer → Type 0
 MayBuilt m (event.Client c v) a = MayClient m (get m.transactions c) v a
+MayBuilt m (event.Plan j kind p r) a =
+    (a ≡ plan_answer m j p r) ⊎ MayFailPlan m.settings.servers kind (plan_answer m j p r) a
+MayBuilt m (event.Put j) a = MayPut m (get m.jobs j) a
+MayBuilt m (event.DropJob j) a = a ≡ drop_answer (get m.jobs j)
+MayBuilt m event.Scan a = a ≡ scan_answer m
+MayBuilt m (event.Piece k) a =
+    (a ≡ piece_answer k m.parts_left) ⊎ MayFailPiece m.settings.servers (piece_answer k m.parts_left) a
+MayBuilt m (event.Collect k) a = MatchOption (collect_refusal m k) (MayCollect k a) (λ w. a ≡ answer.Refused w)
 MayBuilt m (event.Down k) a = a ≡ server_answer m k
 MayBuilt m (event.Up k) a = a ≡ server_answer m k
+MayBuilt m event.Save a = MaySave m a
 MayBuilt m (event.Dump p) a = (a ≡ dump_answer m p) ⊎ MayFailRead m.settings.servers (dump_answer m p) a
 MayBuilt m event.Tree a = a ≡ answer.Tree (rows_of m.now)
-MayBuilt m event.Save a = MaySave m a
-MayBuilt m e a = ⊥
 
--- the machine of this version may answer a to the event e
+-- the machine may answer a to the event e; a verb that is not built answers so
 abbrev pub May : Machine → Event → Answer → Type 0
-May m e a = MatchBool (is_later m e) (a ≡ answer.NotBuilt) (MayBuilt m e a)
+May m e a = MatchBool (is_built e) (MayBuilt m e a) (a ≡ answer.NotBuilt)

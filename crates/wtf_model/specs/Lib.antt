@@ -9,7 +9,10 @@ pub mod SliceCalls
 pub mod Call
 pub mod Transaction
 pub mod Machines
-pub mod Later
+pub mod Faults
+pub mod Jobs
+pub mod Scans
+pub mod Built
 pub mod Lawful
 pub mod Steps
 pub mod Same

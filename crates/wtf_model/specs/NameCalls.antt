@@ -7,7 +7,7 @@ use Rattle.wtf_model.specs.declared.answer.Answer.{Answer}
 use Rattle.wtf_model.specs.declared.answer.Answer.TheVariants as answer
 use Rattle.wtf_model.specs.Tree.{TreeNode, Dir, File, root, ◌>>=◌, target, source, is_directory, is_empty, names_in}
 use Rattle.wtf_model.specs.Session.{Session}
-use Rattle.wtf_model.specs.Done.{Done, done, is_closed, put_node, put_bytes, take_out}
+use Rattle.wtf_model.specs.Done.{Done, done, is_closed, put_node, add_file, take_out, move_file}
 
 -- mkdir P: an empty directory at P
 unfoldable pub mkdir : Session → List ℕ → Result Done Word
@@ -19,7 +19,7 @@ mkdir s p = do
 unfoldable pub create : Session → List ℕ → Result Done Word
 create s p = do
   _ ← target s.tree p
-  done (put_bytes s p []) answer.Okay
+  done (add_file s p []) answer.Okay
 
 -- the root stays
 abbrev pub is_not_root : List ℕ → Result (Unit {0}) Word
@@ -46,7 +46,7 @@ rename s p q = do
   bytes ← source s.tree p
   _ ← is_closed s p
   _ ← target s.tree q
-  done (put_bytes (take_out s p) q bytes) answer.Okay
+  done (move_file s p q bytes) answer.Okay
 
 -- list P: the names in the directory P
 unfoldable pub list : Session → List ℕ → Result Done Word

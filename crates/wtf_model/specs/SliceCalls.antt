@@ -5,7 +5,7 @@ use Rattle.wtf_model.specs.declared.answer.Word.{Word}
 use Rattle.wtf_model.specs.declared.answer.Answer.TheVariants.{Okay, Shown, Len}
 use Rattle.wtf_model.specs.Tree.{◌>>=◌, target, source, sources}
 use Rattle.wtf_model.specs.Session.{Session}
-use Rattle.wtf_model.specs.Done.{Done, done, handle_at, slice_at, bytes_of_handle, part, fits, in_range, moved, put_bytes, put_slice}
+use Rattle.wtf_model.specs.Done.{Done, done, handle_at, slice_at, bytes_of_handle, part, fits, in_range, moved, add_file, put_slice}
 use Rattle.wtf_model.specs.ByteCalls.{write, append}
 
 -- yank F N S: S is the bytes that a read would show; the offset grows by their number
@@ -49,11 +49,11 @@ concat cap s q paths = do
   _ ← target s.tree q
   bytes ← sources s.tree paths
   _ ← fits cap (length bytes)
-  done (put_bytes s q bytes) Okay
+  done (add_file s q bytes) Okay
 
 -- copy P Q: a file at Q with the bytes of P
 unfoldable pub copy : Session → List ℕ → List ℕ → Result Done Word
 copy s p q = do
   bytes ← source s.tree p
   _ ← target s.tree q
-  done (put_bytes s q bytes) Okay
+  done (add_file s q bytes) Okay

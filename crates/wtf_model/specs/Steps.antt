@@ -15,9 +15,11 @@ use Rattle.wtf_model.specs.declared.event.Verb.{Verb}
 use Rattle.wtf_model.specs.declared.event.Verb.TheVariants as verb
 use Rattle.wtf_model.specs.declared.event.Event.{Event}
 use Rattle.wtf_model.specs.declared.event.Event.TheVariants as event
+use Rattle.wtf_model.specs.declared.op.JobKind.{JobKind}
+use Rattle.wtf_model.specs.declared.limits.TheConstants.{SCAN_PARTS}
 use Rattle.wtf_model.specs.Transaction.{Transaction, session_after}
+use Rattle.wtf_model.specs.Scans.{open_stamps}
 pub use Rattle.wtf_model.specs.Machines.{Machine, start, cap_of, is_down, session_of, due, is_live, is_full}
-pub use Rattle.wtf_model.specs.Later.{passes, is_far, is_later_call, is_later_client, is_later}
 pub use Rattle.wtf_model.specs.Lawful.{MayFailRead, MayFailWrite, MayFail, MayCall, MayTry, MayAsk, MayClient, server_answer, MayBuilt, May}
 
 -- the refusals of a call itself; all others are the machine's
@@ -121,26 +123,60 @@ saved m (answer.Saved n) = record m { may_be_saved = m.now ∷ [] }
 saved m answer.FaultSave = record m { may_be_saved = m.may_be_saved ++ m.now ∷ [] }
 saved m a = m
 
+-- a job begins on the tree now
+abbrev pub with_job : Machine → ℕ → JobKind → List ℕ → ℕ → Answer → Machine
+with_job m j kind p r answer.Planned =
+    record m {
+      jobs = insert m.jobs j (record { stamp = m.next_stamp; path = p; region = r; kind = kind; base = m.number; touched = [] });
+      next_stamp = m.next_stamp + 1;
+    }
+with_job m j kind p r a = m
+
+-- a job has ended
+abbrev pub without_job : Machine → ℕ → Machine
+without_job m j = record m { jobs = remove m.jobs j }
+
+-- what a job made is in place: the next number, and the tree as it was
+abbrev pub put_in_place : Machine → ℕ → Answer → Machine
+put_in_place m j (answer.Installed n) = record (without_job m j) { number = n }
+put_in_place m j (answer.Stale base now) = without_job m j
+put_in_place m j a = m
+
+abbrev pub dropped : Machine → ℕ → Answer → Machine
+dropped m j answer.Okay = without_job m j
+dropped m j a = m
+
+-- a scan begins with all its parts, and notes what is open
+abbrev pub scanning : Machine → Answer → Machine
+scanning m answer.Scanning = record m { scan_list = open_stamps m; parts_left = Some SCAN_PARTS }
+scanning m a = m
+
+-- some parts are done, or all are
+abbrev pub scanned : Machine → Answer → Machine
+scanned m (answer.More left) = record m { parts_left = Some left }
+scanned m answer.Done = record m { parts_left = None; scans = m.scans + 1 }
+scanned m a = m
+
 abbrev pub after : Machine → Event → Answer → Machine
 after m (event.Client c v) a = after_client m c (get m.transactions c) v a
+after m (event.Plan j kind p r) a = with_job m j kind p r a
+after m (event.Put j) a = put_in_place m j a
+after m (event.DropJob j) a = dropped m j a
+after m event.Scan a = scanning m a
+after m (event.Piece k) a = scanned m a
+after m (event.Collect k) a = m
 after m (event.Down k) a = with_down m (set.insert m.down k) a
 after m (event.Up k) a = with_down m (set.remove m.down k) a
 after m event.Save a = saved m a
-after m e a = m
+after m (event.Dump p) a = m
+after m event.Tree a = m
 
 -- The machine may give these answers to these events, one after another, and what it is then
-unfoldable pub AcceptsBy : (Machine → Event → Answer → Type 0) → Machine → List Event → List Answer → Type 0
-AcceptsBy P m [] [] = Unit {0}
-AcceptsBy P m (e ∷ es) (a ∷ answers) = P m e a × AcceptsBy P (after m e a) es answers
-AcceptsBy P m [] (a ∷ answers) = ⊥
-AcceptsBy P m (e ∷ es) [] = ⊥
-
-abbrev pub Accepts : Machine → List Event → List Answer → Type 0
-Accepts m es answers = AcceptsBy May m es answers
-
--- the same where nothing is left to a later version
-abbrev pub AcceptsWhole : Machine → List Event → List Answer → Type 0
-AcceptsWhole m es answers = AcceptsBy MayBuilt m es answers
+unfoldable pub Accepts : Machine → List Event → List Answer → Type 0
+Accepts m [] [] = Unit {0}
+Accepts m (e ∷ es) (a ∷ answers) = May m e a × Accepts (after m e a) es answers
+Accepts m [] (a ∷ answers) = ⊥
+Accepts m (e ∷ es) [] = ⊥
 
 unfoldable pub after_all : Machine → List Event → List Answer → Machine
 after_all m (e ∷ es) (a ∷ answers) = after_all (after m e a) es answers

@@ -7,7 +7,7 @@ ghost use Rattle.wtf_model.specs.declared.answer.Word.TheVariants as word;
 ghost use Rattle.wtf_model.specs.declared.op.Op.TheVariants as op;
 ghost use Rattle.wtf_model.specs.declared.op.Seek.TheVariants as to;
 ghost use Rattle.wtf_model.specs.Session.{Session, Handle};
-ghost use Rattle.wtf_model.specs.Done.{moved, put_bytes};
+ghost use Rattle.wtf_model.specs.Done.{moved, set_bytes};
 ghost use Rattle.wtf_model.specs.Call.{call};
 ghost use Rattle.wtf_model.specs.Examples.{HasOpen, answering, unchanged};
 
@@ -29,15 +29,15 @@ pub fn writes()
     ensures over { (cap f : ℕ) (s : Session) (h : Handle) → HasOpen s f h (codes "abcdef") →
         h.off ≡ 2 → 4 ≤ cap →
         call cap s (op.Write f (codes "XY")) ≡
-        answering (moved (put_bytes s h.path (codes "abXYef")) f h 4) answer.Okay }
+        answering (moved (set_bytes s h.path (codes "abXYef")) f h 4) answer.Okay }
     ensures gap { (cap f : ℕ) (s : Session) (h : Handle) → HasOpen s f h (codes "a") →
         h.off ≡ 3 → 4 ≤ cap →
         call cap s (op.Write f (codes "d")) ≡
-        answering (moved (put_bytes s h.path (codes "a" ++ (0 ∷ 0 ∷ codes "d"))) f h 4) answer.Okay }
+        answering (moved (set_bytes s h.path (codes "a" ++ (0 ∷ 0 ∷ codes "d"))) f h 4) answer.Okay }
     ensures to_the_end { (f : ℕ) (s : Session) (h : Handle) → HasOpen s f h (codes "abc") →
         h.off ≡ 3 →
         call 4 s (op.Write f (codes "x")) ≡
-        answering (moved (put_bytes s h.path (codes "abcx")) f h 4) answer.Okay }
+        answering (moved (set_bytes s h.path (codes "abcx")) f h 4) answer.Okay }
     ensures too_big { (f : ℕ) (s : Session) (h : Handle) → HasOpen s f h (codes "abc") → h.off ≡ 4 →
         call 4 s (op.Write f (codes "x")) ≡ unchanged s (answer.Refused word.TooBig) }
     ensures nothing { (cap f : ℕ) (s : Session) (h : Handle) (bytes : List ℕ) →
@@ -51,10 +51,10 @@ pub fn writes()
 pub fn appends()
     ensures at_end { (cap f : ℕ) (s : Session) (h : Handle) → HasOpen s f h (codes "cd") → 4 ≤ cap →
         call cap s (op.Append f (codes "ab")) ≡
-        answering (put_bytes s h.path (codes "cdab")) answer.Okay }
+        answering (set_bytes s h.path (codes "cdab")) answer.Okay }
     ensures to_the_end { (f : ℕ) (s : Session) (h : Handle) → HasOpen s f h (codes "abc") →
         call 4 s (op.Append f (codes "x")) ≡
-        answering (put_bytes s h.path (codes "abcx")) answer.Okay }
+        answering (set_bytes s h.path (codes "abcx")) answer.Okay }
     ensures too_big { (f : ℕ) (s : Session) (h : Handle) → HasOpen s f h (codes "abcd") →
         call 4 s (op.Append f (codes "y")) ≡ unchanged s (answer.Refused word.TooBig) }
     ensures closed { (cap f : ℕ) (s : Session) (bytes : List ℕ) → get s.handles f ≡ None →
@@ -64,12 +64,12 @@ pub fn appends()
 /// A truncation cuts the tail off, or pads with zeros, up to the greatest length. The offset stays.
 pub fn truncations()
     ensures cuts { (cap f : ℕ) (s : Session) (h : Handle) → HasOpen s f h (codes "abcd") → 2 ≤ cap →
-        call cap s (op.Truncate f 2) ≡ answering (put_bytes s h.path (codes "ab")) answer.Okay }
+        call cap s (op.Truncate f 2) ≡ answering (set_bytes s h.path (codes "ab")) answer.Okay }
     ensures pads { (cap f : ℕ) (s : Session) (h : Handle) → HasOpen s f h (codes "ab") → 5 ≤ cap →
         call cap s (op.Truncate f 5) ≡
-        answering (put_bytes s h.path (codes "ab" ++ (0 ∷ 0 ∷ 0 ∷ []))) answer.Okay }
+        answering (set_bytes s h.path (codes "ab" ++ (0 ∷ 0 ∷ 0 ∷ []))) answer.Okay }
     ensures to_nothing { (cap f : ℕ) (s : Session) (h : Handle) → HasOpen s f h (codes "ab") →
-        call cap s (op.Truncate f 0) ≡ answering (put_bytes s h.path []) answer.Okay }
+        call cap s (op.Truncate f 0) ≡ answering (set_bytes s h.path []) answer.Okay }
     ensures too_big { (f : ℕ) (s : Session) (h : Handle) (bytes : List ℕ) → HasOpen s f h bytes →
         call 262144 s (op.Truncate f 262145) ≡ unchanged s (answer.Refused word.TooBig) }
     ensures closed { (cap f n : ℕ) (s : Session) → get s.handles f ≡ None →
@@ -81,13 +81,13 @@ pub fn punches()
     ensures to_end { (cap f : ℕ) (s : Session) (h : Handle) → HasOpen s f h (codes "abcdef") →
         h.off ≡ 4 →
         call cap s (op.Punch f 10) ≡
-        answering (put_bytes s h.path (codes "abcd" ++ (0 ∷ 0 ∷ []))) answer.Okay }
+        answering (set_bytes s h.path (codes "abcd" ++ (0 ∷ 0 ∷ []))) answer.Okay }
     ensures inside { (cap f : ℕ) (s : Session) (h : Handle) → HasOpen s f h (codes "abcdef") →
         h.off ≡ 1 →
         call cap s (op.Punch f 2) ≡
-        answering (put_bytes s h.path (codes "a" ++ (0 ∷ 0 ∷ codes "def"))) answer.Okay }
+        answering (set_bytes s h.path (codes "a" ++ (0 ∷ 0 ∷ codes "def"))) answer.Okay }
     ensures past { (cap f : ℕ) (s : Session) (h : Handle) → HasOpen s f h (codes "ab") → h.off ≡ 4 →
-        call cap s (op.Punch f 10) ≡ answering (put_bytes s h.path (codes "ab")) answer.Okay }
+        call cap s (op.Punch f 10) ≡ answering (set_bytes s h.path (codes "ab")) answer.Okay }
     ensures closed { (cap f n : ℕ) (s : Session) → get s.handles f ≡ None →
         call cap s (op.Punch f n) ≡ unchanged s (answer.Refused word.NoHandle) }
 {}

@@ -1,7 +1,7 @@
 //! Worked examples of the definitions, each proved.
 
 ghost use Rattle.std.specs.Prelude.{◌≡◌, ◌≢◌, ◌↔◌, ℕ, ◌+◌, ◌-◌, ◌*◌, ◌≤◌, ◌<◌, List, [], ◌∷◌, length, get_or, max, Some, None, true, false, codes, All};
-ghost use Rattle.std.specs.FinMap.{get, len};
+ghost use Rattle.std.specs.FinMap.{get};
 ghost use Rattle.wtf_path.specs.Parts.{parent_of};
 ghost use Rattle.wtf_base.specs.declared.settings.Settings.{Settings};
 ghost use Rattle.wtf_model.specs.declared.answer.Answer.{Answer};
@@ -11,6 +11,7 @@ ghost use Rattle.wtf_model.specs.declared.answer.Word.TheVariants as word;
 ghost use Rattle.wtf_model.specs.declared.op.Op.{Op};
 ghost use Rattle.wtf_model.specs.declared.op.Op.TheVariants as op;
 ghost use Rattle.wtf_model.specs.declared.op.Seek.TheVariants as to;
+ghost use Rattle.wtf_model.specs.declared.op.JobKind.{JobKind};
 ghost use Rattle.wtf_model.specs.declared.event.Verb.TheVariants as verb;
 ghost use Rattle.wtf_model.specs.declared.event.Event.{Event};
 ghost use Rattle.wtf_model.specs.declared.event.Event.TheVariants as event;
@@ -22,7 +23,7 @@ ghost use Rattle.wtf_model.specs.Tree.{Tree, root, root_alone, IsTree};
 ghost use Rattle.wtf_model.specs.Session.{Session, Handle};
 ghost use Rattle.wtf_model.specs.Call.{call, bytes_at, written};
 ghost use Rattle.wtf_model.specs.Transaction.{Transaction, session_after, answers_of};
-ghost use Rattle.wtf_model.specs.Lawful.{MayFail};
+ghost use Rattle.wtf_model.specs.Lawful.{MayFail, is_built};
 ghost use Rattle.wtf_model.specs.Steps.{Machine, Accepts, May, start, after, session_of, due, is_down, is_call_refusal, logged, with_transaction};
 ghost use Rattle.wtf_model.specs.Lines.{Line, MayLine, after_line, Along, machine_after, events_of, answers_to};
 ghost use Rattle.wtf_model.specs.Servers.{none_down, downs_after};
@@ -107,31 +108,17 @@ pub fn nothing_is_moved()
         call cap s (op.Write f []) ≡ unchanged s answer.Okay }
 {}
 
-/// What is left to a later version is answered by `notbuilt` alone, which leaves the machine: a second begin, one
-/// beside another client, a line without a transaction, a label that is taken, what lies past the first region, and a
-/// call where the log is full.
-pub fn later_lines_are_not_built()
-    ensures second_begin { (m : Machine) (c : ℕ) (t : Transaction) →
-        get m.transactions c ≡ Some t → OnlyNotBuilt m (event.Client c verb.Begin) }
-    ensures beside { (m : Machine) (c : ℕ) → get m.transactions c ≡ None →
-        0 < len m.transactions → OnlyNotBuilt m (event.Client c verb.Begin) }
-    ensures call_without { (m : Machine) (c : ℕ) (o : Op (List ℕ)) →
-        get m.transactions c ≡ None → OnlyNotBuilt m (event.Client c (verb.Call o)) }
-    ensures try_without { (m : Machine) (c : ℕ) → get m.transactions c ≡ None →
-        OnlyNotBuilt m (event.Client c verb.Try) }
-    ensures label_taken { (m : Machine) (c f : ℕ) (t : Transaction) (p : List ℕ) (h : Handle) →
-        get m.transactions c ≡ Some t → get (session_of m t).handles f ≡ Some h →
-        OnlyNotBuilt m (event.Client c (verb.Call (op.Open f p))) }
-    ensures far_seek { (m : Machine) (c f n : ℕ) (t : Transaction) →
-        get m.transactions c ≡ Some t → m.settings.region < n →
-        OnlyNotBuilt m (event.Client c (verb.Call (op.Seek f (to.Set n)))) }
-    ensures far_write { (m : Machine) (c f b : ℕ) (bs : List ℕ) (t : Transaction) (h : Handle) →
-        get m.transactions c ≡ Some t → get (session_of m t).handles f ≡ Some h →
-        m.settings.region < h.off + length (b ∷ bs) →
-        OnlyNotBuilt m (event.Client c (verb.Call (op.Write f (b ∷ bs)))) }
-    ensures full { (m : Machine) (c : ℕ) (t : Transaction) (o : Op (List ℕ)) →
-        get m.transactions c ≡ Some t → 4096 ≤ length t.ops →
-        OnlyNotBuilt m (event.Client c (verb.Call o)) }
+/// Each verb that is not built is answered by `notbuilt` alone, which leaves the machine; and no verb that is built is
+/// answered so.
+pub fn verbs_that_are_not_built()
+    ensures only { (m : Machine) (e : Event) → is_built e ≡ false → OnlyNotBuilt m e }
+    ensures plan { (j r : ℕ) (kind : JobKind) (p : List ℕ) → is_built (event.Plan j kind p r) ≡ false }
+    ensures put { (j : ℕ) → is_built (event.Put j) ≡ false }
+    ensures drop { (j : ℕ) → is_built (event.DropJob j) ≡ false }
+    ensures scan { is_built event.Scan ≡ false }
+    ensures piece { (k : ℕ) → is_built (event.Piece k) ≡ false }
+    ensures collect { (k : ℕ) → is_built (event.Collect k) ≡ false }
+    ensures never { (m : Machine) (e : Event) → is_built e ≡ true → ¬ (May m e answer.NotBuilt) }
     ensures leaves { (m : Machine) (e : Event) → after m e answer.NotBuilt ≡ m }
 {}
 

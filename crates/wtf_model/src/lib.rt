@@ -9,12 +9,14 @@ mod answer;
 pub mod byte_examples;
 mod event;
 pub mod examples;
+pub mod job_examples;
 pub mod limits;
 mod lists;
 pub mod machine_examples;
 pub mod name_examples;
 mod op;
 mod same;
+pub mod scan_examples;
 pub mod slice_examples;
 
 pub use answer::{Answer, Kind, Word};

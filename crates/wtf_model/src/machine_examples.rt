@@ -1,5 +1,5 @@
-//! Worked examples of the machine's steps, each proved. They say of each line what may answer it where nothing is left to a
-//! later version, and what it leaves.
+//! Worked examples of the machine's steps, each proved. They say of each line what may answer it where its verb is built,
+//! and what it leaves.
 
 ghost use Rattle.std.specs.Prelude.{◌≡◌, ◌≢◌, ◌↔◌, ℕ, ◌+◌, ◌≤◌, ◌<◌, true, false, List, [], ◌∷◌, ◌++◌, length, slice_get, Some, None};
 ghost use Rattle.std.specs.FinMap.{get};
@@ -18,7 +18,7 @@ ghost use Rattle.wtf_model.specs.Tree as node;
 ghost use Rattle.wtf_model.specs.Session.{Session, Handle};
 ghost use Rattle.wtf_model.specs.Transaction.{Transaction, session_after, answers_of};
 ghost use Rattle.wtf_model.specs.Lawful.{Deviates};
-ghost use Rattle.wtf_model.specs.Steps.{Machine, MayBuilt, Accepts, start, after, cap_of, due, is_down, is_live, is_full, is_later_call};
+ghost use Rattle.wtf_model.specs.Steps.{Machine, MayBuilt, Accepts, start, after, cap_of, due, is_down, is_live, is_full};
 ghost use Rattle.wtf_model.specs.Examples.{Only, IsAborted, first_transaction};
 
 /// A transaction begins on the tree now, with the next stamp, which is then another. A client has one at a time.
@@ -194,21 +194,4 @@ pub fn runs_are_whole()
         (start settings number tree).may_be_saved ≡ tree ∷ [] }
     ensures base { (settings : Settings) (number : ℕ) (tree : Tree) →
         (start settings number tree).number ≡ number }
-{}
-
-/// What lies up to the end of the first region is built, and what lies past it is left to a later version. A label that is
-/// closed leaves nothing.
-pub fn edges_of_a_region()
-    ensures seek_to { (m : Machine) (s : Session) (f n : ℕ) → n ≤ m.settings.region →
-        is_later_call m s (op.Seek f (to.Set n)) ≡ false }
-    ensures seek_past { (m : Machine) (s : Session) (f n : ℕ) → m.settings.region < n →
-        is_later_call m s (op.Seek f (to.Set n)) ≡ true }
-    ensures write_to { (m : Machine) (s : Session) (f b : ℕ) (bs : List ℕ) (h : Handle) →
-        get s.handles f ≡ Some h → h.off + length (b ∷ bs) ≤ m.settings.region →
-        is_later_call m s (op.Write f (b ∷ bs)) ≡ false }
-    ensures write_past { (m : Machine) (s : Session) (f b : ℕ) (bs : List ℕ) (h : Handle) →
-        get s.handles f ≡ Some h → m.settings.region < h.off + length (b ∷ bs) →
-        is_later_call m s (op.Write f (b ∷ bs)) ≡ true }
-    ensures closed { (m : Machine) (s : Session) (f : ℕ) (bytes : List ℕ) →
-        get s.handles f ≡ None → is_later_call m s (op.Write f bytes) ≡ false }
 {}

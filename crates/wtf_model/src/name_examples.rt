@@ -8,7 +8,7 @@ ghost use Rattle.wtf_model.specs.declared.op.Op.TheVariants as op;
 ghost use Rattle.wtf_model.specs.Tree.{TreeNode, root, names_in, rows_of, paths_in};
 ghost use Rattle.wtf_model.specs.Tree as node;
 ghost use Rattle.wtf_model.specs.Session.{Session};
-ghost use Rattle.wtf_model.specs.Done.{put_node, put_bytes, take_out};
+ghost use Rattle.wtf_model.specs.Done.{put_node, add_file, take_out, move_file};
 ghost use Rattle.wtf_model.specs.Call.{call};
 ghost use Rattle.wtf_model.specs.Examples.{IsFreeIn, IsClosed, IsBusy, answering, unchanged, logs_tree};
 
@@ -61,7 +61,7 @@ pub fn unlinks_files()
 pub fn renames_files()
     ensures moved { (cap : ℕ) (s : Session) (p q dir bytes : List ℕ) →
         get s.tree p ≡ Some (node.File bytes) → IsClosed s p → IsFreeIn s.tree q dir →
-        call cap s (op.Rename p q) ≡ answering (put_bytes (take_out s p) q bytes) answer.Okay }
+        call cap s (op.Rename p q) ≡ answering (move_file s p q bytes) answer.Okay }
     ensures replaces_nothing { (cap : ℕ) (s : Session) (bytes other : List ℕ) →
         get s.tree (codes "/a") ≡ Some (node.File bytes) → IsClosed s (codes "/a") →
         get s.tree root ≡ Some node.Dir → get s.tree (codes "/b") ≡ Some (node.File other) →
@@ -81,7 +81,7 @@ pub fn renames_files()
 pub fn copies_files()
     ensures copied { (cap : ℕ) (s : Session) (p q dir bytes : List ℕ) →
         get s.tree p ≡ Some (node.File bytes) → IsFreeIn s.tree q dir →
-        call cap s (op.Copy p q) ≡ answering (put_bytes s q bytes) answer.Okay }
+        call cap s (op.Copy p q) ≡ answering (add_file s q bytes) answer.Okay }
     ensures onto_itself { (cap : ℕ) (s : Session) (bytes : List ℕ) →
         get s.tree root ≡ Some node.Dir → get s.tree (codes "/a") ≡ Some (node.File bytes) →
         call cap s (op.Copy (codes "/a") (codes "/a")) ≡ unchanged s (answer.Refused word.Exists) }

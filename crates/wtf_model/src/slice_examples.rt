@@ -7,7 +7,7 @@ ghost use Rattle.wtf_model.specs.declared.answer.Word.TheVariants as word;
 ghost use Rattle.wtf_model.specs.declared.op.Op.TheVariants as op;
 ghost use Rattle.wtf_model.specs.Tree as node;
 ghost use Rattle.wtf_model.specs.Session.{Session, Handle};
-ghost use Rattle.wtf_model.specs.Done.{moved, put_bytes, put_slice};
+ghost use Rattle.wtf_model.specs.Done.{moved, set_bytes, add_file, put_slice};
 ghost use Rattle.wtf_model.specs.Call.{call};
 ghost use Rattle.wtf_model.specs.Examples.{HasOpen, IsFreeIn, answering, unchanged};
 
@@ -62,7 +62,7 @@ pub fn pastes_and_glues()
         HasOpen s f h (codes "abcdef") → h.off ≡ 2 → get s.slices label ≡ Some (codes "XY") →
         4 ≤ cap →
         call cap s (op.Paste f label) ≡
-        answering (moved (put_bytes s h.path (codes "abXYef")) f h 4) answer.Okay }
+        answering (moved (set_bytes s h.path (codes "abXYef")) f h 4) answer.Okay }
     ensures paste_nothing { (cap f label : ℕ) (s : Session) (h : Handle) →
         get s.handles f ≡ Some h → get s.slices label ≡ Some [] →
         call cap s (op.Paste f label) ≡ unchanged s answer.Okay }
@@ -77,7 +77,7 @@ pub fn pastes_and_glues()
     ensures glue { (cap f label : ℕ) (s : Session) (h : Handle) →
         HasOpen s f h (codes "m1m2t1") → get s.slices label ≡ Some (codes "m1") → 8 ≤ cap →
         call cap s (op.Glue f label) ≡
-        answering (put_bytes s h.path (codes "m1m2t1m1")) answer.Okay }
+        answering (set_bytes s h.path (codes "m1m2t1m1")) answer.Okay }
     ensures glue_unset { (cap f label : ℕ) (s : Session) (h : Handle) →
         get s.handles f ≡ Some h → get s.slices label ≡ None →
         call cap s (op.Glue f label) ≡ unchanged s (answer.Refused word.NoSlice) }
@@ -94,11 +94,11 @@ pub fn concatenations()
         get s.tree a ≡ Some (node.File (codes "m1m2")) →
         get s.tree b ≡ Some (node.File (codes "t1")) → 6 ≤ cap →
         call cap s (op.Concat q (a ∷ b ∷ [])) ≡
-        answering (put_bytes s q (codes "m1m2t1")) answer.Okay }
+        answering (add_file s q (codes "m1m2t1")) answer.Okay }
     ensures twice { (cap : ℕ) (s : Session) (q dir a : List ℕ) → IsFreeIn s.tree q dir →
         get s.tree a ≡ Some (node.File (codes "ab")) → 4 ≤ cap →
         call cap s (op.Concat q (a ∷ a ∷ [])) ≡
-        answering (put_bytes s q (codes "abab")) answer.Okay }
+        answering (add_file s q (codes "abab")) answer.Okay }
     ensures missing { (cap : ℕ) (s : Session) (q dir a b : List ℕ) → IsFreeIn s.tree q dir →
         get s.tree a ≡ Some (node.File (codes "ab")) → get s.tree b ≡ None →
         call cap s (op.Concat q (a ∷ b ∷ [])) ≡ unchanged s (answer.Refused word.NoEnt) }

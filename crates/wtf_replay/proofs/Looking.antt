@@ -15,7 +15,7 @@ use Rattle.wtf_occ.proofs.AttemptLaws.{GrowsBy-append, map_seen-by}
 use Rattle.wtf_model.specs.Session as model
 use Rattle.wtf_model.specs.Session.{Session}
 use Rattle.wtf_model.specs.Tree.{source, bytes_of, target, ◌>>=◌}
-use Rattle.wtf_model.specs.Done.{Done, done, is_on, is_closed, put_bytes, take_out}
+use Rattle.wtf_model.specs.Done.{Done, done, is_on, is_closed, take_out, move_file}
 use Rattle.wtf_model.specs.NameCalls.{unlink, rename}
 use Rattle.wtf_model.specs.Call.{row_of, or_refused}
 use Rattle.wtf_model.specs.declared.limits.TheConstants.{MAX_HANDLES, MAX_SLICES}
@@ -116,8 +116,8 @@ unlink_busy S p bytes file busy =
 rename_busy : (S : Session) (p q bytes : List ℕ) → source S.tree p ≡ Ok bytes → is_closed S p ≡ Err Busy → rename S p q ≡ Err Busy
 unfolding rename
 rename_busy S p q bytes file busy =
-    ap (λ r. r >>= (λ b. is_closed S p >>= (λ _. target S.tree q >>= (λ _. done (put_bytes (take_out S p) q b) answer.Okay)))) file
-    ∙ ap (λ r. r >>= (λ _. target S.tree q >>= (λ _. done (put_bytes (take_out S p) q bytes) answer.Okay))) busy
+    ap (λ r. r >>= (λ b. is_closed S p >>= (λ _. target S.tree q >>= (λ _. done (move_file S p q b) answer.Okay)))) file
+    ∙ ap (λ r. r >>= (λ _. target S.tree q >>= (λ _. done (move_file S p q bytes) answer.Okay))) busy
 
 -- a call that takes a file on which a handle is, is refused
 busy_row : (most : ℕ) (S : Session) (p bytes : List ℕ) (o : Op (List ℕ)) → Takes p o → source S.tree p ≡ Ok bytes → is_closed S p ≡ Err Busy → row_of most S o ≡ Err Busy

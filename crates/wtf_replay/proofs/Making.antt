@@ -19,7 +19,7 @@ use Rattle.wtf_model.specs.declared.op.Op.{Op}
 use Rattle.wtf_model.specs.declared.op.Op.TheVariants as op
 use Rattle.wtf_model.specs.Session.{Session, Handle}
 use Rattle.wtf_model.specs.Tree.{◌>>=◌}
-use Rattle.wtf_model.specs.Done.{Done, done, handle_at, fits, moved, put_bytes, bytes_of_handle}
+use Rattle.wtf_model.specs.Done.{Done, done, handle_at, fits, moved, set_bytes, bytes_of_handle}
 use Rattle.wtf_model.specs.ByteCalls.{write, append, written}
 use Rattle.wtf_model.specs.Call.{call, or_refused}
 use Rattle.wtf_values.specs.declared.key.Key.{Key}
@@ -123,12 +123,12 @@ write_refused : (cap : ℕ) (S : Session) (f : ℕ) (bytes : List ℕ) → IsRef
 unfolding write
 write_refused cap S f [] h = after_handle S (handle_at S f) (λ g. S) (λ g. Ok tt) h
 write_refused cap S f (b ∷ bs) h =
-    after_handle S (handle_at S f) (λ g. moved (put_bytes S g.path (written (bytes_of_handle S g) g.off (b ∷ bs))) f g (g.off + length (b ∷ bs))) (λ g. fits cap (g.off + length (b ∷ bs))) h
+    after_handle S (handle_at S f) (λ g. moved (set_bytes S g.path (written (bytes_of_handle S g) g.off (b ∷ bs))) f g (g.off + length (b ∷ bs))) (λ g. fits cap (g.off + length (b ∷ bs))) h
 
 append_refused : (cap : ℕ) (S : Session) (f : ℕ) (bytes : List ℕ) → IsRefusal (call cap S (op.Append f bytes)).answer → (call cap S (op.Append f bytes)).session ≡ S
 unfolding append
 append_refused cap S f bytes h =
-    after_handle S (handle_at S f) (λ g. put_bytes S g.path (bytes_of_handle S g ++ bytes)) (λ g. fits cap (length (bytes_of_handle S g) + length bytes)) h
+    after_handle S (handle_at S f) (λ g. set_bytes S g.path (bytes_of_handle S g ++ bytes)) (λ g. fits cap (length (bytes_of_handle S g) + length bytes)) h
 
 refused_stays : (cap : ℕ) (S : Session) (r : RwOp) (bytes : List ℕ) → Lacks r → IsRefusal (call cap S (op_of r bytes)).answer → (call cap S (op_of r bytes)).session ≡ S
 refused_stays cap S (rw.Write f d) bytes lacks h = write_refused cap S f bytes h

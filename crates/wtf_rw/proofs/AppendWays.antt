@@ -17,8 +17,7 @@ use Rattle.wtf_model.specs.Done.{Done, bytes_of_handle}
 use Rattle.wtf_model.specs.declared.limits.TheConstants.{MAX_REGIONS}
 use Rattle.wtf_meta.proofs.BodyReads.{body_appended, body_full}
 use Rattle.wtf_steps.proofs.FitsAnywhere.{fits_anywhere}
-use Rattle.wtf_rw.proofs.ModelCalls.{append-none}
-use Rattle.wtf_steps.proofs.ModelCalls.{append-open, append-big}
+use Rattle.wtf_model.proofs.ByteLaws.{append-none, append-open, append-big}
 use Rattle.wtf_values.specs.declared.key.Key.{Key}
 use Rattle.wtf_values.specs.declared.value.Delta.{Delta}
 use Rattle.wtf_meta.specs.declared.session.Handle.{Handle}

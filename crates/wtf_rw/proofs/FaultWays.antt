@@ -29,7 +29,7 @@ use Rattle.wtf_region.specs.Showing.{IsShowFault, pieces_in}
 use Rattle.wtf_steps.specs.Faults.{MayStandFor, MayFault}
 use Rattle.wtf_steps.specs.Recorded.{found_in}
 use Rattle.wtf_rw.specs.Stored.{HasRoom}
-use Rattle.wtf_steps.proofs.ModelCalls.{write-open, append-open}
+use Rattle.wtf_model.proofs.ByteLaws.{write-open, append-open}
 use Rattle.wtf_steps.proofs.Ways.{on_file}
 use Rattle.wtf_steps.proofs.FileWays.{file_len_cap}
 pub use Rattle.wtf_steps.proofs.FaultWays.{pieces_in-All, All-middle, some_byte, servers_known, lacks_known}

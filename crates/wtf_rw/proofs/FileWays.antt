@@ -17,8 +17,7 @@ use Rattle.wtf_meta.proofs.BodyEdits.{body_resized, body_zeroed}
 use Rattle.wtf_rw.specs.Sizes.{CutsTo, Zeroes}
 use Rattle.wtf_rw.specs.Stored.{Answers}
 use Rattle.wtf_steps.proofs.FitsAnywhere.{fits_anywhere}
-use Rattle.wtf_rw.proofs.ModelCalls.{truncate-open, truncate-big, punch-open, write-none}
-use Rattle.wtf_steps.proofs.ModelCalls.{write-open, write-nothing, write-big}
+use Rattle.wtf_model.proofs.ByteLaws.{truncate-open, truncate-big, punch-open, write-none, write-open, write-nothing, write-big}
 use Rattle.wtf_steps.proofs.Ways.{only_keys, on_file, not_open, stays}
 use Rattle.wtf_steps.proofs.FileWays.{rewritten}
 pub use Rattle.wtf_steps.proofs.FileWays.{file_len_cap}

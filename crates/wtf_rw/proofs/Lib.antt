@@ -1,4 +1,3 @@
-pub mod ModelCalls
 pub mod Ways
 pub mod FileWays
 mod SizeEdits

@@ -37,7 +37,7 @@ use Rattle.wtf_steps.specs.Recorded.{len_keys}
 use Rattle.wtf_rw.specs.Recorded.{place_keys}
 use Rattle.wtf_rw.specs.Seeks.{lands}
 use Rattle.wtf_steps.proofs.Ways.{only_keys, OnFile, on_file, not_open, stays}
-use Rattle.wtf_rw.proofs.ModelCalls.{close-open, tell-open, seek-open, sought, stat-at}
+use Rattle.wtf_model.proofs.ByteLaws.{close-open, tell-open, seek-open, sought, stat-at}
 
 -- what the definitions' call leaves, where it changes handles alone
 pub record Turned (x : Caller) (told : Told) (w : Map) (t : SessionView) (S : Session) (o : Op (List ℕ)) (a : Answer) : Type 0 where

@@ -1,6 +1,5 @@
 pub mod ScriptLaws
 pub mod Passing
-pub mod Accepting
 pub mod LineLaws
 pub mod Keeping
 pub mod Rising

@@ -13,7 +13,7 @@ use Rattle.wtf_model.specs.Machines.{Machine}
 use Rattle.wtf_model.specs.Servers.{down_after_event}
 use Rattle.wtf_model.specs.Steps.{after}
 use Rattle.wtf_core.specs.Views.{CoreView}
-use Rattle.wtf_core.specs.Built.{is_built}
+use Rattle.wtf_model.specs.Built.{is_built}
 use Rattle.wtf_core.specs.Standing.{StandsFor}
 use Rattle.wtf_core.specs.Answers.{IsEvent}
 use Rattle.wtf_serve.specs.Answering.{IsBad}

@@ -13,12 +13,12 @@ use Rattle.wtf_model.specs.declared.answer.Answer.{Answer}
 use Rattle.wtf_model.specs.declared.answer.Answer.TheVariants as answer
 use Rattle.wtf_model.specs.Machines.{Machine}
 use Rattle.wtf_model.specs.Tree.{Tree}
-use Rattle.wtf_model.specs.Lines.{Line, AlongBy, after_line, Along, machine_after}
+use Rattle.wtf_model.specs.Lines.{Line, MayLine, AlongBy, after_line, Along, machine_after}
 use Rattle.wtf_model.specs.Servers.{none_down, down_after, downs_after, AlongDowns, is_device_fault, is_device_fault_of_run, count_along}
-use Rattle.wtf_model.proofs.LineLaws.{state_after-push, AlongBy-lengths, AlongBy-push, count_by-none, count_by-push}
+use Rattle.wtf_model.proofs.LineLaws.{state_after-push, AlongBy-lengths, AlongBy-push, count_by-none, count_by-push, Accepts-from_lines}
 use Rattle.wtf_serve.specs.Scripts.{line_of}
 use Rattle.wtf_core.specs.Outcomes.{AddsBytes, HasCause}
-use Rattle.wtf_serve.specs.Answering.{MayLine, IsNotBuiltExactly, line_data}
+use Rattle.wtf_serve.specs.Answering.{IsNotBuiltExactly, line_data}
 use Rattle.wtf_serve.specs.Engines.{Engine, Step, span_of, IsSaveFailure, IsLawful, IsAnswer}
 use Rattle.wtf_serve.specs.Logs.{Log, asked, last, last_downs, IsServed, is_write_fault, write_fault_count, if_okay, written_bytes}
 use Rattle.wtf_serve.specs.Openings.{Opening, StartsFrom, first}
@@ -29,7 +29,6 @@ use Rattle.wtf_replica.proofs.Spans.{EachKept, same_lengths-stored}
 use Rattle.wtf_dev.proofs.Each.{each_same, each_on}
 use Rattle.wtf_replica.proofs.Spans.{each_kept}
 use Rattle.wtf_dev.proofs.Sums.{all_faults-grows, tells_all-kept}
-use Rattle.wtf_serve.proofs.Accepting.{accepts_lines}
 use Rattle.wtf_serve.proofs.Rising.{one, raises, raises_of_run}
 
 -- the lines so far, and one more
@@ -130,7 +129,7 @@ pub ran_none : {S : Type 0} (kind : StoreKind S) → KindLaws kind → (opening 
 ran_none kind laws opening old new same grew =
     let faults : all_faults kind new.shelf ≡ all_faults kind old.shelf = ap (all_faults kind) same in
     record {
-      accepts = λ tells t from. accepts_lines (first opening t) [] [] (along_none after_line MayLine (first opening t));
+      accepts = λ tells t from. Accepts-from_lines (first opening t) [] [] (along_none after_line MayLine (first opening t));
       accepted = λ tells t from. along_none after_line MayLine (first opening t);
       exact = along_none down_after (λ down e a. IsNotBuiltExactly e a) none_down;
       served = All-nil IsServed;
@@ -210,7 +209,7 @@ module _ {S State : Type 0} (engine : Engine S State) (laws : KindLaws engine.ki
       → Along MayLine (first opening tree) (asked (longer log line a)) (log.answers ++ a ∷ [])
       = λ tells tree from. along MayLine (first opening tree) (ran.accepted tells tree from) (lawful_more tells tree from).may in
       record {
-        accepts = λ tells tree from. accepts_lines (first opening tree) (asked (longer log line a)) (log.answers ++ a ∷ []) (accepted tells tree from);
+        accepts = λ tells tree from. Accepts-from_lines (first opening tree) (asked (longer log line a)) (log.answers ++ a ∷ []) (accepted tells tree from);
         accepted = accepted;
         exact = subst (λ (x : List Line). AlongDowns (λ down e b. IsNotBuiltExactly e b) none_down x (log.answers ++ a ∷ [])) (sym (asked-longer log line a))
             (AlongBy-push down_after (λ down e b. IsNotBuiltExactly e b) none_down (asked log) log.answers (line_of line) a ran.exact is.goes_on.exact);

@@ -14,7 +14,8 @@ use Rattle.wtf_model.specs.declared.answer.Answer.{Answer}
 use Rattle.wtf_model.specs.declared.answer.Answer.TheVariants as answer
 use Rattle.wtf_model.specs.Tree.{Tree}
 use Rattle.wtf_model.specs.Machines.{Machine}
-use Rattle.wtf_model.specs.Lines.{after_line, events_of, answers_to}
+use Rattle.wtf_model.specs.Steps.{Accepts}
+use Rattle.wtf_model.specs.Lines.{MayLine, after_line, events_of, answers_to}
 use Rattle.wtf_model.specs.Servers.{none_down, AlongDowns, is_device_fault, is_device_fault_of_run, count_along, IsAllUp}
 use Rattle.wtf_meta.specs.Contents.{Told}
 use Rattle.wtf_image.specs.Rules.{size_in}
@@ -23,7 +24,6 @@ use Rattle.wtf_script.specs.declared.limits.TheConstants.{SCRIPT_BYTES}
 use Rattle.wtf_script.specs.ScriptLines.{lines_of}
 use Rattle.wtf_serve.specs.declared.service.Stop.{Stop}
 use Rattle.wtf_serve.specs.declared.service.Stop.TheVariants as stop
-use Rattle.wtf_serve.specs.Answering.{MayLine, Accepts}
 use Rattle.wtf_serve.specs.Scripts.{line_of, has_bad, IsEndStatus, IsWholeStatus, end_status}
 use Rattle.wtf_serve.specs.Openings.{Opening, IsTakenOver, StartsFrom, first}
 use Rattle.wtf_serve.specs.Logs.{Log, asked, last, last_downs, output, fault_count}

@@ -11,10 +11,10 @@ use Rattle.wtf_model.specs.declared.answer.Answer.TheVariants as answer
 use Rattle.wtf_model.specs.declared.event.Event.{Event}
 use Rattle.wtf_model.specs.declared.event.Event.TheVariants as event
 use Rattle.wtf_model.specs.Machines.{Machine}
-use Rattle.wtf_model.specs.Lines.{Line, after_line}
+use Rattle.wtf_model.specs.Lines.{Line, MayLine, after_line}
 use Rattle.wtf_model.specs.Servers.{down_after}
 use Rattle.wtf_core.specs.Outcomes.{AddsBytes, SaveFault, HasCause}
-use Rattle.wtf_serve.specs.Answering.{MayLine, IsNotBuiltExactly, line_data}
+use Rattle.wtf_serve.specs.Answering.{IsNotBuiltExactly, line_data}
 use Rattle.wtf_serve.specs.Stocks.{Stock, IsSaveFault, HoldsOneOf, HoldsSome}
 
 -- What a run is given of the state that answers its lines: the kind of its stores; the settings, which servers are down,

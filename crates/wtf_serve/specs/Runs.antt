@@ -6,9 +6,10 @@ use Rattle.wtf_dev.specs.Each.{EachFollows}
 use Rattle.wtf_dev.specs.Sums.{TellsAll, all_stored}
 use Rattle.wtf_replica.specs.Bytes.{byte_at}
 use Rattle.wtf_model.specs.Tree.{Tree}
-use Rattle.wtf_model.specs.Lines.{Along, events_of, answers_to}
+use Rattle.wtf_model.specs.Steps.{Accepts}
+use Rattle.wtf_model.specs.Lines.{MayLine, Along, events_of, answers_to}
 use Rattle.wtf_model.specs.Servers.{none_down, AlongDowns, is_device_fault, is_device_fault_of_run, count_along}
-use Rattle.wtf_serve.specs.Answering.{MayLine, Accepts, IsNotBuiltExactly}
+use Rattle.wtf_serve.specs.Answering.{IsNotBuiltExactly}
 use Rattle.wtf_serve.specs.Openings.{Opening, StartsFrom, first}
 use Rattle.wtf_serve.specs.Logs.{Log, asked, IsServed, write_fault_count, written_bytes}
 use Rattle.wtf_serve.specs.Stocks.{Stock, RoseBy}

@@ -15,7 +15,7 @@ use Rattle.wtf_model.specs.declared.limits.TheConstants.{MAX_REGIONS}
 use Rattle.wtf_model.specs.declared.op.Op.TheVariants as op
 use Rattle.wtf_model.specs.Tree.{sources}
 use Rattle.wtf_model.specs.Session.{Session}
-use Rattle.wtf_model.specs.Done.{Done, put_bytes}
+use Rattle.wtf_model.specs.Done.{Done, add_file}
 use Rattle.wtf_model.specs.Call.{call}
 use Rattle.wtf_values.specs.declared.key.Key.{Key}
 use Rattle.wtf_values.specs.declared.value.Delta.{Delta}
@@ -46,7 +46,7 @@ use Rattle.wtf_slicing.specs.Sources.{sources_of, lens_of, ArePlans}
 use Rattle.wtf_slicing.specs.Steps.{IsNewFor}
 use Rattle.wtf_slicing.proofs.CopyWays.{makes}
 use Rattle.wtf_slicing.proofs.Filling.{ChangesFile}
-use Rattle.wtf_slicing.proofs.ModelCalls.{concat-by, concat-fits, concat-big}
+use Rattle.wtf_model.proofs.SliceLaws.{concat-by, concat-fits, concat-big}
 use Rattle.wtf_slicing.proofs.FileLists.{Found, sources-agree, sources-refused, sources-found, lens_agree, plans_tell, plans_named}
 use Rattle.wtf_slicing.proofs.MakeWays.{made, made_body, made_bytes, filled_done}
 
@@ -144,7 +144,7 @@ module _ (x : Caller) (b : Map) (s : SessionView) (q : List ℕ) (ps : List (Lis
                 let body = body_filled x.size told new ds one (pieces_len out) (pieces_origin out) bytes laid.lays tell (made_body x told w s S st holds q dir new own path at.open_q) in
                 let told_bytes = with_bytes (is_told told) refl rest one (made_bytes x told w s S st holds q dir new own path at.open_q) (laid.names (is_told told) (told_pieces told out bytes tell)) in
                 let done = filled_done x told w s S st holds q dir new own path at.open_q full bytes (edits_change new ds one) body told_bytes in
-                let due : call (cap_for x) S (op.Concat q ps) ≡ record { session = put_bytes S q bytes; answer = answer.Okay } =
+                let due : call (cap_for x) S (op.Concat q ps) ≡ record { session = add_file S q bytes; answer = answer.Okay } =
                 concat-fits (cap_for x) S q ps bytes (target-free x.size told x.tx x.calls w S.tree st q dir at.open_q) at.found.sources_are (omega (arith, fit, at.len)) in
                 subst (λ (m : Map). IsDone x told w m s (call (cap_for x) S (op.Concat q ps)) answer.Okay) (sym (with-append edits rest w))
                 (subst (λ (d : Done). IsDone x told w full s d answer.Okay) (sym due) done);

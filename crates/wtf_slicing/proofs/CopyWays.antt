@@ -11,7 +11,7 @@ use Rattle.wtf_model.specs.declared.answer.Answer.TheVariants as answer
 use Rattle.wtf_model.specs.declared.op.Op.{Op}
 use Rattle.wtf_model.specs.declared.op.Op.TheVariants as op
 use Rattle.wtf_model.specs.Tree.{target, bytes_of}
-use Rattle.wtf_model.specs.Done.{Done, put_bytes}
+use Rattle.wtf_model.specs.Done.{Done, add_file}
 use Rattle.wtf_model.specs.Call.{call}
 use Rattle.wtf_values.specs.declared.key.Key.{Key}
 use Rattle.wtf_values.specs.declared.value.Delta.{Delta}
@@ -39,7 +39,7 @@ use Rattle.wtf_steps.proofs.Ways.{only_keys, stays}
 use Rattle.wtf_slicing.specs.Copies.{regions_of, fill_edits}
 use Rattle.wtf_slicing.specs.Recorded.{whole_keys, file_keys, copied_keys, copy_keys}
 use Rattle.wtf_slicing.specs.Steps.{IsNewFor}
-use Rattle.wtf_slicing.proofs.ModelCalls.{copy-by}
+use Rattle.wtf_model.proofs.SliceLaws.{copy-by}
 use Rattle.wtf_slicing.proofs.FileLists.{whole_last, whole_region}
 use Rattle.wtf_slicing.proofs.Regions.{fill_fits, fill_named, fill_changes, fill_body}
 use Rattle.wtf_slicing.proofs.MakeWays.{made, made_regions, made_bytes, filled_done}
@@ -106,7 +106,7 @@ module _ (x : Caller) (b : Map) (s : SessionView) (p q : List ℕ) where
             let body = fill_body x.size told new i v one w file.bytes (made_regions x told w s S st holds q dir new own path open_q) last region file.body in
             let told_bytes = with_bytes (is_told told) refl rest one (made_bytes x told w s S st holds q dir new own path open_q) (fill_named (is_told told) new i v w st.bytes region) in
             let done = filled_done x told w s S st holds q dir new own path open_q full file.bytes (fill_changes new v.last (regions_of v) one) body told_bytes in
-            let due : call (cap_for x) S (op.Copy p q) ≡ record { session = put_bytes S q file.bytes; answer = answer.Okay } =
+            let due : call (cap_for x) S (op.Copy p q) ≡ record { session = add_file S q file.bytes; answer = answer.Okay } =
             copy-by (cap_for x) S p q (Ok file.bytes) (Ok tt) (ap bytes_of file.there) (target-free x.size told x.tx x.calls w S.tree st q dir open_q) in
             subst (λ (m : Map). IsDone x told w m s (call (cap_for x) S (op.Copy p q)) answer.Okay) (sym (with-append edits rest w))
             (subst (λ (d : Done). IsDone x told w full s d answer.Okay) (sym due) done);

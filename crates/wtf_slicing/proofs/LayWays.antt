@@ -27,10 +27,10 @@ use Rattle.wtf_region.specs.declared.added.Added.TheVariants as added
 use Rattle.wtf_region.specs.Edited.{LaysPieces, AddsPieces, IsAdded}
 use Rattle.wtf_steps.specs.Steps.{in_hand, IsStepWith, NeedsNoBytes, answer_of}
 use Rattle.wtf_steps.proofs.FitsAnywhere.{fits_anywhere}
-use Rattle.wtf_steps.proofs.ModelCalls.{write-nothing, write-big}
+use Rattle.wtf_model.proofs.ByteLaws.{write-nothing, write-big}
 use Rattle.wtf_steps.proofs.Ways.{only_keys, on_file, stays}
 use Rattle.wtf_steps.proofs.FileWays.{writes, appends, appends_too_much}
-use Rattle.wtf_slicing.proofs.ModelCalls.{paste-unset, paste-write, glue-unset, glue-append}
+use Rattle.wtf_model.proofs.SliceLaws.{paste-unset, paste-write, glue-unset, glue-append}
 use Rattle.wtf_slicing.proofs.Slices.{slice_of, no_slice_of}
 
 -- keys, and changes that lay pieces that were in hand

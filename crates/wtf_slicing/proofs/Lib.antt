@@ -1,4 +1,3 @@
-mod ModelCalls
 mod Slices
 mod SliceWays
 mod PeekWays

@@ -6,7 +6,7 @@ use Rattle.wtf_path.specs.Grammar.{IsPath}
 use Rattle.wtf_model.specs.declared.answer.Answer.TheVariants as answer
 use Rattle.wtf_model.specs.Tree.{Tree, File}
 use Rattle.wtf_model.specs.Session.{Session}
-use Rattle.wtf_model.specs.Done.{put_bytes}
+use Rattle.wtf_model.specs.Done.{add_file}
 use Rattle.wtf_model.proofs.Laws.{get-node_same, insert-node_over}
 use Rattle.wtf_values.specs.declared.key.Key.TheVariants.{Path, Region}
 use Rattle.wtf_values.specs.declared.value.Node.TheVariants.{File as FileNode}
@@ -33,10 +33,10 @@ module _ (x : Caller) (told : Told) (w : Map) (s : SessionView) (S : Session) (s
   abbrev pub made : Map
   made = with (create_edits dir q new) w
 
-  made_done : IsDone x told w made s (record { session = put_bytes S q []; answer = answer.Okay }) answer.Okay
+  made_done : IsDone x told w made s (record { session = add_file S q []; answer = answer.Okay }) answer.Okay
   made_done =
       let at = target-open x.size told x.tx x.calls w S.tree st q dir open_q in
-      subst (λ (d : List ℕ). IsDone x told w (with (create_edits d q new) w) s (record { session = put_bytes S q []; answer = answer.Okay }) answer.Okay) at.same
+      subst (λ (d : List ℕ). IsDone x told w (with (create_edits d q new) w) s (record { session = add_file S q []; answer = answer.Okay }) answer.Okay) at.same
       (done-create x told w s S st holds q new own.tx own.index path at.free)
 
   made_leads : LeadsTo made q new
@@ -58,7 +58,7 @@ module _ (x : Caller) (told : Told) (w : Map) (s : SessionView) (S : Session) (s
 
   -- once the file gets its bytes
   pub filled_done : (full : Map) (bytes : List ℕ) → ChangesFile new made full → IsBody x.size told full new bytes → MapBytes (is_told told) full
-      → IsDone x told w full s (record { session = put_bytes S q bytes; answer = answer.Okay }) answer.Okay
+      → IsDone x told w full s (record { session = add_file S q bytes; answer = answer.Okay }) answer.Okay
   filled_done full bytes changes body told_bytes =
       let first : Tree = insert S.tree q (File []) in
       let tree : Tree = insert S.tree q (File bytes) in
@@ -66,6 +66,6 @@ module _ (x : Caller) (told : Told) (w : Map) (s : SessionView) (S : Session) (s
         answer = refl;
         stands = subst (λ (t : Tree). Stands x.size told x.tx (x.calls + 1) full t) (insert-node_over S.tree q (File []) (File bytes))
             (stands_filled x.size told x.tx (x.calls + 1) made first made_done.stands q new made_leads full changes bytes body told_bytes);
-        holds = Holds-on told made full s (put_bytes S q []) tree (λ f h there leads. changes.paths h.path ∙ leads) made_done.holds;
+        holds = Holds-on told made full s (add_file S q []) tree (λ f h there leads. changes.paths h.path ∙ leads) made_done.holds;
         own = λ j other none. none_stays x.size told x.tx (x.calls + 1) made first made_done.stands q new made_leads full changes j (one_inode new j) (made_done.own j other none);
       }

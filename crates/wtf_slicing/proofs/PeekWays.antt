@@ -28,7 +28,7 @@ use Rattle.wtf_region.specs.Showing.{Shown, IsShowFault, pieces_in}
 use Rattle.wtf_region.proofs.ShowLaws.{told_stays, ShowsBytes-tell}
 use Rattle.wtf_steps.specs.Faults.{MayFault}
 use Rattle.wtf_steps.proofs.FaultWays.{some_byte, lacks_known}
-use Rattle.wtf_slicing.proofs.ModelCalls.{peek-part}
+use Rattle.wtf_model.proofs.SliceLaws.{peek-part}
 use Rattle.wtf_slicing.proofs.Slices.{slice_of}
 
 -- the bytes of a part that was shown are told, where those of the slice were

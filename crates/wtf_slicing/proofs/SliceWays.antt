@@ -35,7 +35,7 @@ use Rattle.wtf_steps.proofs.Ways.{only_keys, on_file, stays, step_of}
 use Rattle.wtf_steps.proofs.FileWays.{file_len_cap}
 use Rattle.wtf_steps.proofs.ReadWays.{shows}
 use Rattle.wtf_slicing.specs.Shown.{TellsSlices}
-use Rattle.wtf_slicing.proofs.ModelCalls.{yank-open, peek-past, peek-part, cut-past, cut-part}
+use Rattle.wtf_model.proofs.SliceLaws.{yank-open, peek-past, peek-part, cut-past, cut-part}
 use Rattle.wtf_slicing.proofs.Slices.{slice_of, no_slice_of, bytes_set, bytes_moved}
 
 module _ (x : Caller) (b : Map) (s : SessionView) where

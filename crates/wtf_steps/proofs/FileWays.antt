@@ -12,7 +12,7 @@ use Rattle.wtf_model.specs.declared.op.Op.TheVariants as op
 use Rattle.wtf_model.specs.ByteCalls.{written}
 use Rattle.wtf_model.specs.Tree.{File}
 use Rattle.wtf_model.specs.Session.{Session}
-use Rattle.wtf_model.specs.Done.{Done, bytes_of_handle, moved, put_bytes}
+use Rattle.wtf_model.specs.Done.{Done, bytes_of_handle, moved, set_bytes}
 use Rattle.wtf_values.specs.declared.key.Key.{Key}
 use Rattle.wtf_meta.specs.declared.session.Handle.{Handle}
 use Rattle.wtf_meta.specs.Maps.{Map, with}
@@ -34,7 +34,7 @@ use Rattle.wtf_meta.proofs.Rewriting.{stands-rewritten, own-rewritten, leads-rew
 use Rattle.wtf_meta.proofs.Telling.{told_pieces}
 use Rattle.wtf_region.specs.Edited.{LaysPieces, AddsPieces}
 use Rattle.wtf_steps.proofs.FitsAnywhere.{fits_anywhere}
-use Rattle.wtf_steps.proofs.ModelCalls.{append-open, append-big, write-open}
+use Rattle.wtf_model.proofs.ByteLaws.{append-open, append-big, write-open}
 use Rattle.wtf_steps.proofs.Ways.{only_keys, OnFile, on_file, stays}
 
 -- keys, and changes of a file that bring the bytes of pieces
@@ -54,7 +54,7 @@ module _ (x : Caller) (told : Told) (w : Map) (s : SessionView) (S : Session) (s
   new = with (edits_of h.inode ds) w
 
   abbrev due : Session
-  due = put_bytes S on.handle.path bytes
+  due = set_bytes S on.handle.path bytes
 
   stands_due : IsBody x.size told new h.inode bytes → EditsBytes (is_told told) (edits_of h.inode ds) → Stands x.size told x.tx (x.calls + 1) new due.tree
   stands_due body told_edits =

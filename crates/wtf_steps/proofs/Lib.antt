@@ -1,5 +1,4 @@
 pub mod FitsAnywhere
-pub mod ModelCalls
 pub mod Ways
 pub mod FileWays
 pub mod AppendWays

@@ -24,7 +24,7 @@ use Rattle.wtf_region.specs.declared.added.Added.TheVariants as added
 use Rattle.wtf_region.specs.Edited.{IsFileEnd, Recorded, LacksRoom, IsAdded}
 use Rattle.wtf_steps.specs.Steps.{in_hand}
 use Rattle.wtf_rw.specs.Stored.{HasRoom, ArePieces, end_place}
-use Rattle.wtf_rw.proofs.ModelCalls.{append-none}
+use Rattle.wtf_model.proofs.ByteLaws.{append-none}
 use Rattle.wtf_steps.proofs.Ways.{no_handle, spot_open, spot_closed}
 use Rattle.wtf_rw.proofs.StoredBytes.{tell_stored, step_only}
 use Rattle.wtf_rw.proofs.AppendWays.{step_added, adds, adds_nothing, nothing_told, adds_full, full_keys, added_in_room}

@@ -18,7 +18,7 @@ use Rattle.wtf_region.specs.Edited.{IsAdded}
 use Rattle.wtf_steps.specs.Steps.{in_hand, answer_of}
 use Rattle.wtf_steps.specs.Recorded.{append_keys}
 use Rattle.wtf_rw.specs.Stored.{Answers}
-use Rattle.wtf_rw.proofs.ModelCalls.{append-none}
+use Rattle.wtf_model.proofs.ByteLaws.{append-none}
 use Rattle.wtf_steps.proofs.Ways.{no_handle, spot_open, spot_closed}
 use Rattle.wtf_rw.proofs.StoredBytes.{step_stored}
 use Rattle.wtf_rw.proofs.AppendWays.{adds, adds_nothing, rewound, hole_tells, adds_answer, nothing_answer, closed_answer, step_brought, step_nothing}

@@ -5,7 +5,7 @@ use Rattle.wtf_model.specs.declared.answer.Word.TheVariants.{NoHandle}
 use Rattle.wtf_model.specs.declared.op.Op.TheVariants as op
 use Rattle.wtf_meta.specs.Sessions.{SessionView, handle_in}
 use Rattle.wtf_meta.specs.Calls.{cap_for, IsCall}
-use Rattle.wtf_rw.proofs.ModelCalls.{tell-none}
+use Rattle.wtf_model.proofs.ByteLaws.{tell-none}
 use Rattle.wtf_steps.proofs.Ways.{only_keys, no_handle, step_of, spot_open, spot_closed}
 use Rattle.wtf_rw.proofs.Ways.{tells}
 use Rattle.wtf_rw.proofs.handles.tell.Goals as goal

@@ -27,7 +27,7 @@ use Rattle.wtf_region.proofs.ShowLaws.{readable_stays}
 use Rattle.wtf_region.proofs.Spans.{goes_on}
 use Rattle.wtf_steps.specs.Recorded.{found_in, len_keys}
 use Rattle.wtf_index.proofs.Going.{keys_more}
-use Rattle.wtf_rw.proofs.ModelCalls.{read-none}
+use Rattle.wtf_model.proofs.ByteLaws.{read-none}
 use Rattle.wtf_steps.proofs.Ways.{only_keys, no_handle, spot_open, spot_closed}
 use Rattle.wtf_rw.proofs.FaultWays.{read_due}
 use Rattle.wtf_steps.proofs.ReadWays.{shows, same_touched, found_due, plans_due}

@@ -18,7 +18,7 @@ use Rattle.wtf_meta.specs.Calls.{Caller, cap_for, IsCall}
 use Rattle.wtf_steps.specs.Steps.{in_hand}
 use Rattle.wtf_rw.specs.Recorded.{place_keys}
 use Rattle.wtf_rw.specs.Seeks.{lands, IsSought}
-use Rattle.wtf_rw.proofs.ModelCalls.{seek-none}
+use Rattle.wtf_model.proofs.ByteLaws.{seek-none}
 use Rattle.wtf_steps.proofs.Ways.{only_keys, no_handle, step_of, spot_open, spot_closed}
 use Rattle.wtf_rw.proofs.Ways.{seeks, seeks_nowhere}
 use Rattle.wtf_rw.proofs.seeks.seek.Goals as goal

@@ -9,7 +9,7 @@ use Rattle.wtf_meta.specs.Calls.{cap_for}
 use Rattle.wtf_region.specs.Edited.{Edited}
 use Rattle.wtf_steps.specs.Steps.{in_hand}
 use Rattle.wtf_rw.specs.Sizes.{Zeroes}
-use Rattle.wtf_rw.proofs.ModelCalls.{punch-none}
+use Rattle.wtf_model.proofs.ByteLaws.{punch-none}
 use Rattle.wtf_steps.proofs.Ways.{no_handle, step_of, spot_open, spot_closed}
 use Rattle.wtf_rw.proofs.FileWays.{changes, punches}
 use Rattle.wtf_rw.proofs.sizes.punch.Goals as goal

@@ -11,7 +11,7 @@ use Rattle.wtf_meta.specs.Sessions.{handle_in, SetsHandle, moved_to}
 use Rattle.wtf_meta.specs.Calls.{cap_for}
 use Rattle.wtf_region.specs.Edited.{Edited, LaysPieces}
 use Rattle.wtf_steps.specs.Steps.{in_hand}
-use Rattle.wtf_rw.proofs.ModelCalls.{write-none}
+use Rattle.wtf_model.proofs.ByteLaws.{write-none}
 use Rattle.wtf_steps.proofs.Ways.{no_handle, spot_open, spot_closed}
 use Rattle.wtf_steps.proofs.FileWays.{brings, writes}
 use Rattle.wtf_rw.proofs.FileWays.{writes_nothing, writes_too_far, answers_closed, answers_nothing, answers_too_far, answers_written}

@@ -5,7 +5,7 @@ use Rattle.wtf_model.specs.declared.answer.Word.TheVariants.{NoSlice, Range}
 use Rattle.wtf_model.specs.declared.op.Op.TheVariants as op
 use Rattle.wtf_meta.specs.Sessions.{slice_in}
 use Rattle.wtf_meta.specs.Calls.{cap_for}
-use Rattle.wtf_slicing.proofs.ModelCalls.{cut-none}
+use Rattle.wtf_model.proofs.SliceLaws.{cut-none}
 use Rattle.wtf_slicing.proofs.SliceWays.{no_slice, cuts_past, cuts, step_plain}
 use Rattle.wtf_slicing.proofs.cutting.cut.Goals as goal
 

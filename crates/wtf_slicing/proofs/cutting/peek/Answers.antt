@@ -18,7 +18,7 @@ use Rattle.wtf_region.proofs.InsideLaws.{readable_from}
 use Rattle.wtf_region.proofs.Spans.{goes_nowhere}
 use Rattle.wtf_steps.proofs.ReadWays.{shows}
 use Rattle.wtf_slicing.specs.Shown.{LacksSlice}
-use Rattle.wtf_slicing.proofs.ModelCalls.{peek-none}
+use Rattle.wtf_model.proofs.SliceLaws.{peek-none}
 use Rattle.wtf_slicing.proofs.SliceWays.{no_slice, peeks_past, peeks, step_told}
 use Rattle.wtf_slicing.proofs.PeekWays.{part_tells, peek_due}
 use Rattle.wtf_slicing.proofs.cutting.peek.Goals as goal

@@ -17,7 +17,7 @@ use Rattle.wtf_steps.specs.Steps.{in_hand, IsStepWith, NeedsNoBytes}
 use Rattle.wtf_steps.proofs.AppendWays.{added_keys, keys_due}
 use Rattle.wtf_steps.proofs.Ways.{no_handle, step_of, spot_open, spot_closed}
 use Rattle.wtf_slicing.specs.Recorded.{glue_keys}
-use Rattle.wtf_slicing.proofs.ModelCalls.{glue-none}
+use Rattle.wtf_model.proofs.SliceLaws.{glue-none}
 use Rattle.wtf_slicing.proofs.LayWays.{glues_unset, step_glued}
 use Rattle.wtf_slicing.proofs.laying.glue.Goals as goal
 

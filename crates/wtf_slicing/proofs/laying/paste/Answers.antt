@@ -13,7 +13,7 @@ use Rattle.wtf_meta.specs.Calls.{cap_for}
 use Rattle.wtf_region.specs.Edited.{Edited, LaysPieces}
 use Rattle.wtf_steps.specs.Steps.{in_hand}
 use Rattle.wtf_steps.proofs.Ways.{no_handle, step_of, spot_open, spot_closed}
-use Rattle.wtf_slicing.proofs.ModelCalls.{paste-none}
+use Rattle.wtf_model.proofs.SliceLaws.{paste-none}
 use Rattle.wtf_slicing.proofs.LayWays.{lays, pastes_unset, pastes_nothing, pastes_too_far, pastes}
 use Rattle.wtf_slicing.proofs.laying.paste.Goals as goal
 

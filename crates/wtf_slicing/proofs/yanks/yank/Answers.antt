@@ -20,7 +20,7 @@ use Rattle.wtf_steps.specs.Steps.{in_hand}
 use Rattle.wtf_index.proofs.Going.{keys_more}
 use Rattle.wtf_steps.proofs.Ways.{no_handle, step_of, spot_open, spot_closed}
 use Rattle.wtf_steps.proofs.ReadWays.{same_touched, found_due, plans_due}
-use Rattle.wtf_slicing.proofs.ModelCalls.{yank-none}
+use Rattle.wtf_model.proofs.SliceLaws.{yank-none}
 use Rattle.wtf_slicing.proofs.SliceWays.{yanks}
 use Rattle.wtf_slicing.proofs.yanks.yank.Goals as goal
 

@@ -1,4 +1,4 @@
--- What the definitions' calls on slices leave and answer, and each refusal.
+-- What calls on slices leave and answer, and each refusal.
 use Rattle.std.proofs.Common.{◌≡◌, ℕ, ◌+◌, ◌≤◌, ◌<◌, List, length, Some, None, Ok, Err, Result, if◌then◌else◌, ap, ◌∙◌}
 use Rattle.std.proofs.lemmas.Bool.{le-leb, lt-leb}
 use Rattle.std.specs.FinMap.{get}
@@ -8,7 +8,7 @@ use Rattle.wtf_model.specs.declared.answer.Answer.TheVariants as answer
 use Rattle.wtf_model.specs.declared.op.Op.TheVariants as op
 use Rattle.wtf_model.specs.Tree.{◌>>=◌, target, source, sources}
 use Rattle.wtf_model.specs.Session.{Session, Handle}
-use Rattle.wtf_model.specs.Done.{done, open_handle, known_slice, fits, in_range, bytes_of_handle, moved, put_bytes, put_slice, part}
+use Rattle.wtf_model.specs.Done.{done, open_handle, known_slice, fits, in_range, bytes_of_handle, moved, add_file, put_slice, part}
 use Rattle.wtf_model.specs.ByteCalls.{write, append}
 use Rattle.wtf_model.specs.SliceCalls.{yank, peek, cut, paste, glue, concat, copy}
 use Rattle.wtf_model.specs.Call.{call, or_refused}
@@ -99,27 +99,27 @@ module _ (cap : ℕ) (s : Session) where
 
   -- a file of others, by what it asks of the tree
   pub concat-by : (q : List ℕ) (paths : List (List ℕ)) (c : Result (Unit {0}) Word) (r : Result (List ℕ) Word) → target s.tree q ≡ c → sources s.tree paths ≡ r
-      → call cap s (op.Concat q paths) ≡ or_refused s (c >>= (λ _. r >>= (λ bytes. fits cap (length bytes) >>= (λ _. done (put_bytes s q bytes) answer.Okay))))
+      → call cap s (op.Concat q paths) ≡ or_refused s (c >>= (λ _. r >>= (λ bytes. fits cap (length bytes) >>= (λ _. done (add_file s q bytes) answer.Okay))))
   unfolding concat
   concat-by q paths c r e f =
-      ap (λ z. or_refused s (z >>= (λ _. sources s.tree paths >>= (λ bytes. fits cap (length bytes) >>= (λ _. done (put_bytes s q bytes) answer.Okay))))) e
-      ∙ ap (λ z. or_refused s (c >>= (λ _. z >>= (λ bytes. fits cap (length bytes) >>= (λ _. done (put_bytes s q bytes) answer.Okay))))) f
+      ap (λ z. or_refused s (z >>= (λ _. sources s.tree paths >>= (λ bytes. fits cap (length bytes) >>= (λ _. done (add_file s q bytes) answer.Okay))))) e
+      ∙ ap (λ z. or_refused s (c >>= (λ _. z >>= (λ bytes. fits cap (length bytes) >>= (λ _. done (add_file s q bytes) answer.Okay))))) f
 
   pub concat-fits : (q : List ℕ) (paths : List (List ℕ)) (bytes : List ℕ) → target s.tree q ≡ Ok tt → sources s.tree paths ≡ Ok bytes → length bytes ≤ cap
-      → call cap s (op.Concat q paths) ≡ record { session = put_bytes s q bytes; answer = answer.Okay }
+      → call cap s (op.Concat q paths) ≡ record { session = add_file s q bytes; answer = answer.Okay }
   concat-fits q paths bytes e f fit =
       concat-by q paths (Ok tt) (Ok bytes) e f
-      ∙ ap (λ v. or_refused s ((if v then Ok tt else Err TooBig) >>= (λ _. done (put_bytes s q bytes) answer.Okay))) (le-leb (length bytes) cap fit)
+      ∙ ap (λ v. or_refused s ((if v then Ok tt else Err TooBig) >>= (λ _. done (add_file s q bytes) answer.Okay))) (le-leb (length bytes) cap fit)
 
   pub concat-big : (q : List ℕ) (paths : List (List ℕ)) (bytes : List ℕ) → target s.tree q ≡ Ok tt → sources s.tree paths ≡ Ok bytes → cap < length bytes
       → call cap s (op.Concat q paths) ≡ unchanged s (answer.Refused TooBig)
   concat-big q paths bytes e f past =
       concat-by q paths (Ok tt) (Ok bytes) e f
-      ∙ ap (λ v. or_refused s ((if v then Ok tt else Err TooBig) >>= (λ _. done (put_bytes s q bytes) answer.Okay))) (lt-leb (length bytes) cap past)
+      ∙ ap (λ v. or_refused s ((if v then Ok tt else Err TooBig) >>= (λ _. done (add_file s q bytes) answer.Okay))) (lt-leb (length bytes) cap past)
 
   pub copy-by : (p q : List ℕ) (r : Result (List ℕ) Word) (c : Result (Unit {0}) Word) → source s.tree p ≡ r → target s.tree q ≡ c
-      → call cap s (op.Copy p q) ≡ or_refused s (r >>= (λ bytes. c >>= (λ _. done (put_bytes s q bytes) answer.Okay)))
+      → call cap s (op.Copy p q) ≡ or_refused s (r >>= (λ bytes. c >>= (λ _. done (add_file s q bytes) answer.Okay)))
   unfolding copy
   copy-by p q r c e f =
-      ap (λ z. or_refused s (z >>= (λ bytes. target s.tree q >>= (λ _. done (put_bytes s q bytes) answer.Okay)))) e
-      ∙ ap (λ z. or_refused s (r >>= (λ bytes. z >>= (λ _. done (put_bytes s q bytes) answer.Okay)))) f
+      ap (λ z. or_refused s (z >>= (λ bytes. target s.tree q >>= (λ _. done (add_file s q bytes) answer.Okay)))) e
+      ∙ ap (λ z. or_refused s (r >>= (λ bytes. z >>= (λ _. done (add_file s q bytes) answer.Okay)))) f
