@@ -1,0 +1,85 @@
+-- Laws of open transactions: what one more call, a step of a replay and a commit come to.
+use Rattle.std.proofs.Common.{◌≡◌, ◌≢◌, ◌↔◌, ◌+◌, ◌<◌, ℕ, Bool, true, false, List, [], ◌∷◌, ◌++◌, length, take, get_or, slice_get, Some, refl, sym, ap, ◌∙◌, subst, inl, inr, IsTrue, if◌then◌else◌}
+use Rattle.std.proofs.Math.Seq.{take-length}
+use Rattle.std.proofs.lemmas.List.{length-map}
+use Rattle.std.specs.Bool.{MatchBool}
+use Rattle.wtf_machine.specs.declared.log.Logged.{Logged}
+use Rattle.wtf_machine.specs.Logs.{ops_of}
+use Rattle.wtf_machine.specs.Verdicts.{RunsWith, called_on}
+use Rattle.wtf_model.specs.declared.answer.Answer.{Answer}
+use Rattle.wtf_model.specs.declared.answer.Answer.TheVariants as answer
+use Rattle.wtf_model.specs.declared.op.Op.{Op}
+use Rattle.wtf_model.specs.Tree.{Tree}
+use Rattle.wtf_model.specs.Session.{Session, fresh}
+use Rattle.wtf_model.specs.Done.{Done}
+use Rattle.wtf_model.specs.Call.{call}
+use Rattle.wtf_model.specs.Transaction.{Transaction, session_after, answers_of}
+use Rattle.wtf_model.specs.Examples.{IsStoreFault}
+use Rattle.wtf_model.specs.Lawful.{MayFail, MayCall}
+use Rattle.wtf_model.specs.Machines.{Machine, cap_of, due}
+use Rattle.wtf_model.specs.Steps.{IsLogged, is_logged, logged}
+use Rattle.wtf_model.proofs.Laws.{session_from-push}
+use Rattle.wtf_model.proofs.StepLaws.{IsStoreFault-MayFail}
+use Rattle.wtf_machine.proofs.LogLaws.{op_at, answers_from-at, session_from-more}
+
+-- one more call
+
+kept_by : {X : Type 0} (b : Bool) (x y : X) → MatchBool b (Unit {0}) ⊥ → (if b then x else y) ≡ x
+kept_by true x y h = refl
+kept_by false x y h = absurd h
+
+-- an answer that is logged goes on the log
+pub called_on-logged : (t : Transaction) (o : Op (List ℕ)) (a : Answer) → IsLogged a → called_on t o a ≡ logged t o a
+called_on-logged t o a own = kept_by (is_logged a) (logged t o a) t own
+
+fault_on : (t : Transaction) (o : Op (List ℕ)) (a : Answer) → IsStoreFault a → called_on t o a ≡ t
+fault_on t o (answer.FaultRead k) fault = refl
+fault_on t o answer.FaultWrite fault = refl
+fault_on t o (answer.Damaged k) fault = refl
+fault_on t o a fault = absurd fault
+
+-- and a fault does not
+pub called_on-fault : (servers : ℕ) (t : Transaction) (o : Op (List ℕ)) (d a : Answer) → MayFail servers o d a → called_on t o a ≡ t
+called_on-fault servers t o d a fails = fault_on t o a (IsStoreFault-MayFail servers o d a fails)
+
+-- of a transaction all of whose calls are replayed
+pub all_ops : (calls : List Logged) (n : ℕ) → n ≡ length calls → n ≡ length (ops_of calls)
+all_ops calls n all = all ∙ sym (length-map calls (λ l. l.op))
+
+module _ (cap : ℕ) (t : Transaction) (o : Op (List ℕ)) (s new : Session) (d : Answer) (all : t.replayed ≡ length t.ops)
+    (left : s ≡ session_after cap t.tree (take t.replayed t.ops)) (is : call cap s o ≡ record { session = new; answer = d }) where
+  before_call : s ≡ session_after cap t.tree t.ops
+  before_call = left ∙ ap (λ n. session_after cap t.tree (take n t.ops)) all ∙ ap (session_after cap t.tree) (take-length t.ops)
+
+  called_so : call cap (session_after cap t.tree t.ops) o ≡ record { session = new; answer = d }
+  called_so = ap (λ x. call cap x o) (sym before_call) ∙ is
+
+  -- what a call leaves
+  pub call-left : new ≡ session_after cap t.tree (t.ops ++ o ∷ [])
+  call-left = sym (session_from-push cap (fresh t.tree) t.ops o ∙ ap (λ (x : Done). x.session) called_so)
+
+  call_due : (m : Machine) → cap_of m ≡ cap → due m t o ≡ d
+  call_due m most = ap (λ k. (call k (session_after k t.tree t.ops) o).answer) most ∙ ap (λ (x : Done). x.answer) called_so
+
+  -- where it is not answered what is due, it may be answered a fault, and nothing else
+  pub call-other : (a : Answer) → d ≢ a → (servers : ℕ) (b : Bool) → IsTrue b ↔ MayFail servers o d a → (m : Machine) → RunsWith cap servers m
+      → IsTrue b ↔ MayCall m t o a
+  call-other a other servers b fails m runs = (
+    λ y. inr (subst (λ n. MayFail n o (due m t o) a) (sym runs.1) (subst (λ x. MayFail servers o x a) (sym (call_due m runs.0)) (fails.0 y))),
+    λ may. elim may [
+      | inl same ↦ absurd (other (sym (same ∙ call_due m runs.0)))
+      | inr fault ↦ fails.1 (subst (λ x. MayFail servers o x a) (call_due m runs.0) (subst (λ n. MayFail n o (due m t o) a) runs.1 fault))
+    ],
+  )
+
+-- the next call of a replay, on what those before it have left
+module _ (cap : ℕ) (tree : Tree) (calls : List Logged) (n : ℕ) (x : Logged) (s new : Session) (d : Answer) (below : n < length calls) (at : x ≡ get_or calls n x)
+    (left : s ≡ session_after cap tree (take n (ops_of calls))) (is : call cap s x.op ≡ record { session = new; answer = d }) where
+  next_done : call cap (session_after cap tree (take n (ops_of calls))) x.op ≡ record { session = new; answer = d }
+  next_done = ap (λ y. call cap y x.op) (sym left) ∙ is
+
+  pub next-left : new ≡ session_after cap tree (take (n + 1) (ops_of calls))
+  next-left = sym (session_from-more cap (fresh tree) (ops_of calls) n x.op (op_at calls n x below at) ∙ ap (λ (y : Done). y.session) next_done)
+
+  pub next-answers : slice_get (answers_of cap tree (ops_of calls)) n ≡ Some d
+  next-answers = answers_from-at cap (fresh tree) (ops_of calls) n x.op (op_at calls n x below at) ∙ ap (λ (y : Done). Some y.answer) next_done

@@ -1,0 +1,14 @@
+mod MapLaws
+mod OrderedLaws
+mod HandleWays
+mod NameLaws
+mod SliceWays
+mod CallWays
+mod LogLaws
+mod BegunLaws
+mod ClientLaws
+mod DownLaws
+mod RowLaws
+mod MachineWays
+mod JobWays
+mod ScanWays

@@ -1,0 +1,129 @@
+-- What a machine is after a client's line, from what its transactions are.
+use Rattle.std.proofs.Common.{◌≡◌, ℕ, Bool, true, false, if◌then◌else◌, List, Option, Some, None, Result, Ok, Err, IfOk, refl, sym, ap, ap₂, ◌∙◌}
+use Rattle.std.specs.FinMap.{FinMap}
+use Rattle.std.specs.Ordering.{nat_cmp}
+use Rattle.wtf_model.specs.declared.answer.Answer.{Answer, Aborted'}
+use Rattle.wtf_model.specs.declared.answer.Answer.TheVariants as answer
+use Rattle.wtf_model.specs.declared.event.Verb.TheVariants as verb
+use Rattle.wtf_model.specs.declared.op.Op.{Op}
+use Rattle.wtf_model.specs.Transaction.{Transaction}
+use Rattle.wtf_model.specs.Lawful.{MayTry, MayCommit, MayCall, MayClient, client_refusal}
+use Rattle.wtf_model.specs.Steps.{Machine, is_logged, tried, stepped, committed, called, after_client}
+use Rattle.wtf_model.proofs.StepLaws.{MayClient-asked, MayAsk-asked}
+use Rattle.wtf_machine.specs.declared.begun.Fate.{Fate}
+use Rattle.wtf_machine.specs.declared.begun.Fate.TheVariants as fate
+use Rattle.wtf_machine.specs.Verdicts.{IsFate, IsIdle}
+use Rattle.wtf_machine.specs.Kept.{Decides, called_in, stepped_in}
+use Rattle.wtf_machine.specs.Machines.{is_lawful, settled}
+
+-- of all machines that run so, this one
+pub for_one : {E : Type 0} {A : Type 0} (r : Result Bool E) (P : A → Type 0) (Q : A → Bool → Type 0) (m : A) → P m → IfOk r (λ yes. (x : A) → P x → Q x yes) → IfOk r (Q m)
+for_one (Ok b) P Q m fit h = h m fit
+for_one (Err e) P Q m fit h = h
+
+-- what was decided of its transactions is decided of the machine
+
+called_by : (b : Bool) (m : Machine) (ts : FinMap nat_cmp Transaction) → record m { transactions = if b then ts else m.transactions } ≡ (if b then record m { transactions = ts } else m)
+called_by true m ts = refl
+called_by false m ts = refl
+
+decided_by : (Lawful : Type 0) (m next : Machine) (ts new : FinMap nat_cmp Transaction) (yes : Bool) → record m { transactions = ts } ≡ next
+    → Decides Lawful m.transactions ts new yes → Decides Lawful m next (record m { transactions = new }) yes
+decided_by Lawful m next ts new true is d = (d.0, ap (λ x. record m { transactions = x }) d.1 ∙ is)
+decided_by Lawful m next ts new false is d = (d.0, ap (λ x. record m { transactions = x }) d.1)
+
+pub decided_all : {E : Type 0} (r : Result Bool E) (Lawful : Type 0) (m next : Machine) (ts new : FinMap nat_cmp Transaction) → record m { transactions = ts } ≡ next
+    → IfOk r (Decides Lawful m.transactions ts new) → IfOk r (Decides Lawful m next (record m { transactions = new }))
+decided_all (Ok b) Lawful m next ts new is d = decided_by Lawful m next ts new b is d
+decided_all (Err e) Lawful m next ts new is d = d
+
+pub called_is : (m : Machine) (c : ℕ) (t : Transaction) (o : Op (List ℕ)) (a : Answer) → record m { transactions = called_in m.transactions c t o a } ≡ called m c t o a
+called_is m c t o a = called_by (is_logged a) m _
+
+pub stepped_is : (m : Machine) (c : ℕ) (t : Transaction) (a : Answer) → record m { transactions = stepped_in m.transactions c t a } ≡ stepped m c t a
+stepped_is m c t (answer.Replayed i) = refl
+stepped_is m c t (Aborted' i box a) = refl
+stepped_is m c t a = refl
+
+-- attempts to commit
+
+module _ (m : Machine) (c : ℕ) (t : Transaction) where
+  tried_idle : (a : Answer) → IsIdle a → tried m c t a ≡ m
+  tried_idle (answer.Committed n) idle = absurd idle
+  tried_idle (answer.Retry base now) idle = absurd idle
+  tried_idle a idle = refl
+
+  committed_idle : (a : Answer) → IsIdle a → committed m c t a ≡ m
+  committed_idle (answer.Committed n) idle = absurd idle
+  committed_idle (Aborted' i box a) idle = absurd idle
+  committed_idle a idle = refl
+
+  settled_try : (a : Answer) (f : Fate) → is_lawful f ≡ true → IsFate (MayTry m t a) m t a f → settled m c t f ≡ tried m c t a
+  settled_try a fate.Unlawful lawful is = absurd (cc)
+  settled_try a fate.Stays lawful is = sym (tried_idle a is.1)
+  settled_try (Aborted' i box a) fate.Ends lawful is = absurd is.0
+  settled_try a fate.Ends lawful is = absurd is.1
+  settled_try (answer.Retry base now) fate.Rebases lawful is = refl
+  settled_try a fate.Rebases lawful is = absurd is.1
+  settled_try (answer.Committed n) (fate.Installs tree) lawful is = ap₂ (λ k w. record (settled m c t (fate.Installs tree)) { number = k; now = w }) (sym is.0.0) is.1
+  settled_try a (fate.Installs tree) lawful is = absurd is.1
+
+  settled_commit : (a : Answer) (f : Fate) → is_lawful f ≡ true → IsFate (MayCommit m t a) m t a f → settled m c t f ≡ committed m c t a
+  settled_commit a fate.Unlawful lawful is = absurd (cc)
+  settled_commit a fate.Stays lawful is = sym (committed_idle a is.1)
+  settled_commit (Aborted' i box a) fate.Ends lawful is = refl
+  settled_commit a fate.Ends lawful is = absurd is.1
+  settled_commit (answer.Retry base now) fate.Rebases lawful is = absurd is.0
+  settled_commit a fate.Rebases lawful is = absurd is.1
+  settled_commit (answer.Committed n) (fate.Installs tree) lawful is = ap₂ (λ k w. record (settled m c t (fate.Installs tree)) { number = k; now = w }) (sym is.0.0) is.1
+  settled_commit a (fate.Installs tree) lawful is = absurd is.1
+
+  lawful_so : (Lawful : Type 0) (a : Answer) (f : Fate) → is_lawful f ≡ true → IsFate Lawful m t a f → Lawful
+  lawful_so Lawful a fate.Unlawful lawful is = absurd (cc)
+  lawful_so Lawful a fate.Stays lawful is = is.0
+  lawful_so Lawful a fate.Ends lawful is = is.0
+  lawful_so Lawful a fate.Rebases lawful is = is.0
+  lawful_so Lawful a (fate.Installs tree) lawful is = is.0
+
+  unlawful_so : (Lawful : Type 0) (a : Answer) (f : Fate) → is_lawful f ≡ false → IsFate Lawful m t a f → (Lawful → ⊥) × (settled m c t f ≡ m)
+  unlawful_so Lawful a fate.Unlawful not is = (is, refl)
+  unlawful_so Lawful a fate.Stays not is = absurd (cc)
+  unlawful_so Lawful a fate.Ends not is = absurd (cc)
+  unlawful_so Lawful a fate.Rebases not is = absurd (cc)
+  unlawful_so Lawful a (fate.Installs tree) not is = absurd (cc)
+
+  decided_fate : {E : Type 0} (r : Result Bool E) (Lawful : Type 0) (a : Answer) (f : Fate) (next new : Machine) → IsFate Lawful m t a f
+      → (is_lawful f ≡ true → settled m c t f ≡ next) → IfOk r (λ yes. yes ≡ is_lawful f) → IfOk r (λ yes. new ≡ settled m c t f) → IfOk r (Decides Lawful m next new)
+  decided_fate (Err e) Lawful a f next new is so yes_is at = yes_is
+  decided_fate (Ok true) Lawful a f next new is so yes_is at = (lawful_so Lawful a f (sym yes_is) is, at ∙ so (sym yes_is))
+  decided_fate (Ok false) Lawful a f next new is so yes_is at = let un = unlawful_so Lawful a f (sym yes_is) is in (un.0, at ∙ un.1)
+
+  pub decided_try : {E : Type 0} (r : Result Bool E) (a : Answer) (f : Fate) (new : Machine) → IsFate (MayTry m t a) m t a f
+      → IfOk r (λ yes. yes ≡ is_lawful f) → IfOk r (λ yes. new ≡ settled m c t f) → IfOk r (Decides (MayTry m t a) m (tried m c t a) new)
+  decided_try r a f new is yes_is at = decided_fate r (MayTry m t a) a f (tried m c t a) new is (λ lawful. settled_try a f lawful is) yes_is at
+
+  pub decided_commit : {E : Type 0} (r : Result Bool E) (a : Answer) (f : Fate) (new : Machine) → IsFate (MayCommit m t a) m t a f
+      → IfOk r (λ yes. yes ≡ is_lawful f) → IfOk r (λ yes. new ≡ settled m c t f) → IfOk r (Decides (MayCommit m t a) m (committed m c t a) new)
+  decided_commit r a f new is yes_is at = decided_fate r (MayCommit m t a) a f (committed m c t a) new is (λ lawful. settled_commit a f lawful is) yes_is at
+
+-- a call that the machine does not refuse
+
+decides_iff : (P Q : Type 0) (old next new : Machine) (yes : Bool) → (P → Q) → (Q → P) → Decides P old next new yes → Decides Q old next new yes
+decides_iff P Q old next new true to from d = (to d.0, d.1)
+decides_iff P Q old next new false to from d = ((λ q. d.0 (from q)), d.1)
+
+all_iff : {E : Type 0} (r : Result Bool E) (P Q : Type 0) (old next new : Machine) → (P → Q) → (Q → P) → IfOk r (Decides P old next new) → IfOk r (Decides Q old next new)
+all_iff (Ok b) P Q old next new to from d = decides_iff P Q old next new b to from d
+all_iff (Err e) P Q old next new to from d = d
+
+pub called_client : {E : Type 0} (r : Result Bool E) (m : Machine) (c : ℕ) (found : Option Transaction) (o : Op (List ℕ)) (a : Answer) (new : Machine)
+    → client_refusal found (verb.Call o) ≡ None
+    → ((t : Transaction) → found ≡ Some t → IfOk r (Decides (MayCall m t o a) m (called m c t o a) new))
+    → IfOk r (Decides (MayClient m found (verb.Call o) a) m (after_client m c found (verb.Call o) a) new)
+called_client r m c None o a new free d = absurd (cc)
+called_client r m c (Some t) o a new free d =
+    all_iff r _ _ m (called m c t o a) new (MayClient-asked m (Some t) (verb.Call o) a free) (MayAsk-asked m (Some t) (verb.Call o) a free) (d t refl)
+
+-- what is found is the transaction
+pub found_same : (x t : Transaction) (o : Option Transaction) → Some x ≡ o → o ≡ Some t → x ≡ t
+found_same x t o found there = let same : Some x ≡ Some t = found ∙ there in cc

@@ -1,0 +1,10 @@
+use Rattle.std.proofs.Common.{sym}
+use Rattle.wtf_machine.specs.Sessions.{session_in}
+use Rattle.wtf_machine.proofs.NameLaws.{mkdir-refused, mkdir-done}
+use Rattle.wtf_machine.proofs.workspace.Workspace.mkdir.Goals as goal
+
+pub returns-in-Err : goal.returns-in-Err
+returns-in-Err c = λ cap. mkdir-refused cap (session_in c.args.self.now) c.args.p.now _ (sym c.in-Err.ensures)
+
+pub returns : goal.returns
+returns c = λ cap. mkdir-done cap (session_in c.args.self.now) c.args.p.now _ _ (sym c.in_default.ensures) c.in_ok-p.ensures c.in_ok-put.ensures.ok

@@ -1,0 +1,19 @@
+use Rattle.std.proofs.Common.{sym, ◌∙◌}
+use Rattle.std.proofs.lemmas.Result.{IfOk-weaker}
+use Rattle.wtf_model.proofs.SliceLaws.{paste-none, paste-unset}
+use Rattle.wtf_machine.specs.Sessions.{session_in}
+use Rattle.wtf_machine.proofs.SliceWays.{paste-by}
+use Rattle.wtf_machine.proofs.workspace.Workspace.paste.Goals as goal
+
+pub returns-in_default : goal.returns-in_default
+returns-in_default c = paste-none c.args.cap (session_in c.args.self.now) c.args.f c.args.label (sym c.in_default.ensures)
+
+pub returns-in_default-at : goal.returns-in_default-at
+returns-in_default-at c = paste-unset c.args.cap (session_in c.args.self.now) c.args.f c.args.label _ (sym c.in-Some.ensures) (sym c.in_default-at.ensures)
+
+pub returns : goal.returns
+returns c =
+    IfOk-weaker c.write.result _ _
+    (λ a by. paste-by c.args.cap (session_in c.args.self.now) c.args.f c.args.label (sym c.in-Some.ensures) (sym c.in-Some-at.ensures)
+    (c.as_slice.ensures.value ∙ c.in_ok-slice.ensures.cases) by)
+    c.write.ensures

@@ -1,0 +1,349 @@
+//! Open transactions: what a client's line may be answered, and what it leaves.
+
+ghost use Rattle.std.specs.Prelude.{◌≡◌, ◌≢◌, ◌↔◌, ◌+◌, ◌++◌, ◌∷◌, ◌<◌, ◌≤◌, length, take, slice_get, false, Some, IsTrue, IfOk, OnOk, OnErr, []};
+ghost use Rattle.wtf_model.specs.Transaction.{session_after, answers_of};
+ghost use Rattle.wtf_model.specs.Lawful.{Deviates, IsDone, MayInstall, MayCall, MayStep, MayTry, MayCommit};
+ghost use Rattle.wtf_model.specs.Machines.{Machine, cap_of, is_live, is_full};
+ghost use Rattle.wtf_model.specs.Steps.{IsLogged, logged};
+ghost use Rattle.wtf_machine.specs.Logs.{ops_of, shown_of, IsWarm, IsWarm_prop};
+ghost use Rattle.wtf_machine.specs.Sessions.{session_in};
+
+use crate::copies::copy_op;
+use crate::faults::{is_read_fault, may_fail};
+use crate::log::{Logged, Outcome, replay, rerun};
+use crate::path_map::PathMap;
+use crate::workspace::Workspace;
+use std::alloc::Global;
+use wtf_base::{Bytes, OutOfMemory};
+use wtf_model::limits::MAX_LOGGED;
+use wtf_model::{Answer, Op, is_same_answer};
+
+/// An open transaction. It keeps the session that its replayed calls have left, so that one more costs its own work alone; where
+/// it is not at hand, it is made anew.
+#[derive(Drop)]
+pub(crate) struct Begun {
+    pub(crate) alloc: Global,
+    pub(crate) cap: u64,
+    pub(crate) stamp: u64,
+    pub(crate) base: u64,
+    pub(crate) tree: PathMap,
+    pub(crate) calls: Vec<Logged>,
+    pub(crate) replayed: u32,
+    pub(crate) warm: Option<Workspace>,
+    ghost counted: { replayed ≤ length calls.items },
+    ghost bounded: { length calls.items ≤ 4096 },
+    ghost warm_is: { IsWarm cap tree (ops_of calls.items) replayed warm } by { IsWarm_prop cap tree (ops_of calls.items) replayed warm },
+}
+
+/// What a line of a transaction comes to, where it can't install.
+#[derive(Drop)]
+pub(crate) enum Verdict {
+    /// The answer is not lawful.
+    Unlawful,
+    /// It is, and the transaction goes on.
+    Goes,
+    /// It is, and the transaction has ended.
+    Ends,
+}
+
+/// What an attempt to commit comes to.
+#[derive(Drop)]
+pub(crate) enum Fate {
+    /// The answer is not lawful.
+    Unlawful,
+    /// It is, and leaves all as it is.
+    Stays,
+    /// It is, and the transaction has ended with no install.
+    Ends,
+    /// It is, and the transaction begins anew on the tree now.
+    Rebases,
+    /// It is, and this is the tree from now on.
+    Installs(PathMap),
+}
+
+/// Whether a call that is due an answer would not be refused.
+fn is_done(due: &Answer) -> bool
+    ensures { IsTrue result ↔ IsDone (Some due.now) }
+{
+    match due {
+        Answer::Refused(_) => false,
+        _ => true,
+    }
+}
+
+impl Begun {
+    ghost use Rattle.wtf_machine.specs.Verdicts.{transaction_in, RunsWith, called_on, IsVerdict, IsFate};
+
+    /// The session that the replayed calls have left. It is taken out, or made anew where it is not at hand.
+    fn session(&mut self) -> Result<Workspace, OutOfMemory>
+        ensures left { IfOk result (λ w. session_in w ≡
+            session_after self.old.cap self.old.tree (take self.old.replayed (ops_of self.old.calls.items))) }
+        ensures stays { transaction_in self.new ≡ transaction_in self.old }
+        ensures calls { self.new.calls ≡ self.old.calls }
+        ensures cap { self.new.cap ≡ self.old.cap }
+    {
+        match self.warm.take() {
+            Some(session) => Ok(session),
+            None => rerun(
+                self.alloc,
+                self.cap,
+                &self.tree,
+                &self.calls[..self.replayed as usize],
+            ),
+        }
+    }
+
+    /// Logs a call that was answered so, and keeps the session that it has left.
+    fn keep(
+        &mut self,
+        op: &Op<Bytes>,
+        answer: &Answer,
+        session: Workspace,
+    ) -> Result<(), OutOfMemory>
+        requires live { self.old.replayed ≡ length self.old.calls.items }
+        requires room { length self.old.calls.items < 4096 }
+        requires logged { IsLogged answer.now }
+        requires left { session_in session ≡
+            session_after self.old.cap self.old.tree (ops_of self.old.calls.items ++ op.now ∷ []) }
+        ensures ok { OnOk result (transaction_in self.new ≡ logged (transaction_in self.old) op.now answer.now) }
+        ensures err { OnErr result (transaction_in self.new ≡ transaction_in self.old) }
+        ensures cap { self.new.cap ≡ self.old.cap }
+    {
+        let op = copy_op(self.alloc, op)?;
+        let shown = answer.copy(self.alloc)?;
+        self.calls.push(Logged { op, shown })?;
+        self.replayed += 1;
+        self.warm = Some(session);
+        Ok(())
+    }
+
+    /// A transaction on a tree, after so many installs.
+    pub(crate) fn new(alloc: Global, cap: u64, stamp: u64, base: u64, tree: PathMap) -> Begun
+        ensures is { transaction_in result ≡ record {
+          stamp = stamp;
+          base = base;
+          tree = tree;
+          ops = [];
+          shown = [];
+          replayed = 0;
+          touched = [];
+        } }
+        ensures cap { result.cap ≡ cap }
+    {
+        Begun {
+            alloc,
+            cap,
+            stamp,
+            base,
+            tree,
+            calls: Vec::new(alloc),
+            replayed: 0,
+            warm: None,
+        }
+    }
+
+    /// Whether all of its calls were replayed.
+    pub(crate) fn is_live(&self) -> bool
+        ensures { result ≡ is_live (transaction_in self.now) }
+    {
+        self.replayed as usize == self.calls.len()
+    }
+
+    /// Whether its log is full.
+    pub(crate) fn is_full(&self) -> bool
+        ensures { result ≡ is_full (transaction_in self.now) }
+    {
+        self.calls.len() >= MAX_LOGGED as usize
+    }
+
+    /// A call of a transaction that is live, whose log has room. An answer that is not lawful leaves the transaction.
+    pub(crate) fn call(
+        &mut self,
+        servers: u8,
+        op: &Op<Bytes>,
+        answer: &Answer,
+    ) -> Result<bool, OutOfMemory>
+        requires live { self.old.replayed ≡ length self.old.calls.items }
+        requires room { length self.old.calls.items < 4096 }
+        ensures lawful { IfOk result (λ yes. (m : Machine) → RunsWith self.old.cap servers m
+            → (IsTrue yes ↔ MayCall m (transaction_in self.old) op.now answer.now)) }
+        ensures next { IfOk result (λ yes. IsTrue yes →
+            transaction_in self.new ≡ called_on (transaction_in self.old) op.now answer.now) }
+        ensures stays { IfOk result (λ yes. yes ≡ false → transaction_in self.new ≡ transaction_in self.old) }
+        ensures err { OnErr result (transaction_in self.new ≡ transaction_in self.old) }
+        ensures cap { self.new.cap ≡ self.old.cap }
+    {
+        let mut session = self.session()?;
+        let due = session.call(self.cap, op)?;
+        if !is_same_answer(&due, answer) {
+            return Ok(may_fail(servers, op, &due, answer));
+        }
+        self.keep(op, answer, session)?;
+        Ok(true)
+    }
+
+    /// Replays the next call on the base: the session that it leaves, and what it answers.
+    fn replay_next(&mut self) -> Result<(Workspace, Answer), OutOfMemory>
+        requires behind { self.old.replayed < length self.old.calls.items }
+        ensures left { IfOk result (λ made. session_in made.0 ≡
+            session_after self.old.cap self.old.tree (take (self.old.replayed + 1) (ops_of self.old.calls.items))) }
+        ensures answers { IfOk result (λ made. slice_get
+            (answers_of self.old.cap self.old.tree (ops_of self.old.calls.items)) self.old.replayed ≡ Some made.1) }
+        ensures logged { IfOk result (λ made. IsLogged made.1) }
+        ensures stays { transaction_in self.new ≡ transaction_in self.old }
+        ensures calls { self.new.calls ≡ self.old.calls }
+        ensures cap { self.new.cap ≡ self.old.cap }
+    {
+        let mut session = self.session()?;
+        let at = self.replayed as usize;
+        let due = session.call(self.cap, &self.calls[at].op)?;
+        Ok((session, due))
+    }
+
+    /// Whether the next call was shown to answer so.
+    fn was_shown(&self, due: &Answer) -> bool
+        requires behind { self.now.replayed < length self.now.calls.items }
+        requires logged { IsLogged due.now }
+        ensures { IsTrue result ↔
+            (slice_get (shown_of self.now.calls.items) self.now.replayed ≡ Some due.now) }
+    {
+        let at = self.replayed as usize;
+        is_same_answer(due, &self.calls[at].shown)
+    }
+
+    /// Goes on by the next call, which has left this session, where it was shown to answer what is due.
+    fn step_on(&mut self, session: Workspace, due: &Answer, number: u32) -> Verdict
+        requires behind { self.old.replayed < length self.old.calls.items }
+        requires left { session_in session ≡
+            session_after self.old.cap self.old.tree (take (self.old.replayed + 1) (ops_of self.old.calls.items)) }
+        requires due { slice_get (answers_of self.old.cap self.old.tree (ops_of self.old.calls.items))
+            self.old.replayed ≡ Some due.now }
+        requires logged { IsLogged due.now }
+        ensures verdict { (m : Machine) → cap_of m ≡ self.old.cap
+            → IsVerdict (MayStep m (transaction_in self.old) (Answer.Replayed number)) (transaction_in self.old)
+            (transaction_in self.new) (Answer.Replayed number) result }
+        ensures cap { self.new.cap ≡ self.old.cap }
+    {
+        if number != self.replayed + 1 || !self.was_shown(due) {
+            return Verdict::Unlawful;
+        }
+        self.replayed = number;
+        self.warm = Some(session);
+        Verdict::Goes
+    }
+
+    /// Whether the next call, which is due an answer, deviates from what was shown, and answers so.
+    fn deviates(&self, due: &Answer, number: u32, told: &Answer) -> bool
+        requires behind { self.now.replayed < length self.now.calls.items }
+        requires logged { IsLogged due.now }
+        ensures { IsTrue result ↔ ((number ≡ self.now.replayed + 1) × (due.now ≡ told.now)
+            × (slice_get (shown_of self.now.calls.items) self.now.replayed ≢ Some told.now)) }
+    {
+        number == self.replayed + 1 && is_same_answer(due, told) && !self.was_shown(due)
+    }
+
+    /// A step of a replay that has not come to its end.
+    pub(crate) fn step(&mut self, servers: u8, answer: &Answer) -> Result<Verdict, OutOfMemory>
+        requires behind { self.old.replayed < length self.old.calls.items }
+        ensures verdict { IfOk result (λ v. (m : Machine) → RunsWith self.old.cap servers m
+            → IsVerdict (MayStep m (transaction_in self.old) answer.now) (transaction_in self.old)
+            (transaction_in self.new) answer.now v) }
+        ensures err { OnErr result (transaction_in self.new ≡ transaction_in self.old) }
+        ensures cap { self.new.cap ≡ self.old.cap }
+    {
+        let (session, due) = self.replay_next()?;
+        match answer {
+            Answer::Replayed(i) => Ok(self.step_on(session, &due, *i)),
+            Answer::Aborted(i, told) if self.deviates(&due, *i, told) => Ok(Verdict::Ends),
+            _ if is_done(&due) && is_read_fault(servers, answer) => Ok(Verdict::Goes),
+            _ => Ok(Verdict::Unlawful),
+        }
+    }
+
+    /// What a commit of this number comes to on the tree now, after so many installs.
+    fn install(&self, number: u64, now: &PathMap, named: u64) -> Result<Fate, OutOfMemory>
+        ensures { IfOk result (λ f. (m : Machine) → cap_of m ≡ self.now.cap → m.number ≡ number → m.now ≡ now.now
+            → IsFate (MayInstall m (transaction_in self.now) named) m (transaction_in self.now)
+            (Answer.Committed named) f) }
+    {
+        if number.checked_add(1) != Some(named) {
+            return Ok(Fate::Unlawful);
+        }
+        match replay(self.alloc, self.cap, now, &self.calls)? {
+            Outcome::Same(session) => Ok(Fate::Installs(session.tree)),
+            Outcome::Differs(_, _) => Ok(Fate::Unlawful),
+        }
+    }
+
+    /// Whether the calls, run on the tree now, deviate first at the one of this number, which answers so.
+    fn deviates_on(&self, now: &PathMap, number: u32, told: &Answer) -> Result<bool, OutOfMemory>
+        ensures { IfOk result (λ yes. IsTrue yes ↔
+            Deviates (answers_of self.now.cap now.now (ops_of self.now.calls.items))
+            (shown_of self.now.calls.items) number told.now) }
+    {
+        match replay(self.alloc, self.cap, now, &self.calls)? {
+            Outcome::Differs(i, due) => Ok(i == number && is_same_answer(&due, told)),
+            Outcome::Same(_) => Ok(false),
+        }
+    }
+
+    /// What an attempt comes to on the tree now, after so many installs.
+    pub(crate) fn attempt(
+        &self,
+        number: u64,
+        now: &PathMap,
+        answer: &Answer,
+    ) -> Result<Fate, OutOfMemory>
+        ensures { IfOk result (λ f. (m : Machine) → cap_of m ≡ self.now.cap → m.number ≡ number
+            → m.now ≡ now.now
+            → IsFate (MayTry m (transaction_in self.now) answer.now) m (transaction_in self.now) answer.now f) }
+    {
+        match answer {
+            Answer::Committed(n) => self.install(number, now, *n),
+            Answer::Retry { base, now: at } => {
+                let behind = *base == self.base && *at == number && self.base < number;
+                Ok(if behind {
+                    Fate::Rebases
+                } else {
+                    Fate::Unlawful
+                })
+            }
+            _ => Ok(Fate::Unlawful),
+        }
+    }
+
+    /// What a commit by replay comes to on the tree now, after so many installs.
+    pub(crate) fn commit(
+        &self,
+        servers: u8,
+        number: u64,
+        now: &PathMap,
+        answer: &Answer,
+    ) -> Result<Fate, OutOfMemory>
+        ensures { IfOk result (λ f. (m : Machine) → RunsWith self.now.cap servers m → m.number ≡ number
+            → m.now ≡ now.now
+            → IsFate (MayCommit m (transaction_in self.now) answer.now) m (transaction_in self.now) answer.now f) }
+    {
+        match answer {
+            Answer::Committed(n) => self.install(number, now, *n),
+            Answer::Aborted(i, told) => {
+                let deviates = self.deviates_on(now, *i, told)?;
+                Ok(if deviates { Fate::Ends } else { Fate::Unlawful })
+            }
+            _ if is_read_fault(servers, answer) => Ok(Fate::Stays),
+            _ => Ok(Fate::Unlawful),
+        }
+    }
+
+    /// Begins anew on another tree, after so many installs, with none of its calls replayed. No memory is taken.
+    pub(crate) fn rebase(&mut self, number: u64, now: PathMap)
+        ensures is { transaction_in self.new ≡
+            record (transaction_in self.old) { base = number; tree = now; replayed = 0; touched = [] } }
+        ensures cap { self.new.cap ≡ self.old.cap }
+    {
+        self.warm = None;
+        self.replayed = 0;
+        self.base = number;
+        self.tree = now;
+    }
+}

@@ -1,0 +1,198 @@
+//! The calls on names, and what they have in common with calls that make files.
+
+ghost use Rattle.std.specs.Prelude.{◌≡◌, ℕ, Some, Ok, Err, IfOk, IfErr, OnOk, bytes_eq};
+ghost use Rattle.std.specs.FinMap.{get};
+ghost use Rattle.std.specs.Rc.{rc_slice_items};
+ghost use Rattle.wtf_model.specs.declared.op.Op.TheVariants as op;
+ghost use Rattle.wtf_model.specs.Tree.{File, root, target, source, is_directory};
+ghost use Rattle.wtf_model.specs.Done.{put_node};
+ghost use Rattle.wtf_model.specs.NameCalls.{shown_node};
+ghost use Rattle.wtf_machine.specs.Maps.{node_of};
+ghost use Rattle.wtf_machine.specs.Sessions.{session_in, IsCalled};
+
+use crate::path_map::PathNode;
+use crate::workspace::Workspace;
+use std::alloc::Global;
+use std::rc::RcSlice;
+use wtf_base::OutOfMemory;
+use wtf_model::{Answer, Word};
+use wtf_path::Path;
+
+/// Whether a path is that of the root.
+fn is_root(p: &Path) -> bool
+    ensures { result ≡ bytes_eq p.now root }
+{
+    p.as_bytes() == b"/".as_slice()
+}
+
+/// What is shown of a directory or a file.
+fn shown_node(node: &PathNode) -> Answer
+    ensures { shown_node (Some (node_of node.now)) ≡ Ok result }
+{
+    match node {
+        PathNode::Folder => Answer::Dir,
+        PathNode::Content(bytes) => Answer::File {
+            len: bytes.len() as u64,
+        },
+    }
+}
+
+impl Workspace {
+    /// Whether a new file or directory may be put at a path: its parent is a directory, and
+    /// nothing stands there yet. The root is always there.
+    pub(crate) fn target(&self, p: &Path) -> Result<(), Word>
+        ensures { result ≡ target self.now.tree p.now }
+    {
+        let Some(dir) = p.parent() else {
+            return Err(Word::Exists);
+        };
+        if !self.tree.has_folder(dir) {
+            return Err(Word::NoParent);
+        }
+        if self.tree.node(p).is_some() {
+            return Err(Word::Exists);
+        }
+        Ok(())
+    }
+
+    /// The file at a path, with the bytes that its holders share.
+    fn content(&self, p: &Path) -> Result<&RcSlice<u8, Global>, Word>
+        ensures ok { IfOk result (λ b. source self.now.tree p.now ≡ Ok (rc_slice_items b.now)) }
+        ensures err { IfErr result (λ w. source self.now.tree p.now ≡ Err w) }
+    {
+        match self.tree.node(p) {
+            Some(PathNode::Content(bytes)) => Ok(bytes),
+            Some(PathNode::Folder) => Err(Word::IsDir),
+            None => Err(Word::NoEnt),
+        }
+    }
+
+    /// The bytes of the file at a path.
+    pub(crate) fn source(&self, p: &Path) -> Result<&[u8], Word>
+        ensures ok { IfOk result (λ b. source self.now.tree p.now ≡ Ok b.now) }
+        ensures err { IfErr result (λ w. source self.now.tree p.now ≡ Err w) }
+    {
+        match self.content(p) {
+            Ok(bytes) => Ok(bytes.as_slice()),
+            Err(word) => Err(word),
+        }
+    }
+
+    /// Whether a directory stands at a path.
+    fn directory(&self, p: &Path) -> Result<(), Word>
+        ensures { result ≡ is_directory (get self.now.tree p.now) }
+    {
+        match self.tree.node(p) {
+            Some(PathNode::Folder) => Ok(()),
+            Some(PathNode::Content(_)) => Err(Word::NotDir),
+            None => Err(Word::NoEnt),
+        }
+    }
+
+    /// Puts a file with these bytes at a path, in place of what stood there.
+    pub(crate) fn put_file(&mut self, p: Path, bytes: Vec<u8>) -> Result<(), OutOfMemory>
+        ensures { OnOk result
+            (session_in self.new ≡ put_node (session_in self.old) p (File bytes.items)) }
+    {
+        let bytes = RcSlice::from_vec(bytes)?;
+        self.tree.put(p, PathNode::Content(bytes))
+    }
+
+    /// Makes an empty directory.
+    pub(crate) fn mkdir(&mut self, p: &Path) -> Result<Answer, OutOfMemory>
+        ensures { IfOk result (λ a. (cap : ℕ) → IsCalled cap (op.Mkdir p.now) self.old self.new a) }
+    {
+        if let Err(word) = self.target(p) {
+            return Ok(Answer::Refused(word));
+        }
+        let p = p.copy(self.alloc)?;
+        self.tree.put(p, PathNode::Folder)?;
+        Ok(Answer::Okay)
+    }
+
+    /// Makes an empty file.
+    pub(crate) fn create(&mut self, p: &Path) -> Result<Answer, OutOfMemory>
+        ensures { IfOk result (λ a.
+            (cap : ℕ) → IsCalled cap (op.Create p.now) self.old self.new a) }
+    {
+        if let Err(word) = self.target(p) {
+            return Ok(Answer::Refused(word));
+        }
+        let p = p.copy(self.alloc)?;
+        self.put_file(p, Vec::new(self.alloc))?;
+        Ok(Answer::Okay)
+    }
+
+    /// Takes out an empty directory. The root stays.
+    pub(crate) fn rmdir(&mut self, p: &Path) -> Result<Answer, OutOfMemory>
+        ensures { IfOk result (λ a. (cap : ℕ) → IsCalled cap (op.Rmdir p.now) self.old self.new a) }
+    {
+        if is_root(p) {
+            return Ok(Answer::Refused(Word::Root));
+        }
+        if let Err(word) = self.directory(p) {
+            return Ok(Answer::Refused(word));
+        }
+        if !self.tree.is_empty_in(p) {
+            return Ok(Answer::Refused(Word::NotEmpty));
+        }
+        self.tree.take(p);
+        Ok(Answer::Okay)
+    }
+
+    /// Takes out a file that no handle is open on.
+    pub(crate) fn unlink(&mut self, p: &Path) -> Result<Answer, OutOfMemory>
+        ensures { IfOk result (λ a.
+            (cap : ℕ) → IsCalled cap (op.Unlink p.now) self.old self.new a) }
+    {
+        if let Err(word) = self.content(p) {
+            return Ok(Answer::Refused(word));
+        }
+        if self.handles.has_on(p) {
+            return Ok(Answer::Refused(Word::Busy));
+        }
+        self.tree.take(p);
+        Ok(Answer::Okay)
+    }
+
+    /// Moves a file that no handle is open on to a path where nothing stands.
+    pub(crate) fn rename(&mut self, p: &Path, q: &Path) -> Result<Answer, OutOfMemory>
+        ensures { IfOk result (λ a.
+            (cap : ℕ) → IsCalled cap (op.Rename p.now q.now) self.old self.new a) }
+    {
+        let bytes = match self.content(p) {
+            Ok(bytes) => bytes.clone()?,
+            Err(word) => return Ok(Answer::Refused(word)),
+        };
+        if self.handles.has_on(p) {
+            return Ok(Answer::Refused(Word::Busy));
+        }
+        if let Err(word) = self.target(q) {
+            return Ok(Answer::Refused(word));
+        }
+        let q = q.copy(self.alloc)?;
+        self.tree.take(p);
+        self.tree.put(q, PathNode::Content(bytes))?;
+        Ok(Answer::Okay)
+    }
+
+    /// The names in a directory.
+    pub(crate) fn list(&self, p: &Path) -> Result<Answer, OutOfMemory>
+        ensures { IfOk result (λ a. (cap : ℕ) → IsCalled cap (op.List p.now) self.now self.now a) }
+    {
+        if let Err(word) = self.directory(p) {
+            return Ok(Answer::Refused(word));
+        }
+        Ok(Answer::Names(self.tree.names_in(p)?))
+    }
+
+    /// What stands at a path, and the length of a file.
+    pub(crate) fn stat(&self, p: &Path) -> Result<Answer, OutOfMemory>
+        ensures { IfOk result (λ a. (cap : ℕ) → IsCalled cap (op.Stat p.now) self.now self.now a) }
+    {
+        let Some(node) = self.tree.node(p) else {
+            return Ok(Answer::Refused(Word::NoEnt));
+        };
+        Ok(shown_node(node))
+    }
+}
