@@ -132,6 +132,9 @@ fn free(
     range: (u64, u64),
 ) -> Option<Result<(), Fault>> {
     let (at, len) = range;
+    if shelf.len() == 0 {
+        return None;
+    }
     if shelf.length(0, FILE) != 4 || len > 4 || at > 4 - len {
         return None;
     }
@@ -141,7 +144,10 @@ fn free(
 /// Whether the copy on server 0 holds these bytes.
 fn holds(shelf: &mut Shelf<MemStore>, want: &[u8; 4]) -> bool {
     let mut held = [0; 4];
-    shelf.length(0, FILE) == 4 && shelf.store(0).read(FILE, 0, &mut held) == Ok(()) && held == *want
+    if shelf.len() == 0 || shelf.length(0, FILE) != 4 {
+        return false;
+    }
+    shelf.store(0).read(FILE, 0, &mut held) == Ok(()) && held == *want
 }
 
 /// Whether this is the answer when a range of a copy is freed, and what it then holds.
