@@ -16,4 +16,6 @@ mod overlay;
 #[cfg(test)]
 mod parts;
 #[cfg(test)]
+mod spillfmt;
+#[cfg(test)]
 mod values;

@@ -5,7 +5,7 @@ use std::alloc::Global;
 use std::mem::size_of;
 use std::test::Fail;
 use wtf_base::OutOfMemory;
-use wtf_overlay::{Entry, Overlay, Part, Piece};
+use wtf_overlay::{Entry, NotCompact, Overlay, Part, Piece};
 
 /// A piece of a plan: where its bytes begin, and how many they are.
 type Told = (Option<u64>, u64);
@@ -63,6 +63,31 @@ fn clipped(list: Overlay, end: u32) -> Result<Overlay, OutOfMemory> {
 /// Whether the compact list of some rows holds these.
 fn compacts(alloc: Global, rows: &[Row], want: &[Row]) -> Result<bool, Fail> {
     Ok(holds(&list_of(alloc, rows)?.compact()?, want))
+}
+
+/// The entries of some rows.
+fn entries_of(alloc: Global, rows: &[Row]) -> Result<Vec<Entry>, Fail> {
+    let mut entries = Vec::new(alloc);
+    for row in rows {
+        entries.push(entry(*row).ok_or("no entry")?)?;
+    }
+    Ok(entries)
+}
+
+/// Whether the entries of some rows are taken for a compact list that ends at `end`.
+fn is_taken(alloc: Global, rows: &[Row], end: u32) -> Result<bool, Fail> {
+    match Overlay::of_compact(alloc, entries_of(alloc, rows)?, end) {
+        Ok(list) => Ok(holds(&list, rows)),
+        Err(_) => Ok(false),
+    }
+}
+
+/// Whether they are refused for this.
+fn is_refused(alloc: Global, rows: &[Row], end: u32, want: NotCompact) -> Result<bool, Fail> {
+    match Overlay::of_compact(alloc, entries_of(alloc, rows)?, end) {
+        Ok(_) => Ok(false),
+        Err(why) => Ok(why == want),
+    }
 }
 
 /// The list of some rows over what other ones hold below `visible`.
@@ -190,6 +215,9 @@ const A: Row = (0, Some(0), 6);
 
 const X: Row = (2, Some(6), 2);
 
+/// The bytes of X at the end of an entry whose bytes end elsewhere.
+const X_NEXT: Row = (4, Some(6), 2);
+
 #[test]
 fn a_list_takes_one_word(rt: HostRuntime) -> Result<(), Fail> {
     assert!(rt; size_of::<Overlay>() == size_of::<usize>());
@@ -249,6 +277,34 @@ fn lists_are_made_compact(rt: HostRuntime) -> Result<(), Fail> {
     ];
     for (rows, want) in rows {
         assert!(rt; compacts(rt.alloc(), rows, want)?);
+    }
+    Ok(())
+}
+
+#[test]
+fn compact_lists_are_taken_as_they_stand(rt: HostRuntime) -> Result<(), Fail> {
+    let rows: [(&[Row], u32); 3] = [
+        (&[], 0),
+        (&[A], 6),
+        (&[(2, Some(0), 2), X_NEXT, (9, Some(8), 1)], 10),
+    ];
+    for (rows, end) in rows {
+        assert!(rt; is_taken(rt.alloc(), rows, end)?);
+    }
+    Ok(())
+}
+
+#[test]
+fn others_are_refused_for_what_is_not_so(rt: HostRuntime) -> Result<(), Fail> {
+    let rows: [(&[Row], u32, NotCompact); 5] = [
+        (&[A, (8, None, 2)], 10, NotCompact::Zeros),
+        (&[A, X], 6, NotCompact::Order),
+        (&[(8, Some(0), 2), X], 10, NotCompact::Order),
+        (&[A, (6, Some(6), 2)], 8, NotCompact::Joins),
+        (&[A], 5, NotCompact::Past),
+    ];
+    for (rows, end, want) in rows {
+        assert!(rt; is_refused(rt.alloc(), rows, end, want)?);
     }
     Ok(())
 }

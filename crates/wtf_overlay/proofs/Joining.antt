@@ -1,6 +1,6 @@
 -- Slices and entries that are joined.
 use Rattle.std.proofs.Common.{◌≡◌, ℕ, ◌+◌, ◌-◌, ◌≤◌, true, List, [], ◌∷◌, map, refl, ap, sym, ◌∙◌, arith, nat_eq, ◌&&◌}
-use Rattle.std.proofs.lemmas.Bool.{and_parts, eqb-true}
+use Rattle.std.proofs.lemmas.Bool.{and_parts, and_from, eqb-true, eq-eqb}
 use Rattle.wtf_base.specs.declared.pointer.Pointer.{Pointer}
 use Rattle.wtf_base.specs.declared.slice.Slice.{Slice}
 use Rattle.wtf_base.specs.declared.slice.Extents.{Extents}
@@ -97,6 +97,8 @@ IsJoin-of e f both s r t first second part met off len follow is whole =
       off = off;
       end = omega arith;
       met = met;
+      one = and_from (nat_eq (e.off + e.len) f.off) (follows_part e.part f.part) (eq-eqb (e.off + e.len) f.off met)
+          (ap (λ p. follows_part p f.part) first ∙ ap (follows_part (Held s)) second ∙ follow);
       held = ap is_held part;
       first = λ i. ap (λ p. part_origin p i) part ∙ ap (map (place_in i)) is ∙ joined_first n i (pointers_of s) ∙ sym (ap (λ p. part_origin p i) first);
       second = λ i h. ap (λ p. part_origin p i) part ∙ ap (map (place_in i)) is

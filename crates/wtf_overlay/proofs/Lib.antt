@@ -14,3 +14,6 @@ mod Joining
 mod Compacts
 mod Wholes
 pub mod SameEntries
+pub mod Shown
+mod Looked
+pub mod Tested

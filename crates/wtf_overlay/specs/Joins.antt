@@ -9,6 +9,7 @@ pub record IsJoin (e f both : Entry) : Type 0 where
   pub off : both.off ≡ e.off
   pub end : both.off + both.len ≡ f.off + f.len
   pub met : e.off + e.len ≡ f.off
+  pub one : could_be_one e f ≡ true
   pub held : is_held both.part ≡ true
   pub first : (i : ℕ) → part_origin both.part i ≡ part_origin e.part i
   pub second : (i : ℕ) → e.len ≤ i → part_origin both.part i ≡ part_origin f.part (i - e.len)

@@ -4,6 +4,14 @@ pub mod Meaning
 pub mod Parts
 pub mod Clips
 pub mod Compact
+pub mod Causes
+pub mod Named
+pub mod Rows
+pub mod Texts
+pub mod Shapes
+pub mod Reading
+pub mod Made
+pub mod Spilled
 pub mod Joins
 pub mod Borders
 pub mod Runs

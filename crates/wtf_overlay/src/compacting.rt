@@ -1,7 +1,9 @@
 //! Compact lists: what a list shows, as slices alone, with neighbours joined where they could be one.
 
-ghost use Rattle.std.specs.Prelude.{◌≡◌, ℕ, ◌*◌, ◌+◌, ◌≤◌, length, IfOk, OnOk};
-ghost use Rattle.wtf_overlay.specs.Origin.{origin};
+ghost use Rattle.std.specs.Prelude.{◌≡◌, ℕ, ◌*◌, ◌+◌, ◌≤◌, length, Bool, List, IfOk, OnOk};
+ghost use Rattle.wtf_overlay.specs.Clips.{Within};
+ghost use Rattle.wtf_overlay.specs.Named.{EachByte};
+ghost use Rattle.wtf_overlay.specs.Origin.{Place, origin};
 ghost use Rattle.wtf_overlay.specs.Compact.{IsCompact};
 ghost use Rattle.wtf_overlay.specs.Runs.{IsRun};
 ghost use Rattle.wtf_overlay.specs.Joins.{IsJoined, IsPut};
@@ -12,12 +14,14 @@ use wtf_base::OutOfMemory;
 
 impl Overlay {
     /// The compact list of the same bytes at the same places: slices alone, sorted and disjoint, and no two
-    /// neighbours that could be one. It costs one pass over the entries of the runs and of
-    /// the tail.
+    /// neighbours that could be one. It passes no end that the list keeps, and names no bytes that the list
+    /// does not name. It costs one pass over the entries of the runs and of the tail.
     pub fn compact(&self) -> Result<Overlay, OutOfMemory>
         ensures compact { IfOk result (λ o. IsCompact o) }
         ensures origins { IfOk result (λ o. (x : ℕ) → origin o x ≡ origin self.now x) }
         ensures count { IfOk result (λ o. length o ≤ 2 * length self.now + 1) }
+        ensures within { (end : ℕ) → Within end self.now → IfOk result (Within end) }
+        ensures places { (P : List Place → Bool) → EachByte P self.now → IfOk result (EachByte P) }
     {
         let all = self.whole()?;
         let run = compacted(self.alloc(), all.as_slice())?;
@@ -28,7 +32,7 @@ impl Overlay {
 
 impl Entry {
     /// This entry and `next` as one, exactly where they could be one.
-    fn joined(&self, next: &Entry) -> Option<Entry>
+    pub(crate) fn joined(&self, next: &Entry) -> Option<Entry>
         ensures { IsJoined self.now next.now result }
     {
         let (Part::Held(slice), Part::Held(after)) = (self.part, next.part) else {

@@ -2,9 +2,12 @@
 //! them holds, lists cut at an end, and compact lists.
 #![tactic(auto)]
 
+mod checking;
 mod compacting;
 mod cuts;
+mod error;
 mod finding;
+pub mod laws;
 mod laying;
 mod makers;
 mod overlay;
@@ -13,5 +16,6 @@ mod planning;
 mod stacks;
 mod tails;
 
+pub use error::NotCompact;
 pub use overlay::Overlay;
 pub use part::{Entry, Part, Piece};

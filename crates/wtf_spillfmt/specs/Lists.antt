@@ -1,0 +1,6 @@
+-- Bytes as numbers.
+use Rattle.std.specs.Prelude.{ℕ, ◌<◌, List, get_or}
+
+-- each number is that of a byte
+abbrev pub AreBytes : List ℕ → Type 0
+AreBytes bytes = (i : ℕ) → get_or bytes i 0 < 256
