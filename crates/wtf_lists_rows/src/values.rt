@@ -286,7 +286,7 @@ fn are_names(set: &NameSet, want: &[&[u8]]) -> bool {
 #[test]
 fn names_stand_in_order(rt: HostRuntime) -> Result<(), Fail> {
     let mut set = added(rt.alloc(), &[b"/b", b"/a", b"/c"])?;
-    set.remove(b"c");
+    set.remove(b"c")?;
     assert!(rt; set.contains(b"a") && !set.contains(b"c"));
     assert!(rt; are_names(&set, &[b"a", b"b"]));
     Ok(())

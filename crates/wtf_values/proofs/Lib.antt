@@ -1,5 +1,6 @@
 pub mod KeyLaws
 pub mod NameLaws
+mod TreeLaws
 pub mod RegionLaws
 pub mod OutcomeLaws
 mod Summed

@@ -1,7 +1,7 @@
 -- Laws of sets of names.
-use Rattle.std.proofs.Common.{◌≡◌, ◌≢◌, ℕ, zero, suc, ◌+◌, ◌-◌, ◌<◌, ◌≤◌, ◌++◌, Bool, true, false, cond, not, ◌&&◌, ◌||◌, List, [], ◌∷◌, map, take, drop, length, get_or, Option, None, Some, is_some, Result, Ok, Err, IfOk, IfErr, refl, ap, sym, subst, ◌∙◌, arith, inl, inr}
-use Rattle.std.specs.Prelude.{T, slice_get}
-use Rattle.std.specs.Ordering.{is_eq, is_lt, ordering_index, ordering_reverse}
+use Rattle.std.proofs.Common.{◌≡◌, ◌≢◌, ℕ, zero, suc, ◌+◌, ◌-◌, ◌<◌, ◌++◌, Bool, true, false, cond, not, ◌&&◌, ◌||◌, List, [], ◌∷◌, map, take, drop, length, get_or, Option, None, Some, is_some, refl, ap, sym, subst, ◌∙◌, arith, inl, inr}
+use Rattle.std.specs.Prelude.{T}
+use Rattle.std.specs.Ordering.{is_eq, is_lt, ordering_reverse}
 use Rattle.std.specs.Cmp.{tied_itself, eq_by_cmp_equiv}
 use Rattle.std.specs.Cmp.Lexicographic.{nat_list_cmp_total}
 use Rattle.std.specs.declared.cmp.Ordering.{Ordering}
@@ -9,9 +9,7 @@ use Rattle.std.specs.declared.cmp.Ordering.TheVariants.{Less, Equal, Greater}
 use Rattle.std.specs.FinMap.{entries, entries_sorted, same_entries_map, get, contains_key-keys, get-insert, get-remove, get-empty, get-from_sorted, entries-insert, entries-from_sorted, empty_of_len, len-entries, len-insert, len-remove, len-empty, same_map, slice_cmp-IsAntisymmetric, nat_cmp-IsAntisymmetric}
 use Rattle.std.specs.FinMap.Entries.{by_order, put, find, where_key, below_all, is_sorted, is_sorted-put, is_sorted-where_key, find-where_key}
 use Rattle.std.specs.List.{list_any}
-use Rattle.std.specs.List.Sorted.{IsNonDecreasingBy, IsSearchInRange, IsBinarySearchResult}
 use Rattle.std.proofs.lemmas.List.{get_or_default}
-use Rattle.std.proofs.lemmas.Option.{get_or_from_slice_get, slice_get-get_or}
 use Rattle.std.proofs.lemmas.Bool.{cases_Bool, cases_lt, or_left, or_right}
 use Rattle.wtf_values.specs.Names.{name_cmp, NamesOf, no_names, has_name, with_name, without_name, names_in, as_entries, Rise, set_of, IsAt, IsGap}
 
@@ -31,7 +29,8 @@ name_itself x = tied_itself nat_list_cmp_total x
 tied : (x y : List ℕ) → is_eq (name_cmp x y) ≡ true → x ≡ y
 tied x y h = same_name x y (equal_when (name_cmp x y) h)
 
-flipped : (x y : List ℕ) (o : Ordering) → name_cmp x y ≡ o → name_cmp y x ≡ ordering_reverse o
+-- two names compare the other way round
+pub flipped : (x y : List ℕ) (o : Ordering) → name_cmp x y ≡ o → name_cmp y x ≡ ordering_reverse o
 flipped x y o h = nat_list_cmp_total.antisymm y x ∙ ap ordering_reverse h
 
 some_or : (b : Bool) (x : Option (Unit {0})) → is_some (cond b (Some tt) x) ≡ (b || is_some x)
@@ -128,18 +127,14 @@ count-without s name =
     mapped_length (λ e. e.0) (entries (without_name s name)) ∙ sym (len-entries (without_name s name)) ∙ len-remove nat_list_cmp_total s name
     ∙ ap (λ n. cond (has_name s name) (n - 1) n) (len-entries s ∙ before)
 
-left_of : (a b : Bool) → T (a && b) → T a
+-- what a test of two parts says of each
+pub left_of : (a b : Bool) → T (a && b) → T a
 left_of true b h = tt
 left_of false b h = absurd h
 
-right_of : (a b : Bool) → T (a && b) → T b
+pub right_of : (a b : Bool) → T (a && b) → T b
 right_of true b h = h
 right_of false b h = absurd h
-
-less_is : (o : Ordering) → is_lt o ≡ true → o ≡ Less
-less_is Less h = refl
-less_is Equal h = absurd (cc)
-less_is Greater h = absurd (cc)
 
 less_when : (o : Ordering) → T (is_lt o) → o ≡ Less
 less_when Less h = refl
@@ -157,35 +152,6 @@ rise_at [] i j d rise before inside = absurd (omega arith)
 rise_at (k ∷ ks) i zero d rise before inside = absurd (omega arith)
 rise_at (k ∷ ks) zero (suc j) d rise before inside = below_at k ks j d (left_of (below_all name_cmp k (as_entries ks)) (is_sorted name_cmp (as_entries ks)) rise) (omega arith)
 rise_at (k ∷ ks) (suc i) (suc j) d rise before inside = rise_at ks i j d (right_of (below_all name_cmp k (as_entries ks)) (is_sorted name_cmp (as_entries ks)) rise) (omega arith) (omega arith)
-
-index_small : (o : Ordering) → ordering_index o ≤ 2
-index_small Less = omega arith
-index_small Equal = omega arith
-index_small Greater = omega arith
-
-index_before : (x y name : List ℕ) (o : Ordering) → name_cmp y name ≡ o → name_cmp x y ≡ Less → ordering_index (name_cmp x name) ≤ ordering_index o
-index_before x y name Less h less = let e : ordering_index (name_cmp x name) ≡ 0 = ap ordering_index (nat_list_cmp_total.trans x y name less h) in omega (arith, e)
-index_before x y name Equal h less = let e : ordering_index (name_cmp x name) ≡ 0 = ap ordering_index (ap (name_cmp x) (sym (same_name y name h)) ∙ less) in omega (arith, e)
-index_before x y name Greater h less = index_small (name_cmp x name)
-
-comparisons_rise : (names : List (List ℕ)) (name : List ℕ) → Rise names → IsNonDecreasingBy (λ k. ordering_index (name_cmp k name)) names
-comparisons_rise names name rise i j d le inside = elim (cases_lt i j) [
-  | inl before ↦ index_before (get_or names i d) (get_or names j d) name (name_cmp (get_or names j d) name) refl (rise_at names i j d rise before inside)
-  | inr same ↦ let e : ordering_index (name_cmp (get_or names i d) name) ≡ ordering_index (name_cmp (get_or names j d) name) = ap (λ n. ordering_index (name_cmp (get_or names n d) name)) (let s : i ≡ j = omega arith in s) in omega (arith, e)
-]
-
--- a binary search ends at the name, or at the gap for it
-pub found_at : (names : List (List ℕ)) (name : List ℕ) (r : Result ℕ ℕ) → IsSearchInRange r (length names) → IsBinarySearchResult (λ k. name_cmp k name) names r → IfOk r (IsAt names name)
-found_at names name (Ok at) inside equal = record { inside = inside; is = same_name (get_or names at name) name (equal name) }
-found_at names name (Err at) inside parted = tt
-
-pub gap_at : (names : List (List ℕ)) (name : List ℕ) (r : Result ℕ ℕ) → Rise names → IsSearchInRange r (length names) → IsBinarySearchResult (λ k. name_cmp k name) names r → IfErr r (IsGap names name)
-gap_at names name (Ok at) rise inside equal = tt
-gap_at names name (Err at) rise inside parted = record {
-  inside = inside;
-  before = λ j lt. (parted (comparisons_rise names name rise)).0 j name (omega arith) lt;
-  after = λ j le lt. (parted (comparisons_rise names name rise)).1 j name le lt;
-}
 
 any_at : (names : List (List ℕ)) (name : List ℕ) (i : ℕ) → i < length names → get_or names i name ≡ name → list_any (λ k. is_eq (name_cmp name k)) names ≡ true
 any_at [] name i inside is = absurd (omega arith)
@@ -238,37 +204,6 @@ set_of-with names name i rise gap = same_entries_map _ _
     (entries-from_sorted name_cmp (as_entries (take i names ++ name ∷ drop i names)) (Rise-with names name i rise gap) ∙ sym (put_gap names name i gap)
     ∙ ap (put name_cmp name tt) (sym (entries-from_sorted name_cmp (as_entries names) rise)) ∙ sym (entries-insert nat_list_cmp_total (set_of names) name tt))
 
--- a name that comes after the last one has its gap at the end
-pub last_gap : (names : List (List ℕ)) (last name : List ℕ) → Rise names → slice_get names (length names - 1) ≡ Some last → is_lt (name_cmp last name) ≡ true → IsGap names name (length names)
-last_gap names last name rise at less =
-    let end = length names - 1 in
-    let is : get_or names end name ≡ last = get_or_from_slice_get names end last name at in
-    let before : name_cmp (get_or names end name) name ≡ Less = ap (λ x. name_cmp x name) is ∙ less_is (name_cmp last name) less in
-    record {
-      inside = omega arith;
-      before = λ j lt. elim (cases_lt j end) [
-        | inl lower ↦ nat_list_cmp_total.trans (get_or names j name) (get_or names end name) name (rise_at names j end name rise lower (omega (arith, lt))) before
-        | inr upper ↦ (let s : j ≡ end = omega (arith, lt) in ap (λ n. name_cmp (get_or names n name) name) s ∙ before)
-      ];
-      after = λ j le lt. absurd (omega arith);
-    }
-
--- and so has any name where there is no other
-pub empty_gap : (names : List (List ℕ)) (name : List ℕ) → slice_get names (length names - 1) ≡ None → IsGap names name (length names)
-empty_gap [] name none = record { inside = omega arith; before = λ j lt. absurd (omega arith); after = λ j le lt. absurd (omega arith) }
-empty_gap (k ∷ ks) name none = absurd (let some = slice_get-get_or (k ∷ ks) (length (k ∷ ks) - 1) name (omega arith) in let no : None ≡ Some (get_or (k ∷ ks) (length (k ∷ ks) - 1) name) = sym none ∙ some in cc)
-
-put_last : (names : List (List ℕ)) (name : List ℕ) → take (length names) names ++ name ∷ drop (length names) names ≡ names ++ name ∷ []
-put_last [] name = refl
-put_last (k ∷ ks) name = ap (λ l. k ∷ l) (put_last ks name)
-
--- names with one more behind them rise, and are the set with it
-pub Rise-last : (names : List (List ℕ)) (name : List ℕ) → Rise names → IsGap names name (length names) → Rise (names ++ name ∷ [])
-Rise-last names name rise gap = subst Rise (put_last names name) (Rise-with names name (length names) rise gap)
-
-pub set_of-last : (names : List (List ℕ)) (name : List ℕ) → Rise names → IsGap names name (length names) → set_of (names ++ name ∷ []) ≡ with_name (set_of names) name
-set_of-last names name rise gap = ap set_of (sym (put_last names name)) ∙ set_of-with names name (length names) rise gap
-
 -- the test that keeps all but one name
 abbrev others : List ℕ → List ℕ → Bool
 others name x = not (is_eq (name_cmp name x))
@@ -297,18 +232,15 @@ turned : (b : Bool) (x : Option (Unit {0})) → cond (not b) x None ≡ cond b N
 turned true x = refl
 turned false x = refl
 
-plus_one : (names : List (List ℕ)) (i : ℕ) → take i names ++ drop (i + 1) names ≡ take i names ++ drop (suc i) names
-plus_one names i = ap (λ n. take i names ++ drop n names) (let e : i + 1 ≡ suc i = omega arith in e)
-
 -- whichever it is
-pub Rise-cut : (names : List (List ℕ)) (i : ℕ) → Rise names → i < length names → Rise (take i names ++ drop (i + 1) names)
+pub Rise-cut : (names : List (List ℕ)) (i : ℕ) → Rise names → i < length names → Rise (take i names ++ drop (suc i) names)
 Rise-cut names i rise inside =
     let name = get_or names i [] in
-    subst Rise (sym (plus_one names i)) (Rise-without names name i rise (record { inside = inside; is = get_or_default names i name [] inside }))
+    Rise-without names name i rise (record { inside = inside; is = get_or_default names i name [] inside })
 
 -- and are the set without it
-pub set_of-without : (names : List (List ℕ)) (name : List ℕ) (i : ℕ) → Rise names → IsAt names name i → set_of (take i names ++ drop (i + 1) names) ≡ without_name (set_of names) name
-set_of-without names name i rise at = ap set_of (plus_one names i) ∙ same_map nat_list_cmp_total same_name _ _ (λ q.
+pub set_of-without : (names : List (List ℕ)) (name : List ℕ) (i : ℕ) → Rise names → IsAt names name i → set_of (take i names ++ drop (suc i) names) ≡ without_name (set_of names) name
+set_of-without names name i rise at = same_map nat_list_cmp_total same_name _ _ (λ q.
     get-from_sorted name_cmp (as_entries (take i names ++ drop (suc i) names)) q (Rise-without names name i rise at)
     ∙ ap (find name_cmp q) (sym (where_at names name i rise at.inside at.is))
     ∙ find-where_key name_cmp (others name) q (λ x t. ap (others name) (sym (same_name q x t))) (as_entries names)

@@ -5,3 +5,4 @@ pub mod Regions
 pub mod Outcomes
 pub mod Pieces
 pub mod Summaries
+pub mod Trees

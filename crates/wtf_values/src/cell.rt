@@ -185,7 +185,7 @@ fn names_after(names: NameSet, delta: &Delta) -> Result<NameSet, OutOfMemory>
     let mut names = names;
     match delta {
         Delta::DirAdd(name) => names.add(name.share()?)?,
-        Delta::DirDel(name) => names.remove(name.as_bytes()),
+        Delta::DirDel(name) => names.remove(name.as_bytes())?,
         _ => {}
     }
     Ok(names)

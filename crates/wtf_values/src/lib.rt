@@ -9,6 +9,7 @@ pub mod examples;
 mod key;
 mod name;
 mod name_set;
+mod name_tree;
 mod pieces;
 mod region;
 mod store_key;
