@@ -1,5 +1,5 @@
 -- What contracts see of the devices in memory. Of each: what it holds, and its calls so far.
-use Rattle.std.specs.Prelude.{◌≡◌, ℕ, ◌-◌, ◌^◌, ◌<◌, ◌≤◌, ◌⊎◌, true, Some, List, [], length, min, slice_get, slice_set, slice_index_or, Vec, map}
+use Rattle.std.specs.Prelude.{◌≡◌, ℕ, ◌-◌, ◌^◌, ◌<◌, ◌≤◌, ◌⊎◌, ◌&&◌, nat_lt, if◌then◌else◌, true, Option, Some, None, List, [], length, min, slice_get, slice_set, slice_index_or, Vec, map}
 use Rattle.std.specs.declared.alloc.Global.{Global}
 use Rattle.wtf_dev.specs.Calls.{CallCounts, CallsGoOn}
 use Rattle.wtf_dev.specs.Streams.{SourceView, SinkView}
@@ -34,14 +34,15 @@ abbrev pub file_bytes : StoreState → ℕ → List ℕ
 file_bytes s f = slice_index_or s.files f []
 
 -- A file is never longer than 2^61 - 1 bytes: `min` says so of each state that can be written down.
+abbrev pub file_size : StoreState → ℕ → ℕ
+file_size s f = min (length (file_bytes s f)) (2 ^ 61 - 1)
+
+-- the byte at a place of a file; none past its length, and none in a ninth file
+abbrev pub file_told : StoreState → ℕ → ℕ → Option ℕ
+file_told s f i = if nat_lt f 8 && nat_lt i (file_size s f) then slice_get (file_bytes s f) i else None
+
 abbrev pub store_view : StoreState → StoreView
-store_view s = record {
-  faults = s.calls.faults;
-  syncs = s.syncs;
-  size = λ f. min (length (file_bytes s f)) (2 ^ 61 - 1);
-  told = λ f i. slice_get (file_bytes s f) i;
-  tells = true;
-}
+store_view s = record { faults = s.calls.faults; syncs = s.syncs; size = file_size s; told = file_told s; tells = true }
 
 pub record StoreFollows (old new : StoreState) (punched : List Range) : Type 0 where
   pub kept : Kept (store_view old) (store_view new) punched

@@ -1,5 +1,5 @@
 -- What contracts see of a slice store, and what every call keeps of it.
-use Rattle.std.specs.Prelude.{◌≡◌, ℕ, ◌+◌, ◌<◌, ◌≤◌, ◌^◌, Bool, true, Option, Some, List, [], ◌∷◌, ◌++◌, length, slice_index}
+use Rattle.std.specs.Prelude.{◌≡◌, ℕ, ◌+◌, ◌<◌, ◌≤◌, ◌^◌, Bool, true, Option, Some, None, List, [], ◌∷◌, ◌++◌, length, slice_index}
 
 -- a part of a backing file
 pub record Range : Type 0 where
@@ -27,6 +27,8 @@ pub record Kept (old new : StoreView) (punched : List Range) : Type 0 where
   pub syncs : old.syncs ≤ new.syncs
   pub size : (f : ℕ) → old.size f ≤ new.size f
   pub bytes : (f i b : ℕ) → Outside f i punched → old.told f i ≡ Some b → new.told f i ≡ Some b
+  -- what was not told below the old length is not told now
+  pub untold : (f i : ℕ) → Outside f i punched → i < old.size f → old.told f i ≡ None → new.told f i ≡ None
   pub tells : new.tells ≡ old.tells
 
 -- the bytes of a file from a place on are these
@@ -59,7 +61,9 @@ pub record KindLaws {S : Type 0} (kind : StoreKind S) : Type 0 where
   pub follows_itself : (s : S) → kind.follows s s []
   -- two spans join
   pub follows_on : (a b c : S) (xs ys : List Range) → kind.follows a b xs → kind.follows b c ys → kind.follows a c (xs ++ ys)
-  -- no count and no length falls, and told bytes outside the ranges stay
+  -- no count and no length falls, and outside the ranges told bytes stay, and below the old length nothing comes to be told
   pub keeps : (a b : S) (xs : List Range) → kind.follows a b xs → Kept (kind.view a) (kind.view b) xs
   -- no file is longer than 2^61 - 1 bytes
   pub fits : (s : S) (f : ℕ) → (kind.view s).size f < 2 ^ 61
+  -- each byte that is told lies in one of the eight files, below its length
+  pub within : (s : S) (f i b : ℕ) → (kind.view s).told f i ≡ Some b → (f < 8) × (i < (kind.view s).size f)

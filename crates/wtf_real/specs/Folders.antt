@@ -30,4 +30,5 @@ folder_laws = record {
   follows_on = λ a b c xs ys p q. kept_on (folder_view a) (folder_view b) (folder_view c) xs ys p q;
   keeps = λ a b xs f. f;
   fits = λ s f. omega arith;
+  within = λ s f i b told. absurd (cc);
 }

@@ -1,8 +1,8 @@
 -- Laws of what the stores of a shelf hold.
-use Rattle.std.proofs.Common.{◌≡◌, ◌≢◌, ℕ, ◌+◌, ◌-◌, ◌<◌, ◌≤◌, Bool, true, false, cond, inl, inr, List, [], ◌∷◌, length, get_or, map, Option, Some, None, refl, sym, ◌∙◌, ap, subst, arith}
+use Rattle.std.proofs.Common.{◌≡◌, ◌≢◌, ℕ, ◌+◌, ◌-◌, ◌<◌, ◌≤◌, ◌⊎◌, Bool, true, false, cond, inl, inr, List, [], ◌∷◌, length, get_or, Option, Some, None, refl, sym, ◌∙◌, ap, subst, arith}
 use Rattle.std.specs.Prelude.{slice_get}
 use Rattle.std.specs.List.{All}
-use Rattle.std.proofs.lemmas.Bool.{cases_eq, eq-eqb, ne_eqb}
+use Rattle.std.proofs.lemmas.Bool.{cases_eq, eq-eqb, false≢true, ne_eqb}
 use Rattle.std.proofs.lemmas.Option.{slice_get_cases, slice_get-get_or, slice_get_within, get_or_from_slice_get}
 use Rattle.std.proofs.lemmas.List.Elements.{All-map, All-weaker}
 use Rattle.wtf_base.specs.declared.pointer.Pointer.{Pointer}
@@ -16,9 +16,9 @@ use Rattle.wtf_dev.specs.Each.{on_server, EachFollows}
 use Rattle.wtf_dev.specs.Sums.{TellsAll}
 use Rattle.wtf_ring.specs.Points.{PlaceView}
 use Rattle.wtf_replica.specs.Spans.{Span}
-use Rattle.wtf_replica.specs.Bytes.{told_by, byte_at, IsPlaceInside, HoldsSlice, ShowsSlice}
+use Rattle.wtf_replica.specs.Bytes.{told_by, byte_at, IsPlaceInside, HoldsSlice, ShowsSlice, ShowsUp}
 use Rattle.wtf_replica.specs.Faults.{punched_on}
-use Rattle.wtf_replica.specs.Copies.{IsInside, IsNewCopy, IsStored, IsFetched}
+use Rattle.wtf_replica.specs.Copies.{IsInside, IsStored, IsFetched}
 
 -- the byte at a place is the one that its store tells
 pub byte_at-told : {S : Type 0} (kind : StoreKind S) (shelf : List S) (p : Place) (d : S) → p.server < length shelf
@@ -45,6 +45,32 @@ byte_at-kept {S} {kind} laws {old} {new} e p b out told =
     let later : p.server < length new = omega (arith, below, e.same_length) in
     byte_at-told kind new p d later
     ∙ (laws.keeps _ _ _ (e.each p.server d below)).bytes p.file p.at b out (sym (byte_at-told kind old p d below) ∙ told)
+
+-- the place of a byte that is told lies inside the stores
+pub told_inside : {S : Type 0} {kind : StoreKind S} → KindLaws kind → (shelf : List S) (p : Place) (b : ℕ) → byte_at kind shelf p ≡ Some b
+    → IsPlaceInside kind shelf p
+told_inside {S} {kind} laws shelf p b told =
+    let below : p.server < length shelf = byte_at-within kind shelf p b told in
+    let here : (d : S) → (p.file < 8) × (p.at < (kind.view (get_or shelf p.server d)).size p.file) =
+    λ d. laws.within (get_or shelf p.server d) p.file p.at b (sym (byte_at-told kind shelf p d below) ∙ told) in
+    (below, (here (element shelf p.server below)).0, λ d. (here d).1)
+
+some_or_none : (o : Option ℕ) → (o ≡ None) ⊎ ((b : ℕ) × (o ≡ Some b))
+some_or_none None = inl refl
+some_or_none (Some b) = inr (b, refl)
+
+-- what stands at a place inside the stores and outside the punched ranges stays: the byte that is told, or that none is
+pub byte_at-same : {S : Type 0} {kind : StoreKind S} → KindLaws kind → {old new : List S} {punched : List (ℕ × Range)} → EachFollows kind old new punched
+    → (p : Place) → Outside p.file p.at (on_server p.server punched) → IsPlaceInside kind old p → byte_at kind new p ≡ byte_at kind old p
+byte_at-same {S} {kind} laws {old} {new} e p out inside = elim (some_or_none (byte_at kind old p)) [
+  | inl none ↦
+      let d : S = element old p.server inside.0 in
+      let later : p.server < length new = omega (arith, inside.0, e.same_length) in
+      byte_at-told kind new p d later
+      ∙ (laws.keeps _ _ _ (e.each p.server d inside.0)).untold p.file p.at out (inside.2 d) (sym (byte_at-told kind old p d inside.0) ∙ none)
+      ∙ sym none
+  | inr told ↦ byte_at-kept laws e p told.0 out told.1 ∙ sym told.1
+]
 
 -- a call that punches one range, or nothing on a server that is down, leaves each told byte that the range does not hold
 outside_punched : (down : Bool) (k : ℕ) (r : Range) (p : Place) → (p.server ≡ k → Outside p.file p.at (r ∷ []))
@@ -98,6 +124,14 @@ inside_places kind shelf s some inside =
     let here = All-unmap (IsPlaceInside kind shelf) (place_in (len_of s - 1)) (pointers_of s) (inside (len_of s - 1) (omega (arith, some))) k d h in
     (here.0, here.1, λ e. omega (arith, here.2 e, pointers-len s k d h, some))
 
+-- a slice of which every copy of each byte is told lies inside them
+pub told_slice_inside : {S : Type 0} {kind : StoreKind S} → KindLaws kind → (shelf : List S) (s : Slice) → 0 < len_of s
+    → ((i : ℕ) → i < len_of s → (b : ℕ) × HasByte (byte_at kind shelf) s i b) → IsInside kind shelf s
+told_slice_inside {kind = kind} laws shelf s some told =
+    inside_places kind shelf s some (λ i below.
+    let here = told i below in
+    All-weaker (λ (q : Place). byte_at kind shelf q ≡ Some here.0) (IsPlaceInside kind shelf) (λ q is. told_inside laws shelf q here.0 is) (places_of s i) here.1)
+
 -- what was stored is held by every copy, where the stores tell what they hold
 pub stored_bytes : {S : Type 0} {kind : StoreKind S} {t : Span S} {replicas : ℕ} {place : PlaceView} {bytes : List ℕ} {s : Slice}
     → IsStored kind t replicas place bytes s → length t.after ≡ length t.before → TellsAll kind t.before → HoldsSlice (byte_at kind t.after) s bytes
@@ -112,19 +146,32 @@ stored_bytes {S} {kind} {t = t} {place = place} {bytes = bytes} {s = s} stored s
     ∙ subst (λ (f : ℕ). (kind.view (get_or t.after p.server.0 x)).told f (p.at + i) ≡ Some (get_or bytes i 0)) (sym c.file)
     (c.holds x (tells p.server.0 x c.server) i below))
 
--- what was read is what every copy held
-pub fetched_bytes : {S : Type 0} {kind : StoreKind S} {t : Span S} {s : Slice} {off : ℕ} {out : List ℕ} {k : ℕ}
-    → IsFetched kind t s off out k → ShowsSlice (byte_at kind t.before) s off out
-fetched_bytes {S} {kind} {t = t} {s = s} {off = off} {out = out} {k = k} fetched i b below held =
+-- what was read is what every copy on a server that is up held
+pub fetched_up : {S : Type 0} {kind : StoreKind S} {t : Span S} {s : Slice} {off : ℕ} {out : List ℕ} {k : ℕ}
+    → IsFetched kind t s off out k → ShowsUp t.down (byte_at kind t.before) s off out
+fetched_up {S} {kind} {t = t} {s = s} {off = off} {out = out} {k = k} fetched i b below held =
+    let Held : Place → Type 0 = λ q. (t.down q.server ≡ true) ⊎ (byte_at kind t.before q ≡ Some b) in
     let here : fetched.copy < length (pointers_of s) = slice_get_within (pointers_of s) fetched.copy fetched.pointer fetched.is_copy in
     let d : S = element t.before k fetched.known in
-    let at = All-unmap (λ (q : Place). byte_at kind t.before q ≡ Some b) (place_in (off + i)) (pointers_of s) held fetched.copy fetched.pointer here in
-    let told : byte_at kind t.before (place_in (off + i) fetched.pointer) ≡ Some b =
-    subst (λ (p : Pointer). byte_at kind t.before (place_in (off + i) p) ≡ Some b)
-    (get_or_from_slice_get (pointers_of s) fetched.copy fetched.pointer fetched.pointer fetched.is_copy) at in
+    let at = All-unmap Held (place_in (off + i)) (pointers_of s) held fetched.copy fetched.pointer here in
+    let it : Held (place_in (off + i) fetched.pointer) =
+    subst (λ (p : Pointer). Held (place_in (off + i) p)) (get_or_from_slice_get (pointers_of s) fetched.copy fetched.pointer fetched.pointer fetched.is_copy) at in
+    let told : byte_at kind t.before (place_in (off + i) fetched.pointer) ≡ Some b = elim it [
+      | inl is_down ↦ absurd (false≢true (sym fetched.up ∙ ap t.down (sym fetched.server) ∙ is_down))
+      | inr is ↦ is
+    ] in
     let low : fetched.pointer.server.0 < length t.before = omega (arith, fetched.known, fetched.server) in
     let spot : (kind.view (get_or t.before fetched.pointer.server.0 d)).told fetched.pointer.file (fetched.pointer.at + (off + i)) ≡ Some b =
     sym (byte_at-told kind t.before (place_in (off + i) fetched.pointer) d low) ∙ told in
     fetched.bytes d i b below
     (subst (λ (n : ℕ). (kind.view (get_or t.before n d)).told fetched.pointer.file (fetched.pointer.at + off + i) ≡ Some b) fetched.server
     (ap (λ (n : ℕ). (kind.view (get_or t.before fetched.pointer.server.0 d)).told fetched.pointer.file n) (omega arith) ∙ spot))
+
+-- and so what every copy held
+pub shows_up-shows : (down : ℕ → Bool) (bytes_at : Place → Option ℕ) (s : Slice) (off : ℕ) (bytes : List ℕ) → ShowsUp down bytes_at s off bytes → ShowsSlice bytes_at s off bytes
+shows_up-shows down bytes_at s off bytes shows i b below held =
+    shows i b below (All-weaker (λ (q : Place). bytes_at q ≡ Some b) (λ (q : Place). (down q.server ≡ true) ⊎ (bytes_at q ≡ Some b)) (λ q is. inr is) (places_of s (off + i)) held)
+
+pub fetched_bytes : {S : Type 0} {kind : StoreKind S} {t : Span S} {s : Slice} {off : ℕ} {out : List ℕ} {k : ℕ}
+    → IsFetched kind t s off out k → ShowsSlice (byte_at kind t.before) s off out
+fetched_bytes {kind = kind} {t = t} {s = s} {off = off} {out = out} fetched = shows_up-shows t.down (byte_at kind t.before) s off out (fetched_up fetched)

@@ -1,6 +1,6 @@
--- What the loops of `create`, `fetch` and `sync_all` keep of the stores over the parts of a span in which nothing is punched.
-use Rattle.std.proofs.Common.{◌≡◌, ◌≢◌, ℕ, ◌<◌, ◌≤◌, Bool, true, List, [], length, get_or, sym, ◌∙◌, ap, subst, arith, inl, inr}
-use Rattle.std.proofs.lemmas.Bool.{cases_eq}
+-- What the loops of `create`, `fetch`, `sync_all` and `sync_up` keep of the stores over the parts of a span in which nothing is punched.
+use Rattle.std.proofs.Common.{◌≡◌, ◌≢◌, ℕ, ◌<◌, ◌≤◌, Bool, true, false, List, [], length, get_or, sym, ◌∙◌, ap, subst, arith, inl, inr}
+use Rattle.std.proofs.lemmas.Bool.{cases_eq, false≢true}
 use Rattle.std.proofs.lemmas.List.Elements.{All-weaker}
 use Rattle.wtf_base.specs.declared.pointer.Pointer.{Pointer}
 use Rattle.wtf_base.specs.declared.slice.Slice.{Slice}
@@ -53,6 +53,13 @@ pub out_since : {S : Type 0} (kind : StoreKind S) (down : ℕ → Bool) (old mid
 out_since kind down old mid new same kept k out = elim out [
   | inl is_down ↦ inl is_down
   | inr rise ↦ inr (risen_since kind old mid new same kept k rise)
+]
+
+-- the store of a server that is out and not down failed
+pub risen_if_up : {S : Type 0} (kind : StoreKind S) (down : ℕ → Bool) (old new : List S) (k : ℕ) → down k ≡ false → IsOut kind (span down old new) k → HasRisen kind old new k
+risen_if_up kind down old new k up out = elim out [
+  | inl is_down ↦ absurd (false≢true (sym up ∙ is_down))
+  | inr rise ↦ rise
 ]
 
 -- a try of server k, which does nothing if it is down, leaves the servers that are down as they were

@@ -1,7 +1,8 @@
 -- What the stores of a shelf hold: the byte at a place, the places that there are, and the bytes of a slice.
-use Rattle.std.specs.Prelude.{◌≡◌, ℕ, ◌+◌, ◌<◌, List, length, Option, Some, None, slice_get, slice_index, slice_index_or}
+use Rattle.std.specs.Prelude.{◌≡◌, ◌⊎◌, ℕ, ◌+◌, ◌<◌, Bool, true, List, length, Option, Some, None, slice_get, slice_index, slice_index_or}
+use Rattle.std.specs.List.{All}
 use Rattle.wtf_base.specs.declared.slice.Slice.{Slice}
-use Rattle.wtf_base.specs.Places.{Place, HasByte}
+use Rattle.wtf_base.specs.Places.{Place, places_of, HasByte}
 use Rattle.wtf_dev.specs.Store.{StoreKind}
 
 -- the byte that a store tells at a place; none where there is no store
@@ -26,3 +27,13 @@ HoldsSlice bytes_at s bytes = (i : ℕ) → i < length bytes → HasByte bytes_a
 abbrev pub ShowsSlice : (Place → Option ℕ) → Slice → ℕ → List ℕ → Type 0
 ShowsSlice bytes_at s off bytes =
     (i b : ℕ) → i < length bytes → HasByte bytes_at s (off + i) b → slice_index bytes i ≡ b
+
+-- every copy of the byte at i of a slice on a server that is not down holds b
+abbrev pub HasByteUp : (ℕ → Bool) → (Place → Option ℕ) → Slice → ℕ → ℕ → Type 0
+HasByteUp down bytes_at s i b = All (λ q. (down q.server ≡ true) ⊎ (bytes_at q ≡ Some b)) (places_of s i)
+
+-- these bytes were read from byte off of a slice on: a byte that every copy on a server that is not down holds is the one
+-- there, whatever the servers that are down hold
+abbrev pub ShowsUp : (ℕ → Bool) → (Place → Option ℕ) → Slice → ℕ → List ℕ → Type 0
+ShowsUp down bytes_at s off bytes =
+    (i b : ℕ) → i < length bytes → HasByteUp down bytes_at s (off + i) b → slice_index bytes i ≡ b

@@ -3,6 +3,7 @@ pub mod Downs
 pub mod Outs
 pub mod Bytes
 pub mod Copies
+pub mod Inside
 pub mod Faults
 pub mod Placed
 pub use Rattle.wtf_base.specs.Slices

@@ -1,5 +1,5 @@
 -- Which servers are out in a span, which of an order are taken, and what a span leaves of the stores.
-use Rattle.std.specs.Prelude.{◌≡◌, ◌≢◌, ◌⊎◌, ℕ, ◌<◌, true, List, [], ◌∷◌, length, slice_index_or}
+use Rattle.std.specs.Prelude.{◌≡◌, ◌≢◌, ◌⊎◌, ℕ, ◌<◌, ◌≤◌, true, List, [], ◌∷◌, length, slice_index_or}
 use Rattle.wtf_dev.specs.Counts.{Rose}
 use Rattle.wtf_dev.specs.Store.{StoreKind, SameSizes}
 use Rattle.wtf_replica.specs.Spans.{Span}
@@ -23,6 +23,10 @@ LeavesOut Out (j ∷ order) (k ∷ taken) = ((j ≡ k) × LeavesOut Out order ta
 -- the stores of the servers that are down are as they were
 abbrev pub IsLeftDown : {S : Type 0} → Span S → Type 0
 IsLeftDown {S} t = (k : ℕ) (d : S) → t.down k ≡ true → slice_index_or t.after k d ≡ slice_index_or t.before k d
+
+-- the stores of the servers from n on are as they were
+abbrev pub SameFrom : {S : Type 0} → ℕ → List S → List S → Type 0
+SameFrom {S} n old new = (k : ℕ) (d : S) → n ≤ k → slice_index_or new k d ≡ slice_index_or old k d
 
 -- each file of each store is as long as it was
 abbrev pub SameLengths : {S : Type 0} → StoreKind S → List S → List S → Type 0

@@ -1,12 +1,13 @@
 //! Worked examples of the definitions, each proved for every kind of store.
 
-ghost use Rattle.std.specs.Prelude.{◌≡◌, ◌<◌, ◌-◌, ◌^◌, ℕ, List, Some, slice_get, slice_index_or};
+ghost use Rattle.std.specs.Prelude.{◌≡◌, ◌<◌, ◌≤◌, ◌-◌, ◌^◌, ℕ, Bool, true, List, Some, length, slice_get, slice_index_or};
 ghost use Rattle.wtf_base.specs.declared.pointer.Pointer.{Pointer};
 ghost use Rattle.wtf_base.specs.declared.slice.Slice.{Slice};
 ghost use Rattle.wtf_base.specs.Slices.{pointers_of};
 ghost use Rattle.wtf_replica.specs.Spans.{Span};
 ghost use Rattle.wtf_replica.specs.Outs.{IsOut, SameSyncs, HasSynced};
-ghost use Rattle.wtf_replica.specs.Copies.{IsFetched};
+ghost use Rattle.wtf_replica.specs.Copies.{IsFetched, IsReadable};
+ghost use Rattle.wtf_replica.specs.Inside.{size_in, slice_lies_inside};
 
 use wtf_dev::SliceStore;
 
@@ -22,4 +23,11 @@ pub fn a_slice_is_read_from_its_first_copy<S: SliceStore>()
     ensures { (t : Span S) (s : Slice) (off : ℕ) (out : List ℕ) (k : ℕ) (p : Pointer) →
         slice_get (pointers_of s) 0 ≡ Some p → (IsOut S.kind t p.server.0 → ⊥) →
         IsFetched S.kind t s off out k → k ≡ p.server.0 }
+{}
+
+/// A slice that lies inside the stores can be read, whichever servers are down.
+pub fn a_slice_inside_the_stores_can_be_read<S: SliceStore>()
+    ensures { (servers : ℕ) (shelf : List S) (down : ℕ → Bool) (s : Slice) →
+        servers ≤ length shelf → slice_lies_inside servers (size_in S.kind shelf) s ≡ true →
+        IsReadable S.kind down shelf s }
 {}

@@ -6,7 +6,7 @@ ghost use Rattle.wtf_dev.specs.Each.{EachFollows};
 ghost use Rattle.wtf_dev.specs.Store.{Agrees};
 ghost use Rattle.wtf_replica.specs.Downs.{is_down, during};
 ghost use Rattle.wtf_replica.specs.Outs.{IsLeftDown, IsOut, SameLengths, SameSyncs};
-ghost use Rattle.wtf_replica.specs.Bytes.{byte_at, ShowsSlice};
+ghost use Rattle.wtf_replica.specs.Bytes.{byte_at, ShowsSlice, ShowsUp};
 ghost use Rattle.wtf_replica.specs.Copies.{IsCopyInside, IsReadable, IsFetched};
 ghost use Rattle.wtf_replica.specs.Faults.{IsReadFault};
 
@@ -31,6 +31,8 @@ impl Replicas {
         ensures fetched { IfOk result (λ k.
             IsFetched S.kind (during self.now shelf.old shelf.new) slice.now off out.new k.0) }
         ensures shows { OnOk result (ShowsSlice (byte_at S.kind shelf.old) slice.now off out.new) }
+        ensures shows_up { OnOk result
+            (ShowsUp (is_down self.now) (byte_at S.kind shelf.old) slice.now off out.new) }
         ensures fault { IfErr result
             (IsReadFault S.kind (during self.now shelf.old shelf.new) slice.now) }
         ensures down { IsLeftDown (during self.now shelf.old shelf.new) }

@@ -7,7 +7,9 @@ mod create;
 pub mod examples;
 mod fetch;
 mod free;
+mod inside;
 mod replicas;
 mod sync;
 
+pub use inside::{lies_inside, slice_lies_inside};
 pub use replicas::Replicas;

@@ -9,9 +9,9 @@ ghost use Rattle.wtf_replica.specs.Copies.{IsInside};
 use crate::stores::{inode, store};
 use std::alloc::Global;
 use std::test::Fail;
-use wtf_base::{Fault, ServerId, Settings, Slice};
+use wtf_base::{Fault, Pointer, ServerId, Settings, Slice};
 use wtf_dev::{Failed, MemStore, Shelf, SliceStore};
-use wtf_replica::Replicas;
+use wtf_replica::{Replicas, lies_inside, slice_lies_inside};
 use wtf_ring::{Place, Ring};
 
 /// The backing file of both copies.
@@ -239,6 +239,96 @@ fn unsynced(alloc: Global, rows: &[Downs]) -> Result<usize, Fail> {
 fn all_stores_are_synced_where_all_are_up(rt: HostRuntime) -> Result<(), Fail> {
     assert_eq!(rt; sync(rt.alloc(), &ALL_UP)?, Ok(()));
     assert_eq!(rt; unsynced(rt.alloc(), &NOT_SYNCED)?, 4);
+    Ok(())
+}
+
+/// The servers that are down, the call of each store that fails, if any, and the answer.
+type SyncedUp = (&'static [u8], [Option<u64>; 2], Result<(), Failed>);
+
+/// Whether this is the answer of a sync of the stores of the servers that are up.
+fn is_synced_up(alloc: Global, row: &SyncedUp) -> Result<bool, Fail> {
+    let (down, fails, want) = row;
+    let replicas = replicas(2, down)?;
+    let mut shelf = shelf(alloc, fails)?;
+    Ok(replicas.sync_up(&mut shelf) == *want)
+}
+
+const SYNCED_UP: [SyncedUp; 8] = [
+    (&[], [None, None], Ok(())),
+    (&[0], [None, None], Ok(())),
+    (&[0], [Some(0), None], Ok(())),
+    (&[1], [None, Some(0)], Ok(())),
+    (&[0, 1], [Some(0), Some(0)], Ok(())),
+    (&[], [None, Some(0)], Err(Failed)),
+    (&[1], [Some(0), None], Err(Failed)),
+    (&[0], [None, Some(0)], Err(Failed)),
+];
+
+/// How many rows hold, from the first on.
+fn synced_up(alloc: Global, rows: &[SyncedUp]) -> Result<usize, Fail> {
+    for (i, row) in rows.iter().enumerate() {
+        if !is_synced_up(alloc, row)? {
+            return Ok(i);
+        }
+    }
+    Ok(rows.len())
+}
+
+#[test]
+fn stores_of_servers_that_are_up_are_synced(rt: HostRuntime) -> Result<(), Fail> {
+    assert_eq!(rt; synced_up(rt.alloc(), &SYNCED_UP)?, 8);
+    Ok(())
+}
+
+/// How many servers there are, and an extent.
+type Extent = (u8, u8, u8, u64, u32);
+
+/// Which of these extents lie inside two stores whose files 3 have four bytes each.
+fn inside(alloc: Global, rows: &[Extent; 6]) -> Result<[bool; 6], Fail> {
+    let mut shelf = shelf(alloc, &[None, None])?;
+    let _slice = two_copies(&mut shelf)?;
+    let mut told = [false; 6];
+    for (i, row) in rows.iter().enumerate() {
+        let (servers, server, file, at, len) = row;
+        if *servers > 2 || i >= 6 {
+            return Err(Fail::from("servers"));
+        }
+        let extent = Pointer {
+            server: ServerId(*server),
+            file: *file,
+            at: *at,
+            len: *len,
+        };
+        told[i] = lies_inside(*servers, &shelf, extent);
+    }
+    Ok(told)
+}
+
+const EXTENTS: [Extent; 6] = [
+    (2, 1, FILE, 0, 4),
+    (2, 1, FILE, 3, 1),
+    (1, 1, FILE, 0, 4),
+    (2, 1, 8, 0, 4),
+    (2, 1, FILE, 0, 5),
+    (2, 1, FILE, 5, 1),
+];
+
+/// Whether a slice with copies on two servers lies inside the stores of so many of them.
+fn is_inside(alloc: Global, servers: u8) -> Result<bool, Fail> {
+    let mut shelf = shelf(alloc, &[None, None])?;
+    let slice = two_copies(&mut shelf)?;
+    if servers > 2 {
+        return Err(Fail::from("servers"));
+    }
+    Ok(slice_lies_inside(servers, &shelf, &slice))
+}
+
+#[test]
+fn extents_and_slices_lie_inside_the_stores_or_not(rt: HostRuntime) -> Result<(), Fail> {
+    let told = inside(rt.alloc(), &EXTENTS)?;
+    assert_eq!(rt; told, [true, true, false, false, false, false]);
+    assert_eq!(rt; is_inside(rt.alloc(), 2)?, true);
+    assert_eq!(rt; is_inside(rt.alloc(), 1)?, false);
     Ok(())
 }
 

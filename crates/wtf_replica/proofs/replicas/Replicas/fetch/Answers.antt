@@ -4,7 +4,7 @@ use Rattle.wtf_dev.proofs.Each.{each_on}
 use Rattle.wtf_replica.specs.Downs.{is_down}
 use Rattle.wtf_replica.specs.Spans.{span}
 use Rattle.wtf_replica.specs.Copies.{IsFetched}
-use Rattle.wtf_replica.proofs.Bytes.{fetched_bytes}
+use Rattle.wtf_replica.proofs.Bytes.{fetched_up, fetched_bytes}
 use Rattle.wtf_replica.proofs.Reading.{fetched, next_last, next_out}
 use Rattle.wtf_replica.proofs.Spans.{each_kept, lows_on, same_lengths_on, same_syncs_on}
 use Rattle.wtf_replica.proofs.replicas.Replicas.fetch.Goals as goal
@@ -24,6 +24,9 @@ returns-then-read_copy-clause-fetched g c = read g c c.if-read_copy.true
 
 pub returns-then-read_copy-clause-shows : goal.returns-then-read_copy-clause-shows
 returns-then-read_copy-clause-shows g c = fetched_bytes (read g c c.if-read_copy.true)
+
+pub returns-then-read_copy-clause-shows_up : goal.returns-then-read_copy-clause-shows_up
+returns-then-read_copy-clause-shows_up g c = fetched_up (read g c c.if-read_copy.true)
 
 pub returns-then-read_copy-clause-follows : goal.returns-then-read_copy-clause-follows
 returns-then-read_copy-clause-follows g c = each_on g.met.S.SliceStore.laws c.loop-i.invariant.each c.read_copy.ensures.follows

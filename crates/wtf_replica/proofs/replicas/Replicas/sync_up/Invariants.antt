@@ -1,0 +1,16 @@
+use Rattle.std.proofs.Common.{◌≡◌, ◌<◌, ℕ, false, []}
+use Rattle.wtf_dev.specs.Each.{EachFollows}
+use Rattle.wtf_replica.specs.Downs.{is_down}
+use Rattle.wtf_replica.specs.Spans.{span}
+use Rattle.wtf_replica.specs.Outs.{IsLeftDown, HasSynced, SameFrom, SameLengths}
+use Rattle.wtf_replica.proofs.replicas.Replicas.sync_up.Given as goal
+
+-- nothing was done to servers that are down, or from server k on; of the servers before it the stores of those that are up were synced
+abbrev pub invariant-loop-k : goal.invariant-loop-k
+invariant-loop-k g l = record {
+  each : EachFollows g.S.SliceStore.kind l.initial.shelf l.shelf [];
+  lows : IsLeftDown (span (is_down l.self) l.initial.shelf l.shelf);
+  lengths : SameLengths g.S.SliceStore.kind l.initial.shelf l.shelf;
+  synced : (j : ℕ) → j < l.k → is_down l.self j ≡ false → HasSynced g.S.SliceStore.kind l.initial.shelf l.shelf j;
+  past : SameFrom l.k l.initial.shelf l.shelf;
+}
