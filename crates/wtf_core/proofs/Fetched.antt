@@ -47,7 +47,7 @@ module _ {S : Type 0} (kind : StoreKind S) (shelf : List S) (settings : Settings
 
   -- ---- a slice
 
-  pointer_in : (n i : ℕ) (p : Pointer) → p.len ≡ n → i < n → rules.is_inside settings.servers sizes p ≡ true → is_place_inside kind shelf settings (place_in i p) ≡ true
+  pointer_in : (n i : ℕ) (p : Pointer) → p.len ≡ n → i < n → rules.lies_inside settings.servers sizes p ≡ true → is_place_inside kind shelf settings (place_in i p) ≡ true
   pointer_in n i p len lt h =
       let a = and_parts (nat_lt p.server.0 settings.servers) (nat_lt p.file 8 && nat_le (p.at + p.len) (sizes p.server.0 p.file)) h in
       let b = and_parts (nat_lt p.file 8) (nat_le (p.at + p.len) (sizes p.server.0 p.file)) a.1 in
@@ -57,10 +57,10 @@ module _ {S : Type 0} (kind : StoreKind S) (shelf : List S) (settings : Settings
       and_from (nat_lt p.server.0 settings.servers) (nat_lt p.file 8 && nat_lt (p.at + i) (size_in kind (slice_get shelf p.server.0) p.file)) a.0
       (and_from (nat_lt p.file 8) (nat_lt (p.at + i) (size_in kind (slice_get shelf p.server.0) p.file)) b.0 (lt-ltb _ _ at))
 
-  pointers_in : (n i : ℕ) (ps : List Pointer) → AllByRecursion (λ p. p.len ≡ n) ps → i < n → list_all (rules.is_inside settings.servers sizes) ps ≡ true → is_inside kind shelf settings (map (place_in i) ps) ≡ true
+  pointers_in : (n i : ℕ) (ps : List Pointer) → AllByRecursion (λ p. p.len ≡ n) ps → i < n → list_all (rules.lies_inside settings.servers sizes) ps ≡ true → is_inside kind shelf settings (map (place_in i) ps) ≡ true
   pointers_in n i [] len lt h = refl
   pointers_in n i (p ∷ ps) len lt h =
-      let both = and_parts (rules.is_inside settings.servers sizes p) (list_all (rules.is_inside settings.servers sizes) ps) h in
+      let both = and_parts (rules.lies_inside settings.servers sizes p) (list_all (rules.lies_inside settings.servers sizes) ps) h in
       and_from (is_place_inside kind shelf settings (place_in i p)) (is_inside kind shelf settings (map (place_in i) ps)) (pointer_in n i p len.0 lt both.0) (pointers_in n i ps len.1 lt both.1)
 
   lengths : (n : ℕ) (e : Extents) → AllByRecursion (λ (p : Pointer). p.len ≡ n) (pointers_to n e)

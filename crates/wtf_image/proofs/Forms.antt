@@ -12,20 +12,19 @@ use Rattle.wtf_path.specs.Refusals.{refusal}
 use Rattle.wtf_path.proofs.Refused.{grammar}
 use Rattle.wtf_values.specs.declared.value.Node.{Node}
 use Rattle.wtf_values.specs.declared.value.Node.TheVariants.{Folder, File}
+use Rattle.wtf_overlay.specs.Texts.{entries_text}
+use Rattle.wtf_overlay.specs.Shapes.{IsEntry}
+use Rattle.wtf_overlay.specs.Reading.{◌>>=◌, counted_at}
+use Rattle.wtf_spillfmt.proofs.Codecs.{Codec, IsBytes, IsBytes-rest, Takes, IsMade, some_is, bind_some, passed, codec_then, codec_as, codec_form, codec_only, counted_codec, byte_codec, codec16, codec32, codec64, text_codec}
+use Rattle.wtf_spillfmt.proofs.Lists.{entries_codec}
 use Rattle.wtf_image.specs.declared.records.Header.{Header}
 use Rattle.wtf_image.specs.declared.records.PathRecord.{PathRecord}
 use Rattle.wtf_image.specs.Rows.{EntryRow, RegionRow, FileRow, ImageRows}
-use Rattle.wtf_image.specs.Texts.{entries_text, region_text, regions_text, inode_text, file_text, files_text, node_text, name_text, path_text, paths_text, magic, header_text, image_text}
-use Rattle.wtf_image.specs.Shapes.{ascends, path_before, file_before, region_before, IsEntry, IsRegion, IsInode, IsFileRow, IsNode, IsPathRow, IsHeader, ArePaths, AreFiles, IsImage}
-use Rattle.wtf_image.specs.Reading.{◌>>=◌, counted_at, no_base, make_region, entry_at, region_at, make_inode, inode_at, make_file, file_at, node_at, is_path, name_at, make_path, path_at, paths_at, files_at, is_magic, magic_at, make_header, header_at, make_image, image_at, image_of}
-use Rattle.wtf_image.proofs.Codecs.{Codec, IsBytes, IsBytes-rest, Takes, IsMade, some_is, bind_some, passed, codec_then, codec_as, codec_form, codec_only, counted_codec, byte_codec, codec16, codec32, codec64, text_codec}
-use Rattle.wtf_image.proofs.Entries.{entry_codec}
+use Rattle.wtf_image.specs.Texts.{region_text, regions_text, inode_text, file_text, files_text, node_text, name_text, path_text, paths_text, magic, header_text, image_text}
+use Rattle.wtf_image.specs.Shapes.{ascends, path_before, file_before, region_before, IsRegion, IsInode, IsFileRow, IsNode, IsPathRow, IsHeader, ArePaths, AreFiles, IsImage}
+use Rattle.wtf_image.specs.Reading.{no_base, make_region, region_at, make_inode, inode_at, make_file, file_at, node_at, is_path, name_at, make_path, path_at, paths_at, files_at, is_magic, magic_at, make_header, header_at, make_image, image_at, image_of}
 
 -- ---- regions
-
-entries_codec : (end : ℕ) → Codec entries_text (λ es. (length es < 2 ^ 32) × AllByRecursion (IsEntry end) es) (counted_at w32 (entry_at end))
-unfolding entries_text
-entries_codec end = counted_codec w32 (2 ^ 32) codec32 (entry_codec end)
 
 region_made : IsMade (λ (x : ℕ × (ℕ × (ℕ × List EntryRow))). to_be_bytes w16 x.0 ++ (to_be_bytes w32 x.1.0 ++ ((x.1.1.0 ∷ []) ++ entries_text x.1.1.1)))
     (λ x. (x.0 < 2 ^ 16) × ((x.1.0 < 2 ^ 32) × (((x.1.1.0 < 2 ^ 8) × (no_base x.1.1.0 ≡ true)) × ((length x.1.1.1 < 2 ^ 32) × AllByRecursion (IsEntry x.1.0) x.1.1.1))))

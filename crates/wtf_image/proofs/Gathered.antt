@@ -21,6 +21,7 @@ use Rattle.wtf_values.specs.declared.key.Key.TheVariants.{Path, Dir, Inode, Regi
 use Rattle.wtf_values.specs.declared.value.Node.{Node}
 use Rattle.wtf_values.specs.declared.value.Value.{Value}
 use Rattle.wtf_values.proofs.KeyLaws.{key_total}
+use Rattle.wtf_spillfmt.proofs.Codecs.{some_is}
 use Rattle.wtf_image.specs.declared.records.PathRecord.{PathRecord}
 use Rattle.wtf_image.specs.Rows.{RegionRow, FileRow, ImageRows}
 use Rattle.wtf_image.specs.Shapes.{ascends, ascends_from, path_before, file_before, region_before, IsFileRow, IsImage}
@@ -30,7 +31,6 @@ use Rattle.wtf_image.specs.Seeds.{AreRegionsAscending}
 use Rattle.wtf_image.specs.Tables.{Shown, shown}
 use Rattle.wtf_image.specs.Saving.{node_now, last_now, region_now, with_one, regions_below, region_in, file_with, file_now, file_entry, path_due, file_due, ArePathsOf, AreFilesOf}
 use Rattle.wtf_image.proofs.Walking.{Walked, walk_begins, walk_skips, with_entry, walk_goes_on}
-use Rattle.wtf_image.proofs.Codecs.{some_is}
 
 abbrev pub S : Type 0
 S = Store Key Value

@@ -1,10 +1,6 @@
-pub mod Many
 pub mod Refused
-pub mod Codecs
-pub mod Entries
 pub mod Forms
 pub mod Parsed
-pub mod Written
 pub mod Elements
 pub mod SeedLaws
 pub mod Apart

@@ -14,6 +14,7 @@ use Rattle.wtf_values.specs.declared.key.Key.TheVariants.{Path, Inode, Region}
 use Rattle.wtf_values.specs.declared.value.Node.{Node}
 use Rattle.wtf_values.specs.declared.value.Node.TheVariants.{Folder, File}
 use Rattle.wtf_values.proofs.KeyLaws.{at_itself, at_same}
+use Rattle.wtf_spillfmt.proofs.Codecs.{some_is}
 use Rattle.wtf_image.specs.declared.records.PathRecord.{PathRecord}
 use Rattle.wtf_image.specs.Rows.{RegionRow, FileRow, ImageRows}
 use Rattle.wtf_image.specs.Shapes.{ascends, ascends_from, path_before, file_before, IsImage}
@@ -24,7 +25,6 @@ use Rattle.wtf_image.specs.Saving.{node_now, last_now, region_now, with_one, reg
 use Rattle.wtf_image.specs.Savable.{end_now, IsSavable}
 use Rattle.wtf_image.proofs.Apart.{path_trans, path_differs, file_trans}
 use Rattle.wtf_image.proofs.Found.{tail_ascends}
-use Rattle.wtf_image.proofs.Codecs.{some_is}
 use Rattle.wtf_image.proofs.Gathered.{region_numbered}
 use Rattle.wtf_image.proofs.SaveTree.{all_from, all_weaker, all_found, shown_node, tie_itself, tie_same, some_value}
 

@@ -1,5 +1,7 @@
 -- Which bytes are an image, and what it is.
 use Rattle.std.specs.Prelude.{◌≡◌, ℕ, List, ⊤}
+use Rattle.wtf_spillfmt.specs.declared.error.ListError.{ListError}
+use Rattle.wtf_spillfmt.specs.declared.error.ListError.TheVariants as unread
 use Rattle.wtf_image.specs.declared.error.LoadError.{LoadError}
 use Rattle.wtf_image.specs.declared.error.LoadError.TheVariants as error
 use Rattle.wtf_image.specs.Rows.{ImageRows}
@@ -22,3 +24,8 @@ IsNoneOr bytes error.Memory = ⊤
 IsNoneOr bytes error.BadSettings = ⊥
 IsNoneOr bytes error.BadTree = ⊥
 IsNoneOr bytes error.PointerOutside = ⊥
+
+-- why bytes that could not be read are no image
+abbrev pub no_image_by : ListError → LoadError
+no_image_by unread.NotAList = error.NotAnImage
+no_image_by unread.Memory = error.Memory

@@ -1,14 +1,13 @@
 -- Which images are taken: the rules of settings and numbers, of the tree, and of pointers.
-use Rattle.std.specs.Prelude.{◌≡◌, ℕ, ◌+◌, ◌<◌, ◌≤◌, ◌^◌, Bool, true, false, ◌&&◌, ◌||◌, ◌==◌, nat_lt, nat_le, count_by, List, Option, None, Some, is_some, slice_get}
+use Rattle.std.specs.Prelude.{◌≡◌, ℕ, ◌<◌, ◌≤◌, ◌^◌, Bool, true, false, ◌&&◌, ◌||◌, ◌==◌, nat_lt, nat_le, count_by, List, Option, None, Some, is_some}
 use Rattle.std.specs.List.{list_all, list_any}
-use Rattle.std.specs.Option.{option_map, unwrap_or}
 use Rattle.std.specs.Ordering.{is_eq}
 use Rattle.wtf_base.specs.Limits.{AreSettings}
 use Rattle.wtf_base.specs.declared.ids.InodeId.{InodeId}
 use Rattle.wtf_base.specs.declared.pointer.Pointer.{Pointer}
-use Rattle.wtf_dev.specs.Store.{StoreKind}
 use Rattle.wtf_model.specs.Tree.{root}
 use Rattle.wtf_path.specs.Parts.{parent_of}
+pub use Rattle.wtf_replica.specs.Inside.{size_in, lies_inside}
 use Rattle.wtf_values.specs.Keys.{inode_cmp}
 use Rattle.wtf_values.specs.declared.value.Node.{Node}
 use Rattle.wtf_values.specs.declared.value.Node.TheVariants.{Folder, File}
@@ -89,17 +88,9 @@ pub record IsGoodTree (x : ImageRows) : Type 0 where
 
 -- ---- pointers
 
--- the length of a file of a server, 0 where there is no such server
-abbrev pub size_in : {S : Type 0} → StoreKind S → List S → ℕ → ℕ → ℕ
-size_in kind shelf k file = unwrap_or (option_map (λ s. (kind.view s).size file) (slice_get shelf k)) 0
-
--- a pointer names bytes inside the stores of so many servers, where each file has such a size
-abbrev pub is_inside : ℕ → (ℕ → ℕ → ℕ) → Pointer → Bool
-is_inside servers size p = nat_lt p.server.0 servers && (nat_lt p.file 8 && nat_le (p.at + p.len) (size p.server.0 p.file))
-
 abbrev pub is_part_inside : ℕ → (ℕ → ℕ → ℕ) → Option (List Pointer) → Bool
 is_part_inside servers size None = true
-is_part_inside servers size (Some ps) = list_all (is_inside servers size) ps
+is_part_inside servers size (Some ps) = list_all (lies_inside servers size) ps
 
 abbrev pub is_region_inside : ℕ → (ℕ → ℕ → ℕ) → RegionRow → Bool
 is_region_inside servers size r = list_all (λ e. is_part_inside servers size e.part) r.entries

@@ -1,19 +1,18 @@
 -- Which rows an image can have: each number has its width, rows ascend and none stands twice, a path keeps the rules of
 -- paths, a slice those of slices, and an entry has bytes and lies inside its region.
-use Rattle.std.specs.Prelude.{◌≡◌, ℕ, ◌+◌, ◌<◌, ◌≤◌, ◌^◌, Bool, true, ◌&&◌, nat_lt, List, [], ◌∷◌, length, Option, None, Some, ⊤}
+use Rattle.std.specs.Prelude.{◌≡◌, ◌<◌, ◌^◌, Bool, true, ◌&&◌, nat_lt, List, [], ◌∷◌, length, ⊤}
 use Rattle.std.specs.List.{AllByRecursion}
 use Rattle.std.specs.Ordering.{is_lt, nat_cmp}
 use Rattle.std.specs.Cmp.Lexicographic.{slice_cmp}
 use Rattle.wtf_base.specs.declared.ids.InodeId.{InodeId}
-use Rattle.wtf_base.specs.declared.pointer.Pointer.{Pointer}
-use Rattle.wtf_base.specs.Pointers.{is_slice}
+use Rattle.wtf_overlay.specs.Shapes.{IsEntry}
 use Rattle.wtf_path.specs.Grammar.{IsPath}
 use Rattle.wtf_values.specs.Keys.{inode_cmp}
 use Rattle.wtf_values.specs.declared.value.Node.{Node}
 use Rattle.wtf_values.specs.declared.value.Node.TheVariants.{Folder, File}
 use Rattle.wtf_image.specs.declared.records.Header.{Header}
 use Rattle.wtf_image.specs.declared.records.PathRecord.{PathRecord}
-use Rattle.wtf_image.specs.Rows.{EntryRow, RegionRow, FileRow, ImageRows}
+use Rattle.wtf_image.specs.Rows.{RegionRow, FileRow, ImageRows}
 
 -- each comes before the next one
 abbrev pub ascends_from : {A : Type 0} → (A → A → Bool) → A → List A → Bool
@@ -33,30 +32,6 @@ file_before a b = is_lt (inode_cmp a.inode b.inode)
 
 abbrev pub region_before : RegionRow → RegionRow → Bool
 region_before a b = nat_lt a.number b.number
-
--- a pointer to len bytes
-pub record IsPointer (len : ℕ) (p : Pointer) : Type 0 where
-  pub server : p.server.0 < 2 ^ 8
-  pub file : p.file < 2 ^ 8
-  pub at : p.at < 2 ^ 64
-  pub same : p.len ≡ len
-
--- one to three pointers to len bytes, their servers ascending; no pointer's offset and length pass 2^63 - 1
-pub record IsSlice (len : ℕ) (ps : List Pointer) : Type 0 where
-  pub slice : is_slice ps ≡ true
-  pub each : AllByRecursion (IsPointer len) ps
-
-abbrev pub IsPart : ℕ → Option (List Pointer) → Type 0
-IsPart len None = ⊤
-IsPart len (Some ps) = IsSlice len ps
-
--- an entry of a region that ends there
-pub record IsEntry (end : ℕ) (e : EntryRow) : Type 0 where
-  pub off : e.off < 2 ^ 32
-  pub len : e.len < 2 ^ 32
-  pub some : 0 < e.len
-  pub within : e.off + e.len ≤ end
-  pub part : IsPart e.len e.part
 
 pub record IsRegion (r : RegionRow) : Type 0 where
   pub number : r.number < 2 ^ 16

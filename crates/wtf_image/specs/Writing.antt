@@ -1,25 +1,9 @@
--- What a function wrote at the end of bytes.
-use Rattle.std.specs.Prelude.{◌≡◌, ◌++◌, ◌<◌, ◌^◌, ℕ, List, length, ⊤}
+-- What is in form of rows that were written.
+use Rattle.std.specs.Prelude.{◌<◌, ◌^◌, List, length}
 use Rattle.std.specs.List.{AllByRecursion}
-use Rattle.wtf_base.specs.Slices.{pointers_of, len_of}
-use Rattle.wtf_overlay.specs.declared.part.Part.{Part}
-use Rattle.wtf_overlay.specs.declared.part.Part.TheVariants.{Zero, Held}
 use Rattle.wtf_image.specs.declared.records.PathRecord.{PathRecord}
-use Rattle.wtf_image.specs.Rows.{EntryRow, RegionRow, FileRow, ImageRows}
-use Rattle.wtf_image.specs.Shapes.{IsSlice, IsEntry, IsRegion, IsInode, IsPathRow, IsHeader}
-
--- a text was added, of something in form
-pub record Writes (old new text : List ℕ) (Form : Type 0) : Type 0 where
-  pub text_is : new ≡ old ++ text
-  pub form : Form
-
--- what a part holds is in form
-abbrev pub IsHeld : Part → Type 0
-IsHeld Zero = ⊤
-IsHeld (Held s) = IsSlice (len_of s) (pointers_of s)
-
-abbrev pub AreEntries : ℕ → List EntryRow → Type 0
-AreEntries end es = (length es < 2 ^ 32) × AllByRecursion (IsEntry end) es
+use Rattle.wtf_image.specs.Rows.{RegionRow, FileRow, ImageRows}
+use Rattle.wtf_image.specs.Shapes.{IsRegion, IsInode, IsPathRow, IsHeader}
 
 abbrev pub AreRegions : List RegionRow → Type 0
 AreRegions rs = (length rs < 2 ^ 16) × AllByRecursion IsRegion rs

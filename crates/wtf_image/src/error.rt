@@ -1,11 +1,6 @@
 //! Why bytes are not taken for an image.
 
-ghost use Rattle.std.specs.Prelude.{◌≡◌};
-ghost use Rattle.wtf_image.specs.declared.error.LoadError.TheVariants as error;
-
-use std::alloc::{AllocError, AllocFailed};
 use thiserror::Error;
-use wtf_base::OutOfMemory;
 
 /// Why no image was loaded: the first of these that holds, in this order. `Memory` may come in the
 /// place of any other answer.
@@ -27,28 +22,4 @@ pub enum LoadError {
     /// Memory could not be had.
     #[error("out of memory")]
     Memory,
-}
-
-impl From<OutOfMemory> for LoadError {
-    ghost from_gives = { λ _ e. e ≡ error.Memory };
-
-    fn from(_error: OutOfMemory) -> LoadError {
-        LoadError::Memory
-    }
-}
-
-impl From<AllocError> for LoadError {
-    ghost from_gives = { λ _ e. e ≡ error.Memory };
-
-    fn from(_error: AllocError) -> LoadError {
-        LoadError::Memory
-    }
-}
-
-impl<T: Drop> From<AllocFailed<T>> for LoadError {
-    ghost from_gives = { λ _ e. e ≡ error.Memory };
-
-    fn from(_error: AllocFailed<T>) -> LoadError {
-        LoadError::Memory
-    }
 }

@@ -1,48 +1,14 @@
 //! Whether pointers name bytes inside the stores.
 
-ghost use Rattle.std.specs.Prelude.{◌≡◌, ◌≤◌, ◌<◌, length};
+ghost use Rattle.std.specs.Prelude.{◌≡◌, ◌≤◌, length};
 ghost use Rattle.std.specs.List.{list_all};
-ghost use Rattle.wtf_base.specs.Slices.{pointers_of};
 ghost use Rattle.wtf_image.specs.Rows.{part_row, entry_rows, region_rows, file_rows};
-ghost use Rattle.wtf_image.specs.Rules.{size_in, is_inside, is_part_inside, is_region_inside, is_file_inside};
+ghost use Rattle.wtf_image.specs.Rules.{size_in, is_part_inside, is_region_inside, is_file_inside};
 
 use crate::records::{FileRecord, RegionRecord};
-use wtf_base::{Pointer, Slice};
 use wtf_dev::{Shelf, SliceStore};
 use wtf_overlay::{Overlay, Part};
-
-/// The length of a backing file, in bytes.
-fn size_of<S: SliceStore>(shelf: &Shelf<S>, k: u8, file: u8) -> u64
-    requires k { k < length shelf.now }
-    requires file { file < 8 }
-    ensures { result ≡ size_in S.kind shelf.now k file }
-{
-    shelf.length(k, file)
-}
-
-fn is_inside<S: SliceStore>(servers: u8, shelf: &Shelf<S>, pointer: Pointer) -> bool
-    requires { servers ≤ length shelf.now }
-    ensures { result ≡ is_inside servers (size_in S.kind shelf.now) pointer }
-{
-    if pointer.server.0 >= servers || pointer.file >= 8 {
-        return false;
-    }
-    let size = size_of(shelf, pointer.server.0, pointer.file);
-    pointer.at <= size && pointer.len as u64 <= size - pointer.at
-}
-
-fn is_slice_inside<S: SliceStore>(servers: u8, shelf: &Shelf<S>, slice: &Slice) -> bool
-    requires { servers ≤ length shelf.now }
-    ensures { result ≡ list_all (is_inside servers (size_in S.kind shelf.now))
-        (pointers_of slice.now) }
-{
-    for i in 0..slice.width() {
-        if !is_inside(servers, shelf, slice.pointer(i)) {
-            return false;
-        }
-    }
-    true
-}
+use wtf_replica::slice_lies_inside;
 
 fn is_part_inside<S: SliceStore>(servers: u8, shelf: &Shelf<S>, part: Part) -> bool
     requires { servers ≤ length shelf.now }
@@ -50,7 +16,7 @@ fn is_part_inside<S: SliceStore>(servers: u8, shelf: &Shelf<S>, part: Part) -> b
 {
     match part {
         Part::Zero => true,
-        Part::Held(slice) => is_slice_inside(servers, shelf, &slice),
+        Part::Held(slice) => slice_lies_inside(servers, shelf, &slice),
     }
 }
 

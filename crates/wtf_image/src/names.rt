@@ -56,7 +56,7 @@ fn add_name(
     add_in(alloc, dirs, parent, name)
 }
 
-/// Adds a name to a directory. No set is copied for it where names come in order.
+/// Adds a name to a directory. No set is copied for it.
 fn add_in(
     alloc: Global,
     dirs: &mut BTreeMap<Path, NameSet>,

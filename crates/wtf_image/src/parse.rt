@@ -1,18 +1,32 @@
 //! Bytes, read as the image that has them for its text.
 
-ghost use Rattle.std.specs.Prelude.{IfOk, IfErr};
+ghost use Rattle.std.specs.Prelude.{◌≡◌, IfOk, IfErr};
 ghost use Rattle.wtf_image.specs.Rows.{rows_of};
-ghost use Rattle.wtf_image.specs.Images.{HasText, IsNoneOr};
+ghost use Rattle.wtf_image.specs.Images.{HasText, IsNoneOr, no_image_by};
 
 use crate::LoadError;
 use crate::parser::image_of;
 use crate::records::Image;
 use std::alloc::Global;
+use wtf_spillfmt::ListError;
 
 /// The image whose text the bytes are.
 pub(crate) fn parse(alloc: Global, bytes: &[u8]) -> Result<Image, LoadError>
     ensures image { IfOk result (λ image. HasText (rows_of image) bytes.now) }
     ensures cause { IfErr result (IsNoneOr bytes.now) }
 {
-    image_of(alloc, bytes)
+    match image_of(alloc, bytes) {
+        Ok(image) => Ok(image),
+        Err(why) => Err(no_image(why)),
+    }
+}
+
+/// Why bytes that could not be read are no image.
+fn no_image(why: ListError) -> LoadError
+    ensures { result ≡ no_image_by why }
+{
+    match why {
+        ListError::NotAList => LoadError::NotAnImage,
+        ListError::Memory => LoadError::Memory,
+    }
 }

@@ -1,33 +1,36 @@
 //! The records of an image, read from left to right. No memory is set aside for a count that the
-//! bytes only claim: a vector grows as its records come.
+//! bytes only claim: a vector grows as its records come. What cannot be read is `NotAList`, as in the
+//! lists of its regions: `parse` answers with the errors of a load.
 
 ghost use Rattle.std.specs.Prelude.{◌≡◌, MatchOption};
 ghost use Rattle.wtf_path.specs.Refusals.{number_of as path_number};
+ghost use Rattle.wtf_spillfmt.specs.Gives.{Gives};
+ghost use Rattle.wtf_overlay.specs.Reading.{many_at, text_at};
 ghost use Rattle.wtf_image.specs.Rows.{region_row, region_rows, file_row, file_rows, rows_of};
 ghost use Rattle.wtf_image.specs.Texts.{magic};
-ghost use Rattle.wtf_image.specs.Reading.{Gives, many_at, region_at, inode_at, file_at, node_at, name_at, path_by, text_at, path_at, paths_at, files_at, magic_at, header_at, image_of};
+ghost use Rattle.wtf_image.specs.Reading.{region_at, inode_at, file_at, node_at, name_at, path_by, path_at, paths_at, files_at, magic_at, header_at, image_of};
 
-use crate::LoadError;
 use crate::order::{files_ascend, paths_ascend, regions_ascend};
-use crate::reader::{entries_of, u8_at, u16_at, u32_at, u64_at};
+use crate::reader::{list_of, u16_at};
 use crate::records::{FileRecord, Header, Image, PathRecord, RegionRecord};
 use std::alloc::Global;
 use wtf_base::{InodeId, TxId};
 use wtf_path::{Path, PathError};
+use wtf_spillfmt::{ListError, u8_at, u32_at, u64_at};
 use wtf_values::Node;
 
 #[tactic(auto, unfolding(crate::specs::Reading::region_at))]
-fn region_of(alloc: Global, bytes: &[u8]) -> Result<(RegionRecord, &[u8]), LoadError>
+fn region_of(alloc: Global, bytes: &[u8]) -> Result<(RegionRecord, &[u8]), ListError>
     ensures { Gives (λ x. (region_row x.0, x.1.now)) result (region_at bytes.now) }
 {
     let (number, rest) = u16_at(bytes)?;
     let (end, rest) = u32_at(rest)?;
     let (base, rest) = u8_at(rest)?;
     if base != 0 {
-        return Err(LoadError::NotAnImage);
+        return Err(ListError::NotAList);
     }
     let (count, rest) = u32_at(rest)?;
-    let (list, rest) = entries_of(alloc, end, count, rest)?;
+    let (list, rest) = list_of(alloc, end, count, rest)?;
     Ok((RegionRecord { number, end, list }, rest))
 }
 
@@ -35,7 +38,7 @@ fn regions_of(
     alloc: Global,
     count: u16,
     bytes: &[u8],
-) -> Result<(Vec<RegionRecord>, &[u8]), LoadError>
+) -> Result<(Vec<RegionRecord>, &[u8]), ListError>
     ensures { Gives (λ x. (region_rows x.0.items, x.1.now)) result
         (many_at region_at count bytes.now) }
 {
@@ -50,7 +53,7 @@ fn regions_of(
 }
 
 #[tactic(auto, unfolding(crate::specs::Reading::inode_at))]
-fn inode_of(bytes: &[u8]) -> Result<(InodeId, &[u8]), LoadError>
+fn inode_of(bytes: &[u8]) -> Result<(InodeId, &[u8]), ListError>
     ensures { Gives (λ x. (x.0, x.1.now)) result (inode_at bytes.now) }
 {
     let (tx, rest) = u64_at(bytes)?;
@@ -63,7 +66,7 @@ fn inode_of(bytes: &[u8]) -> Result<(InodeId, &[u8]), LoadError>
 }
 
 #[tactic(auto, unfolding(crate::specs::Reading::file_at))]
-fn file_of(alloc: Global, bytes: &[u8]) -> Result<(FileRecord, &[u8]), LoadError>
+fn file_of(alloc: Global, bytes: &[u8]) -> Result<(FileRecord, &[u8]), ListError>
     ensures { Gives (λ x. (file_row x.0, x.1.now)) result (file_at bytes.now) }
 {
     let (inode, rest) = inode_of(bytes)?;
@@ -71,7 +74,7 @@ fn file_of(alloc: Global, bytes: &[u8]) -> Result<(FileRecord, &[u8]), LoadError
     let (count, rest) = u16_at(rest)?;
     let (regions, rest) = regions_of(alloc, count, rest)?;
     if !regions_ascend(regions.as_slice()) {
-        return Err(LoadError::NotAnImage);
+        return Err(ListError::NotAList);
     }
     let file = FileRecord {
         inode,
@@ -85,7 +88,7 @@ fn some_files_of(
     alloc: Global,
     count: u32,
     bytes: &[u8],
-) -> Result<(Vec<FileRecord>, &[u8]), LoadError>
+) -> Result<(Vec<FileRecord>, &[u8]), ListError>
     ensures { Gives (λ x. (file_rows x.0.items, x.1.now)) result
         (many_at file_at count bytes.now) }
 {
@@ -100,19 +103,19 @@ fn some_files_of(
 }
 
 #[tactic(auto, unfolding(crate::specs::Reading::files_at))]
-fn files_of(alloc: Global, bytes: &[u8]) -> Result<(Vec<FileRecord>, &[u8]), LoadError>
+fn files_of(alloc: Global, bytes: &[u8]) -> Result<(Vec<FileRecord>, &[u8]), ListError>
     ensures { Gives (λ x. (file_rows x.0.items, x.1.now)) result (files_at bytes.now) }
 {
     let (count, rest) = u32_at(bytes)?;
     let (files, rest) = some_files_of(alloc, count, rest)?;
     if !files_ascend(files.as_slice()) {
-        return Err(LoadError::NotAnImage);
+        return Err(ListError::NotAList);
     }
     Ok((files, rest))
 }
 
 #[tactic(auto, unfolding(crate::specs::Reading::node_at))]
-fn node_of(bytes: &[u8]) -> Result<(Node, &[u8]), LoadError>
+fn node_of(bytes: &[u8]) -> Result<(Node, &[u8]), ListError>
     ensures { Gives (λ x. (x.0, x.1.now)) result (node_at bytes.now) }
 {
     let (kind, rest) = u8_at(bytes)?;
@@ -122,23 +125,23 @@ fn node_of(bytes: &[u8]) -> Result<(Node, &[u8]), LoadError>
             let (inode, rest) = inode_of(rest)?;
             Ok((Node::File(inode), rest))
         }
-        _ => Err(LoadError::NotAnImage),
+        _ => Err(ListError::NotAList),
     }
 }
 
-#[tactic(auto, unfolding(crate::specs::Reading::text_at))]
-fn text_of(len: u16, bytes: &[u8]) -> Result<(&[u8], &[u8]), LoadError>
+#[tactic(auto, unfolding(wtf_overlay::specs::Reading::text_at))]
+fn text_of(len: u16, bytes: &[u8]) -> Result<(&[u8], &[u8]), ListError>
     ensures { Gives (λ x. (x.0.now, x.1.now)) result (text_at len bytes.now) }
 {
     let len = len as usize;
     if bytes.len() < len {
-        return Err(LoadError::NotAnImage);
+        return Err(ListError::NotAList);
     }
     Ok(bytes.split_at(len))
 }
 
 /// The path that a text spells.
-fn path_by(alloc: Global, text: &[u8]) -> Result<Path, LoadError>
+fn path_by(alloc: Global, text: &[u8]) -> Result<Path, ListError>
     ensures { Gives (λ path. path) result (path_by text.now) }
 {
     match Path::parse(alloc, text) {
@@ -148,18 +151,18 @@ fn path_by(alloc: Global, text: &[u8]) -> Result<Path, LoadError>
 }
 
 /// Why a text gives no path.
-fn no_path(why: PathError) -> LoadError
-    ensures { MatchOption (path_number why) (result ≡ LoadError.Memory)
-        (λ n. result ≡ LoadError.NotAnImage) }
+fn no_path(why: PathError) -> ListError
+    ensures { MatchOption (path_number why) (result ≡ ListError.Memory)
+        (λ n. result ≡ ListError.NotAList) }
 {
     match why.number() {
-        Some(_) => LoadError::NotAnImage,
-        None => LoadError::Memory,
+        Some(_) => ListError::NotAList,
+        None => ListError::Memory,
     }
 }
 
 #[tactic(auto, unfolding(crate::specs::Reading::name_at))]
-fn name_of(alloc: Global, bytes: &[u8]) -> Result<(Path, &[u8]), LoadError>
+fn name_of(alloc: Global, bytes: &[u8]) -> Result<(Path, &[u8]), ListError>
     ensures { Gives (λ x. (x.0, x.1.now)) result (name_at bytes.now) }
 {
     let (len, rest) = u16_at(bytes)?;
@@ -169,7 +172,7 @@ fn name_of(alloc: Global, bytes: &[u8]) -> Result<(Path, &[u8]), LoadError>
 }
 
 #[tactic(auto, unfolding(crate::specs::Reading::path_at))]
-fn path_of(alloc: Global, bytes: &[u8]) -> Result<(PathRecord, &[u8]), LoadError>
+fn path_of(alloc: Global, bytes: &[u8]) -> Result<(PathRecord, &[u8]), ListError>
     ensures { Gives (λ x. (x.0, x.1.now)) result (path_at bytes.now) }
 {
     let (path, rest) = name_of(alloc, bytes)?;
@@ -181,7 +184,7 @@ fn some_paths_of(
     alloc: Global,
     count: u32,
     bytes: &[u8],
-) -> Result<(Vec<PathRecord>, &[u8]), LoadError>
+) -> Result<(Vec<PathRecord>, &[u8]), ListError>
     ensures { Gives (λ x. (x.0.items, x.1.now)) result (many_at path_at count bytes.now) }
 {
     let mut paths = Vec::new(alloc);
@@ -195,30 +198,30 @@ fn some_paths_of(
 }
 
 #[tactic(auto, unfolding(crate::specs::Reading::paths_at))]
-fn paths_of(alloc: Global, bytes: &[u8]) -> Result<(Vec<PathRecord>, &[u8]), LoadError>
+fn paths_of(alloc: Global, bytes: &[u8]) -> Result<(Vec<PathRecord>, &[u8]), ListError>
     ensures { Gives (λ x. (x.0.items, x.1.now)) result (paths_at bytes.now) }
 {
     let (count, rest) = u32_at(bytes)?;
     let (paths, rest) = some_paths_of(alloc, count, rest)?;
     if !paths_ascend(paths.as_slice()) {
-        return Err(LoadError::NotAnImage);
+        return Err(ListError::NotAList);
     }
     Ok((paths, rest))
 }
 
 #[tactic(auto, unfolding(crate::specs::Reading::magic_at))]
-fn magic_of(bytes: &[u8]) -> Result<&[u8], LoadError>
+fn magic_of(bytes: &[u8]) -> Result<&[u8], ListError>
     ensures { Gives (λ x. (magic, x.now)) result (magic_at bytes.now) }
 {
     let (front, rest) = text_of(8, bytes)?;
     if front != b"WTFIMG01".as_slice() {
-        return Err(LoadError::NotAnImage);
+        return Err(ListError::NotAList);
     }
     Ok(rest)
 }
 
 #[tactic(auto, unfolding(crate::specs::Reading::header_at))]
-fn header_of(bytes: &[u8]) -> Result<(Header, &[u8]), LoadError>
+fn header_of(bytes: &[u8]) -> Result<(Header, &[u8]), ListError>
     ensures { Gives (λ x. (x.0, x.1.now)) result (header_at bytes.now) }
 {
     let (servers, rest) = u8_at(bytes)?;
@@ -237,7 +240,7 @@ fn header_of(bytes: &[u8]) -> Result<(Header, &[u8]), LoadError>
 }
 
 #[tactic(auto, unfolding(crate::specs::Reading::image_of, crate::specs::Reading::image_at))]
-pub(crate) fn image_of(alloc: Global, bytes: &[u8]) -> Result<Image, LoadError>
+pub(crate) fn image_of(alloc: Global, bytes: &[u8]) -> Result<Image, ListError>
     ensures { Gives rows_of result (image_of bytes.now) }
 {
     let rest = magic_of(bytes)?;
@@ -245,7 +248,7 @@ pub(crate) fn image_of(alloc: Global, bytes: &[u8]) -> Result<Image, LoadError>
     let (paths, rest) = paths_of(alloc, rest)?;
     let (files, rest) = files_of(alloc, rest)?;
     if !rest.is_empty() {
-        return Err(LoadError::NotAnImage);
+        return Err(ListError::NotAList);
     }
     Ok(Image {
         header,

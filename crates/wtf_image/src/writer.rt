@@ -1,19 +1,22 @@
 //! The text of an image, record by record. What was written has the widths of its fields; where a
 //! count is too great for its width, it is refused as want of memory.
 
-ghost use Rattle.std.specs.Prelude.{◌≡◌, ◌<◌, ◌≤◌, ◌+◌, ◌^◌, OnOk, IfOk};
-ghost use Rattle.std.specs.Int.{w16, w32, to_be_bytes};
-ghost use Rattle.wtf_base.specs.Slices.{pointers_of, len_of};
+ghost use Rattle.std.specs.Prelude.{◌≡◌, ◌<◌, ◌^◌, OnOk, IfOk};
+ghost use Rattle.std.specs.Int.{w16, to_be_bytes};
 ghost use Rattle.wtf_overlay.specs.Clips.{Within};
-ghost use Rattle.wtf_image.specs.Rows.{part_row, entry_row, entry_rows, region_row, region_rows, file_row, file_rows, rows_of};
-ghost use Rattle.wtf_image.specs.Texts.{pointer_text, slice_text, part_text, entry_text, entries_text, region_text, regions_text, inode_text, file_text, files_text, node_text, name_text, path_text, paths_text, header_text, image_text};
-ghost use Rattle.wtf_image.specs.Shapes.{IsPointer, IsSlice, IsEntry, IsRegion, IsInode, IsNode, IsPathRow, IsHeader};
-ghost use Rattle.wtf_image.specs.Writing.{Writes, IsHeld, AreEntries, AreRegions, IsWideFile, AreWideFiles, AreWidePaths, IsWide};
+ghost use Rattle.wtf_overlay.specs.Texts.{entries_text};
+ghost use Rattle.wtf_overlay.specs.Shapes.{AreEntries};
+ghost use Rattle.wtf_spillfmt.specs.Writing.{Writes};
+ghost use Rattle.wtf_image.specs.Rows.{entry_rows, region_row, region_rows, file_row, file_rows, rows_of};
+ghost use Rattle.wtf_image.specs.Texts.{region_text, regions_text, inode_text, file_text, files_text, node_text, name_text, path_text, paths_text, header_text, image_text};
+ghost use Rattle.wtf_image.specs.Shapes.{IsRegion, IsInode, IsNode, IsPathRow, IsHeader};
+ghost use Rattle.wtf_image.specs.Writing.{AreRegions, IsWideFile, AreWideFiles, AreWidePaths, IsWide};
 
 use crate::records::{FileRecord, Header, Image, PathRecord, RegionRecord};
 use std::alloc::Global;
-use wtf_base::{InodeId, OutOfMemory, Pointer, Slice};
-use wtf_overlay::{Entry, Overlay, Part};
+use wtf_base::{InodeId, OutOfMemory};
+use wtf_overlay::Overlay;
+use wtf_spillfmt::{put_entries, put_u32};
 use wtf_values::Node;
 
 /// A number of things, in two bytes.
@@ -28,85 +31,13 @@ fn put_u16(out: &mut Vec<u8>, count: usize) -> Result<(), OutOfMemory>
     Ok(())
 }
 
-/// A number of things, in four bytes.
-fn put_u32(out: &mut Vec<u8>, count: usize) -> Result<(), OutOfMemory>
-    ensures { OnOk result (Writes out.old.items out.new.items
-        (to_be_bytes w32 count) (count < 2 ^ 32)) }
-{
-    if count > 4_294_967_295 {
-        return Err(OutOfMemory);
-    }
-    out.extend_from_slice(&(count as u32).to_be_bytes())?;
-    Ok(())
-}
-
-#[tactic(auto, unfolding(crate::specs::Texts::pointer_text))]
-fn put_pointer(out: &mut Vec<u8>, pointer: Pointer) -> Result<(), OutOfMemory>
-    ensures { OnOk result (Writes out.old.items out.new.items
-        (pointer_text pointer) (IsPointer pointer.len pointer)) }
-{
-    out.push(pointer.server.0)?;
-    out.push(pointer.file)?;
-    out.extend_from_slice(&pointer.at.to_be_bytes())?;
-    Ok(())
-}
-
-#[tactic(auto, unfolding(crate::specs::Texts::slice_text))]
-fn put_slice(out: &mut Vec<u8>, slice: &Slice) -> Result<(), OutOfMemory>
-    ensures { OnOk result (Writes out.old.items out.new.items (slice_text (pointers_of slice.now))
-        (IsSlice (len_of slice.now) (pointers_of slice.now))) }
-{
-    let width = slice.width();
-    out.push(width)?;
-    for i in 0..width {
-        put_pointer(out, slice.pointer(i))?;
-    }
-    Ok(())
-}
-
-#[tactic(auto, unfolding(crate::specs::Texts::part_text))]
-fn put_part(out: &mut Vec<u8>, part: &Part) -> Result<(), OutOfMemory>
-    ensures { OnOk result (Writes out.old.items out.new.items (part_text (part_row part.now))
-        (IsHeld part.now)) }
-{
-    match part {
-        Part::Zero => {
-            out.push(0)?;
-            return Ok(());
-        }
-        Part::Held(slice) => {
-            out.push(1)?;
-            put_slice(out, slice)?;
-            return Ok(());
-        }
-    }
-}
-
-/// An entry of a region that ends at `end`.
-#[tactic(auto, unfolding(crate::specs::Texts::entry_text))]
-fn put_entry(out: &mut Vec<u8>, end: u32, entry: Entry) -> Result<(), OutOfMemory>
-    requires { entry.off + entry.len ≤ end }
-    ensures { OnOk result (Writes out.old.items out.new.items (entry_text (entry_row entry))
-        (IsEntry end (entry_row entry))) }
-{
-    out.extend_from_slice(&entry.off.to_be_bytes())?;
-    out.extend_from_slice(&entry.len.to_be_bytes())?;
-    put_part(out, &entry.part)?;
-    Ok(())
-}
-
 /// The entries of a region that ends at `end`, behind their number.
-#[tactic(auto, unfolding(crate::specs::Texts::entries_text))]
-fn put_entries(out: &mut Vec<u8>, end: u32, list: &Overlay) -> Result<(), OutOfMemory>
+fn put_list(out: &mut Vec<u8>, end: u32, list: &Overlay) -> Result<(), OutOfMemory>
     requires { Within end list.now }
     ensures { OnOk result (Writes out.old.items out.new.items (entries_text (entry_rows list.now))
         (AreEntries end (entry_rows list.now))) }
 {
-    let count = list.len();
-    put_u32(out, count)?;
-    for i in 0..count {
-        put_entry(out, end, list.get(i))?;
-    }
+    put_entries(out, list)?;
     Ok(())
 }
 
@@ -118,7 +49,7 @@ fn put_region(out: &mut Vec<u8>, region: &RegionRecord) -> Result<(), OutOfMemor
     out.extend_from_slice(&region.number.to_be_bytes())?;
     out.extend_from_slice(&region.end.to_be_bytes())?;
     out.push(0)?;
-    put_entries(out, region.end, &region.list)?;
+    put_list(out, region.end, &region.list)?;
     Ok(())
 }
 

@@ -1,9 +1,10 @@
-use Rattle.std.proofs.Common.{arith}
-use Rattle.wtf_image.proofs.Parsed.{is_image, is_none_or}
+use Rattle.std.proofs.Common.{sym, subst, arith}
+use Rattle.wtf_image.specs.Images.{IsNoneOr}
+use Rattle.wtf_image.proofs.Parsed.{is_image, none_or}
 use Rattle.wtf_image.proofs.parse.parse.Goals as goal
 
-pub returns-clause-image : goal.returns-clause-image
-returns-clause-image c = is_image c.args.bytes.now c.image_of.result (λ i. omega (arith, c.type_inv.bytes i)) c.image_of.ensures
+pub returns-in-Ok-clause-image : goal.returns-in-Ok-clause-image
+returns-in-Ok-clause-image c = is_image c.args.bytes.now c.in-Ok.image (λ i. omega (arith, c.type_inv.bytes i)) c.in-Ok.ensures
 
-pub returns-clause-cause : goal.returns-clause-cause
-returns-clause-cause c = is_none_or c.args.bytes.now c.image_of.result c.image_of.ensures
+pub returns-in-Err-clause-cause : goal.returns-in-Err-clause-cause
+returns-in-Err-clause-cause c = subst (λ e. IsNoneOr c.args.bytes.now e) (sym c.no_image.ensures) (none_or c.args.bytes.now c.in-Err.why c.in-Err.ensures)

@@ -1,7 +1,8 @@
 use Rattle.std.proofs.Common.{◌≡◌, ◌-◌}
+use Rattle.wtf_overlay.specs.Reading.{many_at}
+use Rattle.wtf_spillfmt.proofs.Many.{with_front}
 use Rattle.wtf_image.specs.Rows.{region_rows}
-use Rattle.wtf_image.specs.Reading.{many_at, region_at}
-use Rattle.wtf_image.proofs.Many.{with_front}
+use Rattle.wtf_image.specs.Reading.{region_at}
 use Rattle.wtf_image.proofs.parser.regions_of.Given as goal
 
 abbrev pub invariant-loop : goal.invariant-loop

@@ -1,9 +1,10 @@
 use Rattle.std.proofs.Common.{◌≡◌, ◌++◌, ◌∷◌, []}
 use Rattle.std.proofs.lemmas.Result.{err_from_is_err_and}
 use Rattle.std.proofs.lemmas.List.{map_push}
+use Rattle.wtf_overlay.specs.Reading.{many_at}
+use Rattle.wtf_spillfmt.proofs.Many.{goes_on, ends}
 use Rattle.wtf_image.specs.Rows.{file_row, file_rows}
-use Rattle.wtf_image.specs.Reading.{many_at, file_at}
-use Rattle.wtf_image.proofs.Many.{goes_on, ends}
+use Rattle.wtf_image.specs.Reading.{file_at}
 use Rattle.wtf_image.proofs.parser.some_files_of.Goals as goal
 
 pub returns-in_err-file : goal.returns-in_err-file

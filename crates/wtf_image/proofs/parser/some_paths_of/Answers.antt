@@ -1,6 +1,7 @@
 use Rattle.std.proofs.lemmas.Result.{err_from_is_err_and}
-use Rattle.wtf_image.specs.Reading.{many_at, path_at}
-use Rattle.wtf_image.proofs.Many.{goes_on, ends}
+use Rattle.wtf_overlay.specs.Reading.{many_at}
+use Rattle.wtf_spillfmt.proofs.Many.{goes_on, ends}
+use Rattle.wtf_image.specs.Reading.{path_at}
 use Rattle.wtf_image.proofs.parser.some_paths_of.Goals as goal
 
 pub returns-in_err-path : goal.returns-in_err-path

@@ -1,6 +1,7 @@
 use Rattle.std.proofs.Common.{◌≡◌, ◌-◌}
-use Rattle.wtf_image.specs.Reading.{many_at, path_at}
-use Rattle.wtf_image.proofs.Many.{with_front}
+use Rattle.wtf_overlay.specs.Reading.{many_at}
+use Rattle.wtf_spillfmt.proofs.Many.{with_front}
+use Rattle.wtf_image.specs.Reading.{path_at}
 use Rattle.wtf_image.proofs.parser.some_paths_of.Given as goal
 
 abbrev pub invariant-loop : goal.invariant-loop

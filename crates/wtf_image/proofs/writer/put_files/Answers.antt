@@ -1,9 +1,9 @@
 use Rattle.std.proofs.Common.{◌^◌, arith}
 use Rattle.std.specs.Int.{w32}
+use Rattle.wtf_spillfmt.proofs.Written.{wrote_all, counted_then}
 use Rattle.wtf_image.specs.Rows.{file_row}
 use Rattle.wtf_image.specs.Texts.{file_text, files_text}
 use Rattle.wtf_image.specs.Writing.{IsWideFile}
-use Rattle.wtf_image.proofs.Written.{wrote_all, counted_then}
 use Rattle.wtf_image.proofs.writer.put_files.Goals as goal
 
 pub returns : goal.returns

@@ -1,7 +1,7 @@
+use Rattle.wtf_spillfmt.proofs.Written.{Wrote}
 use Rattle.wtf_image.specs.Rows.{file_row}
 use Rattle.wtf_image.specs.Texts.{file_text}
 use Rattle.wtf_image.specs.Writing.{IsWideFile}
-use Rattle.wtf_image.proofs.Written.{Wrote}
 use Rattle.wtf_image.proofs.writer.put_files.Given as goal
 
 abbrev pub invariant-loop-file : goal.invariant-loop-file

@@ -1,7 +1,7 @@
 use Rattle.std.proofs.Common.{[], ◌∷◌, ◌++◌, ap, ◌∙◌, rules}
 use Rattle.std.specs.Int.{w32, w64, to_be_bytes}
+use Rattle.wtf_spillfmt.proofs.Written.{five_texts}
 use Rattle.wtf_image.specs.Texts.{header_text}
-use Rattle.wtf_image.proofs.Written.{five_texts}
 use Rattle.wtf_image.proofs.writer.put_header.Goals as goal
 
 pub returns : goal.returns

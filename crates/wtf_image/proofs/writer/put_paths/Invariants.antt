@@ -1,6 +1,6 @@
+use Rattle.wtf_spillfmt.proofs.Written.{Wrote}
 use Rattle.wtf_image.specs.Texts.{path_text}
 use Rattle.wtf_image.specs.Shapes.{IsPathRow}
-use Rattle.wtf_image.proofs.Written.{Wrote}
 use Rattle.wtf_image.proofs.writer.put_paths.Given as goal
 
 abbrev pub invariant-loop-path : goal.invariant-loop-path

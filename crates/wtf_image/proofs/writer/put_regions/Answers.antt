@@ -1,9 +1,9 @@
 use Rattle.std.proofs.Common.{◌^◌, arith}
 use Rattle.std.specs.Int.{w16}
+use Rattle.wtf_spillfmt.proofs.Written.{wrote_all, counted_then}
 use Rattle.wtf_image.specs.Rows.{region_row}
 use Rattle.wtf_image.specs.Texts.{region_text, regions_text}
 use Rattle.wtf_image.specs.Shapes.{IsRegion}
-use Rattle.wtf_image.proofs.Written.{wrote_all, counted_then}
 use Rattle.wtf_image.proofs.writer.put_regions.Goals as goal
 
 pub returns : goal.returns

@@ -1,7 +1,7 @@
+use Rattle.wtf_spillfmt.proofs.Written.{Wrote}
 use Rattle.wtf_image.specs.Rows.{region_row}
 use Rattle.wtf_image.specs.Texts.{region_text}
 use Rattle.wtf_image.specs.Shapes.{IsRegion}
-use Rattle.wtf_image.proofs.Written.{Wrote}
 use Rattle.wtf_image.proofs.writer.put_regions.Given as goal
 
 abbrev pub invariant-loop-region : goal.invariant-loop-region
