@@ -5,7 +5,7 @@ use Rattle.std.proofs.lemmas.List.{length-map}
 use Rattle.std.specs.Bool.{MatchBool}
 use Rattle.wtf_machine.specs.declared.log.Logged.{Logged}
 use Rattle.wtf_machine.specs.Logs.{ops_of}
-use Rattle.wtf_machine.specs.Verdicts.{RunsWith, called_on}
+use Rattle.wtf_machine.specs.Verdicts.{called_on}
 use Rattle.wtf_model.specs.declared.answer.Answer.{Answer}
 use Rattle.wtf_model.specs.declared.answer.Answer.TheVariants as answer
 use Rattle.wtf_model.specs.declared.op.Op.{Op}
@@ -19,8 +19,8 @@ use Rattle.wtf_model.specs.Lawful.{MayFail, MayCall}
 use Rattle.wtf_model.specs.Machines.{Machine, cap_of, due}
 use Rattle.wtf_model.specs.Steps.{IsLogged, is_logged, logged}
 use Rattle.wtf_model.proofs.Laws.{session_from-push}
-use Rattle.wtf_model.proofs.StepLaws.{IsStoreFault-MayFail}
-use Rattle.wtf_machine.proofs.LogLaws.{op_at, answers_from-at, session_from-more}
+use Rattle.wtf_model.proofs.StepLaws.{IsLogged-call, IsStoreFault-MayFail}
+use Rattle.wtf_machine.proofs.LogLaws.{not_so, op_at, answers_from-at, session_from-more}
 
 -- one more call
 
@@ -32,15 +32,29 @@ kept_by false x y h = absurd h
 pub called_on-logged : (t : Transaction) (o : Op (List ℕ)) (a : Answer) → IsLogged a → called_on t o a ≡ logged t o a
 called_on-logged t o a own = kept_by (is_logged a) (logged t o a) t own
 
-fault_on : (t : Transaction) (o : Op (List ℕ)) (a : Answer) → IsStoreFault a → called_on t o a ≡ t
-fault_on t o (answer.FaultRead k) fault = refl
-fault_on t o answer.FaultWrite fault = refl
-fault_on t o (answer.Damaged k) fault = refl
-fault_on t o a fault = absurd fault
-
 -- and a fault does not
-pub called_on-fault : (servers : ℕ) (t : Transaction) (o : Op (List ℕ)) (d a : Answer) → MayFail servers o d a → called_on t o a ≡ t
-called_on-fault servers t o d a fails = fault_on t o a (IsStoreFault-MayFail servers o d a fails)
+pub called_on-fault : (t : Transaction) (o : Op (List ℕ)) (a : Answer) → IsStoreFault a → called_on t o a ≡ t
+called_on-fault t o (answer.FaultRead k) fault = refl
+called_on-fault t o answer.FaultWrite fault = refl
+called_on-fault t o (answer.Damaged k) fault = refl
+called_on-fault t o a fault = absurd fault
+
+fault_unlogged : (a : Answer) → IsStoreFault a → IsLogged a → ⊥
+fault_unlogged (answer.FaultRead k) fault own = own
+fault_unlogged answer.FaultWrite fault own = own
+fault_unlogged (answer.Damaged k) fault own = own
+fault_unlogged a fault own = fault
+
+-- a fault is lawful only where the call may fail so
+pub fault-lawful : (m : Machine) (t : Transaction) (o : Op (List ℕ)) (a : Answer) → IsStoreFault a → (b : Bool) → IsTrue b ↔ MayFail m.settings.servers o (due m t o) a
+    → IsTrue b ↔ MayCall m t o a
+fault-lawful m t o a fault b fails = (
+  λ y. inr (fails.0 y),
+  λ may. elim may [
+    | inl same ↦ absurd (fault_unlogged a fault (subst IsLogged (sym same) (IsLogged-call (cap_of m) (session_after (cap_of m) t.tree t.ops) o)))
+    | inr is ↦ fails.1 is
+  ],
+)
 
 -- of a transaction all of whose calls are replayed
 pub all_ops : (calls : List Logged) (n : ℕ) → n ≡ length calls → n ≡ length (ops_of calls)
@@ -61,14 +75,17 @@ module _ (cap : ℕ) (t : Transaction) (o : Op (List ℕ)) (s new : Session) (d 
   call_due : (m : Machine) → cap_of m ≡ cap → due m t o ≡ d
   call_due m most = ap (λ k. (call k (session_after k t.tree t.ops) o).answer) most ∙ ap (λ (x : Done). x.answer) called_so
 
-  -- where it is not answered what is due, it may be answered a fault, and nothing else
-  pub call-other : (a : Answer) → d ≢ a → (servers : ℕ) (b : Bool) → IsTrue b ↔ MayFail servers o d a → (m : Machine) → RunsWith cap servers m
-      → IsTrue b ↔ MayCall m t o a
-  call-other a other servers b fails m runs = (
-    λ y. inr (subst (λ n. MayFail n o (due m t o) a) (sym runs.1) (subst (λ x. MayFail servers o x a) (sym (call_due m runs.0)) (fails.0 y))),
+  -- what may come in place of what is due
+  pub call-may : (a : Answer) (servers : ℕ) (b : Bool) → IsTrue b ↔ MayFail servers o d a → (m : Machine) → cap_of m ≡ cap → IsTrue b ↔ MayFail servers o (due m t o) a
+  call-may a servers b fails m most = subst (λ x. IsTrue b ↔ MayFail servers o x a) (sym (call_due m most)) fails
+
+  -- an answer that is no fault is lawful only where it is due
+  pub call-other : (a : Answer) → d ≢ a → (IsStoreFault a → ⊥) → (m : Machine) → cap_of m ≡ cap → IsTrue false ↔ MayCall m t o a
+  call-other a other sound m most = (
+    λ y. absurd (not_so y),
     λ may. elim may [
-      | inl same ↦ absurd (other (sym (same ∙ call_due m runs.0)))
-      | inr fault ↦ fails.1 (subst (λ x. MayFail servers o x a) (call_due m runs.0) (subst (λ n. MayFail n o (due m t o) a) runs.1 fault))
+      | inl same ↦ absurd (other (sym (same ∙ call_due m most)))
+      | inr fault ↦ absurd (sound (IsStoreFault-MayFail m.settings.servers o (due m t o) a fault))
     ],
   )
 

@@ -2,14 +2,16 @@
 
 ghost use Rattle.std.specs.Prelude.{◌≡◌, ◌≢◌, ◌↔◌, ◌+◌, ◌++◌, ◌∷◌, ◌<◌, ◌≤◌, length, take, slice_get, false, Some, IsTrue, IfOk, OnOk, OnErr, []};
 ghost use Rattle.wtf_model.specs.Transaction.{session_after, answers_of};
-ghost use Rattle.wtf_model.specs.Lawful.{Deviates, IsDone, MayInstall, MayCall, MayStep, MayTry, MayCommit};
-ghost use Rattle.wtf_model.specs.Machines.{Machine, cap_of, is_live, is_full};
+ghost use Rattle.wtf_model.specs.declared.answer.Answer.{Answer};
+ghost use Rattle.wtf_model.specs.Faults.{IsReadFault};
+ghost use Rattle.wtf_model.specs.Lawful.{Deviates, IsDone, MayInstall, MayFail, MayCall, MayStep, MayTry, MayCommit};
+ghost use Rattle.wtf_model.specs.Machines.{Machine, cap_of, due, is_live, is_full};
 ghost use Rattle.wtf_model.specs.Steps.{IsLogged, logged};
 ghost use Rattle.wtf_machine.specs.Logs.{ops_of, shown_of, IsWarm, IsWarm_prop};
 ghost use Rattle.wtf_machine.specs.Sessions.{session_in};
 
 use crate::copies::copy_op;
-use crate::faults::{is_read_fault, may_fail};
+use crate::faults::{is_read_fault, is_store_fault, may_fail};
 use crate::log::{Logged, Outcome, replay, rerun};
 use crate::path_map::PathMap;
 use crate::workspace::Workspace;
@@ -156,6 +158,27 @@ impl Begun {
         self.calls.len() >= MAX_LOGGED as usize
     }
 
+    /// Whether a store may fail in place of what a call is due. The call is made on a second copy of the session, and the
+    /// transaction stays.
+    fn may_fail(
+        &mut self,
+        servers: u8,
+        op: &Op<Bytes>,
+        answer: &Answer,
+    ) -> Result<bool, OutOfMemory>
+        requires live { self.old.replayed ≡ length self.old.calls.items }
+        ensures lawful { IfOk result (λ yes. (m : Machine) → cap_of m ≡ self.old.cap
+            → (IsTrue yes ↔ MayFail servers op.now (due m (transaction_in self.old) op.now) answer.now)) }
+        ensures stays { transaction_in self.new ≡ transaction_in self.old }
+        ensures cap { self.new.cap ≡ self.old.cap }
+    {
+        let session = self.session()?;
+        let mut tried = session.share()?;
+        let due = tried.call(self.cap, op)?;
+        self.warm = Some(session);
+        Ok(may_fail(servers, op, &due, answer))
+    }
+
     /// A call of a transaction that is live, whose log has room. An answer that is not lawful leaves the transaction.
     pub(crate) fn call(
         &mut self,
@@ -173,10 +196,13 @@ impl Begun {
         ensures err { OnErr result (transaction_in self.new ≡ transaction_in self.old) }
         ensures cap { self.new.cap ≡ self.old.cap }
     {
+        if is_store_fault(answer) {
+            return self.may_fail(servers, op, answer);
+        }
         let mut session = self.session()?;
         let due = session.call(self.cap, op)?;
         if !is_same_answer(&due, answer) {
-            return Ok(may_fail(servers, op, &due, answer));
+            return Ok(false);
         }
         self.keep(op, answer, session)?;
         Ok(true)
@@ -242,6 +268,37 @@ impl Begun {
         number == self.replayed + 1 && is_same_answer(due, told) && !self.was_shown(due)
     }
 
+    /// Whether the next call would not be refused. It is made on a second copy of the session, and the transaction stays.
+    fn is_next_done(&mut self) -> Result<bool, OutOfMemory>
+        requires behind { self.old.replayed < length self.old.calls.items }
+        ensures is { IfOk result (λ yes. IsTrue yes ↔ IsDone (slice_get
+            (answers_of self.old.cap self.old.tree (ops_of self.old.calls.items)) self.old.replayed)) }
+        ensures stays { transaction_in self.new ≡ transaction_in self.old }
+        ensures cap { self.new.cap ≡ self.old.cap }
+    {
+        let session = self.session()?;
+        let mut tried = session.share()?;
+        let at = self.replayed as usize;
+        let due = tried.call(self.cap, &self.calls[at].op)?;
+        self.warm = Some(session);
+        Ok(is_done(&due))
+    }
+
+    /// What a read that failed comes to in place of the next call's step.
+    fn step_fault(&mut self) -> Result<Verdict, OutOfMemory>
+        requires behind { self.old.replayed < length self.old.calls.items }
+        ensures verdict { IfOk result (λ v. (m : Machine) (a : Answer) → cap_of m ≡ self.old.cap
+            → IsReadFault m.settings.servers a
+            → IsVerdict (MayStep m (transaction_in self.old) a) (transaction_in self.old) (transaction_in self.new) a v) }
+        ensures err { OnErr result (transaction_in self.new ≡ transaction_in self.old) }
+        ensures cap { self.new.cap ≡ self.old.cap }
+    {
+        if self.is_next_done()? {
+            return Ok(Verdict::Goes);
+        }
+        Ok(Verdict::Unlawful)
+    }
+
     /// A step of a replay that has not come to its end.
     pub(crate) fn step(&mut self, servers: u8, answer: &Answer) -> Result<Verdict, OutOfMemory>
         requires behind { self.old.replayed < length self.old.calls.items }
@@ -251,11 +308,13 @@ impl Begun {
         ensures err { OnErr result (transaction_in self.new ≡ transaction_in self.old) }
         ensures cap { self.new.cap ≡ self.old.cap }
     {
+        if is_read_fault(servers, answer) {
+            return self.step_fault();
+        }
         let (session, due) = self.replay_next()?;
         match answer {
             Answer::Replayed(i) => Ok(self.step_on(session, &due, *i)),
             Answer::Aborted(i, told) if self.deviates(&due, *i, told) => Ok(Verdict::Ends),
-            _ if is_done(&due) && is_read_fault(servers, answer) => Ok(Verdict::Goes),
             _ => Ok(Verdict::Unlawful),
         }
     }

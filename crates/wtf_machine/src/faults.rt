@@ -1,12 +1,25 @@
 //! Answers of stores that fail, in place of those that are due.
 
 ghost use Rattle.std.specs.Prelude.{◌↔◌, ◌<◌, length, IsTrue};
+ghost use Rattle.wtf_model.specs.Examples.{IsStoreFault};
 ghost use Rattle.wtf_model.specs.Faults.{IsReadFault};
 ghost use Rattle.wtf_model.specs.Lawful.{MayFail, MayFailRead, MayFailYank, MayFailPeek};
 ghost use Rattle.wtf_model.specs.Lawful.{MayFailConcat, MayFailWrite};
 
 use wtf_base::Bytes;
 use wtf_model::{Answer, Op};
+
+/// Whether an answer tells that a store failed.
+pub(crate) fn is_store_fault(answer: &Answer) -> bool
+    ensures { IsTrue result ↔ IsStoreFault answer.now }
+{
+    match answer {
+        Answer::FaultRead(_) => true,
+        Answer::FaultWrite => true,
+        Answer::Damaged(_) => true,
+        _ => false,
+    }
+}
 
 /// Whether an answer tells of a read that failed on one of so many servers.
 pub(crate) fn is_read_fault(servers: u8, answer: &Answer) -> bool

@@ -22,6 +22,19 @@ pub(crate) struct Cursor {
     pub(crate) off: u64,
 }
 
+impl Cursor {
+    /// The same for a second holder.
+    fn share(&self, alloc: Global) -> Result<Cursor, OutOfMemory>
+        ensures { IfOk result (λ handle. handle_of handle ≡ handle_of self.now) }
+    {
+        let path = self.path.copy(alloc)?;
+        Ok(Cursor {
+            path,
+            off: self.off,
+        })
+    }
+}
+
 /// Open handles by their labels.
 #[derive(Drop)]
 pub(crate) struct Handles {
@@ -76,6 +89,19 @@ impl Handles {
         ensures { self.new ≡ remove self.old f }
     {
         let _ = self.items.remove(&f);
+    }
+
+    /// The same handles for a second holder.
+    pub(crate) fn share(&self, alloc: Global) -> Result<Handles, OutOfMemory>
+        ensures { IfOk result (λ handles. handles ≡ self.now) }
+    {
+        let mut shared = Handles::new(alloc);
+        let mut rest = self.items.iter();
+        while let Some((f, handle)) = rest.next_back() {
+            let handle = handle.share(alloc)?;
+            shared.set(*f, handle)?;
+        }
+        Ok(shared)
     }
 
     /// Whether a handle is open on a path.
@@ -140,5 +166,18 @@ impl Slices {
             Ok(_) => Ok(()),
             Err(_) => Err(OutOfMemory),
         }
+    }
+
+    /// The same slices for a second holder. No byte is copied.
+    pub(crate) fn share(&self, alloc: Global) -> Result<Slices, OutOfMemory>
+        ensures { IfOk result (λ slices. slices ≡ self.now) }
+    {
+        let mut shared = Slices::new(alloc);
+        let mut rest = self.items.iter();
+        while let Some((label, bytes)) = rest.next_back() {
+            let bytes = bytes.clone()?;
+            shared.set(*label, bytes)?;
+        }
+        Ok(shared)
     }
 }

@@ -1,4 +1,5 @@
-//! Lines with their answers, as they are lawful one after another. A line and its answer stand on one line here, with ` => ` between.
+//! Lines with their answers, as they are lawful one after another. A line and its answer stand on one line here, with ` => ` between;
+//! ` =/> ` stands before an answer that may not be given there.
 
 /// What a machine begins with.
 #[derive(Clone, Copy)]
@@ -466,14 +467,20 @@ c0 try => committed 1
         name: "a spilled list while its server is down",
         start: ONE_SERVER,
         text: "abcdef",
-        lines: "sys plan j0 spill /a 0 => planned
+        lines: "sys plan j0 spill /a 0 =/> fault read 1
+sys plan j0 spill /a 0 => planned
+sys put j0 =/> stale 1 1
 sys put j0 => installed 2
 c0 begin => begun 2
 c0 open f0 /a => ok
 c0 yank f0 6 s0 => len 6
 sys down 0 => ok
 c0 seek f0 set 0 => ok
+c0 yank f0 6 s1 =/> fault read 1
+c0 yank f0 6 s1 =/> len 5
 c0 yank f0 6 s1 => len 6
+c0 peek s1 0 1 =/> damaged 0
+c0 peek s1 0 1 =/> fault read 1
 c0 peek s1 0 1 => fault read 0
 sys up 0 => ok
 c0 abort => ok
@@ -490,11 +497,15 @@ pub(crate) const JOBS: [Row; 4] = [
         lines: "c0 begin => begun 1
 c0 open f0 /a => ok
 c0 read f0 2 => data x:6162
+sys plan j0 compact /a 0 =/> fault write
 sys plan j0 compact /a 0 => planned
+sys put j0 =/> stale 1 1
 sys put j0 => installed 2
+c0 try =/> retry 1 1
 c0 try => retry 1 2
 c0 read f0 2 => refused replaying
 c0 step => replayed 1
+c0 step =/> replayed 1
 c0 step => replayed 2
 c0 try => committed 3
 ",
@@ -508,16 +519,24 @@ c0 begin => begun 1
 c0 open f0 /a => ok
 c0 write f0 t:XY => ok
 c0 try => committed 2
+sys put j0 =/> stale 1 1
 sys put j0 => stale 1 2
 sys plan j0 spill /a 0 => planned
+sys put j0 =/> installed 2
+sys put j0 =/> stale 2 2
 sys put j0 => installed 3
 c0 begin => begun 3
 c0 open f0 /a => ok
 c0 append f0 t:z => ok
 c0 try => committed 4
+sys dump /a =/> data x:585963646566
 sys dump /a => data x:5859636465667a
+sys plan j0 compact /a 0 =/> fault write
 sys plan j0 compact /a 0 => planned
+sys put j0 =/> installed 4
+sys put j0 =/> stale 3 4
 sys put j0 => installed 5
+sys dump /a =/> data x:6162636465667a
 sys dump /a => data x:5859636465667a
 ",
     },
@@ -530,10 +549,13 @@ c0 create /e => ok
 c0 try => committed 2
 sys plan j0 compact /e 0 => planned
 sys plan j1 compact /a 0 => planned
+sys put j0 =/> stale 2 2
 sys put j0 => installed 3
 c0 begin => begun 3
 c0 unlink /a => ok
 c0 try => committed 4
+sys put j1 =/> installed 4
+sys put j1 =/> stale 3 4
 sys put j1 => stale 2 4
 ",
     },
@@ -548,16 +570,19 @@ c0 step => refused live
 c0 abort => ok
 sys put j0 => refused nojob
 sys drop j0 => refused nojob
+sys plan j0 compact /a 1 =/> planned
 sys plan j0 compact /a 1 => refused noregion
 sys plan j0 compact /q 0 => refused noent
 sys plan j0 compact / 0 => refused isdir
 sys plan j0 compact /a 0 => planned
+sys plan j0 spill /a 0 =/> planned
 sys plan j0 spill /a 0 => refused jobinuse
 sys drop j0 => ok
 sys down 4 => refused noserver
 sys piece 1 => refused noscan
 sys collect 0 => refused noscan
 sys scan => scanning 64
+sys scan =/> scanning 64
 sys scan => refused scanbusy
 sys dump / => refused isdir
 ",
@@ -579,11 +604,14 @@ c1 try => committed 2
 sys save => saved 2
 sys scan => scanning 64
 sys piece 64 => done
+sys scan =/> held c1
+sys scan =/> scanning 64
 sys scan => held c0
 c0 peek s0 0 4 => data x:61626364
 c0 abort => ok
 sys scan => scanning 64
 sys piece 64 => done
+sys collect 0 =/> refused noscan
 sys collect 0 => collected 0
 sys scan => scanning 64
 sys piece 64 => done
@@ -601,10 +629,12 @@ c0 try => committed 2
 sys plan j0 compact /a 0 => planned
 sys put j0 => installed 3
 sys save => saved 3
+sys scan =/> held j0
 sys scan => scanning 64
 sys piece 64 => done
 sys scan => scanning 64
 sys piece 64 => done
+sys collect 0 =/> fault punch 1
 sys collect 0 => collected 10
 sys collect 1 => collected 10
 sys collect 0 => collected 0
@@ -616,11 +646,14 @@ sys dump /a => data x:6162636465666768696a
         start: DEFAULTS,
         text: "ab",
         lines: "sys scan => scanning 64
+sys piece 60 =/> done
+sys piece 60 =/> more 5
 sys piece 60 => more 4
 c0 begin => begun 1
 c0 open f0 /a => ok
 c0 write f0 t:cd => ok
 c0 try => committed 2
+sys piece 10 =/> more 0
 sys piece 10 => done
 ",
     },
@@ -635,12 +668,14 @@ c0 write f0 t:WXYZ => ok
 c0 try => committed 2
 sys plan j0 compact /a 0 => planned
 sys put j0 => installed 3
+sys save =/> saved 2
 sys save => fault save
 sys scan => scanning 64
 sys piece 64 => done
 sys scan => scanning 64
 sys piece 64 => done
 sys collect 0 => collected 0
+sys save =/> saved 1
 sys save => saved 3
 sys scan => scanning 64
 sys piece 64 => done
@@ -659,11 +694,13 @@ c0 write f0 t:WXYZ => ok
 c0 try => committed 2
 sys plan j0 compact /a 0 => planned
 sys put j0 => installed 3
+sys save =/> saved 2
 sys save => saved 3
 sys scan => scanning 64
 sys piece 64 => done
 sys scan => scanning 64
 sys piece 64 => done
+sys collect 0 =/> fault punch 1
 sys collect 0 => collected 4
 ",
     },
@@ -672,11 +709,13 @@ sys collect 0 => collected 4
         start: ONE_SERVER,
         text: "abcd",
         lines: "sys scan => scanning 64
+sys piece 1 =/> more 62
 sys piece 1 => more 63
 c0 begin => begun 1
 c0 copy /a /b => ok
 c0 unlink /a => ok
 c0 commit => committed 2
+sys piece 63 =/> more 0
 sys piece 63 => done
 sys scan => scanning 64
 sys piece 64 => done
