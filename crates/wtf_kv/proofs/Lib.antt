@@ -2,6 +2,7 @@ pub mod EditLaws
 pub mod VersionLaws
 pub mod PinLaws
 pub mod KeyLaws
+pub mod KeptLaws
 pub mod CallLaws
 mod Sees
 mod Prune

@@ -1,5 +1,5 @@
 -- The versions of one key, each a number and a value, the oldest first. A removal has the value None.
-use Rattle.std.specs.Prelude.{ℕ, ◌<◌, ◌≤◌, Bool, true, false, cond, ◌||◌, ◌&&◌, List, [], ◌∷◌, Option, None, Some, is_some, nat_le, nat_lt}
+use Rattle.std.specs.Prelude.{◌≡◌, ℕ, ◌<◌, ◌≤◌, Bool, true, false, cond, ◌||◌, ◌&&◌, ◌⊎◌, List, [], ◌∷◌, Option, None, Some, is_some, nat_le, nat_lt}
 use Rattle.std.specs.List.{list_any, filter}
 
 -- the last of the versions that is at most n, or else what was seen before them
@@ -81,6 +81,11 @@ abbrev pub is_settled : {C : Type 0} → List (ℕ × Option C) → Bool
 is_settled [] = true
 is_settled (v ∷ []) = is_some v.1
 is_settled (v ∷ w ∷ ws) = false
+
+-- it is one of the versions
+abbrev pub IsAmong : {C : Type 0} → ℕ × Option C → List (ℕ × Option C) → Type 0
+IsAmong v [] = ⊥
+IsAmong v (w ∷ ws) = (v ≡ w) ⊎ IsAmong v ws
 
 -- some version is at most n, where they ascend
 abbrev pub has_upto : {C : Type 0} → ℕ → List (ℕ × Option C) → Bool

@@ -6,7 +6,7 @@ use Rattle.std.specs.declared.cmp.Ordering.{Ordering}
 use Rattle.std.specs.Map.{lookup}
 use Rattle.std.specs.declared.vec.Vec.{Vec}
 use Rattle.std.specs.BTreeMap.{is_at}
-use Rattle.wtf_kv.specs.Seen.{last_seen, value_seen, number_seen, reported, upto, ascends}
+use Rattle.wtf_kv.specs.Seen.{last_seen, value_seen, number_seen, reported, kept_versions, upto, ascends}
 
 -- the number of the last install; the pinned numbers, each as often as it is pinned; and each key's
 -- versions, where those above the number are made ready for the next install and not yet shown
@@ -63,6 +63,10 @@ module _ {K C : Type 0} (order : K → K → Ordering) where
   -- the versions of each key ascend
   abbrev pub AllAscend : Store K C → Type 0
   AllAscend s = (key : K) → ascends (versions_of s key)
+
+  -- of each key only versions stand that are kept: nothing is left to prune
+  abbrev pub AllKept : Store K C → Type 0
+  AllKept s = (key : K) → kept_versions s.pins (versions_of s key) ≡ versions_of s key
 
   -- both stores show the same: number, pins, and the versions of each key
   pub record ShowsSame (old new : Store K C) : Type 0 where

@@ -143,6 +143,7 @@ impl<K: StoreKey, C: Cell> Kv<K, C> {
         ensures order { AllAscend K.cmp self.old }
         ensures kept { (q : K) → versions_of K.cmp self.new q ≡
             kept_versions self.old.pins (versions_of K.cmp self.old q) }
+        ensures ascends { AllAscend K.cmp self.new }
         ensures maps { (n : ℕ) → IsTrue (is_live self.old n) → map_at K.cmp self.new n ≡
             map_at K.cmp self.old n }
         ensures versions { (n : ℕ) → IsTrue (is_live self.old n) → version_of K.cmp self.new n ≡

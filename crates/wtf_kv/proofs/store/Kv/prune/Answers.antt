@@ -1,6 +1,7 @@
-use Rattle.std.proofs.Common.{refl, ap, ◌∙◌, ◌≡◌}
-use Rattle.wtf_kv.specs.Seen.{kept_versions}
+use Rattle.std.proofs.Common.{refl, ap, sym, subst, ◌∙◌, ◌≡◌}
+use Rattle.wtf_kv.specs.Seen.{kept_versions, ascends}
 use Rattle.wtf_kv.specs.Stores.{Store, versions_of}
+use Rattle.wtf_kv.proofs.Prune.{ascends-kept}
 use Rattle.wtf_kv.proofs.StoreLemmas.{pruned_map, pruned_versions}
 use Rattle.wtf_kv.proofs.store.Kv.prune.Goals as goal
 
@@ -19,3 +20,6 @@ returns-clause-versions g c =
     let kept : (q : g.row.K.Denot) → versions_of g.K.Ord.cmp new q ≡ kept_versions old.pins (versions_of g.K.Ord.cmp old q) =
     λ q. c.prune.ensures.kept q ∙ ap (λ pins. kept_versions pins (versions_of g.K.Ord.cmp old q)) c.as_slice.ensures.value in
     rw (← c.self.view_is) (pruned_versions g.K.Ord.cmp old new c.self.invariant c.prune.ensures.order refl kept)
+
+pub returns-clause-ascends : goal.returns-clause-ascends
+returns-clause-ascends g c = λ q. subst ascends (sym (c.prune.ensures.kept q)) (ascends-kept c.as_slice.result.now (versions_of g.K.Ord.cmp c.self.inside.history q) (c.prune.ensures.order q))
