@@ -1,5 +1,5 @@
 -- What calls make of a store, one after another.
-use Rattle.std.specs.Prelude.{◌≡◌, ℕ, ◌+◌, ◌^◌, Bool, true, ◌||◌, ◌&&◌, not, nat_eq, nat_lt, List, [], ◌∷◌, ◌++◌, ◌⊎◌, Option, IsTrue, MatchBool, ◌≤◌}
+use Rattle.std.specs.Prelude.{◌≡◌, ℕ, ◌+◌, ◌^◌, Bool, true, ◌||◌, ◌&&◌, not, nat_eq, nat_lt, List, [], ◌∷◌, ◌++◌, ◌⊎◌, Option, Some, IsTrue, MatchBool, ◌≤◌}
 use Rattle.std.specs.Set.{remove_key}
 use Rattle.std.specs.declared.cmp.Ordering.{Ordering}
 use Rattle.wtf_kv.specs.declared.cell.Applied.{Applied}
@@ -7,7 +7,7 @@ use Rattle.wtf_kv.specs.declared.calls.Call.{Call}
 use Rattle.wtf_kv.specs.declared.calls.Call.TheVariants.{Pin, Unpin, Prune, Reserve, Install}
 use Rattle.wtf_kv.specs.declared.changes.Change.{Change}
 use Rattle.wtf_kv.specs.Seen.{kept_versions}
-use Rattle.wtf_kv.specs.Edits.{over, Fits}
+use Rattle.wtf_kv.specs.Edits.{over, Fits, first_unfit}
 use Rattle.wtf_kv.specs.Stores.{Store, is_pinned, is_live, times_pinned, map_at, versions_of, ShowsSame}
 
 -- m is still pinned, and the map at m is what it was
@@ -43,13 +43,27 @@ module _ {K C D : Type 0} (order : K → K → Ordering) (outcome : Option C →
     pub map : map_at order new new.number ≡ over order outcome cs (map_at order old old.number)
     pub maps : (n : ℕ) → n ≤ old.number → map_at order new n ≡ map_at order old n
 
-  -- what a call makes of a store; one that takes memory may find none
+  -- a delta does not fit the value of its key: nothing is installed
+  pub record IsRefused (cs : List (Change K D)) (old new : Store K C) : Type 0 where
+    pub key : K
+    pub unfit : first_unfit order outcome cs (map_at order old old.number) ≡ Some key
+    pub same : ShowsSame order old new
+
+  -- what a call makes of a store
   abbrev pub Made : Call K C D → Store K C → Store K C → Type 0
-  Made (Pin n) old new = (new ≡ record old { pins = old.pins ++ n ∷ [] }) ⊎ (new ≡ old)
+  Made (Pin n) old new = new ≡ record old { pins = old.pins ++ n ∷ [] }
   Made (Unpin n) old new = new ≡ record old { pins = remove_key (nat_eq n) old.pins }
   Made Prune old new = IsPruned old new
   Made (Reserve cs) old new = ShowsSame order old new
-  Made (Install cs) old new = IsNextInstall cs old new ⊎ ShowsSame order old new
+  Made (Install cs) old new = IsNextInstall cs old new ⊎ IsRefused cs old new
+
+  -- what a call leaves that finds no memory: one that takes none is made
+  abbrev pub Leaves : Call K C D → Store K C → Store K C → Type 0
+  Leaves (Pin n) old new = new ≡ old
+  Leaves (Unpin n) old new = ⊥
+  Leaves Prune old new = ⊥
+  Leaves (Reserve cs) old new = ShowsSame order old new
+  Leaves (Install cs) old new = ShowsSame order old new
 
   -- a call is made where it is allowed, and else the store stays
   abbrev pub IsMadeWhere : Bool → Call K C D → Store K C → Store K C → Type 0
@@ -58,7 +72,19 @@ module _ {K C D : Type 0} (order : K → K → Ordering) (outcome : Option C →
   abbrev pub Step : ℕ → Call K C D → Store K C → Store K C → Type 0
   Step m c old new = IsMadeWhere (is_allowed m c old) c old new
 
+  -- a call finds no memory, where it is allowed
+  abbrev pub IsLeftWhere : Bool → Call K C D → Store K C → Store K C → Type 0
+  IsLeftWhere allowed c old new = IsTrue allowed × Leaves c old new
+
+  abbrev pub Stop : ℕ → Call K C D → Store K C → Store K C → Type 0
+  Stop m c old new = IsLeftWhere (is_allowed m c old) c old new
+
   -- the calls one after another
   abbrev pub Steps : ℕ → List (Call K C D) → Store K C → Store K C → Type 0
   Steps m [] old new = new ≡ old
   Steps m (c ∷ cs) old new = (s : Store K C) × Step m c old s × Steps m cs s new
+
+  -- the calls one after another, up to one that finds no memory
+  abbrev pub StopsIn : ℕ → List (Call K C D) → Store K C → Store K C → Type 0
+  StopsIn m [] old new = ⊥
+  StopsIn m (c ∷ cs) old new = Stop m c old new ⊎ ((s : Store K C) × Step m c old s × StopsIn m cs s new)

@@ -135,7 +135,7 @@ fn run_all(kv: &mut Counts, calls: &[Call<Name, Count>], n: u64) -> Result<(), F
     if !kv.is_pinned(n) {
         return Err("the number is not pinned".into());
     }
-    run(kv, calls, n);
+    run(kv, calls, n)?;
     Ok(())
 }
 

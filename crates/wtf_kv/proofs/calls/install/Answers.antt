@@ -5,8 +5,8 @@ use Rattle.wtf_kv.specs.declared.calls.Call.TheVariants.{Install}
 use Rattle.wtf_kv.proofs.CallLaws.{made_where}
 use Rattle.wtf_kv.proofs.calls.install.Goals as goal
 
-pub returns : goal.returns
-returns g c =
+pub returns-in-Ok-clause-step : goal.returns-in-Ok-clause-step
+returns-in-Ok-clause-step g c =
     let order = g.K.Ord.cmp in
     let outcome = g.C.Cell.outcome in
     let old = c.args.kv.now in
