@@ -1,5 +1,5 @@
 -- The order of keys.
-use Rattle.std.specs.Prelude.{◌≡◌, ℕ, Bool, false, ◌&&◌, nat_le, List, refl}
+use Rattle.std.specs.Prelude.{◌≡◌, ℕ, ◌<◌, ◌-◌, ◌^◌, Bool, true, false, ◌&&◌, nat_le, List, refl}
 use Rattle.std.proofs.Common.{ap}
 use Rattle.std.proofs.lemmas.Map.Lookups.{exact_unsigned}
 use Rattle.std.specs.FinMap.{slice_cmp-IsAntisymmetric, nat_cmp-IsAntisymmetric}
@@ -26,6 +26,24 @@ is_region_within i from to (Path p) = false
 is_region_within i from to (Dir p) = false
 is_region_within i from to (Inode j) = false
 is_region_within i from to (Region j r) = is_eq (inode_cmp i j) && (nat_le from r && nat_le r to)
+
+-- whether a key is a region's
+abbrev pub is_region : Key → Bool
+is_region (Path p) = false
+is_region (Dir p) = false
+is_region (Inode j) = false
+is_region (Region j r) = true
+
+-- the greatest inode there can be
+abbrev pub last_inode : InodeId
+last_inode = record { tx = record { 0 = 2 ^ 64 - 1 }; index = 2 ^ 32 - 1 }
+
+-- a key of an inode has one whose numbers are those of a transaction and of a call in it
+abbrev pub HasInode : Key → Type 0
+HasInode (Path p) = Unit {0}
+HasInode (Dir p) = Unit {0}
+HasInode (Inode j) = (j.tx.0 < 2 ^ 64) × (j.index < 2 ^ 32)
+HasInode (Region j r) = Unit {0}
 
 -- two equal parts
 then_both : (a b : Ordering) → ordering_then a b ≡ Equal → (a ≡ Equal) × (b ≡ Equal)
