@@ -1,10 +1,11 @@
-//! The devices over the system: standard streams, a folder of eight files for each server, and the file of an image, in a
-//! folder that is locked.
+//! The devices over the system: standard streams, a file that is read, a folder of eight files for each server, and the file
+//! of an image, in a folder that is locked.
 //! Each counts its errors, and tells nothing of what a file or a stream holds.
 #![tactic(auto)]
 
 mod counts;
 mod fault;
+mod file;
 mod folder;
 mod gathered;
 mod image;
@@ -15,6 +16,7 @@ mod source;
 mod standing;
 
 pub use fault::OpenFault;
+pub use file::FileSource;
 pub use folder::DirStore;
 pub use image::FileKeeper;
 pub use lock::{FolderLock, Lockable};

@@ -9,7 +9,9 @@ use std::rc::Rc;
 use std::test::Fail;
 use std::{env, process};
 use wtf_dev::{Failed, Keeper, LoadFault, Sink, SliceStore, Source};
-use wtf_real::{DirStore, FileKeeper, FolderLock, InSource, OpenFault, OutSink, StandIns, streams};
+use wtf_real::{
+    DirStore, FileKeeper, FileSource, FolderLock, InSource, OpenFault, OutSink, StandIns, streams,
+};
 
 /// What was written and when it was read, in order.
 type Log = Rc<RefCell<Vec<u8>>>;
@@ -201,10 +203,15 @@ fn make(rt: &HostRuntime, folder: &str, path: &str) -> Result<(), Fail> {
     Ok(fs::create_dir_all(rt, path.as_str())?)
 }
 
+/// A file of this text behind the folder of a path.
+fn write(rt: &HostRuntime, folder: &str, path: &str, text: &str) -> Result<(), Fail> {
+    let path = below(rt, folder, path)?;
+    Ok(fs::write(rt, path.as_str(), text)?)
+}
+
 /// A file of one byte behind the folder of a path.
 fn put(rt: &HostRuntime, folder: &str, path: &str) -> Result<(), Fail> {
-    let path = below(rt, folder, path)?;
-    Ok(fs::write(rt, path.as_str(), "a")?)
+    write(rt, folder, path, "a")
 }
 
 /// A link to a full disk behind the folder of a path.
@@ -437,4 +444,43 @@ fn an_image_that_fails_is_told(rt: HostRuntime) -> Result<(), Fail> {
     clear(&rt, path.as_str())?;
     assert!(rt; is_no_keeper(&rt, &lock));
     Ok(())
+}
+
+/// The source of a file behind the folder of a path.
+fn source(rt: &HostRuntime, folder: &str, path: &str) -> Result<FileSource<File>, OpenFault> {
+    let Ok(path) = format!(in rt.alloc(); "{folder}/{path}") else {
+        return Err(OpenFault::Memory);
+    };
+    FileSource::open(rt, path.as_str())
+}
+
+/// Whether there is no source behind the folder of a path.
+fn is_no_source(rt: &HostRuntime, folder: &str, path: &str) -> bool {
+    matches!(source(rt, folder, path), Err(OpenFault::Failed))
+}
+
+/// Whether a source that is asked for four bytes gives these, or fails.
+fn gives(source: &mut FileSource<File>, want: Result<&[u8], Failed>) -> bool {
+    let mut out = [0u8; 4];
+    match source.read(&mut out) {
+        Ok(n) => want == Ok(&out[..n]),
+        Err(e) => want == Err(e),
+    }
+}
+
+/// What was written to a file is read back whole, and then nothing. A file that is missing is no source, and one that is a
+/// folder is not read.
+#[test]
+fn a_file_gives_what_was_written(rt: HostRuntime) -> Result<(), Fail> {
+    let path = fresh(&rt, "file")?;
+    make(&rt, path.as_str(), "folder")?;
+    write(&rt, path.as_str(), "six", "abcdef")?;
+    let mut six = source(&rt, path.as_str(), "six")?;
+    assert!(rt; gives(&mut six, Ok(b"abcd")));
+    assert!(rt; gives(&mut six, Ok(b"ef")));
+    assert!(rt; gives(&mut six, Ok(b"")));
+    assert!(rt; is_no_source(&rt, path.as_str(), "none"));
+    let mut folder = source(&rt, path.as_str(), "folder")?;
+    assert!(rt; gives(&mut folder, Err(Failed)));
+    clear(&rt, path.as_str())
 }
