@@ -1,7 +1,9 @@
--- What contracts see of a store over real files: its counts and lengths, and nothing of what the files hold.
-use Rattle.std.specs.Prelude.{ℕ, ◌-◌, ◌^◌, min, false, List, None, slice_index_or}
+-- What contracts see of a store over real files: its counts and lengths and what was asked of each file, and nothing of what
+-- the files hold.
+use Rattle.std.specs.Prelude.{ℕ, ◌-◌, ◌^◌, min, false, List, Option, None, slice_index_or}
 use Rattle.std.proofs.Common.{arith}
 use Rattle.wtf_dev.specs.Store.{StoreView, Kept, StoreKind, KindLaws}
+use Rattle.wtf_real.specs.Asked.{FileOp, Call}
 use Rattle.wtf_dev.specs.MemoryLaws.{kept_same, kept_on}
 
 pub record FolderState : Type 0 where
@@ -9,6 +11,8 @@ pub record FolderState : Type 0 where
   pub syncs : ℕ
   -- how long each file is to its adapter, in bytes
   pub lengths : List ℕ
+  -- what was asked of each file so far, where the file tells it
+  pub asked : List (Option (List (Call FileOp)))
 
 -- A file is never longer than 2^61 - 1 bytes: `min` says so of each state that can be written down.
 abbrev pub folder_view : FolderState → StoreView

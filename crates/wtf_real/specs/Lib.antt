@@ -4,3 +4,4 @@ pub mod Folders
 pub mod Images
 pub mod Numbers
 pub mod Locks
+pub mod Asked

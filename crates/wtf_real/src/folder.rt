@@ -1,18 +1,18 @@
 //! The files of one server, in a folder of their own.
 
-ghost use Rattle.std.specs.Prelude.{◌≡◌, ◌≢◌, ◌<◌, ◌≤◌, ◌+◌, ◌-◌, ◌^◌, ℕ, true, Some, [], ◌∷◌, length, IfOk, OnOk, OnErr, if◌then◌else◌};
+ghost use Rattle.std.specs.Prelude.{◌≡◌, ◌≢◌, ◌<◌, ◌≤◌, ◌+◌, ◌-◌, ◌^◌, ℕ, true, Some, [], ◌∷◌, length, map, replicate, slice_index_or, IfOk, OnOk, OnErr, ◌⊎◌, if◌then◌else◌};
 ghost use Rattle.std.specs.Result.{is_err};
 ghost use Rattle.wtf_dev.specs.Counts.{Rose, risen};
 ghost use Rattle.wtf_dev.specs.Store.{Appended, Agrees, SameSizes, Kept};
+ghost use Rattle.wtf_real.specs.Asked.{ReadAt, WriteAt, ZeroAt, IsAskedOf, AreSynced};
 ghost use Rattle.wtf_real.specs.Folders.{folder_view, folder_store, folder_laws};
 ghost use Rattle.wtf_real.specs.Numbers.{IsNoStream};
 
 use crate::counts::Faults;
-use crate::parts::{read_at, sync_all, write_at, zero_at};
+use crate::files::EightFiles;
 use crate::standing::no_stream;
-use crate::{FolderLock, Lockable, OpenFault};
+use crate::{FolderLock, Lockable, OpenFault, SliceFile};
 use std::fs::{self, OpenFile, OpenOptions};
-use std::io::{Read, Seek, Write};
 use std::marker::Model;
 use std::os::fd::AsRawFd;
 use std::rt::Files;
@@ -22,23 +22,29 @@ use wtf_dev::{Failed, SliceStore};
 const LIMIT: u64 = 1 << 61;
 
 /// A store of slices in eight files, which stay open. How long each is is the store's own number, read once when the file
-/// was opened: what an append that failed left behind it is overwritten by the next. It tells nothing.
+/// was opened: what an append that failed left behind it is overwritten by the next. It tells nothing of what they hold, but
+/// what was asked of each, where the file tells it.
 #[derive(Drop)]
-pub struct DirStore<F> {
-    files: [F; 8],
+pub struct DirStore<F: SliceFile> {
+    files: EightFiles<F>,
     lengths: [u64; 8],
     faults: Faults,
     syncs: u64,
 }
 
-impl<F> Model for DirStore<F> {
+impl<F: SliceFile> Model for DirStore<F> {
     ghost use Rattle.std.specs.Prelude.{ℕ, ◌<◌, ◌^◌};
     ghost use Rattle.std.specs.List.{All};
     ghost use Rattle.wtf_real.specs.Folders.{FolderState};
 
     ghost Value = { FolderState };
 
-    ghost view = { λ d. record { faults = d.faults; syncs = d.syncs; lengths = d.lengths } };
+    ghost view = { λ d. record {
+      faults = d.faults;
+      syncs = d.syncs;
+      lengths = d.lengths;
+      asked = d.files;
+    } };
 
     ghost invariant = { λ d. All (λ (n : ℕ). n < 2 ^ 61) d.lengths };
 }
@@ -68,7 +74,7 @@ fn open_file<F: OpenFile + AsRawFd + Drop, R: Files<File = F> + AllocGlobal>(
     Ok((opened, len))
 }
 
-impl<F: OpenFile + AsRawFd + Lockable + Drop> DirStore<F> {
+impl<F: SliceFile + OpenFile + AsRawFd + Lockable + Drop> DirStore<F> {
     /// The store of server K in a folder that is held: in the folder `sK` in it, which holds the files `0` to `7`. These and
     /// the folder are made where they are missing.
     pub fn open<R: Files<File = F> + AllocGlobal>(
@@ -94,14 +100,33 @@ impl<F: OpenFile + AsRawFd + Lockable + Drop> DirStore<F> {
         let f7 = open_file(rt, path, 7)?;
         Ok(DirStore {
             lengths: [f0.1, f1.1, f2.1, f3.1, f4.1, f5.1, f6.1, f7.1],
-            files: [f0.0, f1.0, f2.0, f3.0, f4.0, f5.0, f6.0, f7.0],
+            files: EightFiles::new([f0.0, f1.0, f2.0, f3.0, f4.0, f5.0, f6.0, f7.0]),
             faults: Faults::new(),
             syncs: 0,
         })
     }
 }
 
-impl<F: Read + Write + Seek + OpenFile + Drop> SliceStore for DirStore<F> {
+impl<F: SliceFile> DirStore<F> {
+    /// A store over eight files, each taken as empty: what one holds is overwritten.
+    pub fn of_empty(files: [F; 8]) -> DirStore<F>
+        ensures { result ≡ record {
+          faults = 0;
+          syncs = 0;
+          lengths = replicate 8 0;
+          asked = map F.told files;
+        } }
+    {
+        DirStore {
+            files: EightFiles::new(files),
+            lengths: [0; 8],
+            faults: Faults::new(),
+            syncs: 0,
+        }
+    }
+}
+
+impl<F: SliceFile + Drop> SliceStore for DirStore<F> {
     ghost kind = { folder_store };
 
     ghost laws = { folder_laws };
@@ -122,6 +147,13 @@ impl<F: Read + Write + Seek + OpenFile + Drop> SliceStore for DirStore<F> {
         ensures cause { OnErr result
             (Rose (folder_view self.old).faults (folder_view self.new).faults) }
 
+        // It writes these bytes at the end of that file and nothing else.
+        ensures written { IfOk result (λ at.
+            IsAskedOf result file (WriteAt at bytes.now) self.old.asked self.new.asked) }
+        ensures unwritten { OnErr result ((self.new.asked ≡ self.old.asked) ⊎
+            IsAskedOf result file (WriteAt (slice_index_or self.old.lengths file 0) bytes.now)
+            self.old.asked self.new.asked) }
+
         // It counts each error, and nothing else; after one no length changes.
         ensures same { OnErr result (self.new.lengths ≡ self.old.lengths) }
         ensures counted { self.new.faults ≡
@@ -129,7 +161,7 @@ impl<F: Read + Write + Seek + OpenFile + Drop> SliceStore for DirStore<F> {
     {
         let at = self.lengths[file as usize];
         let len = bytes.len() as u64;
-        if len >= LIMIT - at || write_at(&mut self.files[file as usize], at, bytes).is_err() {
+        if len >= LIMIT - at || self.files.write_at(file, at, bytes).is_err() {
             return Err(self.faults.raise());
         }
         self.lengths[file as usize] = at + len;
@@ -146,12 +178,15 @@ impl<F: Read + Write + Seek + OpenFile + Drop> SliceStore for DirStore<F> {
         ensures cause { OnErr result
             (Rose (folder_view self.old).faults (folder_view self.new).faults) }
 
+        // It reads that part of that file and nothing else.
+        ensures asked { IsAskedOf result file (ReadAt at out.new) self.old.asked self.new.asked }
+
         // It counts each error, and nothing else.
         ensures same { self.new.lengths ≡ self.old.lengths }
         ensures counted { self.new.faults ≡
             (if is_err result then risen self.old.faults else self.old.faults) }
     {
-        if read_at(&mut self.files[file as usize], at, out).is_err() {
+        if self.files.read_at(file, at, out).is_err() {
             return Err(self.faults.raise());
         }
         Ok(())
@@ -176,12 +211,15 @@ impl<F: Read + Write + Seek + OpenFile + Drop> SliceStore for DirStore<F> {
         ensures cause { OnErr result
             (Rose (folder_view self.old).faults (folder_view self.new).faults) }
 
+        // It writes zeros over that part of that file and nothing else.
+        ensures asked { IsAskedOf result file (ZeroAt at len) self.old.asked self.new.asked }
+
         // It counts each error, and nothing else.
         ensures same { self.new.lengths ≡ self.old.lengths }
         ensures counted { self.new.faults ≡
             (if is_err result then risen self.old.faults else self.old.faults) }
     {
-        if zero_at(&mut self.files[file as usize], at, len).is_err() {
+        if self.files.zero_at(file, at, len).is_err() {
             return Err(self.faults.raise());
         }
         Ok(())
@@ -197,13 +235,16 @@ impl<F: Read + Write + Seek + OpenFile + Drop> SliceStore for DirStore<F> {
         ensures cause { OnErr result
             (Rose (folder_view self.old).faults (folder_view self.new).faults) }
 
+        // Each of the eight files lasts.
+        ensures asked { AreSynced result self.old.asked self.new.asked }
+
         // It counts each error, and nothing else, and where there is none one sync.
         ensures same { self.new.lengths ≡ self.old.lengths }
         ensures counted { self.new.faults ≡
             (if is_err result then risen self.old.faults else self.old.faults) }
         ensures counts { OnOk result (self.new.syncs ≡ risen self.old.syncs) }
     {
-        if sync_all(&self.files).is_err() {
+        if self.files.sync_all().is_err() {
             return Err(self.faults.raise());
         }
         self.syncs = self.syncs.saturating_add(1);

@@ -6,6 +6,7 @@
 mod counts;
 mod fault;
 mod file;
+mod files;
 mod folder;
 mod gathered;
 mod image;
@@ -17,6 +18,7 @@ mod standing;
 
 pub use fault::OpenFault;
 pub use file::FileSource;
+pub use files::SliceFile;
 pub use folder::DirStore;
 pub use image::FileKeeper;
 pub use lock::{FolderLock, Lockable};

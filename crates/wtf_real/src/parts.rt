@@ -67,14 +67,6 @@ fn write_some_zeros<W: Write>(to: &mut W, most: u64) -> io::Result<u64>
     Ok(n)
 }
 
-/// Brings all of these files to where they last.
-pub(crate) fn sync_all<F: OpenFile>(files: &[F]) -> io::Result<()> {
-    for file in files {
-        file.sync_all()?;
-    }
-    Ok(())
-}
-
 /// Writes all of the bytes, and brings them to where they last.
 pub(crate) fn write_synced<F: Write + OpenFile>(file: &mut F, bytes: &[u8]) -> io::Result<()>
     ensures { OnOk result (Appends (F.contents file.old) (F.contents file.new) bytes.now) }
