@@ -1,8 +1,8 @@
 -- What several files tell, where one of them is asked something.
-use Rattle.std.proofs.Common.{◌≡◌, ◌⊎◌, inl, inr, ℕ, ◌+◌, ◌<◌, ◌≤◌, Bool, true, false, List, [], ◌∷◌, ◌++◌, Option, Some, None, Result, Ok, Err, length, take, drop, map, get_or, set, refl, sym, ◌∙◌, ap, arith}
+use Rattle.std.proofs.Common.{◌≡◌, inl, inr, ℕ, ◌+◌, ◌<◌, ◌≤◌, Bool, true, false, List, ◌++◌, Option, None, Result, Ok, Err, length, take, drop, map, get_or, set, refl, sym, ◌∙◌, ap, arith}
 use Rattle.std.proofs.lemmas.List.{map-set, set-get_or, get_or-map, get_or_default, length-map, length-append, length-take, length-drop, take_all, drop_all, append-nil}
 use Rattle.std.proofs.lemmas.List.Edits.{map_over_more}
-use Rattle.wtf_real.specs.Asked.{FileOp, Call, Sync, then_call, IsAsked, with_call, IsAskedOf, synced_to, AreSynced}
+use Rattle.wtf_real.specs.Asked.{FileOp, Call, Sync, then_call, IsAsked, with_call, IsAskedOf, synced_to}
 
 module _ {F : Type 0} (told : F → Option (List (Call FileOp))) (fs : List F) (i : ℕ) (x y : F) (now : List (Option (List (Call FileOp)))) (is : map told fs ≡ now) (below : i < length fs) where
   -- the file of this number is now y

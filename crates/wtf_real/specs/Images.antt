@@ -1,10 +1,13 @@
--- What contracts see of the file of an image: its count of faults alone.
-use Rattle.std.specs.Prelude.{ℕ, false, List, [], ◌++◌, None}
+-- What contracts see of the file of an image: its count of faults, and what was asked of its folder.
+use Rattle.std.specs.Prelude.{ℕ, false, List, [], ◌++◌, Option, None}
 use Rattle.wtf_dev.specs.Keep.{KeeperView, KeeperKept}
+use Rattle.wtf_real.specs.Asked.{ImageOp, Call}
 use Rattle.wtf_dev.specs.MemoryLaws.{keeper_kept_same, keeper_kept_on}
 
 pub record ImageState : Type 0 where
   pub faults : ℕ
+  -- so far, in order, where the folder tells it
+  pub asked : Option (List (Call ImageOp))
 
 abbrev pub image_view : ImageState → KeeperView
 image_view s = record { faults = s.faults; held = None; tells = false }

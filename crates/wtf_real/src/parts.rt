@@ -5,7 +5,6 @@ ghost use Rattle.std.specs.Io.KnownBytes.{Appends};
 ghost use Rattle.wtf_real.specs.Files.{IsWrittenAt, IsSoughtTo};
 
 use std::alloc::Global;
-use std::fs::OpenFile;
 use std::io::{self, Read, Seek, SeekFrom, Write};
 
 /// How many zeros are written at a time.
@@ -67,13 +66,12 @@ fn write_some_zeros<W: Write>(to: &mut W, most: u64) -> io::Result<u64>
     Ok(n)
 }
 
-/// Writes all of the bytes, and brings them to where they last.
-pub(crate) fn write_synced<F: Write + OpenFile>(file: &mut F, bytes: &[u8]) -> io::Result<()>
-    ensures { OnOk result (Appends (F.contents file.old) (F.contents file.new) bytes.now) }
+/// Writes all of the bytes.
+pub(crate) fn write_whole<W: Write>(to: &mut W, bytes: &[u8]) -> io::Result<()>
+    ensures { OnOk result (Appends (W.contents to.old) (W.contents to.new) bytes.now) }
 {
-    file.write_all(bytes)?;
-    file.flush()?;
-    file.sync_all()
+    to.write_all(bytes)?;
+    to.flush()
 }
 
 /// The bytes that a reader has left.
