@@ -5,3 +5,4 @@ pub mod Images
 pub mod Numbers
 pub mod Locks
 pub mod Asked
+pub mod Streamed

@@ -50,7 +50,7 @@ impl<W: Write + Drop> Gathered<W> {
 
     /// Takes the first of these bytes, as many as there is room for, and answers how many. Where there is no room, what
     /// is held is written first.
-    pub(crate) fn put(&mut self, bytes: &[u8]) -> Result<usize, Failed>
+    pub(crate) fn hold(&mut self, bytes: &[u8]) -> Result<usize, Failed>
         ensures count { IfOk result (λ n. n ≤ length bytes.now) }
         ensures some { IfOk result (λ n. 0 < length bytes.now → 0 < n) }
         ensures taken { IfOk result (λ n.
@@ -62,7 +62,7 @@ impl<W: Write + Drop> Gathered<W> {
             return Err(Failed);
         }
         if self.held.len() == ROOM {
-            self.flush()?;
+            self.write_held()?;
         }
         let n = bytes.len().min(ROOM - self.held.len());
         match self.held.extend_from_slice(&bytes[..n]) {
@@ -72,7 +72,7 @@ impl<W: Write + Drop> Gathered<W> {
     }
 
     /// Writes what is held back.
-    pub(crate) fn flush(&mut self) -> Result<(), Failed>
+    pub(crate) fn write_held(&mut self) -> Result<(), Failed>
         ensures out { OnOk result (self.new.held ≡ []) }
         ensures same { OnOk result
             (Keeps (all_of W.contents self.old) (all_of W.contents self.new)) }

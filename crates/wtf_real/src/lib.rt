@@ -3,6 +3,7 @@
 //! Each counts its errors, and tells nothing of what a file or a stream holds.
 #![tactic(auto)]
 
+mod answers;
 mod counts;
 mod fault;
 mod file;
@@ -17,6 +18,7 @@ mod sink;
 mod source;
 mod standing;
 
+pub use answers::{Answers, Shared};
 pub use fault::OpenFault;
 pub use file::FileSource;
 pub use files::SliceFile;
@@ -24,6 +26,6 @@ pub use folder::DirStore;
 pub use image::{FileKeeper, ImageKeeper};
 pub use image_files::{ImageFiles, ImageName, SystemImage};
 pub use lock::{FolderLock, Lockable};
-pub use sink::OutSink;
-pub use source::{InSource, streams};
+pub use sink::{AnswerSink, OutSink};
+pub use source::{AnswerSource, InSource, streams};
 pub use standing::StandIns;

@@ -1,40 +1,41 @@
-//! A writer as a sink that gathers.
+//! A sink whose answers are held back.
 
-ghost use Rattle.std.specs.Prelude.{◌≡◌, ◌≤◌, ◌<◌, ℕ, List, Some, None, length, IfOk, OnErr, if◌then◌else◌};
+ghost use Rattle.std.specs.Prelude.{◌≡◌, ◌≤◌, ◌<◌, ℕ, List, Some, length, take, IfOk, OnOk, OnErr, if◌then◌else◌};
 ghost use Rattle.std.specs.Result.{is_err};
 ghost use Rattle.wtf_dev.specs.Counts.{Rose, risen};
+ghost use Rattle.std.specs.Io.KnownBytes.{Appends};
 ghost use Rattle.wtf_dev.specs.Streams.{Takes};
+ghost use Rattle.wtf_real.specs.Streamed.{sink_view, IsWritten};
 
 use crate::counts::Faults;
-use crate::gathered::Gathered;
-use std::cell::RefCell;
-use std::io::Write;
+use crate::{Answers, Shared};
 use std::marker::Model;
-use std::rc::Rc;
 use wtf_dev::{Failed, Sink};
 
-/// A writer that counts. What it takes is held back, up to 64 KiB, until its source asks for more, there is no more room,
-/// or it is finished. It tells nothing.
+/// A sink of answers, which counts. What it takes is held back, up to 64 KiB, until its source asks for more, there is no more
+/// room, or it is finished. It tells nothing of what it took, but what its answers tell.
 #[derive(Drop)]
-pub struct OutSink<W> {
-    answers: Rc<RefCell<Gathered<W>>>,
+pub struct AnswerSink<A: Answers> {
+    answers: A,
     faults: Faults,
 }
 
-impl<W> Model for OutSink<W> {
-    ghost use Rattle.std.specs.Prelude.{None};
-    ghost use Rattle.wtf_dev.specs.Streams.{SinkView};
+/// The sink over a writer, beside the source of its script.
+pub type OutSink<W> = AnswerSink<Shared<W>>;
 
-    ghost Value = { SinkView };
+impl<A: Answers> Model for AnswerSink<A> {
+    ghost use Rattle.wtf_real.specs.Streamed.{SinkState};
 
-    ghost view = { λ o. record { faults = o.faults; taken = None } };
+    ghost Value = { SinkState };
+
+    ghost view = { λ o. record { faults = o.faults; answers = A.told o.answers } };
 }
 
-impl<W: Write + Drop> OutSink<W> {
-    pub(crate) fn new(answers: Rc<RefCell<Gathered<W>>>) -> OutSink<W>
-        ensures { result ≡ record { faults = 0; taken = None } }
+impl<A: Answers> AnswerSink<A> {
+    pub(crate) fn new(answers: A) -> AnswerSink<A>
+        ensures { result ≡ record { faults = 0; answers = A.told answers } }
     {
-        OutSink {
+        AnswerSink {
             answers,
             faults: Faults::new(),
         }
@@ -42,53 +43,39 @@ impl<W: Write + Drop> OutSink<W> {
 
     /// Writes what is held back, at the end of a run. `Failed` where it, or a write before it, failed.
     pub fn finish(&mut self) -> Result<(), Failed>
+        ensures written { OnOk result (IsWritten self.old.answers self.new.answers) }
         ensures counted { self.new.faults ≡
             (if is_err result then risen self.old.faults else self.old.faults) }
     {
-        match flush(&self.answers) {
+        match self.answers.flush() {
             Ok(()) => Ok(()),
             Err(_) => Err(self.faults.raise()),
         }
     }
 }
 
-impl<W: Write + Drop> Sink for OutSink<W> {
-    ghost view = { λ o. o };
+impl<A: Answers> Sink for AnswerSink<A> {
+    ghost view = { sink_view };
 
     fn write(&mut self, bytes: &[u8]) -> Result<usize, Failed>
         ensures count { IfOk result (λ n. n ≤ length bytes.now) }
         ensures some { IfOk result (λ n. 0 < length bytes.now → 0 < n) }
-        ensures told { (old : List ℕ) → self.old.taken ≡ Some old →
-            Takes result bytes.now old self.new.taken }
+        ensures told { (old : List ℕ) → (sink_view self.old).taken ≡ Some old →
+            Takes result bytes.now old (sink_view self.new).taken }
         ensures faults { self.old.faults ≤ self.new.faults }
         ensures cause { OnErr result (Rose self.old.faults self.new.faults) }
+
+        // It adds what it takes to its answers.
+        ensures held { IfOk result (λ n.
+            Appends self.old.answers.all self.new.answers.all (take n bytes.now)) }
 
         // It counts each error, and nothing else.
         ensures counted { self.new.faults ≡
             (if is_err result then risen self.old.faults else self.old.faults) }
     {
-        match put(&self.answers, bytes) {
+        match self.answers.put(bytes) {
             Ok(n) => Ok(n),
             Err(_) => Err(self.faults.raise()),
         }
-    }
-}
-
-/// Holds the first of these bytes back. No call holds the cell while another is made, so it is always free.
-fn put<W: Write + Drop>(answers: &RefCell<Gathered<W>>, bytes: &[u8]) -> Result<usize, Failed>
-    ensures count { IfOk result (λ n. n ≤ length bytes.now) }
-    ensures some { IfOk result (λ n. 0 < length bytes.now → 0 < n) }
-{
-    match answers.try_borrow_mut() {
-        Ok(mut gathered) => gathered.put(bytes),
-        Err(_) => Err(Failed),
-    }
-}
-
-/// Writes what is held back.
-pub(crate) fn flush<W: Write + Drop>(answers: &RefCell<Gathered<W>>) -> Result<(), Failed> {
-    match answers.try_borrow_mut() {
-        Ok(mut gathered) => gathered.flush(),
-        Err(_) => Err(Failed),
     }
 }
