@@ -10,7 +10,8 @@ use std::test::Fail;
 use std::{env, process};
 use wtf_dev::{Failed, Keeper, LoadFault, Sink, SliceStore, Source};
 use wtf_real::{
-    DirStore, FileKeeper, FileSource, FolderLock, InSource, OpenFault, OutSink, StandIns, streams,
+    DirStore, FileKeeper, FileSource, FolderLock, ImageFiles, ImageKeeper, ImageName, InSource,
+    OpenFault, OutSink, SliceFile, StandIns, streams,
 };
 
 /// What was written and when it was read, in order.
@@ -256,7 +257,12 @@ fn is_no_store(rt: &HostRuntime, lock: &FolderLock<File>, server: u8) -> bool {
 }
 
 /// Whether bytes are put behind a file from this place on, or fail to be.
-fn appends(store: &mut DirStore<File>, file: u8, bytes: &[u8], want: Result<u64, Failed>) -> bool {
+fn appends<F: SliceFile + Drop>(
+    store: &mut DirStore<F>,
+    file: u8,
+    bytes: &[u8],
+    want: Result<u64, Failed>,
+) -> bool {
     file < 8 && store.append(file, bytes) == want
 }
 
@@ -294,8 +300,8 @@ fn punches(store: &mut DirStore<File>, file: u8, at: u64, len: u64) -> bool {
     store.punch(file, at, len) == Ok(())
 }
 
-fn syncs(store: &mut DirStore<File>) -> bool {
-    store.sync() == Ok(())
+fn syncs<F: SliceFile + Drop>(store: &mut DirStore<F>, want: Result<(), Failed>) -> bool {
+    store.sync() == want
 }
 
 /// One folder is held once at a time, and is free again when it was let go.
@@ -320,7 +326,7 @@ fn a_folder_holds_what_was_appended(rt: HostRuntime) -> Result<(), Fail> {
     assert!(rt; appends(&mut here, 7, b"x", Ok(0)));
     assert!(rt; shows(&mut here, 3, 2, b"cdef"));
     assert!(rt; punches(&mut here, 3, 1, 2));
-    assert!(rt; syncs(&mut here));
+    assert!(rt; syncs(&mut here, Ok(())));
     // Another store finds it all.
     let mut again = store(&rt, &lock, 0)?;
     assert!(rt; finds_all(&mut again));
@@ -411,7 +417,11 @@ fn is_unread(rt: &HostRuntime, keeper: &mut FileKeeper<HostRuntime>) -> bool {
     matches!(keeper.load(rt.alloc()), Err(LoadFault::Failed))
 }
 
-fn replaces(keeper: &mut FileKeeper<HostRuntime>, bytes: &[u8], want: Result<(), Failed>) -> bool {
+fn replaces<D: ImageFiles>(
+    keeper: &mut ImageKeeper<D>,
+    bytes: &[u8],
+    want: Result<(), Failed>,
+) -> bool {
     keeper.replace(bytes) == want
 }
 
@@ -483,4 +493,159 @@ fn a_file_gives_what_was_written(rt: HostRuntime) -> Result<(), Fail> {
     let mut folder = source(&rt, path.as_str(), "folder")?;
     assert!(rt; gives(&mut folder, Err(Failed)));
     clear(&rt, path.as_str())
+}
+
+/// A file that notes what it is asked behind its number, and may fail to sync.
+#[derive(Drop)]
+struct Noted {
+    log: Log,
+    file: u8,
+    fails: bool,
+}
+
+impl Noted {
+    /// Notes a call of this letter at a place below 10.
+    fn call(&self, letter: u8, at: u64) -> io::Result<()> {
+        note(
+            &self.log,
+            &[b'0' + self.file % 8, letter, b'0' + (at % 10) as u8],
+        )
+    }
+}
+
+impl SliceFile for Noted {
+    fn read_at(&mut self, at: u64, _out: &mut [u8]) -> io::Result<()> {
+        self.call(b'r', at)
+    }
+
+    fn write_at(&mut self, at: u64, bytes: &[u8]) -> io::Result<()> {
+        self.call(b'w', at)?;
+        note(&self.log, bytes)
+    }
+
+    fn zero_at(&mut self, at: u64, _len: u64) -> io::Result<()> {
+        self.call(b'z', at)
+    }
+
+    fn sync(&mut self) -> io::Result<()> {
+        self.call(b's', 0)?;
+        if self.fails {
+            return Err(io::Error::from(io::ErrorKind::Other));
+        }
+        Ok(())
+    }
+}
+
+/// An empty file, which fails to sync where it has the number `bad`.
+fn noted_file(log: &Log, file: u8, bad: u8) -> Result<Noted, Fail> {
+    Ok(Noted {
+        log: log.clone()?,
+        file,
+        fails: file == bad,
+    })
+}
+
+/// A store over files that note, of which the one with the number `bad` fails to sync.
+fn noted_store(log: &Log, bad: u8) -> Result<DirStore<Noted>, Fail> {
+    Ok(DirStore::of_empty([
+        noted_file(log, 0, bad)?,
+        noted_file(log, 1, bad)?,
+        noted_file(log, 2, bad)?,
+        noted_file(log, 3, bad)?,
+        noted_file(log, 4, bad)?,
+        noted_file(log, 5, bad)?,
+        noted_file(log, 6, bad)?,
+        noted_file(log, 7, bad)?,
+    ]))
+}
+
+/// An append reaches its own file alone, where that ends.
+#[test]
+fn an_append_goes_to_its_file(rt: HostRuntime) -> Result<(), Fail> {
+    let log = new_log(rt.alloc())?;
+    let mut store = noted_store(&log, 8)?;
+    assert!(rt; appends(&mut store, 3, b"abcd", Ok(0)));
+    assert!(rt; appends(&mut store, 3, b"ef", Ok(4)));
+    assert!(rt; appends(&mut store, 7, b"x", Ok(0)));
+    assert!(rt; is_noted(&log, b"3w0abcd3w4ef7w0x"));
+    Ok(())
+}
+
+/// A sync reaches each file, up to one that fails.
+#[test]
+fn a_sync_reaches_each_file(rt: HostRuntime) -> Result<(), Fail> {
+    let log = new_log(rt.alloc())?;
+    assert!(rt; syncs(&mut noted_store(&log, 8)?, Ok(())));
+    assert!(rt; is_noted(&log, b"0s01s02s03s04s05s06s07s0"));
+    let log = new_log(rt.alloc())?;
+    assert!(rt; syncs(&mut noted_store(&log, 2)?, Err(Failed)));
+    assert!(rt; is_noted(&log, b"0s01s02s0"));
+    Ok(())
+}
+
+/// The folder of an image, which notes what it is asked, and fails behind so many calls.
+#[derive(Drop)]
+struct NotedImage {
+    log: Log,
+    left: u8,
+}
+
+impl NotedImage {
+    fn call(&mut self, what: &[u8]) -> io::Result<()> {
+        if self.left == 0 {
+            return Err(io::Error::from(io::ErrorKind::Other));
+        }
+        self.left -= 1;
+        note(&self.log, what)
+    }
+}
+
+impl ImageFiles for NotedImage {
+    fn take(&mut self, alloc: Global) -> io::Result<Vec<u8>> {
+        self.call(b"take|")?;
+        Ok(Vec::new(alloc))
+    }
+
+    fn write(&mut self, name: ImageName, bytes: &[u8]) -> io::Result<()> {
+        match name {
+            ImageName::Image => self.call(b"image:")?,
+            ImageName::Beside => self.call(b"beside:")?,
+        }
+        note(&self.log, bytes)
+    }
+
+    fn sync_written(&mut self) -> io::Result<()> {
+        self.call(b"|sync")
+    }
+
+    fn rename(&mut self) -> io::Result<()> {
+        self.call(b"|rename")
+    }
+
+    fn sync_names(&mut self) -> io::Result<()> {
+        self.call(b"|names")
+    }
+}
+
+/// Whether an image that is put in the place of another asks for this, where so many calls do not fail.
+fn asks(alloc: Global, calls: u8, want: Result<(), Failed>, wanted: &[u8]) -> Result<bool, Fail> {
+    let log = new_log(alloc)?;
+    let files = NotedImage {
+        log: log.clone()?,
+        left: calls,
+    };
+    let replaced = replaces(&mut ImageKeeper::over(files), b"new", want);
+    Ok(replaced && is_noted(&log, wanted))
+}
+
+/// An image takes the place of another once it lasts beside it, and nothing follows a failure.
+#[test]
+fn an_image_is_written_beside(rt: HostRuntime) -> Result<(), Fail> {
+    let alloc = rt.alloc();
+    assert!(rt; asks(alloc, 9, Ok(()), b"beside:new|sync|rename|names")?);
+    assert!(rt; asks(alloc, 3, Err(Failed), b"beside:new|sync|rename")?);
+    assert!(rt; asks(alloc, 2, Err(Failed), b"beside:new|sync")?);
+    assert!(rt; asks(alloc, 1, Err(Failed), b"beside:new")?);
+    assert!(rt; asks(alloc, 0, Err(Failed), b"")?);
+    Ok(())
 }
