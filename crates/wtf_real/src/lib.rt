@@ -1,6 +1,7 @@
 //! The devices over the system: standard streams, a file that is read, a folder of eight files for each server, and the file
 //! of an image, in a folder that is locked.
-//! Each counts its errors, and tells nothing of what a file or a stream holds.
+//! Each counts its errors, and tells nothing of what a file or a stream holds. What it asks of its files, and in which
+//! order, is said over traits of files, which those of the system tell nothing of.
 #![tactic(auto)]
 
 mod answers;
