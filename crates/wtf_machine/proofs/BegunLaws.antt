@@ -56,6 +56,10 @@ fault-lawful m t o a fault b fails = (
   ],
 )
 
+-- the call that is due an answer leaves some session
+pub due-called : (cap : ℕ) (s : Session) (o : Op (List ℕ)) (d : Answer) → d ≡ (call cap s o).answer → call cap s o ≡ record { session = (call cap s o).session; answer = d }
+due-called cap s o d is = ap (λ (a : Answer). record (call cap s o) { answer = a }) (sym is)
+
 -- of a transaction all of whose calls are replayed
 pub all_ops : (calls : List Logged) (n : ℕ) → n ≡ length calls → n ≡ length (ops_of calls)
 all_ops calls n all = all ∙ sym (length-map calls (λ l. l.op))

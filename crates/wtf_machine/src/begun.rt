@@ -173,8 +173,7 @@ impl Begun {
         ensures cap { self.new.cap ≡ self.old.cap }
     {
         let session = self.session()?;
-        let mut tried = session.share()?;
-        let due = tried.call(self.cap, op)?;
+        let due = session.due(self.cap, op)?;
         self.warm = Some(session);
         Ok(may_fail(servers, op, &due, answer))
     }
@@ -277,9 +276,8 @@ impl Begun {
         ensures cap { self.new.cap ≡ self.old.cap }
     {
         let session = self.session()?;
-        let mut tried = session.share()?;
         let at = self.replayed as usize;
-        let due = tried.call(self.cap, &self.calls[at].op)?;
+        let due = session.due(self.cap, &self.calls[at].op)?;
         self.warm = Some(session);
         Ok(is_done(&due))
     }

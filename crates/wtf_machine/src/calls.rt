@@ -5,8 +5,9 @@ use wtf_base::{Bytes, OutOfMemory};
 use wtf_model::{Answer, Op};
 
 impl Workspace {
-    ghost use Rattle.std.specs.Prelude.{IfOk};
-    ghost use Rattle.wtf_machine.specs.Sessions.{IsCalled};
+    ghost use Rattle.std.specs.Prelude.{◌≡◌, IfOk};
+    ghost use Rattle.wtf_model.specs.Call.{call};
+    ghost use Rattle.wtf_machine.specs.Sessions.{session_in, IsCalled};
 
     /// A call, where no file may be longer than cap. After an error the session is of no use.
     pub(crate) fn call(&mut self, cap: u64, op: &Op<Bytes>) -> Result<Answer, OutOfMemory>
@@ -37,5 +38,13 @@ impl Workspace {
             Op::Concat(q, paths) => self.concat(cap, q, paths),
             Op::Copy(p, q) => self.copy(p, q),
         }
+    }
+
+    /// What a call is due. It is made on a second copy of the session, which stays.
+    pub(crate) fn due(&self, cap: u64, op: &Op<Bytes>) -> Result<Answer, OutOfMemory>
+        ensures { IfOk result (λ a. a ≡ (call cap (session_in self.now) op.now).answer) }
+    {
+        let mut tried = self.share()?;
+        tried.call(cap, op)
     }
 }

@@ -3,7 +3,7 @@ use Rattle.wtf_model.specs.Call.{call}
 use Rattle.wtf_model.specs.Transaction.{Transaction}
 use Rattle.wtf_model.specs.Lawful.{IsDone}
 use Rattle.wtf_machine.specs.Sessions.{session_in}
-use Rattle.wtf_machine.proofs.BegunLaws.{next-answers}
+use Rattle.wtf_machine.proofs.BegunLaws.{next-answers, due-called}
 use Rattle.wtf_machine.proofs.begun.Begun.is_next_done.Goals as goal
 use Rattle.wtf_machine.proofs.begun.Begun.is_next_done.Goals.{In_ok-due}
 
@@ -14,8 +14,12 @@ at_next c = c.index.ensures ∙ ap (λ v. get_or v.items c.session.new.self.repl
 
 pub returns-clause-is : goal.returns-clause-is
 returns-clause-is c =
-    subst (λ o. IsTrue c.is_done.result ↔ IsDone o)
-    (sym (next-answers c.args.self.now.cap c.args.self.now.tree c.args.self.now.calls.items c.args.self.now.replayed c.index.result.now
-    (session_in c.in_ok-tried.tried) (session_in c.call.new.self) c.in_ok-due.due c.requires.behind (at_next (goal.at.returns-clause-is c).In_ok-due) (c.in_ok-tried.ensures ∙ c.in_ok-session.ensures.left)
-    (subst (λ k. call k (session_in c.in_ok-tried.tried) c.index.result.now.op ≡ record { session = session_in c.call.new.self; answer = c.in_ok-due.due }) c.session.ensures.cap c.in_ok-due.ensures)))
+    let cap = c.args.self.now.cap in
+    let s = session_in c.in_ok-session.session in
+    let o = c.index.result.now.op in
+    let d = c.in_ok-due.due in
+    let is : d ≡ (call cap s o).answer = c.in_ok-due.ensures ∙ ap (λ k. (call k s o).answer) c.session.ensures.cap in
+    subst (λ x. IsTrue c.is_done.result ↔ IsDone x)
+    (sym (next-answers cap c.args.self.now.tree c.args.self.now.calls.items c.args.self.now.replayed c.index.result.now
+    s (call cap s o).session d c.requires.behind (at_next (goal.at.returns-clause-is c).In_ok-due) c.in_ok-session.ensures.left (due-called cap s o d is)))
     c.is_done.ensures
