@@ -61,7 +61,10 @@ impl GeneratedScript {
         ensures given { self.new.given ≡ self.old.given }
         ensures some { self.new.begun ≡ [] → script_rest self.new ≡ [] }
     {
-        if self.at < self.line.len() || self.left == 0 {
+        if self.at < self.line.len() {
+            return;
+        }
+        if self.left == 0 {
             return;
         }
         let pen = line_of(self.state);
