@@ -14,6 +14,7 @@
 //! `piece 64`, `collect 0`. specs/Lines.antt has the same as definitions.
 #![tactic(auto)]
 
+mod examples;
 mod generator;
 mod line;
 mod pen;
