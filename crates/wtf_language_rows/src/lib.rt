@@ -4,6 +4,8 @@
 #[cfg(test)]
 mod base;
 #[cfg(test)]
+mod generated;
+#[cfg(test)]
 mod log;
 #[cfg(test)]
 mod model;
