@@ -1,5 +1,5 @@
 -- A script is its first line, and the script of the state behind it.
-use Rattle.std.proofs.Common.{◌≡◌, ℕ, zero, suc, ◌+◌, ◌-◌, ◌<◌, List, [], ◌∷◌, ◌++◌, refl, arith, ◌∙◌, sym, ap}
+use Rattle.std.proofs.Common.{◌≡◌, ℕ, suc, ◌-◌, ◌<◌, List, [], ◌∷◌, ◌++◌, refl, arith, ◌∙◌, sym, ap}
 use Rattle.wtf_gen.specs.Lines.{line_from, state_after, generated_lines, generated_script}
 use Rattle.wtf_gen.specs.Scripts.{ScriptState, script_rest}
 

@@ -29,9 +29,9 @@ impl Model for GeneratedScript {
     ghost Value = { ScriptState };
 
     ghost view = { λ s. record {
-        begun = drop s.at s.line.items;
-        lines = record { state = s.state; left = s.left };
-        given = s.given;
+      begun = drop s.at s.line.items;
+      lines = record { state = s.state; left = s.left };
+      given = s.given;
     } };
 
     ghost invariant = { λ s. s.at ≤ length s.line.items };

@@ -85,7 +85,10 @@ fn total<I: Source>(source: &mut I, room: usize) -> Result<(u64, u64), Fail> {
 #[test]
 fn number_0_begins_with_client_7(rt: HostRuntime) -> Result<(), Fail> {
     let mut lines = Gen::new(0, 2);
-    assert_eq!(rt; lines_come(rt.alloc(), &mut lines, &[b"c7 begin", b"c1 step"])?, 2);
+    assert_eq!(rt;
+        lines_come(rt.alloc(), &mut lines, &[b"c7 begin", b"c1 step"])?,
+        2
+    );
     Ok(())
 }
 
@@ -107,8 +110,14 @@ fn one_number_gives_one_script(rt: HostRuntime) -> Result<(), Fail> {
 
 #[test]
 fn reads_of_any_room_give_the_script(rt: HostRuntime) -> Result<(), Fail> {
-    assert_eq!(rt; total(&mut GeneratedScript::new(7, 1000), 64)?, (23_248, 1_675_752));
-    assert_eq!(rt; total(&mut GeneratedScript::new(7, 1000), 1)?, (23_248, 1_675_752));
+    assert_eq!(rt;
+        total(&mut GeneratedScript::new(7, 1000), 64)?,
+        (23_248, 1_675_752)
+    );
+    assert_eq!(rt;
+        total(&mut GeneratedScript::new(7, 1000), 1)?,
+        (23_248, 1_675_752)
+    );
     assert_eq!(rt; total(&mut GeneratedScript::new(7, 0), 64)?, (0, 0));
     Ok(())
 }

@@ -1,4 +1,4 @@
-use Rattle.std.proofs.Common.{rules, ◌≡◌, ◌+◌, ◌<◌, ◌≤◌, length, decimal, ℕ, arith, lit<}
+use Rattle.std.proofs.Common.{rules, ◌<◌, ◌≤◌, length, decimal, ℕ, arith, lit<}
 use Rattle.std.proofs.lemmas.Fmt.{length-decimal-le}
 use Rattle.wtf_gen.proofs.pen.Pen.digits.Goals as goal
 

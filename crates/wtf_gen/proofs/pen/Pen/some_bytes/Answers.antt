@@ -1,4 +1,4 @@
-use Rattle.std.proofs.Common.{rules, refl, arith, ap, ◌∙◌, sym, ◌≡◌, ◌+◌, ◌*◌, length, ℕ, add-one}
+use Rattle.std.proofs.Common.{refl, arith, ap, ◌∙◌, ◌≡◌, ◌+◌, ℕ, add-one}
 use Rattle.wtf_gen.specs.Lines.{Draft, some_bytes, byte}
 use Rattle.wtf_gen.proofs.pen.Pen.some_bytes.Goals as goal
 
@@ -15,6 +15,6 @@ loop-init c = (some_bytes-zero c.args.self.now, omega arith)
 
 pub loop-preserved : goal.loop-preserved
 loop-preserved c = (
-    c.byte.ensures.value ∙ ap byte c.loop.invariant.0 ∙ some_bytes-next c.loop.counter c.args.self.now,
-    omega (arith, c.byte.ensures.len, c.loop.invariant.1),
-  )
+  c.byte.ensures.value ∙ ap byte c.loop.invariant.0 ∙ some_bytes-next c.loop.counter c.args.self.now,
+  omega (arith, c.byte.ensures.len, c.loop.invariant.1),
+)

@@ -1,4 +1,4 @@
-use Rattle.std.proofs.Common.{◌≡◌, ◌+◌, ◌*◌, ◌<◌, ◌≤◌, length, ℕ}
+use Rattle.std.proofs.Common.{◌≡◌, ◌+◌, ◌*◌, length}
 use Rattle.wtf_gen.specs.Lines.{some_bytes}
 use Rattle.wtf_gen.proofs.pen.Pen.some_bytes.Given as goal
 

@@ -1,6 +1,6 @@
-use Rattle.std.proofs.Common.{rules, ◌≡◌, ℕ, ◌∙◌, sym, ap, drop, length, List, [], ◌<◌, ◌≤◌, arith, refl}
+use Rattle.std.proofs.Common.{rules, ◌∙◌, sym, ap}
 use Rattle.std.proofs.lemmas.List.{drop_all}
-use Rattle.wtf_gen.specs.Scripts.{ScriptState, script_rest}
+use Rattle.wtf_gen.specs.Scripts.{ScriptState}
 use Rattle.wtf_gen.proofs.Scripts.{rest_at_end, rest_made}
 use Rattle.wtf_gen.proofs.script.GeneratedScript.make_line.Goals as goal
 
@@ -13,5 +13,5 @@ returns-clause-rest c =
     let x = ap (λ (s : ScriptState). s.lines.state) c.self.view_is in
     let n = ap (λ (s : ScriptState). s.lines.left) c.self.view_is in
     rest_made c.args.self.now _ _ _
-      (ap (λ (s : ScriptState). s.begun) (sym c.self.view_is) ∙ drop_all c.self.inside.at c.self.inside.line.items (search rules))
-      (search (rules, n)) (search (rules, x)) (search (rules, x)) (search (rules, n))
+    (ap (λ (s : ScriptState). s.begun) (sym c.self.view_is) ∙ drop_all c.self.inside.at c.self.inside.line.items (search rules))
+    (search (rules, n)) (search (rules, x)) (search (rules, x)) (search (rules, n))
