@@ -1,5 +1,6 @@
 -- A script is its first line, and the script of the state behind it.
 use Rattle.std.proofs.Common.{◌≡◌, ℕ, suc, ◌-◌, ◌<◌, List, [], ◌∷◌, ◌++◌, refl, arith, ◌∙◌, sym, ap}
+use Rattle.std.specs.List.{flat_map}
 use Rattle.wtf_gen.specs.Lines.{line_from, state_after, generated_lines, generated_script}
 use Rattle.wtf_gen.specs.Scripts.{ScriptState, script_rest}
 
@@ -10,6 +11,11 @@ no_lines x = refl
 pub next_line : (x n : ℕ) → generated_lines x (suc n) ≡ line_from x ∷ generated_lines (state_after x) n
 unfolding generated_lines
 next_line x n = refl
+
+-- a script is its lines, with a line feed behind each
+pub script_of_lines : (x n : ℕ) → generated_script x n ≡ flat_map (λ line. line ++ 10 ∷ []) (generated_lines x n)
+unfolding generated_script
+script_of_lines x n = refl
 
 pub no_script : (x : ℕ) → generated_script x 0 ≡ []
 unfolding generated_lines generated_script

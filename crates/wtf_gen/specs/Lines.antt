@@ -1,6 +1,6 @@
 -- The lines of a script that a number gives. The state is a number of 64 bits; each draw makes the next one, and a number
--- below m from it. A line's draws are made in the order in which they are written, but for the client, who is drawn before
--- the verb.
+-- below m from it. The client and the kind of line are drawn first, then what stands in the line, from left to right. A line
+-- to the system draws a client too, and does not name it; how many bytes a line has is drawn before them.
 use Rattle.std.specs.Prelude.{◌≡◌, ℕ, zero, suc, ◌+◌, ◌*◌, ◌/◌, ◌%◌, ◌^◌, ◌==◌, nat_lt, if◌then◌else◌, List, [], ◌∷◌, ◌++◌, codes, decimal, Option, Some, None}
 use Rattle.std.specs.List.{flat_map}
 use Rattle.hex.specs.Hex.{encode_lower}

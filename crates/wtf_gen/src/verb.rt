@@ -1,6 +1,6 @@
 //! What a client's line asks for.
 
-ghost use Rattle.std.specs.Prelude.{◌≡◌, ◌<◌};
+ghost use Rattle.std.specs.Prelude.{◌≡◌};
 ghost use Rattle.wtf_gen.specs.Lines.{verb_of};
 
 /// The verb of a client's line.
@@ -31,7 +31,6 @@ pub(crate) enum Verb {
 /// The verb of a number below 23. Some verbs have two numbers, and are drawn more often.
 #[tactic(auto, unfolding(crate::specs::Lines::verb_of))]
 pub(crate) fn verb_of(v: u64) -> Verb
-    requires { v < 23 }
     ensures { result ≡ verb_of v }
 {
     match v {
