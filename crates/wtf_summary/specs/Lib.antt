@@ -1,2 +1,6 @@
+pub mod Counted
 pub mod Summaries
+pub mod Tallies
 pub mod Traces
+pub mod States
+pub mod Steps

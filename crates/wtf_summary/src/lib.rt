@@ -3,7 +3,12 @@
 //! memory.
 #![tactic(auto)]
 
+mod counts;
+mod passing;
+mod state;
 mod summarizing;
+mod tally;
+mod text;
 mod trace;
 
 pub use summarizing::Summarizing;

@@ -1,0 +1,29 @@
+-- What a sink that sums up keeps, beside the sink that it shows on.
+use Rattle.std.specs.Prelude.{◌≡◌, ℕ, ◌<◌, ◌≤◌, Bool, nat_lt, List, [], ◌∷◌, ◌++◌, length, Option, Some, None}
+use Rattle.std.proofs.Props.{props}
+use Rattle.wtf_dev.specs.Counts.{Rose}
+use Rattle.wtf_dev.specs.Streams.{SinkView}
+use Rattle.wtf_summary.specs.Summaries.{feeds, behind_first, front_lines, shown}
+use Rattle.wtf_summary.specs.Traces.{numbers_of, mark}
+use Rattle.wtf_summary.specs.Tallies.{Tallies, Tallies_prop}
+use Rattle.wtf_summary.specs.declared.state.State.{State}
+
+-- The other sink is so now: what it took since the run began, and what is missing of it, is what is shown of the text,
+-- of all of it where nothing failed; its faults did not fall, and rose where something failed.
+pub record IsSound (now : SinkView) (state : State) : Type 0 where
+  pub some : 1 ≤ state.lines
+  pub begun : state.begun ≡ nat_lt 0 (feeds state.trace.text.numbers)
+  pub tally : state.faults ≡ 0 → Tallies state.tally (front_lines state.lines (behind_first state.trace.text.numbers))
+  pub shows : state.trace.seen.numbers ++ state.trace.rest.numbers ≡ shown state.lines (state.trace.text.numbers ++ state.trace.more.numbers)
+  pub all : state.faults ≡ 0 → state.trace.rest.numbers ≡ []
+  pub whole : state.faults ≡ 0 → state.trace.more.numbers ≡ []
+  pub added : (old : SinkView) (before : List ℕ) → state.trace.first.numbers ≡ numbers_of old → old.taken ≡ Some before → now.taken ≡ Some (before ++ state.trace.seen.numbers)
+  pub counted : (old : SinkView) → state.trace.first.numbers ≡ numbers_of old → old.faults ≤ now.faults
+  pub rose : (old : SinkView) → state.trace.first.numbers ≡ numbers_of old → 0 < state.faults → Rose old.faults now.faults
+
+-- what is told of the bytes that were taken: the mark of the sink with this name, and the bytes
+abbrev pub told : ℕ → State → List ℕ
+told name state = mark name state.lines state.trace.first.numbers ++ state.trace.text.numbers
+
+pub IsSound_prop : (now : SinkView) (state : State) → IsProp (IsSound now state)
+IsSound_prop now state = hlevel (props, Tallies_prop)

@@ -1,0 +1,39 @@
+-- What a byte, and the summary, make of what is kept.
+use Rattle.std.specs.Prelude.{◌≡◌, ℕ, ◌<◌, ◌≤◌, List, [], ◌∷◌, ◌++◌, Option, Some, Result, Ok, Err}
+use Rattle.wtf_dev.specs.Counts.{Rose, risen}
+use Rattle.wtf_dev.specs.Streams.{SinkView}
+use Rattle.wtf_script.specs.ScriptLines.{line_feed}
+use Rattle.wtf_summary.specs.States.{IsSound}
+use Rattle.wtf_summary.specs.declared.state.State.{State}
+
+-- the byte was taken, or a fault was counted
+abbrev pub TookByte : {E : Type 0} → State → State → ℕ → Result (Unit {0}) E → Type 0
+TookByte old new byte (Ok u) = (new.trace.text.numbers ≡ old.trace.text.numbers ++ byte ∷ []) × (new.faults ≡ old.faults)
+TookByte old new byte (Err e) = (new.trace.text.numbers ≡ old.trace.text.numbers) × (new.faults ≡ risen old.faults)
+
+-- the run goes on with what it began with, and the byte was taken, or a fault was counted
+pub record Steps {E : Type 0} (now : SinkView) (old new : State) (byte : ℕ) (result : Result (Unit {0}) E) : Type 0 where
+  pub sound : IsSound now new
+  pub lines : new.lines ≡ old.lines
+  pub first : new.trace.first.numbers ≡ old.trace.first.numbers
+  pub took : TookByte old new byte result
+
+-- the summary was shown whole, or its front was, and then a fault was counted
+abbrev pub Showed : {E : Type 0} → SinkView → SinkView → List ℕ → State → State → Result (Unit {0}) E → Type 0
+Showed before now summary old new (Ok u) =
+    (new.trace.seen.numbers ≡ old.trace.seen.numbers ++ summary) × (new.trace.rest.numbers ≡ old.trace.rest.numbers)
+    × (new.trace.more.numbers ≡ old.trace.more.numbers) × (new.faults ≡ old.faults)
+Showed before now summary old new (Err e) =
+    (new.trace.seen.numbers ++ new.trace.rest.numbers ≡ old.trace.seen.numbers ++ summary)
+    × (new.trace.more.numbers ≡ line_feed ∷ []) × (new.faults ≡ risen old.faults) × Rose before.faults now.faults
+
+-- what a summary that was written makes of what is kept
+pub record ShowsSummary {E : Type 0} (before now : SinkView) (summary : List ℕ) (old new : State) (result : Result (Unit {0}) E) : Type 0 where
+  pub lines : new.lines ≡ old.lines
+  pub begun : new.begun ≡ old.begun
+  pub tally : new.tally ≡ old.tally
+  pub first : new.trace.first ≡ old.trace.first
+  pub text : new.trace.text ≡ old.trace.text
+  pub counted : before.faults ≤ now.faults
+  pub added : (b : List ℕ) → before.taken ≡ Some (b ++ old.trace.seen.numbers) → now.taken ≡ Some (b ++ new.trace.seen.numbers)
+  pub showed : Showed before now summary old new result
