@@ -1,2 +1,4 @@
 mod Lines
 mod Words
+mod Texts
+mod Sound

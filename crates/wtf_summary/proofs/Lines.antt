@@ -83,3 +83,12 @@ pub take_push-full : (n : ℕ) (line : List ℕ) (b : ℕ) → n ≤ length (tak
 take_push-full zero line b h = refl
 take_push-full (suc n) [] b h = absurd (omega (arith, h))
 take_push-full (suc n) (x ∷ xs) b h = ap (λ (l : List ℕ). x ∷ l) (take_push-full n xs b (omega (arith, h)))
+
+push_step : (t : Bool) (n m : ℕ) → cond t (suc (n + m)) (n + m) ≡ cond t (suc n) n + m
+push_step true n m = omega arith
+push_step false n m = refl
+
+pub feeds-push : (text : List ℕ) (b : ℕ) → feeds (text ++ b ∷ []) ≡ feeds text + cond (b == line_feed) 1 0
+feeds-push [] b = omega arith
+feeds-push (c ∷ cs) b =
+    ap (λ (n : ℕ). cond (c == line_feed) (suc n) n) (feeds-push cs b) ∙ push_step (c == line_feed) (feeds cs) (cond (b == line_feed) 1 0)

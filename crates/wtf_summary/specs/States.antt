@@ -1,5 +1,5 @@
 -- What a sink that sums up keeps, beside the sink that it shows on.
-use Rattle.std.specs.Prelude.{◌≡◌, ℕ, ◌<◌, ◌≤◌, Bool, nat_lt, List, [], ◌∷◌, ◌++◌, length, Option, Some, None}
+use Rattle.std.specs.Prelude.{◌≡◌, ℕ, ◌^◌, ◌<◌, ◌≤◌, Bool, nat_lt, List, [], ◌∷◌, ◌++◌, length, Option, Some, None}
 use Rattle.std.proofs.Props.{props}
 use Rattle.wtf_dev.specs.Counts.{Rose}
 use Rattle.wtf_dev.specs.Streams.{SinkView}
@@ -12,6 +12,7 @@ use Rattle.wtf_summary.specs.declared.state.State.{State}
 -- of all of it where nothing failed; its faults did not fall, and rose where something failed.
 pub record IsSound (now : SinkView) (state : State) : Type 0 where
   pub some : 1 ≤ state.lines
+  pub few : state.lines < 2 ^ 64
   pub begun : state.begun ≡ nat_lt 0 (feeds state.trace.text.numbers)
   pub tally : state.faults ≡ 0 → Tallies state.tally (front_lines state.lines (behind_first state.trace.text.numbers))
   pub shows : state.trace.seen.numbers ++ state.trace.rest.numbers ≡ shown state.lines (state.trace.text.numbers ++ state.trace.more.numbers)

@@ -2,7 +2,6 @@
 use Rattle.std.specs.Prelude.{◌≡◌, ℕ, ◌<◌, ◌≤◌, List, [], ◌∷◌, ◌++◌, Option, Some, Result, Ok, Err}
 use Rattle.wtf_dev.specs.Counts.{Rose, risen}
 use Rattle.wtf_dev.specs.Streams.{SinkView}
-use Rattle.wtf_script.specs.ScriptLines.{line_feed}
 use Rattle.wtf_summary.specs.States.{IsSound}
 use Rattle.wtf_summary.specs.declared.state.State.{State}
 
@@ -18,17 +17,18 @@ pub record Steps {E : Type 0} (now : SinkView) (old new : State) (byte : ℕ) (r
   pub first : new.trace.first.numbers ≡ old.trace.first.numbers
   pub took : TookByte old new byte result
 
--- the summary was shown whole, or its front was, and then a fault was counted
-abbrev pub Showed : {E : Type 0} → SinkView → SinkView → List ℕ → State → State → Result (Unit {0}) E → Type 0
-Showed before now summary old new (Ok u) =
+-- the summary, which this byte completed, was shown whole, or its front was, and then a fault was counted
+abbrev pub Showed : {E : Type 0} → SinkView → SinkView → List ℕ → ℕ → State → State → Result (Unit {0}) E → Type 0
+Showed before now summary last old new (Ok u) =
     (new.trace.seen.numbers ≡ old.trace.seen.numbers ++ summary) × (new.trace.rest.numbers ≡ old.trace.rest.numbers)
     × (new.trace.more.numbers ≡ old.trace.more.numbers) × (new.faults ≡ old.faults)
-Showed before now summary old new (Err e) =
+    × ((l : List ℕ) → before.taken ≡ Some l → now.taken ≡ Some (l ++ summary))
+Showed before now summary last old new (Err e) =
     (new.trace.seen.numbers ++ new.trace.rest.numbers ≡ old.trace.seen.numbers ++ summary)
-    × (new.trace.more.numbers ≡ line_feed ∷ []) × (new.faults ≡ risen old.faults) × Rose before.faults now.faults
+    × (new.trace.more.numbers ≡ last ∷ []) × (new.faults ≡ risen old.faults) × Rose before.faults now.faults
 
 -- what a summary that was written makes of what is kept
-pub record ShowsSummary {E : Type 0} (before now : SinkView) (summary : List ℕ) (old new : State) (result : Result (Unit {0}) E) : Type 0 where
+pub record ShowsSummary {E : Type 0} (before now : SinkView) (summary : List ℕ) (last : ℕ) (old new : State) (result : Result (Unit {0}) E) : Type 0 where
   pub lines : new.lines ≡ old.lines
   pub begun : new.begun ≡ old.begun
   pub tally : new.tally ≡ old.tally
@@ -36,4 +36,4 @@ pub record ShowsSummary {E : Type 0} (before now : SinkView) (summary : List ℕ
   pub text : new.trace.text ≡ old.trace.text
   pub counted : before.faults ≤ now.faults
   pub added : (b : List ℕ) → before.taken ≡ Some (b ++ old.trace.seen.numbers) → now.taken ≡ Some (b ++ new.trace.seen.numbers)
-  pub showed : Showed before now summary old new result
+  pub showed : Showed before now summary last old new result

@@ -84,10 +84,10 @@ fn show_first<O: Sink>(out: &mut O, state: &mut State, byte: u8) -> Result<(), F
     }
 }
 
-/// Writes the summary.
-fn show_summary<O: Sink>(out: &mut O, state: &mut State) -> Result<(), Failed>
+/// Writes the summary, which the byte `last` completed.
+fn show_summary<O: Sink>(out: &mut O, state: &mut State, last: u8) -> Result<(), Failed>
     ensures told { (text : List ℕ) → Tallies state.old.tally text →
-        ShowsSummary (O.view out.old) (O.view out.new) (summary text) state.old state.new result }
+        ShowsSummary (O.view out.old) (O.view out.new) (summary text) last state.old state.new result }
 {
     let text = text::summary(&state.tally);
     let taken = pass(out, text.as_slice());
@@ -97,7 +97,7 @@ fn show_summary<O: Sink>(out: &mut O, state: &mut State) -> Result<(), Failed>
         return Ok(());
     }
     state.trace.rest = trace::and(&Tag::empty(), rest);
-    state.trace.more = trace::and(&Tag::empty(), b"\n");
+    state.trace.more = trace::and(&Tag::empty(), [last].as_slice());
     Err(state.fail())
 }
 
@@ -109,12 +109,19 @@ fn sum_up<O: Sink>(out: &mut O, state: &mut State, byte: u8) -> Result<(), Faile
     requires open { state.old.tally.counts.lines ≢ state.old.lines }
     ensures { Steps (O.view out.new) state.old state.new byte result }
 {
+    let lines = state.lines;
     state.tally.take(byte);
-    if state.tally.counts.lines == state.lines {
-        show_summary(out, state)?;
+    if state.tally.counts.lines < lines {
+        state.take([byte].as_slice());
+        return Ok(());
     }
-    state.take([byte].as_slice());
-    Ok(())
+    match show_summary(out, state, byte) {
+        Err(e) => Err(e),
+        Ok(()) => {
+            state.take([byte].as_slice());
+            Ok(())
+        }
+    }
 }
 
 /// Takes a byte.
