@@ -2,3 +2,4 @@ mod Lines
 mod Words
 mod Texts
 mod Sound
+pub mod Ends

@@ -4,3 +4,4 @@ pub mod Tallies
 pub mod Traces
 pub mod States
 pub mod Steps
+pub mod Fronts

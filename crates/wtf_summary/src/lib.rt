@@ -5,10 +5,12 @@
 
 mod counts;
 mod passing;
+mod showing;
 mod state;
 mod summarizing;
 mod tally;
 mod text;
 mod trace;
 
+pub use showing::show;
 pub use summarizing::Summarizing;

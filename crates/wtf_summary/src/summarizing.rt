@@ -30,6 +30,23 @@ impl<'a, O: Sink> Summarizing<'a, O> {
         let state = State::new(&*out, lines);
         Summarizing { out, state }
     }
+
+    /// How many writes failed.
+    pub fn faults(&self) -> u64
+        ensures { result ≡ self.now.state.faults }
+    {
+        self.state.faults
+    }
+
+    /// Ends the run, and answers how many writes failed.
+    pub fn finish(self) -> u64
+        ensures faults { result ≡ self.entry.state.faults }
+        ensures kept { self.exit.0.now ≡ self.entry.out.now }
+    {
+        let Summarizing { out, state } = self;
+        let _ = &out;
+        state.faults
+    }
 }
 
 impl<'a, O: Sink> Sink for Summarizing<'a, O> {
