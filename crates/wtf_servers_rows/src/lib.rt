@@ -13,3 +13,5 @@ mod ring;
 mod server;
 #[cfg(test)]
 mod stores;
+#[cfg(test)]
+mod summary;

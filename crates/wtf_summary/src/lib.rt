@@ -4,6 +4,7 @@
 #![tactic(auto)]
 
 mod counts;
+pub mod examples;
 mod passing;
 mod showing;
 mod state;
