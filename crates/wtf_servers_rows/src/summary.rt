@@ -9,7 +9,8 @@ use wtf_summary::show;
 const TEXT: &[u8] = b"first\ncommitted 1\nrefused noent\nok\n";
 
 /// What is shown of it. The digest is that of `sha256sum`.
-const SHOWN: &[u8] = b"first\nlines 3\ncommitted 1\nretry 0\naborted 0\ninstalled 0\nrefused 1\nother 1\nsha256 dc62fa6f7b663d81408683d2438b70e516b121661507cf7c5be02b03ce65419b\n";
+const SHOWN: &[u8] =
+    b"first\nlines 3\ncommitted 1\nretry 0\naborted 0\ninstalled 0\nrefused 1\nother 1\nsha256 dc62fa6f7b663d81408683d2438b70e516b121661507cf7c5be02b03ce65419b\n";
 
 /// A sink whose calls with these numbers fail.
 fn sink(alloc: Global, fails: &[u64]) -> Result<MemSink, Fail> {

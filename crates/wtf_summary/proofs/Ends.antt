@@ -1,8 +1,7 @@
 -- What the sink below shows once a run through a sink that sums up is over.
-use Rattle.std.proofs.Common.{◌≡◌, ℕ, ◌<◌, ◌≤◌, List, [], ◌∷◌, ◌++◌, length, drop, get_or, Some, refl, sym, ◌∙◌, ap, arith}
+use Rattle.std.proofs.Common.{◌≡◌, ℕ, List, [], ◌∷◌, ◌++◌, length, drop, get_or, Some, refl, ◌∙◌, ap, arith}
 use Rattle.std.specs.Prelude.{Option, unwrap_or}
 use Rattle.std.proofs.lemmas.List.{append-nil}
-use Rattle.wtf_dev.specs.Counts.{Rose}
 use Rattle.wtf_dev.specs.Streams.{SinkView}
 use Rattle.wtf_summary.specs.Summaries.{shown}
 use Rattle.wtf_summary.specs.Traces.{mark, numbers_of}

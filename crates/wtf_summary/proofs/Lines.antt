@@ -1,5 +1,5 @@
 -- Laws of a text that grows by a byte.
-use Rattle.std.proofs.Common.{◌≡◌, ℕ, zero, suc, ◌+◌, ◌==◌, ◌<◌, ◌≤◌, Bool, true, false, cond, List, [], ◌∷◌, ◌++◌, length, take, refl, sym, ◌∙◌, ap, arith}
+use Rattle.std.proofs.Common.{◌≡◌, ℕ, zero, suc, ◌+◌, ◌==◌, ◌<◌, ◌≤◌, Bool, true, false, cond, List, [], ◌∷◌, ◌++◌, length, take, refl, ◌∙◌, ap, arith}
 use Rattle.wtf_script.specs.ScriptLines.{line_feed, onto_first, ended_of}
 use Rattle.wtf_summary.specs.Summaries.{feeds}
 use Rattle.wtf_summary.specs.Tallies.{open_after, open_line}

@@ -3,7 +3,6 @@ use Rattle.std.proofs.Common.{◌≡◌, ℕ, zero, suc, ◌+◌, ◌^◌, ◌==
 use Rattle.std.proofs.lemmas.List.{append-nil}
 use Rattle.wtf_dev.specs.Counts.{Rose, risen}
 use Rattle.wtf_dev.specs.Streams.{SinkView}
-use Rattle.wtf_script.specs.ScriptLines.{line_feed}
 use Rattle.wtf_summary.specs.Summaries.{feeds, behind_first, front_lines, shown}
 use Rattle.wtf_summary.specs.Tallies.{Tallies}
 use Rattle.wtf_summary.specs.Traces.{numbers_of}

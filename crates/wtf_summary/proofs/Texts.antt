@@ -1,5 +1,5 @@
 -- Laws of what is shown of a text that grows.
-use Rattle.std.proofs.Common.{◌≡◌, ℕ, zero, suc, ◌+◌, ◌==◌, ◌<◌, ◌≤◌, Bool, true, false, cond, nat_le, List, [], ◌∷◌, ◌++◌, length, refl, sym, ◌∙◌, ap, arith, append_assoc}
+use Rattle.std.proofs.Common.{◌≡◌, ℕ, zero, suc, ◌==◌, ◌<◌, ◌≤◌, Bool, true, false, cond, nat_le, List, [], ◌∷◌, ◌++◌, refl, sym, ◌∙◌, ap, arith}
 use Rattle.std.specs.Prelude.{if◌then◌else◌}
 use Rattle.std.proofs.lemmas.List.{append-nil}
 use Rattle.wtf_script.specs.ScriptLines.{line_feed}
@@ -161,7 +161,7 @@ shown-whole lines text b h f e =
     shown-behind lines text (b ∷ []) h
     ∙ ap (λ (s : List ℕ). first_line text ++ s) (summed_up-all lines (behind ++ b ∷ []) e ∙ ap summary (front_lines-byte lines behind b f))
     ∙ ap (λ (l : List ℕ). l ++ summary (behind ++ b ∷ []))
-      (sym (ap (λ (s : List ℕ). first_line text ++ s) (summed_up-none lines behind f) ∙ append-nil (first_line text)))
+    (sym (ap (λ (s : List ℕ). first_line text ++ s) (summed_up-none lines behind f) ∙ append-nil (first_line text)))
 
 -- bytes behind it
 pub shown-past : (lines : ℕ) (text bs : List ℕ) → 0 < feeds text → lines ≤ feeds (behind_first text) → shown lines (text ++ bs) ≡ shown lines text
@@ -169,4 +169,4 @@ shown-past lines text bs h f =
     let behind = behind_first text in
     shown-behind lines text bs h
     ∙ ap (λ (s : List ℕ). first_line text ++ s)
-      (summed_up-all lines (behind ++ bs) (omega (arith, f, feeds-le behind bs)) ∙ ap summary (front_lines-more lines behind bs f) ∙ sym (summed_up-all lines behind f))
+    (summed_up-all lines (behind ++ bs) (omega (arith, f, feeds-le behind bs)) ∙ ap summary (front_lines-more lines behind bs f) ∙ sym (summed_up-all lines behind f))

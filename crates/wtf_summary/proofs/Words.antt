@@ -1,9 +1,9 @@
 -- Laws of the counts of lines by their first words.
 use Rattle.std.proofs.Common.{◌≡◌, ℕ, zero, suc, ◌+◌, ◌==◌, ◌&&◌, ◌||◌, not, ◌<◌, ◌≤◌, Bool, true, false, cond, List, [], ◌∷◌, ◌++◌, length, take, refl, sym, ◌∙◌, ap, arith}
-use Rattle.std.specs.Prelude.{codes, count_by, sum_by}
+use Rattle.std.specs.Prelude.{codes, count_by}
 use Rattle.std.proofs.lemmas.List.Sums.{sum_by_push, sum_by-cons}
 use Rattle.wtf_script.specs.ScriptLines.{line_feed, ended_of}
-use Rattle.wtf_summary.specs.Summaries.{feeds, has_word, is_other, with_word, others}
+use Rattle.wtf_summary.specs.Summaries.{feeds, has_word, is_other}
 use Rattle.wtf_summary.specs.Counted.{AreBelow, counted, counts_of}
 use Rattle.wtf_summary.specs.Tallies.{open_line}
 use Rattle.wtf_summary.proofs.Lines.{ended_of-feed, ended_of-byte, feeds-feed, feeds-byte, length-ended_of}
@@ -50,9 +50,10 @@ counts_of-byte text b h = rw (feeds-byte text b h, ended_of-byte text b h) refl
 count-le : (p : List ℕ → Bool) (lines : List (List ℕ)) → count_by p lines ≤ length lines
 count-le p [] = omega arith
 count-le p (line ∷ lines) = rw (sum_by-cons (λ l. cond (p l) 1 0) line lines) (one (p line) (count_by p lines) (length lines) (count-le p lines))
-  where one : (t : Bool) (n m : ℕ) → n ≤ m → cond t 1 0 + n ≤ suc m
-        one true n m h = omega (arith, h)
-        one false n m h = omega (arith, h)
+  where
+    one : (t : Bool) (n m : ℕ) → n ≤ m → cond t 1 0 + n ≤ suc m
+    one true n m h = omega (arith, h)
+    one false n m h = omega (arith, h)
 
 -- no count is above the number of lines
 pub counts_of-below : (n : ℕ) (text : List ℕ) → feeds text < n → AreBelow n (counts_of text)

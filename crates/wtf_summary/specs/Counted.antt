@@ -1,5 +1,5 @@
 -- Counts of lines by their first words.
-use Rattle.std.specs.Prelude.{◌≡◌, ℕ, ◌+◌, ◌<◌, cond, List, codes}
+use Rattle.std.specs.Prelude.{ℕ, ◌+◌, ◌<◌, cond, List, codes}
 use Rattle.wtf_summary.specs.Summaries.{feeds, has_word, is_other, with_word, others}
 use Rattle.wtf_summary.specs.declared.counts.Counts.{Counts}
 

@@ -1,5 +1,5 @@
 -- What a byte, and the summary, make of what is kept.
-use Rattle.std.specs.Prelude.{◌≡◌, ℕ, ◌<◌, ◌≤◌, List, [], ◌∷◌, ◌++◌, Option, Some, Result, Ok, Err}
+use Rattle.std.specs.Prelude.{◌≡◌, ℕ, ◌≤◌, List, [], ◌∷◌, ◌++◌, Some, Result, Ok, Err}
 use Rattle.wtf_dev.specs.Counts.{Rose, risen}
 use Rattle.wtf_dev.specs.Streams.{SinkView}
 use Rattle.wtf_summary.specs.States.{IsSound}

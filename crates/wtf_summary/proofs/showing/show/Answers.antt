@@ -16,12 +16,12 @@ returns-then-faults-eq0-clause-whole g c =
     let w = c.pass-taken.new.out in
     let e = c.new-sink.ensures in
     let on = ran w0.out.ghost_name c.args.lines (numbers_of below) w0.out.ghost_name w0.state w.out.ghost_name w.state (take c.pass-taken.result c.args.text.now)
-        refl e.lines e.first e.text c.pass-taken.ensures.told in
+    refl e.lines e.first e.text c.pass-taken.ensures.told in
     let same : c.finish-faults.new.self.0 ≡ c.out-1.given.0 = search (rules, on.name) in
     let ends = sym c.finish-faults.ensures.kept ∙ same in
     let whole = sym c.finish-faults.ensures.faults ∙ c.if-faults-eq0.true in
     λ t before h. subst (λ o. (g.O.Sink.view o).taken ≡ Some (before ++ shown c.args.lines c.args.text.now)) ends
-        (shows_all below (g.O.Sink.view w.out.now) w.state c.args.lines c.args.text.now before w.sound on.lines on.first (on.text ∙ full c.pass-taken.result c.args.text.now t) whole h)
+    (shows_all below (g.O.Sink.view w.out.now) w.state c.args.lines c.args.text.now before w.sound on.lines on.first (on.text ∙ full c.pass-taken.result c.args.text.now t) whole h)
 
 pub returns-then-faults-eq0-clause-front : goal.returns-then-faults-eq0-clause-front
 returns-then-faults-eq0-clause-front g c =
@@ -30,11 +30,11 @@ returns-then-faults-eq0-clause-front g c =
     let w = c.pass-taken.new.out in
     let e = c.new-sink.ensures in
     let on = ran w0.out.ghost_name c.args.lines (numbers_of below) w0.out.ghost_name w0.state w.out.ghost_name w.state (take c.pass-taken.result c.args.text.now)
-        refl e.lines e.first e.text c.pass-taken.ensures.told in
+    refl e.lines e.first e.text c.pass-taken.ensures.told in
     let same : c.finish-faults.new.self.0 ≡ c.out-1.given.0 = search (rules, on.name) in
     let ends = sym c.finish-faults.ensures.kept ∙ same in
     λ before h. subst (λ o. ShowsFront c.args.lines before (g.O.Sink.view o).taken) ends
-        (shows_front below (g.O.Sink.view w.out.now) w.state c.args.lines before w.sound on.lines on.first h)
+    (shows_front below (g.O.Sink.view w.out.now) w.state c.args.lines before w.sound on.lines on.first h)
 
 pub returns-then-faults-eq0-clause-faults : goal.returns-then-faults-eq0-clause-faults
 returns-then-faults-eq0-clause-faults g c =
@@ -43,7 +43,7 @@ returns-then-faults-eq0-clause-faults g c =
     let w = c.pass-taken.new.out in
     let e = c.new-sink.ensures in
     let on = ran w0.out.ghost_name c.args.lines (numbers_of below) w0.out.ghost_name w0.state w.out.ghost_name w.state (take c.pass-taken.result c.args.text.now)
-        refl e.lines e.first e.text c.pass-taken.ensures.told in
+    refl e.lines e.first e.text c.pass-taken.ensures.told in
     let same : c.finish-faults.new.self.0 ≡ c.out-1.given.0 = search (rules, on.name) in
     let ends = sym c.finish-faults.ensures.kept ∙ same in
     subst (λ o. below.faults ≤ (g.O.Sink.view o).faults) ends (w.sound.counted below on.first)
@@ -55,11 +55,11 @@ returns-else-faults-eq0-clause-front g c =
     let w = c.pass-taken.new.out in
     let e = c.new-sink.ensures in
     let on = ran w0.out.ghost_name c.args.lines (numbers_of below) w0.out.ghost_name w0.state w.out.ghost_name w.state (take c.pass-taken.result c.args.text.now)
-        refl e.lines e.first e.text c.pass-taken.ensures.told in
+    refl e.lines e.first e.text c.pass-taken.ensures.told in
     let same : c.finish-faults.new.self.0 ≡ c.out-1.given.0 = search (rules, on.name) in
     let ends = sym c.finish-faults.ensures.kept ∙ same in
     λ before h. subst (λ o. ShowsFront c.args.lines before (g.O.Sink.view o).taken) ends
-        (shows_front below (g.O.Sink.view w.out.now) w.state c.args.lines before w.sound on.lines on.first h)
+    (shows_front below (g.O.Sink.view w.out.now) w.state c.args.lines before w.sound on.lines on.first h)
 
 pub returns-else-faults-eq0-clause-faults : goal.returns-else-faults-eq0-clause-faults
 returns-else-faults-eq0-clause-faults g c =
@@ -68,7 +68,7 @@ returns-else-faults-eq0-clause-faults g c =
     let w = c.pass-taken.new.out in
     let e = c.new-sink.ensures in
     let on = ran w0.out.ghost_name c.args.lines (numbers_of below) w0.out.ghost_name w0.state w.out.ghost_name w.state (take c.pass-taken.result c.args.text.now)
-        refl e.lines e.first e.text c.pass-taken.ensures.told in
+    refl e.lines e.first e.text c.pass-taken.ensures.told in
     let same : c.finish-faults.new.self.0 ≡ c.out-1.given.0 = search (rules, on.name) in
     let ends = sym c.finish-faults.ensures.kept ∙ same in
     subst (λ o. below.faults ≤ (g.O.Sink.view o).faults) ends (w.sound.counted below on.first)
@@ -80,8 +80,8 @@ returns-else-faults-eq0-clause-cause g c =
     let w = c.pass-taken.new.out in
     let e = c.new-sink.ensures in
     let on = ran w0.out.ghost_name c.args.lines (numbers_of below) w0.out.ghost_name w0.state w.out.ghost_name w.state (take c.pass-taken.result c.args.text.now)
-        refl e.lines e.first e.text c.pass-taken.ensures.told in
+    refl e.lines e.first e.text c.pass-taken.ensures.told in
     let same : c.finish-faults.new.self.0 ≡ c.out-1.given.0 = search (rules, on.name) in
     let ends = sym c.finish-faults.ensures.kept ∙ same in
     λ _. subst (λ o. (g.O.Sink.view o).faults < 18446744073709551615 → below.faults < (g.O.Sink.view o).faults) ends
-        (w.sound.rose below on.first (omega (arith, c.if-faults-eq0.false, c.finish-faults.ensures.faults)))
+    (w.sound.rose below on.first (omega (arith, c.if-faults-eq0.false, c.finish-faults.ensures.faults)))

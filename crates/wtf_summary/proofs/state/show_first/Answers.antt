@@ -1,6 +1,6 @@
-use Rattle.std.proofs.Common.{◌≡◌, ◌==◌, ◌++◌, ◌∷◌, ℕ, List, [], Some, take, subst, ap, sym, ◌∙◌, arith}
+use Rattle.std.proofs.Common.{◌≡◌, ◌==◌, ◌++◌, ◌∷◌, ℕ, List, [], Some, subst, ap, ◌∙◌, arith}
 use Rattle.wtf_script.specs.ScriptLines.{line_feed}
-use Rattle.wtf_summary.specs.Summaries.{behind_first, front_lines, shown}
+use Rattle.wtf_summary.specs.Summaries.{front_lines}
 use Rattle.wtf_summary.specs.Tallies.{Tallies}
 use Rattle.wtf_summary.proofs.Lines.{feeds-push}
 use Rattle.wtf_summary.proofs.Texts.{behind_first-byte, behind_first-none, shown-first, shown-none}

@@ -1,7 +1,6 @@
-use Rattle.std.proofs.Common.{◌≡◌, ◌<◌, ◌≤◌, ◌++◌, ◌∷◌, ℕ, List, [], Some, subst, ap, refl, sym, ◌∙◌, arith}
+use Rattle.std.proofs.Common.{◌≡◌, ◌<◌, ◌≤◌, ◌++◌, ◌∷◌, ℕ, List, [], Some, subst, ap, sym, ◌∙◌, arith}
 use Rattle.std.proofs.lemmas.List.{append-nil}
-use Rattle.wtf_summary.specs.Counted.{AreBelow}
-use Rattle.wtf_summary.specs.Summaries.{behind_first, feeds, front_lines, shown, summary}
+use Rattle.wtf_summary.specs.Summaries.{behind_first, feeds, front_lines, summary}
 use Rattle.wtf_summary.specs.Tallies.{Tallies}
 use Rattle.wtf_summary.proofs.Sound.{failed, open_feeds, some_begun, took}
 use Rattle.wtf_summary.proofs.Texts.{front_lines-byte, front_lines-few, shown-open, shown-whole}

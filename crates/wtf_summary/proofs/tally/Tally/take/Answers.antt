@@ -1,5 +1,4 @@
-use Rattle.std.proofs.Common.{◌≡◌, ◌++◌, ◌∷◌, [], ◌∙◌, ◌==◌, ℕ, Bool, false, List, ap, sym, take, arith}
-use Rattle.wtf_script.specs.ScriptLines.{line_feed}
+use Rattle.std.proofs.Common.{◌++◌, ◌∷◌, [], ◌∙◌, ℕ, List, ap, sym, take, arith}
 use Rattle.wtf_summary.specs.Counted.{counted, counts_of}
 use Rattle.wtf_summary.specs.Tallies.{open_line}
 use Rattle.wtf_summary.proofs.Lines.{open_line-byte, open_line-feed, other_byte, take_push-room, take_push-full}
