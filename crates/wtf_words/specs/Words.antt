@@ -1,5 +1,5 @@
 -- What the words ask for.
-use Rattle.std.specs.Prelude.{ℕ, ◌&&◌, Bool, true, nat_le, if◌then◌else◌, List, [], ◌∷◌, Option, Some, None, option_and_then, codes}
+use Rattle.std.specs.Prelude.{ℕ, ◌-◌, ◌^◌, ◌&&◌, Bool, true, nat_le, if◌then◌else◌, List, [], ◌∷◌, Option, Some, None, option_and_then, option_map, codes}
 use Rattle.std.specs.Option.{option_map_or}
 use Rattle.clap.specs.Words.{App, Row, Rule, Text, fault_of, first_of, matches_of, new_app, new_rule, with_rule}
 use Rattle.clap.specs.Simple.{on_top}
@@ -7,6 +7,9 @@ use Rattle.clap.specs.Kinds.{Kinds}
 use Rattle.clap.specs.declared.builder.action.ArgAction.TheVariants.{Set}
 use Rattle.wtf_base.specs.declared.settings.Settings.{Settings}
 use Rattle.wtf_lex.specs.Numbers.{number_within}
+use Rattle.wtf_words.specs.declared.Asked.{Asked}
+use Rattle.wtf_words.specs.declared.Script.{Script}
+use Rattle.wtf_words.specs.declared.Script.TheVariants as script
 
 -- an option that has one value, and stands at most once
 abbrev pub option_rule : Text → Rule
@@ -16,9 +19,13 @@ option_rule name = record (new_rule name) { long = Some name; action = Some Set 
 abbrev pub bare_app : Text → App
 bare_app name = on_top (λ s. record s { no_binary_name = true; disable_help_flag = true }) (new_app name)
 
--- the command that the words are those of
+-- the command with the options of the settings
+abbrev pub settings_app : App
+settings_app = with_rule (with_rule (with_rule (bare_app (codes "wtf")) (option_rule (codes "servers"))) (option_rule (codes "replicas"))) (option_rule (codes "region"))
+
+-- the command that the words are those of: the same, and the options of a script that is made from a number
 abbrev pub wtf_app : App
-wtf_app = with_rule (with_rule (with_rule (bare_app (codes "wtf")) (option_rule (codes "servers"))) (option_rule (codes "replicas"))) (option_rule (codes "region"))
+wtf_app = with_rule (with_rule settings_app (option_rule (codes "gen"))) (option_rule (codes "lines"))
 
 -- the number of an option, at most `most`; where it is not among the words another
 abbrev pub number_of : Text → ℕ → ℕ → List Row → Option ℕ
@@ -43,14 +50,42 @@ within_limits servers replicas region =
     if are_settings servers replicas region then Some (record { servers = servers; replicas = replicas; region = region }) else None
 
 -- the numbers of the options
-abbrev pub chosen : List Row → Option Numbers
-chosen rows = option_and_then (λ servers. option_and_then (λ replicas. option_and_then (λ region. within_limits servers replicas region)
+abbrev pub chosen_numbers : List Row → Option Numbers
+chosen_numbers rows = option_and_then (λ servers. option_and_then (λ replicas. option_and_then (λ region. within_limits servers replicas region)
     (number_of (codes "region") 1048576 65536 rows)) (number_of (codes "replicas") 3 2 rows)) (number_of (codes "servers") 16 4 rows)
 
-abbrev pub asked_by : Kinds → List Row → Option Numbers
+-- a script of so many lines, at least one and at most 1,000,000, that is made from a number of 64 bits
+abbrev pub generated_within : ℕ → ℕ → Option Script
+generated_within number lines = if nat_le 1 lines then Some (script.Generated number lines) else None
+
+abbrev pub generated_by : Text → Text → Option Script
+generated_by number lines = option_and_then (λ n. option_and_then (λ k. generated_within n k) (number_within 1000000 lines)) (number_within (2 ^ 64 - 1) number)
+
+-- where the script comes from, by the values of `--gen` and `--lines`: neither stands without the other
+abbrev pub script_by : Option Text → Option Text → Option Script
+script_by None None = Some script.Read
+script_by (Some number) (Some lines) = generated_by number lines
+script_by number lines = None
+
+abbrev pub script_of : List Row → Option Script
+script_of rows = script_by (first_of (codes "gen") rows) (first_of (codes "lines") rows)
+
+-- what the words ask for: the numbers of the run, and where its script comes from
+pub record Request : Type 0 where
+  pub numbers : Numbers
+  pub script : Script
+
+abbrev pub request : Asked → Request
+request asked = record { numbers = numbers asked.settings; script = asked.script }
+
+-- what the options ask for
+abbrev pub chosen : List Row → Option Request
+chosen rows = option_and_then (λ n. option_map (λ s. record { numbers = n; script = s }) (script_of rows)) (chosen_numbers rows)
+
+abbrev pub asked_by : Kinds → List Row → Option Request
 asked_by [] rows = chosen rows
 asked_by (kind ∷ kinds) rows = None
 
--- what the words ask for, where they are taken: the numbers of the options that `clap` finds among them
-abbrev pub asked_of : List Text → Option Numbers
+-- what the words ask for, where they are taken: what `clap` finds among them
+abbrev pub asked_of : List Text → Option Request
 asked_of words = asked_by (fault_of wtf_app words) (matches_of wtf_app words)

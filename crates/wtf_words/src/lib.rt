@@ -1,9 +1,10 @@
-//! The words behind the program's directory: how many servers and copies there are, and how large a region is.
+//! The words behind the program's directory: how many servers and copies there are, how large a region is, and whether the
+//! script is made from a number.
 #![tactic(auto)]
 
 ghost use Rattle.std.specs.Prelude.{◌≡◌, ◌≢◌, ◌≤◌, false, None, Some, [], IfOk, IfSome, IfErr, map, string_bytes, option_map};
-ghost use Rattle.clap.specs.Words.{app_of, fault_of, found_of, matches_of, rows_of, rule_of};
-ghost use Rattle.wtf_words.specs.Words.{asked_of, chosen, number_of, numbers, option_rule, wtf_app};
+ghost use Rattle.clap.specs.Words.{app_of, fault_of, first_of, found_of, matches_of, rows_of, rule_of};
+ghost use Rattle.wtf_words.specs.Words.{asked_of, chosen, chosen_numbers, generated_by, number_of, numbers, option_rule, request, script_by, script_of, settings_app, wtf_app};
 
 use clap::error::ErrorKind;
 use clap::{Arg, ArgAction, ArgMatches, Command};
@@ -14,10 +15,26 @@ use wtf_lex::number_within;
 
 mod examples;
 
-/// Why no settings came of the words.
+/// Where the script of a run comes from.
+#[derive(Clone, Copy, Debug)]
+pub enum Script {
+    /// It is read.
+    Read,
+    /// It is made from a number, and has so many lines.
+    Generated { number: u64, lines: u64 },
+}
+
+/// What the words ask for.
+#[derive(Clone, Copy, Debug)]
+pub struct Asked {
+    pub settings: Settings,
+    pub script: Script,
+}
+
+/// Why nothing came of the words.
 #[derive(Clone, Copy, Debug, PartialEq, Eq, Error)]
 pub enum WordsError {
-    /// They ask for no settings.
+    /// They ask for no run.
     #[error("words refused")]
     Refused,
     /// Memory could not be had.
@@ -25,11 +42,12 @@ pub enum WordsError {
     Memory,
 }
 
-/// The settings that these words ask for: `--servers N`, 1 to 16, or 4; `--replicas N`, 1 to 3 and at most one a server, or
-/// 2; `--region N`, 64 to 1,048,576 bytes, or 65,536. A number has no sign and no leading zero, no option stands twice, and
-/// there is no other word.
-pub fn read_words(alloc: Global, words: &[String]) -> Result<Settings, WordsError>
-    ensures asked { IfOk result (λ s. asked_of (map string_bytes words.now) ≡ Some (numbers s)) }
+/// What these words ask for: `--servers N`, 1 to 16, or 4; `--replicas N`, 1 to 3 and at most one a server, or 2;
+/// `--region N`, 64 to 1,048,576 bytes, or 65,536; and `--gen N`, 0 to 18,446,744,073,709,551,615, with `--lines N`, 1 to
+/// 1,000,000, a script of so many lines that is made from the number. Neither of these two stands without the other. A
+/// number has no sign and no leading zero, no option stands twice, and there is no other word.
+pub fn read_words(alloc: Global, words: &[String]) -> Result<Asked, WordsError>
+    ensures asked { IfOk result (λ a. asked_of (map string_bytes words.now) ≡ Some (request a)) }
     ensures refused { IfErr result (λ e. e ≡ WordsError.Refused →
         asked_of (map string_bytes words.now) ≡ None) }
 {
@@ -37,8 +55,8 @@ pub fn read_words(alloc: Global, words: &[String]) -> Result<Settings, WordsErro
         Ok(matches) => matches,
         Err(e) => return Err(e),
     };
-    match settings_in(&matches) {
-        Some(settings) => Ok(settings),
+    match asked_in(&matches) {
+        Some(asked) => Ok(asked),
         None => Err(WordsError::Refused),
     }
 }
@@ -70,9 +88,19 @@ fn why(kind: ErrorKind) -> WordsError
     }
 }
 
-/// The command that the words are those of. It has three options, no help and no version.
+/// The command that the words are those of. It has five options, no help and no version.
 fn wtf_command<'a>(alloc: Global) -> Result<Command<'a>, AllocError>
     ensures { IfOk result (λ c. app_of c ≡ wtf_app) }
+{
+    let command = settings_command(alloc)?;
+    command
+        .arg(option_named(alloc, "gen"))?
+        .arg(option_named(alloc, "lines"))
+}
+
+/// The command with the options of the settings alone.
+fn settings_command<'a>(alloc: Global) -> Result<Command<'a>, AllocError>
+    ensures { IfOk result (λ c. app_of c ≡ settings_app) }
 {
     Command::new(alloc, "wtf")
         .no_binary_name(true)
@@ -90,9 +118,18 @@ fn option_named<'a>(alloc: Global, name: &'a str) -> Arg<'a>
     Arg::new(alloc, name).long(name).action(ArgAction::Set)
 }
 
+/// What the options ask for, where it is inside its limits.
+fn asked_in(matches: &ArgMatches<'_>) -> Option<Asked>
+    ensures { option_map request result ≡ chosen (rows_of (found_of matches.now)) }
+{
+    let settings = settings_in(matches)?;
+    let script = script_in(matches)?;
+    Some(Asked { settings, script })
+}
+
 /// The settings with the numbers of the options, where there are such.
 fn settings_in(matches: &ArgMatches<'_>) -> Option<Settings>
-    ensures { option_map numbers result ≡ chosen (rows_of (found_of matches.now)) }
+    ensures { option_map numbers result ≡ chosen_numbers (rows_of (found_of matches.now)) }
 {
     let servers = number(matches, "servers", 16, 4)?;
     let replicas = number(matches, "replicas", 3, 2)?;
@@ -110,4 +147,42 @@ fn number(matches: &ArgMatches<'_>, name: &str, most: u64, otherwise: u64) -> Op
         Some(text) => number_within(most, text.as_bytes()),
         None => Some(otherwise),
     }
+}
+
+/// Where the script comes from.
+fn script_in(matches: &ArgMatches<'_>) -> Option<Script>
+    ensures { result ≡ script_of (rows_of (found_of matches.now)) }
+{
+    script_by(text_of(matches, "gen"), text_of(matches, "lines"))
+}
+
+/// The text of an option, where it is among the words.
+fn text_of<'a>(matches: &ArgMatches<'a>, name: &str) -> Option<&'a str>
+    ensures { option_map (λ text. text.now) result ≡ first_of name.now (rows_of (found_of matches.now)) }
+{
+    matches.get_str(name)
+}
+
+/// Where the script comes from, by the texts of `--gen` and `--lines`: neither of the two stands without the other.
+fn script_by(number: Option<&str>, lines: Option<&str>) -> Option<Script>
+    ensures { result ≡ script_by (option_map (λ text. text.now) number.entry)
+        (option_map (λ text. text.now) lines.entry) }
+{
+    match (number, lines) {
+        (Some(number), Some(lines)) => generated(number, lines),
+        (None, None) => Some(Script::Read),
+        _ => None,
+    }
+}
+
+/// A script of so many lines that is made from the number.
+fn generated(number: &str, lines: &str) -> Option<Script>
+    ensures { result ≡ generated_by number.now lines.now }
+{
+    let number = number_within(u64::MAX, number.as_bytes())?;
+    let lines = number_within(1_000_000, lines.as_bytes())?;
+    if lines == 0 {
+        return None;
+    }
+    Some(Script::Generated { number, lines })
 }

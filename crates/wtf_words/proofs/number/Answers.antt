@@ -1,7 +1,7 @@
 use Rattle.std.proofs.Common.{rules, ℕ, List, Some, None, ◌∙◌, ap}
 use Rattle.clap.specs.Words.{found_of}
 use Rattle.wtf_lex.specs.Numbers.{number_within}
-use Rattle.wtf_words.proofs.Asked.{number_by}
+use Rattle.wtf_words.proofs.Asking.{number_by}
 use Rattle.wtf_words.proofs.number.Goals as goal
 
 pub returns-in-Some-clause-value : goal.returns-in-Some-clause-value

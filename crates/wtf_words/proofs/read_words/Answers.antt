@@ -1,4 +1,4 @@
-use Rattle.wtf_words.proofs.Asked.{none_asked}
+use Rattle.wtf_words.proofs.Asking.{none_asked}
 use Rattle.wtf_words.proofs.read_words.Goals as goal
 
 pub returns-in-Err-clause-refused : goal.returns-in-Err-clause-refused

@@ -25,3 +25,23 @@ returns-clause-zero c = refl
 pub returns-clause-other : goal.returns-clause-other
 unfolding clap_on_literals
 returns-clause-other c = refl
+
+pub returns-clause-no_lines : goal.returns-clause-no_lines
+unfolding clap_on_literals
+returns-clause-no_lines c = refl
+
+pub returns-clause-no_number : goal.returns-clause-no_number
+unfolding clap_on_literals
+returns-clause-no_number c = refl
+
+pub returns-clause-few : goal.returns-clause-few
+unfolding clap_on_literals
+returns-clause-few c = refl
+
+pub returns-clause-many : goal.returns-clause-many
+unfolding clap_on_literals
+returns-clause-many c = refl
+
+pub returns-clause-large : goal.returns-clause-large
+unfolding clap_on_literals
+returns-clause-large c = refl
