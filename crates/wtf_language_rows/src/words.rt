@@ -33,7 +33,7 @@ fn asked(alloc: Global, line: &str) -> Result<Option<(u8, u8, u32)>, Fail> {
             asked.settings.replicas,
             asked.settings.region,
         ))),
-        Script::Generated { .. } => Ok(None),
+        Script::Generated(_) => Ok(None),
     }
 }
 
@@ -44,7 +44,9 @@ fn generated(alloc: Global, line: &str) -> Result<Option<(u64, u64, u8)>, Fail> 
     };
     match asked.script {
         Script::Read => Ok(None),
-        Script::Generated { number, lines } => Ok(Some((number, lines, asked.settings.servers))),
+        Script::Generated(recipe) => {
+            Ok(Some((recipe.number, recipe.lines, asked.settings.servers)))
+        }
     }
 }
 

@@ -56,7 +56,7 @@ chosen_numbers rows = option_and_then (λ servers. option_and_then (λ replicas.
 
 -- a script of so many lines, at least one and at most 1,000,000, that is made from a number of 64 bits
 abbrev pub generated_within : ℕ → ℕ → Option Script
-generated_within number lines = if nat_le 1 lines then Some (script.Generated number lines) else None
+generated_within number lines = if nat_le 1 lines then Some (script.Generated (record { number = number; lines = lines })) else None
 
 abbrev pub generated_by : Text → Text → Option Script
 generated_by number lines = option_and_then (λ n. option_and_then (λ k. generated_within n k) (number_within 1000000 lines)) (number_within (2 ^ 64 - 1) number)

@@ -19,12 +19,12 @@ fn taken_words()
     ensures generated { asked_of
         (codes "--gen" ∷ codes "7" ∷ codes "--lines" ∷ codes "20000" ∷ []) ≡ Some (record {
           numbers = record { servers = 4; replicas = 2; region = 65536 };
-          script = script.Generated 7 20000;
+          script = script.Generated (record { number = 7; lines = 20000 });
         }) }
     ensures greatest { asked_of
         (codes "--gen=18446744073709551615" ∷ codes "--lines=1000000" ∷ []) ≡ Some (record {
           numbers = record { servers = 4; replicas = 2; region = 65536 };
-          script = script.Generated (2 ^ 64 - 1) 1000000;
+          script = script.Generated (record { number = 2 ^ 64 - 1; lines = 1000000 });
         }) }
 {}
 

@@ -15,13 +15,20 @@ use wtf_lex::number_within;
 
 mod examples;
 
+/// What a script is made from: a number, and how many lines it gives.
+#[derive(Clone, Copy, Debug)]
+pub struct Recipe {
+    pub number: u64,
+    pub lines: u64,
+}
+
 /// Where the script of a run comes from.
 #[derive(Clone, Copy, Debug)]
 pub enum Script {
     /// It is read.
     Read,
-    /// It is made from a number, and has so many lines.
-    Generated { number: u64, lines: u64 },
+    /// It is made from a number.
+    Generated(Recipe),
 }
 
 /// What the words ask for.
@@ -184,5 +191,5 @@ fn generated(number: &str, lines: &str) -> Option<Script>
     if lines == 0 {
         return None;
     }
-    Some(Script::Generated { number, lines })
+    Some(Script::Generated(Recipe { number, lines }))
 }
