@@ -1,5 +1,5 @@
 -- What the words ask for.
-use Rattle.std.specs.Prelude.{ℕ, ◌-◌, ◌^◌, ◌&&◌, Bool, true, nat_le, if◌then◌else◌, List, [], ◌∷◌, Option, Some, None, option_and_then, option_map, codes}
+use Rattle.std.specs.Prelude.{ℕ, ◌≤◌, ◌-◌, ◌^◌, ◌&&◌, ⊤, Bool, true, nat_le, if◌then◌else◌, List, [], ◌∷◌, Option, Some, None, option_and_then, option_map, codes}
 use Rattle.std.specs.Option.{option_map_or}
 use Rattle.clap.specs.Words.{App, Row, Rule, Text, fault_of, first_of, matches_of, new_app, new_rule, with_rule}
 use Rattle.clap.specs.Simple.{on_top}
@@ -53,6 +53,11 @@ within_limits servers replicas region =
 abbrev pub chosen_numbers : List Row → Option Numbers
 chosen_numbers rows = option_and_then (λ servers. option_and_then (λ replicas. option_and_then (λ region. within_limits servers replicas region)
     (number_of (codes "region") 1048576 65536 rows)) (number_of (codes "replicas") 3 2 rows)) (number_of (codes "servers") 16 4 rows)
+
+-- a script that is made from a number has a line
+abbrev pub HasLine : Script → Type 0
+HasLine script.Read = ⊤
+HasLine (script.Generated recipe) = 1 ≤ recipe.lines
 
 -- a script of so many lines, at least one and at most 1,000,000, that is made from a number of 64 bits
 abbrev pub generated_within : ℕ → ℕ → Option Script

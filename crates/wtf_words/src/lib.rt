@@ -4,7 +4,7 @@
 
 ghost use Rattle.std.specs.Prelude.{◌≡◌, ◌≢◌, ◌≤◌, false, None, Some, [], IfOk, IfSome, IfErr, map, string_bytes, option_map};
 ghost use Rattle.clap.specs.Words.{app_of, fault_of, first_of, found_of, matches_of, rows_of, rule_of};
-ghost use Rattle.wtf_words.specs.Words.{asked_of, chosen, chosen_numbers, generated_by, number_of, numbers, option_rule, request, script_by, script_of, settings_app, wtf_app};
+ghost use Rattle.wtf_words.specs.Words.{HasLine, asked_of, chosen, chosen_numbers, generated_by, number_of, numbers, option_rule, request, script_by, script_of, settings_app, wtf_app};
 
 use clap::error::ErrorKind;
 use clap::{Arg, ArgAction, ArgMatches, Command};
@@ -55,6 +55,7 @@ pub enum WordsError {
 /// number has no sign and no leading zero, no option stands twice, and there is no other word.
 pub fn read_words(alloc: Global, words: &[String]) -> Result<Asked, WordsError>
     ensures asked { IfOk result (λ a. asked_of (map string_bytes words.now) ≡ Some (request a)) }
+    ensures lines { IfOk result (λ a. HasLine a.script) }
     ensures refused { IfErr result (λ e. e ≡ WordsError.Refused →
         asked_of (map string_bytes words.now) ≡ None) }
 {
@@ -127,7 +128,8 @@ fn option_named<'a>(alloc: Global, name: &'a str) -> Arg<'a>
 
 /// What the options ask for, where it is inside its limits.
 fn asked_in(matches: &ArgMatches<'_>) -> Option<Asked>
-    ensures { option_map request result ≡ chosen (rows_of (found_of matches.now)) }
+    ensures value { option_map request result ≡ chosen (rows_of (found_of matches.now)) }
+    ensures lines { IfSome result (λ a. HasLine a.script) }
 {
     let settings = settings_in(matches)?;
     let script = script_in(matches)?;
@@ -158,7 +160,8 @@ fn number(matches: &ArgMatches<'_>, name: &str, most: u64, otherwise: u64) -> Op
 
 /// Where the script comes from.
 fn script_in(matches: &ArgMatches<'_>) -> Option<Script>
-    ensures { result ≡ script_of (rows_of (found_of matches.now)) }
+    ensures value { result ≡ script_of (rows_of (found_of matches.now)) }
+    ensures lines { IfSome result HasLine }
 {
     script_by(text_of(matches, "gen"), text_of(matches, "lines"))
 }
@@ -172,8 +175,9 @@ fn text_of<'a>(matches: &ArgMatches<'a>, name: &str) -> Option<&'a str>
 
 /// Where the script comes from, by the texts of `--gen` and `--lines`: neither of the two stands without the other.
 fn script_by(number: Option<&str>, lines: Option<&str>) -> Option<Script>
-    ensures { result ≡ script_by (option_map (λ text. text.now) number.entry)
+    ensures value { result ≡ script_by (option_map (λ text. text.now) number.entry)
         (option_map (λ text. text.now) lines.entry) }
+    ensures lines { IfSome result HasLine }
 {
     match (number, lines) {
         (Some(number), Some(lines)) => generated(number, lines),
@@ -184,7 +188,8 @@ fn script_by(number: Option<&str>, lines: Option<&str>) -> Option<Script>
 
 /// A script of so many lines that is made from the number.
 fn generated(number: &str, lines: &str) -> Option<Script>
-    ensures { result ≡ generated_by number.now lines.now }
+    ensures value { result ≡ generated_by number.now lines.now }
+    ensures lines { IfSome result HasLine }
 {
     let number = number_within(u64::MAX, number.as_bytes())?;
     let lines = number_within(1_000_000, lines.as_bytes())?;
