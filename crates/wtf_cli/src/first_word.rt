@@ -53,6 +53,7 @@ pub(crate) const VERSION: &str = "wtf 0.1.0-dev\n";
 /// What `--help` shows.
 pub(crate) const USAGE: &str = "\
 usage: wtf DIR [--servers N] [--replicas N] [--region N] < SCRIPT
+       wtf DIR [--servers N] [--replicas N] [--region N] --gen N --lines N
        wtf --help | --version
 
 Answers each line of the script by one line on standard output.
@@ -62,6 +63,10 @@ DIR           the folder of the store, made where it is missing; one run at a
 --servers N   how many servers are used, 1 to 16; 4 without it
 --replicas N  copies of each slice, 1 to 3, at most one a server; 2 without it
 --region N    bytes of a region, 64 to 1048576; 65536 without it
+--gen N       no script is read: one is made from the number N, at most
+              18446744073709551615, and the settings are followed not by its
+              answers but by a summary of them
+--lines N     how many lines that script has, 1 to 1000000
 
 A store that is saved keeps the numbers that it began with.
 

@@ -23,12 +23,12 @@ use wtf_serve::{FINISHED, OUT_OF_MEMORY, WORDS_REFUSED, WRITING_FAILED, wtf};
 /// The greatest length of a path, in bytes: the system opens no longer one.
 const PATH_BYTES: usize = 4_096;
 
-/// `wtf DIR WORDS..` answers the script on standard input on standard output. DIR holds a folder for each server, `s0` to
-/// `s15`, the file `image` and the file `lock`; what is missing of these but the image is made. For the DIR `-` stores and
-/// keeper are in memory and end with the run. A DIR that is missing, empty or begins with `-`, one that another run holds,
-/// or one where something cannot be opened, ends with status 10 before the words are read. Else the status is that of the
-/// run, and of the words before it; for each status but 0 its line is written on standard error. `--help` and `--version`
-/// alone show what they say.
+/// `wtf DIR WORDS..` answers the script on standard input on standard output; where the words ask for a script that is made
+/// from a number, standard input is not read. DIR holds a folder for each server, `s0` to `s15`, the file `image` and the
+/// file `lock`; what is missing of these but the image is made. For the DIR `-` stores and keeper are in memory and end
+/// with the run. A DIR that is missing, empty or begins with `-`, one that another run holds, or one where something cannot
+/// be opened, ends with status 10 before the words are read. Else the status is that of the run, and of the words before
+/// it; for each status but 0 its line is written on standard error. `--help` and `--version` alone show what they say.
 fn main(rt: HostRuntime) -> ExitCode {
     told(&rt, status_of(&rt))
 }

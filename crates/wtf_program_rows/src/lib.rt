@@ -12,6 +12,8 @@ mod faults;
 #[cfg(test)]
 mod folders;
 #[cfg(test)]
+mod generated;
+#[cfg(test)]
 mod image;
 #[cfg(test)]
 mod rows;

@@ -9,7 +9,7 @@ use std::process::Abort;
 use std::test::Fail;
 
 /// Words, the status of a run of the first script with them, and what its output begins with.
-const WORDS: [(&str, u8, &str); 19] = [
+const WORDS: [(&str, u8, &str); 21] = [
     ("", 0, ""),
     ("--servers 2", 0, ""),
     ("--servers=16 --replicas=3 --region=1048576", 0, ""),
@@ -29,6 +29,12 @@ const WORDS: [(&str, u8, &str); 19] = [
     ("--servers", 2, ""),
     ("--servers +3", 2, ""),
     ("--servers 03", 2, ""),
+    (
+        "--gen 1 --lines 1",
+        0,
+        "wtf servers 4 replicas 2 region 65536 number 0\nlines 1\n",
+    ),
+    ("--gen 1 --lines 0", 2, ""),
     ("--gen 1", 2, ""),
     ("--lines 1", 2, ""),
     ("--help", 2, ""),

@@ -15,3 +15,5 @@ pub mod Unopening
 pub mod Underway
 pub mod Refusing
 pub mod Headline
+pub mod Bared
+pub mod Generating

@@ -2,14 +2,17 @@
 use Rattle.std.proofs.Common.{◌≡◌, ◌≢◌, ◌↔◌, ◌⊎◌, ◌<◌, ◌≤◌, ℕ, Bool, true, false, List, [], ◌∷◌, length, Option, Some, None, refl, sym, ◌∙◌, ap, subst, arith, inl, inr}
 use Rattle.wtf_base.specs.declared.settings.Settings.{Settings}
 use Rattle.wtf_dev.specs.Store.{StoreKind}
-use Rattle.wtf_words.specs.Words.{Numbers, numbers}
+use Rattle.wtf_words.specs.Words.{Numbers, numbers, Request}
+use Rattle.wtf_words.specs.declared.Script.{Script}
+use Rattle.wtf_words.specs.declared.Script.TheVariants as script
 use Rattle.wtf_image.specs.declared.error.LoadError.{LoadError}
 use Rattle.wtf_image.specs.declared.error.LoadError.TheVariants as error
 use Rattle.wtf_image.specs.Rows.{ImageRows}
 use Rattle.wtf_image.specs.Rules.{AreGoodSettings, IsGoodTree, size_in, are_inside}
 use Rattle.wtf_serve.specs.Endings.{Devices, IsServedStatus, IsUnstarted}
 use Rattle.wtf_serve.specs.Openings.{Opening, Opens, IsTakenOver}
-use Rattle.wtf_serve.specs.Program.{IsProgramRun, IsFew, IsRefused}
+use Rattle.wtf_serve.specs.Generated.{with_script, with_text}
+use Rattle.wtf_serve.specs.Program.{IsProgramRun, IsScriptRun, IsFew, IsRefused}
 use Rattle.wtf_serve.specs.Unopened.{HasServers, IsRefusedBy, IsRefusedImage, IsRun, IsRunStatus, IsWhy}
 use Rattle.wtf_serve.proofs.Starting.{same_rows}
 
@@ -37,13 +40,19 @@ run_status : {S : Type 0} (kind : StoreKind S) (handed : List (List ℕ) → Typ
 run_status kind handed settings status old new (inl unopened) = (unopened_status kind status old new unopened.why).1
 run_status kind handed settings status old new (inr opened) = served_status status opened.served.statuses
 
-pub program_status : {S : Type 0} (kind : StoreKind S) (handed : List (List ℕ) → Type 0) (asked : Option Numbers) (status : ℕ) (old new : Devices S)
+script_status : {S : Type 0} (kind : StoreKind S) (handed : List (List ℕ) → Type 0) (settings : Settings) (s : Script) (status : ℕ) (old new : Devices S)
+    → IsScriptRun kind handed settings s status old new → status ≤ 9
+script_status kind handed settings script.Read status old new run = run_status kind handed settings status old new run
+script_status kind handed settings (script.Generated recipe) status old new run =
+    run_status kind handed settings status (with_script recipe old) (with_text run.left run.faults run.text new) run.run
+
+pub program_status : {S : Type 0} (kind : StoreKind S) (handed : List (List ℕ) → Type 0) (asked : Option Request) (status : ℕ) (old new : Devices S)
     → IsProgramRun kind handed asked status old new → IsRunStatus status
 program_status kind handed None status old new run = elim run.0 [ inl e ↦ omega (arith, e) | inr e ↦ omega (arith, e) ]
 program_status kind handed (Some asked) status old new (inl (e, untouched)) = omega (arith, e)
-program_status kind handed (Some asked) status old new (inr run) = run_status kind handed run.settings status old new run.run
+program_status kind handed (Some asked) status old new (inr run) = script_status kind handed run.settings asked.script status old new run.run
 
-pub words_status : {S : Type 0} (kind : StoreKind S) (handed : List (List ℕ) → Type 0) (asked : Option Numbers) (status : ℕ) (old new : Devices S)
+pub words_status : {S : Type 0} (kind : StoreKind S) (handed : List (List ℕ) → Type 0) (asked : Option Request) (status : ℕ) (old new : Devices S)
     → IsProgramRun kind handed asked status old new → asked ≡ None → (status ≡ 2) ⊎ (status ≡ 7)
 words_status kind handed None status old new run none = run.0
 words_status kind handed (Some asked) status old new run none = cc
@@ -88,7 +97,14 @@ run_refused kind handed settings status old new held held_is (inr opened) =
       λ all. opened.served.few_stores.1 (of_few settings held opened.opening (length old.stock.shelf) opens all.2),
     )
 
-pub program_refused : {S : Type 0} (kind : StoreKind S) (handed : List (List ℕ) → Type 0) (asked : Option Numbers) (status : ℕ) (old new : Devices S) (held : List ℕ)
+script_refused : {S : Type 0} (kind : StoreKind S) (handed : List (List ℕ) → Type 0) (settings : Settings) (s : Script) (status : ℕ) (old new : Devices S) (held : List ℕ)
+    → old.stock.keeper.held ≡ Some held → IsScriptRun kind handed settings s status old new
+    → (status ≡ 2) ↔ ((status ≢ 7) × (status ≢ 8) × IsFew (numbers settings) held (length old.stock.shelf))
+script_refused kind handed settings script.Read status old new held held_is run = run_refused kind handed settings status old new held held_is run
+script_refused kind handed settings (script.Generated recipe) status old new held held_is run =
+    run_refused kind handed settings status (with_script recipe old) (with_text run.left run.faults run.text new) held held_is run.run
+
+pub program_refused : {S : Type 0} (kind : StoreKind S) (handed : List (List ℕ) → Type 0) (asked : Option Request) (status : ℕ) (old new : Devices S) (held : List ℕ)
     → old.stock.keeper.held ≡ Some held → IsProgramRun kind handed asked status old new
     → (status ≡ 2) ↔ ((status ≢ 7) × (status ≢ 8) × IsRefused asked held (length old.stock.shelf))
 program_refused kind handed None status old new held held_is run = (
@@ -98,7 +114,7 @@ program_refused kind handed None status old new held held_is run = (
 program_refused kind handed (Some asked) status old new held held_is (inl (e, untouched)) = (λ d. absurd (omega (arith, d, e)), λ all. absurd (all.0 e))
 program_refused kind handed (Some asked) status old new held held_is (inr run) =
     subst (λ (n : Numbers). (status ≡ 2) ↔ ((status ≢ 7) × (status ≢ 8) × IsFew n held (length old.stock.shelf))) run.asked_is
-    (run_refused kind handed run.settings status old new held held_is run.run)
+    (script_refused kind handed run.settings asked.script status old new held held_is run.run)
 
 -- ---- a refused image
 
@@ -168,8 +184,16 @@ run_image kind handed settings status old new held held_is (inr opened) = (
     not_6 n (inr (inr (inr (inr (inl d))))) e = omega (arith, d, e)
     not_6 n (inr (inr (inr (inr (inr d))))) e = omega (arith, d, e)
 
+script_image : {S : Type 0} (kind : StoreKind S) (handed : List (List ℕ) → Type 0) (settings : Settings) (s : Script) (status : ℕ) (old new : Devices S) (held : List ℕ)
+    → old.stock.keeper.held ≡ Some held → IsScriptRun kind handed settings s status old new
+    → (status ≡ 6 → IsRefusedImage (size_in kind old.stock.shelf) (length old.stock.shelf) held)
+    × (IsRefusedImage (size_in kind old.stock.shelf) (length old.stock.shelf) held → status ≢ 4 → status ≢ 7 → status ≢ 8 → status ≡ 6)
+script_image kind handed settings script.Read status old new held held_is run = run_image kind handed settings status old new held held_is run
+script_image kind handed settings (script.Generated recipe) status old new held held_is run =
+    run_image kind handed settings status (with_script recipe old) (with_text run.left run.faults run.text new) held held_is run.run
+
 -- status 6 comes exactly where an image is refused
-pub program_image : {S : Type 0} (kind : StoreKind S) (handed : List (List ℕ) → Type 0) (asked : Option Numbers) (status : ℕ) (old new : Devices S) (held : List ℕ)
+pub program_image : {S : Type 0} (kind : StoreKind S) (handed : List (List ℕ) → Type 0) (asked : Option Request) (status : ℕ) (old new : Devices S) (held : List ℕ)
     → old.stock.keeper.held ≡ Some held → IsProgramRun kind handed asked status old new
     → (status ≡ 6) ↔ ((status ≢ 2) × (status ≢ 4) × (status ≢ 7) × (status ≢ 8) × IsRefusedImage (size_in kind old.stock.shelf) (length old.stock.shelf) held)
 program_image kind handed None status old new held held_is run = (
@@ -178,7 +202,7 @@ program_image kind handed None status old new held held_is run = (
 )
 program_image kind handed (Some asked) status old new held held_is (inl (d, untouched)) = (λ e. absurd (omega (arith, d, e)), λ all. absurd (all.2 d))
 program_image kind handed (Some asked) status old new held held_is (inr run) =
-    let (only, due) = run_image kind handed run.settings status old new held held_is run.run in (
+    let (only, due) = script_image kind handed run.settings asked.script status old new held held_is run.run in (
       λ e. (λ d. omega (arith, d, e), λ d. omega (arith, d, e), λ d. omega (arith, d, e), λ d. omega (arith, d, e), only e),
       λ all. due all.4 all.1 all.2 all.3,
     )

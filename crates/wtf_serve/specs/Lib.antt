@@ -12,6 +12,7 @@ pub mod Traces
 pub mod Endings
 pub mod Unopened
 pub mod Beginnings
+pub mod Generated
 pub mod Program
 pub use Rattle.wtf_words.specs.Words
 pub use Rattle.wtf_image.specs.Rules

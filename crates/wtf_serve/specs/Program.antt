@@ -1,20 +1,28 @@
 -- What the program promises of its run, by the words that it is given.
 use Rattle.std.specs.Prelude.{◌≡◌, ◌⊎◌, ◌<◌, ℕ, List, Option, Some, None, [], ◌∷◌, ⊤}
 use Rattle.wtf_base.specs.declared.settings.Settings.{Settings}
-use Rattle.wtf_words.specs.Words.{Numbers, numbers}
+use Rattle.wtf_words.specs.Words.{Numbers, numbers, Request}
+use Rattle.wtf_words.specs.declared.Script.{Script}
+use Rattle.wtf_words.specs.declared.Script.TheVariants as script
 use Rattle.wtf_dev.specs.Store.{StoreKind}
 use Rattle.wtf_image.specs.Rows.{ImageRows}
 use Rattle.wtf_image.specs.Images.{HasText}
 use Rattle.wtf_image.specs.Rules.{AreGoodSettings}
 use Rattle.wtf_serve.specs.Endings.{Devices}
+use Rattle.wtf_serve.specs.Generated.{IsGeneratedRun}
 use Rattle.wtf_serve.specs.Unopened.{IsRun}
 
--- a whole run over the servers and copies that were asked for
-pub record IsRunOf {S : Type 0} (kind : StoreKind S) (handed : List (List ℕ) → Type 0) (asked : Numbers) (status : ℕ)
+-- a whole run of a script, by where that comes from
+abbrev pub IsScriptRun : {S : Type 0} → StoreKind S → (List (List ℕ) → Type 0) → Settings → Script → ℕ → Devices S → Devices S → Type 0
+IsScriptRun kind handed settings script.Read status old new = IsRun kind handed settings status old new
+IsScriptRun kind handed settings (script.Generated recipe) status old new = IsGeneratedRun kind handed settings recipe status old new
+
+-- a whole run over the servers and copies, and of the script, that were asked for
+pub record IsRunOf {S : Type 0} (kind : StoreKind S) (handed : List (List ℕ) → Type 0) (asked : Request) (status : ℕ)
     (old new : Devices S) : Type 0 where
   pub settings : Settings
-  pub asked_is : numbers settings ≡ asked
-  pub run : IsRun kind handed settings status old new
+  pub asked_is : numbers settings ≡ asked.numbers
+  pub run : IsScriptRun kind handed settings asked.script status old new
 
 -- no device was touched, and nothing was handed to the keeper
 abbrev pub IsUntouched : {S : Type 0} → (List (List ℕ) → Type 0) → Devices S → Devices S → Type 0
@@ -22,7 +30,7 @@ IsUntouched handed old new = (new ≡ old) × handed []
 
 -- a run of the program by what its words ask for: words that are refused touch nothing, nor does a want of memory that
 -- comes before they are read
-abbrev pub IsProgramRun : {S : Type 0} → StoreKind S → (List (List ℕ) → Type 0) → Option Numbers → ℕ → Devices S → Devices S → Type 0
+abbrev pub IsProgramRun : {S : Type 0} → StoreKind S → (List (List ℕ) → Type 0) → Option Request → ℕ → Devices S → Devices S → Type 0
 IsProgramRun kind handed None status old new = ((status ≡ 2) ⊎ (status ≡ 7)) × IsUntouched handed old new
 IsProgramRun kind handed (Some asked) status old new =
     ((status ≡ 7) × IsUntouched handed old new) ⊎ IsRunOf kind handed asked status old new
@@ -40,6 +48,6 @@ IsFew asked [] stores = stores < asked.servers
 IsFew asked (b ∷ bytes) stores = HasManyServers (b ∷ bytes) stores
 
 -- The words are refused, or so many stores cannot serve what they ask for, where the keeper holds these bytes
-abbrev pub IsRefused : Option Numbers → List ℕ → ℕ → Type 0
+abbrev pub IsRefused : Option Request → List ℕ → ℕ → Type 0
 IsRefused None held stores = ⊤
-IsRefused (Some asked) held stores = IsFew asked held stores
+IsRefused (Some asked) held stores = IsFew asked.numbers held stores

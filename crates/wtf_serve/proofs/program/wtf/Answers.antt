@@ -1,33 +1,56 @@
 use Rattle.std.proofs.Common.{◌≡◌, ℕ, List, Option, Some, inr, refl, sym, subst}
-use Rattle.wtf_base.specs.declared.settings.Settings.{Settings}
 use Rattle.wtf_dev.specs.Store.{StoreKind}
-use Rattle.wtf_words.specs.Words.{Numbers, numbers}
+use Rattle.wtf_words.specs.Words.{Request, request}
+use Rattle.wtf_words.specs.declared.Asked.{Asked}
+use Rattle.wtf_words.specs.declared.Script.{Script}
+use Rattle.wtf_words.specs.declared.Script.TheVariants as script
 use Rattle.wtf_serve.specs.Endings.{Devices}
-use Rattle.wtf_serve.specs.Unopened.{IsRun}
-use Rattle.wtf_serve.specs.Program.{IsProgramRun}
+use Rattle.wtf_serve.specs.Program.{IsProgramRun, IsScriptRun}
 use Rattle.wtf_serve.proofs.Refusing.{program_status, words_status, program_refused, program_image}
 use Rattle.wtf_serve.proofs.program.wtf.Goals as goal
 
--- a run with the settings that the words ask for
-ran : {S : Type 0} (kind : StoreKind S) (handed : List (List ℕ) → Type 0) (asked : Option Numbers) (status : ℕ) (old new : Devices S) (settings : Settings)
-    → asked ≡ Some (numbers settings) → IsRun kind handed settings status old new → IsProgramRun kind handed asked status old new
-ran kind handed asked status old new settings is run =
-    subst (λ (o : Option Numbers). IsProgramRun kind handed o status old new) (sym is) (inr (record { settings = settings; asked_is = refl; run = run }))
+-- a run of the script that the words ask for, with the settings that they ask for
+ran : {S : Type 0} (kind : StoreKind S) (handed : List (List ℕ) → Type 0) (asked : Option Request) (status : ℕ) (old new : Devices S) (a : Asked) (s : Script)
+    → a.script ≡ s → asked ≡ Some (request a) → IsScriptRun kind handed a.settings s status old new → IsProgramRun kind handed asked status old new
+ran kind handed asked status old new a s from is run =
+    subst (λ (o : Option Request). IsProgramRun kind handed o status old new) (sym is) (inr (record {
+      settings = a.settings;
+      asked_is = refl;
+      run = subst (λ (x : Script). IsScriptRun kind handed a.settings x status old new) (sym from) run;
+    }))
 
-pub returns-clause-served : goal.returns-clause-served
-returns-clause-served g c =
-    ran g.S.SliceStore.kind (g.K.Keeper.follows c.args.keeper.now c.serve.new.keeper) _ c.serve.result _ _ c.in-Ok.settings c.in-Ok.ensures.asked c.serve.ensures.served
+pub returns-in-Read-clause-served : goal.returns-in-Read-clause-served
+returns-in-Read-clause-served g c =
+    ran g.S.SliceStore.kind (g.K.Keeper.follows c.args.keeper.now c.serve-status.new.keeper) _ c.serve-status.result _ _ c.in-Ok.asked script.Read c.in-Read.is c.in-Ok.ensures.asked c.serve-status.ensures.served
 
-pub returns-clause-statuses : goal.returns-clause-statuses
-returns-clause-statuses g c = program_status g.S.SliceStore.kind (g.K.Keeper.follows c.args.keeper.now c.serve.new.keeper) _ c.serve.result _ _ (returns-clause-served g c)
+pub returns-in-Read-clause-statuses : goal.returns-in-Read-clause-statuses
+returns-in-Read-clause-statuses g c = program_status g.S.SliceStore.kind (g.K.Keeper.follows c.args.keeper.now c.serve-status.new.keeper) _ c.serve-status.result _ _ (returns-in-Read-clause-served g c)
 
-pub returns-clause-words : goal.returns-clause-words
-returns-clause-words g c = words_status g.S.SliceStore.kind (g.K.Keeper.follows c.args.keeper.now c.serve.new.keeper) _ c.serve.result _ _ (returns-clause-served g c)
+pub returns-in-Read-clause-words : goal.returns-in-Read-clause-words
+returns-in-Read-clause-words g c = words_status g.S.SliceStore.kind (g.K.Keeper.follows c.args.keeper.now c.serve-status.new.keeper) _ c.serve-status.result _ _ (returns-in-Read-clause-served g c)
 
-pub returns-clause-refused : goal.returns-clause-refused
-returns-clause-refused g c = λ held held_is.
-    program_refused g.S.SliceStore.kind (g.K.Keeper.follows c.args.keeper.now c.serve.new.keeper) _ c.serve.result _ _ held held_is (returns-clause-served g c)
+pub returns-in-Read-clause-refused : goal.returns-in-Read-clause-refused
+returns-in-Read-clause-refused g c = λ held held_is.
+    program_refused g.S.SliceStore.kind (g.K.Keeper.follows c.args.keeper.now c.serve-status.new.keeper) _ c.serve-status.result _ _ held held_is (returns-in-Read-clause-served g c)
 
-pub returns-clause-image : goal.returns-clause-image
-returns-clause-image g c = λ held held_is.
-    program_image g.S.SliceStore.kind (g.K.Keeper.follows c.args.keeper.now c.serve.new.keeper) _ c.serve.result _ _ held held_is (returns-clause-served g c)
+pub returns-in-Read-clause-image : goal.returns-in-Read-clause-image
+returns-in-Read-clause-image g c = λ held held_is.
+    program_image g.S.SliceStore.kind (g.K.Keeper.follows c.args.keeper.now c.serve-status.new.keeper) _ c.serve-status.result _ _ held held_is (returns-in-Read-clause-served g c)
+
+pub returns-in-Generated-clause-served : goal.returns-in-Generated-clause-served
+returns-in-Generated-clause-served g c =
+    ran g.S.SliceStore.kind (g.K.Keeper.follows c.args.keeper.now c.serve_generated-status.new.keeper) _ c.serve_generated-status.result _ _ c.in-Ok.asked (script.Generated c.in-Generated.recipe) c.in-Generated.is c.in-Ok.ensures.asked (c.serve_generated-status.ensures.served (g.I.Source.view c.args.script.now))
+
+pub returns-in-Generated-clause-statuses : goal.returns-in-Generated-clause-statuses
+returns-in-Generated-clause-statuses g c = program_status g.S.SliceStore.kind (g.K.Keeper.follows c.args.keeper.now c.serve_generated-status.new.keeper) _ c.serve_generated-status.result _ _ (returns-in-Generated-clause-served g c)
+
+pub returns-in-Generated-clause-words : goal.returns-in-Generated-clause-words
+returns-in-Generated-clause-words g c = words_status g.S.SliceStore.kind (g.K.Keeper.follows c.args.keeper.now c.serve_generated-status.new.keeper) _ c.serve_generated-status.result _ _ (returns-in-Generated-clause-served g c)
+
+pub returns-in-Generated-clause-refused : goal.returns-in-Generated-clause-refused
+returns-in-Generated-clause-refused g c = λ held held_is.
+    program_refused g.S.SliceStore.kind (g.K.Keeper.follows c.args.keeper.now c.serve_generated-status.new.keeper) _ c.serve_generated-status.result _ _ held held_is (returns-in-Generated-clause-served g c)
+
+pub returns-in-Generated-clause-image : goal.returns-in-Generated-clause-image
+returns-in-Generated-clause-image g c = λ held held_is.
+    program_image g.S.SliceStore.kind (g.K.Keeper.follows c.args.keeper.now c.serve_generated-status.new.keeper) _ c.serve_generated-status.result _ _ held held_is (returns-in-Generated-clause-served g c)
