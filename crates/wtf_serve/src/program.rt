@@ -93,5 +93,6 @@ fn serve_generated<O: Sink, S: SliceStore, K: Keeper>(
     let mut script = GeneratedScript::new(recipe.number, recipe.lines);
     let mut shown = Summarizing::new(out, recipe.lines);
     let status = serve(alloc, settings, &mut script, &mut shown, shelf, keeper);
+    let _ = shown.finish();
     status
 }
