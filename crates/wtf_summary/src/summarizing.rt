@@ -22,6 +22,7 @@ impl<'a, O: Sink> Summarizing<'a, O> {
     pub fn new(out: &'a mut O, lines: u64) -> Summarizing<'a, O>
         requires { 1 ≤ lines }
         ensures same_sink { result.out.ghost_name ≡ out.entry.ghost_name }
+        ensures untouched { result.out.now ≡ out.old }
         ensures lines { result.state.lines ≡ lines }
         ensures first { result.state.trace.first.numbers ≡ numbers_of (O.view out.old) }
         ensures text { result.state.trace.text.numbers ≡ [] }
