@@ -6,7 +6,7 @@
 DIR := -
 WORDS :=
 
-build: ## prove all crates side by side, put the programs at build/wtf and build/wtf_file
+build: ## prove all crates side by side, put the programs in build/: wtf, wtf_file, wtf_check
 	@tools/build
 
 demo: ## run examples/ and compare, built fast, unproved (1 to 2 minutes)
