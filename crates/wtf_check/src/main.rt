@@ -1,6 +1,9 @@
 //! The program that says whether the output of a run is lawful.
 #![tactic(auto)]
 
+ghost use Rattle.std.specs.Prelude.{◌≡◌};
+ghost use Rattle.wtf_check.specs.Program.{open_status};
+
 use std::env::{self, Env, FillError};
 use std::fs::File;
 use std::process::ExitCode;
@@ -37,7 +40,9 @@ fn are_two(rt: &HostRuntime) -> bool {
 }
 
 /// The status of files that could not be opened.
-fn open_status(fault: OpenFault) -> u8 {
+fn open_status(fault: OpenFault) -> u8
+    ensures { result ≡ open_status fault }
+{
     match fault {
         OpenFault::Failed => NO_FILES,
         OpenFault::Memory => OUT_OF_MEMORY,
