@@ -6,5 +6,5 @@ pub const SCRIPT_BYTES: u64 = 1_073_741_824;
 /// The most bytes of a line, without its line feed.
 pub const LINE_BYTES: usize = 65_536;
 
-/// The most bytes that are asked of a source at once.
-pub(crate) const CHUNK_BYTES: usize = 65_536;
+/// The most bytes that are asked of a source at once, and so the most that are held behind a line.
+pub const CHUNK_BYTES: usize = 65_536;

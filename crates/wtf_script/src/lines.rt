@@ -4,6 +4,7 @@ ghost use Rattle.std.specs.Prelude.{◌≡◌, ◌↔◌, ℕ, ◌+◌, ◌-◌,
 ghost use Rattle.std.specs.List.{Contains};
 ghost use Rattle.wtf_dev.specs.Counts.{Rose};
 ghost use Rattle.wtf_script.specs.ScriptLines.{line_feed, HasNoFeed};
+ghost use Rattle.wtf_script.specs.declared.limits.TheConstants.{CHUNK_BYTES};
 
 use crate::ReadError;
 use crate::limits::{CHUNK_BYTES, LINE_BYTES, SCRIPT_BYTES};
@@ -93,6 +94,7 @@ impl Lines {
 
         // The source is left alone where a line, the end or too much is held.
         ensures held { Contains self.old.bytes line_feed → source.new ≡ source.old }
+        ensures few { length self.new.bytes ≤ CHUNK_BYTES }
         ensures not_asked { self.old.ended ≡ true → source.new ≡ source.old }
         ensures full { SCRIPT_BYTES < self.old.count → source.new ≡ source.old }
 
@@ -124,6 +126,7 @@ impl Lines {
         requires { length line.old.items ≤ LINE_BYTES + 1 }
         ensures parts { Parts self.old.bytes line.old.items self.new.bytes line.new.items result }
         ensures len { length line.new.items ≤ LINE_BYTES + 1 }
+        ensures few { length self.new.bytes ≤ CHUNK_BYTES }
         ensures count { self.new.count ≡ self.old.count }
         ensures ended { self.new.ended ≡ self.old.ended }
     {
@@ -153,6 +156,7 @@ impl Lines {
         ensures given { Draws self.old self.new (I.view source.old) (I.view source.new) }
         ensures held { self.new.count ≡ self.old.count + length self.new.bytes }
         ensures limit { self.new.count ≤ SCRIPT_BYTES + 1 }
+        ensures few { length self.new.bytes ≤ CHUNK_BYTES }
         ensures some { result ≡ Ok true → (0 < length self.new.bytes) ×
             (self.new.count ≤ SCRIPT_BYTES) × (self.new.ended ≡ false) }
         ensures none { result ≡ Ok false → (self.new.bytes ≡ []) × (self.new.ended ≡ true) }
