@@ -11,7 +11,7 @@ use Rattle.wtf_carry.specs.declared.stop.Stop.TheVariants as stop
 use Rattle.wtf_carry.specs.declared.TheConstants.{MOST_BYTES}
 use Rattle.wtf_carry.specs.Asked.{Asked, Asks, text_of, turn, carried, writes, begin_line, try_line, create_line, open_line, write_line}
 use Rattle.wtf_carry.specs.Ways.{IsWayUp, mkdirs}
-use Rattle.wtf_carry.specs.Puts.{head_lines, joined, IsPiece, Puts, HasHead, Carries, CarriesEnd, CarriesTo, Sofar}
+use Rattle.wtf_carry.specs.Puts.{head_lines, joined, IsPiece, Puts, HasHead, Carries, CarriesEnd, CarriesTo, passage, Sofar}
 use Rattle.wtf_carry.proofs.Events.{begin-asks, try-asks, create-asks, open-asks, write-asks}
 use Rattle.wtf_carry.proofs.Carried.{text_of-append, total-push, carried-push, joined-push, joined-size, carried-asks, mkdirs-ask}
 
@@ -36,7 +36,7 @@ joined_text : (old : List ℕ) (xs ys : List Asked) → (old ++ text_of xs) ++ t
 joined_text old xs ys = append_assoc old (text_of xs) (text_of ys) ∙ ap (λ (l : List ℕ). old ++ l) (sym (text_of-append xs ys))
 
 pub sofar-more : (path all old : List ℕ) (i at n : ℕ) (left new left' new' : Option (List ℕ)) (s : Sofar path all old i at left new)
-    → Carries path i at n s.rest (old ++ text_of (head_lines path s.up ++ carried writes path 0 0 s.pieces)) left' new' → Sofar path all old (i + 1) (at + n) left' new'
+    → Carries path i at n (passage s.rest (old ++ text_of (head_lines path s.up ++ carried writes path 0 0 s.pieces)) left' new') → Sofar path all old (i + 1) (at + n) left' new'
 sofar-more path all old i at n left new left' new' s c =
     let head = head_lines path s.up in
     let before = carried writes path 0 0 s.pieces in
@@ -94,7 +94,7 @@ sofar-too_long path all old i at left new s h =
 
 pub carries-one : (path : List ℕ) (i at n : ℕ) (rest old out piece text : List ℕ) (left new : Option (List ℕ)) → n ≤ length rest → take n out ≡ take n rest
     → left ≡ Some (drop n rest) → piece ≡ take n out → 1 ≤ n → n ≤ MAX_WRITTEN → IsBytes piece
-    → text ≡ text_of (turn try_line path i at ++ write_line piece ∷ []) → new ≡ Some (old ++ text) → Carries path i at n rest old left new
+    → text ≡ text_of (turn try_line path i at ++ write_line piece ∷ []) → new ≡ Some (old ++ text) → Carries path i at n (passage rest old left new)
 carries-one path i at n rest old out piece text left new short same from is some most bytes lines to =
     let p : piece ≡ take n rest = is ∙ same in
     let size : length piece ≡ n = ap length p ∙ length-take-le n rest short in
@@ -108,14 +108,14 @@ carries-one path i at n rest old out piece text left new short same from is some
       new_is = to ∙ ap Some (ap (λ (l : List ℕ). old ++ l) lines);
     }
 
-pub carries-some : (path : List ℕ) (i at n : ℕ) (rest old : List ℕ) (left new : Option (List ℕ)) (came : Option ℕ) → came ≡ Some n → CarriesTo path i at rest old left new (Ok came)
-    → Carries path i at n rest old left new
-carries-some path i at n rest old left new came e c = let P : Option ℕ → Type 0 = λ o. CarriesTo path i at rest old left new (Ok o) in subst P e c
+pub carries-some : (path : List ℕ) (i at n : ℕ) (rest old : List ℕ) (left new : Option (List ℕ)) (came : Option ℕ) → came ≡ Some n → CarriesTo path i at (passage rest old left new) (Ok came)
+    → Carries path i at n (passage rest old left new)
+carries-some path i at n rest old left new came e c = let P : Option ℕ → Type 0 = λ o. CarriesTo path i at (passage rest old left new) (Ok o) in subst P e c
 
-pub carries-none : (path : List ℕ) (i at : ℕ) (rest old : List ℕ) (left new : Option (List ℕ)) (came : Option ℕ) → came ≡ None → CarriesTo path i at rest old left new (Ok came)
-    → CarriesEnd rest old left new
-carries-none path i at rest old left new came e c = let P : Option ℕ → Type 0 = λ o. CarriesTo path i at rest old left new (Ok o) in subst P e c
+pub carries-none : (path : List ℕ) (i at : ℕ) (rest old : List ℕ) (left new : Option (List ℕ)) (came : Option ℕ) → came ≡ None → CarriesTo path i at (passage rest old left new) (Ok came)
+    → CarriesEnd (passage rest old left new)
+carries-none path i at rest old left new came e c = let P : Option ℕ → Type 0 = λ o. CarriesTo path i at (passage rest old left new) (Ok o) in subst P e c
 
 pub carries-too_long : (path : List ℕ) (i at : ℕ) (rest old : List ℕ) (left new : Option (List ℕ)) (result : Result (Option ℕ) Stop) → result ≡ Err stop.TooLong
-    → CarriesTo path i at rest old left new result → MOST_BYTES < at + length rest
-carries-too_long path i at rest old left new result e c = let P : Result (Option ℕ) Stop → Type 0 = λ r. CarriesTo path i at rest old left new r in subst P e c
+    → CarriesTo path i at (passage rest old left new) result → MOST_BYTES < at + length rest
+carries-too_long path i at rest old left new result e c = let P : Result (Option ℕ) Stop → Type 0 = λ r. CarriesTo path i at (passage rest old left new) r in subst P e c

@@ -46,27 +46,37 @@ pub record HasHead (path old new : List ℕ) : Type 0 where
   pub way : IsWayUp path up
   pub new_is : new ≡ old ++ text_of (head_lines path up)
 
+-- what the source had and has left, and what the sink had and has taken
+pub record Passage : Type 0 where
+  pub rest : List ℕ
+  pub old : List ℕ
+  pub left : Option (List ℕ)
+  pub new : Option (List ℕ)
+
+abbrev pub passage : List ℕ → List ℕ → Option (List ℕ) → Option (List ℕ) → Passage
+passage rest old left new = record { rest = rest; old = old; left = left; new = new }
+
 -- a piece of n bytes was read and its lines written
-pub record Carries (path : List ℕ) (i at n : ℕ) (rest old : List ℕ) (left new : Option (List ℕ)) : Type 0 where
+pub record Carries (path : List ℕ) (i at n : ℕ) (p : Passage) : Type 0 where
   pub piece : List ℕ
   pub then : List ℕ
-  pub rest_is : rest ≡ piece ++ then
-  pub left_is : left ≡ Some then
+  pub rest_is : p.rest ≡ piece ++ then
+  pub left_is : p.left ≡ Some then
   pub count : length piece ≡ n
   pub is : IsPiece piece
-  pub new_is : new ≡ Some (old ++ text_of (turn try_line path i at ++ write_line piece ∷ []))
+  pub new_is : p.new ≡ Some (p.old ++ text_of (turn try_line path i at ++ write_line piece ∷ []))
 
 -- nothing is left
-pub record CarriesEnd (rest old : List ℕ) (left new : Option (List ℕ)) : Type 0 where
-  pub rest_is : rest ≡ []
-  pub new_is : new ≡ Some old
+pub record CarriesEnd (p : Passage) : Type 0 where
+  pub rest_is : p.rest ≡ []
+  pub new_is : p.new ≡ Some p.old
 
 -- what came of asking for a piece
-abbrev pub CarriesTo : List ℕ → ℕ → ℕ → List ℕ → List ℕ → Option (List ℕ) → Option (List ℕ) → Result (Option ℕ) Stop → Type 0
-CarriesTo path i at rest old left new (Ok (Some n)) = Carries path i at n rest old left new
-CarriesTo path i at rest old left new (Ok None) = CarriesEnd rest old left new
-CarriesTo path i at rest old left new (Err stop.TooLong) = MOST_BYTES < at + length rest
-CarriesTo path i at rest old left new (Err why) = Unit {0}
+abbrev pub CarriesTo : List ℕ → ℕ → ℕ → Passage → Result (Option ℕ) Stop → Type 0
+CarriesTo path i at p (Ok (Some n)) = Carries path i at n p
+CarriesTo path i at p (Ok None) = CarriesEnd p
+CarriesTo path i at p (Err stop.TooLong) = MOST_BYTES < at + length p.rest
+CarriesTo path i at p (Err why) = Unit {0}
 
 -- so far i pieces of `all`, of `at` bytes together, were read and their lines written
 pub record Sofar (path all old : List ℕ) (i at : ℕ) (left new : Option (List ℕ)) : Type 0 where

@@ -4,7 +4,7 @@ ghost use Rattle.std.specs.Prelude.{◌≡◌, ◌≢◌, ◌≤◌, ◌<◌, �
 ghost use Rattle.wtf_dev.specs.Counts.{Rose};
 ghost use Rattle.hex.specs.Hex.{IsBytes};
 ghost use Rattle.wtf_carry.specs.Asked.{text_of, turn, try_line, write_line};
-ghost use Rattle.wtf_carry.specs.Puts.{Puts, HasHead, CarriesTo};
+ghost use Rattle.wtf_carry.specs.Puts.{Puts, HasHead, CarriesTo, passage};
 
 use crate::lines::{push_line, push_turn, push_ways, push_write};
 use crate::stream::write_all;
@@ -79,8 +79,8 @@ fn carry<I: Source, O: Sink>(
     requires within { at ≤ MOST_BYTES }
     requires room { length piece.old ≡ PIECE_BYTES }
     ensures carried { (rest old : List ℕ) → (I.view from.old).rest ≡ Some rest →
-        (O.view out.old).taken ≡ Some old → CarriesTo path.now i at rest old
-        (I.view from.new).rest (O.view out.new).taken result }
+        (O.view out.old).taken ≡ Some old → CarriesTo path.now i at
+        (passage rest old (I.view from.new).rest (O.view out.new).taken) result }
     ensures some { IfOk result (λ came. IfSome came (λ n. 1 ≤ n)) }
     ensures within { IfOk result (λ came. IfSome came (λ n. at + n ≤ MOST_BYTES)) }
     ensures from_faults { (I.view from.old).faults ≤ (I.view from.new).faults }

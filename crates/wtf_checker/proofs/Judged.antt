@@ -18,7 +18,7 @@ use Rattle.wtf_print.specs.Texts.{text_of}
 use Rattle.wtf_checker.specs.declared.verdict.Verdict.TheVariants as verdict
 use Rattle.wtf_checker.specs.Lawful.{line_from, line_of, asked_in, BeginsWith, first, first_text, IsTold, AreLawful, IsRefused, HasNoSettings}
 use Rattle.wtf_checker.specs.Reading.{IsReading, IsRead, HasNext}
-use Rattle.wtf_checker.specs.Judging.{IsAnswered, IsWithin, IsLawfulSoFar, Judges, end_of}
+use Rattle.wtf_checker.specs.Judging.{IsAnswered, IsWithin, IsLawfulSoFar, place, Judges, end_of}
 use Rattle.wtf_checker.proofs.Scripted.{told_front}
 use Rattle.wtf_checker.proofs.Cuts.{no_line, one_line}
 
@@ -31,7 +31,7 @@ unfolding state_after
 no_line_after m = refl
 
 pub sofar_first : (start now : SourceView) (held : Held) (settings : Settings) (output answers : List ℕ) (m : Machine) → IsReading start now held [] → m ≡ first settings
-    → BeginsWith (first_text settings) answers output → IsLawfulSoFar start now held settings output answers 0 m
+    → BeginsWith (first_text settings) answers output → IsLawfulSoFar start (place now held) settings output answers 0 m
 sofar_first start now held settings output answers m reading is begins = record {
   lines = [];
   reading = reading;
@@ -71,8 +71,8 @@ machine_push settings lines given left rest behind m next line are is a =
     ∙ sym (state_after-push after_line (first settings) lines given line a.answer (AlongBy-lengths after_line MayLine (first settings) lines given are.lawful))
 
 pub sofar_more : (start now next : SourceView) (held held' : Held) (settings : Settings) (output left rest : List ℕ) (n : ℕ) (m m' : Machine) (asked : Result Event Kind)
-    → (s : IsLawfulSoFar start now held settings output left n m) → HasNext start next held' s.lines asked → IsAnswered m (line_from asked) left rest m'
-    → IsLawfulSoFar start next held' settings output rest (n + 1) m'
+    → (s : IsLawfulSoFar start (place now held) settings output left n m) → HasNext start next held' s.lines asked → IsAnswered m (line_from asked) left rest m'
+    → IsLawfulSoFar start (place next held') settings output rest (n + 1) m'
 sofar_more start now next held held' settings output left rest n m m' asked s h a =
     let push = sym (asked_push s.lines h.line asked h.asks) in
     record {
@@ -90,7 +90,7 @@ sofar_more start now next held held' settings output left rest n m m' asked s h 
 
 -- the next line is refused
 pub judged_refused : (start now next : SourceView) (held held' : Held) (settings : Settings) (output left : List ℕ) (n : ℕ) (m : Machine) (asked : Result Event Kind)
-    → (s : IsLawfulSoFar start now held settings output left n m) → HasNext start next held' s.lines asked → IsRefused m (line_from asked) left
+    → (s : IsLawfulSoFar start (place now held) settings output left n m) → HasNext start next held' s.lines asked → IsRefused m (line_from asked) left
     → Judges start output (Ok (verdict.Refused (n + 1)))
 judged_refused start now next held held' settings output left n m asked s h refused = λ script is.
     let f = told_front script next.rest held' (s.lines ++ h.line ∷ []) (h.reading.told script is) in
@@ -150,7 +150,7 @@ judged_whole start next held' settings output (b ∷ bs) n lines count read behi
     )
 
 pub judged_end : (start now next : SourceView) (held held' : Held) (settings : Settings) (output left : List ℕ) (n : ℕ) (m : Machine)
-    → (s : IsLawfulSoFar start now held settings output left n m) → IsRead start next held' s.lines → Judges start output (Ok (end_of n left))
+    → (s : IsLawfulSoFar start (place now held) settings output left n m) → IsRead start next held' s.lines → Judges start output (Ok (end_of n left))
 judged_end start now next held held' settings output left n m s read =
     judged_whole start next held' settings output left n s.lines s.count read s.behind s.begins s.given s.are
 

@@ -44,10 +44,18 @@ abbrev pub end_of : ℕ → List ℕ → Verdict
 end_of lines [] = verdict.Lawful lines
 end_of lines (b ∷ bs) = verdict.Refused (lines + 1)
 
+-- where the reading of a script stands: what is seen of the source now, and what the reader holds of it
+pub record Place : Type 0 where
+  pub source : SourceView
+  pub held : Held
+
+abbrev pub place : SourceView → Held → Place
+place source held = record { source = source; held = held }
+
 -- so many lines of the script were read, and answered lawfully; the machine is `m` now, and `left` stands behind their answers
-pub record IsLawfulSoFar (start now : SourceView) (held : Held) (settings : Settings) (output left : List ℕ) (n : ℕ) (m : Machine) : Type 0 where
+pub record IsLawfulSoFar (start : SourceView) (now : Place) (settings : Settings) (output left : List ℕ) (n : ℕ) (m : Machine) : Type 0 where
   pub lines : List (List ℕ)
-  pub reading : IsReading start now held lines
+  pub reading : IsReading start now.source now.held lines
   pub count : n ≡ length lines
   pub behind : List ℕ
   pub begins : BeginsWith (first_text settings) behind output

@@ -1,5 +1,5 @@
 -- What a byte, and the summary, make of what is kept.
-use Rattle.std.specs.Prelude.{◌≡◌, ℕ, ◌≤◌, List, [], ◌∷◌, ◌++◌, Some, Result, Ok, Err}
+use Rattle.std.specs.Prelude.{◌≡◌, ℕ, ◌≤◌, List, [], ◌∷◌, ◌++◌, Some, Result, Ok, Err, MatchResult}
 use Rattle.wtf_dev.specs.Counts.{Rose, risen}
 use Rattle.wtf_dev.specs.Streams.{SinkView}
 use Rattle.wtf_summary.specs.States.{IsSound}
@@ -17,13 +17,16 @@ pub record Steps {E : Type 0} (now : SinkView) (old new : State) (byte : ℕ) (r
   pub first : new.trace.first.numbers ≡ old.trace.first.numbers
   pub took : TookByte old new byte result
 
--- the summary, which this byte completed, was shown whole, or its front was, and then a fault was counted
-abbrev pub Showed : {E : Type 0} → SinkView → SinkView → List ℕ → ℕ → State → State → Result (Unit {0}) E → Type 0
-Showed before now summary last old new (Ok u) =
+-- the summary, which this byte completed, was shown whole
+abbrev pub ShowedWhole : SinkView → SinkView → List ℕ → State → State → Type 0
+ShowedWhole before now summary old new =
     (new.trace.seen.numbers ≡ old.trace.seen.numbers ++ summary) × (new.trace.rest.numbers ≡ old.trace.rest.numbers)
     × (new.trace.more.numbers ≡ old.trace.more.numbers) × (new.faults ≡ old.faults)
     × ((l : List ℕ) → before.taken ≡ Some l → now.taken ≡ Some (l ++ summary))
-Showed before now summary last old new (Err e) =
+
+-- or its front was, and then a fault was counted
+abbrev pub ShowedFront : SinkView → SinkView → List ℕ → ℕ → State → State → Type 0
+ShowedFront before now summary last old new =
     (new.trace.seen.numbers ++ new.trace.rest.numbers ≡ old.trace.seen.numbers ++ summary)
     × (new.trace.more.numbers ≡ last ∷ []) × (new.faults ≡ risen old.faults) × Rose before.faults now.faults
 
@@ -36,4 +39,4 @@ pub record ShowsSummary {E : Type 0} (before now : SinkView) (summary : List ℕ
   pub text : new.trace.text ≡ old.trace.text
   pub counted : before.faults ≤ now.faults
   pub added : (b : List ℕ) → before.taken ≡ Some (b ++ old.trace.seen.numbers) → now.taken ≡ Some (b ++ new.trace.seen.numbers)
-  pub showed : Showed before now summary last old new result
+  pub showed : MatchResult result (λ u. ShowedWhole before now summary old new) (λ e. ShowedFront before now summary last old new)
