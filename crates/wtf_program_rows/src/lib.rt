@@ -16,6 +16,8 @@ mod generated;
 #[cfg(test)]
 mod image;
 #[cfg(test)]
+mod retries;
+#[cfg(test)]
 mod rows;
 #[cfg(test)]
 mod runs;
