@@ -1,5 +1,6 @@
 pub mod Spans
 pub mod Recording
+pub mod LaidLaws
 pub mod PieceEdits
 pub mod ShowLaws
 pub mod InsideLaws

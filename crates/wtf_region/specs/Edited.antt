@@ -15,6 +15,7 @@ use Rattle.wtf_meta.specs.Appends.{FileKey, keys_of, append_keys, Appends, HasNo
 use Rattle.wtf_region.specs.declared.added.Added.{Added}
 use Rattle.wtf_region.specs.declared.added.Added.TheVariants.{Done, TooBig}
 use Rattle.wtf_region.specs.declared.ends.FileEnd.{FileEnd}
+use Rattle.wtf_region.specs.Laid.{ArePushes, IsLaid, IsAppend}
 
 -- an attempt recorded these of a file's keys and made no change
 abbrev pub Recorded : InodeId → List FileKey → Attempted Key Delta → Attempted Key Delta → Type 0
@@ -30,19 +31,24 @@ pub record Edited (i : InodeId) (keys : List FileKey) (F : List FileEdit → Typ
 abbrev pub NamesOnly : InodeId → List Piece → List FileEdit → Type 0
 NamesOnly i ps ds = (P : List Place → Bool) → PiecesBytes P ps → EditsBytes P (edits_of i ds)
 
--- the changes lay the first n bytes of a piece over every file's regions from off on, and name no other bytes than its own
+-- the changes lay the first n bytes of a piece over every file's regions from off on, and name no other bytes than its own;
+-- they are its entries, and nothing else
 pub record CoversPart (b off : ℕ) (i : InodeId) (p : Piece) (n : ℕ) (ds : List FileEdit) : Type 0 where
   pub covers : Covers b ds off n (part_origin p.part)
+  pub exact : ArePushes b off p.len (part_origin p.part) 0 ds n
   pub names : (P : List Place → Bool) → PartBytes P p.len p.part → EditsBytes P (edits_of i ds)
 
--- the changes lay pieces over every file from off on, and name no other bytes
+-- the changes lay pieces over every file from off on, and name no other bytes; they are these, and nothing else
 pub record LaysPieces (b off : ℕ) (i : InodeId) (ps : List Piece) (ds : List FileEdit) : Type 0 where
   pub lays : Lays b ds off (pieces_len ps) (pieces_origin ps)
+  pub exact : IsLaid b off ps ds
   pub names : NamesOnly i ps ds
 
--- whatever file the changes meet that agrees with the one that was read, they add the pieces at its own end
+-- whatever file the changes meet that agrees with the one that was read, they add the pieces at its own end; they are
+-- those of an append to the file that was read, and nothing else
 pub record AddsPieces (b : ℕ) (i : InodeId) (read : FileView) (ps : List Piece) (ds : List FileEdit) : Type 0 where
   pub appends : Appends b read (append_keys b read (pieces_len ps)) ds (pieces_len ps) (pieces_origin ps)
+  pub exact : IsAppend b read ps ds
   pub names : NamesOnly i ps ds
 
 -- a file ends there

@@ -4,6 +4,7 @@ use Rattle.wtf_overlay.specs.declared.part.Part.{Part}
 use Rattle.wtf_meta.specs.FileEdits.{Push}
 use Rattle.wtf_region.specs.Edited.{Edited, CoversPart}
 use Rattle.wtf_region.proofs.Recording.{Edited-none, Edited-more}
+use Rattle.wtf_region.proofs.LaidLaws.{entry_whole}
 use Rattle.wtf_region.proofs.PieceEdits.{Edited-one, part_none, part_more}
 use Rattle.wtf_region.proofs.changing.put_piece.Goals as goal
 
@@ -30,5 +31,6 @@ loop-done-preserved c =
           (Edited-more i [] [] (CoversPart b off i p done) (λ ds. ds ≡ Push r e ∷ []) (CoversPart b off i p (done + e.len)) c.args.at.now c.loop-done.at c.delta.new.self
           c.loop-done.invariant.made (Edited-one i (Push r e) c.loop-done.at c.delta.new.self c.in_ok-delta.ensures.ok)
           (part_more b off done r i p e c.requires.size (omega (arith, place.within, here.off, here.len)) (omega (arith, place.place, here.off)) (omega (arith, place.inside, here.len))
+          (entry_whole b done p.len c.part_at-part.result.off c.part_at-part.result.len e here.off here.len place.whole)
           (λ j. ap (λ (q : Part). part_origin q j) here.part ∙ c.part_of-held.ensures.origin j)));
     }
