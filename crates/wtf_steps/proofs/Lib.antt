@@ -1,4 +1,5 @@
 pub mod FitsAnywhere
+pub mod Making
 pub mod Ways
 pub mod FileWays
 pub mod AppendWays
