@@ -1,3 +1,4 @@
 pub mod Checked
+pub mod Changing
 pub mod Ways
 pub mod Going

@@ -1,12 +1,13 @@
 //! The calls that make a file and take it out.
 
-ghost use Rattle.std.specs.Prelude.{◌≡◌, ◌+◌, ◌++◌, IsTrue, IfOk, OnOk};
+ghost use Rattle.std.specs.Prelude.{◌≡◌, ◌+◌, IsTrue, IfOk, OnOk};
 ghost use Rattle.wtf_kv.specs.Stores.{is_pinned};
-ghost use Rattle.wtf_occ.specs.Attempts.{Grows};
+ghost use Rattle.wtf_occ.specs.Attempts.{Grows, GrowsBy};
 ghost use Rattle.wtf_model.specs.Steps.{IsLogged};
 ghost use Rattle.wtf_meta.specs.Maps.{seen};
 ghost use Rattle.wtf_meta.specs.Calls.{Caller, IsNameStep};
 ghost use Rattle.wtf_index.specs.Recorded.{target_keys, source_keys};
+ghost use Rattle.wtf_index.specs.Changed.{create_changes, unlink_changes};
 
 use crate::checks::{parent_path, source, target};
 use crate::edits::{make_file, take_file};
@@ -29,8 +30,8 @@ pub fn create(
     new: InodeId,
 ) -> Result<Answer, OutOfMemory>
     requires { IsTrue (is_pinned kv.now at.old.base) }
-    ensures keys { OnOk result
-        (at.new.reads ≡ at.old.reads ++ target_keys (seen kv.now at.old) p.now) }
+    ensures went { OnOk result (GrowsBy at.old at.new (target_keys (seen kv.now at.old) p.now)
+        (create_changes (seen kv.now at.old) p.now new)) }
     ensures step { IfOk result (λ a. (x : Caller) → new.tx.0 ≡ x.tx → new.index ≡ x.calls + 1 →
         IsNameStep x (seen kv.now at.old) at.old at.new (Op.Create p.now) a) }
     ensures logged { IfOk result (λ a. IsLogged a) }
@@ -53,7 +54,8 @@ pub fn unlink(
     p: &Path,
 ) -> Result<Answer, OutOfMemory>
     requires { IsTrue (is_pinned kv.now at.old.base) }
-    ensures keys { OnOk result (at.new.reads ≡ at.old.reads ++ source_keys p.now) }
+    ensures went { OnOk result (GrowsBy at.old at.new (source_keys p.now)
+        (unlink_changes (seen kv.now at.old) p.now)) }
     ensures step { IfOk result (λ a. (x : Caller) →
         IsNameStep x (seen kv.now at.old) at.old at.new (Op.Unlink p.now) a) }
     ensures logged { IfOk result (λ a. IsLogged a) }

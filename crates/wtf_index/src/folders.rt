@@ -1,13 +1,14 @@
 //! The calls on directories.
 
-ghost use Rattle.std.specs.Prelude.{◌≡◌, ◌++◌, List, IsTrue, IfOk, OnOk};
+ghost use Rattle.std.specs.Prelude.{◌≡◌, [], List, IsTrue, IfOk, OnOk};
 ghost use Rattle.wtf_kv.specs.Stores.{is_pinned};
-ghost use Rattle.wtf_occ.specs.Attempts.{Grows};
+ghost use Rattle.wtf_occ.specs.Attempts.{Grows, GrowsBy};
 ghost use Rattle.wtf_values.specs.Names.{names_in};
 ghost use Rattle.wtf_model.specs.Steps.{IsLogged};
 ghost use Rattle.wtf_meta.specs.Maps.{seen};
 ghost use Rattle.wtf_meta.specs.Calls.{Caller, IsNameStep};
 ghost use Rattle.wtf_index.specs.Recorded.{target_keys, directory_keys, rmdir_keys};
+ghost use Rattle.wtf_index.specs.Changed.{mkdir_changes, rmdir_changes};
 
 use crate::checks::{directory, parent_path, target};
 use crate::edits::{make_folder, take_folder};
@@ -28,8 +29,8 @@ pub fn mkdir(
     p: &Path,
 ) -> Result<Answer, OutOfMemory>
     requires { IsTrue (is_pinned kv.now at.old.base) }
-    ensures keys { OnOk result
-        (at.new.reads ≡ at.old.reads ++ target_keys (seen kv.now at.old) p.now) }
+    ensures went { OnOk result (GrowsBy at.old at.new (target_keys (seen kv.now at.old) p.now)
+        (mkdir_changes (seen kv.now at.old) p.now)) }
     ensures step { IfOk result (λ a. (x : Caller) →
         IsNameStep x (seen kv.now at.old) at.old at.new (Op.Mkdir p.now) a) }
     ensures logged { IfOk result (λ a. IsLogged a) }
@@ -52,8 +53,8 @@ pub fn rmdir(
     p: &Path,
 ) -> Result<Answer, OutOfMemory>
     requires { IsTrue (is_pinned kv.now at.old.base) }
-    ensures keys { OnOk result
-        (at.new.reads ≡ at.old.reads ++ rmdir_keys (seen kv.now at.old) p.now) }
+    ensures went { OnOk result (GrowsBy at.old at.new (rmdir_keys (seen kv.now at.old) p.now)
+        (rmdir_changes (seen kv.now at.old) p.now)) }
     ensures step { IfOk result (λ a. (x : Caller) →
         IsNameStep x (seen kv.now at.old) at.old at.new (Op.Rmdir p.now) a) }
     ensures logged { IfOk result (λ a. IsLogged a) }
@@ -82,8 +83,8 @@ pub fn list(
     p: &Path,
 ) -> Result<Answer, OutOfMemory>
     requires { IsTrue (is_pinned kv.now at.old.base) }
-    ensures keys { OnOk result
-        (at.new.reads ≡ at.old.reads ++ directory_keys (seen kv.now at.old) p.now) }
+    ensures went { OnOk result
+        (GrowsBy at.old at.new (directory_keys (seen kv.now at.old) p.now) []) }
     ensures step { IfOk result (λ a. (x : Caller) →
         IsNameStep x (seen kv.now at.old) at.old at.new (Op.List p.now) a) }
     ensures logged { IfOk result (λ a. IsLogged a) }

@@ -1,12 +1,13 @@
 //! The call that moves a file.
 
-ghost use Rattle.std.specs.Prelude.{◌≡◌, ◌++◌, IsTrue, IfOk, OnOk};
+ghost use Rattle.std.specs.Prelude.{IsTrue, IfOk, OnOk};
 ghost use Rattle.wtf_kv.specs.Stores.{is_pinned};
-ghost use Rattle.wtf_occ.specs.Attempts.{Grows};
+ghost use Rattle.wtf_occ.specs.Attempts.{Grows, GrowsBy};
 ghost use Rattle.wtf_model.specs.Steps.{IsLogged};
 ghost use Rattle.wtf_meta.specs.Maps.{seen};
 ghost use Rattle.wtf_meta.specs.Calls.{Caller, IsNameStep};
 ghost use Rattle.wtf_index.specs.Recorded.{rename_keys};
+ghost use Rattle.wtf_index.specs.Changed.{rename_changes};
 
 use crate::checks::{parent_path, source, target};
 use crate::edits::move_file;
@@ -29,8 +30,9 @@ pub fn rename(
     q: &Path,
 ) -> Result<Answer, OutOfMemory>
     requires { IsTrue (is_pinned kv.now at.old.base) }
-    ensures keys { OnOk result
-        (at.new.reads ≡ at.old.reads ++ rename_keys (seen kv.now at.old) p.now q.now) }
+    ensures went { OnOk result (GrowsBy at.old at.new
+        (rename_keys (seen kv.now at.old) p.now q.now)
+        (rename_changes (seen kv.now at.old) p.now q.now)) }
     ensures step { IfOk result (λ a. (x : Caller) →
         IsNameStep x (seen kv.now at.old) at.old at.new (Op.Rename p.now q.now) a) }
     ensures logged { IfOk result (λ a. IsLogged a) }
