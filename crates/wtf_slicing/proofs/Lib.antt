@@ -12,3 +12,4 @@ mod ConcatWays
 mod NameBytes
 mod Dispatch
 pub mod InsideSlices
+mod MadeWays

@@ -3,4 +3,5 @@ pub mod Copies
 pub mod Recorded
 pub mod Steps
 pub mod Shown
+pub mod Changed
 pub mod Ops

@@ -9,6 +9,8 @@ ghost use Rattle.wtf_region.specs.Devs.{IsSoundDev, GoesOn, stores, between};
 ghost use Rattle.wtf_region.specs.Showing.{OnlyRead};
 ghost use Rattle.wtf_steps.specs.Scenes.{AreInside};
 ghost use Rattle.wtf_steps.specs.Steps.{in_hand, IsRefusal};
+ghost use Rattle.wtf_steps.specs.Made.{Makes};
+ghost use Rattle.wtf_slicing.specs.Changed.{SliceMade};
 ghost use Rattle.wtf_slicing.specs.Ops.{IsFormSlice, IsSliceStep, slice_keys, IsSliceFault, MaySliceFault, NeedsNoStore};
 
 use crate::SliceOp;
@@ -49,6 +51,8 @@ fn run<S: SliceStore>(
       after = stores dev.new;
       map = seen kv.now at.old;
     }) dev.old.settings.region new (in_hand at.old s.old) (in_hand at.new s.new) op.now a) }
+    ensures made { IfOk result (λ a. Makes a (SliceMade dev.old.settings.region
+        (seen kv.now at.old) s.old new op.now) at.old at.new) }
     ensures logged { IfOk result (λ a. IsLogged a) }
     ensures refused { IfOk result (λ a. IsRefusal a →
         (dev.new ≡ dev.old) × (at.new.changes ≡ at.old.changes) × (s.new ≡ s.old)) }
@@ -126,6 +130,8 @@ pub fn call<S: SliceStore>(
       after = stores dev.new;
       map = seen kv.now at.old;
     }) dev.old.settings.region new (in_hand at.old s.old) (in_hand at.new s.new) op.now a) }
+    ensures made { IfOk result (λ a. Makes a (SliceMade dev.old.settings.region
+        (seen kv.now at.old) s.old new op.now) at.old at.new) }
     ensures logged { IfOk result (λ a. IsLogged a) }
     ensures refused { IfOk result (λ a. IsRefusal a →
         (dev.new ≡ dev.old) × (at.new.changes ≡ at.old.changes) × (s.new ≡ s.old)) }

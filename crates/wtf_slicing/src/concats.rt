@@ -10,7 +10,9 @@ ghost use Rattle.wtf_meta.specs.Calls.{Caller};
 ghost use Rattle.wtf_region.specs.Devs.{IsSoundDev, GoesOn, between};
 ghost use Rattle.wtf_region.specs.Showing.{OnlyRead};
 ghost use Rattle.wtf_steps.specs.Steps.{in_hand, IsStepWith, NeedsNoBytes, IsRefusal};
+ghost use Rattle.wtf_steps.specs.Made.{Makes};
 ghost use Rattle.wtf_slicing.specs.Recorded.{concat_keys};
+ghost use Rattle.wtf_slicing.specs.Changed.{IsConcat};
 ghost use Rattle.wtf_slicing.specs.Steps.{IsNewFor};
 
 use crate::sources::sources;
@@ -48,6 +50,8 @@ pub(crate) fn concat<S: SliceStore>(
         x.size ≡ dev.old.settings.region → IsNewFor x new →
         IsStepWith NeedsNoBytes x (seen kv.now at.old) (in_hand at.old s) (in_hand at.new s)
         (Op.Concat q.now paths.now) a) }
+    ensures made { IfOk result (λ a. Makes a (IsConcat dev.old.settings.region (seen kv.now at.old)
+        q.now paths.now new) at.old at.new) }
     ensures logged { IfOk result (λ a. IsLogged a) }
     ensures refused { IfOk result (λ a. IsRefusal a →
         (dev.new ≡ dev.old) × (at.new.changes ≡ at.old.changes)) }

@@ -8,7 +8,9 @@ ghost use Rattle.wtf_meta.specs.Maps.{seen};
 ghost use Rattle.wtf_meta.specs.Sessions.{SessionView};
 ghost use Rattle.wtf_meta.specs.Calls.{Caller};
 ghost use Rattle.wtf_steps.specs.Steps.{in_hand, IsStepWith, NeedsNoBytes, IsRefusal};
+ghost use Rattle.wtf_steps.specs.Made.{Makes};
 ghost use Rattle.wtf_slicing.specs.Recorded.{copy_keys};
+ghost use Rattle.wtf_slicing.specs.Changed.{IsCopied};
 ghost use Rattle.wtf_slicing.specs.Copies.{put_region, put_regions, fill_edits};
 ghost use Rattle.wtf_slicing.specs.Steps.{IsNewFor};
 
@@ -88,6 +90,8 @@ pub(crate) fn copy(
     ensures step { IfOk result (λ a. (x : Caller) (s : SessionView) → IsNewFor x new →
         IsStepWith NeedsNoBytes x (seen kv.now at.old) (in_hand at.old s) (in_hand at.new s)
         (Op.Copy p.now q.now) a) }
+    ensures made { IfOk result (λ a. Makes a (IsCopied (seen kv.now at.old) p.now q.now new)
+        at.old at.new) }
     ensures logged { IfOk result (λ a. IsLogged a) }
     ensures refused { IfOk result (λ a. IsRefusal a → at.new.changes ≡ at.old.changes) }
     ensures grows { Grows at.old at.new }

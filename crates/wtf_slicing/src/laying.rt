@@ -9,7 +9,9 @@ ghost use Rattle.wtf_meta.specs.Maps.{Map, seen};
 ghost use Rattle.wtf_meta.specs.Sessions.{handle_in, slice_in};
 ghost use Rattle.wtf_meta.specs.Calls.{Caller};
 ghost use Rattle.wtf_steps.specs.Steps.{in_hand, IsStepWith, NeedsNoBytes, IsRefusal};
+ghost use Rattle.wtf_steps.specs.Made.{Makes, LaysAt, AddsAt};
 ghost use Rattle.wtf_slicing.specs.Recorded.{glue_keys};
+ghost use Rattle.wtf_slicing.specs.Changed.{kept_pieces};
 
 use crate::cutting::bytes_of;
 use std::alloc::Global;
@@ -39,6 +41,8 @@ pub(crate) fn paste(
     ensures step { IfOk result (λ a. (x : Caller) (b : Map) → x.size ≡ settings.region →
         IsStepWith NeedsNoBytes x b (in_hand at.old s.old) (in_hand at.new s.new)
         (Op.Paste f label) a) }
+    ensures made { IfOk result (λ a. Makes a (LaysAt settings.region (handle_in s.old f)
+        (kept_pieces s.old label)) at.old at.new) }
     ensures logged { IfOk result (λ a. IsLogged a) }
     ensures refused { IfOk result
         (λ a. IsRefusal a → (at.new.changes ≡ at.old.changes) × (s.new ≡ s.old)) }
@@ -82,6 +86,8 @@ pub(crate) fn glue(
     ensures step { IfOk result (λ a. (x : Caller) → x.size ≡ settings.region →
         IsStepWith NeedsNoBytes x (seen kv.now at.old) (in_hand at.old s.now)
         (in_hand at.new s.now) (Op.Glue f label) a) }
+    ensures made { IfOk result (λ a. Makes a (AddsAt settings.region (seen kv.now at.old)
+        (handle_in s.now f) (kept_pieces s.now label)) at.old at.new) }
     ensures logged { IfOk result (λ a. IsLogged a) }
     ensures refused { IfOk result (λ a. IsRefusal a → at.new.changes ≡ at.old.changes) }
     ensures grows { Grows at.old at.new }

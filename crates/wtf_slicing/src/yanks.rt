@@ -56,6 +56,7 @@ pub(crate) fn yank<S: SliceStore>(
     ensures step { IfOk result (λ a. (x : Caller) → x.size ≡ dev.old.settings.region →
         IsStepWith NeedsNoBytes x (seen kv.now at.old) (in_hand at.old s.old)
         (in_hand at.new s.new) (Op.Yank take.handle take.len take.slice) a) }
+    ensures same { OnOk result (at.new.changes ≡ at.old.changes) }
     ensures logged { IfOk result (λ a. IsLogged a) }
     ensures refused { IfOk result (λ a. IsRefusal a →
         (dev.new ≡ dev.old) × (at.new.changes ≡ at.old.changes) × (s.new ≡ s.old)) }

@@ -4,6 +4,9 @@ use Rattle.wtf_region.specs.Devs.{stores}
 use Rattle.wtf_steps.specs.Steps.{in_hand}
 use Rattle.wtf_slicing.specs.declared.op.SliceOp.TheVariants.{Yank, Peek, Cut, Paste, Glue, Concat, Copy}
 use Rattle.wtf_slicing.proofs.Dispatch.{as_named, fault_as}
+use Rattle.wtf_steps.proofs.Making.{makes_nothing}
+use Rattle.wtf_slicing.specs.Changed.{SliceMade}
+use Rattle.wtf_slicing.proofs.MadeWays.{made_as}
 use Rattle.wtf_slicing.proofs.calls.run.Goals as goal
 
 pub returns-in-Ok-clause-step : goal.returns-in-Ok-clause-step
@@ -67,3 +70,66 @@ returns-in-Ok-copy-clause-step g c =
     let old = in_hand c.args.at.now s in
     as_named (record { kind = g.S.SliceStore.kind; before = stores dev; after = stores dev; map = b }) dev.settings.region c.args.new old (in_hand c.copy.new.at s)
     c.args.op.now (Copy c.in-Copy.p c.in-Copy.q) c.in-Ok-copy.answer c.in-Copy.is (λ x size own. c.in-Ok-copy.ensures.step x s own)
+
+pub returns-in-Ok-clause-made : goal.returns-in-Ok-clause-made
+returns-in-Ok-clause-made g c =
+    let z = c.args.dev.now.settings.region in
+    let b = seen c.args.kv.now c.args.at.now in
+    let s = c.args.s.now in
+    let at = c.args.at.now in
+    let new = c.args.new in
+    made_as z b s new c.args.op.now (Yank c.in-Yank.f c.in-Yank.n c.in-Yank.label) c.in-Ok.answer at c.yank.new.at c.in-Yank.is (makes_nothing c.in-Ok.answer (SliceMade z b s new (Yank c.in-Yank.f c.in-Yank.n c.in-Yank.label)) at c.yank.new.at refl c.in-Ok.ensures.same)
+
+pub returns-in-Ok-peek-clause-made : goal.returns-in-Ok-peek-clause-made
+returns-in-Ok-peek-clause-made g c =
+    let z = c.args.dev.now.settings.region in
+    let b = seen c.args.kv.now c.args.at.now in
+    let s = c.args.s.now in
+    let at = c.args.at.now in
+    let new = c.args.new in
+    made_as z b s new c.args.op.now (Peek c.in-Peek.from c.in-Peek.off c.in-Peek.len) c.in-Ok-peek.answer at at c.in-Peek.is (makes_nothing c.in-Ok-peek.answer (SliceMade z b s new (Peek c.in-Peek.from c.in-Peek.off c.in-Peek.len)) at at refl refl)
+
+pub returns-in-Ok-cut-clause-made : goal.returns-in-Ok-cut-clause-made
+returns-in-Ok-cut-clause-made g c =
+    let z = c.args.dev.now.settings.region in
+    let b = seen c.args.kv.now c.args.at.now in
+    let s = c.args.s.now in
+    let at = c.args.at.now in
+    let new = c.args.new in
+    made_as z b s new c.args.op.now (Cut c.in-Cut.from c.in-Cut.off c.in-Cut.len c.in-Cut.to) c.in-Ok-cut.answer at at c.in-Cut.is (makes_nothing c.in-Ok-cut.answer (SliceMade z b s new (Cut c.in-Cut.from c.in-Cut.off c.in-Cut.len c.in-Cut.to)) at at refl refl)
+
+pub returns-in-Ok-paste-clause-made : goal.returns-in-Ok-paste-clause-made
+returns-in-Ok-paste-clause-made g c =
+    let z = c.args.dev.now.settings.region in
+    let b = seen c.args.kv.now c.args.at.now in
+    let s = c.args.s.now in
+    let at = c.args.at.now in
+    let new = c.args.new in
+    made_as z b s new c.args.op.now (Paste c.in-Paste.f c.in-Paste.label) c.in-Ok-paste.answer at c.paste.new.at c.in-Paste.is c.in-Ok-paste.ensures.made
+
+pub returns-in-Ok-glue-clause-made : goal.returns-in-Ok-glue-clause-made
+returns-in-Ok-glue-clause-made g c =
+    let z = c.args.dev.now.settings.region in
+    let b = seen c.args.kv.now c.args.at.now in
+    let s = c.args.s.now in
+    let at = c.args.at.now in
+    let new = c.args.new in
+    made_as z b s new c.args.op.now (Glue c.in-Glue.f c.in-Glue.label) c.in-Ok-glue.answer at c.glue.new.at c.in-Glue.is c.in-Ok-glue.ensures.made
+
+pub returns-in-Ok-concat-clause-made : goal.returns-in-Ok-concat-clause-made
+returns-in-Ok-concat-clause-made g c =
+    let z = c.args.dev.now.settings.region in
+    let b = seen c.args.kv.now c.args.at.now in
+    let s = c.args.s.now in
+    let at = c.args.at.now in
+    let new = c.args.new in
+    made_as z b s new c.args.op.now (Concat c.in-Concat.q c.in-Concat.paths) c.in-Ok-concat.answer at c.concat.new.at c.in-Concat.is c.in-Ok-concat.ensures.made
+
+pub returns-in-Ok-copy-clause-made : goal.returns-in-Ok-copy-clause-made
+returns-in-Ok-copy-clause-made g c =
+    let z = c.args.dev.now.settings.region in
+    let b = seen c.args.kv.now c.args.at.now in
+    let s = c.args.s.now in
+    let at = c.args.at.now in
+    let new = c.args.new in
+    made_as z b s new c.args.op.now (Copy c.in-Copy.p c.in-Copy.q) c.in-Ok-copy.answer at c.copy.new.at c.in-Copy.is c.in-Ok-copy.ensures.made

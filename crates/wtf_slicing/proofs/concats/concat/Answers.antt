@@ -1,4 +1,4 @@
-use Rattle.std.proofs.Common.{◌≡◌, ◌+◌, ◌*◌, ◌<◌, ◌≤◌, ℕ, List, [], ◌++◌, Ok, Err, sym, ap, ◌∙◌, subst, arith}
+use Rattle.std.proofs.Common.{◌≡◌, ◌+◌, ◌*◌, ◌<◌, ◌≤◌, ℕ, List, [], ◌++◌, Ok, Err, refl, sym, ap, ◌∙◌, subst, arith}
 use Rattle.wtf_base.specs.declared.ids.InodeId.{InodeId}
 use Rattle.wtf_occ.specs.Attempts.{Attempted, GrowsBy}
 use Rattle.wtf_overlay.specs.Origin.{pieces_len}
@@ -9,7 +9,7 @@ use Rattle.wtf_model.specs.declared.limits.TheConstants.{MAX_REGIONS}
 use Rattle.wtf_model.specs.declared.op.Op.TheVariants as op
 use Rattle.wtf_values.specs.declared.key.Key.{Key}
 use Rattle.wtf_values.specs.declared.value.Delta.{Delta}
-use Rattle.wtf_meta.specs.Maps.{Map, seen}
+use Rattle.wtf_meta.specs.Maps.{Map, Edits, seen}
 use Rattle.wtf_meta.specs.FileEdits.{edits_of}
 use Rattle.wtf_meta.specs.NameEdits.{create_edits}
 use Rattle.wtf_index.specs.Checks.{target_of}
@@ -23,6 +23,8 @@ use Rattle.wtf_slicing.specs.Sources.{sources_of, lens_of, ArePlans}
 use Rattle.wtf_slicing.proofs.CopyWays.{went_all, step_made}
 use Rattle.wtf_slicing.proofs.ConcatWays.{grown, all_keys, concat_keys_are, not_more, too_many, concats_nowhere, concats_nothing, concats_too_much, concats}
 use Rattle.wtf_slicing.proofs.FileLists.{plans_len}
+use Rattle.wtf_steps.proofs.Making.{makes_refused, makes_these, keeps_changes}
+use Rattle.wtf_slicing.specs.Changed.{IsConcat}
 use Rattle.wtf_slicing.proofs.concats.concat.Goals as goal
 
 pub returns-in-Ok-Err-clause-step : goal.returns-in-Ok-Err-clause-step
@@ -197,3 +199,74 @@ pub returns-in-Err-put_pieces-clause-grows : goal.returns-in-Err-put_pieces-clau
 returns-in-Err-put_pieces-clause-grows g c =
     grown c.args.at.now c.target.new.at c.sources.new.at c.total_len.new.at c.all_pieces.new.at c.make_file.new.at c.put_pieces.new.at c.in-Ok-Ok.ensures.grows c.in-Ok-Ok-sources.ensures.grows
     c.in-Ok.ensures.grows c.in-Ok-all_pieces.ensures.grows c.in-Ok-make_file.ensures.grows c.in-Err-put_pieces.ensures.grows
+
+pub returns-in-Ok-Err-clause-made : goal.returns-in-Ok-Err-clause-made
+returns-in-Ok-Err-clause-made g c =
+    let at = c.args.at.now in
+    let F : Edits → Type 0 = IsConcat c.args.dev.now.settings.region (seen c.args.kv.now at) c.args.q.now c.args.paths.now c.args.new in
+    makes_refused (answer.Refused c.in-Ok-Err.word) c.in-Ok-Err.word F at c.target.new.at refl (keeps_changes at c.target.new.at _ c.in-Ok-Err.ensures.went)
+
+pub returns-in-Ok-Err-sources-clause-made : goal.returns-in-Ok-Err-sources-clause-made
+returns-in-Ok-Err-sources-clause-made g c =
+    let at = c.args.at.now in
+    let word = c.in-Ok-Err-sources.word in
+    let F : Edits → Type 0 = IsConcat c.args.dev.now.settings.region (seen c.args.kv.now at) c.args.q.now c.args.paths.now c.args.new in
+    makes_refused (answer.Refused word) word F at c.sources.new.at refl
+    (keeps_changes c.target.new.at c.sources.new.at _ c.in-Ok-Err-sources.ensures.went ∙ keeps_changes at c.target.new.at _ c.in-Ok-Ok.ensures.went)
+
+pub returns-then-len-cap-clause-made : goal.returns-then-len-cap-clause-made
+returns-then-len-cap-clause-made g c =
+    let at = c.args.at.now in
+    let F : Edits → Type 0 = IsConcat c.args.dev.now.settings.region (seen c.args.kv.now at) c.args.q.now c.args.paths.now c.args.new in
+    makes_refused (answer.Refused TooBig) TooBig F at c.total_len.new.at refl
+    (keeps_changes c.sources.new.at c.total_len.new.at _ c.in-Ok.ensures.went ∙ keeps_changes c.target.new.at c.sources.new.at _ c.in-Ok-Ok-sources.ensures.went ∙ keeps_changes at c.target.new.at _ c.in-Ok-Ok.ensures.went)
+
+pub returns-in-Ok-put_pieces-clause-made : goal.returns-in-Ok-put_pieces-clause-made
+returns-in-Ok-put_pieces-clause-made g c =
+    let kv = c.args.kv.now in
+    let at = c.args.at.now in
+    let mid = c.target.new.at in
+    let far = c.sources.new.at in
+    let read = c.total_len.new.at in
+    let into = c.put_pieces.new.at in
+    let z = c.args.dev.now.settings.region in
+    let new = c.args.new in
+    let q : List ℕ = c.args.q.now in
+    let ps : List (List ℕ) = c.args.paths.now in
+    let is : List InodeId = c.in-Ok-Ok-sources.inodes.items in
+    let out : List Piece = c.in-Ok-all_pieces.found.items in
+    let dir = c.in-Ok-Ok.dir in
+    let b : Map = seen kv at in
+    let first : GrowsBy at mid (target_keys b q) [] = c.in-Ok-Ok.ensures.went in
+    let same : seen kv mid ≡ b = seen-same kv at mid (target_keys b q) first in
+    let e : target_of b q ≡ Ok dir = sym c.in-Ok-Ok.ensures.value ∙ c.in-Ok-Ok.field-0-is in
+    let f0 = rw c.in-Ok-Ok-sources.field-0-is at c.in-Ok-Ok-sources.ensures.found in
+    let f : sources_of b ps ≡ Ok is =
+    subst (λ (m : Map). sources_of m ps ≡ Ok is) same (subst (λ (l : List (List ℕ)). sources_of (seen kv mid) l ≡ Ok is) c.as_slice.ensures f0) in
+    let second : GrowsBy mid far (sources_keys b ps) [] =
+    subst (λ (m : Map). GrowsBy mid far (sources_keys m ps) []) same
+    (subst (λ (l : List (List ℕ)). GrowsBy mid far (sources_keys (seen kv mid) l) []) c.as_slice.ensures c.in-Ok-Ok-sources.ensures.went) in
+    let again : seen kv far ≡ b = seen-same kv mid far (sources_keys b ps) second ∙ same in
+    let third : GrowsBy far read (files_keys b is) [] =
+    subst (λ (m : Map). GrowsBy far read (files_keys m is) []) again
+    (subst (λ (l : List InodeId). GrowsBy far read (files_keys (seen kv far) l) []) c.as_slice-2.ensures.value c.in-Ok.ensures.went) in
+    let last : seen kv read ≡ b = seen-same kv far read (files_keys b is) third ∙ again in
+    let made : GrowsBy read c.make_file.new.at [] (create_edits dir q new) =
+    subst (λ (a : Attempted Key Delta). GrowsBy a c.make_file.new.at [] (create_edits dir q new)) c.in-Ok-all_pieces.ensures.same c.in-Ok-make_file.ensures.went in
+    let laid : Edited new [] (LaysPieces z 0 new out) c.make_file.new.at into =
+    subst (λ (l : List Piece). Edited new [] (LaysPieces z 0 new l) c.make_file.new.at into) c.as_slice-4.ensures.value c.in-Ok-put_pieces.ensures.ok in
+    let plans : ArePlans z b is out =
+    subst (λ (m : Map). ArePlans z m is out) last
+    (subst (λ (l : List InodeId). ArePlans z (seen kv read) l out) c.as_slice-3.ensures.value c.in-Ok-all_pieces.ensures.plans) in
+    let all = went_all at mid far read c.make_file.new.at into (target_keys b q) (sources_keys b ps) (files_keys b is) (create_edits dir q new) (edits_of new laid.edits) first second third made laid.grows in
+    makes_these (IsConcat z b q ps new) (create_edits dir q new ++ edits_of new laid.edits) at into all.changes (record {
+      dir = dir;
+      target = e;
+      files = is;
+      sources = f;
+      pieces = out;
+      plans = plans;
+      edits = laid.edits;
+      laid = laid.does.exact;
+      is = refl;
+    })

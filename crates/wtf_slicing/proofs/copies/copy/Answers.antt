@@ -1,10 +1,10 @@
-use Rattle.std.proofs.Common.{◌≡◌, ◌+◌, ℕ, List, [], ◌++◌, Option, Ok, Err, length, sym, ap, ◌∙◌, subst}
+use Rattle.std.proofs.Common.{◌≡◌, ◌+◌, ℕ, List, [], ◌++◌, Option, Ok, Err, length, refl, sym, ap, ◌∙◌, subst}
 use Rattle.wtf_occ.specs.Attempts.{GrowsBy}
 use Rattle.wtf_occ.proofs.AttemptLaws.{Grows-by}
 use Rattle.wtf_model.specs.declared.answer.Answer.TheVariants as answer
 use Rattle.wtf_model.specs.declared.op.Op.TheVariants as op
 use Rattle.wtf_values.specs.declared.region.RegionValue.{RegionValue}
-use Rattle.wtf_meta.specs.Maps.{Map, seen}
+use Rattle.wtf_meta.specs.Maps.{Map, Edits, seen}
 use Rattle.wtf_meta.specs.Files.{FileView}
 use Rattle.wtf_meta.specs.FileEdits.{file_of}
 use Rattle.wtf_meta.specs.NameEdits.{create_edits}
@@ -17,6 +17,9 @@ use Rattle.wtf_slicing.specs.Copies.{regions_of, fill_edits}
 use Rattle.wtf_slicing.specs.Recorded.{file_keys}
 use Rattle.wtf_slicing.proofs.CopyWays.{copy_edits, copies_nothing, copies_nowhere, copies, went_all, copy_keys_are, step_made}
 use Rattle.wtf_slicing.proofs.Loops.{length-counted}
+use Rattle.wtf_steps.proofs.Making.{makes_refused, makes_these, keeps_changes}
+use Rattle.wtf_slicing.specs.Changed.{IsCopied}
+use Rattle.wtf_slicing.proofs.MadeWays.{copy_made}
 use Rattle.wtf_slicing.proofs.copies.copy.Goals as goal
 
 pub returns-in-Err-clause-step : goal.returns-in-Err-clause-step
@@ -112,3 +115,43 @@ returns-clause-step c x s own =
     (went_all at c.source.new.at c.target.new.at c.whole_file.new.at c.make_file.new.at c.fill.new.at (source_keys p) (target_keys b q) (file_keys b i)
     (create_edits dir q new) (fill_edits new v.last (regions_of v)) c.in_ok-inode.ensures.went second third c.in_ok-make_file.ensures.went filled)
     (copies x b s p q dir i new own c.in_ok-dir.ensures.path e f)
+
+pub returns-in-Err-clause-made : goal.returns-in-Err-clause-made
+returns-in-Err-clause-made c =
+    let at = c.args.at.now in
+    let F : Edits → Type 0 = IsCopied (seen c.args.kv.now at) c.args.p.now c.args.q.now c.args.new in
+    makes_refused (answer.Refused c.in-Err.word) c.in-Err.word F at c.source.new.at refl (keeps_changes at c.source.new.at _ c.in_ok-inode.ensures.went)
+
+pub returns-in-Err-2-clause-made : goal.returns-in-Err-2-clause-made
+returns-in-Err-2-clause-made c =
+    let at = c.args.at.now in
+    let F : Edits → Type 0 = IsCopied (seen c.args.kv.now at) c.args.p.now c.args.q.now c.args.new in
+    makes_refused (answer.Refused c.in-Err-2.word) c.in-Err-2.word F at c.target.new.at refl
+    (keeps_changes c.source.new.at c.target.new.at _ c.in_ok-dir.ensures.went ∙ keeps_changes at c.source.new.at _ c.in_ok-inode.ensures.went)
+
+pub returns-clause-made : goal.returns-clause-made
+returns-clause-made c =
+    let p : List ℕ = c.args.p.now in
+    let q : List ℕ = c.args.q.now in
+    let kv = c.args.kv.now in
+    let at = c.args.at.now in
+    let i = c.in-Ok.inode in
+    let new = c.args.new in
+    let dir = c.in-Ok-2.dir in
+    let whole = c.in_ok-whole.whole in
+    let b : Map = seen kv at in
+    let v : FileView = file_of i b in
+    let same : seen kv c.source.new.at ≡ b = seen-same kv at c.source.new.at (source_keys p) c.in_ok-inode.ensures.went in
+    let second : GrowsBy c.source.new.at c.target.new.at (target_keys b q) [] = subst (λ (m : Map). GrowsBy c.source.new.at c.target.new.at (target_keys m q) []) same c.in_ok-dir.ensures.went in
+    let again : seen kv c.target.new.at ≡ b = seen-same kv c.source.new.at c.target.new.at (target_keys b q) second ∙ same in
+    let third : GrowsBy c.target.new.at c.whole_file.new.at (file_keys b i) [] = subst (λ (m : Map). GrowsBy c.target.new.at c.whole_file.new.at (file_keys m i) []) again c.in_ok-whole.ensures.recorded in
+    let e : source_of b p ≡ Ok i = sym c.in_ok-inode.ensures.value ∙ c.in-Ok.is in
+    let f : target_of b q ≡ Ok dir = ap (λ (m : Map). target_of m q) (sym same) ∙ (sym c.in_ok-dir.ensures.value ∙ c.in-Ok-2.is) in
+    let last : whole.last ≡ v.last = c.in_ok-whole.ensures.last ∙ ap (λ (m : Map). (file_of i m).last) again in
+    let regions : whole.regions.items ≡ regions_of v = c.in_ok-whole.ensures.regions ∙ ap (λ (m : Map). regions_of (file_of i m)) again in
+    let filled : GrowsBy c.make_file.new.at c.fill.new.at [] (fill_edits new v.last (regions_of v)) =
+    subst (λ (n : ℕ). GrowsBy c.make_file.new.at c.fill.new.at [] (fill_edits new n (regions_of v))) last
+    (subst (λ (vs : List (Option RegionValue)). GrowsBy c.make_file.new.at c.fill.new.at [] (fill_edits new whole.last vs)) regions c.in_ok-fill.ensures.went) in
+    let all = went_all at c.source.new.at c.target.new.at c.whole_file.new.at c.make_file.new.at c.fill.new.at (source_keys p) (target_keys b q) (file_keys b i)
+    (create_edits dir q new) (fill_edits new v.last (regions_of v)) c.in_ok-inode.ensures.went second third c.in_ok-make_file.ensures.went filled in
+    makes_these (IsCopied b p q new) (create_edits dir q new ++ fill_edits new v.last (regions_of v)) at c.fill.new.at all.changes (sym (copy_made b p q dir i new e f))

@@ -19,6 +19,11 @@ use Rattle.wtf_steps.proofs.Ways.{no_handle, step_of, spot_open, spot_closed}
 use Rattle.wtf_slicing.specs.Recorded.{glue_keys}
 use Rattle.wtf_model.proofs.SliceLaws.{glue-none}
 use Rattle.wtf_slicing.proofs.LayWays.{glues_unset, step_glued}
+use Rattle.wtf_steps.specs.Steps.{answer_of}
+use Rattle.wtf_steps.specs.Made.{Makes, AddsAt}
+use Rattle.wtf_steps.proofs.Making.{makes_refused, makes_added}
+use Rattle.wtf_slicing.specs.Changed.{kept_pieces}
+use Rattle.wtf_slicing.proofs.MadeWays.{kept_is}
 use Rattle.wtf_slicing.proofs.laying.glue.Goals as goal
 
 pub returns-in_default-clause-step : goal.returns-in_default-clause-step
@@ -73,3 +78,32 @@ returns-clause-step c x size =
     (subst (λ (z : ℕ). IsAdded z spot.inode (file_of spot.inode b) ps old new r) (sym size) c.in_ok-added.ensures.added) in
     subst (λ (a : Answer). IsStepWith NeedsNoBytes x b (in_hand old s) (in_hand new s) (op.Glue f c.args.label) a) (sym c.answer_to.ensures.value)
     (step_glued x b s f c.args.label h open_at.is ps there old new r is)
+
+pub returns-in_default-clause-made : goal.returns-in_default-clause-made
+returns-in_default-clause-made c =
+    let s = c.args.s.now in
+    let b = seen c.args.kv.now c.args.at.now in
+    makes_refused (answer.Refused NoHandle) NoHandle (AddsAt c.args.settings.region b (handle_in s c.args.f) (kept_pieces s c.args.label)) c.args.at.now c.args.at.now refl refl
+
+pub returns-in_default-slice-clause-made : goal.returns-in_default-slice-clause-made
+returns-in_default-slice-clause-made c =
+    let s = c.args.s.now in
+    let b = seen c.args.kv.now c.args.at.now in
+    makes_refused (answer.Refused NoSlice) NoSlice (AddsAt c.args.settings.region b (handle_in s c.args.f) (kept_pieces s c.args.label)) c.args.at.now c.args.at.now refl refl
+
+pub returns-clause-made : goal.returns-clause-made
+returns-clause-made c =
+    let s = c.args.s.now in
+    let b = seen c.args.kv.now c.args.at.now in
+    let z = c.args.settings.region in
+    let o = handle_in s c.args.f in
+    let old = c.args.at.now in
+    let new = c.add_pieces.new.at in
+    let r = c.in_ok-added.added in
+    let spot = c.in-Some.spot in
+    let ps = c.in-Some-slice.pieces.now in
+    let there : slice_in s c.args.label ≡ Some ps = sym c.slice.ensures ∙ ap option_copied c.in-Some-slice.is in
+    let open_at = spot_open c.handle_of.result o spot c.handle_of.ensures c.in-Some.is in
+    subst (λ (a : Answer). Makes a (AddsAt z b o (kept_pieces s c.args.label)) old new) (sym c.answer_to.ensures.value)
+    (subst (λ (qs : List Piece). Makes (answer_of r) (AddsAt z b o qs) old new) (sym (kept_is s c.args.label ps there))
+    (makes_added z b o open_at.handle spot.inode ps old new r open_at.is open_at.inode c.in_ok-added.ensures.added))

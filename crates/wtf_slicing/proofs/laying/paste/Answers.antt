@@ -1,4 +1,4 @@
-use Rattle.std.proofs.Common.{◌≡◌, ℕ, ◌+◌, ◌-◌, ◌*◌, ◌^◌, ◌<◌, ◌≤◌, min, [], Option, Some, refl, sym, ap, ◌∙◌, subst, arith}
+use Rattle.std.proofs.Common.{◌≡◌, ℕ, ◌+◌, ◌-◌, ◌*◌, ◌^◌, ◌<◌, ◌≤◌, min, List, [], Option, Some, refl, sym, ap, ◌∙◌, subst, arith}
 use Rattle.std.specs.Option.{option_copied, option_map}
 use Rattle.wtf_base.specs.declared.ids.InodeId.{InodeId}
 use Rattle.wtf_occ.proofs.AttemptLaws.{GrowsBy-nothing}
@@ -15,6 +15,11 @@ use Rattle.wtf_steps.specs.Steps.{in_hand}
 use Rattle.wtf_steps.proofs.Ways.{no_handle, step_of, spot_open, spot_closed}
 use Rattle.wtf_model.proofs.SliceLaws.{paste-none}
 use Rattle.wtf_slicing.proofs.LayWays.{lays, pastes_unset, pastes_nothing, pastes_too_far, pastes}
+use Rattle.wtf_overlay.specs.declared.part.Piece.{Piece}
+use Rattle.wtf_steps.specs.Made.{Makes, LaysAt}
+use Rattle.wtf_steps.proofs.Making.{makes_refused, makes_nothing, makes_laid}
+use Rattle.wtf_slicing.specs.Changed.{kept_pieces}
+use Rattle.wtf_slicing.proofs.MadeWays.{kept_is, lays_no_byte}
 use Rattle.wtf_slicing.proofs.laying.paste.Goals as goal
 
 pub returns-in_default-clause-step : goal.returns-in_default-clause-step
@@ -90,3 +95,42 @@ returns-clause-step c x b size =
       is_call = pastes x b s f c.args.label h open_at.is ps there t edited.edits (omega (arith, len, c.if-len-eq0.false)) (omega (arith, fit, len, c.cap.ensures, size, open_at.off)) edited.does set;
       more = record { facts = refl; stored = refl };
     }
+
+pub returns-in_default-clause-made : goal.returns-in_default-clause-made
+returns-in_default-clause-made c =
+    let s = c.args.s.now in
+    makes_refused (answer.Refused NoHandle) NoHandle (LaysAt c.args.settings.region (handle_in s c.args.f) (kept_pieces s c.args.label)) c.args.at.now c.args.at.now refl refl
+
+pub returns-in_default-slice-clause-made : goal.returns-in_default-slice-clause-made
+returns-in_default-slice-clause-made c =
+    let s = c.args.s.now in
+    makes_refused (answer.Refused NoSlice) NoSlice (LaysAt c.args.settings.region (handle_in s c.args.f) (kept_pieces s c.args.label)) c.args.at.now c.args.at.now refl refl
+
+pub returns-then-len-eq0-clause-made : goal.returns-then-len-eq0-clause-made
+returns-then-len-eq0-clause-made c =
+    let s = c.args.s.now in
+    let z = c.args.settings.region in
+    let o = handle_in s c.args.f in
+    let ps = c.in-Some-slice.pieces.now in
+    let there : slice_in s c.args.label ≡ Some ps = sym c.slice.ensures ∙ ap option_copied c.in-Some-slice.is in
+    makes_nothing answer.Okay (LaysAt z o (kept_pieces s c.args.label)) c.args.at.now c.args.at.now
+    (lays_no_byte z o s c.args.label ps there (omega (arith, c.bytes_of-len.ensures, c.if-len-eq0.true))) refl
+
+pub returns-then-not-ends_within-clause-made : goal.returns-then-not-ends_within-clause-made
+returns-then-not-ends_within-clause-made c =
+    let s = c.args.s.now in
+    makes_refused (answer.Refused TooBig) TooBig (LaysAt c.args.settings.region (handle_in s c.args.f) (kept_pieces s c.args.label)) c.args.at.now c.args.at.now refl refl
+
+pub returns-clause-made : goal.returns-clause-made
+returns-clause-made c =
+    let s = c.args.s.now in
+    let z = c.args.settings.region in
+    let o = handle_in s c.args.f in
+    let old = c.args.at.now in
+    let new = c.put_pieces.new.at in
+    let spot = c.in-Some.spot in
+    let ps = c.in-Some-slice.pieces.now in
+    let there : slice_in s c.args.label ≡ Some ps = sym c.slice.ensures ∙ ap option_copied c.in-Some-slice.is in
+    let open_at = spot_open c.handle_of.result o spot c.handle_of.ensures c.in-Some.is in
+    subst (λ (qs : List Piece). Makes answer.Okay (LaysAt z o qs) old new) (sym (kept_is s c.args.label ps there))
+    (makes_laid z o open_at.handle spot.inode spot.off ps old new open_at.is open_at.inode open_at.off c.in_ok-put_pieces.ensures.ok)

@@ -20,6 +20,7 @@ use Rattle.wtf_steps.specs.Steps.{in_hand}
 use Rattle.wtf_index.proofs.Going.{keys_more}
 use Rattle.wtf_steps.proofs.Ways.{no_handle, step_of, spot_open, spot_closed}
 use Rattle.wtf_steps.proofs.ReadWays.{same_touched, found_due, plans_due}
+use Rattle.wtf_steps.proofs.Making.{keeps_changes}
 use Rattle.wtf_model.proofs.SliceLaws.{yank-none}
 use Rattle.wtf_slicing.proofs.SliceWays.{yanks}
 use Rattle.wtf_slicing.proofs.yanks.yank.Goals as goal
@@ -75,3 +76,7 @@ returns-clause-step g c x size =
     step_of x b (in_hand at s) (in_hand new t) (len_keys b h.inode ++ keys_of h.inode (region_keys (touched x.size h.off k))) (op.Yank f n c.args.take.slice) (answer.Len k)
     (keys_more at read new (len_keys b h.inode) (keys_of h.inode (region_keys (touched x.size h.off k))) first next)
     (yanks x b s m t f n c.args.take.slice k h ps (omega (arith, size, dev.settings.limits)) open_at.is count plans c.put_slice.ensures set)
+
+pub returns-clause-same : goal.returns-clause-same
+returns-clause-same g c =
+    keeps_changes c.file_len.new.at c.pieces.new.at _ c.in-Ok-pieces.ensures.recorded ∙ keeps_changes c.args.at.now c.file_len.new.at _ c.in-Ok.ensures.recorded
