@@ -97,6 +97,7 @@ adds_nothing x b s f h bytes old here none = record {
   grows = record { base = refl; reads = sym (append-nil old.reads); changes = sym (append-nil old.changes) };
   is_call = appends x b s f h here [] [] bytes (record {
     appends = Appends-none x.size (file_of h.inode b) (append_keys x.size (file_of h.inode b) 0) 0 (pieces_origin []) refl;
+    exact = record { none = λ e. refl; fits = λ more room. absurd (omega (arith, more)); laid = λ more full. absurd (omega (arith, more)) };
     names = λ P bytes. tt;
   });
   stored = refl;
@@ -146,6 +147,7 @@ step_brought o sl p x b s f bytes old new a r is there len part one =
 -- an attempt that drops the changes that came, and keeps the keys
 pub record Rewound (old mid new : Attempted Key Delta) : Type 0 where
   pub reads : new.reads ≡ mid.reads
+  pub changes : new.changes ≡ old.changes
   pub grows : Grows old new
 
 pub rewound : (old mid new : Attempted Key Delta) (r c : ℕ) → new ≡ record mid { reads = take r mid.reads; changes = take c mid.changes } → r ≡ length mid.reads → c ≡ length old.changes
@@ -156,6 +158,7 @@ rewound old mid new r c e all first grows =
     ap (λ (a : Attempted Key Delta). a.changes) e ∙ ap (λ l. take c l) grows.changes.1 ∙ ap (λ k. take k (old.changes ++ grows.changes.0)) first ∙ take-append_seam old.changes grows.changes.0 in
     record {
       reads = reads;
+      changes = kept;
       grows = record {
         base = ap (λ (a : Attempted Key Delta). a.base) e ∙ grows.base;
         reads = (grows.reads.0, reads ∙ grows.reads.1);

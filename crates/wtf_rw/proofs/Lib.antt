@@ -7,3 +7,4 @@ pub mod ReadWays
 pub mod FaultWays
 pub mod InsideWays
 mod Dispatch
+mod MadeWays

@@ -5,5 +5,6 @@ pub mod Recorded
 pub mod Seeks
 pub mod Sizes
 pub mod Stored
+pub mod Changed
 pub mod Reads
 pub mod Ops

@@ -20,7 +20,6 @@ use Rattle.wtf_model.specs.Session.{Session}
 use Rattle.wtf_model.specs.Call.{call}
 use Rattle.wtf_values.specs.declared.key.Key.{Key}
 use Rattle.wtf_meta.specs.Bytes.{PartBytes, PiecesBytes}
-use Rattle.wtf_model.specs.declared.answer.Answer.TheVariants as answer
 use Rattle.wtf_model.specs.declared.limits.TheConstants.{MAX_REGIONS}
 use Rattle.wtf_meta.specs.Files.{FileView, end_of, file_len}
 use Rattle.wtf_meta.specs.Maps.{Map, Edits, AllFit}

@@ -15,7 +15,9 @@ ghost use Rattle.wtf_region.specs.Devs.{IsSoundDev, GoesOn, stores, place_in};
 ghost use Rattle.wtf_region.specs.Edited.{IsFileEnd, LacksRoom};
 ghost use Rattle.wtf_steps.specs.Recorded.{append_keys};
 ghost use Rattle.wtf_steps.specs.Steps.{in_hand, IsStepWith, IsRefusal};
+ghost use Rattle.wtf_steps.specs.Made.{Makes, AddsAt};
 ghost use Rattle.wtf_rw.specs.Stored.{TellsOwn, IsOwn, IsPutFault, BringsSlice, Answers, HasRoom, end_place};
+ghost use Rattle.wtf_rw.specs.Changed.{OfSlice};
 ghost use Rattle.wtf_steps.specs.Faults.{MayFault};
 
 use crate::Done;
@@ -78,6 +80,8 @@ pub(crate) fn append_fresh<S: SliceStore>(
         IsStepWith (TellsOwn S.kind (stores dev.old) (stores dev.new) d.own) x
         (seen kv.now at.old) (in_hand at.old s.now) (in_hand at.new s.now)
         (Op.Append f bytes.now) d.answer) }
+    ensures made { IfOk result (λ d. Makes d.answer (OfSlice d.own (AddsAt
+        dev.old.settings.region (seen kv.now at.old) (handle_in s.now f))) at.old at.new) }
     ensures own { IfOk result (λ d. (h : handle.Handle) → handle_in s.now f ≡ Some h →
         IsOwn S.kind dev.old dev.new (place_in dev.old h.inode (end_place
         dev.old.settings.region (file_of h.inode (seen kv.now at.old)))) bytes.now d.own) }
@@ -145,6 +149,8 @@ pub(crate) fn append_stored(
         length bytes ≡ kept.len → (kept.slice ≡ None → kept.len ≡ 0) →
         IsStepWith (BringsSlice kept.slice bytes) x (seen kv.now at.old) (in_hand at.old s.now)
         (in_hand at.new s.now) (Op.Append f bytes) a) }
+    ensures made { IfOk result (λ a. Makes a (OfSlice kept.slice (AddsAt
+        settings.region (seen kv.now at.old) (handle_in s.now f))) at.old at.new) }
     ensures answers { IfOk result (λ a. (x : Caller) (bytes : List ℕ) → x.size ≡ settings.region →
         length bytes ≡ kept.len → kept.slice ≡ None → Answers x (seen kv.now at.old) s.now
         (append_keys settings.region (seen kv.now at.old) (handle_in s.now f) kept.len)

@@ -10,7 +10,9 @@ ghost use Rattle.wtf_meta.specs.Sessions.{SessionBytes};
 ghost use Rattle.wtf_region.specs.Devs.{IsSoundDev, GoesOn, stores, between};
 ghost use Rattle.wtf_region.specs.Showing.{OnlyRead};
 ghost use Rattle.wtf_region.specs.Inside.{is_inside, IsStoredInside};
+ghost use Rattle.wtf_rw.specs.Changed.{RwMade};
 ghost use Rattle.wtf_rw.specs.Ops.{IsFormRw, IsWhole, RwBytes, IsRwStep, rw_keys, IsRwOwn, LacksOwn, StoresNone, IsRwFault, MayRwFault, IsBare, IsBareAnswer};
+ghost use Rattle.wtf_steps.specs.Made.{Makes};
 ghost use Rattle.wtf_steps.specs.Scenes.{AreInside};
 ghost use Rattle.wtf_steps.specs.Steps.{in_hand, IsRefusal};
 
@@ -52,6 +54,8 @@ fn run<S: SliceStore>(
       map = seen kv.now at.old;
     }) dev.old.settings.region (in_hand at.old s.old) (in_hand at.new s.new)
         op.now d.own d.answer) }
+    ensures made { IfOk result (λ d. Makes d.answer (RwMade dev.old.settings.region
+        (seen kv.now at.old) s.old op.now d.own) at.old at.new) }
     ensures own { IfOk result (λ d.
         IsRwOwn S.kind dev.old dev.new (seen kv.now at.old) s.old op.now d.own) }
     ensures lacks { IfOk result (λ d. LacksOwn op.now d.own d.answer) }
@@ -154,6 +158,8 @@ pub fn call<S: SliceStore>(
       map = seen kv.now at.old;
     }) dev.old.settings.region (in_hand at.old s.old) (in_hand at.new s.new)
         op.now d.own d.answer) }
+    ensures made { IfOk result (λ d. Makes d.answer (RwMade dev.old.settings.region
+        (seen kv.now at.old) s.old op.now d.own) at.old at.new) }
     ensures own { IfOk result (λ d.
         IsRwOwn S.kind dev.old dev.new (seen kv.now at.old) s.old op.now d.own) }
     ensures lacks { IfOk result (λ d. LacksOwn op.now d.own d.answer) }

@@ -41,6 +41,7 @@ pub(crate) fn open(
         IsStepWith NeedsNoBytes x (seen kv.now at.old) (in_hand at.old s.old) (in_hand at.new s.new)
         (Op.Open f p.now) a) }
     ensures logged { IfOk result (λ a. IsLogged a) }
+    ensures same { OnOk result (at.new.changes ≡ at.old.changes) }
     ensures refused { IfOk result
         (λ a. IsRefusal a → (at.new.changes ≡ at.old.changes) × (s.new ≡ s.old)) }
     ensures grows { Grows at.old at.new }

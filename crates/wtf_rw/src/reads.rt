@@ -52,6 +52,7 @@ pub(crate) fn read<S: SliceStore>(
         IsStepWith (TellsRead S.kind (stores dev.old) (stores dev.new) (seen kv.now at.old)) x
         (seen kv.now at.old) (in_hand at.old s.old) (in_hand at.new s.new) (Op.Read f n) a) }
     ensures logged { IfOk result (λ a. IsLogged a) }
+    ensures same { OnOk result (at.new.changes ≡ at.old.changes) }
     ensures refused { IfOk result (λ a. IsRefusal a →
         (dev.new ≡ dev.old) × (at.new.changes ≡ at.old.changes) × (s.new ≡ s.old)) }
     ensures fault { IfErr result (λ why. (why ≡ Fault.Memory) ⊎ ((h : handle.Handle) ×

@@ -112,6 +112,7 @@ pub(crate) fn seek(
         IsStepWith NeedsNoBytes x (seen kv.now at.old) (in_hand at.old s.old) (in_hand at.new s.new)
         (Op.Seek f place) a) }
     ensures logged { IfOk result (λ a. IsLogged a) }
+    ensures same { OnOk result (at.new.changes ≡ at.old.changes) }
     ensures refused { IfOk result
         (λ a. IsRefusal a → (at.new.changes ≡ at.old.changes) × (s.new ≡ s.old)) }
     ensures grows { Grows at.old at.new }

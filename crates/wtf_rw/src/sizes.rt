@@ -5,10 +5,13 @@ ghost use Rattle.wtf_occ.specs.Attempts.{Grows};
 ghost use Rattle.wtf_model.specs.declared.limits.TheConstants.{MAX_HANDLES, MAX_REGIONS};
 ghost use Rattle.wtf_model.specs.Steps.{IsLogged};
 ghost use Rattle.wtf_meta.specs.Maps.{Map};
+ghost use Rattle.wtf_meta.specs.Sessions.{handle_in};
 ghost use Rattle.wtf_meta.specs.Calls.{Caller};
 ghost use Rattle.wtf_region.specs.Edited.{Edited};
 ghost use Rattle.wtf_steps.specs.Steps.{in_hand, IsStepWith, NeedsNoBytes, IsRefusal};
+ghost use Rattle.wtf_steps.specs.Made.{Makes};
 ghost use Rattle.wtf_rw.specs.Sizes.{CutsTo, Zeroes};
+ghost use Rattle.wtf_rw.specs.Changed.{CutsAt, PunchesAt};
 
 use wtf_base::{InodeId, OutOfMemory, Settings};
 use wtf_meta::Session;
@@ -55,6 +58,8 @@ pub(crate) fn truncate(
     ensures step { IfOk result (λ a. (x : Caller) (b : Map) → x.size ≡ settings.region →
         IsStepWith NeedsNoBytes x b (in_hand at.old s.now) (in_hand at.new s.now) (Op.Truncate f n)
         a) }
+    ensures made { IfOk result (λ a.
+        Makes a (CutsAt settings.region (handle_in s.now f) n) at.old at.new) }
     ensures logged { IfOk result (λ a. IsLogged a) }
     ensures refused { IfOk result (λ a. IsRefusal a → at.new.changes ≡ at.old.changes) }
     ensures grows { Grows at.old at.new }
@@ -113,6 +118,8 @@ pub(crate) fn punch(
     ensures step { IfOk result (λ a. (x : Caller) (b : Map) → x.size ≡ settings.region →
         IsStepWith NeedsNoBytes x b (in_hand at.old s.now) (in_hand at.new s.now) (Op.Punch f n)
         a) }
+    ensures made { IfOk result (λ a.
+        Makes a (PunchesAt settings.region (handle_in s.now f) n) at.old at.new) }
     ensures logged { IfOk result (λ a. IsLogged a) }
     ensures refused { IfOk result (λ a. IsRefusal a → at.new.changes ≡ at.old.changes) }
     ensures grows { Grows at.old at.new }

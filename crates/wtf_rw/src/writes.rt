@@ -13,7 +13,9 @@ ghost use Rattle.wtf_meta.specs.Calls.{Caller};
 ghost use Rattle.wtf_region.specs.Devs.{IsSoundDev, GoesOn, stores, place_in};
 ghost use Rattle.wtf_region.specs.Edited.{Edited, LaysPieces};
 ghost use Rattle.wtf_steps.specs.Steps.{in_hand, IsStepWith, IsRefusal};
+ghost use Rattle.wtf_steps.specs.Made.{Makes, LaysAt};
 ghost use Rattle.wtf_rw.specs.Stored.{TellsOwn, IsOwn, IsPutFault, BringsSlice, Answers};
+ghost use Rattle.wtf_rw.specs.Changed.{OfSlice};
 ghost use Rattle.wtf_steps.specs.Faults.{MayFault};
 
 use crate::Done;
@@ -87,6 +89,8 @@ pub(crate) fn write_fresh<S: SliceStore>(
     ensures step { IfOk result (λ d. (x : Caller) (b : Map) → x.size ≡ dev.old.settings.region →
         IsStepWith (TellsOwn S.kind (stores dev.old) (stores dev.new) d.own) x b
         (in_hand at.old s.old) (in_hand at.new s.new) (Op.Write f bytes.now) d.answer) }
+    ensures made { IfOk result (λ d. Makes d.answer
+        (OfSlice d.own (LaysAt dev.old.settings.region (handle_in s.old f))) at.old at.new) }
     ensures own { IfOk result (λ d. (h : handle.Handle) → handle_in s.old f ≡ Some h →
         IsOwn S.kind dev.old dev.new (place_in dev.old h.inode h.off) bytes.now d.own) }
     ensures closed { IfOk result
@@ -146,6 +150,8 @@ pub(crate) fn write_stored(
         x.size ≡ settings.region → length bytes ≡ kept.len → (kept.slice ≡ None → kept.len ≡ 0) →
         IsStepWith (BringsSlice kept.slice bytes) x b (in_hand at.old s.old) (in_hand at.new s.new)
         (Op.Write f bytes) a) }
+    ensures made { IfOk result (λ a. Makes a
+        (OfSlice kept.slice (LaysAt settings.region (handle_in s.old f))) at.old at.new) }
     ensures answers { IfOk result (λ a. (x : Caller) (b : Map) (bytes : List ℕ) →
         x.size ≡ settings.region → length bytes ≡ kept.len →
         Answers x b s.old [] (Op.Write f bytes) a) }

@@ -11,7 +11,7 @@ use Rattle.wtf_replica.specs.Bytes.{byte_at}
 use Rattle.wtf_values.specs.declared.key.Key.{Key}
 use Rattle.wtf_values.specs.declared.value.Delta.{Delta}
 use Rattle.wtf_meta.specs.declared.session.Handle.{Handle}
-use Rattle.wtf_meta.specs.Maps.{seen}
+use Rattle.wtf_meta.specs.Maps.{Edits, seen}
 use Rattle.wtf_meta.specs.FileEdits.{file_of}
 use Rattle.wtf_meta.specs.Appends.{keys_of, length_keys, append_keys as file_append_keys}
 use Rattle.wtf_meta.specs.Sessions.{handle_in}
@@ -30,6 +30,11 @@ use Rattle.wtf_rw.proofs.StoredBytes.{tell_stored, step_only}
 use Rattle.wtf_rw.proofs.AppendWays.{step_added, adds, adds_nothing, nothing_told, adds_full, full_keys, added_in_room}
 use Rattle.wtf_steps.proofs.AppendWays.{keys_due, added_keys}
 use Rattle.wtf_rw.proofs.FaultWays.{append_due}
+use Rattle.std.proofs.lemmas.List.{append-nil}
+use Rattle.wtf_steps.specs.Made.{AddsAt}
+use Rattle.wtf_steps.proofs.Making.{makes_refused, adds_none, makes_added}
+use Rattle.wtf_rw.specs.Changed.{OfSlice}
+use Rattle.wtf_rw.proofs.MadeWays.{brings_no_slice, brings_slice}
 use Rattle.wtf_rw.proofs.appends.append_fresh.Goals as goal
 
 pub returns-in_default-clause-step : goal.returns-in_default-clause-step
@@ -178,3 +183,55 @@ returns-in-Ok-add_at-clause-own g c h e =
       c.in-Ok-store_bytes.ensures.inside,
       c.in-Ok-store_bytes.ensures.known,
     )
+
+pub returns-in_default-clause-made : goal.returns-in_default-clause-made
+returns-in_default-clause-made g c =
+    let at = c.args.at.now in
+    let b = seen c.args.kv.now at in
+    let F : Edits → Type 0 = OfSlice c.only.result.own (AddsAt c.args.dev.now.settings.region b (handle_in c.args.s.now c.args.f)) in
+    makes_refused c.only.result.answer NoHandle F at at c.only.ensures.answer refl
+
+pub returns-then-len-eq0-clause-made : goal.returns-then-len-eq0-clause-made
+returns-then-len-eq0-clause-made g c =
+    let at = c.args.at.now in
+    let b = seen c.args.kv.now at in
+    let z = c.args.dev.now.settings.region in
+    let o = handle_in c.args.s.now c.args.f in
+    brings_no_slice c.only-then-len-eq0.result.answer c.only-then-len-eq0.result.own (AddsAt z b o) at at c.only-then-len-eq0.ensures.own (adds_none z b o) refl
+
+pub returns-in-Ok-clause-made : goal.returns-in-Ok-clause-made
+returns-in-Ok-clause-made g c =
+    let at = c.args.at.now in
+    let new = c.file_len.new.at in
+    let b = seen c.args.kv.now at in
+    let i = c.in-Some.spot.inode in
+    let F : Edits → Type 0 = OfSlice c.only-in-Ok.result.own (AddsAt c.args.dev.now.settings.region b (handle_in c.args.s.now c.args.f)) in
+    let recorded : Recorded i (length_keys (file_of i b)) at new =
+    subst (λ (a : Attempted Key Delta). Recorded i (length_keys (file_of i (seen c.args.kv.now a))) a new) c.file_end-end.ensures.same c.in-Ok.ensures.recorded in
+    makes_refused c.only-in-Ok.result.answer TooBig F at new c.only-in-Ok.ensures.answer (recorded.changes ∙ append-nil at.changes)
+
+pub returns-in-Ok-add_at-clause-made : goal.returns-in-Ok-add_at-clause-made
+returns-in-Ok-add_at-clause-made g c =
+    let s = c.args.s.now in
+    let f = c.args.f in
+    let b = seen c.args.kv.now c.args.at.now in
+    let bytes = c.args.bytes.now in
+    let p = c.piece_of.result in
+    let slice = c.in-Ok-store_bytes.slice in
+    let at = c.args.at.now in
+    let new = c.add_at.new.at in
+    let r = c.in-Ok-add_at.field-0 in
+    let o = handle_in s f in
+    let len : p.len ≡ length bytes = c.piece_of.ensures.len ∙ c.in-Ok-store_bytes.ensures.stored.len in
+    let open_at = spot_open c.handle_of.result o c.in-Some.spot c.handle_of.ensures c.in-Some.is in
+    let i = c.in-Some.spot.inode in
+    let z = c.args.dev.now.settings.region in
+    let end : IsFileEnd (file_of i b) c.file_end-end.result = c.file_end-end.ensures.end in
+    let room : HasRoom z (file_of i b) (length bytes) = c.room.ensures.room (file_of i b) end (subst (λ (m : Option ℕ). IsSome m) (sym c.in-Some-room.is) refl) in
+    let lacks : r ≡ added.TooBig → LacksRoom z (file_of i b) (length bytes) = λ e. subst (λ (k : ℕ). LacksRoom z (file_of i b) k) (omega (arith, len)) (c.in-Ok-add_at.ensures.full (file_of i b) end e) in
+    let done : r ≡ added.Done = added_in_room z (file_of i b) (length bytes) r room lacks in
+    let laid : IsAdded z i (file_of i b) (p ∷ []) at new r =
+    subst (λ (a : Attempted Key Delta). IsAdded z i (file_of i b) (p ∷ []) a new r) c.file_end-end.ensures.same (c.in-Ok-add_at.ensures.added (file_of i b) end) in
+    let is : IsAdded z i (file_of i b) (p ∷ []) at new added.Done = subst (λ (q : Added). IsAdded z i (file_of i b) (p ∷ []) at new q) done laid in
+    brings_slice answer.Okay answer.Okay (Some slice) slice p (AddsAt z b o) at new refl refl c.piece_of.ensures.len c.piece_of.ensures.part
+    (makes_added z b o open_at.handle i (p ∷ []) at new added.Done open_at.is open_at.inode is)

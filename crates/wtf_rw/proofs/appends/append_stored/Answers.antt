@@ -1,4 +1,4 @@
-use Rattle.std.proofs.Common.{◌≡◌, ℕ, [], ◌∷◌, replicate, Option, Some, sym, ap, ◌∙◌, subst, arith}
+use Rattle.std.proofs.Common.{◌≡◌, ℕ, [], ◌∷◌, replicate, Option, Some, refl, sym, ap, ◌∙◌, subst, arith}
 use Rattle.std.proofs.lemmas.List.{length-replicate}
 use Rattle.wtf_base.specs.declared.ids.InodeId.{InodeId}
 use Rattle.wtf_base.specs.Slices.{HasLength, len_of}
@@ -9,7 +9,7 @@ use Rattle.wtf_model.specs.declared.answer.Answer.TheVariants as answer
 use Rattle.wtf_model.specs.declared.answer.Word.TheVariants.{NoHandle}
 use Rattle.wtf_model.specs.declared.op.Op.TheVariants as op
 use Rattle.wtf_meta.specs.declared.session.Handle.{Handle}
-use Rattle.wtf_meta.specs.Maps.{seen}
+use Rattle.wtf_meta.specs.Maps.{Edits, seen}
 use Rattle.wtf_meta.specs.FileEdits.{file_of}
 use Rattle.wtf_meta.specs.Appends.{keys_of, append_keys as file_append_keys}
 use Rattle.wtf_meta.specs.Sessions.{handle_in}
@@ -23,6 +23,10 @@ use Rattle.wtf_steps.proofs.Ways.{no_handle, spot_open, spot_closed}
 use Rattle.wtf_rw.proofs.StoredBytes.{step_stored}
 use Rattle.wtf_rw.proofs.AppendWays.{adds, adds_nothing, rewound, hole_tells, adds_answer, nothing_answer, closed_answer, step_brought, step_nothing}
 use Rattle.wtf_steps.proofs.AppendWays.{added_keys, keys_due}
+use Rattle.wtf_steps.specs.Made.{AddsAt}
+use Rattle.wtf_steps.proofs.Making.{makes_refused, adds_none, makes_added}
+use Rattle.wtf_rw.specs.Changed.{OfSlice}
+use Rattle.wtf_rw.proofs.MadeWays.{no_slice_kept, brings_no_slice, brings_slice}
 use Rattle.wtf_rw.proofs.appends.append_stored.Goals as goal
 
 pub returns-in_default-clause-step : goal.returns-in_default-clause-step
@@ -125,3 +129,42 @@ returns-clause-step c x bytes size same has =
     (subst (λ (z : ℕ). IsAdded z c.in-Some.spot.inode (file_of c.in-Some.spot.inode b) (p ∷ []) at new r) (sym size) c.in_ok-added-2.ensures.added) in
     step_brought c.args.kept.slice slice p x b s f bytes at new (answer_of r) c.answer_to-2.result c.answer_to-2.ensures.value c.in-Some-slice.is c.piece_of.ensures.len c.piece_of.ensures.part
     (adds x b s f h (p ∷ []) bytes at new r open_at.is (omega (arith, c.piece_of.ensures.len, kept, same)) is)
+
+pub returns-in_default-clause-made : goal.returns-in_default-clause-made
+returns-in_default-clause-made c =
+    let at = c.args.at.now in
+    let F : Edits → Type 0 = OfSlice c.args.kept.slice (AddsAt c.args.settings.region (seen c.args.kv.now at) (handle_in c.args.s.now c.args.f)) in
+    makes_refused (answer.Refused NoHandle) NoHandle F at at refl refl
+
+pub returns-then-kept-eq0-clause-made : goal.returns-then-kept-eq0-clause-made
+returns-then-kept-eq0-clause-made c =
+    let at = c.args.at.now in
+    let b = seen c.args.kv.now at in
+    let z = c.args.settings.region in
+    let o = handle_in c.args.s.now c.args.f in
+    brings_no_slice answer.Okay c.args.kept.slice (AddsAt z b o) at at (no_slice_kept c.args.kept.slice c.args.kept.len c.args.kept.held c.if-kept-eq0.true) (adds_none z b o) refl
+
+pub returns-in_default-slice-clause-made : goal.returns-in_default-slice-clause-made
+returns-in_default-slice-clause-made c =
+    let at = c.args.at.now in
+    let b = seen c.args.kv.now at in
+    let z = c.args.settings.region in
+    let o = handle_in c.args.s.now c.args.f in
+    let back = rewound at c.add_pieces.new.at c.rewind.new.self c.mark-after.result.reads c.mark-before.result.changes c.rewind.ensures.cut (ap (λ m. m.reads) c.mark-after.ensures) (ap (λ m. m.changes) c.mark-before.ensures) c.in_ok-added.ensures.grows in
+    brings_no_slice c.answer_to.result c.args.kept.slice (AddsAt z b o) at c.rewind.new.self c.in_default-slice.is (adds_none z b o) back.changes
+
+pub returns-clause-made : goal.returns-clause-made
+returns-clause-made c =
+    let s = c.args.s.now in
+    let f = c.args.f in
+    let at = c.args.at.now in
+    let new = c.add_pieces-2.new.at in
+    let b = seen c.args.kv.now at in
+    let z = c.args.settings.region in
+    let o = handle_in s f in
+    let p = c.piece_of.result in
+    let r = c.in_ok-added-2.added in
+    let i = c.in-Some.spot.inode in
+    let open_at = spot_open c.handle_of.result o c.in-Some.spot c.handle_of.ensures c.in-Some.is in
+    brings_slice c.answer_to-2.result (answer_of r) c.args.kept.slice c.in-Some-slice.slice p (AddsAt z b o) at new c.answer_to-2.ensures.value c.in-Some-slice.is c.piece_of.ensures.len c.piece_of.ensures.part
+    (makes_added z b o open_at.handle i (p ∷ []) at new r open_at.is open_at.inode c.in_ok-added-2.ensures.added)

@@ -12,6 +12,10 @@ use Rattle.wtf_rw.specs.Sizes.{Zeroes}
 use Rattle.wtf_model.proofs.ByteLaws.{punch-none}
 use Rattle.wtf_steps.proofs.Ways.{no_handle, step_of, spot_open, spot_closed}
 use Rattle.wtf_rw.proofs.FileWays.{changes, punches}
+use Rattle.wtf_steps.proofs.Making.{makes_refused, makes_these, of_file}
+use Rattle.wtf_meta.specs.FileEdits.{edits_of}
+use Rattle.wtf_rw.specs.Changed.{PunchesAt}
+use Rattle.wtf_rw.specs.Sizes.{IsPunched}
 use Rattle.wtf_rw.proofs.sizes.punch.Goals as goal
 
 pub returns-in_default-clause-step : goal.returns-in_default-clause-step
@@ -39,3 +43,20 @@ returns-clause-step c x b size =
       is_call = punches x b s f h open_at.is n edited.edits edited.does;
       more = record { facts = refl; stored = refl };
     }
+
+pub returns-in_default-clause-made : goal.returns-in_default-clause-made
+returns-in_default-clause-made c =
+    makes_refused (answer.Refused NoHandle) NoHandle (PunchesAt c.args.settings.region (handle_in c.args.s.now c.args.f) c.args.n) c.args.at.now c.args.at.now refl refl
+
+pub returns-clause-made : goal.returns-clause-made
+returns-clause-made c =
+    let s = c.args.s.now in
+    let f = c.args.f in
+    let n = c.args.n in
+    let z = c.args.settings.region in
+    let i = c.in-Some.spot.inode in
+    let open_at = spot_open c.handle_of.result (handle_in s f) c.in-Some.spot c.handle_of.ensures c.in-Some.is in
+    let edited = c.in_ok-zero.ensures.ok in
+    makes_these (PunchesAt z (handle_in s f) n) (edits_of i edited.edits) c.args.at.now c.zero.new.at edited.grows.changes
+    (of_file (λ g ds. IsPunched z g.off n ds) (handle_in s f) open_at.handle i edited.edits open_at.is open_at.inode
+    (subst (λ (k : ℕ). IsPunched z k n edited.edits) open_at.off edited.does.exact))

@@ -1,4 +1,4 @@
-use Rattle.std.proofs.Common.{ℕ, [], refl, sym, subst, arith}
+use Rattle.std.proofs.Common.{◌≡◌, ℕ, [], refl, sym, subst, arith}
 use Rattle.wtf_base.specs.declared.ids.InodeId.{InodeId}
 use Rattle.wtf_occ.proofs.AttemptLaws.{GrowsBy-nothing}
 use Rattle.wtf_model.specs.declared.answer.Answer.TheVariants as answer
@@ -12,6 +12,10 @@ use Rattle.wtf_rw.specs.Sizes.{CutsTo}
 use Rattle.wtf_model.proofs.ByteLaws.{truncate-none}
 use Rattle.wtf_steps.proofs.Ways.{no_handle, step_of, spot_open, spot_closed}
 use Rattle.wtf_rw.proofs.FileWays.{changes, truncates, truncates_too_far}
+use Rattle.wtf_steps.proofs.Making.{makes_refused, makes_these, of_file}
+use Rattle.wtf_meta.specs.FileEdits.{edits_of}
+use Rattle.wtf_rw.specs.Changed.{CutsAt}
+use Rattle.wtf_rw.specs.Sizes.{cut_to}
 use Rattle.wtf_rw.proofs.sizes.truncate.Goals as goal
 
 pub returns-in_default-clause-step : goal.returns-in_default-clause-step
@@ -47,3 +51,23 @@ returns-clause-step c x b size =
       is_call = truncates x b s f h open_at.is n edited.edits (omega (arith, c.cap.ensures, size, c.if-n-cap.false)) edited.does;
       more = record { facts = refl; stored = refl };
     }
+
+pub returns-in_default-clause-made : goal.returns-in_default-clause-made
+returns-in_default-clause-made c =
+    makes_refused (answer.Refused NoHandle) NoHandle (CutsAt c.args.settings.region (handle_in c.args.s.now c.args.f) c.args.n) c.args.at.now c.args.at.now refl refl
+
+pub returns-then-n-cap-clause-made : goal.returns-then-n-cap-clause-made
+returns-then-n-cap-clause-made c =
+    makes_refused (answer.Refused TooBig) TooBig (CutsAt c.args.settings.region (handle_in c.args.s.now c.args.f) c.args.n) c.args.at.now c.args.at.now refl refl
+
+pub returns-clause-made : goal.returns-clause-made
+returns-clause-made c =
+    let s = c.args.s.now in
+    let f = c.args.f in
+    let n = c.args.n in
+    let z = c.args.settings.region in
+    let i = c.in-Some.spot.inode in
+    let open_at = spot_open c.handle_of.result (handle_in s f) c.in-Some.spot c.handle_of.ensures c.in-Some.is in
+    let edited = c.in_ok-cut.ensures.ok in
+    makes_these (CutsAt z (handle_in s f) n) (edits_of i edited.edits) c.args.at.now c.cut.new.at edited.grows.changes
+    (of_file (λ g ds. ds ≡ cut_to z n) (handle_in s f) open_at.handle i edited.edits open_at.is open_at.inode edited.does.exact)

@@ -7,7 +7,7 @@ use Rattle.wtf_rw.proofs.sizes.zero.Given as goal
 abbrev pub invariant-loop-done : goal.invariant-loop-done
 invariant-loop-done l = record {
   upto : l.done ≤ l.len;
-  made : Edited l.inode [] (ZeroesRegions l.fn.settings.region l.inode l.off l.done) l.fn.at l.at;
+  made : Edited l.inode [] (ZeroesRegions l.fn.settings.region l.inode l.off l.len l.done) l.fn.at l.at;
 }
 
 abbrev pub decreases-loop-done : goal.decreases-loop-done

@@ -18,6 +18,11 @@ use Rattle.wtf_steps.proofs.FileWays.{brings, writes}
 use Rattle.wtf_rw.proofs.FileWays.{writes_nothing, writes_too_far}
 use Rattle.wtf_rw.proofs.StoredBytes.{tell_stored, step_only}
 use Rattle.wtf_rw.proofs.FaultWays.{write_due}
+use Rattle.wtf_steps.specs.Made.{LaysAt}
+use Rattle.wtf_steps.proofs.Making.{makes_refused, lays_none, makes_laid}
+use Rattle.wtf_rw.specs.Changed.{OfSlice}
+use Rattle.wtf_rw.proofs.MadeWays.{brings_no_slice, brings_slice}
+use Rattle.wtf_meta.specs.Maps.{Edits}
 use Rattle.wtf_rw.proofs.writes.write_fresh.Goals as goal
 
 pub returns-in_default-clause-step : goal.returns-in_default-clause-step
@@ -89,3 +94,33 @@ returns-in-Err-clause-due g c w =
     let fit = c.ends_within.ensures.within c.if-not-ends_within.false in
     write_due g.S.SliceStore.kind (between c.args.dev.now c.store_bytes.new.dev) c.args.dev.now.settings w s f open_at.handle c.args.bytes.now c.in-Err.why open_at.is
     (omega (arith, c.if-len-eq0.false)) (omega (arith, fit, c.cap.ensures, open_at.off)) c.in-Err.ensures.fault
+
+pub returns-in_default-clause-made : goal.returns-in_default-clause-made
+returns-in_default-clause-made g c =
+    let at = c.args.at.now in
+    let F : Edits → Type 0 = OfSlice c.only.result.own (LaysAt c.args.dev.now.settings.region (handle_in c.args.s.now c.args.f)) in
+    makes_refused c.only.result.answer NoHandle F at at c.only.ensures.answer refl
+
+pub returns-then-len-eq0-clause-made : goal.returns-then-len-eq0-clause-made
+returns-then-len-eq0-clause-made g c =
+    let at = c.args.at.now in
+    let z = c.args.dev.now.settings.region in
+    let o = handle_in c.args.s.now c.args.f in
+    brings_no_slice c.only-then-len-eq0.result.answer c.only-then-len-eq0.result.own (LaysAt z o) at at c.only-then-len-eq0.ensures.own (lays_none z o) refl
+
+pub returns-then-not-ends_within-clause-made : goal.returns-then-not-ends_within-clause-made
+returns-then-not-ends_within-clause-made g c =
+    let at = c.args.at.now in
+    let F : Edits → Type 0 = OfSlice c.only-then-not-ends_within.result.own (LaysAt c.args.dev.now.settings.region (handle_in c.args.s.now c.args.f)) in
+    makes_refused c.only-then-not-ends_within.result.answer TooBig F at at c.only-then-not-ends_within.ensures.answer refl
+
+pub returns-in-Ok-lay-clause-made : goal.returns-in-Ok-lay-clause-made
+returns-in-Ok-lay-clause-made g c =
+    let s = c.args.s.now in
+    let f = c.args.f in
+    let z = c.args.dev.now.settings.region in
+    let o = handle_in s f in
+    let p = c.piece_of.result in
+    let open_at = spot_open c.handle_of.result o c.in-Some.spot c.handle_of.ensures c.in-Some.is in
+    brings_slice answer.Okay answer.Okay (Some c.in-Ok.slice) c.in-Ok.slice p (LaysAt z o) c.args.at.now c.lay.new.at refl refl c.piece_of.ensures.len c.piece_of.ensures.part
+    (makes_laid z o open_at.handle c.in-Some.spot.inode c.in-Some.spot.off (p ∷ []) c.args.at.now c.lay.new.at open_at.is open_at.inode open_at.off c.in-Ok-lay.ensures.laid)

@@ -1,4 +1,4 @@
-use Rattle.std.proofs.Common.{◌≡◌, ℕ, ◌+◌, [], ◌∷◌, length, Option, Some, sym, ◌∙◌, subst, arith}
+use Rattle.std.proofs.Common.{◌≡◌, ℕ, ◌+◌, [], ◌∷◌, length, Option, Some, refl, sym, ◌∙◌, subst, arith}
 use Rattle.std.specs.Option.{option_map}
 use Rattle.wtf_base.specs.declared.ids.InodeId.{InodeId}
 use Rattle.wtf_base.specs.Slices.{HasLength, len_of}
@@ -16,6 +16,11 @@ use Rattle.wtf_steps.proofs.Ways.{no_handle, spot_open, spot_closed}
 use Rattle.wtf_steps.proofs.FileWays.{brings, writes}
 use Rattle.wtf_rw.proofs.FileWays.{writes_nothing, writes_too_far, answers_closed, answers_nothing, answers_too_far, answers_written}
 use Rattle.wtf_rw.proofs.StoredBytes.{brought, step_stored}
+use Rattle.wtf_steps.specs.Made.{LaysAt}
+use Rattle.wtf_steps.proofs.Making.{makes_refused, lays_none, makes_laid}
+use Rattle.wtf_rw.specs.Changed.{OfSlice}
+use Rattle.wtf_rw.proofs.MadeWays.{no_slice_kept, brings_no_slice, brings_slice}
+use Rattle.wtf_meta.specs.Maps.{Edits}
 use Rattle.wtf_rw.proofs.writes.write_stored.Goals as goal
 
 pub returns-in_default-clause-step : goal.returns-in_default-clause-step
@@ -99,3 +104,40 @@ returns-clause-step c x b bytes size same has =
           (omega (arith, len)) edited.does set;
       more = brought h.inode [] edited.edits c.args.kept.slice slice p bytes c.in-Some-slice.is c.piece_of.ensures.len c.piece_of.ensures.part;
     }
+
+pub returns-in_default-clause-made : goal.returns-in_default-clause-made
+returns-in_default-clause-made c =
+    let at = c.args.at.now in
+    let F : Edits → Type 0 = OfSlice c.args.kept.slice (LaysAt c.args.settings.region (handle_in c.args.s.now c.args.f)) in
+    makes_refused (answer.Refused NoHandle) NoHandle F at at refl refl
+
+pub returns-then-kept-eq0-clause-made : goal.returns-then-kept-eq0-clause-made
+returns-then-kept-eq0-clause-made c =
+    let at = c.args.at.now in
+    let z = c.args.settings.region in
+    let o = handle_in c.args.s.now c.args.f in
+    brings_no_slice answer.Okay c.args.kept.slice (LaysAt z o) at at (no_slice_kept c.args.kept.slice c.args.kept.len c.args.kept.held c.if-kept-eq0.true) (lays_none z o) refl
+
+pub returns-then-not-ends_within-clause-made : goal.returns-then-not-ends_within-clause-made
+returns-then-not-ends_within-clause-made c =
+    let at = c.args.at.now in
+    let F : Edits → Type 0 = OfSlice c.args.kept.slice (LaysAt c.args.settings.region (handle_in c.args.s.now c.args.f)) in
+    makes_refused (answer.Refused TooBig) TooBig F at at refl refl
+
+pub returns-in_default-slice-clause-made : goal.returns-in_default-slice-clause-made
+returns-in_default-slice-clause-made c =
+    let at = c.args.at.now in
+    let z = c.args.settings.region in
+    let o = handle_in c.args.s.now c.args.f in
+    brings_no_slice answer.Okay c.args.kept.slice (LaysAt z o) at at c.in_default-slice.is (lays_none z o) refl
+
+pub returns-clause-made : goal.returns-clause-made
+returns-clause-made c =
+    let s = c.args.s.now in
+    let f = c.args.f in
+    let z = c.args.settings.region in
+    let o = handle_in s f in
+    let p = c.piece_of.result in
+    let open_at = spot_open c.handle_of.result o c.in-Some.spot c.handle_of.ensures c.in-Some.is in
+    brings_slice answer.Okay answer.Okay c.args.kept.slice c.in-Some-slice.slice p (LaysAt z o) c.args.at.now c.lay.new.at refl c.in-Some-slice.is c.piece_of.ensures.len c.piece_of.ensures.part
+    (makes_laid z o open_at.handle c.in-Some.spot.inode c.in-Some.spot.off (p ∷ []) c.args.at.now c.lay.new.at open_at.is open_at.inode open_at.off c.in_ok-lay.ensures.laid)
