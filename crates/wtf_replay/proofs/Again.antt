@@ -11,13 +11,10 @@ use Rattle.wtf_values.specs.declared.key.Key.{Key}
 use Rattle.wtf_values.specs.declared.value.Value.{Value}
 use Rattle.wtf_log.specs.Standing.{OpStandsFor}
 use Rattle.wtf_log.proofs.StandingLaws.{OpsStandFor-get}
-use Rattle.wtf_overlay.specs.Origin.{Place}
-use Rattle.wtf_meta.specs.Bytes.{EditsBytes}
 use Rattle.wtf_meta.specs.Contents.{Told, is_told}
 use Rattle.wtf_meta.specs.Maps.{metadata_at, seen}
 use Rattle.wtf_meta.proofs.MapBytes.{with_bytes}
 use Rattle.wtf_replay.specs.Views.{TxnView, hand_of}
-use Rattle.wtf_replay.specs.Fits.{IsLog}
 use Rattle.wtf_replay.specs.Sounds.{tells_slice, caller_at, IsSound, IsToldStep, IsDue, TellsMap, TellsHand}
 use Rattle.wtf_replay.specs.Replays.{DeviatesOn}
 use Rattle.wtf_meta.proofs.Nothing.{nothing_kept}

@@ -12,7 +12,7 @@ use Rattle.wtf_model.specs.Transaction.{session_from, answers_from, answers_of, 
 use Rattle.wtf_values.specs.declared.key.Key.{Key}
 use Rattle.wtf_values.specs.declared.value.Value.{Value}
 use Rattle.wtf_log.proofs.StandingLaws.{OpsStandFor-length}
-use Rattle.wtf_meta.specs.Maps.{Map, with, metadata_at, seen}
+use Rattle.wtf_meta.specs.Maps.{with, metadata_at, seen}
 use Rattle.wtf_meta.specs.Contents.{Told}
 use Rattle.wtf_meta.specs.Trees.{Stands}
 use Rattle.wtf_meta.specs.Calls.{cap_for, Ran}

@@ -1,22 +1,25 @@
 -- Ends of replays and of commits.
-use Rattle.std.proofs.Common.{◌≡◌, ◌+◌, ℕ, List, sym, ap, ◌∙◌, subst}
-use Rattle.wtf_kv.specs.Stores.{Store}
+use Rattle.std.proofs.Common.{◌≡◌, ◌+◌, ℕ, List, Option, sym, ap, ◌∙◌, subst}
+use Rattle.wtf_kv.specs.Edits.{Agree, versions_with}
+use Rattle.wtf_kv.specs.Stores.{Store, versions_of}
 use Rattle.wtf_model.specs.declared.answer.Answer.{Answer, Aborted'}
 use Rattle.wtf_model.specs.declared.answer.Answer.TheVariants as answer
 use Rattle.wtf_model.specs.declared.op.Op.{Op}
 use Rattle.wtf_model.specs.Same.{IsAbortedAt}
 use Rattle.wtf_values.specs.declared.key.Key.{Key}
 use Rattle.wtf_values.specs.declared.value.Value.{Value}
-use Rattle.wtf_meta.specs.Maps.{Map, with, metadata_at}
+use Rattle.wtf_values.specs.Keys.{key_cmp}
+use Rattle.wtf_values.specs.Outcomes.{outcome_of}
+use Rattle.wtf_meta.specs.Maps.{Map, AllFit, with, metadata_at}
 use Rattle.wtf_meta.specs.Contents.{Told}
 use Rattle.wtf_meta.specs.Trees.{Stands}
-use Rattle.wtf_meta.specs.Calls.{Ran}
+use Rattle.wtf_meta.specs.Calls.{IsRun}
 use Rattle.wtf_replay.specs.Views.{TxnView}
 use Rattle.wtf_model.specs.Transaction.{answers_of}
 use Rattle.wtf_model.specs.Lawful.{Deviates}
 use Rattle.wtf_meta.specs.Calls.{cap_for}
-use Rattle.wtf_replay.specs.Sounds.{caller_at, IsSound}
-use Rattle.wtf_replay.specs.Tried.{IsFinal}
+use Rattle.wtf_replay.specs.Sounds.{caller_at, did_by}
+use Rattle.wtf_replay.specs.Tried.{IsFinal, KeepsVersions}
 use Rattle.wtf_replay.specs.Replays.{IsAborted, IsStepped, DeviatesOn, IsTrueStep, IsEnded, IsTrueEnd}
 
 -- an answer that tells of calls that deviate
@@ -51,15 +54,19 @@ deviates_as w size told x y ops i a tx log h t st =
 
 pub final_as : (size : ℕ) (told : Told) (kv after : Store Key Value) (x y : TxnView) (ops : List (Op (List ℕ))) (n : ℕ) → y.tx ≡ x.tx → y.log ≡ x.log → IsFinal size told kv after x ops n → IsFinal size told kv after y ops n
 final_as size told kv after x y ops n tx log f = record {
-  changes = f.changes;
+  at = f.at;
   session = f.session;
+  facts = f.facts;
+  stored = f.stored;
+  told_are = f.told_are;
+  run = subst (λ c. IsRun (caller_at size c 0) (metadata_at kv f.at.base) f.session (did_by f.at f.facts f.stored) (ops, y.log.shown)) (sym tx)
+      (subst (λ l. IsRun (caller_at size x.tx 0) (metadata_at kv f.at.base) f.session (did_by f.at f.facts f.stored) (ops, l.shown)) (sym log) f.run);
+  agree = f.agree;
+  fits = f.fits;
   next = f.next;
   number = f.number;
   map = f.map;
-  ran = λ t st.
-      subst (λ c. Ran (caller_at size c 0) told (metadata_at kv kv.number) (with f.changes (metadata_at kv kv.number)) f.session t (ops, y.log.shown)) (sym tx)
-      (subst (λ l. Ran (caller_at size x.tx 0) told (metadata_at kv kv.number) (with f.changes (metadata_at kv kv.number)) f.session t (ops, l.shown)) (sym log)
-      (f.ran t (subst (λ c. Stands size told c 0 (metadata_at kv kv.number) t) tx st)));
+  versions = f.versions;
 }
 
 -- and so does the meaning of a commit
@@ -69,22 +76,33 @@ true_end_as (Aborted' i box a) size told kv after x y ops tx log h = deviates_as
 true_end_as r size told kv after x y ops tx log h = tt
 
 -- the same of stores that show the same maps
-final_along : (size : ℕ) (told : Told) (kv kv2 after after2 : Store Key Value) (x : TxnView) (ops : List (Op (List ℕ))) (n : ℕ) → kv2.number ≡ kv.number → metadata_at kv2 kv2.number ≡ metadata_at kv kv.number
-    → after2.number ≡ after.number → ((m : ℕ) → metadata_at after2 m ≡ metadata_at after m) → IsFinal size told kv after x ops n → IsFinal size told kv2 after2 x ops n
-final_along size told kv kv2 after after2 x ops n number map number2 maps f = record {
-  changes = f.changes;
-  session = f.session;
-  next = f.next ∙ ap (λ k. k + 1) (sym number);
-  number = number2 ∙ f.number;
-  map = maps n ∙ f.map ∙ ap (with f.changes) (sym map);
-  ran = λ t st. subst (λ (w : Map). Ran (caller_at size x.tx 0) told w (with f.changes w) f.session t (ops, x.log.shown)) (sym map) (f.ran t (subst (λ w. Stands size told x.tx 0 w t) map st));
-}
+final_along : (size : ℕ) (told : Told) (kv kv2 after after2 : Store Key Value) (x : TxnView) (ops : List (Op (List ℕ))) (n : ℕ) → kv2.number ≡ kv.number → ((m : ℕ) → metadata_at kv2 m ≡ metadata_at kv m) → KeepsVersions kv kv2
+    → after2.number ≡ after.number → ((m : ℕ) → metadata_at after2 m ≡ metadata_at after m) → KeepsVersions after after2 → IsFinal size told kv after x ops n → IsFinal size told kv2 after2 x ops n
+final_along size told kv kv2 after after2 x ops n number same keeps number2 maps keeps2 f =
+    let map : metadata_at kv2 kv2.number ≡ metadata_at kv kv.number = ap (metadata_at kv2) number ∙ same kv.number in
+    record {
+      at = f.at;
+      session = f.session;
+      facts = f.facts;
+      stored = f.stored;
+      told_are = f.told_are;
+      run = subst (λ w. IsRun (caller_at size x.tx 0) w f.session (did_by f.at f.facts f.stored) (ops, x.log.shown)) (sym (same f.at.base)) f.run;
+      agree = subst (λ w. Agree f.at.reads (metadata_at kv2 f.at.base) w) (sym map) (subst (λ w. Agree f.at.reads w (metadata_at kv kv.number)) (sym (same f.at.base)) f.agree);
+      fits = subst (AllFit f.at.changes) (sym map) f.fits;
+      next = f.next ∙ ap (λ k. k + 1) (sym number);
+      number = number2 ∙ f.number;
+      map = maps n ∙ f.map ∙ ap (with f.at.changes) (sym map);
+      versions = λ q.
+          keeps2 q ∙ f.versions q
+          ∙ ap (λ (w : Map). versions_with key_cmp outcome_of f.at.changes n q (w q) (versions_of key_cmp kv q)) (sym map)
+          ∙ ap (λ (l : List (ℕ × Option Value)). versions_with key_cmp outcome_of f.at.changes n q (metadata_at kv2 kv2.number q) l) (sym (keeps q));
+    }
 
-pub true_end_along : (r : Answer) (size : ℕ) (told : Told × Told) (kv kv2 after after2 : Store Key Value) (x : TxnView) (ops : List (Op (List ℕ))) → kv2.number ≡ kv.number → metadata_at kv2 kv2.number ≡ metadata_at kv kv.number
-    → after2.number ≡ after.number → ((m : ℕ) → metadata_at after2 m ≡ metadata_at after m) → IsTrueEnd size told kv after x ops r → IsTrueEnd size told kv2 after2 x ops r
-true_end_along (answer.Committed n) size told kv kv2 after after2 x ops number map number2 maps h = final_along size told.1 kv kv2 after after2 x ops n number map number2 maps h
-true_end_along (Aborted' i box a) size told kv kv2 after after2 x ops number map number2 maps h = subst (λ w. DeviatesOn w size told.0 x ops i a) (sym map) h
-true_end_along r size told kv kv2 after after2 x ops number map number2 maps h = tt
+pub true_end_along : (r : Answer) (size : ℕ) (told : Told × Told) (kv kv2 after after2 : Store Key Value) (x : TxnView) (ops : List (Op (List ℕ))) → kv2.number ≡ kv.number → ((m : ℕ) → metadata_at kv2 m ≡ metadata_at kv m) → KeepsVersions kv kv2
+    → after2.number ≡ after.number → ((m : ℕ) → metadata_at after2 m ≡ metadata_at after m) → KeepsVersions after after2 → IsTrueEnd size told kv after x ops r → IsTrueEnd size told kv2 after2 x ops r
+true_end_along (answer.Committed n) size told kv kv2 after after2 x ops number same keeps number2 maps keeps2 h = final_along size told.1 kv kv2 after after2 x ops n number same keeps number2 maps keeps2 h
+true_end_along (Aborted' i box a) size told kv kv2 after after2 x ops number same keeps number2 maps keeps2 h = subst (λ w. DeviatesOn w size told.0 x ops i a) (sym (ap (metadata_at kv2) number ∙ same kv.number)) h
+true_end_along r size told kv kv2 after after2 x ops number same keeps number2 maps keeps2 h = tt
 
 pub ended_along : (r : Answer) (kv kv2 after after2 : Store Key Value) → kv2.number ≡ kv.number → after2.number ≡ after.number → IsEnded kv after r → IsEnded kv2 after2 r
 ended_along (answer.Committed n) kv kv2 after after2 number number2 h = (h.0 ∙ ap (λ k. k + 1) (sym number), number2 ∙ h.1)

@@ -1,5 +1,5 @@
 -- A fault of a call that is made once more comes only where the machine allows it.
-use Rattle.std.proofs.Common.{◌≡◌, ◌⊎◌, ◌<◌, ◌≤◌, ℕ, Bool, List, [], ◌∷◌, length, take, Option, None, Some, refl, sym, ap, ◌∙◌, subst, arith, slice_get, inl, inr}
+use Rattle.std.proofs.Common.{◌≡◌, ◌⊎◌, ◌<◌, ℕ, Bool, List, [], ◌∷◌, length, take, Option, None, Some, refl, sym, ap, subst, arith, slice_get, inl, inr}
 use Rattle.std.proofs.lemmas.Option.{slice_get_within}
 use Rattle.wtf_base.specs.declared.fault.Fault.{Fault}
 use Rattle.wtf_base.specs.declared.fault.Fault.TheVariants as fault
@@ -8,6 +8,7 @@ use Rattle.wtf_base.specs.declared.slice.Slice.{Slice}
 use Rattle.wtf_base.specs.declared.settings.Settings.{Settings}
 use Rattle.wtf_dev.specs.Store.{StoreKind, KindLaws}
 use Rattle.wtf_kv.specs.Stores.{Store}
+use Rattle.wtf_occ.specs.Tries.{Stays}
 use Rattle.wtf_model.specs.declared.answer.Answer.{Answer}
 use Rattle.wtf_model.specs.declared.answer.Answer.TheVariants as answer
 use Rattle.wtf_model.specs.declared.op.Op.{Op}
@@ -18,6 +19,7 @@ use Rattle.wtf_model.specs.Call.{call}
 use Rattle.wtf_model.specs.Transaction.{answers_of, session_after}
 use Rattle.wtf_values.specs.declared.key.Key.{Key}
 use Rattle.wtf_values.specs.declared.value.Value.{Value}
+use Rattle.wtf_values.specs.Keys.{key_cmp}
 use Rattle.wtf_log.specs.Standing.{OpStandsFor}
 use Rattle.wtf_log.proofs.StandingLaws.{OpsStandFor-get, OpStandsFor-weaker}
 use Rattle.wtf_meta.specs.Contents.{Told}
@@ -30,9 +32,11 @@ use Rattle.wtf_meta.specs.Calls.{cap_for}
 use Rattle.wtf_region.specs.declared.dev.Dev.{Dev}
 use Rattle.wtf_region.specs.Devs.{stores}
 use Rattle.wtf_steps.specs.Faults.{MayStandFor}
-use Rattle.wtf_replay.specs.Views.{TxnView, hand_of, replaying, rebased}
+use Rattle.wtf_replay.specs.Views.{TxnView, hand_of, replaying}
 use Rattle.wtf_replay.specs.Sounds.{tells_slice, caller_at, IsSound, TellsMap}
 use Rattle.wtf_replay.specs.Causes.{IsAgainFault, MayAgainFault, FaultAt, ReplayFault, IsCommitFault, fault_answer, MayFaultAt, MayStepFault, MayEndFault, MayCommitFault}
+use Rattle.wtf_replay.specs.Tried.{commit_from}
+use Rattle.wtf_replay.proofs.Froms.{from_along}
 use Rattle.wtf_replay.proofs.Later.{tells_on, stands_later}
 use Rattle.wtf_replay.proofs.Sounding.{sound_along}
 use Rattle.wtf_replay.proofs.Deviating.{answers_from-at, at_base, before_next}
@@ -79,7 +83,7 @@ by_cause kind old new w s P (op.Peek l off n) o servers answers k d why stands c
 by_cause kind old new w s P kept o servers answers k d why stands cause is may = short servers answers k why cause
 
 pub step_fault : {S : Type 0} (kind : StoreKind S) (old new : Dev S) (kv : Store Key Value) (told : Told) (x : TxnView) (ops : List (Op (List ℕ))) (why : Fault) → IsSound old.settings.region kv told x ops
-    → FaultAt kind old new kv (hand_of x) x.log x.replayed why → MayStepFault old.settings (metadata_at kv x.at.base) told x ops why
+    → FaultAt kind old new kv (hand_of x) (slice_get x.log.ops x.replayed) why → MayStepFault old.settings (metadata_at kv x.at.base) told x ops why
 step_fault kind old new kv told x ops why sound f t st =
     let size : ℕ = old.settings.region in
     let cap : ℕ = cap_for (caller_at size x.tx 0) in
@@ -118,12 +122,11 @@ fault_along kind old new kv after x why same f = record {
   };
 }
 
--- and a commit's
-pub commit_fault_along : {S : Type 0} (kind : StoreKind S) (old new : Dev S) (kv after : Store Key Value) (x : TxnView) (why : Fault) → kv.number ≡ after.number → ((m : ℕ) → metadata_at kv m ≡ metadata_at after m)
-    → IsCommitFault kind old new kv x why → IsCommitFault kind old new after x why
-commit_fault_along kind old new kv after x why number same (inl short) = inl short
-commit_fault_along kind old new kv after x why number same (inr (inl f)) = inr (inl (f.0 ∙ number, fault_along kind old new kv after x why same f.1))
-commit_fault_along kind old new kv after x why number same (inr (inr f)) = inr (inr (subst (λ n. ReplayFault kind old new after (rebased x n) why) number (fault_along kind old new kv after (rebased x kv.number) why same f)))
+-- and a commit's over one that stays
+pub commit_fault_along : {S : Type 0} (kind : StoreKind S) (old new : Dev S) (kv mid : Store Key Value) (x : TxnView) (why : Fault) → Stays key_cmp kv mid → IsCommitFault kind old new mid x why → IsCommitFault kind old new kv x why
+commit_fault_along kind old new kv mid x why stays (inl short) = inl short
+commit_fault_along kind old new kv mid x why stays (inr f) =
+    inr (subst (λ y. ReplayFault kind old new kv y why) (from_along kv mid x stays) (fault_along kind old new mid kv (commit_from mid x) why stays.maps f))
 
 -- no replay reads whether a transaction has ended
 pub fault_as : {S : Type 0} (kind : StoreKind S) (old new : Dev S) (kv : Store Key Value) (x : TxnView) (over : Bool) (why : Fault) → ReplayFault kind old new kv x why → ReplayFault kind old new kv (record x { ended = over }) why

@@ -1,6 +1,5 @@
 -- What a transaction names goes on lying inside the stores.
-use Rattle.std.proofs.Common.{◌≡◌, ℕ, ◌≤◌, Bool, true, List, [], ◌∷◌, ◌++◌, length, Option, None, Some, slice_get, refl, sym, subst}
-use Rattle.std.specs.List.{All}
+use Rattle.std.proofs.Common.{◌≡◌, ℕ, ◌≤◌, Bool, true, List, [], ◌∷◌, length, Option, None, Some, slice_get, refl, sym, subst}
 use Rattle.std.specs.Prelude.{IfSome}
 use Rattle.wtf_base.specs.declared.slice.Slice.{Slice}
 use Rattle.std.proofs.lemmas.List.Elements.{All-weaker, All-get_or}
@@ -10,7 +9,6 @@ use Rattle.wtf_base.specs.declared.settings.Settings.{Settings}
 use Rattle.wtf_dev.specs.Store.{StoreKind, KindLaws}
 use Rattle.wtf_dev.specs.Each.{EachFollows}
 use Rattle.wtf_kv.specs.Stores.{Store}
-use Rattle.wtf_kv.specs.declared.changes.Change.{Change}
 use Rattle.wtf_kv.specs.declared.changes.Change.TheVariants as change
 use Rattle.wtf_occ.specs.Attempts.{Attempted}
 use Rattle.wtf_overlay.specs.Origin.{Place}
@@ -21,7 +19,7 @@ use Rattle.wtf_values.specs.declared.value.Value.{Value}
 use Rattle.wtf_values.specs.declared.value.Delta.{Delta}
 use Rattle.wtf_values.specs.declared.value.Delta.TheVariants as delta
 use Rattle.wtf_log.specs.Calls.{Calls, own_of}
-use Rattle.wtf_meta.specs.Bytes.{MapBytes, EditsBytes, EditBytes, DeltaBytes, PiecesBytes}
+use Rattle.wtf_meta.specs.Bytes.{MapBytes, EditsBytes, DeltaBytes, PiecesBytes}
 use Rattle.wtf_meta.specs.Maps.{Map, Edits, metadata_at, seen}
 use Rattle.wtf_meta.specs.Sessions.{SessionView, SessionBytes}
 use Rattle.wtf_meta.specs.Calls.{Caller, InHand, IsStep}

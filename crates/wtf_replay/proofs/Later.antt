@@ -1,30 +1,22 @@
 -- What stores that go on still tell, and still hold.
-use Rattle.std.proofs.Common.{◌≡◌, ℕ, ◌<◌, ◌≤◌, Bool, true, List, [], ◌∷◌, length, Option, Some, None, get_or, refl, sym, ap, ◌∙◌, subst, arith}
-use Rattle.std.specs.List.{All}
-use Rattle.wtf_base.specs.declared.settings.Settings.{Settings}
+use Rattle.std.proofs.Common.{ℕ, ◌<◌, List, [], ◌∷◌, length, Option, Some, None, get_or, ◌∙◌, arith}
 use Rattle.wtf_dev.specs.Store.{StoreKind, KindLaws}
 use Rattle.wtf_dev.specs.Each.{EachFollows}
 use Rattle.wtf_dev.specs.Sums.{TellsAll}
-use Rattle.wtf_kv.specs.Stores.{Store}
-use Rattle.wtf_overlay.specs.Origin.{Place}
 use Rattle.wtf_replica.specs.Bytes.{byte_at}
 use Rattle.wtf_replica.proofs.Bytes.{byte_at-kept}
 use Rattle.wtf_model.specs.declared.answer.Answer.{Answer}
 use Rattle.wtf_model.specs.declared.op.Op.{Op}
 use Rattle.wtf_model.specs.Tree.{Tree, TreeNode, Dir, File}
-use Rattle.wtf_values.specs.declared.key.Key.{Key}
 use Rattle.wtf_values.specs.declared.key.Key.TheVariants.{Path}
 use Rattle.wtf_values.specs.declared.value.Value.{Value}
 use Rattle.wtf_values.specs.declared.value.Value.TheVariants as value
 use Rattle.wtf_values.specs.declared.value.Node.TheVariants.{Folder, File as FileNode}
-use Rattle.wtf_meta.specs.Bytes.{MapBytes, EditsBytes, EditBytes, DeltaBytes, PiecesBytes, EntryBytes}
 use Rattle.wtf_meta.specs.Contents.{Told, is_told}
 use Rattle.wtf_meta.specs.FileEdits.{file_of}
-use Rattle.wtf_meta.specs.Maps.{Map, Edits}
-use Rattle.wtf_meta.specs.Trees.{NodeAt, IsBody, Stands}
+use Rattle.wtf_meta.specs.Maps.{Map}
+use Rattle.wtf_meta.specs.Trees.{NodeAt, Stands}
 use Rattle.wtf_meta.proofs.Telling.{TellsOn, HasBytes-later, is_told-later}
-use Rattle.wtf_region.specs.Inside.{is_inside}
-use Rattle.wtf_region.proofs.InsideLaws.{inside_stays}
 use Rattle.wtf_steps.proofs.InsideWays.{map_stays}
 use Rattle.wtf_replay.specs.Views.{TxnView}
 use Rattle.wtf_replay.specs.Sounds.{TellsMap}

@@ -14,3 +14,7 @@ pub mod SliceLaws
 pub mod Making
 pub mod Insiding
 pub mod Faulting
+pub mod EffectLaws
+pub mod Installing
+pub mod Froms
+pub mod Turning

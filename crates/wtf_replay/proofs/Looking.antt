@@ -1,6 +1,6 @@
 -- Calls on names, as calls of a transaction with handles open.
-use Rattle.std.proofs.Common.{◌≡◌, ℕ, zero, suc, Bool, true, false, cond, ◌||◌, List, [], ◌∷◌, map, Option, Some, None, Ok, refl, sym, ap, ◌∙◌, subst, ⊎_elim}
-use Rattle.std.specs.Prelude.{if◌then◌else◌, Err, IsSomeAnd, replicate}
+use Rattle.std.proofs.Common.{◌≡◌, ℕ, Bool, true, false, cond, ◌||◌, List, [], ◌∷◌, map, Option, Some, None, Ok, refl, sym, ap, ◌∙◌, subst, ⊎_elim}
+use Rattle.std.specs.Prelude.{if◌then◌else◌, Err, IsSomeAnd}
 use Rattle.std.specs.List.{list_any}
 use Rattle.std.specs.FinMap.{get, entries, get-entries}
 use Rattle.std.specs.FinMap.Entries.{find}
@@ -8,7 +8,6 @@ use Rattle.std.specs.Ordering.{nat_cmp, eq_by_cmp}
 use Rattle.std.proofs.lemmas.Bool.{cases_Bool}
 use Rattle.std.proofs.lemmas.Slice.Eq.{bytes_eq-Decides}
 use Rattle.wtf_base.specs.declared.ids.InodeId.{InodeId}
-use Rattle.wtf_overlay.specs.Origin.{Place}
 use Rattle.wtf_kv.specs.Stores.{Store}
 use Rattle.wtf_occ.specs.Attempts.{Attempted}
 use Rattle.wtf_occ.proofs.AttemptLaws.{GrowsBy-append, map_seen-by}
@@ -18,7 +17,7 @@ use Rattle.wtf_model.specs.Tree.{source, bytes_of, target, ◌>>=◌}
 use Rattle.wtf_model.specs.Done.{Done, done, is_on, is_closed, take_out, move_file}
 use Rattle.wtf_model.specs.NameCalls.{unlink, rename}
 use Rattle.wtf_model.specs.Call.{row_of, or_refused}
-use Rattle.wtf_model.specs.declared.limits.TheConstants.{MAX_HANDLES, MAX_SLICES}
+use Rattle.wtf_model.specs.declared.limits.TheConstants.{MAX_HANDLES}
 use Rattle.wtf_model.specs.declared.answer.Answer.{Answer}
 use Rattle.wtf_model.specs.declared.answer.Answer.TheVariants as answer
 use Rattle.wtf_model.specs.declared.answer.Word.TheVariants.{Busy}

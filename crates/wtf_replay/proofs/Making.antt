@@ -1,16 +1,11 @@
 -- The steps of calls on handles and bytes, over stores that tell what they name.
-use Rattle.std.proofs.Common.{◌≡◌, ◌≢◌, ◌⊎◌, ℕ, ◌+◌, Bool, List, [], ◌∷◌, ◌++◌, length, Option, None, Some, Ok, refl, sym, ap, ◌∙◌, subst}
-use Rattle.std.specs.Prelude.{IfSome, Result, Err, nat_le, if◌then◌else◌}
+use Rattle.std.proofs.Common.{◌≡◌, ℕ, ◌+◌, List, [], ◌∷◌, ◌++◌, length, Option, None, Some, Ok, refl, sym, ap, ◌∙◌, subst}
+use Rattle.std.specs.Prelude.{IfSome, Result, Err}
 use Rattle.std.proofs.lemmas.List.{append-nil}
 use Rattle.wtf_base.specs.declared.slice.Slice.{Slice}
-use Rattle.wtf_base.specs.Slices.{len_of}
-use Rattle.wtf_dev.specs.Store.{StoreKind}
-use Rattle.wtf_overlay.specs.Origin.{Place, part_origin}
-use Rattle.wtf_overlay.specs.declared.part.Part.TheVariants.{Held}
 use Rattle.wtf_kv.specs.Stores.{Store}
-use Rattle.wtf_kv.specs.Edits.{Agree}
 use Rattle.wtf_kv.proofs.EditLaws.{Agree-itself, Fits-append}
-use Rattle.wtf_occ.specs.Attempts.{Attempted, GrowsBy, Grows}
+use Rattle.wtf_occ.specs.Attempts.{Attempted, Grows}
 use Rattle.wtf_replica.specs.Bytes.{byte_at}
 use Rattle.wtf_model.specs.declared.answer.Answer.{Answer}
 use Rattle.wtf_model.specs.declared.answer.Answer.TheVariants as answer
@@ -28,7 +23,7 @@ use Rattle.wtf_values.specs.declared.value.Delta.{Delta}
 use Rattle.wtf_values.specs.Keys.{key_cmp}
 use Rattle.wtf_values.specs.Outcomes.{outcome_of}
 use Rattle.wtf_meta.specs.Bytes.{PiecesBytes}
-use Rattle.wtf_meta.specs.Contents.{Told, TellBytes, is_told}
+use Rattle.wtf_meta.specs.Contents.{Told, is_told}
 use Rattle.wtf_meta.specs.Maps.{Map, AllFit, metadata_at, seen}
 use Rattle.wtf_meta.specs.Sessions.{SessionView}
 use Rattle.wtf_meta.specs.Calls.{Caller, Fact, Did, InHand, TellFacts, IsCall, IsStep, IsDone, cap_for}

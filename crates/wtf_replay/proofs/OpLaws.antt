@@ -1,11 +1,8 @@
 -- Laws of calls: how they are made, and how a log keeps them.
-use Rattle.std.proofs.Common.{◌≡◌, ◌⊎◌, ◌≤◌, ℕ, true, false, List, [], length, Option, None, Some, refl, sym, ap, ◌∙◌, subst, inl, inr}
+use Rattle.std.proofs.Common.{◌≡◌, ◌⊎◌, ◌≤◌, ℕ, false, List, [], length, Option, None, Some, refl, sym, ap, ◌∙◌, subst, inl, inr}
 use Rattle.std.specs.Prelude.{Bool, IfSome}
-use Rattle.wtf_base.specs.declared.fault.Fault.{Fault}
 use Rattle.wtf_base.specs.declared.kept.Kept.{Kept}
 use Rattle.wtf_base.specs.declared.slice.Slice.{Slice}
-use Rattle.wtf_base.specs.Slices.{len_of}
-use Rattle.wtf_dev.specs.Store.{StoreKind}
 use Rattle.wtf_overlay.specs.Origin.{Place}
 use Rattle.wtf_model.specs.declared.answer.Answer.{Answer}
 use Rattle.wtf_model.specs.declared.op.Op.{Op}
@@ -13,22 +10,14 @@ use Rattle.wtf_model.specs.declared.op.Op.TheVariants as op
 use Rattle.wtf_model.specs.declared.limits.TheConstants.{MAX_WRITTEN}
 use Rattle.wtf_model.specs.Form.{IsFormOp, IsData, IsKeptData}
 use Rattle.wtf_log.specs.Calls.{own_of}
-use Rattle.wtf_log.specs.Standing.{KeptStandsFor, IsGiven, OpStandsFor}
-use Rattle.wtf_meta.specs.Contents.{Told}
-use Rattle.wtf_meta.specs.Maps.{Map}
-use Rattle.wtf_meta.specs.Sessions.{SessionView}
-use Rattle.wtf_region.specs.declared.dev.Dev.{Dev}
-use Rattle.wtf_rw.specs.declared.op.Given.{Given}
+use Rattle.wtf_log.specs.Standing.{IsGiven, OpStandsFor}
 use Rattle.wtf_rw.specs.declared.op.Given.TheVariants.{Fresh, Stored}
 use Rattle.wtf_rw.specs.declared.op.RwOp.{RwOp}
 use Rattle.wtf_rw.specs.declared.op.RwOp.TheVariants as rw
 use Rattle.wtf_steps.specs.Steps.{IsRefusal}
-use Rattle.wtf_rw.specs.Stored.{SliceBytes, TellSlice}
-use Rattle.wtf_rw.specs.Ops.{op_of, Writes, IsWhole, RwBytes, IsFormRw, IsRwOwn, LacksOwn, StoresNone, IsRwFault, IsBare}
-use Rattle.wtf_replay.specs.Built.{is_rw_op, is_slice_op, IsNameOp, IsPlainOp, IsFormPlain, IsOpOf, IsFresh, IsStored, data_of, with_data}
-use Rattle.wtf_replay.specs.Keeps.{IsWholeOp, IsKeptFor, LacksData, IsKeptOf}
-use Rattle.wtf_replay.specs.Causes.{IsOwnOf, IsCallFault, IsAgainFault}
-use Rattle.wtf_replay.specs.Sounds.{tells_slice}
+use Rattle.wtf_rw.specs.Ops.{op_of, Writes, IsWhole, RwBytes, IsFormRw}
+use Rattle.wtf_replay.specs.Built.{is_rw_op, is_slice_op, IsNameOp, IsPlainOp, IsFormPlain, IsOpOf, IsFresh, data_of, with_data}
+use Rattle.wtf_replay.specs.Keeps.{IsWholeOp, IsKeptOf}
 
 -- a call without data is itself
 pub plain_self : (o : Op (List ℕ)) → is_rw_op o ≡ false → IsPlainOp o o

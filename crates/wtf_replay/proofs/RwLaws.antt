@@ -1,6 +1,6 @@
 -- Calls on handles and bytes, as calls of a transaction: made for the first time, and made once more.
-use Rattle.std.proofs.Common.{◌≡◌, ◌⊎◌, ◌<◌, ◌≤◌, ℕ, true, List, [], ◌∷◌, length, Option, None, Some, Ok, get_or, refl, sym, ap, ◌∙◌, subst, inl, inr, arith}
-use Rattle.std.specs.Prelude.{Bool, IfSome, Result, Err, ⊤}
+use Rattle.std.proofs.Common.{◌≡◌, ◌⊎◌, ℕ, List, [], length, Option, None, Some, get_or, refl, sym, ap, ◌∙◌, subst, inl, inr, arith}
+use Rattle.std.specs.Prelude.{Bool, IfSome, ⊤}
 use Rattle.wtf_base.specs.declared.fault.Fault.{Fault}
 use Rattle.wtf_base.specs.declared.kept.Kept.{Kept}
 use Rattle.wtf_base.specs.declared.slice.Slice.{Slice}
@@ -19,25 +19,21 @@ use Rattle.wtf_model.specs.Form.{IsFormOp, IsKeptData}
 use Rattle.wtf_log.specs.Calls.{own_of}
 use Rattle.wtf_log.specs.Standing.{OpStandsFor}
 use Rattle.wtf_meta.specs.declared.session.Handle.{Handle}
-use Rattle.wtf_meta.specs.Bytes.{PartBytes}
 use Rattle.wtf_meta.specs.Contents.{Told, is_told}
 use Rattle.wtf_meta.specs.Maps.{Map}
 use Rattle.wtf_meta.specs.Sessions.{SessionView, handle_in}
 use Rattle.wtf_meta.proofs.Telling.{told_from}
 use Rattle.wtf_region.specs.declared.dev.Dev.{Dev}
 use Rattle.wtf_region.specs.Devs.{stores}
-use Rattle.wtf_rw.specs.declared.op.Given.{Given}
 use Rattle.wtf_rw.specs.declared.op.Given.TheVariants.{Fresh, Stored}
 use Rattle.wtf_rw.specs.declared.op.RwOp.{RwOp}
 use Rattle.wtf_rw.specs.declared.op.RwOp.TheVariants as rw
-use Rattle.wtf_steps.specs.Steps.{IsRefusal}
-use Rattle.wtf_rw.specs.Stored.{SliceBytes, TellSlice, IsOwn, IsPutFault}
+use Rattle.wtf_rw.specs.Stored.{SliceBytes, TellSlice, IsOwn}
 use Rattle.wtf_rw.specs.Ops.{op_of, Writes, IsWhole, RwBytes, IsFormRw, OwnBy, IsRwOwn, LacksOwn, StoresNone, IsRwFault, IsBare, LacksSlice}
 use Rattle.wtf_rw.proofs.StoredBytes.{held_meaning}
 use Rattle.wtf_replay.specs.Built.{IsOpOf, IsFresh, IsStored, data_of}
 use Rattle.wtf_replay.specs.Keeps.{IsWholeOp, LacksData}
 use Rattle.wtf_replay.specs.Causes.{IsOwnOf, IsCallFault, IsAgainFault, StoresNothing}
-use Rattle.wtf_replay.specs.Sounds.{tells_slice}
 
 -- slices that are told have only bytes that are
 pub told_slice : (told : Told) (own : Option Slice) (bytes : List ℕ) → TellSlice told own bytes → SliceBytes (is_told told) own

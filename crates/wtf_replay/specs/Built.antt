@@ -1,5 +1,5 @@
 -- How calls are made: those on names, those on handles and the bytes of files, and those on slices.
-use Rattle.std.specs.Prelude.{◌≡◌, ℕ, Bool, true, false, List, [], ⊤}
+use Rattle.std.specs.Prelude.{◌≡◌, ℕ, Bool, true, false, List, [], length, ⊤}
 use Rattle.wtf_base.specs.declared.kept.Kept.{Kept}
 use Rattle.wtf_model.specs.declared.op.Op.{Op}
 use Rattle.wtf_model.specs.declared.op.Op.TheVariants as op
@@ -110,6 +110,10 @@ abbrev pub data_of : Op (List ℕ) → List ℕ
 data_of (op.Write f bytes) = bytes
 data_of (op.Append f bytes) = bytes
 data_of o = []
+
+-- and the number of its bytes
+abbrev pub data_len : Op (List ℕ) → ℕ
+data_len o = length (data_of o)
 
 -- the same call with other data
 abbrev pub with_data : {D E : Type 0} → E → Op D → Op E

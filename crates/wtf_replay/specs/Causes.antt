@@ -1,11 +1,12 @@
 -- Why a call, a step or a commit gave a fault, and when one may come.
-use Rattle.std.specs.Prelude.{◌≡◌, ◌⊎◌, ◌<◌, ◌≤◌, ℕ, List, [], ◌∷◌, Option, None, Some, slice_get, ⊤}
+use Rattle.std.specs.Prelude.{◌≡◌, ◌⊎◌, ◌≤◌, ℕ, List, [], Option, None, Some, slice_get, ⊤}
 use Rattle.wtf_base.specs.declared.fault.Fault.{Fault}
 use Rattle.wtf_base.specs.declared.fault.Fault.TheVariants as fault
 use Rattle.wtf_base.specs.declared.kept.Kept.{Kept}
 use Rattle.wtf_base.specs.declared.settings.Settings.{Settings}
 use Rattle.wtf_base.specs.declared.slice.Slice.{Slice}
 use Rattle.wtf_dev.specs.Store.{StoreKind}
+use Rattle.wtf_overlay.specs.declared.part.Piece.{Piece}
 use Rattle.wtf_replica.specs.Bytes.{byte_at}
 use Rattle.wtf_kv.specs.Stores.{Store}
 use Rattle.wtf_occ.specs.Attempts.{Attempted}
@@ -19,7 +20,6 @@ use Rattle.wtf_model.specs.Tree.{Tree}
 use Rattle.wtf_values.specs.declared.key.Key.{Key}
 use Rattle.wtf_values.specs.declared.value.Value.{Value}
 use Rattle.wtf_values.specs.declared.value.Delta.{Delta}
-use Rattle.wtf_log.specs.Calls.{Calls}
 use Rattle.wtf_log.specs.Standing.{OpStandsFor}
 use Rattle.wtf_meta.specs.declared.session.Handle.{Handle}
 use Rattle.wtf_meta.specs.Contents.{Told}
@@ -36,7 +36,8 @@ use Rattle.wtf_rw.specs.Reads.{read_origin}
 use Rattle.wtf_steps.specs.Recorded.{found_in}
 use Rattle.wtf_rw.specs.Stored.{IsPutFault, end_place}
 use Rattle.wtf_slicing.specs.Shown.{LacksSlice}
-use Rattle.wtf_replay.specs.Views.{TxnView, in_hand, hand_of, replaying, rebased}
+use Rattle.wtf_replay.specs.Views.{TxnView, in_hand, hand_of, replaying}
+use Rattle.wtf_replay.specs.Tried.{commit_from}
 use Rattle.wtf_replay.specs.Insides.{NamesAgain}
 use Rattle.wtf_replay.specs.Sounds.{IsSound, TellsMap, caller_at}
 
@@ -59,12 +60,12 @@ IsStillOp (op.Concat q paths) = ⊥
 IsStillOp o = ⊤
 
 -- why n bytes of a slice were not shown; memory may be short at any time
-abbrev pub IsPeekCause : {S : Type 0} → StoreKind S → (old new : Dev S) → SessionView → ℕ → ℕ → ℕ → Fault → Type 0
-IsPeekCause kind old new s label off n why = (why ≡ fault.Memory) ⊎ LacksSlice kind old new (slice_in s label) off n why
+abbrev pub IsPeekCause : {S : Type 0} → StoreKind S → (old new : Dev S) → Option (List Piece) → ℕ → ℕ → Fault → Type 0
+IsPeekCause kind old new slice off n why = (why ≡ fault.Memory) ⊎ LacksSlice kind old new slice off n why
 
 -- why a call without data gave a fault: only bytes of a slice that are to be shown are read
 abbrev pub IsPlainFault : {S D : Type 0} → StoreKind S → (old new : Dev S) → SessionView → Op D → Fault → Type 0
-IsPlainFault kind old new s (op.Peek label off n) why = IsPeekCause kind old new s label off n why
+IsPlainFault kind old new s (op.Peek label off n) why = IsPeekCause kind old new (slice_in s label) off n why
 IsPlainFault kind old new s o why = why ≡ fault.Memory
 
 -- a call that is to store no byte
@@ -74,32 +75,32 @@ StoresNothing (op.Append f bytes) = ⊥
 StoresNothing o = ⊤
 
 -- why n bytes from a handle's offset on were not shown; memory may be short at any time
-abbrev pub IsReadCause : {S : Type 0} → StoreKind S → (old new : Dev S) → Map → SessionView → ℕ → ℕ → Fault → Type 0
-IsReadCause kind old new w s f n why =
-    (why ≡ fault.Memory) ⊎ ((h : Handle) × (handle_in s f ≡ Some h) × LacksBytes kind old new (found_in old.settings.region w h n) (read_origin old.settings.region w h) why)
+abbrev pub IsReadCause : {S : Type 0} → StoreKind S → (old new : Dev S) → Map → Option Handle → ℕ → Fault → Type 0
+IsReadCause kind old new w handle n why =
+    (why ≡ fault.Memory) ⊎ ((h : Handle) × (handle ≡ Some h) × LacksBytes kind old new (found_in old.settings.region w h n) (read_origin old.settings.region w h) why)
 
 -- of a call that is made for the first time
 abbrev pub IsCallFault : {S : Type 0} → StoreKind S → (old new : Dev S) → Map → SessionView → Op (List ℕ) → Fault → Type 0
 IsCallFault kind old new w s (op.Write f bytes) why = IsPutFault kind old new bytes why
 IsCallFault kind old new w s (op.Append f bytes) why = IsPutFault kind old new bytes why
-IsCallFault kind old new w s (op.Read f n) why = IsReadCause kind old new w s f n why
-IsCallFault kind old new w s (op.Peek label off n) why = IsPeekCause kind old new s label off n why
+IsCallFault kind old new w s (op.Read f n) why = IsReadCause kind old new w (handle_in s f) n why
+IsCallFault kind old new w s (op.Peek label off n) why = IsPeekCause kind old new (slice_in s label) off n why
 IsCallFault kind old new w s o why = why ≡ fault.Memory
 
 -- and of one that is made once more, which stores nothing
 abbrev pub IsAgainFault : {S : Type 0} → StoreKind S → (old new : Dev S) → Map → SessionView → Op Kept → Fault → Type 0
-IsAgainFault kind old new w s (op.Read f n) why = IsReadCause kind old new w s f n why
-IsAgainFault kind old new w s (op.Peek label off n) why = IsPeekCause kind old new s label off n why
+IsAgainFault kind old new w s (op.Read f n) why = IsReadCause kind old new w (handle_in s f) n why
+IsAgainFault kind old new w s (op.Peek label off n) why = IsPeekCause kind old new (slice_in s label) off n why
 IsAgainFault kind old new w s k why = why ≡ fault.Memory
 
 -- it may come in place of what is due, for whatever bytes the call stands
 abbrev pub MayAgainFault : Settings → Map → SessionView → Op Kept → Fault → Type 0
 MayAgainFault settings w s k why = (o : Op (List ℕ)) → OpStandsFor (λ p bytes. ⊤) k o → MayFault settings w s o why
 
--- call k of a log gave the fault when it was made once more with this in hand
-pub record FaultAt {S : Type 0} (kind : StoreKind S) (mid new : Dev S) (kv : Store Key Value) (hand : InHand) (log : Calls) (k : ℕ) (why : Fault) : Type 0 where
+-- the call of a log gave the fault when it was made once more with this in hand
+pub record FaultAt {S : Type 0} (kind : StoreKind S) (mid new : Dev S) (kv : Store Key Value) (hand : InHand) (call : Option (Op Kept)) (why : Fault) : Type 0 where
   pub op : Op Kept
-  pub at_op : slice_get log.ops k ≡ Some op
+  pub at_op : call ≡ Some op
   pub cause : IsAgainFault kind mid new (seen kv hand.at) hand.session op why
   pub due : MayAgainFault mid.settings (seen kv hand.at) hand.session op why
 
@@ -115,12 +116,12 @@ pub record ReplayFault {S : Type 0} (kind : StoreKind S) (old new : Dev S) (kv :
   pub named : NamesAgain kv (hand_of x) (in_hand at session) x.log
   pub done : (ops : List (Op (List ℕ))) → TellsMap kind (stores old) (metadata_at kv x.at.base) → IsSound old.settings.region kv (byte_at kind (stores old)) x ops
       → IsSound old.settings.region kv (byte_at kind (stores mid)) (replaying x.tx at session x.log k) ops
-  pub fault : FaultAt kind mid new kv (in_hand at session) x.log k why
+  pub fault : FaultAt kind mid new kv (in_hand at session) (slice_get x.log.ops k) why
 
--- Memory was short, or it was a replay on the map now: of the calls that were left, or of all.
+-- Memory was short, or it was a replay of the calls that a commit has to make once more: none of a live transaction that
+-- finds no key in the way, those that are left of a replay at the number, else all.
 abbrev pub IsCommitFault : {S : Type 0} → StoreKind S → (old new : Dev S) → Store Key Value → TxnView → Fault → Type 0
-IsCommitFault kind old new kv x why =
-    (why ≡ fault.Memory) ⊎ (((x.at.base ≡ kv.number) × ReplayFault kind old new kv x why) ⊎ ReplayFault kind old new kv (rebased x kv.number) why)
+IsCommitFault kind old new kv x why = (why ≡ fault.Memory) ⊎ ReplayFault kind old new kv (commit_from kv x) why
 
 -- The machine's answer to a fault; want of memory has none.
 abbrev pub fault_answer : Fault → Option Answer

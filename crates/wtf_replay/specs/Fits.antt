@@ -1,5 +1,5 @@
 -- What holds of a transaction over every device.
-use Rattle.std.specs.Prelude.{◌≡◌, ◌≤◌, ℕ, true, IsTrue, All, Some, length, slice_get}
+use Rattle.std.specs.Prelude.{◌≡◌, ◌≤◌, ℕ, IsTrue, All, Some, length, slice_get}
 use Rattle.wtf_base.specs.declared.kept.Kept.{Kept}
 use Rattle.wtf_kv.specs.Stores.{Store, is_pinned}
 use Rattle.wtf_values.specs.declared.key.Key.{Key}

@@ -1,12 +1,11 @@
 -- What a log keeps of the data of its calls.
-use Rattle.std.specs.Prelude.{◌≡◌, ◌⊎◌, ◌≤◌, ℕ, List, length, Option, Some, None, IfSome, slice_get, ⊤}
-use Rattle.std.specs.List.{All}
+use Rattle.std.specs.Prelude.{◌≡◌, ◌⊎◌, ℕ, List, length, Option, Some, None, IfSome, ⊤}
 use Rattle.wtf_base.specs.declared.kept.Kept.{Kept}
 use Rattle.wtf_base.specs.declared.slice.Slice.{Slice}
 use Rattle.wtf_model.specs.declared.answer.Answer.{Answer}
 use Rattle.wtf_model.specs.declared.op.Op.{Op}
 use Rattle.wtf_model.specs.declared.op.Op.TheVariants as op
-use Rattle.wtf_log.specs.Calls.{Calls, own_of}
+use Rattle.wtf_log.specs.Calls.{own_of}
 use Rattle.wtf_log.specs.Standing.{OpStandsFor}
 use Rattle.wtf_steps.specs.Steps.{IsRefusal}
 use Rattle.wtf_replay.specs.Built.{data_of}

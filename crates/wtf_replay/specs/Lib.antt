@@ -10,3 +10,6 @@ pub mod Called
 pub mod Tried
 pub mod Replays
 pub mod Looked
+pub mod Effects
+pub mod Installs
+pub mod Verbs

@@ -21,7 +21,8 @@ ghost use Rattle.wtf_replay.specs.Fits.{IsLog};
 ghost use Rattle.wtf_replay.specs.Sounds.{IsSound, TellsMap, tells_slice};
 ghost use Rattle.wtf_replay.specs.Insides.{IsHandInside, IsLogInside, HandBytes, LogBytes};
 ghost use Rattle.wtf_replay.specs.Causes.{ReplayFault};
-ghost use Rattle.wtf_replay.specs.Tried.{KeepsMaps, KeepsPins};
+ghost use Rattle.wtf_replay.specs.Tried.{KeepsMaps, KeepsVersions, KeepsPins};
+ghost use Rattle.wtf_replay.specs.Installs.{IsInstall};
 ghost use Rattle.wtf_replay.specs.Replays.{IsEnded, IsTrueEnd};
 
 use crate::replay::replay_from;
@@ -58,6 +59,7 @@ fn install_now(at: &mut Attempt<Key, Value>, kv: &mut Kv<Key, Value>) -> Result<
     ensures pins { kv.new.pins ≡ kv.old.pins }
     ensures maps { KeepsMaps kv.old kv.new }
     ensures err { OnErr result (kv.new.number ≡ kv.old.number) }
+    ensures err_versions { OnErr result (KeepsVersions kv.old kv.new) }
     ensures fault { IfErr result (λ why. why ≡ Fault.Memory) }
 {
     let tried = match at.install(kv) {
@@ -93,6 +95,8 @@ pub(crate) fn replay_and_install<S: SliceStore>(
         (in_hand at.old session.old) }
     requires logged { IsLogInside S.kind (stores dev.old) dev.old.settings log.now }
     ensures ended { IfOk result (λ a. IsEnded kv.old kv.new a) }
+    ensures installs { IfOk result (λ a. IsInstall dev.old.settings.region kv.old kv.new
+        (replaying tx.0 at.old session.old log.now from) a) }
     ensures meaning { IfOk result (λ a. (ops : List (Op (List ℕ))) →
         TellsMap S.kind (stores dev.old) (metadata_at kv.old kv.old.number) →
         IsSound dev.old.settings.region kv.old (byte_at S.kind (stores dev.old))
@@ -106,6 +110,7 @@ pub(crate) fn replay_and_install<S: SliceStore>(
     ensures maps { KeepsMaps kv.old kv.new }
     ensures pins { kv.new.pins ≡ kv.old.pins }
     ensures err { OnErr result (kv.new.number ≡ kv.old.number) }
+    ensures err_versions { OnErr result (KeepsVersions kv.old kv.new) }
     ensures grows { Grows at.old at.new }
     ensures fit { AllFit at.new.changes (metadata_at kv.old at.new.base) }
     ensures inside { IsHandInside S.kind (stores dev.new) dev.old.settings kv.new
@@ -153,6 +158,8 @@ pub(crate) fn commit_now<S: SliceStore>(
         (metadata_at kv.old kv.old.number) }
     requires logged { IsLogInside S.kind (stores dev.old) dev.old.settings log.now }
     ensures ended { IfOk result (λ a. IsEnded kv.old kv.new a) }
+    ensures installs { IfOk result (λ a. IsInstall dev.old.settings.region kv.old kv.new
+        (replaying tx.0 (untouched kv.old.number) nothing_open log.now 0) a) }
     ensures meaning { IfOk result (λ a. (ops : List (Op (List ℕ))) →
         TellsMap S.kind (stores dev.old) (metadata_at kv.old kv.old.number) →
         OpsStandFor (tells_slice (byte_at S.kind (stores dev.old))) log.now.ops ops →
@@ -165,6 +172,7 @@ pub(crate) fn commit_now<S: SliceStore>(
     ensures maps { KeepsMaps kv.old kv.new }
     ensures pins { KeepsPins kv.old kv.new }
     ensures err { OnErr result (kv.new.number ≡ kv.old.number) }
+    ensures err_versions { OnErr result (KeepsVersions kv.old kv.new) }
     ensures inside { IsStoredInside S.kind (stores dev.new) dev.old.settings
         (metadata_at kv.new kv.new.number) }
     ensures fault { IfErr result (λ why. (why ≡ Fault.Memory) ⊎

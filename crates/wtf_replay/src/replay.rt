@@ -1,6 +1,7 @@
 //! One call, and calls made once more.
 
-ghost use Rattle.std.specs.Prelude.{◌≡◌, ◌≢◌, ◌+◌, ◌<◌, ◌≤◌, ◌↔◌, ℕ, List, [], false, Ok, None, Some, IsTrue, IsSome, IfOk, IfErr, IfSome, OnOk, OnErr, length, slice_get};
+ghost use Rattle.std.specs.Prelude.{◌≡◌, ◌≢◌, ◌+◌, ◌<◌, ◌≤◌, ◌↔◌, ℕ, List, [], false, Ok, Option, None, Some, IsTrue, IsSome, IfOk, IfErr, IfSome, OnOk, OnErr, length, slice_get};
+ghost use Rattle.wtf_base.specs.declared.slice.Slice.{Slice};
 ghost use Rattle.wtf_base.specs.Slices.{len_of};
 ghost use Rattle.wtf_dev.specs.Sums.{TellsAll};
 ghost use Rattle.wtf_replica.specs.Bytes.{byte_at};
@@ -19,8 +20,8 @@ ghost use Rattle.wtf_region.specs.Inside.{is_inside};
 ghost use Rattle.wtf_region.specs.Showing.{OnlyRead};
 ghost use Rattle.wtf_steps.specs.Faults.{MayFault};
 ghost use Rattle.wtf_rw.specs.Stored.{SliceBytes, TellSlice};
-ghost use Rattle.wtf_replay.specs.Views.{in_hand, replaying};
-ghost use Rattle.wtf_replay.specs.Built.{is_rw_op, is_slice_op, IsNameOp, IsPlainOp, IsFormPlain, data_of};
+ghost use Rattle.wtf_replay.specs.Views.{TxnView, in_hand, replaying};
+ghost use Rattle.wtf_replay.specs.Built.{is_rw_op, is_slice_op, IsNameOp, IsPlainOp, IsFormPlain, data_of, data_len};
 ghost use Rattle.wtf_replay.specs.Keeps.{IsKeptFor, LacksData};
 ghost use Rattle.wtf_replay.specs.Fits.{IsLog};
 ghost use Rattle.wtf_replay.specs.Sounds.{IsSound, IsToldStep, IsDue, TellsMap, TellsHand, tells_slice, caller_at};
@@ -28,6 +29,7 @@ ghost use Rattle.wtf_replay.specs.Insides.{IsHandInside, IsLogInside, NamesHand,
 ghost use Rattle.wtf_replay.specs.Causes.{IsOwnOf, StoresNothing, IsStillOp, IsPlainFault, IsCallFault, IsAgainFault, MayAgainFault, FaultAt, ReplayFault};
 ghost use Rattle.wtf_replay.specs.Looked.{IsNameCall};
 ghost use Rattle.wtf_replay.specs.Replays.{IsReplay};
+ghost use Rattle.wtf_replay.specs.Effects.{sight, Acts, kept_len, Redoes, AllRedone};
 
 use crate::names::name_call;
 use crate::ops::{fresh_of, slice_of, stored_of};
@@ -58,6 +60,8 @@ fn make_name<D>(
     ensures step { IfOk result (λ a. (x : Caller) (o : Op (List ℕ)) → IsNameOp op.now o →
         new.tx.0 ≡ x.tx → new.index ≡ x.calls + 1 →
         IsNameCall x (seen kv.now at.old) session.now at.old at.new o a) }
+    ensures acts { IfOk result (λ a. (size n : ℕ) (own : Option Slice) →
+        Acts (sight size (seen kv.now at.old) session.now new) n own op.now a at.old at.new) }
     ensures logged { IfOk result (λ a. IsLogged a) }
     ensures grows { Grows at.old at.new }
     ensures err { OnErr result (at.new ≡ at.old) }
@@ -97,6 +101,9 @@ fn make_plain<S: SliceStore, D>(
         TellsHand S.kind (stores dev.old) (seen kv.now at.old) session.old →
         IsToldStep (byte_at S.kind (stores dev.new)) x (seen kv.now at.old)
         (in_hand at.old session.old) (in_hand at.new session.new) o a) }
+    ensures acts { IfOk result (λ a. (n : ℕ) (own : Option Slice) →
+        Acts (sight dev.old.settings.region (seen kv.now at.old) session.old new) n own op.now a
+        at.old at.new) }
     ensures named { OnOk result (NamesHand kv.now (in_hand at.old session.old)
         (in_hand at.new session.new) None) }
     ensures logged { IfOk result (λ a. IsLogged a) }
@@ -147,6 +154,9 @@ pub(crate) fn make_fresh<S: SliceStore>(
         TellsHand S.kind (stores dev.old) (seen kv.now at.old) session.old →
         IsToldStep (byte_at S.kind (stores dev.new)) x (seen kv.now at.old)
         (in_hand at.old session.old) (in_hand at.new session.new) op.now d.answer) }
+    ensures acts { IfOk result (λ d.
+        Acts (sight dev.old.settings.region (seen kv.now at.old) session.old new)
+        (data_len op.now) d.own op.now d.answer at.old at.new) }
     ensures own { IfOk result (λ d.
         IsOwnOf S.kind dev.old dev.new (seen kv.now at.old) session.old op.now d.own) }
     ensures own_len { IfOk result (λ d. IfSome d.own (λ s. len_of s ≡ length (data_of op.now))) }
@@ -215,6 +225,9 @@ pub(crate) fn make_stored<S: SliceStore>(
         TellsHand S.kind (stores dev.old) (seen kv.now at.old) session.old →
         OpStandsFor (tells_slice (byte_at S.kind (stores dev.old))) op.now o →
         IsDue (byte_at S.kind (stores dev.new)) x (seen kv.now at.old) session.old o a) }
+    ensures acts { IfOk result (λ a.
+        Acts (sight dev.old.settings.region (seen kv.now at.old) session.old new)
+        (kept_len op.now) (own_of op.now) op.now a at.old at.new) }
     ensures named { OnOk result (NamesHand kv.now (in_hand at.old session.old)
         (in_hand at.new session.new) (own_of op.now)) }
     ensures logged { IfOk result (λ a. IsLogged a) }
@@ -292,6 +305,9 @@ pub(crate) fn make_again<S: SliceStore>(
         OpStandsFor (tells_slice (byte_at S.kind (stores dev.old))) kept o →
         IsDue (byte_at S.kind (stores dev.new)) (caller_at dev.old.settings.region tx.0 k)
         (seen kv.now at.old) session.old o r.0) }
+    ensures redoes { IfOk result (λ r. IsTrue r.1 → (x : TxnView) → x.tx ≡ tx.0 →
+        x.log ≡ log.now → Redoes dev.old.settings.region kv.now x k (in_hand at.old session.old)
+        (in_hand at.new session.new)) }
     ensures named { OnOk result (NamesAgain kv.now (in_hand at.old session.old)
         (in_hand at.new session.new) log.now) }
     ensures same { IfOk result (λ r. IsTrue r.1 ↔ (slice_get log.now.shown k ≡ Some r.0)) }
@@ -301,7 +317,8 @@ pub(crate) fn make_again<S: SliceStore>(
         (in_hand at.new session.new) }
     ensures err { OnErr result ((at.new ≡ at.old) × (session.new ≡ session.old)) }
     ensures fault { IfErr result
-        (FaultAt S.kind dev.old dev.new kv.now (in_hand at.old session.old) log.now k) }
+        (FaultAt S.kind dev.old dev.new kv.now (in_hand at.old session.old)
+        (slice_get log.now.ops k)) }
     ensures reads { OnlyRead S.kind (between dev.old dev.new) }
     ensures dev { GoesOn S.kind dev.old dev.new [] }
 {
@@ -344,6 +361,8 @@ pub(crate) fn replay_from<S: SliceStore>(
         IsReplay dev.old.settings.region kv.now
         (byte_at S.kind (stores dev.old), byte_at S.kind (stores dev.new))
         (replaying tx.0 at.new session.new log.now (length log.now.ops)) ops r) }
+    ensures redone { IfOk result (λ r. r ≡ None → AllRedone dev.old.settings.region kv.now
+        (replaying tx.0 at.old session.old log.now from) (in_hand at.new session.new)) }
     ensures named { OnOk result (NamesAgain kv.now (in_hand at.old session.old)
         (in_hand at.new session.new) log.now) }
     ensures grows { Grows at.old at.new }

@@ -1,29 +1,24 @@
 //! Transactions.
 
-ghost use Rattle.std.specs.Prelude.{◌≡◌, ◌≢◌, ◌⊎◌, ◌+◌, ◌<◌, ◌^◌, ℕ, List, [], ◌∷◌, ◌++◌, true, false, Ok, None, Option, IsTrue, IsSome, IfOk, IfErr, IfSome, OnOk, OnErr, length, nat_eq};
+ghost use Rattle.std.specs.Prelude.{◌≡◌, ◌≢◌, ◌+◌, ◌<◌, ◌^◌, ℕ, List, [], ◌∷◌, ◌++◌, false, Ok, None, IsTrue, IfOk, IfSome, OnOk, OnErr, length, nat_eq};
 ghost use Rattle.std.specs.Set.{remove_key};
-ghost use Rattle.wtf_base.specs.declared.slice.Slice.{Slice};
-ghost use Rattle.wtf_replica.specs.Bytes.{byte_at};
 ghost use Rattle.wtf_kv.specs.Stores.{is_pinned, IsPinnedOnceMore};
 ghost use Rattle.wtf_occ.specs.Tries.{Stays};
 ghost use Rattle.wtf_values.specs.Keys.{key_cmp};
 ghost use Rattle.wtf_model.specs.declared.limits.TheConstants.{MAX_LOGGED};
 ghost use Rattle.wtf_model.specs.Form.{IsFormOp, IsData};
 ghost use Rattle.wtf_meta.specs.Contents.{Told};
-ghost use Rattle.wtf_meta.specs.Maps.{seen, metadata_at};
-ghost use Rattle.wtf_region.specs.Devs.{IsSoundDev, GoesOn, stores, between};
+ghost use Rattle.wtf_meta.specs.Maps.{metadata_at};
+ghost use Rattle.wtf_region.specs.Devs.{IsSoundDev, stores};
 ghost use Rattle.wtf_region.specs.Inside.{IsStoredInside};
-ghost use Rattle.wtf_region.specs.Showing.{OnlyRead};
-ghost use Rattle.wtf_steps.specs.Faults.{MayFault};
-ghost use Rattle.wtf_replay.specs.Views.{TxnView, begun, rebased, is_live, hand_of};
-ghost use Rattle.wtf_replay.specs.Refusals.{unmade, try_refusal, step_refusal};
+ghost use Rattle.wtf_replay.specs.Views.{TxnView, begun, rebased, is_live};
+ghost use Rattle.wtf_replay.specs.Refusals.{try_refusal};
 ghost use Rattle.wtf_replay.specs.Fits.{IsFit};
-ghost use Rattle.wtf_replay.specs.Sounds.{IsSound, TellsMap};
-ghost use Rattle.wtf_replay.specs.Insides.{IsInsideTxn, NamesTxn, NamesNow};
-ghost use Rattle.wtf_replay.specs.Causes.{IsOwnOf, StoresNothing, IsCallFault, FaultAt, IsCommitFault, MayStepFault, MayCommitFault};
-ghost use Rattle.wtf_replay.specs.Called.{IsCalled};
-ghost use Rattle.wtf_replay.specs.Tried.{IsAttempted, KeepsMaps, KeepsPins, MovesPin};
-ghost use Rattle.wtf_replay.specs.Replays.{IsStepped, IsOver, IsEnded, IsTrueAttempt, IsTrueStep, IsTrueEnd};
+ghost use Rattle.wtf_replay.specs.Sounds.{IsSound};
+ghost use Rattle.wtf_replay.specs.Insides.{IsInsideTxn};
+ghost use Rattle.wtf_replay.specs.Tried.{IsAttempted, KeepsMaps, KeepsVersions, MovesPin, commit_from};
+ghost use Rattle.wtf_replay.specs.Replays.{IsTrueAttempt};
+ghost use Rattle.wtf_replay.specs.Verbs.{turn, CallOf, StepOf, CommitOf};
 
 use crate::commit::{commit_now, replay_and_install};
 use crate::ops::kept_of;
@@ -143,8 +138,8 @@ impl Txn {
 
     /// Makes a call, and logs it with its answer and with the slice that was stored of its data.
     /// Instead it is refused as `Replaying` while a replay runs, and as `Full` where the log is full:
-    /// these log nothing and leave all as it was. After a fault the transaction is as it was; where memory was short, handles may have
-    /// moved.
+    /// these log nothing and leave all as it was. After a fault the transaction is as it was; where
+    /// memory was short, handles may have moved.
     pub fn call<S: SliceStore>(
         &mut self,
         dev: &mut Dev<'_, S>,
@@ -156,28 +151,8 @@ impl Txn {
         requires fit { IsFit kv.now self.old }
         requires inside { IsInsideTxn S.kind (stores dev.old) dev.old.settings kv.now self.old }
         requires form { IsFormOp IsData op }
-        ensures unmade { IfSome (unmade self.old)
-            (λ a. (result ≡ Ok a) × (self.new ≡ self.old) × (dev.new ≡ dev.old)) }
-        ensures made { unmade self.old ≡ None → IfOk result (λ a. (own : Option Slice) ×
-            IsCalled self.old self.new op own a ×
-            IsOwnOf S.kind dev.old dev.new (seen kv.now self.old.at) self.old.session op own ×
-            NamesTxn kv.now self.old self.new own × (IsSome own → a ≡ Answer.Okay)) }
-        ensures meaning { unmade self.old ≡ None → OnOk result ((ops : List (Op (List ℕ))) →
-            TellsMap S.kind (stores dev.old) (metadata_at kv.now self.old.at.base) →
-            IsSound dev.old.settings.region kv.now (byte_at S.kind (stores dev.old)) self.old ops →
-            IsSound dev.old.settings.region kv.now (byte_at S.kind (stores dev.new)) self.new
-            (ops ++ op ∷ [])) }
-        ensures fit { IsFit kv.now self.new }
-        ensures inside { IsInsideTxn S.kind (stores dev.new) dev.old.settings kv.now self.new }
-        ensures err { IfErr result (λ why. why ≢ Fault.Memory → self.new ≡ self.old) }
-        ensures err_hand { OnErr result
-            (self.new ≡ record self.old { session = self.new.session }) }
-        ensures fault { IfErr result
-            (IsCallFault S.kind dev.old dev.new (seen kv.now self.old.at) self.old.session op) }
-        ensures due { IfErr result
-            (MayFault dev.old.settings (seen kv.now self.old.at) self.old.session op) }
-        ensures reads { StoresNothing op → OnlyRead S.kind (between dev.old dev.new) }
-        ensures dev { GoesOn S.kind dev.old dev.new [] }
+        ensures call { CallOf (turn S.kind dev.old dev.new kv.now kv.now self.old self.new) op
+            result }
     {
         if !self.is_live() {
             return Ok(Answer::Refused(Word::Replaying));
@@ -206,26 +181,8 @@ impl Txn {
         requires live { self.old.replayed ≡ length self.old.log.ops }
         requires room { length self.old.log.ops ≢ MAX_LOGGED }
         requires form { IsFormOp IsData op }
-        ensures made { IfOk result (λ a. (own : Option Slice) ×
-            IsCalled self.old self.new op own a ×
-            IsOwnOf S.kind dev.old dev.new (seen kv.now self.old.at) self.old.session op own ×
-            NamesTxn kv.now self.old self.new own × (IsSome own → a ≡ Answer.Okay)) }
-        ensures meaning { OnOk result ((ops : List (Op (List ℕ))) →
-            TellsMap S.kind (stores dev.old) (metadata_at kv.now self.old.at.base) →
-            IsSound dev.old.settings.region kv.now (byte_at S.kind (stores dev.old)) self.old ops →
-            IsSound dev.old.settings.region kv.now (byte_at S.kind (stores dev.new)) self.new
-            (ops ++ op ∷ [])) }
-        ensures fit { IsFit kv.now self.new }
-        ensures inside { IsInsideTxn S.kind (stores dev.new) dev.old.settings kv.now self.new }
-        ensures err { IfErr result (λ why. why ≢ Fault.Memory → self.new ≡ self.old) }
-        ensures err_hand { OnErr result
-            (self.new ≡ record self.old { session = self.new.session }) }
-        ensures fault { IfErr result
-            (IsCallFault S.kind dev.old dev.new (seen kv.now self.old.at) self.old.session op) }
-        ensures due { IfErr result
-            (MayFault dev.old.settings (seen kv.now self.old.at) self.old.session op) }
-        ensures reads { StoresNothing op → OnlyRead S.kind (between dev.old dev.new) }
-        ensures dev { GoesOn S.kind dev.old dev.new [] }
+        ensures call { CallOf (turn S.kind dev.old dev.new kv.now kv.now self.old self.new) op
+            result }
     {
         let mark = self.at.mark();
         let _few = self.log.len();
@@ -329,6 +286,7 @@ impl Txn {
         ensures is { OnOk result (self.new ≡ rebased self.old kv.old.number) }
         ensures number { kv.new.number ≡ kv.old.number }
         ensures maps { (n : ℕ) → metadata_at kv.new n ≡ metadata_at kv.old n }
+        ensures versions { KeepsVersions kv.old kv.new }
         ensures pins { OnOk result (MovesPin self.old.at.base kv.old.number kv.old kv.new) }
         ensures err { OnErr result (self.new ≡ self.old) }
         ensures err_store { OnErr result (kv.new ≡ kv.old) }
@@ -365,29 +323,8 @@ impl Txn {
         requires sound { IsSoundDev dev.old }
         requires fit { IsFit kv.now self.old }
         requires inside { IsInsideTxn S.kind (stores dev.old) dev.old.settings kv.now self.old }
-        ensures refused { IfSome (step_refusal self.old)
-            (λ w. (result ≡ Ok (Answer.Refused w)) × (self.new ≡ self.old)) }
-        ensures stepped { step_refusal self.old ≡ None →
-            IfOk result (λ a. IsStepped self.old self.new a) }
-        ensures meaning { step_refusal self.old ≡ None → IfOk result
-            (λ a. (ops : List (Op (List ℕ))) →
-            TellsMap S.kind (stores dev.old) (metadata_at kv.now self.old.at.base) →
-            IsSound dev.old.settings.region kv.now (byte_at S.kind (stores dev.old)) self.old ops →
-            IsTrueStep dev.old.settings.region
-            (byte_at S.kind (stores dev.old), byte_at S.kind (stores dev.new)) kv.now
-            (self.old, self.new) ops a) }
-        ensures named { OnOk result (NamesTxn kv.now self.old self.new None) }
-        ensures fit { IsFit kv.now self.new }
-        ensures inside { IsInsideTxn S.kind (stores dev.new) dev.old.settings kv.now self.new }
-        ensures err { OnErr result (self.new ≡ self.old) }
-        ensures fault { IfErr result (λ why. (why ≡ Fault.Memory) ⊎ FaultAt S.kind dev.old dev.new
-            kv.now (hand_of self.old) self.old.log self.old.replayed why) }
-        ensures due { IfErr result (λ why. (ops : List (Op (List ℕ))) →
-            IsSound dev.old.settings.region kv.now (byte_at S.kind (stores dev.old)) self.old ops →
-            MayStepFault dev.old.settings (metadata_at kv.now self.old.at.base)
-            (byte_at S.kind (stores dev.old)) self.old ops why) }
-        ensures reads { OnlyRead S.kind (between dev.old dev.new) }
-        ensures dev { GoesOn S.kind dev.old dev.new [] }
+        ensures step { StepOf (turn S.kind dev.old dev.new kv.now kv.now self.old self.new)
+            result }
     {
         if self.is_live() {
             return Ok(Answer::Refused(Word::Live));
@@ -411,26 +348,8 @@ impl Txn {
         requires fit { IsFit kv.now self.old }
         requires inside { IsInsideTxn S.kind (stores dev.old) dev.old.settings kv.now self.old }
         requires left { self.old.replayed < length self.old.log.ops }
-        ensures stepped { IfOk result (λ a. IsStepped self.old self.new a) }
-        ensures meaning { IfOk result
-            (λ a. (ops : List (Op (List ℕ))) →
-            TellsMap S.kind (stores dev.old) (metadata_at kv.now self.old.at.base) →
-            IsSound dev.old.settings.region kv.now (byte_at S.kind (stores dev.old)) self.old ops →
-            IsTrueStep dev.old.settings.region
-            (byte_at S.kind (stores dev.old), byte_at S.kind (stores dev.new)) kv.now
-            (self.old, self.new) ops a) }
-        ensures named { OnOk result (NamesTxn kv.now self.old self.new None) }
-        ensures fit { IsFit kv.now self.new }
-        ensures inside { IsInsideTxn S.kind (stores dev.new) dev.old.settings kv.now self.new }
-        ensures err { OnErr result (self.new ≡ self.old) }
-        ensures fault { IfErr result (λ why. (why ≡ Fault.Memory) ⊎ FaultAt S.kind dev.old dev.new
-            kv.now (hand_of self.old) self.old.log self.old.replayed why) }
-        ensures due { IfErr result (λ why. (ops : List (Op (List ℕ))) →
-            IsSound dev.old.settings.region kv.now (byte_at S.kind (stores dev.old)) self.old ops →
-            MayStepFault dev.old.settings (metadata_at kv.now self.old.at.base)
-            (byte_at S.kind (stores dev.old)) self.old ops why) }
-        ensures reads { OnlyRead S.kind (between dev.old dev.new) }
-        ensures dev { GoesOn S.kind dev.old dev.new [] }
+        ensures step { StepOf (turn S.kind dev.old dev.new kv.now kv.now self.old self.new)
+            result }
     {
         let k = self.replayed;
         let mut held = match Box::new(self.alloc, Answer::Okay) {
@@ -477,32 +396,8 @@ impl Txn {
         requires inside_now { IsStoredInside S.kind (stores dev.old) dev.old.settings
             (metadata_at kv.old kv.old.number) }
         requires room { kv.old.number < 2 ^ 63 }
-        ensures ended { IfOk result (λ a. IsEnded kv.old kv.new a) }
-        ensures over { OnOk result (IsOver self.old self.new) }
-        ensures meaning { IfOk result
-            (λ a. (ops : List (Op (List ℕ))) →
-            TellsMap S.kind (stores dev.old) (metadata_at kv.old kv.old.number) →
-            IsSound dev.old.settings.region kv.old (byte_at S.kind (stores dev.old)) self.old ops →
-            IsTrueEnd dev.old.settings.region
-            (byte_at S.kind (stores dev.old), byte_at S.kind (stores dev.new)) kv.old kv.new
-            self.old ops a) }
-        ensures named { OnOk result (NamesNow kv.old kv.new self.old) }
-        ensures maps { KeepsMaps kv.old kv.new }
-        ensures pins { KeepsPins kv.old kv.new }
-        ensures fit { IsFit kv.new self.new }
-        ensures inside { IsInsideTxn S.kind (stores dev.new) dev.old.settings kv.new self.new }
-        ensures inside_now { IsStoredInside S.kind (stores dev.new) dev.old.settings
-            (metadata_at kv.new kv.new.number) }
-        ensures err { OnErr result (self.new ≡ self.old) }
-        ensures err_number { OnErr result (kv.new.number ≡ kv.old.number) }
-        ensures fault { IfErr result (IsCommitFault S.kind dev.old dev.new kv.old self.old) }
-        ensures reads { OnlyRead S.kind (between dev.old dev.new) }
-        ensures dev { GoesOn S.kind dev.old dev.new [] }
-        ensures due { IfErr result (λ why. (ops : List (Op (List ℕ))) →
-            TellsMap S.kind (stores dev.old) (metadata_at kv.old kv.old.number) →
-            IsSound dev.old.settings.region kv.old (byte_at S.kind (stores dev.old)) self.old ops →
-            MayCommitFault dev.old.settings (metadata_at kv.old kv.old.number)
-            (byte_at S.kind (stores dev.old)) self.old why) }
+        ensures commit { CommitOf (turn S.kind dev.old dev.new kv.old kv.new self.old self.new)
+            result }
     {
         let number = kv.number();
         if self.is_live() {
@@ -540,32 +435,8 @@ impl Txn {
             (metadata_at kv.old kv.old.number) }
         requires room { kv.old.number < 2 ^ 63 }
         requires live { self.old.replayed ≡ length self.old.log.ops }
-        ensures ended { IfOk result (λ a. IsEnded kv.old kv.new a) }
-        ensures over { OnOk result (IsOver self.old self.new) }
-        ensures meaning { IfOk result
-            (λ a. (ops : List (Op (List ℕ))) →
-            TellsMap S.kind (stores dev.old) (metadata_at kv.old kv.old.number) →
-            IsSound dev.old.settings.region kv.old (byte_at S.kind (stores dev.old)) self.old ops →
-            IsTrueEnd dev.old.settings.region
-            (byte_at S.kind (stores dev.old), byte_at S.kind (stores dev.new)) kv.old kv.new
-            self.old ops a) }
-        ensures named { OnOk result (NamesNow kv.old kv.new self.old) }
-        ensures maps { KeepsMaps kv.old kv.new }
-        ensures pins { KeepsPins kv.old kv.new }
-        ensures fit { IsFit kv.new self.new }
-        ensures inside { IsInsideTxn S.kind (stores dev.new) dev.old.settings kv.new self.new }
-        ensures inside_now { IsStoredInside S.kind (stores dev.new) dev.old.settings
-            (metadata_at kv.new kv.new.number) }
-        ensures err { OnErr result (self.new ≡ self.old) }
-        ensures err_number { OnErr result (kv.new.number ≡ kv.old.number) }
-        ensures fault { IfErr result (IsCommitFault S.kind dev.old dev.new kv.old self.old) }
-        ensures reads { OnlyRead S.kind (between dev.old dev.new) }
-        ensures dev { GoesOn S.kind dev.old dev.new [] }
-        ensures due { IfErr result (λ why. (ops : List (Op (List ℕ))) →
-            TellsMap S.kind (stores dev.old) (metadata_at kv.old kv.old.number) →
-            IsSound dev.old.settings.region kv.old (byte_at S.kind (stores dev.old)) self.old ops →
-            MayCommitFault dev.old.settings (metadata_at kv.old kv.old.number)
-            (byte_at S.kind (stores dev.old)) self.old why) }
+        ensures commit { CommitOf (turn S.kind dev.old dev.new kv.old kv.new self.old self.new)
+            result }
     {
         let _number = kv.number();
         let installed = match self.at.install(kv) {
@@ -601,32 +472,9 @@ impl Txn {
             (metadata_at kv.old kv.old.number) }
         requires room { kv.old.number < 2 ^ 63 }
         requires base { self.old.at.base ≡ kv.old.number }
-        ensures ended { IfOk result (λ a. IsEnded kv.old kv.new a) }
-        ensures over { OnOk result (IsOver self.old self.new) }
-        ensures meaning { IfOk result
-            (λ a. (ops : List (Op (List ℕ))) →
-            TellsMap S.kind (stores dev.old) (metadata_at kv.old kv.old.number) →
-            IsSound dev.old.settings.region kv.old (byte_at S.kind (stores dev.old)) self.old ops →
-            IsTrueEnd dev.old.settings.region
-            (byte_at S.kind (stores dev.old), byte_at S.kind (stores dev.new)) kv.old kv.new
-            self.old ops a) }
-        ensures named { OnOk result (NamesNow kv.old kv.new self.old) }
-        ensures maps { KeepsMaps kv.old kv.new }
-        ensures pins { KeepsPins kv.old kv.new }
-        ensures fit { IsFit kv.new self.new }
-        ensures inside { IsInsideTxn S.kind (stores dev.new) dev.old.settings kv.new self.new }
-        ensures inside_now { IsStoredInside S.kind (stores dev.new) dev.old.settings
-            (metadata_at kv.new kv.new.number) }
-        ensures err { OnErr result (self.new ≡ self.old) }
-        ensures err_number { OnErr result (kv.new.number ≡ kv.old.number) }
-        ensures fault { IfErr result (IsCommitFault S.kind dev.old dev.new kv.old self.old) }
-        ensures reads { OnlyRead S.kind (between dev.old dev.new) }
-        ensures dev { GoesOn S.kind dev.old dev.new [] }
-        ensures due { IfErr result (λ why. (ops : List (Op (List ℕ))) →
-            TellsMap S.kind (stores dev.old) (metadata_at kv.old kv.old.number) →
-            IsSound dev.old.settings.region kv.old (byte_at S.kind (stores dev.old)) self.old ops →
-            MayCommitFault dev.old.settings (metadata_at kv.old kv.old.number)
-            (byte_at S.kind (stores dev.old)) self.old why) }
+        requires from { commit_from kv.old self.old ≡ self.old }
+        ensures commit { CommitOf (turn S.kind dev.old dev.new kv.old kv.new self.old self.new)
+            result }
     {
         let mark = self.at.mark();
         let mut session = match self.session.copy(self.alloc) {
@@ -666,32 +514,9 @@ impl Txn {
         requires inside_now { IsStoredInside S.kind (stores dev.old) dev.old.settings
             (metadata_at kv.old kv.old.number) }
         requires room { kv.old.number < 2 ^ 63 }
-        ensures ended { IfOk result (λ a. IsEnded kv.old kv.new a) }
-        ensures over { OnOk result (IsOver self.old self.new) }
-        ensures meaning { IfOk result
-            (λ a. (ops : List (Op (List ℕ))) →
-            TellsMap S.kind (stores dev.old) (metadata_at kv.old kv.old.number) →
-            IsSound dev.old.settings.region kv.old (byte_at S.kind (stores dev.old)) self.old ops →
-            IsTrueEnd dev.old.settings.region
-            (byte_at S.kind (stores dev.old), byte_at S.kind (stores dev.new)) kv.old kv.new
-            self.old ops a) }
-        ensures named { OnOk result (NamesNow kv.old kv.new self.old) }
-        ensures maps { KeepsMaps kv.old kv.new }
-        ensures pins { KeepsPins kv.old kv.new }
-        ensures fit { IsFit kv.new self.new }
-        ensures inside { IsInsideTxn S.kind (stores dev.new) dev.old.settings kv.new self.new }
-        ensures inside_now { IsStoredInside S.kind (stores dev.new) dev.old.settings
-            (metadata_at kv.new kv.new.number) }
-        ensures err { OnErr result (self.new ≡ self.old) }
-        ensures err_number { OnErr result (kv.new.number ≡ kv.old.number) }
-        ensures fault { IfErr result (IsCommitFault S.kind dev.old dev.new kv.old self.old) }
-        ensures reads { OnlyRead S.kind (between dev.old dev.new) }
-        ensures dev { GoesOn S.kind dev.old dev.new [] }
-        ensures due { IfErr result (λ why. (ops : List (Op (List ℕ))) →
-            TellsMap S.kind (stores dev.old) (metadata_at kv.old kv.old.number) →
-            IsSound dev.old.settings.region kv.old (byte_at S.kind (stores dev.old)) self.old ops →
-            MayCommitFault dev.old.settings (metadata_at kv.old kv.old.number)
-            (byte_at S.kind (stores dev.old)) self.old why) }
+        requires from { commit_from kv.old self.old ≡ rebased self.old kv.old.number }
+        ensures commit { CommitOf (turn S.kind dev.old dev.new kv.old kv.new self.old self.new)
+            result }
     {
         let _number = kv.number();
         match commit_now(self.alloc, dev, kv, self.tx, &self.log) {

@@ -13,6 +13,9 @@ use Rattle.wtf_replay.specs.Causes.{ReplayFault}
 use Rattle.wtf_replay.proofs.Faulting.{fault_along}
 use Rattle.wtf_replay.proofs.Starting.{sound_rebased}
 use Rattle.wtf_replay.proofs.Ending.{true_end_as, true_end_along}
+use Rattle.wtf_kv.specs.Stores.{versions_of}
+use Rattle.wtf_values.specs.Keys.{key_cmp}
+use Rattle.wtf_replay.proofs.Installing.{install_as, install_along}
 use Rattle.wtf_replay.proofs.Keeping.{pins_back}
 use Rattle.wtf_replay.proofs.commit.commit_now.Goals as goal
 
@@ -40,7 +43,8 @@ returns-in-Ok-replay_and_install-clause-meaning g c = λ ops tells stand.
     let a = c.in-Ok-replay_and_install.answer in
     let meant = c.in-Ok-replay_and_install.ensures.meaning ops map start in
     true_end_along a size told pinned kv mid c.unpin.new.self goal_run ops
-    (ap (λ s. s.number) (sym c.in_default.ensures.ok)) (ap (λ s. metadata_at s s.number) (sym c.in_default.ensures.ok)) (ap (λ s. s.number) c.unpin.ensures.rest) (λ m. ap (λ s. metadata_at s m) c.unpin.ensures.rest)
+    (ap (λ s. s.number) (sym c.in_default.ensures.ok)) (λ m. ap (λ s. metadata_at s m) (sym c.in_default.ensures.ok)) (λ q. ap (λ s. versions_of key_cmp s q) (sym c.in_default.ensures.ok))
+    (ap (λ s. s.number) c.unpin.ensures.rest) (λ m. ap (λ s. metadata_at s m) c.unpin.ensures.rest) (λ q. ap (λ s. versions_of key_cmp s q) c.unpin.ensures.rest)
     (true_end_as a size told pinned mid run goal_run ops refl refl meant)
 
 pub returns-in-Ok-replay_and_install-clause-maps : goal.returns-in-Ok-replay_and_install-clause-maps
@@ -98,3 +102,30 @@ returns-in-Ok-replay_and_install-clause-named g c = λ P hole now logged.
     } in
     let then = c.in-Ok-replay_and_install.ensures.named P hole here logged in
     subst (λ s. MapBytes P (metadata_at s s.number)) (sym c.unpin.ensures.rest) then
+
+pub returns-in-Ok-replay_and_install-clause-installs : goal.returns-in-Ok-replay_and_install-clause-installs
+returns-in-Ok-replay_and_install-clause-installs g c =
+    let size = c.args.dev.now.settings.region in
+    let kv = c.args.kv.now in
+    let pinned = c.pin.new.self in
+    let mid = c.replay_and_install.new.kv in
+    let tx = c.args.tx.0 in
+    let log = c.args.log.now in
+    let number = c.number-number.ensures.number in
+    let first = c.in-Ok.ensures in
+    let at : c.in-Ok.at ≡ untouched kv.number = cc in
+    let run = replaying tx c.in-Ok.at c.in-Ok-new.session log 0 in
+    let goal_run = replaying tx (untouched kv.number) nothing_open log 0 in
+    let hand : in_hand (untouched kv.number) nothing_open ≡ in_hand c.in-Ok.at c.in-Ok-new.session =
+    ap (λ a. in_hand a nothing_open) (sym at) ∙ ap (λ s. in_hand c.in-Ok.at s) (sym c.in-Ok-new.ensures) in
+    let a = c.in-Ok-replay_and_install.answer in
+    install_along a size pinned kv mid c.unpin.new.self goal_run
+    (ap (λ s. s.number) (sym c.in_default.ensures.ok)) (λ m. ap (λ s. metadata_at s m) (sym c.in_default.ensures.ok)) (λ q. ap (λ s. versions_of key_cmp s q) (sym c.in_default.ensures.ok))
+    (ap (λ s. s.number) c.unpin.ensures.rest) (λ q. ap (λ s. versions_of key_cmp s q) c.unpin.ensures.rest)
+    (install_as a size pinned mid run goal_run refl refl refl hand c.in-Ok-replay_and_install.ensures.installs)
+
+pub returns-in-Err-replay_and_install-clause-err_versions : goal.returns-in-Err-replay_and_install-clause-err_versions
+returns-in-Err-replay_and_install-clause-err_versions g c = λ q.
+    ap (λ s. versions_of key_cmp s q) c.unpin-in-Err-replay_and_install.ensures.rest
+    ∙ c.in-Err-replay_and_install.ensures.err_versions q
+    ∙ ap (λ s. versions_of key_cmp s q) c.in_default.ensures.ok

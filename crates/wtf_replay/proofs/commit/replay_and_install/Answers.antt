@@ -8,11 +8,12 @@ use Rattle.wtf_meta.proofs.MapBytes.{with_bytes}
 use Rattle.wtf_region.specs.Inside.{is_inside, IsStoredInside}
 use Rattle.wtf_replay.proofs.Insiding.{hand_kept}
 use Rattle.wtf_region.specs.Devs.{stores}
-use Rattle.wtf_replay.specs.Views.{replaying}
+use Rattle.wtf_replay.specs.Views.{in_hand, replaying}
 use Rattle.wtf_replay.specs.Sounds.{TellsMap}
 use Rattle.wtf_replay.specs.Replays.{IsReplay}
 use Rattle.wtf_replay.proofs.Trying.{final_from}
 use Rattle.wtf_replay.proofs.Ending.{true_end_aborted, final_as}
+use Rattle.wtf_replay.proofs.Installing.{installs_from, install_aborted}
 use Rattle.wtf_replay.proofs.commit.replay_and_install.Goals as goal
 
 pub returns-in-Some-clause-meaning : goal.returns-in-Some-clause-meaning
@@ -92,3 +93,16 @@ returns-clause-named g c = λ P hole were logged.
     let then = c.in-Ok.ensures.named P hole were logged in
     let was = subst (λ n. MapBytes P (metadata_at kv n)) base then.base in
     subst (MapBytes P) (sym (ap (metadata_at after) installed.number ∙ installed.map)) (with_bytes P hole c.replay_from.new.at.changes (metadata_at kv kv.number) was then.changes)
+
+pub returns-in-Some-clause-installs : goal.returns-in-Some-clause-installs
+returns-in-Some-clause-installs g c =
+    let kv = c.args.kv.now in
+    let old = replaying c.args.tx.0 c.args.at.now c.args.session.now c.args.log.now c.args.from in
+    install_aborted c.in-Ok-aborted.answer c.in-Some.both.0 c.in-Some.both.1 c.args.dev.now.settings.region kv kv old c.in-Ok-aborted.ensures.made (λ q. refl)
+
+pub returns-clause-installs : goal.returns-clause-installs
+returns-clause-installs g c =
+    let kv = c.args.kv.now in
+    let old = replaying c.args.tx.0 c.args.at.now c.args.session.now c.args.log.now c.args.from in
+    installs_from c.args.dev.now.settings.region kv c.install_now.new.kv old (in_hand c.replay_from.new.at c.replay_from.new.session) c.in-Ok-install_now.n
+    (c.in-Ok.ensures.redone c.in_default.is) c.in-Ok-install_now.ensures.installed

@@ -5,6 +5,10 @@ use Rattle.wtf_region.specs.Devs.{stores}
 use Rattle.wtf_replay.specs.Keeps.{IsKeptFor}
 use Rattle.wtf_replay.specs.Sounds.{caller_at, tells_slice}
 use Rattle.wtf_replay.proofs.Insiding.{log_at}
+use Rattle.std.proofs.Common.{ℕ}
+use Rattle.wtf_log.specs.Calls.{Calls, own_of}
+use Rattle.wtf_meta.specs.Maps.{seen}
+use Rattle.wtf_replay.specs.Effects.{sight, Acts, kept_len}
 use Rattle.wtf_replay.proofs.replay.make_again.Goals as goal
 
 pub returns-clause-step : goal.returns-clause-step
@@ -28,3 +32,24 @@ returns-clause-due g c = λ kept o at tells stands.
 
 pub returns-clause-named : goal.returns-clause-named
 returns-clause-named g c = λ P hole were logged. c.in-Ok.ensures.named P hole were (log_at P c.args.log.now (c.args.k + 1 - 1) c.op-op.result.now c.op-op.ensures logged)
+
+pub returns-clause-redoes : goal.returns-clause-redoes
+returns-clause-redoes g c = λ hit x tx logs.
+    let log = c.args.log.now in
+    let kv = c.args.kv.now in
+    let at = c.args.at.now in
+    let s = c.args.session.now in
+    let z = c.args.dev.now.settings.region in
+    let k = c.args.k in
+    let o = c.op-op.result.now in
+    let a = c.in-Ok.answer in
+    let down : k + 1 - 1 ≡ k = omega arith in
+    let there : slice_get log.ops k ≡ Some o = ap (slice_get log.ops) (sym down) ∙ c.op-op.ensures in
+    let shown : slice_get log.shown k ≡ Some a = ap (slice_get log.shown) (sym down) ∙ c.shown-shown.ensures ∙ ap Some (c.is_same_answer-same.ensures.0 hit) in
+    record {
+      op = o;
+      at_op = subst (λ (l : Calls). slice_get l.ops k ≡ Some o) (sym logs) there;
+      shown = a;
+      at_shown = subst (λ (l : Calls). slice_get l.shown k ≡ Some a) (sym logs) shown;
+      acts = subst (λ (n : ℕ). Acts (sight z (seen kv at) s (record { tx = record { 0 = n }; index = k + 1 })) (kept_len o) (own_of o) o a at c.make_stored.new.at) (sym tx) c.in-Ok.ensures.acts;
+    }

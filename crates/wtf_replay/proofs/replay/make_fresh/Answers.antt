@@ -1,26 +1,25 @@
-use Rattle.std.proofs.Common.{◌≡◌, ◌+◌, ◌-◌, [], refl, ap, subst, arith}
+use Rattle.std.proofs.Common.{None, refl, ap, subst}
 use Rattle.wtf_occ.specs.Attempts.{Attempted}
 use Rattle.wtf_values.specs.declared.key.Key.{Key}
 use Rattle.wtf_values.specs.declared.value.Delta.{Delta}
 use Rattle.wtf_replica.specs.Bytes.{byte_at}
 use Rattle.wtf_meta.specs.Maps.{seen}
-use Rattle.wtf_meta.specs.Calls.{Caller, IsStep}
-use Rattle.wtf_meta.proofs.Named.{PiecesBytes-none}
+use Rattle.wtf_meta.specs.Calls.{Caller}
 use Rattle.wtf_region.specs.Devs.{stores}
 use Rattle.wtf_region.specs.Inside.{is_inside}
 use Rattle.wtf_steps.specs.Faults.{MayFault}
 use Rattle.wtf_rw.specs.Ops.{op_of}
 use Rattle.wtf_rw.proofs.InsideWays.{rw_own_inside, does_named}
 use Rattle.wtf_replay.specs.Views.{in_hand}
-use Rattle.wtf_replay.specs.Built.{data_of}
+use Rattle.wtf_replay.specs.Built.{data_of, data_len}
 use Rattle.wtf_replay.specs.Sounds.{caller_at, tells_slice}
 use Rattle.wtf_replay.proofs.OpLaws.{made_as, plain_self, form_plain}
 use Rattle.wtf_replay.proofs.SliceLaws.{plain_own, plain_call_fault}
 use Rattle.wtf_model.specs.Form.{IsData}
 use Rattle.wtf_replay.proofs.RwLaws.{told_slice, fresh_ways, own_told_of, fresh_tell}
-use Rattle.wtf_replay.proofs.Looking.{told_call, fits_call}
 use Rattle.wtf_replay.proofs.Making.{told_step, fits_step}
 use Rattle.wtf_replay.proofs.Insiding.{hand_seen, hand_later, hand_step, hand_same, named_step}
+use Rattle.wtf_replay.proofs.EffectLaws.{acts_fresh}
 use Rattle.wtf_replay.proofs.replay.make_fresh.Goals as goal
 
 pub call-requires-clause-inside : goal.call-requires-clause-inside
@@ -132,3 +131,11 @@ returns-in-Err-make_plain-clause-fault g c = plain_call_fault g.S.SliceStore.kin
 
 pub returns-in-Err-make_plain-clause-due : goal.returns-in-Err-make_plain-clause-due
 returns-in-Err-make_plain-clause-due g c = c.in-Err-make_plain.ensures.due c.args.op.now (plain_self c.args.op.now c.in-None.ensures)
+
+pub returns-in-Ok-clause-acts : goal.returns-in-Ok-clause-acts
+returns-in-Ok-clause-acts g c =
+    acts_fresh c.args.dev.now.settings.region (seen c.args.kv.now c.args.at.now) c.args.session.now c.args.new c.in-Ok.done.answer c.args.at.now c.call.new.at c.in-Ok.ensures.grows.base
+    c.in-Some.made c.args.op.now c.in-Ok.done.own c.in-Some.ensures c.in-Ok.ensures.keys c.in-Ok.ensures.made
+
+pub returns-in-Ok-make_plain-clause-acts : goal.returns-in-Ok-make_plain-clause-acts
+returns-in-Ok-make_plain-clause-acts g c = c.in-Ok-make_plain.ensures.acts (data_len c.args.op.now) None

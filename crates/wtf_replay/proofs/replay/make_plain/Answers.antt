@@ -1,5 +1,4 @@
-use Rattle.std.proofs.Common.{◌≡◌, ◌+◌, ◌-◌, [], refl, sym, ap, subst, arith}
-use Rattle.wtf_base.specs.declared.fault.Fault.TheVariants as fault
+use Rattle.std.proofs.Common.{◌≡◌, ◌+◌, ◌-◌, [], refl, ap, subst, arith}
 use Rattle.wtf_occ.specs.Attempts.{Attempted}
 use Rattle.wtf_values.specs.declared.key.Key.{Key}
 use Rattle.wtf_values.specs.declared.value.Delta.{Delta}
@@ -7,9 +6,8 @@ use Rattle.wtf_replica.specs.Bytes.{byte_at}
 use Rattle.wtf_meta.specs.Maps.{seen}
 use Rattle.wtf_meta.specs.Calls.{Caller}
 use Rattle.wtf_meta.proofs.Named.{PiecesBytes-none}
-use Rattle.wtf_region.specs.Devs.{stores, is_down_in}
+use Rattle.wtf_region.specs.Devs.{stores}
 use Rattle.wtf_region.specs.Inside.{is_inside}
-use Rattle.wtf_region.proofs.ShowLaws.{reads_nothing}
 use Rattle.wtf_steps.specs.Faults.{MayFault}
 use Rattle.wtf_slicing.specs.Ops.{op_of}
 use Rattle.wtf_replay.specs.Views.{in_hand}
@@ -19,6 +17,7 @@ use Rattle.wtf_replay.proofs.SliceLaws.{name_fault, memory_due, slice_ways, slic
 use Rattle.wtf_replay.proofs.Looking.{told_call, fits_call}
 use Rattle.wtf_replay.proofs.Making.{fits_step}
 use Rattle.wtf_replay.proofs.Insiding.{hand_seen, hand_later, hand_step, hand_same, named_step}
+use Rattle.wtf_replay.proofs.EffectLaws.{acts_slice}
 use Rattle.wtf_replay.proofs.replay.make_plain.Goals as goal
 
 pub call-requires-clause-inside : goal.call-requires-clause-inside
@@ -145,3 +144,11 @@ returns-in-Err-make_name-clause-fault g c = name_fault g.S.SliceStore.kind c.arg
 
 pub returns-in-Err-make_name-clause-due : goal.returns-in-Err-make_name-clause-due
 returns-in-Err-make_name-clause-due g c = λ o plain. memory_due c.args.dev.now.settings (seen c.args.kv.now c.args.at.now) c.args.session.now o c.in-Err-make_name.why c.in-Err-make_name.ensures.fault
+
+pub returns-in-Ok-clause-acts : goal.returns-in-Ok-clause-acts
+returns-in-Ok-clause-acts g c = λ n own.
+    acts_slice c.args.dev.now.settings.region (seen c.args.kv.now c.args.at.now) c.args.session.now c.args.new c.in-Ok.answer c.args.at.now c.call.new.at c.in-Ok.ensures.grows.base
+    c.in-Some.made c.args.op.now n own c.in-Some.ensures c.in-Ok.ensures.keys c.in-Ok.ensures.made
+
+pub returns-in-Ok-make_name-clause-acts : goal.returns-in-Ok-make_name-clause-acts
+returns-in-Ok-make_name-clause-acts g c = λ n own. c.in-Ok-make_name.ensures.acts c.args.dev.now.settings.region n own

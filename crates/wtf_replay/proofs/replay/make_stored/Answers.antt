@@ -1,38 +1,35 @@
-use Rattle.std.proofs.Common.{◌≡◌, ◌+◌, ◌-◌, ℕ, List, [], None, refl, sym, ap, subst, arith, inl, inr}
-use Rattle.wtf_base.specs.declared.fault.Fault.{Fault}
-use Rattle.wtf_base.specs.declared.slice.Slice.{Slice}
+use Rattle.std.proofs.Common.{refl, sym, ap, subst, inl, inr}
 use Rattle.wtf_base.specs.Slices.{len_of}
 use Rattle.wtf_overlay.specs.Origin.{part_origin}
 use Rattle.wtf_overlay.specs.declared.part.Part.TheVariants.{Held}
 use Rattle.wtf_occ.specs.Attempts.{Attempted}
-use Rattle.wtf_model.specs.declared.op.Op.{Op}
 use Rattle.wtf_values.specs.declared.key.Key.{Key}
 use Rattle.wtf_values.specs.declared.value.Delta.{Delta}
 use Rattle.wtf_replica.specs.Bytes.{byte_at}
-use Rattle.wtf_log.specs.Standing.{OpStandsFor}
 use Rattle.wtf_log.proofs.StandingLaws.{OpStandsFor-weaker}
 use Rattle.wtf_meta.specs.Contents.{Told, is_told}
 use Rattle.wtf_meta.specs.Maps.{AllFit, metadata_at, seen}
 use Rattle.wtf_meta.specs.Calls.{Caller}
 use Rattle.wtf_meta.proofs.Named.{PiecesBytes-none}
 use Rattle.wtf_meta.proofs.Telling.{TellBytes-later}
-use Rattle.wtf_region.specs.Devs.{stores, is_down_in}
+use Rattle.wtf_region.specs.Devs.{stores}
 use Rattle.wtf_region.specs.Inside.{is_inside}
-use Rattle.wtf_region.proofs.ShowLaws.{reads_nothing}
-use Rattle.wtf_steps.specs.Faults.{MayFault, MayStandFor}
+use Rattle.wtf_steps.specs.Faults.{MayFault}
 use Rattle.wtf_rw.specs.Ops.{op_of, rw_keys, IsWhole}
-use Rattle.wtf_rw.specs.Stored.{SliceBytes, Answers}
-use Rattle.wtf_rw.proofs.InsideWays.{rw_own_inside, does_named, some_data, slice_stays}
+use Rattle.wtf_rw.specs.Stored.{SliceBytes}
+use Rattle.wtf_rw.proofs.InsideWays.{rw_own_inside, does_named, some_data}
 use Rattle.wtf_replay.specs.Views.{in_hand}
 use Rattle.wtf_replay.specs.Sounds.{caller_at, tells_slice, IsDue, IsToldStep}
 use Rattle.wtf_replay.proofs.OpLaws.{stands_plain, form_plain}
 use Rattle.wtf_replay.proofs.SliceLaws.{plain_again_fault}
 use Rattle.wtf_model.specs.Form.{IsKeptData}
 use Rattle.wtf_replay.proofs.RwLaws.{again_ways, brought_for, none_stored, lacks_bare}
-use Rattle.wtf_replay.proofs.Looking.{told_call, fits_call}
 use Rattle.wtf_replay.proofs.Later.{tells_on}
 use Rattle.wtf_replay.proofs.Making.{told_step, due_step, due_alone, fits_step, refused_step}
 use Rattle.wtf_replay.proofs.Insiding.{hand_seen, hand_later, slice_later, hand_step, hand_same, named_step, named_same}
+use Rattle.wtf_log.specs.Calls.{own_of}
+use Rattle.wtf_replay.specs.Effects.{kept_len}
+use Rattle.wtf_replay.proofs.EffectLaws.{acts_again}
 use Rattle.wtf_replay.proofs.replay.make_stored.Goals as goal
 
 pub call-requires-clause-inside : goal.call-requires-clause-inside
@@ -198,3 +195,11 @@ returns-in-Err-make_plain-clause-fault g c = plain_again_fault g.S.SliceStore.ki
 
 pub returns-in-Err-make_plain-clause-may : goal.returns-in-Err-make_plain-clause-may
 returns-in-Err-make_plain-clause-may g c = λ o stands. c.in-Err-make_plain.ensures.due o (stands_plain (λ p bytes. Unit {0}) c.args.op.now o c.in-None.ensures stands)
+
+pub returns-in-Ok-clause-acts : goal.returns-in-Ok-clause-acts
+returns-in-Ok-clause-acts g c =
+    acts_again c.args.dev.now.settings.region (seen c.args.kv.now c.args.at.now) c.args.session.now c.args.new c.in-Ok.done.answer c.args.at.now c.call.new.at c.in-Ok.ensures.grows.base
+    c.in-Some.made c.args.op.now c.in-Ok.done.own c.in-Some.ensures c.in-Ok.ensures.keys c.in-Ok.ensures.made
+
+pub returns-in-Ok-make_plain-clause-acts : goal.returns-in-Ok-make_plain-clause-acts
+returns-in-Ok-make_plain-clause-acts g c = c.in-Ok-make_plain.ensures.acts (kept_len c.args.op.now) (own_of c.args.op.now)

@@ -1,4 +1,4 @@
-use Rattle.std.proofs.Common.{◌≡◌, ◌≢◌, ◌<◌, ◌≤◌, ◌+◌, ℕ, length, true, false, Some, slice_get, refl, sym, ap, ◌∙◌, subst, arith}
+use Rattle.std.proofs.Common.{◌≡◌, ◌≢◌, ◌<◌, ◌≤◌, ◌+◌, ◌-◌, ℕ, length, true, false, Some, slice_get, refl, sym, ap, ◌∙◌, subst, arith}
 use Rattle.wtf_base.specs.declared.settings.Settings.{Settings}
 use Rattle.wtf_occ.proofs.AttemptLaws.{Grows-on}
 use Rattle.wtf_replica.specs.Bytes.{byte_at}
@@ -14,6 +14,8 @@ use Rattle.wtf_replay.specs.Sounds.{IsSound, TellsMap}
 use Rattle.wtf_replay.proofs.Again.{again_same, again_other}
 use Rattle.wtf_replay.proofs.Insiding.{log_later}
 use Rattle.wtf_replay.proofs.Later.{tells_on, tells_map_on, deviates_since}
+use Rattle.wtf_replay.specs.Effects.{AreRedone, Redoes}
+use Rattle.wtf_replay.proofs.EffectLaws.{redone_more}
 use Rattle.wtf_replay.proofs.replay.replay_from.Goals as goal
 
 pub returns-in-Err-clause-dev : goal.returns-in-Err-clause-dev
@@ -62,6 +64,8 @@ loop-k-preserved g c =
     let x = replaying c.args.tx.0 c.loop-k.at c.loop-k.session log c.loop-k.k in
     let y = replaying c.args.tx.0 c.make_again.new.at c.make_again.new.session log (c.loop-k.k + 1) in
     let size : mid.settings.region ≡ dev.settings.region = ap (λ (s : Settings). s.region) inv.dev.settings in
+    let start = replaying c.args.tx.0 c.args.at.now c.args.session.now log c.args.from in
+    let here : c.loop-k.k ≡ start.replayed + (c.loop-k.k - c.args.from) = omega (arith, from) in
     let enough : dev.settings.servers ≤ length (stores mid) = subst (λ (s : Settings). s.servers ≤ length (stores mid)) inv.dev.settings inv.dev.sound.shelf in
     record {
       from = omega (arith, from);
@@ -74,6 +78,10 @@ loop-k-preserved g c =
       logged = log_later laws c.make_again.ensures.dev.each dev.settings enough log inv.logged;
       reads = reads_over kind dev mid new inv.dev inv.reads c.make_again.ensures.reads;
       dev = goes_on laws inv.dev c.make_again.ensures.dev;
+      redone = redone_more dev.settings.region kv start (c.loop-k.k - c.args.from) (c.loop-k.k + 1 - c.args.from) (in_hand c.loop-k.at c.loop-k.session) (in_hand c.make_again.new.at c.make_again.new.session) (omega (arith, from)) inv.redone
+          (subst (λ (n : ℕ). Redoes dev.settings.region kv start n (in_hand c.loop-k.at c.loop-k.session) (in_hand c.make_again.new.at c.make_again.new.session)) here
+          (subst (λ (z : ℕ). Redoes z kv start c.loop-k.k (in_hand c.loop-k.at c.loop-k.session) (in_hand c.make_again.new.at c.make_again.new.session)) size
+          (c.in-Ok.ensures.redoes c.if-not-same.false start refl refl)));
       sound = λ ops tells start.
           let tells_mid : TellsMap kind (stores mid) (metadata_at kv c.loop-k.at.base) =
           subst (λ n. TellsMap kind (stores mid) (metadata_at kv n)) (sym inv.grows.base) (tells_map_on laws inv.dev.each (metadata_at kv c.args.at.now.base) tells) in
@@ -85,3 +93,11 @@ loop-k-preserved g c =
 
 pub returns-then-not-same-clause-named : goal.returns-then-not-same-clause-named
 returns-then-not-same-clause-named g c = λ P hole were logged. c.in-Ok.ensures.named P hole (c.loop-k.invariant.named P hole were logged) logged
+
+pub returns-clause-redone : goal.returns-clause-redone
+returns-clause-redone g c = λ none.
+    let inv = c.loop-k.invariant in
+    let end = inv.end in
+    let upto = inv.upto in
+    let all : c.loop-k.k ≡ length c.args.log.now.ops = omega (arith, end, upto, c.loop-k-test.false) in
+    subst (λ (n : ℕ). AreRedone c.args.dev.now.settings.region c.args.kv.now (replaying c.args.tx.0 c.args.at.now c.args.session.now c.args.log.now c.args.from) (n - c.args.from) (in_hand c.loop-k.at c.loop-k.session)) all inv.redone

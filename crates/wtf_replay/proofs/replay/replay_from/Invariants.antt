@@ -1,4 +1,4 @@
-use Rattle.std.proofs.Common.{◌≡◌, ◌≤◌, ℕ, List, [], length}
+use Rattle.std.proofs.Common.{◌≡◌, ◌≤◌, ◌-◌, ℕ, List, [], length}
 use Rattle.wtf_occ.specs.Attempts.{Grows}
 use Rattle.wtf_replica.specs.Bytes.{byte_at}
 use Rattle.wtf_model.specs.declared.op.Op.{Op}
@@ -8,6 +8,7 @@ use Rattle.wtf_region.specs.Showing.{OnlyRead}
 use Rattle.wtf_replay.specs.Views.{in_hand, replaying}
 use Rattle.wtf_replay.specs.Sounds.{IsSound, TellsMap}
 use Rattle.wtf_replay.specs.Insides.{IsHandInside, IsLogInside, NamesAgain}
+use Rattle.wtf_replay.specs.Effects.{AreRedone}
 use Rattle.wtf_replay.proofs.replay.replay_from.Given as goal
 
 -- the calls before call k were made once more, and each answered what was shown
@@ -23,6 +24,7 @@ invariant-loop-k g l = record {
   logged : IsLogInside g.S.SliceStore.kind (stores l.dev) l.initial.dev.settings l.log;
   reads : OnlyRead g.S.SliceStore.kind (between l.initial.dev l.dev);
   dev : GoesOn g.S.SliceStore.kind l.initial.dev l.dev [];
+  redone : AreRedone l.initial.dev.settings.region l.kv (replaying l.tx.0 l.initial.at l.initial.session l.log l.from) (l.k - l.from) (in_hand l.at l.session);
   sound : (ops : List (Op (List ℕ))) → TellsMap g.S.SliceStore.kind (stores l.initial.dev) (metadata_at l.kv l.initial.at.base)
       → IsSound l.initial.dev.settings.region l.kv (byte_at g.S.SliceStore.kind (stores l.initial.dev)) (replaying l.tx.0 l.initial.at l.initial.session l.log l.from) ops
       → IsSound l.initial.dev.settings.region l.kv (byte_at g.S.SliceStore.kind (stores l.dev)) (replaying l.tx.0 l.at l.session l.log l.k) ops;

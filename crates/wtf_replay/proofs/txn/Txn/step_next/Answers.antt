@@ -1,85 +1,136 @@
-use Rattle.std.proofs.Common.{◌≡◌, ◌≢◌, ◌<◌, ◌+◌, length, true, false, Some, slice_get, refl, sym, ◌∙◌, subst}
+use Rattle.std.proofs.Common.{◌≡◌, ◌≢◌, ◌<◌, ◌+◌, length, true, false, None, Some, slice_get, refl, sym, ◌∙◌, subst, inr, arith}
+use Rattle.std.specs.Prelude.{IsTrue, Result, Ok, Err}
+use Rattle.std.specs.Box.{with_value}
+use Rattle.wtf_base.specs.declared.fault.Fault.{Fault}
 use Rattle.wtf_replica.specs.Bytes.{byte_at}
+use Rattle.wtf_kv.specs.Stores.{is_pinned}
 use Rattle.wtf_meta.specs.Contents.{Told}
-use Rattle.wtf_meta.specs.Maps.{metadata_at}
+use Rattle.wtf_model.specs.declared.answer.Answer.{Answer}
+use Rattle.wtf_model.specs.declared.answer.Answer.TheVariants as answer
 use Rattle.wtf_region.specs.Devs.{stores}
 use Rattle.wtf_replay.specs.Views.{TxnView}
-use Rattle.wtf_replay.specs.Sounds.{IsSound, TellsMap}
-use Rattle.wtf_replay.specs.Insides.{IsInsideTxn, TxnBytes}
-use Rattle.wtf_replay.specs.Causes.{MayStepFault}
-use Rattle.wtf_replay.specs.Replays.{DeviatesOn}
+use Rattle.wtf_replay.specs.Fits.{IsFit}
+use Rattle.wtf_replay.specs.Insides.{IsInsideTxn, NamesTxn}
+use Rattle.wtf_replay.specs.Verbs.{turn, StepOf}
 use Rattle.wtf_replay.proofs.Faulting.{step_fault}
 use Rattle.wtf_replay.proofs.Again.{again_same, again_other}
-use Rattle.wtf_replay.proofs.Insiding.{log_later}
+use Rattle.wtf_replay.proofs.Insiding.{log_later, inside_later}
+use Rattle.wtf_replay.proofs.Turning.{step_none, refused_none, put_back}
 use Rattle.wtf_replay.proofs.txn.Txn.step_next.Goals as goal
 
-pub returns-then-same-clause-meaning : goal.returns-then-same-clause-meaning
-returns-then-same-clause-meaning g c = λ ops tells start.
+pub returns-then-same : goal.returns-then-same
+returns-then-same g c =
     let kind = g.S.SliceStore.kind in
+    let laws = g.met.S.SliceStore.laws in
     let kv = c.args.kv.now in
     let dev = c.args.dev.now in
+    let into = c.make_again.new.dev in
     let size = dev.settings.region in
     let before : Told = byte_at kind (stores dev) in
     let x : TxnView = record { tx = c.self.inside.tx.0; at = c.self.inside.at; session = c.self.inside.session; log = c.self.inside.log; replayed = c.self.inside.replayed; ended = c.self.inside.ended } in
     let new : TxnView = record x { at = c.make_again.new.at; session = c.make_again.new.session; replayed = c.self.inside.replayed + 1 } in
-    let sound : IsSound size kv before x ops = subst (λ y. IsSound size kv before y ops) (sym c.self.view_is) start in
-    let map : TellsMap kind (stores dev) (metadata_at kv x.at.base) = subst (λ (y : TxnView). TellsMap kind (stores dev) (metadata_at kv y.at.base)) (sym c.self.view_is) tells in
+    let fit : IsFit kv x = subst (λ y. IsFit kv y) (sym c.self.view_is) c.requires.fit in
     let left : x.replayed < length x.log.ops = subst (λ (y : TxnView). y.replayed < length y.log.ops) (sym c.self.view_is) c.requires.left in
-    again_same g.met.S.SliceStore.laws c.make_again.ensures.dev.each size kv x ops sound map left new c.in-Ok-make_again.both.0 (c.in-Ok-make_again.ensures.step c.if-same.true) (c.in-Ok-make_again.ensures.same.0 c.if-same.true) refl refl refl
+    let was : IsInsideTxn kind (stores dev) dev.settings kv x = subst (λ y. IsInsideTxn kind (stores dev) dev.settings kv y) (sym c.self.view_is) c.requires.inside in
+    let names : NamesTxn kv x new None = λ P hole were none. record { hand = c.in-Ok-make_again.ensures.named P hole were.hand were.log; log = were.log } in
+    record {
+      step =
+          subst (λ (y : TxnView). StepOf (turn kind dev into kv kv y new) (Ok (answer.Replayed (c.self.inside.replayed + 1)))) c.self.view_is (record {
+            refused = refused_none (turn kind dev into kv kv x new) (Ok (answer.Replayed (c.self.inside.replayed + 1))) (step_none x left);
+            stepped = λ going. record { index = refl; base = c.make_again.ensures.grows.base; is = refl };
+            acts = λ going. c.in-Ok-make_again.ensures.redoes c.if-same.true x refl refl;
+            meaning = λ going ops start.
+                again_same laws c.make_again.ensures.dev.each size kv x ops start.1 start.0 left new c.in-Ok-make_again.both.0 (c.in-Ok-make_again.ensures.step c.if-same.true)
+                (c.in-Ok-make_again.ensures.same.0 c.if-same.true) refl refl refl;
+            named = names;
+            fit = record {
+              pinned = subst (λ b. IsTrue (is_pinned kv b)) (sym c.make_again.ensures.grows.base) fit.pinned;
+              fits = c.in-Ok-make_again.ensures.fit;
+              log = fit.log;
+              most = omega (arith, left);
+            };
+            inside = record { hand = c.make_again.ensures.inside; log = log_later laws c.make_again.ensures.dev.each dev.settings c.requires.sound.shelf x.log was.log };
+            err = tt;
+            fault = tt;
+            due = tt;
+            reads = c.make_again.ensures.reads;
+            dev = c.make_again.ensures.dev;
+          });
+    }
 
-pub returns-clause-meaning : goal.returns-clause-meaning
-returns-clause-meaning g c = λ ops tells start.
+pub returns : goal.returns
+returns g c =
     let kind = g.S.SliceStore.kind in
+    let laws = g.met.S.SliceStore.laws in
     let kv = c.args.kv.now in
     let dev = c.args.dev.now in
+    let into = c.make_again.new.dev in
     let size = dev.settings.region in
     let before : Told = byte_at kind (stores dev) in
-    let a = c.in-Ok-make_again.both.0 in
     let x : TxnView = record { tx = c.self.inside.tx.0; at = c.self.inside.at; session = c.self.inside.session; log = c.self.inside.log; replayed = c.self.inside.replayed; ended = c.self.inside.ended } in
-    let sound : IsSound size kv before x ops = subst (λ y. IsSound size kv before y ops) (sym c.self.view_is) start in
-    let map : TellsMap kind (stores dev) (metadata_at kv x.at.base) = subst (λ (y : TxnView). TellsMap kind (stores dev) (metadata_at kv y.at.base)) (sym c.self.view_is) tells in
+    let a = c.in-Ok-make_again.both.0 in
+    let new : TxnView = record x { at = c.make_again.new.at; session = c.make_again.new.session; ended = true } in
+    let fit : IsFit kv x = subst (λ y. IsFit kv y) (sym c.self.view_is) c.requires.fit in
     let left : x.replayed < length x.log.ops = subst (λ (y : TxnView). y.replayed < length y.log.ops) (sym c.self.view_is) c.requires.left in
+    let was : IsInsideTxn kind (stores dev) dev.settings kv x = subst (λ y. IsInsideTxn kind (stores dev) dev.settings kv y) (sym c.self.view_is) c.requires.inside in
     let differs : slice_get x.log.shown x.replayed ≢ Some a = λ e. let hit : c.in-Ok-make_again.both.1 ≡ true = c.in-Ok-make_again.ensures.same.1 e in let bad : true ≡ false = sym hit ∙ c.if-same.false in cc in
-    let other = again_other g.met.S.SliceStore.laws c.make_again.ensures.dev.each size kv x ops sound map left a c.in-Ok-make_again.ensures.due differs in
-    subst (λ (y : TxnView). DeviatesOn (metadata_at kv y.at.base) size before y ops (c.self.inside.replayed + 1) a) c.self.view_is other
+    let r : Result Answer Fault = Ok (answer.Aborted (c.self.inside.replayed + 1) (with_value c.in-Ok.held a)) in
+    let names : NamesTxn kv x new None = λ P hole were none. record { hand = c.in-Ok-make_again.ensures.named P hole were.hand were.log; log = were.log } in
+    record {
+      step =
+          subst (λ (y : TxnView). StepOf (turn kind dev into kv kv y new) r) c.self.view_is (record {
+            refused = refused_none (turn kind dev into kv kv x new) r (step_none x left);
+            stepped = λ going. record { index = refl; over = record { tx = refl; base = c.make_again.ensures.grows.base; log = refl; ended = refl } };
+            acts = λ going. tt;
+            meaning = λ going ops start. again_other laws c.make_again.ensures.dev.each size kv x ops start.1 start.0 left a c.in-Ok-make_again.ensures.due differs;
+            named = names;
+            fit = record {
+              pinned = subst (λ b. IsTrue (is_pinned kv b)) (sym c.make_again.ensures.grows.base) fit.pinned;
+              fits = c.in-Ok-make_again.ensures.fit;
+              log = fit.log;
+              most = fit.most;
+            };
+            inside = record { hand = c.make_again.ensures.inside; log = log_later laws c.make_again.ensures.dev.each dev.settings c.requires.sound.shelf x.log was.log };
+            err = tt;
+            fault = tt;
+            due = tt;
+            reads = c.make_again.ensures.reads;
+            dev = c.make_again.ensures.dev;
+          });
+    }
 
-pub returns-in-Err-make_again-clause-due : goal.returns-in-Err-make_again-clause-due
-returns-in-Err-make_again-clause-due g c = λ ops start.
+-- the call gave a fault: the attempt and the session are what they were
+pub returns-in-Err-make_again : goal.returns-in-Err-make_again
+returns-in-Err-make_again g c =
     let kind = g.S.SliceStore.kind in
+    let laws = g.met.S.SliceStore.laws in
     let kv = c.args.kv.now in
     let dev = c.args.dev.now in
+    let into = c.make_again.new.dev in
+    let size = dev.settings.region in
     let before : Told = byte_at kind (stores dev) in
     let x : TxnView = record { tx = c.self.inside.tx.0; at = c.self.inside.at; session = c.self.inside.session; log = c.self.inside.log; replayed = c.self.inside.replayed; ended = c.self.inside.ended } in
-    let sound : IsSound dev.settings.region kv before x ops = subst (λ y. IsSound dev.settings.region kv before y ops) (sym c.self.view_is) start in
-    subst (λ (y : TxnView). MayStepFault dev.settings (metadata_at kv y.at.base) before y ops c.in-Err-make_again.why) c.self.view_is
-    (step_fault kind dev c.make_again.new.dev kv before x ops c.in-Err-make_again.why sound c.in-Err-make_again.ensures.fault)
-
-pub returns-then-same-clause-inside : goal.returns-then-same-clause-inside
-returns-then-same-clause-inside g c =
-    let kind = g.S.SliceStore.kind in
-    let dev = c.args.dev.now in
-    let x : TxnView = record { tx = c.self.inside.tx.0; at = c.self.inside.at; session = c.self.inside.session; log = c.self.inside.log; replayed = c.self.inside.replayed; ended = c.self.inside.ended } in
-    let was : IsInsideTxn kind (stores dev) dev.settings c.args.kv.now x = subst (λ y. IsInsideTxn kind (stores dev) dev.settings c.args.kv.now y) (sym c.self.view_is) c.requires.inside in
-    record { hand = c.make_again.ensures.inside; log = log_later g.met.S.SliceStore.laws c.make_again.ensures.dev.each dev.settings c.requires.sound.shelf x.log was.log }
-
-pub returns-clause-inside : goal.returns-clause-inside
-returns-clause-inside g c =
-    let kind = g.S.SliceStore.kind in
-    let dev = c.args.dev.now in
-    let x : TxnView = record { tx = c.self.inside.tx.0; at = c.self.inside.at; session = c.self.inside.session; log = c.self.inside.log; replayed = c.self.inside.replayed; ended = c.self.inside.ended } in
-    let was : IsInsideTxn kind (stores dev) dev.settings c.args.kv.now x = subst (λ y. IsInsideTxn kind (stores dev) dev.settings c.args.kv.now y) (sym c.self.view_is) c.requires.inside in
-    record { hand = c.make_again.ensures.inside; log = log_later g.met.S.SliceStore.laws c.make_again.ensures.dev.each dev.settings c.requires.sound.shelf x.log was.log }
-
-pub returns-then-same-clause-named : goal.returns-then-same-clause-named
-returns-then-same-clause-named g c = λ P hole start none.
-    let kv = c.args.kv.now in
-    let x : TxnView = record { tx = c.self.inside.tx.0; at = c.self.inside.at; session = c.self.inside.session; log = c.self.inside.log; replayed = c.self.inside.replayed; ended = c.self.inside.ended } in
-    let were : TxnBytes P kv x = subst (TxnBytes P kv) (sym c.self.view_is) start in
-    record { hand = c.in-Ok-make_again.ensures.named P hole were.hand were.log; log = were.log }
-
-pub returns-clause-named : goal.returns-clause-named
-returns-clause-named g c = λ P hole start none.
-    let kv = c.args.kv.now in
-    let x : TxnView = record { tx = c.self.inside.tx.0; at = c.self.inside.at; session = c.self.inside.session; log = c.self.inside.log; replayed = c.self.inside.replayed; ended = c.self.inside.ended } in
-    let were : TxnBytes P kv x = subst (TxnBytes P kv) (sym c.self.view_is) start in
-    record { hand = c.in-Ok-make_again.ensures.named P hole were.hand were.log; log = were.log }
+    let why = c.in-Err-make_again.why in
+    let fit : IsFit kv x = subst (λ y. IsFit kv y) (sym c.self.view_is) c.requires.fit in
+    let left : x.replayed < length x.log.ops = subst (λ (y : TxnView). y.replayed < length y.log.ops) (sym c.self.view_is) c.requires.left in
+    let was : IsInsideTxn kind (stores dev) dev.settings kv x = subst (λ y. IsInsideTxn kind (stores dev) dev.settings kv y) (sym c.self.view_is) c.requires.inside in
+    let same : record x { at = c.make_again.new.at; session = c.make_again.new.session } ≡ x = put_back x c.make_again.new.at c.make_again.new.session c.in-Err-make_again.ensures.err.0 c.in-Err-make_again.ensures.err.1 in
+    let there : StepOf (turn kind dev into kv kv x x) (Err why) = record {
+      refused = refused_none (turn kind dev into kv kv x x) (Err why) (step_none x left);
+      stepped = λ going. tt;
+      acts = λ going. tt;
+      meaning = λ going. tt;
+      named = tt;
+      fit = fit;
+      inside = inside_later laws c.make_again.ensures.dev.each dev.settings c.requires.sound.shelf kv x was;
+      err = refl;
+      fault = inr c.in-Err-make_again.ensures.fault;
+      due = λ ops sound. step_fault kind dev into kv before x ops why sound c.in-Err-make_again.ensures.fault;
+      reads = c.make_again.ensures.reads;
+      dev = c.make_again.ensures.dev;
+    } in
+    record {
+      step =
+          subst (λ (y : TxnView). StepOf (turn kind dev into kv kv y (record x { at = c.make_again.new.at; session = c.make_again.new.session })) (Err why)) c.self.view_is
+          (subst (λ (y : TxnView). StepOf (turn kind dev into kv kv x y) (Err why)) (sym same) there);
+    }

@@ -1,0 +1,135 @@
+-- What a call of a transaction records and changes, by what it sees: its keys, in order and up to a refusal, and its changes,
+-- and nothing else.
+-- NSDI 2016, sections 2.3 to 2.6 (what a call read is what a later install of others may not have changed).
+use Rattle.std.specs.Prelude.{◌≡◌, ℕ, zero, suc, ◌+◌, ◌-◌, ◌++◌, Bool, false, bytes_eq, if◌then◌else◌, List, [], ◌∷◌, length, Option, None, Some, slice_get}
+use Rattle.std.specs.List.{list_any}
+use Rattle.wtf_base.specs.declared.ids.InodeId.{InodeId}
+use Rattle.wtf_base.specs.declared.kept.Kept.{Kept}
+use Rattle.wtf_base.specs.declared.slice.Slice.{Slice}
+use Rattle.wtf_kv.specs.Stores.{Store}
+use Rattle.wtf_occ.specs.Attempts.{Attempted}
+use Rattle.wtf_model.specs.declared.answer.Answer.{Answer}
+use Rattle.wtf_model.specs.declared.op.Op.{Op}
+use Rattle.wtf_model.specs.declared.op.Op.TheVariants as op
+use Rattle.wtf_values.specs.declared.key.Key.{Key}
+use Rattle.wtf_values.specs.declared.key.Key.TheVariants.{Path}
+use Rattle.wtf_values.specs.declared.value.Value.{Value}
+use Rattle.wtf_values.specs.declared.value.Delta.{Delta}
+use Rattle.wtf_values.specs.declared.value.Node.{Node}
+use Rattle.wtf_values.specs.declared.value.Node.TheVariants.{Folder, File}
+use Rattle.wtf_log.specs.Calls.{own_of}
+use Rattle.wtf_meta.specs.declared.session.Handle.{Handle}
+use Rattle.wtf_meta.specs.Maps.{Map, Edits, seen}
+use Rattle.wtf_meta.specs.Sessions.{SessionView, handle_in, slice_in}
+use Rattle.wtf_meta.specs.Calls.{InHand}
+use Rattle.wtf_index.specs.Checks.{stands_at}
+use Rattle.wtf_index.specs.Recorded.{target_keys, directory_keys, rmdir_keys, source_keys, rename_keys}
+use Rattle.wtf_index.specs.Changed.{mkdir_changes, rmdir_changes, create_changes, unlink_changes, rename_changes}
+use Rattle.wtf_steps.specs.Recorded.{append_keys, read_keys}
+use Rattle.wtf_steps.specs.Made.{Makes, LaysAt, AddsAt}
+use Rattle.wtf_rw.specs.Recorded.{open_keys, seek_keys, stat_keys}
+use Rattle.wtf_rw.specs.Changed.{OfSlice, CutsAt, PunchesAt}
+use Rattle.wtf_slicing.specs.Recorded.{glue_keys, concat_keys, copy_keys}
+use Rattle.wtf_slicing.specs.Changed.{kept_pieces, IsConcat, IsCopied}
+use Rattle.wtf_replay.specs.Views.{TxnView, hand_of}
+
+-- what a call sees: how many bytes a region has, the map of its attempt, what is in hand, and the inode of a file that it would make
+pub record Sight : Type 0 where
+  pub size : ℕ
+  pub map : Map
+  pub hand : SessionView
+  pub new : InodeId
+
+abbrev pub sight : ℕ → Map → SessionView → InodeId → Sight
+sight size w s new = record { size = size; map = w; hand = s; new = new }
+
+-- whether a handle was opened by a path
+abbrev pub is_by : List ℕ → Option Handle → Bool
+is_by p None = false
+is_by p (Some h) = bytes_eq h.path p
+
+abbrev pub is_held : SessionView → List ℕ → Bool
+is_held s p = list_any (is_by p) s.handles
+
+-- nothing, where a file stands
+abbrev pub unless_file : {A : Type 0} → Option Node → List A → List A
+unless_file (Some (File i)) xs = []
+unless_file (Some Folder) xs = xs
+unless_file None xs = xs
+
+-- Of a call that takes a file from a path: where a handle was opened by the path, what stands there is looked at first. A
+-- file is busy then, and nothing more is looked at or changed.
+abbrev pub taken_keys : Map → SessionView → List ℕ → List Key → List Key
+taken_keys w s p ks = if is_held s p then Path p ∷ unless_file (stands_at w p) ks else ks
+
+abbrev pub taken_changes : Map → SessionView → List ℕ → Edits → Edits
+taken_changes w s p cs = if is_held s p then unless_file (stands_at w p) cs else cs
+
+-- the keys of a call whose data has n bytes
+abbrev pub call_keys : {D : Type 0} → Sight → ℕ → Op D → List Key
+call_keys x n (op.Mkdir p) = target_keys x.map p
+call_keys x n (op.Rmdir p) = rmdir_keys x.map p
+call_keys x n (op.Create p) = target_keys x.map p
+call_keys x n (op.Unlink p) = taken_keys x.map x.hand p (source_keys p)
+call_keys x n (op.Rename p q) = taken_keys x.map x.hand p (rename_keys x.map p q)
+call_keys x n (op.List p) = directory_keys x.map p
+call_keys x n (op.Stat p) = stat_keys x.map p
+call_keys x n (op.Open f p) = open_keys (handle_in x.hand f) p
+call_keys x n (op.Seek f place) = seek_keys x.map (handle_in x.hand f) place
+call_keys x n (op.Read f m) = read_keys x.size x.map (handle_in x.hand f) m
+call_keys x n (op.Append f d) = append_keys x.size x.map (handle_in x.hand f) n
+call_keys x n (op.Yank f m label) = read_keys x.size x.map (handle_in x.hand f) m
+call_keys x n (op.Glue f label) = glue_keys x.size x.map (handle_in x.hand f) (slice_in x.hand label)
+call_keys x n (op.Concat q paths) = concat_keys x.map q paths
+call_keys x n (op.Copy p q) = copy_keys x.map p q
+call_keys x n o = []
+
+-- the changes of a call that answered a, of whose data the slice `own` is stored
+abbrev pub CallMakes : {D : Type 0} → Sight → Option Slice → Op D → Answer → Attempted Key Delta → Attempted Key Delta → Type 0
+CallMakes x own (op.Mkdir p) a old new = new.changes ≡ old.changes ++ mkdir_changes x.map p
+CallMakes x own (op.Rmdir p) a old new = new.changes ≡ old.changes ++ rmdir_changes x.map p
+CallMakes x own (op.Create p) a old new = new.changes ≡ old.changes ++ create_changes x.map p x.new
+CallMakes x own (op.Unlink p) a old new = new.changes ≡ old.changes ++ taken_changes x.map x.hand p (unlink_changes x.map p)
+CallMakes x own (op.Rename p q) a old new = new.changes ≡ old.changes ++ taken_changes x.map x.hand p (rename_changes x.map p q)
+CallMakes x own (op.Write f d) a old new = Makes a (OfSlice own (LaysAt x.size (handle_in x.hand f))) old new
+CallMakes x own (op.Append f d) a old new = Makes a (OfSlice own (AddsAt x.size x.map (handle_in x.hand f))) old new
+CallMakes x own (op.Truncate f n) a old new = Makes a (CutsAt x.size (handle_in x.hand f) n) old new
+CallMakes x own (op.Punch f n) a old new = Makes a (PunchesAt x.size (handle_in x.hand f) n) old new
+CallMakes x own (op.Paste f label) a old new = Makes a (LaysAt x.size (handle_in x.hand f) (kept_pieces x.hand label)) old new
+CallMakes x own (op.Glue f label) a old new = Makes a (AddsAt x.size x.map (handle_in x.hand f) (kept_pieces x.hand label)) old new
+CallMakes x own (op.Concat q paths) a old new = Makes a (IsConcat x.size x.map q paths x.new) old new
+CallMakes x own (op.Copy p q) a old new = Makes a (IsCopied x.map p q x.new) old new
+CallMakes x own o a old new = new.changes ≡ old.changes
+
+-- an attempt goes on by a call that answered a, of whose n bytes of data the slice `own` is stored: by its keys and changes
+pub record Acts {D : Type 0} (x : Sight) (n : ℕ) (own : Option Slice) (o : Op D) (a : Answer) (old new : Attempted Key Delta) : Type 0 where
+  pub base : new.base ≡ old.base
+  pub keys : new.reads ≡ old.reads ++ call_keys x n o
+  pub makes : CallMakes x own o a old new
+
+-- the number of bytes of the data that a log kept of a call
+abbrev pub kept_len : Op Kept → ℕ
+kept_len (op.Write f kept) = kept.len
+kept_len (op.Append f kept) = kept.len
+kept_len o = 0
+
+-- what call k + 1 of the transaction tx sees, with this in hand
+abbrev pub sight_at : ℕ → Store Key Value → ℕ → ℕ → InHand → Sight
+sight_at size kv tx k hand = sight size (seen kv hand.at) hand.session (record { tx = record { 0 = tx }; index = k + 1 })
+
+-- call k of a transaction, from 0 on, was made once more, and answered what was shown
+pub record Redoes (size : ℕ) (kv : Store Key Value) (x : TxnView) (k : ℕ) (old new : InHand) : Type 0 where
+  pub op : Op Kept
+  pub at_op : slice_get x.log.ops k ≡ Some op
+  pub shown : Answer
+  pub at_shown : slice_get x.log.shown k ≡ Some shown
+  pub acts : Acts (sight_at size kv x.tx k old) (kept_len op) (own_of op) op shown old.at new.at
+
+-- n calls of a transaction were made once more, one after another, from where it stands
+abbrev pub AreRedone : ℕ → Store Key Value → TxnView → ℕ → InHand → Type 0
+AreRedone size kv x zero hand = hand ≡ hand_of x
+AreRedone size kv x (suc n) hand = (mid : InHand) × AreRedone size kv x n mid × Redoes size kv x (x.replayed + n) mid hand
+
+-- all that are left
+abbrev pub AllRedone : ℕ → Store Key Value → TxnView → InHand → Type 0
+AllRedone size kv x hand = AreRedone size kv x (length x.log.ops - x.replayed) hand
