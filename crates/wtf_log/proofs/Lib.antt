@@ -1,3 +1,1 @@
-pub mod RowLaws
-pub mod SameLaws
 pub mod StandingLaws

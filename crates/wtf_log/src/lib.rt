@@ -6,7 +6,6 @@
 mod error;
 pub mod examples;
 mod log;
-mod same;
 
 pub use error::LogError;
 pub use log::Log;

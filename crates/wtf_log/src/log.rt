@@ -1,13 +1,11 @@
 //! The log of a transaction.
 
-ghost use Rattle.std.specs.Prelude.{◌≡◌, ◌-◌, ◌≤◌, ◌↔◌, Ok, Some, IsTrue, IsErrOf, IfSome, OnOk, OnErr, length, slice_get};
+ghost use Rattle.std.specs.Prelude.{◌≡◌, ◌-◌, ◌≤◌, ◌↔◌, Ok, Some, IsTrue, IsErrOf, OnOk, OnErr, length, slice_get};
 ghost use Rattle.std.specs.Option.{option_and_then};
 ghost use Rattle.wtf_model.specs.declared.limits.TheConstants.{MAX_LOGGED};
-ghost use Rattle.wtf_model.specs.Same.{AreSame};
 ghost use Rattle.wtf_log.specs.Calls.{no_calls, with_call, own_of};
 
 use crate::LogError;
-use crate::same::are_same;
 use std::alloc::Global;
 use std::marker::Model;
 use wtf_base::{Kept, OutOfMemory, Slice};
@@ -105,13 +103,6 @@ impl Log {
         }
     }
 
-    /// Takes all calls out. The log keeps its memory.
-    pub fn clear(&mut self)
-        ensures { self.new ≡ no_calls }
-    {
-        self.calls.clear();
-    }
-
     /// The `i`-th call, from 1 on.
     pub fn op(&self, i: u32) -> &Op<Kept>
         requires counted { 1 ≤ i }
@@ -128,16 +119,6 @@ impl Log {
         ensures { slice_get self.now.shown (i - 1) ≡ Some result.now }
     {
         &self.calls[(i - 1) as usize].shown
-    }
-
-    /// Whether what was shown of the `i`-th call, from 1 on, says the same as `answer`.
-    pub fn is_answered_as(&self, i: u32, answer: &Answer) -> bool
-        requires counted { 1 ≤ i }
-        requires logged { i ≤ length self.now.ops }
-        ensures { IfSome (slice_get self.now.shown (i - 1))
-            (λ shown. IsTrue result ↔ AreSame shown answer.now) }
-    {
-        are_same(self.shown(i), answer)
     }
 
     /// The slice that the `i`-th call, from 1 on, has stored: that of a write or an append which
