@@ -230,7 +230,7 @@ piece_bytes P hole (p ∷ ps) i h = elim (cases_lt i p.len) [
 -- why bytes were not read, where each byte of the map and of the slices in hand lies inside the stores
 module _ {S : Type 0} {kind : StoreKind S} (laws : KindLaws kind) (shelf : List S) (settings : Settings) (enough : settings.servers ≤ length shelf) (old new : Dev S) (w : Map) (s : SessionView) (full : Type 0)
     (inside : SeenBytes (is_inside kind shelf settings) w s) (copies : full → SeenBytes (has_copies settings.replicas) w s) where
-  pub read_caused : (f n : ℕ) (given : List ℕ) (why : Fault) (a : Answer) → fault_answer why ≡ Some a → IsReadCause kind old new w s f n why → HasCause kind (between old new) settings ⊥ full given a
+  pub read_caused : (f n : ℕ) (given : List ℕ) (why : Fault) (a : Answer) → fault_answer why ≡ Some a → IsReadCause kind old new w (handle_in s f) n why → HasCause kind (between old new) settings ⊥ full given a
   read_caused f n given why a is (inl memory) = absurd (memory_none why a is memory)
   read_caused f n given (fault.Read k) a is (inr (h, there, lacks)) =
       subst (λ (r : Answer). HasCause kind (between old new) settings ⊥ full given r) (let e : answer.FaultRead k.0 ≡ a = cc in e)
@@ -255,7 +255,7 @@ module _ {S : Type 0} {kind : StoreKind S} (laws : KindLaws kind) (shelf : List 
   peek_by label off n (fault.Damaged k) a (Some ps) there is (inr lacks) = absurd lacks.fault
   peek_by label off n fault.Memory a (Some ps) there is (inr lacks) = absurd (memory_none fault.Memory a is refl)
 
-  pub peek_caused : (label off n : ℕ) (why : Fault) (a : Answer) → fault_answer why ≡ Some a → IsPeekCause kind old new s label off n why → HasCause kind (between old new) settings ⊥ full [] a
+  pub peek_caused : (label off n : ℕ) (why : Fault) (a : Answer) → fault_answer why ≡ Some a → IsPeekCause kind old new (slice_in s label) off n why → HasCause kind (between old new) settings ⊥ full [] a
   peek_caused label off n why a is (inl memory) = absurd (memory_none why a is memory)
   peek_caused label off n why a is (inr h) = peek_by label off n why a (slice_in s label) refl is h
 

@@ -1,9 +1,11 @@
 -- What a line of one client leaves to the others.
-use Rattle.std.proofs.Common.{◌≡◌, ◌≢◌, ◌≤◌, ℕ, ◌+◌, Option, None, Some, refl, sym, ap, ◌∙◌, subst, ◌⊎◌, ⊎_elim, arith}
-use Rattle.std.specs.Prelude.{IsTrue}
+use Rattle.std.proofs.Common.{◌≡◌, ◌≢◌, ◌≤◌, ◌<◌, ℕ, ◌+◌, nat_eq, Option, None, Some, refl, sym, ap, ◌∙◌, subst, ◌⊎◌, ⊎_elim, arith}
+use Rattle.std.specs.Prelude.{IsTrue, if◌then◌else◌}
+use Rattle.std.proofs.lemmas.Bool.{cases_Bool, eqb-true}
 use Rattle.std.specs.List.{Contains}
 use Rattle.std.specs.FinMap.{get}
 use Rattle.wtf_kv.specs.Stores.{Store, is_pinned, times_pinned}
+use Rattle.wtf_kv.proofs.PinLaws.{any-count, count-any}
 use Rattle.wtf_values.specs.declared.key.Key.{Key}
 use Rattle.wtf_values.specs.declared.value.Value.{Value}
 use Rattle.wtf_model.specs.Tree.{Tree, root_alone}
@@ -90,6 +92,30 @@ module _ (old new : TablesView) (c : ℕ) (now : Option TxnView) (sound : AreSou
   kept_before : (n : ℕ) → Contains new.saved.images n → Contains old.saved.images n
   kept_before n here = subst (λ (s : SavedView). Contains s.images n) turned.saved here
 
+  -- no number that is pinned is of an install to come: it was pinned before, or is the base of the transaction
+  upto_by : (n : ℕ) (s : Option TxnView) → now ≡ s → 0 < times_pinned new.kv n → n ≤ new.kv.number
+  upto_by n None is some =
+      let moved = turned.pins n in
+      let own : owned n now ≡ 0 = ap (owned n) is in
+      let le = sound.upto n (any-count n old.kv.pins (omega (arith, moved, own, some))) in
+      let up = turned.later in
+      omega (arith, le, up)
+  upto_by n (Some x) is some = ⊎_elim
+      (λ here.
+      let same : n ≡ x.at.base = eqb-true n x.at.base here in
+      let based = (turned.own x is).based in
+      omega (arith, same, based))
+      (λ other.
+      let moved = turned.pins n in
+      let own : owned n now ≡ 0 = ap (owned n) is ∙ ap (λ b. if b then 1 else 0) other in
+      let le = sound.upto n (any-count n old.kv.pins (omega (arith, moved, own, some))) in
+      let up = turned.later in
+      omega (arith, le, up))
+      (cases_Bool (nat_eq n x.at.base))
+
+  upto_now : (n : ℕ) → IsTrue (is_pinned new.kv n) → n ≤ new.kv.number
+  upto_now n pinned = upto_by n now refl (count-any n new.kv.pins pinned)
+
   kept_now : (n : ℕ) → Contains new.saved.images n → n ≤ new.kv.number
   kept_now n here =
       let was = sound.kept n (kept_before n here) in
@@ -131,6 +157,7 @@ sound_turned old new c now sound turned = record {
   begun = let was = sound.begun in let up = turned.more in omega (arith, was, up);
   each = open_now old new c now sound turned;
   pins = pins_are old new c now sound turned;
+  upto = upto_now old new c now sound turned;
   kept = kept_now old new c now sound turned;
   apart = apart_now old new c now sound turned;
 }

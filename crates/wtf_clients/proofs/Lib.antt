@@ -1,4 +1,5 @@
 pub mod Later
+pub mod Lives
 pub mod Pins
 pub mod Images
 pub mod Frames

@@ -6,9 +6,10 @@ use Rattle.wtf_base.specs.declared.fault.Fault.{Fault}
 use Rattle.wtf_base.specs.declared.fault.Fault.TheVariants as fault
 use Rattle.wtf_base.specs.declared.slice.Slice.{Slice}
 use Rattle.wtf_base.specs.declared.memory.OutOfMemory.{OutOfMemory}
-use Rattle.wtf_kv.specs.Stores.{Store, IsPinnedOnceMore, times_pinned}
+use Rattle.wtf_kv.specs.Stores.{Store, IsPinnedOnceMore, times_pinned, versions_of}
 use Rattle.wtf_values.specs.declared.key.Key.{Key}
 use Rattle.wtf_values.specs.declared.value.Value.{Value}
+use Rattle.wtf_values.specs.Keys.{key_cmp}
 use Rattle.wtf_model.specs.declared.answer.Answer.{Answer, Aborted'}
 use Rattle.wtf_model.specs.declared.answer.Answer.TheVariants as answer
 use Rattle.wtf_model.specs.declared.answer.Word.{Word}
@@ -27,30 +28,37 @@ use Rattle.wtf_meta.specs.Trees.{Stands}
 use Rattle.wtf_meta.specs.Sessions.{Holds}
 use Rattle.wtf_meta.specs.Calls.{Caller, cap_for}
 use Rattle.wtf_rw.specs.Faults.{MayStandFor}
-use Rattle.wtf_replay.specs.Views.{TxnView, begun}
+use Rattle.wtf_replay.specs.Views.{TxnView, begun, hand_of}
 use Rattle.wtf_replay.specs.Refusals.{call_refusal, try_refusal, step_refusal, unmade}
 use Rattle.wtf_replay.specs.Fits.{IsFit}
 use Rattle.wtf_replay.specs.Sounds.{IsSound, caller_at}
 use Rattle.wtf_replay.specs.Causes.{fault_answer, MayFaultAt, MayEndFault}
 use Rattle.wtf_replay.specs.Called.{IsCalled}
-use Rattle.wtf_replay.specs.Tried.{IsAttempted, KeepsMaps, KeepsPins}
+use Rattle.wtf_replay.specs.Tried.{IsAttempted, KeepsMaps, KeepsVersions, KeepsPins, commit_from}
+use Rattle.wtf_replay.specs.Built.{data_len}
+use Rattle.wtf_replay.specs.Effects.{Acts, Redoes, sight_at}
+use Rattle.wtf_replay.specs.Installs.{IsInstall}
 use Rattle.wtf_replay.specs.Replays.{IsStepped, IsOver, IsEnded, IsTrueAttempt, IsTrueStep, IsTrueEnd}
 use Rattle.wtf_replay.proofs.Keeping.{fit_after}
 use Rattle.wtf_clients.specs.Views.{Clients, TablesView, of_client, metadata_now}
 use Rattle.wtf_clients.specs.Sounds.{owned, IsOpen, AreSound, Sets}
 use Rattle.wtf_clients.specs.Turns.{Refuses, Begins, Ends, Tries, TryTurn, Stays, Calls, CallFails, Steps, Finals, ClientTurn}
-use Rattle.wtf_clients.proofs.Lists.{sets_added, sets_then}
+use Rattle.wtf_clients.proofs.Lists.{sets_added, sets_same, sets_then}
 use Rattle.wtf_clients.proofs.Frames.{sound_turned}
 use Rattle.wtf_clients.proofs.Staying.{fault_is, same_stays}
 
 -- a match on an option that is known
-at_none : {A : Type 0} (o : Option A) (P : Type 0) (Q : A → Type 0) → o ≡ None → P → MatchOption o P Q
+pub at_none : {A : Type 0} (o : Option A) (P : Type 0) (Q : A → Type 0) → o ≡ None → P → MatchOption o P Q
 at_none o P Q is p = subst (λ r. MatchOption r P Q) (sym is) p
 
 pub at_some : {A : Type 0} (o : Option A) (x : A) (P : Type 0) (Q : A → Type 0) → o ≡ Some x → Q x → MatchOption o P Q
 at_some o x P Q is q = subst (λ r. MatchOption r P Q) (sym is) q
 
-nothing_there : {A : Type 0} (o : Option A) → is_some o ≡ false → o ≡ None
+pub at_there : {A : Type 0} (o : Option A) (P : Type 0) (Q : A → Type 0) → is_some o ≡ true → ((x : A) → Q x) → MatchOption o P Q
+at_there None P Q h q = absurd (true≢false (sym h))
+at_there (Some x) P Q h q = q x
+
+pub nothing_there : {A : Type 0} (o : Option A) → is_some o ≡ false → o ≡ None
 nothing_there None h = refl
 nothing_there (Some x) h = absurd (true≢false h)
 
@@ -115,6 +123,14 @@ refuses old new c x y w a there sets same kv next saved is = record {
   };
 }
 
+-- and so does one of a client that has none, or has one already
+pub refused_same : (old : TablesView) (clients : Clients) (c : ℕ) (w : Word) → clients ≡ old.clients
+    → Refuses old (record { kv = old.kv; next_tx = old.next_tx; clients = clients; saved = old.saved }) c w (answer.Refused w)
+refused_same old clients c w is = record {
+  answer = refl;
+  keeps = record { clients = sets_same c old.clients clients is; kv = refl; next_tx = refl; saved = refl };
+}
+
 -- ---- a transaction begins
 pub begin_turn : (old : TablesView) (kv : Store Key Value) (mid clients : Clients) (c number : ℕ) (x : TxnView) → is_some (of_client old.clients c) ≡ false
     → number ≡ old.kv.number → mid ≡ old.clients → (of_client mid c ≡ None → clients ≡ mid ++ (c, x) ∷ [])
@@ -144,7 +160,7 @@ module _ (Telling : Type 0) (servers size : ℕ) (told later : Told) (old : Tabl
   now_called = record { kv = old.kv; next_tx = old.next_tx; clients = clients; saved = old.saved }
 
   call_on : (N : Type 0) (r : Option Word) → call_refusal x ≡ r → of_client old.clients c ≡ Some x → Sets c (Some y) old.clients clients
-      → IfSome (unmade x) (λ b. (answered Fault a b) × (y ≡ x) × N) → (unmade x ≡ None → (own : Option Slice) × IsCalled x y o own a)
+      → IfSome (unmade x) (λ b. (answered Fault a b) × (y ≡ x) × N) → (unmade x ≡ None → (own : Option Slice) × IsCalled x y o own a × Acts (sight_at size old.kv x.tx x.replayed (hand_of x)) (data_len o) own o a x.at y.at)
       → (unmade x ≡ None → Telling × MapBytes (is_told told) (metadata_at old.kv x.at.base) → (ops : List (Op (List ℕ))) → IsSound size old.kv told x ops → IsSound size old.kv later y (ops ++ o ∷ []))
       → IsFit old.kv y
       → MatchOption r (Calls Telling servers size told later old now_called c x o a ⊎ CallFails Telling servers size told later old now_called c x o a) (λ w. Refuses old now_called c w a)
@@ -155,6 +171,7 @@ module _ (Telling : Type 0) (servers size : ℕ) (told later : Told) (old : Tabl
         own = (made free).0;
         keeps = record { clients = sets; kv = refl; next_tx = refl; saved = refl };
         called = (made free).1;
+        acts = (made free).2;
         fit = fit;
         sound = meaning free;
       })
@@ -164,7 +181,7 @@ module _ (Telling : Type 0) (servers size : ℕ) (told later : Told) (old : Tabl
       refuses old now_called c x y w a there sets both.1 refl refl refl (same_answer Fault a (answer.Refused w) both.0)
 
   pub call_turn : (N : Type 0) → of_client old.clients c ≡ Some x → Sets c (Some y) old.clients clients
-      → IfSome (unmade x) (λ b. (answered Fault a b) × (y ≡ x) × N) → (unmade x ≡ None → (own : Option Slice) × IsCalled x y o own a)
+      → IfSome (unmade x) (λ b. (answered Fault a b) × (y ≡ x) × N) → (unmade x ≡ None → (own : Option Slice) × IsCalled x y o own a × Acts (sight_at size old.kv x.tx x.replayed (hand_of x)) (data_len o) own o a x.at y.at)
       → (unmade x ≡ None → Telling × MapBytes (is_told told) (metadata_at old.kv x.at.base) → (ops : List (Op (List ℕ))) → IsSound size old.kv told x ops → IsSound size old.kv later y (ops ++ o ∷ []))
       → IsFit old.kv y
       → ClientTurn Telling servers size told later old (record { kv = old.kv; next_tx = old.next_tx; clients = clients; saved = old.saved }) c (verb.Call o) a
@@ -177,7 +194,7 @@ module _ (Telling : Type 0) (servers size : ℕ) (told later : Told) (old : Tabl
       → ClientTurn Telling servers size told later old (record { kv = old.kv; next_tx = old.next_tx; clients = clients; saved = old.saved }) c (verb.Call o) a
   call_failed why there sets same asked is may =
       at_some (of_client old.clients c) x _ _ there (at_none (call_refusal x) _ _ asked (inr (record {
-        fails = record { why = why; answer = is; stays = same_stays old now_called c x y there sets same refl (λ n le. refl) (λ n. refl) refl refl };
+        fails = record { why = why; answer = is; stays = same_stays old now_called c x y there sets same refl (λ n le. refl) (λ q. refl) (λ n. refl) refl refl };
         may = may;
       })))
 
@@ -300,23 +317,26 @@ module _ (Telling : Type 0) (servers size : ℕ) (told later : Told) (old : Tabl
     (stopped : IfSome (step_refusal x) (λ w. (answered Fault a (answer.Refused w)) × (y ≡ x)))
     (stepped : step_refusal x ≡ None → IsStepped x y a)
     (meaning : step_refusal x ≡ None → Telling × MapBytes (is_told told) (metadata_at old.kv x.at.base) → (ops : List (Op (List ℕ))) → IsSound size old.kv told x ops → IsTrueStep size (told, later) old.kv (x, y) ops a)
+    (acts : step_refusal x ≡ None → (i : ℕ) → a ≡ answer.Replayed i → Redoes size old.kv x x.replayed (hand_of x) (hand_of y))
     (fit : IsFit old.kv y) where
   abbrev now_stepped : TablesView
   now_stepped = record { kv = old.kv; next_tx = old.next_tx; clients = mid; saved = old.saved }
 
-  step_goes_by : (b : Answer) → y.ended ≡ false → IsStepped x y b → (Telling × MapBytes (is_told told) (metadata_at old.kv x.at.base) → (ops : List (Op (List ℕ))) → IsSound size old.kv told x ops → IsTrueStep size (told, later) old.kv (x, y) ops b) → Steps Telling servers size told later old now_stepped c x b
-  step_goes_by (answer.Replayed i) still h m = record {
+  step_goes_by : (b : Answer) → y.ended ≡ false → IsStepped x y b → (Telling × MapBytes (is_told told) (metadata_at old.kv x.at.base) → (ops : List (Op (List ℕ))) → IsSound size old.kv told x ops → IsTrueStep size (told, later) old.kv (x, y) ops b)
+      → ((i : ℕ) → b ≡ answer.Replayed i → Redoes size old.kv x x.replayed (hand_of x) (hand_of y)) → Steps Telling servers size told later old now_stepped c x b
+  step_goes_by (answer.Replayed i) still h m did = record {
     later_one = y;
     keeps = record { clients = sets; kv = refl; next_tx = refl; saved = refl };
     replayed = h;
+    acts = did i refl;
     fit = fit;
     sound = m;
   }
-  step_goes_by (Aborted' i box b) still h m = absurd (true≢false (sym h.over.ended ∙ still))
-  step_goes_by b still h m = absurd h
+  step_goes_by (Aborted' i box b) still h m did = absurd (true≢false (sym h.over.ended ∙ still))
+  step_goes_by b still h m did = absurd h
 
   step_goes_on : (r : Option Word) → step_refusal x ≡ r → y.ended ≡ false → MatchOption r (Steps Telling servers size told later old now_stepped c x a) (λ w. Refuses old now_stepped c w a)
-  step_goes_on None is still = step_goes_by a still (stepped is) (meaning is)
+  step_goes_on None is still = step_goes_by a still (stepped is) (meaning is) (acts is)
   step_goes_on (Some w) is still =
       let both : (answered Fault a (answer.Refused w)) × (y ≡ x) = subst (λ m. IfSome m (λ v. (answered Fault a (answer.Refused v)) × (y ≡ x))) is stopped in
       refuses old now_stepped c x y w a there sets both.1 refl refl refl (same_answer Fault a (answer.Refused w) both.0)
@@ -357,32 +377,33 @@ module _ (Telling : Type 0) (servers size : ℕ) (told later : Told) (old : Tabl
           → Steps Telling servers size told later old (record { kv = old.kv; next_tx = old.next_tx; clients = clients; saved = old.saved }) c x b
       by (answer.Replayed i) e f = absurd (fault_is why (answer.Replayed i) e)
       by (Aborted' i box b) e f = absurd (fault_is why (Aborted' i box b) e)
-      by b e f = record { fails = record { why = why; answer = e; stays = same_stays old (record { kv = old.kv; next_tx = old.next_tx; clients = clients; saved = old.saved }) c x y there sets same refl (λ n le. refl) (λ n. refl) refl refl }; may = f }
+      by b e f = record { fails = record { why = why; answer = e; stays = same_stays old (record { kv = old.kv; next_tx = old.next_tx; clients = clients; saved = old.saved }) c x y there sets same refl (λ n le. refl) (λ q. refl) (λ n. refl) refl refl }; may = f }
 
 -- ---- a commit
 module _ (Telling : Type 0) (servers size : ℕ) (told later : Told) (old new : TablesView) (kv : Store Key Value) (mid : Clients) (c : ℕ) (x y : TxnView) where
-  commit_by : (a : Answer) → Ends old new kv c x → IsEnded old.kv kv a
+  commit_by : (a : Answer) → Ends old new kv c x → IsEnded old.kv kv a → IsInstall size old.kv kv (commit_from old.kv x) a
       → (Telling × MapBytes (is_told told) (metadata_now old.kv) → (ops : List (Op (List ℕ))) → IsSound size old.kv told x ops → IsTrueEnd size (told, later) old.kv kv x ops a) → Finals Telling servers size told later old new c x a
-  commit_by (answer.Committed n) over h m = record { mid = kv; next = h.0; number = h.1; ends = over; final = m }
-  commit_by (Aborted' i box b) over h m = record { mid = kv; number = h; ends = over; deviates = m }
-  commit_by b over h m = absurd h
+  commit_by (answer.Committed n) over h i m = record { mid = kv; next = h.0; number = h.1; installs = i; ends = over; final = m }
+  commit_by (Aborted' k box b) over h i m = record { mid = kv; number = h; versions = i; ends = over; deviates = m }
+  commit_by b over h i m = absurd h
 
   pub commit_turn : (a : Answer) → of_client old.clients c ≡ Some x → Sets c (Some y) old.clients mid → Sets c None mid new.clients → new.next_tx ≡ old.next_tx → new.saved ≡ old.saved → IsOver x y → KeepsMaps old.kv kv → KeepsPins old.kv kv
-      → new.kv ≡ record kv { pins = remove_key (nat_eq y.at.base) kv.pins } → IsPinnedOnceMore y.at.base new.kv kv → IsEnded old.kv kv a
+      → new.kv ≡ record kv { pins = remove_key (nat_eq y.at.base) kv.pins } → IsPinnedOnceMore y.at.base new.kv kv → IsEnded old.kv kv a → IsInstall size old.kv kv (commit_from old.kv x) a
       → (Telling × MapBytes (is_told told) (metadata_now old.kv) → (ops : List (Op (List ℕ))) → IsSound size old.kv told x ops → IsTrueEnd size (told, later) old.kv kv x ops a)
       → ClientTurn Telling servers size told later old new c verb.Commit a
-  commit_turn a there sets taken next saved over maps pins is_kv unpinned h m =
-      at_some (of_client old.clients c) x _ _ there (commit_by a (ends old new kv mid c x y sets taken next saved over.base maps pins is_kv unpinned) h m)
+  commit_turn a there sets taken next saved over maps pins is_kv unpinned h i m =
+      at_some (of_client old.clients c) x _ _ there (commit_by a (ends old new kv mid c x y sets taken next saved over.base maps pins is_kv unpinned) h i m)
 
   -- a commit that failed
-  pub commit_failed : (why : Fault) (a : Answer) → of_client old.clients c ≡ Some x → Sets c (Some y) old.clients new.clients → y ≡ x → new.kv ≡ kv → new.next_tx ≡ old.next_tx → new.saved ≡ old.saved → kv.number ≡ old.kv.number → KeepsMaps old.kv kv → KeepsPins old.kv kv
+  pub commit_failed : (why : Fault) (a : Answer) → of_client old.clients c ≡ Some x → Sets c (Some y) old.clients new.clients → y ≡ x → new.kv ≡ kv → new.next_tx ≡ old.next_tx → new.saved ≡ old.saved → kv.number ≡ old.kv.number → KeepsMaps old.kv kv → KeepsVersions old.kv kv → KeepsPins old.kv kv
       → fault_answer why ≡ Some a
       → (Telling × MapBytes (is_told told) (metadata_now old.kv) → (ops : List (Op (List ℕ))) → IsSound size old.kv told x ops → (t : Tree) → Stands size told x.tx 0 (metadata_now old.kv) t → IsReadFault servers a)
       → Finals Telling servers size told later old new c x a
-  commit_failed why a there sets same is_kv next saved number maps pins is may = by a is may
+  commit_failed why a there sets same is_kv next saved number maps versions pins is may = by a is may
     where
       stays : Stays old new c
-      stays = same_stays old new c x y there sets same (ap (λ (s : Store Key Value). s.number) is_kv ∙ number) (λ n le. ap (λ (s : Store Key Value). metadata_at s n) is_kv ∙ maps n le) (λ n. ap (λ (s : Store Key Value). times_pinned s n) is_kv ∙ pins n) next saved
+      stays = same_stays old new c x y there sets same (ap (λ (s : Store Key Value). s.number) is_kv ∙ number) (λ n le. ap (λ (s : Store Key Value). metadata_at s n) is_kv ∙ maps n le)
+          (λ q. ap (λ (s : Store Key Value). versions_of key_cmp s q) is_kv ∙ versions q) (λ n. ap (λ (s : Store Key Value). times_pinned s n) is_kv ∙ pins n) next saved
 
       by : (b : Answer) → fault_answer why ≡ Some b
           → (Telling × MapBytes (is_told told) (metadata_now old.kv) → (ops : List (Op (List ℕ))) → IsSound size old.kv told x ops → (t : Tree) → Stands size told x.tx 0 (metadata_now old.kv) t → IsReadFault servers b)

@@ -5,10 +5,11 @@ use Rattle.std.proofs.Math.Seq.{take-append_seam, take-suc}
 use Rattle.std.proofs.lemmas.Bool.{eq-eqb}
 use Rattle.std.proofs.lemmas.List.Sums.{sum_by-append}
 use Rattle.std.proofs.lemmas.List.{length_push, take-append-drop}
-use Rattle.wtf_kv.specs.Stores.{Store, is_pinned, times_pinned, IsPinnedOnceMore}
+use Rattle.wtf_kv.specs.Stores.{Store, is_pinned, times_pinned, versions_of, IsPinnedOnceMore}
 use Rattle.wtf_kv.proofs.PinLaws.{any-count, count-push}
 use Rattle.wtf_values.specs.declared.key.Key.{Key}
 use Rattle.wtf_values.specs.declared.value.Value.{Value}
+use Rattle.wtf_values.specs.Keys.{key_cmp}
 use Rattle.wtf_meta.specs.Maps.{metadata_at}
 use Rattle.wtf_clients.specs.Views.{SavedView, TablesView}
 use Rattle.wtf_clients.specs.Sounds.{all_kept}
@@ -79,6 +80,7 @@ module _ (old new : TablesView) (clients : new.clients ≡ old.clients) (next : 
     clients = clients;
     number = ap (λ (s : Store Key Value). s.number) pins;
     maps = λ n le. ap (λ (s : Store Key Value). metadata_at s n) pins;
+    versions = λ q. ap (λ (s : Store Key Value). versions_of key_cmp s q) pins;
     pins = moved;
     next_tx = next;
     saved = is;
@@ -119,6 +121,7 @@ saves_then old mid new between now first last = record {
   clients = last.clients ∙ first.clients;
   number = last.number ∙ first.number;
   maps = λ n le. last.maps n (let number = first.number in omega (arith, number, le)) ∙ first.maps n le;
+  versions = λ q. last.versions q ∙ first.versions q;
   pins = λ n.
       let one = first.pins n in
       let two = last.pins n in

@@ -1,5 +1,5 @@
 -- What answered lines made of the bytes that the tables name, and of the stores.
-use Rattle.std.proofs.Common.{◌≡◌, ◌⊎◌, ℕ, ◌≤◌, Bool, true, List, [], length, Option, None, Some, refl, sym, ap, subst, inl, inr, arith}
+use Rattle.std.proofs.Common.{◌≡◌, ◌⊎◌, ℕ, ◌≤◌, Bool, true, List, [], length, Option, None, Some, refl, sym, ap, subst, inl, inr, arith, slice_get}
 use Rattle.std.specs.Prelude.{IfSome, IsSome}
 use Rattle.std.specs.Option.{option_map}
 use Rattle.wtf_base.specs.declared.fault.Fault.{Fault}
@@ -18,7 +18,7 @@ use Rattle.wtf_model.specs.declared.event.Event.TheVariants as event
 use Rattle.wtf_model.specs.declared.event.Verb.TheVariants as verb
 use Rattle.wtf_ring.specs.Points.{PlaceView, IsRing}
 use Rattle.wtf_meta.specs.Calls.{InHand}
-use Rattle.wtf_meta.specs.Maps.{seen}
+use Rattle.wtf_meta.specs.Maps.{metadata_at, seen}
 use Rattle.wtf_meta.proofs.MapBytes.{with_bytes}
 use Rattle.wtf_meta.proofs.Nothing.{nothing_kept}
 use Rattle.wtf_region.specs.declared.dev.Dev.{Dev}
@@ -28,17 +28,19 @@ use Rattle.wtf_region.specs.Showing.{OnlyRead}
 use Rattle.wtf_replay.specs.Views.{TxnView, hand_of, rebased, in_hand}
 use Rattle.wtf_replay.specs.Called.{IsCalled}
 use Rattle.wtf_replay.specs.Causes.{StoresNothing, IsOwnOf, IsCallFault, FaultAt, ReplayFault, IsCommitFault, fault_answer}
+use Rattle.wtf_replay.proofs.Froms.{from_one}
 use Rattle.wtf_replay.specs.Insides.{HandBytes, LogBytes, TxnBytes, IsInsideTxn, NamesTxn, NamesNow}
 use Rattle.wtf_replay.specs.Refusals.{call_refusal, step_refusal, unmade}
 use Rattle.wtf_replay.specs.Replays.{IsStepped, IsEnded}
 use Rattle.wtf_replay.proofs.Insiding.{map_later, inside_later}
-use Rattle.wtf_clients.specs.Views.{Clients, TablesView, of_client, metadata_now}
+use Rattle.wtf_clients.specs.Views.{Clients, TablesView, of_client}
 use Rattle.wtf_clients.specs.Sounds.{AreSound, Sets}
 use Rattle.wtf_clients.specs.Named.{TablesBytes, has_copies}
 use Rattle.wtf_clients.specs.Asked.{Asked, asked_of, IsLent, IsPlaced, HasFailed}
 use Rattle.wtf_clients.specs.Outcomes.{AddsBytes, HasCause, data_of_op}
 use Rattle.wtf_clients.specs.Serves.{NamesTables, IsPlain, AreFull, Serves}
 use Rattle.wtf_clients.specs.Turns.{Ends, Stays}
+use Rattle.wtf_clients.proofs.Lives.{now_bytes}
 use Rattle.wtf_clients.proofs.Making.{answered, same_answer}
 use Rattle.wtf_clients.proofs.Naming.{keeps_bytes, stays_bytes, leaves_bytes, ends_bytes}
 use Rattle.wtf_clients.proofs.Unread.{unread_since}
@@ -82,14 +84,14 @@ module _ {S : Type 0} {kind : StoreKind S} (laws : KindLaws kind) (old new : Dev
   -- what lies inside the stores goes on doing so
   later : TablesBytes (is_inside kind (stores new) old.settings) before
   later = record {
-    now = map_later laws goes.each old.settings enough (metadata_now before.kv) inside.now;
+    live = λ n is. map_later laws goes.each old.settings enough (metadata_at before.kv n) (inside.live n is);
     each = λ c x is. inside_later laws goes.each old.settings enough before.kv x (inside.each c x is);
   }
 
   -- a line that only read
   pub read_failed : (after : TablesView) (place : PlaceView → Type 0) (fails : Fault → Type 0) (a : Answer) → NamesTables before after → OnlyRead kind (between old new)
       → HasCause kind (between old new) old.settings ⊥ (AreFull old.settings before) [] a → HasFailed fails a
-      → Serves kind (between old new) old.settings ⊥ before after (record { given = []; goes_to = place; fails = fails }) a
+      → Serves kind (between old new) old.settings ⊥ (before, after) (record { given = []; goes_to = place; fails = fails }) a
   read_failed after place fails a names reads caused failed = record {
     inside = names (is_inside kind (stores new) old.settings) refl later;
     full = names (has_copies old.settings.replicas) refl;
@@ -101,7 +103,7 @@ module _ {S : Type 0} {kind : StoreKind S} (laws : KindLaws kind) (old new : Dev
 
   -- and did not fail
   pub read_serves : (after : TablesView) (place : PlaceView → Type 0) (fails : Fault → Type 0) (a : Answer) → NamesTables before after → OnlyRead kind (between old new) → IsPlain a
-      → Serves kind (between old new) old.settings ⊥ before after (record { given = []; goes_to = place; fails = fails }) a
+      → Serves kind (between old new) old.settings ⊥ (before, after) (record { given = []; goes_to = place; fails = fails }) a
   read_serves after place fails a names reads plain =
       read_failed after place fails a names reads (plain_caused kind (between old new) old.settings ⊥ (AreFull old.settings before) [] a plain) (plain_failed fails a plain)
 
@@ -119,7 +121,7 @@ module _ {S : Type 0} {kind : StoreKind S} (laws : KindLaws kind) (old new : Dev
   cause_since mid full a on h = h
 
   pub step_caused : (c : ℕ) (x : TxnView) (why : Fault) (a : Answer) → of_client before.clients c ≡ Some x → fault_answer why ≡ Some a
-      → (why ≡ fault.Memory) ⊎ FaultAt kind old new before.kv (hand_of x) x.log x.replayed why → HasCause kind (between old new) old.settings ⊥ (AreFull old.settings before) [] a
+      → (why ≡ fault.Memory) ⊎ FaultAt kind old new before.kv (hand_of x) (slice_get x.log.ops x.replayed) why → HasCause kind (between old new) old.settings ⊥ (AreFull old.settings before) [] a
   step_caused c x why a there is (inl memory) = absurd (memory_none why a is memory)
   step_caused c x why a there is (inr f) =
       again_caused laws (stores old) old.settings enough old new (seen before.kv x.at) x.session (AreFull old.settings before) (sees c x there) (sees_full c x there) f.op why a is f.cause
@@ -136,9 +138,12 @@ module _ {S : Type 0} {kind : StoreKind S} (laws : KindLaws kind) (old new : Dev
   pub commit_caused : (c : ℕ) (x : TxnView) (why : Fault) (a : Answer) → of_client before.clients c ≡ Some x → fault_answer why ≡ Some a
       → IsCommitFault kind old new before.kv x why → HasCause kind (between old new) old.settings ⊥ (AreFull old.settings before) [] a
   commit_caused c x why a there is (inl memory) = absurd (memory_none why a is memory)
-  commit_caused c x why a there is (inr (inl (base, f))) = replay_caused x why a is (λ P hole h. let own = h.each c x there in (own.hand, own.log)) f
-  commit_caused c x why a there is (inr (inr f)) =
-      replay_caused (rebased x before.kv.number) why a is (λ P hole h. (record { base = h.now; changes = tt; slices = nothing_kept P }, (h.each c x there).log)) f
+  commit_caused c x why a there is (inr f) = elim (from_one before.kv x) [
+    | inl same ↦ replay_caused x why a is (λ P hole h. let own = h.each c x there in (own.hand, own.log)) (subst (λ y. ReplayFault kind old new before.kv y why) same f)
+    | inr again ↦
+        replay_caused (rebased x before.kv.number) why a is (λ P hole h. (record { base = now_bytes P before h; changes = tt; slices = nothing_kept P }, (h.each c x there).log))
+        (subst (λ y. ReplayFault kind old new before.kv y why) again f)
+  ]
 
   -- a client's transaction goes on
   pub goes_names : (clients : Clients) (c : ℕ) (x y : TxnView) → of_client before.clients c ≡ Some x → Sets c (Some y) before.clients clients → NamesTxn before.kv x y None
@@ -156,7 +161,7 @@ module _ {S : Type 0} {kind : StoreKind S} (laws : KindLaws kind) (old new : Dev
   leaves_names after c x ends P hole h = leaves_bytes P before after before.kv c x sound ends refl h
 
   pub ends_names : (after : TablesView) (kv : Store Key Value) (c : ℕ) (x : TxnView) → of_client before.clients c ≡ Some x → Ends before after kv c x → NamesNow before.kv kv x → NamesTables before after
-  ends_names after kv c x there ends named P hole h = ends_bytes P before after kv c x sound ends (named P hole (h.each c x there) h.now) h
+  ends_names after kv c x there ends named P hole h = ends_bytes P before after kv c x sound ends (named P hole (h.each c x there) (now_bytes P before h)) h
 
   pub stays_names : (after : TablesView) (c : ℕ) → Stays before after c → NamesTables before after
   stays_names after c st P hole h = stays_bytes P before after c sound st h
@@ -167,7 +172,7 @@ module _ {S : Type 0} {kind : StoreKind S} (laws : KindLaws kind) (old new : Dev
 
     set_serves : (asked : Asked) (a : Answer) → (AreFull old.settings before → TxnBytes (has_copies old.settings.replicas) before.kv y) → AddsBytes kind (between old new) old.settings asked.given a
         → HasCause kind (between old new) old.settings ⊥ (AreFull old.settings before) asked.given a → IsPlaced kind (between old new) old.settings asked a → HasFailed asked.fails a
-        → Serves kind (between old new) old.settings ⊥ before called asked a
+        → Serves kind (between old new) old.settings ⊥ (before, called) asked a
     set_serves asked a full adds caused placed failed = record {
       inside = keeps_bytes (is_inside kind (stores new) old.settings) before called c y sound (record { clients = sets; kv = refl; next_tx = refl; saved = refl }) own later;
       full = λ h. keeps_bytes (has_copies old.settings.replicas) before called c y sound (record { clients = sets; kv = refl; next_tx = refl; saved = refl }) (full h) h;
@@ -186,10 +191,10 @@ module _ {S : Type 0} {kind : StoreKind S} (laws : KindLaws kind) (old new : Dev
     -- a call
     pub call_serves : IsRing old.settings.servers old.ring.now.points → (o : Op (List ℕ)) (a : Answer) → IfSome (unmade x) (λ b. (answered Fault a b) × (y ≡ x) × (new ≡ old))
         → (unmade x ≡ None → (own : Option Slice) × IsCalled x y o own a × IsOwnOf kind old new (seen before.kv x.at) x.session o own × NamesTxn before.kv x y own × (IsSome own → a ≡ answer.Okay))
-        → (StoresNothing o → OnlyRead kind (between old new)) → Serves kind (between old new) old.settings ⊥ before called (asked o) a
+        → (StoresNothing o → OnlyRead kind (between old new)) → Serves kind (between old new) old.settings ⊥ (before, called) (asked o) a
     call_serves ring o a stopped made reads = by (call_refusal x) refl
       where
-        by : (r : Option Word) → call_refusal x ≡ r → Serves kind (between old new) old.settings ⊥ before (record { kv = before.kv; next_tx = before.next_tx; clients = clients; saved = before.saved }) (asked_of kind (between old new) old.settings before (event.Client c (verb.Call o))) a
+        by : (r : Option Word) → call_refusal x ≡ r → Serves kind (between old new) old.settings ⊥ (before, record { kv = before.kv; next_tx = before.next_tx; clients = clients; saved = before.saved }) (asked_of kind (between old new) old.settings before (event.Client c (verb.Call o))) a
         by None is =
             let free : unmade x ≡ None = ap (option_map answer.Refused) is in
             let did = made free in
@@ -204,7 +209,7 @@ module _ {S : Type 0} {kind : StoreKind S} (laws : KindLaws kind) (old new : Dev
             let held : unmade x ≡ Some (answer.Refused w) = ap (option_map answer.Refused) is in
             let all : (answered Fault a (answer.Refused w)) × (y ≡ x) × (new ≡ old) = subst (λ m. IfSome m (λ b. (answered Fault a b) × (y ≡ x) × (new ≡ old))) held stopped in
             let word : answer.Refused w ≡ a = sym (same_answer Fault a (answer.Refused w) all.0) in
-            subst (λ (r : Answer). Serves kind (between old new) old.settings ⊥ before (record { kv = before.kv; next_tx = before.next_tx; clients = clients; saved = before.saved }) (asked_of kind (between old new) old.settings before (event.Client c (verb.Call o))) r) word
+            subst (λ (r : Answer). Serves kind (between old new) old.settings ⊥ (before, record { kv = before.kv; next_tx = before.next_tx; clients = clients; saved = before.saved }) (asked_of kind (between old new) old.settings before (event.Client c (verb.Call o))) r) word
             (set_serves (asked_of kind (between old new) old.settings before (event.Client c (verb.Call o))) (answer.Refused w) (same_full all.1)
             (refused_adds kind (between old new) old.settings (data_of_op o) (answer.Refused w) tt (same_lengths kind old new all.2))
             (plain_caused kind (between old new) old.settings ⊥ (AreFull old.settings before) (data_of_op o) (answer.Refused w) tt)
@@ -213,7 +218,7 @@ module _ {S : Type 0} {kind : StoreKind S} (laws : KindLaws kind) (old new : Dev
 
     -- a call that failed
     pub fault_serves : IsRing old.settings.servers old.ring.now.points → (o : Op (List ℕ)) (why : Fault) (a : Answer) → fault_answer why ≡ Some a → y ≡ x → IsCallFault kind old new (seen before.kv x.at) x.session o why
-        → (StoresNothing o → OnlyRead kind (between old new)) → Serves kind (between old new) old.settings ⊥ before called (asked o) a
+        → (StoresNothing o → OnlyRead kind (between old new)) → Serves kind (between old new) old.settings ⊥ (before, called) (asked o) a
     fault_serves ring o why a is same h reads =
         set_serves (asked o) a (same_full same)
         (fault_adds kind old new (seen before.kv x.at) x.session o why a is h reads)

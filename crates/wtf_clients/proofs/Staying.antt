@@ -4,9 +4,10 @@ use Rattle.std.specs.Prelude.{if◌then◌else◌}
 use Rattle.std.specs.FinMap.{get}
 use Rattle.wtf_base.specs.declared.fault.Fault.{Fault}
 use Rattle.wtf_base.specs.declared.fault.Fault.TheVariants as fault
-use Rattle.wtf_kv.specs.Stores.{Store, times_pinned}
+use Rattle.wtf_kv.specs.Stores.{Store, times_pinned, versions_of}
 use Rattle.wtf_values.specs.declared.key.Key.{Key}
 use Rattle.wtf_values.specs.declared.value.Value.{Value}
+use Rattle.wtf_values.specs.Keys.{key_cmp}
 use Rattle.wtf_model.specs.declared.answer.Answer.{Answer}
 use Rattle.wtf_model.specs.declared.answer.Answer.TheVariants as answer
 use Rattle.wtf_model.specs.Machines.{Machine}
@@ -16,7 +17,7 @@ use Rattle.wtf_meta.specs.Trees.{Stands}
 use Rattle.wtf_meta.proofs.Telling.{TellsOn}
 use Rattle.wtf_replay.specs.Views.{TxnView}
 use Rattle.wtf_replay.specs.Fits.{IsFit}
-use Rattle.wtf_replay.specs.Tried.{KeepsMaps, KeepsPins}
+use Rattle.wtf_replay.specs.Tried.{KeepsMaps, KeepsVersions, KeepsPins}
 use Rattle.wtf_replay.specs.Causes.{fault_answer}
 use Rattle.wtf_replay.proofs.Keeping.{fit_after}
 use Rattle.wtf_clients.specs.Views.{TablesView, of_client, metadata_now}
@@ -48,6 +49,7 @@ keeps_stays old new c h = record {
   clients = h.clients;
   number = ap (λ (s : Store Key Value). s.number) h.kv;
   maps = λ n le. ap (λ (s : Store Key Value). metadata_at s n) h.kv;
+  versions = λ q. ap (λ (s : Store Key Value). versions_of key_cmp s q) h.kv;
   pins = λ n. ap (λ (s : Store Key Value). times_pinned s n) h.kv;
   next_tx = h.next_tx;
   saved = h.saved;
@@ -55,11 +57,12 @@ keeps_stays old new c h = record {
 
 -- the transaction of the client is what it was
 pub same_stays : (old new : TablesView) (c : ℕ) (x y : TxnView) → of_client old.clients c ≡ Some x → Sets c (Some y) old.clients new.clients → y ≡ x
-    → new.kv.number ≡ old.kv.number → KeepsMaps old.kv new.kv → KeepsPins old.kv new.kv → new.next_tx ≡ old.next_tx → new.saved ≡ old.saved → Stays old new c
-same_stays old new c x y there sets same number maps pins next saved = record {
+    → new.kv.number ≡ old.kv.number → KeepsMaps old.kv new.kv → KeepsVersions old.kv new.kv → KeepsPins old.kv new.kv → new.next_tx ≡ old.next_tx → new.saved ≡ old.saved → Stays old new c
+same_stays old new c x y there sets same number maps versions pins next saved = record {
   clients = subst (λ o. Sets c o old.clients new.clients) (ap Some same ∙ sym there) sets;
   number = number;
   maps = maps;
+  versions = versions;
   pins = pins;
   next_tx = next;
   saved = saved;

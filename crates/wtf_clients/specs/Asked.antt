@@ -1,5 +1,5 @@
 -- What a line asks of the stores: the bytes that it hands in, where they go, and why it may fail.
-use Rattle.std.specs.Prelude.{◌≡◌, ◌<◌, ℕ, List, length, Some, ⊤}
+use Rattle.std.specs.Prelude.{◌≡◌, ◌<◌, ℕ, List, length, Some, ⊤, slice_get}
 use Rattle.wtf_base.specs.declared.fault.Fault.{Fault}
 use Rattle.wtf_base.specs.declared.settings.Settings.{Settings}
 use Rattle.wtf_base.specs.declared.slice.Slice.{Slice}
@@ -55,7 +55,7 @@ IsLinePlace dev tables e place = ⊥
 -- byte of the file.
 abbrev pub IsLineFault : {S : Type 0} → StoreKind S → (old new : Dev S) → TablesView → Event → Fault → Type 0
 IsLineFault kind old new tables (event.Client c (verb.Call o)) why = OfClient tables c (λ x. IsCallFault kind old new (seen tables.kv x.at) x.session o why)
-IsLineFault kind old new tables (event.Client c verb.Step) why = OfClient tables c (λ x. FaultAt kind old new tables.kv (hand_of x) x.log x.replayed why)
+IsLineFault kind old new tables (event.Client c verb.Step) why = OfClient tables c (λ x. FaultAt kind old new tables.kv (hand_of x) (slice_get x.log.ops x.replayed) why)
 IsLineFault kind old new tables (event.Client c verb.Commit) why = OfClient tables c (λ x. IsCommitFault kind old new tables.kv x why)
 IsLineFault kind old new tables (event.Dump p) why = LacksDump kind old new (metadata_now tables.kv) p why
 IsLineFault kind old new tables e why = ⊥

@@ -1,14 +1,17 @@
--- The bytes that the tables name: those of the map now and of each open transaction.
-use Rattle.std.specs.Prelude.{◌≡◌, ◌==◌, ℕ, Bool, true, List, [], ◌∷◌, length, Some}
+-- The bytes that the tables name: those of the map at each number that can be read, and of each open transaction.
+use Rattle.std.specs.Prelude.{◌≡◌, ◌==◌, ℕ, Bool, true, IsTrue, List, [], ◌∷◌, length, Some}
+use Rattle.wtf_kv.specs.Stores.{is_live}
 use Rattle.wtf_overlay.specs.Origin.{Place}
 use Rattle.wtf_meta.specs.Bytes.{MapBytes}
+use Rattle.wtf_meta.specs.Maps.{metadata_at}
 use Rattle.wtf_replay.specs.Views.{TxnView}
 use Rattle.wtf_replay.specs.Insides.{TxnBytes}
-use Rattle.wtf_clients.specs.Views.{TablesView, of_client, metadata_now}
+use Rattle.wtf_clients.specs.Views.{TablesView, of_client}
 
--- P holds of the places of each byte of the map now, and of each byte that an open transaction names
+-- P holds of the places of each byte of the map now and of the map at each number that is pinned, for a transaction or for an
+-- image, and of each byte that an open transaction names
 pub record TablesBytes (P : List Place → Bool) (tables : TablesView) : Type 0 where
-  pub now : MapBytes P (metadata_now tables.kv)
+  pub live : (n : ℕ) → IsTrue (is_live tables.kv n) → MapBytes P (metadata_at tables.kv n)
   pub each : (c : ℕ) (x : TxnView) → of_client tables.clients c ≡ Some x → TxnBytes P tables.kv x
 
 -- a hole, or so many copies

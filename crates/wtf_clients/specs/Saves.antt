@@ -5,7 +5,7 @@ use Rattle.wtf_replica.specs.declared.replicas.Replicas.{Replicas}
 use Rattle.wtf_replica.specs.Downs.{is_down}
 use Rattle.wtf_model.specs.declared.answer.Answer.{Answer}
 use Rattle.wtf_model.specs.declared.answer.Answer.TheVariants as answer
-use Rattle.wtf_replay.specs.Tried.{KeepsMaps}
+use Rattle.wtf_replay.specs.Tried.{KeepsMaps, KeepsVersions}
 use Rattle.wtf_clients.specs.Views.{SavedView, TablesView}
 use Rattle.wtf_clients.specs.Sounds.{all_kept}
 
@@ -22,6 +22,7 @@ pub record Saves (old new : TablesView) (now : SavedView) : Type 0 where
   pub clients : new.clients ≡ old.clients
   pub number : new.kv.number ≡ old.kv.number
   pub maps : KeepsMaps old.kv new.kv
+  pub versions : KeepsVersions old.kv new.kv
   pub pins : (n : ℕ) → times_pinned new.kv n + all_kept n old.saved ≡ times_pinned old.kv n + all_kept n now
   pub next_tx : new.next_tx ≡ old.next_tx
   pub saved : new.saved ≡ now

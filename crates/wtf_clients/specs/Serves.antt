@@ -30,20 +30,20 @@ IsPlain a = ⊤
 abbrev pub AreFull : Settings → TablesView → Type 0
 AreFull settings tables = TablesBytes (has_copies settings.replicas) tables
 
--- What the tables name lies inside the stores as they are left, and has as many copies as there are replicas where it had
+-- What the tables, before and after a line, name lies inside the stores as they are left, and has as many copies as there are replicas where it had
 -- before. The stores grew by what the line was to store, and a fault has its cause in the line.
-pub record Serves {S : Type 0} (kind : StoreKind S) (t : Span S) (settings : Settings) (saving : Type 0) (old new : TablesView) (asked : Asked) (a : Answer) : Type 0 where
-  pub inside : TablesBytes (is_inside kind t.after settings) new
-  pub full : AreFull settings old → AreFull settings new
+pub record Serves {S : Type 0} (kind : StoreKind S) (t : Span S) (settings : Settings) (saving : Type 0) (tables : TablesView × TablesView) (asked : Asked) (a : Answer) : Type 0 where
+  pub inside : TablesBytes (is_inside kind t.after settings) tables.1
+  pub full : AreFull settings tables.0 → AreFull settings tables.1
   pub adds : AddsBytes kind t settings asked.given a
-  pub caused : HasCause kind t settings saving (AreFull settings old) asked.given a
+  pub caused : HasCause kind t settings saving (AreFull settings tables.0) asked.given a
   pub placed : IsPlaced kind t settings asked a
   pub failed : HasFailed asked.fails a
 
 -- the same of a line that is lent no keeper
 abbrev pub ServesLine : {S : Type 0} → StoreKind S → Span S → Settings → (old new : TablesView) → Event → Answer → Type 0
-ServesLine kind t settings old new e a = Serves kind t settings ⊥ old new (asked_of kind t settings old e) a
+ServesLine kind t settings old new e a = Serves kind t settings ⊥ (old, new) (asked_of kind t settings old e) a
 
 -- and of each line, where `rose` says that the keeper's count of faults rose
-abbrev pub ServesEvent : {S : Type 0} → StoreKind S → Span S → Settings → (rose : Type 0) → (old new : TablesView) → Event → Answer → Type 0
-ServesEvent kind t settings rose old new e a = Serves kind t settings (SaveFault kind t settings rose e) old new (asked_of kind t settings old e) a
+abbrev pub ServesEvent : {S : Type 0} → StoreKind S → Span S → Settings → (rose : Type 0) → TablesView × TablesView → Event → Answer → Type 0
+ServesEvent kind t settings rose tables e a = Serves kind t settings (SaveFault kind t settings rose e) tables (asked_of kind t settings tables.0 e) a

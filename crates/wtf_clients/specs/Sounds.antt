@@ -1,13 +1,15 @@
 -- What holds of the store and of the open transactions over every device.
 use Rattle.std.specs.Prelude.{◌≡◌, ◌≢◌, ◌<◌, ◌≤◌, ℕ, ◌+◌, false, IsTrue, if◌then◌else◌, nat_eq, count_by, Option, Some, None}
 use Rattle.std.specs.List.{sum_by, Contains}
-use Rattle.wtf_kv.specs.Stores.{Store, times_pinned, is_live}
+use Rattle.wtf_kv.specs.Stores.{Store, times_pinned, is_pinned, is_live, version_of}
 use Rattle.wtf_values.specs.declared.key.Key.{Key}
 use Rattle.wtf_values.specs.declared.value.Value.{Value}
+use Rattle.wtf_values.specs.Keys.{key_cmp}
 use Rattle.wtf_meta.specs.Maps.{metadata_at}
 use Rattle.wtf_replay.specs.Views.{TxnView}
 use Rattle.wtf_replay.specs.Fits.{IsFit}
-use Rattle.wtf_clients.specs.Views.{Clients, of_client, SavedView, TablesView, metadata_now}
+use Rattle.wtf_replay.specs.Tried.{KeepsVersions, KeepsPins}
+use Rattle.wtf_clients.specs.Views.{Clients, of_client, set_client, without_hands, SavedView, TablesView, metadata_now}
 
 -- how many pins of a number a transaction owns: one, of its base
 abbrev pub owned : ℕ → Option TxnView → ℕ
@@ -30,32 +32,41 @@ abbrev pub all_kept : ℕ → SavedView → ℕ
 all_kept n saved = count_by (nat_eq n) saved.images
 
 -- Each transaction goes on, on a base that is pinned. A number is pinned as often as a transaction or an image owns it. No
--- image is of an install to come. No two transactions have one number, and none has the number 0.
+-- number that is pinned, and no image, is of an install to come. No two transactions have one number, and none has the number 0.
 pub record AreSound (tables : TablesView) : Type 0 where
   pub begun : 0 < tables.next_tx
   pub each : (c : ℕ) (x : TxnView) → of_client tables.clients c ≡ Some x → IsOpen tables.kv tables.next_tx x
   pub pins : (n : ℕ) → times_pinned tables.kv n ≡ all_owned n tables.clients + all_kept n tables.saved
+  pub upto : (n : ℕ) → IsTrue (is_pinned tables.kv n) → n ≤ tables.kv.number
   pub kept : (n : ℕ) → Contains tables.saved.images n → n ≤ tables.kv.number
   pub apart : (c d : ℕ) (x y : TxnView) → of_client tables.clients c ≡ Some x → of_client tables.clients d ≡ Some y → x.tx ≡ y.tx → c ≡ d
 
--- of all clients one alone has now this transaction, or none
+-- of all clients one alone has now this transaction, or none, and all stand in the order in which they began
 pub record Sets (c : ℕ) (now : Option TxnView) (old new : Clients) : Type 0 where
   pub is : of_client new c ≡ now
   pub others : (d : ℕ) → d ≢ c → of_client new d ≡ of_client old d
   pub pins : (n : ℕ) → all_owned n new + owned n (of_client old c) ≡ all_owned n old + owned n now
+  pub order : new ≡ set_client c now old
 
--- the number, the map now, the next transaction's number and what may be on the keeper are what they were
+-- What want of memory leaves: the transactions in their order, but for what they have in hand, where handles may have moved;
+-- the number, the map now, the versions of each key, how often each number is pinned, the next transaction's number and what
+-- may be on the keeper.
 pub record IsAlike (old new : TablesView) : Type 0 where
+  pub clients : without_hands new.clients ≡ without_hands old.clients
   pub number : new.kv.number ≡ old.kv.number
   pub map : metadata_now new.kv ≡ metadata_now old.kv
+  pub versions : KeepsVersions old.kv new.kv
+  pub pins : KeepsPins old.kv new.kv
   pub next_tx : new.next_tx ≡ old.next_tx
   pub saved : new.saved ≡ old.saved
 
--- Versions that no one sees may be gone: the number and the pins are what they were, and so is each map that can be read.
+-- Versions that no one sees may be gone: the number and the pins are what they were, and so is each map that can be read, with
+-- the versions that it reports.
 pub record IsTidied (old new : TablesView) : Type 0 where
   pub number : new.kv.number ≡ old.kv.number
   pub pins : new.kv.pins ≡ old.kv.pins
   pub maps : (n : ℕ) → IsTrue (is_live old.kv n) → metadata_at new.kv n ≡ metadata_at old.kv n
+  pub versions : (n : ℕ) → IsTrue (is_live old.kv n) → version_of key_cmp new.kv n ≡ version_of key_cmp old.kv n
   pub next_tx : new.next_tx ≡ old.next_tx
   pub clients : new.clients ≡ old.clients
   pub saved : new.saved ≡ old.saved

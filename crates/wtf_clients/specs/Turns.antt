@@ -25,13 +25,16 @@ use Rattle.wtf_meta.specs.Maps.{Map, metadata_at, seen}
 use Rattle.wtf_meta.specs.Trees.{Stands}
 use Rattle.wtf_meta.specs.Sessions.{Holds}
 use Rattle.wtf_meta.specs.Calls.{Caller, cap_for}
-use Rattle.wtf_replay.specs.Views.{TxnView, begun}
+use Rattle.wtf_replay.specs.Views.{TxnView, begun, hand_of}
 use Rattle.wtf_replay.specs.Refusals.{call_refusal, try_refusal, step_refusal}
 use Rattle.wtf_replay.specs.Fits.{IsFit}
 use Rattle.wtf_replay.specs.Sounds.{IsSound, caller_at}
 use Rattle.wtf_replay.specs.Causes.{fault_answer}
 use Rattle.wtf_replay.specs.Called.{IsCalled}
-use Rattle.wtf_replay.specs.Tried.{IsCommitted, IsRetried, IsFinal, KeepsMaps, KeepsPins}
+use Rattle.wtf_replay.specs.Tried.{IsCommitted, IsRetried, IsFinal, KeepsMaps, KeepsVersions, KeepsPins, commit_from}
+use Rattle.wtf_replay.specs.Built.{data_len}
+use Rattle.wtf_replay.specs.Effects.{Acts, Redoes, sight_at}
+use Rattle.wtf_replay.specs.Installs.{Installs}
 use Rattle.wtf_replay.specs.Replays.{IsReplayed, DeviatesOn}
 use Rattle.wtf_clients.specs.Views.{TablesView, of_client, metadata_now}
 use Rattle.wtf_clients.specs.Sounds.{Sets}
@@ -101,12 +104,13 @@ TryTurn old new c x a = MatchOption (try_refusal x) (Tries old new c x a) (λ w.
 abbrev pub Drops : TablesView → TablesView → ℕ → TxnView → Answer → Type 0
 Drops old new c x a = (a ≡ answer.Okay) × Ends old new old.kv c x
 
--- A line left all that is seen of the tables: of their store, the number, the maps and how often each number is pinned; and
--- what may be on the keeper.
+-- A line left all that is seen of the tables: of their store, the number, the maps, the versions of each key and how often each
+-- number is pinned; and what may be on the keeper.
 pub record Stays (old new : TablesView) (c : ℕ) : Type 0 where
   pub clients : Sets c (of_client old.clients c) old.clients new.clients
   pub number : new.kv.number ≡ old.kv.number
   pub maps : KeepsMaps old.kv new.kv
+  pub versions : KeepsVersions old.kv new.kv
   pub pins : KeepsPins old.kv new.kv
   pub next_tx : new.next_tx ≡ old.next_tx
   pub saved : new.saved ≡ old.saved
@@ -132,12 +136,13 @@ module _ (Telling : Type 0) (servers size : ℕ) (told later : Told) where
   abbrev pub Tells : Map → Type 0
   Tells w = Telling × MapBytes (is_told told) w
 
-  -- a call is logged with its answer
+  -- a call is logged with its answer; it recorded its own keys and made its own changes
   pub record Calls (old new : TablesView) (c : ℕ) (x : TxnView) (o : Op (List ℕ)) (a : Answer) : Type 0 where
     pub later_one : TxnView
     pub own : Option Slice
     pub keeps : Keeps old new c (Some later_one)
     pub called : IsCalled x later_one o own a
+    pub acts : Acts (sight_at size old.kv x.tx x.replayed (hand_of x)) (data_len o) own o a x.at later_one.at
     pub fit : IsFit old.kv later_one
     pub sound : Tells (metadata_at old.kv x.at.base) → (ops : List (Op (List ℕ))) → IsSound size old.kv told x ops
         → IsSound size old.kv later later_one (ops ++ o ∷ [])
@@ -153,6 +158,7 @@ module _ (Telling : Type 0) (servers size : ℕ) (told later : Told) where
     pub later_one : TxnView
     pub keeps : Keeps old new c (Some later_one)
     pub replayed : IsReplayed x later_one i
+    pub acts : Redoes size old.kv x x.replayed (hand_of x) (hand_of later_one)
     pub fit : IsFit old.kv later_one
     pub sound : Tells (metadata_at old.kv x.at.base) → (ops : List (Op (List ℕ))) → IsSound size old.kv told x ops
         → IsSound size old.kv later later_one ops
@@ -170,11 +176,12 @@ module _ (Telling : Type 0) (servers size : ℕ) (told later : Told) where
     pub may : (ops : List (Op (List ℕ))) → IsSound size old.kv told x ops → (t : Tree) → Stands size told x.tx 0 (metadata_at old.kv x.at.base) t
         → IsDone (slice_get (answers_of (cap_for (caller_at size x.tx 0)) t ops) x.replayed) × IsReadFault servers a
 
-  -- the calls have run on the map now, by the attempt or by a whole replay
+  -- the calls have run on the map now, by the attempt or by a whole replay, and nothing but what they did was installed
   pub record Finishes (old new : TablesView) (c : ℕ) (x : TxnView) (n : ℕ) : Type 0 where
     pub mid : Store Key Value
     pub next : n ≡ old.kv.number + 1
     pub number : mid.number ≡ n
+    pub installs : Installs size old.kv mid (commit_from old.kv x) n
     pub ends : Ends old new mid c x
     pub final : Tells (metadata_now old.kv) → (ops : List (Op (List ℕ))) → IsSound size old.kv told x ops
         → IsFinal size later old.kv mid x ops n
@@ -183,6 +190,7 @@ module _ (Telling : Type 0) (servers size : ℕ) (told later : Told) where
   pub record GivesUp (old new : TablesView) (c : ℕ) (x : TxnView) (i : ℕ) (a : Answer) : Type 0 where
     pub mid : Store Key Value
     pub number : mid.number ≡ old.kv.number
+    pub versions : KeepsVersions old.kv mid
     pub ends : Ends old new mid c x
     pub deviates : Tells (metadata_now old.kv) → (ops : List (Op (List ℕ))) → IsSound size old.kv told x ops
         → DeviatesOn (metadata_now old.kv) size told x ops i a

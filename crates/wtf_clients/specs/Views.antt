@@ -1,10 +1,11 @@
 -- What contracts see of the tables: the store of the metadata with the open transactions.
-use Rattle.std.specs.Prelude.{ℕ, Bool, true, List, [], Option, nat_eq}
-use Rattle.std.specs.Map.{lookup}
+use Rattle.std.specs.Prelude.{ℕ, Bool, true, List, [], ◌∷◌, ◌++◌, map, Option, None, Some, is_some, if◌then◌else◌, nat_eq}
+use Rattle.std.specs.Map.{lookup, set_value, remove_entry}
 use Rattle.wtf_kv.specs.Stores.{Store}
 use Rattle.wtf_values.specs.declared.key.Key.{Key}
 use Rattle.wtf_values.specs.declared.value.Value.{Value}
 use Rattle.wtf_meta.specs.Maps.{Map, metadata_at}
+use Rattle.wtf_meta.specs.Sessions.{nothing_open}
 use Rattle.wtf_replay.specs.Views.{TxnView}
 
 -- the open transactions by client, in the order of their begin
@@ -14,6 +15,20 @@ Clients = List (ℕ × TxnView)
 -- the transaction of a client
 abbrev pub of_client : Clients → ℕ → Option TxnView
 of_client clients c = lookup (nat_eq c) clients
+
+-- Where client c has now this transaction: in the place of the one that it had, or else after all others, since it begins; or
+-- has none any more. The others are what they were, in their order.
+abbrev pub set_client : ℕ → Option TxnView → Clients → Clients
+set_client c None clients = remove_entry (nat_eq c) clients
+set_client c (Some x) clients =
+    if is_some (of_client clients c) then set_value (nat_eq c) clients x else clients ++ (c, x) ∷ []
+
+-- the transactions but for what they have in hand
+abbrev pub without_hand : TxnView → TxnView
+without_hand x = record x { session = nothing_open }
+
+abbrev pub without_hands : Clients → Clients
+without_hands clients = map (λ e. (e.0, without_hand e.1)) clients
 
 -- the numbers of the images that may be on the keeper, and whether it may still hold nothing
 pub record SavedView : Type 0 where

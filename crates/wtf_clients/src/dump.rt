@@ -10,7 +10,7 @@ ghost use Rattle.wtf_meta.specs.Trees.{IsBody};
 ghost use Rattle.wtf_region.specs.Devs.{IsSoundDev, GoesOn, stores, between};
 ghost use Rattle.wtf_region.specs.Inside.{IsStoredInside};
 ghost use Rattle.wtf_region.specs.Showing.{OnlyRead};
-ghost use Rattle.wtf_replay.specs.Tried.{KeepsMaps, KeepsPins};
+ghost use Rattle.wtf_replay.specs.Tried.{KeepsMaps, KeepsVersions, KeepsPins};
 ghost use Rattle.wtf_clients.specs.Dumped.{file_answer, IsDumpAnswer, IsDumped, LacksFile, LacksDump};
 
 use std::alloc::Global;
@@ -43,6 +43,7 @@ pub(crate) fn dump_now<S: SliceStore>(
         (metadata_at kv.old kv.old.number) p.now why) }
     ensures number { kv.new.number ≡ kv.old.number }
     ensures maps { KeepsMaps kv.old kv.new }
+    ensures versions { KeepsVersions kv.old kv.new }
     ensures pins { KeepsPins kv.old kv.new }
     ensures answered { IfOk result IsDumpAnswer }
     ensures reads { OnlyRead S.kind (between dev.old dev.new) }

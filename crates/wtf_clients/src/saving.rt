@@ -39,7 +39,7 @@ impl Tables {
         ensures serves { IfOk result (ServesEvent S.kind
             (during replicas.now shelf.old shelf.new) settings
             (Rose (K.view keeper.old).faults (K.view keeper.new).faults)
-            self.old self.new event.Save) }
+            (self.old, self.new) event.Save) }
         ensures keeper { IfOk result (KeeperTurn S.kind
             (during replicas.now shelf.old shelf.new)
             (keeper_span K.view K.follows keeper.old keeper.new) settings

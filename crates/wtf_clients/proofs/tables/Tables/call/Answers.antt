@@ -1,22 +1,24 @@
-use Rattle.std.proofs.Common.{◌≡◌, ◌∙◌, Some, IfOk, refl, sym, ap, subst}
+use Rattle.std.proofs.Common.{◌≡◌, ◌∙◌, None, Some, IfOk, refl, sym, ap, subst}
 use Rattle.std.specs.Option.{option_copied_mut}
 use Rattle.wtf_dev.specs.Sums.{TellsAll}
 use Rattle.wtf_replica.specs.Bytes.{byte_at}
+use Rattle.wtf_model.specs.declared.answer.Answer.TheVariants as answer
+use Rattle.wtf_model.specs.declared.answer.Word.TheVariants.{NoTx}
 use Rattle.wtf_model.specs.declared.event.Event.TheVariants as event
 use Rattle.wtf_model.specs.declared.event.Verb.TheVariants as verb
 use Rattle.wtf_region.specs.Devs.{stores, between}
 use Rattle.wtf_region.specs.Inside.{is_inside}
 use Rattle.wtf_replay.specs.Causes.{fault_answer}
 use Rattle.wtf_replay.specs.Views.{TxnView}
-use Rattle.wtf_clients.specs.Views.{TablesView, of_client}
+use Rattle.wtf_clients.specs.Views.{TablesView, of_client, without_hand}
 use Rattle.wtf_clients.specs.Sounds.{AreSound, Sets, IsAlike}
 use Rattle.wtf_clients.specs.Named.{TablesBytes}
 use Rattle.wtf_clients.specs.Serves.{ServesLine}
 use Rattle.wtf_clients.specs.Turns.{ClientTurn}
 use Rattle.wtf_clients.proofs.Caused.{memory_none}
 use Rattle.wtf_clients.proofs.Staying.{goes_sound}
-use Rattle.wtf_clients.proofs.Lists.{written}
-use Rattle.wtf_clients.proofs.Making.{if_ok, on_err, not_refused, stand_fail, call_turn, call_failed}
+use Rattle.wtf_clients.proofs.Lists.{written, lent_alike}
+use Rattle.wtf_clients.proofs.Making.{if_ok, on_err, at_none, refused_same, not_refused, stand_fail, call_turn, call_failed}
 use Rattle.wtf_clients.proofs.Serving.{call_serves, fault_serves}
 use Rattle.wtf_clients.proofs.tables.Tables.call.Goals as goal
 
@@ -51,10 +53,10 @@ returns-in-Err-clause-err_sound g c =
     let there : of_client old.clients c.args.c ≡ Some x = sym c.get_mut.ensures.value ∙ ap option_copied_mut c.in-Some.is in
     let lent = c.get_mut.follows.lender y in
     let sets : Sets c.args.c (Some y) old.clients lent.entries = written c.args.c at.clients lent x y there (c.get_mut.follows.holds y) in
-    let hand = c.in-Err.ensures.err_hand in
+    let hand = c.in-Err.ensures.call.err_hand in
     on_err c.answer_to.result _
     (goes_sound old (record { kv = at.kv; next_tx = at.next_tx; clients = lent.entries; saved = at.saved }) c.args.c x y sound there (record { clients = sets; kv = refl; next_tx = refl; saved = refl })
-    (ap (λ (v : TxnView). v.tx) hand) (ap (λ (v : TxnView). v.at.base) hand) (ap (λ (v : TxnView). v.ended) hand) c.in-Err.ensures.fit)
+    (ap (λ (v : TxnView). v.tx) hand) (ap (λ (v : TxnView). v.at.base) hand) (ap (λ (v : TxnView). v.ended) hand) c.in-Err.ensures.call.fit)
 
 pub returns-in-Err-clause-err : goal.returns-in-Err-clause-err
 returns-in-Err-clause-err g c =
@@ -68,7 +70,15 @@ returns-in-Err-clause-err g c =
     let there : of_client old.clients c.args.c ≡ Some x = sym c.get_mut.ensures.value ∙ ap option_copied_mut c.in-Some.is in
     let lent = c.get_mut.follows.lender y in
     let sets : Sets c.args.c (Some y) old.clients lent.entries = written c.args.c at.clients lent x y there (c.get_mut.follows.holds y) in
-    on_err c.answer_to.result _ (subst (λ (t : TablesView). IsAlike t (record { kv = at.kv; next_tx = at.next_tx; clients = lent.entries; saved = at.saved })) c.self.view_is (record { number = refl; map = refl; next_tx = refl; saved = refl }))
+    on_err c.answer_to.result _ (subst (λ (t : TablesView). IsAlike t (record { kv = at.kv; next_tx = at.next_tx; clients = lent.entries; saved = at.saved })) c.self.view_is (record {
+      clients = lent_alike c.args.c at.clients lent x y there (c.get_mut.follows.holds y) (ap without_hand c.in-Err.ensures.call.err_hand);
+      number = refl;
+      map = refl;
+      versions = λ q. refl;
+      pins = λ n. refl;
+      next_tx = refl;
+      saved = refl;
+    }))
 
 pub returns-in-Err-clause-turn : goal.returns-in-Err-clause-turn
 returns-in-Err-clause-turn g c =
@@ -86,8 +96,8 @@ returns-in-Err-clause-turn g c =
     subst (λ (t : TablesView). IfOk c.answer_to.result (λ a. ClientTurn (TellsAll kind (stores dev)) dev.settings.servers dev.settings.region (byte_at kind (stores dev)) (byte_at kind (stores c.call.new.dev)) t (record { kv = at.kv; next_tx = at.next_tx; clients = lent.entries; saved = at.saved }) c.args.c (verb.Call c.args.op) a)) c.self.view_is
     (if_ok c.answer_to.result (λ a. fault_answer why ≡ Some a) _ c.answer_to.ensures.answer
     (λ a is. call_failed (TellsAll kind (stores dev)) dev.settings.servers dev.settings.region (byte_at kind (stores dev)) (byte_at kind (stores c.call.new.dev)) old lent.entries c.args.c x y c.args.op a why there sets
-    (c.in-Err.ensures.err (memory_none why a is)) (not_refused (c.call.new.dev ≡ dev) x why y c.in-Err.ensures.unmade) is
-    (λ z u s size st holds. stand_fail dev.settings.servers c.args.op _ why a is (c.in-Err.ensures.due z u s size st holds))))
+    (c.in-Err.ensures.call.err (memory_none why a is)) (not_refused (c.call.new.dev ≡ dev) x why y c.in-Err.ensures.call.instead) is
+    (λ z u s size st holds. stand_fail dev.settings.servers c.args.op _ why a is (c.in-Err.ensures.call.due z u s size st holds))))
 
 pub returns-in-Err-clause-serves : goal.returns-in-Err-clause-serves
 returns-in-Err-clause-serves g c =
@@ -105,8 +115,8 @@ returns-in-Err-clause-serves g c =
     let why = c.in-Err.why in
     subst (λ (t : TablesView). IfOk c.answer_to.result (ServesLine kind (between dev c.call.new.dev) dev.settings t (record { kv = at.kv; next_tx = at.next_tx; clients = lent.entries; saved = at.saved }) (event.Client c.args.c (verb.Call c.args.op)))) c.self.view_is
     (if_ok c.answer_to.result (λ a. fault_answer why ≡ Some a) _ c.answer_to.ensures.answer
-    (λ a is. fault_serves g.met.S.SliceStore.laws dev c.call.new.dev c.in-Err.ensures.dev c.requires.dev.shelf old sound inside lent.entries c.args.c x y there sets c.in-Err.ensures.inside c.requires.ring c.args.op why a is
-    (c.in-Err.ensures.err (memory_none why a is)) c.in-Err.ensures.fault c.in-Err.ensures.reads))
+    (λ a is. fault_serves g.met.S.SliceStore.laws dev c.call.new.dev c.in-Err.ensures.call.dev c.requires.dev.shelf old sound inside lent.entries c.args.c x y there sets c.in-Err.ensures.call.inside c.requires.ring c.args.op why a is
+    (c.in-Err.ensures.call.err (memory_none why a is)) c.in-Err.ensures.call.fault c.in-Err.ensures.call.reads))
 
 pub returns-clause-serves : goal.returns-clause-serves
 returns-clause-serves g c =
@@ -121,9 +131,9 @@ returns-clause-serves g c =
     let lent = c.get_mut.follows.lender y in
     let sets : Sets c.args.c (Some y) old.clients lent.entries = written c.args.c at.clients lent x y there (c.get_mut.follows.holds y) in
     let inside : TablesBytes (is_inside kind (stores dev) dev.settings) old = subst (TablesBytes (is_inside kind (stores dev) dev.settings)) (sym c.self.view_is) c.requires.inside in
-    let did = c.in-Ok.ensures in
+    let did = c.in-Ok.ensures.call in
     subst (λ (t : TablesView). ServesLine kind (between dev c.call.new.dev) dev.settings t (record { kv = at.kv; next_tx = at.next_tx; clients = lent.entries; saved = at.saved }) (event.Client c.args.c (verb.Call c.args.op)) c.in-Ok.answer) c.self.view_is
-    (call_serves g.met.S.SliceStore.laws dev c.call.new.dev did.dev c.requires.dev.shelf old sound inside lent.entries c.args.c x y there sets did.inside c.requires.ring c.args.op c.in-Ok.answer did.unmade did.made did.reads)
+    (call_serves g.met.S.SliceStore.laws dev c.call.new.dev did.dev c.requires.dev.shelf old sound inside lent.entries c.args.c x y there sets did.inside c.requires.ring c.args.op c.in-Ok.answer did.instead (λ free. let made = did.made free in (made.own, made.called, made.stored, made.named, made.done)) did.reads)
 
 pub returns-clause-turn : goal.returns-clause-turn
 returns-clause-turn g c =
@@ -137,7 +147,18 @@ returns-clause-turn g c =
     let there : of_client old.clients c.args.c ≡ Some x = sym c.get_mut.ensures.value ∙ ap option_copied_mut c.in-Some.is in
     let lent = c.get_mut.follows.lender y in
     let sets : Sets c.args.c (Some y) old.clients lent.entries = written c.args.c at.clients lent x y there (c.get_mut.follows.holds y) in
-    let did = c.in-Ok.ensures in
+    let did = c.in-Ok.ensures.call in
     subst (λ (t : TablesView). ClientTurn (TellsAll kind (stores dev)) dev.settings.servers dev.settings.region (byte_at kind (stores dev)) (byte_at kind (stores c.call.new.dev)) t (record { kv = at.kv; next_tx = at.next_tx; clients = lent.entries; saved = at.saved }) c.args.c (verb.Call c.args.op) c.in-Ok.answer) c.self.view_is
     (call_turn (TellsAll kind (stores dev)) dev.settings.servers dev.settings.region (byte_at kind (stores dev)) (byte_at kind (stores c.call.new.dev)) old lent.entries c.args.c x y c.args.op c.in-Ok.answer (c.call.new.dev ≡ dev) there sets
-    did.unmade (λ free. let made = did.made free in (made.0, made.1)) (λ free tells ops run. did.meaning free ops (record { all = tells.0; map = tells.1 }) run) did.fit)
+    did.instead (λ free. let made = did.made free in (made.own, made.called, made.acts)) (λ free tells ops run. did.meaning free ops (record { all = tells.0; map = tells.1 }, run)) did.fit)
+
+pub returns-in_default-clause-turn : goal.returns-in_default-clause-turn
+returns-in_default-clause-turn g c =
+    let kind = g.S.SliceStore.kind in
+    let dev = c.args.dev.now in
+    let at = c.self.inside in
+    let old : TablesView = record { kv = at.kv; next_tx = at.next_tx; clients = at.clients.entries; saved = at.saved } in
+    let lent = c.get_mut.follows.lender-at-none in
+    let none : of_client old.clients c.args.c ≡ None = sym c.get_mut.ensures.value ∙ ap option_copied_mut c.in_default.is in
+    subst (λ (t : TablesView). ClientTurn (TellsAll kind (stores dev)) dev.settings.servers dev.settings.region (byte_at kind (stores dev)) (byte_at kind (stores dev)) t (record { kv = at.kv; next_tx = at.next_tx; clients = lent.entries; saved = at.saved }) c.args.c (verb.Call c.args.op) (answer.Refused NoTx)) c.self.view_is
+    (at_none (of_client old.clients c.args.c) _ _ none (refused_same old lent.entries c.args.c NoTx (ap (λ m. m.entries) c.get_mut.follows.holds-at-none)))

@@ -1,4 +1,4 @@
-use Rattle.std.proofs.Common.{◌≡◌, ◌∙◌, Some, IfOk, IfSome, nat_eq, refl, sym, ap, subst, arith}
+use Rattle.std.proofs.Common.{◌≡◌, ◌∙◌, None, Some, IfOk, IfSome, nat_eq, refl, sym, ap, subst, arith}
 use Rattle.std.specs.Option.{option_copied_mut}
 use Rattle.std.specs.Set.{remove_key}
 use Rattle.wtf_dev.specs.Sums.{TellsAll}
@@ -6,18 +6,21 @@ use Rattle.wtf_replica.specs.Bytes.{byte_at}
 use Rattle.wtf_kv.specs.Stores.{IsPinnedOnceMore}
 use Rattle.wtf_model.specs.declared.event.Verb.TheVariants as verb
 use Rattle.wtf_meta.specs.Maps.{metadata_at}
+use Rattle.wtf_model.specs.declared.answer.Answer.TheVariants as answer
+use Rattle.wtf_model.specs.declared.answer.Word.TheVariants.{NoTx}
 use Rattle.wtf_model.specs.declared.event.Event.TheVariants as event
 use Rattle.wtf_region.specs.Devs.{stores, between}
 use Rattle.wtf_region.specs.Inside.{is_inside}
 use Rattle.wtf_replay.specs.Causes.{fault_answer}
-use Rattle.wtf_clients.specs.Views.{TablesView, of_client}
+use Rattle.wtf_clients.specs.Views.{TablesView, of_client, without_hand}
 use Rattle.wtf_clients.specs.Sounds.{AreSound, Sets, IsAlike}
 use Rattle.wtf_clients.specs.Named.{TablesBytes}
 use Rattle.wtf_clients.specs.Serves.{ServesLine}
 use Rattle.wtf_clients.specs.Turns.{ClientTurn}
 use Rattle.wtf_clients.proofs.Caused.{has_failed}
-use Rattle.wtf_clients.proofs.Lists.{written}
-use Rattle.wtf_clients.proofs.Making.{if_ok, on_err, at_some, kept_sound, commit_turn, commit_failed, commit_left, ends}
+use Rattle.wtf_clients.proofs.Lists.{written, lent_alike}
+use Rattle.wtf_clients.proofs.Lives.{now_bytes}
+use Rattle.wtf_clients.proofs.Making.{if_ok, on_err, at_none, refused_same, at_some, kept_sound, commit_turn, commit_failed, commit_left, ends}
 use Rattle.wtf_clients.proofs.Serving.{ended_plain, read_serves, ends_names, stays_names, commit_caused, read_failed, lent_to}
 use Rattle.wtf_clients.proofs.Staying.{same_stays}
 use Rattle.wtf_clients.proofs.tables.Tables.commit.Goals as goal
@@ -45,7 +48,7 @@ pub commit-requires-clause-inside_now : goal.commit-requires-clause-inside_now
 commit-requires-clause-inside_now g c =
     let dev = c.args.dev.now in
     let inside : TablesBytes (is_inside g.S.SliceStore.kind (stores dev) dev.settings) (record { kv = c.self.inside.kv; next_tx = c.self.inside.next_tx; clients = c.self.inside.clients.entries; saved = c.self.inside.saved }) = subst (TablesBytes (is_inside g.S.SliceStore.kind (stores dev) dev.settings)) (sym c.self.view_is) c.requires.inside in
-    inside.now
+    now_bytes (is_inside g.S.SliceStore.kind (stores dev) dev.settings) _ inside
 
 pub returns-in-Err-clause-err_sound : goal.returns-in-Err-clause-err_sound
 returns-in-Err-clause-err_sound g c =
@@ -59,7 +62,7 @@ returns-in-Err-clause-err_sound g c =
     let there : of_client old.clients c.args.c ≡ Some x = sym c.get_mut.ensures.value ∙ ap option_copied_mut c.in-Some.is in
     let lent = c.get_mut.follows.lender y in
     let sets : Sets c.args.c (Some y) old.clients lent.entries = written c.args.c at.clients lent x y there (c.get_mut.follows.holds y) in
-    on_err c.answer_to.result _ (kept_sound old c.commit.new.kv lent.entries c.args.c x y sound there sets c.in-Err.ensures.err c.in-Err.ensures.maps c.in-Err.ensures.pins c.in-Err.ensures.err_number)
+    on_err c.answer_to.result _ (kept_sound old c.commit.new.kv lent.entries c.args.c x y sound there sets c.in-Err.ensures.commit.err c.in-Err.ensures.commit.maps c.in-Err.ensures.commit.pins c.in-Err.ensures.commit.err_store.0)
 
 pub returns-in-Err-clause-err : goal.returns-in-Err-clause-err
 returns-in-Err-clause-err g c =
@@ -73,10 +76,13 @@ returns-in-Err-clause-err g c =
     let there : of_client old.clients c.args.c ≡ Some x = sym c.get_mut.ensures.value ∙ ap option_copied_mut c.in-Some.is in
     let lent = c.get_mut.follows.lender y in
     let sets : Sets c.args.c (Some y) old.clients lent.entries = written c.args.c at.clients lent x y there (c.get_mut.follows.holds y) in
-    let number = c.in-Err.ensures.err_number in
+    let number = c.in-Err.ensures.commit.err_store.0 in
     on_err c.answer_to.result _ (subst (λ (t : TablesView). IsAlike t (record { kv = c.commit.new.kv; next_tx = at.next_tx; clients = lent.entries; saved = at.saved })) c.self.view_is (record {
+      clients = lent_alike c.args.c at.clients lent x y there (c.get_mut.follows.holds y) (ap without_hand c.in-Err.ensures.commit.err);
       number = number;
-      map = ap (metadata_at c.commit.new.kv) number ∙ c.in-Err.ensures.maps at.kv.number (omega arith);
+      map = ap (metadata_at c.commit.new.kv) number ∙ c.in-Err.ensures.commit.maps at.kv.number (omega arith);
+      versions = c.in-Err.ensures.commit.err_store.1;
+      pins = c.in-Err.ensures.commit.pins;
       next_tx = refl;
       saved = refl;
     }))
@@ -97,8 +103,8 @@ returns-in-Err-clause-turn g c =
     subst (λ (t : TablesView). IfOk c.answer_to.result (λ a. ClientTurn (TellsAll kind (stores dev)) dev.settings.servers dev.settings.region (byte_at kind (stores dev)) (byte_at kind (stores c.commit.new.dev)) t (record { kv = c.commit.new.kv; next_tx = at.next_tx; clients = lent.entries; saved = at.saved }) c.args.c verb.Commit a)) c.self.view_is
     (if_ok c.answer_to.result (λ a. fault_answer why ≡ Some a) _ c.answer_to.ensures.answer
     (λ a is. at_some (of_client old.clients c.args.c) x _ _ there
-    (commit_failed (TellsAll kind (stores dev)) dev.settings.servers dev.settings.region (byte_at kind (stores dev)) (byte_at kind (stores c.commit.new.dev)) old (record { kv = c.commit.new.kv; next_tx = at.next_tx; clients = lent.entries; saved = at.saved }) c.commit.new.kv lent.entries c.args.c x y why a there sets c.in-Err.ensures.err refl refl refl c.in-Err.ensures.err_number c.in-Err.ensures.maps c.in-Err.ensures.pins is
-    (λ tells ops run t st. commit_left dev.settings.servers why a is (c.in-Err.ensures.due ops (record { all = tells.0; map = tells.1 }) run t st)))))
+    (commit_failed (TellsAll kind (stores dev)) dev.settings.servers dev.settings.region (byte_at kind (stores dev)) (byte_at kind (stores c.commit.new.dev)) old (record { kv = c.commit.new.kv; next_tx = at.next_tx; clients = lent.entries; saved = at.saved }) c.commit.new.kv lent.entries c.args.c x y why a there sets c.in-Err.ensures.commit.err refl refl refl c.in-Err.ensures.commit.err_store.0 c.in-Err.ensures.commit.maps c.in-Err.ensures.commit.err_store.1 c.in-Err.ensures.commit.pins is
+    (λ tells ops run t st. commit_left dev.settings.servers why a is (c.in-Err.ensures.commit.due ops (record { all = tells.0; map = tells.1 }, run) t st)))))
 
 pub returns-in-Err-clause-serves : goal.returns-in-Err-clause-serves
 returns-in-Err-clause-serves g c =
@@ -118,11 +124,11 @@ returns-in-Err-clause-serves g c =
     let new = c.commit.new.dev in
     subst (λ (t : TablesView). IfOk c.answer_to.result (ServesLine kind (between dev new) dev.settings t (record { kv = c.commit.new.kv; next_tx = at.next_tx; clients = lent.entries; saved = at.saved }) (event.Client c.args.c verb.Commit))) c.self.view_is
     (if_ok c.answer_to.result (λ a. fault_answer why ≡ Some a) _ c.answer_to.ensures.answer
-    (λ a is. read_failed laws dev new c.in-Err.ensures.dev c.requires.dev.shelf old sound inside (record { kv = c.commit.new.kv; next_tx = at.next_tx; clients = lent.entries; saved = at.saved }) _ _ a
-    (stays_names laws dev new c.in-Err.ensures.dev c.requires.dev.shelf old sound inside (record { kv = c.commit.new.kv; next_tx = at.next_tx; clients = lent.entries; saved = at.saved }) c.args.c
-    (same_stays old (record { kv = c.commit.new.kv; next_tx = at.next_tx; clients = lent.entries; saved = at.saved }) c.args.c x y there sets c.in-Err.ensures.err c.in-Err.ensures.err_number c.in-Err.ensures.maps c.in-Err.ensures.pins refl refl)) c.in-Err.ensures.reads
-    (commit_caused laws dev new c.in-Err.ensures.dev c.requires.dev.shelf old sound inside c.args.c x why a there is c.in-Err.ensures.fault)
-    (has_failed _ why a is (dev, new, lent_to dev new c.requires.ring, (x, there, c.in-Err.ensures.fault)))))
+    (λ a is. read_failed laws dev new c.in-Err.ensures.commit.dev c.requires.dev.shelf old sound inside (record { kv = c.commit.new.kv; next_tx = at.next_tx; clients = lent.entries; saved = at.saved }) _ _ a
+    (stays_names laws dev new c.in-Err.ensures.commit.dev c.requires.dev.shelf old sound inside (record { kv = c.commit.new.kv; next_tx = at.next_tx; clients = lent.entries; saved = at.saved }) c.args.c
+    (same_stays old (record { kv = c.commit.new.kv; next_tx = at.next_tx; clients = lent.entries; saved = at.saved }) c.args.c x y there sets c.in-Err.ensures.commit.err c.in-Err.ensures.commit.err_store.0 c.in-Err.ensures.commit.maps c.in-Err.ensures.commit.err_store.1 c.in-Err.ensures.commit.pins refl refl)) c.in-Err.ensures.commit.reads
+    (commit_caused laws dev new c.in-Err.ensures.commit.dev c.requires.dev.shelf old sound inside c.args.c x why a there is c.in-Err.ensures.commit.fault)
+    (has_failed _ why a is (dev, new, lent_to dev new c.requires.ring, (x, there, c.in-Err.ensures.commit.fault)))))
 
 pub returns-clause-turn : goal.returns-clause-turn
 returns-clause-turn g c =
@@ -136,14 +142,14 @@ returns-clause-turn g c =
     let there : of_client old.clients c.args.c ≡ Some x = sym c.get_mut.ensures.value ∙ ap option_copied_mut c.in-Some.is in
     let lent = c.get_mut.follows.lender y in
     let sets : Sets c.args.c (Some y) old.clients lent.entries = written c.args.c at.clients lent x y there (c.get_mut.follows.holds y) in
-    let did = c.in-Ok.ensures in
+    let did = c.in-Ok.ensures.commit in
     let gone = c.end.ensures in
     let mine = sets.is in
     subst (λ (t : TablesView). ClientTurn (TellsAll kind (stores dev)) dev.settings.servers dev.settings.region (byte_at kind (stores dev)) (byte_at kind (stores c.commit.new.dev)) t c.end.new.self c.args.c verb.Commit c.in-Ok.answer) c.self.view_is
     (commit_turn (TellsAll kind (stores dev)) dev.settings.servers dev.settings.region (byte_at kind (stores dev)) (byte_at kind (stores c.commit.new.dev)) old c.end.new.self c.commit.new.kv lent.entries c.args.c x y c.in-Ok.answer there sets gone.clients gone.next gone.saved did.over did.maps did.pins
     (subst (λ o. IfSome o (λ z. c.end.new.self.kv ≡ record c.commit.new.kv { pins = remove_key (nat_eq z.at.base) c.commit.new.kv.pins })) mine gone.kv)
     (subst (λ o. IfSome o (λ z. IsPinnedOnceMore z.at.base c.end.new.self.kv c.commit.new.kv)) mine gone.unpinned)
-    did.ended (λ tells ops run. did.meaning ops (record { all = tells.0; map = tells.1 }) run))
+    did.ended did.installs (λ tells ops run. did.meaning ops (record { all = tells.0; map = tells.1 }, run)))
 
 pub returns-clause-serves : goal.returns-clause-serves
 returns-clause-serves g c =
@@ -158,7 +164,7 @@ returns-clause-serves g c =
     let lent = c.get_mut.follows.lender y in
     let sets : Sets c.args.c (Some y) old.clients lent.entries = written c.args.c at.clients lent x y there (c.get_mut.follows.holds y) in
     let inside : TablesBytes (is_inside kind (stores dev) dev.settings) old = subst (TablesBytes (is_inside kind (stores dev) dev.settings)) (sym c.self.view_is) c.requires.inside in
-    let did = c.in-Ok.ensures in
+    let did = c.in-Ok.ensures.commit in
     let laws = g.met.S.SliceStore.laws in
     let new = c.commit.new.dev in
     let gone = c.end.ensures in
@@ -170,3 +176,14 @@ returns-clause-serves g c =
     (subst (λ o. IfSome o (λ z. c.end.new.self.kv ≡ record c.commit.new.kv { pins = remove_key (nat_eq z.at.base) c.commit.new.kv.pins })) mine gone.kv)
     (subst (λ o. IfSome o (λ z. IsPinnedOnceMore z.at.base c.end.new.self.kv c.commit.new.kv)) mine gone.unpinned)) did.named) did.reads
     (ended_plain at.kv c.commit.new.kv c.in-Ok.answer did.ended))
+
+pub returns-in_default-clause-turn : goal.returns-in_default-clause-turn
+returns-in_default-clause-turn g c =
+    let kind = g.S.SliceStore.kind in
+    let dev = c.args.dev.now in
+    let at = c.self.inside in
+    let old : TablesView = record { kv = at.kv; next_tx = at.next_tx; clients = at.clients.entries; saved = at.saved } in
+    let lent = c.get_mut.follows.lender-at-none in
+    let none : of_client old.clients c.args.c ≡ None = sym c.get_mut.ensures.value ∙ ap option_copied_mut c.in_default.is in
+    subst (λ (t : TablesView). ClientTurn (TellsAll kind (stores dev)) dev.settings.servers dev.settings.region (byte_at kind (stores dev)) (byte_at kind (stores dev)) t (record { kv = at.kv; next_tx = at.next_tx; clients = lent.entries; saved = at.saved }) c.args.c verb.Commit (answer.Refused NoTx)) c.self.view_is
+    (at_none (of_client old.clients c.args.c) _ _ none (refused_same old lent.entries c.args.c NoTx (ap (λ m. m.entries) c.get_mut.follows.holds-at-none)))
