@@ -27,6 +27,7 @@ use Rattle.wtf_replay.specs.Refusals.{try_refusal, step_refusal}
 use Rattle.wtf_replay.specs.Sounds.{IsSound, caller_at}
 use Rattle.wtf_replay.specs.Tried.{IsFinal}
 use Rattle.wtf_replay.proofs.Sounding.{sound_later}
+use Rattle.wtf_replay.proofs.Trying.{final_ran}
 use Rattle.wtf_replay.proofs.Deviating.{at_base}
 use Rattle.wtf_clients.specs.Views.{TablesView, of_client, metadata_now}
 use Rattle.wtf_clients.specs.Sounds.{owned, IsOpen, AreSound}
@@ -120,8 +121,8 @@ module _ (old new : TablesView) (mid : Store Key Value) (c : ℕ) (x : TxnView) 
       → IsFinal size later old.kv mid x t.ops n → MayInstall m t n × TablesStand size later new (installed m c t n)
   installs_stand size told later m t n st on region there final =
       let txn = txn_in size told old m c x t st here there in
-      let ran = final.ran m.now (Stands-later told later on size x.tx 0 (metadata_now old.kv) m.now txn.now) in
-      let changed : Map = with final.changes (metadata_now old.kv) in
+      let ran = final_ran size later old.kv mid x t.ops n final m.now (Stands-later told later on size x.tx 0 (metadata_now old.kv) m.now txn.now) in
+      let changed : Map = with final.at.changes (metadata_now old.kv) in
       let map : metadata_now mid ≡ changed = ap (λ k. metadata_at mid k) final.number ∙ final.map in
       let cap : cap_of m ≡ _ = cap_is m size region in
       let now : Tree = (session_after (cap_of m) m.now t.ops).tree in

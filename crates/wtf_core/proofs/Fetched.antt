@@ -41,7 +41,7 @@ module _ {S : Type 0} (kind : StoreKind S) (shelf : List S) (settings : Settings
   abbrev sizes : ℕ → ℕ → ℕ
   sizes = rules.size_in kind shelf
 
-  same_size : (o : Option S) (file : ℕ) → unwrap_or (option_map (λ s. (kind.view s).size file) o) 0 ≡ size_in kind o file
+  pub same_size : (o : Option S) (file : ℕ) → unwrap_or (option_map (λ s. (kind.view s).size file) o) 0 ≡ size_in kind o file
   same_size None file = refl
   same_size (Some s) file = refl
 
@@ -63,7 +63,7 @@ module _ {S : Type 0} (kind : StoreKind S) (shelf : List S) (settings : Settings
       let both = and_parts (rules.lies_inside settings.servers sizes p) (list_all (rules.lies_inside settings.servers sizes) ps) h in
       and_from (is_place_inside kind shelf settings (place_in i p)) (is_inside kind shelf settings (map (place_in i) ps)) (pointer_in n i p len.0 lt both.0) (pointers_in n i ps len.1 lt both.1)
 
-  lengths : (n : ℕ) (e : Extents) → AllByRecursion (λ (p : Pointer). p.len ≡ n) (pointers_to n e)
+  pub lengths : (n : ℕ) (e : Extents) → AllByRecursion (λ (p : Pointer). p.len ≡ n) (pointers_to n e)
   lengths n (One a) = (refl, tt)
   lengths n (Two a b) = (refl, (refl, tt))
   lengths n (Three a b c) = (refl, (refl, (refl, tt)))

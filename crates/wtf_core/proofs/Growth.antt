@@ -1,4 +1,4 @@
--- A line raises the number of installs, and the number of the transaction that begins next, by at most one.
+-- A line raises the number of installs, and the number of the transaction that begins next, by at most one, or leaves them.
 use Rattle.std.proofs.Common.{◌≡◌, ◌≤◌, ℕ, ◌+◌, Option, None, Some, MatchOption, ap, ⊎_elim, arith}
 use Rattle.wtf_kv.specs.Stores.{Store}
 use Rattle.wtf_values.specs.declared.key.Key.{Key}
@@ -20,48 +20,58 @@ use Rattle.wtf_clients.specs.Turns.{Keeps, Stays, Refuses, Begins, Ends, Tries, 
 pub record Rises (old new : TablesView) : Type 0 where
   pub number : new.kv.number ≤ old.kv.number + 1
   pub next_tx : new.next_tx ≤ old.next_tx + 1
+  pub no_fewer : old.kv.number ≤ new.kv.number
+  pub no_earlier : old.next_tx ≤ new.next_tx
 
-rises : (old new : TablesView) (n m : ℕ) → new.kv.number ≡ n → new.next_tx ≡ m → n ≤ old.kv.number + 1 → m ≤ old.next_tx + 1 → Rises old new
-rises old new n m number next up more = record { number = omega (arith, number, up); next_tx = omega (arith, next, more) }
+rises : (old new : TablesView) (n m : ℕ) → new.kv.number ≡ n → new.next_tx ≡ m → (old.kv.number ≤ n) × (n ≤ old.kv.number + 1) → (old.next_tx ≤ m) × (m ≤ old.next_tx + 1) → Rises old new
+rises old new n m number next up more = record {
+  number = omega (arith, number, up.1);
+  next_tx = omega (arith, next, more.1);
+  no_fewer = omega (arith, number, up.0);
+  no_earlier = omega (arith, next, more.0);
+}
+
+still : (n : ℕ) → (n ≤ n) × (n ≤ n + 1)
+still n = (omega arith, omega arith)
 
 keeps_rise : (old new : TablesView) (c : ℕ) (now : Option TxnView) → Keeps old new c now → Rises old new
-keeps_rise old new c now h = rises old new old.kv.number old.next_tx (ap (λ (s : Store Key Value). s.number) h.kv) h.next_tx (omega arith) (omega arith)
+keeps_rise old new c now h = rises old new old.kv.number old.next_tx (ap (λ (s : Store Key Value). s.number) h.kv) h.next_tx (still old.kv.number) (still old.next_tx)
 
 refuses_rise : (old new : TablesView) (c : ℕ) (w : Word) (a : Answer) → Refuses old new c w a → Rises old new
 refuses_rise old new c w a h = keeps_rise old new c (of_client old.clients c) h.keeps
 
 pub stays_rise : (old new : TablesView) (c : ℕ) → Stays old new c → Rises old new
-stays_rise old new c h = rises old new old.kv.number old.next_tx h.number h.next_tx (omega arith) (omega arith)
+stays_rise old new c h = rises old new old.kv.number old.next_tx h.number h.next_tx (still old.kv.number) (still old.next_tx)
 
 pub saves_rise : (old new : TablesView) (now : SavedView) → Saves old new now → Rises old new
-saves_rise old new now h = rises old new old.kv.number old.next_tx h.number h.next_tx (omega arith) (omega arith)
+saves_rise old new now h = rises old new old.kv.number old.next_tx h.number h.next_tx (still old.kv.number) (still old.next_tx)
 
-ends_rise : (old new : TablesView) (mid : Store Key Value) (c : ℕ) (x : TxnView) → mid.number ≤ old.kv.number + 1 → Ends old new mid c x → Rises old new
-ends_rise old new mid c x up h = rises old new mid.number old.next_tx (ap (λ (s : Store Key Value). s.number) h.kv) h.next_tx up (omega arith)
+ends_rise : (old new : TablesView) (mid : Store Key Value) (c : ℕ) (x : TxnView) → (old.kv.number ≤ mid.number) × (mid.number ≤ old.kv.number + 1) → Ends old new mid c x → Rises old new
+ends_rise old new mid c x up h = rises old new mid.number old.next_tx (ap (λ (s : Store Key Value). s.number) h.kv) h.next_tx up (still old.next_tx)
 
 begins_rise : (old new : TablesView) (c : ℕ) (a : Answer) → Begins old new c a → Rises old new
-begins_rise old new c a h = rises old new old.kv.number (old.next_tx + 1) (ap (λ (s : Store Key Value). s.number) h.kv) h.next_tx (omega arith) (omega arith)
+begins_rise old new c a h = rises old new old.kv.number (old.next_tx + 1) (ap (λ (s : Store Key Value). s.number) h.kv) h.next_tx (still old.kv.number) (omega arith, omega arith)
 
 tries_rise : (old new : TablesView) (c : ℕ) (x : TxnView) (a : Answer) → Tries old new c x a → Rises old new
 tries_rise old new c x (answer.Committed n) h =
     let is = h.committed.installed.number in
     let next = h.committed.installed.next in
-    ends_rise old new h.mid c x (omega (arith, is, next)) h.ends
-tries_rise old new c x (answer.Retry b n) h = rises old new old.kv.number old.next_tx h.retried.number h.next_tx (omega arith) (omega arith)
+    ends_rise old new h.mid c x (omega (arith, is, next), omega (arith, is, next)) h.ends
+tries_rise old new c x (answer.Retry b n) h = rises old new old.kv.number old.next_tx h.retried.number h.next_tx (still old.kv.number) (still old.next_tx)
 tries_rise old new c x a h = absurd h
 
 module _ (Telling : Type 0) (servers size : ℕ) (told later : Told) (old new : TablesView) (c : ℕ) where
   steps_rise : (x : TxnView) (a : Answer) → Steps Telling servers size told later old new c x a → Rises old new
   steps_rise x (answer.Replayed i) h = keeps_rise old new c (Some h.later_one) h.keeps
-  steps_rise x (Aborted' i box a) h = ends_rise old new old.kv c x (omega arith) h.ends
+  steps_rise x (Aborted' i box a) h = ends_rise old new old.kv c x (still old.kv.number) h.ends
   steps_rise x a h = stays_rise old new c h.fails.stays
 
   finals_rise : (x : TxnView) (a : Answer) → Finals Telling servers size told later old new c x a → Rises old new
   finals_rise x (answer.Committed n) h =
       let is = h.number in
       let next = h.next in
-      ends_rise old new h.mid c x (omega (arith, is, next)) h.ends
-  finals_rise x (Aborted' i box a) h = let is = h.number in ends_rise old new h.mid c x (omega (arith, is)) h.ends
+      ends_rise old new h.mid c x (omega (arith, is, next), omega (arith, is, next)) h.ends
+  finals_rise x (Aborted' i box a) h = let is = h.number in ends_rise old new h.mid c x (omega (arith, is), omega (arith, is)) h.ends
   finals_rise x a h = stays_rise old new c h.fails.stays
 
   -- unless it is refused
@@ -78,7 +88,7 @@ module _ (Telling : Type 0) (servers size : ℕ) (told later : Told) (old new : 
   txn_rise x verb.Try a h = or_refused (Tries old new c x a) a (try_refusal x) (tries_rise old new c x a) h
   txn_rise x verb.Step a h = or_refused (Steps Telling servers size told later old new c x a) a (step_refusal x) (steps_rise x a) h
   txn_rise x verb.Commit a h = finals_rise x a h
-  txn_rise x verb.Abort a h = ends_rise old new old.kv c x (omega arith) h.1
+  txn_rise x verb.Abort a h = ends_rise old new old.kv c x (still old.kv.number) h.1
   txn_rise x (verb.Call o) a h = or_refused _ a (call_refusal x) (λ t. ⊎_elim (λ made. keeps_rise old new c (Some made.later_one) made.keeps) (λ failed. stays_rise old new c failed.fails.stays) t) h
 
   pub client_rises : (v : Verb) (a : Answer) → ClientTurn Telling servers size told later old new c v a → Rises old new

@@ -22,7 +22,7 @@ use Rattle.wtf_clients.specs.Saves.{with_image, only_image, Saves, SaveTurn}
 use Rattle.wtf_core.specs.Turns.{LineTurn}
 use Rattle.wtf_clients.specs.Keeping.{KeeperSpan, Hands, SyncFailed, KeeperFailed, KeeperTurn, IsImageAt, IsHeldBy, HoldsKept}
 use Rattle.wtf_clients.proofs.Images.{kept_pinned}
-use Rattle.wtf_core.proofs.Tidying.{pinned_live}
+use Rattle.wtf_clients.proofs.Lives.{pinned_live}
 use Rattle.wtf_core.proofs.Going.{Goes, line_goes}
 
 -- what every keeper keeps to

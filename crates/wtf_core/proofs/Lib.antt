@@ -14,6 +14,8 @@ pub mod Growth
 pub mod Whole
 pub mod Started
 pub mod Fetched
+pub mod Pointing
+pub mod Taking
 pub mod Restored
 pub mod Tidying
 pub mod Naming

@@ -27,7 +27,8 @@ use Rattle.wtf_clients.specs.Serves.{NamesTables}
 use Rattle.wtf_clients.specs.Turns.{Refuses, Begins, Commits, Retries, Tries, LoneTurn, TxnTurn, ClientTurn}
 use Rattle.wtf_clients.proofs.Naming.{txn_along, bytes_set, now_along, stays_bytes, ends_bytes, leaves_bytes}
 use Rattle.wtf_clients.proofs.Staying.{keeps_stays}
-use Rattle.wtf_core.proofs.Tidying.{base_same, now_same}
+use Rattle.wtf_clients.proofs.Lives.{now_bytes, begun_reaches, moved_reaches}
+use Rattle.wtf_core.proofs.Tidying.{base_same, live_same}
 
 module _ (P : List Place → Bool) (hole : P [] ≡ true) where
   begins_bytes : (old new : TablesView) (c : ℕ) (a : Answer) → AreSound old → Begins old new c a → TablesBytes P old → TablesBytes P new
@@ -35,29 +36,29 @@ module _ (P : List Place → Bool) (hole : P [] ≡ true) where
       let at : (n : ℕ) → metadata_at new.kv n ≡ metadata_at old.kv n = λ n. ap (λ (s : Store Key Value). metadata_at s n) begins.kv in
       let x : TxnView = begun old.next_tx old.kv.number in
       let own : TxnBytes P new.kv x = record {
-        hand = record { base = subst (MapBytes P) (sym (at old.kv.number)) h.now; changes = tt; slices = nothing_kept P };
+        hand = record { base = subst (MapBytes P) (sym (at old.kv.number)) (now_bytes P old h); changes = tt; slices = nothing_kept P };
         log = All-nil _;
       } in
-      bytes_set P old new c (Some x) sound begins.clients (λ n le. at n) h
-      (subst (MapBytes P) (sym (ap (λ (s : Store Key Value). metadata_now s) begins.kv)) h.now)
+      bytes_set P old new c (Some x) sound begins.clients (λ n le. at n) (begun_reaches old.kv new.kv begins.pinned) h
+      (subst (MapBytes P) (sym (ap (λ (s : Store Key Value). metadata_now s) begins.kv)) (now_bytes P old h))
       (λ y is. subst (TxnBytes P new.kv) (let e : x ≡ y = cc in e) own)
 
   commits_bytes : (old new : TablesView) (c : ℕ) (x : TxnView) (n : ℕ) → AreSound old → of_client old.clients c ≡ Some x → Commits old new c x n → TablesBytes P old → TablesBytes P new
   commits_bytes old new c x n sound here turn h =
       let is = turn.committed.installed in
       let map : metadata_now turn.mid ≡ _ = ap (metadata_at turn.mid) is.number ∙ is.map in
-      ends_bytes P old new turn.mid c x sound turn.ends (subst (MapBytes P) (sym map) (with_bytes P hole x.at.changes (metadata_now old.kv) h.now (h.each c x here).hand.changes)) h
+      ends_bytes P old new turn.mid c x sound turn.ends (subst (MapBytes P) (sym map) (with_bytes P hole x.at.changes (metadata_now old.kv) (now_bytes P old h) (h.each c x here).hand.changes)) h
 
   retries_bytes : (old new : TablesView) (c : ℕ) (x : TxnView) (b n : ℕ) → AreSound old → of_client old.clients c ≡ Some x → Retries old new c x b n → TablesBytes P old → TablesBytes P new
   retries_bytes old new c x b n sound here turn h =
       let is = turn.retried.is in
-      let now : MapBytes P (metadata_now new.kv) = now_along P old.kv new.kv turn.retried.number turn.maps h.now in
+      let now : MapBytes P (metadata_now new.kv) = now_along P old.kv new.kv turn.retried.number turn.maps (now_bytes P old h) in
       let base : metadata_at new.kv n ≡ metadata_now new.kv = ap (metadata_at new.kv) (turn.retried.number_is ∙ sym turn.retried.number) in
       let own : TxnBytes P new.kv (rebased x n) = record {
         hand = record { base = subst (MapBytes P) (sym base) now; changes = tt; slices = nothing_kept P };
         log = (h.each c x here).log;
       } in
-      bytes_set P old new c (Some turn.later) sound turn.clients turn.maps h now
+      bytes_set P old new c (Some turn.later) sound turn.clients turn.maps (moved_reaches old.kv new.kv b n turn.retried.number_is turn.retried.pins) h now
       (λ y same. subst (TxnBytes P new.kv) (sym is ∙ (let e : turn.later ≡ y = cc in e)) own)
 
   tries_bytes : (old new : TablesView) (c : ℕ) (x : TxnView) (a : Answer) → AreSound old → of_client old.clients c ≡ Some x → Tries old new c x a → TablesBytes P old → TablesBytes P new
@@ -100,7 +101,7 @@ local_names Telling servers size told later old new c v a local sound turn P hol
 -- dropping versions that no one sees leaves the bytes that are named
 pub tidied_bytes : (P : List Place → Bool) (old new : TablesView) → AreSound old → IsTidied old new → TablesBytes P old → TablesBytes P new
 tidied_bytes P old new sound tidy h = record {
-  now = subst (MapBytes P) (sym (now_same old new sound tidy)) h.now;
+  live = λ n live. let was = live_same old new tidy n live in subst (MapBytes P) (sym (tidy.maps n was)) (h.live n was);
   each = λ c x is.
       let was : of_client old.clients c ≡ Some x = ap (λ l. of_client l c) (sym tidy.clients) ∙ is in
       txn_along P old.kv new.kv x (base_same old new sound tidy c x was) (h.each c x was);

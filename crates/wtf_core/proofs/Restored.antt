@@ -1,13 +1,17 @@
 -- A core that was loaded of an image: what it stands for, and that the keeper holds its image.
-use Rattle.std.proofs.Common.{◌≡◌, ◌≤◌, ℕ, false, List, [], ◌∷◌, None, Some, refl, sym, ap, subst, ◌∙◌, true≢false, arith, inl, inr}
+use Rattle.std.proofs.Common.{◌≡◌, ◌≤◌, ℕ, false, cond, nat_eq, List, [], ◌∷◌, None, Some, refl, sym, ap, subst, ◌∙◌, true≢false, ⊎_elim, arith, inl, inr}
 use Rattle.std.specs.FinMap.{get-empty}
 use Rattle.std.specs.List.{Contains}
 use Rattle.std.specs.Ordering.{nat_cmp}
 use Rattle.std.proofs.lemmas.List.{append-nil}
 use Rattle.std.proofs.lemmas.List.Elements.{Contains-push, Contains-push_cases}
 use Rattle.wtf_replica.specs.Downs.{is_down}
+use Rattle.std.proofs.lemmas.Bool.{cases_Bool, eqb-true}
+use Rattle.std.specs.Prelude.{IsTrue}
 use Rattle.wtf_dev.specs.Store.{StoreKind}
-use Rattle.wtf_kv.specs.Stores.{Store}
+use Rattle.wtf_region.specs.Inside.{is_inside}
+use Rattle.wtf_kv.specs.Stores.{Store, is_pinned}
+use Rattle.wtf_kv.proofs.PinLaws.{count-any, count-push}
 use Rattle.wtf_values.specs.declared.key.Key.{Key}
 use Rattle.wtf_values.specs.declared.value.Value.{Value}
 use Rattle.wtf_model.specs.Machines.{start}
@@ -39,6 +43,8 @@ use Rattle.wtf_core.specs.Standing.{StandsFor}
 use Rattle.wtf_core.specs.Named.{IsInside}
 use Rattle.wtf_core.specs.Loading.{IsCoreOf}
 use Rattle.wtf_clients.specs.Saves.{only_image}
+use Rattle.wtf_clients.specs.Sounds.{all_owned, all_kept, AreSound}
+use Rattle.wtf_clients.proofs.Naming.{bytes_alone}
 use Rattle.wtf_clients.specs.Keeping.{IsHeldBy}
 use Rattle.wtf_core.specs.Pictured.{IsImageOfTree}
 
@@ -126,9 +132,21 @@ module _ (size : ℕ → ℕ → ℕ) (bytes : List ℕ) (core : CoreView) (of_i
     },
   )
 
+-- the number alone is pinned
+pinned_alone : (core : CoreView) → AreSound core.tables → core.tables.clients ≡ [] → core.tables.saved ≡ only_image core.tables.kv.number → (n : ℕ) → IsTrue (is_pinned core.tables.kv n) → n ≡ core.tables.kv.number
+pinned_alone core sound clients saved n pinned =
+    let number : ℕ = core.tables.kv.number in
+    let some = count-any n core.tables.kv.pins pinned in
+    let owned : all_owned n core.tables.clients ≡ 0 = ap (λ l. all_owned n l) clients in
+    let kept : all_kept n core.tables.saved ≡ all_kept n (only_image number) = ap (all_kept n) saved in
+    let one = count-push n number [] in
+    ⊎_elim
+    (λ here. eqb-true n number here)
+    (λ other. let none : ◌≡◌ {A = ℕ} (cond (nat_eq n number) 1 0) 0 = ap (λ b. cond b 1 0) other in absurd (omega (arith, some, sound.pins n, owned, kept, one, none)))
+    (cases_Bool (nat_eq n number))
+
 -- what it names lies inside the stores, as the image's pointers do
-pub inside_loaded : {S : Type 0} (kind : StoreKind S) (shelf : List S) (bytes : List ℕ) (core : CoreView) → IsCoreOf (size_in kind shelf) bytes core → IsInside kind shelf core
-inside_loaded kind shelf bytes core of_it = record {
-  now = image_inside kind shelf core.settings of_it.rows (metadata_now core.tables.kv) (sym of_it.settings.servers) of_it.taken.inside of_it.map;
-  each = λ c x is. absurd (let none : None ≡ Some x = sym (none_of core.tables.clients c of_it.clients) ∙ is in cc);
-}
+pub inside_loaded : {S : Type 0} (kind : StoreKind S) (shelf : List S) (bytes : List ℕ) (core : CoreView) → AreSound core.tables → IsCoreOf (size_in kind shelf) bytes core → IsInside kind shelf core
+inside_loaded kind shelf bytes core sound of_it =
+    bytes_alone (is_inside kind shelf core.settings) core.tables (λ c. none_of core.tables.clients c of_it.clients) (pinned_alone core sound of_it.clients of_it.saved)
+    (image_inside kind shelf core.settings of_it.rows (metadata_now core.tables.kv) (sym of_it.settings.servers) of_it.taken.inside of_it.map)

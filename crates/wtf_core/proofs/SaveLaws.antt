@@ -1,5 +1,5 @@
 -- A save keeps the tables sound, and what they stand for.
-use Rattle.std.proofs.Common.{◌≡◌, ◌≤◌, ℕ, ◌+◌, true, List, [], ◌∷◌, ◌++◌, Some, sym, ap, ◌∙◌, subst, ◌⊎◌, inl, inr, ⊎_elim, true≢false, arith}
+use Rattle.std.proofs.Common.{◌≡◌, ◌≤◌, ℕ, ◌+◌, true, cond, nat_eq, List, [], ◌∷◌, ◌++◌, Some, sym, ap, ◌∙◌, subst, ◌⊎◌, inl, inr, ⊎_elim, true≢false, arith}
 use Rattle.std.specs.FinMap.{get}
 use Rattle.std.specs.List.{Contains}
 use Rattle.std.proofs.lemmas.List.Elements.{Contains-append_left, Contains-push, Contains-push_cases}
@@ -22,6 +22,7 @@ use Rattle.wtf_clients.proofs.Pins.{base_pinned}
 use Rattle.wtf_clients.proofs.Frames.{open_on, txn_on, slot_on}
 use Rattle.wtf_clients.proofs.Images.{none_in, before_same, image_on}
 use Rattle.wtf_clients.proofs.Later.{Stands-later}
+use Rattle.wtf_clients.proofs.Lives.{upto_on, saved_reaches, same_kept, added_kept, only_kept}
 
 module _ (old new : TablesView) (now : SavedView) (sound : AreSound old) (saves : Saves old new now) where
   saves_up : old.kv.number ≤ new.kv.number
@@ -41,14 +42,15 @@ module _ (old new : TablesView) (now : SavedView) (sound : AreSound old) (saves 
       let kept : all_kept n new.saved ≡ all_kept n now = ap (all_kept n) saves.saved in
       omega (arith, moved, was, owned, kept)
 
-  -- the tables stay sound, where no image is of an install to come
-  pub saves_sound : ((n : ℕ) → Contains now.images n → n ≤ old.kv.number) → AreSound new
-  saves_sound upto = record {
+  -- the tables stay sound, where no image is of an install to come, and none but that of the number is pinned once more
+  pub saves_sound : ((n : ℕ) → Contains now.images n → n ≤ old.kv.number) → ((n : ℕ) → all_kept n now ≤ all_kept n old.saved + cond (nat_eq n old.kv.number) 1 0) → AreSound new
+  saves_sound upto most = record {
     begun = let was = sound.begun in let next = saves.next_tx in omega (arith, was, next);
     each = λ c x there.
         let was : of_client old.clients c ≡ Some x = saves_was c x there in
         open_on old.kv new.kv old.next_tx new.next_tx x (sound.each c x was) saves_up saves.maps saves_more (base_pinned new.kv new.clients new.saved c x saves_pins there);
     pins = saves_pins;
+    upto = upto_on old new sound (saved_reaches old new now most saves) saves_up;
     kept = λ n there.
         let le = upto n (subst (λ (s : SavedView). Contains s.images n) saves.saved there) in
         let number = saves.number in
@@ -105,10 +107,10 @@ module _ (Up : Type 0) (old new : TablesView) (sound : AreSound old) where
   -- the tables stay sound
   pub save_sound : (a : Answer) → SaveTurn Up old new a → AreSound new
   save_sound (answer.Saved n) (is, up, saves) = saves_sound old new (only_image n) sound saves
-      (λ k there. let same = only_cases n k there in omega (arith, same, is))
-  save_sound answer.FaultSave (inl saves) = saves_sound old new old.saved sound saves sound.kept
+      (λ k there. let same = only_cases n k there in omega (arith, same, is)) (λ k. only_kept old n k is)
+  save_sound answer.FaultSave (inl saves) = saves_sound old new old.saved sound saves sound.kept (same_kept old)
   save_sound answer.FaultSave (inr saves) = saves_sound old new (with_image old.saved old.kv.number) sound saves
-      (λ k there. ⊎_elim (λ was. sound.kept k was) (λ same. omega (arith, same)) (added_cases old.saved old.kv.number k there))
+      (λ k there. ⊎_elim (λ was. sound.kept k was) (λ same. omega (arith, same)) (added_cases old.saved old.kv.number k there)) (added_kept old)
   save_sound a turn = absurd turn
 
   -- and they stand for the machine that has saved

@@ -1,19 +1,19 @@
 -- What a line of a save leaves of the numbers and of the stores.
-use Rattle.std.proofs.Common.{◌≡◌, [], Result, Ok, Err, IfOk, OnErr, ◌∙◌, inl, inr}
+use Rattle.std.proofs.Common.{◌≡◌, [], subst, inl, inr}
 use Rattle.wtf_base.specs.declared.settings.Settings.{Settings}
 use Rattle.wtf_dev.specs.Store.{StoreKind}
 use Rattle.wtf_replica.specs.Outs.{SameLengths}
 use Rattle.wtf_replica.specs.Spans.{Span}
 use Rattle.wtf_model.specs.declared.answer.Answer.{Answer}
 use Rattle.wtf_model.specs.declared.answer.Answer.TheVariants as answer
+use Rattle.wtf_model.specs.declared.event.Event.{Event}
 use Rattle.wtf_model.specs.declared.event.Event.TheVariants as event
 use Rattle.wtf_meta.specs.Contents.{Told}
 use Rattle.wtf_clients.specs.Views.{TablesView}
 use Rattle.wtf_core.specs.Views.{CoreView}
-use Rattle.wtf_clients.specs.Sounds.{IsAlike}
 use Rattle.wtf_clients.specs.Outcomes.{AddsBytes}
 use Rattle.wtf_clients.specs.Saves.{SaveTurn}
-use Rattle.wtf_core.specs.Turns.{IsLine}
+use Rattle.wtf_core.specs.Turns.{LineTurn, IsLine}
 
 -- both numbers stay
 save_numbers : (Up : Type 0) (old new : TablesView) (a : Answer) → SaveTurn Up old new a → (new.kv.number ≡ old.kv.number) × (new.next_tx ≡ old.next_tx)
@@ -22,13 +22,10 @@ save_numbers Up old new answer.FaultSave (inl saves) = (saves.number, saves.next
 save_numbers Up old new answer.FaultSave (inr saves) = (saves.number, saves.next_tx)
 save_numbers Up old new a turn = absurd turn
 
--- both numbers are what they were
-pub line_numbers : {E : Type 0} (r : Result Answer E) (Telling : Type 0) (told : Told × Told) (old new : CoreView) → IfOk r (λ a. IsLine Telling told old new event.Save a) → OnErr r (IsAlike old.tables new.tables)
+-- so they do in a line that is one
+pub turn_numbers : (Telling : Type 0) (told : Told × Told) (old new : CoreView) (a : Answer) (e : Event) → LineTurn Telling told old new e a → e ≡ event.Save
     → (new.tables.kv.number ≡ old.tables.kv.number) × (new.tables.next_tx ≡ old.tables.next_tx)
-line_numbers (Ok a) Telling told old new line err =
-    let both = save_numbers _ old.tables line.answered.tables a line.turn.0 in
-    (line.tidied.number ∙ both.0, line.tidied.next_tx ∙ both.1)
-line_numbers (Err e) Telling told old new line err = (err.number, err.next_tx)
+turn_numbers Telling told old new a e turn is = save_numbers _ old.tables new.tables a (subst (λ (x : Event). LineTurn Telling told old new x a) is turn).0
 
 -- it adds no byte
 save_lengths : {S : Type 0} (kind : StoreKind S) (t : Span S) (settings : Settings) (Up : Type 0) (old new : TablesView) (a : Answer) → SaveTurn Up old new a → AddsBytes kind t settings [] a → SameLengths kind t.before t.after

@@ -1,5 +1,5 @@
 -- The core before the first line.
-use Rattle.std.proofs.Common.{◌≡◌, ℕ, Bool, List, [], false, None, Some, sym, ap, subst, ◌∙◌, ⊎_elim}
+use Rattle.std.proofs.Common.{◌≡◌, ℕ, Bool, List, [], false, None, Some, sym, ap, subst, ◌∙◌, ⊎_elim, arith}
 use Rattle.std.specs.FinMap.{get-empty}
 use Rattle.std.specs.List.{Contains}
 use Rattle.std.proofs.lemmas.List.Elements.{Contains-push}
@@ -26,7 +26,9 @@ use Rattle.wtf_core.specs.Views.{CoreView}
 use Rattle.wtf_clients.specs.Named.{TablesBytes}
 use Rattle.wtf_clients.specs.Standing.{StandsForSlot, TablesStand}
 use Rattle.wtf_core.specs.Standing.{StandsFor}
+use Rattle.wtf_clients.specs.Sounds.{AreSound}
 use Rattle.wtf_clients.proofs.Images.{none_in, some_of_none}
+use Rattle.wtf_clients.proofs.Naming.{bytes_alone}
 
 pub none_of : (clients : Clients) (c : ℕ) → clients ≡ [] → of_client clients c ≡ None
 none_of clients c is = ap (λ l. of_client l c) is
@@ -61,8 +63,6 @@ module _ (P : List Place → Bool) (w : Map) (first : IsFirst w) where
   value_first (Inode i) = subst (λ v. ValueBytes P v) (sym (first.inodes i)) tt
   value_first (Region i r) = subst (λ v. ValueBytes P v) (sym (first.regions i r)) tt
 
-pub bytes_first : (P : List Place → Bool) (tables : TablesView) → tables.clients ≡ [] → IsFirst (metadata_now tables.kv) → TablesBytes P tables
-bytes_first P tables clients first = record {
-  now = value_first P (metadata_now tables.kv) first;
-  each = λ c x is. absurd (let none : None ≡ Some x = sym (none_of tables.clients c clients) ∙ is in cc);
-}
+pub bytes_first : (P : List Place → Bool) (tables : TablesView) → AreSound tables → tables.kv.number ≡ 0 → tables.clients ≡ [] → IsFirst (metadata_now tables.kv) → TablesBytes P tables
+bytes_first P tables sound number clients first =
+    bytes_alone P tables (λ c. none_of tables.clients c clients) (λ n pinned. let le = sound.upto n pinned in omega (arith, le, number)) (value_first P (metadata_now tables.kv) first)

@@ -1,5 +1,5 @@
 -- Dropping versions that no one sees changes nothing that holds.
-use Rattle.std.proofs.Common.{◌≡◌, ◌≤◌, ◌<◌, ℕ, Bool, true, false, IsTrue, nat_eq, count_by, ◌||◌, ◌+◌, Option, None, Some, sym, ap, subst, ◌∙◌, eq-eqb, refl, arith}
+use Rattle.std.proofs.Common.{◌≡◌, ◌≤◌, ◌<◌, ℕ, IsTrue, nat_eq, count_by, ◌+◌, Option, None, Some, sym, ap, subst, ◌∙◌, ⊎_elim, refl, arith}
 use Rattle.std.specs.FinMap.{get}
 use Rattle.std.specs.List.{Contains}
 use Rattle.wtf_kv.specs.Stores.{Store, is_pinned, is_live}
@@ -19,17 +19,17 @@ use Rattle.wtf_clients.specs.Sounds.{all_owned, all_kept, IsOpen, AreSound, IsTi
 use Rattle.wtf_clients.specs.Standing.{StandsForTxn, StandsForSlot, TablesStand}
 use Rattle.wtf_core.specs.Standing.{StandsFor}
 use Rattle.wtf_clients.proofs.Images.{kept_pinned, before_same, image_on}
+use Rattle.wtf_clients.proofs.Lives.{pinned_live, number_live, live_cases}
 
--- what is pinned can be read, and so can the number
-pub pinned_live : (kv : Store Key Value) (n : ℕ) → IsTrue (is_pinned kv n) → IsTrue (is_live kv n)
-pinned_live kv n pinned = by (nat_eq n kv.number)
-  where
-    by : (b : Bool) → b || is_pinned kv n ≡ true
-    by true = refl
-    by false = pinned
+-- what is pinned was, and what can be read could be
+pinned_same : (old new : TablesView) → IsTidied old new → (n : ℕ) → IsTrue (is_pinned new.kv n) → IsTrue (is_pinned old.kv n)
+pinned_same old new tidy n pinned = subst (λ l. IsTrue (is_pinned (record old.kv { pins = l }) n)) tidy.pins pinned
 
-pub number_live : (kv : Store Key Value) → IsTrue (is_live kv kv.number)
-number_live kv = ap (λ b. b || is_pinned kv kv.number) (eq-eqb kv.number kv.number refl)
+pub live_same : (old new : TablesView) → IsTidied old new → (n : ℕ) → IsTrue (is_live new.kv n) → IsTrue (is_live old.kv n)
+live_same old new tidy n live = ⊎_elim
+    (λ now. subst (λ k. IsTrue (is_live old.kv k)) (sym (now ∙ tidy.number)) (number_live old.kv))
+    (λ pinned. pinned_live old.kv n (pinned_same old new tidy n pinned))
+    (live_cases new.kv n live)
 
 module _ (old new : TablesView) (sound : AreSound old) (tidy : IsTidied old new) where
   -- the map at the base of an open transaction, and the map now, are what they were
@@ -68,6 +68,7 @@ module _ (old new : TablesView) (sound : AreSound old) (tidy : IsTidied old new)
     begun = let was = sound.begun in let up = next_up in omega (arith, was, up);
     each = λ c x there. open_still c x (was c x there);
     pins = λ n. ap (λ l. count_by (nat_eq n) l) tidy.pins ∙ sound.pins n ∙ ap (λ l. all_owned n l + all_kept n old.saved) (sym tidy.clients) ∙ ap (λ s. all_owned n new.clients + all_kept n s) (sym tidy.saved);
+    upto = λ n pinned. subst (λ k. n ≤ k) (sym tidy.number) (sound.upto n (pinned_same old new tidy n pinned));
     kept = λ n here. subst (λ k. n ≤ k) (sym tidy.number) (sound.kept n (kept_was n here));
     apart = λ c d x y here there same. sound.apart c d x y (was c x here) (was d y there) same;
   }

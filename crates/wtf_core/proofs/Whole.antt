@@ -238,7 +238,7 @@ module _ (Telling : Type 0) (told later : Told) (old new : CoreView) (m : Machin
 
 -- ---- a line raises both numbers by at most one
 same_rise : (old new : TablesView) → new ≡ old → Rises old new
-same_rise old new is = subst (λ t. Rises old t) (sym is) (record { number = omega arith; next_tx = omega arith })
+same_rise old new is = subst (λ t. Rises old t) (sym is) (record { number = omega arith; next_tx = omega arith; no_fewer = omega arith; no_earlier = omega arith })
 
 tables_same : (old new : CoreView) → new ≡ old → Rises old.tables new.tables
 tables_same old new is = same_rise old.tables new.tables (ap (λ (c : CoreView). c.tables) is)

@@ -5,6 +5,7 @@ pub mod Turns
 pub mod Named
 pub mod Answers
 pub mod Pictured
+pub mod Promises
 pub mod Loading
 pub mod Made
 pub mod Rows

@@ -11,6 +11,7 @@ use Rattle.wtf_model.specs.declared.answer.Answer.TheVariants as answer
 use Rattle.wtf_model.specs.declared.answer.Word.TheVariants.{NoServer}
 use Rattle.wtf_model.specs.declared.event.Event.{Event}
 use Rattle.wtf_model.specs.declared.event.Event.TheVariants as event
+use Rattle.wtf_model.specs.declared.event.Verb.TheVariants as verb
 use Rattle.wtf_model.specs.Tree.{Tree, rows_of}
 use Rattle.wtf_meta.specs.Contents.{Told}
 use Rattle.wtf_meta.specs.Trees.{Stands}
@@ -53,6 +54,14 @@ BuiltTurn Telling told old new event.Tree a = ShowsTree old.settings.region old.
 BuiltTurn Telling told old new event.Save a =
     SaveTurn (AreUp old.replicas old.settings.servers) old.tables new.tables a × (new ≡ record old { tables = new.tables })
 BuiltTurn Telling told old new e a = ⊥
+
+-- A line that takes no memory: a server goes down or comes up, or a transaction is given up. Want of memory never closes a core
+-- there.
+abbrev pub takes_no_memory : Event → Bool
+takes_no_memory (event.Down k) = true
+takes_no_memory (event.Up k) = true
+takes_no_memory (event.Client c verb.Abort) = true
+takes_no_memory e = false
 
 abbrev pub LineTurn : Type 0 → Told × Told → CoreView → CoreView → Event → Answer → Type 0
 LineTurn Telling told old new e a =

@@ -1,6 +1,6 @@
 //! The core.
 
-ghost use Rattle.std.specs.Prelude.{◌≡◌, ◌↔◌, ◌+◌, ◌<◌, ◌≤◌, ◌^◌, ℕ, Bool, List, [], true, false, IfOk, IfErr, OnOk, OnErr, length};
+ghost use Rattle.std.specs.Prelude.{◌≡◌, ◌<◌, ◌≤◌, ◌^◌, ℕ, Bool, List, [], true, false, IsTrue, IsOk, IfOk, IfErr, OnOk, OnErr, length};
 ghost use Rattle.wtf_dev.specs.Each.{EachFollows};
 ghost use Rattle.wtf_dev.specs.Sums.{TellsAll};
 ghost use Rattle.wtf_base.specs.Limits.{AreSettings};
@@ -11,9 +11,7 @@ ghost use Rattle.wtf_replica.specs.Spans.{span};
 ghost use Rattle.wtf_model.specs.Form.{IsFormEvent, IsFormVerb, IsFormOp, IsData};
 ghost use Rattle.wtf_model.specs.declared.event.Event.TheVariants as event;
 ghost use Rattle.wtf_model.specs.declared.event.Verb.TheVariants as verb;
-ghost use Rattle.wtf_model.specs.declared.answer.Answer.TheVariants as answer;
-ghost use Rattle.wtf_model.specs.Machines.{Machine, start};
-ghost use Rattle.wtf_model.specs.Servers.{down_after_event};
+ghost use Rattle.wtf_model.specs.Machines.{start};
 ghost use Rattle.wtf_model.specs.Tree.{Tree, root_alone};
 ghost use Rattle.wtf_meta.specs.Contents.{Told};
 ghost use Rattle.wtf_image.specs.Rows.{ImageRows};
@@ -24,18 +22,14 @@ ghost use Rattle.wtf_image.specs.Outcome.{IsLoadOf};
 ghost use Rattle.wtf_clients.specs.Views.{unsaved};
 ghost use Rattle.wtf_clients.specs.Sounds.{AreSound, IsAlike};
 ghost use Rattle.wtf_core.specs.Standing.{StandsFor};
-ghost use Rattle.wtf_core.specs.Turns.{LineTurn, IsLine, ServerTurn, ShowsTree, IsTreeAnswer};
-ghost use Rattle.wtf_core.specs.Answers.{IsEvent};
-ghost use Rattle.wtf_model.specs.Built.{is_built};
-ghost use Rattle.wtf_core.specs.Named.{CoreBytes, IsInside, IsFull};
-ghost use Rattle.wtf_clients.specs.Outcomes.{AddsBytes, SaveFault, HasCause, data_of};
-ghost use Rattle.wtf_clients.specs.Asked.{asked_of, IsPlaced, HasFailed};
+ghost use Rattle.wtf_core.specs.Turns.{takes_no_memory, LineTurn, IsLine, ServerTurn, ShowsTree, IsTreeAnswer};
+ghost use Rattle.wtf_core.specs.Named.{CoreBytes, IsInside};
 ghost use Rattle.wtf_clients.specs.Serves.{ServesLine, ServesEvent};
-ghost use Rattle.wtf_clients.specs.Keeping.{KeeperTurn, HoldsKept, IsHeldBy, keeper_span};
-ghost use Rattle.wtf_core.specs.Pictured.{IsImageOfTree, HoldsTree};
+ghost use Rattle.wtf_clients.specs.Keeping.{KeeperTurn, IsHeldBy, keeper_span};
+ghost use Rattle.wtf_core.specs.Pictured.{IsImageOfTree};
+ghost use Rattle.wtf_core.specs.Promises.{scene, GoesOn, Obeys, Stores, IsCaused, Keeps, Stays, Closes};
 ghost use Rattle.wtf_dev.specs.Counts.{Rose};
 ghost use Rattle.wtf_replica.specs.Outs.{SameLengths};
-ghost use Rattle.wtf_model.specs.Steps.{after};
 ghost use Rattle.wtf_core.specs.Loading.{IsCoreOf};
 
 use crate::ops::copy_op;
@@ -227,9 +221,9 @@ impl Core {
     }
 
     /// Answers one line. The answer is that of the machine, which the core goes on to stand for.
-    /// What a keeper tells that it holds goes on being the image at a number that is kept for it,
-    /// of a tree that the machine may have saved; a save alone hands it something. After want of
-    /// memory the metadata now are as they were, and the core is closed.
+    /// What a keeper tells that it holds goes on being the image at a number that is kept for it, of a
+    /// tree that the machine may have saved, and one that a run can begin with; a save alone hands it
+    /// something. After want of memory the metadata now are as they were, and the core is closed.
     pub fn event<S: SliceStore, K: Keeper>(
         &mut self,
         shelf: &mut Shelf<S>,
@@ -242,55 +236,28 @@ impl Core {
         requires number { self.old.tables.kv.number < 2 ^ 63 }
         requires next_tx { self.old.tables.next_tx < 2 ^ 63 }
         requires inside { IsInside S.kind shelf.old self.old }
-        ensures answers { IfOk result (λ a. TellsAll S.kind shelf.old → (m : Machine) →
-            StandsFor (byte_at S.kind shelf.old) self.old m →
-            IsEvent (byte_at S.kind shelf.new) self.new m event.now a) }
+        ensures goes_on { IfOk result (GoesOn S.kind
+            (scene shelf.old (K.view keeper.old) self.old)
+            (scene shelf.new (K.view keeper.new) self.new) event.now) }
         ensures turn { IfOk result (λ a. IsLine (TellsAll S.kind shelf.old)
             (byte_at S.kind shelf.old, byte_at S.kind shelf.new) self.old self.new event.now a) }
-        ensures exact { IfOk result
-            (λ a. (a ≡ answer.NotBuilt) ↔ (is_built event.now ≡ false)) }
-        ensures down { IfOk result (λ a. (k : ℕ) → is_down self.new.replicas k ≡
-            down_after_event (is_down self.old.replicas) event.now a k) }
-        ensures adds { IfOk result (AddsBytes S.kind
-            (span (is_down self.old.replicas) shelf.old shelf.new) self.old.settings
-            (data_of event.now)) }
-        ensures placed { IfOk result (IsPlaced S.kind
-            (span (is_down self.old.replicas) shelf.old shelf.new) self.old.settings
-            (asked_of S.kind (span (is_down self.old.replicas) shelf.old shelf.new)
-            self.old.settings self.old.tables event.now)) }
-        ensures caused { IfOk result (HasCause S.kind
-            (span (is_down self.old.replicas) shelf.old shelf.new) self.old.settings
-            (SaveFault S.kind (span (is_down self.old.replicas) shelf.old shelf.new)
-            self.old.settings (Rose (K.view keeper.old).faults (K.view keeper.new).faults)
-            event.now) (IsFull self.old) (data_of event.now)) }
-        ensures cause { IfOk result (HasFailed
-            (asked_of S.kind (span (is_down self.old.replicas) shelf.old shelf.new)
-            self.old.settings self.old.tables event.now).fails) }
-        ensures inside { OnOk result (IsInside S.kind shelf.new self.new) }
-        ensures full { OnOk result (IsFull self.old → IsFull self.new) }
-        ensures sound { AreSound self.new.tables }
-        ensures open { OnOk result (self.new.closed ≡ false) }
-        ensures closed { OnErr result (self.new.closed ≡ true) }
-        ensures err { OnErr result (IsAlike self.old.tables self.new.tables) }
-        ensures settings { self.new.settings ≡ self.old.settings }
-        ensures number { self.new.tables.kv.number ≤ self.old.tables.kv.number + 1 }
-        ensures next_tx { self.new.tables.next_tx ≤ self.old.tables.next_tx + 1 }
-        ensures shelf { EachFollows S.kind shelf.old shelf.new [] }
-        ensures keeper { IfOk result (KeeperTurn S.kind
-            (span (is_down self.old.replicas) shelf.old shelf.new)
-            (keeper_span K.view K.follows keeper.old keeper.new) self.old.settings
-            self.old.tables self.new.tables event.now) }
-        ensures held { OnOk result ((K.view keeper.old).tells ≡ true →
-            HoldsKept (K.view keeper.old) self.old.settings self.old.tables →
-            HoldsKept (K.view keeper.new) self.new.settings self.new.tables) }
-        ensures trees { IfOk result (λ a. TellsAll S.kind shelf.old →
-            (K.view keeper.old).tells ≡ true → self.old.tables.kv.number ≤ 2 ^ 62 →
-            self.old.tables.next_tx ≤ 2 ^ 62 → (m : Machine) →
-            StandsFor (byte_at S.kind shelf.old) self.old m →
-            HoldsTree (K.view keeper.old) (byte_at S.kind shelf.old) m.may_be_saved →
-            HoldsTree (K.view keeper.new) (byte_at S.kind shelf.new)
-            (after m event.now a).may_be_saved) }
+        ensures lawful { IfOk result (Obeys S.kind
+            (scene shelf.old (K.view keeper.old) self.old)
+            (scene shelf.new (K.view keeper.new) self.new) event.now) }
+        ensures stored { IfOk result (Stores S.kind
+            (scene shelf.old (K.view keeper.old) self.old)
+            (scene shelf.new (K.view keeper.new) self.new) event.now) }
+        ensures caused { IfOk result (IsCaused S.kind
+            (scene shelf.old (K.view keeper.old) self.old)
+            (scene shelf.new (K.view keeper.new) self.new) event.now) }
+        ensures kept { IfOk result (Keeps S.kind
+            (keeper_span K.view K.follows keeper.old keeper.new)
+            (scene shelf.old (K.view keeper.old) self.old)
+            (scene shelf.new (K.view keeper.new) self.new) event.now) }
+        ensures stays { Stays S.kind shelf.old shelf.new self.old self.new }
+        ensures closed { OnErr result (Closes self.old self.new) }
         ensures untouched { OnErr result (keeper.new ≡ keeper.old) }
+        ensures sure { IsTrue (takes_no_memory event.now) → IsOk result }
     {
         let _number = self.tables.number();
         match self.answer(shelf, keeper, event) {
@@ -318,42 +285,25 @@ impl Core {
         requires number { self.old.tables.kv.number < 2 ^ 63 }
         requires next_tx { self.old.tables.next_tx < 2 ^ 63 }
         requires inside { IsInside S.kind shelf.old self.old }
-        ensures answers { IfOk result (λ a. TellsAll S.kind shelf.old → (m : Machine) →
-            StandsFor (byte_at S.kind shelf.old) self.old m →
-            IsEvent (byte_at S.kind shelf.new) self.new m event.Save a) }
+        ensures goes_on { IfOk result (GoesOn S.kind
+            (scene shelf.old (K.view keeper.old) self.old)
+            (scene shelf.new (K.view keeper.new) self.new) event.Save) }
         ensures turn { IfOk result (λ a. IsLine (TellsAll S.kind shelf.old)
             (byte_at S.kind shelf.old, byte_at S.kind shelf.new) self.old self.new event.Save a) }
-        ensures caused { IfOk result (HasCause S.kind
-            (span (is_down self.old.replicas) shelf.old shelf.new) self.old.settings
-            (SaveFault S.kind (span (is_down self.old.replicas) shelf.old shelf.new)
-            self.old.settings (Rose (K.view keeper.old).faults (K.view keeper.new).faults)
-            event.Save) (IsFull self.old) []) }
-        ensures keeper { IfOk result (KeeperTurn S.kind
-            (span (is_down self.old.replicas) shelf.old shelf.new)
-            (keeper_span K.view K.follows keeper.old keeper.new) self.old.settings
-            self.old.tables self.new.tables event.Save) }
-        ensures held { OnOk result ((K.view keeper.old).tells ≡ true →
-            HoldsKept (K.view keeper.old) self.old.settings self.old.tables →
-            HoldsKept (K.view keeper.new) self.new.settings self.new.tables) }
-        ensures trees { IfOk result (λ a. TellsAll S.kind shelf.old →
-            (K.view keeper.old).tells ≡ true → self.old.tables.kv.number ≤ 2 ^ 62 →
-            self.old.tables.next_tx ≤ 2 ^ 62 → (m : Machine) →
-            StandsFor (byte_at S.kind shelf.old) self.old m →
-            HoldsTree (K.view keeper.old) (byte_at S.kind shelf.old) m.may_be_saved →
-            HoldsTree (K.view keeper.new) (byte_at S.kind shelf.new)
-            (after m event.Save a).may_be_saved) }
+        ensures lawful { IfOk result (Obeys S.kind
+            (scene shelf.old (K.view keeper.old) self.old)
+            (scene shelf.new (K.view keeper.new) self.new) event.Save) }
+        ensures caused { IfOk result (IsCaused S.kind
+            (scene shelf.old (K.view keeper.old) self.old)
+            (scene shelf.new (K.view keeper.new) self.new) event.Save) }
+        ensures kept { IfOk result (Keeps S.kind
+            (keeper_span K.view K.follows keeper.old keeper.new)
+            (scene shelf.old (K.view keeper.old) self.old)
+            (scene shelf.new (K.view keeper.new) self.new) event.Save) }
+        ensures stays { Stays S.kind shelf.old shelf.new self.old self.new }
+        ensures closed { OnErr result (Closes self.old self.new) }
         ensures untouched { OnErr result (keeper.new ≡ keeper.old) }
         ensures lengths { OnOk result (SameLengths S.kind shelf.old shelf.new) }
-        ensures inside { OnOk result (IsInside S.kind shelf.new self.new) }
-        ensures full { OnOk result (IsFull self.old → IsFull self.new) }
-        ensures sound { AreSound self.new.tables }
-        ensures open { OnOk result (self.new.closed ≡ false) }
-        ensures closed { OnErr result (self.new.closed ≡ true) }
-        ensures err { OnErr result (IsAlike self.old.tables self.new.tables) }
-        ensures settings { self.new.settings ≡ self.old.settings }
-        ensures number { self.new.tables.kv.number ≡ self.old.tables.kv.number }
-        ensures next_tx { self.new.tables.next_tx ≡ self.old.tables.next_tx }
-        ensures shelf { EachFollows S.kind shelf.old shelf.new [] }
     {
         let line = Event::Save;
         self.event(shelf, keeper, &line)
@@ -376,12 +326,13 @@ impl Core {
         ensures serves { IfOk result (ServesEvent S.kind
             (span (is_down self.old.replicas) shelf.old shelf.new) self.old.settings
             (Rose (K.view keeper.old).faults (K.view keeper.new).faults)
-            self.old.tables self.new.tables event.now) }
+            (self.old.tables, self.new.tables) event.now) }
         ensures keeper { IfOk result (KeeperTurn S.kind
             (span (is_down self.old.replicas) shelf.old shelf.new)
             (keeper_span K.view K.follows keeper.old keeper.new) self.old.settings
             self.old.tables self.new.tables event.now) }
         ensures untouched { OnErr result (keeper.new ≡ keeper.old) }
+        ensures sure { IsTrue (takes_no_memory event.now) → IsOk result }
         ensures err { OnErr result (IsAlike self.old.tables self.new.tables) }
         ensures settings { self.new.settings ≡ self.old.settings }
         ensures closed { self.new.closed ≡ self.old.closed }
@@ -414,7 +365,7 @@ impl Core {
         ensures serves { IfOk result (ServesEvent S.kind
             (span (is_down self.old.replicas) shelf.old shelf.new) self.old.settings
             (Rose (K.view keeper.old).faults (K.view keeper.new).faults)
-            self.old.tables self.new.tables event.Save) }
+            (self.old.tables, self.new.tables) event.Save) }
         ensures keeper { IfOk result (KeeperTurn S.kind
             (span (is_down self.old.replicas) shelf.old shelf.new)
             (keeper_span K.view K.follows keeper.old keeper.new) self.old.settings
@@ -460,6 +411,7 @@ impl Core {
         ensures serves { IfOk result (ServesLine S.kind
             (span (is_down self.old.replicas) shelf.old shelf.new) self.old.settings
             self.old.tables self.new.tables (event.Client c verb.now)) }
+        ensures sure { IsTrue (takes_no_memory (event.Client c verb.now)) → IsOk result }
         ensures err { OnErr result (IsAlike self.old.tables self.new.tables) }
         ensures settings { self.new.settings ≡ self.old.settings }
         ensures closed { self.new.closed ≡ self.old.closed }

@@ -5,7 +5,7 @@ use Rattle.wtf_core.proofs.store.Core.load.Goals as goal
 pub returns-in-Ok-restored-clause-inside : goal.returns-in-Ok-restored-clause-inside
 returns-in-Ok-restored-clause-inside g c =
     let sizes = size_in g.S.SliceStore.kind c.args.shelf.now in
-    inside_loaded g.S.SliceStore.kind c.args.shelf.now c.args.bytes.now c.in-Ok-restored.core (c.in-Ok-restored.ensures.loaded sizes c.args.bytes.now c.in-Ok.ensures.loaded)
+    inside_loaded g.S.SliceStore.kind c.args.shelf.now c.args.bytes.now c.in-Ok-restored.core c.in-Ok-restored.ensures.sound (c.in-Ok-restored.ensures.loaded sizes c.args.bytes.now c.in-Ok.ensures.loaded)
 
 pub returns-in-Ok-restored-clause-stands : goal.returns-in-Ok-restored-clause-stands
 returns-in-Ok-restored-clause-stands g c =

@@ -13,4 +13,4 @@ returns-in-Ok-over-clause-stands c = λ told.
 pub returns-in-Ok-over-clause-inside : goal.returns-in-Ok-over-clause-inside
 returns-in-Ok-over-clause-inside c = λ P.
     let made = c.in-Ok.ensures in
-    subst (λ (t : TablesView). TablesBytes P t) (sym c.in-Ok-over.ensures.tables) (bytes_first P c.in-Ok.tables made.clients made.first)
+    subst (λ (t : TablesView). TablesBytes P t) (sym c.in-Ok-over.ensures.tables) (bytes_first P c.in-Ok.tables made.sound made.number made.clients made.first)

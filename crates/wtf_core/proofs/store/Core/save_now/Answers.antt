@@ -50,5 +50,5 @@ pub returns-in-Ok-clause-serves : goal.returns-in-Ok-clause-serves
 returns-in-Ok-clause-serves g c =
     let kind = g.S.SliceStore.kind in
     let rose = Rose (g.K.Keeper.view c.args.keeper.now).faults (g.K.Keeper.view c.save.new.keeper).faults in
-    subst (λ (core : CoreView). ServesEvent kind (span (is_down core.replicas) c.args.shelf.now c.save.new.shelf) core.settings rose core.tables c.save.new.self event.Save c.in-Ok.answer) c.self.view_is
+    subst (λ (core : CoreView). ServesEvent kind (span (is_down core.replicas) c.args.shelf.now c.save.new.shelf) core.settings rose (core.tables, c.save.new.self) event.Save c.in-Ok.answer) c.self.view_is
     c.in-Ok.ensures.serves

@@ -1,0 +1,112 @@
+-- What a core promises of a line, in parts of which none needs another.
+use Rattle.std.specs.Prelude.{◌≡◌, ◌↔◌, ◌≤◌, ◌+◌, ◌^◌, ℕ, true, false, List, [], ⊤}
+use Rattle.wtf_dev.specs.Each.{EachFollows}
+use Rattle.wtf_dev.specs.Counts.{Rose}
+use Rattle.wtf_dev.specs.Keep.{KeeperView}
+use Rattle.wtf_dev.specs.Store.{StoreKind}
+use Rattle.wtf_dev.specs.Sums.{TellsAll}
+use Rattle.wtf_replica.specs.Bytes.{byte_at}
+use Rattle.wtf_replica.specs.Downs.{is_down}
+use Rattle.wtf_replica.specs.Inside.{size_in}
+use Rattle.wtf_replica.specs.Spans.{Span, span}
+use Rattle.wtf_model.specs.declared.answer.Answer.{Answer}
+use Rattle.wtf_model.specs.declared.answer.Answer.TheVariants as answer
+use Rattle.wtf_model.specs.declared.event.Event.{Event}
+use Rattle.wtf_model.specs.declared.event.Event.TheVariants as event
+use Rattle.wtf_model.specs.Built.{is_built}
+use Rattle.wtf_model.specs.Machines.{Machine}
+use Rattle.wtf_model.specs.Servers.{down_after_event}
+use Rattle.wtf_model.specs.Steps.{after}
+use Rattle.wtf_clients.specs.Asked.{asked_of, IsPlaced, HasFailed}
+use Rattle.wtf_clients.specs.Keeping.{KeeperSpan, KeeperTurn, HoldsKept}
+use Rattle.wtf_clients.specs.Outcomes.{AddsBytes, SaveFault, HasCause, data_of}
+use Rattle.wtf_clients.specs.Sounds.{AreSound, IsAlike}
+use Rattle.wtf_core.specs.Answers.{IsEvent}
+use Rattle.wtf_core.specs.Named.{IsInside, IsFull}
+use Rattle.wtf_core.specs.Pictured.{HoldsTree, HoldsTaken, HoldsWith}
+use Rattle.wtf_core.specs.Standing.{StandsFor}
+use Rattle.wtf_core.specs.Views.{CoreView}
+
+-- the stores, what is seen of the keeper, and the core, at one time
+pub record Scene (S : Type 0) : Type 0 where
+  pub shelf : List S
+  pub keeper : KeeperView
+  pub core : CoreView
+
+abbrev pub scene : {S : Type 0} → List S → KeeperView → CoreView → Scene S
+scene shelf keeper core = record { shelf = shelf; keeper = keeper; core = core }
+
+-- the stores over a line, with the servers that are down before it
+abbrev pub span_of : {S : Type 0} → Scene S → Scene S → Span S
+span_of old new = span (is_down old.core.replicas) old.shelf new.shelf
+
+-- an image has room for the numbers
+abbrev pub HasRoom : CoreView → Type 0
+HasRoom core = (core.tables.kv.number ≤ 2 ^ 62) × (core.tables.next_tx ≤ 2 ^ 62)
+
+-- The core goes on: it is open, and what it names lies inside the stores, in as many copies as there are replicas where it did
+-- before. Which servers are down follows the lines `down` and `up`, and `notbuilt` comes exactly at the verbs that are left to
+-- a later version. No number falls, and a save leaves both.
+pub record GoesOn {S : Type 0} (kind : StoreKind S) (old new : Scene S) (e : Event) (a : Answer) : Type 0 where
+  pub not_closed : new.core.closed ≡ false
+  pub inside : IsInside kind new.shelf new.core
+  pub full : IsFull old.core → IsFull new.core
+  pub down : (k : ℕ) → is_down new.core.replicas k ≡ down_after_event (is_down old.core.replicas) e a k
+  pub exact : (a ≡ answer.NotBuilt) ↔ (is_built e ≡ false)
+  pub number : old.core.tables.kv.number ≤ new.core.tables.kv.number
+  pub next_tx : old.core.tables.next_tx ≤ new.core.tables.next_tx
+  pub same_number : e ≡ event.Save → new.core.tables.kv.number ≡ old.core.tables.kv.number
+  pub same_next_tx : e ≡ event.Save → new.core.tables.next_tx ≡ old.core.tables.next_tx
+
+-- what a save leaves on a keeper that tells: the image of the core, with its settings and its numbers
+abbrev pub Leaves : {S : Type 0} → StoreKind S → Scene S → Scene S → Event → Answer → Type 0
+Leaves kind old new event.Save (answer.Saved n) =
+    HoldsWith new.keeper (size_in kind new.shelf) old.core.settings old.core.tables.kv.number old.core.tables.next_tx
+Leaves kind old new e a = ⊤
+
+-- The machine may give that answer, and the core stands for its next. What a keeper holds that tells it goes on being the image
+-- of a tree that the machine may have saved, and one that a run can begin with; after a save it is that of the core, with just
+-- its numbers.
+pub record IsLawful {S : Type 0} (kind : StoreKind S) (old new : Scene S) (m : Machine) (e : Event) (a : Answer) : Type 0 where
+  pub event : IsEvent (byte_at kind new.shelf) new.core m e a
+  pub trees : old.keeper.tells ≡ true → HasRoom old.core → HoldsTree old.keeper (byte_at kind old.shelf) m.may_be_saved
+      → HoldsTree new.keeper (byte_at kind new.shelf) (after m e a).may_be_saved
+  pub taken : old.keeper.tells ≡ true → HasRoom old.core
+      → HoldsTaken old.keeper (size_in kind old.shelf) old.core.settings old.core.tables.kv.number old.core.tables.next_tx
+      → HoldsTaken new.keeper (size_in kind new.shelf) old.core.settings new.core.tables.kv.number new.core.tables.next_tx
+  pub saved : old.keeper.tells ≡ true → HasRoom old.core → Leaves kind old new e a
+
+-- the same of each machine that the core stands for, where the stores tell their content
+abbrev pub Obeys : {S : Type 0} → StoreKind S → Scene S → Scene S → Event → Answer → Type 0
+Obeys kind old new e a =
+    TellsAll kind old.shelf → (m : Machine) → StandsFor (byte_at kind old.shelf) old.core m → IsLawful kind old new m e a
+
+-- the stores grew by what the line writes, where that goes
+pub record Stores {S : Type 0} (kind : StoreKind S) (old new : Scene S) (e : Event) (a : Answer) : Type 0 where
+  pub adds : AddsBytes kind (span_of old new) old.core.settings (data_of e) a
+  pub placed : IsPlaced kind (span_of old new) old.core.settings (asked_of kind (span_of old new) old.core.settings old.core.tables e) a
+
+-- a fault has its cause in this very line
+pub record IsCaused {S : Type 0} (kind : StoreKind S) (old new : Scene S) (e : Event) (a : Answer) : Type 0 where
+  pub cause : HasCause kind (span_of old new) old.core.settings
+      (SaveFault kind (span_of old new) old.core.settings (Rose old.keeper.faults new.keeper.faults) e) (IsFull old.core) (data_of e) a
+  pub failed : HasFailed (asked_of kind (span_of old new) old.core.settings old.core.tables e).fails a
+
+-- A save alone hands the keeper something; what it tells that it holds goes on being the image at a number that is kept for it.
+pub record Keeps {S : Type 0} (kind : StoreKind S) (k : KeeperSpan) (old new : Scene S) (e : Event) (a : Answer) : Type 0 where
+  pub turn : KeeperTurn kind (span_of old new) k old.core.settings old.core.tables new.core.tables e a
+  pub held : k.before.tells ≡ true → HoldsKept k.before old.core.settings old.core.tables
+      → HoldsKept k.after old.core.settings new.core.tables
+
+-- whatever comes of the line: the settings are the same, the tables sound, and no number rises by more than one
+pub record Stays {S : Type 0} (kind : StoreKind S) (shelf shelf' : List S) (old new : CoreView) : Type 0 where
+  pub settings : new.settings ≡ old.settings
+  pub sound : AreSound new.tables
+  pub number : new.tables.kv.number ≤ old.tables.kv.number + 1
+  pub next_tx : new.tables.next_tx ≤ old.tables.next_tx + 1
+  pub follows : EachFollows kind shelf shelf' []
+
+-- after want of memory the metadata are as they were, and the core is closed
+pub record Closes (old new : CoreView) : Type 0 where
+  pub closed : new.closed ≡ true
+  pub alike : IsAlike old.tables new.tables
