@@ -18,14 +18,12 @@ use Rattle.wtf_overlay.specs.declared.part.Entry.{Entry}
 use Rattle.wtf_overlay.specs.declared.part.Part.{Part}
 use Rattle.wtf_overlay.specs.declared.part.Part.TheVariants.{Zero, Held}
 use Rattle.wtf_overlay.specs.Lengths.{HasLength}
-use Rattle.wtf_values.specs.declared.key.Key.{Key}
 use Rattle.wtf_values.specs.declared.key.Key.TheVariants.{Inode, Region}
 use Rattle.wtf_values.specs.declared.value.Value.{Value}
 use Rattle.wtf_values.specs.declared.value.Value.TheVariants as value
 use Rattle.wtf_meta.specs.Maps.{Map}
 use Rattle.wtf_meta.specs.Bytes.{PartBytes, EntryBytes, ValueBytes, MapBytes}
 use Rattle.wtf_image.specs.Rows.{EntryRow, RegionRow, FileRow, ImageRows, part_row, entry_rows}
-use Rattle.wtf_image.specs.Images.{HasText}
 use Rattle.wtf_image.specs.Loading.{IsTaken}
 use Rattle.wtf_image.specs.Lookups.{Plain, NodeIs, NamesAre, LastIs, RegionIs, plain}
 use Rattle.wtf_image.specs.Rules.{lies_inside, are_inside, is_file_inside, is_region_inside, is_part_inside}

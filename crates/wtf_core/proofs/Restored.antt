@@ -1,5 +1,5 @@
 -- A core that was loaded of an image: what it stands for, and that the keeper holds its image.
-use Rattle.std.proofs.Common.{◌≡◌, ◌≤◌, ℕ, false, cond, nat_eq, List, [], ◌∷◌, None, Some, refl, sym, ap, subst, ◌∙◌, true≢false, ⊎_elim, arith, inl, inr}
+use Rattle.std.proofs.Common.{◌≡◌, ◌≤◌, ℕ, false, cond, nat_eq, List, [], ◌∷◌, None, refl, sym, ap, subst, ◌∙◌, true≢false, ⊎_elim, arith, inl, inr}
 use Rattle.std.specs.FinMap.{get-empty}
 use Rattle.std.specs.List.{Contains}
 use Rattle.std.specs.Ordering.{nat_cmp}

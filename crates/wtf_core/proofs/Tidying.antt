@@ -2,9 +2,7 @@
 use Rattle.std.proofs.Common.{◌≡◌, ◌≤◌, ◌<◌, ℕ, IsTrue, nat_eq, count_by, ◌+◌, Option, None, Some, sym, ap, subst, ◌∙◌, ⊎_elim, refl, arith}
 use Rattle.std.specs.FinMap.{get}
 use Rattle.std.specs.List.{Contains}
-use Rattle.wtf_kv.specs.Stores.{Store, is_pinned, is_live}
-use Rattle.wtf_values.specs.declared.key.Key.{Key}
-use Rattle.wtf_values.specs.declared.value.Value.{Value}
+use Rattle.wtf_kv.specs.Stores.{is_pinned, is_live}
 use Rattle.wtf_model.specs.Tree.{Tree}
 use Rattle.wtf_model.specs.Transaction.{Transaction}
 use Rattle.wtf_model.specs.Machines.{Machine}

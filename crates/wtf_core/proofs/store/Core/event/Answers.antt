@@ -2,14 +2,14 @@ use Rattle.std.proofs.Common.{◌≡◌, ◌∙◌, refl, sym, ap, subst, arith}
 use Rattle.wtf_base.specs.declared.settings.Settings.{Settings}
 use Rattle.wtf_replica.specs.Downs.{is_down}
 use Rattle.wtf_replica.specs.Inside.{size_in}
-use Rattle.wtf_replica.specs.Spans.{Span, span}
+use Rattle.wtf_replica.specs.Spans.{span}
 use Rattle.wtf_region.specs.Inside.{is_inside}
 use Rattle.wtf_clients.specs.Named.{TablesBytes, has_copies}
 use Rattle.wtf_clients.proofs.Lives.{now_bytes}
 use Rattle.wtf_clients.specs.Serves.{ServesEvent}
 use Rattle.wtf_base.specs.Limits.{AreSettings}
 use Rattle.wtf_dev.specs.Counts.{Rose}
-use Rattle.wtf_clients.specs.Keeping.{KeeperSpan, KeeperTurn, IsHeldBy, keeper_span}
+use Rattle.wtf_clients.specs.Keeping.{KeeperSpan, KeeperTurn, keeper_span}
 use Rattle.wtf_core.proofs.Growth.{Rises}
 use Rattle.wtf_core.proofs.Holding.{KeeperLaws, tidied_held, keeper_on, line_held}
 use Rattle.wtf_core.proofs.Picturing.{line_tree}
