@@ -1,5 +1,5 @@
 -- A run over a sink that had taken something is one over a sink that had taken nothing.
-use Rattle.std.proofs.Common.{◌≡◌, ◌≢◌, ◌≤◌, ◌++◌, ◌⊎◌, ℕ, Bool, true, false, List, [], length, Option, Some, refl, sym, ◌∙◌, ap, subst, arith, inl, inr}
+use Rattle.std.proofs.Common.{◌≡◌, ◌≢◌, ◌++◌, ◌⊎◌, ℕ, Bool, true, false, List, [], Option, Some, refl, sym, ◌∙◌, ap, subst, arith, inl, inr}
 use Rattle.std.proofs.lemmas.List.{append-nil, append_cancel_left}
 use Rattle.wtf_base.specs.declared.settings.Settings.{Settings}
 use Rattle.wtf_dev.specs.Store.{StoreKind}
@@ -191,6 +191,7 @@ bare_served kind handed opening status source source' stock stock' g f p taken' 
         complete = λ enough still.
             s.complete enough (record { source_is = still.source_is; sink_is = still.sink_is; stores = still.stores; keeper = still.keeper });
         left = s.left;
+        next = s.next;
       },
     )
 

@@ -1,5 +1,7 @@
 -- How a run ends, without a further line or with one that is not written.
 use Rattle.std.proofs.Common.{◌≡◌, ◌≢◌, ◌↔◌, ◌<◌, ◌≤◌, ◌^◌, ℕ, Bool, true, false, List, [], ◌∷◌, ◌++◌, length, Option, Some, None, Result, Ok, Err, refl, sym, ◌∙◌, ap, subst, arith, append_assoc, inl, inr}
+use Rattle.std.proofs.lemmas.List.{length-append}
+use Rattle.wtf_base.specs.declared.settings.Settings.{Settings}
 use Rattle.wtf_dev.specs.Counts.{Rose}
 use Rattle.wtf_dev.proofs.Keeping.{rose_in}
 use Rattle.wtf_dev.specs.Streams.{SinkView}
@@ -17,21 +19,22 @@ use Rattle.wtf_model.specs.Machines.{Machine}
 use Rattle.wtf_model.specs.Tree.{Tree}
 use Rattle.wtf_model.specs.Lines.{after_line}
 use Rattle.wtf_model.specs.Servers.{none_down, is_device_fault, is_device_fault_of_run, count_along}
+use Rattle.wtf_image.specs.Rules.{size_in}
 use Rattle.wtf_script.specs.declared.limits.TheConstants.{SCRIPT_BYTES}
 use Rattle.wtf_serve.specs.declared.service.Stop.{Stop}
 use Rattle.wtf_serve.specs.declared.service.Stop.TheVariants as stop
 use Rattle.wtf_serve.specs.Beginnings.{Closes}
-use Rattle.wtf_serve.specs.Endings.{Devices, IsServedStatus, IsEarlyStatus, stop_status, IsLeft, Served}
+use Rattle.wtf_serve.specs.Endings.{Devices, IsServedStatus, IsEarlyStatus, stop_status, IsLeft, IsNext, Served}
 use Rattle.wtf_serve.specs.Engines.{Engine, Step, step, IsLawful, IsAnswer}
 use Rattle.wtf_serve.specs.Logs.{asked, last, last_downs, output}
 use Rattle.wtf_serve.specs.Openings.{Opening, StartsFrom}
 use Rattle.wtf_serve.specs.Passes.{Hand, step_of, PassIs}
 use Rattle.wtf_serve.specs.Scripts.{line_of, IsEndStatus, IsWholeStatus, end_status}
-use Rattle.wtf_serve.specs.Stocks.{Stock, IsSaveFault, IsTelling, HoldsOneOf, KeeperGoesOn}
+use Rattle.wtf_serve.specs.Stocks.{Stock, IsSaveFault, IsTelling, HoldsOneOf, HoldsStart, HoldsJust, KeeperGoesOn}
 use Rattle.wtf_serve.specs.Traces.{HasRead}
 use Rattle.wtf_serve.proofs.Closing.{closing_rose, still_count, still_save, still_status}
-use Rattle.wtf_serve.proofs.Going.{Going, given_then, counted_then, number_fits, next_tx_fits}
-use Rattle.wtf_serve.proofs.Picturing.{holds_on, image_held, one_alone}
+use Rattle.wtf_serve.proofs.Going.{Going, given_then, counted_then, room_now}
+use Rattle.wtf_serve.proofs.Picturing.{holds_on, image_held, one_alone, start_on, next_saved, next_kept, next_out}
 use Rattle.wtf_serve.proofs.RanLaws.{longer, ran_more, lawful_more, last_more}
 use Rattle.wtf_serve.proofs.Rising.{up_faults}
 use Rattle.wtf_serve.proofs.Telling.{told_more, told_front, told_end, told_fault, told_much, told_other}
@@ -55,6 +58,7 @@ module _ {S State : Type 0} (engine : Engine S State) (laws : KindLaws engine.ki
   Leaves status final = TellsAll engine.kind start.stock.shelf → IsTelling start.stock.keeper opening.bytes → opening.number ≤ 2 ^ 61 → opening.next_tx ≤ 2 ^ 61
       → (t : Tree) → StartsFrom (byte_at engine.kind start.stock.shelf) opening.bytes t → (bytes : List ℕ) → final.keeper.held ≡ Some bytes
       → IsLeft (byte_at engine.kind final.shelf) (last opening t g.log) start.source.rest g.log.lines status bytes
+      × IsNext (size_in engine.kind final.shelf) opening (last opening t g.log) g.log.lines status bytes
 
   -- the run ends without a further line
   finish : (status : ℕ) (final : Stock S) (result : Result (Option Bool) Stop) → PassIs engine now next result
@@ -113,7 +117,8 @@ module _ {S State : Type 0} (engine : Engine S State) (laws : KindLaws engine.ki
               (λ is. still_save laws start (record { source = next.input.source; sink = next.sink; stock = final }) now.stock (last_downs g.log) opening.settings.servers
               g.ran.follows_on follows g.keeper still end (why is)) still.source_is still.sink_is,
         );
-        left = λ _. left;
+        left = λ _ tells telling number next_tx t from bytes held. (left tells telling number next_tx t from bytes held).0;
+        next = λ _ tells telling number next_tx t from bytes held. (left tells telling number next_tx t from bytes held).1;
       }
 
   -- ---- the closing save, where a pass came to the end of the script
@@ -139,16 +144,20 @@ module _ {S State : Type 0} (engine : Engine S State) (laws : KindLaws engine.ki
         (never status 9 (λ e. omega (arith, e, ends)) next.input.held.count (came.limit (λ e. cc))) (inl (inl ends)) (λ _. is_end)
         (λ e. absurd (omega (arith, e, ends))) (λ e. absurd (omega (arith, e, ends)))
         (λ tells telling number next_tx tree from bytes held.
+        let room = room_now engine laws opening start now next bad g number next_tx in
+        let law = lawful (answer.Saved n) is tells tree from in
         let one = image_held (byte_at engine.kind final.shelf) final.keeper bytes ((last opening tree g.log).now ∷ [])
-        ((lawful (answer.Saved n) is tells tree from).saved (g.keeper.tells ∙ telling.tells) (number_fits engine laws opening start now next bad g number) (next_tx_fits engine laws opening start now next bad g next_tx)
-        (g.saved tells telling number next_tx tree from)) held in
-        let (image, image_is, some) = is.kept (g.keeper.tells ∙ telling.tells) in
-        record {
-          saved = λ _. one_alone (byte_at engine.kind final.shelf) bytes (last opening tree g.log).now (λ none. some (same_bytes image bytes (sym image_is ∙ held) ∙ none)) one;
-          failed = λ e. absurd (omega (arith, e, ends));
-          early = λ e. absurd (omega (arith, e, ends));
-          memory = λ e. absurd (omega (arith, e, ends));
-        })
+        (law.saved (g.keeper.tells ∙ telling.tells) room (g.saved tells telling number next_tx tree from)) held in
+        let (image, image_is, some) = is.kept (g.keeper.tells ∙ telling.tells) in (
+          record {
+            saved = λ _. one_alone (byte_at engine.kind final.shelf) bytes (last opening tree g.log).now (λ none. some (same_bytes image bytes (sym image_is ∙ held) ∙ none)) one;
+            failed = λ e. absurd (omega (arith, e, ends));
+            early = λ e. absurd (omega (arith, e, ends));
+            memory = λ e. absurd (omega (arith, e, ends));
+          },
+          next_saved engine.kind opening (last opening tree g.log) g.log.lines final bytes held (engine.number now.state) (engine.next_tx now.state) status ends (g.number_is tells tree from) g.begun
+              (subst (λ (x : Settings). HoldsJust engine.kind final x (engine.number now.state) (engine.next_tx now.state)) g.settings_is (law.leaves (g.keeper.tells ∙ telling.tells) room)),
+        ))
       where
         same_bytes : (a b : List ℕ) → Some a ≡ Some b → a ≡ b
         same_bytes a b e = cc
@@ -164,32 +173,43 @@ module _ {S State : Type 0} (engine : Engine S State) (laws : KindLaws engine.ki
         (λ e. omega (arith, e)) (λ e. omega (arith, e))
         (never 5 9 (λ e. omega (arith, e)) next.input.held.count (came.limit (λ e. cc))) (inl (inr refl)) (λ ends. absurd (omega (arith, ends)))
         (λ e. absurd (omega (arith, e))) (λ _. why)
-        (λ tells telling number next_tx tree from bytes held. record {
-          saved = λ e. absurd (omega (arith, e));
-          failed = λ _. image_held (byte_at engine.kind final.shelf) final.keeper bytes ((last opening tree g.log).may_be_saved ++ (last opening tree g.log).now ∷ [])
-              ((lawful answer.FaultSave is tells tree from).saved (g.keeper.tells ∙ telling.tells) (number_fits engine laws opening start now next bad g number) (next_tx_fits engine laws opening start now next bad g next_tx)
-              (g.saved tells telling number next_tx tree from)) held;
-          early = λ e. absurd (omega (arith, e));
-          memory = λ e. absurd (omega (arith, e));
-        })
+        (λ tells telling number next_tx tree from bytes held.
+        let room = room_now engine laws opening start now next bad g number next_tx in
+        let law = lawful answer.FaultSave is tells tree from in
+        let was = subst (λ (x : Settings). HoldsStart engine.kind now.stock x (engine.number now.state) (engine.next_tx now.state)) (sym g.settings_is) (g.start_holds tells telling number next_tx tree from) in (
+          record {
+            saved = λ e. absurd (omega (arith, e));
+            failed = λ _. image_held (byte_at engine.kind final.shelf) final.keeper bytes ((last opening tree g.log).may_be_saved ++ (last opening tree g.log).now ∷ [])
+                (law.saved (g.keeper.tells ∙ telling.tells) room (g.saved tells telling number next_tx tree from)) held;
+            early = λ e. absurd (omega (arith, e));
+            memory = λ e. absurd (omega (arith, e));
+          },
+          next_kept engine.kind opening (last opening tree g.log) g.log.lines final bytes held (engine.number state') (engine.next_tx state') 5 (λ e. omega (arith, e)) law.number
+              (omega (arith, is.goes_on.same_next_tx refl, g.begun))
+              (subst (λ (x : Settings). HoldsStart engine.kind final x (engine.number state') (engine.next_tx state')) g.settings_is (law.taken (g.keeper.tells ∙ telling.tells) room was)),
+        ))
 
     finish_short : final.keeper ≡ now.stock.keeper
         → Served engine.kind handed opening 7 start (record { source = next.input.source; sink = next.sink; stock = final })
     finish_short same =
         finish 7 final (Ok None) came follows keeper
         (λ early. absurd (omega (arith, early))) (λ whole. absurd (omega (arith, whole)))
-        (λ script e. told_other script now.input.source.rest next.input.source.rest now.input.held g.log.lines 7 (λ d. omega (arith, d)) (λ d. omega (arith, d)) (λ d. omega (arith, d))
+        (λ script e. told_other script now.input.source.rest next.input.source.rest now.input.held g.log.lines 7 (λ d. omega (arith, d)) (λ d. omega (arith, d)) (λ d. omega (arith, d)) (λ d. absurd (omega (arith, d)))
         (g.read script e))
         came.came.1.sink (λ e. omega (arith, e)) (λ e. omega (arith, e))
         (never 7 9 (λ e. omega (arith, e)) next.input.held.count (came.limit (λ e. cc))) (inr (inr (inr (inr (inl refl))))) (λ ends. absurd (omega (arith, ends)))
         (λ e. absurd (omega (arith, e))) (λ e. absurd (omega (arith, e)))
-        (λ tells telling number next_tx tree from bytes held. record {
-          saved = λ e. absurd (omega (arith, e));
-          failed = λ e. absurd (omega (arith, e));
-          early = λ e. absurd (omega (arith, e));
-          memory = λ _. inl (image_held (byte_at engine.kind final.shelf) final.keeper bytes (last opening tree g.log).may_be_saved
-              (holds_on laws now.stock final (last opening tree g.log).may_be_saved follows same (g.saved tells telling number next_tx tree from)) held);
-        })
+        (λ tells telling number next_tx tree from bytes held. (
+          record {
+            saved = λ e. absurd (omega (arith, e));
+            failed = λ e. absurd (omega (arith, e));
+            early = λ e. absurd (omega (arith, e));
+            memory = λ _. inl (image_held (byte_at engine.kind final.shelf) final.keeper bytes (last opening tree g.log).may_be_saved
+                (holds_on laws now.stock final (last opening tree g.log).may_be_saved follows same (g.saved tells telling number next_tx tree from)) held);
+          },
+          next_kept engine.kind opening (last opening tree g.log) g.log.lines final bytes held (engine.number now.state) (engine.next_tx now.state) 7 (λ e. omega (arith, e)) (g.number_is tells tree from) g.begun
+              (start_on laws now.stock final opening.settings (engine.number now.state) (engine.next_tx now.state) follows same (g.start_holds tells telling number next_tx tree from)),
+        ))
 
     closed : (status : ℕ) → Closes engine t bad status
         → Served engine.kind handed opening status start (record { source = next.input.source; sink = next.sink; stock = final })
@@ -216,13 +236,17 @@ module _ {S State : Type 0} (engine : Engine S State) (laws : KindLaws engine.ki
 
   -- at which the run left what it had in hand
   early_left : (status : ℕ) → next.stock ≡ now.stock → IsEarlyStatus status → Leaves status next.stock
-  early_left status same early = λ tells telling number next_tx tree from bytes held. record {
-    saved = λ e. absurd (omega (arith, e, early));
-    failed = λ e. absurd (omega (arith, e, early));
-    early = λ _. image_held (byte_at engine.kind next.stock.shelf) next.stock.keeper bytes (last opening tree g.log).may_be_saved
-        (subst (λ (s : Stock S). HoldsOneOf engine.kind s (last opening tree g.log).may_be_saved) (sym same) (g.saved tells telling number next_tx tree from)) held;
-    memory = λ e. absurd (omega (arith, e, early));
-  }
+  early_left status same early = λ tells telling number next_tx tree from bytes held. (
+    record {
+      saved = λ e. absurd (omega (arith, e, early));
+      failed = λ e. absurd (omega (arith, e, early));
+      early = λ _. image_held (byte_at engine.kind next.stock.shelf) next.stock.keeper bytes (last opening tree g.log).may_be_saved
+          (subst (λ (s : Stock S). HoldsOneOf engine.kind s (last opening tree g.log).may_be_saved) (sym same) (g.saved tells telling number next_tx tree from)) held;
+      memory = λ e. absurd (omega (arith, e, early));
+    },
+    next_kept engine.kind opening (last opening tree g.log) g.log.lines next.stock bytes held (engine.number now.state) (engine.next_tx now.state) status (λ e. omega (arith, e, early)) (g.number_is tells tree from) g.begun
+        (subst (λ (s : Stock S). HoldsStart engine.kind s opening.settings (engine.number now.state) (engine.next_tx now.state)) (sym same) (g.start_holds tells telling number next_tx tree from)),
+  )
 
   finish_unread : PassIs engine now next (Err stop.Unread) → Served engine.kind handed opening 3 start (record { source = next.input.source; sink = next.sink; stock = next.stock })
   finish_unread pass =
@@ -252,35 +276,52 @@ module _ {S State : Type 0} (engine : Engine S State) (laws : KindLaws engine.ki
   memory_left : PassIs engine now next (Err stop.Memory) → Leaves 7 next.stock
   memory_left pass = λ tells telling number next_tx tree from bytes held.
       let was = g.saved tells telling number next_tx tree from in
-      record {
-        saved = λ e. absurd (omega (arith, e));
-        failed = λ e. absurd (omega (arith, e));
-        early = λ e. absurd (omega (arith, e));
-        memory = λ _. elim pass.came.kept [
-          | inl same ↦ inl (image_held (byte_at engine.kind next.stock.shelf) next.stock.keeper bytes (last opening tree g.log).may_be_saved
-              (holds_on laws now.stock next.stock (last opening tree g.log).may_be_saved pass.follows_on same was) held)
-          | inr out ↦
-              let is = out.out.is in
-              let law = is.lawful (tells_all-kept laws g.ran.follows_on tells) (last opening tree g.log) (g.stands tells tree from) in
-              inr (record {
-                line = out.line;
-                next = λ all e.
-                    let (more, all_is) = told_front all next.input.source.rest next.input.held (g.log.lines ++ out.line ∷ [])
-                    (told_more all now.input.source.rest next.input.source.rest now.input.held next.input.held g.log.lines out.line (g.read all e) out.came) in
-                    (more, all_is ∙ append_assoc g.log.lines (out.line ∷ []) more);
-                answer = out.out.answer;
-                may = law.may;
-                image = image_held (byte_at engine.kind next.stock.shelf) next.stock.keeper bytes (after_line (last opening tree g.log) (line_of out.line) out.out.answer).may_be_saved
-                    (law.saved (g.keeper.tells ∙ telling.tells) (number_fits engine laws opening start now next bad g number) (next_tx_fits engine laws opening start now next bad g next_tx) was) held;
-              })
-        ];
-      }
+      let held_start = g.start_holds tells telling number next_tx tree from in
+      let room = room_now engine laws opening start now next bad g number next_tx in
+      elim pass.came.kept [
+        | inl same ↦ (
+          record {
+            saved = λ e. absurd (omega (arith, e));
+            failed = λ e. absurd (omega (arith, e));
+            early = λ e. absurd (omega (arith, e));
+            memory = λ _. inl (image_held (byte_at engine.kind next.stock.shelf) next.stock.keeper bytes (last opening tree g.log).may_be_saved
+                (holds_on laws now.stock next.stock (last opening tree g.log).may_be_saved pass.follows_on same was) held);
+          },
+          next_kept engine.kind opening (last opening tree g.log) g.log.lines next.stock bytes held (engine.number now.state) (engine.next_tx now.state) 7 (λ e. omega (arith, e)) (g.number_is tells tree from) g.begun
+              (start_on laws now.stock next.stock opening.settings (engine.number now.state) (engine.next_tx now.state) pass.follows_on same held_start),
+        )
+        | inr out ↦
+            let is = out.out.is in
+            let law = is.lawful (tells_all-kept laws g.ran.follows_on tells) (last opening tree g.log) (g.stands tells tree from) in (
+              record {
+                saved = λ e. absurd (omega (arith, e));
+                failed = λ e. absurd (omega (arith, e));
+                early = λ e. absurd (omega (arith, e));
+                memory = λ _. inr (record {
+                  line = out.line;
+                  next = λ all e.
+                      let (more, all_is) = told_front all next.input.source.rest next.input.held (g.log.lines ++ out.line ∷ [])
+                      (told_more all now.input.source.rest next.input.source.rest now.input.held next.input.held g.log.lines out.line (g.read all e) out.came) in
+                      (more, all_is ∙ append_assoc g.log.lines (out.line ∷ []) more);
+                  answer = out.out.answer;
+                  may = law.may;
+                  image = image_held (byte_at engine.kind next.stock.shelf) next.stock.keeper bytes (after_line (last opening tree g.log) (line_of out.line) out.out.answer).may_be_saved
+                      (law.saved (g.keeper.tells ∙ telling.tells) room was) held;
+                });
+              },
+              next_out engine.kind opening (last opening tree g.log) g.log.lines next.stock bytes held (engine.number next.state) (engine.next_tx next.state)
+                  (omega (arith, is.goes_on.number, g.number_is tells tree from)) (omega (arith, is.goes_on.next_tx, g.begun))
+                  (subst (λ (x : Settings). HoldsStart engine.kind next.stock x (engine.number next.state) (engine.next_tx next.state)) g.settings_is
+                  (law.taken (g.keeper.tells ∙ telling.tells) room
+                  (subst (λ (x : Settings). HoldsStart engine.kind now.stock x (engine.number now.state) (engine.next_tx now.state)) (sym g.settings_is) held_start))),
+            )
+      ]
 
   finish_memory : PassIs engine now next (Err stop.Memory) → Served engine.kind handed opening 7 start (record { source = next.input.source; sink = next.sink; stock = next.stock })
   finish_memory pass =
       finish 7 next.stock (Err stop.Memory) pass pass.follows_on pass.keeper
       (λ early. absurd (omega (arith, early))) (λ whole. absurd (omega (arith, whole)))
-      (λ script e. told_other script now.input.source.rest next.input.source.rest now.input.held g.log.lines 7 (λ d. omega (arith, d)) (λ d. omega (arith, d)) (λ d. omega (arith, d)) (g.read script e))
+      (λ script e. told_other script now.input.source.rest next.input.source.rest now.input.held g.log.lines 7 (λ d. omega (arith, d)) (λ d. omega (arith, d)) (λ d. omega (arith, d)) (λ d. absurd (omega (arith, d))) (g.read script e))
       pass.came.sink (λ e. omega (arith, e)) (λ e. omega (arith, e))
       (never 7 9 (λ e. omega (arith, e)) next.input.held.count (pass.limit (λ e. cc))) (inr (inr (inr (inr (inl refl))))) (λ ends. absurd (omega (arith, ends))) (λ e. absurd (omega (arith, e)))
       (λ e. absurd (omega (arith, e))) (memory_left pass)
@@ -305,7 +346,7 @@ module _ {S State : Type 0} (engine : Engine S State) (laws : KindLaws engine.ki
         rest_adds = λ whole. absurd (omega (arith, whole));
         unstarted = λ e. absurd (cc);
         sound = λ _. g.taken;
-        read = λ script e. told_other script next.input.source.rest next.input.source.rest next.input.held (g.log.lines ++ line ∷ []) 4 (λ d. omega (arith, d)) (λ d. omega (arith, d)) (λ d. omega (arith, d))
+        read = λ script e. told_other script next.input.source.rest next.input.source.rest next.input.held (g.log.lines ++ line ∷ []) 4 (λ d. omega (arith, d)) (λ d. omega (arith, d)) (λ d. omega (arith, d)) (λ _. (refl, pass.drawn.few))
             (told_more script now.input.source.rest next.input.source.rest now.input.held next.input.held g.log.lines line (g.read script e) pass.came.came);
         wrote = λ text e. record {
           whole = λ _ is. absurd (is refl);
@@ -347,10 +388,18 @@ module _ {S State : Type 0} (engine : Engine S State) (laws : KindLaws engine.ki
               (subst (λ (m : Machine). HoldsOneOf engine.kind next.stock m.may_be_saved)
               (last_more engine laws opening start.stock g.log t g.ran g.settings_is g.downs g.full g.stands line cut.answer cut.is pass.follows_on pass.keeper.faults tree)
               ((lawful_more engine laws opening start.stock g.log t g.ran g.settings_is g.downs g.full g.stands line cut.answer cut.is pass.follows_on pass.keeper.faults tells tree from).saved
-              (g.keeper.tells ∙ telling.tells) (number_fits engine laws opening start now next bad g number) (next_tx_fits engine laws opening start now next bad g next_tx) (g.saved tells telling number next_tx tree from)))
+              (g.keeper.tells ∙ telling.tells) (room_now engine laws opening start now next bad g number next_tx) (g.saved tells telling number next_tx tree from)))
               held;
           memory = λ e. absurd (omega (arith, e));
         };
+        next = λ _ tells telling number next_tx tree from bytes held.
+            let law = lawful_more engine laws opening start.stock g.log t g.ran g.settings_is g.downs g.full g.stands line cut.answer cut.is pass.follows_on pass.keeper.faults tells tree from in
+            next_kept engine.kind opening (last opening tree log) log.lines next.stock bytes held (engine.number next.state) (engine.next_tx next.state) 4 (λ e. omega (arith, e))
+            (law.number ∙ ap (λ (m : Machine). m.number) (last_more engine laws opening start.stock g.log t g.ran g.settings_is g.downs g.full g.stands line cut.answer cut.is pass.follows_on pass.keeper.faults tree))
+            (omega (arith, cut.is.goes_on.next_tx, g.begun, length-append g.log.lines (line ∷ [])))
+            (subst (λ (x : Settings). HoldsStart engine.kind next.stock x (engine.number next.state) (engine.next_tx next.state)) g.settings_is
+            (law.taken (g.keeper.tells ∙ telling.tells) (room_now engine laws opening start now next bad g number next_tx)
+            (subst (λ (x : Settings). HoldsStart engine.kind now.stock x (engine.number now.state) (engine.next_tx now.state)) (sym g.settings_is) (g.start_holds tells telling number next_tx tree from))));
       }
 
   -- the run ends before the end of its script

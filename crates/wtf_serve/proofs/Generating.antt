@@ -1,5 +1,5 @@
 -- The run of a generated script, by the run over the sink that sums it up.
-use Rattle.std.proofs.Common.{◌≡◌, ◌≢◌, ◌<◌, ◌++◌, ℕ, List, [], Option, Some, refl, sym, ◌∙◌, ap, subst, arith}
+use Rattle.std.proofs.Common.{◌≡◌, ◌++◌, ℕ, List, [], Some, refl, ◌∙◌, ap, subst, arith}
 use Rattle.std.proofs.lemmas.List.{append-nil}
 use Rattle.wtf_base.specs.declared.settings.Settings.{Settings}
 use Rattle.wtf_words.specs.declared.Recipe.{Recipe}
@@ -10,7 +10,6 @@ use Rattle.wtf_summary.specs.Traces.{mark, numbers_of}
 use Rattle.wtf_summary.specs.States.{IsSound, told}
 use Rattle.wtf_summary.specs.declared.state.State.{State}
 use Rattle.wtf_summary.proofs.Ends.{goes_on, shows_all}
-use Rattle.wtf_serve.specs.Endings.{Devices}
 use Rattle.wtf_serve.specs.Generated.{IsGeneratedRun, Shows, script_of}
 use Rattle.wtf_serve.specs.Stocks.{Stock}
 use Rattle.wtf_serve.specs.Unopened.{IsRun}

@@ -1,9 +1,10 @@
 -- A run so far, and how it goes on.
 use Rattle.std.proofs.Common.{◌≡◌, ◌≤◌, ◌+◌, ◌-◌, ◌^◌, ℕ, Bool, false, min, List, [], ◌∷◌, ◌++◌, length, Some, Ok, refl, sym, ◌∙◌, ap, subst, arith, append_assoc}
-use Rattle.std.proofs.lemmas.List.{append-nil}
+use Rattle.std.proofs.lemmas.List.{append-nil, length-append}
 use Rattle.std.proofs.lemmas.Grind.{flat_map-append}
 use Rattle.std.specs.List.{flat_map}
 use Rattle.std.specs.Prelude.{◌||◌, is_err}
+use Rattle.wtf_base.specs.declared.settings.Settings.{Settings}
 use Rattle.wtf_dev.specs.Keep.{KeeperView}
 use Rattle.wtf_dev.specs.Streams.{SinkView}
 use Rattle.wtf_dev.specs.Store.{KindLaws}
@@ -15,17 +16,18 @@ use Rattle.wtf_model.specs.Tree.{Tree}
 use Rattle.wtf_model.specs.Lines.{Line, state_after, after_line}
 use Rattle.wtf_model.specs.Servers.{none_down, down_after}
 use Rattle.wtf_image.specs.Rules.{size_in}
+use Rattle.wtf_core.specs.Pictured.{IsTakenFor}
 use Rattle.wtf_script.specs.declared.limits.TheConstants.{SCRIPT_BYTES}
 use Rattle.wtf_script.specs.Reading.{work}
 use Rattle.wtf_serve.specs.Beginnings.{IsReady}
 use Rattle.wtf_serve.specs.Endings.{Devices}
-use Rattle.wtf_serve.specs.Engines.{Engine}
+use Rattle.wtf_serve.specs.Engines.{Engine, HasRoom}
 use Rattle.wtf_serve.specs.Logs.{Log, asked, last, last_downs, first_line, output}
 use Rattle.wtf_serve.specs.Openings.{Opening, IsTakenOver, StartsFrom, first}
 use Rattle.wtf_serve.specs.Passes.{Hand, hand, input, step_of, HasDrawn, PassIs}
 use Rattle.wtf_serve.specs.Runs.{Ran}
 use Rattle.wtf_serve.specs.Scripts.{line_of, line_text, has_bad}
-use Rattle.wtf_serve.specs.Stocks.{stock, KeeperGoesOn, IsTelling, HoldsOneOf}
+use Rattle.wtf_serve.specs.Stocks.{stock, KeeperGoesOn, IsTelling, HoldsOneOf, HoldsStart}
 use Rattle.wtf_serve.proofs.Picturing.{starts_holds}
 use Rattle.wtf_serve.proofs.RanLaws.{longer, asked-longer, ran_none, ran_more, lawful_more, last_more, stands_more, downs_more}
 use Rattle.wtf_serve.proofs.ScriptLaws.{has_bad-push}
@@ -39,6 +41,10 @@ pub record Going {S State : Type 0} (engine : Engine S State) (opening : Opening
       → engine.stands now.stock.shelf now.state (last opening t log)
   pub saved : TellsAll engine.kind start.stock.shelf → IsTelling start.stock.keeper opening.bytes → opening.number ≤ 2 ^ 61 → opening.next_tx ≤ 2 ^ 61
       → (t : Tree) → StartsFrom (byte_at engine.kind start.stock.shelf) opening.bytes t → HoldsOneOf engine.kind now.stock (last opening t log).may_be_saved
+  pub start_holds : TellsAll engine.kind start.stock.shelf → IsTelling start.stock.keeper opening.bytes → opening.number ≤ 2 ^ 61 → opening.next_tx ≤ 2 ^ 61
+      → (t : Tree) → StartsFrom (byte_at engine.kind start.stock.shelf) opening.bytes t → HoldsStart engine.kind now.stock opening.settings (engine.number now.state) (engine.next_tx now.state)
+  pub number_is : TellsAll engine.kind start.stock.shelf → (t : Tree) → StartsFrom (byte_at engine.kind start.stock.shelf) opening.bytes t → engine.number now.state ≡ (last opening t log).number
+  pub begun : engine.next_tx now.state ≤ opening.next_tx + length log.lines
   pub taken : IsTakenOver (size_in engine.kind start.stock.shelf) opening.bytes
   pub downs : engine.down now.state ≡ last_downs log
   pub bad_is : has_bad (asked log) ≡ bad
@@ -71,19 +77,28 @@ after_none : {X : Type 0} (next : X → Line → Answer → X) (x : X) → state
 unfolding state_after
 after_none next x = refl
 
+-- an image of the numbers of an opening is one of the state that it opened
+taken_same : (size : ℕ → ℕ → ℕ) (settings : Settings) (n next n' next' : ℕ) (bytes : List ℕ) → n' ≡ n → next' ≡ next → IsTakenFor size settings n next bytes → IsTakenFor size settings n' next' bytes
+taken_same size settings n next n' next' bytes same_n same_next is = subst (λ (x : ℕ). IsTakenFor size settings x next' bytes) (sym same_n) (subst (λ (x : ℕ). IsTakenFor size settings n x bytes) (sym same_next) is)
+
 -- the run after its first line, behind which the keeper holds what it held before it was loaded
 pub going_none : {S State : Type 0} (engine : Engine S State) → KindLaws engine.kind → (opening : Opening) (start : Devices S) (sink' : SinkView) (keeper' : KeeperView) (state : State)
     → IsReady engine opening start.stock.shelf state → (opening.number ≤ 2 ^ 62) × (opening.next_tx ≤ 2 ^ 62)
+    → IsTakenFor (size_in engine.kind start.stock.shelf) opening.settings opening.number opening.next_tx opening.bytes
     → KeeperGoesOn start.stock.keeper keeper' → ((b : List ℕ) → start.stock.keeper.held ≡ Some b → keeper'.held ≡ Some b)
     → ((old : List ℕ) → start.sink.taken ≡ Some old → sink'.taken ≡ Some (old ++ first_line opening)) → start.sink.faults ≤ sink'.faults
     → Going engine opening start (hand (input start.source (record { bytes = []; count = 0; ended = false })) sink' (stock start.stock.shelf keeper') state) false
-going_none engine laws opening start sink' keeper' state ready room keeper held wrote faults = record {
+going_none engine laws opening start sink' keeper' state ready room begins keeper held wrote faults = record {
   log = record { lines = []; answers = [] };
   ran = ran_none engine.kind laws opening start.stock (stock start.stock.shelf keeper') refl keeper.faults;
   stands = λ tells t from. subst (λ (m : Machine). engine.stands start.stock.shelf state m) (sym (after_none after_line (first opening t))) (ready.stands t from);
   saved = λ tells telling number next_tx t from.
       subst (λ (m : Machine). HoldsOneOf engine.kind (stock start.stock.shelf keeper') m.may_be_saved) (sym (after_none after_line (first opening t)))
       (starts_holds engine.kind start.stock.shelf keeper' opening.bytes t (held opening.bytes telling.held) from);
+  start_holds = λ tells telling number next_tx t from.
+      (opening.bytes, held opening.bytes telling.held, taken_same (size_in engine.kind start.stock.shelf) opening.settings opening.number opening.next_tx (engine.number state) (engine.next_tx state) opening.bytes ready.number ready.next_tx begins);
+  number_is = λ tells t from. ready.number ∙ sym (ap (λ (m : Machine). m.number) (after_none after_line (first opening t)));
+  begun = omega (arith, ready.next_tx);
   taken = ready.taken;
   downs = ready.up ∙ sym (after_none down_after none_down);
   bad_is = refl;
@@ -118,11 +133,8 @@ module _ {S State : Type 0} (engine : Engine S State) (laws : KindLaws engine.ki
   counted_then drawn script left e f = let told = g.read script e in omega (arith, g.counted script told.rest e told.left_is, drawn.counted told.rest left told.left_is f)
 
   -- as long as the image's numbers leave room for the script's, an image has room for the numbers
-  pub number_fits : opening.number ≤ 2 ^ 61 → engine.number now.state ≤ 2 ^ 62
-  number_fits low = omega (arith, g.number, low)
-
-  pub next_tx_fits : opening.next_tx ≤ 2 ^ 61 → engine.next_tx now.state ≤ 2 ^ 62
-  next_tx_fits low = omega (arith, g.next_tx, low)
+  pub room_now : opening.number ≤ 2 ^ 61 → opening.next_tx ≤ 2 ^ 61 → HasRoom engine now.state
+  room_now low few = record { number = omega (arith, g.number, low); next_tx = omega (arith, g.next_tx, few) }
 
   -- a line was answered
   pub going_on : (more : Bool) → PassIs engine now next (Ok (Some more)) → Going engine opening start next (bad || more)
@@ -139,7 +151,16 @@ module _ {S State : Type 0} (engine : Engine S State) (laws : KindLaws engine.ki
             subst (λ (m : Machine). HoldsOneOf engine.kind next.stock m.may_be_saved)
             (last_more engine laws opening start.stock g.log t g.ran g.settings_is g.downs g.full g.stands line a is pass.follows_on pass.keeper.faults tree)
             ((lawful_more engine laws opening start.stock g.log t g.ran g.settings_is g.downs g.full g.stands line a is pass.follows_on pass.keeper.faults tells tree from).saved
-            (g.keeper.tells ∙ telling.tells) (number_fits number) (next_tx_fits next_tx) (g.saved tells telling number next_tx tree from));
+            (g.keeper.tells ∙ telling.tells) (room_now number next_tx) (g.saved tells telling number next_tx tree from));
+        start_holds = λ tells telling number next_tx tree from.
+            subst (λ (s : Settings). HoldsStart engine.kind next.stock s (engine.number next.state) (engine.next_tx next.state)) g.settings_is
+            ((lawful_more engine laws opening start.stock g.log t g.ran g.settings_is g.downs g.full g.stands line a is pass.follows_on pass.keeper.faults tells tree from).taken
+            (g.keeper.tells ∙ telling.tells) (room_now number next_tx)
+            (subst (λ (s : Settings). HoldsStart engine.kind now.stock s (engine.number now.state) (engine.next_tx now.state)) (sym g.settings_is) (g.start_holds tells telling number next_tx tree from)));
+        number_is = λ tells tree from.
+            (lawful_more engine laws opening start.stock g.log t g.ran g.settings_is g.downs g.full g.stands line a is pass.follows_on pass.keeper.faults tells tree from).number
+            ∙ ap (λ (m : Machine). m.number) (last_more engine laws opening start.stock g.log t g.ran g.settings_is g.downs g.full g.stands line a is pass.follows_on pass.keeper.faults tree);
+        begun = omega (arith, is.goes_on.next_tx, g.begun, length-append g.log.lines (line ∷ []));
         taken = g.taken;
         downs = downs_more engine laws opening start.stock g.log t g.ran g.settings_is g.downs g.full g.stands line a is pass.follows_on pass.keeper.faults;
         bad_is = ap has_bad (asked-longer g.log line a) ∙ has_bad-push (asked g.log) (line_of line) ∙ ap (λ (b : Bool). b || is_err (line_of line)) g.bad_is

@@ -22,7 +22,7 @@ use Rattle.wtf_serve.specs.Engines.{Step, step, Saves, Keeps}
 use Rattle.wtf_serve.specs.Stocks.{stock, KeeperGoesOn, HandsOver, HoldsSome}
 
 -- an image has bytes
-text_some : (rows : ImageRows) (bytes : List ℕ) → HasText rows bytes → bytes ≡ [] → ⊥
+pub text_some : (rows : ImageRows) (bytes : List ℕ) → HasText rows bytes → bytes ≡ [] → ⊥
 unfolding image_text
 text_some rows bytes text none = let never : image_text rows ≡ [] = sym text.text ∙ none in cc
 

@@ -17,3 +17,4 @@ pub mod Refusing
 pub mod Headline
 pub mod Bared
 pub mod Generating
+pub mod Continuing

@@ -41,7 +41,7 @@ run_status kind handed settings status old new (inl unopened) = (unopened_status
 run_status kind handed settings status old new (inr opened) = served_status status opened.served.statuses
 
 script_status : {S : Type 0} (kind : StoreKind S) (handed : List (List ℕ) → Type 0) (settings : Settings) (s : Script) (status : ℕ) (old new : Devices S)
-    → IsScriptRun kind handed settings s status old new → status ≤ 9
+    → IsScriptRun kind handed settings s status (old, new) → status ≤ 9
 script_status kind handed settings script.Read status old new run = run_status kind handed settings status old new run
 script_status kind handed settings (script.Generated recipe) status old new run =
     run_status kind handed settings status (with_script recipe old) (with_text run.left run.faults run.text new) run.run
@@ -74,7 +74,7 @@ not_few : (settings : Settings) (bytes : List ℕ) (stores : ℕ) → bytes ≢ 
 not_few settings [] stores some servers few = some refl
 not_few settings (b ∷ bytes) stores some servers few = omega (arith, servers few.rows few.text few.good, few.few)
 
-run_refused : {S : Type 0} (kind : StoreKind S) (handed : List (List ℕ) → Type 0) (settings : Settings) (status : ℕ) (old new : Devices S) (held : List ℕ)
+pub run_refused : {S : Type 0} (kind : StoreKind S) (handed : List (List ℕ) → Type 0) (settings : Settings) (status : ℕ) (old new : Devices S) (held : List ℕ)
     → old.stock.keeper.held ≡ Some held → IsRun kind handed settings status old new
     → (status ≡ 2) ↔ ((status ≢ 7) × (status ≢ 8) × IsFew (numbers settings) held (length old.stock.shelf))
 run_refused kind handed settings status old new held held_is (inl unopened) = (
@@ -98,7 +98,7 @@ run_refused kind handed settings status old new held held_is (inr opened) =
     )
 
 script_refused : {S : Type 0} (kind : StoreKind S) (handed : List (List ℕ) → Type 0) (settings : Settings) (s : Script) (status : ℕ) (old new : Devices S) (held : List ℕ)
-    → old.stock.keeper.held ≡ Some held → IsScriptRun kind handed settings s status old new
+    → old.stock.keeper.held ≡ Some held → IsScriptRun kind handed settings s status (old, new)
     → (status ≡ 2) ↔ ((status ≢ 7) × (status ≢ 8) × IsFew (numbers settings) held (length old.stock.shelf))
 script_refused kind handed settings script.Read status old new held held_is run = run_refused kind handed settings status old new held held_is run
 script_refused kind handed settings (script.Generated recipe) status old new held held_is run =
@@ -119,7 +119,7 @@ program_refused kind handed (Some asked) status old new held held_is (inr run) =
 -- ---- a refused image
 
 -- an image that is refused is not taken
-refused_taken : (size : ℕ → ℕ → ℕ) (stores : ℕ) (bytes : List ℕ) (why : LoadError) → IsRefusedBy size stores bytes why → IsTakenOver size bytes → ⊥
+pub refused_taken : (size : ℕ → ℕ → ℕ) (stores : ℕ) (bytes : List ℕ) (why : LoadError) → IsRefusedBy size stores bytes why → IsTakenOver size bytes → ⊥
 refused_taken size stores [] why refused taken = refused.some refl
 refused_taken size stores (b ∷ bytes) error.NotAnImage refused (x, taken) = refused.refusal x taken.text
 refused_taken size stores (b ∷ bytes) error.BadSettings refused (x, taken) =
@@ -150,7 +150,7 @@ opened_refused kind handed settings status old new opening false lines why opens
   | inr rest ↦ rest
 ]
 
-run_image : {S : Type 0} (kind : StoreKind S) (handed : List (List ℕ) → Type 0) (settings : Settings) (status : ℕ) (old new : Devices S) (held : List ℕ)
+pub run_image : {S : Type 0} (kind : StoreKind S) (handed : List (List ℕ) → Type 0) (settings : Settings) (status : ℕ) (old new : Devices S) (held : List ℕ)
     → old.stock.keeper.held ≡ Some held → IsRun kind handed settings status old new
     → (status ≡ 6 → IsRefusedImage (size_in kind old.stock.shelf) (length old.stock.shelf) held)
     × (IsRefusedImage (size_in kind old.stock.shelf) (length old.stock.shelf) held → status ≢ 4 → status ≢ 7 → status ≢ 8 → status ≡ 6)
@@ -185,7 +185,7 @@ run_image kind handed settings status old new held held_is (inr opened) = (
     not_6 n (inr (inr (inr (inr (inr d))))) e = omega (arith, d, e)
 
 script_image : {S : Type 0} (kind : StoreKind S) (handed : List (List ℕ) → Type 0) (settings : Settings) (s : Script) (status : ℕ) (old new : Devices S) (held : List ℕ)
-    → old.stock.keeper.held ≡ Some held → IsScriptRun kind handed settings s status old new
+    → old.stock.keeper.held ≡ Some held → IsScriptRun kind handed settings s status (old, new)
     → (status ≡ 6 → IsRefusedImage (size_in kind old.stock.shelf) (length old.stock.shelf) held)
     × (IsRefusedImage (size_in kind old.stock.shelf) (length old.stock.shelf) held → status ≢ 4 → status ≢ 7 → status ≢ 8 → status ≡ 6)
 script_image kind handed settings script.Read status old new held held_is run = run_image kind handed settings status old new held held_is run

@@ -5,11 +5,11 @@ use Rattle.std.specs.Bool.{MatchBool}
 use Rattle.std.proofs.lemmas.Bool.{le-ltb}
 use Rattle.std.proofs.lemmas.List.{append-nil}
 use Rattle.std.proofs.lemmas.List.Elements.{All-append, All-nil, All-cons}
-use Rattle.wtf_script.specs.declared.limits.TheConstants.{SCRIPT_BYTES}
-use Rattle.wtf_script.specs.ScriptLines.{lines_of, ended_of, fed, HasNoFeed}
+use Rattle.wtf_script.specs.declared.limits.TheConstants.{CHUNK_BYTES, SCRIPT_BYTES}
+use Rattle.wtf_script.specs.ScriptLines.{line_feed, lines_of, ended_of, fed, HasNoFeed}
 use Rattle.wtf_script.specs.Reading.{Held, ReadsLine, ReadsEnd, ReadsFault, ReadsTooMuch}
 use Rattle.wtf_serve.specs.Scripts.{IsWholeStatus}
-use Rattle.wtf_serve.specs.Traces.{HasRead}
+use Rattle.wtf_serve.specs.Traces.{CameNoMore, HasRead}
 use Rattle.wtf_script.proofs.LinesOf.{lines_of-fed, ended_of-fed, fed-push, lines_of-plain, ended_of-plain}
 
 -- the lines came, and the reader holds the next bytes; when it has seen the end, these were all
@@ -18,12 +18,13 @@ pub record Told (script : List ℕ) (left : Option (List ℕ)) (held : Held) (li
   pub left_is : left ≡ Some rest
   pub going : held.ended ≡ false → (script ≡ fed lines ++ (held.bytes ++ rest)) × All HasNoFeed lines
   pub over : held.ended ≡ true → (lines_of script ≡ lines) × (held.bytes ++ rest ≡ [])
+  pub most : length script ≤ length (fed lines) + length (held.bytes ++ rest)
 
 pub some_same : (a b : List ℕ) → Some a ≡ Some b → a ≡ b
 some_same a b e = cc
 
 pub told_none : (script : List ℕ) (left : Option (List ℕ)) → left ≡ Some script → Told script left (record { bytes = []; count = 0; ended = false }) []
-told_none script left is = record { rest = script; left_is = is; going = λ e. (refl, All-nil HasNoFeed); over = λ e. cc }
+told_none script left is = record { rest = script; left_is = is; going = λ e. (refl, All-nil HasNoFeed); over = λ e. cc; most = omega arith }
 
 -- the first lines of the script
 front_at : (script : List ℕ) (left : Option (List ℕ)) (held : Held) (lines : List (List ℕ)) (b : Bool) → held.ended ≡ b → Told script left held lines → (more : List (List ℕ)) × (lines_of script ≡ lines ++ more)
@@ -42,6 +43,9 @@ long_enough (x ∷ xs) ys b e = cc
 not_empty : (xs : List ℕ) → 0 < length xs → xs ≡ [] → ⊥
 not_empty [] h e = absurd (omega (arith, h))
 not_empty (x ∷ xs) h e = cc
+
+fed_more : (lines : List (List ℕ)) (line : List ℕ) → length (fed (lines ++ line ∷ [])) ≡ length (fed lines) + (length line + 1)
+fed_more lines line = omega (arith, ap length (fed-push lines line), length-append (fed lines ++ line) (line_feed ∷ []), length-append (fed lines) line)
 
 more_at : (script : List ℕ) (left left' : Option (List ℕ)) (held held' : Held) (lines : List (List ℕ)) (line : List ℕ) (b : Bool) → held.ended ≡ b
     → (told : Told script left held lines) → ReadsLine line held told.rest held' left' → Told script left' held' (lines ++ line ∷ [])
@@ -62,6 +66,7 @@ more_at script left left' held held' lines line false is told (next, next_is, fi
           All-append HasNoFeed lines (line ∷ []) was.1 (All-cons HasNoFeed line [] first.plain (All-nil HasNoFeed)),
         );
         over = λ o. absurd (cc);
+        most = omega (arith, ap length was.0, ap length e.0, length-append (fed lines) (held.bytes ++ told.rest), length-append line (10 ∷ (held'.bytes ++ next)), fed_more lines line);
       }
       | inr e ↦ record {
         rest = next;
@@ -71,6 +76,7 @@ more_at script left left' held held' lines line false is told (next, next_is, fi
           ap lines_of (was.0 ∙ ap (λ (x : List ℕ). fed lines ++ x) e.0) ∙ lines_of-fed lines line was.1 ∙ ap (λ (x : List (List ℕ)). lines ++ x) (lines_of-plain line first.plain e.1),
           e.2,
         );
+        most = omega (arith, ap length was.0, ap length e.0, length-append (fed lines) (held.bytes ++ told.rest), fed_more lines line);
       }
     ]
 
@@ -99,6 +105,7 @@ told_end script left left' held held' lines told came status ends = record {
   front = told_front script left held lines told;
   whole = λ _. end_at script left left' held held' lines held.ended refl told (came told.rest told.left_is);
   fault = λ e. absurd (omega (arith, e, ends));
+  unwritten = λ e. absurd (omega (arith, e, ends));
   too_much = λ e. absurd (omega (arith, e, ends));
 }
 
@@ -124,6 +131,7 @@ told_fault script left left' held held' lines unended told reads =
       front = told_front script left held lines told;
       whole = λ e. absurd (omega (arith, e));
       fault = λ _. (fed lines ++ (held.bytes ++ came), tail, came_of script lines held.bytes told.rest came tail was.0 rest_is, left_is, ended_came lines (held.bytes ++ came) was.1 plain);
+      unwritten = λ e. absurd (omega (arith, e));
       too_much = λ e. absurd (omega (arith, e));
     }
 
@@ -148,6 +156,7 @@ told_much script left left' held held' lines unended few told reads counted =
       front = told_front script left held lines told;
       whole = λ e. absurd (omega (arith, e));
       fault = λ e. absurd (omega (arith, e));
+      unwritten = λ e. absurd (omega (arith, e));
       too_much = λ _. (
         fed lines ++ (held.bytes ++ came),
         b,
@@ -159,11 +168,27 @@ told_much script left left' held held' lines unended few told reads counted =
       );
     }
 
+-- no more came than these lines, and what the reader holds
+no_more_at : (script : List ℕ) (left : Option (List ℕ)) (held : Held) (lines : List (List ℕ)) (b : Bool) → held.ended ≡ b → length held.bytes ≤ CHUNK_BYTES → Told script left held lines → CameNoMore script left lines
+no_more_at script left held lines true is few told =
+    let none : held.bytes ++ told.rest ≡ [] = (told.over is).1 in
+    let rest : told.rest ≡ [] = nil_right held.bytes told.rest none in
+    (script, [], sym (append-nil script), told.left_is ∙ ap (λ (x : List ℕ). Some x) rest, omega (arith, told.most, ap length none))
+no_more_at script left held lines false is few told = (
+  fed lines ++ held.bytes,
+  told.rest,
+  (told.going is).0 ∙ sym (append_assoc (fed lines) held.bytes told.rest),
+  told.left_is,
+  omega (arith, few, length-append (fed lines) held.bytes),
+)
+
 -- the run ends after these lines for another reason
-pub told_other : (script : List ℕ) (left left' : Option (List ℕ)) (held : Held) (lines : List (List ℕ)) (status : ℕ) → (IsWholeStatus status → ⊥) → status ≢ 3 → status ≢ 9 → Told script left held lines → HasRead script left' status lines
-told_other script left left' held lines status not_0 not_3 not_9 told = record {
+pub told_other : (script : List ℕ) (left left' : Option (List ℕ)) (held : Held) (lines : List (List ℕ)) (status : ℕ) → (IsWholeStatus status → ⊥) → status ≢ 3 → status ≢ 9
+    → (status ≡ 4 → (left' ≡ left) × (length held.bytes ≤ CHUNK_BYTES)) → Told script left held lines → HasRead script left' status lines
+told_other script left left' held lines status not_0 not_3 not_9 few told = record {
   front = told_front script left held lines told;
   whole = λ e. absurd (not_0 e);
   fault = λ e. absurd (not_3 e);
+  unwritten = λ e. let (same, least) = few e in subst (λ (x : Option (List ℕ)). CameNoMore script x lines) (sym same) (no_more_at script left held lines held.ended refl least told);
   too_much = λ e. absurd (not_9 e);
 }

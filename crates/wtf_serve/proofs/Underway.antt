@@ -1,5 +1,5 @@
 -- A run that was opened, on its way.
-use Rattle.std.proofs.Common.{◌≡◌, ◌<◌, ◌≤◌, ◌^◌, ◌++◌, ℕ, Bool, true, false, List, [], ◌∷◌, Some, None, Ok, Err, sym, ◌∙◌, arith, ap, inl, inr}
+use Rattle.std.proofs.Common.{◌≡◌, ◌<◌, ◌≤◌, ◌^◌, ◌++◌, ℕ, Bool, true, false, List, [], ◌∷◌, Some, None, Ok, Err, refl, sym, ◌∙◌, subst, arith, ap, inl, inr}
 use Rattle.std.specs.Prelude.{◌||◌}
 use Rattle.wtf_base.specs.declared.settings.Settings.{Settings}
 use Rattle.wtf_dev.specs.Counts.{Rose}
@@ -7,13 +7,17 @@ use Rattle.wtf_dev.specs.Each.{EachFollows}
 use Rattle.wtf_dev.specs.Keep.{KeeperView}
 use Rattle.wtf_dev.specs.Streams.{SinkView}
 use Rattle.wtf_dev.specs.Store.{KindLaws}
+use Rattle.wtf_image.specs.Loading.{IsTaken}
+use Rattle.wtf_image.specs.Rows.{ImageRows}
+use Rattle.wtf_image.specs.Rules.{size_in}
+use Rattle.wtf_core.specs.Pictured.{IsTakenFor}
 use Rattle.wtf_serve.specs.declared.service.Stop.{Stop}
 use Rattle.wtf_serve.specs.declared.service.Stop.TheVariants as stop
 use Rattle.wtf_serve.specs.Beginnings.{IsOpenedFrom, Closes}
 use Rattle.wtf_serve.specs.Endings.{Devices, IsKept, Served, stop_status}
 use Rattle.wtf_serve.specs.Engines.{Engine, Step, step}
 use Rattle.wtf_serve.specs.Logs.{first_line}
-use Rattle.wtf_serve.specs.Openings.{Opening, Opens}
+use Rattle.wtf_serve.specs.Openings.{Opening, Opens, IsTakenOver}
 use Rattle.wtf_serve.specs.Passes.{Hand, hand, input, PassIs}
 use Rattle.wtf_serve.specs.Scripts.{end_status, settings_line}
 use Rattle.wtf_serve.specs.Stocks.{Stock, stock, KeeperGoesOn}
@@ -21,6 +25,7 @@ use Rattle.wtf_serve.specs.Turns.{WroteFront}
 use Rattle.wtf_serve.specs.Unopened.{IsRun}
 use Rattle.wtf_serve.proofs.Finishing.{finish_end, finish_stop}
 use Rattle.wtf_serve.proofs.Going.{Going, going_none, going_on}
+use Rattle.wtf_serve.proofs.Starting.{same_rows}
 use Rattle.wtf_serve.proofs.Unstarted.{unwritten}
 
 -- a run so far, with what opened it
@@ -49,6 +54,17 @@ room_of : (asked : Settings) (bytes : List ℕ) (o : Opening) → Opens asked by
 room_of asked [] o is = (omega (arith, ap (λ (x : Opening). x.number) is), omega (arith, ap (λ (x : Opening). x.next_tx) is))
 room_of asked (b ∷ bytes) o is = (omega (arith, is.number, is.good.installs), omega (arith, is.next_tx, is.good.next_tx))
 
+-- what opens a run is no byte, or an image that is taken, with the opening's settings and numbers
+begins_of : (size : ℕ → ℕ → ℕ) (asked : Settings) (bytes : List ℕ) (o : Opening) → Opens asked bytes o → IsTakenOver size bytes → IsTakenFor size o.settings o.number o.next_tx bytes
+begins_of size asked [] o is taken = inl refl
+begins_of size asked (b ∷ bytes) o is (rows, taken) = inr (record {
+  rows = is.rows;
+  taken = subst (λ (x : ImageRows). IsTaken size (b ∷ bytes) x) (same_rows rows is.rows (b ∷ bytes) taken.text is.text) taken;
+  settings_are = is.settings;
+  installs = omega (arith, is.number);
+  next_tx = omega (arith, is.next_tx);
+})
+
 -- the first line, by the state
 line_of_first : {S State : Type 0} (engine : Engine S State) (o : Opening) (state : State) → engine.settings state ≡ o.settings → engine.number state ≡ o.number
     → settings_line (engine.settings state) (engine.number state) ≡ first_line o
@@ -67,7 +83,8 @@ module _ {S State : Type 0} (engine : Engine S State) (laws : KindLaws engine.ki
       → Underway engine asked start (hand (input start.source (record { bytes = []; count = 0; ended = false })) sink' (stock start.stock.shelf keeper') state) false
   underway_first wrote =
       underway engine asked o.opening start (hand (input start.source (record { bytes = []; count = 0; ended = false })) sink' (stock start.stock.shelf keeper') state) false o.opens o.given
-      (going_none engine laws o.opening start sink' keeper' state o.ready (room_of asked o.opening.bytes o.opening o.opens) keeper kept.held
+      (going_none engine laws o.opening start sink' keeper' state o.ready (room_of asked o.opening.bytes o.opening o.opens)
+      (begins_of (size_in engine.kind start.stock.shelf) asked o.opening.bytes o.opening o.opens o.ready.taken) keeper kept.held
       (λ old e. wrote old e ∙ ap (λ (x : List ℕ). Some (old ++ x)) first_is) faults)
 
   pub unwritten_first : ((old : List ℕ) → start.sink.taken ≡ Some old → WroteFront old text sink'.taken) → Rose start.sink.faults sink'.faults

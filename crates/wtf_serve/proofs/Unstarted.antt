@@ -41,7 +41,7 @@ module _ {S : Type 0} (kind : StoreKind S) (laws : KindLaws kind) (handed : List
         unstarted = λ _. record { status_is = which; none = refl; source_is = refl; shelf_is = refl; kept = kept; sink_is = unwritten };
         sound = λ is. elim is [ inl started ↦ absurd (cc) | inr four ↦ taken four ];
         read = λ script e. told_other script start.source.rest start.source.rest (record { bytes = []; count = 0; ended = false }) [] status
-            (λ d. omega (arith, d, which)) (λ d. omega (arith, d, which)) (λ d. omega (arith, d, which)) (told_none script start.source.rest e);
+            (λ d. omega (arith, d, which)) (λ d. omega (arith, d, which)) (λ d. omega (arith, d, which)) (λ _. (refl, omega arith)) (told_none script start.source.rest e);
         wrote = λ old e. record {
           whole = λ is. absurd (cc);
           cut = λ is. absurd (cc);
@@ -71,6 +71,7 @@ module _ {S : Type 0} (kind : StoreKind S) (laws : KindLaws kind) (handed : List
               (λ d. absurd (omega (arith, d, which))) cause (λ d. absurd (omega (arith, d, which))) still.source_is still.sink_is,
         );
         left = λ is. absurd (cc);
+        next = λ is. absurd (cc);
       }
 
   -- for want of memory

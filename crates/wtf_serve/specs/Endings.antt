@@ -19,7 +19,7 @@ use Rattle.wtf_model.specs.Lines.{MayLine, after_line, events_of, answers_to}
 use Rattle.wtf_model.specs.Servers.{none_down, AlongDowns, is_device_fault, is_device_fault_of_run, count_along, IsAllUp}
 use Rattle.wtf_meta.specs.Contents.{Told}
 use Rattle.wtf_image.specs.Rules.{size_in}
-use Rattle.wtf_core.specs.Pictured.{IsImageOfTree, IsImageOfOne}
+use Rattle.wtf_core.specs.Pictured.{IsImageOfTree, IsImageOfOne, IsImageWith, IsTakenFor}
 use Rattle.wtf_script.specs.declared.limits.TheConstants.{SCRIPT_BYTES}
 use Rattle.wtf_script.specs.ScriptLines.{lines_of}
 use Rattle.wtf_serve.specs.declared.service.Stop.{Stop}
@@ -101,6 +101,29 @@ pub record IsLeft (told : Told) (m : Machine) (script : Option (List ℕ)) (line
   pub early : IsEarlyStatus status → IsImageOfOne told bytes m.may_be_saved
   pub memory : status ≡ 7 → IsImageOfOne told bytes m.may_be_saved ⊎ IsOfNext told m script lines bytes
 
+-- the image of a run: of this number of installs, under the run's settings, and of no more transactions than lines began after
+-- the opening
+abbrev pub IsRunImage : (ℕ → ℕ → ℕ) → Opening → ℕ → List (List ℕ) → List ℕ → Type 0
+IsRunImage size opening number lines bytes =
+    (next : ℕ) × (next ≤ opening.next_tx + length lines) × IsImageWith size opening.settings number next bytes
+
+-- The next run can begin with the bytes that a run leaves on the keeper: they break no rule of images over the stores as they
+-- are left, whose files have these sizes. Where the closing save was answered they are the image of the number of installs behind
+-- all lines; else they are no byte, or an image of that number or of an earlier one. Status 7 may come behind one line more.
+pub record IsNext (size : ℕ → ℕ → ℕ) (opening : Opening) (m : Machine) (lines : List (List ℕ)) (status : ℕ) (bytes : List ℕ)
+    : Type 0 where
+  pub saved : IsEndStatus status → IsRunImage size opening m.number lines bytes
+  pub taken : status ≢ 7 → IsTakenFor size opening.settings m.number (opening.next_tx + length lines) bytes
+  pub memory : status ≡ 7 → IsTakenFor size opening.settings (m.number + 1) (opening.next_tx + length lines + 1) bytes
+
+-- Where stores and keeper tell, and the numbers of the image leave room for the script's: P holds of the tree that the run
+-- starts from, and of the bytes that it leaves on the keeper.
+abbrev pub LeavesSuch : {S : Type 0} → StoreKind S → Opening → Devices S → Devices S → (Tree → List ℕ → Type 0) → Type 0
+LeavesSuch kind opening old new P =
+    TellsAll kind old.stock.shelf → IsTelling old.stock.keeper opening.bytes → opening.number ≤ 2 ^ 61 → opening.next_tx ≤ 2 ^ 61
+    → (t : Tree) → StartsFrom (byte_at kind old.stock.shelf) opening.bytes t
+    → (bytes : List ℕ) → new.stock.keeper.held ≡ Some bytes → P t bytes
+
 -- A run that was opened, with the devices before and after it; `handed` says which images were handed to the keeper
 pub record Served {S : Type 0} (kind : StoreKind S) (handed : List (List ℕ) → Type 0) (opening : Opening) (status : ℕ)
     (old new : Devices S) : Type 0 where
@@ -157,20 +180,21 @@ pub record Served {S : Type 0} (kind : StoreKind S) (handed : List (List ℕ) �
   pub complete : opening.settings.servers ≤ length old.stock.shelf → AreStill kind old new
       → AlongDowns IsAllUp none_down (asked log) log.answers → ((k : ℕ) → last_downs log k ≡ false)
       → (fault_count log.answers ≡ 0) × (IsEndStatus status ⊎ (status ≡ 7) ⊎ (status ≡ 9))
-  -- Where stores and keeper tell, and the numbers of the image leave room for the script's, the run leaves on the keeper the
-  -- image of what the lines made of the tree that it started from.
-  pub left : started ≡ true → TellsAll kind old.stock.shelf → IsTelling old.stock.keeper opening.bytes
-      → opening.number ≤ 2 ^ 61 → opening.next_tx ≤ 2 ^ 61
-      → (t : Tree) → StartsFrom (byte_at kind old.stock.shelf) opening.bytes t
-      → (bytes : List ℕ) → new.stock.keeper.held ≡ Some bytes
-      → IsLeft (byte_at kind new.stock.shelf) (last opening t log) old.source.rest log.lines status bytes
+  -- the run leaves on the keeper the image of what the lines made of the tree that it started from
+  pub left : started ≡ true → LeavesSuch kind opening old new
+      (λ t bytes. IsLeft (byte_at kind new.stock.shelf) (last opening t log) old.source.rest log.lines status bytes)
+  -- and the next run can begin with that
+  pub next : started ≡ true → LeavesSuch kind opening old new
+      (λ t bytes. IsNext (size_in kind new.stock.shelf) opening (last opening t log) log.lines status bytes)
 
 -- The headline of a run that read its script to its end, over devices that tell what they hold: each line is answered, the
 -- machine accepts the answers from the tree that the run starts with, they are what is written, behind the first line, and
--- the keeper holds the image of the tree behind all of them.
-pub record IsTold (told : Told) (opening : Opening) (t : Tree) (script written kept : List ℕ) : Type 0 where
+-- the keeper holds the image of the tree behind all of them, with which the next run can begin over the stores as they are left,
+-- whose files have these sizes.
+pub record IsTold (told : Told) (size : ℕ → ℕ → ℕ) (opening : Opening) (t : Tree) (script written kept : List ℕ) : Type 0 where
   pub log : Log
   pub lines_are : log.lines ≡ lines_of script
   pub accepts : Accepts (first opening t) (events_of (asked log)) (answers_to (asked log) log.answers)
   pub wrote : written ≡ output opening log.answers
   pub saved : IsImageOfTree told kept (last opening t log).now
+  pub next : IsRunImage size opening (last opening t log).number log.lines kept

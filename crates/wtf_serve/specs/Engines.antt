@@ -1,5 +1,5 @@
 -- What a run is given of the state that answers its lines, and what answering one line is.
-use Rattle.std.specs.Prelude.{◌≡◌, ◌+◌, ◌≤◌, ◌^◌, ℕ, Bool, true, false, List, Ok, Err}
+use Rattle.std.specs.Prelude.{◌≡◌, ◌+◌, ◌≤◌, ◌^◌, ℕ, Bool, true, false, List, Ok, Err, ⊤}
 use Rattle.std.specs.Bool.{MatchBool}
 use Rattle.wtf_base.specs.declared.settings.Settings.{Settings}
 use Rattle.wtf_dev.specs.Counts.{Rose}
@@ -15,7 +15,7 @@ use Rattle.wtf_model.specs.Lines.{Line, MayLine, after_line}
 use Rattle.wtf_model.specs.Servers.{down_after}
 use Rattle.wtf_core.specs.Outcomes.{AddsBytes, SaveFault, HasCause}
 use Rattle.wtf_serve.specs.Answering.{IsNotBuiltExactly, line_data}
-use Rattle.wtf_serve.specs.Stocks.{Stock, IsSaveFault, HoldsOneOf, HoldsSome}
+use Rattle.wtf_serve.specs.Stocks.{Stock, IsSaveFault, HoldsOneOf, HoldsSome, HoldsStart, HoldsJust}
 
 -- What a run is given of the state that answers its lines: the kind of its stores; the settings, which servers are down,
 -- how many commits there were and the number of the next transaction; when it is sound over stores, and when it stands
@@ -45,28 +45,55 @@ step before after old new = record { before = before; after = after; old = old; 
 abbrev pub span_of : {S State : Type 0} → Engine S State → Step S State → Span S
 span_of engine t = span (engine.down t.old) t.before.shelf t.after.shelf
 
+abbrev pub is_save_event : Event → Bool
+is_save_event event.Save = true
+is_save_event e = false
+
+abbrev pub is_save : Line → Bool
+is_save (Ok e) = is_save_event e
+is_save (Err bad) = false
+
 -- What answering a line is, in five parts of which none needs another:
 
 -- the state goes on: it is sound, under the same settings, and which servers are down follows the lines `down` and `up`;
--- `notbuilt` comes exactly at the verbs that are left to a later version
+-- `notbuilt` comes exactly at the verbs that are left to a later version; a save begins no transaction
 pub record GoesOn {S State : Type 0} (engine : Engine S State) (t : Step S State) (line : Line) (a : Answer) : Type 0 where
   pub sound : engine.sound t.after.shelf t.new
   pub settings : engine.settings t.new ≡ engine.settings t.old
   pub down : engine.down t.new ≡ down_after (engine.down t.old) line a
   pub number : engine.number t.new ≤ engine.number t.old + 1
   pub next_tx : engine.next_tx t.new ≤ engine.next_tx t.old + 1
+  pub same_next_tx : is_save line ≡ true → engine.next_tx t.new ≡ engine.next_tx t.old
   pub full : engine.full t.old → engine.full t.new
   pub exact : IsNotBuiltExactly line a
 
--- the state stood for a machine: the machine may give that answer, and the state stands for its next; and a keeper that tells
--- what it is handed, and held the image of a tree that the machine may have saved, does so behind the line, as long as an image
--- has room for the numbers
+-- what a line that was answered `saved` leaves on a keeper that tells: the image of the state before it, with its settings and
+-- its numbers
+abbrev pub Leaves : {S State : Type 0} → Engine S State → Step S State → Line → Answer → Type 0
+Leaves engine t (Ok event.Save) (answer.Saved n) =
+    HoldsJust engine.kind t.after (engine.settings t.old) (engine.number t.old) (engine.next_tx t.old)
+Leaves engine t line a = ⊤
+
+-- an image has room for the numbers
+pub record HasRoom {S State : Type 0} (engine : Engine S State) (state : State) : Type 0 where
+  pub number : engine.number state ≤ 2 ^ 62
+  pub next_tx : engine.next_tx state ≤ 2 ^ 62
+
+-- The state stood for a machine: the machine may give that answer, the state stands for its next, and has its number. As long as
+-- an image has room for the numbers, a keeper that tells what it is handed, and held the image of a tree that the machine may
+-- have saved, does so behind the line; one with which a run can begin, it holds on to such a one; and after `saved` that is the
+-- image of the state.
 pub record IsLawful {S State : Type 0} (engine : Engine S State) (t : Step S State) (m : Machine) (line : Line) (a : Answer)
     : Type 0 where
   pub stands : engine.stands t.after.shelf t.new (after_line m line a)
   pub may : MayLine m line a
-  pub saved : t.before.keeper.tells ≡ true → engine.number t.old ≤ 2 ^ 62 → engine.next_tx t.old ≤ 2 ^ 62
+  pub number : engine.number t.new ≡ (after_line m line a).number
+  pub saved : t.before.keeper.tells ≡ true → HasRoom engine t.old
       → HoldsOneOf engine.kind t.before m.may_be_saved → HoldsOneOf engine.kind t.after (after_line m line a).may_be_saved
+  pub taken : t.before.keeper.tells ≡ true → HasRoom engine t.old
+      → HoldsStart engine.kind t.before (engine.settings t.old) (engine.number t.old) (engine.next_tx t.old)
+      → HoldsStart engine.kind t.after (engine.settings t.old) (engine.number t.new) (engine.next_tx t.new)
+  pub leaves : t.before.keeper.tells ≡ true → HasRoom engine t.old → Leaves engine t line a
 
 -- the same of each machine that the state stands for, where the stores tell their content
 abbrev pub Obeys : {S State : Type 0} → Engine S State → Step S State → Line → Answer → Type 0
@@ -95,14 +122,6 @@ Saves engine t (answer.Saved n) = HoldsSome t.before.keeper t.after.keeper
 Saves engine t answer.FaultSave =
     IsSaveFault engine.kind (span_of engine t) (engine.settings t.old).servers t.before.keeper t.after.keeper
 Saves engine t a = ⊥
-
-abbrev pub is_save_event : Event → Bool
-is_save_event event.Save = true
-is_save_event e = false
-
-abbrev pub is_save : Line → Bool
-is_save (Ok e) = is_save_event e
-is_save (Err bad) = false
 
 -- a line that is no save leaves the keeper as it was
 abbrev pub Keeps : {S State : Type 0} → Engine S State → Step S State → Line → Answer → Type 0

@@ -58,7 +58,7 @@ pub record IsGeneratedRun {S : Type 0} (kind : StoreKind S) (handed : List (List
 
 -- The headline of a run of a generated script that was answered to its end: that of a script which is read, whose text is
 -- shown by its first line and the summary of the others.
-pub record IsToldOf (told : Told) (opening : Opening) (t : Tree) (recipe : Recipe) (written kept : List ℕ) : Type 0 where
+pub record IsToldOf (told : Told) (size : ℕ → ℕ → ℕ) (opening : Opening) (t : Tree) (recipe : Recipe) (written kept : List ℕ) : Type 0 where
   pub text : List ℕ
-  pub told_is : IsTold told opening t (script_of recipe) text kept
+  pub told_is : IsTold told size opening t (script_of recipe) text kept
   pub wrote : written ≡ shown recipe.lines text

@@ -13,6 +13,7 @@ pub mod Endings
 pub mod Unopened
 pub mod Beginnings
 pub mod Generated
+pub mod Continued
 pub mod Program
 pub use Rattle.wtf_words.specs.Words
 pub use Rattle.wtf_image.specs.Rules

@@ -1,12 +1,12 @@
 -- What reading a line, answering it and writing its answer give.
-use Rattle.std.specs.Prelude.{◌≡◌, ◌≢◌, ◌⊎◌, ◌<◌, ◌≤◌, ◌+◌, ℕ, Bool, true, List, [], Option, Some, None, Result, Ok, Err, is_err}
+use Rattle.std.specs.Prelude.{◌≡◌, ◌≢◌, ◌⊎◌, ◌<◌, ◌≤◌, ◌+◌, ℕ, Bool, true, List, [], length, Option, Some, None, Result, Ok, Err, is_err}
 use Rattle.wtf_dev.specs.Counts.{Rose}
 use Rattle.wtf_dev.specs.Streams.{SourceView, SinkView}
 use Rattle.wtf_dev.specs.Each.{EachFollows}
 use Rattle.wtf_model.specs.Lines.{Line}
 use Rattle.wtf_serve.specs.declared.service.Stop.{Stop}
 use Rattle.wtf_serve.specs.declared.service.Stop.TheVariants as stop
-use Rattle.wtf_script.specs.declared.limits.TheConstants.{SCRIPT_BYTES}
+use Rattle.wtf_script.specs.declared.limits.TheConstants.{CHUNK_BYTES, SCRIPT_BYTES}
 use Rattle.wtf_script.specs.Reading.{Held, ReadsLine, ReadsEnd, ReadsFault, ReadsTooMuch, Counts, Draws, work}
 use Rattle.wtf_serve.specs.Scripts.{line_of}
 use Rattle.wtf_serve.specs.Engines.{Engine, Step}
@@ -62,6 +62,7 @@ IsFormRead result = Unit {0}
 pub record HasDrawn (i i' : Input) : Type 0 where
   pub grows : i.held.count ≤ i'.held.count
   pub most : i'.held.count ≤ SCRIPT_BYTES + 1
+  pub few : length i'.held.bytes ≤ CHUNK_BYTES
   pub given : Draws i.held i'.held i.source i'.source
   pub counted : Counts i.held i'.held i.source i'.source
   pub faults : i.source.faults ≤ i'.source.faults

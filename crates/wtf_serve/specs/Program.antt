@@ -12,17 +12,17 @@ use Rattle.wtf_serve.specs.Endings.{Devices}
 use Rattle.wtf_serve.specs.Generated.{IsGeneratedRun}
 use Rattle.wtf_serve.specs.Unopened.{IsRun}
 
--- a whole run of a script, by where that comes from
-abbrev pub IsScriptRun : {S : Type 0} → StoreKind S → (List (List ℕ) → Type 0) → Settings → Script → ℕ → Devices S → Devices S → Type 0
-IsScriptRun kind handed settings script.Read status old new = IsRun kind handed settings status old new
-IsScriptRun kind handed settings (script.Generated recipe) status old new = IsGeneratedRun kind handed settings recipe status old new
+-- a whole run of a script, by where that comes from, over the devices before and after it
+abbrev pub IsScriptRun : {S : Type 0} → StoreKind S → (List (List ℕ) → Type 0) → Settings → Script → ℕ → Devices S × Devices S → Type 0
+IsScriptRun kind handed settings script.Read status (old, new) = IsRun kind handed settings status old new
+IsScriptRun kind handed settings (script.Generated recipe) status (old, new) = IsGeneratedRun kind handed settings recipe status old new
 
 -- a whole run over the servers and copies, and of the script, that were asked for
 pub record IsRunOf {S : Type 0} (kind : StoreKind S) (handed : List (List ℕ) → Type 0) (asked : Request) (status : ℕ)
     (old new : Devices S) : Type 0 where
   pub settings : Settings
   pub asked_is : numbers settings ≡ asked.numbers
-  pub run : IsScriptRun kind handed settings asked.script status old new
+  pub run : IsScriptRun kind handed settings asked.script status (old, new)
 
 -- no device was touched, and nothing was handed to the keeper
 abbrev pub IsUntouched : {S : Type 0} → (List (List ℕ) → Type 0) → Devices S → Devices S → Type 0

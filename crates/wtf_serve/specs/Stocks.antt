@@ -1,14 +1,16 @@
 -- What a run leaves behind it: the stores, and the keeper of the image.
 use Rattle.std.specs.Prelude.{◌≡◌, ◌⊎◌, ◌<◌, ◌≤◌, ◌+◌, ◌-◌, ◌^◌, ℕ, true, List, [], length, Some, slice_index_or}
+use Rattle.wtf_base.specs.declared.settings.Settings.{Settings}
 use Rattle.wtf_dev.specs.Counts.{Rose}
 use Rattle.wtf_dev.specs.Keep.{KeeperView}
 use Rattle.wtf_dev.specs.Store.{StoreKind}
 use Rattle.wtf_dev.specs.Sums.{all_faults}
 use Rattle.wtf_replica.specs.Bytes.{byte_at}
+use Rattle.wtf_replica.specs.Inside.{size_in}
 use Rattle.wtf_replica.specs.Spans.{Span}
 use Rattle.wtf_model.specs.Tree.{Tree}
 use Rattle.wtf_core.specs.Outcomes.{SomeOut}
-use Rattle.wtf_core.specs.Pictured.{HoldsTree}
+use Rattle.wtf_core.specs.Pictured.{HoldsTree, HoldsTaken, HoldsWith}
 
 -- the stores, and what contracts see of the keeper
 pub record Stock (S : Type 0) : Type 0 where
@@ -44,6 +46,15 @@ pub record IsTelling (k : KeeperView) (bytes : List ℕ) : Type 0 where
 -- the keeper tells what it holds, and that is the image of one of these trees
 abbrev pub HoldsOneOf : {S : Type 0} → StoreKind S → Stock S → List Tree → Type 0
 HoldsOneOf kind s may = HoldsTree s.keeper (byte_at kind s.shelf) may
+
+-- it tells what it holds, and a run can begin with that: no byte, or an image that is taken over the stores, with these settings
+-- and with numbers that are at most these
+abbrev pub HoldsStart : {S : Type 0} → StoreKind S → Stock S → Settings → ℕ → ℕ → Type 0
+HoldsStart kind s settings number next = HoldsTaken s.keeper (size_in kind s.shelf) settings number next
+
+-- or such an image, with just these numbers
+abbrev pub HoldsJust : {S : Type 0} → StoreKind S → Stock S → Settings → ℕ → ℕ → Type 0
+HoldsJust kind s settings number next = HoldsWith s.keeper (size_in kind s.shelf) settings number next
 
 -- a keeper that tells what it is handed holds an image
 abbrev pub HoldsSome : KeeperView → KeeperView → Type 0

@@ -1,12 +1,17 @@
 -- What a run read of its script, and what it wrote, where source and sink tell it.
-use Rattle.std.specs.Prelude.{◌≡◌, ◌≢◌, ℕ, Bool, true, false, List, [], ◌∷◌, ◌++◌, length, Option, Some}
+use Rattle.std.specs.Prelude.{◌≡◌, ◌≢◌, ◌≤◌, ◌+◌, ℕ, Bool, true, false, List, [], ◌∷◌, ◌++◌, length, Option, Some}
 use Rattle.wtf_model.specs.declared.answer.Answer.{Answer}
-use Rattle.wtf_script.specs.declared.limits.TheConstants.{SCRIPT_BYTES}
-use Rattle.wtf_script.specs.ScriptLines.{lines_of, ended_of}
+use Rattle.wtf_script.specs.declared.limits.TheConstants.{CHUNK_BYTES, SCRIPT_BYTES}
+use Rattle.wtf_script.specs.ScriptLines.{lines_of, ended_of, fed}
 use Rattle.wtf_serve.specs.Openings.{Opening}
 use Rattle.wtf_serve.specs.Logs.{first_line, output}
 use Rattle.wtf_serve.specs.Scripts.{IsWholeStatus, line_text}
 use Rattle.wtf_serve.specs.Turns.{WroteFront}
+
+-- so much of the script came as these lines with their line feeds, and one chunk at most
+abbrev pub CameNoMore : List ℕ → Option (List ℕ) → List (List ℕ) → Type 0
+CameNoMore script left lines =
+    (came : List ℕ) × (rest : List ℕ) × (script ≡ came ++ rest) × (left ≡ Some rest) × (length came ≤ length (fed lines) + CHUNK_BYTES)
 
 -- What was read of the script, where the source tells it, by the status that the run ended with
 pub record HasRead (script : List ℕ) (left : Option (List ℕ)) (status : ℕ) (lines : List (List ℕ)) : Type 0 where
@@ -16,6 +21,8 @@ pub record HasRead (script : List ℕ) (left : Option (List ℕ)) (status : ℕ)
   pub whole : IsWholeStatus status → (lines ≡ lines_of script) × (left ≡ Some [])
   -- 3: each line that a line feed ended before the fault
   pub fault : status ≡ 3 → (came : List ℕ) × (rest : List ℕ) × (script ≡ came ++ rest) × (left ≡ Some rest) × (lines ≡ ended_of came)
+  -- 4: with the lines that were answered, their line feeds and at most one chunk more
+  pub unwritten : status ≡ 4 → CameNoMore script left lines
   -- 9: each line that a line feed ended within the limit
   pub too_much : status ≡ 9 → (came : List ℕ) × (b : ℕ) × (rest : List ℕ) × (script ≡ came ++ b ∷ rest) × (left ≡ Some rest) × (length came ≡ SCRIPT_BYTES) × (lines ≡ ended_of came)
 

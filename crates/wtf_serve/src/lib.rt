@@ -2,6 +2,7 @@
 //! save, and the status that it ends with.
 #![tactic(auto)]
 
+pub mod examples;
 mod opening;
 mod program;
 mod service;

@@ -11,12 +11,12 @@ use Rattle.wtf_serve.proofs.program.wtf.Goals as goal
 
 -- a run of the script that the words ask for, with the settings that they ask for
 ran : {S : Type 0} (kind : StoreKind S) (handed : List (List ℕ) → Type 0) (asked : Option Request) (status : ℕ) (old new : Devices S) (a : Asked) (s : Script)
-    → a.script ≡ s → asked ≡ Some (request a) → IsScriptRun kind handed a.settings s status old new → IsProgramRun kind handed asked status old new
+    → a.script ≡ s → asked ≡ Some (request a) → IsScriptRun kind handed a.settings s status (old, new) → IsProgramRun kind handed asked status old new
 ran kind handed asked status old new a s from is run =
     subst (λ (o : Option Request). IsProgramRun kind handed o status old new) (sym is) (inr (record {
       settings = a.settings;
       asked_is = refl;
-      run = subst (λ (x : Script). IsScriptRun kind handed a.settings x status old new) (sym from) run;
+      run = subst (λ (x : Script). IsScriptRun kind handed a.settings x status (old, new)) (sym from) run;
     }))
 
 pub returns-in-Read-clause-served : goal.returns-in-Read-clause-served

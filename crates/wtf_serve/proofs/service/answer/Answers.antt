@@ -1,14 +1,14 @@
-use Rattle.std.proofs.Common.{length, sym, subst}
+use Rattle.std.proofs.Common.{sym, subst}
 use Rattle.wtf_dev.specs.Sums.{TellsAll}
 use Rattle.wtf_replica.specs.Bytes.{byte_at}
 use Rattle.wtf_replica.specs.Downs.{is_down}
 use Rattle.wtf_replica.specs.Spans.{span}
 use Rattle.wtf_model.specs.Lines.{Line}
-use Rattle.wtf_serve.specs.Engines.{GoesOn, Obeys, IsCaused, Keeps, step}
-use Rattle.wtf_serve.specs.Cores.{IsSoundCore, engine}
+use Rattle.wtf_serve.specs.Engines.{GoesOn, Obeys, Stores, IsCaused, Keeps, step}
+use Rattle.wtf_serve.specs.Cores.{engine}
 use Rattle.wtf_serve.specs.Stocks.{stock}
 use Rattle.wtf_serve.proofs.Keeping.{handed_on, turn_handed, event_kept}
-use Rattle.wtf_serve.proofs.LineLaws.{bad_obeys, event_goes_on, event_obeys, servers_stay}
+use Rattle.wtf_serve.proofs.LineLaws.{bad_obeys, event_goes_on, event_obeys}
 use Rattle.wtf_serve.proofs.service.answer.Goals as goal
 
 pub returns-in_ok-answer-in-Ok-clause-goes_on : goal.returns-in_ok-answer-in-Ok-clause-goes_on
@@ -17,14 +17,8 @@ returns-in_ok-answer-in-Ok-clause-goes_on g c =
     let view = g.K.Keeper.view in
     let t = step (stock c.args.shelf.now (view c.args.keeper.now)) (stock c.event.new.shelf (view c.event.new.keeper)) c.args.core.now c.event.new.self in
     let is = c.in_ok-answer-in-Ok.ensures in
-    let sound : IsSoundCore kind c.event.new.shelf c.event.new.self = record {
-      not_closed = is.open;
-      tables = is.sound;
-      servers = servers_stay c.args.core.now.settings c.event.new.self.settings (length c.args.shelf.now) (length c.event.new.shelf) is.settings c.requires.sound.servers is.shelf.same_length;
-      inside = is.inside;
-    } in
     subst (λ (e : Line). GoesOn (engine kind) t e c.in_ok-answer-in-Ok.answer) (sym c.in-Ok.is)
-    (event_goes_on kind t c.in-Ok.event c.in_ok-answer-in-Ok.answer sound is.settings is.down is.number is.next_tx is.full is.exact)
+    (event_goes_on kind t c.in-Ok.event c.in_ok-answer-in-Ok.answer c.requires.sound.servers is.goes_on is.stays)
 
 pub returns-in_ok-answer-in-Ok-clause-lawful : goal.returns-in_ok-answer-in-Ok-clause-lawful
 returns-in_ok-answer-in-Ok-clause-lawful g c =
@@ -32,14 +26,21 @@ returns-in_ok-answer-in-Ok-clause-lawful g c =
     let view = g.K.Keeper.view in
     let t = step (stock c.args.shelf.now (view c.args.keeper.now)) (stock c.event.new.shelf (view c.event.new.keeper)) c.args.core.now c.event.new.self in
     subst (λ (e : Line). Obeys (engine kind) t e c.in_ok-answer-in-Ok.answer) (sym c.in-Ok.is)
-    (event_obeys kind t c.in-Ok.event c.in_ok-answer-in-Ok.answer c.in_ok-answer-in-Ok.ensures.answers c.in_ok-answer-in-Ok.ensures.trees)
+    (event_obeys kind t c.in-Ok.event c.in_ok-answer-in-Ok.answer c.in_ok-answer-in-Ok.ensures.lawful)
 
 pub returns-in_ok-answer-in-Ok-clause-caused : goal.returns-in_ok-answer-in-Ok-clause-caused
 returns-in_ok-answer-in-Ok-clause-caused g c =
     let kind = g.S.SliceStore.kind in
     let view = g.K.Keeper.view in
     let t = step (stock c.args.shelf.now (view c.args.keeper.now)) (stock c.event.new.shelf (view c.event.new.keeper)) c.args.core.now c.event.new.self in
-    subst (λ (e : Line). IsCaused (engine kind) t e c.in_ok-answer-in-Ok.answer) (sym c.in-Ok.is) c.in_ok-answer-in-Ok.ensures.caused
+    subst (λ (e : Line). IsCaused (engine kind) t e c.in_ok-answer-in-Ok.answer) (sym c.in-Ok.is) c.in_ok-answer-in-Ok.ensures.caused.cause
+
+pub returns-in_ok-answer-in-Ok-clause-stored : goal.returns-in_ok-answer-in-Ok-clause-stored
+returns-in_ok-answer-in-Ok-clause-stored g c =
+    let kind = g.S.SliceStore.kind in
+    let view = g.K.Keeper.view in
+    let t = step (stock c.args.shelf.now (view c.args.keeper.now)) (stock c.event.new.shelf (view c.event.new.keeper)) c.args.core.now c.event.new.self in
+    subst (λ (e : Line). Stores (engine kind) t e c.in_ok-answer-in-Ok.answer) (sym c.in-Ok.is) c.in_ok-answer-in-Ok.ensures.stored.adds
 
 pub returns-in_ok-answer-in-Ok-clause-kept : goal.returns-in_ok-answer-in-Ok-clause-kept
 returns-in_ok-answer-in-Ok-clause-kept g c =
@@ -49,7 +50,7 @@ returns-in_ok-answer-in-Ok-clause-kept g c =
     let t = step (stock c.args.shelf.now (view c.args.keeper.now)) (stock c.event.new.shelf (view c.event.new.keeper)) c.args.core.now c.event.new.self in
     subst (λ (e : Line). Keeps (engine kind) t e c.in_ok-answer-in-Ok.answer) (sym c.in-Ok.is)
     (event_kept view g.K.Keeper.follows c.args.keeper.now c.event.new.keeper kind c.args.shelf.now c.event.new.shelf c.args.core.now c.event.new.self
-    (TellsAll kind c.args.shelf.now) (byte_at kind c.args.shelf.now, byte_at kind c.event.new.shelf) c.in-Ok.event c.in_ok-answer-in-Ok.answer is.keeper is.turn)
+    (TellsAll kind c.args.shelf.now) (byte_at kind c.args.shelf.now, byte_at kind c.event.new.shelf) c.in-Ok.event c.in_ok-answer-in-Ok.answer is.kept.turn is.turn)
 
 pub returns-in_ok-answer-in-Ok-clause-handed : goal.returns-in_ok-answer-in-Ok-clause-handed
 returns-in_ok-answer-in-Ok-clause-handed g c =
@@ -57,7 +58,7 @@ returns-in_ok-answer-in-Ok-clause-handed g c =
     let is = c.in_ok-answer-in-Ok.ensures in
     turn_handed g.K.Keeper.view g.K.Keeper.follows g.met.K.Keeper.follows_itself g.met.K.Keeper.keeps c.args.keeper.now c.event.new.keeper kind
     (span (is_down c.args.core.now.replicas) c.args.shelf.now c.event.new.shelf) c.args.core.now.settings c.args.core.now.tables c.event.new.self.tables
-    c.in-Ok.event c.in_ok-answer-in-Ok.answer is.keeper
+    c.in-Ok.event c.in_ok-answer-in-Ok.answer is.kept.turn
 
 pub returns-in_ok-answer-in-Ok-clause-keeper : goal.returns-in_ok-answer-in-Ok-clause-keeper
 returns-in_ok-answer-in-Ok-clause-keeper g c =
