@@ -68,7 +68,7 @@ head-asks path up is way =
     (All-cons Asks (create_line path) (open_line path ∷ []) (create-asks path is) (All-cons Asks (open_line path) [] (open-asks path is) (All-nil Asks))))
 
 pub sofar-end : (path all old : List ℕ) (i at : ℕ) (left new left' new' then : Option (List ℕ)) (s : Sofar path all old i at left new) → at ≤ MOST_BYTES
-    → CarriesEnd s.rest (old ++ text_of (head_lines path s.up ++ carried writes path 0 0 s.pieces)) left' new'
+    → CarriesEnd (passage s.rest (old ++ text_of (head_lines path s.up ++ carried writes path 0 0 s.pieces)) left' new')
     → then ≡ Some ((old ++ text_of (head_lines path s.up ++ carried writes path 0 0 s.pieces)) ++ text_of (try_line ∷ []))
     → Puts path all old then
 sofar-end path all old i at left new left' new' then s fits c last =
