@@ -6,7 +6,7 @@ use std::test::Fail;
 use wtf_base::{Kept, Pointer, ServerId, Slice};
 use wtf_log::{Log, LogError};
 use wtf_model::limits::MAX_LOGGED;
-use wtf_model::{Answer, Op, Word, is_same_answer};
+use wtf_model::{Answer, Op, Word};
 
 /// Six bytes in file 0 of server 0.
 fn six_bytes() -> Result<Slice, Fail> {
@@ -66,9 +66,22 @@ fn begins_with_tell(log: &Log) -> bool {
     log.len() >= 1 && log.op(1) == &Op::Tell(0) && matches!(log.shown(1), Answer::At(0))
 }
 
-/// Whether what a call showed says the same, or does not.
-fn is_answered(log: &Log, i: u32, answer: Answer, same: bool) -> bool {
-    i >= 1 && i <= log.len() && is_same_answer(log.shown(i), &answer) == same
+/// Whether a call showed these bytes.
+fn has_shown(log: &Log, i: u32, bytes: &[u8]) -> bool {
+    if i < 1 || i > log.len() {
+        return false;
+    }
+    match log.shown(i) {
+        Answer::Shown(shown) => shown.as_slice() == bytes,
+        _ => false,
+    }
+}
+
+/// Whether the calls that carry bytes were answered `ok`, and refused since the handle was not open.
+fn has_answers_of_bytes(log: &Log) -> bool {
+    log.len() >= 3
+        && matches!(log.shown(2), Answer::Okay)
+        && matches!(log.shown(3), Answer::Refused(Word::NoHandle))
 }
 
 #[test]
@@ -85,16 +98,12 @@ fn a_log_has_the_slices_that_were_stored(rt: HostRuntime) -> Result<(), Fail> {
 
 #[test]
 fn a_log_shows_what_was_pushed(rt: HostRuntime) -> Result<(), Fail> {
-    let alloc = rt.alloc();
-    let same = shown(alloc, b"ab")?;
-    let other = shown(alloc, b"abc")?;
-    let log = worked(alloc, six_bytes()?)?;
+    let log = worked(rt.alloc(), six_bytes()?)?;
     assert!(rt; begins_with_tell(&log));
-    assert!(rt; is_answered(&log, 1, Answer::At(0), true));
-    assert!(rt; is_answered(&log, 1, Answer::At(1), false));
-    assert!(rt; is_answered(&log, 1, Answer::Len(0), false));
-    assert!(rt; is_answered(&log, 4, same, true));
-    assert!(rt; is_answered(&log, 4, other, false));
+    assert!(rt; has_answers_of_bytes(&log));
+    assert!(rt; has_shown(&log, 4, b"ab"));
+    assert!(rt; !has_shown(&log, 4, b"abc"));
+    assert!(rt; !has_shown(&log, 1, b""));
     Ok(())
 }
 
