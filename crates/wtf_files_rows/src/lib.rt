@@ -2,11 +2,15 @@
 #![tactic(auto)]
 
 #[cfg(test)]
+mod bench;
+#[cfg(test)]
 mod index;
 #[cfg(test)]
 mod ops;
 #[cfg(test)]
 mod region;
+#[cfg(test)]
+mod replay;
 #[cfg(test)]
 mod rw;
 #[cfg(test)]

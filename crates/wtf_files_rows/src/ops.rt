@@ -225,11 +225,14 @@ pub(crate) fn is_form(op: &Op<Bytes>) -> bool
     ensures { result ≡ true → IsFormOp IsData op.now }
 {
     match op {
+        Op::Mkdir(p) => is_path(p),
         Op::Create(p) => is_path(p),
         Op::Stat(p) => is_path(p),
         Op::Open(f, p) => *f < MAX_HANDLES && is_path(p),
         Op::Seek(f, Seek::Set(n)) => *f < MAX_HANDLES && *n <= MAX_NUMBER,
         Op::Read(f, n) => *f < MAX_HANDLES && *n <= MAX_SHOWN,
+        Op::Yank(f, n, to) => *f < MAX_HANDLES && *n <= MAX_NUMBER && *to < MAX_SLICES,
+        Op::Paste(f, from) => *f < MAX_HANDLES && *from < MAX_SLICES,
         Op::Write(f, bytes) => *f < MAX_HANDLES && is_small(bytes),
         Op::Append(f, bytes) => *f < MAX_HANDLES && is_small(bytes),
         _ => false,

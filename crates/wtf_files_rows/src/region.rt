@@ -176,39 +176,77 @@ fn digits_laid(
     Ok((lens, listed))
 }
 
+/// Whether ten digits at offset 60 lie in two pieces, and in one entry of the second region.
+fn are_laid(
+    alloc: Global,
+    kv: &Kv<Key, Value>,
+    at: &mut Attempt<Key, Value>,
+) -> Result<bool, Fail> {
+    let (lens, listed) = digits_laid(alloc, kv, at)?;
+    Ok(lens.as_slice() == [4, 6].as_slice() && listed.as_slice() == [(0, 6)].as_slice())
+}
+
+/// Whether an addition of so many zeros comes so, and leaves the file with this length.
+fn comes(
+    alloc: Global,
+    kv: &Kv<Key, Value>,
+    at: &mut Attempt<Key, Value>,
+    row: (u64, Added, u64),
+) -> Result<bool, Fail> {
+    let came = zeros_added(alloc, kv, at, row.0)?;
+    let whole = len(kv, at)?;
+    Ok(came == row.1 && whole == row.2)
+}
+
+/// How far it goes: the digits, the length, too many zeros, as many as are left, and the end.
+fn steps_over_a_border(
+    alloc: Global,
+    kv: &Kv<Key, Value>,
+    at: &mut Attempt<Key, Value>,
+) -> Result<[bool; 5], Fail> {
+    let digits = are_laid(alloc, kv, at)?;
+    let whole = len(kv, at)?;
+    // Of 262,144 bytes at most 262,074 are left.
+    let more = comes(alloc, kv, at, (262_075, Added::TooBig, 70))?;
+    let most = comes(alloc, kv, at, (262_074, Added::Done, 262_144))?;
+    let FileEnd { region, off } = end(kv, at)?;
+    Ok([digits, whole == 70, more, most, region == 4095 && off == 64])
+}
+
+fn over_a_border(alloc: Global) -> Result<[bool; 5], Fail> {
+    let (kv, mut at) = begun(alloc)?;
+    steps_over_a_border(alloc, &kv, &mut at)
+}
+
 #[test]
 fn a_write_over_a_border_and_an_append_past_the_end(rt: HostRuntime) -> Result<(), Fail> {
-    let alloc = rt.alloc();
-    let (kv, mut at) = begun(alloc)?;
-    let (lens, listed) = digits_laid(alloc, &kv, &mut at)?;
-    assert_eq!(rt; len(&kv, &mut at)?, 70);
-    assert_eq!(rt; lens.as_slice(), [4, 6].as_slice());
-    assert_eq!(rt; listed.as_slice(), [(0, 6)].as_slice());
-    // Of 262,144 bytes at most 262,074 are left.
-    let rows = [
-        (262_075, Added::TooBig, 70),
-        (262_074, Added::Done, 262_144),
-    ];
-    for (more, want, whole) in rows {
-        assert_eq!(rt; zeros_added(alloc, &kv, &mut at, more)?, want, "of {more}");
-        assert_eq!(rt; len(&kv, &mut at)?, whole, "of {more}");
-    }
-    let want = FileEnd {
-        region: 4095,
-        off: 64,
-    };
-    assert_eq!(rt; end(&kv, &mut at)?, want);
+    let came = over_a_border(rt.alloc())?;
+    assert_eq!(rt; came, [true; 5]);
     Ok(())
+}
+
+/// Adds zeros where the file ends: what came of that, the file's length, and its end.
+fn steps_at_the_end(
+    alloc: Global,
+    kv: &Kv<Key, Value>,
+    at: &mut Attempt<Key, Value>,
+) -> Result<[bool; 3], Fail> {
+    let from = end(kv, at)?;
+    let came = zeros_added_at(alloc, at, from, 70)?;
+    let whole = len(kv, at)?;
+    let FileEnd { region, off } = end(kv, at)?;
+    Ok([came == Added::Done, whole == 70, region == 1 && off == 6])
+}
+
+fn at_the_end(alloc: Global) -> Result<[bool; 3], Fail> {
+    let (kv, mut at) = begun(alloc)?;
+    steps_at_the_end(alloc, &kv, &mut at)
 }
 
 #[test]
 fn zeros_are_added_where_the_file_ends(rt: HostRuntime) -> Result<(), Fail> {
-    let alloc = rt.alloc();
-    let (kv, mut at) = begun(alloc)?;
-    let from = end(&kv, &mut at)?;
-    assert_eq!(rt; zeros_added_at(alloc, &mut at, from, 70)?, Added::Done);
-    assert_eq!(rt; len(&kv, &mut at)?, 70);
-    assert_eq!(rt; end(&kv, &mut at)?, FileEnd { region: 1, off: 6 });
+    let came = at_the_end(rt.alloc())?;
+    assert_eq!(rt; came, [true; 3]);
     Ok(())
 }
 

@@ -1,5 +1,10 @@
 //! The calls on handles and bytes, on a file of regions of 64 bytes over stores in memory.
 
+ghost use Rattle.wtf_dev.specs.Memory.{mem_store};
+ghost use Rattle.wtf_meta.specs.Maps.{seen};
+ghost use Rattle.wtf_region.specs.Devs.{IsSoundDev, stores};
+ghost use Rattle.wtf_rw.specs.Ops.{AreInside};
+
 use crate::ops::{Step, is_rw_form, set};
 use crate::steps::{all_come, rows_come};
 use crate::store::{FILE, NEVER, Parts, begun, made_parts};
@@ -8,10 +13,14 @@ use std::alloc::Global;
 use std::process::Abort;
 use std::test::Fail;
 use wtf_base::{Kept, Pointer, ServerId, Slice};
+use wtf_dev::MemStore;
+use wtf_kv::Kv;
 use wtf_meta::Session;
 use wtf_model::Seek;
+use wtf_occ::Attempt;
 use wtf_region::{Dev, file_len};
 use wtf_rw::{Given, RwOp, call, handle_of};
+use wtf_values::{Key, Value};
 
 #[test]
 fn bytes_are_written_over_others_and_read(rt: HostRuntime) -> Result<(), Fail> {
@@ -166,8 +175,34 @@ fn four_bytes(has_slice: bool) -> Result<Kept, Fail> {
     })
 }
 
-/// A call on data that was stored before, after others: its answer, the length of the file, and
-/// where the handle stands.
+/// A call on data that was stored before: its answer, the length of the file, and where the handle
+/// stands.
+fn last_came(
+    alloc: Global,
+    dev: &mut Dev<'_, MemStore>,
+    kv: &Kv<Key, Value>,
+    at: &mut Attempt<Key, Value>,
+    s: &mut Session,
+    op: &RwOp<'_>,
+) -> Result<(String, u64, u64), Fail>
+    requires sound { IsSoundDev dev.old }
+    requires inside { AreInside mem_store (stores dev.old) dev.old.settings
+        (seen kv.now at.old) s.old }
+{
+    if !is_rw_form(op) || !kv.is_pinned(at.base()) {
+        return Err(Fail::from("a call out of form"));
+    }
+    let done = call(alloc, dev, kv, at, s, op)?;
+    if !kv.is_pinned(at.base()) {
+        return Err(Fail::from("no pin"));
+    }
+    let len = file_len(kv, at, FILE, dev.settings)?;
+    let spot = handle_of(s, 0).ok_or("handle")?;
+    let shown = text(alloc, &done.answer)?;
+    Ok((shown, len, spot.off))
+}
+
+/// The same after others.
 fn last_comes(
     rt: &impl Abort,
     alloc: Global,
@@ -191,13 +226,7 @@ fn last_comes(
     let (kv, mut at) = begun(alloc)?;
     let mut s = Session::new(alloc)?;
     rows_come(rt, alloc, &mut dev, &kv, &mut at, &mut s, rows)?;
-    assert!(rt; is_rw_form(op));
-    assert!(rt; kv.is_pinned(at.base()));
-    let done = call(alloc, &mut dev, &kv, &mut at, &mut s, op)?;
-    assert!(rt; kv.is_pinned(at.base()));
-    let len = file_len(&kv, &mut at, FILE, settings)?;
-    let spot = handle_of(&s, 0).ok_or("handle")?;
-    Ok((text(alloc, &done.answer)?, len, spot.off))
+    last_came(alloc, &mut dev, &kv, &mut at, &mut s, op)
 }
 
 #[test]

@@ -1,6 +1,7 @@
 //! What calls are lent: two servers with two copies of a slice, and regions of 64 bytes.
 
-ghost use Rattle.std.specs.Prelude.{◌≡◌, [], List, Bool, length, true, IfOk};
+ghost use Rattle.std.specs.Prelude.{◌≡◌, [], List, Bool, length, true, IfOk, OnOk};
+ghost use Rattle.wtf_kv.specs.Stores.{Store};
 ghost use Rattle.wtf_overlay.specs.Origin.{Place};
 ghost use Rattle.wtf_meta.specs.Bytes.{MapBytes};
 ghost use Rattle.wtf_meta.specs.Maps.{seen};
@@ -93,6 +94,24 @@ pub(crate) fn path(alloc: Global, text: &str) -> Result<Path, Fail> {
     Ok(Path::parse(alloc, text.as_bytes())?)
 }
 
+/// Makes the root, the directory `/d` and the file `/a`.
+fn tree_made(alloc: Global, at: &mut Attempt<Key, Value>) -> Result<(), Fail>
+    ensures { OnOk result ((kv : Store Key Value) (P : List Place → Bool) → P [] ≡ true →
+        MapBytes P (seen kv at.old) → MapBytes P (seen kv at.new)) }
+{
+    let root = path(alloc, "/")?;
+    at.delta(Key::Path(root), Delta::Put(Value::Node(Node::Folder)))?;
+    let root = path(alloc, "/")?;
+    let names = NameSet::new(alloc);
+    at.delta(Key::Dir(root), Delta::Put(Value::Names(names)))?;
+    let file = path(alloc, "/a")?;
+    at.delta(Key::Path(file), Delta::Put(Value::Node(Node::File(FILE))))?;
+    at.delta(Key::Inode(FILE), Delta::Put(Value::Last(0)))?;
+    let dir = path(alloc, "/d")?;
+    at.delta(Key::Path(dir), Delta::Put(Value::Node(Node::Folder)))?;
+    Ok(())
+}
+
 /// An attempt that has made the root, the directory `/d` and the file `/a`.
 pub(crate) fn begun(alloc: Global) -> Result<(Kv<Key, Value>, Attempt<Key, Value>), Fail>
     ensures bytes { IfOk result
@@ -101,14 +120,6 @@ pub(crate) fn begun(alloc: Global) -> Result<(Kv<Key, Value>, Attempt<Key, Value
     let mut kv: Kv<Key, Value> = Kv::new(alloc)?;
     kv.pin(0)?;
     let mut at: Attempt<Key, Value> = Attempt::new(alloc, 0)?;
-    let dir = Value::Node(Node::Folder);
-    at.delta(Key::Path(path(alloc, "/")?), Delta::Put(dir))?;
-    let names = Value::Names(NameSet::new(alloc));
-    at.delta(Key::Dir(path(alloc, "/")?), Delta::Put(names))?;
-    let file = Value::Node(Node::File(FILE));
-    at.delta(Key::Path(path(alloc, "/a")?), Delta::Put(file))?;
-    at.delta(Key::Inode(FILE), Delta::Put(Value::Last(0)))?;
-    let dir = Value::Node(Node::Folder);
-    at.delta(Key::Path(path(alloc, "/d")?), Delta::Put(dir))?;
+    tree_made(alloc, &mut at)?;
     Ok((kv, at))
 }

@@ -1,28 +1,12 @@
-use Rattle.std.proofs.Common.{◌≡◌, ◌++◌, Bool, true, List, [], ◌∷◌, Some, refl, sym, subst}
-use Rattle.std.proofs.lemmas.List.{append-nil}
+use Rattle.std.proofs.Common.{◌≡◌, ◌++◌, [], ◌∷◌, sym, subst}
 use Rattle.wtf_kv.specs.Stores.{Store}
-use Rattle.wtf_kv.specs.declared.changes.Change.TheVariants as change
-use Rattle.wtf_occ.specs.Attempts.{Attempted, GrowsBy}
-use Rattle.wtf_occ.proofs.AttemptLaws.{map_seen-by}
-use Rattle.wtf_overlay.specs.Origin.{Place}
+use Rattle.wtf_occ.specs.Attempts.{Attempted}
 use Rattle.wtf_values.specs.declared.key.Key.{Key}
 use Rattle.wtf_values.specs.declared.value.Delta.{Delta}
-use Rattle.wtf_values.specs.declared.value.Delta.TheVariants as delta
 use Rattle.wtf_values.specs.declared.value.Value.{Value}
-use Rattle.wtf_values.specs.Keys.{key_cmp}
-use Rattle.wtf_values.specs.Outcomes.{outcome_of}
-use Rattle.wtf_meta.specs.Bytes.{MapBytes, ValueBytes}
-use Rattle.wtf_meta.specs.Maps.{Map, seen}
-use Rattle.wtf_meta.proofs.MapBytes.{with_bytes}
+use Rattle.wtf_meta.specs.Bytes.{MapBytes}
+use Rattle.wtf_meta.specs.Maps.{seen}
 use Rattle.wtf_files_rows.proofs.store.begun.Goals as goal
-
--- a value that is put brings no byte but its own
-put_bytes : (kv : Store Key Value) (old new : Attempted Key Delta) (k : Key) (v : Value) → new ≡ record old { changes = old.changes ++ change.Delta k (delta.Put v) ∷ [] }
-    → (P : List Place → Bool) → P [] ≡ true → ValueBytes P (Some v) → MapBytes P (seen kv old) → MapBytes P (seen kv new)
-put_bytes kv old new k v is P hole here map =
-    let cs = change.Delta k (delta.Put v) ∷ [] in
-    let grows : GrowsBy old new [] cs = subst (λ (a : Attempted Key Delta). GrowsBy old a [] cs) (sym is) (record { base = refl; reads = sym (append-nil old.reads); changes = refl }) in
-    subst (λ (w : Map). MapBytes P w) (sym (map_seen-by key_cmp outcome_of kv old new [] cs grows)) (with_bytes P hole cs (seen kv old) map (here, tt))
 
 pub returns : goal.returns
 returns c =
@@ -37,9 +21,5 @@ returns c =
           subst (λ (a : Attempted Key Delta). MapBytes P (seen kv a)) (sym at)
           (subst (λ (s : Store Key Value). MapBytes P (seen s empty)) (sym c.in_ok-pin.ensures.ok)
           (subst (λ (s : Store Key Value). MapBytes P (seen (record s { pins = s.pins ++ 0 ∷ [] }) empty)) (sym first) (λ q. tt))) in
-          put_bytes kv c.delta-4.new.self c.delta-5.new.self _ _ c.in_ok-delta-5.ensures.ok P hole tt
-          (put_bytes kv c.delta-3.new.self c.delta-4.new.self _ _ c.in_ok-delta-4.ensures.ok P hole tt
-          (put_bytes kv c.delta-2.new.self c.delta-3.new.self _ _ c.in_ok-delta-3.ensures.ok P hole tt
-          (put_bytes kv c.delta.new.self c.delta-2.new.self _ _ c.in_ok-delta-2.ensures.ok P hole tt
-          (put_bytes kv c.in_ok-at.at c.delta.new.self _ _ c.in_ok-delta.ensures.ok P hole tt none))));
+          c.in_ok-tree_made.ensures kv P hole none;
     }

@@ -1,0 +1,20 @@
+use Rattle.std.proofs.Common.{◌≡◌, [], sym, subst}
+use Rattle.wtf_kv.specs.Stores.{Store}
+use Rattle.wtf_values.specs.declared.key.Key.{Key}
+use Rattle.wtf_values.specs.declared.key.Key.TheVariants.{Path, Dir}
+use Rattle.wtf_values.specs.declared.value.Node.TheVariants.{Folder}
+use Rattle.wtf_values.specs.declared.value.Value.{Value}
+use Rattle.wtf_values.specs.declared.value.Value.TheVariants as value
+use Rattle.wtf_meta.specs.Bytes.{MapBytes}
+use Rattle.wtf_meta.specs.Maps.{metadata_at}
+use Rattle.wtf_files_rows.proofs.BenchLaws.{seeded_bytes}
+use Rattle.wtf_files_rows.proofs.bench.root_alone.Goals as goal
+
+pub returns : goal.returns
+returns c =
+    let empty : Store Key Value = record { number = 0; pins = []; cells = [] } in
+    let first : c.in_ok-kv.kv ≡ empty = let e = c.in_ok-kv.ensures in let w = c.in_ok-kv.was in cc in
+    λ P. let n = c.seed-2.new.self.number in
+    let none : MapBytes P (metadata_at c.in_ok-kv.kv n) = subst (λ (s : Store Key Value). MapBytes P (metadata_at s n)) (sym first) (λ q. tt {0}) in
+    seeded_bytes P c.seed.new.self c.seed-2.new.self (Dir c.in_ok-path-2.field-0) (value.Names c.new-2.result) n c.in_ok-seed-2.ensures.ok (tt {0})
+    (seeded_bytes P c.in_ok-kv.kv c.seed.new.self (Path c.in_ok-path.field-0) (value.Node Folder) n c.in_ok-seed.ensures.ok (tt {0}) none)
