@@ -3,6 +3,7 @@
 ghost use Rattle.std.specs.Prelude.{IfOk};
 ghost use Rattle.wtf_dev.specs.Memory.{mem_store};
 ghost use Rattle.wtf_replica.specs.Bytes.{byte_at};
+ghost use Rattle.wtf_replica.specs.Inside.{size_in};
 ghost use Rattle.wtf_model.specs.Tree.{root_alone};
 ghost use Rattle.wtf_serve.specs.Endings.{IsTold};
 ghost use Rattle.wtf_serve.specs.Openings.{new_opening};
@@ -17,7 +18,7 @@ use wtf_serve::serve;
 
 /// A run of a script over these stores and an empty keeper. Devices in memory tell what they hold, so a run that reads its
 /// script to its end answers each line as one tree would, on which committed transactions ran whole; and it leaves the
-/// image of that tree.
+/// image of that tree, with which the next run can begin.
 fn told(
     alloc: Global,
     settings: Settings,
@@ -25,8 +26,8 @@ fn told(
     shelf: &mut Shelf<MemStore>,
 ) -> Result<Ended, Fail>
     ensures { IfOk result (λ ended. IsEndStatus ended.status →
-        IsTold (byte_at mem_store shelf.new) (new_opening settings) root_alone script.now
-        ended.output.items ended.kept.items) }
+        IsTold (byte_at mem_store shelf.new) (size_in mem_store shelf.new) (new_opening settings)
+        root_alone script.now ended.output.items ended.kept.items) }
 {
     let mut script = MemSource::new(alloc, script.to_vec(alloc)?, Vec::new(alloc));
     let mut out = MemSink::new(alloc, Vec::new(alloc));
