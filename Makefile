@@ -1,7 +1,7 @@
 # `make help` lists the targets. Each needs `rt`, the command of the Rattle kit, on the path.
 
 .DEFAULT_GOAL := build
-.PHONY: build demo demo-bytes demo-edges run test bench clean help
+.PHONY: build demo demo-bytes demo-edges run test bench hostile clean help
 
 DIR := -
 WORDS :=
@@ -27,6 +27,9 @@ test: ## the gate, rt ci, on everything (the first time, the longest)
 
 bench: build ## print tables of what calls and lines cost (minutes)
 	@tools/bench
+
+hostile: build ## run the program over devices that fail, cut scripts and damaged images (minutes)
+	@cd crates/wtf_hostile && exec rt run -- more
 
 clean: ## remove what was built (at once)
 	rm -rf build crates/*/out

@@ -1,0 +1,118 @@
+//! What the answers of a run say of its devices.
+
+use crate::texts::{number_behind, text_of};
+use std::io;
+
+/// Which servers are down, of how many, and how many copies a slice has.
+#[derive(Clone, Copy)]
+struct Servers {
+    down: [bool; 16],
+    servers: u8,
+    replicas: u8,
+}
+
+/// What the answers of a run say.
+#[derive(Clone, Copy)]
+pub struct Tally {
+    /// How many calls of devices failed at least.
+    pub faults: u64,
+    /// Whether a line is bad.
+    pub bad: bool,
+    /// Whether a server is down at the end.
+    pub down: bool,
+}
+
+impl Servers {
+    fn is_down(&self, k: u8) -> bool {
+        self.down.get(k as usize).copied().unwrap_or(false)
+    }
+
+    fn count(&self) -> usize {
+        self.down.iter().filter(|down| **down).count()
+    }
+
+    fn set(&mut self, k: u8, down: bool) {
+        if let Some(place) = self.down.get_mut(k as usize) {
+            *place = down;
+        }
+    }
+
+    /// Follows a line that answered `ok`.
+    fn follow(&mut self, line: &str) {
+        if let Some(k) = number_behind(line, "sys down ") {
+            self.set(k, true);
+        }
+        if let Some(k) = number_behind(line, "sys up ") {
+            self.set(k, false);
+        }
+    }
+
+    /// How many stores failed at least in a line that answers so: those that have to be out and are not down. A write lacks
+    /// servers where fewer than a slice has copies are left, a read where all that have a copy are out.
+    fn failed_in(&self, answer: &str) -> usize {
+        let (servers, replicas, down) = (
+            self.servers as usize,
+            self.replicas as usize,
+            self.count(),
+        );
+        if answer == "fault write" {
+            return servers
+                .saturating_add(1)
+                .saturating_sub(replicas)
+                .saturating_sub(down);
+        }
+        if answer == "fault save" {
+            return 1usize.saturating_sub(down);
+        }
+        if let Some(k) = number_behind(answer, "fault read ") {
+            return replicas
+                .saturating_sub(down)
+                .max(usize::from(!self.is_down(k)));
+        }
+        if let Some(k) = number_behind(answer, "fault punch ") {
+            return usize::from(!self.is_down(k));
+        }
+        0
+    }
+}
+
+/// What the answers to lines say. The output has the settings before them.
+pub fn tally_of(servers: u8, replicas: u8, lines: &[u8], output: &str) -> Tally {
+    let down = [false; 16];
+    let mut now = Servers {
+        down,
+        servers,
+        replicas,
+    };
+    let mut faults = 0u64;
+    let mut bad = false;
+    let lines = lines.split(|byte| *byte == b'\n');
+    for (line, answer) in lines.zip(output.split('\n').skip(1)) {
+        faults = faults.saturating_add(now.failed_in(answer) as u64);
+        bad = bad || answer.starts_with("bad ");
+        if answer == "ok" {
+            now.follow(text_of(line));
+        }
+    }
+    Tally {
+        faults,
+        bad,
+        down: now.count() > 0,
+    }
+}
+
+/// Behind how many lines the tree stands that a keeper may hold, where these are answered and no more was saved.
+pub fn saved_points(output: &str, points: &mut Vec<usize>) -> io::Result<()> {
+    points.push(0)?;
+    let mut at = 0usize;
+    for answer in output.split('\n').skip(1) {
+        at = at.saturating_add(1);
+        if answer.starts_with("saved ") {
+            points.clear();
+        }
+        if answer.starts_with("saved ") || answer == "fault save" {
+            points.push(at)?;
+        }
+    }
+    Ok(())
+}
