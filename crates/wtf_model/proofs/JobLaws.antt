@@ -2,26 +2,30 @@
 use Rattle.std.proofs.Common.{◌≡◌, ◌⊎◌, ◌≤◌, ◌<◌, ℕ, ◌+◌, ◌-◌, ◌/◌, ◌==◌, true, false, List, [], ◌∷◌, length, Option, Some, None, Result, Ok, Err, refl, sym, ap, subst, ◌∙◌, inl, inr, arith}
 use Rattle.std.specs.Prelude.{slice_get}
 use Rattle.std.proofs.lemmas.Bool.{le-leb, lt-leb, eq-eqb}
-use Rattle.std.specs.FinMap.{get}
+use Rattle.std.specs.FinMap.{get, remove}
 use Rattle.wtf_model.specs.declared.answer.Answer.{Answer}
 use Rattle.wtf_model.specs.declared.answer.Answer.TheVariants as answer
 use Rattle.wtf_model.specs.declared.answer.Word.{Word}
 use Rattle.wtf_model.specs.declared.answer.Word.TheVariants as word
 use Rattle.wtf_model.specs.declared.op.Op.{Op}
 use Rattle.wtf_model.specs.declared.op.Op.TheVariants as op
+use Rattle.wtf_model.specs.declared.item.Item.{Item}
+use Rattle.wtf_model.specs.declared.item.Item.TheVariants.{BodyOf}
 use Rattle.wtf_model.specs.declared.op.JobKind.{JobKind}
 use Rattle.wtf_model.specs.declared.op.JobKind.TheVariants.{Compact, Spill}
 use Rattle.wtf_model.specs.declared.event.Verb.TheVariants as verb
 use Rattle.wtf_model.specs.declared.event.Event.{Event}
 use Rattle.wtf_model.specs.declared.event.Event.TheVariants as event
 use Rattle.wtf_model.specs.Tree.{Dir, ◌>>=◌, source}
+use Rattle.wtf_model.specs.Items.{is_among, meets, reads_of}
 use Rattle.wtf_model.specs.Transaction.{Transaction, Job}
 use Rattle.wtf_model.specs.Faults.{IsReadFault, or_refusal}
-use Rattle.wtf_model.specs.Jobs.{is_idle, has_region, plan_answer, IsSpillFault, MayFailPlan, MayPut, drop_answer}
+use Rattle.wtf_model.specs.Jobs.{is_idle, has_region, plan_answer, IsSpillFault, MayFailPlan, MayPut, job_changes, drop_answer}
 use Rattle.wtf_model.specs.Lawful.{MayBuilt}
-use Rattle.wtf_model.specs.Steps.{Machine, after, is_live, rebased, with_transaction}
+use Rattle.wtf_model.specs.Steps.{Machine, after, cap_of, is_live, rebased, touch, touch_job, with_transaction}
 use Rattle.wtf_model.specs.Examples.{Only, IsPlannable, first_job, HasTwoCalls, Runs, stale_events, moved_events, asks, calls}
 use Rattle.wtf_model.proofs.Laws.{get-number_same, get-number_other}
+use Rattle.wtf_model.proofs.ItemLaws.{meets-last, meets-body, get-each_some}
 use Rattle.wtf_model.proofs.StepLaws.{after-client}
 use Rattle.wtf_model.proofs.MachineLaws.{after-machine_refusal}
 use Rattle.wtf_model.proofs.MachineExamples.{asked, only_refused, live_try, replaying_call, replaying_step, gone, left}
@@ -110,7 +114,7 @@ put_may m j o a there h = subst (λ x. MayPut m x a) there h
 
 pub not_stale : (m : Machine) (j base now : ℕ) (job : Job) → get m.jobs j ≡ Some job → job.base ≡ m.number → MayBuilt m (event.Put j) (answer.Stale base now) → ⊥
 not_stale m j base now job there same h =
-    let (is, number, less) = put_may m j (Some job) (answer.Stale base now) there h in
+    let (is, number, less) = (put_may m j (Some job) (answer.Stale base now) there h).0 in
     absurd (omega arith)
 
 pub only_drop : (m : Machine) (j : ℕ) (o : Option Job) → get m.jobs j ≡ o → Only m (event.DropJob j) (drop_answer o)
@@ -127,7 +131,11 @@ two_jobs m p bytes h idle =
     let m2 : Machine = after m1 (event.Plan 1 Spill p 0) answer.Planned in
     let one : get m2.jobs 0 ≡ Some first = get-number_other m1.jobs 1 second 0 (λ e. cc) ∙ get-number_same m.jobs 0 first in
     let m3 : Machine = after m2 (event.Put 0) (answer.Installed (m.number + 1)) in
-    let other : get m3.jobs 1 ≡ Some second = left m2.jobs 0 1 (λ e. cc) ∙ get-number_same m1.jobs 1 second in
+    let changed : List Item = job_changes m2.now (get m2.jobs 0) in
+    let seen : Job = touch_job (BodyOf p ∷ []) second in
+    let other : get m3.jobs 1 ≡ Some seen =
+    get-each_some (touch_job changed) (remove m2.jobs 0) 1 second (left m2.jobs 0 1 (λ e. cc) ∙ get-number_same m1.jobs 1 second)
+    ∙ ap (λ o. Some (touch_job (job_changes m2.now o) second)) one in
     let m4 : Machine = after m3 (event.Put 1) (answer.Stale m.number (m.number + 1)) in (
       may_plan m 0 0 Compact p answer.Planned (plan-first m 0 p bytes h),
       (
@@ -135,7 +143,7 @@ two_jobs m p bytes h idle =
         (
           may_put m2 0 (Some first) (answer.Installed (m.number + 1)) one refl,
           (
-            may_put m3 1 (Some second) (answer.Stale m.number (m.number + 1)) other (refl, refl, omega arith),
+            may_put m3 1 (Some seen) (answer.Stale m.number (m.number + 1)) other ((refl, refl, omega arith), meets-body p),
             (
               may_put m4 1 None (answer.Refused word.NoJob) (gone m3.jobs 1) refl,
               tt,
@@ -145,19 +153,25 @@ two_jobs m p bytes h idle =
       ),
     )
 
--- a transaction that is sent to replay by an install which changed no byte
+-- a transaction that is sent to replay by an install which changed no byte of a file that it has read
 
 at : (l k : List Answer) (i : ℕ) → l ≡ k → slice_get l i ≡ slice_get k i
 at l k i same = ap (λ x. slice_get x i) same
 
-pub moved : (m : Machine) (t : Transaction) (p bytes : List ℕ) → IsPlannable m 0 p bytes → HasTwoCalls m t → Runs m (moved_events p m.number)
+pub moved : (m : Machine) (t : Transaction) (p bytes : List ℕ) → IsPlannable m 0 p bytes → HasTwoCalls m t → is_among (reads_of (cap_of m) t.tree t.ops) (BodyOf p) ≡ true
+    → Runs m (moved_events p m.number)
 unfolding Runs
-moved m t p bytes h ready =
+moved m t p bytes h ready reading =
     let job = first_job m Compact p 0 in
     let m1 : Machine = after m (event.Plan 0 Compact p 0) answer.Planned in
     let m2 : Machine = after m1 (event.Put 0) (answer.Installed (m.number + 1)) in
     let live : is_live t ≡ true = eq-eqb t.replayed (length t.ops) (ready.live ∙ sym ready.two) in
-    let again : Transaction = rebased m2 t in
+    let seen : Transaction = touch (BodyOf p ∷ []) t in
+    let there : get m2.transactions 0 ≡ Some seen =
+    get-each_some (touch (job_changes m1.now (get m1.jobs 0))) m1.transactions 0 t ready.here
+    ∙ ap (λ o. Some (touch (job_changes m1.now o) t)) (get-number_same m.jobs 0 job) in
+    let met : meets seen.touched (reads_of (cap_of m) t.tree t.ops) ≡ true = meets-last t.touched (reads_of (cap_of m) t.tree t.ops) (BodyOf p) reading in
+    let again : Transaction = rebased m2 seen in
     let m3 : Machine = with_transaction m2 0 again in
     let at_none : get m3.transactions 0 ≡ Some again = get-number_same m2.transactions 0 again in
     let none_yet : is_live again ≡ false = ap (λ n. 0 == n) ready.two in
@@ -179,8 +193,8 @@ moved m t p bytes h ready =
       (
         may_put m1 0 (Some job) (answer.Installed (n + 1)) (get-number_same m.jobs 0 job) refl,
         (
-          asked m2 0 (Some t) ready.here verb.Try (answer.Retry n (n + 1)) (live_try t live) (sym ready.base, refl, omega arith),
-          subst (λ x. Runs x all_steps) (sym (after-client m2 0 verb.Try (answer.Retry n (n + 1)) (Some t) ready.here)) (
+          asked m2 0 (Some seen) there verb.Try (answer.Retry n (n + 1)) (live_try seen live) ((sym ready.base, refl, omega arith), met),
+          subst (λ x. Runs x all_steps) (sym (after-client m2 0 verb.Try (answer.Retry n (n + 1)) (Some seen) there)) (
             (only_refused m3 0 (Some again) at_none (verb.Call read) word.Replaying (replaying_call again read none_yet) (answer.Refused word.Replaying)).1 refl,
             subst (λ x. Runs x two_steps) (sym (after-machine_refusal m3 (calls read) word.Replaying refl)) (
               asked m3 0 (Some again) at_none verb.Step (answer.Replayed 1) (replaying_step again none_yet) (refl, at _ t.shown 0 ready.same),

@@ -5,6 +5,8 @@ pub mod ByteLaws
 pub mod SliceLaws
 pub mod TreeLaws
 pub mod SessionLaws
+pub mod ItemLaws
+pub mod NameLaws
 pub mod StepLaws
 pub mod MachineLaws
 pub mod NotBuilt
@@ -17,3 +19,4 @@ pub mod Worked
 pub mod MachineExamples
 pub mod JobLaws
 pub mod ScanLaws
+pub mod ItemExamples

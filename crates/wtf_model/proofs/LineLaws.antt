@@ -2,7 +2,8 @@
 use Rattle.std.proofs.Common.{◌≡◌, suc, ◌+◌, Bool, if◌then◌else◌, List, [], ◌∷◌, ◌++◌, length, Ok, Err, refl, ap, ◌∙◌, subst, arith}
 use Rattle.wtf_model.specs.declared.answer.Answer.{Answer}
 use Rattle.wtf_model.specs.Steps.{Machine, Accepts, after, after_all}
-use Rattle.wtf_model.specs.Lines.{Line, state_after, AlongBy, count_by, MayLine, Along, machine_after, events_of, answers_to}
+use Rattle.wtf_model.specs.Lines.{Line, state_after, AlongBy, count_by, MayLine, MayLineCaused, after_line, Along, machine_after, events_of, answers_to}
+use Rattle.wtf_model.proofs.NotBuilt.{MayCaused-may}
 
 module _ {S : Type 0} (next : S → Line → Answer → S) where
   pub state_after-push : (s : S) (lines : List Line) (answers : List Answer) (line : Line) (a : Answer) → length lines ≡ length answers
@@ -80,6 +81,14 @@ Accepts-from_lines m (Ok e ∷ lines) [] h = absurd h
 Accepts-from_lines m (Err bad ∷ lines) [] h = absurd h
 Accepts-from_lines m (Ok e ∷ lines) (a ∷ answers) h = (h.0, Accepts-from_lines (after m e a) lines answers h.1)
 Accepts-from_lines m (Err bad ∷ lines) (a ∷ answers) h = Accepts-from_lines m lines answers h.1
+
+-- and so with the cause of each retry
+pub MayLineCaused-may : (m : Machine) (line : Line) (a : Answer) → MayLineCaused m line a → MayLine m line a
+MayLineCaused-may m (Ok e) a h = MayCaused-may m e a h
+MayLineCaused-may m (Err bad) a h = h
+
+pub Accepts-from_caused : (m : Machine) (lines : List Line) (answers : List Answer) → Along MayLineCaused m lines answers → Accepts m (events_of lines) (answers_to lines answers)
+Accepts-from_caused m lines answers h = Accepts-from_lines m lines answers (AlongBy-weaker after_line MayLineCaused MayLine MayLineCaused-may m lines answers h)
 
 -- and the machine behind them is the same
 pub after_all-lines : (m : Machine) (lines : List Line) (answers : List Answer) → length lines ≡ length answers → after_all m (events_of lines) (answers_to lines answers) ≡ machine_after m lines answers

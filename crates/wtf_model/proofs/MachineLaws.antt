@@ -39,7 +39,7 @@ pub with_job-rest : (m : Machine) (j : ℕ) (kind : JobKind) (p : List ℕ) (r :
 with_job-rest m j kind p r Planned = refl
 with_job-rest m j kind p r a = refl
 
-pub put_in_place-rest : (m : Machine) (j : ℕ) (a : Answer) → record (put_in_place m j a) { jobs = m.jobs; number = m.number } ≡ m
+pub put_in_place-rest : (m : Machine) (j : ℕ) (a : Answer) → record (put_in_place m j a) { transactions = m.transactions; jobs = m.jobs; number = m.number } ≡ m
 put_in_place-rest m j (Installed n) = refl
 put_in_place-rest m j (Stale base now) = refl
 put_in_place-rest m j a = refl

@@ -2,7 +2,7 @@
 use Rattle.std.proofs.Common.{◌≡◌, ℕ, ◌+◌, ◌*◌, ◌<◌, if◌then◌else◌, List, [], ◌∷◌, ◌++◌, length, Some, None, refl, sym, ap, subst, ◌∙◌, inl}
 use Rattle.std.proofs.lemmas.Bool.{lt-leb, eq-eqb}
 use Rattle.std.proofs.lemmas.List.{length_push}
-use Rattle.std.specs.FinMap.{get, get-insert, get-empty, get-remove}
+use Rattle.std.specs.FinMap.{get, remove, get-insert, get-empty, get-remove}
 use Rattle.std.specs.Cmp.{nat_cmp_total}
 use Rattle.std.specs.Ordering.{nat_cmp}
 use Rattle.wtf_base.specs.declared.settings.Settings.{Settings}
@@ -14,10 +14,12 @@ use Rattle.wtf_model.specs.declared.event.Verb.TheVariants as verb
 use Rattle.wtf_model.specs.Tree.{Tree}
 use Rattle.wtf_model.specs.Session.{Session, fresh}
 use Rattle.wtf_model.specs.Call.{call}
+use Rattle.wtf_model.specs.Items.{writes_of}
 use Rattle.wtf_model.specs.Transaction.{Transaction, session_from, answers_from, session_after, answers_of}
 use Rattle.wtf_model.specs.Lawful.{client_refusal}
-use Rattle.wtf_model.specs.Steps.{is_full, Machine, May, after, start, cap_of, session_of, due, with_transaction, logged, IsLogged}
+use Rattle.wtf_model.specs.Steps.{is_full, Machine, May, after, start, cap_of, session_of, due, touch, with_transaction, logged, IsLogged}
 use Rattle.wtf_model.proofs.Laws.{session_from-push, answers_from-push}
+use Rattle.wtf_model.proofs.ItemLaws.{get-each_none}
 use Rattle.wtf_model.proofs.StepLaws.{May-client, MayClient-may, after-client, MayClient-asked, MayAsk-asked, IsLogged-call, called-logged, MayCall-logged}
 use Rattle.wtf_model.specs.Examples.{asks, calls}
 
@@ -127,7 +129,7 @@ module _ (settings : Settings) (number : ℕ) (tree : Tree) (n : ℕ) (s : Sessi
       number_is = refl;
       now = ap (λ x. (session_after (4096 * x.region) m.now i.t.ops).tree) i.settings_are
           ∙ ap (λ x. (session_after (cap_with settings) x i.t.ops).tree) i.now ∙ ap (λ x. x.tree) i.session;
-      none = get-remove nat_cmp_total m.transactions 0 0;
+      none = get-each_none (touch (writes_of (cap_of m) m.now i.t.ops)) (remove m.transactions 0) 0 (get-remove nat_cmp_total m.transactions 0 0);
     }),
   )
 

@@ -2,6 +2,7 @@
 use Rattle.std.proofs.Common.{◌≡◌, ◌≢◌, ◌⊎◌, ◌+◌, ℕ, List, [], ◌∷◌, ◌++◌, Option, Some, None, refl, sym, subst, ◌∙◌, inl, inr, true, false, cond, if◌then◌else◌, Bool}
 use Rattle.std.proofs.lemmas.Bool.{cases_eq}
 use Rattle.std.proofs.lemmas.List.Elements.{All-nil, All-push}
+use Rattle.std.specs.Option.{option_map}
 use Rattle.std.specs.FinMap.{FinMap, get, insert, remove, get-empty, get-remove}
 use Rattle.std.specs.FinSet.{FinSet}
 use Rattle.std.specs.FinSet as set
@@ -12,17 +13,21 @@ use Rattle.wtf_model.specs.declared.answer.Answer.{Answer, Aborted'}
 use Rattle.wtf_model.specs.declared.answer.Answer.TheVariants.{Okay, Begun, Committed, Retry, Replayed, Planned, Installed, Stale, Scanning, More, Done, Saved, FaultSave}
 use Rattle.wtf_model.specs.declared.op.Op.{Op}
 use Rattle.wtf_model.specs.declared.op.JobKind.{JobKind}
+use Rattle.wtf_model.specs.declared.item.Item.{Item}
 use Rattle.wtf_model.specs.declared.event.Verb.{Verb}
 use Rattle.wtf_model.specs.declared.event.Verb.TheVariants as verb
 use Rattle.wtf_model.specs.declared.event.Event.{Event}
 use Rattle.wtf_model.specs.declared.event.Event.TheVariants as event
 use Rattle.wtf_model.specs.Form.{IsData, IsFormOp, IsFormVerb, IsFormEvent}
 use Rattle.wtf_model.specs.Tree.{Tree, IsTree}
+use Rattle.wtf_model.specs.Items.{writes_of}
 use Rattle.wtf_model.specs.Transaction.{Transaction}
-use Rattle.wtf_model.specs.Steps.{Machine, start, cap_of, is_logged, logged, called, ended, installed, rebased, tried, stepped, committed, saved, with_transaction, with_down, with_job, put_in_place, dropped, scanning, scanned, after, after_client}
+use Rattle.wtf_model.specs.Jobs.{job_changes}
+use Rattle.wtf_model.specs.Steps.{Machine, start, cap_of, is_logged, logged, called, ended, touch, with_each, installed, rebased, tried, stepped, committed, saved, with_transaction, with_down, with_job, put_in_place, dropped, scanning, scanned, after, after_client}
 use Rattle.wtf_model.specs.Sound.{IsSoundTransaction, IsSoundMachine}
 use Rattle.wtf_model.proofs.Laws.{get-number_same, get-number_other}
 use Rattle.wtf_model.proofs.SessionLaws.{IsTree-session_after}
+use Rattle.wtf_model.proofs.ItemLaws.{get-each}
 
 -- each open transaction is sound
 abbrev AreSound : FinMap nat_cmp Transaction → Type 0
@@ -41,6 +46,18 @@ left_by false o u e = e
 
 taken_sound : (m : FinMap nat_cmp Transaction) (c d : ℕ) (u : Transaction) → AreSound m → get (remove m c) d ≡ Some u → IsSoundTransaction u
 taken_sound m c d u all there = all d u (left_by (eq_by_cmp nat_cmp d c) (get m d) u (sym (get-remove nat_cmp_total m c d) ∙ there))
+
+-- what others have changed is no part of it
+touched_by : (items : List Item) (o : Option Transaction) (u : Transaction) → option_map (touch items) o ≡ Some u → ((t : Transaction) → o ≡ Some t → IsSoundTransaction t) → IsSoundTransaction u
+touched_by items None u e all = absurd (cc)
+touched_by items (Some t) u e all =
+    let found : Some (touch items t) ≡ Some u = e in
+    let is : touch items t ≡ u = cc in
+    let one = all t refl in
+    subst IsSoundTransaction is (record { base_is = one.base_is; form = one.form })
+
+each_sound : (m : FinMap nat_cmp Transaction) (items : List Item) (d : ℕ) (u : Transaction) → AreSound m → get (with_each (touch items) m) d ≡ Some u → IsSoundTransaction u
+each_sound m items d u all there = touched_by items (get m d) u (sym (get-each (touch items) m d) ∙ there) (λ t is. all d t is)
 
 with_sound : (m : Machine) (c : ℕ) (t : Transaction) → IsSoundMachine m → IsSoundTransaction t → IsSoundMachine (with_transaction m c t)
 with_sound m c t sound one = record { now_is = sound.now_is; saved_are = sound.saved_are; open_are = λ d u there. put_sound m.transactions c d t u (cases_eq d c) sound.open_are one there }
@@ -63,7 +80,7 @@ installed_sound : (m : Machine) (c : ℕ) (t : Transaction) (n : ℕ) → IsSoun
 installed_sound m c t n sound one = record {
   now_is = IsTree-session_after (cap_of m) m.now t.ops one.form sound.now_is;
   saved_are = sound.saved_are;
-  open_are = λ d u here. taken_sound m.transactions c d u sound.open_are here;
+  open_are = λ d u here. each_sound (remove m.transactions c) (writes_of (cap_of m) m.now t.ops) d u (λ e v there. taken_sound m.transactions c e v sound.open_are there) here;
 }
 
 tried_sound : (m : Machine) (c : ℕ) (t : Transaction) (a : Answer) → IsSoundMachine m → IsSoundTransaction t → IsSoundMachine (tried m c t a)
@@ -120,7 +137,11 @@ job_sound m j kind p r Planned sound = record { now_is = sound.now_is; saved_are
 job_sound m j kind p r a sound = sound
 
 put_in_place_sound : (m : Machine) (j : ℕ) (a : Answer) → IsSoundMachine m → IsSoundMachine (put_in_place m j a)
-put_in_place_sound m j (Installed n) sound = record { now_is = sound.now_is; saved_are = sound.saved_are; open_are = sound.open_are }
+put_in_place_sound m j (Installed n) sound = record {
+  now_is = sound.now_is;
+  saved_are = sound.saved_are;
+  open_are = λ d u here. each_sound m.transactions (job_changes m.now (get m.jobs j)) d u sound.open_are here;
+}
 put_in_place_sound m j (Stale base now) sound = record { now_is = sound.now_is; saved_are = sound.saved_are; open_are = sound.open_are }
 put_in_place_sound m j a sound = sound
 

@@ -1,8 +1,7 @@
 -- What the machine may answer to an event. Its own refusals are tried first, then what the event asks; a store's fault may
 -- come in place of an answer that needs the stores.
 -- NSDI 2016, sections 2.6 and 2.7; refusals and limits are this store's own.
-use Rattle.std.specs.Prelude.{◌≡◌, ◌≢◌, ◌⊎◌, ◌<◌, ◌≤◌, ℕ, ◌+◌, ◌-◌, nat_lt, nat_le, if◌then◌else◌, List, ◌∷◌, length, take, slice_get, false, Option, Some, None, MatchOption, Result, Ok, Err}
-use Rattle.std.specs.Bool.{MatchBool}
+use Rattle.std.specs.Prelude.{◌≡◌, ◌≢◌, ◌⊎◌, ◌<◌, ◌≤◌, ℕ, ◌+◌, ◌-◌, nat_lt, nat_le, if◌then◌else◌, List, ◌∷◌, length, take, slice_get, Bool, true, false, Option, Some, None, MatchOption, Result, Ok, Err}
 use Rattle.std.specs.FinMap.{get}
 use Rattle.wtf_model.specs.declared.limits.TheConstants.{MAX_DUMPED}
 use Rattle.wtf_model.specs.declared.answer.Answer.{Answer, Aborted'}
@@ -16,12 +15,12 @@ use Rattle.wtf_model.specs.declared.event.Verb.TheVariants as verb
 use Rattle.wtf_model.specs.declared.event.Event.{Event}
 use Rattle.wtf_model.specs.declared.event.Event.TheVariants as event
 use Rattle.wtf_model.specs.Tree.{Tree, ◌>>=◌, source, rows_of}
+use Rattle.wtf_model.specs.Items.{meets, reads_of}
 use Rattle.wtf_model.specs.Transaction.{Transaction, answers_of}
-use Rattle.wtf_model.specs.Machines.{Machine, cap_of, due, is_down, is_live, is_full}
+use Rattle.wtf_model.specs.Machines.{Machine, IsBehind, cap_of, due, is_down, is_live, is_full}
 pub use Rattle.wtf_model.specs.Faults.{IsReadFault, or_refusal}
 use Rattle.wtf_model.specs.Jobs.{plan_answer, MayFailPlan, MayPut, drop_answer}
 use Rattle.wtf_model.specs.Scans.{scan_answer, piece_answer, MayFailPiece, collect_refusal, MayCollect}
-pub use Rattle.wtf_model.specs.Built.{is_built}
 
 -- The refusals of a client's line, in their order: no transaction, or one already; a replay that runs, or none; a full
 -- log.
@@ -78,10 +77,14 @@ MayCall m t o a = (a ≡ due m t o) ⊎ MayFail m.settings.servers o (due m t o)
 abbrev pub MayInstall : Machine → Transaction → ℕ → Type 0
 MayInstall m t n = (n ≡ m.number + 1) × (answers_of (cap_of m) m.now t.ops ≡ t.shown)
 
--- an attempt: a commit, or a replay on the tree now, where others have installed since the base
+-- others have changed an item that a transaction's calls read
+abbrev pub is_touched : ℕ → Transaction → Bool
+is_touched cap t = meets t.touched (reads_of cap t.tree t.ops)
+
+-- an attempt: a commit; or a replay on the tree now, where others have installed since the base and changed what was read
 abbrev pub MayTry : Machine → Transaction → Answer → Type 0
 MayTry m t (answer.Committed n) = MayInstall m t n
-MayTry m t (answer.Retry base now) = (base ≡ t.base) × (now ≡ m.number) × (base < now)
+MayTry m t (answer.Retry base now) = IsBehind m.number t.base base now × (is_touched (cap_of m) t ≡ true)
 MayTry m t a = ⊥
 
 -- the answers deviate from what was shown at the i-th call, counted from 1, which answers a now
@@ -166,7 +169,3 @@ MayBuilt m (event.Up k) a = a ≡ server_answer m k
 MayBuilt m event.Save a = MaySave m a
 MayBuilt m (event.Dump p) a = (a ≡ dump_answer m p) ⊎ MayFailRead m.settings.servers (dump_answer m p) a
 MayBuilt m event.Tree a = a ≡ answer.Tree (rows_of m.now)
-
--- the machine may answer a to the event e; a verb that is not built answers so
-abbrev pub May : Machine → Event → Answer → Type 0
-May m e a = MatchBool (is_built e) (MayBuilt m e a) (a ≡ answer.NotBuilt)

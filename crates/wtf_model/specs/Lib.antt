@@ -7,13 +7,14 @@ pub mod HandleCalls
 pub mod ByteCalls
 pub mod SliceCalls
 pub mod Call
+pub mod Items
 pub mod Transaction
 pub mod Machines
 pub mod Faults
 pub mod Jobs
 pub mod Scans
-pub mod Built
 pub mod Lawful
+pub mod Built
 pub mod Steps
 pub mod Same
 pub mod Sound

@@ -1,5 +1,5 @@
 -- The machine: committed transactions run whole, one by one, on one tree.
-use Rattle.std.specs.Prelude.{ℕ, ◌*◌, ◌==◌, Bool, nat_le, List, [], ◌∷◌, length, Option, None}
+use Rattle.std.specs.Prelude.{◌≡◌, ◌<◌, ℕ, ◌*◌, ◌==◌, Bool, nat_le, List, [], ◌∷◌, length, Option, None}
 use Rattle.std.specs.FinMap.{FinMap, empty}
 use Rattle.std.specs.FinSet.{FinSet}
 use Rattle.std.specs.FinSet as set
@@ -52,6 +52,10 @@ cap_of m = MAX_REGIONS * m.settings.region
 -- server k is down
 abbrev pub is_down : Machine → ℕ → Bool
 is_down m k = set.contains m.down k
+
+-- others have installed since what began with so many installs, which tells so by both numbers
+abbrev pub IsBehind : (number began base now : ℕ) → Type 0
+IsBehind number began base now = (base ≡ began) × (now ≡ number) × (base < now)
 
 -- what a transaction's calls have left of its base tree
 abbrev pub session_of : Machine → Transaction → Session

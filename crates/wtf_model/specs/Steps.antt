@@ -1,8 +1,8 @@
 -- The steps of the machine: what it is after its answer to an event, and the runs that it accepts.
 -- NSDI 2016, sections 2.6 and 2.7; refusals and limits are this store's own.
-use Rattle.std.specs.Prelude.{ℕ, ◌+◌, Bool, true, false, if◌then◌else◌, List, [], ◌∷◌, ◌++◌, Option, Some, None}
+use Rattle.std.specs.Prelude.{ℕ, ◌+◌, Bool, true, false, if◌then◌else◌, List, [], ◌∷◌, ◌++◌, map, Option, Some, None}
 use Rattle.std.specs.Bool.{MatchBool}
-use Rattle.std.specs.FinMap.{get, insert, remove}
+use Rattle.std.specs.FinMap.{FinMap, get, insert, remove, entries, from_entries}
 use Rattle.std.specs.FinSet.{FinSet}
 use Rattle.std.specs.FinSet as set
 use Rattle.std.specs.Ordering.{nat_cmp}
@@ -16,11 +16,15 @@ use Rattle.wtf_model.specs.declared.event.Verb.TheVariants as verb
 use Rattle.wtf_model.specs.declared.event.Event.{Event}
 use Rattle.wtf_model.specs.declared.event.Event.TheVariants as event
 use Rattle.wtf_model.specs.declared.op.JobKind.{JobKind}
+use Rattle.wtf_model.specs.declared.item.Item.{Item}
 use Rattle.wtf_model.specs.declared.limits.TheConstants.{SCAN_PARTS}
-use Rattle.wtf_model.specs.Transaction.{Transaction, session_after}
+use Rattle.wtf_model.specs.Items.{writes_of}
+use Rattle.wtf_model.specs.Transaction.{Transaction, Job, session_after}
+use Rattle.wtf_model.specs.Jobs.{job_changes}
 use Rattle.wtf_model.specs.Scans.{open_stamps}
 pub use Rattle.wtf_model.specs.Machines.{Machine, start, cap_of, is_down, session_of, due, is_live, is_full}
-pub use Rattle.wtf_model.specs.Lawful.{MayFailRead, MayFailWrite, MayFail, MayCall, MayTry, MayAsk, MayClient, server_answer, MayBuilt, May}
+pub use Rattle.wtf_model.specs.Lawful.{MayFailRead, MayFailWrite, MayFail, MayCall, MayTry, MayAsk, MayClient, server_answer, MayBuilt}
+pub use Rattle.wtf_model.specs.Built.{MayTryAnyhow, MayAskAnyhow, MayClientAnyhow, MayAnyhow, MayCaused, May}
 
 -- the refusals of a call itself; all others are the machine's
 abbrev pub is_call_refusal : Word → Bool
@@ -76,9 +80,26 @@ logged t o a = record t { ops = t.ops ++ o ∷ []; shown = t.shown ++ a ∷ []; 
 abbrev pub called : Machine → ℕ → Transaction → Op (List ℕ) → Answer → Machine
 called m c t o a = if is_logged a then with_transaction m c (logged t o a) else m
 
+-- the same clients or labels, each with what f makes of what it had
+unfoldable pub with_each : {X : Type 0} → (X → X) → FinMap nat_cmp X → FinMap nat_cmp X
+with_each f open_ones = from_entries (map (λ e. (e.0, f e.1)) (entries open_ones))
+
+-- others have changed these items since a transaction or a job began
+abbrev pub touch : List Item → Transaction → Transaction
+touch items t = record t { touched = t.touched ++ items }
+
+abbrev pub touch_job : List Item → Job → Job
+touch_job items j = record j { touched = j.touched ++ items }
+
+-- an install has changed these items: so each transaction and each job that is open sees it
+abbrev pub touching : Machine → List Item → Machine
+touching m items = record m { transactions = with_each (touch items) m.transactions; jobs = with_each (touch_job items) m.jobs }
+
 -- an install: the calls have run on the tree now, and the transaction has ended
 abbrev pub installed : Machine → ℕ → Transaction → ℕ → Machine
-installed m c t n = record m { number = n; now = (session_after (cap_of m) m.now t.ops).tree; transactions = remove m.transactions c }
+installed m c t n =
+    touching (record m { number = n; now = (session_after (cap_of m) m.now t.ops).tree; transactions = remove m.transactions c })
+    (writes_of (cap_of m) m.now t.ops)
 
 -- a transaction on the tree now, none of whose calls was replayed
 abbrev pub rebased : Machine → Transaction → Transaction
@@ -136,9 +157,9 @@ with_job m j kind p r a = m
 abbrev pub without_job : Machine → ℕ → Machine
 without_job m j = record m { jobs = remove m.jobs j }
 
--- what a job made is in place: the next number, and the tree as it was
+-- what a job made is in place: the next number, and the tree as it was; others see that the file's bytes stand elsewhere
 abbrev pub put_in_place : Machine → ℕ → Answer → Machine
-put_in_place m j (answer.Installed n) = record (without_job m j) { number = n }
+put_in_place m j (answer.Installed n) = touching (record (without_job m j) { number = n }) (job_changes m.now (get m.jobs j))
 put_in_place m j (answer.Stale base now) = without_job m j
 put_in_place m j a = m
 

@@ -4,6 +4,7 @@ use Rattle.std.specs.Prelude.{ℕ, List, [], ◌∷◌}
 use Rattle.wtf_model.specs.declared.answer.Answer.{Answer}
 use Rattle.wtf_model.specs.declared.op.Op.{Op}
 use Rattle.wtf_model.specs.declared.op.JobKind.{JobKind}
+use Rattle.wtf_model.specs.declared.item.Item.{Item}
 use Rattle.wtf_model.specs.Tree.{Tree}
 use Rattle.wtf_model.specs.Session.{Session, fresh}
 use Rattle.wtf_model.specs.Call.{call}
@@ -24,12 +25,6 @@ session_after cap tree ops = session_from cap (fresh tree) ops
 abbrev pub answers_of : ℕ → Tree → List (Op (List ℕ)) → List Answer
 answers_of cap tree ops = answers_from cap (fresh tree) ops
 
--- what calls read and write: what stands at a path, the names in a directory, the bytes of a file
-pub data Item : Type 0 where
-  NodeOf : (path : List ℕ) → Item
-  NamesOf : (path : List ℕ) → Item
-  BodyOf : (path : List ℕ) → Item
-
 -- An open transaction: its stamp, the number of installs and the tree that it began with, its calls and what was
 -- shown of each, how many of them were replayed, and what others changed since. It is live where all were replayed.
 pub record Transaction : Type 0 where
@@ -41,7 +36,7 @@ pub record Transaction : Type 0 where
   pub replayed : ℕ
   pub touched : List Item
 
--- a job: its stamp, the region that it is for, and the number of installs that it began with
+-- a job: its stamp, the region that it is for, the number of installs that it began with, and what others changed since
 pub record Job : Type 0 where
   pub stamp : ℕ
   pub path : List ℕ

@@ -1,7 +1,8 @@
 //! Worked examples of the lines of jobs, each proved. They say of each line what may answer it where its verb is built, and what
 //! it leaves.
 
-ghost use Rattle.std.specs.Prelude.{◌≡◌, ◌≢◌, ◌↔◌, ◌⊎◌, ℕ, ◌+◌, ◌-◌, ◌/◌, ◌≤◌, ◌<◌, List, [], ◌∷◌, length, Some, None, codes};
+ghost use Rattle.std.specs.Prelude.{◌≡◌, ◌≢◌, ◌↔◌, ◌⊎◌, ℕ, ◌+◌, ◌-◌, ◌/◌, ◌≤◌, ◌<◌, true, List, [], ◌∷◌, length, Some, None, codes};
+ghost use Rattle.std.specs.Option.{option_map};
 ghost use Rattle.std.specs.FinMap.{get};
 ghost use Rattle.wtf_model.specs.declared.answer.Answer.{Answer};
 ghost use Rattle.wtf_model.specs.declared.answer.Answer.TheVariants as answer;
@@ -11,8 +12,12 @@ ghost use Rattle.wtf_model.specs.declared.op.JobKind.TheVariants.{Compact, Spill
 ghost use Rattle.wtf_model.specs.declared.event.Verb.TheVariants as verb;
 ghost use Rattle.wtf_model.specs.declared.event.Event.TheVariants as event;
 ghost use Rattle.wtf_model.specs.Tree as node;
+ghost use Rattle.wtf_model.specs.declared.item.Item.TheVariants.{BodyOf};
+ghost use Rattle.wtf_model.specs.Items.{is_among, reads_of};
 ghost use Rattle.wtf_model.specs.Transaction.{Transaction, Job};
-ghost use Rattle.wtf_model.specs.Steps.{Machine, MayBuilt, after};
+ghost use Rattle.wtf_model.specs.Machines.{IsBehind};
+ghost use Rattle.wtf_model.specs.Jobs.{is_job_touched, job_changes};
+ghost use Rattle.wtf_model.specs.Steps.{Machine, MayBuilt, after, cap_of, touch, touch_job};
 ghost use Rattle.wtf_model.specs.Examples.{Only, IsPlannable, Runs, HasTwoCalls, first_job, moved_events, stale_events};
 
 /// A plan is for a region that the file has: up to its last byte, and region 0 of an empty file. It is refused where its
@@ -71,13 +76,13 @@ pub fn planned_jobs()
 {}
 
 /// What a job made is put in place under the next number, or is stale, which comes only where others have installed since it
-/// was planned. Either ends the job. The tree stays.
+/// was planned and changed its file. Either ends the job. The tree stays; others see that the file's bytes stand elsewhere.
 pub fn puts()
     ensures installed { (m : Machine) (j n : ℕ) (job : Job) → get m.jobs j ≡ Some job →
         MayBuilt m (event.Put j) (answer.Installed n) ↔ (n ≡ m.number + 1) }
     ensures stale { (m : Machine) (j base now : ℕ) (job : Job) → get m.jobs j ≡ Some job →
         MayBuilt m (event.Put j) (answer.Stale base now) ↔
-        ((base ≡ job.base) × (now ≡ m.number) × (base < now)) }
+        (IsBehind m.number job.base base now × (is_job_touched job ≡ true)) }
     ensures no_stale_at_its_base { (m : Machine) (j base now : ℕ) (job : Job) →
         get m.jobs j ≡ Some job → job.base ≡ m.number →
         ¬ (MayBuilt m (event.Put j) (answer.Stale base now)) }
@@ -90,9 +95,15 @@ pub fn puts()
     ensures stale_gone { (m : Machine) (j base now : ℕ) →
         get (after m (event.Put j) (answer.Stale base now)).jobs j ≡ None }
     ensures others { (m : Machine) (i j n : ℕ) → i ≢ j →
-        get (after m (event.Put j) (answer.Installed n)).jobs i ≡ get m.jobs i }
+        get (after m (event.Put j) (answer.Installed n)).jobs i ≡
+        option_map (touch_job (job_changes m.now (get m.jobs j))) (get m.jobs i) }
+    ensures clients { (m : Machine) (c j n : ℕ) →
+        get (after m (event.Put j) (answer.Installed n)).transactions c ≡
+        option_map (touch (job_changes m.now (get m.jobs j))) (get m.transactions c) }
+    ensures body { (m : Machine) (job : Job) → job_changes m.now (Some job) ≡ BodyOf job.path ∷ [] }
     ensures rest { (m : Machine) (j : ℕ) (a : Answer) →
-        record (after m (event.Put j) a) { jobs = m.jobs; number = m.number } ≡ m }
+        record (after m (event.Put j) a) { transactions = m.transactions; jobs = m.jobs; number = m.number }
+        ≡ m }
 {}
 
 /// A job is dropped without a trace.
@@ -108,11 +119,13 @@ pub fn drops()
 {}
 
 /// Two jobs are planned at one number, and the first is put in place: the second may be stale, and then names the number that
-/// it was planned at. An install that changes no byte may send a transaction to replay, which answers as before; it is
-/// committed under the number after that.
+/// it was planned at. An install that changes no byte may send a transaction that has read the file to replay, which answers as
+/// before; it is committed under the number after that.
 pub fn installs_are_numbered()
     ensures two_jobs { (m : Machine) (p bytes : List ℕ) → IsPlannable m 0 p bytes →
         get m.jobs 1 ≡ None → Runs m (stale_events p m.number) }
     ensures replayed { (m : Machine) (t : Transaction) (p bytes : List ℕ) →
-        IsPlannable m 0 p bytes → HasTwoCalls m t → Runs m (moved_events p m.number) }
+        IsPlannable m 0 p bytes → HasTwoCalls m t →
+        is_among (reads_of (cap_of m) t.tree t.ops) (BodyOf p) ≡ true →
+        Runs m (moved_events p m.number) }
 {}

@@ -7,8 +7,11 @@
 
 mod answer;
 pub mod byte_examples;
+mod copies;
 mod event;
 pub mod examples;
+mod item;
+pub mod item_examples;
 pub mod job_examples;
 pub mod limits;
 mod lists;
@@ -20,7 +23,9 @@ pub mod scan_examples;
 pub mod slice_examples;
 
 pub use answer::{Answer, Kind, Word};
+pub use copies::copy_op;
 pub use event::{Event, Holder, Verb};
+pub use item::Item;
 pub use lists::{Names, Paths, Row, Rows};
 pub use op::{JobKind, Op, Seek};
 pub use same::is_same_answer;

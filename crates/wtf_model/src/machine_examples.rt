@@ -2,6 +2,7 @@
 //! and what it leaves.
 
 ghost use Rattle.std.specs.Prelude.{◌≡◌, ◌≢◌, ◌↔◌, ℕ, ◌+◌, ◌≤◌, ◌<◌, true, false, List, [], ◌∷◌, ◌++◌, length, slice_get, Some, None};
+ghost use Rattle.std.specs.Option.{option_map};
 ghost use Rattle.std.specs.FinMap.{get};
 ghost use Rattle.wtf_base.specs.declared.settings.Settings.{Settings};
 ghost use Rattle.wtf_model.specs.declared.answer.Answer.{Answer};
@@ -16,9 +17,11 @@ ghost use Rattle.wtf_model.specs.declared.event.Event.TheVariants as event;
 ghost use Rattle.wtf_model.specs.Tree.{Tree, rows_of};
 ghost use Rattle.wtf_model.specs.Tree as node;
 ghost use Rattle.wtf_model.specs.Session.{Session, Handle};
+ghost use Rattle.wtf_model.specs.Items.{writes_of};
 ghost use Rattle.wtf_model.specs.Transaction.{Transaction, session_after, answers_of};
-ghost use Rattle.wtf_model.specs.Lawful.{Deviates};
-ghost use Rattle.wtf_model.specs.Steps.{Machine, MayBuilt, Accepts, start, after, cap_of, due, is_down, is_live, is_full};
+ghost use Rattle.wtf_model.specs.Machines.{IsBehind};
+ghost use Rattle.wtf_model.specs.Lawful.{Deviates, is_touched};
+ghost use Rattle.wtf_model.specs.Steps.{Machine, MayBuilt, Accepts, start, after, cap_of, due, touch, is_down, is_live, is_full};
 ghost use Rattle.wtf_model.specs.Examples.{Only, IsAborted, first_transaction};
 
 /// A transaction begins on the tree now, with the next stamp, which is then another. A client has one at a time.
@@ -67,8 +70,9 @@ pub fn takes_calls()
 {}
 
 /// An attempt takes the next number, where the calls run on the tree now answer what was shown; it leaves the tree that
-/// they leave, ends the transaction, and touches no other. A retry comes only where others have installed since the base;
-/// the transaction then stands on the tree now, with its calls and what was shown, none of them replayed.
+/// they leave, ends the transaction, and others see what it has changed. A retry comes only where others have installed since the
+/// base and changed what the calls read; the transaction then stands on the tree now, with its calls and what was shown, none
+/// of them replayed.
 pub fn attempts()
     ensures committed { (m : Machine) (c n : ℕ) (t : Transaction) →
         get m.transactions c ≡ Some t → is_live t ≡ true →
@@ -77,7 +81,7 @@ pub fn attempts()
     ensures retry { (m : Machine) (c base now : ℕ) (t : Transaction) →
         get m.transactions c ≡ Some t → is_live t ≡ true →
         MayBuilt m (event.Client c verb.Try) (answer.Retry base now) ↔
-        ((base ≡ t.base) × (now ≡ m.number) × (base < now)) }
+        (IsBehind m.number t.base base now × (is_touched (cap_of m) t ≡ true)) }
     ensures number { (m : Machine) (c n : ℕ) (t : Transaction) → get m.transactions c ≡ Some t →
         (after m (event.Client c verb.Try) (answer.Committed n)).number ≡ n }
     ensures tree { (m : Machine) (c n : ℕ) (t : Transaction) → get m.transactions c ≡ Some t →
@@ -88,7 +92,7 @@ pub fn attempts()
     ensures others { (m : Machine) (c d n : ℕ) (t : Transaction) →
         get m.transactions c ≡ Some t → d ≢ c →
         get (after m (event.Client c verb.Try) (answer.Committed n)).transactions d ≡
-        get m.transactions d }
+        option_map (touch (writes_of (cap_of m) m.now t.ops)) (get m.transactions d) }
     ensures rebased { (m : Machine) (c base now : ℕ) (t : Transaction) →
         get m.transactions c ≡ Some t →
         get (after m (event.Client c verb.Try) (answer.Retry base now)).transactions c ≡

@@ -9,7 +9,7 @@ use std::alloc::Global;
 use wtf_base::{Bytes, OutOfMemory};
 
 /// The same bytes in memory of their own.
-fn copy_bytes(alloc: Global, bytes: &Bytes) -> Result<Bytes, OutOfMemory>
+pub(crate) fn copy_bytes(alloc: Global, bytes: &Bytes) -> Result<Bytes, OutOfMemory>
     ensures { IfOk result (λ made. made ≡ bytes.now) }
 {
     let copied = Vec::from_slice(alloc, bytes.as_slice())?;

@@ -1,0 +1,181 @@
+-- Laws of items: when two are the same, when lists of them meet, what calls one after another read and change, and what each open
+-- transaction and job sees of what others have changed.
+use Rattle.std.proofs.Common.{◌≡◌, ℕ, ◌||◌, Bool, true, false, cond, List, [], ◌∷◌, ◌++◌, map, Option, Some, None, refl, sym, ap, subst, ◌∙◌, append_assoc, append-nil}
+use Rattle.std.specs.Option.{option_map}
+use Rattle.std.proofs.lemmas.List.Folds.{list_any-append}
+use Rattle.std.proofs.lemmas.Slice.Eq.{bytes_eq-Decides}
+use Rattle.std.specs.FinMap.{FinMap, get, find, entries, get-entries, get-from_entries}
+use Rattle.std.specs.Ordering.{nat_cmp, eq_by_cmp}
+use Rattle.std.specs.Cmp.{nat_cmp_total}
+use Rattle.wtf_model.specs.declared.item.Item.{Item}
+use Rattle.wtf_model.specs.declared.item.Item.TheVariants.{NodeOf, NamesOf, BodyOf}
+use Rattle.wtf_model.specs.declared.answer.Answer.{Answer}
+use Rattle.wtf_model.specs.declared.answer.Answer.TheVariants as answer
+use Rattle.wtf_model.specs.declared.answer.Word.{Word}
+use Rattle.wtf_model.specs.declared.op.Op.{Op}
+use Rattle.wtf_model.specs.Session.{Session}
+use Rattle.wtf_model.specs.Done.{Done}
+use Rattle.wtf_model.specs.Call.{call}
+use Rattle.wtf_model.specs.Items.{same_item, is_among, meets, source_reads, reads, changes, unless_refused, writes, reads_from, writes_from}
+use Rattle.wtf_model.specs.Transaction.{Transaction, session_from}
+use Rattle.wtf_model.specs.Steps.{touch, with_each}
+
+-- ---- items that are the same
+
+pub same_item-itself : (i : Item) → same_item i i ≡ true
+same_item-itself (NodeOf p) = (bytes_eq-Decides p p).1 refl
+same_item-itself (NamesOf p) = (bytes_eq-Decides p p).1 refl
+same_item-itself (BodyOf p) = (bytes_eq-Decides p p).1 refl
+
+pub same_item-is : (i j : Item) → same_item i j ≡ true → i ≡ j
+same_item-is (NodeOf p) (NodeOf q) e = ap (λ x. NodeOf x) ((bytes_eq-Decides p q).0 e)
+same_item-is (NamesOf p) (NamesOf q) e = ap (λ x. NamesOf x) ((bytes_eq-Decides p q).0 e)
+same_item-is (BodyOf p) (BodyOf q) e = ap (λ x. BodyOf x) ((bytes_eq-Decides p q).0 e)
+same_item-is i j e = absurd (cc)
+
+-- ---- items of lists
+
+or_later : (a b : Bool) → b ≡ true → (a || b) ≡ true
+or_later true b e = refl
+or_later false b e = e
+
+pub is_among-head : (i : Item) (items : List Item) → is_among (i ∷ items) i ≡ true
+is_among-head i items = ap (λ b. b || is_among items i) (same_item-itself i)
+
+pub is_among-tail : (j : Item) (items : List Item) (i : Item) → is_among items i ≡ true → is_among (j ∷ items) i ≡ true
+is_among-tail j items i e = or_later (same_item i j) (is_among items i) e
+
+pub is_among-append : (xs ys : List Item) (i : Item) → is_among (xs ++ ys) i ≡ (is_among xs i || is_among ys i)
+is_among-append xs ys i = list_any-append (same_item i) xs ys
+
+pub is_among-left : (xs ys : List Item) (i : Item) → is_among xs i ≡ true → is_among (xs ++ ys) i ≡ true
+is_among-left xs ys i e = is_among-append xs ys i ∙ ap (λ b. b || is_among ys i) e
+
+pub is_among-right : (xs ys : List Item) (i : Item) → is_among ys i ≡ true → is_among (xs ++ ys) i ≡ true
+is_among-right xs ys i e = is_among-append xs ys i ∙ or_later (is_among xs i) (is_among ys i) e
+
+-- one item of both lists makes them meet
+pub meets-by : (xs ys : List Item) (i : Item) → is_among xs i ≡ true → is_among ys i ≡ true → meets xs ys ≡ true
+meets-by xs [] i here there = absurd (cc)
+meets-by xs (y ∷ ys) i here there =
+    elim (same_item i y) as (λ b. same_item i y ≡ b → (b || is_among ys i) ≡ true → (is_among xs y || meets xs ys) ≡ true) [
+      | true ↦ λ e rest. ap (λ b. b || meets xs ys) (subst (λ z. is_among xs z ≡ true) (same_item-is i y e) here)
+      | false ↦ λ e rest. or_later (is_among xs y) (meets xs ys) (meets-by xs ys i here rest)
+    ] refl there
+
+-- and lists that meet have one
+pub meets-both : (xs ys : List Item) → meets xs ys ≡ true → (i : Item) × (is_among xs i ≡ true) × (is_among ys i ≡ true)
+meets-both xs [] e = absurd (cc)
+meets-both xs (y ∷ ys) e =
+    elim (is_among xs y) as (λ b. is_among xs y ≡ b → (b || meets xs ys) ≡ true → (i : Item) × (is_among xs i ≡ true) × (is_among (y ∷ ys) i ≡ true)) [
+      | true ↦ λ here rest. (y, here, is_among-head y ys)
+      | false ↦ λ here rest. let (i, one, two) = meets-both xs ys rest in (i, one, is_among-tail y ys i two)
+    ] refl e
+
+pub meets-append : (xs ys zs : List Item) → meets xs (ys ++ zs) ≡ (meets xs ys || meets xs zs)
+meets-append xs ys zs = list_any-append (is_among xs) ys zs
+
+-- no item meets none
+pub meets-none : (ys : List Item) → meets [] ys ≡ false
+meets-none [] = refl
+meets-none (y ∷ ys) = meets-none ys
+
+-- what met goes on to meet
+pub meets-more : (xs more ys : List Item) → meets xs ys ≡ true → meets (xs ++ more) ys ≡ true
+meets-more xs more ys e = let (i, one, two) = meets-both xs ys e in meets-by (xs ++ more) ys i (is_among-left xs more i one) two
+
+pub meets-last : (xs ys : List Item) (i : Item) → is_among ys i ≡ true → meets (xs ++ i ∷ []) ys ≡ true
+meets-last xs ys i e = meets-by (xs ++ i ∷ []) ys i (is_among-right xs (i ∷ []) i (is_among-head i [])) e
+
+-- the bytes of a file are read by what reads the file
+pub meets-body : (p : List ℕ) → meets (BodyOf p ∷ []) (source_reads p) ≡ true
+meets-body p = meets-by (BodyOf p ∷ []) (source_reads p) (BodyOf p) (is_among-head (BodyOf p) []) (is_among-tail (NodeOf p) (BodyOf p ∷ []) (BodyOf p) (is_among-head (BodyOf p) []))
+
+-- ---- what calls read and change
+
+pub writes-refused : (cap : ℕ) (s : Session) (o : Op (List ℕ)) (w : Word) → (call cap s o).answer ≡ answer.Refused w → writes cap s o ≡ []
+writes-refused cap s o w e = ap (λ (a : Answer). unless_refused a (changes s o)) e
+
+pub writes-okay : (cap : ℕ) (s : Session) (o : Op (List ℕ)) → (call cap s o).answer ≡ answer.Okay → writes cap s o ≡ changes s o
+writes-okay cap s o e = ap (λ (a : Answer). unless_refused a (changes s o)) e
+
+-- from a call whose answer is known
+pub reads_from-next : (cap : ℕ) (s later : Session) (o : Op (List ℕ)) (a : Answer) (ops : List (Op (List ℕ))) → call cap s o ≡ record { session = later; answer = a }
+    → reads_from cap s (o ∷ ops) ≡ reads s o ++ reads_from cap later ops
+unfolding reads_from
+reads_from-next cap s later o a ops e = ap (λ (d : Done). reads s o ++ reads_from cap d.session ops) e
+
+pub writes_from-next : (cap : ℕ) (s later : Session) (o : Op (List ℕ)) (a : Answer) (ops : List (Op (List ℕ))) → call cap s o ≡ record { session = later; answer = a }
+    → writes_from cap s (o ∷ ops) ≡ unless_refused a (changes s o) ++ writes_from cap later ops
+unfolding writes_from
+writes_from-next cap s later o a ops e = ap (λ (d : Done). unless_refused d.answer (changes s o) ++ writes_from cap d.session ops) e
+
+pub reads_from-cons : (cap : ℕ) (s : Session) (o : Op (List ℕ)) (ops : List (Op (List ℕ))) → reads_from cap s (o ∷ ops) ≡ reads s o ++ reads_from cap (call cap s o).session ops
+unfolding reads_from
+reads_from-cons cap s o ops = refl
+
+pub writes_from-cons : (cap : ℕ) (s : Session) (o : Op (List ℕ)) (ops : List (Op (List ℕ))) → writes_from cap s (o ∷ ops) ≡ writes cap s o ++ writes_from cap (call cap s o).session ops
+unfolding writes_from
+writes_from-cons cap s o ops = refl
+
+pub reads_from-none : (cap : ℕ) (s : Session) → reads_from cap s [] ≡ []
+unfolding reads_from
+reads_from-none cap s = refl
+
+pub writes_from-none : (cap : ℕ) (s : Session) → writes_from cap s [] ≡ []
+unfolding writes_from
+writes_from-none cap s = refl
+
+-- one more call
+pub reads_from-push : (cap : ℕ) (s : Session) (ops : List (Op (List ℕ))) (o : Op (List ℕ)) → reads_from cap s (ops ++ o ∷ []) ≡ reads_from cap s ops ++ reads (session_from cap s ops) o
+unfolding reads_from session_from
+reads_from-push cap s [] o = append-nil (reads s o)
+reads_from-push cap s (x ∷ ops) o =
+    ap (λ l. reads s x ++ l) (reads_from-push cap (call cap s x).session ops o)
+    ∙ sym (append_assoc (reads s x) (reads_from cap (call cap s x).session ops) (reads (session_from cap (call cap s x).session ops) o))
+
+pub writes_from-push : (cap : ℕ) (s : Session) (ops : List (Op (List ℕ))) (o : Op (List ℕ)) → writes_from cap s (ops ++ o ∷ []) ≡ writes_from cap s ops ++ writes cap (session_from cap s ops) o
+unfolding writes_from session_from
+writes_from-push cap s [] o = append-nil (writes cap s o)
+writes_from-push cap s (x ∷ ops) o =
+    ap (λ l. writes cap s x ++ l) (writes_from-push cap (call cap s x).session ops o)
+    ∙ sym (append_assoc (writes cap s x) (writes_from cap (call cap s x).session ops) (writes cap (session_from cap (call cap s x).session ops) o))
+
+-- ---- what each open transaction or job becomes
+
+module _ {X : Type 0} (f : X → X) where
+  found_each : (b : Bool) (x : X) (l r : Option X) → r ≡ option_map f l → cond b (Some (f x)) r ≡ option_map f (cond b (Some x) l)
+  found_each true x l r e = refl
+  found_each false x l r e = e
+
+  find_each : (es : List (ℕ × X)) (q : ℕ) → find nat_cmp q (map (λ e. (e.0, f e.1)) es) ≡ option_map f (find nat_cmp q es)
+  find_each [] q = refl
+  find_each (e ∷ es) q = found_each (eq_by_cmp nat_cmp q e.0) e.1 (find nat_cmp q es) (find nat_cmp q (map (λ e. (e.0, f e.1)) es)) (find_each es q)
+
+  pub get-each : (m : FinMap nat_cmp X) (q : ℕ) → get (with_each f m) q ≡ option_map f (get m q)
+  unfolding with_each
+  get-each m q = get-from_entries nat_cmp_total (map (λ e. (e.0, f e.1)) (entries m)) q ∙ find_each (entries m) q ∙ ap (option_map f) (sym (get-entries m q))
+
+  -- where none was, none is, and one that was is what f makes of it
+  pub get-each_none : (m : FinMap nat_cmp X) (q : ℕ) → get m q ≡ None → get (with_each f m) q ≡ None
+  get-each_none m q none = get-each m q ∙ ap (option_map f) none
+
+  pub get-each_some : (m : FinMap nat_cmp X) (q : ℕ) (x : X) → get m q ≡ Some x → get (with_each f m) q ≡ Some (f x)
+  get-each_some m q x there = get-each m q ∙ ap (option_map f) there
+
+-- what a client has is the same, but for what others have changed since
+abbrev pub IsBeside : Option Transaction → Option Transaction → Type 0
+IsBeside None None = Unit {0}
+IsBeside (Some t) (Some u) = (items : List Item) × (u ≡ record t { touched = items })
+IsBeside o p = ⊥
+
+pub IsBeside-itself : (o : Option Transaction) → IsBeside o o
+IsBeside-itself None = tt
+IsBeside-itself (Some t) = (t.touched, refl)
+
+pub IsBeside-same : (o p : Option Transaction) → p ≡ o → IsBeside o p
+IsBeside-same o p e = subst (IsBeside o) (sym e) (IsBeside-itself o)
+
+pub IsBeside-touched : (items : List Item) (o p : Option Transaction) → p ≡ option_map (touch items) o → IsBeside o p
+IsBeside-touched items None p e = subst (IsBeside None) (sym e) tt
+IsBeside-touched items (Some t) p e = subst (IsBeside (Some t)) (sym e) (t.touched ++ items, refl)
