@@ -14,6 +14,7 @@ use Rattle.wtf_model.specs.declared.answer.Answer.{Answer, Aborted'}
 use Rattle.wtf_model.specs.declared.answer.Answer.TheVariants as answer
 use Rattle.wtf_machine.specs.declared.begun.Verdict.TheVariants as verdict
 use Rattle.wtf_model.specs.declared.op.Op.{Op}
+use Rattle.wtf_model.specs.declared.item.Item.{Item}
 use Rattle.wtf_model.specs.Transaction.{Transaction}
 use Rattle.wtf_model.specs.Machines.{Machine, is_live, is_full}
 use Rattle.wtf_model.specs.Steps.{is_logged, logged}
@@ -21,12 +22,13 @@ use Rattle.wtf_machine.specs.declared.begun.Begun.{Begun}
 use Rattle.wtf_machine.specs.declared.log.Logged.{Logged}
 use Rattle.wtf_machine.specs.Logs.{ops_of}
 use Rattle.wtf_machine.specs.Maps.{map_of}
-use Rattle.wtf_machine.specs.Verdicts.{transaction_in, called_on, stepped_on, IsAborting, IsVerdict}
+use Rattle.wtf_machine.specs.Verdicts.{transaction_in, open_in, called_on, stepped_on, IsAborting, IsVerdict}
 use Rattle.wtf_machine.specs.Kept.{Decides, called_in, stepped_in}
 use Rattle.wtf_machine.proofs.MapLaws.{get-map_of, map_of-put}
+use Rattle.wtf_machine.proofs.SeenLaws.{open_same}
 
-abbrev seen : List (ℕ × Begun) → FinMap nat_cmp Transaction
-seen es = map_of nat_cmp transaction_in es
+abbrev seen : List Item → List (ℕ × Begun) → FinMap nat_cmp Transaction
+seen changed es = map_of nat_cmp (open_in changed) es
 
 -- what a map has at a key may be put there again
 again : (b : Bool) (o : Option Transaction) (t : Transaction) → (b ≡ true → o ≡ Some t) → cond b (Some t) o ≡ o
@@ -39,27 +41,30 @@ insert-again ts c t there =
     get-insert nat_cmp_total ts c t q
     ∙ again (eq_by_cmp nat_cmp q c) (get ts q) t (λ e. subst (λ x. get ts x ≡ Some t) (sym (tells_apart nat_cmp-IsAntisymmetric q c e)) there))
 
-module _ (es : List (ℕ × Begun)) (c : ℕ) where
+module _ (changed : List Item) (es : List (ℕ × Begun)) (c : ℕ) where
   -- the transaction that is found
-  pub found_is : (b : Begun) (t : Transaction) → Some b ≡ lookup (is_at (nat_cmp c)) es → get (seen es) c ≡ Some t → transaction_in b ≡ t
+  pub found_is : (b : Begun) (t : Transaction) → Some b ≡ lookup (is_at (nat_cmp c)) es → get (seen changed es) c ≡ Some t → open_in changed b ≡ t
   found_is b t found there =
-      let same : Some (transaction_in b) ≡ Some t = ap (option_map transaction_in) found ∙ sym (get-map_of nat_cmp_total transaction_in es c) ∙ there in cc
+      let same : Some (open_in changed b) ≡ Some t =
+      ap (option_map (open_in changed)) found ∙ sym (get-map_of nat_cmp_total (open_in changed) es c) ∙ there in cc
 
-  pub found_at : (b : Begun) → Some b ≡ lookup (is_at (nat_cmp c)) es → get (seen es) c ≡ Some (transaction_in b)
-  found_at b found = get-map_of nat_cmp_total transaction_in es c ∙ ap (option_map transaction_in) (sym found)
+  pub found_at : (b : Begun) → Some b ≡ lookup (is_at (nat_cmp c)) es → get (seen changed es) c ≡ Some (open_in changed b)
+  found_at b found = get-map_of nat_cmp_total (open_in changed) es c ∙ ap (option_map (open_in changed)) (sym found)
 
-  pub none_found : (t : Transaction) → None ≡ lookup (is_at (nat_cmp c)) es → get (seen es) c ≡ Some t → ⊥
+  pub none_found : (t : Transaction) → None ≡ lookup (is_at (nat_cmp c)) es → get (seen changed es) c ≡ Some t → ⊥
   none_found t none there =
-      let same : None ≡ Some t = ap (option_map transaction_in) none ∙ sym (get-map_of nat_cmp_total transaction_in es c) ∙ there in cc
+      let same : None ≡ Some t = ap (option_map (open_in changed)) none ∙ sym (get-map_of nat_cmp_total (open_in changed) es c) ∙ there in cc
 
   -- it became another
   pub becomes : (new : List (ℕ × Begun)) (w : Begun) → ((q : ℕ) → lookup (is_at (nat_cmp q)) new ≡ cond (is_at (nat_cmp c) q) (Some w) (lookup (is_at (nat_cmp q)) es))
-      → seen new ≡ insert (seen es) c (transaction_in w)
-  becomes new w is = map_of-put nat_cmp_total transaction_in nat_cmp-IsAntisymmetric es new c w is
+      → seen changed new ≡ insert (seen changed es) c (open_in changed w)
+  becomes new w is = map_of-put nat_cmp_total (open_in changed) nat_cmp-IsAntisymmetric es new c w is
 
   pub stays : (new : List (ℕ × Begun)) (b w : Begun) → Some b ≡ lookup (is_at (nat_cmp c)) es → ((q : ℕ) → lookup (is_at (nat_cmp q)) new ≡ cond (is_at (nat_cmp c) q) (Some w) (lookup (is_at (nat_cmp q)) es))
-      → transaction_in w ≡ transaction_in b → seen new ≡ seen es
-  stays new b w found is same = becomes new w is ∙ ap (insert (seen es) c) same ∙ insert-again (seen es) c (transaction_in b) (found_at b found)
+      → transaction_in w ≡ transaction_in b → w.since ≡ b.since → seen changed new ≡ seen changed es
+  stays new b w found is same since =
+      becomes new w is ∙ ap (insert (seen changed es) c) (open_same changed w b same since)
+      ∙ insert-again (seen changed es) c (open_in changed b) (found_at b found)
 
 -- after a call
 

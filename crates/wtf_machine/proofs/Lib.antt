@@ -1,7 +1,8 @@
 mod MapLaws
 mod OrderedLaws
+mod SeenLaws
+mod RunWays
 mod HandleWays
-mod NameLaws
 mod SliceWays
 mod CallWays
 mod LogLaws

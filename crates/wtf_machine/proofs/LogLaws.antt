@@ -39,7 +39,7 @@ unfolding answers_from
 first_answers cap s new o ops a is = ap (λ (d : Done). d.answer ∷ answers_from cap d.session ops) is
 
 -- the calls from one on
-ops_left : (calls : List Logged) (i : ℕ) (x : Logged) → i < length calls → x ≡ get_or calls i x → ops_of (drop i calls) ≡ x.op ∷ ops_of (drop (i + 1) calls)
+pub ops_left : (calls : List Logged) (i : ℕ) (x : Logged) → i < length calls → x ≡ get_or calls i x → ops_of (drop i calls) ≡ x.op ∷ ops_of (drop (i + 1) calls)
 ops_left calls i x below is = ap ops_of (drop-cons calls i x below) ∙ ap (λ (y : Logged). y.op ∷ ops_of (drop (suc i) calls)) (sym is) ∙ ap (λ n. x.op ∷ ops_of (drop n calls)) (sym (add-one i))
 
 pub session-left : (cap : ℕ) (s new : Session) (calls : List Logged) (i : ℕ) (x : Logged) (a : Answer)

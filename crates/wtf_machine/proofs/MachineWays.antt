@@ -1,14 +1,21 @@
 -- What a machine is after a client's line, from what its transactions are.
-use Rattle.std.proofs.Common.{◌≡◌, ℕ, Bool, true, false, if◌then◌else◌, List, Option, Some, None, Result, Ok, Err, IfOk, refl, sym, ap, ap₂, ◌∙◌}
-use Rattle.std.specs.FinMap.{FinMap}
+use Rattle.std.proofs.Common.{◌≡◌, ℕ, ◌+◌, Bool, true, false, if◌then◌else◌, List, Option, Some, None, Result, Ok, Err, IfOk, refl, sym, ap, ap₂, ◌∙◌}
+use Rattle.std.specs.Prelude.{Vec}
+use Rattle.std.specs.declared.alloc.Global.{Global}
+use Rattle.std.specs.FinMap.{FinMap, get, remove}
 use Rattle.std.specs.Ordering.{nat_cmp}
 use Rattle.wtf_model.specs.declared.answer.Answer.{Answer, Aborted'}
 use Rattle.wtf_model.specs.declared.answer.Answer.TheVariants as answer
 use Rattle.wtf_model.specs.declared.event.Verb.TheVariants as verb
 use Rattle.wtf_model.specs.declared.op.Op.{Op}
-use Rattle.wtf_model.specs.Transaction.{Transaction}
+use Rattle.wtf_model.specs.declared.item.Item.{Item}
+use Rattle.wtf_model.specs.Tree.{Tree}
+use Rattle.wtf_model.specs.Items.{writes_of}
+use Rattle.wtf_model.specs.Transaction.{Transaction, Job, session_after}
+use Rattle.wtf_model.specs.Jobs.{job_changes}
+use Rattle.wtf_model.specs.Machines.{cap_of}
 use Rattle.wtf_model.specs.Lawful.{MayTry, MayCommit, MayCall, MayClient, client_refusal}
-use Rattle.wtf_model.specs.Steps.{Machine, is_logged, tried, stepped, committed, called, after_client}
+use Rattle.wtf_model.specs.Steps.{Machine, is_logged, with_each, touch, touch_job, touching, put_in_place, installed, tried, stepped, committed, called, after_client}
 use Rattle.wtf_model.proofs.StepLaws.{MayClient-asked, MayAsk-asked}
 use Rattle.wtf_machine.specs.declared.begun.Fate.{Fate}
 use Rattle.wtf_machine.specs.declared.begun.Fate.TheVariants as fate
@@ -58,6 +65,15 @@ module _ (m : Machine) (c : ℕ) (t : Transaction) where
   committed_idle (Aborted' i box a) idle = absurd idle
   committed_idle a idle = refl
 
+  -- an install, by its number, its tree and what it changes
+  installs_so : (n : ℕ) (tree : Tree) (items : Vec Item Global) → n ≡ m.number + 1
+      → (tree ≡ (session_after (cap_of m) m.now t.ops).tree) × (items.items ≡ writes_of (cap_of m) m.now t.ops)
+      → settled m c t (fate.Installs tree items) ≡ installed m c t n
+  installs_so n tree items number is =
+      ap₂ (λ k w. touching (record m { number = k; now = w; transactions = remove m.transactions c }) items.items) (sym number) is.0
+      ∙ ap (λ changed. touching (record m { number = n; now = (session_after (cap_of m) m.now t.ops).tree; transactions = remove m.transactions c })
+      changed) is.1
+
   settled_try : (a : Answer) (f : Fate) → is_lawful f ≡ true → IsFate (MayTry m t a) m t a f → settled m c t f ≡ tried m c t a
   settled_try a fate.Unlawful lawful is = absurd (cc)
   settled_try a fate.Stays lawful is = sym (tried_idle a is.1)
@@ -65,8 +81,8 @@ module _ (m : Machine) (c : ℕ) (t : Transaction) where
   settled_try a fate.Ends lawful is = absurd is.1
   settled_try (answer.Retry base now) fate.Rebases lawful is = refl
   settled_try a fate.Rebases lawful is = absurd is.1
-  settled_try (answer.Committed n) (fate.Installs tree) lawful is = ap₂ (λ k w. record (settled m c t (fate.Installs tree)) { number = k; now = w }) (sym is.0.0) is.1
-  settled_try a (fate.Installs tree) lawful is = absurd is.1
+  settled_try (answer.Committed n) (fate.Installs tree items) lawful is = installs_so n tree items is.0.0 is.1
+  settled_try a (fate.Installs tree items) lawful is = absurd is.1
 
   settled_commit : (a : Answer) (f : Fate) → is_lawful f ≡ true → IsFate (MayCommit m t a) m t a f → settled m c t f ≡ committed m c t a
   settled_commit a fate.Unlawful lawful is = absurd (cc)
@@ -75,22 +91,22 @@ module _ (m : Machine) (c : ℕ) (t : Transaction) where
   settled_commit a fate.Ends lawful is = absurd is.1
   settled_commit (answer.Retry base now) fate.Rebases lawful is = absurd is.0
   settled_commit a fate.Rebases lawful is = absurd is.1
-  settled_commit (answer.Committed n) (fate.Installs tree) lawful is = ap₂ (λ k w. record (settled m c t (fate.Installs tree)) { number = k; now = w }) (sym is.0.0) is.1
-  settled_commit a (fate.Installs tree) lawful is = absurd is.1
+  settled_commit (answer.Committed n) (fate.Installs tree items) lawful is = installs_so n tree items is.0.0 is.1
+  settled_commit a (fate.Installs tree items) lawful is = absurd is.1
 
   lawful_so : (Lawful : Type 0) (a : Answer) (f : Fate) → is_lawful f ≡ true → IsFate Lawful m t a f → Lawful
   lawful_so Lawful a fate.Unlawful lawful is = absurd (cc)
   lawful_so Lawful a fate.Stays lawful is = is.0
   lawful_so Lawful a fate.Ends lawful is = is.0
   lawful_so Lawful a fate.Rebases lawful is = is.0
-  lawful_so Lawful a (fate.Installs tree) lawful is = is.0
+  lawful_so Lawful a (fate.Installs tree items) lawful is = is.0
 
   unlawful_so : (Lawful : Type 0) (a : Answer) (f : Fate) → is_lawful f ≡ false → IsFate Lawful m t a f → (Lawful → ⊥) × (settled m c t f ≡ m)
   unlawful_so Lawful a fate.Unlawful not is = (is, refl)
   unlawful_so Lawful a fate.Stays not is = absurd (cc)
   unlawful_so Lawful a fate.Ends not is = absurd (cc)
   unlawful_so Lawful a fate.Rebases not is = absurd (cc)
-  unlawful_so Lawful a (fate.Installs tree) not is = absurd (cc)
+  unlawful_so Lawful a (fate.Installs tree items) not is = absurd (cc)
 
   decided_fate : {E : Type 0} (r : Result Bool E) (Lawful : Type 0) (a : Answer) (f : Fate) (next new : Machine) → IsFate Lawful m t a f
       → (is_lawful f ≡ true → settled m c t f ≡ next) → IfOk r (λ yes. yes ≡ is_lawful f) → IfOk r (λ yes. new ≡ settled m c t f) → IfOk r (Decides Lawful m next new)
@@ -123,6 +139,27 @@ pub called_client : {E : Type 0} (r : Result Bool E) (m : Machine) (c : ℕ) (fo
 called_client r m c None o a new free d = absurd (cc)
 called_client r m c (Some t) o a new free d =
     all_iff r _ _ m (called m c t o a) new (MayClient-asked m (Some t) (verb.Call o) a free) (MayAsk-asked m (Some t) (verb.Call o) a free) (d t refl)
+
+-- what others see of an install: a client's transaction has ended, or a job has
+
+pub touching_so : (m : Machine) (n c : ℕ) (tree : Tree) (items copy : List Item) (ts old : FinMap nat_cmp Transaction) (js jobs : FinMap nat_cmp Job)
+    → ts ≡ with_each (touch items) (remove old c) → old ≡ m.transactions → js ≡ with_each (touch_job copy) jobs → jobs ≡ m.jobs → copy ≡ items
+    → record m { number = n; now = tree; transactions = ts; jobs = js }
+    ≡ touching (record m { number = n; now = tree; transactions = remove m.transactions c }) items
+touching_so m n c tree items copy ts old js jobs clients kept seen same copied =
+    ap₂ (λ x y. record m { number = n; now = tree; transactions = x; jobs = y })
+    (clients ∙ ap (λ (x : FinMap nat_cmp Transaction). with_each (touch items) (remove x c)) kept)
+    (seen ∙ ap (λ (x : FinMap nat_cmp Job). with_each (touch_job copy) x) same ∙ ap (λ (l : List Item). with_each (touch_job l) m.jobs) copied)
+
+pub placing_so : (m : Machine) (n j : ℕ) (items copy : List Item) (ts old : FinMap nat_cmp Transaction) (js jobs : FinMap nat_cmp Job)
+    → ts ≡ with_each (touch items) old → old ≡ m.transactions → js ≡ with_each (touch_job copy) (remove jobs j) → jobs ≡ m.jobs → copy ≡ items
+    → items ≡ job_changes m.now (get m.jobs j)
+    → record m { number = n; transactions = ts; jobs = js } ≡ put_in_place m j (answer.Installed n)
+placing_so m n j items copy ts old js jobs clients kept seen same copied are =
+    ap₂ (λ x y. record m { number = n; transactions = x; jobs = y })
+    (clients ∙ ap (λ (x : FinMap nat_cmp Transaction). with_each (touch items) x) kept ∙ ap (λ (l : List Item). with_each (touch l) m.transactions) are)
+    (seen ∙ ap (λ (x : FinMap nat_cmp Job). with_each (touch_job copy) (remove x j)) same
+    ∙ ap (λ (l : List Item). with_each (touch_job l) (remove m.jobs j)) (copied ∙ are))
 
 -- what is found is the transaction
 pub found_same : (x t : Transaction) (o : Option Transaction) → Some x ≡ o → o ≡ Some t → x ≡ t

@@ -1,5 +1,5 @@
 -- What the machine keeps: transactions by their clients, and jobs by their labels. What an answer was found to be.
-use Rattle.std.specs.Prelude.{◌≡◌, ℕ, Bool, true, false, if◌then◌else◌, List, []}
+use Rattle.std.specs.Prelude.{◌≡◌, ℕ, Bool, true, false, if◌then◌else◌, List, [], drop}
 use Rattle.std.specs.FinMap.{FinMap, insert, remove}
 use Rattle.std.specs.Ordering.{nat_cmp}
 use Rattle.wtf_machine.specs.declared.clients.Clients.{Clients}
@@ -8,21 +8,26 @@ use Rattle.wtf_machine.specs.declared.jobs.PlannedJob.{PlannedJob}
 use Rattle.wtf_model.specs.declared.answer.Answer.{Answer, Aborted'}
 use Rattle.wtf_model.specs.declared.answer.Answer.TheVariants as answer
 use Rattle.wtf_model.specs.declared.op.Op.{Op}
+use Rattle.wtf_model.specs.declared.item.Item.{Item}
 use Rattle.wtf_model.specs.Transaction.{Transaction, Job}
 use Rattle.wtf_model.specs.Steps.{is_logged, logged}
 use Rattle.wtf_machine.specs.Maps.{map_of}
-use Rattle.wtf_machine.specs.Verdicts.{transaction_in}
+use Rattle.wtf_machine.specs.Verdicts.{open_in}
 
 -- transactions by their clients
 abbrev pub clients_in : Clients → FinMap nat_cmp Transaction
-clients_in k = map_of nat_cmp transaction_in k.items.entries
+clients_in k = map_of nat_cmp (open_in k.changed.items) k.items.entries
 
--- jobs by their labels
+-- a job, without what others have changed since it was planned, and with it
 abbrev pub job_in : PlannedJob → Job
 job_in j = record { stamp = j.stamp; path = j.path; region = j.region; kind = j.kind; base = j.base; touched = [] }
 
+abbrev pub planned_in : List Item → PlannedJob → Job
+planned_in changed j = record (job_in j) { touched = drop j.since changed }
+
+-- jobs by their labels
 abbrev pub jobs_in : Jobs → FinMap nat_cmp Job
-jobs_in k = map_of nat_cmp job_in k.items.entries
+jobs_in k = map_of nat_cmp (planned_in k.changed.items) k.items.entries
 
 -- an answer is lawful, and all goes on to what is next; or it is not, and all stays
 abbrev pub Decides : {A : Type 0} → Type 0 → (old next new : A) → Bool → Type 0

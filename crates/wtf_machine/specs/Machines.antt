@@ -5,7 +5,7 @@ use Rattle.wtf_machine.specs.declared.machine.Machine.{Machine as Kept}
 use Rattle.wtf_machine.specs.declared.begun.Fate.{Fate}
 use Rattle.wtf_machine.specs.declared.begun.Fate.TheVariants as fate
 use Rattle.wtf_model.specs.Transaction.{Transaction}
-use Rattle.wtf_model.specs.Steps.{Machine, ended, with_transaction, rebased}
+use Rattle.wtf_model.specs.Steps.{Machine, ended, with_transaction, rebased, touching}
 use Rattle.wtf_machine.specs.Kept.{clients_in, jobs_in}
 
 abbrev pub machine_in : Kept → Machine
@@ -32,4 +32,4 @@ settled m c t fate.Unlawful = m
 settled m c t fate.Stays = m
 settled m c t fate.Ends = ended m c
 settled m c t fate.Rebases = with_transaction m c (rebased m t)
-settled m c t (fate.Installs tree) = record m { number = m.number + 1; now = tree; transactions = remove m.transactions c }
+settled m c t (fate.Installs tree items) = touching (record m { number = m.number + 1; now = tree; transactions = remove m.transactions c }) items.items

@@ -1,5 +1,5 @@
 -- What the machine finds of an answer to a line of a client that has a transaction.
-use Rattle.std.specs.Prelude.{◌≡◌, ℕ, List, [], if◌then◌else◌}
+use Rattle.std.specs.Prelude.{◌≡◌, ℕ, List, [], drop, if◌then◌else◌}
 use Rattle.wtf_machine.specs.declared.begun.Begun.{Begun}
 use Rattle.wtf_machine.specs.declared.begun.Verdict.{Verdict}
 use Rattle.wtf_machine.specs.declared.begun.Verdict.TheVariants as verdict
@@ -8,14 +8,24 @@ use Rattle.wtf_machine.specs.declared.begun.Fate.TheVariants as fate
 use Rattle.wtf_model.specs.declared.answer.Answer.{Answer, Aborted'}
 use Rattle.wtf_model.specs.declared.answer.Answer.TheVariants as answer
 use Rattle.wtf_model.specs.declared.op.Op.{Op}
+use Rattle.wtf_model.specs.declared.item.Item.{Item}
 use Rattle.wtf_model.specs.Tree.{Tree}
+use Rattle.wtf_model.specs.Items.{writes_of}
 use Rattle.wtf_model.specs.Transaction.{Transaction, session_after}
 use Rattle.wtf_model.specs.Steps.{Machine, cap_of, is_logged, logged}
 use Rattle.wtf_machine.specs.Logs.{ops_of, shown_of}
 
--- a transaction as it is kept
+-- a transaction as it is kept, without what others have changed since it began
 abbrev pub transaction_in : Begun → Transaction
 transaction_in b = record { stamp = b.stamp; base = b.base; tree = b.tree; ops = ops_of b.calls.items; shown = shown_of b.calls.items; replayed = b.replayed; touched = [] }
+
+-- the same, where others have changed these items since
+abbrev pub seen_in : List Item → Begun → Transaction
+seen_in items b = record (transaction_in b) { touched = items }
+
+-- of all items that were changed, one after another, those that came since it began
+abbrev pub open_in : List Item → Begun → Transaction
+open_in changed b = seen_in (drop b.since changed) b
 
 -- a machine whose files may be as long as cap, with so many servers
 abbrev pub RunsWith : ℕ → ℕ → Machine → Type 0
@@ -35,10 +45,10 @@ abbrev pub IsAborting : Answer → Type 0
 IsAborting (Aborted' i box a) = Unit {0}
 IsAborting a = ⊥
 
--- an answer that installs, and the tree that it leaves
-abbrev pub IsInstalling : Machine → Transaction → Tree → Answer → Type 0
-IsInstalling m t tree (answer.Committed n) = tree ≡ (session_after (cap_of m) m.now t.ops).tree
-IsInstalling m t tree a = ⊥
+-- an answer that installs, with the tree that it leaves and the items that it changes
+abbrev pub IsInstalling : Machine → Transaction → Tree → List Item → Answer → Type 0
+IsInstalling m t tree items (answer.Committed n) = (tree ≡ (session_after (cap_of m) m.now t.ops).tree) × (items ≡ writes_of (cap_of m) m.now t.ops)
+IsInstalling m t tree items a = ⊥
 
 -- an answer that rebases
 abbrev pub IsRebasing : Answer → Type 0
@@ -64,4 +74,4 @@ IsFate Lawful m t a fate.Unlawful = Lawful → ⊥
 IsFate Lawful m t a fate.Stays = Lawful × IsIdle a
 IsFate Lawful m t a fate.Ends = Lawful × IsAborting a
 IsFate Lawful m t a fate.Rebases = Lawful × IsRebasing a
-IsFate Lawful m t a (fate.Installs tree) = Lawful × IsInstalling m t tree a
+IsFate Lawful m t a (fate.Installs tree items) = Lawful × IsInstalling m t tree items.items a

@@ -1,8 +1,9 @@
 //! Open transactions: what a client's line may be answered, and what it leaves.
 
-ghost use Rattle.std.specs.Prelude.{◌≡◌, ◌≢◌, ◌↔◌, ◌+◌, ◌++◌, ◌∷◌, ◌<◌, ◌≤◌, length, take, slice_get, false, Some, IsTrue, IfOk, OnOk, OnErr, []};
+ghost use Rattle.std.specs.Prelude.{◌≡◌, ◌≢◌, ◌↔◌, ◌+◌, ◌++◌, ◌∷◌, ◌<◌, ◌≤◌, List, length, take, slice_get, false, Some, IsTrue, IfOk, OnOk, OnErr, []};
 ghost use Rattle.wtf_model.specs.Transaction.{session_after, answers_of};
 ghost use Rattle.wtf_model.specs.declared.answer.Answer.{Answer};
+ghost use Rattle.wtf_model.specs.declared.item.Item.{Item};
 ghost use Rattle.wtf_model.specs.Faults.{IsReadFault};
 ghost use Rattle.wtf_model.specs.Lawful.{Deviates, IsDone, MayInstall, MayFail, MayCall, MayStep, MayTry, MayCommit};
 ghost use Rattle.wtf_model.specs.Machines.{Machine, cap_of, due, is_live, is_full};
@@ -10,24 +11,25 @@ ghost use Rattle.wtf_model.specs.Steps.{IsLogged, logged};
 ghost use Rattle.wtf_machine.specs.Logs.{ops_of, shown_of, IsWarm, IsWarm_prop};
 ghost use Rattle.wtf_machine.specs.Sessions.{session_in};
 
-use crate::copies::copy_op;
 use crate::faults::{is_read_fault, is_store_fault, may_fail};
 use crate::log::{Logged, Outcome, replay, rerun};
 use crate::path_map::PathMap;
+use crate::runs::{changed_by, reads_one};
 use crate::workspace::Workspace;
 use std::alloc::Global;
 use wtf_base::{Bytes, OutOfMemory};
 use wtf_model::limits::MAX_LOGGED;
-use wtf_model::{Answer, Op, is_same_answer};
+use wtf_model::{Answer, Item, Op, copy_op, is_same_answer};
 
 /// An open transaction. It keeps the session that its replayed calls have left, so that one more costs its own work alone; where
-/// it is not at hand, it is made anew.
+/// it is not at hand, it is made anew. `since` is how many items had been changed when it began.
 #[derive(Drop)]
 pub(crate) struct Begun {
     pub(crate) alloc: Global,
     pub(crate) cap: u64,
     pub(crate) stamp: u64,
     pub(crate) base: u64,
+    pub(crate) since: usize,
     pub(crate) tree: PathMap,
     pub(crate) calls: Vec<Logged>,
     pub(crate) replayed: u32,
@@ -59,8 +61,8 @@ pub(crate) enum Fate {
     Ends,
     /// It is, and the transaction begins anew on the tree now.
     Rebases,
-    /// It is, and this is the tree from now on.
-    Installs(PathMap),
+    /// It is, and this is the tree from now on, where these items are changed.
+    Installs(PathMap, Vec<Item>),
 }
 
 /// Whether a call that is due an answer would not be refused.
@@ -74,7 +76,7 @@ fn is_done(due: &Answer) -> bool
 }
 
 impl Begun {
-    ghost use Rattle.wtf_machine.specs.Verdicts.{transaction_in, RunsWith, called_on, IsVerdict, IsFate};
+    ghost use Rattle.wtf_machine.specs.Verdicts.{transaction_in, seen_in, RunsWith, called_on, IsVerdict, IsFate};
 
     /// The session that the replayed calls have left. It is taken out, or made anew where it is not at hand.
     fn session(&mut self) -> Result<Workspace, OutOfMemory>
@@ -83,6 +85,7 @@ impl Begun {
         ensures stays { transaction_in self.new ≡ transaction_in self.old }
         ensures calls { self.new.calls ≡ self.old.calls }
         ensures cap { self.new.cap ≡ self.old.cap }
+        ensures since { self.new.since ≡ self.old.since }
     {
         match self.warm.take() {
             Some(session) => Ok(session),
@@ -110,6 +113,7 @@ impl Begun {
         ensures ok { OnOk result (transaction_in self.new ≡ logged (transaction_in self.old) op.now answer.now) }
         ensures err { OnErr result (transaction_in self.new ≡ transaction_in self.old) }
         ensures cap { self.new.cap ≡ self.old.cap }
+        ensures since { self.new.since ≡ self.old.since }
     {
         let op = copy_op(self.alloc, op)?;
         let shown = answer.copy(self.alloc)?;
@@ -119,8 +123,15 @@ impl Begun {
         Ok(())
     }
 
-    /// A transaction on a tree, after so many installs.
-    pub(crate) fn new(alloc: Global, cap: u64, stamp: u64, base: u64, tree: PathMap) -> Begun
+    /// A transaction on a tree, after so many installs that have changed so many items.
+    pub(crate) fn new(
+        alloc: Global,
+        cap: u64,
+        stamp: u64,
+        base: u64,
+        since: usize,
+        tree: PathMap,
+    ) -> Begun
         ensures is { transaction_in result ≡ record {
           stamp = stamp;
           base = base;
@@ -131,12 +142,14 @@ impl Begun {
           touched = [];
         } }
         ensures cap { result.cap ≡ cap }
+        ensures since { result.since ≡ since }
     {
         Begun {
             alloc,
             cap,
             stamp,
             base,
+            since,
             tree,
             calls: Vec::new(alloc),
             replayed: 0,
@@ -171,6 +184,7 @@ impl Begun {
             → (IsTrue yes ↔ MayFail servers op.now (due m (transaction_in self.old) op.now) answer.now)) }
         ensures stays { transaction_in self.new ≡ transaction_in self.old }
         ensures cap { self.new.cap ≡ self.old.cap }
+        ensures since { self.new.since ≡ self.old.since }
     {
         let session = self.session()?;
         let due = session.due(self.cap, op)?;
@@ -194,6 +208,7 @@ impl Begun {
         ensures stays { IfOk result (λ yes. yes ≡ false → transaction_in self.new ≡ transaction_in self.old) }
         ensures err { OnErr result (transaction_in self.new ≡ transaction_in self.old) }
         ensures cap { self.new.cap ≡ self.old.cap }
+        ensures since { self.new.since ≡ self.old.since }
     {
         if is_store_fault(answer) {
             return self.may_fail(servers, op, answer);
@@ -218,6 +233,7 @@ impl Begun {
         ensures stays { transaction_in self.new ≡ transaction_in self.old }
         ensures calls { self.new.calls ≡ self.old.calls }
         ensures cap { self.new.cap ≡ self.old.cap }
+        ensures since { self.new.since ≡ self.old.since }
     {
         let mut session = self.session()?;
         let at = self.replayed as usize;
@@ -248,6 +264,7 @@ impl Begun {
             → IsVerdict (MayStep m (transaction_in self.old) (Answer.Replayed number)) (transaction_in self.old)
             (transaction_in self.new) (Answer.Replayed number) result }
         ensures cap { self.new.cap ≡ self.old.cap }
+        ensures since { self.new.since ≡ self.old.since }
     {
         if number != self.replayed + 1 || !self.was_shown(due) {
             return Verdict::Unlawful;
@@ -274,6 +291,7 @@ impl Begun {
             (answers_of self.old.cap self.old.tree (ops_of self.old.calls.items)) self.old.replayed)) }
         ensures stays { transaction_in self.new ≡ transaction_in self.old }
         ensures cap { self.new.cap ≡ self.old.cap }
+        ensures since { self.new.since ≡ self.old.since }
     {
         let session = self.session()?;
         let at = self.replayed as usize;
@@ -290,6 +308,7 @@ impl Begun {
             → IsVerdict (MayStep m (transaction_in self.old) a) (transaction_in self.old) (transaction_in self.new) a v) }
         ensures err { OnErr result (transaction_in self.new ≡ transaction_in self.old) }
         ensures cap { self.new.cap ≡ self.old.cap }
+        ensures since { self.new.since ≡ self.old.since }
     {
         if self.is_next_done()? {
             return Ok(Verdict::Goes);
@@ -305,6 +324,7 @@ impl Begun {
             (transaction_in self.new) answer.now v) }
         ensures err { OnErr result (transaction_in self.new ≡ transaction_in self.old) }
         ensures cap { self.new.cap ≡ self.old.cap }
+        ensures since { self.new.since ≡ self.old.since }
     {
         if is_read_fault(servers, answer) {
             return self.step_fault();
@@ -317,19 +337,37 @@ impl Begun {
         }
     }
 
-    /// What a commit of this number comes to on the tree now, after so many installs.
+    /// What a commit of this number comes to on the tree now, after so many installs, whatever others have changed.
     fn install(&self, number: u64, now: &PathMap, named: u64) -> Result<Fate, OutOfMemory>
-        ensures { IfOk result (λ f. (m : Machine) → cap_of m ≡ self.now.cap → m.number ≡ number → m.now ≡ now.now
-            → IsFate (MayInstall m (transaction_in self.now) named) m (transaction_in self.now)
+        ensures { IfOk result (λ f. (m : Machine) (items : List Item) → cap_of m ≡ self.now.cap → m.number ≡ number
+            → m.now ≡ now.now
+            → IsFate (MayInstall m (seen_in items self.now) named) m (seen_in items self.now)
             (Answer.Committed named) f) }
     {
         if number.checked_add(1) != Some(named) {
             return Ok(Fate::Unlawful);
         }
+        let changed = changed_by(self.alloc, self.cap, now, &self.calls)?;
         match replay(self.alloc, self.cap, now, &self.calls)? {
-            Outcome::Same(session) => Ok(Fate::Installs(session.tree)),
+            Outcome::Same(session) => Ok(Fate::Installs(session.tree, changed)),
             Outcome::Differs(_, _) => Ok(Fate::Unlawful),
         }
+    }
+
+    /// What a retry with these numbers comes to after so many installs, where others have changed these items since.
+    fn retry(&self, number: u64, base: u64, now: u64, touched: &[Item]) -> Result<Fate, OutOfMemory>
+        ensures { IfOk result (λ f. (m : Machine) → cap_of m ≡ self.now.cap → m.number ≡ number
+            → IsFate (MayTry m (seen_in touched.now self.now) (Answer.Retry base now)) m
+            (seen_in touched.now self.now) (Answer.Retry base now) f) }
+    {
+        if base != self.base || now != number || base >= now {
+            return Ok(Fate::Unlawful);
+        }
+        let read = reads_one(self.alloc, self.cap, &self.tree, &self.calls, touched)?;
+        if !read {
+            return Ok(Fate::Unlawful);
+        }
+        Ok(Fate::Rebases)
     }
 
     /// Whether the calls, run on the tree now, deviate first at the one of this number, which answers so.
@@ -344,32 +382,27 @@ impl Begun {
         }
     }
 
-    /// What an attempt comes to on the tree now, after so many installs.
+    /// What an attempt comes to on the tree now, after so many installs, where others have changed these items since.
     pub(crate) fn attempt(
         &self,
         number: u64,
         now: &PathMap,
+        touched: &[Item],
         answer: &Answer,
     ) -> Result<Fate, OutOfMemory>
         ensures { IfOk result (λ f. (m : Machine) → cap_of m ≡ self.now.cap → m.number ≡ number
             → m.now ≡ now.now
-            → IsFate (MayTry m (transaction_in self.now) answer.now) m (transaction_in self.now) answer.now f) }
+            → IsFate (MayTry m (seen_in touched.now self.now) answer.now) m
+            (seen_in touched.now self.now) answer.now f) }
     {
         match answer {
             Answer::Committed(n) => self.install(number, now, *n),
-            Answer::Retry { base, now: at } => {
-                let behind = *base == self.base && *at == number && self.base < number;
-                Ok(if behind {
-                    Fate::Rebases
-                } else {
-                    Fate::Unlawful
-                })
-            }
+            Answer::Retry { base, now: at } => self.retry(number, *base, *at, touched),
             _ => Ok(Fate::Unlawful),
         }
     }
 
-    /// What a commit by replay comes to on the tree now, after so many installs.
+    /// What a commit by replay comes to on the tree now, after so many installs, whatever others have changed.
     pub(crate) fn commit(
         &self,
         servers: u8,
@@ -377,9 +410,9 @@ impl Begun {
         now: &PathMap,
         answer: &Answer,
     ) -> Result<Fate, OutOfMemory>
-        ensures { IfOk result (λ f. (m : Machine) → RunsWith self.now.cap servers m → m.number ≡ number
-            → m.now ≡ now.now
-            → IsFate (MayCommit m (transaction_in self.now) answer.now) m (transaction_in self.now) answer.now f) }
+        ensures { IfOk result (λ f. (m : Machine) (items : List Item) → RunsWith self.now.cap servers m
+            → m.number ≡ number → m.now ≡ now.now
+            → IsFate (MayCommit m (seen_in items self.now) answer.now) m (seen_in items self.now) answer.now f) }
     {
         match answer {
             Answer::Committed(n) => self.install(number, now, *n),
@@ -392,15 +425,18 @@ impl Begun {
         }
     }
 
-    /// Begins anew on another tree, after so many installs, with none of its calls replayed. No memory is taken.
-    pub(crate) fn rebase(&mut self, number: u64, now: PathMap)
+    /// Begins anew on another tree, after so many installs that have changed so many items, with none of its calls replayed. No
+    /// memory is taken.
+    pub(crate) fn rebase(&mut self, number: u64, since: usize, now: PathMap)
         ensures is { transaction_in self.new ≡
             record (transaction_in self.old) { base = number; tree = now; replayed = 0; touched = [] } }
         ensures cap { self.new.cap ≡ self.old.cap }
+        ensures since { self.new.since ≡ since }
     {
         self.warm = None;
         self.replayed = 0;
         self.base = number;
+        self.since = since;
         self.tree = now;
     }
 }

@@ -1,6 +1,7 @@
 //! Open transactions by their clients.
 
-ghost use Rattle.std.specs.Prelude.{◌≡◌, [], Some, true, false, IfSome, IfOk, OnOk, OnErr, option_copied};
+ghost use Rattle.std.specs.Prelude.{◌≡◌, ◌≤◌, ◌+◌, [], List, length, drop, Some, true, false, IfSome, IfOk, OnOk, OnErr, option_copied, vec_len};
+ghost use Rattle.std.specs.Vec.{vec_capacity};
 ghost use Rattle.std.specs.Prelude.{◌==◌, ◌++◌, map, filter};
 ghost use Rattle.std.specs.Option.{option_map};
 ghost use Rattle.std.specs.List.{list_any};
@@ -8,26 +9,31 @@ ghost use Rattle.std.specs.FinMap.{get, insert, remove, empty, entries, values};
 ghost use Rattle.wtf_model.specs.Lawful.{MayCall, MayStep};
 ghost use Rattle.wtf_model.specs.Machines.{Machine, is_live, is_full};
 ghost use Rattle.wtf_model.specs.Scans.{earlier, first_begun};
+ghost use Rattle.wtf_model.specs.declared.item.Item.{Item};
+ghost use Rattle.wtf_model.specs.Steps.{touch, with_each};
 ghost use Rattle.wtf_model.specs.Transaction.{Transaction};
-ghost use Rattle.wtf_machine.specs.Caps.{HaveCap, HaveCap_prop};
+ghost use Rattle.wtf_machine.specs.Caps.{HaveCap, HaveCap_prop, BeganWithin, BeganWithin_prop};
 
 use crate::begun::{Begun, Verdict};
 use crate::path_map::PathMap;
 use std::alloc::Global;
 use std::collections::BTreeMap;
 use wtf_base::{Bytes, OutOfMemory};
-use wtf_model::{Answer, Op};
+use wtf_model::{Answer, Item, Op};
 
-/// Open transactions by their clients. In all of them a file may be as long as `cap`, in bytes.
+/// Open transactions by their clients. In all of them a file may be as long as `cap`, in bytes. `changed` is what installs have changed,
+/// one item after another; a transaction sees of it what came since it began.
 #[derive(Drop)]
 pub(crate) struct Clients {
     pub(crate) cap: u64,
+    pub(crate) changed: Vec<Item>,
     pub(crate) items: BTreeMap<u8, Begun>,
     ghost caps: { HaveCap cap items.entries } by { HaveCap_prop cap items.entries },
+    ghost within: { BeganWithin (length changed.items) items.entries } by { BeganWithin_prop (length changed.items) items.entries },
 }
 
 impl Clients {
-    ghost use Rattle.wtf_machine.specs.Verdicts.{transaction_in, RunsWith};
+    ghost use Rattle.wtf_machine.specs.Verdicts.{transaction_in, open_in, RunsWith};
     ghost use Rattle.wtf_machine.specs.Kept.{clients_in, Decides, called_in, stepped_in};
 
     /// No client has a transaction.
@@ -37,21 +43,61 @@ impl Clients {
     {
         Clients {
             cap,
+            changed: Vec::new(alloc),
             items: BTreeMap::new(alloc),
         }
     }
 
     /// The transaction of a client.
     pub(crate) fn at(&self, c: u8) -> Option<&Begun>
-        ensures value { option_map transaction_in (option_copied result) ≡ get (clients_in self.now) c }
+        ensures value { option_map (open_in self.now.changed.items) (option_copied result) ≡
+            get (clients_in self.now) c }
         ensures cap { IfSome result (λ t. t.now.cap ≡ self.now.cap) }
+        ensures within { IfSome result (λ t. t.now.since ≤ length self.now.changed.items) }
     {
         self.items.get(&c)
     }
 
+    /// How many items have been changed.
+    pub(crate) fn count(&self) -> usize
+        ensures { result ≡ length self.now.changed.items }
+    {
+        self.changed.as_slice().len()
+    }
+
+    /// What others have changed since a transaction began.
+    pub(crate) fn touched(&self, t: &Begun) -> &[Item]
+        requires { t.now.since ≤ length self.now.changed.items }
+        ensures { result.now ≡ drop t.now.since self.now.changed.items }
+    {
+        let changed = self.changed.as_slice();
+        &changed[t.since..]
+    }
+
+    /// Room for so many items more that others change. All is as before.
+    pub(crate) fn make_room(&mut self, more: usize) -> Result<(), OutOfMemory>
+        ensures room { OnOk result (vec_len self.new.changed + more ≤ vec_capacity self.new.changed) }
+        ensures stays { clients_in self.new ≡ clients_in self.old }
+        ensures cap { self.new.cap ≡ self.old.cap }
+    {
+        self.changed.reserve(more)?;
+        Ok(())
+    }
+
+    /// These items have been changed: each open transaction sees it. No memory is taken.
+    pub(crate) fn touch(&mut self, items: Vec<Item>)
+        requires room { vec_len self.old.changed + vec_len items ≤ vec_capacity self.old.changed }
+        ensures is { clients_in self.new ≡ with_each (touch items.items) (clients_in self.old) }
+        ensures cap { self.new.cap ≡ self.old.cap }
+    {
+        let mut more = items;
+        let _room = self.changed.append(&mut more);
+    }
+
     /// A client begins a transaction. After an error all is as before.
     pub(crate) fn add(&mut self, c: u8, t: Begun) -> Result<(), OutOfMemory>
-        requires { t.cap ≡ self.old.cap }
+        requires cap { t.cap ≡ self.old.cap }
+        requires since { t.since ≡ length self.old.changed.items }
         ensures ok { OnOk result (clients_in self.new ≡ insert (clients_in self.old) c (transaction_in t)) }
         ensures err { OnErr result (clients_in self.new ≡ clients_in self.old) }
         ensures cap { self.new.cap ≡ self.old.cap }
@@ -65,6 +111,7 @@ impl Clients {
     /// The transaction of a client has ended.
     pub(crate) fn end(&mut self, c: u8)
         ensures gone { clients_in self.new ≡ remove (clients_in self.old) c }
+        ensures changed { self.new.changed ≡ self.old.changed }
         ensures cap { self.new.cap ≡ self.old.cap }
     {
         let _ = self.items.remove(&c);
@@ -76,10 +123,11 @@ impl Clients {
             insert (clients_in self.old) c (record t { base = number; tree = now; replayed = 0; touched = [] }) }
         ensures cap { self.new.cap ≡ self.old.cap }
     {
+        let since = self.count();
         let Some(t) = self.items.get_mut(&c) else {
             return;
         };
-        t.rebase(number, now);
+        t.rebase(number, since, now);
     }
 
     /// Whether an answer to a call of a client is lawful, whose transaction is live with room in its log.
@@ -141,8 +189,9 @@ impl Clients {
 
     /// Of two clients the one whose transaction began first.
     fn earlier<'a>(c: u8, t: &'a Begun, other: Option<(u8, &'a Begun)>) -> (u8, &'a Begun)
-        ensures { (result.0, transaction_in result.1.now) ≡ earlier (c, transaction_in t.now)
-            (option_map (λ p. (p.0, transaction_in p.1.now)) other.entry) }
+        ensures { (changed : List Item) → (result.0, open_in changed result.1.now) ≡
+            earlier (c, open_in changed t.now)
+            (option_map (λ p. (p.0, open_in changed p.1.now)) other.entry) }
     {
         match other {
             Some((d, u)) if u.stamp < t.stamp => (d, u),

@@ -142,7 +142,7 @@ impl Machine {
                 path,
                 region,
             } => self.plan(*job, *kind, path, *region, answer),
-            Event::Put(job) => Ok(self.put(*job, answer)),
+            Event::Put(job) => self.put(*job, answer),
             Event::DropJob(job) => Ok(self.drop_job(*job, answer)),
             Event::Scan => self.scan(answer),
             Event::Piece(parts) => Ok(self.piece(*parts, answer)),

@@ -1,22 +1,24 @@
 //! Lines of jobs.
 
-ghost use Rattle.std.specs.Prelude.{◌≡◌, ◌⊎◌, ◌↔◌, ◌<◌, ◌^◌, MatchOption, IsTrue, IfOk, OnErr};
+ghost use Rattle.std.specs.Prelude.{◌≡◌, ◌⊎◌, ◌↔◌, ◌<◌, ◌≤◌, ◌^◌, length, true, Some, MatchOption, IsTrue, IfOk, OnErr};
 ghost use Rattle.std.specs.FinMap.{get};
 ghost use Rattle.wtf_model.specs.declared.answer.Answer.TheVariants as says;
 ghost use Rattle.wtf_model.specs.Faults.{IsReadFault};
 ghost use Rattle.wtf_model.specs.Jobs.{last_region, plan_answer, IsSpillFault, MayFailPlan};
-ghost use Rattle.wtf_model.specs.Jobs.{MayPut, drop_answer};
+ghost use Rattle.wtf_model.specs.Jobs.{MayPut, job_changes, drop_answer};
 ghost use Rattle.wtf_model.specs.Steps.{with_job, put_in_place, dropped};
-ghost use Rattle.wtf_machine.specs.Kept.{Decides};
+ghost use Rattle.wtf_machine.specs.Kept.{planned_in, Decides};
 ghost use Rattle.wtf_machine.specs.Machines.{machine_in};
 
 use crate::answers::{is_okay, is_refused};
 use crate::faults::is_read_fault;
+use crate::items::{copy_items, meets};
 use crate::jobs::PlannedJob;
 use crate::machine::Machine;
 use crate::path_map::PathNode;
+use crate::reads::source_reads;
 use wtf_base::OutOfMemory;
-use wtf_model::{Answer, JobKind, Word};
+use wtf_model::{Answer, Item, JobKind, Word};
 use wtf_path::Path;
 
 /// The last region of a file of so many bytes. An empty file has region 0 alone.
@@ -90,48 +92,90 @@ impl Machine {
             region,
             kind,
             base: self.number,
+            since: self.jobs.count(),
         };
         self.jobs.add(j, job)?;
         self.next_stamp += 1;
         Ok(true)
     }
 
+    /// Whether a job is stale, as these numbers say: others have installed since it was planned, and have changed its file.
+    fn is_stale(&self, job: &PlannedJob, base: u64, now: u64) -> Result<bool, OutOfMemory>
+        requires within { job.now.since ≤ length self.now.jobs.changed.items }
+        ensures { IfOk result (λ yes. IsTrue yes ↔ MayPut (machine_in self.now)
+            (Some (planned_in self.now.jobs.changed.items job.now)) (says.Stale base now)) }
+    {
+        if base != job.base || now != self.number || base >= now {
+            return Ok(false);
+        }
+        let read = source_reads(self.alloc, &job.path)?;
+        Ok(meets(self.jobs.touched(job), read.as_slice()))
+    }
+
     /// Whether what a job made may be put in place so.
-    fn may_put(&self, j: u8, answer: &Answer) -> bool
+    fn may_put(&self, j: u8, answer: &Answer) -> Result<bool, OutOfMemory>
         requires number { self.now.number < 2 ^ 63 }
-        ensures { IsTrue result ↔
-            MayPut (machine_in self.now) (get (machine_in self.now).jobs j) answer.now }
+        ensures { IfOk result (λ yes. IsTrue yes ↔
+            MayPut (machine_in self.now) (get (machine_in self.now).jobs j) answer.now) }
     {
         let Some(job) = self.jobs.at(j) else {
-            return is_refused(answer, Word::NoJob);
+            return Ok(is_refused(answer, Word::NoJob));
         };
         match answer {
-            Answer::Installed(number) => *number == self.number + 1,
-            Answer::Stale { base, now } => {
-                *base == job.base && *now == self.number && *base < *now
-            }
-            _ => false,
+            Answer::Installed(number) => Ok(*number == self.number + 1),
+            Answer::Stale { base, now } => self.is_stale(job, *base, *now),
+            _ => Ok(false),
         }
     }
 
-    /// What a job made is put in place.
-    pub(crate) fn put(&mut self, j: u8, answer: &Answer) -> bool
-        requires number { self.old.number < 2 ^ 63 }
-        ensures { Decides (MayPut (machine_in self.old) (get (machine_in self.old).jobs j) answer.now)
-            (machine_in self.old) (put_in_place (machine_in self.old) j answer.now) (machine_in self.new) result }
+    /// What an install of a job's list changes: the bytes of its file stand elsewhere.
+    fn job_changes(&self, j: u8) -> Result<Vec<Item>, OutOfMemory>
+        ensures { IfOk result (λ v. v.items ≡
+            job_changes (machine_in self.now).now (get (machine_in self.now).jobs j)) }
     {
-        if !self.may_put(j, answer) {
-            return false;
+        let Some(job) = self.jobs.at(j) else {
+            return Ok(Vec::new(self.alloc));
+        };
+        let path = job.path.copy(self.alloc)?;
+        Ok(vec![in self.alloc; Item::BodyOf(path)]?)
+    }
+
+    /// What a job made is put in place under a number. The job has ended, and others see what has changed.
+    fn put_in_place(&mut self, j: u8, number: u64) -> Result<bool, OutOfMemory>
+        ensures lawful { IfOk result (λ yes. yes ≡ true) }
+        ensures put { IfOk result (λ yes. machine_in self.new ≡
+            put_in_place (machine_in self.old) j (says.Installed number)) }
+        ensures err { OnErr result (machine_in self.new ≡ machine_in self.old) }
+    {
+        let items = self.job_changes(j)?;
+        let copy = copy_items(self.alloc, items.as_slice())?;
+        self.clients.make_room(items.len())?;
+        self.jobs.make_room(copy.len())?;
+        self.number = number;
+        self.jobs.end(j);
+        self.clients.touch(items);
+        self.jobs.touch(copy);
+        Ok(true)
+    }
+
+    /// What a job made is put in place, or is stale.
+    pub(crate) fn put(&mut self, j: u8, answer: &Answer) -> Result<bool, OutOfMemory>
+        requires number { self.old.number < 2 ^ 63 }
+        ensures decides { IfOk result (Decides
+            (MayPut (machine_in self.old) (get (machine_in self.old).jobs j) answer.now)
+            (machine_in self.old) (put_in_place (machine_in self.old) j answer.now) (machine_in self.new)) }
+        ensures err { OnErr result (machine_in self.new ≡ machine_in self.old) }
+    {
+        let lawful = self.may_put(j, answer)?;
+        if !lawful {
+            return Ok(false);
         }
         match answer {
-            Answer::Installed(number) => {
-                self.jobs.end(j);
-                self.number = *number;
-            }
+            Answer::Installed(number) => return self.put_in_place(j, *number),
             Answer::Stale { .. } => self.jobs.end(j),
             _ => {}
         }
-        true
+        Ok(true)
     }
 
     /// A job is dropped.

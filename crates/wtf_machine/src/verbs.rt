@@ -1,20 +1,22 @@
 //! The lines of a client that the machine itself does not refuse.
 
-ghost use Rattle.std.specs.Prelude.{◌≡◌, ◌<◌, ◌^◌, Some, true, false, IfOk, OnErr};
-ghost use Rattle.std.specs.FinMap.{get};
+ghost use Rattle.std.specs.Prelude.{◌≡◌, ◌<◌, ◌+◌, ◌^◌, Some, true, false, IfOk, OnErr};
+ghost use Rattle.std.specs.FinMap.{get, remove};
 ghost use Rattle.wtf_model.specs.declared.answer.Answer.TheVariants as says;
 ghost use Rattle.wtf_model.specs.Lawful.{MayTry, MayStep, MayCommit, MayCall};
 ghost use Rattle.wtf_model.specs.Machines.{is_live, is_full};
-ghost use Rattle.wtf_model.specs.Steps.{begun, tried, stepped, committed, aborted, called};
+ghost use Rattle.wtf_model.specs.Steps.{begun, tried, stepped, committed, aborted, called, touching};
 ghost use Rattle.wtf_model.specs.Transaction.{Transaction};
 ghost use Rattle.wtf_machine.specs.Kept.{Decides};
 ghost use Rattle.wtf_machine.specs.Machines.{machine_in, is_lawful, settled};
 
 use crate::answers::is_okay;
 use crate::begun::{Begun, Fate};
+use crate::items::copy_items;
 use crate::machine::Machine;
+use crate::path_map::PathMap;
 use wtf_base::{Bytes, OutOfMemory};
-use wtf_model::{Answer, Op};
+use wtf_model::{Answer, Item, Op};
 
 impl Machine {
     /// A client without a transaction begins one.
@@ -36,10 +38,35 @@ impl Machine {
             self.clients.cap,
             self.next_stamp,
             self.number,
+            self.clients.count(),
             tree,
         );
         self.clients.add(c, t)?;
         self.next_stamp += 1;
+        Ok(true)
+    }
+
+    /// The calls of a client's transaction are installed: this is the tree from now on, and the transaction has ended. Others see
+    /// that these items have changed.
+    fn install(&mut self, c: u8, tree: PathMap, items: Vec<Item>) -> Result<bool, OutOfMemory>
+        requires number { self.old.number < 2 ^ 63 }
+        ensures lawful { IfOk result (λ yes. yes ≡ true) }
+        ensures installed { IfOk result (λ yes. machine_in self.new ≡
+            touching (record (machine_in self.old) {
+              number = (machine_in self.old).number + 1;
+              now = tree;
+              transactions = remove (machine_in self.old).transactions c;
+            }) items.items) }
+        ensures err { OnErr result (machine_in self.new ≡ machine_in self.old) }
+    {
+        let copy = copy_items(self.alloc, items.as_slice())?;
+        self.clients.make_room(items.len())?;
+        self.jobs.make_room(copy.len())?;
+        self.number += 1;
+        self.tree = tree;
+        self.clients.end(c);
+        self.clients.touch(items);
+        self.jobs.touch(copy);
         Ok(true)
     }
 
@@ -59,11 +86,7 @@ impl Machine {
                 let now = self.tree.share()?;
                 self.clients.rebase(c, self.number, now);
             }
-            Fate::Installs(tree) => {
-                self.number += 1;
-                self.tree = tree;
-                self.clients.end(c);
-            }
+            Fate::Installs(tree, items) => return self.install(c, tree, items),
         }
         Ok(true)
     }
@@ -79,7 +102,8 @@ impl Machine {
         let Some(t) = self.clients.at(c) else {
             return Ok(false);
         };
-        let fate = t.attempt(self.number, &self.tree, answer)?;
+        let seen = self.clients.touched(t);
+        let fate = t.attempt(self.number, &self.tree, seen, answer)?;
         self.settle(c, fate)
     }
 

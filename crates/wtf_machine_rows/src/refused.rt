@@ -3,7 +3,7 @@
 use crate::rows::{DEFAULTS, Row, SMALL_REGIONS};
 
 /// Commits, retries and replays.
-pub(crate) const COMMITS: [Row; 6] = [
+pub(crate) const COMMITS: [Row; 10] = [
     Row {
         name: "the number of the first commit",
         start: DEFAULTS,
@@ -46,11 +46,12 @@ sys dump /a => data x:63646162
         start: DEFAULTS,
         text: "",
         lines: "c0 begin => begun 0
-c0 create /a => ok
+c0 stat /b => refused noent
 c0 try =/> retry 0 0
 c0 try =/> retry 0 1
 c1 begin => begun 0
 c1 create /b => ok
+c1 unlink /b => ok
 c1 try => committed 1
 c0 try =/> retry 1 1
 c0 try =/> retry 0 2
@@ -66,6 +67,84 @@ c0 step => replayed 1
 c0 step =/> replayed 2
 c0 step => refused live
 c0 try => committed 2
+",
+    },
+    Row {
+        name: "a retry though nothing was changed that was read",
+        start: DEFAULTS,
+        text: "ab",
+        lines: "c0 begin => begun 1
+c0 open f0 /a => ok
+c0 write f0 t:cd => ok
+c0 mkdir /e => ok
+c1 begin => begun 1
+c1 open f0 /a => ok
+c1 write f0 t:ef => ok
+c1 mkdir /d => ok
+c1 try => committed 2
+c0 try =/> retry 1 2
+c2 begin => begun 2
+c2 list / => names a d
+c2 try => committed 3
+c0 try =/> retry 1 3
+c2 begin => begun 3
+c2 rename /a /b => ok
+c2 try => committed 4
+c0 try => retry 1 4
+c0 step =/> replayed 1
+c0 step => aborted 1 refused noent
+",
+    },
+    Row {
+        name: "a retry for what was changed before another",
+        start: DEFAULTS,
+        text: "",
+        lines: "c0 begin => begun 0
+c0 stat /b => refused noent
+c1 begin => begun 0
+c1 create /b => ok
+c1 unlink /b => ok
+c1 try => committed 1
+c0 try => retry 0 1
+c0 step => replayed 1
+c1 begin => begun 1
+c1 create /c => ok
+c1 try => committed 2
+c0 try =/> retry 1 2
+c0 try => committed 3
+",
+    },
+    Row {
+        name: "a retry beside a file that the transaction made itself",
+        start: DEFAULTS,
+        text: "",
+        lines: "c0 begin => begun 0
+c0 create /a => ok
+c0 open f0 /a => ok
+c0 write f0 t:ab => ok
+c0 seek f0 end => ok
+c1 begin => begun 0
+c1 create /b => ok
+c1 try => committed 1
+c0 try =/> retry 0 1
+c0 try => committed 2
+",
+    },
+    Row {
+        name: "a list beside a new file",
+        start: DEFAULTS,
+        text: "ab",
+        lines: "c0 begin => begun 1
+c0 list / => names a
+c1 begin => begun 1
+c1 stat / => dir
+c2 begin => begun 1
+c2 create /b => ok
+c2 try => committed 2
+c1 try =/> retry 1 2
+c0 try => retry 1 2
+c0 step => aborted 1 names a b
+c1 try => committed 3
 ",
     },
     Row {
@@ -131,7 +210,8 @@ c0 step => refused notx
         lines: "c0 begin => begun 0
 c0 open f0 /a => refused noent
 c1 begin => begun 0
-c1 create /b => ok
+c1 create /a => ok
+c1 unlink /a => ok
 c1 try => committed 1
 c0 try => retry 0 1
 c0 step =/> fault read 0
@@ -256,7 +336,7 @@ sys save => saved 1
 ];
 
 /// Jobs and scans.
-pub(crate) const JOBS_AND_SCANS: [Row; 9] = [
+pub(crate) const JOBS_AND_SCANS: [Row; 11] = [
     Row {
         name: "the number of an install",
         start: DEFAULTS,
@@ -279,13 +359,47 @@ sys put j0 =/> stale 0 1
 sys put j0 =/> stale 1 2
 sys put j0 =/> refused nojob
 c0 begin => begun 1
-c0 create /b => ok
+c0 open f0 /a => ok
+c0 write f0 t:c => ok
 c0 try => committed 2
 sys put j0 =/> stale 2 2
 sys put j0 =/> stale 1 3
 sys put j0 => stale 1 2
 sys drop j0 =/> ok
 sys drop j0 => refused nojob
+",
+    },
+    Row {
+        name: "a job that is stale though another file was changed",
+        start: DEFAULTS,
+        text: "ab",
+        lines: "sys plan j0 compact /a 0 => planned
+c0 begin => begun 1
+c0 create /b => ok
+c0 open f0 /b => ok
+c0 append f0 t:c => ok
+c0 try => committed 2
+sys put j0 =/> stale 1 2
+sys put j0 => installed 3
+",
+    },
+    Row {
+        name: "an install that a transaction has not read",
+        start: DEFAULTS,
+        text: "ab",
+        lines: "c0 begin => begun 1
+c0 open f0 /a => ok
+c0 read f0 2 => data x:6162
+c1 begin => begun 1
+c1 open f0 /a => ok
+c1 write f0 t:c => ok
+sys plan j0 compact /a 0 => planned
+sys plan j1 compact /a 0 => planned
+sys put j0 => installed 2
+c1 try =/> retry 1 2
+c0 try => retry 1 2
+c1 try => committed 3
+sys put j1 => stale 1 3
 ",
     },
     Row {

@@ -351,6 +351,7 @@ c1 write f0 t:ef => ok
 c1 mkdir /d => ok
 c1 try => committed 2
 c0 mkdir /e => ok
+c0 try =/> retry 1 2
 c0 try => committed 3
 sys dump /a => data x:6364
 ",

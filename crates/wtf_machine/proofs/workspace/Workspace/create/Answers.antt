@@ -1,7 +1,7 @@
 use Rattle.std.proofs.Common.{sym}
 use Rattle.wtf_machine.specs.Sessions.{session_in}
 use Rattle.wtf_model.proofs.CallLaws.{call-create_refused}
-use Rattle.wtf_machine.proofs.NameLaws.{create-done}
+use Rattle.wtf_model.proofs.NameLaws.{create-done}
 use Rattle.wtf_machine.proofs.workspace.Workspace.create.Goals as goal
 
 pub returns-in-Err : goal.returns-in-Err

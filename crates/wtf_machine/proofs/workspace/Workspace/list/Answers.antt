@@ -1,6 +1,6 @@
 use Rattle.std.proofs.Common.{sym}
 use Rattle.wtf_machine.specs.Sessions.{session_in}
-use Rattle.wtf_machine.proofs.NameLaws.{list-refused, list-done}
+use Rattle.wtf_model.proofs.NameLaws.{list-refused, list-done}
 use Rattle.wtf_machine.proofs.workspace.Workspace.list.Goals as goal
 
 pub returns-in-Err : goal.returns-in-Err

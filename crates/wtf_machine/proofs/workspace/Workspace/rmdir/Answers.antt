@@ -1,6 +1,6 @@
 use Rattle.std.proofs.Common.{sym}
 use Rattle.wtf_machine.specs.Sessions.{session_in}
-use Rattle.wtf_machine.proofs.NameLaws.{rmdir-root, rmdir-refused, rmdir-not_empty, rmdir-done, none_left, some_left}
+use Rattle.wtf_model.proofs.NameLaws.{rmdir-root, rmdir-refused, rmdir-not_empty, rmdir-done, none_left, some_left}
 use Rattle.wtf_machine.proofs.workspace.Workspace.rmdir.Goals as goal
 
 pub returns-then-is_root : goal.returns-then-is_root

@@ -1,6 +1,6 @@
 use Rattle.std.proofs.Common.{sym}
 use Rattle.wtf_machine.specs.Sessions.{session_in}
-use Rattle.wtf_machine.proofs.NameLaws.{stat-none, stat-some}
+use Rattle.wtf_model.proofs.NameLaws.{stat-none, stat-some}
 use Rattle.wtf_machine.proofs.workspace.Workspace.stat.Goals as goal
 
 pub returns-in_default : goal.returns-in_default
