@@ -1,5 +1,5 @@
 -- The lines that put a file store its bytes at the path.
-use Rattle.std.proofs.Common.{◌≡◌, ◌≢◌, ℕ, ◌+◌, ◌-◌, ◌<◌, ◌≤◌, Bool, true, false, cond, List, [], ◌∷◌, ◌++◌, length, drop, replicate, Option, Some, None, Result, Ok, Err, refl, sym, ap, ◌∙◌, arith, append_assoc, subst, inl, inr}
+use Rattle.std.proofs.Common.{◌≡◌, ◌≢◌, ℕ, ◌+◌, ◌-◌, ◌<◌, ◌≤◌, Bool, true, false, cond, List, [], ◌∷◌, ◌++◌, length, drop, replicate, Option, Some, None, Result, Err, refl, sym, ap, ◌∙◌, arith, append_assoc, subst, inl, inr}
 use Rattle.std.specs.Prelude.{All}
 use Rattle.std.specs.List.{join_with_byte}
 use Rattle.std.specs.FinMap.{get, insert, get-empty}
@@ -11,16 +11,15 @@ use Rattle.wtf_path.specs.Parts.{names_of, without_last, parent_with, parent_of}
 use Rattle.wtf_path.proofs.Refused.{parts_of-join}
 use Rattle.wtf_model.specs.declared.answer.Word.{Word}
 use Rattle.wtf_model.specs.declared.answer.Word.TheVariants.{Exists, NoParent}
-use Rattle.wtf_model.specs.declared.answer.Answer.TheVariants as answer
 use Rattle.wtf_model.specs.declared.op.Op.TheVariants as op
-use Rattle.wtf_model.specs.Tree.{TreeNode, Tree, Dir, File, root, ◌>>=◌, is_free, is_parent, target_in, target}
+use Rattle.wtf_model.specs.Tree.{TreeNode, Tree, Dir, File, root, ◌>>=◌, is_free, is_parent, target_in}
 use Rattle.wtf_model.specs.Session.{Session, Handle}
-use Rattle.wtf_model.specs.Done.{Done, done, bytes_at, bytes_or_none, put_node, add_file}
-use Rattle.wtf_model.specs.NameCalls.{mkdir}
+use Rattle.wtf_model.specs.Done.{Done, bytes_at, bytes_or_none, put_node, add_file}
 use Rattle.wtf_model.specs.ByteCalls.{written}
-use Rattle.wtf_model.specs.Call.{call, or_refused}
+use Rattle.wtf_model.specs.Call.{call}
 use Rattle.wtf_model.proofs.TreeLaws.{same_or_other}
 use Rattle.wtf_model.proofs.CallLaws.{target-free, source-file, call-create, call-open, call-write}
+use Rattle.wtf_model.proofs.NameLaws.{mkdir-made, mkdir-refused}
 use Rattle.wtf_model.proofs.Laws.{get-handle_same, get-node_same, get-node_other}
 use Rattle.wtf_carry.specs.Asked.{Asked, turn, total, carried, writes, begin_line, try_line, mkdir_line, create_line, open_line, seek_line, write_line}
 use Rattle.wtf_carry.specs.Ways.{IsWayUp, mkdirs}
@@ -73,14 +72,6 @@ others-up q p (d ∷ ds) is way long =
 
 -- ---- directories
 
-call-mkdir : (cap : ℕ) (s : Session) (p : List ℕ) → target s.tree p ≡ Ok tt → call cap s (op.Mkdir p) ≡ record { session = put_node s p Dir; answer = answer.Okay }
-unfolding mkdir
-call-mkdir cap s p h = ap (λ (r : Result (Unit {0}) Word). or_refused s (r >>= (λ _. done (put_node s p Dir) answer.Okay))) h
-
-mkdir-refused : (cap : ℕ) (s : Session) (p : List ℕ) (w : Word) → target s.tree p ≡ Err w → (call cap s (op.Mkdir p)).session ≡ s
-unfolding mkdir
-mkdir-refused cap s p w h = ap (λ (r : Result (Unit {0}) Word). (or_refused s (r >>= (λ _. done (put_node s p Dir) answer.Okay))).session) h
-
 record IsRefused (r : Result (Unit {0}) Word) : Type 0 where
   word : Word
   is : r ≡ Err word
@@ -98,7 +89,7 @@ refused-at t d (Some dir) there =
 
 -- a directory stays
 mkdir-stays : (cap : ℕ) (s : Session) (d : List ℕ) → get s.tree d ≡ Some Dir → (call cap s (op.Mkdir d)).session ≡ s
-mkdir-stays cap s d there = let r = refused-at s.tree d (parent_of d) there in mkdir-refused cap s d r.word r.is
+mkdir-stays cap s d there = let r = refused-at s.tree d (parent_of d) there in ap (λ (x : Done). x.session) (mkdir-refused cap s d r.word r.is)
 
 -- what making directories leaves
 record Made (path : List ℕ) (up : List (List ℕ)) (old new : Session) : Type 0 where
@@ -119,7 +110,7 @@ some-none x o e f = let k : Some x ≡ None = sym e ∙ f in absurd cc
 made-new : (cap : ℕ) (d : List ℕ) (ds : List (List ℕ)) (path : List ℕ) (old mid : Session) → parent_of path ≡ Some d → Made d ds old mid → (dir : List ℕ) → parent_of d ≡ Some dir
     → get mid.tree d ≡ None → Made path (d ∷ ds) old (call cap mid (op.Mkdir d)).session
 made-new cap d ds path old mid up m dir e none =
-    let made = call-mkdir cap mid d (target-free mid.tree d dir e (m.parent dir e) none) in
+    let made = mkdir-made cap mid d (target-free mid.tree d dir e (m.parent dir e) none) in
     let s' : (call cap mid (op.Mkdir d)).session ≡ put_node mid d Dir = ap (λ (x : Done). x.session) made in
     let P : Session → Type 0 = λ s. Made path (d ∷ ds) old s in
     subst P (sym s') (record {

@@ -8,8 +8,8 @@ use Rattle.wtf_model.specs.declared.event.Event.{Event}
 use Rattle.wtf_model.specs.declared.answer.Kind.{Kind}
 use Rattle.wtf_model.specs.declared.answer.Answer.{Answer}
 use Rattle.wtf_model.specs.Machines.{Machine}
-use Rattle.wtf_model.specs.Lines.{Line, AlongBy, state_after, MayLine, after_line, machine_after}
-use Rattle.wtf_model.proofs.LineLaws.{state_after-push, AlongBy-push, AlongBy-lengths, Accepts-from_lines}
+use Rattle.wtf_model.specs.Lines.{Line, AlongBy, state_after, MayLineCaused, after_line, machine_after}
+use Rattle.wtf_model.proofs.LineLaws.{state_after-push, AlongBy-push, AlongBy-lengths, Accepts-from_caused}
 use Rattle.wtf_script.specs.Grammar.{event_of}
 use Rattle.wtf_script.specs.Reading.{Held}
 use Rattle.wtf_script.specs.ScriptLines.{lines_of, fed, HasNoFeed}
@@ -61,14 +61,16 @@ lawful_push : (settings : Settings) (lines : List Line) (given : List Answer) (l
 lawful_push settings lines given left rest behind m next line are is a = record {
   told = All-append IsTold given (a.answer ∷ []) are.told (All-cons IsTold a.answer [] a.told (All-nil IsTold));
   bytes_are = text_push given a.answer left rest behind are.bytes_are a.begins.bytes_are;
-  lawful = AlongBy-push after_line MayLine (first settings) lines given line a.answer are.lawful (subst (λ (x : Machine). MayLine x line a.answer) is a.may);
+  lawful = AlongBy-push after_line MayLineCaused (first settings) lines given line a.answer are.lawful
+      (subst (λ (x : Machine). MayLineCaused x line a.answer) is a.may);
 }
 
 machine_push : (settings : Settings) (lines : List Line) (given : List Answer) (left rest behind : List ℕ) (m next : Machine) (line : Line) → AreLawful settings lines given left behind
     → m ≡ machine_after (first settings) lines given → (a : IsAnswered m line left rest next) → next ≡ machine_after (first settings) (lines ++ line ∷ []) (given ++ a.answer ∷ [])
 machine_push settings lines given left rest behind m next line are is a =
     a.next_is ∙ ap (λ (x : Machine). after_line x line a.answer) is
-    ∙ sym (state_after-push after_line (first settings) lines given line a.answer (AlongBy-lengths after_line MayLine (first settings) lines given are.lawful))
+    ∙ sym (state_after-push after_line (first settings) lines given line a.answer
+    (AlongBy-lengths after_line MayLineCaused (first settings) lines given are.lawful))
 
 pub sofar_more : (start now next : SourceView) (held held' : Held) (settings : Settings) (output left rest : List ℕ) (n : ℕ) (m m' : Machine) (asked : Result Event Kind)
     → (s : IsLawfulSoFar start (place now held) settings output left n m) → HasNext start next held' s.lines asked → IsAnswered m (line_from asked) left rest m'
@@ -126,7 +128,7 @@ judged_whole start next held' settings output [] n lines count read behind begin
         begins = begins;
         given = given;
         are = these;
-        accepts = Accepts-from_lines (first settings) (asked_in script) given these.lawful;
+        accepts = Accepts-from_caused (first settings) (asked_in script) given these.lawful;
       },
       count ∙ ap length whole,
     )

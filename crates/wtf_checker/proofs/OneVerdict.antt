@@ -6,7 +6,7 @@ use Rattle.std.proofs.lemmas.List.Elements.{All-head, All-tail}
 use Rattle.wtf_base.specs.declared.settings.Settings.{Settings}
 use Rattle.wtf_model.specs.declared.answer.Answer.{Answer}
 use Rattle.wtf_model.specs.Machines.{Machine}
-use Rattle.wtf_model.specs.Lines.{Line, AlongBy, state_after, MayLine, Along, after_line, machine_after}
+use Rattle.wtf_model.specs.Lines.{Line, AlongBy, state_after, MayLineCaused, Along, after_line, machine_after}
 use Rattle.wtf_script.specs.ScriptLines.{line_feed, lines_of, fed}
 use Rattle.wtf_script.specs.Grammar.{event_of}
 use Rattle.wtf_print.specs.Texts.{text_of}
@@ -20,7 +20,7 @@ use Rattle.wtf_checker.proofs.SameSettings.{settings_one}
 record Goes (m : Machine) (front : List Line) (given : List Answer) (rest bytes : List ℕ) : Type 0 where
   told : All IsTold given
   bytes_are : bytes ≡ fed (map text_of given) ++ rest
-  lawful : Along MayLine m front given
+  lawful : Along MayLineCaused m front given
 
 -- the first of them
 first_line : (a : Answer) (given : List Answer) (rest bytes : List ℕ) → All IsTold (a ∷ given) → bytes ≡ fed (map text_of (a ∷ given)) ++ rest → BeginsWith (text_of a) (fed (map text_of given) ++ rest) bytes
@@ -29,15 +29,16 @@ first_line a given rest bytes told is = record {
   bytes_are = is ∙ append_assoc (text_of a ++ line_feed ∷ []) (fed (map text_of given)) rest ∙ append_assoc (text_of a) (line_feed ∷ []) (fed (map text_of given) ++ rest);
 }
 
-may_first : (m : Machine) (l : Line) (front : List Line) (a : Answer) (given : List Answer) → Along MayLine m (l ∷ front) (a ∷ given) → MayLine m l a × Along MayLine (after_line m l a) front given
+may_first : (m : Machine) (l : Line) (front : List Line) (a : Answer) (given : List Answer) → Along MayLineCaused m (l ∷ front) (a ∷ given)
+    → MayLineCaused m l a × Along MayLineCaused (after_line m l a) front given
 unfolding AlongBy
 may_first m l front a given h = h
 
-no_answer : (m : Machine) (l : Line) (front : List Line) → Along MayLine m (l ∷ front) [] → ⊥
+no_answer : (m : Machine) (l : Line) (front : List Line) → Along MayLineCaused m (l ∷ front) [] → ⊥
 unfolding AlongBy
 no_answer m l front h = h
 
-no_more : (m : Machine) (a : Answer) (given : List Answer) → Along MayLine m [] (a ∷ given) → ⊥
+no_more : (m : Machine) (a : Answer) (given : List Answer) → Along MayLineCaused m [] (a ∷ given) → ⊥
 unfolding AlongBy
 no_more m a given h = h
 

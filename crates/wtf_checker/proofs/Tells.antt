@@ -16,9 +16,10 @@ use Rattle.wtf_model.specs.Same.{AreSame}
 use Rattle.wtf_model.specs.Tree.{◌>>=◌, source}
 use Rattle.wtf_model.specs.Transaction.{Transaction, answers_of}
 use Rattle.wtf_model.specs.Faults.{or_refusal}
-use Rattle.wtf_model.specs.Lawful.{client_refusal, Deviates, MayFailRead, MayAsk, is_short, dumped, May}
+use Rattle.wtf_model.specs.Lawful.{client_refusal, Deviates, MayFailRead, MayAsk, is_short, dumped}
+use Rattle.wtf_model.specs.Built.{MayCaused}
 use Rattle.wtf_model.specs.Steps.{Machine, IsLogged, cap_of, due, session_of, after_client, after}
-use Rattle.wtf_model.specs.Lines.{MayLine, after_line}
+use Rattle.wtf_model.specs.Lines.{MayLineCaused, after_line}
 use Rattle.wtf_model.proofs.StepLaws.{IsLogged-call, IsStoreFault-MayFail}
 use Rattle.wtf_print.specs.Forms.{IsWritable}
 use Rattle.wtf_checker.specs.Lawful.{line_from}
@@ -86,11 +87,11 @@ client_aborts : (a b : Answer) → AreAborts a b → (m : Machine) (o : Option T
 client_aborts a b s m o v None h = ask_aborts a b s m o v h
 client_aborts a b s m o v (Some w) h = absurd (not_abort a b s (Refused w) tt h)
 
-save_aborts : (a b : Answer) → AreAborts a b → (m : Machine) → May m event.Save a → ⊥
+save_aborts : (a b : Answer) → AreAborts a b → (m : Machine) → MayCaused m event.Save a → ⊥
 save_aborts (Aborted' i box x) b s m h = h
 save_aborts a b s m h = absurd s
 
-may_aborts : (a b : Answer) → AreAborts a b → (m : Machine) (e : Event) → May m e a → May m e b
+may_aborts : (a b : Answer) → AreAborts a b → (m : Machine) (e : Event) → MayCaused m e a → MayCaused m e b
 may_aborts a b s m (event.Client c v) h = client_aborts a b s m (get m.transactions c) v (client_refusal (get m.transactions c) v) h
 may_aborts a b s m (event.Plan j kind p r) h = absurd (not_abort a b s NotBuilt tt h)
 may_aborts a b s m (event.Put j) h = absurd (not_abort a b s NotBuilt tt h)
@@ -106,9 +107,10 @@ may_aborts a b s m (event.Dump p) (inr fails) = absurd (dump_fails m.settings.se
 may_aborts a b s m event.Tree h = absurd (not_abort a b s _ tt h)
 
 -- the machine may give both of two answers that say the same
-pub may_same : (m : Machine) (asked : Result Event Kind) (a b : Answer) → IsWritable a → AreSame a b → MayLine m (line_from asked) a → MayLine m (line_from asked) b
+pub may_same : (m : Machine) (asked : Result Event Kind) (a b : Answer) → IsWritable a → AreSame a b → MayLineCaused m (line_from asked) a
+    → MayLineCaused m (line_from asked) b
 may_same m (Ok e) a b form same h = elim (same_or_aborts a b form same) [
-  | inl is ↦ subst (λ x. May m e x) is h
+  | inl is ↦ subst (λ x. MayCaused m e x) is h
   | inr aborts ↦ may_aborts a b aborts m e h
 ]
 may_same m (Err k) a b form same h = elim (same_or_aborts a b form same) [
