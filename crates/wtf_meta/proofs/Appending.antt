@@ -6,6 +6,7 @@ use Rattle.wtf_overlay.specs.Origin.{Place, pieces_len, pieces_origin}
 use Rattle.wtf_values.specs.Regions.{or_empty, with_pieces, fits_at_end}
 use Rattle.wtf_model.specs.declared.limits.TheConstants.{MAX_REGIONS}
 use Rattle.wtf_values.proofs.RegionLaws.{with_pieces-end}
+use Rattle.wtf_meta.specs.Lists.{Lists}
 use Rattle.wtf_meta.specs.Files.{FileView, IsFile, end_of, region_origin, file_origin, file_len, laid}
 use Rattle.wtf_meta.specs.FileEdits.{FileEdit, PushRel, put_region, after, all_fit}
 use Rattle.wtf_meta.specs.Ranges.{Lays}
@@ -28,16 +29,20 @@ rel_ends b v ps q small fits is = elim (cases_eq q v.last) [
   | inr differ ↦ subst (λ w. end_of w ≤ b) (sym (put_else v v.last q (Some (with_pieces (or_empty (v.region v.last)) ps)) differ)) (is.ends q)
 ]
 
-rel_origin : (b : ℕ) (v : FileView) (ps : List Piece) (q y : ℕ) → b < 2 ^ 32 → end_of (v.region v.last) + pieces_len ps ≤ b → y < b
-    → region_origin ((rel v v.last ps).region q) y ≡ laid (file_len b v) (pieces_len ps) (pieces_origin ps) (file_origin b v) (q * b + y)
+rel_origin : (b : ℕ) (lists : Lists) (v : FileView) (ps : List Piece) (q y : ℕ) → b < 2 ^ 32 → end_of (v.region v.last) + pieces_len ps ≤ b → y < b
+    → region_origin lists ((rel v v.last ps).region q) y ≡ laid (file_len b v) (pieces_len ps) (pieces_origin ps) (file_origin b lists v) (q * b + y)
 unfolding rel
-rel_origin b v ps q y small fits h = elim (cases_eq q v.last) [
-  | inl e ↦ subst (λ j. region_origin ((rel v v.last ps).region j) y ≡ laid (file_len b v) (pieces_len ps) (pieces_origin ps) (file_origin b v) (j * b + y)) (sym e)
-      (ap (λ w. region_origin w y) (put_at v v.last (Some (with_pieces (or_empty (v.region v.last)) ps)))
-      ∙ with_pieces_origin (or_empty (v.region v.last)) ps y (omega arith)
-      ∙ laid_in_file b v.last (end_of (v.region v.last)) (pieces_len ps) (pieces_origin ps) (region_origin (v.region v.last)) (file_origin b v) y (sym (at_place b v v.last y h)))
-  | inr differ ↦ ap (λ w. region_origin w y) (put_else v v.last q (Some (with_pieces (or_empty (v.region v.last)) ps)) differ) ∙ sym (at_place b v q y h)
-      ∙ laid_elsewhere b v.last q (end_of (v.region v.last)) (pieces_len ps) (pieces_origin ps) (file_origin b v) y h fits differ
+rel_origin b lists v ps q y small fits h = elim (cases_eq q v.last) [
+  | inl e ↦ subst
+      (λ j. region_origin lists ((rel v v.last ps).region j) y ≡ laid (file_len b v) (pieces_len ps) (pieces_origin ps) (file_origin b lists v) (j * b + y))
+      (sym e)
+      (ap (λ w. region_origin lists w y) (put_at v v.last (Some (with_pieces (or_empty (v.region v.last)) ps)))
+      ∙ with_pieces_origin lists (or_empty (v.region v.last)) ps y (omega arith)
+      ∙ laid_in_file b v.last (end_of (v.region v.last)) (pieces_len ps) (pieces_origin ps) (region_origin lists (v.region v.last)) (file_origin b lists v) y
+      (sym (at_place b lists v v.last y h)))
+  | inr differ ↦ ap (λ w. region_origin lists w y) (put_else v v.last q (Some (with_pieces (or_empty (v.region v.last)) ps)) differ)
+      ∙ sym (at_place b lists v q y h)
+      ∙ laid_elsewhere b v.last q (end_of (v.region v.last)) (pieces_len ps) (pieces_origin ps) (file_origin b lists v) y h fits differ
 ]
 
 rel_last : (v : FileView) (ps : List Piece) → end_of (v.region v.last) + pieces_len ps < 2 ^ 32 → end_of ((rel v v.last ps).region v.last) ≡ end_of (v.region v.last) + pieces_len ps
@@ -63,9 +68,9 @@ AddedTo-rel b v ps pos small is fit =
         few = is.few;
       });
       len = ap (file_len b) made ∙ (let d : v.last * b + end_of ((rel v v.last ps).region v.last) ≡ file_len b v + pieces_len ps = omega (arith, rel_last v ps (omega arith)) in d);
-      origin = λ x. ap (λ (w : FileView). file_origin b w x) made
-          ∙ by_places (λ x. file_origin b (rel v v.last ps) x ≡ laid (file_len b v) (pieces_len ps) (pieces_origin ps) (file_origin b v) x) b pos
-          (λ q y h. at_place b (rel v v.last ps) q y h ∙ rel_origin b v ps q y small room h) x;
+      origin = λ lists x. ap (λ (w : FileView). file_origin b lists w x) made
+          ∙ by_places (λ x. file_origin b lists (rel v v.last ps) x ≡ laid (file_len b v) (pieces_len ps) (pieces_origin ps) (file_origin b lists v) x) b pos
+          (λ q y h. at_place b lists (rel v v.last ps) q y h ∙ rel_origin b lists v ps q y small room h) x;
     }
 
 -- and those that are laid at its end
@@ -73,7 +78,7 @@ pub AddedTo-laid : (b : ℕ) (ds : List FileEdit) (n : ℕ) (f : ℕ → List Pl
 AddedTo-laid b ds n f off v some is at lays = record {
   keeps = lays.keeps v is;
   len = lays.len v is ∙ grown_some (file_len b v) off n some ∙ omega arith;
-  origin = λ x. lays.origin v is x ∙ ap (λ o. laid o n f (file_origin b v) x) (sym at);
+  origin = λ lists x. lays.origin lists v is x ∙ ap (λ o. laid o n f (file_origin b lists v) x) (sym at);
 }
 
 -- an append of no byte records nothing
@@ -95,7 +100,8 @@ Appends-none b read keys n f none = subst (λ m. Appends b read keys [] m f) (sy
   each = λ v is agree fit. record {
     keeps = is;
     len = omega arith;
-    origin = λ x. laid_is (file_len b v) 0 f (file_origin b v) x (file_origin b v x) (λ _. refl) (λ _. refl) (λ from to. absurd (omega arith));
+    origin = λ lists x. laid_is (file_len b v) 0 f (file_origin b lists v) x (file_origin b lists v x) (λ _. refl) (λ _. refl)
+        (λ from to. absurd (omega arith));
   };
 })
 

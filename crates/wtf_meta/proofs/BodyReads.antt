@@ -8,7 +8,7 @@ use Rattle.wtf_model.specs.declared.limits.TheConstants.{MAX_REGIONS}
 use Rattle.wtf_model.specs.Done.{part}
 use Rattle.wtf_meta.specs.Maps.{Map, AllFit, with}
 use Rattle.wtf_meta.specs.Files.{file_len, file_origin}
-use Rattle.wtf_meta.specs.Contents.{Told, TellBytes, PiecesTell}
+use Rattle.wtf_meta.specs.Contents.{Told, TellBytes, PiecesTell, lists_in}
 use Rattle.wtf_meta.specs.FileEdits.{FileEdit, file_of, edits_of}
 use Rattle.wtf_meta.specs.Appends.{keys_of, length_keys, append_keys, touched, region_keys, Appends, HasNoRoom}
 use Rattle.wtf_meta.specs.Trees.{IsBody}
@@ -23,9 +23,9 @@ module _ (b : ℕ) (told : Told) (i : InodeId) (u w : Map) where
 
   -- pieces that were read tell a part of the bytes, as far as they go
   pub body_read : (all : List ℕ) (off n k : ℕ) (ps : List Piece) → 0 < b → Agree (keys_of i (region_keys (touched b off k))) u w → IsBody b told w i all → k ≡ min n (length all - off)
-      → Plans ps k (λ j. file_origin b (file_of i u) (off + j)) → PiecesTell told ps (part off n all)
+      → Plans ps k (λ j. file_origin b (lists_in b told) (file_of i u) (off + j)) → PiecesTell told ps (part off n all)
   body_read all off n k ps pos agree body most plans =
-      PiecesTell-read told b (file_of i w) all off n k ps body.bytes_are most (agree_file_plans b off k i u w ps pos agree plans)
+      PiecesTell-read told b (file_of i w) all off n k ps body.bytes_are most (agree_file_plans b off k (lists_in b told) i u w ps pos agree plans)
 
   -- bytes that were added at the end of the file that was read are added at the end of this one
   pub body_appended : (ds : List FileEdit) (n : ℕ) (f : ℕ → List Place) (old new : List ℕ) → Appends b (file_of i u) (append_keys b (file_of i u) n) ds n f

@@ -4,11 +4,12 @@ use Rattle.std.proofs.lemmas.Bool.{lt-ltb, le-ltb, cond-true, cond-false, cases_
 use Rattle.std.proofs.lemmas.Bool.Decides.{nat_tests}
 use Rattle.wtf_overlay.specs.declared.part.Entry.{Entry}
 use Rattle.wtf_overlay.specs.Origin.{Place, part_origin}
-use Rattle.wtf_overlay.proofs.Origins.{origin-push}
-use Rattle.wtf_values.specs.Regions.{or_empty, pushed}
+use Rattle.wtf_values.specs.Regions.{pushed}
+use Rattle.wtf_meta.specs.Lists.{Lists}
 use Rattle.wtf_meta.specs.Files.{FileView, end_of, region_origin, file_origin, laid, joined, reach}
 use Rattle.wtf_meta.specs.FileEdits.{FileEdit, Push, put_region, after, after_edit, fits_edit, all_fit}
 use Rattle.wtf_meta.specs.Ranges.{Covers}
+use Rattle.wtf_meta.proofs.BaseLists.{region_pushed}
 use Rattle.wtf_meta.proofs.Laid.{laid_is, laid-laid, laid_same}
 use Rattle.wtf_meta.proofs.OneRegion.{put_at, put_else, laid_in_file, laid_elsewhere}
 use Rattle.wtf_meta.proofs.Places.{at_place, by_places, apart}
@@ -52,7 +53,7 @@ Covers-none b off f = record {
   last = λ v. refl;
   ends = λ v q. omega (arith, reach_none b off 0 (q * b) (omega arith));
   others = λ v q none. refl;
-  origin = λ v x. laid_is off 0 f (file_origin b v) x (file_origin b v x) (λ _. refl) (λ _. refl) (λ from to. absurd (omega arith));
+  origin = λ lists v x. laid_is off 0 f (file_origin b lists v) x (file_origin b lists v x) (λ _. refl) (λ _. refl) (λ from to. absurd (omega arith));
 }
 
 -- the deltas of a range and then those of the range that follows
@@ -65,9 +66,9 @@ Covers-join b ds es off n m f g first next = record {
       omega (arith, next.ends (after ds v) q, first.ends v q, reach-join b off n m (q * b)) in there);
   others = λ v q none. ap (λ (w : FileView). w.region q) (after-append ds es v)
       ∙ next.others (after ds v) q (reach_next b off n m (q * b) none) ∙ first.others v q (reach_first b off n m (q * b) none);
-  origin = λ v x. ap (λ (w : FileView). file_origin b w x) (after-append ds es v) ∙ next.origin (after ds v) x
-      ∙ laid_same (off + n) m g g (file_origin b (after ds v)) (laid off n f (file_origin b v)) x (λ i _. refl) (first.origin v x)
-      ∙ laid-laid off n m f g (file_origin b v) x;
+  origin = λ lists v x. ap (λ (w : FileView). file_origin b lists w x) (after-append ds es v) ∙ next.origin lists (after ds v) x
+      ∙ laid_same (off + n) m g g (file_origin b lists (after ds v)) (laid off n f (file_origin b lists v)) x (λ i _. refl) (first.origin lists v x)
+      ∙ laid-laid off n m f g (file_origin b lists v) x;
 }
 
 -- the places may be told by another function
@@ -77,7 +78,7 @@ Covers-same b ds off n f g same h = record {
   last = h.last;
   ends = h.ends;
   others = h.others;
-  origin = λ v x. h.origin v x ∙ laid_same off n f g (file_origin b v) (file_origin b v) x same refl;
+  origin = λ lists v x. h.origin lists v x ∙ laid_same off n f g (file_origin b lists v) (file_origin b lists v) x same refl;
 }
 
 push_reach : (b r q : ℕ) (e : Entry) → e.off + e.len ≤ b → q ≢ r → reach b (r * b + e.off) e.len (q * b) ≡ 0
@@ -90,10 +91,11 @@ push_reach b r q e h differ = elim (cases_order q r) [
 push_reaches : (b r : ℕ) (e : Entry) → e.off + e.len ≤ b → reach b (r * b + e.off) e.len (r * b) ≡ e.off + e.len
 push_reaches b r e h = reach_some b (r * b + e.off) e.len (r * b) (omega (arith, e.positive)) ∙ omega arith
 
-pushed_origin : (b r : ℕ) (v : FileView) (e : Entry) (y : ℕ) → y < b → region_origin (Some (pushed (v.region r) e)) y
-    ≡ laid (r * b + e.off) e.len (part_origin e.part) (file_origin b v) (r * b + y)
-pushed_origin b r v e y h =
-    origin-push (or_empty (v.region r)).list e y ∙ laid_in_file b r e.off e.len (part_origin e.part) (region_origin (v.region r)) (file_origin b v) y (sym (at_place b v r y h))
+pushed_origin : (b r : ℕ) (lists : Lists) (v : FileView) (e : Entry) (y : ℕ) → y < b → region_origin lists (Some (pushed (v.region r) e)) y
+    ≡ laid (r * b + e.off) e.len (part_origin e.part) (file_origin b lists v) (r * b + y)
+pushed_origin b r lists v e y h =
+    region_pushed lists (v.region r) e y
+    ∙ laid_in_file b r e.off e.len (part_origin e.part) (region_origin lists (v.region r)) (file_origin b lists v) y (sym (at_place b lists v r y h))
 
 -- an entry that is laid over a region of every file
 pub Covers-push : (b r off : ℕ) (e : Entry) → 0 < b → e.off + e.len ≤ b → r * b + e.off ≡ off → Covers b (Push r e ∷ []) off e.len (part_origin e.part)
@@ -109,10 +111,14 @@ Covers-push b r off e pos fits at = subst (λ o. Covers b (Push r e ∷ []) o e.
     | inl is ↦ absurd (omega (arith, e.positive, push_reaches b r e fits, ap (λ k. reach b (r * b + e.off) e.len (k * b)) is))
     | inr differ ↦ put_else v r q (Some (pushed (v.region r) e)) differ
   ];
-  origin = λ v. by_places (λ x. file_origin b (after_edit (Push r e) v) x ≡ laid (r * b + e.off) e.len (part_origin e.part) (file_origin b v) x) b pos
-      (λ q y h. at_place b (after_edit (Push r e) v) q y h ∙ elim (cases_eq q r) [
-        | inl is ↦ subst (λ k. region_origin ((put_region v r (Some (pushed (v.region r) e))).region k) y ≡ laid (r * b + e.off) e.len (part_origin e.part) (file_origin b v) (k * b + y)) (sym is)
-            (ap (λ w. region_origin w y) (put_at v r (Some (pushed (v.region r) e))) ∙ pushed_origin b r v e y h)
-        | inr differ ↦ ap (λ w. region_origin w y) (put_else v r q (Some (pushed (v.region r) e)) differ) ∙ sym (at_place b v q y h) ∙ laid_elsewhere b r q e.off e.len (part_origin e.part) (file_origin b v) y h fits differ
+  origin = λ lists v. by_places
+      (λ x. file_origin b lists (after_edit (Push r e) v) x ≡ laid (r * b + e.off) e.len (part_origin e.part) (file_origin b lists v) x) b pos
+      (λ q y h. at_place b lists (after_edit (Push r e) v) q y h ∙ elim (cases_eq q r) [
+        | inl is ↦ subst
+            (λ k. region_origin lists ((put_region v r (Some (pushed (v.region r) e))).region k) y ≡ laid (r * b + e.off) e.len (part_origin e.part)
+            (file_origin b lists v) (k * b + y)) (sym is)
+            (ap (λ w. region_origin lists w y) (put_at v r (Some (pushed (v.region r) e))) ∙ pushed_origin b r lists v e y h)
+        | inr differ ↦ ap (λ w. region_origin lists w y) (put_else v r q (Some (pushed (v.region r) e)) differ) ∙ sym (at_place b lists v q y h)
+            ∙ laid_elsewhere b r q e.off e.len (part_origin e.part) (file_origin b lists v) y h fits differ
       ]);
 })

@@ -12,14 +12,16 @@ use Rattle.wtf_occ.proofs.AttemptLaws.{GrowsBy-append}
 use Rattle.wtf_values.specs.declared.key.Key.{Key}
 use Rattle.wtf_values.specs.declared.key.Key.TheVariants.{Inode, Region}
 use Rattle.wtf_values.specs.declared.value.Value.{Value}
+use Rattle.wtf_values.specs.declared.value.Value.TheVariants as value
 use Rattle.wtf_values.specs.declared.value.Delta.{Delta}
 use Rattle.wtf_values.specs.declared.value.Delta.TheVariants as delta
 use Rattle.wtf_values.specs.Keys.{key_cmp}
 use Rattle.wtf_values.specs.Regions.{pushed, added, clipped, zeroed}
 use Rattle.wtf_meta.specs.Maps.{Map, with}
-use Rattle.wtf_meta.specs.FileEdits.{last_of, region_of, file_of, IsLast, IsRegion, HasFile, FileEdit, Push, PushRel, Clip, ZeroWithin, CutAbove, RaiseLast, SetLast, LAST_REGION, edit_of, edits_of, lies_above, after_edit, after}
+use Rattle.wtf_meta.specs.FileEdits.{last_of, region_of, file_of, IsLast, IsRegion, HasFile, FileEdit, Push, PushRel, Clip, ZeroWithin, CutAbove, RaiseLast}
+use Rattle.wtf_meta.specs.FileEdits.{SetLast, Put, LAST_REGION, edit_of, edits_of, lies_above, after_edit, after}
 use Rattle.wtf_values.proofs.KeyLaws.{at_itself, between_own}
-use Rattle.wtf_meta.proofs.Steps.{step, made, by_last, region_step, region_has, does_push, does_clip, does_zero, does_rel}
+use Rattle.wtf_meta.proofs.Steps.{step, made, by_last, region_step, region_has, does_push, does_clip, does_zero, does_rel, does_put}
 
 at_inode : (i : InodeId) (w : Map) (d : Delta) → step (change.Delta (Inode i) d) w (Inode i) ≡ made (w (Inode i)) d
 at_inode i w d = cond-true (is_at (key_cmp (Inode i)) (Inode i)) _ _ (at_itself (Inode i))
@@ -52,6 +54,7 @@ file_one i (CutAbove r) w has =
 file_one i (RaiseLast r) w has =
     let last = ap last_of (at_inode i w (delta.RaiseLast r)) ∙ by_last (λ now. last_of (made now (delta.RaiseLast r)) ≡ max (last_of now) r) (λ n. refl) (w (Inode i)) has.inode in
     λ k. record { last = last k; region = λ q. region_of (w (Region i q)) }
+file_one i (Put r x) w has = region_step i r w (delta.Put (value.Region x)) (λ now. Some x) (does_put x) has
 file_one i (SetLast r) w has =
     let last = ap last_of (at_inode i w (delta.SetLast r)) ∙ by_last (λ now. last_of (made now (delta.SetLast r)) ≡ r) (λ n. refl) (w (Inode i)) has.inode in
     λ k. record { last = last k; region = λ q. region_of (w (Region i q)) }
@@ -70,6 +73,7 @@ has_one i (RaiseLast r) w has = record {
   inode = subst IsLast (sym (at_inode i w (delta.RaiseLast r))) (by_last (λ now. IsLast (made now (delta.RaiseLast r))) (λ n. tt) (w (Inode i)) has.inode);
   regions = has.regions;
 }
+has_one i (Put r x) w has = region_has i r w (delta.Put (value.Region x)) (λ now. Some x) (does_put x) has
 has_one i (SetLast r) w has = record {
   inode = subst IsLast (sym (at_inode i w (delta.SetLast r))) (by_last (λ now. IsLast (made now (delta.SetLast r))) (λ n. tt) (w (Inode i)) has.inode);
   regions = has.regions;

@@ -8,11 +8,13 @@ use Rattle.wtf_kv.specs.declared.changes.Change.TheVariants as change
 use Rattle.wtf_kv.specs.Edits.{is_between}
 use Rattle.wtf_values.specs.declared.key.Key.{Key}
 use Rattle.wtf_values.specs.declared.key.Key.TheVariants.{Path, Dir, Inode, Region}
+use Rattle.wtf_values.specs.declared.value.Value.TheVariants as value
 use Rattle.wtf_values.specs.declared.value.Delta.{Delta}
 use Rattle.wtf_values.specs.declared.value.Delta.TheVariants as delta
 use Rattle.wtf_values.specs.Keys.{key_cmp}
 use Rattle.wtf_meta.specs.Maps.{Map, with}
-use Rattle.wtf_meta.specs.FileEdits.{last_of, region_of, file_of, HasFile, IsLast, IsRegion, FileEdit, Push, PushRel, Clip, ZeroWithin, CutAbove, RaiseLast, SetLast, LAST_REGION, edit_of, edits_of}
+use Rattle.wtf_meta.specs.FileEdits.{last_of, region_of, file_of, HasFile, IsLast, IsRegion, FileEdit, Push, PushRel, Clip, ZeroWithin, CutAbove, RaiseLast}
+use Rattle.wtf_meta.specs.FileEdits.{SetLast, Put, LAST_REGION, edit_of, edits_of}
 use Rattle.wtf_values.proofs.KeyLaws.{at_none, between_other}
 use Rattle.wtf_meta.proofs.Steps.{step}
 
@@ -75,6 +77,7 @@ stays i (ZeroWithin r from upto) w q h = delta_elsewhere (Region i r) q (delta.Z
 stays i (CutAbove r) w q h = cond-false (is_between key_cmp (Region i (r + 1)) (Region i LAST_REGION) q) _ _ (cut_elsewhere i r q h)
 stays i (RaiseLast r) w q h = delta_elsewhere (Inode i) q (delta.RaiseLast r) w (inode_differs i q h)
 stays i (SetLast r) w q h = delta_elsewhere (Inode i) q (delta.SetLast r) w (inode_differs i q h)
+stays i (Put r x) w q h = delta_elsewhere (Region i r) q (delta.Put (value.Region x)) w (region_differs i r q h)
 
 -- a key that is not of the file has what it had
 pub others_stay : (i : InodeId) (ds : List FileEdit) (w : Map) (q : Key) → IsElsewhere i q → with (edits_of i ds) w q ≡ w q

@@ -75,7 +75,7 @@ Lays-raised b ds off n r k f some at pos within few covers =
       keeps = λ v is. subst (IsFile b) (sym (view v)) (raised b ds off n r k f v some at pos within few covers is);
       len = λ v is. ap (file_len b) (view v) ∙ (end_last b off n r k v (after ds v) some at pos within is (covers.ends v)).0
           ∙ sym (grown_some (file_len b v) off n some);
-      origin = λ v is x. ap (λ (w : FileView). file_origin b w x) (view v) ∙ covers.origin v x;
+      origin = λ lists v is x. ap (λ (w : FileView). file_origin b lists w x) (view v) ∙ covers.origin lists v x;
     }
 
 -- nothing is done
@@ -84,7 +84,7 @@ Lays-none b off f = record {
   fit = λ v. refl;
   keeps = λ v is. is;
   len = λ v is. refl;
-  origin = λ v is x. (Covers-none b off f).origin v x;
+  origin = λ lists v is x. (Covers-none b off f).origin lists v x;
 }
 
 laid_empty : (off : ℕ) (f g h : ℕ → List Place) (x : ℕ) → laid off 0 f h x ≡ laid off 0 g h x
@@ -102,7 +102,7 @@ Lays-none_covered b off ds f g covers =
         few = subst (λ l. l < MAX_REGIONS) (sym (covers.last v)) is.few;
       };
       len = λ v is. ap (λ l. l * b + end_of ((after ds v).region l)) (covers.last v) ∙ ap (λ w. v.last * b + end_of w) (nothing v v.last);
-      origin = λ v is x. covers.origin v x ∙ laid_empty off f g (file_origin b v) x;
+      origin = λ lists v is x. covers.origin lists v x ∙ laid_empty off f g (file_origin b lists v) x;
     }
 
 -- the places may be told by another function
@@ -111,5 +111,5 @@ Lays-same b ds off n f g same h = record {
   fit = h.fit;
   keeps = h.keeps;
   len = h.len;
-  origin = λ v is x. h.origin v is x ∙ laid_same off n f g (file_origin b v) (file_origin b v) x same refl;
+  origin = λ lists v is x. h.origin lists v is x ∙ laid_same off n f g (file_origin b lists v) (file_origin b lists v) x same refl;
 }

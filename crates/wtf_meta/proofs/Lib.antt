@@ -1,4 +1,7 @@
 pub mod Laid
+pub mod BaseLists
+pub mod ListFacts
+pub mod ListTests
 pub mod Places
 pub mod Steps
 pub mod Edits
@@ -7,6 +10,8 @@ pub mod Frame
 pub mod RegionBytes
 pub mod MapBytes
 pub mod Named
+pub mod Weaker
+pub mod SetBytes
 pub mod OneRegion
 pub mod Covering
 pub mod Laying
@@ -20,6 +25,7 @@ pub mod ByteLists
 pub mod Written
 pub mod Reading
 pub mod Planning
+pub mod ReadLaws
 pub mod Telling
 pub mod BodyEdits
 pub mod BodyReads
@@ -34,8 +40,12 @@ pub mod Standing
 pub mod Moves
 pub mod Labels
 pub mod Facts
+pub mod FeetLaws
 pub mod Running
 pub mod Rewriting
+pub mod Putting
 pub mod Handling
+pub mod FeetFiles
+pub mod FeetNames
 pub mod Starting
 pub mod Nothing

@@ -5,6 +5,7 @@ use Rattle.std.specs.FinMap.{get, insert, remove}
 use Rattle.std.specs.BTreeMap.{is_at}
 use Rattle.std.proofs.lemmas.Bool.{cases_lt}
 use Rattle.wtf_base.specs.declared.ids.InodeId.{InodeId}
+use Rattle.wtf_base.specs.declared.slice.Slice.{Slice}
 use Rattle.wtf_kv.specs.declared.changes.Change.TheVariants as change
 use Rattle.wtf_kv.specs.Edits.{is_between}
 use Rattle.wtf_overlay.specs.Origin.{Place}
@@ -27,7 +28,7 @@ use Rattle.wtf_values.specs.Names.{no_names, with_name, without_name}
 use Rattle.wtf_meta.specs.declared.session.Handle.{Handle}
 use Rattle.wtf_meta.specs.Maps.{Map, with}
 use Rattle.wtf_meta.specs.Bytes.{ValueBytes, MapBytes}
-use Rattle.wtf_meta.specs.Contents.{Told, is_told}
+use Rattle.wtf_meta.specs.Contents.{Told, is_told, is_listed}
 use Rattle.wtf_meta.specs.FileEdits.{IsRegion, region_of, LAST_REGION}
 use Rattle.wtf_meta.specs.Trees.{LeadsTo, Stands}
 use Rattle.wtf_meta.specs.Sessions.{SessionView, Holds, IsOff}
@@ -40,18 +41,19 @@ use Rattle.wtf_meta.proofs.KeyPuts.{put_in, put-same, put-other, paths-apart, di
 use Rattle.wtf_meta.proofs.Standing.{none_leads, stands-same, leads-file, path-none, stands-directory, stands-created, stands-unlinked, stands-renamed}
 
 -- values that bring no byte, or bytes that have P
-bytes_if : (P : List Place → Bool) (b : Bool) (v o : Option Value) → ValueBytes P v → ValueBytes P o → ValueBytes P (cond b v o)
-bytes_if P true v o x y = x
-bytes_if P false v o x y = y
+bytes_if : (P : List Place → Bool) (Q : Slice → Bool) (b : Bool) (v o : Option Value) → ValueBytes P Q v → ValueBytes P Q o → ValueBytes P Q (cond b v o)
+bytes_if P Q true v o x y = x
+bytes_if P Q false v o x y = y
 
-pub bytes-put : (P : List Place → Bool) (w : Map) (k : Key) (v : Option Value) → ValueBytes P v → MapBytes P w → MapBytes P (put_in w k v)
-bytes-put P w k v here all q = bytes_if P (is_at (key_cmp k) q) v (w q) here (all q)
+pub bytes-put : (P : List Place → Bool) (Q : Slice → Bool) (w : Map) (k : Key) (v : Option Value) → ValueBytes P Q v → MapBytes P Q w
+    → MapBytes P Q (put_in w k v)
+bytes-put P Q w k v here all q = bytes_if P Q (is_at (key_cmp k) q) v (w q) here (all q)
 
-pub bytes-cut : (P : List Place → Bool) (w : Map) (from to : Key) → MapBytes P w → MapBytes P (with (change.Cut from to ∷ []) w)
-bytes-cut P w from to all q = bytes_if P (is_between key_cmp from to q) None (w q) tt (all q)
+pub bytes-cut : (P : List Place → Bool) (Q : Slice → Bool) (w : Map) (from to : Key) → MapBytes P Q w → MapBytes P Q (with (change.Cut from to ∷ []) w)
+bytes-cut P Q w from to all q = bytes_if P Q (is_between key_cmp from to q) None (w q) tt (all q)
 
 -- what a directory's value leads to: no inode
-folder_leads : (v : Option Value) (i : InodeId) → v ≡ Some (value.Node Folder) → v ≡ Some (value.Node (FileNode i)) → ⊥
+pub folder_leads : (v : Option Value) (i : InodeId) → v ≡ Some (value.Node Folder) → v ≡ Some (value.Node (FileNode i)) → ⊥
 folder_leads v i a c = let both : Some (value.Node Folder) ≡ Some (value.Node (FileNode i)) = sym a ∙ c in cc
 
 two_nodes : (t : Tree) (p q : List ℕ) (n m : Option TreeNode) → get t p ≡ n → get t q ≡ m → (n ≡ m → ⊥) → p ≢ q
@@ -132,7 +134,8 @@ module _ (x : Caller) (told : Told) (w : Map) (s : SessionView) (S : Session) (s
             (names-of_listing u p (new (DirKey p)) (Some Dir) no_names empty refl (listing-none u p alone))
             (put-same two (DirKey dir) _)
             (λ d other apart. put-other two (DirKey dir) (DirKey d) _ (dirs-apart dir d apart) ∙ put-other one (DirKey p) (DirKey d) _ (dirs-apart p d other)))
-            (bytes-put (is_told told) two (DirKey dir) _ tt (bytes-put (is_told told) one (DirKey p) _ tt (bytes-put (is_told told) w (Path p) _ tt st.bytes)));
+            (bytes-put (is_told told) (is_listed x.size told) two (DirKey dir) _ tt
+            (bytes-put (is_told told) (is_listed x.size told) one (DirKey p) _ tt (bytes-put (is_told told) (is_listed x.size told) w (Path p) _ tt st.bytes)));
         holds = Holds-on told w new s S u (λ f h there leads. at h.path (off_free p none h leads) ∙ leads) holds;
         own = λ i other gone. gone;
       })
@@ -163,7 +166,9 @@ module _ (x : Caller) (told : Told) (w : Map) (s : SessionView) (S : Session) (s
             (put-other two (DirKey dir) (DirKey p) _ (dirs-apart dir p (λ e. dir_p (sym e))) ∙ put-same one (DirKey p) None)
             (put-same two (DirKey dir) _)
             (λ d other apart. put-other two (DirKey dir) (DirKey d) _ (dirs-apart dir d apart) ∙ put-other one (DirKey p) (DirKey d) None (dirs-apart p d other)))
-            (bytes-put (is_told told) two (DirKey dir) _ tt (bytes-put (is_told told) one (DirKey p) None tt (bytes-put (is_told told) w (Path p) None tt st.bytes)));
+            (bytes-put (is_told told) (is_listed x.size told) two (DirKey dir) _ tt
+            (bytes-put (is_told told) (is_listed x.size told) one (DirKey p) None tt
+            (bytes-put (is_told told) (is_listed x.size told) w (Path p) None tt st.bytes)));
         holds = Holds-on told w new s S (remove t p) (λ f h is leads. at h.path (λ e. folder_leads (w (Path p)) h.inode folder (subst (λ q. LeadsTo w q h.inode) e leads)) ∙ leads) holds;
         own = λ i other none. none;
       })
@@ -194,7 +199,8 @@ module _ (x : Caller) (told : Told) (w : Map) (s : SessionView) (S : Session) (s
             (names-of_none u p (new (DirKey p)) (Some (File [])) (put-other two (DirKey dir) (DirKey p) _ (dirs-apart dir p (λ e. dir_p (sym e))) ∙ missing) (file_dir []))
             (put-same two (DirKey dir) _)
             (λ d other apart. put-other two (DirKey dir) (DirKey d) _ (dirs-apart dir d apart)))
-            (bytes-put (is_told told) two (DirKey dir) _ tt (bytes-put (is_told told) one (Inode i) _ tt (bytes-put (is_told told) w (Path p) _ tt st.bytes)));
+            (bytes-put (is_told told) (is_listed x.size told) two (DirKey dir) _ tt
+            (bytes-put (is_told told) (is_listed x.size told) one (Inode i) _ tt (bytes-put (is_told told) (is_listed x.size told) w (Path p) _ tt st.bytes)));
         holds = Holds-on told w new s S u (λ f h there leads. at h.path (off_free p none h leads) ∙ leads) holds;
         own = λ j other gone. inodes j (λ e. other (ap (λ k. k.tx.0) e ∙ mine)) ∙ gone;
       })
@@ -238,7 +244,10 @@ module _ (x : Caller) (told : Told) (w : Map) (s : SessionView) (S : Session) (s
             (put-other two (DirKey dir) (DirKey p) _ (dirs-apart dir p (λ e. dir_p (sym e))) ∙ missing)
             (put-same two (DirKey dir) _)
             (λ d other apart. put-other two (DirKey dir) (DirKey d) _ (dirs-apart dir d apart)))
-            (bytes-put (is_told told) two (DirKey dir) _ tt (bytes-put (is_told told) one (Path p) None tt (bytes-put (is_told told) cut (Inode i) None tt (bytes-cut (is_told told) w (Region i 0) (Region i LAST_REGION) st.bytes))));
+            (bytes-put (is_told told) (is_listed x.size told) two (DirKey dir) _ tt
+            (bytes-put (is_told told) (is_listed x.size told) one (Path p) None tt
+            (bytes-put (is_told told) (is_listed x.size told) cut (Inode i) None tt
+            (bytes-cut (is_told told) (is_listed x.size told) w (Region i 0) (Region i LAST_REGION) st.bytes))));
         holds = Holds-on told w new s S (remove t p) (λ f h is leads. at h.path (off f h is) ∙ leads) holds;
         own = λ j other none. ⊎_elim
             (λ same. ap (λ k. new (Inode k)) same ∙ put-same cut (Inode i) None)
@@ -287,7 +296,10 @@ module _ (x : Caller) (told : Told) (w : Map) (s : SessionView) (S : Session) (s
             (names-of_none u q (new (DirKey q)) (Some (File bytes)) (put-other three (DirKey dir) (DirKey q) _ (dirs-apart dir q (λ e. dir_q (sym e))) ∙ gone_q) (file_dir bytes))
             (put-same three (DirKey dir) _)
             (λ d other apart. put-other three (DirKey dir) (DirKey d) _ (dirs-apart dir d apart)))
-            (bytes-put (is_told told) three (DirKey dir) _ tt (bytes-put (is_told told) two (Path q) _ tt (bytes-put (is_told told) one (DirKey up) _ tt (bytes-put (is_told told) w (Path p) None tt st.bytes))));
+            (bytes-put (is_told told) (is_listed x.size told) three (DirKey dir) _ tt
+            (bytes-put (is_told told) (is_listed x.size told) two (Path q) _ tt
+            (bytes-put (is_told told) (is_listed x.size told) one (DirKey up) _ tt
+            (bytes-put (is_told told) (is_listed x.size told) w (Path p) None tt st.bytes))));
         holds = Holds-on told w new s S u (λ f h is leads. at h.path (off f h is) (off_free q free_q h leads) ∙ leads) holds;
         own = λ j other none. none;
       })

@@ -1,23 +1,27 @@
 -- The bytes that pieces, regions and files show are bytes that they name.
-use Rattle.std.proofs.Common.{◌≡◌, ℕ, ◌+◌, ◌-◌, ◌<◌, ◌≤◌, ◌/◌, ◌%◌, ◌++◌, Bool, true, nat_lt, List, [], ◌∷◌, Option, None, Some, ap, sym, ◌∙◌, subst, arith, inl, inr}
+use Rattle.std.proofs.Common.{◌≡◌, ℕ, ◌+◌, ◌-◌, ◌<◌, ◌≤◌, ◌++◌, Bool, true, nat_lt, List, [], ◌∷◌, Option, None, Some, ap, sym, ◌∙◌, subst, arith, inl, inr}
 use Rattle.std.specs.List.{All}
 use Rattle.std.proofs.lemmas.Bool.{cases_lt, cond-true, cond-false, lt-ltb, le-ltb}
 use Rattle.std.proofs.lemmas.List.Elements.{All-nil, All-cons, All-append, All-push, All-head, All-tail}
 use Rattle.wtf_base.specs.declared.ids.InodeId.{InodeId}
+use Rattle.wtf_base.specs.declared.slice.Slice.{Slice}
 use Rattle.wtf_overlay.specs.Origin.{Place, part_origin, over, origin_from, origin, pieces_len, pieces_origin, Plans}
 use Rattle.wtf_overlay.specs.declared.part.Entry.{Entry}
 use Rattle.wtf_overlay.specs.declared.part.Piece.{Piece}
-use Rattle.wtf_overlay.proofs.Origins.{over_before, over_after, over_within}
+use Rattle.wtf_overlay.specs.Clips.{clip_list}
+use Rattle.wtf_overlay.proofs.Origins.{over_before, over_after, over_within, origin_from-append}
+use Rattle.wtf_overlay.proofs.Clipping.{clip_below, clip_past}
 use Rattle.wtf_values.specs.declared.key.Key.TheVariants.{Region}
 use Rattle.wtf_values.specs.declared.region.RegionValue.{RegionValue}
+use Rattle.wtf_values.specs.declared.region.Spill.{Spill}
 use Rattle.wtf_values.specs.declared.value.Value.{Value}
 use Rattle.wtf_values.specs.declared.value.Value.TheVariants as value
 use Rattle.wtf_meta.specs.Maps.{Map, Edits}
-use Rattle.wtf_meta.specs.Bytes.{PartBytes, EntryBytes, PiecesBytes, ValueBytes, MapBytes, EditsBytes}
-use Rattle.wtf_meta.specs.Files.{region_origin, file_origin}
+use Rattle.wtf_meta.specs.Lists.{Lists, TellLists, or_none, seen_list, base_facts, region_facts}
+use Rattle.wtf_meta.specs.Bytes.{PartBytes, EntryBytes, PiecesBytes, BaseBytes, MaybeBytes, FileBytes, ValueBytes, MapBytes, EditsBytes, ListSlices, ListsBytes}
+use Rattle.wtf_meta.specs.Files.{region_origin}
 use Rattle.wtf_meta.specs.FileEdits.{FileEdit, region_of, file_of, edits_of}
 use Rattle.wtf_meta.proofs.Edits.{edits_of-append}
-use Rattle.wtf_meta.proofs.RegionBytes.{MaybeBytes}
 
 module _ (P : List Place → Bool) where
   -- P holds of the bytes of one piece
@@ -72,20 +76,6 @@ module _ (P : List Place → Bool) where
   pub PiecesBytes-cut : (ps out : List Piece) (off n : ℕ) → PiecesBytes P ps → off + n ≤ pieces_len ps → Plans out n (λ i. pieces_origin ps (off + i)) → PiecesBytes P out
   PiecesBytes-cut ps out off n h within plans = plans_bytes out n (λ i. pieces_origin ps (off + i)) plans (λ i below. pieces_named ps (off + i) h (omega arith))
 
-  -- changes, one list after another
-  pub EditsBytes-append : (cs ds : Edits) → EditsBytes P cs → EditsBytes P ds → EditsBytes P (cs ++ ds)
-  EditsBytes-append [] ds first next = next
-  EditsBytes-append (c ∷ cs) ds first next = (first.0, EditsBytes-append cs ds first.1 next)
-
-  -- and of such, both
-  pub EditsBytes-parts : (cs ds : Edits) → EditsBytes P (cs ++ ds) → EditsBytes P cs × EditsBytes P ds
-  EditsBytes-parts [] ds h = (tt, h)
-  EditsBytes-parts (c ∷ cs) ds h = let rest = EditsBytes-parts cs ds h.1 in ((h.0, rest.0), rest.1)
-
-  -- changes of a file, one list after another
-  pub EditsBytes-edits : (i : InodeId) (ds es : List FileEdit) → EditsBytes P (edits_of i ds) → EditsBytes P (edits_of i es) → EditsBytes P (edits_of i (ds ++ es))
-  EditsBytes-edits i ds es first next = subst (EditsBytes P) (sym (edits_of-append i ds es)) (EditsBytes-append (edits_of i ds) (edits_of i es) first next)
-
   over_bytes : (e : Entry) (x : ℕ) (below : List Place) → EntryBytes P e → P below ≡ true → P (over e x below) ≡ true
   over_bytes e x below h under = elim (cases_lt x e.off) [
     | inl before ↦ ap P (over_before e x below before) ∙ under
@@ -95,33 +85,68 @@ module _ (P : List Place → Bool) where
     ]
   ]
 
-  list_bytes : (es : List Entry) (below : List Place) (x : ℕ) → All (EntryBytes P) es → P below ≡ true → P (origin_from below es x) ≡ true
+  pub list_bytes : (es : List Entry) (below : List Place) (x : ℕ) → All (EntryBytes P) es → P below ≡ true → P (origin_from below es x) ≡ true
   list_bytes [] below x h under = under
   list_bytes (e ∷ es) below x h under = list_bytes es (over e x below) x (All-tail (EntryBytes P) e es h) (over_bytes e x below (All-head (EntryBytes P) e es h) under)
+
+module _ (P : List Place → Bool) (Q : Slice → Bool) where
+  -- changes, one list after another
+  pub EditsBytes-append : (cs ds : Edits) → EditsBytes P Q cs → EditsBytes P Q ds → EditsBytes P Q (cs ++ ds)
+  EditsBytes-append [] ds first next = next
+  EditsBytes-append (c ∷ cs) ds first next = (first.0, EditsBytes-append cs ds first.1 next)
+
+  -- and of such, both
+  pub EditsBytes-parts : (cs ds : Edits) → EditsBytes P Q (cs ++ ds) → EditsBytes P Q cs × EditsBytes P Q ds
+  EditsBytes-parts [] ds h = (tt, h)
+  EditsBytes-parts (c ∷ cs) ds h = let rest = EditsBytes-parts cs ds h.1 in ((h.0, rest.0), rest.1)
+
+  -- changes of a file, one list after another
+  pub EditsBytes-edits : (i : InodeId) (ds es : List FileEdit) → EditsBytes P Q (edits_of i ds) → EditsBytes P Q (edits_of i es)
+      → EditsBytes P Q (edits_of i (ds ++ es))
+  EditsBytes-edits i ds es first next = subst (EditsBytes P Q) (sym (edits_of-append i ds es)) (EditsBytes-append (edits_of i ds) (edits_of i es) first next)
+
+  -- what a map shows of a region, and of a file, are values of it
+  pub region_of_bytes : (now : Option Value) → ValueBytes P Q now → MaybeBytes P Q (region_of now)
+  region_of_bytes None h = tt
+  region_of_bytes (Some (value.Node n)) h = tt
+  region_of_bytes (Some (value.Names ns)) h = tt
+  region_of_bytes (Some (value.Last r)) h = tt
+  region_of_bytes (Some (value.Region v)) h = h
+
+  pub file_bytes : (i : InodeId) (w : Map) → MapBytes P Q w → FileBytes P Q (file_of i w)
+  file_bytes i w h = λ r. region_of_bytes (w (Region i r)) (h (Region i r))
+
+  -- the slice of a base whose list was read
+  base_slices : (base : Option Spill) (under : List Entry) → BaseBytes P Q base → ListSlices P Q (base_facts base under)
+  base_slices None under h = tt
+  base_slices (Some s) under h = (h, tt)
+
+  pub region_slices : (now : Option RegionValue) (under : List Entry) → MaybeBytes P Q now → ListSlices P Q (region_facts now under)
+  region_slices None under h = tt
+  region_slices (Some v) under h = base_slices v.base under h.base
 
   module _ (hole : P [] ≡ true) where
     -- each byte of a list of entries
     pub origin_bytes : (es : List Entry) (x : ℕ) → All (EntryBytes P) es → P (origin es x) ≡ true
-    origin_bytes es x h = list_bytes es [] x h hole
+    origin_bytes es x h = list_bytes P es [] x h hole
 
-    -- of a region, which may be missing
-    pub region_origin_bytes : (now : Option RegionValue) (y : ℕ) → MaybeBytes P now → P (region_origin now y) ≡ true
-    region_origin_bytes None y h = hole
-    region_origin_bytes (Some v) y h = origin_bytes v.list y h.entries
+    -- of the list of a base, by what was read of it
+    base_origin_bytes : (lists : Lists) (base : Option Spill) (under : List Entry) (y : ℕ) → TellLists lists (base_facts base under) → BaseBytes P Q base
+        → ListsBytes P Q (base_facts base under)
+        → P (origin (seen_list lists base) y) ≡ true
+    base_origin_bytes lists None under y tell own known = hole
+    base_origin_bytes lists (Some s) under y tell own known =
+        ap (λ (o : Option (List Entry)). P (origin (clip_list s.visible (or_none o)) y)) tell.0
+        ∙ elim (cases_lt y s.visible) [
+          | inl low ↦ ap P (clip_below [] s.visible under y low) ∙ origin_bytes under y (known.0 own.1)
+          | inr high ↦ ap P (clip_past [] s.visible under y high) ∙ hole
+        ]
 
-    region_of_bytes : (now : Option Value) → ValueBytes P now → MaybeBytes P (region_of now)
-    region_of_bytes None h = tt
-    region_of_bytes (Some (value.Node n)) h = tt
-    region_of_bytes (Some (value.Names ns)) h = tt
-    region_of_bytes (Some (value.Last r)) h = tt
-    region_of_bytes (Some (value.Region v)) h = h
-
-    -- and of a file that a map shows
-    pub file_origin_bytes : (b : ℕ) (i : InodeId) (w : Map) (x : ℕ) → MapBytes P w → P (file_origin b (file_of i w) x) ≡ true
-    file_origin_bytes b i w x h =
-        region_origin_bytes (region_of (w (Region i (x / b)))) (x % b) (region_of_bytes (w (Region i (x / b))) (h (Region i (x / b))))
-
-    -- pieces that were read from a file
-    pub PiecesBytes-read : (b : ℕ) (i : InodeId) (w : Map) (ps : List Piece) (off n : ℕ) → MapBytes P w → Plans ps n (λ k. file_origin b (file_of i w) (off + k)) → PiecesBytes P ps
-    PiecesBytes-read b i w ps off n h plans =
-        plans_bytes ps n (λ k. file_origin b (file_of i w) (off + k)) plans (λ k below. file_origin_bytes b i w (off + k) h)
+    -- and of a region, which may be missing: what is read of a region names what the region and the list of its base name
+    pub region_origin_bytes : (lists : Lists) (now : Option RegionValue) (under : List Entry) (y : ℕ) → TellLists lists (region_facts now under)
+        → MaybeBytes P Q now
+        → ListsBytes P Q (region_facts now under) → P (region_origin lists now y) ≡ true
+    region_origin_bytes lists None under y tell h known = hole
+    region_origin_bytes lists (Some v) under y tell h known =
+        ap P (origin_from-append [] (seen_list lists v.base) v.list y)
+        ∙ list_bytes P v.list (origin (seen_list lists v.base) y) y h.entries (base_origin_bytes lists v.base under y tell h.base known)

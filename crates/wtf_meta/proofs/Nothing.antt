@@ -7,12 +7,14 @@ use Rattle.wtf_overlay.specs.Origin.{Place}
 use Rattle.wtf_model.specs.declared.limits.TheConstants.{MAX_HANDLES, MAX_SLICES}
 use Rattle.wtf_model.specs.Session.{Session, fresh}
 use Rattle.wtf_model.specs.Tree.{Tree}
+use Rattle.wtf_model.specs.Items.{reads_of, writes_of}
 use Rattle.wtf_model.specs.Transaction.{session_from, answers_from, session_after, answers_of}
 use Rattle.wtf_meta.specs.Maps.{Map}
 use Rattle.wtf_meta.specs.Contents.{Told}
 use Rattle.wtf_meta.specs.Trees.{Stands}
 use Rattle.wtf_meta.specs.Sessions.{HandleAt, SliceAt, Holds, SessionBytes, at_label, handle_in, slice_in, nothing_open}
 use Rattle.wtf_meta.specs.Calls.{Caller, nothing_done, cap_for, IsRun}
+use Rattle.wtf_meta.proofs.FeetLaws.{feet_looked}
 
 -- no label has something where nothing is open
 pub none_at : {A : Type 0} (x : Option A) (n f : ℕ) → x ≡ None → at_label (replicate n x) f ≡ None
@@ -44,11 +46,12 @@ answers_none most t = refl
 pub run_none : (x : Caller) (b : Map) → IsRun x b nothing_open nothing_done ([], [])
 run_none x b = record {
   fits = refl;
-  names = λ P hole map slices stored. record { edits = tt; facts = tt; slices = nothing_kept P };
-  acts = λ told w t agree fit facts stands. record {
+  names = λ P Q hole map slices stored lists. record { edits = tt; facts = tt; slices = nothing_kept P; lists = tt };
+  acts = λ told w t agree fit facts lists stands. record {
     answers = answers_none (cap_for x) t;
     stands = subst (λ (S : Session). Stands x.size told x.tx 0 w S.tree) (sym (session_none (cap_for x) t)) stands;
     holds = subst (λ S. Holds told w nothing_open S) (sym (session_none (cap_for x) t)) (holds_nothing told w t);
     own = λ i other none. none;
   };
+  feet = λ told w t agree fit facts lists stands. feet_looked x.tx w [] (reads_of (cap_for x) t []) (writes_of (cap_for x) t []) tt;
 }

@@ -1,14 +1,13 @@
--- One region of a file: its value set, its bytes past its end and below a cut, and its ranges as ranges of the file.
-use Rattle.std.proofs.Common.{◌≡◌, ◌≢◌, ℕ, ◌+◌, ◌-◌, ◌*◌, ◌<◌, ◌≤◌, nat_eq, [], Option, Some, refl, ap, ◌∙◌, arith, inl, inr}
+-- One region of a file: its value set, its bytes past the file's end, and its ranges as ranges of the file.
+use Rattle.std.proofs.Common.{◌≡◌, ◌≢◌, ℕ, ◌+◌, ◌-◌, ◌*◌, ◌<◌, ◌≤◌, nat_eq, [], Option, refl, ap, ◌∙◌, arith, inl, inr}
 use Rattle.std.proofs.lemmas.Bool.{cases_order, cond-true, cond-false, eq-eqb, ne_eqb}
-use Rattle.wtf_overlay.proofs.Origins.{within_past}
-use Rattle.wtf_overlay.proofs.Clipping.{clip_below}
 use Rattle.wtf_model.specs.declared.limits.TheConstants.{MAX_REGIONS}
 use Rattle.wtf_values.specs.declared.region.RegionValue.{RegionValue}
-use Rattle.wtf_values.specs.Regions.{or_empty, clipped}
+use Rattle.wtf_meta.specs.Lists.{Lists}
 use Rattle.wtf_meta.specs.Files.{FileView, IsFile, end_of, region_origin, file_origin, file_len, laid}
 use Rattle.wtf_meta.specs.FileEdits.{put_region}
 use Rattle.wtf_meta.proofs.Laid.{laid_is, laid_before, laid_within, laid_after}
+use Rattle.wtf_meta.proofs.BaseLists.{region_past}
 use Rattle.wtf_meta.proofs.Places.{at_place, by_places, apart}
 
 -- a region whose value was set
@@ -18,18 +17,6 @@ put_at v r now = cond-true (nat_eq r r) _ _ (eq-eqb r r refl)
 -- and the others
 pub put_else : (v : FileView) (r q : ℕ) (now : Option RegionValue) → q ≢ r → (put_region v r now).region q ≡ v.region q
 put_else v r q now h = cond-false (nat_eq q r) _ _ (ne_eqb q r h)
-
--- from its end on a region has holes
-pub region_past : (now : Option RegionValue) (y : ℕ) → end_of now ≤ y → region_origin now y ≡ []
-region_past now y past = within_past [] (end_of now) (or_empty now).list y (or_empty now).within past
-
--- a region that was cut shows what it did below the cut
-pub clipped_below : (end : ℕ) (now : Option RegionValue) (y : ℕ) → y < end → region_origin (Some (clipped end now)) y ≡ region_origin now y
-clipped_below end now y h = clip_below [] end (or_empty now).list y h
-
--- and holes from there on
-pub clipped_past : (end : ℕ) (now : Option RegionValue) (y : ℕ) → end ≤ y → region_origin (Some (clipped end now)) y ≡ []
-clipped_past end now y h = region_past (Some (clipped end now)) y h
 
 -- a range of a region as one of the file
 pub laid_in_file : {A : Type 0} (b r off n : ℕ) (f g h : ℕ → A) (y : ℕ) → g y ≡ h (r * b + y) → laid off n f g y ≡ laid (r * b + off) n f h (r * b + y)
@@ -46,16 +33,17 @@ laid_elsewhere b r q off n f h y below within differ = laid_is (r * b + off) n f
       | inr (inr g) ↦ absurd (omega (arith, apart b r q g))
     ])
 
-past_place : (b : ℕ) (v : FileView) (q y : ℕ) → y < b → IsFile b v → file_len b v ≤ q * b + y → region_origin (v.region q) y ≡ []
-past_place b v q y h is past = elim (cases_order v.last q) [
-  | inl e ↦ region_past (v.region q) y (let same : file_len b v ≡ q * b + end_of (v.region q) = ap (λ j. j * b + end_of (v.region j)) e in omega arith)
-  | inr (inl l) ↦ ap (λ w. region_origin w y) (is.above q l)
+past_place : (b : ℕ) (lists : Lists) (v : FileView) (q y : ℕ) → y < b → IsFile b v → file_len b v ≤ q * b + y → region_origin lists (v.region q) y ≡ []
+past_place b lists v q y h is past = elim (cases_order v.last q) [
+  | inl e ↦ region_past lists (v.region q) y (let same : file_len b v ≡ q * b + end_of (v.region q) = ap (λ j. j * b + end_of (v.region j)) e in omega arith)
+  | inr (inl l) ↦ ap (λ w. region_origin lists w y) (is.above q l)
   | inr (inr g) ↦ absurd (omega (arith, apart b q v.last g))
 ]
 
 -- from its end on a file has holes
-pub file_past : (b : ℕ) (v : FileView) (x : ℕ) → 0 < b → IsFile b v → file_len b v ≤ x → file_origin b v x ≡ []
-file_past b v x pos is = by_places (λ x. file_len b v ≤ x → file_origin b v x ≡ []) b pos (λ q y h past. at_place b v q y h ∙ past_place b v q y h is past) x
+pub file_past : (b : ℕ) (lists : Lists) (v : FileView) (x : ℕ) → 0 < b → IsFile b v → file_len b v ≤ x → file_origin b lists v x ≡ []
+file_past b lists v x pos is = by_places (λ x. file_len b v ≤ x → file_origin b lists v x ≡ []) b pos
+    (λ q y h past. at_place b lists v q y h ∙ past_place b lists v q y h is past) x
 
 -- no file passes the greatest length
 pub file_within : (b : ℕ) (v : FileView) → IsFile b v → file_len b v ≤ MAX_REGIONS * b

@@ -1,11 +1,12 @@
 -- Each place of a file is one of a region.
 use Rattle.std.proofs.Common.{◌≡◌, ℕ, ◌+◌, ◌*◌, ◌/◌, ◌%◌, ◌<◌, ◌≤◌, refl, subst, arith}
 use Rattle.std.proofs.lemmas.Nat.{div-mul-add, mod-mul-add, div-add-mod', mod_below, row_fits}
+use Rattle.wtf_meta.specs.Lists.{Lists}
 use Rattle.wtf_meta.specs.Files.{FileView, file_origin, region_origin}
 
 -- the place y of region q
-pub at_place : (b : ℕ) (v : FileView) (q y : ℕ) → y < b → file_origin b v (q * b + y) ≡ region_origin (v.region q) y
-at_place b v q y h =
+pub at_place : (b : ℕ) (lists : Lists) (v : FileView) (q y : ℕ) → y < b → file_origin b lists v (q * b + y) ≡ region_origin lists (v.region q) y
+at_place b lists v q y h =
     let d : (q * b + y) / b ≡ q = div-mul-add q b y h in
     let m : (q * b + y) % b ≡ y = mod-mul-add q b y h in
     rw (d, m) refl

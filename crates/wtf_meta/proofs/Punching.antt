@@ -1,16 +1,18 @@
 -- Holes in a file.
 use Rattle.std.proofs.Common.{◌≡◌, ℕ, ◌+◌, ◌-◌, ◌*◌, ◌<◌, ◌≤◌, ◌^◌, ◌⊎◌, ◌++◌, min, nat_lt, List, [], ◌∷◌, Option, Some, None, refl, ap, sym, ◌∙◌, subst, arith, inl, inr}
 use Rattle.std.proofs.lemmas.Bool.{cases_lt, cases_eq, cond-true, cond-false, lt-ltb, le-ltb}
-use Rattle.wtf_overlay.proofs.Origins.{origin-push, over_before, over_after, over_within}
+use Rattle.wtf_overlay.proofs.Origins.{over_before, over_after, over_within}
 use Rattle.wtf_values.specs.declared.region.RegionValue.{RegionValue}
 use Rattle.wtf_values.specs.Regions.{pushed, zeroed, zero_case, zero_entry}
 use Rattle.wtf_model.specs.declared.limits.TheConstants.{MAX_REGIONS}
 use Rattle.wtf_values.proofs.RegionLaws.{zeroed_in-end}
+use Rattle.wtf_meta.specs.Lists.{Lists}
 use Rattle.wtf_meta.specs.Files.{FileView, end_of, region_origin, file_origin, laid, joined}
 use Rattle.wtf_meta.specs.FileEdits.{FileEdit, ZeroWithin, put_region, after, after_edit}
 use Rattle.wtf_meta.specs.Ranges.{Punches, Clears}
 use Rattle.wtf_meta.proofs.Laid.{laid_is, laid_before, laid_within, laid_after, laid-laid, laid_same}
-use Rattle.wtf_meta.proofs.OneRegion.{put_at, put_else, region_past, laid_in_file, laid_elsewhere, file_past, file_within}
+use Rattle.wtf_meta.proofs.BaseLists.{region_past, region_pushed}
+use Rattle.wtf_meta.proofs.OneRegion.{put_at, put_else, laid_in_file, laid_elsewhere, file_past, file_within}
 use Rattle.wtf_meta.proofs.Places.{at_place, by_places}
 use Rattle.wtf_meta.proofs.Covering.{after-append, all_fit-append}
 
@@ -19,27 +21,30 @@ pub zeroed_end : (from upto : ℕ) (now : Option RegionValue) → end_of (zeroed
 zeroed_end from upto None = refl
 zeroed_end from upto (Some v) = zeroed_in-end from upto v
 
-case_origin : (v : RegionValue) (from to upto y : ℕ) (c : (from < to) ⊎ (to ≤ from)) (s : (to < 2 ^ 32) ⊎ (2 ^ 32 ≤ to)) → upto < 2 ^ 32 → to ≡ min upto v.end
-    → region_origin (Some (zero_case v from to c s)) y ≡ laid from (upto - from) (λ i. []) (region_origin (Some v)) y
-case_origin v from to upto y (inl some) (inl small) h is =
+case_origin : (lists : Lists) (v : RegionValue) (from to upto y : ℕ) (c : (from < to) ⊎ (to ≤ from)) (s : (to < 2 ^ 32) ⊎ (2 ^ 32 ≤ to)) → upto < 2 ^ 32
+    → to ≡ min upto v.end
+    → region_origin lists (Some (zero_case v from to c s)) y ≡ laid from (upto - from) (λ i. []) (region_origin lists (Some v)) y
+case_origin lists v from to upto y (inl some) (inl small) h is =
     let e = zero_entry from to some small in
-    let below = region_origin (Some v) y in
-    laid_is from (upto - from) (λ i. []) (region_origin (Some v)) y (region_origin (Some (pushed (Some v) e)) y)
-    (λ l. origin-push v.list e y ∙ over_before e y below l)
-    (λ p. origin-push v.list e y ∙ over_after e y below (omega arith))
-    (λ a z. origin-push v.list e y ∙ elim (cases_lt y to) [
+    let below = region_origin lists (Some v) y in
+    laid_is from (upto - from) (λ i. []) (region_origin lists (Some v)) y (region_origin lists (Some (pushed (Some v) e)) y)
+    (λ l. region_pushed lists (Some v) e y ∙ over_before e y below l)
+    (λ p. region_pushed lists (Some v) e y ∙ over_after e y below (omega arith))
+    (λ a z. region_pushed lists (Some v) e y ∙ elim (cases_lt y to) [
       | inl l ↦ over_within e y below a (omega arith)
-      | inr g ↦ over_after e y below (omega arith) ∙ region_past (Some v) y (omega arith)
+      | inr g ↦ over_after e y below (omega arith) ∙ region_past lists (Some v) y (omega arith)
     ])
-case_origin v from to upto y (inl some) (inr large) h is = absurd (omega arith)
-case_origin v from to upto y (inr none) s h is =
-    laid_is from (upto - from) (λ i. []) (region_origin (Some v)) y (region_origin (Some v) y) (λ _. refl) (λ _. refl)
-    (λ a z. region_past (Some v) y (omega arith))
+case_origin lists v from to upto y (inl some) (inr large) h is = absurd (omega arith)
+case_origin lists v from to upto y (inr none) s h is =
+    laid_is from (upto - from) (λ i. []) (region_origin lists (Some v)) y (region_origin lists (Some v) y) (λ _. refl) (λ _. refl)
+    (λ a z. region_past lists (Some v) y (omega arith))
 
 -- and make holes of its bytes in the range
-pub zeroed_origin : (from upto : ℕ) (now : Option RegionValue) (y : ℕ) → upto < 2 ^ 32 → region_origin (zeroed from upto now) y ≡ laid from (upto - from) (λ i. []) (region_origin now) y
-zeroed_origin from upto None y h = laid_is from (upto - from) (λ i. []) (region_origin None) y [] (λ _. refl) (λ _. refl) (λ _ _. refl)
-zeroed_origin from upto (Some v) y h = case_origin v from (min upto v.end) upto y (cases_lt from (min upto v.end)) (cases_lt (min upto v.end) (2 ^ 32)) h refl
+pub zeroed_origin : (lists : Lists) (from upto : ℕ) (now : Option RegionValue) (y : ℕ) → upto < 2 ^ 32
+    → region_origin lists (zeroed from upto now) y ≡ laid from (upto - from) (λ i. []) (region_origin lists now) y
+zeroed_origin lists from upto None y h = laid_is from (upto - from) (λ i. []) (region_origin lists None) y [] (λ _. refl) (λ _. refl) (λ _ _. refl)
+zeroed_origin lists from upto (Some v) y h = case_origin lists v from (min upto v.end) upto y (cases_lt from (min upto v.end))
+    (cases_lt (min upto v.end) (2 ^ 32)) h refl
 
 zeroed_none : (from upto : ℕ) (now : Option RegionValue) → now ≡ None → zeroed from upto now ≡ None
 zeroed_none from upto now is = ap (zeroed from upto) is
@@ -51,7 +56,7 @@ Punches-none b off = record {
   last = λ v. refl;
   ends = λ v q. refl;
   none = λ v q h. h;
-  origin = λ v x. laid_is off 0 (λ i. []) (file_origin b v) x (file_origin b v x) (λ _. refl) (λ _. refl) (λ from to. absurd (omega arith));
+  origin = λ lists v x. laid_is off 0 (λ i. []) (file_origin b lists v) x (file_origin b lists v x) (λ _. refl) (λ _. refl) (λ from to. absurd (omega arith));
 }
 
 -- holes of a range and then of the range that follows
@@ -61,10 +66,11 @@ Punches-join b ds es off n m first next = record {
   last = λ v. ap (λ (w : FileView). w.last) (after-append ds es v) ∙ next.last (after ds v) ∙ first.last v;
   ends = λ v q. ap (λ (w : FileView). end_of (w.region q)) (after-append ds es v) ∙ next.ends (after ds v) q ∙ first.ends v q;
   none = λ v q h. ap (λ (w : FileView). w.region q) (after-append ds es v) ∙ next.none (after ds v) q (first.none v q h);
-  origin = λ v x. ap (λ (w : FileView). file_origin b w x) (after-append ds es v) ∙ next.origin (after ds v) x
-      ∙ laid_same (off + n) m (λ i. []) (λ i. []) (file_origin b (after ds v)) (laid off n (λ i. []) (file_origin b v)) x (λ i _. refl) (first.origin v x)
-      ∙ laid-laid off n m (λ i. []) (λ i. []) (file_origin b v) x
-      ∙ laid_same off (n + m) (joined n (λ i. []) (λ i. [])) (λ i. []) (file_origin b v) (file_origin b v) x (λ i _. elim (cases_lt i n) [
+  origin = λ lists v x. ap (λ (w : FileView). file_origin b lists w x) (after-append ds es v) ∙ next.origin lists (after ds v) x
+      ∙ laid_same (off + n) m (λ i. []) (λ i. []) (file_origin b lists (after ds v)) (laid off n (λ i. []) (file_origin b lists v)) x (λ i _. refl)
+      (first.origin lists v x)
+      ∙ laid-laid off n m (λ i. []) (λ i. []) (file_origin b lists v) x
+      ∙ laid_same off (n + m) (joined n (λ i. []) (λ i. [])) (λ i. []) (file_origin b lists v) (file_origin b lists v) x (λ i _. elim (cases_lt i n) [
         | inl l ↦ cond-true (nat_lt i n) _ _ (lt-ltb i n l)
         | inr g ↦ cond-false (nat_lt i n) _ _ (le-ltb i n g)
       ]) refl;
@@ -83,14 +89,17 @@ Punches-zero b r from upto off n pos small is within at = subst (λ o. Punches b
     | inl e ↦ subst (λ j. v.region j ≡ None → (put_region v r (zeroed from upto (v.region r))).region j ≡ None) (sym e) (λ k. put_at v r (zeroed from upto (v.region r)) ∙ zeroed_none from upto (v.region r) k) h
     | inr differ ↦ put_else v r q (zeroed from upto (v.region r)) differ ∙ h
   ];
-  origin = λ v. by_places (λ x. file_origin b (after_edit (ZeroWithin r from upto) v) x ≡ laid (r * b + from) n (λ i. []) (file_origin b v) x) b pos
-      (λ q y h. at_place b (after_edit (ZeroWithin r from upto) v) q y h ∙ elim (cases_eq q r) [
-        | inl e ↦ subst (λ j. region_origin ((put_region v r (zeroed from upto (v.region r))).region j) y ≡ laid (r * b + from) n (λ i. []) (file_origin b v) (j * b + y)) (sym e)
-            (ap (λ w. region_origin w y) (put_at v r (zeroed from upto (v.region r))) ∙ zeroed_origin from upto (v.region r) y (omega arith)
-            ∙ laid_in_file b r from (upto - from) (λ i. []) (region_origin (v.region r)) (file_origin b v) y (sym (at_place b v r y h))
-            ∙ ap (λ m. laid (r * b + from) m (λ i. []) (file_origin b v) (r * b + y)) (let d : upto - from ≡ n = omega arith in d))
-        | inr differ ↦ ap (λ w. region_origin w y) (put_else v r q (zeroed from upto (v.region r)) differ) ∙ sym (at_place b v q y h)
-            ∙ laid_elsewhere b r q from n (λ i. []) (file_origin b v) y h (omega arith) differ
+  origin = λ lists v. by_places
+      (λ x. file_origin b lists (after_edit (ZeroWithin r from upto) v) x ≡ laid (r * b + from) n (λ i. []) (file_origin b lists v) x) b pos
+      (λ q y h. at_place b lists (after_edit (ZeroWithin r from upto) v) q y h ∙ elim (cases_eq q r) [
+        | inl e ↦ subst
+            (λ j. region_origin lists ((put_region v r (zeroed from upto (v.region r))).region j) y ≡ laid (r * b + from) n (λ i. []) (file_origin b lists v)
+            (j * b + y)) (sym e)
+            (ap (λ w. region_origin lists w y) (put_at v r (zeroed from upto (v.region r))) ∙ zeroed_origin lists from upto (v.region r) y (omega arith)
+            ∙ laid_in_file b r from (upto - from) (λ i. []) (region_origin lists (v.region r)) (file_origin b lists v) y (sym (at_place b lists v r y h))
+            ∙ ap (λ m. laid (r * b + from) m (λ i. []) (file_origin b lists v) (r * b + y)) (let d : upto - from ≡ n = omega arith in d))
+        | inr differ ↦ ap (λ w. region_origin lists w y) (put_else v r q (zeroed from upto (v.region r)) differ) ∙ sym (at_place b lists v q y h)
+            ∙ laid_elsewhere b r q from n (λ i. []) (file_origin b lists v) y h (omega arith) differ
       ]);
 })
 
@@ -105,11 +114,11 @@ Clears-punched b ds off n m pos is within p = record {
     few = subst (λ l. l < MAX_REGIONS) (sym (p.last v)) file.few;
   };
   len = λ v file. ap (λ l. l * b + end_of ((after ds v).region l)) (p.last v) ∙ ap (λ j. v.last * b + j) (p.ends v v.last);
-  origin = λ v file x. p.origin v x ∙ laid_is off n (λ i. []) (file_origin b v) x (laid off m (λ i. []) (file_origin b v) x)
-      (λ l. laid_before off m (λ i. []) (file_origin b v) x l) (λ q. laid_after off m (λ i. []) (file_origin b v) x (omega arith))
+  origin = λ lists v file x. p.origin lists v x ∙ laid_is off n (λ i. []) (file_origin b lists v) x (laid off m (λ i. []) (file_origin b lists v) x)
+      (λ l. laid_before off m (λ i. []) (file_origin b lists v) x l) (λ q. laid_after off m (λ i. []) (file_origin b lists v) x (omega arith))
       (λ from to. elim (cases_lt x (off + m)) [
-        | inl l ↦ laid_within off m (λ i. []) (file_origin b v) x from l
-        | inr g ↦ laid_after off m (λ i. []) (file_origin b v) x g ∙ file_past b v x pos file (omega (arith, file_within b v file))
+        | inl l ↦ laid_within off m (λ i. []) (file_origin b lists v) x from l
+        | inr g ↦ laid_after off m (λ i. []) (file_origin b lists v) x g ∙ file_past b lists v x pos file (omega (arith, file_within b v file))
       ]);
 }
 
@@ -126,6 +135,6 @@ Clears-none b off n pos past = record {
   fit = λ v. refl;
   keeps = λ v is. is;
   len = λ v is. refl;
-  origin = λ v is x. laid_is off n (λ i. []) (file_origin b v) x (file_origin b v x) (λ _. refl) (λ _. refl)
-      (λ from to. file_past b v x pos is (omega (arith, file_within b v is)));
+  origin = λ lists v is x. laid_is off n (λ i. []) (file_origin b lists v) x (file_origin b lists v x) (λ _. refl) (λ _. refl)
+      (λ from to. file_past b lists v x pos is (omega (arith, file_within b v is)));
 }

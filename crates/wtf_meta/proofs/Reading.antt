@@ -10,7 +10,7 @@ use Rattle.wtf_overlay.proofs.Pieces.{pieces_len-append, pieces_origin_left, pie
 use Rattle.wtf_model.specs.Done.{part}
 use Rattle.wtf_model.proofs.Laws.{length-part, get_or-part}
 use Rattle.wtf_meta.specs.Files.{FileView, file_origin, joined}
-use Rattle.wtf_meta.specs.Contents.{Told, TellBytes, PiecesTell, HasBytes}
+use Rattle.wtf_meta.specs.Contents.{Told, TellBytes, PiecesTell, HasBytes, lists_in}
 use Rattle.wtf_meta.proofs.Laid.{joined_first, joined_then}
 
 -- pieces that show places tell their bytes
@@ -30,19 +30,20 @@ part_tells told f all off n k tells most = record {
 
 -- the bytes of a file from an offset on, as many as are asked for and are there
 pub HasBytes-part : (told : Told) (b : ℕ) (v : FileView) (all : List ℕ) (off n k : ℕ) → HasBytes told b v all → k ≡ min n (length all - off)
-    → TellBytes told k (λ i. file_origin b v (off + i)) (part off n all)
-HasBytes-part told b v all off n k has most = part_tells told (file_origin b v) all off n k (λ x h. has.tells x) most
+    → TellBytes told k (λ i. file_origin b (lists_in b told) v (off + i)) (part off n all)
+HasBytes-part told b v all off n k has most = part_tells told (file_origin b (lists_in b told) v) all off n k (λ x h. has.tells x) most
 
 -- pieces that were read from a file
 pub PiecesTell-read : (told : Told) (b : ℕ) (v : FileView) (all : List ℕ) (off n k : ℕ) (ps : List Piece) → HasBytes told b v all → k ≡ min n (length all - off)
-    → Plans ps k (λ i. file_origin b v (off + i)) → PiecesTell told ps (part off n all)
-PiecesTell-read told b v all off n k ps has most plans = PiecesTell-plans told ps k (λ i. file_origin b v (off + i)) (part off n all) plans (HasBytes-part told b v all off n k has most)
+    → Plans ps k (λ i. file_origin b (lists_in b told) v (off + i)) → PiecesTell told ps (part off n all)
+PiecesTell-read told b v all off n k ps has most plans = PiecesTell-plans told ps k (λ i. file_origin b (lists_in b told) v (off + i)) (part off n all) plans
+    (HasBytes-part told b v all off n k has most)
 
 -- a whole file
 pub PiecesTell-file : (told : Told) (b : ℕ) (v : FileView) (all : List ℕ) (n : ℕ) (ps : List Piece) → HasBytes told b v all → n ≡ length all
-    → Plans ps n (λ i. file_origin b v i) → PiecesTell told ps all
+    → Plans ps n (λ i. file_origin b (lists_in b told) v i) → PiecesTell told ps all
 PiecesTell-file told b v all n ps has whole plans =
-    PiecesTell-plans told ps n (λ i. file_origin b v i) all plans (record { len = whole; tells = λ i h. has.tells i })
+    PiecesTell-plans told ps n (λ i. file_origin b (lists_in b told) v i) all plans (record { len = whole; tells = λ i h. has.tells i })
 
 -- pieces that were cut from others
 pub PiecesTell-cut : (told : Told) (ps out : List Piece) (all : List ℕ) (off n : ℕ) → PiecesTell told ps all → off + n ≤ length all

@@ -12,7 +12,7 @@ use Rattle.wtf_values.specs.declared.value.Value.{Value}
 use Rattle.wtf_values.specs.declared.value.Value.TheVariants as value
 use Rattle.wtf_meta.specs.Maps.{Map, with}
 use Rattle.wtf_meta.specs.Bytes.{EditsBytes}
-use Rattle.wtf_meta.specs.Contents.{Told, is_told}
+use Rattle.wtf_meta.specs.Contents.{Told, is_told, is_listed}
 use Rattle.wtf_meta.specs.FileEdits.{FileEdit, edits_of, IsLast}
 use Rattle.wtf_meta.specs.Trees.{LeadsTo, IsBody, NodeAt, NamesAt, Stands, Own}
 use Rattle.wtf_meta.proofs.Nodes.{FileAt, node-put, node-kept}
@@ -90,7 +90,8 @@ module _ (b : ℕ) (told : Told) (tx k : ℕ) (w : Map) (t : Tree) (st : Stands 
   pub leads-rewritten : (q : List ℕ) (j : InodeId) → LeadsTo w q j → LeadsTo new q j
   leads-rewritten q j to = paths_stay i ds w q ∙ to
 
-  pub stands-rewritten : (bytes : List ℕ) → IsBody b told new i bytes → EditsBytes (is_told told) (edits_of i ds) → Stands b told tx (k + 1) new (insert t p (File bytes))
+  pub stands-rewritten : (bytes : List ℕ) → IsBody b told new i bytes → EditsBytes (is_told told) (is_listed b told) (edits_of i ds)
+      → Stands b told tx (k + 1) new (insert t p (File bytes))
   stands-rewritten bytes body told_edits =
       let u : Tree = insert t p (File bytes) in
       let back : (q : List ℕ) (j : InodeId) → LeadsTo new q j → LeadsTo w q j = λ q j to. sym (paths_stay i ds w q) ∙ to in
@@ -115,6 +116,28 @@ module _ (b : ℕ) (told : Told) (tx k : ℕ) (w : Map) (t : Tree) (st : Stands 
         apart = λ q r j one two. st.apart q r j (back q j one) (back r j two);
         led = λ j some. let found = st.led j (before j (one_inode i j) some) in (found.0, leads-rewritten found.0 j found.1);
         regions = λ j r some. still bytes body j (one_inode i j) (owned j r (one_inode i j) some);
-        bytes = with_bytes (is_told told) refl (edits_of i ds) w st.bytes told_edits;
+        bytes = with_bytes (is_told told) (is_listed b told) refl (edits_of i ds) w st.bytes told_edits;
         fresh = λ j mine le. none_stays j (one_inode i j) (st.fresh j mine (omega arith));
+      }
+
+  -- changes that leave the bytes of the file leave the tree, and count as no call
+  pub stands-kept : (bytes : List ℕ) → get t p ≡ Some (File bytes) → IsBody b told new i bytes → EditsBytes (is_told told) (is_listed b told) (edits_of i ds)
+      → Stands b told tx k new t
+  stands-kept bytes file body told_edits =
+      let back : (q : List ℕ) (j : InodeId) → LeadsTo new q j → LeadsTo w q j = λ q j to. sym (paths_stay i ds w q) ∙ to in
+      record {
+        tree_is = st.tree_is;
+        nodes = λ q. ⊎_elim
+            (λ same. subst (λ x. NodeAt b told new (new (Path x)) (get t x)) (sym same)
+            (node-put b told new (FileNode i) (new (Path p)) (get t p) (Some (File bytes)) (leads-rewritten p i leads) file body))
+            (λ other. node-kept b told w new (w (Path q)) (new (Path q)) (get t q) (get t q)
+            (λ j bs to was. body_other b told i ds w j bs (λ e. other (sym (st.apart p q i leads (subst (λ x. LeadsTo w q x) (sym e) to)))) was)
+            (paths_stay i ds w q) refl (st.nodes q))
+            (same_or_other q p);
+        names = λ q. subst (λ v. NamesAt t q v (get t q)) (sym (dirs_stay i ds w q)) (st.names q);
+        apart = λ q r j one two. st.apart q r j (back q j one) (back r j two);
+        led = λ j some. let found = st.led j (before j (one_inode i j) some) in (found.0, leads-rewritten found.0 j found.1);
+        regions = λ j r some. still bytes body j (one_inode i j) (owned j r (one_inode i j) some);
+        bytes = with_bytes (is_told told) (is_listed b told) refl (edits_of i ds) w st.bytes told_edits;
+        fresh = λ j mine le. none_stays j (one_inode i j) (st.fresh j mine le);
       }

@@ -11,7 +11,7 @@ use Rattle.wtf_values.specs.declared.value.Value.{Value}
 use Rattle.wtf_values.specs.declared.value.Value.TheVariants as value
 use Rattle.wtf_meta.specs.Maps.{Map}
 use Rattle.wtf_meta.specs.Bytes.{MapBytes}
-use Rattle.wtf_meta.specs.Contents.{Told, is_told}
+use Rattle.wtf_meta.specs.Contents.{Told, is_told, is_listed}
 use Rattle.wtf_meta.specs.FileEdits.{IsLast}
 use Rattle.wtf_meta.specs.Trees.{LeadsTo, IsBody, NodeAt, Stands}
 use Rattle.wtf_meta.proofs.Nodes.{FileAt, node-none, node-file, node-put, node-taken, node-kept}
@@ -72,7 +72,7 @@ module _ (b : ℕ) (told : Told) (tx k : ℕ) (w : Map) (t : Tree) (st : Stands 
       → NodeAt b told new (new (Path p)) (get u p)
       → ((q : List ℕ) → q ≢ p → (new (Path q) ≡ w (Path q)) × (get u q ≡ get t q))
       → ((i : InodeId) → new (Inode i) ≡ w (Inode i)) → ((i : InodeId) (r : ℕ) → new (Region i r) ≡ w (Region i r))
-      → IsTree u → HaveNames u (λ d. new (DirKey d)) → MapBytes (is_told told) new → Stands b told tx (k + 1) new u
+      → IsTree u → HaveNames u (λ d. new (DirKey d)) → MapBytes (is_told told) (is_listed b told) new → Stands b told tx (k + 1) new u
   stands-directory new p u was is here others inodes regions tree names bytes =
       let before : (q : List ℕ) (i : InodeId) → LeadsTo new q i → LeadsTo w q i = λ q i leads.
       sym (others q (λ e. is i (subst (λ x. LeadsTo new x i) e leads))).0 ∙ leads in
@@ -97,7 +97,7 @@ module _ (b : ℕ) (told : Told) (tx k : ℕ) (w : Map) (t : Tree) (st : Stands 
       → get t p ≡ None → new (Path p) ≡ Some (value.Node (FileNode i)) → get u p ≡ Some (File [])
       → ((q : List ℕ) → q ≢ p → (new (Path q) ≡ w (Path q)) × (get u q ≡ get t q))
       → new (Inode i) ≡ Some (value.Last 0) → ((j : InodeId) → j ≢ i → new (Inode j) ≡ w (Inode j)) → ((j : InodeId) (r : ℕ) → new (Region j r) ≡ w (Region j r))
-      → IsTree u → HaveNames u (λ d. new (DirKey d)) → MapBytes (is_told told) new → Stands b told tx (k + 1) new u
+      → IsTree u → HaveNames u (λ d. new (DirKey d)) → MapBytes (is_told told) (is_listed b told) new → Stands b told tx (k + 1) new u
   stands-created new p u i own index free here there others made inodes regions tree names bytes =
       let none : w (Inode i) ≡ None = st.fresh i own (omega arith) in
       let before : (q : List ℕ) (j : InodeId) → q ≢ p → LeadsTo new q j → LeadsTo w q j = λ q j other leads. sym (others q other).0 ∙ leads in
@@ -141,7 +141,7 @@ module _ (b : ℕ) (told : Told) (tx k : ℕ) (w : Map) (t : Tree) (st : Stands 
       → ((q : List ℕ) → q ≢ p → (new (Path q) ≡ w (Path q)) × (get u q ≡ get t q))
       → new (Inode i) ≡ None → ((r : ℕ) → new (Region i r) ≡ None)
       → ((j : InodeId) → j ≢ i → new (Inode j) ≡ w (Inode j)) → ((j : InodeId) (r : ℕ) → j ≢ i → new (Region j r) ≡ w (Region j r))
-      → IsTree u → HaveNames u (λ d. new (DirKey d)) → MapBytes (is_told told) new → Stands b told tx (k + 1) new u
+      → IsTree u → HaveNames u (λ d. new (DirKey d)) → MapBytes (is_told told) (is_listed b told) new → Stands b told tx (k + 1) new u
   stands-unlinked new p u i leads_p gone none others no_inode no_region inodes regions tree names bytes =
       let before : (q : List ℕ) (j : InodeId) → LeadsTo new q j → LeadsTo w q j = λ q j leads.
       sym (others q (λ e. none_leads (new (Path p)) j gone (subst (λ x. LeadsTo new x j) e leads))).0 ∙ leads in
@@ -175,7 +175,7 @@ module _ (b : ℕ) (told : Told) (tx k : ℕ) (w : Map) (t : Tree) (st : Stands 
       → (new (Path p) ≡ None) × (get u p ≡ None) → (new (Path q) ≡ Some (value.Node (FileNode i))) × (get u q ≡ Some (File bs))
       → ((x : List ℕ) → x ≢ p → x ≢ q → (new (Path x) ≡ w (Path x)) × (get u x ≡ get t x))
       → ((j : InodeId) → new (Inode j) ≡ w (Inode j)) → ((j : InodeId) (r : ℕ) → new (Region j r) ≡ w (Region j r))
-      → IsTree u → HaveNames u (λ d. new (DirKey d)) → MapBytes (is_told told) new → Stands b told tx (k + 1) new u
+      → IsTree u → HaveNames u (λ d. new (DirKey d)) → MapBytes (is_told told) (is_listed b told) new → Stands b told tx (k + 1) new u
   stands-renamed new p q u i bs leads_p file free gone here others inodes regions tree names bytes =
       let stays : (j : InodeId) (xs : List ℕ) → IsBody b told w j xs → IsBody b told new j xs = λ j xs was. body-stays b told w new j xs (inodes j) (regions j) was in
       let at_p = leads-file p i leads_p in

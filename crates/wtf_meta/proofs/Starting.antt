@@ -17,7 +17,7 @@ use Rattle.wtf_values.specs.declared.value.Value.TheVariants as value
 use Rattle.wtf_values.specs.Names.{no_names}
 use Rattle.wtf_meta.specs.Maps.{Map}
 use Rattle.wtf_meta.specs.Bytes.{ValueBytes}
-use Rattle.wtf_meta.specs.Contents.{Told, is_told}
+use Rattle.wtf_meta.specs.Contents.{Told, is_told, is_listed}
 use Rattle.wtf_meta.specs.Trees.{LeadsTo, NodeAt, NamesAt, Stands, IsFirst}
 use Rattle.wtf_meta.proofs.Nodes.{node-put, node-taken, names-of_listing, names-of_none}
 use Rattle.wtf_meta.proofs.Listings.{listing-none}
@@ -47,17 +47,18 @@ module _ (b : ℕ) (told : Told) (tx k : ℕ) (w : Map) (first : IsFirst w) wher
   leads_none q i (inl same) leads = folder_leads (w (Path root)) i first.top (subst (λ x. LeadsTo w x i) same leads)
   leads_none q i (inr other) leads = none_leads (w (Path q)) i (first.paths q other) leads
 
-  value_told : (q : Key) → ValueBytes (is_told told) (w q)
+  value_told : (q : Key) → ValueBytes (is_told told) (is_listed b told) (w q)
   value_told (Path q) = ⊎_elim
-      (λ same. subst (λ v. ValueBytes (is_told told) v) (sym (subst (λ x. w (Path x) ≡ Some (value.Node Folder)) (sym same) first.top)) tt)
-      (λ other. subst (λ v. ValueBytes (is_told told) v) (sym (first.paths q other)) tt)
+      (λ same. subst (λ v. ValueBytes (is_told told) (is_listed b told) v) (sym (subst (λ x. w (Path x) ≡ Some (value.Node Folder)) (sym same) first.top)) tt)
+      (λ other. subst (λ v. ValueBytes (is_told told) (is_listed b told) v) (sym (first.paths q other)) tt)
       (same_or_other q root)
   value_told (DirKey q) = ⊎_elim
-      (λ same. subst (λ v. ValueBytes (is_told told) v) (sym (subst (λ x. w (DirKey x) ≡ Some (value.Names no_names)) (sym same) first.names)) tt)
-      (λ other. subst (λ v. ValueBytes (is_told told) v) (sym (first.dirs q other)) tt)
+      (λ same. subst (λ v. ValueBytes (is_told told) (is_listed b told) v)
+      (sym (subst (λ x. w (DirKey x) ≡ Some (value.Names no_names)) (sym same) first.names)) tt)
+      (λ other. subst (λ v. ValueBytes (is_told told) (is_listed b told) v) (sym (first.dirs q other)) tt)
       (same_or_other q root)
-  value_told (Inode i) = subst (λ v. ValueBytes (is_told told) v) (sym (first.inodes i)) tt
-  value_told (Region i r) = subst (λ v. ValueBytes (is_told told) v) (sym (first.regions i r)) tt
+  value_told (Inode i) = subst (λ v. ValueBytes (is_told told) (is_listed b told) v) (sym (first.inodes i)) tt
+  value_told (Region i r) = subst (λ v. ValueBytes (is_told told) (is_listed b told) v) (sym (first.regions i r)) tt
 
   -- a map with the root alone stands for the tree with the root alone
   pub stands-first : Stands b told tx k w root_alone

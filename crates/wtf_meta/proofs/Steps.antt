@@ -130,3 +130,7 @@ does_rel ps b = record {
       (rel_kind (fits_at_end None ps b) (with_pieces (or_empty None) ps) None tt)
       (λ v. rel_kind (fits_at_end (Some v) ps b) (with_pieces v ps) (Some (value.Region v)) tt);
 }
+
+-- a region that is set
+pub does_put : (x : RegionValue) → Does (delta.Put (value.Region x)) (λ now. Some x)
+does_put x = record { value = λ now is. refl; kind = λ now is. tt }

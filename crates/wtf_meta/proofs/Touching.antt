@@ -7,6 +7,7 @@ use Rattle.wtf_base.specs.declared.ids.InodeId.{InodeId}
 use Rattle.wtf_kv.specs.Edits.{Agree}
 use Rattle.wtf_overlay.specs.declared.part.Piece.{Piece}
 use Rattle.wtf_overlay.specs.Origin.{Plans}
+use Rattle.wtf_meta.specs.Lists.{Lists}
 use Rattle.wtf_meta.specs.Files.{FileView, region_origin, file_origin, file_len, end_of}
 use Rattle.wtf_meta.specs.Maps.{Map}
 use Rattle.wtf_meta.specs.FileEdits.{last_of, region_of, file_of}
@@ -62,18 +63,20 @@ agree_count a (suc m) r v w h low high = elim (cases_eq a r) [
 ]
 
 -- files that agree on the regions that a range touches have its bytes at the same places
-pub agree_origin : (b off n i : ℕ) (v w : FileView) → 0 < b → i < n → AgreeOn (region_keys (touched b off n)) v w → file_origin b v (off + i) ≡ file_origin b w (off + i)
-agree_origin b off n i v w pos h agree =
+pub agree_origin : (b off n i : ℕ) (lists : Lists) (v w : FileView) → 0 < b → i < n → AgreeOn (region_keys (touched b off n)) v w
+    → file_origin b lists v (off + i) ≡ file_origin b lists w (off + i)
+agree_origin b off n i lists v w pos h agree =
     let keys : touched b off n ≡ count_from (off / b) ((off + n - 1) / b + 1 - off / b) = cond-true (nat_lt 0 n) _ _ (lt-ltb 0 n (omega arith)) in
     let low : off / b ≤ (off + i) / b = le-div (off / b) (off + i) b pos (omega (arith, div-mul-le_self off b)) in
     let high : (off + i) / b ≤ (off + n - 1) / b = le-div ((off + i) / b) (off + n - 1) b pos (omega (arith, div-mul-le_self (off + i) b)) in
     let same : v.region ((off + i) / b) ≡ w.region ((off + i) / b) =
     agree_count (off / b) ((off + n - 1) / b + 1 - off / b) ((off + i) / b) v w (subst (λ rs. AgreeOn (region_keys rs) v w) keys agree) low (omega arith) in
-    ap (λ o. region_origin o ((off + i) % b)) same
+    ap (λ o. region_origin lists o ((off + i) % b)) same
 
 -- and so a plan of the one is a plan of the other
-pub agree_plans : (b off n : ℕ) (v w : FileView) (ps : List Piece) → 0 < b → AgreeOn (region_keys (touched b off n)) v w → Plans ps n (λ i. file_origin b v (off + i)) → Plans ps n (λ i. file_origin b w (off + i))
-agree_plans b off n v w ps pos agree plans = record { len = plans.len; origin = λ i h. plans.origin i h ∙ agree_origin b off n i v w pos h agree }
+pub agree_plans : (b off n : ℕ) (lists : Lists) (v w : FileView) (ps : List Piece) → 0 < b → AgreeOn (region_keys (touched b off n)) v w
+    → Plans ps n (λ i. file_origin b lists v (off + i)) → Plans ps n (λ i. file_origin b lists w (off + i))
+agree_plans b off n lists v w ps pos agree plans = record { len = plans.len; origin = λ i h. plans.origin i h ∙ agree_origin b off n i lists v w pos h agree }
 
 -- maps that agree on a file's keys show files that agree on them
 pub agree_file : (i : InodeId) (ks : List FileKey) (u w : Map) → Agree (keys_of i ks) u w → AgreeOn ks (file_of i u) (file_of i w)
@@ -86,6 +89,7 @@ pub agree_file_len : (b : ℕ) (i : InodeId) (u w : Map) → Agree (keys_of i (l
 agree_file_len b i u w h = agree_len b (file_of i u) (file_of i w) (agree_file i (length_keys (file_of i u)) u w h)
 
 -- and the bytes of a range at the same places
-pub agree_file_plans : (b off n : ℕ) (i : InodeId) (u w : Map) (ps : List Piece) → 0 < b → Agree (keys_of i (region_keys (touched b off n))) u w
-    → Plans ps n (λ k. file_origin b (file_of i u) (off + k)) → Plans ps n (λ k. file_origin b (file_of i w) (off + k))
-agree_file_plans b off n i u w ps pos h plans = agree_plans b off n (file_of i u) (file_of i w) ps pos (agree_file i (region_keys (touched b off n)) u w h) plans
+pub agree_file_plans : (b off n : ℕ) (lists : Lists) (i : InodeId) (u w : Map) (ps : List Piece) → 0 < b → Agree (keys_of i (region_keys (touched b off n))) u w
+    → Plans ps n (λ k. file_origin b lists (file_of i u) (off + k)) → Plans ps n (λ k. file_origin b lists (file_of i w) (off + k))
+agree_file_plans b off n lists i u w ps pos h plans = agree_plans b off n lists (file_of i u) (file_of i w) ps pos
+    (agree_file i (region_keys (touched b off n)) u w h) plans

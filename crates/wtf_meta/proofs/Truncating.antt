@@ -3,11 +3,12 @@ use Rattle.std.proofs.Common.{◌≡◌, ℕ, ◌+◌, ◌*◌, ◌<◌, ◌≤�
 use Rattle.std.proofs.lemmas.Bool.{cases_lt, cases_order, cond-true, cond-false, lt-ltb, le-ltb, le-leb, lt-leb, eq-eqb, ne_eqb, and_left, and_right, and_from}
 use Rattle.wtf_model.specs.declared.limits.TheConstants.{MAX_REGIONS}
 use Rattle.wtf_values.specs.Regions.{clipped}
+use Rattle.wtf_meta.specs.Lists.{Lists}
 use Rattle.wtf_meta.specs.Files.{FileView, IsFile, end_of, region_origin, file_origin, cut_at}
 use Rattle.wtf_meta.specs.FileEdits.{FileEdit, SetLast, Clip, CutAbove, after, lies_above, LAST_REGION}
 use Rattle.wtf_meta.specs.Ranges.{Truncates}
 use Rattle.wtf_meta.proofs.Laid.{cut_below, cut_past}
-use Rattle.wtf_meta.proofs.OneRegion.{clipped_below, clipped_past}
+use Rattle.wtf_meta.proofs.BaseLists.{clipped_below, clipped_past}
 use Rattle.wtf_meta.proofs.Places.{at_place, by_places, apart}
 
 -- the changes that make a file r whole regions and k bytes long
@@ -27,17 +28,18 @@ region_above b v r k q is h = elim (cases_lt LAST_REGION q) [
   | inr near ↦ cond-true (lies_above r q) _ _ (and_from (nat_lt r q) (nat_le q LAST_REGION) (lt-ltb r q h) (le-leb q LAST_REGION near))
 ]
 
-cut_at_place : (b n r k : ℕ) (v : FileView) (q y : ℕ) → IsFile b v → r * b + k ≡ n → k ≤ b → y < b
-    → region_origin ((after (cut_edits r k) v).region q) y ≡ cut_at n (file_origin b v) (q * b + y)
-cut_at_place b n r k v q y is at within h = elim (cases_order q r) [
-  | inl e ↦ subst (λ j. region_origin ((after (cut_edits r k) v).region j) y ≡ cut_at n (file_origin b v) (j * b + y)) (sym e)
-      (ap (λ w. region_origin w y) (region_here v r k) ∙ elim (cases_lt y k) [
-        | inl l ↦ clipped_below k (v.region r) y l ∙ sym (at_place b v r y h) ∙ sym (cut_below n (file_origin b v) (r * b + y) (omega arith))
-        | inr g ↦ clipped_past k (v.region r) y g ∙ sym (cut_past n (file_origin b v) (r * b + y) (omega arith))
+cut_at_place : (b n r k : ℕ) (lists : Lists) (v : FileView) (q y : ℕ) → IsFile b v → r * b + k ≡ n → k ≤ b → y < b
+    → region_origin lists ((after (cut_edits r k) v).region q) y ≡ cut_at n (file_origin b lists v) (q * b + y)
+cut_at_place b n r k lists v q y is at within h = elim (cases_order q r) [
+  | inl e ↦ subst (λ j. region_origin lists ((after (cut_edits r k) v).region j) y ≡ cut_at n (file_origin b lists v) (j * b + y)) (sym e)
+      (ap (λ w. region_origin lists w y) (region_here v r k) ∙ elim (cases_lt y k) [
+        | inl l ↦ clipped_below lists k (v.region r) y l ∙ sym (at_place b lists v r y h) ∙ sym (cut_below n (file_origin b lists v) (r * b + y) (omega arith))
+        | inr g ↦ clipped_past lists k (v.region r) y g ∙ sym (cut_past n (file_origin b lists v) (r * b + y) (omega arith))
       ])
-  | inr (inl l) ↦ ap (λ w. region_origin w y) (region_under v r k q l) ∙ sym (at_place b v q y h)
-      ∙ sym (cut_below n (file_origin b v) (q * b + y) (omega (arith, apart b q r l)))
-  | inr (inr g) ↦ ap (λ w. region_origin w y) (region_above b v r k q is g) ∙ sym (cut_past n (file_origin b v) (q * b + y) (omega (arith, apart b r q g)))
+  | inr (inl l) ↦ ap (λ w. region_origin lists w y) (region_under v r k q l) ∙ sym (at_place b lists v q y h)
+      ∙ sym (cut_below n (file_origin b lists v) (q * b + y) (omega (arith, apart b q r l)))
+  | inr (inr g) ↦ ap (λ w. region_origin lists w y) (region_above b v r k q is g)
+      ∙ sym (cut_past n (file_origin b lists v) (q * b + y) (omega (arith, apart b r q g)))
 ]
 
 cut_ends : (b r k : ℕ) (v : FileView) (q : ℕ) → k ≤ b → IsFile b v → end_of ((after (cut_edits r k) v).region q) ≤ b
@@ -58,6 +60,6 @@ Truncates-cut b n r k pos at within some few = record {
     few = few;
   };
   len = λ v is. ap (λ w. r * b + end_of w) (region_here v r k) ∙ at;
-  origin = λ v is. by_places (λ x. file_origin b (after (cut_edits r k) v) x ≡ cut_at n (file_origin b v) x) b pos
-      (λ q y h. at_place b (after (cut_edits r k) v) q y h ∙ cut_at_place b n r k v q y is at within h);
+  origin = λ lists v is. by_places (λ x. file_origin b lists (after (cut_edits r k) v) x ≡ cut_at n (file_origin b lists v) x) b pos
+      (λ q y h. at_place b lists (after (cut_edits r k) v) q y h ∙ cut_at_place b n r k lists v q y is at within h);
 }

@@ -8,7 +8,7 @@ use Rattle.wtf_overlay.specs.Meaning.{meaning}
 use Rattle.wtf_model.specs.ByteCalls.{written, resized, zeroed}
 use Rattle.wtf_model.proofs.Laws.{length-written, written_before, written_within, written_after}
 use Rattle.wtf_meta.specs.Files.{FileView, IsFile, file_len, file_origin, no_bytes, laid}
-use Rattle.wtf_meta.specs.Contents.{Told, TellBytes, HasBytes}
+use Rattle.wtf_meta.specs.Contents.{Told, TellBytes, HasBytes, lists_in}
 use Rattle.wtf_meta.specs.FileEdits.{FileEdit, after}
 use Rattle.wtf_meta.specs.Ranges.{Lays, Truncates, Clears}
 use Rattle.wtf_meta.specs.Appends.{AddedTo}
@@ -35,7 +35,7 @@ pub Lays-bytes : (told : Told) (b : ℕ) (ds : List FileEdit) (off n : ℕ) (f :
 Lays-bytes told b ds off n f v old new some lays is tell has = record {
   len = lays.len v is ∙ grown_some (file_len b v) off n some
       ∙ (let d : max (file_len b v) (off + n) ≡ length (written old off new) = omega (arith, has.len, tell.len, length-written old off new) in d);
-  tells = λ x. ap (meaning told) (lays.origin v is x) ∙ laid_tells told off n f (file_origin b v) new old tell has.tells x;
+  tells = λ x. ap (meaning told) (lays.origin (lists_in b told) v is x) ∙ laid_tells told off n f (file_origin b (lists_in b told) v) new old tell has.tells x;
 }
 
 -- no byte changes nothing
@@ -43,9 +43,9 @@ pub Lays-no_bytes : (told : Told) (b : ℕ) (ds : List FileEdit) (off n : ℕ) (
     → HasBytes told b v old → HasBytes told b (after ds v) old
 Lays-no_bytes told b ds off n f v old none lays is has = record {
   len = lays.len v is ∙ grown_none (file_len b v) off n none ∙ has.len;
-  tells = λ x. ap (meaning told) (lays.origin v is x) ∙ elim (cases_lt x off) [
-    | inl l ↦ ap (meaning told) (laid_before off n f (file_origin b v) x l) ∙ has.tells x
-    | inr from ↦ ap (meaning told) (laid_after off n f (file_origin b v) x (omega arith)) ∙ has.tells x
+  tells = λ x. ap (meaning told) (lays.origin (lists_in b told) v is x) ∙ elim (cases_lt x off) [
+    | inl l ↦ ap (meaning told) (laid_before off n f (file_origin b (lists_in b told) v) x l) ∙ has.tells x
+    | inr from ↦ ap (meaning told) (laid_after off n f (file_origin b (lists_in b told) v) x (omega arith)) ∙ has.tells x
   ];
 }
 
@@ -55,10 +55,10 @@ pub AddedTo-bytes : (told : Told) (b : ℕ) (ds : List FileEdit) (n : ℕ) (f : 
 AddedTo-bytes told b ds n f v old new added tell has =
     let end : file_len b v ≡ length old = has.len in
     let more : n ≡ length new = tell.len in
-    let g = file_origin b v in
+    let g = file_origin b (lists_in b told) v in
     record {
       len = added.len ∙ omega (arith, length-append old new);
-      tells = λ x. ap (meaning told) (added.origin x) ∙ elim (cases_lt x (file_len b v)) [
+      tells = λ x. ap (meaning told) (added.origin (lists_in b told) x) ∙ elim (cases_lt x (file_len b v)) [
         | inl l ↦ ap (meaning told) (laid_before (file_len b v) n f g x l) ∙ has.tells x ∙ ap Some (sym (get_or_append_left old new 0 x (omega arith)))
         | inr from ↦ elim (cases_lt x (file_len b v + n)) [
           | inl to ↦ ap (meaning told) (laid_within (file_len b v) n f g x from to) ∙ tell.tells (x - file_len b v) (omega arith)
@@ -74,9 +74,10 @@ pub Truncates-bytes : (told : Told) (b : ℕ) (ds : List FileEdit) (n : ℕ) (v 
     → HasBytes told b v old → HasBytes told b (after ds v) (resized old n)
 Truncates-bytes told b ds n v old cut is has = record {
   len = cut.len v is ∙ sym (length-resized old n);
-  tells = λ x. ap (meaning told) (cut.origin v is x) ∙ elim (cases_lt x n) [
-    | inl l ↦ ap (meaning told) (cut_below n (file_origin b v) x l) ∙ has.tells x ∙ ap Some (sym (resized_at old n x l))
-    | inr past ↦ ap (meaning told) (cut_past n (file_origin b v) x past) ∙ ap Some (sym (get_or_past (resized old n) x 0 (omega (arith, length-resized old n))))
+  tells = λ x. ap (meaning told) (cut.origin (lists_in b told) v is x) ∙ elim (cases_lt x n) [
+    | inl l ↦ ap (meaning told) (cut_below n (file_origin b (lists_in b told) v) x l) ∙ has.tells x ∙ ap Some (sym (resized_at old n x l))
+    | inr past ↦ ap (meaning told) (cut_past n (file_origin b (lists_in b told) v) x past)
+        ∙ ap Some (sym (get_or_past (resized old n) x 0 (omega (arith, length-resized old n))))
   ];
 }
 
@@ -84,10 +85,10 @@ Truncates-bytes told b ds n v old cut is has = record {
 pub Clears-bytes : (told : Told) (b : ℕ) (ds : List FileEdit) (off n : ℕ) (v : FileView) (old : List ℕ) → Clears b ds off n → IsFile b v
     → HasBytes told b v old → HasBytes told b (after ds v) (zeroed old off n)
 Clears-bytes told b ds off n v old clears is has =
-    let g = file_origin b v in
+    let g = file_origin b (lists_in b told) v in
     record {
       len = clears.len v is ∙ has.len ∙ sym (length-zeroed old off n);
-      tells = λ x. ap (meaning told) (clears.origin v is x) ∙ elim (cases_lt x off) [
+      tells = λ x. ap (meaning told) (clears.origin (lists_in b told) v is x) ∙ elim (cases_lt x off) [
         | inl l ↦ ap (meaning told) (laid_before off n (λ i. []) g x l) ∙ has.tells x ∙ ap Some (sym (zeroed_before old off n x l))
         | inr from ↦ elim (cases_lt x (off + n)) [
           | inl to ↦ ap (meaning told) (laid_within off n (λ i. []) g x from to) ∙ ap Some (sym (zeroed_within old off n x from to))
@@ -111,12 +112,12 @@ no_bytes_bytes told b = record { len = omega arith; tells = λ x. refl }
 
 -- a file has the bytes of a list where its length and each byte below it are those of the list
 pub HasBytes-below : (told : Told) (b : ℕ) (v : FileView) (all : List ℕ) → 0 < b → IsFile b v → file_len b v ≡ length all
-    → ((x : ℕ) → x < length all → meaning told (file_origin b v x) ≡ Some (get_or all x 0)) → HasBytes told b v all
+    → ((x : ℕ) → x < length all → meaning told (file_origin b (lists_in b told) v x) ≡ Some (get_or all x 0)) → HasBytes told b v all
 HasBytes-below told b v all pos is len below = record {
   len = len;
   tells = λ x. elim (cases_lt x (length all)) [
     | inl l ↦ below x l
-    | inr past ↦ ap (meaning told) (file_past b v x pos is (omega arith)) ∙ ap Some (sym (get_or_past all x 0 past))
+    | inr past ↦ ap (meaning told) (file_past b (lists_in b told) v x pos is (omega arith)) ∙ ap Some (sym (get_or_past all x 0 past))
   ];
 }
 

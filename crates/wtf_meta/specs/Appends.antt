@@ -6,6 +6,7 @@ use Rattle.wtf_overlay.specs.Origin.{Place}
 use Rattle.wtf_model.specs.declared.limits.TheConstants.{MAX_REGIONS}
 use Rattle.wtf_values.specs.declared.key.Key.{Key}
 use Rattle.wtf_values.specs.declared.key.Key.TheVariants as key
+use Rattle.wtf_meta.specs.Lists.{Lists}
 use Rattle.wtf_meta.specs.Files.{FileView, IsFile, end_of, file_len, file_origin, laid}
 use Rattle.wtf_meta.specs.FileEdits.{FileEdit, after, all_fit}
 
@@ -56,7 +57,7 @@ region_keys rs = map (λ r. OfRegion r) rs
 pub record AddedTo (b : ℕ) (ds : List FileEdit) (n : ℕ) (f : ℕ → List Place) (v : FileView) : Type 0 where
   pub keeps : IsFile b (after ds v)
   pub len : file_len b (after ds v) ≡ file_len b v + n
-  pub origin : (x : ℕ) → file_origin b (after ds v) x ≡ laid (file_len b v) n f (file_origin b v) x
+  pub origin : (lists : Lists) (x : ℕ) → file_origin b lists (after ds v) x ≡ laid (file_len b v) n f (file_origin b lists v) x
 
 -- whatever file the changes meet that agrees with the one that was read on the recorded keys, and on which they fit,
 -- they add these bytes at its own end

@@ -53,6 +53,7 @@ pub data FileEdit : Type 0 where
   CutAbove : (r : ℕ) → FileEdit
   RaiseLast : (r : ℕ) → FileEdit
   SetLast : (r : ℕ) → FileEdit
+  Put : (r : ℕ) (x : RegionValue) → FileEdit
 
 -- the greatest number that a region's key can have
 abbrev pub LAST_REGION : ℕ
@@ -67,6 +68,7 @@ edit_of i (ZeroWithin r from upto) = change.Delta (Region i r) (delta.ZeroWithin
 edit_of i (CutAbove r) = change.Cut (Region i (r + 1)) (Region i LAST_REGION)
 edit_of i (RaiseLast r) = change.Delta (Inode i) (delta.RaiseLast r)
 edit_of i (SetLast r) = change.Delta (Inode i) (delta.SetLast r)
+edit_of i (Put r x) = change.Delta (Region i r) (delta.Put (value.Region x))
 
 abbrev pub edits_of : InodeId → List FileEdit → Edits
 edits_of i ds = map (edit_of i) ds
@@ -87,6 +89,7 @@ after_edit (ZeroWithin r from upto) v = put_region v r (zeroed from upto (v.regi
 after_edit (CutAbove r) v = record { last = v.last; region = λ q. if lies_above r q then None else v.region q }
 after_edit (RaiseLast r) v = record { last = max v.last r; region = v.region }
 after_edit (SetLast r) v = record { last = r; region = v.region }
+after_edit (Put r x) v = put_region v r (Some x)
 
 -- a change fits: only pieces at a region's end may find no room
 abbrev pub fits_edit : FileEdit → FileView → Bool

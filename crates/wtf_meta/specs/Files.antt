@@ -1,10 +1,12 @@
--- Files of many regions: where their bytes come from. Bytes are stated as functions from offsets to places.
+-- Files of many regions: where their bytes come from. Bytes are stated as functions from offsets to places, over any lists
+-- that the regions' bases decode to.
 -- NSDI 2016, section 2.3 (files are cut into regions of one size, each with its own list).
 use Rattle.std.specs.Prelude.{◌≡◌, ℕ, ◌+◌, ◌-◌, ◌*◌, ◌/◌, ◌%◌, ◌<◌, ◌≤◌, ◌&&◌, nat_le, nat_lt, Bool, max, min, if◌then◌else◌, List, [], Option, None}
 use Rattle.wtf_overlay.specs.Origin.{Place, origin}
 use Rattle.wtf_model.specs.declared.limits.TheConstants.{MAX_REGIONS}
 use Rattle.wtf_values.specs.declared.region.RegionValue.{RegionValue}
 use Rattle.wtf_values.specs.Regions.{or_empty}
+use Rattle.wtf_meta.specs.Lists.{Lists, list_of}
 
 -- a file: its last region, and the values of its regions
 pub record FileView : Type 0 where
@@ -16,16 +18,16 @@ abbrev pub end_of : Option RegionValue → ℕ
 end_of now = (or_empty now).end
 
 -- the places of the byte at y of a region
-abbrev pub region_origin : Option RegionValue → ℕ → List Place
-region_origin now y = origin (or_empty now).list y
+abbrev pub region_origin : Lists → Option RegionValue → ℕ → List Place
+region_origin lists now y = origin (list_of lists (or_empty now)) y
 
 -- the number of bytes, where a region has b
 abbrev pub file_len : ℕ → FileView → ℕ
 file_len b v = v.last * b + end_of (v.region v.last)
 
 -- the places of the byte at x of a file
-abbrev pub file_origin : ℕ → FileView → ℕ → List Place
-file_origin b v x = region_origin (v.region (x / b)) (x % b)
+abbrev pub file_origin : ℕ → Lists → FileView → ℕ → List Place
+file_origin b lists v x = region_origin lists (v.region (x / b)) (x % b)
 
 -- what holds of every file: no region ends past its size, none lies above the last one, and that one has bytes unless
 -- it is the first

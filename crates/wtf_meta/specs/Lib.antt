@@ -1,6 +1,8 @@
 pub mod Maps
-pub mod Bytes
+pub mod Lists
 pub mod Files
+pub mod Bytes
+pub mod Reads
 pub mod Contents
 pub mod FileEdits
 pub mod Ranges
@@ -8,4 +10,5 @@ pub mod Appends
 pub mod Trees
 pub mod NameEdits
 pub mod Sessions
+pub mod Feet
 pub mod Calls

@@ -13,7 +13,7 @@ use Rattle.wtf_values.specs.Names.{NamesOf, no_names, has_name}
 use Rattle.wtf_meta.specs.Maps.{Map}
 use Rattle.wtf_meta.specs.Bytes.{MapBytes}
 use Rattle.wtf_meta.specs.Files.{IsFile}
-use Rattle.wtf_meta.specs.Contents.{Told, is_told, HasBytes}
+use Rattle.wtf_meta.specs.Contents.{Told, is_told, is_listed, HasBytes}
 use Rattle.wtf_meta.specs.FileEdits.{file_of, HasFile}
 
 -- a path leads to a file's inode, or to a directory
@@ -46,8 +46,8 @@ NamesAt t p None (Some (File bytes)) = ⊤
 NamesAt t p v o = ⊥
 
 -- The map stands for the tree: each path and each directory, and each file's bytes; an inode is named by one path and has
--- its record, and only inodes have regions; each byte of a region is told, also one that others hide. Of the inodes of the
--- transaction tx it has only those of its first k calls.
+-- its record, and only inodes have regions; each byte of a region is told, also one that others hide, and so is the list of its
+-- base, with each byte of it. Of the inodes of the transaction tx it has only those of its first k calls.
 pub record Stands (b : ℕ) (told : Told) (tx k : ℕ) (w : Map) (t : Tree) : Type 0 where
   pub tree_is : IsTree t
   pub nodes : (p : List ℕ) → NodeAt b told w (w (Path p)) (get t p)
@@ -55,7 +55,7 @@ pub record Stands (b : ℕ) (told : Told) (tx k : ℕ) (w : Map) (t : Tree) : Ty
   pub apart : (p q : List ℕ) (i : InodeId) → LeadsTo w p i → LeadsTo w q i → p ≡ q
   pub led : (i : InodeId) → IsSome (w (Inode i)) → (p : List ℕ) × LeadsTo w p i
   pub regions : (i : InodeId) (r : ℕ) → IsSome (w (Region i r)) → IsSome (w (Inode i))
-  pub bytes : MapBytes (is_told told) w
+  pub bytes : MapBytes (is_told told) (is_listed b told) w
   pub fresh : (i : InodeId) → i.tx.0 ≡ tx → k < i.index → w (Inode i) ≡ None
 
 -- inodes that come are of the transaction tx

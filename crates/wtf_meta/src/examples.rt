@@ -1,18 +1,25 @@
 //! What the definitions come to, each proved: where they begin, and the laws by which calls go on.
 
-ghost use Rattle.std.specs.Prelude.{◌≡◌, ◌≢◌, ◌<◌, ℕ, Bool, true, List, [], ◌∷◌, ◌++◌, length, Some};
+ghost use Rattle.std.specs.Prelude.{◌≡◌, ◌≢◌, ◌<◌, ◌↔◌, ℕ, Bool, true, List, [], ◌∷◌, ◌++◌, length, Option, Some, None};
 ghost use Rattle.wtf_base.specs.declared.ids.InodeId.{InodeId};
+ghost use Rattle.wtf_base.specs.declared.slice.Slice.{Slice};
 ghost use Rattle.wtf_overlay.specs.Origin.{Place};
+ghost use Rattle.wtf_overlay.specs.Clips.{clip_list};
+ghost use Rattle.wtf_overlay.specs.Spilled.{decoded};
+ghost use Rattle.wtf_overlay.specs.declared.part.Entry.{Entry};
 ghost use Rattle.wtf_model.specs.declared.answer.Answer.{Answer};
 ghost use Rattle.wtf_model.specs.declared.op.Op.{Op};
-ghost use Rattle.wtf_model.specs.Tree.{root_alone};
+ghost use Rattle.wtf_model.specs.Tree.{Tree, root_alone};
 ghost use Rattle.wtf_values.specs.declared.key.Key.TheVariants as key;
 ghost use Rattle.wtf_values.specs.declared.region.RegionValue.{RegionValue};
+ghost use Rattle.wtf_values.specs.declared.region.Spill.{Spill};
+ghost use Rattle.wtf_values.specs.declared.value.Value.{Value};
 ghost use Rattle.wtf_meta.specs.Maps.{Map, Edits, with};
-ghost use Rattle.wtf_meta.specs.Bytes.{MapBytes, EditsBytes};
+ghost use Rattle.wtf_meta.specs.Lists.{Lists, list_of};
+ghost use Rattle.wtf_meta.specs.Bytes.{MapBytes, EditsBytes, RegionBytes, ValueBytes, ValueHas, are_in, any_slice};
 ghost use Rattle.wtf_meta.specs.Files.{FileView, file_len, no_bytes};
-ghost use Rattle.wtf_meta.specs.Contents.{Told, HasBytes};
-ghost use Rattle.wtf_meta.specs.FileEdits.{FileEdit, edits_of, file_of, HasFile, after};
+ghost use Rattle.wtf_meta.specs.Contents.{Told, HasBytes, SliceTells, SameRegion, is_told, is_listed, lists_in};
+ghost use Rattle.wtf_meta.specs.FileEdits.{FileEdit, Put, edits_of, file_of, region_of, HasFile, after};
 ghost use Rattle.wtf_meta.specs.Trees.{Stands, IsFirst};
 ghost use Rattle.wtf_meta.specs.Sessions.{SessionView, nothing_open};
 ghost use Rattle.wtf_meta.specs.Calls.{Caller, Did, nothing_done, then_did, IsCall, IsRun};
@@ -31,6 +38,16 @@ pub fn files_have_lengths()
     ensures none { (told : Told) (b : ℕ) → 0 < b → HasBytes told b no_bytes [] }
 {}
 
+/// A region's list is that of its base as far as it is seen, with its entries over it. Where the stores tell the bytes of
+/// the base's slice, it is the list that these bytes decode to.
+pub fn regions_have_lists()
+    ensures none { (lists : Lists) (v : RegionValue) → v.base ≡ None → list_of lists v ≡ v.list }
+    ensures base { (lists : Lists) (v : RegionValue) (s : Spill) (es : List Entry) → v.base ≡ Some s →
+        lists s.slice ≡ Some es → list_of lists v ≡ clip_list s.visible es ++ v.list }
+    ensures told { (b : ℕ) (told : Told) (s : Slice) (bytes : List ℕ) → SliceTells told s bytes →
+        lists_in b told s ≡ decoded b bytes }
+{}
+
 /// Changes of one file are what they are of its view, and leave all paths, all directories and all other files.
 pub fn changes_are_of_one_file()
     ensures here { (i : InodeId) (ds : List FileEdit) (w : Map) → HasFile i w →
@@ -43,10 +60,25 @@ pub fn changes_are_of_one_file()
         file_of j (with (edits_of i ds) w) ≡ file_of j w }
 {}
 
-/// A map after changes names no bytes but those that it named, and those that the changes bring.
+/// A map after changes names no bytes but those that it named, and those that the changes bring, and has no other bases.
 pub fn changes_name_what_is_known()
-    ensures { (P : List Place → Bool) → P [] ≡ true → (cs : Edits) (w : Map) → MapBytes P w →
-        EditsBytes P cs → MapBytes P (with cs w) }
+    ensures { (P : List Place → Bool) (Q : Slice → Bool) → P [] ≡ true → (cs : Edits) (w : Map) →
+        MapBytes P Q w → EditsBytes P Q cs → MapBytes P Q (with cs w) }
+{}
+
+/// A set of places has all bytes of a value exactly where it has every place that the value names.
+pub fn sets_have_values()
+    ensures { (set : Place → Bool) (v : Option Value) →
+        ValueBytes (are_in set) any_slice v ↔ ((q : Place) → ValueHas v q → set q ≡ true) }
+{}
+
+/// A region that is put in the place of another of the same end and bytes leaves the tree for which the map stands,
+/// whoever calls.
+pub fn regions_may_be_put()
+    ensures { (b : ℕ) (told : Told) (tx k : ℕ) (w : Map) (t : Tree) (i : InodeId) (r : ℕ) (v x : RegionValue) →
+        Stands b told tx k w t → region_of (w (key.Region i r)) ≡ Some v →
+        SameRegion told b (Some v) (Some x) → RegionBytes (is_told told) (is_listed b told) x →
+        Stands b told tx k (with (edits_of i (Put r x ∷ [])) w) t }
 {}
 
 /// No call is a run, and a run and one call more, on the map that it left, is a run.
