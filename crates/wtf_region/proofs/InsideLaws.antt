@@ -1,11 +1,14 @@
 -- Laws of bytes that lie inside the stores: they stay there, their slices can be read, and what is stored lies there.
-use Rattle.std.proofs.Common.{◌≡◌, ℕ, ◌<◌, ◌≤◌, ◌&&◌, Bool, true, nat_lt, List, [], ◌∷◌, length, get_or, take, map, Option, refl, sym, subst, arith, inl, inr, zero, suc}
+use Rattle.std.proofs.Common.{◌≡◌, ℕ, ◌+◌, ◌<◌, ◌≤◌, ◌&&◌, Bool, true, false, nat_lt, List, [], ◌∷◌, length, get_or, take, map, Option, Some, refl, sym, ap}
+use Rattle.std.proofs.Common.{◌∙◌, subst, arith, inl, inr, zero, suc}
 use Rattle.std.specs.Prelude.{slice_get}
 use Rattle.std.specs.List.{All, Contains, list_all}
 use Rattle.std.proofs.lemmas.Bool.{and_parts, and_from, ltb-true, lt-ltb}
-use Rattle.std.proofs.lemmas.List.Elements.{All-nil, All-cons, All-head, All-tail}
+use Rattle.std.proofs.lemmas.List.Elements.{All-nil, All-cons, All-head, All-tail, All-weaker}
+use Rattle.std.proofs.lemmas.List.Sums.{AllPass-from_list_all}
 use Rattle.std.proofs.lemmas.List.{length-map, get_or-map}
-use Rattle.std.proofs.lemmas.Option.{slice_get-get_or}
+use Rattle.std.proofs.lemmas.Option.{slice_get-get_or, slice_get_within, get_or_from_slice_get}
+use Rattle.std.proofs.lemmas.List.Folds.{list_all_more, list_all_at}
 use Rattle.wtf_base.specs.declared.pointer.Pointer.{Pointer}
 use Rattle.wtf_base.specs.declared.settings.Settings.{Settings}
 use Rattle.wtf_base.specs.declared.slice.Slice.{Slice}
@@ -24,8 +27,12 @@ use Rattle.wtf_replica.specs.Outs.{LeavesOut}
 use Rattle.wtf_replica.specs.Spans.{Span}
 use Rattle.wtf_replica.proofs.Bytes.{inside_places, place_inside_stays, places_inside}
 use Rattle.wtf_ring.specs.Points.{PlaceView}
-use Rattle.wtf_meta.specs.Bytes.{PartBytes, PiecesBytes}
-use Rattle.wtf_region.specs.Inside.{size_in, is_place_inside, is_inside, IsOnServers}
+use Rattle.wtf_overlay.specs.declared.part.Entry.{Entry}
+use Rattle.wtf_base.proofs.Elements.{All-unmap}
+use Rattle.wtf_replica.specs.Inside.{size_in as length_in}
+use Rattle.wtf_replica.proofs.InsideLaws.{slice_from, slice_to}
+use Rattle.wtf_meta.specs.Bytes.{PartBytes, EntryBytes, PiecesBytes}
+use Rattle.wtf_region.specs.Inside.{size_in, is_place_inside, is_inside, IsOnServers, part_lies_inside, list_lies_inside}
 use Rattle.wtf_region.specs.Showing.{IsReadablePart, AreReadable}
 
 -- a place that passes the test lies inside
@@ -133,3 +140,57 @@ stored_on {place = place} {s = s} n stored all = λ j d below.
 -- a slice that lies inside the stores can be read
 pub slice_readable : {S : Type 0} (kind : StoreKind S) (down : ℕ → Bool) (shelf : List S) (s : Slice) → IsInside kind shelf s → IsReadablePart kind down shelf (Held s)
 slice_readable kind down shelf s inside = λ k d below. inr (inside k d below)
+
+module _ {S : Type 0} (kind : StoreKind S) (shelf : List S) (settings : Settings) (enough : settings.servers ≤ length shelf) where
+  abbrev size : ℕ → ℕ → ℕ
+  size = length_in kind shelf
+
+  part_inside-from : (n : ℕ) (p : Part) → HasLength n p → part_lies_inside settings.servers size p ≡ true → PartBytes (is_inside kind shelf settings) n p
+  part_inside-from n Zero len h = λ i below. refl
+  part_inside-from n (Held s) len h =
+      let was = slice_from kind shelf settings.servers s enough h in
+      subst (λ (m : ℕ). PartBytes (is_inside kind shelf settings) m (Held s)) len (slice_inside kind shelf settings s was.1 was.0)
+
+  -- a list that passes the test names only bytes inside the stores
+  pub list_inside-from : (es : List Entry) → list_lies_inside settings.servers size es ≡ true → All (EntryBytes (is_inside kind shelf settings)) es
+  list_inside-from [] h = All-nil (EntryBytes (is_inside kind shelf settings))
+  list_inside-from (e ∷ es) h =
+      let both = and_parts (part_lies_inside settings.servers size e.part) (list_lies_inside settings.servers size es) h in
+      All-cons (EntryBytes (is_inside kind shelf settings)) e es (part_inside-from e.len e.part e.held both.0) (list_inside-from es both.1)
+
+  on_servers : (qs : List Place) → is_inside kind shelf settings qs ≡ true → All (λ (q : Place). q.server < settings.servers) qs
+  on_servers qs h = All-weaker (λ (q : Place). is_place_inside kind shelf settings q ≡ true) (λ (q : Place). q.server < settings.servers)
+      (λ q at. (place_from kind shelf settings q enough at).0) qs
+      (AllPass-from_list_all (is_place_inside kind shelf settings) qs h)
+
+  part_inside-to : (n : ℕ) (p : Part) → 0 < n → HasLength n p → PartBytes (is_inside kind shelf settings) n p → part_lies_inside settings.servers size p ≡ true
+  part_inside-to n Zero some len h = refl
+  part_inside-to n (Held s) some len h =
+      slice_to kind shelf settings.servers s
+      (All-unmap (λ (q : Place). q.server < settings.servers) (place_in 0) (pointers_of s) (on_servers (places_of s 0) (h 0 some)))
+      (inside_places kind shelf s (omega (arith, some, len))
+      (λ i within. places_from kind shelf settings (places_of s i) enough (h i (omega (arith, within, len)))))
+
+  -- and one that names only such bytes passes it
+  pub list_inside-to : (es : List Entry) → All (EntryBytes (is_inside kind shelf settings)) es → list_lies_inside settings.servers size es ≡ true
+  list_inside-to [] h = refl
+  list_inside-to (e ∷ es) h =
+      and_from (part_lies_inside settings.servers size e.part) (list_lies_inside settings.servers size es)
+      (part_inside-to e.len e.part e.positive e.held (All-head (EntryBytes (is_inside kind shelf settings)) e es h))
+      (list_inside-to es (All-tail (EntryBytes (is_inside kind shelf settings)) e es h))
+
+-- one entry more, in a loop over them
+pub list_lies-more : (servers : ℕ) (size : ℕ → ℕ → ℕ) (es : List Entry) (i : ℕ) (e : Entry) → slice_get es i ≡ Some e
+    → part_lies_inside servers size e.part ≡ true
+    → list_lies_inside servers size (take i es) ≡ true → list_lies_inside servers size (take (i + 1) es) ≡ true
+list_lies-more servers size es i e is good so_far =
+    list_all_more (λ (x : Entry). part_lies_inside servers size x.part) es i e (slice_get_within es i e is)
+    ∙ ap (λ b. b && part_lies_inside servers size (get_or es i e).part) so_far
+    ∙ ap (λ (x : Entry). part_lies_inside servers size x.part) (get_or_from_slice_get es i e e is) ∙ good
+
+-- and one that is outside
+pub list_lies-not : (servers : ℕ) (size : ℕ → ℕ → ℕ) (es : List Entry) (i : ℕ) (e : Entry) → slice_get es i ≡ Some e
+    → part_lies_inside servers size e.part ≡ false → list_lies_inside servers size es ≡ false
+list_lies-not servers size es i e is bad =
+    list_all_at (λ (x : Entry). part_lies_inside servers size x.part) es i e (slice_get_within es i e is)
+    (ap (λ (x : Entry). part_lies_inside servers size x.part) (get_or_from_slice_get es i e e is) ∙ bad)

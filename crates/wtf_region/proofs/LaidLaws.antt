@@ -5,7 +5,7 @@ use Rattle.std.proofs.lemmas.List.{append-nil, append_assoc, take_more, take_all
 use Rattle.wtf_overlay.specs.Origin.{Place, part_origin, pieces_len}
 use Rattle.wtf_overlay.specs.declared.part.Entry.{Entry}
 use Rattle.wtf_overlay.specs.declared.part.Piece.{Piece}
-use Rattle.wtf_meta.specs.FileEdits.{FileEdit, Push, PushRel, Clip, ZeroWithin, CutAbove, RaiseLast, SetLast}
+use Rattle.wtf_meta.specs.FileEdits.{FileEdit, Push, PushRel, Put, Clip, ZeroWithin, CutAbove, RaiseLast, SetLast}
 use Rattle.wtf_region.specs.Laid.{IsEntryOf, ArePushes, ArePiecePushes, raised, IsLaid}
 
 -- an entry that was made as a part of a range
@@ -19,6 +19,7 @@ pub pushes_more : (b off n : ℕ) (f : ℕ → List Place) (done mid r : ℕ) (e
 pushes_more b off n f done mid r e [] same one = subst (λ (k : ℕ). IsEntryOf b off n f k r e × (k + e.len ≡ mid + e.len)) (sym same) (one, refl)
 pushes_more b off n f done mid r e (Push q g ∷ ds) h one = (h.0, pushes_more b off n f (done + g.len) mid r e ds h.1 one)
 pushes_more b off n f done mid r e (PushRel q ps c ∷ ds) h one = absurd h
+pushes_more b off n f done mid r e (Put q v ∷ ds) h one = absurd h
 pushes_more b off n f done mid r e (Clip q end ∷ ds) h one = absurd h
 pushes_more b off n f done mid r e (ZeroWithin q from upto ∷ ds) h one = absurd h
 pushes_more b off n f done mid r e (CutAbove q ∷ ds) h one = absurd h

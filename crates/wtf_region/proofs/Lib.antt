@@ -1,9 +1,12 @@
+pub mod Frames
 pub mod Spans
 pub mod Recording
 pub mod LaidLaws
 pub mod PieceEdits
 pub mod ShowLaws
 pub mod InsideLaws
+pub mod ListReads
+mod SliceKeys
 mod RegionKeys
 mod Places
 mod Summed

@@ -2,6 +2,7 @@
 use Rattle.std.proofs.Common.{◌≡◌, ◌≢◌, ◌⊎◌, ℕ, ◌+◌, ◌-◌, ◌*◌, ◌/◌, ◌<◌, ◌≤◌, ◌^◌, ◌++◌, refl, Bool, List, [], ◌∷◌, length, get_or, take, ap, sym, ◌∙◌, subst, arith}
 use Rattle.std.proofs.lemmas.List.{map-append}
 use Rattle.wtf_base.specs.declared.ids.InodeId.{InodeId}
+use Rattle.wtf_base.specs.declared.slice.Slice.{Slice}
 use Rattle.wtf_occ.specs.Attempts.{Attempted}
 use Rattle.wtf_occ.proofs.AttemptLaws.{GrowsBy-change}
 use Rattle.wtf_overlay.specs.Origin.{Place, part_origin, pieces_len, pieces_origin}
@@ -29,12 +30,14 @@ use Rattle.wtf_region.proofs.Recording.{recorded_on, Edited-none, Edited-as, Edi
 pub Edited-one : (i : InodeId) (d : FileEdit) (m n : Attempted Key Delta) → n ≡ record m { changes = m.changes ++ edit_of i d ∷ [] } → Edited i [] (λ ds. ds ≡ d ∷ []) m n
 Edited-one i d m n is = record { edits = d ∷ []; grows = GrowsBy-change m n (edit_of i d) is; does = refl }
 
-bytes_append : (P : List Place → Bool) (i : InodeId) (ds es : List FileEdit) → EditsBytes P (edits_of i ds) → EditsBytes P (edits_of i es) → EditsBytes P (edits_of i (ds ++ es))
-bytes_append P i ds es first next = subst (EditsBytes P) (sym (map-append (edit_of i) ds es)) (EditsBytes-append P (edits_of i ds) (edits_of i es) first next)
+bytes_append : (P : List Place → Bool) (Q : Slice → Bool) (i : InodeId) (ds es : List FileEdit) → EditsBytes P Q (edits_of i ds)
+    → EditsBytes P Q (edits_of i es) → EditsBytes P Q (edits_of i (ds ++ es))
+bytes_append P Q i ds es first next = subst (EditsBytes P Q) (sym (map-append (edit_of i) ds es))
+    (EditsBytes-append P Q (edits_of i ds) (edits_of i es) first next)
 
 -- no byte of a piece was laid yet
 pub part_none : (b off : ℕ) (i : InodeId) (p : Piece) → CoversPart b off i p 0 []
-part_none b off i p = record { covers = Covers-none b off (part_origin p.part); exact = refl; names = λ P h. tt }
+part_none b off i p = record { covers = Covers-none b off (part_origin p.part); exact = refl; names = λ P Q h. tt }
 
 -- one entry more of a piece
 pub part_more : (b off done r : ℕ) (i : InodeId) (p : Piece) (e : Entry) → 0 < b → e.off + e.len ≤ b → r * b + e.off ≡ off + done → done + e.len ≤ p.len → (done + e.len ≡ p.len) ⊎ (e.off + e.len ≡ b)
@@ -43,7 +46,7 @@ pub part_more : (b off done r : ℕ) (i : InodeId) (p : Piece) (e : Entry) → 0
 part_more b off done r i p e pos within place inside whole here ds es first is = subst (λ (l : List FileEdit). CoversPart b off i p (done + e.len) (ds ++ l)) (sym is) (record {
   covers = Covers-part b off done r e (part_origin p.part) ds pos within place (λ j h. here j) first.covers;
   exact = pushes_more b off p.len (part_origin p.part) 0 done r e ds first.exact (record { place = place; within = within; inside = inside; whole = whole; holds = λ j h. here j });
-  names = λ P h. bytes_append P i ds (Push r e ∷ []) (first.names P h) ((λ j k. ap P (here j) ∙ h (done + j) (omega (arith, k, inside))), tt);
+  names = λ P Q h. bytes_append P Q i ds (Push r e ∷ []) (first.names P Q h) ((λ j k. ap P (here j) ∙ h (done + j) (omega (arith, k, inside))), tt);
 })
 
 -- the changes lay the first k pieces, of `done` bytes, and name no other bytes than those of all pieces
@@ -53,7 +56,7 @@ pub record CoversFirst (b off : ℕ) (i : InodeId) (ps : List Piece) (k done : �
   pub names : NamesOnly i ps ds
 
 pub first_none : (b off : ℕ) (i : InodeId) (ps : List Piece) → CoversFirst b off i ps 0 0 []
-first_none b off i ps = record { covers = Covers-none b off (pieces_origin []); exact = refl; names = λ P h. tt }
+first_none b off i ps = record { covers = Covers-none b off (pieces_origin []); exact = refl; names = λ P Q h. tt }
 
 -- one piece more
 pub first_more : (b off done k : ℕ) (i : InodeId) (ps : List Piece) (p : Piece) → k < length ps → p ≡ get_or ps k p → done ≡ pieces_len (take k ps)
@@ -61,7 +64,7 @@ pub first_more : (b off done k : ℕ) (i : InodeId) (ps : List Piece) (p : Piece
 first_more b off done k i ps p below is d ds es first next = record {
   covers = Covers-piece b off done k ps p ds es below is d first.covers next.covers;
   exact = first_pieces_more b off done k ps p ds es below is d first.exact next.exact;
-  names = λ P h. bytes_append P i ds es (first.names P h) (next.names P (subst (λ (q : Piece). PartBytes P q.len q.part) (sym is) (h k p below)));
+  names = λ P Q h. bytes_append P Q i ds es (first.names P Q h) (next.names P Q (subst (λ (q : Piece). PartBytes P q.len q.part) (sym is) (h k p below)));
 }
 
 -- all pieces, and the last region
@@ -70,7 +73,7 @@ pub first_all : (b off done k last : ℕ) (i : InodeId) (ps : List Piece) → 0 
 first_all b off done k last i ps pos all d some cap l ds es first is = subst (λ (x : List FileEdit). LaysPieces b off i ps (ds ++ x)) (sym is) (record {
   lays = Lays-pieces b off done k last ps ds pos all d some cap l first.covers;
   exact = laid_all b off done k last ps ds all d some l first.exact;
-  names = λ P h. bytes_append P i ds (RaiseLast last ∷ []) (first.names P h) (tt, tt);
+  names = λ P Q h. bytes_append P Q i ds (RaiseLast last ∷ []) (first.names P Q h) (tt, tt);
 })
 
 -- no piece
@@ -95,7 +98,7 @@ adds_none b i v ps a none =
     (Edited-none i (AddsPieces b i v ps) a (record {
       appends = Appends-none b v (append_keys b v (pieces_len ps)) (pieces_len ps) (pieces_origin ps) none;
       exact = record { none = λ e. refl; fits = λ more room. absurd (omega (arith, none, more)); laid = λ more full. absurd (omega (arith, none, more)) };
-      names = λ P h. tt;
+      names = λ P Q h. tt;
     }))
 
 -- pieces that fit into the last region
@@ -109,7 +112,7 @@ adds_rel b i v last ps a m n pos small some room is recorded made =
     (λ ds e. subst (AddsPieces b i v ps) (sym e) (subst (λ (r : ℕ). AddsPieces b i v ps (PushRel r ps b ∷ [])) (sym is) (record {
       appends = Appends-rel b v ps pos small some room;
       exact = record { none = λ e. absurd (some e); fits = λ more here. refl; laid = λ more full. absurd (omega (arith, room, full)) };
-      names = λ P h. (h, tt);
+      names = λ P Q h. (h, tt);
     })))))
 
 -- those that do not, at the length that was read

@@ -1,9 +1,28 @@
--- Places that are remembered.
-use Rattle.std.specs.Prelude.{◌≡◌, List, Some, option_map, slice_get}
-use Rattle.std.specs.List.{Contains}
+-- What is remembered: where regions go, and the lists of slices.
+use Rattle.std.specs.Prelude.{◌≡◌, ℕ, Bool, List, Option, Some, option_map, slice_get}
+use Rattle.std.specs.List.{All, Contains}
+use Rattle.std.specs.Map.{lookup}
+use Rattle.wtf_base.specs.declared.slice.Slice.{Slice}
+use Rattle.wtf_base.specs.contracts.slice.SlicePartialEq.TheImpl as slice_eq
+use Rattle.wtf_dev.specs.Store.{Range}
+use Rattle.wtf_overlay.specs.Origin.{Place}
+use Rattle.wtf_overlay.specs.Spilled.{decoded}
+use Rattle.wtf_overlay.specs.declared.part.Entry.{Entry}
 use Rattle.wtf_ring.specs.Points.{RingView, PlaceView, place_of}
 use Rattle.wtf_ring.specs.Orders.{IsOrder}
+use Rattle.wtf_meta.specs.Bytes.{EntryBytes, SliceBytes}
+use Rattle.wtf_meta.specs.Contents.{Told, SliceTells}
 use Rattle.wtf_region.specs.declared.cache.RegionKey.{RegionKey}
+use Rattle.wtf_region.specs.Apart.{are_apart}
+
+-- slices, each with the list that was read of it
+abbrev pub Remembered : Type 0
+Remembered = List (Slice × List Entry)
+
+-- regions with their places and slices with their lists, what was asked for last first
+pub record CacheView : Type 0 where
+  pub places : List (RegionKey × PlaceView)
+  pub lists : Remembered
 
 -- where a region goes on a ring: to each of its servers, in some order
 pub record IsPlaceOf (ring : RingView) (key : RegionKey) (place : PlaceView) : Type 0 where
@@ -17,3 +36,17 @@ AreFrom ring entries = (e : RegionKey × PlaceView) → Contains entries e → I
 -- the region is the first that is remembered
 abbrev pub BeginsAt : RegionKey → List (RegionKey × PlaceView) → Type 0
 BeginsAt key entries = option_map (λ e. e.0) (slice_get entries 0) ≡ Some key
+
+-- the list that is remembered of a slice, if one is
+abbrev pub cached : Remembered → Slice → Option (List Entry)
+cached es s = lookup (slice_eq.eq-value.it s) es
+
+-- P holds of each byte of each slice that is remembered, and of each byte of its list
+abbrev pub CacheInside : (List Place → Bool) → Remembered → Type 0
+CacheInside P es = (e : Slice × List Entry) → Contains es e → SliceBytes P e.0 × All (EntryBytes P) e.1
+
+-- each list that is remembered of a slice no byte of which lies in these ranges is, where the slice's bytes are told, what
+-- they decode to for a region of b bytes
+abbrev pub CacheTrue : Told → ℕ → List (ℕ × Range) → Remembered → Type 0
+CacheTrue told b ranges es =
+    (e : Slice × List Entry) → Contains es e → SliceBytes (are_apart ranges) e.0 → (bytes : List ℕ) → SliceTells told e.0 bytes → decoded b bytes ≡ Some e.1

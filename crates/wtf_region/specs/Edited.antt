@@ -1,6 +1,7 @@
 -- What a call recorded of a file, and how it changed it.
 use Rattle.std.specs.Prelude.{◌≡◌, ℕ, ◌+◌, ◌*◌, ◌<◌, Bool, List, []}
 use Rattle.wtf_base.specs.declared.ids.InodeId.{InodeId}
+use Rattle.wtf_base.specs.declared.slice.Slice.{Slice}
 use Rattle.wtf_occ.specs.Attempts.{Attempted, GrowsBy}
 use Rattle.wtf_overlay.specs.Origin.{Place, part_origin, pieces_len, pieces_origin}
 use Rattle.wtf_overlay.specs.declared.part.Piece.{Piece}
@@ -27,16 +28,17 @@ pub record Edited (i : InodeId) (keys : List FileKey) (F : List FileEdit → Typ
   pub grows : GrowsBy old new (keys_of i keys) (edits_of i edits)
   pub does : F edits
 
--- the changes name no other bytes than those of the pieces: what holds of the places of each of these holds of theirs
+-- the changes name no other bytes than those of the pieces, and bring no base: what holds of the places of each of these holds of
+-- theirs
 abbrev pub NamesOnly : InodeId → List Piece → List FileEdit → Type 0
-NamesOnly i ps ds = (P : List Place → Bool) → PiecesBytes P ps → EditsBytes P (edits_of i ds)
+NamesOnly i ps ds = (P : List Place → Bool) (Q : Slice → Bool) → PiecesBytes P ps → EditsBytes P Q (edits_of i ds)
 
 -- the changes lay the first n bytes of a piece over every file's regions from off on, and name no other bytes than its own;
 -- they are its entries, and nothing else
 pub record CoversPart (b off : ℕ) (i : InodeId) (p : Piece) (n : ℕ) (ds : List FileEdit) : Type 0 where
   pub covers : Covers b ds off n (part_origin p.part)
   pub exact : ArePushes b off p.len (part_origin p.part) 0 ds n
-  pub names : (P : List Place → Bool) → PartBytes P p.len p.part → EditsBytes P (edits_of i ds)
+  pub names : (P : List Place → Bool) (Q : Slice → Bool) → PartBytes P p.len p.part → EditsBytes P Q (edits_of i ds)
 
 -- the changes lay pieces over every file from off on, and name no other bytes; they are these, and nothing else
 pub record LaysPieces (b off : ℕ) (i : InodeId) (ps : List Piece) (ds : List FileEdit) : Type 0 where

@@ -1,7 +1,9 @@
+pub mod Apart
 pub mod Cached
 pub mod Lending
+pub mod Inside
 pub mod Devs
 pub mod Laid
+pub mod Reads
 pub mod Edited
 pub mod Showing
-pub mod Inside

@@ -20,7 +20,7 @@ fn show_part<S: SliceStore>(
     len: u64,
     out: &mut Vec<u8>,
 ) -> Result<(), Fault>
-    requires sound { IsSoundDev dev.old }
+    requires sound { IsSoundDev S.kind dev.old }
     requires some { 0 < len }
     requires within { off + len ≤ piece.now.len }
     requires readable { IsReadablePart S.kind (is_down_in dev.old) (stores dev.old) piece.now.part }
@@ -60,7 +60,7 @@ fn show_all<S: SliceStore>(
     len: u64,
     out: &mut Vec<u8>,
 ) -> Result<(), Fault>
-    requires sound { IsSoundDev dev.old }
+    requires sound { IsSoundDev S.kind dev.old }
     requires within { off + len ≤ pieces_len pieces.now }
     requires readable { AreReadable S.kind (is_down_in dev.old) (stores dev.old) pieces.now }
     ensures shown { OnOk result (Shown (byte_at S.kind (stores dev.old)) len
@@ -103,7 +103,7 @@ pub fn show<S: SliceStore>(
     len: u64,
     out: &mut Vec<u8>,
 ) -> Result<(), Fault>
-    requires sound { IsSoundDev dev.old }
+    requires sound { IsSoundDev S.kind dev.old }
     requires within { off + len ≤ pieces_len pieces.now }
     requires readable { AreReadable S.kind (is_down_in dev.old) (stores dev.old) pieces.now }
     ensures shown { OnOk result (Shown (byte_at S.kind (stores dev.old)) len

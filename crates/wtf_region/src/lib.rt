@@ -20,7 +20,7 @@ pub use changing::{add_at, add_pieces, put_pieces};
 pub use dev::Dev;
 pub use ends::{FileEnd, file_end};
 pub use fetching::show;
-pub use list::region_list;
+pub use list::{base_list, region_list};
 pub use reading::{file_len, pieces};
 pub use store::store_bytes;
 pub use wtf_meta::{Handle, Session};

@@ -1,15 +1,18 @@
 //! What an attempt sees of a file: its length, and ranges of it as pieces.
 
-ghost use Rattle.std.specs.Prelude.{◌≡◌, ◌+◌, ◌*◌, ◌<◌, ◌≤◌, ◌++◌, [], ◌∷◌, IfOk, IfErr, OnOk, IsTrue, Option};
+ghost use Rattle.std.specs.Prelude.{◌≡◌, ◌+◌, ◌*◌, ◌<◌, ◌≤◌, ◌++◌, [], ◌∷◌, IfOk, IfErr, OnOk, IsTrue};
+ghost use Rattle.std.specs.Option.{option_copied};
 ghost use Rattle.wtf_kv.specs.Stores.{is_pinned};
 ghost use Rattle.wtf_occ.specs.Attempts.{Grows};
-ghost use Rattle.wtf_overlay.specs.Origin.{Plans};
+ghost use Rattle.wtf_overlay.specs.Origin.{Plans, origin};
 ghost use Rattle.wtf_model.specs.declared.limits.TheConstants.{MAX_REGIONS};
 ghost use Rattle.wtf_meta.specs.Maps.{seen};
-ghost use Rattle.wtf_meta.specs.Files.{file_len as file_length, file_origin, region_origin};
+ghost use Rattle.wtf_meta.specs.Bytes.{MaybeBytes, FileBytes, any_slice};
+ghost use Rattle.wtf_meta.specs.Files.{file_len as file_length};
 ghost use Rattle.wtf_meta.specs.FileEdits.{file_of, region_of};
 ghost use Rattle.wtf_meta.specs.Appends.{OfRegion, length_keys, region_keys, touched};
-ghost use Rattle.wtf_region.specs.Devs.{IsSoundDev, GoesOn, between};
+ghost use Rattle.wtf_region.specs.Devs.{IsSoundDev, GoesOn, between, inside_of};
+ghost use Rattle.wtf_region.specs.Reads.{IsPartRead, IsFileRead, IsRegionFault, IsFileFault};
 ghost use Rattle.wtf_region.specs.Showing.{OnlyRead};
 ghost use Rattle.wtf_region.specs.Edited.{Recorded};
 
@@ -20,9 +23,9 @@ use std::alloc::Global;
 use wtf_base::{Fault, InodeId, OutOfMemory, Settings};
 use wtf_dev::SliceStore;
 use wtf_kv::Kv;
-use wtf_meta::{Key, Value};
+use wtf_meta::{Key, RegionValue, Value};
 use wtf_occ::Attempt;
-use wtf_overlay::{Part, Piece};
+use wtf_overlay::{Overlay, Part, Piece};
 
 /// The length of a file, in bytes: that of the regions before its last one, and where that one
 /// ends. A missing file has none. The last region's number and its value are recorded. After an
@@ -45,29 +48,49 @@ pub fn file_len(
     Ok(end.region as u64 * settings.region as u64 + end.off as u64)
 }
 
-/// A part of what a value has of a region, as pieces; a hole where it has no region.
+/// The region that a value is, if it is one.
+fn region_in(value: &Option<Value>) -> Option<&RegionValue>
+    ensures { option_copied result ≡ region_of value.now }
+{
+    let Some(Value::Region(v)) = value else {
+        return None;
+    };
+    Some(v)
+}
+
+/// A part of a region as pieces; a hole where it is missing.
 fn value_pieces<S: SliceStore>(
     alloc: Global,
     dev: &mut Dev<'_, S>,
-    value: &Option<Value>,
+    value: Option<&RegionValue>,
     off: u32,
     len: u32,
 ) -> Result<Vec<Piece>, Fault>
-    requires sound { IsSoundDev dev.old }
+    requires sound { IsSoundDev S.kind dev.old }
+    requires inside { MaybeBytes (inside_of S.kind dev.old) any_slice (option_copied value) }
     requires some { 0 < len }
-    ensures plans { IfOk result
-        (λ v. Plans v.items len (λ i. region_origin (region_of value.now) (off + i))) }
-    ensures fault { IfErr result (λ why. why ≡ Fault.Memory) }
+    ensures read { IfOk result (λ v.
+        IsPartRead S.kind dev.old dev.new (option_copied value.entry) off len v.items) }
+    ensures fault { IfErr result (IsRegionFault S.kind dev.old dev.new (option_copied value.entry)) }
     ensures reads { OnlyRead S.kind (between dev.old dev.new) }
     ensures dev { GoesOn S.kind dev.old dev.new [] }
 {
-    let Some(Value::Region(v)) = value else {
-        return hole(alloc, len);
+    let v = match value {
+        Some(v) => v,
+        None => return hole(alloc, len),
     };
-    let list = match region_list(dev, v) {
+    let list = match region_list(alloc, dev, v) {
         Ok(list) => list,
         Err(why) => return Err(why),
     };
+    plan_of(&list, off, len)
+}
+
+/// A part of a list as pieces.
+fn plan_of(list: &Overlay, off: u32, len: u32) -> Result<Vec<Piece>, Fault>
+    ensures plans { IfOk result (λ v. Plans v.items len (λ i. origin list.now (off + i))) }
+    ensures fault { IfErr result (λ why. why ≡ Fault.Memory) }
+{
     match list.plan(off, len) {
         Ok(pieces) => Ok(pieces),
         Err(_) => Err(Fault::Memory),
@@ -96,14 +119,16 @@ fn region_pieces<S: SliceStore>(
     inode: InodeId,
     part: RegionPart,
 ) -> Result<Vec<Piece>, Fault>
-    requires sound { IsSoundDev dev.old }
+    requires sound { IsSoundDev S.kind dev.old }
     requires pinned { IsTrue (is_pinned kv.now at.old.base) }
+    requires inside { FileBytes (inside_of S.kind dev.old) any_slice (file_of inode (seen kv.now at.old)) }
     requires some { 0 < part.len }
-    ensures plans { IfOk result (λ v. Plans v.items part.len (λ i.
-        region_origin ((file_of inode (seen kv.now at.old)).region part.region) (part.off + i))) }
+    ensures read { IfOk result (λ v. IsPartRead S.kind dev.old dev.new
+        ((file_of inode (seen kv.now at.old)).region part.region) part.off part.len v.items) }
     ensures recorded { OnOk result (Recorded inode (OfRegion part.region ∷ []) at.old at.new) }
     ensures grows { Grows at.old at.new }
-    ensures fault { IfErr result (λ why. why ≡ Fault.Memory) }
+    ensures fault { IfErr result (IsRegionFault S.kind dev.old dev.new
+        ((file_of inode (seen kv.now at.old)).region part.region)) }
     ensures reads { OnlyRead S.kind (between dev.old dev.new) }
     ensures dev { GoesOn S.kind dev.old dev.new [] }
 {
@@ -111,13 +136,15 @@ fn region_pieces<S: SliceStore>(
         Ok(value) => value,
         Err(_) => return Err(Fault::Memory),
     };
-    value_pieces(alloc, dev, &value, part.off, part.len)
+    let region = region_in(&value);
+    value_pieces(alloc, dev, region, part.off, part.len)
 }
 
 /// The `len` bytes of a file from offset `off` on as consecutive pieces, each of one slice or of
 /// zeros. A missing region, and all past a region's end, reads as zeros. The regions in which the
-/// bytes lie are recorded, each once. `Memory` where memory could not be had: some of them may be
-/// recorded then.
+/// bytes lie are recorded, each once, and the lists of their bases are read, in order: `Read` and
+/// `Damaged` are those of the first list that was not read. After a fault some regions may be recorded,
+/// and the lists that were read are remembered.
 pub fn pieces<S: SliceStore>(
     alloc: Global,
     dev: &mut Dev<'_, S>,
@@ -127,15 +154,17 @@ pub fn pieces<S: SliceStore>(
     off: u64,
     len: u64,
 ) -> Result<Vec<Piece>, Fault>
-    requires sound { IsSoundDev dev.old }
+    requires sound { IsSoundDev S.kind dev.old }
+    requires inside { FileBytes (inside_of S.kind dev.old) any_slice (file_of inode (seen kv.now at.old)) }
     requires cap { off + len ≤ MAX_REGIONS * dev.old.settings.region }
     requires pinned { IsTrue (is_pinned kv.now at.old.base) }
-    ensures plans { IfOk result (λ v. Plans v.items len (λ i.
-        file_origin dev.old.settings.region (file_of inode (seen kv.now at.old)) (off + i))) }
+    ensures read { IfOk result (λ v.
+        IsFileRead S.kind dev.old dev.new (file_of inode (seen kv.now at.old)) off len v.items) }
     ensures recorded { OnOk result
         (Recorded inode (region_keys (touched dev.old.settings.region off len)) at.old at.new) }
     ensures grows { Grows at.old at.new }
-    ensures fault { IfErr result (λ why. why ≡ Fault.Memory) }
+    ensures fault { IfErr result
+        (IsFileFault S.kind dev.old dev.new (file_of inode (seen kv.now at.old)) off len) }
     ensures reads { OnlyRead S.kind (between dev.old dev.new) }
     ensures dev { GoesOn S.kind dev.old dev.new [] }
 {
@@ -144,8 +173,14 @@ pub fn pieces<S: SliceStore>(
     let mut done = 0;
     while done < len {
         let part = part_at(off, len, done, size);
-        let more = region_pieces(alloc, dev, kv, at, inode, part)?;
-        append(&mut out, more.as_slice())?;
+        let more = match region_pieces(alloc, dev, kv, at, inode, part) {
+            Ok(more) => more,
+            Err(why) => return Err(why),
+        };
+        match append(&mut out, more.as_slice()) {
+            Ok(()) => {}
+            Err(why) => return Err(why),
+        }
         done += part.len as u64;
     }
     Ok(out)

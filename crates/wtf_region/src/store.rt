@@ -23,7 +23,7 @@ pub fn store_bytes<S: SliceStore>(
     off: u64,
     bytes: &[u8],
 ) -> Result<Slice, Fault>
-    requires sound { IsSoundDev dev.old }
+    requires sound { IsSoundDev S.kind dev.old }
     requires cap { off < MAX_REGIONS * dev.old.settings.region }
     requires some { 0 < length bytes.now }
     requires few { length bytes.now < 2 ^ 32 }

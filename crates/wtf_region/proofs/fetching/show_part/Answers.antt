@@ -1,4 +1,5 @@
-use Rattle.std.proofs.Common.{◌≡◌, ◌+◌, ◌-◌, ℕ, List, ◌++◌, length, take, drop, replicate, arith, sym, subst, length-drop, vec_len, Bool, true, false, cond}
+use Rattle.std.proofs.Common.{◌≡◌, ◌+◌, ◌-◌, ℕ, List, [], ◌++◌, refl, length, take, drop, replicate, arith, sym, subst, length-drop, vec_len, Bool, true, false}
+use Rattle.std.proofs.Common.{cond}
 use Rattle.std.proofs.lemmas.List.{length-take}
 use Rattle.std.specs.Result.{is_ok}
 use Rattle.wtf_overlay.specs.Origin.{part_origin}
@@ -8,6 +9,7 @@ use Rattle.wtf_replica.specs.Bytes.{byte_at}
 use Rattle.wtf_region.specs.Devs.{stores, is_down_in}
 use Rattle.wtf_region.specs.Showing.{IsReadablePart, ShowsBytes}
 use Rattle.wtf_region.proofs.ShowLaws.{copy_shows, part_fault, end_written}
+use Rattle.wtf_region.proofs.Spans.{goes_by}
 use Rattle.wtf_region.proofs.fetching.show_part.Goals as goal
 
 pub fetch-requires-clause-inside : goal.fetch-requires-clause-inside
@@ -42,3 +44,11 @@ returns-clause-shown g c =
       are = subst (λ (x : Part). ShowsBytes (byte_at g.S.SliceStore.kind (stores c.args.dev.now)) n (λ i. part_origin x (c.args.off + i)) c.fetch.new.out) (sym c.in-Held.is)
           (copy_shows c.in_default-fetch.ensures.fetched n read);
     }
+
+pub returns-in-Err-clause-dev : goal.returns-in-Err-clause-dev
+returns-in-Err-clause-dev g c = goes_by g.met.S.SliceStore.laws c.args.dev.now _ [] c.requires.sound refl refl refl c.requires.sound.cache refl refl refl
+    c.fetch.ensures.follows
+
+pub returns-clause-dev : goal.returns-clause-dev
+returns-clause-dev g c = goes_by g.met.S.SliceStore.laws c.args.dev.now _ [] c.requires.sound refl refl refl c.requires.sound.cache refl refl refl
+    c.fetch.ensures.follows

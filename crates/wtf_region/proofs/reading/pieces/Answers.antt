@@ -1,15 +1,74 @@
-use Rattle.std.proofs.Common.{◌≡◌, ◌⊎◌, ◌+◌, ◌*◌, arith, refl, sym, ap, ◌∙◌, inl, inr}
-use Rattle.wtf_overlay.proofs.Pieces.{Plans-append}
+use Rattle.std.proofs.Common.{◌≡◌, ◌⊎◌, ◌+◌, arith, refl, sym, ◌∙◌, subst, inl, inr}
+use Rattle.wtf_meta.specs.Bytes.{FileBytes, any_slice}
 use Rattle.wtf_meta.specs.Maps.{Map, seen}
-use Rattle.wtf_meta.specs.Files.{file_origin, region_origin}
 use Rattle.wtf_meta.specs.FileEdits.{file_of}
 use Rattle.wtf_meta.specs.Appends.{touched, region_keys}
-use Rattle.wtf_meta.proofs.Places.{at_place}
 use Rattle.wtf_meta.proofs.Touching.{touched-more}
+use Rattle.wtf_occ.proofs.AttemptLaws.{GrowsBy-nothing}
+use Rattle.wtf_region.specs.Devs.{inside_of, is_down_in, stores}
+use Rattle.wtf_region.specs.Reads.{IsPartRead, IsRegionFault}
+use Rattle.wtf_region.proofs.ListReads.{file_none, file_on, file_later}
 use Rattle.wtf_region.proofs.Recording.{still_seen, recorded_region, at_border}
-use Rattle.wtf_region.proofs.ShowLaws.{reads_over}
-use Rattle.wtf_region.proofs.Spans.{goes_on}
+use Rattle.wtf_region.proofs.ShowLaws.{reads_nothing, reads_over}
+use Rattle.wtf_region.proofs.Spans.{goes_nowhere, goes_on}
 use Rattle.wtf_region.proofs.reading.pieces.Goals as goal
+
+pub loop-done-init : goal.loop-done-init
+loop-done-init g c = record {
+  upto = omega arith;
+  read = file_none g.met.S.SliceStore.laws c.args.dev.now (file_of c.args.inode (seen c.args.kv.now c.args.at.now))
+      c.args.off c.new-out.result.items c.new-out.ensures.items;
+  recorded = GrowsBy-nothing c.args.at.now;
+  border = inl refl;
+  reads = reads_nothing g.S.SliceStore.kind (is_down_in c.args.dev.now) (stores c.args.dev.now);
+  each = goes_nowhere g.met.S.SliceStore.laws c.args.dev.now c.requires.sound;
+}
+
+pub region_pieces-requires-clause-inside : goal.region_pieces-requires-clause-inside
+region_pieces-requires-clause-inside g c =
+    let i = c.args.inode in
+    let kv = c.args.kv.now in
+    let inv = c.loop-done.invariant in
+    let same : seen kv c.loop-done.at ≡ seen kv c.args.at.now =
+    still_seen kv i (region_keys (touched c.args.dev.now.settings.region c.args.off c.loop-done.done)) c.args.at.now c.loop-done.at inv.recorded in
+    subst (λ (w : Map). FileBytes (inside_of g.S.SliceStore.kind c.loop-done.dev) any_slice (file_of i w)) (sym same)
+    (file_later g.met.S.SliceStore.laws c.requires.sound inv.each (file_of i (seen kv c.args.at.now)) c.requires.inside)
+
+pub returns-in-Err-clause-fault : goal.returns-in-Err-clause-fault
+returns-in-Err-clause-fault g c =
+    let i = c.args.inode in
+    let kv = c.args.kv.now in
+    let p = c.part_at-part.result in
+    let e = c.part_at-part.ensures in
+    let inv = c.loop-done.invariant in
+    let same : seen kv c.loop-done.at ≡ seen kv c.args.at.now =
+    still_seen kv i (region_keys (touched c.args.dev.now.settings.region c.args.off c.loop-done.done)) c.args.at.now c.loop-done.at inv.recorded in
+    inr (record {
+      mid = c.loop-done.dev;
+      goes = inv.each;
+      some = omega (arith, c.loop-done-test.true);
+      region = p.region;
+      from = omega (arith, e.place, e.within, e.some);
+      upto = omega (arith, e.place, c.loop-done-test.true);
+      cause = subst (λ (w : Map). IsRegionFault g.S.SliceStore.kind c.loop-done.dev c.region_pieces.new.dev ((file_of i w).region p.region) c.in-Err.why)
+          same c.in-Err.ensures.fault;
+    })
+
+pub returns-in-Err-clause-reads : goal.returns-in-Err-clause-reads
+returns-in-Err-clause-reads g c =
+    reads_over g.S.SliceStore.kind c.args.dev.now c.loop-done.dev c.region_pieces.new.dev c.loop-done.invariant.each c.loop-done.invariant.reads
+    c.region_pieces.ensures.reads
+
+pub returns-in-Err-clause-dev : goal.returns-in-Err-clause-dev
+returns-in-Err-clause-dev g c = goes_on g.met.S.SliceStore.laws c.loop-done.invariant.each c.region_pieces.ensures.dev
+
+pub returns-in-Err-append-clause-reads : goal.returns-in-Err-append-clause-reads
+returns-in-Err-append-clause-reads g c =
+    reads_over g.S.SliceStore.kind c.args.dev.now c.loop-done.dev c.region_pieces.new.dev c.loop-done.invariant.each c.loop-done.invariant.reads
+    c.region_pieces.ensures.reads
+
+pub returns-in-Err-append-clause-dev : goal.returns-in-Err-append-clause-dev
+returns-in-Err-append-clause-dev g c = goes_on g.met.S.SliceStore.laws c.loop-done.invariant.each c.region_pieces.ensures.dev
 
 pub loop-done-preserved : goal.loop-done-preserved
 loop-done-preserved g c =
@@ -28,20 +87,21 @@ loop-done-preserved g c =
       | inr (inl whole) ↦ absurd (omega (arith, whole, c.loop-done-test.true))
       | inr (inr begins) ↦ inr (at_border b begins.0 p.region p.off (begins.1 ∙ sym e.place) (omega (arith, e.within, e.some)))
     ] in
+    let more : IsPartRead g.S.SliceStore.kind c.loop-done.dev c.region_pieces.new.dev (v.region p.region) p.off p.len c.in-Ok.more.items =
+    subst (λ (w : Map). IsPartRead g.S.SliceStore.kind c.loop-done.dev c.region_pieces.new.dev ((file_of i w).region p.region) p.off p.len c.in-Ok.more.items)
+    same c.in-Ok.ensures.read in
     record {
-      upto = omega arith;
-      plans = rw (c.in_ok-append.ensures.ok, c.as_slice.ensures.value) (Plans-append c.loop-done.out.items c.in_ok-more.more.items done p.len (done + p.len)
-          (λ k. file_origin b v (off + k)) (λ k. region_origin ((file_of i (seen kv c.loop-done.at)).region p.region) (p.off + k)) refl
-          inv.plans c.in_ok-more.ensures.plans
-          (λ k h. ap (λ (w : Map). region_origin ((file_of i w).region p.region) (p.off + k)) same
-          ∙ sym (at_place b v p.region (p.off + k) (omega (arith, e.within, h)))
-          ∙ ap (file_origin b v) (let d : p.region * b + (p.off + k) ≡ off + (done + k) = omega (arith, e.place) in d)));
+      upto = omega (arith, e.inside);
+      read = rw (c.in-Ok-append.ensures.ok, c.as_slice.ensures.value)
+          (file_on g.met.S.SliceStore.laws c.requires.sound inv.each c.region_pieces.ensures.dev v c.requires.inside off done p.len p.region p.off
+          c.loop-done.out.items c.in-Ok.more.items e.place e.within inv.read more);
       recorded = recorded_region i (touched b off done) (touched b off (done + p.len)) p.region c.args.at.now c.loop-done.at c.region_pieces.new.at
-          (touched-more b off done p.region p.off p.len (omega (arith, c.args.dev.now.settings.limits)) e.place e.within e.some start) inv.recorded c.in_ok-more.ensures.recorded;
+          (touched-more b off done p.region p.off p.len (omega (arith, c.args.dev.now.settings.limits)) e.place e.within e.some start)
+          inv.recorded c.in-Ok.ensures.recorded;
       border = elim e.whole [
         | inl whole ↦ inr (inl whole)
         | inr full ↦ inr (inr (p.region + 1, omega (arith, e.place, full)))
       ];
-      reads = reads_over g.S.SliceStore.kind c.args.dev.now c.loop-done.dev c.region_pieces.new.dev inv.each inv.reads c.in_ok-more.ensures.reads;
-      each = goes_on g.met.S.SliceStore.laws inv.each c.in_ok-more.ensures.dev;
+      reads = reads_over g.S.SliceStore.kind c.args.dev.now c.loop-done.dev c.region_pieces.new.dev inv.each inv.reads c.region_pieces.ensures.reads;
+      each = goes_on g.met.S.SliceStore.laws inv.each c.region_pieces.ensures.dev;
     }

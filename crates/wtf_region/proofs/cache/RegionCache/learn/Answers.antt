@@ -2,7 +2,7 @@ use Rattle.std.proofs.Common.{◌≡◌, List, ◌++◌, Option, Some, refl, sym
 use Rattle.lru.specs.LruCache.{LruCache}
 use Rattle.wtf_ring.specs.Points.{PlaceView}
 use Rattle.wtf_region.specs.declared.cache.RegionKey.{RegionKey}
-use Rattle.wtf_region.specs.Cached.{IsPlaceOf, AreFrom, BeginsAt}
+use Rattle.wtf_region.specs.Cached.{CacheView, IsPlaceOf, AreFrom, BeginsAt}
 use Rattle.wtf_region.proofs.Places.{AreFrom-places, AreFrom-put_entries, AreFrom-cons, BeginsAt-put_entries}
 use Rattle.wtf_region.proofs.cache.RegionCache.learn.Goals as goal
 use Rattle.wtf_region.proofs.cache.RegionCache.learn.Goals.{in-Ok, in-Err}
@@ -21,7 +21,8 @@ returns-clause-from c =
     let ring = c.args.ring.now in
     let place = c.order-place.result in
     let is : IsPlaceOf ring c.args.key place = record { value = c.order-place.ensures.value; order = c.order-place.ensures.order } in
-    let before : AreFrom ring c.self.inside.places.entries = AreFrom-places ring c.self.inside.spare c.self.inside.places.entries c.args.self.now c.self.view_is c.requires in
+    let before : AreFrom ring c.self.inside.places.entries =
+    AreFrom-places ring c.self.inside.spare c.self.inside.places.entries c.args.self.now.places (ap (λ (v : CacheView). v.places) c.self.view_is) c.requires in
     elim c.match-put.branch [
       | in-Ok w ↦ moved (AreFrom ring) _ _ _ _ w.self-is w.in-Ok.ensures.entries (AreFrom-put_entries c.args.key c.self.inside.places place ring before is)
       | in-Err w ↦ moved (AreFrom ring) _ _ _ _ (w.self-is ∙ ap Some w.in-Err.ensures.value_returned) w.in-Err.ensures.err (AreFrom-cons ring c.args.key place c.self.inside.places.entries is before)
@@ -32,3 +33,6 @@ returns-clause-first c = elim c.match-put.branch [
   | in-Ok w ↦ moved (BeginsAt c.args.key) _ _ _ _ w.self-is w.in-Ok.ensures.entries (BeginsAt-put_entries c.args.key c.self.inside.places c.order-place.result)
   | in-Err w ↦ moved (BeginsAt c.args.key) _ _ _ _ (w.self-is ∙ ap Some w.in-Err.ensures.value_returned) w.in-Err.ensures.err refl
 ]
+
+pub returns-clause-lists : goal.returns-clause-lists
+returns-clause-lists c = ap (λ (v : CacheView). v.lists) c.self.view_is

@@ -1,0 +1,28 @@
+use Rattle.std.proofs.Common.{sym, subst}
+use Rattle.std.proofs.lemmas.Result.{IfOk-weaker}
+use Rattle.wtf_meta.specs.Bytes.{BaseBytes, any_slice}
+use Rattle.wtf_region.specs.Devs.{inside_of}
+use Rattle.wtf_region.specs.Reads.{IsListRead}
+use Rattle.wtf_region.proofs.Spans.{goes_nowhere}
+use Rattle.wtf_region.proofs.ListReads.{list_alone, list_over}
+use Rattle.wtf_region.proofs.list.region_list.Goals as goal
+
+pub returns-in-Ok-clause-read : goal.returns-in-Ok-clause-read
+returns-in-Ok-clause-read g c = rw c.in-Ok.ensures (list_alone g.met.S.SliceStore.laws c.args.dev.now c.args.dev.now c.args.value.now c.in_default.is)
+
+pub returns-in-Ok-clause-dev : goal.returns-in-Ok-clause-dev
+returns-in-Ok-clause-dev g c = goes_nowhere g.met.S.SliceStore.laws c.args.dev.now c.requires.sound
+
+pub returns-in-Err-clause-dev : goal.returns-in-Err-clause-dev
+returns-in-Err-clause-dev g c = goes_nowhere g.met.S.SliceStore.laws c.args.dev.now c.requires.sound
+
+pub base_list-requires-clause-inside : goal.base_list-requires-clause-inside
+base_list-requires-clause-inside g c = (subst (BaseBytes (inside_of g.S.SliceStore.kind c.args.dev.now) any_slice) c.in-Some.is c.requires.inside).0
+
+pub returns-clause-read : goal.returns-clause-read
+returns-clause-read g c =
+    IfOk-weaker c.list_over.result _ (IsListRead g.S.SliceStore.kind c.args.dev.now c.base_list.new.dev c.args.value.now)
+    (λ list is. subst (IsListRead g.S.SliceStore.kind c.args.dev.now c.base_list.new.dev c.args.value.now) (sym is)
+    (list_over g.met.S.SliceStore.laws c.args.dev.now c.base_list.new.dev c.args.value.now c.in-Some.base c.in-Ok-base_list.under c.in-Some.is
+    c.in-Ok-base_list.ensures.read))
+    c.list_over.ensures.list
