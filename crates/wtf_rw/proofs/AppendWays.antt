@@ -50,13 +50,16 @@ use Rattle.wtf_steps.proofs.FileWays.{brings, appends, appends_too_much, body_ca
 
 -- keys alone, where these pieces were stored all the same
 abbrev pub refuses : List Key → List Piece → Did
-refuses keys ps = record { keys = keys; edits = []; facts = []; stored = ps }
+refuses keys ps = record { keys = keys; edits = []; facts = []; stored = ps; lists = [] }
 
 refuses_call : (x : Caller) (b : Map) (s : SessionView) (keys : List Key) (ps : List Piece) (o : Op (List ℕ)) (a : Answer) → IsCall x b s s (only_keys keys) o a → IsCall x b s s (refuses keys ps) o a
 refuses_call x b s keys ps o a is = record {
   fits = is.fits;
-  names = λ P hole map old stored. let n = is.names P hole map old (PiecesBytes-none P) in record { edits = n.edits; facts = n.facts; slices = n.slices };
+  names = λ P Q hole map old stored lists.
+      let n = is.names P Q hole map old (PiecesBytes-none P) lists in
+      record { edits = n.edits; facts = n.facts; slices = n.slices; lists = n.lists };
   acts = is.acts;
+  feet = is.feet;
 }
 
 -- what an append of pieces did
@@ -65,6 +68,7 @@ pub record Adds (x : Caller) (b : Map) (s : SessionView) (f : ℕ) (ps : List Pi
   pub grows : GrowsBy old new did.keys did.edits
   pub is_call : IsCall x b s s did (op.Append f bytes) a
   pub stored : did.stored ≡ ps
+  pub lists : did.lists ≡ []
   pub facts : (told : Told) → PiecesTell told ps bytes → TellFacts told did.facts
 
 pub adds : (x : Caller) (b : Map) (s : SessionView) (f : ℕ) (h : Handle) (ps : List Piece) (bytes : List ℕ) (old new : Attempted Key Delta) (r : Added) → handle_in s f ≡ Some h → pieces_len ps ≡ length bytes
@@ -74,6 +78,7 @@ adds x b s f h ps bytes old new added.Done here len is = record {
   grows = is.grows;
   is_call = appends x b s f h here is.edits ps bytes is.does;
   stored = refl;
+  lists = refl;
   facts = λ told tell. (tell, tt);
 }
 adds x b s f h ps bytes old new added.TooBig here len is = record {
@@ -82,6 +87,7 @@ adds x b s f h ps bytes old new added.TooBig here len is = record {
   is_call = refuses_call x b s (keys_of h.inode (append_keys x.size (file_of h.inode b) (pieces_len ps))) ps (op.Append f bytes) (answer.Refused TooBig)
       (appends_too_much x b s f h here (pieces_len ps) bytes len is.full);
   stored = refl;
+  lists = refl;
   facts = λ told tell. tt;
 }
 
@@ -98,9 +104,10 @@ adds_nothing x b s f h bytes old here none = record {
   is_call = appends x b s f h here [] [] bytes (record {
     appends = Appends-none x.size (file_of h.inode b) (append_keys x.size (file_of h.inode b) 0) 0 (pieces_origin []) refl;
     exact = record { none = λ e. refl; fits = λ more room. absurd (omega (arith, more)); laid = λ more full. absurd (omega (arith, more)) };
-    names = λ P bytes. tt;
+    names = λ P Q bytes. tt;
   });
   stored = refl;
+  lists = refl;
   facts = λ told tell. (tell, tt);
 }
 
@@ -125,7 +132,11 @@ step_added kind from into d x b s f ps bytes old new a is own told one = record 
   did = one.did;
   grows = one.grows;
   is_call = subst (λ (r : Answer). IsCall x b s s one.did (op.Append f bytes) r) (sym is) one.is_call;
-  more = record { stored = subst (λ (qs : List Piece). ArePieces d.own qs) (sym one.stored) own; told = λ tells. one.facts (byte_at kind into) (told tells) };
+  more = record {
+    stored = subst (λ (qs : List Piece). ArePieces d.own qs) (sym one.stored) own;
+    lists = one.lists;
+    told = λ tells. one.facts (byte_at kind into) (told tells);
+  };
 }
 
 -- and of one that brought the bytes of a slice
@@ -140,6 +151,7 @@ step_brought o sl p x b s f bytes old new a r is there len part one =
       is_call = subst (λ (z : Answer). IsCall x b s s one.did (op.Append f bytes) z) (sym is) one.is_call;
       more = record {
         named = λ P h. subst (λ (qs : List Piece). PiecesBytes P qs) (sym one.stored) (brings_it.named P h);
+        lists = one.lists;
         told = λ told h. one.facts told (brings_it.told told h).0;
       };
     }
@@ -227,6 +239,7 @@ step_nothing o x b s f bytes old none one = record {
   is_call = one.is_call;
   more = record {
     named = λ P h. subst (λ (qs : List Piece). PiecesBytes P qs) (sym one.stored) (PiecesBytes-none P);
+    lists = one.lists;
     told = λ told h. one.facts told (no_byte_told told bytes none);
   };
 }

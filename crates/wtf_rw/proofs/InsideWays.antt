@@ -1,10 +1,10 @@
 -- What a call leaves lies inside the stores, where what it met did.
 use Rattle.std.proofs.Common.{◌≡◌, ℕ, ◌≤◌, Bool, true, List, [], length, replicate, Option, None, Some, refl, sym, subst}
 use Rattle.std.proofs.lemmas.List.{length-replicate}
+use Rattle.wtf_base.specs.declared.settings.Settings.{Settings}
 use Rattle.wtf_base.specs.declared.slice.Slice.{Slice}
 use Rattle.wtf_base.specs.Slices.{len_of}
 use Rattle.wtf_dev.specs.Store.{StoreKind, KindLaws}
-use Rattle.wtf_dev.specs.Each.{EachFollows}
 use Rattle.wtf_kv.specs.Stores.{Store}
 use Rattle.wtf_occ.specs.Attempts.{Attempted}
 use Rattle.wtf_occ.proofs.AttemptLaws.{map_seen-by}
@@ -20,14 +20,16 @@ use Rattle.wtf_values.specs.declared.value.Value.{Value}
 use Rattle.wtf_values.specs.Keys.{key_cmp}
 use Rattle.wtf_values.specs.Outcomes.{outcome_of}
 use Rattle.wtf_meta.specs.declared.session.Handle.{Handle}
-use Rattle.wtf_meta.specs.Bytes.{PartBytes, PiecesBytes, MapBytes}
+use Rattle.wtf_meta.specs.Lists.{ListFact}
+use Rattle.wtf_meta.specs.Bytes.{PartBytes, PiecesBytes, MapBytes, ListsBytes, any_slice}
 use Rattle.wtf_meta.specs.Calls.{Did, Names}
 use Rattle.wtf_meta.specs.Maps.{Map, seen}
 use Rattle.wtf_meta.specs.Sessions.{SessionView, handle_in}
+use Rattle.wtf_meta.proofs.ListFacts.{ListsBytes-all}
 use Rattle.wtf_meta.proofs.MapBytes.{with_bytes}
 use Rattle.wtf_meta.proofs.Named.{PiecesBytes-none, PiecesBytes-push}
 use Rattle.wtf_region.specs.declared.dev.Dev.{Dev}
-use Rattle.wtf_region.specs.Devs.{stores}
+use Rattle.wtf_region.specs.Devs.{GoesOn, stores, inside_of}
 use Rattle.wtf_region.specs.Inside.{is_inside}
 use Rattle.wtf_region.proofs.InsideLaws.{inside_stays, slice_inside}
 use Rattle.wtf_rw.specs.declared.op.Given.TheVariants.{Fresh, Stored}
@@ -37,7 +39,7 @@ use Rattle.wtf_steps.specs.Scenes.{Scene, AreInside}
 use Rattle.wtf_rw.specs.Ops.{DoesRw, Writes, IsWhole, IsRwStep, OwnBy, IsRwOwn, RwBytes}
 use Rattle.wtf_steps.specs.Steps.{in_hand}
 use Rattle.wtf_rw.specs.Stored.{ArePieces, SliceBytes, IsOwn}
-use Rattle.wtf_steps.proofs.InsideWays.{part_stays, map_stays, session_stays}
+use Rattle.wtf_meta.proofs.Weaker.{part_stays, map_stays, session_stays}
 
 module _ (P Q : List Place → Bool) (stays : (places : List Place) → P places ≡ true → Q places ≡ true) where
   pub slice_stays : (o : Option Slice) → SliceBytes P o → SliceBytes Q o
@@ -113,6 +115,25 @@ does_named P sc (rw.Truncate f n) own bytes did does given stored = none_named P
 does_named P sc (rw.Punch f n) own bytes did does given stored = none_named P did.stored does.0.stored
 does_named P sc (rw.Stat p) own bytes did does given stored = none_named P did.stored does.0.stored
 
+no_lists : (P : List Place → Bool) (lists : List ListFact) → lists ≡ [] → ListsBytes P any_slice lists
+no_lists P lists is = subst (ListsBytes P any_slice) (sym is) tt
+
+-- the lists that a call read name only bytes inside the stores
+does_lists : {S : Type 0} (sc : Scene S) (o : RwOp) (own : Option Slice) (bytes : List ℕ) (did : Did) → DoesRw sc o own bytes did
+    → ListsBytes (inside_of sc.kind sc.after) any_slice did.lists
+does_lists sc (rw.Write f (Fresh bs)) own bytes did does = no_lists (inside_of sc.kind sc.after) did.lists does.lists
+does_lists sc (rw.Write f (Stored kept)) own bytes did does = no_lists (inside_of sc.kind sc.after) did.lists does.0.lists
+does_lists sc (rw.Append f (Fresh bs)) own bytes did does = no_lists (inside_of sc.kind sc.after) did.lists does.lists
+does_lists sc (rw.Append f (Stored kept)) own bytes did does = no_lists (inside_of sc.kind sc.after) did.lists does.0.lists
+does_lists sc (rw.Read f n) own bytes did does = ListsBytes-all (inside_of sc.kind sc.after) any_slice did.lists does.0.inside
+does_lists sc (rw.Open f p) own bytes did does = no_lists (inside_of sc.kind sc.after) did.lists does.0.lists
+does_lists sc (rw.Close f) own bytes did does = no_lists (inside_of sc.kind sc.after) did.lists does.0.lists
+does_lists sc (rw.Seek f place) own bytes did does = no_lists (inside_of sc.kind sc.after) did.lists does.0.lists
+does_lists sc (rw.Tell f) own bytes did does = no_lists (inside_of sc.kind sc.after) did.lists does.0.lists
+does_lists sc (rw.Truncate f n) own bytes did does = no_lists (inside_of sc.kind sc.after) did.lists does.0.lists
+does_lists sc (rw.Punch f n) own bytes did does = no_lists (inside_of sc.kind sc.after) did.lists does.0.lists
+does_lists sc (rw.Stat p) own bytes did does = no_lists (inside_of sc.kind sc.after) did.lists does.0.lists
+
 -- some bytes that the data may be
 pub some_data : (o : RwOp) → (bytes : List ℕ) × Writes o bytes
 some_data (rw.Write f (Fresh bs)) = (bs.now, refl)
@@ -129,20 +150,25 @@ some_data (rw.Punch f n) = ([], tt)
 some_data (rw.Stat p) = ([], tt)
 
 pub keeps_inside : {S : Type 0} {kind : StoreKind S} → KindLaws kind → (old new : Dev S) (kv : Store Key Value) (at into : Attempted Key Delta) (s t : SessionView) (o : RwOp) (own : Option Slice) (a : Answer)
-    → old.settings.servers ≤ length (stores old) → EachFollows kind (stores old) (stores new) []
-    → IsRwStep (record { kind = kind; before = stores old; after = stores new; map = seen kv at }) old.settings.region (in_hand at s) (in_hand into t) o own a
+    → old.settings.servers ≤ length (stores old) → GoesOn kind old new []
+    → IsRwStep (record { kind = kind; before = old; after = new; map = seen kv at }) old.settings.region (in_hand at s) (in_hand into t) o own a
     → IsRwOwn kind old new (seen kv at) s o own → IsWhole o → RwBytes (is_inside kind (stores old) old.settings) o → AreInside kind (stores old) old.settings (seen kv at) s
     → AreInside kind (stores new) old.settings (seen kv into) t
-keeps_inside {kind = kind} laws old new kv at into s t o own a enough each step stored whole given were =
+keeps_inside {kind = kind} laws old new kv at into s t o own a enough goes step stored whole given were =
     let P : List Place → Bool = is_inside kind (stores old) old.settings in
-    let Q : List Place → Bool = is_inside kind (stores new) old.settings in
-    let stays : (places : List Place) → P places ≡ true → Q places ≡ true = inside_stays laws each old.settings enough in
+    let R : List Place → Bool = is_inside kind (stores new) old.settings in
+    let stays : (places : List Place) → P places ≡ true → R places ≡ true = inside_stays laws goes.each old.settings enough in
     let (bytes, writes) = some_data o in
     let one = step (record { size = old.settings.region; tx = 0; calls = 0 }) bytes refl writes whole in
-    let brought = does_named Q (record { kind = kind; before = stores old; after = stores new; map = seen kv at }) o own bytes one.did one.more (given_stays P Q stays o given)
+    let brought =
+    does_named R (record { kind = kind; before = old; after = new; map = seen kv at }) o own bytes one.did one.more (given_stays P R stays o given)
     (rw_own_inside kind old new (seen kv at) s o own stored) in
-    let map : MapBytes Q (seen kv at) = map_stays P Q stays (seen kv at) were.0 in
-    let names : Names (seen kv at) s t one.did Q = one.is_call.names Q refl map (session_stays P Q stays s were.1) brought in (
-      subst (λ (w : Map). MapBytes Q w) (sym (map_seen-by key_cmp outcome_of kv at into one.did.keys one.did.edits one.grows)) (with_bytes Q refl one.did.edits (seen kv at) map names.edits),
+    let lists : ListsBytes R any_slice one.did.lists =
+    subst (λ (st : Settings). ListsBytes (is_inside kind (stores new) st) any_slice one.did.lists) goes.settings
+    (does_lists (record { kind = kind; before = old; after = new; map = seen kv at }) o own bytes one.did one.more) in
+    let map : MapBytes R any_slice (seen kv at) = map_stays P R stays any_slice any_slice (λ sl is. is) (seen kv at) were.0 in
+    let names : Names (seen kv at) s t one.did R any_slice = one.is_call.names R any_slice refl map (session_stays P R stays s were.1) brought lists in (
+      subst (λ (w : Map). MapBytes R any_slice w) (sym (map_seen-by key_cmp outcome_of kv at into one.did.keys one.did.edits one.grows))
+          (with_bytes R any_slice refl one.did.edits (seen kv at) map names.edits),
       names.slices,
     )

@@ -3,7 +3,7 @@ use Rattle.std.proofs.Common.{◌≡◌, refl, ℕ, ◌+◌, ◌-◌, ◌*◌, �
 use Rattle.std.proofs.lemmas.Nat.{div-add-mod', mod_below, div_below}
 use Rattle.wtf_base.specs.declared.ids.InodeId.{InodeId}
 use Rattle.wtf_model.specs.declared.limits.TheConstants.{MAX_REGIONS}
-use Rattle.wtf_meta.specs.FileEdits.{FileEdit, Push, PushRel, Clip, ZeroWithin, CutAbove, RaiseLast, SetLast}
+use Rattle.wtf_meta.specs.FileEdits.{FileEdit, Push, PushRel, Put, Clip, ZeroWithin, CutAbove, RaiseLast, SetLast}
 use Rattle.wtf_meta.proofs.Places.{apart}
 use Rattle.wtf_meta.proofs.Named.{EditsBytes-edits}
 use Rattle.wtf_meta.proofs.Truncating.{cut_edits, Truncates-cut}
@@ -27,6 +27,7 @@ holes_more b off n done mid r from until (ZeroWithin q f u ∷ ds) h region star
     (h.0, h.1, h.2, holes_more b off n (done + (u - f)) mid r from until ds h.3 region start end)
 holes_more b off n done mid r from until (Push q e ∷ ds) h region start end = absurd h
 holes_more b off n done mid r from until (PushRel q ps c ∷ ds) h region start end = absurd h
+holes_more b off n done mid r from until (Put q v ∷ ds) h region start end = absurd h
 holes_more b off n done mid r from until (Clip q c ∷ ds) h region start end = absurd h
 holes_more b off n done mid r from until (CutAbove q ∷ ds) h region start end = absurd h
 holes_more b off n done mid r from until (RaiseLast q ∷ ds) h region start end = absurd h
@@ -41,11 +42,11 @@ cuts_to b n r k i pos small is left =
           (λ some. omega (arith, whole, rest, left, pos, apart b 0 r some))
           (subst (λ j. j < MAX_REGIONS) (sym is) (div_below (n - 1) b MAX_REGIONS pos (omega arith)));
       exact = cut_is b n r k is left;
-      names = λ P. (tt, (tt, (tt, tt)));
+      names = λ P Q. (tt, (tt, (tt, tt)));
     }
 
 pub zeroes_none : (b off len : ℕ) (i : InodeId) → ZeroesRegions b i off len 0 []
-zeroes_none b off len i = record { punches = Punches-none b off; exact = refl; names = λ P. tt }
+zeroes_none b off len i = record { punches = Punches-none b off; exact = refl; names = λ P Q. tt }
 
 pub zeroes_more : (b off len done upto : ℕ) (i : InodeId) (ds : List FileEdit) → 0 < b → b < 2 ^ 32 → (off + done) % b ≤ upto → upto ≡ min b ((off + done) % b + (len - done))
     → ZeroesRegions b i off len done ds
@@ -53,7 +54,7 @@ pub zeroes_more : (b off len done upto : ℕ) (i : InodeId) (ds : List FileEdit)
 zeroes_more b off len done upto i ds pos small order end zeroes = record {
   punches = Punches-part b off done ((off + done) / b) ((off + done) % b) upto ds pos small order (omega (arith, end)) (div-add-mod' (off + done) b) zeroes.punches;
   exact = holes_more b off len 0 done ((off + done) / b) ((off + done) % b) upto ds zeroes.exact refl refl end;
-  names = λ P. EditsBytes-edits P i ds (ZeroWithin ((off + done) / b) ((off + done) % b) upto ∷ []) (zeroes.names P) (tt, tt);
+  names = λ P Q. EditsBytes-edits P Q i ds (ZeroWithin ((off + done) / b) ((off + done) % b) upto ∷ []) (zeroes.names P Q) (tt, tt);
 }
 
 pub zeroes_all : (b off n m : ℕ) (i : InodeId) (ds : List FileEdit) → 0 < b → m ≡ min n (MAX_REGIONS * b - off) → off ≤ MAX_REGIONS * b → ZeroesRegions b i off m m ds → Zeroes b i off n ds
@@ -66,4 +67,4 @@ zeroes_all b off n m i ds pos is within zeroes = record {
 pub zeroes_past : (b off n : ℕ) (i : InodeId) → 0 < b → MAX_REGIONS * b ≤ off → Zeroes b i off n []
 zeroes_past b off n i pos past =
     let none : 0 ≡ below_cap b off n = omega (arith, past) in
-    record { clears = Clears-none b off n pos past; exact = none; names = λ P. tt }
+    record { clears = Clears-none b off n pos past; exact = none; names = λ P Q. tt }

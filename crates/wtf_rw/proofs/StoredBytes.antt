@@ -65,12 +65,13 @@ brought i keys ds o s p bytes is len part = record {
       let bytes_of : PartBytes P (len_of s) (Held s) = subst (SliceBytes P) is h in
       PiecesBytes-push P [] p (PiecesBytes-none P)
       (subst (λ (n : ℕ). PartBytes P n p.part) (sym len) (subst (λ (q : Part). PartBytes P (len_of s) q) (sym part) bytes_of));
+  lists = refl;
   told = λ told h. (tell_piece told s p bytes len part (subst (λ (z : Option Slice). TellSlice told z bytes) is h), tt);
 }
 
 -- a call that brings nothing
 pub brings_none : (o : Option Slice) (bytes : List ℕ) (keys : List Key) → BringsSlice o bytes (only_keys keys)
-brings_none o bytes keys = record { named = λ P h. PiecesBytes-none P; told = λ told h. tt }
+brings_none o bytes keys = record { named = λ P h. PiecesBytes-none P; lists = refl; told = λ told h. tt }
 
 pub step_stored : (o : Option Slice) (bytes : List ℕ) (x : Caller) (b : Map) (old new : InHand) (keys : List Key) (c : Op (List ℕ)) (a : Answer) → GrowsBy old.at new.at keys [] → IsCall x b old.session new.session (only_keys keys) c a
     → IsStepWith (BringsSlice o bytes) x b old new c a
@@ -84,5 +85,5 @@ step_only kind from into d x b old new keys c a is none grows call = record {
   did = only_keys keys;
   grows = grows;
   is_call = subst (λ (r : Answer). IsCall x b old.session new.session (only_keys keys) c r) (sym is) call;
-  more = subst (λ (o : Option Slice). TellsOwn kind from into o (only_keys keys)) (sym none) (record { stored = refl; told = λ tells. tt });
+  more = subst (λ (o : Option Slice). TellsOwn kind from into o (only_keys keys)) (sym none) (record { stored = refl; lists = refl; told = λ tells. tt });
 }

@@ -18,7 +18,7 @@ use Rattle.wtf_meta.specs.FileEdits.{file_of}
 use Rattle.wtf_meta.specs.Sessions.{SessionView, handle_in}
 use Rattle.wtf_meta.specs.Calls.{Caller, Did, InHand}
 use Rattle.wtf_region.specs.declared.dev.Dev.{Dev}
-use Rattle.wtf_region.specs.Devs.{place_in}
+use Rattle.wtf_region.specs.Devs.{place_in, stores}
 use Rattle.wtf_rw.specs.declared.op.Given.{Given}
 use Rattle.wtf_rw.specs.declared.op.Given.TheVariants.{Fresh, Stored}
 use Rattle.wtf_rw.specs.declared.op.RwOp.{RwOp}
@@ -27,8 +27,8 @@ use Rattle.wtf_steps.specs.Steps.{IsStepWith, NeedsNoBytes, IsRefusal}
 use Rattle.wtf_rw.specs.Recorded.{open_keys, seek_keys, stat_keys}
 use Rattle.wtf_steps.specs.Recorded.{append_keys, read_keys, found_in}
 use Rattle.wtf_rw.specs.Stored.{TellsOwn, BringsSlice, SliceBytes, IsOwn, IsPutFault, Answers, end_place}
-use Rattle.wtf_rw.specs.Reads.{TellsRead, read_origin}
-use Rattle.wtf_steps.specs.Faults.{MayFault, LacksBytes}
+use Rattle.wtf_rw.specs.Reads.{TellsRead, LacksRead}
+use Rattle.wtf_steps.specs.Faults.{MayFault}
 pub use Rattle.wtf_steps.specs.Scenes.{Scene, AreInside}
 
 -- the definitions' call, on the bytes that it writes, if it writes some
@@ -103,7 +103,7 @@ rw_keys b w s o = []
 
 -- what is known of the bytes that data brings
 abbrev pub DoesData : {S : Type 0} → Scene S → Given → Option Slice → List ℕ → Did → Type 0
-DoesData sc (Fresh bs) own bytes did = TellsOwn sc.kind sc.before sc.after own did
+DoesData sc (Fresh bs) own bytes did = TellsOwn sc.kind (stores sc.before) (stores sc.after) own did
 DoesData sc (Stored kept) own bytes did = BringsSlice kept.slice bytes did × (own ≡ None)
 
 -- and of those that a call reads and brings
@@ -148,7 +148,7 @@ abbrev pub IsRwFault : {S : Type 0} → StoreKind S → (old new : Dev S) → Ma
 IsRwFault kind old new w s (rw.Write f (Fresh bs)) why = IsPutFault kind old new bs.now why
 IsRwFault kind old new w s (rw.Append f (Fresh bs)) why = IsPutFault kind old new bs.now why
 IsRwFault kind old new w s (rw.Read f n) why =
-    (why ≡ fault.Memory) ⊎ ((h : Handle) × (handle_in s f ≡ Some h) × LacksBytes kind old new (found_in old.settings.region w h n) (read_origin old.settings.region w h) why)
+    (why ≡ fault.Memory) ⊎ ((h : Handle) × (handle_in s f ≡ Some h) × LacksRead kind old new (file_of h.inode w) h.off (found_in old.settings.region w h n) why)
 IsRwFault kind old new w s o why = why ≡ fault.Memory
 
 -- and it may come in place of what is due, whatever the bytes are

@@ -1,22 +1,31 @@
--- What a read tells of the stores, and where its bytes lie.
-use Rattle.std.specs.Prelude.{◌≡◌, ◌+◌, ℕ, List, []}
+-- What a read tells of the stores, and why its bytes were not shown.
+use Rattle.std.specs.Prelude.{◌≡◌, ◌⊎◌, ℕ, Bool, List, []}
+use Rattle.wtf_base.specs.declared.fault.Fault.{Fault}
+use Rattle.wtf_base.specs.declared.slice.Slice.{Slice}
 use Rattle.wtf_dev.specs.Store.{StoreKind}
 use Rattle.wtf_overlay.specs.Origin.{Place}
-use Rattle.wtf_replica.specs.Bytes.{byte_at}
-use Rattle.wtf_meta.specs.declared.session.Handle.{Handle}
+use Rattle.wtf_meta.specs.Lists.{TellLists}
 use Rattle.wtf_meta.specs.Maps.{Map}
-use Rattle.wtf_meta.specs.Bytes.{MapBytes}
-use Rattle.wtf_meta.specs.Contents.{is_told}
-use Rattle.wtf_meta.specs.Files.{file_origin}
-use Rattle.wtf_meta.specs.FileEdits.{file_of}
+use Rattle.wtf_meta.specs.Bytes.{MapBytes, ListSlices}
+use Rattle.wtf_meta.specs.Contents.{is_told, is_listed, lists_in}
+use Rattle.wtf_meta.specs.Files.{FileView}
 use Rattle.wtf_meta.specs.Calls.{Did, TellFacts}
-pub use Rattle.wtf_steps.specs.Faults.{LacksBytes}
+use Rattle.wtf_region.specs.declared.dev.Dev.{Dev}
+use Rattle.wtf_region.specs.Devs.{told_in}
+use Rattle.wtf_region.specs.Reads.{TellsFacts, AreInsideLists, LacksRegion}
+use Rattle.wtf_steps.specs.Faults.{LacksBytes, ShowFile}
 
--- a call stored no byte, and stores that told each byte of the map tell what it read
-pub record TellsRead {S : Type 0} (kind : StoreKind S) (old new : List S) (b : Map) (did : Did) : Type 0 where
+-- A call stored no byte. The lists that it read are of bases of the map, and are those of their slices, if these were told and
+-- not punched since the cache was true; and where the map's bytes were told, with its lists, the stores tell what it read.
+pub record TellsRead {S : Type 0} (kind : StoreKind S) (old new : Dev S) (b : Map) (did : Did) : Type 0 where
   pub stored : did.stored ≡ []
-  pub told : MapBytes (is_told (byte_at kind old)) b → TellFacts (byte_at kind new) did.facts
+  pub slices : (P : List Place → Bool) (Q : Slice → Bool) → MapBytes P Q b → ListSlices P Q did.lists
+  pub inside : AreInsideLists kind new did.lists
+  pub lists : TellsFacts kind old new did.lists
+  pub told : MapBytes (is_told (told_in kind old)) (is_listed old.settings.region (told_in kind old)) b
+      → TellLists (lists_in new.settings.region (told_in kind new)) did.lists
+      → TellFacts (told_in kind new) did.facts
 
--- where the bytes lie from a handle's offset on
-abbrev pub read_origin : ℕ → Map → Handle → ℕ → List Place
-read_origin b w h i = file_origin b (file_of h.inode w) (h.off + i)
+-- n bytes of a file were not shown: a list of a base was not read, or bytes of the pieces were not
+abbrev pub LacksRead : {S : Type 0} → StoreKind S → (old new : Dev S) → FileView → (off n : ℕ) → Fault → Type 0
+LacksRead kind old new file off n why = LacksRegion kind old new file off n why ⊎ LacksBytes kind old new n (ShowFile old.settings.region file off n) why

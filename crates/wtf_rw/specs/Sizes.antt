@@ -1,15 +1,16 @@
 -- Changes of files that bring no byte.
 use Rattle.std.specs.Prelude.{◌≡◌, ℕ, ◌+◌, ◌-◌, ◌*◌, ◌/◌, ◌%◌, min, Bool, List, [], ◌∷◌}
 use Rattle.wtf_base.specs.declared.ids.InodeId.{InodeId}
+use Rattle.wtf_base.specs.declared.slice.Slice.{Slice}
 use Rattle.wtf_overlay.specs.Origin.{Place}
 use Rattle.wtf_model.specs.declared.limits.TheConstants.{MAX_REGIONS}
 use Rattle.wtf_meta.specs.FileEdits.{FileEdit, SetLast, Clip, CutAbove, ZeroWithin, edits_of}
 use Rattle.wtf_meta.specs.Bytes.{EditsBytes}
 use Rattle.wtf_meta.specs.Ranges.{Truncates, Clears, Punches}
 
--- the changes name no byte
+-- the changes name no byte, and no base
 abbrev pub NamesNothing : InodeId → List FileEdit → Type 0
-NamesNothing i ds = (P : List Place → Bool) → EditsBytes P (edits_of i ds)
+NamesNothing i ds = (P : List Place → Bool) (Q : Slice → Bool) → EditsBytes P Q (edits_of i ds)
 
 -- the changes that make a file n bytes long, where a region has b: its last region, that region's end, and a cut of all
 -- regions above

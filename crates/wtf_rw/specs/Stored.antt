@@ -44,9 +44,11 @@ abbrev pub ArePieces : Option Slice → List Piece → Type 0
 ArePieces None ps = ps ≡ []
 ArePieces (Some s) ps = IsPieceOf s ps
 
--- a call stored its own slice and no other byte, and the stores, if they tell their content, tell what it read and stored
+-- a call stored its own slice and no other byte, and read no list of a base; the stores, if they tell their content, tell what
+-- it read and stored
 pub record TellsOwn {S : Type 0} (kind : StoreKind S) (old new : List S) (own : Option Slice) (did : Did) : Type 0 where
   pub stored : ArePieces own did.stored
+  pub lists : did.lists ≡ []
   pub told : TellsAll kind old → TellFacts (byte_at kind new) did.facts
 
 -- the slice that a call stored of the bytes at a place, if it did; else nothing was lent for writing
@@ -73,6 +75,7 @@ TellSlice told (Some s) bytes = TellBytes told (len_of s) (part_origin (Held s))
 -- own, and stores that tell them tell what it brought
 pub record BringsSlice (s : Option Slice) (bytes : List ℕ) (did : Did) : Type 0 where
   pub named : (P : List Place → Bool) → SliceBytes P s → PiecesBytes P did.stored
+  pub lists : did.lists ≡ []
   pub told : (told : Told) → TellSlice told s bytes → TellFacts told did.facts
 
 -- On each map that agrees with b on the keys, and that these changes fit, the answer is that of the definitions' call; a

@@ -70,7 +70,7 @@ pub(crate) fn append_fresh<S: SliceStore>(
     f: u8,
     bytes: &[u8],
 ) -> Result<Done, Fault>
-    requires sound { IsSoundDev dev.old }
+    requires sound { IsSoundDev S.kind dev.old }
     requires pinned { IsTrue (is_pinned kv.now at.old.base) }
     requires label { f < MAX_HANDLES }
     requires few { length bytes.now ≤ MAX_WRITTEN }

@@ -41,7 +41,7 @@ fn run<S: SliceStore>(
     s: &mut Session,
     op: &RwOp<'_>,
 ) -> Result<Done, Fault>
-    requires sound { IsSoundDev dev.old }
+    requires sound { IsSoundDev S.kind dev.old }
     requires pinned { IsTrue (is_pinned kv.now at.old.base) }
     requires form { IsFormRw op.now }
     requires inside { IsStoredInside S.kind (stores dev.old) dev.old.settings (seen kv.now at.old) }
@@ -49,8 +49,8 @@ fn run<S: SliceStore>(
         rw_keys dev.old.settings.region (seen kv.now at.old) s.old op.now) }
     ensures step { IfOk result (λ d. IsRwStep (record {
       kind = S.kind;
-      before = stores dev.old;
-      after = stores dev.new;
+      before = dev.old;
+      after = dev.new;
       map = seen kv.now at.old;
     }) dev.old.settings.region (in_hand at.old s.old) (in_hand at.new s.new)
         op.now d.own d.answer) }
@@ -135,8 +135,9 @@ fn run<S: SliceStore>(
 
 /// A call on the bytes of a file or on a handle. It answers as the definitions' call, records the
 /// keys that its answer rests on, and makes its changes. `Write` where too few servers took the
-/// bytes that it was to store, and `Read` where no copy of bytes that it was to show could be read.
-/// A fault leaves session and attempt as they were.
+/// bytes that it was to store, and `Read` where no copy of bytes that it was to show could be read,
+/// or of the list of a base under them; `Damaged` where what was read of that is no list, or one
+/// that names bytes outside the stores. A fault leaves session and attempt as they were.
 pub fn call<S: SliceStore>(
     alloc: Global,
     dev: &mut Dev<'_, S>,
@@ -145,7 +146,7 @@ pub fn call<S: SliceStore>(
     s: &mut Session,
     op: &RwOp<'_>,
 ) -> Result<Done, Fault>
-    requires sound { IsSoundDev dev.old }
+    requires sound { IsSoundDev S.kind dev.old }
     requires pinned { IsTrue (is_pinned kv.now at.old.base) }
     requires form { IsFormRw op.now }
     requires inside { IsStoredInside S.kind (stores dev.old) dev.old.settings (seen kv.now at.old) }
@@ -153,8 +154,8 @@ pub fn call<S: SliceStore>(
         rw_keys dev.old.settings.region (seen kv.now at.old) s.old op.now) }
     ensures step { IfOk result (λ d. IsRwStep (record {
       kind = S.kind;
-      before = stores dev.old;
-      after = stores dev.new;
+      before = dev.old;
+      after = dev.new;
       map = seen kv.now at.old;
     }) dev.old.settings.region (in_hand at.old s.old) (in_hand at.new s.new)
         op.now d.own d.answer) }

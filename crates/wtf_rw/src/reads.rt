@@ -7,14 +7,15 @@ ghost use Rattle.wtf_model.specs.declared.limits.TheConstants.{MAX_HANDLES, MAX_
 ghost use Rattle.wtf_model.specs.Steps.{IsLogged};
 ghost use Rattle.wtf_meta.specs.declared.session.Handle as handle;
 ghost use Rattle.wtf_meta.specs.Maps.{seen};
+ghost use Rattle.wtf_meta.specs.FileEdits.{file_of};
 ghost use Rattle.wtf_meta.specs.Sessions.{handle_in};
 ghost use Rattle.wtf_meta.specs.Calls.{Caller};
 ghost use Rattle.wtf_region.specs.Devs.{IsSoundDev, GoesOn, stores, between};
 ghost use Rattle.wtf_region.specs.Inside.{IsStoredInside};
 ghost use Rattle.wtf_region.specs.Showing.{OnlyRead};
 ghost use Rattle.wtf_steps.specs.Recorded.{read_keys, found_in};
-ghost use Rattle.wtf_rw.specs.Reads.{TellsRead, read_origin};
-ghost use Rattle.wtf_steps.specs.Faults.{LacksBytes, MayFault};
+ghost use Rattle.wtf_rw.specs.Reads.{TellsRead, LacksRead};
+ghost use Rattle.wtf_steps.specs.Faults.{MayFault};
 ghost use Rattle.wtf_steps.specs.Steps.{in_hand, IsStepWith, IsRefusal};
 
 use std::alloc::Global;
@@ -30,8 +31,9 @@ use wtf_values::{Key, Value};
 
 /// Shows the next `n` bytes of the file of a handle, or those that are left; its offset grows by
 /// their number. It is refused for a handle that is not open; then nothing changes. `Read` where no
-/// copy of some of the bytes could be read. A fault leaves the session, and may leave the attempt
-/// grown.
+/// copy of some of the bytes could be read, or of the list of a base under them, and `Damaged` where
+/// what was read of that is no list, or one that names bytes outside the stores. A fault leaves the
+/// session, and may leave the attempt grown.
 pub(crate) fn read<S: SliceStore>(
     alloc: Global,
     dev: &mut Dev<'_, S>,
@@ -41,7 +43,7 @@ pub(crate) fn read<S: SliceStore>(
     f: u8,
     n: u64,
 ) -> Result<Answer, Fault>
-    requires sound { IsSoundDev dev.old }
+    requires sound { IsSoundDev S.kind dev.old }
     requires pinned { IsTrue (is_pinned kv.now at.old.base) }
     requires inside { IsStoredInside S.kind (stores dev.old) dev.old.settings (seen kv.now at.old) }
     requires label { f < MAX_HANDLES }
@@ -49,16 +51,16 @@ pub(crate) fn read<S: SliceStore>(
     ensures keys { OnOk result (at.new.reads ≡ at.old.reads ++ read_keys dev.old.settings.region
         (seen kv.now at.old) (handle_in s.old f) n) }
     ensures step { IfOk result (λ a. (x : Caller) → x.size ≡ dev.old.settings.region →
-        IsStepWith (TellsRead S.kind (stores dev.old) (stores dev.new) (seen kv.now at.old)) x
+        IsStepWith (TellsRead S.kind dev.old dev.new (seen kv.now at.old)) x
         (seen kv.now at.old) (in_hand at.old s.old) (in_hand at.new s.new) (Op.Read f n) a) }
     ensures logged { IfOk result (λ a. IsLogged a) }
     ensures same { OnOk result (at.new.changes ≡ at.old.changes) }
     ensures refused { IfOk result (λ a. IsRefusal a →
         (dev.new ≡ dev.old) × (at.new.changes ≡ at.old.changes) × (s.new ≡ s.old)) }
     ensures fault { IfErr result (λ why. (why ≡ Fault.Memory) ⊎ ((h : handle.Handle) ×
-        (handle_in s.old f ≡ Some h) × LacksBytes S.kind dev.old dev.new
-        (found_in dev.old.settings.region (seen kv.now at.old) h n)
-        (read_origin dev.old.settings.region (seen kv.now at.old) h) why)) }
+        (handle_in s.old f ≡ Some h) × LacksRead S.kind dev.old dev.new
+        (file_of h.inode (seen kv.now at.old)) h.off
+        (found_in dev.old.settings.region (seen kv.now at.old) h n) why)) }
     ensures due { IfErr result
         (MayFault dev.old.settings (seen kv.now at.old) s.old (Op.Read f n)) }
     ensures err { OnErr result (s.new ≡ s.old) }

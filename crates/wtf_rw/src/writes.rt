@@ -82,7 +82,7 @@ pub(crate) fn write_fresh<S: SliceStore>(
     f: u8,
     bytes: &[u8],
 ) -> Result<Done, Fault>
-    requires sound { IsSoundDev dev.old }
+    requires sound { IsSoundDev S.kind dev.old }
     requires label { f < MAX_HANDLES }
     requires few { length bytes.now ≤ MAX_WRITTEN }
     ensures keys { OnOk result (at.new.reads ≡ at.old.reads) }

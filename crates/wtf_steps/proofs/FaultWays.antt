@@ -1,23 +1,35 @@
--- Bytes that were not shown: some were due, and the server that failed is one of the settings.
-use Rattle.std.proofs.Common.{◌≡◌, ℕ, zero, suc, ◌+◌, ◌-◌, ◌<◌, ◌≤◌, nat_eq, nat_le, Bool, true, false, List, [], ◌∷◌, ◌++◌, length, map, if◌then◌else◌, refl, sym, ap, ◌∙◌, subst, arith}
+-- Bytes that were not shown, and lists that were not read: some bytes were due, and the server that failed is one of the settings.
+use Rattle.std.proofs.Common.{◌≡◌, ℕ, zero, suc, ◌+◌, ◌-◌, ◌<◌, ◌≤◌, nat_eq, nat_le, Bool, true, false, List, [], ◌∷◌, ◌++◌, length, map, if◌then◌else◌, Option, None, Some, refl, sym, ap, ◌∙◌, subst, arith}
+use Rattle.std.specs.Prelude.{⊤}
 use Rattle.std.specs.List.{All}
 use Rattle.std.proofs.lemmas.Bool.{and_parts}
 use Rattle.std.proofs.lemmas.List.{length-append}
 use Rattle.std.proofs.lemmas.List.Elements.{All-nil, All-cons, All-head, All-tail}
+use Rattle.std.proofs.lemmas.Option.{slice_get_within, get_or_from_slice_get}
+use Rattle.wtf_base.specs.declared.fault.Fault.{Fault}
+use Rattle.wtf_base.specs.declared.fault.Fault.TheVariants as fault
 use Rattle.wtf_base.specs.declared.pointer.Pointer.{Pointer}
 use Rattle.wtf_base.specs.declared.settings.Settings.{Settings}
+use Rattle.wtf_base.specs.declared.slice.Slice.{Slice}
 use Rattle.wtf_base.specs.Slices.{pointers_of}
 use Rattle.wtf_base.specs.Places.{place_in}
-use Rattle.wtf_dev.specs.Store.{StoreKind}
+use Rattle.wtf_dev.specs.Store.{StoreKind, KindLaws}
 use Rattle.wtf_overlay.specs.declared.part.Part.{Part}
 use Rattle.wtf_overlay.specs.declared.part.Part.TheVariants.{Held}
 use Rattle.wtf_overlay.specs.declared.part.Piece.{Piece}
 use Rattle.wtf_replica.specs.Faults.{last_server}
 use Rattle.wtf_replica.specs.Spans.{Span}
-use Rattle.wtf_meta.specs.Bytes.{PartBytes, PiecesBytes}
+use Rattle.wtf_values.specs.declared.region.RegionValue.{RegionValue}
+use Rattle.wtf_values.specs.declared.region.Spill.{Spill}
+use Rattle.wtf_meta.specs.Bytes.{PartBytes, PiecesBytes, SliceBytes, BaseBytes, MaybeBytes, FileBytes, any_slice}
+use Rattle.wtf_meta.specs.Files.{FileView}
+use Rattle.wtf_region.specs.declared.dev.Dev.{Dev}
+use Rattle.wtf_region.specs.Devs.{IsSoundDev, stores, inside_of}
 use Rattle.wtf_region.specs.Inside.{is_place_inside, is_inside}
+use Rattle.wtf_region.specs.Reads.{IsSliceFault, IsBaseFault, IsRegionFault, LacksRegion}
 use Rattle.wtf_region.specs.Showing.{LacksPiece, pieces_in}
 use Rattle.wtf_region.proofs.InsideLaws.{place_from}
+use Rattle.wtf_region.proofs.ListReads.{some_bytes, file_later}
 
 -- of pieces that all are so, those that have some of the bytes are
 if_All : (P : Piece → Type 0) (c : Bool) (xs ys : List Piece) → All P xs → All P ys → All P (if c then xs else ys)
@@ -69,3 +81,49 @@ lacks_known kind t shelf settings n k ps enough named lacks =
     let held : PartBytes (is_inside kind shelf settings) lacks.piece.len (Held slice) = subst (λ (q : Part). PartBytes (is_inside kind shelf settings) lacks.piece.len q) lacks.lacks.held part_named in
     let known = servers_known kind shelf settings 0 (pointers_of slice) enough (held 0 lacks.piece.positive) in
     subst (λ (j : ℕ). j < settings.servers) lacks.lacks.out.last (last_known settings.servers 0 (pointers_of slice) (omega (arith, settings.limits)) known)
+
+-- a fault of one of n servers, or of the memory
+abbrev pub IsOfServers : ℕ → Fault → Type 0
+IsOfServers n (fault.Read k) = k.0 < n
+IsOfServers n (fault.Damaged k) = k.0 < n
+IsOfServers n fault.Memory = ⊤
+IsOfServers n other = ⊥
+
+-- the server of which the list of a slice was not read is of the settings
+pub slice_fault_known : {S : Type 0} (kind : StoreKind S) (old new : Dev S) (s : Slice) (why : Fault) → IsSoundDev kind old → SliceBytes (inside_of kind old) s
+    → IsSliceFault kind old new s why
+    → IsOfServers old.settings.servers why
+slice_fault_known kind old new s (fault.Read k) sound inside cause =
+    let known = servers_known kind (stores old) old.settings 0 (pointers_of s) sound.shelf (inside 0 (some_bytes s)) in
+    subst (λ (j : ℕ). j < old.settings.servers) cause.out.last (last_known old.settings.servers 0 (pointers_of s) (omega (arith, old.settings.limits)) known)
+slice_fault_known kind old new s (fault.Damaged k) sound inside cause =
+    let known = servers_known kind (stores old) old.settings 0 (pointers_of s) sound.shelf (inside 0 (some_bytes s)) in
+    let read = cause.read in
+    subst (λ (j : ℕ). j < old.settings.servers) read.server
+    (subst (λ (p : Pointer). p.server.0 < old.settings.servers) (get_or_from_slice_get (pointers_of s) read.copy read.pointer read.pointer read.is_copy)
+    (known read.copy read.pointer (slice_get_within (pointers_of s) read.copy read.pointer read.is_copy)))
+slice_fault_known kind old new s fault.Memory sound inside cause = tt
+slice_fault_known kind old new s fault.Write sound inside cause = absurd cause
+slice_fault_known kind old new s (fault.Punch k) sound inside cause = absurd cause
+
+base_fault_known : {S : Type 0} (kind : StoreKind S) (old new : Dev S) (base : Option Spill) (why : Fault) → IsSoundDev kind old
+    → BaseBytes (inside_of kind old) any_slice base → IsBaseFault kind old new base why
+    → IsOfServers old.settings.servers why
+base_fault_known kind old new None why sound inside cause = subst (IsOfServers old.settings.servers) (sym cause) tt
+base_fault_known kind old new (Some s) why sound inside cause = slice_fault_known kind old new s.slice why sound inside.0 cause
+
+-- that of a region
+pub region_fault_known : {S : Type 0} (kind : StoreKind S) (old new : Dev S) (now : Option RegionValue) (why : Fault) → IsSoundDev kind old
+    → MaybeBytes (inside_of kind old) any_slice now
+    → IsRegionFault kind old new now why → IsOfServers old.settings.servers why
+region_fault_known kind old new None why sound inside cause = subst (IsOfServers old.settings.servers) (sym cause) tt
+region_fault_known kind old new (Some v) why sound inside cause = base_fault_known kind old new v.base why sound inside.base cause
+
+-- and that of a file
+pub file_fault_known : {S : Type 0} {kind : StoreKind S} → KindLaws kind → (old new : Dev S) (file : FileView) (off n : ℕ) (why : Fault) → IsSoundDev kind old
+    → FileBytes (inside_of kind old) any_slice file
+    → LacksRegion kind old new file off n why → IsOfServers old.settings.servers why
+file_fault_known {kind = kind} laws old new file off n why sound inside lacks =
+    subst (λ (st : Settings). IsOfServers st.servers why) lacks.goes.settings
+    (region_fault_known kind lacks.mid new (file.region lacks.region) why lacks.goes.sound
+    (file_later laws sound lacks.goes file inside lacks.region) lacks.cause)

@@ -22,7 +22,7 @@ use Rattle.wtf_values.proofs.KeyLaws.{at_itself, between_own}
 use Rattle.wtf_values.proofs.OutcomeLaws.{fits-missing, fits-region}
 use Rattle.wtf_meta.specs.Maps.{Map, AllFit}
 use Rattle.wtf_meta.specs.Files.{FileView}
-use Rattle.wtf_meta.specs.FileEdits.{region_of, file_of, IsRegion, FileEdit, Push, PushRel, Clip, ZeroWithin, CutAbove, RaiseLast, SetLast, LAST_REGION, edit_of, edits_of, put_region, lies_above, fits_edit, after_edit, all_fit}
+use Rattle.wtf_meta.specs.FileEdits.{region_of, file_of, IsRegion, FileEdit, Push, PushRel, Clip, ZeroWithin, CutAbove, RaiseLast, SetLast, Put, LAST_REGION, edit_of, edits_of, put_region, lies_above, fits_edit, after_edit, all_fit}
 use Rattle.wtf_meta.proofs.Steps.{step, made, Does, does_push, does_clip, does_zero, does_rel}
 use Rattle.wtf_meta.proofs.Frame.{delta_elsewhere}
 use Rattle.wtf_meta.proofs.Fitting.{fits_here, AllFit-more}
@@ -94,6 +94,19 @@ region_tells i r w v d f does keeps tells q is = elim (cases_eq q r) [
       ap region_of here ∙ tells q (subst IsRegion here is) ∙ sym (cond-false (nat_eq q r) (f (v.region r)) (v.region q) (ne_eqb q r differ))
 ]
 
+-- a region that is set is one, whatever was there
+put_tells : (i : InodeId) (r : ℕ) (w : Map) (v : FileView) (x : RegionValue) → Tells i w v → Tells i (step (edit_of i (Put r x)) w) (put_region v r (Some x))
+put_tells i r w v x tells q is = elim (cases_eq q r) [
+  | inl e ↦
+      let here : step (edit_of i (Put r x)) w (Region i q) ≡ Some (value.Region x) =
+      ap (λ k. step (edit_of i (Put r x)) w (Region i k)) e ∙ at_region i r w (delta.Put (value.Region x)) in
+      ap region_of here ∙ sym (cond-true (nat_eq q r) (Some x) (v.region q) (eq-eqb q r e))
+  | inr differ ↦
+      let here : step (edit_of i (Put r x)) w (Region i q) ≡ w (Region i q) =
+      delta_elsewhere (Region i r) (Region i q) (delta.Put (value.Region x)) w (apart i r q differ) in
+      ap region_of here ∙ tells q (subst IsRegion here is) ∙ sym (cond-false (nat_eq q r) (Some x) (v.region q) (ne_eqb q r differ))
+]
+
 inode_apart : (i : InodeId) (q : ℕ) → Inode i ≢ Region i q
 inode_apart i q e = absurd (cc)
 
@@ -123,6 +136,7 @@ one_tells i (CutAbove r) w v tells = λ q is.
     cut_value (is_between key_cmp (Region i (r + 1)) (Region i LAST_REGION) (Region i q)) (w (Region i q)) (v.region q) is (tells q)
     ∙ ap (λ (t : Bool). if t then None else v.region q) (above_is i r q)
 one_tells i (RaiseLast r) w v tells = last_tells i w v (after_edit (RaiseLast r) v) (delta.RaiseLast r) refl tells
+one_tells i (Put r x) w v tells = put_tells i r w v x tells
 one_tells i (SetLast r) w v tells = last_tells i w v (after_edit (SetLast r) v) (delta.SetLast r) refl tells
 
 -- pieces fit on a value of another kind too
@@ -179,6 +193,7 @@ one_fits i (Clip r end) w v tells h = fits_clip end (w (Region i r))
 one_fits i (ZeroWithin r from upto) w v tells h = fits_zero from upto (w (Region i r))
 one_fits i (CutAbove r) w v tells h = refl
 one_fits i (RaiseLast r) w v tells h = fits_raise r (w (Inode i))
+one_fits i (Put r x) w v tells h = refl
 one_fits i (SetLast r) w v tells h = fits_set r (w (Inode i))
 
 all_from : (i : InodeId) (ds : List FileEdit) (w : Map) (v : FileView) → Tells i w v → all_fit ds v ≡ true → AllFit (edits_of i ds) w

@@ -10,6 +10,10 @@ use Rattle.wtf_model.specs.Session.{Session}
 use Rattle.wtf_model.specs.Call.{call}
 use Rattle.wtf_model.specs.Lawful.{MayFail}
 use Rattle.wtf_meta.specs.Maps.{Map}
+use Rattle.wtf_meta.specs.Bytes.{PiecesBytes}
+use Rattle.wtf_meta.specs.Lists.{ListFact}
+use Rattle.wtf_meta.specs.Files.{FileView}
+use Rattle.wtf_meta.specs.Reads.{ReadsFile}
 use Rattle.wtf_meta.specs.Contents.{Told}
 use Rattle.wtf_meta.specs.Trees.{Stands}
 use Rattle.wtf_meta.specs.Sessions.{SessionView, Holds}
@@ -18,7 +22,7 @@ use Rattle.wtf_dev.specs.Store.{StoreKind}
 use Rattle.wtf_overlay.specs.Origin.{Place, Plans}
 use Rattle.wtf_overlay.specs.declared.part.Piece.{Piece}
 use Rattle.wtf_region.specs.declared.dev.Dev.{Dev}
-use Rattle.wtf_region.specs.Devs.{GoesOn, between}
+use Rattle.wtf_region.specs.Devs.{GoesOn, between, inside_of}
 use Rattle.wtf_region.specs.Showing.{IsShowFault, pieces_in}
 
 -- the machine allows the fault's answer where d is due; memory may be short at any time
@@ -35,10 +39,19 @@ MayFault settings w s o why =
     (x : Caller) (told : Told) (S : Session) → x.size ≡ settings.region → Stands x.size told x.tx x.calls w S.tree → Holds told w s S
     → MayStandFor settings.servers o (call (cap_for x) S o).answer why
 
--- n bytes that f tells were not shown, for a fault
-pub record LacksBytes {S : Type 0} (kind : StoreKind S) (old new : Dev S) (n : ℕ) (f : ℕ → List Place) (why : Fault) : Type 0 where
+-- n bytes of pieces of which Are holds, and which lie inside the stores, were not shown, for a fault
+pub record LacksBytes {S : Type 0} (kind : StoreKind S) (old new : Dev S) (n : ℕ) (Are : List Piece → Type 0) (why : Fault) : Type 0 where
   pub mid : Dev S
   pub goes : GoesOn kind old mid []
   pub pieces : List Piece
-  pub plans : Plans pieces n f
+  pub are : Are pieces
+  pub inside : PiecesBytes (inside_of kind mid) pieces
   pub fault : IsShowFault kind (between mid new) (pieces_in 0 n pieces) why
+
+-- the pieces show n bytes with the places that f tells
+abbrev pub ShowPlaces : ℕ → (ℕ → List Place) → List Piece → Type 0
+ShowPlaces n f pieces = Plans pieces n f
+
+-- the pieces were read of a file, with some lists of its bases
+abbrev pub ShowFile : ℕ → FileView → (off n : ℕ) → List Piece → Type 0
+ShowFile b v off n pieces = (lists : List ListFact) × ReadsFile b v off n lists pieces

@@ -26,10 +26,11 @@ pub record IsStepWith (F : Did → Type 0) (x : Caller) (b : Map) (old new : InH
   pub is_call : IsCall x b old.session new.session did o a
   pub more : F did
 
--- a call that read no byte of the stores and stored none
+-- a call that read no byte of the stores and no list of a base, and stored nothing
 pub record NeedsNoBytes (did : Did) : Type 0 where
   pub facts : did.facts ≡ []
   pub stored : did.stored ≡ []
+  pub lists : did.lists ≡ []
 
 -- the file of a handle, and the offset
 abbrev pub spot_of : Handle → Spot

@@ -1,5 +1,6 @@
-use Rattle.std.proofs.Common.{ap}
-use Rattle.wtf_occ.specs.Attempts.{Attempted}
+use Rattle.std.proofs.Common.{[], sym, ap, subst}
+use Rattle.wtf_occ.specs.Attempts.{Attempted, Grows}
+use Rattle.wtf_occ.proofs.AttemptLaws.{GrowsBy-nothing, Grows-by}
 use Rattle.wtf_values.specs.declared.key.Key.{Key}
 use Rattle.wtf_values.specs.declared.value.Delta.{Delta}
 use Rattle.wtf_meta.specs.Maps.{seen}
@@ -10,7 +11,7 @@ use Rattle.wtf_rw.proofs.calls.call.Goals as goal
 pub returns-in-Ok-clause-inside : goal.returns-in-Ok-clause-inside
 returns-in-Ok-clause-inside g c whole given hand =
     keeps_inside g.met.S.SliceStore.laws c.args.dev.now c.run.new.dev c.args.kv.now c.args.at.now c.run.new.at c.args.s.now c.run.new.s c.args.op.now c.in-Ok.done.own c.in-Ok.done.answer
-    c.requires.sound.shelf c.in-Ok.ensures.dev.each c.in-Ok.ensures.step c.in-Ok.ensures.own whole given (c.requires.inside, hand)
+    c.requires.sound.shelf c.in-Ok.ensures.dev c.in-Ok.ensures.step c.in-Ok.ensures.own whole given (c.requires.inside, hand)
 
 pub returns-in-Err-clause-inside : goal.returns-in-Err-clause-inside
 returns-in-Err-clause-inside g c whole given hand =
@@ -18,3 +19,9 @@ returns-in-Err-clause-inside g c whole given hand =
     let back = c.rewind.ensures.back c.args.at.now c.in-Err.ensures.grows c.mark-mark.ensures in
     stays_inside g.met.S.SliceStore.laws c.args.dev.now c.run.new.dev (seen kv c.args.at.now) (seen kv c.rewind.new.self) c.args.s.now c.run.new.s c.requires.sound.shelf c.in-Err.ensures.dev.each
     (ap (λ (at : Attempted Key Delta). seen kv at) back) c.in-Err.ensures.err (c.requires.inside, hand)
+
+pub returns-in-Err-clause-grows : goal.returns-in-Err-clause-grows
+returns-in-Err-clause-grows g c =
+    let was = c.args.at.now in
+    subst (λ (at : Attempted Key Delta). Grows was at) (sym (c.rewind.ensures.back was c.in-Err.ensures.grows c.mark-mark.ensures))
+    (Grows-by was was [] [] (GrowsBy-nothing was))

@@ -20,7 +20,7 @@ returns-in-Ok-clause-step g c =
     let b = seen c.args.kv.now c.args.at.now in
     let old = in_hand c.args.at.now c.args.s.now in
     let new = in_hand c.open.new.at c.open.new.s in
-    as_named (record { kind = g.S.SliceStore.kind; before = stores c.args.dev.now; after = stores c.args.dev.now; map = b }) c.args.dev.now.settings.region old new
+    as_named (record { kind = g.S.SliceStore.kind; before = c.args.dev.now; after = c.args.dev.now; map = b }) c.args.dev.now.settings.region old new
     c.args.op.now (rw.Open c.in-Open.f c.in-Open.p) c.only.result.own None c.only.result.answer c.in-Ok.answer c.in-Open.is c.only.ensures.own c.only.ensures.answer
     (λ x bytes size writes whole. plain x b old new (op.Open c.in-Open.f c.in-Open.p.now) c.in-Ok.answer (c.in-Ok.ensures.step x))
 
@@ -29,7 +29,7 @@ returns-in-Close-clause-step g c =
     let b = seen c.args.kv.now c.args.at.now in
     let old = in_hand c.args.at.now c.args.s.now in
     let new = in_hand c.args.at.now c.close-answer.new.s in
-    as_named (record { kind = g.S.SliceStore.kind; before = stores c.args.dev.now; after = stores c.args.dev.now; map = b }) c.args.dev.now.settings.region old new
+    as_named (record { kind = g.S.SliceStore.kind; before = c.args.dev.now; after = c.args.dev.now; map = b }) c.args.dev.now.settings.region old new
     c.args.op.now (rw.Close c.in-Close.f) c.only-in-Close.result.own None c.only-in-Close.result.answer c.close-answer.result c.in-Close.is c.only-in-Close.ensures.own c.only-in-Close.ensures.answer
     (λ x bytes size writes whole. plain x b old new (op.Close c.in-Close.f) c.close-answer.result (c.close-answer.ensures.step x b old refl))
 
@@ -38,7 +38,7 @@ returns-in-Ok-seek-clause-step g c =
     let b = seen c.args.kv.now c.args.at.now in
     let old = in_hand c.args.at.now c.args.s.now in
     let new = in_hand c.seek.new.at c.seek.new.s in
-    as_named (record { kind = g.S.SliceStore.kind; before = stores c.args.dev.now; after = stores c.args.dev.now; map = b }) c.args.dev.now.settings.region old new
+    as_named (record { kind = g.S.SliceStore.kind; before = c.args.dev.now; after = c.args.dev.now; map = b }) c.args.dev.now.settings.region old new
     c.args.op.now (rw.Seek c.in-Seek.f c.in-Seek.place) c.only-in-Ok-seek.result.own None c.only-in-Ok-seek.result.answer c.in-Ok-seek.answer c.in-Seek.is c.only-in-Ok-seek.ensures.own c.only-in-Ok-seek.ensures.answer
     (λ x bytes size writes whole. plain x b old new (op.Seek c.in-Seek.f c.in-Seek.place) c.in-Ok-seek.answer (c.in-Ok-seek.ensures.step x size))
 
@@ -47,7 +47,7 @@ returns-in-Tell-clause-step g c =
     let b = seen c.args.kv.now c.args.at.now in
     let old = in_hand c.args.at.now c.args.s.now in
     let new = in_hand c.args.at.now c.args.s.now in
-    as_named (record { kind = g.S.SliceStore.kind; before = stores c.args.dev.now; after = stores c.args.dev.now; map = b }) c.args.dev.now.settings.region old new
+    as_named (record { kind = g.S.SliceStore.kind; before = c.args.dev.now; after = c.args.dev.now; map = b }) c.args.dev.now.settings.region old new
     c.args.op.now (rw.Tell c.in-Tell.f) c.only-in-Tell.result.own None c.only-in-Tell.result.answer c.tell-answer.result c.in-Tell.is c.only-in-Tell.ensures.own c.only-in-Tell.ensures.answer
     (λ x bytes size writes whole. plain x b old new (op.Tell c.in-Tell.f) c.tell-answer.result (c.tell-answer.ensures.step x b old refl))
 
@@ -56,16 +56,19 @@ returns-in-Ok-read-clause-step g c =
     let b = seen c.args.kv.now c.args.at.now in
     let old = in_hand c.args.at.now c.args.s.now in
     let new = in_hand c.read.new.at c.read.new.s in
-    as_named (record { kind = g.S.SliceStore.kind; before = stores c.args.dev.now; after = stores c.read.new.dev; map = b }) c.args.dev.now.settings.region old new
+    as_named (record { kind = g.S.SliceStore.kind; before = c.args.dev.now; after = c.read.new.dev; map = b }) c.args.dev.now.settings.region old new
     c.args.op.now (rw.Read c.in-Read.f c.in-Read.n) c.only-in-Ok-read.result.own None c.only-in-Ok-read.result.answer c.in-Ok-read.answer c.in-Read.is c.only-in-Ok-read.ensures.own c.only-in-Ok-read.ensures.answer
-    (λ x bytes size writes whole. let F : Did → Type 0 = TellsRead g.S.SliceStore.kind (stores c.args.dev.now) (stores c.read.new.dev) b in weaker F (λ did. F did × (no_slice ≡ None)) x b old new (op.Read c.in-Read.f c.in-Read.n) c.in-Ok-read.answer (λ did reads. (reads, refl)) (c.in-Ok-read.ensures.step x size))
+    (λ x bytes size writes whole.
+    let F : Did → Type 0 = TellsRead g.S.SliceStore.kind c.args.dev.now c.read.new.dev b in
+    weaker F (λ did. F did × (no_slice ≡ None)) x b old new (op.Read c.in-Read.f c.in-Read.n) c.in-Ok-read.answer (λ did reads. (reads, refl))
+    (c.in-Ok-read.ensures.step x size))
 
 pub returns-in-Ok-write_fresh-clause-step : goal.returns-in-Ok-write_fresh-clause-step
 returns-in-Ok-write_fresh-clause-step g c =
     let b = seen c.args.kv.now c.args.at.now in
     let old = in_hand c.args.at.now c.args.s.now in
     let new = in_hand c.write_fresh.new.at c.write_fresh.new.s in
-    as_named (record { kind = g.S.SliceStore.kind; before = stores c.args.dev.now; after = stores c.write_fresh.new.dev; map = b }) c.args.dev.now.settings.region old new
+    as_named (record { kind = g.S.SliceStore.kind; before = c.args.dev.now; after = c.write_fresh.new.dev; map = b }) c.args.dev.now.settings.region old new
     c.args.op.now (rw.Write c.in-Write.f (Fresh c.in-Fresh.bytes)) c.in-Ok-write_fresh.done.own c.in-Ok-write_fresh.done.own c.in-Ok-write_fresh.done.answer c.in-Ok-write_fresh.done.answer (c.in-Write.is ∙ ap (rw.Write c.in-Write.f) c.in-Fresh.is) refl refl
     (λ x bytes size writes whole. subst (λ (l : List ℕ). IsStepWith (TellsOwn g.S.SliceStore.kind (stores c.args.dev.now) (stores c.write_fresh.new.dev) c.in-Ok-write_fresh.done.own) x b old new (op.Write c.in-Write.f l) c.in-Ok-write_fresh.done.answer) (sym writes) (c.in-Ok-write_fresh.ensures.step x b size))
 
@@ -74,7 +77,7 @@ returns-in-Ok-append_fresh-clause-step g c =
     let b = seen c.args.kv.now c.args.at.now in
     let old = in_hand c.args.at.now c.args.s.now in
     let new = in_hand c.append_fresh.new.at c.args.s.now in
-    as_named (record { kind = g.S.SliceStore.kind; before = stores c.args.dev.now; after = stores c.append_fresh.new.dev; map = b }) c.args.dev.now.settings.region old new
+    as_named (record { kind = g.S.SliceStore.kind; before = c.args.dev.now; after = c.append_fresh.new.dev; map = b }) c.args.dev.now.settings.region old new
     c.args.op.now (rw.Append c.in-Append.f (Fresh c.in-Fresh-data.bytes)) c.in-Ok-append_fresh.done.own c.in-Ok-append_fresh.done.own c.in-Ok-append_fresh.done.answer c.in-Ok-append_fresh.done.answer (c.in-Append.is ∙ ap (rw.Append c.in-Append.f) c.in-Fresh-data.is) refl refl
     (λ x bytes size writes whole. subst (λ (l : List ℕ). IsStepWith (TellsOwn g.S.SliceStore.kind (stores c.args.dev.now) (stores c.append_fresh.new.dev) c.in-Ok-append_fresh.done.own) x b old new (op.Append c.in-Append.f l) c.in-Ok-append_fresh.done.answer) (sym writes) (c.in-Ok-append_fresh.ensures.step x size))
 
@@ -83,7 +86,7 @@ returns-in-Ok-write_stored-clause-step g c =
     let b = seen c.args.kv.now c.args.at.now in
     let old = in_hand c.args.at.now c.args.s.now in
     let new = in_hand c.write_stored.new.at c.write_stored.new.s in
-    as_named (record { kind = g.S.SliceStore.kind; before = stores c.args.dev.now; after = stores c.args.dev.now; map = b }) c.args.dev.now.settings.region old new
+    as_named (record { kind = g.S.SliceStore.kind; before = c.args.dev.now; after = c.args.dev.now; map = b }) c.args.dev.now.settings.region old new
     c.args.op.now (rw.Write c.in-Write.f (Stored c.in-Stored.kept)) c.only-in-Ok-write_stored.result.own None c.only-in-Ok-write_stored.result.answer c.in-Ok-write_stored.answer (c.in-Write.is ∙ ap (rw.Write c.in-Write.f) c.in-Stored.is) c.only-in-Ok-write_stored.ensures.own c.only-in-Ok-write_stored.ensures.answer
     (λ x bytes size writes whole. let F : Did → Type 0 = BringsSlice c.in-Stored.kept.slice bytes in weaker F (λ did. F did × (no_slice ≡ None)) x b old new (op.Write c.in-Write.f bytes) c.in-Ok-write_stored.answer (λ did brings. (brings, refl)) (c.in-Ok-write_stored.ensures.step x b bytes size writes whole))
 
@@ -92,7 +95,7 @@ returns-in-Ok-append_stored-clause-step g c =
     let b = seen c.args.kv.now c.args.at.now in
     let old = in_hand c.args.at.now c.args.s.now in
     let new = in_hand c.append_stored.new.at c.args.s.now in
-    as_named (record { kind = g.S.SliceStore.kind; before = stores c.args.dev.now; after = stores c.args.dev.now; map = b }) c.args.dev.now.settings.region old new
+    as_named (record { kind = g.S.SliceStore.kind; before = c.args.dev.now; after = c.args.dev.now; map = b }) c.args.dev.now.settings.region old new
     c.args.op.now (rw.Append c.in-Append.f (Stored c.in-Stored-data.kept)) c.only-in-Ok-append_stored.result.own None c.only-in-Ok-append_stored.result.answer c.in-Ok-append_stored.answer (c.in-Append.is ∙ ap (rw.Append c.in-Append.f) c.in-Stored-data.is) c.only-in-Ok-append_stored.ensures.own c.only-in-Ok-append_stored.ensures.answer
     (λ x bytes size writes whole. let F : Did → Type 0 = BringsSlice c.in-Stored-data.kept.slice bytes in weaker F (λ did. F did × (no_slice ≡ None)) x b old new (op.Append c.in-Append.f bytes) c.in-Ok-append_stored.answer (λ did brings. (brings, refl)) (c.in-Ok-append_stored.ensures.step x bytes size writes whole))
 
@@ -101,7 +104,7 @@ returns-in-Ok-truncate-clause-step g c =
     let b = seen c.args.kv.now c.args.at.now in
     let old = in_hand c.args.at.now c.args.s.now in
     let new = in_hand c.truncate.new.at c.args.s.now in
-    as_named (record { kind = g.S.SliceStore.kind; before = stores c.args.dev.now; after = stores c.args.dev.now; map = b }) c.args.dev.now.settings.region old new
+    as_named (record { kind = g.S.SliceStore.kind; before = c.args.dev.now; after = c.args.dev.now; map = b }) c.args.dev.now.settings.region old new
     c.args.op.now (rw.Truncate c.in-Truncate.f c.in-Truncate.n) c.only-in-Ok-truncate.result.own None c.only-in-Ok-truncate.result.answer c.in-Ok-truncate.answer c.in-Truncate.is c.only-in-Ok-truncate.ensures.own c.only-in-Ok-truncate.ensures.answer
     (λ x bytes size writes whole. plain x b old new (op.Truncate c.in-Truncate.f c.in-Truncate.n) c.in-Ok-truncate.answer (c.in-Ok-truncate.ensures.step x b size))
 
@@ -110,7 +113,7 @@ returns-in-Ok-punch-clause-step g c =
     let b = seen c.args.kv.now c.args.at.now in
     let old = in_hand c.args.at.now c.args.s.now in
     let new = in_hand c.punch.new.at c.args.s.now in
-    as_named (record { kind = g.S.SliceStore.kind; before = stores c.args.dev.now; after = stores c.args.dev.now; map = b }) c.args.dev.now.settings.region old new
+    as_named (record { kind = g.S.SliceStore.kind; before = c.args.dev.now; after = c.args.dev.now; map = b }) c.args.dev.now.settings.region old new
     c.args.op.now (rw.Punch c.in-Punch.f c.in-Punch.n) c.only-in-Ok-punch.result.own None c.only-in-Ok-punch.result.answer c.in-Ok-punch.answer c.in-Punch.is c.only-in-Ok-punch.ensures.own c.only-in-Ok-punch.ensures.answer
     (λ x bytes size writes whole. plain x b old new (op.Punch c.in-Punch.f c.in-Punch.n) c.in-Ok-punch.answer (c.in-Ok-punch.ensures.step x b size))
 
@@ -119,7 +122,7 @@ returns-in-Ok-stat-clause-step g c =
     let b = seen c.args.kv.now c.args.at.now in
     let old = in_hand c.args.at.now c.args.s.now in
     let new = in_hand c.stat.new.at c.args.s.now in
-    as_named (record { kind = g.S.SliceStore.kind; before = stores c.args.dev.now; after = stores c.args.dev.now; map = b }) c.args.dev.now.settings.region old new
+    as_named (record { kind = g.S.SliceStore.kind; before = c.args.dev.now; after = c.args.dev.now; map = b }) c.args.dev.now.settings.region old new
     c.args.op.now (rw.Stat c.in-Stat.p) c.only-in-Ok-stat.result.own None c.only-in-Ok-stat.result.answer c.in-Ok-stat.answer c.in-Stat.is c.only-in-Ok-stat.ensures.own c.only-in-Ok-stat.ensures.answer
     (λ x bytes size writes whole. plain x b old new (op.Stat c.in-Stat.p.now) c.in-Ok-stat.answer (c.in-Ok-stat.ensures.step x c.args.s.now size))
 

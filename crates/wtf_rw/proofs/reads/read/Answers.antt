@@ -1,37 +1,42 @@
-use Rattle.std.proofs.Common.{◌≡◌, ℕ, ◌+◌, ◌++◌, List, [], Option, Some, refl, sym, ap, ◌∙◌, subst, arith, inr}
+use Rattle.std.proofs.Common.{◌≡◌, ℕ, ◌+◌, ◌++◌, List, [], Option, Some, refl, sym, ap, ◌∙◌, subst, arith, inl, inr}
 use Rattle.std.specs.Option.{option_map}
-use Rattle.std.specs.Prelude.{slice_index_or}
+use Rattle.std.specs.List.{All}
+use Rattle.std.proofs.lemmas.List.Elements.{All-nil}
+use Rattle.wtf_base.specs.declared.fault.Fault.{Fault}
 use Rattle.wtf_base.specs.declared.ids.InodeId.{InodeId}
+use Rattle.wtf_base.specs.declared.settings.Settings.{Settings}
 use Rattle.wtf_occ.specs.Attempts.{GrowsBy}
 use Rattle.wtf_occ.proofs.AttemptLaws.{GrowsBy-nothing}
-use Rattle.wtf_overlay.specs.Origin.{Plans, pieces_origin}
+use Rattle.wtf_overlay.specs.Origin.{pieces_origin}
 use Rattle.wtf_overlay.specs.declared.part.Piece.{Piece}
 use Rattle.wtf_replica.specs.Bytes.{byte_at}
 use Rattle.wtf_model.specs.declared.answer.Answer.TheVariants as answer
 use Rattle.wtf_model.specs.declared.op.Op.TheVariants as op
 use Rattle.wtf_meta.specs.declared.session.Handle.{Handle}
-use Rattle.wtf_meta.specs.Bytes.{PiecesBytes}
+use Rattle.wtf_meta.specs.Lists.{ListFact}
+use Rattle.wtf_meta.specs.Bytes.{EntryBytes, PiecesBytes, FileBytes, any_slice}
 use Rattle.wtf_meta.specs.Maps.{Map, seen}
-use Rattle.wtf_meta.specs.Files.{file_origin}
+use Rattle.wtf_meta.specs.Reads.{ReadsFile}
 use Rattle.wtf_meta.specs.FileEdits.{file_of}
 use Rattle.wtf_meta.specs.Appends.{keys_of, region_keys, touched, length_keys}
 use Rattle.wtf_meta.specs.Sessions.{handle_in, SetsHandle, moved_to}
 use Rattle.wtf_meta.specs.Calls.{cap_for, IsCall}
-use Rattle.wtf_meta.proofs.Named.{PiecesBytes-read}
-use Rattle.wtf_region.specs.Devs.{stores, is_down_in, between}
-use Rattle.wtf_region.specs.Inside.{is_inside}
+use Rattle.wtf_meta.proofs.Named.{file_bytes}
+use Rattle.wtf_region.specs.Devs.{stores, is_down_in, inside_of, between}
+use Rattle.wtf_region.specs.Reads.{IsFileRead}
 use Rattle.wtf_region.specs.Showing.{Shown, IsShowFault, pieces_in, AreReadable}
 use Rattle.wtf_region.proofs.InsideLaws.{readable_from}
 use Rattle.wtf_region.proofs.Recording.{still_seen}
-use Rattle.wtf_region.proofs.ShowLaws.{readable_stays}
+use Rattle.wtf_region.proofs.ListReads.{pieces_inside, file_read_later}
 use Rattle.wtf_region.proofs.Spans.{goes_on}
+use Rattle.wtf_steps.specs.Faults.{MayFault}
 use Rattle.wtf_steps.specs.Recorded.{found_in, len_keys}
 use Rattle.wtf_index.proofs.Going.{keys_more}
 use Rattle.wtf_model.proofs.ByteLaws.{read-none}
 use Rattle.wtf_steps.proofs.Ways.{only_keys, no_handle, spot_open, spot_closed}
-use Rattle.wtf_rw.proofs.FaultWays.{read_due}
-use Rattle.wtf_steps.proofs.ReadWays.{shows, same_touched, found_due, plans_due}
-use Rattle.wtf_rw.proofs.ReadWays.{reads_call, shown_tells, shown_len}
+use Rattle.wtf_rw.proofs.FaultWays.{read_due, list_due}
+use Rattle.wtf_steps.proofs.ReadWays.{shows, same_touched, found_due, reads_due, lacks_due}
+use Rattle.wtf_rw.proofs.ReadWays.{reads_call, tells_read, shown_len}
 use Rattle.wtf_rw.proofs.reads.read.Goals as goal
 
 pub returns-in_default-clause-step : goal.returns-in_default-clause-step
@@ -42,8 +47,76 @@ returns-in_default-clause-step g c x size =
       did = only_keys [];
       grows = GrowsBy-nothing c.args.at.now;
       is_call = no_handle x (seen c.args.kv.now c.args.at.now) s f (op.Read f c.args.n) (spot_closed c.handle_of.result (handle_in s f) c.handle_of.ensures c.in_default.is) (λ S none. read-none (cap_for x) S f c.args.n none);
-      more = record { stored = refl; told = λ map. tt };
+      more = record {
+        stored = refl;
+        slices = λ P Q map. tt;
+        inside = All-nil (λ (l : ListFact). All (EntryBytes (inside_of g.S.SliceStore.kind c.args.dev.now)) l.list);
+        lists = λ ranges was told apart. tt;
+        told = λ map tell. tt;
+      };
     }
+
+pub pieces-requires-clause-inside : goal.pieces-requires-clause-inside
+pieces-requires-clause-inside g c =
+    let kind = g.S.SliceStore.kind in
+    let dev = c.args.dev.now in
+    let i = c.in-Some.spot.inode in
+    let b = seen c.args.kv.now c.args.at.now in
+    let same : seen c.args.kv.now c.file_len.new.at ≡ b =
+    still_seen c.args.kv.now i (length_keys (file_of i b)) c.args.at.now c.file_len.new.at c.in-Ok.ensures.recorded in
+    subst (λ (w : Map). FileBytes (inside_of kind dev) any_slice (file_of i w)) (sym same) (file_bytes (inside_of kind dev) any_slice i b c.requires.inside)
+
+pub returns-in-Err-pieces-clause-fault : goal.returns-in-Err-pieces-clause-fault
+returns-in-Err-pieces-clause-fault g c =
+    let kind = g.S.SliceStore.kind in
+    let dev = c.args.dev.now in
+    let i = c.in-Some.spot.inode in
+    let u = seen c.args.kv.now c.file_len.new.at in
+    let b = seen c.args.kv.now c.args.at.now in
+    let z = dev.settings.region in
+    let k = c.found_len-k.result in
+    let off = c.in-Some.spot.off in
+    let from = c.range_start-from.result in
+    let same : u ≡ b = still_seen c.args.kv.now i (length_keys (file_of i b)) c.args.at.now c.file_len.new.at c.in-Ok.ensures.recorded in
+    let open_at = spot_open c.handle_of.result (handle_in c.args.s.now c.args.f) c.in-Some.spot c.handle_of.ensures c.in-Some.is in
+    let h = open_at.handle in
+    let count : k ≡ found_in z b h c.args.n =
+    found_due c.cap.result z c.in-Ok.len off c.args.n k i b h c.found_len-k.ensures c.cap.ensures c.in-Ok.ensures.value open_at.inode open_at.off in
+    elim c.in-Err-pieces.ensures.fault [
+      | inl memory ↦ inl memory
+      | inr lacks ↦ inr (
+        h,
+        open_at.is,
+        inl (lacks_due kind dev c.pieces.new.dev u b i h off from k (found_in z b h c.args.n) c.in-Err-pieces.why same open_at.inode open_at.off
+            c.range_start-from.ensures.some count lacks),
+      )
+    ]
+
+pub returns-in-Err-pieces-clause-due : goal.returns-in-Err-pieces-clause-due
+returns-in-Err-pieces-clause-due g c =
+    let kind = g.S.SliceStore.kind in
+    let dev = c.args.dev.now in
+    let s = c.args.s.now in
+    let f = c.args.f in
+    let i = c.in-Some.spot.inode in
+    let u = seen c.args.kv.now c.file_len.new.at in
+    let b = seen c.args.kv.now c.args.at.now in
+    let z = dev.settings.region in
+    let k = c.found_len-k.result in
+    let off = c.in-Some.spot.off in
+    let from = c.range_start-from.result in
+    let why = c.in-Err-pieces.why in
+    let same : u ≡ b = still_seen c.args.kv.now i (length_keys (file_of i b)) c.args.at.now c.file_len.new.at c.in-Ok.ensures.recorded in
+    let open_at = spot_open c.handle_of.result (handle_in s f) c.in-Some.spot c.handle_of.ensures c.in-Some.is in
+    let h = open_at.handle in
+    let count : k ≡ found_in z b h c.args.n =
+    found_due c.cap.result z c.in-Ok.len off c.args.n k i b h c.found_len-k.ensures c.cap.ensures c.in-Ok.ensures.value open_at.inode open_at.off in
+    elim c.in-Err-pieces.ensures.fault [
+      | inl memory ↦ subst (λ (q : Fault). MayFault dev.settings b s (op.Read f c.args.n) q) (sym memory) (λ x told T size st holds. tt)
+      | inr lacks ↦ list_due g.met.S.SliceStore.laws dev c.pieces.new.dev b s f c.args.n k h why open_at.is count c.requires.sound
+          (file_bytes (inside_of kind dev) any_slice h.inode b c.requires.inside)
+          (lacks_due kind dev c.pieces.new.dev u b i h off from k k why same open_at.inode open_at.off c.range_start-from.ensures.some refl lacks)
+    ]
 
 pub show-requires-clause-readable : goal.show-requires-clause-readable
 show-requires-clause-readable g c =
@@ -51,17 +124,17 @@ show-requires-clause-readable g c =
     let dev = c.args.dev.now in
     let mid = c.pieces.new.dev in
     let i = c.in-Some.spot.inode in
+    let u = seen c.args.kv.now c.file_len.new.at in
     let b = seen c.args.kv.now c.args.at.now in
-    let z = dev.settings.region in
     let ps = c.in-Ok-pieces.found.items in
-    let same : seen c.args.kv.now c.file_len.new.at ≡ b = still_seen c.args.kv.now i (length_keys (file_of i b)) c.args.at.now c.file_len.new.at c.in-Ok.ensures.recorded in
-    let plans : Plans ps c.found_len-k.result (λ j. file_origin z (file_of i b) (c.range_start-from.result + j)) =
-    subst (λ (w : Map). Plans ps c.found_len-k.result (λ j. file_origin z (file_of i w) (c.range_start-from.result + j))) same c.in-Ok-pieces.ensures.plans in
-    let inside : PiecesBytes (is_inside kind (stores dev) dev.settings) ps =
-    PiecesBytes-read (is_inside kind (stores dev) dev.settings) refl z i b ps c.range_start-from.result c.found_len-k.result c.requires.inside plans in
+    let same : u ≡ b = still_seen c.args.kv.now i (length_keys (file_of i b)) c.args.at.now c.file_len.new.at c.in-Ok.ensures.recorded in
+    let file : FileBytes (inside_of kind dev) any_slice (file_of i u) =
+    subst (λ (w : Map). FileBytes (inside_of kind dev) any_slice (file_of i w)) (sym same) (file_bytes (inside_of kind dev) any_slice i b c.requires.inside) in
+    let inside : PiecesBytes (inside_of kind mid) ps =
+    pieces_inside g.met.S.SliceStore.laws c.requires.sound c.in-Ok-pieces.ensures.dev (file_of i u) file c.range_start-from.result c.found_len-k.result ps
+    c.in-Ok-pieces.ensures.read in
     subst (λ (qs : List Piece). AreReadable kind (is_down_in mid) (stores mid) qs) (sym c.as_slice.ensures.value)
-    (λ k d below. readable_stays g.met.S.SliceStore.laws (is_down_in mid) c.in-Ok-pieces.ensures.dev.each (slice_index_or ps k d).part
-    (readable_from kind (is_down_in mid) (stores dev) dev.settings ps c.requires.sound.shelf inside k d below))
+    (readable_from kind (is_down_in mid) (stores mid) mid.settings ps c.in-Ok-pieces.ensures.dev.sound.shelf inside)
 
 pub returns-in-Err-show-clause-fault : goal.returns-in-Err-show-clause-fault
 returns-in-Err-show-clause-fault g c =
@@ -69,28 +142,34 @@ returns-in-Err-show-clause-fault g c =
     let dev = c.args.dev.now in
     let mid = c.pieces.new.dev in
     let i = c.in-Some.spot.inode in
+    let u = seen c.args.kv.now c.file_len.new.at in
     let b = seen c.args.kv.now c.args.at.now in
     let z = dev.settings.region in
     let ps = c.in-Ok-pieces.found.items in
     let k = c.found_len-k.result in
-    let same : seen c.args.kv.now c.file_len.new.at ≡ b = still_seen c.args.kv.now i (length_keys (file_of i b)) c.args.at.now c.file_len.new.at c.in-Ok.ensures.recorded in
+    let read = c.in-Ok-pieces.ensures.read in
+    let same : u ≡ b = still_seen c.args.kv.now i (length_keys (file_of i b)) c.args.at.now c.file_len.new.at c.in-Ok.ensures.recorded in
     let open_at = spot_open c.handle_of.result (handle_in c.args.s.now c.args.f) c.in-Some.spot c.handle_of.ensures c.in-Some.is in
     let h = open_at.handle in
     let inode : i ≡ h.inode = open_at.inode in
     let off : c.in-Some.spot.off ≡ h.off = open_at.off in
     let count : k ≡ found_in z b h c.args.n = found_due c.cap.result z c.in-Ok.len c.in-Some.spot.off c.args.n k i b h c.found_len-k.ensures c.cap.ensures c.in-Ok.ensures.value inode off in
+    let due : ReadsFile z (file_of h.inode b) h.off k read.facts ps =
+    reads_due z u b h i c.in-Some.spot.off c.range_start-from.result k read.facts ps same inode off c.range_start-from.ensures.some read.reads in
+    let file : FileBytes (inside_of kind dev) any_slice (file_of i u) =
+    subst (λ (w : Map). FileBytes (inside_of kind dev) any_slice (file_of i w)) (sym same) (file_bytes (inside_of kind dev) any_slice i b c.requires.inside) in
     inr (
       h,
       open_at.is,
-      record {
+      inr (record {
         mid = mid;
         goes = c.in-Ok-pieces.ensures.dev;
         pieces = ps;
-        plans = subst (λ (m : ℕ). Plans ps m (λ j. file_origin z (file_of h.inode b) (h.off + j))) count
-            (plans_due z (seen c.args.kv.now c.file_len.new.at) b h i c.in-Some.spot.off c.range_start-from.result k ps same inode off c.range_start-from.ensures.some c.in-Ok-pieces.ensures.plans);
+        are = (read.facts, subst (λ (m : ℕ). ReadsFile z (file_of h.inode b) h.off m read.facts ps) count due);
+        inside = pieces_inside g.met.S.SliceStore.laws c.requires.sound c.in-Ok-pieces.ensures.dev (file_of i u) file c.range_start-from.result k ps read;
         fault = subst (λ (m : ℕ). IsShowFault kind (between mid c.show.new.dev) (pieces_in 0 m ps) c.in-Err-show.why) count
             (subst (λ (qs : List Piece). IsShowFault kind (between mid c.show.new.dev) (pieces_in 0 k qs) c.in-Err-show.why) c.as_slice.ensures.value c.in-Err-show.ensures.fault);
-      },
+      }),
     )
 
 pub returns-in-Err-show-clause-due : goal.returns-in-Err-show-clause-due
@@ -101,20 +180,27 @@ returns-in-Err-show-clause-due g c =
     let s = c.args.s.now in
     let f = c.args.f in
     let i = c.in-Some.spot.inode in
+    let u = seen c.args.kv.now c.file_len.new.at in
     let b = seen c.args.kv.now c.args.at.now in
     let z = dev.settings.region in
     let ps = c.in-Ok-pieces.found.items in
     let k = c.found_len-k.result in
-    let same : seen c.args.kv.now c.file_len.new.at ≡ b = still_seen c.args.kv.now i (length_keys (file_of i b)) c.args.at.now c.file_len.new.at c.in-Ok.ensures.recorded in
+    let same : u ≡ b = still_seen c.args.kv.now i (length_keys (file_of i b)) c.args.at.now c.file_len.new.at c.in-Ok.ensures.recorded in
     let open_at = spot_open c.handle_of.result (handle_in s f) c.in-Some.spot c.handle_of.ensures c.in-Some.is in
     let h = open_at.handle in
+    let kept : mid.settings ≡ dev.settings = c.in-Ok-pieces.ensures.dev.settings in
     let count : k ≡ found_in z b h c.args.n = found_due c.cap.result z c.in-Ok.len c.in-Some.spot.off c.args.n k i b h c.found_len-k.ensures c.cap.ensures c.in-Ok.ensures.value open_at.inode open_at.off in
-    let plans : Plans ps k (λ j. file_origin z (file_of i b) (c.range_start-from.result + j)) =
-    subst (λ (w : Map). Plans ps k (λ j. file_origin z (file_of i w) (c.range_start-from.result + j))) same c.in-Ok-pieces.ensures.plans in
-    let inside : PiecesBytes (is_inside kind (stores dev) dev.settings) ps =
-    PiecesBytes-read (is_inside kind (stores dev) dev.settings) refl z i b ps c.range_start-from.result k c.requires.inside plans in
-    read_due kind (between mid c.show.new.dev) (stores dev) dev.settings b s f c.args.n k h ps c.in-Err-show.why open_at.is c.requires.sound.shelf count inside
-    (subst (λ (qs : List Piece). IsShowFault kind (between mid c.show.new.dev) (pieces_in 0 k qs) c.in-Err-show.why) c.as_slice.ensures.value c.in-Err-show.ensures.fault)
+    let file : FileBytes (inside_of kind dev) any_slice (file_of i u) =
+    subst (λ (w : Map). FileBytes (inside_of kind dev) any_slice (file_of i w)) (sym same) (file_bytes (inside_of kind dev) any_slice i b c.requires.inside) in
+    let inside : PiecesBytes (inside_of kind mid) ps =
+    pieces_inside g.met.S.SliceStore.laws c.requires.sound c.in-Ok-pieces.ensures.dev (file_of i u) file c.range_start-from.result k ps
+    c.in-Ok-pieces.ensures.read in
+    subst (λ (st : Settings). MayFault st b s (op.Read f c.args.n) c.in-Err-show.why) kept
+    (read_due kind (between mid c.show.new.dev) (stores mid) mid.settings b s f c.args.n k h ps c.in-Err-show.why open_at.is
+    c.in-Ok-pieces.ensures.dev.sound.shelf
+    (count ∙ ap (λ (st : Settings). found_in st.region b h c.args.n) (sym kept)) inside
+    (subst (λ (qs : List Piece). IsShowFault kind (between mid c.show.new.dev) (pieces_in 0 k qs) c.in-Err-show.why) c.as_slice.ensures.value
+    c.in-Err-show.ensures.fault))
 
 pub returns-in-Err-show-clause-dev : goal.returns-in-Err-show-clause-dev
 returns-in-Err-show-clause-dev g c = goes_on g.met.S.SliceStore.laws c.in-Ok-pieces.ensures.dev c.in-Err-show.ensures.dev
@@ -148,9 +234,17 @@ returns-clause-step g c x size =
     let off : c.in-Some.spot.off ≡ h.off = open_at.off in
     let count0 : k ≡ found_in z b h n = found_due c.cap.result z c.in-Ok.len c.in-Some.spot.off n k i b h c.found_len-k.ensures c.cap.ensures c.in-Ok.ensures.value inode off in
     let count : k ≡ found_in x.size b h n = count0 ∙ ap (λ (m : ℕ). found_in m b h n) (sym size) in
-    let plans0 : Plans ps k (λ j. file_origin z (file_of h.inode b) (h.off + j)) =
-    plans_due z (seen c.args.kv.now read) b h i c.in-Some.spot.off c.range_start-from.result k ps same inode off c.range_start-from.ensures.some c.in-Ok-pieces.ensures.plans in
-    let plans : Plans ps k (λ j. file_origin x.size (file_of h.inode b) (h.off + j)) = subst (λ (m : ℕ). Plans ps k (λ j. file_origin m (file_of h.inode b) (h.off + j))) (sym size) plans0 in
+    let file : FileBytes (inside_of kind dev) any_slice (file_of i (seen c.args.kv.now read)) =
+    subst (λ (w : Map). FileBytes (inside_of kind dev) any_slice (file_of i w)) (sym same) (file_bytes (inside_of kind dev) any_slice i b c.requires.inside) in
+    let went : IsFileRead kind dev c.show.new.dev (file_of i (seen c.args.kv.now read)) c.range_start-from.result k ps =
+    file_read_later laws c.requires.sound c.in-Ok-pieces.ensures.dev c.in-Ok-show.ensures.dev (file_of i (seen c.args.kv.now read)) file
+    c.range_start-from.result k ps c.in-Ok-pieces.ensures.read in
+    let lists = went.facts in
+    let due : ReadsFile x.size (file_of h.inode b) h.off k lists ps =
+    subst (λ (m : ℕ). ReadsFile m (file_of h.inode b) h.off k lists ps) (sym size)
+    (reads_due z (seen c.args.kv.now read) b h i c.in-Some.spot.off c.range_start-from.result k lists ps same inode off
+    c.range_start-from.ensures.some went.reads) in
+    let keys = len_keys b h.inode ++ keys_of h.inode (region_keys (touched x.size h.off k)) in
     let shown : Shown (byte_at kind (stores mid)) k (λ j. pieces_origin ps (0 + j)) [] bytes =
     subst (λ (old : List ℕ). Shown (byte_at kind (stores mid)) k (λ j. pieces_origin ps (0 + j)) old bytes) c.new-out.ensures.items
     (subst (λ (qs : List Piece). Shown (byte_at kind (stores mid)) k (λ j. pieces_origin qs (0 + j)) c.new-out.result.items bytes) c.as_slice.ensures.value c.in-Ok-show.ensures.shown) in
@@ -165,12 +259,10 @@ returns-clause-step g c x size =
     let next : GrowsBy read new (keys_of h.inode (region_keys (touched x.size h.off k))) [] =
     subst (λ (rs : List ℕ). GrowsBy read new (keys_of h.inode (region_keys rs)) []) range next0 in
     record {
-      did = shows (len_keys b h.inode ++ keys_of h.inode (region_keys (touched x.size h.off k))) ps bytes;
+      did = shows keys lists ps bytes;
       grows = keys_more at read new (len_keys b h.inode) (keys_of h.inode (region_keys (touched x.size h.off k))) first next;
-      is_call = subst (λ (l : List ℕ). IsCall x b s t (shows (len_keys b h.inode ++ keys_of h.inode (region_keys (touched x.size h.off k))) ps bytes) (op.Read f n) (answer.Shown l)) (sym c.of.ensures)
-          (reads_call x b s t f n k h ps bytes (omega (arith, size, dev.settings.limits)) open_at.is count plans (shown_len shown) set);
-      more = record {
-        stored = refl;
-        told = λ map. (shown_tells laws c.in-Ok-pieces.ensures.dev.each c.in-Ok-show.ensures.dev.each z h.inode b ps h.off k bytes plans0 shown map, tt);
-      };
+      is_call = subst (λ (l : List ℕ). IsCall x b s t (shows keys lists ps bytes) (op.Read f n) (answer.Shown l)) (sym c.of.ensures)
+          (reads_call x b s t f n k h lists ps bytes (omega (arith, size, dev.settings.limits)) open_at.is count due (shown_len shown) set);
+      more = tells_read laws dev mid c.show.new.dev c.in-Ok-pieces.ensures.dev c.in-Ok-show.ensures.dev (seen c.args.kv.now read) b i h
+          c.in-Some.spot.off c.range_start-from.result k same inode off c.range_start-from.ensures.some ps bytes keys went shown;
     }

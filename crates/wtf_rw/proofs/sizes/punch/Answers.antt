@@ -41,7 +41,7 @@ returns-clause-step c x b size =
       did = changes h.inode edited.edits;
       grows = edited.grows;
       is_call = punches x b s f h open_at.is n edited.edits edited.does;
-      more = record { facts = refl; stored = refl };
+      more = record { facts = refl; stored = refl; lists = refl };
     }
 
 pub returns-in_default-clause-made : goal.returns-in_default-clause-made

@@ -82,6 +82,7 @@ returns-in-Ok-lay-clause-step g c x b size =
           (omega (arith, len)) edited.does set;
       more = record {
         stored = record { piece = p; one = refl; len = c.piece_of.ensures.len; part = c.piece_of.ensures.part };
+        lists = refl;
         told = λ tells. (tell_stored (byte_at g.S.SliceStore.kind (stores c.store_bytes.new.dev)) slice p bytes c.piece_of.ensures.len c.piece_of.ensures.part c.in-Ok.ensures.stored.len (c.in-Ok.ensures.holds tells), tt);
       };
     }
