@@ -1,5 +1,5 @@
 -- Each way through a call that makes a file of others, on all maps at once.
-use Rattle.std.proofs.Common.{◌≡◌, ℕ, ◌-◌, ◌*◌, ◌^◌, ◌<◌, ◌≤◌, min, List, ◌++◌, length, append-nil, Ok, Err, refl, sym, ap, ◌∙◌, subst, arith}
+use Rattle.std.proofs.Common.{◌≡◌, ℕ, ◌-◌, ◌*◌, ◌^◌, ◌<◌, ◌≤◌, min, List, [], ◌++◌, length, append-nil, Ok, Err, refl, sym, ap, ◌∙◌, subst, arith}
 use Rattle.wtf_base.specs.declared.ids.InodeId.{InodeId}
 use Rattle.wtf_kv.specs.Edits.{Agree}
 use Rattle.wtf_kv.proofs.EditLaws.{Agree-parts, Fits-append}
@@ -22,13 +22,15 @@ use Rattle.wtf_values.specs.declared.value.Delta.{Delta}
 use Rattle.wtf_values.specs.Keys.{key_cmp}
 use Rattle.wtf_values.specs.Outcomes.{outcome_of}
 use Rattle.wtf_meta.specs.Maps.{Map, Edits, with}
-use Rattle.wtf_meta.specs.Contents.{Told, is_told, PiecesTell}
+use Rattle.wtf_meta.specs.Lists.{ListFact}
+use Rattle.wtf_meta.specs.Contents.{Told, is_told, is_listed, lists_in, PiecesTell}
 use Rattle.wtf_meta.specs.FileEdits.{FileEdit, edits_of, file_of}
 use Rattle.wtf_meta.specs.NameEdits.{create_edits}
 use Rattle.wtf_meta.specs.Trees.{Stands}
 use Rattle.wtf_meta.specs.Sessions.{SessionView}
-use Rattle.wtf_meta.specs.Calls.{Caller, cap_for, IsDone, IsCall}
+use Rattle.wtf_meta.specs.Calls.{Caller, cap_for, Did, IsDone, DoneOnEach, IsCall}
 use Rattle.wtf_meta.proofs.BodyEdits.{body_filled}
+use Rattle.wtf_meta.proofs.FeetFiles.{edits_are_of}
 use Rattle.wtf_meta.proofs.Frame.{paths_stay, dirs_stay, inodes_stay, regions_stay}
 use Rattle.wtf_meta.proofs.KeyPuts.{with-append}
 use Rattle.wtf_meta.proofs.MapBytes.{with_bytes}
@@ -42,13 +44,13 @@ use Rattle.wtf_region.specs.Edited.{LaysPieces}
 use Rattle.wtf_steps.proofs.FitsAnywhere.{fits_anywhere}
 use Rattle.wtf_steps.proofs.Ways.{only_keys, stays}
 use Rattle.wtf_slicing.specs.Recorded.{files_keys, sources_keys, found_keys, concat_keys}
-use Rattle.wtf_slicing.specs.Sources.{sources_of, lens_of, ArePlans}
+use Rattle.wtf_slicing.specs.Sources.{sources_of, lens_of, ReadsFiles}
 use Rattle.wtf_slicing.specs.Steps.{IsNewFor}
-use Rattle.wtf_slicing.proofs.CopyWays.{makes}
 use Rattle.wtf_slicing.proofs.Filling.{ChangesFile}
 use Rattle.wtf_model.proofs.SliceLaws.{concat-by, concat-fits, concat-big}
-use Rattle.wtf_slicing.proofs.FileLists.{Found, sources-agree, sources-refused, sources-found, lens_agree, plans_tell, plans_named}
-use Rattle.wtf_slicing.proofs.MakeWays.{made, made_body, made_bytes, filled_done}
+use Rattle.wtf_slicing.proofs.FileLists.{Found, sources-agree, sources-refused, sources-found, lens_agree, plans_tell}
+use Rattle.wtf_slicing.proofs.KeysRead.{gathered_target, gathered_paths, gathered_all}
+use Rattle.wtf_slicing.proofs.MakeWays.{made, made_body, made_bytes, filled_done, made_feet}
 
 -- changes of a file change that one alone
 edits_change : (i : InodeId) (ds : List FileEdit) (w : Map) → ChangesFile i w (with (edits_of i ds) w)
@@ -58,6 +60,10 @@ edits_change i ds w = record {
   inodes = λ j other. inodes_stay i j ds w (λ e. other (sym e));
   regions = λ j r other. regions_stay i j r ds w (λ e. other (sym e));
 }
+
+-- keys and changes of a call that reads lists of bases, and no byte
+abbrev pub gathers : List Key → Edits → List ListFact → Did
+gathers keys edits lists = record { keys = keys; edits = edits; facts = []; stored = []; lists = lists }
 
 -- the keys of a target, of sources, and of whole files
 abbrev pub all_keys : Map → List ℕ → List (List ℕ) → List InodeId → List Key
@@ -87,12 +93,15 @@ too_many n lens cap z is high e = omega (arith, is, high, e)
 
 module _ (x : Caller) (b : Map) (s : SessionView) (q : List ℕ) (ps : List (List ℕ)) where
   pub concats_nowhere : (word : Word) → target_of b q ≡ Err word → IsCall x b s s (only_keys (target_keys b q)) (op.Concat q ps) (answer.Refused word)
-  concats_nowhere word e = stays x b s (target_keys b q) (op.Concat q ps) (answer.Refused word) (λ told w S agree st holds.
+  concats_nowhere word e = stays x b s (target_keys b q) (op.Concat q ps) (answer.Refused word) (λ told w S agree st holds. gathered_target x.tx b w q ps)
+      (λ told w S agree st holds.
       concat-by (cap_for x) S q ps (Err word) (sources S.tree ps) (target-refused x.size told x.tx x.calls w S.tree st q word (target-agrees b w q agree ∙ e)) refl)
 
   module _ (dir : List ℕ) (e : target_of b q ≡ Ok dir) where
     pub concats_nothing : (word : Word) → sources_of b ps ≡ Err word → IsCall x b s s (only_keys (target_keys b q ++ sources_keys b ps)) (op.Concat q ps) (answer.Refused word)
-    concats_nothing word f = stays x b s (target_keys b q ++ sources_keys b ps) (op.Concat q ps) (answer.Refused word) (λ told w S agree st holds.
+    concats_nothing word f = stays x b s (target_keys b q ++ sources_keys b ps) (op.Concat q ps) (answer.Refused word)
+        (λ told w S agree st holds. gathered_paths x.tx b w q ps)
+        (λ told w S agree st holds.
         let parts = Agree-parts (target_keys b q) (sources_keys b ps) b w agree in
         concat-by (cap_for x) S q ps (Ok tt) (Err word) (target-free x.size told x.tx x.calls w S.tree st q dir (target-agrees b w q parts.0 ∙ e))
         (sources-refused x.size told x.tx x.calls w S.tree st ps word (sources-agree b w ps parts.1 ∙ f)))
@@ -101,6 +110,7 @@ module _ (x : Caller) (b : Map) (s : SessionView) (q : List ℕ) (ps : List (Lis
       -- what is so on a map that agrees
       record Agreed (told : Told) (w : Map) (S : Session) : Type 0 where
         open_q : target_of w q ≡ Ok dir
+        inodes : sources_of w ps ≡ Ok is
         files : Agree (files_keys b is) b w
         found : Found x.size told w S.tree ps is
         len : lens_of x.size b is ≡ length found.bytes
@@ -109,43 +119,66 @@ module _ (x : Caller) (b : Map) (s : SessionView) (q : List ℕ) (ps : List (Lis
       agreed told w S agree st =
           let parts = Agree-parts (target_keys b q) (sources_keys b ps ++ files_keys b is) b w agree in
           let more = Agree-parts (sources_keys b ps) (files_keys b is) b w parts.1 in
-          let found = sources-found x.size told x.tx x.calls w S.tree st ps is (sources-agree b w ps more.0 ∙ f) in
+          let inodes : sources_of w ps ≡ Ok is = sources-agree b w ps more.0 ∙ f in
+          let found = sources-found x.size told x.tx x.calls w S.tree st ps is inodes in
           record {
             open_q = target-agrees b w q parts.0 ∙ e;
+            inodes = inodes;
             files = more.1;
             found = found;
             len = lens_agree x.size told b w is found.bytes more.1 found.bodies;
           }
 
       pub concats_too_much : cap_for x < lens_of x.size b is → IsCall x b s s (only_keys (all_keys b q ps is)) (op.Concat q ps) (answer.Refused TooBig)
-      concats_too_much past = stays x b s (all_keys b q ps is) (op.Concat q ps) (answer.Refused TooBig) (λ told w S agree st holds.
+      concats_too_much past = stays x b s (all_keys b q ps is) (op.Concat q ps) (answer.Refused TooBig)
+          (λ told w S agree st holds. gathered_all x.tx b w q ps is (agreed told w S agree st).inodes)
+          (λ told w S agree st holds.
           let at = agreed told w S agree st in
           concat-big (cap_for x) S q ps at.found.bytes (target-free x.size told x.tx x.calls w S.tree st q dir at.open_q) at.found.sources_are (omega (arith, past, at.len)))
 
-      pub concats : (new : InodeId) (out : List Piece) (ds : List FileEdit) → 0 < x.size → IsNewFor x new → IsPath q → lens_of x.size b is ≤ cap_for x → ArePlans x.size b is out → LaysPieces x.size 0 new out ds
-          → IsCall x b s s (makes (all_keys b q ps is) (create_edits dir q new ++ edits_of new ds)) (op.Concat q ps) answer.Okay
-      concats new out ds pos own path fit plans laid =
-          let edits : Edits = create_edits dir q new in
-          let rest : Edits = edits_of new ds in
-          record {
-            fits = Fits-append key_cmp outcome_of edits rest b (create-made x b q dir new own.tx own.index path e s tt).fits
-                (fits_anywhere new ds (with edits b) (laid.lays.fit (file_of new (with edits b))));
-            names = λ P hole map old stored. record {
-              edits = EditsBytes-append P edits rest (tt, (tt, (tt, tt))) (laid.names P (plans_named P hole x.size b is out map plans));
-              facts = tt;
-              slices = old;
-            };
-            acts = λ told w S agree fits facts st holds.
-                let at = agreed told w S agree st in
-                let bytes : List ℕ = at.found.bytes in
-                let tell : PiecesTell told out bytes = plans_tell x.size told b w is out bytes pos at.files at.found.bodies plans in
-                let one : Map = made x told w s S st holds q dir new own path at.open_q in
-                let full : Map = with rest one in
-                let body = body_filled x.size told new ds one (pieces_len out) (pieces_origin out) bytes laid.lays tell (made_body x told w s S st holds q dir new own path at.open_q) in
-                let told_bytes = with_bytes (is_told told) refl rest one (made_bytes x told w s S st holds q dir new own path at.open_q) (laid.names (is_told told) (told_pieces told out bytes tell)) in
-                let done = filled_done x told w s S st holds q dir new own path at.open_q full bytes (edits_change new ds one) body told_bytes in
-                let due : call (cap_for x) S (op.Concat q ps) ≡ record { session = add_file S q bytes; answer = answer.Okay } =
-                concat-fits (cap_for x) S q ps bytes (target-free x.size told x.tx x.calls w S.tree st q dir at.open_q) at.found.sources_are (omega (arith, fit, at.len)) in
-                subst (λ (m : Map). IsDone x told w m s (call (cap_for x) S (op.Concat q ps)) answer.Okay) (sym (with-append edits rest w))
-                (subst (λ (d : Done). IsDone x told w full s d answer.Okay) (sym due) done);
-          }
+      module _ (new : InodeId) (out : List Piece) (ds : List FileEdit) (pos : 0 < x.size) (own : IsNewFor x new) (path : IsPath q)
+          (fit : lens_of x.size b is ≤ cap_for x) (lists : List ListFact) (reads : ReadsFiles x.size b is lists out)
+          (laid : LaysPieces x.size 0 new out ds) where
+        abbrev concat_did : Did
+        concat_did = gathers (all_keys b q ps is) (create_edits dir q new ++ edits_of new ds) lists
+
+        concats_acts : DoneOnEach x b s s concat_did (op.Concat q ps) answer.Okay
+        concats_acts = λ told w S agree fits facts told_lists st holds.
+            let rest : Edits = edits_of new ds in
+            let at = agreed told w S agree st in
+            let bytes : List ℕ = at.found.bytes in
+            let tell : PiecesTell told out bytes = plans_tell x.size told b w is out bytes pos at.files at.found.bodies
+            (reads.plans (lists_in x.size told) told_lists) in
+            let one : Map = made x told w s S st holds q dir new own path at.open_q in
+            let full : Map = with rest one in
+            let body = body_filled x.size told new ds one (pieces_len out) (pieces_origin out) bytes laid.lays tell
+            (made_body x told w s S st holds q dir new own path at.open_q) in
+            let told_bytes = with_bytes (is_told told) (is_listed x.size told) refl rest one (made_bytes x told w s S st holds q dir new own path at.open_q)
+            (laid.names (is_told told) (is_listed x.size told) (told_pieces told out bytes tell)) in
+            let done = filled_done x told w s S st holds q dir new own path at.open_q full bytes (edits_change new ds one) body told_bytes in
+            let due : call (cap_for x) S (op.Concat q ps) ≡ record { session = add_file S q bytes; answer = answer.Okay } =
+            concat-fits (cap_for x) S q ps bytes (target-free x.size told x.tx x.calls w S.tree st q dir at.open_q) at.found.sources_are
+            (omega (arith, fit, at.len)) in
+            subst (λ (m : Map). IsDone x told w m s (call (cap_for x) S (op.Concat q ps)) answer.Okay) (sym (with-append (create_edits dir q new) rest w))
+            (subst (λ (d : Done). IsDone x told w full s d answer.Okay) (sym due) done)
+
+        pub concats : IsCall x b s s concat_did (op.Concat q ps) answer.Okay
+        concats =
+            let edits : Edits = create_edits dir q new in
+            let rest : Edits = edits_of new ds in
+            record {
+              fits = Fits-append key_cmp outcome_of edits rest b (create-made x b q dir new own.tx own.index path e s tt).fits
+                  (fits_anywhere new ds (with edits b) (laid.lays.fit (file_of new (with edits b))));
+              names = λ P Q hole map old stored named. record {
+                edits = EditsBytes-append P Q edits rest (tt, (tt, (tt, tt))) (laid.names P Q (reads.names P Q hole map named));
+                facts = tt;
+                slices = old;
+                lists = reads.slices P Q map;
+              };
+              acts = concats_acts;
+              feet = λ told w S agree fits facts told_lists st holds.
+                  let at = agreed told w S agree st in
+                  made_feet x told w s S st holds q dir new own path at.open_q (all_keys b q ps is) rest (op.Concat q ps)
+                  (gathered_all x.tx b w q ps is at.inodes) (edits_are_of new ds) refl
+                  (sym (concats_acts told w S agree fits facts told_lists st holds).answer);
+            }

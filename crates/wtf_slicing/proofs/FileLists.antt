@@ -1,24 +1,27 @@
 -- Files that are put together: on every map that agrees on the recorded keys they are the same, with the same bytes.
-use Rattle.std.proofs.Common.{◌≡◌, ℕ, zero, suc, ◌+◌, ◌*◌, ◌/◌, ◌%◌, ◌<◌, ◌≤◌, Bool, true, List, [], ◌∷◌, ◌++◌, length, append_assoc, append-nil, Result, Ok, Err, refl, sym, ap, ◌∙◌, subst, arith, inl, inr}
+use Rattle.std.proofs.Common.{◌≡◌, ℕ, zero, suc, ◌+◌, ◌*◌, ◌/◌, ◌%◌, ◌<◌, ◌≤◌, List, [], ◌∷◌, ◌++◌, length, append_assoc, append-nil, Result, Ok, Err, refl, sym, ap, ◌∙◌, subst, arith, inl, inr, zero-add}
 use Rattle.std.proofs.lemmas.Bool.{cases_eq}
 use Rattle.std.proofs.lemmas.List.{length-append}
 use Rattle.std.proofs.lemmas.Nat.{div_below}
 use Rattle.wtf_base.specs.declared.ids.InodeId.{InodeId}
 use Rattle.wtf_kv.specs.Edits.{Agree}
 use Rattle.wtf_kv.proofs.EditLaws.{Agree-parts}
-use Rattle.wtf_overlay.specs.Origin.{Place, Plans, pieces_len}
+use Rattle.wtf_overlay.specs.Origin.{Plans, pieces_len}
 use Rattle.wtf_overlay.proofs.Pieces.{pieces_len-append}
 use Rattle.wtf_overlay.specs.declared.part.Piece.{Piece}
 use Rattle.wtf_model.specs.declared.answer.Word.{Word}
 use Rattle.wtf_model.specs.Tree.{Tree, ◌>>=◌, bytes_of, sources}
+use Rattle.wtf_meta.specs.Lists.{Lists, ListFact}
 use Rattle.wtf_meta.specs.Maps.{Map}
-use Rattle.wtf_meta.specs.Bytes.{MapBytes, PiecesBytes}
-use Rattle.wtf_meta.specs.Contents.{Told, PiecesTell}
+use Rattle.wtf_meta.specs.Bytes.{PiecesBytes}
+use Rattle.wtf_meta.specs.Contents.{Told, PiecesTell, lists_in}
+use Rattle.wtf_meta.specs.Reads.{ReadsFile}
 use Rattle.wtf_meta.specs.Files.{FileView, IsFile, file_len, file_origin, region_origin}
 use Rattle.wtf_meta.specs.FileEdits.{file_of}
 use Rattle.wtf_meta.specs.Appends.{AgreeOn, region_keys, count_from}
 use Rattle.wtf_meta.specs.Trees.{IsBody, Stands}
-use Rattle.wtf_meta.proofs.Named.{PiecesBytes-none, PiecesBytes-append, plans_bytes, file_origin_bytes}
+use Rattle.wtf_meta.proofs.ListFacts.{TellLists-parts, ListSlices-append, ListsBytes-parts}
+use Rattle.wtf_meta.proofs.Named.{PiecesBytes-none, PiecesBytes-append, file_bytes}
 use Rattle.wtf_meta.proofs.Reading.{PiecesTell-none, PiecesTell-append, PiecesTell-file}
 use Rattle.wtf_meta.proofs.Standing.{leads-file}
 use Rattle.wtf_meta.proofs.Touching.{agree_file, agree_len}
@@ -26,7 +29,7 @@ use Rattle.wtf_index.specs.Checks.{source_of}
 use Rattle.wtf_index.specs.Recorded.{keys_if}
 use Rattle.wtf_index.proofs.Checked.{source-refused, source-leads, source-agrees}
 use Rattle.wtf_slicing.specs.Recorded.{whole_keys, file_keys, files_keys, sources_keys}
-use Rattle.wtf_slicing.specs.Sources.{sources_of, lens_of, ArePlans}
+use Rattle.wtf_slicing.specs.Sources.{sources_of, lens_of, ArePlans, ReadsFiles}
 
 -- a file that agrees on its last region's number and on all regions up to it
 count_agrees : (a m r : ℕ) (v w : FileView) → AgreeOn (region_keys (count_from a m)) v w → a ≤ r → r < a + m → v.region r ≡ w.region r
@@ -46,12 +49,13 @@ pub whole_len : (b : ℕ) (v w : FileView) → AgreeOn (whole_keys v) v w → fi
 whole_len b v w h = agree_len b v w (h.0, (whole_region v w v.last h (omega arith), tt))
 
 -- has its bytes at the same places
-pub whole_origin : (b x : ℕ) (v w : FileView) → 0 < b → IsFile b w → AgreeOn (whole_keys v) v w → x < file_len b v → file_origin b v x ≡ file_origin b w x
-whole_origin b x v w pos is h below =
+pub whole_origin : (b : ℕ) (lists : Lists) (x : ℕ) (v w : FileView) → 0 < b → IsFile b w → AgreeOn (whole_keys v) v w → x < file_len b v
+    → file_origin b lists v x ≡ file_origin b lists w x
+whole_origin b lists x v w pos is h below =
     let len = whole_len b v w h in
     let up : x < (w.last + 1) * b = omega (arith, len, is.ends w.last) in
     let low : x / b < w.last + 1 = div_below x b (w.last + 1) pos up in
-    ap (λ o. region_origin o (x % b)) (whole_region v w (x / b) h (omega (arith, h.0)))
+    ap (λ o. region_origin lists o (x % b)) (whole_region v w (x / b) h (omega (arith, h.0)))
 
 -- the files of a map have these bytes, one file behind the other
 abbrev pub BodiesOf : ℕ → Told → Map → List InodeId → List ℕ → Type 0
@@ -69,31 +73,23 @@ lens_agree b told u w (i ∷ is) bytes agree are =
     omega (arith, rest, len, are.3.bytes_are.len, ap length are.2, length-append are.0 are.1)
 
 -- and pieces that were read of them tell them
-pub plans_tell : (b : ℕ) (told : Told) (u w : Map) (is : List InodeId) (ps : List Piece) (bytes : List ℕ) → 0 < b → Agree (files_keys u is) u w → BodiesOf b told w is bytes → ArePlans b u is ps → PiecesTell told ps bytes
+pub plans_tell : (b : ℕ) (told : Told) (u w : Map) (is : List InodeId) (ps : List Piece) (bytes : List ℕ) → 0 < b → Agree (files_keys u is) u w
+    → BodiesOf b told w is bytes → ArePlans b (lists_in b told) u is ps → PiecesTell told ps bytes
 plans_tell b told u w [] ps bytes pos agree are plans =
     subst (λ (qs : List Piece). PiecesTell told qs bytes) (sym plans) (subst (λ (l : List ℕ). PiecesTell told [] l) (sym are) (PiecesTell-none told))
 plans_tell b told u w (i ∷ is) ps bytes pos agree are plans =
     let parts = Agree-parts (file_keys u i) (files_keys u is) u w agree in
     let here = agree_file i (whole_keys (file_of i u)) u w parts.0 in
     let v : FileView = file_of i u in
-    let own : Plans plans.0 (file_len b v) (file_origin b (file_of i w)) = record {
+    let own : Plans plans.0 (file_len b v) (file_origin b (lists_in b told) (file_of i w)) = record {
       len = plans.3.len;
-      origin = λ x below. plans.3.origin x below ∙ whole_origin b x v (file_of i w) pos are.3.file here below;
+      origin = λ x below. plans.3.origin x below ∙ whole_origin b (lists_in b told) x v (file_of i w) pos are.3.file here below;
     } in
     let first : PiecesTell told plans.0 are.0 =
     PiecesTell-file told b (file_of i w) are.0 (file_len b v) plans.0 are.3.bytes_are (sym (whole_len b v (file_of i w) here) ∙ are.3.bytes_are.len) own in
     subst (λ (qs : List Piece). PiecesTell told qs bytes) (sym plans.2)
     (subst (λ (l : List ℕ). PiecesTell told (plans.0 ++ plans.1) l) (sym are.2)
     (PiecesTell-append told plans.0 plans.1 are.0 are.1 first (plans_tell b told u w is plans.1 are.1 pos parts.1 are.4 plans.4)))
-
--- they name bytes of the map
-pub plans_named : (P : List Place → Bool) → P [] ≡ true → (b : ℕ) (u : Map) (is : List InodeId) (ps : List Piece) → MapBytes P u → ArePlans b u is ps → PiecesBytes P ps
-plans_named P hole b u [] ps map plans = subst (λ (qs : List Piece). PiecesBytes P qs) (sym plans) (PiecesBytes-none P)
-plans_named P hole b u (i ∷ is) ps map plans =
-    subst (λ (qs : List Piece). PiecesBytes P qs) (sym plans.2)
-    (PiecesBytes-append P plans.0 plans.1
-    (plans_bytes P plans.0 (file_len b (file_of i u)) (file_origin b (file_of i u)) plans.3 (λ x below. file_origin_bytes P hole b i u x map))
-    (plans_named P hole b u is plans.1 map plans.4))
 
 -- the paths of files lead to the same inodes
 pub sources-agree : (b w : Map) (ps : List (List ℕ)) → Agree (sources_keys b ps) b w → sources_of w ps ≡ sources_of b ps
@@ -161,10 +157,21 @@ module _ (b : ℕ) (told : Told) (tx k : ℕ) (w : Map) (t : Tree) (st : Stands 
   sources-found (p ∷ ps) all e = found_by p ps all (source_of w p) refl e (λ is h. sources-found ps is h)
 
 -- one file more
-pub plans-more : (b : ℕ) (u : Map) (is : List InodeId) (i : InodeId) (ps qs : List Piece) → ArePlans b u is ps → ArePlans b u (i ∷ []) qs → ArePlans b u (is ++ i ∷ []) (ps ++ qs)
-plans-more b u [] i ps qs first next = subst (λ (l : List Piece). ArePlans b u (i ∷ []) (l ++ qs)) (sym first) next
-plans-more b u (j ∷ is) i ps qs first next =
-    (first.0, first.1 ++ qs, ap (λ (l : List Piece). l ++ qs) first.2 ∙ append_assoc first.0 first.1 qs, first.3, plans-more b u is i first.1 qs first.4 next)
+plans-more : (b : ℕ) (lists : Lists) (u : Map) (is : List InodeId) (i : InodeId) (ps qs : List Piece) → ArePlans b lists u is ps
+    → ArePlans b lists u (i ∷ []) qs → ArePlans b lists u (is ++ i ∷ []) (ps ++ qs)
+plans-more b lists u [] i ps qs first next = subst (λ (l : List Piece). ArePlans b lists u (i ∷ []) (l ++ qs)) (sym first) next
+plans-more b lists u (j ∷ is) i ps qs first next =
+    let whole : ps ++ qs ≡ first.0 ++ (first.1 ++ qs) = ap (λ (l : List Piece). l ++ qs) first.2 ∙ append_assoc first.0 first.1 qs in
+    (first.0, first.1 ++ qs, whole, first.3, plans-more b lists u is i first.1 qs first.4 next)
+
+one_file : (b : ℕ) (lists : Lists) (u : Map) (i : InodeId) (ps : List Piece)
+    → Plans ps (file_len b (file_of i u)) (λ x. file_origin b lists (file_of i u) (0 + x)) → ArePlans b lists u (i ∷ []) ps
+one_file b lists u i ps plans =
+    let own : Plans ps (file_len b (file_of i u)) (file_origin b lists (file_of i u)) = record {
+      len = plans.len;
+      origin = λ x below. plans.origin x below ∙ ap (file_origin b lists (file_of i u)) (zero-add x);
+    } in
+    (ps, [], sym (append-nil ps), own, refl)
 
 pub lens-more : (b : ℕ) (u : Map) (is js : List InodeId) → lens_of b u (is ++ js) ≡ lens_of b u is + lens_of b u js
 lens-more b u [] js = omega arith
@@ -174,7 +181,26 @@ pub keys-more : (u : Map) (is : List InodeId) (i : InodeId) → files_keys u (is
 keys-more u [] i = append-nil (file_keys u i)
 keys-more u (j ∷ is) i = ap (λ l. file_keys u j ++ l) (keys-more u is i) ∙ sym (append_assoc (file_keys u j) (files_keys u is) (file_keys u i))
 
--- pieces have as many bytes as the files
-pub plans_len : (b : ℕ) (u : Map) (is : List InodeId) (ps : List Piece) → ArePlans b u is ps → pieces_len ps ≡ lens_of b u is
-plans_len b u [] ps plans = ap pieces_len plans
-plans_len b u (i ∷ is) ps plans = omega (arith, ap pieces_len plans.2, pieces_len-append plans.0 plans.1, plans.3.len, plans_len b u is plans.1 plans.4)
+-- no file
+pub ReadsFiles-none : (b : ℕ) (u : Map) (ps : List Piece) → ps ≡ [] → ReadsFiles b u [] [] ps
+ReadsFiles-none b u ps none = record {
+  len = ap pieces_len none;
+  plans = λ lists tell. none;
+  names = λ P Q hole map known. subst (λ (qs : List Piece). PiecesBytes P qs) (sym none) (PiecesBytes-none P);
+  slices = λ P Q map. tt;
+}
+
+-- and one more
+pub ReadsFiles-more : (b : ℕ) (u : Map) (is : List InodeId) (i : InodeId) (fs gs : List ListFact) (ps qs : List Piece) → ReadsFiles b u is fs ps
+    → ReadsFile b (file_of i u) 0 (file_len b (file_of i u)) gs qs
+    → ReadsFiles b u (is ++ i ∷ []) (fs ++ gs) (ps ++ qs)
+ReadsFiles-more b u is i fs gs ps qs first next = record {
+  len = omega (arith, pieces_len-append ps qs, first.len, next.len, lens-more b u is (i ∷ []));
+  plans = λ lists tell.
+      let parts = TellLists-parts lists fs gs tell in
+      plans-more b lists u is i ps qs (first.plans lists parts.0) (one_file b lists u i qs (next.plans lists parts.1));
+  names = λ P Q hole map known.
+      let parts = ListsBytes-parts P Q fs gs known in
+      PiecesBytes-append P ps qs (first.names P Q hole map parts.0) (next.names P Q hole (file_bytes P Q i u map) parts.1);
+  slices = λ P Q map. ListSlices-append P Q fs gs (first.slices P Q map) (next.slices P Q (file_bytes P Q i u map));
+}

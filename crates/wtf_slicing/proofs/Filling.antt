@@ -11,7 +11,7 @@ use Rattle.wtf_values.specs.declared.value.Node.TheVariants.{File as FileNode}
 use Rattle.wtf_values.specs.declared.value.Value.{Value}
 use Rattle.wtf_meta.specs.Maps.{Map}
 use Rattle.wtf_meta.specs.Bytes.{MapBytes}
-use Rattle.wtf_meta.specs.Contents.{Told, is_told}
+use Rattle.wtf_meta.specs.Contents.{Told, is_told, is_listed}
 use Rattle.wtf_meta.specs.FileEdits.{IsLast}
 use Rattle.wtf_meta.specs.Trees.{LeadsTo, IsBody, NodeAt, NamesAt, Stands}
 use Rattle.wtf_meta.proofs.Bodies.{body-stays}
@@ -83,7 +83,8 @@ module _ (b : ℕ) (told : Told) (tx k : ℕ) (w : Map) (t : Tree) (st : Stands 
   none_stays j (inl same) none = absurd (subst (λ v. IsLast v) (subst (λ x. w (Inode x) ≡ None) same none) there.body.has.inode)
   none_stays j (inr other) none = changes.inodes j other ∙ none
 
-  pub stands_filled : (bytes : List ℕ) → IsBody b told new i bytes → MapBytes (is_told told) new → Stands b told tx k new (insert t p (File bytes))
+  pub stands_filled : (bytes : List ℕ) → IsBody b told new i bytes → MapBytes (is_told told) (is_listed b told) new
+      → Stands b told tx k new (insert t p (File bytes))
   stands_filled bytes body told_bytes =
       let u : Tree = insert t p (File bytes) in
       let back : (q : List ℕ) (j : InodeId) → LeadsTo new q j → LeadsTo w q j = λ q j to. sym (changes.paths q) ∙ to in

@@ -4,8 +4,11 @@ mod PeekWays
 mod LayWays
 mod Filling
 mod FileLists
+mod FileReads
+mod TakeFaults
 mod Loops
 mod Regions
+mod KeysRead
 mod MakeWays
 mod CopyWays
 mod ConcatWays

@@ -3,6 +3,7 @@ use Rattle.std.proofs.Common.{◌≡◌, ◌≢◌, ℕ, zero, suc, ◌+◌, ◌
 use Rattle.std.proofs.Math.Path.{fun_ext}
 use Rattle.std.proofs.lemmas.Bool.{cases_lt}
 use Rattle.wtf_base.specs.declared.ids.InodeId.{InodeId}
+use Rattle.wtf_base.specs.declared.slice.Slice.{Slice}
 use Rattle.wtf_kv.specs.declared.changes.Change.TheVariants as change
 use Rattle.wtf_kv.proofs.EditLaws.{Fits-append}
 use Rattle.wtf_overlay.specs.Origin.{Place}
@@ -15,16 +16,16 @@ use Rattle.wtf_values.specs.declared.value.Delta.TheVariants as delta
 use Rattle.wtf_values.specs.Keys.{key_cmp}
 use Rattle.wtf_values.specs.Outcomes.{outcome_of}
 use Rattle.wtf_meta.specs.Maps.{Map, with, AllFit}
-use Rattle.wtf_meta.specs.Bytes.{ValueBytes, MapBytes, EditsBytes}
+use Rattle.wtf_meta.specs.Bytes.{MaybeBytes, MapBytes, EditsBytes}
 use Rattle.wtf_meta.specs.Contents.{Told, HasBytes}
 use Rattle.wtf_meta.specs.Files.{FileView, IsFile}
 use Rattle.wtf_meta.specs.FileEdits.{file_of, last_of, region_of, IsLast, IsRegion}
 use Rattle.wtf_meta.specs.Appends.{count_from}
 use Rattle.wtf_meta.specs.Trees.{IsBody}
+use Rattle.wtf_meta.proofs.FeetFiles.{EachOf, EachOf-append}
 use Rattle.wtf_meta.proofs.Frame.{IsElsewhere, region_differs, inode_differs}
 use Rattle.wtf_meta.proofs.KeyPuts.{put_in, put-same, put-other, with-append}
-use Rattle.wtf_meta.proofs.Named.{EditsBytes-append}
-use Rattle.wtf_meta.proofs.RegionBytes.{MaybeBytes}
+use Rattle.wtf_meta.proofs.Named.{EditsBytes-append, file_bytes}
 use Rattle.wtf_slicing.specs.Copies.{regions_of, put_region, put_regions, fill_edits}
 use Rattle.wtf_slicing.proofs.Filling.{ChangesFile}
 
@@ -91,28 +92,37 @@ puts_fit i r (v ∷ vs) w =
 pub fill_fits : (i : InodeId) (last : ℕ) (vs : List (Option RegionValue)) (w : Map) → AllFit (fill_edits i last vs) w
 fill_fits i last vs w = Fits-append key_cmp outcome_of (put_regions i 0 vs) (change.Delta (Inode i) (delta.Put (value.Last last)) ∷ []) w (puts_fit i 0 vs w) refl
 
--- and names bytes of the regions alone
-one_named : (P : List Place → Bool) (i : InodeId) (r : ℕ) (v : Option RegionValue) → MaybeBytes P v → EditsBytes P (put_region i r v)
-one_named P i r None h = tt
-one_named P i r (Some v) h = (h, tt)
+-- is of the file alone
+one_of : (i : InodeId) (r : ℕ) (v : Option RegionValue) → EachOf i (put_region i r v)
+one_of i r None = tt
+one_of i r (Some v) = (refl, tt)
 
-puts_named : (P : List Place → Bool) (i : InodeId) (g : ℕ → Option RegionValue) (r a n : ℕ) → ((q : ℕ) → a ≤ q → q < a + n → MaybeBytes P (g q)) → EditsBytes P (put_regions i r (map g (count_from a n)))
-puts_named P i g r a zero h = tt
-puts_named P i g r a (suc n) h =
-    EditsBytes-append P (put_region i r (g a)) (put_regions i (r + 1) (map g (count_from (a + 1) n))) (one_named P i r (g a) (h a (omega arith) (omega arith)))
-    (puts_named P i g (r + 1) (a + 1) n (λ q above below. h q (omega arith) (omega arith)))
+puts_of : (i : InodeId) (r : ℕ) (vs : List (Option RegionValue)) → EachOf i (put_regions i r vs)
+puts_of i r [] = tt
+puts_of i r (v ∷ vs) = EachOf-append i (put_region i r v) (put_regions i (r + 1) vs) (one_of i r v) (puts_of i (r + 1) vs)
 
-maybe_bytes : (P : List Place → Bool) (now : Option Value) → ValueBytes P now → MaybeBytes P (region_of now)
-maybe_bytes P None h = tt
-maybe_bytes P (Some (value.Node n)) h = tt
-maybe_bytes P (Some (value.Names ns)) h = tt
-maybe_bytes P (Some (value.Last r)) h = tt
-maybe_bytes P (Some (value.Region v)) h = h
+pub fill_of : (i : InodeId) (last : ℕ) (vs : List (Option RegionValue)) → EachOf i (fill_edits i last vs)
+fill_of i last vs = EachOf-append i (put_regions i 0 vs) (change.Delta (Inode i) (delta.Put (value.Last last)) ∷ []) (puts_of i 0 vs) (refl, tt)
 
-pub fill_named : (P : List Place → Bool) (i j : InodeId) (v : FileView) (w : Map) → MapBytes P w → ((r : ℕ) → r ≤ v.last → v.region r ≡ (file_of j w).region r) → EditsBytes P (fill_edits i v.last (regions_of v))
-fill_named P i j v w map same =
-    EditsBytes-append P (put_regions i 0 (regions_of v)) (change.Delta (Inode i) (delta.Put (value.Last v.last)) ∷ [])
-    (puts_named P i v.region 0 0 (v.last + 1) (λ q above below. subst (MaybeBytes P) (sym (same q (omega arith))) (maybe_bytes P (w (Region j q)) (map (Region j q))))) (tt, tt)
+-- and names bytes and bases of the regions alone
+module _ (P : List Place → Bool) (Q : Slice → Bool) where
+  one_named : (i : InodeId) (r : ℕ) (v : Option RegionValue) → MaybeBytes P Q v → EditsBytes P Q (put_region i r v)
+  one_named i r None h = tt
+  one_named i r (Some v) h = (h, tt)
+
+  puts_named : (i : InodeId) (g : ℕ → Option RegionValue) (r a n : ℕ) → ((q : ℕ) → a ≤ q → q < a + n → MaybeBytes P Q (g q))
+      → EditsBytes P Q (put_regions i r (map g (count_from a n)))
+  puts_named i g r a zero h = tt
+  puts_named i g r a (suc n) h =
+      EditsBytes-append P Q (put_region i r (g a)) (put_regions i (r + 1) (map g (count_from (a + 1) n)))
+      (one_named i r (g a) (h a (omega arith) (omega arith)))
+      (puts_named i g (r + 1) (a + 1) n (λ q above below. h q (omega arith) (omega arith)))
+
+  pub fill_named : (i j : InodeId) (v : FileView) (w : Map) → MapBytes P Q w → ((r : ℕ) → r ≤ v.last → v.region r ≡ (file_of j w).region r)
+      → EditsBytes P Q (fill_edits i v.last (regions_of v))
+  fill_named i j v w map same =
+      EditsBytes-append P Q (put_regions i 0 (regions_of v)) (change.Delta (Inode i) (delta.Put (value.Last v.last)) ∷ [])
+      (puts_named i v.region 0 0 (v.last + 1) (λ q above below. subst (MaybeBytes P Q) (sym (same q (omega arith))) (file_bytes P Q j w map q))) (tt, tt)
 
 -- what stands in a row of values
 counted : {A : Type 0} (g : ℕ → Option A) (a n k : ℕ) → k < n → get_or (map g (count_from a n)) k None ≡ g (a + k)

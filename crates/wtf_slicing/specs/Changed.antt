@@ -15,23 +15,25 @@ use Rattle.wtf_steps.specs.Made.{LaysAt, AddsAt}
 use Rattle.wtf_slicing.specs.declared.op.SliceOp.{SliceOp}
 use Rattle.wtf_slicing.specs.declared.op.SliceOp.TheVariants.{Paste, Glue, Concat, Copy}
 use Rattle.wtf_slicing.specs.Copies.{regions_of, fill_edits}
-use Rattle.wtf_slicing.specs.Sources.{sources_of, ArePlans}
+use Rattle.wtf_slicing.specs.Sights.{Sight}
+use Rattle.wtf_slicing.specs.Sources.{sources_of, ReadsFiles}
 
 -- the pieces of a slice in hand; none of one that was never set
 abbrev pub kept_pieces : SessionView → ℕ → List Piece
 kept_pieces s label = unwrap_or (slice_in s label) []
 
--- a file is made of others: an empty one, over which the bytes of all of them are laid from its begin on
-pub record IsConcat (b : ℕ) (w : Map) (q : List ℕ) (paths : List (List ℕ)) (new : InodeId) (cs : Edits) : Type 0 where
+-- a file is made of others: an empty one, over which the bytes of all of them are laid from its begin on, as the pieces that the
+-- lists of their bases tell
+pub record IsConcat (x : Sight) (q : List ℕ) (paths : List (List ℕ)) (cs : Edits) : Type 0 where
   pub dir : List ℕ
-  pub target : target_of w q ≡ Ok dir
+  pub target : target_of x.map q ≡ Ok dir
   pub files : List InodeId
-  pub sources : sources_of w paths ≡ Ok files
+  pub sources : sources_of x.map paths ≡ Ok files
   pub pieces : List Piece
-  pub plans : ArePlans b w files pieces
+  pub reads : ReadsFiles x.size x.map files x.lists pieces
   pub edits : List FileEdit
-  pub laid : IsLaid b 0 pieces edits
-  pub is : cs ≡ create_edits dir q new ++ edits_of new edits
+  pub laid : IsLaid x.size 0 pieces edits
+  pub is : cs ≡ create_edits dir q x.new ++ edits_of x.new edits
 
 -- a file is made, and gets all regions of another
 abbrev pub copy_changes : Map → List ℕ → List ℕ → InodeId → Edits
@@ -41,10 +43,10 @@ copy_changes w p q new =
 abbrev pub IsCopied : Map → List ℕ → List ℕ → InodeId → Edits → Type 0
 IsCopied w p q new cs = cs ≡ copy_changes w p q new
 
--- where a region has b bytes, and `new` is the inode of a file that is made
-abbrev pub SliceMade : ℕ → Map → SessionView → InodeId → SliceOp → Edits → Type 0
-SliceMade b w s new (Paste f label) cs = LaysAt b (handle_in s f) (kept_pieces s label) cs
-SliceMade b w s new (Glue f label) cs = AddsAt b w (handle_in s f) (kept_pieces s label) cs
-SliceMade b w s new (Concat q paths) cs = IsConcat b w q.now paths.now new cs
-SliceMade b w s new (Copy p q) cs = IsCopied w p.now q.now new cs
-SliceMade b w s new o cs = cs ≡ []
+-- the changes of each call, by what it sees
+abbrev pub SliceMade : Sight → SliceOp → Edits → Type 0
+SliceMade x (Paste f label) cs = LaysAt x.size (handle_in x.hand f) (kept_pieces x.hand label) cs
+SliceMade x (Glue f label) cs = AddsAt x.size x.map (handle_in x.hand f) (kept_pieces x.hand label) cs
+SliceMade x (Concat q paths) cs = IsConcat x q.now paths.now cs
+SliceMade x (Copy p q) cs = IsCopied x.map p.now q.now x.new cs
+SliceMade x o cs = cs ≡ []

@@ -1,5 +1,5 @@
 -- The calls on slices: what each is among the definitions' calls, what it asks, records and reads.
-use Rattle.std.specs.Prelude.{◌≡◌, ℕ, List, [], ⊤}
+use Rattle.std.specs.Prelude.{◌≡◌, ◌⊎◌, ℕ, List, [], Option, Some, Ok, ⊤}
 use Rattle.wtf_base.specs.declared.fault.Fault.{Fault}
 use Rattle.wtf_base.specs.declared.fault.Fault.TheVariants as fault
 use Rattle.wtf_base.specs.declared.ids.InodeId.{InodeId}
@@ -10,18 +10,23 @@ use Rattle.wtf_model.specs.declared.op.Op.{Op}
 use Rattle.wtf_model.specs.declared.op.Op.TheVariants as op
 use Rattle.wtf_model.specs.Form.{IsHandle, IsSlice, IsNumber, IsShowable}
 use Rattle.wtf_values.specs.declared.key.Key.{Key}
+use Rattle.wtf_meta.specs.declared.session.Handle.{Handle}
+use Rattle.wtf_meta.specs.FileEdits.{file_of}
 use Rattle.wtf_meta.specs.Maps.{Map}
 use Rattle.wtf_meta.specs.Sessions.{SessionView, handle_in, slice_in}
 use Rattle.wtf_meta.specs.Calls.{Caller, Did, InHand}
 use Rattle.wtf_region.specs.declared.dev.Dev.{Dev}
+use Rattle.wtf_region.specs.Devs.{stores}
+use Rattle.wtf_region.specs.Reads.{LacksRegion}
 use Rattle.wtf_steps.specs.Faults.{MayFault}
 use Rattle.wtf_steps.specs.Scenes.{Scene}
-use Rattle.wtf_steps.specs.Recorded.{read_keys}
+use Rattle.wtf_steps.specs.Recorded.{found_in, read_keys}
 use Rattle.wtf_steps.specs.Steps.{IsStepWith, NeedsNoBytes}
 use Rattle.wtf_slicing.specs.declared.op.SliceOp.{SliceOp}
 use Rattle.wtf_slicing.specs.declared.op.SliceOp.TheVariants.{Yank, Peek, Cut, Paste, Glue, Concat, Copy}
 use Rattle.wtf_slicing.specs.Recorded.{glue_keys, concat_keys, copy_keys}
-use Rattle.wtf_slicing.specs.Shown.{TellsSlices, LacksSlice}
+use Rattle.wtf_slicing.specs.Shown.{TellsLists, TellsSlices, LacksSlice}
+use Rattle.wtf_slicing.specs.Sources.{sources_of, LacksFile}
 use Rattle.wtf_slicing.specs.Steps.{IsNewFor}
 
 -- the definitions' call
@@ -52,19 +57,33 @@ slice_keys b w s (Concat q ps) = concat_keys w q.now ps.now
 slice_keys b w s (Copy p q) = copy_keys w p.now q.now
 slice_keys b w s o = []
 
--- what is known of the bytes that it reads: none stores any
+-- what is known of the bytes and of the lists that it reads: none stores any byte
 abbrev pub DoesSlice : {S : Type 0} → Scene S → SessionView → SliceOp → Did → Type 0
-DoesSlice sc s (Peek label off n) did = TellsSlices sc.kind sc.before sc.after s did
+DoesSlice sc s (Yank f n label) did = TellsLists sc.kind sc.before sc.after sc.map did
+DoesSlice sc s (Peek label off n) did = TellsSlices sc.kind (stores sc.before) (stores sc.after) s did
+DoesSlice sc s (Concat q ps) did = TellsLists sc.kind sc.before sc.after sc.map did
 DoesSlice sc s o did = NeedsNoBytes did
 
 -- whoever calls, with `made` as the inode of the call, the step is the definitions' call
 abbrev pub IsSliceStep : {S : Type 0} → Scene S → ℕ → InodeId → (old new : InHand) → SliceOp → Answer → Type 0
 IsSliceStep sc b made old new o a = (x : Caller) → x.size ≡ b → IsNewFor x made → IsStepWith (DoesSlice sc old.session o) x sc.map old new (op_of o) a
 
--- why a call gave a fault: only bytes that are to be shown are read; memory may be short at any time
-abbrev pub IsSliceFault : {S : Type 0} → StoreKind S → (old new : Dev S) → SessionView → SliceOp → Fault → Type 0
-IsSliceFault kind old new s (Peek label off n) why = LacksSlice kind old new (slice_in s label) off n why
-IsSliceFault kind old new s o why = why ≡ fault.Memory
+-- why bytes of a file were not taken: a list of a base was not read
+abbrev pub IsYankFault : {S : Type 0} → StoreKind S → (old new : Dev S) → Map → Option Handle → ℕ → Fault → Type 0
+IsYankFault kind old new w handle n why =
+    (why ≡ fault.Memory) ⊎ ((h : Handle) × (handle ≡ Some h) × LacksRegion kind old new (file_of h.inode w) h.off (found_in old.settings.region w h n) why)
+
+-- and why files were not put together
+abbrev pub IsConcatFault : {S : Type 0} → StoreKind S → (old new : Dev S) → Map → List (List ℕ) → Fault → Type 0
+IsConcatFault kind old new w ps why = (why ≡ fault.Memory) ⊎ ((is : List InodeId) × (sources_of w ps ≡ Ok is) × LacksFile kind old new w is why)
+
+-- why a call gave a fault: bytes are read that are to be shown, and the lists of files that are taken; memory may be short at any
+-- time
+abbrev pub IsSliceFault : {S : Type 0} → StoreKind S → (old new : Dev S) → Map → SessionView → SliceOp → Fault → Type 0
+IsSliceFault kind old new w s (Yank f n label) why = IsYankFault kind old new w (handle_in s f) n why
+IsSliceFault kind old new w s (Peek label off n) why = LacksSlice kind old new (slice_in s label) off n why
+IsSliceFault kind old new w s (Concat q ps) why = IsConcatFault kind old new w ps.now why
+IsSliceFault kind old new w s o why = why ≡ fault.Memory
 
 -- and it may come in place of what is due
 abbrev pub MaySliceFault : Settings → Map → SessionView → SliceOp → Fault → Type 0

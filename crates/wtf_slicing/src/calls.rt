@@ -1,16 +1,19 @@
 //! Any of the calls.
 
-ghost use Rattle.std.specs.Prelude.{◌≡◌, ◌≤◌, ◌++◌, [], IfOk, IfErr, OnOk, OnErr, IsTrue};
+ghost use Rattle.std.specs.Prelude.{◌≡◌, ◌≤◌, ◌++◌, List, [], IfOk, IfErr, OnOk, OnErr, IsTrue};
 ghost use Rattle.wtf_kv.specs.Stores.{is_pinned};
 ghost use Rattle.wtf_occ.specs.Attempts.{Grows};
 ghost use Rattle.wtf_model.specs.Steps.{IsLogged};
+ghost use Rattle.wtf_meta.specs.Lists.{ListFact};
 ghost use Rattle.wtf_meta.specs.Maps.{seen};
 ghost use Rattle.wtf_region.specs.Devs.{IsSoundDev, GoesOn, stores, between};
+ghost use Rattle.wtf_region.specs.Reads.{TellsFacts};
 ghost use Rattle.wtf_region.specs.Showing.{OnlyRead};
 ghost use Rattle.wtf_steps.specs.Scenes.{AreInside};
 ghost use Rattle.wtf_steps.specs.Steps.{in_hand, IsRefusal};
 ghost use Rattle.wtf_steps.specs.Made.{Makes};
 ghost use Rattle.wtf_slicing.specs.Changed.{SliceMade};
+ghost use Rattle.wtf_slicing.specs.Sights.{sight};
 ghost use Rattle.wtf_slicing.specs.Ops.{IsFormSlice, IsSliceStep, slice_keys, IsSliceFault, MaySliceFault, NeedsNoStore};
 
 use crate::SliceOp;
@@ -39,7 +42,7 @@ fn run<S: SliceStore>(
     new: InodeId,
     op: &SliceOp<'_>,
 ) -> Result<Answer, Fault>
-    requires sound { IsSoundDev dev.old }
+    requires sound { IsSoundDev S.kind dev.old }
     requires pinned { IsTrue (is_pinned kv.now at.old.base) }
     requires form { IsFormSlice op.now }
     requires inside { AreInside S.kind (stores dev.old) dev.old.settings (seen kv.now at.old) s.old }
@@ -47,16 +50,19 @@ fn run<S: SliceStore>(
         slice_keys dev.old.settings.region (seen kv.now at.old) s.old op.now) }
     ensures step { IfOk result (λ a. IsSliceStep (record {
       kind = S.kind;
-      before = stores dev.old;
-      after = stores dev.new;
+      before = dev.old;
+      after = dev.new;
       map = seen kv.now at.old;
     }) dev.old.settings.region new (in_hand at.old s.old) (in_hand at.new s.new) op.now a) }
-    ensures made { IfOk result (λ a. Makes a (SliceMade dev.old.settings.region
-        (seen kv.now at.old) s.old new op.now) at.old at.new) }
+    ensures made { IfOk result (λ a. (lists : List ListFact) ×
+        TellsFacts S.kind dev.old dev.new lists ×
+        Makes a (SliceMade (sight dev.old.settings.region (seen kv.now at.old) s.old new lists)
+        op.now) at.old at.new) }
     ensures logged { IfOk result (λ a. IsLogged a) }
     ensures refused { IfOk result (λ a. IsRefusal a →
         (dev.new ≡ dev.old) × (at.new.changes ≡ at.old.changes) × (s.new ≡ s.old)) }
-    ensures fault { IfErr result (IsSliceFault S.kind dev.old dev.new s.old op.now) }
+    ensures fault { IfErr result
+        (IsSliceFault S.kind dev.old dev.new (seen kv.now at.old) s.old op.now) }
     ensures due { IfErr result
         (MaySliceFault dev.old.settings (seen kv.now at.old) s.old op.now) }
     ensures err { OnErr result (s.new ≡ s.old) }
@@ -108,7 +114,9 @@ fn run<S: SliceStore>(
 /// A call on slices, or one that makes a file of others, of the inode `new`, which is that of its
 /// transaction's next call. It answers as the definitions' call, records the keys that its answer
 /// rests on, and makes its changes. It stores no byte; only `peek` reads some: `Read` where no copy
-/// of bytes that it was to show could be read. A fault leaves session and attempt as they were.
+/// of bytes that it was to show could be read. `yank` and `concat` read the lists of bases: `Read`
+/// where no copy of one could be read, and `Damaged` where what was read is none. A fault leaves
+/// session and attempt as they were.
 pub fn call<S: SliceStore>(
     alloc: Global,
     dev: &mut Dev<'_, S>,
@@ -118,7 +126,7 @@ pub fn call<S: SliceStore>(
     new: InodeId,
     op: &SliceOp<'_>,
 ) -> Result<Answer, Fault>
-    requires sound { IsSoundDev dev.old }
+    requires sound { IsSoundDev S.kind dev.old }
     requires pinned { IsTrue (is_pinned kv.now at.old.base) }
     requires form { IsFormSlice op.now }
     requires inside { AreInside S.kind (stores dev.old) dev.old.settings (seen kv.now at.old) s.old }
@@ -126,18 +134,21 @@ pub fn call<S: SliceStore>(
         slice_keys dev.old.settings.region (seen kv.now at.old) s.old op.now) }
     ensures step { IfOk result (λ a. IsSliceStep (record {
       kind = S.kind;
-      before = stores dev.old;
-      after = stores dev.new;
+      before = dev.old;
+      after = dev.new;
       map = seen kv.now at.old;
     }) dev.old.settings.region new (in_hand at.old s.old) (in_hand at.new s.new) op.now a) }
-    ensures made { IfOk result (λ a. Makes a (SliceMade dev.old.settings.region
-        (seen kv.now at.old) s.old new op.now) at.old at.new) }
+    ensures made { IfOk result (λ a. (lists : List ListFact) ×
+        TellsFacts S.kind dev.old dev.new lists ×
+        Makes a (SliceMade (sight dev.old.settings.region (seen kv.now at.old) s.old new lists)
+        op.now) at.old at.new) }
     ensures logged { IfOk result (λ a. IsLogged a) }
     ensures refused { IfOk result (λ a. IsRefusal a →
         (dev.new ≡ dev.old) × (at.new.changes ≡ at.old.changes) × (s.new ≡ s.old)) }
     ensures inside { 1 ≤ new.index →
         AreInside S.kind (stores dev.new) dev.old.settings (seen kv.now at.new) s.new }
-    ensures fault { IfErr result (IsSliceFault S.kind dev.old dev.new s.old op.now) }
+    ensures fault { IfErr result
+        (IsSliceFault S.kind dev.old dev.new (seen kv.now at.old) s.old op.now) }
     ensures due { IfErr result
         (MaySliceFault dev.old.settings (seen kv.now at.old) s.old op.now) }
     ensures err { OnErr result ((at.new ≡ at.old) × (s.new ≡ s.old)) }

@@ -1,18 +1,25 @@
 //! The call that makes a file of others.
 
-ghost use Rattle.std.specs.Prelude.{◌≡◌, ◌++◌, [], IsTrue, IfOk, IfErr, OnOk};
+ghost use Rattle.std.specs.Prelude.{◌≡◌, ◌++◌, List, [], IsTrue, IfOk, IfErr, OnOk};
 ghost use Rattle.wtf_kv.specs.Stores.{is_pinned};
 ghost use Rattle.wtf_occ.specs.Attempts.{Grows};
 ghost use Rattle.wtf_model.specs.Steps.{IsLogged};
+ghost use Rattle.wtf_meta.specs.Lists.{ListFact};
 ghost use Rattle.wtf_meta.specs.Maps.{seen};
 ghost use Rattle.wtf_meta.specs.Sessions.{SessionView};
 ghost use Rattle.wtf_meta.specs.Calls.{Caller};
-ghost use Rattle.wtf_region.specs.Devs.{IsSoundDev, GoesOn, between};
+ghost use Rattle.wtf_region.specs.Devs.{IsSoundDev, GoesOn, stores, between};
+ghost use Rattle.wtf_region.specs.Inside.{IsStoredInside};
+ghost use Rattle.wtf_region.specs.Reads.{TellsFacts};
 ghost use Rattle.wtf_region.specs.Showing.{OnlyRead};
-ghost use Rattle.wtf_steps.specs.Steps.{in_hand, IsStepWith, NeedsNoBytes, IsRefusal};
+ghost use Rattle.wtf_steps.specs.Faults.{MayFault};
 ghost use Rattle.wtf_steps.specs.Made.{Makes};
-ghost use Rattle.wtf_slicing.specs.Recorded.{concat_keys};
+ghost use Rattle.wtf_steps.specs.Steps.{in_hand, IsStepWith, IsRefusal};
 ghost use Rattle.wtf_slicing.specs.Changed.{IsConcat};
+ghost use Rattle.wtf_slicing.specs.Ops.{IsConcatFault};
+ghost use Rattle.wtf_slicing.specs.Recorded.{concat_keys};
+ghost use Rattle.wtf_slicing.specs.Shown.{TellsLists};
+ghost use Rattle.wtf_slicing.specs.Sights.{sight};
 ghost use Rattle.wtf_slicing.specs.Steps.{IsNewFor};
 
 use crate::sources::sources;
@@ -29,10 +36,11 @@ use wtf_region::{Dev, put_pieces};
 use wtf_values::{Key, Value};
 
 /// Makes a file at `q`, of the inode `new`, with all bytes of other files, in order: as pieces, so
-/// that no byte is read. It is refused for the root as its target, for one whose parent is no
-/// directory, and for one at which something stands; then for the first of the files that is not
-/// there or a directory; then where the file would pass the greatest length. Nothing changes then.
-/// Want of memory may leave the attempt grown.
+/// that none of these bytes is read, but the lists of the bases under them are. It is refused for
+/// the root as its target, for one whose parent is no directory, and for one at which something
+/// stands; then for the first of the files that is not there or a directory; then where the file
+/// would pass the greatest length. Nothing changes then. `Read` where no copy of a list could be
+/// read, and `Damaged` where what was read is none. A fault may leave the attempt grown.
 pub(crate) fn concat<S: SliceStore>(
     alloc: Global,
     dev: &mut Dev<'_, S>,
@@ -42,20 +50,27 @@ pub(crate) fn concat<S: SliceStore>(
     q: &Path,
     paths: &Paths,
 ) -> Result<Answer, Fault>
-    requires sound { IsSoundDev dev.old }
+    requires sound { IsSoundDev S.kind dev.old }
     requires pinned { IsTrue (is_pinned kv.now at.old.base) }
+    requires inside { IsStoredInside S.kind (stores dev.old) dev.old.settings (seen kv.now at.old) }
     ensures keys { OnOk result (at.new.reads ≡
         at.old.reads ++ concat_keys (seen kv.now at.old) q.now paths.now) }
     ensures step { IfOk result (λ a. (x : Caller) (s : SessionView) →
         x.size ≡ dev.old.settings.region → IsNewFor x new →
-        IsStepWith NeedsNoBytes x (seen kv.now at.old) (in_hand at.old s) (in_hand at.new s)
+        IsStepWith (TellsLists S.kind dev.old dev.new (seen kv.now at.old)) x
+        (seen kv.now at.old) (in_hand at.old s) (in_hand at.new s)
         (Op.Concat q.now paths.now) a) }
-    ensures made { IfOk result (λ a. Makes a (IsConcat dev.old.settings.region (seen kv.now at.old)
-        q.now paths.now new) at.old at.new) }
+    ensures made { IfOk result (λ a. (s : SessionView) → (lists : List ListFact) ×
+        TellsFacts S.kind dev.old dev.new lists ×
+        Makes a (IsConcat (sight dev.old.settings.region (seen kv.now at.old) s new lists)
+        q.now paths.now) at.old at.new) }
     ensures logged { IfOk result (λ a. IsLogged a) }
     ensures refused { IfOk result (λ a. IsRefusal a →
         (dev.new ≡ dev.old) × (at.new.changes ≡ at.old.changes)) }
-    ensures fault { IfErr result (λ why. why ≡ Fault.Memory) }
+    ensures fault { IfErr result
+        (IsConcatFault S.kind dev.old dev.new (seen kv.now at.old) paths.now) }
+    ensures due { IfErr result (λ why. (s : SessionView) →
+        MayFault dev.old.settings (seen kv.now at.old) s (Op.Concat q.now paths.now) why) }
     ensures grows { Grows at.old at.new }
     ensures reads { OnlyRead S.kind (between dev.old dev.new) }
     ensures dev { GoesOn S.kind dev.old dev.new [] }

@@ -135,7 +135,7 @@ pub(crate) fn peek<S: SliceStore>(
     off: u64,
     len: u64,
 ) -> Result<Answer, Fault>
-    requires sound { IsSoundDev dev.old }
+    requires sound { IsSoundDev S.kind dev.old }
     requires inside { SessionBytes (is_inside S.kind (stores dev.old) dev.old.settings) s.now }
     requires from { IsSlice from }
     requires off { IsNumber off }

@@ -1,18 +1,21 @@
 //! Whole files: the values of all regions of one, and the pieces of several, one after another.
 
-ghost use Rattle.std.specs.Prelude.{◌≡◌, ◌<◌, ◌≤◌, ◌+◌, ◌-◌, ◌*◌, ◌^◌, min, [], ◌∷◌, ◌++◌, IsTrue, IfOk, IfErr, OnOk};
+ghost use Rattle.std.specs.Prelude.{◌≡◌, ◌⊎◌, ◌<◌, ◌≤◌, ◌+◌, ◌-◌, ◌*◌, ◌^◌, min, [], ◌∷◌, ◌++◌, IsTrue, IfOk, IfErr, OnOk};
 ghost use Rattle.wtf_kv.specs.Stores.{is_pinned};
 ghost use Rattle.wtf_occ.specs.Attempts.{Grows, GrowsBy};
 ghost use Rattle.wtf_model.specs.declared.limits.TheConstants.{MAX_REGIONS};
 ghost use Rattle.wtf_meta.specs.Maps.{seen};
-ghost use Rattle.wtf_meta.specs.Files.{end_of};
+ghost use Rattle.wtf_meta.specs.Bytes.{FileBytes, any_slice};
+ghost use Rattle.wtf_meta.specs.Files.{end_of, file_len as file_length};
 ghost use Rattle.wtf_meta.specs.FileEdits.{file_of};
 ghost use Rattle.wtf_meta.specs.Appends.{OfLast, OfRegion};
-ghost use Rattle.wtf_region.specs.Devs.{IsSoundDev, GoesOn, between};
+ghost use Rattle.wtf_region.specs.Devs.{IsSoundDev, GoesOn, stores, inside_of, between};
 ghost use Rattle.wtf_region.specs.Edited.{Recorded};
+ghost use Rattle.wtf_region.specs.Inside.{IsStoredInside};
+ghost use Rattle.wtf_region.specs.Reads.{IsFileRead, IsFileFault};
 ghost use Rattle.wtf_region.specs.Showing.{OnlyRead};
 ghost use Rattle.wtf_slicing.specs.Recorded.{whole_keys, files_keys};
-ghost use Rattle.wtf_slicing.specs.Sources.{lens_of, ArePlans};
+ghost use Rattle.wtf_slicing.specs.Sources.{lens_of, AreFilesRead, LacksFile};
 ghost use Rattle.wtf_slicing.specs.Copies.{regions_of};
 
 use std::alloc::Global;
@@ -134,7 +137,8 @@ pub(crate) fn total_len(
     Ok(sum)
 }
 
-/// The bytes of a whole file as pieces. What is looked at is recorded.
+/// The bytes of a whole file as pieces, for which the lists of its bases are read. What is looked at
+/// is recorded.
 fn file_pieces<S: SliceStore>(
     alloc: Global,
     dev: &mut Dev<'_, S>,
@@ -142,15 +146,20 @@ fn file_pieces<S: SliceStore>(
     at: &mut Attempt<Key, Value>,
     inode: InodeId,
 ) -> Result<Vec<Piece>, Fault>
-    requires sound { IsSoundDev dev.old }
+    requires sound { IsSoundDev S.kind dev.old }
     requires pinned { IsTrue (is_pinned kv.now at.old.base) }
+    requires inside { FileBytes (inside_of S.kind dev.old) any_slice
+        (file_of inode (seen kv.now at.old)) }
     requires cap { lens_of dev.old.settings.region (seen kv.now at.old) (inode ∷ []) ≤
         MAX_REGIONS * dev.old.settings.region }
-    ensures plans { IfOk result (λ v. ArePlans dev.old.settings.region (seen kv.now at.old)
-        (inode ∷ []) v.items) }
+    ensures read { IfOk result (λ v.
+        IsFileRead S.kind dev.old dev.new (file_of inode (seen kv.now at.old)) 0
+        (file_length dev.old.settings.region (file_of inode (seen kv.now at.old))) v.items) }
     ensures same { OnOk result (seen kv.now at.new ≡ seen kv.now at.old) }
     ensures grows { Grows at.old at.new }
-    ensures fault { IfErr result (λ why. why ≡ Fault.Memory) }
+    ensures fault { IfErr result
+        (IsFileFault S.kind dev.old dev.new (file_of inode (seen kv.now at.old)) 0
+        (file_length dev.old.settings.region (file_of inode (seen kv.now at.old)))) }
     ensures reads { OnlyRead S.kind (between dev.old dev.new) }
     ensures dev { GoesOn S.kind dev.old dev.new [] }
 {
@@ -176,8 +185,8 @@ fn append(out: &mut Vec<Piece>, more: &[Piece]) -> Result<(), Fault>
     }
 }
 
-/// The bytes of files, one after another, as pieces. Nothing is recorded, since the whole files were
-/// before.
+/// The bytes of files, one after another, as pieces, for which the lists of their bases are read, in
+/// order. Nothing is recorded, since the whole files were before.
 pub(crate) fn all_pieces<S: SliceStore>(
     alloc: Global,
     dev: &mut Dev<'_, S>,
@@ -185,15 +194,17 @@ pub(crate) fn all_pieces<S: SliceStore>(
     at: &mut Attempt<Key, Value>,
     inodes: &[InodeId],
 ) -> Result<Vec<Piece>, Fault>
-    requires sound { IsSoundDev dev.old }
+    requires sound { IsSoundDev S.kind dev.old }
     requires pinned { IsTrue (is_pinned kv.now at.old.base) }
+    requires inside { IsStoredInside S.kind (stores dev.old) dev.old.settings (seen kv.now at.old) }
     requires cap { lens_of dev.old.settings.region (seen kv.now at.old) inodes.now ≤
         MAX_REGIONS * dev.old.settings.region }
-    ensures plans { IfOk result (λ v. ArePlans dev.old.settings.region (seen kv.now at.old)
-        inodes.now v.items) }
+    ensures read { IfOk result (λ v.
+        AreFilesRead S.kind dev.old dev.new (seen kv.now at.old) inodes.now v.items) }
     ensures same { OnOk result (at.new ≡ at.old) }
     ensures grows { Grows at.old at.new }
-    ensures fault { IfErr result (λ why. why ≡ Fault.Memory) }
+    ensures fault { IfErr result (λ why. (why ≡ Fault.Memory) ⊎
+        LacksFile S.kind dev.old dev.new (seen kv.now at.old) inodes.now why) }
     ensures reads { OnlyRead S.kind (between dev.old dev.new) }
     ensures dev { GoesOn S.kind dev.old dev.new [] }
 {

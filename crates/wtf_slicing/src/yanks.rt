@@ -8,10 +8,14 @@ ghost use Rattle.wtf_model.specs.Steps.{IsLogged};
 ghost use Rattle.wtf_meta.specs.Maps.{seen};
 ghost use Rattle.wtf_meta.specs.Sessions.{handle_in};
 ghost use Rattle.wtf_meta.specs.Calls.{Caller};
-ghost use Rattle.wtf_region.specs.Devs.{IsSoundDev, GoesOn, between};
+ghost use Rattle.wtf_region.specs.Devs.{IsSoundDev, GoesOn, stores, between};
+ghost use Rattle.wtf_region.specs.Inside.{IsStoredInside};
 ghost use Rattle.wtf_region.specs.Showing.{OnlyRead};
+ghost use Rattle.wtf_steps.specs.Faults.{MayFault};
 ghost use Rattle.wtf_steps.specs.Recorded.{read_keys};
-ghost use Rattle.wtf_steps.specs.Steps.{in_hand, IsStepWith, NeedsNoBytes, IsRefusal};
+ghost use Rattle.wtf_steps.specs.Steps.{in_hand, IsStepWith, IsRefusal};
+ghost use Rattle.wtf_slicing.specs.Ops.{IsYankFault};
+ghost use Rattle.wtf_slicing.specs.Shown.{TellsLists};
 
 use std::alloc::Global;
 use wtf_base::Fault;
@@ -36,9 +40,10 @@ pub(crate) struct Take {
 }
 
 /// Keeps the next `len` bytes of the file of a handle, or those that are left, as a slice: as pieces,
-/// so that no byte is read. The handle's offset grows by their number, which is the answer. It is
-/// refused for a handle that is not open; then nothing changes. Want of memory leaves the session,
-/// and may leave the attempt grown.
+/// so that none of these bytes is read, but the lists of the bases under them are. The handle's
+/// offset grows by their number, which is the answer. It is refused for a handle that is not open;
+/// then nothing changes. `Read` where no copy of a list could be read, and `Damaged` where what was
+/// read is none. A fault leaves the session, and may leave the attempt grown.
 pub(crate) fn yank<S: SliceStore>(
     alloc: Global,
     dev: &mut Dev<'_, S>,
@@ -47,20 +52,25 @@ pub(crate) fn yank<S: SliceStore>(
     s: &mut Session,
     take: Take,
 ) -> Result<Answer, Fault>
-    requires sound { IsSoundDev dev.old }
+    requires sound { IsSoundDev S.kind dev.old }
     requires pinned { IsTrue (is_pinned kv.now at.old.base) }
+    requires inside { IsStoredInside S.kind (stores dev.old) dev.old.settings (seen kv.now at.old) }
     requires handle { IsHandle take.handle }
     requires slice { IsSlice take.slice }
     ensures keys { OnOk result (at.new.reads ≡ at.old.reads ++ read_keys dev.old.settings.region
         (seen kv.now at.old) (handle_in s.old take.handle) take.len) }
     ensures step { IfOk result (λ a. (x : Caller) → x.size ≡ dev.old.settings.region →
-        IsStepWith NeedsNoBytes x (seen kv.now at.old) (in_hand at.old s.old)
-        (in_hand at.new s.new) (Op.Yank take.handle take.len take.slice) a) }
+        IsStepWith (TellsLists S.kind dev.old dev.new (seen kv.now at.old)) x
+        (seen kv.now at.old) (in_hand at.old s.old) (in_hand at.new s.new)
+        (Op.Yank take.handle take.len take.slice) a) }
     ensures same { OnOk result (at.new.changes ≡ at.old.changes) }
     ensures logged { IfOk result (λ a. IsLogged a) }
     ensures refused { IfOk result (λ a. IsRefusal a →
         (dev.new ≡ dev.old) × (at.new.changes ≡ at.old.changes) × (s.new ≡ s.old)) }
-    ensures fault { IfErr result (λ why. why ≡ Fault.Memory) }
+    ensures fault { IfErr result (IsYankFault S.kind dev.old dev.new (seen kv.now at.old)
+        (handle_in s.old take.handle) take.len) }
+    ensures due { IfErr result (MayFault dev.old.settings (seen kv.now at.old) s.old
+        (Op.Yank take.handle take.len take.slice)) }
     ensures err { OnErr result (s.new ≡ s.old) }
     ensures grows { Grows at.old at.new }
     ensures reads { OnlyRead S.kind (between dev.old dev.new) }

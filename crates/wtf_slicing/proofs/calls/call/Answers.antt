@@ -10,7 +10,7 @@ use Rattle.wtf_slicing.proofs.calls.call.Goals as goal
 pub returns-in-Ok-clause-inside : goal.returns-in-Ok-clause-inside
 returns-in-Ok-clause-inside g c counted =
     keeps_inside g.met.S.SliceStore.laws c.args.dev.now c.run.new.dev c.args.kv.now c.args.at.now c.run.new.at c.args.s.now c.run.new.s c.args.new c.args.op.now c.in-Ok.answer
-    c.requires.sound.shelf c.in-Ok.ensures.dev.each c.in-Ok.ensures.step counted c.requires.inside
+    c.requires.sound.shelf c.in-Ok.ensures.dev c.in-Ok.ensures.step counted c.requires.inside
 
 pub returns-in-Err-clause-inside : goal.returns-in-Err-clause-inside
 returns-in-Err-clause-inside g c counted =

@@ -11,7 +11,7 @@ use Rattle.wtf_meta.specs.Bytes.{PiecesBytes}
 use Rattle.wtf_meta.specs.Sessions.{SessionView, slice_in}
 use Rattle.wtf_meta.specs.Calls.{cap_for, IsCall}
 use Rattle.wtf_meta.proofs.Named.{PiecesBytes-cut}
-use Rattle.wtf_region.specs.Devs.{stores, is_down_in, between}
+use Rattle.wtf_region.specs.Devs.{stores, is_down_in, inside_of, between}
 use Rattle.wtf_region.specs.Inside.{is_inside}
 use Rattle.wtf_region.specs.Showing.{Shown, IsShowFault, pieces_in, AreReadable}
 use Rattle.wtf_region.proofs.InsideLaws.{readable_from}
@@ -63,7 +63,9 @@ returns-in-Err-show-clause-fault g c =
       mid = dev;
       goes = goes_nowhere g.met.S.SliceStore.laws dev c.requires.sound;
       pieces = out;
-      plans = c.in-Ok.ensures;
+      are = c.in-Ok.ensures;
+      inside = PiecesBytes-cut (inside_of kind dev) ps out c.args.off n (c.requires.inside c.args.from ps there)
+          (c.is_part.ensures.inside c.if-not-is_part.false) c.in-Ok.ensures;
       fault = subst (λ (qs : List Piece). IsShowFault kind (between dev new) (pieces_in 0 n qs) c.in-Err-show.why) c.as_slice.ensures.value c.in-Err-show.ensures.fault;
     }))
 
@@ -98,13 +100,14 @@ returns-clause-step g c x b now e =
     subst (λ (old : List ℕ). Shown (byte_at kind (stores dev)) n (λ j. pieces_origin out (0 + j)) old bytes) c.new-out.ensures.items
     (subst (λ (qs : List Piece). Shown (byte_at kind (stores dev)) n (λ j. pieces_origin qs (0 + j)) c.new-out.result.items bytes) c.as_slice.ensures.value c.in-Ok-show.ensures.shown) in
     record {
-      did = shows [] out bytes;
+      did = shows [] [] out bytes;
       grows = GrowsBy-nothing now.at;
-      is_call = subst (λ (v : SessionView). IsCall x b v v (shows [] out bytes) (op.Peek c.args.from off n) (answer.Shown c.of.result)) (sym e)
-          (subst (λ (l : List ℕ). IsCall x b s s (shows [] out bytes) (op.Peek c.args.from off n) (answer.Shown l)) (sym c.of.ensures)
+      is_call = subst (λ (v : SessionView). IsCall x b v v (shows [] [] out bytes) (op.Peek c.args.from off n) (answer.Shown c.of.result)) (sym e)
+          (subst (λ (l : List ℕ). IsCall x b s s (shows [] [] out bytes) (op.Peek c.args.from off n) (answer.Shown l)) (sym c.of.ensures)
           (peeks x b s c.args.from off n ps out bytes there within c.in-Ok.ensures));
       more = record {
         stored = refl;
+        lists = refl;
         told = λ told. (part_tells g.met.S.SliceStore.laws c.in-Ok-show.ensures.dev.each ps out off n bytes within c.in-Ok.ensures shown (told c.args.from ps there), tt);
       };
     }

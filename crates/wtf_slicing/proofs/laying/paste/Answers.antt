@@ -93,7 +93,7 @@ returns-clause-step c x b size =
       did = lays [] h.inode edited.edits;
       grows = edited.grows;
       is_call = pastes x b s f c.args.label h open_at.is ps there t edited.edits (omega (arith, len, c.if-len-eq0.false)) (omega (arith, fit, len, c.cap.ensures, size, open_at.off)) edited.does set;
-      more = record { facts = refl; stored = refl };
+      more = record { facts = refl; stored = refl; lists = refl };
     }
 
 pub returns-in_default-clause-made : goal.returns-in_default-clause-made

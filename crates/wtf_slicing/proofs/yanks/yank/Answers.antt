@@ -1,28 +1,33 @@
-use Rattle.std.proofs.Common.{◌≡◌, ℕ, ◌+◌, ◌++◌, [], Option, Some, sym, ap, ◌∙◌, subst, arith}
+use Rattle.std.proofs.Common.{◌≡◌, ℕ, ◌+◌, ◌++◌, [], Option, Some, refl, sym, ap, ◌∙◌, subst, arith, inl, inr}
 use Rattle.std.specs.Option.{option_map}
+use Rattle.wtf_base.specs.declared.fault.Fault.{Fault}
 use Rattle.wtf_base.specs.declared.ids.InodeId.{InodeId}
 use Rattle.wtf_occ.specs.Attempts.{GrowsBy}
 use Rattle.wtf_occ.proofs.AttemptLaws.{GrowsBy-nothing}
-use Rattle.wtf_overlay.specs.Origin.{Plans}
 use Rattle.wtf_model.specs.declared.answer.Answer.TheVariants as answer
 use Rattle.wtf_model.specs.declared.answer.Word.TheVariants.{NoHandle}
 use Rattle.wtf_model.specs.declared.op.Op.TheVariants as op
 use Rattle.wtf_meta.specs.declared.session.Handle.{Handle}
-use Rattle.wtf_meta.specs.Maps.{seen}
-use Rattle.wtf_meta.specs.Files.{file_origin}
+use Rattle.wtf_meta.specs.Maps.{Map, seen}
+use Rattle.wtf_meta.specs.Bytes.{FileBytes, any_slice}
+use Rattle.wtf_meta.specs.Reads.{ReadsFile}
 use Rattle.wtf_meta.specs.FileEdits.{file_of}
 use Rattle.wtf_meta.specs.Appends.{keys_of, region_keys, touched, length_keys}
 use Rattle.wtf_meta.specs.Sessions.{handle_in, SetsHandle, moved_to}
 use Rattle.wtf_meta.specs.Calls.{cap_for}
+use Rattle.wtf_meta.proofs.Named.{file_bytes}
+use Rattle.wtf_region.specs.Devs.{inside_of}
 use Rattle.wtf_region.proofs.Recording.{still_seen}
+use Rattle.wtf_steps.specs.Faults.{MayFault}
 use Rattle.wtf_steps.specs.Recorded.{found_in, len_keys}
 use Rattle.wtf_steps.specs.Steps.{in_hand}
 use Rattle.wtf_index.proofs.Going.{keys_more}
 use Rattle.wtf_steps.proofs.Ways.{no_handle, step_of, spot_open, spot_closed}
-use Rattle.wtf_steps.proofs.ReadWays.{same_touched, found_due, plans_due}
+use Rattle.wtf_steps.proofs.ReadWays.{same_touched, found_due, reads_due, lacks_due}
 use Rattle.wtf_steps.proofs.Making.{keeps_changes}
 use Rattle.wtf_model.proofs.SliceLaws.{yank-none}
-use Rattle.wtf_slicing.proofs.SliceWays.{yanks}
+use Rattle.wtf_slicing.proofs.SliceWays.{looks, yanks, step_looked}
+use Rattle.wtf_slicing.proofs.TakeFaults.{yank_due}
 use Rattle.wtf_slicing.proofs.yanks.yank.Goals as goal
 
 pub returns-in_default-clause-step : goal.returns-in_default-clause-step
@@ -32,8 +37,72 @@ returns-in_default-clause-step g c x size =
     let b = seen c.args.kv.now c.args.at.now in
     let o = op.Yank take.handle take.len take.slice in
     let at = in_hand c.args.at.now s in
-    step_of x b at at [] o (answer.Refused NoHandle) (GrowsBy-nothing c.args.at.now)
-    (no_handle x b s take.handle o (spot_closed c.handle_of.result (handle_in s take.handle) c.handle_of.ensures c.in_default.is) (λ S none. yank-none (cap_for x) S take.handle take.len take.slice none))
+    step_looked g.S.SliceStore.kind c.args.dev.now c.args.dev.now x b at at o (answer.Refused NoHandle)
+    (step_of x b at at [] o (answer.Refused NoHandle) (GrowsBy-nothing c.args.at.now)
+    (no_handle x b s take.handle o (spot_closed c.handle_of.result (handle_in s take.handle) c.handle_of.ensures c.in_default.is)
+    (λ S none. yank-none (cap_for x) S take.handle take.len take.slice none)))
+
+pub pieces-requires-clause-inside : goal.pieces-requires-clause-inside
+pieces-requires-clause-inside g c =
+    let kind = g.S.SliceStore.kind in
+    let dev = c.args.dev.now in
+    let i = c.in-Some.spot.inode in
+    let b = seen c.args.kv.now c.args.at.now in
+    let same : seen c.args.kv.now c.file_len.new.at ≡ b =
+    still_seen c.args.kv.now i (length_keys (file_of i b)) c.args.at.now c.file_len.new.at c.in-Ok.ensures.recorded in
+    subst (λ (w : Map). FileBytes (inside_of kind dev) any_slice (file_of i w)) (sym same) (file_bytes (inside_of kind dev) any_slice i b c.requires.inside)
+
+pub returns-in-Err-pieces-clause-fault : goal.returns-in-Err-pieces-clause-fault
+returns-in-Err-pieces-clause-fault g c =
+    let kind = g.S.SliceStore.kind in
+    let dev = c.args.dev.now in
+    let n = c.args.take.len in
+    let i = c.in-Some.spot.inode in
+    let u = seen c.args.kv.now c.file_len.new.at in
+    let b = seen c.args.kv.now c.args.at.now in
+    let z = dev.settings.region in
+    let k = c.found_len-k.result in
+    let off = c.in-Some.spot.off in
+    let same : u ≡ b = still_seen c.args.kv.now i (length_keys (file_of i b)) c.args.at.now c.file_len.new.at c.in-Ok.ensures.recorded in
+    let open_at = spot_open c.handle_of.result (handle_in c.args.s.now c.args.take.handle) c.in-Some.spot c.handle_of.ensures c.in-Some.is in
+    let h = open_at.handle in
+    let count : k ≡ found_in z b h n =
+    found_due c.cap.result z c.in-Ok.len off n k i b h c.found_len-k.ensures c.cap.ensures c.in-Ok.ensures.value open_at.inode open_at.off in
+    elim c.in-Err-pieces.ensures.fault [
+      | inl memory ↦ inl memory
+      | inr lacks ↦ inr (
+        h,
+        open_at.is,
+        lacks_due kind dev c.pieces.new.dev u b i h off c.range_start-begin.result k (found_in z b h n) c.in-Err-pieces.why same open_at.inode
+            open_at.off c.range_start-begin.ensures.some count lacks,
+      )
+    ]
+
+pub returns-in-Err-pieces-clause-due : goal.returns-in-Err-pieces-clause-due
+returns-in-Err-pieces-clause-due g c =
+    let kind = g.S.SliceStore.kind in
+    let dev = c.args.dev.now in
+    let s = c.args.s.now in
+    let take = c.args.take in
+    let i = c.in-Some.spot.inode in
+    let u = seen c.args.kv.now c.file_len.new.at in
+    let b = seen c.args.kv.now c.args.at.now in
+    let z = dev.settings.region in
+    let k = c.found_len-k.result in
+    let off = c.in-Some.spot.off in
+    let why = c.in-Err-pieces.why in
+    let same : u ≡ b = still_seen c.args.kv.now i (length_keys (file_of i b)) c.args.at.now c.file_len.new.at c.in-Ok.ensures.recorded in
+    let open_at = spot_open c.handle_of.result (handle_in s take.handle) c.in-Some.spot c.handle_of.ensures c.in-Some.is in
+    let h = open_at.handle in
+    let count : k ≡ found_in z b h take.len =
+    found_due c.cap.result z c.in-Ok.len off take.len k i b h c.found_len-k.ensures c.cap.ensures c.in-Ok.ensures.value open_at.inode open_at.off in
+    elim c.in-Err-pieces.ensures.fault [
+      | inl memory ↦ subst (λ (q : Fault). MayFault dev.settings b s (op.Yank take.handle take.len take.slice) q) (sym memory) (λ x told T size st holds. tt)
+      | inr lacks ↦ yank_due g.met.S.SliceStore.laws dev c.pieces.new.dev b s take.handle take.len take.slice k h why open_at.is count c.requires.sound
+          (file_bytes (inside_of kind dev) any_slice h.inode b c.requires.inside)
+          (lacks_due kind dev c.pieces.new.dev u b i h off c.range_start-begin.result k k why same open_at.inode open_at.off
+          c.range_start-begin.ensures.some refl lacks)
+    ]
 
 pub returns-clause-step : goal.returns-clause-step
 returns-clause-step g c x size =
@@ -59,9 +128,11 @@ returns-clause-step g c x size =
     let off : spot.off ≡ h.off = open_at.off in
     let count0 : k ≡ found_in z b h n = found_due c.cap.result z c.in-Ok.len spot.off n k i b h c.found_len-k.ensures c.cap.ensures c.in-Ok.ensures.value inode off in
     let count : k ≡ found_in x.size b h n = count0 ∙ ap (λ (j : ℕ). found_in j b h n) (sym size) in
-    let plans0 : Plans ps k (λ j. file_origin z (file_of h.inode b) (h.off + j)) =
-    plans_due z (seen c.args.kv.now read) b h i spot.off c.range_start-begin.result k ps same inode off c.range_start-begin.ensures.some c.in-Ok-pieces.ensures.plans in
-    let plans : Plans ps k (λ j. file_origin x.size (file_of h.inode b) (h.off + j)) = subst (λ (q : ℕ). Plans ps k (λ j. file_origin q (file_of h.inode b) (h.off + j))) (sym size) plans0 in
+    let went = c.in-Ok-pieces.ensures.read in
+    let lists = went.facts in
+    let due : ReadsFile x.size (file_of h.inode b) h.off k lists ps =
+    subst (λ (q : ℕ). ReadsFile q (file_of h.inode b) h.off k lists ps) (sym size)
+    (reads_due z (seen c.args.kv.now read) b h i spot.off c.range_start-begin.result k lists ps same inode off c.range_start-begin.ensures.some went.reads) in
     let there : handle_in m f ≡ Some h = c.put_slice.ensures.handles f ∙ open_at.is in
     let set : SetsHandle f (Some (moved_to (h.off + k) h)) m t =
     subst (λ (o : ℕ). SetsHandle f (Some (moved_to (o + k) h)) m t) off
@@ -73,9 +144,19 @@ returns-clause-step g c x size =
     same_touched z c.range_start-begin.result h.off k (λ some. c.range_start-begin.ensures.some some ∙ off) ∙ ap (λ (j : ℕ). touched j h.off k) (sym size) in
     let next : GrowsBy read new (keys_of h.inode (region_keys (touched x.size h.off k))) [] =
     subst (λ rs. GrowsBy read new (keys_of h.inode (region_keys rs)) []) range next0 in
-    step_of x b (in_hand at s) (in_hand new t) (len_keys b h.inode ++ keys_of h.inode (region_keys (touched x.size h.off k))) (op.Yank f n c.args.take.slice) (answer.Len k)
-    (keys_more at read new (len_keys b h.inode) (keys_of h.inode (region_keys (touched x.size h.off k))) first next)
-    (yanks x b s m t f n c.args.take.slice k h ps (omega (arith, size, dev.settings.limits)) open_at.is count plans c.put_slice.ensures set)
+    let keys = len_keys b h.inode ++ keys_of h.inode (region_keys (touched x.size h.off k)) in
+    record {
+      did = looks keys lists;
+      grows = keys_more at read new (len_keys b h.inode) (keys_of h.inode (region_keys (touched x.size h.off k))) first next;
+      is_call = yanks x b s m t f n c.args.take.slice k h lists ps (omega (arith, size, dev.settings.limits)) open_at.is count due c.put_slice.ensures set;
+      more = record {
+        facts = refl;
+        stored = refl;
+        slices = λ P Q map. due.slices P Q (file_bytes P Q h.inode b map);
+        inside = went.inside;
+        lists = went.told;
+      };
+    }
 
 pub returns-clause-same : goal.returns-clause-same
 returns-clause-same g c =
