@@ -40,7 +40,8 @@ module _ (size : ℕ) (kv : Store Key Value) (told : Told) (x : TxnView) (ops : 
   -- on the map at the base the calls that are done are the definitions' run
   pub at_base : (t : Tree) → Stands size told x.tx 0 (metadata_at kv x.at.base) t
       → Ran (caller_at size x.tx 0) told (metadata_at kv x.at.base) (with x.at.changes (metadata_at kv x.at.base)) x.session t (first_of x ops x.replayed)
-  at_base t st = sound.run.acts told (metadata_at kv x.at.base) t (Agree-itself x.at.reads (metadata_at kv x.at.base)) sound.run.fits sound.told_are st
+  at_base t st =
+      sound.run.acts told (metadata_at kv x.at.base) t (Agree-itself x.at.reads (metadata_at kv x.at.base)) sound.run.fits sound.told_are sound.lists_are st
 
   -- the map that the next call sees stands for the tree before it
   pub before_next : (t : Tree) → Stands size told x.tx 0 (metadata_at kv x.at.base) t → x.replayed ≤ length ops

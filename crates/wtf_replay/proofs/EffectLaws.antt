@@ -22,6 +22,7 @@ use Rattle.wtf_values.specs.declared.value.Node.TheVariants.{Folder, File}
 use Rattle.wtf_log.specs.Calls.{Calls, own_of}
 use Rattle.wtf_meta.specs.declared.session.Handle.{Handle}
 use Rattle.wtf_values.specs.declared.value.Value.{Value}
+use Rattle.wtf_meta.specs.Lists.{ListFact}
 use Rattle.wtf_meta.specs.Maps.{Map, Edits, seen}
 use Rattle.wtf_meta.specs.Sessions.{SessionView, at_label, handle_in, IsOff}
 use Rattle.wtf_index.specs.Checks.{stands_at}
@@ -41,7 +42,9 @@ use Rattle.wtf_meta.specs.Calls.{InHand}
 use Rattle.wtf_replay.specs.Views.{TxnView, hand_of}
 use Rattle.wtf_replay.specs.Built.{IsOpOf, IsSliceOpOf, IsFresh, IsStored, data_len}
 use Rattle.wtf_replay.specs.Looked.{IsHeld, IsLooked}
-use Rattle.wtf_replay.specs.Effects.{Sight, sight, is_by, is_held, unless_file, taken_keys, taken_changes, call_keys, CallMakes, Acts, kept_len, sight_at, Redoes, AreRedone}
+use Rattle.wtf_slicing.specs.Sights.{Sight, sight}
+use Rattle.wtf_replay.specs.Effects.{is_by, is_held, unless_file, taken_keys, taken_changes, call_keys, CallMakes}
+use Rattle.wtf_replay.specs.Effects.{Acts, kept_len, Scope, sight_at, Redoes, AreRedone}
 
 -- a handle that is opened by a path is found
 held_among : (p : List ℕ) (hs : List (Option Handle)) (f : ℕ) (h : Handle) → at_label hs f ≡ Some h → h.path ≡ p → list_any (is_by p) hs ≡ true
@@ -134,58 +137,68 @@ pub acts_as : {D : Type 0} (x : Sight) (n : ℕ) (own : Option Slice) (o p : Op 
 acts_as {D} x n own o p a old new is acts = subst (λ (k : Op D). Acts x n own k a old new) (sym is) acts
 
 module _ (z : ℕ) (w : Map) (s : SessionView) (new : InodeId) (a : Answer) (old into : Attempted Key Delta) (base : into.base ≡ old.base) where
+  abbrev by : List ListFact → Sight
+  by lists = sight z w s new lists
+
+  fresh_as : (own : Option Slice) (p o : Op (List ℕ)) → o ≡ p → into.reads ≡ old.reads ++ call_keys (by []) (data_len p) p → CallMakes (by []) own p a old into
+      → Acts (by []) (data_len o) own o a old into
+  fresh_as own p o is keys makes =
+      subst (λ (k : Op (List ℕ)). Acts (by []) (data_len k) own k a old into) (sym is) (record { base = base; keys = keys; makes = makes })
+
   -- a call on handles or bytes that was made for the first time
-  pub acts_fresh : (r : RwOp) (o : Op (List ℕ)) (own : Option Slice) → IsOpOf IsFresh r o → into.reads ≡ old.reads ++ rw_keys z w s r → Makes a (RwMade z w s r own) old into
-      → Acts (sight z w s new) (data_len o) own o a old into
-  acts_fresh (rw.Open f p) o own is keys made = subst (λ (k : Op (List ℕ)). Acts (sight z w s new) (data_len k) own k a old into) (sym is) (record { base = base; keys = keys; makes = no_change a old into made })
-  acts_fresh (rw.Close f) o own is keys made = subst (λ (k : Op (List ℕ)). Acts (sight z w s new) (data_len k) own k a old into) (sym is) (record { base = base; keys = keys; makes = no_change a old into made })
-  acts_fresh (rw.Seek f place) o own is keys made = subst (λ (k : Op (List ℕ)). Acts (sight z w s new) (data_len k) own k a old into) (sym is) (record { base = base; keys = keys; makes = no_change a old into made })
-  acts_fresh (rw.Tell f) o own is keys made = subst (λ (k : Op (List ℕ)). Acts (sight z w s new) (data_len k) own k a old into) (sym is) (record { base = base; keys = keys; makes = no_change a old into made })
-  acts_fresh (rw.Read f n) o own is keys made = subst (λ (k : Op (List ℕ)). Acts (sight z w s new) (data_len k) own k a old into) (sym is) (record { base = base; keys = keys; makes = no_change a old into made })
-  acts_fresh (rw.Write f (Fresh bs)) o own is keys made = subst (λ (k : Op (List ℕ)). Acts (sight z w s new) (data_len k) own k a old into) (sym is.1) (record { base = base; keys = keys; makes = made })
+  pub acts_fresh : (r : RwOp) (o : Op (List ℕ)) (own : Option Slice) → IsOpOf IsFresh r o → into.reads ≡ old.reads ++ rw_keys z w s r
+      → Makes a (RwMade z w s r own) old into → Acts (by []) (data_len o) own o a old into
+  acts_fresh (rw.Open f p) o own is keys made = fresh_as own (op.Open f p.now) o is keys (no_change a old into made)
+  acts_fresh (rw.Close f) o own is keys made = fresh_as own (op.Close f) o is keys (no_change a old into made)
+  acts_fresh (rw.Seek f place) o own is keys made = fresh_as own (op.Seek f place) o is keys (no_change a old into made)
+  acts_fresh (rw.Tell f) o own is keys made = fresh_as own (op.Tell f) o is keys (no_change a old into made)
+  acts_fresh (rw.Read f n) o own is keys made = fresh_as own (op.Read f n) o is keys (no_change a old into made)
+  acts_fresh (rw.Write f (Fresh bs)) o own is keys made = fresh_as own (op.Write f is.0) o is.1 keys made
   acts_fresh (rw.Write f (Stored kept)) o own is keys made = absurd is.2
   acts_fresh (rw.Append f (Fresh bs)) o own is keys made =
       let n : length bs.now ≡ length is.0 = ap length (sym is.2) in
-      subst (λ (k : Op (List ℕ)). Acts (sight z w s new) (data_len k) own k a old into) (sym is.1) (record {
-        base = base;
-        keys = subst (λ (m : ℕ). into.reads ≡ old.reads ++ call_keys (sight z w s new) m (op.Append f is.0)) n keys;
-        makes = made;
-      })
+      fresh_as own (op.Append f is.0) o is.1 (subst (λ (m : ℕ). into.reads ≡ old.reads ++ call_keys (by []) m (op.Append f is.0)) n keys) made
   acts_fresh (rw.Append f (Stored kept)) o own is keys made = absurd is.2
-  acts_fresh (rw.Truncate f n) o own is keys made = subst (λ (k : Op (List ℕ)). Acts (sight z w s new) (data_len k) own k a old into) (sym is) (record { base = base; keys = keys; makes = made })
-  acts_fresh (rw.Punch f n) o own is keys made = subst (λ (k : Op (List ℕ)). Acts (sight z w s new) (data_len k) own k a old into) (sym is) (record { base = base; keys = keys; makes = made })
-  acts_fresh (rw.Stat p) o own is keys made = subst (λ (k : Op (List ℕ)). Acts (sight z w s new) (data_len k) own k a old into) (sym is) (record { base = base; keys = keys; makes = no_change a old into made })
+  acts_fresh (rw.Truncate f n) o own is keys made = fresh_as own (op.Truncate f n) o is keys made
+  acts_fresh (rw.Punch f n) o own is keys made = fresh_as own (op.Punch f n) o is keys made
+  acts_fresh (rw.Stat p) o own is keys made = fresh_as own (op.Stat p.now) o is keys (no_change a old into made)
+
+  again_as : (p k : Op Kept) → k ≡ p → into.reads ≡ old.reads ++ call_keys (by []) (kept_len p) p → CallMakes (by []) (own_of p) p a old into
+      → Acts (by []) (kept_len k) (own_of k) k a old into
+  again_as p k is keys makes =
+      subst (λ (q : Op Kept). Acts (by []) (kept_len q) (own_of q) q a old into) (sym is) (record { base = base; keys = keys; makes = makes })
 
   -- one that is made once more, on what a log kept of its data
-  pub acts_again : (r : RwOp) (k : Op Kept) (own : Option Slice) → IsOpOf IsStored r k → into.reads ≡ old.reads ++ rw_keys z w s r → Makes a (RwMade z w s r own) old into
-      → Acts (sight z w s new) (kept_len k) (own_of k) k a old into
-  acts_again (rw.Open f p) k own is keys made = subst (λ (q : Op Kept). Acts (sight z w s new) (kept_len q) (own_of q) q a old into) (sym is) (record { base = base; keys = keys; makes = no_change a old into made })
-  acts_again (rw.Close f) k own is keys made = subst (λ (q : Op Kept). Acts (sight z w s new) (kept_len q) (own_of q) q a old into) (sym is) (record { base = base; keys = keys; makes = no_change a old into made })
-  acts_again (rw.Seek f place) k own is keys made = subst (λ (q : Op Kept). Acts (sight z w s new) (kept_len q) (own_of q) q a old into) (sym is) (record { base = base; keys = keys; makes = no_change a old into made })
-  acts_again (rw.Tell f) k own is keys made = subst (λ (q : Op Kept). Acts (sight z w s new) (kept_len q) (own_of q) q a old into) (sym is) (record { base = base; keys = keys; makes = no_change a old into made })
-  acts_again (rw.Read f n) k own is keys made = subst (λ (q : Op Kept). Acts (sight z w s new) (kept_len q) (own_of q) q a old into) (sym is) (record { base = base; keys = keys; makes = no_change a old into made })
+  pub acts_again : (r : RwOp) (k : Op Kept) (own : Option Slice) → IsOpOf IsStored r k → into.reads ≡ old.reads ++ rw_keys z w s r
+      → Makes a (RwMade z w s r own) old into → Acts (by []) (kept_len k) (own_of k) k a old into
+  acts_again (rw.Open f p) k own is keys made = again_as (op.Open f p.now) k is keys (no_change a old into made)
+  acts_again (rw.Close f) k own is keys made = again_as (op.Close f) k is keys (no_change a old into made)
+  acts_again (rw.Seek f place) k own is keys made = again_as (op.Seek f place) k is keys (no_change a old into made)
+  acts_again (rw.Tell f) k own is keys made = again_as (op.Tell f) k is keys (no_change a old into made)
+  acts_again (rw.Read f n) k own is keys made = again_as (op.Read f n) k is keys (no_change a old into made)
   acts_again (rw.Write f (Fresh bs)) k own is keys made = absurd is.2
-  acts_again (rw.Write f (Stored kept)) k own is keys made =
-      let same : k ≡ op.Write f kept = is.1 ∙ ap (λ (e : Kept). op.Write f e) is.2 in
-      subst (λ (q : Op Kept). Acts (sight z w s new) (kept_len q) (own_of q) q a old into) (sym same) (record { base = base; keys = keys; makes = made })
+  acts_again (rw.Write f (Stored kept)) k own is keys made = again_as (op.Write f kept) k (is.1 ∙ ap (λ (e : Kept). op.Write f e) is.2) keys made
   acts_again (rw.Append f (Fresh bs)) k own is keys made = absurd is.2
-  acts_again (rw.Append f (Stored kept)) k own is keys made =
-      let same : k ≡ op.Append f kept = is.1 ∙ ap (λ (e : Kept). op.Append f e) is.2 in
-      subst (λ (q : Op Kept). Acts (sight z w s new) (kept_len q) (own_of q) q a old into) (sym same) (record { base = base; keys = keys; makes = made })
-  acts_again (rw.Truncate f n) k own is keys made = subst (λ (q : Op Kept). Acts (sight z w s new) (kept_len q) (own_of q) q a old into) (sym is) (record { base = base; keys = keys; makes = made })
-  acts_again (rw.Punch f n) k own is keys made = subst (λ (q : Op Kept). Acts (sight z w s new) (kept_len q) (own_of q) q a old into) (sym is) (record { base = base; keys = keys; makes = made })
-  acts_again (rw.Stat p) k own is keys made = subst (λ (q : Op Kept). Acts (sight z w s new) (kept_len q) (own_of q) q a old into) (sym is) (record { base = base; keys = keys; makes = no_change a old into made })
+  acts_again (rw.Append f (Stored kept)) k own is keys made = again_as (op.Append f kept) k (is.1 ∙ ap (λ (e : Kept). op.Append f e) is.2) keys made
+  acts_again (rw.Truncate f n) k own is keys made = again_as (op.Truncate f n) k is keys made
+  acts_again (rw.Punch f n) k own is keys made = again_as (op.Punch f n) k is keys made
+  acts_again (rw.Stat p) k own is keys made = again_as (op.Stat p.now) k is keys (no_change a old into made)
 
-  -- and a call on slices, or one that makes a file of others
-  pub acts_slice : {D : Type 0} (r : SliceOp) (o : Op D) (n : ℕ) (own : Option Slice) → IsSliceOpOf r o → into.reads ≡ old.reads ++ slice_keys z w s r → Makes a (SliceMade z w s new r) old into
-      → Acts (sight z w s new) n own o a old into
-  acts_slice (slicing.Yank f m l) o n own is keys made = acts_as (sight z w s new) n own o (op.Yank f m l) a old into is (record { base = base; keys = keys; makes = no_change a old into made })
-  acts_slice (slicing.Peek l off m) o n own is keys made = acts_as (sight z w s new) n own o (op.Peek l off m) a old into is (record { base = base; keys = keys; makes = no_change a old into made })
-  acts_slice (slicing.Cut l off m t) o n own is keys made = acts_as (sight z w s new) n own o (op.Cut l off m t) a old into is (record { base = base; keys = keys; makes = no_change a old into made })
-  acts_slice (slicing.Paste f l) o n own is keys made = acts_as (sight z w s new) n own o (op.Paste f l) a old into is (record { base = base; keys = keys; makes = made })
-  acts_slice (slicing.Glue f l) o n own is keys made = acts_as (sight z w s new) n own o (op.Glue f l) a old into is (record { base = base; keys = keys; makes = made })
-  acts_slice (slicing.Concat q ps) o n own is keys made = acts_as (sight z w s new) n own o (op.Concat q.now ps.now) a old into is (record { base = base; keys = keys; makes = made })
-  acts_slice (slicing.Copy p q) o n own is keys made = acts_as (sight z w s new) n own o (op.Copy p.now q.now) a old into is (record { base = base; keys = keys; makes = made })
+  module _ {D : Type 0} (lists : List ListFact) (n : ℕ) (own : Option Slice) where
+    slice_as : (p o : Op D) → o ≡ p → into.reads ≡ old.reads ++ call_keys (by lists) n p → CallMakes (by lists) own p a old into
+        → Acts (by lists) n own o a old into
+    slice_as p o is keys makes = acts_as (by lists) n own o p a old into is (record { base = base; keys = keys; makes = makes })
+
+    -- and a call on slices, or one that makes a file of others
+    pub acts_slice : (r : SliceOp) (o : Op D) → IsSliceOpOf r o → into.reads ≡ old.reads ++ slice_keys z w s r → Makes a (SliceMade (by lists) r) old into
+        → Acts (by lists) n own o a old into
+    acts_slice (slicing.Yank f m l) o is keys made = slice_as (op.Yank f m l) o is keys (no_change a old into made)
+    acts_slice (slicing.Peek l off m) o is keys made = slice_as (op.Peek l off m) o is keys (no_change a old into made)
+    acts_slice (slicing.Cut l off m t) o is keys made = slice_as (op.Cut l off m t) o is keys (no_change a old into made)
+    acts_slice (slicing.Paste f l) o is keys made = slice_as (op.Paste f l) o is keys made
+    acts_slice (slicing.Glue f l) o is keys made = slice_as (op.Glue f l) o is keys made
+    acts_slice (slicing.Concat q ps) o is keys made = slice_as (op.Concat q.now ps.now) o is keys made
+    acts_slice (slicing.Copy p q) o is keys made = slice_as (op.Copy p.now q.now) o is keys made
 
 -- a call on names, from what it went on by
 pub acts_name : {D : Type 0} (x : Sight) (n : ℕ) (own : Option Slice) (o : Op D) (a : Answer) (old new : Attempted Key Delta) (cs : Edits) → GrowsBy old new (call_keys x n o) cs
@@ -193,27 +206,50 @@ pub acts_name : {D : Type 0} (x : Sight) (n : ℕ) (own : Option Slice) (o : Op 
 acts_name x n own o a old new cs went makes = record { base = went.base; keys = went.reads; makes = makes went.changes }
 
 -- no call yet
-pub redone_none : (size : ℕ) (kv : Store Key Value) (x : TxnView) (n : ℕ) (hand : InHand) → n ≡ 0 → hand ≡ hand_of x → AreRedone size kv x n hand
-redone_none size kv x n hand none is = subst (λ (k : ℕ). AreRedone size kv x k hand) (sym none) is
+pub redone_none : (b : Scope) (kv : Store Key Value) (x : TxnView) (n : ℕ) (hand : InHand) → n ≡ 0 → hand ≡ hand_of x → AreRedone b kv x n hand
+redone_none b kv x n hand none is = subst (λ (k : ℕ). AreRedone b kv x k hand) (sym none) is
 
 -- one call more was made once more
-pub redone_more : (size : ℕ) (kv : Store Key Value) (x : TxnView) (n m : ℕ) (mid hand : InHand) → m ≡ n + 1 → AreRedone size kv x n mid → Redoes size kv x (x.replayed + n) mid hand → AreRedone size kv x m hand
-redone_more size kv x n m mid hand is first one =
+pub redone_more : (b : Scope) (kv : Store Key Value) (x : TxnView) (n m : ℕ) (mid hand : InHand) → m ≡ n + 1 → AreRedone b kv x n mid
+    → Redoes b kv x (x.replayed + n) mid hand → AreRedone b kv x m hand
+redone_more b kv x n m mid hand is first one =
     let next : m ≡ suc n = omega (arith, is) in
-    subst (λ (k : ℕ). AreRedone size kv x k hand) (sym next) (mid, first, one)
+    subst (λ (k : ℕ). AreRedone b kv x k hand) (sym next) (mid, first, one)
 
 -- what was made once more of a transaction that has the same number, log, attempt and session, and as many calls done
-pub redone_as : (size : ℕ) (kv : Store Key Value) (x y : TxnView) (n : ℕ) (hand : InHand) → y.tx ≡ x.tx → y.log ≡ x.log → y.replayed ≡ x.replayed → hand_of y ≡ hand_of x → AreRedone size kv x n hand → AreRedone size kv y n hand
-redone_as size kv x y zero hand tx log replayed same h = h ∙ sym same
-redone_as size kv x y (suc n) hand tx log replayed same h = (
+pub redone_as : (b : Scope) (kv : Store Key Value) (x y : TxnView) (n : ℕ) (hand : InHand) → y.tx ≡ x.tx → y.log ≡ x.log → y.replayed ≡ x.replayed
+    → hand_of y ≡ hand_of x → AreRedone b kv x n hand → AreRedone b kv y n hand
+redone_as b kv x y zero hand tx log replayed same h = h ∙ sym same
+redone_as b kv x y (suc n) hand tx log replayed same h = (
   h.0,
-  redone_as size kv x y n h.0 tx log replayed same h.1,
+  redone_as b kv x y n h.0 tx log replayed same h.1,
   record {
     op = h.2.op;
     at_op = subst (λ (l : Calls). slice_get l.ops (y.replayed + n) ≡ Some h.2.op) (sym log) (subst (λ (k : ℕ). slice_get x.log.ops (k + n) ≡ Some h.2.op) (sym replayed) h.2.at_op);
     shown = h.2.shown;
     at_shown = subst (λ (l : Calls). slice_get l.shown (y.replayed + n) ≡ Some h.2.shown) (sym log) (subst (λ (k : ℕ). slice_get x.log.shown (k + n) ≡ Some h.2.shown) (sym replayed) h.2.at_shown);
-    acts = subst (λ (t : ℕ). Acts (sight_at size kv t (y.replayed + n) h.0) (kept_len h.2.op) (own_of h.2.op) h.2.op h.2.shown h.0.at hand.at) (sym tx)
-        (subst (λ (k : ℕ). Acts (sight_at size kv x.tx (k + n) h.0) (kept_len h.2.op) (own_of h.2.op) h.2.op h.2.shown h.0.at hand.at) (sym replayed) h.2.acts);
+    lists = h.2.lists;
+    known = h.2.known;
+    acts = subst (λ (t : ℕ). Acts (sight_at b.size kv t (y.replayed + n) h.0 h.2.lists) (kept_len h.2.op) (own_of h.2.op) h.2.op h.2.shown h.0.at hand.at)
+        (sym tx)
+        (subst (λ (k : ℕ). Acts (sight_at b.size kv x.tx (k + n) h.0 h.2.lists) (kept_len h.2.op) (own_of h.2.op) h.2.op h.2.shown h.0.at hand.at)
+        (sym replayed) h.2.acts);
   },
 )
+
+-- and where more lists are known
+module _ (b c : Scope) (size : c.size ≡ b.size) (more : (lists : List ListFact) → b.known lists → c.known lists) where
+  pub redo_later : (kv : Store Key Value) (x : TxnView) (k : ℕ) (old new : InHand) → Redoes b kv x k old new → Redoes c kv x k old new
+  redo_later kv x k old new h = record {
+    op = h.op;
+    at_op = h.at_op;
+    shown = h.shown;
+    at_shown = h.at_shown;
+    lists = h.lists;
+    known = more h.lists h.known;
+    acts = subst (λ (z : ℕ). Acts (sight_at z kv x.tx k old h.lists) (kept_len h.op) (own_of h.op) h.op h.shown old.at new.at) (sym size) h.acts;
+  }
+
+  pub redone_later : (kv : Store Key Value) (x : TxnView) (n : ℕ) (hand : InHand) → AreRedone b kv x n hand → AreRedone c kv x n hand
+  redone_later kv x zero hand h = h
+  redone_later kv x (suc n) hand h = (h.0, redone_later kv x n h.0 h.1, redo_later kv x (x.replayed + n) h.0 hand h.2)

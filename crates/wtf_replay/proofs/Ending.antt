@@ -20,24 +20,9 @@ use Rattle.wtf_model.specs.Lawful.{Deviates}
 use Rattle.wtf_meta.specs.Calls.{cap_for}
 use Rattle.wtf_replay.specs.Sounds.{caller_at, did_by}
 use Rattle.wtf_replay.specs.Tried.{IsFinal, KeepsVersions}
-use Rattle.wtf_replay.specs.Replays.{IsAborted, IsStepped, DeviatesOn, IsTrueStep, IsEnded, IsTrueEnd}
+use Rattle.wtf_replay.specs.Replays.{DeviatesOn, IsEnded, IsTrueEnd}
 
 -- an answer that tells of calls that deviate
-pub stepped_aborted : (r : Answer) (i : ℕ) (a : Answer) (old new : TxnView) → IsAbortedAt r i a → IsAborted old new i → IsStepped old new r
-stepped_aborted (Aborted' j box b) i a old new is aborted = subst (IsAborted old new) (sym is.0) aborted
-stepped_aborted r i a old new is aborted = absurd is
-
-pub true_step_aborted : (r : Answer) (i : ℕ) (a : Answer) (size : ℕ) (both : Told × Told) (kv : Store Key Value) (txns : TxnView × TxnView) (ops : List (Op (List ℕ))) → IsAbortedAt r i a
-    → DeviatesOn (metadata_at kv txns.0.at.base) size both.0 txns.0 ops i a → IsTrueStep size both kv txns ops r
-true_step_aborted (Aborted' j box b) i a size both kv txns ops is deviates =
-    subst (λ n. DeviatesOn (metadata_at kv txns.0.at.base) size both.0 txns.0 ops n b) (sym is.0)
-    (subst (λ x. DeviatesOn (metadata_at kv txns.0.at.base) size both.0 txns.0 ops i x) (sym is.1) deviates)
-true_step_aborted r i a size both kv txns ops is deviates = absurd is
-
-pub ended_aborted : (r : Answer) (i : ℕ) (a : Answer) (kv after : Store Key Value) → IsAbortedAt r i a → after.number ≡ kv.number → IsEnded kv after r
-ended_aborted (Aborted' j box b) i a kv after is same = same
-ended_aborted r i a kv after is same = absurd is
-
 pub true_end_aborted : (r : Answer) (i : ℕ) (a : Answer) (size : ℕ) (told : Told × Told) (kv after : Store Key Value) (x : TxnView) (ops : List (Op (List ℕ))) → IsAbortedAt r i a
     → DeviatesOn (metadata_at kv kv.number) size told.0 x ops i a → IsTrueEnd size told kv after x ops r
 true_end_aborted (Aborted' j box b) i a size told kv after x ops is deviates =
@@ -58,9 +43,11 @@ final_as size told kv after x y ops n tx log f = record {
   session = f.session;
   facts = f.facts;
   stored = f.stored;
+  lists = f.lists;
   told_are = f.told_are;
-  run = subst (λ c. IsRun (caller_at size c 0) (metadata_at kv f.at.base) f.session (did_by f.at f.facts f.stored) (ops, y.log.shown)) (sym tx)
-      (subst (λ l. IsRun (caller_at size x.tx 0) (metadata_at kv f.at.base) f.session (did_by f.at f.facts f.stored) (ops, l.shown)) (sym log) f.run);
+  lists_are = f.lists_are;
+  run = subst (λ c. IsRun (caller_at size c 0) (metadata_at kv f.at.base) f.session (did_by f.at f.facts f.stored f.lists) (ops, y.log.shown)) (sym tx)
+      (subst (λ l. IsRun (caller_at size x.tx 0) (metadata_at kv f.at.base) f.session (did_by f.at f.facts f.stored f.lists) (ops, l.shown)) (sym log) f.run);
   agree = f.agree;
   fits = f.fits;
   next = f.next;
@@ -85,8 +72,10 @@ final_along size told kv kv2 after after2 x ops n number same keeps number2 maps
       session = f.session;
       facts = f.facts;
       stored = f.stored;
+      lists = f.lists;
       told_are = f.told_are;
-      run = subst (λ w. IsRun (caller_at size x.tx 0) w f.session (did_by f.at f.facts f.stored) (ops, x.log.shown)) (sym (same f.at.base)) f.run;
+      lists_are = f.lists_are;
+      run = subst (λ w. IsRun (caller_at size x.tx 0) w f.session (did_by f.at f.facts f.stored f.lists) (ops, x.log.shown)) (sym (same f.at.base)) f.run;
       agree = subst (λ w. Agree f.at.reads (metadata_at kv2 f.at.base) w) (sym map) (subst (λ w. Agree f.at.reads w (metadata_at kv kv.number)) (sym (same f.at.base)) f.agree);
       fits = subst (AllFit f.at.changes) (sym map) f.fits;
       next = f.next ∙ ap (λ k. k + 1) (sym number);

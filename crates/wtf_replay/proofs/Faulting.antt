@@ -6,14 +6,14 @@ use Rattle.wtf_base.specs.declared.fault.Fault.TheVariants as fault
 use Rattle.wtf_base.specs.declared.kept.Kept.{Kept}
 use Rattle.wtf_base.specs.declared.slice.Slice.{Slice}
 use Rattle.wtf_base.specs.declared.settings.Settings.{Settings}
-use Rattle.wtf_dev.specs.Store.{StoreKind, KindLaws}
+use Rattle.wtf_dev.specs.Store.{Range, StoreKind, KindLaws}
 use Rattle.wtf_kv.specs.Stores.{Store}
 use Rattle.wtf_occ.specs.Tries.{Stays}
 use Rattle.wtf_model.specs.declared.answer.Answer.{Answer}
 use Rattle.wtf_model.specs.declared.answer.Answer.TheVariants as answer
 use Rattle.wtf_model.specs.declared.op.Op.{Op}
 use Rattle.wtf_model.specs.declared.op.Op.TheVariants as op
-use Rattle.wtf_model.specs.Lawful.{IsDone, IsReadFault, MayFailRead, MayFailPeek}
+use Rattle.wtf_model.specs.Lawful.{IsDone, IsReadFault, MayFailRead, MayFailYank, MayFailPeek, MayFailConcat}
 use Rattle.wtf_model.specs.Session.{Session, fresh}
 use Rattle.wtf_model.specs.Call.{call}
 use Rattle.wtf_model.specs.Transaction.{answers_of, session_after}
@@ -30,13 +30,16 @@ use Rattle.wtf_meta.specs.Trees.{Stands}
 use Rattle.wtf_meta.specs.Sessions.{SessionView}
 use Rattle.wtf_meta.specs.Calls.{cap_for}
 use Rattle.wtf_region.specs.declared.dev.Dev.{Dev}
-use Rattle.wtf_region.specs.Devs.{stores}
+use Rattle.wtf_region.specs.Apart.{are_apart}
+use Rattle.wtf_region.specs.Devs.{stores, told_in}
 use Rattle.wtf_steps.specs.Faults.{MayStandFor}
-use Rattle.wtf_replay.specs.Views.{TxnView, hand_of, replaying}
-use Rattle.wtf_replay.specs.Sounds.{tells_slice, caller_at, IsSound, TellsMap}
+use Rattle.wtf_replay.specs.Views.{TxnView, in_hand, hand_of, replaying}
+use Rattle.wtf_replay.specs.Insides.{HandBytes, LogBytes, lists_have}
+use Rattle.wtf_replay.specs.Sounds.{tells_slice, caller_at, IsSound, TellsMap, IsAwayTxn}
 use Rattle.wtf_replay.specs.Causes.{IsAgainFault, MayAgainFault, FaultAt, ReplayFault, IsCommitFault, fault_answer, MayFaultAt, MayStepFault, MayEndFault, MayCommitFault}
 use Rattle.wtf_replay.specs.Tried.{commit_from}
 use Rattle.wtf_replay.proofs.Froms.{from_along}
+use Rattle.wtf_replay.proofs.Naming.{named_by}
 use Rattle.wtf_replay.proofs.Later.{tells_on, stands_later}
 use Rattle.wtf_replay.proofs.Sounding.{sound_along}
 use Rattle.wtf_replay.proofs.Deviating.{answers_from-at, at_base, before_next}
@@ -72,6 +75,32 @@ may_peek servers l off n answers k d (fault.Punch j) is h = absurd (peek_no serv
 may_peek servers l off n answers k d (fault.Damaged j) is h = absurd (peek_no servers d (answer.Damaged j.0) h (λ i e. absurd (cc)))
 may_peek servers l off n answers k d fault.Memory is h = tt
 
+-- and of bytes of a file that are to be kept as a slice
+yank_done : (servers : ℕ) (d a : Answer) → MayFailYank servers d a → IsDone (Some d) × IsReadFault servers a
+yank_done servers (answer.Len n) a h = (tt, h.1)
+yank_done servers d a h = absurd h
+
+may_yank : (servers f n l : ℕ) (answers : List Answer) (k : ℕ) (d : Answer) (why : Fault) → slice_get answers k ≡ Some d
+    → MayStandFor servers (op.Yank f n l) d why → MayFaultAt servers answers k (fault_answer why)
+may_yank servers f n l answers k d (fault.Read j) is h = let r = yank_done servers d (answer.FaultRead j.0) h in (subst IsDone (sym is) r.0, r.1)
+may_yank servers f n l answers k d fault.Write is h = let r = yank_done servers d answer.FaultWrite h in (subst IsDone (sym is) r.0, r.1)
+may_yank servers f n l answers k d (fault.Punch j) is h = let r = yank_done servers d (answer.FaultPunch j.0) h in (subst IsDone (sym is) r.0, r.1)
+may_yank servers f n l answers k d (fault.Damaged j) is h = let r = yank_done servers d (answer.Damaged j.0) h in (subst IsDone (sym is) r.0, r.1)
+may_yank servers f n l answers k d fault.Memory is h = tt
+
+-- and of files that are to be put together
+concat_done : (servers : ℕ) (d a : Answer) → MayFailConcat servers d a → IsDone (Some d) × IsReadFault servers a
+concat_done servers answer.Okay a h = (tt, h)
+concat_done servers d a h = absurd h
+
+may_concat : (servers : ℕ) (q : List ℕ) (ps : List (List ℕ)) (answers : List Answer) (k : ℕ) (d : Answer) (why : Fault) → slice_get answers k ≡ Some d
+    → MayStandFor servers (op.Concat q ps) d why → MayFaultAt servers answers k (fault_answer why)
+may_concat servers q ps answers k d (fault.Read j) is h = let r = concat_done servers d (answer.FaultRead j.0) h in (subst IsDone (sym is) r.0, r.1)
+may_concat servers q ps answers k d fault.Write is h = let r = concat_done servers d answer.FaultWrite h in (subst IsDone (sym is) r.0, r.1)
+may_concat servers q ps answers k d (fault.Punch j) is h = let r = concat_done servers d (answer.FaultPunch j.0) h in (subst IsDone (sym is) r.0, r.1)
+may_concat servers q ps answers k d (fault.Damaged j) is h = let r = concat_done servers d (answer.Damaged j.0) h in (subst IsDone (sym is) r.0, r.1)
+may_concat servers q ps answers k d fault.Memory is h = tt
+
 short : (servers : ℕ) (answers : List Answer) (k : ℕ) (why : Fault) → why ≡ fault.Memory → MayFaultAt servers answers k (fault_answer why)
 short servers answers k why e = subst (λ y. MayFaultAt servers answers k (fault_answer y)) (sym e) tt
 
@@ -80,6 +109,10 @@ by_cause : {S : Type 0} (kind : StoreKind S) (old new : Dev S) (w : Map) (s : Se
     → OpStandsFor P kept o → IsAgainFault kind old new w s kept why → slice_get answers k ≡ Some d → MayStandFor servers o d why → MayFaultAt servers answers k (fault_answer why)
 by_cause kind old new w s P (op.Read f n) o servers answers k d why stands cause is may = may_at servers f n answers k d why is (subst (λ q. MayStandFor servers q d why) stands may)
 by_cause kind old new w s P (op.Peek l off n) o servers answers k d why stands cause is may = may_peek servers l off n answers k d why is (subst (λ q. MayStandFor servers q d why) stands may)
+by_cause kind old new w s P (op.Yank f n l) o servers answers k d why stands cause is may =
+    may_yank servers f n l answers k d why is (subst (λ q. MayStandFor servers q d why) stands may)
+by_cause kind old new w s P (op.Concat q ps) o servers answers k d why stands cause is may =
+    may_concat servers q ps answers k d why is (subst (λ r. MayStandFor servers r d why) stands may)
 by_cause kind old new w s P kept o servers answers k d why stands cause is may = short servers answers k why cause
 
 pub step_fault : {S : Type 0} (kind : StoreKind S) (old new : Dev S) (kv : Store Key Value) (told : Told) (x : TxnView) (ops : List (Op (List ℕ))) (why : Fault) → IsSound old.settings.region kv told x ops
@@ -97,6 +130,19 @@ step_fault kind old new kv told x ops why sound f t st =
     by_cause kind old new (seen kv x.at) x.session (tells_slice told) f.op o old.settings.servers (answers_of cap t ops) x.replayed (call cap S o).answer why there.1.1 f.cause
     (answers_from-at cap (fresh t) ops x.replayed o there.1.0) may
 
+-- what a transaction names is the same over a store that shows the same at its base
+pub away_along : {S : Type 0} (kind : StoreKind S) (dev : Dev S) (ranges : List (ℕ × Range)) (kv after : Store Key Value) (x : TxnView)
+    → metadata_at kv x.at.base ≡ metadata_at after x.at.base → IsAwayTxn kind dev ranges kv x
+    → IsAwayTxn kind dev ranges after x
+away_along kind dev ranges kv after x same away = record {
+  hand = record {
+    base = subst (MapBytes (are_apart ranges) (lists_have dev.settings.region (told_in kind dev) (are_apart ranges))) same away.hand.base;
+    changes = away.hand.changes;
+    slices = away.hand.slices;
+  };
+  log = away.log;
+}
+
 -- a replay's fault over a store that shows the same maps
 pub fault_along : {S : Type 0} (kind : StoreKind S) (old new : Dev S) (kv after : Store Key Value) (x : TxnView) (why : Fault) → ((m : ℕ) → metadata_at kv m ≡ metadata_at after m)
     → ReplayFault kind old new kv x why → ReplayFault kind old new after x why
@@ -108,12 +154,14 @@ fault_along kind old new kv after x why same f = record {
   k = f.k;
   from = f.from;
   base = f.base;
-  named = λ P hole were logged.
-      let then = f.named P hole (record { base = subst (MapBytes P) (sym (same x.at.base)) were.base; changes = were.changes; slices = were.slices }) logged in
-      record { base = subst (MapBytes P) (same f.at.base) then.base; changes = then.changes; slices = then.slices };
-  done = λ ops tells sound.
+  named = named_by kind old f.mid (λ P Q. HandBytes P Q kv (hand_of x) × LogBytes P x.log) (λ P Q. HandBytes P Q kv (in_hand f.at f.session))
+      (λ P Q. HandBytes P Q after (hand_of x) × LogBytes P x.log) (λ P Q. HandBytes P Q after (in_hand f.at f.session))
+      (λ P Q were. (record { base = subst (MapBytes P Q) (sym (same x.at.base)) were.0.base; changes = were.0.changes; slices = were.0.slices }, were.1))
+      (λ P Q hole were are. record { base = subst (MapBytes P Q) (same f.at.base) are.base; changes = are.changes; slices = are.slices }) f.named;
+  done = λ ops ranges tells away sound.
       sound_along old.settings.region kv after (byte_at kind (stores f.mid)) (replaying x.tx f.at f.session x.log f.k) ops (sym (same f.at.base))
-      (f.done ops (subst (TellsMap kind (stores old)) (sym (same x.at.base)) tells) (sound_along old.settings.region after kv (byte_at kind (stores old)) x ops (same x.at.base) sound));
+      (f.done ops ranges (subst (TellsMap kind old ranges) (sym (same x.at.base)) tells) (away_along kind old ranges after kv x (sym (same x.at.base)) away)
+      (sound_along old.settings.region after kv (byte_at kind (stores old)) x ops (same x.at.base) sound));
   fault = record {
     op = f.fault.op;
     at_op = f.fault.at_op;
@@ -139,19 +187,30 @@ fault_as kind old new kv x over why f = record {
   from = f.from;
   base = f.base;
   named = f.named;
-  done = λ ops tells sound.
-      f.done ops tells (record { facts = sound.facts; stored = sound.stored; ops_are = sound.ops_are; told_are = sound.told_are; stored_are = sound.stored_are; run = sound.run });
+  done = λ ops ranges tells away sound.
+      f.done ops ranges tells (record { hand = away.hand; log = away.log }) (record {
+        facts = sound.facts;
+        stored = sound.stored;
+        lists = sound.lists;
+        ops_are = sound.ops_are;
+        told_are = sound.told_are;
+        stored_are = sound.stored_are;
+        lists_are = sound.lists_are;
+        run = sound.run;
+      });
   fault = f.fault;
 }
 
 -- a fault of a replay comes only where the machine allows it
-pub replay_fault : {S : Type 0} {kind : StoreKind S} → KindLaws kind → (old new : Dev S) (kv : Store Key Value) (x : TxnView) (ops : List (Op (List ℕ))) (why : Fault) → TellsMap kind (stores old) (metadata_at kv x.at.base)
+pub replay_fault : {S : Type 0} {kind : StoreKind S} → KindLaws kind
+    → (old new : Dev S) (kv : Store Key Value) (x : TxnView) (ops : List (Op (List ℕ))) (why : Fault) (ranges : List (ℕ × Range))
+    → TellsMap kind old ranges (metadata_at kv x.at.base) → IsAwayTxn kind old ranges kv x
     → IsSound old.settings.region kv (byte_at kind (stores old)) x ops → ReplayFault kind old new kv x why → MayCommitFault old.settings (metadata_at kv x.at.base) (byte_at kind (stores old)) x why
-replay_fault {kind = kind} laws old new kv x ops why tells sound f t st =
+replay_fault {kind = kind} laws old new kv x ops why ranges tells away sound f t st =
     let y : TxnView = replaying x.tx f.at f.session x.log f.k in
     let told : Told = byte_at kind (stores f.mid) in
     let size : f.mid.settings.region ≡ old.settings.region = ap (λ (s : Settings). s.region) f.goes.settings in
-    let here : IsSound f.mid.settings.region kv told y ops = subst (λ z. IsSound z kv told y ops) (sym size) (f.done ops tells sound) in
+    let here : IsSound f.mid.settings.region kv told y ops = subst (λ z. IsSound z kv told y ops) (sym size) (f.done ops ranges tells away sound) in
     let later = stands_later old.settings.region (byte_at kind (stores old)) told x.tx 0 (metadata_at kv x.at.base) t (tells_on laws f.goes.each) st in
     let stands : Stands f.mid.settings.region told x.tx 0 (metadata_at kv f.at.base) t =
     subst (λ n. Stands f.mid.settings.region told x.tx 0 (metadata_at kv n) t) (sym f.base) (subst (λ z. Stands z told x.tx 0 (metadata_at kv x.at.base) t) (sym size) later) in
@@ -164,8 +223,12 @@ replay_fault {kind = kind} laws old new kv x ops why tells sound f t st =
     end_fault servers answers k (Some a) h = h.1
 
 -- so does one at the map now
-pub end_due : {S : Type 0} {kind : StoreKind S} → KindLaws kind → (old new : Dev S) (kv : Store Key Value) (x y : TxnView) (ops : List (Op (List ℕ))) (why : Fault) → x.tx ≡ y.tx → TellsMap kind (stores old) (metadata_at kv x.at.base)
+pub end_due : {S : Type 0} {kind : StoreKind S} → KindLaws kind
+    → (old new : Dev S) (kv : Store Key Value) (x y : TxnView) (ops : List (Op (List ℕ))) (why : Fault) → x.tx ≡ y.tx → (ranges : List (ℕ × Range))
+    → TellsMap kind old ranges (metadata_at kv x.at.base) → IsAwayTxn kind old ranges kv x
     → IsSound old.settings.region kv (byte_at kind (stores old)) x ops → (why ≡ fault.Memory) ⊎ ReplayFault kind old new kv x why → MayCommitFault old.settings (metadata_at kv x.at.base) (byte_at kind (stores old)) y why
-end_due laws old new kv x y ops why tx tells sound (inl short) t st = subst (λ (w : Fault). MayEndFault old.settings.servers (fault_answer w)) (sym short) tt
-end_due {kind = kind} laws old new kv x y ops why tx tells sound (inr f) t st =
-    replay_fault laws old new kv x ops why tells sound f t (subst (λ n. Stands old.settings.region (byte_at kind (stores old)) n 0 (metadata_at kv x.at.base) t) (sym tx) st)
+end_due laws old new kv x y ops why tx ranges tells away sound (inl short) t st =
+    subst (λ (w : Fault). MayEndFault old.settings.servers (fault_answer w)) (sym short) tt
+end_due {kind = kind} laws old new kv x y ops why tx ranges tells away sound (inr f) t st =
+    replay_fault laws old new kv x ops why ranges tells away sound f t
+    (subst (λ n. Stands old.settings.region (byte_at kind (stores old)) n 0 (metadata_at kv x.at.base) t) (sym tx) st)

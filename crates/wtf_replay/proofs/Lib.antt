@@ -7,12 +7,14 @@ pub mod Starting
 pub mod Ending
 pub mod Again
 pub mod Keeping
-pub mod Refusing
 pub mod Later
+pub mod ReadLists
+pub mod Scopes
 pub mod RwLaws
 pub mod SliceLaws
 pub mod Making
 pub mod Insiding
+pub mod Naming
 pub mod Faulting
 pub mod EffectLaws
 pub mod Installing

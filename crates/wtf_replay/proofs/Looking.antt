@@ -9,6 +9,7 @@ use Rattle.std.proofs.lemmas.Bool.{cases_Bool}
 use Rattle.std.proofs.lemmas.Slice.Eq.{bytes_eq-Decides}
 use Rattle.wtf_base.specs.declared.ids.InodeId.{InodeId}
 use Rattle.wtf_kv.specs.Stores.{Store}
+use Rattle.wtf_kv.specs.Edits.{Agree}
 use Rattle.wtf_occ.specs.Attempts.{Attempted}
 use Rattle.wtf_occ.proofs.AttemptLaws.{GrowsBy-append, map_seen-by}
 use Rattle.wtf_model.specs.Session as model
@@ -17,6 +18,9 @@ use Rattle.wtf_model.specs.Tree.{source, bytes_of, target, ◌>>=◌}
 use Rattle.wtf_model.specs.Done.{Done, done, is_on, is_closed, take_out, move_file}
 use Rattle.wtf_model.specs.NameCalls.{unlink, rename}
 use Rattle.wtf_model.specs.Call.{row_of, or_refused}
+use Rattle.wtf_model.specs.Items.{target_reads}
+use Rattle.wtf_model.specs.declared.item.Item.TheVariants.{NodeOf, BodyOf}
+use Rattle.wtf_model.proofs.ItemLaws.{is_among-head}
 use Rattle.wtf_model.specs.declared.limits.TheConstants.{MAX_HANDLES}
 use Rattle.wtf_model.specs.declared.answer.Answer.{Answer}
 use Rattle.wtf_model.specs.declared.answer.Answer.TheVariants as answer
@@ -35,14 +39,17 @@ use Rattle.wtf_meta.specs.declared.session.Handle.{Handle}
 use Rattle.wtf_meta.specs.Maps.{Map, AllFit, metadata_at, seen}
 use Rattle.wtf_meta.specs.Contents.{Told, is_told}
 use Rattle.wtf_meta.proofs.Named.{PiecesBytes-none}
+use Rattle.wtf_meta.specs.Feet.{Has}
 use Rattle.wtf_meta.specs.Trees.{LeadsTo}
 use Rattle.wtf_meta.specs.NameEdits.{node_of}
-use Rattle.wtf_meta.specs.Sessions.{SessionView, HandleAt, IsOff, handle_in, nothing_open}
+use Rattle.wtf_meta.specs.Sessions.{SessionView, HandleAt, Holds, IsOff, handle_in, nothing_open}
 use Rattle.wtf_meta.proofs.Nothing.{none_at, nothing_kept}
 use Rattle.wtf_meta.specs.Calls.{Caller, cap_for, IsDone, IsNameStep, IsFreeToMove}
+use Rattle.wtf_meta.proofs.FeetFiles.{looks_feet}
 use Rattle.wtf_meta.proofs.Nodes.{node_of-is, node-file}
 use Rattle.wtf_meta.proofs.Moves.{done-same}
 use Rattle.wtf_kv.proofs.EditLaws.{Fits-append}
+use Rattle.wtf_steps.proofs.Ways.{only_keys, KeysRead}
 use Rattle.wtf_replay.specs.Views.{in_hand}
 use Rattle.wtf_replay.specs.Sounds.{IsToldStep}
 use Rattle.wtf_replay.specs.Looked.{IsNameCall, IsBusy, IsStray, IsLooked}
@@ -84,7 +91,8 @@ or_true : (b : Bool) → (b || true) ≡ true
 or_true true = refl
 or_true false = refl
 
-on_entries : (p : List ℕ) (f : ℕ) (g : model.Handle) (es : List (ℕ × model.Handle)) → find nat_cmp f es ≡ Some g → g.path ≡ p → list_any (is_on p) (map (λ e. e.1) es) ≡ true
+on_entries : (p : List ℕ) (f : ℕ) (g : model.Handle) (es : List (ℕ × model.Handle))
+    → find nat_cmp f es ≡ Some g → g.path ≡ p → list_any (is_on p) (map (λ e. e.1) es) ≡ true
 on_entries p f g [] found on = absurd (cc)
 on_entries p f g (e ∷ es) found on = ⊎_elim
     (λ same.
@@ -119,10 +127,19 @@ rename_busy S p q bytes file busy =
     ∙ ap (λ r. r >>= (λ _. target S.tree q >>= (λ _. done (move_file S p q bytes) answer.Okay))) busy
 
 -- a call that takes a file on which a handle is, is refused
-busy_row : (most : ℕ) (S : Session) (p bytes : List ℕ) (o : Op (List ℕ)) → Takes p o → source S.tree p ≡ Ok bytes → is_closed S p ≡ Err Busy → row_of most S o ≡ Err Busy
+busy_row : (most : ℕ) (S : Session) (p bytes : List ℕ) (o : Op (List ℕ)) → Takes p o → source S.tree p ≡ Ok bytes
+    → is_closed S p ≡ Err Busy → row_of most S o ≡ Err Busy
 busy_row most S p bytes (op.Unlink q) takes file busy = subst (λ x. unlink S x ≡ Err Busy) (sym takes) (unlink_busy S p bytes file busy)
 busy_row most S p bytes (op.Rename q r) takes file busy = subst (λ x. rename S x r ≡ Err Busy) (sym takes) (rename_busy S p r bytes file busy)
 busy_row most S p bytes o takes file busy = absurd takes
+
+-- it reads what stands there
+taken_read : (x : Caller) (b : Map) (s : SessionView) (p : List ℕ) (o : Op (List ℕ)) → Takes p o → KeysRead x b s (Path p ∷ []) o
+taken_read x b s p (op.Unlink q) takes = λ told w S agree st holds.
+    (subst (λ z. Has (NodeOf p) (NodeOf z ∷ [])) (sym takes) (is_among-head (NodeOf p) []), tt)
+taken_read x b s p (op.Rename q r) takes = λ told w S agree st holds.
+    (subst (λ z. Has (NodeOf p) (NodeOf z ∷ BodyOf z ∷ target_reads r)) (sym takes) (is_among-head (NodeOf p) (BodyOf p ∷ target_reads r)), tt)
+taken_read x b s p o takes = absurd takes
 
 pub busy_call : (x : Caller) (b : Map) (s : SessionView) (p : List ℕ) (old new : Attempted Key Delta) (o : Op (List ℕ))
     → Takes p o → IsBusy b s p old new → IsNameCall x b s old new o (answer.Refused Busy)
@@ -132,13 +149,15 @@ busy_call x b s p old new o takes busy = record {
   grows = busy.recorded;
   is_call = record {
     fits = refl;
-    names = λ P hole map slices stored. record { edits = tt; facts = tt; slices = slices };
-    acts = λ told w S agree fit facts stands holds.
+    names = λ P Q hole map slices stored lists. record { edits = tt; facts = tt; slices = slices; lists = tt };
+    acts = λ told w S agree fit facts lists stands holds.
         let held = held_at w p (handle_in s busy.held.0) (get S.handles busy.held.0) (holds.handles busy.held.0) busy.held.1 in
         let here : w (Path p) ≡ Some (value.Node (File busy.inode)) = agree.0 ∙ node_of-is (b (Path p)) (File busy.inode) busy.file in
         let file = node-file x.size told w (w (Path p)) (get S.tree p) busy.inode (stands.nodes p) here in
         let row = busy_row (cap_for x) S p file.bytes o takes (ap bytes_of file.there) (closed_held S p busy.held.0 held.handle held.is held.path) in
-        subst (λ (d : Done). IsDone x told w w s d (answer.Refused Busy)) (sym (ap (or_refused S) row)) (done-same x told w s S stands holds (answer.Refused Busy));
+        subst (λ (d : Done). IsDone x told w w s d (answer.Refused Busy)) (sym (ap (or_refused S) row))
+        (done-same x told w s S stands holds (answer.Refused Busy));
+    feet = looks_feet x b s (only_keys (Path p ∷ [])) o refl (taken_read x b s p o takes);
   };
 }
 
@@ -152,16 +171,19 @@ pub stray_call : (x : Caller) (b : Map) (s : SessionView) (p : List ℕ) (old mi
     → Takes p o → IsStray b s p old mid → IsNameStep x b mid new o a → IsNameCall x b s old new o a
 stray_call x b s p old mid new o a takes stray step =
     let calm = step.is_call nothing_open (free_takes p o nothing_open takes (nothing_off p)) in
+    let never : (told : Told) (w : Map) (S : Session) → Agree (Path p ∷ step.keys) b w → Holds told w s S → ⊥ = λ told w S agree holds.
+    let held = held_at w p (handle_in s stray.held.0) (get S.handles stray.held.0) (holds.handles stray.held.0) stray.held.1 in
+    stray.none held.inode (ap node_of (sym agree.0 ∙ held.leads)) in
     record {
       keys = Path p ∷ step.keys;
       edits = step.edits;
       grows = GrowsBy-append old mid new (Path p ∷ []) step.keys [] step.edits stray.recorded step.grows;
       is_call = record {
         fits = calm.fits;
-        names = λ P hole map slices stored. let named = calm.names P hole map (nothing_kept P) stored in record { edits = named.edits; facts = named.facts; slices = slices };
-        acts = λ told w S agree fit facts stands holds.
-            let held = held_at w p (handle_in s stray.held.0) (get S.handles stray.held.0) (holds.handles stray.held.0) stray.held.1 in
-            absurd (stray.none held.inode (ap node_of (sym agree.0 ∙ held.leads)));
+        names = λ P Q hole map slices stored lists. let named = calm.names P Q hole map
+            (nothing_kept P) stored lists in record { edits = named.edits; facts = named.facts; slices = slices; lists = named.lists };
+        acts = λ told w S agree fit facts lists stands holds. absurd (never told w S agree holds);
+        feet = λ told w S agree fit facts lists stands holds. absurd (never told w S agree holds);
       };
     }
 
@@ -181,8 +203,9 @@ looked_call x kv s p old mid new o a takes looked step = ⊎_elim
 pub told_call : (told : Told) (x : Caller) (b : Map) (s : SessionView) (old new : Attempted Key Delta) (o : Op (List ℕ)) (a : Answer)
     → IsNameCall x b s old new o a → IsToldStep told x b (in_hand old s) (in_hand new s) o a
 told_call told x b s old new o a call = record {
-  step = record { did = record { keys = call.keys; edits = call.edits; facts = []; stored = [] }; grows = call.grows; is_call = call.is_call };
+  step = record { did = record { keys = call.keys; edits = call.edits; facts = []; stored = []; lists = [] }; grows = call.grows; is_call = call.is_call };
   told_are = tt;
+  lists_are = tt;
   stored_are = PiecesBytes-none (is_told told);
 }
 

@@ -3,10 +3,10 @@ use Rattle.std.proofs.Common.{◌≡◌, ℕ, ◌+◌, List, [], ◌∷◌, ◌+
 use Rattle.std.specs.Prelude.{IfSome, Result, Err}
 use Rattle.std.proofs.lemmas.List.{append-nil}
 use Rattle.wtf_base.specs.declared.slice.Slice.{Slice}
+use Rattle.wtf_dev.specs.Store.{Range}
 use Rattle.wtf_kv.specs.Stores.{Store}
 use Rattle.wtf_kv.proofs.EditLaws.{Agree-itself, Fits-append}
 use Rattle.wtf_occ.specs.Attempts.{Attempted, Grows}
-use Rattle.wtf_replica.specs.Bytes.{byte_at}
 use Rattle.wtf_model.specs.declared.answer.Answer.{Answer}
 use Rattle.wtf_model.specs.declared.answer.Answer.TheVariants as answer
 use Rattle.wtf_model.specs.declared.answer.Word.{Word}
@@ -23,21 +23,30 @@ use Rattle.wtf_values.specs.declared.value.Delta.{Delta}
 use Rattle.wtf_values.specs.Keys.{key_cmp}
 use Rattle.wtf_values.specs.Outcomes.{outcome_of}
 use Rattle.wtf_meta.specs.Bytes.{PiecesBytes}
-use Rattle.wtf_meta.specs.Contents.{Told, is_told}
+use Rattle.wtf_meta.specs.Lists.{TellLists}
+use Rattle.wtf_meta.specs.Contents.{Told, is_told, lists_in}
+use Rattle.wtf_meta.specs.declared.session.Handle as meta
+use Rattle.wtf_meta.specs.Appends.{append_keys as file_append_keys}
+use Rattle.wtf_meta.specs.FileEdits.{file_of}
 use Rattle.wtf_meta.specs.Maps.{Map, AllFit, metadata_at, seen}
-use Rattle.wtf_meta.specs.Sessions.{SessionView}
+use Rattle.wtf_meta.specs.Sessions.{SessionView, handle_in}
 use Rattle.wtf_meta.specs.Calls.{Caller, Fact, Did, InHand, TellFacts, IsCall, IsStep, IsDone, cap_for}
+use Rattle.wtf_meta.proofs.FeetFiles.{looks_feet}
 use Rattle.wtf_meta.proofs.Moves.{done-same}
 use Rattle.wtf_rw.specs.declared.op.Given.TheVariants.{Fresh, Stored}
 use Rattle.wtf_rw.specs.declared.op.RwOp.{RwOp}
 use Rattle.wtf_rw.specs.declared.op.RwOp.TheVariants as rw
 use Rattle.wtf_steps.specs.Steps.{IsStepWith, IsRefusal}
 use Rattle.wtf_rw.specs.Stored.{SliceBytes, TellSlice, Answers}
+use Rattle.wtf_steps.specs.Recorded.{append_keys}
 use Rattle.wtf_steps.specs.Scenes.{Scene}
-use Rattle.wtf_rw.specs.Ops.{DoesRw, op_of, RwBytes}
+use Rattle.wtf_steps.proofs.Ways.{only_keys, KeysRead, file_keys}
+use Rattle.wtf_rw.specs.Ops.{DoesRw, op_of, RwBytes, rw_keys, size_of}
 use Rattle.wtf_rw.proofs.InsideWays.{does_named}
+use Rattle.wtf_region.specs.Devs.{told_in}
 use Rattle.wtf_replay.specs.Views.{in_hand}
 use Rattle.wtf_replay.specs.Sounds.{TellsMap, IsToldStep, IsDue, tells_slice}
+use Rattle.wtf_replay.proofs.ReadLists.{rw_read, read_told}
 use Rattle.wtf_replay.proofs.RwLaws.{told_slice, RwTell, Lacks}
 
 tell_some : (told : Told) (o : Option Slice) (bytes : List ℕ) → IfSome o (λ s. tells_slice told s bytes) → TellSlice told o bytes
@@ -48,20 +57,24 @@ no_facts : (told : Told) (facts : List Fact) → facts ≡ [] → TellFacts told
 no_facts told facts e = subst (TellFacts told) (sym e) tt
 
 -- what a call read or stored is told afterwards
-facts_told : {S : Type 0} (sc : Scene S) (r : RwOp) (own : Option Slice) (bytes : List ℕ) (did : Did) → DoesRw sc r own bytes did → TellsMap sc.kind sc.before sc.map
-    → RwTell (tells_slice (byte_at sc.kind sc.after)) r bytes → TellFacts (byte_at sc.kind sc.after) did.facts
-facts_told sc (rw.Read f n) own bytes did does tells tell = does.0.told tells.map
-facts_told sc (rw.Write f (Fresh bs)) own bytes did does tells tell = does.told tells.all
-facts_told sc (rw.Append f (Fresh bs)) own bytes did does tells tell = does.told tells.all
-facts_told sc (rw.Write f (Stored kept)) own bytes did does tells tell = does.0.told (byte_at sc.kind sc.after) (tell_some (byte_at sc.kind sc.after) kept.slice bytes tell)
-facts_told sc (rw.Append f (Stored kept)) own bytes did does tells tell = does.0.told (byte_at sc.kind sc.after) (tell_some (byte_at sc.kind sc.after) kept.slice bytes tell)
-facts_told sc (rw.Open f p) own bytes did does tells tell = no_facts (byte_at sc.kind sc.after) did.facts does.0.facts
-facts_told sc (rw.Close f) own bytes did does tells tell = no_facts (byte_at sc.kind sc.after) did.facts does.0.facts
-facts_told sc (rw.Seek f place) own bytes did does tells tell = no_facts (byte_at sc.kind sc.after) did.facts does.0.facts
-facts_told sc (rw.Tell f) own bytes did does tells tell = no_facts (byte_at sc.kind sc.after) did.facts does.0.facts
-facts_told sc (rw.Truncate f n) own bytes did does tells tell = no_facts (byte_at sc.kind sc.after) did.facts does.0.facts
-facts_told sc (rw.Punch f n) own bytes did does tells tell = no_facts (byte_at sc.kind sc.after) did.facts does.0.facts
-facts_told sc (rw.Stat p) own bytes did does tells tell = no_facts (byte_at sc.kind sc.after) did.facts does.0.facts
+facts_told : {S : Type 0} (sc : Scene S) (r : RwOp) (own : Option Slice) (bytes : List ℕ) (did : Did) → DoesRw sc r own bytes did → (ranges : List (ℕ × Range))
+    → TellsMap sc.kind sc.before ranges sc.map
+    → RwTell (tells_slice (told_in sc.kind sc.after)) r bytes → TellFacts (told_in sc.kind sc.after) did.facts
+facts_told sc (rw.Read f n) own bytes did does ranges tells tell =
+    does.0.told tells.map (read_told sc did.lists (rw_read sc (rw.Read f n) own bytes did does) ranges tells)
+facts_told sc (rw.Write f (Fresh bs)) own bytes did does ranges tells tell = does.told tells.all
+facts_told sc (rw.Append f (Fresh bs)) own bytes did does ranges tells tell = does.told tells.all
+facts_told sc (rw.Write f (Stored kept)) own bytes did does ranges tells tell =
+    does.0.told (told_in sc.kind sc.after) (tell_some (told_in sc.kind sc.after) kept.slice bytes tell)
+facts_told sc (rw.Append f (Stored kept)) own bytes did does ranges tells tell =
+    does.0.told (told_in sc.kind sc.after) (tell_some (told_in sc.kind sc.after) kept.slice bytes tell)
+facts_told sc (rw.Open f p) own bytes did does ranges tells tell = no_facts (told_in sc.kind sc.after) did.facts does.0.facts
+facts_told sc (rw.Close f) own bytes did does ranges tells tell = no_facts (told_in sc.kind sc.after) did.facts does.0.facts
+facts_told sc (rw.Seek f place) own bytes did does ranges tells tell = no_facts (told_in sc.kind sc.after) did.facts does.0.facts
+facts_told sc (rw.Tell f) own bytes did does ranges tells tell = no_facts (told_in sc.kind sc.after) did.facts does.0.facts
+facts_told sc (rw.Truncate f n) own bytes did does ranges tells tell = no_facts (told_in sc.kind sc.after) did.facts does.0.facts
+facts_told sc (rw.Punch f n) own bytes did does ranges tells tell = no_facts (told_in sc.kind sc.after) did.facts does.0.facts
+facts_told sc (rw.Stat p) own bytes did does ranges tells tell = no_facts (told_in sc.kind sc.after) did.facts does.0.facts
 
 given_told : (told : Told) (r : RwOp) (bytes : List ℕ) → RwTell (tells_slice told) r bytes → RwBytes (is_told told) r
 given_told told (rw.Write f (Stored kept)) bytes h = told_slice told kept.slice bytes (tell_some told kept.slice bytes h)
@@ -79,25 +92,32 @@ given_told told (rw.Stat p) bytes h = tt
 
 -- a call's step, over stores that tell its facts
 pub told_step : {S : Type 0} (sc : Scene S) (r : RwOp) (own : Option Slice) (bytes : List ℕ) (x : Caller) (old new : InHand) (o : Op (List ℕ)) (a : Answer)
-    → IsStepWith (DoesRw sc r own bytes) x sc.map old new (op_of r bytes) a → op_of r bytes ≡ o → TellsMap sc.kind sc.before sc.map
-    → RwTell (tells_slice (byte_at sc.kind sc.after)) r bytes → SliceBytes (is_told (byte_at sc.kind sc.after)) own → IsToldStep (byte_at sc.kind sc.after) x sc.map old new o a
-told_step sc r own bytes x old new o a one is tells tell stored = record {
+    → IsStepWith (DoesRw sc r own bytes) x sc.map old new (op_of r bytes) a → op_of r bytes ≡ o → x.size ≡ sc.after.settings.region
+    → (ranges : List (ℕ × Range)) → TellsMap sc.kind sc.before ranges sc.map
+    → RwTell (tells_slice (told_in sc.kind sc.after)) r bytes → SliceBytes (is_told (told_in sc.kind sc.after)) own
+    → IsToldStep (told_in sc.kind sc.after) x sc.map old new o a
+told_step sc r own bytes x old new o a one is size ranges tells tell stored = record {
   step = record { did = one.did; grows = one.grows; is_call = subst (λ q. IsCall x sc.map old.session new.session one.did q a) is one.is_call };
-  told_are = facts_told sc r own bytes one.did one.more tells tell;
-  stored_are = does_named (is_told (byte_at sc.kind sc.after)) sc r own bytes one.did one.more (given_told (byte_at sc.kind sc.after) r bytes tell) stored;
+  told_are = facts_told sc r own bytes one.did one.more ranges tells tell;
+  lists_are = subst (λ (z : ℕ). TellLists (lists_in z (told_in sc.kind sc.after)) one.did.lists) (sym size)
+      (read_told sc one.did.lists (rw_read sc r own bytes one.did one.more) ranges tells);
+  stored_are = does_named (is_told (told_in sc.kind sc.after)) sc r own bytes one.did one.more (given_told (told_in sc.kind sc.after) r bytes tell) stored;
 }
 
 -- it answers what is due
-pub due_step : (told : Told) (x : Caller) (b : Map) (old new : InHand) (o : Op (List ℕ)) (a : Answer) → IsToldStep told x b old new o a → IsDue told x b old.session o a
+pub due_step : (told : Told) (x : Caller) (b : Map) (old new : InHand) (o : Op (List ℕ)) (a : Answer) → IsToldStep told x b old new o a
+    → IsDue told x b old.session o a
 due_step told x b old new o a one = λ S st holds.
-    let done = one.step.is_call.acts told b S (Agree-itself one.step.did.keys b) one.step.is_call.fits one.told_are st holds in
+    let done = one.step.is_call.acts told b S (Agree-itself one.step.did.keys b) one.step.is_call.fits one.told_are one.lists_are st holds in
     sym done.answer
 
-pub due_alone : (told : Told) (x : Caller) (b : Map) (s : SessionView) (keys : List Key) (o : Op (List ℕ)) (a : Answer) → Answers x b s keys o a → IsDue told x b s o a
+pub due_alone : (told : Told) (x : Caller) (b : Map) (s : SessionView) (keys : List Key) (o : Op (List ℕ)) (a : Answer)
+    → Answers x b s keys o a → IsDue told x b s o a
 due_alone told x b s keys o a one = λ S st holds. one.due told b S (Agree-itself keys b) one.fits st holds
 
 -- after a step the changes fit at the base
-pub fits_step : (kv : Store Key Value) (x : Caller) (old new : InHand) (o : Op (List ℕ)) (a : Answer) → AllFit old.at.changes (metadata_at kv old.at.base) → IsStep x (seen kv old.at) old new o a
+pub fits_step : (kv : Store Key Value) (x : Caller) (old new : InHand) (o : Op (List ℕ)) (a : Answer)
+    → AllFit old.at.changes (metadata_at kv old.at.base) → IsStep x (seen kv old.at) old new o a
     → AllFit new.at.changes (metadata_at kv new.at.base)
 fits_step kv x old new o a fit step =
     subst (λ n. AllFit new.at.changes (metadata_at kv n)) (sym step.grows.base)
@@ -105,27 +125,34 @@ fits_step kv x old new o a fit step =
     (Fits-append key_cmp outcome_of old.at.changes step.did.edits (metadata_at kv old.at.base) fit step.is_call.fits))
 
 -- a call that writes, where it is refused, leaves the session of the definitions
-after_fits : (S T : Session) (q : Result (Unit {0}) Word) → IsRefusal (or_refused S (q >>= (λ _. done T answer.Okay))).answer → (or_refused S (q >>= (λ _. done T answer.Okay))).session ≡ S
+after_fits : (S T : Session) (q : Result (Unit {0}) Word) → IsRefusal (or_refused S (q >>= (λ _. done T answer.Okay))).answer
+    → (or_refused S (q >>= (λ _. done T answer.Okay))).session ≡ S
 after_fits S T (Ok u) h = absurd h
 after_fits S T (Err w) h = refl
 
-after_handle : (S : Session) (r : Result Handle Word) (g : Handle → Session) (c : Handle → Result (Unit {0}) Word) → IsRefusal (or_refused S (r >>= (λ h. c h >>= (λ _. done (g h) answer.Okay)))).answer
+after_handle : (S : Session) (r : Result Handle Word) (g : Handle → Session) (c : Handle → Result (Unit {0}) Word)
+    → IsRefusal (or_refused S (r >>= (λ h. c h >>= (λ _. done (g h) answer.Okay)))).answer
     → (or_refused S (r >>= (λ h. c h >>= (λ _. done (g h) answer.Okay)))).session ≡ S
 after_handle S (Ok h) g c refused = after_fits S (g h) (c h) refused
 after_handle S (Err w) g c refused = refl
 
-write_refused : (cap : ℕ) (S : Session) (f : ℕ) (bytes : List ℕ) → IsRefusal (call cap S (op.Write f bytes)).answer → (call cap S (op.Write f bytes)).session ≡ S
+write_refused : (cap : ℕ) (S : Session) (f : ℕ) (bytes : List ℕ) → IsRefusal (call cap S (op.Write f bytes)).answer
+    → (call cap S (op.Write f bytes)).session ≡ S
 unfolding write
 write_refused cap S f [] h = after_handle S (handle_at S f) (λ g. S) (λ g. Ok tt) h
 write_refused cap S f (b ∷ bs) h =
-    after_handle S (handle_at S f) (λ g. moved (set_bytes S g.path (written (bytes_of_handle S g) g.off (b ∷ bs))) f g (g.off + length (b ∷ bs))) (λ g. fits cap (g.off + length (b ∷ bs))) h
+    after_handle S (handle_at S f) (λ g. moved (set_bytes S g.path (written (bytes_of_handle S g) g.off (b ∷ bs))) f g (g.off + length (b ∷ bs)))
+    (λ g. fits cap (g.off + length (b ∷ bs))) h
 
-append_refused : (cap : ℕ) (S : Session) (f : ℕ) (bytes : List ℕ) → IsRefusal (call cap S (op.Append f bytes)).answer → (call cap S (op.Append f bytes)).session ≡ S
+append_refused : (cap : ℕ) (S : Session) (f : ℕ) (bytes : List ℕ) → IsRefusal (call cap S (op.Append f bytes)).answer
+    → (call cap S (op.Append f bytes)).session ≡ S
 unfolding append
 append_refused cap S f bytes h =
-    after_handle S (handle_at S f) (λ g. set_bytes S g.path (bytes_of_handle S g ++ bytes)) (λ g. fits cap (length (bytes_of_handle S g) + length bytes)) h
+    after_handle S (handle_at S f) (λ g. set_bytes S g.path (bytes_of_handle S g ++ bytes))
+    (λ g. fits cap (length (bytes_of_handle S g) + length bytes)) h
 
-refused_stays : (cap : ℕ) (S : Session) (r : RwOp) (bytes : List ℕ) → Lacks r → IsRefusal (call cap S (op_of r bytes)).answer → (call cap S (op_of r bytes)).session ≡ S
+refused_stays : (cap : ℕ) (S : Session) (r : RwOp) (bytes : List ℕ) → Lacks r → IsRefusal (call cap S (op_of r bytes)).answer
+    → (call cap S (op_of r bytes)).session ≡ S
 refused_stays cap S (rw.Write f d) bytes lacks h = write_refused cap S f bytes h
 refused_stays cap S (rw.Append f d) bytes lacks h = append_refused cap S f bytes h
 refused_stays cap S r bytes lacks h = absurd lacks
@@ -133,29 +160,45 @@ refused_stays cap S r bytes lacks h = absurd lacks
 as_done : (d : Done) (S : Session) (a : Answer) → d.session ≡ S → d.answer ≡ a → d ≡ record { session = S; answer = a }
 as_done d S a session is = ap (λ T. record { session = T; answer = d.answer }) session ∙ ap (λ b. record { session = S; answer = b }) is
 
+module _ (x : Caller) (b : Map) (s : SessionView) (size : ℕ) where
+  bare_keys : (f n : ℕ) (bytes : List ℕ) (h : Option meta.Handle) → handle_in s f ≡ h → KeysRead x b s (append_keys size b h n) (op.Append f bytes)
+  bare_keys f n bytes None is = λ told w S agree st holds. tt
+  bare_keys f n bytes (Some h) is = file_keys x b s f h is (file_append_keys size (file_of h.inode b) n) (op.Append f bytes) (λ S. refl)
+
+  -- a call whose bytes were not kept recorded keys of the file that it reads
+  lacks_read : (r : RwOp) (bytes : List ℕ) → Lacks r → KeysRead x b s (rw_keys size b s r) (op_of r bytes)
+  lacks_read (rw.Write f d) bytes lacks = λ told w S agree st holds. tt
+  lacks_read (rw.Append f d) bytes lacks = bare_keys f (size_of d) bytes (handle_in s f) refl
+  lacks_read r bytes lacks = absurd lacks
+
 -- a refused call whose bytes were not kept
-pub refused_call : (x : Caller) (b : Map) (s : SessionView) (keys : List Key) (r : RwOp) (bytes : List ℕ) (a : Answer) → Lacks r → IsRefusal a → Answers x b s keys (op_of r bytes) a
-    → IsCall x b s s (record { keys = keys; edits = []; facts = []; stored = [] }) (op_of r bytes) a
-refused_call x b s keys r bytes a lacks refused one = record {
+pub refused_call : (x : Caller) (b : Map) (s : SessionView) (size : ℕ) (r : RwOp) (bytes : List ℕ) (a : Answer) → Lacks r → IsRefusal a
+    → Answers x b s (rw_keys size b s r) (op_of r bytes) a → IsCall x b s s (only_keys (rw_keys size b s r)) (op_of r bytes) a
+refused_call x b s size r bytes a lacks refused one = record {
   fits = refl;
-  names = λ P hole map old stored. record { edits = tt; facts = tt; slices = old };
-  acts = λ told w S agree fit facts st holds.
+  names = λ P Q hole map old stored lists. record { edits = tt; facts = tt; slices = old; lists = tt };
+  acts = λ told w S agree fit facts lists st holds.
       let due = one.due told w S agree (subst (λ es. AllFit es w) (sym (one.refused refused)) fit) st holds in
       let d : Done = call (cap_for x) S (op_of r bytes) in
       let stays : d.session ≡ S = refused_stays (cap_for x) S r bytes lacks (subst IsRefusal (sym due) refused) in
       subst (λ (e : Done). IsDone x told w w s e a) (sym (as_done d S a stays due)) (done-same x told w s S st holds a);
+  feet = looks_feet x b s (only_keys (rw_keys size b s r)) (op_of r bytes) refl (lacks_read x b s size r bytes lacks);
 }
 
-pub refused_step : (told : Told) (x : Caller) (b : Map) (s t : SessionView) (at into : Attempted Key Delta) (keys : List Key) (r : RwOp) (bytes : List ℕ) (o : Op (List ℕ)) (a : Answer) → Lacks r → IsRefusal a
-    → Answers x b s keys (op_of r bytes) a → op_of r bytes ≡ o → Grows at into → into.reads ≡ at.reads ++ keys → into.changes ≡ at.changes → t ≡ s
+pub refused_step : (told : Told) (x : Caller) (b : Map) (s t : SessionView) (at into : Attempted Key Delta) (size : ℕ) (r : RwOp) (bytes : List ℕ)
+    → (o : Op (List ℕ)) (a : Answer) → Lacks r → IsRefusal a → Answers x b s (rw_keys size b s r) (op_of r bytes) a → op_of r bytes ≡ o → Grows at into
+    → into.reads ≡ at.reads ++ rw_keys size b s r → into.changes ≡ at.changes → t ≡ s
     → PiecesBytes (is_told told) [] → IsToldStep told x b (in_hand at s) (in_hand into t) o a
-refused_step told x b s t at into keys r bytes o a lacks refused one is grows reads changes same none = record {
-  step = record {
-    did = record { keys = keys; edits = []; facts = []; stored = [] };
-    grows = record { base = grows.base; reads = reads; changes = changes ∙ sym (append-nil at.changes) };
-    is_call = subst (λ u. IsCall x b s u (record { keys = keys; edits = []; facts = []; stored = [] }) o a) (sym same)
-        (subst (λ q. IsCall x b s s (record { keys = keys; edits = []; facts = []; stored = [] }) q a) is (refused_call x b s keys r bytes a lacks refused one));
-  };
-  told_are = tt;
-  stored_are = none;
-}
+refused_step told x b s t at into size r bytes o a lacks refused one is grows reads changes same none =
+    let did : Did = only_keys (rw_keys size b s r) in
+    record {
+      step = record {
+        did = did;
+        grows = record { base = grows.base; reads = reads; changes = changes ∙ sym (append-nil at.changes) };
+        is_call = subst (λ u. IsCall x b s u did o a) (sym same)
+            (subst (λ q. IsCall x b s s did q a) is (refused_call x b s size r bytes a lacks refused one));
+      };
+      told_are = tt;
+      stored_are = none;
+      lists_are = tt;
+    }

@@ -4,19 +4,20 @@ use Rattle.wtf_base.specs.declared.fault.Fault.{Fault}
 use Rattle.wtf_base.specs.declared.fault.Fault.TheVariants as fault
 use Rattle.wtf_base.specs.declared.kept.Kept.{Kept}
 use Rattle.wtf_base.specs.declared.settings.Settings.{Settings}
-use Rattle.wtf_dev.specs.Store.{StoreKind}
+use Rattle.wtf_dev.specs.Store.{Range, StoreKind}
 use Rattle.wtf_overlay.specs.Origin.{Place}
-use Rattle.wtf_replica.specs.Bytes.{byte_at}
 use Rattle.wtf_model.specs.declared.answer.Answer.{Answer}
 use Rattle.wtf_model.specs.declared.op.Op.{Op}
 use Rattle.wtf_model.specs.declared.op.Op.TheVariants as op
 use Rattle.wtf_meta.specs.Bytes.{PiecesBytes}
-use Rattle.wtf_meta.specs.Contents.{Told, is_told}
+use Rattle.wtf_meta.specs.Lists.{TellLists}
+use Rattle.wtf_meta.specs.Contents.{Told, is_told, lists_in}
 use Rattle.wtf_meta.specs.Maps.{Map}
 use Rattle.wtf_meta.specs.Sessions.{SessionView}
 use Rattle.wtf_meta.specs.Calls.{Caller, Fact, Did, InHand, TellFacts, IsCall}
 use Rattle.wtf_meta.proofs.Named.{PiecesBytes-none}
 use Rattle.wtf_region.specs.declared.dev.Dev.{Dev}
+use Rattle.wtf_region.specs.Devs.{told_in}
 use Rattle.wtf_steps.specs.Faults.{MayFault}
 use Rattle.wtf_steps.specs.Steps.{IsStepWith}
 use Rattle.wtf_steps.specs.Scenes.{Scene}
@@ -26,14 +27,15 @@ use Rattle.wtf_slicing.specs.Ops.{op_of, IsFormSlice, DoesSlice, IsSliceFault, N
 use Rattle.wtf_replay.specs.Built.{is_rw_op, is_slice_op, IsPlainOp, IsFormPlain, IsSliceOpOf}
 use Rattle.wtf_replay.specs.Causes.{IsOwnOf, IsCallFault, IsAgainFault, IsPlainFault, IsStillOp}
 use Rattle.wtf_replay.specs.Sounds.{TellsHand, IsToldStep}
+use Rattle.wtf_replay.proofs.ReadLists.{slice_read, read_told}
 
-module _ {S D : Type 0} (kind : StoreKind S) (old new : Dev S) (s : SessionView) where
+module _ {S D : Type 0} (kind : StoreKind S) (old new : Dev S) (w : Map) (s : SessionView) where
   -- what a call k is that is made as r
   pub record SliceWays (r : SliceOp) (k : Op D) : Type 0 where
     pub is : (o : Op (List ℕ)) → IsPlainOp k o → op_of r ≡ o
     pub form : IsFormPlain k → IsFormSlice r
     pub still : IsStillOp k → NeedsNoStore r
-    pub fault : (why : Fault) → IsSliceFault kind old new s r why → IsPlainFault kind old new s k why
+    pub fault : (why : Fault) → IsSliceFault kind old new w s r why → IsPlainFault kind old new w s k why
 
   pub slice_ways : (r : SliceOp) (k : Op D) → IsSliceOpOf r k → SliceWays r k
   slice_ways (Yank f n l) k e = subst (SliceWays (Yank f n l)) (sym e) (record { is = λ o h. sym h; form = λ h. h; still = λ h. absurd h; fault = λ why h. h })
@@ -45,30 +47,31 @@ module _ {S D : Type 0} (kind : StoreKind S) (old new : Dev S) (s : SessionView)
   slice_ways (Copy p q) k e = subst (SliceWays (Copy p q)) (sym e) (record { is = λ o h. sym h; form = λ h. tt; still = λ h. tt; fault = λ why h. h })
 
 -- a call on names gives a fault for want of memory alone
-pub name_fault : {S D : Type 0} (kind : StoreKind S) (old new : Dev S) (s : SessionView) (k : Op D) → is_slice_op k ≡ false → (why : Fault) → why ≡ fault.Memory → IsPlainFault kind old new s k why
-name_fault kind old new s (op.Peek l off n) b why h = absurd (cc)
-name_fault kind old new s (op.Mkdir p) b why h = h
-name_fault kind old new s (op.Rmdir p) b why h = h
-name_fault kind old new s (op.Create p) b why h = h
-name_fault kind old new s (op.Unlink p) b why h = h
-name_fault kind old new s (op.Rename p q) b why h = h
-name_fault kind old new s (op.List p) b why h = h
-name_fault kind old new s (op.Stat p) b why h = h
-name_fault kind old new s (op.Open f p) b why h = h
-name_fault kind old new s (op.Close f) b why h = h
-name_fault kind old new s (op.Seek f place) b why h = h
-name_fault kind old new s (op.Tell f) b why h = h
-name_fault kind old new s (op.Read f n) b why h = h
-name_fault kind old new s (op.Write f d) b why h = h
-name_fault kind old new s (op.Append f d) b why h = h
-name_fault kind old new s (op.Truncate f n) b why h = h
-name_fault kind old new s (op.Punch f n) b why h = h
-name_fault kind old new s (op.Yank f n l) b why h = h
-name_fault kind old new s (op.Cut l off n to) b why h = h
-name_fault kind old new s (op.Paste f l) b why h = h
-name_fault kind old new s (op.Glue f l) b why h = h
-name_fault kind old new s (op.Concat q paths) b why h = h
-name_fault kind old new s (op.Copy p q) b why h = h
+pub name_fault : {S D : Type 0} (kind : StoreKind S) (old new : Dev S) (w : Map) (s : SessionView) (k : Op D) → is_slice_op k ≡ false → (why : Fault)
+    → why ≡ fault.Memory → IsPlainFault kind old new w s k why
+name_fault kind old new w s (op.Peek l off n) b why h = absurd (cc)
+name_fault kind old new w s (op.Mkdir p) b why h = h
+name_fault kind old new w s (op.Rmdir p) b why h = h
+name_fault kind old new w s (op.Create p) b why h = h
+name_fault kind old new w s (op.Unlink p) b why h = h
+name_fault kind old new w s (op.Rename p q) b why h = h
+name_fault kind old new w s (op.List p) b why h = h
+name_fault kind old new w s (op.Stat p) b why h = h
+name_fault kind old new w s (op.Open f p) b why h = h
+name_fault kind old new w s (op.Close f) b why h = h
+name_fault kind old new w s (op.Seek f place) b why h = h
+name_fault kind old new w s (op.Tell f) b why h = h
+name_fault kind old new w s (op.Read f n) b why h = h
+name_fault kind old new w s (op.Write f d) b why h = h
+name_fault kind old new w s (op.Append f d) b why h = h
+name_fault kind old new w s (op.Truncate f n) b why h = h
+name_fault kind old new w s (op.Punch f n) b why h = h
+name_fault kind old new w s (op.Yank f n l) b why h = absurd (cc)
+name_fault kind old new w s (op.Cut l off n to) b why h = h
+name_fault kind old new w s (op.Paste f l) b why h = h
+name_fault kind old new w s (op.Glue f l) b why h = h
+name_fault kind old new w s (op.Concat q paths) b why h = absurd (cc)
+name_fault kind old new w s (op.Copy p q) b why h = h
 
 -- a call stored nothing
 stored_none : {S : Type 0} (sc : Scene S) (s : SessionView) (r : SliceOp) (did : Did) → DoesSlice sc s r did → did.stored ≡ []
@@ -83,14 +86,15 @@ stored_none sc s (Copy p q) did does = does.stored
 no_facts : (told : Told) (facts : List Fact) → facts ≡ [] → TellFacts told facts
 no_facts told facts e = subst (TellFacts told) (sym e) tt
 
-slice_facts : {S : Type 0} (sc : Scene S) (s : SessionView) (r : SliceOp) (did : Did) → DoesSlice sc s r did → TellsHand sc.kind sc.before sc.map s → TellFacts (byte_at sc.kind sc.after) did.facts
-slice_facts sc s (Peek l off n) did does tells = does.told tells.slices
-slice_facts sc s (Yank f n l) did does tells = no_facts (byte_at sc.kind sc.after) did.facts does.facts
-slice_facts sc s (Cut l off n to) did does tells = no_facts (byte_at sc.kind sc.after) did.facts does.facts
-slice_facts sc s (Paste f l) did does tells = no_facts (byte_at sc.kind sc.after) did.facts does.facts
-slice_facts sc s (Glue f l) did does tells = no_facts (byte_at sc.kind sc.after) did.facts does.facts
-slice_facts sc s (Concat q paths) did does tells = no_facts (byte_at sc.kind sc.after) did.facts does.facts
-slice_facts sc s (Copy p q) did does tells = no_facts (byte_at sc.kind sc.after) did.facts does.facts
+slice_facts : {S : Type 0} (sc : Scene S) (ranges : List (ℕ × Range)) (s : SessionView) (r : SliceOp) (did : Did) → DoesSlice sc s r did
+    → TellsHand sc.kind sc.before ranges sc.map s → TellFacts (told_in sc.kind sc.after) did.facts
+slice_facts sc ranges s (Peek l off n) did does tells = does.told tells.slices
+slice_facts sc ranges s (Yank f n l) did does tells = no_facts (told_in sc.kind sc.after) did.facts does.facts
+slice_facts sc ranges s (Cut l off n to) did does tells = no_facts (told_in sc.kind sc.after) did.facts does.facts
+slice_facts sc ranges s (Paste f l) did does tells = no_facts (told_in sc.kind sc.after) did.facts does.facts
+slice_facts sc ranges s (Glue f l) did does tells = no_facts (told_in sc.kind sc.after) did.facts does.facts
+slice_facts sc ranges s (Concat q paths) did does tells = no_facts (told_in sc.kind sc.after) did.facts does.facts
+slice_facts sc ranges s (Copy p q) did does tells = no_facts (told_in sc.kind sc.after) did.facts does.facts
 
 -- P holds of what it stored, which is nothing
 pub stored_bytes_none : {S : Type 0} (P : List Place → Bool) (sc : Scene S) (s : SessionView) (r : SliceOp) (did : Did) → DoesSlice sc s r did → PiecesBytes P did.stored
@@ -98,11 +102,14 @@ stored_bytes_none P sc s r did does = subst (PiecesBytes P) (sym (stored_none sc
 
 -- its step, over stores that tell the bytes of the map and of the slices in hand
 pub slice_step : {S : Type 0} (sc : Scene S) (r : SliceOp) (x : Caller) (old new : InHand) (o : Op (List ℕ)) (a : Answer) → IsStepWith (DoesSlice sc old.session r) x sc.map old new (op_of r) a → op_of r ≡ o
-    → TellsHand sc.kind sc.before sc.map old.session → IsToldStep (byte_at sc.kind sc.after) x sc.map old new o a
-slice_step sc r x old new o a one is tells = record {
+    → x.size ≡ sc.after.settings.region → (ranges : List (ℕ × Range)) → TellsHand sc.kind sc.before ranges sc.map old.session
+    → IsToldStep (told_in sc.kind sc.after) x sc.map old new o a
+slice_step sc r x old new o a one is size ranges tells = record {
   step = record { did = one.did; grows = one.grows; is_call = subst (λ q. IsCall x sc.map old.session new.session one.did q a) is one.is_call };
-  told_are = slice_facts sc old.session r one.did one.more tells;
-  stored_are = stored_bytes_none (is_told (byte_at sc.kind sc.after)) sc old.session r one.did one.more;
+  told_are = slice_facts sc ranges old.session r one.did one.more tells;
+  lists_are = subst (λ (z : ℕ). TellLists (lists_in z (told_in sc.kind sc.after)) one.did.lists) (sym size)
+      (read_told sc one.did.lists (slice_read sc old.session r one.did one.more) ranges tells.seen);
+  stored_are = stored_bytes_none (is_told (told_in sc.kind sc.after)) sc old.session r one.did one.more;
 }
 
 module _ {S : Type 0} (kind : StoreKind S) (old new : Dev S) (w : Map) (s : SessionView) where
@@ -124,7 +131,7 @@ module _ {S : Type 0} (kind : StoreKind S) (old new : Dev S) (w : Map) (s : Sess
   plain_own o b still = absurd (cc)
 
   -- its fault is that of a call
-  pub plain_call_fault : (o : Op (List ℕ)) → is_rw_op o ≡ false → (why : Fault) → IsPlainFault kind old new s o why → IsCallFault kind old new w s o why
+  pub plain_call_fault : (o : Op (List ℕ)) → is_rw_op o ≡ false → (why : Fault) → IsPlainFault kind old new w s o why → IsCallFault kind old new w s o why
   plain_call_fault (op.Mkdir p) b why h = h
   plain_call_fault (op.Rmdir p) b why h = h
   plain_call_fault (op.Create p) b why h = h
@@ -140,7 +147,7 @@ module _ {S : Type 0} (kind : StoreKind S) (old new : Dev S) (w : Map) (s : Sess
   plain_call_fault (op.Copy p q) b why h = h
   plain_call_fault o b why h = absurd (cc)
 
-  pub plain_again_fault : (k : Op Kept) → is_rw_op k ≡ false → (why : Fault) → IsPlainFault kind old new s k why → IsAgainFault kind old new w s k why
+  pub plain_again_fault : (k : Op Kept) → is_rw_op k ≡ false → (why : Fault) → IsPlainFault kind old new w s k why → IsAgainFault kind old new w s k why
   plain_again_fault (op.Mkdir p) b why h = h
   plain_again_fault (op.Rmdir p) b why h = h
   plain_again_fault (op.Create p) b why h = h

@@ -1,10 +1,7 @@
 -- What holds of a transaction goes on holding.
 use Rattle.std.proofs.Common.{◌≡◌, suc, zero, ◌<◌, ◌≤◌, ℕ, ◌+◌, length, take, List, [], ◌∷◌, ◌++◌, Some, refl, sym, ap, ◌∙◌, subst, arith, slice_get}
-use Rattle.std.specs.List.{All}
 use Rattle.std.proofs.Math.Seq.{take-length}
 use Rattle.std.proofs.lemmas.List.{length-take-le, length_push}
-use Rattle.std.proofs.lemmas.List.Elements.{All-get_or}
-use Rattle.std.proofs.lemmas.Option.{get_or_from_slice_get, slice_get_within}
 use Rattle.wtf_base.specs.declared.kept.Kept.{Kept}
 use Rattle.wtf_base.specs.Slices.{len_of}
 use Rattle.wtf_overlay.specs.Origin.{part_origin}
@@ -21,22 +18,20 @@ use Rattle.wtf_log.specs.Calls.{with_call}
 use Rattle.wtf_log.specs.Standing.{OpStandsFor, OpsStandFor}
 use Rattle.wtf_log.proofs.StandingLaws.{OpsStandFor-length, OpsStandFor-push, OpsStandFor-weaker}
 use Rattle.wtf_meta.specs.Maps.{Map, with, metadata_at, seen}
-use Rattle.wtf_meta.specs.Contents.{Told, is_told}
+use Rattle.wtf_meta.specs.Lists.{ListFact}
+use Rattle.wtf_meta.specs.Contents.{Told, is_told, lists_in}
 use Rattle.wtf_meta.proofs.Named.{PiecesBytes-append}
-use Rattle.wtf_steps.proofs.InsideWays.{pieces_stay}
+use Rattle.wtf_meta.proofs.ListFacts.{TellLists-append}
+use Rattle.wtf_meta.proofs.Weaker.{pieces_stay}
 use Rattle.wtf_meta.specs.Sessions.{SessionView}
 use Rattle.wtf_meta.specs.Calls.{Fact, Did, TellFacts, IsCall, IsRun}
 use Rattle.wtf_meta.proofs.Facts.{TellFacts-append}
 use Rattle.wtf_meta.proofs.Running.{run_on}
-use Rattle.wtf_meta.proofs.Telling.{TellsOn, TellBytes-later, is_told-later}
+use Rattle.wtf_meta.proofs.Telling.{TellsOn, TellBytes-later, is_told-later, TellLists-later}
 use Rattle.wtf_overlay.specs.Origin.{pieces_len, pieces_origin}
 use Rattle.wtf_replay.specs.Views.{TxnView, hand_of}
 use Rattle.wtf_replay.specs.Fits.{IsLog}
 use Rattle.wtf_replay.specs.Sounds.{tells_slice, caller_at, did_by, first_of, IsSound, IsToldStep}
-
--- what holds of all elements holds of one
-pub All-at : {A : Type 0} (P : A → Type 0) (xs : List A) (k : ℕ) (x : A) → slice_get xs k ≡ Some x → All P xs → P x
-All-at P xs k x is all = subst P (get_or_from_slice_get xs k x x is) (All-get_or P xs k x (slice_get_within xs k x is) all)
 
 -- one element more
 pub take_one : {A : Type 0} (xs : List A) (k : ℕ) (x : A) → slice_get xs k ≡ Some x → take (suc k) xs ≡ take k xs ++ x ∷ []
@@ -60,9 +55,11 @@ pub sound_later : (size : ℕ) (kv : Store Key Value) (told later : Told) (x : T
 sound_later size kv told later x ops on sound = record {
   facts = sound.facts;
   stored = sound.stored;
+  lists = sound.lists;
   ops_are = OpsStandFor-weaker (tells_slice told) (tells_slice later) x.log.ops ops (λ k s bytes own. TellBytes-later told later (len_of s) (part_origin (Held s)) bytes on) sound.ops_are;
   told_are = facts_later told later sound.facts on sound.told_are;
   stored_are = pieces_stay (is_told told) (is_told later) (λ places h. is_told-later told later places on h) sound.stored sound.stored_are;
+  lists_are = TellLists-later told later size sound.lists on sound.lists_are;
   run = sound.run;
 }
 
@@ -71,20 +68,35 @@ pub sound_along : (size : ℕ) (kv after : Store Key Value) (told : Told) (x : T
 sound_along size kv after told x ops same sound = record {
   facts = sound.facts;
   stored = sound.stored;
+  lists = sound.lists;
   ops_are = sound.ops_are;
   told_are = sound.told_are;
   stored_are = sound.stored_are;
-  run = subst (λ w. IsRun (caller_at size x.tx 0) w x.session (did_by x.at sound.facts sound.stored) (first_of x ops x.replayed)) (sym same) sound.run;
+  lists_are = sound.lists_are;
+  run = subst (λ w. IsRun (caller_at size x.tx 0) w x.session (did_by x.at sound.facts sound.stored sound.lists) (first_of x ops x.replayed))
+      (sym same) sound.run;
 }
 
 -- a run goes on by a call
-run_goes_on : (size tx : ℕ) (b : Map) (s t : SessionView) (old new : Attempted Key Delta) (facts : List Fact) (stored : List Piece) (more : Did) (ops : List (Op (List ℕ))) (shown : List Answer) (o : Op (List ℕ)) (a : Answer)
-    → IsRun (caller_at size tx 0) b s (did_by old facts stored) (ops, shown) → GrowsBy old new more.keys more.edits → IsCall (caller_at size tx (length ops)) (with old.changes b) s t more o a
-    → IsRun (caller_at size tx 0) b t (did_by new (facts ++ more.facts) (stored ++ more.stored)) (ops ++ o ∷ [], shown ++ a ∷ [])
-run_goes_on size tx b s t old new facts stored more ops shown o a run grows one =
-    subst (λ ks. IsRun (caller_at size tx 0) b t (record { keys = ks; edits = new.changes; facts = facts ++ more.facts; stored = stored ++ more.stored }) (ops ++ o ∷ [], shown ++ a ∷ [])) (sym grows.reads)
-    (subst (λ es. IsRun (caller_at size tx 0) b t (record { keys = old.reads ++ more.keys; edits = es; facts = facts ++ more.facts; stored = stored ++ more.stored }) (ops ++ o ∷ [], shown ++ a ∷ [])) (sym grows.changes)
-    (run_on (caller_at size tx 0) b s t (did_by old facts stored) more ops shown o a run one))
+run_goes_on : (size tx : ℕ) (b : Map) (s t : SessionView) (old new : Attempted Key Delta) (facts : List Fact) (stored : List Piece) (lists : List ListFact)
+    (more : Did) (ops : List (Op (List ℕ))) (shown : List Answer) (o : Op (List ℕ)) (a : Answer)
+    → IsRun (caller_at size tx 0) b s (did_by old facts stored lists) (ops, shown) → GrowsBy old new more.keys more.edits
+    → IsCall (caller_at size tx (length ops)) (with old.changes b) s t more o a
+    → IsRun (caller_at size tx 0) b t (did_by new (facts ++ more.facts) (stored ++ more.stored) (lists ++ more.lists)) (ops ++ o ∷ [], shown ++ a ∷ [])
+run_goes_on size tx b s t old new facts stored lists more ops shown o a run grows one =
+    subst (λ ks. IsRun (caller_at size tx 0) b t (record {
+      keys =
+          ks;
+      edits = new.changes;
+      facts = facts ++ more.facts;
+      stored = stored ++ more.stored;
+      lists = lists ++ more.lists;
+    }) (ops ++ o ∷ [], shown ++ a ∷ []))
+    (sym grows.reads)
+    (subst (λ es. IsRun (caller_at size tx 0) b t
+    (record { keys = old.reads ++ more.keys; edits = es; facts = facts ++ more.facts; stored = stored ++ more.stored; lists = lists ++ more.lists })
+    (ops ++ o ∷ [], shown ++ a ∷ [])) (sym grows.changes)
+    (run_on (caller_at size tx 0) b s t (did_by old facts stored lists) more ops shown o a run one))
 
 module _ (size : ℕ) (kv : Store Key Value) (told : Told) where
   -- one more call is done
@@ -97,15 +109,18 @@ module _ (size : ℕ) (kv : Store Key Value) (told : Told) where
       let did : Did = step.step.did in
       let base : new.at.base ≡ old.at.base = step.step.grows.base in
       let b : Map = metadata_at kv old.at.base in
-      let whole : Did = did_by new.at (sound.facts ++ did.facts) (sound.stored ++ did.stored) in
+      let whole : Did = did_by new.at (sound.facts ++ did.facts) (sound.stored ++ did.stored) (sound.lists ++ did.lists) in
       let is_call : IsCall (caller_at size old.tx (length (take old.replayed ops))) (seen kv old.at) old.session new.session did o a = subst (λ n. IsCall (caller_at size old.tx n) (seen kv old.at) old.session new.session did o a) (sym count) step.step.is_call in
-      let run = run_goes_on size old.tx b old.session new.session old.at new.at sound.facts sound.stored did (take old.replayed ops) (take old.replayed old.log.shown) o a sound.run step.step.grows is_call in
+      let run = run_goes_on size old.tx b old.session new.session old.at new.at sound.facts sound.stored sound.lists did (take old.replayed ops)
+      (take old.replayed old.log.shown) o a sound.run step.step.grows is_call in
       record {
         facts = sound.facts ++ did.facts;
         stored = sound.stored ++ did.stored;
+        lists = sound.lists ++ did.lists;
         ops_are = stand;
         told_are = TellFacts-append told sound.facts did.facts sound.told_are step.told_are;
         stored_are = PiecesBytes-append (is_told told) sound.stored did.stored sound.stored_are step.stored_are;
+        lists_are = TellLists-append (lists_in size told) sound.lists did.lists sound.lists_are step.lists_are;
         run = subst (λ c. IsRun (caller_at size c 0) (metadata_at kv new.at.base) new.session whole (first_of new ops2 new.replayed)) (sym tx)
             (subst (λ n. IsRun (caller_at size old.tx 0) (metadata_at kv n) new.session whole (first_of new ops2 new.replayed)) (sym base)
             (subst (λ l. IsRun (caller_at size old.tx 0) b new.session whole (l, take new.replayed new.log.shown)) (sym done)

@@ -14,15 +14,26 @@ use Rattle.wtf_replay.specs.Sounds.{tells_slice, caller_at, IsSound}
 
 -- what holds of a transaction does not speak of its end
 pub sound_replaying : (size : ℕ) (kv : Store Key Value) (told : Told) (x : TxnView) (ops : List (Op (List ℕ))) → IsSound size kv told x ops → IsSound size kv told (replaying x.tx x.at x.session x.log x.replayed) ops
-sound_replaying size kv told x ops sound = record { facts = sound.facts; stored = sound.stored; ops_are = sound.ops_are; told_are = sound.told_are; stored_are = sound.stored_are; run = sound.run }
+sound_replaying size kv told x ops sound = record {
+  facts = sound.facts;
+  stored = sound.stored;
+  lists = sound.lists;
+  ops_are = sound.ops_are;
+  told_are = sound.told_are;
+  stored_are = sound.stored_are;
+  lists_are = sound.lists_are;
+  run = sound.run;
+}
 
 -- a transaction that begins again at a number
 pub sound_rebased : (size : ℕ) (kv : Store Key Value) (told : Told) (x : TxnView) (n : ℕ) (ops : List (Op (List ℕ))) → OpsStandFor (tells_slice told) x.log.ops ops → IsSound size kv told (rebased x n) ops
 sound_rebased size kv told x n ops stand = record {
   facts = [];
   stored = [];
+  lists = [];
   ops_are = stand;
   told_are = tt;
   stored_are = PiecesBytes-none (is_told told);
+  lists_are = tt;
   run = run_none (caller_at size x.tx 0) (metadata_at kv n);
 }

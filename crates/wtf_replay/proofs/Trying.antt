@@ -34,8 +34,11 @@ module _ (size : ℕ) (kv : Store Key Value) (told : Told) (x : TxnView) (ops : 
     session = x.session;
     facts = sound.facts;
     stored = sound.stored;
+    lists = sound.lists;
     told_are = sound.told_are;
-    run = subst (λ c. IsRun (caller_at size x.tx 0) (metadata_at kv x.at.base) x.session (did_by x.at sound.facts sound.stored) c) (all_done log live) sound.run;
+    lists_are = sound.lists_are;
+    run = subst (λ c. IsRun (caller_at size x.tx 0) (metadata_at kv x.at.base) x.session (did_by x.at sound.facts sound.stored sound.lists) c)
+        (all_done log live) sound.run;
     agree = installed.agree;
     fits = installed.fits;
     next = installed.next;
@@ -47,4 +50,4 @@ module _ (size : ℕ) (kv : Store Key Value) (told : Told) (x : TxnView) (ops : 
 -- so on each tree for which the map now stands, the calls are the definitions' run
 pub final_ran : (size : ℕ) (told : Told) (kv after : Store Key Value) (x : TxnView) (ops : List (Op (List ℕ))) (n : ℕ) (f : IsFinal size told kv after x ops n) (t : Tree) → Stands size told x.tx 0 (metadata_at kv kv.number) t
     → Ran (caller_at size x.tx 0) told (metadata_at kv kv.number) (with f.at.changes (metadata_at kv kv.number)) f.session t (ops, x.log.shown)
-final_ran size told kv after x ops n f t st = f.run.acts told (metadata_at kv kv.number) t f.agree f.fits f.told_are st
+final_ran size told kv after x ops n f t st = f.run.acts told (metadata_at kv kv.number) t f.agree f.fits f.told_are f.lists_are st

@@ -58,7 +58,9 @@ call_short kind old new w s (op.Write f (b ∷ bs)) why e = inl e
 call_short kind old new w s (op.Append f []) why e = e
 call_short kind old new w s (op.Append f (b ∷ bs)) why e = inl e
 call_short kind old new w s (op.Read f n) why e = inl e
+call_short kind old new w s (op.Yank f n l) why e = inl e
 call_short kind old new w s (op.Peek l off n) why e = inl e
+call_short kind old new w s (op.Concat q ps) why e = inl e
 call_short kind old new w s o why e = e
 
 -- a transaction whose attempt and session are what they were

@@ -5,7 +5,7 @@ use Rattle.wtf_base.specs.declared.fault.Fault.TheVariants as fault
 use Rattle.wtf_base.specs.declared.kept.Kept.{Kept}
 use Rattle.wtf_base.specs.declared.settings.Settings.{Settings}
 use Rattle.wtf_base.specs.declared.slice.Slice.{Slice}
-use Rattle.wtf_dev.specs.Store.{StoreKind}
+use Rattle.wtf_dev.specs.Store.{Range, StoreKind}
 use Rattle.wtf_overlay.specs.declared.part.Piece.{Piece}
 use Rattle.wtf_replica.specs.Bytes.{byte_at}
 use Rattle.wtf_kv.specs.Stores.{Store}
@@ -30,16 +30,17 @@ use Rattle.wtf_meta.specs.Trees.{Stands}
 use Rattle.wtf_meta.specs.Calls.{InHand, cap_for}
 use Rattle.wtf_region.specs.declared.dev.Dev.{Dev}
 use Rattle.wtf_region.specs.Devs.{GoesOn, place_in, stores}
-use Rattle.wtf_steps.specs.Faults.{MayFault, LacksBytes}
+use Rattle.wtf_steps.specs.Faults.{MayFault}
 use Rattle.wtf_rw.specs.Ops.{OwnBy}
-use Rattle.wtf_rw.specs.Reads.{read_origin}
+use Rattle.wtf_rw.specs.Reads.{LacksRead}
 use Rattle.wtf_steps.specs.Recorded.{found_in}
 use Rattle.wtf_rw.specs.Stored.{IsPutFault, end_place}
+use Rattle.wtf_slicing.specs.Ops.{IsYankFault, IsConcatFault}
 use Rattle.wtf_slicing.specs.Shown.{LacksSlice}
 use Rattle.wtf_replay.specs.Views.{TxnView, in_hand, hand_of, replaying}
 use Rattle.wtf_replay.specs.Tried.{commit_from}
 use Rattle.wtf_replay.specs.Insides.{NamesAgain}
-use Rattle.wtf_replay.specs.Sounds.{IsSound, TellsMap, caller_at}
+use Rattle.wtf_replay.specs.Sounds.{IsSound, TellsMap, IsAwayTxn, caller_at}
 
 -- what came of the bytes that a call was to store: those that are written go to the region of the handle's offset, and those
 -- that are appended to that of the file's end
@@ -63,10 +64,12 @@ IsStillOp o = ⊤
 abbrev pub IsPeekCause : {S : Type 0} → StoreKind S → (old new : Dev S) → Option (List Piece) → ℕ → ℕ → Fault → Type 0
 IsPeekCause kind old new slice off n why = (why ≡ fault.Memory) ⊎ LacksSlice kind old new slice off n why
 
--- why a call without data gave a fault: only bytes of a slice that are to be shown are read
-abbrev pub IsPlainFault : {S D : Type 0} → StoreKind S → (old new : Dev S) → SessionView → Op D → Fault → Type 0
-IsPlainFault kind old new s (op.Peek label off n) why = IsPeekCause kind old new (slice_in s label) off n why
-IsPlainFault kind old new s o why = why ≡ fault.Memory
+-- why a call without data gave a fault: bytes of a slice are read that are to be shown, and the lists of files that are taken
+abbrev pub IsPlainFault : {S D : Type 0} → StoreKind S → (old new : Dev S) → Map → SessionView → Op D → Fault → Type 0
+IsPlainFault kind old new w s (op.Yank f n label) why = IsYankFault kind old new w (handle_in s f) n why
+IsPlainFault kind old new w s (op.Peek label off n) why = IsPeekCause kind old new (slice_in s label) off n why
+IsPlainFault kind old new w s (op.Concat q paths) why = IsConcatFault kind old new w paths why
+IsPlainFault kind old new w s o why = why ≡ fault.Memory
 
 -- a call that is to store no byte
 abbrev pub StoresNothing : Op (List ℕ) → Type 0
@@ -77,20 +80,24 @@ StoresNothing o = ⊤
 -- why n bytes from a handle's offset on were not shown; memory may be short at any time
 abbrev pub IsReadCause : {S : Type 0} → StoreKind S → (old new : Dev S) → Map → Option Handle → ℕ → Fault → Type 0
 IsReadCause kind old new w handle n why =
-    (why ≡ fault.Memory) ⊎ ((h : Handle) × (handle ≡ Some h) × LacksBytes kind old new (found_in old.settings.region w h n) (read_origin old.settings.region w h) why)
+    (why ≡ fault.Memory) ⊎ ((h : Handle) × (handle ≡ Some h) × LacksRead kind old new (file_of h.inode w) h.off (found_in old.settings.region w h n) why)
 
 -- of a call that is made for the first time
 abbrev pub IsCallFault : {S : Type 0} → StoreKind S → (old new : Dev S) → Map → SessionView → Op (List ℕ) → Fault → Type 0
 IsCallFault kind old new w s (op.Write f bytes) why = IsPutFault kind old new bytes why
 IsCallFault kind old new w s (op.Append f bytes) why = IsPutFault kind old new bytes why
 IsCallFault kind old new w s (op.Read f n) why = IsReadCause kind old new w (handle_in s f) n why
+IsCallFault kind old new w s (op.Yank f n label) why = IsYankFault kind old new w (handle_in s f) n why
 IsCallFault kind old new w s (op.Peek label off n) why = IsPeekCause kind old new (slice_in s label) off n why
+IsCallFault kind old new w s (op.Concat q paths) why = IsConcatFault kind old new w paths why
 IsCallFault kind old new w s o why = why ≡ fault.Memory
 
 -- and of one that is made once more, which stores nothing
 abbrev pub IsAgainFault : {S : Type 0} → StoreKind S → (old new : Dev S) → Map → SessionView → Op Kept → Fault → Type 0
 IsAgainFault kind old new w s (op.Read f n) why = IsReadCause kind old new w (handle_in s f) n why
+IsAgainFault kind old new w s (op.Yank f n label) why = IsYankFault kind old new w (handle_in s f) n why
 IsAgainFault kind old new w s (op.Peek label off n) why = IsPeekCause kind old new (slice_in s label) off n why
+IsAgainFault kind old new w s (op.Concat q paths) why = IsConcatFault kind old new w paths why
 IsAgainFault kind old new w s k why = why ≡ fault.Memory
 
 -- it may come in place of what is due, for whatever bytes the call stands
@@ -113,8 +120,9 @@ pub record ReplayFault {S : Type 0} (kind : StoreKind S) (old new : Dev S) (kv :
   pub k : ℕ
   pub from : x.replayed ≤ k
   pub base : at.base ≡ x.at.base
-  pub named : NamesAgain kv (hand_of x) (in_hand at session) x.log
-  pub done : (ops : List (Op (List ℕ))) → TellsMap kind (stores old) (metadata_at kv x.at.base) → IsSound old.settings.region kv (byte_at kind (stores old)) x ops
+  pub named : NamesAgain kind old mid kv (hand_of x) (in_hand at session) x.log
+  pub done : (ops : List (Op (List ℕ))) (ranges : List (ℕ × Range)) → TellsMap kind old ranges (metadata_at kv x.at.base) → IsAwayTxn kind old ranges kv x
+      → IsSound old.settings.region kv (byte_at kind (stores old)) x ops
       → IsSound old.settings.region kv (byte_at kind (stores mid)) (replaying x.tx at session x.log k) ops
   pub fault : FaultAt kind mid new kv (in_hand at session) (slice_get x.log.ops k) why
 

@@ -3,9 +3,9 @@
 -- NSDI 2016, sections 2.3 to 2.6 (what a call read is what a later install of others may not have changed).
 use Rattle.std.specs.Prelude.{◌≡◌, ℕ, zero, suc, ◌+◌, ◌-◌, ◌++◌, Bool, false, bytes_eq, if◌then◌else◌, List, [], ◌∷◌, length, Option, None, Some, slice_get}
 use Rattle.std.specs.List.{list_any}
-use Rattle.wtf_base.specs.declared.ids.InodeId.{InodeId}
 use Rattle.wtf_base.specs.declared.kept.Kept.{Kept}
 use Rattle.wtf_base.specs.declared.slice.Slice.{Slice}
+use Rattle.wtf_dev.specs.Store.{StoreKind}
 use Rattle.wtf_kv.specs.Stores.{Store}
 use Rattle.wtf_occ.specs.Attempts.{Attempted}
 use Rattle.wtf_model.specs.declared.answer.Answer.{Answer}
@@ -19,9 +19,12 @@ use Rattle.wtf_values.specs.declared.value.Node.{Node}
 use Rattle.wtf_values.specs.declared.value.Node.TheVariants.{Folder, File}
 use Rattle.wtf_log.specs.Calls.{own_of}
 use Rattle.wtf_meta.specs.declared.session.Handle.{Handle}
+use Rattle.wtf_meta.specs.Lists.{ListFact}
 use Rattle.wtf_meta.specs.Maps.{Map, Edits, seen}
 use Rattle.wtf_meta.specs.Sessions.{SessionView, handle_in, slice_in}
 use Rattle.wtf_meta.specs.Calls.{InHand}
+use Rattle.wtf_region.specs.declared.dev.Dev.{Dev}
+use Rattle.wtf_region.specs.Reads.{TellsFacts}
 use Rattle.wtf_index.specs.Checks.{stands_at}
 use Rattle.wtf_index.specs.Recorded.{target_keys, directory_keys, rmdir_keys, source_keys, rename_keys}
 use Rattle.wtf_index.specs.Changed.{mkdir_changes, rmdir_changes, create_changes, unlink_changes, rename_changes}
@@ -31,17 +34,8 @@ use Rattle.wtf_rw.specs.Recorded.{open_keys, seek_keys, stat_keys}
 use Rattle.wtf_rw.specs.Changed.{OfSlice, CutsAt, PunchesAt}
 use Rattle.wtf_slicing.specs.Recorded.{glue_keys, concat_keys, copy_keys}
 use Rattle.wtf_slicing.specs.Changed.{kept_pieces, IsConcat, IsCopied}
+use Rattle.wtf_slicing.specs.Sights.{Sight, sight}
 use Rattle.wtf_replay.specs.Views.{TxnView, hand_of}
-
--- what a call sees: how many bytes a region has, the map of its attempt, what is in hand, and the inode of a file that it would make
-pub record Sight : Type 0 where
-  pub size : ℕ
-  pub map : Map
-  pub hand : SessionView
-  pub new : InodeId
-
-abbrev pub sight : ℕ → Map → SessionView → InodeId → Sight
-sight size w s new = record { size = size; map = w; hand = s; new = new }
 
 -- whether a handle was opened by a path
 abbrev pub is_by : List ℕ → Option Handle → Bool
@@ -97,7 +91,7 @@ CallMakes x own (op.Truncate f n) a old new = Makes a (CutsAt x.size (handle_in 
 CallMakes x own (op.Punch f n) a old new = Makes a (PunchesAt x.size (handle_in x.hand f) n) old new
 CallMakes x own (op.Paste f label) a old new = Makes a (LaysAt x.size (handle_in x.hand f) (kept_pieces x.hand label)) old new
 CallMakes x own (op.Glue f label) a old new = Makes a (AddsAt x.size x.map (handle_in x.hand f) (kept_pieces x.hand label)) old new
-CallMakes x own (op.Concat q paths) a old new = Makes a (IsConcat x.size x.map q paths x.new) old new
+CallMakes x own (op.Concat q paths) a old new = Makes a (IsConcat x q paths) old new
 CallMakes x own (op.Copy p q) a old new = Makes a (IsCopied x.map p q x.new) old new
 CallMakes x own o a old new = new.changes ≡ old.changes
 
@@ -113,23 +107,34 @@ kept_len (op.Write f kept) = kept.len
 kept_len (op.Append f kept) = kept.len
 kept_len o = 0
 
--- what call k + 1 of the transaction tx sees, with this in hand
-abbrev pub sight_at : ℕ → Store Key Value → ℕ → ℕ → InHand → Sight
-sight_at size kv tx k hand = sight size (seen kv hand.at) hand.session (record { tx = record { 0 = tx }; index = k + 1 })
+-- what call k + 1 of the transaction tx sees, with this in hand, where it read these lists
+abbrev pub sight_at : ℕ → Store Key Value → ℕ → ℕ → InHand → List ListFact → Sight
+sight_at size kv tx k hand lists = sight size (seen kv hand.at) hand.session (record { tx = record { 0 = tx }; index = k + 1 }) lists
 
--- call k of a transaction, from 0 on, was made once more, and answered what was shown
-pub record Redoes (size : ℕ) (kv : Store Key Value) (x : TxnView) (k : ℕ) (old new : InHand) : Type 0 where
+-- how many bytes a region has, and which lists of slices are known
+pub record Scope : Type 1 where
+  pub size : ℕ
+  pub known : List ListFact → Type 0
+
+-- those that the stores tell that are left, where each byte of the slices was told and lies apart from what was punched
+abbrev pub scope : {S : Type 0} → StoreKind S → (old new : Dev S) → Scope
+scope kind old new = record { size = old.settings.region; known = TellsFacts kind old new }
+
+-- call k of a transaction, from 0 on, was made once more, and answered what was shown; the lists are known that it read
+pub record Redoes (b : Scope) (kv : Store Key Value) (x : TxnView) (k : ℕ) (old new : InHand) : Type 0 where
   pub op : Op Kept
   pub at_op : slice_get x.log.ops k ≡ Some op
   pub shown : Answer
   pub at_shown : slice_get x.log.shown k ≡ Some shown
-  pub acts : Acts (sight_at size kv x.tx k old) (kept_len op) (own_of op) op shown old.at new.at
+  pub lists : List ListFact
+  pub known : b.known lists
+  pub acts : Acts (sight_at b.size kv x.tx k old lists) (kept_len op) (own_of op) op shown old.at new.at
 
 -- n calls of a transaction were made once more, one after another, from where it stands
-abbrev pub AreRedone : ℕ → Store Key Value → TxnView → ℕ → InHand → Type 0
-AreRedone size kv x zero hand = hand ≡ hand_of x
-AreRedone size kv x (suc n) hand = (mid : InHand) × AreRedone size kv x n mid × Redoes size kv x (x.replayed + n) mid hand
+abbrev pub AreRedone : Scope → Store Key Value → TxnView → ℕ → InHand → Type 0
+AreRedone b kv x zero hand = hand ≡ hand_of x
+AreRedone b kv x (suc n) hand = (mid : InHand) × AreRedone b kv x n mid × Redoes b kv x (x.replayed + n) mid hand
 
 -- all that are left
-abbrev pub AllRedone : ℕ → Store Key Value → TxnView → InHand → Type 0
-AllRedone size kv x hand = AreRedone size kv x (length x.log.ops - x.replayed) hand
+abbrev pub AllRedone : Scope → Store Key Value → TxnView → InHand → Type 0
+AllRedone b kv x hand = AreRedone b kv x (length x.log.ops - x.replayed) hand

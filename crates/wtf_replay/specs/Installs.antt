@@ -13,20 +13,20 @@ use Rattle.wtf_meta.specs.Maps.{metadata_at}
 use Rattle.wtf_meta.specs.Calls.{InHand}
 use Rattle.wtf_replay.specs.Views.{TxnView}
 use Rattle.wtf_replay.specs.Tried.{KeepsVersions}
-use Rattle.wtf_replay.specs.Effects.{AllRedone}
+use Rattle.wtf_replay.specs.Effects.{Scope, AllRedone}
 
 -- all calls that were left of a transaction were made once more; and each key has the versions that it had, and at n the one,
 -- if any, that the changes make which were made then
-pub record Installs (size : ℕ) (kv after : Store Key Value) (x : TxnView) (n : ℕ) : Type 0 where
+pub record Installs (b : Scope) (kv after : Store Key Value) (x : TxnView) (n : ℕ) : Type 0 where
   pub hand : InHand
-  pub redone : AllRedone size kv x hand
+  pub redone : AllRedone b kv x hand
   pub next : n ≡ kv.number + 1
   pub number : after.number ≡ n
   pub versions : (q : Key) → versions_of key_cmp after q
       ≡ versions_with key_cmp outcome_of hand.at.changes n q (metadata_at kv kv.number q) (versions_of key_cmp kv q)
 
 -- a commit that aborts leaves the versions
-abbrev pub IsInstall : ℕ → Store Key Value → Store Key Value → TxnView → Answer → Type 0
-IsInstall size kv after x (answer.Committed n) = Installs size kv after x n
-IsInstall size kv after x (Aborted' i box a) = KeepsVersions kv after
-IsInstall size kv after x a = ⊥
+abbrev pub IsInstall : Scope → Store Key Value → Store Key Value → TxnView → Answer → Type 0
+IsInstall b kv after x (answer.Committed n) = Installs b kv after x n
+IsInstall b kv after x (Aborted' i box a) = KeepsVersions kv after
+IsInstall b kv after x a = ⊥

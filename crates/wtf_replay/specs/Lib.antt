@@ -3,8 +3,8 @@ pub mod Built
 pub mod Keeps
 pub mod Refusals
 pub mod Fits
-pub mod Sounds
 pub mod Insides
+pub mod Sounds
 pub mod Causes
 pub mod Called
 pub mod Tried

@@ -18,7 +18,7 @@ pub record IsNameCall (x : Caller) (b : Map) (s : SessionView) (old new : Attemp
   pub keys : List Key
   pub edits : Edits
   pub grows : GrowsBy old new keys edits
-  pub is_call : IsCall x b s s (record { keys = keys; edits = edits; facts = []; stored = [] }) o a
+  pub is_call : IsCall x b s s (record { keys = keys; edits = edits; facts = []; stored = []; lists = [] }) o a
 
 -- a handle was opened by the path
 abbrev pub IsHeld : List ℕ → SessionView → Type 0

@@ -14,7 +14,8 @@ use Rattle.wtf_model.specs.declared.answer.Answer.{Answer}
 use Rattle.wtf_model.specs.declared.answer.Answer.TheVariants as answer
 use Rattle.wtf_model.specs.declared.op.Op.{Op}
 use Rattle.wtf_meta.specs.Maps.{AllFit, with, metadata_at}
-use Rattle.wtf_meta.specs.Contents.{Told}
+use Rattle.wtf_meta.specs.Lists.{ListFact, TellLists}
+use Rattle.wtf_meta.specs.Contents.{Told, lists_in}
 use Rattle.wtf_meta.specs.Sessions.{SessionView}
 use Rattle.wtf_meta.specs.Calls.{Fact, TellFacts, IsRun}
 use Rattle.wtf_replay.specs.Views.{TxnView, is_live, rebased}
@@ -73,15 +74,18 @@ abbrev pub commit_from : Store Key Value → TxnView → TxnView
 commit_from kv x = if stays_at kv x then x else rebased x kv.number
 
 -- A commit by its meaning: an attempt did the calls, on the map at its base, which has what the map now has at its recorded
--- keys; so run on each tree for which the map now stands, over stores that tell its facts, the calls answer what was shown;
--- and the next map is the map now with its changes, of which alone each key has a new version.
+-- keys; so run on each tree for which the map now stands, over stores that tell its facts, and whose slices decode to the lists
+-- that it read, the calls answer what was shown; and the next map is the map now with its changes, of which alone each key has a
+-- new version.
 pub record IsFinal (size : ℕ) (told : Told) (kv after : Store Key Value) (x : TxnView) (ops : List (Op (List ℕ))) (n : ℕ) : Type 0 where
   pub at : Attempted Key Delta
   pub session : SessionView
   pub facts : List Fact
   pub stored : List Piece
+  pub lists : List ListFact
   pub told_are : TellFacts told facts
-  pub run : IsRun (caller_at size x.tx 0) (metadata_at kv at.base) session (did_by at facts stored) (ops, x.log.shown)
+  pub lists_are : TellLists (lists_in size told) lists
+  pub run : IsRun (caller_at size x.tx 0) (metadata_at kv at.base) session (did_by at facts stored lists) (ops, x.log.shown)
   pub agree : Agree at.reads (metadata_at kv at.base) (metadata_at kv kv.number)
   pub fits : AllFit at.changes (metadata_at kv kv.number)
   pub next : n ≡ kv.number + 1

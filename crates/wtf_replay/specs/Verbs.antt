@@ -3,7 +3,7 @@ use Rattle.std.specs.Prelude.{◌≡◌, ◌≢◌, ◌⊎◌, ℕ, List, [], �
 use Rattle.wtf_base.specs.declared.fault.Fault.{Fault}
 use Rattle.wtf_base.specs.declared.fault.Fault.TheVariants.{Memory}
 use Rattle.wtf_base.specs.declared.slice.Slice.{Slice}
-use Rattle.wtf_dev.specs.Store.{StoreKind}
+use Rattle.wtf_dev.specs.Store.{Range, StoreKind}
 use Rattle.wtf_replica.specs.Bytes.{byte_at}
 use Rattle.wtf_kv.specs.Stores.{Store}
 use Rattle.wtf_model.specs.declared.answer.Answer.{Answer, Aborted'}
@@ -11,6 +11,7 @@ use Rattle.wtf_model.specs.declared.answer.Answer.TheVariants as answer
 use Rattle.wtf_model.specs.declared.op.Op.{Op}
 use Rattle.wtf_values.specs.declared.key.Key.{Key}
 use Rattle.wtf_values.specs.declared.value.Value.{Value}
+use Rattle.wtf_meta.specs.Lists.{ListFact}
 use Rattle.wtf_meta.specs.Contents.{Told}
 use Rattle.wtf_meta.specs.Maps.{Map, seen, metadata_at}
 use Rattle.wtf_region.specs.declared.dev.Dev.{Dev}
@@ -22,13 +23,13 @@ use Rattle.wtf_replay.specs.Views.{TxnView, hand_of}
 use Rattle.wtf_replay.specs.Built.{data_len}
 use Rattle.wtf_replay.specs.Refusals.{unmade, step_refusal}
 use Rattle.wtf_replay.specs.Fits.{IsFit}
-use Rattle.wtf_replay.specs.Sounds.{IsSound, TellsMap}
+use Rattle.wtf_replay.specs.Sounds.{IsSound, TellsMap, IsAwayTxn}
 use Rattle.wtf_replay.specs.Insides.{IsInsideTxn, NamesTxn, NamesNow}
 use Rattle.wtf_replay.specs.Causes.{IsOwnOf, StoresNothing, IsCallFault, FaultAt, IsCommitFault, MayStepFault, MayCommitFault}
 use Rattle.wtf_replay.specs.Called.{IsCalled}
 use Rattle.wtf_replay.specs.Tried.{KeepsMaps, KeepsVersions, KeepsPins, commit_from}
 use Rattle.wtf_replay.specs.Replays.{IsStepped, IsOver, IsEnded, IsTrueStep, IsTrueEnd}
-use Rattle.wtf_replay.specs.Effects.{Acts, sight_at, Redoes}
+use Rattle.wtf_replay.specs.Effects.{Acts, Scope, scope, sight_at, Redoes}
 use Rattle.wtf_replay.specs.Installs.{IsInstall}
 
 -- a kind of stores; what is lent, the store of versions and the transaction before a verb, and what it leaves of them
@@ -58,19 +59,27 @@ region_size t = t.before.settings.region
 abbrev pub map_in : {S : Type 0} → Turn S → Map
 map_in t = seen t.kv t.old.at
 
--- the calls stand for what the transaction did, over stores that tell each byte of the map at its base
+-- with the lists that are known
+abbrev pub scope_of : {S : Type 0} → Turn S → Scope
+scope_of t = scope t.kind t.before t.after
+
+-- the calls stand for what the transaction did, over stores that tell each byte of the map at its base; and but where these
+-- ranges lie, of which no byte is named, the lists that are remembered are true
 abbrev pub StartsSound : {S : Type 0} → Turn S → List (Op (List ℕ)) → Type 0
 StartsSound t ops =
-    TellsMap t.kind (stores t.before) (metadata_at t.kv t.old.at.base) × IsSound (region_size t) t.kv (told_before t) t.old ops
+    (ranges : List (ℕ × Range)) × TellsMap t.kind t.before ranges (metadata_at t.kv t.old.at.base) × IsAwayTxn t.kind t.before ranges t.kv t.old
+    × IsSound (region_size t) t.kv (told_before t) t.old ops
 
 -- A call was made and answered a: it is logged, with the slice that was stored of its data; it recorded its own keys and
--- made its own changes; and what is named is what was, or that slice.
+-- made its own changes, by lists that are known; and what is named is what was, or that slice.
 pub record IsMade {S : Type 0} (t : Turn S) (o : Op (List ℕ)) (a : Answer) : Type 0 where
   pub own : Option Slice
   pub called : IsCalled t.old t.new o own a
-  pub acts : Acts (sight_at (region_size t) t.kv t.old.tx t.old.replayed (hand_of t.old)) (data_len o) own o a t.old.at t.new.at
+  pub lists : List ListFact
+  pub known : (scope_of t).known lists
+  pub acts : Acts (sight_at (region_size t) t.kv t.old.tx t.old.replayed (hand_of t.old) lists) (data_len o) own o a t.old.at t.new.at
   pub stored : IsOwnOf t.kind t.before t.after (map_in t) t.old.session o own
-  pub named : NamesTxn t.kv t.old t.new own
+  pub named : NamesTxn t.kind t.before t.after t.kv t.old t.new own
   pub done : IsSome own → a ≡ answer.Okay
 
 -- a call, with its result
@@ -89,7 +98,7 @@ pub record CallOf {S : Type 0} (t : Turn S) (o : Op (List ℕ)) (r : Result Answ
 
 -- the call that was replayed recorded its own keys and made its own changes
 abbrev pub ActsAgain : {S : Type 0} → Turn S → Answer → Type 0
-ActsAgain t (answer.Replayed i) = Redoes (region_size t) t.kv t.old t.old.replayed (hand_of t.old) (hand_of t.new)
+ActsAgain t (answer.Replayed i) = Redoes (scope_of t) t.kv t.old t.old.replayed (hand_of t.old) (hand_of t.new)
 ActsAgain t (Aborted' i box a) = Unit {0}
 ActsAgain t a = ⊥
 
@@ -99,7 +108,7 @@ pub record StepOf {S : Type 0} (t : Turn S) (r : Result Answer Fault) : Type 0 w
   pub stepped : step_refusal t.old ≡ None → IfOk r (λ a. IsStepped t.old t.new a)
   pub acts : step_refusal t.old ≡ None → IfOk r (λ a. ActsAgain t a)
   pub meaning : step_refusal t.old ≡ None → IfOk r (λ a. (ops : List (Op (List ℕ))) → StartsSound t ops → IsTrueStep (region_size t) (told_before t, told_after t) t.kv (t.old, t.new) ops a)
-  pub named : OnOk r (NamesTxn t.kv t.old t.new None)
+  pub named : OnOk r (NamesTxn t.kind t.before t.after t.kv t.old t.new None)
   pub fit : IsFit t.kv t.new
   pub inside : IsInsideTxn t.kind (stores t.after) t.before.settings t.kv t.new
   pub err : OnErr r (t.new ≡ t.old)
@@ -112,15 +121,16 @@ pub record StepOf {S : Type 0} (t : Turn S) (r : Result Answer Fault) : Type 0 w
 -- the same as `StartsSound`, where it is the map now of which each byte is told
 abbrev pub StartsNow : {S : Type 0} → Turn S → List (Op (List ℕ)) → Type 0
 StartsNow t ops =
-    TellsMap t.kind (stores t.before) (metadata_at t.kv t.kv.number) × IsSound (region_size t) t.kv (told_before t) t.old ops
+    (ranges : List (ℕ × Range)) × TellsMap t.kind t.before ranges (metadata_at t.kv t.kv.number) × IsAwayTxn t.kind t.before ranges t.kv t.old
+    × IsSound (region_size t) t.kv (told_before t) t.old ops
 
 -- a commit, with its result
 pub record CommitOf {S : Type 0} (t : Turn S) (r : Result Answer Fault) : Type 0 where
   pub ended : IfOk r (λ a. IsEnded t.kv t.left a)
   pub over : OnOk r (IsOver t.old t.new)
-  pub installs : IfOk r (λ a. IsInstall (region_size t) t.kv t.left (commit_from t.kv t.old) a)
+  pub installs : IfOk r (λ a. IsInstall (scope_of t) t.kv t.left (commit_from t.kv t.old) a)
   pub meaning : IfOk r (λ a. (ops : List (Op (List ℕ))) → StartsNow t ops → IsTrueEnd (region_size t) (told_before t, told_after t) t.kv t.left t.old ops a)
-  pub named : OnOk r (NamesNow t.kv t.left t.old)
+  pub named : OnOk r (NamesNow t.kind t.before t.after t.kv t.left t.old)
   pub maps : KeepsMaps t.kv t.left
   pub pins : KeepsPins t.kv t.left
   pub fit : IsFit t.left t.new

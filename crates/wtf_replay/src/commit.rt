@@ -1,8 +1,7 @@
 //! Commits by a whole replay.
 
-ghost use Rattle.std.specs.Prelude.{◌≡◌, ◌⊎◌, ◌<◌, ◌≤◌, ◌^◌, ℕ, Bool, true, List, [], IsTrue, IfOk, IfErr, OnOk, OnErr, length};
+ghost use Rattle.std.specs.Prelude.{◌≡◌, ◌⊎◌, ◌<◌, ◌≤◌, ◌^◌, ℕ, List, [], IsTrue, IfOk, IfErr, OnOk, OnErr, length};
 ghost use Rattle.wtf_replica.specs.Bytes.{byte_at};
-ghost use Rattle.wtf_overlay.specs.Origin.{Place};
 ghost use Rattle.wtf_meta.specs.Bytes.{MapBytes};
 ghost use Rattle.wtf_kv.specs.Stores.{is_pinned};
 ghost use Rattle.wtf_occ.specs.Attempts.{Grows};
@@ -13,15 +12,18 @@ ghost use Rattle.wtf_model.specs.Same.{IsAbortedAt};
 ghost use Rattle.wtf_log.specs.Standing.{OpsStandFor};
 ghost use Rattle.wtf_meta.specs.Maps.{AllFit, metadata_at};
 ghost use Rattle.wtf_meta.specs.Sessions.{nothing_open};
+ghost use Rattle.wtf_dev.specs.Store.{Range};
+ghost use Rattle.wtf_region.specs.Apart.{are_apart};
 ghost use Rattle.wtf_region.specs.Devs.{IsSoundDev, GoesOn, stores, between};
 ghost use Rattle.wtf_region.specs.Inside.{IsStoredInside};
 ghost use Rattle.wtf_region.specs.Showing.{OnlyRead};
 ghost use Rattle.wtf_replay.specs.Views.{in_hand, replaying, untouched};
 ghost use Rattle.wtf_replay.specs.Fits.{IsLog};
-ghost use Rattle.wtf_replay.specs.Sounds.{IsSound, TellsMap, tells_slice};
-ghost use Rattle.wtf_replay.specs.Insides.{IsHandInside, IsLogInside, HandBytes, LogBytes};
+ghost use Rattle.wtf_replay.specs.Sounds.{IsSound, TellsMap, IsAwayTxn, tells_slice};
+ghost use Rattle.wtf_replay.specs.Insides.{IsHandInside, IsLogInside, HaveNamed, HandBytes, LogBytes};
 ghost use Rattle.wtf_replay.specs.Causes.{ReplayFault};
 ghost use Rattle.wtf_replay.specs.Tried.{KeepsMaps, KeepsVersions, KeepsPins};
+ghost use Rattle.wtf_replay.specs.Effects.{scope};
 ghost use Rattle.wtf_replay.specs.Installs.{IsInstall};
 ghost use Rattle.wtf_replay.specs.Replays.{IsEnded, IsTrueEnd};
 
@@ -84,7 +86,7 @@ pub(crate) fn replay_and_install<S: SliceStore>(
     log: &Log,
     from: u32,
 ) -> Result<Answer, Fault>
-    requires sound { IsSoundDev dev.old }
+    requires sound { IsSoundDev S.kind dev.old }
     requires base { at.old.base ≡ kv.old.number }
     requires room { kv.old.number < 2 ^ 63 }
     requires pinned { IsTrue (is_pinned kv.old at.old.base) }
@@ -95,18 +97,20 @@ pub(crate) fn replay_and_install<S: SliceStore>(
         (in_hand at.old session.old) }
     requires logged { IsLogInside S.kind (stores dev.old) dev.old.settings log.now }
     ensures ended { IfOk result (λ a. IsEnded kv.old kv.new a) }
-    ensures installs { IfOk result (λ a. IsInstall dev.old.settings.region kv.old kv.new
+    ensures installs { IfOk result (λ a. IsInstall (scope S.kind dev.old dev.new) kv.old kv.new
         (replaying tx.0 at.old session.old log.now from) a) }
     ensures meaning { IfOk result (λ a. (ops : List (Op (List ℕ))) →
-        TellsMap S.kind (stores dev.old) (metadata_at kv.old kv.old.number) →
+        (ranges : List (ℕ × Range)) →
+        TellsMap S.kind dev.old ranges (metadata_at kv.old kv.old.number) →
+        IsAwayTxn S.kind dev.old ranges kv.old (replaying tx.0 at.old session.old log.now from) →
         IsSound dev.old.settings.region kv.old (byte_at S.kind (stores dev.old))
         (replaying tx.0 at.old session.old log.now from) ops →
         IsTrueEnd dev.old.settings.region
         (byte_at S.kind (stores dev.old), byte_at S.kind (stores dev.new)) kv.old kv.new
         (replaying tx.0 at.old session.old log.now from) ops a) }
-    ensures named { OnOk result ((P : List Place → Bool) → P [] ≡ true →
-        HandBytes P kv.old (in_hand at.old session.old) → LogBytes P log.now →
-        MapBytes P (metadata_at kv.new kv.new.number)) }
+    ensures named { OnOk result (HaveNamed S.kind dev.old dev.new
+        (λ P Q. HandBytes P Q kv.old (in_hand at.old session.old) × LogBytes P log.now)
+        (λ P Q. MapBytes P Q (metadata_at kv.new kv.new.number))) }
     ensures maps { KeepsMaps kv.old kv.new }
     ensures pins { kv.new.pins ≡ kv.old.pins }
     ensures err { OnErr result (kv.new.number ≡ kv.old.number) }
@@ -151,24 +155,26 @@ pub(crate) fn commit_now<S: SliceStore>(
     tx: TxId,
     log: &Log,
 ) -> Result<Answer, Fault>
-    requires sound { IsSoundDev dev.old }
+    requires sound { IsSoundDev S.kind dev.old }
     requires room { kv.old.number < 2 ^ 63 }
     requires log { IsLog log.now }
     requires inside { IsStoredInside S.kind (stores dev.old) dev.old.settings
         (metadata_at kv.old kv.old.number) }
     requires logged { IsLogInside S.kind (stores dev.old) dev.old.settings log.now }
     ensures ended { IfOk result (λ a. IsEnded kv.old kv.new a) }
-    ensures installs { IfOk result (λ a. IsInstall dev.old.settings.region kv.old kv.new
+    ensures installs { IfOk result (λ a. IsInstall (scope S.kind dev.old dev.new) kv.old kv.new
         (replaying tx.0 (untouched kv.old.number) nothing_open log.now 0) a) }
     ensures meaning { IfOk result (λ a. (ops : List (Op (List ℕ))) →
-        TellsMap S.kind (stores dev.old) (metadata_at kv.old kv.old.number) →
+        (ranges : List (ℕ × Range)) →
+        TellsMap S.kind dev.old ranges (metadata_at kv.old kv.old.number) →
+        LogBytes (are_apart ranges) log.now →
         OpsStandFor (tells_slice (byte_at S.kind (stores dev.old))) log.now.ops ops →
         IsTrueEnd dev.old.settings.region
         (byte_at S.kind (stores dev.old), byte_at S.kind (stores dev.new)) kv.old kv.new
         (replaying tx.0 (untouched kv.old.number) nothing_open log.now 0) ops a) }
-    ensures named { OnOk result ((P : List Place → Bool) → P [] ≡ true →
-        MapBytes P (metadata_at kv.old kv.old.number) → LogBytes P log.now →
-        MapBytes P (metadata_at kv.new kv.new.number)) }
+    ensures named { OnOk result (HaveNamed S.kind dev.old dev.new
+        (λ P Q. MapBytes P Q (metadata_at kv.old kv.old.number) × LogBytes P log.now)
+        (λ P Q. MapBytes P Q (metadata_at kv.new kv.new.number))) }
     ensures maps { KeepsMaps kv.old kv.new }
     ensures pins { KeepsPins kv.old kv.new }
     ensures err { OnErr result (kv.new.number ≡ kv.old.number) }

@@ -1,17 +1,18 @@
 //! The calls on names.
 
-ghost use Rattle.std.specs.Prelude.{◌≡◌, ◌+◌, ℕ, List, Option, true, false, IsTrue, IfOk, OnOk};
+ghost use Rattle.std.specs.Prelude.{◌≡◌, ◌+◌, ℕ, List, [], Option, true, false, IsTrue, IfOk, OnOk};
 ghost use Rattle.wtf_base.specs.declared.slice.Slice.{Slice};
 ghost use Rattle.wtf_kv.specs.Stores.{is_pinned};
 ghost use Rattle.wtf_occ.specs.Attempts.{Grows, GrowsBy};
 ghost use Rattle.wtf_model.specs.Steps.{IsLogged};
 ghost use Rattle.wtf_meta.specs.Maps.{seen};
 ghost use Rattle.wtf_meta.specs.Calls.{Caller};
+ghost use Rattle.wtf_slicing.specs.Sights.{sight};
 ghost use Rattle.wtf_replay.specs.Built.{is_rw_op, is_slice_op, IsNameOp};
 ghost use Rattle.wtf_index.specs.Recorded.{source_keys, rename_keys};
 ghost use Rattle.wtf_index.specs.Changed.{unlink_changes, rename_changes};
 ghost use Rattle.wtf_replay.specs.Looked.{IsLooked, IsNameCall};
-ghost use Rattle.wtf_replay.specs.Effects.{sight, Acts, taken_keys, taken_changes};
+ghost use Rattle.wtf_replay.specs.Effects.{Acts, taken_keys, taken_changes};
 
 use std::alloc::Global;
 use wtf_base::{InodeId, OutOfMemory};
@@ -39,7 +40,7 @@ pub(crate) fn name_call<D>(
         new.tx.0 ≡ x.tx → new.index ≡ x.calls + 1 →
         IsNameCall x (seen kv.now at.old) session.now at.old at.new o a) }
     ensures acts { IfOk result (λ a. (size n : ℕ) (own : Option Slice) →
-        Acts (sight size (seen kv.now at.old) session.now new) n own op.now a at.old at.new) }
+        Acts (sight size (seen kv.now at.old) session.now new []) n own op.now a at.old at.new) }
     ensures logged { IfOk result (λ a. IsLogged a) }
     ensures grows { Grows at.old at.new }
 {

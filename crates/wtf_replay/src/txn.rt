@@ -147,7 +147,7 @@ impl Txn {
         op: Op<Bytes>,
     ) -> Result<Answer, Fault>
         requires going { self.old.ended ≡ false }
-        requires sound { IsSoundDev dev.old }
+        requires sound { IsSoundDev S.kind dev.old }
         requires fit { IsFit kv.now self.old }
         requires inside { IsInsideTxn S.kind (stores dev.old) dev.old.settings kv.now self.old }
         requires form { IsFormOp IsData op }
@@ -175,7 +175,7 @@ impl Txn {
         op: Op<Bytes>,
     ) -> Result<Answer, Fault>
         requires going { self.old.ended ≡ false }
-        requires sound { IsSoundDev dev.old }
+        requires sound { IsSoundDev S.kind dev.old }
         requires fit { IsFit kv.now self.old }
         requires inside { IsInsideTxn S.kind (stores dev.old) dev.old.settings kv.now self.old }
         requires live { self.old.replayed ≡ length self.old.log.ops }
@@ -320,7 +320,7 @@ impl Txn {
         kv: &Kv<Key, Value>,
     ) -> Result<Answer, Fault>
         requires going { self.old.ended ≡ false }
-        requires sound { IsSoundDev dev.old }
+        requires sound { IsSoundDev S.kind dev.old }
         requires fit { IsFit kv.now self.old }
         requires inside { IsInsideTxn S.kind (stores dev.old) dev.old.settings kv.now self.old }
         ensures step { StepOf (turn S.kind dev.old dev.new kv.now kv.now self.old self.new)
@@ -344,7 +344,7 @@ impl Txn {
         kv: &Kv<Key, Value>,
     ) -> Result<Answer, Fault>
         requires going { self.old.ended ≡ false }
-        requires sound { IsSoundDev dev.old }
+        requires sound { IsSoundDev S.kind dev.old }
         requires fit { IsFit kv.now self.old }
         requires inside { IsInsideTxn S.kind (stores dev.old) dev.old.settings kv.now self.old }
         requires left { self.old.replayed < length self.old.log.ops }
@@ -390,7 +390,7 @@ impl Txn {
         kv: &mut Kv<Key, Value>,
     ) -> Result<Answer, Fault>
         requires going { self.old.ended ≡ false }
-        requires sound { IsSoundDev dev.old }
+        requires sound { IsSoundDev S.kind dev.old }
         requires fit { IsFit kv.old self.old }
         requires inside { IsInsideTxn S.kind (stores dev.old) dev.old.settings kv.old self.old }
         requires inside_now { IsStoredInside S.kind (stores dev.old) dev.old.settings
@@ -428,7 +428,7 @@ impl Txn {
         dev: &mut Dev<'_, S>,
         kv: &mut Kv<Key, Value>,
     ) -> Result<Answer, Fault>
-        requires sound { IsSoundDev dev.old }
+        requires sound { IsSoundDev S.kind dev.old }
         requires fit { IsFit kv.old self.old }
         requires inside { IsInsideTxn S.kind (stores dev.old) dev.old.settings kv.old self.old }
         requires inside_now { IsStoredInside S.kind (stores dev.old) dev.old.settings
@@ -465,7 +465,7 @@ impl Txn {
         dev: &mut Dev<'_, S>,
         kv: &mut Kv<Key, Value>,
     ) -> Result<Answer, Fault>
-        requires sound { IsSoundDev dev.old }
+        requires sound { IsSoundDev S.kind dev.old }
         requires fit { IsFit kv.old self.old }
         requires inside { IsInsideTxn S.kind (stores dev.old) dev.old.settings kv.old self.old }
         requires inside_now { IsStoredInside S.kind (stores dev.old) dev.old.settings
@@ -508,7 +508,7 @@ impl Txn {
         dev: &mut Dev<'_, S>,
         kv: &mut Kv<Key, Value>,
     ) -> Result<Answer, Fault>
-        requires sound { IsSoundDev dev.old }
+        requires sound { IsSoundDev S.kind dev.old }
         requires fit { IsFit kv.old self.old }
         requires inside { IsInsideTxn S.kind (stores dev.old) dev.old.settings kv.old self.old }
         requires inside_now { IsStoredInside S.kind (stores dev.old) dev.old.settings

@@ -2,25 +2,28 @@ use Rattle.std.proofs.Common.{◌≡◌, ◌≤◌, refl, sym, ap, ◌∙◌, su
 use Rattle.wtf_replica.specs.Bytes.{byte_at}
 use Rattle.wtf_meta.specs.Contents.{Told}
 use Rattle.wtf_meta.specs.Maps.{metadata_at}
+use Rattle.wtf_region.specs.Apart.{are_apart}
 use Rattle.wtf_region.specs.Devs.{stores}
 use Rattle.wtf_meta.specs.Sessions.{nothing_open}
 use Rattle.wtf_meta.specs.Bytes.{MapBytes}
 use Rattle.wtf_replay.specs.Views.{in_hand, replaying, untouched}
-use Rattle.wtf_replay.specs.Insides.{HandBytes}
+use Rattle.wtf_replay.specs.Insides.{HandBytes, LogBytes, lists_have}
 use Rattle.wtf_meta.proofs.Nothing.{nothing_kept}
-use Rattle.wtf_replay.specs.Sounds.{IsSound, TellsMap}
+use Rattle.wtf_replay.specs.Sounds.{IsSound, TellsMap, IsAwayTxn}
 use Rattle.wtf_replay.specs.Causes.{ReplayFault}
 use Rattle.wtf_replay.proofs.Faulting.{fault_along}
 use Rattle.wtf_replay.proofs.Starting.{sound_rebased}
 use Rattle.wtf_replay.proofs.Ending.{true_end_as, true_end_along}
 use Rattle.wtf_kv.specs.Stores.{versions_of}
 use Rattle.wtf_values.specs.Keys.{key_cmp}
+use Rattle.wtf_replay.specs.Effects.{Scope, scope}
 use Rattle.wtf_replay.proofs.Installing.{install_as, install_along}
 use Rattle.wtf_replay.proofs.Keeping.{pins_back}
+use Rattle.wtf_replay.proofs.Naming.{named_by}
 use Rattle.wtf_replay.proofs.commit.commit_now.Goals as goal
 
 pub returns-in-Ok-replay_and_install-clause-meaning : goal.returns-in-Ok-replay_and_install-clause-meaning
-returns-in-Ok-replay_and_install-clause-meaning g c = λ ops tells stand.
+returns-in-Ok-replay_and_install-clause-meaning g c = λ ops ranges tells logged stand.
     let kind = g.S.SliceStore.kind in
     let dev = c.args.dev.now in
     let size = dev.settings.region in
@@ -37,11 +40,28 @@ returns-in-Ok-replay_and_install-clause-meaning g c = λ ops tells stand.
     let at : c.in-Ok.at ≡ untouched n = cc in
     let start = subst (λ s. IsSound size pinned before (replaying tx c.in-Ok.at s log 0) ops) (sym c.in-Ok-new.ensures)
     (subst (λ a. IsSound size pinned before (replaying tx a nothing_open log 0) ops) (sym at) (sound_rebased size pinned before fresh n ops stand)) in
-    let map : TellsMap kind (stores dev) (metadata_at pinned pinned.number) = subst (TellsMap kind (stores dev)) (ap (λ s. metadata_at s s.number) (sym c.in_default.ensures.ok)) tells in
+    let map : TellsMap kind dev ranges (metadata_at pinned pinned.number) = subst (TellsMap kind dev ranges)
+    (ap (λ s. metadata_at s s.number) (sym c.in_default.ensures.ok)) tells in
     let run = replaying tx c.in-Ok.at c.in-Ok-new.session log 0 in
+    let number = c.number-number.ensures.number in
+    let at_number : c.in-Ok.at ≡ untouched kv.number = cc in
+    let apart = are_apart ranges in
+    let has = lists_have size before apart in
+    let none : HandBytes apart has kv (in_hand (untouched kv.number) nothing_open) = record { base = tells.away; changes = tt; slices = nothing_kept apart } in
+    let there : HandBytes apart has kv (in_hand c.in-Ok.at c.in-Ok-new.session) =
+    subst (λ a. HandBytes apart has kv (in_hand a c.in-Ok-new.session)) (sym at_number)
+    (subst (λ s. HandBytes apart has kv (in_hand (untouched kv.number) s)) (sym c.in-Ok-new.ensures) none) in
+    let away : IsAwayTxn kind dev ranges pinned run = record {
+      hand = record {
+        base = subst (λ s. MapBytes apart has (metadata_at s c.in-Ok.at.base)) (sym c.in_default.ensures.ok) there.base;
+        changes = there.changes;
+        slices = there.slices;
+      };
+      log = logged;
+    } in
     let goal_run = replaying tx (untouched kv.number) nothing_open log 0 in
     let a = c.in-Ok-replay_and_install.answer in
-    let meant = c.in-Ok-replay_and_install.ensures.meaning ops map start in
+    let meant = c.in-Ok-replay_and_install.ensures.meaning ops ranges map away start in
     true_end_along a size told pinned kv mid c.unpin.new.self goal_run ops
     (ap (λ s. s.number) (sym c.in_default.ensures.ok)) (λ m. ap (λ s. metadata_at s m) (sym c.in_default.ensures.ok)) (λ q. ap (λ s. versions_of key_cmp s q) (sym c.in_default.ensures.ok))
     (ap (λ s. s.number) c.unpin.ensures.rest) (λ m. ap (λ s. metadata_at s m) c.unpin.ensures.rest) (λ q. ap (λ s. versions_of key_cmp s q) c.unpin.ensures.rest)
@@ -87,25 +107,33 @@ returns-in-Err-replay_and_install-clause-fault g c =
     ]
 
 pub returns-in-Ok-replay_and_install-clause-named : goal.returns-in-Ok-replay_and_install-clause-named
-returns-in-Ok-replay_and_install-clause-named g c = λ P hole now logged.
+returns-in-Ok-replay_and_install-clause-named g c =
     let kv = c.args.kv.now in
     let pinned = c.pin.new.self in
+    let mid = c.replay_and_install.new.kv in
+    let last = c.unpin.new.self in
+    let log = c.args.log.now in
     let number = c.number-number.ensures.number in
     let first = c.in-Ok.ensures in
     let at : c.in-Ok.at ≡ untouched kv.number = cc in
-    let none : HandBytes P kv (in_hand (untouched kv.number) nothing_open) = record { base = now; changes = tt; slices = nothing_kept P } in
-    let there : HandBytes P kv (in_hand c.in-Ok.at c.in-Ok-new.session) = subst (λ a. HandBytes P kv (in_hand a c.in-Ok-new.session)) (sym at) (subst (λ s. HandBytes P kv (in_hand (untouched kv.number) s)) (sym c.in-Ok-new.ensures) none) in
-    let here : HandBytes P pinned (in_hand c.in-Ok.at c.in-Ok-new.session) = record {
-      base = subst (λ s. MapBytes P (metadata_at s c.in-Ok.at.base)) (sym c.in_default.ensures.ok) there.base;
-      changes = there.changes;
-      slices = there.slices;
-    } in
-    let then = c.in-Ok-replay_and_install.ensures.named P hole here logged in
-    subst (λ s. MapBytes P (metadata_at s s.number)) (sym c.unpin.ensures.rest) then
+    named_by g.S.SliceStore.kind c.args.dev.now c.replay_and_install.new.dev
+    (λ P Q. HandBytes P Q pinned (in_hand c.in-Ok.at c.in-Ok-new.session) × LogBytes P log) (λ P Q. MapBytes P Q (metadata_at mid mid.number))
+    (λ P Q. MapBytes P Q (metadata_at kv kv.number) × LogBytes P log) (λ P Q. MapBytes P Q (metadata_at last last.number)) (λ P Q more.
+    let none : HandBytes P Q kv (in_hand (untouched kv.number) nothing_open) = record { base = more.0; changes = tt; slices = nothing_kept P } in
+    let there : HandBytes P Q kv (in_hand c.in-Ok.at c.in-Ok-new.session) =
+    subst (λ a. HandBytes P Q kv (in_hand a c.in-Ok-new.session)) (sym at)
+    (subst (λ s. HandBytes P Q kv (in_hand (untouched kv.number) s)) (sym c.in-Ok-new.ensures) none) in (
+      record {
+        base = subst (λ s. MapBytes P Q (metadata_at s c.in-Ok.at.base)) (sym c.in_default.ensures.ok) there.base;
+        changes = there.changes;
+        slices = there.slices;
+      },
+      more.1,
+    )) (λ P Q hole more are. subst (λ s. MapBytes P Q (metadata_at s s.number)) (sym c.unpin.ensures.rest) are) c.in-Ok-replay_and_install.ensures.named
 
 pub returns-in-Ok-replay_and_install-clause-installs : goal.returns-in-Ok-replay_and_install-clause-installs
 returns-in-Ok-replay_and_install-clause-installs g c =
-    let size = c.args.dev.now.settings.region in
+    let whole : Scope = scope g.S.SliceStore.kind c.args.dev.now c.replay_and_install.new.dev in
     let kv = c.args.kv.now in
     let pinned = c.pin.new.self in
     let mid = c.replay_and_install.new.kv in
@@ -119,10 +147,10 @@ returns-in-Ok-replay_and_install-clause-installs g c =
     let hand : in_hand (untouched kv.number) nothing_open ≡ in_hand c.in-Ok.at c.in-Ok-new.session =
     ap (λ a. in_hand a nothing_open) (sym at) ∙ ap (λ s. in_hand c.in-Ok.at s) (sym c.in-Ok-new.ensures) in
     let a = c.in-Ok-replay_and_install.answer in
-    install_along a size pinned kv mid c.unpin.new.self goal_run
+    install_along a whole pinned kv mid c.unpin.new.self goal_run
     (ap (λ s. s.number) (sym c.in_default.ensures.ok)) (λ m. ap (λ s. metadata_at s m) (sym c.in_default.ensures.ok)) (λ q. ap (λ s. versions_of key_cmp s q) (sym c.in_default.ensures.ok))
     (ap (λ s. s.number) c.unpin.ensures.rest) (λ q. ap (λ s. versions_of key_cmp s q) c.unpin.ensures.rest)
-    (install_as a size pinned mid run goal_run refl refl refl hand c.in-Ok-replay_and_install.ensures.installs)
+    (install_as a whole pinned mid run goal_run refl refl refl hand c.in-Ok-replay_and_install.ensures.installs)
 
 pub returns-in-Err-replay_and_install-clause-err_versions : goal.returns-in-Err-replay_and_install-clause-err_versions
 returns-in-Err-replay_and_install-clause-err_versions g c = λ q.

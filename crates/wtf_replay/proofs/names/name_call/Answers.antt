@@ -9,7 +9,8 @@ use Rattle.wtf_replay.proofs.Looking.{named_call}
 use Rattle.std.proofs.Common.{ℕ, List, [], ◌∙◌, append-nil}
 use Rattle.wtf_meta.specs.Maps.{Map}
 use Rattle.wtf_index.specs.Changed.{mkdir_changes, rmdir_changes, create_changes, unlink_changes, rename_changes}
-use Rattle.wtf_replay.specs.Effects.{sight, taken_changes}
+use Rattle.wtf_slicing.specs.Sights.{sight}
+use Rattle.wtf_replay.specs.Effects.{taken_changes}
 use Rattle.wtf_replay.proofs.EffectLaws.{on_ok_if, acts_as, acts_name}
 use Rattle.wtf_replay.proofs.names.name_call.Goals as goal
 
@@ -45,8 +46,8 @@ returns-in-Mkdir-clause-acts g c =
     let s = c.args.session.now in
     let p : List ℕ = c.in-Mkdir.p in
     on_ok_if c.mkdir.result _ _ c.mkdir.ensures.went (λ a went size n own.
-    acts_as (sight size b s c.args.new) n own c.args.op.now (op.Mkdir c.in-Mkdir.p) a at new c.in-Mkdir.is
-    (acts_name (sight size b s c.args.new) n own (op.Mkdir c.in-Mkdir.p) a at new (mkdir_changes b p) went (λ changes. changes)))
+    acts_as (sight size b s c.args.new []) n own c.args.op.now (op.Mkdir c.in-Mkdir.p) a at new c.in-Mkdir.is
+    (acts_name (sight size b s c.args.new []) n own (op.Mkdir c.in-Mkdir.p) a at new (mkdir_changes b p) went (λ changes. changes)))
 
 pub returns-in-Rmdir-clause-acts : goal.returns-in-Rmdir-clause-acts
 returns-in-Rmdir-clause-acts g c =
@@ -56,8 +57,8 @@ returns-in-Rmdir-clause-acts g c =
     let s = c.args.session.now in
     let p : List ℕ = c.in-Rmdir.p in
     on_ok_if c.rmdir.result _ _ c.rmdir.ensures.went (λ a went size n own.
-    acts_as (sight size b s c.args.new) n own c.args.op.now (op.Rmdir c.in-Rmdir.p) a at new c.in-Rmdir.is
-    (acts_name (sight size b s c.args.new) n own (op.Rmdir c.in-Rmdir.p) a at new (rmdir_changes b p) went (λ changes. changes)))
+    acts_as (sight size b s c.args.new []) n own c.args.op.now (op.Rmdir c.in-Rmdir.p) a at new c.in-Rmdir.is
+    (acts_name (sight size b s c.args.new []) n own (op.Rmdir c.in-Rmdir.p) a at new (rmdir_changes b p) went (λ changes. changes)))
 
 pub returns-in-Create-clause-acts : goal.returns-in-Create-clause-acts
 returns-in-Create-clause-acts g c =
@@ -67,8 +68,8 @@ returns-in-Create-clause-acts g c =
     let s = c.args.session.now in
     let p : List ℕ = c.in-Create.p in
     on_ok_if c.create.result _ _ c.create.ensures.went (λ a went size n own.
-    acts_as (sight size b s c.args.new) n own c.args.op.now (op.Create c.in-Create.p) a at new c.in-Create.is
-    (acts_name (sight size b s c.args.new) n own (op.Create c.in-Create.p) a at new (create_changes b p c.args.new) went (λ changes. changes)))
+    acts_as (sight size b s c.args.new []) n own c.args.op.now (op.Create c.in-Create.p) a at new c.in-Create.is
+    (acts_name (sight size b s c.args.new []) n own (op.Create c.in-Create.p) a at new (create_changes b p c.args.new) went (λ changes. changes)))
 
 pub returns-in-Unlink-clause-acts : goal.returns-in-Unlink-clause-acts
 returns-in-Unlink-clause-acts g c =
@@ -78,8 +79,8 @@ returns-in-Unlink-clause-acts g c =
     let s = c.args.session.now in
     let p : List ℕ = c.in-Unlink.p in
     on_ok_if c.unlink_closed.result _ _ c.unlink_closed.ensures.went (λ a went size n own.
-    acts_as (sight size b s c.args.new) n own c.args.op.now (op.Unlink c.in-Unlink.p) a at new c.in-Unlink.is
-    (acts_name (sight size b s c.args.new) n own (op.Unlink c.in-Unlink.p) a at new (taken_changes b s p (unlink_changes b p)) went (λ changes. changes)))
+    acts_as (sight size b s c.args.new []) n own c.args.op.now (op.Unlink c.in-Unlink.p) a at new c.in-Unlink.is
+    (acts_name (sight size b s c.args.new []) n own (op.Unlink c.in-Unlink.p) a at new (taken_changes b s p (unlink_changes b p)) went (λ changes. changes)))
 
 pub returns-in-Rename-clause-acts : goal.returns-in-Rename-clause-acts
 returns-in-Rename-clause-acts g c =
@@ -89,8 +90,9 @@ returns-in-Rename-clause-acts g c =
     let s = c.args.session.now in
     let p : List ℕ = c.in-Rename.p in
     on_ok_if c.rename_closed.result _ _ c.rename_closed.ensures.went (λ a went size n own.
-    acts_as (sight size b s c.args.new) n own c.args.op.now (op.Rename c.in-Rename.p c.in-Rename.q) a at new c.in-Rename.is
-    (acts_name (sight size b s c.args.new) n own (op.Rename c.in-Rename.p c.in-Rename.q) a at new (taken_changes b s p (rename_changes b p c.in-Rename.q)) went (λ changes. changes)))
+    acts_as (sight size b s c.args.new []) n own c.args.op.now (op.Rename c.in-Rename.p c.in-Rename.q) a at new c.in-Rename.is
+    (acts_name (sight size b s c.args.new []) n own (op.Rename c.in-Rename.p c.in-Rename.q) a at new
+    (taken_changes b s p (rename_changes b p c.in-Rename.q)) went (λ changes. changes)))
 
 pub returns-in-List-clause-acts : goal.returns-in-List-clause-acts
 returns-in-List-clause-acts g c =
@@ -100,8 +102,8 @@ returns-in-List-clause-acts g c =
     let s = c.args.session.now in
     let p : List ℕ = c.in-List.p in
     on_ok_if c.list.result _ _ c.list.ensures.went (λ a went size n own.
-    acts_as (sight size b s c.args.new) n own c.args.op.now (op.List c.in-List.p) a at new c.in-List.is
-    (acts_name (sight size b s c.args.new) n own (op.List c.in-List.p) a at new ([]) went (λ changes. changes ∙ append-nil at.changes)))
+    acts_as (sight size b s c.args.new []) n own c.args.op.now (op.List c.in-List.p) a at new c.in-List.is
+    (acts_name (sight size b s c.args.new []) n own (op.List c.in-List.p) a at new ([]) went (λ changes. changes ∙ append-nil at.changes)))
 
 pub returns-in-Rename-clause-step : goal.returns-in-Rename-clause-step
 returns-in-Rename-clause-step g c =

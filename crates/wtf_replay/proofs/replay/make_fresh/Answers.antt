@@ -1,4 +1,5 @@
-use Rattle.std.proofs.Common.{None, refl, ap, subst}
+use Rattle.std.proofs.Common.{[], None, refl, sym, ap, ◌∙◌, subst}
+use Rattle.wtf_base.specs.declared.settings.Settings.{Settings}
 use Rattle.wtf_occ.specs.Attempts.{Attempted}
 use Rattle.wtf_values.specs.declared.key.Key.{Key}
 use Rattle.wtf_values.specs.declared.value.Delta.{Delta}
@@ -18,7 +19,9 @@ use Rattle.wtf_replay.proofs.SliceLaws.{plain_own, plain_call_fault}
 use Rattle.wtf_model.specs.Form.{IsData}
 use Rattle.wtf_replay.proofs.RwLaws.{told_slice, fresh_ways, own_told_of, fresh_tell}
 use Rattle.wtf_replay.proofs.Making.{told_step, fits_step}
-use Rattle.wtf_replay.proofs.Insiding.{hand_seen, hand_later, hand_step, hand_same, named_step}
+use Rattle.wtf_replay.proofs.Insiding.{hand_seen, hand_later, hand_step, hand_same}
+use Rattle.wtf_replay.proofs.Naming.{named_inside, rw_named}
+use Rattle.wtf_replay.proofs.ReadLists.{rw_read}
 use Rattle.wtf_replay.proofs.EffectLaws.{acts_fresh}
 use Rattle.wtf_replay.proofs.replay.make_fresh.Goals as goal
 
@@ -32,7 +35,7 @@ returns-in-Ok-clause-own_told g c = λ tells.
     own_told_of g.S.SliceStore.kind c.args.dev.now c.call.new.dev b c.args.session.now c.args.op.now c.in-Ok.done.own c.call.ensures.dev.each.same_length tells (ways.own c.in-Ok.done.own c.in-Ok.ensures.own)
 
 pub returns-in-Ok-clause-step : goal.returns-in-Ok-clause-step
-returns-in-Ok-clause-step g c = λ x size tx index tells.
+returns-in-Ok-clause-step g c = λ x size tx index ranges tells.
     let kind = g.S.SliceStore.kind in
     let b = seen c.args.kv.now c.args.at.now in
     let r = c.in-Some.made in
@@ -42,8 +45,17 @@ returns-in-Ok-clause-step g c = λ x size tx index tells.
     let made = made_as r o c.in-Some.ensures in
     let ways = fresh_ways kind c.args.dev.now c.call.new.dev b c.args.session.now r o c.in-Some.ensures in
     let own_told = own_told_of kind c.args.dev.now c.call.new.dev b c.args.session.now o own c.call.ensures.dev.each.same_length tells.seen.all (ways.own own c.in-Ok.ensures.own) in
-    told_step (record { kind = kind; before = stores c.args.dev.now; after = stores c.call.new.dev; map = b }) r own (data_of o) x (in_hand c.args.at.now c.args.session.now) (in_hand c.call.new.at c.call.new.s) o c.in-Ok.done.answer
-    (c.in-Ok.ensures.step x (data_of o) size made.writes made.whole) made.is tells.seen (fresh_tell (tells_slice told) r o (data_of o) c.in-Some.ensures) (told_slice told own (data_of o) own_told)
+    told_step (record {
+      kind =
+          kind;
+      before = c.args.dev.now;
+      after = c.call.new.dev;
+      map = b;
+    }) r own (data_of o) x (in_hand c.args.at.now c.args.session.now)
+    (in_hand c.call.new.at c.call.new.s) o c.in-Ok.done.answer
+    (c.in-Ok.ensures.step x (data_of o) size made.writes made.whole) made.is
+    (size ∙ sym (ap (λ (st : Settings). st.region) c.call.ensures.dev.settings)) ranges tells.seen
+    (fresh_tell (tells_slice told) r o (data_of o) c.in-Some.ensures) (told_slice told own (data_of o) own_told)
 
 pub returns-in-Ok-clause-own_inside : goal.returns-in-Ok-clause-own_inside
 returns-in-Ok-clause-own_inside g c = rw_own_inside g.S.SliceStore.kind c.args.dev.now c.call.new.dev (seen c.args.kv.now c.args.at.now) c.args.session.now c.in-Some.made c.in-Ok.done.own c.in-Ok.ensures.own
@@ -73,8 +85,10 @@ returns-in-Ok-clause-inside g c =
     hand_step kind (stores c.call.new.dev) dev.settings c.args.kv.now x old (in_hand c.call.new.at c.call.new.s) (op_of r (data_of o)) c.in-Ok.done.answer
     (hand_later g.met.S.SliceStore.laws c.call.ensures.dev.each dev.settings c.requires.sound.shelf c.args.kv.now old c.requires.inside)
     (record { did = one.did; grows = one.grows; is_call = one.is_call })
-    (does_named Q (record { kind = kind; before = stores dev; after = stores c.call.new.dev; map = b }) r own (data_of o) one.did one.more (made.bytes Q)
+    (does_named Q (record { kind = kind; before = dev; after = c.call.new.dev; map = b }) r own (data_of o) one.did one.more (made.bytes Q)
     (rw_own_inside kind dev c.call.new.dev b c.args.session.now r own c.in-Ok.ensures.own))
+    (named_inside kind dev c.call.new.dev c.call.ensures.dev one.did.lists
+    (rw_read (record { kind = kind; before = dev; after = c.call.new.dev; map = b }) r own (data_of o) one.did one.more).inside)
 
 pub returns-in-Err-clause-inside : goal.returns-in-Err-clause-inside
 returns-in-Err-clause-inside g c =
@@ -91,7 +105,7 @@ returns-in-Err-clause-due g c =
     subst (λ q. MayFault c.args.dev.now.settings (seen c.args.kv.now c.args.at.now) c.args.session.now q c.in-Err.why) made.is (c.in-Err.ensures.due (data_of o) made.writes)
 
 pub returns-in-Ok-clause-named : goal.returns-in-Ok-clause-named
-returns-in-Ok-clause-named g c = λ P hole were stored.
+returns-in-Ok-clause-named g c =
     let kind = g.S.SliceStore.kind in
     let dev = c.args.dev.now in
     let r = c.in-Some.made in
@@ -100,9 +114,9 @@ returns-in-Ok-clause-named g c = λ P hole were stored.
     let made = made_as r o c.in-Some.ensures in
     let x : Caller = caller_at dev.settings.region 0 0 in
     let one = c.in-Ok.ensures.step x (data_of o) refl made.writes made.whole in
-    named_step P hole c.args.kv.now x (in_hand c.args.at.now c.args.session.now) (in_hand c.call.new.at c.call.new.s) (op_of r (data_of o)) c.in-Ok.done.answer were
-    (record { did = one.did; grows = one.grows; is_call = one.is_call })
-    (does_named P (record { kind = kind; before = stores dev; after = stores c.call.new.dev; map = seen c.args.kv.now c.args.at.now }) r own (data_of o) one.did one.more (made.bytes P) stored)
+    rw_named kind dev c.call.new.dev c.args.kv.now x (in_hand c.args.at.now c.args.session.now) (in_hand c.call.new.at c.call.new.s) r own
+    (data_of o) c.in-Ok.done.answer own
+    (λ P stored. made.bytes P) (λ P stored. stored) one
 
 pub returns-in-Ok-clause-reads : goal.returns-in-Ok-clause-reads
 returns-in-Ok-clause-reads g c = λ none.
@@ -118,13 +132,14 @@ pub make_plain-requires-clause-form : goal.make_plain-requires-clause-form
 make_plain-requires-clause-form g c = form_plain IsData c.args.op.now c.requires.form
 
 pub returns-in-Ok-make_plain-clause-step : goal.returns-in-Ok-make_plain-clause-step
-returns-in-Ok-make_plain-clause-step g c = λ x size tx index tells. c.in-Ok-make_plain.ensures.step x c.args.op.now (plain_self c.args.op.now c.in-None.ensures) size tx index tells
+returns-in-Ok-make_plain-clause-step g c =
+    λ x size tx index ranges tells. c.in-Ok-make_plain.ensures.step x c.args.op.now (plain_self c.args.op.now c.in-None.ensures) size tx index ranges tells
 
 pub returns-in-Ok-make_plain-clause-own : goal.returns-in-Ok-make_plain-clause-own
 returns-in-Ok-make_plain-clause-own g c = plain_own g.S.SliceStore.kind c.args.dev.now c.make_plain.new.dev (seen c.args.kv.now c.args.at.now) c.args.session.now c.args.op.now c.in-None.ensures c.make_plain.ensures.still
 
 pub returns-in-Ok-make_plain-clause-named : goal.returns-in-Ok-make_plain-clause-named
-returns-in-Ok-make_plain-clause-named g c = λ P hole were none. c.in-Ok-make_plain.ensures.named P hole were tt
+returns-in-Ok-make_plain-clause-named g c = c.in-Ok-make_plain.ensures.named
 
 pub returns-in-Err-make_plain-clause-fault : goal.returns-in-Err-make_plain-clause-fault
 returns-in-Err-make_plain-clause-fault g c = plain_call_fault g.S.SliceStore.kind c.args.dev.now c.make_plain.new.dev (seen c.args.kv.now c.args.at.now) c.args.session.now c.args.op.now c.in-None.ensures c.in-Err-make_plain.why c.in-Err-make_plain.ensures.fault
@@ -133,9 +148,15 @@ pub returns-in-Err-make_plain-clause-due : goal.returns-in-Err-make_plain-clause
 returns-in-Err-make_plain-clause-due g c = c.in-Err-make_plain.ensures.due c.args.op.now (plain_self c.args.op.now c.in-None.ensures)
 
 pub returns-in-Ok-clause-acts : goal.returns-in-Ok-clause-acts
-returns-in-Ok-clause-acts g c =
-    acts_fresh c.args.dev.now.settings.region (seen c.args.kv.now c.args.at.now) c.args.session.now c.args.new c.in-Ok.done.answer c.args.at.now c.call.new.at c.in-Ok.ensures.grows.base
-    c.in-Some.made c.args.op.now c.in-Ok.done.own c.in-Some.ensures c.in-Ok.ensures.keys c.in-Ok.ensures.made
+returns-in-Ok-clause-acts g c = (
+  [],
+  λ ranges cache told away. tt,
+  acts_fresh c.args.dev.now.settings.region
+      (seen c.args.kv.now c.args.at.now) c.args.session.now c.args.new c.in-Ok.done.answer c.args.at.now c.call.new.at c.in-Ok.ensures.grows.base
+      c.in-Some.made c.args.op.now c.in-Ok.done.own c.in-Some.ensures c.in-Ok.ensures.keys c.in-Ok.ensures.made,
+)
 
 pub returns-in-Ok-make_plain-clause-acts : goal.returns-in-Ok-make_plain-clause-acts
-returns-in-Ok-make_plain-clause-acts g c = c.in-Ok-make_plain.ensures.acts (data_len c.args.op.now) None
+returns-in-Ok-make_plain-clause-acts g c =
+    let acts = c.in-Ok-make_plain.ensures.acts in
+    (acts.0, acts.1, acts.2 (data_len c.args.op.now) None)

@@ -17,11 +17,11 @@ use Rattle.wtf_values.specs.declared.value.Delta.{Delta}
 use Rattle.wtf_log.specs.Calls.{Calls, own_of}
 use Rattle.wtf_meta.specs.Maps.{seen}
 use Rattle.wtf_region.specs.Inside.{is_inside}
-use Rattle.wtf_replay.specs.Insides.{IsInsideTxn, IsLogInside, LogBytes, NamesTxn}
+use Rattle.wtf_replay.specs.Insides.{HandBytes, IsInsideTxn, IsLogInside, LogBytes, NamesTxn, TxnBytes}
 use Rattle.wtf_replay.proofs.Insiding.{log_later, inside_later, slice_from}
 use Rattle.wtf_region.specs.Devs.{stores}
 use Rattle.wtf_rw.specs.Stored.{SliceBytes, TellSlice}
-use Rattle.wtf_replay.specs.Views.{TxnView}
+use Rattle.wtf_replay.specs.Views.{TxnView, hand_of}
 use Rattle.wtf_replay.specs.Called.{IsCalled}
 use Rattle.wtf_replay.specs.Verbs.{turn, CallOf}
 use Rattle.wtf_replay.specs.Built.{data_of}
@@ -30,6 +30,7 @@ use Rattle.wtf_replay.specs.Sounds.{caller_at, tells_slice}
 use Rattle.wtf_replay.proofs.Again.{tells_hand}
 use Rattle.wtf_replay.proofs.Sounding.{sound_called, sound_later}
 use Rattle.wtf_replay.proofs.Keeping.{log_called}
+use Rattle.wtf_replay.proofs.Naming.{named_by}
 use Rattle.wtf_replay.proofs.Later.{tells_on}
 use Rattle.wtf_replay.proofs.SliceLaws.{memory_due}
 use Rattle.wtf_replay.proofs.Turning.{unmade_none, instead_none, call_short, put_back}
@@ -50,6 +51,7 @@ returns g c =
     let own = c.in-Ok.done.own in
     let a = c.in-Ok.done.answer in
     let kept = c.kept_of-kept in
+    let acts = c.in-Ok.ensures.acts in
     let x : TxnView = record { tx = c.self.inside.tx.0; at = c.self.inside.at; session = c.self.inside.session; log = c.self.inside.log; replayed = c.self.inside.replayed; ended = c.self.inside.ended } in
     let new : TxnView = record { tx = c.self.inside.tx.0; at = c.make_fresh.new.at; session = c.make_fresh.new.session; log = c.note.new.log; replayed = c.self.inside.replayed + 1; ended = c.self.inside.ended } in
     let fit : IsFit kv x = subst (λ y. IsFit kv y) (sym c.self.view_is) c.requires.fit in
@@ -64,22 +66,37 @@ returns g c =
       lacks = c.in-Ok.ensures.lacks;
       logged = record { answer = c.in-Ok.ensures.logged; log = c.in_default.ensures.ok; tx = refl; grows = c.make_fresh.ensures.grows; replayed = refl; ended = refl };
     } in
-    let names : NamesTxn kv x new own = λ Q hole were stored. record {
-      hand = c.in-Ok.ensures.named Q hole were.hand stored;
-      log = subst (LogBytes Q) (sym c.in_default.ensures.ok) (All-push (λ k. SliceBytes Q (own_of k)) x.log.ops kept.result were.log (slice_from Q (own_of kept.result) own kept.ensures.kept.own_is stored));
-    } in
+    let names : NamesTxn kind dev into kv x new own =
+    named_by kind dev into (λ R Q. HandBytes R Q kv (hand_of x)) (λ R Q. SliceBytes R own → HandBytes R Q kv (hand_of new)) (λ R Q. TxnBytes R Q kv x)
+    (λ R Q. SliceBytes R own → TxnBytes R Q kv new)
+    (λ R Q were. were.hand) (λ R Q hole were are stored. record {
+      hand = are stored;
+      log = subst (LogBytes R) (sym c.in_default.ensures.ok) (All-push (λ k. SliceBytes R (own_of k)) x.log.ops kept.result were.log
+          (slice_from R (own_of kept.result) own kept.ensures.kept.own_is stored));
+    }) c.in-Ok.ensures.named in
     record {
       call =
           subst (λ (y : TxnView). CallOf (turn kind dev into kv kv y new) o (Ok a)) c.self.view_is (record {
             instead = instead_none (turn kind dev into kv kv x new) (Ok a) (unmade_none x live room fit.log.few);
-            made = λ going. record { own = own; called = called; acts = c.in-Ok.ensures.acts; stored = c.in-Ok.ensures.own; named = names; done = c.in-Ok.ensures.done };
+            made = λ going. record {
+              own = own;
+              called = called;
+              lists = acts.0;
+              known = acts.1;
+              acts = acts.2;
+              stored = c.in-Ok.ensures.own;
+              named = names;
+              done = c.in-Ok.ensures.done;
+            };
             meaning = λ going ops start.
-                let told_own : TellSlice told own (data_of o) = c.in-Ok.ensures.own_told start.0.all in
+                let told_own : TellSlice told own (data_of o) = c.in-Ok.ensures.own_told start.1.all in
                 let stands : OpStandsFor (tells_slice told) kept.result o =
                 OpStandsFor-weaker _ (tells_slice told) kept.result o
                 (λ s bytes there h. subst (λ (l : List ℕ). TellBytes told (len_of s) (part_origin (Held s)) l) (sym h.1) (subst (λ z. TellSlice told z (data_of o)) h.0 told_own)) kept.ensures.kept.stands in
-                sound_called size kv told x new ops o a kept.result (sound_later size kv before told x ops (tells_on laws c.make_fresh.ensures.dev.each) start.1) fit.log live
-                (c.in-Ok.ensures.step (caller_at size x.tx x.replayed) refl refl refl (tells_hand kind (stores dev) size kv x ops start.1 start.0)) refl c.in_default.ensures.ok refl stands;
+                sound_called size kv told x new ops o a kept.result (sound_later size kv before told x ops
+                (tells_on laws c.make_fresh.ensures.dev.each) start.3) fit.log live
+                (c.in-Ok.ensures.step (caller_at size x.tx x.replayed) refl refl refl start.0
+                (tells_hand kind dev start.0 kv x ops start.3 start.1 start.2)) refl c.in_default.ensures.ok refl stands;
             fit = record {
               pinned = subst (λ b. IsTrue (is_pinned kv b)) (sym c.make_fresh.ensures.grows.base) fit.pinned;
               fits = c.in-Ok.ensures.fit;

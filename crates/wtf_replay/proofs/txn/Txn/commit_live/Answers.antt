@@ -13,7 +13,7 @@ use Rattle.wtf_meta.specs.Maps.{metadata_at}
 use Rattle.wtf_region.specs.Devs.{stores, is_down_in}
 use Rattle.wtf_region.proofs.ShowLaws.{reads_nothing}
 use Rattle.wtf_region.proofs.Spans.{goes_nowhere}
-use Rattle.wtf_meta.specs.Bytes.{MapBytes}
+use Rattle.wtf_meta.specs.Bytes.{MapBytes, any_slice}
 use Rattle.wtf_meta.proofs.MapBytes.{with_bytes}
 use Rattle.wtf_replay.specs.Views.{TxnView, rebased}
 use Rattle.wtf_region.specs.Inside.{is_inside, IsStoredInside}
@@ -22,10 +22,12 @@ use Rattle.wtf_replay.specs.Causes.{MayCommitFault}
 use Rattle.wtf_replay.specs.Fits.{IsFit}
 use Rattle.wtf_replay.specs.Sounds.{TellsMap}
 use Rattle.wtf_replay.specs.Tried.{KeepsPins, commit_from}
+use Rattle.wtf_replay.specs.Effects.{scope}
 use Rattle.wtf_replay.specs.Installs.{IsInstall}
 use Rattle.wtf_replay.specs.Verbs.{turn, CommitOf}
 use Rattle.wtf_replay.proofs.Insiding.{txn_kept}
-use Rattle.wtf_replay.proofs.Faulting.{commit_fault_along}
+use Rattle.wtf_replay.proofs.Faulting.{away_along, commit_fault_along}
+use Rattle.wtf_replay.proofs.Naming.{named_none, named_by}
 use Rattle.wtf_replay.proofs.Sounding.{sound_along}
 use Rattle.wtf_replay.proofs.Trying.{final_from}
 use Rattle.wtf_replay.proofs.Keeping.{fit_after}
@@ -59,15 +61,19 @@ returns-in-Installed g c =
           subst (λ (y : TxnView). CommitOf (turn kind dev dev kv mid y new) (Ok (answer.Committed n))) c.self.view_is (record {
             ended = (installed.next, installed.number);
             over = record { tx = refl; base = ap (λ (a : Attempted Key Delta). a.base) c.install.ensures.attempt; log = refl; ended = refl };
-            installs = subst (λ y. IsInstall size kv mid y (answer.Committed n)) (sym (from_free kv x live installed.free)) (installs_live size kv mid x n live installed);
-            meaning = λ ops start. final_from size kv before x ops start.1 mid n fit.log live installed;
-            named = λ P hole were now_bytes. subst (MapBytes P) now (with_bytes P hole x.at.changes (metadata_at kv kv.number) now_bytes were.hand.changes);
+            installs = subst (λ y. IsInstall (scope kind dev dev) kv mid y (answer.Committed n)) (sym (from_free kv x live installed.free))
+                (installs_live (scope kind dev dev) kv mid x n live installed);
+            meaning = λ ops start. final_from size kv before x ops start.3 mid n fit.log live installed;
+            named = named_none kind dev dev (λ P Q. TxnBytes P Q kv x × MapBytes P Q (metadata_at kv kv.number))
+                (λ P Q. MapBytes P Q (metadata_at mid mid.number))
+                (λ P Q hole were. subst (MapBytes P Q) now (with_bytes P Q hole x.at.changes (metadata_at kv kv.number) were.1 were.0.hand.changes));
             maps = c.install.ensures.maps;
             pins = keeps;
             fit = fit_after kv mid x new fit c.install.ensures.attempt refl refl below c.install.ensures.maps keeps;
             inside = txn_kept kind (stores dev) dev.settings kv mid x new c.install.ensures.attempt refl refl below c.install.ensures.maps was;
             inside_now = subst (IsStoredInside kind (stores dev) dev.settings) now
-                (with_bytes (is_inside kind (stores dev) dev.settings) refl x.at.changes (metadata_at kv kv.number) c.requires.inside_now was.hand.changes);
+                (with_bytes (is_inside kind (stores dev) dev.settings) any_slice refl x.at.changes
+                (metadata_at kv kv.number) c.requires.inside_now was.hand.changes);
             err = tt;
             err_store = tt;
             fault = tt;
@@ -109,17 +115,31 @@ returns-in-Conflict g c =
           subst (λ (y : TxnView). CommitOf (turn kind dev into kv after y last) (Ok a)) c.self.view_is (record {
             ended = ended_along a mid kv after after (sym number) refl there.ended;
             over = there.over;
-            installs = install_along a size mid kv after after (commit_from kv x) (sym number) (λ m. sym (tried.stays.maps m)) (λ q. sym (tried.stays.same.versions q)) refl (λ q. refl)
-                (subst (λ y. IsInstall size mid after y a) from there.installs);
+            installs = install_along a (scope kind dev into) mid kv after after (commit_from kv x) (sym number) (λ m. sym (tried.stays.maps m))
+                (λ q. sym (tried.stays.same.versions q)) refl (λ q. refl)
+                (subst (λ y. IsInstall (scope kind dev into) mid after y a) from there.installs);
             meaning = λ ops start.
                 true_end_along a size (before, byte_at kind (stores into)) mid kv after after x ops (sym number) (λ m. sym (tried.stays.maps m)) (λ q. sym (tried.stays.same.versions q)) refl (λ m. refl) (λ q. refl)
-                (there.meaning ops (subst (TellsMap kind (stores dev)) (sym map) start.0, sound_along size kv mid before x ops (tried.stays.maps x.at.base) start.1));
-            named = λ P hole were now.
-                let here : TxnBytes P mid x = record {
-                  hand = record { base = subst (MapBytes P) (sym (tried.stays.maps x.at.base)) were.hand.base; changes = were.hand.changes; slices = were.hand.slices };
-                  log = were.log;
-                } in
-                there.named P hole here (subst (MapBytes P) (sym map) now);
+                (there.meaning ops (
+                  start.0,
+                  subst (TellsMap kind dev start.0) (sym map) start.1,
+                  away_along kind dev start.0 kv mid x (sym (tried.stays.maps x.at.base)) start.2,
+                  sound_along size kv mid before x ops (tried.stays.maps x.at.base) start.3,
+                ));
+            named = named_by kind dev into (λ P Q. TxnBytes P Q mid x × MapBytes P Q (metadata_at mid mid.number))
+                (λ P Q. MapBytes P Q (metadata_at after after.number))
+                (λ P Q. TxnBytes P Q kv x × MapBytes P Q (metadata_at kv kv.number)) (λ P Q. MapBytes P Q (metadata_at after after.number)) (λ P Q were. (
+                  record {
+                    hand = record {
+                      base = subst (MapBytes P Q)
+                          (sym (tried.stays.maps x.at.base)) were.0.hand.base;
+                      changes = were.0.hand.changes;
+                      slices = were.0.hand.slices;
+                    };
+                    log = were.0.log;
+                  },
+                  subst (MapBytes P Q) (sym map) were.1,
+                )) (λ P Q hole were are. are) there.named;
             maps = λ n le. there.maps n (omega (arith, le, number)) ∙ tried.stays.maps n;
             pins = λ n. there.pins n ∙ keeps n;
             fit = there.fit;
@@ -178,7 +198,12 @@ returns-in-Err-start_over g c =
             fault = commit_fault_along kind dev into kv mid x why tried.stays there.fault;
             due = λ ops start.
                 subst (λ w. MayCommitFault dev.settings w before x why) map
-                (there.due ops (subst (TellsMap kind (stores dev)) (sym map) start.0, sound_along size kv mid before x ops (tried.stays.maps x.at.base) start.1));
+                (there.due ops (
+                  start.0,
+                  subst (TellsMap kind dev start.0) (sym map) start.1,
+                  away_along kind dev start.0 kv mid x (sym (tried.stays.maps x.at.base)) start.2,
+                  sound_along size kv mid before x ops (tried.stays.maps x.at.base) start.3,
+                ));
             reads = there.reads;
             dev = there.dev;
           });

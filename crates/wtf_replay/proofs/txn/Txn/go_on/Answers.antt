@@ -7,20 +7,24 @@ use Rattle.wtf_kv.specs.Stores.{is_pinned}
 use Rattle.wtf_occ.specs.Attempts.{Attempted}
 use Rattle.wtf_values.specs.declared.key.Key.{Key}
 use Rattle.wtf_values.specs.declared.value.Delta.{Delta}
+use Rattle.wtf_meta.specs.Bytes.{MapBytes}
 use Rattle.wtf_meta.specs.Contents.{Told}
+use Rattle.wtf_region.specs.Apart.{are_apart}
 use Rattle.wtf_region.specs.Devs.{stores}
 use Rattle.wtf_meta.specs.Maps.{AllFit, metadata_at}
 use Rattle.wtf_replay.specs.Views.{TxnView, in_hand, replaying}
 use Rattle.wtf_replay.specs.Fits.{IsFit}
-use Rattle.wtf_replay.specs.Insides.{IsInsideTxn, HandBytes}
+use Rattle.wtf_replay.specs.Insides.{IsInsideTxn, HandBytes, LogBytes, TxnBytes, lists_have}
 use Rattle.wtf_replay.specs.Causes.{ReplayFault, MayCommitFault}
-use Rattle.wtf_replay.specs.Sounds.{IsSound, TellsMap}
+use Rattle.wtf_replay.specs.Sounds.{IsSound, TellsMap, IsAwayTxn}
 use Rattle.wtf_replay.specs.Tried.{KeepsPins, commit_from}
+use Rattle.wtf_replay.specs.Effects.{scope}
 use Rattle.wtf_replay.specs.Installs.{IsInstall}
 use Rattle.wtf_replay.specs.Verbs.{turn, CommitOf}
 use Rattle.wtf_replay.proofs.Insiding.{inside_later, txn_kept}
 use Rattle.wtf_replay.proofs.Faulting.{fault_as, end_due}
 use Rattle.wtf_replay.proofs.Keeping.{fit_after}
+use Rattle.wtf_replay.proofs.Naming.{named_by}
 use Rattle.wtf_replay.proofs.Starting.{sound_replaying}
 use Rattle.wtf_replay.proofs.Ending.{true_end_as}
 use Rattle.wtf_replay.proofs.Installing.{install_as}
@@ -60,11 +64,22 @@ returns-in-Ok-replay_and_install g c =
           subst (λ (y : TxnView). CommitOf (turn kind dev into kv after y new) (Ok a)) c.self.view_is (record {
             ended = done.ended;
             over = record { tx = refl; base = grown; log = refl; ended = refl };
-            installs = subst (λ y. IsInstall size kv after y a) (sym from) (install_as a size kv after run x refl refl refl hand done.installs);
+            installs = subst (λ y. IsInstall (scope kind dev into) kv after y a) (sym from)
+                (install_as a (scope kind dev into) kv after run x refl refl refl hand done.installs);
             meaning = λ ops start.
-                let here : IsSound size kv before run ops = subst (λ s. IsSound size kv before (replaying x.tx x.at s x.log x.replayed) ops) (sym c.in-Ok.ensures) (sound_replaying size kv before x ops start.1) in
-                true_end_as a size told kv after run x ops refl refl (done.meaning ops start.0 here);
-            named = λ P hole were now. done.named P hole (subst (λ s. HandBytes P kv (in_hand x.at s)) (sym c.in-Ok.ensures) were.hand) were.log;
+                let here : IsSound size kv before run ops = subst (λ s. IsSound size kv before (replaying x.tx x.at s x.log x.replayed) ops)
+                (sym c.in-Ok.ensures) (sound_replaying size kv before x ops start.3) in
+                let apart = are_apart start.0 in
+                let away : IsAwayTxn kind dev start.0 kv run = record {
+                  hand = subst (λ s. HandBytes apart (lists_have size before apart) kv (in_hand x.at s)) (sym c.in-Ok.ensures) start.2.hand;
+                  log = start.2.log;
+                } in
+                true_end_as a size told kv after run x ops refl refl (done.meaning ops start.0 start.1 away here);
+            named = named_by kind dev into (λ P Q. HandBytes P Q kv (in_hand x.at copy) × LogBytes P x.log)
+                (λ P Q. MapBytes P Q (metadata_at after after.number))
+                (λ P Q. TxnBytes P Q kv x × MapBytes P Q (metadata_at kv kv.number)) (λ P Q. MapBytes P Q (metadata_at after after.number))
+                (λ P Q were. (subst (λ s. HandBytes P Q kv (in_hand x.at s)) (sym c.in-Ok.ensures) were.0.hand, were.0.log))
+                (λ P Q hole were are. are) done.named;
             maps = made.maps;
             pins = keeps;
             fit = record {
@@ -131,9 +146,10 @@ returns-in-Err-replay_and_install g c =
         | inr f ↦ inr (subst (λ y. ReplayFault kind dev into kv y why) (sym from) (fault_as kind dev into kv goal_run x.ended why f))
       ];
       due = λ ops start.
-          let there : TellsMap kind (stores dev) (metadata_at kv x.at.base) = subst (λ n. TellsMap kind (stores dev) (metadata_at kv n)) (sym base) start.0 in
+          let there : TellsMap kind dev start.0 (metadata_at kv x.at.base) = subst (λ n. TellsMap kind dev start.0 (metadata_at kv n)) (sym base) start.1 in
           subst (λ n. MayCommitFault dev.settings (metadata_at kv n) before x why) base
-          (end_due laws dev into kv goal_run x ops why refl there (sound_replaying size kv before x ops start.1) cause);
+          (end_due laws dev into kv goal_run x ops why refl start.0 there (record { hand = start.2.hand; log = start.2.log })
+          (sound_replaying size kv before x ops start.3) cause);
       reads = made.reads;
       dev = made.dev;
     } in

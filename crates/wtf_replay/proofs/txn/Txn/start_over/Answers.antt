@@ -1,19 +1,26 @@
 use Rattle.std.proofs.Common.{◌≡◌, ◌≤◌, true, refl, sym, subst, inl, inr}
 use Rattle.std.specs.Prelude.{Ok, Err}
 use Rattle.wtf_replica.specs.Bytes.{byte_at}
+use Rattle.wtf_meta.specs.Bytes.{MapBytes}
 use Rattle.wtf_meta.specs.Contents.{Told}
+use Rattle.wtf_meta.specs.Maps.{metadata_at}
+use Rattle.wtf_meta.proofs.Nothing.{nothing_kept}
+use Rattle.wtf_region.specs.Apart.{are_apart}
 use Rattle.wtf_region.specs.Devs.{stores}
 use Rattle.wtf_replay.specs.Views.{TxnView, replaying, rebased, untouched}
 use Rattle.wtf_replay.specs.Fits.{IsFit}
-use Rattle.wtf_replay.specs.Insides.{IsInsideTxn}
+use Rattle.wtf_replay.specs.Insides.{LogBytes, TxnBytes, IsInsideTxn}
+use Rattle.wtf_replay.specs.Sounds.{IsAwayTxn}
 use Rattle.wtf_replay.specs.Causes.{ReplayFault}
 use Rattle.wtf_replay.specs.Tried.{commit_from}
+use Rattle.wtf_replay.specs.Effects.{scope}
 use Rattle.wtf_replay.specs.Installs.{IsInstall}
 use Rattle.wtf_replay.specs.Verbs.{turn, CommitOf}
 use Rattle.wtf_replay.proofs.Starting.{sound_rebased}
 use Rattle.wtf_replay.proofs.Insiding.{inside_later, txn_kept}
 use Rattle.wtf_replay.proofs.Faulting.{fault_as, end_due}
 use Rattle.wtf_replay.proofs.Keeping.{fit_after}
+use Rattle.wtf_replay.proofs.Naming.{named_by}
 use Rattle.wtf_replay.proofs.Ending.{true_end_as}
 use Rattle.wtf_replay.proofs.Installing.{install_as}
 use Rattle.wtf_meta.specs.Sessions.{nothing_open}
@@ -44,9 +51,14 @@ returns-in-Ok g c =
           subst (λ (y : TxnView). CommitOf (turn kind dev into kv after y new) (Ok a)) c.self.view_is (record {
             ended = c.in-Ok.ensures.ended;
             over = record { tx = refl; base = refl; log = refl; ended = refl };
-            installs = subst (λ y. IsInstall size kv after y a) (sym from) (install_as a size kv after run (rebased x kv.number) refl refl refl refl c.in-Ok.ensures.installs);
-            meaning = λ ops start. true_end_as a size told kv after run x ops refl refl (c.in-Ok.ensures.meaning ops start.0 start.1.ops_are);
-            named = λ P hole were now. c.in-Ok.ensures.named P hole now were.log;
+            installs = subst (λ y. IsInstall (scope kind dev into) kv after y a) (sym from)
+                (install_as a (scope kind dev into) kv after run (rebased x kv.number) refl refl refl refl c.in-Ok.ensures.installs);
+            meaning = λ ops start. true_end_as a size told kv after run x ops refl refl
+                (c.in-Ok.ensures.meaning ops start.0 start.1 start.2.log start.3.ops_are);
+            named = named_by kind dev into (λ P Q. MapBytes P Q (metadata_at kv kv.number) × LogBytes P x.log)
+                (λ P Q. MapBytes P Q (metadata_at after after.number))
+                (λ P Q. TxnBytes P Q kv x × MapBytes P Q (metadata_at kv kv.number)) (λ P Q. MapBytes P Q (metadata_at after after.number))
+                (λ P Q were. (were.1, were.0.log)) (λ P Q hole were are. are) c.in-Ok.ensures.named;
             maps = c.commit_now.ensures.maps;
             pins = c.commit_now.ensures.pins;
             fit = fit_after kv after x new fit refl refl refl below c.commit_now.ensures.maps c.commit_now.ensures.pins;
@@ -97,7 +109,17 @@ returns-in-Err g c =
         | inr f ↦ inr (subst (λ y. ReplayFault kind dev into kv y why) (sym from) (fault_as kind dev into kv run x.ended why f))
       ];
       due = λ ops start.
-          end_due laws dev into kv run x ops why refl start.0 (sound_rebased size kv before run kv.number ops start.1.ops_are) c.in-Err.ensures.fault;
+          let away : IsAwayTxn kind dev start.0 kv run = record {
+            hand = record {
+              base = start.1.away;
+              changes = tt;
+              slices = nothing_kept
+                  (are_apart start.0);
+            };
+            log = start.2.log;
+          } in
+          end_due laws dev into kv run x ops why refl start.0 start.1 away
+          (sound_rebased size kv before run kv.number ops start.3.ops_are) c.in-Err.ensures.fault;
       reads = c.commit_now.ensures.reads;
       dev = c.commit_now.ensures.dev;
     } in

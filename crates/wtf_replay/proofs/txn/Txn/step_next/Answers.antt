@@ -8,13 +8,15 @@ use Rattle.wtf_meta.specs.Contents.{Told}
 use Rattle.wtf_model.specs.declared.answer.Answer.{Answer}
 use Rattle.wtf_model.specs.declared.answer.Answer.TheVariants as answer
 use Rattle.wtf_region.specs.Devs.{stores}
-use Rattle.wtf_replay.specs.Views.{TxnView}
+use Rattle.wtf_rw.specs.Stored.{SliceBytes}
+use Rattle.wtf_replay.specs.Views.{TxnView, hand_of}
 use Rattle.wtf_replay.specs.Fits.{IsFit}
-use Rattle.wtf_replay.specs.Insides.{IsInsideTxn, NamesTxn}
+use Rattle.wtf_replay.specs.Insides.{HandBytes, LogBytes, TxnBytes, IsInsideTxn, NamesTxn}
 use Rattle.wtf_replay.specs.Verbs.{turn, StepOf}
 use Rattle.wtf_replay.proofs.Faulting.{step_fault}
 use Rattle.wtf_replay.proofs.Again.{again_same, again_other}
 use Rattle.wtf_replay.proofs.Insiding.{log_later, inside_later}
+use Rattle.wtf_replay.proofs.Naming.{named_by}
 use Rattle.wtf_replay.proofs.Turning.{step_none, refused_none, put_back}
 use Rattle.wtf_replay.proofs.txn.Txn.step_next.Goals as goal
 
@@ -32,7 +34,10 @@ returns-then-same g c =
     let fit : IsFit kv x = subst (λ y. IsFit kv y) (sym c.self.view_is) c.requires.fit in
     let left : x.replayed < length x.log.ops = subst (λ (y : TxnView). y.replayed < length y.log.ops) (sym c.self.view_is) c.requires.left in
     let was : IsInsideTxn kind (stores dev) dev.settings kv x = subst (λ y. IsInsideTxn kind (stores dev) dev.settings kv y) (sym c.self.view_is) c.requires.inside in
-    let names : NamesTxn kv x new None = λ P hole were none. record { hand = c.in-Ok-make_again.ensures.named P hole were.hand were.log; log = were.log } in
+    let names : NamesTxn kind dev into kv x new None =
+    named_by kind dev into (λ P Q. HandBytes P Q kv (hand_of x) × LogBytes P x.log) (λ P Q. HandBytes P Q kv (hand_of new)) (λ P Q. TxnBytes P Q kv x)
+    (λ P Q. SliceBytes P None → TxnBytes P Q kv new)
+    (λ P Q were. (were.hand, were.log)) (λ P Q hole were are none. record { hand = are; log = were.log }) c.in-Ok-make_again.ensures.named in
     record {
       step =
           subst (λ (y : TxnView). StepOf (turn kind dev into kv kv y new) (Ok (answer.Replayed (c.self.inside.replayed + 1)))) c.self.view_is (record {
@@ -40,7 +45,8 @@ returns-then-same g c =
             stepped = λ going. record { index = refl; base = c.make_again.ensures.grows.base; is = refl };
             acts = λ going. c.in-Ok-make_again.ensures.redoes c.if-same.true x refl refl;
             meaning = λ going ops start.
-                again_same laws c.make_again.ensures.dev.each size kv x ops start.1 start.0 left new c.in-Ok-make_again.both.0 (c.in-Ok-make_again.ensures.step c.if-same.true)
+                again_same laws c.make_again.ensures.dev start.0 kv x ops start.3 start.1 start.2 left new c.in-Ok-make_again.both.0
+                (λ k o at. c.in-Ok-make_again.ensures.step c.if-same.true k o at start.0)
                 (c.in-Ok-make_again.ensures.same.0 c.if-same.true) refl refl refl;
             named = names;
             fit = record {
@@ -75,14 +81,18 @@ returns g c =
     let was : IsInsideTxn kind (stores dev) dev.settings kv x = subst (λ y. IsInsideTxn kind (stores dev) dev.settings kv y) (sym c.self.view_is) c.requires.inside in
     let differs : slice_get x.log.shown x.replayed ≢ Some a = λ e. let hit : c.in-Ok-make_again.both.1 ≡ true = c.in-Ok-make_again.ensures.same.1 e in let bad : true ≡ false = sym hit ∙ c.if-same.false in cc in
     let r : Result Answer Fault = Ok (answer.Aborted (c.self.inside.replayed + 1) (with_value c.in-Ok.held a)) in
-    let names : NamesTxn kv x new None = λ P hole were none. record { hand = c.in-Ok-make_again.ensures.named P hole were.hand were.log; log = were.log } in
+    let names : NamesTxn kind dev into kv x new None =
+    named_by kind dev into (λ P Q. HandBytes P Q kv (hand_of x) × LogBytes P x.log) (λ P Q. HandBytes P Q kv (hand_of new)) (λ P Q. TxnBytes P Q kv x)
+    (λ P Q. SliceBytes P None → TxnBytes P Q kv new)
+    (λ P Q were. (were.hand, were.log)) (λ P Q hole were are none. record { hand = are; log = were.log }) c.in-Ok-make_again.ensures.named in
     record {
       step =
           subst (λ (y : TxnView). StepOf (turn kind dev into kv kv y new) r) c.self.view_is (record {
             refused = refused_none (turn kind dev into kv kv x new) r (step_none x left);
             stepped = λ going. record { index = refl; over = record { tx = refl; base = c.make_again.ensures.grows.base; log = refl; ended = refl } };
             acts = λ going. tt;
-            meaning = λ going ops start. again_other laws c.make_again.ensures.dev.each size kv x ops start.1 start.0 left a c.in-Ok-make_again.ensures.due differs;
+            meaning = λ going ops start. again_other laws c.make_again.ensures.dev start.0 kv x ops start.3 start.1 start.2 left a
+                (λ k o at. c.in-Ok-make_again.ensures.due k o at start.0) differs;
             named = names;
             fit = record {
               pinned = subst (λ b. IsTrue (is_pinned kv b)) (sym c.make_again.ensures.grows.base) fit.pinned;
