@@ -19,28 +19,30 @@ use Rattle.wtf_spillfmt.proofs.Codecs.{Codec, IsBytes, IsBytes-rest, Takes, IsMa
 use Rattle.wtf_spillfmt.proofs.Lists.{entries_codec}
 use Rattle.wtf_image.specs.declared.records.Header.{Header}
 use Rattle.wtf_image.specs.declared.records.PathRecord.{PathRecord}
-use Rattle.wtf_image.specs.Rows.{EntryRow, RegionRow, FileRow, ImageRows}
-use Rattle.wtf_image.specs.Texts.{region_text, regions_text, inode_text, file_text, files_text, node_text, name_text, path_text, paths_text, magic, header_text, image_text}
-use Rattle.wtf_image.specs.Shapes.{ascends, path_before, file_before, region_before, IsRegion, IsInode, IsFileRow, IsNode, IsPathRow, IsHeader, ArePaths, AreFiles, IsImage}
-use Rattle.wtf_image.specs.Reading.{no_base, make_region, region_at, make_inode, inode_at, make_file, file_at, node_at, is_path, name_at, make_path, path_at, paths_at, files_at, is_magic, magic_at, make_header, header_at, make_image, image_at, image_of}
+use Rattle.wtf_image.specs.Rows.{BaseRow, EntryRow, RegionRow, FileRow, ImageRows}
+use Rattle.wtf_image.specs.Texts.{base_text, region_text, regions_text, inode_text, file_text, files_text, node_text, name_text, path_text, paths_text, magic, header_text, image_text}
+use Rattle.wtf_image.specs.Shapes.{ascends, path_before, file_before, region_before, IsBase, IsRegion, IsInode, IsFileRow, IsNode, IsPathRow, IsHeader, ArePaths, AreFiles, IsImage}
+use Rattle.wtf_image.specs.Reading.{make_region, region_at, make_inode, inode_at, make_file, file_at, node_at, is_path, name_at, make_path, path_at, paths_at, files_at, is_magic, magic_at, make_header, header_at, make_image, image_at, image_of}
+use Rattle.wtf_image.proofs.BaseForms.{base_codec}
 
 -- ---- regions
 
-region_made : IsMade (λ (x : ℕ × (ℕ × (ℕ × List EntryRow))). to_be_bytes w16 x.0 ++ (to_be_bytes w32 x.1.0 ++ ((x.1.1.0 ∷ []) ++ entries_text x.1.1.1)))
-    (λ x. (x.0 < 2 ^ 16) × ((x.1.0 < 2 ^ 32) × (((x.1.1.0 < 2 ^ 8) × (no_base x.1.1.0 ≡ true)) × ((length x.1.1.1 < 2 ^ 32) × AllByRecursion (IsEntry x.1.0) x.1.1.1))))
-    region_text IsRegion make_region (λ r. (r.number, (r.end, (0, r.entries))))
+region_made : IsMade (λ (x : ℕ × (ℕ × (Option BaseRow × List EntryRow))). to_be_bytes w16 x.0
+    ++ (to_be_bytes w32 x.1.0 ++ (base_text x.1.1.0 ++ entries_text x.1.1.1)))
+    (λ x. (x.0 < 2 ^ 16) × ((x.1.0 < 2 ^ 32) × (IsBase x.1.0 x.1.1.0 × ((length x.1.1.1 < 2 ^ 32) × AllByRecursion (IsEntry x.1.0) x.1.1.1))))
+    region_text IsRegion make_region (λ r. (r.number, (r.end, (r.base, r.entries))))
 unfolding region_text
 region_made = record {
-  text = λ x form. ap (λ (b : ℕ). to_be_bytes w16 x.0 ++ (to_be_bytes w32 x.1.0 ++ (b ∷ entries_text x.1.1.1))) (sym (eqb-true _ _ form.1.1.0.1));
-  form = λ x form. record { number = form.0; end = form.1.0; count = form.1.1.1.0; entries = form.1.1.1.1 };
-  back = λ r form. (form.number, (form.end, ((omega arith, refl), (form.count, form.entries))));
+  text = λ x form. refl;
+  form = λ x form. record { number = form.0; end = form.1.0; base = form.1.1.0; count = form.1.1.1.0; entries = form.1.1.1.1 };
+  back = λ r form. (form.number, (form.end, (form.base, (form.count, form.entries))));
   same = λ r form. refl;
 }
 
 pub region_codec : Codec region_text IsRegion region_at
 unfolding region_at
 region_codec = codec_as region_made
-    (codec_then codec16 (λ number f. codec_then codec32 (λ end g. codec_then (codec_only no_base byte_codec) (λ base h. entries_codec end))))
+    (codec_then codec16 (λ number f. codec_then codec32 (λ end g. codec_then (base_codec end) (λ base h. entries_codec end))))
 
 regions_codec : Codec regions_text (λ rs. (length rs < 2 ^ 16) × AllByRecursion IsRegion rs) (counted_at w16 region_at)
 unfolding regions_text

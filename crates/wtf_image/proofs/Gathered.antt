@@ -224,7 +224,9 @@ region_numbered r (Some (NodeIs n)) row e = absurd (cc)
 region_numbered r (Some (NamesAre names)) row e = absurd (cc)
 region_numbered r (Some (LastIs n)) row e = absurd (cc)
 region_numbered r (Some (RegionIs end base entries)) row e =
-    let is : record { number = r; end = end; entries = entries } ≡ row = some_is (record { number = r; end = end; entries = entries }) row e in sym (ap (λ (x : RegionRow). x.number) is)
+    let is : record { number = r; end = end; base = base; entries = entries } ≡ row =
+    some_is (record { number = r; end = end; base = base; entries = entries }) row e in
+    sym (ap (λ (x : RegionRow). x.number) is)
 
 one_file : (m : Shown) (fs : List FileRow) (i : InodeId) (o : Option ℕ) → AreRegionsAscending fs → AreRegionsAscending (with_one fs (option_map (file_with m i) o))
 one_file m fs i None h = h

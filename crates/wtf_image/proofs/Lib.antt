@@ -1,4 +1,5 @@
 pub mod Refused
+pub mod BaseForms
 pub mod Forms
 pub mod Parsed
 pub mod Elements

@@ -13,11 +13,12 @@ use Rattle.wtf_overlay.specs.declared.part.Part.TheVariants.{Zero, Held}
 use Rattle.wtf_overlay.specs.declared.part.Entry.{Entry}
 use Rattle.wtf_overlay.proofs.Clipping.{entry_eq}
 use Rattle.wtf_values.specs.declared.region.RegionValue.{RegionValue}
+use Rattle.wtf_values.specs.declared.region.Spill.{Spill}
 use Rattle.wtf_values.specs.declared.value.Value.{Value}
 use Rattle.wtf_values.specs.declared.value.Value.TheVariants as value
 use Rattle.wtf_values.proofs.RegionLaws.{region_eq}
 use Rattle.wtf_spillfmt.proofs.Codecs.{some_is}
-use Rattle.wtf_image.specs.Rows.{EntryRow, part_row, entry_row, entry_rows}
+use Rattle.wtf_image.specs.Rows.{BaseRow, EntryRow, part_row, entry_row, spill_row, base_row, entry_rows}
 use Rattle.wtf_image.specs.Lookups.{plain}
 
 slice_eq : (s t : Slice) → s.len ≡ t.len → s.extents ≡ t.extents → s ≡ t
@@ -76,12 +77,22 @@ same_entries (e ∷ es) (f ∷ fs) h =
     let tail = same_entries es fs others in
     λ i. head i ∷ tail i
 
+same_base : (a b : Option Spill) → base_row a ≡ base_row b → a ≡ b
+same_base None None h = refl
+same_base None (Some t) h = absurd (cc)
+same_base (Some s) None h = absurd (cc)
+same_base (Some s) (Some t) h =
+    let row : spill_row s ≡ spill_row t = some_is (spill_row s) (spill_row t) h in
+    let slice = same_slice s.slice t.slice (ap (λ (r : BaseRow). r.pointers) row) in
+    let visible : s.visible ≡ t.visible = ap (λ (r : BaseRow). r.visible) row in
+    λ i. Some (record { slice = slice i; visible = visible i })
+
 same_region : (v w : RegionValue) → plain (value.Region v) ≡ plain (value.Region w) → v ≡ w
 same_region v w h =
     let end : v.end ≡ w.end = cc in
-    let base : v.base ≡ w.base = cc in
+    let base : base_row v.base ≡ base_row w.base = cc in
     let list : entry_rows v.list ≡ entry_rows w.list = cc in
-    region_eq v w end base (same_entries v.list w.list list)
+    region_eq v w end (same_base v.base w.base base) (same_entries v.list w.list list)
 
 pub same_value : (v w : Value) → plain v ≡ plain w → v ≡ w
 same_value (value.Node n) (value.Node k) h = let is : n ≡ k = cc in ap value.Node is

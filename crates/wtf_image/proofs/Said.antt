@@ -118,7 +118,7 @@ found_is i (x ∷ xs) r = ap (λ b. cond b (Some x) (find place_cmp (i, r) (map 
 
 row_again : (r : ℕ) (o : Option RegionRow) → ((row : RegionRow) → o ≡ Some row → row.number ≡ r) → region_now r (option_map plain_region o) ≡ o
 row_again r None is = refl
-row_again r (Some row) is = ap (λ n. Some (record { number = n; end = row.end; entries = row.entries })) (sym (is row refl))
+row_again r (Some row) is = ap (λ n. Some (record { number = n; end = row.end; base = row.base; entries = row.entries })) (sym (is row refl))
 
 -- ---- a file
 

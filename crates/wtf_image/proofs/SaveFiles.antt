@@ -150,7 +150,9 @@ region_end r (Some (NodeIs n)) row e = absurd (cc)
 region_end r (Some (NamesAre names)) row e = absurd (cc)
 region_end r (Some (LastIs n)) row e = absurd (cc)
 region_end r (Some (RegionIs end base entries)) row e =
-    let is : record { number = r; end = end; entries = entries } ≡ row = some_is (record { number = r; end = end; entries = entries }) row e in sym (ap (λ (x : RegionRow). x.end) is)
+    let is : record { number = r; end = end; base = base; entries = entries } ≡ row =
+    some_is (record { number = r; end = end; base = base; entries = entries }) row e in
+    sym (ap (λ (x : RegionRow). x.end) is)
 
 -- a region with bytes is there
 there : (r : ℕ) (s : Option Plain) → 0 < end_now s → (row : RegionRow) × (region_now r s ≡ Some row)
@@ -158,7 +160,7 @@ there r None lt = absurd (omega (arith, lt))
 there r (Some (NodeIs n)) lt = absurd (omega (arith, lt))
 there r (Some (NamesAre names)) lt = absurd (omega (arith, lt))
 there r (Some (LastIs n)) lt = absurd (omega (arith, lt))
-there r (Some (RegionIs end base entries)) lt = (record { number = r; end = end; entries = entries }, refl)
+there r (Some (RegionIs end base entries)) lt = (record { number = r; end = end; base = base; entries = entries }, refl)
 
 any_last : (p : RegionRow → Bool) (xs : List RegionRow) (y : RegionRow) → p y ≡ true → list_any p (xs ++ y ∷ []) ≡ true
 any_last p [] y h = ap (λ b. b || false) h

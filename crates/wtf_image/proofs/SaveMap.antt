@@ -151,7 +151,7 @@ region_kind r None h = refl
 region_kind r (Some (NodeIs n)) h = absurd h
 region_kind r (Some (NamesAre names)) h = absurd h
 region_kind r (Some (LastIs n)) h = absurd h
-region_kind r (Some (RegionIs end base entries)) h = ap (λ c. Some (RegionIs end c entries)) (sym h)
+region_kind r (Some (RegionIs end base entries)) h = refl
 
 -- ---- names
 

@@ -17,11 +17,7 @@ use Rattle.wtf_values.specs.declared.key.Key.{Key}
 use Rattle.wtf_values.specs.declared.value.Value.{Value}
 use Rattle.wtf_values.proofs.KeyLaws.{at_itself, at_same, at_none}
 use Rattle.wtf_image.specs.Shapes.{ascends, ascends_from}
-use Rattle.wtf_overlay.specs.declared.part.Entry.{Entry}
-use Rattle.wtf_values.specs.declared.region.RegionValue.{RegionValue}
-use Rattle.wtf_values.specs.declared.value.Value.TheVariants as value
-use Rattle.wtf_image.specs.Rows.{entry_rows}
-use Rattle.wtf_image.specs.Lookups.{Plain, RegionIs, plain}
+use Rattle.wtf_image.specs.Lookups.{Plain, plain}
 use Rattle.wtf_image.specs.Seeds.{Seed, IsOnly, Adds}
 
 abbrev S : Type 0
@@ -141,7 +137,3 @@ row_here f xs i x lt is = ap f is ∙ sym (get_or-map f xs i x (f x) lt)
 
 pub row_inside : {A B : Type 0} (f : A → B) (xs : List A) (i : ℕ) → i < length xs → i < length (map f xs)
 row_inside f xs i lt = subst (λ n. i < n) (sym (length-map xs f)) lt
-
--- a region's value as the row that it comes from says it
-pub region_plain : (v : RegionValue) (end : ℕ) (list : List Entry) → v.end ≡ end → v.base ≡ None → v.list ≡ list → plain (value.Region v) ≡ RegionIs end None (entry_rows list)
-region_plain v end list e b l = λ k. RegionIs (e k) (b k) (entry_rows (l k))

@@ -1,9 +1,8 @@
 -- Metadata that stand for a tree can be saved.
-use Rattle.std.proofs.Common.{◌≡◌, ℕ, ◌<◌, ◌≤◌, Bool, List, Option, None, Some, IsSome, refl, sym, ap, subst, ◌∙◌, arith}
+use Rattle.std.proofs.Common.{◌≡◌, ℕ, ◌<◌, ◌≤◌, List, Option, None, Some, IsSome, refl, sym, ap, subst, ◌∙◌, arith}
 use Rattle.std.specs.Option.{option_map}
 use Rattle.std.specs.FinMap.{get}
 use Rattle.wtf_base.specs.declared.ids.InodeId.{InodeId}
-use Rattle.wtf_overlay.specs.Origin.{Place}
 use Rattle.wtf_model.specs.Tree.{Tree, TreeNode, Dir, File, root}
 use Rattle.wtf_values.specs.declared.key.Key.TheVariants.{Path, Dir as DirKey, Inode, Region}
 use Rattle.wtf_values.specs.declared.value.Node.{Node}
@@ -11,8 +10,7 @@ use Rattle.wtf_values.specs.declared.value.Node.TheVariants.{Folder, File as Fil
 use Rattle.wtf_values.specs.declared.value.Value.{Value}
 use Rattle.wtf_values.specs.declared.value.Value.TheVariants as value
 use Rattle.wtf_meta.specs.Maps.{Map}
-use Rattle.wtf_meta.specs.Bytes.{ValueBytes}
-use Rattle.wtf_meta.specs.Contents.{Told, is_told}
+use Rattle.wtf_meta.specs.Contents.{Told}
 use Rattle.wtf_meta.specs.Files.{end_of}
 use Rattle.wtf_meta.specs.FileEdits.{last_of, region_of, IsLast, IsRegion}
 use Rattle.wtf_meta.specs.Trees.{IsBody, NodeAt, Stands}
@@ -60,12 +58,12 @@ last_some : (v : Option Value) → IsLast v → IsSome v
 last_some None h = absurd h
 last_some (Some v) h = refl
 
-region_value : (P : List Place → Bool) (v : Option Value) → (IsSome v → IsRegion v) → ValueBytes P v → IsRegionValue (option_map plain v)
-region_value P None h bytes = tt
-region_value P (Some (value.Node k)) h bytes = absurd (h refl)
-region_value P (Some (value.Names s)) h bytes = absurd (h refl)
-region_value P (Some (value.Last r)) h bytes = absurd (h refl)
-region_value P (Some (value.Region g)) h bytes = bytes.plain
+region_value : (v : Option Value) → (IsSome v → IsRegion v) → IsRegionValue (option_map plain v)
+region_value None h = tt
+region_value (Some (value.Node k)) h = absurd (h refl)
+region_value (Some (value.Names s)) h = absurd (h refl)
+region_value (Some (value.Last r)) h = absurd (h refl)
+region_value (Some (value.Region g)) h = tt
 
 end_is : (v : Option Value) → end_now (option_map plain v) ≡ end_of (region_of v)
 end_is None = refl
@@ -180,7 +178,7 @@ module _ (b : ℕ) (told : Told) (tx k : ℕ) (w : Map) (t : Tree) (st : Stands 
     begun = begun;
     nodes = λ p. node_value b told w (w (Path p)) (get t p) (st.nodes p);
     lasts = λ i. last_value (w (Inode i)) (λ some. (file_is i some).1.has.inode);
-    regions = λ i r. region_value (is_told told) (w (Region i r)) (λ some. (file_is i (st.regions i r some)).1.has.regions r) (st.bytes (Region i r));
+    regions = λ i r. region_value (w (Region i r)) (λ some. (file_is i (st.regions i r some)).1.has.regions r);
     top = folder_there root st.tree_is.top;
     parents = λ p dir some parent. folder_there dir (st.tree_is.parents p dir (in_tree p some) parent);
     folders = listing_there;

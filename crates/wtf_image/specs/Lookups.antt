@@ -13,13 +13,12 @@ use Rattle.wtf_values.specs.Keys.{inode_cmp}
 use Rattle.wtf_values.specs.Names.{NamesOf, no_names, with_name}
 use Rattle.wtf_values.specs.declared.key.Key.{Key}
 use Rattle.wtf_values.specs.declared.key.Key.TheVariants.{Path, Dir, Inode, Region}
-use Rattle.wtf_values.specs.declared.region.Spill.{Spill}
 use Rattle.wtf_values.specs.declared.value.Node.{Node}
 use Rattle.wtf_values.specs.declared.value.Node.TheVariants.{Folder, File}
 use Rattle.wtf_values.specs.declared.value.Value.{Value}
 use Rattle.wtf_values.specs.declared.value.Value.TheVariants as value
 use Rattle.wtf_image.specs.declared.records.PathRecord.{PathRecord}
-use Rattle.wtf_image.specs.Rows.{EntryRow, RegionRow, FileRow, ImageRows, entry_rows}
+use Rattle.wtf_image.specs.Rows.{BaseRow, EntryRow, RegionRow, FileRow, ImageRows, base_row, entry_rows}
 use Rattle.std.specs.Prelude.{if◌then◌else◌}
 
 -- a value of the store, without where it lies in memory
@@ -27,13 +26,13 @@ pub data Plain : Type 0 where
   NodeIs : (n : Node) → Plain
   NamesAre : (names : NamesOf) → Plain
   LastIs : (n : ℕ) → Plain
-  RegionIs : (end : ℕ) (base : Option Spill) (entries : List EntryRow) → Plain
+  RegionIs : (end : ℕ) (base : Option BaseRow) (entries : List EntryRow) → Plain
 
 abbrev pub plain : Value → Plain
 plain (value.Node n) = NodeIs n
 plain (value.Names names) = NamesAre names
 plain (value.Last n) = LastIs n
-plain (value.Region v) = RegionIs v.end v.base (entry_rows v.list)
+plain (value.Region v) = RegionIs v.end (base_row v.base) (entry_rows v.list)
 
 -- what stands at a path
 abbrev pub path_entry : PathRecord → List ℕ × Node
@@ -74,7 +73,7 @@ abbrev pub region_at : List FileRow → InodeId → ℕ → Option RegionRow
 region_at fs i r = find place_cmp (i, r) (flat_map region_entries fs)
 
 abbrev pub plain_region : RegionRow → Plain
-plain_region r = RegionIs r.end None r.entries
+plain_region r = RegionIs r.end r.base r.entries
 
 -- a directory's names, and nothing for a file
 abbrev pub names_of_node : NamesOf → Option Node → Option Plain

@@ -1,26 +1,42 @@
 -- An image read from left to right: what stands at the front of bytes, and the bytes behind it, if they have that form.
-use Rattle.std.specs.Prelude.{ℕ, zero, suc, Bool, ◌==◌, bytes_eq, if◌then◌else◌, List, length, Option, None, Some, is_none}
+use Rattle.std.specs.Prelude.{ℕ, zero, suc, Bool, ◌==◌, ◌&&◌, nat_lt, nat_le, bytes_eq, if◌then◌else◌, List, length, Option, None, Some, is_none}
 use Rattle.std.specs.Int.{w16, w32, w64}
 use Rattle.wtf_base.specs.declared.ids.InodeId.{InodeId}
-use Rattle.wtf_overlay.specs.Reading.{◌>>=◌, Reader, then_at, as_at, only_at, byte_at, number_at, text_at, entry_at, counted_at}
+use Rattle.wtf_base.specs.declared.pointer.Pointer.{Pointer}
+use Rattle.wtf_overlay.specs.Reading.{◌>>=◌, Reader, then_at, as_at, only_at, byte_at, number_at, text_at, slice_at, entry_at, counted_at}
 use Rattle.wtf_path.specs.Refusals.{refusal}
 use Rattle.wtf_values.specs.declared.value.Node.{Node}
 use Rattle.wtf_values.specs.declared.value.Node.TheVariants.{Folder, File}
 use Rattle.wtf_image.specs.declared.records.Header.{Header}
 use Rattle.wtf_image.specs.declared.records.PathRecord.{PathRecord}
-use Rattle.wtf_image.specs.Rows.{EntryRow, RegionRow, FileRow, ImageRows}
+use Rattle.wtf_image.specs.Rows.{BaseRow, EntryRow, RegionRow, FileRow, ImageRows}
 use Rattle.wtf_image.specs.Texts.{magic}
 use Rattle.wtf_image.specs.Shapes.{ascends, path_before, file_before, region_before}
 
--- the byte 0, for no spilled list
-abbrev pub no_base : ℕ → Bool
-no_base b = b == 0
+abbrev pub make_spill : ℕ × (ℕ × List Pointer) → BaseRow
+make_spill x = record { visible = x.0; len = x.1.0; pointers = x.1.1 }
 
-abbrev pub make_region : ℕ × (ℕ × (ℕ × List EntryRow)) → RegionRow
-make_region x = record { number = x.0; end = x.1.0; entries = x.1.1.1 }
+-- something of a spilled list is seen, and nothing past the end
+abbrev pub is_seen : ℕ → BaseRow → Bool
+is_seen end b = nat_lt 0 b.visible && nat_le b.visible end
+
+unfoldable pub spill_at : ℕ → Reader BaseRow
+spill_at end = only_at (is_seen end) (as_at make_spill (then_at (number_at w32) (λ visible. then_at (number_at w32) (λ len. slice_at len))))
+
+abbrev pub base_by : ℕ → ℕ → Reader (Option BaseRow)
+base_by end zero bytes = Some (None, bytes)
+base_by end (suc zero) bytes = as_at (λ b. Some b) (spill_at end) bytes
+base_by end (suc (suc n)) bytes = None
+
+unfoldable pub base_at : ℕ → Reader (Option BaseRow)
+base_at end bytes = byte_at bytes >>= λ kind. base_by end kind.0 kind.1
+
+abbrev pub make_region : ℕ × (ℕ × (Option BaseRow × List EntryRow)) → RegionRow
+make_region x = record { number = x.0; end = x.1.0; base = x.1.1.0; entries = x.1.1.1 }
 
 unfoldable pub region_at : Reader RegionRow
-region_at = as_at make_region (then_at (number_at w16) (λ number. then_at (number_at w32) (λ end. then_at (only_at no_base byte_at) (λ base. counted_at w32 (entry_at end)))))
+region_at = as_at make_region
+    (then_at (number_at w16) (λ number. then_at (number_at w32) (λ end. then_at (base_at end) (λ base. counted_at w32 (entry_at end)))))
 
 abbrev pub make_inode : ℕ × ℕ → InodeId
 make_inode x = record { tx = record { 0 = x.0 }; index = x.1 }

@@ -1,17 +1,27 @@
 -- What an image holds, row by row.
-use Rattle.std.specs.Prelude.{ℕ, List, map}
+use Rattle.std.specs.Prelude.{ℕ, List, map, Option, None, Some}
 use Rattle.wtf_base.specs.declared.ids.InodeId.{InodeId}
+use Rattle.wtf_base.specs.declared.pointer.Pointer.{Pointer}
+use Rattle.wtf_base.specs.Slices.{pointers_of, len_of}
 pub use Rattle.wtf_overlay.specs.Rows.{EntryRow, part_row, entry_row, entry_rows}
+use Rattle.wtf_values.specs.declared.region.Spill.{Spill}
 use Rattle.wtf_image.specs.declared.records.Header.{Header}
 use Rattle.wtf_image.specs.declared.records.PathRecord.{PathRecord}
 use Rattle.wtf_image.specs.declared.records.RegionRecord.{RegionRecord}
 use Rattle.wtf_image.specs.declared.records.FileRecord.{FileRecord}
 use Rattle.wtf_image.specs.declared.records.Image.{Image}
 
--- a region of a file: its number, where it ends, and its entries, the earliest first
+-- a spilled list: how far it is seen, and the number of bytes of the slice that it lies in, with the pointers of that
+pub record BaseRow : Type 0 where
+  pub visible : ℕ
+  pub len : ℕ
+  pub pointers : List Pointer
+
+-- a region of a file: its number, where it ends, its spilled list, if there is one, and its entries, the earliest first
 pub record RegionRow : Type 0 where
   pub number : ℕ
   pub end : ℕ
+  pub base : Option BaseRow
   pub entries : List EntryRow
 
 -- a file: its inode, the number of its last region, and its regions
@@ -27,8 +37,15 @@ pub record ImageRows : Type 0 where
   pub files : List FileRow
 
 -- how they are kept
+abbrev pub spill_row : Spill → BaseRow
+spill_row s = record { visible = s.visible; len = len_of s.slice; pointers = pointers_of s.slice }
+
+abbrev pub base_row : Option Spill → Option BaseRow
+base_row None = None
+base_row (Some s) = Some (spill_row s)
+
 abbrev pub region_row : RegionRecord → RegionRow
-region_row r = record { number = r.number; end = r.end; entries = entry_rows r.list }
+region_row r = record { number = r.number; end = r.value.end; base = base_row r.value.base; entries = entry_rows r.value.list }
 
 abbrev pub region_rows : List RegionRecord → List RegionRow
 region_rows rs = map region_row rs

@@ -12,7 +12,7 @@ use Rattle.wtf_values.specs.Keys.{inode_cmp}
 use Rattle.wtf_values.specs.declared.value.Node.{Node}
 use Rattle.wtf_values.specs.declared.value.Node.TheVariants.{Folder, File}
 use Rattle.wtf_image.specs.declared.records.PathRecord.{PathRecord}
-use Rattle.wtf_image.specs.Rows.{RegionRow, FileRow, ImageRows}
+use Rattle.wtf_image.specs.Rows.{BaseRow, RegionRow, FileRow, ImageRows}
 use Rattle.wtf_image.specs.Lookups.{node_at, last_at}
 
 -- ---- settings and numbers
@@ -92,12 +92,16 @@ abbrev pub is_part_inside : ℕ → (ℕ → ℕ → ℕ) → Option (List Point
 is_part_inside servers size None = true
 is_part_inside servers size (Some ps) = list_all (lies_inside servers size) ps
 
+abbrev pub is_base_inside : ℕ → (ℕ → ℕ → ℕ) → Option BaseRow → Bool
+is_base_inside servers size None = true
+is_base_inside servers size (Some b) = list_all (lies_inside servers size) b.pointers
+
 abbrev pub is_region_inside : ℕ → (ℕ → ℕ → ℕ) → RegionRow → Bool
-is_region_inside servers size r = list_all (λ e. is_part_inside servers size e.part) r.entries
+is_region_inside servers size r = is_base_inside servers size r.base && list_all (λ e. is_part_inside servers size e.part) r.entries
 
 abbrev pub is_file_inside : ℕ → (ℕ → ℕ → ℕ) → FileRow → Bool
 is_file_inside servers size f = list_all (is_region_inside servers size) f.regions
 
--- all pointers of an image lie inside the stores
+-- all pointers of an image lie inside the stores; those in its spilled lists are not looked at
 abbrev pub are_inside : (ℕ → ℕ → ℕ) → ImageRows → Bool
 are_inside size x = list_all (is_file_inside x.header.servers size) x.files

@@ -10,7 +10,7 @@ use Rattle.wtf_image.specs.Lookups.{Plain, NodeIs, NamesAre, LastIs, RegionIs}
 use Rattle.wtf_meta.specs.Maps.{Map}
 use Rattle.wtf_image.specs.Tables.{Shown}
 
--- a value of the kind of its key; no region has a spilled list
+-- a value of the kind of its key
 abbrev pub IsNodeValue : Option Plain → Type 0
 IsNodeValue None = ⊤
 IsNodeValue (Some (NodeIs n)) = ⊤
@@ -30,7 +30,7 @@ IsRegionValue None = ⊤
 IsRegionValue (Some (NodeIs n)) = ⊥
 IsRegionValue (Some (NamesAre names)) = ⊥
 IsRegionValue (Some (LastIs n)) = ⊥
-IsRegionValue (Some (RegionIs end base entries)) = base ≡ None
+IsRegionValue (Some (RegionIs end base entries)) = ⊤
 
 -- where a region ends, 0 where there is none
 abbrev pub end_now : Option Plain → ℕ

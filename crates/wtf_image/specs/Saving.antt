@@ -41,7 +41,7 @@ region_now r None = None
 region_now r (Some (NodeIs n)) = None
 region_now r (Some (NamesAre names)) = None
 region_now r (Some (LastIs n)) = None
-region_now r (Some (RegionIs end base entries)) = Some (record { number = r; end = end; entries = entries })
+region_now r (Some (RegionIs end base entries)) = Some (record { number = r; end = end; base = base; entries = entries })
 
 -- one more, if there is one
 abbrev pub with_one : {A : Type 0} → List A → Option A → List A

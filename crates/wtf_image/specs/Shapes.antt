@@ -1,18 +1,18 @@
 -- Which rows an image can have: each number has its width, rows ascend and none stands twice, a path keeps the rules of
--- paths, a slice those of slices, and an entry has bytes and lies inside its region.
-use Rattle.std.specs.Prelude.{◌≡◌, ◌<◌, ◌^◌, Bool, true, ◌&&◌, nat_lt, List, [], ◌∷◌, length, ⊤}
+-- paths, a slice those of slices, an entry has bytes and lies inside its region, and so does what is seen of a spilled list.
+use Rattle.std.specs.Prelude.{◌≡◌, ℕ, ◌<◌, ◌≤◌, ◌^◌, Bool, true, ◌&&◌, nat_lt, List, [], ◌∷◌, length, Option, None, Some, ⊤}
 use Rattle.std.specs.List.{AllByRecursion}
 use Rattle.std.specs.Ordering.{is_lt, nat_cmp}
 use Rattle.std.specs.Cmp.Lexicographic.{slice_cmp}
 use Rattle.wtf_base.specs.declared.ids.InodeId.{InodeId}
-use Rattle.wtf_overlay.specs.Shapes.{IsEntry}
+use Rattle.wtf_overlay.specs.Shapes.{IsSlice, IsEntry}
 use Rattle.wtf_path.specs.Grammar.{IsPath}
 use Rattle.wtf_values.specs.Keys.{inode_cmp}
 use Rattle.wtf_values.specs.declared.value.Node.{Node}
 use Rattle.wtf_values.specs.declared.value.Node.TheVariants.{Folder, File}
 use Rattle.wtf_image.specs.declared.records.Header.{Header}
 use Rattle.wtf_image.specs.declared.records.PathRecord.{PathRecord}
-use Rattle.wtf_image.specs.Rows.{RegionRow, FileRow, ImageRows}
+use Rattle.wtf_image.specs.Rows.{BaseRow, RegionRow, FileRow, ImageRows}
 
 -- each comes before the next one
 abbrev pub ascends_from : {A : Type 0} → (A → A → Bool) → A → List A → Bool
@@ -33,9 +33,22 @@ file_before a b = is_lt (inode_cmp a.inode b.inode)
 abbrev pub region_before : RegionRow → RegionRow → Bool
 region_before a b = nat_lt a.number b.number
 
+-- a spilled list of a region that ends there: something of it is seen, and nothing past the end
+pub record IsSpill (end : ℕ) (b : BaseRow) : Type 0 where
+  pub visible : b.visible < 2 ^ 32
+  pub len : b.len < 2 ^ 32
+  pub some : 0 < b.visible
+  pub within : b.visible ≤ end
+  pub slice : IsSlice b.len b.pointers
+
+abbrev pub IsBase : ℕ → Option BaseRow → Type 0
+IsBase end None = ⊤
+IsBase end (Some b) = IsSpill end b
+
 pub record IsRegion (r : RegionRow) : Type 0 where
   pub number : r.number < 2 ^ 16
   pub end : r.end < 2 ^ 32
+  pub base : IsBase r.end r.base
   pub count : length r.entries < 2 ^ 32
   pub entries : AllByRecursion (IsEntry r.end) r.entries
 

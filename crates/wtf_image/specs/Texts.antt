@@ -1,18 +1,27 @@
 -- The bytes of an image: one text for each list of rows. Numbers are big-endian.
-use Rattle.std.specs.Prelude.{ℕ, List, [], ◌∷◌, ◌++◌, length, codes}
+use Rattle.std.specs.Prelude.{ℕ, List, [], ◌∷◌, ◌++◌, length, codes, Option, None, Some}
 use Rattle.std.specs.List.{flat_map}
 use Rattle.std.specs.Int.{w16, w32, w64, to_be_bytes}
 use Rattle.wtf_base.specs.declared.ids.InodeId.{InodeId}
-use Rattle.wtf_overlay.specs.Texts.{entries_text}
+use Rattle.wtf_overlay.specs.Texts.{slice_text, entries_text}
 use Rattle.wtf_values.specs.declared.value.Node.{Node}
 use Rattle.wtf_values.specs.declared.value.Node.TheVariants.{Folder, File}
 use Rattle.wtf_image.specs.declared.records.Header.{Header}
 use Rattle.wtf_image.specs.declared.records.PathRecord.{PathRecord}
-use Rattle.wtf_image.specs.Rows.{RegionRow, FileRow, ImageRows}
+use Rattle.wtf_image.specs.Rows.{BaseRow, RegionRow, FileRow, ImageRows}
 
--- a region: number, end, 0 for no spilled list, and the entries
+-- a spilled list: how far it is seen, the number of its bytes, and the slice with them
+unfoldable pub spill_text : BaseRow → List ℕ
+spill_text b = to_be_bytes w32 b.visible ++ (to_be_bytes w32 b.len ++ slice_text b.pointers)
+
+-- 0 for no spilled list, 1 and the list
+unfoldable pub base_text : Option BaseRow → List ℕ
+base_text None = 0 ∷ []
+base_text (Some b) = 1 ∷ spill_text b
+
+-- a region: number, end, spilled list, and the entries
 unfoldable pub region_text : RegionRow → List ℕ
-region_text r = to_be_bytes w16 r.number ++ (to_be_bytes w32 r.end ++ (0 ∷ entries_text r.entries))
+region_text r = to_be_bytes w16 r.number ++ (to_be_bytes w32 r.end ++ (base_text r.base ++ entries_text r.entries))
 
 unfoldable pub regions_text : List RegionRow → List ℕ
 regions_text rs = to_be_bytes w16 (length rs) ++ flat_map region_text rs

@@ -145,10 +145,6 @@ fn region_of(number: u16, value: &RegionValue) -> Result<RegionRecord, OutOfMemo
     ensures { IfOk result (λ r. Some (region_row r) ≡
         region_now number (Some (plain (values.Region value.now)))) }
 {
-    let list = value.list.share()?;
-    Ok(RegionRecord {
-        number,
-        end: value.end,
-        list,
-    })
+    let value = value.copy()?;
+    Ok(RegionRecord { number, value })
 }

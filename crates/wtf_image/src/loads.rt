@@ -109,7 +109,8 @@ fn try_rules<S: SliceStore>(
 
 /// The metadata of an image, over stores that have as many servers as its settings say. The store is at
 /// the image's number of installs, nothing is pinned, and each key has that number as its version.
-/// Bytes are refused by the first rule that they break, in the order of `LoadError`.
+/// Bytes are refused by the first rule that they break, in the order of `LoadError`. What spilled lists
+/// name is not looked at: no stored byte is read.
 pub fn load<S: SliceStore>(
     alloc: Global,
     bytes: &[u8],

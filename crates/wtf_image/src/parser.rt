@@ -2,13 +2,14 @@
 //! bytes only claim: a vector grows as its records come. What cannot be read is `NotAList`, as in the
 //! lists of its regions: `parse` answers with the errors of a load.
 
-ghost use Rattle.std.specs.Prelude.{◌≡◌, MatchOption};
+ghost use Rattle.std.specs.Prelude.{◌≡◌, Some, IfOk, MatchOption};
 ghost use Rattle.wtf_path.specs.Refusals.{number_of as path_number};
 ghost use Rattle.wtf_spillfmt.specs.Gives.{Gives};
 ghost use Rattle.wtf_overlay.specs.Reading.{many_at, text_at};
-ghost use Rattle.wtf_image.specs.Rows.{region_row, region_rows, file_row, file_rows, rows_of};
+ghost use Rattle.wtf_values.specs.Bases.{IsBelow};
+ghost use Rattle.wtf_image.specs.Rows.{spill_row, base_row, region_row, region_rows, file_row, file_rows, rows_of};
 ghost use Rattle.wtf_image.specs.Texts.{magic};
-ghost use Rattle.wtf_image.specs.Reading.{region_at, inode_at, file_at, node_at, name_at, path_by, path_at, paths_at, files_at, magic_at, header_at, image_of};
+ghost use Rattle.wtf_image.specs.Reading.{spill_at, base_at, region_at, inode_at, file_at, node_at, name_at, path_by, path_at, paths_at, files_at, magic_at, header_at, image_of};
 
 use crate::order::{files_ascend, paths_ascend, regions_ascend};
 use crate::reader::{list_of, u16_at};
@@ -16,8 +17,40 @@ use crate::records::{FileRecord, Header, Image, PathRecord, RegionRecord};
 use std::alloc::Global;
 use wtf_base::{InodeId, TxId};
 use wtf_path::{Path, PathError};
-use wtf_spillfmt::{ListError, u8_at, u32_at, u64_at};
-use wtf_values::Node;
+use wtf_spillfmt::{ListError, slice_of, u8_at, u32_at, u64_at};
+use wtf_values::{Node, RegionValue, Spill};
+
+/// The spilled list of a region that ends at `end`: something of it is seen, and nothing past the end.
+#[tactic(auto, unfolding(crate::specs::Reading::spill_at))]
+fn spill_of(end: u32, bytes: &[u8]) -> Result<(Spill, &[u8]), ListError>
+    ensures value { Gives (λ x. (spill_row x.0, x.1.now)) result (spill_at end bytes.now) }
+    ensures below { IfOk result (λ x. IsBelow end (Some x.0)) }
+{
+    let (visible, rest) = u32_at(bytes)?;
+    let (len, rest) = u32_at(rest)?;
+    let (slice, rest) = slice_of(len, rest)?;
+    if visible == 0 || visible > end {
+        return Err(ListError::NotAList);
+    }
+    Ok((Spill { slice, visible }, rest))
+}
+
+/// The spilled list of a region that ends at `end`, if it has one.
+#[tactic(auto, unfolding(crate::specs::Reading::base_at))]
+fn base_of(end: u32, bytes: &[u8]) -> Result<(Option<Spill>, &[u8]), ListError>
+    ensures value { Gives (λ x. (base_row x.0, x.1.now)) result (base_at end bytes.now) }
+    ensures below { IfOk result (λ x. IsBelow end x.0) }
+{
+    let (kind, rest) = u8_at(bytes)?;
+    match kind {
+        0 => Ok((None, rest)),
+        1 => {
+            let (spill, rest) = spill_of(end, rest)?;
+            Ok((Some(spill), rest))
+        }
+        _ => Err(ListError::NotAList),
+    }
+}
 
 #[tactic(auto, unfolding(crate::specs::Reading::region_at))]
 fn region_of(alloc: Global, bytes: &[u8]) -> Result<(RegionRecord, &[u8]), ListError>
@@ -25,13 +58,11 @@ fn region_of(alloc: Global, bytes: &[u8]) -> Result<(RegionRecord, &[u8]), ListE
 {
     let (number, rest) = u16_at(bytes)?;
     let (end, rest) = u32_at(rest)?;
-    let (base, rest) = u8_at(rest)?;
-    if base != 0 {
-        return Err(ListError::NotAList);
-    }
+    let (base, rest) = base_of(end, rest)?;
     let (count, rest) = u32_at(rest)?;
     let (list, rest) = list_of(alloc, end, count, rest)?;
-    Ok((RegionRecord { number, end, list }, rest))
+    let value = RegionValue { end, base, list };
+    Ok((RegionRecord { number, value }, rest))
 }
 
 fn regions_of(

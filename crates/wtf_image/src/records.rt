@@ -1,11 +1,8 @@
 //! What an image holds, record by record.
 
-ghost use Rattle.wtf_overlay.specs.Clips.{Within};
-
 use wtf_base::InodeId;
-use wtf_overlay::Overlay;
 use wtf_path::Path;
-use wtf_values::Node;
+use wtf_values::{Node, RegionValue};
 
 /// The settings as they stand in the image, and its two numbers.
 #[derive(Clone, Copy)]
@@ -27,13 +24,11 @@ pub(crate) struct PathRecord {
     pub(crate) node: Node,
 }
 
-/// A region of a file, by its number: where it ends, and its entries, none of which passes the end.
+/// A region of a file, by its number.
 #[derive(Drop)]
 pub(crate) struct RegionRecord {
     pub(crate) number: u16,
-    pub(crate) end: u32,
-    pub(crate) list: Overlay,
-    pub ghost within: { Within end list },
+    pub(crate) value: RegionValue,
 }
 
 /// A file: its inode, the number of its last region, and its regions.

@@ -1,6 +1,6 @@
 //! The keys of a store, given their first values.
 
-ghost use Rattle.std.specs.Prelude.{◌≡◌, ℕ, List, [], true, OnOk, IfOk};
+ghost use Rattle.std.specs.Prelude.{◌≡◌, ℕ, List, [], true, OnOk};
 ghost use Rattle.std.specs.List.{flat_map};
 ghost use Rattle.wtf_kv.specs.Stores.{versions_of};
 ghost use Rattle.wtf_values.specs.Keys.{key_cmp};
@@ -14,7 +14,7 @@ use crate::records::{FileRecord, PathRecord, RegionRecord};
 use std::alloc::Global;
 use wtf_base::{InodeId, OutOfMemory};
 use wtf_kv::Kv;
-use wtf_values::{Key, RegionValue, Value};
+use wtf_values::{Key, Value};
 
 /// What stands at each path.
 pub(crate) fn seed_paths(
@@ -104,21 +104,7 @@ fn seed_region(
     requires fresh { versions_of key_cmp kv.old (keys.Region inode region.now.number) ≡ [] }
     ensures { OnOk result (Adds kv.old kv.new (region_seed inode (region_row region.now))) }
 {
-    let value = value_of(region)?;
+    let value = region.value.copy()?;
     kv.seed(Key::Region(inode, region.number), Value::Region(value))?;
     Ok(())
-}
-
-/// The value of a region, which shares the entries.
-fn value_of(region: &RegionRecord) -> Result<RegionValue, OutOfMemory>
-    ensures end { IfOk result (λ v. v.end ≡ region.now.end) }
-    ensures base { IfOk result (λ v. v.base ≡ None) }
-    ensures list { IfOk result (λ v. v.list ≡ region.now.list) }
-{
-    let list = region.list.share()?;
-    Ok(RegionValue {
-        end: region.end,
-        base: None,
-        list,
-    })
 }

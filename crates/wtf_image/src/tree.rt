@@ -189,7 +189,7 @@ fn are_good_regions(region: u32, last: u16, regions: &[RegionRecord]) -> bool
     ensures { result ≡ list_all (is_good_region region last) (region_rows regions.now) }
 {
     for r in regions {
-        if r.number > last || r.end > region {
+        if r.number > last || r.value.end > region {
             return false;
         }
     }
@@ -201,7 +201,7 @@ fn has_last(last: u16, regions: &[RegionRecord]) -> bool
     ensures { result ≡ list_any (is_last last) (region_rows regions.now) }
 {
     for r in regions {
-        if r.number == last && r.end > 0 {
+        if r.number == last && r.value.end > 0 {
             return true;
         }
     }

@@ -1,23 +1,24 @@
 //! The text of an image, record by record. What was written has the widths of its fields; where a
 //! count is too great for its width, it is refused as want of memory.
 
-ghost use Rattle.std.specs.Prelude.{◌≡◌, ◌<◌, ◌^◌, OnOk, IfOk};
+ghost use Rattle.std.specs.Prelude.{◌≡◌, ◌<◌, ◌^◌, Some, OnOk, IfOk};
 ghost use Rattle.std.specs.Int.{w16, to_be_bytes};
 ghost use Rattle.wtf_overlay.specs.Clips.{Within};
 ghost use Rattle.wtf_overlay.specs.Texts.{entries_text};
 ghost use Rattle.wtf_overlay.specs.Shapes.{AreEntries};
 ghost use Rattle.wtf_spillfmt.specs.Writing.{Writes};
-ghost use Rattle.wtf_image.specs.Rows.{entry_rows, region_row, region_rows, file_row, file_rows, rows_of};
-ghost use Rattle.wtf_image.specs.Texts.{region_text, regions_text, inode_text, file_text, files_text, node_text, name_text, path_text, paths_text, header_text, image_text};
-ghost use Rattle.wtf_image.specs.Shapes.{IsRegion, IsInode, IsNode, IsPathRow, IsHeader};
+ghost use Rattle.wtf_values.specs.Bases.{IsBelow};
+ghost use Rattle.wtf_image.specs.Rows.{entry_rows, spill_row, base_row, region_row, region_rows, file_row, file_rows, rows_of};
+ghost use Rattle.wtf_image.specs.Texts.{spill_text, base_text, region_text, regions_text, inode_text, file_text, files_text, node_text, name_text, path_text, paths_text, header_text, image_text};
+ghost use Rattle.wtf_image.specs.Shapes.{IsSpill, IsBase, IsRegion, IsInode, IsNode, IsPathRow, IsHeader};
 ghost use Rattle.wtf_image.specs.Writing.{AreRegions, IsWideFile, AreWideFiles, AreWidePaths, IsWide};
 
 use crate::records::{FileRecord, Header, Image, PathRecord, RegionRecord};
 use std::alloc::Global;
 use wtf_base::{InodeId, OutOfMemory};
 use wtf_overlay::Overlay;
-use wtf_spillfmt::{put_entries, put_u32};
-use wtf_values::Node;
+use wtf_spillfmt::{put_entries, put_slice, put_u32};
+use wtf_values::{Node, Spill};
 
 /// A number of things, in two bytes.
 fn put_u16(out: &mut Vec<u8>, count: usize) -> Result<(), OutOfMemory>
@@ -41,15 +42,48 @@ fn put_list(out: &mut Vec<u8>, end: u32, list: &Overlay) -> Result<(), OutOfMemo
     Ok(())
 }
 
+#[tactic(auto, unfolding(crate::specs::Texts::spill_text))]
+fn put_spill(out: &mut Vec<u8>, end: u32, spill: Spill) -> Result<(), OutOfMemory>
+    requires { IsBelow end (Some spill) }
+    ensures { OnOk result (Writes out.old.items out.new.items (spill_text (spill_row spill))
+        (IsSpill end (spill_row spill))) }
+{
+    out.extend_from_slice(&spill.visible.to_be_bytes())?;
+    out.extend_from_slice(&spill.slice.len().to_be_bytes())?;
+    put_slice(out, &spill.slice)?;
+    Ok(())
+}
+
+/// The spilled list of a region that ends at `end`, if it has one.
+#[tactic(auto, unfolding(crate::specs::Texts::base_text))]
+fn put_base(out: &mut Vec<u8>, end: u32, base: Option<Spill>) -> Result<(), OutOfMemory>
+    requires { IsBelow end base }
+    ensures { OnOk result (Writes out.old.items out.new.items (base_text (base_row base))
+        (IsBase end (base_row base))) }
+{
+    match base {
+        None => {
+            out.push(0)?;
+            return Ok(());
+        }
+        Some(spill) => {
+            out.push(1)?;
+            put_spill(out, end, spill)?;
+            return Ok(());
+        }
+    }
+}
+
 #[tactic(auto, unfolding(crate::specs::Texts::region_text))]
 fn put_region(out: &mut Vec<u8>, region: &RegionRecord) -> Result<(), OutOfMemory>
     ensures { OnOk result (Writes out.old.items out.new.items (region_text (region_row region.now))
         (IsRegion (region_row region.now))) }
 {
+    let value = &region.value;
     out.extend_from_slice(&region.number.to_be_bytes())?;
-    out.extend_from_slice(&region.end.to_be_bytes())?;
-    out.push(0)?;
-    put_list(out, region.end, &region.list)?;
+    out.extend_from_slice(&value.end.to_be_bytes())?;
+    put_base(out, value.end, value.base)?;
+    put_list(out, value.end, &value.list)?;
     Ok(())
 }
 
