@@ -1,11 +1,12 @@
 -- Why a fault was answered, and what a line added to the stores.
-use Rattle.std.proofs.Common.{◌≡◌, ◌⊎◌, ℕ, ◌+◌, ◌<◌, ◌≤◌, List, [], ◌∷◌, length, Option, None, Some, refl, sym, ap, ◌∙◌, subst, inl, inr, arith}
+use Rattle.std.proofs.Common.{◌≡◌, ◌⊎◌, ℕ, ◌+◌, ◌<◌, List, [], ◌∷◌, length, Option, None, Some, refl, sym, ap, ◌∙◌, subst, inl, inr, arith}
 use Rattle.std.specs.Prelude.{IsSome, Bool, true, nat_lt, ◌-◌}
 use Rattle.std.proofs.lemmas.Bool.{cases_lt, cond-true, cond-false, lt-ltb, le-ltb}
 use Rattle.std.proofs.lemmas.List.Elements.{All-head, All-tail}
 use Rattle.wtf_overlay.specs.declared.part.Piece.{Piece}
 use Rattle.wtf_overlay.specs.Origin.{Place, part_origin, pieces_origin}
 use Rattle.wtf_slicing.specs.Shown.{LacksSlice}
+use Rattle.wtf_slicing.specs.Ops.{IsYankFault, IsConcatFault}
 use Rattle.wtf_base.specs.declared.fault.Fault.{Fault}
 use Rattle.wtf_base.specs.declared.fault.Fault.TheVariants as fault
 use Rattle.wtf_base.specs.declared.kept.Kept.{Kept}
@@ -27,30 +28,31 @@ use Rattle.wtf_model.specs.declared.op.Op.{Op}
 use Rattle.wtf_model.specs.declared.op.Op.TheVariants as op
 use Rattle.wtf_model.specs.Steps.{IsLogged}
 use Rattle.wtf_meta.specs.declared.session.Handle.{Handle}
-use Rattle.wtf_meta.specs.Bytes.{PartBytes, PiecesBytes, MapBytes}
+use Rattle.wtf_meta.specs.Bytes.{PartBytes, PiecesBytes, MapBytes, any_slice}
 use Rattle.wtf_meta.specs.Maps.{Map}
 use Rattle.wtf_meta.specs.Sessions.{SessionView, SessionBytes, handle_in, slice_in}
-use Rattle.wtf_meta.proofs.Named.{file_origin_bytes}
+use Rattle.wtf_meta.proofs.Named.{plans_bytes, file_bytes}
 use Rattle.wtf_region.specs.declared.dev.Dev.{Dev}
-use Rattle.wtf_region.specs.Devs.{stores, between, place_in}
-use Rattle.wtf_region.specs.Inside.{is_inside}
+use Rattle.wtf_region.specs.Devs.{IsSoundDev, stores, inside_of, between, place_in}
 use Rattle.wtf_region.specs.Showing.{OnlyRead}
+use Rattle.wtf_region.proofs.ListReads.{file_later}
 use Rattle.wtf_region.proofs.ShowLaws.{reads_nothing}
 use Rattle.wtf_rw.specs.Ops.{OwnBy}
-use Rattle.wtf_rw.specs.Recorded.{found_in}
-use Rattle.wtf_rw.specs.Reads.{read_origin}
-use Rattle.wtf_rw.specs.Steps.{IsRefusal}
+use Rattle.wtf_steps.specs.Faults.{ShowPlaces}
+use Rattle.wtf_steps.specs.Recorded.{found_in}
+use Rattle.wtf_steps.specs.Steps.{IsRefusal}
 use Rattle.wtf_meta.specs.FileEdits.{file_of}
 use Rattle.wtf_rw.specs.Stored.{SliceBytes, IsPutFault, end_place}
 use Rattle.wtf_replay.specs.Causes.{StoresNothing, IsOwnOf, IsReadCause, IsPeekCause, IsCallFault, IsAgainFault, fault_answer}
 use Rattle.wtf_replay.specs.Keeps.{LacksData}
-use Rattle.wtf_clients.specs.Named.{has_copies}
+use Rattle.wtf_clients.specs.Named.{any_byte, no_slice, has_copies}
 use Rattle.wtf_replica.specs.Copies.{IsStored}
 use Rattle.wtf_clients.specs.Asked.{Asked, IsPlaced, IsCallPlace, HasFailed}
 use Rattle.wtf_clients.specs.Outcomes.{AddsBytes, HasCause, data_of_op}
 use Rattle.wtf_clients.proofs.Staying.{IsFault, fault_is}
 use Rattle.wtf_clients.specs.Serves.{IsPlain}
-use Rattle.wtf_clients.proofs.Unread.{lacks_unread, slice_copies}
+use Rattle.wtf_clients.proofs.Unread.{slice_copies}
+use Rattle.wtf_clients.proofs.Lacking.{memory_none, cause_since, file_caused, shown_caused, read_caused}
 
 -- the answers of calls are no faults
 pub logged_plain : (a : Answer) → IsLogged a → IsPlain a
@@ -91,13 +93,13 @@ fault_placed kind t settings asked why a is ok some = absurd (subst IsFault ok (
 
 module _ {S : Type 0} (kind : StoreKind S) (t : Span S) (settings : Settings) where
   -- needs no cause
-  pub plain_caused : (saving full : Type 0) (given : List ℕ) (a : Answer) → IsPlain a → HasCause kind t settings saving full given a
-  plain_caused saving full given (answer.FaultRead k) h = absurd h
-  plain_caused saving full given answer.FaultWrite h = absurd h
-  plain_caused saving full given (answer.FaultPunch k) h = absurd h
-  plain_caused saving full given answer.FaultSave h = absurd h
-  plain_caused saving full given (answer.Damaged k) h = absurd h
-  plain_caused saving full given a h = tt
+  pub plain_caused : (saving bare full : Type 0) (given : List ℕ) (a : Answer) → IsPlain a → HasCause kind t settings saving bare full given a
+  plain_caused saving bare full given (answer.FaultRead k) h = absurd h
+  plain_caused saving bare full given answer.FaultWrite h = absurd h
+  plain_caused saving bare full given (answer.FaultPunch k) h = absurd h
+  plain_caused saving bare full given answer.FaultSave h = absurd h
+  plain_caused saving bare full given (answer.Damaged k) h = absurd h
+  plain_caused saving bare full given a h = tt
 
   -- a line that stores nothing
   pub none_added : (a : Answer) → SameLengths kind t.before t.after → AddsBytes kind t settings [] a
@@ -108,10 +110,6 @@ module _ {S : Type 0} (kind : StoreKind S) (t : Span S) (settings : Settings) wh
   refused_adds [] (answer.Refused w) r h = h
   refused_adds (b ∷ bs) (answer.Refused w) r h = h
   refused_adds given a r h = absurd r
-
--- want of memory is answered by no fault
-pub memory_none : (why : Fault) (a : Answer) → fault_answer why ≡ Some a → why ≡ fault.Memory → ⊥
-memory_none why a is memory = let e : None ≡ Some a = sym (ap fault_answer memory) ∙ is in cc
 
 -- a slice has a byte
 some_len : (n : ℕ) (e : Extents) → IsSound n e → 0 < n
@@ -196,10 +194,11 @@ module _ {S : Type 0} (kind : StoreKind S) (old new : Dev S) where
   put_fault (b ∷ bs) (fault.Damaged k) a is (inr few) = absurd few
   put_fault (b ∷ bs) fault.Memory a is (inr few) = absurd few
 
-  put_caused : (full : Type 0) (bytes : List ℕ) (why : Fault) (a : Answer) → fault_answer why ≡ Some a → IsPutFault kind old new bytes why → HasCause kind (between old new) old.settings ⊥ full bytes a
-  put_caused full bytes why a is h =
+  put_caused : (bare full : Type 0) (bytes : List ℕ) (why : Fault) (a : Answer) → fault_answer why ≡ Some a → IsPutFault kind old new bytes why → HasCause
+      kind (between old new) old.settings ⊥ bare full bytes a
+  put_caused bare full bytes why a is h =
       let cause = put_fault bytes why a is h in
-      subst (λ (r : Answer). HasCause kind (between old new) old.settings ⊥ full bytes r) (sym cause.0) (cause.1, cause.2)
+      subst (λ (r : Answer). HasCause kind (between old new) old.settings ⊥ bare full bytes r) (sym cause.0) (cause.1, cause.2)
 
   put_adds : (bytes : List ℕ) (why : Fault) (a : Answer) → fault_answer why ≡ Some a → IsPutFault kind old new bytes why → AddsBytes kind (between old new) old.settings bytes a
   put_adds bytes why a is h = by bytes (put_fault bytes why a is h)
@@ -215,9 +214,9 @@ module _ {S : Type 0} (kind : StoreKind S) (old new : Dev S) where
   fault_adds w s (op.Append f bytes) why a is h reads = put_adds bytes why a is h
   fault_adds w s o why a is h reads = none_added kind (between old new) old.settings a (reads tt).lengths
 
--- P holds of the bytes of a map, and of those of the slices in hand
-abbrev pub SeenBytes : (List Place → Bool) → Map → SessionView → Type 0
-SeenBytes P w s = MapBytes P w × SessionBytes P s
+-- P holds of the bytes of a map, and of those of the slices in hand; and Q of the slices of bases
+abbrev pub SeenBytes : (List Place → Bool) → (Slice → Bool) → Map → SessionView → Type 0
+SeenBytes P Q w s = MapBytes P Q w × SessionBytes P s
 
 -- and so of each byte of a slice, and of what lies past it
 piece_bytes : (P : List Place → Bool) → P [] ≡ true → (ps : List Piece) (i : ℕ) → PiecesBytes P ps → P (pieces_origin ps i) ≡ true
@@ -227,50 +226,70 @@ piece_bytes P hole (p ∷ ps) i h = elim (cases_lt i p.len) [
   | inr g ↦ ap P (cond-false (nat_lt i p.len) (part_origin p.part i) (pieces_origin ps (i - p.len)) (le-ltb i p.len g)) ∙ piece_bytes P hole ps (i - p.len) (All-tail (λ (q : Piece). PartBytes P q.len q.part) p ps h)
 ]
 
--- why bytes were not read, where each byte of the map and of the slices in hand lies inside the stores
-module _ {S : Type 0} {kind : StoreKind S} (laws : KindLaws kind) (shelf : List S) (settings : Settings) (enough : settings.servers ≤ length shelf) (old new : Dev S) (w : Map) (s : SessionView) (full : Type 0)
-    (inside : SeenBytes (is_inside kind shelf settings) w s) (copies : full → SeenBytes (has_copies settings.replicas) w s) where
-  pub read_caused : (f n : ℕ) (given : List ℕ) (why : Fault) (a : Answer) → fault_answer why ≡ Some a → IsReadCause kind old new w (handle_in s f) n why → HasCause kind (between old new) settings ⊥ full given a
-  read_caused f n given why a is (inl memory) = absurd (memory_none why a is memory)
-  read_caused f n given (fault.Read k) a is (inr (h, there, lacks)) =
-      subst (λ (r : Answer). HasCause kind (between old new) settings ⊥ full given r) (let e : answer.FaultRead k.0 ≡ a = cc in e)
-      (lacks_unread laws shelf settings old new (found_in old.settings.region w h n) (read_origin old.settings.region w h) full k enough
-      (λ i below. file_origin_bytes (is_inside kind shelf settings) refl old.settings.region h.inode w (h.off + i) inside.0)
-      (λ whole i below. file_origin_bytes (has_copies settings.replicas) refl old.settings.region h.inode w (h.off + i) (copies whole).0) lacks)
-  read_caused f n given fault.Write a is (inr (h, there, lacks)) = absurd lacks.fault
-  read_caused f n given (fault.Punch k) a is (inr (h, there, lacks)) = absurd lacks.fault
-  read_caused f n given (fault.Damaged k) a is (inr (h, there, lacks)) = absurd lacks.fault
-  read_caused f n given fault.Memory a is (inr (h, there, lacks)) = absurd (memory_none fault.Memory a is refl)
+-- why bytes or lists were not read, where each byte of the map and of the slices in hand lies inside the stores
+module _ {S : Type 0} {kind : StoreKind S} (laws : KindLaws kind) (old new : Dev S) (sound : IsSoundDev kind old) (w : Map) (s : SessionView)
+    (bare full : Type 0)
+    (inside : SeenBytes (inside_of kind old) any_slice w s) (none : bare → SeenBytes any_byte no_slice w s)
+    (copies : full → SeenBytes (has_copies old.settings.replicas) no_slice w s) where
+  abbrev Caused : Answer → Type 0
+  Caused a = HasCause kind (between old new) old.settings ⊥ bare full [] a
 
-  peek_by : (label off n : ℕ) (why : Fault) (a : Answer) (o : Option (List Piece)) → slice_in s label ≡ o → fault_answer why ≡ Some a → LacksSlice kind old new o off n why → HasCause kind (between old new) settings ⊥ full [] a
-  peek_by label off n why a None there is h = absurd h
-  peek_by label off n why a (Some ps) there is (inl memory) = absurd (memory_none why a is memory)
-  peek_by label off n (fault.Read k) a (Some ps) there is (inr lacks) =
-      subst (λ (r : Answer). HasCause kind (between old new) settings ⊥ full [] r) (let e : answer.FaultRead k.0 ≡ a = cc in e)
-      (lacks_unread laws shelf settings old new n (λ i. pieces_origin ps (off + i)) full k enough
-      (λ i below. piece_bytes (is_inside kind shelf settings) refl ps (off + i) (inside.1 label ps there))
-      (λ whole i below. piece_bytes (has_copies settings.replicas) refl ps (off + i) ((copies whole).1 label ps there)) lacks)
-  peek_by label off n fault.Write a (Some ps) there is (inr lacks) = absurd lacks.fault
-  peek_by label off n (fault.Punch k) a (Some ps) there is (inr lacks) = absurd lacks.fault
-  peek_by label off n (fault.Damaged k) a (Some ps) there is (inr lacks) = absurd lacks.fault
-  peek_by label off n fault.Memory a (Some ps) there is (inr lacks) = absurd (memory_none fault.Memory a is refl)
+  read_by : (handle : Option Handle) (n : ℕ) (why : Fault) (a : Answer) → fault_answer why ≡ Some a → IsReadCause kind old new w handle n why → Caused a
+  read_by handle n why a is (inl memory) = absurd (memory_none why a is memory)
+  read_by handle n why a is (inr (h, there, lacks)) =
+      read_caused laws old new sound bare full why a is (file_of h.inode w) h.off (found_in old.settings.region w h n) any_byte
+      (file_bytes (inside_of kind old) any_slice h.inode w inside.0)
+      (λ c. file_bytes any_byte no_slice h.inode w (none c).0)
+      (λ c. file_bytes (has_copies old.settings.replicas) no_slice h.inode w (copies c).0) lacks
 
-  pub peek_caused : (label off n : ℕ) (why : Fault) (a : Answer) → fault_answer why ≡ Some a → IsPeekCause kind old new (slice_in s label) off n why → HasCause kind (between old new) settings ⊥ full [] a
-  peek_caused label off n why a is (inl memory) = absurd (memory_none why a is memory)
-  peek_caused label off n why a is (inr h) = peek_by label off n why a (slice_in s label) refl is h
+  yank_by : (handle : Option Handle) (n : ℕ) (why : Fault) (a : Answer) → fault_answer why ≡ Some a → IsYankFault kind old new w handle n why → Caused a
+  yank_by handle n why a is (inl memory) = absurd (memory_none why a is memory)
+  yank_by handle n why a is (inr (h, there, lacks)) =
+      file_caused laws old new sound bare full why a is (file_of h.inode w) h.off (found_in old.settings.region w h n) any_byte
+      (has_copies old.settings.replicas)
+      (file_bytes (inside_of kind old) any_slice h.inode w inside.0)
+      (λ c. file_bytes any_byte no_slice h.inode w (none c).0)
+      (λ c. file_bytes (has_copies old.settings.replicas) no_slice h.inode w (copies c).0) lacks
+
+  slice_by : (o : Option (List Piece)) (off n : ℕ) (why : Fault) (a : Answer) → (full → (ps : List Piece) → o ≡ Some ps → PiecesBytes
+      (has_copies old.settings.replicas) ps) → fault_answer why ≡ Some a → LacksSlice kind old new o off n why
+      → Caused a
+  slice_by None off n why a whole is h = absurd h
+  slice_by (Some ps) off n why a whole is (inl memory) = absurd (memory_none why a is memory)
+  slice_by (Some ps) off n why a whole is (inr lacks) =
+      shown_caused laws old new sound bare full why a is n (ShowPlaces n (λ i. pieces_origin ps (off + i)))
+      (λ c qs plans. plans_bytes (has_copies old.settings.replicas) qs n (λ i. pieces_origin ps (off + i)) plans
+      (λ i below. piece_bytes (has_copies old.settings.replicas) refl ps (off + i) (whole c ps refl))) lacks
+
+  peek_by : (label off n : ℕ) (why : Fault) (a : Answer) → fault_answer why ≡ Some a → IsPeekCause kind old new (slice_in s label) off n why → Caused a
+  peek_by label off n why a is (inl memory) = absurd (memory_none why a is memory)
+  peek_by label off n why a is (inr h) = slice_by (slice_in s label) off n why a (λ c ps there. (copies c).1 label ps there) is h
+
+  concat_by : (paths : List (List ℕ)) (why : Fault) (a : Answer) → fault_answer why ≡ Some a → IsConcatFault kind old new w paths why → Caused a
+  concat_by paths why a is (inl memory) = absurd (memory_none why a is memory)
+  concat_by paths why a is (inr (files, sources, lacks)) =
+      cause_since laws old lacks.mid new bare full a lacks.goes
+      (file_caused laws lacks.mid new lacks.goes.sound bare full why a is (file_of lacks.inode w) 0 _ any_byte (has_copies old.settings.replicas)
+      (file_later laws sound lacks.goes (file_of lacks.inode w) (file_bytes (inside_of kind old) any_slice lacks.inode w inside.0))
+      (λ c. file_bytes any_byte no_slice lacks.inode w (none c).0)
+      (λ c. file_bytes (has_copies old.settings.replicas) no_slice lacks.inode w (copies c).0) lacks.cause)
 
   -- why a call failed that was made once more
-  pub again_caused : (k : Op Kept) (why : Fault) (a : Answer) → fault_answer why ≡ Some a → IsAgainFault kind old new w s k why → HasCause kind (between old new) settings ⊥ full [] a
-  again_caused (op.Read f n) why a is h = read_caused f n [] why a is h
-  again_caused (op.Peek label off n) why a is h = peek_caused label off n why a is h
+  pub again_caused : (k : Op Kept) (why : Fault) (a : Answer) → fault_answer why ≡ Some a → IsAgainFault kind old new w s k why → HasCause kind
+      (between old new) old.settings ⊥ bare full [] a
+  again_caused (op.Read f n) why a is h = read_by (handle_in s f) n why a is h
+  again_caused (op.Yank f n label) why a is h = yank_by (handle_in s f) n why a is h
+  again_caused (op.Peek label off n) why a is h = peek_by label off n why a is h
+  again_caused (op.Concat q paths) why a is h = concat_by paths why a is h
   again_caused k why a is h = absurd (memory_none why a is h)
 
--- or for the first time
-pub call_caused : {S : Type 0} {kind : StoreKind S} → KindLaws kind → (old new : Dev S) → old.settings.servers ≤ length (stores old) → (w : Map) (s : SessionView) (full : Type 0)
-    → SeenBytes (is_inside kind (stores old) old.settings) w s → (full → SeenBytes (has_copies old.settings.replicas) w s)
-    → (o : Op (List ℕ)) (why : Fault) (a : Answer) → fault_answer why ≡ Some a → IsCallFault kind old new w s o why → HasCause kind (between old new) old.settings ⊥ full (data_of_op o) a
-call_caused {kind = kind} laws old new enough w s full inside copies (op.Write f bytes) why a is h = put_caused kind old new full bytes why a is h
-call_caused {kind = kind} laws old new enough w s full inside copies (op.Append f bytes) why a is h = put_caused kind old new full bytes why a is h
-call_caused {kind = kind} laws old new enough w s full inside copies (op.Read f n) why a is h = read_caused laws (stores old) old.settings enough old new w s full inside copies f n [] why a is h
-call_caused {kind = kind} laws old new enough w s full inside copies (op.Peek label off n) why a is h = peek_caused laws (stores old) old.settings enough old new w s full inside copies label off n why a is h
-call_caused {kind = kind} laws old new enough w s full inside copies o why a is h = absurd (memory_none why a is h)
+  -- or for the first time
+  pub call_caused : (o : Op (List ℕ)) (why : Fault) (a : Answer) → fault_answer why ≡ Some a → IsCallFault kind old new w s o why → HasCause kind
+      (between old new) old.settings ⊥ bare full (data_of_op o) a
+  call_caused (op.Write f bytes) why a is h = put_caused kind old new bare full bytes why a is h
+  call_caused (op.Append f bytes) why a is h = put_caused kind old new bare full bytes why a is h
+  call_caused (op.Read f n) why a is h = read_by (handle_in s f) n why a is h
+  call_caused (op.Yank f n label) why a is h = yank_by (handle_in s f) n why a is h
+  call_caused (op.Peek label off n) why a is h = peek_by label off n why a is h
+  call_caused (op.Concat q paths) why a is h = concat_by paths why a is h
+  call_caused o why a is h = absurd (memory_none why a is h)

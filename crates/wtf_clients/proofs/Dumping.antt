@@ -7,7 +7,7 @@ use Rattle.std.proofs.lemmas.Grind.{same_number_lists}
 use Rattle.wtf_base.specs.declared.fault.Fault.{Fault}
 use Rattle.wtf_base.specs.declared.fault.Fault.TheVariants as fault
 use Rattle.wtf_base.specs.declared.ids.InodeId.{InodeId}
-use Rattle.wtf_base.specs.declared.ids.ServerId.{ServerId}
+use Rattle.wtf_base.specs.declared.settings.Settings.{Settings}
 use Rattle.wtf_dev.specs.Store.{StoreKind, KindLaws}
 use Rattle.wtf_overlay.specs.Origin.{Place, Plans, pieces_origin}
 use Rattle.wtf_overlay.specs.declared.part.Piece.{Piece}
@@ -23,29 +23,29 @@ use Rattle.wtf_values.specs.declared.key.Key.TheVariants.{Path}
 use Rattle.wtf_values.specs.declared.value.Node.TheVariants.{Folder, File as FileNode}
 use Rattle.wtf_values.specs.declared.value.Value.{Value}
 use Rattle.wtf_values.specs.declared.value.Value.TheVariants as value
-use Rattle.wtf_meta.specs.Bytes.{MapBytes, PiecesBytes}
-use Rattle.wtf_meta.specs.Contents.{Told, HasBytes}
+use Rattle.wtf_meta.specs.Bytes.{MapBytes, any_slice}
+use Rattle.wtf_meta.specs.Contents.{Told, HasBytes, lists_in}
 use Rattle.wtf_meta.specs.Files.{FileView, IsFile, file_len, file_origin}
 use Rattle.wtf_meta.specs.FileEdits.{file_of}
 use Rattle.wtf_meta.specs.Maps.{Map}
 use Rattle.wtf_meta.specs.NameEdits.{node_of}
 use Rattle.wtf_meta.specs.Trees.{NodeAt, IsBody, Stands}
-use Rattle.wtf_meta.proofs.Named.{plans_bytes, file_origin_bytes}
+use Rattle.wtf_meta.proofs.Named.{file_bytes}
 use Rattle.wtf_index.specs.Checks.{stands_at}
 use Rattle.wtf_region.specs.declared.dev.Dev.{Dev}
-use Rattle.wtf_region.specs.Devs.{stores, between}
-use Rattle.wtf_region.specs.Inside.{is_inside}
+use Rattle.wtf_region.specs.Cached.{Remembered}
+use Rattle.wtf_region.specs.Devs.{IsSoundDev, stores, inside_of, between}
 use Rattle.wtf_region.specs.Showing.{Shown}
-use Rattle.wtf_rw.proofs.FaultWays.{some_byte, lacks_known}
-use Rattle.wtf_rw.proofs.FileWays.{file_len_cap}
-use Rattle.wtf_rw.proofs.ReadWays.{shown_len}
+use Rattle.wtf_steps.specs.Faults.{LacksBytes, ShowFile}
+use Rattle.wtf_steps.proofs.FaultWays.{IsOfServers, some_byte, lacks_known, file_fault_known}
+use Rattle.wtf_steps.proofs.FileWays.{file_len_cap}
+use Rattle.wtf_rw.specs.Reads.{LacksRead}
 use Rattle.wtf_replay.specs.Causes.{fault_answer}
-use Rattle.wtf_clients.specs.Dumped.{file_answer, IsDumpAnswer, IsDumped, LacksDump}
-use Rattle.wtf_clients.specs.Named.{has_copies}
+use Rattle.wtf_clients.specs.Dumped.{file_answer, IsDumpAnswer, IsShownFile, IsDumped, LacksDump}
+use Rattle.wtf_clients.specs.Named.{any_byte, no_slice, has_copies}
 use Rattle.wtf_clients.specs.Outcomes.{HasCause}
 use Rattle.wtf_clients.specs.Serves.{IsPlain}
-use Rattle.wtf_clients.proofs.Unread.{lacks_unread}
-use Rattle.wtf_clients.proofs.Caused.{memory_none}
+use Rattle.wtf_clients.proofs.Lacking.{memory_none, read_caused}
 
 -- a file's places from its begin on
 pub plans_whole : (ps : List Piece) (n : ℕ) (f : ℕ → List Place) → Plans ps n (λ i. f (0 + i)) → Plans ps n f
@@ -53,11 +53,11 @@ plans_whole ps n f plans = record { len = plans.len; origin = λ i below. plans.
 
 -- the bytes that were shown are the file's
 pub shows_file : (told : Told) (z : ℕ) (v : FileView) (ps : List Piece) (n : ℕ) (bytes out : List ℕ) → n ≡ min (file_len z v) (MAX_REGIONS * z) → file_len z v ≤ MAX_DUMPED → IsFile z v → HasBytes told z v bytes
-    → Plans ps n (file_origin z v) → Shown told n (λ i. pieces_origin ps (0 + i)) [] out → answer.Shown out ≡ file_answer bytes
+    → Plans ps n (file_origin z (lists_in z told) v) → Shown told n (λ i. pieces_origin ps (0 + i)) [] out → answer.Shown out ≡ file_answer bytes
 shows_file told z v ps n bytes out is short file has plans shown =
     let cap = file_len_cap z v file in
     let len = has.len in
-    let whole : length out ≡ n = shown_len shown in
+    let whole : length out ≡ n = ap length shown.more ∙ shown.are.len in
     let same : out ≡ bytes = same_number_lists out bytes (omega (arith, whole, is, cap, len)) (λ i below.
     let within : i < n = omega (arith, below, whole) in
     let there : meaning told (pieces_origin ps (0 + i)) ≡ Some (get_or bytes i 0) =
@@ -124,66 +124,87 @@ file_whole : (bytes : List ℕ) → file_answer bytes ≡ answer_at (Some (File 
 file_whole bytes = short_by (nat_le (length bytes) MAX_DUMPED) bytes
 
 -- so it answers of a path where nothing stands, or a directory, or a file
-pub dumps_none : (z : ℕ) (told : Told) (w : Map) (p : List ℕ) → stands_at w p ≡ None → IsDumped z told w p (answer.Refused NoEnt)
-dumps_none z told w p is tx k t st = sym (ap answer_at (none_at z told w (w (Path p)) (get t p) (st.nodes p) is))
+pub dumps_none : (z : ℕ) (told : Told) (lists : Remembered) (w : Map) (p : List ℕ) → stands_at w p ≡ None → IsDumped z told lists w p (answer.Refused NoEnt)
+dumps_none z told lists w p is cache tx k t st = sym (ap answer_at (none_at z told w (w (Path p)) (get t p) (st.nodes p) is))
 
-pub dumps_folder : (z : ℕ) (told : Told) (w : Map) (p : List ℕ) → stands_at w p ≡ Some Folder → IsDumped z told w p (answer.Refused IsDir)
-dumps_folder z told w p is tx k t st = sym (ap answer_at (folder_at z told w (w (Path p)) (get t p) (st.nodes p) is))
+pub dumps_folder : (z : ℕ) (told : Told) (lists : Remembered) (w : Map) (p : List ℕ) → stands_at w p ≡ Some Folder → IsDumped z told lists w p
+    (answer.Refused IsDir)
+dumps_folder z told lists w p is cache tx k t st = sym (ap answer_at (folder_at z told w (w (Path p)) (get t p) (st.nodes p) is))
 
-pub dumps_file : (z : ℕ) (told : Told) (w : Map) (p : List ℕ) (i : InodeId) (a : Answer) → stands_at w p ≡ Some (FileNode i) → ((bytes : List ℕ) → IsBody z told w i bytes → a ≡ file_answer bytes) → IsDumped z told w p a
-dumps_file z told w p i a is shows tx k t st =
+pub dumps_file : (z : ℕ) (told : Told) (lists : Remembered) (w : Map) (p : List ℕ) (i : InodeId) (a : Answer) → stands_at w p ≡ Some (FileNode i) →
+    IsShownFile z told lists w i a → IsDumped z told lists w p a
+dumps_file z told lists w p i a is shows cache tx k t st =
     let found = file_at z told w (w (Path p)) (get t p) i (st.nodes p) is in
-    shows found.0 found.2 ∙ file_whole found.0 ∙ sym (ap answer_at found.1)
+    shows cache st.bytes found.0 found.2 ∙ file_whole found.0 ∙ sym (ap answer_at found.1)
 
 -- ---- why the bytes were not shown
-may_read : (servers k : ℕ) (bytes : List ℕ) (d : Answer) → 0 < length bytes → d ≡ answer.Shown bytes → k < servers → MayFailRead servers d (answer.FaultRead k)
-may_read servers k [] d some is known = absurd (omega arith)
-may_read servers k (b ∷ bs) d some is known = subst (λ (r : Answer). MayFailRead servers r (answer.FaultRead k)) (sym is) known
+may_read : (servers : ℕ) (why : Fault) (a : Answer) (bytes : List ℕ) (d : Answer) → fault_answer why ≡ Some a → 0 < length bytes → d ≡ answer.Shown bytes →
+    IsOfServers servers why → MayFailRead servers d a
+may_read servers why a [] d is some due known = absurd (omega (arith, some))
+may_read servers (fault.Read k) a (b ∷ bs) d is some due known =
+    subst (λ (r : Answer). MayFailRead servers r a) (sym due) (subst (λ (r : Answer). MayFailRead servers (answer.Shown (b ∷ bs)) r)
+    (let e : answer.FaultRead k.0 ≡ a = cc in e) known)
+may_read servers (fault.Damaged k) a (b ∷ bs) d is some due known =
+    subst (λ (r : Answer). MayFailRead servers r a) (sym due) (subst (λ (r : Answer). MayFailRead servers (answer.Shown (b ∷ bs)) r)
+    (let e : answer.Damaged k.0 ≡ a = cc in e) known)
+may_read servers fault.Memory a (b ∷ bs) d is some due known = absurd (memory_none fault.Memory a is refl)
+may_read servers fault.Write a (b ∷ bs) d is some due known = absurd known
+may_read servers (fault.Punch k) a (b ∷ bs) d is some due known = absurd known
 
-module _ {S : Type 0} {kind : StoreKind S} (laws : KindLaws kind) (old new : Dev S) (enough : old.settings.servers ≤ length (stores old)) (w : Map) (p : List ℕ) (inside : MapBytes (is_inside kind (stores old) old.settings) w) where
-  -- some byte was to be shown
-  due_read : (k : ServerId) (told : Told) (tx n : ℕ) (t : Tree) → LacksDump kind old new w p (fault.Read k) → Stands old.settings.region told tx n w t → MayFailRead old.settings.servers (or_refusal (dumped t p)) (answer.FaultRead k.0)
-  due_read k told tx n t lacks st =
+module _ {S : Type 0} {kind : StoreKind S} (laws : KindLaws kind) (old new : Dev S) (sound : IsSoundDev kind old) (w : Map) (p : List ℕ)
+    (inside : MapBytes (inside_of kind old) any_slice w) where
+  -- some byte was to be shown, and the server is known
+  shown_known : (n : ℕ) (Are : List Piece → Type 0) (why : Fault) (a : Answer) → fault_answer why ≡ Some a → LacksBytes kind old new n Are why → (0 < n)
+      × IsOfServers old.settings.servers why
+  shown_known n Are (fault.Read k) a is l = (
+    some_byte n l.pieces l.fault.before l.fault.piece l.fault.after l.fault.split,
+    subst (λ (st : Settings). k.0 < st.servers) l.goes.settings
+        (lacks_known kind (between l.mid new) (stores l.mid) l.mid.settings n k.0 l.pieces l.goes.sound.shelf l.inside l.fault),
+  )
+  shown_known n Are fault.Memory a is l = absurd (memory_none fault.Memory a is refl)
+  shown_known n Are fault.Write a is l = absurd l.fault
+  shown_known n Are (fault.Punch k) a is l = absurd l.fault
+  shown_known n Are (fault.Damaged k) a is l = absurd l.fault
+
+  read_known : (i : InodeId) (n : ℕ) (why : Fault) (a : Answer) → fault_answer why ≡ Some a → LacksRead kind old new (file_of i w) 0 n why → (0 < n)
+      × IsOfServers old.settings.servers why
+  read_known i n why a is (inl lacks) = (
+    lacks.some,
+    file_fault_known laws old new (file_of i w) 0 n why sound
+        (file_bytes (inside_of kind old) any_slice i w inside) lacks,
+  )
+  read_known i n why a is (inr lacks) = shown_known n (ShowFile old.settings.region (file_of i w) 0 n) why a is lacks
+
+  -- so the machine allows the fault
+  pub dump_may : (why : Fault) (a : Answer) (told : Told) (tx n : ℕ) (t : Tree) → fault_answer why ≡ Some a → (why ≡ fault.Memory) ⊎ LacksDump kind old new w p why → Stands old.settings.region told tx n w t
+      → MayFailRead old.settings.servers (or_refusal (dumped t p)) a
+  dump_may why a told tx n t is (inl memory) st = absurd (memory_none why a is memory)
+  dump_may why a told tx n t is (inr lacks) st =
       let z : ℕ = old.settings.region in
       let v : FileView = file_of lacks.inode w in
       let found = file_at z told w (w (Path p)) (get t p) lacks.inode (st.nodes p) lacks.there in
       let bytes : List ℕ = found.0 in
       let len = found.2.bytes_are.len in
       let short = lacks.file.short in
-      let l = lacks.file.lacks in
       let count : ℕ = min (file_len z v) (MAX_REGIONS * z) in
-      let named : PiecesBytes (is_inside kind (stores old) old.settings) l.pieces =
-      plans_bytes (is_inside kind (stores old) old.settings) l.pieces count (file_origin z v) l.plans (λ i below. file_origin_bytes (is_inside kind (stores old) old.settings) refl z lacks.inode w i inside) in
-      let some : 0 < count = some_byte count l.pieces l.fault.before l.fault.piece l.fault.after l.fault.split in
-      let known = lacks_known kind (between l.mid new) (stores old) old.settings count k.0 l.pieces enough named l.fault in
+      let known = read_known lacks.inode count why a is lacks.file.lacks in
+      let some = known.0 in
       let whole : file_answer bytes ≡ answer.Shown bytes = ap (λ b. if b then answer.Shown bytes else answer.Refused Long) (le-leb (length bytes) MAX_DUMPED (omega (arith, short, len))) in
-      may_read old.settings.servers k.0 bytes (or_refusal (dumped t p)) (omega (arith, some, len)) (ap answer_at found.1 ∙ sym (file_whole bytes) ∙ whole) known
-
-  -- so the machine allows the fault
-  pub dump_may : (why : Fault) (a : Answer) (told : Told) (tx n : ℕ) (t : Tree) → fault_answer why ≡ Some a → (why ≡ fault.Memory) ⊎ LacksDump kind old new w p why → Stands old.settings.region told tx n w t
-      → MayFailRead old.settings.servers (or_refusal (dumped t p)) a
-  dump_may why a told tx n t is (inl memory) st = absurd (memory_none why a is memory)
-  dump_may (fault.Read k) a told tx n t is (inr lacks) st = subst (MayFailRead old.settings.servers (or_refusal (dumped t p))) (let e : answer.FaultRead k.0 ≡ a = cc in e) (due_read k told tx n t lacks st)
-  dump_may fault.Write a told tx n t is (inr lacks) st = absurd lacks.file.lacks.fault
-  dump_may (fault.Punch k) a told tx n t is (inr lacks) st = absurd lacks.file.lacks.fault
-  dump_may (fault.Damaged k) a told tx n t is (inr lacks) st = absurd lacks.file.lacks.fault
-  dump_may fault.Memory a told tx n t is (inr lacks) st = absurd (memory_none fault.Memory a is refl)
+      may_read old.settings.servers why a bytes (or_refusal (dumped t p)) is (omega (arith, some, len))
+      (ap answer_at found.1 ∙ sym (file_whole bytes) ∙ whole) known.1
 
   -- and it has its cause
-  pub dump_caused : (full : Type 0) → (full → MapBytes (has_copies old.settings.replicas) w) → (why : Fault) (a : Answer) → fault_answer why ≡ Some a → (why ≡ fault.Memory) ⊎ LacksDump kind old new w p why
-      → HasCause kind (between old new) old.settings ⊥ full [] a
-  dump_caused full copies why a is (inl memory) = absurd (memory_none why a is memory)
-  dump_caused full copies (fault.Read k) a is (inr lacks) =
+  pub dump_caused : (bare full : Type 0) → (bare → MapBytes any_byte no_slice w) → (full → MapBytes (has_copies old.settings.replicas) no_slice w) →
+      (why : Fault) (a : Answer) → fault_answer why ≡ Some a
+      → (why ≡ fault.Memory) ⊎ LacksDump kind old new w p why → HasCause kind (between old new) old.settings ⊥ bare full [] a
+  dump_caused bare full none copies why a is (inl memory) = absurd (memory_none why a is memory)
+  dump_caused bare full none copies why a is (inr lacks) =
       let z : ℕ = old.settings.region in
       let v : FileView = file_of lacks.inode w in
-      subst (HasCause kind (between old new) old.settings ⊥ full []) (let e : answer.FaultRead k.0 ≡ a = cc in e)
-      (lacks_unread laws (stores old) old.settings old new (min (file_len z v) (MAX_REGIONS * z)) (file_origin z v) full k enough
-      (λ i below. file_origin_bytes (is_inside kind (stores old) old.settings) refl z lacks.inode w i inside)
-      (λ whole i below. file_origin_bytes (has_copies old.settings.replicas) refl z lacks.inode w i (copies whole)) lacks.file.lacks)
-  dump_caused full copies fault.Write a is (inr lacks) = absurd lacks.file.lacks.fault
-  dump_caused full copies (fault.Punch k) a is (inr lacks) = absurd lacks.file.lacks.fault
-  dump_caused full copies (fault.Damaged k) a is (inr lacks) = absurd lacks.file.lacks.fault
-  dump_caused full copies fault.Memory a is (inr lacks) = absurd (memory_none fault.Memory a is refl)
+      read_caused laws old new sound bare full why a is v 0 (min (file_len z v) (MAX_REGIONS * z)) any_byte
+      (file_bytes (inside_of kind old) any_slice lacks.inode w inside)
+      (λ c. file_bytes any_byte no_slice lacks.inode w (none c))
+      (λ c. file_bytes (has_copies old.settings.replicas) no_slice lacks.inode w (copies c)) lacks.file.lacks
 
 -- what was shown or refused is no fault
 pub dump_plain : (a : Answer) → IsDumpAnswer a → IsPlain a

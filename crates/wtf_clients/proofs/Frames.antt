@@ -1,29 +1,34 @@
 -- What a line of one client leaves to the others.
-use Rattle.std.proofs.Common.{◌≡◌, ◌≢◌, ◌≤◌, ◌<◌, ℕ, ◌+◌, nat_eq, Option, None, Some, refl, sym, ap, ◌∙◌, subst, ◌⊎◌, ⊎_elim, arith}
+use Rattle.std.proofs.Common.{◌≡◌, ◌≢◌, ◌≤◌, ◌<◌, ℕ, ◌+◌, nat_eq, List, [], ◌++◌, append-nil, Option, None, Some, refl, sym, ap, ◌∙◌, subst, ◌⊎◌, ⊎_elim, arith}
 use Rattle.std.specs.Prelude.{IsTrue, if◌then◌else◌}
 use Rattle.std.proofs.lemmas.Bool.{cases_Bool, eqb-true}
 use Rattle.std.specs.List.{Contains}
 use Rattle.std.specs.FinMap.{get}
+use Rattle.std.specs.Option.{option_map}
 use Rattle.wtf_kv.specs.Stores.{Store, is_pinned, times_pinned}
 use Rattle.wtf_kv.proofs.PinLaws.{any-count, count-any}
 use Rattle.wtf_values.specs.declared.key.Key.{Key}
 use Rattle.wtf_values.specs.declared.value.Value.{Value}
+use Rattle.wtf_model.specs.declared.item.Item.{Item}
 use Rattle.wtf_model.specs.Tree.{Tree, root_alone}
 use Rattle.wtf_model.specs.Transaction.{Transaction}
 use Rattle.wtf_model.specs.Machines.{Machine}
+use Rattle.wtf_model.specs.Steps.{touch}
 use Rattle.wtf_meta.specs.Contents.{Told}
 use Rattle.wtf_meta.specs.Maps.{AllFit, metadata_at}
 use Rattle.wtf_meta.specs.Trees.{Stands}
 use Rattle.wtf_meta.proofs.Telling.{TellsOn}
 use Rattle.wtf_replay.specs.Views.{TxnView}
-use Rattle.wtf_replay.specs.Tried.{KeepsMaps}
+use Rattle.wtf_replay.specs.Tried.{KeepsMaps, KeepsVersions}
 use Rattle.wtf_replay.proofs.Sounding.{sound_later, sound_along}
 use Rattle.wtf_image.specs.Savable.{AreBefore}
 use Rattle.wtf_clients.specs.Views.{SavedView, TablesView, of_client, metadata_now}
 use Rattle.wtf_clients.specs.Sounds.{owned, all_owned, all_kept, IsOpen, AreSound, Sets}
+use Rattle.wtf_clients.specs.Touched.{SinceBase}
 use Rattle.wtf_clients.specs.Standing.{StandsForTxn, StandsForSlot, TablesStand}
 use Rattle.wtf_clients.proofs.Pins.{number_cases, base_pinned}
-use Rattle.wtf_clients.proofs.Images.{image_on}
+use Rattle.wtf_clients.proofs.Images.{before_same, image_on}
+use Rattle.wtf_clients.proofs.SinceLaws.{since_kept}
 use Rattle.wtf_clients.proofs.Later.{Stands-later}
 
 -- What a line of client c changed of the tables: its own transaction is now this one, or none. It is the one that it was by
@@ -55,10 +60,11 @@ open_on kv after next more x is later maps up pinned =
       older = omega (arith, older, up);
     }
 
--- and so does what it stands for, with the map now and the tree now that come
-pub txn_on : (size : ℕ) (told later : Told) (kv after : Store Key Value) (was is : Tree) (x : TxnView) (t : Transaction) → TellsOn told later → x.at.base ≤ kv.number → KeepsMaps kv after
-    → Stands size later x.tx 0 (metadata_now after) is → StandsForTxn size told kv was x t → StandsForTxn size later after is x t
-txn_on size told later kv after was is x t on based maps now st =
+-- And so does what it stands for, with the map now and the tree now that come, and what others touch.
+pub txn_on : (size : ℕ) (told later : Told) (kv after : Store Key Value) (was is : Tree) (x : TxnView) (t : Transaction) (more : List Item) → TellsOn told later
+    → x.at.base ≤ kv.number → KeepsMaps kv after → Stands size later x.tx 0 (metadata_now after) is → SinceBase after x.tx x.at.base (t.touched ++ more)
+    → StandsForTxn size told kv was x t → StandsForTxn size later after is x (touch more t)
+txn_on size told later kv after was is x t more on based maps now since st =
     let same : metadata_at after x.at.base ≡ metadata_at kv x.at.base = maps x.at.base based in
     record {
       sound = sound_later size after told later x t.ops on (sound_along size kv after told x t.ops same st.sound);
@@ -67,16 +73,22 @@ txn_on size told later kv after was is x t on based maps now st =
       replayed = st.replayed;
       tree = Stands-later told later on size x.tx 0 (metadata_at after x.at.base) t.tree (subst (λ w. Stands size told x.tx 0 w t.tree) (sym same) st.tree);
       now = now;
+      since = since;
     }
 
+-- where others touch nothing, a client has what it had
+pub untouched_same : (o p : Option Transaction) → p ≡ o → p ≡ option_map (touch []) o
+untouched_same None p same = same
+untouched_same (Some t) p same = same ∙ ap (λ l. Some (record t { touched = l })) (sym (append-nil t.touched))
+
 -- and so does what a client has, a transaction or none
-pub slot_on : (size : ℕ) (told later : Told) (kv after : Store Key Value) (was is : Tree) (s : Option TxnView) (o : Option Transaction)
-    → ((x : TxnView) (t : Transaction) → s ≡ Some x → StandsForTxn size told kv was x t → StandsForTxn size later after is x t)
-    → StandsForSlot size told kv was s o → StandsForSlot size later after is s o
-slot_on size told later kv after was is None None f st = tt
-slot_on size told later kv after was is None (Some t) f st = absurd st
-slot_on size told later kv after was is (Some x) None f st = absurd st
-slot_on size told later kv after was is (Some x) (Some t) f st = f x t refl st
+pub slot_on : (size : ℕ) (told later : Told) (kv after : Store Key Value) (was is : Tree) (more : List Item) (s : Option TxnView) (o : Option Transaction)
+    → ((x : TxnView) (t : Transaction) → s ≡ Some x → StandsForTxn size told kv was x t → StandsForTxn size later after is x (touch more t))
+    → StandsForSlot size told kv was s o → StandsForSlot size later after is s (option_map (touch more) o)
+slot_on size told later kv after was is more None None f st = tt
+slot_on size told later kv after was is more None (Some t) f st = absurd st
+slot_on size told later kv after was is more (Some x) None f st = absurd st
+slot_on size told later kv after was is more (Some x) (Some t) f st = f x t refl st
 
 module _ (old new : TablesView) (c : ℕ) (now : Option TxnView) (sound : AreSound old) (turned : Turned old new c now) where
   -- a number is pinned as often as it is owned
@@ -162,21 +174,26 @@ sound_turned old new c now sound turned = record {
   apart = apart_now old new c now sound turned;
 }
 
--- and they stand for the machine, where the client's own transaction does, and the tree now, which no inode of a transaction
--- to come is in
-pub stands_turned : (size : ℕ) (told later : Told) (old new : TablesView) (m after : Machine) (c : ℕ) (now : Option TxnView)
+-- And they stand for the machine, where the client's own transaction does, and the tree now, which no inode of a transaction
+-- to come is in; and where the other transactions see these items touched.
+pub stands_turned : (size : ℕ) (told later : Told) (old new : TablesView) (m after : Machine) (c : ℕ) (now : Option TxnView) (more : List Item)
     → AreSound old → TablesStand size told old m → TellsOn told later → Turned old new c now
-    → ((d : ℕ) → d ≢ c → get after.transactions d ≡ get m.transactions d)
+    → ((d : ℕ) → d ≢ c → get after.transactions d ≡ option_map (touch more) (get m.transactions d))
+    → ((d : ℕ) (x : TxnView) (items : List Item) → d ≢ c → of_client old.clients d ≡ Some x → SinceBase old.kv x.tx x.at.base items
+    → SinceBase new.kv x.tx x.at.base (items ++ more))
     → after.number ≡ new.kv.number
     → after.may_be_saved ≡ m.may_be_saved
     → AreBefore new.next_tx (metadata_now new.kv)
     → StandsForSlot size later new.kv after.now now (get after.transactions c)
     → ((tx : ℕ) → ((x : TxnView) → of_client old.clients c ≡ Some x → tx ≢ x.tx) → Stands size told tx 0 (metadata_now old.kv) m.now → Stands size later tx 0 (metadata_now new.kv) after.now)
     → TablesStand size later new after
-stands_turned size told later old new m after c now sound st on turned others number may before here trees =
-    let other : (d : ℕ) → d ≢ c → StandsForSlot size later new.kv after.now (of_client old.clients d) (get m.transactions d) = λ d ne.
-    slot_on size told later old.kv new.kv m.now after.now (of_client old.clients d) (get m.transactions d)
-    (λ x t is txn. txn_on size told later old.kv new.kv m.now after.now x t on (sound.each d x is).based turned.maps (trees x.tx (λ y its same. ne (sound.apart d c x y is its same)) txn.now) txn)
+stands_turned size told later old new m after c now more sound st on turned others since number may before here trees =
+    let apart : (d : ℕ) (x y : TxnView) → d ≢ c → of_client old.clients d ≡ Some x → of_client old.clients c ≡ Some y → x.tx ≢ y.tx =
+    λ d x y ne is its same. ne (sound.apart d c x y is its same) in
+    let other : (d : ℕ) → d ≢ c → StandsForSlot size later new.kv after.now (of_client old.clients d) (option_map (touch more) (get m.transactions d)) = λ d ne.
+    slot_on size told later old.kv new.kv m.now after.now more (of_client old.clients d) (get m.transactions d)
+    (λ x t is txn. txn_on size told later old.kv new.kv m.now after.now x t more on (sound.each d x is).based turned.maps
+    (trees x.tx (λ y its. apart d x y ne is its) txn.now) (since d x t.touched ne is txn.since) txn)
     (st.each d) in
     record {
       number = number;
@@ -197,3 +214,22 @@ stands_turned size told later old new m after c now sound st on turned others nu
           let was : Contains old.saved.images n = kept_before old new c now sound turned n there in
           image_on size told later old new n m.may_be_saved after.may_be_saved on (turned.maps n (sound.kept n was)) turned.more (λ t listed. subst (λ l. Contains l t) (sym may) listed) (st.images n was);
     }
+
+-- So they do where nothing was installed, for a machine that differs in the client's own transaction alone.
+pub stands_kept : (size : ℕ) (told later : Told) (old new : TablesView) (m after : Machine) (c : ℕ) (now : Option TxnView)
+    → AreSound old → TablesStand size told old m → TellsOn told later → Turned old new c now
+    → new.kv.number ≡ old.kv.number → KeepsVersions old.kv new.kv
+    → ((d : ℕ) → d ≢ c → get after.transactions d ≡ get m.transactions d)
+    → after.number ≡ m.number → after.now ≡ m.now → after.may_be_saved ≡ m.may_be_saved
+    → StandsForSlot size later new.kv after.now now (get after.transactions c)
+    → TablesStand size later new after
+stands_kept size told later old new m after c now sound st on turned number versions others number2 tree may here =
+    let same : metadata_now new.kv ≡ metadata_now old.kv = ap (metadata_at new.kv) number ∙ turned.maps old.kv.number (omega arith) in
+    stands_turned size told later old new m after c now [] sound st on turned
+    (λ d ne. untouched_same (get m.transactions d) (get after.transactions d) (others d ne))
+    (λ d x items ne is was. since_kept old.kv new.kv x.tx x.at.base items was (sound.each d x is).based turned.maps number versions)
+    (number2 ∙ st.number ∙ sym number) may
+    (before_same old.next_tx new.next_tx (metadata_now old.kv) (metadata_now new.kv) same turned.more st.before)
+    here
+    (λ tx other was. subst (λ u. Stands size later tx 0 (metadata_now new.kv) u) (sym tree)
+    (subst (λ w. Stands size later tx 0 w m.now) (sym same) (Stands-later told later on size tx 0 (metadata_now old.kv) m.now was)))

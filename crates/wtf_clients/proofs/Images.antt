@@ -5,6 +5,7 @@ use Rattle.std.specs.List.{Contains}
 use Rattle.std.proofs.lemmas.Bool.{eq-eqb}
 use Rattle.std.proofs.lemmas.List.Elements.{Contains-append_cases, Contains-push_cases}
 use Rattle.std.proofs.lemmas.List.Sums.{sum_by-cons}
+use Rattle.wtf_base.specs.declared.ids.InodeId.{InodeId}
 use Rattle.wtf_kv.specs.Stores.{is_pinned, times_pinned}
 use Rattle.wtf_kv.proofs.PinLaws.{any-count}
 use Rattle.wtf_values.specs.declared.key.Key.TheVariants.{Inode}
@@ -77,6 +78,10 @@ before_own tx n w v lt own before i some = ⊎_elim
     by : (i.tx.0 ≡ tx) ⊎ (i.tx.0 ≢ tx) → w (Inode i) ≡ None → i.tx.0 < n
     by (inl same) none = omega (arith, same, lt)
     by (inr other) none = absurd (some_of_none (v (Inode i)) (own i other none) some)
+
+-- no inode of a transaction to come stands
+pub before_none : (n : ℕ) (w : Map) → AreBefore n w → (i : InodeId) → i.tx.0 ≡ n → w (Inode i) ≡ None
+before_none n w before i mine = ⊎_elim (λ none. none) (λ some. let lt = before i some in absurd (omega (arith, lt, mine))) (nothing_or (w (Inode i)))
 
 -- ---- the tree of an image stays
 pub image_on : (size : ℕ) (told later : Told) (old new : TablesView) (n : ℕ) (may more : List Tree) → TellsOn told later → metadata_at new.kv n ≡ metadata_at old.kv n → old.next_tx ≤ new.next_tx

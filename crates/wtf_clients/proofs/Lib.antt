@@ -2,12 +2,17 @@ pub mod Later
 pub mod Lives
 pub mod Pins
 pub mod Images
+pub mod AboveLaws
+pub mod TouchLaws
+pub mod SinceLaws
 pub mod Frames
 pub mod Staying
 pub mod Lists
+pub mod Known
 pub mod Making
 pub mod Pinning
 pub mod Unread
+pub mod Lacking
 pub mod Caused
 pub mod Naming
 pub mod Serving

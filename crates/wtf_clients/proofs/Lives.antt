@@ -2,6 +2,7 @@
 use Rattle.std.proofs.Common.{◌≡◌, ◌≤◌, ℕ, ◌+◌, Bool, true, false, ◌||◌, cond, nat_eq, List, [], refl, ap, ◌⊎◌, inl, inr, ⊎_elim, arith}
 use Rattle.std.specs.Prelude.{IsTrue, if◌then◌else◌}
 use Rattle.std.proofs.lemmas.Bool.{cases_Bool, or_cases, eqb-true, eq-eqb}
+use Rattle.wtf_base.specs.declared.slice.Slice.{Slice}
 use Rattle.wtf_overlay.specs.Origin.{Place}
 use Rattle.wtf_kv.specs.Stores.{Store, is_pinned, is_live, times_pinned, IsPinnedOnceMore}
 use Rattle.wtf_kv.proofs.PinLaws.{any-count, count-any, count-push}
@@ -33,8 +34,8 @@ pub live_upto : (tables : TablesView) (n : ℕ) → AreSound tables → IsTrue (
 live_upto tables n sound live = ⊎_elim (λ e. omega (arith, e)) (λ pinned. sound.upto n pinned) (live_cases tables.kv n live)
 
 -- the map now is among those that can be read
-pub now_bytes : (P : List Place → Bool) (tables : TablesView) → TablesBytes P tables → MapBytes P (metadata_now tables.kv)
-now_bytes P tables h = h.live tables.kv.number (number_live tables.kv)
+pub now_bytes : (P : List Place → Bool) (Q : Slice → Bool) (tables : TablesView) → TablesBytes P Q tables → MapBytes P Q (metadata_now tables.kv)
+now_bytes P Q tables h = h.live tables.kv.number (number_live tables.kv)
 
 -- ---- each number that is pinned later could be read before
 abbrev pub Reaches : Store Key Value → Store Key Value → Type 0

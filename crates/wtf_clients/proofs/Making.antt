@@ -21,13 +21,14 @@ use Rattle.wtf_model.specs.Session.{Session}
 use Rattle.wtf_model.specs.Call.{call}
 use Rattle.wtf_model.specs.Transaction.{answers_of}
 use Rattle.wtf_model.specs.Lawful.{IsDone, IsReadFault, MayFail}
-use Rattle.wtf_meta.specs.Bytes.{MapBytes}
-use Rattle.wtf_meta.specs.Contents.{Told, is_told}
+use Rattle.wtf_meta.specs.Lists.{ListFact}
+use Rattle.wtf_meta.specs.Contents.{Told}
 use Rattle.wtf_meta.specs.Maps.{metadata_at, seen}
 use Rattle.wtf_meta.specs.Trees.{Stands}
 use Rattle.wtf_meta.specs.Sessions.{Holds}
 use Rattle.wtf_meta.specs.Calls.{Caller, cap_for}
-use Rattle.wtf_rw.specs.Faults.{MayStandFor}
+use Rattle.wtf_region.specs.Cached.{Remembered}
+use Rattle.wtf_steps.specs.Faults.{MayStandFor}
 use Rattle.wtf_replay.specs.Views.{TxnView, begun, hand_of}
 use Rattle.wtf_replay.specs.Refusals.{call_refusal, try_refusal, step_refusal, unmade}
 use Rattle.wtf_replay.specs.Fits.{IsFit}
@@ -42,7 +43,7 @@ use Rattle.wtf_replay.specs.Replays.{IsStepped, IsOver, IsEnded, IsTrueAttempt, 
 use Rattle.wtf_replay.proofs.Keeping.{fit_after}
 use Rattle.wtf_clients.specs.Views.{Clients, TablesView, of_client, metadata_now}
 use Rattle.wtf_clients.specs.Sounds.{owned, IsOpen, AreSound, Sets}
-use Rattle.wtf_clients.specs.Turns.{Refuses, Begins, Ends, Tries, TryTurn, Stays, Calls, CallFails, Steps, Finals, ClientTurn}
+use Rattle.wtf_clients.specs.Turns.{Refuses, Begins, Ends, Tries, TryTurn, Stays, Tells, Reads, Calls, CallFails, Steps, Finals, ClientTurn}
 use Rattle.wtf_clients.proofs.Lists.{sets_added, sets_same, sets_then}
 use Rattle.wtf_clients.proofs.Frames.{sound_turned}
 use Rattle.wtf_clients.proofs.Staying.{fault_is, same_stays}
@@ -155,23 +156,30 @@ begin_turn old kv mid clients c number x free is_number is_mid last seen is_x is
     })
 
 -- ---- a call
-module _ (Telling : Type 0) (servers size : ℕ) (told later : Told) (old : TablesView) (clients : Clients) (c : ℕ) (x y : TxnView) (o : Op (List ℕ)) (a : Answer) where
+module _ (Telling : Type 0) (lists : Remembered) (servers size : ℕ) (told later : Told) (old : TablesView) (clients : Clients) (c : ℕ) (x y : TxnView)
+    (o : Op (List ℕ)) (a : Answer) where
   abbrev now_called : TablesView
   now_called = record { kv = old.kv; next_tx = old.next_tx; clients = clients; saved = old.saved }
 
   call_on : (N : Type 0) (r : Option Word) → call_refusal x ≡ r → of_client old.clients c ≡ Some x → Sets c (Some y) old.clients clients
-      → IfSome (unmade x) (λ b. (answered Fault a b) × (y ≡ x) × N) → (unmade x ≡ None → (own : Option Slice) × IsCalled x y o own a × Acts (sight_at size old.kv x.tx x.replayed (hand_of x)) (data_len o) own o a x.at y.at)
-      → (unmade x ≡ None → Telling × MapBytes (is_told told) (metadata_at old.kv x.at.base) → (ops : List (Op (List ℕ))) → IsSound size old.kv told x ops → IsSound size old.kv later y (ops ++ o ∷ []))
+      → IfSome (unmade x) (λ b. (answered Fault a b) × (y ≡ x) × N) → (unmade x ≡ None → (own : Option Slice) × (facts : List ListFact) × IsCalled x y o own a
+      × (Reads Telling lists servers size told later).known facts
+      × Acts (sight_at size old.kv x.tx x.replayed (hand_of x) facts) (data_len o) own o a x.at y.at)
+      → (unmade x ≡ None → Tells Telling lists servers size told later (metadata_at old.kv x.at.base) → (ops : List (Op (List ℕ))) → IsSound size old.kv told
+      x ops → IsSound size old.kv later y (ops ++ o ∷ []))
       → IsFit old.kv y
-      → MatchOption r (Calls Telling servers size told later old now_called c x o a ⊎ CallFails Telling servers size told later old now_called c x o a) (λ w. Refuses old now_called c w a)
+      → MatchOption r (Calls Telling lists servers size told later old now_called c x o a ⊎ CallFails Telling lists servers size told later old now_called c x
+      o a) (λ w. Refuses old now_called c w a)
   call_on N None is there sets stopped made meaning fit =
       let free : unmade x ≡ None = ap (option_map answer.Refused) is in
       inl (record {
         later_one = y;
         own = (made free).0;
         keeps = record { clients = sets; kv = refl; next_tx = refl; saved = refl };
-        called = (made free).1;
-        acts = (made free).2;
+        facts = (made free).1;
+        called = (made free).2;
+        known = (made free).3;
+        acts = (made free).4;
         fit = fit;
         sound = meaning free;
       })
@@ -181,17 +189,22 @@ module _ (Telling : Type 0) (servers size : ℕ) (told later : Told) (old : Tabl
       refuses old now_called c x y w a there sets both.1 refl refl refl (same_answer Fault a (answer.Refused w) both.0)
 
   pub call_turn : (N : Type 0) → of_client old.clients c ≡ Some x → Sets c (Some y) old.clients clients
-      → IfSome (unmade x) (λ b. (answered Fault a b) × (y ≡ x) × N) → (unmade x ≡ None → (own : Option Slice) × IsCalled x y o own a × Acts (sight_at size old.kv x.tx x.replayed (hand_of x)) (data_len o) own o a x.at y.at)
-      → (unmade x ≡ None → Telling × MapBytes (is_told told) (metadata_at old.kv x.at.base) → (ops : List (Op (List ℕ))) → IsSound size old.kv told x ops → IsSound size old.kv later y (ops ++ o ∷ []))
+      → IfSome (unmade x) (λ b. (answered Fault a b) × (y ≡ x) × N) → (unmade x ≡ None → (own : Option Slice) × (facts : List ListFact) × IsCalled x y o own a
+      × (Reads Telling lists servers size told later).known facts
+      × Acts (sight_at size old.kv x.tx x.replayed (hand_of x) facts) (data_len o) own o a x.at y.at)
+      → (unmade x ≡ None → Tells Telling lists servers size told later (metadata_at old.kv x.at.base) → (ops : List (Op (List ℕ))) → IsSound size old.kv told
+      x ops → IsSound size old.kv later y (ops ++ o ∷ []))
       → IsFit old.kv y
-      → ClientTurn Telling servers size told later old (record { kv = old.kv; next_tx = old.next_tx; clients = clients; saved = old.saved }) c (verb.Call o) a
+      → ClientTurn Telling lists servers size told later old (record { kv = old.kv; next_tx = old.next_tx; clients = clients; saved = old.saved }) c
+      (verb.Call o) a
   call_turn N there sets stopped made meaning fit =
       at_some (of_client old.clients c) x _ _ there (call_on N (call_refusal x) refl there sets stopped made meaning fit)
 
   -- a call that failed
   pub call_failed : (why : Fault) → of_client old.clients c ≡ Some x → Sets c (Some y) old.clients clients → y ≡ x → call_refusal x ≡ None → fault_answer why ≡ Some a
       → ((z : Caller) (u : Told) (S : Session) → z.size ≡ size → Stands z.size u z.tx z.calls (seen old.kv x.at) S.tree → Holds u (seen old.kv x.at) x.session S → MayFail servers o (call (cap_for z) S o).answer a)
-      → ClientTurn Telling servers size told later old (record { kv = old.kv; next_tx = old.next_tx; clients = clients; saved = old.saved }) c (verb.Call o) a
+      → ClientTurn Telling lists servers size told later old (record { kv = old.kv; next_tx = old.next_tx; clients = clients; saved = old.saved }) c
+      (verb.Call o) a
   call_failed why there sets same asked is may =
       at_some (of_client old.clients c) x _ _ there (at_none (call_refusal x) _ _ asked (inr (record {
         fails = record { why = why; answer = is; stays = same_stays old now_called c x y there sets same refl (λ n le. refl) (λ q. refl) (λ n. refl) refl refl };
@@ -313,17 +326,22 @@ module _ (old : TablesView) (kv : Store Key Value) (mid : Clients) (c : ℕ) (x 
     try_ends over = at_some (of_client old.clients c) x _ _ there (ends_on (try_refusal x) refl over)
 
 -- ---- a step
-module _ (Telling : Type 0) (servers size : ℕ) (told later : Told) (old : TablesView) (mid : Clients) (c : ℕ) (x y : TxnView) (a : Answer) (going : x.ended ≡ false) (there : of_client old.clients c ≡ Some x) (sets : Sets c (Some y) old.clients mid)
+module _ (Telling : Type 0) (lists : Remembered) (servers size : ℕ) (told later : Told) (old : TablesView) (mid : Clients) (c : ℕ) (x y : TxnView)
+    (a : Answer) (going : x.ended ≡ false) (there : of_client old.clients c ≡ Some x) (sets : Sets c (Some y) old.clients mid)
     (stopped : IfSome (step_refusal x) (λ w. (answered Fault a (answer.Refused w)) × (y ≡ x)))
     (stepped : step_refusal x ≡ None → IsStepped x y a)
-    (meaning : step_refusal x ≡ None → Telling × MapBytes (is_told told) (metadata_at old.kv x.at.base) → (ops : List (Op (List ℕ))) → IsSound size old.kv told x ops → IsTrueStep size (told, later) old.kv (x, y) ops a)
-    (acts : step_refusal x ≡ None → (i : ℕ) → a ≡ answer.Replayed i → Redoes size old.kv x x.replayed (hand_of x) (hand_of y))
+    (meaning : step_refusal x ≡ None → Tells Telling lists servers size told later (metadata_at old.kv x.at.base) → (ops : List (Op (List ℕ))) → IsSound size
+    old.kv told x ops → IsTrueStep size (told, later) old.kv (x, y) ops a)
+    (acts : step_refusal x ≡ None → (i : ℕ) → a ≡ answer.Replayed i → Redoes (Reads Telling lists servers size told later) old.kv x x.replayed (hand_of x)
+    (hand_of y))
     (fit : IsFit old.kv y) where
   abbrev now_stepped : TablesView
   now_stepped = record { kv = old.kv; next_tx = old.next_tx; clients = mid; saved = old.saved }
 
-  step_goes_by : (b : Answer) → y.ended ≡ false → IsStepped x y b → (Telling × MapBytes (is_told told) (metadata_at old.kv x.at.base) → (ops : List (Op (List ℕ))) → IsSound size old.kv told x ops → IsTrueStep size (told, later) old.kv (x, y) ops b)
-      → ((i : ℕ) → b ≡ answer.Replayed i → Redoes size old.kv x x.replayed (hand_of x) (hand_of y)) → Steps Telling servers size told later old now_stepped c x b
+  step_goes_by : (b : Answer) → y.ended ≡ false → IsStepped x y b → (Tells Telling lists servers size told later (metadata_at old.kv x.at.base) →
+      (ops : List (Op (List ℕ))) → IsSound size old.kv told x ops → IsTrueStep size (told, later) old.kv (x, y) ops b)
+      → ((i : ℕ) → b ≡ answer.Replayed i → Redoes (Reads Telling lists servers size told later) old.kv x x.replayed (hand_of x) (hand_of y)) → Steps Telling
+      lists servers size told later old now_stepped c x b
   step_goes_by (answer.Replayed i) still h m did = record {
     later_one = y;
     keeps = record { clients = sets; kv = refl; next_tx = refl; saved = refl };
@@ -335,17 +353,21 @@ module _ (Telling : Type 0) (servers size : ℕ) (told later : Told) (old : Tabl
   step_goes_by (Aborted' i box b) still h m did = absurd (true≢false (sym h.over.ended ∙ still))
   step_goes_by b still h m did = absurd h
 
-  step_goes_on : (r : Option Word) → step_refusal x ≡ r → y.ended ≡ false → MatchOption r (Steps Telling servers size told later old now_stepped c x a) (λ w. Refuses old now_stepped c w a)
+  step_goes_on : (r : Option Word) → step_refusal x ≡ r → y.ended ≡ false → MatchOption r (Steps Telling lists servers size told later old now_stepped c x a)
+      (λ w. Refuses old now_stepped c w a)
   step_goes_on None is still = step_goes_by a still (stepped is) (meaning is) (acts is)
   step_goes_on (Some w) is still =
       let both : (answered Fault a (answer.Refused w)) × (y ≡ x) = subst (λ m. IfSome m (λ v. (answered Fault a (answer.Refused v)) × (y ≡ x))) is stopped in
       refuses old now_stepped c x y w a there sets both.1 refl refl refl (same_answer Fault a (answer.Refused w) both.0)
 
-  pub step_goes : y.ended ≡ false → ClientTurn Telling servers size told later old (record { kv = old.kv; next_tx = old.next_tx; clients = mid; saved = old.saved }) c verb.Step a
+  pub step_goes : y.ended ≡ false → ClientTurn Telling lists servers size told later old (record
+      { kv = old.kv; next_tx = old.next_tx; clients = mid; saved = old.saved }) c verb.Step a
   step_goes still = at_some (of_client old.clients c) x _ _ there (step_goes_on (step_refusal x) refl still)
 
   module _ (new : TablesView) (taken : Sets c None mid new.clients) (next : new.next_tx ≡ old.next_tx) (saved : new.saved ≡ old.saved) (is_kv : new.kv ≡ record old.kv { pins = remove_key (nat_eq y.at.base) old.kv.pins }) (unpinned : IsPinnedOnceMore y.at.base new.kv old.kv) where
-    step_ends_by : (b : Answer) → y.ended ≡ true → IsStepped x y b → (Telling × MapBytes (is_told told) (metadata_at old.kv x.at.base) → (ops : List (Op (List ℕ))) → IsSound size old.kv told x ops → IsTrueStep size (told, later) old.kv (x, y) ops b) → Steps Telling servers size told later old new c x b
+    step_ends_by : (b : Answer) → y.ended ≡ true → IsStepped x y b → (Tells Telling lists servers size told later (metadata_at old.kv x.at.base) →
+        (ops : List (Op (List ℕ))) → IsSound size old.kv told x ops → IsTrueStep size (told, later) old.kv (x, y) ops b) → Steps Telling lists servers size
+        told later old new c x b
     step_ends_by (answer.Replayed i) over h m = absurd (true≢false (sym over ∙ ap (λ (z : TxnView). z.ended) h.is ∙ going))
     step_ends_by (Aborted' i box b) over h m = record {
       index = h.index;
@@ -354,51 +376,59 @@ module _ (Telling : Type 0) (servers size : ℕ) (told later : Told) (old : Tabl
     }
     step_ends_by b over h m = absurd h
 
-    step_ends_on : (r : Option Word) → step_refusal x ≡ r → y.ended ≡ true → MatchOption r (Steps Telling servers size told later old new c x a) (λ w. Refuses old new c w a)
+    step_ends_on : (r : Option Word) → step_refusal x ≡ r → y.ended ≡ true → MatchOption r (Steps Telling lists servers size told later old new c x a)
+        (λ w. Refuses old new c w a)
     step_ends_on None is over = step_ends_by a over (stepped is) (meaning is)
     step_ends_on (Some w) is over =
         let both : (answered Fault a (answer.Refused w)) × (y ≡ x) = subst (λ m. IfSome m (λ v. (answered Fault a (answer.Refused v)) × (y ≡ x))) is stopped in
         absurd (true≢false (sym over ∙ ap (λ (z : TxnView). z.ended) both.1 ∙ going))
 
-    pub step_ends : y.ended ≡ true → ClientTurn Telling servers size told later old new c verb.Step a
+    pub step_ends : y.ended ≡ true → ClientTurn Telling lists servers size told later old new c verb.Step a
     step_ends over = at_some (of_client old.clients c) x _ _ there (step_ends_on (step_refusal x) refl over)
 
 -- ---- a step that failed
-module _ (Telling : Type 0) (servers size : ℕ) (told later : Told) (old : TablesView) (clients : Clients) (c : ℕ) (x y : TxnView) where
+module _ (Telling : Type 0) (lists : Remembered) (servers size : ℕ) (told later : Told) (old : TablesView) (clients : Clients) (c : ℕ) (x y : TxnView) where
   pub step_failed : (why : Fault) (a : Answer) → of_client old.clients c ≡ Some x → Sets c (Some y) old.clients clients → y ≡ x → step_refusal x ≡ None → fault_answer why ≡ Some a
       → ((ops : List (Op (List ℕ))) → IsSound size old.kv told x ops → (t : Tree) → Stands size told x.tx 0 (metadata_at old.kv x.at.base) t
       → IsDone (slice_get (answers_of (cap_for (caller_at size x.tx 0)) t ops) x.replayed) × IsReadFault servers a)
-      → ClientTurn Telling servers size told later old (record { kv = old.kv; next_tx = old.next_tx; clients = clients; saved = old.saved }) c verb.Step a
+      → ClientTurn Telling lists servers size told later old (record { kv = old.kv; next_tx = old.next_tx; clients = clients; saved = old.saved }) c verb.Step a
   step_failed why a there sets same asked is may = at_some (of_client old.clients c) x _ _ there (at_none (step_refusal x) _ _ asked (by a is may))
     where
       by : (b : Answer) → fault_answer why ≡ Some b
           → ((ops : List (Op (List ℕ))) → IsSound size old.kv told x ops → (t : Tree) → Stands size told x.tx 0 (metadata_at old.kv x.at.base) t
           → IsDone (slice_get (answers_of (cap_for (caller_at size x.tx 0)) t ops) x.replayed) × IsReadFault servers b)
-          → Steps Telling servers size told later old (record { kv = old.kv; next_tx = old.next_tx; clients = clients; saved = old.saved }) c x b
+          → Steps Telling lists servers size told later old (record { kv = old.kv; next_tx = old.next_tx; clients = clients; saved = old.saved }) c x b
       by (answer.Replayed i) e f = absurd (fault_is why (answer.Replayed i) e)
       by (Aborted' i box b) e f = absurd (fault_is why (Aborted' i box b) e)
       by b e f = record { fails = record { why = why; answer = e; stays = same_stays old (record { kv = old.kv; next_tx = old.next_tx; clients = clients; saved = old.saved }) c x y there sets same refl (λ n le. refl) (λ q. refl) (λ n. refl) refl refl }; may = f }
 
 -- ---- a commit
-module _ (Telling : Type 0) (servers size : ℕ) (told later : Told) (old new : TablesView) (kv : Store Key Value) (mid : Clients) (c : ℕ) (x y : TxnView) where
-  commit_by : (a : Answer) → Ends old new kv c x → IsEnded old.kv kv a → IsInstall size old.kv kv (commit_from old.kv x) a
-      → (Telling × MapBytes (is_told told) (metadata_now old.kv) → (ops : List (Op (List ℕ))) → IsSound size old.kv told x ops → IsTrueEnd size (told, later) old.kv kv x ops a) → Finals Telling servers size told later old new c x a
+module _ (Telling : Type 0) (lists : Remembered) (servers size : ℕ) (told later : Told) (old new : TablesView) (kv : Store Key Value) (mid : Clients) (c : ℕ)
+    (x y : TxnView) where
+  commit_by : (a : Answer) → Ends old new kv c x → IsEnded old.kv kv a → IsInstall (Reads Telling lists servers size told later) old.kv kv
+      (commit_from old.kv x) a
+      → (Tells Telling lists servers size told later (metadata_at old.kv x.at.base) → Tells Telling lists servers size told later (metadata_now old.kv) →
+      (ops : List (Op (List ℕ))) → IsSound size old.kv told x ops → IsTrueEnd size (told, later) old.kv kv x ops a) → Finals Telling lists servers size
+      told later old new c x a
   commit_by (answer.Committed n) over h i m = record { mid = kv; next = h.0; number = h.1; installs = i; ends = over; final = m }
   commit_by (Aborted' k box b) over h i m = record { mid = kv; number = h; versions = i; ends = over; deviates = m }
   commit_by b over h i m = absurd h
 
   pub commit_turn : (a : Answer) → of_client old.clients c ≡ Some x → Sets c (Some y) old.clients mid → Sets c None mid new.clients → new.next_tx ≡ old.next_tx → new.saved ≡ old.saved → IsOver x y → KeepsMaps old.kv kv → KeepsPins old.kv kv
-      → new.kv ≡ record kv { pins = remove_key (nat_eq y.at.base) kv.pins } → IsPinnedOnceMore y.at.base new.kv kv → IsEnded old.kv kv a → IsInstall size old.kv kv (commit_from old.kv x) a
-      → (Telling × MapBytes (is_told told) (metadata_now old.kv) → (ops : List (Op (List ℕ))) → IsSound size old.kv told x ops → IsTrueEnd size (told, later) old.kv kv x ops a)
-      → ClientTurn Telling servers size told later old new c verb.Commit a
+      → new.kv ≡ record kv { pins = remove_key (nat_eq y.at.base) kv.pins } → IsPinnedOnceMore y.at.base new.kv kv → IsEnded old.kv kv a → IsInstall
+      (Reads Telling lists servers size told later) old.kv kv (commit_from old.kv x) a
+      → (Tells Telling lists servers size told later (metadata_at old.kv x.at.base) → Tells Telling lists servers size told later (metadata_now old.kv) →
+      (ops : List (Op (List ℕ))) → IsSound size old.kv told x ops → IsTrueEnd size (told, later) old.kv kv x ops a)
+      → ClientTurn Telling lists servers size told later old new c verb.Commit a
   commit_turn a there sets taken next saved over maps pins is_kv unpinned h i m =
       at_some (of_client old.clients c) x _ _ there (commit_by a (ends old new kv mid c x y sets taken next saved over.base maps pins is_kv unpinned) h i m)
 
   -- a commit that failed
   pub commit_failed : (why : Fault) (a : Answer) → of_client old.clients c ≡ Some x → Sets c (Some y) old.clients new.clients → y ≡ x → new.kv ≡ kv → new.next_tx ≡ old.next_tx → new.saved ≡ old.saved → kv.number ≡ old.kv.number → KeepsMaps old.kv kv → KeepsVersions old.kv kv → KeepsPins old.kv kv
       → fault_answer why ≡ Some a
-      → (Telling × MapBytes (is_told told) (metadata_now old.kv) → (ops : List (Op (List ℕ))) → IsSound size old.kv told x ops → (t : Tree) → Stands size told x.tx 0 (metadata_now old.kv) t → IsReadFault servers a)
-      → Finals Telling servers size told later old new c x a
+      → (Tells Telling lists servers size told later (metadata_at old.kv x.at.base) → Tells Telling lists servers size told later (metadata_now old.kv) →
+      (ops : List (Op (List ℕ))) → IsSound size old.kv told x ops → (t : Tree) → Stands size told x.tx 0 (metadata_now old.kv) t → IsReadFault servers a)
+      → Finals Telling lists servers size told later old new c x a
   commit_failed why a there sets same is_kv next saved number maps versions pins is may = by a is may
     where
       stays : Stays old new c
@@ -406,8 +436,10 @@ module _ (Telling : Type 0) (servers size : ℕ) (told later : Told) (old new : 
           (λ q. ap (λ (s : Store Key Value). versions_of key_cmp s q) is_kv ∙ versions q) (λ n. ap (λ (s : Store Key Value). times_pinned s n) is_kv ∙ pins n) next saved
 
       by : (b : Answer) → fault_answer why ≡ Some b
-          → (Telling × MapBytes (is_told told) (metadata_now old.kv) → (ops : List (Op (List ℕ))) → IsSound size old.kv told x ops → (t : Tree) → Stands size told x.tx 0 (metadata_now old.kv) t → IsReadFault servers b)
-          → Finals Telling servers size told later old new c x b
+          → (Tells Telling lists servers size told later (metadata_at old.kv x.at.base) → Tells Telling lists servers size told later (metadata_now old.kv) →
+          (ops : List (Op (List ℕ))) → IsSound size old.kv told x ops → (t : Tree) → Stands size told x.tx 0 (metadata_now old.kv) t → IsReadFault servers
+          b)
+          → Finals Telling lists servers size told later old new c x b
       by (answer.Committed n) e f = absurd (fault_is why (answer.Committed n) e)
       by (Aborted' i box b) e f = absurd (fault_is why (Aborted' i box b) e)
       by b e f = record { fails = record { why = why; answer = e; stays = stays }; may = f }

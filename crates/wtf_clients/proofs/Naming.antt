@@ -1,6 +1,7 @@
 -- What holds of the places of each byte that the tables name goes on holding.
 use Rattle.std.proofs.Common.{◌≡◌, ℕ, Bool, List, Option, None, Some, sym, ap, ◌∙◌, subst, ⊎_elim, arith}
 use Rattle.std.specs.Prelude.{IsTrue}
+use Rattle.wtf_base.specs.declared.slice.Slice.{Slice}
 use Rattle.wtf_overlay.specs.Origin.{Place}
 use Rattle.wtf_kv.specs.Stores.{Store, is_pinned, is_live, times_pinned}
 use Rattle.wtf_values.specs.declared.key.Key.{Key}
@@ -17,27 +18,29 @@ use Rattle.wtf_clients.specs.Turns.{Keeps, Ends, Stays}
 use Rattle.wtf_clients.proofs.Lives.{live_cases, live_upto, now_bytes, Reaches, same_reaches, ended_reaches}
 use Rattle.wtf_clients.proofs.Pins.{number_cases}
 
-module _ (P : List Place → Bool) where
+module _ (P : List Place → Bool) (Q : Slice → Bool) where
   -- a transaction over a store that shows the same at its base
-  pub txn_along : (kv after : Store Key Value) (x : TxnView) → metadata_at after x.at.base ≡ metadata_at kv x.at.base → TxnBytes P kv x → TxnBytes P after x
+  pub txn_along : (kv after : Store Key Value) (x : TxnView) → metadata_at after x.at.base ≡ metadata_at kv x.at.base → TxnBytes P Q kv x → TxnBytes P Q after x
   txn_along kv after x same h = record {
-    hand = record { base = subst (MapBytes P) (sym same) h.hand.base; changes = h.hand.changes; slices = h.hand.slices };
+    hand = record { base = subst (MapBytes P Q) (sym same) h.hand.base; changes = h.hand.changes; slices = h.hand.slices };
     log = h.log;
   }
 
   -- the maps that can be read later: the map now, and those that could be read before
-  pub live_along : (old new : TablesView) → AreSound old → KeepsMaps old.kv new.kv → Reaches old.kv new.kv → TablesBytes P old → MapBytes P (metadata_now new.kv)
-      → (n : ℕ) → IsTrue (is_live new.kv n) → MapBytes P (metadata_at new.kv n)
+  pub live_along : (old new : TablesView) → AreSound old → KeepsMaps old.kv new.kv → Reaches old.kv new.kv → TablesBytes P Q old → MapBytes P Q
+      (metadata_now new.kv)
+      → (n : ℕ) → IsTrue (is_live new.kv n) → MapBytes P Q (metadata_at new.kv n)
   live_along old new sound maps reach h map n live = ⊎_elim
-      (λ now. subst (λ k. MapBytes P (metadata_at new.kv k)) (sym now) map)
+      (λ now. subst (λ k. MapBytes P Q (metadata_at new.kv k)) (sym now) map)
       (λ pinned.
       let was : IsTrue (is_live old.kv n) = reach n pinned in
-      subst (MapBytes P) (sym (maps n (live_upto old n sound was))) (h.live n was))
+      subst (MapBytes P Q) (sym (maps n (live_upto old n sound was))) (h.live n was))
       (live_cases new.kv n live)
 
   -- of all transactions one alone is now this one, or none
-  pub bytes_set : (old new : TablesView) (c : ℕ) (now : Option TxnView) → AreSound old → Sets c now old.clients new.clients → KeepsMaps old.kv new.kv → Reaches old.kv new.kv → TablesBytes P old → MapBytes P (metadata_now new.kv)
-      → ((x : TxnView) → now ≡ Some x → TxnBytes P new.kv x) → TablesBytes P new
+  pub bytes_set : (old new : TablesView) (c : ℕ) (now : Option TxnView) → AreSound old → Sets c now old.clients new.clients → KeepsMaps old.kv new.kv →
+      Reaches old.kv new.kv → TablesBytes P Q old → MapBytes P Q (metadata_now new.kv)
+      → ((x : TxnView) → now ≡ Some x → TxnBytes P Q new.kv x) → TablesBytes P Q new
   bytes_set old new c now sound sets maps reach h map own = record {
     live = live_along old new sound maps reach h map;
     each = λ d x is. ⊎_elim
@@ -47,40 +50,46 @@ module _ (P : List Place → Bool) where
   }
 
   -- the map now, where the number stays
-  pub now_along : (old new : Store Key Value) → new.number ≡ old.number → KeepsMaps old new → MapBytes P (metadata_now old) → MapBytes P (metadata_now new)
-  now_along old new number maps h = subst (MapBytes P) (sym (ap (metadata_at new) number ∙ maps old.number (omega arith))) h
+  pub now_along : (old new : Store Key Value) → new.number ≡ old.number → KeepsMaps old new → MapBytes P Q (metadata_now old) → MapBytes P Q (metadata_now new)
+  now_along old new number maps h = subst (MapBytes P Q) (sym (ap (metadata_at new) number ∙ maps old.number (omega arith))) h
 
-  pub stays_bytes : (old new : TablesView) (c : ℕ) → AreSound old → Stays old new c → TablesBytes P old → TablesBytes P new
+  pub stays_bytes : (old new : TablesView) (c : ℕ) → AreSound old → Stays old new c → TablesBytes P Q old → TablesBytes P Q new
   stays_bytes old new c sound st h =
-      bytes_set old new c (of_client old.clients c) sound st.clients st.maps (same_reaches old.kv new.kv st.pins) h (now_along old.kv new.kv st.number st.maps (now_bytes P old h))
+      bytes_set old new c (of_client old.clients c) sound st.clients st.maps (same_reaches old.kv new.kv st.pins) h
+      (now_along old.kv new.kv st.number st.maps (now_bytes P Q old h))
       (λ x is. txn_along old.kv new.kv x (st.maps x.at.base (sound.each c x is).based) (h.each c x is))
 
   -- a transaction goes on at its base
-  pub keeps_bytes : (old new : TablesView) (c : ℕ) (y : TxnView) → AreSound old → Keeps old new c (Some y) → TxnBytes P old.kv y → TablesBytes P old → TablesBytes P new
+  pub keeps_bytes : (old new : TablesView) (c : ℕ) (y : TxnView) → AreSound old → Keeps old new c (Some y) → TxnBytes P Q old.kv y → TablesBytes P Q old →
+      TablesBytes P Q new
   keeps_bytes old new c y sound keeps own h =
       let maps : KeepsMaps old.kv new.kv = λ n le. ap (λ (s : Store Key Value). metadata_at s n) keeps.kv in
       let reach : Reaches old.kv new.kv = same_reaches old.kv new.kv (λ n. ap (λ (s : Store Key Value). times_pinned s n) keeps.kv) in
-      bytes_set old new c (Some y) sound keeps.clients maps reach h (subst (λ (s : Store Key Value). MapBytes P (metadata_now s)) (sym keeps.kv) (now_bytes P old h))
-      (λ x is. subst (λ (s : Store Key Value). TxnBytes P s x) (sym keeps.kv) (subst (TxnBytes P old.kv) (let e : y ≡ x = cc in e) own))
+      bytes_set old new c (Some y) sound keeps.clients maps reach h (subst (λ (s : Store Key Value). MapBytes P Q (metadata_now s)) (sym keeps.kv)
+      (now_bytes P Q old h))
+      (λ x is. subst (λ (s : Store Key Value). TxnBytes P Q s x) (sym keeps.kv) (subst (TxnBytes P Q old.kv) (let e : y ≡ x = cc in e) own))
 
   -- it has ended
-  pub ends_bytes : (old new : TablesView) (mid : Store Key Value) (c : ℕ) (x : TxnView) → AreSound old → Ends old new mid c x → MapBytes P (metadata_now mid) → TablesBytes P old → TablesBytes P new
+  pub ends_bytes : (old new : TablesView) (mid : Store Key Value) (c : ℕ) (x : TxnView) → AreSound old → Ends old new mid c x → MapBytes P Q
+      (metadata_now mid) → TablesBytes P Q old → TablesBytes P Q new
   ends_bytes old new mid c x sound ends map h =
       let at : (n : ℕ) → metadata_at new.kv n ≡ metadata_at mid n = λ n. ap (λ (s : Store Key Value). metadata_at s n) ends.kv in
       bytes_set old new c None sound ends.clients (λ n le. at n ∙ ends.maps n le) (ended_reaches old.kv mid new.kv x.at.base ends.pins ends.unpinned) h
-      (subst (MapBytes P) (sym (ap (λ (s : Store Key Value). metadata_now s) ends.kv)) map)
+      (subst (MapBytes P Q) (sym (ap (λ (s : Store Key Value). metadata_now s) ends.kv)) map)
       (λ y is. absurd (cc))
 
   -- it ended, and the map now is as it was
-  pub leaves_bytes : (old new : TablesView) (mid : Store Key Value) (c : ℕ) (x : TxnView) → AreSound old → Ends old new mid c x → mid.number ≡ old.kv.number → TablesBytes P old → TablesBytes P new
-  leaves_bytes old new mid c x sound ends same h = ends_bytes old new mid c x sound ends (now_along old.kv mid same ends.maps (now_bytes P old h)) h
+  pub leaves_bytes : (old new : TablesView) (mid : Store Key Value) (c : ℕ) (x : TxnView) → AreSound old → Ends old new mid c x → mid.number ≡ old.kv.number →
+      TablesBytes P Q old → TablesBytes P Q new
+  leaves_bytes old new mid c x sound ends same h = ends_bytes old new mid c x sound ends (now_along old.kv mid same ends.maps (now_bytes P Q old h)) h
 
   -- no transaction is open, and no other number can be read
-  pub bytes_alone : (tables : TablesView) → ((c : ℕ) → of_client tables.clients c ≡ None) → ((n : ℕ) → IsTrue (is_pinned tables.kv n) → n ≡ tables.kv.number) → MapBytes P (metadata_now tables.kv) → TablesBytes P tables
+  pub bytes_alone : (tables : TablesView) → ((c : ℕ) → of_client tables.clients c ≡ None) →
+      ((n : ℕ) → IsTrue (is_pinned tables.kv n) → n ≡ tables.kv.number) → MapBytes P Q (metadata_now tables.kv) → TablesBytes P Q tables
   bytes_alone tables none alone map = record {
     live = λ n live. ⊎_elim
-        (λ now. subst (λ k. MapBytes P (metadata_at tables.kv k)) (sym now) map)
-        (λ pinned. subst (λ k. MapBytes P (metadata_at tables.kv k)) (sym (alone n pinned)) map)
+        (λ now. subst (λ k. MapBytes P Q (metadata_at tables.kv k)) (sym now) map)
+        (λ pinned. subst (λ k. MapBytes P Q (metadata_at tables.kv k)) (sym (alone n pinned)) map)
         (live_cases tables.kv n live);
     each = λ c x is. absurd (let e : None ≡ Some x = sym (none c) ∙ is in cc);
   }

@@ -1,5 +1,5 @@
 -- A line that leaves all as it was, refused or answered by a fault.
-use Rattle.std.proofs.Common.{◌≡◌, ◌≤◌, ◌<◌, ℕ, ◌+◌, nat_eq, None, Some, refl, sym, ap, ◌∙◌, subst, inr, arith}
+use Rattle.std.proofs.Common.{◌≡◌, ◌≤◌, ◌<◌, ℕ, ◌+◌, nat_eq, [], None, Some, refl, sym, ap, ◌∙◌, subst, inr, arith}
 use Rattle.std.specs.Prelude.{if◌then◌else◌}
 use Rattle.std.specs.FinMap.{get}
 use Rattle.wtf_base.specs.declared.fault.Fault.{Fault}
@@ -22,10 +22,10 @@ use Rattle.wtf_replay.specs.Causes.{fault_answer}
 use Rattle.wtf_replay.proofs.Keeping.{fit_after}
 use Rattle.wtf_clients.specs.Views.{TablesView, of_client, metadata_now}
 use Rattle.wtf_clients.specs.Sounds.{owned, IsOpen, AreSound, Sets}
-use Rattle.wtf_clients.specs.Standing.{TablesStand}
+use Rattle.wtf_clients.specs.Standing.{StandsForSlot, TablesStand}
 use Rattle.wtf_clients.specs.Turns.{Keeps, Stays}
-use Rattle.wtf_clients.proofs.Frames.{Turned, txn_on, slot_on, sound_turned, stands_turned}
-use Rattle.wtf_clients.proofs.Images.{before_same}
+use Rattle.wtf_clients.proofs.SinceLaws.{since_kept}
+use Rattle.wtf_clients.proofs.Frames.{Turned, untouched_same, txn_on, slot_on, sound_turned, stands_kept}
 use Rattle.wtf_clients.proofs.Later.{Stands-later}
 
 -- the answers to faults of the stores
@@ -101,15 +101,13 @@ module _ (old new : TablesView) (c : ℕ) (sound : AreSound old) (st : Stays old
   pub stays_stand : (size : ℕ) (told later : Told) (m : Machine) → TablesStand size told old m → TellsOn told later → TablesStand size later new m
   stays_stand size told later m stand on =
       let now_is : metadata_now new.kv ≡ metadata_now old.kv = ap (metadata_at new.kv) st.number ∙ st.maps old.kv.number (omega arith) in
-      let trees : (tx : ℕ) → Stands size told tx 0 (metadata_now old.kv) m.now → Stands size later tx 0 (metadata_now new.kv) m.now = λ tx s.
-      subst (λ v. Stands size later tx 0 v m.now) (sym now_is) (Stands-later told later on size tx 0 (metadata_now old.kv) m.now s) in
-      stands_turned size told later old new m m c (of_client old.clients c) sound stand on stays_turned (λ d other. refl)
-      (stand.number ∙ sym st.number) refl
-      (before_same old.next_tx new.next_tx (metadata_now old.kv) (metadata_now new.kv) now_is (let next = st.next_tx in omega (arith, next)) stand.before)
-      (slot_on size told later old.kv new.kv m.now m.now (of_client old.clients c) (get m.transactions c)
-      (λ x t is txn. txn_on size told later old.kv new.kv m.now m.now x t on (sound.each c x is).based st.maps (trees x.tx txn.now) txn)
-      (stand.each c))
-      (λ tx other s. trees tx s)
+      stands_kept size told later old new m m c (of_client old.clients c) sound stand on stays_turned st.number st.versions (λ d other. refl) refl refl refl
+      (subst (λ o. StandsForSlot size later new.kv m.now (of_client old.clients c) o) (sym (untouched_same (get m.transactions c) (get m.transactions c) refl))
+      (slot_on size told later old.kv new.kv m.now m.now [] (of_client old.clients c) (get m.transactions c)
+      (λ x t is txn. txn_on size told later old.kv new.kv m.now m.now x t [] on (sound.each c x is).based st.maps
+      (subst (λ v. Stands size later x.tx 0 v m.now) (sym now_is) (Stands-later told later on size x.tx 0 (metadata_now old.kv) m.now txn.now))
+      (since_kept old.kv new.kv x.tx x.at.base t.touched txn.since (sound.each c x is).based st.maps st.number st.versions) txn)
+      (stand.each c)))
 
 -- ---- a transaction that goes on at its base
 module _ (old new : TablesView) (c : ℕ) (x y : TxnView) (sound : AreSound old) (here : of_client old.clients c ≡ Some x) (keeps : Keeps old new c (Some y)) (tx : y.tx ≡ x.tx) (base : y.at.base ≡ x.at.base) (going : y.ended ≡ x.ended) (fit : IsFit old.kv y) where

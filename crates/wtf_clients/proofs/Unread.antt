@@ -1,5 +1,5 @@
--- A slice that was not read has a byte that was not.
-use Rattle.std.proofs.Common.{◌≡◌, ℕ, ◌<◌, ◌≤◌, Bool, true, List, [], ◌∷◌, length, map, refl, ◌∙◌, subst, arith}
+-- A slice that was not read has a byte that was not; and bytes that are no list were so when they were read.
+use Rattle.std.proofs.Common.{◌≡◌, ℕ, ◌+◌, ◌<◌, ◌≤◌, Bool, true, false, List, [], ◌∷◌, length, map, take, get_or, refl, ap, ◌∙◌, subst, arith}
 use Rattle.std.specs.List.{All}
 use Rattle.std.proofs.lemmas.Bool.{eqb-true, eq-eqb}
 use Rattle.std.proofs.lemmas.List.{length-map}
@@ -14,7 +14,7 @@ use Rattle.wtf_base.specs.declared.slice.Extents.TheVariants.{One, Two, Three}
 use Rattle.wtf_base.specs.Extents.{IsSound, pointers_to}
 use Rattle.wtf_base.specs.Slices.{pointers_of}
 use Rattle.wtf_base.specs.Places.{place_in}
-use Rattle.wtf_dev.specs.Store.{StoreKind, KindLaws}
+use Rattle.wtf_dev.specs.Store.{Kept, StoreKind, KindLaws}
 use Rattle.wtf_overlay.specs.declared.part.Part.{Part}
 use Rattle.wtf_overlay.specs.declared.part.Part.TheVariants.{Held}
 use Rattle.wtf_overlay.specs.declared.part.Piece.{Piece}
@@ -24,16 +24,16 @@ use Rattle.wtf_replica.specs.Faults.{AreAllOut, last_server}
 use Rattle.wtf_replica.specs.Outs.{IsOut}
 use Rattle.wtf_replica.specs.Spans.{Span, span}
 use Rattle.wtf_replica.proofs.Spans.{each_kept, out_since}
-use Rattle.wtf_meta.specs.Bytes.{PartBytes, PiecesBytes}
-use Rattle.wtf_meta.proofs.Named.{plans_bytes}
+use Rattle.wtf_meta.specs.Bytes.{PartBytes, PiecesBytes, SliceBytes}
 use Rattle.wtf_region.specs.declared.dev.Dev.{Dev}
 use Rattle.wtf_region.specs.Devs.{GoesOn, stores, between}
 use Rattle.wtf_region.specs.Inside.{is_inside}
 use Rattle.wtf_region.specs.Showing.{LacksPiece, pieces_in}
-use Rattle.wtf_rw.specs.Reads.{LacksBytes}
-use Rattle.wtf_rw.proofs.FaultWays.{pieces_in-All, All-middle, servers_known}
+use Rattle.wtf_region.proofs.ListReads.{some_bytes}
+use Rattle.wtf_steps.specs.Faults.{LacksBytes}
+use Rattle.wtf_steps.proofs.FaultWays.{pieces_in-All, All-middle, servers_known}
 use Rattle.wtf_clients.specs.Named.{has_copies}
-use Rattle.wtf_clients.specs.Outcomes.{AscendFrom, last_of, IsLost, IsUnread}
+use Rattle.wtf_clients.specs.Outcomes.{AscendFrom, last_of, IsLost, IsUnread, IsNoList}
 
 -- the places of a byte of a slice go up by server
 ascends : (n i : ℕ) (e : Extents) → IsSound n e → AscendFrom 0 (map (place_in i) (pointers_to n e))
@@ -91,6 +91,15 @@ module _ {S : Type 0} (kind : StoreKind S) (t : Span S) (shelf : List S) (settin
         width = λ h. width_of settings.replicas (part_origin (Held s) 0) (some_place s.len 0 s.extents) (of (has_copies settings.replicas) (copies h));
       }
 
+  -- a list that was not read has such a slice, where a region has a base
+  pub unread_list : (s : Slice) (full : Type 0) (k : ℕ) → SliceBytes (is_inside kind shelf settings) s → (full → ⊥) → AreAllOut kind t s k → IsUnread kind t
+      settings full k
+  unread_list s full k inside based out = record {
+    places = part_origin (Held s) 0;
+    lost = lost s k (inside 0 (some_bytes s)) out;
+    width = λ h. absurd (based h);
+  }
+
 -- what was not read in a later part of a span was not read in it
 pub unread_since : {S : Type 0} {kind : StoreKind S} → KindLaws kind → (old mid new : Dev S) (settings : Settings) (full : Type 0) (k : ℕ) → GoesOn kind old mid [] → IsUnread kind (between mid new) settings full k
     → IsUnread kind (between old new) settings full k
@@ -108,12 +117,45 @@ unread_since {S} {kind} laws old mid new settings full k goes un = record {
   width = un.width;
 }
 
--- bytes that were not shown have one that was not read, where all of them lie inside, and have their copies
-pub lacks_unread : {S : Type 0} {kind : StoreKind S} → KindLaws kind → (shelf : List S) (settings : Settings) (old new : Dev S) (n : ℕ) (f : ℕ → List Place) (full : Type 0) (k : ServerId) → settings.servers ≤ length shelf
-    → ((i : ℕ) → i < n → is_inside kind shelf settings (f i) ≡ true) → (full → (i : ℕ) → i < n → has_copies settings.replicas (f i) ≡ true)
-    → LacksBytes kind old new n f (fault.Read k) → IsUnread kind (between old new) settings full k.0
-lacks_unread {kind = kind} laws shelf settings old new n f full k enough inside copies lacks =
-    unread_since laws old lacks.mid new settings full k.0 lacks.goes
-    (unread kind (between lacks.mid new) shelf settings enough lacks.pieces n full k.0
-    (plans_bytes (is_inside kind shelf settings) lacks.pieces n f lacks.plans inside)
-    (λ h. plans_bytes (has_copies settings.replicas) lacks.pieces n f lacks.plans (copies h)) lacks.fault)
+-- and what was read in a later part of it that is no list was read in it
+pub no_list_since : {S : Type 0} {kind : StoreKind S} → KindLaws kind → (old mid new : Dev S) (settings : Settings) (bare : Type 0) (k : ℕ) → GoesOn kind old
+    mid [] → IsNoList kind (between mid new) settings bare k
+    → IsNoList kind (between old new) settings bare k
+no_list_since {S} {kind} laws old mid new settings bare k goes was =
+    let read = was.read in
+    let known : k < length (stores old) = let here = read.known in let same = goes.each.same_length in omega (arith, here, same) in
+    record {
+      slice = was.slice;
+      bytes = was.bytes;
+      whole = was.whole;
+      read = record {
+        copy = read.copy;
+        pointer = read.pointer;
+        is_copy = read.is_copy;
+        server = read.server;
+        known = known;
+        up = subst (λ r. is_down r.now k ≡ false) goes.replicas read.up;
+        bytes = λ d j b below told.
+            let kept : Kept (kind.view (get_or (stores old) k d)) (kind.view (get_or (stores mid) k d)) [] = each_kept laws goes.each k d known in
+            read.bytes d j b below (kept.bytes read.pointer.file (read.pointer.at + 0 + j) b tt told);
+        earlier = All-weaker (λ (p : Pointer). IsOut kind (between mid new) p.server.0) (λ (p : Pointer). IsOut kind (between old new) p.server.0)
+            (λ p h. out_since kind (is_down old.replicas.now) (stores old) (stores mid) (stores new) goes.each.same_length (each_kept laws goes.each) p.server.0
+            (subst (λ r. IsOut kind (span (is_down r.now) (stores mid) (stores new)) p.server.0) goes.replicas h)) (take read.copy (pointers_of was.slice))
+            read.earlier;
+      };
+      bad = was.bad;
+      based = was.based;
+    }
+
+-- bytes that were not shown have one that was not read, where they have their copies
+pub lacks_unread : {S : Type 0} {kind : StoreKind S} → KindLaws kind → (old new : Dev S) (n : ℕ) (Are : List Piece → Type 0) (full : Type 0) (k : ServerId)
+    → (full → (ps : List Piece) → Are ps → PiecesBytes (has_copies old.settings.replicas) ps) → LacksBytes kind old new n Are (fault.Read k) → IsUnread kind
+    (between old new) old.settings full k.0
+lacks_unread {kind = kind} laws old new n Are full k copies lacks =
+    let same = lacks.goes.settings in
+    let few = ap (λ (st : Settings). st.servers) same in
+    let there = lacks.goes.sound.shelf in
+    unread_since laws old lacks.mid new old.settings full k.0 lacks.goes
+    (unread kind (between lacks.mid new) (stores lacks.mid) old.settings (omega (arith, there, few)) lacks.pieces n full k.0
+    (subst (λ (st : Settings). PiecesBytes (is_inside kind (stores lacks.mid) st) lacks.pieces) same lacks.inside)
+    (λ h. copies h lacks.pieces lacks.are) lacks.fault)

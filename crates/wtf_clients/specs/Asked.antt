@@ -50,9 +50,9 @@ abbrev pub IsLinePlace : {S : Type 0} → Dev S → TablesView → Event → Pla
 IsLinePlace dev tables (event.Client c (verb.Call o)) place = OfClient tables c (λ x. IsCallPlace dev (seen tables.kv x.at) x.session o place)
 IsLinePlace dev tables e place = ⊥
 
--- Why a line fails: a call for want of servers, or of a byte that it is to show; a step for want of a byte that the call is to
--- show which it replays; a commit for want of one of those that it replays, with what is then in hand; a dump for want of a
--- byte of the file.
+-- Why a line fails: a call for want of servers, of a byte that it is to show, or of a list of a file that it reads or takes; a step
+-- for want of one for the call which it replays; a commit for want of one for those that it replays, with what is then in hand; a
+-- dump for want of a byte or a list of the file.
 abbrev pub IsLineFault : {S : Type 0} → StoreKind S → (old new : Dev S) → TablesView → Event → Fault → Type 0
 IsLineFault kind old new tables (event.Client c (verb.Call o)) why = OfClient tables c (λ x. IsCallFault kind old new (seen tables.kv x.at) x.session o why)
 IsLineFault kind old new tables (event.Client c verb.Step) why = OfClient tables c (λ x. FaultAt kind old new tables.kv (hand_of x) (slice_get x.log.ops x.replayed) why)

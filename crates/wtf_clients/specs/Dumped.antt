@@ -1,5 +1,5 @@
 -- The bytes of a whole file: what a dump shows, and why it did not.
-use Rattle.std.specs.Prelude.{◌≡◌, ◌≤◌, ◌*◌, ℕ, min, nat_le, List, length, Some, if◌then◌else◌, ⊤}
+use Rattle.std.specs.Prelude.{◌≡◌, ◌≤◌, ◌*◌, ℕ, min, nat_le, List, [], length, Some, if◌then◌else◌, ⊤}
 use Rattle.wtf_base.specs.declared.fault.Fault.{Fault}
 use Rattle.wtf_base.specs.declared.ids.InodeId.{InodeId}
 use Rattle.wtf_dev.specs.Store.{StoreKind}
@@ -10,14 +10,16 @@ use Rattle.wtf_model.specs.declared.limits.TheConstants.{MAX_DUMPED, MAX_REGIONS
 use Rattle.wtf_model.specs.Lawful.{dumped, or_refusal}
 use Rattle.wtf_model.specs.Tree.{Tree}
 use Rattle.wtf_values.specs.declared.value.Node.TheVariants.{File}
-use Rattle.wtf_meta.specs.Contents.{Told}
+use Rattle.wtf_meta.specs.Bytes.{MapBytes}
+use Rattle.wtf_meta.specs.Contents.{Told, is_told, is_listed}
 use Rattle.wtf_meta.specs.FileEdits.{file_of}
-use Rattle.wtf_meta.specs.Files.{FileView, file_len, file_origin}
+use Rattle.wtf_meta.specs.Files.{FileView, file_len}
 use Rattle.wtf_meta.specs.Maps.{Map}
-use Rattle.wtf_meta.specs.Trees.{Stands}
+use Rattle.wtf_meta.specs.Trees.{IsBody, Stands}
 use Rattle.wtf_index.specs.Checks.{stands_at}
 use Rattle.wtf_region.specs.declared.dev.Dev.{Dev}
-use Rattle.wtf_rw.specs.Reads.{LacksBytes}
+use Rattle.wtf_region.specs.Cached.{Remembered, CacheTrue}
+use Rattle.wtf_rw.specs.Reads.{LacksRead}
 
 -- what is answered of a file with these bytes
 abbrev pub file_answer : List ℕ → Answer
@@ -29,14 +31,22 @@ IsDumpAnswer (answer.Shown bytes) = ⊤
 IsDumpAnswer (answer.Refused w) = ⊤
 IsDumpAnswer a = ⊥
 
--- on each tree for which the map stands, the answer is that of the definitions
-abbrev pub IsDumped : ℕ → Told → Map → List ℕ → Answer → Type 0
-IsDumped size told w p a = (tx k : ℕ) (t : Tree) → Stands size told tx k w t → a ≡ or_refusal (dumped t p)
+-- Over stores that tell each byte of a map, with the lists of its bases, the answer shows the file of an inode; where each list that
+-- was remembered is what the bytes of its slice decode to, if these are told.
+abbrev pub IsShownFile : ℕ → Told → Remembered → Map → InodeId → Answer → Type 0
+IsShownFile size told lists w i a =
+    CacheTrue told size [] lists → MapBytes (is_told told) (is_listed size told) w → (bytes : List ℕ) → IsBody size told w i bytes → a ≡ file_answer bytes
 
--- the bytes of a file that is not too long were not shown, for a fault; no file is longer than its greatest number of regions
+-- on each tree for which the map stands, it is that of the definitions
+abbrev pub IsDumped : ℕ → Told → Remembered → Map → List ℕ → Answer → Type 0
+IsDumped size told lists w p a =
+    CacheTrue told size [] lists → (tx k : ℕ) (t : Tree) → Stands size told tx k w t → a ≡ or_refusal (dumped t p)
+
+-- the bytes of a file that is not too long were not shown, since a list of it was not read, or some of the bytes; no file is longer
+-- than its greatest number of regions
 pub record LacksFile {S : Type 0} (kind : StoreKind S) (old new : Dev S) (v : FileView) (why : Fault) : Type 0 where
   pub short : file_len old.settings.region v ≤ MAX_DUMPED
-  pub lacks : LacksBytes kind old new (min (file_len old.settings.region v) (MAX_REGIONS * old.settings.region)) (file_origin old.settings.region v) why
+  pub lacks : LacksRead kind old new v 0 (min (file_len old.settings.region v) (MAX_REGIONS * old.settings.region)) why
 
 -- it is the file at a path
 pub record LacksDump {S : Type 0} (kind : StoreKind S) (old new : Dev S) (w : Map) (p : List ℕ) (why : Fault) : Type 0 where

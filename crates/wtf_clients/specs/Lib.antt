@@ -1,5 +1,6 @@
 pub mod Views
 pub mod Sounds
+pub mod Touched
 pub mod Standing
 pub mod Saves
 pub mod Turns

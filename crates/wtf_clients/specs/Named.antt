@@ -1,5 +1,6 @@
--- The bytes that the tables name: those of the map at each number that can be read, and of each open transaction.
-use Rattle.std.specs.Prelude.{◌≡◌, ◌==◌, ℕ, Bool, true, IsTrue, List, [], ◌∷◌, length, Some}
+-- The bytes and the bases that the tables name: those of the map at each number that can be read, and of each open transaction.
+use Rattle.std.specs.Prelude.{◌≡◌, ◌==◌, ℕ, Bool, true, false, IsTrue, List, [], ◌∷◌, length, Some}
+use Rattle.wtf_base.specs.declared.slice.Slice.{Slice}
 use Rattle.wtf_kv.specs.Stores.{is_live}
 use Rattle.wtf_overlay.specs.Origin.{Place}
 use Rattle.wtf_meta.specs.Bytes.{MapBytes}
@@ -9,10 +10,17 @@ use Rattle.wtf_replay.specs.Insides.{TxnBytes}
 use Rattle.wtf_clients.specs.Views.{TablesView, of_client}
 
 -- P holds of the places of each byte of the map now and of the map at each number that is pinned, for a transaction or for an
--- image, and of each byte that an open transaction names
-pub record TablesBytes (P : List Place → Bool) (tables : TablesView) : Type 0 where
-  pub live : (n : ℕ) → IsTrue (is_live tables.kv n) → MapBytes P (metadata_at tables.kv n)
-  pub each : (c : ℕ) (x : TxnView) → of_client tables.clients c ≡ Some x → TxnBytes P tables.kv x
+-- image, and of each byte that an open transaction names; and Q of the slice of each base of these
+pub record TablesBytes (P : List Place → Bool) (Q : Slice → Bool) (tables : TablesView) : Type 0 where
+  pub live : (n : ℕ) → IsTrue (is_live tables.kv n) → MapBytes P Q (metadata_at tables.kv n)
+  pub each : (c : ℕ) (x : TxnView) → of_client tables.clients c ≡ Some x → TxnBytes P Q tables.kv x
+
+-- the test that every byte passes, and the one that no slice does: where the slice of each base passes it there is none
+abbrev pub any_byte : List Place → Bool
+any_byte places = true
+
+abbrev pub no_slice : Slice → Bool
+no_slice s = false
 
 -- a hole, or so many copies
 abbrev pub has_copies : ℕ → List Place → Bool

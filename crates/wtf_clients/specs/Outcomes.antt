@@ -1,15 +1,20 @@
 -- What a line adds to the stores, and why one is answered by a fault.
-use Rattle.std.specs.Prelude.{◌≡◌, ◌⊎◌, ◌<◌, ◌≤◌, ◌+◌, ℕ, List, [], ◌∷◌, length, ⊤}
+use Rattle.std.specs.Prelude.{◌≡◌, ◌⊎◌, ◌<◌, ◌≤◌, ◌+◌, ℕ, false, List, [], ◌∷◌, length, Some, ⊤}
 use Rattle.std.specs.List.{All}
 use Rattle.wtf_base.specs.declared.settings.Settings.{Settings}
 use Rattle.wtf_base.specs.declared.slice.Slice.{Slice}
+use Rattle.wtf_base.specs.Slices.{len_of}
 use Rattle.wtf_dev.specs.Store.{StoreKind}
+use Rattle.wtf_overlay.specs.declared.part.Entry.{Entry}
 use Rattle.wtf_overlay.specs.Origin.{Place}
+use Rattle.wtf_overlay.specs.Spilled.{decoded}
 use Rattle.wtf_ring.specs.Points.{PlaceView}
 use Rattle.wtf_replica.specs.Spans.{Span}
 use Rattle.wtf_replica.specs.Outs.{IsOut, SameLengths}
-use Rattle.wtf_replica.specs.Copies.{IsStored}
+use Rattle.wtf_replica.specs.Copies.{IsFetched, IsStored}
+use Rattle.wtf_replica.specs.Inside.{size_in}
 use Rattle.wtf_replica.specs.Faults.{AreTooFew}
+use Rattle.wtf_region.specs.Inside.{list_lies_inside}
 use Rattle.wtf_model.specs.declared.op.Op.{Op}
 use Rattle.wtf_model.specs.declared.op.Op.TheVariants as op
 use Rattle.wtf_model.specs.declared.event.Verb.{Verb}
@@ -60,11 +65,22 @@ pub record IsLost {S : Type 0} (kind : StoreKind S) (t : Span S) (settings : Set
   pub out : All (λ p. IsOut kind t p.server) places
   pub last : last_of places 0 ≡ k
 
--- Some byte that a line needs was not read. Where each slice is `full` it has as many copies as there are replicas.
+-- Some byte that a line needs was not read, one that it is to show or one of a list. Where each slice is `full` it has as many
+-- copies as there are replicas.
 pub record IsUnread {S : Type 0} (kind : StoreKind S) (t : Span S) (settings : Settings) (full : Type 0) (k : ℕ) : Type 0 where
   pub places : List Place
   pub lost : IsLost kind t settings places k
   pub width : full → length places ≡ settings.replicas
+
+-- What was read from server k of a slice that a line needs is no list of a region's entries, or is one that names bytes outside the
+-- stores. No line needs such a slice where `bare` says that no region has a base.
+pub record IsNoList {S : Type 0} (kind : StoreKind S) (t : Span S) (settings : Settings) (bare : Type 0) (k : ℕ) : Type 0 where
+  pub slice : Slice
+  pub bytes : List ℕ
+  pub whole : length bytes ≡ len_of slice
+  pub read : IsFetched kind t slice 0 bytes k
+  pub bad : (es : List Entry) → decoded settings.region bytes ≡ Some es → list_lies_inside settings.servers (size_in kind t.after) es ≡ false
+  pub based : bare → ⊥
 
 -- one of so many servers is out
 abbrev pub SomeOut : {S : Type 0} → StoreKind S → Span S → ℕ → Type 0
@@ -75,13 +91,13 @@ abbrev pub SaveFault : {S : Type 0} → StoreKind S → Span S → Settings → 
 SaveFault kind t settings rose event.Save = SomeOut kind t settings.servers ⊎ rose
 SaveFault kind t settings rose e = ⊥
 
--- Why a line is answered by a fault: `fault read K` where a byte that it needs was not read, `fault write` where fewer
--- servers than replicas are not out and there are bytes to store, and `fault save` for `saving`. No line answers another
--- fault.
-abbrev pub HasCause : {S : Type 0} → StoreKind S → Span S → Settings → (saving full : Type 0) → List ℕ → Answer → Type 0
-HasCause kind t settings saving full given (answer.FaultRead k) = IsUnread kind t settings full k
-HasCause kind t settings saving full given answer.FaultWrite = (0 < length given) × AreTooFew kind t settings.servers settings.replicas
-HasCause kind t settings saving full given (answer.FaultPunch k) = ⊥
-HasCause kind t settings saving full given answer.FaultSave = saving
-HasCause kind t settings saving full given (answer.Damaged k) = ⊥
-HasCause kind t settings saving full given a = ⊤
+-- Why a line is answered by a fault: `fault read K` where a byte that it needs was not read, `damaged K` where what was read as
+-- a list is none, `fault write` where fewer servers than replicas are not out and there are bytes to store, and `fault save` for
+-- `saving`. No line answers another fault.
+abbrev pub HasCause : {S : Type 0} → StoreKind S → Span S → Settings → (saving bare full : Type 0) → List ℕ → Answer → Type 0
+HasCause kind t settings saving bare full given (answer.FaultRead k) = IsUnread kind t settings full k
+HasCause kind t settings saving bare full given answer.FaultWrite = (0 < length given) × AreTooFew kind t settings.servers settings.replicas
+HasCause kind t settings saving bare full given (answer.FaultPunch k) = ⊥
+HasCause kind t settings saving bare full given answer.FaultSave = saving
+HasCause kind t settings saving bare full given (answer.Damaged k) = IsNoList kind t settings bare k
+HasCause kind t settings saving bare full given a = ⊤

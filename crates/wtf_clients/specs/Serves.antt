@@ -1,21 +1,24 @@
 -- What an answered line made of the bytes that the tables name, and of the stores.
 use Rattle.std.specs.Prelude.{◌≡◌, Bool, true, List, [], ⊤}
 use Rattle.wtf_base.specs.declared.settings.Settings.{Settings}
+use Rattle.wtf_base.specs.declared.slice.Slice.{Slice}
 use Rattle.wtf_dev.specs.Store.{StoreKind}
 use Rattle.wtf_overlay.specs.Origin.{Place}
 use Rattle.wtf_replica.specs.Spans.{Span}
 use Rattle.wtf_model.specs.declared.answer.Answer.{Answer}
 use Rattle.wtf_model.specs.declared.answer.Answer.TheVariants as answer
+use Rattle.wtf_meta.specs.Bytes.{any_slice}
 use Rattle.wtf_region.specs.Inside.{is_inside}
 use Rattle.wtf_clients.specs.Views.{TablesView}
-use Rattle.wtf_clients.specs.Named.{TablesBytes, has_copies}
+use Rattle.wtf_clients.specs.Named.{TablesBytes, any_byte, no_slice, has_copies}
 use Rattle.wtf_model.specs.declared.event.Event.{Event}
 use Rattle.wtf_clients.specs.Asked.{Asked, asked_of, IsPlaced, HasFailed}
 use Rattle.wtf_clients.specs.Outcomes.{AddsBytes, SaveFault, HasCause}
 
--- what is named was named before: what holds of the places of each of those bytes, and of a hole, goes on holding
+-- what is named was named before: what holds of the places of each of those bytes, and of a hole, goes on holding, and so does
+-- what holds of the slice of each base
 abbrev pub NamesTables : TablesView → TablesView → Type 0
-NamesTables old new = (P : List Place → Bool) → P [] ≡ true → TablesBytes P old → TablesBytes P new
+NamesTables old new = (P : List Place → Bool) (Q : Slice → Bool) → P [] ≡ true → TablesBytes P Q old → TablesBytes P Q new
 
 -- an answer that is no fault of the stores
 abbrev pub IsPlain : Answer → Type 0
@@ -26,17 +29,23 @@ IsPlain answer.FaultSave = ⊥
 IsPlain (answer.Damaged k) = ⊥
 IsPlain a = ⊤
 
--- each byte has as many copies as there are replicas
-abbrev pub AreFull : Settings → TablesView → Type 0
-AreFull settings tables = TablesBytes (has_copies settings.replicas) tables
+-- no region has a base: all lists of regions are in the metadata
+abbrev pub AreBare : TablesView → Type 0
+AreBare tables = TablesBytes any_byte no_slice tables
 
--- What the tables, before and after a line, name lies inside the stores as they are left, and has as many copies as there are replicas where it had
--- before. The stores grew by what the line was to store, and a fault has its cause in the line.
+-- and each byte has as many copies as there are replicas
+abbrev pub AreFull : Settings → TablesView → Type 0
+AreFull settings tables = TablesBytes (has_copies settings.replicas) no_slice tables
+
+-- What the tables, before and after a line, name lies inside the stores as they are left; no region has a base where none had one before, and
+-- each byte has as many copies as there are replicas where it had before. The stores grew by what the line was to store, and a fault has its
+-- cause in the line.
 pub record Serves {S : Type 0} (kind : StoreKind S) (t : Span S) (settings : Settings) (saving : Type 0) (tables : TablesView × TablesView) (asked : Asked) (a : Answer) : Type 0 where
-  pub inside : TablesBytes (is_inside kind t.after settings) tables.1
+  pub inside : TablesBytes (is_inside kind t.after settings) any_slice tables.1
+  pub bare : AreBare tables.0 → AreBare tables.1
   pub full : AreFull settings tables.0 → AreFull settings tables.1
   pub adds : AddsBytes kind t settings asked.given a
-  pub caused : HasCause kind t settings saving (AreFull settings tables.0) asked.given a
+  pub caused : HasCause kind t settings saving (AreBare tables.0) (AreFull settings tables.0) asked.given a
   pub placed : IsPlaced kind t settings asked a
   pub failed : HasFailed asked.fails a
 

@@ -1,7 +1,8 @@
 -- What holds of the store and of the open transactions over every device.
-use Rattle.std.specs.Prelude.{◌≡◌, ◌≢◌, ◌<◌, ◌≤◌, ℕ, ◌+◌, false, IsTrue, if◌then◌else◌, nat_eq, count_by, Option, Some, None}
+use Rattle.std.specs.Prelude.{◌≡◌, ◌≢◌, ◌⊎◌, ◌<◌, ◌≤◌, ℕ, ◌+◌, false, IsTrue, if◌then◌else◌, nat_eq, count_by, Option, Some, None}
 use Rattle.std.specs.List.{sum_by, Contains}
-use Rattle.wtf_kv.specs.Stores.{Store, times_pinned, is_pinned, is_live, version_of}
+use Rattle.wtf_kv.specs.Seen.{kept_versions}
+use Rattle.wtf_kv.specs.Stores.{Store, times_pinned, is_pinned, is_live, versions_of, version_of}
 use Rattle.wtf_values.specs.declared.key.Key.{Key}
 use Rattle.wtf_values.specs.declared.value.Value.{Value}
 use Rattle.wtf_values.specs.Keys.{key_cmp}
@@ -61,10 +62,12 @@ pub record IsAlike (old new : TablesView) : Type 0 where
   pub saved : new.saved ≡ old.saved
 
 -- Versions that no one sees may be gone: the number and the pins are what they were, and so is each map that can be read, with
--- the versions that it reports.
+-- the versions that it reports. Of a key all versions stand, or those that are kept.
 pub record IsTidied (old new : TablesView) : Type 0 where
   pub number : new.kv.number ≡ old.kv.number
   pub pins : new.kv.pins ≡ old.kv.pins
+  pub kept : (q : Key) → (versions_of key_cmp new.kv q ≡ versions_of key_cmp old.kv q)
+      ⊎ (versions_of key_cmp new.kv q ≡ kept_versions old.kv.pins (versions_of key_cmp old.kv q))
   pub maps : (n : ℕ) → IsTrue (is_live old.kv n) → metadata_at new.kv n ≡ metadata_at old.kv n
   pub versions : (n : ℕ) → IsTrue (is_live old.kv n) → version_of key_cmp new.kv n ≡ version_of key_cmp old.kv n
   pub next_tx : new.next_tx ≡ old.next_tx

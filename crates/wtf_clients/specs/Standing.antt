@@ -16,9 +16,11 @@ use Rattle.wtf_image.specs.Savable.{AreBefore}
 use Rattle.wtf_replay.specs.Views.{TxnView}
 use Rattle.wtf_replay.specs.Sounds.{IsSound}
 use Rattle.wtf_clients.specs.Views.{TablesView, of_client, metadata_now}
+use Rattle.wtf_clients.specs.Touched.{SinceBase}
 
 -- A transaction is that of the machine: the same calls with what was shown of them, as many of them done, on the same base.
--- The map at the base stands for the tree there, and the map now, in which none of its inodes stands, for the tree now.
+-- The map at the base stands for the tree there, and the map now, in which none of its inodes stands, for the tree now. What has
+-- changed since the base was touched.
 pub record StandsForTxn (size : ℕ) (told : Told) (kv : Store Key Value) (current : Tree) (x : TxnView) (t : Transaction) : Type 0 where
   pub sound : IsSound size kv told x t.ops
   pub base : t.base ≡ x.at.base
@@ -26,6 +28,7 @@ pub record StandsForTxn (size : ℕ) (told : Told) (kv : Store Key Value) (curre
   pub replayed : t.replayed ≡ x.replayed
   pub tree : Stands size told x.tx 0 (metadata_at kv x.at.base) t.tree
   pub now : Stands size told x.tx 0 (metadata_now kv) current
+  pub since : SinceBase kv x.tx x.at.base t.touched
 
 abbrev pub StandsForSlot : ℕ → Told → Store Key Value → Tree → Option TxnView → Option Transaction → Type 0
 StandsForSlot size told kv now None None = ⊤

@@ -4,6 +4,7 @@ use Rattle.std.specs.Prelude.{◌≡◌, ◌≢◌, ◌⊎◌, ℕ, ◌+◌, nat
 use Rattle.std.specs.Set.{remove_key}
 use Rattle.wtf_base.specs.declared.fault.Fault.{Fault}
 use Rattle.wtf_base.specs.declared.slice.Slice.{Slice}
+use Rattle.wtf_dev.specs.Store.{Range}
 use Rattle.wtf_kv.specs.Stores.{Store, IsPinnedOnceMore}
 use Rattle.wtf_values.specs.declared.key.Key.{Key}
 use Rattle.wtf_values.specs.declared.value.Value.{Value}
@@ -19,12 +20,15 @@ use Rattle.wtf_model.specs.Call.{call}
 use Rattle.wtf_model.specs.Transaction.{answers_of}
 use Rattle.wtf_model.specs.Lawful.{IsDone, IsReadFault, MayFail, MayFailRead, dumped, or_refusal}
 use Rattle.wtf_model.specs.declared.event.Verb.TheVariants as verb
-use Rattle.wtf_meta.specs.Bytes.{MapBytes}
-use Rattle.wtf_meta.specs.Contents.{Told, is_told}
+use Rattle.wtf_meta.specs.Lists.{ListFact, TellLists}
+use Rattle.wtf_meta.specs.Bytes.{MapBytes, ListSlices, any_slice}
+use Rattle.wtf_meta.specs.Contents.{Told, is_told, is_listed, lists_in}
 use Rattle.wtf_meta.specs.Maps.{Map, metadata_at, seen}
 use Rattle.wtf_meta.specs.Trees.{Stands}
 use Rattle.wtf_meta.specs.Sessions.{Holds}
 use Rattle.wtf_meta.specs.Calls.{Caller, cap_for}
+use Rattle.wtf_region.specs.Apart.{are_apart}
+use Rattle.wtf_region.specs.Cached.{Remembered, CacheTrue}
 use Rattle.wtf_replay.specs.Views.{TxnView, begun, hand_of}
 use Rattle.wtf_replay.specs.Refusals.{call_refusal, try_refusal, step_refusal}
 use Rattle.wtf_replay.specs.Fits.{IsFit}
@@ -33,7 +37,7 @@ use Rattle.wtf_replay.specs.Causes.{fault_answer}
 use Rattle.wtf_replay.specs.Called.{IsCalled}
 use Rattle.wtf_replay.specs.Tried.{IsCommitted, IsRetried, IsFinal, KeepsMaps, KeepsVersions, KeepsPins, commit_from}
 use Rattle.wtf_replay.specs.Built.{data_len}
-use Rattle.wtf_replay.specs.Effects.{Acts, Redoes, sight_at}
+use Rattle.wtf_replay.specs.Effects.{Scope, Acts, Redoes, sight_at}
 use Rattle.wtf_replay.specs.Installs.{Installs}
 use Rattle.wtf_replay.specs.Replays.{IsReplayed, DeviatesOn}
 use Rattle.wtf_clients.specs.Views.{TablesView, of_client, metadata_now}
@@ -122,27 +126,41 @@ pub record Fails (old new : TablesView) (c : ℕ) (a : Answer) : Type 0 where
   pub stays : Stays old new c
 
 -- The dump of a path shows the bytes of the file on each tree for which the map now stands, or is refused; where it is to
--- show bytes a fault of the stores may come in their place. It leaves all as it was.
-pub record Dumps (servers size : ℕ) (told : Told) (old new : TablesView) (p : List ℕ) (a : Answer) : Type 0 where
+-- show bytes a fault of the stores may come in their place. It leaves all as it was. These lists were remembered, each what the
+-- bytes of its slice decode to, where these are told.
+pub record Dumps (servers size : ℕ) (told : Told) (lists : Remembered) (old new : TablesView) (p : List ℕ) (a : Answer) : Type 0 where
   pub stays : (c : ℕ) → Stays old new c
   pub built : a ≢ answer.NotBuilt
-  pub shows : (tx k : ℕ) (t : Tree) → Stands size told tx k (metadata_now old.kv) t
+  pub shows : CacheTrue told size [] lists → (tx k : ℕ) (t : Tree) → Stands size told tx k (metadata_now old.kv) t
       → (a ≡ or_refusal (dumped t p)) ⊎ MayFailRead servers (or_refusal (dumped t p)) a
 
--- `Telling` says that the stores tell their content: `told` before the line and `later` after it; there are so many servers,
--- and a region has `size` bytes
-module _ (Telling : Type 0) (servers size : ℕ) (told later : Told) where
-  -- the stores also tell each byte of a map
+-- `Telling` says that the stores tell their content: `told` before the line and `later` after it; these lists are remembered of
+-- slices before it; there are so many servers, and a region has `size` bytes
+module _ (Telling : Type 0) (lists : Remembered) (servers size : ℕ) (told later : Told) where
+  -- each list that is remembered is what the bytes of its slice decode to, where these are told; and the stores also tell each byte
+  -- of a map, those that the lists of its bases name too
   abbrev pub Tells : Map → Type 0
-  Tells w = Telling × MapBytes (is_told told) w
+  Tells w = Telling × CacheTrue told size [] lists × MapBytes (is_told told) (is_listed size told) w
 
-  -- a call is logged with its answer; it recorded its own keys and made its own changes
+  -- lists that were read are those that their slices decode to, but where a range has a byte of one; if the lists that are remembered
+  -- are so, and the bytes of the slices were told
+  abbrev pub Reads : Scope
+  Reads = record {
+    size = size;
+    known = λ facts. (ranges : List (ℕ × Range)) → CacheTrue told size ranges lists → ListSlices (is_told told) any_slice facts → ListSlices
+        (are_apart ranges) any_slice facts
+        → TellLists (lists_in size later) facts;
+  }
+
+  -- a call is logged with its answer; it recorded its own keys and made its own changes, by these lists
   pub record Calls (old new : TablesView) (c : ℕ) (x : TxnView) (o : Op (List ℕ)) (a : Answer) : Type 0 where
     pub later_one : TxnView
     pub own : Option Slice
     pub keeps : Keeps old new c (Some later_one)
     pub called : IsCalled x later_one o own a
-    pub acts : Acts (sight_at size old.kv x.tx x.replayed (hand_of x)) (data_len o) own o a x.at later_one.at
+    pub facts : List ListFact
+    pub known : Reads.known facts
+    pub acts : Acts (sight_at size old.kv x.tx x.replayed (hand_of x) facts) (data_len o) own o a x.at later_one.at
     pub fit : IsFit old.kv later_one
     pub sound : Tells (metadata_at old.kv x.at.base) → (ops : List (Op (List ℕ))) → IsSound size old.kv told x ops
         → IsSound size old.kv later later_one (ops ++ o ∷ [])
@@ -158,7 +176,7 @@ module _ (Telling : Type 0) (servers size : ℕ) (told later : Told) where
     pub later_one : TxnView
     pub keeps : Keeps old new c (Some later_one)
     pub replayed : IsReplayed x later_one i
-    pub acts : Redoes size old.kv x x.replayed (hand_of x) (hand_of later_one)
+    pub acts : Redoes Reads old.kv x x.replayed (hand_of x) (hand_of later_one)
     pub fit : IsFit old.kv later_one
     pub sound : Tells (metadata_at old.kv x.at.base) → (ops : List (Op (List ℕ))) → IsSound size old.kv told x ops
         → IsSound size old.kv later later_one ops
@@ -170,7 +188,7 @@ module _ (Telling : Type 0) (servers size : ℕ) (told later : Told) where
     pub deviates : Tells (metadata_at old.kv x.at.base) → (ops : List (Op (List ℕ))) → IsSound size old.kv told x ops
         → DeviatesOn (metadata_at old.kv x.at.base) size told x ops i a
 
-  -- the bytes of the next call were not read, which would not be refused
+  -- bytes or lists of the next call were not read, which would not be refused
   pub record StepFails (old new : TablesView) (c : ℕ) (x : TxnView) (a : Answer) : Type 0 where
     pub fails : Fails old new c a
     pub may : (ops : List (Op (List ℕ))) → IsSound size old.kv told x ops → (t : Tree) → Stands size told x.tx 0 (metadata_at old.kv x.at.base) t
@@ -181,9 +199,9 @@ module _ (Telling : Type 0) (servers size : ℕ) (told later : Told) where
     pub mid : Store Key Value
     pub next : n ≡ old.kv.number + 1
     pub number : mid.number ≡ n
-    pub installs : Installs size old.kv mid (commit_from old.kv x) n
+    pub installs : Installs Reads old.kv mid (commit_from old.kv x) n
     pub ends : Ends old new mid c x
-    pub final : Tells (metadata_now old.kv) → (ops : List (Op (List ℕ))) → IsSound size old.kv told x ops
+    pub final : Tells (metadata_at old.kv x.at.base) → Tells (metadata_now old.kv) → (ops : List (Op (List ℕ))) → IsSound size old.kv told x ops
         → IsFinal size later old.kv mid x ops n
 
   -- run on the map now, the calls first answer otherwise than was shown at call i, and there a
@@ -192,13 +210,13 @@ module _ (Telling : Type 0) (servers size : ℕ) (told later : Told) where
     pub number : mid.number ≡ old.kv.number
     pub versions : KeepsVersions old.kv mid
     pub ends : Ends old new mid c x
-    pub deviates : Tells (metadata_now old.kv) → (ops : List (Op (List ℕ))) → IsSound size old.kv told x ops
+    pub deviates : Tells (metadata_at old.kv x.at.base) → Tells (metadata_now old.kv) → (ops : List (Op (List ℕ))) → IsSound size old.kv told x ops
         → DeviatesOn (metadata_now old.kv) size told x ops i a
 
-  -- the bytes of a call that was replayed were not read
+  -- bytes or lists of a call that was replayed were not read
   pub record CommitFails (old new : TablesView) (c : ℕ) (x : TxnView) (a : Answer) : Type 0 where
     pub fails : Fails old new c a
-    pub may : Tells (metadata_now old.kv) → (ops : List (Op (List ℕ))) → IsSound size old.kv told x ops
+    pub may : Tells (metadata_at old.kv x.at.base) → Tells (metadata_now old.kv) → (ops : List (Op (List ℕ))) → IsSound size old.kv told x ops
         → (t : Tree) → Stands size told x.tx 0 (metadata_now old.kv) t → IsReadFault servers a
 
   abbrev pub Steps : TablesView → TablesView → ℕ → TxnView → Answer → Type 0

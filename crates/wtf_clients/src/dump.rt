@@ -1,17 +1,15 @@
 //! All bytes of a file as it stands now.
 
-ghost use Rattle.std.specs.Prelude.{◌≡◌, ◌⊎◌, [], min, ℕ, List, IsTrue, IfOk, IfErr};
-ghost use Rattle.wtf_replica.specs.Bytes.{byte_at};
+ghost use Rattle.std.specs.Prelude.{◌≡◌, ◌⊎◌, [], min, IsTrue, IfOk, IfErr};
 ghost use Rattle.wtf_kv.specs.Stores.{is_pinned};
 ghost use Rattle.wtf_model.specs.declared.limits.TheConstants.{MAX_DUMPED};
 ghost use Rattle.wtf_meta.specs.Maps.{metadata_at, seen};
 ghost use Rattle.wtf_meta.specs.FileEdits.{file_of};
-ghost use Rattle.wtf_meta.specs.Trees.{IsBody};
-ghost use Rattle.wtf_region.specs.Devs.{IsSoundDev, GoesOn, stores, between};
+ghost use Rattle.wtf_region.specs.Devs.{IsSoundDev, GoesOn, stores, remembered, told_in, between};
 ghost use Rattle.wtf_region.specs.Inside.{IsStoredInside};
 ghost use Rattle.wtf_region.specs.Showing.{OnlyRead};
 ghost use Rattle.wtf_replay.specs.Tried.{KeepsMaps, KeepsVersions, KeepsPins};
-ghost use Rattle.wtf_clients.specs.Dumped.{file_answer, IsDumpAnswer, IsDumped, LacksFile, LacksDump};
+ghost use Rattle.wtf_clients.specs.Dumped.{IsDumpAnswer, IsShownFile, IsDumped, LacksFile, LacksDump};
 
 use std::alloc::Global;
 use wtf_base::{Bytes, Fault, InodeId};
@@ -27,18 +25,19 @@ use wtf_values::{Key, Node, Value};
 
 /// Shows all bytes of the file at a path as it stands now. It is refused where nothing stands
 /// there, for a directory, and for a file of more than `MAX_DUMPED` bytes. `Read` where no copy of
-/// some of the bytes could be read. The store shows what it showed, also after a fault.
+/// some of the bytes, or of a list of the file, could be read, and `Damaged` where what was read as a
+/// list is none. The store shows what it showed, also after a fault.
 pub(crate) fn dump_now<S: SliceStore>(
     alloc: Global,
     dev: &mut Dev<'_, S>,
     kv: &mut Kv<Key, Value>,
     p: &Path,
 ) -> Result<Answer, Fault>
-    requires sound { IsSoundDev dev.old }
+    requires sound { IsSoundDev S.kind dev.old }
     requires inside { IsStoredInside S.kind (stores dev.old) dev.old.settings
         (metadata_at kv.old kv.old.number) }
-    ensures shows { IfOk result (IsDumped dev.old.settings.region (byte_at S.kind (stores dev.old))
-        (metadata_at kv.old kv.old.number) p.now) }
+    ensures shows { IfOk result (IsDumped dev.old.settings.region (told_in S.kind dev.old)
+        (remembered dev.old) (metadata_at kv.old kv.old.number) p.now) }
     ensures fault { IfErr result (λ why. (why ≡ Fault.Memory) ⊎ LacksDump S.kind dev.old dev.new
         (metadata_at kv.old kv.old.number) p.now why) }
     ensures number { kv.new.number ≡ kv.old.number }
@@ -66,12 +65,12 @@ fn dump_at<S: SliceStore>(
     number: u64,
     p: &Path,
 ) -> Result<Answer, Fault>
-    requires sound { IsSoundDev dev.old }
+    requires sound { IsSoundDev S.kind dev.old }
     requires pinned { IsTrue (is_pinned kv.now number) }
     requires inside { IsStoredInside S.kind (stores dev.old) dev.old.settings
         (metadata_at kv.now number) }
-    ensures shows { IfOk result (IsDumped dev.old.settings.region (byte_at S.kind (stores dev.old))
-        (metadata_at kv.now number) p.now) }
+    ensures shows { IfOk result (IsDumped dev.old.settings.region (told_in S.kind dev.old)
+        (remembered dev.old) (metadata_at kv.now number) p.now) }
     ensures fault { IfErr result (λ why. (why ≡ Fault.Memory) ⊎ LacksDump S.kind dev.old dev.new
         (metadata_at kv.now number) p.now why) }
     ensures answered { IfOk result IsDumpAnswer }
@@ -106,12 +105,11 @@ fn dump_file<S: SliceStore>(
     at: &mut Attempt<Key, Value>,
     inode: InodeId,
 ) -> Result<Answer, Fault>
-    requires sound { IsSoundDev dev.old }
+    requires sound { IsSoundDev S.kind dev.old }
     requires pinned { IsTrue (is_pinned kv.now at.old.base) }
     requires inside { IsStoredInside S.kind (stores dev.old) dev.old.settings (seen kv.now at.old) }
-    ensures shows { IfOk result (λ a. (bytes : List ℕ) → IsBody dev.old.settings.region
-        (byte_at S.kind (stores dev.old)) (seen kv.now at.old) inode bytes →
-        a ≡ file_answer bytes) }
+    ensures shows { IfOk result (IsShownFile dev.old.settings.region (told_in S.kind dev.old)
+        (remembered dev.old) (seen kv.now at.old) inode) }
     ensures fault { IfErr result (λ why. (why ≡ Fault.Memory) ⊎ LacksFile S.kind dev.old dev.new
         (file_of inode (seen kv.now at.old)) why) }
     ensures answered { IfOk result IsDumpAnswer }

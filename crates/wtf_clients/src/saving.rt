@@ -6,6 +6,7 @@ ghost use Rattle.wtf_dev.specs.Counts.{Rose};
 ghost use Rattle.wtf_dev.specs.Each.{EachFollows};
 ghost use Rattle.wtf_replica.specs.Downs.{settings_of, during};
 ghost use Rattle.wtf_model.specs.declared.event.Event.TheVariants as event;
+ghost use Rattle.wtf_meta.specs.Bytes.{any_slice};
 ghost use Rattle.wtf_region.specs.Inside.{is_inside};
 ghost use Rattle.wtf_clients.specs.Sounds.{AreSound};
 ghost use Rattle.wtf_clients.specs.Named.{TablesBytes};
@@ -33,7 +34,7 @@ impl Tables {
         requires sound { AreSound self.old }
         requires settings { settings_of replicas.now ≡ settings }
         requires shelf { settings.servers ≤ length shelf.old }
-        requires inside { TablesBytes (is_inside S.kind shelf.old settings) self.old }
+        requires inside { TablesBytes (is_inside S.kind shelf.old settings) any_slice self.old }
         ensures turn { IfOk result (SaveTurn (AreUp replicas.now settings.servers)
             self.old self.new) }
         ensures serves { IfOk result (ServesEvent S.kind

@@ -11,8 +11,9 @@ ghost use Rattle.wtf_model.specs.Form.{IsFormOp, IsData};
 ghost use Rattle.wtf_model.specs.declared.answer.Word.TheVariants.{InTx, NoTx};
 ghost use Rattle.wtf_model.specs.declared.event.Event.TheVariants as event;
 ghost use Rattle.wtf_model.specs.declared.event.Verb.TheVariants as verb;
-ghost use Rattle.wtf_region.specs.Devs.{IsSoundDev, GoesOn, stores, between};
+ghost use Rattle.wtf_region.specs.Devs.{IsSoundDev, GoesOn, stores, remembered, between};
 ghost use Rattle.wtf_region.specs.Inside.{is_inside};
+ghost use Rattle.wtf_meta.specs.Bytes.{any_slice};
 ghost use Rattle.wtf_meta.specs.Trees.{IsFirst};
 ghost use Rattle.wtf_clients.specs.Views.{SavedView, of_client, metadata_now, unsaved};
 ghost use Rattle.wtf_clients.specs.Sounds.{AreSound, Sets, IsAlike, IsTidied, all_kept};
@@ -198,13 +199,13 @@ impl Tables {
         op: Op<Bytes>,
     ) -> Result<Answer, OutOfMemory>
         requires sound { AreSound self.old }
-        requires dev { IsSoundDev dev.old }
+        requires dev { IsSoundDev S.kind dev.old }
         requires ring { IsRing dev.old.settings.servers dev.old.ring.now.points }
         requires inside { TablesBytes (is_inside S.kind (stores dev.old) dev.old.settings)
-            self.old }
+            any_slice self.old }
         requires form { IsFormOp IsData op }
         ensures turn { IfOk result (λ a. ClientTurn (TellsAll S.kind (stores dev.old))
-            dev.old.settings.servers dev.old.settings.region
+            (remembered dev.old) dev.old.settings.servers dev.old.settings.region
             (byte_at S.kind (stores dev.old)) (byte_at S.kind (stores dev.new))
             self.old self.new c (verb.Call op) a) }
         ensures serves { IfOk result (ServesLine S.kind (between dev.old dev.new)
@@ -253,12 +254,12 @@ impl Tables {
         c: u8,
     ) -> Result<Answer, OutOfMemory>
         requires sound { AreSound self.old }
-        requires dev { IsSoundDev dev.old }
+        requires dev { IsSoundDev S.kind dev.old }
         requires ring { IsRing dev.old.settings.servers dev.old.ring.now.points }
         requires inside { TablesBytes (is_inside S.kind (stores dev.old) dev.old.settings)
-            self.old }
+            any_slice self.old }
         ensures turn { IfOk result (λ a. ClientTurn (TellsAll S.kind (stores dev.old))
-            dev.old.settings.servers dev.old.settings.region
+            (remembered dev.old) dev.old.settings.servers dev.old.settings.region
             (byte_at S.kind (stores dev.old)) (byte_at S.kind (stores dev.new))
             self.old self.new c verb.Step a) }
         ensures serves { IfOk result (ServesLine S.kind (between dev.old dev.new)
@@ -288,13 +289,13 @@ impl Tables {
         c: u8,
     ) -> Result<Answer, OutOfMemory>
         requires sound { AreSound self.old }
-        requires dev { IsSoundDev dev.old }
+        requires dev { IsSoundDev S.kind dev.old }
         requires ring { IsRing dev.old.settings.servers dev.old.ring.now.points }
         requires inside { TablesBytes (is_inside S.kind (stores dev.old) dev.old.settings)
-            self.old }
+            any_slice self.old }
         requires room { self.old.kv.number < 2 ^ 63 }
         ensures turn { IfOk result (λ a. ClientTurn (TellsAll S.kind (stores dev.old))
-            dev.old.settings.servers dev.old.settings.region
+            (remembered dev.old) dev.old.settings.servers dev.old.settings.region
             (byte_at S.kind (stores dev.old)) (byte_at S.kind (stores dev.new))
             self.old self.new c verb.Commit a) }
         ensures serves { IfOk result (ServesLine S.kind (between dev.old dev.new)
@@ -321,12 +322,12 @@ impl Tables {
         p: &Path,
     ) -> Result<Answer, OutOfMemory>
         requires sound { AreSound self.old }
-        requires dev { IsSoundDev dev.old }
+        requires dev { IsSoundDev S.kind dev.old }
         requires ring { IsRing dev.old.settings.servers dev.old.ring.now.points }
         requires inside { TablesBytes (is_inside S.kind (stores dev.old) dev.old.settings)
-            self.old }
+            any_slice self.old }
         ensures turn { IfOk result (Dumps dev.old.settings.servers dev.old.settings.region
-            (byte_at S.kind (stores dev.old)) self.old self.new p.now) }
+            (byte_at S.kind (stores dev.old)) (remembered dev.old) self.old self.new p.now) }
         ensures serves { IfOk result (ServesLine S.kind (between dev.old dev.new)
             dev.old.settings self.old self.new (event.Dump p.now)) }
         ensures err_sound { OnErr result (AreSound self.new) }

@@ -17,18 +17,20 @@ use Rattle.wtf_model.specs.declared.event.Verb.TheVariants as verb
 use Rattle.wtf_model.specs.Steps.{IsLogged}
 use Rattle.wtf_model.specs.Servers.{down_after_event}
 use Rattle.wtf_meta.specs.Contents.{Told}
+use Rattle.wtf_meta.specs.Bytes.{any_slice}
 use Rattle.wtf_region.specs.Inside.{is_inside}
 use Rattle.wtf_region.proofs.ShowLaws.{reads_nothing}
+use Rattle.wtf_region.specs.Cached.{Remembered}
 use Rattle.wtf_replay.specs.Views.{TxnView}
 use Rattle.wtf_replay.specs.Refusals.{call_refusal, try_refusal, step_refusal}
 use Rattle.wtf_clients.specs.Views.{TablesView, of_client}
 use Rattle.wtf_core.specs.Views.{CoreView}
 use Rattle.wtf_model.specs.Built.{is_built}
 use Rattle.wtf_clients.specs.Saves.{AreUp, SaveTurn}
-use Rattle.wtf_clients.specs.Named.{TablesBytes, has_copies}
+use Rattle.wtf_clients.specs.Named.{TablesBytes, any_byte, no_slice, has_copies}
 use Rattle.wtf_clients.specs.Outcomes.{AddsBytes, data_of}
 use Rattle.wtf_clients.specs.Asked.{asked_of}
-use Rattle.wtf_clients.specs.Serves.{NamesTables, IsPlain, AreFull, ServesLine}
+use Rattle.wtf_clients.specs.Serves.{NamesTables, IsPlain, AreBare, AreFull, ServesLine}
 use Rattle.wtf_clients.specs.Turns.{Refuses, Tries, Calls, CallFails, Steps, Finals, LoneTurn, TxnTurn, ClientTurn}
 use Rattle.wtf_core.specs.Turns.{Switches, ServerTurn, IsTreeAnswer, BuiltTurn, LineTurn}
 use Rattle.wtf_clients.proofs.Pins.{number_cases}
@@ -74,30 +76,31 @@ tries_plain old new c x (answer.Committed n) h = tt
 tries_plain old new c x (answer.Retry b n) h = tt
 tries_plain old new c x a h = absurd h
 
-module _ (Telling : Type 0) (servers size : ℕ) (told later : Told) (old new : TablesView) (c : ℕ) where
+module _ (Telling : Type 0) (lists : Remembered) (servers size : ℕ) (told later : Told) (old new : TablesView) (c : ℕ) where
   or_refused : (P : Type 0) (Q : Type 0) (a : Answer) (r : Option Word) → (P → Q) → ((w : Word) → Refuses old new c w a → Q) → MatchOption r P (λ w. Refuses old new c w a) → Q
   or_refused P Q a None f g h = f h
   or_refused P Q a (Some w) f g h = g w h
 
-  steps_built : (x : TxnView) (a : Answer) → Steps Telling servers size told later old new c x a → IsBuiltAnswer a
+  steps_built : (x : TxnView) (a : Answer) → Steps Telling lists servers size told later old new c x a → IsBuiltAnswer a
   steps_built x (answer.Replayed i) h = tt
   steps_built x (Aborted' i box a) h = tt
   steps_built x a h = fault_built a (fault_is h.fails.why a h.fails.answer)
 
-  finals_built : (x : TxnView) (a : Answer) → Finals Telling servers size told later old new c x a → IsBuiltAnswer a
+  finals_built : (x : TxnView) (a : Answer) → Finals Telling lists servers size told later old new c x a → IsBuiltAnswer a
   finals_built x (answer.Committed n) h = tt
   finals_built x (Aborted' i box a) h = tt
   finals_built x a h = fault_built a (fault_is h.fails.why a h.fails.answer)
 
-  calls_built : (x : TxnView) (o : Op (List ℕ)) (a : Answer) → Calls Telling servers size told later old new c x o a ⊎ CallFails Telling servers size told later old new c x o a → IsBuiltAnswer a
+  calls_built : (x : TxnView) (o : Op (List ℕ)) (a : Answer) → Calls Telling lists servers size told later old new c x o a ⊎ CallFails Telling lists servers
+      size told later old new c x o a → IsBuiltAnswer a
   calls_built x o a (inl h) = logged_built a h.called.logged.answer
   calls_built x o a (inr h) = fault_built a (fault_is h.fails.why a h.fails.answer)
 
-  lone_built : (v : Verb) (a : Answer) → LoneTurn Telling servers size told later old new c v a → IsBuiltAnswer a
+  lone_built : (v : Verb) (a : Answer) → LoneTurn Telling lists servers size told later old new c v a → IsBuiltAnswer a
   lone_built verb.Begin a h = subst IsBuiltAnswer (sym h.answer) tt
   lone_built v a h = refusal_built old new c NoTx a h
 
-  txn_built : (x : TxnView) (v : Verb) (a : Answer) → TxnTurn Telling servers size told later old new c x v a → IsBuiltAnswer a
+  txn_built : (x : TxnView) (v : Verb) (a : Answer) → TxnTurn Telling lists servers size told later old new c x v a → IsBuiltAnswer a
   txn_built x verb.Begin a h = refusal_built old new c InTx a h
   txn_built x verb.Try a h = or_refused _ (IsBuiltAnswer a) a (try_refusal x) (tries_built old new c x a) (λ w. refusal_built old new c w a) h
   txn_built x verb.Step a h = or_refused _ (IsBuiltAnswer a) a (step_refusal x) (steps_built x a) (λ w. refusal_built old new c w a) h
@@ -105,18 +108,20 @@ module _ (Telling : Type 0) (servers size : ℕ) (told later : Told) (old new : 
   txn_built x verb.Abort a h = subst IsBuiltAnswer (sym h.0) tt
   txn_built x (verb.Call o) a h = or_refused _ (IsBuiltAnswer a) a (call_refusal x) (calls_built x o a) (λ w. refusal_built old new c w a) h
 
-  client_built : (v : Verb) (a : Answer) → ClientTurn Telling servers size told later old new c v a → IsBuiltAnswer a
+  client_built : (v : Verb) (a : Answer) → ClientTurn Telling lists servers size told later old new c v a → IsBuiltAnswer a
   client_built v a h = by (of_client old.clients c) h
     where
-      by : (o : Option TxnView) → MatchOption o (LoneTurn Telling servers size told later old new c v a) (λ x. TxnTurn Telling servers size told later old new c x v a) → IsBuiltAnswer a
+      by : (o : Option TxnView) → MatchOption o (LoneTurn Telling lists servers size told later old new c v a)
+          (λ x. TxnTurn Telling lists servers size told later old new c x v a) → IsBuiltAnswer a
       by None g = lone_built v a g
       by (Some x) g = txn_built x v a g
 
   -- lines that need no store are answered by no fault
-  pub local_plain : (v : Verb) (a : Answer) → IsLocal v → ClientTurn Telling servers size told later old new c v a → IsPlain a
+  pub local_plain : (v : Verb) (a : Answer) → IsLocal v → ClientTurn Telling lists servers size told later old new c v a → IsPlain a
   local_plain v a local h = by (of_client old.clients c) v local h
     where
-      by : (o : Option TxnView) (u : Verb) → IsLocal u → MatchOption o (LoneTurn Telling servers size told later old new c u a) (λ x. TxnTurn Telling servers size told later old new c x u a) → IsPlain a
+      by : (o : Option TxnView) (u : Verb) → IsLocal u → MatchOption o (LoneTurn Telling lists servers size told later old new c u a)
+          (λ x. TxnTurn Telling lists servers size told later old new c x u a) → IsPlain a
       by None verb.Begin l g = subst IsPlain (sym g.answer) tt
       by None verb.Try l g = refusal_plain old new c NoTx a g
       by None verb.Abort l g = refusal_plain old new c NoTx a g
@@ -141,7 +146,8 @@ module _ (Telling : Type 0) (told : Told × Told) (old new : CoreView) (a : Answ
   exact_of false f g = (λ e. refl, λ e. g refl)
 
   client_exact : (c : ℕ) (v : Verb) (b : Bool) → MatchBool b (BuiltTurn Telling told old new (event.Client c v) a) ((a ≡ answer.NotBuilt) × (new ≡ old)) → (a ≡ answer.NotBuilt) ↔ (b ≡ false)
-  client_exact c v true h = exact_of true (λ e. client_built Telling old.settings.servers old.settings.region told.0 told.1 old.tables new.tables c v a h.0) (λ e. absurd (true≢false e))
+  client_exact c v true h = exact_of true (λ e. client_built Telling old.lists old.settings.servers old.settings.region told.0 told.1 old.tables new.tables c
+      v a h.0) (λ e. absurd (true≢false e))
   client_exact c v false h = exact_of false (λ e. absurd (true≢false (sym e))) (λ e. h.0)
 
   save_built : (b : Answer) → SaveTurn (AreUp old.replicas old.settings.servers) old.tables new.tables b → IsBuiltAnswer b
@@ -161,8 +167,8 @@ module _ (Telling : Type 0) (told : Told × Told) (old new : CoreView) (a : Answ
   same_down : new ≡ old → (j : ℕ) → is_down new.replicas j ≡ is_down old.replicas j
   same_down e j = ap (λ (core : CoreView). is_down core.replicas j) e
 
-  rest_down : (t : TablesView) → new ≡ record old { tables = t } → (j : ℕ) → is_down new.replicas j ≡ is_down old.replicas j
-  rest_down t e j = ap (λ (core : CoreView). is_down core.replicas j) e
+  rest_down : (t : TablesView) (lists : Remembered) → new ≡ record old { tables = t; lists = lists } → (j : ℕ) → is_down new.replicas j ≡ is_down old.replicas j
+  rest_down t lists e j = ap (λ (core : CoreView). is_down core.replicas j) e
 
   switched : (k : ℕ) (to : Bool) → Switches old new k to a → (j : ℕ) → is_down new.replicas j ≡ (if j == k then to else is_down old.replicas j)
   switched k to h j = ⊎_elim
@@ -179,16 +185,16 @@ module _ (Telling : Type 0) (told : Told × Told) (old new : CoreView) (a : Answ
   up_line k false h j = subst (λ r. is_down new.replicas j ≡ down_after_event (is_down old.replicas) (event.Up k) r j) (sym h.0) (same_down h.1 j)
 
   client_down : (c : ℕ) (v : Verb) (b : Bool) → MatchBool b (BuiltTurn Telling told old new (event.Client c v) a) ((a ≡ answer.NotBuilt) × (new ≡ old)) → (j : ℕ) → is_down new.replicas j ≡ is_down old.replicas j
-  client_down c v true h j = rest_down new.tables h.1 j
+  client_down c v true h j = rest_down new.tables new.lists h.1 j
   client_down c v false h j = same_down h.1 j
 
   pub line_downs : (e : Event) → LineTurn Telling told old new e a → (j : ℕ) → is_down new.replicas j ≡ down_after_event (is_down old.replicas) e a j
   line_downs (event.Client c v) h = client_down c v true h
   line_downs (event.Down k) h = down_line k (nat_lt k old.settings.servers) h
   line_downs (event.Up k) h = up_line k (nat_lt k old.settings.servers) h
-  line_downs (event.Dump p) h = rest_down new.tables h.1
+  line_downs (event.Dump p) h = rest_down new.tables new.lists h.1
   line_downs event.Tree h = same_down h.1
-  line_downs event.Save h = rest_down new.tables h.1
+  line_downs event.Save h = rest_down new.tables old.lists h.1
   line_downs e h = same_down h.1
 
 -- ---- lines that were lent no store
@@ -198,25 +204,30 @@ data_none (event.Client c v) h = absurd (true≢false h)
 data_none e h = refl
 
 module _ {S : Type 0} (kind : StoreKind S) (down : ℕ → Bool) (shelf : List S) (settings : Settings) where
-  pub still_serves : (old new : TablesView) (e : Event) (a : Answer) → TablesBytes (is_inside kind shelf settings) old → NamesTables old new → data_of e ≡ [] → IsPlain a → ServesLine kind (span down shelf shelf) settings old new e a
+  pub still_serves : (old new : TablesView) (e : Event) (a : Answer) → TablesBytes (is_inside kind shelf settings) any_slice old → NamesTables old new →
+      data_of e ≡ [] → IsPlain a → ServesLine kind (span down shelf shelf) settings old new e a
   still_serves old new e a inside names none plain = record {
-    inside = names (is_inside kind shelf settings) refl inside;
-    full = names (has_copies settings.replicas) refl;
+    inside = names (is_inside kind shelf settings) any_slice refl inside;
+    bare = names any_byte no_slice refl;
+    full = names (has_copies settings.replicas) no_slice refl;
     adds = subst (λ (l : List ℕ). AddsBytes kind (span down shelf shelf) settings l a) (sym none) (none_added kind (span down shelf shelf) settings a (reads_nothing kind down shelf).lengths);
-    caused = plain_caused kind (span down shelf shelf) settings ⊥ (AreFull settings old) (data_of e) a plain;
+    caused = plain_caused kind (span down shelf shelf) settings ⊥ (AreBare old) (AreFull settings old) (data_of e) a plain;
     placed = none_placed kind (span down shelf shelf) settings (asked_of kind (span down shelf shelf) settings old e) a none;
     failed = plain_failed (asked_of kind (span down shelf shelf) settings old e).fails a plain;
   }
 
-  pub same_serves : (old new : TablesView) (e : Event) (a : Answer) → TablesBytes (is_inside kind shelf settings) old → new ≡ old → data_of e ≡ [] → IsPlain a → ServesLine kind (span down shelf shelf) settings old new e a
+  pub same_serves : (old new : TablesView) (e : Event) (a : Answer) → TablesBytes (is_inside kind shelf settings) any_slice old → new ≡ old → data_of e ≡ [] →
+      IsPlain a → ServesLine kind (span down shelf shelf) settings old new e a
   same_serves old new e a inside same none plain =
-      subst (λ (t : TablesView). ServesLine kind (span down shelf shelf) settings old t e a) (sym same) (still_serves old old e a inside (λ P hole h. h) none plain)
+      subst (λ (t : TablesView). ServesLine kind (span down shelf shelf) settings old t e a) (sym same)
+      (still_serves old old e a inside (λ P Q hole h. h) none plain)
 
   server_plain : (old new : CoreView) (k : ℕ) (to b : Bool) (a : Answer) → MatchBool b (Switches old new k to a) ((a ≡ answer.Refused NoServer) × (new ≡ old)) → IsPlain a × (new.tables ≡ old.tables)
   server_plain old new k to true a h = (subst IsPlain (sym h.answer) tt, ap (λ (core : CoreView). core.tables) h.rest)
   server_plain old new k to false a h = (subst IsPlain (sym h.0) tt, ap (λ (core : CoreView). core.tables) h.1)
 
-  pub server_serves : (old new : CoreView) (k : ℕ) (to : Bool) (e : Event) (a : Answer) → TablesBytes (is_inside kind shelf settings) old.tables → data_of e ≡ [] → ServerTurn old new k to a → ServesLine kind (span down shelf shelf) settings old.tables new.tables e a
+  pub server_serves : (old new : CoreView) (k : ℕ) (to : Bool) (e : Event) (a : Answer) → TablesBytes (is_inside kind shelf settings) any_slice old.tables →
+      data_of e ≡ [] → ServerTurn old new k to a → ServesLine kind (span down shelf shelf) settings old.tables new.tables e a
   server_serves old new k to e a inside none turn =
       let both = server_plain old new k to (nat_lt k old.settings.servers) a turn in
       same_serves old.tables new.tables e a inside both.1 none both.0

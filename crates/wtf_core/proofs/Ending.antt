@@ -1,42 +1,55 @@
 -- Attempts, replayed steps, commits and ends keep what the tables stand for.
 -- NSDI 2016, sections 2.6 and 2.7.
-use Rattle.std.proofs.Common.{◌≡◌, ◌≢◌, suc, ◌≤◌, ◌<◌, ℕ, ◌+◌, ◌-◌, nat_eq, length, take, None, Some, refl, sym, ap, ◌∙◌, subst, inr, arith, slice_get}
+use Rattle.std.proofs.Common.{◌≡◌, ◌≢◌, suc, ◌≤◌, ◌<◌, ℕ, ◌+◌, ◌-◌, nat_eq, Bool, true, false, List, [], length, take, None, Some, refl, sym, ap, ◌∙◌, subst, inr, arith, slice_get}
+use Rattle.std.proofs.Math.Seq.{take-length}
+use Rattle.std.proofs.lemmas.Bool.{eqb-true}
 use Rattle.std.specs.Prelude.{if◌then◌else◌}
+use Rattle.std.specs.Option.{option_map}
 use Rattle.std.specs.FinMap.{get, remove}
 use Rattle.wtf_base.specs.declared.ids.InodeId.{InodeId}
-use Rattle.wtf_kv.specs.Stores.{Store}
+use Rattle.wtf_kv.specs.Stores.{Store, versions_of, version_of}
 use Rattle.wtf_values.specs.declared.key.Key.{Key}
 use Rattle.wtf_values.specs.declared.key.Key.TheVariants.{Inode}
 use Rattle.wtf_values.specs.declared.value.Value.{Value}
+use Rattle.wtf_values.specs.Keys.{key_cmp}
 use Rattle.wtf_model.specs.declared.answer.Answer.{Answer, Aborted'}
 use Rattle.wtf_model.specs.declared.answer.Answer.TheVariants as answer
+use Rattle.wtf_model.specs.declared.item.Item.{Item}
 use Rattle.wtf_model.specs.Tree.{Tree}
 use Rattle.wtf_model.specs.Transaction.{Transaction, answers_of, session_after}
 use Rattle.wtf_model.specs.Machines.{Machine, cap_of}
+use Rattle.wtf_model.specs.declared.answer.Word.TheVariants.{Replaying}
+use Rattle.wtf_model.specs.declared.op.Op.{Op}
+use Rattle.wtf_model.specs.Items.{meets, reads_of, writes_of}
 use Rattle.wtf_model.specs.Lawful.{Deviates, IsDone, IsReadFault, MayInstall, MayTry, MayStep, MayCommit}
-use Rattle.wtf_model.specs.Steps.{with_transaction, ended, installed, rebased as machine_rebased, tried, stepped, committed}
+use Rattle.wtf_model.specs.Steps.{with_transaction, ended, touch, with_each, installed, rebased as machine_rebased, tried, stepped, committed}
 use Rattle.wtf_model.proofs.Laws.{get-number_same, get-number_other}
+use Rattle.wtf_model.proofs.ItemLaws.{get-each, get-each_none}
+use Rattle.wtf_log.proofs.StandingLaws.{OpsStandFor-length}
 use Rattle.wtf_meta.specs.Maps.{Map, with, metadata_at}
 use Rattle.wtf_meta.specs.Contents.{Told}
 use Rattle.wtf_meta.specs.Trees.{Stands}
 use Rattle.wtf_meta.proofs.Telling.{TellsOn}
 use Rattle.wtf_meta.specs.Calls.{cap_for}
-use Rattle.wtf_replay.specs.Views.{TxnView}
+use Rattle.wtf_meta.specs.Feet.{Feet}
+use Rattle.wtf_region.specs.Cached.{Remembered, CacheTrue}
+use Rattle.wtf_replay.specs.Views.{TxnView, is_live}
 use Rattle.wtf_replay.specs.Fits.{IsFit}
 use Rattle.wtf_replay.specs.Refusals.{try_refusal, step_refusal}
-use Rattle.wtf_replay.specs.Sounds.{IsSound, caller_at}
-use Rattle.wtf_replay.specs.Tried.{IsFinal}
+use Rattle.wtf_replay.specs.Sounds.{IsSound, tells_slice, caller_at}
+use Rattle.wtf_replay.specs.Tried.{IsFinal, KeepsVersions}
 use Rattle.wtf_replay.proofs.Sounding.{sound_later}
 use Rattle.wtf_replay.proofs.Trying.{final_ran}
 use Rattle.wtf_replay.proofs.Deviating.{at_base}
 use Rattle.wtf_clients.specs.Views.{TablesView, of_client, metadata_now}
 use Rattle.wtf_clients.specs.Sounds.{owned, IsOpen, AreSound}
+use Rattle.wtf_clients.specs.Touched.{SinceBase}
 use Rattle.wtf_clients.specs.Standing.{StandsForTxn, StandsForSlot, TablesStand}
 use Rattle.wtf_clients.specs.Turns.{Keeps, Ends, Commits, Retries, Tries, Replays, Aborts, StepFails, Finishes, GivesUp, Steps, Finals}
-use Rattle.wtf_image.specs.Savable.{AreBefore}
 use Rattle.wtf_clients.proofs.Images.{before_same, before_own}
 use Rattle.wtf_clients.proofs.Later.{Stands-later}
-use Rattle.wtf_clients.proofs.Frames.{Turned, sound_turned, stands_turned}
+use Rattle.wtf_clients.proofs.SinceLaws.{since_none, since_installed, retry_met}
+use Rattle.wtf_clients.proofs.Frames.{Turned, sound_turned, stands_turned, stands_kept}
 use Rattle.wtf_clients.proofs.Staying.{stays_sound, stays_stand, goes_turned, goes_sound}
 use Rattle.wtf_core.proofs.Machines.{gone_here, gone_there, cap_is, answer_shown}
 
@@ -47,6 +60,19 @@ pub txn_in : (size : ℕ) (told : Told) (old : TablesView) (m : Machine) (c : �
     → StandsForTxn size told old.kv m.now x t
 txn_in size told old m c x t st here there =
     subst (λ o. StandsForSlot size told old.kv m.now (Some x) o) there (subst (λ s. StandsForSlot size told old.kv m.now s (get m.transactions c)) here (st.each c))
+
+-- an attempt is not refused where all calls are done
+try_live : (x : TxnView) → try_refusal x ≡ None → x.replayed ≡ length x.log.ops
+try_live x asked = eqb-true x.replayed (length x.log.ops) (by (is_live x) asked)
+  where
+    by : (b : Bool) → (if b then None else Some Replaying) ≡ None → b ≡ true
+    by true h = refl
+    by false h = absurd (cc)
+
+-- where they are, the first of the calls are all of them
+pub done_all : (size : ℕ) (kv : Store Key Value) (told : Told) (x : TxnView) (ops : List (Op (List ℕ))) → IsSound size kv told x ops
+    → x.replayed ≡ length x.log.ops → take x.replayed ops ≡ ops
+done_all size kv told x ops sound live = ap (λ n. take n ops) (live ∙ OpsStandFor-length (tells_slice told) x.log.ops ops sound.ops_are) ∙ take-length ops
 
 -- a map stands for its tree for another transaction too, where it has none of its inodes
 stands_other : (b : ℕ) (told : Told) (tx other k : ℕ) (w : Map) (t : Tree) → Stands b told tx k w t → ((i : InodeId) → i.tx.0 ≡ other → 0 < i.index → w (Inode i) ≡ None) → Stands b told other 0 w t
@@ -96,52 +122,63 @@ module _ (old new : TablesView) (mid : Store Key Value) (c : ℕ) (x : TxnView) 
   pub ends_sound : AreSound new
   ends_sound = sound_turned old new c None sound ends_turned
 
-  -- the tables stand for a machine without the transaction, where the tree now is that of the map that it left
-  pub ends_stand : (size : ℕ) (told later : Told) (m after : Machine) → TablesStand size told old m → TellsOn told later → after.transactions ≡ remove m.transactions c → after.number ≡ mid.number
-      → after.may_be_saved ≡ m.may_be_saved → AreBefore old.next_tx (metadata_now mid)
-      → ((tx : ℕ) → tx ≢ x.tx → Stands size told tx 0 (metadata_now old.kv) m.now → Stands size later tx 0 (metadata_now mid) after.now)
-      → TablesStand size later new after
-  ends_stand size told later m after st on gone number may before trees =
-      stands_turned size told later old new m after c None sound st on ends_turned
-      (λ d ne. ap (λ ones. get ones d) gone ∙ gone_there m.transactions c d ne)
-      (number ∙ sym ends_number) may
-      (before_same old.next_tx new.next_tx (metadata_now mid) (metadata_now new.kv) ends_now (let next = ends.next_tx in omega (arith, next)) before)
-      (subst (λ o. StandsForSlot size later new.kv after.now None o) (sym (ap (λ ones. get ones c) gone ∙ gone_here m.transactions c)) tt)
-      (λ tx other was. subst (λ w. Stands size later tx 0 w after.now) (sym ends_now) (trees tx (other x here) was))
+  -- and each key has the versions that it left
+  ends_versions : KeepsVersions mid new.kv
+  ends_versions q = ap (λ (s : Store Key Value). versions_of key_cmp s q) ends.kv
 
   -- an end that leaves the tree as it was
-  pub leaves_stand : (size : ℕ) (told later : Told) (m : Machine) → TablesStand size told old m → TellsOn told later → mid.number ≡ old.kv.number → TablesStand size later new (ended m c)
-  leaves_stand size told later m st on same =
-      let map : metadata_now mid ≡ metadata_now old.kv = ap (λ n. metadata_at mid n) same ∙ ends.maps old.kv.number (omega arith) in
-      ends_stand size told later m (ended m c) st on refl (st.number ∙ sym same) refl
-      (before_same old.next_tx old.next_tx (metadata_now old.kv) (metadata_now mid) map (omega arith) st.before) (λ tx other was. subst (λ w. Stands size later tx 0 w m.now) (sym map) (Stands-later told later on size tx 0 (metadata_now old.kv) m.now was))
+  pub leaves_stand : (size : ℕ) (told later : Told) (m : Machine) → TablesStand size told old m → TellsOn told later → mid.number ≡ old.kv.number
+      → KeepsVersions old.kv mid → TablesStand size later new (ended m c)
+  leaves_stand size told later m st on same versions =
+      stands_kept size told later old new m (ended m c) c None sound st on ends_turned (ends_number ∙ same) (λ q. ends_versions q ∙ versions q)
+      (λ d ne. gone_there m.transactions c d ne) refl refl refl
+      (subst (λ o. StandsForSlot size later new.kv m.now None o) (sym (gone_here m.transactions c)) tt)
 
-  -- an install: the calls run on the tree now
+  -- an install: the calls run on the tree now, and what they change is touched
   pub installs_stand : (size : ℕ) (told later : Told) (m : Machine) (t : Transaction) (n : ℕ) → TablesStand size told old m → TellsOn told later → m.settings.region ≡ size → get m.transactions c ≡ Some t
       → IsFinal size later old.kv mid x t.ops n → MayInstall m t n × TablesStand size later new (installed m c t n)
   installs_stand size told later m t n st on region there final =
       let txn = txn_in size told old m c x t st here there in
-      let ran = final_ran size later old.kv mid x t.ops n final m.now (Stands-later told later on size x.tx 0 (metadata_now old.kv) m.now txn.now) in
+      let was : Stands size later x.tx 0 (metadata_now old.kv) m.now = Stands-later told later on size x.tx 0 (metadata_now old.kv) m.now txn.now in
+      let ran = final_ran size later old.kv mid x t.ops n final m.now was in
       let changed : Map = with final.at.changes (metadata_now old.kv) in
-      let map : metadata_now mid ≡ changed = ap (λ k. metadata_at mid k) final.number ∙ final.map in
+      let map : metadata_now new.kv ≡ changed = ends_now ∙ ap (λ k. metadata_at mid k) final.number ∙ final.map in
       let cap : cap_of m ≡ _ = cap_is m size region in
       let now : Tree = (session_after (cap_of m) m.now t.ops).tree in
-      let stands : Stands size later x.tx (length t.ops) changed now = subst (λ k. Stands size later x.tx (length t.ops) changed (session_after k m.now t.ops).tree) (sym cap) ran.stands in (
+      let read : List Item = reads_of (cap_of m) m.now t.ops in
+      let wrote : List Item = writes_of (cap_of m) m.now t.ops in
+      let stands : Stands size later x.tx (length t.ops) changed now =
+      subst (λ k. Stands size later x.tx (length t.ops) changed (session_after k m.now t.ops).tree) (sym cap) ran.stands in
+      let feet : Feet x.tx (metadata_now old.kv) final.at.reads final.at.changes read wrote =
+      subst (λ k. Feet x.tx (metadata_now old.kv) final.at.reads final.at.changes (reads_of k m.now t.ops) (writes_of k m.now t.ops)) (sym cap)
+      (final.run.feet later (metadata_now old.kv) m.now final.agree final.fits final.told_are final.lists_are was) in
+      let gone : get (with_each (touch wrote) (remove m.transactions c)) c ≡ None =
+      get-each_none (touch wrote) (remove m.transactions c) c (gone_here m.transactions c) in (
         (final.next ∙ ap (λ k. k + 1) (sym st.number), ap (λ k. answers_of k m.now t.ops) cap ∙ ran.answers ∙ sym txn.shown),
-        ends_stand size told later m (installed m c t n) st on refl (sym final.number) refl
-            (before_same old.next_tx old.next_tx changed (metadata_now mid) map (omega arith) (before_own x.tx old.next_tx (metadata_now old.kv) changed (sound.each c x here).older ran.own st.before))
+        stands_turned size told later old new m (installed m c t n) c None wrote sound st on ends_turned
+            (λ d ne. get-each (touch wrote) (remove m.transactions c) d ∙ ap (option_map (touch wrote)) (gone_there m.transactions c d ne))
+            (λ d y items ne its since. since_installed x.tx old.kv new.kv final.at.reads final.at.changes n read wrote feet ran.own txn.now.regions
+            stands.regions map
+            (λ q. ends_versions q ∙ final.versions q) y.tx y.at.base items
+            (λ same. ne (sound.apart d c y x its here same))
+            (ends_turned.maps y.at.base (sound.each d y its).based) since)
+            (sym (ends_number ∙ final.number)) refl
+            (before_same old.next_tx new.next_tx changed (metadata_now new.kv) map ends_turned.more
+            (before_own x.tx old.next_tx (metadata_now old.kv) changed (sound.each c x here).older ran.own st.before))
+            (subst (λ o. StandsForSlot size later new.kv now None o) (sym gone) tt)
             (λ tx other was.
             subst (λ w. Stands size later tx 0 w now) (sym map)
-            (stands_other size later x.tx tx (length t.ops) changed now stands (λ i own some. ran.own i (λ e. other (sym own ∙ e)) (was.fresh i own some)))),
+            (stands_other size later x.tx tx (length t.ops) changed now stands
+            (λ i own some. ran.own i (λ e. other x here (sym own ∙ e)) (was.fresh i own some)))),
       )
 
 -- ---- a transaction that goes on at its base
 module _ (old new : TablesView) (c : ℕ) (x y : TxnView) (sound : AreSound old) (here : of_client old.clients c ≡ Some x) (keeps : Keeps old new c (Some y)) (tx : y.tx ≡ x.tx) (base : y.at.base ≡ x.at.base) (going : y.ended ≡ x.ended) (fit : IsFit old.kv y) where
   -- the tables stand for the machine with this transaction, where that has the base and the tree that it had
   pub goes_stand : (size : ℕ) (told later : Told) (m : Machine) (t t2 : Transaction) → TablesStand size told old m → TellsOn told later → get m.transactions c ≡ Some t
-      → IsSound size old.kv later y t2.ops → t2.base ≡ t.base → t2.tree ≡ t.tree → t2.shown ≡ y.log.shown → t2.replayed ≡ y.replayed
+      → IsSound size old.kv later y t2.ops → t2.base ≡ t.base → t2.tree ≡ t.tree → t2.touched ≡ t.touched → t2.shown ≡ y.log.shown → t2.replayed ≡ y.replayed
       → TablesStand size later new (with_transaction m c t2)
-  goes_stand size told later m t t2 st on there run base2 tree2 shown2 replayed2 =
+  goes_stand size told later m t t2 st on there run base2 tree2 touched2 shown2 replayed2 =
       let txn = txn_in size told old m c x t st here there in
       let tree : Stands size told y.tx 0 (metadata_at old.kv y.at.base) t2.tree =
       subst (λ k. Stands size told k 0 (metadata_at old.kv y.at.base) t2.tree) (sym tx)
@@ -155,14 +192,14 @@ module _ (old new : TablesView) (c : ℕ) (x y : TxnView) (sound : AreSound old)
         replayed = replayed2;
         tree = Stands-later told later on size y.tx 0 (metadata_at old.kv y.at.base) t2.tree tree;
         now = Stands-later told later on size y.tx 0 (metadata_now old.kv) m.now now;
+        since = subst (λ l. SinceBase old.kv y.tx y.at.base l) (sym touched2)
+            (subst (λ b. SinceBase old.kv y.tx b t.touched) (sym base) (subst (λ k. SinceBase old.kv k x.at.base t.touched) (sym tx) txn.since));
       } in
-      stands_turned size told later old new m (with_transaction m c t2) c (Some y) sound st on (goes_turned old new c x y sound here keeps tx base going fit)
-      (λ d ne. get-number_other m.transactions c t2 d ne)
-      (st.number ∙ ap (λ (s : Store Key Value). s.number) (sym keeps.kv)) refl
-      (before_same old.next_tx new.next_tx (metadata_now old.kv) (metadata_now new.kv) (ap (λ (s : Store Key Value). metadata_now s) keeps.kv) (let next = keeps.next_tx in omega (arith, next)) st.before)
+      stands_kept size told later old new m (with_transaction m c t2) c (Some y) sound st on (goes_turned old new c x y sound here keeps tx base going fit)
+      (ap (λ (s : Store Key Value). s.number) keeps.kv) (λ q. ap (λ (s : Store Key Value). versions_of key_cmp s q) keeps.kv)
+      (λ d ne. get-number_other m.transactions c t2 d ne) refl refl refl
       (subst (λ o. StandsForSlot size later new.kv m.now (Some y) o) (sym (get-number_same m.transactions c t2))
       (subst (λ kv. StandsForTxn size later kv m.now y t2) (sym keeps.kv) stands))
-      (λ k other was. subst (λ kv. Stands size later k 0 (metadata_now kv) m.now) (sym keeps.kv) (Stands-later told later on size k 0 (metadata_now old.kv) m.now was))
 
 -- ---- a transaction that begins again at the number
 module _ (old new : TablesView) (c : ℕ) (x : TxnView) (b n : ℕ) (sound : AreSound old) (here : of_client old.clients c ≡ Some x) (turn : Retries old new c x b n) where
@@ -221,10 +258,17 @@ module _ (old new : TablesView) (c : ℕ) (x : TxnView) (b n : ℕ) (sound : Are
   retry_sound : AreSound new
   retry_sound = sound_turned old new c (Some again) sound retry_turned
 
-  -- the machine's transaction begins again on the tree now
-  retry_stand : (size : ℕ) (told later : Told) (m : Machine) (t : Transaction) → TablesStand size told old m → TellsOn told later → get m.transactions c ≡ Some t
-      → MayTry m t (answer.Retry b n) × TablesStand size later new (tried m c t (answer.Retry b n))
-  retry_stand size told later m t st on there =
+  -- nothing was touched since
+  retry_since : (none : (i : InodeId) → i.tx.0 ≡ x.tx → metadata_now old.kv (Inode i) ≡ None) → SinceBase new.kv again.tx again.at.base []
+  retry_since none =
+      subst (λ k. SinceBase new.kv again.tx k []) (sym (retry_base ∙ turn.retried.number_is ∙ sym turn.retried.number))
+      (since_none new.kv again.tx (λ i mine. ap (λ w. w (Inode i)) retry_now ∙ none i (mine ∙ retry_tx)))
+
+  -- others have touched what the calls read, and the machine's transaction begins again on the tree now
+  retry_stand : (size : ℕ) (told later : Told) (m : Machine) (t : Transaction) → m.settings.region ≡ size → TablesStand size told old m
+      → TellsOn told later → get m.transactions c ≡ Some t
+      → try_refusal x ≡ None → MayTry m t (answer.Retry b n) × TablesStand size later new (tried m c t (answer.Retry b n))
+  retry_stand size told later m t region st on there asked =
       let txn = txn_in size told old m c x t st here there in
       let t2 : Transaction = machine_rebased m t in
       let now : Stands size later again.tx 0 (metadata_now old.kv) m.now =
@@ -236,14 +280,19 @@ module _ (old new : TablesView) (c : ℕ) (x : TxnView) (b n : ℕ) (sound : Are
         replayed = ap (λ (v : TxnView). v.replayed) (sym turn.retried.is);
         tree = subst (λ w. Stands size later again.tx 0 w m.now) (sym retry_map) now;
         now = subst (λ w. Stands size later again.tx 0 w m.now) (sym retry_now) now;
-      } in (
-        (turn.retried.base_is ∙ sym txn.base, turn.retried.number_is ∙ sym st.number, turn.retried.later),
-        stands_turned size told later old new m (with_transaction m c t2) c (Some again) sound st on retry_turned
-            (λ d ne. get-number_other m.transactions c t2 d ne)
-            (st.number ∙ sym turn.retried.number) refl
-            (before_same old.next_tx new.next_tx (metadata_now old.kv) (metadata_now new.kv) retry_now (let next = turn.next_tx in omega (arith, next)) st.before)
-            (subst (λ o. StandsForSlot size later new.kv m.now (Some again) o) (sym (get-number_same m.transactions c t2)) stands)
-            (λ k other was. subst (λ w. Stands size later k 0 w m.now) (sym retry_now) (Stands-later told later on size k 0 (metadata_now old.kv) m.now was)),
+        since = retry_since txn.since.own.none;
+      } in
+      let met : meets t.touched (reads_of (cap_for (caller_at size x.tx 0)) t.tree t.ops) ≡ true =
+      retry_met size old.kv told x t.ops t.tree t.touched txn.sound (done_all size old.kv told x t.ops txn.sound (try_live x asked)) txn.tree
+      txn.since turn.retried.in_the_way
+      (λ q is. subst (λ k. k < version_of key_cmp old.kv old.kv.number q) turn.retried.base_is (turn.retried.moved q is)) in (
+        (
+          (turn.retried.base_is ∙ sym txn.base, turn.retried.number_is ∙ sym st.number, turn.retried.later),
+          subst (λ k. meets t.touched (reads_of k t.tree t.ops) ≡ true) (sym (cap_is m size region)) met,
+        ),
+        stands_kept size told later old new m (with_transaction m c t2) c (Some again) sound st on retry_turned turn.retried.number turn.retried.versions
+            (λ d ne. get-number_other m.transactions c t2 d ne) refl refl refl
+            (subst (λ o. StandsForSlot size later new.kv m.now (Some again) o) (sym (get-number_same m.transactions c t2)) stands),
       )
 
 -- ---- an attempt
@@ -265,11 +314,13 @@ pub tries_stand : (size : ℕ) (told later : Told) (old new : TablesView) (m : M
 tries_stand size told later old new m c x t (answer.Committed n) sound region st on here there asked turn =
     installs_stand old new turn.mid c x sound here (commit_up old new c x n turn) turn.ends size told later m t n st on region there
     (turn.final size later t.ops (sound_later size old.kv told later x t.ops on (txn_in size told old m c x t st here there).sound))
-tries_stand size told later old new m c x t (answer.Retry b n) sound region st on here there asked turn = retry_stand old new c x b n sound here turn size told later m t st on there
+tries_stand size told later old new m c x t (answer.Retry b n) sound region st on here there asked turn =
+    retry_stand old new c x b n sound here turn size told later m t region st on there asked
 tries_stand size told later old new m c x t a sound region st on here there asked turn = absurd turn
 
 -- ---- a step
-module _ (Telling : Type 0) (servers size : ℕ) (told later : Told) (old new : TablesView) (c : ℕ) (x : TxnView) (i : ℕ) (sound : AreSound old) (here : of_client old.clients c ≡ Some x) (turn : Replays Telling servers size told later old new c x i) where
+module _ (Telling : Type 0) (lists : Remembered) (servers size : ℕ) (told later : Told) (old new : TablesView) (c : ℕ) (x : TxnView) (i : ℕ)
+    (sound : AreSound old) (here : of_client old.clients c ≡ Some x) (turn : Replays Telling lists servers size told later old new c x i) where
   -- the transaction with one call more done
   abbrev onward : TxnView
   onward = turn.later_one
@@ -312,22 +363,25 @@ module _ (Telling : Type 0) (servers size : ℕ) (told later : Told) (old new : 
       (index ∙ ap (λ k. k + 1) (sym done), answer_shown (cap_of m) t.tree t.ops t.shown t.replayed first)
 
   -- and the machine's transaction goes on with it
-  replay_stand : (m : Machine) (t : Transaction) → m.settings.region ≡ size → TablesStand size told old m → TellsOn told later → get m.transactions c ≡ Some t → Telling
+  replay_stand : (m : Machine) (t : Transaction) → m.settings.region ≡ size → TablesStand size told old m → TellsOn told later → get m.transactions c ≡ Some
+      t → Telling × CacheTrue told size [] lists
       → MayStep m t (answer.Replayed i) × TablesStand size later new (stepped m c t (answer.Replayed i))
   replay_stand m t region st on there telling =
       let txn = txn_in size told old m c x t st here there in
-      let run : IsSound size old.kv later onward t.ops = turn.sound (telling, txn.tree.bytes) t.ops txn.sound in (
+      let run : IsSound size old.kv later onward t.ops = turn.sound (telling.0, telling.1, txn.tree.bytes) t.ops txn.sound in (
         replay_may m t region txn on run,
         goes_stand old new c x onward sound here turn.keeps replay_tx turn.replayed.base replay_going turn.fit size told later m t (record t { replayed = i }) st on there run
-            refl refl (txn.shown ∙ sym replay_shown) (sym replay_count),
+            refl refl refl (txn.shown ∙ sym replay_shown) (sym replay_count),
       )
 
 -- a call that deviates at the base ends the transaction
-abort_may : (Telling : Type 0) (servers size : ℕ) (told later : Told) (old new : TablesView) (c : ℕ) (x : TxnView) (i : ℕ) (a : Answer) (m : Machine) (t : Transaction)
-    → Aborts Telling servers size told later old new c x i a → m.settings.region ≡ size → StandsForTxn size told old.kv m.now x t → Telling
+abort_may : (Telling : Type 0) (lists : Remembered) (servers size : ℕ) (told later : Told) (old new : TablesView) (c : ℕ) (x : TxnView) (i : ℕ) (a : Answer)
+    (m : Machine) (t : Transaction)
+    → Aborts Telling lists servers size told later old new c x i a → m.settings.region ≡ size → StandsForTxn size told old.kv m.now x t → Telling × CacheTrue
+    told size [] lists
     → (i ≡ t.replayed + 1) × (slice_get (answers_of (cap_of m) t.tree t.ops) t.replayed ≡ Some a) × (slice_get t.shown t.replayed ≢ Some a)
-abort_may Telling servers size told later old new c x i a m t turn region txn telling =
-    let d = turn.deviates (telling, txn.tree.bytes) t.ops txn.sound t.tree txn.tree in
+abort_may Telling lists servers size told later old new c x i a m t turn region txn telling =
+    let d = turn.deviates (telling.0, telling.1, txn.tree.bytes) t.ops txn.sound t.tree txn.tree in
     let index = turn.index in
     let done = txn.replayed in
     let place : t.replayed ≡ i - 1 = omega (arith, index, done) in (
@@ -337,10 +391,12 @@ abort_may Telling servers size told later old new c x i a m t turn region txn te
     )
 
 -- the bytes of the next call were not read
-step_fault_may : (Telling : Type 0) (servers size : ℕ) (told later : Told) (old new : TablesView) (c : ℕ) (x : TxnView) (a : Answer) (m : Machine) (t : Transaction)
-    → StepFails Telling servers size told later old new c x a → m.settings.region ≡ size → m.settings.servers ≡ servers → StandsForTxn size told old.kv m.now x t
+step_fault_may : (Telling : Type 0) (lists : Remembered) (servers size : ℕ) (told later : Told) (old new : TablesView) (c : ℕ) (x : TxnView) (a : Answer)
+    (m : Machine) (t : Transaction)
+    → StepFails Telling lists servers size told later old new c x a → m.settings.region ≡ size → m.settings.servers ≡ servers → StandsForTxn size told old.kv
+    m.now x t
     → IsDone (slice_get (answers_of (cap_of m) t.tree t.ops) t.replayed) × IsReadFault m.settings.servers a
-step_fault_may Telling servers size told later old new c x a m t turn region count txn =
+step_fault_may Telling lists servers size told later old new c x a m t turn region count txn =
     let may = turn.may t.ops txn.sound t.tree txn.tree in (
       subst (λ k. IsDone (slice_get (answers_of k t.tree t.ops) t.replayed)) (sym (cap_is m size region))
           (subst (λ n. IsDone (slice_get (answers_of (cap_for (caller_at size x.tx 0)) t.tree t.ops) n)) (sym txn.replayed) may.0),
@@ -348,59 +404,82 @@ step_fault_may Telling servers size told later old new c x a m t turn region cou
     )
 
 -- the tables stay sound
-pub steps_sound : (Telling : Type 0) (servers size : ℕ) (told later : Told) (old new : TablesView) (c : ℕ) (x : TxnView) (a : Answer) → AreSound old → of_client old.clients c ≡ Some x → Steps Telling servers size told later old new c x a → AreSound new
-steps_sound Telling servers size told later old new c x (answer.Replayed i) sound here turn = replay_sound Telling servers size told later old new c x i sound here turn
-steps_sound Telling servers size told later old new c x (Aborted' i box a) sound here turn = ends_sound old new old.kv c x sound here (omega arith) turn.ends
-steps_sound Telling servers size told later old new c x a sound here turn = stays_sound old new c sound turn.fails.stays
+pub steps_sound : (Telling : Type 0) (lists : Remembered) (servers size : ℕ) (told later : Told) (old new : TablesView) (c : ℕ) (x : TxnView) (a : Answer) →
+    AreSound old → of_client old.clients c ≡ Some x → Steps Telling lists servers size told later old new c x a → AreSound new
+steps_sound Telling lists servers size told later old new c x (answer.Replayed i) sound here turn = replay_sound Telling lists servers size told later old new
+    c x i sound here turn
+steps_sound Telling lists servers size told later old new c x (Aborted' i box a) sound here turn = ends_sound old new old.kv c x sound here (omega arith)
+    turn.ends
+steps_sound Telling lists servers size told later old new c x a sound here turn = stays_sound old new c sound turn.fails.stays
 
 -- the machine may answer so, and the tables stand for what it then is
-pub steps_stand : (Telling : Type 0) (servers size : ℕ) (told later : Told) (old new : TablesView) (m : Machine) (c : ℕ) (x : TxnView) (t : Transaction) (a : Answer)
+pub steps_stand : (Telling : Type 0) (lists : Remembered) (servers size : ℕ) (told later : Told) (old new : TablesView) (m : Machine) (c : ℕ) (x : TxnView)
+    (t : Transaction) (a : Answer)
     → AreSound old → m.settings.region ≡ size → m.settings.servers ≡ servers → TablesStand size told old m → TellsOn told later
-    → of_client old.clients c ≡ Some x → get m.transactions c ≡ Some t → step_refusal x ≡ None → Telling
-    → Steps Telling servers size told later old new c x a → MayStep m t a × TablesStand size later new (stepped m c t a)
-steps_stand Telling servers size told later old new m c x t (answer.Replayed i) sound region count st on here there asked telling turn = replay_stand Telling servers size told later old new c x i sound here turn m t region st on there telling
-steps_stand Telling servers size told later old new m c x t (Aborted' i box a) sound region count st on here there asked telling turn = (
-  abort_may Telling servers size told later old new c x i a m t turn region (txn_in size told old m c x t st here there) telling,
-  leaves_stand old new old.kv c x sound here (omega arith) turn.ends size told later m st on refl,
+    → of_client old.clients c ≡ Some x → get m.transactions c ≡ Some t → step_refusal x ≡ None → Telling × CacheTrue told size [] lists
+    → Steps Telling lists servers size told later old new c x a → MayStep m t a × TablesStand size later new (stepped m c t a)
+steps_stand Telling lists servers size told later old new m c x t (answer.Replayed i) sound region count st on here there asked telling turn = replay_stand
+    Telling lists servers size told later old new c x i sound here turn m t region st on there telling
+steps_stand Telling lists servers size told later old new m c x t (Aborted' i box a) sound region count st on here there asked telling turn = (
+  abort_may Telling lists servers size told later old new c x i a m t turn region (txn_in size told old m c x t st here there) telling,
+  leaves_stand old new old.kv c x sound here (omega arith) turn.ends size told later m st on refl (λ q. refl),
 )
-steps_stand Telling servers size told later old new m c x t a sound region count st on here there asked telling turn =
-    (step_fault_may Telling servers size told later old new c x a m t turn region count (txn_in size told old m c x t st here there), stays_stand old new c sound turn.fails.stays size told later m st on)
+steps_stand Telling lists servers size told later old new m c x t a sound region count st on here there asked telling turn = (
+  step_fault_may Telling lists servers size told later old new c x a m t turn region count (txn_in size told old m c x t st here there),
+  stays_stand old
+      new c sound turn.fails.stays size told later m st on,
+)
 
 -- ---- a commit
 -- a commit by replay raises the number
-finish_up : (Telling : Type 0) (servers size : ℕ) (told later : Told) (old new : TablesView) (c : ℕ) (x : TxnView) (n : ℕ) (turn : Finishes Telling servers size told later old new c x n) → old.kv.number ≤ turn.mid.number
-finish_up Telling servers size told later old new c x n turn = let number = turn.number in let next = turn.next in omega (arith, number, next)
+finish_up : (Telling : Type 0) (lists : Remembered) (servers size : ℕ) (told later : Told) (old new : TablesView) (c : ℕ) (x : TxnView) (n : ℕ)
+    (turn : Finishes Telling lists servers size told later old new c x n) → old.kv.number ≤ turn.mid.number
+finish_up Telling lists servers size told later old new c x n turn = let number = turn.number in let next = turn.next in omega (arith, number, next)
 
 -- a replay that is given up leaves the number
-give_up : (Telling : Type 0) (servers size : ℕ) (told later : Told) (old new : TablesView) (c : ℕ) (x : TxnView) (i : ℕ) (a : Answer) (turn : GivesUp Telling servers size told later old new c x i a) → old.kv.number ≤ turn.mid.number
-give_up Telling servers size told later old new c x i a turn = let number = turn.number in omega (arith, number)
+give_up : (Telling : Type 0) (lists : Remembered) (servers size : ℕ) (told later : Told) (old new : TablesView) (c : ℕ) (x : TxnView) (i : ℕ) (a : Answer)
+    (turn : GivesUp Telling lists servers size told later old new c x i a) → old.kv.number ≤ turn.mid.number
+give_up Telling lists servers size told later old new c x i a turn = let number = turn.number in omega (arith, number)
 
 -- calls that deviate on the map now do so on the tree now
-give_up_may : (Telling : Type 0) (servers size : ℕ) (told later : Told) (old new : TablesView) (c : ℕ) (x : TxnView) (i : ℕ) (a : Answer) (m : Machine) (t : Transaction)
-    → GivesUp Telling servers size told later old new c x i a → m.settings.region ≡ size → StandsForTxn size told old.kv m.now x t → Telling
+give_up_may : (Telling : Type 0) (lists : Remembered) (servers size : ℕ) (told later : Told) (old new : TablesView) (c : ℕ) (x : TxnView) (i : ℕ) (a : Answer)
+    (m : Machine) (t : Transaction)
+    → GivesUp Telling lists servers size told later old new c x i a → m.settings.region ≡ size → StandsForTxn size told old.kv m.now x t → Telling × CacheTrue
+    told size [] lists
     → Deviates (answers_of (cap_of m) m.now t.ops) t.shown i a
-give_up_may Telling servers size told later old new c x i a m t turn region txn telling =
+give_up_may Telling lists servers size told later old new c x i a m t turn region txn telling =
     subst (λ k. Deviates (answers_of k m.now t.ops) t.shown i a) (sym (cap_is m size region))
-    (subst (λ l. Deviates (answers_of (cap_for (caller_at size x.tx 0)) m.now t.ops) l i a) (sym txn.shown) (turn.deviates (telling, txn.now.bytes) t.ops txn.sound m.now txn.now))
+    (subst (λ l. Deviates (answers_of (cap_for (caller_at size x.tx 0)) m.now t.ops) l i a) (sym txn.shown)
+    (turn.deviates (telling.0, telling.1, txn.tree.bytes) (telling.0, telling.1, txn.now.bytes) t.ops txn.sound m.now txn.now))
 
 -- the tables stay sound
-pub finals_sound : (Telling : Type 0) (servers size : ℕ) (told later : Told) (old new : TablesView) (c : ℕ) (x : TxnView) (a : Answer) → AreSound old → of_client old.clients c ≡ Some x → Finals Telling servers size told later old new c x a → AreSound new
-finals_sound Telling servers size told later old new c x (answer.Committed n) sound here turn = ends_sound old new turn.mid c x sound here (finish_up Telling servers size told later old new c x n turn) turn.ends
-finals_sound Telling servers size told later old new c x (Aborted' i box a) sound here turn = ends_sound old new turn.mid c x sound here (give_up Telling servers size told later old new c x i a turn) turn.ends
-finals_sound Telling servers size told later old new c x a sound here turn = stays_sound old new c sound turn.fails.stays
+pub finals_sound : (Telling : Type 0) (lists : Remembered) (servers size : ℕ) (told later : Told) (old new : TablesView) (c : ℕ) (x : TxnView) (a : Answer) →
+    AreSound old → of_client old.clients c ≡ Some x → Finals Telling lists servers size told later old new c x a → AreSound new
+finals_sound Telling lists servers size told later old new c x (answer.Committed n) sound here turn = ends_sound old new turn.mid c x sound here
+    (finish_up Telling lists servers size told later old new c x n turn) turn.ends
+finals_sound Telling lists servers size told later old new c x (Aborted' i box a) sound here turn = ends_sound old new turn.mid c x sound here
+    (give_up Telling lists servers size told later old new c x i a turn) turn.ends
+finals_sound Telling lists servers size told later old new c x a sound here turn = stays_sound old new c sound turn.fails.stays
 
 -- the machine may answer so, and the tables stand for what it then is
-pub finals_stand : (Telling : Type 0) (servers size : ℕ) (told later : Told) (old new : TablesView) (m : Machine) (c : ℕ) (x : TxnView) (t : Transaction) (a : Answer)
+pub finals_stand : (Telling : Type 0) (lists : Remembered) (servers size : ℕ) (told later : Told) (old new : TablesView) (m : Machine) (c : ℕ) (x : TxnView)
+    (t : Transaction) (a : Answer)
     → AreSound old → m.settings.region ≡ size → m.settings.servers ≡ servers → TablesStand size told old m → TellsOn told later
-    → of_client old.clients c ≡ Some x → get m.transactions c ≡ Some t → Telling
-    → Finals Telling servers size told later old new c x a → MayCommit m t a × TablesStand size later new (committed m c t a)
-finals_stand Telling servers size told later old new m c x t (answer.Committed n) sound region count st on here there telling turn =
-    installs_stand old new turn.mid c x sound here (finish_up Telling servers size told later old new c x n turn) turn.ends size told later m t n st on region there
-    (turn.final (telling, (txn_in size told old m c x t st here there).now.bytes) t.ops (txn_in size told old m c x t st here there).sound)
-finals_stand Telling servers size told later old new m c x t (Aborted' i box a) sound region count st on here there telling turn = (
-  give_up_may Telling servers size told later old new c x i a m t turn region (txn_in size told old m c x t st here there) telling,
-  leaves_stand old new turn.mid c x sound here (give_up Telling servers size told later old new c x i a turn) turn.ends size told later m st on turn.number,
+    → of_client old.clients c ≡ Some x → get m.transactions c ≡ Some t → Telling × CacheTrue told size [] lists
+    → Finals Telling lists servers size told later old new c x a → MayCommit m t a × TablesStand size later new (committed m c t a)
+finals_stand Telling lists servers size told later old new m c x t (answer.Committed n) sound region count st on here there telling turn =
+    installs_stand old new turn.mid c x sound here (finish_up Telling lists servers size told later old new c x n turn) turn.ends size told later m t n st on
+    region there
+    (turn.final (telling.0, telling.1, (txn_in size told old m c x t st here there).tree.bytes)
+    (telling.0, telling.1, (txn_in size told old m c x t st here there).now.bytes) t.ops (txn_in size told old m c x t st here there).sound)
+finals_stand Telling lists servers size told later old new m c x t (Aborted' i box a) sound region count st on here there telling turn = (
+  give_up_may Telling lists servers size told later old new c x i a m t turn region (txn_in size told old m c x t st here there) telling,
+  leaves_stand old new turn.mid c x sound here (give_up Telling lists servers size told later old new c x i a turn) turn.ends
+      size told later m st on turn.number turn.versions,
 )
-finals_stand Telling servers size told later old new m c x t a sound region count st on here there telling turn =
-    let txn = txn_in size told old m c x t st here there in
-    (subst (λ n. IsReadFault n a) (sym count) (turn.may (telling, txn.now.bytes) t.ops txn.sound m.now txn.now), stays_stand old new c sound turn.fails.stays size told later m st on)
+finals_stand Telling lists servers size told later old new m c x t a sound region count st on here there telling turn =
+    let txn = txn_in size told old m c x t st here there in (
+      subst (λ n. IsReadFault n a) (sym count) (turn.may (telling.0, telling.1, txn.tree.bytes) (telling.0, telling.1, txn.now.bytes) t.ops txn.sound m.now
+          txn.now),
+      stays_stand old new c sound turn.fails.stays size told later m st on,
+    )

@@ -1,5 +1,5 @@
 -- The bytes that an image names, once it is loaded: where all its pointers lie inside the stores, so do they.
-use Rattle.std.proofs.Common.{◌≡◌, ℕ, ◌+◌, ◌<◌, ◌≤◌, true, cond, nat_lt, nat_le, ◌&&◌, List, [], ◌∷◌, map, Option, None, Some, refl, sym, ap, subst, ◌∙◌, arith, inl, inr}
+use Rattle.std.proofs.Common.{◌≡◌, ℕ, Bool, ◌+◌, ◌<◌, ◌≤◌, true, cond, nat_lt, nat_le, ◌&&◌, List, [], ◌∷◌, map, Option, None, Some, refl, sym, ap, subst, ◌∙◌, arith, inl, inr}
 use Rattle.std.specs.Prelude.{slice_get, ⊤}
 use Rattle.std.specs.List.{All, AllByRecursion, list_all, flat_map}
 use Rattle.std.specs.Option.{option_map, option_or, unwrap_or}
@@ -10,6 +10,7 @@ use Rattle.std.proofs.lemmas.List.Elements.{All-nil, All-cons}
 use Rattle.wtf_base.specs.declared.ids.InodeId.{InodeId}
 use Rattle.wtf_base.specs.declared.pointer.Pointer.{Pointer}
 use Rattle.wtf_base.specs.declared.settings.Settings.{Settings}
+use Rattle.wtf_base.specs.declared.slice.Slice.{Slice}
 use Rattle.wtf_base.specs.declared.slice.Extents.{Extents}
 use Rattle.wtf_base.specs.declared.slice.Extents.TheVariants.{One, Two, Three}
 use Rattle.wtf_base.specs.Extents.{pointers_to}
@@ -20,22 +21,71 @@ use Rattle.wtf_overlay.specs.declared.part.Entry.{Entry}
 use Rattle.wtf_overlay.specs.declared.part.Part.{Part}
 use Rattle.wtf_overlay.specs.declared.part.Part.TheVariants.{Zero, Held}
 use Rattle.wtf_overlay.specs.Lengths.{HasLength}
+use Rattle.wtf_overlay.specs.Origin.{Place}
 use Rattle.wtf_values.specs.declared.key.Key.{Key}
 use Rattle.wtf_values.specs.declared.key.Key.TheVariants.{Path, Dir, Inode, Region}
 use Rattle.wtf_values.specs.declared.region.RegionValue.{RegionValue}
+use Rattle.wtf_values.specs.declared.region.Spill.{Spill}
 use Rattle.wtf_values.specs.declared.value.Node.{Node}
 use Rattle.wtf_values.specs.declared.value.Node.TheVariants.{Folder, File}
 use Rattle.wtf_values.specs.declared.value.Value.{Value}
 use Rattle.wtf_values.specs.declared.value.Value.TheVariants as value
 use Rattle.wtf_values.specs.Names.{NamesOf}
 use Rattle.wtf_meta.specs.Maps.{Map}
-use Rattle.wtf_meta.specs.Bytes.{PartBytes, EntryBytes, RegionBytes, ValueBytes, MapBytes}
-use Rattle.wtf_image.specs.Rows.{EntryRow, RegionRow, FileRow, ImageRows, part_row, entry_rows}
+use Rattle.wtf_meta.specs.Bytes.{PartBytes, EntryBytes, BaseBytes, RegionBytes, ValueBytes, MapBytes, any_slice}
+use Rattle.wtf_image.specs.Rows.{EntryRow, RegionRow, FileRow, ImageRows, part_row, base_row, entry_rows}
 use Rattle.wtf_image.specs.Lookups.{Plain, NodeIs, NamesAre, LastIs, RegionIs, plain, plain_region, names_of_node, names_under, node_at, last_at, place_cmp, region_entry, region_entries, region_at, row_at}
-use Rattle.wtf_image.specs.Rules.{are_inside, is_file_inside, is_region_inside, is_part_inside}
+use Rattle.wtf_image.specs.Rules.{are_inside, is_file_inside, is_region_inside, is_base_inside, is_part_inside}
 use Rattle.wtf_image.specs.Rules as rules
 use Rattle.wtf_image.proofs.SeedLaws.{find-both}
 use Rattle.wtf_region.specs.Inside.{size_in, is_place_inside, is_inside}
+
+-- ---- what an image says of a key that is no region's
+abbrev NoRegion : Option Plain → Type 0
+NoRegion None = ⊤
+NoRegion (Some (NodeIs n)) = ⊤
+NoRegion (Some (NamesAre names)) = ⊤
+NoRegion (Some (LastIs n)) = ⊤
+NoRegion (Some (RegionIs end base entries)) = ⊥
+
+node_none : (o : Option Node) → NoRegion (option_map NodeIs o)
+node_none None = tt
+node_none (Some n) = tt
+
+names_none : (names : NamesOf) (o : Option Node) → NoRegion (names_of_node names o)
+names_none names None = tt
+names_none names (Some Folder) = tt
+names_none names (Some (File i)) = tt
+
+last_none : (o : Option ℕ) → NoRegion (option_map LastIs o)
+last_none None = tt
+last_none (Some n) = tt
+
+-- P and Q hold of all of a map that an image says, where they do of each region
+module _ (P : List Place → Bool) (Q : Slice → Bool) where
+  no_region : (v : Option Value) (o : Option Plain) → option_map plain v ≡ o → NoRegion o → ValueBytes P Q v
+  no_region None o e h = tt
+  no_region (Some (value.Node n)) o e h = tt
+  no_region (Some (value.Names s)) o e h = tt
+  no_region (Some (value.Last n)) o e h = tt
+  no_region (Some (value.Region v)) o e h = absurd (subst NoRegion (sym e) h)
+
+  region_value : (v : Option Value) (o : Option RegionRow) → option_map plain v ≡ option_map plain_region o →
+      ((g : RegionValue) (row : RegionRow) → o ≡ Some row → plain (value.Region g) ≡ plain_region row → RegionBytes P Q g) → ValueBytes P Q v
+  region_value None o e each = tt
+  region_value (Some v) None e each = absurd (cc)
+  region_value (Some (value.Region v)) (Some row) e each = let same : plain (value.Region v) ≡ plain_region row = cc in each v row refl same
+  region_value (Some (value.Node n)) (Some row) e each = tt
+  region_value (Some (value.Names s)) (Some row) e each = tt
+  region_value (Some (value.Last n)) (Some row) e each = tt
+
+  pub map_said : (x : ImageRows) (w : Map) → ((q : Key) → option_map plain (w q) ≡ row_at x q)
+      → ((i : InodeId) (r : ℕ) (v : RegionValue) (row : RegionRow) → region_at x.files i r ≡ Some row → plain (value.Region v) ≡ plain_region row →
+      RegionBytes P Q v) → MapBytes P Q w
+  map_said x w is each (Path p) = no_region (w (Path p)) (row_at x (Path p)) (is (Path p)) (node_none (node_at x.paths p))
+  map_said x w is each (Dir p) = no_region (w (Dir p)) (row_at x (Dir p)) (is (Dir p)) (names_none (names_under p x.paths) (node_at x.paths p))
+  map_said x w is each (Inode i) = no_region (w (Inode i)) (row_at x (Inode i)) (is (Inode i)) (last_none (last_at x.files i))
+  map_said x w is each (Region i r) = region_value (w (Region i r)) (region_at x.files i r) (is (Region i r)) (λ v row at same. each i r v row at same)
 
 module _ {S : Type 0} (kind : StoreKind S) (shelf : List S) (settings : Settings) where
   abbrev sizes : ℕ → ℕ → ℕ
@@ -80,12 +130,21 @@ module _ {S : Type 0} (kind : StoreKind S) (shelf : List S) (settings : Settings
       let both = and_parts (is_part_inside settings.servers sizes (part_row e.part)) (list_all (λ (r : EntryRow). is_part_inside settings.servers sizes r.part) (entry_rows es)) h in
       All-cons (EntryBytes (is_inside kind shelf settings)) e es (part_in e.len e.part e.held both.0) (entries_in es both.1)
 
-  region_in : (v : RegionValue) (row : RegionRow) → plain (value.Region v) ≡ plain_region row → is_region_inside settings.servers sizes row ≡ true → RegionBytes (is_inside kind shelf settings) v
+  -- the slice of a base; what the list in it names is not looked at
+  base_in : (base : Option Spill) → is_base_inside settings.servers sizes (base_row base) ≡ true → BaseBytes (is_inside kind shelf settings) any_slice base
+  base_in None h = tt
+  base_in (Some s) h = (λ i lt. pointers_in s.slice.len i (pointers_of s.slice) (lengths s.slice.len s.slice.extents) lt h, refl)
+
+  region_in : (v : RegionValue) (row : RegionRow) → plain (value.Region v) ≡ plain_region row → is_region_inside settings.servers sizes row ≡ true
+      → RegionBytes (is_inside kind shelf settings) any_slice v
   region_in v row e h =
+      let base : row.base ≡ base_row v.base = cc in
       let entries : row.entries ≡ entry_rows v.list = cc in
+      let both = and_parts (is_base_inside settings.servers sizes row.base)
+      (list_all (λ (r : EntryRow). is_part_inside settings.servers sizes r.part) row.entries) h in
       record {
-        plain = cc;
-        entries = entries_in v.list (subst (λ es. list_all (λ (r : EntryRow). is_part_inside settings.servers sizes r.part) es ≡ true) entries h);
+        base = base_in v.base (subst (λ b. is_base_inside settings.servers sizes b ≡ true) base both.0);
+        entries = entries_in v.list (subst (λ es. list_all (λ (r : EntryRow). is_part_inside settings.servers sizes r.part) es ≡ true) entries both.1);
       }
 
   -- ---- the regions of an image
@@ -111,54 +170,10 @@ module _ {S : Type 0} (kind : StoreKind S) (shelf : List S) (settings : Settings
       by later first None e is = later is
       by later first (Some x) e is = among i r f.inode f.regions row first (e ∙ is)
 
-  -- ---- a map
-
-  -- what is said of a key that is no region's
-  abbrev NoRegion : Option Plain → Type 0
-  NoRegion None = ⊤
-  NoRegion (Some (NodeIs n)) = ⊤
-  NoRegion (Some (NamesAre names)) = ⊤
-  NoRegion (Some (LastIs n)) = ⊤
-  NoRegion (Some (RegionIs end base entries)) = ⊥
-
-  no_region : (v : Option Value) (o : Option Plain) → option_map plain v ≡ o → NoRegion o → ValueBytes (is_inside kind shelf settings) v
-  no_region None o e h = tt
-  no_region (Some (value.Node n)) o e h = tt
-  no_region (Some (value.Names s)) o e h = tt
-  no_region (Some (value.Last n)) o e h = tt
-  no_region (Some (value.Region v)) o e h = absurd (subst NoRegion (sym e) h)
-
-  node_none : (o : Option Node) → NoRegion (option_map NodeIs o)
-  node_none None = tt
-  node_none (Some n) = tt
-
-  names_none : (names : NamesOf) (o : Option Node) → NoRegion (names_of_node names o)
-  names_none names None = tt
-  names_none names (Some Folder) = tt
-  names_none names (Some (File i)) = tt
-
-  last_none : (o : Option ℕ) → NoRegion (option_map LastIs o)
-  last_none None = tt
-  last_none (Some n) = tt
-
-  region_value : (v : Option Value) (o : Option RegionRow) → option_map plain v ≡ option_map plain_region o → ((row : RegionRow) → o ≡ Some row → is_region_inside settings.servers sizes row ≡ true)
-      → ValueBytes (is_inside kind shelf settings) v
-  region_value None o e in_all = tt
-  region_value (Some v) None e in_all = absurd (cc)
-  region_value (Some (value.Region v)) (Some row) e in_all = let same : plain (value.Region v) ≡ plain_region row = cc in region_in v row same (in_all row refl)
-  region_value (Some (value.Node n)) (Some row) e in_all = tt
-  region_value (Some (value.Names s)) (Some row) e in_all = tt
-  region_value (Some (value.Last n)) (Some row) e in_all = tt
-
   -- each byte of a map that an image says lies inside, where its pointers do
-  pub image_inside : (x : ImageRows) (w : Map) → x.header.servers ≡ settings.servers → are_inside sizes x ≡ true → ((q : Key) → option_map plain (w q) ≡ row_at x q) → MapBytes (is_inside kind shelf settings) w
-  image_inside x w servers inside is = by
-    where
-      all : list_all (is_file_inside settings.servers sizes) x.files ≡ true
-      all = subst (λ n. list_all (is_file_inside n sizes) x.files ≡ true) servers inside
-
-      by : (q : Key) → ValueBytes (is_inside kind shelf settings) (w q)
-      by (Path p) = no_region (w (Path p)) (row_at x (Path p)) (is (Path p)) (node_none (node_at x.paths p))
-      by (Dir p) = no_region (w (Dir p)) (row_at x (Dir p)) (is (Dir p)) (names_none (names_under p x.paths) (node_at x.paths p))
-      by (Inode i) = no_region (w (Inode i)) (row_at x (Inode i)) (is (Inode i)) (last_none (last_at x.files i))
-      by (Region i r) = region_value (w (Region i r)) (region_at x.files i r) (is (Region i r)) (λ row. in_either i r x.files row all)
+  pub image_inside : (x : ImageRows) (w : Map) → x.header.servers ≡ settings.servers → are_inside sizes x ≡ true
+      → ((q : Key) → option_map plain (w q) ≡ row_at x q) → MapBytes (is_inside kind shelf settings) any_slice w
+  image_inside x w servers inside is =
+      let all : list_all (is_file_inside settings.servers sizes) x.files ≡ true = subst (λ n. list_all (is_file_inside n sizes) x.files ≡ true) servers
+      inside in
+      map_said (is_inside kind shelf settings) any_slice x w is (λ i r v row at same. region_in v row same (in_either i r x.files row all at))

@@ -14,6 +14,7 @@ use Rattle.wtf_model.specs.declared.event.Verb.{Verb}
 use Rattle.wtf_model.specs.declared.event.Verb.TheVariants as verb
 use Rattle.wtf_meta.specs.Contents.{Told}
 use Rattle.wtf_meta.specs.Maps.{metadata_at}
+use Rattle.wtf_region.specs.Cached.{Remembered}
 use Rattle.wtf_replay.specs.Views.{TxnView}
 use Rattle.wtf_replay.specs.Refusals.{call_refusal, try_refusal, step_refusal}
 use Rattle.wtf_replay.specs.Tried.{KeepsMaps}
@@ -62,13 +63,13 @@ tries_goes old new c x (answer.Committed n) h = ends_goes old new h.mid c x h.en
 tries_goes old new c x (answer.Retry b n) h = record { maps = h.maps; more = let next = h.next_tx in omega (arith, next); saved = h.saved }
 tries_goes old new c x a h = absurd h
 
-module _ (Telling : Type 0) (servers size : ℕ) (told later : Told) (old new : TablesView) (c : ℕ) where
-  steps_goes : (x : TxnView) (a : Answer) → Steps Telling servers size told later old new c x a → Goes old new
+module _ (Telling : Type 0) (lists : Remembered) (servers size : ℕ) (told later : Told) (old new : TablesView) (c : ℕ) where
+  steps_goes : (x : TxnView) (a : Answer) → Steps Telling lists servers size told later old new c x a → Goes old new
   steps_goes x (answer.Replayed i) h = keeps_goes old new c (Some h.later_one) h.keeps
   steps_goes x (Aborted' i box a) h = ends_goes old new old.kv c x h.ends
   steps_goes x a h = stays_goes old new c h.fails.stays
 
-  finals_goes : (x : TxnView) (a : Answer) → Finals Telling servers size told later old new c x a → Goes old new
+  finals_goes : (x : TxnView) (a : Answer) → Finals Telling lists servers size told later old new c x a → Goes old new
   finals_goes x (answer.Committed n) h = ends_goes old new h.mid c x h.ends
   finals_goes x (Aborted' i box a) h = ends_goes old new h.mid c x h.ends
   finals_goes x a h = stays_goes old new c h.fails.stays
@@ -78,22 +79,23 @@ module _ (Telling : Type 0) (servers size : ℕ) (told later : Told) (old new : 
   or_refused P a None go h = go h
   or_refused P a (Some w) go h = refuses_goes old new c w a h
 
-  lone_goes : (v : Verb) (a : Answer) → LoneTurn Telling servers size told later old new c v a → Goes old new
+  lone_goes : (v : Verb) (a : Answer) → LoneTurn Telling lists servers size told later old new c v a → Goes old new
   lone_goes verb.Begin a h = begins_goes old new c a h
   lone_goes v a h = refuses_goes old new c NoTx a h
 
-  txn_goes : (x : TxnView) (v : Verb) (a : Answer) → TxnTurn Telling servers size told later old new c x v a → Goes old new
+  txn_goes : (x : TxnView) (v : Verb) (a : Answer) → TxnTurn Telling lists servers size told later old new c x v a → Goes old new
   txn_goes x verb.Begin a h = refuses_goes old new c InTx a h
   txn_goes x verb.Try a h = or_refused (Tries old new c x a) a (try_refusal x) (tries_goes old new c x a) h
-  txn_goes x verb.Step a h = or_refused (Steps Telling servers size told later old new c x a) a (step_refusal x) (steps_goes x a) h
+  txn_goes x verb.Step a h = or_refused (Steps Telling lists servers size told later old new c x a) a (step_refusal x) (steps_goes x a) h
   txn_goes x verb.Commit a h = finals_goes x a h
   txn_goes x verb.Abort a h = ends_goes old new old.kv c x h.1
   txn_goes x (verb.Call o) a h = or_refused _ a (call_refusal x) (λ t. ⊎_elim (λ made. keeps_goes old new c (Some made.later_one) made.keeps) (λ failed. stays_goes old new c failed.fails.stays) t) h
 
-  client_goes : (v : Verb) (a : Answer) → ClientTurn Telling servers size told later old new c v a → Goes old new
+  client_goes : (v : Verb) (a : Answer) → ClientTurn Telling lists servers size told later old new c v a → Goes old new
   client_goes v a h = by (of_client old.clients c) h
     where
-      by : (o : Option TxnView) → MatchOption o (LoneTurn Telling servers size told later old new c v a) (λ x. TxnTurn Telling servers size told later old new c x v a) → Goes old new
+      by : (o : Option TxnView) → MatchOption o (LoneTurn Telling lists servers size told later old new c v a)
+          (λ x. TxnTurn Telling lists servers size told later old new c x v a) → Goes old new
       by None g = lone_goes v a g
       by (Some x) g = txn_goes x v a g
 
@@ -106,7 +108,7 @@ module _ (Telling : Type 0) (told : Told × Told) (old new : CoreView) (a : Answ
   server_goes k to false h = core_goes h.1
 
   pub line_goes : (e : Event) → e ≢ event.Save → LineTurn Telling told old new e a → Goes old.tables new.tables
-  line_goes (event.Client c v) ne h = client_goes Telling old.settings.servers old.settings.region told.0 told.1 old.tables new.tables c v a h.0
+  line_goes (event.Client c v) ne h = client_goes Telling old.lists old.settings.servers old.settings.region told.0 told.1 old.tables new.tables c v a h.0
   line_goes (event.Down k) ne h = server_goes k true (nat_lt k old.settings.servers) h
   line_goes (event.Up k) ne h = server_goes k false (nat_lt k old.settings.servers) h
   line_goes (event.Dump p) ne h = stays_goes old.tables new.tables 0 (h.0.stays 0)

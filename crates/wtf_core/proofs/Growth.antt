@@ -10,6 +10,7 @@ use Rattle.wtf_model.specs.declared.answer.Word.TheVariants.{NoTx, InTx}
 use Rattle.wtf_model.specs.declared.event.Verb.{Verb}
 use Rattle.wtf_model.specs.declared.event.Verb.TheVariants as verb
 use Rattle.wtf_meta.specs.Contents.{Told}
+use Rattle.wtf_region.specs.Cached.{Remembered}
 use Rattle.wtf_replay.specs.Views.{TxnView}
 use Rattle.wtf_replay.specs.Refusals.{call_refusal, try_refusal, step_refusal}
 use Rattle.wtf_clients.specs.Views.{SavedView, TablesView, of_client}
@@ -60,13 +61,13 @@ tries_rise old new c x (answer.Committed n) h =
 tries_rise old new c x (answer.Retry b n) h = rises old new old.kv.number old.next_tx h.retried.number h.next_tx (still old.kv.number) (still old.next_tx)
 tries_rise old new c x a h = absurd h
 
-module _ (Telling : Type 0) (servers size : ℕ) (told later : Told) (old new : TablesView) (c : ℕ) where
-  steps_rise : (x : TxnView) (a : Answer) → Steps Telling servers size told later old new c x a → Rises old new
+module _ (Telling : Type 0) (lists : Remembered) (servers size : ℕ) (told later : Told) (old new : TablesView) (c : ℕ) where
+  steps_rise : (x : TxnView) (a : Answer) → Steps Telling lists servers size told later old new c x a → Rises old new
   steps_rise x (answer.Replayed i) h = keeps_rise old new c (Some h.later_one) h.keeps
   steps_rise x (Aborted' i box a) h = ends_rise old new old.kv c x (still old.kv.number) h.ends
   steps_rise x a h = stays_rise old new c h.fails.stays
 
-  finals_rise : (x : TxnView) (a : Answer) → Finals Telling servers size told later old new c x a → Rises old new
+  finals_rise : (x : TxnView) (a : Answer) → Finals Telling lists servers size told later old new c x a → Rises old new
   finals_rise x (answer.Committed n) h =
       let is = h.number in
       let next = h.next in
@@ -79,21 +80,22 @@ module _ (Telling : Type 0) (servers size : ℕ) (told later : Told) (old new : 
   or_refused P a None rise h = rise h
   or_refused P a (Some w) rise h = refuses_rise old new c w a h
 
-  lone_rise : (v : Verb) (a : Answer) → LoneTurn Telling servers size told later old new c v a → Rises old new
+  lone_rise : (v : Verb) (a : Answer) → LoneTurn Telling lists servers size told later old new c v a → Rises old new
   lone_rise verb.Begin a h = begins_rise old new c a h
   lone_rise v a h = refuses_rise old new c NoTx a h
 
-  txn_rise : (x : TxnView) (v : Verb) (a : Answer) → TxnTurn Telling servers size told later old new c x v a → Rises old new
+  txn_rise : (x : TxnView) (v : Verb) (a : Answer) → TxnTurn Telling lists servers size told later old new c x v a → Rises old new
   txn_rise x verb.Begin a h = refuses_rise old new c InTx a h
   txn_rise x verb.Try a h = or_refused (Tries old new c x a) a (try_refusal x) (tries_rise old new c x a) h
-  txn_rise x verb.Step a h = or_refused (Steps Telling servers size told later old new c x a) a (step_refusal x) (steps_rise x a) h
+  txn_rise x verb.Step a h = or_refused (Steps Telling lists servers size told later old new c x a) a (step_refusal x) (steps_rise x a) h
   txn_rise x verb.Commit a h = finals_rise x a h
   txn_rise x verb.Abort a h = ends_rise old new old.kv c x (still old.kv.number) h.1
   txn_rise x (verb.Call o) a h = or_refused _ a (call_refusal x) (λ t. ⊎_elim (λ made. keeps_rise old new c (Some made.later_one) made.keeps) (λ failed. stays_rise old new c failed.fails.stays) t) h
 
-  pub client_rises : (v : Verb) (a : Answer) → ClientTurn Telling servers size told later old new c v a → Rises old new
+  pub client_rises : (v : Verb) (a : Answer) → ClientTurn Telling lists servers size told later old new c v a → Rises old new
   client_rises v a h = by (of_client old.clients c) h
     where
-      by : (o : Option TxnView) → MatchOption o (LoneTurn Telling servers size told later old new c v a) (λ x. TxnTurn Telling servers size told later old new c x v a) → Rises old new
+      by : (o : Option TxnView) → MatchOption o (LoneTurn Telling lists servers size told later old new c v a)
+          (λ x. TxnTurn Telling lists servers size told later old new c x v a) → Rises old new
       by None g = lone_rise v a g
       by (Some x) g = txn_rise x v a g

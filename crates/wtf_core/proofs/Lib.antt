@@ -17,6 +17,8 @@ pub mod Fetched
 pub mod Pointing
 pub mod Taking
 pub mod Restored
+pub mod Listed
 pub mod Tidying
 pub mod Naming
 pub mod Answering
+pub mod Remembering

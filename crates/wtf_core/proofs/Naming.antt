@@ -1,6 +1,7 @@
 -- Lines that need no store, and dropping old versions, keep what holds of the places of each byte that is named.
 use Rattle.std.proofs.Common.{◌≡◌, ℕ, Bool, true, List, [], Option, None, Some, refl, sym, ap, ◌∙◌, subst}
 use Rattle.std.specs.Prelude.{MatchOption}
+use Rattle.wtf_base.specs.declared.slice.Slice.{Slice}
 use Rattle.wtf_overlay.specs.Origin.{Place}
 use Rattle.wtf_kv.specs.Stores.{Store}
 use Rattle.wtf_values.specs.declared.key.Key.{Key}
@@ -17,6 +18,7 @@ use Rattle.wtf_meta.specs.Maps.{metadata_at}
 use Rattle.wtf_meta.proofs.MapBytes.{with_bytes}
 use Rattle.wtf_meta.proofs.Nothing.{nothing_kept}
 use Rattle.std.proofs.lemmas.List.Elements.{All-nil}
+use Rattle.wtf_region.specs.Cached.{Remembered}
 use Rattle.wtf_replay.specs.Views.{TxnView, begun, rebased}
 use Rattle.wtf_replay.specs.Insides.{TxnBytes}
 use Rattle.wtf_replay.specs.Refusals.{try_refusal}
@@ -30,46 +32,51 @@ use Rattle.wtf_clients.proofs.Staying.{keeps_stays}
 use Rattle.wtf_clients.proofs.Lives.{now_bytes, begun_reaches, moved_reaches}
 use Rattle.wtf_core.proofs.Tidying.{base_same, live_same}
 
-module _ (P : List Place → Bool) (hole : P [] ≡ true) where
-  begins_bytes : (old new : TablesView) (c : ℕ) (a : Answer) → AreSound old → Begins old new c a → TablesBytes P old → TablesBytes P new
+module _ (P : List Place → Bool) (Q : Slice → Bool) (hole : P [] ≡ true) where
+  begins_bytes : (old new : TablesView) (c : ℕ) (a : Answer) → AreSound old → Begins old new c a → TablesBytes P Q old → TablesBytes P Q new
   begins_bytes old new c a sound begins h =
       let at : (n : ℕ) → metadata_at new.kv n ≡ metadata_at old.kv n = λ n. ap (λ (s : Store Key Value). metadata_at s n) begins.kv in
       let x : TxnView = begun old.next_tx old.kv.number in
-      let own : TxnBytes P new.kv x = record {
-        hand = record { base = subst (MapBytes P) (sym (at old.kv.number)) (now_bytes P old h); changes = tt; slices = nothing_kept P };
+      let own : TxnBytes P Q new.kv x = record {
+        hand = record { base = subst (MapBytes P Q) (sym (at old.kv.number)) (now_bytes P Q old h); changes = tt; slices = nothing_kept P };
         log = All-nil _;
       } in
-      bytes_set P old new c (Some x) sound begins.clients (λ n le. at n) (begun_reaches old.kv new.kv begins.pinned) h
-      (subst (MapBytes P) (sym (ap (λ (s : Store Key Value). metadata_now s) begins.kv)) (now_bytes P old h))
-      (λ y is. subst (TxnBytes P new.kv) (let e : x ≡ y = cc in e) own)
+      bytes_set P Q old new c (Some x) sound begins.clients (λ n le. at n) (begun_reaches old.kv new.kv begins.pinned) h
+      (subst (MapBytes P Q) (sym (ap (λ (s : Store Key Value). metadata_now s) begins.kv)) (now_bytes P Q old h))
+      (λ y is. subst (TxnBytes P Q new.kv) (let e : x ≡ y = cc in e) own)
 
-  commits_bytes : (old new : TablesView) (c : ℕ) (x : TxnView) (n : ℕ) → AreSound old → of_client old.clients c ≡ Some x → Commits old new c x n → TablesBytes P old → TablesBytes P new
+  commits_bytes : (old new : TablesView) (c : ℕ) (x : TxnView) (n : ℕ) → AreSound old → of_client old.clients c ≡ Some x → Commits old new c x n → TablesBytes
+      P Q old → TablesBytes P Q new
   commits_bytes old new c x n sound here turn h =
       let is = turn.committed.installed in
       let map : metadata_now turn.mid ≡ _ = ap (metadata_at turn.mid) is.number ∙ is.map in
-      ends_bytes P old new turn.mid c x sound turn.ends (subst (MapBytes P) (sym map) (with_bytes P hole x.at.changes (metadata_now old.kv) (now_bytes P old h) (h.each c x here).hand.changes)) h
+      ends_bytes P Q old new turn.mid c x sound turn.ends (subst (MapBytes P Q) (sym map)
+      (with_bytes P Q hole x.at.changes (metadata_now old.kv) (now_bytes P Q old h) (h.each c x here).hand.changes)) h
 
-  retries_bytes : (old new : TablesView) (c : ℕ) (x : TxnView) (b n : ℕ) → AreSound old → of_client old.clients c ≡ Some x → Retries old new c x b n → TablesBytes P old → TablesBytes P new
+  retries_bytes : (old new : TablesView) (c : ℕ) (x : TxnView) (b n : ℕ) → AreSound old → of_client old.clients c ≡ Some x → Retries old new c x b n →
+      TablesBytes P Q old → TablesBytes P Q new
   retries_bytes old new c x b n sound here turn h =
       let is = turn.retried.is in
-      let now : MapBytes P (metadata_now new.kv) = now_along P old.kv new.kv turn.retried.number turn.maps (now_bytes P old h) in
+      let now : MapBytes P Q (metadata_now new.kv) = now_along P Q old.kv new.kv turn.retried.number turn.maps (now_bytes P Q old h) in
       let base : metadata_at new.kv n ≡ metadata_now new.kv = ap (metadata_at new.kv) (turn.retried.number_is ∙ sym turn.retried.number) in
-      let own : TxnBytes P new.kv (rebased x n) = record {
-        hand = record { base = subst (MapBytes P) (sym base) now; changes = tt; slices = nothing_kept P };
+      let own : TxnBytes P Q new.kv (rebased x n) = record {
+        hand = record { base = subst (MapBytes P Q) (sym base) now; changes = tt; slices = nothing_kept P };
         log = (h.each c x here).log;
       } in
-      bytes_set P old new c (Some turn.later) sound turn.clients turn.maps (moved_reaches old.kv new.kv b n turn.retried.number_is turn.retried.pins) h now
-      (λ y same. subst (TxnBytes P new.kv) (sym is ∙ (let e : turn.later ≡ y = cc in e)) own)
+      bytes_set P Q old new c (Some turn.later) sound turn.clients turn.maps (moved_reaches old.kv new.kv b n turn.retried.number_is turn.retried.pins) h now
+      (λ y same. subst (TxnBytes P Q new.kv) (sym is ∙ (let e : turn.later ≡ y = cc in e)) own)
 
-  tries_bytes : (old new : TablesView) (c : ℕ) (x : TxnView) (a : Answer) → AreSound old → of_client old.clients c ≡ Some x → Tries old new c x a → TablesBytes P old → TablesBytes P new
+  tries_bytes : (old new : TablesView) (c : ℕ) (x : TxnView) (a : Answer) → AreSound old → of_client old.clients c ≡ Some x → Tries old new c x a →
+      TablesBytes P Q old → TablesBytes P Q new
   tries_bytes old new c x (answer.Committed n) sound here turn h = commits_bytes old new c x n sound here turn h
   tries_bytes old new c x (answer.Retry b n) sound here turn h = retries_bytes old new c x b n sound here turn h
   tries_bytes old new c x a sound here turn h = absurd turn
 
-  refuses_bytes : (old new : TablesView) (c : ℕ) (w : Word) (a : Answer) → AreSound old → Refuses old new c w a → TablesBytes P old → TablesBytes P new
-  refuses_bytes old new c w a sound turn h = stays_bytes P old new c sound (keeps_stays old new c turn.keeps) h
+  refuses_bytes : (old new : TablesView) (c : ℕ) (w : Word) (a : Answer) → AreSound old → Refuses old new c w a → TablesBytes P Q old → TablesBytes P Q new
+  refuses_bytes old new c w a sound turn h = stays_bytes P Q old new c sound (keeps_stays old new c turn.keeps) h
 
-  try_bytes : (r : Option Word) (old new : TablesView) (c : ℕ) (x : TxnView) (a : Answer) → AreSound old → of_client old.clients c ≡ Some x → MatchOption r (Tries old new c x a) (λ w. Refuses old new c w a) → TablesBytes P old → TablesBytes P new
+  try_bytes : (r : Option Word) (old new : TablesView) (c : ℕ) (x : TxnView) (a : Answer) → AreSound old → of_client old.clients c ≡ Some x → MatchOption r
+      (Tries old new c x a) (λ w. Refuses old new c w a) → TablesBytes P Q old → TablesBytes P Q new
   try_bytes None old new c x a sound here turn h = tries_bytes old new c x a sound here turn h
   try_bytes (Some w) old new c x a sound here turn h = refuses_bytes old new c w a sound turn h
 
@@ -80,29 +87,32 @@ IsLocal verb.Try = Unit {0}
 IsLocal verb.Abort = Unit {0}
 IsLocal v = ⊥
 
-pub local_names : (Telling : Type 0) (servers size : ℕ) (told later : Told) (old new : TablesView) (c : ℕ) (v : Verb) (a : Answer) → IsLocal v → AreSound old → ClientTurn Telling servers size told later old new c v a → NamesTables old new
-local_names Telling servers size told later old new c v a local sound turn P hole h = by (of_client old.clients c) v local refl turn
+pub local_names : (Telling : Type 0) (lists : Remembered) (servers size : ℕ) (told later : Told) (old new : TablesView) (c : ℕ) (v : Verb) (a : Answer) →
+    IsLocal v → AreSound old → ClientTurn Telling lists servers size told later old new c v a → NamesTables old new
+local_names Telling lists servers size told later old new c v a local sound turn P Q hole h = by (of_client old.clients c) v local refl turn
   where
     by : (o : Option TxnView) (u : Verb) → IsLocal u → of_client old.clients c ≡ o
-        → MatchOption o (LoneTurn Telling servers size told later old new c u a) (λ x. TxnTurn Telling servers size told later old new c x u a) → TablesBytes P new
-    by None verb.Begin l here t = begins_bytes P hole old new c a sound t h
-    by None verb.Try l here t = refuses_bytes P hole old new c NoTx a sound t h
-    by None verb.Abort l here t = refuses_bytes P hole old new c NoTx a sound t h
+        → MatchOption o (LoneTurn Telling lists servers size told later old new c u a) (λ x. TxnTurn Telling lists servers size told later old new c x u a) →
+        TablesBytes P Q new
+    by None verb.Begin l here t = begins_bytes P Q hole old new c a sound t h
+    by None verb.Try l here t = refuses_bytes P Q hole old new c NoTx a sound t h
+    by None verb.Abort l here t = refuses_bytes P Q hole old new c NoTx a sound t h
     by None verb.Step l here t = absurd l
     by None verb.Commit l here t = absurd l
     by None (verb.Call o) l here t = absurd l
-    by (Some x) verb.Begin l here t = refuses_bytes P hole old new c InTx a sound t h
-    by (Some x) verb.Try l here t = try_bytes P hole (try_refusal x) old new c x a sound here t h
-    by (Some x) verb.Abort l here t = leaves_bytes P old new old.kv c x sound t.1 refl h
+    by (Some x) verb.Begin l here t = refuses_bytes P Q hole old new c InTx a sound t h
+    by (Some x) verb.Try l here t = try_bytes P Q hole (try_refusal x) old new c x a sound here t h
+    by (Some x) verb.Abort l here t = leaves_bytes P Q old new old.kv c x sound t.1 refl h
     by (Some x) verb.Step l here t = absurd l
     by (Some x) verb.Commit l here t = absurd l
     by (Some x) (verb.Call o) l here t = absurd l
 
 -- dropping versions that no one sees leaves the bytes that are named
-pub tidied_bytes : (P : List Place → Bool) (old new : TablesView) → AreSound old → IsTidied old new → TablesBytes P old → TablesBytes P new
-tidied_bytes P old new sound tidy h = record {
-  live = λ n live. let was = live_same old new tidy n live in subst (MapBytes P) (sym (tidy.maps n was)) (h.live n was);
+pub tidied_bytes : (P : List Place → Bool) (Q : Slice → Bool) (old new : TablesView) → AreSound old → IsTidied old new → TablesBytes P Q old → TablesBytes P Q
+    new
+tidied_bytes P Q old new sound tidy h = record {
+  live = λ n live. let was = live_same old new tidy n live in subst (MapBytes P Q) (sym (tidy.maps n was)) (h.live n was);
   each = λ c x is.
       let was : of_client old.clients c ≡ Some x = ap (λ l. of_client l c) (sym tidy.clients) ∙ is in
-      txn_along P old.kv new.kv x (base_same old new sound tidy c x was) (h.each c x was);
+      txn_along P Q old.kv new.kv x (base_same old new sound tidy c x was) (h.each c x was);
 }

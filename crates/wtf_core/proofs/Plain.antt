@@ -7,9 +7,12 @@ use Rattle.std.proofs.Math.Seq.{take-length}
 use Rattle.std.proofs.lemmas.Bool.{eqb-true}
 use Rattle.std.proofs.lemmas.List.{length_push, append_cancel_left}
 use Rattle.std.specs.FinMap.{get}
-use Rattle.wtf_kv.specs.Stores.{Store}
+use Rattle.wtf_base.specs.declared.ids.InodeId.{InodeId}
+use Rattle.wtf_kv.specs.Stores.{Store, versions_of}
 use Rattle.wtf_values.specs.declared.key.Key.{Key}
+use Rattle.wtf_values.specs.declared.key.Key.TheVariants.{Inode}
 use Rattle.wtf_values.specs.declared.value.Value.{Value}
+use Rattle.wtf_values.specs.Keys.{key_cmp}
 use Rattle.wtf_model.specs.declared.limits.TheConstants.{MAX_REGIONS}
 use Rattle.wtf_model.specs.declared.answer.Answer.{Answer}
 use Rattle.wtf_model.specs.declared.answer.Answer.TheVariants as answer
@@ -25,29 +28,31 @@ use Rattle.wtf_model.specs.Lawful.{MayCall, MayAsk, MayFail}
 use Rattle.wtf_model.specs.Steps.{IsLogged, is_logged, with_transaction, begun as machine_begun, logged, called, aborted}
 use Rattle.wtf_model.proofs.Laws.{get-number_same, get-number_other, answers_from-push}
 use Rattle.wtf_log.specs.Calls.{with_call}
-use Rattle.wtf_log.proofs.StandingLaws.{OpsStandFor-length}
 use Rattle.wtf_meta.specs.Contents.{Told}
 use Rattle.wtf_meta.specs.Maps.{metadata_at, seen}
 use Rattle.wtf_meta.specs.Sessions.{Holds}
 use Rattle.wtf_meta.specs.Calls.{Caller, cap_for}
 use Rattle.wtf_meta.specs.Trees.{Stands}
 use Rattle.wtf_meta.proofs.Telling.{TellsOn}
+use Rattle.wtf_region.specs.Cached.{Remembered, CacheTrue}
 use Rattle.wtf_replay.specs.Views.{TxnView, begun, is_live}
 use Rattle.wtf_replay.specs.Refusals.{call_refusal}
 use Rattle.wtf_replay.specs.Fits.{IsFit}
-use Rattle.wtf_replay.specs.Sounds.{IsSound, tells_slice, caller_at}
+use Rattle.wtf_replay.specs.Sounds.{IsSound, caller_at}
 use Rattle.wtf_replay.proofs.Deviating.{at_base}
 use Rattle.wtf_clients.specs.Views.{TablesView, of_client, metadata_now}
 use Rattle.wtf_clients.specs.Sounds.{owned, IsOpen, AreSound}
+use Rattle.wtf_clients.specs.Touched.{SinceBase}
 use Rattle.wtf_clients.specs.Standing.{StandsForTxn, StandsForSlot, TablesStand}
 use Rattle.wtf_clients.specs.Turns.{Refuses, Begins, Calls, CallFails, Ends}
 use Rattle.wtf_clients.proofs.Pins.{one_some}
-use Rattle.wtf_clients.proofs.Frames.{Turned, sound_turned, stands_turned}
-use Rattle.wtf_clients.proofs.Images.{before_same}
+use Rattle.wtf_clients.proofs.SinceLaws.{since_none}
+use Rattle.wtf_clients.proofs.Frames.{Turned, sound_turned, stands_kept}
+use Rattle.wtf_clients.proofs.Images.{before_none}
 use Rattle.wtf_clients.proofs.Later.{Stands-later}
 use Rattle.wtf_clients.proofs.Staying.{IsFault, fault_is, keeps_stays, stays_sound, stays_stand}
 use Rattle.wtf_core.proofs.Machines.{cap_is}
-use Rattle.wtf_core.proofs.Ending.{txn_in, ends_sound, leaves_stand, goes_stand}
+use Rattle.wtf_core.proofs.Ending.{txn_in, done_all, ends_sound, leaves_stand, goes_stand}
 use Rattle.wtf_clients.proofs.Staying.{goes_sound}
 
 -- ---- a line that is refused
@@ -98,26 +103,27 @@ module _ (old new : TablesView) (c : ℕ) (a : Answer) (sound : AreSound old) (n
       let t : Transaction = record { stamp = m.next_stamp; base = m.number; tree = m.now; ops = []; shown = []; replayed = 0; touched = [] } in
       let after : Machine = machine_begun m c (answer.Begun old.kv.number) in
       let map : (n : ℕ) → metadata_at new.kv n ≡ metadata_at old.kv n = λ n. ap (λ (k : Store Key Value). metadata_at k n) begins.kv in
+      let number : new.kv.number ≡ old.kv.number = ap (λ (k : Store Key Value). k.number) begins.kv in
       let now_is : metadata_now new.kv ≡ metadata_now old.kv = ap (λ (k : Store Key Value). metadata_now k) begins.kv in
-      let trees : (tx : ℕ) → Stands size told tx 0 (metadata_now old.kv) m.now → Stands size later tx 0 (metadata_now new.kv) m.now = λ tx s.
-      subst (λ v. Stands size later tx 0 v m.now) (sym now_is) (Stands-later told later on size tx 0 (metadata_now old.kv) m.now s) in
-      let fresh_tree : Stands size told old.next_tx 0 (metadata_now old.kv) m.now = st.later old.next_tx (omega arith) in
+      let fresh_tree : Stands size later old.next_tx 0 (metadata_now old.kv) m.now =
+      Stands-later told later on size old.next_tx 0 (metadata_now old.kv) m.now (st.later old.next_tx (omega arith)) in
+      let none : (i : InodeId) → i.tx.0 ≡ old.next_tx → metadata_now new.kv (Inode i) ≡ None = λ i mine.
+      ap (λ w. w (Inode i)) now_is ∙ before_none old.next_tx (metadata_now old.kv) st.before i mine in
       let stands : StandsForTxn size later new.kv m.now x t = record {
         sound = begins.sound size later;
         base = st.number;
         shown = refl;
         replayed = refl;
-        tree = subst (λ v. Stands size later old.next_tx 0 v m.now) (sym (map old.kv.number)) (Stands-later told later on size old.next_tx 0 (metadata_now old.kv) m.now fresh_tree);
-        now = trees old.next_tx fresh_tree;
+        tree = subst (λ v. Stands size later old.next_tx 0 v m.now) (sym (map old.kv.number)) fresh_tree;
+        now = subst (λ v. Stands size later old.next_tx 0 v m.now) (sym now_is) fresh_tree;
+        since = subst (λ n. SinceBase new.kv old.next_tx n []) number (since_none new.kv old.next_tx none);
       } in (
         begins.answer ∙ ap answer.Begun (sym st.number),
         subst (λ r. TablesStand size later new (machine_begun m c r)) (sym begins.answer)
-            (stands_turned size told later old new m after c (Some x) sound st on begins_turned
-            (λ d other. get-number_other m.transactions c t d other)
-            (st.number ∙ ap (λ (k : Store Key Value). k.number) (sym begins.kv)) refl
-            (before_same old.next_tx new.next_tx (metadata_now old.kv) (metadata_now new.kv) now_is (let next = begins.next_tx in omega (arith, next)) st.before)
-            (subst (λ o. StandsForSlot size later new.kv m.now (Some x) o) (sym (get-number_same m.transactions c t)) stands)
-            (λ tx other s. trees tx s)),
+            (stands_kept size told later old new m after c (Some x) sound st on begins_turned number
+            (λ q. ap (λ (k : Store Key Value). versions_of key_cmp k q) begins.kv)
+            (λ d other. get-number_other m.transactions c t d other) refl refl refl
+            (subst (λ o. StandsForSlot size later new.kv m.now (Some x) o) (sym (get-number_same m.transactions c t)) stands)),
       )
 
 -- ---- a call
@@ -151,17 +157,17 @@ all_answers : (size : ℕ) (kv : Store Key Value) (told : Told) (x : TxnView) (o
 all_answers size kv told x ops tree sound fit live stands =
     let cap : ℕ = MAX_REGIONS * size in
     let ran = at_base size kv told x ops sound tree stands in
-    let count : x.replayed ≡ length ops = live ∙ OpsStandFor-length (tells_slice told) x.log.ops ops sound.ops_are in
     let shown : x.replayed ≡ length x.log.shown = live ∙ sym fit.log.answers in
-    let done : take x.replayed ops ≡ ops = ap (λ n. take n ops) count ∙ take-length ops in
+    let done : take x.replayed ops ≡ ops = done_all size kv told x ops sound live in
     ap (answers_of cap tree) (sym done) ∙ ran.answers ∙ ap (λ n. take n x.log.shown) shown ∙ take-length x.log.shown
 
 -- a machine that logs what is logged
 called_is : (m : Machine) (c : ℕ) (t : Transaction) (o : Op (List ℕ)) (a : Answer) → IsLogged a → called m c t o a ≡ with_transaction m c (logged t o a)
 called_is m c t o a h = ap (λ b. if b then with_transaction m c (logged t o a) else m) (is_true_of (is_logged a) h)
 
-module _ (Telling : Type 0) (servers size : ℕ) (told later : Told) (old new : TablesView) (c : ℕ) (x : TxnView) (o : Op (List ℕ)) (a : Answer)
-    (sound : AreSound old) (here : of_client old.clients c ≡ Some x) (calls : Calls Telling servers size told later old new c x o a) where
+module _ (Telling : Type 0) (lists : Remembered) (servers size : ℕ) (told later : Told) (old new : TablesView) (c : ℕ) (x : TxnView) (o : Op (List ℕ))
+    (a : Answer)
+    (sound : AreSound old) (here : of_client old.clients c ≡ Some x) (calls : Calls Telling lists servers size told later old new c x o a) where
   -- the tables stay sound
   pub calls_sound : AreSound new
   calls_sound =
@@ -170,14 +176,14 @@ module _ (Telling : Type 0) (servers size : ℕ) (told later : Told) (old new : 
 
   -- the answer is due to the machine's transaction, which logs it too
   pub calls_stand : (m : Machine) (t : Transaction) → m.settings.region ≡ size → TablesStand size told old m → TellsOn told later → get m.transactions c ≡ Some t → call_refusal x ≡ None
-      → Telling → MayCall m t o a × TablesStand size later new (called m c t o a)
+      → Telling × CacheTrue told size [] lists → MayCall m t o a × TablesStand size later new (called m c t o a)
   calls_stand m t region st on there asked telling =
       let y : TxnView = calls.later_one in
       let is = calls.called.logged in
       let txn = txn_in size told old m c x t st here there in
       let fit : IsFit old.kv x = (sound.each c x here).fit in
       let live = call_live x asked in
-      let calls_are : IsSound size old.kv later y (t.ops ++ o ∷ []) = calls.sound (telling, txn.tree.bytes) t.ops txn.sound in
+      let calls_are : IsSound size old.kv later y (t.ops ++ o ∷ []) = calls.sound (telling.0, telling.1, txn.tree.bytes) t.ops txn.sound in
       let log : y.log ≡ with_call x.log calls.called.kept a = is.log in
       let shown : y.log.shown ≡ x.log.shown ++ a ∷ [] = ap (λ l. l.shown) log in
       let live2 : y.replayed ≡ length y.log.ops = is.replayed ∙ ap (λ n. n + 1) live ∙ sym (length_push x.log.ops calls.called.kept) ∙ ap (λ l. length l.ops) (sym log) in
@@ -191,7 +197,8 @@ module _ (Telling : Type 0) (servers size : ℕ) (told later : Told) (old new : 
       let is_due : a ≡ due m t o = subst (λ k. a ≡ (call k (session_after k t.tree t.ops) o).answer) (sym cap) (last_answer (MAX_REGIONS * size) t.tree t.ops x.log.shown o a before all) in (
         inl is_due,
         subst (λ u. TablesStand size later new u) (sym (called_is m c t o a is.answer))
-            (goes_stand old new c x y sound here calls.keeps is.tx is.grows.base is.ended calls.fit size told later m t (logged t o a) st on there calls_are refl refl
+            (goes_stand old new c x y sound here calls.keeps is.tx is.grows.base is.ended calls.fit size told later m t (logged t o a) st on there
+            calls_are refl refl refl
             (ap (λ l. l ++ a ∷ []) txn.shown ∙ sym shown) (ap (λ n. n + 1) txn.replayed ∙ sym is.replayed)),
       )
 
@@ -205,19 +212,17 @@ fault_unlogged a h = absurd h
 
 -- what the calls that are done have left of the tree at the base is what the next call runs on
 module _ (size : ℕ) (kv : Store Key Value) (told : Told) (x : TxnView) (t : Transaction) (sound : IsSound size kv told x t.ops) (live : x.replayed ≡ length x.log.ops) (stands : Stands size told x.tx 0 (metadata_at kv x.at.base) t.tree) where
-  done_all : take x.replayed t.ops ≡ t.ops
-  done_all = ap (λ n. take n t.ops) (live ∙ OpsStandFor-length (tells_slice told) x.log.ops t.ops sound.ops_are) ∙ take-length t.ops
-
   pub next_may : (servers : ℕ) (o : Op (List ℕ)) (a : Answer)
       → ((y : Caller) (u : Told) (S : Session) → y.size ≡ size → Stands y.size u y.tx y.calls (seen kv x.at) S.tree → Holds u (seen kv x.at) x.session S → MayFail servers o (call (cap_for y) S o).answer a)
       → MayFail servers o (call (MAX_REGIONS * size) (session_after (MAX_REGIONS * size) t.tree t.ops) o).answer a
   next_may servers o a may =
       let ran = at_base size kv told x t.ops sound t.tree stands in
-      subst (λ ops. MayFail servers o (call (MAX_REGIONS * size) (session_after (MAX_REGIONS * size) t.tree ops) o).answer a) done_all
+      subst (λ ops. MayFail servers o (call (MAX_REGIONS * size) (session_after (MAX_REGIONS * size) t.tree ops) o).answer a) (done_all size kv told x t.ops sound live)
       (may (caller_at size x.tx (length (take x.replayed t.ops))) told (session_after (MAX_REGIONS * size) t.tree (take x.replayed t.ops)) refl ran.stands ran.holds)
 
-module _ (Telling : Type 0) (servers size : ℕ) (told later : Told) (old new : TablesView) (c : ℕ) (x : TxnView) (o : Op (List ℕ)) (a : Answer)
-    (sound : AreSound old) (here : of_client old.clients c ≡ Some x) (fails : CallFails Telling servers size told later old new c x o a) where
+module _ (Telling : Type 0) (lists : Remembered) (servers size : ℕ) (told later : Told) (old new : TablesView) (c : ℕ) (x : TxnView) (o : Op (List ℕ))
+    (a : Answer)
+    (sound : AreSound old) (here : of_client old.clients c ≡ Some x) (fails : CallFails Telling lists servers size told later old new c x o a) where
   -- a call that failed: the machine may answer so, and is then as it was
   pub fails_stand : (m : Machine) (t : Transaction) → m.settings.region ≡ size → m.settings.servers ≡ servers → TablesStand size told old m → TellsOn told later → get m.transactions c ≡ Some t → call_refusal x ≡ None
       → MayCall m t o a × TablesStand size later new (called m c t o a)
@@ -239,5 +244,8 @@ module _ (old new : TablesView) (c : ℕ) (x : TxnView) (a : Answer) (sound : Ar
 
   -- and the machine ends the transaction too
   pub aborts_stand : (size : ℕ) (told later : Told) (m : Machine) (t : Transaction) → TablesStand size told old m → TellsOn told later → MayAsk m (Some t) verb.Abort a × TablesStand size later new (aborted m c a)
-  aborts_stand size told later m t st on =
-      (aborts.0, subst (λ r. TablesStand size later new (aborted m c r)) (sym aborts.0) (leaves_stand old new old.kv c x sound here (omega arith) aborts.1 size told later m st on refl))
+  aborts_stand size told later m t st on = (
+    aborts.0,
+    subst (λ r. TablesStand size later new (aborted m c r)) (sym aborts.0)
+        (leaves_stand old new old.kv c x sound here (omega arith) aborts.1 size told later m st on refl (λ q. refl)),
+  )

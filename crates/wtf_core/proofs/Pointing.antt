@@ -9,6 +9,9 @@ use Rattle.std.proofs.lemmas.Option.{slice_get_past}
 use Rattle.wtf_base.specs.declared.ids.InodeId.{InodeId}
 use Rattle.wtf_base.specs.declared.pointer.Pointer.{Pointer}
 use Rattle.wtf_base.specs.declared.settings.Settings.{Settings}
+use Rattle.wtf_base.specs.declared.slice.Extents.{Extents}
+use Rattle.wtf_base.specs.declared.slice.Extents.TheVariants.{One, Two, Three}
+use Rattle.wtf_base.specs.Extents.{IsSound}
 use Rattle.wtf_base.specs.Slices.{pointers_of}
 use Rattle.wtf_base.specs.Places.{Place, place_in}
 use Rattle.wtf_base.proofs.Elements.{element}
@@ -19,14 +22,15 @@ use Rattle.wtf_overlay.specs.declared.part.Part.{Part}
 use Rattle.wtf_overlay.specs.declared.part.Part.TheVariants.{Zero, Held}
 use Rattle.wtf_overlay.specs.Lengths.{HasLength}
 use Rattle.wtf_values.specs.declared.key.Key.TheVariants.{Inode, Region}
+use Rattle.wtf_values.specs.declared.region.Spill.{Spill}
 use Rattle.wtf_values.specs.declared.value.Value.{Value}
 use Rattle.wtf_values.specs.declared.value.Value.TheVariants as value
 use Rattle.wtf_meta.specs.Maps.{Map}
-use Rattle.wtf_meta.specs.Bytes.{PartBytes, EntryBytes, ValueBytes, MapBytes}
-use Rattle.wtf_image.specs.Rows.{EntryRow, RegionRow, FileRow, ImageRows, part_row, entry_rows}
+use Rattle.wtf_meta.specs.Bytes.{PartBytes, EntryBytes, BaseBytes, ValueBytes, MapBytes, any_slice}
+use Rattle.wtf_image.specs.Rows.{BaseRow, EntryRow, RegionRow, FileRow, ImageRows, part_row, base_row, entry_rows}
 use Rattle.wtf_image.specs.Loading.{IsTaken}
 use Rattle.wtf_image.specs.Lookups.{Plain, NodeIs, NamesAre, LastIs, RegionIs, plain}
-use Rattle.wtf_image.specs.Rules.{lies_inside, are_inside, is_file_inside, is_region_inside, is_part_inside}
+use Rattle.wtf_image.specs.Rules.{lies_inside, are_inside, is_file_inside, is_region_inside, is_base_inside, is_part_inside}
 use Rattle.wtf_image.specs.Rules as rules
 use Rattle.wtf_image.specs.Saving.{last_now, region_now, with_one, regions_below, region_in, file_with, file_at, Says}
 use Rattle.wtf_image.specs.Shapes.{IsImage}
@@ -97,18 +101,34 @@ module _ {S : Type 0} (kind : StoreKind S) (shelf : List S) (settings : Settings
       and_from (is_part_inside settings.servers sizes (part_row e.part)) (list_all (λ (r : EntryRow). is_part_inside settings.servers sizes r.part) (entry_rows es))
       (part_out e.len e.part e.held e.positive (All-head (EntryBytes Inside) e es h)) (entries_out es (All-tail (EntryBytes Inside) e es h))
 
-  region_out : (r : ℕ) (v : Option Value) (row : RegionRow) → ValueBytes Inside v → region_now r (option_map plain v) ≡ Some row → is_region_inside settings.servers sizes row ≡ true
+  has_bytes : (n : ℕ) (e : Extents) → IsSound n e → 0 < n
+  has_bytes n (One a) sound = sound.0
+  has_bytes n (Two a b) sound = sound.0
+  has_bytes n (Three a b c) sound = sound.0
+
+  base_out : (base : Option Spill) → BaseBytes Inside any_slice base → is_base_inside settings.servers sizes (base_row base) ≡ true
+  base_out None h = refl
+  base_out (Some s) h =
+      let n : ℕ = s.slice.len in
+      let some = has_bytes n s.slice.extents s.slice.sound in
+      pointers_out n (n - 1) (pointers_of s.slice) (lengths kind shelf settings n s.slice.extents) (omega (arith, some)) (h.0 (n - 1) (omega (arith, some)))
+
+  region_out : (r : ℕ) (v : Option Value) (row : RegionRow) → ValueBytes Inside any_slice v → region_now r (option_map plain v) ≡ Some row
+      → is_region_inside settings.servers sizes row ≡ true
   region_out r None row h e = absurd (cc)
   region_out r (Some (value.Node n)) row h e = absurd (cc)
   region_out r (Some (value.Names ns)) row h e = absurd (cc)
   region_out r (Some (value.Last n)) row h e = absurd (cc)
   region_out r (Some (value.Region v)) row h e =
+      let base : base_row v.base ≡ row.base = cc in
       let entries : entry_rows v.list ≡ row.entries = cc in
-      subst (λ es. list_all (λ (x : EntryRow). is_part_inside settings.servers sizes x.part) es ≡ true) entries (entries_out v.list h.entries)
+      and_from (is_base_inside settings.servers sizes row.base) (list_all (λ (x : EntryRow). is_part_inside settings.servers sizes x.part) row.entries)
+      (subst (λ b. is_base_inside settings.servers sizes b ≡ true) base (base_out v.base h.base))
+      (subst (λ es. list_all (λ (x : EntryRow). is_part_inside settings.servers sizes x.part) es ≡ true) entries (entries_out v.list h.entries))
 
   -- ---- a map
 
-  module _ (w : Map) (inside : MapBytes Inside w) where
+  module _ (w : Map) (inside : MapBytes Inside any_slice w) where
     abbrev said : Shown
     said q = option_map plain (w q)
 
@@ -148,8 +168,20 @@ module _ (size later : ℕ → ℕ → ℕ) (grows : (k f : ℕ) → size k f �
   part_on None h = refl
   part_on (Some ps) h = all_more (lies_inside servers size) (lies_inside servers later) pointer_on ps h
 
+  base_on : (o : Option BaseRow) → is_base_inside servers size o ≡ true → is_base_inside servers later o ≡ true
+  base_on None h = refl
+  base_on (Some b) h = all_more (lies_inside servers size) (lies_inside servers later) pointer_on b.pointers h
+
+  entries_on : (es : List EntryRow) → list_all (λ e. is_part_inside servers size e.part) es ≡ true
+      → list_all (λ e. is_part_inside servers later e.part) es ≡ true
+  entries_on es h =
+      all_more (λ (e : EntryRow). is_part_inside servers size e.part) (λ (e : EntryRow). is_part_inside servers later e.part) (λ e. part_on e.part) es h
+
   region_on : (r : RegionRow) → is_region_inside servers size r ≡ true → is_region_inside servers later r ≡ true
-  region_on r h = all_more (λ (e : EntryRow). is_part_inside servers size e.part) (λ (e : EntryRow). is_part_inside servers later e.part) (λ e. part_on e.part) r.entries h
+  region_on r h =
+      let both = and_parts (is_base_inside servers size r.base) (list_all (λ (e : EntryRow). is_part_inside servers size e.part) r.entries) h in
+      and_from (is_base_inside servers later r.base) (list_all (λ (e : EntryRow). is_part_inside servers later e.part) r.entries)
+      (base_on r.base both.0) (entries_on r.entries both.1)
 
   files_on : (fs : List FileRow) → list_all (is_file_inside servers size) fs ≡ true → list_all (is_file_inside servers later) fs ≡ true
   files_on fs h = all_more (is_file_inside servers size) (is_file_inside servers later) (λ f. all_more (is_region_inside servers size) (is_region_inside servers later) region_on f.regions) fs h

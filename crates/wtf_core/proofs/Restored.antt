@@ -1,52 +1,59 @@
 -- A core that was loaded of an image: what it stands for, and that the keeper holds its image.
-use Rattle.std.proofs.Common.{◌≡◌, ◌≤◌, ℕ, false, cond, nat_eq, List, [], ◌∷◌, None, refl, sym, ap, subst, ◌∙◌, true≢false, ⊎_elim, arith, inl, inr}
+use Rattle.std.proofs.Common.{◌≡◌, ◌≤◌, ℕ, false, cond, nat_eq, List, [], ◌∷◌, Option, None, Some, refl, sym, ap, subst, ◌∙◌, true≢false, ⊎_elim, arith, inl, inr}
 use Rattle.std.specs.FinMap.{get-empty}
-use Rattle.std.specs.List.{Contains}
+use Rattle.std.specs.List.{All, Contains}
 use Rattle.std.specs.Ordering.{nat_cmp}
 use Rattle.std.proofs.lemmas.List.{append-nil}
-use Rattle.std.proofs.lemmas.List.Elements.{Contains-push, Contains-push_cases}
+use Rattle.std.proofs.lemmas.List.Elements.{All-nil, All-cons, Contains-push, Contains-push_cases}
 use Rattle.wtf_replica.specs.Downs.{is_down}
 use Rattle.std.proofs.lemmas.Bool.{cases_Bool, eqb-true}
 use Rattle.std.specs.Prelude.{IsTrue}
 use Rattle.wtf_dev.specs.Store.{StoreKind}
+use Rattle.wtf_region.specs.Cached.{CacheInside, CacheTrue}
 use Rattle.wtf_region.specs.Inside.{is_inside}
 use Rattle.wtf_kv.specs.Stores.{Store, is_pinned}
 use Rattle.wtf_kv.proofs.PinLaws.{count-any, count-push}
 use Rattle.wtf_values.specs.declared.key.Key.{Key}
+use Rattle.wtf_overlay.specs.declared.part.Entry.{Entry}
+use Rattle.wtf_values.specs.declared.region.RegionValue.{RegionValue}
+use Rattle.wtf_values.specs.declared.region.Spill.{Spill}
 use Rattle.wtf_values.specs.declared.value.Value.{Value}
+use Rattle.wtf_values.specs.declared.value.Value.TheVariants as value
 use Rattle.wtf_model.specs.Machines.{start}
 use Rattle.wtf_model.specs.Tree.{Tree}
 use Rattle.wtf_model.proofs.StepLaws.{is_down-start}
 use Rattle.wtf_meta.specs.Contents.{Told}
+use Rattle.wtf_meta.specs.Bytes.{EntryBytes, BaseBytes, RegionBytes, any_slice}
 use Rattle.wtf_meta.specs.Maps.{Map}
 use Rattle.wtf_meta.specs.Trees.{Stands}
 use Rattle.wtf_image.specs.declared.loads.Loaded.{Loaded}
 use Rattle.wtf_image.specs.Loading.{AreSettingsOf}
 use Rattle.wtf_image.specs.Outcome.{IsLoadOf}
 use Rattle.wtf_image.specs.Tables.{shown}
-use Rattle.wtf_image.specs.Rows.{ImageRows}
+use Rattle.wtf_image.specs.Rows.{RegionRow, ImageRows, base_row}
 use Rattle.wtf_image.specs.Rules.{size_in}
 use Rattle.wtf_image.specs.Images.{HasText}
-use Rattle.wtf_image.specs.Lookups.{row_at}
+use Rattle.wtf_image.specs.Lookups.{plain, plain_region, row_at}
 use Rattle.wtf_image.specs.Saving.{Says}
 use Rattle.wtf_image.specs.Savable.{AreBefore}
 use Rattle.wtf_image.specs.Texts.{image_text}
 use Rattle.wtf_image.proofs.Forms.{one_image}
 use Rattle.wtf_image.proofs.PlainLaws.{same_optional}
 use Rattle.wtf_image.proofs.Said.{says_itself, before_of}
-use Rattle.wtf_core.proofs.Fetched.{image_inside}
-use Rattle.wtf_core.proofs.Started.{none_of}
+use Rattle.wtf_core.proofs.Fetched.{map_said, image_inside}
+use Rattle.wtf_core.proofs.Started.{nothing_in, none_of}
 use Rattle.wtf_clients.specs.Views.{SavedView, TablesView, of_client, metadata_now}
 use Rattle.wtf_core.specs.Views.{CoreView}
 use Rattle.wtf_clients.specs.Standing.{IsImageTree, StandsForSlot}
 use Rattle.wtf_core.specs.Standing.{StandsFor}
-use Rattle.wtf_core.specs.Named.{IsInside}
+use Rattle.wtf_clients.specs.Named.{any_byte, no_slice}
+use Rattle.wtf_core.specs.Named.{IsInside, IsBare}
 use Rattle.wtf_core.specs.Loading.{IsCoreOf}
 use Rattle.wtf_clients.specs.Saves.{only_image}
 use Rattle.wtf_clients.specs.Sounds.{all_owned, all_kept, AreSound}
 use Rattle.wtf_clients.proofs.Naming.{bytes_alone}
 use Rattle.wtf_clients.specs.Keeping.{IsHeldBy}
-use Rattle.wtf_core.specs.Pictured.{IsImageOfTree}
+use Rattle.wtf_core.specs.Pictured.{IsImageOfTree, IsBareImage}
 
 -- bytes are one image at most
 same_rows : (x y : ImageRows) (bytes : List ℕ) → HasText x bytes → HasText y bytes → x ≡ y
@@ -58,8 +65,9 @@ only_one n m here = elim (Contains-push_cases [] m n here) [ inl never ↦ absur
 
 -- the core over the tables of what was loaded
 pub core_of : (size : ℕ → ℕ → ℕ) (bytes : List ℕ) (l : Loaded) (tables : TablesView) (core : CoreView) → IsLoadOf size bytes l → core.settings ≡ l.settings → core.tables ≡ tables
-    → tables.kv ≡ record l.kv { pins = l.kv.number ∷ [] } → tables.next_tx ≡ l.next_tx → tables.clients ≡ [] → tables.saved ≡ only_image l.kv.number → IsCoreOf size bytes core
-core_of size bytes l tables core load settings same kv next clients saved =
+    → tables.kv ≡ record l.kv { pins = l.kv.number ∷ [] } → tables.next_tx ≡ l.next_tx → tables.clients ≡ [] → tables.saved ≡ only_image l.kv.number →
+    core.lists ≡ [] → IsCoreOf size bytes core
+core_of size bytes l tables core load settings same kv next clients saved lists =
     let is_kv : core.tables.kv ≡ record l.kv { pins = l.kv.number ∷ [] } = ap (λ (t : TablesView). t.kv) same ∙ kv in
     let number : core.tables.kv.number ≡ l.kv.number = ap (λ (s : Store Key Value). s.number) is_kv in
     record {
@@ -71,6 +79,7 @@ core_of size bytes l tables core load settings same kv next clients saved =
       map = λ q. ap (λ (s : Store Key Value). shown s q) is_kv ∙ load.store.map q;
       clients = ap (λ (t : TablesView). t.clients) same ∙ clients;
       saved = ap (λ (t : TablesView). t.saved) same ∙ saved ∙ ap only_image (sym number);
+      lists = lists;
     }
 
 module _ (size : ℕ → ℕ → ℕ) (bytes : List ℕ) (core : CoreView) (of_it : IsCoreOf size bytes core) where
@@ -109,6 +118,7 @@ module _ (size : ℕ → ℕ → ℕ) (bytes : List ℕ) (core : CoreView) (of_i
       });
     };
     down = λ k. up k ∙ sym (is_down-start core.settings core.tables.kv.number t k);
+    lists = subst (CacheTrue told core.settings.region []) (sym of_it.lists) (λ e there. absurd (nothing_in e there));
   }
 
   -- the bytes are the image that the core knows of
@@ -147,6 +157,29 @@ pinned_alone core sound clients saved n pinned =
 
 -- what it names lies inside the stores, as the image's pointers do
 pub inside_loaded : {S : Type 0} (kind : StoreKind S) (shelf : List S) (bytes : List ℕ) (core : CoreView) → AreSound core.tables → IsCoreOf (size_in kind shelf) bytes core → IsInside kind shelf core
-inside_loaded kind shelf bytes core sound of_it =
-    bytes_alone (is_inside kind shelf core.settings) core.tables (λ c. none_of core.tables.clients c of_it.clients) (pinned_alone core sound of_it.clients of_it.saved)
-    (image_inside kind shelf core.settings of_it.rows (metadata_now core.tables.kv) (sym of_it.settings.servers) of_it.taken.inside of_it.map)
+inside_loaded kind shelf bytes core sound of_it = record {
+  tables = bytes_alone (is_inside kind shelf core.settings) any_slice core.tables (λ c. none_of core.tables.clients c of_it.clients)
+      (pinned_alone core sound of_it.clients of_it.saved)
+      (image_inside kind shelf core.settings of_it.rows (metadata_now core.tables.kv) (sym of_it.settings.servers) of_it.taken.inside of_it.map);
+  lists = subst (CacheInside (is_inside kind shelf core.settings)) (sym of_it.lists) (λ e there. absurd (nothing_in e there));
+}
+
+-- and no region has a base, where none of the image has
+base_none : (base : Option Spill) → base_row base ≡ None → BaseBytes any_byte no_slice base
+base_none None is = tt
+base_none (Some s) is = absurd (cc)
+
+any_entries : (es : List Entry) → All (EntryBytes any_byte) es
+any_entries [] = All-nil (EntryBytes any_byte)
+any_entries (e ∷ es) = All-cons (EntryBytes any_byte) e es (λ i below. refl) (any_entries es)
+
+region_bare : (v : RegionValue) (row : RegionRow) → plain (value.Region v) ≡ plain_region row → row.base ≡ None → RegionBytes any_byte no_slice v
+region_bare v row is none =
+    let same : base_row v.base ≡ row.base = cc in
+    record { base = base_none v.base (same ∙ none); entries = any_entries v.list }
+
+pub bare_loaded : (size : ℕ → ℕ → ℕ) (bytes : List ℕ) (core : CoreView) → AreSound core.tables → IsCoreOf size bytes core → IsBareImage bytes → IsBare core
+bare_loaded size bytes core sound of_it bare =
+    bytes_alone any_byte no_slice core.tables (λ c. none_of core.tables.clients c of_it.clients) (pinned_alone core sound of_it.clients of_it.saved)
+    (map_said any_byte no_slice of_it.rows (metadata_now core.tables.kv) of_it.map (λ i r v row at same. region_bare v row same
+    (bare of_it.rows of_it.taken.text i r row at)))

@@ -1,5 +1,5 @@
 -- A save keeps the tables sound, and what they stand for.
-use Rattle.std.proofs.Common.{◌≡◌, ◌≤◌, ℕ, ◌+◌, true, cond, nat_eq, List, [], ◌∷◌, ◌++◌, Some, sym, ap, ◌∙◌, subst, ◌⊎◌, inl, inr, ⊎_elim, true≢false, arith}
+use Rattle.std.proofs.Common.{◌≡◌, ◌≤◌, ℕ, ◌+◌, true, cond, nat_eq, List, [], ◌∷◌, ◌++◌, Some, refl, sym, ap, ◌∙◌, subst, ◌⊎◌, inl, inr, ⊎_elim, true≢false, arith}
 use Rattle.std.specs.FinMap.{get}
 use Rattle.std.specs.List.{Contains}
 use Rattle.std.proofs.lemmas.List.Elements.{Contains-append_left, Contains-push, Contains-push_cases}
@@ -19,7 +19,8 @@ use Rattle.wtf_clients.specs.Sounds.{all_owned, all_kept, AreSound}
 use Rattle.wtf_clients.specs.Standing.{IsImageTree, StandsForSlot, TablesStand}
 use Rattle.wtf_clients.specs.Saves.{with_image, only_image, Saves, SaveTurn}
 use Rattle.wtf_clients.proofs.Pins.{base_pinned}
-use Rattle.wtf_clients.proofs.Frames.{open_on, txn_on, slot_on}
+use Rattle.wtf_clients.proofs.SinceLaws.{since_kept}
+use Rattle.wtf_clients.proofs.Frames.{open_on, txn_on, untouched_same, slot_on}
 use Rattle.wtf_clients.proofs.Images.{none_in, before_same, image_on}
 use Rattle.wtf_clients.proofs.Later.{Stands-later}
 use Rattle.wtf_clients.proofs.Lives.{upto_on, saved_reaches, same_kept, added_kept, only_kept}
@@ -87,9 +88,12 @@ module _ (old new : TablesView) (now : SavedView) (sound : AreSound old) (saves 
     saves_stand may none images = record {
       number = st.number ∙ sym saves.number;
       each = λ c. subst (λ l. StandsForSlot size later new.kv m.now (of_client l c) (get m.transactions c)) (sym saves.clients)
-          (slot_on size told later old.kv new.kv m.now m.now (of_client old.clients c) (get m.transactions c)
-          (λ x t is txn. txn_on size told later old.kv new.kv m.now m.now x t on (sound.each c x is).based saves.maps (trees_on x.tx txn.now) txn)
-          (st.each c));
+          (subst (λ o. StandsForSlot size later new.kv m.now (of_client old.clients c) o)
+          (sym (untouched_same (get m.transactions c) (get m.transactions c) refl))
+          (slot_on size told later old.kv new.kv m.now m.now [] (of_client old.clients c) (get m.transactions c)
+          (λ x t is txn. txn_on size told later old.kv new.kv m.now m.now x t [] on (sound.each c x is).based saves.maps (trees_on x.tx txn.now)
+          (since_kept old.kv new.kv x.tx x.at.base t.touched txn.since (sound.each c x is).based saves.maps saves.number saves.versions) txn)
+          (st.each c)));
       later = λ tx le. trees_on tx (st.later tx (let up = saves_more in omega (arith, up, le)));
       before = before_same old.next_tx new.next_tx (metadata_now old.kv) (metadata_now new.kv) saves_now saves_more st.before;
       none = λ is. none (sym (ap (λ (s : SavedView). s.none) saves.saved) ∙ is);

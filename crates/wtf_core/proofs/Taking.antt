@@ -13,7 +13,7 @@ use Rattle.wtf_model.specs.declared.answer.Answer.TheVariants as answer
 use Rattle.wtf_model.specs.declared.event.Event.{Event}
 use Rattle.wtf_model.specs.declared.event.Event.TheVariants as event
 use Rattle.wtf_model.specs.Machines.{Machine}
-use Rattle.wtf_meta.specs.Bytes.{MapBytes}
+use Rattle.wtf_meta.specs.Bytes.{MapBytes, any_slice}
 use Rattle.wtf_meta.specs.Contents.{Told}
 use Rattle.wtf_region.specs.Inside.{is_inside}
 use Rattle.wtf_image.specs.Images.{HasText}
@@ -68,7 +68,8 @@ image_with size settings n next n' next' bytes more after h = record {
 
 module _ {S : Type 0} (kind : StoreKind S) (laws : KindLaws kind) (t : Span S) (on : EachFollows kind t.before t.after []) (k : KeeperSpan) (keeper : KeeperLaws k) (settings : Settings) (old new : TablesView)
     (told : Told) (m : Machine) (limits : AreSettings settings.servers settings.replicas settings.region) (begun_one : AreSound old) (few : old.kv.number ≤ 2 ^ 62) (next : old.next_tx ≤ 2 ^ 62)
-    (st : TablesStand settings.region told old m) (inside : MapBytes (is_inside kind t.before settings) (metadata_now old.kv)) (rises : Rises old new) where
+    (st : TablesStand settings.region told old m) (inside : MapBytes (is_inside kind t.before settings) any_slice (metadata_now old.kv))
+    (rises : Rises old new) where
   abbrev Before : Type 0
   Before = HoldsTaken k.before (size_in kind t.before) settings old.kv.number old.next_tx
 
@@ -138,7 +139,8 @@ numbers_on v size settings n next n' next' same_n same_next (bytes, held, is) =
 -- each line
 module _ {S : Type 0} (kind : StoreKind S) (laws : KindLaws kind) (t : Span S) (on : EachFollows kind t.before t.after []) (k : KeeperSpan) (keeper : KeeperLaws k) (Telling : Type 0) (told later : Told) (old new : CoreView)
     (m : Machine) (limits : AreSettings old.settings.servers old.settings.replicas old.settings.region) (sound : AreSound old.tables) (few : old.tables.kv.number ≤ 2 ^ 62) (next : old.tables.next_tx ≤ 2 ^ 62)
-    (st : TablesStand old.settings.region told old.tables m) (inside : MapBytes (is_inside kind t.before old.settings) (metadata_now old.tables.kv)) (rises : Rises old.tables new.tables) (a : Answer) where
+    (st : TablesStand old.settings.region told old.tables m) (inside : MapBytes (is_inside kind t.before old.settings) any_slice (metadata_now old.tables.kv))
+    (rises : Rises old.tables new.tables) (a : Answer) where
   other_taken : k.untouched → HoldsTaken k.before (size_in kind t.before) old.settings old.tables.kv.number old.tables.next_tx
       → HoldsTaken k.after (size_in kind t.after) old.settings new.tables.kv.number new.tables.next_tx
   other_taken untouched held = untouched_taken kind laws t on k keeper old.settings old.tables new.tables told m limits sound few next st inside rises untouched held

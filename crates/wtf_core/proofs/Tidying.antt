@@ -18,6 +18,7 @@ use Rattle.wtf_clients.specs.Standing.{StandsForTxn, StandsForSlot, TablesStand}
 use Rattle.wtf_core.specs.Standing.{StandsFor}
 use Rattle.wtf_clients.proofs.Images.{kept_pinned, before_same, image_on}
 use Rattle.wtf_clients.proofs.Lives.{pinned_live, number_live, live_cases}
+use Rattle.wtf_clients.proofs.SinceLaws.{tidied_moved, since_along}
 
 -- what is pinned was, and what can be read could be
 pinned_same : (old new : TablesView) → IsTidied old new → (n : ℕ) → IsTrue (is_pinned new.kv n) → IsTrue (is_pinned old.kv n)
@@ -79,6 +80,7 @@ module _ (old new : TablesView) (sound : AreSound old) (tidy : IsTidied old new)
     replayed = stands.replayed;
     tree = subst (λ (w : Map). Stands size told x.tx 0 w t.tree) (sym (base_same c x there)) stands.tree;
     now = subst (λ (w : Map). Stands size told x.tx 0 w now) (sym now_same) stands.now;
+    since = since_along old.kv new.kv x.tx x.at.base t.touched stands.since (base_same c x there) now_same (tidied_moved old new x.at.base tidy);
   }
 
   slot_still : (size : ℕ) (told : Told) (now : Tree) (c : ℕ) (s : Option TxnView) (t : Option Transaction) → of_client old.clients c ≡ s → StandsForSlot size told old.kv now s t → StandsForSlot size told new.kv now s t
@@ -106,4 +108,5 @@ core_tidied told old new m sound tidy rest stands = subst (λ (core : CoreView).
   settings = stands.settings;
   tables = tidied_stand old.tables new.tables sound tidy old.settings.region told m stands.tables;
   down = stands.down;
+  lists = stands.lists;
 })

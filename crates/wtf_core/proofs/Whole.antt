@@ -1,5 +1,5 @@
 -- What a core answers to a line is what the machine may, and the core goes on to stand for it.
-use Rattle.std.proofs.Common.{◌≡◌, ◌≢◌, ◌<◌, ◌⊎◌, ℕ, Bool, true, false, nat_eq, nat_lt, if◌then◌else◌, List, Option, None, Some, Result, Ok, Err, IfOk, OnErr, refl, sym, ap, subst, ◌∙◌, inl, inr, arith, ne_eqb, eq-eqb}
+use Rattle.std.proofs.Common.{◌≡◌, ◌≢◌, ◌<◌, ◌⊎◌, ℕ, Bool, true, false, nat_eq, nat_lt, if◌then◌else◌, List, [], Option, None, Some, Result, Ok, Err, IfOk, OnErr, refl, sym, ap, subst, ◌∙◌, inl, inr, arith, ne_eqb, eq-eqb}
 use Rattle.std.specs.Bool.{MatchBool}
 use Rattle.std.specs.FinMap.{get}
 use Rattle.std.specs.List.{Contains}
@@ -23,6 +23,7 @@ use Rattle.wtf_model.proofs.ServerLaws.{is_down-event}
 use Rattle.wtf_meta.specs.Contents.{Told}
 use Rattle.wtf_meta.specs.Trees.{Stands}
 use Rattle.wtf_meta.proofs.Telling.{TellsOn}
+use Rattle.wtf_region.specs.Cached.{Remembered, CacheTrue}
 use Rattle.wtf_clients.specs.Views.{TablesView, of_client, metadata_now}
 use Rattle.wtf_core.specs.Views.{CoreView}
 use Rattle.wtf_clients.specs.Sounds.{AreSound}
@@ -85,15 +86,24 @@ tables_later size told later tables m sound stands on =
     (record { answer = refl; keeps = record { clients = sets_same 0 tables.clients tables.clients refl; kv = refl; next_tx = refl; saved = refl } })
     size told later m stands on
 
-stays : (told later : Told) (core : CoreView) (m : Machine) → AreSound core.tables → StandsFor told core m → TellsOn told later → StandsFor later core m
-stays told later core m sound stands on = record {
+stays : (told later : Told) (core : CoreView) (m : Machine) → AreSound core.tables → StandsFor told core m → TellsOn told later → CacheTrue later
+    core.settings.region [] core.lists → StandsFor later core m
+stays told later core m sound stands on lists = record {
   settings = stands.settings;
   tables = tables_later core.settings.region told later core.tables m sound stands.tables on;
   down = stands.down;
+  lists = lists;
 }
 
+-- the lists that a core remembers which did not change are true later, where those of the next one are
+lists_of : (later : Told) (old new mid : CoreView) → new ≡ mid → CacheTrue later old.settings.region [] new.lists → CacheTrue later old.settings.region []
+    mid.lists
+lists_of later old new mid is now = subst (λ (core : CoreView). CacheTrue later old.settings.region [] core.lists) is now
+
 -- ---- a server goes down, or comes up
-module _ (told later : Told) (old new : CoreView) (m : Machine) (k : ℕ) (to : Bool) (a : Answer) (sound : AreSound old.tables) (stands : StandsFor told old m) (on : TellsOn told later) where
+module _ (told later : Told) (old new : CoreView) (m : Machine) (k : ℕ) (to : Bool) (a : Answer) (sound : AreSound old.tables) (stands : StandsFor told old m)
+    (on : TellsOn told later)
+    (now : CacheTrue later old.settings.region [] new.lists) where
   -- the machine's servers are the same, but for this one
   abbrev IsSwitch : Machine → Type 0
   IsSwitch next = (j : ℕ) → machine.is_down next j ≡ (if nat_eq j k then to else machine.is_down m j)
@@ -105,6 +115,7 @@ module _ (told later : Told) (old new : CoreView) (m : Machine) (k : ℕ) (to : 
         settings = settings ∙ stands.settings;
         tables = tables;
         down = down;
+        lists = lists_of later old new (record old { replicas = new.replicas }) turn.rest now;
       })
     where
       by : (j : ℕ) → (j ≡ k) ⊎ (j ≢ k) → is_down new.replicas j ≡ machine.is_down next j
@@ -125,9 +136,10 @@ module _ (told later : Told) (old new : CoreView) (m : Machine) (k : ℕ) (to : 
         images = λ n there. subst (λ l. IsImageTree old.settings.region later old.tables n l) (sym may) (same.images n there);
       }
 
-down_line : (told later : Told) (old new : CoreView) (m : Machine) (k : ℕ) (a : Answer) → AreSound old.tables → StandsFor told old m → TellsOn told later → ServerTurn old new k true a
+down_line : (told later : Told) (old new : CoreView) (m : Machine) (k : ℕ) (a : Answer) → AreSound old.tables → StandsFor told old m → TellsOn told later →
+    CacheTrue later old.settings.region [] new.lists → ServerTurn old new k true a
     → (a ≡ server_answer m k) × StandsFor later new (after m (event.Down k) a)
-down_line told later old new m k a sound stands on turn = by (nat_lt k old.settings.servers) refl turn
+down_line told later old new m k a sound stands on now turn = by (nat_lt k old.settings.servers) refl turn
   where
     servers : nat_lt k m.settings.servers ≡ nat_lt k old.settings.servers
     servers = ap (λ (s : Settings). nat_lt k s.servers) stands.settings
@@ -138,15 +150,20 @@ down_line told later old new m k a sound stands on turn = by (nat_lt k old.setti
         let next = after m (event.Down k) answer.Okay in (
           due,
           subst (λ b. StandsFor later new (after m (event.Down k) b)) (sym t.answer)
-              (switched told later old new m k true a sound stands on t next refl (tables_beside told later old new m k true a sound stands on next refl refl refl refl) (is_down-event m (event.Down k) answer.Okay)),
+              (switched told later old new m k true a sound stands on now t next refl (tables_beside told later old new m k true a sound stands on now next
+              refl refl refl refl) (is_down-event m (event.Down k) answer.Okay)),
         )
     by false is t =
-        let due : a ≡ server_answer m k = t.0 ∙ sym (ap (λ b. if b then answer.Okay else answer.Refused NoServer) (servers ∙ is)) in
-        (due, subst (λ b. StandsFor later new (after m (event.Down k) b)) (sym t.0) (subst (λ (core : CoreView). StandsFor later core m) (sym t.1) (stays told later old m sound stands on)))
+        let due : a ≡ server_answer m k = t.0 ∙ sym (ap (λ b. if b then answer.Okay else answer.Refused NoServer) (servers ∙ is)) in (
+          due,
+          subst (λ b. StandsFor later new (after m (event.Down k) b)) (sym t.0) (subst (λ (core : CoreView). StandsFor later core m) (sym t.1)
+              (stays told later old m sound stands on (lists_of later old new old t.1 now))),
+        )
 
-up_line : (told later : Told) (old new : CoreView) (m : Machine) (k : ℕ) (a : Answer) → AreSound old.tables → StandsFor told old m → TellsOn told later → ServerTurn old new k false a
+up_line : (told later : Told) (old new : CoreView) (m : Machine) (k : ℕ) (a : Answer) → AreSound old.tables → StandsFor told old m → TellsOn told later →
+    CacheTrue later old.settings.region [] new.lists → ServerTurn old new k false a
     → (a ≡ server_answer m k) × StandsFor later new (after m (event.Up k) a)
-up_line told later old new m k a sound stands on turn = by (nat_lt k old.settings.servers) refl turn
+up_line told later old new m k a sound stands on now turn = by (nat_lt k old.settings.servers) refl turn
   where
     servers : nat_lt k m.settings.servers ≡ nat_lt k old.settings.servers
     servers = ap (λ (s : Settings). nat_lt k s.servers) stands.settings
@@ -157,33 +174,42 @@ up_line told later old new m k a sound stands on turn = by (nat_lt k old.setting
         let next = after m (event.Up k) answer.Okay in (
           due,
           subst (λ b. StandsFor later new (after m (event.Up k) b)) (sym t.answer)
-              (switched told later old new m k false a sound stands on t next refl (tables_beside told later old new m k false a sound stands on next refl refl refl refl) (is_down-event m (event.Up k) answer.Okay)),
+              (switched told later old new m k false a sound stands on now t next refl (tables_beside told later old new m k false a sound stands on now next
+              refl refl refl refl) (is_down-event m (event.Up k) answer.Okay)),
         )
     by false is t =
-        let due : a ≡ server_answer m k = t.0 ∙ sym (ap (λ b. if b then answer.Okay else answer.Refused NoServer) (servers ∙ is)) in
-        (due, subst (λ b. StandsFor later new (after m (event.Up k) b)) (sym t.0) (subst (λ (core : CoreView). StandsFor later core m) (sym t.1) (stays told later old m sound stands on)))
+        let due : a ≡ server_answer m k = t.0 ∙ sym (ap (λ b. if b then answer.Okay else answer.Refused NoServer) (servers ∙ is)) in (
+          due,
+          subst (λ b. StandsFor later new (after m (event.Up k) b)) (sym t.0) (subst (λ (core : CoreView). StandsFor later core m) (sym t.1)
+              (stays told later old m sound stands on (lists_of later old new old t.1 now))),
+        )
 
 -- ---- each line
-module _ (Telling : Type 0) (told later : Told) (old new : CoreView) (m : Machine) (a : Answer) (sound : AreSound old.tables) (stands : StandsFor told old m) (on : TellsOn told later) (tell : Telling) where
+module _ (Telling : Type 0) (told later : Told) (old new : CoreView) (m : Machine) (a : Answer) (sound : AreSound old.tables) (stands : StandsFor told old m)
+    (on : TellsOn told later) (tell : Telling)
+    (now : CacheTrue later old.settings.region [] new.lists) where
   -- one that is not built changes nothing
   not_built : (e : Event) → is_built e ≡ false → (a ≡ answer.NotBuilt) × (new ≡ old) → IsEvent later new m e a
   not_built e is h = record {
     may = subst (λ b. MatchBool b (MayBuilt m e a) (a ≡ answer.NotBuilt)) (sym is) h.0;
     stands = subst (λ b. StandsFor later new (after m e b)) (sym h.0)
-        (subst (λ n. StandsFor later new n) (sym (after-NotBuilt m e)) (subst (λ (core : CoreView). StandsFor later core m) (sym h.1) (stays told later old m sound stands on)));
+        (subst (λ n. StandsFor later new n) (sym (after-NotBuilt m e)) (subst (λ (core : CoreView). StandsFor later core m) (sym h.1)
+        (stays told later old m sound stands on (lists_of later old new old h.1 now))));
   }
 
   built_client : (c : ℕ) (v : Verb) → BuiltTurn Telling (told, later) old new (event.Client c v) a → IsEvent later new m (event.Client c v) a
   built_client c v h =
       let region : m.settings.region ≡ old.settings.region = ap (λ (s : Settings). s.region) stands.settings in
       let count : m.settings.servers ≡ old.settings.servers = ap (λ (s : Settings). s.servers) stands.settings in
-      let both = client_stands Telling old.settings.servers old.settings.region told later old.tables new.tables m c v a sound region count stands.tables on tell h.0 in
+      let both = client_stands Telling old.lists old.settings.servers old.settings.region told later old.tables new.tables m c v a sound region count
+      stands.tables on (tell, stands.lists) h.0 in
       record {
         may = both.0;
         stands = subst (λ (core : CoreView). StandsFor later core (after m (event.Client c v) a)) (sym h.1) (record {
           settings = client_settings m c (get m.transactions c) v a ∙ stands.settings;
           tables = both.1;
           down = λ k. stands.down k ∙ sym (is_down-event m (event.Client c v) a k);
+          lists = now;
         });
       }
 
@@ -210,28 +236,30 @@ module _ (Telling : Type 0) (told later : Told) (old new : CoreView) (m : Machin
       settings = save_settings a ∙ stands.settings;
       tables = save_stands (AreUp old.replicas old.settings.servers) old.tables new.tables sound old.settings.region told later m a stands.tables on h.0;
       down = λ k. stands.down k ∙ sym (is_down-event m event.Save a k);
+      lists = lists_of later old new (record old { tables = new.tables }) h.1 now;
     });
   }
 
   pub line_stands : (e : Event) → LineTurn Telling (told, later) old new e a → IsEvent later new m e a
   line_stands (event.Client c v) h = built_client c v h
-  line_stands (event.Down k) h = let both = down_line told later old new m k a sound stands on h in record { may = both.0; stands = both.1 }
-  line_stands (event.Up k) h = let both = up_line told later old new m k a sound stands on h in record { may = both.0; stands = both.1 }
+  line_stands (event.Down k) h = let both = down_line told later old new m k a sound stands on now h in record { may = both.0; stands = both.1 }
+  line_stands (event.Up k) h = let both = up_line told later old new m k a sound stands on now h in record { may = both.0; stands = both.1 }
   line_stands (event.Dump p) h =
       let due : (a ≡ dump_answer m p) ⊎ MayFailRead m.settings.servers (dump_answer m p) a =
       subst (λ n. (a ≡ dump_answer m p) ⊎ MayFailRead n (dump_answer m p) a) (sym (ap (λ (s : Settings). s.servers) stands.settings))
-      (h.0.shows old.tables.next_tx 0 m.now (stands.tables.later old.tables.next_tx (omega arith))) in
+      (h.0.shows stands.lists old.tables.next_tx 0 m.now (stands.tables.later old.tables.next_tx (omega arith))) in
       record {
         may = due;
         stands = subst (λ (core : CoreView). StandsFor later core m) (sym h.1) (record {
           settings = stands.settings;
           tables = stays_stand old.tables new.tables 0 sound (h.0.stays 0) old.settings.region told later m stands.tables on;
           down = stands.down;
+          lists = now;
         });
       }
   line_stands event.Tree h = record {
     may = h.0 told old.tables.next_tx 0 m.now (stands.tables.later old.tables.next_tx (omega arith));
-    stands = subst (λ (core : CoreView). StandsFor later core m) (sym h.1) (stays told later old m sound stands on);
+    stands = subst (λ (core : CoreView). StandsFor later core m) (sym h.1) (stays told later old m sound stands on (lists_of later old new old h.1 now));
   }
   line_stands event.Save h = save_event h
   line_stands e h = not_built e refl h
@@ -249,7 +277,7 @@ module _ (Telling : Type 0) (told : Told × Told) (old new : CoreView) (a : Answ
   server_rises k to false h = tables_same old new h.1
 
   client_by : (c : ℕ) (v : Verb) (b : Bool) → MatchBool b (BuiltTurn Telling told old new (event.Client c v) a) ((a ≡ answer.NotBuilt) × (new ≡ old)) → Rises old.tables new.tables
-  client_by c v true h = client_rises Telling old.settings.servers old.settings.region told.0 told.1 old.tables new.tables c v a h.0
+  client_by c v true h = client_rises Telling old.lists old.settings.servers old.settings.region told.0 told.1 old.tables new.tables c v a h.0
   client_by c v false h = tables_same old new h.1
 
   save_rises : (b : Answer) → SaveTurn (AreUp old.replicas old.settings.servers) old.tables new.tables b → Rises old.tables new.tables
@@ -272,15 +300,18 @@ pub sound_either : {E : Type 0} (r : Result Answer E) (P : Answer → Type 0) (Q
 sound_either (Ok a) P Q ok err on = on a ok
 sound_either (Err why) P Q ok err on = err
 
-pub sound_after : {E : Type 0} (r : Result Answer E) (Telling : Type 0) (servers size : ℕ) (told later : Told) (old new : TablesView) (c : ℕ) (v : Verb) → AreSound old
-    → IfOk r (λ a. ClientTurn Telling servers size told later old new c v a) → OnErr r (AreSound new) → AreSound new
-sound_after r Telling servers size told later old new c v sound ok err =
-    sound_either r (λ a. ClientTurn Telling servers size told later old new c v a) (AreSound new) ok err (λ a turn. client_sound Telling servers size told later old new c v a sound turn)
+pub sound_after : {E : Type 0} (r : Result Answer E) (Telling : Type 0) (lists : Remembered) (servers size : ℕ) (told later : Told) (old new : TablesView)
+    (c : ℕ) (v : Verb) → AreSound old
+    → IfOk r (λ a. ClientTurn Telling lists servers size told later old new c v a) → OnErr r (AreSound new) → AreSound new
+sound_after r Telling lists servers size told later old new c v sound ok err =
+    sound_either r (λ a. ClientTurn Telling lists servers size told later old new c v a) (AreSound new) ok err
+    (λ a turn. client_sound Telling lists servers size told later old new c v a sound turn)
 
 -- and after a dump
-pub sound_dumped : {E : Type 0} (r : Result Answer E) (servers size : ℕ) (told : Told) (old new : TablesView) (p : List ℕ) → AreSound old
-    → IfOk r (Dumps servers size told old new p) → OnErr r (AreSound new) → AreSound new
-sound_dumped r servers size told old new p sound ok err = sound_either r (Dumps servers size told old new p) (AreSound new) ok err (λ a turn. stays_sound old new 0 sound (turn.stays 0))
+pub sound_dumped : {E : Type 0} (r : Result Answer E) (servers size : ℕ) (told : Told) (lists : Remembered) (old new : TablesView) (p : List ℕ) → AreSound old
+    → IfOk r (Dumps servers size told lists old new p) → OnErr r (AreSound new) → AreSound new
+sound_dumped r servers size told lists old new p sound ok err = sound_either r (Dumps servers size told lists old new p) (AreSound new) ok err
+    (λ a turn. stays_sound old new 0 sound (turn.stays 0))
 
 -- and after a save
 pub sound_saved : {E : Type 0} (r : Result Answer E) (Up : Type 0) (old new : TablesView) → AreSound old → IfOk r (SaveTurn Up old new) → OnErr r (new ≡ old) → AreSound new

@@ -3,8 +3,10 @@ pub mod Tables
 pub mod Standing
 pub mod Turns
 pub mod Named
+pub mod Remembering
 pub mod Answers
 pub mod Pictured
+pub mod Listed
 pub mod Promises
 pub mod Loading
 pub mod Made

@@ -10,7 +10,7 @@ use Rattle.wtf_clients.specs.Saves.{only_image}
 
 -- The bytes are an image that breaks no rule, over stores whose files have these sizes. The core has its settings and its
 -- number, says of each key what the image says, and begins next the image's next transaction; none is open. It knows that the
--- keeper has this image.
+-- keeper has this image, and remembers no list.
 pub record IsCoreOf (size : ℕ → ℕ → ℕ) (bytes : List ℕ) (core : CoreView) : Type 0 where
   pub rows : ImageRows
   pub taken : IsTaken size bytes rows
@@ -20,3 +20,4 @@ pub record IsCoreOf (size : ℕ → ℕ → ℕ) (bytes : List ℕ) (core : Core
   pub map : (q : Key) → shown core.tables.kv q ≡ row_at rows q
   pub clients : core.tables.clients ≡ []
   pub saved : core.tables.saved ≡ only_image core.tables.kv.number
+  pub lists : core.lists ≡ []

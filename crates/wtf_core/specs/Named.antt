@@ -1,18 +1,29 @@
--- The bytes that a core names: those of the map now and of each open transaction.
+-- The bytes that a core names: those of the map now, of each open transaction, and of the lists that it remembers.
 use Rattle.std.specs.Prelude.{Bool, List}
+use Rattle.wtf_base.specs.declared.slice.Slice.{Slice}
 use Rattle.wtf_dev.specs.Store.{StoreKind}
 use Rattle.wtf_overlay.specs.Origin.{Place}
+use Rattle.wtf_meta.specs.Bytes.{any_slice}
+use Rattle.wtf_region.specs.Cached.{CacheInside}
 use Rattle.wtf_region.specs.Inside.{is_inside}
+use Rattle.wtf_clients.specs.Serves.{AreBare, AreFull}
 use Rattle.wtf_core.specs.Views.{CoreView}
-pub use Rattle.wtf_clients.specs.Named.{TablesBytes, has_copies}
+pub use Rattle.wtf_clients.specs.Named.{TablesBytes, any_byte, no_slice, has_copies}
 
-abbrev pub CoreBytes : (List Place → Bool) → CoreView → Type 0
-CoreBytes P core = TablesBytes P core.tables
+-- P holds of the places of each byte that the tables name, and Q of the slice of each base; and P of each byte of each slice whose list
+-- is remembered, and of each byte of that list
+pub record CoreBytes (P : List Place → Bool) (Q : Slice → Bool) (core : CoreView) : Type 0 where
+  pub tables : TablesBytes P Q core.tables
+  pub lists : CacheInside P core.lists
 
 -- all that a core names lies inside the stores
 abbrev pub IsInside : {S : Type 0} → StoreKind S → List S → CoreView → Type 0
-IsInside kind shelf core = CoreBytes (is_inside kind shelf core.settings) core
+IsInside kind shelf core = CoreBytes (is_inside kind shelf core.settings) any_slice core
 
--- each byte that a core names has as many copies as there are replicas
+-- no region has a base: all lists of regions are in the metadata
+abbrev pub IsBare : CoreView → Type 0
+IsBare core = AreBare core.tables
+
+-- and each byte that a core names has as many copies as there are replicas
 abbrev pub IsFull : CoreView → Type 0
-IsFull core = CoreBytes (has_copies core.settings.replicas) core
+IsFull core = AreFull core.settings core.tables

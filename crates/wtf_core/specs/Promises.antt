@@ -22,7 +22,7 @@ use Rattle.wtf_clients.specs.Keeping.{KeeperSpan, KeeperTurn, HoldsKept}
 use Rattle.wtf_clients.specs.Outcomes.{AddsBytes, SaveFault, HasCause, data_of}
 use Rattle.wtf_clients.specs.Sounds.{AreSound, IsAlike}
 use Rattle.wtf_core.specs.Answers.{IsEvent}
-use Rattle.wtf_core.specs.Named.{IsInside, IsFull}
+use Rattle.wtf_core.specs.Named.{IsInside, IsBare, IsFull}
 use Rattle.wtf_core.specs.Pictured.{HoldsTree, HoldsTaken, HoldsWith}
 use Rattle.wtf_core.specs.Standing.{StandsFor}
 use Rattle.wtf_core.specs.Views.{CoreView}
@@ -44,12 +44,14 @@ span_of old new = span (is_down old.core.replicas) old.shelf new.shelf
 abbrev pub HasRoom : CoreView → Type 0
 HasRoom core = (core.tables.kv.number ≤ 2 ^ 62) × (core.tables.next_tx ≤ 2 ^ 62)
 
--- The core goes on: it is open, and what it names lies inside the stores, in as many copies as there are replicas where it did
--- before. Which servers are down follows the lines `down` and `up`, and `notbuilt` comes exactly at the verbs that are left to
+-- The core goes on: it is open, and what it names lies inside the stores; no region has a base where none had one before, and what is
+-- named has as many copies as there are replicas where it had before. Which servers are down follows the lines `down` and `up`, and `notbuilt` comes exactly
+-- at the verbs that are left to
 -- a later version. No number falls, and a save leaves both.
 pub record GoesOn {S : Type 0} (kind : StoreKind S) (old new : Scene S) (e : Event) (a : Answer) : Type 0 where
   pub not_closed : new.core.closed ≡ false
   pub inside : IsInside kind new.shelf new.core
+  pub bare : IsBare old.core → IsBare new.core
   pub full : IsFull old.core → IsFull new.core
   pub down : (k : ℕ) → is_down new.core.replicas k ≡ down_after_event (is_down old.core.replicas) e a k
   pub exact : (a ≡ answer.NotBuilt) ↔ (is_built e ≡ false)
@@ -89,7 +91,7 @@ pub record Stores {S : Type 0} (kind : StoreKind S) (old new : Scene S) (e : Eve
 -- a fault has its cause in this very line
 pub record IsCaused {S : Type 0} (kind : StoreKind S) (old new : Scene S) (e : Event) (a : Answer) : Type 0 where
   pub cause : HasCause kind (span_of old new) old.core.settings
-      (SaveFault kind (span_of old new) old.core.settings (Rose old.keeper.faults new.keeper.faults) e) (IsFull old.core) (data_of e) a
+      (SaveFault kind (span_of old new) old.core.settings (Rose old.keeper.faults new.keeper.faults) e) (IsBare old.core) (IsFull old.core) (data_of e) a
   pub failed : HasFailed (asked_of kind (span_of old new) old.core.settings old.core.tables e).fails a
 
 -- A save alone hands the keeper something; what it tells that it holds goes on being the image at a number that is kept for it.

@@ -42,14 +42,17 @@ abbrev pub IsTreeAnswer : Answer → Type 0
 IsTreeAnswer (answer.Tree rows) = ⊤
 IsTreeAnswer a = ⊥
 
--- a line, where the stores tell `told.0` before it and `told.1` after it; one that is not built changes nothing
+-- A line, where the stores tell `told.0` before it and `told.1` after it. One that may read remembers the lists that it read; one that is
+-- not built changes nothing.
 abbrev pub BuiltTurn : Type 0 → Told × Told → CoreView → CoreView → Event → Answer → Type 0
 BuiltTurn Telling told old new (event.Client c v) a =
-    ClientTurn Telling old.settings.servers old.settings.region told.0 told.1 old.tables new.tables c v a × (new ≡ record old { tables = new.tables })
+    ClientTurn Telling old.lists old.settings.servers old.settings.region told.0 told.1 old.tables new.tables c v a
+    × (new ≡ record old { tables = new.tables; lists = new.lists })
 BuiltTurn Telling told old new (event.Down k) a = ServerTurn old new k true a
 BuiltTurn Telling told old new (event.Up k) a = ServerTurn old new k false a
 BuiltTurn Telling told old new (event.Dump p) a =
-    Dumps old.settings.servers old.settings.region told.0 old.tables new.tables p a × (new ≡ record old { tables = new.tables })
+    Dumps old.settings.servers old.settings.region told.0 old.lists old.tables new.tables p a
+    × (new ≡ record old { tables = new.tables; lists = new.lists })
 BuiltTurn Telling told old new event.Tree a = ShowsTree old.settings.region old.tables.kv a × (new ≡ old) × IsTreeAnswer a
 BuiltTurn Telling told old new event.Save a =
     SaveTurn (AreUp old.replicas old.settings.servers) old.tables new.tables a × (new ≡ record old { tables = new.tables })

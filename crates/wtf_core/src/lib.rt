@@ -3,7 +3,6 @@
 //! whole, one by one (NSDI 2016, sections 2.6 and 2.7).
 #![tactic(auto)]
 
-mod ops;
 mod store;
 mod tree;
 

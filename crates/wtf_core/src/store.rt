@@ -4,6 +4,7 @@ ghost use Rattle.std.specs.Prelude.{◌≡◌, ◌<◌, ◌≤◌, ◌^◌, ℕ,
 ghost use Rattle.wtf_dev.specs.Each.{EachFollows};
 ghost use Rattle.wtf_dev.specs.Sums.{TellsAll};
 ghost use Rattle.wtf_base.specs.Limits.{AreSettings};
+ghost use Rattle.wtf_base.specs.declared.slice.Slice as slice_type;
 ghost use Rattle.wtf_overlay.specs.Origin.{Place};
 ghost use Rattle.wtf_replica.specs.Bytes.{byte_at};
 ghost use Rattle.wtf_replica.specs.Downs.{is_down};
@@ -23,16 +24,16 @@ ghost use Rattle.wtf_clients.specs.Views.{unsaved};
 ghost use Rattle.wtf_clients.specs.Sounds.{AreSound, IsAlike};
 ghost use Rattle.wtf_core.specs.Standing.{StandsFor};
 ghost use Rattle.wtf_core.specs.Turns.{takes_no_memory, LineTurn, IsLine, ServerTurn, ShowsTree, IsTreeAnswer};
-ghost use Rattle.wtf_core.specs.Named.{CoreBytes, IsInside};
+ghost use Rattle.wtf_core.specs.Named.{CoreBytes, IsInside, IsBare};
+ghost use Rattle.wtf_core.specs.Remembering.{KeepsLists};
 ghost use Rattle.wtf_clients.specs.Serves.{ServesLine, ServesEvent};
 ghost use Rattle.wtf_clients.specs.Keeping.{KeeperTurn, IsHeldBy, keeper_span};
-ghost use Rattle.wtf_core.specs.Pictured.{IsImageOfTree};
+ghost use Rattle.wtf_core.specs.Pictured.{IsImageOfTree, IsBareImage};
 ghost use Rattle.wtf_core.specs.Promises.{scene, GoesOn, Obeys, Stores, IsCaused, Keeps, Stays, Closes};
 ghost use Rattle.wtf_dev.specs.Counts.{Rose};
 ghost use Rattle.wtf_replica.specs.Outs.{SameLengths};
 ghost use Rattle.wtf_core.specs.Loading.{IsCoreOf};
 
-use crate::ops::copy_op;
 use crate::tree::tree_now;
 use std::alloc::Global;
 use std::marker::Model;
@@ -40,14 +41,15 @@ use wtf_base::{Bytes, OutOfMemory, Settings};
 use wtf_clients::Tables;
 use wtf_dev::{Keeper, Shelf, SliceStore};
 use wtf_image::{LoadError, Loaded};
-use wtf_model::{Answer, Event, Op, Verb, Word};
+use wtf_model::{Answer, Event, Op, Verb, Word, copy_op};
 use wtf_path::Path;
 use wtf_region::{Dev, RegionCache};
 use wtf_replica::Replicas;
 use wtf_ring::Ring;
 
 /// The store with all transactions that are open. Contracts see the settings, the metadata with the
-/// open transactions, the servers that are down, and whether it is closed.
+/// open transactions, the servers that are down, whether it is closed, and the lists of slices that it
+/// remembers.
 #[derive(Drop)]
 pub struct Core {
     alloc: Global,
@@ -69,12 +71,16 @@ impl Model for Core {
     ghost use Rattle.wtf_values.specs.contracts.key.Key as key;
     ghost use Rattle.wtf_values.specs.contracts.value.Value as value;
     ghost use Rattle.wtf_replay.specs.contracts.txn.Txn as txn;
+    ghost use Rattle.wtf_base.specs.contracts.slice.Slice as slice;
+    ghost use Rattle.wtf_overlay.specs.contracts.part.Entry as entry;
 
     ghost coded = { Prim.hlevel (
       codes,
       key.the_row.coded,
       value.the_row.coded,
       txn.the_row.coded,
+      slice.the_row.coded,
+      entry.the_row.coded,
     ) };
 
     ghost view = { λ c. record {
@@ -82,6 +88,7 @@ impl Model for Core {
       tables = c.tables;
       replicas = c.replicas;
       closed = c.closed;
+      lists = c.cache.lists;
     } };
 
     ghost invariant = { λ c. IsMade c.settings c.tables c.replicas c.ring c.cache };
@@ -99,7 +106,8 @@ impl Core {
         ensures sound { IfOk result (λ core. AreSound core.tables) }
         ensures stands { IfOk result (λ core. (told : Told) →
             StandsFor told core (start settings 0 root_alone)) }
-        ensures inside { IfOk result (λ core. (P : List Place → Bool) → CoreBytes P core) }
+        ensures inside { IfOk result (λ core. (P : List Place → Bool) (Q : slice_type.Slice → Bool) →
+            CoreBytes P Q core) }
         ensures up { IfOk result (λ core. (k : ℕ) → is_down core.replicas k ≡ false) }
     {
         let tables = match Tables::new(alloc) {
@@ -127,6 +135,7 @@ impl Core {
         ensures sound { IfOk result (λ core. AreSound core.tables) }
         ensures up { IfOk result (λ core. (k : ℕ) → is_down core.replicas k ≡ false) }
         ensures inside { IfOk result (IsInside S.kind shelf.now) }
+        ensures bare { IfOk result (λ core. IsBareImage bytes.now → IsBare core) }
         ensures stands { IfOk result (λ core. (told : Told) (t : Tree) →
             IsImageOfTree told bytes.now t →
             StandsFor told core (start core.settings core.tables.kv.number t)) }
@@ -171,6 +180,7 @@ impl Core {
         ensures settings { IfOk result (λ core. core.settings ≡ settings) }
         ensures tables { IfOk result (λ core. core.tables ≡ tables) }
         ensures closed { IfOk result (λ core. core.closed ≡ false) }
+        ensures lists { IfOk result (λ core. core.lists ≡ []) }
         ensures up { IfOk result (λ core. (k : ℕ) → is_down core.replicas k ≡ false) }
     {
         let ring = match Ring::new(alloc, settings.servers) {
@@ -336,6 +346,7 @@ impl Core {
         ensures err { OnErr result (IsAlike self.old.tables self.new.tables) }
         ensures settings { self.new.settings ≡ self.old.settings }
         ensures closed { self.new.closed ≡ self.old.closed }
+        ensures lists { KeepsLists S.kind shelf.old shelf.new self.old self.new }
         ensures shelf { EachFollows S.kind shelf.old shelf.new [] }
     {
         match event {
@@ -374,6 +385,7 @@ impl Core {
         ensures err { OnErr result (IsAlike self.old.tables self.new.tables) }
         ensures settings { self.new.settings ≡ self.old.settings }
         ensures closed { self.new.closed ≡ self.old.closed }
+        ensures lists { KeepsLists S.kind shelf.old shelf.new self.old self.new }
         ensures shelf { EachFollows S.kind shelf.old shelf.new [] }
     {
         match self
@@ -415,6 +427,7 @@ impl Core {
         ensures err { OnErr result (IsAlike self.old.tables self.new.tables) }
         ensures settings { self.new.settings ≡ self.old.settings }
         ensures closed { self.new.closed ≡ self.old.closed }
+        ensures lists { KeepsLists S.kind shelf.old shelf.new self.old self.new }
         ensures shelf { EachFollows S.kind shelf.old shelf.new [] }
     {
         match verb {
@@ -446,6 +459,7 @@ impl Core {
         ensures err { OnErr result (IsAlike self.old.tables self.new.tables) }
         ensures settings { self.new.settings ≡ self.old.settings }
         ensures closed { self.new.closed ≡ self.old.closed }
+        ensures lists { KeepsLists S.kind shelf.old shelf.new self.old self.new }
         ensures shelf { EachFollows S.kind shelf.old shelf.new [] }
     {
         let made = match copy_op(self.alloc, op) {
@@ -478,6 +492,7 @@ impl Core {
         ensures err { OnErr result (IsAlike self.old.tables self.new.tables) }
         ensures settings { self.new.settings ≡ self.old.settings }
         ensures closed { self.new.closed ≡ self.old.closed }
+        ensures lists { KeepsLists S.kind shelf.old shelf.new self.old self.new }
         ensures shelf { EachFollows S.kind shelf.old shelf.new [] }
     {
         let mut dev = Dev {
@@ -507,6 +522,7 @@ impl Core {
         ensures err { OnErr result (IsAlike self.old.tables self.new.tables) }
         ensures settings { self.new.settings ≡ self.old.settings }
         ensures closed { self.new.closed ≡ self.old.closed }
+        ensures lists { KeepsLists S.kind shelf.old shelf.new self.old self.new }
         ensures shelf { EachFollows S.kind shelf.old shelf.new [] }
     {
         let mut dev = Dev {
@@ -535,6 +551,7 @@ impl Core {
         ensures err { OnErr result (IsAlike self.old.tables self.new.tables) }
         ensures settings { self.new.settings ≡ self.old.settings }
         ensures closed { self.new.closed ≡ self.old.closed }
+        ensures lists { KeepsLists S.kind shelf.old shelf.new self.old self.new }
         ensures shelf { EachFollows S.kind shelf.old shelf.new [] }
     {
         let mut dev = Dev {

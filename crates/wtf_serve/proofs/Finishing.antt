@@ -333,7 +333,8 @@ module _ {S State : Type 0} (engine : Engine S State) (laws : KindLaws engine.ki
       let cut = pass.came.cut in
       let log = longer g.log line cut.answer in
       let t = step_of now next in
-      let ran = ran_more engine laws opening start.stock g.log t g.ran g.settings_is g.downs g.full g.stands line cut.answer cut.is pass.follows_on pass.keeper.faults in
+      let ran = ran_more engine laws opening start.stock g.log t g.ran g.settings_is g.downs g.as_given g.stands line cut.answer cut.is pass.follows_on
+      pass.keeper.faults in
       let rose : Rose start.sink.faults next.sink.faults = rose_in start.sink.faults now.sink.faults next.sink.faults next.sink.faults g.sink_faults cut.cause (omega arith) in
       record {
         log = log;
@@ -386,16 +387,20 @@ module _ {S State : Type 0} (engine : Engine S State) (laws : KindLaws engine.ki
           early = λ _.
               image_held (byte_at engine.kind next.stock.shelf) next.stock.keeper bytes (last opening tree log).may_be_saved
               (subst (λ (m : Machine). HoldsOneOf engine.kind next.stock m.may_be_saved)
-              (last_more engine laws opening start.stock g.log t g.ran g.settings_is g.downs g.full g.stands line cut.answer cut.is pass.follows_on pass.keeper.faults tree)
-              ((lawful_more engine laws opening start.stock g.log t g.ran g.settings_is g.downs g.full g.stands line cut.answer cut.is pass.follows_on pass.keeper.faults tells tree from).saved
+              (last_more engine laws opening start.stock g.log t g.ran g.settings_is g.downs g.as_given g.stands line cut.answer cut.is pass.follows_on
+              pass.keeper.faults tree)
+              ((lawful_more engine laws opening start.stock g.log t g.ran g.settings_is g.downs g.as_given g.stands line cut.answer cut.is pass.follows_on
+              pass.keeper.faults tells tree from).saved
               (g.keeper.tells ∙ telling.tells) (room_now engine laws opening start now next bad g number next_tx) (g.saved tells telling number next_tx tree from)))
               held;
           memory = λ e. absurd (omega (arith, e));
         };
         next = λ _ tells telling number next_tx tree from bytes held.
-            let law = lawful_more engine laws opening start.stock g.log t g.ran g.settings_is g.downs g.full g.stands line cut.answer cut.is pass.follows_on pass.keeper.faults tells tree from in
+            let law = lawful_more engine laws opening start.stock g.log t g.ran g.settings_is g.downs g.as_given g.stands line cut.answer cut.is
+            pass.follows_on pass.keeper.faults tells tree from in
             next_kept engine.kind opening (last opening tree log) log.lines next.stock bytes held (engine.number next.state) (engine.next_tx next.state) 4 (λ e. omega (arith, e))
-            (law.number ∙ ap (λ (m : Machine). m.number) (last_more engine laws opening start.stock g.log t g.ran g.settings_is g.downs g.full g.stands line cut.answer cut.is pass.follows_on pass.keeper.faults tree))
+            (law.number ∙ ap (λ (m : Machine). m.number) (last_more engine laws opening start.stock g.log t g.ran g.settings_is g.downs g.as_given g.stands
+            line cut.answer cut.is pass.follows_on pass.keeper.faults tree))
             (omega (arith, cut.is.goes_on.next_tx, g.begun, length-append g.log.lines (line ∷ [])))
             (subst (λ (x : Settings). HoldsStart engine.kind next.stock x (engine.number next.state) (engine.next_tx next.state)) g.settings_is
             (law.taken (g.keeper.tells ∙ telling.tells) (room_now engine laws opening start now next bad g number next_tx)

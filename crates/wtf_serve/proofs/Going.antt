@@ -21,7 +21,7 @@ use Rattle.wtf_script.specs.declared.limits.TheConstants.{SCRIPT_BYTES}
 use Rattle.wtf_script.specs.Reading.{work}
 use Rattle.wtf_serve.specs.Beginnings.{IsReady}
 use Rattle.wtf_serve.specs.Endings.{Devices}
-use Rattle.wtf_serve.specs.Engines.{Engine, HasRoom}
+use Rattle.wtf_serve.specs.Engines.{IsAsGiven, Engine, HasRoom}
 use Rattle.wtf_serve.specs.Logs.{Log, asked, last, last_downs, first_line, output}
 use Rattle.wtf_serve.specs.Openings.{Opening, IsTakenOver, StartsFrom, first}
 use Rattle.wtf_serve.specs.Passes.{Hand, hand, input, step_of, HasDrawn, PassIs}
@@ -51,7 +51,7 @@ pub record Going {S State : Type 0} (engine : Engine S State) (opening : Opening
   pub sound : engine.sound now.stock.shelf now.state
   pub enough : opening.settings.servers ≤ length start.stock.shelf
   pub settings_is : engine.settings now.state ≡ opening.settings
-  pub full : opening.bytes ≡ [] → engine.full now.state
+  pub as_given : IsAsGiven engine opening.bytes now.state
   pub number : engine.number now.state + work now.input.held ≤ opening.number + (SCRIPT_BYTES + 1)
   pub next_tx : engine.next_tx now.state + work now.input.held ≤ opening.next_tx + (SCRIPT_BYTES + 1)
   pub room : (opening.number ≤ 2 ^ 62) × (opening.next_tx ≤ 2 ^ 62)
@@ -105,7 +105,7 @@ going_none engine laws opening start sink' keeper' state ready room begins keepe
   sound = ready.sound;
   enough = ready.enough;
   settings_is = ready.settings;
-  full = ready.full;
+  as_given = ready.given;
   number = omega (arith, ready.number);
   next_tx = omega (arith, ready.next_tx);
   room = room;
@@ -145,30 +145,36 @@ module _ {S State : Type 0} (engine : Engine S State) (laws : KindLaws engine.ki
       let t = step_of now next in
       record {
         log = longer g.log line a;
-        ran = ran_more engine laws opening start.stock g.log t g.ran g.settings_is g.downs g.full g.stands line a is pass.follows_on pass.keeper.faults;
-        stands = stands_more engine laws opening start.stock g.log t g.ran g.settings_is g.downs g.full g.stands line a is pass.follows_on pass.keeper.faults;
+        ran = ran_more engine laws opening start.stock g.log t g.ran g.settings_is g.downs g.as_given g.stands line a is pass.follows_on pass.keeper.faults;
+        stands = stands_more engine laws opening start.stock g.log t g.ran g.settings_is g.downs g.as_given g.stands line a is pass.follows_on
+            pass.keeper.faults;
         saved = λ tells telling number next_tx tree from.
             subst (λ (m : Machine). HoldsOneOf engine.kind next.stock m.may_be_saved)
-            (last_more engine laws opening start.stock g.log t g.ran g.settings_is g.downs g.full g.stands line a is pass.follows_on pass.keeper.faults tree)
-            ((lawful_more engine laws opening start.stock g.log t g.ran g.settings_is g.downs g.full g.stands line a is pass.follows_on pass.keeper.faults tells tree from).saved
+            (last_more engine laws opening start.stock g.log t g.ran g.settings_is g.downs g.as_given g.stands line a is pass.follows_on pass.keeper.faults
+            tree)
+            ((lawful_more engine laws opening start.stock g.log t g.ran g.settings_is g.downs g.as_given g.stands line a is pass.follows_on pass.keeper.faults
+            tells tree from).saved
             (g.keeper.tells ∙ telling.tells) (room_now number next_tx) (g.saved tells telling number next_tx tree from));
         start_holds = λ tells telling number next_tx tree from.
             subst (λ (s : Settings). HoldsStart engine.kind next.stock s (engine.number next.state) (engine.next_tx next.state)) g.settings_is
-            ((lawful_more engine laws opening start.stock g.log t g.ran g.settings_is g.downs g.full g.stands line a is pass.follows_on pass.keeper.faults tells tree from).taken
+            ((lawful_more engine laws opening start.stock g.log t g.ran g.settings_is g.downs g.as_given g.stands line a is pass.follows_on pass.keeper.faults
+            tells tree from).taken
             (g.keeper.tells ∙ telling.tells) (room_now number next_tx)
             (subst (λ (s : Settings). HoldsStart engine.kind now.stock s (engine.number now.state) (engine.next_tx now.state)) (sym g.settings_is) (g.start_holds tells telling number next_tx tree from)));
         number_is = λ tells tree from.
-            (lawful_more engine laws opening start.stock g.log t g.ran g.settings_is g.downs g.full g.stands line a is pass.follows_on pass.keeper.faults tells tree from).number
-            ∙ ap (λ (m : Machine). m.number) (last_more engine laws opening start.stock g.log t g.ran g.settings_is g.downs g.full g.stands line a is pass.follows_on pass.keeper.faults tree);
+            (lawful_more engine laws opening start.stock g.log t g.ran g.settings_is g.downs g.as_given g.stands line a is pass.follows_on pass.keeper.faults
+            tells tree from).number
+            ∙ ap (λ (m : Machine). m.number) (last_more engine laws opening start.stock g.log t g.ran g.settings_is g.downs g.as_given g.stands line a is
+            pass.follows_on pass.keeper.faults tree);
         begun = omega (arith, is.goes_on.next_tx, g.begun, length-append g.log.lines (line ∷ []));
         taken = g.taken;
-        downs = downs_more engine laws opening start.stock g.log t g.ran g.settings_is g.downs g.full g.stands line a is pass.follows_on pass.keeper.faults;
+        downs = downs_more engine laws opening start.stock g.log t g.ran g.settings_is g.downs g.as_given g.stands line a is pass.follows_on pass.keeper.faults;
         bad_is = ap has_bad (asked-longer g.log line a) ∙ has_bad-push (asked g.log) (line_of line) ∙ ap (λ (b : Bool). b || is_err (line_of line)) g.bad_is
             ∙ ap (λ (b : Bool). bad || b) pass.came.bad_is;
         sound = is.goes_on.sound;
         enough = g.enough;
         settings_is = is.goes_on.settings ∙ g.settings_is;
-        full = λ empty. is.goes_on.full (g.full empty);
+        as_given = record { full = λ empty. is.goes_on.full (g.as_given.full empty); bare = λ none. is.goes_on.bare (g.as_given.bare none) };
         number = omega (arith, is.goes_on.number, g.number, pass.came.less);
         next_tx = omega (arith, is.goes_on.next_tx, g.next_tx, pass.came.less);
         room = g.room;

@@ -38,6 +38,7 @@ told_run kind handed opening status old new script text kept t served tells tell
       log = served.log;
       lines_are = ((served.read script rest).whole (inl end)).0;
       accepts = served.ran.accepts tells t from;
+      accepted = served.ran.accepted tells t from;
       wrote = some_same text (output opening served.log.answers) (sym now ∙ (served.wrote [] taken).whole started (λ is. absurd (omega (arith, end, is))));
       saved = (served.left started tells telling number next_tx t from kept held).saved end;
       next = (served.next started tells telling number next_tx t from kept held).saved end;

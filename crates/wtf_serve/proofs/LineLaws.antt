@@ -24,6 +24,7 @@ module _ {S : Type 0} (kind : StoreKind S) (here : Stock S) (core : CoreView) (b
     number = omega arith;
     next_tx = omega arith;
     same_next_tx = λ is. refl;
+    bare = λ f. f;
     full = λ f. f;
     exact = refl;
   }
@@ -83,6 +84,7 @@ module _ {S : Type 0} (kind : StoreKind S) (t : Step S CoreView) (e : Event) (a 
     number = stays.number;
     next_tx = stays.next_tx;
     same_next_tx = λ is. on.same_next_tx (save_is e is);
+    bare = on.bare;
     full = on.full;
     exact = on.exact;
   }

@@ -13,14 +13,14 @@ use Rattle.wtf_model.specs.declared.answer.Answer.{Answer}
 use Rattle.wtf_model.specs.declared.answer.Answer.TheVariants as answer
 use Rattle.wtf_model.specs.Machines.{Machine}
 use Rattle.wtf_model.specs.Tree.{Tree}
-use Rattle.wtf_model.specs.Lines.{Line, MayLine, AlongBy, after_line, Along, machine_after}
+use Rattle.wtf_model.specs.Lines.{Line, MayLineCaused, AlongBy, after_line, Along, machine_after}
 use Rattle.wtf_model.specs.Servers.{none_down, down_after, downs_after, AlongDowns, is_device_fault, is_device_fault_of_run, count_along}
-use Rattle.wtf_model.proofs.LineLaws.{state_after-push, AlongBy-lengths, AlongBy-push, count_by-none, count_by-push, Accepts-from_lines}
+use Rattle.wtf_model.proofs.LineLaws.{state_after-push, AlongBy-lengths, AlongBy-push, count_by-none, count_by-push, Accepts-from_caused}
 use Rattle.wtf_serve.specs.Scripts.{line_of}
 use Rattle.wtf_core.specs.Outcomes.{AddsBytes, HasCause}
 use Rattle.wtf_serve.specs.Answering.{IsNotBuiltExactly, line_data}
-use Rattle.wtf_serve.specs.Engines.{Engine, Step, span_of, IsSaveFailure, IsLawful, IsAnswer}
-use Rattle.wtf_serve.specs.Logs.{Log, asked, last, last_downs, IsServed, is_write_fault, write_fault_count, if_okay, written_bytes}
+use Rattle.wtf_serve.specs.Engines.{IsAsGiven, Engine, Step, span_of, IsSaveFailure, IsLawful, IsAnswer}
+use Rattle.wtf_serve.specs.Logs.{Log, asked, last, last_downs, IsServed, IsUndamaged, is_write_fault, write_fault_count, if_okay, written_bytes}
 use Rattle.wtf_serve.specs.Openings.{Opening, StartsFrom, first}
 use Rattle.wtf_serve.specs.Runs.{AreStoresStill, Ran}
 use Rattle.wtf_serve.specs.Stocks.{Stock, faults_in, AreCounting, RoseBy}
@@ -42,11 +42,15 @@ pub along_none : {S : Type 0} (next : S → Line → Answer → S) (P : S → Li
 unfolding AlongBy
 along_none next P s = tt
 
-served_of : {S : Type 0} (kind : StoreKind S) (t : Span S) (settings : Settings) (saving full : Type 0) (given : List ℕ) (a : Answer)
-    → HasCause kind t settings saving full given a → IsServed a
-served_of kind t settings saving full given (answer.FaultPunch k) h = h
-served_of kind t settings saving full given (answer.Damaged k) h = h
-served_of kind t settings saving full given a h = tt
+served_of : {S : Type 0} (kind : StoreKind S) (t : Span S) (settings : Settings) (saving bare full : Type 0) (given : List ℕ) (a : Answer)
+    → HasCause kind t settings saving bare full given a → IsServed a
+served_of kind t settings saving bare full given (answer.FaultPunch k) h = h
+served_of kind t settings saving bare full given a h = tt
+
+undamaged_of : {S : Type 0} (kind : StoreKind S) (t : Span S) (settings : Settings) (saving bare full : Type 0) (given : List ℕ) (a : Answer)
+    → bare → HasCause kind t settings saving bare full given a → IsUndamaged a
+undamaged_of kind t settings saving bare full given (answer.Damaged k) none h = h.based none
+undamaged_of kind t settings saving bare full given a none h = tt
 
 write_fault_count-push : (answers : List Answer) (a : Answer) → write_fault_count (answers ++ a ∷ []) ≡ write_fault_count answers + one (is_write_fault a)
 write_fault_count-push [] a = omega arith
@@ -129,10 +133,11 @@ pub ran_none : {S : Type 0} (kind : StoreKind S) → KindLaws kind → (opening 
 ran_none kind laws opening old new same grew =
     let faults : all_faults kind new.shelf ≡ all_faults kind old.shelf = ap (all_faults kind) same in
     record {
-      accepts = λ tells t from. Accepts-from_lines (first opening t) [] [] (along_none after_line MayLine (first opening t));
-      accepted = λ tells t from. along_none after_line MayLine (first opening t);
+      accepts = λ tells t from. Accepts-from_caused (first opening t) [] [] (along_none after_line MayLineCaused (first opening t));
+      accepted = λ tells t from. along_none after_line MayLineCaused (first opening t);
       exact = along_none down_after (λ down e a. IsNotBuiltExactly e a) none_down;
       served = All-nil IsServed;
+      undamaged = λ none. All-nil IsUndamaged;
       faults = λ low. omega (arith, faults, grew, count_by-none down_after (is_device_fault opening.settings) none_down);
       faults_of_run = λ empty low. omega (arith, faults, grew, count_by-none down_after (is_device_fault_of_run opening.settings) none_down);
       grew = λ still none. omega (arith, ap (all_stored kind) same);
@@ -144,7 +149,7 @@ ran_none kind laws opening old new same grew =
 module _ {S State : Type 0} (engine : Engine S State) (laws : KindLaws engine.kind) (opening : Opening) (before : Stock S) (log : Log) (t : Step S State)
     (ran : Ran engine.kind opening log before t.before) (settings_is : engine.settings t.old ≡ opening.settings)
     (downs_are : engine.down t.old ≡ last_downs log)
-    (full : opening.bytes ≡ [] → engine.full t.old)
+    (given : IsAsGiven engine opening.bytes t.old)
     (stands : TellsAll engine.kind before.shelf → (tree : Tree) → StartsFrom (byte_at engine.kind before.shelf) opening.bytes tree
     → engine.stands t.before.shelf t.old (last opening tree log))
     (line : List ℕ) (a : Answer) (is : IsAnswer engine t (line_of line) a) (next : EachFollows engine.kind t.before.shelf t.after.shelf [])
@@ -206,17 +211,23 @@ module _ {S State : Type 0} (engine : Engine S State) (laws : KindLaws engine.ki
   pub ran_more : Ran engine.kind opening (longer log line a) before t.after
   ran_more =
       let accepted : TellsAll engine.kind before.shelf → (tree : Tree) → StartsFrom (byte_at engine.kind before.shelf) opening.bytes tree
-      → Along MayLine (first opening tree) (asked (longer log line a)) (log.answers ++ a ∷ [])
-      = λ tells tree from. along MayLine (first opening tree) (ran.accepted tells tree from) (lawful_more tells tree from).may in
+      → Along MayLineCaused (first opening tree) (asked (longer log line a)) (log.answers ++ a ∷ [])
+      = λ tells tree from. along MayLineCaused (first opening tree) (ran.accepted tells tree from) (lawful_more tells tree from).may in
       record {
-        accepts = λ tells tree from. Accepts-from_lines (first opening tree) (asked (longer log line a)) (log.answers ++ a ∷ []) (accepted tells tree from);
+        accepts = λ tells tree from. Accepts-from_caused (first opening tree) (asked (longer log line a)) (log.answers ++ a ∷ []) (accepted tells tree from);
         accepted = accepted;
         exact = subst (λ (x : List Line). AlongDowns (λ down e b. IsNotBuiltExactly e b) none_down x (log.answers ++ a ∷ [])) (sym (asked-longer log line a))
             (AlongBy-push down_after (λ down e b. IsNotBuiltExactly e b) none_down (asked log) log.answers (line_of line) a ran.exact is.goes_on.exact);
         served = All-append IsServed log.answers (a ∷ []) ran.served
-            (All-cons IsServed a [] (served_of engine.kind (span_of engine t) (engine.settings t.old) (IsSaveFailure engine t (line_of line)) (engine.full t.old) (line_data (line_of line)) a is.caused) (All-nil IsServed));
+            (All-cons IsServed a [] (served_of engine.kind (span_of engine t) (engine.settings t.old) (IsSaveFailure engine t (line_of line))
+            (engine.bare t.old) (engine.full t.old) (line_data (line_of line)) a is.caused) (All-nil IsServed));
+        undamaged = λ none. All-append IsUndamaged log.answers (a ∷ []) (ran.undamaged none)
+            (All-cons IsUndamaged a [] (undamaged_of engine.kind (span_of engine t) (engine.settings t.old) (IsSaveFailure engine t (line_of line))
+            (engine.bare t.old) (engine.full t.old) (line_data (line_of line)) a
+            (given.bare none) is.caused) (All-nil IsUndamaged));
         faults = rose is_device_fault (raises engine laws t next keeper (line_of line) a is.caused) ran.faults;
-        faults_of_run = λ empty. rose is_device_fault_of_run (raises_of_run engine laws t next keeper (line_of line) a (full empty) is.caused) (ran.faults_of_run empty);
+        faults_of_run = λ empty. rose is_device_fault_of_run (raises_of_run engine laws t next keeper (line_of line) a (given.full empty) is.caused)
+            (ran.faults_of_run empty);
         grew = grew;
         follows_on = each_on laws ran.follows_on next;
       }

@@ -168,19 +168,21 @@ module _ {S : Type 0} (kind : StoreKind S) (t : Span S) (none : (k : ℕ) → Ha
       ne_eqb (downs settings t.down) 0 (λ e. omega (arith, e, one_more))
   no_save (inr rose) = absurd (steady rose)
 
-  no_fault : (saving full : Type 0) (given : List ℕ) (a : Answer) → (saving → IsSaveFault kind t settings.servers old new) → HasCause kind t settings saving full given a
+  no_fault : (saving bare full : Type 0) (given : List ℕ) (a : Answer) → (saving → IsSaveFault kind t settings.servers old new) → HasCause kind t settings
+      saving bare full given a
       → is_device_fault settings t.down a ≡ false
-  no_fault saving full given (answer.FaultRead k) save cause = ap not (last_down cause.places k cause.lost)
-  no_fault saving full given answer.FaultWrite save cause = no_write cause.1
-  no_fault saving full given answer.FaultSave save cause = no_save (save cause)
-  no_fault saving full given a save cause = refl
+  no_fault saving bare full given (answer.FaultRead k) save cause = ap not (last_down cause.places k cause.lost)
+  no_fault saving bare full given answer.FaultWrite save cause = no_write cause.1
+  no_fault saving bare full given answer.FaultSave save cause = no_save (save cause)
+  no_fault saving bare full given a save cause = refl
 
-  no_fault_of_run : (saving full : Type 0) (given : List ℕ) (a : Answer) → (saving → IsSaveFault kind t settings.servers old new) → full → HasCause kind t settings saving full given a
+  no_fault_of_run : (saving bare full : Type 0) (given : List ℕ) (a : Answer) → (saving → IsSaveFault kind t settings.servers old new) → full → HasCause kind
+      t settings saving bare full given a
       → is_device_fault_of_run settings t.down a ≡ false
-  no_fault_of_run saving full given (answer.FaultRead k) save is_full cause = no_read_of_run cause.places k (cause.width is_full) cause.lost
-  no_fault_of_run saving full given answer.FaultWrite save is_full cause = no_write cause.1
-  no_fault_of_run saving full given answer.FaultSave save is_full cause = no_save (save cause)
-  no_fault_of_run saving full given a save is_full cause = refl
+  no_fault_of_run saving bare full given (answer.FaultRead k) save is_full cause = no_read_of_run cause.places k (cause.width is_full) cause.lost
+  no_fault_of_run saving bare full given answer.FaultWrite save is_full cause = no_write cause.1
+  no_fault_of_run saving bare full given answer.FaultSave save is_full cause = no_save (save cause)
+  no_fault_of_run saving bare full given a save is_full cause = refl
 
 -- One line
 
@@ -204,7 +206,8 @@ raises engine laws t e grew line a cause low fault = elim (rose_or_still laws t.
   | inl more ↦ more
   | inr (none, steady) ↦
       let not_one : is_device_fault (engine.settings t.old) (engine.down t.old) a ≡ false
-      = no_fault engine.kind (span_of engine t) none (engine.settings t.old) t.before.keeper t.after.keeper steady (IsSaveFailure engine t line) (engine.full t.old) (line_data line) a
+      = no_fault engine.kind (span_of engine t) none (engine.settings t.old) t.before.keeper t.after.keeper steady (IsSaveFailure engine t line)
+      (engine.bare t.old) (engine.full t.old) (line_data line) a
       (save_fault engine t line) cause in
       absurd (cc)
 ]
@@ -218,7 +221,8 @@ raises_of_run engine laws t e grew line a full cause low fault = elim (rose_or_s
   | inl more ↦ more
   | inr (none, steady) ↦
       let not_one : is_device_fault_of_run (engine.settings t.old) (engine.down t.old) a ≡ false
-      = no_fault_of_run engine.kind (span_of engine t) none (engine.settings t.old) t.before.keeper t.after.keeper steady (IsSaveFailure engine t line) (engine.full t.old) (line_data line) a
+      = no_fault_of_run engine.kind (span_of engine t) none (engine.settings t.old) t.before.keeper t.after.keeper steady (IsSaveFailure engine t line)
+      (engine.bare t.old) (engine.full t.old) (line_data line) a
       (save_fault engine t line) full cause in
       absurd (cc)
 ]

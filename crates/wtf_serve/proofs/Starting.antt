@@ -3,12 +3,14 @@ use Rattle.std.proofs.Common.{◌≡◌, ◌≢◌, ◌<◌, ◌≤◌, ℕ, Boo
 use Rattle.std.proofs.lemmas.List.{append-nil}
 use Rattle.std.proofs.Math.Path.{fun_ext}
 use Rattle.wtf_base.specs.declared.settings.Settings.{Settings}
+use Rattle.wtf_base.specs.declared.slice.Slice.{Slice}
 use Rattle.wtf_dev.specs.Store.{StoreKind}
 use Rattle.wtf_overlay.specs.Origin.{Place}
 use Rattle.wtf_replica.specs.Bytes.{byte_at}
 use Rattle.wtf_replica.specs.Downs.{is_down}
 use Rattle.wtf_model.specs.Machines.{start}
 use Rattle.wtf_model.specs.Tree.{Tree, root_alone}
+use Rattle.wtf_meta.specs.Bytes.{any_slice}
 use Rattle.wtf_meta.specs.Contents.{Told}
 use Rattle.wtf_image.specs.declared.error.LoadError.{LoadError}
 use Rattle.wtf_image.specs.declared.error.LoadError.TheVariants as error
@@ -21,9 +23,9 @@ use Rattle.wtf_image.proofs.Forms.{one_image}
 use Rattle.wtf_core.specs.Views.{CoreView}
 use Rattle.wtf_core.specs.Tables.{AreSound}
 use Rattle.wtf_core.specs.Standing.{StandsFor}
-use Rattle.wtf_core.specs.Named.{CoreBytes, IsInside}
+use Rattle.wtf_core.specs.Named.{CoreBytes, IsInside, IsBare, any_byte, no_slice}
 use Rattle.wtf_core.specs.Loading.{IsCoreOf}
-use Rattle.wtf_core.specs.Pictured.{IsImageOfTree}
+use Rattle.wtf_core.specs.Pictured.{IsImageOfTree, IsBareImage}
 use Rattle.wtf_serve.specs.declared.opening.NotOpened.TheVariants.{Image}
 use Rattle.wtf_serve.specs.Beginnings.{IsOpenedBy, IsFewFor, IsUnopenedBy}
 use Rattle.wtf_serve.specs.Cores.{engine}
@@ -38,7 +40,7 @@ same_rows x y bytes first second = (one_image x y [] first.shape second.shape (s
 
 pub new_opened : {S : Type 0} (kind : StoreKind S) (shelf : List S) (settings : Settings) (core : CoreView) → settings.servers ≤ length shelf
     → core.settings ≡ settings → core.closed ≡ false → core.tables.kv.number ≡ 0 → core.tables.next_tx ≡ 1 → AreSound core.tables
-    → ((told : Told) → StandsFor told core (start settings 0 root_alone)) → ((P : List Place → Bool) → CoreBytes P core)
+    → ((told : Told) → StandsFor told core (start settings 0 root_alone)) → ((P : List Place → Bool) (Q : Slice → Bool) → CoreBytes P Q core)
     → ((k : ℕ) → is_down core.replicas k ≡ false) → IsOpenedBy (engine kind) settings [] shelf core
 new_opened kind shelf settings core enough settings_is not_closed number next_tx sound stands names up = record {
   opening = new_opening settings;
@@ -49,13 +51,13 @@ new_opened kind shelf settings core enough settings_is not_closed number next_tx
       not_closed = not_closed;
       tables = sound;
       servers = omega (arith, ap (λ (s : Settings). s.servers) settings_is, enough);
-      inside = names _;
+      inside = names _ any_slice;
     };
     settings = settings_is;
     number = number;
     next_tx = next_tx;
     up = fun_ext up;
-    full = λ empty. names _;
+    given = record { full = λ empty. (names _ no_slice).tables; bare = λ none. (names any_byte no_slice).tables };
     stands = λ t is. subst (λ (x : Tree). StandsFor (byte_at kind shelf) core (start settings 0 x)) (sym is) (stands (byte_at kind shelf));
     enough = enough;
     taken = tt;
@@ -72,11 +74,12 @@ enough_for : (size : ℕ → ℕ → ℕ) (image : List ℕ) (core : CoreView) (
 enough_for size image core stores is servers = omega (arith, is.settings.servers, servers is.rows is.taken.text is.taken.good)
 
 pub loaded_opened : {S : Type 0} (kind : StoreKind S) (shelf : List S) (asked : Settings) (image : List ℕ) (core : CoreView) → image ≢ []
-    → HasServers image (length shelf) → IsCoreOf (size_in kind shelf) image core → core.closed ≡ false → AreSound core.tables → ((k : ℕ) → is_down core.replicas k ≡ false) → IsInside kind shelf core
+    → HasServers image (length shelf) → IsCoreOf (size_in kind shelf) image core → core.closed ≡ false → AreSound core.tables →
+    ((k : ℕ) → is_down core.replicas k ≡ false) → IsInside kind shelf core → (IsBareImage image → IsBare core)
     → ((told : Told) (t : Tree) → IsImageOfTree told image t → StandsFor told core (start core.settings core.tables.kv.number t))
     → IsOpenedBy (engine kind) asked image shelf core
-loaded_opened kind shelf asked [] core some servers is not_closed sound up inside stands = absurd (some refl)
-loaded_opened kind shelf asked (b ∷ image) core some servers is not_closed sound up inside stands = record {
+loaded_opened kind shelf asked [] core some servers is not_closed sound up inside bare stands = absurd (some refl)
+loaded_opened kind shelf asked (b ∷ image) core some servers is not_closed sound up inside bare stands = record {
   opening = record { bytes = b ∷ image; settings = core.settings; number = core.tables.kv.number; next_tx = core.tables.next_tx };
   bytes_are = refl;
   opens = record { rows = is.rows; text = is.taken.text; good = is.taken.good; settings = is.settings; number = is.number; next_tx = is.next_tx };
@@ -86,7 +89,7 @@ loaded_opened kind shelf asked (b ∷ image) core some servers is not_closed sou
     number = refl;
     next_tx = refl;
     up = fun_ext up;
-    full = λ empty. cc;
+    given = record { full = λ empty. cc; bare = bare };
     stands = λ t from. stands (byte_at kind shelf) t from;
     enough = enough_for (size_in kind shelf) (b ∷ image) core (length shelf) is servers;
     taken = (is.rows, is.taken);

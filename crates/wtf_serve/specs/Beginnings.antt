@@ -1,5 +1,5 @@
 -- With what a run begins its lines, and with what it ends them.
-use Rattle.std.specs.Prelude.{◌≡◌, ◌⊎◌, ◌<◌, ◌≤◌, ℕ, Bool, List, [], length, Some, Ok, ⊤}
+use Rattle.std.specs.Prelude.{◌≡◌, ◌⊎◌, ◌<◌, ◌≤◌, ℕ, Bool, List, length, Some, Ok, ⊤}
 use Rattle.wtf_base.specs.declared.settings.Settings.{Settings}
 use Rattle.wtf_dev.specs.Keep.{KeeperView}
 use Rattle.wtf_dev.specs.Store.{StoreKind}
@@ -13,7 +13,7 @@ use Rattle.wtf_image.specs.declared.error.LoadError.TheVariants as error
 use Rattle.wtf_image.specs.Rules.{size_in}
 use Rattle.wtf_serve.specs.declared.opening.NotOpened.{NotOpened}
 use Rattle.wtf_serve.specs.declared.opening.NotOpened.TheVariants.{Few, Image}
-use Rattle.wtf_serve.specs.Engines.{Engine, Step, IsAnswer}
+use Rattle.wtf_serve.specs.Engines.{Engine, IsAsGiven, Step, IsAnswer}
 use Rattle.wtf_serve.specs.Openings.{Opening, Opens, IsTakenOver, StartsFrom, first}
 use Rattle.wtf_serve.specs.Scripts.{end_status}
 use Rattle.wtf_serve.specs.Unopened.{IsRefusedBy, Refuses}
@@ -27,7 +27,7 @@ pub record IsReady {S State : Type 0} (engine : Engine S State) (opening : Openi
   pub number : engine.number state ≡ opening.number
   pub next_tx : engine.next_tx state ≡ opening.next_tx
   pub up : engine.down state ≡ none_down
-  pub full : opening.bytes ≡ [] → engine.full state
+  pub given : IsAsGiven engine opening.bytes state
   pub stands : (t : Tree) → StartsFrom (byte_at engine.kind shelf) opening.bytes t → engine.stands shelf state (first opening t)
   pub enough : opening.settings.servers ≤ length shelf
   pub taken : IsTakenOver (size_in engine.kind shelf) opening.bytes

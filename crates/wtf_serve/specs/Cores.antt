@@ -6,7 +6,7 @@ use Rattle.wtf_replica.specs.Downs.{is_down}
 use Rattle.wtf_core.specs.Views.{CoreView}
 use Rattle.wtf_core.specs.Tables.{AreSound}
 use Rattle.wtf_core.specs.Standing.{StandsFor}
-use Rattle.wtf_core.specs.Named.{IsInside, IsFull}
+use Rattle.wtf_core.specs.Named.{IsInside, IsBare, IsFull}
 use Rattle.wtf_serve.specs.Engines.{Engine}
 
 -- a core between two lines: it is open, its tables are sound, its servers are there, and all bytes that it names lie
@@ -26,5 +26,6 @@ engine kind = record {
   next_tx = λ core. core.tables.next_tx;
   sound = IsSoundCore kind;
   stands = λ shelf core m. StandsFor (byte_at kind shelf) core m;
+  bare = IsBare;
   full = IsFull;
 }

@@ -15,7 +15,7 @@ use Rattle.wtf_model.specs.declared.answer.Answer.TheVariants as answer
 use Rattle.wtf_model.specs.Tree.{Tree}
 use Rattle.wtf_model.specs.Machines.{Machine}
 use Rattle.wtf_model.specs.Steps.{Accepts}
-use Rattle.wtf_model.specs.Lines.{MayLine, after_line, events_of, answers_to}
+use Rattle.wtf_model.specs.Lines.{MayLineCaused, Along, after_line, events_of, answers_to}
 use Rattle.wtf_model.specs.Servers.{none_down, AlongDowns, is_device_fault, is_device_fault_of_run, count_along, IsAllUp}
 use Rattle.wtf_meta.specs.Contents.{Told}
 use Rattle.wtf_image.specs.Rules.{size_in}
@@ -88,7 +88,7 @@ pub record IsOfNext (told : Told) (m : Machine) (script : Option (List ℕ)) (li
   pub line : List ℕ
   pub next : (all : List ℕ) → script ≡ Some all → (more : List (List ℕ)) × (lines_of all ≡ lines ++ line ∷ more)
   pub answer : Answer
-  pub may : MayLine m (line_of line) answer
+  pub may : MayLineCaused m (line_of line) answer
   pub image : IsImageOfOne told bytes (after_line m (line_of line) answer).may_be_saved
 
 -- The bytes that a run leaves on the keeper, by its status: the image of the tree behind all lines; or, where the closing
@@ -188,13 +188,14 @@ pub record Served {S : Type 0} (kind : StoreKind S) (handed : List (List ℕ) �
       (λ t bytes. IsNext (size_in kind new.stock.shelf) opening (last opening t log) log.lines status bytes)
 
 -- The headline of a run that read its script to its end, over devices that tell what they hold: each line is answered, the
--- machine accepts the answers from the tree that the run starts with, they are what is written, behind the first line, and
--- the keeper holds the image of the tree behind all of them, with which the next run can begin over the stores as they are left,
--- whose files have these sizes.
+-- machine accepts the answers from the tree that the run starts with, and a retry comes only where others have changed what was
+-- read; the answers are what is written, behind the first line, and the keeper holds the image of the tree behind all of them,
+-- with which the next run can begin over the stores as they are left, whose files have these sizes.
 pub record IsTold (told : Told) (size : ℕ → ℕ → ℕ) (opening : Opening) (t : Tree) (script written kept : List ℕ) : Type 0 where
   pub log : Log
   pub lines_are : log.lines ≡ lines_of script
   pub accepts : Accepts (first opening t) (events_of (asked log)) (answers_to (asked log) log.answers)
+  pub accepted : Along MayLineCaused (first opening t) (asked log) log.answers
   pub wrote : written ≡ output opening log.answers
   pub saved : IsImageOfTree told kept (last opening t log).now
   pub next : IsRunImage size opening (last opening t log).number log.lines kept

@@ -1,5 +1,5 @@
 -- What a run is given of the state that answers its lines, and what answering one line is.
-use Rattle.std.specs.Prelude.{◌≡◌, ◌+◌, ◌≤◌, ◌^◌, ℕ, Bool, true, false, List, Ok, Err, ⊤}
+use Rattle.std.specs.Prelude.{◌≡◌, ◌+◌, ◌≤◌, ◌^◌, ℕ, Bool, true, false, List, [], Ok, Err, ⊤}
 use Rattle.std.specs.Bool.{MatchBool}
 use Rattle.wtf_base.specs.declared.settings.Settings.{Settings}
 use Rattle.wtf_dev.specs.Counts.{Rose}
@@ -11,16 +11,17 @@ use Rattle.wtf_model.specs.declared.answer.Answer.TheVariants as answer
 use Rattle.wtf_model.specs.declared.event.Event.{Event}
 use Rattle.wtf_model.specs.declared.event.Event.TheVariants as event
 use Rattle.wtf_model.specs.Machines.{Machine}
-use Rattle.wtf_model.specs.Lines.{Line, MayLine, after_line}
+use Rattle.wtf_model.specs.Lines.{Line, MayLineCaused, after_line}
 use Rattle.wtf_model.specs.Servers.{down_after}
 use Rattle.wtf_core.specs.Outcomes.{AddsBytes, SaveFault, HasCause}
+use Rattle.wtf_core.specs.Pictured.{IsBareImage}
 use Rattle.wtf_serve.specs.Answering.{IsNotBuiltExactly, line_data}
 use Rattle.wtf_serve.specs.Stocks.{Stock, IsSaveFault, HoldsOneOf, HoldsSome, HoldsStart, HoldsJust}
 
 -- What a run is given of the state that answers its lines: the kind of its stores; the settings, which servers are down,
 -- how many commits there were and the number of the next transaction; when it is sound over stores, and when it stands
--- for a machine; and when each slice has as many copies as there are replicas, as it has where the keeper held nothing at
--- the begin.
+-- for a machine; when no region has a base, so that all lists of regions are in the metadata; and when each slice has as many
+-- copies as there are replicas too.
 pub record Engine (S State : Type 0) : Type 1 where
   pub kind : StoreKind S
   pub settings : State → Settings
@@ -29,7 +30,14 @@ pub record Engine (S State : Type 0) : Type 1 where
   pub next_tx : State → ℕ
   pub sound : List S → State → Type 0
   pub stands : List S → State → Machine → Type 0
+  pub bare : State → Type 0
   pub full : State → Type 0
+
+-- What a state has of the bytes that the keeper gave at the begin: where it gave none each slice has as many copies as there are
+-- replicas, and no region has a base; and where no region of its image has one, none has.
+pub record IsAsGiven {S State : Type 0} (engine : Engine S State) (bytes : List ℕ) (state : State) : Type 0 where
+  pub full : bytes ≡ [] → engine.full state
+  pub bare : IsBareImage bytes → engine.bare state
 
 -- the stores with the keeper, and the state, before a line and after its answer
 pub record Step (S State : Type 0) : Type 0 where
@@ -64,6 +72,7 @@ pub record GoesOn {S State : Type 0} (engine : Engine S State) (t : Step S State
   pub number : engine.number t.new ≤ engine.number t.old + 1
   pub next_tx : engine.next_tx t.new ≤ engine.next_tx t.old + 1
   pub same_next_tx : is_save line ≡ true → engine.next_tx t.new ≡ engine.next_tx t.old
+  pub bare : engine.bare t.old → engine.bare t.new
   pub full : engine.full t.old → engine.full t.new
   pub exact : IsNotBuiltExactly line a
 
@@ -86,7 +95,7 @@ pub record HasRoom {S State : Type 0} (engine : Engine S State) (state : State) 
 pub record IsLawful {S State : Type 0} (engine : Engine S State) (t : Step S State) (m : Machine) (line : Line) (a : Answer)
     : Type 0 where
   pub stands : engine.stands t.after.shelf t.new (after_line m line a)
-  pub may : MayLine m line a
+  pub may : MayLineCaused m line a
   pub number : engine.number t.new ≡ (after_line m line a).number
   pub saved : t.before.keeper.tells ≡ true → HasRoom engine t.old
       → HoldsOneOf engine.kind t.before m.may_be_saved → HoldsOneOf engine.kind t.after (after_line m line a).may_be_saved
@@ -113,7 +122,7 @@ IsSaveFailure engine t (Err bad) = ⊥
 -- a fault has its cause in this very line
 abbrev pub IsCaused : {S State : Type 0} → Engine S State → Step S State → Line → Answer → Type 0
 IsCaused engine t line a =
-    HasCause engine.kind (span_of engine t) (engine.settings t.old) (IsSaveFailure engine t line) (engine.full t.old)
+    HasCause engine.kind (span_of engine t) (engine.settings t.old) (IsSaveFailure engine t line) (engine.bare t.old) (engine.full t.old)
     (line_data line) a
 
 -- what a save leaves on the keeper: an image, or there is a cause why it failed

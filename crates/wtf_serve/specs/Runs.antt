@@ -7,11 +7,12 @@ use Rattle.wtf_dev.specs.Sums.{TellsAll, all_stored}
 use Rattle.wtf_replica.specs.Bytes.{byte_at}
 use Rattle.wtf_model.specs.Tree.{Tree}
 use Rattle.wtf_model.specs.Steps.{Accepts}
-use Rattle.wtf_model.specs.Lines.{MayLine, Along, events_of, answers_to}
+use Rattle.wtf_model.specs.Lines.{MayLineCaused, Along, events_of, answers_to}
 use Rattle.wtf_model.specs.Servers.{none_down, AlongDowns, is_device_fault, is_device_fault_of_run, count_along}
+use Rattle.wtf_core.specs.Pictured.{IsBareImage}
 use Rattle.wtf_serve.specs.Answering.{IsNotBuiltExactly}
 use Rattle.wtf_serve.specs.Openings.{Opening, StartsFrom, first}
-use Rattle.wtf_serve.specs.Logs.{Log, asked, IsServed, write_fault_count, written_bytes}
+use Rattle.wtf_serve.specs.Logs.{Log, asked, IsServed, IsUndamaged, write_fault_count, written_bytes}
 use Rattle.wtf_serve.specs.Stocks.{Stock, RoseBy}
 
 -- a count of faults did not rise, and does not stand at its end
@@ -29,13 +30,15 @@ pub record Ran {S : Type 0} (kind : StoreKind S) (opening : Opening) (log : Log)
   -- run starts with: committed transactions ran whole, one by one, on one tree.
   pub accepts : TellsAll kind before.shelf → (t : Tree) → StartsFrom (byte_at kind before.shelf) opening.bytes t
       → Accepts (first opening t) (events_of (asked log)) (answers_to (asked log) log.answers)
-  -- the same line by line, with the lines that ask nothing
+  -- the same line by line, with the lines that ask nothing; and a retry comes only where others have changed what was read
   pub accepted : TellsAll kind before.shelf → (t : Tree) → StartsFrom (byte_at kind before.shelf) opening.bytes t
-      → Along MayLine (first opening t) (asked log) log.answers
+      → Along MayLineCaused (first opening t) (asked log) log.answers
   -- over every store each line has one answer: one that asks nothing has its own, and `notbuilt` comes exactly at the verbs
   -- that are left to a later version
   pub exact : AlongDowns (λ down e a. IsNotBuiltExactly e a) none_down (asked log) log.answers
   pub served : All IsServed log.answers
+  -- where all lists of regions are in the image, or it gave nothing, none was read that is no list
+  pub undamaged : IsBareImage opening.bytes → All IsUndamaged log.answers
   -- each line whose fault only a store or the keeper can have caused raised a count
   pub faults : RoseBy kind before after (count_along (is_device_fault opening.settings) none_down (asked log) log.answers)
   -- and so did, where the keeper held nothing, each read that failed while fewer servers were down than a slice has copies

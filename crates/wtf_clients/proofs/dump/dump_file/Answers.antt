@@ -1,27 +1,62 @@
-use Rattle.std.proofs.Common.{◌≡◌, ℕ, ◌+◌, ◌*◌, min, List, [], refl, sym, ap, ◌∙◌, subst, arith, inr}
-use Rattle.std.specs.Prelude.{slice_index_or}
-use Rattle.wtf_overlay.specs.Origin.{Plans, pieces_origin}
+use Rattle.std.proofs.Common.{◌≡◌, ℕ, ◌+◌, ◌*◌, min, List, [], refl, sym, ap, ◌∙◌, subst, arith, inl, inr}
+use Rattle.wtf_base.specs.declared.settings.Settings.{Settings}
+use Rattle.wtf_overlay.specs.Origin.{pieces_origin}
 use Rattle.wtf_overlay.specs.declared.part.Piece.{Piece}
-use Rattle.wtf_replica.specs.Bytes.{byte_at}
 use Rattle.wtf_model.specs.declared.answer.Answer.TheVariants as answer
 use Rattle.wtf_model.specs.declared.limits.TheConstants.{MAX_REGIONS}
-use Rattle.wtf_meta.specs.Bytes.{PiecesBytes}
+use Rattle.wtf_meta.specs.Lists.{TellLists}
+use Rattle.wtf_meta.specs.Bytes.{PiecesBytes, FileBytes, any_slice}
+use Rattle.wtf_meta.specs.Contents.{is_told, is_listed, lists_in}
 use Rattle.wtf_meta.specs.Maps.{Map, seen}
 use Rattle.wtf_meta.specs.Files.{file_len, file_origin}
+use Rattle.wtf_meta.specs.Reads.{ReadsFile}
 use Rattle.wtf_meta.specs.FileEdits.{file_of}
 use Rattle.wtf_meta.specs.Appends.{length_keys}
-use Rattle.wtf_meta.proofs.Named.{PiecesBytes-read}
-use Rattle.wtf_meta.proofs.Telling.{HasBytes-later}
-use Rattle.wtf_region.specs.Devs.{stores, is_down_in, between}
-use Rattle.wtf_region.specs.Inside.{is_inside}
+use Rattle.wtf_meta.proofs.Named.{file_bytes}
+use Rattle.wtf_meta.proofs.Telling.{TellLists-before}
+use Rattle.wtf_meta.proofs.Weaker.{file_bytes_stay}
+use Rattle.wtf_region.specs.Devs.{stores, told_in, inside_of, is_down_in, between}
+use Rattle.wtf_region.specs.Reads.{IsFileRead, LacksRegion}
 use Rattle.wtf_region.specs.Showing.{Shown, IsShowFault, pieces_in, AreReadable}
+use Rattle.wtf_region.proofs.Frames.{facts_apart_none}
 use Rattle.wtf_region.proofs.InsideLaws.{readable_from}
+use Rattle.wtf_region.proofs.ListReads.{pieces_inside}
 use Rattle.wtf_region.proofs.Recording.{still_seen}
-use Rattle.wtf_region.proofs.ShowLaws.{readable_stays}
+use Rattle.wtf_region.proofs.ShowLaws.{shown_since}
 use Rattle.wtf_region.proofs.Spans.{goes_on}
 use Rattle.wtf_replay.proofs.Later.{tells_on}
 use Rattle.wtf_clients.proofs.Dumping.{plans_whole, shows_file}
 use Rattle.wtf_clients.proofs.dump.dump_file.Goals as goal
+
+pub pieces-requires-clause-inside : goal.pieces-requires-clause-inside
+pieces-requires-clause-inside g c =
+    let kind = g.S.SliceStore.kind in
+    let dev = c.args.dev.now in
+    let i = c.args.inode in
+    let b = seen c.args.kv.now c.args.at.now in
+    let same : seen c.args.kv.now c.file_len.new.at ≡ b = still_seen c.args.kv.now i (length_keys (file_of i b)) c.args.at.now c.file_len.new.at c.in-Ok.ensures.recorded in
+    subst (λ (w : Map). FileBytes (inside_of kind dev) any_slice (file_of i w)) (sym same) (file_bytes (inside_of kind dev) any_slice i b c.requires.inside)
+
+pub returns-in-Err-pieces-clause-fault : goal.returns-in-Err-pieces-clause-fault
+returns-in-Err-pieces-clause-fault g c =
+    let kind = g.S.SliceStore.kind in
+    let dev = c.args.dev.now in
+    let i = c.args.inode in
+    let b = seen c.args.kv.now c.args.at.now in
+    let z = dev.settings.region in
+    let k = c.min-n.result in
+    let value = c.in-Ok.ensures.value in
+    let low = c.if-len-gt-MAX_DUMPED.false in
+    let same : seen c.args.kv.now c.file_len.new.at ≡ b = still_seen c.args.kv.now i (length_keys (file_of i b)) c.args.at.now c.file_len.new.at c.in-Ok.ensures.recorded in
+    let count : k ≡ min (file_len z (file_of i b)) (MAX_REGIONS * z) = c.min-n.ensures ∙ ap (λ m. min m c.cap.result) value ∙ ap (min (file_len z (file_of i b))) c.cap.ensures in
+    elim c.in-Err-pieces.ensures.fault [
+      | inl memory ↦ inl memory
+      | inr lacks ↦ inr (record {
+        short = omega (arith, low, value);
+        lacks = inl (subst (λ (m : ℕ). LacksRegion kind dev c.pieces.new.dev (file_of i b) 0 m c.in-Err-pieces.why) count
+            (subst (λ (w : Map). LacksRegion kind dev c.pieces.new.dev (file_of i w) 0 k c.in-Err-pieces.why) same lacks));
+      })
+    ]
 
 pub show-requires-clause-readable : goal.show-requires-clause-readable
 show-requires-clause-readable g c =
@@ -29,17 +64,16 @@ show-requires-clause-readable g c =
     let dev = c.args.dev.now in
     let mid = c.pieces.new.dev in
     let i = c.args.inode in
+    let u = seen c.args.kv.now c.file_len.new.at in
     let b = seen c.args.kv.now c.args.at.now in
-    let z = dev.settings.region in
     let ps = c.in-Ok-pieces.found.items in
-    let same : seen c.args.kv.now c.file_len.new.at ≡ b = still_seen c.args.kv.now i (length_keys (file_of i b)) c.args.at.now c.file_len.new.at c.in-Ok.ensures.recorded in
-    let plans : Plans ps c.min-n.result (λ j. file_origin z (file_of i b) (0 + j)) =
-    subst (λ (w : Map). Plans ps c.min-n.result (λ j. file_origin z (file_of i w) (0 + j))) same c.in-Ok-pieces.ensures.plans in
-    let inside : PiecesBytes (is_inside kind (stores dev) dev.settings) ps =
-    PiecesBytes-read (is_inside kind (stores dev) dev.settings) refl z i b ps 0 c.min-n.result c.requires.inside plans in
+    let same : u ≡ b = still_seen c.args.kv.now i (length_keys (file_of i b)) c.args.at.now c.file_len.new.at c.in-Ok.ensures.recorded in
+    let file : FileBytes (inside_of kind dev) any_slice (file_of i u) =
+    subst (λ (w : Map). FileBytes (inside_of kind dev) any_slice (file_of i w)) (sym same) (file_bytes (inside_of kind dev) any_slice i b c.requires.inside) in
+    let inside : PiecesBytes (inside_of kind mid) ps =
+    pieces_inside g.met.S.SliceStore.laws c.requires.sound c.in-Ok-pieces.ensures.dev (file_of i u) file 0 c.min-n.result ps c.in-Ok-pieces.ensures.read in
     subst (λ (qs : List Piece). AreReadable kind (is_down_in mid) (stores mid) qs) (sym c.as_slice.ensures.value)
-    (λ k d below. readable_stays g.met.S.SliceStore.laws (is_down_in mid) c.in-Ok-pieces.ensures.dev.each (slice_index_or ps k d).part
-    (readable_from kind (is_down_in mid) (stores dev) dev.settings ps c.requires.sound.shelf inside k d below))
+    (readable_from kind (is_down_in mid) (stores mid) mid.settings ps c.in-Ok-pieces.ensures.dev.sound.shelf inside)
 
 pub returns-in-Err-show-clause-fault : goal.returns-in-Err-show-clause-fault
 returns-in-Err-show-clause-fault g c =
@@ -47,27 +81,33 @@ returns-in-Err-show-clause-fault g c =
     let dev = c.args.dev.now in
     let mid = c.pieces.new.dev in
     let i = c.args.inode in
+    let u = seen c.args.kv.now c.file_len.new.at in
     let b = seen c.args.kv.now c.args.at.now in
     let z = dev.settings.region in
     let ps = c.in-Ok-pieces.found.items in
     let k = c.min-n.result in
     let value = c.in-Ok.ensures.value in
     let low = c.if-len-gt-MAX_DUMPED.false in
-    let least = c.min-n.ensures in
-    let cap = c.cap.ensures in
-    let same : seen c.args.kv.now c.file_len.new.at ≡ b = still_seen c.args.kv.now i (length_keys (file_of i b)) c.args.at.now c.file_len.new.at c.in-Ok.ensures.recorded in
-    let count : k ≡ min (file_len z (file_of i b)) (MAX_REGIONS * z) = least ∙ ap (λ m. min m c.cap.result) value ∙ ap (min (file_len z (file_of i b))) cap in
+    let read = c.in-Ok-pieces.ensures.read in
+    let same : u ≡ b = still_seen c.args.kv.now i (length_keys (file_of i b)) c.args.at.now c.file_len.new.at c.in-Ok.ensures.recorded in
+    let count : k ≡ min (file_len z (file_of i b)) (MAX_REGIONS * z) = c.min-n.ensures ∙ ap (λ m. min m c.cap.result) value ∙ ap (min (file_len z (file_of i b))) c.cap.ensures in
+    let file : FileBytes (inside_of kind dev) any_slice (file_of i u) =
+    subst (λ (w : Map). FileBytes (inside_of kind dev) any_slice (file_of i w)) (sym same) (file_bytes (inside_of kind dev) any_slice i b c.requires.inside) in
     inr (record {
       short = omega (arith, low, value);
-      lacks = record {
+      lacks = inr (record {
         mid = mid;
         goes = c.in-Ok-pieces.ensures.dev;
         pieces = ps;
-        plans = subst (λ (m : ℕ). Plans ps m (file_origin z (file_of i b))) count
-            (plans_whole ps k (file_origin z (file_of i b)) (subst (λ (w : Map). Plans ps k (λ j. file_origin z (file_of i w) (0 + j))) same c.in-Ok-pieces.ensures.plans));
+        are = (
+          read.facts,
+          subst (λ (m : ℕ). ReadsFile z (file_of i b) 0 m read.facts ps) count
+              (subst (λ (w : Map). ReadsFile z (file_of i w) 0 k read.facts ps) same read.reads),
+        );
+        inside = pieces_inside g.met.S.SliceStore.laws c.requires.sound c.in-Ok-pieces.ensures.dev (file_of i u) file 0 k ps read;
         fault = subst (λ (m : ℕ). IsShowFault kind (between mid c.show.new.dev) (pieces_in 0 m ps) c.in-Err-show.why) count
             (subst (λ (qs : List Piece). IsShowFault kind (between mid c.show.new.dev) (pieces_in 0 k qs) c.in-Err-show.why) c.as_slice.ensures.value c.in-Err-show.ensures.fault);
-      };
+      });
     })
 
 pub returns-in-Err-show-clause-dev : goal.returns-in-Err-show-clause-dev
@@ -77,24 +117,39 @@ pub returns-clause-dev : goal.returns-clause-dev
 returns-clause-dev g c = goes_on g.met.S.SliceStore.laws c.in-Ok-pieces.ensures.dev c.in-Ok-show.ensures.dev
 
 pub returns-clause-shows : goal.returns-clause-shows
-returns-clause-shows g c bytes body =
+returns-clause-shows g c cache map bytes body =
     let kind = g.S.SliceStore.kind in
+    let laws = g.met.S.SliceStore.laws in
     let dev = c.args.dev.now in
     let mid = c.pieces.new.dev in
+    let told = told_in kind dev in
+    let later = told_in kind mid in
     let i = c.args.inode in
     let b = seen c.args.kv.now c.args.at.now in
     let z = dev.settings.region in
+    let v = file_of i b in
     let ps = c.in-Ok-pieces.found.items in
     let k = c.min-n.result in
     let out = c.show.new.out.items in
     let value = c.in-Ok.ensures.value in
     let low = c.if-len-gt-MAX_DUMPED.false in
+    let first = c.in-Ok-pieces.ensures.dev in
     let same : seen c.args.kv.now c.file_len.new.at ≡ b = still_seen c.args.kv.now i (length_keys (file_of i b)) c.args.at.now c.file_len.new.at c.in-Ok.ensures.recorded in
-    let count : k ≡ min (file_len z (file_of i b)) (MAX_REGIONS * z) = c.min-n.ensures ∙ ap (λ m. min m c.cap.result) value ∙ ap (min (file_len z (file_of i b))) c.cap.ensures in
-    let shown : Shown (byte_at kind (stores mid)) k (λ j. pieces_origin ps (0 + j)) [] out =
-    subst (λ (old : List ℕ). Shown (byte_at kind (stores mid)) k (λ j. pieces_origin ps (0 + j)) old out) c.new-out.ensures.items
-    (subst (λ (qs : List Piece). Shown (byte_at kind (stores mid)) k (λ j. pieces_origin qs (0 + j)) c.new-out.result.items out) c.as_slice.ensures.value c.in-Ok-show.ensures.shown) in
-    let has = HasBytes-later (byte_at kind (stores dev)) (byte_at kind (stores mid)) z (file_of i b) bytes (tells_on g.met.S.SliceStore.laws c.in-Ok-pieces.ensures.dev.each) body.bytes_are in
+    let count : k ≡ min (file_len z v) (MAX_REGIONS * z) = c.min-n.ensures ∙ ap (λ m. min m c.cap.result) value ∙ ap (min (file_len z v)) c.cap.ensures in
+    let read : IsFileRead kind dev mid v 0 k ps = subst (λ (w : Map). IsFileRead kind dev mid (file_of i w) 0 k ps) same c.in-Ok-pieces.ensures.read in
+    let file : FileBytes (is_told told) (is_listed z told) v = file_bytes (is_told told) (is_listed z told) i b map in
+    let any : FileBytes (is_told told) any_slice v = file_bytes_stay (is_told told) (is_told told) (λ qs is. is) (is_listed z told) any_slice (λ s is. refl) v
+    file in
+    let now : TellLists (lists_in mid.settings.region later) read.facts = read.told [] cache (read.reads.slices (is_told told) any_slice any)
+    (facts_apart_none read.facts) in
+    let tell : TellLists (lists_in z told) read.facts =
+    TellLists-before told later z read.facts (tells_on laws first.each) (read.reads.slices (is_told told) (is_listed z told) file)
+    (subst (λ (st : Settings). TellLists (lists_in st.region later) read.facts) first.settings now) in
+    let shown : Shown later k (λ j. pieces_origin ps (0 + j)) [] out =
+    subst (λ (old : List ℕ). Shown later k (λ j. pieces_origin ps (0 + j)) old out) c.new-out.ensures.items
+    (subst (λ (qs : List Piece). Shown later k (λ j. pieces_origin qs (0 + j)) c.new-out.result.items out) c.as_slice.ensures.value
+    c.in-Ok-show.ensures.shown) in
     ap answer.Shown c.of.ensures
-    ∙ shows_file (byte_at kind (stores mid)) z (file_of i b) ps k bytes out count (omega (arith, low, value)) body.file has
-    (plans_whole ps k (file_origin z (file_of i b)) (subst (λ (w : Map). Plans ps k (λ j. file_origin z (file_of i w) (0 + j))) same c.in-Ok-pieces.ensures.plans)) shown
+    ∙ shows_file told z v ps k bytes out count (omega (arith, low, value)) body.file body.bytes_are
+    (plans_whole ps k (file_origin z (lists_in z told) v) (read.reads.plans (lists_in z told) tell))
+    (shown_since laws first.each k (λ j. pieces_origin ps (0 + j)) [] out shown)

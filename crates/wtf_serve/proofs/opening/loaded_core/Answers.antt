@@ -20,7 +20,8 @@ returns-in-Ok-load-clause-opened g c =
     let shelf = c.args.shelf.now in
     let servers : HasServers c.args.image.now (length shelf) = checked_servers c.args.image.now c.in-Ok.of_image (length shelf) c.in-Ok.ensures.settings (omega (arith, c.if-len-of_image.false, c.len.ensures.value)) in
     let is = c.in-Ok-load.ensures in
-    loaded_opened g.S.SliceStore.kind shelf c.args.settings c.args.image.now c.in-Ok-load.core c.requires servers is.loaded is.open is.sound is.up is.inside is.stands
+    loaded_opened g.S.SliceStore.kind shelf c.args.settings c.args.image.now c.in-Ok-load.core c.requires servers is.loaded is.open is.sound is.up is.inside
+    is.bare is.stands
 
 pub returns-in-Err-load-clause-cause : goal.returns-in-Err-load-clause-cause
 returns-in-Err-load-clause-cause g c =

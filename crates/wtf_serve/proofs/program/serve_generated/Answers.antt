@@ -1,5 +1,4 @@
-use Rattle.std.proofs.Common.{rules, ◌≡◌, ℕ, List, ap, sym, ◌∙◌, subst}
-use Rattle.wtf_dev.specs.Streams.{SourceView, SinkView}
+use Rattle.std.proofs.Common.{rules, ◌≡◌, ap, sym, ◌∙◌, subst}
 use Rattle.wtf_serve.specs.Endings.{devices}
 use Rattle.wtf_serve.specs.Generated.{IsGeneratedRun}
 use Rattle.wtf_serve.specs.Stocks.{stock}

@@ -6,7 +6,8 @@ use Rattle.wtf_model.specs.declared.answer.Answer.TheVariants as answer
 use Rattle.wtf_model.specs.declared.answer.Word.TheVariants.{NoTx}
 use Rattle.wtf_model.specs.declared.event.Event.TheVariants as event
 use Rattle.wtf_model.specs.declared.event.Verb.TheVariants as verb
-use Rattle.wtf_region.specs.Devs.{stores, between}
+use Rattle.wtf_meta.specs.Bytes.{any_slice}
+use Rattle.wtf_region.specs.Devs.{stores, remembered, between}
 use Rattle.wtf_region.specs.Inside.{is_inside}
 use Rattle.wtf_replay.specs.Causes.{fault_answer}
 use Rattle.wtf_replay.specs.Views.{TxnView}
@@ -15,7 +16,8 @@ use Rattle.wtf_clients.specs.Sounds.{AreSound, Sets, IsAlike}
 use Rattle.wtf_clients.specs.Named.{TablesBytes}
 use Rattle.wtf_clients.specs.Serves.{ServesLine}
 use Rattle.wtf_clients.specs.Turns.{ClientTurn}
-use Rattle.wtf_clients.proofs.Caused.{memory_none}
+use Rattle.wtf_clients.proofs.Known.{starts_sound, knows}
+use Rattle.wtf_clients.proofs.Lacking.{memory_none}
 use Rattle.wtf_clients.proofs.Staying.{goes_sound}
 use Rattle.wtf_clients.proofs.Lists.{written, lent_alike}
 use Rattle.wtf_clients.proofs.Making.{if_ok, on_err, at_none, refused_same, not_refused, stand_fail, call_turn, call_failed}
@@ -37,7 +39,9 @@ call-requires-clause-fit g c =
 pub call-requires-clause-inside : goal.call-requires-clause-inside
 call-requires-clause-inside g c =
     let dev = c.args.dev.now in
-    let inside : TablesBytes (is_inside g.S.SliceStore.kind (stores dev) dev.settings) (record { kv = c.self.inside.kv; next_tx = c.self.inside.next_tx; clients = c.self.inside.clients.entries; saved = c.self.inside.saved }) = subst (TablesBytes (is_inside g.S.SliceStore.kind (stores dev) dev.settings)) (sym c.self.view_is) c.requires.inside in
+    let inside : TablesBytes (is_inside g.S.SliceStore.kind (stores dev) dev.settings) any_slice
+    (record { kv = c.self.inside.kv; next_tx = c.self.inside.next_tx; clients = c.self.inside.clients.entries; saved = c.self.inside.saved }) = subst
+    (TablesBytes (is_inside g.S.SliceStore.kind (stores dev) dev.settings) any_slice) (sym c.self.view_is) c.requires.inside in
     let there = sym c.get_mut.ensures.value ∙ ap option_copied_mut c.in-Some.is in
     inside.each c.args.c c.in-Some.txn.now there
 
@@ -93,9 +97,12 @@ returns-in-Err-clause-turn g c =
     let lent = c.get_mut.follows.lender y in
     let sets : Sets c.args.c (Some y) old.clients lent.entries = written c.args.c at.clients lent x y there (c.get_mut.follows.holds y) in
     let why = c.in-Err.why in
-    subst (λ (t : TablesView). IfOk c.answer_to.result (λ a. ClientTurn (TellsAll kind (stores dev)) dev.settings.servers dev.settings.region (byte_at kind (stores dev)) (byte_at kind (stores c.call.new.dev)) t (record { kv = at.kv; next_tx = at.next_tx; clients = lent.entries; saved = at.saved }) c.args.c (verb.Call c.args.op) a)) c.self.view_is
+    subst (λ (t : TablesView). IfOk c.answer_to.result (λ a. ClientTurn (TellsAll kind (stores dev)) (remembered dev) dev.settings.servers dev.settings.region
+    (byte_at kind (stores dev)) (byte_at kind (stores c.call.new.dev)) t (record
+    { kv = at.kv; next_tx = at.next_tx; clients = lent.entries; saved = at.saved }) c.args.c (verb.Call c.args.op) a)) c.self.view_is
     (if_ok c.answer_to.result (λ a. fault_answer why ≡ Some a) _ c.answer_to.ensures.answer
-    (λ a is. call_failed (TellsAll kind (stores dev)) dev.settings.servers dev.settings.region (byte_at kind (stores dev)) (byte_at kind (stores c.call.new.dev)) old lent.entries c.args.c x y c.args.op a why there sets
+    (λ a is. call_failed (TellsAll kind (stores dev)) (remembered dev) dev.settings.servers dev.settings.region (byte_at kind (stores dev))
+    (byte_at kind (stores c.call.new.dev)) old lent.entries c.args.c x y c.args.op a why there sets
     (c.in-Err.ensures.call.err (memory_none why a is)) (not_refused (c.call.new.dev ≡ dev) x why y c.in-Err.ensures.call.instead) is
     (λ z u s size st holds. stand_fail dev.settings.servers c.args.op _ why a is (c.in-Err.ensures.call.due z u s size st holds))))
 
@@ -111,11 +118,13 @@ returns-in-Err-clause-serves g c =
     let there : of_client old.clients c.args.c ≡ Some x = sym c.get_mut.ensures.value ∙ ap option_copied_mut c.in-Some.is in
     let lent = c.get_mut.follows.lender y in
     let sets : Sets c.args.c (Some y) old.clients lent.entries = written c.args.c at.clients lent x y there (c.get_mut.follows.holds y) in
-    let inside : TablesBytes (is_inside kind (stores dev) dev.settings) old = subst (TablesBytes (is_inside kind (stores dev) dev.settings)) (sym c.self.view_is) c.requires.inside in
+    let inside : TablesBytes (is_inside kind (stores dev) dev.settings) any_slice old = subst
+    (TablesBytes (is_inside kind (stores dev) dev.settings) any_slice) (sym c.self.view_is) c.requires.inside in
     let why = c.in-Err.why in
     subst (λ (t : TablesView). IfOk c.answer_to.result (ServesLine kind (between dev c.call.new.dev) dev.settings t (record { kv = at.kv; next_tx = at.next_tx; clients = lent.entries; saved = at.saved }) (event.Client c.args.c (verb.Call c.args.op)))) c.self.view_is
     (if_ok c.answer_to.result (λ a. fault_answer why ≡ Some a) _ c.answer_to.ensures.answer
-    (λ a is. fault_serves g.met.S.SliceStore.laws dev c.call.new.dev c.in-Err.ensures.call.dev c.requires.dev.shelf old sound inside lent.entries c.args.c x y there sets c.in-Err.ensures.call.inside c.requires.ring c.args.op why a is
+    (λ a is. fault_serves g.met.S.SliceStore.laws dev c.call.new.dev c.in-Err.ensures.call.dev c.requires.dev old sound inside lent.entries c.args.c x y there
+    sets c.in-Err.ensures.call.inside c.requires.ring c.args.op why a is
     (c.in-Err.ensures.call.err (memory_none why a is)) c.in-Err.ensures.call.fault c.in-Err.ensures.call.reads))
 
 pub returns-clause-serves : goal.returns-clause-serves
@@ -130,10 +139,13 @@ returns-clause-serves g c =
     let there : of_client old.clients c.args.c ≡ Some x = sym c.get_mut.ensures.value ∙ ap option_copied_mut c.in-Some.is in
     let lent = c.get_mut.follows.lender y in
     let sets : Sets c.args.c (Some y) old.clients lent.entries = written c.args.c at.clients lent x y there (c.get_mut.follows.holds y) in
-    let inside : TablesBytes (is_inside kind (stores dev) dev.settings) old = subst (TablesBytes (is_inside kind (stores dev) dev.settings)) (sym c.self.view_is) c.requires.inside in
+    let inside : TablesBytes (is_inside kind (stores dev) dev.settings) any_slice old = subst
+    (TablesBytes (is_inside kind (stores dev) dev.settings) any_slice) (sym c.self.view_is) c.requires.inside in
     let did = c.in-Ok.ensures.call in
     subst (λ (t : TablesView). ServesLine kind (between dev c.call.new.dev) dev.settings t (record { kv = at.kv; next_tx = at.next_tx; clients = lent.entries; saved = at.saved }) (event.Client c.args.c (verb.Call c.args.op)) c.in-Ok.answer) c.self.view_is
-    (call_serves g.met.S.SliceStore.laws dev c.call.new.dev did.dev c.requires.dev.shelf old sound inside lent.entries c.args.c x y there sets did.inside c.requires.ring c.args.op c.in-Ok.answer did.instead (λ free. let made = did.made free in (made.own, made.called, made.stored, made.named, made.done)) did.reads)
+    (call_serves g.met.S.SliceStore.laws dev c.call.new.dev did.dev c.requires.dev old sound inside lent.entries c.args.c x y there sets did.inside
+    c.requires.ring c.args.op c.in-Ok.answer did.instead (λ free. let made = did.made free in (made.own, made.called, made.stored, made.named, made.done))
+    did.reads)
 
 pub returns-clause-turn : goal.returns-clause-turn
 returns-clause-turn g c =
@@ -148,9 +160,18 @@ returns-clause-turn g c =
     let lent = c.get_mut.follows.lender y in
     let sets : Sets c.args.c (Some y) old.clients lent.entries = written c.args.c at.clients lent x y there (c.get_mut.follows.holds y) in
     let did = c.in-Ok.ensures.call in
-    subst (λ (t : TablesView). ClientTurn (TellsAll kind (stores dev)) dev.settings.servers dev.settings.region (byte_at kind (stores dev)) (byte_at kind (stores c.call.new.dev)) t (record { kv = at.kv; next_tx = at.next_tx; clients = lent.entries; saved = at.saved }) c.args.c (verb.Call c.args.op) c.in-Ok.answer) c.self.view_is
-    (call_turn (TellsAll kind (stores dev)) dev.settings.servers dev.settings.region (byte_at kind (stores dev)) (byte_at kind (stores c.call.new.dev)) old lent.entries c.args.c x y c.args.op c.in-Ok.answer (c.call.new.dev ≡ dev) there sets
-    did.instead (λ free. let made = did.made free in (made.own, made.called, made.acts)) (λ free tells ops run. did.meaning free ops (record { all = tells.0; map = tells.1 }, run)) did.fit)
+    subst (λ (t : TablesView). ClientTurn (TellsAll kind (stores dev)) (remembered dev) dev.settings.servers dev.settings.region (byte_at kind (stores dev))
+    (byte_at kind (stores c.call.new.dev)) t (record { kv = at.kv; next_tx = at.next_tx; clients = lent.entries; saved = at.saved }) c.args.c
+    (verb.Call c.args.op) c.in-Ok.answer) c.self.view_is
+    (call_turn (TellsAll kind (stores dev)) (remembered dev) dev.settings.servers dev.settings.region (byte_at kind (stores dev))
+    (byte_at kind (stores c.call.new.dev)) old lent.entries c.args.c x y c.args.op c.in-Ok.answer (c.call.new.dev ≡ dev) there sets
+    did.instead (λ free. let made = did.made free in (
+      made.own,
+      made.lists,
+      made.called,
+      knows kind dev c.call.new.dev did.dev (TellsAll kind (stores dev)) dev.settings.servers made.lists made.known,
+      made.acts,
+    )) (λ free tells ops run. did.meaning free ops (starts_sound kind dev tells.0 tells.1 c.call.new.dev at.kv at.kv x y ops tells.2 run)) did.fit)
 
 pub returns-in_default-clause-turn : goal.returns-in_default-clause-turn
 returns-in_default-clause-turn g c =
@@ -160,5 +181,7 @@ returns-in_default-clause-turn g c =
     let old : TablesView = record { kv = at.kv; next_tx = at.next_tx; clients = at.clients.entries; saved = at.saved } in
     let lent = c.get_mut.follows.lender-at-none in
     let none : of_client old.clients c.args.c ≡ None = sym c.get_mut.ensures.value ∙ ap option_copied_mut c.in_default.is in
-    subst (λ (t : TablesView). ClientTurn (TellsAll kind (stores dev)) dev.settings.servers dev.settings.region (byte_at kind (stores dev)) (byte_at kind (stores dev)) t (record { kv = at.kv; next_tx = at.next_tx; clients = lent.entries; saved = at.saved }) c.args.c (verb.Call c.args.op) (answer.Refused NoTx)) c.self.view_is
+    subst (λ (t : TablesView). ClientTurn (TellsAll kind (stores dev)) (remembered dev) dev.settings.servers dev.settings.region (byte_at kind (stores dev))
+    (byte_at kind (stores dev)) t (record { kv = at.kv; next_tx = at.next_tx; clients = lent.entries; saved = at.saved }) c.args.c (verb.Call c.args.op)
+    (answer.Refused NoTx)) c.self.view_is
     (at_none (of_client old.clients c.args.c) _ _ none (refused_same old lent.entries c.args.c NoTx (ap (λ m. m.entries) c.get_mut.follows.holds-at-none)))

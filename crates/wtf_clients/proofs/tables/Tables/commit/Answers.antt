@@ -9,15 +9,18 @@ use Rattle.wtf_meta.specs.Maps.{metadata_at}
 use Rattle.wtf_model.specs.declared.answer.Answer.TheVariants as answer
 use Rattle.wtf_model.specs.declared.answer.Word.TheVariants.{NoTx}
 use Rattle.wtf_model.specs.declared.event.Event.TheVariants as event
-use Rattle.wtf_region.specs.Devs.{stores, between}
+use Rattle.wtf_meta.specs.Bytes.{any_slice}
+use Rattle.wtf_region.specs.Devs.{stores, remembered, between}
 use Rattle.wtf_region.specs.Inside.{is_inside}
 use Rattle.wtf_replay.specs.Causes.{fault_answer}
+use Rattle.wtf_replay.specs.Tried.{commit_from}
 use Rattle.wtf_clients.specs.Views.{TablesView, of_client, without_hand}
 use Rattle.wtf_clients.specs.Sounds.{AreSound, Sets, IsAlike}
 use Rattle.wtf_clients.specs.Named.{TablesBytes}
 use Rattle.wtf_clients.specs.Serves.{ServesLine}
 use Rattle.wtf_clients.specs.Turns.{ClientTurn}
 use Rattle.wtf_clients.proofs.Caused.{has_failed}
+use Rattle.wtf_clients.proofs.Known.{starts_now, knows_install}
 use Rattle.wtf_clients.proofs.Lists.{written, lent_alike}
 use Rattle.wtf_clients.proofs.Lives.{now_bytes}
 use Rattle.wtf_clients.proofs.Making.{if_ok, on_err, at_none, refused_same, at_some, kept_sound, commit_turn, commit_failed, commit_left, ends}
@@ -40,15 +43,19 @@ commit-requires-clause-fit g c =
 pub commit-requires-clause-inside : goal.commit-requires-clause-inside
 commit-requires-clause-inside g c =
     let dev = c.args.dev.now in
-    let inside : TablesBytes (is_inside g.S.SliceStore.kind (stores dev) dev.settings) (record { kv = c.self.inside.kv; next_tx = c.self.inside.next_tx; clients = c.self.inside.clients.entries; saved = c.self.inside.saved }) = subst (TablesBytes (is_inside g.S.SliceStore.kind (stores dev) dev.settings)) (sym c.self.view_is) c.requires.inside in
+    let inside : TablesBytes (is_inside g.S.SliceStore.kind (stores dev) dev.settings) any_slice
+    (record { kv = c.self.inside.kv; next_tx = c.self.inside.next_tx; clients = c.self.inside.clients.entries; saved = c.self.inside.saved }) = subst
+    (TablesBytes (is_inside g.S.SliceStore.kind (stores dev) dev.settings) any_slice) (sym c.self.view_is) c.requires.inside in
     let there = sym c.get_mut.ensures.value ∙ ap option_copied_mut c.in-Some.is in
     inside.each c.args.c c.in-Some.txn.now there
 
 pub commit-requires-clause-inside_now : goal.commit-requires-clause-inside_now
 commit-requires-clause-inside_now g c =
     let dev = c.args.dev.now in
-    let inside : TablesBytes (is_inside g.S.SliceStore.kind (stores dev) dev.settings) (record { kv = c.self.inside.kv; next_tx = c.self.inside.next_tx; clients = c.self.inside.clients.entries; saved = c.self.inside.saved }) = subst (TablesBytes (is_inside g.S.SliceStore.kind (stores dev) dev.settings)) (sym c.self.view_is) c.requires.inside in
-    now_bytes (is_inside g.S.SliceStore.kind (stores dev) dev.settings) _ inside
+    let inside : TablesBytes (is_inside g.S.SliceStore.kind (stores dev) dev.settings) any_slice
+    (record { kv = c.self.inside.kv; next_tx = c.self.inside.next_tx; clients = c.self.inside.clients.entries; saved = c.self.inside.saved }) = subst
+    (TablesBytes (is_inside g.S.SliceStore.kind (stores dev) dev.settings) any_slice) (sym c.self.view_is) c.requires.inside in
+    now_bytes (is_inside g.S.SliceStore.kind (stores dev) dev.settings) any_slice _ inside
 
 pub returns-in-Err-clause-err_sound : goal.returns-in-Err-clause-err_sound
 returns-in-Err-clause-err_sound g c =
@@ -100,11 +107,17 @@ returns-in-Err-clause-turn g c =
     let lent = c.get_mut.follows.lender y in
     let sets : Sets c.args.c (Some y) old.clients lent.entries = written c.args.c at.clients lent x y there (c.get_mut.follows.holds y) in
     let why = c.in-Err.why in
-    subst (λ (t : TablesView). IfOk c.answer_to.result (λ a. ClientTurn (TellsAll kind (stores dev)) dev.settings.servers dev.settings.region (byte_at kind (stores dev)) (byte_at kind (stores c.commit.new.dev)) t (record { kv = c.commit.new.kv; next_tx = at.next_tx; clients = lent.entries; saved = at.saved }) c.args.c verb.Commit a)) c.self.view_is
+    subst (λ (t : TablesView). IfOk c.answer_to.result (λ a. ClientTurn (TellsAll kind (stores dev)) (remembered dev) dev.settings.servers dev.settings.region
+    (byte_at kind (stores dev)) (byte_at kind (stores c.commit.new.dev)) t (record
+    { kv = c.commit.new.kv; next_tx = at.next_tx; clients = lent.entries; saved = at.saved }) c.args.c verb.Commit a)) c.self.view_is
     (if_ok c.answer_to.result (λ a. fault_answer why ≡ Some a) _ c.answer_to.ensures.answer
     (λ a is. at_some (of_client old.clients c.args.c) x _ _ there
-    (commit_failed (TellsAll kind (stores dev)) dev.settings.servers dev.settings.region (byte_at kind (stores dev)) (byte_at kind (stores c.commit.new.dev)) old (record { kv = c.commit.new.kv; next_tx = at.next_tx; clients = lent.entries; saved = at.saved }) c.commit.new.kv lent.entries c.args.c x y why a there sets c.in-Err.ensures.commit.err refl refl refl c.in-Err.ensures.commit.err_store.0 c.in-Err.ensures.commit.maps c.in-Err.ensures.commit.err_store.1 c.in-Err.ensures.commit.pins is
-    (λ tells ops run t st. commit_left dev.settings.servers why a is (c.in-Err.ensures.commit.due ops (record { all = tells.0; map = tells.1 }, run) t st)))))
+    (commit_failed (TellsAll kind (stores dev)) (remembered dev) dev.settings.servers dev.settings.region (byte_at kind (stores dev))
+    (byte_at kind (stores c.commit.new.dev)) old (record { kv = c.commit.new.kv; next_tx = at.next_tx; clients = lent.entries; saved = at.saved })
+    c.commit.new.kv lent.entries c.args.c x y why a there sets c.in-Err.ensures.commit.err refl refl refl c.in-Err.ensures.commit.err_store.0
+    c.in-Err.ensures.commit.maps c.in-Err.ensures.commit.err_store.1 c.in-Err.ensures.commit.pins is
+    (λ tells now ops run t st. commit_left dev.settings.servers why a is (c.in-Err.ensures.commit.due ops
+    (starts_now kind dev tells.0 tells.1 c.commit.new.dev at.kv c.commit.new.kv x y ops tells.2 run now.2) t st)))))
 
 pub returns-in-Err-clause-serves : goal.returns-in-Err-clause-serves
 returns-in-Err-clause-serves g c =
@@ -118,16 +131,19 @@ returns-in-Err-clause-serves g c =
     let there : of_client old.clients c.args.c ≡ Some x = sym c.get_mut.ensures.value ∙ ap option_copied_mut c.in-Some.is in
     let lent = c.get_mut.follows.lender y in
     let sets : Sets c.args.c (Some y) old.clients lent.entries = written c.args.c at.clients lent x y there (c.get_mut.follows.holds y) in
-    let inside : TablesBytes (is_inside kind (stores dev) dev.settings) old = subst (TablesBytes (is_inside kind (stores dev) dev.settings)) (sym c.self.view_is) c.requires.inside in
+    let inside : TablesBytes (is_inside kind (stores dev) dev.settings) any_slice old = subst
+    (TablesBytes (is_inside kind (stores dev) dev.settings) any_slice) (sym c.self.view_is) c.requires.inside in
     let why = c.in-Err.why in
     let laws = g.met.S.SliceStore.laws in
     let new = c.commit.new.dev in
     subst (λ (t : TablesView). IfOk c.answer_to.result (ServesLine kind (between dev new) dev.settings t (record { kv = c.commit.new.kv; next_tx = at.next_tx; clients = lent.entries; saved = at.saved }) (event.Client c.args.c verb.Commit))) c.self.view_is
     (if_ok c.answer_to.result (λ a. fault_answer why ≡ Some a) _ c.answer_to.ensures.answer
-    (λ a is. read_failed laws dev new c.in-Err.ensures.commit.dev c.requires.dev.shelf old sound inside (record { kv = c.commit.new.kv; next_tx = at.next_tx; clients = lent.entries; saved = at.saved }) _ _ a
-    (stays_names laws dev new c.in-Err.ensures.commit.dev c.requires.dev.shelf old sound inside (record { kv = c.commit.new.kv; next_tx = at.next_tx; clients = lent.entries; saved = at.saved }) c.args.c
+    (λ a is. read_failed laws dev new c.in-Err.ensures.commit.dev c.requires.dev old sound inside
+    (record { kv = c.commit.new.kv; next_tx = at.next_tx; clients = lent.entries; saved = at.saved }) _ _ a
+    (stays_names laws dev new c.in-Err.ensures.commit.dev c.requires.dev old sound inside (record
+    { kv = c.commit.new.kv; next_tx = at.next_tx; clients = lent.entries; saved = at.saved }) c.args.c
     (same_stays old (record { kv = c.commit.new.kv; next_tx = at.next_tx; clients = lent.entries; saved = at.saved }) c.args.c x y there sets c.in-Err.ensures.commit.err c.in-Err.ensures.commit.err_store.0 c.in-Err.ensures.commit.maps c.in-Err.ensures.commit.err_store.1 c.in-Err.ensures.commit.pins refl refl)) c.in-Err.ensures.commit.reads
-    (commit_caused laws dev new c.in-Err.ensures.commit.dev c.requires.dev.shelf old sound inside c.args.c x why a there is c.in-Err.ensures.commit.fault)
+    (commit_caused laws dev new c.in-Err.ensures.commit.dev c.requires.dev old sound inside c.args.c x why a there is c.in-Err.ensures.commit.fault)
     (has_failed _ why a is (dev, new, lent_to dev new c.requires.ring, (x, there, c.in-Err.ensures.commit.fault)))))
 
 pub returns-clause-turn : goal.returns-clause-turn
@@ -145,11 +161,16 @@ returns-clause-turn g c =
     let did = c.in-Ok.ensures.commit in
     let gone = c.end.ensures in
     let mine = sets.is in
-    subst (λ (t : TablesView). ClientTurn (TellsAll kind (stores dev)) dev.settings.servers dev.settings.region (byte_at kind (stores dev)) (byte_at kind (stores c.commit.new.dev)) t c.end.new.self c.args.c verb.Commit c.in-Ok.answer) c.self.view_is
-    (commit_turn (TellsAll kind (stores dev)) dev.settings.servers dev.settings.region (byte_at kind (stores dev)) (byte_at kind (stores c.commit.new.dev)) old c.end.new.self c.commit.new.kv lent.entries c.args.c x y c.in-Ok.answer there sets gone.clients gone.next gone.saved did.over did.maps did.pins
+    subst (λ (t : TablesView). ClientTurn (TellsAll kind (stores dev)) (remembered dev) dev.settings.servers dev.settings.region (byte_at kind (stores dev))
+    (byte_at kind (stores c.commit.new.dev)) t c.end.new.self c.args.c verb.Commit c.in-Ok.answer) c.self.view_is
+    (commit_turn (TellsAll kind (stores dev)) (remembered dev) dev.settings.servers dev.settings.region (byte_at kind (stores dev))
+    (byte_at kind (stores c.commit.new.dev)) old c.end.new.self c.commit.new.kv lent.entries c.args.c x y c.in-Ok.answer there sets gone.clients gone.next
+    gone.saved did.over did.maps did.pins
     (subst (λ o. IfSome o (λ z. c.end.new.self.kv ≡ record c.commit.new.kv { pins = remove_key (nat_eq z.at.base) c.commit.new.kv.pins })) mine gone.kv)
     (subst (λ o. IfSome o (λ z. IsPinnedOnceMore z.at.base c.end.new.self.kv c.commit.new.kv)) mine gone.unpinned)
-    did.ended did.installs (λ tells ops run. did.meaning ops (record { all = tells.0; map = tells.1 }, run)))
+    did.ended (knows_install kind dev c.commit.new.dev did.dev (TellsAll kind (stores dev)) dev.settings.servers at.kv c.commit.new.kv (commit_from at.kv x)
+    c.in-Ok.answer did.installs)
+    (λ tells now ops run. did.meaning ops (starts_now kind dev tells.0 tells.1 c.commit.new.dev at.kv c.commit.new.kv x y ops tells.2 run now.2)))
 
 pub returns-clause-serves : goal.returns-clause-serves
 returns-clause-serves g c =
@@ -163,15 +184,16 @@ returns-clause-serves g c =
     let there : of_client old.clients c.args.c ≡ Some x = sym c.get_mut.ensures.value ∙ ap option_copied_mut c.in-Some.is in
     let lent = c.get_mut.follows.lender y in
     let sets : Sets c.args.c (Some y) old.clients lent.entries = written c.args.c at.clients lent x y there (c.get_mut.follows.holds y) in
-    let inside : TablesBytes (is_inside kind (stores dev) dev.settings) old = subst (TablesBytes (is_inside kind (stores dev) dev.settings)) (sym c.self.view_is) c.requires.inside in
+    let inside : TablesBytes (is_inside kind (stores dev) dev.settings) any_slice old = subst
+    (TablesBytes (is_inside kind (stores dev) dev.settings) any_slice) (sym c.self.view_is) c.requires.inside in
     let did = c.in-Ok.ensures.commit in
     let laws = g.met.S.SliceStore.laws in
     let new = c.commit.new.dev in
     let gone = c.end.ensures in
     let mine = sets.is in
     subst (λ (t : TablesView). ServesLine kind (between dev new) dev.settings t c.end.new.self (event.Client c.args.c verb.Commit) c.in-Ok.answer) c.self.view_is
-    (read_serves laws dev new did.dev c.requires.dev.shelf old sound inside c.end.new.self _ _ c.in-Ok.answer
-    (ends_names laws dev new did.dev c.requires.dev.shelf old sound inside c.end.new.self c.commit.new.kv c.args.c x there
+    (read_serves laws dev new did.dev c.requires.dev old sound inside c.end.new.self _ _ c.in-Ok.answer
+    (ends_names laws dev new did.dev c.requires.dev old sound inside c.end.new.self c.commit.new.kv c.args.c x there
     (ends old c.end.new.self c.commit.new.kv lent.entries c.args.c x y sets gone.clients gone.next gone.saved did.over.base did.maps did.pins
     (subst (λ o. IfSome o (λ z. c.end.new.self.kv ≡ record c.commit.new.kv { pins = remove_key (nat_eq z.at.base) c.commit.new.kv.pins })) mine gone.kv)
     (subst (λ o. IfSome o (λ z. IsPinnedOnceMore z.at.base c.end.new.self.kv c.commit.new.kv)) mine gone.unpinned)) did.named) did.reads
@@ -185,5 +207,7 @@ returns-in_default-clause-turn g c =
     let old : TablesView = record { kv = at.kv; next_tx = at.next_tx; clients = at.clients.entries; saved = at.saved } in
     let lent = c.get_mut.follows.lender-at-none in
     let none : of_client old.clients c.args.c ≡ None = sym c.get_mut.ensures.value ∙ ap option_copied_mut c.in_default.is in
-    subst (λ (t : TablesView). ClientTurn (TellsAll kind (stores dev)) dev.settings.servers dev.settings.region (byte_at kind (stores dev)) (byte_at kind (stores dev)) t (record { kv = at.kv; next_tx = at.next_tx; clients = lent.entries; saved = at.saved }) c.args.c verb.Commit (answer.Refused NoTx)) c.self.view_is
+    subst (λ (t : TablesView). ClientTurn (TellsAll kind (stores dev)) (remembered dev) dev.settings.servers dev.settings.region (byte_at kind (stores dev))
+    (byte_at kind (stores dev)) t (record { kv = at.kv; next_tx = at.next_tx; clients = lent.entries; saved = at.saved }) c.args.c verb.Commit
+    (answer.Refused NoTx)) c.self.view_is
     (at_none (of_client old.clients c.args.c) _ _ none (refused_same old lent.entries c.args.c NoTx (ap (λ m. m.entries) c.get_mut.follows.holds-at-none)))

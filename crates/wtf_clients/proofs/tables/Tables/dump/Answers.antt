@@ -2,14 +2,15 @@ use Rattle.std.proofs.Common.{◌≡◌, ◌∙◌, ℕ, Some, IfOk, inl, inr, r
 use Rattle.wtf_replica.specs.Bytes.{byte_at}
 use Rattle.wtf_meta.specs.Maps.{metadata_at}
 use Rattle.wtf_model.specs.declared.event.Event.TheVariants as event
-use Rattle.wtf_region.specs.Devs.{stores, between}
+use Rattle.wtf_meta.specs.Bytes.{any_slice}
+use Rattle.wtf_region.specs.Devs.{stores, remembered, between}
 use Rattle.wtf_region.specs.Inside.{is_inside}
 use Rattle.wtf_replay.specs.Causes.{fault_answer}
 use Rattle.wtf_clients.specs.Views.{TablesView, metadata_now}
 use Rattle.wtf_clients.specs.Sounds.{AreSound, IsAlike}
 use Rattle.wtf_clients.specs.Dumped.{IsDumpAnswer}
-use Rattle.wtf_clients.specs.Named.{TablesBytes, has_copies}
-use Rattle.wtf_clients.specs.Serves.{AreFull, ServesLine}
+use Rattle.wtf_clients.specs.Named.{TablesBytes, any_byte, no_slice, has_copies}
+use Rattle.wtf_clients.specs.Serves.{AreBare, AreFull, ServesLine}
 use Rattle.wtf_clients.specs.Turns.{Stays, Dumps}
 use Rattle.wtf_clients.proofs.Caused.{has_failed}
 use Rattle.wtf_clients.proofs.Dumping.{dump_may, dump_plain, dump_caused}
@@ -23,8 +24,10 @@ use Rattle.wtf_clients.proofs.tables.Tables.dump.Goals as goal
 pub dump_now-requires-clause-inside : goal.dump_now-requires-clause-inside
 dump_now-requires-clause-inside g c =
     let dev = c.args.dev.now in
-    let inside : TablesBytes (is_inside g.S.SliceStore.kind (stores dev) dev.settings) (record { kv = c.self.inside.kv; next_tx = c.self.inside.next_tx; clients = c.self.inside.clients.entries; saved = c.self.inside.saved }) = subst (TablesBytes (is_inside g.S.SliceStore.kind (stores dev) dev.settings)) (sym c.self.view_is) c.requires.inside in
-    now_bytes (is_inside g.S.SliceStore.kind (stores dev) dev.settings) _ inside
+    let inside : TablesBytes (is_inside g.S.SliceStore.kind (stores dev) dev.settings) any_slice
+    (record { kv = c.self.inside.kv; next_tx = c.self.inside.next_tx; clients = c.self.inside.clients.entries; saved = c.self.inside.saved }) = subst
+    (TablesBytes (is_inside g.S.SliceStore.kind (stores dev) dev.settings) any_slice) (sym c.self.view_is) c.requires.inside in
+    now_bytes (is_inside g.S.SliceStore.kind (stores dev) dev.settings) any_slice _ inside
 
 pub returns-in-Ok-clause-turn : goal.returns-in-Ok-clause-turn
 returns-in-Ok-clause-turn g c =
@@ -35,10 +38,17 @@ returns-in-Ok-clause-turn g c =
     let old : TablesView = record { kv = at.kv; next_tx = at.next_tx; clients = at.clients.entries; saved = at.saved } in
     let after : TablesView = record { kv = c.dump_now.new.kv; next_tx = at.next_tx; clients = at.clients.entries; saved = at.saved } in
     let sound : AreSound old = subst (λ t. AreSound t) (sym c.self.view_is) c.requires.sound in
-    let inside : TablesBytes (is_inside kind (stores dev) dev.settings) old = subst (TablesBytes (is_inside kind (stores dev) dev.settings)) (sym c.self.view_is) c.requires.inside in
+    let inside : TablesBytes (is_inside kind (stores dev) dev.settings) any_slice old = subst
+    (TablesBytes (is_inside kind (stores dev) dev.settings) any_slice) (sym c.self.view_is) c.requires.inside in
     let stays : (d : ℕ) → Stays old after d = λ d. record { clients = sets_same d at.clients.entries at.clients.entries refl; number = c.in-Ok.ensures.number; maps = c.in-Ok.ensures.maps; versions = c.in-Ok.ensures.versions; pins = c.in-Ok.ensures.pins; next_tx = refl; saved = refl } in
-    subst (λ (t : TablesView). Dumps dev.settings.servers dev.settings.region (byte_at kind (stores dev)) t after c.args.p.now c.in-Ok.answer) c.self.view_is
-    (record { stays = stays; built = λ e. subst IsDumpAnswer e c.in-Ok.ensures.answered; shows = λ tx k t st. inl (c.in-Ok.ensures.shows tx k t st) })
+    subst (λ (t : TablesView). Dumps dev.settings.servers dev.settings.region (byte_at kind (stores dev)) (remembered dev) t after c.args.p.now
+    c.in-Ok.answer) c.self.view_is
+    (record {
+      stays = stays;
+      built = λ e. subst IsDumpAnswer e c.in-Ok.ensures.answered;
+      shows = λ cache tx k t st. inl
+          (c.in-Ok.ensures.shows cache tx k t st);
+    })
 
 pub returns-in-Ok-clause-serves : goal.returns-in-Ok-clause-serves
 returns-in-Ok-clause-serves g c =
@@ -49,11 +59,12 @@ returns-in-Ok-clause-serves g c =
     let old : TablesView = record { kv = at.kv; next_tx = at.next_tx; clients = at.clients.entries; saved = at.saved } in
     let after : TablesView = record { kv = c.dump_now.new.kv; next_tx = at.next_tx; clients = at.clients.entries; saved = at.saved } in
     let sound : AreSound old = subst (λ t. AreSound t) (sym c.self.view_is) c.requires.sound in
-    let inside : TablesBytes (is_inside kind (stores dev) dev.settings) old = subst (TablesBytes (is_inside kind (stores dev) dev.settings)) (sym c.self.view_is) c.requires.inside in
+    let inside : TablesBytes (is_inside kind (stores dev) dev.settings) any_slice old = subst
+    (TablesBytes (is_inside kind (stores dev) dev.settings) any_slice) (sym c.self.view_is) c.requires.inside in
     let stays : (d : ℕ) → Stays old after d = λ d. record { clients = sets_same d at.clients.entries at.clients.entries refl; number = c.in-Ok.ensures.number; maps = c.in-Ok.ensures.maps; versions = c.in-Ok.ensures.versions; pins = c.in-Ok.ensures.pins; next_tx = refl; saved = refl } in
     subst (λ (t : TablesView). ServesLine kind (between dev new) dev.settings t after (event.Dump c.args.p.now) c.in-Ok.answer) c.self.view_is
-    (read_serves g.met.S.SliceStore.laws dev new c.in-Ok.ensures.dev c.requires.dev.shelf old sound inside after _ _ c.in-Ok.answer
-    (stays_names g.met.S.SliceStore.laws dev new c.in-Ok.ensures.dev c.requires.dev.shelf old sound inside after 0 (stays 0)) c.in-Ok.ensures.reads
+    (read_serves g.met.S.SliceStore.laws dev new c.in-Ok.ensures.dev c.requires.dev old sound inside after _ _ c.in-Ok.answer
+    (stays_names g.met.S.SliceStore.laws dev new c.in-Ok.ensures.dev c.requires.dev old sound inside after 0 (stays 0)) c.in-Ok.ensures.reads
     (dump_plain c.in-Ok.answer c.in-Ok.ensures.answered))
 
 pub returns-in-Err-clause-turn : goal.returns-in-Err-clause-turn
@@ -65,15 +76,18 @@ returns-in-Err-clause-turn g c =
     let old : TablesView = record { kv = at.kv; next_tx = at.next_tx; clients = at.clients.entries; saved = at.saved } in
     let after : TablesView = record { kv = c.dump_now.new.kv; next_tx = at.next_tx; clients = at.clients.entries; saved = at.saved } in
     let sound : AreSound old = subst (λ t. AreSound t) (sym c.self.view_is) c.requires.sound in
-    let inside : TablesBytes (is_inside kind (stores dev) dev.settings) old = subst (TablesBytes (is_inside kind (stores dev) dev.settings)) (sym c.self.view_is) c.requires.inside in
+    let inside : TablesBytes (is_inside kind (stores dev) dev.settings) any_slice old = subst
+    (TablesBytes (is_inside kind (stores dev) dev.settings) any_slice) (sym c.self.view_is) c.requires.inside in
     let stays : (d : ℕ) → Stays old after d = λ d. record { clients = sets_same d at.clients.entries at.clients.entries refl; number = c.in-Err.ensures.number; maps = c.in-Err.ensures.maps; versions = c.in-Err.ensures.versions; pins = c.in-Err.ensures.pins; next_tx = refl; saved = refl } in
     let why = c.in-Err.why in
-    subst (λ (t : TablesView). IfOk c.answer_to.result (Dumps dev.settings.servers dev.settings.region (byte_at kind (stores dev)) t after c.args.p.now)) c.self.view_is
+    subst (λ (t : TablesView). IfOk c.answer_to.result (Dumps dev.settings.servers dev.settings.region (byte_at kind (stores dev)) (remembered dev) t after
+    c.args.p.now)) c.self.view_is
     (if_ok c.answer_to.result (λ a. fault_answer why ≡ Some a) _ c.answer_to.ensures.answer
     (λ a is. record {
       stays = stays;
       built = λ e. subst IsFault e (fault_is why a is);
-      shows = λ tx k t st. inr (dump_may g.met.S.SliceStore.laws dev new c.requires.dev.shelf (metadata_now at.kv) c.args.p.now (now_bytes (is_inside kind (stores dev) dev.settings) old inside) why a (byte_at kind (stores dev)) tx k t is c.in-Err.ensures.fault st);
+      shows = λ cache tx k t st. inr (dump_may g.met.S.SliceStore.laws dev new c.requires.dev (metadata_now at.kv) c.args.p.now
+          (now_bytes (is_inside kind (stores dev) dev.settings) any_slice old inside) why a (byte_at kind (stores dev)) tx k t is c.in-Err.ensures.fault st);
     }))
 
 pub returns-in-Err-clause-serves : goal.returns-in-Err-clause-serves
@@ -85,14 +99,17 @@ returns-in-Err-clause-serves g c =
     let old : TablesView = record { kv = at.kv; next_tx = at.next_tx; clients = at.clients.entries; saved = at.saved } in
     let after : TablesView = record { kv = c.dump_now.new.kv; next_tx = at.next_tx; clients = at.clients.entries; saved = at.saved } in
     let sound : AreSound old = subst (λ t. AreSound t) (sym c.self.view_is) c.requires.sound in
-    let inside : TablesBytes (is_inside kind (stores dev) dev.settings) old = subst (TablesBytes (is_inside kind (stores dev) dev.settings)) (sym c.self.view_is) c.requires.inside in
+    let inside : TablesBytes (is_inside kind (stores dev) dev.settings) any_slice old = subst
+    (TablesBytes (is_inside kind (stores dev) dev.settings) any_slice) (sym c.self.view_is) c.requires.inside in
     let stays : (d : ℕ) → Stays old after d = λ d. record { clients = sets_same d at.clients.entries at.clients.entries refl; number = c.in-Err.ensures.number; maps = c.in-Err.ensures.maps; versions = c.in-Err.ensures.versions; pins = c.in-Err.ensures.pins; next_tx = refl; saved = refl } in
     let why = c.in-Err.why in
     subst (λ (t : TablesView). IfOk c.answer_to.result (ServesLine kind (between dev new) dev.settings t after (event.Dump c.args.p.now))) c.self.view_is
     (if_ok c.answer_to.result (λ a. fault_answer why ≡ Some a) _ c.answer_to.ensures.answer
-    (λ a is. read_failed g.met.S.SliceStore.laws dev new c.in-Err.ensures.dev c.requires.dev.shelf old sound inside after _ _ a
-    (stays_names g.met.S.SliceStore.laws dev new c.in-Err.ensures.dev c.requires.dev.shelf old sound inside after 0 (stays 0)) c.in-Err.ensures.reads
-    (dump_caused g.met.S.SliceStore.laws dev new c.requires.dev.shelf (metadata_now at.kv) c.args.p.now (now_bytes (is_inside kind (stores dev) dev.settings) old inside) (AreFull dev.settings old) (now_bytes (has_copies dev.settings.replicas) old) why a is c.in-Err.ensures.fault)
+    (λ a is. read_failed g.met.S.SliceStore.laws dev new c.in-Err.ensures.dev c.requires.dev old sound inside after _ _ a
+    (stays_names g.met.S.SliceStore.laws dev new c.in-Err.ensures.dev c.requires.dev old sound inside after 0 (stays 0)) c.in-Err.ensures.reads
+    (dump_caused g.met.S.SliceStore.laws dev new c.requires.dev (metadata_now at.kv) c.args.p.now
+    (now_bytes (is_inside kind (stores dev) dev.settings) any_slice old inside) (AreBare old) (AreFull dev.settings old) (now_bytes any_byte no_slice old)
+    (now_bytes (has_copies dev.settings.replicas) no_slice old) why a is c.in-Err.ensures.fault)
     (has_failed _ why a is (dev, new, lent_to dev new c.requires.ring, past_memory why a is c.in-Err.ensures.fault))))
 
 pub returns-in-Err-clause-err_sound : goal.returns-in-Err-clause-err_sound
@@ -104,7 +121,8 @@ returns-in-Err-clause-err_sound g c =
     let old : TablesView = record { kv = at.kv; next_tx = at.next_tx; clients = at.clients.entries; saved = at.saved } in
     let after : TablesView = record { kv = c.dump_now.new.kv; next_tx = at.next_tx; clients = at.clients.entries; saved = at.saved } in
     let sound : AreSound old = subst (λ t. AreSound t) (sym c.self.view_is) c.requires.sound in
-    let inside : TablesBytes (is_inside kind (stores dev) dev.settings) old = subst (TablesBytes (is_inside kind (stores dev) dev.settings)) (sym c.self.view_is) c.requires.inside in
+    let inside : TablesBytes (is_inside kind (stores dev) dev.settings) any_slice old = subst
+    (TablesBytes (is_inside kind (stores dev) dev.settings) any_slice) (sym c.self.view_is) c.requires.inside in
     let stays : (d : ℕ) → Stays old after d = λ d. record { clients = sets_same d at.clients.entries at.clients.entries refl; number = c.in-Err.ensures.number; maps = c.in-Err.ensures.maps; versions = c.in-Err.ensures.versions; pins = c.in-Err.ensures.pins; next_tx = refl; saved = refl } in
     on_err c.answer_to.result _ (stays_sound old after 0 sound (stays 0))
 
@@ -117,7 +135,8 @@ returns-in-Err-clause-err g c =
     let old : TablesView = record { kv = at.kv; next_tx = at.next_tx; clients = at.clients.entries; saved = at.saved } in
     let after : TablesView = record { kv = c.dump_now.new.kv; next_tx = at.next_tx; clients = at.clients.entries; saved = at.saved } in
     let sound : AreSound old = subst (λ t. AreSound t) (sym c.self.view_is) c.requires.sound in
-    let inside : TablesBytes (is_inside kind (stores dev) dev.settings) old = subst (TablesBytes (is_inside kind (stores dev) dev.settings)) (sym c.self.view_is) c.requires.inside in
+    let inside : TablesBytes (is_inside kind (stores dev) dev.settings) any_slice old = subst
+    (TablesBytes (is_inside kind (stores dev) dev.settings) any_slice) (sym c.self.view_is) c.requires.inside in
     let number = c.in-Err.ensures.number in
     on_err c.answer_to.result _ (subst (λ (t : TablesView). IsAlike t after) c.self.view_is (record {
       clients = refl;

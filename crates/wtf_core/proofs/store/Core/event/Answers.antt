@@ -1,10 +1,12 @@
-use Rattle.std.proofs.Common.{◌≡◌, ◌∙◌, refl, sym, ap, subst, arith}
+use Rattle.std.proofs.Common.{◌≡◌, ◌∙◌, [], refl, sym, ap, subst, arith}
 use Rattle.wtf_base.specs.declared.settings.Settings.{Settings}
 use Rattle.wtf_replica.specs.Downs.{is_down}
 use Rattle.wtf_replica.specs.Inside.{size_in}
 use Rattle.wtf_replica.specs.Spans.{span}
+use Rattle.wtf_meta.specs.Bytes.{any_slice}
+use Rattle.wtf_region.specs.Cached.{CacheInside}
 use Rattle.wtf_region.specs.Inside.{is_inside}
-use Rattle.wtf_clients.specs.Named.{TablesBytes, has_copies}
+use Rattle.wtf_clients.specs.Named.{TablesBytes, any_byte, no_slice, has_copies}
 use Rattle.wtf_clients.proofs.Lives.{now_bytes}
 use Rattle.wtf_clients.specs.Serves.{ServesEvent}
 use Rattle.wtf_base.specs.Limits.{AreSettings}
@@ -24,6 +26,7 @@ use Rattle.wtf_model.specs.Steps.{after}
 use Rattle.wtf_meta.specs.Contents.{Told}
 use Rattle.wtf_core.specs.Views.{CoreView}
 use Rattle.wtf_clients.specs.Sounds.{AreSound}
+use Rattle.wtf_core.specs.Remembering.{KeepsLists}
 use Rattle.wtf_core.specs.Turns.{LineTurn}
 use Rattle.wtf_core.proofs.Tidying.{tidied_sound, core_tidied}
 use Rattle.wtf_core.proofs.Whole.{line_stands, line_rises}
@@ -45,7 +48,14 @@ invariant_of-self g c =
 
 -- the core behind the answer, before versions are dropped
 abbrev answered : (g : Over) → After-tidy g → CoreView
-answered g c = let at = c.self-2.inside in record { settings = at.settings; tables = at.tables; replicas = at.replicas; closed = at.closed }
+answered g c = let at = c.self-2.inside in record {
+  settings = at.settings;
+  tables = at.tables;
+  replicas = at.replicas;
+  closed = at.closed;
+  lists =
+      at.cache.lists;
+}
 
 turn_is : (g : Over) (c : After-tidy g) → LineTurn (TellsAll g.S.SliceStore.kind c.args.shelf.now) (byte_at g.S.SliceStore.kind c.args.shelf.now, byte_at g.S.SliceStore.kind c.answer.new.shelf)
     c.args.self.now (answered g c) c.args.event.now c.in-Ok.answer
@@ -74,6 +84,10 @@ serves_is g c =
     let old = c.args.self.now in
     subst (λ (core : CoreView). ServesEvent kind (span (is_down old.replicas) c.args.shelf.now c.answer.new.shelf) old.settings (Rose (g.K.Keeper.view c.args.keeper.now).faults (g.K.Keeper.view c.answer.new.keeper).faults) (old.tables, core.tables) c.args.event.now c.in-Ok.answer)
     (sym c.self-2.view_is) c.in-Ok.ensures.serves
+
+keeps_is : (g : Over) (c : After-tidy g) → KeepsLists g.S.SliceStore.kind c.args.shelf.now c.answer.new.shelf c.args.self.now (answered g c)
+keeps_is g c = subst (λ (core : CoreView). KeepsLists g.S.SliceStore.kind c.args.shelf.now c.answer.new.shelf c.args.self.now core) (sym c.self-2.view_is)
+    c.answer.ensures.lists
 
 abbrev keeping : (g : Over) → After-tidy g → KeeperSpan
 keeping g c = keeper_span g.K.Keeper.view g.K.Keeper.follows c.args.keeper.now c.answer.new.keeper
@@ -106,10 +120,15 @@ returns-in-Ok-clause-goes_on g at =
     let tidy = c.tidy.ensures in
     record {
       not_closed = ap (λ (core : CoreView). core.closed) c.self-2.view_is ∙ c.answer.ensures.closed ∙ c.requires.open;
-      inside = subst (λ (s : Settings). TablesBytes (is_inside kind c.answer.new.shelf s) c.tidy.new.self) (sym same)
-          (tidied_bytes (is_inside kind c.answer.new.shelf old.settings) (answered g c).tables c.tidy.new.self c.self-2.invariant.tables_are tidy serves.inside);
-      full = λ h. subst (λ (s : Settings). TablesBytes (has_copies s.replicas) c.tidy.new.self) (sym same)
-          (tidied_bytes (has_copies old.settings.replicas) (answered g c).tables c.tidy.new.self c.self-2.invariant.tables_are tidy (serves.full h));
+      inside = record {
+        tables = subst (λ (s : Settings). TablesBytes (is_inside kind c.answer.new.shelf s) any_slice c.tidy.new.self) (sym same)
+            (tidied_bytes (is_inside kind c.answer.new.shelf old.settings) any_slice (answered g c).tables c.tidy.new.self c.self-2.invariant.tables_are tidy
+            serves.inside);
+        lists = subst (λ (s : Settings). CacheInside (is_inside kind c.answer.new.shelf s) (answered g c).lists) (sym same) (keeps_is g c).inside;
+      };
+      bare = λ h. tidied_bytes any_byte no_slice (answered g c).tables c.tidy.new.self c.self-2.invariant.tables_are tidy (serves.bare h);
+      full = λ h. subst (λ (s : Settings). TablesBytes (has_copies s.replicas) no_slice c.tidy.new.self) (sym same)
+          (tidied_bytes (has_copies old.settings.replicas) no_slice (answered g c).tables c.tidy.new.self c.self-2.invariant.tables_are tidy (serves.full h));
       down = λ k. line_downs (TellsAll kind c.args.shelf.now) told old (answered g c) c.in-Ok.answer c.args.event.now (turn_is g c) k;
       exact = line_exact (TellsAll kind c.args.shelf.now) told old (answered g c) c.in-Ok.answer c.args.event.now (turn_is g c);
       number = omega (arith, up.no_fewer, tidy.number);
@@ -131,11 +150,18 @@ returns-in-Ok-clause-lawful g at = λ telling m stands.
     let later = byte_at kind c.answer.new.shelf in
     let old = c.args.self.now in
     let here = c.self-2.inside in
-    let tidied : CoreView = record { settings = here.settings; tables = c.tidy.new.self; replicas = here.replicas; closed = here.closed } in
+    let tidied : CoreView = record {
+      settings = here.settings;
+      tables = c.tidy.new.self;
+      replicas = here.replicas;
+      closed = here.closed;
+      lists =
+          here.cache.lists;
+    } in
     let t = span (is_down old.replicas) c.args.shelf.now c.answer.new.shelf in
     let on = c.answer.ensures.shelf in
     let done = line_stands (TellsAll kind c.args.shelf.now) told later old (answered g c) m c.in-Ok.answer (was_sound g c) stands
-    (λ p b there. byte_at-kept g.met.S.SliceStore.laws on p b tt there) telling c.args.event.now (turn_is g c) in
+    (λ p b there. byte_at-kept g.met.S.SliceStore.laws on p b tt there) telling ((keeps_is g c).true_still [] stands.lists) c.args.event.now (turn_is g c) in
     record {
       event = record {
         may = done.may;
@@ -146,9 +172,11 @@ returns-in-Ok-clause-lawful g at = λ telling m stands.
       taken = λ tells room held. numbers_on (g.K.Keeper.view c.answer.new.keeper) (size_in kind c.answer.new.shelf) old.settings (answered g c).tables.kv.number (answered g c).tables.next_tx
           c.tidy.new.self.kv.number c.tidy.new.self.next_tx c.tidy.ensures.number c.tidy.ensures.next_tx
           (line_taken kind g.met.S.SliceStore.laws t on (keeping g c) (keeper_laws g c) (TellsAll kind c.args.shelf.now) told later old (answered g c) m
-          (was_limited g c) (was_sound g c) room.0 room.1 stands.tables (now_bytes (is_inside kind c.args.shelf.now old.settings) old.tables c.requires.inside) (rises_is g c) c.in-Ok.answer c.args.event.now (turn_is g c) (did_is g c) tells held);
+          (was_limited g c) (was_sound g c) room.0 room.1 stands.tables (now_bytes (is_inside kind c.args.shelf.now old.settings) any_slice old.tables
+          c.requires.inside.tables) (rises_is g c) c.in-Ok.answer c.args.event.now (turn_is g c) (did_is g c) tells held);
       saved = λ tells room. line_leaves kind g.met.S.SliceStore.laws t on (keeping g c) (keeper_laws g c) (TellsAll kind c.args.shelf.now) told later old (answered g c) m
-          (was_limited g c) (was_sound g c) room.0 room.1 stands.tables (now_bytes (is_inside kind c.args.shelf.now old.settings) old.tables c.requires.inside) (rises_is g c) c.in-Ok.answer c.args.event.now c.in-Ok.answer (did_is g c) tells;
+          (was_limited g c) (was_sound g c) room.0 room.1 stands.tables (now_bytes (is_inside kind c.args.shelf.now old.settings) any_slice old.tables
+          c.requires.inside.tables) (rises_is g c) c.in-Ok.answer c.args.event.now c.in-Ok.answer (did_is g c) tells;
     }
 
 pub returns-in-Ok-clause-stored : goal.returns-in-Ok-clause-stored

@@ -1,7 +1,8 @@
 use Rattle.std.proofs.Common.{sym, subst}
+use Rattle.wtf_region.specs.Cached.{CacheInside}
 use Rattle.wtf_clients.specs.Views.{TablesView}
 use Rattle.wtf_clients.specs.Named.{TablesBytes}
-use Rattle.wtf_core.proofs.Started.{stands_first, bytes_first}
+use Rattle.wtf_core.proofs.Started.{nothing_in, stands_first, bytes_first}
 use Rattle.wtf_core.proofs.store.Core.new.Goals as goal
 
 pub returns-in-Ok-over-clause-stands : goal.returns-in-Ok-over-clause-stands
@@ -9,8 +10,13 @@ returns-in-Ok-over-clause-stands c = λ told.
     let made = c.in-Ok.ensures in
     let core = c.in-Ok-over.ensures in
     stands_first told c.args.settings c.in-Ok.tables c.in-Ok-over.core core.settings core.tables made.number made.clients made.saved made.first core.up
+    core.lists
 
 pub returns-in-Ok-over-clause-inside : goal.returns-in-Ok-over-clause-inside
-returns-in-Ok-over-clause-inside c = λ P.
+returns-in-Ok-over-clause-inside c = λ P Q.
     let made = c.in-Ok.ensures in
-    subst (λ (t : TablesView). TablesBytes P t) (sym c.in-Ok-over.ensures.tables) (bytes_first P c.in-Ok.tables made.sound made.number made.clients made.first)
+    record {
+      tables = subst (λ (t : TablesView). TablesBytes P Q t) (sym c.in-Ok-over.ensures.tables)
+          (bytes_first P Q c.in-Ok.tables made.sound made.number made.clients made.first);
+      lists = subst (CacheInside P) (sym c.in-Ok-over.ensures.lists) (λ e there. absurd (nothing_in e there));
+    }

@@ -1,4 +1,4 @@
-use Rattle.std.proofs.Common.{refl, subst}
+use Rattle.std.proofs.Common.{◌≤◌, length, refl, sym, subst}
 use Rattle.wtf_dev.specs.Counts.{Rose}
 use Rattle.wtf_dev.specs.Sums.{TellsAll}
 use Rattle.wtf_replica.specs.Bytes.{byte_at}
@@ -9,6 +9,9 @@ use Rattle.wtf_core.specs.Views.{CoreView}
 use Rattle.wtf_clients.specs.Serves.{ServesEvent}
 use Rattle.wtf_core.specs.Turns.{LineTurn}
 use Rattle.wtf_clients.specs.Saves.{AreUp}
+use Rattle.wtf_core.specs.Named.{IsInside}
+use Rattle.wtf_core.specs.Remembering.{KeepsLists}
+use Rattle.wtf_core.proofs.Remembering.{save_keeps}
 use Rattle.wtf_core.proofs.Whole.{sound_saved}
 use Rattle.wtf_core.proofs.store.Core.save_now.Goals as goal
 
@@ -42,7 +45,7 @@ pub returns-in-Ok-clause-turn : goal.returns-in-Ok-clause-turn
 returns-in-Ok-clause-turn g c =
     let kind = g.S.SliceStore.kind in
     let at = c.self.inside in
-    let new : CoreView = record { settings = at.settings; tables = c.save.new.self; replicas = at.replicas; closed = at.closed } in
+    let new : CoreView = record { settings = at.settings; tables = c.save.new.self; replicas = at.replicas; closed = at.closed; lists = at.cache.lists } in
     subst (λ (core : CoreView). LineTurn (TellsAll kind c.args.shelf.now) (byte_at kind c.args.shelf.now, byte_at kind c.save.new.shelf) core new event.Save c.in-Ok.answer) c.self.view_is
     (c.in-Ok.ensures.turn, refl)
 
@@ -52,3 +55,27 @@ returns-in-Ok-clause-serves g c =
     let rose = Rose (g.K.Keeper.view c.args.keeper.now).faults (g.K.Keeper.view c.save.new.keeper).faults in
     subst (λ (core : CoreView). ServesEvent kind (span (is_down core.replicas) c.args.shelf.now c.save.new.shelf) core.settings rose (core.tables, c.save.new.self) event.Save c.in-Ok.answer) c.self.view_is
     c.in-Ok.ensures.serves
+
+pub returns-in-Ok-clause-lists : goal.returns-in-Ok-clause-lists
+returns-in-Ok-clause-lists g c =
+    let kind = g.S.SliceStore.kind in
+    let at = c.self.inside in
+    let shelf = c.args.shelf.now in
+    let old : CoreView = record { settings = at.settings; tables = at.tables; replicas = at.replicas; closed = at.closed; lists = at.cache.lists } in
+    let new : CoreView = record { settings = at.settings; tables = c.save.new.self; replicas = at.replicas; closed = at.closed; lists = at.cache.lists } in
+    subst (λ (core : CoreView). KeepsLists kind shelf c.save.new.shelf core new) c.self.view_is
+    (save_keeps g.met.S.SliceStore.laws shelf c.save.new.shelf c.save.ensures.shelf old new
+    (subst (λ (core : CoreView). core.settings.servers ≤ length shelf) (sym c.self.view_is) c.requires.shelf)
+    (subst (λ (core : CoreView). IsInside kind shelf core) (sym c.self.view_is) c.requires.inside) refl)
+
+pub returns-in-Err-clause-lists : goal.returns-in-Err-clause-lists
+returns-in-Err-clause-lists g c =
+    let kind = g.S.SliceStore.kind in
+    let at = c.self.inside in
+    let shelf = c.args.shelf.now in
+    let old : CoreView = record { settings = at.settings; tables = at.tables; replicas = at.replicas; closed = at.closed; lists = at.cache.lists } in
+    let new : CoreView = record { settings = at.settings; tables = c.save.new.self; replicas = at.replicas; closed = at.closed; lists = at.cache.lists } in
+    subst (λ (core : CoreView). KeepsLists kind shelf c.save.new.shelf core new) c.self.view_is
+    (save_keeps g.met.S.SliceStore.laws shelf c.save.new.shelf c.save.ensures.shelf old new
+    (subst (λ (core : CoreView). core.settings.servers ≤ length shelf) (sym c.self.view_is) c.requires.shelf)
+    (subst (λ (core : CoreView). IsInside kind shelf core) (sym c.self.view_is) c.requires.inside) refl)

@@ -1,0 +1,79 @@
+-- What lines make of the lists that a core remembers.
+use Rattle.std.proofs.Common.{◌≡◌, ◌≤◌, ℕ, nat_lt, Bool, true, false, List, [], length, sym, ap, subst}
+use Rattle.std.specs.Bool.{MatchBool}
+use Rattle.wtf_base.specs.declared.settings.Settings.{Settings}
+use Rattle.wtf_dev.specs.Each.{EachFollows}
+use Rattle.wtf_dev.specs.Store.{StoreKind, KindLaws}
+use Rattle.wtf_replica.specs.Bytes.{byte_at}
+use Rattle.wtf_model.specs.declared.answer.Answer.{Answer}
+use Rattle.wtf_model.specs.declared.answer.Answer.TheVariants as answer
+use Rattle.wtf_model.specs.declared.answer.Word.TheVariants.{NoServer}
+use Rattle.wtf_region.specs.declared.dev.Dev.{Dev}
+use Rattle.wtf_region.specs.Cached.{CacheInside, CacheTrue}
+use Rattle.wtf_region.specs.Devs.{IsSoundDev, GoesOn, stores, remembered, told_in, inside_of}
+use Rattle.wtf_region.specs.Inside.{is_inside}
+use Rattle.wtf_region.proofs.Frames.{CacheInside-on, CacheTrue-on}
+use Rattle.wtf_clients.specs.Views.{TablesView}
+use Rattle.wtf_core.specs.Made.{IsMade}
+use Rattle.wtf_core.specs.Named.{IsInside}
+use Rattle.wtf_core.specs.Remembering.{KeepsLists}
+use Rattle.wtf_core.specs.Turns.{Switches, ServerTurn}
+use Rattle.wtf_core.specs.Views.{CoreView}
+
+-- what a core lends to a line
+pub sound_dev : {S : Type 0} (kind : StoreKind S) (dev : Dev S) (tables : TablesView) → IsMade dev.settings tables dev.replicas.now dev.ring.now
+    dev.cache.now → dev.settings.servers ≤ length (stores dev)
+    → CacheInside (inside_of kind dev) (remembered dev) → IsSoundDev kind dev
+sound_dev kind dev tables made enough lists = record {
+  replicas = made.replicas_are;
+  ring = made.ring_is;
+  shelf = enough;
+  cache = made.cache_is;
+  lists = lists;
+}
+
+-- and what it finds then
+pub goes_keeps : {S : Type 0} (kind : StoreKind S) (dev new : Dev S) (old next : CoreView) → GoesOn kind dev new [] → dev.settings ≡ old.settings → remembered
+    dev ≡ old.lists → next.lists ≡ remembered new
+    → KeepsLists kind (stores dev) (stores new) old next
+goes_keeps kind dev new old next goes settings was is = record {
+  inside = subst (CacheInside (is_inside kind (stores new) old.settings)) (sym is)
+      (subst (λ (st : Settings). CacheInside (is_inside kind (stores new) st) (remembered new)) settings
+      (subst (λ (st : Settings). CacheInside (is_inside kind (stores new) st) (remembered new)) goes.settings goes.sound.lists));
+  true_still = λ ranges h.
+      subst (CacheTrue (told_in kind new) old.settings.region ranges) (sym is)
+      (subst (λ (st : Settings). CacheTrue (told_in kind new) st.region ranges (remembered new)) settings
+      (subst (λ (st : Settings). CacheTrue (told_in kind new) st.region ranges (remembered new)) goes.settings
+      (goes.lists ranges
+      (subst (λ (st : Settings). CacheTrue (told_in kind dev) st.region ranges (remembered dev)) (sym settings)
+      (subst (CacheTrue (told_in kind dev) old.settings.region ranges) (sym was) h)))));
+}
+
+-- a line that is lent no store leaves them
+pub still_keeps : {S : Type 0} (kind : StoreKind S) (shelf : List S) (old next : CoreView) → IsInside kind shelf old → next.lists ≡ old.lists → KeepsLists
+    kind shelf shelf old next
+still_keeps kind shelf old next inside same = record {
+  inside = subst (CacheInside (is_inside kind shelf old.settings)) (sym same) inside.lists;
+  true_still = λ ranges h. subst (CacheTrue (byte_at kind shelf) old.settings.region ranges) (sym same) h;
+}
+
+-- and so does a save
+pub save_keeps : {S : Type 0} {kind : StoreKind S} → KindLaws kind → (before after : List S) → EachFollows kind before after [] → (old next : CoreView) →
+    old.settings.servers ≤ length before → IsInside kind before old
+    → next.lists ≡ old.lists → KeepsLists kind before after old next
+save_keeps {kind = kind} laws before after each old next enough inside same = record {
+  inside = subst (CacheInside (is_inside kind after old.settings)) (sym same) (CacheInside-on laws each old.settings enough old.lists inside.lists);
+  true_still = λ ranges h.
+      subst (CacheTrue (byte_at kind after) old.settings.region ranges) (sym same) (CacheTrue-on laws each old.settings enough old.settings.region ranges
+      old.lists inside.lists h);
+}
+
+-- and so does a server that goes down, or comes up
+server_same : (old new : CoreView) (k : ℕ) (down : Bool) (a : Answer) (there : Bool) → MatchBool there (Switches old new k down a)
+    ((a ≡ answer.Refused NoServer) × (new ≡ old)) → new.lists ≡ old.lists
+server_same old new k down a true h = ap (λ (core : CoreView). core.lists) h.rest
+server_same old new k down a false h = ap (λ (core : CoreView). core.lists) h.1
+
+pub server_keeps : {S : Type 0} (kind : StoreKind S) (shelf : List S) (old new : CoreView) (k : ℕ) (down : Bool) (a : Answer) → IsInside kind shelf old →
+    ServerTurn old new k down a → KeepsLists kind shelf shelf old new
+server_keeps kind shelf old new k down a inside h = still_keeps kind shelf old new inside (server_same old new k down a (nat_lt k old.settings.servers) h)

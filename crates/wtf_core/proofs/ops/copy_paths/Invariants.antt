@@ -1,6 +1,0 @@
-use Rattle.std.proofs.Common.{◌≡◌, take}
-use Rattle.wtf_core.proofs.ops.copy_paths.Given as goal
-
--- the paths so far are copied
-abbrev pub invariant-loop-path : goal.invariant-loop-path
-invariant-loop-path l = l.copied.items ≡ take l.path-index l.paths
