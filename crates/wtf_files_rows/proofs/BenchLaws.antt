@@ -7,26 +7,29 @@ use Rattle.std.proofs.lemmas.Bool.{cases_Bool, eqb-true, eq-eqb}
 use Rattle.std.proofs.lemmas.List.Elements.{All-nil}
 use Rattle.wtf_base.specs.declared.fault.Fault.{Fault}
 use Rattle.wtf_base.specs.declared.settings.Settings.{Settings}
+use Rattle.wtf_base.specs.declared.slice.Slice.{Slice}
 use Rattle.wtf_dev.specs.Memory.{StoreState, mem_store}
 use Rattle.wtf_dev.specs.MemoryLaws.{mem_store_laws}
 use Rattle.wtf_kv.specs.Seen.{last_seen, value_seen}
 use Rattle.wtf_kv.specs.Stores.{Store, is_pinned, times_pinned, versions_of, IsPinnedOnceMore}
 use Rattle.wtf_kv.proofs.PinLaws.{any-count, count-any}
-use Rattle.wtf_overlay.specs.Origin.{Place}
+use Rattle.wtf_overlay.specs.Origin.{Place, part_origin}
+use Rattle.wtf_overlay.specs.declared.part.Part.TheVariants.{Held}
 use Rattle.wtf_model.specs.declared.answer.Answer.{Answer}
 use Rattle.wtf_model.specs.declared.answer.Answer.TheVariants as answer
 use Rattle.wtf_model.specs.declared.answer.Word.{Word}
 use Rattle.wtf_values.specs.declared.key.Key.{Key}
 use Rattle.wtf_values.specs.declared.value.Value.{Value}
 use Rattle.wtf_values.specs.Keys.{key_cmp}
-use Rattle.wtf_meta.specs.Bytes.{ValueBytes, MapBytes}
+use Rattle.wtf_meta.specs.Bytes.{SliceBytes, ValueBytes, MapBytes, any_slice}
 use Rattle.wtf_meta.specs.Maps.{Map, AllFit, metadata_at}
 use Rattle.wtf_meta.proofs.MapBytes.{with_bytes}
 use Rattle.wtf_meta.proofs.Nothing.{nothing_kept}
 use Rattle.wtf_region.specs.declared.dev.Dev.{Dev}
-use Rattle.wtf_region.specs.Devs.{GoesOn, stores}
-use Rattle.wtf_region.specs.Cached.{AreFrom}
+use Rattle.wtf_region.specs.Devs.{GoesOn, stores, remembered, inside_of}
+use Rattle.wtf_region.specs.Cached.{AreFrom, CacheInside}
 use Rattle.wtf_region.specs.Inside.{is_inside, IsStoredInside}
+use Rattle.wtf_region.proofs.InsideLaws.{inside_stays}
 use Rattle.wtf_replay.specs.Views.{TxnView, begun}
 use Rattle.wtf_replay.specs.Fits.{IsFit}
 use Rattle.wtf_replay.specs.Insides.{IsInsideTxn}
@@ -37,19 +40,19 @@ use Rattle.wtf_replay.proofs.Insiding.{map_later}
 use Rattle.wtf_files_rows.specs.Benches.{IsLent, IsHeld}
 
 -- a first value of a key brings no byte but its own
-module _ (P : List Place → Bool) (v : Value) (m n : ℕ) where
-  one_bytes : (b : Bool) → ValueBytes P (Some v) → ValueBytes P (value_seen (cond b (Some (m, Some v)) None))
+module _ (P : List Place → Bool) (Q : Slice → Bool) (v : Value) (m n : ℕ) where
+  one_bytes : (b : Bool) → ValueBytes P Q (Some v) → ValueBytes P Q (value_seen (cond b (Some (m, Some v)) None))
   one_bytes true here = here
   one_bytes false here = tt
 
-  which_bytes : (b : Bool) (vs : List (ℕ × Option Value)) → ValueBytes P (Some v) → ValueBytes P (value_seen (last_seen n vs)) → ValueBytes P (value_seen (last_seen n (cond b ((m, Some v) ∷ []) vs)))
+  which_bytes : (b : Bool) (vs : List (ℕ × Option Value)) → ValueBytes P Q (Some v) → ValueBytes P Q (value_seen (last_seen n vs)) → ValueBytes P Q (value_seen (last_seen n (cond b ((m, Some v) ∷ []) vs)))
   which_bytes true vs here rest = one_bytes (nat_le m n) here
   which_bytes false vs here rest = rest
 
-pub seeded_bytes : (P : List Place → Bool) (old new : Store Key Value) (k : Key) (v : Value) (n : ℕ) → ((q : Key) → versions_of key_cmp new q ≡ cond (is_at (key_cmp k) q) ((old.number, Some v) ∷ []) (versions_of key_cmp old q))
-    → ValueBytes P (Some v) → MapBytes P (metadata_at old n) → MapBytes P (metadata_at new n)
-seeded_bytes P old new k v n are here map q =
-    subst (λ vs. ValueBytes P (value_seen (last_seen n vs))) (sym (are q)) (which_bytes P v old.number n (is_at (key_cmp k) q) (versions_of key_cmp old q) here (map q))
+pub seeded_bytes : (P : List Place → Bool) (Q : Slice → Bool) (old new : Store Key Value) (k : Key) (v : Value) (n : ℕ) → ((q : Key) → versions_of key_cmp new q ≡ cond (is_at (key_cmp k) q) ((old.number, Some v) ∷ []) (versions_of key_cmp old q))
+    → ValueBytes P Q (Some v) → MapBytes P Q (metadata_at old n) → MapBytes P Q (metadata_at new n)
+seeded_bytes P Q old new k v n are here map q =
+    subst (λ vs. ValueBytes P Q (value_seen (last_seen n vs))) (sym (are q)) (which_bytes P Q v old.number n (is_at (key_cmp k) q) (versions_of key_cmp old q) here (map q))
 
 -- what is lent goes on
 pub lent_on : (old new : Dev StoreState) → IsLent (stores old) old.replicas.now old.ring.now old.cache.now old.settings → GoesOn mem_store old new [] → IsLent (stores new) old.replicas.now old.ring.now new.cache.now old.settings
@@ -57,12 +60,19 @@ lent_on old new was on = record {
   replicas_are = was.replicas_are;
   ring_is = was.ring_is;
   enough = subst (λ (s : Settings). s.servers ≤ length (stores new)) on.settings on.sound.shelf;
-  cache_is = subst (λ r. AreFrom r.now new.cache.now) on.ring on.sound.cache;
+  places_are = subst (λ r. AreFrom r.now new.cache.now.places) on.ring on.sound.cache;
+  lists_are = subst (λ (s : Settings). CacheInside (is_inside mem_store (stores new) s) (remembered new)) on.settings on.sound.lists;
 }
 
 -- and a map that lay inside the stores does
 pub now_on : (old new : Dev StoreState) (w : Map) → old.settings.servers ≤ length (stores old) → GoesOn mem_store old new [] → IsStoredInside mem_store (stores old) old.settings w → IsStoredInside mem_store (stores new) old.settings w
 now_on old new w enough on here = map_later mem_store_laws on.each old.settings enough w here
+
+-- and a slice whose bytes did
+pub slice_on : (old new : Dev StoreState) (s : Slice) → old.settings.servers ≤ length (stores old) → GoesOn mem_store old new [] → SliceBytes (inside_of mem_store old) s → SliceBytes (inside_of mem_store new) s
+slice_on old new s enough on here = λ i below.
+    let places = part_origin (Held s) i in
+    subst (λ (x : Settings). is_inside mem_store (stores new) x places ≡ true) (sym on.settings) (inside_stays mem_store_laws on.each old.settings enough places (here i below))
 
 -- a number that was pinned once more is pinned, where a pin was taken that was there before
 pub still_pinned : (kv mid left after : Store Key Value) (n b : ℕ) → IsPinnedOnceMore n kv mid → KeepsPins mid left → IsPinnedOnceMore b after left → IsTrue (is_pinned kv b) → IsTrue (is_pinned after n)
@@ -132,7 +142,7 @@ module _ (shelf : List StoreState) (settings : Settings) where
         log = held.inside.log;
       });
       now = subst (λ m. IsIn (metadata_at after m)) (sym did.installed.number)
-          (subst IsIn (sym did.installed.map) (with_bytes (is_inside mem_store shelf settings) refl x.at.changes (metadata_at kv kv.number) held.now held.inside.hand.changes));
+          (subst IsIn (sym did.installed.map) (with_bytes (is_inside mem_store shelf settings) any_slice refl x.at.changes (metadata_at kv kv.number) held.now held.inside.hand.changes));
     }
     held_attempted (answer.Retry b n) did =
         let here : IsIn (metadata_at after kv.number) = subst IsIn (sym (maps kv.number (omega arith))) held.now in

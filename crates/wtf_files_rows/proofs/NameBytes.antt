@@ -1,5 +1,6 @@
 -- A call on names brings no byte.
 use Rattle.std.proofs.Common.{◌≡◌, ℕ, Bool, true, List, [], sym, subst}
+use Rattle.wtf_base.specs.declared.slice.Slice.{Slice}
 use Rattle.wtf_kv.specs.Stores.{Store}
 use Rattle.wtf_occ.specs.Attempts.{Attempted}
 use Rattle.wtf_occ.proofs.AttemptLaws.{map_seen-by}
@@ -20,7 +21,7 @@ use Rattle.wtf_meta.proofs.Named.{PiecesBytes-none}
 use Rattle.wtf_meta.proofs.Nothing.{nothing_kept}
 
 pub name_bytes : (x : Caller) (kv : Store Key Value) (old new : Attempted Key Delta) (o : Op (List ℕ)) (a : Answer) → IsNameStep x (seen kv old) old new o a → IsFreeToMove o nothing_open
-    → (P : List Place → Bool) → P [] ≡ true → MapBytes P (seen kv old) → MapBytes P (seen kv new)
-name_bytes x kv old new o a step free P hole map =
-    let names = (step.is_call nothing_open free).names P hole map (nothing_kept P) (PiecesBytes-none P) in
-    subst (λ (w : Map). MapBytes P w) (sym (map_seen-by key_cmp outcome_of kv old new step.keys step.edits step.grows)) (with_bytes P hole step.edits (seen kv old) map names.edits)
+    → (P : List Place → Bool) (Q : Slice → Bool) → P [] ≡ true → MapBytes P Q (seen kv old) → MapBytes P Q (seen kv new)
+name_bytes x kv old new o a step free P Q hole map =
+    let names = (step.is_call nothing_open free).names P Q hole map (nothing_kept P) (PiecesBytes-none P) tt in
+    subst (λ (w : Map). MapBytes P Q w) (sym (map_seen-by key_cmp outcome_of kv old new step.keys step.edits step.grows)) (with_bytes P Q hole step.edits (seen kv old) map names.edits)

@@ -1,9 +1,8 @@
 //! A transaction on a store whose tree is the root alone at first, over two servers in memory.
 
-ghost use Rattle.std.specs.Prelude.{List, Bool, IfOk};
-ghost use Rattle.wtf_overlay.specs.Origin.{Place};
-ghost use Rattle.wtf_meta.specs.Bytes.{MapBytes};
+ghost use Rattle.std.specs.Prelude.{IfOk};
 ghost use Rattle.wtf_meta.specs.Maps.{metadata_at};
+ghost use Rattle.wtf_files_rows.specs.Benches.{IsBare};
 
 use crate::ops::{Step, is_form, op};
 use crate::store::{Parts, made_parts, path};
@@ -64,8 +63,7 @@ impl Model for Bench {
 
 /// The root alone, at number 0.
 fn root_alone(alloc: Global) -> Result<Kv<Key, Value>, Fail>
-    ensures { IfOk result
-        (λ kv. (P : List Place → Bool) → MapBytes P (metadata_at kv kv.number)) }
+    ensures { IfOk result (λ kv. IsBare (metadata_at kv kv.number)) }
 {
     let mut kv: Kv<Key, Value> = Kv::new(alloc)?;
     kv.seed(Key::Path(path(alloc, "/")?), Value::Node(Node::Folder))?;

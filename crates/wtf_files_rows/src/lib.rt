@@ -16,6 +16,8 @@ mod rw;
 #[cfg(test)]
 mod slicing;
 #[cfg(test)]
+mod spilled;
+#[cfg(test)]
 mod steps;
 #[cfg(test)]
 mod store;

@@ -2,13 +2,14 @@
 
 ghost use Rattle.std.specs.Prelude.{IfOk, OnOk};
 ghost use Rattle.wtf_dev.specs.Memory.{mem_store};
+ghost use Rattle.wtf_meta.specs.Maps.{seen};
 ghost use Rattle.wtf_region.specs.Devs.{IsSoundDev, stores};
-ghost use Rattle.wtf_replica.specs.Copies.{IsInside};
+ghost use Rattle.wtf_region.specs.Inside.{IsStoredInside};
+ghost use Rattle.wtf_files_rows.specs.Benches.{IsBare};
 
-use crate::store::{FILE, NEVER, Parts, made_parts, settings};
+use crate::store::{FILE, NEVER, Parts, made_parts, settings, stored};
 use std::alloc::Global;
 use std::test::Fail;
-use wtf_base::Slice;
 use wtf_dev::MemStore;
 use wtf_kv::Kv;
 use wtf_meta::{Delta, Key, Value};
@@ -16,25 +17,23 @@ use wtf_occ::Attempt;
 use wtf_overlay::{Part, Piece};
 use wtf_region::{
     Added, Dev, FileEnd, add_at, add_pieces, file_end, file_len, pieces, put_pieces, region_list,
-    show, store_bytes,
+    show,
 };
 
-/// Stores ten digits that are to stand at an offset of the file.
-fn digits_stored(dev: &mut Dev<'_, MemStore>, off: u64) -> Result<Slice, Fail>
-    requires { IsSoundDev dev.old }
-    ensures sound { OnOk result (IsSoundDev dev.new) }
-    ensures inside { IfOk result (IsInside mem_store (stores dev.new)) }
+/// Stores ten digits, and lays them over the file at an offset.
+fn laid(
+    dev: &mut Dev<'_, MemStore>,
+    kv: &Kv<Key, Value>,
+    at: &mut Attempt<Key, Value>,
+    off: u64,
+) -> Result<(), Fail>
+    requires sound { IsSoundDev mem_store dev.old }
+    requires bare { IsBare (seen kv.now at.old) }
+    ensures sound { OnOk result (IsSoundDev mem_store dev.new) }
+    ensures inside { OnOk result (IsStoredInside mem_store (stores dev.new) dev.new.settings
+        (seen kv.now at.new)) }
 {
-    if off >= dev.settings.cap() {
-        return Err(Fail::from("an offset past the greatest length"));
-    }
-    let slice = store_bytes(dev, FILE, off, b"0123456789")?;
-    Ok(slice)
-}
-
-/// Lays a slice over the file at an offset.
-fn laid(at: &mut Attempt<Key, Value>, off: u64, slice: Slice) -> Result<(), Fail> {
-    let settings = settings()?;
+    let slice = stored(dev, off, b"0123456789")?;
     let len = slice.len() as u64;
     if off > 1000 || len > 1000 {
         return Err(Fail::from("a range that is too long"));
@@ -44,7 +43,7 @@ fn laid(at: &mut Attempt<Key, Value>, off: u64, slice: Slice) -> Result<(), Fail
         FILE,
         off,
         &[Piece::of(len, Part::Held(slice))],
-        settings,
+        dev.settings,
     )?;
     Ok(())
 }
@@ -58,7 +57,10 @@ fn piece_lens(
     off: u64,
     len: u64,
 ) -> Result<Vec<u64>, Fail>
-    requires { IsSoundDev dev.old }
+    requires sound { IsSoundDev mem_store dev.old }
+    requires inside { IsStoredInside mem_store (stores dev.old) dev.old.settings
+        (seen kv.now at.old) }
+    ensures { OnOk result (IsSoundDev mem_store dev.new) }
 {
     let cap = dev.settings.cap();
     if off > cap || len > cap - off || !kv.is_pinned(at.base()) {
@@ -79,8 +81,7 @@ fn entries(
     at: &mut Attempt<Key, Value>,
     region: u16,
 ) -> Result<Vec<(u32, u32)>, Fail>
-    requires { IsSoundDev dev.old }
-    ensures { OnOk result (IsSoundDev dev.new) }
+    requires { IsSoundDev mem_store dev.old }
 {
     if !kv.is_pinned(at.base()) {
         return Err(Fail::from("no pin"));
@@ -88,7 +89,10 @@ fn entries(
     let Some(Value::Region(value)) = at.read(kv, &Key::Region(FILE, region))? else {
         return Err(Fail::from("no region"));
     };
-    let list = region_list(dev, &value)?;
+    if value.base.is_some() {
+        return Err(Fail::from("a list in a slice"));
+    }
+    let list = region_list(alloc, dev, &value)?;
     let mut all = Vec::new(alloc);
     for i in 0..list.len() {
         let entry = list.get(i);
@@ -140,7 +144,9 @@ fn zeros_added_at(
 }
 
 /// A store that is pinned, and an attempt that has made the file.
-fn begun(alloc: Global) -> Result<(Kv<Key, Value>, Attempt<Key, Value>), Fail> {
+fn begun(alloc: Global) -> Result<(Kv<Key, Value>, Attempt<Key, Value>), Fail>
+    ensures bare { IfOk result (λ r. IsBare (seen r.0 r.1)) }
+{
     let mut kv = Kv::new(alloc)?;
     kv.pin(0)?;
     let mut at = Attempt::new(alloc, 0)?;
@@ -154,7 +160,9 @@ fn digits_laid(
     alloc: Global,
     kv: &Kv<Key, Value>,
     at: &mut Attempt<Key, Value>,
-) -> Result<(Vec<u64>, Vec<(u32, u32)>), Fail> {
+) -> Result<(Vec<u64>, Vec<(u32, u32)>), Fail>
+    requires { IsBare (seen kv.now at.old) }
+{
     let Parts {
         mut shelf,
         replicas,
@@ -169,19 +177,16 @@ fn digits_laid(
         cache: &mut cache,
         settings,
     };
-    let slice = digits_stored(&mut dev, 60)?;
-    laid(at, 60, slice)?;
-    let listed = entries(alloc, &mut dev, kv, at, 1)?;
+    laid(&mut dev, kv, at, 60)?;
     let lens = piece_lens(alloc, &mut dev, kv, at, 60, 10)?;
+    let listed = entries(alloc, &mut dev, kv, at, 1)?;
     Ok((lens, listed))
 }
 
 /// Whether ten digits at offset 60 lie in two pieces, and in one entry of the second region.
-fn are_laid(
-    alloc: Global,
-    kv: &Kv<Key, Value>,
-    at: &mut Attempt<Key, Value>,
-) -> Result<bool, Fail> {
+fn are_laid(alloc: Global, kv: &Kv<Key, Value>, at: &mut Attempt<Key, Value>) -> Result<bool, Fail>
+    requires { IsBare (seen kv.now at.old) }
+{
     let (lens, listed) = digits_laid(alloc, kv, at)?;
     Ok(lens.as_slice() == [4, 6].as_slice() && listed.as_slice() == [(0, 6)].as_slice())
 }
@@ -203,7 +208,9 @@ fn steps_over_a_border(
     alloc: Global,
     kv: &Kv<Key, Value>,
     at: &mut Attempt<Key, Value>,
-) -> Result<[bool; 5], Fail> {
+) -> Result<[bool; 5], Fail>
+    requires { IsBare (seen kv.now at.old) }
+{
     let digits = are_laid(alloc, kv, at)?;
     let whole = len(kv, at)?;
     // Of 262,144 bytes at most 262,074 are left.
@@ -252,9 +259,9 @@ fn zeros_are_added_where_the_file_ends(rt: HostRuntime) -> Result<(), Fail> {
 
 /// Stores ten digits, and shows the middle of two zeros with the digits behind them.
 fn show_middle(dev: &mut Dev<'_, MemStore>, out: &mut Vec<u8>) -> Result<(), Fail>
-    requires { IsSoundDev dev.old }
+    requires { IsSoundDev mem_store dev.old }
 {
-    let slice = digits_stored(dev, 64)?;
+    let slice = stored(dev, 64, b"0123456789")?;
     let len = slice.len() as u64;
     if len < 10 {
         return Err(Fail::from("too few digits"));

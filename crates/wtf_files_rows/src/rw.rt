@@ -185,7 +185,7 @@ fn last_came(
     s: &mut Session,
     op: &RwOp<'_>,
 ) -> Result<(String, u64, u64), Fail>
-    requires sound { IsSoundDev dev.old }
+    requires sound { IsSoundDev mem_store dev.old }
     requires inside { AreInside mem_store (stores dev.old) dev.old.settings
         (seen kv.now at.old) s.old }
 {

@@ -1,6 +1,7 @@
 //! Calls on names, bytes and slices one by one, on an attempt that has made a file.
 
 ghost use Rattle.std.specs.Prelude.{◌≡◌, [], List, Bool, true, OnOk};
+ghost use Rattle.wtf_base.specs.declared.slice.Slice.{Slice};
 ghost use Rattle.wtf_overlay.specs.Origin.{Place};
 ghost use Rattle.wtf_meta.specs.Bytes.{MapBytes};
 ghost use Rattle.wtf_dev.specs.Memory.{mem_store};
@@ -33,8 +34,8 @@ fn create_made(
     new: InodeId,
     p: &Path,
 ) -> Result<String, Fail>
-    ensures { OnOk result ((P : List Place → Bool) → P [] ≡ true →
-        MapBytes P (seen kv.now at.old) → MapBytes P (seen kv.now at.new)) }
+    ensures { OnOk result ((P : List Place → Bool) (Q : Slice → Bool) → P [] ≡ true →
+        MapBytes P Q (seen kv.now at.old) → MapBytes P Q (seen kv.now at.new)) }
 {
     if new.index < 1 || !kv.is_pinned(at.base()) {
         return Err(Fail::from("a call out of form"));
@@ -51,8 +52,8 @@ fn mkdir_made(
     at: &mut Attempt<Key, Value>,
     p: &Path,
 ) -> Result<String, Fail>
-    ensures { OnOk result ((P : List Place → Bool) → P [] ≡ true →
-        MapBytes P (seen kv.now at.old) → MapBytes P (seen kv.now at.new)) }
+    ensures { OnOk result ((P : List Place → Bool) (Q : Slice → Bool) → P [] ≡ true →
+        MapBytes P Q (seen kv.now at.old) → MapBytes P Q (seen kv.now at.new)) }
 {
     if !kv.is_pinned(at.base()) {
         return Err(Fail::from("a call out of form"));
@@ -98,10 +99,10 @@ fn rw_came(
     s: &mut Session,
     op: &Op<Bytes>,
 ) -> Result<String, Fail>
-    requires sound { IsSoundDev dev.old }
+    requires sound { IsSoundDev mem_store dev.old }
     requires inside { AreInside mem_store (stores dev.old) dev.old.settings
         (seen kv.now at.old) s.old }
-    ensures sound { OnOk result (IsSoundDev dev.new) }
+    ensures sound { OnOk result (IsSoundDev mem_store dev.new) }
     ensures inside { OnOk result (AreInside mem_store (stores dev.new) dev.new.settings
         (seen kv.now at.new) s.new) }
 {
@@ -126,10 +127,10 @@ fn slice_came(
     new: InodeId,
     op: &Op<Bytes>,
 ) -> Result<String, Fail>
-    requires sound { IsSoundDev dev.old }
+    requires sound { IsSoundDev mem_store dev.old }
     requires inside { AreInside mem_store (stores dev.old) dev.old.settings
         (seen kv.now at.old) s.old }
-    ensures sound { OnOk result (IsSoundDev dev.new) }
+    ensures sound { OnOk result (IsSoundDev mem_store dev.new) }
     ensures inside { OnOk result (AreInside mem_store (stores dev.new) dev.new.settings
         (seen kv.now at.new) s.new) }
 {
@@ -154,10 +155,10 @@ fn op_came(
     new: InodeId,
     op: &Op<Bytes>,
 ) -> Result<String, Fail>
-    requires sound { IsSoundDev dev.old }
+    requires sound { IsSoundDev mem_store dev.old }
     requires inside { AreInside mem_store (stores dev.old) dev.old.settings
         (seen kv.now at.old) s.old }
-    ensures sound { OnOk result (IsSoundDev dev.new) }
+    ensures sound { OnOk result (IsSoundDev mem_store dev.new) }
     ensures inside { OnOk result (AreInside mem_store (stores dev.new) dev.new.settings
         (seen kv.now at.new) s.new) }
 {
@@ -184,10 +185,10 @@ fn step_came(
     s: &mut Session,
     step_at: (Step, u32),
 ) -> Result<String, Fail>
-    requires sound { IsSoundDev dev.old }
+    requires sound { IsSoundDev mem_store dev.old }
     requires inside { AreInside mem_store (stores dev.old) dev.old.settings
         (seen kv.now at.old) s.old }
-    ensures sound { OnOk result (IsSoundDev dev.new) }
+    ensures sound { OnOk result (IsSoundDev mem_store dev.new) }
     ensures inside { OnOk result (AreInside mem_store (stores dev.new) dev.new.settings
         (seen kv.now at.new) s.new) }
 {
@@ -210,10 +211,10 @@ pub(crate) fn rows_come(
     s: &mut Session,
     rows: &[(Step, &str)],
 ) -> Result<(), Fail>
-    requires sound { IsSoundDev dev.old }
+    requires sound { IsSoundDev mem_store dev.old }
     requires inside { AreInside mem_store (stores dev.old) dev.old.settings
         (seen kv.now at.old) s.old }
-    ensures sound { OnOk result (IsSoundDev dev.new) }
+    ensures sound { OnOk result (IsSoundDev mem_store dev.new) }
     ensures inside { OnOk result (AreInside mem_store (stores dev.new) dev.new.settings
         (seen kv.now at.new) s.new) }
 {

@@ -1,20 +1,23 @@
 //! What calls are lent: two servers with two copies of a slice, and regions of 64 bytes.
 
-ghost use Rattle.std.specs.Prelude.{◌≡◌, [], List, Bool, length, true, IfOk, OnOk};
+ghost use Rattle.std.specs.Prelude.{◌≡◌, [], length, IfOk, OnOk};
+ghost use Rattle.wtf_dev.specs.Memory.{mem_store};
 ghost use Rattle.wtf_kv.specs.Stores.{Store};
-ghost use Rattle.wtf_overlay.specs.Origin.{Place};
-ghost use Rattle.wtf_meta.specs.Bytes.{MapBytes};
+ghost use Rattle.wtf_meta.specs.Bytes.{SliceBytes};
 ghost use Rattle.wtf_meta.specs.Maps.{seen};
+ghost use Rattle.wtf_region.specs.Devs.{IsSoundDev, GoesOn, stores, inside_of};
+ghost use Rattle.wtf_replica.specs.Copies.{IsInside};
 ghost use Rattle.wtf_replica.specs.Downs.{settings_of};
+ghost use Rattle.wtf_files_rows.specs.Benches.{IsBare};
 
 use std::alloc::Global;
 use std::test::Fail;
-use wtf_base::{InodeId, Settings, TxId};
+use wtf_base::{InodeId, Settings, Slice, TxId};
 use wtf_dev::{MemStore, Shelf};
 use wtf_kv::Kv;
 use wtf_occ::Attempt;
 use wtf_path::Path;
-use wtf_region::RegionCache;
+use wtf_region::{Dev, RegionCache, store_bytes};
 use wtf_replica::Replicas;
 use wtf_ring::Ring;
 use wtf_values::{Delta, Key, NameSet, Node, Value};
@@ -74,7 +77,8 @@ pub(crate) fn made_parts(alloc: Global, fails: u64, up: u8) -> Result<Parts, Fai
     ensures replicas { IfOk result (λ p. settings_of p.replicas ≡ p.settings) }
     ensures ring { IfOk result (λ p. p.ring.servers ≡ p.settings.servers) }
     ensures shelf { IfOk result (λ p. length p.shelf ≡ 2) }
-    ensures cache { IfOk result (λ p. p.cache ≡ []) }
+    ensures places { IfOk result (λ p. p.cache.places ≡ []) }
+    ensures lists { IfOk result (λ p. p.cache.lists ≡ []) }
 {
     let settings = settings()?;
     let shelf = two_stores(alloc, fails)?;
@@ -90,14 +94,28 @@ pub(crate) fn made_parts(alloc: Global, fails: u64, up: u8) -> Result<Parts, Fai
     })
 }
 
+/// Stores bytes that are to stand at an offset of the file.
+pub(crate) fn stored(dev: &mut Dev<'_, MemStore>, off: u64, bytes: &[u8]) -> Result<Slice, Fail>
+    requires { IsSoundDev mem_store dev.old }
+    ensures dev { OnOk result (GoesOn mem_store dev.old dev.new []) }
+    ensures inside { IfOk result (IsInside mem_store (stores dev.new)) }
+    ensures bytes { IfOk result (SliceBytes (inside_of mem_store dev.new)) }
+{
+    if off >= dev.settings.cap() || bytes.is_empty() || bytes.len() > 1000 {
+        return Err(Fail::from("an offset past the greatest length, or too few bytes"));
+    }
+    let slice = store_bytes(dev, FILE, off, bytes)?;
+    Ok(slice)
+}
+
 pub(crate) fn path(alloc: Global, text: &str) -> Result<Path, Fail> {
     Ok(Path::parse(alloc, text.as_bytes())?)
 }
 
 /// Makes the root, the directory `/d` and the file `/a`.
 fn tree_made(alloc: Global, at: &mut Attempt<Key, Value>) -> Result<(), Fail>
-    ensures { OnOk result ((kv : Store Key Value) (P : List Place → Bool) → P [] ≡ true →
-        MapBytes P (seen kv at.old) → MapBytes P (seen kv at.new)) }
+    ensures { OnOk result
+        ((kv : Store Key Value) → IsBare (seen kv at.old) → IsBare (seen kv at.new)) }
 {
     let root = path(alloc, "/")?;
     at.delta(Key::Path(root), Delta::Put(Value::Node(Node::Folder)))?;
@@ -114,8 +132,7 @@ fn tree_made(alloc: Global, at: &mut Attempt<Key, Value>) -> Result<(), Fail>
 
 /// An attempt that has made the root, the directory `/d` and the file `/a`.
 pub(crate) fn begun(alloc: Global) -> Result<(Kv<Key, Value>, Attempt<Key, Value>), Fail>
-    ensures bytes { IfOk result
-        (λ r. (P : List Place → Bool) → P [] ≡ true → MapBytes P (seen r.0 r.1)) }
+    ensures bare { IfOk result (λ r. IsBare (seen r.0 r.1)) }
 {
     let mut kv: Kv<Key, Value> = Kv::new(alloc)?;
     kv.pin(0)?;

@@ -11,6 +11,7 @@ pub(crate) fn came_text(alloc: Global, came: Result<Answer, Fault>) -> Result<St
     match came {
         Ok(answer) => text(alloc, &answer),
         Err(Fault::Read(k)) => Ok(format!(in alloc; "fault read {}", k.0)?),
+        Err(Fault::Damaged(k)) => Ok(format!(in alloc; "damaged {}", k.0)?),
         Err(Fault::Write) => Ok(String::from_str(alloc, "fault write")?),
         Err(_) => Ok(String::from_str(alloc, "another fault")?),
     }

@@ -16,7 +16,7 @@ const REFUSED: [(usize, usize, u8, &[u8]); 3] = [
 ];
 
 /// An image with another byte at one place, where it has such a place.
-fn spoiled(alloc: Global, image: &[u8], at: usize, byte: u8) -> Result<Vec<u8>, Fail> {
+pub(crate) fn spoiled(alloc: Global, image: &[u8], at: usize, byte: u8) -> Result<Vec<u8>, Fail> {
     let mut spoiled = image.to_vec(alloc)?;
     if let Some(place) = spoiled.get_mut(at) {
         *place = byte;

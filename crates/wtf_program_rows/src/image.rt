@@ -1,5 +1,6 @@
 //! Images both ways, and those that are refused.
 
+use crate::damage::spoiled;
 use crate::devices::stores;
 use crate::texts::EMPTY_IMAGE;
 use std::alloc::Global;
@@ -24,6 +25,23 @@ const FILE_IMAGE: [u8; 106] = [
     0, 0, 0,
 ];
 
+/// The same with another region 0: up to 8, over the first 5 bytes of a list that lies in a slice, one entry.
+pub(crate) const SPILLED_IMAGE: [u8; 125] = [
+    0x57, 0x54, 0x46, 0x49, 0x4d, 0x47, 0x30, 0x31, 1, 1, 0, 0, 0, 64, 0, 0, 0, 0, 0, 0, 0, 3, 0,
+    0, 0, 0, 0, 0, 0, 2, 0, 0, 0, 2, 0, 1, 0x2f, 0, 0, 2, 0x2f, 0x61, 1, 0, 0, 0, 0, 0, 0, 0, 1, 0,
+    0, 0, 2, 0, 0, 0, 1, 0, 0, 0, 0, 0, 0, 0, 1, 0, 0, 0, 2,
+    // Its last region, one region, its number, and its end.
+    0, 0, 0, 1, 0, 0, 0, 0, 0, 8,
+    // The base: 5 bytes of it are visible, and it lies in 28 bytes of server 0, file 0, from offset 6 on.
+    1, 0, 0, 0, 5, 0, 0, 0, 28, 1, 0, 0, 0, 0, 0, 0, 0, 0, 0, 6,
+    // One entry at 0, of one byte of server 0, file 0, at offset 5.
+    0, 0, 0, 1, 0, 0, 0, 0, 0, 0, 0, 1, 1, 1, 0, 0, 0, 0, 0, 0, 0, 0, 0, 5,
+];
+
+/// What file 0 of server 0 then holds: six bytes, and a list of one entry at 2, of the first four of them.
+pub(crate) const SPILLED_STORE: &[u8] =
+    b"abcdefWTFL\x00\x00\x00\x01\x00\x00\x00\x02\x00\x00\x00\x04\x01\x01\x00\x00\x00\x00\x00\x00\x00\x00\x00\x00";
+
 /// Paths `/` and `/a/b`, both directories, and no file: what may stand behind the first 30 bytes.
 const NO_PARENT: [u8; 19] = [
     0, 0, 0, 2, 0, 1, 0x2f, 0, 0, 4, 0x2f, 0x61, 0x2f, 0x62, 0, 0, 0, 0, 0,
@@ -31,9 +49,32 @@ const NO_PARENT: [u8; 19] = [
 
 /// An image, what the store of server 0 holds, and what is loaded: the servers, the replicas, the size of a region, the
 /// next transaction, and the number of installs.
-const LOADED: [(&[u8], &[u8], (u8, u8, u32, u64, u64)); 2] = [
+const LOADED: [(&[u8], &[u8], (u8, u8, u32, u64, u64)); 3] = [
     (EMPTY_IMAGE, b"", (4, 2, 65_536, 1, 0)),
     (&FILE_IMAGE, b"abcdef", (1, 1, 64, 2, 3)),
+    (&SPILLED_IMAGE, SPILLED_STORE, (1, 1, 64, 2, 3)),
+];
+
+/// What is refused of the image with a spilled list, where the byte at a place is this one.
+const SPOILED: [(usize, u8, Option<LoadError>); 12] = [
+    // How far the list is seen: to the end, not at all, and past the end.
+    (85, 8, None),
+    (85, 0, Some(LoadError::NotAnImage)),
+    (85, 9, Some(LoadError::NotAnImage)),
+    // Neither no list nor one.
+    (81, 2, Some(LoadError::NotAnImage)),
+    // The length of its slice: none, and past the store.
+    (89, 0, Some(LoadError::NotAnImage)),
+    (89, 29, Some(LoadError::PointerOutside)),
+    // Its offset: past 2^63 - 1, and past the store.
+    (93, 128, Some(LoadError::NotAnImage)),
+    (100, 7, Some(LoadError::PointerOutside)),
+    // A server and a file that are not there.
+    (91, 1, Some(LoadError::PointerOutside)),
+    (92, 8, Some(LoadError::PointerOutside)),
+    // The region ends past 64 bytes; and there is no server.
+    (80, 65, Some(LoadError::BadTree)),
+    (8, 0, Some(LoadError::BadSettings)),
 ];
 
 fn joined(alloc: Global, front: &[u8], back: &[u8]) -> Result<Vec<u8>, Fail> {
@@ -52,7 +93,7 @@ fn no_server(alloc: Global) -> Result<Vec<u8>, Fail> {
 }
 
 /// 16 stores; file 0 of the first has these bytes.
-fn holding(alloc: Global, bytes: &[u8]) -> Result<Shelf<MemStore>, Fail> {
+pub(crate) fn holding(alloc: Global, bytes: &[u8]) -> Result<Shelf<MemStore>, Fail> {
     let mut shelf = stores(alloc, 16, 0, None)?;
     if shelf.len() > 0 {
         shelf.store(0).append(0, bytes).ok().ok_or("stored")?;
@@ -115,6 +156,24 @@ fn region_of(loaded: &Loaded) -> Option<(u32, usize)> {
     }
 }
 
+/// How far the spilled list of region 0 of the file is seen, and the length of its slice.
+fn spilled_in(loaded: &Loaded) -> Option<(u32, u32)> {
+    let inode = InodeId {
+        tx: TxId(1),
+        index: 2,
+    };
+    match loaded
+        .kv
+        .read_at(loaded.kv.number(), &Key::Region(inode, 0))
+    {
+        Some(Value::Region(region)) => match region.base {
+            Some(spill) => Some((spill.visible, spill.slice.len())),
+            None => None,
+        },
+        _ => None,
+    }
+}
+
 /// Whether the root has this name.
 fn has_name(alloc: Global, loaded: &Loaded, name: &[u8]) -> Result<bool, Fail> {
     let key = Key::Dir(Path::parse(alloc, b"/")?);
@@ -141,6 +200,14 @@ fn a_file_is_read(rt: HostRuntime) -> Result<(), Fail> {
     let loaded = loaded(rt.alloc(), &FILE_IMAGE, b"abcdef")?;
     assert_eq!(rt; region_of(&loaded), Some((6, 1)));
     assert!(rt; has_name(rt.alloc(), &loaded, b"a")?);
+    Ok(())
+}
+
+#[test]
+fn a_spilled_list_is_read(rt: HostRuntime) -> Result<(), Fail> {
+    let loaded = loaded(rt.alloc(), &SPILLED_IMAGE, SPILLED_STORE)?;
+    assert_eq!(rt; region_of(&loaded), Some((8, 1)));
+    assert_eq!(rt; spilled_in(&loaded), Some((5, 28)));
     Ok(())
 }
 
@@ -178,6 +245,19 @@ fn other_shapes_are_no_image(rt: HostRuntime) -> Result<(), Fail> {
             early_refusal(alloc, &FILE_IMAGE[..n]),
             Some(LoadError::NotAnImage),
             "{n}"
+        );
+    }
+    Ok(())
+}
+
+#[test]
+fn spilled_lists_are_refused(rt: HostRuntime) -> Result<(), Fail> {
+    for (at, byte, want) in SPOILED {
+        let image = spoiled(rt.alloc(), &SPILLED_IMAGE, at, byte)?;
+        assert_eq!(rt;
+            refusal(rt.alloc(), image.as_slice(), SPILLED_STORE)?,
+            want,
+            "byte {at}"
         );
     }
     Ok(())

@@ -22,6 +22,8 @@ mod rows;
 #[cfg(test)]
 mod runs;
 #[cfg(test)]
+mod spilled;
+#[cfg(test)]
 mod texts;
 #[cfg(test)]
 mod told;

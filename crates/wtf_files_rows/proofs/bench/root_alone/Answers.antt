@@ -14,7 +14,7 @@ pub returns : goal.returns
 returns c =
     let empty : Store Key Value = record { number = 0; pins = []; cells = [] } in
     let first : c.in_ok-kv.kv ≡ empty = let e = c.in_ok-kv.ensures in let w = c.in_ok-kv.was in cc in
-    λ P. let n = c.seed-2.new.self.number in
-    let none : MapBytes P (metadata_at c.in_ok-kv.kv n) = subst (λ (s : Store Key Value). MapBytes P (metadata_at s n)) (sym first) (λ q. tt {0}) in
-    seeded_bytes P c.seed.new.self c.seed-2.new.self (Dir c.in_ok-path-2.field-0) (value.Names c.new-2.result) n c.in_ok-seed-2.ensures.ok (tt {0})
-    (seeded_bytes P c.in_ok-kv.kv c.seed.new.self (Path c.in_ok-path.field-0) (value.Node Folder) n c.in_ok-seed.ensures.ok (tt {0}) none)
+    λ P Q hole. let n = c.seed-2.new.self.number in
+    let none : MapBytes P Q (metadata_at c.in_ok-kv.kv n) = subst (λ (s : Store Key Value). MapBytes P Q (metadata_at s n)) (sym first) (λ q. tt {0}) in
+    seeded_bytes P Q c.seed.new.self c.seed-2.new.self (Dir c.in_ok-path-2.field-0) (value.Names c.new-2.result) n c.in_ok-seed-2.ensures.ok (tt {0})
+    (seeded_bytes P Q c.in_ok-kv.kv c.seed.new.self (Path c.in_ok-path.field-0) (value.Node Folder) n c.in_ok-seed.ensures.ok (tt {0}) none)

@@ -10,7 +10,7 @@ use Rattle.wtf_files_rows.proofs.region.show_middle.Goals as goal
 
 pub show-requires-clause-readable : goal.show-requires-clause-readable
 show-requires-clause-readable c =
-    let dev = c.digits_stored.new.dev in
+    let dev = c.stored.new.dev in
     let Can : Part → Type 0 = λ x. IsReadablePart mem_store (is_down_in dev) (stores dev) x in
     let P : Piece → Type 0 = λ p. Can p.part in
     All-cons P c.of-zeros.result (c.of-digits.result ∷ []) (subst Can (sym c.of-zeros.ensures.part) tt)

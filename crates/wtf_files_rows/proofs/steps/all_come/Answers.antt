@@ -1,6 +1,7 @@
 use Rattle.std.proofs.Common.{Bool, List, refl, sym, subst}
 use Rattle.wtf_dev.specs.Memory.{mem_store}
 use Rattle.wtf_overlay.specs.Origin.{Place}
+use Rattle.wtf_meta.specs.Bytes.{any_slice}
 use Rattle.wtf_meta.specs.Sessions.{SessionView, SessionBytes}
 use Rattle.wtf_meta.proofs.Nothing.{nothing_kept}
 use Rattle.wtf_region.specs.Inside.{is_inside}
@@ -10,4 +11,4 @@ use Rattle.wtf_files_rows.proofs.steps.all_come.Goals as goal
 pub rows_come-requires-clause-inside : goal.rows_come-requires-clause-inside
 rows_come-requires-clause-inside g c =
     let P : List Place → Bool = is_inside mem_store c.in_ok-shelf.field-0.shelf c.in_ok-shelf.field-0.settings in
-    (c.in_ok-kv.ensures.bytes P refl, subst (λ (v : SessionView). SessionBytes P v) (sym c.in_ok-s.ensures) (nothing_kept P))
+    (c.in_ok-kv.ensures.bare P any_slice refl, subst (λ (v : SessionView). SessionBytes P v) (sym c.in_ok-s.ensures) (nothing_kept P))

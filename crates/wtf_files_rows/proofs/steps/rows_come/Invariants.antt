@@ -7,6 +7,6 @@ use Rattle.wtf_files_rows.proofs.steps.rows_come.Given as goal
 -- what is lent is sound, and all bytes lie inside the stores
 abbrev pub invariant-loop-step : goal.invariant-loop-step
 invariant-loop-step g l = record {
-  sound : IsSoundDev l.dev;
+  sound : IsSoundDev mem_store l.dev;
   inside : AreInside mem_store (stores l.dev) l.dev.settings (seen l.kv l.at) l.s;
 }

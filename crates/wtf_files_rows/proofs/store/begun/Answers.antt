@@ -4,8 +4,8 @@ use Rattle.wtf_occ.specs.Attempts.{Attempted}
 use Rattle.wtf_values.specs.declared.key.Key.{Key}
 use Rattle.wtf_values.specs.declared.value.Delta.{Delta}
 use Rattle.wtf_values.specs.declared.value.Value.{Value}
-use Rattle.wtf_meta.specs.Bytes.{MapBytes}
 use Rattle.wtf_meta.specs.Maps.{seen}
+use Rattle.wtf_files_rows.specs.Benches.{IsBare}
 use Rattle.wtf_files_rows.proofs.store.begun.Goals as goal
 
 pub returns : goal.returns
@@ -15,11 +15,8 @@ returns c =
     let store : Store Key Value = record { number = 0; pins = []; cells = [] } in
     let at : c.in_ok-at.at ≡ empty = let e = c.in_ok-at.ensures in let w = c.in_ok-at.was in cc in
     let first : c.in_ok-kv.kv ≡ store = let e = c.in_ok-kv.ensures in let w = c.in_ok-kv.was in cc in
-    record {
-      bytes = λ P hole.
-          let none : MapBytes P (seen kv c.in_ok-at.at) =
-          subst (λ (a : Attempted Key Delta). MapBytes P (seen kv a)) (sym at)
-          (subst (λ (s : Store Key Value). MapBytes P (seen s empty)) (sym c.in_ok-pin.ensures.ok)
-          (subst (λ (s : Store Key Value). MapBytes P (seen (record s { pins = s.pins ++ 0 ∷ [] }) empty)) (sym first) (λ q. tt))) in
-          c.in_ok-tree_made.ensures kv P hole none;
-    }
+    let none : IsBare (seen kv c.in_ok-at.at) =
+    subst (λ (a : Attempted Key Delta). IsBare (seen kv a)) (sym at)
+    (subst (λ (s : Store Key Value). IsBare (seen s empty)) (sym c.in_ok-pin.ensures.ok)
+    (subst (λ (s : Store Key Value). IsBare (seen (record s { pins = s.pins ++ 0 ∷ [] }) empty)) (sym first) (λ P Q hole q. tt))) in
+    record { bare = c.in_ok-tree_made.ensures kv none }

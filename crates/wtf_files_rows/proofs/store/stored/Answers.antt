@@ -1,0 +1,14 @@
+use Rattle.std.proofs.Common.{sym, subst}
+use Rattle.wtf_base.specs.declared.settings.Settings.{Settings}
+use Rattle.wtf_dev.specs.Memory.{mem_store}
+use Rattle.wtf_region.specs.Devs.{stores}
+use Rattle.wtf_region.specs.Inside.{IsOnServers}
+use Rattle.wtf_region.proofs.InsideLaws.{slice_inside}
+use Rattle.wtf_files_rows.proofs.store.stored.Goals as goal
+
+pub returns-clause-bytes : goal.returns-clause-bytes
+returns-clause-bytes c =
+    let dev = c.store_bytes.new.dev in
+    let s = c.in_ok-slice.slice in
+    let made = c.in_ok-slice.ensures in
+    slice_inside mem_store (stores dev) dev.settings s made.inside (subst (λ (x : Settings). IsOnServers x.servers s) (sym made.dev.settings) made.known)
