@@ -28,8 +28,9 @@ test: ## the gate, rt ci, on everything (the first time, the longest)
 bench: build ## print tables of what calls and lines cost (minutes)
 	@tools/bench
 
-hostile: build ## run the program over devices that fail, cut scripts and damaged images (minutes)
+hostile: build ## run the program over devices that fail, cut scripts, damaged images, and want of memory (minutes)
 	@cd crates/wtf_hostile && exec rt run -- more
+	@tools/hostile-memory
 
 clean: ## remove what was built (at once)
 	rm -rf build crates/*/out
