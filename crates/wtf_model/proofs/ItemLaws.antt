@@ -17,8 +17,8 @@ use Rattle.wtf_model.specs.Session.{Session}
 use Rattle.wtf_model.specs.Done.{Done}
 use Rattle.wtf_model.specs.Call.{call}
 use Rattle.wtf_model.specs.Items.{same_item, is_among, meets, source_reads, reads, changes, unless_refused, writes, reads_from, writes_from}
-use Rattle.wtf_model.specs.Transaction.{Transaction, session_from}
-use Rattle.wtf_model.specs.Steps.{touch, with_each}
+use Rattle.wtf_model.specs.Transaction.{session_from}
+use Rattle.wtf_model.specs.Steps.{with_each}
 
 -- ---- items that are the same
 
@@ -162,20 +162,3 @@ module _ {X : Type 0} (f : X → X) where
 
   pub get-each_some : (m : FinMap nat_cmp X) (q : ℕ) (x : X) → get m q ≡ Some x → get (with_each f m) q ≡ Some (f x)
   get-each_some m q x there = get-each m q ∙ ap (option_map f) there
-
--- what a client has is the same, but for what others have changed since
-abbrev pub IsBeside : Option Transaction → Option Transaction → Type 0
-IsBeside None None = Unit {0}
-IsBeside (Some t) (Some u) = (items : List Item) × (u ≡ record t { touched = items })
-IsBeside o p = ⊥
-
-pub IsBeside-itself : (o : Option Transaction) → IsBeside o o
-IsBeside-itself None = tt
-IsBeside-itself (Some t) = (t.touched, refl)
-
-pub IsBeside-same : (o p : Option Transaction) → p ≡ o → IsBeside o p
-IsBeside-same o p e = subst (IsBeside o) (sym e) (IsBeside-itself o)
-
-pub IsBeside-touched : (items : List Item) (o p : Option Transaction) → p ≡ option_map (touch items) o → IsBeside o p
-IsBeside-touched items None p e = subst (IsBeside None) (sym e) tt
-IsBeside-touched items (Some t) p e = subst (IsBeside (Some t)) (sym e) (t.touched ++ items, refl)

@@ -1,9 +1,8 @@
--- Laws of lines with their answers: one more line, weaker promises, and the machine beside its lines.
+-- Laws of lines with their answers: one more line, and the machine beside its lines.
 use Rattle.std.proofs.Common.{◌≡◌, suc, ◌+◌, Bool, if◌then◌else◌, List, [], ◌∷◌, ◌++◌, length, Ok, Err, refl, ap, ◌∙◌, subst, arith}
 use Rattle.wtf_model.specs.declared.answer.Answer.{Answer}
 use Rattle.wtf_model.specs.Steps.{Machine, Accepts, after, after_all}
-use Rattle.wtf_model.specs.Lines.{Line, state_after, AlongBy, count_by, MayLine, MayLineCaused, after_line, Along, machine_after, events_of, answers_to}
-use Rattle.wtf_model.proofs.NotBuilt.{MayCaused-may}
+use Rattle.wtf_model.specs.Lines.{Line, state_after, AlongBy, count_by, MayLine, Along, machine_after, events_of, answers_to}
 
 module _ {S : Type 0} (next : S → Line → Answer → S) where
   pub state_after-push : (s : S) (lines : List Line) (answers : List Answer) (line : Line) (a : Answer) → length lines ≡ length answers
@@ -29,15 +28,6 @@ module _ {S : Type 0} (next : S → Line → Answer → S) where
   AlongBy-push P s [] (b ∷ answers) line a h here = absurd h
   AlongBy-push P s (l ∷ lines) [] line a h here = absurd h
   AlongBy-push P s (l ∷ lines) (b ∷ answers) line a h here = (h.0, AlongBy-push P (next s l b) lines answers line a h.1 here)
-
-  -- what holds at each line may be weakened
-  pub AlongBy-weaker : (P Q : S → Line → Answer → Type 0) → ((s : S) (line : Line) (a : Answer) → P s line a → Q s line a)
-      → (s : S) (lines : List Line) (answers : List Answer) → AlongBy next P s lines answers → AlongBy next Q s lines answers
-  unfolding AlongBy
-  AlongBy-weaker P Q f s [] [] h = tt
-  AlongBy-weaker P Q f s [] (a ∷ answers) h = absurd h
-  AlongBy-weaker P Q f s (line ∷ lines) [] h = absurd h
-  AlongBy-weaker P Q f s (line ∷ lines) (a ∷ answers) h = (f s line a h.0, AlongBy-weaker P Q f (next s line a) lines answers h.1)
 
   pub count_by-none : (counts : S → Answer → Bool) (s : S) → count_by next counts s [] [] ≡ 0
   unfolding count_by
@@ -81,14 +71,6 @@ Accepts-from_lines m (Ok e ∷ lines) [] h = absurd h
 Accepts-from_lines m (Err bad ∷ lines) [] h = absurd h
 Accepts-from_lines m (Ok e ∷ lines) (a ∷ answers) h = (h.0, Accepts-from_lines (after m e a) lines answers h.1)
 Accepts-from_lines m (Err bad ∷ lines) (a ∷ answers) h = Accepts-from_lines m lines answers h.1
-
--- and so with the cause of each retry
-pub MayLineCaused-may : (m : Machine) (line : Line) (a : Answer) → MayLineCaused m line a → MayLine m line a
-MayLineCaused-may m (Ok e) a h = MayCaused-may m e a h
-MayLineCaused-may m (Err bad) a h = h
-
-pub Accepts-from_caused : (m : Machine) (lines : List Line) (answers : List Answer) → Along MayLineCaused m lines answers → Accepts m (events_of lines) (answers_to lines answers)
-Accepts-from_caused m lines answers h = Accepts-from_lines m lines answers (AlongBy-weaker after_line MayLineCaused MayLine MayLineCaused-may m lines answers h)
 
 -- and the machine behind them is the same
 pub after_all-lines : (m : Machine) (lines : List Line) (answers : List Answer) → length lines ≡ length answers → after_all m (events_of lines) (answers_to lines answers) ≡ machine_after m lines answers

@@ -1,10 +1,9 @@
--- `notbuilt` comes at verbs that are not built, and at no other; and what has its cause may be answered.
+-- `notbuilt` comes at verbs that are not built, and at no other.
 use Rattle.std.proofs.Common.{◌≡◌, ◌↔◌, ℕ, Bool, true, false, is_some, nat_lt, if◌then◌else◌, List, ◌∷◌, Option, Some, None, Result, Ok, Err, sym, subst, inl, inr}
-use Rattle.std.specs.Prelude.{MatchOption}
 use Rattle.std.specs.Bool.{MatchBool}
 use Rattle.std.specs.FinMap.{get}
 use Rattle.wtf_model.specs.declared.answer.Answer.{Answer}
-use Rattle.wtf_model.specs.declared.answer.Answer.TheVariants.{Okay, Retry, Shown, Planned, More, Done, Refused, NotBuilt}
+use Rattle.wtf_model.specs.declared.answer.Answer.TheVariants.{Okay, Shown, Planned, More, Done, Refused, NotBuilt}
 use Rattle.wtf_model.specs.declared.answer.Word.{Word}
 use Rattle.wtf_model.specs.declared.answer.Word.TheVariants.{NoServer, ScanBusy}
 use Rattle.wtf_model.specs.declared.op.JobKind.{JobKind}
@@ -19,14 +18,14 @@ use Rattle.wtf_model.specs.Transaction.{Transaction, Job}
 use Rattle.wtf_model.specs.Faults.{or_refusal}
 use Rattle.wtf_model.specs.Jobs.{is_idle, has_region, planned, IsSpillFault, MayFailPlan, MayPut, drop_answer}
 use Rattle.wtf_model.specs.Scans.{held_by, or_held, piece_answer, MayFailPiece, collect_refusal, MayCollect}
-use Rattle.wtf_model.specs.Lawful.{client_refusal, MayFailRead, MayTry, MayAsk, is_short, dumped, MayBuilt}
-use Rattle.wtf_model.specs.Built.{is_built, MayTryAnyhow, MayAskAnyhow, MayClientAnyhow, MayAnyhow, MayCaused, May}
+use Rattle.wtf_model.specs.Lawful.{client_refusal, MayFailRead, MayAsk, MayClient, is_short, dumped, MayBuilt}
+use Rattle.wtf_model.specs.Built.{is_built, May}
 use Rattle.wtf_model.specs.Steps.{Machine, IsLogged, cap_of, due, session_of}
 use Rattle.wtf_model.proofs.StepLaws.{refused_or, IsLogged-call, IsStoreFault-MayFail}
 
 -- a verb that is not built is answered so, and not otherwise
 pub May-not_built : (m : Machine) (e : Event) → is_built e ≡ false → (a : Answer) → May m e a ↔ (a ≡ NotBuilt)
-May-not_built m e is a = (λ h. subst (λ b. MatchBool b (MayAnyhow m e a) (a ≡ NotBuilt)) is h, λ h. subst (λ b. MatchBool b (MayAnyhow m e a) (a ≡ NotBuilt)) (sym is) h)
+May-not_built m e is a = (λ h. subst (λ b. MatchBool b (MayBuilt m e a) (a ≡ NotBuilt)) is h, λ h. subst (λ b. MatchBool b (MayBuilt m e a) (a ≡ NotBuilt)) (sym is) h)
 
 -- any other answer
 abbrev IsOther : Answer → Type 0
@@ -45,7 +44,7 @@ bound : {A : Type 0} (r : Result A Word) (f : A → Result Answer Word) → ((x 
 bound (Ok x) f h = h x
 bound (Err w) f h = tt
 
-asked_other : (m : Machine) (o : Option Transaction) (v : Verb) → MayAskAnyhow m o v NotBuilt → ⊥
+asked_other : (m : Machine) (o : Option Transaction) (v : Verb) → MayAsk m o v NotBuilt → ⊥
 asked_other m None v h = is_other _ tt h
 asked_other m (Some t) verb.Begin h = h
 asked_other m (Some t) verb.Try h = h
@@ -55,8 +54,8 @@ asked_other m (Some t) verb.Abort h = is_other _ tt h
 asked_other m (Some t) (verb.Call o) (inl is) = is_other (due m t o) (logged_other (due m t o) (IsLogged-call (cap_of m) (session_of m t) o)) is
 asked_other m (Some t) (verb.Call o) (inr fails) = IsStoreFault-MayFail m.settings.servers o (due m t o) NotBuilt fails
 
-client_other : (m : Machine) (o : Option Transaction) (v : Verb) → MayClientAnyhow m o v NotBuilt → ⊥
-client_other m o v h = elim (refused_or (client_refusal o v) NotBuilt (MayAskAnyhow m o v NotBuilt) h) [
+client_other : (m : Machine) (o : Option Transaction) (v : Verb) → MayClient m o v NotBuilt → ⊥
+client_other m o v h = elim (refused_or (client_refusal o v) NotBuilt (MayAsk m o v NotBuilt) h) [
   | inl refused ↦ is_other _ tt refused.1
   | inr asked ↦ asked_other m o v asked
 ]
@@ -105,49 +104,22 @@ dump_fails servers (Shown (b ∷ bs)) h = h
 dump_fails servers d h = h
 
 -- a verb that is built is not answered so
-pub MayAnyhow-other : (m : Machine) (e : Event) → MayAnyhow m e NotBuilt → ⊥
-MayAnyhow-other m (event.Client c v) h = client_other m (get m.transactions c) v h
-MayAnyhow-other m (event.Plan j kind p r) (inl is) = is_other _ (plan_other m j p r) is
-MayAnyhow-other m (event.Plan j kind p r) (inr fails) = plan_fails m.settings.servers kind _ fails
-MayAnyhow-other m (event.Put j) h = put_other m (get m.jobs j) h
-MayAnyhow-other m (event.DropJob j) h = is_other _ (drop_other (get m.jobs j)) h
-MayAnyhow-other m event.Scan h = is_other _ (if_other (is_some m.parts_left) (Refused ScanBusy) (or_held (held_by m)) tt (held_other (held_by m))) h
-MayAnyhow-other m (event.Piece k) (inl is) = is_other _ (piece_other k m.parts_left) is
-MayAnyhow-other m (event.Piece k) (inr fails) = piece_fails m.settings.servers _ fails
-MayAnyhow-other m (event.Collect k) h = elim (refused_or (collect_refusal m k) NotBuilt (MayCollect k NotBuilt) h) [ inl refused ↦ is_other _ tt refused.1 | inr asked ↦ asked ]
-MayAnyhow-other m (event.Down k) h = is_other _ (if_other (nat_lt k m.settings.servers) Okay (Refused NoServer) tt tt) h
-MayAnyhow-other m (event.Up k) h = is_other _ (if_other (nat_lt k m.settings.servers) Okay (Refused NoServer) tt tt) h
-MayAnyhow-other m event.Save h = h
-MayAnyhow-other m (event.Dump p) (inl is) = is_other _ (dump_other m p) is
-MayAnyhow-other m (event.Dump p) (inr fails) = dump_fails m.settings.servers _ fails
-MayAnyhow-other m event.Tree h = is_other _ tt h
+pub MayBuilt-other : (m : Machine) (e : Event) → MayBuilt m e NotBuilt → ⊥
+MayBuilt-other m (event.Client c v) h = client_other m (get m.transactions c) v h
+MayBuilt-other m (event.Plan j kind p r) (inl is) = is_other _ (plan_other m j p r) is
+MayBuilt-other m (event.Plan j kind p r) (inr fails) = plan_fails m.settings.servers kind _ fails
+MayBuilt-other m (event.Put j) h = put_other m (get m.jobs j) h
+MayBuilt-other m (event.DropJob j) h = is_other _ (drop_other (get m.jobs j)) h
+MayBuilt-other m event.Scan h = is_other _ (if_other (is_some m.parts_left) (Refused ScanBusy) (or_held (held_by m)) tt (held_other (held_by m))) h
+MayBuilt-other m (event.Piece k) (inl is) = is_other _ (piece_other k m.parts_left) is
+MayBuilt-other m (event.Piece k) (inr fails) = piece_fails m.settings.servers _ fails
+MayBuilt-other m (event.Collect k) h = elim (refused_or (collect_refusal m k) NotBuilt (MayCollect k NotBuilt) h) [ inl refused ↦ is_other _ tt refused.1 | inr asked ↦ asked ]
+MayBuilt-other m (event.Down k) h = is_other _ (if_other (nat_lt k m.settings.servers) Okay (Refused NoServer) tt tt) h
+MayBuilt-other m (event.Up k) h = is_other _ (if_other (nat_lt k m.settings.servers) Okay (Refused NoServer) tt tt) h
+MayBuilt-other m event.Save h = h
+MayBuilt-other m (event.Dump p) (inl is) = is_other _ (dump_other m p) is
+MayBuilt-other m (event.Dump p) (inr fails) = dump_fails m.settings.servers _ fails
+MayBuilt-other m event.Tree h = is_other _ tt h
 
 pub May-built : (m : Machine) (e : Event) → is_built e ≡ true → May m e NotBuilt → ⊥
-May-built m e is h = MayAnyhow-other m e (subst (λ b. MatchBool b (MayAnyhow m e NotBuilt) (NotBuilt ≡ NotBuilt)) is h)
-
--- ---- what has its cause may be answered
-
-try_anyhow : (m : Machine) (t : Transaction) (a : Answer) → MayTry m t a → MayTryAnyhow m t a
-try_anyhow m t (Retry base now) h = h.0
-try_anyhow m t a h = h
-
-ask_anyhow : (m : Machine) (o : Option Transaction) (v : Verb) (a : Answer) → MayAsk m o v a → MayAskAnyhow m o v a
-ask_anyhow m None v a h = h
-ask_anyhow m (Some t) verb.Try a h = try_anyhow m t a h
-ask_anyhow m (Some t) v a h = h
-
-client_anyhow : (m : Machine) (o : Option Transaction) (v : Verb) (a : Answer) (r : Option Word)
-    → MatchOption r (MayAsk m o v a) (λ w. a ≡ Refused w) → MatchOption r (MayAskAnyhow m o v a) (λ w. a ≡ Refused w)
-client_anyhow m o v a None h = ask_anyhow m o v a h
-client_anyhow m o v a (Some w) h = h
-
-built_anyhow : (m : Machine) (e : Event) (a : Answer) → MayBuilt m e a → MayAnyhow m e a
-built_anyhow m (event.Client c v) a h = client_anyhow m (get m.transactions c) v a (client_refusal (get m.transactions c) v) h
-built_anyhow m e a h = h
-
-either_anyhow : (b : Bool) (P Q R : Type 0) → (P → Q) → MatchBool b P R → MatchBool b Q R
-either_anyhow true P Q R f h = f h
-either_anyhow false P Q R f h = h
-
-pub MayCaused-may : (m : Machine) (e : Event) (a : Answer) → MayCaused m e a → May m e a
-MayCaused-may m e a h = either_anyhow (is_built e) (MayBuilt m e a) (MayAnyhow m e a) (a ≡ NotBuilt) (built_anyhow m e a) h
+May-built m e is h = MayBuilt-other m e (subst (λ b. MatchBool b (MayBuilt m e NotBuilt) (NotBuilt ≡ NotBuilt)) is h)

@@ -35,17 +35,17 @@ use Rattle.wtf_model.specs.Call.{row_of, call, or_refused}
 use Rattle.wtf_model.specs.Transaction.{Transaction}
 use Rattle.wtf_model.specs.Examples.{ShowsBytes, IsStoreFault}
 use Rattle.wtf_model.specs.Lawful.{client_refusal, IsReadFault, MayFailRead, MayFailYank, MayFailPeek, MayFailConcat, MayFailWrite, MayFail, MayCall, MayTry, MayAsk, MayClient, server_answer}
-use Rattle.wtf_model.specs.Built.{MayClientAnyhow, May}
+use Rattle.wtf_model.specs.Built.{May}
 use Rattle.wtf_model.specs.Steps.{is_live, is_full, Machine, session_of, cap_of, due, after, after_client, is_logged, IsLogged, is_call_refusal, logged, called, with_transaction, is_down, start}
 
 -- a client's line
 pub May-client : (m : Machine) (c : ℕ) (v : Verb) (a : Answer) (t : Option Transaction)
-    → get m.transactions c ≡ t → MayClientAnyhow m t v a → May m (event.Client c v) a
-May-client m c v a t there h = subst (λ o. MayClientAnyhow m o v a) (sym there) h
+    → get m.transactions c ≡ t → MayClient m t v a → May m (event.Client c v) a
+May-client m c v a t there h = subst (λ o. MayClient m o v a) (sym there) h
 
 pub MayClient-may : (m : Machine) (c : ℕ) (v : Verb) (a : Answer) (t : Option Transaction)
-    → get m.transactions c ≡ t → May m (event.Client c v) a → MayClientAnyhow m t v a
-MayClient-may m c v a t there h = subst (λ o. MayClientAnyhow m o v a) there h
+    → get m.transactions c ≡ t → May m (event.Client c v) a → MayClient m t v a
+MayClient-may m c v a t there h = subst (λ o. MayClient m o v a) there h
 
 pub after-client : (m : Machine) (c : ℕ) (v : Verb) (a : Answer) (t : Option Transaction)
     → get m.transactions c ≡ t → after m (event.Client c v) a ≡ after_client m c t v a

@@ -3,7 +3,7 @@
 use Rattle.std.specs.Prelude.{◌≡◌, ℕ, ◌+◌, Bool, if◌then◌else◌, List, [], ◌∷◌, Result, Ok, Err}
 use Rattle.wtf_model.specs.declared.answer.Answer.{Answer}
 use Rattle.wtf_model.specs.declared.event.Event.{Event}
-use Rattle.wtf_model.specs.Steps.{Machine, MayCaused, May, after}
+use Rattle.wtf_model.specs.Steps.{Machine, May, after}
 
 abbrev pub Line : Type 0
 Line = Result Event Answer
@@ -34,11 +34,6 @@ count_by next counts s lines answers = 0
 abbrev pub MayLine : Machine → Line → Answer → Type 0
 MayLine m (Ok e) a = May m e a
 MayLine m (Err bad) a = a ≡ bad
-
--- the same, where a retry has its cause
-abbrev pub MayLineCaused : Machine → Line → Answer → Type 0
-MayLineCaused m (Ok e) a = MayCaused m e a
-MayLineCaused m (Err bad) a = a ≡ bad
 
 abbrev pub after_line : Machine → Line → Answer → Machine
 after_line m (Ok e) a = after m e a

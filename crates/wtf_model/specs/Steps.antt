@@ -24,7 +24,7 @@ use Rattle.wtf_model.specs.Jobs.{job_changes}
 use Rattle.wtf_model.specs.Scans.{open_stamps}
 pub use Rattle.wtf_model.specs.Machines.{Machine, start, cap_of, is_down, session_of, due, is_live, is_full}
 pub use Rattle.wtf_model.specs.Lawful.{MayFailRead, MayFailWrite, MayFail, MayCall, MayTry, MayAsk, MayClient, server_answer, MayBuilt}
-pub use Rattle.wtf_model.specs.Built.{MayTryAnyhow, MayAskAnyhow, MayClientAnyhow, MayAnyhow, MayCaused, May}
+pub use Rattle.wtf_model.specs.Built.{May}
 
 -- the refusals of a call itself; all others are the machine's
 abbrev pub is_call_refusal : Word → Bool

@@ -11,7 +11,6 @@ ghost use Rattle.wtf_model.specs.declared.answer.Word.TheVariants as word;
 ghost use Rattle.wtf_model.specs.declared.op.Op.{Op};
 ghost use Rattle.wtf_model.specs.declared.op.Op.TheVariants as op;
 ghost use Rattle.wtf_model.specs.declared.op.Seek.TheVariants as to;
-ghost use Rattle.wtf_model.specs.declared.op.JobKind.{JobKind};
 ghost use Rattle.wtf_model.specs.declared.event.Verb.TheVariants as verb;
 ghost use Rattle.wtf_model.specs.declared.event.Event.{Event};
 ghost use Rattle.wtf_model.specs.declared.event.Event.TheVariants as event;
@@ -113,9 +112,6 @@ pub fn nothing_is_moved()
 /// answered so.
 pub fn verbs_that_are_not_built()
     ensures only { (m : Machine) (e : Event) → is_built e ≡ false → OnlyNotBuilt m e }
-    ensures plan { (j r : ℕ) (kind : JobKind) (p : List ℕ) → is_built (event.Plan j kind p r) ≡ false }
-    ensures put { (j : ℕ) → is_built (event.Put j) ≡ false }
-    ensures drop { (j : ℕ) → is_built (event.DropJob j) ≡ false }
     ensures scan { is_built event.Scan ≡ false }
     ensures piece { (k : ℕ) → is_built (event.Piece k) ≡ false }
     ensures collect { (k : ℕ) → is_built (event.Collect k) ≡ false }

@@ -6,9 +6,6 @@ use Rattle.wtf_model.proofs.examples.verbs_that_are_not_built.Goals as goal
 pub returns : goal.returns
 returns c = record {
   only = May-not_built;
-  plan = λ j r kind p. refl;
-  put = λ j. refl;
-  drop = λ j. refl;
   scan = refl;
   piece = λ k. refl;
   collect = λ k. refl;
