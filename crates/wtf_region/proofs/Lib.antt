@@ -6,6 +6,7 @@ pub mod PieceEdits
 pub mod ShowLaws
 pub mod InsideLaws
 pub mod ListReads
+pub mod Remembering
 mod SliceKeys
 mod RegionKeys
 mod Places

@@ -1,5 +1,5 @@
 -- What is remembered: where regions go, and the lists of slices.
-use Rattle.std.specs.Prelude.{◌≡◌, ℕ, Bool, List, Option, Some, option_map, slice_get}
+use Rattle.std.specs.Prelude.{◌≡◌, ◌⊎◌, ℕ, Bool, List, Option, Some, option_map, slice_get}
 use Rattle.std.specs.List.{All, Contains}
 use Rattle.std.specs.Map.{lookup}
 use Rattle.wtf_base.specs.declared.slice.Slice.{Slice}
@@ -40,6 +40,10 @@ BeginsAt key entries = option_map (λ e. e.0) (slice_get entries 0) ≡ Some key
 -- the list that is remembered of a slice, if one is
 abbrev pub cached : Remembered → Slice → Option (List Entry)
 cached es s = lookup (slice_eq.eq-value.it s) es
+
+-- no list came to be remembered but of slices of which P holds; others may be forgotten
+abbrev pub RemembersOnly : (Slice → Type 0) → (old new : Remembered) → Type 0
+RemembersOnly P old new = (e : Slice × List Entry) → Contains new e → Contains old e ⊎ P e.0
 
 -- P holds of each byte of each slice that is remembered, and of each byte of its list
 abbrev pub CacheInside : (List Place → Bool) → Remembered → Type 0

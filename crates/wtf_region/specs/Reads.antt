@@ -44,6 +44,11 @@ TellsFacts kind old new facts =
 abbrev pub AreInsideLists : {S : Type 0} → StoreKind S → Dev S → List ListFact → Type 0
 AreInsideLists kind dev facts = All (λ (f : ListFact). All (EntryBytes (inside_of kind dev)) f.list) facts
 
+-- the slice is that of a base, if there is one
+abbrev pub IsOfBase : Option Spill → Slice → Type 0
+IsOfBase None s = ⊥
+IsOfBase (Some base) s = s ≡ base.slice
+
 -- the list of a slice was read: it is remembered now, and is what the slice decodes to
 pub record IsSliceRead {S : Type 0} (kind : StoreKind S) (old new : Dev S) (s : Slice) (es : List Entry) : Type 0 where
   pub stands : cached (remembered new) s ≡ Some es

@@ -7,10 +7,10 @@ ghost use Rattle.wtf_replica.specs.Copies.{IsFetched};
 ghost use Rattle.wtf_replica.specs.Faults.{IsReadFault};
 ghost use Rattle.wtf_replica.specs.Inside.{size_in};
 ghost use Rattle.wtf_meta.specs.Bytes.{SliceBytes, BaseBytes, any_slice};
-ghost use Rattle.wtf_region.specs.Cached.{cached};
+ghost use Rattle.wtf_region.specs.Cached.{RemembersOnly, cached};
 ghost use Rattle.wtf_region.specs.Inside.{part_lies_inside, list_lies_inside};
 ghost use Rattle.wtf_region.specs.Devs.{IsSoundDev, GoesOn, remembered, inside_of, between};
-ghost use Rattle.wtf_region.specs.Reads.{IsTrueList, IsSliceRead, IsListRead, IsSliceFault, IsBaseFault};
+ghost use Rattle.wtf_region.specs.Reads.{IsTrueList, IsOfBase, IsSliceRead, IsListRead, IsSliceFault, IsBaseFault};
 ghost use Rattle.wtf_region.specs.Showing.{OnlyRead};
 
 use crate::Dev;
@@ -91,6 +91,7 @@ fn read_list<S: SliceStore>(
     requires uncached { cached (remembered dev.old) slice.now ≡ None }
     ensures read { IfOk result (IsTrueList S.kind dev.new slice.now) }
     ensures fault { IfErr result (IsSliceFault S.kind dev.old dev.new slice.now) }
+    ensures cache { dev.new.cache ≡ dev.old.cache }
     ensures reads { OnlyRead S.kind (between dev.old dev.new) }
     ensures dev { GoesOn S.kind dev.old dev.new [] }
 {
@@ -118,6 +119,7 @@ fn recall<S: SliceStore>(dev: &mut Dev<'_, S>, slice: &Slice) -> Result<Option<O
     requires sound { IsSoundDev S.kind dev.old }
     ensures value { IfOk result (λ o. o ≡ cached (remembered dev.old) slice.now) }
     ensures stays { cached (remembered dev.new) slice.now ≡ cached (remembered dev.old) slice.now }
+    ensures only { RemembersOnly (λ s. s ≡ slice.now) (remembered dev.old) (remembered dev.new) }
     ensures shelf { dev.new.shelf ≡ dev.old.shelf }
     ensures fault { IfErr result (λ why. why ≡ Fault.Memory) }
     ensures dev { GoesOn S.kind dev.old dev.new [] }
@@ -133,6 +135,7 @@ fn remember<S: SliceStore>(dev: &mut Dev<'_, S>, slice: &Slice, list: &Overlay) 
     requires sound { IsSoundDev S.kind dev.old }
     requires is_true { IsTrueList S.kind dev.old slice.now list.now }
     ensures stands { OnOk result (cached (remembered dev.new) slice.now ≡ Some list.now) }
+    ensures only { RemembersOnly (λ s. s ≡ slice.now) (remembered dev.old) (remembered dev.new) }
     ensures shelf { dev.new.shelf ≡ dev.old.shelf }
     ensures fault { IfErr result (λ why. why ≡ Fault.Memory) }
     ensures dev { GoesOn S.kind dev.old dev.new [] }
@@ -146,7 +149,8 @@ fn remember<S: SliceStore>(dev: &mut Dev<'_, S>, slice: &Slice, list: &Overlay) 
 /// The whole list of a slice, also what no region sees of it: the one that is remembered, else what a
 /// server has, which is remembered then. `Read` with the server of the last copy where no copy could be
 /// read, and `Damaged` with the server of the copy that was read where its bytes are no list, or one
-/// that names bytes outside the stores. A list that is remembered needs no server.
+/// that names bytes outside the stores. A list that is remembered needs no server. No other slice's list
+/// comes to be remembered.
 pub fn base_list<S: SliceStore>(
     alloc: Global,
     dev: &mut Dev<'_, S>,
@@ -156,6 +160,7 @@ pub fn base_list<S: SliceStore>(
     requires inside { SliceBytes (inside_of S.kind dev.old) slice.now }
     ensures read { IfOk result (IsSliceRead S.kind dev.old dev.new slice.now) }
     ensures fault { IfErr result (IsSliceFault S.kind dev.old dev.new slice.now) }
+    ensures only { RemembersOnly (λ s. s ≡ slice.now) (remembered dev.old) (remembered dev.new) }
     ensures reads { OnlyRead S.kind (between dev.old dev.new) }
     ensures dev { GoesOn S.kind dev.old dev.new [] }
 {
@@ -188,7 +193,8 @@ fn list_over(under: &Overlay, base: Spill, list: &Overlay) -> Result<Overlay, Fa
 }
 
 /// The list of a region: that of its base as far as it is seen, with its entries over it. A region
-/// without a base has its entries alone, and no server is asked. The faults are those of `base_list`.
+/// without a base has its entries alone, and no server is asked. The faults are those of `base_list`. No
+/// list but that of its base comes to be remembered.
 pub fn region_list<S: SliceStore>(
     alloc: Global,
     dev: &mut Dev<'_, S>,
@@ -198,6 +204,7 @@ pub fn region_list<S: SliceStore>(
     requires inside { BaseBytes (inside_of S.kind dev.old) any_slice value.now.base }
     ensures read { IfOk result (IsListRead S.kind dev.old dev.new value.now) }
     ensures fault { IfErr result (IsBaseFault S.kind dev.old dev.new value.now.base) }
+    ensures only { RemembersOnly (IsOfBase value.now.base) (remembered dev.old) (remembered dev.new) }
     ensures reads { OnlyRead S.kind (between dev.old dev.new) }
     ensures dev { GoesOn S.kind dev.old dev.new [] }
 {

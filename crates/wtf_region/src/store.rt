@@ -1,6 +1,6 @@
 //! Storing bytes of a file.
 
-ghost use Rattle.std.specs.Prelude.{◌<◌, ◌*◌, ◌/◌, ◌^◌, [], length, IfOk, IfErr};
+ghost use Rattle.std.specs.Prelude.{◌≡◌, ◌<◌, ◌*◌, ◌/◌, ◌^◌, [], length, IfOk, IfErr};
 ghost use Rattle.wtf_dev.specs.Sums.{TellsAll};
 ghost use Rattle.wtf_model.specs.declared.limits.TheConstants.{MAX_REGIONS};
 ghost use Rattle.wtf_replica.specs.Bytes.{byte_at, HoldsSlice};
@@ -8,7 +8,7 @@ ghost use Rattle.wtf_replica.specs.Copies.{IsStored, IsInside};
 ghost use Rattle.wtf_replica.specs.Faults.{IsWriteFault};
 ghost use Rattle.wtf_replica.specs.Outs.{IsLeftDown, OtherFilesStay, SameSyncs};
 ghost use Rattle.wtf_region.specs.Inside.{IsOnServers};
-ghost use Rattle.wtf_region.specs.Devs.{IsSoundDev, GoesOn, stores, between, place_in};
+ghost use Rattle.wtf_region.specs.Devs.{IsSoundDev, GoesOn, stores, remembered, between, place_in};
 
 use crate::{Dev, RegionKey};
 use wtf_base::{Fault, InodeId, Slice};
@@ -16,7 +16,8 @@ use wtf_dev::SliceStore;
 
 /// Stores bytes that are to stand at offset `off` of a file, at the place of the region of `off`.
 /// `Write` where fewer servers than replicas took them: files may then be longer on some servers,
-/// and what they held they still hold. No byte is copied on the way, and no memory is needed.
+/// and what they held they still hold. No byte is copied on the way, no memory is needed, and the lists
+/// that are remembered stay.
 pub fn store_bytes<S: SliceStore>(
     dev: &mut Dev<'_, S>,
     inode: InodeId,
@@ -38,6 +39,7 @@ pub fn store_bytes<S: SliceStore>(
     ensures down { IsLeftDown (between dev.old dev.new) }
     ensures others { OtherFilesStay S.kind (stores dev.old) (stores dev.new)
         (place_in dev.old inode off).file }
+    ensures lists { remembered dev.new ≡ remembered dev.old }
     ensures syncs { SameSyncs S.kind (stores dev.old) (stores dev.new) }
     ensures dev { GoesOn S.kind dev.old dev.new [] }
 {

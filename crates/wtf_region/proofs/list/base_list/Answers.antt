@@ -1,5 +1,8 @@
-use Rattle.std.proofs.Common.{sym, ◌∙◌}
+use Rattle.std.proofs.Common.{◌≡◌, sym, ◌∙◌}
+use Rattle.wtf_base.specs.declared.slice.Slice.{Slice}
+use Rattle.wtf_region.specs.Devs.{remembered}
 use Rattle.wtf_region.proofs.Spans.{goes_on}
+use Rattle.wtf_region.proofs.Remembering.{remembers_then, remembers_still}
 use Rattle.wtf_region.proofs.ListReads.{slice_later, read_cached, read_anew, reads_same, reads_then, slice_fault_since}
 use Rattle.wtf_region.proofs.list.base_list.Goals as goal
 
@@ -49,3 +52,21 @@ returns-in-Ok-remember-clause-reads g c = rw c.remember.ensures.shelf
 pub returns-in-Err-remember-clause-reads : goal.returns-in-Err-remember-clause-reads
 returns-in-Err-remember-clause-reads g c = rw c.remember.ensures.shelf
     (reads_then g.S.SliceStore.kind c.args.dev.now c.recall.new.dev c.read_list.new.dev c.recall.ensures.shelf c.recall.ensures.dev c.read_list.ensures.reads)
+
+pub returns-in-Err-read_list-clause-only : goal.returns-in-Err-read_list-clause-only
+returns-in-Err-read_list-clause-only g c = remembers_still (λ (s : Slice). s ≡ c.args.slice.now) (remembered c.args.dev.now) c.recall.new.dev c.read_list.new.dev
+    c.read_list.ensures.cache c.recall.ensures.only
+
+pub returns-in-Ok-remember-clause-only : goal.returns-in-Ok-remember-clause-only
+returns-in-Ok-remember-clause-only g c =
+    let P = λ (s : Slice). s ≡ c.args.slice.now in
+    remembers_then P (remembered c.args.dev.now) (remembered c.read_list.new.dev) (remembered c.remember.new.dev)
+    (remembers_still P (remembered c.args.dev.now) c.recall.new.dev c.read_list.new.dev c.read_list.ensures.cache c.recall.ensures.only)
+    c.remember.ensures.only
+
+pub returns-in-Err-remember-clause-only : goal.returns-in-Err-remember-clause-only
+returns-in-Err-remember-clause-only g c =
+    let P = λ (s : Slice). s ≡ c.args.slice.now in
+    remembers_then P (remembered c.args.dev.now) (remembered c.read_list.new.dev) (remembered c.remember.new.dev)
+    (remembers_still P (remembered c.args.dev.now) c.recall.new.dev c.read_list.new.dev c.read_list.ensures.cache c.recall.ensures.only)
+    c.remember.ensures.only

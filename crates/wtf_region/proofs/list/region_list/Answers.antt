@@ -1,9 +1,12 @@
-use Rattle.std.proofs.Common.{sym, subst}
+use Rattle.std.proofs.Common.{Option, sym, subst}
 use Rattle.std.proofs.lemmas.Result.{IfOk-weaker}
+use Rattle.wtf_values.specs.declared.region.Spill.{Spill}
 use Rattle.wtf_meta.specs.Bytes.{BaseBytes, any_slice}
-use Rattle.wtf_region.specs.Devs.{inside_of}
-use Rattle.wtf_region.specs.Reads.{IsListRead}
+use Rattle.wtf_region.specs.Cached.{RemembersOnly}
+use Rattle.wtf_region.specs.Devs.{remembered, inside_of}
+use Rattle.wtf_region.specs.Reads.{IsOfBase, IsListRead}
 use Rattle.wtf_region.proofs.Spans.{goes_nowhere}
+use Rattle.wtf_region.proofs.Remembering.{remembers_nothing}
 use Rattle.wtf_region.proofs.ListReads.{list_alone, list_over}
 use Rattle.wtf_region.proofs.list.region_list.Goals as goal
 
@@ -26,3 +29,19 @@ returns-clause-read g c =
     (list_over g.met.S.SliceStore.laws c.args.dev.now c.base_list.new.dev c.args.value.now c.in-Some.base c.in-Ok-base_list.under c.in-Some.is
     c.in-Ok-base_list.ensures.read))
     c.list_over.ensures.list
+
+pub returns-in-Ok-clause-only : goal.returns-in-Ok-clause-only
+returns-in-Ok-clause-only g c = remembers_nothing (IsOfBase c.args.value.now.base) (remembered c.args.dev.now)
+
+pub returns-in-Err-clause-only : goal.returns-in-Err-clause-only
+returns-in-Err-clause-only g c = remembers_nothing (IsOfBase c.args.value.now.base) (remembered c.args.dev.now)
+
+pub returns-in-Err-base_list-clause-only : goal.returns-in-Err-base_list-clause-only
+returns-in-Err-base_list-clause-only g c =
+    subst (λ (b : Option Spill). RemembersOnly (IsOfBase b) (remembered c.args.dev.now) (remembered c.base_list.new.dev)) (sym c.in-Some.is)
+    c.base_list.ensures.only
+
+pub returns-clause-only : goal.returns-clause-only
+returns-clause-only g c =
+    subst (λ (b : Option Spill). RemembersOnly (IsOfBase b) (remembered c.args.dev.now) (remembered c.base_list.new.dev)) (sym c.in-Some.is)
+    c.base_list.ensures.only

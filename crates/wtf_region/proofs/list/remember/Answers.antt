@@ -1,4 +1,4 @@
-use Rattle.std.proofs.Common.{refl, sym, subst, inl, inr, List}
+use Rattle.std.proofs.Common.{refl, sym, ap, subst, inl, inr, List}
 use Rattle.wtf_base.specs.declared.slice.Slice.{Slice}
 use Rattle.wtf_overlay.specs.declared.part.Entry.{Entry}
 use Rattle.wtf_region.specs.Reads.{IsTrueList}
@@ -18,3 +18,15 @@ returns-in-Err-clause-dev g c = goes_cached g.met.S.SliceStore.laws c.args.dev.n
       | inl was ↦ inl was
       | inr same ↦ inr (subst (λ (p : Slice × List Entry). IsTrueList g.S.SliceStore.kind c.args.dev.now p.0 p.1) (sym same) c.requires.is_true)
     ])
+
+pub returns-in-Ok-clause-only : goal.returns-in-Ok-clause-only
+returns-in-Ok-clause-only g c = λ e there. elim (c.keep.ensures.only e there) [
+  | inl was ↦ inl was
+  | inr same ↦ inr (ap (λ (p : Slice × List Entry). p.0) same)
+]
+
+pub returns-in-Err-clause-only : goal.returns-in-Err-clause-only
+returns-in-Err-clause-only g c = λ e there. elim (c.keep.ensures.only e there) [
+  | inl was ↦ inl was
+  | inr same ↦ inr (ap (λ (p : Slice × List Entry). p.0) same)
+]

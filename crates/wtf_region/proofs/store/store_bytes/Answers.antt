@@ -20,3 +20,6 @@ pub returns-clause-dev : goal.returns-clause-dev
 returns-clause-dev g c =
     let left = c.place-place.follows.holds-at-none in
     goes_by g.met.S.SliceStore.laws c.args.dev.now _ [] c.requires.sound refl refl left.1 left.0 refl refl refl c.create.ensures.follows
+
+pub returns-clause-lists : goal.returns-clause-lists
+returns-clause-lists g c = c.place-place.follows.holds-at-none.1
