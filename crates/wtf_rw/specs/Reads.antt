@@ -12,8 +12,8 @@ use Rattle.wtf_meta.specs.Files.{FileView}
 use Rattle.wtf_meta.specs.Calls.{Did, TellFacts}
 use Rattle.wtf_region.specs.declared.dev.Dev.{Dev}
 use Rattle.wtf_region.specs.Devs.{told_in}
-use Rattle.wtf_region.specs.Reads.{TellsFacts, AreInsideLists, LacksRegion}
-use Rattle.wtf_steps.specs.Faults.{LacksBytes, ShowFile}
+use Rattle.wtf_region.specs.Reads.{TellsFacts, AreInsideLists, IsFileRead, LacksRegion}
+use Rattle.wtf_steps.specs.Faults.{LacksBytes}
 
 -- A call stored no byte. The lists that it read are of bases of the map, and are those of their slices, if these were told and
 -- not punched since the cache was true; and where the map's bytes were told, with its lists, the stores tell what it read.
@@ -28,4 +28,4 @@ pub record TellsRead {S : Type 0} (kind : StoreKind S) (old new : Dev S) (b : Ma
 
 -- n bytes of a file were not shown: a list of a base was not read, or bytes of the pieces were not
 abbrev pub LacksRead : {S : Type 0} → StoreKind S → (old new : Dev S) → FileView → (off n : ℕ) → Fault → Type 0
-LacksRead kind old new file off n why = LacksRegion kind old new file off n why ⊎ LacksBytes kind old new n (ShowFile old.settings.region file off n) why
+LacksRead kind old new file off n why = LacksRegion kind old new file off n why ⊎ LacksBytes kind old new n (λ ps. IsFileRead kind old new file off n ps) why

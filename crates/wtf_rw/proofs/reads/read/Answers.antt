@@ -154,10 +154,13 @@ returns-in-Err-show-clause-fault g c =
     let inode : i ≡ h.inode = open_at.inode in
     let off : c.in-Some.spot.off ≡ h.off = open_at.off in
     let count : k ≡ found_in z b h c.args.n = found_due c.cap.result z c.in-Ok.len c.in-Some.spot.off c.args.n k i b h c.found_len-k.ensures c.cap.ensures c.in-Ok.ensures.value inode off in
-    let due : ReadsFile z (file_of h.inode b) h.off k read.facts ps =
-    reads_due z u b h i c.in-Some.spot.off c.range_start-from.result k read.facts ps same inode off c.range_start-from.ensures.some read.reads in
     let file : FileBytes (inside_of kind dev) any_slice (file_of i u) =
     subst (λ (w : Map). FileBytes (inside_of kind dev) any_slice (file_of i w)) (sym same) (file_bytes (inside_of kind dev) any_slice i b c.requires.inside) in
+    let later : IsFileRead kind dev c.show.new.dev (file_of i u) c.range_start-from.result k ps =
+    file_read_later g.met.S.SliceStore.laws c.requires.sound c.in-Ok-pieces.ensures.dev c.in-Err-show.ensures.dev (file_of i u) file
+    c.range_start-from.result k ps read in
+    let due : ReadsFile z (file_of h.inode b) h.off k later.facts ps =
+    reads_due z u b h i c.in-Some.spot.off c.range_start-from.result k later.facts ps same inode off c.range_start-from.ensures.some later.reads in
     inr (
       h,
       open_at.is,
@@ -165,7 +168,12 @@ returns-in-Err-show-clause-fault g c =
         mid = mid;
         goes = c.in-Ok-pieces.ensures.dev;
         pieces = ps;
-        are = (read.facts, subst (λ (m : ℕ). ReadsFile z (file_of h.inode b) h.off m read.facts ps) count due);
+        are = record {
+          facts = later.facts;
+          reads = subst (λ (m : ℕ). ReadsFile z (file_of h.inode b) h.off m later.facts ps) count due;
+          inside = later.inside;
+          told = later.told;
+        };
         inside = pieces_inside g.met.S.SliceStore.laws c.requires.sound c.in-Ok-pieces.ensures.dev (file_of i u) file c.range_start-from.result k ps read;
         fault = subst (λ (m : ℕ). IsShowFault kind (between mid c.show.new.dev) (pieces_in 0 m ps) c.in-Err-show.why) count
             (subst (λ (qs : List Piece). IsShowFault kind (between mid c.show.new.dev) (pieces_in 0 k qs) c.in-Err-show.why) c.as_slice.ensures.value c.in-Err-show.ensures.fault);
