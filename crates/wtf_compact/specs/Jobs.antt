@@ -1,16 +1,17 @@
 -- What a job is, and what it does to the map of files.
 -- NSDI 2016, section 2.8 (lists of regions are compacted, and written into slices of their own, beside the calls of clients).
-use Rattle.std.specs.Prelude.{ℕ, ◌≤◌, ◌≡◌, List, [], ◌∷◌, Option, None, Some}
+use Rattle.std.specs.Prelude.{ℕ, ◌≤◌, ◌<◌, ◌≡◌, List, [], ◌∷◌, Option, None, Some}
 use Rattle.wtf_base.specs.declared.ids.InodeId.{InodeId}
 use Rattle.wtf_occ.specs.Attempts.{Attempted}
+use Rattle.wtf_model.specs.declared.limits.TheConstants.{MAX_REGIONS}
 use Rattle.wtf_model.specs.declared.op.JobKind.{JobKind}
 use Rattle.wtf_values.specs.declared.key.Key.{Key}
 use Rattle.wtf_values.specs.declared.key.Key.TheVariants.{Path, Region}
 use Rattle.wtf_values.specs.declared.value.Delta.{Delta}
 use Rattle.wtf_values.specs.declared.region.RegionValue.{RegionValue}
 use Rattle.wtf_meta.specs.Maps.{Map, Edits}
-use Rattle.wtf_meta.specs.Files.{IsFile}
-use Rattle.wtf_meta.specs.FileEdits.{FileEdit, Put, edits_of, file_of, region_of}
+use Rattle.wtf_meta.specs.Files.{end_of}
+use Rattle.wtf_meta.specs.FileEdits.{FileEdit, Put, edits_of, region_of}
 use Rattle.wtf_meta.specs.Trees.{LeadsTo}
 use Rattle.wtf_compact.specs.declared.target.Target.{Target}
 
@@ -26,16 +27,16 @@ pub record JobView : Type 0 where
 abbrev pub IsFileAt : Map → List ℕ → Type 0
 IsFileAt w p = (i : InodeId) × LeadsTo w p i
 
--- to a file that has a region of this number, where a region has b bytes
-pub record HasRegion (b : ℕ) (w : Map) (p : List ℕ) (r : ℕ) : Type 0 where
-  pub inode : InodeId
-  pub leads : LeadsTo w p inode
-  pub file : IsFile b (file_of inode w)
-  pub upto : r ≤ (file_of inode w).last
-
 -- what a map has of a region, if anything
 abbrev pub region_at : Map → InodeId → ℕ → Option RegionValue
 region_at w i r = region_of (w (Region i r))
+
+-- to a file that may have a region of this number, which ends at b at most
+pub record HasRegion (b : ℕ) (w : Map) (p : List ℕ) (r : ℕ) : Type 0 where
+  pub inode : InodeId
+  pub leads : LeadsTo w p inode
+  pub few : r < MAX_REGIONS
+  pub size : end_of (region_at w inode r) ≤ b
 
 abbrev pub target_region : Map → Target → Option RegionValue
 target_region w t = region_at w t.inode t.region

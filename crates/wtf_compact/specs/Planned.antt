@@ -22,9 +22,9 @@ use Rattle.wtf_meta.specs.Contents.{Told, SamePlaces, SameRegion, is_told, is_li
 use Rattle.wtf_meta.specs.Bytes.{EntryBytes, ListSlices, ListsBytes, MaybeBytes, RegionBytes, any_slice}
 use Rattle.wtf_region.specs.declared.dev.Dev.{Dev}
 use Rattle.wtf_region.specs.Apart.{are_apart}
-use Rattle.wtf_region.specs.Cached.{CacheTrue}
+use Rattle.wtf_region.specs.Cached.{CacheTrue, RemembersOnly}
 use Rattle.wtf_region.specs.Devs.{GoesOn, stores, remembered, told_in, between, place_in}
-use Rattle.wtf_region.specs.Reads.{TellsFacts, AreInsideLists, IsRegionFault}
+use Rattle.wtf_region.specs.Reads.{IsOfBase, TellsFacts, AreInsideLists, IsRegionFault}
 use Rattle.wtf_region.specs.Showing.{OnlyRead}
 use Rattle.wtf_compact.specs.declared.target.Target.{Target}
 
@@ -93,6 +93,15 @@ pub record IsPlanned {S : Type 0} (kind : StoreKind S) (old new : Dev S) (t : Ta
   pub names : NamesPlanned now (region_facts now under) stored value
   pub unwritten : spills t.kind (end_of now) ≡ false → OnlyRead kind (between old new)
   pub written : spills t.kind (end_of now) ≡ true → StoresList kind old new t stored
+
+-- the slice is that of the base of a region, which may be missing
+abbrev pub IsOfRegion : Option RegionValue → Slice → Type 0
+IsOfRegion None s = ⊥
+IsOfRegion (Some v) s = IsOfBase v.base s
+
+-- no list came to be remembered but that of the region's base, which was read: so none that was stored
+abbrev pub RemembersItsBase : {S : Type 0} → (old new : Dev S) → Option RegionValue → Type 0
+RemembersItsBase old new now = RemembersOnly (IsOfRegion now) (remembered old) (remembered new)
 
 -- the list of the region was not read, and no store was written
 pub record LacksBase {S : Type 0} (kind : StoreKind S) (old new : Dev S) (now : Option RegionValue) (why : Fault) : Type 0 where

@@ -1,5 +1,5 @@
-//! Jobs beside the calls of clients: the list of a region is made short, or written into a slice of its own,
-//! and put in the region's place unless that has changed since. No byte of a file moves (NSDI 2016, section
+//! Jobs beside the calls of clients: the list of a region is made compact, or written into a slice of its
+//! own, and put in the region's place unless that has changed since. No byte of a file moves (NSDI 2016, section
 //! 2.8).
 #![tactic(auto)]
 

@@ -15,7 +15,7 @@ ghost use Rattle.wtf_region.specs.Devs.{IsSoundDev, GoesOn, stores, told_in, ins
 ghost use Rattle.wtf_region.specs.Showing.{OnlyRead};
 ghost use Rattle.wtf_region.specs.Inside.{IsStoredInside};
 ghost use Rattle.wtf_compact.specs.Jobs.{HasRegion, IsFileAt, IsJobOf, region_at, target_region};
-ghost use Rattle.wtf_compact.specs.Planned.{IsPlanned, IsPlanFault, KeepsRegion, TellsRegion, spills};
+ghost use Rattle.wtf_compact.specs.Planned.{IsPlanned, IsPlanFault, KeepsRegion, RemembersItsBase, TellsRegion, spills};
 
 use crate::spilling::{short_list, store_list};
 use crate::{Job, Target};
@@ -82,6 +82,7 @@ fn planned_value<S: SliceStore>(
     ensures inside { IfOk result (RegionBytes (inside_of S.kind dev.new) any_slice) }
     ensures fault { IfErr result
         (IsPlanFault S.kind dev.old dev.new target.kind (Some value.now)) }
+    ensures only { RemembersItsBase dev.old dev.new (Some value.now) }
     ensures reads { target.kind ≡ JobKind.Compact → OnlyRead S.kind (between dev.old dev.new) }
     ensures dev { GoesOn S.kind dev.old dev.new [] }
 {
@@ -120,6 +121,8 @@ fn planned<S: SliceStore>(
     ensures inside { IfOk result (MaybeBytes (inside_of S.kind dev.new) any_slice) }
     ensures fault { IfErr result (IsPlanFault S.kind dev.old dev.new target.kind
         (target_region (metadata_at kv.now kv.now.number) target)) }
+    ensures only { RemembersItsBase dev.old dev.new
+        (target_region (metadata_at kv.now kv.now.number) target) }
     ensures reads { target.kind ≡ JobKind.Compact → OnlyRead S.kind (between dev.old dev.new) }
     ensures dev { GoesOn S.kind dev.old dev.new [] }
 {
@@ -157,6 +160,10 @@ fn made<S: SliceStore>(
         LeadsTo (metadata_at kv.now kv.now.number) p.now i →
         IsPlanFault S.kind dev.old dev.new kind
         (region_at (metadata_at kv.now kv.now.number) i region) why) }
+    ensures only { (i : inode_id.InodeId) →
+        LeadsTo (metadata_at kv.now kv.now.number) p.now i →
+        RemembersItsBase dev.old dev.new
+        (region_at (metadata_at kv.now kv.now.number) i region) }
     ensures reads { kind ≡ JobKind.Compact → OnlyRead S.kind (between dev.old dev.new) }
     ensures dev { GoesOn S.kind dev.old dev.new [] }
 {
@@ -193,11 +200,13 @@ fn pin(kv: &mut Kv<Key, Value>, n: u64) -> Result<(), Fault>
     }
 }
 
-/// Plans a job of a region as it stands now, and pins the number. A compaction brings the region's list into
-/// its shortest form; a spill of a region that has bytes stores that list once, as a slice that is placed by
-/// the file and the region, and makes it the region's base. No byte of the file moves. The faults are those of
-/// the region's list, and for a spill also `Write`. A fault leaves the store of versions as it was, and changes
-/// nothing but what a slice leaves that was not stored, or for which memory was short.
+/// Plans a job of a region as it stands now, and pins the number. A compaction makes the region's list
+/// compact: slices alone, sorted and disjoint, no two neighbours of which could be one; a spill of a region
+/// that has bytes stores that list once, as a slice that is placed by the file and the region, and makes it
+/// the region's base. No byte of the file moves. No list comes to be remembered but that of the base that the
+/// region had, so what was spilled is read anew when it is asked for. The faults are those of the region's
+/// list, and for a spill also `Write`. A fault leaves the store of versions as it was, and changes nothing but
+/// what a slice leaves that was not stored, or for which memory was short.
 pub fn plan<S: SliceStore>(
     alloc: Global,
     dev: &mut Dev<'_, S>,
@@ -230,6 +239,10 @@ pub fn plan<S: SliceStore>(
         LeadsTo (metadata_at kv.old kv.old.number) p.now i →
         IsPlanFault S.kind dev.old dev.new kind
         (region_at (metadata_at kv.old kv.old.number) i region) why) }
+    ensures only { (i : inode_id.InodeId) →
+        LeadsTo (metadata_at kv.old kv.old.number) p.now i →
+        RemembersItsBase dev.old dev.new
+        (region_at (metadata_at kv.old kv.old.number) i region) }
     ensures reads { kind ≡ JobKind.Compact → OnlyRead S.kind (between dev.old dev.new) }
     ensures dev { GoesOn S.kind dev.old dev.new [] }
 {

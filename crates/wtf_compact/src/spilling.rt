@@ -10,8 +10,9 @@ ghost use Rattle.wtf_replica.specs.Copies.{IsStored};
 ghost use Rattle.wtf_replica.specs.Faults.{IsWriteFault};
 ghost use Rattle.wtf_meta.specs.Bytes.{BaseBytes, SliceBytes, any_slice};
 ghost use Rattle.wtf_meta.specs.Contents.{lists_in};
-ghost use Rattle.wtf_region.specs.Devs.{IsSoundDev, GoesOn, stores, told_in, inside_of, between, place_in};
-ghost use Rattle.wtf_region.specs.Reads.{IsBaseFault};
+ghost use Rattle.wtf_region.specs.Cached.{RemembersOnly};
+ghost use Rattle.wtf_region.specs.Devs.{IsSoundDev, GoesOn, stores, remembered, told_in, inside_of, between, place_in};
+ghost use Rattle.wtf_region.specs.Reads.{IsOfBase, IsBaseFault};
 ghost use Rattle.wtf_region.specs.Showing.{OnlyRead};
 ghost use Rattle.wtf_compact.specs.Planned.{IsShortList};
 
@@ -34,6 +35,7 @@ pub(crate) fn short_list<S: SliceStore>(
     requires inside { BaseBytes (inside_of S.kind dev.old) any_slice value.now.base }
     ensures list { IfOk result (IsShortList S.kind dev.old dev.new value.now) }
     ensures fault { IfErr result (IsBaseFault S.kind dev.old dev.new value.now.base) }
+    ensures only { RemembersOnly (IsOfBase value.now.base) (remembered dev.old) (remembered dev.new) }
     ensures reads { OnlyRead S.kind (between dev.old dev.new) }
     ensures dev { GoesOn S.kind dev.old dev.new [] }
 {
@@ -67,6 +69,7 @@ pub(crate) fn store_list<S: SliceStore>(
     ensures inside { IfOk result (SliceBytes (inside_of S.kind dev.new)) }
     ensures fault { IfErr result (λ why. (why ≡ Fault.Memory) ⊎
         IsWriteFault S.kind (between dev.old dev.new) dev.old.settings why) }
+    ensures lists { remembered dev.new ≡ remembered dev.old }
     ensures dev { GoesOn S.kind dev.old dev.new [] }
 {
     let bytes = match encode(alloc, list) {

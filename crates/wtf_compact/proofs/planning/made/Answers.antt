@@ -1,0 +1,27 @@
+use Rattle.std.proofs.Common.{ℕ, List, subst}
+use Rattle.wtf_base.specs.declared.ids.InodeId.{InodeId}
+use Rattle.wtf_values.specs.declared.key.Key.TheVariants.{Path}
+use Rattle.wtf_meta.specs.Maps.{Map, metadata_at}
+use Rattle.wtf_meta.specs.Trees.{LeadsTo}
+use Rattle.wtf_meta.proofs.Standing.{one_leads}
+use Rattle.wtf_region.specs.declared.dev.Dev.{Dev}
+use Rattle.wtf_compact.specs.Jobs.{region_at}
+use Rattle.wtf_compact.specs.Planned.{RemembersItsBase}
+use Rattle.wtf_compact.proofs.planning.made.Goals as goal
+
+-- a path leads to one file
+its_base : {S : Type 0} (old new : Dev S) (w : Map) (p : List ℕ) (r : ℕ) (i : InodeId) → LeadsTo w p i → RemembersItsBase old new (region_at w i r)
+    → (j : InodeId) → LeadsTo w p j → RemembersItsBase old new (region_at w j r)
+its_base old new w p r i leads h j other = subst (λ k. RemembersItsBase old new (region_at w k r)) (one_leads (w (Path p)) i j leads other) h
+
+pub returns-in-Ok-planned-clause-only : goal.returns-in-Ok-planned-clause-only
+returns-in-Ok-planned-clause-only g c =
+    let kv = c.args.kv.now in
+    its_base c.args.dev.now c.planned.new.dev (metadata_at kv kv.number) c.args.p.now c.args.region c.in-Ok-file_at.inode c.in-Ok-file_at.ensures.leads
+    c.planned.ensures.only
+
+pub returns-in-Err-planned-clause-only : goal.returns-in-Err-planned-clause-only
+returns-in-Err-planned-clause-only g c =
+    let kv = c.args.kv.now in
+    its_base c.args.dev.now c.planned.new.dev (metadata_at kv kv.number) c.args.p.now c.args.region c.in-Ok-file_at.inode c.in-Ok-file_at.ensures.leads
+    c.planned.ensures.only
