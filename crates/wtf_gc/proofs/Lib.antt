@@ -1,0 +1,12 @@
+mod Adding
+mod Advancing
+mod Between
+mod Collecting
+mod Found
+mod Freeing
+mod Listed
+mod Living
+mod Noted
+mod Pins
+mod Ranges
+mod Walks

@@ -1,0 +1,77 @@
+-- Lists that are read one after another.
+use Rattle.std.proofs.Common.{◌≡◌, Bool, true, ◌||◌, List, [], ◌∷◌, ◌++◌, map, take, get_or, length, ℕ, ◌+◌, ◌<◌, refl, sym, ap, ◌∙◌}
+use Rattle.std.specs.List.{All}
+use Rattle.std.proofs.lemmas.List.Elements.{All-nil, All-cons, All-append}
+use Rattle.std.proofs.lemmas.List.{map-append, take_more}
+use Rattle.std.proofs.lemmas.List.Folds.{list_any-append}
+use Rattle.std.proofs.lemmas.List.Elements.{All-weaker}
+use Rattle.wtf_base.specs.declared.slice.Slice.{Slice}
+use Rattle.wtf_base.specs.Places.{Place}
+use Rattle.wtf_dev.specs.Store.{StoreKind, KindLaws}
+use Rattle.wtf_overlay.specs.declared.part.Entry.{Entry}
+use Rattle.wtf_meta.specs.Lists.{ListFact}
+use Rattle.wtf_meta.specs.Bytes.{SliceBytes, EntryBytes, ListSlices, any_slice}
+use Rattle.wtf_region.specs.declared.dev.Dev.{Dev}
+use Rattle.wtf_region.specs.Devs.{GoesOn, IsSoundDev, inside_of}
+use Rattle.wtf_region.specs.Reads.{IsSliceRead}
+use Rattle.wtf_region.proofs.ListReads.{entries_later, places_later, facts_on}
+use Rattle.wtf_gc.specs.declared.extent.Extent.{Extent}
+use Rattle.wtf_gc.specs.Extents.{covers}
+use Rattle.wtf_gc.specs.Named.{list_has, facts_have}
+use Rattle.wtf_gc.specs.Reading.{ListsRead}
+use Rattle.wtf_gc.proofs.Adding.{or_none, or_thrice}
+
+slices_both : (P : List Place → Bool) (fs gs : List ListFact) → ListSlices P any_slice fs → ListSlices P any_slice gs → ListSlices P any_slice (fs ++ gs)
+slices_both P [] gs a b = b
+slices_both P (f ∷ fs) gs a b = (a.0, slices_both P fs gs a.1 b)
+
+slices_moved : (P Q : List Place → Bool) → ((qs : List Place) → P qs ≡ true → Q qs ≡ true) → (fs : List ListFact) → ListSlices P any_slice fs
+    → ListSlices Q any_slice fs
+slices_moved P Q f [] a = tt
+slices_moved P Q f (g ∷ gs) a = ((λ i lt. f _ (a.0.0 i lt), a.0.1), slices_moved P Q f gs a.1)
+
+module _ {S : Type 0} {kind : StoreKind S} (laws : KindLaws kind) where
+  -- none is read
+  pub read_none : (dev : Dev S) (found : List Extent) → ListsRead kind dev dev [] found found
+  read_none dev found = record {
+    facts = [];
+    each = refl;
+    adds = λ p. sym (or_none (covers found p));
+    lie = tt;
+    inside = All-nil (λ (f : ListFact). All (EntryBytes (inside_of kind dev)) f.list);
+    told = λ ranges was told apart. tt;
+  }
+
+  -- one is
+  pub read_one : (old new : Dev S) (s : Slice) (es : List Entry) (found found' : List Extent) → IsSliceRead kind old new s es
+      → SliceBytes (inside_of kind new) s
+      → ((p : Place) → covers found' p ≡ (covers found p || list_has es p)) → ListsRead kind old new (s ∷ []) found found'
+  read_one old new s es found found' read inside adds = record {
+    facts = record { slice = s; list = es } ∷ [];
+    each = refl;
+    adds = λ p. adds p ∙ ap (λ b. covers found p || b) (sym (or_none (list_has es p)));
+    lie = ((inside, refl), tt);
+    inside = All-cons (λ (f : ListFact). All (EntryBytes (inside_of kind new)) f.list) (record { slice = s; list = es }) [] read.inside
+        (All-nil (λ (f : ListFact). All (EntryBytes (inside_of kind new)) f.list));
+    told = λ ranges was told apart. (read.told ranges was told.0.0 apart.0.0, tt);
+  }
+
+  -- one after others
+  pub read_on : {old mid new : Dev S} → IsSoundDev kind old → GoesOn kind old mid [] → GoesOn kind mid new []
+      → (slices more : List Slice) (before between after : List Extent)
+      → ListsRead kind old mid slices before between → ListsRead kind mid new more between after → ListsRead kind old new (slices ++ more) before after
+  read_on {old = old} {mid = mid} {new = new} sound g h slices more before between after first next = record {
+    facts = first.facts ++ next.facts;
+    each = map-append (λ (f : ListFact). f.slice) first.facts next.facts ∙ ap (λ l. l ++ map (λ (f : ListFact). f.slice) next.facts) first.each ∙ ap (λ l. slices ++ l) next.each;
+    adds = λ p. next.adds p ∙ ap (λ b. b || facts_have next.facts p) (first.adds p) ∙ or_thrice (covers before p) (facts_have first.facts p) (facts_have next.facts p)
+        ∙ ap (λ b. covers before p || b) (sym (list_any-append (λ (f : ListFact). list_has f.list p) first.facts next.facts));
+    lie = slices_both (inside_of kind new) first.facts next.facts (slices_moved (inside_of kind mid) (inside_of kind new) (places_later laws g.sound h) first.facts first.lie) next.lie;
+    inside = All-append (λ (f : ListFact). All (EntryBytes (inside_of kind new)) f.list) first.facts next.facts
+        (All-weaker (λ (f : ListFact). All (EntryBytes (inside_of kind mid)) f.list) (λ (f : ListFact). All (EntryBytes (inside_of kind new)) f.list)
+        (λ f is. entries_later laws g.sound h f.list is) first.facts first.inside)
+        next.inside;
+    told = facts_on laws sound g h first.facts next.facts first.lie first.told next.told;
+  }
+
+pub map_more : {X Y : Type 0} (f : X → Y) (xs : List X) (i : ℕ) (d : X) → i < length xs → map f (take i xs) ++ f (get_or xs i d) ∷ [] ≡ map f (take (i + 1) xs)
+map_more f xs i d below = sym (ap (map f) (take_more xs i d below) ∙ map-append f (take i xs) (get_or xs i d ∷ []))

@@ -1,0 +1,10 @@
+pub mod Extents
+pub mod Frees
+pub mod Named
+pub mod Parts
+pub mod Pinning
+pub mod Reading
+pub mod Scans
+pub mod Spans
+pub mod Unused
+pub mod Views

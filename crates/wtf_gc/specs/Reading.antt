@@ -1,0 +1,61 @@
+-- What parts of a scan read, and why they do not.
+use Rattle.std.specs.Prelude.{◌≡◌, ◌⊎◌, Bool, ◌||◌, List, [], map}
+use Rattle.std.specs.List.{Contains}
+use Rattle.wtf_base.specs.declared.fault.Fault.{Fault}
+use Rattle.wtf_base.specs.declared.fault.Fault.TheVariants as fault
+use Rattle.wtf_base.specs.declared.slice.Slice.{Slice}
+use Rattle.wtf_base.specs.Places.{Place}
+use Rattle.wtf_dev.specs.Store.{StoreKind}
+use Rattle.wtf_kv.specs.Stores.{Store}
+use Rattle.wtf_values.specs.declared.key.Key.{Key}
+use Rattle.wtf_values.specs.declared.value.Value.{Value}
+use Rattle.wtf_values.specs.declared.region.RegionValue.{RegionValue}
+use Rattle.wtf_meta.specs.Lists.{Lists, ListFact, TellLists}
+use Rattle.wtf_region.specs.declared.dev.Dev.{Dev}
+use Rattle.wtf_meta.specs.Bytes.{ListSlices, any_slice}
+use Rattle.wtf_region.specs.Devs.{GoesOn, inside_of}
+use Rattle.wtf_region.specs.Reads.{TellsFacts, AreInsideLists, IsSliceFault, IsBaseFault}
+use Rattle.wtf_gc.specs.declared.extent.Extent.{Extent}
+use Rattle.wtf_gc.specs.declared.gather.Base.{Base}
+use Rattle.wtf_gc.specs.declared.parts.Parts.{Parts}
+use Rattle.wtf_gc.specs.Extents.{covers}
+use Rattle.wtf_gc.specs.Named.{facts_have}
+use Rattle.wtf_gc.specs.Parts.{IsIn, Finds}
+
+-- the lists of slices were read, and what they name was added
+pub record ListsRead {S : Type 0} (kind : StoreKind S) (old new : Dev S) (slices : List Slice) (before after : List Extent) : Type 0 where
+  pub facts : List ListFact
+  pub each : map (λ (f : ListFact). f.slice) facts ≡ slices
+  pub adds : (p : Place) → covers after p ≡ (covers before p || facts_have facts p)
+  pub lie : ListSlices (inside_of kind new) any_slice facts
+  pub inside : AreInsideLists kind new facts
+  pub told : TellsFacts kind old new facts
+
+-- the list of one of these was not read, at a moment to which the call had gone on
+pub record LacksOne {S : Type 0} (kind : StoreKind S) (old new : Dev S) (bases : List Base) (why : Fault) : Type 0 where
+  pub mid : Dev S
+  pub goes : GoesOn kind old mid []
+  pub base : Base
+  pub one : Contains bases base
+  pub cause : IsSliceFault kind mid new base.slice why
+
+abbrev pub IsBasesFault : {S : Type 0} → StoreKind S → (old new : Dev S) → List Base → Fault → Type 0
+IsBasesFault kind old new bases why = (why ≡ fault.Memory) ⊎ LacksOne kind old new bases why
+
+-- Parts were read: over all lists that agree with what was read of bases, what was found before and now is what the parts find.
+pub record PartsRead {S : Type 0} (kind : StoreKind S) (old new : Dev S) (kv : Store Key Value) (parts : Parts) (before after : Place → Bool) : Type 0 where
+  pub facts : List ListFact
+  pub finds : (lists : Lists) → TellLists lists facts → Finds lists kv parts before after
+  pub inside : AreInsideLists kind new facts
+  pub told : TellsFacts kind old new facts
+
+-- the base of a version of a region of these parts was not read
+pub record LacksBase {S : Type 0} (kind : StoreKind S) (old new : Dev S) (kv : Store Key Value) (parts : Parts) (why : Fault) : Type 0 where
+  pub mid : Dev S
+  pub goes : GoesOn kind old mid []
+  pub region : RegionValue
+  pub there : IsIn kv parts region
+  pub cause : IsBaseFault kind mid new region.base why
+
+abbrev pub IsPartsFault : {S : Type 0} → StoreKind S → (old new : Dev S) → Store Key Value → Parts → Fault → Type 0
+IsPartsFault kind old new kv parts why = (why ≡ fault.Memory) ⊎ LacksBase kind old new kv parts why
