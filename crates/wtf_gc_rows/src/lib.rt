@@ -1,0 +1,5 @@
+//! Tests, from outside, of scans and collections.
+#![tactic(auto)]
+
+#[cfg(test)]
+mod scans;
