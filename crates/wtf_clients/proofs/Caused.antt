@@ -9,6 +9,7 @@ use Rattle.wtf_slicing.specs.Shown.{LacksSlice}
 use Rattle.wtf_slicing.specs.Ops.{IsYankFault, IsConcatFault}
 use Rattle.wtf_base.specs.declared.fault.Fault.{Fault}
 use Rattle.wtf_base.specs.declared.fault.Fault.TheVariants as fault
+use Rattle.wtf_base.specs.declared.ids.InodeId.{InodeId}
 use Rattle.wtf_base.specs.declared.kept.Kept.{Kept}
 use Rattle.wtf_base.specs.declared.settings.Settings.{Settings}
 use Rattle.wtf_base.specs.declared.slice.Slice.{Slice}
@@ -28,7 +29,7 @@ use Rattle.wtf_model.specs.declared.op.Op.{Op}
 use Rattle.wtf_model.specs.declared.op.Op.TheVariants as op
 use Rattle.wtf_model.specs.Steps.{IsLogged}
 use Rattle.wtf_meta.specs.declared.session.Handle.{Handle}
-use Rattle.wtf_meta.specs.Bytes.{PartBytes, PiecesBytes, MapBytes, any_slice}
+use Rattle.wtf_meta.specs.Bytes.{PartBytes, PiecesBytes, FileBytes, MapBytes, any_slice}
 use Rattle.wtf_meta.specs.Maps.{Map}
 use Rattle.wtf_meta.specs.Sessions.{SessionView, SessionBytes, handle_in, slice_in}
 use Rattle.wtf_meta.proofs.Named.{plans_bytes, file_bytes}
@@ -45,14 +46,14 @@ use Rattle.wtf_meta.specs.FileEdits.{file_of}
 use Rattle.wtf_rw.specs.Stored.{SliceBytes, IsPutFault, end_place}
 use Rattle.wtf_replay.specs.Causes.{StoresNothing, IsOwnOf, IsReadCause, IsPeekCause, IsCallFault, IsAgainFault, fault_answer}
 use Rattle.wtf_replay.specs.Keeps.{LacksData}
-use Rattle.wtf_clients.specs.Named.{any_byte, no_slice, has_copies}
+use Rattle.wtf_clients.specs.Named.{any_byte, has_copies}
 use Rattle.wtf_replica.specs.Copies.{IsStored}
-use Rattle.wtf_clients.specs.Asked.{Asked, IsPlaced, IsCallPlace, HasFailed}
-use Rattle.wtf_clients.specs.Outcomes.{AddsBytes, HasCause, data_of_op}
+use Rattle.wtf_clients.specs.Asked.{Asked, IsPlacedBy, IsPlaced, IsCallPlace, HasFailed}
+use Rattle.wtf_clients.specs.Outcomes.{Load, Data, RegionList, no_load, AddsBytes, HasCause, data_of_op}
 use Rattle.wtf_clients.proofs.Staying.{IsFault, fault_is}
 use Rattle.wtf_clients.specs.Serves.{IsPlain}
 use Rattle.wtf_clients.proofs.Unread.{slice_copies}
-use Rattle.wtf_clients.proofs.Lacking.{memory_none, cause_since, file_caused, shown_caused, read_caused}
+use Rattle.wtf_clients.proofs.Lacking.{AreFullLists, memory_none, cause_since, file_caused, shown_caused, read_caused}
 
 -- the answers of calls are no faults
 pub logged_plain : (a : Answer) → IsLogged a → IsPlain a
@@ -82,33 +83,47 @@ has_failed fails why (answer.Damaged k) is h = (why, is, h)
 has_failed fails why a is h = tt
 
 -- what was stored for a line that hands nothing in, for one that is refused, and for one that failed
-pub none_placed : {S : Type 0} (kind : StoreKind S) (t : Span S) (settings : Settings) (asked : Asked) (a : Answer) → asked.given ≡ [] → IsPlaced kind t settings asked a
-none_placed kind t settings asked a none is some = absurd (let len : length asked.given ≡ 0 = ap length none in omega (arith, some, len))
+pub none_placed : {S : Type 0} (kind : StoreKind S) (t : Span S) (settings : Settings) (asked : Asked) (a : Answer) → asked.given ≡ no_load
+    → IsPlaced kind t settings asked a
+none_placed kind t settings asked a none =
+    subst (λ (l : Load). IsPlacedBy kind t settings asked l a) (sym none) (λ is some. absurd (omega (arith, some)))
 
-pub refused_placed : {S : Type 0} (kind : StoreKind S) (t : Span S) (settings : Settings) (asked : Asked) (a : Answer) → IsRefusal a → IsPlaced kind t settings asked a
-refused_placed kind t settings asked a refusal is some = absurd (subst IsRefusal is refusal)
+pub refused_placed : {S : Type 0} (kind : StoreKind S) (t : Span S) (settings : Settings) (asked : Asked) (a : Answer) → IsRefusal a
+    → IsPlaced kind t settings asked a
+refused_placed kind t settings asked a refusal = by asked.given
+  where
+    by : (l : Load) → IsPlacedBy kind t settings asked l a
+    by (Data bytes) = λ is some. absurd (subst IsRefusal is refusal)
+    by RegionList = λ is. absurd (subst IsRefusal is refusal)
 
-pub fault_placed : {S : Type 0} (kind : StoreKind S) (t : Span S) (settings : Settings) (asked : Asked) (why : Fault) (a : Answer) → fault_answer why ≡ Some a → IsPlaced kind t settings asked a
-fault_placed kind t settings asked why a is ok some = absurd (subst IsFault ok (fault_is why a is))
+pub fault_placed : {S : Type 0} (kind : StoreKind S) (t : Span S) (settings : Settings) (asked : Asked) (why : Fault) (a : Answer)
+    → fault_answer why ≡ Some a → IsPlaced kind t settings asked a
+fault_placed kind t settings asked why a is = by asked.given
+  where
+    by : (l : Load) → IsPlacedBy kind t settings asked l a
+    by (Data bytes) = λ ok some. absurd (subst IsFault ok (fault_is why a is))
+    by RegionList = λ ok. absurd (subst IsFault ok (fault_is why a is))
 
 module _ {S : Type 0} (kind : StoreKind S) (t : Span S) (settings : Settings) where
   -- needs no cause
-  pub plain_caused : (saving bare full : Type 0) (given : List ℕ) (a : Answer) → IsPlain a → HasCause kind t settings saving bare full given a
-  plain_caused saving bare full given (answer.FaultRead k) h = absurd h
-  plain_caused saving bare full given answer.FaultWrite h = absurd h
-  plain_caused saving bare full given (answer.FaultPunch k) h = absurd h
-  plain_caused saving bare full given answer.FaultSave h = absurd h
-  plain_caused saving bare full given (answer.Damaged k) h = absurd h
-  plain_caused saving bare full given a h = tt
+  pub plain_caused : (saving : Type 0) (based : (Slice → Bool) → Type 0) (full : Type 0) (given : Load) (a : Answer) → IsPlain a
+      → HasCause kind t settings saving based full given a
+  plain_caused saving based full given (answer.FaultRead k) h = absurd h
+  plain_caused saving based full given answer.FaultWrite h = absurd h
+  plain_caused saving based full given (answer.FaultPunch k) h = absurd h
+  plain_caused saving based full given answer.FaultSave h = absurd h
+  plain_caused saving based full given (answer.Damaged k) h = absurd h
+  plain_caused saving based full given a h = tt
 
   -- a line that stores nothing
-  pub none_added : (a : Answer) → SameLengths kind t.before t.after → AddsBytes kind t settings [] a
+  pub none_added : (a : Answer) → SameLengths kind t.before t.after → AddsBytes kind t settings no_load a
   none_added answer.FaultWrite h = tt
   none_added a h = h
 
-  pub refused_adds : (given : List ℕ) (a : Answer) → IsRefusal a → SameLengths kind t.before t.after → AddsBytes kind t settings given a
-  refused_adds [] (answer.Refused w) r h = h
-  refused_adds (b ∷ bs) (answer.Refused w) r h = h
+  pub refused_adds : (given : Load) (a : Answer) → IsRefusal a → SameLengths kind t.before t.after → AddsBytes kind t settings given a
+  refused_adds (Data []) (answer.Refused w) r h = h
+  refused_adds (Data (b ∷ bs)) (answer.Refused w) r h = h
+  refused_adds RegionList (answer.Refused w) r h = h
   refused_adds given a r h = absurd r
 
 -- a slice has a byte
@@ -123,30 +138,32 @@ module _ {S : Type 0} (kind : StoreKind S) (old new : Dev S) where
   same_lengths e = subst (λ (d : Dev S). SameLengths kind (stores old) (stores d)) (sym e) (reads_nothing kind (is_down old.replicas.now) (stores old)).lengths
 
   own_adds : (o : Option Handle) (place : Handle → PlaceView) (bytes : List ℕ) (own : Option Slice) (a : Answer) → OwnBy kind old new o place bytes own
-      → (own ≡ None → (length bytes ≡ 0) ⊎ IsRefusal a) → (IsSome own → a ≡ answer.Okay) → AddsBytes kind (between old new) old.settings bytes a
+      → (own ≡ None → (length bytes ≡ 0) ⊎ IsRefusal a) → (IsSome own → a ≡ answer.Okay) → AddsBytes kind (between old new) old.settings (Data bytes) a
   own_adds None place [] own a h lacks done = none_added kind (between old new) old.settings a (same_lengths h.0)
   own_adds (Some g) place [] None a h lacks done = none_added kind (between old new) old.settings a (same_lengths h)
   own_adds (Some g) place [] (Some s) a h lacks done = absurd (let some = some_len s.len s.extents s.sound in let len = h.0.len in omega (arith, some, len))
   own_adds None place (b ∷ bs) own a h lacks done = elim (lacks h.1) [
     | inl none ↦ absurd (omega (arith, none))
-    | inr refusal ↦ refused_adds kind (between old new) old.settings (b ∷ bs) a refusal (same_lengths h.0)
+    | inr refusal ↦ refused_adds kind (between old new) old.settings (Data (b ∷ bs)) a refusal (same_lengths h.0)
   ]
   own_adds (Some g) place (b ∷ bs) None a h lacks done = elim (lacks refl) [
     | inl none ↦ absurd (omega (arith, none))
-    | inr refusal ↦ refused_adds kind (between old new) old.settings (b ∷ bs) a refusal (same_lengths h)
+    | inr refusal ↦ refused_adds kind (between old new) old.settings (Data (b ∷ bs)) a refusal (same_lengths h)
   ]
   own_adds (Some g) place (b ∷ bs) (Some s) a h lacks done =
-      subst (λ (r : Answer). AddsBytes kind (between old new) old.settings (b ∷ bs) r) (sym (done refl)) (place g, s, h.0)
+      subst (λ (r : Answer). AddsBytes kind (between old new) old.settings (Data (b ∷ bs)) r) (sym (done refl)) (place g, s, h.0)
 
   -- what a call that was answered stored
-  pub call_adds : (w : Map) (s : SessionView) (o : Op (List ℕ)) (own : Option Slice) (a : Answer) → IsOwnOf kind old new w s o own → LacksData o own a → (IsSome own → a ≡ answer.Okay)
-      → (StoresNothing o → OnlyRead kind (between old new)) → AddsBytes kind (between old new) old.settings (data_of_op o) a
+  pub call_adds : (w : Map) (s : SessionView) (o : Op (List ℕ)) (own : Option Slice) (a : Answer) → IsOwnOf kind old new w s o own → LacksData o own a
+      → (IsSome own → a ≡ answer.Okay) → (StoresNothing o → OnlyRead kind (between old new))
+      → AddsBytes kind (between old new) old.settings (Data (data_of_op o)) a
   call_adds w s (op.Write f bytes) own a h lacks done reads = own_adds (handle_in s f) _ bytes own a h lacks done
   call_adds w s (op.Append f bytes) own a h lacks done reads = own_adds (handle_in s f) _ bytes own a h lacks done
   call_adds w s o own a h lacks done reads = none_added kind (between old new) old.settings a (reads tt).lengths
 
-  own_placed : (o : Option Handle) (place : Handle → PlaceView) (Goes : PlaceView → Type 0) (bytes : List ℕ) (own : Option Slice) (a : Answer) → OwnBy kind old new o place bytes own
-      → (own ≡ None → (length bytes ≡ 0) ⊎ IsRefusal a) → ((g : Handle) → o ≡ Some g → Goes (place g)) → a ≡ answer.Okay → 0 < length bytes
+  own_placed : (o : Option Handle) (place : Handle → PlaceView) (Goes : PlaceView → Type 0) (bytes : List ℕ) (own : Option Slice) (a : Answer)
+      → OwnBy kind old new o place bytes own → (own ≡ None → (length bytes ≡ 0) ⊎ IsRefusal a) → ((g : Handle) → o ≡ Some g → Goes (place g))
+      → a ≡ answer.Okay → 0 < length bytes
       → (p : PlaceView) × Goes p × (slice : Slice) × IsStored kind (between old new) old.settings.replicas p bytes slice
   own_placed None place Goes bytes own a h lacks goes ok some = elim (lacks h.1) [
     | inl none ↦ absurd (omega (arith, none, some))
@@ -160,21 +177,25 @@ module _ {S : Type 0} (kind : StoreKind S) (old new : Dev S) where
   own_placed (Some g) place Goes (b ∷ bs) (Some s) a h lacks goes ok some = (place g, goes g refl, s, h.0)
 
   -- and where
-  pub call_placed : (w : Map) (s : SessionView) (o : Op (List ℕ)) (own : Option Slice) (a : Answer) → IsOwnOf kind old new w s o own → LacksData o own a → a ≡ answer.Okay → 0 < length (data_of_op o)
+  pub call_placed : (w : Map) (s : SessionView) (o : Op (List ℕ)) (own : Option Slice) (a : Answer) → IsOwnOf kind old new w s o own → LacksData o own a
+      → a ≡ answer.Okay → 0 < length (data_of_op o)
       → (p : PlaceView) × IsCallPlace old w s o p × (slice : Slice) × IsStored kind (between old new) old.settings.replicas p (data_of_op o) slice
   call_placed w s (op.Write f bytes) own a h lacks ok some =
       own_placed (handle_in s f) (λ g. place_in old g.inode g.off) (IsCallPlace old w s (op.Write f bytes)) bytes own a h lacks (λ g is. (g, is, refl)) ok some
   call_placed w s (op.Append f bytes) own a h lacks ok some =
-      own_placed (handle_in s f) (λ g. place_in old g.inode (end_place old.settings.region (file_of g.inode w))) (IsCallPlace old w s (op.Append f bytes)) bytes own a h lacks (λ g is. (g, is, refl)) ok some
+      own_placed (handle_in s f) (λ g. place_in old g.inode (end_place old.settings.region (file_of g.inode w))) (IsCallPlace old w s (op.Append f bytes))
+      bytes own a h lacks (λ g is. (g, is, refl)) ok some
   call_placed w s o own a h lacks ok some = absurd (omega (arith, some))
 
-  own_by_full : (o : Option Handle) (place : Handle → PlaceView) (bytes : List ℕ) (own : Option Slice) → OwnBy kind old new o place bytes own → SliceBytes (has_copies old.settings.replicas) own
+  own_by_full : (o : Option Handle) (place : Handle → PlaceView) (bytes : List ℕ) (own : Option Slice) → OwnBy kind old new o place bytes own
+      → SliceBytes (has_copies old.settings.replicas) own
   own_by_full None place bytes own h = subst (SliceBytes (has_copies old.settings.replicas)) (sym h.1) tt
   own_by_full (Some g) place bytes None h = tt
   own_by_full (Some g) place bytes (Some s) h = slice_copies old.settings.replicas s (len_of s) h.0.width
 
   -- it has as many copies as there are replicas
-  pub own_full : (w : Map) (s : SessionView) (o : Op (List ℕ)) (own : Option Slice) → IsOwnOf kind old new w s o own → SliceBytes (has_copies old.settings.replicas) own
+  pub own_full : (w : Map) (s : SessionView) (o : Op (List ℕ)) (own : Option Slice) → IsOwnOf kind old new w s o own
+      → SliceBytes (has_copies old.settings.replicas) own
   own_full w s (op.Write f bytes) own h = own_by_full (handle_in s f) _ bytes own h
   own_full w s (op.Append f bytes) own h = own_by_full (handle_in s f) _ bytes own h
   own_full w s (op.Read f n) own h = subst (SliceBytes (has_copies old.settings.replicas)) (sym h) tt
@@ -194,22 +215,24 @@ module _ {S : Type 0} (kind : StoreKind S) (old new : Dev S) where
   put_fault (b ∷ bs) (fault.Damaged k) a is (inr few) = absurd few
   put_fault (b ∷ bs) fault.Memory a is (inr few) = absurd few
 
-  put_caused : (bare full : Type 0) (bytes : List ℕ) (why : Fault) (a : Answer) → fault_answer why ≡ Some a → IsPutFault kind old new bytes why → HasCause
-      kind (between old new) old.settings ⊥ bare full bytes a
-  put_caused bare full bytes why a is h =
+  put_caused : (based : (Slice → Bool) → Type 0) (full : Type 0) (bytes : List ℕ) (why : Fault) (a : Answer) → fault_answer why ≡ Some a
+      → IsPutFault kind old new bytes why → HasCause kind (between old new) old.settings ⊥ based full (Data bytes) a
+  put_caused based full bytes why a is h =
       let cause = put_fault bytes why a is h in
-      subst (λ (r : Answer). HasCause kind (between old new) old.settings ⊥ bare full bytes r) (sym cause.0) (cause.1, cause.2)
+      subst (λ (r : Answer). HasCause kind (between old new) old.settings ⊥ based full (Data bytes) r) (sym cause.0) (cause.1, cause.2)
 
-  put_adds : (bytes : List ℕ) (why : Fault) (a : Answer) → fault_answer why ≡ Some a → IsPutFault kind old new bytes why → AddsBytes kind (between old new) old.settings bytes a
+  put_adds : (bytes : List ℕ) (why : Fault) (a : Answer) → fault_answer why ≡ Some a → IsPutFault kind old new bytes why
+      → AddsBytes kind (between old new) old.settings (Data bytes) a
   put_adds bytes why a is h = by bytes (put_fault bytes why a is h)
     where
-      by : (l : List ℕ) → (a ≡ answer.FaultWrite) × (0 < length l) × AreTooFew kind (between old new) old.settings.servers old.settings.replicas → AddsBytes kind (between old new) old.settings l a
+      by : (l : List ℕ) → (a ≡ answer.FaultWrite) × (0 < length l) × AreTooFew kind (between old new) old.settings.servers old.settings.replicas
+          → AddsBytes kind (between old new) old.settings (Data l) a
       by [] cause = absurd (let some = cause.1 in omega (arith, some))
-      by (b ∷ bs) cause = subst (λ (r : Answer). AddsBytes kind (between old new) old.settings (b ∷ bs) r) (sym cause.0) tt
+      by (b ∷ bs) cause = subst (λ (r : Answer). AddsBytes kind (between old new) old.settings (Data (b ∷ bs)) r) (sym cause.0) tt
 
   -- what a call that failed stored
   pub fault_adds : (w : Map) (s : SessionView) (o : Op (List ℕ)) (why : Fault) (a : Answer) → fault_answer why ≡ Some a → IsCallFault kind old new w s o why
-      → (StoresNothing o → OnlyRead kind (between old new)) → AddsBytes kind (between old new) old.settings (data_of_op o) a
+      → (StoresNothing o → OnlyRead kind (between old new)) → AddsBytes kind (between old new) old.settings (Data (data_of_op o)) a
   fault_adds w s (op.Write f bytes) why a is h reads = put_adds bytes why a is h
   fault_adds w s (op.Append f bytes) why a is h reads = put_adds bytes why a is h
   fault_adds w s o why a is h reads = none_added kind (between old new) old.settings a (reads tt).lengths
@@ -222,34 +245,39 @@ SeenBytes P Q w s = MapBytes P Q w × SessionBytes P s
 piece_bytes : (P : List Place → Bool) → P [] ≡ true → (ps : List Piece) (i : ℕ) → PiecesBytes P ps → P (pieces_origin ps i) ≡ true
 piece_bytes P hole [] i h = hole
 piece_bytes P hole (p ∷ ps) i h = elim (cases_lt i p.len) [
-  | inl l ↦ ap P (cond-true (nat_lt i p.len) (part_origin p.part i) (pieces_origin ps (i - p.len)) (lt-ltb i p.len l)) ∙ All-head (λ (q : Piece). PartBytes P q.len q.part) p ps h i l
-  | inr g ↦ ap P (cond-false (nat_lt i p.len) (part_origin p.part i) (pieces_origin ps (i - p.len)) (le-ltb i p.len g)) ∙ piece_bytes P hole ps (i - p.len) (All-tail (λ (q : Piece). PartBytes P q.len q.part) p ps h)
+  | inl l ↦ ap P (cond-true (nat_lt i p.len) (part_origin p.part i) (pieces_origin ps (i - p.len)) (lt-ltb i p.len l))
+      ∙ All-head (λ (q : Piece). PartBytes P q.len q.part) p ps h i l
+  | inr g ↦ ap P (cond-false (nat_lt i p.len) (part_origin p.part i) (pieces_origin ps (i - p.len)) (le-ltb i p.len g))
+      ∙ piece_bytes P hole ps (i - p.len) (All-tail (λ (q : Piece). PartBytes P q.len q.part) p ps h)
 ]
 
--- why bytes or lists were not read, where each byte of the map and of the slices in hand lies inside the stores
+-- Why bytes or lists were not read, where each byte of the map and of the slices in hand lies inside the stores. `based` says of a test that
+-- each base passes it; where `full` holds each byte has as many copies as there are replicas, O holds of each base, and each byte of a list
+-- that was read of such a base has as many.
 module _ {S : Type 0} {kind : StoreKind S} (laws : KindLaws kind) (old new : Dev S) (sound : IsSoundDev kind old) (w : Map) (s : SessionView)
-    (bare full : Type 0)
-    (inside : SeenBytes (inside_of kind old) any_slice w s) (none : bare → SeenBytes any_byte no_slice w s)
-    (copies : full → SeenBytes (has_copies old.settings.replicas) no_slice w s) where
+    (based : (Slice → Bool) → Type 0) (full : Type 0) (O : Slice → Bool)
+    (inside : SeenBytes (inside_of kind old) any_slice w s) (passes : (Q : Slice → Bool) → based Q → SeenBytes any_byte Q w s)
+    (copies : full → SeenBytes (has_copies old.settings.replicas) O w s)
+    (lists : (i : InodeId) (off n : ℕ) → AreFullLists kind old new full O (file_of i w) off n) where
   abbrev Caused : Answer → Type 0
-  Caused a = HasCause kind (between old new) old.settings ⊥ bare full [] a
+  Caused a = HasCause kind (between old new) old.settings ⊥ based full no_load a
 
   read_by : (handle : Option Handle) (n : ℕ) (why : Fault) (a : Answer) → fault_answer why ≡ Some a → IsReadCause kind old new w handle n why → Caused a
   read_by handle n why a is (inl memory) = absurd (memory_none why a is memory)
   read_by handle n why a is (inr (h, there, lacks)) =
-      read_caused laws old new sound bare full why a is (file_of h.inode w) h.off (found_in old.settings.region w h n) any_byte
+      read_caused laws old new sound based full O why a is (file_of h.inode w) h.off (found_in old.settings.region w h n) any_byte
       (file_bytes (inside_of kind old) any_slice h.inode w inside.0)
-      (λ c. file_bytes any_byte no_slice h.inode w (none c).0)
-      (λ c. file_bytes (has_copies old.settings.replicas) no_slice h.inode w (copies c).0) lacks
+      (λ Q c. file_bytes any_byte Q h.inode w (passes Q c).0)
+      (λ c. file_bytes (has_copies old.settings.replicas) O h.inode w (copies c).0)
+      (lists h.inode h.off (found_in old.settings.region w h n)) lacks
 
   yank_by : (handle : Option Handle) (n : ℕ) (why : Fault) (a : Answer) → fault_answer why ≡ Some a → IsYankFault kind old new w handle n why → Caused a
   yank_by handle n why a is (inl memory) = absurd (memory_none why a is memory)
   yank_by handle n why a is (inr (h, there, lacks)) =
-      file_caused laws old new sound bare full why a is (file_of h.inode w) h.off (found_in old.settings.region w h n) any_byte
-      (has_copies old.settings.replicas)
+      file_caused laws old new sound based full O why a is (file_of h.inode w) h.off (found_in old.settings.region w h n) any_byte
       (file_bytes (inside_of kind old) any_slice h.inode w inside.0)
-      (λ c. file_bytes any_byte no_slice h.inode w (none c).0)
-      (λ c. file_bytes (has_copies old.settings.replicas) no_slice h.inode w (copies c).0) lacks
+      (λ Q c. file_bytes any_byte Q h.inode w (passes Q c).0)
+      (λ c. file_bytes (has_copies old.settings.replicas) O h.inode w (copies c).0) lacks
 
   slice_by : (o : Option (List Piece)) (off n : ℕ) (why : Fault) (a : Answer) → (full → (ps : List Piece) → o ≡ Some ps → PiecesBytes
       (has_copies old.settings.replicas) ps) → fault_answer why ≡ Some a → LacksSlice kind old new o off n why
@@ -257,7 +285,7 @@ module _ {S : Type 0} {kind : StoreKind S} (laws : KindLaws kind) (old new : Dev
   slice_by None off n why a whole is h = absurd h
   slice_by (Some ps) off n why a whole is (inl memory) = absurd (memory_none why a is memory)
   slice_by (Some ps) off n why a whole is (inr lacks) =
-      shown_caused laws old new sound bare full why a is n (ShowPlaces n (λ i. pieces_origin ps (off + i)))
+      shown_caused laws old new sound based full O why a is n (ShowPlaces n (λ i. pieces_origin ps (off + i)))
       (λ c qs plans. plans_bytes (has_copies old.settings.replicas) qs n (λ i. pieces_origin ps (off + i)) plans
       (λ i below. piece_bytes (has_copies old.settings.replicas) refl ps (off + i) (whole c ps refl))) lacks
 
@@ -268,15 +296,17 @@ module _ {S : Type 0} {kind : StoreKind S} (laws : KindLaws kind) (old new : Dev
   concat_by : (paths : List (List ℕ)) (why : Fault) (a : Answer) → fault_answer why ≡ Some a → IsConcatFault kind old new w paths why → Caused a
   concat_by paths why a is (inl memory) = absurd (memory_none why a is memory)
   concat_by paths why a is (inr (files, sources, lacks)) =
-      cause_since laws old lacks.mid new bare full a lacks.goes
-      (file_caused laws lacks.mid new lacks.goes.sound bare full why a is (file_of lacks.inode w) 0 _ any_byte (has_copies old.settings.replicas)
-      (file_later laws sound lacks.goes (file_of lacks.inode w) (file_bytes (inside_of kind old) any_slice lacks.inode w inside.0))
-      (λ c. file_bytes any_byte no_slice lacks.inode w (none c).0)
-      (λ c. file_bytes (has_copies old.settings.replicas) no_slice lacks.inode w (copies c).0) lacks.cause)
+      let file = file_of lacks.inode w in
+      cause_since laws old lacks.mid new based full a lacks.goes
+      (file_caused laws lacks.mid new lacks.goes.sound based full O why a is file 0 _ any_byte
+      (file_later laws sound lacks.goes file (file_bytes (inside_of kind old) any_slice lacks.inode w inside.0))
+      (λ Q c. file_bytes any_byte Q lacks.inode w (passes Q c).0)
+      (λ c. subst (λ (st : Settings). FileBytes (has_copies st.replicas) O file) (sym lacks.goes.settings)
+      (file_bytes (has_copies old.settings.replicas) O lacks.inode w (copies c).0)) lacks.cause)
 
   -- why a call failed that was made once more
   pub again_caused : (k : Op Kept) (why : Fault) (a : Answer) → fault_answer why ≡ Some a → IsAgainFault kind old new w s k why → HasCause kind
-      (between old new) old.settings ⊥ bare full [] a
+      (between old new) old.settings ⊥ based full no_load a
   again_caused (op.Read f n) why a is h = read_by (handle_in s f) n why a is h
   again_caused (op.Yank f n label) why a is h = yank_by (handle_in s f) n why a is h
   again_caused (op.Peek label off n) why a is h = peek_by label off n why a is h
@@ -285,9 +315,9 @@ module _ {S : Type 0} {kind : StoreKind S} (laws : KindLaws kind) (old new : Dev
 
   -- or for the first time
   pub call_caused : (o : Op (List ℕ)) (why : Fault) (a : Answer) → fault_answer why ≡ Some a → IsCallFault kind old new w s o why → HasCause kind
-      (between old new) old.settings ⊥ bare full (data_of_op o) a
-  call_caused (op.Write f bytes) why a is h = put_caused kind old new bare full bytes why a is h
-  call_caused (op.Append f bytes) why a is h = put_caused kind old new bare full bytes why a is h
+      (between old new) old.settings ⊥ based full (Data (data_of_op o)) a
+  call_caused (op.Write f bytes) why a is h = put_caused kind old new based full bytes why a is h
+  call_caused (op.Append f bytes) why a is h = put_caused kind old new based full bytes why a is h
   call_caused (op.Read f n) why a is h = read_by (handle_in s f) n why a is h
   call_caused (op.Yank f n label) why a is h = yank_by (handle_in s f) n why a is h
   call_caused (op.Peek label off n) why a is h = peek_by label off n why a is h

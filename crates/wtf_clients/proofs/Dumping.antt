@@ -1,5 +1,6 @@
 -- What a dump shows is the file's bytes, and why it did not.
-use Rattle.std.proofs.Common.{◌≡◌, ℕ, ◌+◌, ◌*◌, ◌<◌, ◌≤◌, min, nat_le, Bool, true, false, List, [], ◌∷◌, length, get_or, Option, None, Some, Result, Ok, Err, refl, sym, ap, ◌∙◌, subst, inl, inr, ◌⊎◌, arith, zero-add}
+use Rattle.std.proofs.Common.{◌≡◌, ℕ, ◌+◌, ◌*◌, ◌<◌, ◌≤◌, min, nat_le, Bool, true, false, List, [], ◌∷◌, length, get_or, Option, None, Some, Result, Ok, Err}
+use Rattle.std.proofs.Common.{refl, sym, ap, ◌∙◌, subst, inl, inr, ◌⊎◌, arith, zero-add}
 use Rattle.std.specs.Prelude.{if◌then◌else◌}
 use Rattle.std.specs.FinMap.{get}
 use Rattle.std.proofs.lemmas.Bool.{le-leb, leb-true}
@@ -8,6 +9,7 @@ use Rattle.wtf_base.specs.declared.fault.Fault.{Fault}
 use Rattle.wtf_base.specs.declared.fault.Fault.TheVariants as fault
 use Rattle.wtf_base.specs.declared.ids.InodeId.{InodeId}
 use Rattle.wtf_base.specs.declared.settings.Settings.{Settings}
+use Rattle.wtf_base.specs.declared.slice.Slice.{Slice}
 use Rattle.wtf_dev.specs.Store.{StoreKind, KindLaws}
 use Rattle.wtf_overlay.specs.Origin.{Place, Plans, pieces_origin}
 use Rattle.wtf_overlay.specs.declared.part.Piece.{Piece}
@@ -35,24 +37,26 @@ use Rattle.wtf_index.specs.Checks.{stands_at}
 use Rattle.wtf_region.specs.declared.dev.Dev.{Dev}
 use Rattle.wtf_region.specs.Cached.{Remembered}
 use Rattle.wtf_region.specs.Devs.{IsSoundDev, stores, inside_of, between}
+use Rattle.wtf_region.specs.Reads.{IsFileRead}
 use Rattle.wtf_region.specs.Showing.{Shown}
-use Rattle.wtf_steps.specs.Faults.{LacksBytes, ShowFile}
+use Rattle.wtf_steps.specs.Faults.{LacksBytes}
 use Rattle.wtf_steps.proofs.FaultWays.{IsOfServers, some_byte, lacks_known, file_fault_known}
 use Rattle.wtf_steps.proofs.FileWays.{file_len_cap}
 use Rattle.wtf_rw.specs.Reads.{LacksRead}
 use Rattle.wtf_replay.specs.Causes.{fault_answer}
 use Rattle.wtf_clients.specs.Dumped.{file_answer, IsDumpAnswer, IsShownFile, IsDumped, LacksDump}
-use Rattle.wtf_clients.specs.Named.{any_byte, no_slice, has_copies}
-use Rattle.wtf_clients.specs.Outcomes.{HasCause}
+use Rattle.wtf_clients.specs.Named.{any_byte, has_copies}
+use Rattle.wtf_clients.specs.Outcomes.{no_load, HasCause}
 use Rattle.wtf_clients.specs.Serves.{IsPlain}
-use Rattle.wtf_clients.proofs.Lacking.{memory_none, read_caused}
+use Rattle.wtf_clients.proofs.Lacking.{AreFullLists, memory_none, read_caused}
 
 -- a file's places from its begin on
 pub plans_whole : (ps : List Piece) (n : ℕ) (f : ℕ → List Place) → Plans ps n (λ i. f (0 + i)) → Plans ps n f
 plans_whole ps n f plans = record { len = plans.len; origin = λ i below. plans.origin i below ∙ ap f (zero-add i) }
 
 -- the bytes that were shown are the file's
-pub shows_file : (told : Told) (z : ℕ) (v : FileView) (ps : List Piece) (n : ℕ) (bytes out : List ℕ) → n ≡ min (file_len z v) (MAX_REGIONS * z) → file_len z v ≤ MAX_DUMPED → IsFile z v → HasBytes told z v bytes
+pub shows_file : (told : Told) (z : ℕ) (v : FileView) (ps : List Piece) (n : ℕ) (bytes out : List ℕ) → n ≡ min (file_len z v) (MAX_REGIONS * z)
+    → file_len z v ≤ MAX_DUMPED → IsFile z v → HasBytes told z v bytes
     → Plans ps n (file_origin z (lists_in z told) v) → Shown told n (λ i. pieces_origin ps (0 + i)) [] out → answer.Shown out ≡ file_answer bytes
 shows_file told z v ps n bytes out is short file has plans shown =
     let cap = file_len_cap z v file in
@@ -66,19 +70,21 @@ shows_file told z v ps n bytes out is short file has plans shown =
     ap answer.Shown same ∙ sym (ap (λ b. if b then answer.Shown bytes else answer.Refused Long) (le-leb (length bytes) MAX_DUMPED (omega (arith, short, len))))
 
 -- a file that is too long is refused
-pub too_long : (told : Told) (z : ℕ) (v : FileView) (bytes : List ℕ) → MAX_DUMPED < file_len z v → HasBytes told z v bytes → answer.Refused Long ≡ file_answer bytes
+pub too_long : (told : Told) (z : ℕ) (v : FileView) (bytes : List ℕ) → MAX_DUMPED < file_len z v → HasBytes told z v bytes
+    → answer.Refused Long ≡ file_answer bytes
 too_long told z v bytes long has =
     let len = has.len in
     let more : MAX_DUMPED < length bytes = omega (arith, long, len) in
     sym (by (nat_le (length bytes) MAX_DUMPED) refl more)
   where
-    by : (b : Bool) → nat_le (length bytes) MAX_DUMPED ≡ b → MAX_DUMPED < length bytes → (if b then answer.Shown bytes else answer.Refused Long) ≡ answer.Refused Long
+    by : (b : Bool) → nat_le (length bytes) MAX_DUMPED ≡ b → MAX_DUMPED < length bytes
+        → (if b then answer.Shown bytes else answer.Refused Long) ≡ answer.Refused Long
     by true is more = absurd (omega (arith, more, leb-true (length bytes) MAX_DUMPED is))
     by false is more = refl
 
 -- what stands at a path, by its value
 module _ (b : ℕ) (told : Told) (w : Map) where
-  none_at : (v : Option Value) (o : Option TreeNode) → NodeAt b told w v o → node_of v ≡ None → o ≡ None
+  pub none_at : (v : Option Value) (o : Option TreeNode) → NodeAt b told w v o → node_of v ≡ None → o ≡ None
   none_at None None h is = refl
   none_at None (Some n) h is = absurd h
   none_at (Some (value.Node n)) o h is = absurd (cc)
@@ -86,7 +92,7 @@ module _ (b : ℕ) (told : Told) (w : Map) where
   none_at (Some (value.Last r)) o h is = absurd h
   none_at (Some (value.Region g)) o h is = absurd h
 
-  folder_at : (v : Option Value) (o : Option TreeNode) → NodeAt b told w v o → node_of v ≡ Some Folder → o ≡ Some Dir
+  pub folder_at : (v : Option Value) (o : Option TreeNode) → NodeAt b told w v o → node_of v ≡ Some Folder → o ≡ Some Dir
   folder_at None o h is = absurd (cc)
   folder_at (Some (value.Node Folder)) None h is = absurd h
   folder_at (Some (value.Node Folder)) (Some Dir) h is = refl
@@ -96,7 +102,8 @@ module _ (b : ℕ) (told : Told) (w : Map) where
   folder_at (Some (value.Last r)) o h is = absurd h
   folder_at (Some (value.Region g)) o h is = absurd h
 
-  file_at : (v : Option Value) (o : Option TreeNode) (i : InodeId) → NodeAt b told w v o → node_of v ≡ Some (FileNode i) → (bytes : List ℕ) × (o ≡ Some (File bytes)) × IsBody b told w i bytes
+  pub file_at : (v : Option Value) (o : Option TreeNode) (i : InodeId) → NodeAt b told w v o → node_of v ≡ Some (FileNode i)
+      → (bytes : List ℕ) × (o ≡ Some (File bytes)) × IsBody b told w i bytes
   file_at None o i h is = absurd (cc)
   file_at (Some (value.Node Folder)) o i h is = absurd (cc)
   file_at (Some (value.Node (FileNode j))) None i h is = absurd h
@@ -173,10 +180,11 @@ module _ {S : Type 0} {kind : StoreKind S} (laws : KindLaws kind) (old new : Dev
     file_fault_known laws old new (file_of i w) 0 n why sound
         (file_bytes (inside_of kind old) any_slice i w inside) lacks,
   )
-  read_known i n why a is (inr lacks) = shown_known n (ShowFile old.settings.region (file_of i w) 0 n) why a is lacks
+  read_known i n why a is (inr lacks) = shown_known n (λ ps. IsFileRead kind old new (file_of i w) 0 n ps) why a is lacks
 
   -- so the machine allows the fault
-  pub dump_may : (why : Fault) (a : Answer) (told : Told) (tx n : ℕ) (t : Tree) → fault_answer why ≡ Some a → (why ≡ fault.Memory) ⊎ LacksDump kind old new w p why → Stands old.settings.region told tx n w t
+  pub dump_may : (why : Fault) (a : Answer) (told : Told) (tx n : ℕ) (t : Tree) → fault_answer why ≡ Some a
+      → (why ≡ fault.Memory) ⊎ LacksDump kind old new w p why → Stands old.settings.region told tx n w t
       → MayFailRead old.settings.servers (or_refusal (dumped t p)) a
   dump_may why a told tx n t is (inl memory) st = absurd (memory_none why a is memory)
   dump_may why a told tx n t is (inr lacks) st =
@@ -189,22 +197,26 @@ module _ {S : Type 0} {kind : StoreKind S} (laws : KindLaws kind) (old new : Dev
       let count : ℕ = min (file_len z v) (MAX_REGIONS * z) in
       let known = read_known lacks.inode count why a is lacks.file.lacks in
       let some = known.0 in
-      let whole : file_answer bytes ≡ answer.Shown bytes = ap (λ b. if b then answer.Shown bytes else answer.Refused Long) (le-leb (length bytes) MAX_DUMPED (omega (arith, short, len))) in
+      let whole : file_answer bytes ≡ answer.Shown bytes = ap (λ b. if b then answer.Shown bytes else answer.Refused Long)
+      (le-leb (length bytes) MAX_DUMPED (omega (arith, short, len))) in
       may_read old.settings.servers why a bytes (or_refusal (dumped t p)) is (omega (arith, some, len))
       (ap answer_at found.1 ∙ sym (file_whole bytes) ∙ whole) known.1
 
   -- and it has its cause
-  pub dump_caused : (bare full : Type 0) → (bare → MapBytes any_byte no_slice w) → (full → MapBytes (has_copies old.settings.replicas) no_slice w) →
-      (why : Fault) (a : Answer) → fault_answer why ≡ Some a
-      → (why ≡ fault.Memory) ⊎ LacksDump kind old new w p why → HasCause kind (between old new) old.settings ⊥ bare full [] a
-  dump_caused bare full none copies why a is (inl memory) = absurd (memory_none why a is memory)
-  dump_caused bare full none copies why a is (inr lacks) =
+  pub dump_caused : (based : (Slice → Bool) → Type 0) (full : Type 0) (O : Slice → Bool) → ((Q : Slice → Bool) → based Q → MapBytes any_byte Q w)
+      → (full → MapBytes (has_copies old.settings.replicas) O w)
+      → ((i : InodeId) (n : ℕ) → AreFullLists kind old new full O (file_of i w) 0 n)
+      → (why : Fault) (a : Answer) → fault_answer why ≡ Some a → (why ≡ fault.Memory) ⊎ LacksDump kind old new w p why
+      → HasCause kind (between old new) old.settings ⊥ based full no_load a
+  dump_caused based full O passes copies lists why a is (inl memory) = absurd (memory_none why a is memory)
+  dump_caused based full O passes copies lists why a is (inr lacks) =
       let z : ℕ = old.settings.region in
       let v : FileView = file_of lacks.inode w in
-      read_caused laws old new sound bare full why a is v 0 (min (file_len z v) (MAX_REGIONS * z)) any_byte
+      read_caused laws old new sound based full O why a is v 0 (min (file_len z v) (MAX_REGIONS * z)) any_byte
       (file_bytes (inside_of kind old) any_slice lacks.inode w inside)
-      (λ c. file_bytes any_byte no_slice lacks.inode w (none c))
-      (λ c. file_bytes (has_copies old.settings.replicas) no_slice lacks.inode w (copies c)) lacks.file.lacks
+      (λ Q c. file_bytes any_byte Q lacks.inode w (passes Q c))
+      (λ c. file_bytes (has_copies old.settings.replicas) O lacks.inode w (copies c))
+      (lists lacks.inode (min (file_len z v) (MAX_REGIONS * z))) lacks.file.lacks
 
 -- what was shown or refused is no fault
 pub dump_plain : (a : Answer) → IsDumpAnswer a → IsPlain a

@@ -1,5 +1,6 @@
 -- The images that may be on the keeper: their numbers are pinned, and their maps stay.
-use Rattle.std.proofs.Common.{◌≡◌, ◌≢◌, ◌≤◌, ◌<◌, ℕ, ◌+◌, nat_eq, count_by, List, [], ◌∷◌, Option, None, Some, IsSome, cond, refl, sym, ap, subst, ◌⊎◌, inl, inr, ⊎_elim, arith}
+use Rattle.std.proofs.Common.{◌≡◌, ◌≢◌, ◌≤◌, ◌<◌, ℕ, ◌+◌, nat_eq, count_by, List, [], ◌∷◌, Option, None, Some, IsSome, cond, refl, sym, ap, subst, ◌⊎◌, inl}
+use Rattle.std.proofs.Common.{inr, ⊎_elim, arith}
 use Rattle.std.specs.Prelude.{IsTrue}
 use Rattle.std.specs.List.{Contains}
 use Rattle.std.proofs.lemmas.Bool.{eq-eqb}
@@ -43,13 +44,13 @@ contained_count n (x ∷ xs) here =
     (Contains-append_cases (x ∷ []) xs n here)
 
 -- each image is pinned
-pub kept_enough : (tables : TablesView) → AreSound tables → (n : ℕ) → all_kept n tables.saved ≤ times_pinned tables.kv n
+pub kept_enough : (tables : TablesView) → AreSound tables → (n : ℕ) → all_kept n tables.beside ≤ times_pinned tables.kv n
 kept_enough tables sound n = let pins = sound.pins n in omega (arith, pins)
 
 -- the number of an image is pinned
-pub kept_pinned : (tables : TablesView) (n : ℕ) → AreSound tables → Contains tables.saved.images n → IsTrue (is_pinned tables.kv n)
+pub kept_pinned : (tables : TablesView) (n : ℕ) → AreSound tables → Contains tables.beside.images n → IsTrue (is_pinned tables.kv n)
 kept_pinned tables n sound here =
-    let some = contained_count n tables.saved.images here in
+    let some = contained_count n tables.beside.images here in
     let pins = sound.pins n in
     any-count n tables.kv.pins (omega (arith, some, pins))
 
@@ -84,11 +85,13 @@ pub before_none : (n : ℕ) (w : Map) → AreBefore n w → (i : InodeId) → i.
 before_none n w before i mine = ⊎_elim (λ none. none) (λ some. let lt = before i some in absurd (omega (arith, lt, mine))) (nothing_or (w (Inode i)))
 
 -- ---- the tree of an image stays
-pub image_on : (size : ℕ) (told later : Told) (old new : TablesView) (n : ℕ) (may more : List Tree) → TellsOn told later → metadata_at new.kv n ≡ metadata_at old.kv n → old.next_tx ≤ new.next_tx
+pub image_on : (size : ℕ) (told later : Told) (old new : TablesView) (n : ℕ) (may more : List Tree) → TellsOn told later
+    → metadata_at new.kv n ≡ metadata_at old.kv n → old.next_tx ≤ new.next_tx
     → ((t : Tree) → Contains may t → Contains more t) → IsImageTree size told old n may → IsImageTree size later new n more
 image_on size told later old new n may more on same up listed is = record {
   tree = is.tree;
   listed = listed is.tree is.listed;
   before = before_same old.next_tx new.next_tx (metadata_at old.kv n) (metadata_at new.kv n) same up is.before;
-  stands = λ tx le. subst (λ w. Stands size later tx 0 w is.tree) (sym same) (Stands-later told later on size tx 0 (metadata_at old.kv n) is.tree (is.stands tx (omega (arith, up, le))));
+  stands = λ tx le. subst (λ w. Stands size later tx 0 w is.tree) (sym same)
+      (Stands-later told later on size tx 0 (metadata_at old.kv n) is.tree (is.stands tx (omega (arith, up, le))));
 }

@@ -40,7 +40,7 @@ use Rattle.wtf_replay.proofs.Naming.{again_weaker, ops_told}
 use Rattle.wtf_clients.specs.Turns.{Reads}
 
 -- no place lies in one of no ranges
-all_apart : (qs : List Place) → are_apart [] qs ≡ true
+pub all_apart : (qs : List Place) → are_apart [] qs ≡ true
 all_apart [] = refl
 all_apart (q ∷ qs) = and_from (lies_apart [] q) (are_apart [] qs) refl (all_apart qs)
 
@@ -63,7 +63,7 @@ module _ {S : Type 0} (kind : StoreKind S) (dev : Dev S) (all : TellsAll kind (s
   abbrev TellsSo : Map → Type 0
   TellsSo w = MapBytes (is_told told) (is_listed size told) w
 
-  tells_map : (w : Map) → TellsSo w → TellsMap kind dev [] w
+  pub tells_map : (w : Map) → TellsSo w → TellsMap kind dev [] w
   tells_map w map = record {
     all = all;
     map = map;

@@ -5,7 +5,11 @@ pub mod Images
 pub mod AboveLaws
 pub mod TouchLaws
 pub mod SinceLaws
+pub mod JobPins
+pub mod JobKeeping
 pub mod Frames
+pub mod JobFrames
+pub mod PutFeet
 pub mod Staying
 pub mod Lists
 pub mod Known
@@ -18,3 +22,10 @@ pub mod Naming
 pub mod Serving
 pub mod SaveServing
 pub mod Dumping
+pub mod PlanLaws
+pub mod JobTurning
+pub mod JobServing
+pub mod ToldLaws
+pub mod ToldServing
+pub mod ToldPlanning
+pub mod JobMaking

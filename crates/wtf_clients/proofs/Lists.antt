@@ -1,5 +1,6 @@
 -- The list of the open transactions, where that of one client is written, taken out, or new.
-use Rattle.std.proofs.Common.{◌≡◌, ℕ, ◌+◌, cond, nat_eq, [], ◌∷◌, ◌++◌, Option, None, Some, is_some, if◌then◌else◌, refl, sym, ap, ◌∙◌, ⊎_elim, arith, ne_eqb, eq-eqb}
+use Rattle.std.proofs.Common.{◌≡◌, ℕ, ◌+◌, cond, nat_eq, [], ◌∷◌, ◌++◌, Option, None, Some, is_some, if◌then◌else◌, refl, sym, ap, ◌∙◌, ⊎_elim, arith, ne_eqb}
+use Rattle.std.proofs.Common.{eq-eqb}
 use Rattle.std.specs.Option.{option_map, unwrap_or}
 use Rattle.std.specs.List.{sum_by}
 use Rattle.std.specs.HashMap.{HashMap, WritesThrough}
@@ -77,7 +78,8 @@ set_then c clients y = by (of_client clients c) refl
     by (Some x) is = ap (remove_entry (nat_eq c)) (set_there c clients x y is) ∙ remove_written c clients y
 
 -- ---- a transaction that is written in the place of one that is the same but for what it has in hand
-alike_set : (c : ℕ) (clients : Clients) (x y : TxnView) → of_client clients c ≡ Some x → without_hand y ≡ without_hand x → without_hands (set_value (nat_eq c) clients y) ≡ without_hands clients
+alike_set : (c : ℕ) (clients : Clients) (x y : TxnView) → of_client clients c ≡ Some x → without_hand y ≡ without_hand x
+    → without_hands (set_value (nat_eq c) clients y) ≡ without_hands clients
 alike_set c [] x y there same = refl
 alike_set c ((k, z) ∷ es) x y there same = ⊎_elim
     (λ here.
@@ -153,11 +155,13 @@ pub sets_kept : (c : ℕ) (old new : Clients) → Sets c (of_client old c) old n
 sets_kept c old new sets = sets.order ∙ set_same c old
 
 -- what was lent of a client's transaction is given back
-pub written : {S : Type 0} (c : ℕ) (m n : HashMap ℕ TxnView S) (x y : TxnView) → of_client m.entries c ≡ Some x → WritesThrough nat_eq (nat_eq c) m y n → Sets c (Some y) m.entries n.entries
+pub written : {S : Type 0} (c : ℕ) (m n : HashMap ℕ TxnView S) (x y : TxnView) → of_client m.entries c ≡ Some x → WritesThrough nat_eq (nat_eq c) m y n
+    → Sets c (Some y) m.entries n.entries
 written c m n x y there h = sets_written c m.entries n.entries x y there h.0 (h.3 (ap is_some there)).0
 
 -- where memory was short it is the same but for what it has in hand
-pub lent_alike : {S : Type 0} (c : ℕ) (m n : HashMap ℕ TxnView S) (x y : TxnView) → of_client m.entries c ≡ Some x → WritesThrough nat_eq (nat_eq c) m y n → without_hand y ≡ without_hand x → without_hands n.entries ≡ without_hands m.entries
+pub lent_alike : {S : Type 0} (c : ℕ) (m n : HashMap ℕ TxnView S) (x y : TxnView) → of_client m.entries c ≡ Some x → WritesThrough nat_eq (nat_eq c) m y n
+    → without_hand y ≡ without_hand x → without_hands n.entries ≡ without_hands m.entries
 lent_alike c m n x y there h same = ap without_hands h.0 ∙ alike_set c m.entries x y there same
 
 -- one is written and then taken out

@@ -10,7 +10,7 @@ use Rattle.wtf_values.specs.declared.key.Key.{Key}
 use Rattle.wtf_values.specs.declared.value.Value.{Value}
 use Rattle.wtf_meta.specs.Bytes.{MapBytes}
 use Rattle.wtf_replay.specs.Tried.{KeepsPins, MovesPin}
-use Rattle.wtf_clients.specs.Views.{SavedView, TablesView, metadata_now}
+use Rattle.wtf_clients.specs.Views.{BesideView, TablesView, metadata_now}
 use Rattle.wtf_clients.specs.Sounds.{all_kept, AreSound}
 use Rattle.wtf_clients.specs.Saves.{with_image, only_image, Saves}
 use Rattle.wtf_clients.specs.Named.{TablesBytes}
@@ -76,24 +76,27 @@ moved_reaches old new b n is moved = reaches old new (λ m.
     omega (arith, one, same))
 
 -- ---- a save
-pub saved_reaches : (old new : TablesView) (now : SavedView) → ((n : ℕ) → all_kept n now ≤ all_kept n old.saved + cond (nat_eq n old.kv.number) 1 0) → Saves old new now → Reaches old.kv new.kv
+pub saved_reaches : (old new : TablesView) (now : BesideView) → ((n : ℕ) → all_kept n now ≤ all_kept n old.beside + cond (nat_eq n old.kv.number) 1 0)
+    → Saves old new now → Reaches old.kv new.kv
 saved_reaches old new now most saves = reaches old.kv new.kv (λ n.
     let moved = saves.pins n in
     let le = most n in
     omega (arith, moved, le))
 
-pub same_kept : (old : TablesView) (n : ℕ) → all_kept n old.saved ≤ all_kept n old.saved + cond (nat_eq n old.kv.number) 1 0
+pub same_kept : (old : TablesView) (n : ℕ) → all_kept n old.beside ≤ all_kept n old.beside + cond (nat_eq n old.kv.number) 1 0
 same_kept old n = omega arith
 
-pub added_kept : (old : TablesView) (n : ℕ) → all_kept n (with_image old.saved old.kv.number) ≤ all_kept n old.saved + cond (nat_eq n old.kv.number) 1 0
-added_kept old n = let more = count-push n old.kv.number old.saved.images in omega (arith, more)
+pub added_kept : (old : TablesView) (n : ℕ) → all_kept n (with_image old.beside old.kv.number) ≤ all_kept n old.beside + cond (nat_eq n old.kv.number) 1 0
+added_kept old n = let more = count-push n old.kv.number old.beside.images in omega (arith, more)
 
-pub only_kept : (old : TablesView) (k n : ℕ) → k ≡ old.kv.number → all_kept n (only_image k) ≤ all_kept n old.saved + cond (nat_eq n old.kv.number) 1 0
+pub only_kept : (old : TablesView) (k n : ℕ) → k ≡ old.kv.number → all_kept n (only_image old.beside k) ≤ all_kept n old.beside + cond
+    (nat_eq n old.kv.number) 1 0
 only_kept old k n is =
     let one = count-push n k [] in
     let same : ◌≡◌ {A = ℕ} (cond (nat_eq n k) 1 0) (cond (nat_eq n old.kv.number) 1 0) = ap (λ j. cond (nat_eq n j) 1 0) is in
     omega (arith, one, same)
 
 -- ---- what is pinned later is of no install to come
-pub upto_on : (old new : TablesView) → AreSound old → Reaches old.kv new.kv → old.kv.number ≤ new.kv.number → (n : ℕ) → IsTrue (is_pinned new.kv n) → n ≤ new.kv.number
+pub upto_on : (old new : TablesView) → AreSound old → Reaches old.kv new.kv → old.kv.number ≤ new.kv.number → (n : ℕ) → IsTrue (is_pinned new.kv n)
+    → n ≤ new.kv.number
 upto_on old new sound reach up n pinned = let le = live_upto old n sound (reach n pinned) in omega (arith, le, up)

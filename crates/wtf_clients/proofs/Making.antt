@@ -1,5 +1,6 @@
 -- What the calls of a client's transaction make of the tables.
-use Rattle.std.proofs.Common.{◌≡◌, ℕ, ◌+◌, true, false, cond, nat_eq, List, [], ◌∷◌, ◌++◌, Option, None, Some, is_some, Result, Ok, IfOk, OnErr, IfSome, MatchOption, refl, sym, ap, subst, ◌∙◌, true≢false, ◌⊎◌, inl, inr, Err, slice_get, arith}
+use Rattle.std.proofs.Common.{◌≡◌, ℕ, ◌+◌, true, false, cond, nat_eq, List, [], ◌∷◌, ◌++◌, Option, None, Some, is_some, Result, Ok, IfOk, OnErr, IfSome}
+use Rattle.std.proofs.Common.{MatchOption, refl, sym, ap, subst, ◌∙◌, true≢false, ◌⊎◌, inl, inr, Err, slice_get, arith}
 use Rattle.std.specs.Option.{option_map}
 use Rattle.std.specs.Set.{remove_key}
 use Rattle.wtf_base.specs.declared.fault.Fault.{Fault}
@@ -89,7 +90,7 @@ on_err (Err e) Q h = h
 -- ---- what holds over every device goes on holding
 pub kept_sound : (old : TablesView) (kv : Store Key Value) (clients : Clients) (c : ℕ) (x y : TxnView) → AreSound old → of_client old.clients c ≡ Some x
     → Sets c (Some y) old.clients clients → y ≡ x → KeepsMaps old.kv kv → KeepsPins old.kv kv → kv.number ≡ old.kv.number
-    → AreSound (record { kv = kv; next_tx = old.next_tx; clients = clients; saved = old.saved })
+    → AreSound (record { kv = kv; next_tx = old.next_tx; clients = clients; beside = old.beside })
 kept_sound old kv clients c x y sound there sets same maps pins number =
     let open_one = sound.each c x there in
     let based = open_one.based in
@@ -100,36 +101,36 @@ kept_sound old kv clients c x y sound there sets same maps pins number =
       based = omega (arith, based, number);
       older = open_one.older;
     } in
-    sound_turned old (record { kv = kv; next_tx = old.next_tx; clients = clients; saved = old.saved }) c (Some x) sound (record {
+    sound_turned old (record { kv = kv; next_tx = old.next_tx; clients = clients; beside = old.beside }) c (Some x) sound (record {
       sets = stays;
       later = omega (arith, number);
       maps = maps;
       more = omega arith;
       pins = λ n. let kept = pins n in let had : owned n (of_client old.clients c) ≡ owned n (Some x) = ap (owned n) there in omega (arith, kept, had);
-      saved = refl;
+      beside = refl;
       own = λ z is. subst (λ w. IsOpen kv old.next_tx w) (let e : x ≡ z = cc in e) own;
       whose = λ z is. inr (x, there, (let e : x ≡ z = cc in ap (λ (w : TxnView). w.tx) (sym e)));
     })
 
 -- ---- a refusal of the transaction leaves all
 refuses : (old new : TablesView) (c : ℕ) (x y : TxnView) (w : Word) (a : Answer) → of_client old.clients c ≡ Some x → Sets c (Some y) old.clients new.clients
-    → y ≡ x → new.kv ≡ old.kv → new.next_tx ≡ old.next_tx → new.saved ≡ old.saved → a ≡ answer.Refused w → Refuses old new c w a
-refuses old new c x y w a there sets same kv next saved is = record {
+    → y ≡ x → new.kv ≡ old.kv → new.next_tx ≡ old.next_tx → new.beside ≡ old.beside → a ≡ answer.Refused w → Refuses old new c w a
+refuses old new c x y w a there sets same kv next beside is = record {
   answer = is;
   keeps = record {
     clients = subst (λ o. Sets c o old.clients new.clients) (ap Some same ∙ sym there) sets;
     kv = kv;
     next_tx = next;
-    saved = saved;
+    beside = beside;
   };
 }
 
 -- and so does one of a client that has none, or has one already
 pub refused_same : (old : TablesView) (clients : Clients) (c : ℕ) (w : Word) → clients ≡ old.clients
-    → Refuses old (record { kv = old.kv; next_tx = old.next_tx; clients = clients; saved = old.saved }) c w (answer.Refused w)
+    → Refuses old (record { kv = old.kv; next_tx = old.next_tx; clients = clients; beside = old.beside }) c w (answer.Refused w)
 refused_same old clients c w is = record {
   answer = refl;
-  keeps = record { clients = sets_same c old.clients clients is; kv = refl; next_tx = refl; saved = refl };
+  keeps = record { clients = sets_same c old.clients clients is; kv = refl; next_tx = refl; beside = refl };
 }
 
 -- ---- a transaction begins
@@ -138,8 +139,9 @@ pub begin_turn : (old : TablesView) (kv : Store Key Value) (mid clients : Client
     → ((q : ℕ) → of_client clients q ≡ cond (nat_eq c q) (Some x) (of_client mid q)) → x ≡ begun old.next_tx old.kv.number
     → kv ≡ record old.kv { pins = old.kv.pins ++ old.kv.number ∷ [] } → IsPinnedOnceMore old.kv.number old.kv kv → IsFit kv x
     → ((size : ℕ) (told : Told) → IsSound size kv told x [])
-    → MatchOption (of_client old.clients c) (Begins old (record { kv = kv; next_tx = old.next_tx + 1; clients = clients; saved = old.saved }) c (answer.Begun number))
-    (λ z. Refuses old (record { kv = kv; next_tx = old.next_tx + 1; clients = clients; saved = old.saved }) c InTx (answer.Begun number))
+    → MatchOption (of_client old.clients c) (Begins old (record { kv = kv; next_tx = old.next_tx + 1; clients = clients; beside = old.beside }) c
+    (answer.Begun number))
+    (λ z. Refuses old (record { kv = kv; next_tx = old.next_tx + 1; clients = clients; beside = old.beside }) c InTx (answer.Begun number))
 begin_turn old kv mid clients c number x free is_number is_mid last seen is_x is_kv pinned fit sound =
     let none : of_client old.clients c ≡ None = nothing_there (of_client old.clients c) free in
     let none_mid : of_client mid c ≡ None = ap (λ l. of_client l c) is_mid ∙ none in
@@ -150,7 +152,7 @@ begin_turn old kv mid clients c number x free is_number is_mid last seen is_x is
       kv = is_kv;
       pinned = pinned;
       next_tx = refl;
-      saved = refl;
+      beside = refl;
       fit = subst (λ z. IsFit kv z) is_x fit;
       sound = λ size told. subst (λ z. IsSound size kv told z []) is_x (sound size told);
     })
@@ -159,7 +161,7 @@ begin_turn old kv mid clients c number x free is_number is_mid last seen is_x is
 module _ (Telling : Type 0) (lists : Remembered) (servers size : ℕ) (told later : Told) (old : TablesView) (clients : Clients) (c : ℕ) (x y : TxnView)
     (o : Op (List ℕ)) (a : Answer) where
   abbrev now_called : TablesView
-  now_called = record { kv = old.kv; next_tx = old.next_tx; clients = clients; saved = old.saved }
+  now_called = record { kv = old.kv; next_tx = old.next_tx; clients = clients; beside = old.beside }
 
   call_on : (N : Type 0) (r : Option Word) → call_refusal x ≡ r → of_client old.clients c ≡ Some x → Sets c (Some y) old.clients clients
       → IfSome (unmade x) (λ b. (answered Fault a b) × (y ≡ x) × N) → (unmade x ≡ None → (own : Option Slice) × (facts : List ListFact) × IsCalled x y o own a
@@ -175,7 +177,7 @@ module _ (Telling : Type 0) (lists : Remembered) (servers size : ℕ) (told late
       inl (record {
         later_one = y;
         own = (made free).0;
-        keeps = record { clients = sets; kv = refl; next_tx = refl; saved = refl };
+        keeps = record { clients = sets; kv = refl; next_tx = refl; beside = refl };
         facts = (made free).1;
         called = (made free).2;
         known = (made free).3;
@@ -195,19 +197,26 @@ module _ (Telling : Type 0) (lists : Remembered) (servers size : ℕ) (told late
       → (unmade x ≡ None → Tells Telling lists servers size told later (metadata_at old.kv x.at.base) → (ops : List (Op (List ℕ))) → IsSound size old.kv told
       x ops → IsSound size old.kv later y (ops ++ o ∷ []))
       → IsFit old.kv y
-      → ClientTurn Telling lists servers size told later old (record { kv = old.kv; next_tx = old.next_tx; clients = clients; saved = old.saved }) c
+      → ClientTurn Telling lists servers size told later old (record { kv = old.kv; next_tx = old.next_tx; clients = clients; beside = old.beside }) c
       (verb.Call o) a
   call_turn N there sets stopped made meaning fit =
       at_some (of_client old.clients c) x _ _ there (call_on N (call_refusal x) refl there sets stopped made meaning fit)
 
   -- a call that failed
-  pub call_failed : (why : Fault) → of_client old.clients c ≡ Some x → Sets c (Some y) old.clients clients → y ≡ x → call_refusal x ≡ None → fault_answer why ≡ Some a
-      → ((z : Caller) (u : Told) (S : Session) → z.size ≡ size → Stands z.size u z.tx z.calls (seen old.kv x.at) S.tree → Holds u (seen old.kv x.at) x.session S → MayFail servers o (call (cap_for z) S o).answer a)
-      → ClientTurn Telling lists servers size told later old (record { kv = old.kv; next_tx = old.next_tx; clients = clients; saved = old.saved }) c
+  pub call_failed : (why : Fault) → of_client old.clients c ≡ Some x → Sets c (Some y) old.clients clients → y ≡ x → call_refusal x ≡ None
+      → fault_answer why ≡ Some a
+      → ((z : Caller) (u : Told) (S : Session) → z.size ≡ size → Stands z.size u z.tx z.calls (seen old.kv x.at) S.tree → Holds u (seen old.kv x.at) x.session S
+      → MayFail servers o (call (cap_for z) S o).answer a)
+      → ClientTurn Telling lists servers size told later old (record { kv = old.kv; next_tx = old.next_tx; clients = clients; beside = old.beside }) c
       (verb.Call o) a
   call_failed why there sets same asked is may =
       at_some (of_client old.clients c) x _ _ there (at_none (call_refusal x) _ _ asked (inr (record {
-        fails = record { why = why; answer = is; stays = same_stays old now_called c x y there sets same refl (λ n le. refl) (λ q. refl) (λ n. refl) refl refl };
+        fails = record {
+          why = why;
+          answer = is;
+          stays = same_stays old now_called c x y there sets same refl (λ n le. refl) (λ q. refl)
+              (λ n. refl) refl refl;
+        };
         may = may;
       })))
 
@@ -222,14 +231,16 @@ not_refused N x why y stopped = by (call_refusal x) refl
         absurd (never why (answer.Refused w) (subst (λ m. IfSome m (λ b. (failed why b) × (y ≡ x) × N)) held stopped).0)
 
 -- a fault that may stand for an answer is allowed in its place
-pub stand_fail : (servers : ℕ) (o : Op (List ℕ)) (d : Answer) (why : Fault) (a : Answer) → fault_answer why ≡ Some a → MayStandFor servers o d why → MayFail servers o d a
+pub stand_fail : (servers : ℕ) (o : Op (List ℕ)) (d : Answer) (why : Fault) (a : Answer) → fault_answer why ≡ Some a → MayStandFor servers o d why
+    → MayFail servers o d a
 stand_fail servers o d (fault.Read k) a is h = subst (MayFail servers o d) (let e : answer.FaultRead k.0 ≡ a = cc in e) h
 stand_fail servers o d fault.Write a is h = subst (MayFail servers o d) (let e : answer.FaultWrite ≡ a = cc in e) h
 stand_fail servers o d (fault.Punch k) a is h = subst (MayFail servers o d) (let e : answer.FaultPunch k.0 ≡ a = cc in e) h
 stand_fail servers o d (fault.Damaged k) a is h = subst (MayFail servers o d) (let e : answer.Damaged k.0 ≡ a = cc in e) h
 stand_fail servers o d fault.Memory a is h = absurd (let e : None ≡ Some a = is in cc)
 
-pub step_left : (servers : ℕ) (answers : List Answer) (k : ℕ) (why : Fault) (a : Answer) → fault_answer why ≡ Some a → MayFaultAt servers answers k (fault_answer why) → IsDone (slice_get answers k) × IsReadFault servers a
+pub step_left : (servers : ℕ) (answers : List Answer) (k : ℕ) (why : Fault) (a : Answer) → fault_answer why ≡ Some a
+    → MayFaultAt servers answers k (fault_answer why) → IsDone (slice_get answers k) × IsReadFault servers a
 step_left servers answers k why a is h = subst (MayFaultAt servers answers k) is h
 
 pub commit_left : (servers : ℕ) (why : Fault) (a : Answer) → fault_answer why ≡ Some a → MayEndFault servers (fault_answer why) → IsReadFault servers a
@@ -249,7 +260,8 @@ over_by x y (answer.Replayed i) going h over = h.base
 over_by x y (Aborted' i box a) going h over = h.over.base
 over_by x y a going h over = absurd h
 
-pub step_over : (x y : TxnView) (a : Answer) → x.ended ≡ false → IfSome (step_refusal x) (λ w. (answered Fault a (answer.Refused w)) × (y ≡ x)) → (step_refusal x ≡ None → IsStepped x y a) → y.ended ≡ true → y.at.base ≡ x.at.base
+pub step_over : (x y : TxnView) (a : Answer) → x.ended ≡ false → IfSome (step_refusal x) (λ w. (answered Fault a (answer.Refused w)) × (y ≡ x))
+    → (step_refusal x ≡ None → IsStepped x y a) → y.ended ≡ true → y.at.base ≡ x.at.base
 step_over x y a going stopped stepped over = by (step_refusal x) refl
   where
     by : (r : Option Word) → step_refusal x ≡ r → y.at.base ≡ x.at.base
@@ -259,13 +271,15 @@ step_over x y a going stopped stepped over = by (step_refusal x) refl
         ap (λ (z : TxnView). z.at.base) both.1
 
 -- ---- the transaction goes: its client has none, and one pin of its base is undone
-pub ends : (old new : TablesView) (kv : Store Key Value) (mid : Clients) (c : ℕ) (x y : TxnView) → Sets c (Some y) old.clients mid → Sets c None mid new.clients → new.next_tx ≡ old.next_tx → new.saved ≡ old.saved
-    → y.at.base ≡ x.at.base → KeepsMaps old.kv kv → KeepsPins old.kv kv → new.kv ≡ record kv { pins = remove_key (nat_eq y.at.base) kv.pins } → IsPinnedOnceMore y.at.base new.kv kv
+pub ends : (old new : TablesView) (kv : Store Key Value) (mid : Clients) (c : ℕ) (x y : TxnView) → Sets c (Some y) old.clients mid → Sets c None mid new.clients
+    → new.next_tx ≡ old.next_tx → new.beside ≡ old.beside
+    → y.at.base ≡ x.at.base → KeepsMaps old.kv kv → KeepsPins old.kv kv → new.kv ≡ record kv { pins = remove_key (nat_eq y.at.base) kv.pins }
+    → IsPinnedOnceMore y.at.base new.kv kv
     → Ends old new kv c x
-ends old new kv mid c x y first last next saved base maps pins is_kv unpinned = record {
+ends old new kv mid c x y first last next beside base maps pins is_kv unpinned = record {
   clients = sets_then c old.clients mid new.clients y first last;
   next_tx = next;
-  saved = saved;
+  beside = beside;
   maps = maps;
   pins = pins;
   kv = subst (λ n. new.kv ≡ record kv { pins = remove_key (nat_eq n) kv.pins }) base is_kv;
@@ -273,21 +287,25 @@ ends old new kv mid c x y first last next saved base maps pins is_kv unpinned = 
 }
 
 -- ---- an attempt
-module _ (old : TablesView) (kv : Store Key Value) (mid : Clients) (c : ℕ) (x y : TxnView) (a : Answer) (going : x.ended ≡ false) (there : of_client old.clients c ≡ Some x) (sets : Sets c (Some y) old.clients mid)
+module _ (old : TablesView) (kv : Store Key Value) (mid : Clients) (c : ℕ) (x y : TxnView) (a : Answer) (going : x.ended ≡ false)
+    (there : of_client old.clients c ≡ Some x) (sets : Sets c (Some y) old.clients mid)
     (stopped : IfSome (try_refusal x) (λ w. (answered OutOfMemory a (answer.Refused w)) × (y ≡ x) × (kv ≡ old.kv)))
     (tried : try_refusal x ≡ None → IsAttempted old.kv kv x y a)
-    (meaning : try_refusal x ≡ None → (size : ℕ) (told : Told) (ops : List (Op (List ℕ))) → IsSound size old.kv told x ops → IsTrueAttempt size told old.kv kv (x, y) ops a)
+    (meaning : try_refusal x ≡ None → (size : ℕ) (told : Told) (ops : List (Op (List ℕ))) → IsSound size old.kv told x ops
+    → IsTrueAttempt size told old.kv kv (x, y) ops a)
     (maps : KeepsMaps old.kv kv) (fit : IsFit kv y) where
   abbrev now_tried : TablesView
-  now_tried = record { kv = kv; next_tx = old.next_tx; clients = mid; saved = old.saved }
+  now_tried = record { kv = kv; next_tx = old.next_tx; clients = mid; beside = old.beside }
 
-  goes_by : (b : Answer) → y.ended ≡ false → IsAttempted old.kv kv x y b → ((size : ℕ) (told : Told) (ops : List (Op (List ℕ))) → IsSound size old.kv told x ops → IsTrueAttempt size told old.kv kv (x, y) ops b) → Tries old now_tried c x b
+  goes_by : (b : Answer) → y.ended ≡ false → IsAttempted old.kv kv x y b
+      → ((size : ℕ) (told : Told) (ops : List (Op (List ℕ))) → IsSound size old.kv told x ops → IsTrueAttempt size told old.kv kv (x, y) ops b)
+      → Tries old now_tried c x b
   goes_by (answer.Committed n) still h m = absurd (true≢false (sym (ap (λ (z : TxnView). z.ended) h.is) ∙ still))
   goes_by (answer.Retry b n) still h m = record {
     later = y;
     clients = sets;
     next_tx = refl;
-    saved = refl;
+    beside = refl;
     retried = h;
     maps = maps;
     fit = fit;
@@ -298,20 +316,27 @@ module _ (old : TablesView) (kv : Store Key Value) (mid : Clients) (c : ℕ) (x 
   goes_on : (r : Option Word) → try_refusal x ≡ r → y.ended ≡ false → MatchOption r (Tries old now_tried c x a) (λ w. Refuses old now_tried c w a)
   goes_on None is still = goes_by a still (tried is) (meaning is)
   goes_on (Some w) is still =
-      let all : (answered OutOfMemory a (answer.Refused w)) × (y ≡ x) × (kv ≡ old.kv) = subst (λ m. IfSome m (λ v. (answered OutOfMemory a (answer.Refused v)) × (y ≡ x) × (kv ≡ old.kv))) is stopped in
+      let all : (answered OutOfMemory a (answer.Refused w)) × (y ≡ x) × (kv ≡ old.kv) =
+      subst (λ m. IfSome m (λ v. (answered OutOfMemory a (answer.Refused v)) × (y ≡ x) × (kv ≡ old.kv))) is stopped in
       refuses old now_tried c x y w a there sets all.1 all.2 refl refl (same_answer OutOfMemory a (answer.Refused w) all.0)
 
-  pub try_goes : y.ended ≡ false → MatchOption (of_client old.clients c) (Refuses old (record { kv = kv; next_tx = old.next_tx; clients = mid; saved = old.saved }) c NoTx a) (λ z. TryTurn old (record { kv = kv; next_tx = old.next_tx; clients = mid; saved = old.saved }) c z a)
+  pub try_goes : y.ended ≡ false → MatchOption (of_client old.clients c)
+      (Refuses old (record { kv = kv; next_tx = old.next_tx; clients = mid; beside = old.beside }) c NoTx a)
+      (λ z. TryTurn old (record { kv = kv; next_tx = old.next_tx; clients = mid; beside = old.beside }) c z a)
   try_goes still = at_some (of_client old.clients c) x _ _ there (goes_on (try_refusal x) refl still)
 
-  module _ (new : TablesView) (taken : Sets c None mid new.clients) (next : new.next_tx ≡ old.next_tx) (saved : new.saved ≡ old.saved) (is_kv : new.kv ≡ record kv { pins = remove_key (nat_eq y.at.base) kv.pins }) (unpinned : IsPinnedOnceMore y.at.base new.kv kv) where
-    ends_by : (b : Answer) → y.ended ≡ true → IsAttempted old.kv kv x y b → ((size : ℕ) (told : Told) (ops : List (Op (List ℕ))) → IsSound size old.kv told x ops → IsTrueAttempt size told old.kv kv (x, y) ops b) → Tries old new c x b
+  module _ (new : TablesView) (taken : Sets c None mid new.clients) (next : new.next_tx ≡ old.next_tx) (beside : new.beside ≡ old.beside)
+      (is_kv : new.kv ≡ record kv { pins = remove_key (nat_eq y.at.base) kv.pins }) (unpinned : IsPinnedOnceMore y.at.base new.kv kv) where
+    ends_by : (b : Answer) → y.ended ≡ true → IsAttempted old.kv kv x y b
+        → ((size : ℕ) (told : Told) (ops : List (Op (List ℕ))) → IsSound size old.kv told x ops → IsTrueAttempt size told old.kv kv (x, y) ops b)
+        → Tries old new c x b
     ends_by (answer.Committed n) over h m = record {
       mid = kv;
       ended = y;
       committed = h;
       final = m;
-      ends = ends old new kv mid c x y sets taken next saved (ap (λ (z : TxnView). z.at.base) h.is) maps (λ k. ap (λ l. times_pinned (record kv { pins = l }) k) h.pins) is_kv unpinned;
+      ends = ends old new kv mid c x y sets taken next beside (ap (λ (z : TxnView). z.at.base) h.is) maps
+          (λ k. ap (λ l. times_pinned (record kv { pins = l }) k) h.pins) is_kv unpinned;
     }
     ends_by (answer.Retry b n) over h m = absurd (true≢false (sym over ∙ ap (λ (z : TxnView). z.ended) h.is ∙ going))
     ends_by b over h m = absurd h
@@ -319,7 +344,8 @@ module _ (old : TablesView) (kv : Store Key Value) (mid : Clients) (c : ℕ) (x 
     ends_on : (r : Option Word) → try_refusal x ≡ r → y.ended ≡ true → MatchOption r (Tries old new c x a) (λ w. Refuses old new c w a)
     ends_on None is over = ends_by a over (tried is) (meaning is)
     ends_on (Some w) is over =
-        let all : (answered OutOfMemory a (answer.Refused w)) × (y ≡ x) × (kv ≡ old.kv) = subst (λ m. IfSome m (λ v. (answered OutOfMemory a (answer.Refused v)) × (y ≡ x) × (kv ≡ old.kv))) is stopped in
+        let all : (answered OutOfMemory a (answer.Refused w)) × (y ≡ x) × (kv ≡ old.kv) =
+        subst (λ m. IfSome m (λ v. (answered OutOfMemory a (answer.Refused v)) × (y ≡ x) × (kv ≡ old.kv))) is stopped in
         absurd (true≢false (sym over ∙ ap (λ (z : TxnView). z.ended) all.1 ∙ going))
 
     pub try_ends : y.ended ≡ true → MatchOption (of_client old.clients c) (Refuses old new c NoTx a) (λ z. TryTurn old new c z a)
@@ -336,7 +362,7 @@ module _ (Telling : Type 0) (lists : Remembered) (servers size : ℕ) (told late
     (hand_of y))
     (fit : IsFit old.kv y) where
   abbrev now_stepped : TablesView
-  now_stepped = record { kv = old.kv; next_tx = old.next_tx; clients = mid; saved = old.saved }
+  now_stepped = record { kv = old.kv; next_tx = old.next_tx; clients = mid; beside = old.beside }
 
   step_goes_by : (b : Answer) → y.ended ≡ false → IsStepped x y b → (Tells Telling lists servers size told later (metadata_at old.kv x.at.base) →
       (ops : List (Op (List ℕ))) → IsSound size old.kv told x ops → IsTrueStep size (told, later) old.kv (x, y) ops b)
@@ -344,7 +370,7 @@ module _ (Telling : Type 0) (lists : Remembered) (servers size : ℕ) (told late
       lists servers size told later old now_stepped c x b
   step_goes_by (answer.Replayed i) still h m did = record {
     later_one = y;
-    keeps = record { clients = sets; kv = refl; next_tx = refl; saved = refl };
+    keeps = record { clients = sets; kv = refl; next_tx = refl; beside = refl };
     replayed = h;
     acts = did i refl;
     fit = fit;
@@ -361,17 +387,18 @@ module _ (Telling : Type 0) (lists : Remembered) (servers size : ℕ) (told late
       refuses old now_stepped c x y w a there sets both.1 refl refl refl (same_answer Fault a (answer.Refused w) both.0)
 
   pub step_goes : y.ended ≡ false → ClientTurn Telling lists servers size told later old (record
-      { kv = old.kv; next_tx = old.next_tx; clients = mid; saved = old.saved }) c verb.Step a
+      { kv = old.kv; next_tx = old.next_tx; clients = mid; beside = old.beside }) c verb.Step a
   step_goes still = at_some (of_client old.clients c) x _ _ there (step_goes_on (step_refusal x) refl still)
 
-  module _ (new : TablesView) (taken : Sets c None mid new.clients) (next : new.next_tx ≡ old.next_tx) (saved : new.saved ≡ old.saved) (is_kv : new.kv ≡ record old.kv { pins = remove_key (nat_eq y.at.base) old.kv.pins }) (unpinned : IsPinnedOnceMore y.at.base new.kv old.kv) where
+  module _ (new : TablesView) (taken : Sets c None mid new.clients) (next : new.next_tx ≡ old.next_tx) (beside : new.beside ≡ old.beside)
+      (is_kv : new.kv ≡ record old.kv { pins = remove_key (nat_eq y.at.base) old.kv.pins }) (unpinned : IsPinnedOnceMore y.at.base new.kv old.kv) where
     step_ends_by : (b : Answer) → y.ended ≡ true → IsStepped x y b → (Tells Telling lists servers size told later (metadata_at old.kv x.at.base) →
         (ops : List (Op (List ℕ))) → IsSound size old.kv told x ops → IsTrueStep size (told, later) old.kv (x, y) ops b) → Steps Telling lists servers size
         told later old new c x b
     step_ends_by (answer.Replayed i) over h m = absurd (true≢false (sym over ∙ ap (λ (z : TxnView). z.ended) h.is ∙ going))
     step_ends_by (Aborted' i box b) over h m = record {
       index = h.index;
-      ends = ends old new old.kv mid c x y sets taken next saved h.over.base (λ k le. refl) (λ k. refl) is_kv unpinned;
+      ends = ends old new old.kv mid c x y sets taken next beside h.over.base (λ k le. refl) (λ k. refl) is_kv unpinned;
       deviates = m;
     }
     step_ends_by b over h m = absurd h
@@ -388,19 +415,30 @@ module _ (Telling : Type 0) (lists : Remembered) (servers size : ℕ) (told late
 
 -- ---- a step that failed
 module _ (Telling : Type 0) (lists : Remembered) (servers size : ℕ) (told later : Told) (old : TablesView) (clients : Clients) (c : ℕ) (x y : TxnView) where
-  pub step_failed : (why : Fault) (a : Answer) → of_client old.clients c ≡ Some x → Sets c (Some y) old.clients clients → y ≡ x → step_refusal x ≡ None → fault_answer why ≡ Some a
+  pub step_failed : (why : Fault) (a : Answer) → of_client old.clients c ≡ Some x → Sets c (Some y) old.clients clients → y ≡ x → step_refusal x ≡ None
+      → fault_answer why ≡ Some a
       → ((ops : List (Op (List ℕ))) → IsSound size old.kv told x ops → (t : Tree) → Stands size told x.tx 0 (metadata_at old.kv x.at.base) t
       → IsDone (slice_get (answers_of (cap_for (caller_at size x.tx 0)) t ops) x.replayed) × IsReadFault servers a)
-      → ClientTurn Telling lists servers size told later old (record { kv = old.kv; next_tx = old.next_tx; clients = clients; saved = old.saved }) c verb.Step a
+      → ClientTurn Telling lists servers size told later old (record { kv = old.kv; next_tx = old.next_tx; clients = clients; beside = old.beside }) c verb.Step
+      a
   step_failed why a there sets same asked is may = at_some (of_client old.clients c) x _ _ there (at_none (step_refusal x) _ _ asked (by a is may))
     where
       by : (b : Answer) → fault_answer why ≡ Some b
           → ((ops : List (Op (List ℕ))) → IsSound size old.kv told x ops → (t : Tree) → Stands size told x.tx 0 (metadata_at old.kv x.at.base) t
           → IsDone (slice_get (answers_of (cap_for (caller_at size x.tx 0)) t ops) x.replayed) × IsReadFault servers b)
-          → Steps Telling lists servers size told later old (record { kv = old.kv; next_tx = old.next_tx; clients = clients; saved = old.saved }) c x b
+          → Steps Telling lists servers size told later old (record { kv = old.kv; next_tx = old.next_tx; clients = clients; beside = old.beside }) c x b
       by (answer.Replayed i) e f = absurd (fault_is why (answer.Replayed i) e)
       by (Aborted' i box b) e f = absurd (fault_is why (Aborted' i box b) e)
-      by b e f = record { fails = record { why = why; answer = e; stays = same_stays old (record { kv = old.kv; next_tx = old.next_tx; clients = clients; saved = old.saved }) c x y there sets same refl (λ n le. refl) (λ q. refl) (λ n. refl) refl refl }; may = f }
+      by b e f = record {
+        fails = record {
+          why = why;
+          answer = e;
+          stays = same_stays old (record { kv = old.kv; next_tx = old.next_tx; clients = clients; beside = old.beside }) c x y there sets same refl
+              (λ n le. refl)
+              (λ q. refl) (λ n. refl) refl refl;
+        };
+        may = f;
+      }
 
 -- ---- a commit
 module _ (Telling : Type 0) (lists : Remembered) (servers size : ℕ) (told later : Told) (old new : TablesView) (kv : Store Key Value) (mid : Clients) (c : ℕ)
@@ -414,26 +452,30 @@ module _ (Telling : Type 0) (lists : Remembered) (servers size : ℕ) (told late
   commit_by (Aborted' k box b) over h i m = record { mid = kv; number = h; versions = i; ends = over; deviates = m }
   commit_by b over h i m = absurd h
 
-  pub commit_turn : (a : Answer) → of_client old.clients c ≡ Some x → Sets c (Some y) old.clients mid → Sets c None mid new.clients → new.next_tx ≡ old.next_tx → new.saved ≡ old.saved → IsOver x y → KeepsMaps old.kv kv → KeepsPins old.kv kv
+  pub commit_turn : (a : Answer) → of_client old.clients c ≡ Some x → Sets c (Some y) old.clients mid → Sets c None mid new.clients → new.next_tx ≡ old.next_tx
+      → new.beside ≡ old.beside → IsOver x y → KeepsMaps old.kv kv → KeepsPins old.kv kv
       → new.kv ≡ record kv { pins = remove_key (nat_eq y.at.base) kv.pins } → IsPinnedOnceMore y.at.base new.kv kv → IsEnded old.kv kv a → IsInstall
       (Reads Telling lists servers size told later) old.kv kv (commit_from old.kv x) a
       → (Tells Telling lists servers size told later (metadata_at old.kv x.at.base) → Tells Telling lists servers size told later (metadata_now old.kv) →
       (ops : List (Op (List ℕ))) → IsSound size old.kv told x ops → IsTrueEnd size (told, later) old.kv kv x ops a)
       → ClientTurn Telling lists servers size told later old new c verb.Commit a
-  commit_turn a there sets taken next saved over maps pins is_kv unpinned h i m =
-      at_some (of_client old.clients c) x _ _ there (commit_by a (ends old new kv mid c x y sets taken next saved over.base maps pins is_kv unpinned) h i m)
+  commit_turn a there sets taken next beside over maps pins is_kv unpinned h i m =
+      at_some (of_client old.clients c) x _ _ there (commit_by a (ends old new kv mid c x y sets taken next beside over.base maps pins is_kv unpinned) h i m)
 
   -- a commit that failed
-  pub commit_failed : (why : Fault) (a : Answer) → of_client old.clients c ≡ Some x → Sets c (Some y) old.clients new.clients → y ≡ x → new.kv ≡ kv → new.next_tx ≡ old.next_tx → new.saved ≡ old.saved → kv.number ≡ old.kv.number → KeepsMaps old.kv kv → KeepsVersions old.kv kv → KeepsPins old.kv kv
+  pub commit_failed : (why : Fault) (a : Answer) → of_client old.clients c ≡ Some x → Sets c (Some y) old.clients new.clients → y ≡ x → new.kv ≡ kv
+      → new.next_tx ≡ old.next_tx → new.beside ≡ old.beside → kv.number ≡ old.kv.number → KeepsMaps old.kv kv → KeepsVersions old.kv kv → KeepsPins old.kv kv
       → fault_answer why ≡ Some a
       → (Tells Telling lists servers size told later (metadata_at old.kv x.at.base) → Tells Telling lists servers size told later (metadata_now old.kv) →
       (ops : List (Op (List ℕ))) → IsSound size old.kv told x ops → (t : Tree) → Stands size told x.tx 0 (metadata_now old.kv) t → IsReadFault servers a)
       → Finals Telling lists servers size told later old new c x a
-  commit_failed why a there sets same is_kv next saved number maps versions pins is may = by a is may
+  commit_failed why a there sets same is_kv next beside number maps versions pins is may = by a is may
     where
       stays : Stays old new c
-      stays = same_stays old new c x y there sets same (ap (λ (s : Store Key Value). s.number) is_kv ∙ number) (λ n le. ap (λ (s : Store Key Value). metadata_at s n) is_kv ∙ maps n le)
-          (λ q. ap (λ (s : Store Key Value). versions_of key_cmp s q) is_kv ∙ versions q) (λ n. ap (λ (s : Store Key Value). times_pinned s n) is_kv ∙ pins n) next saved
+      stays = same_stays old new c x y there sets same (ap (λ (s : Store Key Value). s.number) is_kv ∙ number)
+          (λ n le. ap (λ (s : Store Key Value). metadata_at s n) is_kv ∙ maps n le)
+          (λ q. ap (λ (s : Store Key Value). versions_of key_cmp s q) is_kv ∙ versions q) (λ n. ap (λ (s : Store Key Value). times_pinned s n) is_kv ∙ pins n)
+          next beside
 
       by : (b : Answer) → fault_answer why ≡ Some b
           → (Tells Telling lists servers size told later (metadata_at old.kv x.at.base) → Tells Telling lists servers size told later (metadata_now old.kv) →

@@ -1,5 +1,6 @@
 -- The pins of the images, where one comes, goes, or is the only one that stays.
-use Rattle.std.proofs.Common.{◌≡◌, ◌≤◌, ◌<◌, ℕ, ◌+◌, ◌-◌, cond, nat_eq, count_by, List, [], ◌∷◌, ◌++◌, take, drop, get_or, suc, length, refl, sym, ap, ◌∙◌, arith}
+use Rattle.std.proofs.Common.{◌≡◌, ◌≤◌, ◌<◌, ℕ, ◌+◌, ◌-◌, cond, nat_eq, count_by, List, [], ◌∷◌, ◌++◌, take, drop, get_or, suc, length, refl, sym, ap, ◌∙◌}
+use Rattle.std.proofs.Common.{arith}
 use Rattle.std.specs.Prelude.{IsTrue}
 use Rattle.std.proofs.Math.Seq.{take-append_seam, take-suc}
 use Rattle.std.proofs.lemmas.Bool.{eq-eqb}
@@ -11,7 +12,7 @@ use Rattle.wtf_values.specs.declared.key.Key.{Key}
 use Rattle.wtf_values.specs.declared.value.Value.{Value}
 use Rattle.wtf_values.specs.Keys.{key_cmp}
 use Rattle.wtf_meta.specs.Maps.{metadata_at}
-use Rattle.wtf_clients.specs.Views.{SavedView, TablesView}
+use Rattle.wtf_clients.specs.Views.{BesideView, TablesView}
 use Rattle.wtf_clients.specs.Sounds.{all_kept}
 use Rattle.wtf_clients.specs.Saves.{with_image, only_image, Saves}
 
@@ -22,19 +23,24 @@ front xs x =
     ap (λ n. take n (xs ++ x ∷ [])) len ∙ take-append_seam xs (x ∷ [])
 
 -- an image more is counted once
-more_kept : (s before : SavedView) (k n : ℕ) → s ≡ with_image before k → all_kept n s ≡ all_kept n before + cond (nat_eq n k) 1 0
-more_kept s before k n is = ap (all_kept n) is ∙ count-push n k before.images
+more_kept : (s before : BesideView) (k n : ℕ) → s ≡ with_image before k → all_kept n s ≡ all_kept n before + cond (nat_eq n k) 1 0
+more_kept s before k n is =
+    let whole : all_kept n s ≡ all_kept n (with_image before k) = ap (all_kept n) is in
+    let more = count-push n k before.images in
+    omega (arith, whole, more)
 
-pub others_are : (s before : SavedView) (k : ℕ) → s ≡ with_image before k → take (length s.images - 1) s.images ≡ before.images
-others_are s before k is = ap (λ (t : SavedView). take (length t.images - 1) t.images) is ∙ front before.images k
+pub others_are : (s before : BesideView) (k : ℕ) → s ≡ with_image before k → take (length s.images - 1) s.images ≡ before.images
+others_are s before k is = ap (λ (t : BesideView). take (length t.images - 1) t.images) is ∙ front before.images k
 
-pub some_kept : (s before : SavedView) (k : ℕ) → s ≡ with_image before k → 0 < length s.images
-some_kept s before k is = let len : length s.images ≡ length before.images + 1 = ap (λ (t : SavedView). length t.images) is ∙ length_push before.images k in omega (arith, len)
+pub some_kept : (s before : BesideView) (k : ℕ) → s ≡ with_image before k → 0 < length s.images
+some_kept s before k is = let len : length s.images ≡ length before.images + 1 = ap (λ (t : BesideView). length t.images) is ∙ length_push before.images k in
+    omega (arith, len)
 
 -- ---- pins are undone one by one
 pub count_front : (n k : ℕ) (xs : List ℕ) → count_by (nat_eq n) (take k xs) ≤ count_by (nat_eq n) xs
 count_front n k xs =
-    let parts : count_by (nat_eq n) (take k xs ++ drop k xs) ≡ count_by (nat_eq n) (take k xs) + count_by (nat_eq n) (drop k xs) = sum_by-append (λ y. cond (nat_eq n y) 1 0) (take k xs) (drop k xs) in
+    let parts : count_by (nat_eq n) (take k xs ++ drop k xs) ≡ count_by (nat_eq n) (take k xs) + count_by (nat_eq n) (drop k xs) =
+    sum_by-append (λ y. cond (nat_eq n y) 1 0) (take k xs) (drop k xs) in
     let whole : count_by (nat_eq n) (take k xs ++ drop k xs) ≡ count_by (nat_eq n) xs = ap (count_by (nat_eq n)) (take-append-drop k xs) in
     omega (arith, parts, whole)
 
@@ -47,7 +53,8 @@ pub record Undone (old new : Store Key Value) (numbers : List ℕ) (k : ℕ) : T
   pub pins : (n : ℕ) → times_pinned new n + count_by (nat_eq n) (take k numbers) ≡ times_pinned old n
   pub rest : new ≡ record old { pins = new.pins }
 
-module _ (old new : Store Key Value) (numbers : List ℕ) (k : ℕ) (below : k < length numbers) (enough : (n : ℕ) → count_by (nat_eq n) numbers ≤ times_pinned old n) (undone : Undone old new numbers k) where
+module _ (old new : Store Key Value) (numbers : List ℕ) (k : ℕ) (below : k < length numbers)
+    (enough : (n : ℕ) → count_by (nat_eq n) numbers ≤ times_pinned old n) (undone : Undone old new numbers k) where
   counted : (n : ℕ) → count_by (nat_eq n) (take (suc k) numbers) ≡ count_by (nat_eq n) (take k numbers) + cond (nat_eq n (get_or numbers k 0)) 1 0
   counted n = ap (count_by (nat_eq n)) (take-suc numbers k 0 below) ∙ count-push n (get_or numbers k 0) (take k numbers)
 
@@ -63,7 +70,8 @@ module _ (old new : Store Key Value) (numbers : List ℕ) (k : ℕ) (below : k <
       any-count n new.pins (omega (arith, left, more, one, all, front_le))
 
   -- and is then undone
-  pub next_undone : (after : Store Key Value) → IsPinnedOnceMore (get_or numbers k 0) after new → after ≡ record new { pins = after.pins } → Undone old after numbers (suc k)
+  pub next_undone : (after : Store Key Value) → IsPinnedOnceMore (get_or numbers k 0) after new → after ≡ record new { pins = after.pins }
+      → Undone old after numbers (suc k)
   next_undone after once is = record {
     pins = λ n.
         let left = undone.pins n in
@@ -73,50 +81,55 @@ module _ (old new : Store Key Value) (numbers : List ℕ) (k : ℕ) (below : k <
     rest = is ∙ ap (λ (s : Store Key Value). record s { pins = after.pins }) undone.rest;
   }
 
-module _ (old new : TablesView) (clients : new.clients ≡ old.clients) (next : new.next_tx ≡ old.next_tx) (pins : new.kv ≡ record old.kv { pins = new.kv.pins }) where
-  -- the store but for its pins is what it was
-  saves_by : (now : SavedView) → ((n : ℕ) → times_pinned new.kv n + all_kept n old.saved ≡ times_pinned old.kv n + all_kept n now) → new.saved ≡ now → Saves old new now
-  saves_by now moved is = record {
-    clients = clients;
-    number = ap (λ (s : Store Key Value). s.number) pins;
-    maps = λ n le. ap (λ (s : Store Key Value). metadata_at s n) pins;
-    versions = λ q. ap (λ (s : Store Key Value). versions_of key_cmp s q) pins;
-    pins = moved;
-    next_tx = next;
-    saved = is;
-  }
+module _ (old new : TablesView) (clients : new.clients ≡ old.clients) (next : new.next_tx ≡ old.next_tx) (pins : new.kv ≡ record old.kv { pins = new.kv.pins })
+  where
+    -- the store but for its pins is what it was
+    saves_by : (now : BesideView) → ((n : ℕ) → times_pinned new.kv n + all_kept n old.beside ≡ times_pinned old.kv n + all_kept n now) → new.beside ≡ now
+        → Saves old new now
+    saves_by now moved is = record {
+      clients = clients;
+      number = ap (λ (s : Store Key Value). s.number) pins;
+      maps = λ n le. ap (λ (s : Store Key Value). metadata_at s n) pins;
+      versions = λ q. ap (λ (s : Store Key Value). versions_of key_cmp s q) pins;
+      pins = moved;
+      next_tx = next;
+      beside = is;
+    }
 
-  -- one image comes
-  pub keeps_one : IsPinnedOnceMore old.kv.number old.kv new.kv → new.saved ≡ with_image old.saved old.kv.number → Saves old new (with_image old.saved old.kv.number)
-  keeps_one once is = saves_by (with_image old.saved old.kv.number)
-      (λ n.
-      let pinned = once n in
-      let more = more_kept (with_image old.saved old.kv.number) old.saved old.kv.number n refl in
-      omega (arith, pinned, more))
-      is
+    -- one image comes
+    pub keeps_one : IsPinnedOnceMore old.kv.number old.kv new.kv → new.beside ≡ with_image old.beside old.kv.number
+        → Saves old new (with_image old.beside old.kv.number)
+    keeps_one once is = saves_by (with_image old.beside old.kv.number)
+        (λ n.
+        let pinned = once n in
+        let more = more_kept (with_image old.beside old.kv.number) old.beside old.kv.number n refl in
+        omega (arith, pinned, more))
+        is
 
-  -- it goes
-  pub forgets_one : (before : SavedView) → old.saved ≡ with_image before old.kv.number → IsPinnedOnceMore old.kv.number new.kv old.kv → new.saved ≡ before → Saves old new before
-  forgets_one before was once is = saves_by before
-      (λ n.
-      let pinned = once n in
-      let more = more_kept old.saved before old.kv.number n was in
-      omega (arith, pinned, more))
-      is
+    -- it goes
+    pub forgets_one : (before : BesideView) → old.beside ≡ with_image before old.kv.number → IsPinnedOnceMore old.kv.number new.kv old.kv → new.beside ≡ before
+        → Saves old new before
+    forgets_one before was once is = saves_by before
+        (λ n.
+        let pinned = once n in
+        let more = more_kept old.beside before old.kv.number n was in
+        omega (arith, pinned, more))
+        is
 
-  -- it alone stays
-  pub settles_one : (before : SavedView) → old.saved ≡ with_image before old.kv.number → ((n : ℕ) → times_pinned new.kv n + count_by (nat_eq n) before.images ≡ times_pinned old.kv n) → new.saved ≡ only_image old.kv.number
-      → Saves old new (only_image old.kv.number)
-  settles_one before was gone is = saves_by (only_image old.kv.number)
-      (λ n.
-      let left = gone n in
-      let more = more_kept old.saved before old.kv.number n was in
-      let one : all_kept n (only_image old.kv.number) ≡ 0 + cond (nat_eq n old.kv.number) 1 0 = count-push n old.kv.number [] in
-      omega (arith, left, more, one))
-      is
+    -- it alone stays
+    pub settles_one : (before : BesideView) → old.beside ≡ with_image before old.kv.number
+        → ((n : ℕ) → times_pinned new.kv n + count_by (nat_eq n) before.images ≡ times_pinned old.kv n) → new.beside ≡ only_image before old.kv.number
+        → Saves old new (only_image before old.kv.number)
+    settles_one before was gone is = saves_by (only_image before old.kv.number)
+        (λ n.
+        let left = gone n in
+        let more = more_kept old.beside before old.kv.number n was in
+        let one : count_by (nat_eq n) (old.kv.number ∷ []) ≡ 0 + cond (nat_eq n old.kv.number) 1 0 = count-push n old.kv.number [] in
+        omega (arith, left, more, one))
+        is
 
 -- one change after another
-pub saves_then : (old mid new : TablesView) (between now : SavedView) → Saves old mid between → Saves mid new now → Saves old new now
+pub saves_then : (old mid new : TablesView) (between now : BesideView) → Saves old mid between → Saves mid new now → Saves old new now
 saves_then old mid new between now first last = record {
   clients = last.clients ∙ first.clients;
   number = last.number ∙ first.number;
@@ -125,16 +138,17 @@ saves_then old mid new between now first last = record {
   pins = λ n.
       let one = first.pins n in
       let two = last.pins n in
-      let is : all_kept n mid.saved ≡ all_kept n between = ap (all_kept n) first.saved in
+      let is : all_kept n mid.beside ≡ all_kept n between = ap (all_kept n) first.beside in
       omega (arith, one, two, is);
   next_tx = last.next_tx ∙ first.next_tx;
-  saved = last.saved;
+  beside = last.beside;
 }
 
 -- each image stays pinned
-pub saves_enough : (old new : TablesView) (now : SavedView) → Saves old new now → ((n : ℕ) → all_kept n old.saved ≤ times_pinned old.kv n) → (n : ℕ) → all_kept n new.saved ≤ times_pinned new.kv n
+pub saves_enough : (old new : TablesView) (now : BesideView) → Saves old new now → ((n : ℕ) → all_kept n old.beside ≤ times_pinned old.kv n) → (n : ℕ)
+    → all_kept n new.beside ≤ times_pinned new.kv n
 saves_enough old new now saves enough n =
     let moved = saves.pins n in
     let was = enough n in
-    let is : all_kept n new.saved ≡ all_kept n now = ap (all_kept n) saves.saved in
+    let is : all_kept n new.beside ≡ all_kept n now = ap (all_kept n) saves.beside in
     omega (arith, moved, was, is)

@@ -8,7 +8,7 @@ use Rattle.wtf_kv.proofs.PinLaws.{any-count}
 use Rattle.wtf_values.specs.declared.key.Key.{Key}
 use Rattle.wtf_values.specs.declared.value.Value.{Value}
 use Rattle.wtf_replay.specs.Views.{TxnView}
-use Rattle.wtf_clients.specs.Views.{Clients, SavedView, of_client}
+use Rattle.wtf_clients.specs.Views.{Clients, BesideView, of_client}
 use Rattle.wtf_clients.specs.Sounds.{owned, all_owned, all_kept}
 
 -- two numbers are one, or they are not
@@ -44,10 +44,11 @@ base_owned ((k, y) ∷ es) c x is = ⊎_elim
     (cases_Bool (nat_eq c k))
 
 -- so it is pinned, where each number is pinned as often as a transaction or an image owns it
-pub base_pinned : (kv : Store Key Value) (clients : Clients) (saved : SavedView) (c : ℕ) (x : TxnView) → ((n : ℕ) → times_pinned kv n ≡ all_owned n clients + all_kept n saved) → of_client clients c ≡ Some x → IsTrue (is_pinned kv x.at.base)
-base_pinned kv clients saved c x pins is =
+pub base_pinned : (kv : Store Key Value) (clients : Clients) (beside : BesideView) (c : ℕ) (x : TxnView)
+    → ((n : ℕ) → times_pinned kv n ≡ all_owned n clients + all_kept n beside) → of_client clients c ≡ Some x → IsTrue (is_pinned kv x.at.base)
+base_pinned kv clients beside c x pins is =
     let some = base_owned clients c x is in
-    let same : times_pinned kv x.at.base ≡ all_owned x.at.base clients + all_kept x.at.base saved = pins x.at.base in
+    let same : times_pinned kv x.at.base ≡ all_owned x.at.base clients + all_kept x.at.base beside = pins x.at.base in
     any-count x.at.base kv.pins (omega (arith, some, same))
 
 -- a client has one transaction

@@ -13,31 +13,36 @@ use Rattle.wtf_region.specs.Inside.{is_inside}
 use Rattle.wtf_replay.proofs.Insiding.{map_later, inside_later}
 use Rattle.wtf_meta.specs.Bytes.{any_slice}
 use Rattle.wtf_meta.specs.Maps.{metadata_at}
-use Rattle.wtf_clients.specs.Views.{SavedView, TablesView, of_client}
+use Rattle.wtf_clients.specs.Views.{BesideView, TablesView, of_client, of_label}
 use Rattle.wtf_clients.specs.Sounds.{AreSound}
 use Rattle.wtf_clients.specs.Named.{TablesBytes, any_byte, no_slice, has_copies}
 use Rattle.wtf_clients.specs.Asked.{asked_of, HasFailed}
-use Rattle.wtf_clients.specs.Outcomes.{SaveFault, HasCause}
+use Rattle.wtf_clients.specs.Outcomes.{no_load, SaveFault, HasCause}
 use Rattle.wtf_clients.specs.Saves.{with_image, only_image, Saves, SaveTurn}
-use Rattle.wtf_clients.specs.Serves.{NamesTables, AreBare, AreFull, ServesEvent}
+use Rattle.wtf_clients.specs.Serves.{NamesTables, AreBased, AreFull, ServesEvent}
 use Rattle.wtf_clients.proofs.Caused.{none_placed, none_added}
 use Rattle.wtf_clients.proofs.Lives.{now_bytes, Reaches, saved_reaches, same_kept, added_kept, only_kept}
-use Rattle.wtf_clients.proofs.Naming.{now_along, live_along, txn_along}
+use Rattle.wtf_clients.proofs.Naming.{value_later, now_along, live_along, txn_along}
 
--- the transactions and the maps stay
-saves_names : (old new : TablesView) (now : SavedView) → AreSound old → Reaches old.kv new.kv → Saves old new now → NamesTables old new
-saves_names old new now sound reach saves P Q hole h = record {
+-- the transactions, the jobs and the maps stay
+saves_names : (old new : TablesView) (now : BesideView) → now.jobs ≡ old.beside.jobs → AreSound old → Reaches old.kv new.kv → Saves old new now
+    → NamesTables old new
+saves_names old new now jobs sound reach saves P Q hole h = record {
   live = live_along P Q old new sound saves.maps reach h (now_along P Q old.kv new.kv saves.number saves.maps (now_bytes P Q old h));
   each = λ c x there.
       let was : of_client old.clients c ≡ Some x = ap (λ l. of_client l c) (sym saves.clients) ∙ there in
       txn_along P Q old.kv new.kv x (saves.maps x.at.base (sound.each c x was).based) (h.each c x was);
+  planned = λ j x there. h.planned j x (ap (λ l. of_label l j) (sym jobs ∙ sym (ap (λ (b : BesideView). b.jobs) saves.beside)) ∙ there);
 }
 
-save_names : (Up : Type 0) (old new : TablesView) (a : Answer) → AreSound old → SaveTurn Up old new a → NamesTables old new
-save_names Up old new (answer.Saved n) sound (number, up, saves) = saves_names old new (only_image n) sound (saved_reaches old new (only_image n) (λ k. only_kept old n k number) saves) saves
-save_names Up old new answer.FaultSave sound (inl saves) = saves_names old new old.saved sound (saved_reaches old new old.saved (same_kept old) saves) saves
+pub save_names : (Up : Type 0) (old new : TablesView) (a : Answer) → AreSound old → SaveTurn Up old new a → NamesTables old new
+save_names Up old new (answer.Saved n) sound (number, up, saves) = saves_names old new (only_image old.beside n) refl sound
+    (saved_reaches old new (only_image old.beside n) (λ k. only_kept old n k number) saves) saves
+save_names Up old new answer.FaultSave sound (inl saves) = saves_names old new old.beside refl sound (saved_reaches old new old.beside (same_kept old) saves)
+    saves
 save_names Up old new answer.FaultSave sound (inr saves) =
-    saves_names old new (with_image old.saved old.kv.number) sound (saved_reaches old new (with_image old.saved old.kv.number) (added_kept old) saves) saves
+    saves_names old new (with_image old.beside old.kv.number) refl sound (saved_reaches old new (with_image old.beside old.kv.number) (added_kept old) saves)
+    saves
 save_names Up old new a sound turn = absurd turn
 
 -- a save answers no other fault
@@ -46,22 +51,24 @@ save_failed Up old new fails (answer.Saved n) turn = tt
 save_failed Up old new fails answer.FaultSave turn = tt
 save_failed Up old new fails a turn = absurd turn
 
-module _ {S : Type 0} {kind : StoreKind S} (laws : KindLaws kind) (down : ℕ → Bool) (before after : List S) (goes : EachFollows kind before after []) (lengths : SameLengths kind before after) (settings : Settings) (enough : settings.servers ≤ length before)
+module _ {S : Type 0} {kind : StoreKind S} (laws : KindLaws kind) (down : ℕ → Bool) (before after : List S) (goes : EachFollows kind before after [])
+    (lengths : SameLengths kind before after) (settings : Settings) (enough : settings.servers ≤ length before)
     (Up rose : Type 0) (old new : TablesView) (sound : AreSound old) (inside : TablesBytes (is_inside kind before settings) any_slice old) where
   -- what lies inside the stores goes on doing so
   inside_on : TablesBytes (is_inside kind after settings) any_slice old
   inside_on = record {
     live = λ n is. map_later laws goes settings enough (metadata_at old.kv n) (inside.live n is);
     each = λ c x is. inside_later laws goes settings enough old.kv x (inside.each c x is);
+    planned = λ j x is. value_later laws goes settings enough x.value (inside.planned j x is);
   }
 
   pub save_serves : (a : Answer) → SaveTurn Up old new a → HasCause kind (span down before after) settings
-      (SaveFault kind (span down before after) settings rose event.Save) (AreBare old) (AreFull settings old) [] a
+      (SaveFault kind (span down before after) settings rose event.Save) (AreBased old) (AreFull settings old) no_load a
       → ServesEvent kind (span down before after) settings rose (old, new) event.Save a
   save_serves a turn caused = record {
     inside = save_names Up old new a sound turn (is_inside kind after settings) any_slice refl inside_on;
-    bare = save_names Up old new a sound turn any_byte no_slice refl;
-    full = save_names Up old new a sound turn (has_copies settings.replicas) no_slice refl;
+    bare = λ free. save_names Up old new a sound turn any_byte no_slice refl;
+    full = λ free. save_names Up old new a sound turn (has_copies settings.replicas) no_slice refl;
     adds = none_added kind (span down before after) settings a lengths;
     caused = caused;
     placed = none_placed kind (span down before after) settings (asked_of kind (span down before after) settings old event.Save) a refl;

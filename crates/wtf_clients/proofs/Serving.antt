@@ -4,6 +4,7 @@ use Rattle.std.specs.Prelude.{IfSome, IsSome}
 use Rattle.std.specs.Option.{option_map}
 use Rattle.wtf_base.specs.declared.fault.Fault.{Fault}
 use Rattle.wtf_base.specs.declared.fault.Fault.TheVariants as fault
+use Rattle.wtf_base.specs.declared.ids.InodeId.{InodeId}
 use Rattle.wtf_base.specs.declared.settings.Settings.{Settings}
 use Rattle.wtf_base.specs.declared.slice.Slice.{Slice}
 use Rattle.wtf_dev.specs.Store.{StoreKind, KindLaws}
@@ -20,7 +21,8 @@ use Rattle.wtf_model.specs.declared.event.Verb.TheVariants as verb
 use Rattle.wtf_ring.specs.Points.{PlaceView, IsRing}
 use Rattle.wtf_meta.specs.Bytes.{ListsBytes, any_slice}
 use Rattle.wtf_meta.specs.Calls.{InHand}
-use Rattle.wtf_meta.specs.Maps.{metadata_at, seen}
+use Rattle.wtf_meta.specs.FileEdits.{file_of}
+use Rattle.wtf_meta.specs.Maps.{Map, metadata_at, seen}
 use Rattle.wtf_meta.proofs.MapBytes.{with_bytes}
 use Rattle.wtf_meta.proofs.Nothing.{nothing_kept}
 use Rattle.wtf_region.specs.declared.dev.Dev.{Dev}
@@ -41,14 +43,15 @@ use Rattle.wtf_clients.specs.Views.{Clients, TablesView, of_client}
 use Rattle.wtf_clients.specs.Sounds.{AreSound, Sets}
 use Rattle.wtf_clients.specs.Named.{TablesBytes, any_byte, no_slice, has_copies}
 use Rattle.wtf_clients.specs.Asked.{Asked, asked_of, IsLent, IsPlaced, HasFailed}
-use Rattle.wtf_clients.specs.Outcomes.{AddsBytes, HasCause, data_of_op}
-use Rattle.wtf_clients.specs.Serves.{NamesTables, IsPlain, AreBare, AreFull, Serves}
+use Rattle.wtf_clients.specs.Outcomes.{Data, no_load, AddsBytes, HasCause, data_of_op}
+use Rattle.wtf_clients.specs.Serves.{NamesTables, IsPlain, AreBased, AreBare, AreFull, Serves}
 use Rattle.wtf_clients.specs.Turns.{Ends, Stays}
 use Rattle.wtf_clients.proofs.Lives.{now_bytes}
 use Rattle.wtf_clients.proofs.Making.{answered, same_answer}
-use Rattle.wtf_clients.proofs.Naming.{keeps_bytes, stays_bytes, leaves_bytes, ends_bytes}
-use Rattle.wtf_clients.proofs.Lacking.{memory_none, no_lists, cause_since}
-use Rattle.wtf_clients.proofs.Caused.{logged_plain, plain_caused, plain_failed, has_failed, none_placed, refused_placed, fault_placed, call_placed, none_added, refused_adds, same_lengths, call_adds, own_full, fault_adds, SeenBytes, again_caused, call_caused}
+use Rattle.wtf_clients.proofs.Naming.{value_later, keeps_bytes, stays_bytes, leaves_bytes, ends_bytes}
+use Rattle.wtf_clients.proofs.Lacking.{AreFullLists, memory_none, no_lists, any_lists, cause_since}
+use Rattle.wtf_clients.proofs.Caused.{logged_plain, plain_caused, plain_failed, has_failed, none_placed, refused_placed, fault_placed, call_placed}
+use Rattle.wtf_clients.proofs.Caused.{none_added, refused_adds, same_lengths, call_adds, own_full, fault_adds, SeenBytes, again_caused, call_caused}
 
 -- what is not refused
 pub stepped_plain : (x y : TxnView) (a : Answer) → IsStepped x y a → IsPlain a
@@ -61,7 +64,8 @@ ended_plain kv after (answer.Committed n) h = tt
 ended_plain kv after (Aborted' i box a) h = tt
 ended_plain kv after a h = absurd h
 
-pub step_plain : (x y : TxnView) (a : Answer) → IfSome (step_refusal x) (λ w. (answered Fault a (answer.Refused w)) × (y ≡ x)) → (step_refusal x ≡ None → IsStepped x y a) → IsPlain a
+pub step_plain : (x y : TxnView) (a : Answer) → IfSome (step_refusal x) (λ w. (answered Fault a (answer.Refused w)) × (y ≡ x))
+    → (step_refusal x ≡ None → IsStepped x y a) → IsPlain a
 step_plain x y a stopped stepped = by (step_refusal x) refl
   where
     by : (r : Option Word) → step_refusal x ≡ r → IsPlain a
@@ -104,82 +108,125 @@ module _ {S : Type 0} {kind : StoreKind S} (laws : KindLaws kind) (old new : Dev
   inside_at mid on = record {
     live = λ n is. map_later laws on.each old.settings lent.shelf (metadata_at before.kv n) (inside.live n is);
     each = λ c x is. inside_later laws on.each old.settings lent.shelf before.kv x (inside.each c x is);
+    planned = λ j x is. value_later laws on.each old.settings lent.shelf x.value (inside.planned j x is);
   }
 
-  later : TablesBytes (is_inside kind (stores new) old.settings) any_slice before
+  pub later : TablesBytes (is_inside kind (stores new) old.settings) any_slice before
   later = inside_at new goes
 
   -- a line that only read
-  pub read_failed : (after : TablesView) (place : PlaceView → Type 0) (fails : Fault → Type 0) (a : Answer) → NamesAfter kind old new before after → OnlyRead
-      kind (between old new)
-      → HasCause kind (between old new) old.settings ⊥ (AreBare before) (AreFull old.settings before) [] a → HasFailed fails a
-      → Serves kind (between old new) old.settings ⊥ (before, after) (record { given = []; goes_to = place; fails = fails }) a
-  read_failed after place fails a names reads caused failed = record {
+  pub read_failed : (after : TablesView) (place : PlaceView → Type 0) (empty : Type 0) (fails : Fault → Type 0) (a : Answer)
+      → NamesAfter kind old new before after → OnlyRead kind (between old new)
+      → HasCause kind (between old new) old.settings ⊥ (AreBased before) (AreFull old.settings before) no_load a → HasFailed fails a
+      → Serves kind (between old new) old.settings ⊥ (before, after) (record { given = no_load; goes_to = place; empty = empty; fails = fails }) a
+  read_failed after place empty fails a names reads caused failed = record {
     inside = names.0;
-    bare = names.1 any_byte refl;
-    full = names.1 (has_copies old.settings.replicas) refl;
+    bare = λ free. names.1 any_byte refl;
+    full = λ free. names.1 (has_copies old.settings.replicas) refl;
     adds = none_added kind (between old new) old.settings a reads.lengths;
     caused = caused;
-    placed = none_placed kind (between old new) old.settings (record { given = []; goes_to = place; fails = fails }) a refl;
+    placed = none_placed kind (between old new) old.settings (record { given = no_load; goes_to = place; empty = empty; fails = fails }) a refl;
     failed = failed;
   }
 
   -- and did not fail
-  pub read_serves : (after : TablesView) (place : PlaceView → Type 0) (fails : Fault → Type 0) (a : Answer) → NamesAfter kind old new before after → OnlyRead
-      kind (between old new) → IsPlain a
-      → Serves kind (between old new) old.settings ⊥ (before, after) (record { given = []; goes_to = place; fails = fails }) a
-  read_serves after place fails a names reads plain =
-      read_failed after place fails a names reads (plain_caused kind (between old new) old.settings ⊥ (AreBare before) (AreFull old.settings before) [] a
-      plain) (plain_failed fails a plain)
+  pub read_serves : (after : TablesView) (place : PlaceView → Type 0) (empty : Type 0) (fails : Fault → Type 0) (a : Answer)
+      → NamesAfter kind old new before after → OnlyRead kind (between old new) → IsPlain a
+      → Serves kind (between old new) old.settings ⊥ (before, after) (record { given = no_load; goes_to = place; empty = empty; fails = fails }) a
+  read_serves after place empty fails a names reads plain =
+      read_failed after place empty fails a names reads
+      (plain_caused kind (between old new) old.settings ⊥ (AreBased before) (AreFull old.settings before) no_load a plain) (plain_failed fails a plain)
 
   -- what a transaction names
   sees : (c : ℕ) (x : TxnView) → of_client before.clients c ≡ Some x → SeenBytes (inside_of kind old) any_slice (seen before.kv x.at) x.session
   sees c x there = hand_sees (inside_of kind old) any_slice refl before.kv (hand_of x) (inside.each c x there).hand
 
-  sees_bare : (c : ℕ) (x : TxnView) → of_client before.clients c ≡ Some x → AreBare before → SeenBytes any_byte no_slice (seen before.kv x.at) x.session
-  sees_bare c x there bare = hand_sees any_byte no_slice refl before.kv (hand_of x) (bare.each c x there).hand
+  sees_based : (c : ℕ) (x : TxnView) → of_client before.clients c ≡ Some x → (Q : Slice → Bool) → AreBased before Q → SeenBytes any_byte Q
+      (seen before.kv x.at) x.session
+  sees_based c x there Q based = hand_sees any_byte Q refl before.kv (hand_of x) (based.each c x there).hand
 
-  sees_full : (c : ℕ) (x : TxnView) → of_client before.clients c ≡ Some x → AreFull old.settings before → SeenBytes (has_copies old.settings.replicas)
-      no_slice (seen before.kv x.at) x.session
-  sees_full c x there full = hand_sees (has_copies old.settings.replicas) no_slice refl before.kv (hand_of x) (full.each c x there).hand
+  -- what a transaction has in hand and its log name no more than is named
+  abbrev pub IsOfTables : TxnView → Type 0
+  IsOfTables y = (P : List Place → Bool) (Q : Slice → Bool) → P [] ≡ true → TablesBytes P Q before → HandBytes P Q before.kv (hand_of y) × LogBytes P y.log
 
-  -- a call that was made once more and failed
+  -- and where `full` holds, each byte of the lists that are read, of files of a map, has as many copies as there are replicas
+  abbrev pub AreFullReads : Type 0 → (Slice → Bool) → Dev S → Map → Type 0
+  AreFullReads full O mid w = (i : InodeId) (off n : ℕ) → AreFullLists kind mid new full O (file_of i w) off n
+
+  -- so has then each byte of the tables, and O holds of each base
+  module _ (full : Type 0) (O : Slice → Bool) (copies : full → TablesBytes (has_copies old.settings.replicas) O before) where
+    sees_full : (c : ℕ) (x : TxnView) → of_client before.clients c ≡ Some x → full → SeenBytes (has_copies old.settings.replicas) O (seen before.kv x.at)
+        x.session
+    sees_full c x there h = hand_sees (has_copies old.settings.replicas) O refl before.kv (hand_of x) ((copies h).each c x there).hand
+
+    -- a call that was made once more and failed
+    pub step_by : (c : ℕ) (x : TxnView) (why : Fault) (a : Answer) → of_client before.clients c ≡ Some x → fault_answer why ≡ Some a
+        → AreFullReads full O old (seen before.kv x.at) → (why ≡ fault.Memory) ⊎ FaultAt kind old new before.kv (hand_of x) (slice_get x.log.ops x.replayed) why
+        → HasCause kind (between old new) old.settings ⊥ (AreBased before) full no_load a
+    step_by c x why a there is lists (inl memory) = absurd (memory_none why a is memory)
+    step_by c x why a there is lists (inr f) =
+        again_caused laws old new lent (seen before.kv x.at) x.session (AreBased before) full O (sees c x there) (sees_based c x there) (sees_full c x there)
+        lists f.op why a is f.cause
+
+    -- one that was made for the first time
+    pub call_by : (c : ℕ) (x : TxnView) (o : Op (List ℕ)) (why : Fault) (a : Answer) → of_client before.clients c ≡ Some x → fault_answer why ≡ Some a
+        → AreFullReads full O old (seen before.kv x.at) → IsCallFault kind old new (seen before.kv x.at) x.session o why
+        → HasCause kind (between old new) old.settings ⊥ (AreBased before) full (Data (data_of_op o)) a
+    call_by c x o why a there is lists h =
+        call_caused laws old new lent (seen before.kv x.at) x.session (AreBased before) full O (sees c x there) (sees_based c x there) (sees_full c x there)
+        lists o why a is h
+
+    replay_by : (y : TxnView) (why : Fault) (a : Answer) → fault_answer why ≡ Some a → IsOfTables y → (f : ReplayFault kind old new before.kv y why)
+        → (full → ListsBytes (has_copies old.settings.replicas) O f.named.lists) × AreFullReads full O f.mid (seen before.kv f.at)
+        → HasCause kind (between old new) old.settings ⊥ (AreBased before) full no_load a
+    replay_by y why a is names f lists =
+        let hand : (P : List Place → Bool) (Q : Slice → Bool) → P [] ≡ true → TablesBytes P Q before → ListsBytes P Q f.named.lists → SeenBytes P Q
+        (seen before.kv f.at) f.session = λ P Q hole h read.
+        hand_sees P Q hole before.kv (in_hand f.at f.session) (f.named.names P Q hole (names P Q hole h) read) in
+        cause_since laws old f.mid new (AreBased before) full a f.goes
+        (again_caused laws f.mid new f.goes.sound (seen before.kv f.at) f.session (AreBased before) full O
+        (subst (λ (st : Settings). SeenBytes (is_inside kind (stores f.mid) st) any_slice (seen before.kv f.at) f.session) (sym f.goes.settings)
+        (hand (is_inside kind (stores f.mid) old.settings) any_slice refl (inside_at f.mid f.goes)
+        (named_inside kind old f.mid f.goes f.named.lists f.named.inside)))
+        (λ Q based. hand any_byte Q refl based (any_lists Q f.named.lists))
+        (λ h. subst (λ (st : Settings). SeenBytes (has_copies st.replicas) O (seen before.kv f.at) f.session) (sym f.goes.settings)
+        (hand (has_copies old.settings.replicas) O refl (copies h) (lists.0 h)))
+        lists.1 f.fault.op why a is f.fault.cause)
+
+    pub commit_by : (c : ℕ) (x : TxnView) (why : Fault) (a : Answer) → of_client before.clients c ≡ Some x → fault_answer why ≡ Some a
+        → ((y : TxnView) → IsOfTables y → (f : ReplayFault kind old new before.kv y why)
+        → (full → ListsBytes (has_copies old.settings.replicas) O f.named.lists) × AreFullReads full O f.mid (seen before.kv f.at))
+        → IsCommitFault kind old new before.kv x why → HasCause kind (between old new) old.settings ⊥ (AreBased before) full no_load a
+    commit_by c x why a there is lists (inl memory) = absurd (memory_none why a is memory)
+    commit_by c x why a there is lists (inr f) = elim (from_one before.kv x) [
+      | inl same ↦
+          let own : IsOfTables x = λ P Q hole h. let mine = h.each c x there in (mine.hand, mine.log) in
+          let g : ReplayFault kind old new before.kv x why = subst (λ z. ReplayFault kind old new before.kv z why) same f in
+          replay_by x why a is own g (lists x own g)
+      | inr again ↦
+          let y : TxnView = rebased x before.kv.number in
+          let own : IsOfTables y = λ P Q hole h.
+          (record { base = now_bytes P Q before h; changes = tt; slices = nothing_kept P }, (h.each c x there).log) in
+          let g : ReplayFault kind old new before.kv y why = subst (λ z. ReplayFault kind old new before.kv z why) again f in
+          replay_by y why a is own g (lists y own g)
+    ]
+
+  -- where no region has a base no list is read of one
+  no_reads : (mid : Dev S) (w : Map) → AreFullReads (AreFull old.settings before) no_slice mid w
+  no_reads mid w i off n = λ h ps r. no_lists (has_copies mid.settings.replicas) r.facts
+
   pub step_caused : (c : ℕ) (x : TxnView) (why : Fault) (a : Answer) → of_client before.clients c ≡ Some x → fault_answer why ≡ Some a
       → (why ≡ fault.Memory) ⊎ FaultAt kind old new before.kv (hand_of x) (slice_get x.log.ops x.replayed) why
-      → HasCause kind (between old new) old.settings ⊥ (AreBare before) (AreFull old.settings before) [] a
-  step_caused c x why a there is (inl memory) = absurd (memory_none why a is memory)
-  step_caused c x why a there is (inr f) =
-      again_caused laws old new lent (seen before.kv x.at) x.session (AreBare before) (AreFull old.settings before) (sees c x there) (sees_bare c x there)
-      (sees_full c x there) f.op why a is f.cause
-
-  replay_caused : (y : TxnView) (why : Fault) (a : Answer) → fault_answer why ≡ Some a
-      → ((P : List Place → Bool) (Q : Slice → Bool) → P [] ≡ true → TablesBytes P Q before → HandBytes P Q before.kv (hand_of y) × LogBytes P y.log)
-      → ReplayFault kind old new before.kv y why → HasCause kind (between old new) old.settings ⊥ (AreBare before) (AreFull old.settings before) [] a
-  replay_caused y why a is names f =
-      let hand : (P : List Place → Bool) (Q : Slice → Bool) → P [] ≡ true → TablesBytes P Q before → ListsBytes P Q f.named.lists → SeenBytes P Q
-      (seen before.kv f.at) f.session = λ P Q hole h lists.
-      hand_sees P Q hole before.kv (in_hand f.at f.session) (f.named.names P Q hole (names P Q hole h) lists) in
-      cause_since laws old f.mid new (AreBare before) (AreFull old.settings before) a f.goes
-      (again_caused laws f.mid new f.goes.sound (seen before.kv f.at) f.session (AreBare before) (AreFull old.settings before)
-      (subst (λ (st : Settings). SeenBytes (is_inside kind (stores f.mid) st) any_slice (seen before.kv f.at) f.session) (sym f.goes.settings)
-      (hand (is_inside kind (stores f.mid) old.settings) any_slice refl (inside_at f.mid f.goes)
-      (named_inside kind old f.mid f.goes f.named.lists f.named.inside)))
-      (λ bare. hand any_byte no_slice refl bare (no_lists any_byte f.named.lists))
-      (λ full. subst (λ (st : Settings). SeenBytes (has_copies st.replicas) no_slice (seen before.kv f.at) f.session) (sym f.goes.settings)
-      (hand (has_copies old.settings.replicas) no_slice refl full (no_lists (has_copies old.settings.replicas) f.named.lists)))
-      f.fault.op why a is f.fault.cause)
+      → HasCause kind (between old new) old.settings ⊥ (AreBased before) (AreFull old.settings before) no_load a
+  step_caused c x why a there is cause =
+      step_by (AreFull old.settings before) no_slice (λ h. h) c x why a there is (no_reads old (seen before.kv x.at)) cause
 
   pub commit_caused : (c : ℕ) (x : TxnView) (why : Fault) (a : Answer) → of_client before.clients c ≡ Some x → fault_answer why ≡ Some a
-      → IsCommitFault kind old new before.kv x why → HasCause kind (between old new) old.settings ⊥ (AreBare before) (AreFull old.settings before) [] a
-  commit_caused c x why a there is (inl memory) = absurd (memory_none why a is memory)
-  commit_caused c x why a there is (inr f) = elim (from_one before.kv x) [
-    | inl same ↦ replay_caused x why a is (λ P Q hole h. let own = h.each c x there in (own.hand, own.log))
-        (subst (λ y. ReplayFault kind old new before.kv y why) same f)
-    | inr again ↦
-        replay_caused (rebased x before.kv.number) why a is (λ P Q hole h.
-        (record { base = now_bytes P Q before h; changes = tt; slices = nothing_kept P }, (h.each c x there).log))
-        (subst (λ y. ReplayFault kind old new before.kv y why) again f)
-  ]
+      → IsCommitFault kind old new before.kv x why
+      → HasCause kind (between old new) old.settings ⊥ (AreBased before) (AreFull old.settings before) no_load a
+  commit_caused c x why a there is cause =
+      commit_by (AreFull old.settings before) no_slice (λ h. h) c x why a there is
+      (λ y own f. ((λ h. no_lists (has_copies old.settings.replicas) f.named.lists), no_reads f.mid (seen before.kv f.at))) cause
 
   -- what names no more than was named
   pub from_names : (after : TablesView) → NamesTables before after → NamesAfter kind old new before after
@@ -188,13 +235,13 @@ module _ {S : Type 0} {kind : StoreKind S} (laws : KindLaws kind) (old new : Dev
   -- a client's transaction goes on
   pub goes_names : (clients : Clients) (c : ℕ) (x y : TxnView) → of_client before.clients c ≡ Some x → Sets c (Some y) before.clients clients → NamesTxn kind
       old new before.kv x y None
-      → NamesAfter kind old new before (record { kv = before.kv; next_tx = before.next_tx; clients = clients; saved = before.saved })
+      → NamesAfter kind old new before (record { kv = before.kv; next_tx = before.next_tx; clients = clients; beside = before.beside })
   goes_names clients c x y there sets named =
       let by : (P : List Place → Bool) (Q : Slice → Bool) → P [] ≡ true → ListsBytes P Q named.lists → TablesBytes P Q before → TablesBytes P Q
-      (record { kv = before.kv; next_tx = before.next_tx; clients = clients; saved = before.saved }) =
+      (record { kv = before.kv; next_tx = before.next_tx; clients = clients; beside = before.beside }) =
       λ P Q hole lists h.
-      keeps_bytes P Q before (record { kv = before.kv; next_tx = before.next_tx; clients = clients; saved = before.saved }) c y sound
-      (record { clients = sets; kv = refl; next_tx = refl; saved = refl })
+      keeps_bytes P Q before (record { kv = before.kv; next_tx = before.next_tx; clients = clients; beside = before.beside }) c y sound
+      (record { clients = sets; kv = refl; next_tx = refl; beside = refl })
       (named.names P Q hole (h.each c x there) lists tt) h in (
         by (is_inside kind (stores new) old.settings) any_slice refl (named_inside kind old new goes named.lists named.inside) later,
         λ P hole. by P no_slice
@@ -202,11 +249,11 @@ module _ {S : Type 0} {kind : StoreKind S} (laws : KindLaws kind) (old new : Dev
       )
 
   pub same_names : (clients : Clients) (c : ℕ) (x y : TxnView) → of_client before.clients c ≡ Some x → Sets c (Some y) before.clients clients → y ≡ x
-      → NamesAfter kind old new before (record { kv = before.kv; next_tx = before.next_tx; clients = clients; saved = before.saved })
+      → NamesAfter kind old new before (record { kv = before.kv; next_tx = before.next_tx; clients = clients; beside = before.beside })
   same_names clients c x y there sets same =
-      from_names (record { kv = before.kv; next_tx = before.next_tx; clients = clients; saved = before.saved }) (λ P Q hole h.
-      keeps_bytes P Q before (record { kv = before.kv; next_tx = before.next_tx; clients = clients; saved = before.saved }) c y sound
-      (record { clients = sets; kv = refl; next_tx = refl; saved = refl })
+      from_names (record { kv = before.kv; next_tx = before.next_tx; clients = clients; beside = before.beside }) (λ P Q hole h.
+      keeps_bytes P Q before (record { kv = before.kv; next_tx = before.next_tx; clients = clients; beside = before.beside }) c y sound
+      (record { clients = sets; kv = refl; next_tx = refl; beside = refl })
       (subst (TxnBytes P Q before.kv) (sym same) (h.each c x there)) h)
 
   -- or has ended
@@ -227,22 +274,23 @@ module _ {S : Type 0} {kind : StoreKind S} (laws : KindLaws kind) (old new : Dev
   pub stays_names : (after : TablesView) (c : ℕ) → Stays before after c → NamesAfter kind old new before after
   stays_names after c st = from_names after (λ P Q hole h. stays_bytes P Q before after c sound st h)
 
-  module _ (clients : Clients) (c : ℕ) (x y : TxnView) (there : of_client before.clients c ≡ Some x) (sets : Sets c (Some y) before.clients clients) (own : IsInsideTxn kind (stores new) old.settings before.kv y) where
+  module _ (clients : Clients) (c : ℕ) (x y : TxnView) (there : of_client before.clients c ≡ Some x) (sets : Sets c (Some y) before.clients clients)
+      (own : IsInsideTxn kind (stores new) old.settings before.kv y) where
     abbrev called : TablesView
-    called = record { kv = before.kv; next_tx = before.next_tx; clients = clients; saved = before.saved }
+    called = record { kv = before.kv; next_tx = before.next_tx; clients = clients; beside = before.beside }
 
     set_serves : (asked : Asked) (a : Answer) → (AreBare before → TxnBytes any_byte no_slice before.kv y) →
         (AreFull old.settings before → TxnBytes (has_copies old.settings.replicas) no_slice before.kv y) → AddsBytes kind (between old new) old.settings
         asked.given a
-        → HasCause kind (between old new) old.settings ⊥ (AreBare before) (AreFull old.settings before) asked.given a → IsPlaced kind (between old new)
+        → HasCause kind (between old new) old.settings ⊥ (AreBased before) (AreFull old.settings before) asked.given a → IsPlaced kind (between old new)
         old.settings asked a → HasFailed asked.fails a
         → Serves kind (between old new) old.settings ⊥ (before, called) asked a
     set_serves asked a bare full adds caused placed failed = record {
       inside = keeps_bytes (is_inside kind (stores new) old.settings) any_slice before called c y sound
-          (record { clients = sets; kv = refl; next_tx = refl; saved = refl }) own later;
-      bare = λ h. keeps_bytes any_byte no_slice before called c y sound (record { clients = sets; kv = refl; next_tx = refl; saved = refl }) (bare h) h;
-      full = λ h. keeps_bytes (has_copies old.settings.replicas) no_slice before called c y sound
-          (record { clients = sets; kv = refl; next_tx = refl; saved = refl }) (full h) h;
+          (record { clients = sets; kv = refl; next_tx = refl; beside = refl }) own later;
+      bare = λ free h. keeps_bytes any_byte no_slice before called c y sound (record { clients = sets; kv = refl; next_tx = refl; beside = refl }) (bare h) h;
+      full = λ free h. keeps_bytes (has_copies old.settings.replicas) no_slice before called c y sound
+          (record { clients = sets; kv = refl; next_tx = refl; beside = refl }) (full h) h;
       adds = adds;
       caused = caused;
       placed = placed;
@@ -256,44 +304,48 @@ module _ {S : Type 0} {kind : StoreKind S} (laws : KindLaws kind) (old new : Dev
     asked o = asked_of kind (between old new) old.settings before (event.Client c (verb.Call o))
 
     -- a call
-    pub call_serves : IsRing old.settings.servers old.ring.now.points → (o : Op (List ℕ)) (a : Answer) → IfSome (unmade x) (λ b. (answered Fault a b) × (y ≡ x) × (new ≡ old))
+    pub call_serves : IsRing old.settings.servers old.ring.now.points → (o : Op (List ℕ)) (a : Answer)
+        → IfSome (unmade x) (λ b. (answered Fault a b) × (y ≡ x) × (new ≡ old))
         → (unmade x ≡ None → (own : Option Slice) × IsCalled x y o own a × IsOwnOf kind old new (seen before.kv x.at) x.session o own × NamesTxn kind old new
         before.kv x y own × (IsSome own → a ≡ answer.Okay))
         → (StoresNothing o → OnlyRead kind (between old new)) → Serves kind (between old new) old.settings ⊥ (before, called) (asked o) a
     call_serves ring o a stopped made reads = by (call_refusal x) refl
       where
-        by : (r : Option Word) → call_refusal x ≡ r → Serves kind (between old new) old.settings ⊥ (before, record { kv = before.kv; next_tx = before.next_tx; clients = clients; saved = before.saved }) (asked_of kind (between old new) old.settings before (event.Client c (verb.Call o))) a
+        by : (r : Option Word) → call_refusal x ≡ r → Serves kind (between old new) old.settings ⊥ (before, called) (asked o) a
         by None is =
             let free : unmade x ≡ None = ap (option_map answer.Refused) is in
             let did = made free in
             let plain = logged_plain a did.1.logged.answer in
-            set_serves (asked_of kind (between old new) old.settings before (event.Client c (verb.Call o))) a
+            set_serves (asked o) a
             (λ h. did.3.names any_byte no_slice refl (h.each c x there) (no_lists any_byte did.3.lists) (any_own did.0))
             (λ h. did.3.names (has_copies old.settings.replicas) no_slice refl (h.each c x there) (no_lists (has_copies old.settings.replicas) did.3.lists)
             (own_full kind old new (seen before.kv x.at) x.session o did.0 did.2))
             (call_adds kind old new (seen before.kv x.at) x.session o did.0 a did.2 did.1.lacks did.4 reads)
-            (plain_caused kind (between old new) old.settings ⊥ (AreBare before) (AreFull old.settings before) (data_of_op o) a plain)
-            (λ ok some. let put = call_placed kind old new (seen before.kv x.at) x.session o did.0 a did.2 did.1.lacks ok some in (put.0, (old, new, lent_to old new ring, (x, there, put.1)), put.2, put.3))
-            (plain_failed (asked_of kind (between old new) old.settings before (event.Client c (verb.Call o))).fails a plain)
+            (plain_caused kind (between old new) old.settings ⊥ (AreBased before) (AreFull old.settings before) (Data (data_of_op o)) a plain)
+            (λ ok some.
+            let put = call_placed kind old new (seen before.kv x.at) x.session o did.0 a did.2 did.1.lacks ok some in
+            (put.0, (old, new, lent_to old new ring, (x, there, put.1)), put.2, put.3))
+            (plain_failed (asked o).fails a plain)
         by (Some w) is =
             let held : unmade x ≡ Some (answer.Refused w) = ap (option_map answer.Refused) is in
-            let all : (answered Fault a (answer.Refused w)) × (y ≡ x) × (new ≡ old) = subst (λ m. IfSome m (λ b. (answered Fault a b) × (y ≡ x) × (new ≡ old))) held stopped in
+            let all : (answered Fault a (answer.Refused w)) × (y ≡ x) × (new ≡ old) =
+            subst (λ m. IfSome m (λ b. (answered Fault a b) × (y ≡ x) × (new ≡ old))) held stopped in
             let word : answer.Refused w ≡ a = sym (same_answer Fault a (answer.Refused w) all.0) in
-            subst (λ (r : Answer). Serves kind (between old new) old.settings ⊥ (before, record { kv = before.kv; next_tx = before.next_tx; clients = clients; saved = before.saved }) (asked_of kind (between old new) old.settings before (event.Client c (verb.Call o))) r) word
-            (set_serves (asked_of kind (between old new) old.settings before (event.Client c (verb.Call o))) (answer.Refused w)
+            subst (λ (r : Answer). Serves kind (between old new) old.settings ⊥ (before, called) (asked o) r) word
+            (set_serves (asked o) (answer.Refused w)
             (same_bytes any_byte no_slice all.1) (same_bytes (has_copies old.settings.replicas) no_slice all.1)
-            (refused_adds kind (between old new) old.settings (data_of_op o) (answer.Refused w) tt (same_lengths kind old new all.2))
-            (plain_caused kind (between old new) old.settings ⊥ (AreBare before) (AreFull old.settings before) (data_of_op o) (answer.Refused w) tt)
-            (refused_placed kind (between old new) old.settings (asked_of kind (between old new) old.settings before (event.Client c (verb.Call o))) (answer.Refused w) tt)
-            (plain_failed (asked_of kind (between old new) old.settings before (event.Client c (verb.Call o))).fails (answer.Refused w) tt))
+            (refused_adds kind (between old new) old.settings (Data (data_of_op o)) (answer.Refused w) tt (same_lengths kind old new all.2))
+            (plain_caused kind (between old new) old.settings ⊥ (AreBased before) (AreFull old.settings before) (Data (data_of_op o)) (answer.Refused w) tt)
+            (refused_placed kind (between old new) old.settings (asked o) (answer.Refused w) tt)
+            (plain_failed (asked o).fails (answer.Refused w) tt))
 
     -- a call that failed
-    pub fault_serves : IsRing old.settings.servers old.ring.now.points → (o : Op (List ℕ)) (why : Fault) (a : Answer) → fault_answer why ≡ Some a → y ≡ x → IsCallFault kind old new (seen before.kv x.at) x.session o why
-        → (StoresNothing o → OnlyRead kind (between old new)) → Serves kind (between old new) old.settings ⊥ (before, called) (asked o) a
+    pub fault_serves : IsRing old.settings.servers old.ring.now.points → (o : Op (List ℕ)) (why : Fault) (a : Answer) → fault_answer why ≡ Some a → y ≡ x
+        → IsCallFault kind old new (seen before.kv x.at) x.session o why → (StoresNothing o → OnlyRead kind (between old new))
+        → Serves kind (between old new) old.settings ⊥ (before, called) (asked o) a
     fault_serves ring o why a is same h reads =
         set_serves (asked o) a (same_bytes any_byte no_slice same) (same_bytes (has_copies old.settings.replicas) no_slice same)
         (fault_adds kind old new (seen before.kv x.at) x.session o why a is h reads)
-        (call_caused laws old new lent (seen before.kv x.at) x.session (AreBare before) (AreFull old.settings before) (sees c x there) (sees_bare c x there)
-        (sees_full c x there) o why a is h)
+        (call_by (AreFull old.settings before) no_slice (λ h. h) c x o why a there is (no_reads old (seen before.kv x.at)) h)
         (fault_placed kind (between old new) old.settings (asked o) why a is)
         (has_failed (asked o).fails why a is (old, new, lent_to old new ring, (x, there, h)))

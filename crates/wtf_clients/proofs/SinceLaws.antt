@@ -1,5 +1,5 @@
--- What others have touched since the base of a transaction: at that base, where nothing was installed, over an install by another, and
--- where a key is in the way.
+-- What others have touched since the base of a transaction or a job: at that base, where nothing was installed, over an install by another,
+-- and where a key is in the way.
 use Rattle.std.proofs.Common.{◌≡◌, ◌≢◌, ◌≤◌, ◌<◌, ℕ, true, List, [], ◌++◌, take, Option, None, Some, IsSome, refl, sym, ap, ◌∙◌, subst, append-nil}
 use Rattle.std.proofs.Common.{⊎_elim, arith}
 use Rattle.wtf_base.specs.declared.ids.InodeId.{InodeId}
@@ -31,9 +31,12 @@ use Rattle.wtf_clients.proofs.AboveLaws.{above-number, above-same, above-kept, a
 use Rattle.wtf_clients.proofs.TouchLaws.{IsAdded, HasNone, touched_on, own_on, touched_none, own_none, touched_along, own_along, conflict_met}
 
 -- at its base
+pub touched_base : (kv : Store Key Value) → Touched (metadata_at kv kv.number) (metadata_now kv) (above kv kv.number) []
+touched_base kv = touched_none (metadata_now kv) (above kv kv.number) (above-number kv)
+
 pub since_none : (kv : Store Key Value) (tx : ℕ) → ((i : InodeId) → i.tx.0 ≡ tx → metadata_now kv (Inode i) ≡ None) → SinceBase kv tx kv.number []
 since_none kv tx gone = record {
-  touched = touched_none (metadata_now kv) (above kv kv.number) (above-number kv);
+  touched = touched_base kv;
   own = own_none tx (metadata_now kv) (above kv kv.number) gone (above-number kv);
 }
 
@@ -48,13 +51,29 @@ tidied_moved old new b tidy q h = ⊎_elim
     (λ kept. above-kept old.kv.pins old.kv new.kv b q kept h)
     (tidy.kept q)
 
+-- what was touched by the versions above a base, in a store
+abbrev pub TouchedSince : Store Key Value → ℕ → List Item → Type 0
+TouchedSince kv base items = Touched (metadata_at kv base) (metadata_now kv) (above kv base) items
+
+module _ (old new : Store Key Value) (base : ℕ) (items : List Item) (was : TouchedSince old base items) where
+  pub touched_still : metadata_at new base ≡ metadata_at old base → metadata_now new ≡ metadata_now old → NoneMoved (above old base) (above new base)
+      → TouchedSince new base items
+  touched_still at now fewer =
+      subst (λ w. Touched w (metadata_now new) (above new base) items) (sym at)
+      (subst (λ w. Touched (metadata_at old base) w (above new base) items) (sym now)
+      (touched_along (above old base) (above new base) fewer (metadata_at old base) (metadata_now old) items was))
+
+  -- with nothing more touched
+  pub touched_kept : base ≤ old.number → KeepsMaps old new → new.number ≡ old.number → KeepsVersions old new → TouchedSince new base (items ++ [])
+  touched_kept based maps number versions =
+      subst (λ l. TouchedSince new base l) (sym (append-nil items))
+      (touched_still (maps base based) (ap (metadata_at new) number ∙ maps old.number (omega arith)) (none_moved old new base versions))
+
 module _ (old new : Store Key Value) (tx base : ℕ) (items : List Item) (was : SinceBase old tx base items) where
   pub since_along : metadata_at new base ≡ metadata_at old base → metadata_now new ≡ metadata_now old → NoneMoved (above old base) (above new base)
       → SinceBase new tx base items
   since_along at now fewer = record {
-    touched = subst (λ w. Touched w (metadata_now new) (above new base) items) (sym at)
-        (subst (λ w. Touched (metadata_at old base) w (above new base) items) (sym now)
-        (touched_along (above old base) (above new base) fewer (metadata_at old base) (metadata_now old) items was.touched));
+    touched = touched_still old new base items was.touched at now fewer;
     own = subst (λ w. OwnStill tx w (above new base)) (sym now) (own_along (above old base) (above new base) fewer tx (metadata_now old) was.own);
   }
 
@@ -74,12 +93,17 @@ module _ (other : ℕ) (old new : Store Key Value) (ks : List Key) (cs : Edits) 
   added b q h = above-installed old new cs n b (metadata_now old) q (versions q) h
 
   -- what it wrote was touched
+  pub touched_installed : (base : ℕ) (items : List Item) → metadata_at new base ≡ metadata_at old base → TouchedSince old base items
+      → TouchedSince new base (items ++ W)
+  touched_installed base items at was =
+      subst (λ w. Touched w (metadata_now new) (above new base) (items ++ W)) (sym at)
+      (subst (λ w. Touched (metadata_at old base) w (above new base) (items ++ W)) (sym now)
+      (touched_on other (metadata_at old base) (metadata_now old) (above old base) (above new base) items was ks cs R W feet (added base)))
+
   pub since_installed : (tx base : ℕ) (items : List Item) → tx ≢ other → metadata_at new base ≡ metadata_at old base → SinceBase old tx base items
       → SinceBase new tx base (items ++ W)
   since_installed tx base items apart at was = record {
-    touched = subst (λ w. Touched w (metadata_now new) (above new base) (items ++ W)) (sym at)
-        (subst (λ w. Touched (metadata_at old base) w (above new base) (items ++ W)) (sym now)
-        (touched_on other (metadata_at old base) (metadata_now old) (above old base) (above new base) items was.touched ks cs R W feet (added base)));
+    touched = touched_installed base items at was.touched;
     own = subst (λ w. OwnStill tx w (above new base)) (sym now)
         (own_on tx other (metadata_now old) cs (above old base) (above new base) apart own regions later (added base) was.own);
   }

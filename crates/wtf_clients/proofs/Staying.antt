@@ -52,20 +52,21 @@ keeps_stays old new c h = record {
   versions = λ q. ap (λ (s : Store Key Value). versions_of key_cmp s q) h.kv;
   pins = λ n. ap (λ (s : Store Key Value). times_pinned s n) h.kv;
   next_tx = h.next_tx;
-  saved = h.saved;
+  beside = h.beside;
 }
 
 -- the transaction of the client is what it was
 pub same_stays : (old new : TablesView) (c : ℕ) (x y : TxnView) → of_client old.clients c ≡ Some x → Sets c (Some y) old.clients new.clients → y ≡ x
-    → new.kv.number ≡ old.kv.number → KeepsMaps old.kv new.kv → KeepsVersions old.kv new.kv → KeepsPins old.kv new.kv → new.next_tx ≡ old.next_tx → new.saved ≡ old.saved → Stays old new c
-same_stays old new c x y there sets same number maps versions pins next saved = record {
+    → new.kv.number ≡ old.kv.number → KeepsMaps old.kv new.kv → KeepsVersions old.kv new.kv → KeepsPins old.kv new.kv → new.next_tx ≡ old.next_tx
+    → new.beside ≡ old.beside → Stays old new c
+same_stays old new c x y there sets same number maps versions pins next beside = record {
   clients = subst (λ o. Sets c o old.clients new.clients) (ap Some same ∙ sym there) sets;
   number = number;
   maps = maps;
   versions = versions;
   pins = pins;
   next_tx = next;
-  saved = saved;
+  beside = beside;
 }
 
 module _ (old new : TablesView) (c : ℕ) (sound : AreSound old) (st : Stays old new c) where
@@ -89,7 +90,7 @@ module _ (old new : TablesView) (c : ℕ) (sound : AreSound old) (st : Stays old
               based = omega (arith, based, number);
               older = omega (arith, older, next);
             };
-        saved = st.saved;
+        beside = st.beside;
         whose = λ x is. inr (x, is, refl);
       }
 
@@ -101,7 +102,8 @@ module _ (old new : TablesView) (c : ℕ) (sound : AreSound old) (st : Stays old
   pub stays_stand : (size : ℕ) (told later : Told) (m : Machine) → TablesStand size told old m → TellsOn told later → TablesStand size later new m
   stays_stand size told later m stand on =
       let now_is : metadata_now new.kv ≡ metadata_now old.kv = ap (metadata_at new.kv) st.number ∙ st.maps old.kv.number (omega arith) in
-      stands_kept size told later old new m m c (of_client old.clients c) sound stand on stays_turned st.number st.versions (λ d other. refl) refl refl refl
+      stands_kept size told later old new m m c (of_client old.clients c) sound stand on stays_turned st.number st.versions
+      (λ d other. refl) refl refl refl refl
       (subst (λ o. StandsForSlot size later new.kv m.now (of_client old.clients c) o) (sym (untouched_same (get m.transactions c) (get m.transactions c) refl))
       (slot_on size told later old.kv new.kv m.now m.now [] (of_client old.clients c) (get m.transactions c)
       (λ x t is txn. txn_on size told later old.kv new.kv m.now m.now x t [] on (sound.each c x is).based st.maps
@@ -110,7 +112,8 @@ module _ (old new : TablesView) (c : ℕ) (sound : AreSound old) (st : Stays old
       (stand.each c)))
 
 -- ---- a transaction that goes on at its base
-module _ (old new : TablesView) (c : ℕ) (x y : TxnView) (sound : AreSound old) (here : of_client old.clients c ≡ Some x) (keeps : Keeps old new c (Some y)) (tx : y.tx ≡ x.tx) (base : y.at.base ≡ x.at.base) (going : y.ended ≡ x.ended) (fit : IsFit old.kv y) where
+module _ (old new : TablesView) (c : ℕ) (x y : TxnView) (sound : AreSound old) (here : of_client old.clients c ≡ Some x) (keeps : Keeps old new c (Some y))
+    (tx : y.tx ≡ x.tx) (base : y.at.base ≡ x.at.base) (going : y.ended ≡ x.ended) (fit : IsFit old.kv y) where
   -- it is open
   goes_open : IsOpen new.kv new.next_tx y
   goes_open =
@@ -135,7 +138,7 @@ module _ (old new : TablesView) (c : ℕ) (x y : TxnView) (sound : AreSound old)
         let is : owned n (Some y) ≡ owned n (Some x) = ap (λ b. if nat_eq n b then 1 else 0) base in
         let kept : times_pinned new.kv n ≡ times_pinned old.kv n = ap (λ s. times_pinned s n) keeps.kv in
         omega (arith, was, is, kept);
-    saved = keeps.saved;
+    beside = keeps.beside;
     own = λ z e. let hit : y ≡ z = cc in subst (λ v. IsOpen new.kv new.next_tx v) hit goes_open;
     whose = λ z e. let hit : y ≡ z = cc in inr (x, here, ap (λ (v : TxnView). v.tx) (sym hit) ∙ tx);
   }

@@ -67,23 +67,27 @@ slice_copies n s k width = λ i below. copies_by n (map (place_in i) (pointers_o
 
 module _ {S : Type 0} (kind : StoreKind S) (t : Span S) (shelf : List S) (settings : Settings) (enough : settings.servers ≤ length shelf) where
   -- a slice all of whose copies are out
-  lost : (s : Slice) (k : ℕ) → is_inside kind shelf settings (part_origin (Held s) 0) ≡ true → AreAllOut kind t s k → IsLost kind t settings (part_origin (Held s) 0) k
+  lost : (s : Slice) (k : ℕ) → is_inside kind shelf settings (part_origin (Held s) 0) ≡ true → AreAllOut kind t s k
+      → IsLost kind t settings (part_origin (Held s) 0) k
   lost s k inside out = record {
     some = some_place s.len 0 s.extents;
     ascend = ascends s.len 0 s.extents s.sound;
-    known = All-map (λ (q : Place). q.server < settings.servers) (place_in 0) (pointers_of s) (servers_known kind shelf settings 0 (pointers_of s) enough inside);
+    known = All-map (λ (q : Place). q.server < settings.servers) (place_in 0) (pointers_of s)
+        (servers_known kind shelf settings 0 (pointers_of s) enough inside);
     out = All-map (λ (q : Place). IsOut kind t q.server) (place_in 0) (pointers_of s) out.out;
     last = last_place 0 0 (pointers_of s) ∙ out.last;
   }
 
   -- a piece that was not shown has such a slice
-  unread : (ps : List Piece) (n : ℕ) (full : Type 0) (k : ℕ) → PiecesBytes (is_inside kind shelf settings) ps → (full → PiecesBytes (has_copies settings.replicas) ps)
+  unread : (ps : List Piece) (n : ℕ) (full : Type 0) (k : ℕ) → PiecesBytes (is_inside kind shelf settings) ps
+      → (full → PiecesBytes (has_copies settings.replicas) ps)
       → LacksPiece kind t (pieces_in 0 n ps) k → IsUnread kind t settings full k
   unread ps n full k inside copies lacks =
       let s : Slice = lacks.lacks.slice in
       let of : (P : List Place → Bool) → PiecesBytes P ps → P (part_origin (Held s) 0) ≡ true = λ P all.
       let Q : Piece → Type 0 = λ p. PartBytes P p.len p.part in
-      let part : PartBytes P lacks.piece.len lacks.piece.part = All-middle Q lacks.before lacks.piece lacks.after (subst (λ (l : List Piece). All Q l) lacks.split (pieces_in-All Q 0 n ps all)) in
+      let part : PartBytes P lacks.piece.len lacks.piece.part = All-middle Q lacks.before lacks.piece lacks.after
+      (subst (λ (l : List Piece). All Q l) lacks.split (pieces_in-All Q 0 n ps all)) in
       subst (λ (q : Part). PartBytes P lacks.piece.len q) lacks.lacks.held part 0 lacks.piece.positive in
       record {
         places = part_origin (Held s) 0;
@@ -91,17 +95,18 @@ module _ {S : Type 0} (kind : StoreKind S) (t : Span S) (shelf : List S) (settin
         width = λ h. width_of settings.replicas (part_origin (Held s) 0) (some_place s.len 0 s.extents) (of (has_copies settings.replicas) (copies h));
       }
 
-  -- a list that was not read has such a slice, where a region has a base
-  pub unread_list : (s : Slice) (full : Type 0) (k : ℕ) → SliceBytes (is_inside kind shelf settings) s → (full → ⊥) → AreAllOut kind t s k → IsUnread kind t
-      settings full k
-  unread_list s full k inside based out = record {
+  -- a list that was not read has such a slice
+  pub unread_list : (s : Slice) (full : Type 0) (k : ℕ) → SliceBytes (is_inside kind shelf settings) s
+      → (full → SliceBytes (has_copies settings.replicas) s) → AreAllOut kind t s k → IsUnread kind t settings full k
+  unread_list s full k inside copies out = record {
     places = part_origin (Held s) 0;
     lost = lost s k (inside 0 (some_bytes s)) out;
-    width = λ h. absurd (based h);
+    width = λ h. width_of settings.replicas (part_origin (Held s) 0) (some_place s.len 0 s.extents) (copies h 0 (some_bytes s));
   }
 
 -- what was not read in a later part of a span was not read in it
-pub unread_since : {S : Type 0} {kind : StoreKind S} → KindLaws kind → (old mid new : Dev S) (settings : Settings) (full : Type 0) (k : ℕ) → GoesOn kind old mid [] → IsUnread kind (between mid new) settings full k
+pub unread_since : {S : Type 0} {kind : StoreKind S} → KindLaws kind → (old mid new : Dev S) (settings : Settings) (full : Type 0) (k : ℕ)
+    → GoesOn kind old mid [] → IsUnread kind (between mid new) settings full k
     → IsUnread kind (between old new) settings full k
 unread_since {S} {kind} laws old mid new settings full k goes un = record {
   places = un.places;
@@ -118,10 +123,9 @@ unread_since {S} {kind} laws old mid new settings full k goes un = record {
 }
 
 -- and what was read in a later part of it that is no list was read in it
-pub no_list_since : {S : Type 0} {kind : StoreKind S} → KindLaws kind → (old mid new : Dev S) (settings : Settings) (bare : Type 0) (k : ℕ) → GoesOn kind old
-    mid [] → IsNoList kind (between mid new) settings bare k
-    → IsNoList kind (between old new) settings bare k
-no_list_since {S} {kind} laws old mid new settings bare k goes was =
+pub no_list_since : {S : Type 0} {kind : StoreKind S} → KindLaws kind → (old mid new : Dev S) (settings : Settings) (based : (Slice → Bool) → Type 0) (k : ℕ)
+    → GoesOn kind old mid [] → IsNoList kind (between mid new) settings based k → IsNoList kind (between old new) settings based k
+no_list_since {S} {kind} laws old mid new settings based k goes was =
     let read = was.read in
     let known : k < length (stores old) = let here = read.known in let same = goes.each.same_length in omega (arith, here, same) in
     record {
@@ -144,7 +148,7 @@ no_list_since {S} {kind} laws old mid new settings bare k goes was =
             read.earlier;
       };
       bad = was.bad;
-      based = was.based;
+      passes = was.passes;
     }
 
 -- bytes that were not shown have one that was not read, where they have their copies

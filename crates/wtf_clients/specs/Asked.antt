@@ -1,31 +1,38 @@
 -- What a line asks of the stores: the bytes that it hands in, where they go, and why it may fail.
-use Rattle.std.specs.Prelude.{◌≡◌, ◌<◌, ℕ, List, length, Some, ⊤, slice_get}
+use Rattle.std.specs.Prelude.{◌≡◌, ◌⊎◌, ◌<◌, ◌*◌, ℕ, List, length, Some, ⊤, slice_get}
 use Rattle.wtf_base.specs.declared.fault.Fault.{Fault}
+use Rattle.wtf_base.specs.declared.ids.InodeId.{InodeId}
 use Rattle.wtf_base.specs.declared.settings.Settings.{Settings}
 use Rattle.wtf_base.specs.declared.slice.Slice.{Slice}
 use Rattle.wtf_dev.specs.Store.{StoreKind}
 use Rattle.wtf_ring.specs.Points.{PlaceView, IsRing}
 use Rattle.wtf_replica.specs.Spans.{Span}
 use Rattle.wtf_replica.specs.Copies.{IsStored}
+use Rattle.wtf_replica.specs.Outs.{SameLengths}
 use Rattle.wtf_model.specs.declared.answer.Answer.{Answer}
 use Rattle.wtf_model.specs.declared.answer.Answer.TheVariants as answer
 use Rattle.wtf_model.specs.declared.event.Event.{Event}
 use Rattle.wtf_model.specs.declared.event.Event.TheVariants as event
 use Rattle.wtf_model.specs.declared.event.Verb.TheVariants as verb
+use Rattle.wtf_model.specs.declared.op.JobKind.{JobKind}
 use Rattle.wtf_model.specs.declared.op.Op.{Op}
 use Rattle.wtf_model.specs.declared.op.Op.TheVariants as op
 use Rattle.wtf_meta.specs.declared.session.Handle.{Handle}
+use Rattle.wtf_meta.specs.Files.{end_of}
 use Rattle.wtf_meta.specs.FileEdits.{file_of}
 use Rattle.wtf_meta.specs.Maps.{Map, seen}
 use Rattle.wtf_meta.specs.Sessions.{SessionView, handle_in}
+use Rattle.wtf_meta.specs.Trees.{LeadsTo}
 use Rattle.wtf_region.specs.declared.dev.Dev.{Dev}
 use Rattle.wtf_region.specs.Devs.{between, place_in}
 use Rattle.wtf_rw.specs.Stored.{end_place}
 use Rattle.wtf_replay.specs.Causes.{FaultAt, IsCallFault, IsCommitFault, fault_answer}
 use Rattle.wtf_replay.specs.Views.{TxnView, hand_of}
+use Rattle.wtf_compact.specs.Jobs.{region_at}
+use Rattle.wtf_compact.specs.Planned.{IsPlanFault}
 use Rattle.wtf_clients.specs.Views.{TablesView, of_client, metadata_now}
 use Rattle.wtf_clients.specs.Dumped.{LacksDump}
-use Rattle.wtf_clients.specs.Outcomes.{data_of}
+use Rattle.wtf_clients.specs.Outcomes.{Load, Data, RegionList, load_of, AddsOneList}
 
 -- Devices that a line was lent and left: the stores and the servers that are down are those of its span, the settings are
 -- these, and the ring is that of the servers.
@@ -38,45 +45,69 @@ pub record IsLent {S : Type 0} (t : Span S) (settings : Settings) (old new : Dev
 -- handle's offset, and those that are appended to that of the file's end.
 abbrev pub IsCallPlace : {S : Type 0} → Dev S → Map → SessionView → Op (List ℕ) → PlaceView → Type 0
 IsCallPlace dev w s (op.Write f bytes) place = (h : Handle) × (handle_in s f ≡ Some h) × (place ≡ place_in dev h.inode h.off)
-IsCallPlace dev w s (op.Append f bytes) place = (h : Handle) × (handle_in s f ≡ Some h) × (place ≡ place_in dev h.inode (end_place dev.settings.region (file_of h.inode w)))
+IsCallPlace dev w s (op.Append f bytes) place =
+    (h : Handle) × (handle_in s f ≡ Some h) × (place ≡ place_in dev h.inode (end_place dev.settings.region (file_of h.inode w)))
 IsCallPlace dev w s o place = ⊥
 
 -- the open transaction of a client is as P says
 abbrev pub OfClient : TablesView → ℕ → (TxnView → Type 0) → Type 0
 OfClient tables c P = (x : TxnView) × (of_client tables.clients c ≡ Some x) × P x
 
--- the same of a line
+-- the same of a line: the list of a region goes where the region's first byte does
 abbrev pub IsLinePlace : {S : Type 0} → Dev S → TablesView → Event → PlaceView → Type 0
 IsLinePlace dev tables (event.Client c (verb.Call o)) place = OfClient tables c (λ x. IsCallPlace dev (seen tables.kv x.at) x.session o place)
+IsLinePlace dev tables (event.Plan j kind p r) place =
+    (i : InodeId) × LeadsTo (metadata_now tables.kv) p i × (place ≡ place_in dev i (r * dev.settings.region))
 IsLinePlace dev tables e place = ⊥
+
+-- a region that is to be planned has no byte, so that nothing of it is to be stored
+abbrev pub IsLineEmpty : TablesView → Event → Type 0
+IsLineEmpty tables (event.Plan j kind p r) = (i : InodeId) × LeadsTo (metadata_now tables.kv) p i × (end_of (region_at (metadata_now tables.kv) i r) ≡ 0)
+IsLineEmpty tables e = ⊥
+
+-- the list of a region of the file at a path was not read, or the one that is to take its place was not stored
+pub record LacksPlan {S : Type 0} (kind : StoreKind S) (old new : Dev S) (w : Map) (jk : JobKind) (p : List ℕ) (r : ℕ) (why : Fault) : Type 0 where
+  pub inode : InodeId
+  pub leads : LeadsTo w p inode
+  pub cause : IsPlanFault kind old new jk (region_at w inode r) why
 
 -- Why a line fails: a call for want of servers, of a byte that it is to show, or of a list of a file that it reads or takes; a step
 -- for want of one for the call which it replays; a commit for want of one for those that it replays, with what is then in hand; a
--- dump for want of a byte or a list of the file.
+-- dump for want of a byte or a list of the file; a plan for want of the region's list, and a spill for want of servers.
 abbrev pub IsLineFault : {S : Type 0} → StoreKind S → (old new : Dev S) → TablesView → Event → Fault → Type 0
 IsLineFault kind old new tables (event.Client c (verb.Call o)) why = OfClient tables c (λ x. IsCallFault kind old new (seen tables.kv x.at) x.session o why)
-IsLineFault kind old new tables (event.Client c verb.Step) why = OfClient tables c (λ x. FaultAt kind old new tables.kv (hand_of x) (slice_get x.log.ops x.replayed) why)
+IsLineFault kind old new tables (event.Client c verb.Step) why =
+    OfClient tables c (λ x. FaultAt kind old new tables.kv (hand_of x) (slice_get x.log.ops x.replayed) why)
 IsLineFault kind old new tables (event.Client c verb.Commit) why = OfClient tables c (λ x. IsCommitFault kind old new tables.kv x why)
 IsLineFault kind old new tables (event.Dump p) why = LacksDump kind old new (metadata_now tables.kv) p why
+IsLineFault kind old new tables (event.Plan j jk p r) why = LacksPlan kind old new (metadata_now tables.kv) jk p r why
 IsLineFault kind old new tables e why = ⊥
 
--- the bytes that a line hands in, where they are to go, and why it may fail
+-- what a line is to store, where that is to go, that there is nothing of it, and why it may fail
 pub record Asked : Type 1 where
-  pub given : List ℕ
+  pub given : Load
   pub goes_to : PlaceView → Type 0
+  pub empty : Type 0
   pub fails : Fault → Type 0
 
 abbrev pub asked_of : {S : Type 0} → StoreKind S → Span S → Settings → TablesView → Event → Asked
 asked_of {S} kind t settings tables e = record {
-  given = data_of e;
+  given = load_of e;
   goes_to = λ place. (old : Dev S) × (new : Dev S) × IsLent t settings old new × IsLinePlace old tables e place;
+  empty = IsLineEmpty tables e;
   fails = λ why. (old : Dev S) × (new : Dev S) × IsLent t settings old new × IsLineFault kind old new tables e why;
 }
 
--- bytes that were handed in and answered `ok` were stored where they go
+-- bytes that were handed in and answered `ok` were stored where they go; and so was the list of a region that a spill planned, but if there
+-- is nothing of it, where nothing was stored
+abbrev pub IsPlacedBy : {S : Type 0} → StoreKind S → Span S → Settings → Asked → Load → Answer → Type 0
+IsPlacedBy kind t settings asked (Data bytes) a = a ≡ answer.Okay → 0 < length bytes
+    → (place : PlaceView) × asked.goes_to place × (slice : Slice) × IsStored kind t settings.replicas place bytes slice
+IsPlacedBy kind t settings asked RegionList a = a ≡ answer.Planned
+    → (asked.empty × SameLengths kind t.before t.after) ⊎ ((asked.empty → ⊥) × AddsOneList kind t settings asked.goes_to)
+
 abbrev pub IsPlaced : {S : Type 0} → StoreKind S → Span S → Settings → Asked → Answer → Type 0
-IsPlaced kind t settings asked a = a ≡ answer.Okay → 0 < length asked.given
-    → (place : PlaceView) × asked.goes_to place × (slice : Slice) × IsStored kind t settings.replicas place asked.given slice
+IsPlaced kind t settings asked a = IsPlacedBy kind t settings asked asked.given a
 
 -- the answer is that of such a fault
 abbrev pub IsBecause : (Fault → Type 0) → Answer → Type 0

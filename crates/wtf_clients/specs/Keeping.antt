@@ -52,13 +52,13 @@ module _ {S : Type 0} (kind : StoreKind S) (t : Span S) (k : KeeperSpan) (settin
   pub record SyncFailed (old new : TablesView) : Type 0 where
     pub out : SomeOut kind t settings.servers
     pub untouched : k.untouched
-    pub saved : new.saved ≡ old.saved
+    pub beside : new.beside ≡ old.beside
 
   -- the keeper failed, so it may hold the new image, or what it held
   pub record KeeperFailed (old new : TablesView) : Type 0 where
     pub hands : Hands old
     pub rose : Rose k.before.faults k.after.faults
-    pub saved : new.saved ≡ with_image old.saved old.kv.number
+    pub beside : new.beside ≡ with_image old.beside old.kv.number
 
   -- what a line did to the keeper: a save alone hands it something
   abbrev pub KeeperTurn : TablesView → TablesView → Event → Answer → Type 0
@@ -78,8 +78,8 @@ pub record IsImageAt (tables : TablesView) (settings : Settings) (n : ℕ) (byte
 -- they are what a keeper may hold: nothing, or an image at a number that is kept for it
 abbrev pub IsHeldBy : TablesView → Settings → List ℕ → Type 0
 IsHeldBy tables settings bytes =
-    ((bytes ≡ []) × (tables.saved.none ≡ true))
-    ⊎ ((n : ℕ) × Contains tables.saved.images n × IsImageAt tables settings n bytes)
+    ((bytes ≡ []) × (tables.beside.none ≡ true))
+    ⊎ ((n : ℕ) × Contains tables.beside.images n × IsImageAt tables settings n bytes)
 
 -- a keeper holds such bytes, and tells them
 abbrev pub HoldsKept : KeeperView → Settings → TablesView → Type 0

@@ -1,12 +1,16 @@
 pub mod Views
 pub mod Sounds
+pub mod Spilling
 pub mod Touched
 pub mod Standing
 pub mod Saves
 pub mod Turns
+pub mod Planning
+pub mod JobTurns
 pub mod Named
 pub mod Outcomes
 pub mod Dumped
 pub mod Asked
 pub mod Serves
+pub mod Telling
 pub mod Keeping

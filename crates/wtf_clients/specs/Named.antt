@@ -1,19 +1,22 @@
--- The bytes and the bases that the tables name: those of the map at each number that can be read, and of each open transaction.
+-- The bytes and the bases that the tables name: those of the map at each number that can be read, of each open transaction, and of what
+-- each job is to put in a region's place.
 use Rattle.std.specs.Prelude.{◌≡◌, ◌==◌, ℕ, Bool, true, false, IsTrue, List, [], ◌∷◌, length, Some}
 use Rattle.wtf_base.specs.declared.slice.Slice.{Slice}
 use Rattle.wtf_kv.specs.Stores.{is_live}
 use Rattle.wtf_overlay.specs.Origin.{Place}
-use Rattle.wtf_meta.specs.Bytes.{MapBytes}
+use Rattle.wtf_meta.specs.Bytes.{MapBytes, MaybeBytes}
 use Rattle.wtf_meta.specs.Maps.{metadata_at}
 use Rattle.wtf_replay.specs.Views.{TxnView}
 use Rattle.wtf_replay.specs.Insides.{TxnBytes}
-use Rattle.wtf_clients.specs.Views.{TablesView, of_client}
+use Rattle.wtf_compact.specs.Jobs.{JobView}
+use Rattle.wtf_clients.specs.Views.{TablesView, of_client, of_label}
 
--- P holds of the places of each byte of the map now and of the map at each number that is pinned, for a transaction or for an
--- image, and of each byte that an open transaction names; and Q of the slice of each base of these
+-- P holds of the places of each byte of the map now and of the map at each number that is pinned, for a transaction, an image or a
+-- job, and of each byte that an open transaction or a job names; and Q of the slice of each base of these
 pub record TablesBytes (P : List Place → Bool) (Q : Slice → Bool) (tables : TablesView) : Type 0 where
   pub live : (n : ℕ) → IsTrue (is_live tables.kv n) → MapBytes P Q (metadata_at tables.kv n)
   pub each : (c : ℕ) (x : TxnView) → of_client tables.clients c ≡ Some x → TxnBytes P Q tables.kv x
+  pub planned : (j : ℕ) (x : JobView) → of_label tables.beside.jobs j ≡ Some x → MaybeBytes P Q x.value
 
 -- the test that every byte passes, and the one that no slice does: where the slice of each base passes it there is none
 abbrev pub any_byte : List Place → Bool

@@ -1,5 +1,5 @@
 -- What a line adds to the stores, and why one is answered by a fault.
-use Rattle.std.specs.Prelude.{◌≡◌, ◌⊎◌, ◌<◌, ◌≤◌, ◌+◌, ℕ, false, List, [], ◌∷◌, length, Some, ⊤}
+use Rattle.std.specs.Prelude.{◌≡◌, ◌⊎◌, ◌<◌, ◌≤◌, ◌+◌, ℕ, Bool, true, false, List, [], ◌∷◌, length, Some, ⊤}
 use Rattle.std.specs.List.{All}
 use Rattle.wtf_base.specs.declared.settings.Settings.{Settings}
 use Rattle.wtf_base.specs.declared.slice.Slice.{Slice}
@@ -7,16 +7,19 @@ use Rattle.wtf_base.specs.Slices.{len_of}
 use Rattle.wtf_dev.specs.Store.{StoreKind}
 use Rattle.wtf_overlay.specs.declared.part.Entry.{Entry}
 use Rattle.wtf_overlay.specs.Origin.{Place}
-use Rattle.wtf_overlay.specs.Spilled.{decoded}
+use Rattle.wtf_overlay.specs.Spilled.{decoded, encoded}
 use Rattle.wtf_ring.specs.Points.{PlaceView}
-use Rattle.wtf_replica.specs.Spans.{Span}
+use Rattle.wtf_replica.specs.Spans.{Span, span}
 use Rattle.wtf_replica.specs.Outs.{IsOut, SameLengths}
 use Rattle.wtf_replica.specs.Copies.{IsFetched, IsStored}
 use Rattle.wtf_replica.specs.Inside.{size_in}
 use Rattle.wtf_replica.specs.Faults.{AreTooFew}
+use Rattle.wtf_meta.specs.Lists.{ListFact}
 use Rattle.wtf_region.specs.Inside.{list_lies_inside}
 use Rattle.wtf_model.specs.declared.op.Op.{Op}
 use Rattle.wtf_model.specs.declared.op.Op.TheVariants as op
+use Rattle.wtf_model.specs.declared.op.JobKind.{JobKind}
+use Rattle.wtf_model.specs.declared.op.JobKind.TheVariants.{Compact, Spill}
 use Rattle.wtf_model.specs.declared.event.Verb.{Verb}
 use Rattle.wtf_model.specs.declared.event.Verb.TheVariants as verb
 use Rattle.wtf_model.specs.declared.event.Event.{Event}
@@ -38,13 +41,61 @@ abbrev pub data_of : Event → List ℕ
 data_of (event.Client c v) = data_of_verb v
 data_of other = []
 
--- What a line adds: the bytes of a write or an append that answers `ok`, once on each server that is to have a copy, and what
--- a store that failed in it may have taken; one that fails may leave some; no other line adds a byte.
-abbrev pub AddsBytes : {S : Type 0} → StoreKind S → Span S → Settings → List ℕ → Answer → Type 0
-AddsBytes kind t settings (b ∷ bs) answer.Okay =
+-- what a line is to store: bytes that it hands in, or the list of a region, which is in no line
+pub data Load : Type 0 where
+  Data : (bytes : List ℕ) → Load
+  RegionList : Load
+
+-- nothing
+abbrev pub no_load : Load
+no_load = Data []
+
+abbrev pub load_of_job : JobKind → Load
+load_of_job Compact = no_load
+load_of_job Spill = RegionList
+
+abbrev pub load_of : Event → Load
+load_of (event.Plan j kind p r) = load_of_job kind
+load_of e = Data (data_of e)
+
+-- there is a byte to store
+abbrev pub HasToStore : Load → Type 0
+HasToStore (Data bytes) = 0 < length bytes
+HasToStore RegionList = ⊤
+
+-- Behind reads, the bytes of this list were stored in its slice, at a place that is as P says: once on each server that is to have a copy.
+pub record AddsThisList {S : Type 0} (kind : StoreKind S) (t : Span S) (settings : Settings) (P : PlaceView → Type 0) (own : ListFact) : Type 0 where
+  pub mid : List S
+  pub same : SameLengths kind t.before mid
+  pub place : PlaceView
+  pub goes_to : P place
+  pub stored : IsStored kind (span t.down mid t.after) settings.replicas place (encoded own.list) own.slice
+
+-- so were those of one list
+abbrev pub AddsOneList : {S : Type 0} → StoreKind S → Span S → Settings → (PlaceView → Type 0) → Type 0
+AddsOneList kind t settings P = (own : ListFact) × AddsThisList kind t settings P own
+
+-- that, or nothing was stored
+abbrev pub AddsList : {S : Type 0} → StoreKind S → Span S → Settings → Type 0
+AddsList kind t settings = SameLengths kind t.before t.after ⊎ AddsOneList kind t settings (λ place. ⊤)
+
+-- What a line adds: the bytes of a write or an append that answers `ok`, or those of the list that a spill makes, once on each server
+-- that is to have a copy, and what a store that failed in it may have taken; one that fails may leave some; no other line adds a byte.
+abbrev pub AddsBytes : {S : Type 0} → StoreKind S → Span S → Settings → Load → Answer → Type 0
+AddsBytes kind t settings (Data (b ∷ bs)) answer.Okay =
     (place : PlaceView) × (slice : Slice) × IsStored kind t settings.replicas place (b ∷ bs) slice
-AddsBytes kind t settings given answer.FaultWrite = ⊤
-AddsBytes kind t settings given a = SameLengths kind t.before t.after
+AddsBytes kind t settings RegionList answer.Planned = AddsList kind t settings
+AddsBytes kind t settings load answer.FaultWrite = ⊤
+AddsBytes kind t settings load a = SameLengths kind t.before t.after
+
+-- a plan to spill a region was answered `planned`
+abbrev pub has_spilled : Load → Answer → Bool
+has_spilled RegionList answer.Planned = true
+has_spilled load a = false
+
+-- a line made no region's list a slice of its own
+abbrev pub IsUnspilled : Load → Answer → Type 0
+IsUnspilled load a = has_spilled load a ≡ false
 
 -- the places go up by server, from server `from` on
 abbrev pub AscendFrom : ℕ → List Place → Type 0
@@ -73,14 +124,14 @@ pub record IsUnread {S : Type 0} (kind : StoreKind S) (t : Span S) (settings : S
   pub width : full → length places ≡ settings.replicas
 
 -- What was read from server k of a slice that a line needs is no list of a region's entries, or is one that names bytes outside the
--- stores. No line needs such a slice where `bare` says that no region has a base.
-pub record IsNoList {S : Type 0} (kind : StoreKind S) (t : Span S) (settings : Settings) (bare : Type 0) (k : ℕ) : Type 0 where
+-- stores. The slice is a base: it passes each test that each base does, where `based` says of a test that each does.
+pub record IsNoList {S : Type 0} (kind : StoreKind S) (t : Span S) (settings : Settings) (based : (Slice → Bool) → Type 0) (k : ℕ) : Type 0 where
   pub slice : Slice
   pub bytes : List ℕ
   pub whole : length bytes ≡ len_of slice
   pub read : IsFetched kind t slice 0 bytes k
   pub bad : (es : List Entry) → decoded settings.region bytes ≡ Some es → list_lies_inside settings.servers (size_in kind t.after) es ≡ false
-  pub based : bare → ⊥
+  pub passes : (Q : Slice → Bool) → based Q → Q slice ≡ true
 
 -- one of so many servers is out
 abbrev pub SomeOut : {S : Type 0} → StoreKind S → Span S → ℕ → Type 0
@@ -94,10 +145,11 @@ SaveFault kind t settings rose e = ⊥
 -- Why a line is answered by a fault: `fault read K` where a byte that it needs was not read, `damaged K` where what was read as
 -- a list is none, `fault write` where fewer servers than replicas are not out and there are bytes to store, and `fault save` for
 -- `saving`. No line answers another fault.
-abbrev pub HasCause : {S : Type 0} → StoreKind S → Span S → Settings → (saving bare full : Type 0) → List ℕ → Answer → Type 0
-HasCause kind t settings saving bare full given (answer.FaultRead k) = IsUnread kind t settings full k
-HasCause kind t settings saving bare full given answer.FaultWrite = (0 < length given) × AreTooFew kind t settings.servers settings.replicas
-HasCause kind t settings saving bare full given (answer.FaultPunch k) = ⊥
-HasCause kind t settings saving bare full given answer.FaultSave = saving
-HasCause kind t settings saving bare full given (answer.Damaged k) = IsNoList kind t settings bare k
-HasCause kind t settings saving bare full given a = ⊤
+abbrev pub HasCause : {S : Type 0} → StoreKind S → Span S → Settings → (saving : Type 0) → (based : (Slice → Bool) → Type 0) → (full : Type 0) → Load → Answer
+    → Type 0
+HasCause kind t settings saving based full load (answer.FaultRead k) = IsUnread kind t settings full k
+HasCause kind t settings saving based full load answer.FaultWrite = HasToStore load × AreTooFew kind t settings.servers settings.replicas
+HasCause kind t settings saving based full load (answer.FaultPunch k) = ⊥
+HasCause kind t settings saving based full load answer.FaultSave = saving
+HasCause kind t settings saving based full load (answer.Damaged k) = IsNoList kind t settings based k
+HasCause kind t settings saving based full load a = ⊤

@@ -13,7 +13,7 @@ use Rattle.wtf_clients.specs.Views.{TablesView}
 use Rattle.wtf_clients.specs.Named.{TablesBytes, any_byte, no_slice, has_copies}
 use Rattle.wtf_model.specs.declared.event.Event.{Event}
 use Rattle.wtf_clients.specs.Asked.{Asked, asked_of, IsPlaced, HasFailed}
-use Rattle.wtf_clients.specs.Outcomes.{AddsBytes, SaveFault, HasCause}
+use Rattle.wtf_clients.specs.Outcomes.{AddsBytes, IsUnspilled, SaveFault, HasCause}
 
 -- what is named was named before: what holds of the places of each of those bytes, and of a hole, goes on holding, and so does
 -- what holds of the slice of each base
@@ -29,23 +29,28 @@ IsPlain answer.FaultSave = ⊥
 IsPlain (answer.Damaged k) = ⊥
 IsPlain a = ⊤
 
+-- the slice of each base passes a test
+abbrev pub AreBased : TablesView → (Slice → Bool) → Type 0
+AreBased tables Q = TablesBytes any_byte Q tables
+
 -- no region has a base: all lists of regions are in the metadata
 abbrev pub AreBare : TablesView → Type 0
-AreBare tables = TablesBytes any_byte no_slice tables
+AreBare tables = AreBased tables no_slice
 
 -- and each byte has as many copies as there are replicas
 abbrev pub AreFull : Settings → TablesView → Type 0
 AreFull settings tables = TablesBytes (has_copies settings.replicas) no_slice tables
 
--- What the tables, before and after a line, name lies inside the stores as they are left; no region has a base where none had one before, and
--- each byte has as many copies as there are replicas where it had before. The stores grew by what the line was to store, and a fault has its
--- cause in the line.
-pub record Serves {S : Type 0} (kind : StoreKind S) (t : Span S) (settings : Settings) (saving : Type 0) (tables : TablesView × TablesView) (asked : Asked) (a : Answer) : Type 0 where
+-- What the tables, before and after a line, name lies inside the stores as they are left. Unless the line has spilled a list, no region has a
+-- base where none had one before, and each byte has as many copies as there are replicas where it had before. The stores grew by what the line
+-- was to store, and a fault has its cause in the line.
+pub record Serves {S : Type 0} (kind : StoreKind S) (t : Span S) (settings : Settings) (saving : Type 0) (tables : TablesView × TablesView)
+    (asked : Asked) (a : Answer) : Type 0 where
   pub inside : TablesBytes (is_inside kind t.after settings) any_slice tables.1
-  pub bare : AreBare tables.0 → AreBare tables.1
-  pub full : AreFull settings tables.0 → AreFull settings tables.1
+  pub bare : IsUnspilled asked.given a → AreBare tables.0 → AreBare tables.1
+  pub full : IsUnspilled asked.given a → AreFull settings tables.0 → AreFull settings tables.1
   pub adds : AddsBytes kind t settings asked.given a
-  pub caused : HasCause kind t settings saving (AreBare tables.0) (AreFull settings tables.0) asked.given a
+  pub caused : HasCause kind t settings saving (AreBased tables.0) (AreFull settings tables.0) asked.given a
   pub placed : IsPlaced kind t settings asked a
   pub failed : HasFailed asked.fails a
 

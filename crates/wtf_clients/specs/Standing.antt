@@ -7,16 +7,19 @@ use Rattle.wtf_kv.specs.Stores.{Store}
 use Rattle.wtf_values.specs.declared.key.Key.{Key}
 use Rattle.wtf_values.specs.declared.value.Value.{Value}
 use Rattle.wtf_model.specs.Tree.{Tree, root_alone}
-use Rattle.wtf_model.specs.Transaction.{Transaction}
+use Rattle.wtf_model.specs.Transaction.{Transaction, Job}
 use Rattle.wtf_model.specs.Machines.{Machine}
-use Rattle.wtf_meta.specs.Contents.{Told}
+use Rattle.wtf_meta.specs.Bytes.{MaybeBytes}
+use Rattle.wtf_meta.specs.Contents.{Told, is_told, is_listed}
 use Rattle.wtf_meta.specs.Maps.{metadata_at}
-use Rattle.wtf_meta.specs.Trees.{Stands}
+use Rattle.wtf_meta.specs.Trees.{LeadsTo, Stands}
 use Rattle.wtf_image.specs.Savable.{AreBefore}
 use Rattle.wtf_replay.specs.Views.{TxnView}
 use Rattle.wtf_replay.specs.Sounds.{IsSound}
-use Rattle.wtf_clients.specs.Views.{TablesView, of_client, metadata_now}
-use Rattle.wtf_clients.specs.Touched.{SinceBase}
+use Rattle.wtf_compact.specs.Jobs.{JobView, target_region}
+use Rattle.wtf_compact.specs.Planned.{KeepsRegion}
+use Rattle.wtf_clients.specs.Views.{TablesView, of_client, of_label, metadata_now}
+use Rattle.wtf_clients.specs.Touched.{Touched, above, SinceBase}
 
 -- A transaction is that of the machine: the same calls with what was shown of them, as many of them done, on the same base.
 -- The map at the base stands for the tree there, and the map now, in which none of its inodes stands, for the tree now. What has
@@ -35,6 +38,24 @@ StandsForSlot size told kv now None None = ⊤
 StandsForSlot size told kv now (Some x) (Some t) = StandsForTxn size told kv now x t
 StandsForSlot size told kv now x t = ⊥
 
+-- A job is that of the machine: of the same path, region and kind, on the same base. What it is to put has the end and the bytes of its
+-- region at the base, where the path led to the region's file; each byte of the region is told there, also of its base's list. What has
+-- changed since the base was touched.
+pub record StandsForJob (size : ℕ) (told : Told) (kv : Store Key Value) (x : JobView) (t : Job) : Type 0 where
+  pub path : t.path ≡ x.path
+  pub region : t.region ≡ x.target.region
+  pub kind : t.kind ≡ x.target.kind
+  pub base : t.base ≡ x.base
+  pub leads : LeadsTo (metadata_at kv x.base) x.path x.target.inode
+  pub known : MaybeBytes (is_told told) (is_listed size told) (target_region (metadata_at kv x.base) x.target)
+  pub keeps : KeepsRegion size told (target_region (metadata_at kv x.base) x.target) x.value
+  pub touched : Touched (metadata_at kv x.base) (metadata_now kv) (above kv x.base) t.touched
+
+abbrev pub StandsForLabel : ℕ → Told → Store Key Value → Option JobView → Option Job → Type 0
+StandsForLabel size told kv None None = ⊤
+StandsForLabel size told kv (Some x) (Some t) = StandsForJob size told kv x t
+StandsForLabel size told kv x t = ⊥
+
 -- The map at a number stands for one of these trees, also for each transaction to come: its inodes are of those before.
 pub record IsImageTree (size : ℕ) (told : Told) (tables : TablesView) (n : ℕ) (may : List Tree) : Type 0 where
   pub tree : Tree
@@ -42,13 +63,14 @@ pub record IsImageTree (size : ℕ) (told : Told) (tables : TablesView) (n : ℕ
   pub before : AreBefore tables.next_tx (metadata_at tables.kv n)
   pub stands : (tx : ℕ) → tables.next_tx ≤ tx → Stands size told tx 0 (metadata_at tables.kv n) tree
 
--- The number of installs, each client's transaction, and the tree now, on which no inode of a later transaction stands, are
+-- The number of installs, each client's transaction, each label's job, and the tree now, on which no inode of a later transaction stands, are
 -- the machine's. Each image that may be on the keeper is that of a tree that the machine may have saved; where the keeper may
 -- hold nothing, the root alone is such a tree.
 pub record TablesStand (size : ℕ) (told : Told) (tables : TablesView) (m : Machine) : Type 0 where
   pub number : m.number ≡ tables.kv.number
   pub each : (c : ℕ) → StandsForSlot size told tables.kv m.now (of_client tables.clients c) (get m.transactions c)
+  pub jobs : (j : ℕ) → StandsForLabel size told tables.kv (of_label tables.beside.jobs j) (get m.jobs j)
   pub later : (tx : ℕ) → tables.next_tx ≤ tx → Stands size told tx 0 (metadata_now tables.kv) m.now
   pub before : AreBefore tables.next_tx (metadata_now tables.kv)
-  pub none : tables.saved.none ≡ true → Contains m.may_be_saved root_alone
-  pub images : (n : ℕ) → Contains tables.saved.images n → IsImageTree size told tables n m.may_be_saved
+  pub none : tables.beside.none ≡ true → Contains m.may_be_saved root_alone
+  pub images : (n : ℕ) → Contains tables.beside.images n → IsImageTree size told tables n m.may_be_saved

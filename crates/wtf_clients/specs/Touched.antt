@@ -1,4 +1,4 @@
--- What others have touched since the base of a transaction, by the versions that keys have above it.
+-- What others have touched since the base of a transaction or a job, by the versions that keys have above it.
 -- NSDI 2016, section 2.6 (a transaction is replayed where what it read has changed); the items are this store's own.
 use Rattle.std.specs.Prelude.{◌≡◌, ◌⊎◌, ℕ, Bool, true, false, nat_lt, List, None}
 use Rattle.std.specs.List.{list_any}

@@ -43,12 +43,12 @@ use Rattle.wtf_replay.specs.Replays.{IsReplayed, DeviatesOn}
 use Rattle.wtf_clients.specs.Views.{TablesView, of_client, metadata_now}
 use Rattle.wtf_clients.specs.Sounds.{Sets}
 
--- client c has now this transaction, or none; the store of the metadata, and what may be on the keeper, are what they were
+-- client c has now this transaction, or none; the store of the metadata, and what stands beside them, are what they were
 pub record Keeps (old new : TablesView) (c : ℕ) (now : Option TxnView) : Type 0 where
   pub clients : Sets c now old.clients new.clients
   pub kv : new.kv ≡ old.kv
   pub next_tx : new.next_tx ≡ old.next_tx
-  pub saved : new.saved ≡ old.saved
+  pub beside : new.beside ≡ old.beside
 
 -- a line of client c is refused, and leaves all as it was
 pub record Refuses (old new : TablesView) (c : ℕ) (w : Word) (a : Answer) : Type 0 where
@@ -62,7 +62,7 @@ pub record Begins (old new : TablesView) (c : ℕ) (a : Answer) : Type 0 where
   pub kv : new.kv ≡ record old.kv { pins = old.kv.pins ++ old.kv.number ∷ [] }
   pub pinned : IsPinnedOnceMore old.kv.number old.kv new.kv
   pub next_tx : new.next_tx ≡ old.next_tx + 1
-  pub saved : new.saved ≡ old.saved
+  pub beside : new.beside ≡ old.beside
   pub fit : IsFit new.kv (begun old.next_tx old.kv.number)
   pub sound : (size : ℕ) (told : Told) → IsSound size new.kv told (begun old.next_tx old.kv.number) []
 
@@ -70,7 +70,7 @@ pub record Begins (old new : TablesView) (c : ℕ) (a : Answer) : Type 0 where
 pub record Ends (old new : TablesView) (mid : Store Key Value) (c : ℕ) (x : TxnView) : Type 0 where
   pub clients : Sets c None old.clients new.clients
   pub next_tx : new.next_tx ≡ old.next_tx
-  pub saved : new.saved ≡ old.saved
+  pub beside : new.beside ≡ old.beside
   pub maps : KeepsMaps old.kv mid
   pub pins : KeepsPins old.kv mid
   pub kv : new.kv ≡ record mid { pins = remove_key (nat_eq x.at.base) mid.pins }
@@ -89,7 +89,7 @@ pub record Retries (old new : TablesView) (c : ℕ) (x : TxnView) (b n : ℕ) : 
   pub later : TxnView
   pub clients : Sets c (Some later) old.clients new.clients
   pub next_tx : new.next_tx ≡ old.next_tx
-  pub saved : new.saved ≡ old.saved
+  pub beside : new.beside ≡ old.beside
   pub retried : IsRetried old.kv new.kv x later b n
   pub maps : KeepsMaps old.kv new.kv
   pub fit : IsFit new.kv later
@@ -109,7 +109,7 @@ abbrev pub Drops : TablesView → TablesView → ℕ → TxnView → Answer → 
 Drops old new c x a = (a ≡ answer.Okay) × Ends old new old.kv c x
 
 -- A line left all that is seen of the tables: of their store, the number, the maps, the versions of each key and how often each
--- number is pinned; and what may be on the keeper.
+-- number is pinned; and what stands beside them.
 pub record Stays (old new : TablesView) (c : ℕ) : Type 0 where
   pub clients : Sets c (of_client old.clients c) old.clients new.clients
   pub number : new.kv.number ≡ old.kv.number
@@ -117,7 +117,7 @@ pub record Stays (old new : TablesView) (c : ℕ) : Type 0 where
   pub versions : KeepsVersions old.kv new.kv
   pub pins : KeepsPins old.kv new.kv
   pub next_tx : new.next_tx ≡ old.next_tx
-  pub saved : new.saved ≡ old.saved
+  pub beside : new.beside ≡ old.beside
 
 -- a fault of the stores was answered, and left all as it was
 pub record Fails (old new : TablesView) (c : ℕ) (a : Answer) : Type 0 where
@@ -125,14 +125,16 @@ pub record Fails (old new : TablesView) (c : ℕ) (a : Answer) : Type 0 where
   pub answer : fault_answer why ≡ Some a
   pub stays : Stays old new c
 
--- The dump of a path shows the bytes of the file on each tree for which the map now stands, or is refused; where it is to
--- show bytes a fault of the stores may come in their place. It leaves all as it was. These lists were remembered, each what the
--- bytes of its slice decode to, where these are told.
-pub record Dumps (servers size : ℕ) (told : Told) (lists : Remembered) (old new : TablesView) (p : List ℕ) (a : Answer) : Type 0 where
-  pub stays : (c : ℕ) → Stays old new c
-  pub built : a ≢ answer.NotBuilt
-  pub shows : CacheTrue told size [] lists → (tx k : ℕ) (t : Tree) → Stands size told tx k (metadata_now old.kv) t
-      → (a ≡ or_refusal (dumped t p)) ⊎ MayFailRead servers (or_refusal (dumped t p)) a
+-- There are so many servers, and a region has `size` bytes; the stores tell this; and these lists were remembered, each what the bytes of its
+-- slice decode to, where these are told.
+module _ (servers size : ℕ) (told : Told) (lists : Remembered) where
+  -- The dump of a path shows the bytes of the file on each tree for which the map now stands, or is refused; where it is to
+  -- show bytes a fault of the stores may come in their place. It leaves all as it was.
+  pub record Dumps (old new : TablesView) (p : List ℕ) (a : Answer) : Type 0 where
+    pub stays : (c : ℕ) → Stays old new c
+    pub built : a ≢ answer.NotBuilt
+    pub shows : CacheTrue told size [] lists → (tx k : ℕ) (t : Tree) → Stands size told tx k (metadata_now old.kv) t
+        → (a ≡ or_refusal (dumped t p)) ⊎ MayFailRead servers (or_refusal (dumped t p)) a
 
 -- `Telling` says that the stores tell their content: `told` before the line and `later` after it; these lists are remembered of
 -- slices before it; there are so many servers, and a region has `size` bytes

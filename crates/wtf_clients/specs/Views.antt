@@ -1,12 +1,14 @@
--- What contracts see of the tables: the store of the metadata with the open transactions.
-use Rattle.std.specs.Prelude.{ℕ, Bool, true, List, [], ◌∷◌, ◌++◌, map, Option, None, Some, is_some, if◌then◌else◌, nat_eq}
+-- What contracts see of the tables: the store of the metadata with the open transactions, the jobs, and the images on the keeper.
+use Rattle.std.specs.Prelude.{◌≡◌, ℕ, Bool, true, List, [], ◌∷◌, ◌++◌, map, replicate, length, Option, None, Some, is_some, if◌then◌else◌, nat_eq}
 use Rattle.std.specs.Map.{lookup, set_value, remove_entry}
 use Rattle.wtf_kv.specs.Stores.{Store}
 use Rattle.wtf_values.specs.declared.key.Key.{Key}
 use Rattle.wtf_values.specs.declared.value.Value.{Value}
 use Rattle.wtf_meta.specs.Maps.{Map, metadata_at}
-use Rattle.wtf_meta.specs.Sessions.{nothing_open}
+use Rattle.wtf_model.specs.declared.limits.TheConstants.{MAX_JOBS}
+use Rattle.wtf_meta.specs.Sessions.{at_label, nothing_open}
 use Rattle.wtf_replay.specs.Views.{TxnView}
+use Rattle.wtf_compact.specs.Jobs.{JobView}
 
 -- the open transactions by client, in the order of their begin
 abbrev pub Clients : Type 0
@@ -30,22 +32,42 @@ without_hand x = record x { session = nothing_open }
 abbrev pub without_hands : Clients → Clients
 without_hands clients = map (λ e. (e.0, without_hand e.1)) clients
 
--- the numbers of the images that may be on the keeper, and whether it may still hold nothing
-pub record SavedView : Type 0 where
+-- the jobs by label
+abbrev pub Jobs : Type 0
+Jobs = List (Option JobView)
+
+abbrev pub no_jobs : Jobs
+no_jobs = replicate MAX_JOBS None
+
+-- the job of a label
+abbrev pub of_label : Jobs → ℕ → Option JobView
+of_label jobs j = at_label jobs j
+
+-- What stands beside the store and the clients: the numbers of the images that may be on the keeper, and whether it may still hold
+-- nothing; and the jobs.
+pub record BesideView : Type 0 where
   pub images : List ℕ
   pub none : Bool
+  pub jobs : Jobs
 
--- nothing was saved yet
-abbrev pub unsaved : SavedView
-unsaved = record { images = []; none = true }
+-- nothing was saved yet, and there is no job
+abbrev pub unsaved : BesideView
+unsaved = record { images = []; none = true; jobs = no_jobs }
 
--- the store of the metadata, the number of the transaction that begins next, the open transactions, and what may be on the
--- keeper
+-- other jobs
+abbrev pub with_jobs : BesideView → Jobs → BesideView
+with_jobs beside jobs = record beside { jobs = jobs }
+
+-- there is a place for each label
+abbrev pub AreLabelled : Jobs → Type 0
+AreLabelled jobs = length jobs ≡ MAX_JOBS
+
+-- the store of the metadata, the number of the transaction that begins next, the open transactions, and what stands beside them
 pub record TablesView : Type 0 where
   pub kv : Store Key Value
   pub next_tx : ℕ
   pub clients : Clients
-  pub saved : SavedView
+  pub beside : BesideView
 
 -- the metadata as they stand now
 abbrev pub metadata_now : Store Key Value → Map

@@ -1,4 +1,4 @@
-//! The store of the metadata with the open transactions, and what a client's line makes of them.
+//! The metadata with the open transactions and jobs, and what a line makes of them.
 
 ghost use Rattle.std.specs.Prelude.{◌≡◌, ◌+◌, ◌<◌, ◌^◌, ℕ, [], ◌∷◌, None, Some, Ok, IsTrue, IfOk, OnOk, OnErr, IfSome, MatchOption};
 ghost use Rattle.std.specs.Set.{remove_key};
@@ -15,39 +15,46 @@ ghost use Rattle.wtf_region.specs.Devs.{IsSoundDev, GoesOn, stores, remembered, 
 ghost use Rattle.wtf_region.specs.Inside.{is_inside};
 ghost use Rattle.wtf_meta.specs.Bytes.{any_slice};
 ghost use Rattle.wtf_meta.specs.Trees.{IsFirst};
-ghost use Rattle.wtf_clients.specs.Views.{SavedView, of_client, metadata_now, unsaved};
+ghost use Rattle.wtf_clients.specs.Views.{BesideView, of_client, metadata_now, unsaved};
 ghost use Rattle.wtf_clients.specs.Sounds.{AreSound, Sets, IsAlike, IsTidied, all_kept};
 ghost use Rattle.wtf_clients.specs.Saves.{with_image, only_image, Saves};
 ghost use Rattle.wtf_image.specs.Saving.{IsSaveOf};
+ghost use Rattle.wtf_model.specs.declared.limits.TheConstants.{MAX_JOBS};
 ghost use Rattle.wtf_clients.specs.Turns.{Refuses, Begins, TryTurn, Drops, Dumps, ClientTurn};
+ghost use Rattle.wtf_clients.specs.JobTurns.{PlanTurn, PutTurn, DropTurn};
 ghost use Rattle.wtf_clients.specs.Named.{TablesBytes};
 ghost use Rattle.wtf_clients.specs.Serves.{ServesLine};
+ghost use Rattle.wtf_clients.specs.Spilling.{StoresPlan};
+ghost use Rattle.wtf_clients.specs.Telling.{TellsTables, ServesTold};
 
+use crate::beside::Beside;
 use crate::dump::dump_now;
 use crate::faults::answer_to;
-use crate::saved::Saved;
+use crate::regions::plan_refusal;
 use indexmap::IndexMap;
 use std::alloc::Global;
 use std::marker::Model;
 use wtf_base::{Bytes, OutOfMemory, Settings, TxId};
+use wtf_compact::{PutFault, drop_job, plan, put};
 use wtf_dev::SliceStore;
 use wtf_image::{Loaded, save};
 use wtf_kv::Kv;
-use wtf_model::{Answer, Op, Word};
+use wtf_model::{Answer, JobKind, Op, Word};
 use wtf_path::Path;
 use wtf_region::Dev;
 use wtf_replay::Txn;
 use wtf_values::{Key, NameSet, Node, Value};
 
 /// The store of the metadata, the number of the transaction that begins next, the open transactions
-/// by client, in the order of their begin, and which images may be on the keeper.
+/// by client, in the order of their begin, and, beside them, which images may be on the keeper and the
+/// jobs by label.
 #[derive(Drop)]
 pub struct Tables {
     alloc: Global,
     kv: Kv<Key, Value>,
     next_tx: u64,
     clients: IndexMap<u8, Txn>,
-    saved: Saved,
+    beside: Beside,
 }
 
 impl Model for Tables {
@@ -59,19 +66,21 @@ impl Model for Tables {
     ghost use Rattle.wtf_values.specs.contracts.key.Key as key;
     ghost use Rattle.wtf_values.specs.contracts.value.Value as value;
     ghost use Rattle.wtf_replay.specs.contracts.txn.Txn as txn;
+    ghost use Rattle.wtf_compact.specs.contracts.job.Job as job;
 
     ghost coded = { Prim.hlevel (
       codes,
       key.the_row.coded,
       value.the_row.coded,
       txn.the_row.coded,
+      job.the_row.coded,
     ) };
 
     ghost view = { λ t. record {
       kv = t.kv;
       next_tx = t.next_tx;
       clients = t.clients.entries;
-      saved = t.saved;
+      beside = t.beside;
     } };
 }
 
@@ -81,7 +90,7 @@ impl Tables {
         ensures number { IfOk result (λ t. t.kv.number ≡ 0) }
         ensures next { IfOk result (λ t. t.next_tx ≡ 1) }
         ensures clients { IfOk result (λ t. t.clients ≡ []) }
-        ensures saved { IfOk result (λ t. t.saved ≡ unsaved) }
+        ensures beside { IfOk result (λ t. t.beside ≡ unsaved) }
         ensures first { IfOk result (λ t. IsFirst (metadata_now t.kv)) }
         ensures sound { IfOk result (λ t. AreSound t) }
     {
@@ -108,7 +117,7 @@ impl Tables {
             kv,
             next_tx: 1,
             clients: IndexMap::new(alloc),
-            saved: Saved::new(alloc),
+            beside: Beside::new(alloc),
         })
     }
 
@@ -120,7 +129,7 @@ impl Tables {
             (λ t. t.kv ≡ record loaded.kv { pins = loaded.kv.number ∷ [] }) }
         ensures next { IfOk result (λ t. t.next_tx ≡ loaded.next_tx) }
         ensures clients { IfOk result (λ t. t.clients ≡ []) }
-        ensures saved { IfOk result (λ t. t.saved ≡ only_image loaded.kv.number) }
+        ensures beside { IfOk result (λ t. t.beside ≡ only_image unsaved loaded.kv.number) }
         ensures sound { IfOk result (λ t. AreSound t) }
     {
         let mut kv = loaded.kv;
@@ -128,8 +137,8 @@ impl Tables {
         if let Err(why) = kv.pin(number) {
             return Err(why);
         }
-        let saved = match Saved::of(alloc, number) {
-            Ok(saved) => saved,
+        let beside = match Beside::of(alloc, number) {
+            Ok(beside) => beside,
             Err(why) => return Err(why),
         };
         Ok(Tables {
@@ -137,7 +146,7 @@ impl Tables {
             kv,
             next_tx: loaded.next_tx,
             clients: IndexMap::new(alloc),
-            saved,
+            beside,
         })
     }
 
@@ -210,6 +219,9 @@ impl Tables {
             self.old self.new c (verb.Call op) a) }
         ensures serves { IfOk result (ServesLine S.kind (between dev.old dev.new)
             dev.old.settings self.old self.new (event.Client c (verb.Call op))) }
+        ensures told { IfOk result (λ a. TellsTables S.kind (stores dev.old) dev.old.settings
+            (remembered dev.old) self.old → ServesTold S.kind (between dev.old dev.new)
+            dev.old.settings (self.old, self.new) a) }
         ensures err_sound { OnErr result (AreSound self.new) }
         ensures err { OnErr result (IsAlike self.old self.new) }
         ensures dev { GoesOn S.kind dev.old dev.new [] }
@@ -264,6 +276,9 @@ impl Tables {
             self.old self.new c verb.Step a) }
         ensures serves { IfOk result (ServesLine S.kind (between dev.old dev.new)
             dev.old.settings self.old self.new (event.Client c verb.Step)) }
+        ensures told { IfOk result (λ a. TellsTables S.kind (stores dev.old) dev.old.settings
+            (remembered dev.old) self.old → ServesTold S.kind (between dev.old dev.new)
+            dev.old.settings (self.old, self.new) a) }
         ensures err_sound { OnErr result (AreSound self.new) }
         ensures err { OnErr result (IsAlike self.old self.new) }
         ensures dev { GoesOn S.kind dev.old dev.new [] }
@@ -300,6 +315,9 @@ impl Tables {
             self.old self.new c verb.Commit a) }
         ensures serves { IfOk result (ServesLine S.kind (between dev.old dev.new)
             dev.old.settings self.old self.new (event.Client c verb.Commit)) }
+        ensures told { IfOk result (λ a. TellsTables S.kind (stores dev.old) dev.old.settings
+            (remembered dev.old) self.old → ServesTold S.kind (between dev.old dev.new)
+            dev.old.settings (self.old, self.new) a) }
         ensures err_sound { OnErr result (AreSound self.new) }
         ensures err { OnErr result (IsAlike self.old self.new) }
         ensures dev { GoesOn S.kind dev.old dev.new [] }
@@ -330,6 +348,9 @@ impl Tables {
             (byte_at S.kind (stores dev.old)) (remembered dev.old) self.old self.new p.now) }
         ensures serves { IfOk result (ServesLine S.kind (between dev.old dev.new)
             dev.old.settings self.old self.new (event.Dump p.now)) }
+        ensures told { IfOk result (λ a. TellsTables S.kind (stores dev.old) dev.old.settings
+            (remembered dev.old) self.old → ServesTold S.kind (between dev.old dev.new)
+            dev.old.settings (self.old, self.new) a) }
         ensures err_sound { OnErr result (AreSound self.new) }
         ensures err { OnErr result (IsAlike self.old self.new) }
         ensures dev { GoesOn S.kind dev.old dev.new [] }
@@ -354,6 +375,94 @@ impl Tables {
         Answer::Okay
     }
 
+    /// Plans a job of a region of the file at a path as it stands now, under label `j`: `Planned`.
+    /// Refused, in this order: `JobInUse` where the label has a job, `NoEnt`, `IsDir`, and `NoRegion`
+    /// above the file's last region. `FaultRead` and `Damaged` come of the region's list, `FaultWrite` of
+    /// a spill; the label has no job then.
+    pub fn plan<S: SliceStore>(
+        &mut self,
+        dev: &mut Dev<'_, S>,
+        j: u8,
+        kind: JobKind,
+        p: &Path,
+        region: u64,
+    ) -> Result<Answer, OutOfMemory>
+        requires sound { AreSound self.old }
+        requires dev { IsSoundDev S.kind dev.old }
+        requires ring { IsRing dev.old.settings.servers dev.old.ring.now.points }
+        requires inside { TablesBytes (is_inside S.kind (stores dev.old) dev.old.settings)
+            any_slice self.old }
+        requires label { j < MAX_JOBS }
+        ensures turn { IfOk result (PlanTurn (TellsAll S.kind (stores dev.old))
+            (remembered dev.old) dev.old.settings.servers dev.old.settings.region
+            (byte_at S.kind (stores dev.old)) (byte_at S.kind (stores dev.new))
+            self.old self.new j kind p.now region) }
+        ensures serves { IfOk result (ServesLine S.kind (between dev.old dev.new)
+            dev.old.settings self.old self.new (event.Plan j kind p.now region)) }
+        ensures stores { IfOk result (StoresPlan S.kind (between dev.old dev.new)
+            dev.old.settings (self.old, self.new) (event.Plan j kind p.now region)) }
+        ensures told { IfOk result (λ a. TellsTables S.kind (stores dev.old) dev.old.settings
+            (remembered dev.old) self.old → ServesTold S.kind (between dev.old dev.new)
+            dev.old.settings (self.old, self.new) a) }
+        ensures err_sound { OnErr result (AreSound self.new) }
+        ensures err { OnErr result (IsAlike self.old self.new) }
+        ensures dev { GoesOn S.kind dev.old dev.new [] }
+    {
+        if self.beside.has_job(j) {
+            return Ok(Answer::Refused(Word::JobInUse));
+        }
+        let refusal = match plan_refusal(self.alloc, &self.kv, p, region, dev.settings) {
+            Ok(refusal) => refusal,
+            Err(why) => return Err(why),
+        };
+        if let Some(word) = refusal {
+            return Ok(Answer::Refused(word));
+        }
+        // a file has at most 4,096 regions, so the number fits
+        let job = match plan(self.alloc, dev, &mut self.kv, p, region as u16, kind) {
+            Ok(job) => job,
+            Err(why) => return answer_to(why),
+        };
+        self.beside.set_job(j, job);
+        Ok(Answer::Planned)
+    }
+
+    /// Puts what job `j` planned in its region's place: `Installed` with the new number, or `Stale` where
+    /// the path or the region has a newer version. Either ends the job. Refused `NoJob` where the label
+    /// has none. Want of memory leaves the job.
+    pub fn put_job(&mut self, j: u8) -> Result<Answer, OutOfMemory>
+        requires sound { AreSound self.old }
+        requires room { self.old.kv.number < 2 ^ 63 }
+        requires label { j < MAX_JOBS }
+        ensures turn { IfOk result (PutTurn self.old self.new j) }
+        ensures err_sound { OnErr result (AreSound self.new) }
+        ensures err { OnErr result (IsAlike self.old self.new) }
+    {
+        let Some(job) = self.beside.take_job(j) else {
+            return Ok(Answer::Refused(Word::NoJob));
+        };
+        match put(job, &mut self.kv) {
+            Ok(answer) => Ok(answer),
+            Err(PutFault::Memory(back)) => {
+                self.beside.set_job(j, back);
+                Err(OutOfMemory)
+            }
+        }
+    }
+
+    /// Drops job `j` and the pin of its base; refused `NoJob` where the label has none. It takes no memory.
+    pub fn drop_job(&mut self, j: u8) -> Answer
+        requires sound { AreSound self.old }
+        requires label { j < MAX_JOBS }
+        ensures turn { DropTurn self.old self.new j result }
+    {
+        let Some(job) = self.beside.take_job(j) else {
+            return Answer::Refused(Word::NoJob);
+        };
+        drop_job(job, &mut self.kv);
+        Answer::Okay
+    }
+
     /// Drops versions that no one sees any more, once there are enough of them.
     pub fn tidy(&mut self)
         ensures { IsTidied self.old self.new }
@@ -371,7 +480,7 @@ impl Tables {
         ensures unpinned { IfSome (of_client self.old.clients c)
             (λ x. IsPinnedOnceMore x.at.base self.new.kv self.old.kv) }
         ensures next { self.new.next_tx ≡ self.old.next_tx }
-        ensures saved { self.new.saved ≡ self.old.saved }
+        ensures beside { self.new.beside ≡ self.old.beside }
     {
         match self.clients.shift_remove(&c) {
             Some(txn) => txn.drop_all(&mut self.kv),
@@ -391,17 +500,17 @@ impl Tables {
     /// leaves all as it was.
     pub(crate) fn keep_image(&mut self) -> Result<(), OutOfMemory>
         ensures ok { OnOk result (Saves self.old self.new
-            (with_image self.old.saved self.old.kv.number)) }
+            (with_image self.old.beside self.old.kv.number)) }
         ensures pinned { OnOk result (IsTrue (is_pinned self.new.kv self.old.kv.number)) }
         ensures err { OnErr result (self.new ≡ self.old) }
     {
         let number = self.kv.number();
-        match self.saved.add(number) {
+        match self.beside.add(number) {
             Ok(()) => {}
             Err(why) => return Err(why),
         }
         if let Err(why) = self.kv.pin(number) {
-            self.saved.drop_last();
+            self.beside.drop_last();
             return Err(why);
         }
         Ok(())
@@ -410,27 +519,27 @@ impl Tables {
     /// The image that was kept last was not handed to the keeper.
     pub(crate) fn forget_image(&mut self)
         requires pinned { IsTrue (is_pinned self.old.kv self.old.kv.number) }
-        requires some { 0 < length self.old.saved.images }
-        ensures { (before : SavedView) →
-            self.old.saved ≡ with_image before self.old.kv.number →
+        requires some { 0 < length self.old.beside.images }
+        ensures { (before : BesideView) →
+            self.old.beside ≡ with_image before self.old.kv.number →
             Saves self.old self.new before }
     {
         let number = self.kv.number();
-        self.saved.drop_last();
+        self.beside.drop_last();
         self.kv.unpin(number);
     }
 
     /// The image that was kept last is the only one that may be on the keeper.
     pub(crate) fn settle_image(&mut self)
-        requires pinned { (n : ℕ) → all_kept n self.old.saved ≤ times_pinned self.old.kv n }
-        requires some { 0 < length self.old.saved.images }
-        ensures { (before : SavedView) →
-            self.old.saved ≡ with_image before self.old.kv.number →
-            Saves self.old self.new (only_image self.old.kv.number) }
+        requires pinned { (n : ℕ) → all_kept n self.old.beside ≤ times_pinned self.old.kv n }
+        requires some { 0 < length self.old.beside.images }
+        ensures { (before : BesideView) →
+            self.old.beside ≡ with_image before self.old.kv.number →
+            Saves self.old self.new (only_image before self.old.kv.number) }
     {
         let number = self.kv.number();
-        unpin_all(&mut self.kv, self.saved.others());
-        self.saved.settle(number);
+        unpin_all(&mut self.kv, self.beside.others());
+        self.beside.settle(number);
     }
 }
 

@@ -15,7 +15,8 @@ returns-in_default-clause-shows g c =
     let dev = c.args.dev.now in
     let w = metadata_at kv c.args.number in
     let first : c.in-Ok.at ≡ untouched c.args.number = let e = c.in-Ok.ensures in cc in
-    let there : stands_at w c.args.p.now ≡ None = sym (ap (λ a. stands_at (seen kv a) c.args.p.now) first) ∙ sym c.in-Ok-look_up.ensures.value ∙ c.in_default.is in
+    let there : stands_at w c.args.p.now ≡ None = sym (ap (λ a. stands_at (seen kv a) c.args.p.now) first) ∙ sym c.in-Ok-look_up.ensures.value
+    ∙ c.in_default.is in
     dumps_none dev.settings.region (told_in g.S.SliceStore.kind dev) (remembered dev) w c.args.p.now there
 
 pub returns-in-Folder-clause-shows : goal.returns-in-Folder-clause-shows
@@ -24,7 +25,8 @@ returns-in-Folder-clause-shows g c =
     let dev = c.args.dev.now in
     let w = metadata_at kv c.args.number in
     let first : c.in-Ok.at ≡ untouched c.args.number = let e = c.in-Ok.ensures in cc in
-    let there : stands_at w c.args.p.now ≡ Some Folder = sym (ap (λ a. stands_at (seen kv a) c.args.p.now) first) ∙ sym c.in-Ok-look_up.ensures.value ∙ (c.in-Some.is ∙ ap Some c.in-Folder.is) in
+    let there : stands_at w c.args.p.now ≡ Some Folder = sym (ap (λ a. stands_at (seen kv a) c.args.p.now) first) ∙ sym c.in-Ok-look_up.ensures.value
+    ∙ (c.in-Some.is ∙ ap Some c.in-Folder.is) in
     dumps_folder dev.settings.region (told_in g.S.SliceStore.kind dev) (remembered dev) w c.args.p.now there
 
 pub returns-in-Ok-dump_file-clause-shows : goal.returns-in-Ok-dump_file-clause-shows
@@ -40,7 +42,8 @@ returns-in-Ok-dump_file-clause-shows g c =
     let base : at.base ≡ c.args.number = went.base ∙ ap (λ a. a.base) first in
     let changes : at.changes ≡ [] = went.changes ∙ ap (λ a. a.changes ++ []) first in
     let same : seen kv at ≡ w = ap (λ (cs : Edits). with cs (metadata_at kv at.base)) changes ∙ ap (metadata_at kv) base in
-    let there : stands_at w c.args.p.now ≡ Some (File i) = sym (ap (λ a. stands_at (seen kv a) c.args.p.now) first) ∙ sym c.in-Ok-look_up.ensures.value ∙ (c.in-Some.is ∙ ap Some c.in-File.is) in
+    let there : stands_at w c.args.p.now ≡ Some (File i) = sym (ap (λ a. stands_at (seen kv a) c.args.p.now) first) ∙ sym c.in-Ok-look_up.ensures.value
+    ∙ (c.in-Some.is ∙ ap Some c.in-File.is) in
     dumps_file dev.settings.region told (remembered dev) w c.args.p.now i c.in-Ok-dump_file.answer there
     (subst (λ (v : Map). IsShownFile dev.settings.region told (remembered dev) v i c.in-Ok-dump_file.answer) same c.in-Ok-dump_file.ensures.shows)
 
@@ -56,7 +59,8 @@ returns-in-Err-dump_file-clause-fault g c =
     let base : at.base ≡ c.args.number = went.base ∙ ap (λ a. a.base) first in
     let changes : at.changes ≡ [] = went.changes ∙ ap (λ a. a.changes ++ []) first in
     let same : seen kv at ≡ w = ap (λ (cs : Edits). with cs (metadata_at kv at.base)) changes ∙ ap (metadata_at kv) base in
-    let there : stands_at w c.args.p.now ≡ Some (File i) = sym (ap (λ a. stands_at (seen kv a) c.args.p.now) first) ∙ sym c.in-Ok-look_up.ensures.value ∙ (c.in-Some.is ∙ ap Some c.in-File.is) in
+    let there : stands_at w c.args.p.now ≡ Some (File i) = sym (ap (λ a. stands_at (seen kv a) c.args.p.now) first) ∙ sym c.in-Ok-look_up.ensures.value
+    ∙ (c.in-Some.is ∙ ap Some c.in-File.is) in
     elim c.in-Err-dump_file.ensures.fault [
       | inl memory ↦ inl memory
       | inr lacks ↦ inr (record {

@@ -9,7 +9,6 @@ use Rattle.wtf_meta.specs.Bytes.{PiecesBytes, FileBytes, any_slice}
 use Rattle.wtf_meta.specs.Contents.{is_told, is_listed, lists_in}
 use Rattle.wtf_meta.specs.Maps.{Map, seen}
 use Rattle.wtf_meta.specs.Files.{file_len, file_origin}
-use Rattle.wtf_meta.specs.Reads.{ReadsFile}
 use Rattle.wtf_meta.specs.FileEdits.{file_of}
 use Rattle.wtf_meta.specs.Appends.{length_keys}
 use Rattle.wtf_meta.proofs.Named.{file_bytes}
@@ -20,7 +19,7 @@ use Rattle.wtf_region.specs.Reads.{IsFileRead, LacksRegion}
 use Rattle.wtf_region.specs.Showing.{Shown, IsShowFault, pieces_in, AreReadable}
 use Rattle.wtf_region.proofs.Frames.{facts_apart_none}
 use Rattle.wtf_region.proofs.InsideLaws.{readable_from}
-use Rattle.wtf_region.proofs.ListReads.{pieces_inside}
+use Rattle.wtf_region.proofs.ListReads.{pieces_inside, file_read_later}
 use Rattle.wtf_region.proofs.Recording.{still_seen}
 use Rattle.wtf_region.proofs.ShowLaws.{shown_since}
 use Rattle.wtf_region.proofs.Spans.{goes_on}
@@ -34,7 +33,8 @@ pieces-requires-clause-inside g c =
     let dev = c.args.dev.now in
     let i = c.args.inode in
     let b = seen c.args.kv.now c.args.at.now in
-    let same : seen c.args.kv.now c.file_len.new.at ≡ b = still_seen c.args.kv.now i (length_keys (file_of i b)) c.args.at.now c.file_len.new.at c.in-Ok.ensures.recorded in
+    let same : seen c.args.kv.now c.file_len.new.at ≡ b = still_seen c.args.kv.now i (length_keys (file_of i b)) c.args.at.now c.file_len.new.at
+    c.in-Ok.ensures.recorded in
     subst (λ (w : Map). FileBytes (inside_of kind dev) any_slice (file_of i w)) (sym same) (file_bytes (inside_of kind dev) any_slice i b c.requires.inside)
 
 pub returns-in-Err-pieces-clause-fault : goal.returns-in-Err-pieces-clause-fault
@@ -47,8 +47,10 @@ returns-in-Err-pieces-clause-fault g c =
     let k = c.min-n.result in
     let value = c.in-Ok.ensures.value in
     let low = c.if-len-gt-MAX_DUMPED.false in
-    let same : seen c.args.kv.now c.file_len.new.at ≡ b = still_seen c.args.kv.now i (length_keys (file_of i b)) c.args.at.now c.file_len.new.at c.in-Ok.ensures.recorded in
-    let count : k ≡ min (file_len z (file_of i b)) (MAX_REGIONS * z) = c.min-n.ensures ∙ ap (λ m. min m c.cap.result) value ∙ ap (min (file_len z (file_of i b))) c.cap.ensures in
+    let same : seen c.args.kv.now c.file_len.new.at ≡ b = still_seen c.args.kv.now i (length_keys (file_of i b)) c.args.at.now c.file_len.new.at
+    c.in-Ok.ensures.recorded in
+    let count : k ≡ min (file_len z (file_of i b)) (MAX_REGIONS * z) = c.min-n.ensures ∙ ap (λ m. min m c.cap.result) value
+    ∙ ap (min (file_len z (file_of i b))) c.cap.ensures in
     elim c.in-Err-pieces.ensures.fault [
       | inl memory ↦ inl memory
       | inr lacks ↦ inr (record {
@@ -90,7 +92,8 @@ returns-in-Err-show-clause-fault g c =
     let low = c.if-len-gt-MAX_DUMPED.false in
     let read = c.in-Ok-pieces.ensures.read in
     let same : u ≡ b = still_seen c.args.kv.now i (length_keys (file_of i b)) c.args.at.now c.file_len.new.at c.in-Ok.ensures.recorded in
-    let count : k ≡ min (file_len z (file_of i b)) (MAX_REGIONS * z) = c.min-n.ensures ∙ ap (λ m. min m c.cap.result) value ∙ ap (min (file_len z (file_of i b))) c.cap.ensures in
+    let count : k ≡ min (file_len z (file_of i b)) (MAX_REGIONS * z) = c.min-n.ensures ∙ ap (λ m. min m c.cap.result) value
+    ∙ ap (min (file_len z (file_of i b))) c.cap.ensures in
     let file : FileBytes (inside_of kind dev) any_slice (file_of i u) =
     subst (λ (w : Map). FileBytes (inside_of kind dev) any_slice (file_of i w)) (sym same) (file_bytes (inside_of kind dev) any_slice i b c.requires.inside) in
     inr (record {
@@ -99,14 +102,13 @@ returns-in-Err-show-clause-fault g c =
         mid = mid;
         goes = c.in-Ok-pieces.ensures.dev;
         pieces = ps;
-        are = (
-          read.facts,
-          subst (λ (m : ℕ). ReadsFile z (file_of i b) 0 m read.facts ps) count
-              (subst (λ (w : Map). ReadsFile z (file_of i w) 0 k read.facts ps) same read.reads),
-        );
+        are = subst (λ (m : ℕ). IsFileRead kind dev c.show.new.dev (file_of i b) 0 m ps) count
+            (subst (λ (w : Map). IsFileRead kind dev c.show.new.dev (file_of i w) 0 k ps) same
+            (file_read_later g.met.S.SliceStore.laws c.requires.sound c.in-Ok-pieces.ensures.dev c.in-Err-show.ensures.dev (file_of i u) file 0 k ps read));
         inside = pieces_inside g.met.S.SliceStore.laws c.requires.sound c.in-Ok-pieces.ensures.dev (file_of i u) file 0 k ps read;
         fault = subst (λ (m : ℕ). IsShowFault kind (between mid c.show.new.dev) (pieces_in 0 m ps) c.in-Err-show.why) count
-            (subst (λ (qs : List Piece). IsShowFault kind (between mid c.show.new.dev) (pieces_in 0 k qs) c.in-Err-show.why) c.as_slice.ensures.value c.in-Err-show.ensures.fault);
+            (subst (λ (qs : List Piece). IsShowFault kind (between mid c.show.new.dev) (pieces_in 0 k qs) c.in-Err-show.why) c.as_slice.ensures.value
+            c.in-Err-show.ensures.fault);
       });
     })
 
@@ -134,7 +136,8 @@ returns-clause-shows g c cache map bytes body =
     let value = c.in-Ok.ensures.value in
     let low = c.if-len-gt-MAX_DUMPED.false in
     let first = c.in-Ok-pieces.ensures.dev in
-    let same : seen c.args.kv.now c.file_len.new.at ≡ b = still_seen c.args.kv.now i (length_keys (file_of i b)) c.args.at.now c.file_len.new.at c.in-Ok.ensures.recorded in
+    let same : seen c.args.kv.now c.file_len.new.at ≡ b = still_seen c.args.kv.now i (length_keys (file_of i b)) c.args.at.now c.file_len.new.at
+    c.in-Ok.ensures.recorded in
     let count : k ≡ min (file_len z v) (MAX_REGIONS * z) = c.min-n.ensures ∙ ap (λ m. min m c.cap.result) value ∙ ap (min (file_len z v)) c.cap.ensures in
     let read : IsFileRead kind dev mid v 0 k ps = subst (λ (w : Map). IsFileRead kind dev mid (file_of i w) 0 k ps) same c.in-Ok-pieces.ensures.read in
     let file : FileBytes (is_told told) (is_listed z told) v = file_bytes (is_told told) (is_listed z told) i b map in

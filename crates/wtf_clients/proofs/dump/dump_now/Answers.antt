@@ -24,7 +24,9 @@ returns-clause-fault g c =
     let dev = c.args.dev.now in
     let same : metadata_at c.pin.new.self c.number-number.result ≡ metadata_at kv kv.number =
     ap (λ (s : Store Key Value). metadata_at s c.number-number.result) c.in_default.ensures.ok ∙ ap (metadata_at kv) c.number-number.ensures.number in
-    subst (λ (w : Map). IfErr c.dump_at-shown.result (λ (why : Fault). (why ≡ fault.Memory) ⊎ LacksDump g.S.SliceStore.kind dev c.dump_at-shown.new.dev w c.args.p.now why)) same c.dump_at-shown.ensures.fault
+    subst (λ (w : Map). IfErr c.dump_at-shown.result
+    (λ (why : Fault). (why ≡ fault.Memory) ⊎ LacksDump g.S.SliceStore.kind dev c.dump_at-shown.new.dev w c.args.p.now why)) same
+    c.dump_at-shown.ensures.fault
 
 pub returns-clause-pins : goal.returns-clause-pins
 returns-clause-pins g c = λ n.

@@ -11,10 +11,12 @@ unpin-requires c =
 pub loop-number-preserved : goal.loop-number-preserved
 loop-number-preserved c =
     subst (λ (k : ℕ). Undone c.args.kv.now c.unpin.new.self c.args.numbers.now k) (sym (add-one c.loop-number.number-index))
-    (next_undone c.args.kv.now c.loop-number.kv c.args.numbers.now c.loop-number.number-index (omega arith) c.requires c.loop-number.invariant c.unpin.new.self c.unpin.ensures.once (any_pins c.loop-number.kv c.unpin.new.self _ c.unpin.ensures.rest))
+    (next_undone c.args.kv.now c.loop-number.kv c.args.numbers.now c.loop-number.number-index (omega arith) c.requires c.loop-number.invariant c.unpin.new.self
+    c.unpin.ensures.once (any_pins c.loop-number.kv c.unpin.new.self _ c.unpin.ensures.rest))
 
 pub returns-clause-pins : goal.returns-clause-pins
 returns-clause-pins c = λ n.
     let left = c.loop-number.invariant.pins n in
-    let all : take c.loop-number.number-index c.args.numbers.now ≡ c.args.numbers.now = ap (λ (k : ℕ). take k c.args.numbers.now) (omega arith) ∙ take-length c.args.numbers.now in
+    let all : take c.loop-number.number-index c.args.numbers.now ≡ c.args.numbers.now = ap (λ (k : ℕ). take k c.args.numbers.now) (omega arith)
+    ∙ take-length c.args.numbers.now in
     ap (λ (l : List ℕ). times_pinned c.loop-number.kv n + count_by (nat_eq n) l) (sym all) ∙ left

@@ -10,11 +10,12 @@ use Rattle.wtf_clients.proofs.tables.Tables.begin.Goals as goal
 pub returns-in-Ok-insert-clause-turn : goal.returns-in-Ok-insert-clause-turn
 returns-in-Ok-insert-clause-turn c =
     let at = c.self.inside in
-    let old : TablesView = record { kv = at.kv; next_tx = at.next_tx; clients = at.clients.entries; saved = at.saved } in
-    let new : TablesView = record { kv = c.begin.new.kv; next_tx = at.next_tx + 1; clients = c.insert.new.self.entries; saved = at.saved } in
+    let old : TablesView = record { kv = at.kv; next_tx = at.next_tx; clients = at.clients.entries; beside = at.beside } in
+    let new : TablesView = record { kv = c.begin.new.kv; next_tx = at.next_tx + 1; clients = c.insert.new.self.entries; beside = at.beside } in
     let made = c.in-Ok.ensures in
     let put = c.in-Ok-insert.ensures in
-    subst (λ (t : TablesView). MatchOption (of_client t.clients c.args.c) (Begins t new c.args.c (answer.Begun c.number-number.result)) (λ x. Refuses t new c.args.c InTx (answer.Begun c.number-number.result)))
+    subst (λ (t : TablesView). MatchOption (of_client t.clients c.args.c) (Begins t new c.args.c (answer.Begun c.number-number.result))
+    (λ x. Refuses t new c.args.c InTx (answer.Begun c.number-number.result)))
     c.self.view_is
     (begin_turn old c.begin.new.kv c.reserve.new.self.entries c.insert.new.self.entries c.args.c c.number-number.result c.in-Ok.txn
     (sym c.contains_key.ensures ∙ c.if-contains_key.false)

@@ -16,8 +16,9 @@ returns-in-Err-sync_all-clause-turn g c =
     let old = c.args.self.now in
     let mid = c.keep_image.new.self in
     let kept = c.in_default.ensures.ok in
-    let same : with_image old.saved old.kv.number ≡ with_image old.saved mid.kv.number = ap (with_image old.saved) (sym kept.number) in
-    inl (saves_then old mid c.forget_image.new.self (with_image old.saved old.kv.number) old.saved kept (c.forget_image.ensures old.saved (kept.saved ∙ same)))
+    let same : with_image old.beside old.kv.number ≡ with_image old.beside mid.kv.number = ap (with_image old.beside) (sym kept.number) in
+    inl (saves_then old mid c.forget_image.new.self (with_image old.beside old.kv.number) old.beside kept
+    (c.forget_image.ensures old.beside (kept.beside ∙ same)))
 
 pub returns-in-Err-replace-clause-keeper : goal.returns-in-Err-replace-clause-keeper
 returns-in-Err-replace-clause-keeper g c =
@@ -29,25 +30,25 @@ returns-in-Err-replace-clause-keeper g c =
         synced = λ j below. c.in_default-sync_all.ensures.synced j (subst (λ (s : Settings). j < s.servers) (sym c.requires.settings) below);
       };
       rose = c.in-Err-replace.ensures.cause;
-      saved = c.in_default.ensures.ok.saved;
+      beside = c.in_default.ensures.ok.beside;
     })
 
 pub settle_image-requires-clause-pinned : goal.settle_image-requires-clause-pinned
 settle_image-requires-clause-pinned g c =
     let old = c.args.self.now in
-    saves_enough old c.keep_image.new.self (with_image old.saved old.kv.number) c.in_default.ensures.ok (kept_enough old c.requires.sound)
+    saves_enough old c.keep_image.new.self (with_image old.beside old.kv.number) c.in_default.ensures.ok (kept_enough old c.requires.sound)
 
 pub returns-clause-turn : goal.returns-clause-turn
 returns-clause-turn g c =
     let old = c.args.self.now in
     let mid = c.keep_image.new.self in
     let kept = c.in_default.ensures.ok in
-    let same : with_image old.saved old.kv.number ≡ with_image old.saved mid.kv.number = ap (with_image old.saved) (sym kept.number) in
-    let settled : Saves mid c.settle_image.new.self (only_image mid.kv.number) = c.settle_image.ensures old.saved (kept.saved ∙ same) in (
+    let same : with_image old.beside old.kv.number ≡ with_image old.beside mid.kv.number = ap (with_image old.beside) (sym kept.number) in
+    let settled : Saves mid c.settle_image.new.self (only_image old.beside mid.kv.number) = c.settle_image.ensures old.beside (kept.beside ∙ same) in (
       c.number-number.ensures,
       λ k below. c.in_default-sync_all.ensures.up k (subst (λ (s : Settings). k < s.servers) (sym c.requires.settings) below),
-      saves_then old mid c.settle_image.new.self (with_image old.saved old.kv.number) (only_image c.number-number.result) kept
-          (subst (λ (n : ℕ). Saves mid c.settle_image.new.self (only_image n)) (kept.number ∙ sym c.number-number.ensures) settled),
+      saves_then old mid c.settle_image.new.self (with_image old.beside old.kv.number) (only_image old.beside c.number-number.result) kept
+          (subst (λ (n : ℕ). Saves mid c.settle_image.new.self (only_image old.beside n)) (kept.number ∙ sym c.number-number.ensures) settled),
     )
 
 pub returns-clause-keeper : goal.returns-clause-keeper
@@ -63,19 +64,26 @@ returns-clause-keeper g c = record {
 
 pub returns-in-Err-sync_all-clause-serves : goal.returns-in-Err-sync_all-clause-serves
 returns-in-Err-sync_all-clause-serves g c =
-    save_serves g.met.S.SliceStore.laws (is_down c.args.replicas.now) c.args.shelf.now c.sync_all.new.shelf c.sync_all.ensures.follows c.sync_all.ensures.lengths c.args.settings c.requires.shelf
-    (AreUp c.args.replicas.now c.args.settings.servers) (Rose (g.K.Keeper.view c.args.keeper.now).faults (g.K.Keeper.view c.args.keeper.now).faults) c.args.self.now c.forget_image.new.self c.requires.sound c.requires.inside answer.FaultSave
+    save_serves g.met.S.SliceStore.laws (is_down c.args.replicas.now) c.args.shelf.now c.sync_all.new.shelf c.sync_all.ensures.follows
+    c.sync_all.ensures.lengths c.args.settings c.requires.shelf
+    (AreUp c.args.replicas.now c.args.settings.servers) (Rose (g.K.Keeper.view c.args.keeper.now).faults (g.K.Keeper.view c.args.keeper.now).faults)
+    c.args.self.now c.forget_image.new.self c.requires.sound c.requires.inside answer.FaultSave
     (returns-in-Err-sync_all-clause-turn g c)
-    (inl (subst (λ (s : Settings). SomeOut g.S.SliceStore.kind (during c.args.replicas.now c.args.shelf.now c.sync_all.new.shelf) s.servers) c.requires.settings c.in-Err-sync_all.ensures.cause))
+    (inl (subst (λ (s : Settings). SomeOut g.S.SliceStore.kind (during c.args.replicas.now c.args.shelf.now c.sync_all.new.shelf) s.servers) c.requires.settings
+    c.in-Err-sync_all.ensures.cause))
 
 pub returns-in-Err-replace-clause-serves : goal.returns-in-Err-replace-clause-serves
 returns-in-Err-replace-clause-serves g c =
-    save_serves g.met.S.SliceStore.laws (is_down c.args.replicas.now) c.args.shelf.now c.sync_all.new.shelf c.sync_all.ensures.follows c.sync_all.ensures.lengths c.args.settings c.requires.shelf
-    (AreUp c.args.replicas.now c.args.settings.servers) (Rose (g.K.Keeper.view c.args.keeper.now).faults (g.K.Keeper.view c.replace.new.self).faults) c.args.self.now c.keep_image.new.self c.requires.sound c.requires.inside answer.FaultSave
+    save_serves g.met.S.SliceStore.laws (is_down c.args.replicas.now) c.args.shelf.now c.sync_all.new.shelf c.sync_all.ensures.follows
+    c.sync_all.ensures.lengths c.args.settings c.requires.shelf
+    (AreUp c.args.replicas.now c.args.settings.servers) (Rose (g.K.Keeper.view c.args.keeper.now).faults (g.K.Keeper.view c.replace.new.self).faults)
+    c.args.self.now c.keep_image.new.self c.requires.sound c.requires.inside answer.FaultSave
     (inr c.in_default.ensures.ok) (inr c.in-Err-replace.ensures.cause)
 
 pub returns-clause-serves : goal.returns-clause-serves
 returns-clause-serves g c =
-    save_serves g.met.S.SliceStore.laws (is_down c.args.replicas.now) c.args.shelf.now c.sync_all.new.shelf c.sync_all.ensures.follows c.sync_all.ensures.lengths c.args.settings c.requires.shelf
-    (AreUp c.args.replicas.now c.args.settings.servers) (Rose (g.K.Keeper.view c.args.keeper.now).faults (g.K.Keeper.view c.replace.new.self).faults) c.args.self.now c.settle_image.new.self c.requires.sound c.requires.inside (answer.Saved c.number-number.result)
+    save_serves g.met.S.SliceStore.laws (is_down c.args.replicas.now) c.args.shelf.now c.sync_all.new.shelf c.sync_all.ensures.follows
+    c.sync_all.ensures.lengths c.args.settings c.requires.shelf
+    (AreUp c.args.replicas.now c.args.settings.servers) (Rose (g.K.Keeper.view c.args.keeper.now).faults (g.K.Keeper.view c.replace.new.self).faults)
+    c.args.self.now c.settle_image.new.self c.requires.sound c.requires.inside (answer.Saved c.number-number.result)
     (returns-clause-turn g c) tt

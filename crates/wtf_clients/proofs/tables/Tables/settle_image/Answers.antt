@@ -1,6 +1,7 @@
 use Rattle.std.proofs.Common.{◌≡◌, ◌≤◌, ◌+◌, ◌-◌, ℕ, nat_eq, count_by, List, length, refl, sym, ap, ◌∙◌, subst, arith}
 use Rattle.wtf_kv.specs.Stores.{times_pinned}
 use Rattle.wtf_clients.specs.Views.{TablesView}
+use Rattle.wtf_clients.specs.Sounds.{all_kept}
 use Rattle.wtf_clients.specs.Saves.{with_image, only_image, Saves}
 use Rattle.wtf_clients.proofs.Pinning.{count_front, others_are, settles_one}
 use Rattle.wtf_clients.proofs.tables.Tables.settle_image.Goals as goal
@@ -8,18 +9,19 @@ use Rattle.wtf_clients.proofs.tables.Tables.settle_image.Goals as goal
 pub unpin_all-requires : goal.unpin_all-requires
 unpin_all-requires c = λ n.
     let at = c.self.inside in
-    let all = subst (λ (t : TablesView). count_by (nat_eq n) t.saved.images ≤ times_pinned t.kv n) (sym c.self.view_is) (c.requires.pinned n) in
-    let front = count_front n (length at.saved.images - 1) at.saved.images in
+    let all = subst (λ (t : TablesView). all_kept n t.beside ≤ times_pinned t.kv n) (sym c.self.view_is) (c.requires.pinned n) in
+    let front = count_front n (length at.beside.images - 1) at.beside.images in
     let same : count_by (nat_eq n) c.others.result.now ≡ _ = ap (count_by (nat_eq n)) c.others.ensures in
     omega (arith, all, front, same)
 
 pub returns : goal.returns
 returns c = λ before was.
     let at = c.self.inside in
-    let old : TablesView = record { kv = at.kv; next_tx = at.next_tx; clients = at.clients.entries; saved = at.saved } in
-    let new : TablesView = record { kv = c.unpin_all.new.kv; next_tx = at.next_tx; clients = at.clients.entries; saved = c.settle.new.self } in
-    let is : old.saved ≡ with_image before old.kv.number = subst (λ (t : TablesView). t.saved ≡ with_image before t.kv.number) (sym c.self.view_is) was in
-    subst (λ (t : TablesView). Saves t new (only_image t.kv.number)) c.self.view_is
+    let old : TablesView = record { kv = at.kv; next_tx = at.next_tx; clients = at.clients.entries; beside = at.beside } in
+    let new : TablesView = record { kv = c.unpin_all.new.kv; next_tx = at.next_tx; clients = at.clients.entries; beside = c.settle.new.self } in
+    let is : old.beside ≡ with_image before old.kv.number = subst (λ (t : TablesView). t.beside ≡ with_image before t.kv.number) (sym c.self.view_is) was in
+    subst (λ (t : TablesView). Saves t new (only_image before t.kv.number)) c.self.view_is
     (settles_one old new refl refl c.unpin_all.ensures.rest before is
-    (λ n. ap (λ (l : List ℕ). times_pinned c.unpin_all.new.kv n + count_by (nat_eq n) l) (sym (c.others.ensures ∙ others_are at.saved before at.kv.number is)) ∙ c.unpin_all.ensures.pins n)
-    (c.settle.ensures ∙ ap only_image c.number-number.ensures.number))
+    (λ n. ap (λ (l : List ℕ). times_pinned c.unpin_all.new.kv n + count_by (nat_eq n) l) (sym (c.others.ensures ∙ others_are at.beside before at.kv.number is))
+    ∙ c.unpin_all.ensures.pins n)
+    (c.settle.ensures ∙ ap (only_image at.beside) c.number-number.ensures.number ∙ ap (λ b. only_image b at.kv.number) is))

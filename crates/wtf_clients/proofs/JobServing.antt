@@ -1,0 +1,345 @@
+-- What a plan made of the bytes that the tables name, and of the stores.
+use Rattle.std.proofs.Common.{◌≡◌, ℕ, ◌*◌, ◌/◌, Bool, true, false, nat_lt, List, [], Option, None, Some, refl, sym, ap, ◌∙◌, subst, inl, inr}
+use Rattle.std.proofs.Common.{⊎_elim, arith}
+use Rattle.std.specs.Prelude.{⊤}
+use Rattle.std.specs.List.{All}
+use Rattle.std.proofs.lemmas.Bool.{cases_Bool, ltb-true, ltb-false, true≢false}
+use Rattle.std.proofs.lemmas.List.Elements.{All-nil, All-cons}
+use Rattle.wtf_base.specs.declared.fault.Fault.{Fault}
+use Rattle.wtf_base.specs.declared.fault.Fault.TheVariants as fault
+use Rattle.wtf_base.specs.declared.ids.InodeId.{InodeId}
+use Rattle.wtf_base.specs.declared.settings.Settings.{Settings}
+use Rattle.wtf_base.specs.declared.slice.Slice.{Slice}
+use Rattle.wtf_dev.specs.Store.{StoreKind, KindLaws}
+use Rattle.wtf_overlay.specs.Origin.{Place}
+use Rattle.wtf_overlay.specs.Spilled.{encoded}
+use Rattle.wtf_ring.specs.Points.{PlaceView, IsRing, place_of}
+use Rattle.wtf_replica.specs.Copies.{IsStored}
+use Rattle.wtf_replica.specs.Downs.{is_down}
+use Rattle.wtf_replica.specs.Faults.{AreTooFew}
+use Rattle.wtf_replica.specs.Outs.{IsOut}
+use Rattle.wtf_replica.specs.Spans.{Span, span}
+use Rattle.wtf_replica.proofs.Spans.{out_since, each_kept}
+use Rattle.wtf_values.specs.declared.region.RegionValue.{RegionValue}
+use Rattle.wtf_model.specs.declared.answer.Answer.{Answer}
+use Rattle.wtf_model.specs.declared.answer.Answer.TheVariants as answer
+use Rattle.wtf_model.specs.declared.answer.Word.{Word}
+use Rattle.wtf_model.specs.declared.event.Event.TheVariants as event
+use Rattle.wtf_model.specs.declared.op.JobKind.{JobKind}
+use Rattle.wtf_model.specs.declared.op.JobKind.TheVariants.{Compact, Spill}
+use Rattle.wtf_model.specs.Jobs.{MayFailPlan}
+use Rattle.wtf_meta.specs.Bytes.{MaybeBytes, ListSlices, MapBytes, any_slice}
+use Rattle.wtf_meta.specs.Files.{end_of}
+use Rattle.wtf_meta.specs.Lists.{ListFact, region_facts}
+use Rattle.wtf_meta.specs.Maps.{Map}
+use Rattle.wtf_meta.specs.Trees.{LeadsTo}
+use Rattle.wtf_meta.proofs.Named.{region_of_bytes}
+use Rattle.wtf_meta.proofs.Standing.{one_leads}
+use Rattle.wtf_values.specs.declared.key.Key.TheVariants.{Path, Region}
+use Rattle.wtf_region.specs.declared.dev.Dev.{Dev}
+use Rattle.wtf_region.specs.Devs.{IsSoundDev, GoesOn, stores, inside_of, between, place_in}
+use Rattle.wtf_region.specs.Inside.{is_inside}
+use Rattle.wtf_region.specs.Showing.{OnlyRead}
+use Rattle.wtf_steps.proofs.FaultWays.{IsOfServers, region_fault_known}
+use Rattle.wtf_replay.specs.Causes.{fault_answer}
+use Rattle.wtf_compact.specs.declared.target.Target.{Target}
+use Rattle.wtf_compact.specs.Jobs.{JobView, region_at, target_region}
+use Rattle.wtf_compact.specs.Planned.{IsPlanned, IsShort, StoresList, LacksServers, IsPlanFault, spills}
+use Rattle.wtf_clients.specs.Views.{TablesView, of_label, metadata_now}
+use Rattle.wtf_clients.specs.Sounds.{AreSound}
+use Rattle.wtf_clients.specs.Named.{TablesBytes, any_byte, no_slice, has_copies}
+use Rattle.wtf_clients.specs.Asked.{Asked, asked_of, IsPlaced}
+use Rattle.wtf_clients.specs.Outcomes.{Load, no_load, load_of_job, AddsThisList, AddsBytes, IsUnspilled, HasToStore, HasCause}
+use Rattle.wtf_clients.specs.Serves.{AreBased, AreFull, ServesLine}
+use Rattle.wtf_clients.specs.Spilling.{StoresJob, StoresPlan}
+use Rattle.wtf_clients.specs.JobTurns.{Plans}
+use Rattle.wtf_clients.proofs.Caused.{plain_caused, plain_failed, has_failed, none_placed, refused_placed, fault_placed, none_added, refused_adds}
+use Rattle.wtf_clients.proofs.JobMaking.{made_of}
+use Rattle.wtf_clients.proofs.JobTurning.{plan_bytes}
+use Rattle.wtf_clients.proofs.Lacking.{memory_none, no_lists, region_caused}
+use Rattle.wtf_clients.proofs.Lives.{now_bytes}
+use Rattle.wtf_clients.proofs.Serving.{lent_to, later}
+use Rattle.wtf_clients.proofs.Staying.{fault_is}
+
+-- what a map has of a region
+pub region_bytes : (P : List Place → Bool) (Q : Slice → Bool) (w : Map) (t : Target) → MapBytes P Q w → MaybeBytes P Q (target_region w t)
+region_bytes P Q w t h = region_of_bytes P Q (w (Region t.inode t.region)) (h (Region t.inode t.region))
+
+-- a compaction stores nothing
+pub short_none : (stored : List ListFact) (value : Option RegionValue) → IsShort stored value → stored ≡ []
+short_none stored None h = h
+short_none stored (Some x) h = h.0
+
+-- what is the cause of a fault where nothing is to be stored is one of any line
+pub cause_more : {S : Type 0} (kind : StoreKind S) (t : Span S) (settings : Settings) (based : (Slice → Bool) → Type 0) (full : Type 0) (load : Load)
+    (a : Answer) → HasCause kind t settings ⊥ based full no_load a → HasCause kind t settings ⊥ based full load a
+cause_more kind t settings based full load (answer.FaultRead k) h = h
+cause_more kind t settings based full load answer.FaultWrite h = absurd (let some = h.0 in omega (arith, some))
+cause_more kind t settings based full load (answer.FaultPunch k) h = h
+cause_more kind t settings based full load answer.FaultSave h = h
+cause_more kind t settings based full load (answer.Damaged k) h = h
+cause_more kind t settings based full load a h = tt
+
+module _ {S : Type 0} {kind : StoreKind S} (laws : KindLaws kind) (old mid new : Dev S) (goes : GoesOn kind old mid []) where
+  -- servers that are out in a later part of a span are so in it
+  few_since : (n replicas : ℕ) → AreTooFew kind (between mid new) n replicas → AreTooFew kind (between old new) n replicas
+  few_since n replicas h = record {
+    rest = h.rest;
+    few = h.few;
+    out = λ k lt. ⊎_elim
+        (λ left. inl left)
+        (λ out. inr (out_since kind (is_down old.replicas.now) (stores old) (stores mid) (stores new) goes.each.same_length (each_kept laws goes.each) k
+        (subst (λ r. IsOut kind (span (is_down r.now) (stores mid) (stores new)) k) goes.replicas out)))
+        (h.out k lt);
+  }
+
+-- a place is the same a while later
+place_same : {S : Type 0} {kind : StoreKind S} (old mid : Dev S) → GoesOn kind old mid [] → (t : Target)
+    → place_in mid t.inode (t.region * mid.settings.region) ≡ place_in old t.inode (t.region * old.settings.region)
+place_same {S} old mid goes t =
+    ap (λ (d : Settings). place_of mid.ring.now.points t.inode (t.region * d.region / d.region)) goes.settings
+    ∙ ap (λ r. place_of r.now.points t.inode (t.region * old.settings.region / old.settings.region)) goes.ring
+
+-- one list was stored, behind reads
+list_added : {S : Type 0} {kind : StoreKind S} (old new : Dev S) (t : Target) (stored : List ListFact) (P : PlaceView → Type 0)
+    → P (place_in old t.inode (t.region * old.settings.region)) → (w : StoresList kind old new t stored)
+    → AddsThisList kind (between old new) old.settings P w.own
+list_added {kind = kind} old new t stored P goes_to w = record {
+  mid = stores w.mid;
+  same = w.reads.lengths;
+  place = place_in w.mid t.inode (t.region * w.mid.settings.region);
+  goes_to = subst P (sym (place_same old w.mid w.goes t)) goes_to;
+  stored = subst (λ r. IsStored kind (span (is_down r.now) (stores w.mid) (stores new)) old.settings.replicas
+      (place_in w.mid t.inode (t.region * w.mid.settings.region)) (encoded w.own.list) w.own.slice) w.goes.replicas
+      (subst (λ (st : Settings). IsStored kind (between w.mid new) st.replicas (place_in w.mid t.inode (t.region * w.mid.settings.region))
+      (encoded w.own.list) w.own.slice) w.goes.settings w.slice);
+}
+
+-- one that was not planned has stored none
+pub none_stores : {S : Type 0} (kind : StoreKind S) (t : Span S) (settings : Settings) (tables : TablesView × TablesView) (j : ℕ) (jk : JobKind) (p : List ℕ)
+    (r : ℕ) (why : Fault) (a : Answer) → fault_answer why ≡ Some a → StoresPlan kind t settings tables (event.Plan j jk p r) a
+none_stores kind t settings tables j jk p r why answer.Planned is = absurd (fault_is why answer.Planned is)
+none_stores kind t settings tables j jk p r why a is = tt
+
+-- ---- a plan, of the file to which the path leads
+module _ {S : Type 0} {kind : StoreKind S} (laws : KindLaws kind) (old new : Dev S) (goes : GoesOn kind old new []) (lent : IsSoundDev kind old)
+    (before : TablesView) (sound : AreSound before)
+    (inside : TablesBytes (is_inside kind (stores old) old.settings) any_slice before)
+    (ring : IsRing old.settings.servers old.ring.now.points) (j : ℕ) (jk : JobKind) (p : List ℕ) (r : ℕ) where
+  abbrev now : Map
+  now = metadata_now before.kv
+
+  abbrev asked : Asked
+  asked = asked_of kind (between old new) old.settings before (event.Plan j jk p r)
+
+  module _ (after : TablesView) (x : JobView) (none : of_label before.beside.jobs j ≡ None) (plans : Plans before after j jk p r x)
+      (did : IsPlanned kind old new x.target (target_region now x.target) x.value) (own : MaybeBytes (inside_of kind new) any_slice x.value)
+      (reads : jk ≡ Compact → OnlyRead kind (between old new)) where
+    -- the value names no base, where the region has none and no list was spilled
+    value_free : (k : JobKind) → x.target.kind ≡ k → IsUnspilled (load_of_job k) answer.Planned → (P : List Place → Bool)
+        → MaybeBytes P no_slice (target_region now x.target) → MaybeBytes P no_slice x.value
+    value_free Compact is free P h =
+        let none_stored : did.stored ≡ [] = short_none did.stored x.value (did.short (ap (λ k. spills k (end_of (target_region now x.target))) is)) in
+        did.names.is_in P no_slice h (no_lists P (region_facts (target_region now x.target) did.under))
+        (subst (ListSlices P no_slice) (sym none_stored) tt)
+    value_free Spill is free P h = absurd (true≢false free)
+
+    free_bytes : IsUnspilled (load_of_job jk) answer.Planned → (P : List Place → Bool) → TablesBytes P no_slice before → TablesBytes P no_slice after
+    free_bytes free P h =
+        plan_bytes P no_slice before after j sound jk p r x none plans h
+        (value_free jk plans.job.kind_is free P (region_bytes P no_slice now x.target (now_bytes P no_slice before h)))
+
+    added : (k : JobKind) → jk ≡ k → AddsBytes kind (between old new) old.settings (load_of_job k) answer.Planned
+    added Compact is = none_added kind (between old new) old.settings answer.Planned (reads is).lengths
+    added Spill is = ⊎_elim
+        (λ some. inr ((did.written some).own, list_added old new x.target did.stored (λ place. ⊤) tt (did.written some)))
+        (λ empty. inl (did.unwritten empty).lengths)
+        (cases_Bool (spills x.target.kind (end_of (target_region now x.target))))
+
+    -- the list goes where the region's first byte does
+    goes_there : asked.goes_to (place_in old x.target.inode (x.target.region * old.settings.region))
+    goes_there = (
+      old,
+      new,
+      lent_to old new ring,
+      (x.target.inode, plans.job.leads, ap (λ n. place_in old x.target.inode (n * old.settings.region)) plans.job.region),
+    )
+
+    placed : (k : JobKind) → jk ≡ k → IsPlaced kind (between old new) old.settings (record asked { given = load_of_job k }) answer.Planned
+    placed Compact is = none_placed kind (between old new) old.settings (record asked { given = no_load }) answer.Planned refl
+    placed Spill is = λ same. ⊎_elim
+        (λ some. inr (
+          λ empty. none_empty empty.0 empty.1 empty.2 (plans.job.kind_is ∙ is) some,
+          ((did.written some).own, list_added old new x.target did.stored asked.goes_to goes_there (did.written some)),
+        ))
+        (λ empty. inl (
+          (
+            x.target.inode,
+            plans.job.leads,
+            ap (λ n. end_of (region_at now x.target.inode n)) (sym plans.job.region) ∙ ends (plans.job.kind_is ∙ is) empty,
+          ),
+          (did.unwritten empty).lengths,
+        ))
+        (cases_Bool (spills x.target.kind (end_of (target_region now x.target))))
+      where
+        ends : x.target.kind ≡ Spill → spills x.target.kind (end_of (target_region now x.target)) ≡ false → end_of (target_region now x.target) ≡ 0
+        ends spill empty =
+            let none_there : nat_lt 0 (end_of (target_region now x.target)) ≡ false
+            = sym (ap (λ k. spills k (end_of (target_region now x.target))) spill) ∙ empty in
+            let le = ltb-false 0 (end_of (target_region now x.target)) none_there in
+            omega (arith, le)
+
+        none_empty : (i : InodeId) → LeadsTo now p i → end_of (region_at now i r) ≡ 0 → x.target.kind ≡ Spill
+            → spills x.target.kind (end_of (target_region now x.target)) ≡ true → ⊥
+        none_empty i leads zero spill some =
+            let one : i ≡ x.target.inode = one_leads (now (Path p)) i x.target.inode leads plans.job.leads in
+            let there : nat_lt 0 (end_of (target_region now x.target)) ≡ true
+            = sym (ap (λ k. spills k (end_of (target_region now x.target))) spill) ∙ some in
+            let end : end_of (region_at now i r) ≡ end_of (target_region now x.target)
+            = ap (λ k. end_of (region_at now k r)) one ∙ ap (λ n. end_of (region_at now x.target.inode n)) (sym plans.job.region) in
+            let more = ltb-true 0 (end_of (target_region now x.target)) there in
+            omega (arith, more, end, zero)
+
+    pub plan_serves : ServesLine kind (between old new) old.settings before after (event.Plan j jk p r) answer.Planned
+    plan_serves = record {
+      inside = plan_bytes (is_inside kind (stores new) old.settings) any_slice before after j sound jk p r x none plans
+          (later laws old new goes lent before sound inside)
+          (subst (λ (st : Settings). MaybeBytes (is_inside kind (stores new) st) any_slice x.value) goes.settings own);
+      bare = λ free h. free_bytes free any_byte h;
+      full = λ free h. free_bytes free (has_copies old.settings.replicas) h;
+      adds = added jk refl;
+      caused = plain_caused kind (between old new) old.settings ⊥ (AreBased before) (AreFull old.settings before) (load_of_job jk) answer.Planned tt;
+      placed = placed jk refl;
+      failed = plain_failed asked.fails answer.Planned tt;
+    }
+
+    abbrev This : ListFact → Type 0
+    This = AddsThisList kind (between old new) old.settings asked.goes_to
+
+    -- the list that was stored is the job's
+    pub plan_stores : StoresJob kind (between old new) old.settings (before, after) j asked.goes_to
+    plan_stores = record {
+      job = x;
+      there = plans.keeps.jobs.is;
+      made = made_of kind old new x.target (target_region now x.target) x.value did;
+      written = ⊎_elim
+          (λ some. subst (All This) (sym (did.written some).one) (All-cons This (did.written some).own []
+          (list_added old new x.target did.stored asked.goes_to goes_there (did.written some)) (All-nil This)))
+          (λ empty. subst (All This) (sym (short_none did.stored x.value (did.short empty))) (All-nil This))
+          (cases_Bool (spills x.target.kind (end_of (target_region now x.target))));
+    }
+
+  -- ---- one that failed, of the file to which the path leads
+  module _ (i : InodeId) (leads : LeadsTo now p i) (why : Fault) (a : Answer) (is : fault_answer why ≡ Some a)
+      (fails : IsPlanFault kind old new jk (region_at now i r) why) where
+    region_in : (P : List Place → Bool) (Q : Slice → Bool) → TablesBytes P Q before → MaybeBytes P Q (region_at now i r)
+    region_in P Q h = region_of_bytes P Q (now (Region i r)) (now_bytes P Q before h (Region i r))
+
+    -- the machine allows it, where a plan is due
+    write_may : (w : Fault) → fault_answer w ≡ Some a → LacksServers kind old new (spills jk (end_of (region_at now i r))) w
+        → MayFailPlan old.settings.servers jk answer.Planned a
+    write_may fault.Write same lacks = by jk lacks.spilled
+      where
+        by : (k : JobKind) → spills k (end_of (region_at now i r)) ≡ true → MayFailPlan old.settings.servers k answer.Planned a
+        by Compact bad = absurd (true≢false (sym bad))
+        by Spill good = subst (λ (b : Answer). MayFailPlan old.settings.servers Spill answer.Planned b) (let e : answer.FaultWrite ≡ a = cc in e) (inr tt)
+    write_may (fault.Read k) same lacks = absurd lacks.out
+    write_may (fault.Punch k) same lacks = absurd lacks.out
+    write_may (fault.Damaged k) same lacks = absurd lacks.out
+    write_may fault.Memory same lacks = absurd (memory_none fault.Memory a same refl)
+
+    read_may : (w : Fault) → fault_answer w ≡ Some a → IsOfServers old.settings.servers w → MayFailPlan old.settings.servers jk answer.Planned a
+    read_may (fault.Read k) same known =
+        subst (λ (b : Answer). MayFailPlan old.settings.servers jk answer.Planned b) (let e : answer.FaultRead k.0 ≡ a = cc in e) (inl known)
+    read_may (fault.Damaged k) same known =
+        subst (λ (b : Answer). MayFailPlan old.settings.servers jk answer.Planned b) (let e : answer.Damaged k.0 ≡ a = cc in e) (inl known)
+    read_may fault.Memory same known = absurd (memory_none fault.Memory a same refl)
+    read_may fault.Write same known = absurd known
+    read_may (fault.Punch k) same known = absurd known
+
+    pub plan_may : MayFailPlan old.settings.servers jk answer.Planned a
+    plan_may = by fails
+      where
+        by : IsPlanFault kind old new jk (region_at now i r) why → MayFailPlan old.settings.servers jk answer.Planned a
+        by (inl memory) = absurd (memory_none why a is memory)
+        by (inr (inl lacks)) = read_may why is
+            (region_fault_known kind old new (region_at now i r) why lent (region_in (inside_of kind old) any_slice inside) lacks.cause)
+        by (inr (inr lacks)) = write_may why is lacks
+
+    -- Why it failed. Each byte has as many copies as there are replicas where `full` holds, and O then holds of each base.
+    module _ (full : Type 0) (O : Slice → Bool) (copies : full → TablesBytes (has_copies old.settings.replicas) O before) where
+      -- too few servers took the list
+      write_caused : (w : Fault) → fault_answer w ≡ Some a → LacksServers kind old new (spills jk (end_of (region_at now i r))) w
+          → HasCause kind (between old new) old.settings ⊥ (AreBased before) full (load_of_job jk) a
+      write_caused fault.Write same lacks =
+          let few : AreTooFew kind (between old new) old.settings.servers old.settings.replicas =
+          subst (λ (st : Settings). AreTooFew kind (between old new) st.servers st.replicas) lacks.goes.settings
+          (few_since laws old lacks.mid new lacks.goes lacks.mid.settings.servers lacks.mid.settings.replicas lacks.out) in
+          subst (λ (b : Answer). HasCause kind (between old new) old.settings ⊥ (AreBased before) full (load_of_job jk) b)
+          (let e : answer.FaultWrite ≡ a = cc in e) (by jk lacks.spilled, few)
+        where
+          by : (k : JobKind) → spills k (end_of (region_at now i r)) ≡ true → HasToStore (load_of_job k)
+          by Compact bad = absurd (true≢false (sym bad))
+          by Spill good = tt
+      write_caused (fault.Read k) same lacks = absurd lacks.out
+      write_caused (fault.Punch k) same lacks = absurd lacks.out
+      write_caused (fault.Damaged k) same lacks = absurd lacks.out
+      write_caused fault.Memory same lacks = absurd (memory_none fault.Memory a same refl)
+
+      pub plan_by : HasCause kind (between old new) old.settings ⊥ (AreBased before) full (load_of_job jk) a
+      plan_by = by fails
+        where
+          by : IsPlanFault kind old new jk (region_at now i r) why
+              → HasCause kind (between old new) old.settings ⊥ (AreBased before) full (load_of_job jk) a
+          by (inl memory) = absurd (memory_none why a is memory)
+          by (inr (inl lacks)) = cause_more kind (between old new) old.settings (AreBased before) full (load_of_job jk) a
+              (region_caused kind old new lent (AreBased before) full O why a is (region_at now i r) any_byte
+              (region_in (inside_of kind old) any_slice inside) (λ Q h. region_in any_byte Q h)
+              (λ h. region_in (has_copies old.settings.replicas) O (copies h)) lacks.cause)
+          by (inr (inr lacks)) = write_caused why is lacks
+
+    -- the stores kept their lengths, unless the fault is one of writing
+    left : (k : JobKind) → jk ≡ k → (w : Fault) → fault_answer w ≡ Some a → IsPlanFault kind old new jk (region_at now i r) w
+        → AddsBytes kind (between old new) old.settings (load_of_job k) a
+    left k same w e (inl memory) = absurd (memory_none w a e memory)
+    left k same w e (inr (inl lacks)) = all_added k a lacks.reads
+      where
+        all_added : (q : JobKind) (b : Answer) → OnlyRead kind (between old new) → AddsBytes kind (between old new) old.settings (load_of_job q) b
+        all_added Compact b reads = none_added kind (between old new) old.settings b reads.lengths
+        all_added Spill answer.FaultWrite reads = tt
+        all_added Spill answer.Planned reads = inl reads.lengths
+        all_added Spill b reads = reads.lengths
+    left k same fault.Write e (inr (inr lacks)) =
+        subst (λ (b : Answer). AddsBytes kind (between old new) old.settings (load_of_job k) b) (let f : answer.FaultWrite ≡ a = cc in f) (by k)
+      where
+        by : (q : JobKind) → AddsBytes kind (between old new) old.settings (load_of_job q) answer.FaultWrite
+        by Compact = tt
+        by Spill = tt
+    left k same (fault.Read s) e (inr (inr lacks)) = absurd lacks.out
+    left k same (fault.Punch s) e (inr (inr lacks)) = absurd lacks.out
+    left k same (fault.Damaged s) e (inr (inr lacks)) = absurd lacks.out
+    left k same fault.Memory e (inr (inr lacks)) = absurd (memory_none fault.Memory a e refl)
+
+    pub plan_fails : ServesLine kind (between old new) old.settings before before (event.Plan j jk p r) a
+    plan_fails = record {
+      inside = later laws old new goes lent before sound inside;
+      bare = λ free h. h;
+      full = λ free h. h;
+      adds = left jk refl why is fails;
+      caused = plan_by (AreFull old.settings before) no_slice (λ h. h);
+      placed = fault_placed kind (between old new) old.settings asked why a is;
+      failed = has_failed asked.fails why a is (old, new, lent_to old new ring, record { inode = i; leads = leads; cause = fails });
+    }
+
+  -- ---- one that is refused reads nothing
+  pub plan_refused : (a : Answer) (w : Word) → a ≡ answer.Refused w → OnlyRead kind (between old new)
+      → ServesLine kind (between old new) old.settings before before (event.Plan j jk p r) a
+  plan_refused a w is reads = subst (λ (b : Answer). ServesLine kind (between old new) old.settings before before (event.Plan j jk p r) b) (sym is) (record {
+    inside = later laws old new goes lent before sound inside;
+    bare = λ free h. h;
+    full = λ free h. h;
+    adds = refused_adds kind (between old new) old.settings (load_of_job jk) (answer.Refused w) tt reads.lengths;
+    caused = plain_caused kind (between old new) old.settings ⊥ (AreBased before) (AreFull old.settings before) (load_of_job jk) (answer.Refused w) tt;
+    placed = refused_placed kind (between old new) old.settings asked (answer.Refused w) tt;
+    failed = plain_failed asked.fails (answer.Refused w) tt;
+  })

@@ -1,0 +1,107 @@
+-- What others see of a job that was put: the bytes of its file stand elsewhere. And why a job is stale.
+use Rattle.std.proofs.Common.{◌≡◌, ℕ, suc, true, List, [], ◌∷◌, ◌++◌, Option, None, Some, refl, sym, ap, ◌∙◌, subst, inl, ⊎_elim, arith}
+use Rattle.std.proofs.lemmas.Bool.{both_ways}
+use Rattle.wtf_base.specs.declared.ids.InodeId.{InodeId}
+use Rattle.wtf_kv.specs.Stores.{Store}
+use Rattle.wtf_model.specs.declared.answer.Answer.TheVariants as answer
+use Rattle.wtf_model.specs.declared.item.Item.{Item}
+use Rattle.wtf_model.specs.declared.item.Item.TheVariants.{NodeOf, BodyOf}
+use Rattle.wtf_model.specs.Items.{meets, source_reads}
+use Rattle.wtf_model.specs.Tree.{Tree}
+use Rattle.wtf_model.proofs.ItemLaws.{is_among-head, is_among-tail, meets-by}
+use Rattle.wtf_values.specs.declared.key.Key.{Key}
+use Rattle.wtf_values.specs.declared.key.Key.TheVariants.{Path, Inode, Region}
+use Rattle.wtf_values.specs.declared.region.RegionValue.{RegionValue}
+use Rattle.wtf_values.specs.declared.value.Value.{Value}
+use Rattle.wtf_meta.specs.Contents.{Told}
+use Rattle.wtf_meta.specs.Feet.{Has, WrittenBy, EachWritten, ReadBy, Feet}
+use Rattle.wtf_meta.specs.FileEdits.{edits_of}
+use Rattle.wtf_meta.specs.Maps.{Map, AllFit, with, metadata_at}
+use Rattle.wtf_meta.specs.Trees.{LeadsTo, Own, Stands}
+use Rattle.wtf_meta.proofs.FeetFiles.{edits_are_of, paths_kept}
+use Rattle.wtf_meta.proofs.FeetLaws.{unfit-none}
+use Rattle.wtf_compact.specs.Jobs.{JobView, puts, job_edits}
+use Rattle.wtf_compact.specs.Putting.{IsPut, IsStale}
+use Rattle.wtf_clients.specs.Views.{metadata_now}
+use Rattle.wtf_clients.specs.Touched.{above, SinceBase}
+use Rattle.wtf_clients.proofs.AboveLaws.{above-version}
+use Rattle.wtf_clients.proofs.SinceLaws.{TouchedSince, touched_installed, since_installed}
+use Rattle.wtf_clients.proofs.TouchLaws.{HasNone}
+
+-- ---- what a put does to a map
+
+module _ (i : InodeId) (r : ℕ) where
+  -- it always finds room
+  put_fits : (value : Option RegionValue) (m : Map) → AllFit (edits_of i (puts r value)) m
+  put_fits None m = refl
+  put_fits (Some x) m = refl
+
+  -- no inode comes or goes
+  inode_same : (value : Option RegionValue) (w : Map) (k : InodeId) → with (edits_of i (puts r value)) w (Inode k) ≡ w (Inode k)
+  inode_same None w k = refl
+  inode_same (Some x) w k = refl
+
+  pub put_own : (other : ℕ) (value : Option RegionValue) (w : Map) → Own other w (with (edits_of i (puts r value)) w)
+  put_own other value w k mine none = inode_same value w k ∙ none
+
+  -- the region's key alone is written, of a file that one path leads to
+  put_written : (value : Option RegionValue) (w : Map) (W : List Item) → WrittenBy w W (Region i r) → EachWritten w W (edits_of i (puts r value))
+  put_written None w W written = tt
+  put_written (Some x) w W written = (written, tt)
+
+-- the footprint of a put, which records nothing that others have
+pub put_feet : (other : ℕ) (w : Map) (x : JobView) → ((q : List ℕ) → LeadsTo w q x.target.inode → q ≡ x.path)
+    → Feet other w [] (job_edits x) [] (BodyOf x.path ∷ [])
+put_feet other w x one =
+    let same : (p : List ℕ) → with (job_edits x) w (Path p) ≡ w (Path p) = λ p.
+    paths_kept x.target.inode (job_edits x) w p (edits_are_of x.target.inode (puts x.target.region x.value)) in
+    record {
+      read = tt;
+      unfit = unfit-none (job_edits x) (ReadBy other w []) (put_fits x.target.inode x.target.region x.value);
+      written = put_written x.target.inode x.target.region x.value w (BodyOf x.path ∷ [])
+          (λ q to. subst (λ (p : List ℕ). Has (BodyOf p) (BodyOf x.path ∷ [])) (sym (one q to)) (is_among-head (BodyOf x.path) []));
+      comes = λ p i to. inl (sym (same p) ∙ to);
+      stays = λ q i to. inl (same q ∙ to);
+    }
+
+-- ---- what was touched, once a job is in place
+
+module _ (x : JobView) (old new : Store Key Value) (n : ℕ) (put : IsPut x old new (answer.Installed n)) (one : (q : List ℕ) →
+    LeadsTo (metadata_now old) q x.target.inode → q ≡ x.path) where
+  pub put_map : metadata_now new ≡ with (job_edits x) (metadata_now old)
+  put_map = ap (metadata_at new) put.number ∙ put.map
+
+  -- where the map stood for a tree before and does after
+  module _ (size : ℕ) (told later : Told) (t : Tree) (tx : ℕ) (was : Stands size told tx 0 (metadata_now old) t)
+      (is : Stands size later tx 0 (metadata_now new) t) where
+    put_regions : HasNone (with (job_edits x) (metadata_now old))
+    put_regions = subst HasNone put_map is.regions
+
+    pub put_touched : (base : ℕ) (items : List Item) → metadata_at new base ≡ metadata_at old base → TouchedSince old base items
+        → TouchedSince new base (items ++ BodyOf x.path ∷ [])
+    put_touched base items at since =
+        touched_installed (suc tx) old new [] (job_edits x) n [] (BodyOf x.path ∷ []) (put_feet (suc tx) (metadata_now old) x one)
+        (put_own x.target.inode x.target.region (suc tx) x.value (metadata_now old)) was.regions put_regions put_map put.versions base items at since
+
+    pub put_since : (base : ℕ) (items : List Item) → metadata_at new base ≡ metadata_at old base → SinceBase old tx base items
+        → SinceBase new tx base (items ++ BodyOf x.path ∷ [])
+    put_since base items at since =
+        since_installed (suc tx) old new [] (job_edits x) n [] (BodyOf x.path ∷ []) (put_feet (suc tx) (metadata_now old) x one)
+        (put_own x.target.inode x.target.region (suc tx) x.value (metadata_now old)) was.regions put_regions put_map put.versions tx base items
+        (λ e. absurd (omega (arith, e))) at since
+
+-- ---- the cause of a stale job
+
+-- what stands at its path, or the bytes there, were touched
+pub stale_met : (x : JobView) (old new : Store Key Value) (b n : ℕ) (items : List Item) → IsStale x old new b n
+    → LeadsTo (metadata_at old x.base) x.path x.target.inode → TouchedSince old x.base items → meets items (source_reads x.path) ≡ true
+stale_met x old new b n items stale leads touched = ⊎_elim
+    (λ path. meets-by items (source_reads x.path) (NodeOf x.path)
+    (touched.nodes x.path (above-version old x.base old.number (Path x.path) path)) (is_among-head (NodeOf x.path) (BodyOf x.path ∷ [])))
+    (λ region. ⊎_elim
+    (λ was. meets-by items (source_reads x.path) (BodyOf x.path) was
+    (is_among-tail (NodeOf x.path) (BodyOf x.path ∷ []) (BodyOf x.path) (is_among-head (BodyOf x.path) [])))
+    (λ still. absurd (both_ways (above old x.base (Region x.target.inode x.target.region)) (still.1.regions x.target.region)
+    (above-version old x.base old.number (Region x.target.inode x.target.region) region)))
+    (touched.bodies x.path x.target.inode leads))
+    stale.moved

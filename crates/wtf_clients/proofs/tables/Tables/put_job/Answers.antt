@@ -1,0 +1,84 @@
+use Rattle.std.proofs.Common.{◌≡◌, None, Some, set, refl, sym, ap, ◌∙◌, subst}
+use Rattle.wtf_kv.specs.Stores.{times_pinned}
+use Rattle.wtf_meta.specs.Maps.{metadata_at}
+use Rattle.wtf_clients.specs.Views.{TablesView, of_label, with_jobs}
+use Rattle.wtf_clients.specs.Sounds.{AreSound, IsAlike}
+use Rattle.wtf_clients.specs.JobTurns.{Puts, PutTurn}
+use Rattle.wtf_clients.proofs.JobMaking.{given_back, none_taken, keeps_others, none_put, put_turn}
+use Rattle.wtf_clients.proofs.JobPins.{job_pinned}
+use Rattle.wtf_clients.proofs.Lists.{sets_same}
+use Rattle.wtf_clients.proofs.Staying.{stays_sound}
+use Rattle.wtf_clients.proofs.tables.Tables.put_job.Goals as goal
+
+-- the base of the job is pinned
+pub put-requires-clause-pinned : goal.put-requires-clause-pinned
+put-requires-clause-pinned c =
+    let at = c.self.inside in
+    let old : TablesView = record { kv = at.kv; next_tx = at.next_tx; clients = at.clients.entries; beside = at.beside } in
+    let sound : AreSound old = subst (λ t. AreSound t) (sym c.self.view_is) c.requires.sound in
+    job_pinned old c.args.j c.in-Some.job sound (sym c.take_job.ensures.job ∙ c.in-Some.is)
+
+pub returns-in_default-clause-turn : goal.returns-in_default-clause-turn
+returns-in_default-clause-turn c =
+    let at = c.self.inside in
+    let old : TablesView = record { kv = at.kv; next_tx = at.next_tx; clients = at.clients.entries; beside = at.beside } in
+    let new : TablesView = record { kv = at.kv; next_tx = at.next_tx; clients = at.clients.entries; beside = c.take_job.new.self } in
+    let none : of_label old.beside.jobs c.args.j ≡ None = sym c.take_job.ensures.job ∙ c.in_default.is in
+    subst (λ (t : TablesView). PutTurn t new c.args.j _) c.self.view_is
+    (none_put old new c.args.j none (ap (λ b. record old { beside = b }) (none_taken at.beside c.take_job.new.self c.args.j none c.take_job.ensures.is)))
+
+pub returns-in-Ok-clause-turn : goal.returns-in-Ok-clause-turn
+returns-in-Ok-clause-turn c =
+    let at = c.self.inside in
+    let old : TablesView = record { kv = at.kv; next_tx = at.next_tx; clients = at.clients.entries; beside = at.beside } in
+    let new : TablesView = record { kv = c.put.new.kv; next_tx = at.next_tx; clients = at.clients.entries; beside = c.take_job.new.self } in
+    let x = c.in-Some.job in
+    let there : of_label old.beside.jobs c.args.j ≡ Some x = sym c.take_job.ensures.job ∙ c.in-Some.is in
+    let did = c.in-Ok.ensures in
+    let puts : Puts old new c.args.j x c.in-Ok.answer = record {
+      keeps = keeps_others old new c.args.j None _ c.take_job.ensures.sets c.take_job.ensures.is refl refl;
+      put = did.put;
+      maps = did.maps;
+      unpinned = did.once;
+    } in
+    subst (λ (t : TablesView). PutTurn t new c.args.j c.in-Ok.answer) c.self.view_is (put_turn old new c.args.j x c.in-Ok.answer there puts)
+
+-- want of memory gives the job back
+pub returns-in-Err-Memory-clause-err : goal.returns-in-Err-Memory-clause-err
+returns-in-Err-Memory-clause-err c =
+    let at = c.self.inside in
+    let old : TablesView = record { kv = at.kv; next_tx = at.next_tx; clients = at.clients.entries; beside = at.beside } in
+    let there : of_label old.beside.jobs c.args.j ≡ Some c.in-Some.job = sym c.take_job.ensures.job ∙ c.in-Some.is in
+    let kept = c.in-Err-Memory.ensures.err in
+    let back : c.set_job.new.self ≡ with_jobs c.take_job.new.self (set c.take_job.new.self.jobs c.args.j (Some c.in-Some.job)) =
+    rw c.in-Err-Memory.ensures.whole at c.set_job.ensures.is in
+    subst (λ (t : TablesView). IsAlike t
+    (record { kv = c.put.new.kv; next_tx = at.next_tx; clients = at.clients.entries; beside = c.set_job.new.self })) c.self.view_is (record {
+      clients = refl;
+      number = kept.same.number;
+      map = ap (metadata_at c.put.new.kv) kept.same.number ∙ kept.maps at.kv.number;
+      versions = kept.same.versions;
+      pins = λ n. ap (λ l. times_pinned (record at.kv { pins = l }) n) kept.same.pins;
+      next_tx = refl;
+      beside = given_back at.beside c.take_job.new.self c.set_job.new.self c.args.j c.in-Some.job there c.take_job.ensures.is back;
+    })
+
+pub returns-in-Err-Memory-clause-err_sound : goal.returns-in-Err-Memory-clause-err_sound
+returns-in-Err-Memory-clause-err_sound c =
+    let at = c.self.inside in
+    let old : TablesView = record { kv = at.kv; next_tx = at.next_tx; clients = at.clients.entries; beside = at.beside } in
+    let new : TablesView = record { kv = c.put.new.kv; next_tx = at.next_tx; clients = at.clients.entries; beside = c.set_job.new.self } in
+    let sound : AreSound old = subst (λ t. AreSound t) (sym c.self.view_is) c.requires.sound in
+    let there : of_label old.beside.jobs c.args.j ≡ Some c.in-Some.job = sym c.take_job.ensures.job ∙ c.in-Some.is in
+    let kept = c.in-Err-Memory.ensures.err in
+    let back : c.set_job.new.self ≡ with_jobs c.take_job.new.self (set c.take_job.new.self.jobs c.args.j (Some c.in-Some.job)) =
+    rw c.in-Err-Memory.ensures.whole at c.set_job.ensures.is in
+    stays_sound old new 0 sound (record {
+      clients = sets_same 0 old.clients new.clients refl;
+      number = kept.same.number;
+      maps = λ n le. kept.maps n;
+      versions = kept.same.versions;
+      pins = λ n. ap (λ l. times_pinned (record at.kv { pins = l }) n) kept.same.pins;
+      next_tx = refl;
+      beside = given_back at.beside c.take_job.new.self c.set_job.new.self c.args.j c.in-Some.job there c.take_job.ensures.is back;
+    })
