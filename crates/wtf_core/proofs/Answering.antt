@@ -1,5 +1,6 @@
 -- What answers come of lines, and which servers are down after them.
-use Rattle.std.proofs.Common.{◌≡◌, ◌⊎◌, ◌↔◌, ℕ, ◌==◌, Bool, true, false, nat_lt, if◌then◌else◌, List, [], Option, None, Some, MatchOption, refl, sym, ap, ◌∙◌, subst, ⊎_elim, inl, inr, true≢false, ne_eqb, eq-eqb}
+use Rattle.std.proofs.Common.{◌≡◌, ◌⊎◌, ◌↔◌, ℕ, ◌==◌, Bool, true, false, nat_lt, if◌then◌else◌, List, Option, None, Some, MatchOption, refl, sym, ap, ◌∙◌}
+use Rattle.std.proofs.Common.{subst, ⊎_elim, inl, inr, true≢false, ne_eqb, eq-eqb}
 use Rattle.std.specs.Bool.{MatchBool}
 use Rattle.wtf_base.specs.declared.settings.Settings.{Settings}
 use Rattle.wtf_dev.specs.Store.{StoreKind}
@@ -8,7 +9,8 @@ use Rattle.wtf_replica.specs.Spans.{span}
 use Rattle.wtf_model.specs.declared.answer.Answer.{Answer, Aborted'}
 use Rattle.wtf_model.specs.declared.answer.Answer.TheVariants as answer
 use Rattle.wtf_model.specs.declared.answer.Word.{Word}
-use Rattle.wtf_model.specs.declared.answer.Word.TheVariants.{InTx, NoTx, NoServer}
+use Rattle.wtf_model.specs.declared.answer.Word.TheVariants.{InTx, NoTx, NoServer, NoJob, JobInUse}
+use Rattle.wtf_model.specs.declared.op.JobKind.{JobKind}
 use Rattle.wtf_model.specs.declared.op.Op.{Op}
 use Rattle.wtf_model.specs.declared.event.Event.{Event}
 use Rattle.wtf_model.specs.declared.event.Event.TheVariants as event
@@ -23,14 +25,17 @@ use Rattle.wtf_region.proofs.ShowLaws.{reads_nothing}
 use Rattle.wtf_region.specs.Cached.{Remembered}
 use Rattle.wtf_replay.specs.Views.{TxnView}
 use Rattle.wtf_replay.specs.Refusals.{call_refusal, try_refusal, step_refusal}
-use Rattle.wtf_clients.specs.Views.{TablesView, of_client}
+use Rattle.wtf_compact.specs.Jobs.{JobView}
+use Rattle.wtf_compact.specs.Putting.{IsPut}
+use Rattle.wtf_clients.specs.Views.{TablesView, of_client, of_label}
+use Rattle.wtf_clients.specs.JobTurns.{RefusesJob, FreePlan, PlanTurn, Puts, PutTurn, DropsJob, DropTurn}
 use Rattle.wtf_core.specs.Views.{CoreView}
 use Rattle.wtf_model.specs.Built.{is_built}
 use Rattle.wtf_clients.specs.Saves.{AreUp, SaveTurn}
 use Rattle.wtf_clients.specs.Named.{TablesBytes, any_byte, no_slice, has_copies}
-use Rattle.wtf_clients.specs.Outcomes.{AddsBytes, data_of}
+use Rattle.wtf_clients.specs.Outcomes.{Load, no_load, AddsBytes, load_of}
 use Rattle.wtf_clients.specs.Asked.{asked_of}
-use Rattle.wtf_clients.specs.Serves.{NamesTables, IsPlain, AreBare, AreFull, ServesLine}
+use Rattle.wtf_clients.specs.Serves.{NamesTables, IsPlain, AreBased, AreFull, ServesLine}
 use Rattle.wtf_clients.specs.Turns.{Refuses, Tries, Calls, CallFails, Steps, Finals, LoneTurn, TxnTurn, ClientTurn}
 use Rattle.wtf_core.specs.Turns.{Switches, ServerTurn, IsTreeAnswer, BuiltTurn, LineTurn}
 use Rattle.wtf_clients.proofs.Pins.{number_cases}
@@ -77,7 +82,8 @@ tries_plain old new c x (answer.Retry b n) h = tt
 tries_plain old new c x a h = absurd h
 
 module _ (Telling : Type 0) (lists : Remembered) (servers size : ℕ) (told later : Told) (old new : TablesView) (c : ℕ) where
-  or_refused : (P : Type 0) (Q : Type 0) (a : Answer) (r : Option Word) → (P → Q) → ((w : Word) → Refuses old new c w a → Q) → MatchOption r P (λ w. Refuses old new c w a) → Q
+  or_refused : (P : Type 0) (Q : Type 0) (a : Answer) (r : Option Word) → (P → Q) → ((w : Word) → Refuses old new c w a → Q)
+      → MatchOption r P (λ w. Refuses old new c w a) → Q
   or_refused P Q a None f g h = f h
   or_refused P Q a (Some w) f g h = g w h
 
@@ -145,10 +151,45 @@ module _ (Telling : Type 0) (told : Told × Told) (old new : CoreView) (a : Answ
   exact_of true f g = (λ e. absurd (subst IsBuiltAnswer e (f refl)), λ e. absurd (true≢false e))
   exact_of false f g = (λ e. refl, λ e. g refl)
 
-  client_exact : (c : ℕ) (v : Verb) (b : Bool) → MatchBool b (BuiltTurn Telling told old new (event.Client c v) a) ((a ≡ answer.NotBuilt) × (new ≡ old)) → (a ≡ answer.NotBuilt) ↔ (b ≡ false)
+  client_exact : (c : ℕ) (v : Verb) (b : Bool) → MatchBool b (BuiltTurn Telling told old new (event.Client c v) a) ((a ≡ answer.NotBuilt) × (new ≡ old))
+      → (a ≡ answer.NotBuilt) ↔ (b ≡ false)
   client_exact c v true h = exact_of true (λ e. client_built Telling old.lists old.settings.servers old.settings.region told.0 told.1 old.tables new.tables c
       v a h.0) (λ e. absurd (true≢false e))
   client_exact c v false h = exact_of false (λ e. absurd (true≢false (sym e))) (λ e. h.0)
+
+  -- a job's line
+  plan_built : (kept : Remembered) (servers size : ℕ) (before after : Told) (j : ℕ) (kind : JobKind) (p : List ℕ) (r : ℕ) (b : Answer)
+      → PlanTurn Telling kept servers size before after old.tables new.tables j kind p r b → IsBuiltAnswer b
+  plan_built kept servers size before after j kind p r b h = by (of_label old.tables.beside.jobs j) h
+    where
+      free : (x : Answer) → FreePlan Telling kept servers size before after old.tables new.tables j kind p r x → IsBuiltAnswer x
+      free answer.Planned g = tt
+      free (answer.Refused w) g = tt
+      free x g = fault_built x (fault_is g.why x g.answer)
+
+      by : (o : Option JobView) → MatchOption o (FreePlan Telling kept servers size before after old.tables new.tables j kind p r b)
+          (λ x. RefusesJob old.tables new.tables JobInUse b) → IsBuiltAnswer b
+      by None g = free b g
+      by (Some x) g = subst IsBuiltAnswer (sym g.answer) tt
+
+  put_built : (j : ℕ) → PutTurn old.tables new.tables j a → IsBuiltAnswer a
+  put_built j h = by (of_label old.tables.beside.jobs j) h
+    where
+      is_put : (x : JobView) (b : Answer) → IsPut x old.tables.kv new.tables.kv b → IsBuiltAnswer b
+      is_put x (answer.Installed n) put = tt
+      is_put x (answer.Stale b n) put = tt
+      is_put x b put = absurd put
+
+      by : (o : Option JobView) → MatchOption o (RefusesJob old.tables new.tables NoJob a) (λ x. Puts old.tables new.tables j x a) → IsBuiltAnswer a
+      by None g = subst IsBuiltAnswer (sym g.answer) tt
+      by (Some x) g = is_put x a g.put
+
+  drop_built : (j : ℕ) → DropTurn old.tables new.tables j a → IsBuiltAnswer a
+  drop_built j h = by (of_label old.tables.beside.jobs j) h
+    where
+      by : (o : Option JobView) → MatchOption o (RefusesJob old.tables new.tables NoJob a) (λ x. DropsJob old.tables new.tables j x a) → IsBuiltAnswer a
+      by None g = subst IsBuiltAnswer (sym g.answer) tt
+      by (Some x) g = subst IsBuiltAnswer (sym g.answer) tt
 
   save_built : (b : Answer) → SaveTurn (AreUp old.replicas old.settings.servers) old.tables new.tables b → IsBuiltAnswer b
   save_built answer.NotBuilt h = absurd h
@@ -156,6 +197,10 @@ module _ (Telling : Type 0) (told : Told × Told) (old new : CoreView) (a : Answ
 
   pub line_exact : (e : Event) → LineTurn Telling told old new e a → (a ≡ answer.NotBuilt) ↔ (is_built e ≡ false)
   line_exact (event.Client c v) h = client_exact c v true h
+  line_exact (event.Plan j kind p r) h = exact_of true
+      (λ e. plan_built old.lists old.settings.servers old.settings.region told.0 told.1 j kind p r a h.0) (λ e. absurd (true≢false e))
+  line_exact (event.Put j) h = exact_of true (λ e. put_built j h.0) (λ e. absurd (true≢false e))
+  line_exact (event.DropJob j) h = exact_of true (λ e. drop_built j h.0) (λ e. absurd (true≢false e))
   line_exact (event.Down k) h = exact_of true (λ e. server_built k true (nat_lt k old.settings.servers) h) (λ e. absurd (true≢false e))
   line_exact (event.Up k) h = exact_of true (λ e. server_built k false (nat_lt k old.settings.servers) h) (λ e. absurd (true≢false e))
   line_exact (event.Dump p) h = (λ e. absurd (h.0.built e), λ e. absurd (true≢false e))
@@ -176,20 +221,26 @@ module _ (Telling : Type 0) (told : Told × Told) (old new : CoreView) (a : Answ
       (λ other. h.others j other ∙ sym (ap (λ b. if b then to else is_down old.replicas j) (ne_eqb j k other)))
       (number_cases j k)
 
-  down_line : (k : ℕ) (b : Bool) → MatchBool b (Switches old new k true a) ((a ≡ answer.Refused NoServer) × (new ≡ old)) → (j : ℕ) → is_down new.replicas j ≡ down_after_event (is_down old.replicas) (event.Down k) a j
+  down_line : (k : ℕ) (b : Bool) → MatchBool b (Switches old new k true a) ((a ≡ answer.Refused NoServer) × (new ≡ old)) → (j : ℕ)
+      → is_down new.replicas j ≡ down_after_event (is_down old.replicas) (event.Down k) a j
   down_line k true h j = subst (λ r. is_down new.replicas j ≡ down_after_event (is_down old.replicas) (event.Down k) r j) (sym h.answer) (switched k true h j)
   down_line k false h j = subst (λ r. is_down new.replicas j ≡ down_after_event (is_down old.replicas) (event.Down k) r j) (sym h.0) (same_down h.1 j)
 
-  up_line : (k : ℕ) (b : Bool) → MatchBool b (Switches old new k false a) ((a ≡ answer.Refused NoServer) × (new ≡ old)) → (j : ℕ) → is_down new.replicas j ≡ down_after_event (is_down old.replicas) (event.Up k) a j
+  up_line : (k : ℕ) (b : Bool) → MatchBool b (Switches old new k false a) ((a ≡ answer.Refused NoServer) × (new ≡ old)) → (j : ℕ)
+      → is_down new.replicas j ≡ down_after_event (is_down old.replicas) (event.Up k) a j
   up_line k true h j = subst (λ r. is_down new.replicas j ≡ down_after_event (is_down old.replicas) (event.Up k) r j) (sym h.answer) (switched k false h j)
   up_line k false h j = subst (λ r. is_down new.replicas j ≡ down_after_event (is_down old.replicas) (event.Up k) r j) (sym h.0) (same_down h.1 j)
 
-  client_down : (c : ℕ) (v : Verb) (b : Bool) → MatchBool b (BuiltTurn Telling told old new (event.Client c v) a) ((a ≡ answer.NotBuilt) × (new ≡ old)) → (j : ℕ) → is_down new.replicas j ≡ is_down old.replicas j
+  client_down : (c : ℕ) (v : Verb) (b : Bool) → MatchBool b (BuiltTurn Telling told old new (event.Client c v) a) ((a ≡ answer.NotBuilt) × (new ≡ old))
+      → (j : ℕ) → is_down new.replicas j ≡ is_down old.replicas j
   client_down c v true h j = rest_down new.tables new.lists h.1 j
   client_down c v false h j = same_down h.1 j
 
   pub line_downs : (e : Event) → LineTurn Telling told old new e a → (j : ℕ) → is_down new.replicas j ≡ down_after_event (is_down old.replicas) e a j
   line_downs (event.Client c v) h = client_down c v true h
+  line_downs (event.Plan j kind p r) h = rest_down new.tables new.lists h.1
+  line_downs (event.Put j) h = rest_down new.tables old.lists h.1
+  line_downs (event.DropJob j) h = rest_down new.tables old.lists h.1
   line_downs (event.Down k) h = down_line k (nat_lt k old.settings.servers) h
   line_downs (event.Up k) h = up_line k (nat_lt k old.settings.servers) h
   line_downs (event.Dump p) h = rest_down new.tables new.lists h.1
@@ -198,36 +249,57 @@ module _ (Telling : Type 0) (told : Told × Told) (old new : CoreView) (a : Answ
   line_downs e h = same_down h.1
 
 -- ---- lines that were lent no store
--- what is not built hands in no bytes
-pub data_none : (e : Event) → is_built e ≡ false → data_of e ≡ []
-data_none (event.Client c v) h = absurd (true≢false h)
-data_none e h = refl
+
+-- a put, and a drop, are answered by no fault
+pub put_plain : (old new : TablesView) (j : ℕ) (a : Answer) → PutTurn old new j a → IsPlain a
+put_plain old new j a h = by (of_label old.beside.jobs j) h
+  where
+    is_put : (x : JobView) (b : Answer) → IsPut x old.kv new.kv b → IsPlain b
+    is_put x (answer.Installed n) put = tt
+    is_put x (answer.Stale b n) put = tt
+    is_put x b put = absurd put
+
+    by : (o : Option JobView) → MatchOption o (RefusesJob old new NoJob a) (λ x. Puts old new j x a) → IsPlain a
+    by None g = subst IsPlain (sym g.answer) tt
+    by (Some x) g = is_put x a g.put
+
+pub drop_plain : (old new : TablesView) (j : ℕ) (a : Answer) → DropTurn old new j a → IsPlain a
+drop_plain old new j a h = by (of_label old.beside.jobs j) h
+  where
+    by : (o : Option JobView) → MatchOption o (RefusesJob old new NoJob a) (λ x. DropsJob old new j x a) → IsPlain a
+    by None g = subst IsPlain (sym g.answer) tt
+    by (Some x) g = subst IsPlain (sym g.answer) tt
+
+-- nor is a server that goes down, or comes up, which leaves the tables
+pub server_plain : (old new : CoreView) (k : ℕ) (to b : Bool) (a : Answer)
+    → MatchBool b (Switches old new k to a) ((a ≡ answer.Refused NoServer) × (new ≡ old))
+    → IsPlain a × (new.tables ≡ old.tables)
+server_plain old new k to true a h = (subst IsPlain (sym h.answer) tt, ap (λ (core : CoreView). core.tables) h.rest)
+server_plain old new k to false a h = (subst IsPlain (sym h.0) tt, ap (λ (core : CoreView). core.tables) h.1)
 
 module _ {S : Type 0} (kind : StoreKind S) (down : ℕ → Bool) (shelf : List S) (settings : Settings) where
   pub still_serves : (old new : TablesView) (e : Event) (a : Answer) → TablesBytes (is_inside kind shelf settings) any_slice old → NamesTables old new →
-      data_of e ≡ [] → IsPlain a → ServesLine kind (span down shelf shelf) settings old new e a
+      load_of e ≡ no_load → IsPlain a → ServesLine kind (span down shelf shelf) settings old new e a
   still_serves old new e a inside names none plain = record {
     inside = names (is_inside kind shelf settings) any_slice refl inside;
-    bare = names any_byte no_slice refl;
-    full = names (has_copies settings.replicas) no_slice refl;
-    adds = subst (λ (l : List ℕ). AddsBytes kind (span down shelf shelf) settings l a) (sym none) (none_added kind (span down shelf shelf) settings a (reads_nothing kind down shelf).lengths);
-    caused = plain_caused kind (span down shelf shelf) settings ⊥ (AreBare old) (AreFull settings old) (data_of e) a plain;
+    bare = λ free. names any_byte no_slice refl;
+    full = λ free. names (has_copies settings.replicas) no_slice refl;
+    adds = subst (λ (l : Load). AddsBytes kind (span down shelf shelf) settings l a) (sym none)
+        (none_added kind (span down shelf shelf) settings a (reads_nothing kind down shelf).lengths);
+    caused = plain_caused kind (span down shelf shelf) settings ⊥ (AreBased old) (AreFull settings old) (load_of e) a plain;
     placed = none_placed kind (span down shelf shelf) settings (asked_of kind (span down shelf shelf) settings old e) a none;
     failed = plain_failed (asked_of kind (span down shelf shelf) settings old e).fails a plain;
   }
 
-  pub same_serves : (old new : TablesView) (e : Event) (a : Answer) → TablesBytes (is_inside kind shelf settings) any_slice old → new ≡ old → data_of e ≡ [] →
+  pub same_serves : (old new : TablesView) (e : Event) (a : Answer) → TablesBytes (is_inside kind shelf settings) any_slice old → new ≡ old
+      → load_of e ≡ no_load →
       IsPlain a → ServesLine kind (span down shelf shelf) settings old new e a
   same_serves old new e a inside same none plain =
       subst (λ (t : TablesView). ServesLine kind (span down shelf shelf) settings old t e a) (sym same)
       (still_serves old old e a inside (λ P Q hole h. h) none plain)
 
-  server_plain : (old new : CoreView) (k : ℕ) (to b : Bool) (a : Answer) → MatchBool b (Switches old new k to a) ((a ≡ answer.Refused NoServer) × (new ≡ old)) → IsPlain a × (new.tables ≡ old.tables)
-  server_plain old new k to true a h = (subst IsPlain (sym h.answer) tt, ap (λ (core : CoreView). core.tables) h.rest)
-  server_plain old new k to false a h = (subst IsPlain (sym h.0) tt, ap (λ (core : CoreView). core.tables) h.1)
-
   pub server_serves : (old new : CoreView) (k : ℕ) (to : Bool) (e : Event) (a : Answer) → TablesBytes (is_inside kind shelf settings) any_slice old.tables →
-      data_of e ≡ [] → ServerTurn old new k to a → ServesLine kind (span down shelf shelf) settings old.tables new.tables e a
+      load_of e ≡ no_load → ServerTurn old new k to a → ServesLine kind (span down shelf shelf) settings old.tables new.tables e a
   server_serves old new k to e a inside none turn =
       let both = server_plain old new k to (nat_lt k old.settings.servers) a turn in
       same_serves old.tables new.tables e a inside both.1 none both.0

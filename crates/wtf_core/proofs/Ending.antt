@@ -1,6 +1,7 @@
 -- Attempts, replayed steps, commits and ends keep what the tables stand for.
 -- NSDI 2016, sections 2.6 and 2.7.
-use Rattle.std.proofs.Common.{◌≡◌, ◌≢◌, suc, ◌≤◌, ◌<◌, ℕ, ◌+◌, ◌-◌, nat_eq, Bool, true, false, List, [], length, take, None, Some, refl, sym, ap, ◌∙◌, subst, inr, arith, slice_get}
+use Rattle.std.proofs.Common.{◌≡◌, ◌≢◌, suc, ◌≤◌, ◌<◌, ℕ, ◌+◌, ◌-◌, nat_eq, Bool, true, false, List, [], length, take, None, Some, refl, sym, ap, ◌∙◌, subst}
+use Rattle.std.proofs.Common.{inr, arith, slice_get}
 use Rattle.std.proofs.Math.Seq.{take-length}
 use Rattle.std.proofs.lemmas.Bool.{eqb-true}
 use Rattle.std.specs.Prelude.{if◌then◌else◌}
@@ -22,7 +23,7 @@ use Rattle.wtf_model.specs.declared.answer.Word.TheVariants.{Replaying}
 use Rattle.wtf_model.specs.declared.op.Op.{Op}
 use Rattle.wtf_model.specs.Items.{meets, reads_of, writes_of}
 use Rattle.wtf_model.specs.Lawful.{Deviates, IsDone, IsReadFault, MayInstall, MayTry, MayStep, MayCommit}
-use Rattle.wtf_model.specs.Steps.{with_transaction, ended, touch, with_each, installed, rebased as machine_rebased, tried, stepped, committed}
+use Rattle.wtf_model.specs.Steps.{with_transaction, ended, touch, touch_job, with_each, installed, rebased as machine_rebased, tried, stepped, committed}
 use Rattle.wtf_model.proofs.Laws.{get-number_same, get-number_other}
 use Rattle.wtf_model.proofs.ItemLaws.{get-each, get-each_none}
 use Rattle.wtf_log.proofs.StandingLaws.{OpsStandFor-length}
@@ -48,7 +49,7 @@ use Rattle.wtf_clients.specs.Standing.{StandsForTxn, StandsForSlot, TablesStand}
 use Rattle.wtf_clients.specs.Turns.{Keeps, Ends, Commits, Retries, Tries, Replays, Aborts, StepFails, Finishes, GivesUp, Steps, Finals}
 use Rattle.wtf_clients.proofs.Images.{before_same, before_own}
 use Rattle.wtf_clients.proofs.Later.{Stands-later}
-use Rattle.wtf_clients.proofs.SinceLaws.{since_none, since_installed, retry_met}
+use Rattle.wtf_clients.proofs.SinceLaws.{since_none, touched_installed, since_installed, retry_met}
 use Rattle.wtf_clients.proofs.Frames.{Turned, sound_turned, stands_turned, stands_kept}
 use Rattle.wtf_clients.proofs.Staying.{stays_sound, stays_stand, goes_turned, goes_sound}
 use Rattle.wtf_core.proofs.Machines.{gone_here, gone_there, cap_is, answer_shown}
@@ -56,10 +57,12 @@ use Rattle.wtf_core.proofs.Machines.{gone_here, gone_there, cap_is, answer_shown
 -- ---- one client's transaction
 
 -- where the tables stand for the machine, so does a client's transaction
-pub txn_in : (size : ℕ) (told : Told) (old : TablesView) (m : Machine) (c : ℕ) (x : TxnView) (t : Transaction) → TablesStand size told old m → of_client old.clients c ≡ Some x → get m.transactions c ≡ Some t
+pub txn_in : (size : ℕ) (told : Told) (old : TablesView) (m : Machine) (c : ℕ) (x : TxnView) (t : Transaction) → TablesStand size told old m
+    → of_client old.clients c ≡ Some x → get m.transactions c ≡ Some t
     → StandsForTxn size told old.kv m.now x t
 txn_in size told old m c x t st here there =
-    subst (λ o. StandsForSlot size told old.kv m.now (Some x) o) there (subst (λ s. StandsForSlot size told old.kv m.now s (get m.transactions c)) here (st.each c))
+    subst (λ o. StandsForSlot size told old.kv m.now (Some x) o) there
+    (subst (λ s. StandsForSlot size told old.kv m.now s (get m.transactions c)) here (st.each c))
 
 -- an attempt is not refused where all calls are done
 try_live : (x : TxnView) → try_refusal x ≡ None → x.replayed ≡ length x.log.ops
@@ -75,7 +78,8 @@ pub done_all : (size : ℕ) (kv : Store Key Value) (told : Told) (x : TxnView) (
 done_all size kv told x ops sound live = ap (λ n. take n ops) (live ∙ OpsStandFor-length (tells_slice told) x.log.ops ops sound.ops_are) ∙ take-length ops
 
 -- a map stands for its tree for another transaction too, where it has none of its inodes
-stands_other : (b : ℕ) (told : Told) (tx other k : ℕ) (w : Map) (t : Tree) → Stands b told tx k w t → ((i : InodeId) → i.tx.0 ≡ other → 0 < i.index → w (Inode i) ≡ None) → Stands b told other 0 w t
+stands_other : (b : ℕ) (told : Told) (tx other k : ℕ) (w : Map) (t : Tree) → Stands b told tx k w t
+    → ((i : InodeId) → i.tx.0 ≡ other → 0 < i.index → w (Inode i) ≡ None) → Stands b told other 0 w t
 stands_other b told tx other k w t st none = record {
   tree_is = st.tree_is;
   nodes = st.nodes;
@@ -88,7 +92,8 @@ stands_other b told tx other k w t st none = record {
 }
 
 -- ---- a transaction that has ended
-module _ (old new : TablesView) (mid : Store Key Value) (c : ℕ) (x : TxnView) (sound : AreSound old) (here : of_client old.clients c ≡ Some x) (up : old.kv.number ≤ mid.number) (ends : Ends old new mid c x) where
+module _ (old new : TablesView) (mid : Store Key Value) (c : ℕ) (x : TxnView) (sound : AreSound old) (here : of_client old.clients c ≡ Some x)
+    (up : old.kv.number ≤ mid.number) (ends : Ends old new mid c x) where
   -- the number is what the transaction left
   ends_number : new.kv.number ≡ mid.number
   ends_number = ap (λ (s : Store Key Value). s.number) ends.kv
@@ -113,7 +118,7 @@ module _ (old new : TablesView) (mid : Store Key Value) (c : ℕ) (x : TxnView) 
         let kept = ends.pins n in
         let fewer = ends.unpinned n in
         omega (arith, was, kept, fewer);
-    saved = ends.saved;
+    beside = ends.beside;
     own = λ y e. absurd (cc);
     whose = λ y e. absurd (cc);
   }
@@ -131,11 +136,12 @@ module _ (old new : TablesView) (mid : Store Key Value) (c : ℕ) (x : TxnView) 
       → KeepsVersions old.kv mid → TablesStand size later new (ended m c)
   leaves_stand size told later m st on same versions =
       stands_kept size told later old new m (ended m c) c None sound st on ends_turned (ends_number ∙ same) (λ q. ends_versions q ∙ versions q)
-      (λ d ne. gone_there m.transactions c d ne) refl refl refl
+      (λ d ne. gone_there m.transactions c d ne) refl refl refl refl
       (subst (λ o. StandsForSlot size later new.kv m.now None o) (sym (gone_here m.transactions c)) tt)
 
   -- an install: the calls run on the tree now, and what they change is touched
-  pub installs_stand : (size : ℕ) (told later : Told) (m : Machine) (t : Transaction) (n : ℕ) → TablesStand size told old m → TellsOn told later → m.settings.region ≡ size → get m.transactions c ≡ Some t
+  pub installs_stand : (size : ℕ) (told later : Told) (m : Machine) (t : Transaction) (n : ℕ) → TablesStand size told old m → TellsOn told later
+      → m.settings.region ≡ size → get m.transactions c ≡ Some t
       → IsFinal size later old.kv mid x t.ops n → MayInstall m t n × TablesStand size later new (installed m c t n)
   installs_stand size told later m t n st on region there final =
       let txn = txn_in size told old m c x t st here there in
@@ -162,6 +168,10 @@ module _ (old new : TablesView) (mid : Store Key Value) (c : ℕ) (x : TxnView) 
             (λ q. ends_versions q ∙ final.versions q) y.tx y.at.base items
             (λ same. ne (sound.apart d c y x its here same))
             (ends_turned.maps y.at.base (sound.each d y its).based) since)
+            (λ l. get-each (touch_job wrote) m.jobs l)
+            (λ base items based was. touched_installed x.tx old.kv new.kv final.at.reads final.at.changes n read wrote feet ran.own txn.now.regions
+            stands.regions map
+            (λ q. ends_versions q ∙ final.versions q) base items (ends_turned.maps base based) was)
             (sym (ends_number ∙ final.number)) refl
             (before_same old.next_tx new.next_tx changed (metadata_now new.kv) map ends_turned.more
             (before_own x.tx old.next_tx (metadata_now old.kv) changed (sound.each c x here).older ran.own st.before))
@@ -173,9 +183,11 @@ module _ (old new : TablesView) (mid : Store Key Value) (c : ℕ) (x : TxnView) 
       )
 
 -- ---- a transaction that goes on at its base
-module _ (old new : TablesView) (c : ℕ) (x y : TxnView) (sound : AreSound old) (here : of_client old.clients c ≡ Some x) (keeps : Keeps old new c (Some y)) (tx : y.tx ≡ x.tx) (base : y.at.base ≡ x.at.base) (going : y.ended ≡ x.ended) (fit : IsFit old.kv y) where
+module _ (old new : TablesView) (c : ℕ) (x y : TxnView) (sound : AreSound old) (here : of_client old.clients c ≡ Some x) (keeps : Keeps old new c (Some y))
+    (tx : y.tx ≡ x.tx) (base : y.at.base ≡ x.at.base) (going : y.ended ≡ x.ended) (fit : IsFit old.kv y) where
   -- the tables stand for the machine with this transaction, where that has the base and the tree that it had
-  pub goes_stand : (size : ℕ) (told later : Told) (m : Machine) (t t2 : Transaction) → TablesStand size told old m → TellsOn told later → get m.transactions c ≡ Some t
+  pub goes_stand : (size : ℕ) (told later : Told) (m : Machine) (t t2 : Transaction) → TablesStand size told old m → TellsOn told later
+      → get m.transactions c ≡ Some t
       → IsSound size old.kv later y t2.ops → t2.base ≡ t.base → t2.tree ≡ t.tree → t2.touched ≡ t.touched → t2.shown ≡ y.log.shown → t2.replayed ≡ y.replayed
       → TablesStand size later new (with_transaction m c t2)
   goes_stand size told later m t t2 st on there run base2 tree2 touched2 shown2 replayed2 =
@@ -197,12 +209,13 @@ module _ (old new : TablesView) (c : ℕ) (x y : TxnView) (sound : AreSound old)
       } in
       stands_kept size told later old new m (with_transaction m c t2) c (Some y) sound st on (goes_turned old new c x y sound here keeps tx base going fit)
       (ap (λ (s : Store Key Value). s.number) keeps.kv) (λ q. ap (λ (s : Store Key Value). versions_of key_cmp s q) keeps.kv)
-      (λ d ne. get-number_other m.transactions c t2 d ne) refl refl refl
+      (λ d ne. get-number_other m.transactions c t2 d ne) refl refl refl refl
       (subst (λ o. StandsForSlot size later new.kv m.now (Some y) o) (sym (get-number_same m.transactions c t2))
       (subst (λ kv. StandsForTxn size later kv m.now y t2) (sym keeps.kv) stands))
 
 -- ---- a transaction that begins again at the number
-module _ (old new : TablesView) (c : ℕ) (x : TxnView) (b n : ℕ) (sound : AreSound old) (here : of_client old.clients c ≡ Some x) (turn : Retries old new c x b n) where
+module _ (old new : TablesView) (c : ℕ) (x : TxnView) (b n : ℕ) (sound : AreSound old) (here : of_client old.clients c ≡ Some x)
+    (turn : Retries old new c x b n) where
   -- the transaction with its log, and nothing done
   abbrev again : TxnView
   again = turn.later
@@ -245,11 +258,12 @@ module _ (old new : TablesView) (c : ℕ) (x : TxnView) (b n : ℕ) (sound : Are
     maps = turn.maps;
     more = let next = turn.next_tx in omega (arith, next);
     pins = λ k.
-        let was : owned k (of_client old.clients c) ≡ (if nat_eq k b then 1 else 0) = ap (owned k) here ∙ ap (λ j. if nat_eq k j then 1 else 0) (sym turn.retried.base_is) in
+        let was : owned k (of_client old.clients c) ≡ (if nat_eq k b then 1 else 0) = ap (owned k) here
+        ∙ ap (λ j. if nat_eq k j then 1 else 0) (sym turn.retried.base_is) in
         let is : owned k (Some again) ≡ (if nat_eq k n then 1 else 0) = ap (λ j. if nat_eq k j then 1 else 0) retry_base in
         let moved = turn.retried.pins k in
         omega (arith, was, is, moved);
-    saved = turn.saved;
+    beside = turn.beside;
     own = λ z e. let hit : again ≡ z = cc in subst (λ v. IsOpen new.kv new.next_tx v) hit retry_open;
     whose = λ z e. let hit : again ≡ z = cc in inr (x, here, ap (λ (v : TxnView). v.tx) (sym hit) ∙ retry_tx);
   }
@@ -272,7 +286,8 @@ module _ (old new : TablesView) (c : ℕ) (x : TxnView) (b n : ℕ) (sound : Are
       let txn = txn_in size told old m c x t st here there in
       let t2 : Transaction = machine_rebased m t in
       let now : Stands size later again.tx 0 (metadata_now old.kv) m.now =
-      Stands-later told later on size again.tx 0 (metadata_now old.kv) m.now (subst (λ k. Stands size told k 0 (metadata_now old.kv) m.now) (sym retry_tx) txn.now) in
+      Stands-later told later on size again.tx 0 (metadata_now old.kv) m.now
+      (subst (λ k. Stands size told k 0 (metadata_now old.kv) m.now) (sym retry_tx) txn.now) in
       let stands : StandsForTxn size later new.kv m.now again t2 = record {
         sound = sound_later size new.kv told later again t.ops on (turn.sound size told t.ops txn.sound);
         base = st.number ∙ sym turn.retried.number_is ∙ sym retry_base;
@@ -291,7 +306,7 @@ module _ (old new : TablesView) (c : ℕ) (x : TxnView) (b n : ℕ) (sound : Are
           subst (λ k. meets t.touched (reads_of k t.tree t.ops) ≡ true) (sym (cap_is m size region)) met,
         ),
         stands_kept size told later old new m (with_transaction m c t2) c (Some again) sound st on retry_turned turn.retried.number turn.retried.versions
-            (λ d ne. get-number_other m.transactions c t2 d ne) refl refl refl
+            (λ d ne. get-number_other m.transactions c t2 d ne) refl refl refl refl
             (subst (λ o. StandsForSlot size later new.kv m.now (Some again) o) (sym (get-number_same m.transactions c t2)) stands),
       )
 
@@ -301,7 +316,8 @@ commit_up : (old new : TablesView) (c : ℕ) (x : TxnView) (n : ℕ) (turn : Com
 commit_up old new c x n turn = let number = turn.committed.installed.number in let next = turn.committed.installed.next in omega (arith, number, next)
 
 -- the tables stay sound
-pub tries_sound : (old new : TablesView) (c : ℕ) (x : TxnView) (a : Answer) → AreSound old → of_client old.clients c ≡ Some x → Tries old new c x a → AreSound new
+pub tries_sound : (old new : TablesView) (c : ℕ) (x : TxnView) (a : Answer) → AreSound old → of_client old.clients c ≡ Some x → Tries old new c x a
+    → AreSound new
 tries_sound old new c x (answer.Committed n) sound here turn = ends_sound old new turn.mid c x sound here (commit_up old new c x n turn) turn.ends
 tries_sound old new c x (answer.Retry b n) sound here turn = retry_sound old new c x b n sound here turn
 tries_sound old new c x a sound here turn = absurd turn
@@ -343,13 +359,15 @@ module _ (Telling : Type 0) (lists : Remembered) (servers size : ℕ) (told late
   replay_shown = ap (λ (v : TxnView). v.log.shown) turn.replayed.is
 
   -- on the tree at the base the next call answers what was shown
-  replay_may : (m : Machine) (t : Transaction) → m.settings.region ≡ size → StandsForTxn size told old.kv m.now x t → TellsOn told later → IsSound size old.kv later onward t.ops
+  replay_may : (m : Machine) (t : Transaction) → m.settings.region ≡ size → StandsForTxn size told old.kv m.now x t → TellsOn told later
+      → IsSound size old.kv later onward t.ops
       → MayStep m t (answer.Replayed i)
   replay_may m t region txn on run =
       let tree : Stands size told onward.tx 0 (metadata_at old.kv onward.at.base) t.tree =
       subst (λ k. Stands size told k 0 (metadata_at old.kv onward.at.base) t.tree) (sym replay_tx)
       (subst (λ b. Stands size told x.tx 0 (metadata_at old.kv b) t.tree) (sym turn.replayed.base) txn.tree) in
-      let ran = at_base size old.kv later onward t.ops run t.tree (Stands-later told later on size onward.tx 0 (metadata_at old.kv onward.at.base) t.tree tree) in
+      let ran = at_base size old.kv later onward t.ops run t.tree
+      (Stands-later told later on size onward.tx 0 (metadata_at old.kv onward.at.base) t.tree tree) in
       let cap = cap_is m size region in
       let index = turn.replayed.index in
       let done = txn.replayed in
@@ -370,7 +388,8 @@ module _ (Telling : Type 0) (lists : Remembered) (servers size : ℕ) (told late
       let txn = txn_in size told old m c x t st here there in
       let run : IsSound size old.kv later onward t.ops = turn.sound (telling.0, telling.1, txn.tree.bytes) t.ops txn.sound in (
         replay_may m t region txn on run,
-        goes_stand old new c x onward sound here turn.keeps replay_tx turn.replayed.base replay_going turn.fit size told later m t (record t { replayed = i }) st on there run
+        goes_stand old new c x onward sound here turn.keeps replay_tx turn.replayed.base replay_going turn.fit size told later m t
+            (record t { replayed = i }) st on there run
             refl refl refl (txn.shown ∙ sym replay_shown) (sym replay_count),
       )
 
@@ -386,7 +405,8 @@ abort_may Telling lists servers size told later old new c x i a m t turn region 
     let done = txn.replayed in
     let place : t.replayed ≡ i - 1 = omega (arith, index, done) in (
       index ∙ ap (λ k. k + 1) (sym done),
-      ap (λ k. slice_get (answers_of k t.tree t.ops) t.replayed) (cap_is m size region) ∙ ap (slice_get (answers_of (cap_for (caller_at size x.tx 0)) t.tree t.ops)) place ∙ d.answer_is,
+      ap (λ k. slice_get (answers_of k t.tree t.ops) t.replayed) (cap_is m size region)
+          ∙ ap (slice_get (answers_of (cap_for (caller_at size x.tx 0)) t.tree t.ops)) place ∙ d.answer_is,
       λ e. d.differs (ap (slice_get x.log.shown) (sym place) ∙ ap (λ l. slice_get l t.replayed) (sym txn.shown) ∙ e),
     )
 

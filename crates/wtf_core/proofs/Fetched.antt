@@ -1,5 +1,6 @@
 -- The bytes that an image names, once it is loaded: where all its pointers lie inside the stores, so do they.
-use Rattle.std.proofs.Common.{◌≡◌, ℕ, Bool, ◌+◌, ◌<◌, ◌≤◌, true, cond, nat_lt, nat_le, ◌&&◌, List, [], ◌∷◌, map, Option, None, Some, refl, sym, ap, subst, ◌∙◌, arith, inl, inr}
+use Rattle.std.proofs.Common.{◌≡◌, ℕ, Bool, ◌+◌, ◌<◌, ◌≤◌, true, cond, nat_lt, nat_le, ◌&&◌, List, [], ◌∷◌, map, Option, None, Some, refl, sym, ap, subst, ◌∙◌}
+use Rattle.std.proofs.Common.{arith, inl, inr}
 use Rattle.std.specs.Prelude.{slice_get, ⊤}
 use Rattle.std.specs.List.{All, AllByRecursion, list_all, flat_map}
 use Rattle.std.specs.Option.{option_map, option_or, unwrap_or}
@@ -34,7 +35,8 @@ use Rattle.wtf_values.specs.Names.{NamesOf}
 use Rattle.wtf_meta.specs.Maps.{Map}
 use Rattle.wtf_meta.specs.Bytes.{PartBytes, EntryBytes, BaseBytes, RegionBytes, ValueBytes, MapBytes, any_slice}
 use Rattle.wtf_image.specs.Rows.{EntryRow, RegionRow, FileRow, ImageRows, part_row, base_row, entry_rows}
-use Rattle.wtf_image.specs.Lookups.{Plain, NodeIs, NamesAre, LastIs, RegionIs, plain, plain_region, names_of_node, names_under, node_at, last_at, place_cmp, region_entry, region_entries, region_at, row_at}
+use Rattle.wtf_image.specs.Lookups.{Plain, NodeIs, NamesAre, LastIs, RegionIs, plain, plain_region, names_of_node, names_under, node_at, last_at, place_cmp}
+use Rattle.wtf_image.specs.Lookups.{region_entry, region_entries, region_at, row_at}
 use Rattle.wtf_image.specs.Rules.{are_inside, is_file_inside, is_region_inside, is_base_inside, is_part_inside}
 use Rattle.wtf_image.specs.Rules as rules
 use Rattle.wtf_image.proofs.SeedLaws.{find-both}
@@ -97,7 +99,8 @@ module _ {S : Type 0} (kind : StoreKind S) (shelf : List S) (settings : Settings
 
   -- ---- a slice
 
-  pointer_in : (n i : ℕ) (p : Pointer) → p.len ≡ n → i < n → rules.lies_inside settings.servers sizes p ≡ true → is_place_inside kind shelf settings (place_in i p) ≡ true
+  pointer_in : (n i : ℕ) (p : Pointer) → p.len ≡ n → i < n → rules.lies_inside settings.servers sizes p ≡ true
+      → is_place_inside kind shelf settings (place_in i p) ≡ true
   pointer_in n i p len lt h =
       let a = and_parts (nat_lt p.server.0 settings.servers) (nat_lt p.file 8 && nat_le (p.at + p.len) (sizes p.server.0 p.file)) h in
       let b = and_parts (nat_lt p.file 8) (nat_le (p.at + p.len) (sizes p.server.0 p.file)) a.1 in
@@ -107,11 +110,13 @@ module _ {S : Type 0} (kind : StoreKind S) (shelf : List S) (settings : Settings
       and_from (nat_lt p.server.0 settings.servers) (nat_lt p.file 8 && nat_lt (p.at + i) (size_in kind (slice_get shelf p.server.0) p.file)) a.0
       (and_from (nat_lt p.file 8) (nat_lt (p.at + i) (size_in kind (slice_get shelf p.server.0) p.file)) b.0 (lt-ltb _ _ at))
 
-  pointers_in : (n i : ℕ) (ps : List Pointer) → AllByRecursion (λ p. p.len ≡ n) ps → i < n → list_all (rules.lies_inside settings.servers sizes) ps ≡ true → is_inside kind shelf settings (map (place_in i) ps) ≡ true
+  pointers_in : (n i : ℕ) (ps : List Pointer) → AllByRecursion (λ p. p.len ≡ n) ps → i < n → list_all (rules.lies_inside settings.servers sizes) ps ≡ true
+      → is_inside kind shelf settings (map (place_in i) ps) ≡ true
   pointers_in n i [] len lt h = refl
   pointers_in n i (p ∷ ps) len lt h =
       let both = and_parts (rules.lies_inside settings.servers sizes p) (list_all (rules.lies_inside settings.servers sizes) ps) h in
-      and_from (is_place_inside kind shelf settings (place_in i p)) (is_inside kind shelf settings (map (place_in i) ps)) (pointer_in n i p len.0 lt both.0) (pointers_in n i ps len.1 lt both.1)
+      and_from (is_place_inside kind shelf settings (place_in i p)) (is_inside kind shelf settings (map (place_in i) ps)) (pointer_in n i p len.0 lt both.0)
+      (pointers_in n i ps len.1 lt both.1)
 
   pub lengths : (n : ℕ) (e : Extents) → AllByRecursion (λ (p : Pointer). p.len ≡ n) (pointers_to n e)
   lengths n (One a) = (refl, tt)
@@ -124,10 +129,12 @@ module _ {S : Type 0} (kind : StoreKind S) (shelf : List S) (settings : Settings
   part_in n Zero len h = λ i lt. refl
   part_in n (Held s) len h = λ i lt. pointers_in s.len i (pointers_of s) (lengths s.len s.extents) (omega (arith, lt, len)) h
 
-  entries_in : (es : List Entry) → list_all (λ e. is_part_inside settings.servers sizes e.part) (entry_rows es) ≡ true → All (EntryBytes (is_inside kind shelf settings)) es
+  entries_in : (es : List Entry) → list_all (λ e. is_part_inside settings.servers sizes e.part) (entry_rows es) ≡ true
+      → All (EntryBytes (is_inside kind shelf settings)) es
   entries_in [] h = All-nil (EntryBytes (is_inside kind shelf settings))
   entries_in (e ∷ es) h =
-      let both = and_parts (is_part_inside settings.servers sizes (part_row e.part)) (list_all (λ (r : EntryRow). is_part_inside settings.servers sizes r.part) (entry_rows es)) h in
+      let both = and_parts (is_part_inside settings.servers sizes (part_row e.part))
+      (list_all (λ (r : EntryRow). is_part_inside settings.servers sizes r.part) (entry_rows es)) h in
       All-cons (EntryBytes (is_inside kind shelf settings)) e es (part_in e.len e.part e.held both.0) (entries_in es both.1)
 
   -- the slice of a base; what the list in it names is not looked at
@@ -149,24 +156,29 @@ module _ {S : Type 0} (kind : StoreKind S) (shelf : List S) (settings : Settings
 
   -- ---- the regions of an image
 
-  among : (i : InodeId) (r : ℕ) (j : InodeId) (rs : List RegionRow) (row : RegionRow) → list_all (is_region_inside settings.servers sizes) rs ≡ true → find place_cmp (i, r) (map (region_entry j) rs) ≡ Some row
+  among : (i : InodeId) (r : ℕ) (j : InodeId) (rs : List RegionRow) (row : RegionRow) → list_all (is_region_inside settings.servers sizes) rs ≡ true
+      → find place_cmp (i, r) (map (region_entry j) rs) ≡ Some row
       → is_region_inside settings.servers sizes row ≡ true
   among i r j [] row all h = absurd (cc)
   among i r j (x ∷ xs) row all h =
       let both = and_parts (is_region_inside settings.servers sizes x) (list_all (is_region_inside settings.servers sizes) xs) all in
       elim (cases_Bool (eq_by_cmp place_cmp (i, r) (j, x.number))) [
-        | inl tie ↦ (let is : Some x ≡ Some row = sym (ap (λ b. cond b (Some x) (find place_cmp (i, r) (map (region_entry j) xs))) tie) ∙ h in let it : x ≡ row = cc in subst (λ y. is_region_inside settings.servers sizes y ≡ true) it both.0)
+        | inl tie ↦ (let is : Some x ≡ Some row = sym (ap (λ b. cond b (Some x) (find place_cmp (i, r) (map (region_entry j) xs))) tie)
+            ∙ h in let it : x ≡ row = cc in subst (λ y. is_region_inside settings.servers sizes y ≡ true) it both.0)
         | inr off ↦ among i r j xs row both.1 (sym (ap (λ b. cond b (Some x) (find place_cmp (i, r) (map (region_entry j) xs))) off) ∙ h)
       ]
 
-  in_either : (i : InodeId) (r : ℕ) (fs : List FileRow) (row : RegionRow) → list_all (is_file_inside settings.servers sizes) fs ≡ true → region_at fs i r ≡ Some row → is_region_inside settings.servers sizes row ≡ true
+  in_either : (i : InodeId) (r : ℕ) (fs : List FileRow) (row : RegionRow) → list_all (is_file_inside settings.servers sizes) fs ≡ true
+      → region_at fs i r ≡ Some row → is_region_inside settings.servers sizes row ≡ true
   in_either i r [] row all h = absurd (cc)
   in_either i r (f ∷ fs) row all h =
       let both = and_parts (is_file_inside settings.servers sizes f) (list_all (is_file_inside settings.servers sizes) fs) all in
-      by (λ is. in_either i r fs row both.1 is) both.0 (find place_cmp (i, r) (region_entries f)) refl (sym (find-both place_cmp (i, r) (region_entries f) (flat_map region_entries fs)) ∙ h)
+      by (λ is. in_either i r fs row both.1 is) both.0 (find place_cmp (i, r) (region_entries f)) refl
+      (sym (find-both place_cmp (i, r) (region_entries f) (flat_map region_entries fs)) ∙ h)
     where
       by : (region_at fs i r ≡ Some row → is_region_inside settings.servers sizes row ≡ true) → is_file_inside settings.servers sizes f ≡ true
-          → (o : Option RegionRow) → find place_cmp (i, r) (region_entries f) ≡ o → option_or o (region_at fs i r) ≡ Some row → is_region_inside settings.servers sizes row ≡ true
+          → (o : Option RegionRow) → find place_cmp (i, r) (region_entries f) ≡ o → option_or o (region_at fs i r) ≡ Some row
+          → is_region_inside settings.servers sizes row ≡ true
       by later first None e is = later is
       by later first (Some x) e is = among i r f.inode f.regions row first (e ∙ is)
 

@@ -1,5 +1,5 @@
 -- A line that saves nothing leaves what may be on the keeper, and the maps up to the number.
-use Rattle.std.proofs.Common.{◌≡◌, ◌≢◌, ◌≤◌, ℕ, Bool, true, false, nat_lt, Option, None, Some, MatchOption, refl, ap, subst, sym, ◌∙◌, ⊎_elim, arith}
+use Rattle.std.proofs.Common.{◌≡◌, ◌≢◌, ◌≤◌, ℕ, Bool, true, false, nat_lt, List, Option, None, Some, MatchOption, refl, ap, subst, sym, ◌∙◌, ⊎_elim, arith}
 use Rattle.std.specs.Bool.{MatchBool}
 use Rattle.wtf_kv.specs.Stores.{Store}
 use Rattle.wtf_values.specs.declared.key.Key.{Key}
@@ -7,7 +7,8 @@ use Rattle.wtf_values.specs.declared.value.Value.{Value}
 use Rattle.wtf_model.specs.declared.answer.Answer.{Answer, Aborted'}
 use Rattle.wtf_model.specs.declared.answer.Answer.TheVariants as answer
 use Rattle.wtf_model.specs.declared.answer.Word.{Word}
-use Rattle.wtf_model.specs.declared.answer.Word.TheVariants.{NoTx, InTx, NoServer}
+use Rattle.wtf_model.specs.declared.answer.Word.TheVariants.{NoTx, InTx, NoServer, NoJob, JobInUse}
+use Rattle.wtf_model.specs.declared.op.JobKind.{JobKind}
 use Rattle.wtf_model.specs.declared.event.Event.{Event}
 use Rattle.wtf_model.specs.declared.event.Event.TheVariants as event
 use Rattle.wtf_model.specs.declared.event.Verb.{Verb}
@@ -18,49 +19,63 @@ use Rattle.wtf_region.specs.Cached.{Remembered}
 use Rattle.wtf_replay.specs.Views.{TxnView}
 use Rattle.wtf_replay.specs.Refusals.{call_refusal, try_refusal, step_refusal}
 use Rattle.wtf_replay.specs.Tried.{KeepsMaps}
-use Rattle.wtf_clients.specs.Views.{TablesView, of_client}
+use Rattle.wtf_compact.specs.Jobs.{JobView}
+use Rattle.wtf_clients.specs.Views.{BesideView, TablesView, of_client, of_label}
+use Rattle.wtf_clients.specs.JobTurns.{KeepsOthers, RefusesJob, FreePlan, PlanTurn, Puts, PutTurn, DropsJob, DropTurn}
 use Rattle.wtf_core.specs.Views.{CoreView}
 use Rattle.wtf_clients.specs.Turns.{Keeps, Stays, Refuses, Begins, Ends, Tries, Steps, Finals, LoneTurn, TxnTurn, ClientTurn}
 use Rattle.wtf_core.specs.Turns.{Switches, LineTurn}
+
+-- the images that may be on the keeper are what they were
+abbrev pub SameImages : BesideView → BesideView → Type 0
+SameImages old new = (new.images ≡ old.images) × (new.none ≡ old.none)
 
 -- what is read of the images goes on
 pub record Goes (old new : TablesView) : Type 0 where
   pub maps : KeepsMaps old.kv new.kv
   pub more : old.next_tx ≤ new.next_tx
-  pub saved : new.saved ≡ old.saved
+  pub saved : SameImages old.beside new.beside
+
+same_images : (old new : BesideView) → new ≡ old → SameImages old new
+same_images old new is = (ap (λ (b : BesideView). b.images) is, ap (λ (b : BesideView). b.none) is)
 
 pub same_goes : (old new : TablesView) → new ≡ old → Goes old new
-same_goes old new is = subst (λ t. Goes old t) (sym is) (record { maps = λ n le. refl; more = omega arith; saved = refl })
+same_goes old new is = subst (λ t. Goes old t) (sym is) (record { maps = λ n le. refl; more = omega arith; saved = (refl, refl) })
 
-goes : (old new : TablesView) → new.kv ≡ old.kv → new.next_tx ≡ old.next_tx → new.saved ≡ old.saved → Goes old new
-goes old new kv next saved = record { maps = λ n le. ap (λ (s : Store Key Value). metadata_at s n) kv; more = omega (arith, next); saved = saved }
+goes : (old new : TablesView) → new.kv ≡ old.kv → new.next_tx ≡ old.next_tx → new.beside ≡ old.beside → Goes old new
+goes old new kv next beside = record {
+  maps = λ n le. ap (λ (s : Store Key Value). metadata_at s n) kv;
+  more = omega (arith, next);
+  saved = same_images old.beside new.beside beside;
+}
 
 keeps_goes : (old new : TablesView) (c : ℕ) (now : Option TxnView) → Keeps old new c now → Goes old new
-keeps_goes old new c now h = goes old new h.kv h.next_tx h.saved
+keeps_goes old new c now h = goes old new h.kv h.next_tx h.beside
 
 refuses_goes : (old new : TablesView) (c : ℕ) (w : Word) (a : Answer) → Refuses old new c w a → Goes old new
 refuses_goes old new c w a h = keeps_goes old new c (of_client old.clients c) h.keeps
 
 pub stays_goes : (old new : TablesView) (c : ℕ) → Stays old new c → Goes old new
-stays_goes old new c h = record { maps = h.maps; more = let next = h.next_tx in omega (arith, next); saved = h.saved }
+stays_goes old new c h = record { maps = h.maps; more = let next = h.next_tx in omega (arith, next); saved = same_images old.beside new.beside h.beside }
 
 ends_goes : (old new : TablesView) (mid : Store Key Value) (c : ℕ) (x : TxnView) → Ends old new mid c x → Goes old new
 ends_goes old new mid c x h = record {
   maps = λ n le. ap (λ (s : Store Key Value). metadata_at s n) h.kv ∙ h.maps n le;
   more = let next = h.next_tx in omega (arith, next);
-  saved = h.saved;
+  saved = same_images old.beside new.beside h.beside;
 }
 
 begins_goes : (old new : TablesView) (c : ℕ) (a : Answer) → Begins old new c a → Goes old new
 begins_goes old new c a h = record {
   maps = λ n le. ap (λ (s : Store Key Value). metadata_at s n) h.kv;
   more = let next = h.next_tx in omega (arith, next);
-  saved = h.saved;
+  saved = same_images old.beside new.beside h.beside;
 }
 
 tries_goes : (old new : TablesView) (c : ℕ) (x : TxnView) (a : Answer) → Tries old new c x a → Goes old new
 tries_goes old new c x (answer.Committed n) h = ends_goes old new h.mid c x h.ends
-tries_goes old new c x (answer.Retry b n) h = record { maps = h.maps; more = let next = h.next_tx in omega (arith, next); saved = h.saved }
+tries_goes old new c x (answer.Retry b n) h =
+    record { maps = h.maps; more = let next = h.next_tx in omega (arith, next); saved = same_images old.beside new.beside h.beside }
 tries_goes old new c x a h = absurd h
 
 module _ (Telling : Type 0) (lists : Remembered) (servers size : ℕ) (told later : Told) (old new : TablesView) (c : ℕ) where
@@ -89,7 +104,9 @@ module _ (Telling : Type 0) (lists : Remembered) (servers size : ℕ) (told late
   txn_goes x verb.Step a h = or_refused (Steps Telling lists servers size told later old new c x a) a (step_refusal x) (steps_goes x a) h
   txn_goes x verb.Commit a h = finals_goes x a h
   txn_goes x verb.Abort a h = ends_goes old new old.kv c x h.1
-  txn_goes x (verb.Call o) a h = or_refused _ a (call_refusal x) (λ t. ⊎_elim (λ made. keeps_goes old new c (Some made.later_one) made.keeps) (λ failed. stays_goes old new c failed.fails.stays) t) h
+  txn_goes x (verb.Call o) a h =
+      or_refused _ a (call_refusal x)
+      (λ t. ⊎_elim (λ made. keeps_goes old new c (Some made.later_one) made.keeps) (λ failed. stays_goes old new c failed.fails.stays) t) h
 
   client_goes : (v : Verb) (a : Answer) → ClientTurn Telling lists servers size told later old new c v a → Goes old new
   client_goes v a h = by (of_client old.clients c) h
@@ -98,6 +115,44 @@ module _ (Telling : Type 0) (lists : Remembered) (servers size : ℕ) (told late
           (λ x. TxnTurn Telling lists servers size told later old new c x v a) → Goes old new
       by None g = lone_goes v a g
       by (Some x) g = txn_goes x v a g
+
+-- ---- lines of jobs
+others_go : (old new : TablesView) (j : ℕ) (now : Option JobView) → KeepsOthers old new j now → KeepsMaps old.kv new.kv → Goes old new
+others_go old new j now h maps = record {
+  maps = maps;
+  more = let next = h.next_tx in omega (arith, next);
+  saved = (ap (λ (b : BesideView). b.images) h.beside, ap (λ (b : BesideView). b.none) h.beside);
+}
+
+module _ (Telling : Type 0) (lists : Remembered) (servers size : ℕ) (told later : Told) (old new : TablesView) (j : ℕ) (kind : JobKind) (p : List ℕ)
+    (r : ℕ) where
+  free_goes : (a : Answer) → FreePlan Telling lists servers size told later old new j kind p r a → Goes old new
+  free_goes answer.Planned h = others_go old new j (Some h.job) h.plans.keeps (λ n le. ap (λ (s : Store Key Value). metadata_at s n) h.plans.kv)
+  free_goes (answer.Refused w) h = same_goes old new h.same
+  free_goes a h = same_goes old new h.same
+
+  pub plan_goes : (a : Answer) → PlanTurn Telling lists servers size told later old new j kind p r a → Goes old new
+  plan_goes a h = by (of_label old.beside.jobs j) h
+    where
+      by : (o : Option JobView) → MatchOption o (FreePlan Telling lists servers size told later old new j kind p r a) (λ x. RefusesJob old new JobInUse a)
+          → Goes old new
+      by None g = free_goes a g
+      by (Some x) g = same_goes old new g.same
+
+module _ (old new : TablesView) (j : ℕ) (a : Answer) where
+  pub put_goes : PutTurn old new j a → Goes old new
+  put_goes h = by (of_label old.beside.jobs j) h
+    where
+      by : (o : Option JobView) → MatchOption o (RefusesJob old new NoJob a) (λ x. Puts old new j x a) → Goes old new
+      by None g = same_goes old new g.same
+      by (Some x) g = others_go old new j None g.keeps g.maps
+
+  pub drop_goes : DropTurn old new j a → Goes old new
+  drop_goes h = by (of_label old.beside.jobs j) h
+    where
+      by : (o : Option JobView) → MatchOption o (RefusesJob old new NoJob a) (λ x. DropsJob old new j x a) → Goes old new
+      by None g = same_goes old new g.same
+      by (Some x) g = others_go old new j None g.keeps (λ n le. ap (λ (s : Store Key Value). metadata_at s n) g.kv)
 
 module _ (Telling : Type 0) (told : Told × Told) (old new : CoreView) (a : Answer) where
   core_goes : new ≡ old → Goes old.tables new.tables
@@ -109,6 +164,10 @@ module _ (Telling : Type 0) (told : Told × Told) (old new : CoreView) (a : Answ
 
   pub line_goes : (e : Event) → e ≢ event.Save → LineTurn Telling told old new e a → Goes old.tables new.tables
   line_goes (event.Client c v) ne h = client_goes Telling old.lists old.settings.servers old.settings.region told.0 told.1 old.tables new.tables c v a h.0
+  line_goes (event.Plan j kind p r) ne h =
+      plan_goes Telling old.lists old.settings.servers old.settings.region told.0 told.1 old.tables new.tables j kind p r a h.0
+  line_goes (event.Put j) ne h = put_goes old.tables new.tables j a h.0
+  line_goes (event.DropJob j) ne h = drop_goes old.tables new.tables j a h.0
   line_goes (event.Down k) ne h = server_goes k true (nat_lt k old.settings.servers) h
   line_goes (event.Up k) ne h = server_goes k false (nat_lt k old.settings.servers) h
   line_goes (event.Dump p) ne h = stays_goes old.tables new.tables 0 (h.0.stays 0)

@@ -11,6 +11,7 @@ pub mod RowsSorted
 pub mod RowsWalk
 pub mod RowsShown
 pub mod Growth
+pub mod JobLines
 pub mod Whole
 pub mod Started
 pub mod Fetched
@@ -22,3 +23,4 @@ pub mod Tidying
 pub mod Naming
 pub mod Answering
 pub mod Remembering
+pub mod Telling

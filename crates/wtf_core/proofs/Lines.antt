@@ -91,7 +91,8 @@ module _ (size : ℕ) (told : Told) (old : TablesView) (m : Machine) (x : TxnVie
   step_is = ap (λ b. if b then Some Live else None) live_is
 
   call_is : (o : Op (List ℕ)) → call_refusal x ≡ client_refusal (Some t) (verb.Call o)
-  call_is o = ap (λ b. if b then (if is_full x then Some Full else None) else Some Replaying) live_is ∙ ap (λ b. if is_live_txn t then (if b then Some Full else None) else Some Replaying) full_is
+  call_is o = ap (λ b. if b then (if is_full x then Some Full else None) else Some Replaying) live_is
+      ∙ ap (λ b. if is_live_txn t then (if b then Some Full else None) else Some Replaying) full_is
 
 -- a refusal of a transaction is none of a call, so it is not logged
 own_word : (b full : Bool) (w : Word) → (if b then (if full then Some Full else None) else Some Replaying) ≡ Some w → is_call_refusal w ≡ false
@@ -100,7 +101,8 @@ own_word true false w is = absurd (cc)
 own_word false full w is = let same : Replaying ≡ w = cc in subst (λ u. is_call_refusal u ≡ false) same refl
 
 -- and the machine is then as it was
-not_logged : (m : Machine) (c : ℕ) (t : Transaction) (o : Op (List ℕ)) (a : Answer) (w : Word) → a ≡ answer.Refused w → is_call_refusal w ≡ false → called m c t o a ≡ m
+not_logged : (m : Machine) (c : ℕ) (t : Transaction) (o : Op (List ℕ)) (a : Answer) (w : Word) → a ≡ answer.Refused w → is_call_refusal w ≡ false
+    → called m c t o a ≡ m
 not_logged m c t o a w is own =
     ap (λ r. called m c t o r) is ∙ ap (λ b. if b then with_transaction m c (logged t o (answer.Refused w)) else m) own
 
@@ -116,13 +118,16 @@ module _ (Telling : Type 0) (lists : Remembered) (servers size : ℕ) (told late
   refused w a turn = refuses_stand old new c w a sound turn size told later m st on
 
   -- a line is refused by both, or by none
-  stands_or : (r q : Option Word) (P Q : Type 0) (a : Answer) (after : Machine) → r ≡ q → (r ≡ None → P → Q × TablesStand size later new after) → ((w : Word) → r ≡ Some w → a ≡ answer.Refused w → after ≡ m)
+  stands_or : (r q : Option Word) (P Q : Type 0) (a : Answer) (after : Machine) → r ≡ q → (r ≡ None → P → Q × TablesStand size later new after)
+      → ((w : Word) → r ≡ Some w → a ≡ answer.Refused w → after ≡ m)
       → MatchOption r P (λ w. Refuses old new c w a) → MatchOption q Q (λ w. a ≡ answer.Refused w) × TablesStand size later new after
   stands_or None q P Q a after same f g turn =
       let both = f refl turn in
       (subst (λ z. MatchOption z Q (λ w. a ≡ answer.Refused w)) same both.0, both.1)
-  stands_or (Some w) q P Q a after same f g turn =
-      (subst (λ z. MatchOption z Q (λ v. a ≡ answer.Refused v)) same turn.answer, subst (λ u. TablesStand size later new u) (sym (g w refl turn.answer)) (refused w a turn))
+  stands_or (Some w) q P Q a after same f g turn = (
+    subst (λ z. MatchOption z Q (λ v. a ≡ answer.Refused v)) same turn.answer,
+    subst (λ u. TablesStand size later new u) (sym (g w refl turn.answer)) (refused w a turn),
+  )
 
   -- a line of a client without a transaction
   lone_stands : (v : Verb) (a : Answer) → of_client old.clients c ≡ None → LoneTurn Telling lists servers size told later old new c v a → Client None v a
@@ -134,7 +139,8 @@ module _ (Telling : Type 0) (lists : Remembered) (servers size : ℕ) (told late
   lone_stands (verb.Call o) a here turn = (turn.answer, refused NoTx a turn)
 
   -- a line of a client with one, for which the machine has one too
-  txn_stands : (x : TxnView) (t : Transaction) (v : Verb) (a : Answer) → of_client old.clients c ≡ Some x → get m.transactions c ≡ Some t → StandsForTxn size told old.kv m.now x t
+  txn_stands : (x : TxnView) (t : Transaction) (v : Verb) (a : Answer) → of_client old.clients c ≡ Some x → get m.transactions c ≡ Some t
+      → StandsForTxn size told old.kv m.now x t
       → TxnTurn Telling lists servers size told later old new c x v a → Client (Some t) v a
   txn_stands x t verb.Begin a here there txn turn = (turn.answer, refused InTx a turn)
   txn_stands x t verb.Try a here there txn turn =
@@ -156,7 +162,8 @@ module _ (Telling : Type 0) (lists : Remembered) (servers size : ℕ) (told late
       (λ w is e. not_logged m c t o a w e (own_word (is_live x) (is_full x) w is)) turn
 
   -- a line of either; no client has one in the tables alone, or in the machine alone
-  slot_stands : (s : Option TxnView) (o : Option Transaction) (v : Verb) (a : Answer) → of_client old.clients c ≡ s → get m.transactions c ≡ o → StandsForSlot size told old.kv m.now s o
+  slot_stands : (s : Option TxnView) (o : Option Transaction) (v : Verb) (a : Answer) → of_client old.clients c ≡ s → get m.transactions c ≡ o
+      → StandsForSlot size told old.kv m.now s o
       → MatchOption s (LoneTurn Telling lists servers size told later old new c v a) (λ x. TxnTurn Telling lists servers size told later old new c x v a) →
       Client o v a
   slot_stands None None v a here there slot turn = lone_stands v a here turn

@@ -1,4 +1,4 @@
--- The machine's open transactions where one has gone, and its answers to the first calls.
+-- The machine's open transactions and jobs where one has gone, and its answers to the first calls.
 use Rattle.std.proofs.Common.{◌≡◌, ◌≢◌, suc, zero, ℕ, ◌*◌, List, [], ◌∷◌, take, None, refl, sym, ap, ◌∙◌, slice_get}
 use Rattle.std.proofs.lemmas.Bool.{eq-eqb, ne_eqb, cond-true, cond-false}
 use Rattle.std.specs.FinMap.{FinMap, get, remove, get-remove}
@@ -9,16 +9,16 @@ use Rattle.wtf_model.specs.declared.answer.Answer.{Answer}
 use Rattle.wtf_model.specs.declared.op.Op.{Op}
 use Rattle.wtf_model.specs.Session.{fresh}
 use Rattle.wtf_model.specs.Tree.{Tree}
-use Rattle.wtf_model.specs.Transaction.{Transaction, answers_of}
+use Rattle.wtf_model.specs.Transaction.{answers_of}
 use Rattle.wtf_model.specs.Machines.{Machine, cap_of}
 use Rattle.wtf_replay.proofs.Deviating.{answers_from-take}
 
 -- what was taken out is there no more
-pub gone_here : (ones : FinMap nat_cmp Transaction) (c : ℕ) → get (remove ones c) c ≡ None
+pub gone_here : {X : Type 0} (ones : FinMap nat_cmp X) (c : ℕ) → get (remove ones c) c ≡ None
 gone_here ones c = get-remove nat_cmp_total ones c c ∙ cond-true _ _ _ (unsigned_tied c c ∙ eq-eqb c c refl)
 
 -- and the others stay
-pub gone_there : (ones : FinMap nat_cmp Transaction) (c d : ℕ) → d ≢ c → get (remove ones c) d ≡ get ones d
+pub gone_there : {X : Type 0} (ones : FinMap nat_cmp X) (c d : ℕ) → d ≢ c → get (remove ones c) d ≡ get ones d
 gone_there ones c d other = get-remove nat_cmp_total ones c d ∙ cond-false _ _ _ (unsigned_tied d c ∙ ne_eqb d c other)
 
 -- the greatest length of a file, by the bytes of a region
@@ -33,7 +33,8 @@ last_of_first (x ∷ xs) zero = refl
 last_of_first (x ∷ xs) (suc k) = last_of_first xs k
 
 -- where the first calls answer what was shown, so does the last of them
-pub answer_shown : (cap : ℕ) (t : Tree) (ops : List (Op (List ℕ))) (shown : List Answer) (k : ℕ) → answers_of cap t (take (suc k) ops) ≡ take (suc k) shown → slice_get (answers_of cap t ops) k ≡ slice_get shown k
+pub answer_shown : (cap : ℕ) (t : Tree) (ops : List (Op (List ℕ))) (shown : List Answer) (k : ℕ) → answers_of cap t (take (suc k) ops) ≡ take (suc k) shown
+    → slice_get (answers_of cap t ops) k ≡ slice_get shown k
 answer_shown cap t ops shown k same =
     sym (last_of_first (answers_of cap t ops) k)
     ∙ ap (λ l. slice_get l k) (answers_from-take cap (fresh t) ops (suc k) ∙ same)

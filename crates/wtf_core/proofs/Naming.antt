@@ -9,7 +9,7 @@ use Rattle.wtf_values.specs.declared.value.Value.{Value}
 use Rattle.wtf_model.specs.declared.answer.Answer.{Answer}
 use Rattle.wtf_model.specs.declared.answer.Answer.TheVariants as answer
 use Rattle.wtf_model.specs.declared.answer.Word.{Word}
-use Rattle.wtf_model.specs.declared.answer.Word.TheVariants.{InTx, NoTx}
+use Rattle.wtf_model.specs.declared.answer.Word.TheVariants.{InTx, NoTx, NoJob}
 use Rattle.wtf_model.specs.declared.event.Verb.{Verb}
 use Rattle.wtf_model.specs.declared.event.Verb.TheVariants as verb
 use Rattle.wtf_meta.specs.Bytes.{MapBytes}
@@ -22,13 +22,16 @@ use Rattle.wtf_region.specs.Cached.{Remembered}
 use Rattle.wtf_replay.specs.Views.{TxnView, begun, rebased}
 use Rattle.wtf_replay.specs.Insides.{TxnBytes}
 use Rattle.wtf_replay.specs.Refusals.{try_refusal}
-use Rattle.wtf_clients.specs.Views.{TablesView, of_client, metadata_now}
+use Rattle.wtf_compact.specs.Jobs.{JobView}
+use Rattle.wtf_clients.specs.JobTurns.{RefusesJob, Puts, PutTurn, DropsJob, DropTurn}
+use Rattle.wtf_clients.specs.Views.{BesideView, TablesView, of_client, of_label, metadata_now}
 use Rattle.wtf_clients.specs.Sounds.{AreSound, IsTidied}
 use Rattle.wtf_clients.specs.Named.{TablesBytes}
 use Rattle.wtf_clients.specs.Serves.{NamesTables}
 use Rattle.wtf_clients.specs.Turns.{Refuses, Begins, Commits, Retries, Tries, LoneTurn, TxnTurn, ClientTurn}
 use Rattle.wtf_clients.proofs.Naming.{txn_along, bytes_set, now_along, stays_bytes, ends_bytes, leaves_bytes}
 use Rattle.wtf_clients.proofs.Staying.{keeps_stays}
+use Rattle.wtf_clients.proofs.JobTurning.{puts_bytes, drops_bytes}
 use Rattle.wtf_clients.proofs.Lives.{now_bytes, begun_reaches, moved_reaches}
 use Rattle.wtf_core.proofs.Tidying.{base_same, live_same}
 
@@ -43,7 +46,7 @@ module _ (P : List Place → Bool) (Q : Slice → Bool) (hole : P [] ≡ true) w
       } in
       bytes_set P Q old new c (Some x) sound begins.clients (λ n le. at n) (begun_reaches old.kv new.kv begins.pinned) h
       (subst (MapBytes P Q) (sym (ap (λ (s : Store Key Value). metadata_now s) begins.kv)) (now_bytes P Q old h))
-      (λ y is. subst (TxnBytes P Q new.kv) (let e : x ≡ y = cc in e) own)
+      (λ y is. subst (TxnBytes P Q new.kv) (let e : x ≡ y = cc in e) own) begins.beside
 
   commits_bytes : (old new : TablesView) (c : ℕ) (x : TxnView) (n : ℕ) → AreSound old → of_client old.clients c ≡ Some x → Commits old new c x n → TablesBytes
       P Q old → TablesBytes P Q new
@@ -64,7 +67,7 @@ module _ (P : List Place → Bool) (Q : Slice → Bool) (hole : P [] ≡ true) w
         log = (h.each c x here).log;
       } in
       bytes_set P Q old new c (Some turn.later) sound turn.clients turn.maps (moved_reaches old.kv new.kv b n turn.retried.number_is turn.retried.pins) h now
-      (λ y same. subst (TxnBytes P Q new.kv) (sym is ∙ (let e : turn.later ≡ y = cc in e)) own)
+      (λ y same. subst (TxnBytes P Q new.kv) (sym is ∙ (let e : turn.later ≡ y = cc in e)) own) turn.beside
 
   tries_bytes : (old new : TablesView) (c : ℕ) (x : TxnView) (a : Answer) → AreSound old → of_client old.clients c ≡ Some x → Tries old new c x a →
       TablesBytes P Q old → TablesBytes P Q new
@@ -107,6 +110,23 @@ local_names Telling lists servers size told later old new c v a local sound turn
     by (Some x) verb.Commit l here t = absurd l
     by (Some x) (verb.Call o) l here t = absurd l
 
+-- so do a put and a drop of a job
+module _ (old new : TablesView) (j : ℕ) (sound : AreSound old) (a : Answer) where
+  pub put_names : PutTurn old new j a → NamesTables old new
+  put_names turn P Q hole h = by (of_label old.beside.jobs j) refl turn
+    where
+      by : (o : Option JobView) → of_label old.beside.jobs j ≡ o → MatchOption o (RefusesJob old new NoJob a) (λ x. Puts old new j x a) → TablesBytes P Q new
+      by None none t = subst (TablesBytes P Q) (sym t.same) h
+      by (Some x) there t = puts_bytes P Q old new j sound x a there t hole h
+
+  pub drop_names : DropTurn old new j a → NamesTables old new
+  drop_names turn P Q hole h = by (of_label old.beside.jobs j) refl turn
+    where
+      by : (o : Option JobView) → of_label old.beside.jobs j ≡ o → MatchOption o (RefusesJob old new NoJob a) (λ x. DropsJob old new j x a)
+          → TablesBytes P Q new
+      by None none t = subst (TablesBytes P Q) (sym t.same) h
+      by (Some x) there t = drops_bytes P Q old new j sound x a there t h
+
 -- dropping versions that no one sees leaves the bytes that are named
 pub tidied_bytes : (P : List Place → Bool) (Q : Slice → Bool) (old new : TablesView) → AreSound old → IsTidied old new → TablesBytes P Q old → TablesBytes P Q
     new
@@ -115,4 +135,5 @@ tidied_bytes P Q old new sound tidy h = record {
   each = λ c x is.
       let was : of_client old.clients c ≡ Some x = ap (λ l. of_client l c) (sym tidy.clients) ∙ is in
       txn_along P Q old.kv new.kv x (base_same old new sound tidy c x was) (h.each c x was);
+  planned = λ j x is. h.planned j x (ap (λ (b : BesideView). of_label b.jobs j) (sym tidy.beside) ∙ is);
 }

@@ -1,5 +1,6 @@
 -- What a keeper holds goes on standing for one of the trees that the machine may have saved.
-use Rattle.std.proofs.Common.{◌≡◌, ◌≢◌, ◌≤◌, ◌^◌, ℕ, true, false, Bool, if◌then◌else◌, List, [], ◌∷◌, ◌++◌, Option, Some, None, refl, sym, ap, ◌∙◌, subst, inl, inr, ⊎_elim, arith}
+use Rattle.std.proofs.Common.{◌≡◌, ◌≢◌, ◌≤◌, ◌^◌, ℕ, true, false, Bool, if◌then◌else◌, List, [], ◌∷◌, ◌++◌, Option, Some, None, refl, sym, ap, ◌∙◌, subst, inl}
+use Rattle.std.proofs.Common.{inr, ⊎_elim, arith}
 use Rattle.std.specs.FinMap.{get}
 use Rattle.std.specs.List.{Contains}
 use Rattle.std.proofs.lemmas.List.Elements.{Contains-append_left, Contains-push}
@@ -103,18 +104,22 @@ module _ (told later : Told) (on : TellsOn told later) where
     stands = λ tx le. Stands-later told later on h.rows.header.region tx 0 h.map t (h.stands tx le);
   }
 
-  one_later : (bytes : List ℕ) (may more : List Tree) → ((t : Tree) → Contains may t → Contains more t) → IsImageOfOne told bytes may → IsImageOfOne later bytes more
+  one_later : (bytes : List ℕ) (may more : List Tree) → ((t : Tree) → Contains may t → Contains more t) → IsImageOfOne told bytes may
+      → IsImageOfOne later bytes more
   one_later bytes may more on_list (inl (empty, there)) = inl (empty, on_list root_alone there)
   one_later bytes may more on_list (inr (t, there, image)) = inr (t, on_list t there, image_later bytes t image)
 
-module _ {S : Type 0} (kind : StoreKind S) (span : Span S) (k : KeeperSpan) (laws : KeeperLaws k) (settings : Settings) (old new : TablesView) (told later : Told) (on : TellsOn told later) (m : Machine)
-    (limits : AreSettings settings.servers settings.replicas settings.region) (begun_one : AreSound old) (few : old.kv.number ≤ 2 ^ 62) (next : old.next_tx ≤ 2 ^ 62) (st : TablesStand settings.region told old m) where
+module _ {S : Type 0} (kind : StoreKind S) (span : Span S) (k : KeeperSpan) (laws : KeeperLaws k) (settings : Settings) (old new : TablesView)
+    (told later : Told) (on : TellsOn told later) (m : Machine)
+    (limits : AreSettings settings.servers settings.replicas settings.region) (begun_one : AreSound old) (few : old.kv.number ≤ 2 ^ 62)
+    (next : old.next_tx ≤ 2 ^ 62) (st : TablesStand settings.region told old m) where
   -- the new image is that of the tree now
   handed_tree : (hands : Hands kind span k settings old) → IsImageOfTree later hands.bytes m.now
   handed_tree hands =
       let kept : IsKept old.kv settings old.next_tx hands.bytes =
       is_kept old.kv settings old.next_tx hands.bytes hands.image limits few next
-      (stands_savable settings.region told old.next_tx 0 (metadata_now old.kv) m.now (st.later old.next_tx (omega arith)) old.next_tx begun_one.begun st.before) in
+      (stands_savable settings.region told old.next_tx 0 (metadata_now old.kv) m.now
+      (st.later old.next_tx (omega arith)) old.next_tx begun_one.begun st.before) in
       let region : kept.rows.header.region ≡ settings.region = ap (λ h. h.region) kept.header in
       let begins : kept.rows.header.next_tx ≡ old.next_tx = ap (λ h. h.next_tx) kept.header in
       record {
@@ -126,33 +131,46 @@ module _ {S : Type 0} (kind : StoreKind S) (span : Span S) (k : KeeperSpan) (law
             (Stands-later told later on settings.region tx 0 (metadata_now old.kv) m.now (st.later tx (subst (λ n. n ≤ tx) begins le)));
       }
 
-  untouched_tree : (more : List Tree) → ((t : Tree) → Contains m.may_be_saved t → Contains more t) → k.untouched → HoldsTree k.before told m.may_be_saved → HoldsTree k.after later more
-  untouched_tree more listed untouched (bytes, held, is) = (bytes, ap (λ v. v.held) (laws.same untouched) ∙ held, one_later told later on bytes m.may_be_saved more listed is)
+  untouched_tree : (more : List Tree) → ((t : Tree) → Contains m.may_be_saved t → Contains more t) → k.untouched → HoldsTree k.before told m.may_be_saved
+      → HoldsTree k.after later more
+  untouched_tree more listed untouched (bytes, held, is) =
+      (bytes, ap (λ v. v.held) (laws.same untouched) ∙ held, one_later told later on bytes m.may_be_saved more listed is)
 
   failed_tree : KeeperFailed kind span k settings old new → HoldsTree k.before told m.may_be_saved → HoldsTree k.after later (m.may_be_saved ++ m.now ∷ [])
   failed_tree failed (bytes, held, is) = ⊎_elim
-      (λ stays. (bytes, stays, one_later told later on bytes m.may_be_saved (m.may_be_saved ++ m.now ∷ []) (λ t there. Contains-append_left m.may_be_saved (m.now ∷ []) t there) is))
+      (λ stays. (
+        bytes,
+        stays,
+        one_later told later on bytes m.may_be_saved (m.may_be_saved ++ m.now ∷ [])
+            (λ t there. Contains-append_left m.may_be_saved (m.now ∷ []) t there) is,
+      ))
       (λ (image, there, holds).
       let same : failed.hands.bytes ≡ image = handed_one failed.hands.bytes image there in
       (failed.hands.bytes, holds ∙ ap Some (sym same), inr (m.now, Contains-push m.may_be_saved m.now, handed_tree failed.hands)))
       ((laws.kept (failed.hands.bytes ∷ []) failed.hands.handed).bytes bytes held)
 
-  save_tree : (Up : Type 0) (a : Answer) → SaveTurn Up old new a → KeeperTurn kind span k settings old new event.Save a → k.before.tells ≡ true → HoldsTree k.before told m.may_be_saved → HoldsTree k.after later (saved m a).may_be_saved
+  save_tree : (Up : Type 0) (a : Answer) → SaveTurn Up old new a → KeeperTurn kind span k settings old new event.Save a → k.before.tells ≡ true
+      → HoldsTree k.before told m.may_be_saved → HoldsTree k.after later (saved m a).may_be_saved
   save_tree Up (answer.Saved n) turn did tells held = (did.hands.bytes, did.held tells, inr (m.now, Contains-push [] m.now, handed_tree did.hands))
-  save_tree Up answer.FaultSave turn (inl did) tells held = untouched_tree (m.may_be_saved ++ m.now ∷ []) (λ t there. Contains-append_left m.may_be_saved (m.now ∷ []) t there) did.untouched held
+  save_tree Up answer.FaultSave turn (inl did) tells held =
+      untouched_tree (m.may_be_saved ++ m.now ∷ []) (λ t there. Contains-append_left m.may_be_saved (m.now ∷ []) t there) did.untouched held
   save_tree Up answer.FaultSave turn (inr did) tells held = failed_tree did held
   save_tree Up a turn did tells held = absurd turn
 
 -- each line
-module _ {S : Type 0} (kind : StoreKind S) (span : Span S) (k : KeeperSpan) (laws : KeeperLaws k) (Telling : Type 0) (told later : Told) (on : TellsOn told later) (old new : CoreView) (m : Machine)
-    (limits : AreSettings old.settings.servers old.settings.replicas old.settings.region) (sound : AreSound old.tables) (few : old.tables.kv.number ≤ 2 ^ 62) (next : old.tables.next_tx ≤ 2 ^ 62)
+module _ {S : Type 0} (kind : StoreKind S) (span : Span S) (k : KeeperSpan) (laws : KeeperLaws k) (Telling : Type 0) (told later : Told)
+    (on : TellsOn told later) (old new : CoreView) (m : Machine)
+    (limits : AreSettings old.settings.servers old.settings.replicas old.settings.region) (sound : AreSound old.tables) (few : old.tables.kv.number ≤ 2 ^ 62)
+    (next : old.tables.next_tx ≤ 2 ^ 62)
     (st : TablesStand old.settings.region told old.tables m) (a : Answer) where
   other_tree : (e : Event) → e ≢ event.Save → k.untouched → HoldsTree k.before told m.may_be_saved → HoldsTree k.after later (after m e a).may_be_saved
   other_tree e ne untouched held =
       untouched_tree kind span k laws old.settings old.tables new.tables told later on m limits sound few next st (after m e a).may_be_saved
       (λ t there. subst (λ l. Contains l t) (sym (event_may m e a ne)) there) untouched held
 
-  pub line_tree : (e : Event) → LineTurn Telling (told, later) old new e a → KeeperTurn kind span k old.settings old.tables new.tables e a → k.before.tells ≡ true
+  pub line_tree : (e : Event) → LineTurn Telling (told, later) old new e a → KeeperTurn kind span k old.settings old.tables new.tables e a
+      → k.before.tells ≡ true
       → HoldsTree k.before told m.may_be_saved → HoldsTree k.after later (after m e a).may_be_saved
-  line_tree event.Save turn did tells held = save_tree kind span k laws old.settings old.tables new.tables told later on m limits sound few next st _ a turn.0 did tells held
+  line_tree event.Save turn did tells held =
+      save_tree kind span k laws old.settings old.tables new.tables told later on m limits sound few next st _ a turn.0 did tells held
   line_tree e turn did tells held = other_tree e (λ is. absurd (cc)) did held

@@ -17,6 +17,7 @@ use Rattle.wtf_model.specs.declared.limits.TheConstants.{MAX_REGIONS}
 use Rattle.wtf_model.specs.declared.answer.Answer.{Answer}
 use Rattle.wtf_model.specs.declared.answer.Answer.TheVariants as answer
 use Rattle.wtf_model.specs.declared.answer.Word.{Word}
+use Rattle.wtf_model.specs.declared.answer.Word.TheVariants.{NoTx}
 use Rattle.wtf_model.specs.declared.op.Op.{Op}
 use Rattle.wtf_model.specs.declared.event.Verb.TheVariants as verb
 use Rattle.wtf_model.specs.Session.{Session, fresh}
@@ -45,6 +46,7 @@ use Rattle.wtf_clients.specs.Sounds.{owned, IsOpen, AreSound}
 use Rattle.wtf_clients.specs.Touched.{SinceBase}
 use Rattle.wtf_clients.specs.Standing.{StandsForTxn, StandsForSlot, TablesStand}
 use Rattle.wtf_clients.specs.Turns.{Refuses, Begins, Calls, CallFails, Ends}
+use Rattle.wtf_clients.proofs.Lists.{sets_same}
 use Rattle.wtf_clients.proofs.Pins.{one_some}
 use Rattle.wtf_clients.proofs.SinceLaws.{since_none}
 use Rattle.wtf_clients.proofs.Frames.{Turned, sound_turned, stands_kept}
@@ -65,6 +67,14 @@ module _ (old new : TablesView) (c : ℕ) (w : Word) (a : Answer) (sound : AreSo
   pub refuses_stand : (size : ℕ) (told later : Told) (m : Machine) → TablesStand size told old m → TellsOn told later → TablesStand size later new m
   refuses_stand size told later m st on = stays_stand old new c sound (keeps_stays old new c refuses.keeps) size told later m st on
 
+-- tables that stay stand for the same over stores that tell more
+pub tables_later : (size : ℕ) (told later : Told) (tables : TablesView) (m : Machine) → AreSound tables → TablesStand size told tables m → TellsOn told later
+    → TablesStand size later tables m
+tables_later size told later tables m sound stands on =
+    refuses_stand tables tables 0 NoTx (answer.Refused NoTx) sound
+    (record { answer = refl; keeps = record { clients = sets_same 0 tables.clients tables.clients refl; kv = refl; next_tx = refl; beside = refl } })
+    size told later m stands on
+
 -- ---- a transaction begins
 module _ (old new : TablesView) (c : ℕ) (a : Answer) (sound : AreSound old) (none : of_client old.clients c ≡ None) (begins : Begins old new c a) where
   -- the client has a transaction of the next number, at the number now, which is pinned for it
@@ -82,7 +92,7 @@ module _ (old new : TablesView) (c : ℕ) (a : Answer) (sound : AreSound old) (n
             let more = begins.pinned n in
             let was : owned n (of_client old.clients c) ≡ 0 = ap (owned n) none in
             omega (arith, more, was);
-        saved = begins.saved;
+        beside = begins.beside;
         own = λ z is. subst (λ v. IsOpen new.kv new.next_tx v) (one_some (Some x) x z refl is) (record {
           going = refl;
           fit = begins.fit;
@@ -97,7 +107,8 @@ module _ (old new : TablesView) (c : ℕ) (a : Answer) (sound : AreSound old) (n
   begins_sound = sound_turned old new c (Some (begun old.next_tx old.kv.number)) sound begins_turned
 
   -- the machine may answer so, and they stand for it with a transaction that begins on the tree now
-  pub begins_stand : (size : ℕ) (told later : Told) (m : Machine) → TablesStand size told old m → TellsOn told later → MayAsk m None verb.Begin a × TablesStand size later new (machine_begun m c a)
+  pub begins_stand : (size : ℕ) (told later : Told) (m : Machine) → TablesStand size told old m → TellsOn told later
+      → MayAsk m None verb.Begin a × TablesStand size later new (machine_begun m c a)
   begins_stand size told later m st on =
       let x : TxnView = begun old.next_tx old.kv.number in
       let t : Transaction = record { stamp = m.next_stamp; base = m.number; tree = m.now; ops = []; shown = []; replayed = 0; touched = [] } in
@@ -122,7 +133,7 @@ module _ (old new : TablesView) (c : ℕ) (a : Answer) (sound : AreSound old) (n
         subst (λ r. TablesStand size later new (machine_begun m c r)) (sym begins.answer)
             (stands_kept size told later old new m after c (Some x) sound st on begins_turned number
             (λ q. ap (λ (k : Store Key Value). versions_of key_cmp k q) begins.kv)
-            (λ d other. get-number_other m.transactions c t d other) refl refl refl
+            (λ d other. get-number_other m.transactions c t d other) refl refl refl refl
             (subst (λ o. StandsForSlot size later new.kv m.now (Some x) o) (sym (get-number_same m.transactions c t)) stands)),
       )
 
@@ -152,7 +163,8 @@ last_answer cap tree ops shown o a before all =
     (sym all ∙ answers_from-push cap (fresh tree) ops o ∙ ap (λ l. l ++ (call cap (session_after cap tree ops) o).answer ∷ []) before)
 
 -- all of the calls answer what was shown, where all are done
-all_answers : (size : ℕ) (kv : Store Key Value) (told : Told) (x : TxnView) (ops : List (Op (List ℕ))) (tree : Tree) → IsSound size kv told x ops → IsFit kv x → x.replayed ≡ length x.log.ops
+all_answers : (size : ℕ) (kv : Store Key Value) (told : Told) (x : TxnView) (ops : List (Op (List ℕ))) (tree : Tree) → IsSound size kv told x ops → IsFit kv x
+    → x.replayed ≡ length x.log.ops
     → Stands size told x.tx 0 (metadata_at kv x.at.base) tree → answers_of (MAX_REGIONS * size) tree ops ≡ x.log.shown
 all_answers size kv told x ops tree sound fit live stands =
     let cap : ℕ = MAX_REGIONS * size in
@@ -175,7 +187,8 @@ module _ (Telling : Type 0) (lists : Remembered) (servers size : ℕ) (told late
       goes_sound old new c x calls.later_one sound here calls.keeps is.tx is.grows.base is.ended calls.fit
 
   -- the answer is due to the machine's transaction, which logs it too
-  pub calls_stand : (m : Machine) (t : Transaction) → m.settings.region ≡ size → TablesStand size told old m → TellsOn told later → get m.transactions c ≡ Some t → call_refusal x ≡ None
+  pub calls_stand : (m : Machine) (t : Transaction) → m.settings.region ≡ size → TablesStand size told old m → TellsOn told later
+      → get m.transactions c ≡ Some t → call_refusal x ≡ None
       → Telling × CacheTrue told size [] lists → MayCall m t o a × TablesStand size later new (called m c t o a)
   calls_stand m t region st on there asked telling =
       let y : TxnView = calls.later_one in
@@ -186,15 +199,18 @@ module _ (Telling : Type 0) (lists : Remembered) (servers size : ℕ) (told late
       let calls_are : IsSound size old.kv later y (t.ops ++ o ∷ []) = calls.sound (telling.0, telling.1, txn.tree.bytes) t.ops txn.sound in
       let log : y.log ≡ with_call x.log calls.called.kept a = is.log in
       let shown : y.log.shown ≡ x.log.shown ++ a ∷ [] = ap (λ l. l.shown) log in
-      let live2 : y.replayed ≡ length y.log.ops = is.replayed ∙ ap (λ n. n + 1) live ∙ sym (length_push x.log.ops calls.called.kept) ∙ ap (λ l. length l.ops) (sym log) in
+      let live2 : y.replayed ≡ length y.log.ops = is.replayed ∙ ap (λ n. n + 1) live ∙ sym (length_push x.log.ops calls.called.kept)
+      ∙ ap (λ l. length l.ops) (sym log) in
       let cap : cap_of m ≡ MAX_REGIONS * size = cap_is m size region in
       let tree : Stands size later y.tx 0 (metadata_at old.kv y.at.base) t.tree =
       subst (λ n. Stands size later n 0 (metadata_at old.kv y.at.base) t.tree) (sym is.tx)
       (subst (λ b. Stands size later x.tx 0 (metadata_at old.kv b) t.tree) (sym is.grows.base)
       (Stands-later told later on size x.tx 0 (metadata_at old.kv x.at.base) t.tree txn.tree)) in
       let before : answers_of (MAX_REGIONS * size) t.tree t.ops ≡ x.log.shown = all_answers size old.kv told x t.ops t.tree txn.sound fit live txn.tree in
-      let all : answers_of (MAX_REGIONS * size) t.tree (t.ops ++ o ∷ []) ≡ x.log.shown ++ a ∷ [] = all_answers size old.kv later y (t.ops ++ o ∷ []) t.tree calls_are calls.fit live2 tree ∙ shown in
-      let is_due : a ≡ due m t o = subst (λ k. a ≡ (call k (session_after k t.tree t.ops) o).answer) (sym cap) (last_answer (MAX_REGIONS * size) t.tree t.ops x.log.shown o a before all) in (
+      let all : answers_of (MAX_REGIONS * size) t.tree (t.ops ++ o ∷ []) ≡ x.log.shown ++ a ∷ [] = all_answers size old.kv later y
+      (t.ops ++ o ∷ []) t.tree calls_are calls.fit live2 tree ∙ shown in
+      let is_due : a ≡ due m t o = subst (λ k. a ≡ (call k (session_after k t.tree t.ops) o).answer) (sym cap)
+      (last_answer (MAX_REGIONS * size) t.tree t.ops x.log.shown o a before all) in (
         inl is_due,
         subst (λ u. TablesStand size later new u) (sym (called_is m c t o a is.answer))
             (goes_stand old new c x y sound here calls.keeps is.tx is.grows.base is.ended calls.fit size told later m t (logged t o a) st on there
@@ -211,39 +227,47 @@ fault_unlogged (answer.Damaged k) h = refl
 fault_unlogged a h = absurd h
 
 -- what the calls that are done have left of the tree at the base is what the next call runs on
-module _ (size : ℕ) (kv : Store Key Value) (told : Told) (x : TxnView) (t : Transaction) (sound : IsSound size kv told x t.ops) (live : x.replayed ≡ length x.log.ops) (stands : Stands size told x.tx 0 (metadata_at kv x.at.base) t.tree) where
+module _ (size : ℕ) (kv : Store Key Value) (told : Told) (x : TxnView) (t : Transaction) (sound : IsSound size kv told x t.ops)
+    (live : x.replayed ≡ length x.log.ops) (stands : Stands size told x.tx 0 (metadata_at kv x.at.base) t.tree) where
   pub next_may : (servers : ℕ) (o : Op (List ℕ)) (a : Answer)
-      → ((y : Caller) (u : Told) (S : Session) → y.size ≡ size → Stands y.size u y.tx y.calls (seen kv x.at) S.tree → Holds u (seen kv x.at) x.session S → MayFail servers o (call (cap_for y) S o).answer a)
+      → ((y : Caller) (u : Told) (S : Session) → y.size ≡ size → Stands y.size u y.tx y.calls (seen kv x.at) S.tree → Holds u (seen kv x.at) x.session S
+      → MayFail servers o (call (cap_for y) S o).answer a)
       → MayFail servers o (call (MAX_REGIONS * size) (session_after (MAX_REGIONS * size) t.tree t.ops) o).answer a
   next_may servers o a may =
       let ran = at_base size kv told x t.ops sound t.tree stands in
-      subst (λ ops. MayFail servers o (call (MAX_REGIONS * size) (session_after (MAX_REGIONS * size) t.tree ops) o).answer a) (done_all size kv told x t.ops sound live)
-      (may (caller_at size x.tx (length (take x.replayed t.ops))) told (session_after (MAX_REGIONS * size) t.tree (take x.replayed t.ops)) refl ran.stands ran.holds)
+      subst (λ ops. MayFail servers o (call (MAX_REGIONS * size) (session_after (MAX_REGIONS * size) t.tree ops) o).answer a)
+      (done_all size kv told x t.ops sound live)
+      (may (caller_at size x.tx (length (take x.replayed t.ops))) told
+      (session_after (MAX_REGIONS * size) t.tree (take x.replayed t.ops)) refl ran.stands ran.holds)
 
 module _ (Telling : Type 0) (lists : Remembered) (servers size : ℕ) (told later : Told) (old new : TablesView) (c : ℕ) (x : TxnView) (o : Op (List ℕ))
     (a : Answer)
     (sound : AreSound old) (here : of_client old.clients c ≡ Some x) (fails : CallFails Telling lists servers size told later old new c x o a) where
   -- a call that failed: the machine may answer so, and is then as it was
-  pub fails_stand : (m : Machine) (t : Transaction) → m.settings.region ≡ size → m.settings.servers ≡ servers → TablesStand size told old m → TellsOn told later → get m.transactions c ≡ Some t → call_refusal x ≡ None
+  pub fails_stand : (m : Machine) (t : Transaction) → m.settings.region ≡ size → m.settings.servers ≡ servers → TablesStand size told old m
+      → TellsOn told later → get m.transactions c ≡ Some t → call_refusal x ≡ None
       → MayCall m t o a × TablesStand size later new (called m c t o a)
   fails_stand m t region count st on there asked =
       let txn = txn_in size told old m c x t st here there in
       let cap : cap_of m ≡ MAX_REGIONS * size = cap_is m size region in
       let may = next_may size old.kv told x t txn.sound (call_live x asked) txn.tree servers o a fails.may in
-      let same : called m c t o a ≡ m = ap (λ b. if b then with_transaction m c (logged t o a) else m) (fault_unlogged a (fault_is fails.fails.why a fails.fails.answer)) in (
+      let same : called m c t o a ≡ m = ap (λ b. if b then with_transaction m c (logged t o a) else m)
+      (fault_unlogged a (fault_is fails.fails.why a fails.fails.answer)) in (
         inr (subst (λ k. MayFail m.settings.servers o (call k (session_after k t.tree t.ops) o).answer a) (sym cap)
             (subst (λ n. MayFail n o (call (MAX_REGIONS * size) (session_after (MAX_REGIONS * size) t.tree t.ops) o).answer a) (sym count) may)),
         subst (λ u. TablesStand size later new u) (sym same) (stays_stand old new c sound fails.fails.stays size told later m st on),
       )
 
 -- ---- an abort
-module _ (old new : TablesView) (c : ℕ) (x : TxnView) (a : Answer) (sound : AreSound old) (here : of_client old.clients c ≡ Some x) (aborts : (a ≡ answer.Okay) × Ends old new old.kv c x) where
+module _ (old new : TablesView) (c : ℕ) (x : TxnView) (a : Answer) (sound : AreSound old) (here : of_client old.clients c ≡ Some x)
+    (aborts : (a ≡ answer.Okay) × Ends old new old.kv c x) where
   -- the tables stay sound
   pub aborts_sound : AreSound new
   aborts_sound = ends_sound old new old.kv c x sound here (omega arith) aborts.1
 
   -- and the machine ends the transaction too
-  pub aborts_stand : (size : ℕ) (told later : Told) (m : Machine) (t : Transaction) → TablesStand size told old m → TellsOn told later → MayAsk m (Some t) verb.Abort a × TablesStand size later new (aborted m c a)
+  pub aborts_stand : (size : ℕ) (told later : Told) (m : Machine) (t : Transaction) → TablesStand size told old m → TellsOn told later
+      → MayAsk m (Some t) verb.Abort a × TablesStand size later new (aborted m c a)
   aborts_stand size told later m t st on = (
     aborts.0,
     subst (λ r. TablesStand size later new (aborted m c r)) (sym aborts.0)

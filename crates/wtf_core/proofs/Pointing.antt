@@ -1,5 +1,6 @@
 -- Where each byte that metadata name lies inside the stores, so do all pointers of their image; and pointers that do go on to.
-use Rattle.std.proofs.Common.{◌≡◌, ℕ, zero, suc, ◌+◌, ◌-◌, ◌<◌, ◌≤◌, Bool, true, nat_lt, nat_le, ◌&&◌, List, [], ◌∷◌, ◌++◌, map, length, Option, None, Some, refl, sym, ap, subst, ◌∙◌, arith, inl, inr}
+use Rattle.std.proofs.Common.{◌≡◌, ℕ, zero, suc, ◌+◌, ◌-◌, ◌<◌, ◌≤◌, Bool, true, nat_lt, nat_le, ◌&&◌, List, [], ◌∷◌, ◌++◌, map, length, Option, None, Some}
+use Rattle.std.proofs.Common.{refl, sym, ap, subst, ◌∙◌, arith, inl, inr}
 use Rattle.std.specs.Prelude.{slice_get}
 use Rattle.std.specs.List.{All, AllByRecursion, list_all}
 use Rattle.std.specs.Option.{option_map, unwrap_or}
@@ -43,7 +44,8 @@ use Rattle.wtf_core.proofs.Fetched.{same_size, lengths}
 
 -- ---- what holds of each region that a map shows holds of each that its image has
 
-below_each : (now : ℕ → Option RegionRow) (P : RegionRow → Type 0) (n : ℕ) → ((r : ℕ) (row : RegionRow) → now r ≡ Some row → P row) → AllByRecursion P (regions_below now n)
+below_each : (now : ℕ → Option RegionRow) (P : RegionRow → Type 0) (n : ℕ) → ((r : ℕ) (row : RegionRow) → now r ≡ Some row → P row)
+    → AllByRecursion P (regions_below now n)
 below_each now P zero each = tt
 below_each now P (suc n) each = one (regions_below now n) (now n) refl (below_each now P n each)
   where
@@ -72,7 +74,8 @@ module _ {S : Type 0} (kind : StoreKind S) (shelf : List S) (settings : Settings
 
   -- ---- a slice: the place of its last byte tells where it ends
 
-  pointer_out : (n i : ℕ) (p : Pointer) → p.len ≡ n → i + 1 ≡ n → is_place_inside kind shelf settings (place_in i p) ≡ true → lies_inside settings.servers sizes p ≡ true
+  pointer_out : (n i : ℕ) (p : Pointer) → p.len ≡ n → i + 1 ≡ n → is_place_inside kind shelf settings (place_in i p) ≡ true
+      → lies_inside settings.servers sizes p ≡ true
   pointer_out n i p len last h =
       let a = and_parts (nat_lt p.server.0 settings.servers) (nat_lt p.file 8 && nat_lt (p.at + i) (size_in kind (slice_get shelf p.server.0) p.file)) h in
       let b = and_parts (nat_lt p.file 8) (nat_lt (p.at + i) (size_in kind (slice_get shelf p.server.0) p.file)) a.1 in
@@ -82,11 +85,13 @@ module _ {S : Type 0} (kind : StoreKind S) (shelf : List S) (settings : Settings
       and_from (nat_lt p.server.0 settings.servers) (nat_lt p.file 8 && nat_le (p.at + p.len) (sizes p.server.0 p.file)) a.0
       (and_from (nat_lt p.file 8) (nat_le (p.at + p.len) (sizes p.server.0 p.file)) b.0 (le-leb _ _ le))
 
-  pointers_out : (n i : ℕ) (ps : List Pointer) → AllByRecursion (λ p. p.len ≡ n) ps → i + 1 ≡ n → Inside (map (place_in i) ps) ≡ true → list_all (lies_inside settings.servers sizes) ps ≡ true
+  pointers_out : (n i : ℕ) (ps : List Pointer) → AllByRecursion (λ p. p.len ≡ n) ps → i + 1 ≡ n → Inside (map (place_in i) ps) ≡ true
+      → list_all (lies_inside settings.servers sizes) ps ≡ true
   pointers_out n i [] len last h = refl
   pointers_out n i (p ∷ ps) len last h =
       let both = and_parts (is_place_inside kind shelf settings (place_in i p)) (Inside (map (place_in i) ps)) h in
-      and_from (lies_inside settings.servers sizes p) (list_all (lies_inside settings.servers sizes) ps) (pointer_out n i p len.0 last both.0) (pointers_out n i ps len.1 last both.1)
+      and_from (lies_inside settings.servers sizes p) (list_all (lies_inside settings.servers sizes) ps) (pointer_out n i p len.0 last both.0)
+      (pointers_out n i ps len.1 last both.1)
 
   -- ---- a region
 
@@ -98,7 +103,8 @@ module _ {S : Type 0} (kind : StoreKind S) (shelf : List S) (settings : Settings
   entries_out : (es : List Entry) → All (EntryBytes Inside) es → list_all (λ e. is_part_inside settings.servers sizes e.part) (entry_rows es) ≡ true
   entries_out [] h = refl
   entries_out (e ∷ es) h =
-      and_from (is_part_inside settings.servers sizes (part_row e.part)) (list_all (λ (r : EntryRow). is_part_inside settings.servers sizes r.part) (entry_rows es))
+      and_from (is_part_inside settings.servers sizes (part_row e.part))
+      (list_all (λ (r : EntryRow). is_part_inside settings.servers sizes r.part) (entry_rows es))
       (part_out e.len e.part e.held e.positive (All-head (EntryBytes Inside) e es h)) (entries_out es (All-tail (EntryBytes Inside) e es h))
 
   has_bytes : (n : ℕ) (e : Extents) → IsSound n e → 0 < n
@@ -137,7 +143,8 @@ module _ {S : Type 0} (kind : StoreKind S) (shelf : List S) (settings : Settings
         let (n, is) = file_shown said f.inode f o e in
         subst (λ (g : FileRow). is_file_inside settings.servers sizes g ≡ true) is
         (all_from (is_region_inside settings.servers sizes) (regions_below (region_in said f.inode) (n + 1))
-        (below_each (region_in said f.inode) (λ row. is_region_inside settings.servers sizes row ≡ true) (n + 1) (λ r row now. region_out r (w (Region f.inode r)) row (inside (Region f.inode r)) now)))
+        (below_each (region_in said f.inode) (λ row. is_region_inside settings.servers sizes row ≡ true) (n + 1)
+        (λ r row now. region_out r (w (Region f.inode r)) row (inside (Region f.inode r)) now)))
 
     -- all pointers of the image of a map lie inside, where each byte of the map does
     pub rows_inside : (x : ImageRows) → IsImage x → Says said x → x.header.servers ≡ settings.servers → are_inside sizes x ≡ true
@@ -184,7 +191,8 @@ module _ (size later : ℕ → ℕ → ℕ) (grows : (k f : ℕ) → size k f �
       (base_on r.base both.0) (entries_on r.entries both.1)
 
   files_on : (fs : List FileRow) → list_all (is_file_inside servers size) fs ≡ true → list_all (is_file_inside servers later) fs ≡ true
-  files_on fs h = all_more (is_file_inside servers size) (is_file_inside servers later) (λ f. all_more (is_region_inside servers size) (is_region_inside servers later) region_on f.regions) fs h
+  files_on fs h = all_more (is_file_inside servers size) (is_file_inside servers later)
+      (λ f. all_more (is_region_inside servers size) (is_region_inside servers later) region_on f.regions) fs h
 
 -- an image that is taken goes on to be
 pub taken_on : (size later : ℕ → ℕ → ℕ) → ((k f : ℕ) → size k f ≤ later k f) → (bytes : List ℕ) (x : ImageRows) → IsTaken size bytes x → IsTaken later bytes x

@@ -54,5 +54,6 @@ found t p = ap (find path_cmp p) (shown_entries (entries t)) ∙ find-mapped pat
 pub rows_are : (b : ℕ) (told : Told) (tx k : ℕ) (w : Map) (t : Tree) (rows : List Row) → Stands b told tx k w t → IsShown (shown_at b w) rows → rows ≡ rows_of t
 rows_are b told tx k w t rows stands is =
     same_rows rows (rows_of t)
-    (same_entries path_cmp nat_list_cmp_total (slice_cmp-IsAntisymmetric nat_cmp-IsAntisymmetric) (entries_of rows) (entries_of (rows_of t)) is.sorted (rows_rise t)
+    (same_entries path_cmp nat_list_cmp_total (slice_cmp-IsAntisymmetric nat_cmp-IsAntisymmetric) (entries_of rows) (entries_of (rows_of t)) is.sorted
+    (rows_rise t)
     (λ p. is.each p ∙ node_shown b told w (w (Path p)) (get t p) (stands.nodes p) ∙ sym (found t p)))

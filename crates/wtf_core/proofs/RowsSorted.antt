@@ -35,13 +35,16 @@ module _ {K X : Type 0} (R : K → K → Ordering) where
 
   pub find-mapped : {Y : Type 0} (f : X → Y) (q : K) (es : List (K × X)) → find R q (map (λ e. (e.0, f e.1)) es) ≡ option_map f (find R q es)
   find-mapped f q [] = refl
-  find-mapped f q (e ∷ es) = elim (eq_by_cmp R q e.0) as (λ b. cond b (Some (f e.1)) (find R q (map (λ d. (d.0, f d.1)) es)) ≡ option_map f (cond b (Some e.1) (find R q es))) [ true ↦ refl | false ↦ find-mapped f q es ]
+  find-mapped f q (e ∷ es) = elim (eq_by_cmp R q e.0) as
+      (λ b. cond b (Some (f e.1)) (find R q (map (λ d. (d.0, f d.1)) es)) ≡ option_map f
+      (cond b (Some e.1) (find R q es))) [ true ↦ refl | false ↦ find-mapped f q es ]
 
   found_later : (q : K) (e : K × X) (es : List (K × X)) → is_some (find R q es) ≡ true → is_some (find R q (e ∷ es)) ≡ true
   found_later q e es h = elim (eq_by_cmp R q e.0) as (λ b. is_some (cond b (Some e.1) (find R q es)) ≡ true) [ true ↦ refl | false ↦ h ]
 
   -- an entry above all that are found
-  pub is_sorted-push : IsTotalOrder R → (es : List (K × X)) (k : K) (v : X) → ((x : K) → is_some (find R x es) ≡ true → R x k ≡ Less) → T (is_sorted R es) → T (is_sorted R (es ++ (k, v) ∷ []))
+  pub is_sorted-push : IsTotalOrder R → (es : List (K × X)) (k : K) (v : X) → ((x : K) → is_some (find R x es) ≡ true → R x k ≡ Less) → T (is_sorted R es)
+      → T (is_sorted R (es ++ (k, v) ∷ []))
   is_sorted-push o [] k v up h = tt
   is_sorted-push o (e ∷ es) k v up h = both _ _
       (below-push e.0 k v es (up e.0 (ap (λ r. is_some (cond (is_eq r) (Some e.1) (find R e.0 es))) (tied_itself o e.0))) (first _ _ h))

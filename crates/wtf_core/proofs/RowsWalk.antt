@@ -44,19 +44,23 @@ module _ (rows : List Row) (k : List ℕ) (fresh : find path_cmp k (entries_of r
   -- where the path ties with q there is nothing of q so far
   tied_none : (q : List ℕ) → find path_cmp q (entries_of rows) ≡ cond (eq_by_cmp path_cmp q k) None (find path_cmp q (entries_of rows))
   tied_none q = ⊎_elim
-      (λ tie. ap (λ p. find path_cmp p (entries_of rows)) (same_path q k (equal_is _ tie)) ∙ fresh ∙ sym (ap (λ b. cond b None (find path_cmp q (entries_of rows))) tie))
+      (λ tie. ap (λ p. find path_cmp p (entries_of rows)) (same_path q k (equal_is _ tie)) ∙ fresh
+      ∙ sym (ap (λ b. cond b None (find path_cmp q (entries_of rows))) tie))
       (λ off. sym (ap (λ b. cond b None (find path_cmp q (entries_of rows))) off))
       (cases_Bool (eq_by_cmp path_cmp q k))
 
-  pub find-with_row : (o : Option (Option ℕ)) (q : List ℕ) → find path_cmp q (entries_of (with_row rows k o)) ≡ cond (eq_by_cmp path_cmp q k) o (find path_cmp q (entries_of rows))
+  pub find-with_row : (o : Option (Option ℕ)) (q : List ℕ)
+      → find path_cmp q (entries_of (with_row rows k o)) ≡ cond (eq_by_cmp path_cmp q k) o (find path_cmp q (entries_of rows))
   find-with_row None q = tied_none q
   find-with_row (Some len) q =
       ap (find path_cmp q) (map-append (λ (r : Row). (r.path, r.len)) rows (record { path = k; len = len } ∷ []))
       ∙ find-append path_cmp nat_list_cmp_total (entries_of rows) k len q fresh
 
-  pub is_sorted-with_row : (o : Option (Option ℕ)) → ((x : List ℕ) → is_some (find path_cmp x (entries_of rows)) ≡ true → path_cmp x k ≡ Less) → T (is_sorted path_cmp (entries_of rows)) → T (is_sorted path_cmp (entries_of (with_row rows k o)))
+  pub is_sorted-with_row : (o : Option (Option ℕ)) → ((x : List ℕ) → is_some (find path_cmp x (entries_of rows)) ≡ true → path_cmp x k ≡ Less)
+      → T (is_sorted path_cmp (entries_of rows)) → T (is_sorted path_cmp (entries_of (with_row rows k o)))
   is_sorted-with_row None up h = h
-  is_sorted-with_row (Some len) up h = subst (λ es. T (is_sorted path_cmp es)) (sym (map-append (λ (r : Row). (r.path, r.len)) rows (record { path = k; len = len } ∷ [])))
+  is_sorted-with_row (Some len) up h =
+      subst (λ es. T (is_sorted path_cmp es)) (sym (map-append (λ (r : Row). (r.path, r.len)) rows (record { path = k; len = len } ∷ [])))
       (is_sorted-push path_cmp nat_list_cmp_total (entries_of rows) k len up h)
 
 -- A walk has come to a key that has a version, or to its end: the rows are those of the paths below it.

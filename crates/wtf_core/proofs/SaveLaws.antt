@@ -1,5 +1,6 @@
 -- A save keeps the tables sound, and what they stand for.
-use Rattle.std.proofs.Common.{◌≡◌, ◌≤◌, ℕ, ◌+◌, true, cond, nat_eq, List, [], ◌∷◌, ◌++◌, Some, refl, sym, ap, ◌∙◌, subst, ◌⊎◌, inl, inr, ⊎_elim, true≢false, arith}
+use Rattle.std.proofs.Common.{◌≡◌, ◌≤◌, ℕ, ◌+◌, true, cond, nat_eq, List, [], ◌∷◌, ◌++◌, Some, refl, sym, ap, ◌∙◌, subst, ◌⊎◌, inl, inr, ⊎_elim, true≢false}
+use Rattle.std.proofs.Common.{arith}
 use Rattle.std.specs.FinMap.{get}
 use Rattle.std.specs.List.{Contains}
 use Rattle.std.proofs.lemmas.List.Elements.{Contains-append_left, Contains-push, Contains-push_cases}
@@ -14,18 +15,19 @@ use Rattle.wtf_meta.specs.Maps.{metadata_at}
 use Rattle.wtf_meta.specs.Trees.{Stands}
 use Rattle.wtf_meta.proofs.Telling.{TellsOn}
 use Rattle.wtf_replay.specs.Views.{TxnView}
-use Rattle.wtf_clients.specs.Views.{SavedView, TablesView, of_client, metadata_now}
+use Rattle.wtf_clients.specs.Views.{BesideView, TablesView, of_client, of_label, metadata_now}
 use Rattle.wtf_clients.specs.Sounds.{all_owned, all_kept, AreSound}
-use Rattle.wtf_clients.specs.Standing.{IsImageTree, StandsForSlot, TablesStand}
+use Rattle.wtf_clients.specs.Standing.{IsImageTree, StandsForSlot, StandsForLabel, TablesStand}
 use Rattle.wtf_clients.specs.Saves.{with_image, only_image, Saves, SaveTurn}
 use Rattle.wtf_clients.proofs.Pins.{base_pinned}
-use Rattle.wtf_clients.proofs.SinceLaws.{since_kept}
-use Rattle.wtf_clients.proofs.Frames.{open_on, txn_on, untouched_same, slot_on}
+use Rattle.wtf_clients.proofs.SinceLaws.{since_kept, touched_kept}
+use Rattle.wtf_clients.proofs.JobPins.{job_upto}
+use Rattle.wtf_clients.proofs.Frames.{open_on, txn_on, untouched_same, slot_on, untouched_job, job_on, label_on}
 use Rattle.wtf_clients.proofs.Images.{none_in, before_same, image_on}
 use Rattle.wtf_clients.proofs.Later.{Stands-later}
 use Rattle.wtf_clients.proofs.Lives.{upto_on, saved_reaches, same_kept, added_kept, only_kept}
 
-module _ (old new : TablesView) (now : SavedView) (sound : AreSound old) (saves : Saves old new now) where
+module _ (old new : TablesView) (now : BesideView) (sound : AreSound old) (saves : Saves old new now) where
   saves_up : old.kv.number ≤ new.kv.number
   saves_up = let number = saves.number in omega (arith, number)
 
@@ -35,25 +37,27 @@ module _ (old new : TablesView) (now : SavedView) (sound : AreSound old) (saves 
   saves_was : (c : ℕ) (x : TxnView) → of_client new.clients c ≡ Some x → of_client old.clients c ≡ Some x
   saves_was c x there = ap (λ l. of_client l c) (sym saves.clients) ∙ there
 
-  saves_pins : (n : ℕ) → times_pinned new.kv n ≡ all_owned n new.clients + all_kept n new.saved
+  saves_pins : (n : ℕ) → times_pinned new.kv n ≡ all_owned n new.clients + all_kept n new.beside
   saves_pins n =
       let moved = saves.pins n in
       let was = sound.pins n in
       let owned : all_owned n new.clients ≡ all_owned n old.clients = ap (all_owned n) saves.clients in
-      let kept : all_kept n new.saved ≡ all_kept n now = ap (all_kept n) saves.saved in
+      let kept : all_kept n new.beside ≡ all_kept n now = ap (all_kept n) saves.beside in
       omega (arith, moved, was, owned, kept)
 
   -- the tables stay sound, where no image is of an install to come, and none but that of the number is pinned once more
-  pub saves_sound : ((n : ℕ) → Contains now.images n → n ≤ old.kv.number) → ((n : ℕ) → all_kept n now ≤ all_kept n old.saved + cond (nat_eq n old.kv.number) 1 0) → AreSound new
+  pub saves_sound : ((n : ℕ) → Contains now.images n → n ≤ old.kv.number)
+      → ((n : ℕ) → all_kept n now ≤ all_kept n old.beside + cond (nat_eq n old.kv.number) 1 0) → AreSound new
   saves_sound upto most = record {
     begun = let was = sound.begun in let next = saves.next_tx in omega (arith, was, next);
     each = λ c x there.
         let was : of_client old.clients c ≡ Some x = saves_was c x there in
-        open_on old.kv new.kv old.next_tx new.next_tx x (sound.each c x was) saves_up saves.maps saves_more (base_pinned new.kv new.clients new.saved c x saves_pins there);
+        open_on old.kv new.kv old.next_tx new.next_tx x (sound.each c x was) saves_up saves.maps saves_more
+        (base_pinned new.kv new.clients new.beside c x saves_pins there);
     pins = saves_pins;
     upto = upto_on old new sound (saved_reaches old new now most saves) saves_up;
     kept = λ n there.
-        let le = upto n (subst (λ (s : SavedView). Contains s.images n) saves.saved there) in
+        let le = upto n (subst (λ (s : BesideView). Contains s.images n) saves.beside there) in
         let number = saves.number in
         omega (arith, le, number);
     apart = λ c d x y here there same. sound.apart c d x y (saves_was c x here) (saves_was d y there) same;
@@ -79,13 +83,16 @@ module _ (old new : TablesView) (now : SavedView) (sound : AreSound old) (saves 
         }
 
     -- and one of before is that of its tree
-    pub old_image : (more : List Tree) (n : ℕ) → ((t : Tree) → Contains m.may_be_saved t → Contains more t) → Contains old.saved.images n → IsImageTree size later new n more
-    old_image more n listed there = image_on size told later old new n m.may_be_saved more on (saves.maps n (sound.kept n there)) saves_more listed (st.images n there)
+    pub old_image : (more : List Tree) (n : ℕ) → ((t : Tree) → Contains m.may_be_saved t → Contains more t) → Contains old.beside.images n
+        → IsImageTree size later new n more
+    old_image more n listed there =
+        image_on size told later old new n m.may_be_saved more on (saves.maps n (sound.kept n there)) saves_more listed (st.images n there)
 
     -- they stand for the machine with other trees that may be saved
-    pub saves_stand : (may : List Tree) → (now.none ≡ true → Contains may root_alone) → ((n : ℕ) → Contains now.images n → IsImageTree size later new n may)
+    pub saves_stand : (may : List Tree) → now.jobs ≡ old.beside.jobs → (now.none ≡ true → Contains may root_alone)
+        → ((n : ℕ) → Contains now.images n → IsImageTree size later new n may)
         → TablesStand size later new (record m { may_be_saved = may })
-    saves_stand may none images = record {
+    saves_stand may jobs none images = record {
       number = st.number ∙ sym saves.number;
       each = λ c. subst (λ l. StandsForSlot size later new.kv m.now (of_client l c) (get m.transactions c)) (sym saves.clients)
           (subst (λ o. StandsForSlot size later new.kv m.now (of_client old.clients c) o)
@@ -94,47 +101,60 @@ module _ (old new : TablesView) (now : SavedView) (sound : AreSound old) (saves 
           (λ x t is txn. txn_on size told later old.kv new.kv m.now m.now x t [] on (sound.each c x is).based saves.maps (trees_on x.tx txn.now)
           (since_kept old.kv new.kv x.tx x.at.base t.touched txn.since (sound.each c x is).based saves.maps saves.number saves.versions) txn)
           (st.each c)));
+      jobs = λ j.
+          let same : of_label new.beside.jobs j ≡ of_label old.beside.jobs j = ap (λ (b : BesideView). of_label b.jobs j) saves.beside
+          ∙ ap (λ l. of_label l j) jobs in
+          subst (λ s. StandsForLabel size later new.kv s (get m.jobs j)) (sym same)
+          (subst (λ o. StandsForLabel size later new.kv (of_label old.beside.jobs j) o) (sym (untouched_job (get m.jobs j) (get m.jobs j) refl))
+          (label_on size told later old.kv new.kv [] (of_label old.beside.jobs j) (get m.jobs j)
+          (λ x t is job. job_on size told later old.kv new.kv x t [] on (saves.maps x.base (job_upto old j x sound is))
+          (touched_kept old.kv new.kv x.base t.touched job.touched (job_upto old j x sound is) saves.maps saves.number saves.versions) job)
+          (st.jobs j)));
       later = λ tx le. trees_on tx (st.later tx (let up = saves_more in omega (arith, up, le)));
       before = before_same old.next_tx new.next_tx (metadata_now old.kv) (metadata_now new.kv) saves_now saves_more st.before;
-      none = λ is. none (sym (ap (λ (s : SavedView). s.none) saves.saved) ∙ is);
-      images = λ n there. images n (subst (λ (s : SavedView). Contains s.images n) saves.saved there);
+      none = λ is. none (sym (ap (λ (s : BesideView). s.none) saves.beside) ∙ is);
+      images = λ n there. images n (subst (λ (s : BesideView). Contains s.images n) saves.beside there);
     }
 
 -- an image that is there is of the number, or was there before
-added_cases : (s : SavedView) (k n : ℕ) → Contains (with_image s k).images n → Contains s.images n ⊎ (k ≡ n)
+added_cases : (s : BesideView) (k n : ℕ) → Contains (with_image s k).images n → Contains s.images n ⊎ (k ≡ n)
 added_cases s k n there = Contains-push_cases s.images k n there
 
-only_cases : (k n : ℕ) → Contains (only_image k).images n → k ≡ n
-only_cases k n there = ⊎_elim (λ never. absurd (none_in n never)) (λ same. same) (Contains-push_cases [] k n there)
+only_cases : (s : BesideView) (k n : ℕ) → Contains (only_image s k).images n → k ≡ n
+only_cases s k n there = ⊎_elim (λ never. absurd (none_in n never)) (λ same. same) (Contains-push_cases [] k n there)
 
 module _ (Up : Type 0) (old new : TablesView) (sound : AreSound old) where
   -- the tables stay sound
   pub save_sound : (a : Answer) → SaveTurn Up old new a → AreSound new
-  save_sound (answer.Saved n) (is, up, saves) = saves_sound old new (only_image n) sound saves
-      (λ k there. let same = only_cases n k there in omega (arith, same, is)) (λ k. only_kept old n k is)
-  save_sound answer.FaultSave (inl saves) = saves_sound old new old.saved sound saves sound.kept (same_kept old)
-  save_sound answer.FaultSave (inr saves) = saves_sound old new (with_image old.saved old.kv.number) sound saves
-      (λ k there. ⊎_elim (λ was. sound.kept k was) (λ same. omega (arith, same)) (added_cases old.saved old.kv.number k there)) (added_kept old)
+  save_sound (answer.Saved n) (is, up, saves) = saves_sound old new (only_image old.beside n) sound saves
+      (λ k there. let same = only_cases old.beside n k there in omega (arith, same, is)) (λ k. only_kept old n k is)
+  save_sound answer.FaultSave (inl saves) = saves_sound old new old.beside sound saves sound.kept (same_kept old)
+  save_sound answer.FaultSave (inr saves) = saves_sound old new (with_image old.beside old.kv.number) sound saves
+      (λ k there. ⊎_elim (λ was. sound.kept k was) (λ same. omega (arith, same)) (added_cases old.beside old.kv.number k there)) (added_kept old)
   save_sound a turn = absurd turn
 
   -- and they stand for the machine that has saved
-  pub save_stands : (size : ℕ) (told later : Told) (m : Machine) (a : Answer) → TablesStand size told old m → TellsOn told later → SaveTurn Up old new a → TablesStand size later new (saved m a)
+  pub save_stands : (size : ℕ) (told later : Told) (m : Machine) (a : Answer) → TablesStand size told old m → TellsOn told later → SaveTurn Up old new a
+      → TablesStand size later new (saved m a)
   save_stands size told later m (answer.Saved n) st on (is, up, saves) =
-      saves_stand old new (only_image n) sound saves size told later m st on (m.now ∷ [])
+      saves_stand old new (only_image old.beside n) sound saves size told later m st on (m.now ∷ []) refl
       (λ never. absurd (true≢false (sym never)))
-      (λ k there. subst (λ j. IsImageTree size later new j (m.now ∷ [])) (sym is ∙ only_cases n k there) (new_image old new (only_image n) sound saves size told later m st on (m.now ∷ []) (Contains-push [] m.now)))
+      (λ k there. subst (λ j. IsImageTree size later new j (m.now ∷ [])) (sym is ∙ only_cases old.beside n k there)
+      (new_image old new (only_image old.beside n) sound saves size told later m st on (m.now ∷ []) (Contains-push [] m.now)))
   save_stands size told later m answer.FaultSave st on (inl saves) =
       let more : List Tree = m.may_be_saved ++ m.now ∷ [] in
-      saves_stand old new old.saved sound saves size told later m st on more
+      saves_stand old new old.beside sound saves size told later m st on more refl
       (λ none. Contains-append_left m.may_be_saved (m.now ∷ []) root_alone (st.none none))
-      (λ k there. old_image old new old.saved sound saves size told later m st on more k (λ t listed. Contains-append_left m.may_be_saved (m.now ∷ []) t listed) there)
+      (λ k there. old_image old new old.beside sound saves size told later m st on more k
+      (λ t listed. Contains-append_left m.may_be_saved (m.now ∷ []) t listed) there)
   save_stands size told later m answer.FaultSave st on (inr saves) =
       let more : List Tree = m.may_be_saved ++ m.now ∷ [] in
-      let now : SavedView = with_image old.saved old.kv.number in
-      saves_stand old new now sound saves size told later m st on more
+      let now : BesideView = with_image old.beside old.kv.number in
+      saves_stand old new now sound saves size told later m st on more refl
       (λ none. Contains-append_left m.may_be_saved (m.now ∷ []) root_alone (st.none none))
       (λ k there. ⊎_elim
       (λ was. old_image old new now sound saves size told later m st on more k (λ t listed. Contains-append_left m.may_be_saved (m.now ∷ []) t listed) was)
-      (λ same. subst (λ j. IsImageTree size later new j more) same (new_image old new now sound saves size told later m st on more (Contains-push m.may_be_saved m.now)))
-      (added_cases old.saved old.kv.number k there))
+      (λ same. subst (λ j. IsImageTree size later new j more) same
+      (new_image old new now sound saves size told later m st on more (Contains-push m.may_be_saved m.now)))
+      (added_cases old.beside old.kv.number k there))
   save_stands size told later m a st on turn = absurd turn

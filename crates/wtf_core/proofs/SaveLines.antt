@@ -1,5 +1,5 @@
 -- What a line of a save leaves of the numbers and of the stores.
-use Rattle.std.proofs.Common.{◌≡◌, [], subst, inl, inr}
+use Rattle.std.proofs.Common.{◌≡◌, subst, inl, inr}
 use Rattle.wtf_base.specs.declared.settings.Settings.{Settings}
 use Rattle.wtf_dev.specs.Store.{StoreKind}
 use Rattle.wtf_replica.specs.Outs.{SameLengths}
@@ -11,7 +11,7 @@ use Rattle.wtf_model.specs.declared.event.Event.TheVariants as event
 use Rattle.wtf_meta.specs.Contents.{Told}
 use Rattle.wtf_clients.specs.Views.{TablesView}
 use Rattle.wtf_core.specs.Views.{CoreView}
-use Rattle.wtf_clients.specs.Outcomes.{AddsBytes}
+use Rattle.wtf_clients.specs.Outcomes.{no_load, AddsBytes}
 use Rattle.wtf_clients.specs.Saves.{SaveTurn}
 use Rattle.wtf_core.specs.Turns.{LineTurn, IsLine}
 
@@ -28,10 +28,12 @@ pub turn_numbers : (Telling : Type 0) (told : Told × Told) (old new : CoreView)
 turn_numbers Telling told old new a e turn is = save_numbers _ old.tables new.tables a (subst (λ (x : Event). LineTurn Telling told old new x a) is turn).0
 
 -- it adds no byte
-save_lengths : {S : Type 0} (kind : StoreKind S) (t : Span S) (settings : Settings) (Up : Type 0) (old new : TablesView) (a : Answer) → SaveTurn Up old new a → AddsBytes kind t settings [] a → SameLengths kind t.before t.after
+save_lengths : {S : Type 0} (kind : StoreKind S) (t : Span S) (settings : Settings) (Up : Type 0) (old new : TablesView) (a : Answer) → SaveTurn Up old new a
+    → AddsBytes kind t settings no_load a → SameLengths kind t.before t.after
 save_lengths kind t settings Up old new (answer.Saved n) turn adds = adds
 save_lengths kind t settings Up old new answer.FaultSave turn adds = adds
 save_lengths kind t settings Up old new a turn adds = absurd turn
 
-pub line_lengths : {S : Type 0} (kind : StoreKind S) (t : Span S) (settings : Settings) (Telling : Type 0) (told : Told × Told) (old new : CoreView) (a : Answer) → IsLine Telling told old new event.Save a → AddsBytes kind t settings [] a → SameLengths kind t.before t.after
+pub line_lengths : {S : Type 0} (kind : StoreKind S) (t : Span S) (settings : Settings) (Telling : Type 0) (told : Told × Told) (old new : CoreView)
+    (a : Answer) → IsLine Telling told old new event.Save a → AddsBytes kind t settings no_load a → SameLengths kind t.before t.after
 line_lengths kind t settings Telling told old new a line adds = save_lengths kind t settings _ old.tables line.answered.tables a line.turn.0 adds

@@ -4,21 +4,25 @@ use Rattle.std.specs.FinMap.{get}
 use Rattle.std.specs.List.{Contains}
 use Rattle.wtf_kv.specs.Stores.{is_pinned, is_live}
 use Rattle.wtf_model.specs.Tree.{Tree}
-use Rattle.wtf_model.specs.Transaction.{Transaction}
+use Rattle.wtf_model.specs.Transaction.{Transaction, Job}
 use Rattle.wtf_model.specs.Machines.{Machine}
-use Rattle.wtf_meta.specs.Contents.{Told}
+use Rattle.wtf_meta.specs.Bytes.{MaybeBytes}
+use Rattle.wtf_meta.specs.Contents.{Told, is_told, is_listed}
 use Rattle.wtf_meta.specs.Maps.{AllFit, Map, metadata_at}
-use Rattle.wtf_meta.specs.Trees.{Stands}
+use Rattle.wtf_meta.specs.Trees.{LeadsTo, Stands}
 use Rattle.wtf_replay.specs.Views.{TxnView}
 use Rattle.wtf_replay.proofs.Sounding.{sound_along}
-use Rattle.wtf_clients.specs.Views.{SavedView, TablesView, of_client, metadata_now}
+use Rattle.wtf_compact.specs.Jobs.{JobView, target_region}
+use Rattle.wtf_compact.specs.Planned.{KeepsRegion}
+use Rattle.wtf_clients.specs.Views.{BesideView, TablesView, of_client, of_label, metadata_now}
 use Rattle.wtf_core.specs.Views.{CoreView}
 use Rattle.wtf_clients.specs.Sounds.{all_owned, all_kept, IsOpen, AreSound, IsTidied}
-use Rattle.wtf_clients.specs.Standing.{StandsForTxn, StandsForSlot, TablesStand}
+use Rattle.wtf_clients.specs.Standing.{StandsForTxn, StandsForSlot, StandsForJob, StandsForLabel, TablesStand}
 use Rattle.wtf_core.specs.Standing.{StandsFor}
 use Rattle.wtf_clients.proofs.Images.{kept_pinned, before_same, image_on}
 use Rattle.wtf_clients.proofs.Lives.{pinned_live, number_live, live_cases}
-use Rattle.wtf_clients.proofs.SinceLaws.{tidied_moved, since_along}
+use Rattle.wtf_clients.proofs.SinceLaws.{tidied_moved, touched_still, since_along}
+use Rattle.wtf_clients.proofs.JobPins.{job_pinned}
 
 -- what is pinned was, and what can be read could be
 pinned_same : (old new : TablesView) → IsTidied old new → (n : ℕ) → IsTrue (is_pinned new.kv n) → IsTrue (is_pinned old.kv n)
@@ -44,8 +48,8 @@ module _ (old new : TablesView) (sound : AreSound old) (tidy : IsTidied old new)
   was : (c : ℕ) (x : TxnView) → of_client new.clients c ≡ Some x → of_client old.clients c ≡ Some x
   was c x there = ap (λ l. of_client l c) (sym tidy.clients) ∙ there
 
-  kept_was : (n : ℕ) → Contains new.saved.images n → Contains old.saved.images n
-  kept_was n here = subst (λ (s : SavedView). Contains s.images n) tidy.saved here
+  kept_was : (n : ℕ) → Contains new.beside.images n → Contains old.beside.images n
+  kept_was n here = subst (λ (s : BesideView). Contains s.images n) tidy.beside here
 
   open_still : (c : ℕ) (x : TxnView) → of_client old.clients c ≡ Some x → IsOpen new.kv new.next_tx x
   open_still c x there =
@@ -66,13 +70,15 @@ module _ (old new : TablesView) (sound : AreSound old) (tidy : IsTidied old new)
   tidied_sound = record {
     begun = let was = sound.begun in let up = next_up in omega (arith, was, up);
     each = λ c x there. open_still c x (was c x there);
-    pins = λ n. ap (λ l. count_by (nat_eq n) l) tidy.pins ∙ sound.pins n ∙ ap (λ l. all_owned n l + all_kept n old.saved) (sym tidy.clients) ∙ ap (λ s. all_owned n new.clients + all_kept n s) (sym tidy.saved);
+    pins = λ n. ap (λ l. count_by (nat_eq n) l) tidy.pins ∙ sound.pins n ∙ ap (λ l. all_owned n l + all_kept n old.beside) (sym tidy.clients)
+        ∙ ap (λ s. all_owned n new.clients + all_kept n s) (sym tidy.beside);
     upto = λ n pinned. subst (λ k. n ≤ k) (sym tidy.number) (sound.upto n (pinned_same old new tidy n pinned));
     kept = λ n here. subst (λ k. n ≤ k) (sym tidy.number) (sound.kept n (kept_was n here));
     apart = λ c d x y here there same. sound.apart c d x y (was c x here) (was d y there) same;
   }
 
-  txn_still : (size : ℕ) (told : Told) (now : Tree) (c : ℕ) (x : TxnView) (t : Transaction) → of_client old.clients c ≡ Some x → StandsForTxn size told old.kv now x t → StandsForTxn size told new.kv now x t
+  txn_still : (size : ℕ) (told : Told) (now : Tree) (c : ℕ) (x : TxnView) (t : Transaction) → of_client old.clients c ≡ Some x
+      → StandsForTxn size told old.kv now x t → StandsForTxn size told new.kv now x t
   txn_still size told now c x t there stands = record {
     sound = sound_along size old.kv new.kv told x t.ops (base_same c x there) stands.sound;
     base = stands.base;
@@ -83,27 +89,57 @@ module _ (old new : TablesView) (sound : AreSound old) (tidy : IsTidied old new)
     since = since_along old.kv new.kv x.tx x.at.base t.touched stands.since (base_same c x there) now_same (tidied_moved old new x.at.base tidy);
   }
 
-  slot_still : (size : ℕ) (told : Told) (now : Tree) (c : ℕ) (s : Option TxnView) (t : Option Transaction) → of_client old.clients c ≡ s → StandsForSlot size told old.kv now s t → StandsForSlot size told new.kv now s t
+  slot_still : (size : ℕ) (told : Told) (now : Tree) (c : ℕ) (s : Option TxnView) (t : Option Transaction) → of_client old.clients c ≡ s
+      → StandsForSlot size told old.kv now s t → StandsForSlot size told new.kv now s t
   slot_still size told now c None None here stands = tt
   slot_still size told now c (Some x) (Some t) here stands = txn_still size told now c x t here stands
   slot_still size told now c None (Some t) here stands = absurd stands
   slot_still size told now c (Some x) None here stands = absurd stands
+
+  -- so it is at the base of a job
+  job_same : (j : ℕ) (x : JobView) → of_label old.beside.jobs j ≡ Some x → metadata_at new.kv x.base ≡ metadata_at old.kv x.base
+  job_same j x there = tidy.maps x.base (pinned_live old.kv x.base (job_pinned old j x sound there))
+
+  job_still : (size : ℕ) (told : Told) (j : ℕ) (x : JobView) (t : Job) → of_label old.beside.jobs j ≡ Some x → StandsForJob size told old.kv x t
+      → StandsForJob size told new.kv x t
+  job_still size told j x t there stands = record {
+    path = stands.path;
+    region = stands.region;
+    kind = stands.kind;
+    base = stands.base;
+    leads = subst (λ (w : Map). LeadsTo w x.path x.target.inode) (sym (job_same j x there)) stands.leads;
+    known = subst (λ (w : Map). MaybeBytes (is_told told) (is_listed size told) (target_region w x.target)) (sym (job_same j x there)) stands.known;
+    keeps = subst (λ (w : Map). KeepsRegion size told (target_region w x.target) x.value) (sym (job_same j x there)) stands.keeps;
+    touched = touched_still old.kv new.kv x.base t.touched stands.touched (job_same j x there) now_same (tidied_moved old new x.base tidy);
+  }
+
+  label_still : (size : ℕ) (told : Told) (j : ℕ) (s : Option JobView) (t : Option Job) → of_label old.beside.jobs j ≡ s
+      → StandsForLabel size told old.kv s t → StandsForLabel size told new.kv s t
+  label_still size told j None None here stands = tt
+  label_still size told j (Some x) (Some t) here stands = job_still size told j x t here stands
+  label_still size told j None (Some t) here stands = absurd stands
+  label_still size told j (Some x) None here stands = absurd stands
 
   pub tidied_stand : (size : ℕ) (told : Told) (m : Machine) → TablesStand size told old m → TablesStand size told new m
   tidied_stand size told m stands = record {
     number = stands.number ∙ sym tidy.number;
     each = λ c. subst (λ l. StandsForSlot size told new.kv m.now (of_client l c) (get m.transactions c)) (sym tidy.clients)
         (slot_still size told m.now c (of_client old.clients c) (get m.transactions c) refl (stands.each c));
+    jobs = λ j.
+        subst (λ (b : BesideView). StandsForLabel size told new.kv (of_label b.jobs j) (get m.jobs j)) (sym tidy.beside)
+        (label_still size told j (of_label old.beside.jobs j) (get m.jobs j) refl (stands.jobs j));
     later = λ tx le. subst (λ (w : Map). Stands size told tx 0 w m.now) (sym now_same) (stands.later tx (subst (λ n. n ≤ tx) tidy.next_tx le));
     before = before_same old.next_tx new.next_tx (metadata_now old.kv) (metadata_now new.kv) now_same next_up stands.before;
-    none = λ is. stands.none (sym (ap (λ (s : SavedView). s.none) tidy.saved) ∙ is);
+    none = λ is. stands.none (sym (ap (λ (s : BesideView). s.none) tidy.beside) ∙ is);
     images = λ n here.
-        let there : Contains old.saved.images n = kept_was n here in
-        image_on size told told old new n m.may_be_saved m.may_be_saved (λ p b is. is) (tidy.maps n (pinned_live old.kv n (kept_pinned old n sound there))) next_up (λ t listed. listed) (stands.images n there);
+        let there : Contains old.beside.images n = kept_was n here in
+        image_on size told told old new n m.may_be_saved m.may_be_saved (λ p b is. is)
+        (tidy.maps n (pinned_live old.kv n (kept_pinned old n sound there))) next_up (λ t listed. listed) (stands.images n there);
   }
 
 -- the core stands for the machine as before
-pub core_tidied : (told : Told) (old new : CoreView) (m : Machine) → AreSound old.tables → IsTidied old.tables new.tables → new ≡ record old { tables = new.tables } → StandsFor told old m → StandsFor told new m
+pub core_tidied : (told : Told) (old new : CoreView) (m : Machine) → AreSound old.tables → IsTidied old.tables new.tables
+    → new ≡ record old { tables = new.tables } → StandsFor told old m → StandsFor told new m
 core_tidied told old new m sound tidy rest stands = subst (λ (core : CoreView). StandsFor told core m) (sym rest) (record {
   settings = stands.settings;
   tables = tidied_stand old.tables new.tables sound tidy old.settings.region told m stands.tables;

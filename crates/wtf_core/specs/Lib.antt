@@ -4,6 +4,7 @@ pub mod Standing
 pub mod Turns
 pub mod Named
 pub mod Remembering
+pub mod Telling
 pub mod Answers
 pub mod Pictured
 pub mod Listed
@@ -12,6 +13,7 @@ pub mod Loading
 pub mod Made
 pub mod Rows
 pub use Rattle.wtf_clients.specs.Saves
+pub use Rattle.wtf_clients.specs.JobTurns
 pub use Rattle.wtf_clients.specs.Asked
 pub use Rattle.wtf_clients.specs.Serves
 pub use Rattle.wtf_clients.specs.Dumped

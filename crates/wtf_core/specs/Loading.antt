@@ -6,6 +6,7 @@ use Rattle.wtf_image.specs.Lookups.{row_at}
 use Rattle.wtf_image.specs.Loading.{AreSettingsOf, IsTaken}
 use Rattle.wtf_image.specs.Tables.{shown}
 use Rattle.wtf_core.specs.Views.{CoreView}
+use Rattle.wtf_clients.specs.Views.{unsaved}
 use Rattle.wtf_clients.specs.Saves.{only_image}
 
 -- The bytes are an image that breaks no rule, over stores whose files have these sizes. The core has its settings and its
@@ -19,5 +20,5 @@ pub record IsCoreOf (size : ℕ → ℕ → ℕ) (bytes : List ℕ) (core : Core
   pub next_tx : core.tables.next_tx ≡ rows.header.next_tx
   pub map : (q : Key) → shown core.tables.kv q ≡ row_at rows q
   pub clients : core.tables.clients ≡ []
-  pub saved : core.tables.saved ≡ only_image core.tables.kv.number
+  pub beside : core.tables.beside ≡ only_image unsaved core.tables.kv.number
   pub lists : core.lists ≡ []

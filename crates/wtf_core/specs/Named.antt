@@ -1,4 +1,4 @@
--- The bytes that a core names: those of the map now, of each open transaction, and of the lists that it remembers.
+-- The bytes that a core names: those of the map at each number that is pinned and now, of each open transaction and job, and of the lists that it remembers.
 use Rattle.std.specs.Prelude.{Bool, List}
 use Rattle.wtf_base.specs.declared.slice.Slice.{Slice}
 use Rattle.wtf_dev.specs.Store.{StoreKind}
@@ -6,7 +6,7 @@ use Rattle.wtf_overlay.specs.Origin.{Place}
 use Rattle.wtf_meta.specs.Bytes.{any_slice}
 use Rattle.wtf_region.specs.Cached.{CacheInside}
 use Rattle.wtf_region.specs.Inside.{is_inside}
-use Rattle.wtf_clients.specs.Serves.{AreBare, AreFull}
+use Rattle.wtf_clients.specs.Serves.{AreBased, AreBare, AreFull}
 use Rattle.wtf_core.specs.Views.{CoreView}
 pub use Rattle.wtf_clients.specs.Named.{TablesBytes, any_byte, no_slice, has_copies}
 
@@ -19,6 +19,10 @@ pub record CoreBytes (P : List Place → Bool) (Q : Slice → Bool) (core : Core
 -- all that a core names lies inside the stores
 abbrev pub IsInside : {S : Type 0} → StoreKind S → List S → CoreView → Type 0
 IsInside kind shelf core = CoreBytes (is_inside kind shelf core.settings) any_slice core
+
+-- the slice of each base passes a test
+abbrev pub IsBased : CoreView → (Slice → Bool) → Type 0
+IsBased core Q = AreBased core.tables Q
 
 -- no region has a base: all lists of regions are in the metadata
 abbrev pub IsBare : CoreView → Type 0

@@ -1,5 +1,5 @@
 -- What a core promises of a line, in parts of which none needs another.
-use Rattle.std.specs.Prelude.{◌≡◌, ◌↔◌, ◌≤◌, ◌+◌, ◌^◌, ℕ, true, false, List, [], ⊤}
+use Rattle.std.specs.Prelude.{◌≡◌, ◌≢◌, ◌↔◌, ◌≤◌, ◌+◌, ◌^◌, ℕ, true, false, List, [], ⊤}
 use Rattle.wtf_dev.specs.Each.{EachFollows}
 use Rattle.wtf_dev.specs.Counts.{Rose}
 use Rattle.wtf_dev.specs.Keep.{KeeperView}
@@ -19,12 +19,13 @@ use Rattle.wtf_model.specs.Servers.{down_after_event}
 use Rattle.wtf_model.specs.Steps.{after}
 use Rattle.wtf_clients.specs.Asked.{asked_of, IsPlaced, HasFailed}
 use Rattle.wtf_clients.specs.Keeping.{KeeperSpan, KeeperTurn, HoldsKept}
-use Rattle.wtf_clients.specs.Outcomes.{AddsBytes, SaveFault, HasCause, data_of}
+use Rattle.wtf_clients.specs.Outcomes.{AddsBytes, IsUnread, IsUnspilled, SaveFault, HasCause, load_of}
 use Rattle.wtf_clients.specs.Sounds.{AreSound, IsAlike}
 use Rattle.wtf_core.specs.Answers.{IsEvent}
-use Rattle.wtf_core.specs.Named.{IsInside, IsBare, IsFull}
+use Rattle.wtf_core.specs.Named.{IsInside, IsBased, IsBare, IsFull}
 use Rattle.wtf_core.specs.Pictured.{HoldsTree, HoldsTaken, HoldsWith}
 use Rattle.wtf_core.specs.Standing.{StandsFor}
+use Rattle.wtf_core.specs.Telling.{TellsCore, IsWide, IsWithin}
 use Rattle.wtf_core.specs.Views.{CoreView}
 
 -- the stores, what is seen of the keeper, and the core, at one time
@@ -44,15 +45,14 @@ span_of old new = span (is_down old.core.replicas) old.shelf new.shelf
 abbrev pub HasRoom : CoreView → Type 0
 HasRoom core = (core.tables.kv.number ≤ 2 ^ 62) × (core.tables.next_tx ≤ 2 ^ 62)
 
--- The core goes on: it is open, and what it names lies inside the stores; no region has a base where none had one before, and what is
--- named has as many copies as there are replicas where it had before. Which servers are down follows the lines `down` and `up`, and `notbuilt` comes exactly
--- at the verbs that are left to
--- a later version. No number falls, and a save leaves both.
+-- The core goes on: it is open, and what it names lies inside the stores. Unless the line has spilled a list, no region has a base where none
+-- had one before, and what is named has as many copies as there are replicas where it had before. Which servers are down follows the lines
+-- `down` and `up`, and `notbuilt` comes exactly at the verbs that are left to a later version. No number falls, and a save leaves both.
 pub record GoesOn {S : Type 0} (kind : StoreKind S) (old new : Scene S) (e : Event) (a : Answer) : Type 0 where
   pub not_closed : new.core.closed ≡ false
   pub inside : IsInside kind new.shelf new.core
-  pub bare : IsBare old.core → IsBare new.core
-  pub full : IsFull old.core → IsFull new.core
+  pub bare : IsUnspilled (load_of e) a → IsBare old.core → IsBare new.core
+  pub full : IsUnspilled (load_of e) a → IsFull old.core → IsFull new.core
   pub down : (k : ℕ) → is_down new.core.replicas k ≡ down_after_event (is_down old.core.replicas) e a k
   pub exact : (a ≡ answer.NotBuilt) ↔ (is_built e ≡ false)
   pub number : old.core.tables.kv.number ≤ new.core.tables.kv.number
@@ -85,14 +85,27 @@ Obeys kind old new e a =
 
 -- the stores grew by what the line writes, where that goes
 pub record Stores {S : Type 0} (kind : StoreKind S) (old new : Scene S) (e : Event) (a : Answer) : Type 0 where
-  pub adds : AddsBytes kind (span_of old new) old.core.settings (data_of e) a
+  pub adds : AddsBytes kind (span_of old new) old.core.settings (load_of e) a
   pub placed : IsPlaced kind (span_of old new) old.core.settings (asked_of kind (span_of old new) old.core.settings old.core.tables e) a
 
 -- a fault has its cause in this very line
 pub record IsCaused {S : Type 0} (kind : StoreKind S) (old new : Scene S) (e : Event) (a : Answer) : Type 0 where
   pub cause : HasCause kind (span_of old new) old.core.settings
-      (SaveFault kind (span_of old new) old.core.settings (Rose old.keeper.faults new.keeper.faults) e) (IsBare old.core) (IsFull old.core) (data_of e) a
+      (SaveFault kind (span_of old new) old.core.settings (Rose old.keeper.faults new.keeper.faults) e) (IsBased old.core) (IsFull old.core) (load_of e) a
   pub failed : HasFailed (asked_of kind (span_of old new) old.core.settings old.core.tables e).fails a
+
+-- Over stores that tell all that the core names, also what the lists of bases name, they tell all that it names then. Each of these bytes has as
+-- many copies as there are replicas where each had, whatever was spilled, and lies inside the stores where each did; no list was then read that is
+-- none. And a byte that was not read had as many copies where each has.
+pub record IsToldAnswer {S : Type 0} (kind : StoreKind S) (old new : Scene S) (a : Answer) : Type 0 where
+  pub next : TellsCore kind new.shelf new.core
+  pub wide : IsWide kind old.shelf old.core → IsWide kind new.shelf new.core
+  pub within : IsWithin kind old.shelf old.core → IsWithin kind new.shelf new.core
+  pub undamaged : IsWithin kind old.shelf old.core → (k : ℕ) → a ≢ answer.Damaged k
+  pub unread : IsWide kind old.shelf old.core → (k : ℕ) → a ≡ answer.FaultRead k → IsUnread kind (span_of old new) old.core.settings ⊤ k
+
+abbrev pub GoesOnTold : {S : Type 0} → StoreKind S → Scene S → Scene S → Answer → Type 0
+GoesOnTold kind old new a = TellsCore kind old.shelf old.core → IsToldAnswer kind old new a
 
 -- A save alone hands the keeper something; what it tells that it holds goes on being the image at a number that is kept for it.
 pub record Keeps {S : Type 0} (kind : StoreKind S) (k : KeeperSpan) (old new : Scene S) (e : Event) (a : Answer) : Type 0 where

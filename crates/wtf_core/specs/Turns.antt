@@ -18,9 +18,11 @@ use Rattle.wtf_meta.specs.Trees.{Stands}
 use Rattle.wtf_clients.specs.Views.{metadata_now}
 use Rattle.wtf_core.specs.Views.{CoreView}
 use Rattle.wtf_model.specs.Built.{is_built}
+use Rattle.wtf_clients.specs.JobTurns.{PlanTurn, PutTurn, DropTurn}
 use Rattle.wtf_clients.specs.Saves.{AreUp, SaveTurn}
 use Rattle.wtf_clients.specs.Sounds.{IsTidied}
-pub use Rattle.wtf_clients.specs.Turns.{Keeps, Refuses, Begins, Ends, Commits, Retries, Tries, TryTurn, Drops, Stays, Fails, Dumps, Tells, Calls, CallFails, Replays, Aborts, StepFails, Finishes, GivesUp, CommitFails, Steps, Finals, LoneTurn, TxnTurn, ClientTurn}
+pub use Rattle.wtf_clients.specs.Turns.{Keeps, Refuses, Begins, Ends, Commits, Retries, Tries, TryTurn, Drops, Stays, Fails, Dumps, Tells, Calls, CallFails}
+pub use Rattle.wtf_clients.specs.Turns.{Replays, Aborts, StepFails, Finishes, GivesUp, CommitFails, Steps, Finals, LoneTurn, TxnTurn, ClientTurn}
 
 -- a server goes down, or comes up
 pub record Switches (old new : CoreView) (k : ℕ) (down : Bool) (a : Answer) : Type 0 where
@@ -48,6 +50,11 @@ abbrev pub BuiltTurn : Type 0 → Told × Told → CoreView → CoreView → Eve
 BuiltTurn Telling told old new (event.Client c v) a =
     ClientTurn Telling old.lists old.settings.servers old.settings.region told.0 told.1 old.tables new.tables c v a
     × (new ≡ record old { tables = new.tables; lists = new.lists })
+BuiltTurn Telling told old new (event.Plan j kind p r) a =
+    PlanTurn Telling old.lists old.settings.servers old.settings.region told.0 told.1 old.tables new.tables j kind p r a
+    × (new ≡ record old { tables = new.tables; lists = new.lists })
+BuiltTurn Telling told old new (event.Put j) a = PutTurn old.tables new.tables j a × (new ≡ record old { tables = new.tables })
+BuiltTurn Telling told old new (event.DropJob j) a = DropTurn old.tables new.tables j a × (new ≡ record old { tables = new.tables })
 BuiltTurn Telling told old new (event.Down k) a = ServerTurn old new k true a
 BuiltTurn Telling told old new (event.Up k) a = ServerTurn old new k false a
 BuiltTurn Telling told old new (event.Dump p) a =
@@ -58,11 +65,12 @@ BuiltTurn Telling told old new event.Save a =
     SaveTurn (AreUp old.replicas old.settings.servers) old.tables new.tables a × (new ≡ record old { tables = new.tables })
 BuiltTurn Telling told old new e a = ⊥
 
--- A line that takes no memory: a server goes down or comes up, or a transaction is given up. Want of memory never closes a core
--- there.
+-- A line that takes no memory: a server goes down or comes up, a transaction is given up, or a job is dropped. Want of memory never closes a
+-- core there.
 abbrev pub takes_no_memory : Event → Bool
 takes_no_memory (event.Down k) = true
 takes_no_memory (event.Up k) = true
+takes_no_memory (event.DropJob j) = true
 takes_no_memory (event.Client c verb.Abort) = true
 takes_no_memory e = false
 

@@ -3,7 +3,7 @@ use Rattle.std.specs.Prelude.{Bool}
 use Rattle.wtf_base.specs.declared.settings.Settings.{Settings}
 use Rattle.wtf_replica.specs.declared.replicas.Replicas.{Replicas}
 use Rattle.wtf_region.specs.Cached.{Remembered}
-pub use Rattle.wtf_clients.specs.Views.{Clients, of_client, SavedView, unsaved, TablesView, metadata_now}
+pub use Rattle.wtf_clients.specs.Views.{Clients, of_client, BesideView, unsaved, TablesView, metadata_now}
 
 -- the settings; the tables; the servers, up or down; whether it is closed, for want of memory; and the lists that it remembers of
 -- slices in which bases of regions lie

@@ -10,6 +10,7 @@ ghost use Rattle.wtf_replica.specs.Bytes.{byte_at};
 ghost use Rattle.wtf_replica.specs.Downs.{is_down};
 ghost use Rattle.wtf_replica.specs.Spans.{span};
 ghost use Rattle.wtf_model.specs.Form.{IsFormEvent, IsFormVerb, IsFormOp, IsData};
+ghost use Rattle.wtf_model.specs.declared.limits.TheConstants.{MAX_JOBS};
 ghost use Rattle.wtf_model.specs.declared.event.Event.TheVariants as event;
 ghost use Rattle.wtf_model.specs.declared.event.Verb.TheVariants as verb;
 ghost use Rattle.wtf_model.specs.Machines.{start};
@@ -26,10 +27,11 @@ ghost use Rattle.wtf_core.specs.Standing.{StandsFor};
 ghost use Rattle.wtf_core.specs.Turns.{takes_no_memory, LineTurn, IsLine, ServerTurn, ShowsTree, IsTreeAnswer};
 ghost use Rattle.wtf_core.specs.Named.{CoreBytes, IsInside, IsBare};
 ghost use Rattle.wtf_core.specs.Remembering.{KeepsLists};
+ghost use Rattle.wtf_core.specs.Telling.{TellsCore, IsWithin, stores_of, ServesTelling};
 ghost use Rattle.wtf_clients.specs.Serves.{ServesLine, ServesEvent};
 ghost use Rattle.wtf_clients.specs.Keeping.{KeeperTurn, IsHeldBy, keeper_span};
 ghost use Rattle.wtf_core.specs.Pictured.{IsImageOfTree, IsBareImage};
-ghost use Rattle.wtf_core.specs.Promises.{scene, GoesOn, Obeys, Stores, IsCaused, Keeps, Stays, Closes};
+ghost use Rattle.wtf_core.specs.Promises.{scene, GoesOn, Obeys, Stores, IsCaused, Keeps, GoesOnTold, Stays, Closes};
 ghost use Rattle.wtf_dev.specs.Counts.{Rose};
 ghost use Rattle.wtf_replica.specs.Outs.{SameLengths};
 ghost use Rattle.wtf_core.specs.Loading.{IsCoreOf};
@@ -41,14 +43,14 @@ use wtf_base::{Bytes, OutOfMemory, Settings};
 use wtf_clients::Tables;
 use wtf_dev::{Keeper, Shelf, SliceStore};
 use wtf_image::{LoadError, Loaded};
-use wtf_model::{Answer, Event, Op, Verb, Word, copy_op};
+use wtf_model::{Answer, Event, JobKind, Op, Verb, Word, copy_op};
 use wtf_path::Path;
 use wtf_region::{Dev, RegionCache};
 use wtf_replica::Replicas;
 use wtf_ring::Ring;
 
-/// The store with all transactions that are open. Contracts see the settings, the metadata with the
-/// open transactions, the servers that are down, whether it is closed, and the lists of slices that it
+/// The store with all transactions and jobs that are open. Contracts see the settings, the metadata with
+/// these, the servers that are down, whether it is closed, and the lists of slices that it
 /// remembers.
 #[derive(Drop)]
 pub struct Core {
@@ -71,6 +73,7 @@ impl Model for Core {
     ghost use Rattle.wtf_values.specs.contracts.key.Key as key;
     ghost use Rattle.wtf_values.specs.contracts.value.Value as value;
     ghost use Rattle.wtf_replay.specs.contracts.txn.Txn as txn;
+    ghost use Rattle.wtf_compact.specs.contracts.job.Job as job;
     ghost use Rattle.wtf_base.specs.contracts.slice.Slice as slice;
     ghost use Rattle.wtf_overlay.specs.contracts.part.Entry as entry;
 
@@ -79,6 +82,7 @@ impl Model for Core {
       key.the_row.coded,
       value.the_row.coded,
       txn.the_row.coded,
+      job.the_row.coded,
       slice.the_row.coded,
       entry.the_row.coded,
     ) };
@@ -102,12 +106,13 @@ impl Core {
         ensures open { IfOk result (λ core. core.closed ≡ false) }
         ensures number { IfOk result (λ core. core.tables.kv.number ≡ 0) }
         ensures next_tx { IfOk result (λ core. core.tables.next_tx ≡ 1) }
-        ensures unsaved { IfOk result (λ core. core.tables.saved ≡ unsaved) }
+        ensures unsaved { IfOk result (λ core. core.tables.beside ≡ unsaved) }
         ensures sound { IfOk result (λ core. AreSound core.tables) }
         ensures stands { IfOk result (λ core. (told : Told) →
             StandsFor told core (start settings 0 root_alone)) }
         ensures inside { IfOk result (λ core. (P : List Place → Bool) (Q : slice_type.Slice → Bool) →
             CoreBytes P Q core) }
+        ensures lists { IfOk result (λ core. core.lists ≡ []) }
         ensures up { IfOk result (λ core. (k : ℕ) → is_down core.replicas k ≡ false) }
     {
         let tables = match Tables::new(alloc) {
@@ -139,6 +144,14 @@ impl Core {
         ensures stands { IfOk result (λ core. (told : Told) (t : Tree) →
             IsImageOfTree told bytes.now t →
             StandsFor told core (start core.settings core.tables.kv.number t)) }
+        ensures told { IfOk result (λ core. TellsAll S.kind shelf.now → (t : Tree) →
+            IsImageOfTree (byte_at S.kind shelf.now) bytes.now t →
+            TellsCore S.kind shelf.now core) }
+        ensures within { IfOk result (λ core. IsBareImage bytes.now →
+            IsWithin S.kind shelf.now core) }
+        ensures within_told { IfOk result (λ core. (t : Tree) →
+            IsImageOfTree (byte_at S.kind (stores_of core.settings shelf.now)) bytes.now t →
+            IsWithin S.kind shelf.now core) }
         ensures held { IfOk result (λ core. IsHeldBy core.tables core.settings bytes.now) }
         ensures cause { IfErr result (IsRefusal (size_in S.kind shelf.now) bytes.now) }
     {
@@ -233,7 +246,9 @@ impl Core {
     /// Answers one line. The answer is that of the machine, which the core goes on to stand for.
     /// What a keeper tells that it holds goes on being the image at a number that is kept for it, of a
     /// tree that the machine may have saved, and one that a run can begin with; a save alone hands it
-    /// something. After want of memory the metadata now are as they were, and the core is closed.
+    /// something. Where the stores tell all that the core names they go on to, also behind a spill; and
+    /// where each of these bytes had as many copies as there are replicas, each has. After want of
+    /// memory the metadata now are as they were, and the core is closed.
     pub fn event<S: SliceStore, K: Keeper>(
         &mut self,
         shelf: &mut Shelf<S>,
@@ -264,6 +279,9 @@ impl Core {
             (keeper_span K.view K.follows keeper.old keeper.new)
             (scene shelf.old (K.view keeper.old) self.old)
             (scene shelf.new (K.view keeper.new) self.new) event.now) }
+        ensures told { IfOk result (GoesOnTold S.kind
+            (scene shelf.old (K.view keeper.old) self.old)
+            (scene shelf.new (K.view keeper.new) self.new)) }
         ensures stays { Stays S.kind shelf.old shelf.new self.old self.new }
         ensures closed { OnErr result (Closes self.old self.new) }
         ensures untouched { OnErr result (keeper.new ≡ keeper.old) }
@@ -310,6 +328,9 @@ impl Core {
             (keeper_span K.view K.follows keeper.old keeper.new)
             (scene shelf.old (K.view keeper.old) self.old)
             (scene shelf.new (K.view keeper.new) self.new) event.Save) }
+        ensures told { IfOk result (GoesOnTold S.kind
+            (scene shelf.old (K.view keeper.old) self.old)
+            (scene shelf.new (K.view keeper.new) self.new)) }
         ensures stays { Stays S.kind shelf.old shelf.new self.old self.new }
         ensures closed { OnErr result (Closes self.old self.new) }
         ensures untouched { OnErr result (keeper.new ≡ keeper.old) }
@@ -337,6 +358,8 @@ impl Core {
             (span (is_down self.old.replicas) shelf.old shelf.new) self.old.settings
             (Rose (K.view keeper.old).faults (K.view keeper.new).faults)
             (self.old.tables, self.new.tables) event.now) }
+        ensures told { IfOk result (ServesTelling S.kind
+            (span (is_down self.old.replicas) shelf.old shelf.new) self.old self.new.tables) }
         ensures keeper { IfOk result (KeeperTurn S.kind
             (span (is_down self.old.replicas) shelf.old shelf.new)
             (keeper_span K.view K.follows keeper.old keeper.new) self.old.settings
@@ -351,6 +374,14 @@ impl Core {
     {
         match event {
             Event::Client(c, verb) => return self.client(shelf, *c, verb),
+            Event::Plan {
+                job,
+                kind,
+                path,
+                region,
+            } => return self.plan(shelf, *job, *kind, path, *region),
+            Event::Put(job) => return self.tables.put_job(*job),
+            Event::DropJob(job) => return Ok(self.tables.drop_job(*job)),
             Event::Down(k) => return Ok(self.server(*k, true)),
             Event::Up(k) => return Ok(self.server(*k, false)),
             Event::Dump(p) => return self.dump(shelf, p),
@@ -377,6 +408,8 @@ impl Core {
             (span (is_down self.old.replicas) shelf.old shelf.new) self.old.settings
             (Rose (K.view keeper.old).faults (K.view keeper.new).faults)
             (self.old.tables, self.new.tables) event.Save) }
+        ensures told { IfOk result (ServesTelling S.kind
+            (span (is_down self.old.replicas) shelf.old shelf.new) self.old self.new.tables) }
         ensures keeper { IfOk result (KeeperTurn S.kind
             (span (is_down self.old.replicas) shelf.old shelf.new)
             (keeper_span K.view K.follows keeper.old keeper.new) self.old.settings
@@ -423,6 +456,8 @@ impl Core {
         ensures serves { IfOk result (ServesLine S.kind
             (span (is_down self.old.replicas) shelf.old shelf.new) self.old.settings
             self.old.tables self.new.tables (event.Client c verb.now)) }
+        ensures told { IfOk result (ServesTelling S.kind
+            (span (is_down self.old.replicas) shelf.old shelf.new) self.old self.new.tables) }
         ensures sure { IsTrue (takes_no_memory (event.Client c verb.now)) → IsOk result }
         ensures err { OnErr result (IsAlike self.old.tables self.new.tables) }
         ensures settings { self.new.settings ≡ self.old.settings }
@@ -456,6 +491,8 @@ impl Core {
         ensures serves { IfOk result (ServesLine S.kind
             (span (is_down self.old.replicas) shelf.old shelf.new) self.old.settings
             self.old.tables self.new.tables (event.Client c (verb.Call op.now))) }
+        ensures told { IfOk result (ServesTelling S.kind
+            (span (is_down self.old.replicas) shelf.old shelf.new) self.old self.new.tables) }
         ensures err { OnErr result (IsAlike self.old.tables self.new.tables) }
         ensures settings { self.new.settings ≡ self.old.settings }
         ensures closed { self.new.closed ≡ self.old.closed }
@@ -489,6 +526,8 @@ impl Core {
         ensures serves { IfOk result (ServesLine S.kind
             (span (is_down self.old.replicas) shelf.old shelf.new) self.old.settings
             self.old.tables self.new.tables (event.Client c verb.Step)) }
+        ensures told { IfOk result (ServesTelling S.kind
+            (span (is_down self.old.replicas) shelf.old shelf.new) self.old self.new.tables) }
         ensures err { OnErr result (IsAlike self.old.tables self.new.tables) }
         ensures settings { self.new.settings ≡ self.old.settings }
         ensures closed { self.new.closed ≡ self.old.closed }
@@ -519,6 +558,8 @@ impl Core {
         ensures serves { IfOk result (ServesLine S.kind
             (span (is_down self.old.replicas) shelf.old shelf.new) self.old.settings
             self.old.tables self.new.tables (event.Client c verb.Commit)) }
+        ensures told { IfOk result (ServesTelling S.kind
+            (span (is_down self.old.replicas) shelf.old shelf.new) self.old self.new.tables) }
         ensures err { OnErr result (IsAlike self.old.tables self.new.tables) }
         ensures settings { self.new.settings ≡ self.old.settings }
         ensures closed { self.new.closed ≡ self.old.closed }
@@ -538,6 +579,45 @@ impl Core {
         }
     }
 
+    /// Plans a job.
+    fn plan<S: SliceStore>(
+        &mut self,
+        shelf: &mut Shelf<S>,
+        j: u8,
+        kind: JobKind,
+        p: &Path,
+        region: u64,
+    ) -> Result<Answer, OutOfMemory>
+        requires shelf { self.old.settings.servers ≤ length shelf.old }
+        requires inside { IsInside S.kind shelf.old self.old }
+        requires label { j < MAX_JOBS }
+        ensures turn { IfOk result (λ a. LineTurn (TellsAll S.kind shelf.old)
+            (byte_at S.kind shelf.old, byte_at S.kind shelf.new) self.old self.new
+            (event.Plan j kind p.now region) a) }
+        ensures serves { IfOk result (ServesLine S.kind
+            (span (is_down self.old.replicas) shelf.old shelf.new) self.old.settings
+            self.old.tables self.new.tables (event.Plan j kind p.now region)) }
+        ensures told { IfOk result (ServesTelling S.kind
+            (span (is_down self.old.replicas) shelf.old shelf.new) self.old self.new.tables) }
+        ensures err { OnErr result (IsAlike self.old.tables self.new.tables) }
+        ensures settings { self.new.settings ≡ self.old.settings }
+        ensures closed { self.new.closed ≡ self.old.closed }
+        ensures lists { KeepsLists S.kind shelf.old shelf.new self.old self.new }
+        ensures shelf { EachFollows S.kind shelf.old shelf.new [] }
+    {
+        let mut dev = Dev {
+            shelf,
+            replicas: &self.replicas,
+            ring: &self.ring,
+            cache: &mut self.cache,
+            settings: self.settings,
+        };
+        match self.tables.plan(&mut dev, j, kind, p, region) {
+            Ok(answer) => return Ok(answer),
+            Err(why) => return Err(why),
+        }
+    }
+
     /// Shows all bytes of the file at a path as it stands now.
     fn dump<S: SliceStore>(&mut self, shelf: &mut Shelf<S>, p: &Path) -> Result<Answer, OutOfMemory>
         requires shelf { self.old.settings.servers ≤ length shelf.old }
@@ -548,6 +628,8 @@ impl Core {
         ensures serves { IfOk result (ServesLine S.kind
             (span (is_down self.old.replicas) shelf.old shelf.new) self.old.settings
             self.old.tables self.new.tables (event.Dump p.now)) }
+        ensures told { IfOk result (ServesTelling S.kind
+            (span (is_down self.old.replicas) shelf.old shelf.new) self.old self.new.tables) }
         ensures err { OnErr result (IsAlike self.old.tables self.new.tables) }
         ensures settings { self.new.settings ≡ self.old.settings }
         ensures closed { self.new.closed ≡ self.old.closed }

@@ -22,7 +22,8 @@ loop-at-smaller c =
     let k = c.in-Some.key.now in
     let next = option_copied c.next_key-at-in-Some.result in
     let here : option_copied c.loop-at.at ≡ Some k = ap option_copied c.in-Some.is in
-    let walked : Walked c.args.settings.region kv (Some k) c.loop-at.rows.items = subst (λ o. Walked c.args.settings.region kv o c.loop-at.rows.items) here c.loop-at.invariant in
+    let walked : Walked c.args.settings.region kv (Some k) c.loop-at.rows.items = subst
+    (λ o. Walked c.args.settings.region kv o c.loop-at.rows.items) here c.loop-at.invariant in
     subst (λ o. left_from key_cmp kv next < left_from key_cmp kv o) (sym here)
     (left_less key_cmp key_total same_key kv k next walked.has_version c.next_key-at-in-Some.ensures)
 

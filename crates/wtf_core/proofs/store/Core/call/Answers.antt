@@ -1,46 +1,56 @@
-use Rattle.std.proofs.Common.{◌≤◌, List, rules, refl, length, sym, subst}
+use Rattle.std.proofs.Common.{◌≤◌, List, rules, refl, length, sym, ap, subst}
 use Rattle.wtf_region.specs.Cached.{AreFrom}
 use Rattle.wtf_dev.specs.Sums.{TellsAll}
 use Rattle.wtf_replica.specs.Bytes.{byte_at}
 use Rattle.wtf_model.specs.declared.event.Verb.TheVariants as verb
 use Rattle.wtf_core.proofs.Whole.{sound_after}
+use Rattle.wtf_core.specs.Made.{IsMade}
 use Rattle.wtf_core.specs.Views.{CoreView}
 use Rattle.wtf_core.specs.Named.{IsInside}
 use Rattle.wtf_core.specs.Remembering.{KeepsLists}
 use Rattle.wtf_core.proofs.Remembering.{sound_dev, goes_keeps}
+use Rattle.wtf_core.proofs.store.Core.call.Given.{Over}
 use Rattle.wtf_core.proofs.store.Core.call.Goals as goal
+use Rattle.wtf_core.proofs.store.Core.call.Goals.{After-call}
+
+-- the core behind the call
+abbrev left : (g : Over) → After-call g → CoreView
+left g c = let at = c.self.inside in record {
+  settings = at.settings;
+  tables = c.call.new.self;
+  replicas = at.replicas;
+  closed = at.closed;
+  lists = c.call.new.dev.cache.now.lists;
+}
+
+-- its parts
+made : (g : Over) (c : After-call g) → IsMade c.self.inside.settings c.call.new.self c.self.inside.replicas c.self.inside.ring c.call.new.dev.cache.now
+made g c =
+    let was = c.self.invariant in
+    let did = c.call.ensures in
+    let at = c.self.inside in
+    record {
+      settings_are = was.settings_are;
+      replicas_are = was.replicas_are;
+      ring_is = was.ring_is;
+      points_are = was.points_are;
+      cache_is = subst (λ r. AreFrom r.now c.call.new.dev.cache.now.places) did.dev.ring did.dev.sound.cache;
+      tables_are = sound_after c.call.result (TellsAll g.S.SliceStore.kind c.args.shelf.now) at.cache.lists at.settings.servers at.settings.region
+          (byte_at g.S.SliceStore.kind c.args.shelf.now) (byte_at g.S.SliceStore.kind c.call.new.dev.shelf.now) at.tables c.call.new.self c.args.c
+          (verb.Call c.in-Ok.made) was.tables_are did.turn did.err_sound;
+    }
+
+-- and the lists that it remembers
+kept : (g : Over) (c : After-call g) → KeepsLists g.S.SliceStore.kind c.args.shelf.now c.call.new.dev.shelf.now c.args.self.now (left g c)
+kept g c = goes_keeps g.S.SliceStore.kind _ c.call.new.dev c.args.self.now (left g c) c.call.ensures.dev
+    (ap (λ (core : CoreView). core.settings) c.self.view_is)
+    (ap (λ (core : CoreView). core.lists) c.self.view_is) refl
 
 pub invariant_of-self : goal.invariant_of-self
-invariant_of-self g c =
-    let kind = g.S.SliceStore.kind in
-    let was = c.self.invariant in
-    let did = c.call.ensures in
-    record {
-      settings_are = was.settings_are;
-      replicas_are = was.replicas_are;
-      ring_is = was.ring_is;
-      points_are = was.points_are;
-      cache_is = subst (λ r. AreFrom r.now c.call.new.dev.cache.now.places) did.dev.ring did.dev.sound.cache;
-      tables_are = sound_after c.call.result (TellsAll kind c.args.shelf.now) c.self.inside.cache.lists c.self.inside.settings.servers
-          c.self.inside.settings.region (byte_at kind c.args.shelf.now) (byte_at kind c.call.new.dev.shelf.now) c.self.inside.tables c.call.new.self c.args.c
-          (verb.Call c.in-Ok.made) was.tables_are did.turn did.err_sound;
-    }
+invariant_of-self g c = made g (goal.at.invariant_of-self g c).After-call
 
 pub invariant_of-self-in-Err-call : goal.invariant_of-self-in-Err-call
-invariant_of-self-in-Err-call g c =
-    let kind = g.S.SliceStore.kind in
-    let was = c.self.invariant in
-    let did = c.call.ensures in
-    record {
-      settings_are = was.settings_are;
-      replicas_are = was.replicas_are;
-      ring_is = was.ring_is;
-      points_are = was.points_are;
-      cache_is = subst (λ r. AreFrom r.now c.call.new.dev.cache.now.places) did.dev.ring did.dev.sound.cache;
-      tables_are = sound_after c.call.result (TellsAll kind c.args.shelf.now) c.self.inside.cache.lists c.self.inside.settings.servers
-          c.self.inside.settings.region (byte_at kind c.args.shelf.now) (byte_at kind c.call.new.dev.shelf.now) c.self.inside.tables c.call.new.self c.args.c
-          (verb.Call c.in-Ok.made) was.tables_are did.turn did.err_sound;
-    }
+invariant_of-self-in-Err-call g c = made g (goal.at.invariant_of-self-in-Err-call g c).After-call
 
 pub call-requires-clause-dev : goal.call-requires-clause-dev
 call-requires-clause-dev g c =
@@ -53,22 +63,10 @@ call-requires-clause-dev g c =
 
 pub returns-in-Ok-call-clause-lists : goal.returns-in-Ok-call-clause-lists
 returns-in-Ok-call-clause-lists g c =
-    let kind = g.S.SliceStore.kind in
-    let at = c.self.inside in
-    let did = c.call.new in
-    let old : CoreView = record { settings = at.settings; tables = at.tables; replicas = at.replicas; closed = at.closed; lists = at.cache.lists } in
-    let new : CoreView = record { settings = at.settings; tables = did.self; replicas = at.replicas; closed = at.closed; lists = did.dev.cache.now.lists } in
-    subst (λ (shelf : List g.row.S.Denot). KeepsLists kind c.args.shelf.now shelf c.args.self.now new) (search (rules))
-    (subst (λ (core : CoreView). KeepsLists kind c.args.shelf.now did.dev.shelf.now core new) c.self.view_is
-    (goes_keeps kind _ did.dev old new c.call.ensures.dev refl refl refl))
+    let at = (goal.at.returns-in-Ok-call-clause-lists g c).After-call in
+    subst (λ (shelf : List g.row.S.Denot). KeepsLists g.S.SliceStore.kind c.args.shelf.now shelf c.args.self.now (left g at)) (search (rules)) (kept g at)
 
 pub returns-in-Err-call-clause-lists : goal.returns-in-Err-call-clause-lists
 returns-in-Err-call-clause-lists g c =
-    let kind = g.S.SliceStore.kind in
-    let at = c.self.inside in
-    let did = c.call.new in
-    let old : CoreView = record { settings = at.settings; tables = at.tables; replicas = at.replicas; closed = at.closed; lists = at.cache.lists } in
-    let new : CoreView = record { settings = at.settings; tables = did.self; replicas = at.replicas; closed = at.closed; lists = did.dev.cache.now.lists } in
-    subst (λ (shelf : List g.row.S.Denot). KeepsLists kind c.args.shelf.now shelf c.args.self.now new) (search (rules))
-    (subst (λ (core : CoreView). KeepsLists kind c.args.shelf.now did.dev.shelf.now core new) c.self.view_is
-    (goes_keeps kind _ did.dev old new c.call.ensures.dev refl refl refl))
+    let at = (goal.at.returns-in-Err-call-clause-lists g c).After-call in
+    subst (λ (shelf : List g.row.S.Denot). KeepsLists g.S.SliceStore.kind c.args.shelf.now shelf c.args.self.now (left g at)) (search (rules)) (kept g at)

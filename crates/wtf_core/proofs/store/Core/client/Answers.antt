@@ -14,7 +14,9 @@ use Rattle.wtf_core.proofs.Answering.{local_plain, still_serves}
 use Rattle.wtf_clients.proofs.Making.{if_ok}
 use Rattle.wtf_core.proofs.Naming.{local_names}
 use Rattle.wtf_core.specs.Remembering.{KeepsLists}
+use Rattle.wtf_core.specs.Telling.{ServesTelling}
 use Rattle.wtf_core.proofs.Remembering.{still_keeps}
+use Rattle.wtf_core.proofs.Telling.{still_told}
 use Rattle.wtf_core.proofs.Whole.{sound_after}
 use Rattle.wtf_core.proofs.Lines.{client_sound}
 use Rattle.wtf_core.proofs.store.Core.client.Goals as goal
@@ -68,8 +70,11 @@ returns-in-Begin-clause-serves g c =
     let shelf = c.args.shelf.now in
     let at = c.self.inside in
     let inside = (subst (λ (core : CoreView). IsInside kind shelf core) (sym c.self.view_is) c.requires.inside).tables in
-    subst (λ (core : CoreView). IfOk c.begin.result (ServesLine kind (span (is_down core.replicas) shelf shelf) core.settings core.tables c.begin.new.self (event.Client c.args.c c.args.verb.now))) c.self.view_is
-    (subst (λ (v : Verb). IfOk c.begin.result (ServesLine kind (span (is_down at.replicas) shelf shelf) at.settings at.tables c.begin.new.self (event.Client c.args.c v))) (sym c.in-Begin.is)
+    subst (λ (core : CoreView). IfOk c.begin.result
+    (ServesLine kind (span (is_down core.replicas) shelf shelf) core.settings core.tables c.begin.new.self
+    (event.Client c.args.c c.args.verb.now))) c.self.view_is
+    (subst (λ (v : Verb). IfOk c.begin.result
+    (ServesLine kind (span (is_down at.replicas) shelf shelf) at.settings at.tables c.begin.new.self (event.Client c.args.c v))) (sym c.in-Begin.is)
     (if_ok c.begin.result (λ a. ClientTurn ⊤ [] 0 0 untold untold at.tables c.begin.new.self c.args.c verb.Begin a) _ c.begin.ensures.turn
     (λ a turn. still_serves kind (is_down at.replicas) shelf at.settings at.tables c.begin.new.self (event.Client c.args.c verb.Begin) a inside
     (local_names ⊤ [] 0 0 untold untold at.tables c.begin.new.self c.args.c verb.Begin a tt c.self.invariant.tables_are turn)
@@ -81,8 +86,11 @@ returns-in-Try-clause-serves g c =
     let shelf = c.args.shelf.now in
     let at = c.self-in-Try.inside in
     let inside = (subst (λ (core : CoreView). IsInside kind shelf core) (sym c.self-in-Try.view_is) c.requires.inside).tables in
-    subst (λ (core : CoreView). IfOk c.attempt.result (ServesLine kind (span (is_down core.replicas) shelf shelf) core.settings core.tables c.attempt.new.self (event.Client c.args.c c.args.verb.now))) c.self-in-Try.view_is
-    (subst (λ (v : Verb). IfOk c.attempt.result (ServesLine kind (span (is_down at.replicas) shelf shelf) at.settings at.tables c.attempt.new.self (event.Client c.args.c v))) (sym c.in-Try.is)
+    subst (λ (core : CoreView). IfOk c.attempt.result
+    (ServesLine kind (span (is_down core.replicas) shelf shelf) core.settings core.tables c.attempt.new.self
+    (event.Client c.args.c c.args.verb.now))) c.self-in-Try.view_is
+    (subst (λ (v : Verb). IfOk c.attempt.result
+    (ServesLine kind (span (is_down at.replicas) shelf shelf) at.settings at.tables c.attempt.new.self (event.Client c.args.c v))) (sym c.in-Try.is)
     (if_ok c.attempt.result (λ a. ClientTurn ⊤ [] 0 0 untold untold at.tables c.attempt.new.self c.args.c verb.Try a) _ c.attempt.ensures.turn
     (λ a turn. still_serves kind (is_down at.replicas) shelf at.settings at.tables c.attempt.new.self (event.Client c.args.c verb.Try) a inside
     (local_names ⊤ [] 0 0 untold untold at.tables c.attempt.new.self c.args.c verb.Try a tt c.self-in-Try.invariant.tables_are turn)
@@ -94,8 +102,10 @@ returns-in-Abort-clause-serves g c =
     let shelf = c.args.shelf.now in
     let at = c.self-in-Abort.inside in
     let inside = (subst (λ (core : CoreView). IsInside kind shelf core) (sym c.self-in-Abort.view_is) c.requires.inside).tables in
-    subst (λ (core : CoreView). ServesLine kind (span (is_down core.replicas) shelf shelf) core.settings core.tables c.abort.new.self (event.Client c.args.c c.args.verb.now) c.abort.result) c.self-in-Abort.view_is
-    (subst (λ (v : Verb). ServesLine kind (span (is_down at.replicas) shelf shelf) at.settings at.tables c.abort.new.self (event.Client c.args.c v) c.abort.result) (sym c.in-Abort.is)
+    subst (λ (core : CoreView). ServesLine kind (span (is_down core.replicas) shelf shelf) core.settings core.tables c.abort.new.self
+    (event.Client c.args.c c.args.verb.now) c.abort.result) c.self-in-Abort.view_is
+    (subst (λ (v : Verb). ServesLine kind (span (is_down at.replicas) shelf shelf) at.settings at.tables c.abort.new.self
+    (event.Client c.args.c v) c.abort.result) (sym c.in-Abort.is)
     (still_serves kind (is_down at.replicas) shelf at.settings at.tables c.abort.new.self (event.Client c.args.c verb.Abort) c.abort.result inside
     (local_names ⊤ [] 0 0 untold untold at.tables c.abort.new.self c.args.c verb.Abort c.abort.result tt c.self-in-Abort.invariant.tables_are
     c.abort.ensures.turn)
@@ -130,3 +140,37 @@ returns-in-Abort-clause-lists g c =
     let new : CoreView = record { settings = at.settings; tables = c.abort.new.self; replicas = at.replicas; closed = at.closed; lists = at.cache.lists } in
     subst (λ (core : CoreView). KeepsLists kind shelf shelf core new) c.self-in-Abort.view_is
     (still_keeps kind shelf old new (subst (λ (core : CoreView). IsInside kind shelf core) (sym c.self-in-Abort.view_is) c.requires.inside) refl)
+
+pub returns-in-Begin-clause-told : goal.returns-in-Begin-clause-told
+returns-in-Begin-clause-told g c =
+    let kind = g.S.SliceStore.kind in
+    let shelf = c.args.shelf.now in
+    let at = c.self.inside in
+    subst (λ (core : CoreView). IfOk c.begin.result (ServesTelling kind (span (is_down core.replicas) shelf shelf) core c.begin.new.self)) c.self.view_is
+    (if_ok c.begin.result (λ a. ClientTurn ⊤ [] 0 0 untold untold at.tables c.begin.new.self c.args.c verb.Begin a) _ c.begin.ensures.turn
+    (λ a turn. still_told kind (is_down at.replicas) shelf at.settings at.cache.lists at.tables c.begin.new.self a
+    (local_names ⊤ [] 0 0 untold untold at.tables c.begin.new.self c.args.c verb.Begin a tt c.self.invariant.tables_are turn)
+    (local_plain ⊤ [] 0 0 untold untold at.tables c.begin.new.self c.args.c verb.Begin a tt turn)))
+
+pub returns-in-Try-clause-told : goal.returns-in-Try-clause-told
+returns-in-Try-clause-told g c =
+    let kind = g.S.SliceStore.kind in
+    let shelf = c.args.shelf.now in
+    let at = c.self-in-Try.inside in
+    subst (λ (core : CoreView). IfOk c.attempt.result
+    (ServesTelling kind (span (is_down core.replicas) shelf shelf) core c.attempt.new.self)) c.self-in-Try.view_is
+    (if_ok c.attempt.result (λ a. ClientTurn ⊤ [] 0 0 untold untold at.tables c.attempt.new.self c.args.c verb.Try a) _ c.attempt.ensures.turn
+    (λ a turn. still_told kind (is_down at.replicas) shelf at.settings at.cache.lists at.tables c.attempt.new.self a
+    (local_names ⊤ [] 0 0 untold untold at.tables c.attempt.new.self c.args.c verb.Try a tt c.self-in-Try.invariant.tables_are turn)
+    (local_plain ⊤ [] 0 0 untold untold at.tables c.attempt.new.self c.args.c verb.Try a tt turn)))
+
+pub returns-in-Abort-clause-told : goal.returns-in-Abort-clause-told
+returns-in-Abort-clause-told g c =
+    let kind = g.S.SliceStore.kind in
+    let shelf = c.args.shelf.now in
+    let at = c.self-in-Abort.inside in
+    subst (λ (core : CoreView). ServesTelling kind (span (is_down core.replicas) shelf shelf) core c.abort.new.self c.abort.result) c.self-in-Abort.view_is
+    (still_told kind (is_down at.replicas) shelf at.settings at.cache.lists at.tables c.abort.new.self c.abort.result
+    (local_names ⊤ [] 0 0 untold untold at.tables c.abort.new.self c.args.c verb.Abort c.abort.result tt c.self-in-Abort.invariant.tables_are
+    c.abort.ensures.turn)
+    (local_plain ⊤ [] 0 0 untold untold at.tables c.abort.new.self c.args.c verb.Abort c.abort.result tt c.abort.ensures.turn))

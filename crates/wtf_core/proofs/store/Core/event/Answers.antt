@@ -26,8 +26,11 @@ use Rattle.wtf_model.specs.Steps.{after}
 use Rattle.wtf_meta.specs.Contents.{Told}
 use Rattle.wtf_core.specs.Views.{CoreView}
 use Rattle.wtf_clients.specs.Sounds.{AreSound}
+use Rattle.wtf_core.specs.Promises.{scene}
 use Rattle.wtf_core.specs.Remembering.{KeepsLists}
+use Rattle.wtf_core.specs.Telling.{ServesTelling}
 use Rattle.wtf_core.specs.Turns.{LineTurn}
+use Rattle.wtf_core.proofs.Telling.{tidied_told}
 use Rattle.wtf_core.proofs.Tidying.{tidied_sound, core_tidied}
 use Rattle.wtf_core.proofs.Whole.{line_stands, line_rises}
 use Rattle.wtf_core.proofs.store.Core.event.Given.{Over}
@@ -57,17 +60,20 @@ answered g c = let at = c.self-2.inside in record {
       at.cache.lists;
 }
 
-turn_is : (g : Over) (c : After-tidy g) → LineTurn (TellsAll g.S.SliceStore.kind c.args.shelf.now) (byte_at g.S.SliceStore.kind c.args.shelf.now, byte_at g.S.SliceStore.kind c.answer.new.shelf)
+turn_is : (g : Over) (c : After-tidy g)
+    → LineTurn (TellsAll g.S.SliceStore.kind c.args.shelf.now) (byte_at g.S.SliceStore.kind c.args.shelf.now, byte_at g.S.SliceStore.kind c.answer.new.shelf)
     c.args.self.now (answered g c) c.args.event.now c.in-Ok.answer
 turn_is g c =
     let kind = g.S.SliceStore.kind in
-    subst (λ (core : CoreView). LineTurn (TellsAll kind c.args.shelf.now) (byte_at kind c.args.shelf.now, byte_at kind c.answer.new.shelf) c.args.self.now core c.args.event.now c.in-Ok.answer)
+    subst (λ (core : CoreView). LineTurn (TellsAll kind c.args.shelf.now)
+    (byte_at kind c.args.shelf.now, byte_at kind c.answer.new.shelf) c.args.self.now core c.args.event.now c.in-Ok.answer)
     (sym c.self-2.view_is) c.in-Ok.ensures.turn
 
 rises_is : (g : Over) (c : After-tidy g) → Rises c.args.self.now.tables (answered g c).tables
 rises_is g c =
     let kind = g.S.SliceStore.kind in
-    line_rises (TellsAll kind c.args.shelf.now) (byte_at kind c.args.shelf.now, byte_at kind c.answer.new.shelf) c.args.self.now (answered g c) c.in-Ok.answer c.args.event.now (turn_is g c)
+    line_rises (TellsAll kind c.args.shelf.now) (byte_at kind c.args.shelf.now, byte_at kind c.answer.new.shelf) c.args.self.now
+    (answered g c) c.in-Ok.answer c.args.event.now (turn_is g c)
 
 same_settings : (g : Over) (c : After-tidy g) → (answered g c).settings ≡ c.args.self.now.settings
 same_settings g c = ap (λ (core : CoreView). core.settings) c.self-2.view_is ∙ c.answer.ensures.settings
@@ -76,14 +82,25 @@ abbrev serving : (g : Over) → After-tidy g → Type 0
 serving g c =
     let old = c.args.self.now in
     ServesEvent g.S.SliceStore.kind (span (is_down old.replicas) c.args.shelf.now c.answer.new.shelf) old.settings
-    (Rose (g.K.Keeper.view c.args.keeper.now).faults (g.K.Keeper.view c.answer.new.keeper).faults) (old.tables, c.self-2.inside.tables) c.args.event.now c.in-Ok.answer
+    (Rose (g.K.Keeper.view c.args.keeper.now).faults (g.K.Keeper.view c.answer.new.keeper).faults)
+    (old.tables, c.self-2.inside.tables) c.args.event.now c.in-Ok.answer
 
 serves_is : (g : Over) (c : After-tidy g) → serving g c
 serves_is g c =
     let kind = g.S.SliceStore.kind in
     let old = c.args.self.now in
-    subst (λ (core : CoreView). ServesEvent kind (span (is_down old.replicas) c.args.shelf.now c.answer.new.shelf) old.settings (Rose (g.K.Keeper.view c.args.keeper.now).faults (g.K.Keeper.view c.answer.new.keeper).faults) (old.tables, core.tables) c.args.event.now c.in-Ok.answer)
+    subst (λ (core : CoreView). ServesEvent kind (span (is_down old.replicas) c.args.shelf.now c.answer.new.shelf) old.settings
+    (Rose (g.K.Keeper.view c.args.keeper.now).faults (g.K.Keeper.view c.answer.new.keeper).faults)
+    (old.tables, core.tables) c.args.event.now c.in-Ok.answer)
     (sym c.self-2.view_is) c.in-Ok.ensures.serves
+
+told_is : (g : Over) (c : After-tidy g) → ServesTelling g.S.SliceStore.kind (span (is_down c.args.self.now.replicas) c.args.shelf.now c.answer.new.shelf)
+    c.args.self.now (answered g c).tables c.in-Ok.answer
+told_is g c =
+    let old = c.args.self.now in
+    subst (λ (core : CoreView). ServesTelling g.S.SliceStore.kind (span (is_down old.replicas) c.args.shelf.now c.answer.new.shelf) old core.tables
+    c.in-Ok.answer)
+    (sym c.self-2.view_is) c.in-Ok.ensures.told
 
 keeps_is : (g : Over) (c : After-tidy g) → KeepsLists g.S.SliceStore.kind c.args.shelf.now c.answer.new.shelf c.args.self.now (answered g c)
 keeps_is g c = subst (λ (core : CoreView). KeepsLists g.S.SliceStore.kind c.args.shelf.now c.answer.new.shelf c.args.self.now core) (sym c.self-2.view_is)
@@ -93,20 +110,27 @@ abbrev keeping : (g : Over) → After-tidy g → KeeperSpan
 keeping g c = keeper_span g.K.Keeper.view g.K.Keeper.follows c.args.keeper.now c.answer.new.keeper
 
 keeper_laws : (g : Over) (c : After-tidy g) → KeeperLaws (keeping g c)
-keeper_laws g c = record { kept = λ images handed. g.met.K.Keeper.keeps c.args.keeper.now c.answer.new.keeper images handed; same = λ is. ap g.K.Keeper.view is }
+keeper_laws g c = record {
+  kept = λ images handed. g.met.K.Keeper.keeps c.args.keeper.now c.answer.new.keeper images handed;
+  same = λ is. ap g.K.Keeper.view is;
+}
 
-did_is : (g : Over) (c : After-tidy g) → KeeperTurn g.S.SliceStore.kind (span (is_down c.args.self.now.replicas) c.args.shelf.now c.answer.new.shelf) (keeping g c) c.args.self.now.settings c.args.self.now.tables
+did_is : (g : Over) (c : After-tidy g)
+    → KeeperTurn g.S.SliceStore.kind (span (is_down c.args.self.now.replicas) c.args.shelf.now c.answer.new.shelf)
+    (keeping g c) c.args.self.now.settings c.args.self.now.tables
     (answered g c).tables c.args.event.now c.in-Ok.answer
 did_is g c =
     let old = c.args.self.now in
-    subst (λ (core : CoreView). KeeperTurn g.S.SliceStore.kind (span (is_down old.replicas) c.args.shelf.now c.answer.new.shelf) (keeping g c) old.settings old.tables core.tables c.args.event.now c.in-Ok.answer)
+    subst (λ (core : CoreView). KeeperTurn g.S.SliceStore.kind (span (is_down old.replicas) c.args.shelf.now c.answer.new.shelf)
+    (keeping g c) old.settings old.tables core.tables c.args.event.now c.in-Ok.answer)
     (sym c.self-2.view_is) c.in-Ok.ensures.keeper
 
 was_sound : (g : Over) (c : After-tidy g) → AreSound c.args.self.now.tables
 was_sound g c = subst (λ (core : CoreView). AreSound core.tables) c.self.view_is c.self.invariant.tables_are
 
 was_limited : (g : Over) (c : After-tidy g) → AreSettings c.args.self.now.settings.servers c.args.self.now.settings.replicas c.args.self.now.settings.region
-was_limited g c = subst (λ (core : CoreView). AreSettings core.settings.servers core.settings.replicas core.settings.region) c.self.view_is c.self.invariant.settings_are
+was_limited g c = subst (λ (core : CoreView).
+    AreSettings core.settings.servers core.settings.replicas core.settings.region) c.self.view_is c.self.invariant.settings_are
 
 pub returns-in-Ok-clause-goes_on : goal.returns-in-Ok-clause-goes_on
 returns-in-Ok-clause-goes_on g at =
@@ -126,15 +150,18 @@ returns-in-Ok-clause-goes_on g at =
             serves.inside);
         lists = subst (λ (s : Settings). CacheInside (is_inside kind c.answer.new.shelf s) (answered g c).lists) (sym same) (keeps_is g c).inside;
       };
-      bare = λ h. tidied_bytes any_byte no_slice (answered g c).tables c.tidy.new.self c.self-2.invariant.tables_are tidy (serves.bare h);
-      full = λ h. subst (λ (s : Settings). TablesBytes (has_copies s.replicas) no_slice c.tidy.new.self) (sym same)
-          (tidied_bytes (has_copies old.settings.replicas) no_slice (answered g c).tables c.tidy.new.self c.self-2.invariant.tables_are tidy (serves.full h));
+      bare = λ free h. tidied_bytes any_byte no_slice (answered g c).tables c.tidy.new.self c.self-2.invariant.tables_are tidy (serves.bare free h);
+      full = λ free h. subst (λ (s : Settings). TablesBytes (has_copies s.replicas) no_slice c.tidy.new.self) (sym same)
+          (tidied_bytes (has_copies old.settings.replicas) no_slice (answered g c).tables c.tidy.new.self c.self-2.invariant.tables_are tidy
+          (serves.full free h));
       down = λ k. line_downs (TellsAll kind c.args.shelf.now) told old (answered g c) c.in-Ok.answer c.args.event.now (turn_is g c) k;
       exact = line_exact (TellsAll kind c.args.shelf.now) told old (answered g c) c.in-Ok.answer c.args.event.now (turn_is g c);
       number = omega (arith, up.no_fewer, tidy.number);
       next_tx = omega (arith, up.no_earlier, tidy.next_tx);
-      same_number = λ is. tidy.number ∙ (turn_numbers (TellsAll kind c.args.shelf.now) told old (answered g c) c.in-Ok.answer c.args.event.now (turn_is g c) is).0;
-      same_next_tx = λ is. tidy.next_tx ∙ (turn_numbers (TellsAll kind c.args.shelf.now) told old (answered g c) c.in-Ok.answer c.args.event.now (turn_is g c) is).1;
+      same_number = λ is. tidy.number
+          ∙ (turn_numbers (TellsAll kind c.args.shelf.now) told old (answered g c) c.in-Ok.answer c.args.event.now (turn_is g c) is).0;
+      same_next_tx = λ is. tidy.next_tx
+          ∙ (turn_numbers (TellsAll kind c.args.shelf.now) told old (answered g c) c.in-Ok.answer c.args.event.now (turn_is g c) is).1;
     }
 
 pub returns-in-Ok-clause-turn : goal.returns-in-Ok-clause-turn
@@ -165,16 +192,20 @@ returns-in-Ok-clause-lawful g at = λ telling m stands.
     record {
       event = record {
         may = done.may;
-        stands = core_tidied later (answered g c) tidied (after m c.args.event.now c.in-Ok.answer) c.self-2.invariant.tables_are c.tidy.ensures refl done.stands;
+        stands = core_tidied later (answered g c) tidied
+            (after m c.args.event.now c.in-Ok.answer) c.self-2.invariant.tables_are c.tidy.ensures refl done.stands;
       };
-      trees = λ tells room held. line_tree kind t (keeping g c) (keeper_laws g c) (TellsAll kind c.args.shelf.now) told later (λ p b there. byte_at-kept g.met.S.SliceStore.laws on p b tt there) old (answered g c) m
+      trees = λ tells room held. line_tree kind t (keeping g c) (keeper_laws g c) (TellsAll kind c.args.shelf.now) told later
+          (λ p b there. byte_at-kept g.met.S.SliceStore.laws on p b tt there) old (answered g c) m
           (was_limited g c) (was_sound g c) room.0 room.1 stands.tables c.in-Ok.answer c.args.event.now (turn_is g c) (did_is g c) tells held;
-      taken = λ tells room held. numbers_on (g.K.Keeper.view c.answer.new.keeper) (size_in kind c.answer.new.shelf) old.settings (answered g c).tables.kv.number (answered g c).tables.next_tx
+      taken = λ tells room held. numbers_on (g.K.Keeper.view c.answer.new.keeper) (size_in kind c.answer.new.shelf) old.settings
+          (answered g c).tables.kv.number (answered g c).tables.next_tx
           c.tidy.new.self.kv.number c.tidy.new.self.next_tx c.tidy.ensures.number c.tidy.ensures.next_tx
           (line_taken kind g.met.S.SliceStore.laws t on (keeping g c) (keeper_laws g c) (TellsAll kind c.args.shelf.now) told later old (answered g c) m
           (was_limited g c) (was_sound g c) room.0 room.1 stands.tables (now_bytes (is_inside kind c.args.shelf.now old.settings) any_slice old.tables
           c.requires.inside.tables) (rises_is g c) c.in-Ok.answer c.args.event.now (turn_is g c) (did_is g c) tells held);
-      saved = λ tells room. line_leaves kind g.met.S.SliceStore.laws t on (keeping g c) (keeper_laws g c) (TellsAll kind c.args.shelf.now) told later old (answered g c) m
+      saved = λ tells room. line_leaves kind g.met.S.SliceStore.laws t on (keeping g c) (keeper_laws g c) (TellsAll kind c.args.shelf.now) told later old
+          (answered g c) m
           (was_limited g c) (was_sound g c) room.0 room.1 stands.tables (now_bytes (is_inside kind c.args.shelf.now old.settings) any_slice old.tables
           c.requires.inside.tables) (rises_is g c) c.in-Ok.answer c.args.event.now c.in-Ok.answer (did_is g c) tells;
     }
@@ -192,9 +223,11 @@ returns-in-Ok-clause-kept g at =
     let old = c.args.self.now in
     let t = span (is_down old.replicas) c.args.shelf.now c.answer.new.shelf in
     record {
-      turn = keeper_on kind t (keeping g c) old.settings old.tables (answered g c).tables c.tidy.new.self c.tidy.ensures.saved c.args.event.now c.in-Ok.answer (did_is g c);
+      turn = keeper_on kind t (keeping g c) old.settings old.tables (answered g c).tables c.tidy.new.self c.tidy.ensures.beside c.args.event.now c.in-Ok.answer
+          (did_is g c);
       held = λ tells held.
-          let on = line_held kind t (keeping g c) (keeper_laws g c) (TellsAll kind c.args.shelf.now) (byte_at kind c.args.shelf.now, byte_at kind c.answer.new.shelf) old (answered g c) (was_sound g c) c.in-Ok.answer
+          let on = line_held kind t (keeping g c) (keeper_laws g c) (TellsAll kind c.args.shelf.now)
+          (byte_at kind c.args.shelf.now, byte_at kind c.answer.new.shelf) old (answered g c) (was_sound g c) c.in-Ok.answer
           c.args.event.now (turn_is g c) (did_is g c) tells held in
           (on.0, on.1, tidied_held (answered g c).tables c.tidy.new.self old.settings on.0 c.self-2.invariant.tables_are c.tidy.ensures on.2);
     }
@@ -210,3 +243,18 @@ returns-in-Ok-clause-stays g at =
       next_tx = omega (arith, up.next_tx, c.tidy.ensures.next_tx);
       follows = c.answer.ensures.shelf;
     }
+
+pub returns-in-Ok-clause-told : goal.returns-in-Ok-clause-told
+returns-in-Ok-clause-told g at = λ tells.
+    let c = (goal.at.returns-in-Ok-clause-told g at).After-tidy in
+    let here = c.self-2.inside in
+    let tidied : CoreView = record {
+      settings = here.settings;
+      tables = c.tidy.new.self;
+      replicas = here.replicas;
+      closed = here.closed;
+      lists = here.cache.lists;
+    } in
+    tidied_told g.met.S.SliceStore.laws (scene c.args.shelf.now (g.K.Keeper.view c.args.keeper.now) c.args.self.now)
+    (scene c.answer.new.shelf (g.K.Keeper.view c.answer.new.keeper) tidied) (answered g c) c.answer.ensures.shelf c.self-2.invariant.tables_are
+    c.tidy.ensures (same_settings g c) c.in-Ok.answer ((keeps_is g c).true_still [] tells.cache) tells (told_is g c tells)

@@ -11,7 +11,9 @@ use Rattle.wtf_core.specs.Turns.{LineTurn}
 use Rattle.wtf_clients.specs.Saves.{AreUp}
 use Rattle.wtf_core.specs.Named.{IsInside}
 use Rattle.wtf_core.specs.Remembering.{KeepsLists}
+use Rattle.wtf_core.specs.Telling.{ServesTelling}
 use Rattle.wtf_core.proofs.Remembering.{save_keeps}
+use Rattle.wtf_core.proofs.Telling.{save_told}
 use Rattle.wtf_core.proofs.Whole.{sound_saved}
 use Rattle.wtf_core.proofs.store.Core.save_now.Goals as goal
 
@@ -25,7 +27,8 @@ invariant_of-self g c =
       ring_is = was.ring_is;
       points_are = was.points_are;
       cache_is = was.cache_is;
-      tables_are = sound_saved c.save.result (AreUp c.self.inside.replicas c.self.inside.settings.servers) c.self.inside.tables c.save.new.self was.tables_are did.turn did.err;
+      tables_are = sound_saved c.save.result
+          (AreUp c.self.inside.replicas c.self.inside.settings.servers) c.self.inside.tables c.save.new.self was.tables_are did.turn did.err;
     }
 
 pub invariant_of-self-in-Err : goal.invariant_of-self-in-Err
@@ -38,7 +41,8 @@ invariant_of-self-in-Err g c =
       ring_is = was.ring_is;
       points_are = was.points_are;
       cache_is = was.cache_is;
-      tables_are = sound_saved c.save.result (AreUp c.self.inside.replicas c.self.inside.settings.servers) c.self.inside.tables c.save.new.self was.tables_are did.turn did.err;
+      tables_are = sound_saved c.save.result
+          (AreUp c.self.inside.replicas c.self.inside.settings.servers) c.self.inside.tables c.save.new.self was.tables_are did.turn did.err;
     }
 
 pub returns-in-Ok-clause-turn : goal.returns-in-Ok-clause-turn
@@ -46,14 +50,16 @@ returns-in-Ok-clause-turn g c =
     let kind = g.S.SliceStore.kind in
     let at = c.self.inside in
     let new : CoreView = record { settings = at.settings; tables = c.save.new.self; replicas = at.replicas; closed = at.closed; lists = at.cache.lists } in
-    subst (λ (core : CoreView). LineTurn (TellsAll kind c.args.shelf.now) (byte_at kind c.args.shelf.now, byte_at kind c.save.new.shelf) core new event.Save c.in-Ok.answer) c.self.view_is
+    subst (λ (core : CoreView). LineTurn (TellsAll kind c.args.shelf.now)
+    (byte_at kind c.args.shelf.now, byte_at kind c.save.new.shelf) core new event.Save c.in-Ok.answer) c.self.view_is
     (c.in-Ok.ensures.turn, refl)
 
 pub returns-in-Ok-clause-serves : goal.returns-in-Ok-clause-serves
 returns-in-Ok-clause-serves g c =
     let kind = g.S.SliceStore.kind in
     let rose = Rose (g.K.Keeper.view c.args.keeper.now).faults (g.K.Keeper.view c.save.new.keeper).faults in
-    subst (λ (core : CoreView). ServesEvent kind (span (is_down core.replicas) c.args.shelf.now c.save.new.shelf) core.settings rose (core.tables, c.save.new.self) event.Save c.in-Ok.answer) c.self.view_is
+    subst (λ (core : CoreView). ServesEvent kind (span (is_down core.replicas) c.args.shelf.now c.save.new.shelf) core.settings rose
+    (core.tables, c.save.new.self) event.Save c.in-Ok.answer) c.self.view_is
     c.in-Ok.ensures.serves
 
 pub returns-in-Ok-clause-lists : goal.returns-in-Ok-clause-lists
@@ -79,3 +85,13 @@ returns-in-Err-clause-lists g c =
     (save_keeps g.met.S.SliceStore.laws shelf c.save.new.shelf c.save.ensures.shelf old new
     (subst (λ (core : CoreView). core.settings.servers ≤ length shelf) (sym c.self.view_is) c.requires.shelf)
     (subst (λ (core : CoreView). IsInside kind shelf core) (sym c.self.view_is) c.requires.inside) refl)
+
+pub returns-in-Ok-clause-told : goal.returns-in-Ok-clause-told
+returns-in-Ok-clause-told g c =
+    let kind = g.S.SliceStore.kind in
+    let at = c.self.inside in
+    let shelf = c.args.shelf.now in
+    subst (λ (core : CoreView). ServesTelling kind (span (is_down core.replicas) shelf c.save.new.shelf) core c.save.new.self c.in-Ok.answer) c.self.view_is
+    (save_told g.met.S.SliceStore.laws (is_down at.replicas) shelf c.save.new.shelf c.save.ensures.shelf at.settings
+    (subst (λ (core : CoreView). core.settings.servers ≤ length shelf) (sym c.self.view_is) c.requires.shelf) at.cache.lists
+    (AreUp at.replicas at.settings.servers) at.tables c.save.new.self c.in-Ok.answer c.self.invariant.tables_are c.in-Ok.ensures.turn)

@@ -1,0 +1,341 @@
+-- Each line of a job keeps the tables sound, and is the machine's.
+-- NSDI 2016, section 2.8 (lists of regions are compacted, and written into slices of their own, beside the calls of clients).
+use Rattle.std.proofs.Common.{◌≡◌, ◌≢◌, ◌⊎◌, ◌≤◌, ℕ, ◌+◌, true, List, [], ◌∷◌, Option, None, Some, Ok, MatchOption, refl, sym, ap}
+use Rattle.std.proofs.Common.{◌∙◌, subst, inl, inr, arith}
+use Rattle.std.specs.FinMap.{get, remove}
+use Rattle.std.specs.Option.{option_map}
+use Rattle.wtf_kv.specs.Stores.{Store, versions_of}
+use Rattle.wtf_values.specs.declared.key.Key.{Key}
+use Rattle.wtf_values.specs.declared.key.Key.TheVariants.{Region}
+use Rattle.wtf_values.specs.declared.value.Value.{Value}
+use Rattle.wtf_values.specs.Keys.{key_cmp}
+use Rattle.wtf_model.specs.declared.answer.Answer.{Answer}
+use Rattle.wtf_model.specs.declared.answer.Answer.TheVariants as answer
+use Rattle.wtf_model.specs.declared.answer.Word.{Word}
+use Rattle.wtf_model.specs.declared.answer.Word.TheVariants.{NoJob, JobInUse}
+use Rattle.wtf_model.specs.declared.item.Item.{Item}
+use Rattle.wtf_model.specs.declared.item.Item.TheVariants.{BodyOf}
+use Rattle.wtf_model.specs.declared.op.JobKind.{JobKind}
+use Rattle.wtf_model.specs.Faults.{or_refusal}
+use Rattle.wtf_model.specs.Items.{meets, source_reads}
+use Rattle.wtf_model.specs.Jobs.{is_idle, has_region, plan_answer, MayFailPlan, MayPut, job_changes, drop_answer}
+use Rattle.wtf_model.specs.Machines.{Machine}
+use Rattle.wtf_model.specs.Steps.{touch, touch_job, with_job, without_job, put_in_place, dropped}
+use Rattle.wtf_model.specs.Transaction.{Job}
+use Rattle.wtf_model.specs.Tree.{◌>>=◌, source}
+use Rattle.wtf_model.proofs.ItemLaws.{get-each, get-each_none}
+use Rattle.wtf_model.proofs.JobLaws.{plan-taken}
+use Rattle.wtf_model.proofs.Laws.{get-number_same, get-number_other}
+use Rattle.wtf_meta.specs.Bytes.{MaybeBytes}
+use Rattle.wtf_meta.specs.Contents.{Told, is_told, is_listed}
+use Rattle.wtf_meta.specs.Maps.{Map, with, metadata_at}
+use Rattle.wtf_meta.specs.Trees.{LeadsTo, Stands}
+use Rattle.wtf_meta.proofs.Named.{region_of_bytes}
+use Rattle.wtf_meta.proofs.Telling.{TellsOn}
+use Rattle.wtf_region.specs.Cached.{Remembered, CacheTrue}
+use Rattle.wtf_replay.specs.Tried.{KeepsVersions}
+use Rattle.wtf_image.specs.Savable.{AreBefore}
+use Rattle.wtf_compact.specs.Jobs.{JobView, job_edits, target_region}
+use Rattle.wtf_compact.specs.Planned.{KeepsRegion}
+use Rattle.wtf_compact.specs.Putting.{IsPut, IsInPlace, IsStale}
+use Rattle.wtf_compact.proofs.PutLaws.{put_stands}
+use Rattle.wtf_clients.specs.Views.{TablesView, of_label, metadata_now}
+use Rattle.wtf_clients.specs.Sounds.{AreSound}
+use Rattle.wtf_clients.specs.Standing.{StandsForJob, StandsForLabel, TablesStand}
+use Rattle.wtf_clients.specs.Touched.{Touched, above}
+use Rattle.wtf_clients.specs.JobTurns.{RefusesJob, plan_due, Plans, PlansSoundly, PlanRefused, PlanFails, FreePlan, PlanTurn, Puts, PutTurn, DropsJob, DropTurn}
+use Rattle.wtf_clients.proofs.Frames.{untouched_same, untouched_job}
+use Rattle.wtf_clients.proofs.Images.{before_more, before_same, before_own}
+use Rattle.wtf_clients.proofs.JobFrames.{JobTurned, job_sound, job_stands}
+use Rattle.wtf_clients.proofs.JobKeeping.{known_later, keeps_later}
+use Rattle.wtf_clients.proofs.JobTurning.{plan_turned, put_turned, drop_turned}
+use Rattle.wtf_clients.proofs.Later.{Stands-later}
+use Rattle.wtf_clients.proofs.PutFeet.{put_own, put_map, put_touched, put_since, stale_met}
+use Rattle.wtf_clients.proofs.Staying.{fault_is}
+use Rattle.wtf_clients.proofs.SinceLaws.{touched_base, touched_kept, since_kept}
+use Rattle.wtf_core.proofs.Machines.{gone_here, gone_there}
+use Rattle.wtf_core.proofs.Plain.{tables_later}
+
+-- ---- what a label has in the machine
+
+label_none : (size : ℕ) (told : Told) (kv : Store Key Value) (s : Option JobView) (o : Option Job) → StandsForLabel size told kv s o → s ≡ None → o ≡ None
+label_none size told kv None None h e = refl
+label_none size told kv None (Some t) h e = absurd h
+label_none size told kv (Some x) o h e = absurd (cc)
+
+label_some : (size : ℕ) (told : Told) (kv : Store Key Value) (s : Option JobView) (o : Option Job) (x : JobView) → StandsForLabel size told kv s o → s ≡ Some x
+    → (t : Job) × (o ≡ Some t) × StandsForJob size told kv x t
+label_some size told kv None o x h e = absurd (cc)
+label_some size told kv (Some y) None x h e = absurd h
+label_some size told kv (Some y) (Some t) x h e = (t, refl, subst (λ (z : JobView). StandsForJob size told kv z t) (let same : y ≡ x = cc in same) h)
+
+-- a plan is due as it is on the tree now, where the label is free
+answer_free : (m : Machine) (j : ℕ) (p : List ℕ) (r : ℕ) → get m.jobs j ≡ None → plan_answer m j p r ≡ plan_due m.settings.region m.now p r
+answer_free m j p r none = ap (λ o. or_refusal
+    (is_idle o >>= (λ _. source m.now p >>= (λ bytes. has_region m.settings.region bytes r >>= (λ _. Ok answer.Planned))))) none
+
+module _ (old new : TablesView) (j : ℕ) (sound : AreSound old) where
+  -- ---- the tables stay sound
+
+  same_sound : new ≡ old → AreSound new
+  same_sound is = subst AreSound (sym is) sound
+
+  module _ (Telling : Type 0) (lists : Remembered) (servers size : ℕ) (told later : Told) (kind : JobKind) (p : List ℕ) (r : ℕ) where
+    free_sound : (a : Answer) → of_label old.beside.jobs j ≡ None → FreePlan Telling lists servers size told later old new j kind p r a → AreSound new
+    free_sound answer.Planned none h =
+        job_sound old new j (Some h.job) sound (plan_turned old new j sound kind p r h.job none h.plans)
+    free_sound (answer.Refused w) none h = same_sound h.same
+    free_sound a none h = same_sound h.same
+
+    pub plan_sound : (a : Answer) → PlanTurn Telling lists servers size told later old new j kind p r a → AreSound new
+    plan_sound a h = by (of_label old.beside.jobs j) refl h
+      where
+        by : (o : Option JobView) → of_label old.beside.jobs j ≡ o
+            → MatchOption o (FreePlan Telling lists servers size told later old new j kind p r a) (λ x. RefusesJob old new JobInUse a) → AreSound new
+        by None none g = free_sound a none g
+        by (Some x) there g = same_sound g.same
+
+  pub put_sound : (a : Answer) → PutTurn old new j a → AreSound new
+  put_sound a h = by (of_label old.beside.jobs j) refl h
+    where
+      by : (o : Option JobView) → of_label old.beside.jobs j ≡ o → MatchOption o (RefusesJob old new NoJob a) (λ x. Puts old new j x a) → AreSound new
+      by None none g = same_sound g.same
+      by (Some x) there g = job_sound old new j None sound (put_turned old new j sound x there a g)
+
+  pub drop_sound : (a : Answer) → DropTurn old new j a → AreSound new
+  drop_sound a h = by (of_label old.beside.jobs j) refl h
+    where
+      by : (o : Option JobView) → of_label old.beside.jobs j ≡ o → MatchOption o (RefusesJob old new NoJob a) (λ x. DropsJob old new j x a) → AreSound new
+      by None none g = same_sound g.same
+      by (Some x) there g = job_sound old new j None sound (drop_turned old new j sound x there a g)
+
+  -- ---- and they stand for the machine
+
+  module _ (size : ℕ) (told later : Told) (m : Machine) (st : TablesStand size told old m) (on : TellsOn told later) where
+    same_stand : new ≡ old → TablesStand size later new m
+    same_stand is = subst (λ t. TablesStand size later t m) (sym is) (tables_later size told later old m sound st on)
+
+    -- where no number was installed
+    module _ (now : Option JobView) (turned : JobTurned old new j now) (number : new.kv.number ≡ old.kv.number) (versions : KeepsVersions old.kv new.kv) where
+      map_same : metadata_now new.kv ≡ metadata_now old.kv
+      map_same = ap (metadata_at new.kv) number ∙ turned.maps old.kv.number (omega arith)
+
+      trees_same : (tx : ℕ) → Stands size told tx 0 (metadata_now old.kv) m.now → Stands size later tx 0 (metadata_now new.kv) m.now
+      trees_same tx was = subst (λ w. Stands size later tx 0 w m.now) (sym map_same) (Stands-later told later on size tx 0 (metadata_now old.kv) m.now was)
+
+      kept_stand : (after : Machine) → after.number ≡ m.number → after.now ≡ m.now → after.may_be_saved ≡ m.may_be_saved
+          → after.transactions ≡ m.transactions → ((l : ℕ) → l ≢ j → get after.jobs l ≡ get m.jobs l)
+          → StandsForLabel size later new.kv now (get after.jobs j) → TablesStand size later new after
+      kept_stand after number2 tree may transactions others own =
+          job_stands old new j now sound turned size told later m after [] st on
+          (number2 ∙ st.number ∙ sym number) tree may
+          (λ c. untouched_same (get m.transactions c) (get after.transactions c) (ap (λ ts. get ts c) transactions))
+          (λ l ne. untouched_job (get m.jobs l) (get after.jobs l) (others l ne))
+          trees_same
+          (λ tx base items based stands since. since_kept old.kv new.kv tx base items since based turned.maps number versions)
+          (λ base items based touched. touched_kept old.kv new.kv base items touched based turned.maps number versions)
+          (before_same old.next_tx new.next_tx (metadata_now old.kv) (metadata_now new.kv) map_same
+          (let next = turned.keeps.next_tx in omega (arith, next)) st.before)
+          own
+
+    -- ---- a plan
+    module _ (Telling : Type 0) (lists : Remembered) (servers : ℕ) (kind : JobKind) (p : List ℕ) (r : ℕ) (a : Answer)
+        (region : m.settings.region ≡ size) (count : m.settings.servers ≡ servers) (telling : Telling × CacheTrue told size [] lists) where
+      abbrev May : Answer → Type 0
+      May b = (b ≡ plan_answer m j p r) ⊎ MayFailPlan m.settings.servers kind (plan_answer m j p r) b
+
+      -- the tree now
+      tree_now : Stands size told old.next_tx 0 (metadata_now old.kv) m.now
+      tree_now = st.later old.next_tx (omega arith)
+
+      due_is : get m.jobs j ≡ None → plan_answer m j p r ≡ plan_due size m.now p r
+      due_is none = answer_free m j p r none ∙ ap (λ b. plan_due b m.now p r) region
+
+      abbrev planned_job : Job
+      planned_job = record { stamp = m.next_stamp; path = p; region = r; kind = kind; base = m.number; touched = [] }
+
+      plan_job : (x : JobView) → Plans old new j kind p r x
+          → KeepsRegion size later (target_region (metadata_now old.kv) x.target) x.value → StandsForJob size later new.kv x planned_job
+      plan_job x plans keeps =
+          let at : metadata_at new.kv x.base ≡ metadata_now old.kv =
+          ap (metadata_at new.kv) plans.base ∙ ap (λ (s : Store Key Value). metadata_at s old.kv.number) plans.kv in
+          let number : new.kv.number ≡ old.kv.number = ap (λ (s : Store Key Value). s.number) plans.kv in
+          record {
+            path = sym plans.job.path;
+            region = sym plans.job.region;
+            kind = sym plans.job.kind_is;
+            base = st.number ∙ sym plans.base;
+            leads = subst (λ (w : Map). LeadsTo w x.path x.target.inode) (sym at)
+                (subst (λ q. LeadsTo (metadata_now old.kv) q x.target.inode) (sym plans.job.path) plans.job.leads);
+            known = subst (λ (w : Map). MaybeBytes (is_told later) (is_listed size later) (target_region w x.target)) (sym at)
+                (known_later told later on size (target_region (metadata_now old.kv) x.target)
+                (region_of_bytes (is_told told) (is_listed size told) (metadata_now old.kv (Region x.target.inode x.target.region))
+                (tree_now.bytes (Region x.target.inode x.target.region))));
+            keeps = subst (λ (w : Map). KeepsRegion size later (target_region w x.target) x.value) (sym at) keeps;
+            touched = subst (λ b. Touched (metadata_at new.kv b) (metadata_now new.kv) (above new.kv b) []) (number ∙ sym plans.base) (touched_base new.kv);
+          }
+
+      planned_stand : of_label old.beside.jobs j ≡ None → PlansSoundly Telling lists servers size told later old new j kind p r
+          → May answer.Planned × TablesStand size later new (with_job m j kind p r answer.Planned)
+      planned_stand none h =
+          let free : get m.jobs j ≡ None = label_none size told old.kv (of_label old.beside.jobs j) (get m.jobs j) (st.jobs j) none in
+          let x : JobView = h.job in
+          let t : Job = planned_job in
+          let number : new.kv.number ≡ old.kv.number = ap (λ (s : Store Key Value). s.number) h.plans.kv in (
+            inl (sym (due_is free ∙ h.due old.next_tx 0 m.now tree_now)),
+            kept_stand (Some x) (plan_turned old new j sound kind p r x none h.plans) number
+                (λ q. ap (λ (s : Store Key Value). versions_of key_cmp s q) h.plans.kv)
+                (with_job m j kind p r answer.Planned) refl refl refl refl
+                (λ l ne. get-number_other m.jobs j t l ne)
+                (subst (λ o. StandsForLabel size later new.kv (Some x) o) (sym (get-number_same m.jobs j t))
+                (plan_job x h.plans (h.keeps (telling.0, telling.1, tree_now.bytes)))),
+          )
+
+      fault_stays : (b : Answer) → PlanFails Telling lists servers size told later old new kind p r b → with_job m j kind p r b ≡ m
+      fault_stays (answer.FaultRead k) h = refl
+      fault_stays answer.FaultWrite h = refl
+      fault_stays (answer.FaultPunch k) h = refl
+      fault_stays (answer.Damaged k) h = refl
+      fault_stays answer.Planned h = absurd (fault_is h.why answer.Planned h.answer)
+      fault_stays b h = refl
+
+      failed_stand : of_label old.beside.jobs j ≡ None → PlanFails Telling lists servers size told later old new kind p r a
+          → May a × TablesStand size later new (with_job m j kind p r a)
+      failed_stand none h =
+          let free : get m.jobs j ≡ None = label_none size told old.kv (of_label old.beside.jobs j) (get m.jobs j) (st.jobs j) none in (
+            inr (subst (λ d. MayFailPlan m.settings.servers kind d a) (sym (due_is free))
+                (subst (λ n. MayFailPlan n kind (plan_due size m.now p r) a) (sym count) (h.may old.next_tx 0 m.now tree_now))),
+            subst (λ n. TablesStand size later new n) (sym (fault_stays a h)) (same_stand h.same),
+          )
+
+      refused_stand : (w : Word) → of_label old.beside.jobs j ≡ None → PlanRefused Telling lists servers size told later old new p r w
+          → May (answer.Refused w) × TablesStand size later new (with_job m j kind p r (answer.Refused w))
+      refused_stand w none h =
+          let free : get m.jobs j ≡ None = label_none size told old.kv (of_label old.beside.jobs j) (get m.jobs j) (st.jobs j) none in
+          (inl (sym (due_is free ∙ h.due old.next_tx 0 m.now tree_now)), same_stand h.same)
+
+      used_stand : (x : JobView) → of_label old.beside.jobs j ≡ Some x → RefusesJob old new JobInUse a
+          → May a × TablesStand size later new (with_job m j kind p r a)
+      used_stand x there h =
+          let found = label_some size told old.kv (of_label old.beside.jobs j) (get m.jobs j) x (st.jobs j) there in (
+            inl (h.answer ∙ sym (plan-taken m j r p found.0 found.1)),
+            subst (λ b. TablesStand size later new (with_job m j kind p r b)) (sym h.answer) (same_stand h.same),
+          )
+
+    pub plan_stands : (Telling : Type 0) (lists : Remembered) (servers : ℕ) (kind : JobKind) (p : List ℕ) (r : ℕ) (a : Answer)
+        → m.settings.region ≡ size → m.settings.servers ≡ servers → Telling × CacheTrue told size [] lists
+        → PlanTurn Telling lists servers size told later old new j kind p r a
+        → ((a ≡ plan_answer m j p r) ⊎ MayFailPlan m.settings.servers kind (plan_answer m j p r) a) × TablesStand size later new (with_job m j kind p r a)
+    plan_stands Telling lists servers kind p r a region count telling turn = by (of_label old.beside.jobs j) refl turn
+      where
+        free : (b : Answer) → of_label old.beside.jobs j ≡ None → FreePlan Telling lists servers size told later old new j kind p r b
+            → ((b ≡ plan_answer m j p r) ⊎ MayFailPlan m.settings.servers kind (plan_answer m j p r) b) × TablesStand size later new (with_job m j kind p r b)
+        free answer.Planned none g = planned_stand Telling lists servers kind p r answer.Planned region count telling none g
+        free (answer.Refused w) none g = refused_stand Telling lists servers kind p r (answer.Refused w) region count telling w none g
+        free b none g = failed_stand Telling lists servers kind p r b region count telling none g
+
+        by : (o : Option JobView) → of_label old.beside.jobs j ≡ o
+            → MatchOption o (FreePlan Telling lists servers size told later old new j kind p r a) (λ x. RefusesJob old new JobInUse a)
+            → ((a ≡ plan_answer m j p r) ⊎ MayFailPlan m.settings.servers kind (plan_answer m j p r) a) × TablesStand size later new (with_job m j kind p r a)
+        by None none g = free a none g
+        by (Some x) there g = used_stand Telling lists servers kind p r a region count telling x there g
+
+    -- ---- a put
+    module _ (x : JobView) (there : of_label old.beside.jobs j ≡ Some x) (t : Job) (job : StandsForJob size told old.kv x t)
+        (found : get m.jobs j ≡ Some t) where
+      -- the items that others see touched
+      body_is : job_changes m.now (get m.jobs j) ≡ BodyOf x.path ∷ []
+      body_is = ap (job_changes m.now) found ∙ ap (λ q. BodyOf q ∷ []) job.path
+
+      installed_stand : (n : ℕ) → Puts old new j x (answer.Installed n)
+          → MayPut m (Some t) (answer.Installed n) × TablesStand size later new (put_in_place m j (answer.Installed n))
+      installed_stand n did =
+          let put : IsInPlace x old.kv new.kv n = did.put in
+          let turned = put_turned old new j sound x there (answer.Installed n) did in
+          let leads_now : LeadsTo (metadata_now old.kv) x.path x.target.inode = put.agree.0 ∙ job.leads in
+          let first : Stands size told old.next_tx 0 (metadata_now old.kv) m.now = st.later old.next_tx (omega arith) in
+          let one : (q : List ℕ) → LeadsTo (metadata_now old.kv) q x.target.inode → q ≡ x.path = λ q to. first.apart q x.path x.target.inode to leads_now in
+          let keeps : KeepsRegion size later (target_region (metadata_at old.kv x.base) x.target) x.value =
+          keeps_later told later on size (target_region (metadata_at old.kv x.base) x.target) x.value job.known job.keeps in
+          let trees : (tx : ℕ) → Stands size told tx 0 (metadata_now old.kv) m.now → Stands size later tx 0 (metadata_now new.kv) m.now = λ tx was.
+          put_stands size later tx 0 m.now (answer.Installed n) x old.kv new.kv put keeps
+          (Stands-later told later on size tx 0 (metadata_now old.kv) m.now was) in
+          let items : List Item = job_changes m.now (get m.jobs j) in
+          let next = put.next in
+          let after : Map = with (job_edits x) (metadata_now old.kv) in
+          let up : ◌≤◌ old.next_tx new.next_tx = let more = did.keeps.next_tx in omega (arith, more) in (
+            next ∙ ap (λ k. k + 1) (sym st.number),
+            job_stands old new j None sound turned size told later m (put_in_place m j (answer.Installed n)) (BodyOf x.path ∷ []) st on
+                (sym put.number) refl refl
+                (λ c. get-each (touch items) m.transactions c ∙ ap (λ l. option_map (touch l) (get m.transactions c)) body_is)
+                (λ l ne. get-each (touch_job items) (remove m.jobs j) l ∙ ap (option_map (touch_job items)) (gone_there m.jobs j l ne)
+                ∙ ap (λ k. option_map (touch_job k) (get m.jobs l)) body_is)
+                trees
+                (λ tx base its based was since. put_since x old.kv new.kv n put one size told later m.now tx was (trees tx was) base its
+                (did.maps base based) since)
+                (λ base its based was. put_touched x old.kv new.kv n put one size told later m.now old.next_tx first (trees old.next_tx first) base its
+                (did.maps base based) was)
+                (subst (AreBefore new.next_tx) (sym (put_map x old.kv new.kv n put one))
+                (before_more old.next_tx new.next_tx after up
+                (before_own 0 old.next_tx (metadata_now old.kv) after sound.begun
+                (put_own x.target.inode x.target.region 0 x.value (metadata_now old.kv)) st.before)))
+                (subst (λ o. StandsForLabel size later new.kv None o)
+                (sym (get-each_none (touch_job items) (remove m.jobs j) j (gone_here m.jobs j))) tt),
+          )
+
+      stale_stand : (b n : ℕ) → Puts old new j x (answer.Stale b n)
+          → MayPut m (Some t) (answer.Stale b n) × TablesStand size later new (put_in_place m j (answer.Stale b n))
+      stale_stand b n did =
+          let put : IsStale x old.kv new.kv b n = did.put in (
+            (
+              (put.base ∙ sym job.base, put.now ∙ sym st.number, put.later),
+              subst (λ q. meets t.touched (source_reads q) ≡ true) (sym job.path) (stale_met x old.kv new.kv b n t.touched put job.leads job.touched),
+            ),
+            kept_stand None (put_turned old new j sound x there (answer.Stale b n) did) put.number put.versions
+                (without_job m j) refl refl refl refl (λ l ne. gone_there m.jobs j l ne)
+                (subst (λ o. StandsForLabel size later new.kv None o) (sym (gone_here m.jobs j)) tt),
+          )
+
+      puts_stand : (a : Answer) → Puts old new j x a → MayPut m (Some t) a × TablesStand size later new (put_in_place m j a)
+      puts_stand a did = by a did did.put
+        where
+          by : (b : Answer) → Puts old new j x b → IsPut x old.kv new.kv b → MayPut m (Some t) b × TablesStand size later new (put_in_place m j b)
+          by (answer.Installed n) d put = installed_stand n d
+          by (answer.Stale c n) d put = stale_stand c n d
+          by b d put = absurd put
+
+    pub put_stand : (a : Answer) → PutTurn old new j a → MayPut m (get m.jobs j) a × TablesStand size later new (put_in_place m j a)
+    put_stand a turn = by (of_label old.beside.jobs j) refl turn
+      where
+        by : (o : Option JobView) → of_label old.beside.jobs j ≡ o → MatchOption o (RefusesJob old new NoJob a) (λ x. Puts old new j x a)
+            → MayPut m (get m.jobs j) a × TablesStand size later new (put_in_place m j a)
+        by None none g =
+            let free : get m.jobs j ≡ None = label_none size told old.kv (of_label old.beside.jobs j) (get m.jobs j) (st.jobs j) none in (
+              subst (λ o. MayPut m o a) (sym free) g.answer,
+              subst (λ b. TablesStand size later new (put_in_place m j b)) (sym g.answer) (same_stand g.same),
+            )
+        by (Some x) there g =
+            let found = label_some size told old.kv (of_label old.beside.jobs j) (get m.jobs j) x (st.jobs j) there in
+            let both = puts_stand x there found.0 found.2 found.1 a g in
+            (subst (λ o. MayPut m o a) (sym found.1) both.0, both.1)
+
+    -- ---- a drop
+    pub drop_stand : (a : Answer) → DropTurn old new j a → (a ≡ drop_answer (get m.jobs j)) × TablesStand size later new (dropped m j a)
+    drop_stand a turn = by (of_label old.beside.jobs j) refl turn
+      where
+        by : (o : Option JobView) → of_label old.beside.jobs j ≡ o → MatchOption o (RefusesJob old new NoJob a) (λ x. DropsJob old new j x a)
+            → (a ≡ drop_answer (get m.jobs j)) × TablesStand size later new (dropped m j a)
+        by None none g =
+            let free : get m.jobs j ≡ None = label_none size told old.kv (of_label old.beside.jobs j) (get m.jobs j) (st.jobs j) none in (
+              g.answer ∙ sym (ap drop_answer free),
+              subst (λ b. TablesStand size later new (dropped m j b)) (sym g.answer) (same_stand g.same),
+            )
+        by (Some x) there g =
+            let found = label_some size told old.kv (of_label old.beside.jobs j) (get m.jobs j) x (st.jobs j) there in (
+              g.answer ∙ sym (ap drop_answer found.1),
+              subst (λ b. TablesStand size later new (dropped m j b)) (sym g.answer)
+                  (kept_stand None (drop_turned old new j sound x there a g) (ap (λ (s : Store Key Value). s.number) g.kv)
+                  (λ q. ap (λ (s : Store Key Value). versions_of key_cmp s q) g.kv)
+                  (without_job m j) refl refl refl refl (λ l ne. gone_there m.jobs j l ne)
+                  (subst (λ o. StandsForLabel size later new.kv None o) (sym (gone_here m.jobs j)) tt)),
+            )

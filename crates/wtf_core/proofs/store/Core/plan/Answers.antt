@@ -1,0 +1,86 @@
+use Rattle.std.proofs.Common.{◌≤◌, List, rules, refl, length, sym, ap, subst}
+use Rattle.wtf_region.specs.Cached.{AreFrom}
+use Rattle.wtf_dev.specs.Sums.{TellsAll}
+use Rattle.wtf_replica.specs.Downs.{is_down}
+use Rattle.wtf_replica.specs.Spans.{span}
+use Rattle.wtf_model.specs.declared.event.Event.{Event}
+use Rattle.wtf_model.specs.declared.event.Event.TheVariants as event
+use Rattle.wtf_clients.specs.Serves.{ServesLine}
+use Rattle.wtf_replica.specs.Bytes.{byte_at}
+use Rattle.wtf_core.proofs.Whole.{sound_planned}
+use Rattle.wtf_core.specs.Made.{IsMade}
+use Rattle.wtf_core.specs.Views.{CoreView}
+use Rattle.wtf_core.specs.Named.{IsInside}
+use Rattle.wtf_core.specs.Remembering.{KeepsLists}
+use Rattle.wtf_core.proofs.Remembering.{sound_dev, goes_keeps}
+use Rattle.wtf_core.proofs.store.Core.plan.Given.{Over}
+use Rattle.wtf_core.proofs.store.Core.plan.Goals as goal
+use Rattle.wtf_core.proofs.store.Core.plan.Goals.{After-plan}
+
+-- the core behind the call
+abbrev left : (g : Over) → After-plan g → CoreView
+left g c = let at = c.self.inside in record {
+  settings = at.settings;
+  tables = c.plan.new.self;
+  replicas = at.replicas;
+  closed = at.closed;
+  lists = c.plan.new.dev.cache.now.lists;
+}
+
+-- its parts
+made : (g : Over) (c : After-plan g) → IsMade c.self.inside.settings c.plan.new.self c.self.inside.replicas c.self.inside.ring c.plan.new.dev.cache.now
+made g c =
+    let was = c.self.invariant in
+    let did = c.plan.ensures in
+    let at = c.self.inside in
+    record {
+      settings_are = was.settings_are;
+      replicas_are = was.replicas_are;
+      ring_is = was.ring_is;
+      points_are = was.points_are;
+      cache_is = subst (λ r. AreFrom r.now c.plan.new.dev.cache.now.places) did.dev.ring did.dev.sound.cache;
+      tables_are = sound_planned c.plan.result (TellsAll g.S.SliceStore.kind c.args.shelf.now) at.cache.lists at.settings.servers at.settings.region
+          (byte_at g.S.SliceStore.kind c.args.shelf.now) (byte_at g.S.SliceStore.kind c.plan.new.dev.shelf.now) at.tables c.plan.new.self c.args.j c.args.kind
+          c.args.p.now c.args.region was.tables_are did.turn did.err_sound;
+    }
+
+-- and the lists that it remembers
+kept : (g : Over) (c : After-plan g) → KeepsLists g.S.SliceStore.kind c.args.shelf.now c.plan.new.dev.shelf.now c.args.self.now (left g c)
+kept g c = goes_keeps g.S.SliceStore.kind _ c.plan.new.dev c.args.self.now (left g c) c.plan.ensures.dev
+    (ap (λ (core : CoreView). core.settings) c.self.view_is)
+    (ap (λ (core : CoreView). core.lists) c.self.view_is) refl
+
+pub invariant_of-self : goal.invariant_of-self
+invariant_of-self g c = made g (goal.at.invariant_of-self g c).After-plan
+
+pub invariant_of-self-in-Err : goal.invariant_of-self-in-Err
+invariant_of-self-in-Err g c = made g (goal.at.invariant_of-self-in-Err g c).After-plan
+
+pub plan-requires-clause-dev : goal.plan-requires-clause-dev
+plan-requires-clause-dev g c =
+    let kind = g.S.SliceStore.kind in
+    let shelf = c.args.shelf.now in
+    let at = c.self.inside in
+    sound_dev kind _ at.tables c.self.invariant
+    (subst (λ (core : CoreView). core.settings.servers ≤ length shelf) (sym c.self.view_is) c.requires.shelf)
+    (subst (λ (core : CoreView). IsInside kind shelf core) (sym c.self.view_is) c.requires.inside).lists
+
+pub returns-in-Ok-clause-lists : goal.returns-in-Ok-clause-lists
+returns-in-Ok-clause-lists g c =
+    let at = (goal.at.returns-in-Ok-clause-lists g c).After-plan in
+    subst (λ (shelf : List g.row.S.Denot). KeepsLists g.S.SliceStore.kind c.args.shelf.now shelf c.args.self.now (left g at)) (search (rules)) (kept g at)
+
+pub returns-in-Err-clause-lists : goal.returns-in-Err-clause-lists
+returns-in-Err-clause-lists g c =
+    let at = (goal.at.returns-in-Err-clause-lists g c).After-plan in
+    subst (λ (shelf : List g.row.S.Denot). KeepsLists g.S.SliceStore.kind c.args.shelf.now shelf c.args.self.now (left g at)) (search (rules)) (kept g at)
+
+pub returns-in-Ok-clause-serves : goal.returns-in-Ok-clause-serves
+returns-in-Ok-clause-serves g c =
+    let kind = g.S.SliceStore.kind in
+    let e : Event = event.Plan c.args.j c.args.kind c.args.p.now c.args.region in
+    let old = c.args.self.now in
+    subst (λ (shelf : List g.row.S.Denot). ServesLine kind (span (is_down old.replicas) c.args.shelf.now shelf) old.settings old.tables c.plan.new.self e
+    c.in-Ok.answer) (search (rules))
+    (subst (λ (core : CoreView). ServesLine kind (span (is_down core.replicas) c.args.shelf.now c.plan.new.dev.shelf.now) core.settings core.tables
+    c.plan.new.self e c.in-Ok.answer) c.self.view_is c.in-Ok.ensures.serves)
