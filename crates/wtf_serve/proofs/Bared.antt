@@ -119,7 +119,8 @@ bare_refuses why status g f p taken' r = elim r.status_is [
 bare_same : (g f : ℕ) (p : List ℕ) (taken' : Option (List ℕ)) → sink_at f taken' ≡ sink_at g (Some p) → taken' ≡ Some (p ++ [])
 bare_same g f p taken' same = ap (λ (s : SinkView). s.taken) same ∙ ap (λ (t : List ℕ). Some t) (sym (append-nil p))
 
-bare_why : {S : Type 0} (kind : StoreKind S) (status : ℕ) (source source' : SourceView) (stock stock' : Stock S) (g f : ℕ) (p : List ℕ) (taken' : Option (List ℕ))
+bare_why : {S : Type 0} (kind : StoreKind S) (status : ℕ) (source source' : SourceView) (stock stock' : Stock S) (g f : ℕ) (p : List ℕ)
+    (taken' : Option (List ℕ))
     → IsWhy kind status (at source g (Some p) stock) (at source' f taken' stock')
     → (text : List ℕ) × (taken' ≡ Some (p ++ text)) × IsWhy kind status (at source g (Some []) stock) (at source' f (Some text) stock')
 bare_why kind status source source' stock stock' g f p taken' (inl (e, same)) =
@@ -141,7 +142,8 @@ bare_why kind status source source' stock stock' g f p taken' (inr (inr refused)
 
 -- ---- a run that was opened
 
-bare_unstarted : {S : Type 0} (handed : List (List ℕ) → Type 0) (status : ℕ) (lines : List (List ℕ)) (source source' : SourceView) (stock stock' : Stock S) (g f : ℕ) (p text : List ℕ) (taken' : Option (List ℕ))
+bare_unstarted : {S : Type 0} (handed : List (List ℕ) → Type 0) (status : ℕ) (lines : List (List ℕ)) (source source' : SourceView) (stock stock' : Stock S)
+    (g f : ℕ) (p text : List ℕ) (taken' : Option (List ℕ))
     → taken' ≡ Some (p ++ text) → IsUnstarted handed status lines (at source g (Some p) stock) (at source' f taken' stock')
     → IsUnstarted handed status lines (at source g (Some []) stock) (at source' f (Some text) stock')
 bare_unstarted handed status lines source source' stock stock' g f p text taken' added u = record {
@@ -153,7 +155,8 @@ bare_unstarted handed status lines source source' stock stock' g f p text taken'
   sink_is = λ n. same_bare g f p text taken' added (u.sink_is n);
 }
 
-bare_served : {S : Type 0} (kind : StoreKind S) (handed : List (List ℕ) → Type 0) (opening : Opening) (status : ℕ) (source source' : SourceView) (stock stock' : Stock S) (g f : ℕ) (p : List ℕ) (taken' : Option (List ℕ))
+bare_served : {S : Type 0} (kind : StoreKind S) (handed : List (List ℕ) → Type 0) (opening : Opening) (status : ℕ) (source source' : SourceView)
+    (stock stock' : Stock S) (g f : ℕ) (p : List ℕ) (taken' : Option (List ℕ))
     → Served kind handed opening status (at source g (Some p) stock) (at source' f taken' stock')
     → (text : List ℕ) × (taken' ≡ Some (p ++ text)) × Served kind handed opening status (at source g (Some []) stock) (at source' f (Some text) stock')
 bare_served kind handed opening status source source' stock stock' g f p taken' s =
@@ -195,7 +198,8 @@ bare_served kind handed opening status source source' stock stock' g f p taken' 
       },
     )
 
-pub bare_run : {S : Type 0} (kind : StoreKind S) (handed : List (List ℕ) → Type 0) (settings : Settings) (status : ℕ) (source source' : SourceView) (stock stock' : Stock S) (g f : ℕ) (p : List ℕ) (taken' : Option (List ℕ))
+pub bare_run : {S : Type 0} (kind : StoreKind S) (handed : List (List ℕ) → Type 0) (settings : Settings) (status : ℕ) (source source' : SourceView)
+    (stock stock' : Stock S) (g f : ℕ) (p : List ℕ) (taken' : Option (List ℕ))
     → IsRun kind handed settings status (at source g (Some p) stock) (at source' f taken' stock')
     → (text : List ℕ) × (taken' ≡ Some (p ++ text)) × IsRun kind handed settings status (at source g (Some []) stock) (at source' f (Some text) stock')
 bare_run kind handed settings status source source' stock stock' g f p taken' (inl u) =

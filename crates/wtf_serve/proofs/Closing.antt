@@ -1,5 +1,6 @@
 -- Where no device failed, and what the closing save counts.
-use Rattle.std.proofs.Common.{◌≡◌, ◌≢◌, ◌⊎◌, ◌<◌, ◌≤◌, ◌+◌, ◌-◌, ◌^◌, ◌==◌, ◌&&◌, ℕ, Bool, true, false, [], length, Ok, refl, sym, ◌∙◌, subst, arith, inl, inr, get_or}
+use Rattle.std.proofs.Common.{◌≡◌, ◌≢◌, ◌⊎◌, ◌<◌, ◌≤◌, ◌+◌, ◌-◌, ◌^◌, ◌==◌, ◌&&◌, ℕ, Bool, true, false, [], length, Ok, refl, sym, ◌∙◌, subst, arith, inl, inr}
+use Rattle.std.proofs.Common.{get_or}
 use Rattle.std.proofs.lemmas.Bool.{eqb-true}
 use Rattle.wtf_base.specs.declared.settings.Settings.{Settings}
 use Rattle.wtf_dev.specs.Counts.{Rose}
@@ -53,7 +54,8 @@ still_count {kind = kind} laws start end mid n rose front back keeper still =
     let low : (k : ℕ) (d : _) → k < length mid.shelf → (kind.view (get_or mid.shelf k d)).faults < 2 ^ 64 - 1
     = λ k d h. omega (arith, (each_kept laws back k d h).faults, (still.stores k d (omega (arith, h, back.same_length))).1) in
     let less : all_faults kind end.stock.shelf ≤ all_faults kind start.stock.shelf
-    = sum_grows (λ s. (kind.view s).faults) end.stock.shelf start.stock.shelf (sym (back.same_length ∙ front.same_length)) (λ k d h. omega (arith, (still.stores k d h).0)) in
+    = sum_grows (λ s. (kind.view s).faults) end.stock.shelf start.stock.shelf (sym (back.same_length ∙ front.same_length))
+    (λ k d h. omega (arith, (still.stores k d h).0)) in
     omega (arith, rose (low, omega (arith, keeper.faults, still.keeper.0, still.keeper.1)), all_faults-grows laws back, less, keeper.faults, still.keeper.0)
 
 -- then no save fails while all servers are up
@@ -80,11 +82,13 @@ still_status status a a' b b' (inr (inr (inr (inr (inr e))))) not_2 three four f
 
 -- ---- what comes of the closing save, by its answer
 
-pub closes_saved : {S State : Type 0} (engine : Engine S State) (t : Step S State) (bad : Bool) (a : Answer) (n : ℕ) → a ≡ answer.Saved n → IsAnswer engine t (Ok event.Save) a
+pub closes_saved : {S State : Type 0} (engine : Engine S State) (t : Step S State) (bad : Bool) (a : Answer) (n : ℕ) → a ≡ answer.Saved n
+    → IsAnswer engine t (Ok event.Save) a
     → Closes engine t bad (end_status bad)
 closes_saved engine t bad a n saved is = inl (n, refl, subst (λ (x : Answer). IsAnswer engine t (Ok event.Save) x) saved is)
 
-pub closes_failed : {S State : Type 0} (engine : Engine S State) (t : Step S State) (bad : Bool) (a : Answer) → ((n : ℕ) → a ≢ answer.Saved n) → IsAnswer engine t (Ok event.Save) a
+pub closes_failed : {S State : Type 0} (engine : Engine S State) (t : Step S State) (bad : Bool) (a : Answer) → ((n : ℕ) → a ≢ answer.Saved n)
+    → IsAnswer engine t (Ok event.Save) a
     → Closes engine t bad 5
 closes_failed engine t bad (answer.Saved n) other is = absurd (other n refl)
 closes_failed engine t bad answer.FaultSave other is = inr (inl (refl, is))

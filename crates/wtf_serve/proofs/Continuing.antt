@@ -32,7 +32,8 @@ image_taken : (size : ℕ → ℕ → ℕ) (settings : Settings) (n next : ℕ) 
 image_taken size settings n next [] is = tt
 image_taken size settings n next (b ∷ bytes) is = (is.rows, is.taken)
 
-image_opens : (size : ℕ → ℕ → ℕ) (settings asked : Settings) (n next : ℕ) (bytes : List ℕ) (o : Opening) → IsImageWith size settings n next bytes → Opens asked bytes o
+image_opens : (size : ℕ → ℕ → ℕ) (settings asked : Settings) (n next : ℕ) (bytes : List ℕ) (o : Opening) → IsImageWith size settings n next bytes
+    → Opens asked bytes o
     → (numbers o.settings ≡ numbers settings) × (o.number ≡ n) × (o.next_tx ≡ next)
 image_opens size settings asked n next [] o is opens = absurd (image_some size settings n next is)
 image_opens size settings asked n next (b ∷ bytes) o is opens =
@@ -47,24 +48,28 @@ image_opens size settings asked n next (b ∷ bytes) o is opens =
     )
 
 -- it starts from the tree of its bytes
-starts_of : (told : Told) (size : ℕ → ℕ → ℕ) (settings : Settings) (n next : ℕ) (bytes : List ℕ) (t : Tree) → IsImageWith size settings n next bytes → IsImageOfTree told bytes t → StartsFrom told bytes t
+starts_of : (told : Told) (size : ℕ → ℕ → ℕ) (settings : Settings) (n next : ℕ) (bytes : List ℕ) (t : Tree) → IsImageWith size settings n next bytes
+    → IsImageOfTree told bytes t → StartsFrom told bytes t
 starts_of told size settings n next [] t is image = absurd (image_some size settings n next is)
 starts_of told size settings n next (b ∷ bytes) t is image = image
 
 -- it asks for no more servers than there are stores
-image_enough : (size : ℕ → ℕ → ℕ) (settings : Settings) (asked : Numbers) (n next : ℕ) (bytes : List ℕ) (stores : ℕ) → IsImageWith size settings n next bytes → settings.servers ≤ stores → IsFew asked bytes stores → ⊥
+image_enough : (size : ℕ → ℕ → ℕ) (settings : Settings) (asked : Numbers) (n next : ℕ) (bytes : List ℕ) (stores : ℕ) → IsImageWith size settings n next bytes
+    → settings.servers ≤ stores → IsFew asked bytes stores → ⊥
 image_enough size settings asked n next [] stores is enough few = image_some size settings n next is
 image_enough size settings asked n next (b ∷ bytes) stores is enough few =
     let same : few.rows ≡ is.rows = same_rows few.rows is.rows (b ∷ bytes) few.text is.taken.text in
     omega (arith, few.few, ap (λ (x : ImageRows). x.header.servers) same, is.settings_are.servers, enough)
 
-module _ {S : Type 0} (kind : StoreKind S) (handed handed' : List (List ℕ) → Type 0) (asked asked' : Settings) (status status' : ℕ) (old new old' new' : Devices S)
+module _ {S : Type 0} (kind : StoreKind S) (handed handed' : List (List ℕ) → Type 0) (asked asked' : Settings) (status status' : ℕ)
+    (old new old' new' : Devices S)
     (whole : IsWhole kind handed asked status old new) (behind : BeginsBehind new old' whole.kept) where
   abbrev machine : Machine
   machine = last whole.opened.opening whole.tree whole.opened.served.log
 
   -- what the first run left
-  left : IsNext (size_in kind new.stock.shelf) whole.opened.opening machine whole.opened.served.log.lines status whole.kept × IsImageOfTree (byte_at kind new.stock.shelf) whole.kept machine.now
+  left : IsNext (size_in kind new.stock.shelf) whole.opened.opening machine whole.opened.served.log.lines status whole.kept
+      × IsImageOfTree (byte_at kind new.stock.shelf) whole.kept machine.now
   left =
       let served = whole.opened.served in
       let started = began handed status served.log.lines old new served.started served.unstarted whole.end in (
@@ -73,7 +78,8 @@ module _ {S : Type 0} (kind : StoreKind S) (handed handed' : List (List ℕ) →
       )
 
   -- over the stores of the second
-  there : (next : ℕ) × (next ≤ whole.opened.opening.next_tx + length whole.opened.served.log.lines) × IsImageWith (size_in kind old'.stock.shelf) whole.opened.opening.settings machine.number next whole.kept
+  there : (next : ℕ) × (next ≤ whole.opened.opening.next_tx + length whole.opened.served.log.lines)
+      × IsImageWith (size_in kind old'.stock.shelf) whole.opened.opening.settings machine.number next whole.kept
   there =
       let (next, few, is) = left.0.saved whole.end in
       (next, few, subst (λ (s : List S). IsImageWith (size_in kind s) whole.opened.opening.settings machine.number next whole.kept) (sym behind.shelf) is)
@@ -83,7 +89,8 @@ module _ {S : Type 0} (kind : StoreKind S) (handed handed' : List (List ℕ) →
   enough =
       let few = whole.opened.served.few_stores.1 in
       let end = whole.end in
-      let never : length old.stock.shelf ≡ length old'.stock.shelf = sym whole.opened.served.follows_on.same_length ∙ sym (ap (λ (s : List S). length s) behind.shelf) in
+      let never : length old.stock.shelf ≡ length old'.stock.shelf = sym whole.opened.served.follows_on.same_length
+      ∙ sym (ap (λ (s : List S). length s) behind.shelf) in
       at_least _ _ (λ less. omega (arith, end, few (omega (arith, less, never))))
     where
       at_least : (n m : ℕ) → ((m < n) → ⊥) → n ≤ m
@@ -96,21 +103,25 @@ module _ {S : Type 0} (kind : StoreKind S) (handed handed' : List (List ℕ) →
             let (why, refused) = (run_image kind handed' asked' status' old' new' whole.kept behind.held run).0 e in
             refused_taken (size_in kind old'.stock.shelf) (length old'.stock.shelf) whole.kept why refused
             (image_taken (size_in kind old'.stock.shelf) whole.opened.opening.settings machine.number next whole.kept is)),
-        λ e. image_enough (size_in kind old'.stock.shelf) whole.opened.opening.settings (numbers asked') machine.number next whole.kept (length old'.stock.shelf) is enough
+        λ e. image_enough (size_in kind old'.stock.shelf) whole.opened.opening.settings (numbers asked') machine.number next whole.kept
+            (length old'.stock.shelf) is enough
             ((run_refused kind handed' asked' status' old' new' whole.kept behind.held run).0 e).2,
       )
 
-  pub goes_on_again : (o : IsOpened kind handed' asked' status' old' new') → GoesOnFrom (byte_at kind old'.stock.shelf) whole.opened.opening whole.tree whole.opened.served.log o.opening
+  pub goes_on_again : (o : IsOpened kind handed' asked' status' old' new')
+      → GoesOnFrom (byte_at kind old'.stock.shelf) whole.opened.opening whole.tree whole.opened.served.log o.opening
   goes_on_again o =
       let (next, few, is) = there in
       let bytes : o.opening.bytes ≡ whole.kept = o.given whole.kept behind.held in
       let opens = subst (λ (b : List ℕ). Opens asked' b o.opening) bytes o.opens in
-      let (settings, number, next_tx) = image_opens (size_in kind old'.stock.shelf) whole.opened.opening.settings asked' machine.number next whole.kept o.opening is opens in
+      let (settings, number, next_tx) = image_opens (size_in kind old'.stock.shelf) whole.opened.opening.settings asked' machine.number next whole.kept
+      o.opening is opens in
       record {
         settings = settings;
         number = number;
         next_tx = omega (arith, next_tx, few);
         starts = subst (λ (b : List ℕ). StartsFrom (byte_at kind old'.stock.shelf) b machine.now) (sym bytes)
             (subst (λ (s : List S). StartsFrom (byte_at kind s) whole.kept machine.now) (sym behind.shelf)
-            (starts_of (byte_at kind new.stock.shelf) (size_in kind old'.stock.shelf) whole.opened.opening.settings machine.number next whole.kept machine.now is left.1));
+            (starts_of (byte_at kind new.stock.shelf) (size_in kind old'.stock.shelf) whole.opened.opening.settings machine.number next whole.kept machine.now
+            is left.1));
       }

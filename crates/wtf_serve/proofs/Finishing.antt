@@ -1,5 +1,6 @@
 -- How a run ends, without a further line or with one that is not written.
-use Rattle.std.proofs.Common.{◌≡◌, ◌≢◌, ◌↔◌, ◌<◌, ◌≤◌, ◌^◌, ℕ, Bool, true, false, List, [], ◌∷◌, ◌++◌, length, Option, Some, None, Result, Ok, Err, refl, sym, ◌∙◌, ap, subst, arith, append_assoc, inl, inr}
+use Rattle.std.proofs.Common.{◌≡◌, ◌≢◌, ◌↔◌, ◌<◌, ◌≤◌, ◌^◌, ℕ, Bool, true, false, List, [], ◌∷◌, ◌++◌, length, Option, Some, None, Result, Ok, Err, refl, sym}
+use Rattle.std.proofs.Common.{◌∙◌, ap, subst, arith, append_assoc, inl, inr}
 use Rattle.std.proofs.lemmas.List.{length-append}
 use Rattle.wtf_base.specs.declared.settings.Settings.{Settings}
 use Rattle.wtf_dev.specs.Counts.{Rose}
@@ -35,7 +36,7 @@ use Rattle.wtf_serve.specs.Traces.{HasRead}
 use Rattle.wtf_serve.proofs.Closing.{closing_rose, still_count, still_save, still_status}
 use Rattle.wtf_serve.proofs.Going.{Going, given_then, counted_then, room_now}
 use Rattle.wtf_serve.proofs.Picturing.{holds_on, image_held, one_alone, start_on, next_saved, next_kept, next_out}
-use Rattle.wtf_serve.proofs.RanLaws.{longer, ran_more, lawful_more, last_more}
+use Rattle.wtf_serve.proofs.RanLaws.{longer, lawful_more, last_more, so_far_more}
 use Rattle.wtf_serve.proofs.Rising.{up_faults}
 use Rattle.wtf_serve.proofs.Telling.{told_more, told_front, told_end, told_fault, told_much, told_other}
 
@@ -79,7 +80,7 @@ module _ {S State : Type 0} (engine : Engine S State) (laws : KindLaws engine.ki
         started = true;
         taken = next.input.held.count;
         mid = now.stock;
-        ran = g.ran;
+        ran = g.so_far.ran;
         rest_follows = follows;
         at_end = at_end;
         rest_adds = adds;
@@ -105,17 +106,20 @@ module _ {S State : Type 0} (engine : Engine S State) (laws : KindLaws engine.ki
         source_faults = omega (arith, g.source_faults, pass.drawn.faults);
         sink_faults = omega (arith, g.sink_faults, pass.sink_faults);
         faults = closing_rose laws opening.settings status (last_downs g.log) start.stock now.stock final
-            (count_along (is_device_fault opening.settings) none_down (asked g.log) g.log.answers) follows keeper why g.ran.faults;
-        faults_of_run = λ empty. closing_rose laws opening.settings status (last_downs g.log) start.stock now.stock final
-            (count_along (is_device_fault_of_run opening.settings) none_down (asked g.log) g.log.answers) follows keeper why (g.ran.faults_of_run empty);
-        follows_on = each_on laws g.ran.follows_on follows;
+            (count_along (is_device_fault opening.settings) none_down (asked g.log) g.log.answers) follows keeper why g.so_far.ran.faults;
+        faults_of_run = λ by empty. closing_rose laws opening.settings status (last_downs g.log) start.stock now.stock final
+            (count_along (is_device_fault_of_run opening.settings) none_down (asked g.log) g.log.answers) follows keeper why
+            (g.so_far.ran.faults_of_run by empty);
+        follows_on = each_on laws g.so_far.ran.follows_on follows;
         complete = λ many still up end. (
           sym (up_faults opening.settings none_down (asked g.log) g.log.answers up)
               ∙ still_count laws start (record { source = next.input.source; sink = next.sink; stock = final }) now.stock
-              (count_along (is_device_fault opening.settings) none_down (asked g.log) g.log.answers) g.ran.faults g.ran.follows_on follows keeper still,
+              (count_along (is_device_fault opening.settings) none_down (asked g.log) g.log.answers) g.so_far.ran.faults
+              g.so_far.ran.follows_on follows keeper still,
           still_status status start.source.faults next.input.source.faults start.sink.faults next.sink.faults statuses not_2 rose (λ is. absurd (not_4 is))
-              (λ is. still_save laws start (record { source = next.input.source; sink = next.sink; stock = final }) now.stock (last_downs g.log) opening.settings.servers
-              g.ran.follows_on follows g.keeper still end (why is)) still.source_is still.sink_is,
+              (λ is. still_save laws start (record { source = next.input.source; sink = next.sink; stock = final }) now.stock
+              (last_downs g.log) opening.settings.servers
+              g.so_far.ran.follows_on follows g.keeper still end (why is)) still.source_is still.sink_is,
         );
         left = λ _ tells telling number next_tx t from bytes held. (left tells telling number next_tx t from bytes held).0;
         next = λ _ tells telling number next_tx t from bytes held. (left tells telling number next_tx t from bytes held).1;
@@ -125,15 +129,17 @@ module _ {S State : Type 0} (engine : Engine S State) (laws : KindLaws engine.ki
 
   module _ (final : Stock S) (state' : State) (came : PassIs engine now next (Ok None)) (follows : EachFollows engine.kind now.stock.shelf final.shelf [])
       (keeper : KeeperGoesOn now.stock.keeper final.keeper) where
-    read_whole : (status : ℕ) → IsWholeStatus status → (script : List ℕ) → start.source.rest ≡ Some script → HasRead script next.input.source.rest status g.log.lines
-    read_whole status whole script e = told_end script now.input.source.rest next.input.source.rest now.input.held next.input.held g.log.lines (g.read script e) came.came.0 status whole
+    read_whole : (status : ℕ) → IsWholeStatus status → (script : List ℕ) → start.source.rest ≡ Some script
+        → HasRead script next.input.source.rest status g.log.lines
+    read_whole status whole script e = told_end script now.input.source.rest next.input.source.rest now.input.held next.input.held g.log.lines
+        (g.read script e) came.came.0 status whole
 
     abbrev t : Step S State
     t = step now.stock final now.state state'
 
     lawful : (a : _) → IsAnswer engine t (Ok event.Save) a → TellsAll engine.kind start.stock.shelf → (tree : Tree)
         → StartsFrom (byte_at engine.kind start.stock.shelf) opening.bytes tree → IsLawful engine t (last opening tree g.log) (Ok event.Save) a
-    lawful a is tells tree from = is.lawful (tells_all-kept laws g.ran.follows_on tells) (last opening tree g.log) (g.stands tells tree from)
+    lawful a is tells tree from = is.lawful (tells_all-kept laws g.so_far.ran.follows_on tells) (last opening tree g.log) (g.so_far.stands tells tree from)
 
     finish_saved : (status n : ℕ) → status ≡ end_status bad → IsEndStatus status → IsAnswer engine t (Ok event.Save) (answer.Saved n)
         → Served engine.kind handed opening status start (record { source = next.input.source; sink = next.sink; stock = final })
@@ -150,13 +156,16 @@ module _ {S State : Type 0} (engine : Engine S State) (laws : KindLaws engine.ki
         (law.saved (g.keeper.tells ∙ telling.tells) room (g.saved tells telling number next_tx tree from)) held in
         let (image, image_is, some) = is.kept (g.keeper.tells ∙ telling.tells) in (
           record {
-            saved = λ _. one_alone (byte_at engine.kind final.shelf) bytes (last opening tree g.log).now (λ none. some (same_bytes image bytes (sym image_is ∙ held) ∙ none)) one;
+            saved = λ _. one_alone (byte_at engine.kind final.shelf) bytes (last opening tree g.log).now
+                (λ none. some (same_bytes image bytes (sym image_is ∙ held) ∙ none)) one;
             failed = λ e. absurd (omega (arith, e, ends));
             early = λ e. absurd (omega (arith, e, ends));
             memory = λ e. absurd (omega (arith, e, ends));
           },
-          next_saved engine.kind opening (last opening tree g.log) g.log.lines final bytes held (engine.number now.state) (engine.next_tx now.state) status ends (g.number_is tells tree from) g.begun
-              (subst (λ (x : Settings). HoldsJust engine.kind final x (engine.number now.state) (engine.next_tx now.state)) g.settings_is (law.leaves (g.keeper.tells ∙ telling.tells) room)),
+          next_saved engine.kind opening (last opening tree g.log) g.log.lines final bytes held (engine.number now.state) (engine.next_tx now.state) status ends
+              (g.number_is tells tree from) g.begun
+              (subst (λ (x : Settings). HoldsJust engine.kind final x (engine.number now.state) (engine.next_tx now.state)) g.so_far.settings
+              (law.leaves (g.keeper.tells ∙ telling.tells) room)),
         ))
       where
         same_bytes : (a b : List ℕ) → Some a ≡ Some b → a ≡ b
@@ -166,8 +175,10 @@ module _ {S State : Type 0} (engine : Engine S State) (laws : KindLaws engine.ki
         → Served engine.kind handed opening 5 start (record { source = next.input.source; sink = next.sink; stock = final })
     finish_failed is =
         let why : IsSaveFault engine.kind (span (last_downs g.log) now.stock.shelf final.shelf) opening.settings.servers now.stock.keeper final.keeper
-        = subst (λ (n : ℕ). IsSaveFault engine.kind (span (last_downs g.log) now.stock.shelf final.shelf) n now.stock.keeper final.keeper) (ap (λ s. s.servers) g.settings_is)
-        (subst (λ (d : ℕ → Bool). IsSaveFault engine.kind (span d now.stock.shelf final.shelf) (engine.settings now.state).servers now.stock.keeper final.keeper) g.downs is.kept) in
+        = subst (λ (n : ℕ). IsSaveFault engine.kind (span (last_downs g.log) now.stock.shelf final.shelf) n now.stock.keeper final.keeper)
+        (ap (λ s. s.servers) g.so_far.settings)
+        (subst (λ (d : ℕ → Bool). IsSaveFault engine.kind (span d now.stock.shelf final.shelf) (engine.settings now.state).servers now.stock.keeper
+        final.keeper) g.so_far.downs is.kept) in
         finish 5 final (Ok None) came follows keeper
         (λ early. absurd (omega (arith, early))) (λ _. is.stored) (read_whole 5 (inr refl)) came.came.1.sink
         (λ e. omega (arith, e)) (λ e. omega (arith, e))
@@ -176,17 +187,21 @@ module _ {S State : Type 0} (engine : Engine S State) (laws : KindLaws engine.ki
         (λ tells telling number next_tx tree from bytes held.
         let room = room_now engine laws opening start now next bad g number next_tx in
         let law = lawful answer.FaultSave is tells tree from in
-        let was = subst (λ (x : Settings). HoldsStart engine.kind now.stock x (engine.number now.state) (engine.next_tx now.state)) (sym g.settings_is) (g.start_holds tells telling number next_tx tree from) in (
+        let was = subst (λ (x : Settings). HoldsStart engine.kind now.stock x (engine.number now.state) (engine.next_tx now.state)) (sym g.so_far.settings)
+        (g.start_holds tells telling number next_tx tree from) in (
           record {
             saved = λ e. absurd (omega (arith, e));
-            failed = λ _. image_held (byte_at engine.kind final.shelf) final.keeper bytes ((last opening tree g.log).may_be_saved ++ (last opening tree g.log).now ∷ [])
+            failed = λ _. image_held (byte_at engine.kind final.shelf) final.keeper bytes
+                ((last opening tree g.log).may_be_saved ++ (last opening tree g.log).now ∷ [])
                 (law.saved (g.keeper.tells ∙ telling.tells) room (g.saved tells telling number next_tx tree from)) held;
             early = λ e. absurd (omega (arith, e));
             memory = λ e. absurd (omega (arith, e));
           },
-          next_kept engine.kind opening (last opening tree g.log) g.log.lines final bytes held (engine.number state') (engine.next_tx state') 5 (λ e. omega (arith, e)) law.number
+          next_kept engine.kind opening (last opening tree g.log) g.log.lines final bytes held (engine.number state') (engine.next_tx state') 5
+              (λ e. omega (arith, e)) law.number
               (omega (arith, is.goes_on.same_next_tx refl, g.begun))
-              (subst (λ (x : Settings). HoldsStart engine.kind final x (engine.number state') (engine.next_tx state')) g.settings_is (law.taken (g.keeper.tells ∙ telling.tells) room was)),
+              (subst (λ (x : Settings). HoldsStart engine.kind final x (engine.number state') (engine.next_tx state')) g.so_far.settings
+              (law.taken (g.keeper.tells ∙ telling.tells) room was)),
         ))
 
     finish_short : final.keeper ≡ now.stock.keeper
@@ -194,10 +209,12 @@ module _ {S State : Type 0} (engine : Engine S State) (laws : KindLaws engine.ki
     finish_short same =
         finish 7 final (Ok None) came follows keeper
         (λ early. absurd (omega (arith, early))) (λ whole. absurd (omega (arith, whole)))
-        (λ script e. told_other script now.input.source.rest next.input.source.rest now.input.held g.log.lines 7 (λ d. omega (arith, d)) (λ d. omega (arith, d)) (λ d. omega (arith, d)) (λ d. absurd (omega (arith, d)))
+        (λ script e. told_other script now.input.source.rest next.input.source.rest now.input.held g.log.lines 7 (λ d. omega (arith, d)) (λ d. omega (arith, d))
+        (λ d. omega (arith, d)) (λ d. absurd (omega (arith, d)))
         (g.read script e))
         came.came.1.sink (λ e. omega (arith, e)) (λ e. omega (arith, e))
-        (never 7 9 (λ e. omega (arith, e)) next.input.held.count (came.limit (λ e. cc))) (inr (inr (inr (inr (inl refl))))) (λ ends. absurd (omega (arith, ends)))
+        (never 7 9 (λ e. omega (arith, e)) next.input.held.count (came.limit (λ e. cc))) (inr (inr (inr (inr (inl refl)))))
+        (λ ends. absurd (omega (arith, ends)))
         (λ e. absurd (omega (arith, e))) (λ e. absurd (omega (arith, e)))
         (λ tells telling number next_tx tree from bytes held. (
           record {
@@ -207,17 +224,21 @@ module _ {S State : Type 0} (engine : Engine S State) (laws : KindLaws engine.ki
             memory = λ _. inl (image_held (byte_at engine.kind final.shelf) final.keeper bytes (last opening tree g.log).may_be_saved
                 (holds_on laws now.stock final (last opening tree g.log).may_be_saved follows same (g.saved tells telling number next_tx tree from)) held);
           },
-          next_kept engine.kind opening (last opening tree g.log) g.log.lines final bytes held (engine.number now.state) (engine.next_tx now.state) 7 (λ e. omega (arith, e)) (g.number_is tells tree from) g.begun
-              (start_on laws now.stock final opening.settings (engine.number now.state) (engine.next_tx now.state) follows same (g.start_holds tells telling number next_tx tree from)),
+          next_kept engine.kind opening (last opening tree g.log) g.log.lines final bytes held (engine.number now.state) (engine.next_tx now.state) 7
+              (λ e. omega (arith, e)) (g.number_is tells tree from) g.begun
+              (start_on laws now.stock final opening.settings (engine.number now.state) (engine.next_tx now.state) follows same
+              (g.start_holds tells telling number next_tx tree from)),
         ))
 
     closed : (status : ℕ) → Closes engine t bad status
         → Served engine.kind handed opening status start (record { source = next.input.source; sink = next.sink; stock = final })
     closed status (inl (n, is_end, is)) = finish_saved status n is_end (subst (λ (x : ℕ). IsEndStatus x) (sym is_end) (ends_as bad)) is
     closed status (inr (inl (is_5, is))) =
-        subst (λ (x : ℕ). Served engine.kind handed opening x start (record { source = next.input.source; sink = next.sink; stock = final })) (sym is_5) (finish_failed is)
+        subst (λ (x : ℕ). Served engine.kind handed opening x start (record { source = next.input.source; sink = next.sink; stock = final })) (sym is_5)
+        (finish_failed is)
     closed status (inr (inr (is_7, same))) =
-        subst (λ (x : ℕ). Served engine.kind handed opening x start (record { source = next.input.source; sink = next.sink; stock = final })) (sym is_7) (finish_short same)
+        subst (λ (x : ℕ). Served engine.kind handed opening x start (record { source = next.input.source; sink = next.sink; stock = final })) (sym is_7)
+        (finish_short same)
 
   -- the closing save begins with what the pass left, which is what it was
   pub finish_end : (status : ℕ) (final : Stock S) (state' : State) → PassIs engine now next (Ok None) → EachFollows engine.kind next.stock.shelf final.shelf []
@@ -241,14 +262,18 @@ module _ {S State : Type 0} (engine : Engine S State) (laws : KindLaws engine.ki
       saved = λ e. absurd (omega (arith, e, early));
       failed = λ e. absurd (omega (arith, e, early));
       early = λ _. image_held (byte_at engine.kind next.stock.shelf) next.stock.keeper bytes (last opening tree g.log).may_be_saved
-          (subst (λ (s : Stock S). HoldsOneOf engine.kind s (last opening tree g.log).may_be_saved) (sym same) (g.saved tells telling number next_tx tree from)) held;
+          (subst (λ (s : Stock S). HoldsOneOf engine.kind s (last opening tree g.log).may_be_saved) (sym same)
+          (g.saved tells telling number next_tx tree from)) held;
       memory = λ e. absurd (omega (arith, e, early));
     },
-    next_kept engine.kind opening (last opening tree g.log) g.log.lines next.stock bytes held (engine.number now.state) (engine.next_tx now.state) status (λ e. omega (arith, e, early)) (g.number_is tells tree from) g.begun
-        (subst (λ (s : Stock S). HoldsStart engine.kind s opening.settings (engine.number now.state) (engine.next_tx now.state)) (sym same) (g.start_holds tells telling number next_tx tree from)),
+    next_kept engine.kind opening (last opening tree g.log) g.log.lines next.stock bytes held (engine.number now.state) (engine.next_tx now.state) status
+        (λ e. omega (arith, e, early)) (g.number_is tells tree from) g.begun
+        (subst (λ (s : Stock S). HoldsStart engine.kind s opening.settings (engine.number now.state) (engine.next_tx now.state)) (sym same)
+        (g.start_holds tells telling number next_tx tree from)),
   )
 
-  finish_unread : PassIs engine now next (Err stop.Unread) → Served engine.kind handed opening 3 start (record { source = next.input.source; sink = next.sink; stock = next.stock })
+  finish_unread : PassIs engine now next (Err stop.Unread)
+      → Served engine.kind handed opening 3 start (record { source = next.input.source; sink = next.sink; stock = next.stock })
   finish_unread pass =
       let (came, quiet) = pass.came in
       let (reads, rose, unended) = came in
@@ -259,7 +284,8 @@ module _ {S State : Type 0} (engine : Engine S State) (laws : KindLaws engine.ki
       (never 3 9 (λ e. omega (arith, e)) next.input.held.count (pass.limit (λ e. cc))) (inr (inr (inl refl))) (λ ends. absurd (omega (arith, ends))) (λ _. rose)
       (λ e. absurd (omega (arith, e))) (early_left 3 quiet.stock (inr (inl refl)))
 
-  finish_too_much : PassIs engine now next (Err stop.TooMuch) → Served engine.kind handed opening 9 start (record { source = next.input.source; sink = next.sink; stock = next.stock })
+  finish_too_much : PassIs engine now next (Err stop.TooMuch)
+      → Served engine.kind handed opening 9 start (record { source = next.input.source; sink = next.sink; stock = next.stock })
   finish_too_much pass =
       let (came, quiet) = pass.came in
       let (reads, full, unended) = came in
@@ -287,12 +313,13 @@ module _ {S State : Type 0} (engine : Engine S State) (laws : KindLaws engine.ki
             memory = λ _. inl (image_held (byte_at engine.kind next.stock.shelf) next.stock.keeper bytes (last opening tree g.log).may_be_saved
                 (holds_on laws now.stock next.stock (last opening tree g.log).may_be_saved pass.follows_on same was) held);
           },
-          next_kept engine.kind opening (last opening tree g.log) g.log.lines next.stock bytes held (engine.number now.state) (engine.next_tx now.state) 7 (λ e. omega (arith, e)) (g.number_is tells tree from) g.begun
+          next_kept engine.kind opening (last opening tree g.log) g.log.lines next.stock bytes held (engine.number now.state) (engine.next_tx now.state) 7
+              (λ e. omega (arith, e)) (g.number_is tells tree from) g.begun
               (start_on laws now.stock next.stock opening.settings (engine.number now.state) (engine.next_tx now.state) pass.follows_on same held_start),
         )
         | inr out ↦
             let is = out.out.is in
-            let law = is.lawful (tells_all-kept laws g.ran.follows_on tells) (last opening tree g.log) (g.stands tells tree from) in (
+            let law = is.lawful (tells_all-kept laws g.so_far.ran.follows_on tells) (last opening tree g.log) (g.so_far.stands tells tree from) in (
               record {
                 saved = λ e. absurd (omega (arith, e));
                 failed = λ e. absurd (omega (arith, e));
@@ -301,41 +328,50 @@ module _ {S State : Type 0} (engine : Engine S State) (laws : KindLaws engine.ki
                   line = out.line;
                   next = λ all e.
                       let (more, all_is) = told_front all next.input.source.rest next.input.held (g.log.lines ++ out.line ∷ [])
-                      (told_more all now.input.source.rest next.input.source.rest now.input.held next.input.held g.log.lines out.line (g.read all e) out.came) in
+                      (told_more all now.input.source.rest next.input.source.rest now.input.held next.input.held g.log.lines out.line
+                      (g.read all e) out.came) in
                       (more, all_is ∙ append_assoc g.log.lines (out.line ∷ []) more);
                   answer = out.out.answer;
                   may = law.may;
-                  image = image_held (byte_at engine.kind next.stock.shelf) next.stock.keeper bytes (after_line (last opening tree g.log) (line_of out.line) out.out.answer).may_be_saved
+                  image = image_held (byte_at engine.kind next.stock.shelf) next.stock.keeper bytes
+                      (after_line (last opening tree g.log) (line_of out.line) out.out.answer).may_be_saved
                       (law.saved (g.keeper.tells ∙ telling.tells) room was) held;
                 });
               },
               next_out engine.kind opening (last opening tree g.log) g.log.lines next.stock bytes held (engine.number next.state) (engine.next_tx next.state)
                   (omega (arith, is.goes_on.number, g.number_is tells tree from)) (omega (arith, is.goes_on.next_tx, g.begun))
-                  (subst (λ (x : Settings). HoldsStart engine.kind next.stock x (engine.number next.state) (engine.next_tx next.state)) g.settings_is
+                  (subst (λ (x : Settings). HoldsStart engine.kind next.stock x (engine.number next.state) (engine.next_tx next.state)) g.so_far.settings
                   (law.taken (g.keeper.tells ∙ telling.tells) room
-                  (subst (λ (x : Settings). HoldsStart engine.kind now.stock x (engine.number now.state) (engine.next_tx now.state)) (sym g.settings_is) held_start))),
+                  (subst (λ (x : Settings). HoldsStart engine.kind now.stock x (engine.number now.state) (engine.next_tx now.state))
+                  (sym g.so_far.settings) held_start))),
             )
       ]
 
-  finish_memory : PassIs engine now next (Err stop.Memory) → Served engine.kind handed opening 7 start (record { source = next.input.source; sink = next.sink; stock = next.stock })
+  finish_memory : PassIs engine now next (Err stop.Memory)
+      → Served engine.kind handed opening 7 start (record { source = next.input.source; sink = next.sink; stock = next.stock })
   finish_memory pass =
       finish 7 next.stock (Err stop.Memory) pass pass.follows_on pass.keeper
       (λ early. absurd (omega (arith, early))) (λ whole. absurd (omega (arith, whole)))
-      (λ script e. told_other script now.input.source.rest next.input.source.rest now.input.held g.log.lines 7 (λ d. omega (arith, d)) (λ d. omega (arith, d)) (λ d. omega (arith, d)) (λ d. absurd (omega (arith, d))) (g.read script e))
+      (λ script e. told_other script now.input.source.rest next.input.source.rest now.input.held g.log.lines 7 (λ d. omega (arith, d)) (λ d. omega (arith, d))
+      (λ d. omega (arith, d)) (λ d. absurd (omega (arith, d))) (g.read script e))
       pass.came.sink (λ e. omega (arith, e)) (λ e. omega (arith, e))
-      (never 7 9 (λ e. omega (arith, e)) next.input.held.count (pass.limit (λ e. cc))) (inr (inr (inr (inr (inl refl))))) (λ ends. absurd (omega (arith, ends))) (λ e. absurd (omega (arith, e)))
+      (never 7 9 (λ e. omega (arith, e)) next.input.held.count (pass.limit (λ e. cc))) (inr (inr (inr (inr (inl refl))))) (λ ends. absurd (omega (arith, ends)))
+      (λ e. absurd (omega (arith, e)))
       (λ e. absurd (omega (arith, e))) (memory_left pass)
 
   -- the sink fails while an answer is written
-  finish_unwritten : PassIs engine now next (Err stop.Unwritten) → Served engine.kind handed opening 4 start (record { source = next.input.source; sink = next.sink; stock = next.stock })
+  finish_unwritten : PassIs engine now next (Err stop.Unwritten)
+      → Served engine.kind handed opening 4 start (record { source = next.input.source; sink = next.sink; stock = next.stock })
   finish_unwritten pass =
       let line = pass.came.line in
       let cut = pass.came.cut in
       let log = longer g.log line cut.answer in
       let t = step_of now next in
-      let ran = ran_more engine laws opening start.stock g.log t g.ran g.settings_is g.downs g.as_given g.stands line cut.answer cut.is pass.follows_on
-      pass.keeper.faults in
-      let rose : Rose start.sink.faults next.sink.faults = rose_in start.sink.faults now.sink.faults next.sink.faults next.sink.faults g.sink_faults cut.cause (omega arith) in
+      let same = last_more engine laws opening start.stock g.log t g.so_far line cut.answer cut.is pass.follows_on pass.keeper.faults in
+      let law = lawful_more engine laws opening start.stock g.log t g.so_far line cut.answer cut.is pass.follows_on pass.keeper.faults in
+      let ran = (so_far_more engine laws opening start.stock g.log t g.so_far line cut.answer cut.is pass.follows_on pass.keeper.faults).ran in
+      let rose : Rose start.sink.faults next.sink.faults = rose_in start.sink.faults now.sink.faults next.sink.faults next.sink.faults g.sink_faults
+      cut.cause (omega arith) in
       record {
         log = log;
         started = true;
@@ -347,7 +383,8 @@ module _ {S State : Type 0} (engine : Engine S State) (laws : KindLaws engine.ki
         rest_adds = λ whole. absurd (omega (arith, whole));
         unstarted = λ e. absurd (cc);
         sound = λ _. g.taken;
-        read = λ script e. told_other script next.input.source.rest next.input.source.rest next.input.held (g.log.lines ++ line ∷ []) 4 (λ d. omega (arith, d)) (λ d. omega (arith, d)) (λ d. omega (arith, d)) (λ _. (refl, pass.drawn.few))
+        read = λ script e. told_other script next.input.source.rest next.input.source.rest next.input.held (g.log.lines ++ line ∷ []) 4 (λ d. omega (arith, d))
+            (λ d. omega (arith, d)) (λ d. omega (arith, d)) (λ _. (refl, pass.drawn.few))
             (told_more script now.input.source.rest next.input.source.rest now.input.held next.input.held g.log.lines line (g.read script e) pass.came.came);
         wrote = λ text e. record {
           whole = λ _ is. absurd (is refl);
@@ -378,33 +415,28 @@ module _ {S State : Type 0} (engine : Engine S State) (laws : KindLaws engine.ki
         source_faults = omega (arith, g.source_faults, pass.drawn.faults);
         sink_faults = omega (arith, g.sink_faults, pass.sink_faults);
         faults = λ low. omega (arith, ran.faults low);
-        faults_of_run = λ empty low. omega (arith, ran.faults_of_run empty low);
-        follows_on = each_on laws g.ran.follows_on pass.follows_on;
+        faults_of_run = λ by empty low. omega (arith, ran.faults_of_run by empty low);
+        follows_on = each_on laws g.so_far.ran.follows_on pass.follows_on;
         complete = λ many still up end. absurd (omega (arith, rose still.sink_is.1, still.sink_is.0));
         left = λ _ tells telling number next_tx tree from bytes held. record {
           saved = λ e. absurd (omega (arith, e));
           failed = λ e. absurd (omega (arith, e));
           early = λ _.
               image_held (byte_at engine.kind next.stock.shelf) next.stock.keeper bytes (last opening tree log).may_be_saved
-              (subst (λ (m : Machine). HoldsOneOf engine.kind next.stock m.may_be_saved)
-              (last_more engine laws opening start.stock g.log t g.ran g.settings_is g.downs g.as_given g.stands line cut.answer cut.is pass.follows_on
-              pass.keeper.faults tree)
-              ((lawful_more engine laws opening start.stock g.log t g.ran g.settings_is g.downs g.as_given g.stands line cut.answer cut.is pass.follows_on
-              pass.keeper.faults tells tree from).saved
-              (g.keeper.tells ∙ telling.tells) (room_now engine laws opening start now next bad g number next_tx) (g.saved tells telling number next_tx tree from)))
+              (subst (λ (m : Machine). HoldsOneOf engine.kind next.stock m.may_be_saved) (same tree)
+              ((law tells tree from).saved (g.keeper.tells ∙ telling.tells) (room_now engine laws opening start now next bad g number next_tx)
+              (g.saved tells telling number next_tx tree from)))
               held;
           memory = λ e. absurd (omega (arith, e));
         };
         next = λ _ tells telling number next_tx tree from bytes held.
-            let law = lawful_more engine laws opening start.stock g.log t g.ran g.settings_is g.downs g.as_given g.stands line cut.answer cut.is
-            pass.follows_on pass.keeper.faults tells tree from in
-            next_kept engine.kind opening (last opening tree log) log.lines next.stock bytes held (engine.number next.state) (engine.next_tx next.state) 4 (λ e. omega (arith, e))
-            (law.number ∙ ap (λ (m : Machine). m.number) (last_more engine laws opening start.stock g.log t g.ran g.settings_is g.downs g.as_given g.stands
-            line cut.answer cut.is pass.follows_on pass.keeper.faults tree))
+            next_kept engine.kind opening (last opening tree log) log.lines next.stock bytes held (engine.number next.state) (engine.next_tx next.state) 4
+            (λ e. omega (arith, e)) ((law tells tree from).number ∙ ap (λ (m : Machine). m.number) (same tree))
             (omega (arith, cut.is.goes_on.next_tx, g.begun, length-append g.log.lines (line ∷ [])))
-            (subst (λ (x : Settings). HoldsStart engine.kind next.stock x (engine.number next.state) (engine.next_tx next.state)) g.settings_is
-            (law.taken (g.keeper.tells ∙ telling.tells) (room_now engine laws opening start now next bad g number next_tx)
-            (subst (λ (x : Settings). HoldsStart engine.kind now.stock x (engine.number now.state) (engine.next_tx now.state)) (sym g.settings_is) (g.start_holds tells telling number next_tx tree from))));
+            (subst (λ (x : Settings). HoldsStart engine.kind next.stock x (engine.number next.state) (engine.next_tx next.state)) g.so_far.settings
+            ((law tells tree from).taken (g.keeper.tells ∙ telling.tells) (room_now engine laws opening start now next bad g number next_tx)
+            (subst (λ (x : Settings). HoldsStart engine.kind now.stock x (engine.number now.state) (engine.next_tx now.state)) (sym g.so_far.settings)
+            (g.start_holds tells telling number next_tx tree from))));
       }
 
   -- the run ends before the end of its script

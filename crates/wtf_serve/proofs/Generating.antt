@@ -17,7 +17,8 @@ use Rattle.wtf_serve.proofs.Bared.{at, bare_run}
 use Rattle.wtf_serve.proofs.Telling.{some_same}
 
 -- what a sink that sums up told before it took a byte
-marked : (name : ℕ) (state : State) (lines : ℕ) (real : SinkView) → state.lines ≡ lines → state.trace.first.numbers ≡ numbers_of real → state.trace.text.numbers ≡ []
+marked : (name : ℕ) (state : State) (lines : ℕ) (real : SinkView) → state.lines ≡ lines → state.trace.first.numbers ≡ numbers_of real
+    → state.trace.text.numbers ≡ []
     → told name state ≡ mark name lines (numbers_of real)
 marked name state lines real lines_is first text =
     ap (λ (t : List ℕ). mark name state.lines state.trace.first.numbers ++ t) text ∙ append-nil (mark name state.lines state.trace.first.numbers)
@@ -29,12 +30,15 @@ pub generated_run : {S : Type 0} (kind : StoreKind S) (handed : List (List ℕ) 
     → script ≡ record { faults = 0; given = 0; rest = Some (script_of recipe) } → state.faults ≡ 0 → state.lines ≡ recipe.lines
     → state.trace.first.numbers ≡ numbers_of real → state.trace.text.numbers ≡ [] → IsSound real' state'
     → IsRun kind handed settings status (at script state.faults (Some (told name state)) stock) (at script' state'.faults (Some (told name' state')) stock')
-    → (name' ≡ name) × IsGeneratedRun kind handed settings recipe status (record { source = source; sink = real; stock = stock }) (record { source = source; sink = real'; stock = stock' })
-generated_run kind handed settings recipe status source script script' real real' stock stock' name name' state state' script_is faults lines first text sound run =
+    → (name' ≡ name) × IsGeneratedRun kind handed settings recipe status (record { source = source; sink = real; stock = stock })
+    (record { source = source; sink = real'; stock = stock' })
+generated_run kind handed settings recipe status source script script' real real' stock stock' name name' state state' script_is faults lines first
+    text sound run =
     let bare = bare_run kind handed settings status script script' stock stock' state.faults state'.faults (told name state) (Some (told name' state')) run in
     let written = bare.0 in
     let on = goes_on name recipe.lines (numbers_of real) written name' state'
-    (some_same (told name' state') (told name state ++ written) bare.1 ∙ ap (λ (l : List ℕ). l ++ written) (marked name state recipe.lines real lines first text)) in
+    (some_same (told name' state') (told name state ++ written) bare.1
+    ∙ ap (λ (l : List ℕ). l ++ written) (marked name state recipe.lines real lines first text)) in
     let shows : Shows recipe.lines written state'.faults real real' = record {
       whole = λ z before h. shows_all real real' state' recipe.lines written before sound on.lines on.first on.text z h;
       cut = λ n before h. record {

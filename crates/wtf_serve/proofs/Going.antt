@@ -1,5 +1,6 @@
 -- A run so far, and how it goes on.
-use Rattle.std.proofs.Common.{◌≡◌, ◌≤◌, ◌+◌, ◌-◌, ◌^◌, ℕ, Bool, false, min, List, [], ◌∷◌, ◌++◌, length, Some, Ok, refl, sym, ◌∙◌, ap, subst, arith, append_assoc}
+use Rattle.std.proofs.Common.{◌≡◌, ◌≤◌, ◌+◌, ◌-◌, ◌^◌, ℕ, Bool, false, min, List, [], ◌∷◌, ◌++◌, length, Some, Ok, refl, sym, ◌∙◌, ap, subst, arith}
+use Rattle.std.proofs.Common.{append_assoc}
 use Rattle.std.proofs.lemmas.List.{append-nil, length-append}
 use Rattle.std.proofs.lemmas.Grind.{flat_map-append}
 use Rattle.std.specs.List.{flat_map}
@@ -21,37 +22,33 @@ use Rattle.wtf_script.specs.declared.limits.TheConstants.{SCRIPT_BYTES}
 use Rattle.wtf_script.specs.Reading.{work}
 use Rattle.wtf_serve.specs.Beginnings.{IsReady}
 use Rattle.wtf_serve.specs.Endings.{Devices}
-use Rattle.wtf_serve.specs.Engines.{IsAsGiven, Engine, HasRoom}
-use Rattle.wtf_serve.specs.Logs.{Log, asked, last, last_downs, first_line, output}
+use Rattle.wtf_serve.specs.Engines.{Engine, HasRoom}
+use Rattle.wtf_serve.specs.Logs.{Log, asked, last, first_line, output}
 use Rattle.wtf_serve.specs.Openings.{Opening, IsTakenOver, StartsFrom, first}
 use Rattle.wtf_serve.specs.Passes.{Hand, hand, input, step_of, HasDrawn, PassIs}
-use Rattle.wtf_serve.specs.Runs.{Ran}
 use Rattle.wtf_serve.specs.Scripts.{line_of, line_text, has_bad}
 use Rattle.wtf_serve.specs.Stocks.{stock, KeeperGoesOn, IsTelling, HoldsOneOf, HoldsStart}
 use Rattle.wtf_serve.proofs.Picturing.{starts_holds}
-use Rattle.wtf_serve.proofs.RanLaws.{longer, asked-longer, ran_none, ran_more, lawful_more, last_more, stands_more, downs_more}
+use Rattle.wtf_serve.proofs.RanLaws.{longer, asked-longer, ran_none, SoFar, lawful_more, last_more, so_far_more}
 use Rattle.wtf_serve.proofs.ScriptLaws.{has_bad-push}
 use Rattle.wtf_serve.proofs.Telling.{Told, some_same, told_none, told_more}
 
 -- a run so far: the lines with their answers, what the run has in hand, and whether one of the lines asked nothing
 pub record Going {S State : Type 0} (engine : Engine S State) (opening : Opening) (start : Devices S) (now : Hand S State) (bad : Bool) : Type 0 where
   pub log : Log
-  pub ran : Ran engine.kind opening log start.stock now.stock
-  pub stands : TellsAll engine.kind start.stock.shelf → (t : Tree) → StartsFrom (byte_at engine.kind start.stock.shelf) opening.bytes t
-      → engine.stands now.stock.shelf now.state (last opening t log)
+  pub so_far : SoFar engine opening log start.stock now.stock now.state
   pub saved : TellsAll engine.kind start.stock.shelf → IsTelling start.stock.keeper opening.bytes → opening.number ≤ 2 ^ 61 → opening.next_tx ≤ 2 ^ 61
       → (t : Tree) → StartsFrom (byte_at engine.kind start.stock.shelf) opening.bytes t → HoldsOneOf engine.kind now.stock (last opening t log).may_be_saved
   pub start_holds : TellsAll engine.kind start.stock.shelf → IsTelling start.stock.keeper opening.bytes → opening.number ≤ 2 ^ 61 → opening.next_tx ≤ 2 ^ 61
-      → (t : Tree) → StartsFrom (byte_at engine.kind start.stock.shelf) opening.bytes t → HoldsStart engine.kind now.stock opening.settings (engine.number now.state) (engine.next_tx now.state)
-  pub number_is : TellsAll engine.kind start.stock.shelf → (t : Tree) → StartsFrom (byte_at engine.kind start.stock.shelf) opening.bytes t → engine.number now.state ≡ (last opening t log).number
+      → (t : Tree) → StartsFrom (byte_at engine.kind start.stock.shelf) opening.bytes t
+      → HoldsStart engine.kind now.stock opening.settings (engine.number now.state) (engine.next_tx now.state)
+  pub number_is : TellsAll engine.kind start.stock.shelf → (t : Tree) → StartsFrom (byte_at engine.kind start.stock.shelf) opening.bytes t
+      → engine.number now.state ≡ (last opening t log).number
   pub begun : engine.next_tx now.state ≤ opening.next_tx + length log.lines
   pub taken : IsTakenOver (size_in engine.kind start.stock.shelf) opening.bytes
-  pub downs : engine.down now.state ≡ last_downs log
   pub bad_is : has_bad (asked log) ≡ bad
   pub sound : engine.sound now.stock.shelf now.state
   pub enough : opening.settings.servers ≤ length start.stock.shelf
-  pub settings_is : engine.settings now.state ≡ opening.settings
-  pub as_given : IsAsGiven engine opening.bytes now.state
   pub number : engine.number now.state + work now.input.held ≤ opening.number + (SCRIPT_BYTES + 1)
   pub next_tx : engine.next_tx now.state + work now.input.held ≤ opening.next_tx + (SCRIPT_BYTES + 1)
   pub room : (opening.number ≤ 2 ^ 62) × (opening.next_tx ≤ 2 ^ 62)
@@ -59,7 +56,8 @@ pub record Going {S State : Type 0} (engine : Engine S State) (opening : Opening
   pub read : (script : List ℕ) → start.source.rest ≡ Some script → Told script now.input.source.rest now.input.held log.lines
   pub wrote : (old : List ℕ) → start.sink.taken ≡ Some old → now.sink.taken ≡ Some (old ++ output opening log.answers)
   pub given : start.source.given ≤ 2 ^ 64 - 1 → now.input.source.given ≡ min (start.source.given + now.input.held.count) (2 ^ 64 - 1)
-  pub counted : (script left : List ℕ) → start.source.rest ≡ Some script → now.input.source.rest ≡ Some left → length script ≡ length left + now.input.held.count
+  pub counted : (script left : List ℕ) → start.source.rest ≡ Some script → now.input.source.rest ≡ Some left
+      → length script ≡ length left + now.input.held.count
   pub source_faults : start.source.faults ≤ now.input.source.faults
   pub sink_faults : start.sink.faults ≤ now.sink.faults
   pub keeper : KeeperGoesOn start.stock.keeper now.stock.keeper
@@ -67,10 +65,12 @@ pub record Going {S State : Type 0} (engine : Engine S State) (opening : Opening
 -- what the first line and a list of answers write, and one more answer
 output-more : (opening : Opening) (answers : List Answer) (a : Answer) → output opening (answers ++ a ∷ []) ≡ output opening answers ++ line_text a
 output-more opening answers a =
-    ap (λ (x : List ℕ). first_line opening ++ x) (flat_map-append line_text answers (a ∷ []) ∙ ap (λ (x : List ℕ). flat_map line_text answers ++ x) (append-nil (line_text a)))
+    ap (λ (x : List ℕ). first_line opening ++ x) (flat_map-append line_text answers (a ∷ [])
+    ∙ ap (λ (x : List ℕ). flat_map line_text answers ++ x) (append-nil (line_text a)))
     ∙ sym (append_assoc (first_line opening) (flat_map line_text answers) (line_text a))
 
-given_on : (old now new count next : ℕ) → count ≤ next → now ≡ min (old + count) (2 ^ 64 - 1) → new ≡ min (now + (next - count)) (2 ^ 64 - 1) → new ≡ min (old + next) (2 ^ 64 - 1)
+given_on : (old now new count next : ℕ) → count ≤ next → now ≡ min (old + count) (2 ^ 64 - 1) → new ≡ min (now + (next - count)) (2 ^ 64 - 1)
+    → new ≡ min (old + next) (2 ^ 64 - 1)
 given_on old now new count next h is more = omega arith
 
 after_none : {X : Type 0} (next : X → Line → Answer → X) (x : X) → state_after next x [] [] ≡ x
@@ -78,34 +78,46 @@ unfolding state_after
 after_none next x = refl
 
 -- an image of the numbers of an opening is one of the state that it opened
-taken_same : (size : ℕ → ℕ → ℕ) (settings : Settings) (n next n' next' : ℕ) (bytes : List ℕ) → n' ≡ n → next' ≡ next → IsTakenFor size settings n next bytes → IsTakenFor size settings n' next' bytes
-taken_same size settings n next n' next' bytes same_n same_next is = subst (λ (x : ℕ). IsTakenFor size settings x next' bytes) (sym same_n) (subst (λ (x : ℕ). IsTakenFor size settings n x bytes) (sym same_next) is)
+taken_same : (size : ℕ → ℕ → ℕ) (settings : Settings) (n next n' next' : ℕ) (bytes : List ℕ) → n' ≡ n → next' ≡ next → IsTakenFor size settings n next bytes
+    → IsTakenFor size settings n' next' bytes
+taken_same size settings n next n' next' bytes same_n same_next is = subst (λ (x : ℕ). IsTakenFor size settings x next' bytes) (sym same_n)
+    (subst (λ (x : ℕ). IsTakenFor size settings n x bytes) (sym same_next) is)
 
 -- the run after its first line, behind which the keeper holds what it held before it was loaded
-pub going_none : {S State : Type 0} (engine : Engine S State) → KindLaws engine.kind → (opening : Opening) (start : Devices S) (sink' : SinkView) (keeper' : KeeperView) (state : State)
+pub going_none : {S State : Type 0} (engine : Engine S State) → KindLaws engine.kind
+    → (opening : Opening) (start : Devices S) (sink' : SinkView) (keeper' : KeeperView) (state : State)
     → IsReady engine opening start.stock.shelf state → (opening.number ≤ 2 ^ 62) × (opening.next_tx ≤ 2 ^ 62)
     → IsTakenFor (size_in engine.kind start.stock.shelf) opening.settings opening.number opening.next_tx opening.bytes
     → KeeperGoesOn start.stock.keeper keeper' → ((b : List ℕ) → start.stock.keeper.held ≡ Some b → keeper'.held ≡ Some b)
     → ((old : List ℕ) → start.sink.taken ≡ Some old → sink'.taken ≡ Some (old ++ first_line opening)) → start.sink.faults ≤ sink'.faults
-    → Going engine opening start (hand (input start.source (record { bytes = []; count = 0; ended = false })) sink' (stock start.stock.shelf keeper') state) false
+    → Going engine opening start (hand (input start.source (record { bytes = []; count = 0; ended = false })) sink'
+    (stock start.stock.shelf keeper') state) false
 going_none engine laws opening start sink' keeper' state ready room begins keeper held wrote faults = record {
   log = record { lines = []; answers = [] };
-  ran = ran_none engine.kind laws opening start.stock (stock start.stock.shelf keeper') refl keeper.faults;
-  stands = λ tells t from. subst (λ (m : Machine). engine.stands start.stock.shelf state m) (sym (after_none after_line (first opening t))) (ready.stands t from);
+  so_far = record {
+    ran = ran_none engine.kind laws opening start.stock (stock start.stock.shelf keeper') refl keeper.faults;
+    settings = ready.settings;
+    downs = ready.up ∙ sym (after_none down_after none_down);
+    given = record { full = λ free. ready.given.full tt; bare = λ free. ready.given.bare tt };
+    told = ready.told;
+    stands = λ tells t from.
+        subst (λ (m : Machine). engine.stands start.stock.shelf state m) (sym (after_none after_line (first opening t))) (ready.stands t from);
+  };
   saved = λ tells telling number next_tx t from.
       subst (λ (m : Machine). HoldsOneOf engine.kind (stock start.stock.shelf keeper') m.may_be_saved) (sym (after_none after_line (first opening t)))
       (starts_holds engine.kind start.stock.shelf keeper' opening.bytes t (held opening.bytes telling.held) from);
-  start_holds = λ tells telling number next_tx t from.
-      (opening.bytes, held opening.bytes telling.held, taken_same (size_in engine.kind start.stock.shelf) opening.settings opening.number opening.next_tx (engine.number state) (engine.next_tx state) opening.bytes ready.number ready.next_tx begins);
+  start_holds = λ tells telling number next_tx t from. (
+    opening.bytes,
+    held opening.bytes telling.held,
+    taken_same (size_in engine.kind start.stock.shelf) opening.settings opening.number opening.next_tx
+        (engine.number state) (engine.next_tx state) opening.bytes ready.number ready.next_tx begins,
+  );
   number_is = λ tells t from. ready.number ∙ sym (ap (λ (m : Machine). m.number) (after_none after_line (first opening t)));
   begun = omega (arith, ready.next_tx);
   taken = ready.taken;
-  downs = ready.up ∙ sym (after_none down_after none_down);
   bad_is = refl;
   sound = ready.sound;
   enough = ready.enough;
-  settings_is = ready.settings;
-  as_given = ready.given;
   number = omega (arith, ready.number);
   next_tx = omega (arith, ready.next_tx);
   room = room;
@@ -125,12 +137,16 @@ keeper_on a b c early late = record { faults = omega (arith, early.faults, late.
 -- The next line of a run so far
 module _ {S State : Type 0} (engine : Engine S State) (laws : KindLaws engine.kind) (opening : Opening) (start : Devices S) (now next : Hand S State)
     (bad : Bool) (g : Going engine opening start now bad) where
-  pub given_then : HasDrawn now.input next.input → start.source.given ≤ 2 ^ 64 - 1 → next.input.source.given ≡ min (start.source.given + next.input.held.count) (2 ^ 64 - 1)
+  pub given_then : HasDrawn now.input next.input → start.source.given ≤ 2 ^ 64 - 1
+      → next.input.source.given ≡ min (start.source.given + next.input.held.count) (2 ^ 64 - 1)
   given_then drawn h =
-      given_on start.source.given now.input.source.given next.input.source.given now.input.held.count next.input.held.count drawn.grows (g.given h) (drawn.given (omega (arith, g.given h)))
+      given_on start.source.given now.input.source.given next.input.source.given now.input.held.count next.input.held.count drawn.grows (g.given h)
+      (drawn.given (omega (arith, g.given h)))
 
-  pub counted_then : HasDrawn now.input next.input → (script left : List ℕ) → start.source.rest ≡ Some script → next.input.source.rest ≡ Some left → length script ≡ length left + next.input.held.count
-  counted_then drawn script left e f = let told = g.read script e in omega (arith, g.counted script told.rest e told.left_is, drawn.counted told.rest left told.left_is f)
+  pub counted_then : HasDrawn now.input next.input → (script left : List ℕ) → start.source.rest ≡ Some script → next.input.source.rest ≡ Some left
+      → length script ≡ length left + next.input.held.count
+  counted_then drawn script left e f = let told = g.read script e in omega
+      (arith, g.counted script told.rest e told.left_is, drawn.counted told.rest left told.left_is f)
 
   -- as long as the image's numbers leave room for the script's, an image has room for the numbers
   pub room_now : opening.number ≤ 2 ^ 61 → opening.next_tx ≤ 2 ^ 61 → HasRoom engine now.state
@@ -143,45 +159,35 @@ module _ {S State : Type 0} (engine : Engine S State) (laws : KindLaws engine.ki
       let a = pass.came.done.answer in
       let is = pass.came.done.is in
       let t = step_of now next in
+      let same = last_more engine laws opening start.stock g.log t g.so_far line a is pass.follows_on pass.keeper.faults in
+      let law = lawful_more engine laws opening start.stock g.log t g.so_far line a is pass.follows_on pass.keeper.faults in
       record {
         log = longer g.log line a;
-        ran = ran_more engine laws opening start.stock g.log t g.ran g.settings_is g.downs g.as_given g.stands line a is pass.follows_on pass.keeper.faults;
-        stands = stands_more engine laws opening start.stock g.log t g.ran g.settings_is g.downs g.as_given g.stands line a is pass.follows_on
-            pass.keeper.faults;
+        so_far = so_far_more engine laws opening start.stock g.log t g.so_far line a is pass.follows_on pass.keeper.faults;
         saved = λ tells telling number next_tx tree from.
-            subst (λ (m : Machine). HoldsOneOf engine.kind next.stock m.may_be_saved)
-            (last_more engine laws opening start.stock g.log t g.ran g.settings_is g.downs g.as_given g.stands line a is pass.follows_on pass.keeper.faults
-            tree)
-            ((lawful_more engine laws opening start.stock g.log t g.ran g.settings_is g.downs g.as_given g.stands line a is pass.follows_on pass.keeper.faults
-            tells tree from).saved
-            (g.keeper.tells ∙ telling.tells) (room_now number next_tx) (g.saved tells telling number next_tx tree from));
+            subst (λ (m : Machine). HoldsOneOf engine.kind next.stock m.may_be_saved) (same tree)
+            ((law tells tree from).saved (g.keeper.tells ∙ telling.tells) (room_now number next_tx) (g.saved tells telling number next_tx tree from));
         start_holds = λ tells telling number next_tx tree from.
-            subst (λ (s : Settings). HoldsStart engine.kind next.stock s (engine.number next.state) (engine.next_tx next.state)) g.settings_is
-            ((lawful_more engine laws opening start.stock g.log t g.ran g.settings_is g.downs g.as_given g.stands line a is pass.follows_on pass.keeper.faults
-            tells tree from).taken
-            (g.keeper.tells ∙ telling.tells) (room_now number next_tx)
-            (subst (λ (s : Settings). HoldsStart engine.kind now.stock s (engine.number now.state) (engine.next_tx now.state)) (sym g.settings_is) (g.start_holds tells telling number next_tx tree from)));
-        number_is = λ tells tree from.
-            (lawful_more engine laws opening start.stock g.log t g.ran g.settings_is g.downs g.as_given g.stands line a is pass.follows_on pass.keeper.faults
-            tells tree from).number
-            ∙ ap (λ (m : Machine). m.number) (last_more engine laws opening start.stock g.log t g.ran g.settings_is g.downs g.as_given g.stands line a is
-            pass.follows_on pass.keeper.faults tree);
+            subst (λ (s : Settings). HoldsStart engine.kind next.stock s (engine.number next.state) (engine.next_tx next.state)) g.so_far.settings
+            ((law tells tree from).taken (g.keeper.tells ∙ telling.tells) (room_now number next_tx)
+            (subst (λ (s : Settings). HoldsStart engine.kind now.stock s (engine.number now.state) (engine.next_tx now.state)) (sym g.so_far.settings)
+            (g.start_holds tells telling number next_tx tree from)));
+        number_is = λ tells tree from. (law tells tree from).number ∙ ap (λ (m : Machine). m.number) (same tree);
         begun = omega (arith, is.goes_on.next_tx, g.begun, length-append g.log.lines (line ∷ []));
         taken = g.taken;
-        downs = downs_more engine laws opening start.stock g.log t g.ran g.settings_is g.downs g.as_given g.stands line a is pass.follows_on pass.keeper.faults;
         bad_is = ap has_bad (asked-longer g.log line a) ∙ has_bad-push (asked g.log) (line_of line) ∙ ap (λ (b : Bool). b || is_err (line_of line)) g.bad_is
             ∙ ap (λ (b : Bool). bad || b) pass.came.bad_is;
         sound = is.goes_on.sound;
         enough = g.enough;
-        settings_is = is.goes_on.settings ∙ g.settings_is;
-        as_given = record { full = λ empty. is.goes_on.full (g.as_given.full empty); bare = λ none. is.goes_on.bare (g.as_given.bare none) };
         number = omega (arith, is.goes_on.number, g.number, pass.came.less);
         next_tx = omega (arith, is.goes_on.next_tx, g.next_tx, pass.came.less);
         room = g.room;
         count = pass.limit (λ e. cc);
-        read = λ script e. told_more script now.input.source.rest next.input.source.rest now.input.held next.input.held g.log.lines line (g.read script e) pass.came.came;
+        read = λ script e. told_more script now.input.source.rest next.input.source.rest now.input.held next.input.held g.log.lines line
+            (g.read script e) pass.came.came;
         wrote = λ text e. pass.came.done.wrote (text ++ output opening g.log.answers) (g.wrote text e)
-            ∙ ap (λ (x : List ℕ). Some x) (append_assoc text (output opening g.log.answers) (line_text a) ∙ ap (λ (x : List ℕ). text ++ x) (sym (output-more opening g.log.answers a)));
+            ∙ ap (λ (x : List ℕ). Some x) (append_assoc text (output opening g.log.answers) (line_text a)
+            ∙ ap (λ (x : List ℕ). text ++ x) (sym (output-more opening g.log.answers a)));
         given = given_then pass.drawn;
         counted = counted_then pass.drawn;
         source_faults = omega (arith, g.source_faults, pass.drawn.faults);

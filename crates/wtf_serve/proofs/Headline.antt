@@ -27,11 +27,13 @@ began handed status lines old new true unstarted end = refl
 began handed status lines old new false unstarted end =
     let which = (unstarted refl).status_is in absurd (omega (arith, end, which))
 
-pub told_run : {S : Type 0} (kind : StoreKind S) (handed : List (List ℕ) → Type 0) (opening : Opening) (status : ℕ) (old new : Devices S) (script text kept : List ℕ) (t : Tree)
+pub told_run : {S : Type 0} (kind : StoreKind S) (handed : List (List ℕ) → Type 0) (opening : Opening) (status : ℕ) (old new : Devices S)
+    (script text kept : List ℕ) (t : Tree)
     → Served kind handed opening status old new → TellsAll kind old.stock.shelf → IsTelling old.stock.keeper opening.bytes
     → opening.number ≤ 2 ^ 61 → opening.next_tx ≤ 2 ^ 61 → StartsFrom (byte_at kind old.stock.shelf) opening.bytes t
     → old.source.rest ≡ Some script → old.sink.taken ≡ Some []
-    → new.sink.taken ≡ Some text → new.stock.keeper.held ≡ Some kept → IsEndStatus status → IsTold (byte_at kind new.stock.shelf) (size_in kind new.stock.shelf) opening t script text kept
+    → new.sink.taken ≡ Some text → new.stock.keeper.held ≡ Some kept → IsEndStatus status
+    → IsTold (byte_at kind new.stock.shelf) (size_in kind new.stock.shelf) opening t script text kept
 told_run kind handed opening status old new script text kept t served tells telling number next_tx from rest taken now held end =
     let started = began handed status served.log.lines old new served.started served.unstarted end in
     record {
@@ -45,7 +47,8 @@ told_run kind handed opening status old new script text kept t served tells tell
     }
 
 -- a run whose keeper held nothing began with the root alone, under the settings that were asked for
-pub told_new : {S : Type 0} (kind : StoreKind S) (handed : List (List ℕ) → Type 0) (settings : Settings) (status : ℕ) (old new : Devices S) (script text kept : List ℕ)
+pub told_new : {S : Type 0} (kind : StoreKind S) (handed : List (List ℕ) → Type 0) (settings : Settings) (status : ℕ) (old new : Devices S)
+    (script text kept : List ℕ)
     → IsRun kind handed settings status old new → TellsAll kind old.stock.shelf → IsTelling old.stock.keeper []
     → old.source.rest ≡ Some script → old.sink.taken ≡ Some [] → new.sink.taken ≡ Some text → new.stock.keeper.held ≡ Some kept → IsEndStatus status
     → IsTold (byte_at kind new.stock.shelf) (size_in kind new.stock.shelf) (new_opening settings) root_alone script text kept
@@ -54,7 +57,8 @@ told_new kind handed settings status old new script text kept (inl unopened) tel
 told_new kind handed settings status old new script text kept (inr opened) tells telling rest taken now held end =
     let opens : Opens settings [] opened.opening = subst (λ (b : List ℕ). Opens settings b opened.opening) (opened.given [] telling.held) opened.opens in
     let served : Served kind handed (new_opening settings) status old new = subst (λ (o : Opening). Served kind handed o status old new) opens opened.served in
-    told_run kind handed (new_opening settings) status old new script text kept root_alone served tells telling (omega arith) (omega arith) refl rest taken now held end
+    told_run kind handed (new_opening settings) status old new script text kept root_alone served tells telling (omega arith)
+    (omega arith) refl rest taken now held end
 
 -- no write failed where the count of the real sink stands still
 unfailed : (faults before now : ℕ) → (faults ≢ 0 → Rose before now) → IsStill before now → faults ≡ 0
@@ -63,13 +67,16 @@ unfailed (suc n) before now cause still =
     let rose = cause (λ e. omega (arith, e)) still.1 in absurd (omega (arith, rose, still.0))
 
 -- the same of a generated script, over a sink that does not fail
-pub told_generated : {S : Type 0} (kind : StoreKind S) (handed : List (List ℕ) → Type 0) (settings : Settings) (recipe : Recipe) (status : ℕ) (old new : Devices S) (written kept : List ℕ)
-    → IsGeneratedRun kind handed settings recipe status old new → TellsAll kind old.stock.shelf → IsTelling old.stock.keeper [] → IsStill old.sink.faults new.sink.faults
+pub told_generated : {S : Type 0} (kind : StoreKind S) (handed : List (List ℕ) → Type 0) (settings : Settings) (recipe : Recipe) (status : ℕ)
+    (old new : Devices S) (written kept : List ℕ)
+    → IsGeneratedRun kind handed settings recipe status old new → TellsAll kind old.stock.shelf → IsTelling old.stock.keeper []
+    → IsStill old.sink.faults new.sink.faults
     → old.sink.taken ≡ Some [] → new.sink.taken ≡ Some written → new.stock.keeper.held ≡ Some kept → IsEndStatus status
     → IsToldOf (byte_at kind new.stock.shelf) (size_in kind new.stock.shelf) (new_opening settings) root_alone recipe written kept
 told_generated kind handed settings recipe status old new written kept run tells telling still taken now held end = record {
   text = run.text;
-  told_is = told_new kind handed settings status (with_script recipe old) (with_text run.left run.faults run.text new) (script_of recipe) run.text kept run.run tells telling
+  told_is = told_new kind handed settings status (with_script recipe old) (with_text run.left run.faults run.text new)
+      (script_of recipe) run.text kept run.run tells telling
       refl refl refl held end;
   wrote = some_same written (shown recipe.lines run.text)
       (sym now ∙ run.shows.whole (unfailed run.faults old.sink.faults new.sink.faults run.shows.cause still) [] taken);

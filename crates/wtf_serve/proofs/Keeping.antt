@@ -56,7 +56,8 @@ module _ {K : Type 0} (view : K → KeeperView) (follows : K → K → List (Lis
     turn_handed e a turn = handed_none turn
 
 -- what the core promises of a line is what a run is given of it
-module _ {K S : Type 0} (view : K → KeeperView) (follows : K → K → List (List ℕ) → Type 0) (old new : K) (kind : StoreKind S) (before after : List S) (core core' : CoreView) where
+module _ {K S : Type 0} (view : K → KeeperView) (follows : K → K → List (List ℕ) → Type 0) (old new : K) (kind : StoreKind S) (before after : List S)
+    (core core' : CoreView) where
   abbrev t : Step S CoreView
   t = step (stock before (view old)) (stock after (view new)) core core'
 
@@ -70,6 +71,7 @@ module _ {K S : Type 0} (view : K → KeeperView) (follows : K → K → List (L
   save_kept Up tables answer.FaultSave (inr failed) is = inr failed.rose
   save_kept Up tables a turn is = absurd is
 
-  pub event_kept : (Telling : Type 0) (told : Told × Told) (e : Event) (a : Answer) → Turns e a → IsLine Telling told core core' e a → Keeps (engine kind) t (Ok e) a
+  pub event_kept : (Telling : Type 0) (told : Told × Told) (e : Event) (a : Answer) → Turns e a → IsLine Telling told core core' e a
+      → Keeps (engine kind) t (Ok e) a
   event_kept Telling told event.Save a turn line = save_kept (AreUp core.replicas core.settings.servers) line.answered.tables a turn line.turn.0
   event_kept Telling told e a turn line = ap view turn

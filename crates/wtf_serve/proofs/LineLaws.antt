@@ -8,9 +8,10 @@ use Rattle.wtf_model.specs.declared.answer.Answer.TheVariants as answer
 use Rattle.wtf_model.specs.declared.event.Event.{Event}
 use Rattle.wtf_model.specs.declared.event.Event.TheVariants as event
 use Rattle.wtf_core.specs.Promises as promised
+use Rattle.wtf_core.specs.Telling.{TellsCore}
 use Rattle.wtf_core.specs.Views.{CoreView}
 use Rattle.wtf_serve.specs.Answering.{IsBad}
-use Rattle.wtf_serve.specs.Engines.{Step, step, is_save_event, GoesOn, Leaves, Obeys, Stores, IsCaused, Keeps}
+use Rattle.wtf_serve.specs.Engines.{Step, step, is_save_event, GoesOn, Leaves, Obeys, Stores, IsCaused, Tells, Keeps}
 use Rattle.wtf_serve.specs.Stocks.{Stock}
 use Rattle.wtf_serve.specs.Cores.{IsSoundCore, engine}
 
@@ -24,8 +25,8 @@ module _ {S : Type 0} (kind : StoreKind S) (here : Stock S) (core : CoreView) (b
     number = omega arith;
     next_tx = omega arith;
     same_next_tx = λ is. refl;
-    bare = λ f. f;
-    full = λ f. f;
+    bare = λ free f. f;
+    full = λ free f. f;
     exact = refl;
   }
 
@@ -44,11 +45,24 @@ pub bad_caused : {S : Type 0} (kind : StoreKind S) (t : Step S CoreView) (bad : 
 bad_caused kind t (answer.Bad k) is = tt
 bad_caused kind t a is = absurd is
 
-pub bad_kept : {S : Type 0} (kind : StoreKind S) (here : Stock S) (core : CoreView) (bad : Answer) → IsBad bad → Keeps (engine kind) (step here here core core) (Err bad) bad
+pub bad_told : {S : Type 0} (kind : StoreKind S) (here : Stock S) (core : CoreView) (bad : Answer) → IsBad bad
+    → Tells (engine kind) (step here here core core) bad
+bad_told kind here core (answer.Bad w) is = λ tells. record {
+  next = tells;
+  wide = λ wide. wide;
+  unread = λ wide k e. absurd (cc);
+  within = λ within. within;
+  undamaged = λ within k e. cc;
+}
+bad_told kind here core a is = absurd is
+
+pub bad_kept : {S : Type 0} (kind : StoreKind S) (here : Stock S) (core : CoreView) (bad : Answer) → IsBad bad
+    → Keeps (engine kind) (step here here core core) (Err bad) bad
 bad_kept kind here core (answer.Bad k) is = refl
 bad_kept kind here core a is = absurd is
 
-pub bad_stored : {S : Type 0} (kind : StoreKind S) (here : Stock S) (core : CoreView) (bad : Answer) → IsBad bad → Stores (engine kind) (step here here core core) (Err bad) bad
+pub bad_stored : {S : Type 0} (kind : StoreKind S) (here : Stock S) (core : CoreView) (bad : Answer) → IsBad bad
+    → Stores (engine kind) (step here here core core) (Err bad) bad
 bad_stored kind here core (answer.Bad w) is = λ k d h f. refl
 bad_stored kind here core a is = absurd is
 
@@ -70,7 +84,8 @@ module _ {S : Type 0} (kind : StoreKind S) (t : Step S CoreView) (e : Event) (a 
   abbrev behind : promised.Scene S
   behind = promised.scene t.after.shelf t.after.keeper t.new
 
-  pub event_goes_on : t.old.settings.servers ≤ length t.before.shelf → promised.GoesOn kind before behind e a → promised.Stays kind t.before.shelf t.after.shelf t.old t.new
+  pub event_goes_on : t.old.settings.servers ≤ length t.before.shelf → promised.GoesOn kind before behind e a
+      → promised.Stays kind t.before.shelf t.after.shelf t.old t.new
       → GoesOn (engine kind) t (Ok e) a
   event_goes_on enough on stays = record {
     sound = record {
@@ -88,6 +103,11 @@ module _ {S : Type 0} (kind : StoreKind S) (t : Step S CoreView) (e : Event) (a 
     full = on.full;
     exact = on.exact;
   }
+
+  pub event_told : (TellsCore kind t.before.shelf t.old → promised.IsToldAnswer kind before behind a) → Tells (engine kind) t a
+  event_told told = λ tells.
+      let is = told tells in
+      record { next = is.next; wide = is.wide; unread = is.unread; within = is.within; undamaged = is.undamaged }
 
   pub event_obeys : promised.Obeys kind before behind e a → Obeys (engine kind) t (Ok e) a
   event_obeys obeys = λ tells m stands.

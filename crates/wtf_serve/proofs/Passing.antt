@@ -38,4 +38,5 @@ pub line_long : (i i' : Input) (r : Result (Option Line) ReadError) → r ≡ Ok
     → ((rest : List ℕ) → i.source.rest ≡ Some rest → Reads i.held rest i'.held i'.source.rest r)
     → (IsLine r → work i'.held < work i.held) → HasLine i i' (Err (answer.Bad kind.Long))
 line_long i i' r is told less =
-    long_of i i' i.source.rest refl (λ rest e. subst (λ x. Reads i.held rest i'.held i'.source.rest x) is (told rest e)) (less (subst (λ x. IsLine x) (sym is) tt))
+    long_of i i' i.source.rest refl (λ rest e. subst (λ x. Reads i.held rest i'.held i'.source.rest x) is (told rest e))
+    (less (subst (λ x. IsLine x) (sym is) tt))

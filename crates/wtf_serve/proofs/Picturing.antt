@@ -45,6 +45,11 @@ starts_one : (told : Told) (bytes : List ℕ) (t : Tree) → StartsFrom told byt
 starts_one told [] t is = inl (refl, (0, omega arith, is))
 starts_one told (b ∷ bytes) t is = inr (t, (0, omega arith, refl), is)
 
+-- and one that it starts from over stores that tell more
+pub starts_on : (told later : Told) (bytes : List ℕ) (t : Tree) → TellsOn told later → StartsFrom told bytes t → StartsFrom later bytes t
+starts_on told later [] t on is = is
+starts_on told later (b ∷ bytes) t on is = tree_on told later (b ∷ bytes) t on is
+
 some_same : (a b : List ℕ) → Some a ≡ Some b → a ≡ b
 some_same a b e = cc
 
@@ -68,7 +73,8 @@ one_alone told bytes t some (inr (u, listed, is)) = subst (λ (x : Tree). IsImag
 -- ---- what a run can begin with
 
 -- a keeper that is as it was holds it still, over stores that go on
-pub start_on : {S : Type 0} {kind : StoreKind S} → KindLaws kind → (old new : Stock S) (settings : Settings) (n next : ℕ) → EachFollows kind old.shelf new.shelf []
+pub start_on : {S : Type 0} {kind : StoreKind S} → KindLaws kind → (old new : Stock S) (settings : Settings) (n next : ℕ)
+    → EachFollows kind old.shelf new.shelf []
     → new.keeper ≡ old.keeper → HoldsStart kind old settings n next → HoldsStart kind new settings n next
 start_on {kind = kind} laws old new settings n next e same (bytes, held, is) = (
   bytes,
@@ -77,34 +83,41 @@ start_on {kind = kind} laws old new settings n next e same (bytes, held, is) = (
 )
 
 -- what is held are these bytes
-start_held : {S : Type 0} (kind : StoreKind S) (s : Stock S) (settings : Settings) (n next n' next' : ℕ) (bytes : List ℕ) → n ≤ n' → next ≤ next' → HoldsStart kind s settings n next → s.keeper.held ≡ Some bytes
+start_held : {S : Type 0} (kind : StoreKind S) (s : Stock S) (settings : Settings) (n next n' next' : ℕ) (bytes : List ℕ) → n ≤ n' → next ≤ next'
+    → HoldsStart kind s settings n next → s.keeper.held ≡ Some bytes
     → IsTakenFor (size_in kind s.shelf) settings n' next' bytes
 start_held kind s settings n next n' next' bytes more after (held, held_is, is) bytes_are =
     taken_for_on (size_in kind s.shelf) (size_in kind s.shelf) (λ k f. omega arith) settings n next n' next' more after bytes
     (subst (λ (x : List ℕ). IsTakenFor (size_in kind s.shelf) settings n next x) (some_same held bytes (sym held_is ∙ bytes_are)) is)
 
-module _ {S : Type 0} (kind : StoreKind S) (opening : Opening) (m : Machine) (lines : List (List ℕ)) (s : Stock S) (bytes : List ℕ) (held : s.keeper.held ≡ Some bytes) (n next : ℕ) where
+module _ {S : Type 0} (kind : StoreKind S) (opening : Opening) (m : Machine) (lines : List (List ℕ)) (s : Stock S) (bytes : List ℕ)
+    (held : s.keeper.held ≡ Some bytes) (n next : ℕ) where
   -- with the closing save
-  pub next_saved : (status : ℕ) → IsEndStatus status → n ≡ m.number → next ≤ opening.next_tx + length lines → HoldsJust kind s opening.settings n next → IsNext (size_in kind s.shelf) opening m lines status bytes
+  pub next_saved : (status : ℕ) → IsEndStatus status → n ≡ m.number → next ≤ opening.next_tx + length lines → HoldsJust kind s opening.settings n next
+      → IsNext (size_in kind s.shelf) opening m lines status bytes
   next_saved status end number few (image, image_is, is) =
       let here : IsImageWith (size_in kind s.shelf) opening.settings n next bytes
       = subst (λ (x : List ℕ). IsImageWith (size_in kind s.shelf) opening.settings n next x) (some_same image bytes (sym image_is ∙ held)) is in
       record {
         saved = λ _. (next, few, subst (λ (x : ℕ). IsImageWith (size_in kind s.shelf) opening.settings x next bytes) number here);
-        taken = λ _. inr (image_with (size_in kind s.shelf) opening.settings n next m.number (opening.next_tx + length lines) bytes (omega (arith, number)) few here);
+        taken = λ _. inr (image_with (size_in kind s.shelf) opening.settings n next m.number (opening.next_tx + length lines) bytes
+            (omega (arith, number)) few here);
         memory = λ e. absurd (omega (arith, e, end));
       }
 
   -- without it
-  pub next_kept : (status : ℕ) → (IsEndStatus status → ⊥) → n ≡ m.number → next ≤ opening.next_tx + length lines → HoldsStart kind s opening.settings n next → IsNext (size_in kind s.shelf) opening m lines status bytes
+  pub next_kept : (status : ℕ) → (IsEndStatus status → ⊥) → n ≡ m.number → next ≤ opening.next_tx + length lines → HoldsStart kind s opening.settings n next
+      → IsNext (size_in kind s.shelf) opening m lines status bytes
   next_kept status other number few holds = record {
     saved = λ end. absurd (other end);
     taken = λ _. start_held kind s opening.settings n next m.number (opening.next_tx + length lines) bytes (omega (arith, number)) few holds held;
-    memory = λ _. start_held kind s opening.settings n next (m.number + 1) (opening.next_tx + length lines + 1) bytes (omega (arith, number)) (omega (arith, few)) holds held;
+    memory = λ _. start_held kind s opening.settings n next (m.number + 1) (opening.next_tx + length lines + 1) bytes (omega (arith, number))
+        (omega (arith, few)) holds held;
   }
 
   -- and behind one more line, for want of memory
-  pub next_out : n ≤ m.number + 1 → next ≤ opening.next_tx + length lines + 1 → HoldsStart kind s opening.settings n next → IsNext (size_in kind s.shelf) opening m lines 7 bytes
+  pub next_out : n ≤ m.number + 1 → next ≤ opening.next_tx + length lines + 1 → HoldsStart kind s opening.settings n next
+      → IsNext (size_in kind s.shelf) opening m lines 7 bytes
   next_out number few holds = record {
     saved = λ end. absurd (omega (arith, end));
     taken = λ other. absurd (other refl);

@@ -1,5 +1,6 @@
 -- When a run of the program is one of refused words or few stores.
-use Rattle.std.proofs.Common.{◌≡◌, ◌≢◌, ◌↔◌, ◌⊎◌, ◌<◌, ◌≤◌, ℕ, Bool, true, false, List, [], ◌∷◌, length, Option, Some, None, refl, sym, ◌∙◌, ap, subst, arith, inl, inr}
+use Rattle.std.proofs.Common.{◌≡◌, ◌≢◌, ◌↔◌, ◌⊎◌, ◌<◌, ◌≤◌, ℕ, Bool, true, false, List, [], ◌∷◌, length, Option, Some, None, refl, sym, ◌∙◌, ap, subst, arith}
+use Rattle.std.proofs.Common.{inl, inr}
 use Rattle.wtf_base.specs.declared.settings.Settings.{Settings}
 use Rattle.wtf_dev.specs.Store.{StoreKind}
 use Rattle.wtf_words.specs.Words.{Numbers, numbers, Request}
@@ -36,7 +37,8 @@ unopened_status kind status old new (inr (inr refused)) = elim refused.told.stat
   | inr e ↦ (omega (arith, e), omega (arith, e))
 ]
 
-run_status : {S : Type 0} (kind : StoreKind S) (handed : List (List ℕ) → Type 0) (settings : Settings) (status : ℕ) (old new : Devices S) → IsRun kind handed settings status old new → status ≤ 9
+run_status : {S : Type 0} (kind : StoreKind S) (handed : List (List ℕ) → Type 0) (settings : Settings) (status : ℕ) (old new : Devices S)
+    → IsRun kind handed settings status old new → status ≤ 9
 run_status kind handed settings status old new (inl unopened) = (unopened_status kind status old new unopened.why).1
 run_status kind handed settings status old new (inr opened) = served_status status opened.served.statuses
 
@@ -60,11 +62,18 @@ words_status kind handed (Some asked) status old new run none = cc
 -- ---- few stores
 
 -- what was opened asks for more servers than there are, exactly where the words or the image do
-few_of : (settings : Settings) (bytes : List ℕ) (o : Opening) (stores : ℕ) → Opens settings bytes o → stores < o.settings.servers → IsFew (numbers settings) bytes stores
+few_of : (settings : Settings) (bytes : List ℕ) (o : Opening) (stores : ℕ) → Opens settings bytes o → stores < o.settings.servers
+    → IsFew (numbers settings) bytes stores
 few_of settings [] o stores opens few = omega (arith, ap (λ (x : Opening). x.settings.servers) opens, few)
-few_of settings (b ∷ bytes) o stores opens few = record { rows = opens.rows; text = opens.text; good = opens.good; few = omega (arith, opens.settings.servers, few) }
+few_of settings (b ∷ bytes) o stores opens few = record {
+  rows = opens.rows;
+  text = opens.text;
+  good = opens.good;
+  few = omega (arith, opens.settings.servers, few);
+}
 
-of_few : (settings : Settings) (bytes : List ℕ) (o : Opening) (stores : ℕ) → Opens settings bytes o → IsFew (numbers settings) bytes stores → stores < o.settings.servers
+of_few : (settings : Settings) (bytes : List ℕ) (o : Opening) (stores : ℕ) → Opens settings bytes o → IsFew (numbers settings) bytes stores
+    → stores < o.settings.servers
 of_few settings [] o stores opens few = omega (arith, ap (λ (x : Opening). x.settings.servers) opens, few)
 of_few settings (b ∷ bytes) o stores opens few =
     omega (arith, opens.settings.servers, ap (λ (x : ImageRows). x.header.servers) (same_rows opens.rows few.rows (b ∷ bytes) opens.text few.text), few.few)
@@ -97,14 +106,16 @@ run_refused kind handed settings status old new held held_is (inr opened) =
       λ all. opened.served.few_stores.1 (of_few settings held opened.opening (length old.stock.shelf) opens all.2),
     )
 
-script_refused : {S : Type 0} (kind : StoreKind S) (handed : List (List ℕ) → Type 0) (settings : Settings) (s : Script) (status : ℕ) (old new : Devices S) (held : List ℕ)
+script_refused : {S : Type 0} (kind : StoreKind S) (handed : List (List ℕ) → Type 0) (settings : Settings) (s : Script) (status : ℕ) (old new : Devices S)
+    (held : List ℕ)
     → old.stock.keeper.held ≡ Some held → IsScriptRun kind handed settings s status (old, new)
     → (status ≡ 2) ↔ ((status ≢ 7) × (status ≢ 8) × IsFew (numbers settings) held (length old.stock.shelf))
 script_refused kind handed settings script.Read status old new held held_is run = run_refused kind handed settings status old new held held_is run
 script_refused kind handed settings (script.Generated recipe) status old new held held_is run =
     run_refused kind handed settings status (with_script recipe old) (with_text run.left run.faults run.text new) held held_is run.run
 
-pub program_refused : {S : Type 0} (kind : StoreKind S) (handed : List (List ℕ) → Type 0) (asked : Option Request) (status : ℕ) (old new : Devices S) (held : List ℕ)
+pub program_refused : {S : Type 0} (kind : StoreKind S) (handed : List (List ℕ) → Type 0) (asked : Option Request) (status : ℕ) (old new : Devices S)
+    (held : List ℕ)
     → old.stock.keeper.held ≡ Some held → IsProgramRun kind handed asked status old new
     → (status ≡ 2) ↔ ((status ≢ 7) × (status ≢ 8) × IsRefused asked held (length old.stock.shelf))
 program_refused kind handed None status old new held held_is run = (
@@ -134,12 +145,15 @@ refused_taken size stores (b ∷ bytes) error.PointerOutside refused (x, taken) 
 refused_taken size stores (b ∷ bytes) error.Memory refused taken = refused.not_memory refl
 
 -- and it asks for no more servers than there are stores
-refused_few : (settings : Settings) (bytes : List ℕ) (o : Opening) (size : ℕ → ℕ → ℕ) (stores : ℕ) (why : LoadError) → IsRefusedBy size stores bytes why → Opens settings bytes o
+refused_few : (settings : Settings) (bytes : List ℕ) (o : Opening) (size : ℕ → ℕ → ℕ) (stores : ℕ) (why : LoadError) → IsRefusedBy size stores bytes why
+    → Opens settings bytes o
     → stores < o.settings.servers → ⊥
-refused_few settings bytes o size stores why refused opens few = not_few settings bytes stores refused.some refused.enough (few_of settings bytes o stores opens few)
+refused_few settings bytes o size stores why refused opens few = not_few settings bytes stores refused.some refused.enough
+    (few_of settings bytes o stores opens few)
 
 -- so it ends no run that was opened but for want of memory, or of a sink
-opened_refused : {S : Type 0} (kind : StoreKind S) (handed : List (List ℕ) → Type 0) (settings : Settings) (status : ℕ) (old new : Devices S) (opening : Opening) (started : Bool) (lines : List (List ℕ)) (why : LoadError)
+opened_refused : {S : Type 0} (kind : StoreKind S) (handed : List (List ℕ) → Type 0) (settings : Settings) (status : ℕ) (old new : Devices S)
+    (opening : Opening) (started : Bool) (lines : List (List ℕ)) (why : LoadError)
     → Opens settings opening.bytes opening → IsRefusedBy (size_in kind old.stock.shelf) (length old.stock.shelf) opening.bytes why
     → ((started ≡ true) ⊎ (status ≡ 4) → IsTakenOver (size_in kind old.stock.shelf) opening.bytes) → (started ≡ false → IsUnstarted handed status lines old new)
     → ((status ≡ 2) ↔ (length old.stock.shelf < opening.settings.servers)) → (status ≡ 4) ⊎ (status ≡ 7)
@@ -158,8 +172,11 @@ run_image kind handed settings status old new held held_is (inl unopened) = (
   λ e. elim unopened.why [
     | inl is ↦ absurd (omega (arith, e, is.0))
     | inr (inl is) ↦ absurd (omega (arith, e, is.0))
-    | inr (inr refused) ↦
-        (refused.why, subst (λ (b : List ℕ). IsRefusedBy (size_in kind old.stock.shelf) (length old.stock.shelf) b refused.why) (refused.given held held_is) refused.refused)
+    | inr (inr refused) ↦ (
+      refused.why,
+      subst (λ (b : List ℕ). IsRefusedBy (size_in kind old.stock.shelf) (length old.stock.shelf) b refused.why)
+          (refused.given held held_is) refused.refused,
+    )
   ],
   λ image not_4 not_7 not_8. elim unopened.why [
     | inl is ↦ absurd (not_7 is.0)
@@ -170,8 +187,10 @@ run_image kind handed settings status old new held held_is (inl unopened) = (
 run_image kind handed settings status old new held held_is (inr opened) = (
   λ e. absurd (not_6 status opened.served.statuses e),
   λ image not_4 not_7 not_8.
-      let refused = subst (λ (b : List ℕ). IsRefusedBy (size_in kind old.stock.shelf) (length old.stock.shelf) b image.0) (sym (opened.given held held_is)) image.1 in
-      elim (opened_refused kind handed settings status old new opened.opening opened.served.started opened.served.log.lines image.0 opened.opens refused opened.served.sound
+      let refused = subst (λ (b : List ℕ). IsRefusedBy (size_in kind old.stock.shelf) (length old.stock.shelf) b image.0)
+      (sym (opened.given held held_is)) image.1 in
+      elim (opened_refused kind handed settings status old new opened.opening opened.served.started opened.served.log.lines image.0 opened.opens refused
+      opened.served.sound
       opened.served.unstarted opened.served.few_stores) [ inl e ↦ absurd (not_4 e) | inr e ↦ absurd (not_7 e) ],
 )
   where
@@ -184,7 +203,8 @@ run_image kind handed settings status old new held held_is (inr opened) = (
     not_6 n (inr (inr (inr (inr (inl d))))) e = omega (arith, d, e)
     not_6 n (inr (inr (inr (inr (inr d))))) e = omega (arith, d, e)
 
-script_image : {S : Type 0} (kind : StoreKind S) (handed : List (List ℕ) → Type 0) (settings : Settings) (s : Script) (status : ℕ) (old new : Devices S) (held : List ℕ)
+script_image : {S : Type 0} (kind : StoreKind S) (handed : List (List ℕ) → Type 0) (settings : Settings) (s : Script) (status : ℕ) (old new : Devices S)
+    (held : List ℕ)
     → old.stock.keeper.held ≡ Some held → IsScriptRun kind handed settings s status (old, new)
     → (status ≡ 6 → IsRefusedImage (size_in kind old.stock.shelf) (length old.stock.shelf) held)
     × (IsRefusedImage (size_in kind old.stock.shelf) (length old.stock.shelf) held → status ≢ 4 → status ≢ 7 → status ≢ 8 → status ≡ 6)
@@ -193,7 +213,8 @@ script_image kind handed settings (script.Generated recipe) status old new held 
     run_image kind handed settings status (with_script recipe old) (with_text run.left run.faults run.text new) held held_is run.run
 
 -- status 6 comes exactly where an image is refused
-pub program_image : {S : Type 0} (kind : StoreKind S) (handed : List (List ℕ) → Type 0) (asked : Option Request) (status : ℕ) (old new : Devices S) (held : List ℕ)
+pub program_image : {S : Type 0} (kind : StoreKind S) (handed : List (List ℕ) → Type 0) (asked : Option Request) (status : ℕ) (old new : Devices S)
+    (held : List ℕ)
     → old.stock.keeper.held ≡ Some held → IsProgramRun kind handed asked status old new
     → (status ≡ 6) ↔ ((status ≢ 2) × (status ≢ 4) × (status ≢ 7) × (status ≢ 8) × IsRefusedImage (size_in kind old.stock.shelf) (length old.stock.shelf) held)
 program_image kind handed None status old new held held_is run = (

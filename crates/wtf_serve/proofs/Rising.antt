@@ -1,10 +1,12 @@
 -- Where a line answers a fault that only a store or a keeper that failed can have caused, the counts of faults rise.
-use Rattle.std.proofs.Common.{◌≡◌, ◌≢◌, ◌⊎◌, ℕ, zero, suc, ◌+◌, ◌<◌, ◌≤◌, Bool, true, false, not, ◌||◌, if◌then◌else◌, List, [], ◌∷◌, length, Ok, Err, refl, sym, ◌∙◌, ap, subst, arith, inl, inr}
-use Rattle.std.specs.Prelude.{nat_lt}
+use Rattle.std.proofs.Common.{◌≡◌, ◌≢◌, ◌⊎◌, ℕ, zero, suc, ◌+◌, ◌<◌, ◌≤◌, Bool, true, false, not, ◌||◌, if◌then◌else◌, List, [], ◌∷◌, length, Ok, Err, refl}
+use Rattle.std.proofs.Common.{sym, ◌∙◌, ap, subst, arith, inl, inr}
+use Rattle.std.specs.Prelude.{nat_lt, ⊤}
 use Rattle.std.specs.List.{All, Contains}
 use Rattle.std.proofs.lemmas.Bool.{cases_lt, eq-eqb, ne_eqb, le-ltb, le-leb, lt-leb}
 use Rattle.std.proofs.lemmas.List.Elements.{All-head, All-tail, All-weaker}
 use Rattle.wtf_base.specs.declared.settings.Settings.{Settings}
+use Rattle.wtf_base.specs.declared.slice.Slice.{Slice}
 use Rattle.wtf_dev.specs.Counts.{Rose}
 use Rattle.wtf_dev.specs.Keep.{KeeperView}
 use Rattle.wtf_dev.specs.Store.{StoreKind, KindLaws}
@@ -19,10 +21,10 @@ use Rattle.wtf_model.specs.declared.answer.Answer.{Answer}
 use Rattle.wtf_model.specs.declared.answer.Answer.TheVariants as answer
 use Rattle.wtf_model.specs.declared.event.Event.{Event}
 use Rattle.wtf_model.specs.declared.event.Event.TheVariants as event
-use Rattle.wtf_core.specs.Outcomes.{AscendFrom, last_of, IsLost, SaveFault, HasCause}
+use Rattle.wtf_core.specs.Outcomes.{Load, AscendFrom, last_of, IsLost, IsUnread, SaveFault, HasCause}
 use Rattle.wtf_model.specs.Lines.{Line, AlongBy, count_by}
 use Rattle.wtf_model.specs.Servers.{downs_below, downs, down_after, AlongDowns, is_device_fault, is_device_fault_of_run, count_along, IsAllUp}
-use Rattle.wtf_serve.specs.Answering.{line_data}
+use Rattle.wtf_serve.specs.Answering.{line_load}
 use Rattle.wtf_serve.specs.Engines.{Engine, Step, span_of, IsSaveFailure, IsCaused}
 use Rattle.wtf_serve.specs.Logs.{is_fault, fault_count}
 use Rattle.wtf_serve.specs.Stocks.{Stock, faults_in, AreCounting, IsSaveFault}
@@ -69,7 +71,12 @@ covered down zero rest cover = omega arith
 covered down (suc n) rest cover = elim (cover n (omega arith)) [
   | inl c ↦
       let (others, less, keep) = without rest n c in
-      omega (arith, less, covered down n others (λ k h. elim (cover k (omega (arith, h))) [ inl d ↦ inl (keep k (λ e. omega (arith, e, h)) d) | inr d ↦ inr d ]))
+      omega (
+        arith,
+        less,
+        covered down n others (λ k h. elim (cover k (omega (arith, h)))
+            [ inl d ↦ inl (keep k (λ e. omega (arith, e, h)) d) | inr d ↦ inr d ]),
+      )
   | inr d ↦ omega (arith, one-true (down n) d, covered down n rest (λ k h. cover k (omega (arith, h))))
 ]
 
@@ -148,7 +155,8 @@ module _ {S : Type 0} (kind : StoreKind S) (t : Span S) (none : (k : ℕ) → Ha
   last_down places k lost =
       subst (λ (j : ℕ). t.down j ≡ true) lost.last (last_is (λ j. t.down j ≡ true) places 0 lost.some (all_down places k lost))
 
-  no_read_of_run : (places : List Place) (k : ℕ) → length places ≡ settings.replicas → IsLost kind t settings places k → is_device_fault_of_run settings t.down (answer.FaultRead k) ≡ false
+  no_read_of_run : (places : List Place) (k : ℕ) → length places ≡ settings.replicas → IsLost kind t settings places k
+      → is_device_fault_of_run settings t.down (answer.FaultRead k) ≡ false
   no_read_of_run places k width lost =
       let many : settings.replicas ≤ downs settings t.down
       = omega (arith, width, ascending t.down settings.servers 0 places (omega arith) lost.ascend lost.known (all_down places k lost)) in
@@ -168,21 +176,20 @@ module _ {S : Type 0} (kind : StoreKind S) (t : Span S) (none : (k : ℕ) → Ha
       ne_eqb (downs settings t.down) 0 (λ e. omega (arith, e, one_more))
   no_save (inr rose) = absurd (steady rose)
 
-  no_fault : (saving bare full : Type 0) (given : List ℕ) (a : Answer) → (saving → IsSaveFault kind t settings.servers old new) → HasCause kind t settings
-      saving bare full given a
-      → is_device_fault settings t.down a ≡ false
-  no_fault saving bare full given (answer.FaultRead k) save cause = ap not (last_down cause.places k cause.lost)
-  no_fault saving bare full given answer.FaultWrite save cause = no_write cause.1
-  no_fault saving bare full given answer.FaultSave save cause = no_save (save cause)
-  no_fault saving bare full given a save cause = refl
+  module _ (saving : Type 0) (based : (Slice → Bool) → Type 0) (full : Type 0) (given : Load)
+      (save : saving → IsSaveFault kind t settings.servers old new) where
+    no_fault : (a : Answer) → HasCause kind t settings saving based full given a → is_device_fault settings t.down a ≡ false
+    no_fault (answer.FaultRead k) cause = ap not (last_down cause.places k cause.lost)
+    no_fault answer.FaultWrite cause = no_write cause.1
+    no_fault answer.FaultSave cause = no_save (save cause)
+    no_fault a cause = refl
 
-  no_fault_of_run : (saving bare full : Type 0) (given : List ℕ) (a : Answer) → (saving → IsSaveFault kind t settings.servers old new) → full → HasCause kind
-      t settings saving bare full given a
-      → is_device_fault_of_run settings t.down a ≡ false
-  no_fault_of_run saving bare full given (answer.FaultRead k) save is_full cause = no_read_of_run cause.places k (cause.width is_full) cause.lost
-  no_fault_of_run saving bare full given answer.FaultWrite save is_full cause = no_write cause.1
-  no_fault_of_run saving bare full given answer.FaultSave save is_full cause = no_save (save cause)
-  no_fault_of_run saving bare full given a save is_full cause = refl
+    no_fault_of_run : (a : Answer) → ((k : ℕ) → a ≡ answer.FaultRead k → IsUnread kind t settings ⊤ k)
+        → HasCause kind t settings saving based full given a → is_device_fault_of_run settings t.down a ≡ false
+    no_fault_of_run (answer.FaultRead k) read cause = let unread = read k refl in no_read_of_run unread.places k (unread.width tt) unread.lost
+    no_fault_of_run answer.FaultWrite read cause = no_write cause.1
+    no_fault_of_run answer.FaultSave read cause = no_save (save cause)
+    no_fault_of_run a read cause = refl
 
 -- One line
 
@@ -207,23 +214,30 @@ raises engine laws t e grew line a cause low fault = elim (rose_or_still laws t.
   | inr (none, steady) ↦
       let not_one : is_device_fault (engine.settings t.old) (engine.down t.old) a ≡ false
       = no_fault engine.kind (span_of engine t) none (engine.settings t.old) t.before.keeper t.after.keeper steady (IsSaveFailure engine t line)
-      (engine.bare t.old) (engine.full t.old) (line_data line) a
-      (save_fault engine t line) cause in
+      (engine.based t.old) (engine.full t.old) (line_load line) (save_fault engine t line) a cause in
       absurd (cc)
 ]
 
--- and so does one that only such a store can have caused where each slice has as many copies as there are replicas
-pub raises_of_run : {S State : Type 0} (engine : Engine S State) → KindLaws engine.kind → (t : Step S State) → EachFollows engine.kind t.before.shelf t.after.shelf []
-    → t.before.keeper.faults ≤ t.after.keeper.faults → (line : Line) (a : Answer) → engine.full t.old → IsCaused engine t line a
+-- where each byte that is named has as many copies as there are replicas, so had one that was not read
+pub full_unread : {S State : Type 0} (engine : Engine S State) (t : Step S State) (line : Line) (a : Answer) → engine.full t.old
+    → IsCaused engine t line a → (k : ℕ) → a ≡ answer.FaultRead k → IsUnread engine.kind (span_of engine t) (engine.settings t.old) ⊤ k
+full_unread engine t line a full cause k is =
+    let here = subst (λ (x : Answer). IsCaused engine t line x) is cause in
+    record { places = here.places; lost = here.lost; width = λ _. here.width full }
+
+-- and so does one that only such a store can have caused where a byte that was not read had as many copies as there are replicas
+pub raises_of_run : {S State : Type 0} (engine : Engine S State) → KindLaws engine.kind → (t : Step S State)
+    → EachFollows engine.kind t.before.shelf t.after.shelf []
+    → t.before.keeper.faults ≤ t.after.keeper.faults → (line : Line) (a : Answer)
+    → ((k : ℕ) → a ≡ answer.FaultRead k → IsUnread engine.kind (span_of engine t) (engine.settings t.old) ⊤ k) → IsCaused engine t line a
     → AreCounting engine.kind t.after
     → is_device_fault_of_run (engine.settings t.old) (engine.down t.old) a ≡ true → faults_in engine.kind t.before + 1 ≤ faults_in engine.kind t.after
-raises_of_run engine laws t e grew line a full cause low fault = elim (rose_or_still laws t.before t.after e grew low) [
+raises_of_run engine laws t e grew line a read cause low fault = elim (rose_or_still laws t.before t.after e grew low) [
   | inl more ↦ more
   | inr (none, steady) ↦
       let not_one : is_device_fault_of_run (engine.settings t.old) (engine.down t.old) a ≡ false
       = no_fault_of_run engine.kind (span_of engine t) none (engine.settings t.old) t.before.keeper t.after.keeper steady (IsSaveFailure engine t line)
-      (engine.bare t.old) (engine.full t.old) (line_data line) a
-      (save_fault engine t line) full cause in
+      (engine.based t.old) (engine.full t.old) (line_load line) (save_fault engine t line) a read cause in
       absurd (cc)
 ]
 

@@ -1,5 +1,6 @@
 -- What was read of a script so far, where the source tells it.
-use Rattle.std.proofs.Common.{◌≡◌, ◌≢◌, ◌<◌, ◌≤◌, ◌+◌, ℕ, Bool, true, false, List, [], ◌∷◌, ◌++◌, length, Option, Some, refl, sym, ◌∙◌, ap, subst, arith, append_assoc, inl, inr, length-append}
+use Rattle.std.proofs.Common.{◌≡◌, ◌≢◌, ◌<◌, ◌≤◌, ◌+◌, ℕ, Bool, true, false, List, [], ◌∷◌, ◌++◌, length, Option, Some, refl, sym, ◌∙◌, ap, subst, arith}
+use Rattle.std.proofs.Common.{append_assoc, inl, inr, length-append}
 use Rattle.std.specs.List.{All}
 use Rattle.std.specs.Bool.{MatchBool}
 use Rattle.std.proofs.lemmas.Bool.{le-ltb}
@@ -27,12 +28,14 @@ pub told_none : (script : List ℕ) (left : Option (List ℕ)) → left ≡ Some
 told_none script left is = record { rest = script; left_is = is; going = λ e. (refl, All-nil HasNoFeed); over = λ e. cc; most = omega arith }
 
 -- the first lines of the script
-front_at : (script : List ℕ) (left : Option (List ℕ)) (held : Held) (lines : List (List ℕ)) (b : Bool) → held.ended ≡ b → Told script left held lines → (more : List (List ℕ)) × (lines_of script ≡ lines ++ more)
+front_at : (script : List ℕ) (left : Option (List ℕ)) (held : Held) (lines : List (List ℕ)) (b : Bool) → held.ended ≡ b → Told script left held lines
+    → (more : List (List ℕ)) × (lines_of script ≡ lines ++ more)
 front_at script left held lines true is told = ([], (told.over is).0 ∙ sym (append-nil lines))
 front_at script left held lines false is told =
     (lines_of (held.bytes ++ told.rest), ap lines_of (told.going is).0 ∙ lines_of-fed lines (held.bytes ++ told.rest) (told.going is).1)
 
-pub told_front : (script : List ℕ) (left : Option (List ℕ)) (held : Held) (lines : List (List ℕ)) → Told script left held lines → (more : List (List ℕ)) × (lines_of script ≡ lines ++ more)
+pub told_front : (script : List ℕ) (left : Option (List ℕ)) (held : Held) (lines : List (List ℕ)) → Told script left held lines → (more : List (List ℕ))
+    × (lines_of script ≡ lines ++ more)
 told_front script left held lines told = front_at script left held lines held.ended refl told
 
 -- a further line came
@@ -62,18 +65,28 @@ more_at script left left' held held' lines line false is told (next, next_is, fi
         left_is = next_is;
         going = λ _. (
           was.0 ∙ ap (λ (x : List ℕ). fed lines ++ x) (e.0 ∙ sym (append_assoc line (10 ∷ []) (held'.bytes ++ next)))
-              ∙ sym (append_assoc (fed lines) (line ++ 10 ∷ []) (held'.bytes ++ next)) ∙ ap (λ (x : List ℕ). x ++ (held'.bytes ++ next)) (sym (append_assoc (fed lines) line (10 ∷ [])) ∙ sym (fed-push lines line)),
+              ∙ sym (append_assoc (fed lines) (line ++ 10 ∷ []) (held'.bytes ++ next))
+              ∙ ap (λ (x : List ℕ). x ++ (held'.bytes ++ next)) (sym (append_assoc (fed lines) line (10 ∷ [])) ∙ sym (fed-push lines line)),
           All-append HasNoFeed lines (line ∷ []) was.1 (All-cons HasNoFeed line [] first.plain (All-nil HasNoFeed)),
         );
         over = λ o. absurd (cc);
-        most = omega (arith, ap length was.0, ap length e.0, length-append (fed lines) (held.bytes ++ told.rest), length-append line (10 ∷ (held'.bytes ++ next)), fed_more lines line);
+        most = omega (
+          arith,
+          ap length was.0,
+          ap length e.0,
+          length-append (fed lines) (held.bytes ++ told.rest),
+          length-append line
+              (10 ∷ (held'.bytes ++ next)),
+          fed_more lines line,
+        );
       }
       | inr e ↦ record {
         rest = next;
         left_is = next_is;
         going = λ o. absurd (cc);
         over = λ _. (
-          ap lines_of (was.0 ∙ ap (λ (x : List ℕ). fed lines ++ x) e.0) ∙ lines_of-fed lines line was.1 ∙ ap (λ (x : List (List ℕ)). lines ++ x) (lines_of-plain line first.plain e.1),
+          ap lines_of (was.0 ∙ ap (λ (x : List ℕ). fed lines ++ x) e.0) ∙ lines_of-fed lines line was.1
+              ∙ ap (λ (x : List (List ℕ)). lines ++ x) (lines_of-plain line first.plain e.1),
           e.2,
         );
         most = omega (arith, ap length was.0, ap length e.0, length-append (fed lines) (held.bytes ++ told.rest), fed_more lines line);
@@ -92,10 +105,12 @@ nil_right (x ∷ xs) ys e = cc
 end_at : (script : List ℕ) (left left' : Option (List ℕ)) (held held' : Held) (lines : List (List ℕ)) (b : Bool) → held.ended ≡ b
     → (told : Told script left held lines) → ReadsEnd held told.rest held' left' → (lines ≡ lines_of script) × (left' ≡ Some [])
 end_at script left left' held held' lines true is told (ended, bytes, last) =
-    let same : left' ≡ Some told.rest = subst (λ (b : Bool). MatchBool b (left' ≡ Some told.rest) ((held.bytes ++ told.rest ≡ []) × (left' ≡ Some []))) is last in
+    let same : left' ≡ Some told.rest = subst (λ (b : Bool). MatchBool b (left' ≡ Some told.rest)
+    ((held.bytes ++ told.rest ≡ []) × (left' ≡ Some []))) is last in
     (sym (told.over is).0, same ∙ ap (λ (x : List ℕ). Some x) (nil_right held.bytes told.rest (told.over is).1))
 end_at script left left' held held' lines false is told (ended, bytes, last) =
-    let none : (held.bytes ++ told.rest ≡ []) × (left' ≡ Some []) = subst (λ (b : Bool). MatchBool b (left' ≡ Some told.rest) ((held.bytes ++ told.rest ≡ []) × (left' ≡ Some []))) is last in
+    let none : (held.bytes ++ told.rest ≡ []) × (left' ≡ Some []) = subst
+    (λ (b : Bool). MatchBool b (left' ≡ Some told.rest) ((held.bytes ++ told.rest ≡ []) × (left' ≡ Some []))) is last in
     let was = told.going is in
     (sym (ap lines_of (was.0 ∙ ap (λ (x : List ℕ). fed lines ++ x) none.0) ∙ lines_of-fed lines [] was.1 ∙ append-nil lines), none.1)
 
@@ -114,9 +129,11 @@ goes_on true h = absurd (h refl)
 goes_on false h = refl
 
 -- the bytes that came, up to those of a line that has not ended
-came_of : (script : List ℕ) (lines : List (List ℕ)) (bytes rest came tail : List ℕ) → script ≡ fed lines ++ (bytes ++ rest) → rest ≡ came ++ tail → script ≡ (fed lines ++ (bytes ++ came)) ++ tail
+came_of : (script : List ℕ) (lines : List (List ℕ)) (bytes rest came tail : List ℕ) → script ≡ fed lines ++ (bytes ++ rest) → rest ≡ came ++ tail
+    → script ≡ (fed lines ++ (bytes ++ came)) ++ tail
 came_of script lines bytes rest came tail is rest_is =
-    is ∙ ap (λ (x : List ℕ). fed lines ++ (bytes ++ x)) rest_is ∙ ap (λ (x : List ℕ). fed lines ++ x) (sym (append_assoc bytes came tail)) ∙ sym (append_assoc (fed lines) (bytes ++ came) tail)
+    is ∙ ap (λ (x : List ℕ). fed lines ++ (bytes ++ x)) rest_is ∙ ap (λ (x : List ℕ). fed lines ++ x) (sym (append_assoc bytes came tail))
+    ∙ sym (append_assoc (fed lines) (bytes ++ came) tail)
 
 ended_came : (lines : List (List ℕ)) (bytes : List ℕ) → All HasNoFeed lines → HasNoFeed bytes → lines ≡ ended_of (fed lines ++ bytes)
 ended_came lines bytes plain tail = sym (ended_of-fed lines bytes plain ∙ ap (λ (x : List (List ℕ)). lines ++ x) (ended_of-plain bytes tail) ∙ append-nil lines)
@@ -130,7 +147,14 @@ told_fault script left left' held held' lines unended told reads =
     record {
       front = told_front script left held lines told;
       whole = λ e. absurd (omega (arith, e));
-      fault = λ _. (fed lines ++ (held.bytes ++ came), tail, came_of script lines held.bytes told.rest came tail was.0 rest_is, left_is, ended_came lines (held.bytes ++ came) was.1 plain);
+      fault = λ _. (
+        fed lines ++ (held.bytes ++ came),
+        tail,
+        came_of script lines held.bytes told.rest came tail was.0 rest_is,
+        left_is,
+        ended_came lines
+            (held.bytes ++ came) was.1 plain,
+      );
       unwritten = λ e. absurd (omega (arith, e));
       too_much = λ e. absurd (omega (arith, e));
     }
@@ -142,12 +166,15 @@ shorter script came tail b n is counted = omega (arith, counted, ap length is �
 reads_more : (held : Held) (rest : List ℕ) (left : Option (List ℕ)) → held.count ≤ SCRIPT_BYTES → ReadsTooMuch held rest left
     → (came : List ℕ) × (b : ℕ) × (then : List ℕ) × (rest ≡ came ++ b ∷ then) × (left ≡ Some then) × HasNoFeed (held.bytes ++ came)
 reads_more held rest left few reads =
-    subst (λ (b : Bool). MatchBool b (left ≡ Some rest) ((came : List ℕ) × (b : ℕ) × (then : List ℕ) × (rest ≡ came ++ b ∷ then) × (left ≡ Some then) × HasNoFeed (held.bytes ++ came)))
+    subst (λ (b : Bool). MatchBool b (left ≡ Some rest) ((came : List ℕ) × (b : ℕ) × (then : List ℕ) × (rest ≡ came ++ b ∷ then) × (left ≡ Some then)
+    × HasNoFeed (held.bytes ++ came)))
     (le-ltb SCRIPT_BYTES held.count few) reads
 
 -- too many bytes came
-pub told_much : (script : List ℕ) (left left' : Option (List ℕ)) (held held' : Held) (lines : List (List ℕ)) → held.ended ≢ true → held.count ≤ SCRIPT_BYTES → Told script left held lines
-    → ((rest : List ℕ) → left ≡ Some rest → ReadsTooMuch held rest left') → ((now : List ℕ) → left' ≡ Some now → length script ≡ length now + (SCRIPT_BYTES + 1)) → HasRead script left' 9 lines
+pub told_much : (script : List ℕ) (left left' : Option (List ℕ)) (held held' : Held) (lines : List (List ℕ)) → held.ended ≢ true → held.count ≤ SCRIPT_BYTES
+    → Told script left held lines
+    → ((rest : List ℕ) → left ≡ Some rest → ReadsTooMuch held rest left')
+    → ((now : List ℕ) → left' ≡ Some now → length script ≡ length now + (SCRIPT_BYTES + 1)) → HasRead script left' 9 lines
 told_much script left left' held held' lines unended few told reads counted =
     let (came, b, tail, rest_is, left_is, plain) = reads_more held told.rest left' few (reads told.rest told.left_is) in
     let was = told.going (goes_on held.ended unended) in
@@ -169,7 +196,8 @@ told_much script left left' held held' lines unended few told reads counted =
     }
 
 -- no more came than these lines, and what the reader holds
-no_more_at : (script : List ℕ) (left : Option (List ℕ)) (held : Held) (lines : List (List ℕ)) (b : Bool) → held.ended ≡ b → length held.bytes ≤ CHUNK_BYTES → Told script left held lines → CameNoMore script left lines
+no_more_at : (script : List ℕ) (left : Option (List ℕ)) (held : Held) (lines : List (List ℕ)) (b : Bool) → held.ended ≡ b → length held.bytes ≤ CHUNK_BYTES
+    → Told script left held lines → CameNoMore script left lines
 no_more_at script left held lines true is few told =
     let none : held.bytes ++ told.rest ≡ [] = (told.over is).1 in
     let rest : told.rest ≡ [] = nil_right held.bytes told.rest none in
@@ -183,12 +211,14 @@ no_more_at script left held lines false is few told = (
 )
 
 -- the run ends after these lines for another reason
-pub told_other : (script : List ℕ) (left left' : Option (List ℕ)) (held : Held) (lines : List (List ℕ)) (status : ℕ) → (IsWholeStatus status → ⊥) → status ≢ 3 → status ≢ 9
+pub told_other : (script : List ℕ) (left left' : Option (List ℕ)) (held : Held) (lines : List (List ℕ)) (status : ℕ) → (IsWholeStatus status → ⊥) → status ≢ 3
+    → status ≢ 9
     → (status ≡ 4 → (left' ≡ left) × (length held.bytes ≤ CHUNK_BYTES)) → Told script left held lines → HasRead script left' status lines
 told_other script left left' held lines status not_0 not_3 not_9 few told = record {
   front = told_front script left held lines told;
   whole = λ e. absurd (not_0 e);
   fault = λ e. absurd (not_3 e);
-  unwritten = λ e. let (same, least) = few e in subst (λ (x : Option (List ℕ)). CameNoMore script x lines) (sym same) (no_more_at script left held lines held.ended refl least told);
+  unwritten = λ e. let (same, least) = few e in subst (λ (x : Option (List ℕ)). CameNoMore script x lines) (sym same)
+      (no_more_at script left held lines held.ended refl least told);
   too_much = λ e. absurd (not_9 e);
 }

@@ -55,7 +55,8 @@ room_of asked [] o is = (omega (arith, ap (λ (x : Opening). x.number) is), omeg
 room_of asked (b ∷ bytes) o is = (omega (arith, is.number, is.good.installs), omega (arith, is.next_tx, is.good.next_tx))
 
 -- what opens a run is no byte, or an image that is taken, with the opening's settings and numbers
-begins_of : (size : ℕ → ℕ → ℕ) (asked : Settings) (bytes : List ℕ) (o : Opening) → Opens asked bytes o → IsTakenOver size bytes → IsTakenFor size o.settings o.number o.next_tx bytes
+begins_of : (size : ℕ → ℕ → ℕ) (asked : Settings) (bytes : List ℕ) (o : Opening) → Opens asked bytes o → IsTakenOver size bytes
+    → IsTakenFor size o.settings o.number o.next_tx bytes
 begins_of size asked [] o is taken = inl refl
 begins_of size asked (b ∷ bytes) o is (rows, taken) = inr (record {
   rows = is.rows;
@@ -72,7 +73,8 @@ line_of_first engine o state settings number =
     ap (λ (x : Settings). settings_line x (engine.number state)) settings ∙ ap (λ (n : ℕ). settings_line o.settings n) number
 
 -- A run that was opened, at its first line: the text of it went to a sink that was as it had been before.
-module _ {S State : Type 0} (engine : Engine S State) (laws : KindLaws engine.kind) (handed : List (List ℕ) → Type 0) (asked : Settings) (start : Devices S) (keeper' : KeeperView)
+module _ {S State : Type 0} (engine : Engine S State) (laws : KindLaws engine.kind) (handed : List (List ℕ) → Type 0) (asked : Settings) (start : Devices S)
+    (keeper' : KeeperView)
     (state : State) (sink' : SinkView) (text : List ℕ) (o : IsOpenedFrom engine asked start.stock.keeper start.stock.shelf state)
     (kept : IsKept handed start.stock.keeper keeper') (keeper : KeeperGoesOn start.stock.keeper keeper')
     (text_is : text ≡ settings_line (engine.settings state) (engine.number state)) (faults : start.sink.faults ≤ sink'.faults) where
@@ -80,9 +82,11 @@ module _ {S State : Type 0} (engine : Engine S State) (laws : KindLaws engine.ki
   first_is = text_is ∙ line_of_first engine o.opening state o.ready.settings o.ready.number
 
   pub underway_first : ((old : List ℕ) → start.sink.taken ≡ Some old → sink'.taken ≡ Some (old ++ text))
-      → Underway engine asked start (hand (input start.source (record { bytes = []; count = 0; ended = false })) sink' (stock start.stock.shelf keeper') state) false
+      → Underway engine asked start (hand (input start.source (record { bytes = []; count = 0; ended = false })) sink'
+      (stock start.stock.shelf keeper') state) false
   underway_first wrote =
-      underway engine asked o.opening start (hand (input start.source (record { bytes = []; count = 0; ended = false })) sink' (stock start.stock.shelf keeper') state) false o.opens o.given
+      underway engine asked o.opening start (hand (input start.source (record { bytes = []; count = 0; ended = false })) sink'
+      (stock start.stock.shelf keeper') state) false o.opens o.given
       (going_none engine laws o.opening start sink' keeper' state o.ready (room_of asked o.opening.bytes o.opening o.opens)
       (begins_of (size_in engine.kind start.stock.shelf) asked o.opening.bytes o.opening o.opens o.ready.taken) keeper kept.held
       (λ old e. wrote old e ∙ ap (λ (x : List ℕ). Some (old ++ x)) first_is) faults)
@@ -114,15 +118,18 @@ close_not_few engine t bad status (inr (inl (is, done))) e = omega (arith, is, e
 close_not_few engine t bad status (inr (inr (is, same))) e = omega (arith, is, e)
 
 -- how it goes on and ends
-module _ {S State : Type 0} (engine : Engine S State) (laws : KindLaws engine.kind) (handed : List (List ℕ) → Type 0) (asked : Settings) (start : Devices S) (now next : Hand S State)
+module _ {S State : Type 0} (engine : Engine S State) (laws : KindLaws engine.kind) (handed : List (List ℕ) → Type 0) (asked : Settings) (start : Devices S)
+    (now next : Hand S State)
     (bad : Bool) (u : Underway engine asked start now bad) where
   opened : (status : ℕ) (new : Devices S) → Served engine.kind handed u.opening status start new → IsRun engine.kind handed asked status start new
   opened status new served = inr (record { opening = u.opening; opens = u.opens; given = u.given; served = served })
 
   pub underway_on : (more : Bool) → PassIs engine now next (Ok (Some more)) → Underway engine asked start next (bad || more)
-  underway_on more pass = underway engine asked u.opening start next (bad || more) u.opens u.given (going_on engine laws u.opening start now next bad u.going more pass)
+  underway_on more pass = underway engine asked u.opening start next (bad || more) u.opens u.given
+      (going_on engine laws u.opening start now next bad u.going more pass)
 
-  pub underway_end : (status : ℕ) (final : Stock S) (state' : State) → PassIs engine now next (Ok None) → EachFollows engine.kind next.stock.shelf final.shelf []
+  pub underway_end : (status : ℕ) (final : Stock S) (state' : State) → PassIs engine now next (Ok None)
+      → EachFollows engine.kind next.stock.shelf final.shelf []
       → KeeperGoesOn next.stock.keeper final.keeper → Closes engine (step next.stock final next.state state') bad status
       → IsRun engine.kind handed asked status start (record { source = next.input.source; sink = next.sink; stock = final })
   underway_end status final state' pass follows keeper closes =
@@ -131,4 +138,5 @@ module _ {S State : Type 0} (engine : Engine S State) (laws : KindLaws engine.ki
 
   pub underway_stop : (why : Stop) → PassIs engine now next (Err why)
       → IsRun engine.kind handed asked (stop_status why) start (record { source = next.input.source; sink = next.sink; stock = next.stock })
-  underway_stop why pass = opened (stop_status why) (record { source = next.input.source; sink = next.sink; stock = next.stock }) (finish_stop engine laws handed u.opening start now next bad u.going why pass)
+  underway_stop why pass = opened (stop_status why) (record { source = next.input.source; sink = next.sink; stock = next.stock })
+      (finish_stop engine laws handed u.opening start now next bad u.going why pass)

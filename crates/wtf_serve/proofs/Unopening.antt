@@ -34,8 +34,11 @@ module _ {S : Type 0} (kind : StoreKind S) (laws : KindLaws kind) (handed : List
           served = refused kind laws handed few.opening (devices source out shelf k) k' kept keeper few.few;
         })))
     not_opened (Image error.Memory) status out' cause (is_7, same) = for_reason status out' (inl (is_7, same))
-    not_opened (Image error.NotAnImage) status out' cause told = for_reason status out' (inr (inr (record { bytes = bytes; given = given; why = error.NotAnImage; refused = cause; told = told })))
-    not_opened (Image error.BadSettings) status out' cause told = for_reason status out' (inr (inr (record { bytes = bytes; given = given; why = error.BadSettings; refused = cause; told = told })))
-    not_opened (Image error.BadTree) status out' cause told = for_reason status out' (inr (inr (record { bytes = bytes; given = given; why = error.BadTree; refused = cause; told = told })))
+    not_opened (Image error.NotAnImage) status out' cause told = for_reason status out'
+        (inr (inr (record { bytes = bytes; given = given; why = error.NotAnImage; refused = cause; told = told })))
+    not_opened (Image error.BadSettings) status out' cause told = for_reason status out'
+        (inr (inr (record { bytes = bytes; given = given; why = error.BadSettings; refused = cause; told = told })))
+    not_opened (Image error.BadTree) status out' cause told = for_reason status out'
+        (inr (inr (record { bytes = bytes; given = given; why = error.BadTree; refused = cause; told = told })))
     not_opened (Image error.PointerOutside) status out' cause told =
         for_reason status out' (inr (inr (record { bytes = bytes; given = given; why = error.PointerOutside; refused = cause; told = told })))

@@ -17,15 +17,22 @@ use Rattle.wtf_serve.proofs.Finishing.{never, enough}
 use Rattle.wtf_serve.proofs.RanLaws.{ran_none}
 use Rattle.wtf_serve.proofs.Telling.{some_same, told_none, told_other}
 
-module _ {S : Type 0} (kind : StoreKind S) (laws : KindLaws kind) (handed : List (List ℕ) → Type 0) (opening : Opening) (start : Devices S) (keeper' : KeeperView)
+module _ {S : Type 0} (kind : StoreKind S) (laws : KindLaws kind) (handed : List (List ℕ) → Type 0) (opening : Opening) (start : Devices S)
+    (keeper' : KeeperView)
     (kept : IsKept handed start.stock.keeper keeper') (keeper : KeeperGoesOn start.stock.keeper keeper') where
-  unstarted_as : (status : ℕ) (sink' : SinkView) → (status ≡ 2) ⊎ (status ≡ 4) ⊎ (status ≡ 7) → (status ≡ 2) ↔ (length start.stock.shelf < opening.settings.servers)
+  unstarted_as : (status : ℕ) (sink' : SinkView) → (status ≡ 2) ⊎ (status ≡ 4) ⊎ (status ≡ 7)
+      → (status ≡ 2) ↔ (length start.stock.shelf < opening.settings.servers)
       → (status ≡ 4 → IsTakenOver (size_in kind start.stock.shelf) opening.bytes)
       → (status ≡ 4 → (old : List ℕ) → start.sink.taken ≡ Some old → WroteFront old (first_line opening) sink'.taken)
       → (status ≢ 4 → sink' ≡ start.sink) → (status ≡ 4 → Rose start.sink.faults sink'.faults) → start.sink.faults ≤ sink'.faults
       → Served kind handed opening status start (record { source = start.source; sink = sink'; stock = stock start.stock.shelf keeper' })
   unstarted_as status sink' which few_stores taken cut unwritten cause faults =
-      let statuses : IsServedStatus status = elim which [ inl e ↦ inr (inl e) | inr (inl e) ↦ inr (inr (inr (inl e))) | inr (inr e) ↦ inr (inr (inr (inr (inl e)))) ] in
+      let statuses : IsServedStatus status = elim which [
+        | inl e ↦ inr (inl e)
+        | inr (inl e) ↦ inr (inr (inr (inl e)))
+        | inr (inr e) ↦ inr
+            (inr (inr (inr (inl e))))
+      ] in
       let end : Stock S = stock start.stock.shelf keeper' in
       let same : KeeperGoesOn keeper' keeper' = record { faults = omega arith; tells = refl } in
       let ran = ran_none kind laws opening start.stock end refl keeper.faults in
@@ -41,7 +48,8 @@ module _ {S : Type 0} (kind : StoreKind S) (laws : KindLaws kind) (handed : List
         unstarted = λ _. record { status_is = which; none = refl; source_is = refl; shelf_is = refl; kept = kept; sink_is = unwritten };
         sound = λ is. elim is [ inl started ↦ absurd (cc) | inr four ↦ taken four ];
         read = λ script e. told_other script start.source.rest start.source.rest (record { bytes = []; count = 0; ended = false }) [] status
-            (λ d. omega (arith, d, which)) (λ d. omega (arith, d, which)) (λ d. omega (arith, d, which)) (λ _. (refl, omega arith)) (told_none script start.source.rest e);
+            (λ d. omega (arith, d, which)) (λ d. omega (arith, d, which)) (λ d. omega (arith, d, which)) (λ _. (refl, omega arith))
+            (told_none script start.source.rest e);
         wrote = λ old e. record {
           whole = λ is. absurd (cc);
           cut = λ is. absurd (cc);
@@ -61,9 +69,11 @@ module _ {S : Type 0} (kind : StoreKind S) (laws : KindLaws kind) (handed : List
         source_faults = omega arith;
         sink_faults = faults;
         faults = closing_rose laws opening.settings status (last_downs (record { lines = []; answers = [] })) start.stock end end
-            (count_along (is_device_fault opening.settings) none_down [] []) (each_same laws start.stock.shelf) same (λ d. absurd (omega (arith, d, which))) ran.faults;
-        faults_of_run = λ empty. closing_rose laws opening.settings status (last_downs (record { lines = []; answers = [] })) start.stock end end
-            (count_along (is_device_fault_of_run opening.settings) none_down [] []) (each_same laws start.stock.shelf) same (λ d. absurd (omega (arith, d, which))) (ran.faults_of_run empty);
+            (count_along (is_device_fault opening.settings) none_down [] []) (each_same laws start.stock.shelf) same
+            (λ d. absurd (omega (arith, d, which))) ran.faults;
+        faults_of_run = λ by empty. closing_rose laws opening.settings status (last_downs (record { lines = []; answers = [] })) start.stock end end
+            (count_along (is_device_fault_of_run opening.settings) none_down [] []) (each_same laws start.stock.shelf) same
+            (λ d. absurd (omega (arith, d, which))) (ran.faults_of_run by empty);
         follows_on = each_same laws start.stock.shelf;
         complete = λ many still up end. (
           refl,
@@ -83,7 +93,8 @@ module _ {S : Type 0} (kind : StoreKind S) (laws : KindLaws kind) (handed : List
 
   -- as the sink failed
   pub unwritten : (sink' : SinkView) → opening.settings.servers ≤ length start.stock.shelf → IsTakenOver (size_in kind start.stock.shelf) opening.bytes
-      → ((old : List ℕ) → start.sink.taken ≡ Some old → WroteFront old (first_line opening) sink'.taken) → Rose start.sink.faults sink'.faults → start.sink.faults ≤ sink'.faults
+      → ((old : List ℕ) → start.sink.taken ≡ Some old → WroteFront old (first_line opening) sink'.taken) → Rose start.sink.faults sink'.faults
+      → start.sink.faults ≤ sink'.faults
       → Served kind handed opening 4 start (record { source = start.source; sink = sink'; stock = stock start.stock.shelf keeper' })
   unwritten sink' many taken cut cause faults =
       unstarted_as 4 sink' (inr (inl refl)) (enough 4 (length start.stock.shelf) opening.settings.servers (λ e. omega (arith, e)) many)

@@ -4,6 +4,7 @@ use Rattle.wtf_base.specs.declared.settings.Settings.{Settings}
 use Rattle.wtf_dev.specs.Keep.{KeeperView}
 use Rattle.wtf_dev.specs.Store.{StoreKind}
 use Rattle.wtf_dev.specs.Streams.{SinkView}
+use Rattle.wtf_dev.specs.Sums.{TellsAll}
 use Rattle.wtf_replica.specs.Bytes.{byte_at}
 use Rattle.wtf_model.specs.declared.answer.Answer.TheVariants as answer
 use Rattle.wtf_model.specs.declared.event.Event.TheVariants as event
@@ -13,7 +14,7 @@ use Rattle.wtf_image.specs.declared.error.LoadError.TheVariants as error
 use Rattle.wtf_image.specs.Rules.{size_in}
 use Rattle.wtf_serve.specs.declared.opening.NotOpened.{NotOpened}
 use Rattle.wtf_serve.specs.declared.opening.NotOpened.TheVariants.{Few, Image}
-use Rattle.wtf_serve.specs.Engines.{Engine, IsAsGiven, Step, IsAnswer}
+use Rattle.wtf_serve.specs.Engines.{Engine, IsAsGiven, IsAsTold, Step, IsAnswer}
 use Rattle.wtf_serve.specs.Openings.{Opening, Opens, IsTakenOver, StartsFrom, first}
 use Rattle.wtf_serve.specs.Scripts.{end_status}
 use Rattle.wtf_serve.specs.Unopened.{IsRefusedBy, Refuses}
@@ -27,7 +28,8 @@ pub record IsReady {S State : Type 0} (engine : Engine S State) (opening : Openi
   pub number : engine.number state ≡ opening.number
   pub next_tx : engine.next_tx state ≡ opening.next_tx
   pub up : engine.down state ≡ none_down
-  pub given : IsAsGiven engine opening.bytes state
+  pub given : IsAsGiven engine opening.bytes ⊤ state
+  pub told : TellsAll engine.kind shelf → IsAsTold engine opening shelf shelf state
   pub stands : (t : Tree) → StartsFrom (byte_at engine.kind shelf) opening.bytes t → engine.stands shelf state (first opening t)
   pub enough : opening.settings.servers ≤ length shelf
   pub taken : IsTakenOver (size_in engine.kind shelf) opening.bytes

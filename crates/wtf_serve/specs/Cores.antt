@@ -6,7 +6,8 @@ use Rattle.wtf_replica.specs.Downs.{is_down}
 use Rattle.wtf_core.specs.Views.{CoreView}
 use Rattle.wtf_core.specs.Tables.{AreSound}
 use Rattle.wtf_core.specs.Standing.{StandsFor}
-use Rattle.wtf_core.specs.Named.{IsInside, IsBare, IsFull}
+use Rattle.wtf_core.specs.Named.{IsInside, IsBased, IsFull}
+use Rattle.wtf_core.specs.Telling.{TellsCore, IsWide, IsWithin}
 use Rattle.wtf_serve.specs.Engines.{Engine}
 
 -- a core between two lines: it is open, its tables are sound, its servers are there, and all bytes that it names lie
@@ -26,6 +27,9 @@ engine kind = record {
   next_tx = λ core. core.tables.next_tx;
   sound = IsSoundCore kind;
   stands = λ shelf core m. StandsFor (byte_at kind shelf) core m;
-  bare = IsBare;
+  based = IsBased;
   full = IsFull;
+  tells = TellsCore kind;
+  wide = IsWide kind;
+  within = IsWithin kind;
 }

@@ -1,5 +1,6 @@
 -- What a run promises that was opened: of its lines, of how it ends, and of what it leaves on the keeper.
-use Rattle.std.specs.Prelude.{◌≡◌, ◌≢◌, ◌↔◌, ◌⊎◌, ◌<◌, ◌≤◌, ◌+◌, ◌-◌, ◌^◌, ◌==◌, ◌&&◌, ℕ, Bool, true, false, min, if◌then◌else◌, List, [], ◌∷◌, ◌++◌, length, Option, Some}
+use Rattle.std.specs.Prelude.{◌≡◌, ◌≢◌, ◌↔◌, ◌⊎◌, ◌<◌, ◌≤◌, ◌+◌, ◌-◌, ◌^◌, ◌==◌, ◌&&◌, ℕ, Bool, true, false, min, if◌then◌else◌, List, [], ◌∷◌, ◌++◌, length}
+use Rattle.std.specs.Prelude.{Option, Some}
 use Rattle.wtf_base.specs.declared.settings.Settings.{Settings}
 use Rattle.wtf_dev.specs.Counts.{Rose}
 use Rattle.wtf_dev.specs.Store.{StoreKind}
@@ -15,7 +16,7 @@ use Rattle.wtf_model.specs.declared.answer.Answer.TheVariants as answer
 use Rattle.wtf_model.specs.Tree.{Tree}
 use Rattle.wtf_model.specs.Machines.{Machine}
 use Rattle.wtf_model.specs.Steps.{Accepts}
-use Rattle.wtf_model.specs.Lines.{MayLineCaused, Along, after_line, events_of, answers_to}
+use Rattle.wtf_model.specs.Lines.{MayLine, Along, after_line, events_of, answers_to}
 use Rattle.wtf_model.specs.Servers.{none_down, AlongDowns, is_device_fault, is_device_fault_of_run, count_along, IsAllUp}
 use Rattle.wtf_meta.specs.Contents.{Told}
 use Rattle.wtf_image.specs.Rules.{size_in}
@@ -26,7 +27,7 @@ use Rattle.wtf_serve.specs.declared.service.Stop.{Stop}
 use Rattle.wtf_serve.specs.declared.service.Stop.TheVariants as stop
 use Rattle.wtf_serve.specs.Scripts.{line_of, has_bad, IsEndStatus, IsWholeStatus, end_status}
 use Rattle.wtf_serve.specs.Openings.{Opening, IsTakenOver, StartsFrom, first}
-use Rattle.wtf_serve.specs.Logs.{Log, asked, last, last_downs, output, fault_count}
+use Rattle.wtf_serve.specs.Logs.{Log, asked, last, last_downs, output, fault_count, IsUnspilledLog}
 use Rattle.wtf_serve.specs.Runs.{IsStill, AreStoresStill, Ran}
 use Rattle.wtf_serve.specs.Stocks.{Stock, RoseBy, IsSaveFault, IsTelling}
 use Rattle.wtf_serve.specs.Traces.{HasRead, HasWritten}
@@ -88,7 +89,7 @@ pub record IsOfNext (told : Told) (m : Machine) (script : Option (List ℕ)) (li
   pub line : List ℕ
   pub next : (all : List ℕ) → script ≡ Some all → (more : List (List ℕ)) × (lines_of all ≡ lines ++ line ∷ more)
   pub answer : Answer
-  pub may : MayLineCaused m (line_of line) answer
+  pub may : MayLine m (line_of line) answer
   pub image : IsImageOfOne told bytes (after_line m (line_of line) answer).may_be_saved
 
 -- The bytes that a run leaves on the keeper, by its status: the image of the tree behind all lines; or, where the closing
@@ -170,7 +171,9 @@ pub record Served {S : Type 0} (kind : StoreKind S) (handed : List (List ℕ) �
   pub faults : RoseBy kind old.stock new.stock
       (count_along (is_device_fault opening.settings) none_down (asked log) log.answers
       + closing_faults opening.settings status (last_downs log))
-  pub faults_of_run : opening.bytes ≡ [] → RoseBy kind old.stock new.stock
+  -- and, where the keeper held nothing, and no region was spilled or the stores tell their content, with each read that failed while
+  -- fewer servers were down than a slice has copies
+  pub faults_of_run : IsUnspilledLog log ⊎ TellsAll kind old.stock.shelf → opening.bytes ≡ [] → RoseBy kind old.stock new.stock
       (count_along (is_device_fault_of_run opening.settings) none_down (asked log) log.answers
       + closing_faults opening.settings status (last_downs log))
   -- nothing is punched
@@ -195,7 +198,7 @@ pub record IsTold (told : Told) (size : ℕ → ℕ → ℕ) (opening : Opening)
   pub log : Log
   pub lines_are : log.lines ≡ lines_of script
   pub accepts : Accepts (first opening t) (events_of (asked log)) (answers_to (asked log) log.answers)
-  pub accepted : Along MayLineCaused (first opening t) (asked log) log.answers
+  pub accepted : Along MayLine (first opening t) (asked log) log.answers
   pub wrote : written ≡ output opening log.answers
   pub saved : IsImageOfTree told kept (last opening t log).now
   pub next : IsRunImage size opening (last opening t log).number log.lines kept

@@ -1,27 +1,34 @@
 -- What a run is given of the state that answers its lines, and what answering one line is.
-use Rattle.std.specs.Prelude.{◌≡◌, ◌+◌, ◌≤◌, ◌^◌, ℕ, Bool, true, false, List, [], Ok, Err, ⊤}
+use Rattle.std.specs.Prelude.{◌≡◌, ◌≢◌, ◌+◌, ◌≤◌, ◌^◌, ℕ, Bool, true, false, List, [], Ok, Err, ⊤}
 use Rattle.std.specs.Bool.{MatchBool}
 use Rattle.wtf_base.specs.declared.settings.Settings.{Settings}
+use Rattle.wtf_base.specs.declared.slice.Slice.{Slice}
 use Rattle.wtf_dev.specs.Counts.{Rose}
 use Rattle.wtf_dev.specs.Store.{StoreKind}
 use Rattle.wtf_dev.specs.Sums.{TellsAll}
+use Rattle.wtf_replica.specs.Bytes.{byte_at}
 use Rattle.wtf_replica.specs.Spans.{Span, span}
 use Rattle.wtf_model.specs.declared.answer.Answer.{Answer}
 use Rattle.wtf_model.specs.declared.answer.Answer.TheVariants as answer
 use Rattle.wtf_model.specs.declared.event.Event.{Event}
 use Rattle.wtf_model.specs.declared.event.Event.TheVariants as event
 use Rattle.wtf_model.specs.Machines.{Machine}
-use Rattle.wtf_model.specs.Lines.{Line, MayLineCaused, after_line}
+use Rattle.wtf_model.specs.Lines.{Line, MayLine, after_line}
 use Rattle.wtf_model.specs.Servers.{down_after}
-use Rattle.wtf_core.specs.Outcomes.{AddsBytes, SaveFault, HasCause}
+use Rattle.wtf_model.specs.Tree.{Tree}
+use Rattle.wtf_core.specs.Named.{no_slice}
+use Rattle.wtf_core.specs.Outcomes.{AddsBytes, IsUnspilled, IsUnread, SaveFault, HasCause}
 use Rattle.wtf_core.specs.Pictured.{IsBareImage}
-use Rattle.wtf_serve.specs.Answering.{IsNotBuiltExactly, line_data}
+use Rattle.wtf_core.specs.Telling.{stores_of}
+use Rattle.wtf_serve.specs.Answering.{IsNotBuiltExactly, line_load}
+use Rattle.wtf_serve.specs.Openings.{Opening, StartsFrom}
 use Rattle.wtf_serve.specs.Stocks.{Stock, IsSaveFault, HoldsOneOf, HoldsSome, HoldsStart, HoldsJust}
 
 -- What a run is given of the state that answers its lines: the kind of its stores; the settings, which servers are down,
--- how many commits there were and the number of the next transaction; when it is sound over stores, and when it stands
--- for a machine; when no region has a base, so that all lists of regions are in the metadata; and when each slice has as many
--- copies as there are replicas too.
+-- how many installs there were and the number of the next transaction; when it is sound over stores, and when it stands
+-- for a machine; when the slice of each base passes a test; and when no region has a base, and each byte that is named has as many
+-- copies as there are replicas. And of stores that tell their content: when they tell each byte that the state names, also those that
+-- the lists of bases name; when each of these has as many copies as there are replicas; and when each lies inside the stores.
 pub record Engine (S State : Type 0) : Type 1 where
   pub kind : StoreKind S
   pub settings : State → Settings
@@ -30,14 +37,32 @@ pub record Engine (S State : Type 0) : Type 1 where
   pub next_tx : State → ℕ
   pub sound : List S → State → Type 0
   pub stands : List S → State → Machine → Type 0
-  pub bare : State → Type 0
+  pub based : State → (Slice → Bool) → Type 0
   pub full : State → Type 0
+  pub tells : List S → State → Type 0
+  pub wide : List S → State → Type 0
+  pub within : List S → State → Type 0
 
--- What a state has of the bytes that the keeper gave at the begin: where it gave none each slice has as many copies as there are
--- replicas, and no region has a base; and where no region of its image has one, none has.
-pub record IsAsGiven {S State : Type 0} (engine : Engine S State) (bytes : List ℕ) (state : State) : Type 0 where
-  pub full : bytes ≡ [] → engine.full state
-  pub bare : IsBareImage bytes → engine.bare state
+-- no region has a base: all lists of regions are in the metadata
+abbrev pub IsBareState : {S State : Type 0} → Engine S State → State → Type 0
+IsBareState engine state = engine.based state no_slice
+
+-- What a state has of the bytes that the keeper gave at the begin, where no region was spilled since, as `unspilled` says: where it
+-- gave none each slice has as many copies as there are replicas, and no region has a base; and where no region of its image has one,
+-- none has.
+pub record IsAsGiven {S State : Type 0} (engine : Engine S State) (bytes : List ℕ) (unspilled : Type 0) (state : State) : Type 0 where
+  pub full : unspilled → bytes ≡ [] → engine.full state
+  pub bare : unspilled → IsBareImage bytes → IsBareState engine state
+
+-- What a state has of them, whatever was spilled since, over stores that told their content at the begin: they tell each byte that it
+-- names. Where the keeper gave no byte each of these has as many copies as there are replicas. And each lies inside the stores where no
+-- region of its image has a base, or it gave none; or where the stores of its settings' servers tell that tree by
+-- themselves.
+pub record IsAsTold {S State : Type 0} (engine : Engine S State) (opening : Opening) (before now : List S) (state : State) : Type 0 where
+  pub tells : (t : Tree) → StartsFrom (byte_at engine.kind before) opening.bytes t → engine.tells now state
+  pub wide : opening.bytes ≡ [] → engine.wide now state
+  pub within : (t : Tree) → StartsFrom (byte_at engine.kind before) opening.bytes t → IsBareImage opening.bytes → engine.within now state
+  pub within_from : (t : Tree) → StartsFrom (byte_at engine.kind (stores_of opening.settings before)) opening.bytes t → engine.within now state
 
 -- the stores with the keeper, and the state, before a line and after its answer
 pub record Step (S State : Type 0) : Type 0 where
@@ -61,10 +86,11 @@ abbrev pub is_save : Line → Bool
 is_save (Ok e) = is_save_event e
 is_save (Err bad) = false
 
--- What answering a line is, in five parts of which none needs another:
+-- What answering a line is, in six parts of which none needs another:
 
 -- the state goes on: it is sound, under the same settings, and which servers are down follows the lines `down` and `up`;
--- `notbuilt` comes exactly at the verbs that are left to a later version; a save begins no transaction
+-- `notbuilt` comes exactly at the verbs that are left to a later version; a save begins no transaction; and only a spill makes a
+-- region's list a slice
 pub record GoesOn {S State : Type 0} (engine : Engine S State) (t : Step S State) (line : Line) (a : Answer) : Type 0 where
   pub sound : engine.sound t.after.shelf t.new
   pub settings : engine.settings t.new ≡ engine.settings t.old
@@ -72,8 +98,8 @@ pub record GoesOn {S State : Type 0} (engine : Engine S State) (t : Step S State
   pub number : engine.number t.new ≤ engine.number t.old + 1
   pub next_tx : engine.next_tx t.new ≤ engine.next_tx t.old + 1
   pub same_next_tx : is_save line ≡ true → engine.next_tx t.new ≡ engine.next_tx t.old
-  pub bare : engine.bare t.old → engine.bare t.new
-  pub full : engine.full t.old → engine.full t.new
+  pub bare : IsUnspilled (line_load line) a → IsBareState engine t.old → IsBareState engine t.new
+  pub full : IsUnspilled (line_load line) a → engine.full t.old → engine.full t.new
   pub exact : IsNotBuiltExactly line a
 
 -- what a line that was answered `saved` leaves on a keeper that tells: the image of the state before it, with its settings and
@@ -95,7 +121,7 @@ pub record HasRoom {S State : Type 0} (engine : Engine S State) (state : State) 
 pub record IsLawful {S State : Type 0} (engine : Engine S State) (t : Step S State) (m : Machine) (line : Line) (a : Answer)
     : Type 0 where
   pub stands : engine.stands t.after.shelf t.new (after_line m line a)
-  pub may : MayLineCaused m line a
+  pub may : MayLine m line a
   pub number : engine.number t.new ≡ (after_line m line a).number
   pub saved : t.before.keeper.tells ≡ true → HasRoom engine t.old
       → HoldsOneOf engine.kind t.before m.may_be_saved → HoldsOneOf engine.kind t.after (after_line m line a).may_be_saved
@@ -111,7 +137,7 @@ Obeys engine t line a =
 
 -- the stores grew by what the line writes
 abbrev pub Stores : {S State : Type 0} → Engine S State → Step S State → Line → Answer → Type 0
-Stores engine t line a = AddsBytes engine.kind (span_of engine t) (engine.settings t.old) (line_data line) a
+Stores engine t line a = AddsBytes engine.kind (span_of engine t) (engine.settings t.old) (line_load line) a
 
 -- a save may have failed in a line that is one
 abbrev pub IsSaveFailure : {S State : Type 0} → Engine S State → Step S State → Line → Type 0
@@ -122,8 +148,22 @@ IsSaveFailure engine t (Err bad) = ⊥
 -- a fault has its cause in this very line
 abbrev pub IsCaused : {S State : Type 0} → Engine S State → Step S State → Line → Answer → Type 0
 IsCaused engine t line a =
-    HasCause engine.kind (span_of engine t) (engine.settings t.old) (IsSaveFailure engine t line) (engine.bare t.old) (engine.full t.old)
-    (line_data line) a
+    HasCause engine.kind (span_of engine t) (engine.settings t.old) (IsSaveFailure engine t line) (engine.based t.old) (engine.full t.old)
+    (line_load line) a
+
+-- Over stores that tell what the state names: they go on to. Where each of these bytes has as many copies as there are replicas each
+-- goes on to have them, and one that was not read had as many; where each lies inside the stores each goes on to lie there, and no list
+-- was read that is none.
+pub record IsToldAnswer {S State : Type 0} (engine : Engine S State) (t : Step S State) (a : Answer) : Type 0 where
+  pub next : engine.tells t.after.shelf t.new
+  pub wide : engine.wide t.before.shelf t.old → engine.wide t.after.shelf t.new
+  pub unread : engine.wide t.before.shelf t.old → (k : ℕ) → a ≡ answer.FaultRead k
+      → IsUnread engine.kind (span_of engine t) (engine.settings t.old) ⊤ k
+  pub within : engine.within t.before.shelf t.old → engine.within t.after.shelf t.new
+  pub undamaged : engine.within t.before.shelf t.old → (k : ℕ) → a ≢ answer.Damaged k
+
+abbrev pub Tells : {S State : Type 0} → Engine S State → Step S State → Answer → Type 0
+Tells engine t a = engine.tells t.before.shelf t.old → IsToldAnswer engine t a
 
 -- what a save leaves on the keeper: an image, or there is a cause why it failed
 abbrev pub Saves : {S State : Type 0} → Engine S State → Step S State → Answer → Type 0
@@ -136,10 +176,11 @@ Saves engine t a = ⊥
 abbrev pub Keeps : {S State : Type 0} → Engine S State → Step S State → Line → Answer → Type 0
 Keeps engine t line a = MatchBool (is_save line) (Saves engine t a) (t.after.keeper ≡ t.before.keeper)
 
--- all five
+-- all six
 pub record IsAnswer {S State : Type 0} (engine : Engine S State) (t : Step S State) (line : Line) (a : Answer) : Type 0 where
   pub goes_on : GoesOn engine t line a
   pub lawful : Obeys engine t line a
   pub stored : Stores engine t line a
   pub caused : IsCaused engine t line a
+  pub told : Tells engine t a
   pub kept : Keeps engine t line a

@@ -1,5 +1,5 @@
 -- Lines with their answers, and what a run counts along them.
-use Rattle.std.specs.Prelude.{◌+◌, ℕ, Bool, true, false, if◌then◌else◌, List, [], ◌∷◌, ◌++◌, map, length}
+use Rattle.std.specs.Prelude.{◌≡◌, ◌+◌, ℕ, Bool, true, false, if◌then◌else◌, List, [], ◌∷◌, ◌++◌, map, length}
 use Rattle.std.specs.List.{flat_map}
 use Rattle.wtf_model.specs.declared.answer.Answer.{Answer}
 use Rattle.wtf_model.specs.declared.answer.Answer.TheVariants as answer
@@ -7,7 +7,8 @@ use Rattle.wtf_model.specs.Lines.{Line, machine_after}
 use Rattle.wtf_model.specs.Machines.{Machine}
 use Rattle.wtf_model.specs.Servers.{none_down, downs_after}
 use Rattle.wtf_model.specs.Tree.{Tree}
-use Rattle.wtf_serve.specs.Answering.{line_data}
+use Rattle.wtf_core.specs.Outcomes.{has_spilled}
+use Rattle.wtf_serve.specs.Answering.{line_data, line_load}
 use Rattle.wtf_serve.specs.Openings.{Opening, first}
 use Rattle.wtf_serve.specs.Scripts.{line_of, line_text, settings_line}
 
@@ -73,3 +74,12 @@ if_okay a n = 0
 abbrev pub written_bytes : List (Line) → List Answer → ℕ
 written_bytes (e ∷ es) (a ∷ answers) = if_okay a (length (line_data e)) + written_bytes es answers
 written_bytes es answers = 0
+
+-- how many plans to spill a region were answered `planned`
+abbrev pub spill_count : List Line → List Answer → ℕ
+spill_count (e ∷ es) (a ∷ answers) = (if has_spilled (line_load e) a then 1 else 0) + spill_count es answers
+spill_count es answers = 0
+
+-- no region was spilled
+abbrev pub IsUnspilledLog : Log → Type 0
+IsUnspilledLog log = spill_count (asked log) log.answers ≡ 0

@@ -1,5 +1,5 @@
 -- What a run promises of the lines that it answered.
-use Rattle.std.specs.Prelude.{◌≡◌, ◌<◌, ◌+◌, ◌-◌, ◌*◌, ◌^◌, ℕ, List, [], length, slice_index_or}
+use Rattle.std.specs.Prelude.{◌≡◌, ◌⊎◌, ◌<◌, ◌+◌, ◌-◌, ◌*◌, ◌^◌, ℕ, List, [], length, slice_index_or}
 use Rattle.std.specs.List.{All}
 use Rattle.wtf_dev.specs.Store.{StoreKind}
 use Rattle.wtf_dev.specs.Each.{EachFollows}
@@ -7,12 +7,13 @@ use Rattle.wtf_dev.specs.Sums.{TellsAll, all_stored}
 use Rattle.wtf_replica.specs.Bytes.{byte_at}
 use Rattle.wtf_model.specs.Tree.{Tree}
 use Rattle.wtf_model.specs.Steps.{Accepts}
-use Rattle.wtf_model.specs.Lines.{MayLineCaused, Along, events_of, answers_to}
+use Rattle.wtf_model.specs.Lines.{MayLine, Along, events_of, answers_to}
 use Rattle.wtf_model.specs.Servers.{none_down, AlongDowns, is_device_fault, is_device_fault_of_run, count_along}
 use Rattle.wtf_core.specs.Pictured.{IsBareImage}
+use Rattle.wtf_core.specs.Telling.{stores_of}
 use Rattle.wtf_serve.specs.Answering.{IsNotBuiltExactly}
 use Rattle.wtf_serve.specs.Openings.{Opening, StartsFrom, first}
-use Rattle.wtf_serve.specs.Logs.{Log, asked, IsServed, IsUndamaged, write_fault_count, written_bytes}
+use Rattle.wtf_serve.specs.Logs.{Log, asked, IsServed, IsUndamaged, write_fault_count, written_bytes, IsUnspilledLog}
 use Rattle.wtf_serve.specs.Stocks.{Stock, RoseBy}
 
 -- a count of faults did not rise, and does not stand at its end
@@ -32,20 +33,29 @@ pub record Ran {S : Type 0} (kind : StoreKind S) (opening : Opening) (log : Log)
       → Accepts (first opening t) (events_of (asked log)) (answers_to (asked log) log.answers)
   -- the same line by line, with the lines that ask nothing; and a retry comes only where others have changed what was read
   pub accepted : TellsAll kind before.shelf → (t : Tree) → StartsFrom (byte_at kind before.shelf) opening.bytes t
-      → Along MayLineCaused (first opening t) (asked log) log.answers
+      → Along MayLine (first opening t) (asked log) log.answers
   -- over every store each line has one answer: one that asks nothing has its own, and `notbuilt` comes exactly at the verbs
   -- that are left to a later version
   pub exact : AlongDowns (λ down e a. IsNotBuiltExactly e a) none_down (asked log) log.answers
   pub served : All IsServed log.answers
-  -- where all lists of regions are in the image, or it gave nothing, none was read that is no list
-  pub undamaged : IsBareImage opening.bytes → All IsUndamaged log.answers
+  -- where all lists of regions are in the image, or it gave nothing, and no region was spilled, none was read that is no list
+  pub undamaged : IsUnspilledLog log → IsBareImage opening.bytes → All IsUndamaged log.answers
+  -- nor, whatever was spilled over such an image, where the stores tell their content, and the bytes of the tree that the run starts with
+  pub undamaged_told : TellsAll kind before.shelf → (t : Tree) → StartsFrom (byte_at kind before.shelf) opening.bytes t
+      → IsBareImage opening.bytes → All IsUndamaged log.answers
+  -- nor, whatever lists the image gave or were spilled, where the stores tell their content, and those of the settings' servers by
+  -- themselves the bytes of that tree
+  pub undamaged_from : TellsAll kind before.shelf → (t : Tree)
+      → StartsFrom (byte_at kind (stores_of opening.settings before.shelf)) opening.bytes t → All IsUndamaged log.answers
   -- each line whose fault only a store or the keeper can have caused raised a count
   pub faults : RoseBy kind before after (count_along (is_device_fault opening.settings) none_down (asked log) log.answers)
-  -- and so did, where the keeper held nothing, each read that failed while fewer servers were down than a slice has copies
-  pub faults_of_run : opening.bytes ≡ []
+  -- and so did, where the keeper held nothing, and no region was spilled or the stores tell their content, each read that failed while
+  -- fewer servers were down than a slice has copies
+  pub faults_of_run : IsUnspilledLog log ⊎ TellsAll kind before.shelf → opening.bytes ≡ []
       → RoseBy kind before after (count_along (is_device_fault_of_run opening.settings) none_down (asked log) log.answers)
-  -- where no store failed they grew by the bytes of the writes and appends that answered `ok`, once on each replica
-  pub grew : AreStoresStill kind before.shelf after.shelf → write_fault_count log.answers ≡ 0
+  -- where no store failed and no region was spilled they grew by the bytes of the writes and appends that answered `ok`, once on each
+  -- replica
+  pub grew : IsUnspilledLog log → AreStoresStill kind before.shelf after.shelf → write_fault_count log.answers ≡ 0
       → all_stored kind after.shelf ≡ all_stored kind before.shelf + opening.settings.replicas * written_bytes (asked log) log.answers
   -- nothing was punched
   pub follows_on : EachFollows kind before.shelf after.shelf []

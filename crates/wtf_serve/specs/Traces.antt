@@ -24,7 +24,8 @@ pub record HasRead (script : List ℕ) (left : Option (List ℕ)) (status : ℕ)
   -- 4: with the lines that were answered, their line feeds and at most one chunk more
   pub unwritten : status ≡ 4 → CameNoMore script left lines
   -- 9: each line that a line feed ended within the limit
-  pub too_much : status ≡ 9 → (came : List ℕ) × (b : ℕ) × (rest : List ℕ) × (script ≡ came ++ b ∷ rest) × (left ≡ Some rest) × (length came ≡ SCRIPT_BYTES) × (lines ≡ ended_of came)
+  pub too_much : status ≡ 9 → (came : List ℕ) × (b : ℕ) × (rest : List ℕ) × (script ≡ came ++ b ∷ rest) × (left ≡ Some rest) × (length came ≡ SCRIPT_BYTES)
+      × (lines ≡ ended_of came)
 
 -- a part of the text of the last answer was written, after all that comes before it
 pub record IsCut (opening : Opening) (answers : List Answer) (old : List ℕ) (new : Option (List ℕ)) : Type 0 where

@@ -9,7 +9,7 @@ ghost use Rattle.wtf_serve.specs.Turns.{AllTaken, TurnIs};
 ghost use Rattle.wtf_serve.specs.Passes.{Came, HasDrawn, PassIs, IsFormRead, input, hand};
 ghost use Rattle.wtf_serve.specs.Answering.{IsFormLine};
 ghost use Rattle.wtf_serve.specs.Beginnings.{Closes};
-ghost use Rattle.wtf_serve.specs.Engines.{GoesOn, Obeys, Stores, IsCaused, Keeps, step};
+ghost use Rattle.wtf_serve.specs.Engines.{GoesOn, Obeys, Stores, IsCaused, Tells, Keeps, step};
 ghost use Rattle.wtf_serve.specs.Cores.{IsSoundCore, engine};
 ghost use Rattle.wtf_serve.specs.Scripts.{end_status, line_text, settings_line};
 ghost use Rattle.wtf_serve.specs.Stocks.{stock, KeeperGoesOn, HandsOver};
@@ -151,6 +151,9 @@ fn answer<S: SliceStore, K: Keeper>(
     ensures caused { IfOk result (IsCaused (engine S.kind)
         (step (stock shelf.old (K.view keeper.old)) (stock shelf.new (K.view keeper.new))
         core.old core.new) line) }
+    ensures told { IfOk result (Tells (engine S.kind)
+        (step (stock shelf.old (K.view keeper.old)) (stock shelf.new (K.view keeper.new))
+        core.old core.new)) }
     ensures kept { IfOk result (Keeps (engine S.kind)
         (step (stock shelf.old (K.view keeper.old)) (stock shelf.new (K.view keeper.new))
         core.old core.new) line) }

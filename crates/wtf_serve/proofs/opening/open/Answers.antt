@@ -21,6 +21,9 @@ returns-clause-unopened g c = λ source.
     let old = c.args.keeper.now in
     let new = c.load.new.self in
     let kept : IsKept (g.K.Keeper.follows old new) (view old) (view new) = record { held = c.load.ensures.held; nothing = c.load.ensures.follows } in
-    let keeper : KeeperGoesOn (view old) (view new) = handed_on view g.K.Keeper.follows g.met.K.Keeper.follows_itself g.met.K.Keeper.keeps old new (_, c.load.ensures.follows) in
-    not_opened g.S.SliceStore.kind g.met.S.SliceStore.laws (g.K.Keeper.follows old new) c.args.settings c.args.shelf.now (view old) (view new) kept keeper source (g.O.Sink.view c.args.out.now)
-    c.as_slice.result.now (λ held e. c.as_slice.ensures.value ∙ c.in-Ok.ensures.bytes held e) c.in-Err.why c.end.result (g.O.Sink.view c.end.new.out) c.in-Err.ensures.cause c.end.ensures.ends
+    let keeper : KeeperGoesOn (view old) (view new) = handed_on view g.K.Keeper.follows g.met.K.Keeper.follows_itself g.met.K.Keeper.keeps old new
+    (_, c.load.ensures.follows) in
+    not_opened g.S.SliceStore.kind g.met.S.SliceStore.laws (g.K.Keeper.follows old new) c.args.settings c.args.shelf.now (view old)
+    (view new) kept keeper source (g.O.Sink.view c.args.out.now)
+    c.as_slice.result.now (λ held e. c.as_slice.ensures.value ∙ c.in-Ok.ensures.bytes held e) c.in-Err.why c.end.result
+    (g.O.Sink.view c.end.new.out) c.in-Err.ensures.cause c.end.ensures.ends

@@ -14,7 +14,8 @@ returns-clause-served g c = λ source.
     source _ _ (g.O.Sink.view c.args.out.now) (g.O.Sink.view after.out.now)
     (stock c.args.shelf.now (K.view c.args.keeper.now)) (stock c.serve-status.new.shelf (K.view c.serve-status.new.keeper))
     before.out.ghost_name after.out.ghost_name before.state after.state
-    c.new-script.ensures c.new-shown.ensures.faults c.new-shown.ensures.lines c.new-shown.ensures.first c.new-shown.ensures.text after.sound c.serve-status.ensures.served in
+    c.new-script.ensures c.new-shown.ensures.faults c.new-shown.ensures.lines c.new-shown.ensures.first c.new-shown.ensures.text after.sound
+    c.serve-status.ensures.served in
     let same : c.finish.new.self.0 ≡ c.out-1.given.0 = search (rules, all.0) in
     let ends = sym c.finish.ensures.kept ∙ same in
     subst (λ o. IsGeneratedRun g.S.SliceStore.kind (K.follows c.args.keeper.now c.serve-status.new.keeper) c.args.settings c.args.recipe c.serve-status.result

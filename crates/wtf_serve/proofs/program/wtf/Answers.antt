@@ -21,36 +21,47 @@ ran kind handed asked status old new a s from is run =
 
 pub returns-in-Read-clause-served : goal.returns-in-Read-clause-served
 returns-in-Read-clause-served g c =
-    ran g.S.SliceStore.kind (g.K.Keeper.follows c.args.keeper.now c.serve-status.new.keeper) _ c.serve-status.result _ _ c.in-Ok.asked script.Read c.in-Read.is c.in-Ok.ensures.asked c.serve-status.ensures.served
+    ran g.S.SliceStore.kind (g.K.Keeper.follows c.args.keeper.now c.serve-status.new.keeper) _ c.serve-status.result _ _ c.in-Ok.asked script.Read c.in-Read.is
+    c.in-Ok.ensures.asked c.serve-status.ensures.served
 
 pub returns-in-Read-clause-statuses : goal.returns-in-Read-clause-statuses
-returns-in-Read-clause-statuses g c = program_status g.S.SliceStore.kind (g.K.Keeper.follows c.args.keeper.now c.serve-status.new.keeper) _ c.serve-status.result _ _ (returns-in-Read-clause-served g c)
+returns-in-Read-clause-statuses g c = program_status g.S.SliceStore.kind
+    (g.K.Keeper.follows c.args.keeper.now c.serve-status.new.keeper) _ c.serve-status.result _ _ (returns-in-Read-clause-served g c)
 
 pub returns-in-Read-clause-words : goal.returns-in-Read-clause-words
-returns-in-Read-clause-words g c = words_status g.S.SliceStore.kind (g.K.Keeper.follows c.args.keeper.now c.serve-status.new.keeper) _ c.serve-status.result _ _ (returns-in-Read-clause-served g c)
+returns-in-Read-clause-words g c = words_status g.S.SliceStore.kind (g.K.Keeper.follows c.args.keeper.now c.serve-status.new.keeper) _ c.serve-status.result _ _
+    (returns-in-Read-clause-served g c)
 
 pub returns-in-Read-clause-refused : goal.returns-in-Read-clause-refused
 returns-in-Read-clause-refused g c = λ held held_is.
-    program_refused g.S.SliceStore.kind (g.K.Keeper.follows c.args.keeper.now c.serve-status.new.keeper) _ c.serve-status.result _ _ held held_is (returns-in-Read-clause-served g c)
+    program_refused g.S.SliceStore.kind (g.K.Keeper.follows c.args.keeper.now c.serve-status.new.keeper) _ c.serve-status.result _ _ held held_is
+    (returns-in-Read-clause-served g c)
 
 pub returns-in-Read-clause-image : goal.returns-in-Read-clause-image
 returns-in-Read-clause-image g c = λ held held_is.
-    program_image g.S.SliceStore.kind (g.K.Keeper.follows c.args.keeper.now c.serve-status.new.keeper) _ c.serve-status.result _ _ held held_is (returns-in-Read-clause-served g c)
+    program_image g.S.SliceStore.kind (g.K.Keeper.follows c.args.keeper.now c.serve-status.new.keeper) _ c.serve-status.result _ _ held held_is
+    (returns-in-Read-clause-served g c)
 
 pub returns-in-Generated-clause-served : goal.returns-in-Generated-clause-served
 returns-in-Generated-clause-served g c =
-    ran g.S.SliceStore.kind (g.K.Keeper.follows c.args.keeper.now c.serve_generated-status.new.keeper) _ c.serve_generated-status.result _ _ c.in-Ok.asked (script.Generated c.in-Generated.recipe) c.in-Generated.is c.in-Ok.ensures.asked (c.serve_generated-status.ensures.served (g.I.Source.view c.args.script.now))
+    ran g.S.SliceStore.kind (g.K.Keeper.follows c.args.keeper.now c.serve_generated-status.new.keeper) _ c.serve_generated-status.result _ _ c.in-Ok.asked
+    (script.Generated c.in-Generated.recipe) c.in-Generated.is c.in-Ok.ensures.asked
+    (c.serve_generated-status.ensures.served (g.I.Source.view c.args.script.now))
 
 pub returns-in-Generated-clause-statuses : goal.returns-in-Generated-clause-statuses
-returns-in-Generated-clause-statuses g c = program_status g.S.SliceStore.kind (g.K.Keeper.follows c.args.keeper.now c.serve_generated-status.new.keeper) _ c.serve_generated-status.result _ _ (returns-in-Generated-clause-served g c)
+returns-in-Generated-clause-statuses g c = program_status g.S.SliceStore.kind
+    (g.K.Keeper.follows c.args.keeper.now c.serve_generated-status.new.keeper) _ c.serve_generated-status.result _ _ (returns-in-Generated-clause-served g c)
 
 pub returns-in-Generated-clause-words : goal.returns-in-Generated-clause-words
-returns-in-Generated-clause-words g c = words_status g.S.SliceStore.kind (g.K.Keeper.follows c.args.keeper.now c.serve_generated-status.new.keeper) _ c.serve_generated-status.result _ _ (returns-in-Generated-clause-served g c)
+returns-in-Generated-clause-words g c = words_status g.S.SliceStore.kind
+    (g.K.Keeper.follows c.args.keeper.now c.serve_generated-status.new.keeper) _ c.serve_generated-status.result _ _ (returns-in-Generated-clause-served g c)
 
 pub returns-in-Generated-clause-refused : goal.returns-in-Generated-clause-refused
 returns-in-Generated-clause-refused g c = λ held held_is.
-    program_refused g.S.SliceStore.kind (g.K.Keeper.follows c.args.keeper.now c.serve_generated-status.new.keeper) _ c.serve_generated-status.result _ _ held held_is (returns-in-Generated-clause-served g c)
+    program_refused g.S.SliceStore.kind (g.K.Keeper.follows c.args.keeper.now c.serve_generated-status.new.keeper) _ c.serve_generated-status.result _ _ held
+    held_is (returns-in-Generated-clause-served g c)
 
 pub returns-in-Generated-clause-image : goal.returns-in-Generated-clause-image
 returns-in-Generated-clause-image g c = λ held held_is.
-    program_image g.S.SliceStore.kind (g.K.Keeper.follows c.args.keeper.now c.serve_generated-status.new.keeper) _ c.serve_generated-status.result _ _ held held_is (returns-in-Generated-clause-served g c)
+    program_image g.S.SliceStore.kind (g.K.Keeper.follows c.args.keeper.now c.serve_generated-status.new.keeper) _ c.serve_generated-status.result _ _ held
+    held_is (returns-in-Generated-clause-served g c)

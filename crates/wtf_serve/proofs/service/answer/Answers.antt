@@ -8,7 +8,7 @@ use Rattle.wtf_serve.specs.Engines.{GoesOn, Obeys, Stores, IsCaused, Keeps, step
 use Rattle.wtf_serve.specs.Cores.{engine}
 use Rattle.wtf_serve.specs.Stocks.{stock}
 use Rattle.wtf_serve.proofs.Keeping.{handed_on, turn_handed, event_kept}
-use Rattle.wtf_serve.proofs.LineLaws.{bad_obeys, event_goes_on, event_obeys}
+use Rattle.wtf_serve.proofs.LineLaws.{bad_obeys, event_goes_on, event_told, event_obeys}
 use Rattle.wtf_serve.proofs.service.answer.Goals as goal
 
 pub returns-in_ok-answer-in-Ok-clause-goes_on : goal.returns-in_ok-answer-in-Ok-clause-goes_on
@@ -35,6 +35,13 @@ returns-in_ok-answer-in-Ok-clause-caused g c =
     let t = step (stock c.args.shelf.now (view c.args.keeper.now)) (stock c.event.new.shelf (view c.event.new.keeper)) c.args.core.now c.event.new.self in
     subst (λ (e : Line). IsCaused (engine kind) t e c.in_ok-answer-in-Ok.answer) (sym c.in-Ok.is) c.in_ok-answer-in-Ok.ensures.caused.cause
 
+pub returns-in_ok-answer-in-Ok-clause-told : goal.returns-in_ok-answer-in-Ok-clause-told
+returns-in_ok-answer-in-Ok-clause-told g c =
+    let kind = g.S.SliceStore.kind in
+    let view = g.K.Keeper.view in
+    let t = step (stock c.args.shelf.now (view c.args.keeper.now)) (stock c.event.new.shelf (view c.event.new.keeper)) c.args.core.now c.event.new.self in
+    event_told kind t c.in-Ok.event c.in_ok-answer-in-Ok.answer c.in_ok-answer-in-Ok.ensures.told
+
 pub returns-in_ok-answer-in-Ok-clause-stored : goal.returns-in_ok-answer-in-Ok-clause-stored
 returns-in_ok-answer-in-Ok-clause-stored g c =
     let kind = g.S.SliceStore.kind in
@@ -50,7 +57,8 @@ returns-in_ok-answer-in-Ok-clause-kept g c =
     let t = step (stock c.args.shelf.now (view c.args.keeper.now)) (stock c.event.new.shelf (view c.event.new.keeper)) c.args.core.now c.event.new.self in
     subst (λ (e : Line). Keeps (engine kind) t e c.in_ok-answer-in-Ok.answer) (sym c.in-Ok.is)
     (event_kept view g.K.Keeper.follows c.args.keeper.now c.event.new.keeper kind c.args.shelf.now c.event.new.shelf c.args.core.now c.event.new.self
-    (TellsAll kind c.args.shelf.now) (byte_at kind c.args.shelf.now, byte_at kind c.event.new.shelf) c.in-Ok.event c.in_ok-answer-in-Ok.answer is.kept.turn is.turn)
+    (TellsAll kind c.args.shelf.now) (byte_at kind c.args.shelf.now, byte_at kind c.event.new.shelf) c.in-Ok.event c.in_ok-answer-in-Ok.answer
+    is.kept.turn is.turn)
 
 pub returns-in_ok-answer-in-Ok-clause-handed : goal.returns-in_ok-answer-in-Ok-clause-handed
 returns-in_ok-answer-in-Ok-clause-handed g c =

@@ -16,10 +16,12 @@ returns-clause-closes g c =
     let t = step (stock c.args.shelf.now (view c.args.keeper.now)) (stock c.answer.new.shelf (view c.answer.new.keeper)) c.args.core.now c.answer.new.core in
     let told = c.in-Ok.ensures in
     let is : IsAnswer (engine kind) t (Ok event.Save) c.in-Ok.answer
-    = record { goes_on = told.goes_on; lawful = told.lawful; stored = told.stored; caused = told.caused; kept = told.kept } in
+    = record { goes_on = told.goes_on; lawful = told.lawful; stored = told.stored; caused = told.caused; told = told.told; kept = told.kept } in
     elim c.match-answer-2.branch [
       | in-Saved w ↦
-          subst (λ (n : ℕ). Closes (engine kind) t bad n) (sym (w.result-is ∙ w.ended.ensures)) (closes_saved (engine kind) t bad c.in-Ok.answer w.in-Saved.field-0 w.in-Saved.is is)
+          subst (λ (n : ℕ). Closes (engine kind) t bad n) (sym (w.result-is ∙ w.ended.ensures))
+          (closes_saved (engine kind) t bad c.in-Ok.answer w.in-Saved.field-0 w.in-Saved.is is)
       | in_default-answer w ↦
-          subst (λ (n : ℕ). Closes (engine kind) t bad n) (sym w.result-is) (closes_failed (engine kind) t bad c.in-Ok.answer (λ n. w.in_default-answer.not-Saved n) is)
+          subst (λ (n : ℕ). Closes (engine kind) t bad n) (sym w.result-is)
+          (closes_failed (engine kind) t bad c.in-Ok.answer (λ n. w.in_default-answer.not-Saved n) is)
     ]

@@ -19,7 +19,8 @@ use Rattle.wtf_serve.proofs.service.serve.Goals.{After-write_all, After-close}
 -- the keeper goes on while it is loaded
 loaded : (g : Over) (c : After-write_all g) → KeeperGoesOn (g.K.Keeper.view c.args.keeper.now) (g.K.Keeper.view c.open.new.keeper)
 loaded g c =
-    handed_on g.K.Keeper.view g.K.Keeper.follows g.met.K.Keeper.follows_itself g.met.K.Keeper.keeps c.args.keeper.now c.open.new.keeper ([], c.open.ensures.kept.nothing)
+    handed_on g.K.Keeper.view g.K.Keeper.follows g.met.K.Keeper.follows_itself g.met.K.Keeper.keeps c.args.keeper.now c.open.new.keeper
+    ([], c.open.ensures.kept.nothing)
 
 -- the text of the first line
 first_text : (g : Over) (c : After-write_all g) → c.as_slice.result.now ≡ settings_line c.in-Ok.core.settings c.in-Ok.core.tables.kv.number
@@ -34,7 +35,8 @@ returns-in_default-write_all-clause-served g c =
     let at = (goal.at.returns-in_default-write_all-clause-served g c).After-write_all in
     let start = devices (g.I.Source.view c.args.script.now) (view c.args.out.now) c.args.shelf.now (g.K.Keeper.view c.args.keeper.now) in
     let same : view c.open.new.out ≡ view c.args.out.now = ap view c.in-Ok.ensures.unwritten in
-    unwritten_first (engine kind) g.met.S.SliceStore.laws (g.K.Keeper.follows c.args.keeper.now c.open.new.keeper) c.args.settings start (g.K.Keeper.view c.open.new.keeper) c.in-Ok.core
+    unwritten_first (engine kind) g.met.S.SliceStore.laws (g.K.Keeper.follows c.args.keeper.now c.open.new.keeper) c.args.settings start
+    (g.K.Keeper.view c.open.new.keeper) c.in-Ok.core
     (view c.write_all.new.out) c.as_slice.result.now c.in-Ok.ensures.opened c.open.ensures.kept (loaded g at) (first_text g at)
     (subst (λ (s : SinkView). s.faults ≤ (view c.write_all.new.out).faults) same c.write_all.ensures.faults)
     (λ old e. c.in_default-write_all.ensures.told old (ap (λ (s : SinkView). s.taken) same ∙ e))
@@ -49,9 +51,11 @@ loop-more-init g c =
     let same : view c.open.new.out ≡ view c.args.out.now = ap view c.in-Ok.ensures.unwritten in
     let now = stock c.args.shelf.now (g.K.Keeper.view c.open.new.keeper) in
     record {
-      run = subst (λ (held : Held). Underway (engine kind) c.args.settings start (hand (input (g.I.Source.view c.args.script.now) held) (view c.write_all.new.out) now c.in-Ok.core) false)
+      run = subst (λ (held : Held). Underway (engine kind) c.args.settings start
+          (hand (input (g.I.Source.view c.args.script.now) held) (view c.write_all.new.out) now c.in-Ok.core) false)
           (sym c.in-Ok-new.ensures)
-          (underway_first (engine kind) g.met.S.SliceStore.laws (g.K.Keeper.follows c.args.keeper.now c.open.new.keeper) c.args.settings start (g.K.Keeper.view c.open.new.keeper) c.in-Ok.core
+          (underway_first (engine kind) g.met.S.SliceStore.laws (g.K.Keeper.follows c.args.keeper.now c.open.new.keeper) c.args.settings start
+          (g.K.Keeper.view c.open.new.keeper) c.in-Ok.core
           (view c.write_all.new.out) c.as_slice.result.now c.in-Ok.ensures.opened c.open.ensures.kept (loaded g at) (first_text g at)
           (subst (λ (s : SinkView). s.faults ≤ (view c.write_all.new.out).faults) same c.write_all.ensures.faults)
           (λ old e. c.in-Ok-write_all.ensures.told old (ap (λ (s : SinkView). s.taken) same ∙ e)));
@@ -65,14 +69,18 @@ loop-more-preserved g c =
     let view = g.K.Keeper.view in
     let follows = g.K.Keeper.follows in
     let start = devices (g.I.Source.view c.args.script.now) (g.O.Sink.view c.args.out.now) c.args.shelf.now (view c.args.keeper.now) in
-    let now = hand (input (g.I.Source.view c.loop-more.script) c.loop-more.reader.lines) (g.O.Sink.view c.loop-more.out) (stock c.loop-more.shelf (view c.loop-more.keeper)) c.loop-more.core in
-    let next = hand (input (g.I.Source.view c.pass.new.script) c.pass.new.reader.lines) (g.O.Sink.view c.pass.new.out) (stock c.pass.new.shelf (view c.pass.new.keeper)) c.pass.new.core in
+    let now = hand (input (g.I.Source.view c.loop-more.script) c.loop-more.reader.lines) (g.O.Sink.view c.loop-more.out)
+    (stock c.loop-more.shelf (view c.loop-more.keeper)) c.loop-more.core in
+    let next = hand (input (g.I.Source.view c.pass.new.script) c.pass.new.reader.lines) (g.O.Sink.view c.pass.new.out)
+    (stock c.pass.new.shelf (view c.pass.new.keeper)) c.pass.new.core in
     let is : c.pass.result ≡ Ok (Some c.in-Ok-Some.more) = cc in
     record {
       run = subst (λ (b : Bool). Underway (engine kind) c.args.settings start next b) (sym c.either-bad.ensures)
-          (underway_on (engine kind) laws (follows c.args.keeper.now c.pass.new.keeper) c.args.settings start now next c.loop-more.bad c.loop-more.invariant.run c.in-Ok-Some.more
+          (underway_on (engine kind) laws (follows c.args.keeper.now c.pass.new.keeper) c.args.settings start now next c.loop-more.bad c.loop-more.invariant.run
+          c.in-Ok-Some.more
           (subst (λ (r : Result (Option Bool) Stop). PassIs (engine kind) now next r) is c.pass.ensures.pass));
-      handed = handed_join view follows g.met.K.Keeper.follows_itself g.met.K.Keeper.keeps c.args.keeper.now c.pass.new.keeper c.loop-more.keeper g.met.K.Keeper.follows_on
+      handed = handed_join view follows g.met.K.Keeper.follows_itself g.met.K.Keeper.keeps c.args.keeper.now c.pass.new.keeper c.loop-more.keeper
+          g.met.K.Keeper.follows_on
           c.loop-more.invariant.handed c.pass.ensures.handed;
     }
 
@@ -83,18 +91,23 @@ returns-in-Ok-None-clause-served g c =
     let view = g.K.Keeper.view in
     let follows = g.K.Keeper.follows in
     let start = devices (g.I.Source.view c.args.script.now) (g.O.Sink.view c.args.out.now) c.args.shelf.now (view c.args.keeper.now) in
-    let now = hand (input (g.I.Source.view c.loop-more.script) c.loop-more.reader.lines) (g.O.Sink.view c.loop-more.out) (stock c.loop-more.shelf (view c.loop-more.keeper)) c.loop-more.core in
-    let next = hand (input (g.I.Source.view c.pass.new.script) c.pass.new.reader.lines) (g.O.Sink.view c.pass.new.out) (stock c.pass.new.shelf (view c.pass.new.keeper)) c.pass.new.core in
+    let now = hand (input (g.I.Source.view c.loop-more.script) c.loop-more.reader.lines) (g.O.Sink.view c.loop-more.out)
+    (stock c.loop-more.shelf (view c.loop-more.keeper)) c.loop-more.core in
+    let next = hand (input (g.I.Source.view c.pass.new.script) c.pass.new.reader.lines) (g.O.Sink.view c.pass.new.out)
+    (stock c.pass.new.shelf (view c.pass.new.keeper)) c.pass.new.core in
     let is : c.pass.result ≡ Ok None = cc in
-    underway_end (engine kind) laws (follows c.args.keeper.now c.close.new.keeper) c.args.settings start now next c.loop-more.bad c.loop-more.invariant.run c.close.result
+    underway_end (engine kind) laws (follows c.args.keeper.now c.close.new.keeper) c.args.settings start now next c.loop-more.bad c.loop-more.invariant.run
+    c.close.result
     (stock c.close.new.shelf (view c.close.new.keeper)) c.close.new.core
-    (subst (λ (r : Result (Option Bool) Stop). PassIs (engine kind) now next r) is c.pass.ensures.pass) c.close.ensures.follows c.close.ensures.keeper c.close.ensures.closes
+    (subst (λ (r : Result (Option Bool) Stop). PassIs (engine kind) now next r) is c.pass.ensures.pass) c.close.ensures.follows c.close.ensures.keeper
+    c.close.ensures.closes
 
 -- with which status a run that has begun its lines does not end
 closed_few : (g : Over) (c : After-close g) → c.close.result ≡ 2 → ⊥
 closed_few g c e =
     let view = g.K.Keeper.view in
-    close_not_few (engine g.S.SliceStore.kind) (step (stock c.pass.new.shelf (view c.pass.new.keeper)) (stock c.close.new.shelf (view c.close.new.keeper)) c.pass.new.core c.close.new.core)
+    close_not_few (engine g.S.SliceStore.kind) (step (stock c.pass.new.shelf (view c.pass.new.keeper))
+    (stock c.close.new.shelf (view c.close.new.keeper)) c.pass.new.core c.close.new.core)
     c.loop-more.bad c.close.result c.close.ensures.closes e
 
 pub returns-in-Ok-None-clause-unread : goal.returns-in-Ok-None-clause-unread
@@ -111,8 +124,10 @@ returns-in-Ok-None-clause-unkept g c = λ e. absurd (closed_few g (goal.at.retur
 
 pub returns-in-Ok-None-clause-handed : goal.returns-in-Ok-None-clause-handed
 returns-in-Ok-None-clause-handed g c =
-    handed_join g.K.Keeper.view g.K.Keeper.follows g.met.K.Keeper.follows_itself g.met.K.Keeper.keeps c.args.keeper.now c.close.new.keeper c.pass.new.keeper g.met.K.Keeper.follows_on
-    (handed_join g.K.Keeper.view g.K.Keeper.follows g.met.K.Keeper.follows_itself g.met.K.Keeper.keeps c.args.keeper.now c.pass.new.keeper c.loop-more.keeper g.met.K.Keeper.follows_on
+    handed_join g.K.Keeper.view g.K.Keeper.follows g.met.K.Keeper.follows_itself g.met.K.Keeper.keeps c.args.keeper.now c.close.new.keeper c.pass.new.keeper
+    g.met.K.Keeper.follows_on
+    (handed_join g.K.Keeper.view g.K.Keeper.follows g.met.K.Keeper.follows_itself g.met.K.Keeper.keeps c.args.keeper.now c.pass.new.keeper c.loop-more.keeper
+    g.met.K.Keeper.follows_on
     c.loop-more.invariant.handed c.pass.ensures.handed) c.close.ensures.handed
 
 pub returns-in-Err-pass-clause-served : goal.returns-in-Err-pass-clause-served
@@ -122,10 +137,13 @@ returns-in-Err-pass-clause-served g c =
     let view = g.K.Keeper.view in
     let handed = g.K.Keeper.follows c.args.keeper.now c.pass.new.keeper in
     let start = devices (g.I.Source.view c.args.script.now) (g.O.Sink.view c.args.out.now) c.args.shelf.now (view c.args.keeper.now) in
-    let now = hand (input (g.I.Source.view c.loop-more.script) c.loop-more.reader.lines) (g.O.Sink.view c.loop-more.out) (stock c.loop-more.shelf (view c.loop-more.keeper)) c.loop-more.core in
-    let next = hand (input (g.I.Source.view c.pass.new.script) c.pass.new.reader.lines) (g.O.Sink.view c.pass.new.out) (stock c.pass.new.shelf (view c.pass.new.keeper)) c.pass.new.core in
+    let now = hand (input (g.I.Source.view c.loop-more.script) c.loop-more.reader.lines) (g.O.Sink.view c.loop-more.out)
+    (stock c.loop-more.shelf (view c.loop-more.keeper)) c.loop-more.core in
+    let next = hand (input (g.I.Source.view c.pass.new.script) c.pass.new.reader.lines) (g.O.Sink.view c.pass.new.out)
+    (stock c.pass.new.shelf (view c.pass.new.keeper)) c.pass.new.core in
     let is : c.pass.result ≡ Err c.in-Err-pass.stop = cc in
-    subst (λ (n : ℕ). IsRun kind handed c.args.settings n start (record { source = next.input.source; sink = next.sink; stock = next.stock })) (sym c.status.ensures)
+    subst (λ (n : ℕ). IsRun kind handed c.args.settings n start (record { source = next.input.source; sink = next.sink; stock = next.stock }))
+    (sym c.status.ensures)
     (underway_stop (engine kind) laws handed c.args.settings start now next c.loop-more.bad c.loop-more.invariant.run c.in-Err-pass.stop
     (subst (λ (r : Result (Option Bool) Stop). PassIs (engine kind) now next r) is c.pass.ensures.pass))
 
@@ -143,5 +161,6 @@ returns-in-Err-pass-clause-unkept g c = λ e. absurd (stop_not_few c.in-Err-pass
 
 pub returns-in-Err-pass-clause-handed : goal.returns-in-Err-pass-clause-handed
 returns-in-Err-pass-clause-handed g c =
-    handed_join g.K.Keeper.view g.K.Keeper.follows g.met.K.Keeper.follows_itself g.met.K.Keeper.keeps c.args.keeper.now c.pass.new.keeper c.loop-more.keeper g.met.K.Keeper.follows_on
+    handed_join g.K.Keeper.view g.K.Keeper.follows g.met.K.Keeper.follows_itself g.met.K.Keeper.keeps c.args.keeper.now c.pass.new.keeper c.loop-more.keeper
+    g.met.K.Keeper.follows_on
     c.loop-more.invariant.handed c.pass.ensures.handed
