@@ -4,7 +4,7 @@ use Rattle.wtf_model.specs.declared.event.Event.{Event}
 use Rattle.wtf_model.specs.declared.answer.Kind.{Kind}
 use Rattle.wtf_model.specs.declared.answer.Answer.{Answer}
 use Rattle.wtf_model.specs.Machines.{Machine}
-use Rattle.wtf_model.specs.Lines.{Line, MayLineCaused, after_line}
+use Rattle.wtf_model.specs.Lines.{Line, MayLine, after_line}
 use Rattle.wtf_machine.specs.Kept.{Decides}
 use Rattle.wtf_script.specs.ScriptLines.{HasNoFeed}
 use Rattle.wtf_print.specs.Texts.{text_of}
@@ -19,8 +19,9 @@ refused_none m line output none = λ a rest told begins may. no_line (text_of a)
 pub refused_untold : (m : Machine) (line : Line) (text behind output : List ℕ) → BeginsWith text behind output → IsAnswerOf text None → IsRefused m line output
 refused_untold m line text behind output begins none = λ a rest told there may. none a told.form (one_line (text_of a) text rest behind output there begins).0
 
-pub answered_so : (m m' : Machine) (asked : Result Event Kind) (text behind output : List ℕ) (b : Answer) → BeginsWith text behind output → IsAnswerOf text (Some b)
-    → Decides (MayLineCaused m (line_from asked) b) m (after_line m (line_from asked) b) m' true → IsAnswered m (line_from asked) output behind m'
+pub answered_so : (m m' : Machine) (asked : Result Event Kind) (text behind output : List ℕ) (b : Answer) → BeginsWith text behind output
+    → IsAnswerOf text (Some b)
+    → Decides (MayLine m (line_from asked) b) m (after_line m (line_from asked) b) m' true → IsAnswered m (line_from asked) output behind m'
 answered_so m m' asked text behind output b begins is did = record {
   answer = b;
   told = record { form = is.0; plain = subst HasNoFeed (sym is.1) begins.plain };
@@ -29,7 +30,8 @@ answered_so m m' asked text behind output b begins is did = record {
   next_is = did.1;
 }
 
-pub refused_so : (m m' : Machine) (asked : Result Event Kind) (text behind output : List ℕ) (b : Answer) → BeginsWith text behind output → IsAnswerOf text (Some b)
-    → Decides (MayLineCaused m (line_from asked) b) m (after_line m (line_from asked) b) m' false → IsRefused m (line_from asked) output
+pub refused_so : (m m' : Machine) (asked : Result Event Kind) (text behind output : List ℕ) (b : Answer) → BeginsWith text behind output
+    → IsAnswerOf text (Some b)
+    → Decides (MayLine m (line_from asked) b) m (after_line m (line_from asked) b) m' false → IsRefused m (line_from asked) output
 refused_so m m' asked text behind output b begins is did = λ a rest told there may.
     did.0 (may_same m asked a b told.form (is.2 a told.form (one_line (text_of a) text rest behind output there begins).0) may)

@@ -15,12 +15,31 @@ use Rattle.std.specs.Ordering.{nat_cmp}
 use Rattle.wtf_model.specs.Transaction.{Transaction, Job}
 use Rattle.wtf_model.specs.Jobs.{MayPut}
 use Rattle.wtf_model.specs.Lawful.{client_refusal, MayAsk, MayTry, MayCommit, MayBuilt}
-use Rattle.wtf_model.specs.Built.{MayCaused}
+use Rattle.wtf_model.specs.Built.{May}
 use Rattle.wtf_model.specs.declared.answer.Kind.{Kind}
-use Rattle.wtf_model.specs.Lines.{MayLineCaused, after_line}
+use Rattle.wtf_model.specs.Lines.{MayLine, after_line}
 use Rattle.wtf_checker.specs.Lawful.{line_from}
 use Rattle.wtf_checker.specs.Judging.{IsAnswered, IsWithin}
-use Rattle.wtf_model.specs.Steps.{Machine, is_logged, with_transaction, logged, begun, tried, stepped, committed, aborted, after_client, with_down, saved, with_job, put_in_place, dropped, scanning, scanned, after}
+use Rattle.wtf_model.specs.Steps.{
+  Machine,
+  is_logged,
+  with_transaction,
+  logged,
+  begun,
+  tried,
+  stepped,
+  committed,
+  aborted,
+  after_client,
+  with_down,
+  saved,
+  with_job,
+  put_in_place,
+  dropped,
+  scanning,
+  scanned,
+  after,
+}
 
 pub record Rises (old new : Machine) : Type 0 where
   pub number : new.number ≤ old.number + 1
@@ -81,7 +100,8 @@ module _ (m : Machine) (c : ℕ) where
   refused_rises (Some t) verb.Abort w = still m
   refused_rises (Some t) (verb.Call o) w = called_by (is_logged (answer.Refused w)) (logged t o (answer.Refused w))
 
-  client_by : (r : Option Word) (o : Option Transaction) (v : Verb) (a : Answer) → MatchOption r (MayAsk m o v a) (λ w. a ≡ answer.Refused w) → Rises m (after_client m c o v a)
+  client_by : (r : Option Word) (o : Option Transaction) (v : Verb) (a : Answer) → MatchOption r (MayAsk m o v a) (λ w. a ≡ answer.Refused w)
+      → Rises m (after_client m c o v a)
   client_by None o v a may = asked_rises o v a may
   client_by (Some w) o v a is = subst (λ x. Rises m (after_client m c o v x)) (sym is) (refused_rises o v w)
 
@@ -133,15 +153,15 @@ module _ (m : Machine) where
   after_rises event.Tree a may = still m
 
 -- an answer that the machine may give to a line
-pub line_rises : (m : Machine) (asked : Result Event Kind) (a : Answer) → MayLineCaused m (line_from asked) a → Rises m (after_line m (line_from asked) a)
+pub line_rises : (m : Machine) (asked : Result Event Kind) (a : Answer) → MayLine m (line_from asked) a → Rises m (after_line m (line_from asked) a)
 line_rises m (Err k) a may = still m
 line_rises m (Ok e) a may = event_rises m e a may
   where
-    event_rises : (m : Machine) (e : Event) (a : Answer) → MayCaused m e a → Rises m (after m e a)
+    event_rises : (m : Machine) (e : Event) (a : Answer) → May m e a → Rises m (after m e a)
     event_rises m (event.Client c v) a may = after_rises m (event.Client c v) a may
-    event_rises m (event.Plan j kind p r) a is = subst (λ x. Rises m (after m (event.Plan j kind p r) x)) (sym is) (still m)
-    event_rises m (event.Put j) a is = subst (λ x. Rises m (after m (event.Put j) x)) (sym is) (still m)
-    event_rises m (event.DropJob j) a is = subst (λ x. Rises m (after m (event.DropJob j) x)) (sym is) (still m)
+    event_rises m (event.Plan j kind p r) a may = after_rises m (event.Plan j kind p r) a may
+    event_rises m (event.Put j) a may = after_rises m (event.Put j) a may
+    event_rises m (event.DropJob j) a may = after_rises m (event.DropJob j) a may
     event_rises m event.Scan a is = subst (λ x. Rises m (after m event.Scan x)) (sym is) (still m)
     event_rises m (event.Piece k) a is = subst (λ x. Rises m (after m (event.Piece k) x)) (sym is) (still m)
     event_rises m (event.Collect k) a is = still m
@@ -152,12 +172,13 @@ line_rises m (Ok e) a may = event_rises m e a may
     event_rises m event.Tree a may = after_rises m event.Tree a may
 
 -- so much is counted at most then
-pub rises_within : (most : ℕ) (m : Machine) (asked : Result Event Kind) (a : Answer) → MayLineCaused m (line_from asked) a → IsWithin most m
+pub rises_within : (most : ℕ) (m : Machine) (asked : Result Event Kind) (a : Answer) → MayLine m (line_from asked) a → IsWithin most m
     → IsWithin (most + 1) (after_line m (line_from asked) a)
 rises_within most m asked a may w =
     let r = line_rises m asked a may in
     record { number = omega (arith, r.number, w.number); stamps = omega (arith, r.stamps, w.stamps); scans = omega (arith, r.scans, w.scans) }
 
 -- and so behind an answer that a line told
-pub answered_within : (most : ℕ) (m m' : Machine) (asked : Result Event Kind) (left rest : List ℕ) → IsAnswered m (line_from asked) left rest m' → IsWithin most m → IsWithin (most + 1) m'
+pub answered_within : (most : ℕ) (m m' : Machine) (asked : Result Event Kind) (left rest : List ℕ) → IsAnswered m (line_from asked) left rest m'
+    → IsWithin most m → IsWithin (most + 1) m'
 answered_within most m m' asked left rest a w = subst (IsWithin (most + 1)) (sym a.next_is) (rises_within most m asked a.answer a.may w)

@@ -7,10 +7,12 @@ use Rattle.wtf_script.proofs.LinesOf.{no_feed_head, no_feed_rest}
 use Rattle.wtf_checker.specs.Lawful.{BeginsWith}
 
 -- at the first line feed
-pub cut_at : (bytes : List ℕ) (n : ℕ) → n < length bytes → get_or bytes n 0 ≡ 10 → HasNoFeed (take n bytes) → BeginsWith (take n bytes) (drop (n + 1) bytes) bytes
+pub cut_at : (bytes : List ℕ) (n : ℕ) → n < length bytes → get_or bytes n 0 ≡ 10 → HasNoFeed (take n bytes)
+    → BeginsWith (take n bytes) (drop (n + 1) bytes) bytes
 cut_at bytes n h e plain = record {
   plain = plain;
-  bytes_are = sym (take-append-drop n bytes) ∙ ap (λ (l : List ℕ). take n bytes ++ l) (drop_more bytes n 0 h) ∙ ap (λ (b : ℕ). take n bytes ++ b ∷ drop (n + 1) bytes) e;
+  bytes_are = sym (take-append-drop n bytes) ∙ ap (λ (l : List ℕ). take n bytes ++ l) (drop_more bytes n 0 h)
+      ∙ ap (λ (b : ℕ). take n bytes ++ b ∷ drop (n + 1) bytes) e;
 }
 
 -- bytes without a line feed begin with no line
@@ -25,7 +27,8 @@ heads : (a b : ℕ) (xs ys : List ℕ) → (a ∷ xs) ≡ (b ∷ ys) → (a ≡ 
 heads a b xs ys e = (ap (λ (l : List ℕ). get_or l 0 0) e, ap (λ (l : List ℕ). drop 1 l) e)
 
 -- and other bytes with one
-one_cut : (line other rest left : List ℕ) → HasNoFeed line → HasNoFeed other → line ++ line_feed ∷ rest ≡ other ++ line_feed ∷ left → (line ≡ other) × (rest ≡ left)
+one_cut : (line other rest left : List ℕ) → HasNoFeed line → HasNoFeed other → line ++ line_feed ∷ rest ≡ other ++ line_feed ∷ left
+    → (line ≡ other) × (rest ≡ left)
 one_cut [] [] rest left p q e = (refl, (heads 10 10 rest left e).1)
 one_cut [] (b ∷ bs) rest left p q e = absurd (no_feed_head b bs q (sym (heads 10 b rest (bs ++ line_feed ∷ left) e).0))
 one_cut (b ∷ bs) [] rest left p q e = absurd (no_feed_head b bs p (heads b 10 (bs ++ line_feed ∷ rest) left e).0)

@@ -20,7 +20,14 @@ have_no_output s o o' why t = record {
   output_taken = t.taken;
   script_gave = gave_none s;
   output_gave = t.gave;
-  limit = (λ e. inr (t.limit.0 (cc)), λ h. elim h [ inl a ↦ absurd (omega (arith, a)) | inr b ↦ let e : why ≡ stop.TooMuch = (let r = t.limit.1 b in cc) in cc ]);
+  limit = (
+    λ e. inr (t.limit.0 (cc)),
+    λ h. elim h [
+      | inl a ↦ absurd (omega (arith, a))
+      | inr b ↦ let e : why
+          ≡ stop.TooMuch = (let r = t.limit.1 b in cc) in cc
+    ],
+  );
   script_cause = λ e. let is : why ≡ stop.Unread = cc in absurd (elim (t.is why refl) [ inl a ↦ cc | inr b ↦ elim b [ inl a ↦ cc | inr a ↦ cc ] ]);
   output_cause = λ e. t.cause (cc);
   read_alone = λ e. let is : why ≡ stop.Unwritten = cc in absurd (elim (t.is why refl) [ inl a ↦ cc | inr b ↦ elim b [ inl a ↦ cc | inr a ↦ cc ] ]);
@@ -42,7 +49,8 @@ have_no_memory s o o' x t = record {
 }
 
 -- the script could not be read
-pub have_no_script : {A : Type 0} (s s' o o' : SourceView) (held : Held) (why : Stop) (x : A) → HasTaken o o' (Ok x) → HasStopped s s' held why → HaveRead s s' o o' (Err why)
+pub have_no_script : {A : Type 0} (s s' o o' : SourceView) (held : Held) (why : Stop) (x : A) → HasTaken o o' (Ok x) → HasStopped s s' held why
+    → HaveRead s s' o o' (Err why)
 have_no_script s s' o o' held why x t h = record {
   script_taken = held.count;
   output_taken = t.taken;
@@ -59,7 +67,8 @@ have_no_script s s' o o' held why x t h = record {
 }
 
 -- both were read
-pub have_both : {A : Type 0} (s s' o o' : SourceView) (x : A) (held : Held) (lines : List (List ℕ)) (bytes : List ℕ) (v : Verdict) → HasTaken o o' (Ok x) → IsRead s s' held lines → Judges s bytes (Ok v)
+pub have_both : {A : Type 0} (s s' o o' : SourceView) (x : A) (held : Held) (lines : List (List ℕ)) (bytes : List ℕ) (v : Verdict) → HasTaken o o' (Ok x)
+    → IsRead s s' held lines → Judges s bytes (Ok v)
     → ((all : List ℕ) → o.rest ≡ Some all → (bytes ≡ all) × (o'.rest ≡ Some [])) → HaveRead s s' o o' (Ok v)
 have_both s s' o o' x held lines bytes v t r judges told = record {
   script_taken = held.count;
@@ -72,8 +81,11 @@ have_both s s' o o' x held lines bytes v t r judges told = record {
   read_alone = λ e. absurd (cc);
   judged = λ w e script output hs ho.
       let same : v ≡ w = cc in
-      let all = told output ho in
-      (subst (λ (x : Verdict). IsVerdict script output x) same (subst (λ (b : List ℕ). IsVerdict script b v) all.0 (judges script hs)), (r.whole script hs).1, all.1);
+      let all = told output ho in (
+        subst (λ (x : Verdict). IsVerdict script output x) same (subst (λ (b : List ℕ). IsVerdict script b v) all.0 (judges script hs)),
+        (r.whole script hs).1,
+        all.1,
+      );
 }
 
 -- ---- the status
@@ -86,7 +98,8 @@ not_past : (status : ℕ) (v : Verdict) → (status ≡ verdict_status v) ⊎ (s
 not_past status v is e = omega (arith, low v, is, e)
 
 judged_so : (s s' o o' : SourceView) (k k' : SinkView) (v : Verdict) (status : ℕ) → HaveRead s s' o o' (Ok v) → HasWritten v k k' status
-    → (script output text : List ℕ) → s.rest ≡ Some script → o.rest ≡ Some output → k.taken ≡ Some text → HasJudged (streams s o k) (streams s' o' k') script output text status
+    → (script output text : List ℕ) → s.rest ≡ Some script → o.rest ≡ Some output → k.taken ≡ Some text
+    → HasJudged (streams s o k) (streams s' o' k') script output text status
 judged_so s s' o o' k k' (verdict.Lawful n) status h w script output text hs ho hk = record {
   lawful = λ e. (n, (h.judged (verdict.Lawful n) refl script output hs ho).0, w.wrote e text hk);
   refused = λ e. absurd (omega (arith, e, w.status_is));
@@ -107,7 +120,8 @@ status_in v status (inr (inl e)) = inr (inr (inr (inl e)))
 status_in v status (inr (inr e)) = inr (inr (inr (inr (inr (inl e)))))
 
 -- a verdict was told, or could not be
-pub checked_told : (s s' o o' : SourceView) (k k' : SinkView) (v : Verdict) (status : ℕ) → HaveRead s s' o o' (Ok v) → HasWritten v k k' status → IsChecked status (streams s o k) (streams s' o' k')
+pub checked_told : (s s' o o' : SourceView) (k k' : SinkView) (v : Verdict) (status : ℕ) → HaveRead s s' o o' (Ok v) → HasWritten v k k' status
+    → IsChecked status (streams s o k) (streams s' o' k')
 checked_told s s' o o' k k' v status h w = record {
   status_is = status_in v status w.status_is;
   script_taken = h.script_taken;
@@ -172,7 +186,8 @@ err_is a b e = ap (λ (x : Stop). Err x) e
 is_err : (a b : Stop) → ◌≡◌ {A = Result Verdict Stop} (Err a) (Err b) → a ≡ b
 is_err a b e = cc
 
-pub checked_stopped : (s s' o o' : SourceView) (k : SinkView) (why : Stop) → HaveRead s s' o o' (Err why) → IsChecked (stop_status why) (streams s o k) (streams s' o' k)
+pub checked_stopped : (s s' o o' : SourceView) (k : SinkView) (why : Stop) → HaveRead s s' o o' (Err why)
+    → IsChecked (stop_status why) (streams s o k) (streams s' o' k)
 checked_stopped s s' o o' k why h =
     let written : why ≡ stop.Unwritten → ⊥ = λ e. h.read_alone (err_is why stop.Unwritten e) in
     record {

@@ -1,5 +1,27 @@
 -- Answers are lawful so far, and a verdict.
-use Rattle.std.proofs.Common.{◌≡◌, ◌+◌, ℕ, List, [], ◌∷◌, ◌++◌, length, map, Result, Ok, refl, sym, ◌∙◌, ap, subst, arith, append_assoc, inl, inr, length-append}
+use Rattle.std.proofs.Common.{
+  ◌≡◌,
+  ◌+◌,
+  ℕ,
+  List,
+  [],
+  ◌∷◌,
+  ◌++◌,
+  length,
+  map,
+  Result,
+  Ok,
+  refl,
+  sym,
+  ◌∙◌,
+  ap,
+  subst,
+  arith,
+  append_assoc,
+  inl,
+  inr,
+  length-append,
+}
 use Rattle.std.proofs.lemmas.List.{append-nil, map-append, length-map}
 use Rattle.std.proofs.lemmas.List.Elements.{All-append, All-nil, All-cons}
 use Rattle.wtf_base.specs.declared.settings.Settings.{Settings}
@@ -8,8 +30,8 @@ use Rattle.wtf_model.specs.declared.event.Event.{Event}
 use Rattle.wtf_model.specs.declared.answer.Kind.{Kind}
 use Rattle.wtf_model.specs.declared.answer.Answer.{Answer}
 use Rattle.wtf_model.specs.Machines.{Machine}
-use Rattle.wtf_model.specs.Lines.{Line, AlongBy, state_after, MayLineCaused, after_line, machine_after}
-use Rattle.wtf_model.proofs.LineLaws.{state_after-push, AlongBy-push, AlongBy-lengths, Accepts-from_caused}
+use Rattle.wtf_model.specs.Lines.{Line, AlongBy, state_after, MayLine, after_line, machine_after}
+use Rattle.wtf_model.proofs.LineLaws.{state_after-push, AlongBy-push, AlongBy-lengths, Accepts-from_lines}
 use Rattle.wtf_script.specs.Grammar.{event_of}
 use Rattle.wtf_script.specs.Reading.{Held}
 use Rattle.wtf_script.specs.ScriptLines.{lines_of, fed, HasNoFeed}
@@ -30,7 +52,8 @@ no_line_after : (m : Machine) → machine_after m [] [] ≡ m
 unfolding state_after
 no_line_after m = refl
 
-pub sofar_first : (start now : SourceView) (held : Held) (settings : Settings) (output answers : List ℕ) (m : Machine) → IsReading start now held [] → m ≡ first settings
+pub sofar_first : (start now : SourceView) (held : Held) (settings : Settings) (output answers : List ℕ) (m : Machine) → IsReading start now held []
+    → m ≡ first settings
     → BeginsWith (first_text settings) answers output → IsLawfulSoFar start (place now held) settings output answers 0 m
 sofar_first start now held settings output answers m reading is begins = record {
   lines = [];
@@ -44,11 +67,13 @@ sofar_first start now held settings output answers m reading is begins = record 
 }
 
 -- what one line more asks
-asked_push : (lines : List (List ℕ)) (line : List ℕ) (asked : Result Event Kind) → event_of line ≡ asked → map line_of (lines ++ line ∷ []) ≡ map line_of lines ++ line_from asked ∷ []
+asked_push : (lines : List (List ℕ)) (line : List ℕ) (asked : Result Event Kind) → event_of line ≡ asked
+    → map line_of (lines ++ line ∷ []) ≡ map line_of lines ++ line_from asked ∷ []
 asked_push lines line asked asks = map-append line_of lines (line ∷ []) ∙ ap (λ (x : Result Event Kind). map line_of lines ++ line_from x ∷ []) asks
 
 -- the line of one answer more
-text_push : (given : List Answer) (a : Answer) (left rest behind : List ℕ) → behind ≡ fed (map text_of given) ++ left → left ≡ text_of a ++ 10 ∷ rest → behind ≡ fed (map text_of (given ++ a ∷ [])) ++ rest
+text_push : (given : List Answer) (a : Answer) (left rest behind : List ℕ) → behind ≡ fed (map text_of given) ++ left → left ≡ text_of a ++ 10 ∷ rest
+    → behind ≡ fed (map text_of (given ++ a ∷ [])) ++ rest
 text_push given a left rest behind is line =
     let texts = map text_of given in
     let one : fed texts ++ (text_of a ++ 10 ∷ []) ≡ fed (map text_of (given ++ a ∷ [])) =
@@ -56,23 +81,28 @@ text_push given a left rest behind is line =
     is ∙ ap (λ (l : List ℕ). fed texts ++ l) (line ∙ sym (append_assoc (text_of a) (10 ∷ []) rest))
     ∙ sym (append_assoc (fed texts) (text_of a ++ 10 ∷ []) rest) ∙ ap (λ (l : List ℕ). l ++ rest) one
 
-lawful_push : (settings : Settings) (lines : List Line) (given : List Answer) (left rest behind : List ℕ) (m next : Machine) (line : Line) → AreLawful settings lines given left behind
-    → m ≡ machine_after (first settings) lines given → (a : IsAnswered m line left rest next) → AreLawful settings (lines ++ line ∷ []) (given ++ a.answer ∷ []) rest behind
+lawful_push : (settings : Settings) (lines : List Line) (given : List Answer) (left rest behind : List ℕ) (m next : Machine) (line : Line)
+    → AreLawful settings lines given left behind
+    → m ≡ machine_after (first settings) lines given → (a : IsAnswered m line left rest next)
+    → AreLawful settings (lines ++ line ∷ []) (given ++ a.answer ∷ []) rest behind
 lawful_push settings lines given left rest behind m next line are is a = record {
   told = All-append IsTold given (a.answer ∷ []) are.told (All-cons IsTold a.answer [] a.told (All-nil IsTold));
   bytes_are = text_push given a.answer left rest behind are.bytes_are a.begins.bytes_are;
-  lawful = AlongBy-push after_line MayLineCaused (first settings) lines given line a.answer are.lawful
-      (subst (λ (x : Machine). MayLineCaused x line a.answer) is a.may);
+  lawful = AlongBy-push after_line MayLine (first settings) lines given line a.answer are.lawful
+      (subst (λ (x : Machine). MayLine x line a.answer) is a.may);
 }
 
-machine_push : (settings : Settings) (lines : List Line) (given : List Answer) (left rest behind : List ℕ) (m next : Machine) (line : Line) → AreLawful settings lines given left behind
-    → m ≡ machine_after (first settings) lines given → (a : IsAnswered m line left rest next) → next ≡ machine_after (first settings) (lines ++ line ∷ []) (given ++ a.answer ∷ [])
+machine_push : (settings : Settings) (lines : List Line) (given : List Answer) (left rest behind : List ℕ) (m next : Machine) (line : Line)
+    → AreLawful settings lines given left behind
+    → m ≡ machine_after (first settings) lines given → (a : IsAnswered m line left rest next)
+    → next ≡ machine_after (first settings) (lines ++ line ∷ []) (given ++ a.answer ∷ [])
 machine_push settings lines given left rest behind m next line are is a =
     a.next_is ∙ ap (λ (x : Machine). after_line x line a.answer) is
     ∙ sym (state_after-push after_line (first settings) lines given line a.answer
-    (AlongBy-lengths after_line MayLineCaused (first settings) lines given are.lawful))
+    (AlongBy-lengths after_line MayLine (first settings) lines given are.lawful))
 
-pub sofar_more : (start now next : SourceView) (held held' : Held) (settings : Settings) (output left rest : List ℕ) (n : ℕ) (m m' : Machine) (asked : Result Event Kind)
+pub sofar_more : (start now next : SourceView) (held held' : Held) (settings : Settings) (output left rest : List ℕ) (n : ℕ) (m m' : Machine)
+    (asked : Result Event Kind)
     → (s : IsLawfulSoFar start (place now held) settings output left n m) → HasNext start next held' s.lines asked → IsAnswered m (line_from asked) left rest m'
     → IsLawfulSoFar start (place next held') settings output rest (n + 1) m'
 sofar_more start now next held held' settings output left rest n m m' asked s h a =
@@ -91,7 +121,8 @@ sofar_more start now next held held' settings output left rest n m m' asked s h 
     }
 
 -- the next line is refused
-pub judged_refused : (start now next : SourceView) (held held' : Held) (settings : Settings) (output left : List ℕ) (n : ℕ) (m : Machine) (asked : Result Event Kind)
+pub judged_refused : (start now next : SourceView) (held held' : Held) (settings : Settings) (output left : List ℕ) (n : ℕ) (m : Machine)
+    (asked : Result Event Kind)
     → (s : IsLawfulSoFar start (place now held) settings output left n m) → HasNext start next held' s.lines asked → IsRefused m (line_from asked) left
     → Judges start output (Ok (verdict.Refused (n + 1)))
 judged_refused start now next held held' settings output left n m asked s h refused = λ script is.
@@ -117,8 +148,10 @@ judged_refused start now next held held' settings output left n m asked s h refu
     )
 
 -- all lines are answered
-judged_whole : (start next : SourceView) (held' : Held) (settings : Settings) (output left : List ℕ) (n : ℕ) (lines : List (List ℕ)) → n ≡ length lines → IsRead start next held' lines
-    → (behind : List ℕ) → BeginsWith (first_text settings) behind output → (given : List Answer) → AreLawful settings (map line_of lines) given left behind → Judges start output (Ok (end_of n left))
+judged_whole : (start next : SourceView) (held' : Held) (settings : Settings) (output left : List ℕ) (n : ℕ) (lines : List (List ℕ)) → n ≡ length lines
+    → IsRead start next held' lines
+    → (behind : List ℕ) → BeginsWith (first_text settings) behind output → (given : List Answer) → AreLawful settings (map line_of lines) given left behind
+    → Judges start output (Ok (end_of n left))
 judged_whole start next held' settings output [] n lines count read behind begins given are = λ script is.
     let whole : lines ≡ lines_of script = sym (read.whole script is).0 in
     let these = subst (λ (ls : List (List ℕ)). AreLawful settings (map line_of ls) given [] behind) whole are in (
@@ -128,7 +161,7 @@ judged_whole start next held' settings output [] n lines count read behind begin
         begins = begins;
         given = given;
         are = these;
-        accepts = Accepts-from_caused (first settings) (asked_in script) given these.lawful;
+        accepts = Accepts-from_lines (first settings) (asked_in script) given these.lawful;
       },
       count ∙ ap length whole,
     )

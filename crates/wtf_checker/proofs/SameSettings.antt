@@ -12,7 +12,8 @@ use Rattle.wtf_checker.proofs.SettingsLaws.{settings_words, bounds}
 number_one : (a b : ℕ) → a ≤ 4294967295 → b ≤ 4294967295 → decimal a ≡ decimal b → a ≡ b
 number_one a b h k e =
     let same : ◌≡◌ {A = Option ℕ} (Some a) (Some b) =
-    sym (number-spelled 4294967295 a (omega (arith, h)) h) ∙ ap (λ (w : List ℕ). number_within 4294967295 w) e ∙ number-spelled 4294967295 b (omega (arith, k)) k in
+    sym (number-spelled 4294967295 a (omega (arith, h)) h) ∙ ap (λ (w : List ℕ). number_within 4294967295 w) e
+    ∙ number-spelled 4294967295 b (omega (arith, k)) k in
     cc
 
 limits_one : (a b c : ℕ) (l k : AreSettings a b c) → l ≡ k
@@ -28,7 +29,8 @@ limits_one a b c l k =
 abbrev settings_at : (a b c : ℕ) → AreSettings a b c → Settings
 settings_at a b c l = record { servers = a; replicas = b; region = c; limits = l }
 
-numbers_one : (a b c : ℕ) (l : AreSettings a b c) (x : ℕ) → a ≡ x → (y : ℕ) → b ≡ y → (z : ℕ) → c ≡ z → (k : AreSettings x y z) → settings_at a b c l ≡ settings_at x y z k
+numbers_one : (a b c : ℕ) (l : AreSettings a b c) (x : ℕ) → a ≡ x → (y : ℕ) → b ≡ y → (z : ℕ) → c ≡ z → (k : AreSettings x y z)
+    → settings_at a b c l ≡ settings_at x y z k
 numbers_one a b c l x e y f z g =
     subst (λ (x : ℕ). (k : AreSettings x y z) → settings_at a b c l ≡ settings_at x y z k) e
     (subst (λ (y : ℕ). (k : AreSettings a y z) → settings_at a b c l ≡ settings_at a y z k) f

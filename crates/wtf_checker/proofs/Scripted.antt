@@ -1,5 +1,39 @@
 -- What was read of a script so far, where the source tells it.
-use Rattle.std.proofs.Common.{◌≡◌, ◌⊎◌, ◌↔◌, ◌<◌, ◌≤◌, ◌+◌, ◌-◌, ◌^◌, ℕ, min, Bool, true, false, List, [], ◌∷◌, ◌++◌, length, Option, Some, None, Result, Ok, Err, refl, sym, ◌∙◌, ap, subst, arith, append_assoc, inl, inr}
+use Rattle.std.proofs.Common.{
+  ◌≡◌,
+  ◌⊎◌,
+  ◌↔◌,
+  ◌<◌,
+  ◌≤◌,
+  ◌+◌,
+  ◌-◌,
+  ◌^◌,
+  ℕ,
+  min,
+  Bool,
+  true,
+  false,
+  List,
+  [],
+  ◌∷◌,
+  ◌++◌,
+  length,
+  Option,
+  Some,
+  None,
+  Result,
+  Ok,
+  Err,
+  refl,
+  sym,
+  ◌∙◌,
+  ap,
+  subst,
+  arith,
+  append_assoc,
+  inl,
+  inr,
+}
 use Rattle.std.specs.Prelude.{replicate}
 use Rattle.std.specs.Bool.{MatchBool}
 use Rattle.std.proofs.lemmas.Bool.{lt-leb}
@@ -31,12 +65,14 @@ told_none : (script : List ℕ) (left : Option (List ℕ)) → left ≡ Some scr
 told_none script left is = record { rest = script; left_is = is; going = λ e. (refl, All-nil HasNoFeed); over = λ e. cc }
 
 -- the first lines of the script
-front_at : (script : List ℕ) (left : Option (List ℕ)) (held : Held) (lines : List (List ℕ)) (b : Bool) → held.ended ≡ b → Told script left held lines → (more : List (List ℕ)) × (lines_of script ≡ lines ++ more)
+front_at : (script : List ℕ) (left : Option (List ℕ)) (held : Held) (lines : List (List ℕ)) (b : Bool) → held.ended ≡ b → Told script left held lines
+    → (more : List (List ℕ)) × (lines_of script ≡ lines ++ more)
 front_at script left held lines true is told = ([], (told.over is).0 ∙ sym (append-nil lines))
 front_at script left held lines false is told =
     (lines_of (held.bytes ++ told.rest), ap lines_of (told.going is).0 ∙ lines_of-fed lines (held.bytes ++ told.rest) (told.going is).1)
 
-pub told_front : (script : List ℕ) (left : Option (List ℕ)) (held : Held) (lines : List (List ℕ)) → Told script left held lines → (more : List (List ℕ)) × (lines_of script ≡ lines ++ more)
+pub told_front : (script : List ℕ) (left : Option (List ℕ)) (held : Held) (lines : List (List ℕ)) → Told script left held lines
+    → (more : List (List ℕ)) × (lines_of script ≡ lines ++ more)
 told_front script left held lines told = front_at script left held lines held.ended refl told
 
 -- a further line came
@@ -63,7 +99,8 @@ more_at script left left' held held' lines line false is told (next, next_is, fi
         left_is = next_is;
         going = λ _. (
           was.0 ∙ ap (λ (x : List ℕ). fed lines ++ x) (e.0 ∙ sym (append_assoc line (10 ∷ []) (held'.bytes ++ next)))
-              ∙ sym (append_assoc (fed lines) (line ++ 10 ∷ []) (held'.bytes ++ next)) ∙ ap (λ (x : List ℕ). x ++ (held'.bytes ++ next)) (sym (append_assoc (fed lines) line (10 ∷ [])) ∙ sym (fed-push lines line)),
+              ∙ sym (append_assoc (fed lines) (line ++ 10 ∷ []) (held'.bytes ++ next))
+              ∙ ap (λ (x : List ℕ). x ++ (held'.bytes ++ next)) (sym (append_assoc (fed lines) line (10 ∷ [])) ∙ sym (fed-push lines line)),
           All-append HasNoFeed lines (line ∷ []) was.1 (All-cons HasNoFeed line [] first.plain (All-nil HasNoFeed)),
         );
         over = λ o. absurd (cc);
@@ -73,7 +110,8 @@ more_at script left left' held held' lines line false is told (next, next_is, fi
         left_is = next_is;
         going = λ o. absurd (cc);
         over = λ _. (
-          ap lines_of (was.0 ∙ ap (λ (x : List ℕ). fed lines ++ x) e.0) ∙ lines_of-fed lines line was.1 ∙ ap (λ (x : List (List ℕ)). lines ++ x) (lines_of-plain line first.plain e.1),
+          ap lines_of (was.0 ∙ ap (λ (x : List ℕ). fed lines ++ x) e.0) ∙ lines_of-fed lines line was.1
+              ∙ ap (λ (x : List (List ℕ)). lines ++ x) (lines_of-plain line first.plain e.1),
           e.2,
         );
       }
@@ -91,10 +129,12 @@ nil_right (x ∷ xs) ys e = cc
 end_at : (script : List ℕ) (left left' : Option (List ℕ)) (held held' : Held) (lines : List (List ℕ)) (b : Bool) → held.ended ≡ b
     → (told : Told script left held lines) → ReadsEnd held told.rest held' left' → (lines ≡ lines_of script) × (left' ≡ Some [])
 end_at script left left' held held' lines true is told (ended, bytes, last) =
-    let same : left' ≡ Some told.rest = subst (λ (b : Bool). MatchBool b (left' ≡ Some told.rest) ((held.bytes ++ told.rest ≡ []) × (left' ≡ Some []))) is last in
+    let same : left' ≡ Some told.rest = subst (λ (b : Bool). MatchBool b (left' ≡ Some told.rest) ((held.bytes ++ told.rest ≡ []) × (left' ≡ Some [])))
+    is last in
     (sym (told.over is).0, same ∙ ap (λ (x : List ℕ). Some x) (nil_right held.bytes told.rest (told.over is).1))
 end_at script left left' held held' lines false is told (ended, bytes, last) =
-    let none : (held.bytes ++ told.rest ≡ []) × (left' ≡ Some []) = subst (λ (b : Bool). MatchBool b (left' ≡ Some told.rest) ((held.bytes ++ told.rest ≡ []) × (left' ≡ Some []))) is last in
+    let none : (held.bytes ++ told.rest ≡ [])
+    × (left' ≡ Some []) = subst (λ (b : Bool). MatchBool b (left' ≡ Some told.rest) ((held.bytes ++ told.rest ≡ []) × (left' ≡ Some []))) is last in
     let was = told.going is in
     (sym (ap lines_of (was.0 ∙ ap (λ (x : List ℕ). fed lines ++ x) none.0) ∙ lines_of-fed lines [] was.1 ∙ append-nil lines), none.1)
 
@@ -131,7 +171,8 @@ given_on a b c n n' h e f = omega (arith, h, e, f)
 low : (a b n : ℕ) → b ≡ min (a + n) (2 ^ 64 - 1) → b ≤ 2 ^ 64 - 1
 low a b n e = omega (arith, e)
 
-gave_on : (start old new : SourceView) (held held' : Held) (lines : List (List ℕ)) (r : Result (Option Line) ReadError) → IsReading start old held lines → Got old new held held' r → Gave start new held'.count
+gave_on : (start old new : SourceView) (held held' : Held) (lines : List (List ℕ)) (r : Result (Option Line) ReadError) → IsReading start old held lines
+    → Got old new held held' r → Gave start new held'.count
 gave_on start old new held held' lines r was got = record {
   given = λ h.
       let e : old.given ≡ min (start.given + held.count) (2 ^ 64 - 1) = was.gave.given h in
@@ -147,8 +188,10 @@ gave_on start old new held held' lines r was got = record {
 few : (r : Result (Option Line) ReadError) (n : ℕ) → (r ≡ Err read_error.TooMuch) ↔ (SCRIPT_BYTES < n) → (r ≡ Err read_error.TooMuch → ⊥) → n ≤ SCRIPT_BYTES
 few r n much not = omega (arith, λ (h : SCRIPT_BYTES < n). not (much.1 h))
 
-reading_more : (start old new : SourceView) (held held' : Held) (lines : List (List ℕ)) (r : Result (Option Line) ReadError) (line : List ℕ) → IsReading start old held lines → Got old new held held' r
-    → ((rest : List ℕ) → old.rest ≡ Some rest → ReadsLine line held rest held' new.rest) → held'.count ≤ SCRIPT_BYTES → IsReading start new held' (lines ++ line ∷ [])
+reading_more : (start old new : SourceView) (held held' : Held) (lines : List (List ℕ)) (r : Result (Option Line) ReadError) (line : List ℕ)
+    → IsReading start old held lines → Got old new held held' r
+    → ((rest : List ℕ) → old.rest ≡ Some rest → ReadsLine line held rest held' new.rest) → held'.count ≤ SCRIPT_BYTES
+    → IsReading start new held' (lines ++ line ∷ [])
 reading_more start old new held held' lines r line was got came limit = record {
   gave = gave_on start old new held held' lines r was got;
   told = λ script is. told_more script old.rest new.rest held held' lines line (was.told script is) came;
@@ -166,7 +209,8 @@ pub record IsLongLine (old new : SourceView) (held held' : Held) : Type 0 where
   pub long : LINE_BYTES < length line
 
 long_of : (old new : SourceView) (held held' : Held) (o : Option (List ℕ)) → old.rest ≡ o
-    → ((rest : List ℕ) → old.rest ≡ Some rest → (bytes : List ℕ) × (LINE_BYTES < length bytes) × ReadsLine bytes held rest held' new.rest) → IsLongLine old new held held'
+    → ((rest : List ℕ) → old.rest ≡ Some rest → (bytes : List ℕ) × (LINE_BYTES < length bytes) × ReadsLine bytes held rest held' new.rest)
+    → IsLongLine old new held held'
 long_of old new held held' None is told = record {
   line = replicate (LINE_BYTES + 1) 0;
   came = λ rest e. absurd (cc);
@@ -182,8 +226,10 @@ long_of old new held held' (Some r) is told =
 
 -- ---- what came of reading a line
 
-stopped : (start old new : SourceView) (held held' : Held) (lines : List (List ℕ)) (r : Result (Option Line) ReadError) (why : Stop) → IsReading start old held lines → Got old new held held' r
-    → (why ≡ stop.Unread) ⊎ (why ≡ stop.TooMuch) ⊎ (why ≡ stop.Memory) → (why ≡ stop.Unread → r ≡ Err read_error.Failed) → (why ≡ stop.TooMuch) ↔ (r ≡ Err read_error.TooMuch) → HasStopped start new held' why
+stopped : (start old new : SourceView) (held held' : Held) (lines : List (List ℕ)) (r : Result (Option Line) ReadError) (why : Stop)
+    → IsReading start old held lines → Got old new held held' r
+    → (why ≡ stop.Unread) ⊎ (why ≡ stop.TooMuch) ⊎ (why ≡ stop.Memory) → (why ≡ stop.Unread → r ≡ Err read_error.Failed)
+    → (why ≡ stop.TooMuch) ↔ (r ≡ Err read_error.TooMuch) → HasStopped start new held' why
 stopped start old new held held' lines r why was got is failed much = record {
   gave = gave_on start old new held held' lines r was got;
   is = is;
@@ -191,7 +237,8 @@ stopped start old new held held' lines r why was got is failed much = record {
   limit = (λ e. got.much.0 (much.0 e), λ h. much.1 (got.much.1 h));
 }
 
-ended : (start old new : SourceView) (held held' : Held) (lines : List (List ℕ)) → IsReading start old held lines → Got old new held held' (Ok None) → IsRead start new held' lines
+ended : (start old new : SourceView) (held held' : Held) (lines : List (List ℕ)) → IsReading start old held lines → Got old new held held' (Ok None)
+    → IsRead start new held' lines
 ended start old new held held' lines was got = record {
   reading = record {
     gave = gave_on start old new held held' lines (Ok None) was got;
@@ -209,11 +256,13 @@ ended start old new held held' lines was got = record {
 }
 
 pub next_is : (start old new : SourceView) (held held' : Held) (lines : List (List ℕ)) → IsReading start old held lines
-    → (r : Result (Option Line) ReadError) → Got old new held held' r → (result : Result (Option (Result Event Kind)) Stop) → Asks r result → Next start new held' lines result
+    → (r : Result (Option Line) ReadError) → Got old new held held' r → (result : Result (Option (Result Event Kind)) Stop) → Asks r result
+    → Next start new held' lines result
 next_is start old new held held' lines was (Ok (Some (line.Whole bytes))) got (Ok (Some asked)) asks = record {
   line = bytes;
   asks = asks;
-  reading = reading_more start old new held held' lines (Ok (Some (line.Whole bytes))) bytes was got (λ rest e. (got.told rest e).1) (few (Ok (Some (line.Whole bytes))) held'.count got.much (λ e. absurd (cc)));
+  reading = reading_more start old new held held' lines (Ok (Some (line.Whole bytes))) bytes was got (λ rest e. (got.told rest e).1)
+      (few (Ok (Some (line.Whole bytes))) held'.count got.much (λ e. absurd (cc)));
 }
 next_is start old new held held' lines was (Ok (Some (line.Whole bytes))) got (Ok None) asks = absurd asks
 next_is start old new held held' lines was (Ok (Some (line.Whole bytes))) got (Err why) asks =
@@ -223,7 +272,8 @@ next_is start old new held held' lines was (Ok (Some line.Long)) got (Ok (Some a
     record {
       line = l.line;
       asks = event_of-long l.line l.long ∙ sym asks;
-      reading = reading_more start old new held held' lines (Ok (Some line.Long)) l.line was got l.came (few (Ok (Some line.Long)) held'.count got.much (λ e. absurd (cc)));
+      reading = reading_more start old new held held' lines (Ok (Some line.Long)) l.line was got l.came
+          (few (Ok (Some line.Long)) held'.count got.much (λ e. absurd (cc)));
     }
 next_is start old new held held' lines was (Ok (Some line.Long)) got (Ok None) asks = absurd asks
 next_is start old new held held' lines was (Ok (Some line.Long)) got (Err why) asks = absurd asks
@@ -240,7 +290,8 @@ next_is start old new held held' lines was (Err read_error.Memory) got (Err stop
     stopped start old new held held' lines (Err read_error.Memory) stop.Memory was got (inr (inr refl)) (λ e. absurd (cc)) (λ e. absurd (cc), λ e. absurd (cc))
 next_is start old new held held' lines was (Err read_error.Memory) got r asks = absurd asks
 
-pub less_is : (held held' : Held) (r : Result (Option Line) ReadError) → (IsLine r → work held' < work held) → (result : Result (Option (Result Event Kind)) Stop) → Asks r result → HasLess held held' result
+pub less_is : (held held' : Held) (r : Result (Option Line) ReadError) → (IsLine r → work held' < work held)
+    → (result : Result (Option (Result Event Kind)) Stop) → Asks r result → HasLess held held' result
 less_is held held' (Ok (Some l)) progress (Ok (Some asked)) asks = progress tt
 less_is held held' (Ok None) progress (Ok (Some asked)) asks = absurd asks
 less_is held held' (Err read_error.Failed) progress (Ok (Some asked)) asks = absurd asks
@@ -251,17 +302,20 @@ less_is held held' r progress (Err why) asks = tt
 
 -- ---- reading on
 
-pub went_on : (start now : SourceView) (held : Held) (lines : List (List ℕ)) (asked : Result (Option (Result Event Kind)) Stop) → Next start now held lines asked → IsMore asked (Ok true) → (more : List (List ℕ)) × IsReading start now held more
+pub went_on : (start now : SourceView) (held : Held) (lines : List (List ℕ)) (asked : Result (Option (Result Event Kind)) Stop)
+    → Next start now held lines asked → IsMore asked (Ok true) → (more : List (List ℕ)) × IsReading start now held more
 went_on start now held lines (Ok (Some x)) next is = (lines ++ next.line ∷ [], next.reading)
 went_on start now held lines (Ok None) next is = absurd cc
 went_on start now held lines (Err why) next is = absurd cc
 
-pub went_out : (start now : SourceView) (held : Held) (lines : List (List ℕ)) (asked : Result (Option (Result Event Kind)) Stop) → Next start now held lines asked → IsMore asked (Ok false) → IsRead start now held lines
+pub went_out : (start now : SourceView) (held : Held) (lines : List (List ℕ)) (asked : Result (Option (Result Event Kind)) Stop)
+    → Next start now held lines asked → IsMore asked (Ok false) → IsRead start now held lines
 went_out start now held lines (Ok (Some x)) next is = absurd cc
 went_out start now held lines (Ok None) next is = next
 went_out start now held lines (Err why) next is = absurd cc
 
-pub went_wrong : (start now : SourceView) (held : Held) (lines : List (List ℕ)) (asked : Result (Option (Result Event Kind)) Stop) (why : Stop) → Next start now held lines asked → IsMore asked (Err why) → HasStopped start now held why
+pub went_wrong : (start now : SourceView) (held : Held) (lines : List (List ℕ)) (asked : Result (Option (Result Event Kind)) Stop) (why : Stop)
+    → Next start now held lines asked → IsMore asked (Err why) → HasStopped start now held why
 went_wrong start now held lines (Ok (Some x)) why next is = absurd cc
 went_wrong start now held lines (Ok None) why next is = absurd cc
 went_wrong start now held lines (Err e) why next is = let same : e ≡ why = cc in subst (λ x. HasStopped start now held x) same next

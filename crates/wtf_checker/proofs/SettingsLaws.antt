@@ -20,7 +20,8 @@ right a b c d e f g h =
     ∙ append_assoc a b (c ++ (d ++ (e ++ (f ++ (g ++ h)))))
 
 -- a number, and the word behind it
-numbered : (n : ℕ) (key behind : List ℕ) (ws : List (List ℕ)) → n < 2 ^ 64 → words_of behind ≡ key ∷ ws → words_of (decimal n ++ 32 ∷ behind) ≡ decimal n ∷ key ∷ ws
+numbered : (n : ℕ) (key behind : List ℕ) (ws : List (List ℕ)) → n < 2 ^ 64 → words_of behind ≡ key ∷ ws
+    → words_of (decimal n ++ 32 ∷ behind) ≡ decimal n ∷ key ∷ ws
 numbered n key behind ws h e = first-word (decimal n) behind (number-no_space n h) ∙ ap (λ (x : List (List ℕ)). decimal n ∷ x) e
 
 words_from : (n r g z : ℕ) → n < 2 ^ 64 → r < 2 ^ 64 → g < 2 ^ 64 → z < 2 ^ 64
@@ -75,10 +76,12 @@ behind_first s text word ws e f = tail_is word (codes "wtf") ws _ (words_of text
 pub bounds : (s : Settings) → (s.servers ≤ 255) × (s.replicas ≤ 255) × (s.region ≤ 4294967295)
 bounds s = let l : AreSettings s.servers s.replicas s.region = s.limits in (omega (arith, l), omega (arith, l), omega (arith, l))
 
-pub spells_of : (s : Settings) (o : Option Settings) (a b c : ℕ) → IsSome o ↔ AreSettings a b c → IfSome o (λ t. t.servers ≡ a) → IfSome o (λ t. t.replicas ≡ b) → IfSome o (λ t. t.region ≡ c)
+pub spells_of : (s : Settings) (o : Option Settings) (a b c : ℕ) → IsSome o ↔ AreSettings a b c → IfSome o (λ t. t.servers ≡ a) → IfSome o (λ t. t.replicas ≡ b)
+    → IfSome o (λ t. t.region ≡ c)
     → a ≡ s.servers → b ≡ s.replicas → c ≡ s.region → Spells s o
 spells_of s None a b c found x y z e f g =
     let l : AreSettings s.servers s.replicas s.region = s.limits in
-    let some = found.1 (subst (λ k. AreSettings a b k) (sym g) (subst (λ k. AreSettings a k s.region) (sym f) (subst (λ k. AreSettings k s.replicas s.region) (sym e) l))) in
+    let some = found.1 (subst (λ k. AreSettings a b k) (sym g) (subst (λ k. AreSettings a k s.region) (sym f)
+    (subst (λ k. AreSettings k s.replicas s.region) (sym e) l))) in
     absurd cc
 spells_of s (Some t) a b c found x y z e f g = (x ∙ e, y ∙ f, z ∙ g)

@@ -1,5 +1,34 @@
 -- What was taken of a source that is read whole.
-use Rattle.std.proofs.Common.{◌≡◌, ◌+◌, ◌-◌, ◌^◌, ◌<◌, ◌≤◌, ℕ, min, List, [], ◌++◌, length, take, drop, Some, Ok, Err, refl, sym, ◌∙◌, ap, subst, arith, append_assoc, inl, inr, length-append, length-take}
+use Rattle.std.proofs.Common.{
+  ◌≡◌,
+  ◌+◌,
+  ◌-◌,
+  ◌^◌,
+  ◌<◌,
+  ◌≤◌,
+  ℕ,
+  min,
+  List,
+  [],
+  ◌++◌,
+  length,
+  take,
+  drop,
+  Some,
+  Ok,
+  Err,
+  refl,
+  sym,
+  ◌∙◌,
+  ap,
+  subst,
+  arith,
+  append_assoc,
+  inl,
+  inr,
+  length-append,
+  length-take,
+}
 use Rattle.std.proofs.lemmas.List.{append-nil, take-append-drop, take-take, take-append-le}
 use Rattle.wtf_dev.specs.Counts.{Rose}
 use Rattle.wtf_dev.specs.Streams.{SourceView, Gives}
@@ -35,7 +64,8 @@ given_on a b c n m e f = omega (arith, e, f)
 
 -- n bytes more came, into `out`
 pub came_more : (start old new : SourceView) (taken out : List ℕ) (n room : ℕ) → Came start old taken → n ≤ length out
-    → ((all : List ℕ) → old.rest ≡ Some all → Gives {E = Stop} (Ok n) room out all new.rest) → new.given ≡ min (old.given + n) (2 ^ 64 - 1) → old.faults ≤ new.faults
+    → ((all : List ℕ) → old.rest ≡ Some all → Gives {E = Stop} (Ok n) room out all new.rest) → new.given ≡ min (old.given + n) (2 ^ 64 - 1)
+    → old.faults ≤ new.faults
     → Came start new (taken ++ take n out)
 came_more start old new taken out n room came fits gives given faults = record {
   given = λ h.
@@ -52,7 +82,8 @@ came_more start old new taken out n room came fits gives given faults = record {
       );
 }
 
-pub came_failed : (start old new : SourceView) (taken : List ℕ) → Came start old taken → ((all : List ℕ) → old.rest ≡ Some all → new.rest ≡ Some all) → new.given ≡ old.given → old.faults ≤ new.faults → Came start new taken
+pub came_failed : (start old new : SourceView) (taken : List ℕ) → Came start old taken → ((all : List ℕ) → old.rest ≡ Some all → new.rest ≡ Some all)
+    → new.given ≡ old.given → old.faults ≤ new.faults → Came start new taken
 came_failed start old new taken came same given faults = record {
   given = λ h. given ∙ came.given h;
   faults = omega (arith, came.faults, faults);
@@ -66,7 +97,8 @@ of_chunk : (out kept : List ℕ) (n room : ℕ) → n ≤ length out → room �
 of_chunk out kept n room few fits = take-take n room (out ++ kept) (omega (arith, few, fits)) ∙ take-append-le n out kept few
 
 -- what was pushed is the front of what was read into the chunk
-pub pushed_chunk : (new taken chunk out kept : List ℕ) (n room : ℕ) → new ≡ taken ++ take n chunk → chunk ≡ take room (out ++ kept) → n ≤ length out → room ≡ length out → new ≡ taken ++ take n out
+pub pushed_chunk : (new taken chunk out kept : List ℕ) (n room : ℕ) → new ≡ taken ++ take n chunk → chunk ≡ take room (out ++ kept) → n ≤ length out
+    → room ≡ length out → new ≡ taken ++ take n out
 pushed_chunk new taken chunk out kept n room pushed holds few fits =
     pushed ∙ ap (λ (l : List ℕ). taken ++ l) (ap (λ (l : List ℕ). take n l) holds ∙ of_chunk out kept n room few fits)
 
@@ -79,7 +111,8 @@ taken_ok start now taken x came few = record {
   is = λ why e. absurd (cc);
 }
 
-pub taken_failed : {A : Type 0} (start old now : SourceView) (taken : List ℕ) → Came start old taken → Came start now taken → length taken ≤ SCRIPT_BYTES → Rose old.faults now.faults → HasTaken {A = A} start now (Err stop.Unanswered)
+pub taken_failed : {A : Type 0} (start old now : SourceView) (taken : List ℕ) → Came start old taken → Came start now taken → length taken ≤ SCRIPT_BYTES
+    → Rose old.faults now.faults → HasTaken {A = A} start now (Err stop.Unanswered)
 taken_failed start old now taken was came few rose = record {
   taken = length taken;
   gave = gave_came start now taken came;
@@ -88,7 +121,8 @@ taken_failed start old now taken was came few rose = record {
   is = λ why e. inl (cc);
 }
 
-pub taken_much : {A : Type 0} (start now : SourceView) (taken : List ℕ) → Came start now taken → SCRIPT_BYTES < length taken → HasTaken {A = A} start now (Err stop.TooMuch)
+pub taken_much : {A : Type 0} (start now : SourceView) (taken : List ℕ) → Came start now taken → SCRIPT_BYTES < length taken
+    → HasTaken {A = A} start now (Err stop.TooMuch)
 taken_much start now taken came much = record {
   taken = length taken;
   gave = gave_came start now taken came;
@@ -97,7 +131,8 @@ taken_much start now taken came much = record {
   is = λ why e. inr (inl (cc));
 }
 
-pub taken_short : {A : Type 0} (start now : SourceView) (taken : List ℕ) → Came start now taken → length taken ≤ SCRIPT_BYTES → HasTaken {A = A} start now (Err stop.Memory)
+pub taken_short : {A : Type 0} (start now : SourceView) (taken : List ℕ) → Came start now taken → length taken ≤ SCRIPT_BYTES
+    → HasTaken {A = A} start now (Err stop.Memory)
 taken_short start now taken came few = record {
   taken = length taken;
   gave = gave_came start now taken came;
@@ -111,11 +146,13 @@ none_more : (taken out : List ℕ) (n : ℕ) → n ≡ 0 → taken ++ take n out
 none_more taken out n e = ap (λ (k : ℕ). taken ++ take k out) e ∙ append-nil taken
 
 pub nothing_more : (start old new : SourceView) (taken out : List ℕ) (n room : ℕ) → Came start old taken → n ≤ length out
-    → ((all : List ℕ) → old.rest ≡ Some all → Gives {E = Stop} (Ok n) room out all new.rest) → new.given ≡ min (old.given + n) (2 ^ 64 - 1) → old.faults ≤ new.faults → n ≡ 0 → Came start new taken
+    → ((all : List ℕ) → old.rest ≡ Some all → Gives {E = Stop} (Ok n) room out all new.rest) → new.given ≡ min (old.given + n) (2 ^ 64 - 1)
+    → old.faults ≤ new.faults → n ≡ 0 → Came start new taken
 nothing_more start old new taken out n room came fits gives given faults e =
     subst (λ (l : List ℕ). Came start new l) (none_more taken out n e) (came_more start old new taken out n room came fits gives given faults)
 
-pub ended_so : (start old new : SourceView) (taken out : List ℕ) (n room : ℕ) → Came start old taken → ((all : List ℕ) → old.rest ≡ Some all → Gives {E = Stop} (Ok n) room out all new.rest) → n ≡ 0 → 0 < room
+pub ended_so : (start old new : SourceView) (taken out : List ℕ) (n room : ℕ) → Came start old taken
+    → ((all : List ℕ) → old.rest ≡ Some all → Gives {E = Stop} (Ok n) room out all new.rest) → n ≡ 0 → 0 < room
     → (bytes : List ℕ) → start.rest ≡ Some bytes → (taken ≡ bytes) × (new.rest ≡ Some [])
 ended_so start old new taken out n room came gives e some bytes is =
     let t = came.told bytes is in

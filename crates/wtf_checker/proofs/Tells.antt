@@ -1,5 +1,29 @@
 -- A line tells one answer: those that have its text are given, or none of them.
-use Rattle.std.proofs.Common.{◌≡◌, ◌⊎◌, ℕ, Bool, true, false, nat_lt, if◌then◌else◌, List, ◌∷◌, Option, Some, None, Result, Ok, Err, refl, sym, ◌∙◌, ap, subst, inl, inr}
+use Rattle.std.proofs.Common.{
+  ◌≡◌,
+  ◌⊎◌,
+  ℕ,
+  Bool,
+  true,
+  false,
+  nat_lt,
+  if◌then◌else◌,
+  List,
+  ◌∷◌,
+  Option,
+  Some,
+  None,
+  Result,
+  Ok,
+  Err,
+  refl,
+  sym,
+  ◌∙◌,
+  ap,
+  subst,
+  inl,
+  inr,
+}
 use Rattle.std.specs.Prelude.{MatchOption}
 use Rattle.std.specs.FinMap.{get}
 use Rattle.wtf_model.specs.declared.answer.Answer.{Answer, Aborted'}
@@ -7,19 +31,22 @@ use Rattle.wtf_model.specs.declared.answer.Answer.TheVariants.{Okay, Shown, Refu
 use Rattle.wtf_model.specs.declared.answer.Answer.TheVariants as answer
 use Rattle.wtf_model.specs.declared.answer.Kind.{Kind}
 use Rattle.wtf_model.specs.declared.answer.Word.{Word}
-use Rattle.wtf_model.specs.declared.answer.Word.TheVariants.{NoServer}
+use Rattle.wtf_model.specs.declared.answer.Word.TheVariants.{NoServer, NoJob}
+use Rattle.wtf_model.specs.declared.op.JobKind.{JobKind}
+use Rattle.wtf_model.specs.declared.op.JobKind.TheVariants.{Compact, Spill}
 use Rattle.wtf_model.specs.declared.event.Verb.{Verb}
 use Rattle.wtf_model.specs.declared.event.Verb.TheVariants as verb
 use Rattle.wtf_model.specs.declared.event.Event.{Event}
 use Rattle.wtf_model.specs.declared.event.Event.TheVariants as event
 use Rattle.wtf_model.specs.Same.{AreSame}
 use Rattle.wtf_model.specs.Tree.{◌>>=◌, source}
-use Rattle.wtf_model.specs.Transaction.{Transaction, answers_of}
-use Rattle.wtf_model.specs.Faults.{or_refusal}
+use Rattle.wtf_model.specs.Transaction.{Transaction, Job, answers_of}
+use Rattle.wtf_model.specs.Faults.{IsReadFault, or_refusal}
+use Rattle.wtf_model.specs.Jobs.{is_idle, has_region, planned, plan_answer, IsSpillFault, MayFailPlan, MayPut, drop_answer}
 use Rattle.wtf_model.specs.Lawful.{client_refusal, Deviates, MayFailRead, MayAsk, is_short, dumped}
-use Rattle.wtf_model.specs.Built.{MayCaused}
+use Rattle.wtf_model.specs.Built.{May}
 use Rattle.wtf_model.specs.Steps.{Machine, IsLogged, cap_of, due, session_of, after_client, after}
-use Rattle.wtf_model.specs.Lines.{MayLineCaused, after_line}
+use Rattle.wtf_model.specs.Lines.{MayLine, after_line}
 use Rattle.wtf_model.proofs.StepLaws.{IsLogged-call, IsStoreFault-MayFail}
 use Rattle.wtf_print.specs.Forms.{IsWritable}
 use Rattle.wtf_checker.specs.Lawful.{line_from}
@@ -66,6 +93,31 @@ dump_fails servers (Shown (c ∷ cs)) (Aborted' i box x) b s h = h
 dump_fails servers (Shown (c ∷ cs)) a b s h = absurd s
 dump_fails servers d a b s h = h
 
+plan_other : (m : Machine) (j : ℕ) (p : List ℕ) (r : ℕ) → IsNoAbort (or_refusal (planned m j p r))
+plan_other m j p r = bound (is_idle (get m.jobs j)) _ (λ _. bound (source m.now p) _ (λ bytes. bound (has_region m.settings.region bytes r) _ (λ _. tt)))
+
+spill_fails : (kind : JobKind) (a b : Answer) → AreAborts a b → IsSpillFault kind a → ⊥
+spill_fails kind answer.FaultWrite b s h = absurd s
+spill_fails Compact a b s h = h
+spill_fails Spill a b s h = h
+
+read_fails : (servers : ℕ) (a b : Answer) → AreAborts a b → IsReadFault servers a → ⊥
+read_fails servers (Aborted' i box x) b s h = h
+read_fails servers a b s h = absurd s
+
+plan_fails : (servers : ℕ) (kind : JobKind) (d a b : Answer) → AreAborts a b → MayFailPlan servers kind d a → ⊥
+plan_fails servers kind answer.Planned a b s h = elim h [ inl read ↦ read_fails servers a b s read | inr spill ↦ spill_fails kind a b s spill ]
+plan_fails servers kind d a b s h = h
+
+put_aborts : (a b : Answer) → AreAborts a b → (m : Machine) (o : Option Job) → MayPut m o a → ⊥
+put_aborts a b s m None h = not_abort a b s (Refused NoJob) tt h
+put_aborts (Aborted' i box x) b s m (Some j) h = h
+put_aborts a b s m (Some j) h = absurd s
+
+drop_other : (o : Option Job) → IsNoAbort (drop_answer o)
+drop_other None = tt
+drop_other (Some j) = tt
+
 call_fails : (a b : Answer) → AreAborts a b → (m : Machine) (t : Transaction) (v : Verb) → MayAsk m (Some t) v a → MayAsk m (Some t) v b
 call_fails (Aborted' i box x) (Aborted' j other y) s m t verb.Begin h = h
 call_fails (Aborted' i box x) (Aborted' j other y) s m t verb.Try h = h
@@ -75,7 +127,8 @@ call_fails (Aborted' i box x) (Aborted' j other y) s m t verb.Commit h =
 call_fails (Aborted' i box x) (Aborted' j other y) s m t verb.Abort h = absurd (not_abort (Aborted' i box x) (Aborted' j other y) s Okay tt h)
 call_fails (Aborted' i box x) (Aborted' j other y) s m t (verb.Call o) (inl is) =
     absurd (not_abort (Aborted' i box x) (Aborted' j other y) s (due m t o) (logged_other (due m t o) (IsLogged-call (cap_of m) (session_of m t) o)) is)
-call_fails (Aborted' i box x) (Aborted' j other y) s m t (verb.Call o) (inr fails) = absurd (IsStoreFault-MayFail m.settings.servers o (due m t o) (Aborted' i box x) fails)
+call_fails (Aborted' i box x) (Aborted' j other y) s m t (verb.Call o) (inr fails) = absurd
+    (IsStoreFault-MayFail m.settings.servers o (due m t o) (Aborted' i box x) fails)
 call_fails a b s m t v h = absurd s
 
 ask_aborts : (a b : Answer) → AreAborts a b → (m : Machine) (o : Option Transaction) (v : Verb) → MayAsk m o v a → MayAsk m o v b
@@ -87,30 +140,33 @@ client_aborts : (a b : Answer) → AreAborts a b → (m : Machine) (o : Option T
 client_aborts a b s m o v None h = ask_aborts a b s m o v h
 client_aborts a b s m o v (Some w) h = absurd (not_abort a b s (Refused w) tt h)
 
-save_aborts : (a b : Answer) → AreAborts a b → (m : Machine) → MayCaused m event.Save a → ⊥
+save_aborts : (a b : Answer) → AreAborts a b → (m : Machine) → May m event.Save a → ⊥
 save_aborts (Aborted' i box x) b s m h = h
 save_aborts a b s m h = absurd s
 
-may_aborts : (a b : Answer) → AreAborts a b → (m : Machine) (e : Event) → MayCaused m e a → MayCaused m e b
+may_aborts : (a b : Answer) → AreAborts a b → (m : Machine) (e : Event) → May m e a → May m e b
 may_aborts a b s m (event.Client c v) h = client_aborts a b s m (get m.transactions c) v (client_refusal (get m.transactions c) v) h
-may_aborts a b s m (event.Plan j kind p r) h = absurd (not_abort a b s NotBuilt tt h)
-may_aborts a b s m (event.Put j) h = absurd (not_abort a b s NotBuilt tt h)
-may_aborts a b s m (event.DropJob j) h = absurd (not_abort a b s NotBuilt tt h)
+may_aborts a b s m (event.Plan j kind p r) (inl is) = absurd (not_abort a b s (plan_answer m j p r) (plan_other m j p r) is)
+may_aborts a b s m (event.Plan j kind p r) (inr fails) = absurd (plan_fails m.settings.servers kind (plan_answer m j p r) a b s fails)
+may_aborts a b s m (event.Put j) h = absurd (put_aborts a b s m (get m.jobs j) h)
+may_aborts a b s m (event.DropJob j) h = absurd (not_abort a b s (drop_answer (get m.jobs j)) (drop_other (get m.jobs j)) h)
 may_aborts a b s m event.Scan h = absurd (not_abort a b s NotBuilt tt h)
 may_aborts a b s m (event.Piece k) h = absurd (not_abort a b s NotBuilt tt h)
 may_aborts a b s m (event.Collect k) h = absurd (not_abort a b s NotBuilt tt h)
-may_aborts a b s m (event.Down k) h = absurd (not_abort a b s (if nat_lt k m.settings.servers then Okay else Refused NoServer) (if_other (nat_lt k m.settings.servers) Okay (Refused NoServer) tt tt) h)
-may_aborts a b s m (event.Up k) h = absurd (not_abort a b s (if nat_lt k m.settings.servers then Okay else Refused NoServer) (if_other (nat_lt k m.settings.servers) Okay (Refused NoServer) tt tt) h)
+may_aborts a b s m (event.Down k) h = absurd (not_abort a b s (if nat_lt k m.settings.servers then Okay else Refused NoServer)
+    (if_other (nat_lt k m.settings.servers) Okay (Refused NoServer) tt tt) h)
+may_aborts a b s m (event.Up k) h = absurd (not_abort a b s (if nat_lt k m.settings.servers then Okay else Refused NoServer)
+    (if_other (nat_lt k m.settings.servers) Okay (Refused NoServer) tt tt) h)
 may_aborts a b s m event.Save h = absurd (save_aborts a b s m h)
 may_aborts a b s m (event.Dump p) (inl is) = absurd (not_abort a b s (or_refusal (dumped m.now p)) (dump_other m p) is)
 may_aborts a b s m (event.Dump p) (inr fails) = absurd (dump_fails m.settings.servers (or_refusal (dumped m.now p)) a b s fails)
 may_aborts a b s m event.Tree h = absurd (not_abort a b s _ tt h)
 
 -- the machine may give both of two answers that say the same
-pub may_same : (m : Machine) (asked : Result Event Kind) (a b : Answer) → IsWritable a → AreSame a b → MayLineCaused m (line_from asked) a
-    → MayLineCaused m (line_from asked) b
+pub may_same : (m : Machine) (asked : Result Event Kind) (a b : Answer) → IsWritable a → AreSame a b → MayLine m (line_from asked) a
+    → MayLine m (line_from asked) b
 may_same m (Ok e) a b form same h = elim (same_or_aborts a b form same) [
-  | inl is ↦ subst (λ x. MayCaused m e x) is h
+  | inl is ↦ subst (λ x. May m e x) is h
   | inr aborts ↦ may_aborts a b aborts m e h
 ]
 may_same m (Err k) a b form same h = elim (same_or_aborts a b form same) [
@@ -145,7 +201,8 @@ event_after (Aborted' i box x) (Aborted' j other y) s m event.Tree = refl
 event_after a b s m e = absurd s
 
 -- and it is the same machine behind them
-pub after_same : (m : Machine) (asked : Result Event Kind) (a b : Answer) → IsWritable a → AreSame a b → after_line m (line_from asked) a ≡ after_line m (line_from asked) b
+pub after_same : (m : Machine) (asked : Result Event Kind) (a b : Answer) → IsWritable a → AreSame a b
+    → after_line m (line_from asked) a ≡ after_line m (line_from asked) b
 after_same m (Ok e) a b form same = elim (same_or_aborts a b form same) [
   | inl is ↦ ap (λ x. after m e x) is
   | inr aborts ↦ event_after a b aborts m e

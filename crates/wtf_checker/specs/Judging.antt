@@ -5,7 +5,7 @@ use Rattle.wtf_model.specs.declared.answer.Answer.{Answer}
 use Rattle.wtf_base.specs.declared.settings.Settings.{Settings}
 use Rattle.wtf_script.specs.Reading.{Held}
 use Rattle.wtf_model.specs.Machines.{Machine}
-use Rattle.wtf_model.specs.Lines.{Line, MayLineCaused, after_line, machine_after}
+use Rattle.wtf_model.specs.Lines.{Line, MayLine, after_line, machine_after}
 use Rattle.wtf_model.specs.Same.{AreSame}
 use Rattle.wtf_print.specs.Texts.{text_of}
 use Rattle.wtf_print.specs.Forms.{IsWritable}
@@ -20,7 +20,7 @@ pub record IsAnswered (m : Machine) (line : Line) (bytes rest : List ℕ) (next 
   pub answer : Answer
   pub told : IsTold answer
   pub begins : BeginsWith (text_of answer) rest bytes
-  pub may : MayLineCaused m line answer
+  pub may : MayLine m line answer
   pub next_is : next ≡ after_line m line answer
 
 -- what the machine counts is at most this

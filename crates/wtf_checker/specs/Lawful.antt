@@ -8,7 +8,7 @@ use Rattle.wtf_model.specs.declared.answer.Answer.TheVariants as answer
 use Rattle.wtf_model.specs.Tree.{root_alone}
 use Rattle.wtf_model.specs.Machines.{Machine, start}
 use Rattle.wtf_model.specs.Steps.{Accepts}
-use Rattle.wtf_model.specs.Lines.{Line, MayLineCaused, Along, machine_after, events_of, answers_to}
+use Rattle.wtf_model.specs.Lines.{Line, MayLine, Along, machine_after, events_of, answers_to}
 use Rattle.wtf_script.specs.ScriptLines.{line_feed, lines_of, fed, HasNoFeed}
 use Rattle.wtf_script.specs.Grammar.{event_of}
 use Rattle.wtf_print.specs.Texts.{text_of, settings_text}
@@ -52,7 +52,7 @@ first s = start s 0 root_alone
 pub record AreLawful (settings : Settings) (lines : List Line) (given : List Answer) (rest bytes : List ℕ) : Type 0 where
   pub told : All IsTold given
   pub bytes_are : bytes ≡ fed (map text_of given) ++ rest
-  pub lawful : Along MayLineCaused (first settings) lines given
+  pub lawful : Along MayLine (first settings) lines given
 
 -- The output of a run: the line of settings, and behind it an answer to each line of the script and nothing else.
 pub record IsLawful (script output : List ℕ) : Type 0 where
@@ -66,7 +66,7 @@ pub record IsLawful (script output : List ℕ) : Type 0 where
 
 -- bytes begin with no line that tells an answer which the machine may give
 abbrev pub IsRefused : Machine → Line → List ℕ → Type 0
-IsRefused m line bytes = (a : Answer) (rest : List ℕ) → IsTold a → BeginsWith (text_of a) rest bytes → MayLineCaused m line a → ⊥
+IsRefused m line bytes = (a : Answer) (rest : List ℕ) → IsTold a → BeginsWith (text_of a) rest bytes → MayLine m line a → ⊥
 
 -- the next line is not answered lawfully; behind the last line something is left
 abbrev pub IsStuck : Machine → List Line → List ℕ → Type 0

@@ -8,7 +8,7 @@ ghost use Rattle.wtf_script.specs.Reading.{work};
 ghost use Rattle.wtf_model.specs.declared.answer.Answer.{Answer};
 ghost use Rattle.wtf_model.specs.declared.answer.Answer.TheVariants as an_answer;
 ghost use Rattle.wtf_model.specs.Built.{is_built};
-ghost use Rattle.wtf_model.specs.Lines.{MayLineCaused, after_line};
+ghost use Rattle.wtf_model.specs.Lines.{MayLine, after_line};
 ghost use Rattle.wtf_machine.specs.Kept.{Decides};
 ghost use Rattle.wtf_machine.specs.Machines.{machine_in};
 ghost use Rattle.wtf_print.specs.Texts.{text_of};
@@ -35,9 +35,9 @@ fn is_built(event: &Event) -> bool
     ensures { result ≡ is_built event.now }
 {
     match event {
-        Event::Plan { .. } => false,
-        Event::Put(_) => false,
-        Event::DropJob(_) => false,
+        Event::Plan { .. } => true,
+        Event::Put(_) => true,
+        Event::DropJob(_) => true,
         Event::Scan => false,
         Event::Piece(_) => false,
         Event::Collect(_) => false,
@@ -81,7 +81,7 @@ fn may(
     requires stamps { (machine_in machine.old).next_stamp < 2 ^ 63 }
     requires scans { (machine_in machine.old).scans < 2 ^ 63 }
     ensures { IfOk result (Decides
-        (MayLineCaused (machine_in machine.old) (line_from asked.now) answer.now)
+        (MayLine (machine_in machine.old) (line_from asked.now) answer.now)
         (machine_in machine.old)
         (after_line (machine_in machine.old) (line_from asked.now) answer.now)
         (machine_in machine.new)) }

@@ -127,8 +127,31 @@ begun 0
     },
 ];
 
+/// A job on a file that stands as it stood at its plan, whatever else was changed.
+const JOB: &str = "c0 begin
+c0 create /a
+c0 try
+sys plan j0 compact /a 0
+c0 begin
+c0 mkdir /d
+c0 try
+sys put j0
+";
+
+/// A job whose file is written before it is put.
+const LATE: &str = "c0 begin
+c0 create /a
+c0 try
+sys plan j0 compact /a 0
+c0 begin
+c0 open f0 /a
+c0 write f0 t:b
+c0 try
+sys put j0
+";
+
 /// Other scripts.
-const SCRIPTS: [Row; 7] = [
+const SCRIPTS: [Row; 10] = [
     Row {
         name: "nothing at all",
         script: "",
@@ -164,6 +187,52 @@ const SCRIPTS: [Row; 7] = [
         script: "c0 begin\n",
         output: "wtf servers 4 replicas 2 region 65536 number 0\nnotbuilt\n",
         line: "no 1\n",
+    },
+    Row {
+        name: "a job that is put",
+        script: JOB,
+        output: "wtf servers 4 replicas 2 region 65536 number 0
+begun 0
+ok
+committed 1
+planned
+begun 1
+ok
+committed 2
+installed 3
+",
+        line: "yes 8\n",
+    },
+    Row {
+        name: "a job that nothing made stale",
+        script: JOB,
+        output: "wtf servers 4 replicas 2 region 65536 number 0
+begun 0
+ok
+committed 1
+planned
+begun 1
+ok
+committed 2
+stale 1 2
+",
+        line: "no 8\n",
+    },
+    Row {
+        name: "a job that a write made late",
+        script: LATE,
+        output: "wtf servers 4 replicas 2 region 65536 number 0
+begun 0
+ok
+committed 1
+planned
+begun 1
+ok
+ok
+committed 2
+stale 1 2
+",
+        line: "yes 9\n",
     },
     Row {
         name: "an answer with a capital letter",

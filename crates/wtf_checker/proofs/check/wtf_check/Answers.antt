@@ -6,7 +6,8 @@ use Rattle.wtf_checker.proofs.check.wtf_check.Goals as goal
 
 pub returns-in-Ok-clause-checked : goal.returns-in-Ok-clause-checked
 returns-in-Ok-clause-checked g c =
-    checked_told (g.I.Source.view c.args.script.now) (g.I.Source.view c.verdict_on.new.script) (g.T.Source.view c.args.output.now) (g.T.Source.view c.verdict_on.new.output)
+    checked_told (g.I.Source.view c.args.script.now) (g.I.Source.view c.verdict_on.new.script) (g.T.Source.view c.args.output.now)
+    (g.T.Source.view c.verdict_on.new.output)
     (g.O.Sink.view c.args.out.now) (g.O.Sink.view c.tell.new.out) c.in-Ok.verdict c.tell.result c.in-Ok.ensures c.tell.ensures
 
 pub returns-in-Ok-clause-one : goal.returns-in-Ok-clause-one

@@ -1,6 +1,6 @@
 use Rattle.std.proofs.Common.{◌≡◌, true, false, Bool, Some, None, Option, subst}
 use Rattle.wtf_model.specs.declared.answer.Answer.{Answer}
-use Rattle.wtf_model.specs.Lines.{MayLineCaused, after_line}
+use Rattle.wtf_model.specs.Lines.{MayLine, after_line}
 use Rattle.wtf_machine.specs.Kept.{Decides}
 use Rattle.wtf_machine.specs.Machines.{machine_in}
 use Rattle.wtf_checker.specs.Lawful.{line_from}
@@ -26,7 +26,7 @@ returns-in-Ok-true c =
     let did : c.in-Ok-true.field-0 ≡ true = cc in
     answered_so m (machine_in c.may.new.machine) c.args.asked.now c.in-Some.text.now c.in-Some.behind.now c.args.output.now a c.in-Some.ensures
     (subst (λ (o : Option Answer). IsAnswerOf c.in-Some.text.now o) some c.in-Ok-Some.ensures)
-    (subst (λ (b : Bool). Decides (MayLineCaused m line a) m (after_line m line a) (machine_in c.may.new.machine) b) did c.in-Ok-true.ensures)
+    (subst (λ (b : Bool). Decides (MayLine m line a) m (after_line m line a) (machine_in c.may.new.machine) b) did c.in-Ok-true.ensures)
 
 pub returns-in-Ok-false : goal.returns-in-Ok-false
 returns-in-Ok-false c =
@@ -37,4 +37,4 @@ returns-in-Ok-false c =
     let did : c.in-Ok-false.field-0 ≡ false = cc in
     refused_so m (machine_in c.may.new.machine) c.args.asked.now c.in-Some.text.now c.in-Some.behind.now c.args.output.now a c.in-Some.ensures
     (subst (λ (o : Option Answer). IsAnswerOf c.in-Some.text.now o) some c.in-Ok-Some.ensures)
-    (subst (λ (b : Bool). Decides (MayLineCaused m line a) m (after_line m line a) (machine_in c.may.new.machine) b) did c.in-Ok-false.ensures)
+    (subst (λ (b : Bool). Decides (MayLine m line a) m (after_line m line a) (machine_in c.may.new.machine) b) did c.in-Ok-false.ensures)

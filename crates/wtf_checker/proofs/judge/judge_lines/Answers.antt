@@ -25,7 +25,8 @@ loop-asked-init g c = record {
   within = c.requires.within;
   read = λ start was. ([], was);
   sofar = λ start settings output was is begins.
-      sofar_first start (g.I.Source.view c.args.script.now) c.args.reader.now.lines settings output c.args.answers.now (machine_in c.args.machine.now) was is begins;
+      sofar_first start (g.I.Source.view c.args.script.now) c.args.reader.now.lines settings output c.args.answers.now (machine_in c.args.machine.now) was
+      is begins;
 }
 
 pub ended-requires : goal.ended-requires
@@ -35,35 +36,41 @@ pub returns-in-Ok-None-clause-read : goal.returns-in-Ok-None-clause-read
 returns-in-Ok-None-clause-read g c = λ start was.
     let now = c.loop-asked.invariant.read start was in
     let is : c.read_line.result ≡ Ok None = cc in
-    let end = subst (λ (r : Read). Next start (g.I.Source.view c.read_line.new.script) c.read_line.new.reader.lines now.0 r) is (c.read_line.ensures.next start now.0 now.1) in
+    let end = subst (λ (r : Read). Next start (g.I.Source.view c.read_line.new.script) c.read_line.new.reader.lines now.0 r) is
+    (c.read_line.ensures.next start now.0 now.1) in
     (now.0, end.reading)
 
 pub returns-in-Ok-None-clause-judged : goal.returns-in-Ok-None-clause-judged
 returns-in-Ok-None-clause-judged g c = λ start settings output was at begins.
     let s = c.loop-asked.invariant.sofar start settings output was at begins in
     let is : c.read_line.result ≡ Ok None = cc in
-    let end = subst (λ (r : Read). Next start (g.I.Source.view c.read_line.new.script) c.read_line.new.reader.lines s.lines r) is (c.read_line.ensures.next start s.lines s.reading) in
+    let end = subst (λ (r : Read). Next start (g.I.Source.view c.read_line.new.script) c.read_line.new.reader.lines s.lines r) is
+    (c.read_line.ensures.next start s.lines s.reading) in
     subst (λ (v : Verdict). Judges start output (Ok v)) (sym c.ended.ensures)
-    (judged_end start (g.I.Source.view c.loop-asked.script) (g.I.Source.view c.read_line.new.script) c.loop-asked.reader.lines c.read_line.new.reader.lines settings output c.loop-asked.left.now c.loop-asked.lines (machine_in c.loop-asked.machine) s end)
+    (judged_end start (g.I.Source.view c.loop-asked.script) (g.I.Source.view c.read_line.new.script) c.loop-asked.reader.lines c.read_line.new.reader.lines
+    settings output c.loop-asked.left.now c.loop-asked.lines (machine_in c.loop-asked.machine) s end)
 
 pub returns-in-Err-clause-read : goal.returns-in-Err-clause-read
 returns-in-Err-clause-read g c = λ start was.
     let now = c.loop-asked.invariant.read start was in
     let is : c.read_line.result ≡ Err c.in-Err.stop = cc in
-    subst (λ (r : Read). Next start (g.I.Source.view c.read_line.new.script) c.read_line.new.reader.lines now.0 r) is (c.read_line.ensures.next start now.0 now.1)
+    subst (λ (r : Read). Next start (g.I.Source.view c.read_line.new.script) c.read_line.new.reader.lines now.0 r) is
+    (c.read_line.ensures.next start now.0 now.1)
 
 pub returns-in-Ok-None-found-clause-read : goal.returns-in-Ok-None-found-clause-read
 returns-in-Ok-None-found-clause-read g c = λ start was.
     let now = c.loop-asked.invariant.read start was in
     let is : c.read_line.result ≡ Ok (Some c.in-Ok-Some.asked) = cc in
-    let next = subst (λ (r : Read). Next start (g.I.Source.view c.read_line.new.script) c.read_line.new.reader.lines now.0 r) is (c.read_line.ensures.next start now.0 now.1) in
+    let next = subst (λ (r : Read). Next start (g.I.Source.view c.read_line.new.script) c.read_line.new.reader.lines now.0 r) is
+    (c.read_line.ensures.next start now.0 now.1) in
     (_, next.reading)
 
 pub returns-in-Err-found-clause-read : goal.returns-in-Err-found-clause-read
 returns-in-Err-found-clause-read g c = λ start was.
     let now = c.loop-asked.invariant.read start was in
     let is : c.read_line.result ≡ Ok (Some c.in-Ok-Some.asked) = cc in
-    let next = subst (λ (r : Read). Next start (g.I.Source.view c.read_line.new.script) c.read_line.new.reader.lines now.0 r) is (c.read_line.ensures.next start now.0 now.1) in
+    let next = subst (λ (r : Read). Next start (g.I.Source.view c.read_line.new.script) c.read_line.new.reader.lines now.0 r) is
+    (c.read_line.ensures.next start now.0 now.1) in
     reading_stopped start (g.I.Source.view c.read_line.new.script) c.read_line.new.reader.lines _ next.reading
 
 pub loop-asked-preserved : goal.loop-asked-preserved
@@ -89,7 +96,8 @@ loop-asked-preserved g c =
       sofar = λ start settings output was at begins.
           let s = c.loop-asked.invariant.sofar start settings output was at begins in
           let next = subst (λ (r : Read). Next start now held' s.lines r) is (c.read_line.ensures.next start s.lines s.reading) in
-          sofar_more start (g.I.Source.view c.loop-asked.script) now c.loop-asked.reader.lines held' settings output left behind.now c.loop-asked.lines m m' asked s next given;
+          sofar_more start (g.I.Source.view c.loop-asked.script) now c.loop-asked.reader.lines held' settings output left behind.now c.loop-asked.lines m m'
+          asked s next given;
     }
 
 pub returns-in-Ok-None-found-clause-judged : goal.returns-in-Ok-None-found-clause-judged

@@ -16,8 +16,10 @@ invariant-loop-asked g l = record {
   within : IsWithin l.lines (machine_in l.machine);
   read : (start : SourceView) → IsReading start (g.I.Source.view l.fn.script) l.fn.reader.lines []
       → (ls : List (List ℕ)) × IsReading start (g.I.Source.view l.script) l.reader.lines ls;
-  sofar : (start : SourceView) (settings : Settings) (output : List ℕ) → IsReading start (g.I.Source.view l.fn.script) l.fn.reader.lines [] → machine_in l.fn.machine ≡ first settings
-      → BeginsWith (first_text settings) l.fn.answers output → IsLawfulSoFar start (place (g.I.Source.view l.script) l.reader.lines) settings output l.left l.lines (machine_in l.machine);
+  sofar : (start : SourceView) (settings : Settings) (output : List ℕ) → IsReading start (g.I.Source.view l.fn.script) l.fn.reader.lines []
+      → machine_in l.fn.machine ≡ first settings
+      → BeginsWith (first_text settings) l.fn.answers output
+      → IsLawfulSoFar start (place (g.I.Source.view l.script) l.reader.lines) settings output l.left l.lines (machine_in l.machine);
 }
 
 abbrev pub decreases-loop-asked : goal.decreases-loop-asked

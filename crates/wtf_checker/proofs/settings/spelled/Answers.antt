@@ -31,4 +31,5 @@ returns c = λ s e.
     let one = c.in-Some-number_and_word.ensures.spelled s.servers (codes "replicas") _ (bounds s).0 here in
     let two = c.in-Some-number_and_word-2.ensures.spelled s.replicas (codes "region") _ (bounds s).1 one.1 in
     let three = c.in-Some-number_and_word-3.ensures.spelled s.region (codes "number") _ (bounds s).2 two.1 in
-    spells_of s c.new-settings.result _ _ _ c.new-settings.ensures.found c.new-settings.ensures.servers c.new-settings.ensures.replicas c.new-settings.ensures.region one.0 two.0 three.0
+    spells_of s c.new-settings.result _ _ _ c.new-settings.ensures.found c.new-settings.ensures.servers c.new-settings.ensures.replicas
+    c.new-settings.ensures.region one.0 two.0 three.0
