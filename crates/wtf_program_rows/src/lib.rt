@@ -16,14 +16,22 @@ mod generated;
 #[cfg(test)]
 mod image;
 #[cfg(test)]
+mod job_rows;
+#[cfg(test)]
+mod remembered;
+#[cfg(test)]
 mod retries;
 #[cfg(test)]
 mod rows;
 #[cfg(test)]
 mod runs;
 #[cfg(test)]
+mod scattered;
+#[cfg(test)]
 mod spilled;
 #[cfg(test)]
 mod texts;
 #[cfg(test)]
 mod told;
+#[cfg(test)]
+mod wanted;

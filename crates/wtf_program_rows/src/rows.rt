@@ -15,13 +15,13 @@ pub(crate) struct Row {
     pub(crate) status: u8,
 }
 
-const DEFAULTS: &str = "wtf servers 4 replicas 2 region 65536 number 0\n";
+pub(crate) const DEFAULTS: &str = "wtf servers 4 replicas 2 region 65536 number 0\n";
 
-const SMALL_REGIONS: &str = "wtf servers 4 replicas 2 region 64 number 0\n";
+pub(crate) const SMALL_REGIONS: &str = "wtf servers 4 replicas 2 region 64 number 0\n";
 
 const THREE_SERVERS: &str = "wtf servers 3 replicas 2 region 65536 number 0\n";
 
-const TWO_SERVERS: &str = "wtf servers 2 replicas 2 region 65536 number 0\n";
+pub(crate) const TWO_SERVERS: &str = "wtf servers 2 replicas 2 region 65536 number 0\n";
 
 pub(crate) const ROWS: [Row; 8] = [
     Row {
@@ -491,9 +491,7 @@ sys dump / => refused isdir
         words: "",
         settings: DEFAULTS,
         text: "",
-        lines: "sys plan j0 compact /a 0 => notbuilt
-sys put j0 => notbuilt
-sys scan => notbuilt
+        lines: "sys scan => notbuilt
 sys piece 64 => notbuilt
 sys collect 0 => notbuilt
 ",
@@ -539,7 +537,7 @@ sys dump /log => data x:66726f6d2d63313b66726f6d2d63303b
     },
 ];
 
-pub(crate) const LAST_ROWS: [Row; 7] = [
+pub(crate) const LAST_ROWS: [Row; 8] = [
     Row {
         name: "examples: a conflict that is replayed",
         words: "",
@@ -762,6 +760,26 @@ sys dump /sorted => data x:31306161323062623330636334306464
 sys dump /in => data x:34306464323062623330636331306161
 ",
         stored: 32,
+        status: 0,
+    },
+    Row {
+        name: "bytes that another wrote meanwhile, and nobody read",
+        words: "",
+        settings: DEFAULTS,
+        text: "ab",
+        lines: "c0 begin => begun 1
+c0 open f0 /a => ok
+c0 write f0 t:cd => ok
+c1 begin => begun 1
+c1 open f0 /a => ok
+c1 write f0 t:ef => ok
+c1 mkdir /d => ok
+c1 try => committed 2
+c0 mkdir /e => ok
+c0 try => committed 3
+sys dump /a => data x:6364
+",
+        stored: 12,
         status: 0,
     },
 ];

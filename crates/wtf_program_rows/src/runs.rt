@@ -1,9 +1,11 @@
 //! Whole runs over devices that never fail.
 
 use crate::devices::{NONE, run, run_on, stored, stores};
+use crate::job_rows::{JOB_ROWS, MORE_JOB_ROWS};
 use crate::rows::{FURTHER_ROWS, LAST_ROWS, MORE_ROWS, ROWS, Row};
 use crate::texts::*;
 use crate::told::answers_on;
+use crate::wanted::Wanted;
 use std::alloc::Global;
 use std::process::Abort;
 use std::test::Fail;
@@ -58,56 +60,18 @@ const LATER: [(&str, &[u8], &[u8], &[u8]); 3] = [
     ("--region 64", LATER_SCRIPT, AFTER_FIRST, b""),
 ];
 
-/// A script with the output that is wanted of it.
-#[derive(Drop)]
-struct Wanted {
-    script: Vec<u8>,
-    output: Vec<u8>,
-}
-
-impl Wanted {
-    /// The empty script, and the line of the settings.
-    fn new(alloc: Global, settings: &str) -> Result<Wanted, Fail> {
-        let mut output = Vec::new(alloc);
-        output.extend_from_slice(settings.as_bytes())?;
-        Ok(Wanted {
-            script: Vec::new(alloc),
-            output,
-        })
-    }
-
-    /// Adds a line and its answer.
-    fn add_line(&mut self, asked: &str, answer: &str) -> Result<(), Fail> {
-        self.script.extend_from_slice(asked.as_bytes())?;
-        self.script.push(b'\n')?;
-        self.output.extend_from_slice(answer.as_bytes())?;
-        self.output.push(b'\n')?;
-        Ok(())
-    }
-
-    /// Adds lines as they stand in rows.
-    fn add(&mut self, lines: &str) -> Result<(), Fail> {
-        for line in lines.split('\n') {
-            if let Some((asked, answer)) = line.split_once(" => ") {
-                self.add_line(asked, answer)?;
-            }
-        }
-        Ok(())
-    }
-
-    /// Adds a transaction that makes `/a` with this text.
-    fn add_file(&mut self, alloc: Global, text: &str) -> Result<(), Fail> {
-        let write = format!(in alloc; "c0 write f0 t:{text} => ok\nc0 try => committed 1\n")?;
-        self.add("c0 begin => begun 0\nc0 create /a => ok\nc0 open f0 /a => ok\n")?;
-        self.add(write.as_str())
-    }
+/// Adds a transaction that makes `/a` with this text.
+fn add_file(wanted: &mut Wanted, alloc: Global, text: &str) -> Result<(), Fail> {
+    let write = format!(in alloc; "c0 write f0 t:{text} => ok\nc0 try => committed 1\n")?;
+    wanted.add("c0 begin => begun 0\nc0 create /a => ok\nc0 open f0 /a => ok\n")?;
+    wanted.add(write.as_str())
 }
 
 /// The script and the output of a row.
 fn wanted_of(alloc: Global, row: &Row) -> Result<Wanted, Fail> {
     let mut wanted = Wanted::new(alloc, row.settings)?;
     if !row.text.is_empty() {
-        wanted.add_file(alloc, row.text)?;
+        add_file(&mut wanted, alloc, row.text)?;
     }
     wanted.add(row.lines)?;
     Ok(wanted)
@@ -232,6 +196,22 @@ fn further_rows_are_answered(rt: HostRuntime) -> Result<(), Fail> {
 #[test]
 fn last_rows_are_answered(rt: HostRuntime) -> Result<(), Fail> {
     for row in LAST_ROWS.iter() {
+        check_row(&rt, rt.alloc(), row)?;
+    }
+    Ok(())
+}
+
+#[test]
+fn rows_of_jobs_are_answered(rt: HostRuntime) -> Result<(), Fail> {
+    for row in JOB_ROWS.iter() {
+        check_row(&rt, rt.alloc(), row)?;
+    }
+    Ok(())
+}
+
+#[test]
+fn more_rows_of_jobs_are_answered(rt: HostRuntime) -> Result<(), Fail> {
+    for row in MORE_JOB_ROWS.iter() {
         check_row(&rt, rt.alloc(), row)?;
     }
     Ok(())

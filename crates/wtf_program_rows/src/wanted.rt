@@ -1,0 +1,43 @@
+//! Scripts with the outputs that are wanted of them.
+
+use std::alloc::Global;
+use std::test::Fail;
+
+/// A script with the output that is wanted of it.
+#[derive(Drop)]
+pub(crate) struct Wanted {
+    pub(crate) script: Vec<u8>,
+    pub(crate) output: Vec<u8>,
+}
+
+impl Wanted {
+    /// The empty script, and the line of the settings.
+    pub(crate) fn new(alloc: Global, settings: &str) -> Result<Wanted, Fail> {
+        let mut output = Vec::new(alloc);
+        output.extend_from_slice(settings.as_bytes())?;
+        Ok(Wanted {
+            script: Vec::new(alloc),
+            output,
+        })
+    }
+
+    /// Adds a line and its answer.
+    pub(crate) fn add_line(&mut self, asked: &str, answer: &str) -> Result<(), Fail> {
+        self.script.extend_from_slice(asked.as_bytes())?;
+        self.script.push(b'\n')?;
+        self.output.extend_from_slice(answer.as_bytes())?;
+        self.output.push(b'\n')?;
+        Ok(())
+    }
+
+    /// Adds lines as they stand in rows; one without an answer is a fault of the row.
+    pub(crate) fn add(&mut self, lines: &str) -> Result<(), Fail> {
+        for line in lines.split('\n') {
+            if !line.is_empty() {
+                let (asked, answer) = line.split_once(" => ").ok_or("a line without an answer")?;
+                self.add_line(asked, answer)?;
+            }
+        }
+        Ok(())
+    }
+}
