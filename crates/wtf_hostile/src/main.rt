@@ -8,6 +8,7 @@ mod devices;
 mod faults;
 mod generated;
 mod judge;
+mod lists;
 mod odd;
 mod rebuilt;
 mod report;
@@ -124,7 +125,8 @@ fn print_images(rt: &HostRuntime, pace: &Pace) -> io::Result<bool> {
         damage::spoiled_images(rt, pace.values),
     )?;
     let zeros = is_wrong(rt, "stores answer zeros: runs", wear::zeros(rt))?;
-    Ok(front || spoiled || zeros)
+    let lists = is_wrong(rt, "spilled lists are zeros: runs", lists::zeros(rt))?;
+    Ok(front || spoiled || zeros || lists)
 }
 
 /// The tables of generated scripts.

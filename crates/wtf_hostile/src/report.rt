@@ -23,6 +23,8 @@ pub enum Wrong {
     Tree,
     /// The keeper's bytes are others than they were.
     Kept,
+    /// A list is damaged and no answer says so, or it is sound and one does.
+    Damage,
 }
 
 /// How many runs of a table were tried, and how many of these were wrong.

@@ -113,35 +113,7 @@ c0 try
 ",
         looks: LOOKS,
     },
-    Script {
-        name: "a job that is too late, and a list that is spilled",
-        servers: 4,
-        replicas: 2,
-        region: 65_536,
-        lines: b"c0 begin
-c0 create /a
-c0 open f0 /a
-c0 write f0 t:abcdef
-c0 try
-sys plan j0 compact /a 0
-c0 begin
-c0 open f0 /a
-c0 write f0 t:XY
-c0 try
-sys put j0
-sys plan j0 spill /a 0
-sys put j0
-c0 begin
-c0 open f0 /a
-c0 append f0 t:z
-c0 try
-sys dump /a
-sys plan j0 compact /a 0
-sys put j0
-sys dump /a
-",
-        looks: LOOKS,
-    },
+    SPILLED,
     LOG,
     Script {
         name: "a save behind a save that may fail",
@@ -176,6 +148,37 @@ sys collect 0
         looks: LOOKS,
     },
 ];
+
+/// A job that is too late, and then one that spills a region's list, which three of the lines behind have to read.
+pub const SPILLED: Script<'static> = Script {
+    name: "a job that is too late, and a list that is spilled",
+    servers: 4,
+    replicas: 2,
+    region: 65_536,
+    lines: b"c0 begin
+c0 create /a
+c0 open f0 /a
+c0 write f0 t:abcdef
+c0 try
+sys plan j0 compact /a 0
+c0 begin
+c0 open f0 /a
+c0 write f0 t:XY
+c0 try
+sys put j0
+sys plan j0 spill /a 0
+sys put j0
+c0 begin
+c0 open f0 /a
+c0 append f0 t:z
+c0 try
+sys dump /a
+sys plan j0 compact /a 0
+sys put j0
+sys dump /a
+",
+    looks: LOOKS,
+};
 
 /// Files in a directory, one of which is joined of the others.
 pub const LOG: Script<'static> = Script {

@@ -106,7 +106,7 @@ fn try_room(
 }
 
 /// Sixteen stores, of which one gives zeros, or, with `None`, each of them.
-fn zero_stores(alloc: Global, odd: Option<u8>) -> io::Result<Shelf<OddStore>> {
+pub fn zero_stores(alloc: Global, odd: Option<u8>) -> io::Result<Shelf<OddStore>> {
     let mut stores = Vec::new(alloc);
     for k in 0..16u8 {
         let store = if odd.is_none() || odd == Some(k) {
@@ -173,7 +173,7 @@ pub fn are_answers(alloc: Global, script: &Script, output: &[u8]) -> bool {
 }
 
 /// What is wrong with a run over stores of which nothing is known.
-fn wrong_form(alloc: Global, script: &Script, ended: &Ended) -> Option<Wrong> {
+pub fn wrong_form(alloc: Global, script: &Script, ended: &Ended) -> Option<Wrong> {
     if !is_named(ended.status) {
         return Some(Wrong::Status);
     }
