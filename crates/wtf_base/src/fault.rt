@@ -3,7 +3,7 @@
 use crate::ServerId;
 use thiserror::Error;
 
-/// Why a call over servers gave no answer. It changed no file.
+/// Why a call over servers gave no answer.
 #[derive(Clone, Copy, Debug, PartialEq, Eq, Error)]
 pub enum Fault {
     /// No copy of some bytes could be read; the server is that of their last pointer.

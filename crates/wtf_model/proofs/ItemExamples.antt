@@ -16,7 +16,7 @@ use Rattle.wtf_model.specs.Call.{call}
 use Rattle.wtf_model.specs.Items.{is_among, meets, source_reads, body_of, bodies_of, handle_reads, handle_changes, reads, unless_refused, writes, reads_from, reads_of, writes_of, file_changes, folder_changes}
 use Rattle.wtf_model.specs.Transaction.{Transaction, Job}
 use Rattle.wtf_model.specs.Jobs.{MayPut, is_job_touched}
-use Rattle.wtf_model.specs.Lawful.{MayTry, MayBuilt, is_touched}
+use Rattle.wtf_model.specs.Lawful.{MayTry, May, is_touched}
 use Rattle.wtf_model.specs.Steps.{Machine, after, cap_of, is_live, touch, touch_job}
 use Rattle.wtf_model.specs.Examples.{a}
 use Rattle.wtf_model.proofs.Laws.{get-node_same, get-node_other, get-handle_same}
@@ -64,18 +64,18 @@ seen_by_jobs m c j n t job here there =
 -- ---- retries
 
 pub needless : (m : Machine) (c base now : ℕ) (t : Transaction) → get m.transactions c ≡ Some t → is_live t ≡ true → is_touched (cap_of m) t ≡ false
-    → MayBuilt m (event.Client c verb.Try) (answer.Retry base now) → ⊥
+    → May m (event.Client c verb.Try) (answer.Retry base now) → ⊥
 needless m c base now t there live none may =
     let both : MayTry m t (answer.Retry base now) = asks m c (Some t) there verb.Try (answer.Retry base now) (live_try t live) may in
     true≢false (sym both.1 ∙ none)
 
 pub untouched : (m : Machine) (c base now : ℕ) (t : Transaction) → get m.transactions c ≡ Some t → is_live t ≡ true → t.touched ≡ []
-    → MayBuilt m (event.Client c verb.Try) (answer.Retry base now) → ⊥
+    → May m (event.Client c verb.Try) (answer.Retry base now) → ⊥
 untouched m c base now t there live none =
     needless m c base now t there live (ap (λ items. meets items (reads_of (cap_of m) t.tree t.ops)) none ∙ meets-none (reads_of (cap_of m) t.tree t.ops))
 
 pub lawful : (m : Machine) (c : ℕ) (t : Transaction) (i : Item) → get m.transactions c ≡ Some t → is_live t ≡ true → t.base < m.number
-    → is_among t.touched i ≡ true → is_among (reads_of (cap_of m) t.tree t.ops) i ≡ true → MayBuilt m (event.Client c verb.Try) (answer.Retry t.base m.number)
+    → is_among t.touched i ≡ true → is_among (reads_of (cap_of m) t.tree t.ops) i ≡ true → May m (event.Client c verb.Try) (answer.Retry t.base m.number)
 lawful m c t i there live less one two =
     asked m c (Some t) there verb.Try (answer.Retry t.base m.number) (live_try t live) ((refl, refl, less), meets-by t.touched (reads_of (cap_of m) t.tree t.ops) i one two)
 
@@ -129,13 +129,13 @@ appends items b s h bytes there path is = ap (meets items) (appended s 0 h bytes
 
 -- ---- stale jobs
 
-pub stale_needless : (m : Machine) (j base now : ℕ) (job : Job) → get m.jobs j ≡ Some job → is_job_touched job ≡ false → MayBuilt m (event.Put j) (answer.Stale base now) → ⊥
+pub stale_needless : (m : Machine) (j base now : ℕ) (job : Job) → get m.jobs j ≡ Some job → is_job_touched job ≡ false → May m (event.Put j) (answer.Stale base now) → ⊥
 stale_needless m j base now job there none may =
     let both : MayPut m (Some job) (answer.Stale base now) = put_may m j (Some job) (answer.Stale base now) there may in
     true≢false (sym both.1 ∙ none)
 
 pub stale_lawful : (m : Machine) (j : ℕ) (job : Job) (i : Item) → get m.jobs j ≡ Some job → job.base < m.number → is_among job.touched i ≡ true → is_among (source_reads job.path) i ≡ true
-    → MayBuilt m (event.Put j) (answer.Stale job.base m.number)
+    → May m (event.Put j) (answer.Stale job.base m.number)
 stale_lawful m j job i there less one two = may_put m j (Some job) (answer.Stale job.base m.number) there ((refl, refl, less), meets-by job.touched (source_reads job.path) i one two)
 
 pub stale_node : (p : List ℕ) → is_among (source_reads p) (NodeOf p) ≡ true

@@ -21,7 +21,7 @@ use Rattle.wtf_model.specs.Items.{is_among, meets, reads_of}
 use Rattle.wtf_model.specs.Transaction.{Transaction, Job}
 use Rattle.wtf_model.specs.Faults.{IsReadFault, or_refusal}
 use Rattle.wtf_model.specs.Jobs.{is_idle, has_region, plan_answer, IsSpillFault, MayFailPlan, MayPut, job_changes, drop_answer}
-use Rattle.wtf_model.specs.Lawful.{MayBuilt}
+use Rattle.wtf_model.specs.Lawful.{May}
 use Rattle.wtf_model.specs.Steps.{Machine, after, cap_of, is_live, rebased, touch, touch_job, with_transaction}
 use Rattle.wtf_model.specs.Examples.{Only, IsPlannable, first_job, HasTwoCalls, Runs, stale_events, moved_events, asks, calls}
 use Rattle.wtf_model.proofs.Laws.{get-number_same, get-number_other}
@@ -55,7 +55,7 @@ plan-no_region m j r p bytes h past = rw (h.idle, h.file, lt-leb r ((length byte
 
 -- what may answer a plan
 
-pub may_plan : (m : Machine) (j r : ℕ) (kind : JobKind) (p : List ℕ) (a : Answer) → plan_answer m j p r ≡ a → MayBuilt m (event.Plan j kind p r) a
+pub may_plan : (m : Machine) (j r : ℕ) (kind : JobKind) (p : List ℕ) (a : Answer) → plan_answer m j p r ≡ a → May m (event.Plan j kind p r) a
 may_plan m j r kind p a is = inl (sym is)
 
 refused_plan : (servers : ℕ) (kind : JobKind) (w : Word) (a : Answer) → MayFailPlan servers kind (answer.Refused w) a → ⊥
@@ -68,7 +68,7 @@ only_plan m j r kind p w is b = (
 )
 
 pub plan_fails : (m : Machine) (j : ℕ) (kind : JobKind) (p bytes : List ℕ) (a : Answer) → IsPlannable m j p bytes → IsReadFault m.settings.servers a ⊎ IsSpillFault kind a
-    → MayBuilt m (event.Plan j kind p 0) a
+    → May m (event.Plan j kind p 0) a
 plan_fails m j kind p bytes a h fails = inr (subst (λ d. MayFailPlan m.settings.servers kind d a) (sym (plan-first m j p bytes h)) fails)
 
 -- a plan is due to answer that it is planned, or is refused
@@ -88,31 +88,31 @@ fails_at : (servers : ℕ) (kind : JobKind) (d a : Answer) → IsDueToPlan d →
 fails_at servers kind answer.Planned a due h = h
 fails_at servers kind d a due h = absurd h
 
-pub plan_answers : (m : Machine) (j r : ℕ) (kind : JobKind) (p : List ℕ) (a : Answer) → MayBuilt m (event.Plan j kind p r) a → IsDueToPlan a ⊎ IsReadFault m.settings.servers a ⊎ IsSpillFault kind a
+pub plan_answers : (m : Machine) (j r : ℕ) (kind : JobKind) (p : List ℕ) (a : Answer) → May m (event.Plan j kind p r) a → IsDueToPlan a ⊎ IsReadFault m.settings.servers a ⊎ IsSpillFault kind a
 plan_answers m j r kind p a h =
     let due : IsDueToPlan (plan_answer m j p r) = due_plan m j r p in
     elim h [ inl e ↦ inl (subst IsDueToPlan (sym e) due) | inr fails ↦ inr (fails_at m.settings.servers kind (plan_answer m j p r) a due fails) ]
 
-pub compact_writes_nothing : (m : Machine) (j r : ℕ) (p : List ℕ) → MayBuilt m (event.Plan j Compact p r) answer.FaultWrite → ⊥
+pub compact_writes_nothing : (m : Machine) (j r : ℕ) (p : List ℕ) → May m (event.Plan j Compact p r) answer.FaultWrite → ⊥
 compact_writes_nothing m j r p h = elim (plan_answers m j r Compact p answer.FaultWrite h) [ inl due ↦ due | inr fails ↦ elim fails [ inl read ↦ read | inr spill ↦ spill ] ]
 
 read_is_no_spill : (kind : JobKind) (k : ℕ) → IsSpillFault kind (answer.FaultRead k) → ⊥
 read_is_no_spill Compact k h = h
 read_is_no_spill Spill k h = h
 
-pub unknown_server : (m : Machine) (j r k : ℕ) (kind : JobKind) (p : List ℕ) → m.settings.servers ≤ k → MayBuilt m (event.Plan j kind p r) (answer.FaultRead k) → ⊥
+pub unknown_server : (m : Machine) (j r k : ℕ) (kind : JobKind) (p : List ℕ) → m.settings.servers ≤ k → May m (event.Plan j kind p r) (answer.FaultRead k) → ⊥
 unknown_server m j r k kind p past h =
     elim (plan_answers m j r kind p (answer.FaultRead k) h) [ inl due ↦ due | inr fails ↦ elim fails [ inl below ↦ absurd (omega (arith, below, past)) | inr spill ↦ read_is_no_spill kind k spill ] ]
 
 -- what may answer a put
 
-pub may_put : (m : Machine) (j : ℕ) (o : Option Job) (a : Answer) → get m.jobs j ≡ o → MayPut m o a → MayBuilt m (event.Put j) a
+pub may_put : (m : Machine) (j : ℕ) (o : Option Job) (a : Answer) → get m.jobs j ≡ o → MayPut m o a → May m (event.Put j) a
 may_put m j o a there h = subst (λ x. MayPut m x a) (sym there) h
 
-pub put_may : (m : Machine) (j : ℕ) (o : Option Job) (a : Answer) → get m.jobs j ≡ o → MayBuilt m (event.Put j) a → MayPut m o a
+pub put_may : (m : Machine) (j : ℕ) (o : Option Job) (a : Answer) → get m.jobs j ≡ o → May m (event.Put j) a → MayPut m o a
 put_may m j o a there h = subst (λ x. MayPut m x a) there h
 
-pub not_stale : (m : Machine) (j base now : ℕ) (job : Job) → get m.jobs j ≡ Some job → job.base ≡ m.number → MayBuilt m (event.Put j) (answer.Stale base now) → ⊥
+pub not_stale : (m : Machine) (j base now : ℕ) (job : Job) → get m.jobs j ≡ Some job → job.base ≡ m.number → May m (event.Put j) (answer.Stale base now) → ⊥
 not_stale m j base now job there same h =
     let (is, number, less) = (put_may m j (Some job) (answer.Stale base now) there h).0 in
     absurd (omega arith)

@@ -9,7 +9,6 @@ pub mod ItemLaws
 pub mod NameLaws
 pub mod StepLaws
 pub mod MachineLaws
-pub mod NotBuilt
 pub mod LineLaws
 pub mod ServerLaws
 pub mod SoundLaws

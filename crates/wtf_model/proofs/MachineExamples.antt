@@ -15,30 +15,30 @@ use Rattle.wtf_model.specs.declared.event.Verb.TheVariants as verb
 use Rattle.wtf_model.specs.declared.event.Event.TheVariants as event
 use Rattle.wtf_model.specs.Tree.{Dir, File}
 use Rattle.wtf_model.specs.Transaction.{Transaction, answers_of}
-use Rattle.wtf_model.specs.Lawful.{client_refusal, MayFailRead, MayAsk, MayClient, MayBuilt, MayStepAt, Deviates, dump_answer}
+use Rattle.wtf_model.specs.Lawful.{client_refusal, MayFailRead, MayAsk, MayClient, May, MayStepAt, Deviates, dump_answer}
 use Rattle.wtf_model.specs.Steps.{Machine, after, after_client, cap_of, is_live, is_full}
 use Rattle.wtf_model.specs.Examples.{Only, IsAborted}
 use Rattle.wtf_model.proofs.StepLaws.{MayClient-asked, MayAsk-asked, MayClient-refused, after-client}
 
 module _ (m : Machine) (c : ℕ) (o : Option Transaction) (there : get m.transactions c ≡ o) where
-  pub to_built : (v : Verb) (a : Answer) → MayClient m o v a → MayBuilt m (event.Client c v) a
-  to_built v a h = subst (λ x. MayClient m x v a) (sym there) h
+  pub to_may : (v : Verb) (a : Answer) → MayClient m o v a → May m (event.Client c v) a
+  to_may v a h = subst (λ x. MayClient m x v a) (sym there) h
 
-  pub from_built : (v : Verb) (a : Answer) → MayBuilt m (event.Client c v) a → MayClient m o v a
-  from_built v a h = subst (λ x. MayClient m x v a) there h
+  pub from_may : (v : Verb) (a : Answer) → May m (event.Client c v) a → MayClient m o v a
+  from_may v a h = subst (λ x. MayClient m x v a) there h
 
   -- a refusal of the machine is the only answer
   pub only_refused : (v : Verb) (w : Word) → client_refusal o v ≡ Some w → Only m (event.Client c v) (answer.Refused w)
   only_refused v w is b = (
-    λ h. (MayClient-refused m o v w is b).0 (from_built v b h),
-    λ e. to_built v b ((MayClient-refused m o v w is b).1 e),
+    λ h. (MayClient-refused m o v w is b).0 (from_may v b h),
+    λ e. to_may v b ((MayClient-refused m o v w is b).1 e),
   )
 
-  pub asked : (v : Verb) (a : Answer) → client_refusal o v ≡ None → MayAsk m o v a → MayBuilt m (event.Client c v) a
-  asked v a none h = to_built v a (MayClient-asked m o v a none h)
+  pub asked : (v : Verb) (a : Answer) → client_refusal o v ≡ None → MayAsk m o v a → May m (event.Client c v) a
+  asked v a none h = to_may v a (MayClient-asked m o v a none h)
 
-  pub asks : (v : Verb) (a : Answer) → client_refusal o v ≡ None → MayBuilt m (event.Client c v) a → MayAsk m o v a
-  asks v a none h = MayAsk-asked m o v a none (from_built v a h)
+  pub asks : (v : Verb) (a : Answer) → client_refusal o v ≡ None → May m (event.Client c v) a → MayAsk m o v a
+  asks v a none h = MayAsk-asked m o v a none (from_may v a h)
 
 -- the refusals of a transaction, live or not
 pub live_call : (t : Transaction) (o : Op (List ℕ)) → is_live t ≡ true → is_full t ≡ false → client_refusal (Some t) (verb.Call o) ≡ None
@@ -79,7 +79,7 @@ step_aborted m t answers a (Aborted' j box b) is ne (same_i, same_a) = (same_i, 
 step_aborted m t answers a r is ne h = absurd h
 
 pub may_abort_step : (m : Machine) (c : ℕ) (t : Transaction) (a r : Answer) → get m.transactions c ≡ Some t → is_live t ≡ false
-    → slice_get (answers_of (cap_of m) t.tree t.ops) t.replayed ≡ Some a → slice_get t.shown t.replayed ≢ Some a → IsAborted (t.replayed + 1) a r → MayBuilt m (event.Client c verb.Step) r
+    → slice_get (answers_of (cap_of m) t.tree t.ops) t.replayed ≡ Some a → slice_get t.shown t.replayed ≢ Some a → IsAborted (t.replayed + 1) a r → May m (event.Client c verb.Step) r
 may_abort_step m c t a r there live is ne aborted =
     asked m c (Some t) there verb.Step r (replaying_step t live) (step_aborted m t (answers_of (cap_of m) t.tree t.ops) a r is ne aborted)
 
@@ -89,7 +89,7 @@ commit_aborted m t i a (Aborted' j box b) d (same_i, same_a) =
 commit_aborted m t i a r d h = absurd h
 
 pub may_abort_commit : (m : Machine) (c : ℕ) (t : Transaction) (i : ℕ) (a r : Answer) → get m.transactions c ≡ Some t
-    → Deviates (answers_of (cap_of m) m.now t.ops) t.shown i a → IsAborted i a r → MayBuilt m (event.Client c verb.Commit) r
+    → Deviates (answers_of (cap_of m) m.now t.ops) t.shown i a → IsAborted i a r → May m (event.Client c verb.Commit) r
 may_abort_commit m c t i a r there d aborted = asked m c (Some t) there verb.Commit r refl (commit_aborted m t i a r d aborted)
 
 file_is : (a b : ℕ) → Some (answer.File a) ≡ Some (answer.File b) → a ≡ b
@@ -120,7 +120,7 @@ commit_ended m c i t a r there aborted = after-client m c verb.Commit r (Some t)
 short_file : (m : Machine) (p bytes : List ℕ) → get m.now p ≡ Some (File bytes) → length bytes ≤ 1048576 → dump_answer m p ≡ answer.Shown bytes
 short_file m p bytes file fit = rw (file, le-leb (length bytes) 1048576 fit) refl
 
-pub dump_short : (m : Machine) (p bytes : List ℕ) → get m.now p ≡ Some (File bytes) → length bytes ≤ 1048576 → MayBuilt m (event.Dump p) (answer.Shown bytes)
+pub dump_short : (m : Machine) (p bytes : List ℕ) → get m.now p ≡ Some (File bytes) → length bytes ≤ 1048576 → May m (event.Dump p) (answer.Shown bytes)
 dump_short m p bytes file fit = inl (sym (short_file m p bytes file fit))
 
 refused_read : (servers : ℕ) (w : Word) (d a : Answer) → d ≡ answer.Refused w → MayFailRead servers d a → ⊥

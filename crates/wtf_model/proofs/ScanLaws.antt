@@ -20,12 +20,12 @@ use Rattle.wtf_model.specs.declared.event.Event.{Event}
 use Rattle.wtf_model.specs.declared.event.Event.TheVariants as event
 use Rattle.wtf_model.specs.Transaction.{Transaction, Job, answers_from}
 use Rattle.wtf_model.specs.Scans.{open_stamps, first_begun, lowest, client_or_job, held_by, or_held, scan_answer, piece_answer, MayFailPiece, collect_refusal, MayCollect}
-use Rattle.wtf_model.specs.Lawful.{MayBuilt}
+use Rattle.wtf_model.specs.Lawful.{May}
 use Rattle.wtf_model.specs.Steps.{Machine, after, after_client, is_down, is_logged, logged, with_transaction, begun, ended, installed}
 use Rattle.wtf_model.specs.Examples.{Only, Runs, IsAtRest, IsAlone, asks, first_transaction, quiet_events, held_events, pieces_events}
 use Rattle.wtf_model.proofs.Laws.{get-number_same}
 use Rattle.wtf_model.proofs.StepLaws.{after-client}
-use Rattle.wtf_model.proofs.MachineExamples.{to_built, asked, live_try}
+use Rattle.wtf_model.proofs.MachineExamples.{to_may, asked, live_try}
 
 -- what stands in small maps
 
@@ -111,7 +111,7 @@ no_fault servers answer.Done a h = absurd h
 no_fault servers d a h = absurd h
 
 -- an answer that tells of parts is the one that is due
-pub piece_is : (m : Machine) (k : ℕ) (a : Answer) → (a ≡ answer.Done) ⊎ ((n : ℕ) × (a ≡ answer.More n)) → MayBuilt m (event.Piece k) a → a ≡ piece_answer k m.parts_left
+pub piece_is : (m : Machine) (k : ℕ) (a : Answer) → (a ≡ answer.Done) ⊎ ((n : ℕ) × (a ≡ answer.More n)) → May m (event.Piece k) a → a ≡ piece_answer k m.parts_left
 piece_is m k a told (inl is) = is
 piece_is m k a (inl done) (inr fails) = absurd ((no_fault m.settings.servers (piece_answer k m.parts_left) a fails).0 done)
 piece_is m k a (inr more) (inr fails) = absurd ((no_fault m.settings.servers (piece_answer k m.parts_left) a fails).1 more.0 more.1)
@@ -119,16 +119,16 @@ piece_is m k a (inr more) (inr fails) = absurd ((no_fault m.settings.servers (pi
 same_more : (n k : ℕ) → answer.More n ≡ answer.More k → n ≡ k
 same_more n k e = cc
 
-pub more_is : (m : Machine) (k left n : ℕ) → m.parts_left ≡ Some left → k < left → MayBuilt m (event.Piece k) (answer.More n) → n ≡ left - k
+pub more_is : (m : Machine) (k left n : ℕ) → m.parts_left ≡ Some left → k < left → May m (event.Piece k) (answer.More n) → n ≡ left - k
 more_is m k left n there less h = same_more n (left - k) (piece_is m k (answer.More n) (inr (n, refl)) h ∙ piece_due m k (Some left) _ there (piece_more k left less))
 
 more_not_done : (n : ℕ) → answer.Done ≡ answer.More n → ⊥
 more_not_done n e = cc
 
-pub not_done : (m : Machine) (k left : ℕ) → m.parts_left ≡ Some left → k < left → MayBuilt m (event.Piece k) answer.Done → ⊥
+pub not_done : (m : Machine) (k left : ℕ) → m.parts_left ≡ Some left → k < left → May m (event.Piece k) answer.Done → ⊥
 not_done m k left there less h = more_not_done (left - k) (piece_is m k answer.Done (inl refl) h ∙ piece_due m k (Some left) _ there (piece_more k left less))
 
-pub no_more : (m : Machine) (k left n : ℕ) → m.parts_left ≡ Some left → left ≤ k → MayBuilt m (event.Piece k) (answer.More n) → ⊥
+pub no_more : (m : Machine) (k left n : ℕ) → m.parts_left ≡ Some left → left ≤ k → May m (event.Piece k) (answer.More n) → ⊥
 no_more m k left n there all h = more_not_done n (sym (piece_is m k (answer.More n) (inr (n, refl)) h ∙ piece_due m k (Some left) _ there (piece_done k left all)))
 
 refused_piece : (servers : ℕ) (w : Word) (a : Answer) → MayFailPiece servers (answer.Refused w) a → ⊥
@@ -147,7 +147,7 @@ fails_by : (servers k : ℕ) (b : Bool) (left : ℕ) → k < servers → MayFail
 fails_by servers k true left below = below
 fails_by servers k false left below = below
 
-pub piece_fails : (m : Machine) (k left server : ℕ) → m.parts_left ≡ Some left → server < m.settings.servers → MayBuilt m (event.Piece k) (answer.FaultRead server)
+pub piece_fails : (m : Machine) (k left server : ℕ) → m.parts_left ≡ Some left → server < m.settings.servers → May m (event.Piece k) (answer.FaultRead server)
 piece_fails m k left server there below =
     inr (subst (λ o. MayFailPiece m.settings.servers (piece_answer k o) (answer.FaultRead server)) (sym there) (fails_by m.settings.servers server (nat_lt k left) (left - k) below))
 
@@ -194,10 +194,10 @@ only_refused_collect m k w is a = (
   λ h. subst (λ r. MatchOption r (MayCollect k a) (λ x. a ≡ answer.Refused x)) (sym is) h,
 )
 
-pub may_collect : (m : Machine) (k : ℕ) (a : Answer) → k < m.settings.servers → 2 ≤ m.scans → MayCollect k a → MayBuilt m (event.Collect k) a
+pub may_collect : (m : Machine) (k : ℕ) (a : Answer) → k < m.settings.servers → 2 ≤ m.scans → MayCollect k a → May m (event.Collect k) a
 may_collect m k a below enough h = subst (λ r. MatchOption r (MayCollect k a) (λ x. a ≡ answer.Refused x)) (sym (collect_ready m k below enough)) h
 
-pub collect_may : (m : Machine) (k : ℕ) (a : Answer) → k < m.settings.servers → 2 ≤ m.scans → MayBuilt m (event.Collect k) a → MayCollect k a
+pub collect_may : (m : Machine) (k : ℕ) (a : Answer) → k < m.settings.servers → 2 ≤ m.scans → May m (event.Collect k) a → MayCollect k a
 collect_may m k a below enough h = subst (λ r. MatchOption r (MayCollect k a) (λ x. a ≡ answer.Refused x)) (collect_ready m k below enough) h
 
 -- runs
@@ -332,7 +332,7 @@ in_pieces m rest =
       (
         inl (sym (piece_more 60 64 (omega arith))),
         (
-          to_built m2 0 None none verb.Begin (answer.Begun n) refl,
+          to_may m2 0 None none verb.Begin (answer.Begun n) refl,
           subst (λ x. Runs x committed) (sym (after-client m2 0 verb.Begin (answer.Begun n) None none)) (
             asked m3 0 (Some t) here verb.Try (answer.Committed (n + 1)) (live_try t refl) (refl, refl),
             subst (λ x. Runs x last) (sym (after-client m3 0 verb.Try (answer.Committed (n + 1)) (Some t) here))

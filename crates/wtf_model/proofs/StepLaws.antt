@@ -13,7 +13,7 @@ use Rattle.std.specs.Cmp.{nat_cmp_total, unsigned_tied}
 use Rattle.wtf_path.specs.Parts.{parent_of}
 use Rattle.wtf_base.specs.declared.settings.Settings.{Settings}
 use Rattle.wtf_model.specs.declared.answer.Answer.{Answer}
-use Rattle.wtf_model.specs.declared.answer.Answer.TheVariants.{Okay, Shown, Len, Refused, NotBuilt, FaultRead, FaultWrite, Damaged}
+use Rattle.wtf_model.specs.declared.answer.Answer.TheVariants.{Okay, Shown, Len, Refused, FaultRead, FaultWrite, Damaged}
 use Rattle.wtf_model.specs.declared.answer.Word.{Word}
 use Rattle.wtf_model.specs.declared.answer.Word.TheVariants.{TooBig, Range, Root, Busy, Replaying, Full, NoServer}
 use Rattle.wtf_model.specs.declared.op.Op.{Op}
@@ -34,8 +34,7 @@ use Rattle.wtf_model.specs.SliceCalls.{yank, peek, cut, paste, glue, concat, cop
 use Rattle.wtf_model.specs.Call.{row_of, call, or_refused}
 use Rattle.wtf_model.specs.Transaction.{Transaction}
 use Rattle.wtf_model.specs.Examples.{ShowsBytes, IsStoreFault}
-use Rattle.wtf_model.specs.Lawful.{client_refusal, IsReadFault, MayFailRead, MayFailYank, MayFailPeek, MayFailConcat, MayFailWrite, MayFail, MayCall, MayTry, MayAsk, MayClient, server_answer}
-use Rattle.wtf_model.specs.Built.{May}
+use Rattle.wtf_model.specs.Lawful.{client_refusal, IsReadFault, MayFailRead, MayFailYank, MayFailPeek, MayFailConcat, MayFailWrite, MayFail, MayCall, MayTry, MayAsk, MayClient, server_answer, May}
 use Rattle.wtf_model.specs.Steps.{is_live, is_full, Machine, session_of, cap_of, due, after, after_client, is_logged, IsLogged, is_call_refusal, logged, called, with_transaction, is_down, start}
 
 -- a client's line
@@ -52,19 +51,6 @@ pub after-client : (m : Machine) (c : ℕ) (v : Verb) (a : Answer) (t : Option T
 after-client m c v a t there = ap (λ o. after_client m c o v a) there
 
 -- what leaves the machine as it is
-
-client_not_built : (m : Machine) (c : ℕ) (t : Option Transaction) (v : Verb) → after_client m c t v NotBuilt ≡ m
-client_not_built m c None verb.Begin = refl
-client_not_built m c (Some t) verb.Try = refl
-client_not_built m c (Some t) verb.Step = refl
-client_not_built m c (Some t) verb.Commit = refl
-client_not_built m c (Some t) verb.Abort = refl
-client_not_built m c (Some t) (verb.Call o) = refl
-client_not_built m c t v = refl
-
-pub after-NotBuilt : (m : Machine) (e : Event) → after m e NotBuilt ≡ m
-after-NotBuilt m (event.Client c v) = client_not_built m c (get m.transactions c) v
-after-NotBuilt m e = refl
 
 client_fault_read : (m : Machine) (c : ℕ) (t : Option Transaction) (v : Verb) (k : ℕ) → after_client m c t v (FaultRead k) ≡ m
 client_fault_read m c None verb.Begin k = refl
@@ -267,7 +253,7 @@ called-logged m c t o a h = logged_by (is_logged a) _ m h
 pub called-other : (m : Machine) (c : ℕ) (t : Transaction) (o : Op (List ℕ)) (a : Answer) → is_logged a ≡ false → called m c t o a ≡ m
 called-other m c t o a h = ap (λ b. if b then with_transaction m c (logged t o a) else m) h
 
--- a call is answered by `notbuilt`, by a refusal of the machine, by what is due, or by a fault
+-- a call is answered by a refusal of the machine, by what is due, or by a fault
 
 either : (b : Bool) (P Q : Type 0) → MatchBool b P Q → P ⊎ Q
 either true P Q h = inl h

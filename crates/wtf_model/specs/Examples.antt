@@ -1,7 +1,7 @@
 -- Worked runs: the events of each with its answers. Client 0 is alone, and has the file `/a` open as 0.
 use Rattle.std.specs.Prelude.{◌≡◌, ◌↔◌, ℕ, ◌+◌, length, List, [], ◌∷◌, codes, Some, None, true, false}
 use Rattle.wtf_model.specs.declared.answer.Answer.{Answer, Aborted'}
-use Rattle.wtf_model.specs.declared.answer.Answer.TheVariants.{Okay, Begun, Shown, Committed, Retry, Replayed, Planned, Installed, Stale, Scanning, Held, More, Done, Collected, Saved, Refused, NotBuilt, FaultRead, FaultWrite, FaultSave, Damaged}
+use Rattle.wtf_model.specs.declared.answer.Answer.TheVariants.{Okay, Begun, Shown, Committed, Retry, Replayed, Planned, Installed, Stale, Scanning, Held, More, Done, Collected, Saved, Refused, FaultRead, FaultWrite, FaultSave, Damaged}
 use Rattle.wtf_model.specs.declared.answer.Word.TheVariants.{Replaying, NoJob}
 use Rattle.wtf_model.specs.declared.event.Holder.TheVariants as holder
 use Rattle.wtf_model.specs.declared.op.JobKind.{JobKind}
@@ -21,7 +21,7 @@ use Rattle.wtf_model.specs.Session.{Session, Handle}
 use Rattle.wtf_model.specs.Done.{is_on}
 use Rattle.wtf_model.specs.Done as what
 use Rattle.wtf_model.specs.Transaction.{Transaction, Job, answers_of}
-use Rattle.wtf_model.specs.Steps.{Machine, May, MayBuilt, after, cap_of}
+use Rattle.wtf_model.specs.Steps.{Machine, May, after, cap_of}
 
 -- client 0 asks for a verb, and for a call
 abbrev pub asks : Verb → Event
@@ -75,10 +75,6 @@ abbrev pub fault_answers : List Answer
 fault_answers =
     Begun 0 ∷ Okay ∷ Okay ∷ FaultWrite ∷ Okay ∷ Okay ∷ FaultRead 0 ∷ Shown (codes "abcdef") ∷ Committed 1 ∷ []
 
--- the machine may answer `notbuilt` and nothing else
-abbrev pub OnlyNotBuilt : Machine → Event → Type 0
-OnlyNotBuilt m e = (a : Answer) → May m e a ↔ (a ≡ NotBuilt)
-
 -- the machine may answer a and nothing else to lines that take server k down and up
 abbrev pub OnlyServer : Machine → ℕ → Answer → Type 0
 OnlyServer m k a = (b : Answer) → (May m (event.Down k) b ↔ (b ≡ a)) × (May m (event.Up k) b ↔ (b ≡ a))
@@ -131,9 +127,9 @@ logs_tree = from_sorted (
     ∷ (codes "/logs/tue", File (codes "t1"))
     ∷ [])
 
--- the machine may give the answer a to the event e and nothing else, where its verb is built
+-- the machine may give the answer a to the event e and nothing else
 abbrev pub Only : Machine → Event → Answer → Type 0
-Only m e a = (b : Answer) → MayBuilt m e b ↔ (b ≡ a)
+Only m e a = (b : Answer) → May m e b ↔ (b ≡ a)
 
 -- an answer that says that call i, which answers a now, ended a transaction
 abbrev pub IsAborted : ℕ → Answer → Answer → Type 0
@@ -144,10 +140,10 @@ IsAborted i a r = ⊥
 abbrev pub first_transaction : Machine → Transaction
 first_transaction m = record { stamp = m.next_stamp; base = m.number; tree = m.now; ops = []; shown = []; replayed = 0; touched = [] }
 
--- events one after another, each with an answer that it may get where its verb is built
+-- events one after another, each with an answer that it may get
 unfoldable pub Runs : Machine → List (Event × Answer) → Type 0
 Runs m [] = Unit {0}
-Runs m (step ∷ steps) = MayBuilt m step.0 step.1 × Runs (after m step.0 step.1) steps
+Runs m (step ∷ steps) = May m step.0 step.1 × Runs (after m step.0 step.1) steps
 
 -- a job may be planned for a file: its label is idle, and the file has these bytes
 pub record IsPlannable (m : Machine) (j : ℕ) (p bytes : List ℕ) : Type 0 where

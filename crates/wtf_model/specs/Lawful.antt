@@ -153,19 +153,19 @@ MaySave m (answer.Saved n) = (n ≡ m.number) × ((k : ℕ) → k < m.settings.s
 MaySave m answer.FaultSave = Unit {0}
 MaySave m a = ⊥
 
--- the machine may answer a to the event e, where its verb is built
-abbrev pub MayBuilt : Machine → Event → Answer → Type 0
-MayBuilt m (event.Client c v) a = MayClient m (get m.transactions c) v a
-MayBuilt m (event.Plan j kind p r) a =
+-- the machine may answer a to the event e
+abbrev pub May : Machine → Event → Answer → Type 0
+May m (event.Client c v) a = MayClient m (get m.transactions c) v a
+May m (event.Plan j kind p r) a =
     (a ≡ plan_answer m j p r) ⊎ MayFailPlan m.settings.servers kind (plan_answer m j p r) a
-MayBuilt m (event.Put j) a = MayPut m (get m.jobs j) a
-MayBuilt m (event.DropJob j) a = a ≡ drop_answer (get m.jobs j)
-MayBuilt m event.Scan a = a ≡ scan_answer m
-MayBuilt m (event.Piece k) a =
+May m (event.Put j) a = MayPut m (get m.jobs j) a
+May m (event.DropJob j) a = a ≡ drop_answer (get m.jobs j)
+May m event.Scan a = a ≡ scan_answer m
+May m (event.Piece k) a =
     (a ≡ piece_answer k m.parts_left) ⊎ MayFailPiece m.settings.servers (piece_answer k m.parts_left) a
-MayBuilt m (event.Collect k) a = MatchOption (collect_refusal m k) (MayCollect k a) (λ w. a ≡ answer.Refused w)
-MayBuilt m (event.Down k) a = a ≡ server_answer m k
-MayBuilt m (event.Up k) a = a ≡ server_answer m k
-MayBuilt m event.Save a = MaySave m a
-MayBuilt m (event.Dump p) a = (a ≡ dump_answer m p) ⊎ MayFailRead m.settings.servers (dump_answer m p) a
-MayBuilt m event.Tree a = a ≡ answer.Tree (rows_of m.now)
+May m (event.Collect k) a = MatchOption (collect_refusal m k) (MayCollect k a) (λ w. a ≡ answer.Refused w)
+May m (event.Down k) a = a ≡ server_answer m k
+May m (event.Up k) a = a ≡ server_answer m k
+May m event.Save a = MaySave m a
+May m (event.Dump p) a = (a ≡ dump_answer m p) ⊎ MayFailRead m.settings.servers (dump_answer m p) a
+May m event.Tree a = a ≡ answer.Tree (rows_of m.now)

@@ -14,7 +14,6 @@ pub mod Faults
 pub mod Jobs
 pub mod Scans
 pub mod Lawful
-pub mod Built
 pub mod Steps
 pub mod Same
 pub mod Sound

@@ -48,11 +48,12 @@ downs_below down (suc n) = (if down n then 1 else 0) + downs_below down n
 abbrev pub downs : Settings → (ℕ → Bool) → ℕ
 downs settings down = downs_below down settings.servers
 
--- a write that failed while at least as many servers were up as there are replicas, a read that failed on a server that was
--- up, and a save that failed while no server was down
+-- a write that failed while at least as many servers were up as there are replicas, a read or a collection that failed on a server that
+-- was up, and a save that failed while no server was down
 abbrev pub is_device_fault : Settings → (ℕ → Bool) → Answer → Bool
 is_device_fault settings down answer.FaultWrite = nat_le (settings.replicas + downs settings down) settings.servers
 is_device_fault settings down (answer.FaultRead k) = not (down k)
+is_device_fault settings down (answer.FaultPunch k) = not (down k)
 is_device_fault settings down answer.FaultSave = downs settings down == 0
 is_device_fault settings down a = false
 

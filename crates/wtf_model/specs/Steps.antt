@@ -23,8 +23,7 @@ use Rattle.wtf_model.specs.Transaction.{Transaction, Job, session_after}
 use Rattle.wtf_model.specs.Jobs.{job_changes}
 use Rattle.wtf_model.specs.Scans.{open_stamps}
 pub use Rattle.wtf_model.specs.Machines.{Machine, start, cap_of, is_down, session_of, due, is_live, is_full}
-pub use Rattle.wtf_model.specs.Lawful.{MayFailRead, MayFailWrite, MayFail, MayCall, MayTry, MayAsk, MayClient, server_answer, MayBuilt}
-pub use Rattle.wtf_model.specs.Built.{May}
+pub use Rattle.wtf_model.specs.Lawful.{MayFailRead, MayFailWrite, MayFail, MayCall, MayTry, MayAsk, MayClient, server_answer, May}
 
 -- the refusals of a call itself; all others are the machine's
 abbrev pub is_call_refusal : Word → Bool
@@ -76,7 +75,7 @@ begun m c a = m
 abbrev pub logged : Transaction → Op (List ℕ) → Answer → Transaction
 logged t o a = record t { ops = t.ops ++ o ∷ []; shown = t.shown ++ a ∷ []; replayed = t.replayed + 1 }
 
--- a call is logged with its answer; a refusal of the machine, a fault, and what is not built, leave the machine
+-- a call is logged with its answer; a refusal of the machine and a fault leave the machine
 abbrev pub called : Machine → ℕ → Transaction → Op (List ℕ) → Answer → Machine
 called m c t o a = if is_logged a then with_transaction m c (logged t o a) else m
 

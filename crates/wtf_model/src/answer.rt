@@ -112,6 +112,4 @@ pub enum Answer {
     FaultSave,
     Damaged(u8),
     Bad(Kind),
-    /// The line asks for what this version does not do yet.
-    NotBuilt,
 }

@@ -22,12 +22,11 @@ ghost use Rattle.wtf_model.specs.Tree.{Tree, root, root_alone, IsTree};
 ghost use Rattle.wtf_model.specs.Session.{Session, Handle};
 ghost use Rattle.wtf_model.specs.Call.{call, bytes_at, written};
 ghost use Rattle.wtf_model.specs.Transaction.{Transaction, session_after, answers_of};
-ghost use Rattle.wtf_model.specs.Built.{is_built};
 ghost use Rattle.wtf_model.specs.Lawful.{MayFail};
 ghost use Rattle.wtf_model.specs.Steps.{Machine, Accepts, May, start, after, session_of, due, is_down, is_call_refusal, logged, with_transaction};
 ghost use Rattle.wtf_model.specs.Lines.{Line, MayLine, after_line, Along, machine_after, events_of, answers_to};
 ghost use Rattle.wtf_model.specs.Servers.{none_down, downs_after};
-ghost use Rattle.wtf_model.specs.Examples.{first_file_events, first_file_answers, overwrite_events, overwrite_answers, gap_calls, gap_answers, fault_events, fault_answers, OnlyNotBuilt, OnlyServer, unchanged, IsStoreFault};
+ghost use Rattle.wtf_model.specs.Examples.{first_file_events, first_file_answers, overwrite_events, overwrite_answers, gap_calls, gap_answers, fault_events, fault_answers, OnlyServer, unchanged, IsStoreFault};
 
 /// A first file: create, open, write, seek, read past the end, and commit. The read can show no other bytes, and the
 /// commit can have no other number.
@@ -106,17 +105,6 @@ pub fn nothing_is_moved()
         call cap s (op.Read f n) ≡ unchanged s (answer.Shown []) }
     ensures write { (cap : ℕ) (s : Session) (f : ℕ) (h : Handle) → get s.handles f ≡ Some h →
         call cap s (op.Write f []) ≡ unchanged s answer.Okay }
-{}
-
-/// Each verb that is not built is answered by `notbuilt` alone, which leaves the machine; and no verb that is built is
-/// answered so.
-pub fn verbs_that_are_not_built()
-    ensures only { (m : Machine) (e : Event) → is_built e ≡ false → OnlyNotBuilt m e }
-    ensures scan { is_built event.Scan ≡ false }
-    ensures piece { (k : ℕ) → is_built (event.Piece k) ≡ false }
-    ensures collect { (k : ℕ) → is_built (event.Collect k) ≡ false }
-    ensures never { (m : Machine) (e : Event) → is_built e ≡ true → ¬ (May m e answer.NotBuilt) }
-    ensures leaves { (m : Machine) (e : Event) → after m e answer.NotBuilt ≡ m }
 {}
 
 /// A fault leaves the machine. It comes from a read, a yank or a peek in place of bytes that are due, from files that are

@@ -16,7 +16,7 @@ ghost use Rattle.wtf_model.specs.Session.{Session, Handle};
 ghost use Rattle.wtf_model.specs.Call.{call};
 ghost use Rattle.wtf_model.specs.Items.{is_among, meets, reads, writes, reads_of, writes_of, file_changes, folder_changes};
 ghost use Rattle.wtf_model.specs.Transaction.{Transaction, Job};
-ghost use Rattle.wtf_model.specs.Steps.{Machine, MayBuilt, after, cap_of, is_live};
+ghost use Rattle.wtf_model.specs.Steps.{Machine, May, after, cap_of, is_live};
 ghost use Rattle.wtf_model.specs.Examples.{a};
 
 /// A call by a handle reads and changes the bytes of the path that the handle has; with a label that is not open it reads and
@@ -78,15 +78,15 @@ pub fn commits_are_seen()
 pub fn retries_have_a_cause()
     ensures untouched { (m : Machine) (c base now : ℕ) (t : Transaction) →
         get m.transactions c ≡ Some t → is_live t ≡ true → t.touched ≡ [] →
-        ¬ (MayBuilt m (event.Client c verb.Try) (answer.Retry base now)) }
+        ¬ (May m (event.Client c verb.Try) (answer.Retry base now)) }
     ensures needless { (m : Machine) (c base now : ℕ) (t : Transaction) →
         get m.transactions c ≡ Some t → is_live t ≡ true →
         meets t.touched (reads_of (cap_of m) t.tree t.ops) ≡ false →
-        ¬ (MayBuilt m (event.Client c verb.Try) (answer.Retry base now)) }
+        ¬ (May m (event.Client c verb.Try) (answer.Retry base now)) }
     ensures lawful { (m : Machine) (c : ℕ) (t : Transaction) (i : Item) →
         get m.transactions c ≡ Some t → is_live t ≡ true → t.base < m.number →
         is_among t.touched i ≡ true → is_among (reads_of (cap_of m) t.tree t.ops) i ≡ true →
-        MayBuilt m (event.Client c verb.Try) (answer.Retry t.base m.number) }
+        May m (event.Client c verb.Try) (answer.Retry t.base m.number) }
 {}
 
 /// Two write over one file and make a directory each, below a root whose names nobody asked for: what the first one changed the
@@ -129,13 +129,13 @@ pub fn appends_beside_appends()
 pub fn stale_jobs_have_a_cause()
     ensures another_file { (m : Machine) (j base now : ℕ) (job : Job) → get m.jobs j ≡ Some job →
         job.path ≡ a → job.touched ≡ file_changes (codes "/b") →
-        ¬ (MayBuilt m (event.Put j) (answer.Stale base now)) }
+        ¬ (May m (event.Put j) (answer.Stale base now)) }
     ensures untouched { (m : Machine) (j base now : ℕ) (job : Job) → get m.jobs j ≡ Some job →
-        job.touched ≡ [] → ¬ (MayBuilt m (event.Put j) (answer.Stale base now)) }
+        job.touched ≡ [] → ¬ (May m (event.Put j) (answer.Stale base now)) }
     ensures changed { (m : Machine) (j : ℕ) (job : Job) → get m.jobs j ≡ Some job →
         job.base < m.number → is_among job.touched (BodyOf job.path) ≡ true →
-        MayBuilt m (event.Put j) (answer.Stale job.base m.number) }
+        May m (event.Put j) (answer.Stale job.base m.number) }
     ensures moved { (m : Machine) (j : ℕ) (job : Job) → get m.jobs j ≡ Some job →
         job.base < m.number → is_among job.touched (NodeOf job.path) ≡ true →
-        MayBuilt m (event.Put j) (answer.Stale job.base m.number) }
+        May m (event.Put j) (answer.Stale job.base m.number) }
 {}

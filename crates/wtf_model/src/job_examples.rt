@@ -1,5 +1,4 @@
-//! Worked examples of the lines of jobs, each proved. They say of each line what may answer it where its verb is built, and what
-//! it leaves.
+//! Worked examples of the lines of jobs, each proved. They say of each line what may answer it, and what it leaves.
 
 ghost use Rattle.std.specs.Prelude.{◌≡◌, ◌≢◌, ◌↔◌, ◌⊎◌, ℕ, ◌+◌, ◌-◌, ◌/◌, ◌≤◌, ◌<◌, true, List, [], ◌∷◌, length, Some, None, codes};
 ghost use Rattle.std.specs.Option.{option_map};
@@ -17,7 +16,7 @@ ghost use Rattle.wtf_model.specs.Items.{is_among, reads_of};
 ghost use Rattle.wtf_model.specs.Transaction.{Transaction, Job};
 ghost use Rattle.wtf_model.specs.Machines.{IsBehind};
 ghost use Rattle.wtf_model.specs.Jobs.{is_job_touched, job_changes};
-ghost use Rattle.wtf_model.specs.Steps.{Machine, MayBuilt, after, cap_of, touch, touch_job};
+ghost use Rattle.wtf_model.specs.Steps.{Machine, May, after, cap_of, touch, touch_job};
 ghost use Rattle.wtf_model.specs.Examples.{Only, IsPlannable, Runs, HasTwoCalls, first_job, moved_events, stale_events};
 
 /// A plan is for a region that the file has: up to its last byte, and region 0 of an empty file. It is refused where its
@@ -25,9 +24,9 @@ ghost use Rattle.wtf_model.specs.Examples.{Only, IsPlannable, Runs, HasTwoCalls,
 pub fn plans()
     ensures planned { (m : Machine) (j r : ℕ) (kind : JobKind) (p bytes : List ℕ) →
         IsPlannable m j p bytes → r ≤ (length bytes - 1) / m.settings.region →
-        MayBuilt m (event.Plan j kind p r) answer.Planned }
+        May m (event.Plan j kind p r) answer.Planned }
     ensures empty_file { (m : Machine) (j : ℕ) (kind : JobKind) (p : List ℕ) →
-        IsPlannable m j p [] → MayBuilt m (event.Plan j kind p 0) answer.Planned }
+        IsPlannable m j p [] → May m (event.Plan j kind p 0) answer.Planned }
     ensures label_taken { (m : Machine) (j r : ℕ) (kind : JobKind) (p : List ℕ) (job : Job) →
         get m.jobs j ≡ Some job → Only m (event.Plan j kind p r) (answer.Refused word.JobInUse) }
     ensures missing { (m : Machine) (j r : ℕ) (kind : JobKind) (p : List ℕ) →
@@ -46,17 +45,17 @@ pub fn plans()
 pub fn plans_that_fail()
     ensures read { (m : Machine) (j k : ℕ) (kind : JobKind) (p bytes : List ℕ) →
         IsPlannable m j p bytes → k < m.settings.servers →
-        MayBuilt m (event.Plan j kind p 0) (answer.FaultRead k) }
+        May m (event.Plan j kind p 0) (answer.FaultRead k) }
     ensures damaged { (m : Machine) (j k : ℕ) (kind : JobKind) (p bytes : List ℕ) →
         IsPlannable m j p bytes → k < m.settings.servers →
-        MayBuilt m (event.Plan j kind p 0) (answer.Damaged k) }
+        May m (event.Plan j kind p 0) (answer.Damaged k) }
     ensures spill { (m : Machine) (j : ℕ) (p bytes : List ℕ) → IsPlannable m j p bytes →
-        MayBuilt m (event.Plan j Spill p 0) answer.FaultWrite }
+        May m (event.Plan j Spill p 0) answer.FaultWrite }
     ensures compact { (m : Machine) (j r : ℕ) (p : List ℕ) →
-        ¬ (MayBuilt m (event.Plan j Compact p r) answer.FaultWrite) }
+        ¬ (May m (event.Plan j Compact p r) answer.FaultWrite) }
     ensures no_server { (m : Machine) (j r k : ℕ) (kind : JobKind) (p : List ℕ) →
         m.settings.servers ≤ k →
-        ¬ (MayBuilt m (event.Plan j kind p r) (answer.FaultRead k)) }
+        ¬ (May m (event.Plan j kind p r) (answer.FaultRead k)) }
     ensures leaves { (m : Machine) (j r k : ℕ) (kind : JobKind) (p : List ℕ) →
         after m (event.Plan j kind p r) (answer.FaultRead k) ≡ m }
 {}
@@ -79,13 +78,13 @@ pub fn planned_jobs()
 /// was planned and changed its file. Either ends the job. The tree stays; others see that the file's bytes stand elsewhere.
 pub fn puts()
     ensures installed { (m : Machine) (j n : ℕ) (job : Job) → get m.jobs j ≡ Some job →
-        MayBuilt m (event.Put j) (answer.Installed n) ↔ (n ≡ m.number + 1) }
+        May m (event.Put j) (answer.Installed n) ↔ (n ≡ m.number + 1) }
     ensures stale { (m : Machine) (j base now : ℕ) (job : Job) → get m.jobs j ≡ Some job →
-        MayBuilt m (event.Put j) (answer.Stale base now) ↔
+        May m (event.Put j) (answer.Stale base now) ↔
         (IsBehind m.number job.base base now × (is_job_touched job ≡ true)) }
     ensures no_stale_at_its_base { (m : Machine) (j base now : ℕ) (job : Job) →
         get m.jobs j ≡ Some job → job.base ≡ m.number →
-        ¬ (MayBuilt m (event.Put j) (answer.Stale base now)) }
+        ¬ (May m (event.Put j) (answer.Stale base now)) }
     ensures no_job { (m : Machine) (j : ℕ) → get m.jobs j ≡ None →
         Only m (event.Put j) (answer.Refused word.NoJob) }
     ensures number { (m : Machine) (j n : ℕ) →

@@ -1,5 +1,4 @@
-//! Worked examples of the machine's steps, each proved. They say of each line what may answer it where its verb is built,
-//! and what it leaves.
+//! Worked examples of the machine's steps, each proved. They say of each line what may answer it, and what it leaves.
 
 ghost use Rattle.std.specs.Prelude.{◌≡◌, ◌≢◌, ◌↔◌, ℕ, ◌+◌, ◌≤◌, ◌<◌, true, false, List, [], ◌∷◌, ◌++◌, length, slice_get, Some, None};
 ghost use Rattle.std.specs.Option.{option_map};
@@ -21,7 +20,7 @@ ghost use Rattle.wtf_model.specs.Items.{writes_of};
 ghost use Rattle.wtf_model.specs.Transaction.{Transaction, session_after, answers_of};
 ghost use Rattle.wtf_model.specs.Machines.{IsBehind};
 ghost use Rattle.wtf_model.specs.Lawful.{Deviates, is_touched};
-ghost use Rattle.wtf_model.specs.Steps.{Machine, MayBuilt, Accepts, start, after, cap_of, due, touch, is_down, is_live, is_full};
+ghost use Rattle.wtf_model.specs.Steps.{Machine, May, Accepts, start, after, cap_of, due, touch, is_down, is_live, is_full};
 ghost use Rattle.wtf_model.specs.Examples.{Only, IsAborted, first_transaction};
 
 /// A transaction begins on the tree now, with the next stamp, which is then another. A client has one at a time.
@@ -60,7 +59,7 @@ pub fn needs_a_transaction()
 pub fn takes_calls()
     ensures due { (m : Machine) (c : ℕ) (t : Transaction) (o : Op (List ℕ)) →
         get m.transactions c ≡ Some t → is_live t ≡ true → is_full t ≡ false →
-        MayBuilt m (event.Client c (verb.Call o)) (due m t o) }
+        May m (event.Client c (verb.Call o)) (due m t o) }
     ensures full { (m : Machine) (c : ℕ) (t : Transaction) (o : Op (List ℕ)) →
         get m.transactions c ≡ Some t → is_live t ≡ true → 4096 ≤ length t.ops →
         Only m (event.Client c (verb.Call o)) (answer.Refused word.Full) }
@@ -76,11 +75,11 @@ pub fn takes_calls()
 pub fn attempts()
     ensures committed { (m : Machine) (c n : ℕ) (t : Transaction) →
         get m.transactions c ≡ Some t → is_live t ≡ true →
-        MayBuilt m (event.Client c verb.Try) (answer.Committed n) ↔
+        May m (event.Client c verb.Try) (answer.Committed n) ↔
         ((n ≡ m.number + 1) × (answers_of (cap_of m) m.now t.ops ≡ t.shown)) }
     ensures retry { (m : Machine) (c base now : ℕ) (t : Transaction) →
         get m.transactions c ≡ Some t → is_live t ≡ true →
-        MayBuilt m (event.Client c verb.Try) (answer.Retry base now) ↔
+        May m (event.Client c verb.Try) (answer.Retry base now) ↔
         (IsBehind m.number t.base base now × (is_touched (cap_of m) t ≡ true)) }
     ensures number { (m : Machine) (c n : ℕ) (t : Transaction) → get m.transactions c ≡ Some t →
         (after m (event.Client c verb.Try) (answer.Committed n)).number ≡ n }
@@ -110,14 +109,14 @@ pub fn replays()
         Only m (event.Client c verb.Step) (answer.Refused word.Live) }
     ensures same { (m : Machine) (c i : ℕ) (t : Transaction) → get m.transactions c ≡ Some t →
         is_live t ≡ false →
-        MayBuilt m (event.Client c verb.Step) (answer.Replayed i)
+        May m (event.Client c verb.Step) (answer.Replayed i)
         ↔ ((i ≡ t.replayed + 1) × (slice_get (answers_of (cap_of m) t.tree t.ops) t.replayed ≡
         slice_get t.shown t.replayed)) }
     ensures other { (m : Machine) (c : ℕ) (t : Transaction) (a r : Answer) →
         get m.transactions c ≡ Some t → is_live t ≡ false →
         slice_get (answers_of (cap_of m) t.tree t.ops) t.replayed ≡ Some a →
         slice_get t.shown t.replayed ≢ Some a → IsAborted (t.replayed + 1) a r →
-        MayBuilt m (event.Client c verb.Step) r }
+        May m (event.Client c verb.Step) r }
     ensures one_more { (m : Machine) (c i : ℕ) (t : Transaction) → get m.transactions c ≡ Some t →
         get (after m (event.Client c verb.Step) (answer.Replayed i)).transactions c ≡
         Some (record t { replayed = i }) }
@@ -128,15 +127,15 @@ pub fn replays()
 pub fn commits()
     ensures same { (m : Machine) (c : ℕ) (t : Transaction) → get m.transactions c ≡ Some t →
         answers_of (cap_of m) m.now t.ops ≡ t.shown →
-        MayBuilt m (event.Client c verb.Commit) (answer.Committed (m.number + 1)) }
+        May m (event.Client c verb.Commit) (answer.Committed (m.number + 1)) }
     ensures only_same { (m : Machine) (c n : ℕ) (t : Transaction) → get m.transactions c ≡ Some t →
-        MayBuilt m (event.Client c verb.Commit) (answer.Committed n) →
+        May m (event.Client c verb.Commit) (answer.Committed n) →
         (n ≡ m.number + 1) × (answers_of (cap_of m) m.now t.ops ≡ t.shown) }
     ensures a_file_grew { (m : Machine) (c : ℕ) (t : Transaction) (r : Answer) →
         get m.transactions c ≡ Some t →
         answers_of (cap_of m) m.now t.ops ≡ answer.File 3 ∷ [] → t.shown ≡ answer.File 0 ∷ [] →
         IsAborted 1 (answer.File 3) r →
-        MayBuilt m (event.Client c verb.Commit) r }
+        May m (event.Client c verb.Commit) r }
     ensures never_without_cause { (shown : List Answer) (i : ℕ) (a : Answer) →
         Deviates shown shown i a → ⊥ }
     ensures at_the_first { (i : ℕ) (a : Answer) →
@@ -165,7 +164,7 @@ pub fn aborts()
 pub fn shows_the_tree()
     ensures file { (m : Machine) (p bytes : List ℕ) → get m.now p ≡ Some (node.File bytes) →
         length bytes ≤ 1048576 →
-        MayBuilt m (event.Dump p) (answer.Shown bytes) }
+        May m (event.Dump p) (answer.Shown bytes) }
     ensures long { (m : Machine) (p bytes : List ℕ) → get m.now p ≡ Some (node.File bytes) →
         1048576 < length bytes →
         Only m (event.Dump p) (answer.Refused word.Long) }
@@ -180,9 +179,9 @@ pub fn shows_the_tree()
 /// A save answers the number, and only where no server is down; its image is then that of the tree now. A fault may come
 /// at any time; the image is then one of those that it may have been, or that of the tree now.
 pub fn saves()
-    ensures saved { (m : Machine) (n : ℕ) → MayBuilt m event.Save (answer.Saved n) ↔
+    ensures saved { (m : Machine) (n : ℕ) → May m event.Save (answer.Saved n) ↔
         ((n ≡ m.number) × ((k : ℕ) → k < m.settings.servers → is_down m k ≡ false)) }
-    ensures fault { (m : Machine) → MayBuilt m event.Save answer.FaultSave }
+    ensures fault { (m : Machine) → May m event.Save answer.FaultSave }
     ensures image { (m : Machine) (n : ℕ) →
         after m event.Save (answer.Saved n) ≡ record m { may_be_saved = m.now ∷ [] } }
     ensures either { (m : Machine) → after m event.Save answer.FaultSave ≡

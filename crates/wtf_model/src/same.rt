@@ -109,7 +109,6 @@ impl Answer {
             Answer::FaultSave => Ok(Answer::FaultSave),
             Answer::Damaged(k) => Ok(Answer::Damaged(*k)),
             Answer::Bad(kind) => Ok(Answer::Bad(*kind)),
-            Answer::NotBuilt => Ok(Answer::NotBuilt),
         }
     }
 }

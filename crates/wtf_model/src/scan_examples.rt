@@ -1,5 +1,5 @@
-//! Worked examples of the lines of scans and collections, each proved. They say of each line what may answer it where its verb
-//! is built, and what it leaves.
+//! Worked examples of the lines of scans and collections, each proved. They say of each line what may answer it, and what
+//! it leaves.
 
 ghost use Rattle.std.specs.Prelude.{◌≡◌, ◌≢◌, ◌↔◌, ◌⊎◌, ℕ, ◌+◌, ◌-◌, ◌≤◌, ◌<◌, List, [], ◌∷◌, Some, None, true, false};
 ghost use Rattle.std.specs.FinMap.{get, empty, insert};
@@ -13,7 +13,7 @@ ghost use Rattle.wtf_model.specs.declared.event.Holder.TheVariants as holder;
 ghost use Rattle.wtf_model.specs.Tree.{Tree};
 ghost use Rattle.wtf_model.specs.Transaction.{Transaction, Job};
 ghost use Rattle.wtf_model.specs.Scans.{open_stamps, was_open};
-ghost use Rattle.wtf_model.specs.Steps.{Machine, MayBuilt, start, after, is_down};
+ghost use Rattle.wtf_model.specs.Steps.{Machine, May, start, after, is_down};
 ghost use Rattle.wtf_model.specs.Examples.{Only, Runs, stamped, stamped_job, IsAtRest, IsAlone, quiet_events, held_events, pieces_events};
 
 /// One scan runs at a time. It notes what is open, and has 64 parts; the first one waits for nothing.
@@ -58,15 +58,15 @@ pub fn pieces()
     ensures none { (m : Machine) (k : ℕ) → m.parts_left ≡ None →
         Only m (event.Piece k) (answer.Refused word.NoScan) }
     ensures more { (m : Machine) (k left n : ℕ) → m.parts_left ≡ Some left → k < left →
-        MayBuilt m (event.Piece k) (answer.More n) ↔ (n ≡ left - k) }
+        May m (event.Piece k) (answer.More n) ↔ (n ≡ left - k) }
     ensures not_done { (m : Machine) (k left : ℕ) → m.parts_left ≡ Some left → k < left →
-        ¬ (MayBuilt m (event.Piece k) answer.Done) }
+        ¬ (May m (event.Piece k) answer.Done) }
     ensures done { (m : Machine) (k left : ℕ) → m.parts_left ≡ Some left → left ≤ k →
-        MayBuilt m (event.Piece k) answer.Done }
+        May m (event.Piece k) answer.Done }
     ensures no_more { (m : Machine) (k left n : ℕ) → m.parts_left ≡ Some left → left ≤ k →
-        ¬ (MayBuilt m (event.Piece k) (answer.More n)) }
+        ¬ (May m (event.Piece k) (answer.More n)) }
     ensures fault { (m : Machine) (k left server : ℕ) → m.parts_left ≡ Some left →
-        server < m.settings.servers → MayBuilt m (event.Piece k) (answer.FaultRead server) }
+        server < m.settings.servers → May m (event.Piece k) (answer.FaultRead server) }
     ensures left { (m : Machine) (k n : ℕ) →
         (after m (event.Piece k) (answer.More n)).parts_left ≡ Some n }
     ensures finished { (m : Machine) (k : ℕ) →
@@ -86,9 +86,9 @@ pub fn collections()
     ensures too_early { (m : Machine) (k : ℕ) → k < m.settings.servers → m.scans < 2 →
         Only m (event.Collect k) (answer.Refused word.NoScan) }
     ensures freed { (m : Machine) (k n : ℕ) → k < m.settings.servers → 2 ≤ m.scans →
-        MayBuilt m (event.Collect k) (answer.Collected n) }
+        May m (event.Collect k) (answer.Collected n) }
     ensures fault { (m : Machine) (k j : ℕ) → k < m.settings.servers → 2 ≤ m.scans →
-        MayBuilt m (event.Collect k) (answer.FaultPunch j) ↔ (j ≡ k) }
+        May m (event.Collect k) (answer.FaultPunch j) ↔ (j ≡ k) }
     ensures leaves { (m : Machine) (k : ℕ) (a : Answer) → after m (event.Collect k) a ≡ m }
 {}
 

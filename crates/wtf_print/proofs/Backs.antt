@@ -363,7 +363,6 @@ plain-said (answer.Bad k) h = record {
   is = keyed (codes "bad ") (codes "bad") (λ l. refl) (kind_text k) (kind-said k h).words (kind-said k h).is;
   read = plainly _ (answer.Bad k) (kind-said k h).read;
 }
-plain-said answer.NotBuilt h = record { words = codes "notbuilt" ∷ []; is = refl; read = refl }
 plain-said answer.Okay h = let t = call-said answer.Okay tt h in record { words = t.word ∷ t.args; is = t.words; read = plainly _ answer.Okay t.read }
 plain-said answer.Dir h = let t = call-said answer.Dir tt h in record { words = t.word ∷ t.args; is = t.words; read = plainly _ answer.Dir t.read }
 plain-said (answer.Shown x) h = let t = call-said (answer.Shown x) tt h in record { words = t.word ∷ t.args; is = t.words; read = plainly _ (answer.Shown x) t.read }

@@ -274,9 +274,8 @@ wrong_answer_form w args =
     either IsPlain (bytes_eq w (codes "refused")) _ _ (refused_form args)
     (either IsPlain (bytes_eq w (codes "fault")) _ _ (fault_form args)
     (either IsPlain (bytes_eq w (codes "damaged")) _ _ (numbered IsPlain (2 ^ 8 - 1) answer.Damaged args small)
-    (either IsPlain (bytes_eq w (codes "bad")) _ _ (bad_form args)
-    (either IsPlain (bytes_eq w (codes "notbuilt")) _ (scan_answer_of w args) (alone_form IsPlain answer.NotBuilt args tt)
-    (scan_answer_form w args)))))
+    (either IsPlain (bytes_eq w (codes "bad")) _ (scan_answer_of w args) (bad_form args)
+    (scan_answer_form w args))))
 
 plain_answer_form : (w : List ℕ) (args : List (List ℕ)) → IfSome (plain_answer_of w args) IsPlain
 unfolding plain_answer_of

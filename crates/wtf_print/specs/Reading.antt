@@ -154,8 +154,7 @@ wrong_answer_of w args =
     else (if bytes_eq w (codes "fault") then fault_of args
     else (if bytes_eq w (codes "damaged") then (number_of (2 ^ 8 - 1) args >>= λ k. Some (answer.Damaged k))
     else (if bytes_eq w (codes "bad") then bad_of args
-    else (if bytes_eq w (codes "notbuilt") then alone answer.NotBuilt args
-    else scan_answer_of w args))))
+    else scan_answer_of w args)))
 
 -- the answers that hold no other
 unfoldable pub plain_answer_of : List ℕ → List (List ℕ) → Option Answer

@@ -99,7 +99,6 @@ text_of (answer.FaultPunch k) = codes "fault punch " ++ decimal k
 text_of answer.FaultSave = codes "fault save"
 text_of (answer.Damaged k) = codes "damaged " ++ decimal k
 text_of (answer.Bad k) = codes "bad " ++ kind_text k
-text_of answer.NotBuilt = codes "notbuilt"
 
 -- the settings, and the number of installs so far
 unfoldable pub settings_text : Settings → ℕ → List ℕ

@@ -205,9 +205,6 @@ fn wrong_answer_of(alloc: Global, word: &[u8], args: &[u8]) -> Result<Answer, Te
     if is_word(word, b"bad") {
         return bad_of(args);
     }
-    if is_word(word, b"notbuilt") {
-        return alone(Answer::NotBuilt, args);
-    }
     scan_answer_of(alloc, word, args)
 }
 

@@ -228,7 +228,6 @@ fn push_answer(answer: &Answer, out: &mut Vec<u8>) -> Result<(), OutOfMemory>
             push_text(out, b"bad ")?;
             push_kind(out, *kind)
         }
-        Answer::NotBuilt => push_text(out, b"notbuilt"),
     }
 }
 
