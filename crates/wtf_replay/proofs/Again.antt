@@ -7,6 +7,7 @@ use Rattle.wtf_model.specs.declared.answer.Answer.{Answer}
 use Rattle.wtf_model.specs.declared.op.Op.{Op}
 use Rattle.wtf_values.specs.declared.key.Key.{Key}
 use Rattle.wtf_values.specs.declared.value.Value.{Value}
+use Rattle.wtf_log.specs.Calls.{own_of}
 use Rattle.wtf_log.specs.Standing.{OpStandsFor}
 use Rattle.wtf_log.proofs.StandingLaws.{OpsStandFor-get}
 use Rattle.wtf_meta.specs.Contents.{Told}
@@ -64,14 +65,15 @@ module _ {S : Type 0} {kind : StoreKind S} (laws : KindLaws kind) {before after 
   Steps new a =
       (kept : Op Kept) (o : Op (List ℕ)) → slice_get x.log.ops x.replayed ≡ Some kept → TellsHand kind before ranges (seen kv x.at) x.session → OpStandsFor
       (tells_slice (told_in kind before)) kept o
-      → IsToldStep (told_in kind after) (caller_at size x.tx x.replayed) (seen kv x.at) (hand_of x) (hand_of new) o a
+      → IsToldStep (told_in kind after) (own_of kept) (caller_at size x.tx x.replayed) (seen kv x.at) (hand_of x) (hand_of new) o a
 
   -- and answers what was shown
   pub again_same : (new : TxnView) (a : Answer) → Steps new a → slice_get x.log.shown x.replayed ≡ Some a → new.tx ≡ x.tx → new.log ≡ x.log
       → new.replayed ≡ x.replayed + 1 → IsSound size kv (told_in kind after) new ops
   again_same new a steps shown tx same_log replayed =
-      sound_replayed size kv (told_in kind after) x new ops next.op a sound_now most
-      (steps next.kept next.op next.at_kept (tells_hand kind before ranges kv x ops sound tells away) next.stands) next.at_op shown tx same_log replayed
+      sound_replayed size kv (told_in kind after) x new ops next.op a next.kept sound_now most
+      (steps next.kept next.op next.at_kept (tells_hand kind before ranges kv x ops sound tells away) next.stands)
+      next.at_kept next.at_op shown tx same_log replayed
 
   -- or answers otherwise
   abbrev pub Dues : Answer → Type 0

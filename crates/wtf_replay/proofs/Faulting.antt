@@ -195,6 +195,7 @@ fault_as kind old new kv x over why f = record {
         ops_are = sound.ops_are;
         told_are = sound.told_are;
         stored_are = sound.stored_are;
+        kept = sound.kept;
         lists_are = sound.lists_are;
         run = sound.run;
       });

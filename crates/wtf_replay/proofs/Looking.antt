@@ -7,6 +7,7 @@ use Rattle.std.specs.FinMap.Entries.{find}
 use Rattle.std.specs.Ordering.{nat_cmp, eq_by_cmp}
 use Rattle.std.proofs.lemmas.Bool.{cases_Bool}
 use Rattle.std.proofs.lemmas.Slice.Eq.{bytes_eq-Decides}
+use Rattle.wtf_base.specs.declared.slice.Slice.{Slice}
 use Rattle.wtf_base.specs.declared.ids.InodeId.{InodeId}
 use Rattle.wtf_kv.specs.Stores.{Store}
 use Rattle.wtf_kv.specs.Edits.{Agree}
@@ -200,13 +201,14 @@ looked_call x kv s p old mid new o a takes looked step = ⊎_elim
     looked
 
 -- a call on names is a call whose facts are told
-pub told_call : (told : Told) (x : Caller) (b : Map) (s : SessionView) (old new : Attempted Key Delta) (o : Op (List ℕ)) (a : Answer)
-    → IsNameCall x b s old new o a → IsToldStep told x b (in_hand old s) (in_hand new s) o a
-told_call told x b s old new o a call = record {
+pub told_call : (told : Told) (own : Option Slice) (x : Caller) (b : Map) (s : SessionView) (old new : Attempted Key Delta) (o : Op (List ℕ)) (a : Answer)
+    → IsNameCall x b s old new o a → IsToldStep told own x b (in_hand old s) (in_hand new s) o a
+told_call told own x b s old new o a call = record {
   step = record { did = record { keys = call.keys; edits = call.edits; facts = []; stored = []; lists = [] }; grows = call.grows; is_call = call.is_call };
   told_are = tt;
   lists_are = tt;
   stored_are = PiecesBytes-none (is_told told);
+  kept = λ P has. PiecesBytes-none P;
 }
 
 -- after which the changes fit at the base

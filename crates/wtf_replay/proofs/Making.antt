@@ -1,9 +1,10 @@
 -- The steps of calls on handles and bytes, over stores that tell what they name.
-use Rattle.std.proofs.Common.{◌≡◌, ℕ, ◌+◌, List, [], ◌∷◌, ◌++◌, length, Option, None, Some, Ok, refl, sym, ap, ◌∙◌, subst}
+use Rattle.std.proofs.Common.{◌≡◌, ℕ, ◌+◌, Bool, List, [], ◌∷◌, ◌++◌, length, Option, None, Some, Ok, refl, sym, ap, ◌∙◌, subst}
 use Rattle.std.specs.Prelude.{IfSome, Result, Err}
 use Rattle.std.proofs.lemmas.List.{append-nil}
 use Rattle.wtf_base.specs.declared.slice.Slice.{Slice}
 use Rattle.wtf_dev.specs.Store.{Range}
+use Rattle.wtf_overlay.specs.Origin.{Place}
 use Rattle.wtf_kv.specs.Stores.{Store}
 use Rattle.wtf_kv.proofs.EditLaws.{Agree-itself, Fits-append}
 use Rattle.wtf_occ.specs.Attempts.{Attempted, Grows}
@@ -22,7 +23,6 @@ use Rattle.wtf_values.specs.declared.value.Value.{Value}
 use Rattle.wtf_values.specs.declared.value.Delta.{Delta}
 use Rattle.wtf_values.specs.Keys.{key_cmp}
 use Rattle.wtf_values.specs.Outcomes.{outcome_of}
-use Rattle.wtf_meta.specs.Bytes.{PiecesBytes}
 use Rattle.wtf_meta.specs.Lists.{TellLists}
 use Rattle.wtf_meta.specs.Contents.{Told, is_told, lists_in}
 use Rattle.wtf_meta.specs.declared.session.Handle as meta
@@ -32,6 +32,7 @@ use Rattle.wtf_meta.specs.Maps.{Map, AllFit, metadata_at, seen}
 use Rattle.wtf_meta.specs.Sessions.{SessionView, handle_in}
 use Rattle.wtf_meta.specs.Calls.{Caller, Fact, Did, InHand, TellFacts, IsCall, IsStep, IsDone, cap_for}
 use Rattle.wtf_meta.proofs.FeetFiles.{looks_feet}
+use Rattle.wtf_meta.proofs.Named.{PiecesBytes-none}
 use Rattle.wtf_meta.proofs.Moves.{done-same}
 use Rattle.wtf_rw.specs.declared.op.Given.TheVariants.{Fresh, Stored}
 use Rattle.wtf_rw.specs.declared.op.RwOp.{RwOp}
@@ -90,24 +91,26 @@ given_told told (rw.Truncate f n) bytes h = tt
 given_told told (rw.Punch f n) bytes h = tt
 given_told told (rw.Stat p) bytes h = tt
 
--- a call's step, over stores that tell its facts
-pub told_step : {S : Type 0} (sc : Scene S) (r : RwOp) (own : Option Slice) (bytes : List ℕ) (x : Caller) (old new : InHand) (o : Op (List ℕ)) (a : Answer)
-    → IsStepWith (DoesRw sc r own bytes) x sc.map old new (op_of r bytes) a → op_of r bytes ≡ o → x.size ≡ sc.after.settings.region
+-- a call's step, over stores that tell its facts: P holds of what it brings where it holds of the slice that it stored or was given
+pub told_step : {S : Type 0} (sc : Scene S) (r : RwOp) (stored : Option Slice) (bytes : List ℕ) (x : Caller) (old new : InHand) (o : Op (List ℕ)) (a : Answer)
+    → (own : Option Slice) → ((P : List Place → Bool) → SliceBytes P own → RwBytes P r) → ((P : List Place → Bool) → SliceBytes P own → SliceBytes P stored)
+    → IsStepWith (DoesRw sc r stored bytes) x sc.map old new (op_of r bytes) a → op_of r bytes ≡ o → x.size ≡ sc.after.settings.region
     → (ranges : List (ℕ × Range)) → TellsMap sc.kind sc.before ranges sc.map
-    → RwTell (tells_slice (told_in sc.kind sc.after)) r bytes → SliceBytes (is_told (told_in sc.kind sc.after)) own
-    → IsToldStep (told_in sc.kind sc.after) x sc.map old new o a
-told_step sc r own bytes x old new o a one is size ranges tells tell stored = record {
+    → RwTell (tells_slice (told_in sc.kind sc.after)) r bytes → SliceBytes (is_told (told_in sc.kind sc.after)) stored
+    → IsToldStep (told_in sc.kind sc.after) own x sc.map old new o a
+told_step sc r stored bytes x old new o a own given brought one is size ranges tells tell has = record {
   step = record { did = one.did; grows = one.grows; is_call = subst (λ q. IsCall x sc.map old.session new.session one.did q a) is one.is_call };
-  told_are = facts_told sc r own bytes one.did one.more ranges tells tell;
+  told_are = facts_told sc r stored bytes one.did one.more ranges tells tell;
   lists_are = subst (λ (z : ℕ). TellLists (lists_in z (told_in sc.kind sc.after)) one.did.lists) (sym size)
-      (read_told sc one.did.lists (rw_read sc r own bytes one.did one.more) ranges tells);
-  stored_are = does_named (is_told (told_in sc.kind sc.after)) sc r own bytes one.did one.more (given_told (told_in sc.kind sc.after) r bytes tell) stored;
+      (read_told sc one.did.lists (rw_read sc r stored bytes one.did one.more) ranges tells);
+  stored_are = does_named (is_told (told_in sc.kind sc.after)) sc r stored bytes one.did one.more (given_told (told_in sc.kind sc.after) r bytes tell) has;
+  kept = λ P whole. does_named P sc r stored bytes one.did one.more (given P whole) (brought P whole);
 }
 
 -- it answers what is due
-pub due_step : (told : Told) (x : Caller) (b : Map) (old new : InHand) (o : Op (List ℕ)) (a : Answer) → IsToldStep told x b old new o a
+pub due_step : (told : Told) (own : Option Slice) (x : Caller) (b : Map) (old new : InHand) (o : Op (List ℕ)) (a : Answer) → IsToldStep told own x b old new o a
     → IsDue told x b old.session o a
-due_step told x b old new o a one = λ S st holds.
+due_step told own x b old new o a one = λ S st holds.
     let done = one.step.is_call.acts told b S (Agree-itself one.step.did.keys b) one.step.is_call.fits one.told_are one.lists_are st holds in
     sym done.answer
 
@@ -185,11 +188,12 @@ refused_call x b s size r bytes a lacks refused one = record {
   feet = looks_feet x b s (only_keys (rw_keys size b s r)) (op_of r bytes) refl (lacks_read x b s size r bytes lacks);
 }
 
-pub refused_step : (told : Told) (x : Caller) (b : Map) (s t : SessionView) (at into : Attempted Key Delta) (size : ℕ) (r : RwOp) (bytes : List ℕ)
-    → (o : Op (List ℕ)) (a : Answer) → Lacks r → IsRefusal a → Answers x b s (rw_keys size b s r) (op_of r bytes) a → op_of r bytes ≡ o → Grows at into
+pub refused_step : (told : Told) (own : Option Slice) (x : Caller) (b : Map) (s t : SessionView) (at into : Attempted Key Delta)
+    → (size : ℕ) (r : RwOp) (bytes : List ℕ) (o : Op (List ℕ)) (a : Answer) → Lacks r → IsRefusal a
+    → Answers x b s (rw_keys size b s r) (op_of r bytes) a → op_of r bytes ≡ o → Grows at into
     → into.reads ≡ at.reads ++ rw_keys size b s r → into.changes ≡ at.changes → t ≡ s
-    → PiecesBytes (is_told told) [] → IsToldStep told x b (in_hand at s) (in_hand into t) o a
-refused_step told x b s t at into size r bytes o a lacks refused one is grows reads changes same none =
+    → IsToldStep told own x b (in_hand at s) (in_hand into t) o a
+refused_step told own x b s t at into size r bytes o a lacks refused one is grows reads changes same =
     let did : Did = only_keys (rw_keys size b s r) in
     record {
       step = record {
@@ -199,6 +203,7 @@ refused_step told x b s t at into size r bytes o a lacks refused one is grows re
             (subst (λ q. IsCall x b s s did q a) is (refused_call x b s size r bytes a lacks refused one));
       };
       told_are = tt;
-      stored_are = none;
+      stored_are = PiecesBytes-none (is_told told);
+      kept = λ P has. PiecesBytes-none P;
       lists_are = tt;
     }

@@ -17,7 +17,7 @@ use Rattle.wtf_rw.specs.declared.op.RwOp.TheVariants as rw
 use Rattle.wtf_steps.specs.Steps.{IsRefusal}
 use Rattle.wtf_rw.specs.Ops.{op_of, Writes, IsWhole, RwBytes, IsFormRw}
 use Rattle.wtf_replay.specs.Built.{is_rw_op, is_slice_op, IsNameOp, IsPlainOp, IsFormPlain, IsOpOf, IsFresh, data_of, with_data}
-use Rattle.wtf_replay.specs.Keeps.{IsWholeOp, IsKeptOf}
+use Rattle.wtf_replay.specs.Keeps.{IsWholeOp, KeepsOwn, IsKeptOf}
 
 -- a call without data is itself
 pub plain_self : (o : Op (List ℕ)) → is_rw_op o ≡ false → IsPlainOp o o
@@ -159,41 +159,43 @@ whole_or k None bytes a len slice lacks = elim (lacks refl) [
 whole_or k (Some s) bytes a len slice lacks = inl (λ e. let bad : None ≡ Some s = sym e ∙ slice in absurd (cc))
 
 plain : (k : Kept) (own : Option Slice) (o : Op (List ℕ)) → OpStandsFor (λ s bytes. (own ≡ Some s) × (bytes ≡ data_of o)) (with_data k o) o → IfSome (own_of (with_data k o)) (λ s. own ≡ Some s)
-    → IsWholeOp (with_data k o) → IsKeptOf o own (with_data k o)
-plain k own o stands is whole = record { stands = stands; own_is = is; lacks = λ a l. inl whole }
+    → KeepsOwn (with_data k o) own → IsWholeOp (with_data k o) → IsKeptOf o own (with_data k o)
+plain k own o stands is keeps whole = record { stands = stands; own_is = is; keeps = keeps; lacks = λ a l. inl whole }
 
 pub with_kept : (k : Kept) (o : Op (List ℕ)) (own : Option Slice) → k.len ≡ length (data_of o) → k.slice ≡ own → IsKeptOf o own (with_data k o)
 with_kept k (op.Write f bytes) own len slice = record {
   stands = keeps_data k own bytes (op.Write f) len slice;
   own_is = own_kept k.slice own slice;
+  keeps = slice;
   lacks = λ a l. whole_or k own bytes a len slice l;
 }
 with_kept k (op.Append f bytes) own len slice = record {
   stands = keeps_data k own bytes (op.Append f) len slice;
   own_is = own_kept k.slice own slice;
+  keeps = slice;
   lacks = λ a l. whole_or k own bytes a len slice l;
 }
-with_kept k (op.Mkdir p) own len slice = plain k own (op.Mkdir p) refl tt tt
-with_kept k (op.Rmdir p) own len slice = plain k own (op.Rmdir p) refl tt tt
-with_kept k (op.Create p) own len slice = plain k own (op.Create p) refl tt tt
-with_kept k (op.Unlink p) own len slice = plain k own (op.Unlink p) refl tt tt
-with_kept k (op.Rename p q) own len slice = plain k own (op.Rename p q) refl tt tt
-with_kept k (op.List p) own len slice = plain k own (op.List p) refl tt tt
-with_kept k (op.Stat p) own len slice = plain k own (op.Stat p) refl tt tt
-with_kept k (op.Open f p) own len slice = plain k own (op.Open f p) refl tt tt
-with_kept k (op.Close f) own len slice = plain k own (op.Close f) refl tt tt
-with_kept k (op.Seek f place) own len slice = plain k own (op.Seek f place) refl tt tt
-with_kept k (op.Tell f) own len slice = plain k own (op.Tell f) refl tt tt
-with_kept k (op.Read f n) own len slice = plain k own (op.Read f n) refl tt tt
-with_kept k (op.Truncate f n) own len slice = plain k own (op.Truncate f n) refl tt tt
-with_kept k (op.Punch f n) own len slice = plain k own (op.Punch f n) refl tt tt
-with_kept k (op.Yank f n s) own len slice = plain k own (op.Yank f n s) refl tt tt
-with_kept k (op.Peek s off n) own len slice = plain k own (op.Peek s off n) refl tt tt
-with_kept k (op.Cut s off n to) own len slice = plain k own (op.Cut s off n to) refl tt tt
-with_kept k (op.Paste f s) own len slice = plain k own (op.Paste f s) refl tt tt
-with_kept k (op.Glue f s) own len slice = plain k own (op.Glue f s) refl tt tt
-with_kept k (op.Concat q paths) own len slice = plain k own (op.Concat q paths) refl tt tt
-with_kept k (op.Copy p q) own len slice = plain k own (op.Copy p q) refl tt tt
+with_kept k (op.Mkdir p) own len slice = plain k own (op.Mkdir p) refl tt tt tt
+with_kept k (op.Rmdir p) own len slice = plain k own (op.Rmdir p) refl tt tt tt
+with_kept k (op.Create p) own len slice = plain k own (op.Create p) refl tt tt tt
+with_kept k (op.Unlink p) own len slice = plain k own (op.Unlink p) refl tt tt tt
+with_kept k (op.Rename p q) own len slice = plain k own (op.Rename p q) refl tt tt tt
+with_kept k (op.List p) own len slice = plain k own (op.List p) refl tt tt tt
+with_kept k (op.Stat p) own len slice = plain k own (op.Stat p) refl tt tt tt
+with_kept k (op.Open f p) own len slice = plain k own (op.Open f p) refl tt tt tt
+with_kept k (op.Close f) own len slice = plain k own (op.Close f) refl tt tt tt
+with_kept k (op.Seek f place) own len slice = plain k own (op.Seek f place) refl tt tt tt
+with_kept k (op.Tell f) own len slice = plain k own (op.Tell f) refl tt tt tt
+with_kept k (op.Read f n) own len slice = plain k own (op.Read f n) refl tt tt tt
+with_kept k (op.Truncate f n) own len slice = plain k own (op.Truncate f n) refl tt tt tt
+with_kept k (op.Punch f n) own len slice = plain k own (op.Punch f n) refl tt tt tt
+with_kept k (op.Yank f n s) own len slice = plain k own (op.Yank f n s) refl tt tt tt
+with_kept k (op.Peek s off n) own len slice = plain k own (op.Peek s off n) refl tt tt tt
+with_kept k (op.Cut s off n to) own len slice = plain k own (op.Cut s off n to) refl tt tt tt
+with_kept k (op.Paste f s) own len slice = plain k own (op.Paste f s) refl tt tt tt
+with_kept k (op.Glue f s) own len slice = plain k own (op.Glue f s) refl tt tt tt
+with_kept k (op.Concat q paths) own len slice = plain k own (op.Concat q paths) refl tt tt tt
+with_kept k (op.Copy p q) own len slice = plain k own (op.Copy p q) refl tt tt tt
 
 -- what is known of a call that is made for the first time as r
 pub record MadeAs (r : RwOp) (o : Op (List ℕ)) : Type 0 where

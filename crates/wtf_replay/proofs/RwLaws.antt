@@ -32,7 +32,7 @@ use Rattle.wtf_rw.specs.Stored.{SliceBytes, TellSlice, IsOwn}
 use Rattle.wtf_rw.specs.Ops.{op_of, Writes, IsWhole, RwBytes, IsFormRw, OwnBy, IsRwOwn, LacksOwn, StoresNone, IsRwFault, IsBare, LacksSlice}
 use Rattle.wtf_rw.proofs.StoredBytes.{held_meaning}
 use Rattle.wtf_replay.specs.Built.{IsOpOf, IsFresh, IsStored, data_of}
-use Rattle.wtf_replay.specs.Keeps.{IsWholeOp, LacksData}
+use Rattle.wtf_replay.specs.Keeps.{IsWholeOp, LacksData, IsKeptOf}
 use Rattle.wtf_replay.specs.Causes.{IsOwnOf, IsCallFault, IsAgainFault, StoresNothing}
 
 -- slices that are told have only bytes that are
@@ -87,6 +87,16 @@ module _ {S : Type 0} (kind : StoreKind S) (old new : Dev S) (w : Map) (s : Sess
   own_len_of (op.Peek l off n) q h = subst (λ z. IfSome z (λ sl. len_of sl ≡ 0)) (sym h) tt
   own_len_of (op.Concat p paths) q h = subst (λ z. IfSome z (λ sl. len_of sl ≡ 0)) (sym h) tt
   own_len_of o q h = subst (λ z. IfSome z (λ sl. len_of sl ≡ length (data_of o))) (sym h.1) tt
+
+  -- and where the call is kept it is the slice that is
+  pub own_known : (k : Op Kept) (o : Op (List ℕ)) (q : Option Slice) → IsKeptOf o q k → IsOwnOf kind old new w s o q → own_of k ≡ q
+  own_known (op.Write f kept) o q is h = is.keeps
+  own_known (op.Append f kept) o q is h = is.keeps
+  own_known (op.Read f n) o q is h = sym (subst (λ (z : Op (List ℕ)). IsOwnOf kind old new w s z q) is.stands h)
+  own_known (op.Yank f n l) o q is h = sym (subst (λ (z : Op (List ℕ)). IsOwnOf kind old new w s z q) is.stands h)
+  own_known (op.Peek l off n) o q is h = sym (subst (λ (z : Op (List ℕ)). IsOwnOf kind old new w s z q) is.stands h)
+  own_known (op.Concat p paths) o q is h = sym (subst (λ (z : Op (List ℕ)). IsOwnOf kind old new w s z q) is.stands h)
+  own_known k o q is h = let still = subst (λ (z : Op (List ℕ)). IsOwnOf kind old new w s z q) is.stands h in sym still.1
 
   -- and the stores tell them there
   tell_own : (place : PlaceView) (bytes : List ℕ) (q : Option Slice) → length (stores new) ≡ length (stores old) → TellsAll kind (stores old) → IsOwn kind old new place bytes q → TellSlice (byte_at kind (stores new)) q bytes

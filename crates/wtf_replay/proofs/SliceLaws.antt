@@ -1,9 +1,10 @@
 -- Calls on slices, and those that make a file of others, as calls of a transaction.
-use Rattle.std.proofs.Common.{◌≡◌, ℕ, Bool, false, List, [], None, refl, sym, subst, inr}
+use Rattle.std.proofs.Common.{◌≡◌, ℕ, Bool, false, List, [], Option, None, refl, sym, subst, inr}
 use Rattle.wtf_base.specs.declared.fault.Fault.{Fault}
 use Rattle.wtf_base.specs.declared.fault.Fault.TheVariants as fault
 use Rattle.wtf_base.specs.declared.kept.Kept.{Kept}
 use Rattle.wtf_base.specs.declared.settings.Settings.{Settings}
+use Rattle.wtf_base.specs.declared.slice.Slice.{Slice}
 use Rattle.wtf_dev.specs.Store.{Range, StoreKind}
 use Rattle.wtf_overlay.specs.Origin.{Place}
 use Rattle.wtf_model.specs.declared.answer.Answer.{Answer}
@@ -101,15 +102,17 @@ pub stored_bytes_none : {S : Type 0} (P : List Place → Bool) (sc : Scene S) (s
 stored_bytes_none P sc s r did does = subst (PiecesBytes P) (sym (stored_none sc s r did does)) (PiecesBytes-none P)
 
 -- its step, over stores that tell the bytes of the map and of the slices in hand
-pub slice_step : {S : Type 0} (sc : Scene S) (r : SliceOp) (x : Caller) (old new : InHand) (o : Op (List ℕ)) (a : Answer) → IsStepWith (DoesSlice sc old.session r) x sc.map old new (op_of r) a → op_of r ≡ o
+pub slice_step : {S : Type 0} (sc : Scene S) (own : Option Slice) (r : SliceOp) (x : Caller) (old new : InHand) (o : Op (List ℕ)) (a : Answer)
+    → IsStepWith (DoesSlice sc old.session r) x sc.map old new (op_of r) a → op_of r ≡ o
     → x.size ≡ sc.after.settings.region → (ranges : List (ℕ × Range)) → TellsHand sc.kind sc.before ranges sc.map old.session
-    → IsToldStep (told_in sc.kind sc.after) x sc.map old new o a
-slice_step sc r x old new o a one is size ranges tells = record {
+    → IsToldStep (told_in sc.kind sc.after) own x sc.map old new o a
+slice_step sc own r x old new o a one is size ranges tells = record {
   step = record { did = one.did; grows = one.grows; is_call = subst (λ q. IsCall x sc.map old.session new.session one.did q a) is one.is_call };
   told_are = slice_facts sc ranges old.session r one.did one.more tells;
   lists_are = subst (λ (z : ℕ). TellLists (lists_in z (told_in sc.kind sc.after)) one.did.lists) (sym size)
       (read_told sc one.did.lists (slice_read sc old.session r one.did one.more) ranges tells.seen);
   stored_are = stored_bytes_none (is_told (told_in sc.kind sc.after)) sc old.session r one.did one.more;
+  kept = λ P has. stored_bytes_none P sc old.session r one.did one.more;
 }
 
 module _ {S : Type 0} (kind : StoreKind S) (old new : Dev S) (w : Map) (s : SessionView) where

@@ -21,6 +21,7 @@ sound_replaying size kv told x ops sound = record {
   ops_are = sound.ops_are;
   told_are = sound.told_are;
   stored_are = sound.stored_are;
+  kept = sound.kept;
   lists_are = sound.lists_are;
   run = sound.run;
 }
@@ -34,6 +35,7 @@ sound_rebased size kv told x n ops stand = record {
   ops_are = stand;
   told_are = tt;
   stored_are = PiecesBytes-none (is_told told);
+  kept = λ P log. PiecesBytes-none P;
   lists_are = tt;
   run = run_none (caller_at size x.tx 0) (metadata_at kv n);
 }

@@ -24,8 +24,15 @@ IsKeptFor o a = IsWholeOp o ⊎ IsRefusal a
 abbrev pub LacksData : Op (List ℕ) → Option Slice → Answer → Type 0
 LacksData o own a = own ≡ None → (length (data_of o) ≡ 0) ⊎ IsRefusal a
 
+-- of data that is kept, the slice that was stored
+abbrev pub KeepsOwn : Op Kept → Option Slice → Type 0
+KeepsOwn (op.Write f kept) own = kept.slice ≡ own
+KeepsOwn (op.Append f kept) own = kept.slice ≡ own
+KeepsOwn k own = ⊤
+
 -- a call as a log keeps it, with the slice that was stored of its data
 pub record IsKeptOf (o : Op (List ℕ)) (own : Option Slice) (k : Op Kept) : Type 0 where
   pub stands : OpStandsFor (λ s bytes. (own ≡ Some s) × (bytes ≡ data_of o)) k o
   pub own_is : IfSome (own_of k) (λ s. own ≡ Some s)
+  pub keeps : KeepsOwn k own
   pub lacks : (a : Answer) → LacksData o own a → IsKeptFor k a

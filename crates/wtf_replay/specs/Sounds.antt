@@ -1,12 +1,12 @@
 -- What holds of a transaction over stores that tell their content: its calls are the definitions' run.
 -- NSDI 2016, section 2.6 (a replay must show what was shown).
-use Rattle.std.specs.Prelude.{◌≡◌, ℕ, List, take}
+use Rattle.std.specs.Prelude.{◌≡◌, ℕ, Bool, List, Option, take}
 use Rattle.wtf_dev.specs.Store.{Range, StoreKind}
 use Rattle.wtf_dev.specs.Sums.{TellsAll}
 use Rattle.wtf_kv.specs.Stores.{Store}
 use Rattle.wtf_base.specs.declared.slice.Slice.{Slice}
 use Rattle.wtf_base.specs.Slices.{len_of}
-use Rattle.wtf_overlay.specs.Origin.{part_origin}
+use Rattle.wtf_overlay.specs.Origin.{Place, part_origin}
 use Rattle.wtf_overlay.specs.declared.part.Part.TheVariants.{Held}
 use Rattle.wtf_overlay.specs.declared.part.Piece.{Piece}
 use Rattle.wtf_occ.specs.Attempts.{Attempted}
@@ -29,8 +29,9 @@ use Rattle.wtf_region.specs.declared.dev.Dev.{Dev}
 use Rattle.wtf_region.specs.Apart.{are_apart}
 use Rattle.wtf_region.specs.Cached.{CacheTrue}
 use Rattle.wtf_region.specs.Devs.{stores, remembered, told_in}
+use Rattle.wtf_rw.specs.Stored.{SliceBytes}
 use Rattle.wtf_replay.specs.Views.{TxnView}
-use Rattle.wtf_replay.specs.Insides.{TxnBytes, lists_have}
+use Rattle.wtf_replay.specs.Insides.{LogBytes, TxnBytes, lists_have}
 
 -- the bytes of a slice are told
 abbrev pub tells_slice : Told → Slice → List ℕ → Type 0
@@ -49,7 +50,8 @@ abbrev pub first_of : TxnView → List (Op (List ℕ)) → ℕ → List (Op (Lis
 first_of x ops n = (take n ops, take n x.log.shown)
 
 -- The logged calls stand for calls; and what the attempt did is the run, on the map at its base, of those that are done
--- there, over stores that tell its facts and what it stored, and whose slices decode to the lists that it read.
+-- there, over stores that tell its facts and what it stored, and whose slices decode to the lists that it read. What it stored
+-- are bytes of the slices that the log keeps.
 pub record IsSound (size : ℕ) (kv : Store Key Value) (told : Told) (x : TxnView) (ops : List (Op (List ℕ))) : Type 0 where
   pub facts : List Fact
   pub stored : List Piece
@@ -57,6 +59,7 @@ pub record IsSound (size : ℕ) (kv : Store Key Value) (told : Told) (x : TxnVie
   pub ops_are : OpsStandFor (tells_slice told) x.log.ops ops
   pub told_are : TellFacts told facts
   pub stored_are : PiecesBytes (is_told told) stored
+  pub kept : (P : List Place → Bool) → LogBytes P x.log → PiecesBytes P stored
   pub lists_are : TellLists (lists_in size told) lists
   pub run : IsRun (caller_at size x.tx 0) (metadata_at kv x.at.base) x.session (did_by x.at facts stored lists) (first_of x ops x.replayed)
 
@@ -77,12 +80,15 @@ pub record TellsHand {S : Type 0} (kind : StoreKind S) (dev : Dev S) (ranges : L
 abbrev pub IsAwayTxn : {S : Type 0} → StoreKind S → Dev S → List (ℕ × Range) → Store Key Value → TxnView → Type 0
 IsAwayTxn kind dev ranges kv x = TxnBytes (are_apart ranges) (lists_have dev.settings.region (told_in kind dev) (are_apart ranges)) kv x
 
--- one call more, whose facts the stores tell, what it stored, and the lists that it read
-pub record IsToldStep (told : Told) (x : Caller) (b : Map) (old new : InHand) (o : Op (List ℕ)) (a : Answer) : Type 0 where
-  pub step : IsStep x b old new o a
-  pub told_are : TellFacts told step.did.facts
-  pub stored_are : PiecesBytes (is_told told) step.did.stored
-  pub lists_are : TellLists (lists_in x.size told) step.did.lists
+module _ (told : Told) (own : Option Slice) where
+  -- one call more, whose facts the stores tell, what it stored, and the lists that it read; and what it stored are bytes of the
+  -- slice that was stored of its data
+  pub record IsToldStep (x : Caller) (b : Map) (old new : InHand) (o : Op (List ℕ)) (a : Answer) : Type 0 where
+    pub step : IsStep x b old new o a
+    pub told_are : TellFacts told step.did.facts
+    pub stored_are : PiecesBytes (is_told told) step.did.stored
+    pub kept : (P : List Place → Bool) → SliceBytes P own → PiecesBytes P step.did.stored
+    pub lists_are : TellLists (lists_in x.size told) step.did.lists
 
 -- on the map, and with this in hand, the definitions' call answers so
 abbrev pub IsDue : Told → Caller → Map → SessionView → Op (List ℕ) → Answer → Type 0

@@ -100,11 +100,12 @@ fn make_plain<S: SliceStore, D>(
     requires fits { AllFit at.old.changes (metadata_at kv.now at.old.base) }
     requires inside { IsHandInside S.kind (stores dev.old) dev.old.settings kv.now
         (in_hand at.old session.old) }
-    ensures step { IfOk result (λ a. (x : Caller) (o : Op (List ℕ)) → IsPlainOp op.now o →
+    ensures step { IfOk result (λ a. (x : Caller) (own : Option Slice) (o : Op (List ℕ)) →
+        IsPlainOp op.now o →
         x.size ≡ dev.old.settings.region → new.tx.0 ≡ x.tx → new.index ≡ x.calls + 1 →
         (ranges : List (ℕ × Range)) →
         TellsHand S.kind dev.old ranges (seen kv.now at.old) session.old →
-        IsToldStep (byte_at S.kind (stores dev.new)) x (seen kv.now at.old)
+        IsToldStep (byte_at S.kind (stores dev.new)) own x (seen kv.now at.old)
         (in_hand at.old session.old) (in_hand at.new session.new) o a) }
     ensures acts { IfOk result (λ a. (lists : List ListFact) ×
         TellsFacts S.kind dev.old dev.new lists × ((n : ℕ) (own : Option Slice) →
@@ -161,7 +162,7 @@ pub(crate) fn make_fresh<S: SliceStore>(
         new.tx.0 ≡ x.tx → new.index ≡ x.calls + 1 →
         (ranges : List (ℕ × Range)) →
         TellsHand S.kind dev.old ranges (seen kv.now at.old) session.old →
-        IsToldStep (byte_at S.kind (stores dev.new)) x (seen kv.now at.old)
+        IsToldStep (byte_at S.kind (stores dev.new)) d.own x (seen kv.now at.old)
         (in_hand at.old session.old) (in_hand at.new session.new) op.now d.answer) }
     ensures acts { IfOk result (λ d. (lists : List ListFact) ×
         TellsFacts S.kind dev.old dev.new lists ×
@@ -230,7 +231,7 @@ pub(crate) fn make_stored<S: SliceStore>(
         (ranges : List (ℕ × Range)) →
         TellsHand S.kind dev.old ranges (seen kv.now at.old) session.old →
         OpStandsFor (tells_slice (byte_at S.kind (stores dev.old))) op.now o →
-        IsToldStep (byte_at S.kind (stores dev.new)) x (seen kv.now at.old)
+        IsToldStep (byte_at S.kind (stores dev.new)) (own_of op.now) x (seen kv.now at.old)
         (in_hand at.old session.old) (in_hand at.new session.new) o a) }
     ensures due { IfOk result (λ a. (x : Caller) (o : Op (List ℕ)) →
         x.size ≡ dev.old.settings.region → new.tx.0 ≡ x.tx → new.index ≡ x.calls + 1 →
@@ -313,7 +314,8 @@ pub(crate) fn make_again<S: SliceStore>(
         (ranges : List (ℕ × Range)) →
         TellsHand S.kind dev.old ranges (seen kv.now at.old) session.old →
         OpStandsFor (tells_slice (byte_at S.kind (stores dev.old))) kept o →
-        IsToldStep (byte_at S.kind (stores dev.new)) (caller_at dev.old.settings.region tx.0 k)
+        IsToldStep (byte_at S.kind (stores dev.new)) (own_of kept)
+        (caller_at dev.old.settings.region tx.0 k)
         (seen kv.now at.old) (in_hand at.old session.old) (in_hand at.new session.new) o r.0) }
     ensures due { IfOk result (λ r. (kept : Op Kept) (o : Op (List ℕ)) →
         slice_get log.now.ops k ≡ Some kept →

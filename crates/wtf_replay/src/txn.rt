@@ -122,6 +122,13 @@ impl Txn {
         })
     }
 
+    /// Its number.
+    pub fn number(&self) -> u64
+        ensures { result ≡ self.now.tx }
+    {
+        self.tx.0
+    }
+
     /// Whether it has ended.
     pub fn ended(&self) -> bool
         ensures { result ≡ self.now.ended }

@@ -40,6 +40,7 @@ impl Replicas {
         ensures behind { (p : Place) (b : ℕ) → at + len ≤ p.at →
             byte_at S.kind shelf.old p ≡ Some b → byte_at S.kind shelf.new p ≡ Some b }
         ensures fault { IfErr result (IsPunchFault S.kind (during self.now shelf.old shelf.new) k) }
+        ensures up { OnOk result (is_down self.now k ≡ false) }
         ensures down { is_down self.now k ≡ true → shelf.new ≡ shelf.old }
         ensures lengths { SameLengths S.kind shelf.old shelf.new }
         ensures syncs { SameSyncs S.kind shelf.old shelf.new }
@@ -70,6 +71,7 @@ impl Replicas {
             (i : ℕ) → at ≤ i → i < at + len →
             (S.kind.view (slice_index_or shelf.new k d)).told file i ≡ Some 0 }
         ensures out { result ≡ false → IsOut S.kind (during self.now shelf.old shelf.new) k }
+        ensures up { result ≡ true → is_down self.now k ≡ false }
         ensures down { is_down self.now k ≡ true → shelf.new ≡ shelf.old }
         ensures lengths { SameLengths S.kind shelf.old shelf.new }
         ensures syncs { SameSyncs S.kind shelf.old shelf.new }

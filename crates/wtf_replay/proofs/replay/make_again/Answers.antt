@@ -6,7 +6,9 @@ use Rattle.wtf_rw.specs.Stored.{SliceBytes}
 use Rattle.wtf_replay.specs.Views.{in_hand}
 use Rattle.wtf_replay.specs.Insides.{HandBytes, LogBytes}
 use Rattle.wtf_replay.specs.Keeps.{IsKeptFor}
-use Rattle.wtf_replay.specs.Sounds.{caller_at, tells_slice}
+use Rattle.wtf_base.specs.declared.kept.Kept.{Kept}
+use Rattle.wtf_model.specs.declared.op.Op.{Op}
+use Rattle.wtf_replay.specs.Sounds.{caller_at, tells_slice, IsToldStep}
 use Rattle.wtf_replay.proofs.Insiding.{log_at}
 use Rattle.wtf_replay.proofs.Naming.{named_by}
 use Rattle.std.proofs.Common.{ℕ}
@@ -23,9 +25,12 @@ returns-clause-step g c = λ hit kept o at ranges tells stands.
     let there : Some kept ≡ Some c.op-op.result.now = sym at ∙ ap (slice_get log.ops) (sym down) ∙ c.op-op.ensures in
     let same : kept ≡ c.op-op.result.now = cc in
     let shown : slice_get log.shown c.args.k ≡ Some c.in-Ok.answer = ap (slice_get log.shown) (sym down) ∙ c.shown-shown.ensures ∙ ap Some (c.is_same_answer-same.ensures.0 hit) in
-    c.in-Ok.ensures.step (subst (λ q. IsKeptFor q c.in-Ok.answer) same (c.requires.log.kept c.args.k kept c.in-Ok.answer at shown))
+    subst (λ (q : Op Kept). IsToldStep (byte_at g.S.SliceStore.kind (stores c.make_stored.new.dev)) (own_of q)
+    (caller_at c.args.dev.now.settings.region c.args.tx.0 c.args.k) (seen c.args.kv.now c.args.at.now) (in_hand c.args.at.now c.args.session.now)
+    (in_hand c.make_stored.new.at c.make_stored.new.session) o c.in-Ok.answer) (sym same)
+    (c.in-Ok.ensures.step (subst (λ q. IsKeptFor q c.in-Ok.answer) same (c.requires.log.kept c.args.k kept c.in-Ok.answer at shown))
     (caller_at c.args.dev.now.settings.region c.args.tx.0 c.args.k) o refl refl refl ranges tells
-    (subst (λ q. OpStandsFor (tells_slice (byte_at g.S.SliceStore.kind (stores c.args.dev.now))) q o) same stands)
+    (subst (λ q. OpStandsFor (tells_slice (byte_at g.S.SliceStore.kind (stores c.args.dev.now))) q o) same stands))
 
 pub returns-clause-due : goal.returns-clause-due
 returns-clause-due g c = λ kept o at ranges tells stands.

@@ -52,7 +52,7 @@ returns-in-Ok-clause-step g c = λ x size tx index ranges tells.
       after = c.call.new.dev;
       map = b;
     }) r own (data_of o) x (in_hand c.args.at.now c.args.session.now)
-    (in_hand c.call.new.at c.call.new.s) o c.in-Ok.done.answer
+    (in_hand c.call.new.at c.call.new.s) o c.in-Ok.done.answer own (λ P has. made.bytes P) (λ P has. has)
     (c.in-Ok.ensures.step x (data_of o) size made.writes made.whole) made.is
     (size ∙ sym (ap (λ (st : Settings). st.region) c.call.ensures.dev.settings)) ranges tells.seen
     (fresh_tell (tells_slice told) r o (data_of o) c.in-Some.ensures) (told_slice told own (data_of o) own_told)
@@ -133,7 +133,7 @@ make_plain-requires-clause-form g c = form_plain IsData c.args.op.now c.requires
 
 pub returns-in-Ok-make_plain-clause-step : goal.returns-in-Ok-make_plain-clause-step
 returns-in-Ok-make_plain-clause-step g c =
-    λ x size tx index ranges tells. c.in-Ok-make_plain.ensures.step x c.args.op.now (plain_self c.args.op.now c.in-None.ensures) size tx index ranges tells
+    λ x size tx index ranges tells. c.in-Ok-make_plain.ensures.step x None c.args.op.now (plain_self c.args.op.now c.in-None.ensures) size tx index ranges tells
 
 pub returns-in-Ok-make_plain-clause-own : goal.returns-in-Ok-make_plain-clause-own
 returns-in-Ok-make_plain-clause-own g c = plain_own g.S.SliceStore.kind c.args.dev.now c.make_plain.new.dev (seen c.args.kv.now c.args.at.now) c.args.session.now c.args.op.now c.in-None.ensures c.make_plain.ensures.still

@@ -35,7 +35,7 @@ call-requires-clause-form g c =
     ways.form c.requires.form
 
 pub returns-in-Ok-clause-step : goal.returns-in-Ok-clause-step
-returns-in-Ok-clause-step g c = λ x o plain size tx index ranges tells.
+returns-in-Ok-clause-step g c = λ x own o plain size tx index ranges tells.
     let kind = g.S.SliceStore.kind in
     let r = c.in-Some.made in
     let ways = slice_ways kind c.args.dev.now c.call.new.dev (seen c.args.kv.now c.args.at.now) c.args.session.now r c.args.op.now c.in-Some.ensures in
@@ -45,7 +45,7 @@ returns-in-Ok-clause-step g c = λ x o plain size tx index ranges tells.
       before = c.args.dev.now;
       after = c.call.new.dev;
       map = seen c.args.kv.now c.args.at.now;
-    }) r x (in_hand c.args.at.now c.args.session.now)
+    }) own r x (in_hand c.args.at.now c.args.session.now)
     (in_hand c.call.new.at c.call.new.s) o c.in-Ok.answer
     (c.in-Ok.ensures.step x size (record { tx = tx; index = index })) (ways.is o plain)
     (size ∙ sym (ap (λ (st : Settings). st.region) c.call.ensures.dev.settings)) ranges tells
@@ -122,8 +122,9 @@ returns-in-Err-clause-due g c = λ o plain.
     subst (λ q. MayFault c.args.dev.now.settings (seen c.args.kv.now c.args.at.now) c.args.session.now q c.in-Err.why) (ways.is o plain) c.in-Err.ensures.due
 
 pub returns-in-Ok-make_name-clause-step : goal.returns-in-Ok-make_name-clause-step
-returns-in-Ok-make_name-clause-step g c = λ x o plain size tx index ranges tells.
-    told_call (byte_at g.S.SliceStore.kind (stores c.args.dev.now)) x (seen c.args.kv.now c.args.at.now) c.args.session.now c.args.at.now c.make_name.new.at o c.in-Ok-make_name.answer
+returns-in-Ok-make_name-clause-step g c = λ x own o plain size tx index ranges tells.
+    told_call (byte_at g.S.SliceStore.kind (stores c.args.dev.now)) own x (seen c.args.kv.now c.args.at.now)
+    c.args.session.now c.args.at.now c.make_name.new.at o c.in-Ok-make_name.answer
     (c.in-Ok-make_name.ensures.step x o (plain_name c.args.op.now o c.in-None.ensures plain) tx index)
 
 pub returns-in-Ok-make_name-clause-fit : goal.returns-in-Ok-make_name-clause-fit

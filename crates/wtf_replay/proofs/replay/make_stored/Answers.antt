@@ -11,7 +11,6 @@ use Rattle.wtf_log.proofs.StandingLaws.{OpStandsFor-weaker}
 use Rattle.wtf_meta.specs.Contents.{Told, is_told}
 use Rattle.wtf_meta.specs.Maps.{AllFit, metadata_at, seen}
 use Rattle.wtf_meta.specs.Calls.{Caller}
-use Rattle.wtf_meta.proofs.Named.{PiecesBytes-none}
 use Rattle.wtf_meta.proofs.Telling.{TellBytes-later}
 use Rattle.wtf_region.specs.Devs.{stores}
 use Rattle.wtf_region.specs.Inside.{is_inside}
@@ -55,9 +54,9 @@ returns-in-Ok-clause-step g c = λ kept x o size tx index ranges tells stands.
     let later = OpStandsFor-weaker (tells_slice before) (tells_slice told) k o (λ sl bytes own. TellBytes-later before told (len_of sl) (part_origin (Held sl)) bytes (tells_on g.met.S.SliceStore.laws c.call.ensures.dev.each)) stands in
     let gave = brought_for (tells_slice told) r k o c.in-Some.ensures later in
     let none = none_stored kind dev into b s r c.in-Ok.done.own ways.none c.in-Ok.ensures.own in
-    let whole : IsWhole r → IsToldStep told x b (in_hand c.args.at.now s) (in_hand c.call.new.at c.call.new.s) o a = λ w. told_step
+    let whole : IsWhole r → IsToldStep told (own_of k) x b (in_hand c.args.at.now s) (in_hand c.call.new.at c.call.new.s) o a = λ w. told_step
     (record { kind = kind; before = dev; after = into; map = b }) r c.in-Ok.done.own gave.bytes x (in_hand c.args.at.now s)
-    (in_hand c.call.new.at c.call.new.s) o a
+    (in_hand c.call.new.at c.call.new.s) o a (own_of k) ways.given (λ P has. subst (SliceBytes P) (sym none) tt)
     (c.in-Ok.ensures.step x gave.bytes size gave.writes w) gave.is (size ∙ sym
     (ap (λ (st : Settings). st.region) c.call.ensures.dev.settings)) ranges tells.seen gave.tell (subst (SliceBytes (is_told told)) (sym none) tt) in
     elim kept [
@@ -66,9 +65,9 @@ returns-in-Ok-clause-step g c = λ kept x o size tx index ranges tells stands.
         | inl w ↦ whole w
         | inr lacks ↦
             let what = c.in-Ok.ensures.refused refused in
-            refused_step told x b s c.call.new.s c.args.at.now c.call.new.at dev.settings.region r gave.bytes o a lacks refused
+            refused_step told (own_of k) x b s c.call.new.s c.args.at.now c.call.new.at dev.settings.region r gave.bytes o a lacks refused
             (c.in-Ok.ensures.answers x gave.bytes size gave.writes (lacks_bare r lacks)) gave.is
-            c.in-Ok.ensures.grows c.in-Ok.ensures.keys what.2 what.3 (PiecesBytes-none (is_told told))
+            c.in-Ok.ensures.grows c.in-Ok.ensures.keys what.2 what.3
       ]
     ]
 
@@ -89,9 +88,9 @@ returns-in-Ok-clause-due g c = λ x o size tx index ranges tells stands.
     let gave = brought_for (tells_slice told) r k o c.in-Some.ensures later in
     let none = none_stored kind dev into b s r c.in-Ok.done.own ways.none c.in-Ok.ensures.own in
     elim ways.either [
-      | inl w ↦ due_step told x b (in_hand c.args.at.now s) (in_hand c.call.new.at c.call.new.s) o a
+      | inl w ↦ due_step told (own_of k) x b (in_hand c.args.at.now s) (in_hand c.call.new.at c.call.new.s) o a
           (told_step (record { kind = kind; before = dev; after = into; map = b }) r c.in-Ok.done.own gave.bytes x (in_hand c.args.at.now s)
-          (in_hand c.call.new.at c.call.new.s) o a
+          (in_hand c.call.new.at c.call.new.s) o a (own_of k) ways.given (λ P has. subst (SliceBytes P) (sym none) tt)
           (c.in-Ok.ensures.step x gave.bytes size gave.writes w) gave.is
           (size ∙ sym (ap (λ (st : Settings). st.region) c.call.ensures.dev.settings)) ranges tells.seen gave.tell
           (subst (SliceBytes (is_told told)) (sym none) tt))
@@ -193,13 +192,15 @@ make_plain-requires-clause-form g c = form_plain IsKeptData c.args.op.now c.requ
 
 pub returns-in-Ok-make_plain-clause-step : goal.returns-in-Ok-make_plain-clause-step
 returns-in-Ok-make_plain-clause-step g c = λ kept x o size tx index ranges tells stands.
-    c.in-Ok-make_plain.ensures.step x o (stands_plain (tells_slice (byte_at g.S.SliceStore.kind
+    c.in-Ok-make_plain.ensures.step x (own_of c.args.op.now) o (stands_plain (tells_slice (byte_at g.S.SliceStore.kind
     (stores c.args.dev.now))) c.args.op.now o c.in-None.ensures stands) size tx index ranges tells
 
 pub returns-in-Ok-make_plain-clause-due : goal.returns-in-Ok-make_plain-clause-due
 returns-in-Ok-make_plain-clause-due g c = λ x o size tx index ranges tells stands.
-    due_step (byte_at g.S.SliceStore.kind (stores c.make_plain.new.dev)) x (seen c.args.kv.now c.args.at.now) (in_hand c.args.at.now c.args.session.now) (in_hand c.make_plain.new.at c.make_plain.new.session) o c.in-Ok-make_plain.answer
-    (c.in-Ok-make_plain.ensures.step x o (stands_plain (tells_slice (byte_at g.S.SliceStore.kind
+    due_step (byte_at g.S.SliceStore.kind (stores c.make_plain.new.dev)) (own_of c.args.op.now) x
+    (seen c.args.kv.now c.args.at.now) (in_hand c.args.at.now c.args.session.now) (in_hand c.make_plain.new.at c.make_plain.new.session) o
+    c.in-Ok-make_plain.answer
+    (c.in-Ok-make_plain.ensures.step x (own_of c.args.op.now) o (stands_plain (tells_slice (byte_at g.S.SliceStore.kind
     (stores c.args.dev.now))) c.args.op.now o c.in-None.ensures stands) size tx index ranges tells)
 
 pub returns-in-Ok-make_plain-clause-named : goal.returns-in-Ok-make_plain-clause-named

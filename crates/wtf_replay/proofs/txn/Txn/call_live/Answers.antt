@@ -26,8 +26,9 @@ use Rattle.wtf_replay.specs.Called.{IsCalled}
 use Rattle.wtf_replay.specs.Verbs.{turn, CallOf}
 use Rattle.wtf_replay.specs.Built.{data_of}
 use Rattle.wtf_replay.specs.Fits.{IsFit, IsLog}
-use Rattle.wtf_replay.specs.Sounds.{caller_at, tells_slice}
+use Rattle.wtf_replay.specs.Sounds.{caller_at, tells_slice, IsToldStep}
 use Rattle.wtf_replay.proofs.Again.{tells_hand}
+use Rattle.wtf_replay.proofs.RwLaws.{own_known}
 use Rattle.wtf_replay.proofs.Sounding.{sound_called, sound_later}
 use Rattle.wtf_replay.proofs.Keeping.{log_called}
 use Rattle.wtf_replay.proofs.Naming.{named_by}
@@ -93,10 +94,13 @@ returns g c =
                 let stands : OpStandsFor (tells_slice told) kept.result o =
                 OpStandsFor-weaker _ (tells_slice told) kept.result o
                 (λ s bytes there h. subst (λ (l : List ℕ). TellBytes told (len_of s) (part_origin (Held s)) l) (sym h.1) (subst (λ z. TellSlice told z (data_of o)) h.0 told_own)) kept.ensures.kept.stands in
+                let steps = c.in-Ok.ensures.step (caller_at size x.tx x.replayed) refl refl refl start.0
+                (tells_hand kind dev start.0 kv x ops start.3 start.1 start.2) in
                 sound_called size kv told x new ops o a kept.result (sound_later size kv before told x ops
                 (tells_on laws c.make_fresh.ensures.dev.each) start.3) fit.log live
-                (c.in-Ok.ensures.step (caller_at size x.tx x.replayed) refl refl refl start.0
-                (tells_hand kind dev start.0 kv x ops start.3 start.1 start.2)) refl c.in_default.ensures.ok refl stands;
+                (subst (λ z. IsToldStep told z (caller_at size x.tx x.replayed) (seen kv x.at) (hand_of x) (hand_of new) o a)
+                (sym (own_known kind dev into (seen kv x.at) x.session kept.result o own kept.ensures.kept c.in-Ok.ensures.own)) steps)
+                refl c.in_default.ensures.ok refl stands;
             fit = record {
               pinned = subst (λ b. IsTrue (is_pinned kv b)) (sym c.make_fresh.ensures.grows.base) fit.pinned;
               fits = c.in-Ok.ensures.fit;
