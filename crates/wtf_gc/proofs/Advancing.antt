@@ -1,6 +1,7 @@
 -- The parts of a scan that are done, and the scan that has finished with the last of them.
-use Rattle.std.proofs.Common.{◌≡◌, ℕ, ◌-◌, ◌≤◌, min, cond, ◌||◌, nat_eq, count_by, List, Option, None, Some, sym, ap, ◌∙◌, subst, ⊎_elim, inl, inr, arith}
-use Rattle.std.proofs.lemmas.Bool.{eq-eqb, or_left, or_right, or_cases}
+use Rattle.std.proofs.Common.{◌≡◌, ℕ, ◌-◌, ◌≤◌, ◌<◌, min, cond, ◌||◌, nat_eq, count_by, false, List, Option, None, Some, refl, sym, ap, ◌∙◌, subst}
+use Rattle.std.proofs.Common.{⊎_elim, inl, inr, arith}
+use Rattle.std.proofs.lemmas.Bool.{eq-eqb, eqb-true, cases_Bool, or_left, or_right, or_cases}
 use Rattle.wtf_base.specs.Places.{Place}
 use Rattle.wtf_dev.specs.Store.{StoreKind}
 use Rattle.wtf_kv.specs.Seen.{IsAmong}
@@ -21,12 +22,13 @@ use Rattle.wtf_gc.specs.Scans.{next_parts, run_on, with_finished, with_run, undo
 use Rattle.wtf_gc.specs.Views.{RunView, GcView}
 use Rattle.wtf_gc.proofs.Living.{same_versions}
 
--- ---- the last parts
+-- ---- parts are done
 module _ (old new : GcView) (run : RunView) (was : old.running ≡ Some run) (done : ℕ) (found more : List Extent)
     (adds : (p : Place) → covers found p ≡ (covers run.scan.found p || covers more p)) where
   abbrev then_run : RunView
   then_run = run_on run done found
 
+  -- with the last of them
   pub advances_last : (kv kv' : Store Key Value) → run.left - done ≡ 0 → IsPinnedFor run.seen kv' kv → new ≡ with_finished old then_run.scan
       → Advances kv kv' old new done 0 more
   advances_last kv kv' none undid is =
@@ -44,6 +46,28 @@ module _ (old new : GcView) (run : RunView) (was : old.running ≡ Some run) (do
             omega (arith, all, once);
         number = sym undid.number;
         cells = sym undid.cells;
+      }
+
+  -- or some are left
+  pub advances_on : (kv : Store Key Value) (left : ℕ) → left ≡ run.left - done → 0 < left → new ≡ record old { running = Some then_run }
+      → Advances kv kv old new done left more
+  advances_on kv left left_is some is =
+      let going : nat_eq (run.left - done) 0 ≡ false = ⊎_elim
+      (λ t. let none = eqb-true (run.left - done) 0 t in absurd (omega (arith, left_is, some, none)))
+      (λ f. f)
+      (cases_Bool (nat_eq (run.left - done) 0)) in
+      record {
+        run = run;
+        was = was;
+        found = found;
+        adds = adds;
+        is = is ∙ sym (ap (λ b. cond b (with_finished old then_run.scan) (record old { running = Some then_run })) going);
+        left_is = left_is;
+        pins = λ m.
+            let none : ◌≡◌ {A = ℕ} (undone then_run m) 0 = ap (λ b. cond b (count_by (nat_eq m) run.seen) 0) going in
+            omega (arith, none);
+        number = refl;
+        cells = refl;
       }
 
 -- ---- what was found in parts is what the scan finds in them
@@ -65,6 +89,7 @@ pub read_over : {S : Type 0} (kind : StoreKind S) (dev dev' : Dev S) (kv kv' : S
     → PartsRead kind dev dev' kv' parts (covers before) (covers after)
 read_over kind dev dev' kv kv' parts before more after number cells adds read = record {
   facts = read.facts;
+  slices = λ P Q bases. read.slices P Q (λ v there. bases v (is_in kv kv' number cells parts v there));
   finds = λ lists tell.
       let f = read.finds lists tell in
       record {
@@ -80,7 +105,8 @@ read_over kind dev dev' kv kv' parts before more after number cells adds read = 
 }
 
 -- ---- the next parts
-pub does_parts : {S : Type 0} (kind : StoreKind S) (dev dev' : Dev S) (old_kv kv kv' : Store Key Value) (old new : GcView) (n left : ℕ) (run : RunView) (parts : Parts) (more : List Extent)
+pub does_parts : {S : Type 0} (kind : StoreKind S) (dev dev' : Dev S) (old_kv kv kv' : Store Key Value) (old new : GcView) (n left : ℕ) (run : RunView)
+    (parts : Parts) (more : List Extent)
     → kv.pins ≡ old_kv.pins → old.running ≡ Some run → parts ≡ next_parts run.left n → PartsRead kind dev dev' kv parts no_places (covers more)
     → Advances kv kv' old new (min run.left n) left more
     → DoesParts kind dev dev' old_kv kv' old new n left

@@ -1,11 +1,13 @@
 -- The gaps between spans are apart, hold just what no span has, and their lengths add up to its size.
-use Rattle.std.proofs.Common.{◌≡◌, ℕ, zero, suc, ◌+◌, ◌-◌, ◌<◌, ◌≤◌, Bool, true, false, cond, nat_lt, not, ◌||◌, ◌&&◌, min, max, List, [], ◌∷◌, length, zero-add, add-zero, refl, sym, ap, ◌∙◌, subst, ⊎_elim, arith}
+use Rattle.std.proofs.Common.{◌≡◌, ℕ, zero, suc, ◌+◌, ◌-◌, ◌<◌, ◌≤◌, Bool, true, false, cond, nat_lt, not, ◌||◌, ◌&&◌, min, max, List, [], ◌∷◌}
+use Rattle.std.proofs.Common.{length, zero-add, add-zero, refl, sym, ap, ◌∙◌, subst, ⊎_elim, arith}
 use Rattle.std.specs.Prelude.{slice_index_or}
 use Rattle.std.specs.List.{All}
 use Rattle.std.proofs.lemmas.List.Elements.{All-get_or}
 use Rattle.std.proofs.lemmas.List.Sorted.{list_any-IsPermutation, All-permutation}
 use Rattle.std.specs.List.Sorted.{IsNonDecreasingBy, IsPermutation}
-use Rattle.std.proofs.lemmas.Bool.{cases_Bool, and_parts, and_from, or_left, or_right, or_cases, or_parts, leb-true, ltb-true, le-leb, lt-ltb, cases_lt, both_ways}
+use Rattle.std.proofs.lemmas.Bool.{cases_Bool, and_parts, and_from, or_left, or_right, or_cases, or_parts, leb-true, ltb-true, le-leb, lt-ltb}
+use Rattle.std.proofs.lemmas.Bool.{cases_lt, both_ways}
 use Rattle.wtf_gc.specs.declared.extent.Span.{Span}
 use Rattle.wtf_gc.specs.Spans.{span, lies_in, covers, is_gap, gaps_from, Apart, Ascends, sum_of, one_if, count_from, size_of}
 
@@ -40,13 +42,21 @@ gap_is at mark lo x (s ∷ ss) up h =
     let rest = gaps_from (max at s.to) mark ss in
     let later : covers rest x ≡ true → (at ≤ x) × (x < mark) × (covers (s ∷ ss) x ≡ false) = λ r.
     (let p = gap_is (max at s.to) mark s.from x ss up.2 r in
-    let le = p.0 in
-    (omega (arith, le), p.1, ⊎_elim (λ is. let q = (in_parts x s is).1 in absurd (omega (arith, le, q))) (λ is. ap (λ b. b || covers ss x) is ∙ p.2) (cases_Bool (lies_in x s)))) in
+    let le = p.0 in (
+      omega (arith, le),
+      p.1,
+      ⊎_elim (λ is. let q = (in_parts x s is).1 in absurd (omega (arith, le, q))) (λ is. ap (λ b. b || covers ss x) is ∙ p.2)
+          (cases_Bool (lies_in x s)),
+    )) in
     ⊎_elim
     (λ t. ⊎_elim
     (λ is. let p = in_parts x (span at end) is in
-    let lt : x < min s.from mark = p.1 in
-    (p.0, omega (arith, lt), ⊎_elim (λ yes1. let q = (in_parts x s yes1).0 in absurd (omega (arith, lt, q))) (λ no1. ap (λ b. b || covers ss x) no1 ∙ before_all s.from x ss up.2 (omega (arith, lt))) (cases_Bool (lies_in x s))))
+    let lt : x < min s.from mark = p.1 in (
+      p.0,
+      omega (arith, lt),
+      ⊎_elim (λ yes1. let q = (in_parts x s yes1).0 in absurd (omega (arith, lt, q)))
+          (λ no1. ap (λ b. b || covers ss x) no1 ∙ before_all s.from x ss up.2 (omega (arith, lt))) (cases_Bool (lies_in x s)),
+    ))
     later
     (or_cases (lies_in x (span at end)) (covers rest x) (subst (λ b. covers (cond b (span at end ∷ rest) rest) x ≡ true) t h)))
     (λ f. later (subst (λ b. covers (cond b (span at end ∷ rest) rest) x ≡ true) f h))
@@ -62,8 +72,10 @@ is_in_gap at mark x (s ∷ ss) le lt none =
     let two = or_parts _ _ none in
     ⊎_elim
     (λ before. let first : at < min s.from mark = omega (arith, le, lt, before) in
-    subst (λ b. covers (cond b (span at end ∷ rest) rest) x ≡ true) (sym (lt-ltb at end first)) (or_left _ _ (in_from x (span at end) le (omega (arith, before, lt)))))
-    (λ past. let over : s.to ≤ x = ⊎_elim (λ inside. absurd (both_ways _ two.0 (in_from x s (omega (arith, past)) inside))) (λ out. omega (arith, out)) (cases_lt x s.to) in
+    subst (λ b. covers (cond b (span at end ∷ rest) rest) x ≡ true) (sym (lt-ltb at end first))
+    (or_left _ _ (in_from x (span at end) le (omega (arith, before, lt)))))
+    (λ past. let over : s.to ≤ x = ⊎_elim (λ inside. absurd (both_ways _ two.0 (in_from x s (omega (arith, past)) inside))) (λ out. omega (arith, out))
+    (cases_lt x s.to) in
     let there : covers rest x ≡ true = is_in_gap (max at s.to) mark x ss (omega (arith, le, over)) lt two.1 in
     ⊎_elim
     (λ t. subst (λ b. covers (cond b (span at end ∷ rest) rest) x ≡ true) (sym t) (or_right _ _ there))
@@ -101,7 +113,8 @@ gaps_apart at mark lo (s ∷ ss) up =
     let later : Apart (max at s.to) mark rest = gaps_apart (max at s.to) mark s.from ss up.2 in
     let order : s.from ≤ s.to = up.1 in
     ⊎_elim
-    (λ t. subst (λ b. Apart at mark (cond b (span at end ∷ rest) rest)) (sym t) (omega arith, ltb-true at end t, omega arith, apart_from end (max at s.to) mark rest (omega (arith, order)) later))
+    (λ t. subst (λ b. Apart at mark (cond b (span at end ∷ rest) rest)) (sym t)
+    (omega arith, ltb-true at end t, omega arith, apart_from end (max at s.to) mark rest (omega (arith, order)) later))
     (λ f. subst (λ b. Apart at mark (cond b (span at end ∷ rest) rest)) (sym f) (apart_from at (max at s.to) mark rest (omega arith) later))
     (cases_Bool (nat_lt at end))
 
@@ -179,11 +192,14 @@ sum_counts lo n (s ∷ ss) h =
     let cut2 : count_from p s.from (here + left) ≡ count_from p s.from here + count_from p s.to left =
     count_split p s.from here left ∙ ap (λ y. count_from p s.from here + count_from p y left) at_to in
     let none : count_from p lo before ≡ 0 =
-    count_none p lo before (λ x le lt. ⊎_elim (λ is. let q = (in_parts x s is).0 in absurd (omega (arith, lt, q, at_from))) (λ is. ap (λ t. t || covers ss x) is ∙ before_all s.to x ss up (omega (arith, lt, at_from, b))) (cases_Bool (lies_in x s))) in
+    count_none p lo before (λ x le lt. ⊎_elim (λ is. let q = (in_parts x s is).0 in absurd (omega (arith, lt, q, at_from)))
+    (λ is. ap (λ t. t || covers ss x) is ∙ before_all s.to x ss up (omega (arith, lt, at_from, b))) (cases_Bool (lies_in x s))) in
     let all : count_from p s.from here ≡ here =
     count_all p s.from here (λ x le lt. or_left (lies_in x s) (covers ss x) (in_from x s le (omega (arith, lt, at_to)))) in
     let rest : count_from p s.to left ≡ count_from (covers ss) s.to left =
-    count_alike p (covers ss) s.to left (λ x le lt. ⊎_elim (λ is. let q = (in_parts x s is).1 in absurd (omega (arith, le, q))) (λ is. ap (λ t. t || covers ss x) is) (cases_Bool (lies_in x s))) in
+    count_alike p (covers ss) s.to left
+    (λ x le lt. ⊎_elim (λ is. let q = (in_parts x s is).1 in absurd (omega (arith, le, q))) (λ is. ap (λ t. t || covers ss x) is)
+    (cases_Bool (lies_in x s))) in
     let tail : sum_of ss ≡ count_from (covers ss) s.to left = sum_counts s.to left ss (subst (λ y. Apart s.to y ss) (sym end) h.3) in
     omega (arith, cut, cut2, none, all, rest, tail)
 

@@ -1,5 +1,6 @@
 -- From what is not in use to garbage, and what counts as freed.
-use Rattle.std.proofs.Common.{◌≡◌, ℕ, ◌+◌, ◌*◌, Bool, false, cond, not, ◌||◌, ◌&&◌, nat_eq, nat_lt, List, ◌∷◌, ◌++◌, take, drop, length, Some, refl, sym, ap, ◌∙◌, subst, ⊎_elim}
+use Rattle.std.proofs.Common.{◌≡◌, ℕ, ◌+◌, ◌*◌, Bool, false, cond, not, ◌||◌, ◌&&◌, nat_eq, nat_lt, List, ◌∷◌, ◌++◌, take, drop, length, Some, refl}
+use Rattle.std.proofs.Common.{sym, ap, ◌∙◌, subst, ⊎_elim}
 use Rattle.std.specs.Prelude.{slice_get, slice_index_or}
 use Rattle.std.specs.List.{All}
 use Rattle.std.proofs.Math.Seq.{take-append-add}

@@ -3,7 +3,8 @@ use Rattle.std.proofs.Common.{◌≡◌, ◌⊎◌, ℕ, Bool, true, cond, ◌||
 use Rattle.std.specs.List.{All, list_any, Contains}
 use Rattle.std.specs.List.Sorted.{IsPermutation}
 use Rattle.std.proofs.lemmas.Bool.{cases_Bool, or_left, or_right, or_cases}
-use Rattle.std.proofs.lemmas.List.Elements.{All-weaker, All-contains_itself, Contains-push, Contains-push_cases, Contains-append_left, Contains-append_right, Contains-append_cases}
+use Rattle.std.proofs.lemmas.List.Elements.{All-weaker, All-head, All-tail, All-map, All-contains_itself, Contains-push, Contains-push_cases}
+use Rattle.std.proofs.lemmas.List.Elements.{Contains-append_left, Contains-append_right, Contains-append_cases}
 use Rattle.std.proofs.lemmas.List.Sorted.{All-permutation, Contains-permutation, IsPermutation-sym}
 use Rattle.wtf_base.specs.declared.fault.Fault.{Fault}
 use Rattle.wtf_base.specs.declared.slice.Slice.{Slice}
@@ -19,7 +20,7 @@ use Rattle.wtf_values.specs.declared.value.Value.TheVariants as value
 use Rattle.wtf_values.specs.Keys.{key_cmp}
 use Rattle.wtf_overlay.specs.declared.part.Entry.{Entry}
 use Rattle.wtf_meta.specs.Lists.{Lists, ListFact, TellLists, or_none}
-use Rattle.wtf_meta.specs.Bytes.{SliceBytes, BaseBytes, any_slice}
+use Rattle.wtf_meta.specs.Bytes.{SliceBytes, BaseBytes, ListSlices, any_slice}
 use Rattle.wtf_region.specs.declared.dev.Dev.{Dev}
 use Rattle.wtf_region.specs.Reads.{IsSliceFault, IsBaseFault}
 use Rattle.wtf_gc.specs.declared.extent.Extent.{Extent}
@@ -37,16 +38,16 @@ head_of x xs = Contains-append_left (x ∷ []) xs x (Contains-push [] x)
 tail_of : {X : Type 0} (x y : X) (xs : List X) → Contains xs y → Contains (x ∷ xs) y
 tail_of x y xs h = Contains-append_right (x ∷ []) xs y h
 
-none_of : {X : Type 0} (y : X) → Contains [] y → ⊥
+pub none_of : {X : Type 0} (y : X) → Contains [] y → ⊥
 none_of y h = let lt = h.1 in absurd (omega (arith, lt))
 
-first_or : {X : Type 0} (x y : X) (xs : List X) → Contains (x ∷ xs) y → (x ≡ y) ⊎ Contains xs y
+pub first_or : {X : Type 0} (x y : X) (xs : List X) → Contains (x ∷ xs) y → (x ≡ y) ⊎ Contains xs y
 first_or x y xs h = ⊎_elim
     (λ one. ⊎_elim (λ none. absurd (none_of y none)) (λ is. inl is) (Contains-push_cases [] x y one))
     (λ rest. inr rest)
     (Contains-append_cases (x ∷ []) xs y h)
 
-mapped : {X Y : Type 0} (f : X → Y) (xs : List X) (y : Y) → Contains (map f xs) y → (x : X) × Contains xs x × (f x ≡ y)
+pub mapped : {X Y : Type 0} (f : X → Y) (xs : List X) (y : Y) → Contains (map f xs) y → (x : X) × Contains xs x × (f x ≡ y)
 mapped f [] y h = absurd (none_of y h)
 mapped f (x ∷ xs) y h = ⊎_elim
     (λ is. (x, head_of x xs, is))
@@ -67,14 +68,14 @@ some_of t (x ∷ xs) h = ⊎_elim
     (λ later. let (z, there, is) = some_of t xs later in (z, tail_of x z xs there, is))
     (or_cases (t x) (list_any t xs) h)
 
-any_of : {X : Type 0} (t : X → Bool) (xs : List X) (x : X) → Contains xs x → t x ≡ true → list_any t xs ≡ true
+pub any_of : {X : Type 0} (t : X → Bool) (xs : List X) (x : X) → Contains xs x → t x ≡ true → list_any t xs ≡ true
 any_of t [] x h is = absurd (none_of x h)
 any_of t (z ∷ xs) x h is = ⊎_elim
     (λ same. or_left (t z) (list_any t xs) (ap t same ∙ is))
     (λ rest. or_right (t z) (list_any t xs) (any_of t xs x rest is))
     (first_or z x xs h)
 
-tell_one : (lists : Lists) (facts : List ListFact) (f : ListFact) → TellLists lists facts → Contains facts f → lists f.slice ≡ Some f.list
+pub tell_one : (lists : Lists) (facts : List ListFact) (f : ListFact) → TellLists lists facts → Contains facts f → lists f.slice ≡ Some f.list
 tell_one lists [] f tell h = absurd (none_of f h)
 tell_one lists (g ∷ gs) f tell h = ⊎_elim
     (λ (same : g ≡ f). subst (λ (x : ListFact). lists x.slice ≡ Some x.list) same tell.0)
@@ -144,6 +145,14 @@ among_base part (v ∷ vs) r n s h base = ⊎_elim
     (λ rest. Contains-append_right (value_bases part v.1) (versions_bases part vs) (base_at part s) (among_base part vs r n s rest base))
     h
 
+-- what holds of the slices of facts, one by one
+slices_of : (P : List Place → Bool) (Q : Slice → Bool) (fs : List ListFact)
+    → All (λ s. SliceBytes P s × (Q s ≡ true)) (map (λ (f : ListFact). f.slice) fs) → ListSlices P Q fs
+slices_of P Q [] all = tt
+slices_of P Q (f ∷ fs) all =
+    let Lies : Slice → Type 0 = λ s. SliceBytes P s × (Q s ≡ true) in
+    (All-head Lies f.slice (map (λ (g : ListFact). g.slice) fs) all, slices_of P Q fs (All-tail Lies f.slice (map (λ (g : ListFact). g.slice) fs) all))
+
 -- ---- parts
 module _ (kv : Store Key Value) (parts : Parts) (found : List Extent) (bases : List Base) (g : GathersUpto kv parts None found bases) where
   -- each base that was gathered is a version's
@@ -153,7 +162,8 @@ module _ (kv : Store Key Value) (parts : Parts) (found : List Extent) (bases : L
       ⊎_elim
       (λ (t : key_stands_in parts key.at ≡ true).
       let (r, s, among, base, same) =
-      base_among (key_part key.at) (versions_of key_cmp kv key.at) b (subst (λ c. Contains (cond c (versions_bases (key_part key.at) (versions_of key_cmp kv key.at)) []) b) t key.is) in
+      base_among (key_part key.at) (versions_of key_cmp kv key.at) b
+      (subst (λ c. Contains (cond c (versions_bases (key_part key.at) (versions_of key_cmp kv key.at)) []) b) t key.is) in
       (r, s, record { at = key.at; stands = t; number = among.0; among = among.1 }, base, same))
       (λ f. absurd (none_of b (subst (λ c. Contains (cond c (versions_bases (key_part key.at) (versions_of key_cmp kv key.at)) []) b) f key.is)))
       (cases_Bool (key_stands_in parts key.at))
@@ -161,7 +171,8 @@ module _ (kv : Store Key Value) (parts : Parts) (found : List Extent) (bases : L
   -- and each version's base was gathered
   base_there : (r : RegionValue) (s : Spill) (there : IsIn kv parts r) → r.base ≡ Some s → Contains bases (base_at (key_part there.at) s)
   base_there r s there base = g.lists there.at (base_at (key_part there.at) s) refl
-      (subst (λ c. Contains (cond c (versions_bases (key_part there.at) (versions_of key_cmp kv there.at)) []) (base_at (key_part there.at) s)) (sym there.stands)
+      (subst (λ c. Contains (cond c (versions_bases (key_part there.at) (versions_of key_cmp kv there.at)) []) (base_at (key_part there.at) s))
+      (sym there.stands)
       (among_base (key_part there.at) (versions_of key_cmp kv there.at) r there.number s there.among base))
 
   module _ (sorted : List Base) (moved : IsPermutation bases sorted) (facts : List ListFact)
@@ -219,17 +230,29 @@ module _ (kv : Store Key Value) (parts : Parts) (found : List Extent) (bases : L
       subst (SliceBytes P) (sym same) own.0)
       bases (All-contains_itself bases))
 
+  -- and passes a test where those do
+  bases_lie : (P : List Place → Bool) (Q : Slice → Bool) → ((r : RegionValue) → IsIn kv parts r → BaseBytes P Q r.base) → (sorted : List Base)
+      → IsPermutation bases sorted → All (λ (b : Base). SliceBytes P b.slice × (Q b.slice ≡ true)) sorted
+  bases_lie P Q lie sorted moved = All-permutation (λ (b : Base). SliceBytes P b.slice × (Q b.slice ≡ true)) bases sorted moved
+      (All-weaker (Contains bases) (λ (b : Base). SliceBytes P b.slice × (Q b.slice ≡ true))
+      (λ b h. let (r, s, there, base, same) = base_of b h in
+      let own : BaseBytes P Q (Some s) = subst (BaseBytes P Q) base (lie r there) in
+      subst (λ (t : Slice). SliceBytes P t × (Q t ≡ true)) (sym same) own)
+      bases (All-contains_itself bases))
+
   -- and why one was not read
   pub parts_fault : {S : Type 0} (kind : StoreKind S) (old new : Dev S) (sorted : List Base) → IsPermutation bases sorted → (why : Fault)
       → IsBasesFault kind old new sorted why → IsPartsFault kind old new kv parts why
   parts_fault kind old new sorted moved why = ⊎_elim (λ memory. inl memory)
-      (λ lacks. let (r, s, there, base, same) = base_of lacks.base (Contains-permutation sorted bases lacks.base (IsPermutation-sym bases sorted moved) lacks.one) in
+      (λ lacks. let (r, s, there, base, same) = base_of lacks.base
+      (Contains-permutation sorted bases lacks.base (IsPermutation-sym bases sorted moved) lacks.one) in
       inr (record {
         mid = lacks.mid;
         goes = lacks.goes;
         region = r;
         there = there;
-        cause = subst (λ (o : Option Spill). IsBaseFault kind lacks.mid new o why) (sym base) (subst (λ (x : Slice). IsSliceFault kind lacks.mid new x why) same lacks.cause);
+        cause = subst (λ (o : Option Spill). IsBaseFault kind lacks.mid new o why) (sym base)
+            (subst (λ (x : Slice). IsSliceFault kind lacks.mid new x why) same lacks.cause);
       }))
 
   pub parts_read : {S : Type 0} (kind : StoreKind S) (old new : Dev S) (sorted : List Base) → IsPermutation bases sorted → (after : List Extent)
@@ -237,6 +260,8 @@ module _ (kv : Store Key Value) (parts : Parts) (found : List Extent) (bases : L
       → PartsRead kind old new kv parts no_places (covers after)
   parts_read kind old new sorted moved after read = record {
     facts = read.facts;
+    slices = λ P Q lie. slices_of P Q read.facts (subst (λ l. All (λ s. SliceBytes P s × (Q s ≡ true)) l) (sym read.each)
+        (All-map (λ s. SliceBytes P s × (Q s ≡ true)) (λ (b : Base). b.slice) sorted (bases_lie P Q lie sorted moved)));
     finds = λ lists tell. parts_find sorted moved read.facts read.each after read.adds lists tell;
     inside = read.inside;
     told = read.told;

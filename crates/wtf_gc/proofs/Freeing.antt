@@ -1,6 +1,6 @@
 -- Extents that are freed one after another.
 use Rattle.std.proofs.Common.{◌≡◌, ℕ, ◌+◌, ◌<◌, List, [], ◌∷◌, ◌++◌, take, get_or, length, Option, Some, sym, ap, ◌∙◌, arith}
-use Rattle.std.specs.Prelude.{slice_get, OnOk, OnErr}
+use Rattle.std.specs.Prelude.{slice_get, OnErr}
 use Rattle.std.specs.declared.result.Result.{Result}
 use Rattle.std.specs.declared.result.Result.TheVariants.{Ok, Err}
 use Rattle.std.specs.Option.{option_map}
@@ -15,7 +15,8 @@ use Rattle.wtf_gc.specs.Frees.{LiesOn, range_of, ranges_of}
 
 size_stays : {S : Type 0} (kind : StoreKind S) (old new : List S) (k f : ℕ) (d : S) → length new ≡ length old → SameLengths kind old new → k < length old
     → size_in kind new k f ≡ size_in kind old k f
-size_stays kind old new k f d long same below = size_in-at kind new k f d (omega (arith, below, long)) ∙ same k d below f ∙ sym (size_in-at kind old k f d below)
+size_stays kind old new k f d long same below = size_in-at kind new k f d (omega (arith, below, long)) ∙ same k d below f
+    ∙ sym (size_in-at kind old k f d below)
 
 pub some_store : {S : Type 0} (xs : List S) (k : ℕ) → k < length xs → S
 some_store [] k below = absurd (omega (arith, below))
@@ -41,10 +42,6 @@ pub first_ranges : (es : List Extent) (i : ℕ) → take i (ranges_of es) ≡ ra
 first_ranges es i = take-map range_of i es
 
 -- what holds in any case
-pub on_ok : {T E : Type 0} (P : Type 0) (r : Result T E) → P → OnOk r P
-on_ok P (Ok x) p = p
-on_ok P (Err why) p = tt
-
 pub on_err : {T E : Type 0} (P : Type 0) (r : Result T E) → P → OnErr r P
 on_err P (Ok x) p = tt
 on_err P (Err why) p = p

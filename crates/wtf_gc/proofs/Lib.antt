@@ -5,7 +5,7 @@ mod Collecting
 mod Found
 mod Freeing
 mod Listed
-mod Living
+pub mod Living
 mod Noted
 mod Pins
 mod Ranges

@@ -17,7 +17,8 @@ marks_all {S} kind shelf n marks noted all k f = ⊎_elim
     ∙ ⊎_elim
     (λ inside. noted.are k f lt inside)
     (λ past. let long = noted.len in
-    get_or_past marks (k * 8 + f) 0 (omega (arith, long, past)) ∙ sym (ap (λ (o : Option S). unwrap_or (option_map (λ s. (kind.view s).size f) o) 0) (slice_get_past shelf k (omega (arith, past, all, lt)))))
+    get_or_past marks (k * 8 + f) 0 (omega (arith, long, past))
+    ∙ sym (ap (λ (o : Option S). unwrap_or (option_map (λ s. (kind.view s).size f) o) 0) (slice_get_past shelf k (omega (arith, past, all, lt)))))
     (cases_lt (k * 8 + f) (n * 8))
     ∙ sym (ap (λ b. cond b (size_in kind shelf k f) 0) t))
     (λ e. ap (λ b. cond b (slice_index_or marks (k * 8 + f) 0) 0) e ∙ sym (ap (λ b. cond b (size_in kind shelf k f) 0) e))

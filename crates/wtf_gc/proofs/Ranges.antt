@@ -1,5 +1,6 @@
 -- Ranges that are free of what is in use, file by file.
-use Rattle.std.proofs.Common.{◌≡◌, ℕ, ◌+◌, ◌-◌, ◌^◌, ◌<◌, ◌≤◌, Bool, true, false, not, ◌||◌, ◌&&◌, nat_eq, nat_le, nat_lt, List, [], ◌∷◌, ◌++◌, map, refl, sym, ap, ◌∙◌, ⊎_elim, arith}
+use Rattle.std.proofs.Common.{◌≡◌, ℕ, ◌+◌, ◌-◌, ◌^◌, ◌<◌, ◌≤◌, Bool, true, false, not, ◌||◌, ◌&&◌, nat_eq, nat_le, nat_lt, List, [], ◌∷◌, ◌++◌, map}
+use Rattle.std.proofs.Common.{refl, sym, ap, ◌∙◌, ⊎_elim, arith}
 use Rattle.std.specs.List.{All}
 use Rattle.std.proofs.lemmas.Bool.{cases_Bool, and_parts, and_from, or_left, or_right, or_cases, ltb-true, lt-ltb, eqb-true, eq-eqb, cases_lt}
 use Rattle.std.proofs.lemmas.List.Elements.{All-nil, All-cons, All-head, All-tail, All-append, All-weaker}
@@ -179,7 +180,8 @@ apart_ordered lo hi (s ∷ ss) apart = let lt = apart.1 in All-cons (λ (s : Spa
 
 pub all_ranges : (P : ℕ × Range → Type 0) (es : List Extent) → All P (ranges_of es) → All (λ (e : Extent). P (range_of e)) es
 all_ranges P [] h = All-nil (λ (e : Extent). P (range_of e))
-all_ranges P (e ∷ es) h = All-cons (λ (e : Extent). P (range_of e)) e es (All-head P (range_of e) (ranges_of es) h) (all_ranges P es (All-tail P (range_of e) (ranges_of es) h))
+all_ranges P (e ∷ es) h = All-cons (λ (e : Extent). P (range_of e)) e es (All-head P (range_of e) (ranges_of es) h)
+    (all_ranges P es (All-tail P (range_of e) (ranges_of es) h))
 
 pub size_fits : (m : ℕ) (gs : List Span) → Apart 0 m gs → size_of m (spans_cover gs) ≤ m
 size_fits m gs apart = let sum = sums_size m gs apart in let le = sum_fits 0 m gs (omega arith) apart in omega (arith, sum, le)

@@ -12,7 +12,7 @@ use Rattle.wtf_values.specs.declared.value.Value.{Value}
 use Rattle.wtf_values.specs.declared.region.RegionValue.{RegionValue}
 use Rattle.wtf_meta.specs.Lists.{Lists, ListFact, TellLists}
 use Rattle.wtf_region.specs.declared.dev.Dev.{Dev}
-use Rattle.wtf_meta.specs.Bytes.{ListSlices, any_slice}
+use Rattle.wtf_meta.specs.Bytes.{BaseBytes, ListSlices, any_slice}
 use Rattle.wtf_region.specs.Devs.{GoesOn, inside_of}
 use Rattle.wtf_region.specs.Reads.{TellsFacts, AreInsideLists, IsSliceFault, IsBaseFault}
 use Rattle.wtf_gc.specs.declared.extent.Extent.{Extent}
@@ -43,8 +43,10 @@ abbrev pub IsBasesFault : {S : Type 0} → StoreKind S → (old new : Dev S) →
 IsBasesFault kind old new bases why = (why ≡ fault.Memory) ⊎ LacksOne kind old new bases why
 
 -- Parts were read: over all lists that agree with what was read of bases, what was found before and now is what the parts find.
+-- Each base that a version has was read, and no other slice.
 pub record PartsRead {S : Type 0} (kind : StoreKind S) (old new : Dev S) (kv : Store Key Value) (parts : Parts) (before after : Place → Bool) : Type 0 where
   pub facts : List ListFact
+  pub slices : (P : List Place → Bool) (Q : Slice → Bool) → ((v : RegionValue) → IsIn kv parts v → BaseBytes P Q v.base) → ListSlices P Q facts
   pub finds : (lists : Lists) → TellLists lists facts → Finds lists kv parts before after
   pub inside : AreInsideLists kind new facts
   pub told : TellsFacts kind old new facts

@@ -5,7 +5,7 @@ use Rattle.wtf_base.specs.declared.fault.Fault.{Fault}
 use Rattle.wtf_base.specs.Places.{Place}
 use Rattle.wtf_dev.specs.Store.{StoreKind}
 use Rattle.wtf_kv.specs.Seen.{kept_versions}
-use Rattle.wtf_kv.specs.Stores.{Store, is_live, times_pinned, versions_of, map_at}
+use Rattle.wtf_kv.specs.Stores.{Store, is_live, times_pinned, versions_of, map_at, AllAscend}
 use Rattle.wtf_values.specs.declared.key.Key.{Key}
 use Rattle.wtf_values.specs.declared.value.Value.{Value}
 use Rattle.wtf_values.specs.Keys.{key_cmp}
@@ -32,8 +32,10 @@ abbrev pub AreHeld : Option RunView → Store Key Value → Type 0
 AreHeld None kv = Unit {0}
 AreHeld (Some r) kv = (n : ℕ) → count_by (nat_eq n) r.seen ≤ times_pinned kv n
 
--- what is not kept is dropped, and what may be read stays
+-- What is not kept is dropped, and what may be read stays. The versions of each key ascend, so each that is kept is one that is read.
 pub record IsPrunedFrom (old new : Store Key Value) : Type 0 where
+  pub order : AllAscend key_cmp old
+  pub ascends : AllAscend key_cmp new
   pub number : new.number ≡ old.number
   pub kept : (q : Key) → versions_of key_cmp new q ≡ kept_versions old.pins (versions_of key_cmp old q)
   pub maps : (n : ℕ) → IsTrue (is_live old n) → map_at key_cmp new n ≡ map_at key_cmp old n

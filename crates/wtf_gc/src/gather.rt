@@ -13,7 +13,7 @@ use crate::extents::Extents;
 use crate::naming::{add_list, add_slice};
 use crate::parts::{Parts, part_of};
 use std::alloc::Global;
-use wtf_base::{OutOfMemory, Slice};
+use wtf_base::{InodeId, OutOfMemory, Slice, TxId};
 use wtf_kv::{Kv, Versions};
 use wtf_meta::{Key, RegionValue, Spill, Value};
 
@@ -126,7 +126,8 @@ fn add_key(
     add_versions(alloc, kv.kept(key), part_of(*inode), to)
 }
 
-/// What the versions of the regions of these parts name themselves, in one walk over the keys.
+/// What the versions of the regions of these parts name themselves, in one walk over the keys of
+/// regions.
 pub(crate) fn gather(
     alloc: Global,
     kv: &Kv<Key, Value>,
@@ -138,7 +139,12 @@ pub(crate) fn gather(
         found: Extents::new(alloc),
         bases: Vec::new(alloc),
     };
-    let mut at = kv.next_key(None);
+    // the keys of regions are the last ones, behind those of inodes
+    let last = Key::Inode(InodeId {
+        tx: TxId(u64::MAX),
+        index: u32::MAX,
+    });
+    let mut at = kv.next_key(Some(&last));
     while let Some(key) = at {
         add_key(alloc, kv, key, parts, &mut to)?;
         at = kv.next_key(Some(key));

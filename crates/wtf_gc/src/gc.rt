@@ -93,24 +93,21 @@ fn no_scan(alloc: Global) -> Scan
 }
 
 impl Running {
-    /// The scan once parts are done that have found extents, or as it was where memory is short.
-    fn grown(self, alloc: Global, done: u8, found: &[Extent]) -> (Running, Result<(), OutOfMemory>)
-        requires { done ≤ self.left }
-        ensures same { OnErr result.1 (run_view result.0 ≡ run_view self) }
-        ensures left { OnOk result.1 (result.0.left ≡ self.left - done) }
-        ensures seen { result.0.seen.items ≡ self.seen.items }
-        ensures marks { result.0.scan.marks.items ≡ self.scan.marks.items }
-        ensures adds { OnOk result.1 ((p : Place) →
-            covers result.0.scan.found p ≡ (covers self.scan.found p || covers found.now p)) }
+    /// Takes what parts have found that are done. Where memory is short the scan is as it was.
+    fn grow(&mut self, alloc: Global, done: u8, found: &[Extent]) -> Result<(), OutOfMemory>
+        requires { done ≤ self.old.left }
+        ensures same { OnErr result (run_view self.new ≡ run_view self.old) }
+        ensures left { OnOk result (self.new.left ≡ self.old.left - done) }
+        ensures seen { self.new.seen.items ≡ self.old.seen.items }
+        ensures marks { self.new.scan.marks.items ≡ self.old.scan.marks.items }
+        ensures adds { OnOk result ((p : Place) →
+            covers self.new.scan.found p ≡ (covers self.old.scan.found p || covers found.now p)) }
     {
-        let mut run = self;
-        if let Err(why) = run.scan.found.append(found) {
-            return (run, Err(why));
-        }
+        self.scan.found.append(found)?;
         // merging saves memory alone: where none can be had for it, the list stays long
-        let _merged = run.scan.found.merge_when_due(alloc);
-        run.left -= done;
-        (run, Ok(()))
+        let _merged = self.scan.found.merge_when_due(alloc);
+        self.left -= done;
+        Ok(())
     }
 }
 
@@ -202,18 +199,8 @@ impl Gc {
         };
         let first = PARTS - run.left;
         let done = run.left.min(parts);
-        let found = match found_in(
-            self.alloc,
-            dev,
-            &*kv,
-            Parts {
-                first,
-                end: first + done,
-            },
-        ) {
-            Ok(found) => found,
-            Err(why) => return Err(why),
-        };
+        let end = first + done;
+        let found = found_in(self.alloc, dev, &*kv, Parts { first, end })?;
         match self.advance(kv, done, found.as_slice()) {
             Ok(left) => Ok(left),
             Err(_) => Err(Fault::Memory),
@@ -235,11 +222,10 @@ impl Gc {
         ensures same { OnErr result (self.new ≡ self.old) }
         ensures kv { OnErr result (kv.new ≡ kv.old) }
     {
-        let Some(run) = self.running.take() else {
+        let Some(mut run) = self.running.take() else {
             unreachable!()
         };
-        let (run, grown) = run.grown(self.alloc, done, found);
-        if let Err(why) = grown {
+        if let Err(why) = run.grow(self.alloc, done, found) {
             self.running = Some(run);
             return Err(why);
         }

@@ -1,6 +1,6 @@
 //! What the lists in the slices of bases name.
 
-ghost use Rattle.std.specs.Prelude.{[], ◌∷◌, map, OnOk, IfOk, IfErr};
+ghost use Rattle.std.specs.Prelude.{◌≡◌, Some, IsTrue, [], ◌∷◌, map, OnOk, IfOk, IfErr};
 ghost use Rattle.std.specs.List.{All};
 ghost use Rattle.wtf_values.specs.declared.region.RegionValue as region;
 ghost use Rattle.wtf_meta.specs.Bytes.{SliceBytes, BaseBytes, any_slice};
@@ -36,17 +36,24 @@ fn add_base_list<S: SliceStore>(
     ensures reads { OnlyRead S.kind (between dev.old dev.new) }
     ensures dev { GoesOn S.kind dev.old dev.new [] }
 {
-    let list = match base_list(alloc, dev, slice) {
-        Ok(list) => list,
-        Err(why) => return Err(why),
-    };
+    let list = base_list(alloc, dev, slice)?;
     match add_list(alloc, &list, found) {
         Ok(()) => Ok(()),
         Err(_) => Err(Fault::Memory),
     }
 }
 
-/// Adds what the lists of all bases name, one after another.
+/// Whether a slice is the last one.
+fn is_again(last: Option<Slice>, slice: &Slice) -> bool
+    ensures { IsTrue result → last ≡ Some slice.now }
+{
+    let Some(last) = last else {
+        return false;
+    };
+    last == *slice
+}
+
+/// Adds what the lists of all bases name, one after another; that of equal neighbours once.
 fn add_lists<S: SliceStore>(
     alloc: Global,
     dev: &mut Dev<'_, S>,
@@ -61,10 +68,14 @@ fn add_lists<S: SliceStore>(
     ensures reads { OnlyRead S.kind (between dev.old dev.new) }
     ensures dev { GoesOn S.kind dev.old dev.new [] }
 {
+    let mut last = None;
     for base in bases {
-        if let Err(why) = add_base_list(alloc, dev, &base.slice, found) {
-            return Err(why);
+        // versions of a region often have one base
+        if is_again(last, &base.slice) {
+            continue;
         }
+        add_base_list(alloc, dev, &base.slice, found)?;
+        last = Some(base.slice);
     }
     Ok(())
 }

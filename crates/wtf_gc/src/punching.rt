@@ -9,7 +9,7 @@ ghost use Rattle.wtf_region.specs.Devs.{IsSoundDev, GoesOn, between, stores};
 ghost use Rattle.wtf_gc.specs.Frees.{LiesOn, range_of, ranges_of, tried_on, StopsAt};
 
 use crate::extent::Extent;
-use wtf_base::{Fault, ServerId};
+use wtf_base::Fault;
 use wtf_dev::SliceStore;
 use wtf_region::Dev;
 
@@ -23,9 +23,6 @@ fn free<S: SliceStore>(dev: &mut Dev<'_, S>, e: &Extent) -> Result<(), Fault>
     ensures lengths { SameLengths S.kind (stores dev.old) (stores dev.new) }
     ensures syncs { SameSyncs S.kind (stores dev.old) (stores dev.new) }
 {
-    if dev.replicas.is_down(e.server) {
-        return Err(Fault::Punch(ServerId(e.server)));
-    }
     dev.replicas
         .free(dev.shelf, e.server, e.file, e.from, e.to - e.from)
 }

@@ -30,18 +30,12 @@ fn sweep(alloc: Global, spans: &[Span], mark: u64) -> Result<Vec<Span>, OutOfMem
     for s in spans {
         let end = lesser(s.from, mark);
         if at < end {
-            match found.push(Span { from: at, to: end }) {
-                Ok(()) => {}
-                Err(_) => return Err(OutOfMemory),
-            }
+            found.push(Span { from: at, to: end })?;
         }
         at = greater(at, s.to);
     }
     if at < mark {
-        match found.push(Span { from: at, to: mark }) {
-            Ok(()) => {}
-            Err(_) => return Err(OutOfMemory),
-        }
+        found.push(Span { from: at, to: mark })?;
     }
     Ok(found)
 }

@@ -1,44 +1,77 @@
 -- What the calls of a collector ask for holds after each of them.
-use Rattle.std.proofs.Common.{◌≡◌, ℕ, ◌+◌, ◌≤◌, nat_eq, nat_lt, count_by, cond, Bool, true, false, List, [], ◌∷◌, ◌++◌, length, Option, Some, None, IsTrue, refl, sym, ap, ◌∙◌, subst, ⊎_elim, arith}
-use Rattle.std.specs.Prelude.{is_some, if◌then◌else◌, slice_index_or, nat_le, ◌*◌}
+use Rattle.std.proofs.Common.{
+  ◌≡◌,
+  ℕ,
+  ◌+◌,
+  ◌≤◌,
+  nat_eq,
+  nat_lt,
+  count_by,
+  cond,
+  Bool,
+  true,
+  false,
+  List,
+  [],
+  ◌∷◌,
+  ◌++◌,
+  length,
+  Option,
+  Some,
+  None,
+  IsTrue,
+  refl,
+  sym,
+  ap,
+  ◌∙◌,
+  subst,
+  ⊎_elim,
+  arith,
+}
+use Rattle.std.specs.Prelude.{is_some, if◌then◌else◌, slice_index_or, ◌*◌}
 use Rattle.std.specs.List.{list_any}
-use Rattle.std.specs.BTreeMap.{is_at}
 use Rattle.std.specs.Option.{option_map, unwrap_or}
 use Rattle.std.proofs.lemmas.Bool.{or_left, or_right, or_cases, eqb-true, eq-eqb, cases_lt, cases_Bool, both_ways}
 use Rattle.std.proofs.lemmas.Option.{slice_get_past}
 use Rattle.wtf_base.proofs.Elements.{element}
+use Rattle.wtf_base.specs.declared.fault.Fault.{Fault}
+use Rattle.wtf_base.specs.declared.fault.Fault.TheVariants as fault
 use Rattle.wtf_base.specs.declared.settings.Settings.{Settings}
-use Rattle.wtf_base.specs.declared.slice.Slice.{Slice}
 use Rattle.wtf_dev.specs.Each.{EachFollows}
 use Rattle.wtf_dev.specs.Memory.{StoreState, mem_store}
 use Rattle.wtf_dev.specs.MemoryLaws.{mem_store_laws}
 use Rattle.wtf_dev.specs.Store.{Range}
 use Rattle.wtf_kv.specs.Seen.{upto, last_seen, value_seen}
-use Rattle.wtf_kv.specs.declared.changes.Change.TheVariants as change
-use Rattle.wtf_kv.specs.Stores.{Store, is_pinned, is_live, times_pinned, versions_of, versions_in, IsPinnedOnceMore}
+use Rattle.wtf_kv.specs.declared.changes.Change.{Change}
+use Rattle.wtf_kv.specs.Stores.{Store, is_pinned, is_live, times_pinned, versions_in, IsPinnedOnceMore}
 use Rattle.wtf_kv.proofs.PinLaws.{any-count, count-any}
 use Rattle.wtf_overlay.specs.Origin.{Place}
+use Rattle.wtf_replica.specs.Downs.{settings_of}
 use Rattle.wtf_replica.specs.Inside.{size_in}
 use Rattle.wtf_replica.proofs.InsideLaws.{size_in-at}
 use Rattle.wtf_values.specs.declared.key.Key.{Key}
+use Rattle.wtf_ring.specs.Points.{RingView}
 use Rattle.wtf_values.specs.declared.value.Value.{Value}
+use Rattle.wtf_values.specs.declared.value.Delta.{Delta}
 use Rattle.wtf_values.specs.Keys.{key_cmp}
-use Rattle.wtf_meta.specs.Bytes.{ValueBytes, MapBytes, EditsBytes, any_slice}
+use Rattle.wtf_meta.specs.Bytes.{MapBytes, EditBytes, EditsBytes, any_slice}
 use Rattle.wtf_meta.specs.Maps.{Map, Edits, with, metadata_at}
 use Rattle.wtf_meta.proofs.MapBytes.{with_bytes}
 use Rattle.wtf_meta.proofs.Weaker.{map_stays}
 use Rattle.wtf_region.specs.declared.dev.Dev.{Dev}
-use Rattle.wtf_region.specs.Devs.{GoesOn, IsSoundDev, stores}
+use Rattle.wtf_region.specs.Cached.{CacheView, AreFrom, CacheInside}
+use Rattle.wtf_region.specs.Devs.{GoesOn, IsSoundDev, stores, remembered, inside_of}
 use Rattle.wtf_region.specs.Inside.{is_inside, IsStoredInside}
 use Rattle.wtf_region.proofs.InsideLaws.{inside_stays}
-use Rattle.wtf_gc.specs.Frees.{CountsFreed}
+use Rattle.wtf_gc.specs.Frees.{CountsFreed, FreesSome, IsCollectFault, tried_on}
 use Rattle.wtf_gc.specs.Scans.{StartsScan, AreHeld, IsPrunedFrom, DoesParts, run_on, with_finished}
 use Rattle.wtf_gc.specs.Views.{ScanView, RunView, GcView, new_gc, empty_scan}
-use Rattle.wtf_gc_rows.specs.Ready.{Marks, RunMarks, AreMarks, AllLie, IsReady}
+use Rattle.wtf_gc_rows.specs.Ready.{Marks, RunMarks, AreMarks, AllLie, IsReady, IsSameLent}
 
 -- ---- the device goes on
 -- no file of a store gets shorter
-sizes_grow : {old new : List StoreState} {punched : List (ℕ × Range)} → EachFollows mem_store old new punched → (k f : ℕ) → size_in mem_store old k f ≤ size_in mem_store new k f
+sizes_grow : {old new : List StoreState} {punched : List (ℕ × Range)} → EachFollows mem_store old new punched → (k f : ℕ)
+    → size_in mem_store old k f ≤ size_in mem_store new k f
 sizes_grow {old = old} {new = new} e k f = ⊎_elim
     (λ below.
     let d = element old k below in
@@ -47,7 +80,8 @@ sizes_grow {old = old} {new = new} e k f = ⊎_elim
     let more = (mem_store_laws.keeps _ _ _ (e.each k d below)).size f in
     omega (arith, was, is, more))
     (λ past.
-    let none : size_in mem_store old k f ≡ 0 = ap (λ (o : Option StoreState). unwrap_or (option_map (λ s. (mem_store.view s).size f) o) 0) (slice_get_past old k past) in
+    let none : size_in mem_store old k f ≡ 0 = ap (λ (o : Option StoreState). unwrap_or (option_map (λ s. (mem_store.view s).size f) o) 0)
+    (slice_get_past old k past) in
     omega (arith, none))
     (cases_lt k (length old))
 
@@ -62,7 +96,8 @@ module _ (old new : List StoreState) (more : (k f : ℕ) → size_in mem_store o
   marks_grow : (g : GcView) → AreMarks old g → AreMarks new g
   marks_grow g h = record { older = scan_grows g.older h.older; newer = scan_grows g.newer h.newer; running = run_grows g.running h.running }
 
-pub goes : (old new : Dev StoreState) (punched : List (ℕ × Range)) (kv : Store Key Value) (g : GcView) → GoesOn mem_store old new punched → IsReady old kv g → IsReady new kv g
+pub goes : (old new : Dev StoreState) (punched : List (ℕ × Range)) (kv : Store Key Value) (g : GcView) → GoesOn mem_store old new punched → IsReady old kv g
+    → IsReady new kv g
 goes old new punched kv g on h = record {
   sound = on.sound;
   held = h.held;
@@ -76,7 +111,8 @@ goes old new punched kv g on h = record {
 same_maps : (old new : Store Key Value) → new.number ≡ old.number → new.cells ≡ old.cells → (n : ℕ) → metadata_at new n ≡ metadata_at old n
 same_maps old new number cells n = λ i q. value_seen (last_seen n (upto (number i) (versions_in key_cmp (cells i) q)))
 
-live_back : (old new : Store Key Value) → new.number ≡ old.number → ((n : ℕ) → IsTrue (is_pinned new n) → IsTrue (is_live old n)) → (n : ℕ) → IsTrue (is_live new n) → IsTrue (is_live old n)
+live_back : (old new : Store Key Value) → new.number ≡ old.number → ((n : ℕ) → IsTrue (is_pinned new n) → IsTrue (is_live old n)) → (n : ℕ)
+    → IsTrue (is_live new n) → IsTrue (is_live old n)
 live_back old new number pins n live = ⊎_elim
     (λ here. or_left (nat_eq n old.number) (is_pinned old n) (sym (ap (nat_eq n) number) ∙ here))
     (λ pinned. pins n pinned)
@@ -89,7 +125,8 @@ fewer_live old new fewer n pinned =
     let less = fewer n in
     or_right (nat_eq n old.number) (is_pinned old n) (any-count n old.pins (omega (arith, some, less)))
 
-other_pins : (dev : Dev StoreState) (old new : Store Key Value) → new.number ≡ old.number → new.cells ≡ old.cells → ((n : ℕ) → IsTrue (is_pinned new n) → IsTrue (is_live old n)) → AllLie dev old → AllLie dev new
+other_pins : (dev : Dev StoreState) (old new : Store Key Value) → new.number ≡ old.number → new.cells ≡ old.cells
+    → ((n : ℕ) → IsTrue (is_pinned new n) → IsTrue (is_live old n)) → AllLie dev old → AllLie dev new
 other_pins dev old new number cells pins lie n live =
     subst (IsStoredInside mem_store (stores dev) dev.settings) (sym (same_maps old new number cells n)) (lie n (live_back old new number pins n live))
 
@@ -98,7 +135,8 @@ cond_le : (b : Bool) (n : ℕ) → cond b n 0 ≤ n
 cond_le true n = omega arith
 cond_le false n = omega arith
 
-pub begun : (dev : Dev StoreState) (kv kv' : Store Key Value) (g g' : GcView) → IsReady dev kv g → StartsScan mem_store (stores dev) kv kv' g g' → IsReady dev kv' g'
+pub begun : (dev : Dev StoreState) (kv kv' : Store Key Value) (g g' : GcView) → IsReady dev kv g → StartsScan mem_store (stores dev) kv kv' g g'
+    → IsReady dev kv' g'
 begun dev kv kv' g g' h s =
     let pins : (n : ℕ) → IsTrue (is_pinned kv' n) → IsTrue (is_live kv n) = λ n pinned.
     let some = count-any n kv'.pins pinned in
@@ -119,16 +157,19 @@ begun dev kv kv' g g' h s =
     })
 
 -- ---- parts are done
-held_over : (g : GcView) (r : RunView) (kv kv' : Store Key Value) (b : Bool) → ((m : ℕ) → times_pinned kv' m + cond b (count_by (nat_eq m) r.seen) 0 ≡ times_pinned kv m)
+held_over : (g : GcView) (r : RunView) (kv kv' : Store Key Value) (b : Bool)
+    → ((m : ℕ) → times_pinned kv' m + cond b (count_by (nat_eq m) r.seen) 0 ≡ times_pinned kv m)
     → ((m : ℕ) → count_by (nat_eq m) r.seen ≤ times_pinned kv m) → AreHeld (cond b (with_finished g r.scan) (record g { running = Some r })).running kv'
 held_over g r kv kv' true pins enough = tt
 held_over g r kv kv' false pins enough = λ m. let is = pins m in let was = enough m in omega (arith, is, was)
 
-marks_over : (shelf : List StoreState) (g : GcView) (r : RunView) (b : Bool) → AreMarks shelf g → Marks shelf r.scan → AreMarks shelf (cond b (with_finished g r.scan) (record g { running = Some r }))
+marks_over : (shelf : List StoreState) (g : GcView) (r : RunView) (b : Bool) → AreMarks shelf g → Marks shelf r.scan
+    → AreMarks shelf (cond b (with_finished g r.scan) (record g { running = Some r }))
 marks_over shelf g r true h here = record { older = h.newer; newer = here; running = tt }
 marks_over shelf g r false h here = record { older = h.older; newer = h.newer; running = here }
 
-pub pieced : (old new : Dev StoreState) (kv kv' : Store Key Value) (g g' : GcView) (n left : ℕ) → IsReady old kv g → GoesOn mem_store old new [] → IsPrunedFrom kv kv'
+pub pieced : (old new : Dev StoreState) (kv kv' : Store Key Value) (g g' : GcView) (n left : ℕ) → IsReady old kv g → GoesOn mem_store old new []
+    → IsPrunedFrom kv kv'
     → DoesParts mem_store old new kv kv' g g' n left → IsReady new kv' g'
 pieced old new kv kv' g g' n left h on pruned does =
     let ready = goes old new [] kv g on h in
@@ -146,7 +187,8 @@ pieced old new kv kv' g g' n left h on pruned does =
     })
 
 -- ---- ranges count as freed
-pub freed : (dev : Dev StoreState) (kv : Store Key Value) (g g' : GcView) (ranges : List (ℕ × Range)) → CountsFreed g g' ranges → IsReady dev kv g → IsReady dev kv g'
+pub freed : (dev : Dev StoreState) (kv : Store Key Value) (g g' : GcView) (ranges : List (ℕ × Range)) → CountsFreed g g' ranges → IsReady dev kv g
+    → IsReady dev kv g'
 freed dev kv g g' ranges c h = record {
   sound = h.sound;
   held = subst (λ (o : Option RunView). AreHeld o kv) (sym c.running) h.held;
@@ -158,12 +200,66 @@ freed dev kv g g' ranges c h = record {
   };
 }
 
+stopped : {old new : Dev StoreState} {kv : Store Key Value} {g g' : GcView} {k : ℕ} {why : Fault} → FreesSome mem_store k old new g g' why → IsReady old kv g
+    → IsReady new kv g'
+stopped {old = old} {new = new} {kv = kv} {g = g} {g' = g'} {k = k} h ready =
+    freed new kv g g' h.ranges h.counts (goes h.mid new (tried_on h.mid (k, h.tried)) kv g h.last (goes old h.mid h.ranges kv g h.goes ready))
+
+-- or they do not, but those before one that was not
+pub failed : (old new : Dev StoreState) (kv : Store Key Value) (g g' : GcView) (k : ℕ) (why : Fault) → IsCollectFault mem_store k old new g g' why
+    → IsReady old kv g
+    → IsReady new kv g'
+failed old new kv g g' k fault.Memory h ready = subst (IsReady new kv) (sym h.1) (goes old new [] kv g h.0 ready)
+failed old new kv g g' k (fault.Punch j) h ready = stopped h ready
+failed old new kv g g' k (fault.Read j) h ready = stopped h ready
+failed old new kv g g' k (fault.Damaged j) h ready = stopped h ready
+failed old new kv g g' k fault.Write h ready = stopped h ready
+
+-- ---- the same is lent
+pub on_lent : (old new : Dev StoreState) (punched : List (ℕ × Range)) → GoesOn mem_store old new punched → IsSameLent old new
+on_lent old new punched on = record { shelf = on.shelf; cache = on.cache; ring = on.ring; settings = on.settings }
+
+stopped_lent : {old new : Dev StoreState} {g g' : GcView} {k : ℕ} {why : Fault} → FreesSome mem_store k old new g g' why → IsSameLent old new
+stopped_lent {k = k} h =
+    let a = on_lent _ h.mid h.ranges h.goes in
+    let b = on_lent h.mid _ (tried_on h.mid (k, h.tried)) h.last in
+    record { shelf = b.shelf ∙ a.shelf; cache = b.cache ∙ a.cache; ring = b.ring ∙ a.ring; settings = b.settings ∙ a.settings }
+
+pub failed_lent : (old new : Dev StoreState) (g g' : GcView) (k : ℕ) (why : Fault) → IsCollectFault mem_store k old new g g' why → IsSameLent old new
+failed_lent old new g g' k fault.Memory h = on_lent old new [] h.0
+failed_lent old new g g' k (fault.Punch j) h = stopped_lent h
+failed_lent old new g g' k (fault.Read j) h = stopped_lent h
+failed_lent old new g g' k (fault.Damaged j) h = stopped_lent h
+failed_lent old new g g' k fault.Write h = stopped_lent h
+
+-- ---- other servers are down
+pub other_servers : (old new : Dev StoreState) (kv : Store Key Value) (g : GcView) → stores new ≡ stores old → new.cache.now ≡ old.cache.now
+    → new.ring.now ≡ old.ring.now → new.settings ≡ old.settings → settings_of new.replicas.now ≡ new.settings → IsReady old kv g → IsReady new kv g
+other_servers old new kv g shelf cache ring settings replicas h =
+    let inside : inside_of mem_store new ≡ inside_of mem_store old = λ i. is_inside mem_store (shelf i) (settings i) in
+    record {
+      sound = record {
+        replicas = replicas;
+        ring = ap (λ (r : RingView). r.servers) ring ∙ h.sound.ring ∙ ap (λ (s : Settings). s.servers) (sym settings);
+        shelf = subst (λ (s : Settings). s.servers ≤ length (stores new)) (sym settings)
+            (subst (λ (l : List StoreState). old.settings.servers ≤ length l) (sym shelf) h.sound.shelf);
+        cache = subst (λ (v : CacheView). AreFrom new.ring.now v.places) (sym cache)
+            (subst (λ (r : RingView). AreFrom r old.cache.now.places) (sym ring) h.sound.cache);
+        lists = subst (λ (v : CacheView). CacheInside (inside_of mem_store new) v.lists) (sym cache)
+            (subst (λ (P : List Place → Bool). CacheInside P (remembered old)) (sym inside) h.sound.lists);
+      };
+      held = h.held;
+      lie = λ n live. subst (λ (P : List Place → Bool). MapBytes P any_slice (metadata_at kv n)) (sym inside) (h.lie n live);
+      marks = subst (λ (l : List StoreState). AreMarks l g) (sym shelf) h.marks;
+    }
+
 -- ---- pins
 held_more : (o : Option RunView) (kv kv' : Store Key Value) → ((m : ℕ) → times_pinned kv m ≤ times_pinned kv' m) → AreHeld o kv → AreHeld o kv'
 held_more None kv kv' more h = tt
 held_more (Some r) kv kv' more h = λ m. let was = h m in let is = more m in omega (arith, was, is)
 
-pub pinned : (dev : Dev StoreState) (kv kv' : Store Key Value) (g : GcView) (n : ℕ) (pins : List ℕ) → kv' ≡ record kv { pins = pins } → IsPinnedOnceMore n kv kv' → IsTrue (is_live kv n)
+pub pinned : (dev : Dev StoreState) (kv kv' : Store Key Value) (g : GcView) (n : ℕ) (pins : List ℕ) → kv' ≡ record kv { pins = pins }
+    → IsPinnedOnceMore n kv kv' → IsTrue (is_live kv n)
     → IsReady dev kv g → IsReady dev kv' g
 pinned dev kv kv' g n pins is once live h =
     let back : (m : ℕ) → IsTrue (is_pinned kv' m) → IsTrue (is_live kv m) = λ m there.
@@ -185,30 +281,37 @@ held_none : (o : Option RunView) (kv : Store Key Value) → is_some o ≡ false 
 held_none None kv none = tt
 held_none (Some r) kv none = absurd (both_ways true none refl)
 
-pub unpinned : (dev : Dev StoreState) (kv kv' : Store Key Value) (g : GcView) (n : ℕ) (pins : List ℕ) → kv' ≡ record kv { pins = pins } → IsPinnedOnceMore n kv' kv → is_some g.running ≡ false
+pub unpinned : (dev : Dev StoreState) (kv kv' : Store Key Value) (g : GcView) (n : ℕ) (pins : List ℕ) → kv' ≡ record kv { pins = pins }
+    → IsPinnedOnceMore n kv' kv → is_some g.running ≡ false
     → IsReady dev kv g → IsReady dev kv' g
 unpinned dev kv kv' g n pins is once none h = record {
   sound = h.sound;
   held = held_none g.running kv' none;
-  lie = other_pins dev kv kv' (ap (λ (s : Store Key Value). s.number) is) (ap (λ (s : Store Key Value). s.cells) is) (fewer_live kv kv' (λ m. let e = once m in omega (arith, e))) h.lie;
+  lie = other_pins dev kv kv' (ap (λ (s : Store Key Value). s.number) is) (ap (λ (s : Store Key Value). s.cells) is)
+      (fewer_live kv kv' (λ m. let e = once m in omega (arith, e))) h.lie;
   marks = h.marks;
 }
 
--- ---- changes that bring no byte are installed
-pub installed : (dev : Dev StoreState) (kv mid kv' : Store Key Value) (g : GcView) (cs : Edits) → mid.number ≡ kv.number → mid.pins ≡ kv.pins → ((n : ℕ) → metadata_at mid n ≡ metadata_at kv n)
-    → kv'.pins ≡ mid.pins → metadata_at kv' kv'.number ≡ with cs (metadata_at mid mid.number) → ((n : ℕ) → n ≤ mid.number → metadata_at kv' n ≡ metadata_at mid n)
-    → ((p : ℕ) → IsTrue (is_pinned kv p) → p ≤ kv.number) → ((P : List Place → Bool) (Q : Slice → Bool) → EditsBytes P Q cs)
+-- ---- changes are installed that bring no byte but such as lie inside the stores
+pub installed : (dev : Dev StoreState) (kv mid kv' : Store Key Value) (g : GcView) (cs : Edits) → mid.number ≡ kv.number → mid.pins ≡ kv.pins
+    → ((n : ℕ) → metadata_at mid n ≡ metadata_at kv n)
+    → kv'.pins ≡ mid.pins → metadata_at kv' kv'.number ≡ with cs (metadata_at mid mid.number)
+    → ((n : ℕ) → n ≤ mid.number → metadata_at kv' n ≡ metadata_at mid n)
+    → ((p : ℕ) → IsTrue (is_pinned kv p) → p ≤ kv.number) → EditsBytes (inside_of mem_store dev) any_slice cs
     → IsReady dev kv g → IsReady dev kv' g
-installed dev kv mid kv' g cs number pins same pins' map maps bound bare h =
+installed dev kv mid kv' g cs number pins same pins' map maps bound lie h =
     let Lies : Map → Type 0 = IsStoredInside mem_store (stores dev) dev.settings in
     let all : kv'.pins ≡ kv.pins = pins' ∙ pins in
     let last : Lies (metadata_at mid mid.number) =
-    subst (λ n. Lies (metadata_at mid n)) (sym number) (subst Lies (sym (same kv.number)) (h.lie kv.number (or_left (nat_eq kv.number kv.number) (is_pinned kv kv.number) (eq-eqb kv.number kv.number refl)))) in
+    subst (λ n. Lies (metadata_at mid n)) (sym number)
+    (subst Lies (sym (same kv.number))
+    (h.lie kv.number (or_left (nat_eq kv.number kv.number) (is_pinned kv kv.number) (eq-eqb kv.number kv.number refl)))) in
     let now : Lies (metadata_at kv' kv'.number) =
-    subst Lies (sym map) (with_bytes (is_inside mem_store (stores dev) dev.settings) any_slice refl cs (metadata_at mid mid.number) last (bare (is_inside mem_store (stores dev) dev.settings) any_slice)) in
+    subst Lies (sym map) (with_bytes (inside_of mem_store dev) any_slice refl cs (metadata_at mid mid.number) last lie) in
     record {
       sound = h.sound;
-      held = subst (λ (ps : List ℕ). AreHeld g.running (record kv' { pins = ps })) (sym all) (held_more g.running kv (record kv' { pins = kv.pins }) (λ m. omega arith) h.held);
+      held = subst (λ (ps : List ℕ). AreHeld g.running (record kv' { pins = ps })) (sym all)
+          (held_more g.running kv (record kv' { pins = kv.pins }) (λ m. omega arith) h.held);
       lie = λ n live. ⊎_elim
           (λ here. subst (λ m. Lies (metadata_at kv' m)) (sym (eqb-true n kv'.number here)) now)
           (λ there.
@@ -219,30 +322,21 @@ installed dev kv mid kv' g cs number pins same pins' map maps bound bare h =
       marks = h.marks;
     }
 
-pub bare_cut : (cs old : Edits) (a b : Key) → old ≡ [] → cs ≡ old ++ change.Cut a b ∷ [] → (P : List Place → Bool) (Q : Slice → Bool) → EditsBytes P Q cs
-bare_cut cs old a b none is P Q = subst (EditsBytes P Q) (sym (is ∙ ap (λ (l : Edits). l ++ change.Cut a b ∷ []) none)) (tt, tt)
+-- one change
+pub one_edit : (P : List Place → Bool) (cs old : Edits) (c : Change Key Delta) → old ≡ [] → cs ≡ old ++ c ∷ [] → EditBytes P any_slice c
+    → EditsBytes P any_slice cs
+one_edit P cs old c none is lies = subst (EditsBytes P any_slice) (sym (is ∙ ap (λ (l : Edits). l ++ c ∷ []) none)) (lies, tt)
 
 -- ---- the first moment
-seen_later : (P : List Place → Bool) (Q : Slice → Bool) (v : Value) (m : ℕ) (b : Bool) → ValueBytes P Q (Some v) → ValueBytes P Q (value_seen (cond b (Some (m, Some v)) None))
-seen_later P Q v m true here = here
-seen_later P Q v m false here = tt
-
-seen_seeded : (P : List Place → Bool) (Q : Slice → Bool) (v : Value) (m n : ℕ) (b : Bool) (vs : List (ℕ × Option Value)) → ValueBytes P Q (Some v) → ValueBytes P Q (value_seen (last_seen n vs))
-    → ValueBytes P Q (value_seen (last_seen n (cond b ((m, Some v) ∷ []) vs)))
-seen_seeded P Q v m n true vs here rest = seen_later P Q v m (nat_le m n) here
-seen_seeded P Q v m n false vs here rest = rest
-
--- a first value of a key brings no byte but its own
-pub seeded : (P : List Place → Bool) (Q : Slice → Bool) (old new : Store Key Value) (k : Key) (v : Value) (n : ℕ) → ((q : Key) → versions_of key_cmp new q ≡ cond (is_at (key_cmp k) q) ((old.number, Some v) ∷ []) (versions_of key_cmp old q))
-    → ValueBytes P Q (Some v) → MapBytes P Q (metadata_at old n) → MapBytes P Q (metadata_at new n)
-seeded P Q old new k v n are here map q =
-    subst (λ vs. ValueBytes P Q (value_seen (last_seen n vs))) (sym (are q)) (seen_seeded P Q v old.number n (is_at (key_cmp k) q) (versions_of key_cmp old q) here (map q))
-
 no_mark : (b : Bool) (i m : ℕ) → cond b (slice_index_or [] i 0) 0 ≤ m
 no_mark true i m = omega arith
 no_mark false i m = omega arith
 
-pub ready_new : (dev : Dev StoreState) (kv : Store Key Value) (g : GcView) → g ≡ new_gc → IsSoundDev mem_store dev → AllLie dev kv → IsReady dev kv g
-ready_new dev kv g is sound lie =
+pub ready_new : (dev : Dev StoreState) (kv : Store Key Value) (g : GcView) → kv ≡ record { number = 0; pins = []; cells = [] } → g ≡ new_gc
+    → IsSoundDev mem_store dev
+    → IsReady dev kv g
+ready_new dev kv g empty is sound =
     let none : Marks (stores dev) empty_scan = λ k f. no_mark (nat_lt f 8) (k * 8 + f) (size_in mem_store (stores dev) k f) in
+    let lie : AllLie dev kv = λ n live. subst (λ (s : Store Key Value). MapBytes (inside_of mem_store dev) any_slice (metadata_at s n)) (sym empty)
+    (λ q. tt {0}) in
     subst (IsReady dev kv) (sym is) (record { sound = sound; held = tt; lie = lie; marks = record { older = none; newer = none; running = tt } })

@@ -1,5 +1,5 @@
 -- What holds of a collector with what it is lent, between two calls.
-use Rattle.std.specs.Prelude.{ℕ, ◌≤◌, List, Option, None, Some, IsTrue}
+use Rattle.std.specs.Prelude.{◌≡◌, ℕ, ◌≤◌, List, Option, None, Some, IsTrue}
 use Rattle.wtf_dev.specs.Memory.{StoreState, mem_store}
 use Rattle.wtf_kv.specs.Stores.{Store, is_live}
 use Rattle.wtf_replica.specs.Inside.{size_in}
@@ -36,3 +36,10 @@ pub record IsReady (dev : Dev StoreState) (kv : Store Key Value) (g : GcView) : 
   pub held : AreHeld g.running kv
   pub lie : AllLie dev kv
   pub marks : AreMarks (stores dev) g
+
+-- the same is lent
+pub record IsSameLent (old new : Dev StoreState) : Type 0 where
+  pub shelf : new.shelf.ghost_name ≡ old.shelf.ghost_name
+  pub cache : new.cache.ghost_name ≡ old.cache.ghost_name
+  pub ring : new.ring ≡ old.ring
+  pub settings : new.settings ≡ old.settings

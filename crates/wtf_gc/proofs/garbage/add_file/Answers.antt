@@ -8,7 +8,8 @@ use Rattle.wtf_gc.proofs.Ranges.{apart_ordered, file_more, size_fits}
 use Rattle.wtf_gc.proofs.garbage.add_file.Goals as goal
 
 pub put_spans-requires : goal.put_spans-requires
-put_spans-requires c = apart_ordered 0 c.mark_of-mark.result c.as_slice.result.now (subst (λ l. Apart 0 c.mark_of-mark.result l) (sym c.as_slice.ensures.value) c.in_ok-spans.ensures.apart)
+put_spans-requires c = apart_ordered 0 c.mark_of-mark.result c.as_slice.result.now
+    (subst (λ l. Apart 0 c.mark_of-mark.result l) (sym c.as_slice.ensures.value) c.in_ok-spans.ensures.apart)
 
 pub overflow_add-to : goal.overflow_add-to
 overflow_add-to c =
@@ -36,4 +37,5 @@ returns c =
     let put : ranges_of c.put_spans.new.to.items ≡ ranges_of old.extents.items ++ map (range_at k f) gs =
     c.in_ok-put_spans.ensures ∙ ap (λ l. ranges_of old.extents.items ++ map (range_at k f) l) c.as_slice.ensures.value in
     subst (λ r. IsUnused k mark (covers c.args.used.now) (f + 1) r (old.bytes + c.total.result)) (sym put)
-    (file_more k f mark (covers c.args.used.now) (ranges_of old.extents.items) old.bytes gs spans apart exact c.in_ok-used_spans.ensures.used c.total.result c.requires.fits more c.requires.upto)
+    (file_more k f mark (covers c.args.used.now)
+    (ranges_of old.extents.items) old.bytes gs spans apart exact c.in_ok-used_spans.ensures.used c.total.result c.requires.fits more c.requires.upto)

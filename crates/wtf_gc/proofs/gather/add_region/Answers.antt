@@ -9,5 +9,7 @@ use Rattle.wtf_gc.proofs.gather.add_region.Goals as goal
 pub returns-clause-found : goal.returns-clause-found
 returns-clause-found c =
     on_ok_weaker c.add_list.result
-    (λ (h : (p : Place) → covers c.add_list.new.found p ≡ (covers c.add_base.new.to.found p || list_has c.args.v.now.list p)) p. adds_then (covers c.args.to.now.found p) (covers c.add_base.new.to.found p) (covers c.add_list.new.found p) (base_has c.args.v.now.base p) (list_has c.args.v.now.list p) (c.in_ok-add_base.ensures.found p) (h p))
+    (λ (h : (p : Place) → covers c.add_list.new.found p ≡ (covers c.add_base.new.to.found p || list_has c.args.v.now.list p)) p. adds_then
+    (covers c.args.to.now.found p) (covers c.add_base.new.to.found p) (covers c.add_list.new.found p) (base_has c.args.v.now.base p)
+    (list_has c.args.v.now.list p) (c.in_ok-add_base.ensures.found p) (h p))
     c.add_list.ensures

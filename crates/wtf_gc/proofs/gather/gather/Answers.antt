@@ -1,11 +1,12 @@
-use Rattle.std.proofs.Common.{◌≡◌, ◌<◌, None, Some, subst, sym, ap, []}
+use Rattle.std.proofs.Common.{◌≡◌, ◌<◌, Some, subst, sym, ap, []}
 use Rattle.std.specs.Option.{option_copied}
 use Rattle.wtf_kv.specs.Order.{IsReached, left_from}
 use Rattle.wtf_kv.proofs.KeyLaws.{left_less, reached}
-use Rattle.wtf_values.specs.Keys.{key_cmp, same_key}
+use Rattle.wtf_values.specs.declared.key.Key.TheVariants as key
+use Rattle.wtf_values.specs.Keys.{key_cmp, same_key, last_inode}
 use Rattle.wtf_values.proofs.KeyLaws.{key_total}
 use Rattle.wtf_gc.specs.Parts.{GathersUpto}
-use Rattle.wtf_gc.proofs.Walks.{gathers_start, gathers_step}
+use Rattle.wtf_gc.proofs.Walks.{parts_past, gathers_start, gathers_step}
 use Rattle.wtf_gc.proofs.gather.gather.Goals as goal
 
 pub loop-at-init : goal.loop-at-init
@@ -13,8 +14,10 @@ loop-at-init c =
     let kv = c.args.kv.now in
     let next = option_copied c.next_key-at.result in
     record {
-      so_far = subst (λ l. GathersUpto kv c.args.parts next l c.new-2.result.items) (sym c.new.ensures) (subst (λ l. GathersUpto kv c.args.parts next [] l) (sym c.new-2.ensures.items) (gathers_start kv c.args.parts next c.next_key-at.ensures));
-      next = reached key_cmp key_total same_key kv None next c.next_key-at.ensures;
+      so_far = subst (λ l. GathersUpto kv c.args.parts next l c.new-2.result.items) (sym c.new.ensures)
+          (subst (λ l. GathersUpto kv c.args.parts next [] l) (sym c.new-2.ensures.items)
+          (gathers_start kv c.args.parts (Some (key.Inode last_inode)) next (parts_past last_inode c.args.parts) c.next_key-at.ensures));
+      next = reached key_cmp key_total same_key kv (Some (key.Inode last_inode)) next c.next_key-at.ensures;
     }
 
 pub loop-at-smaller : goal.loop-at-smaller

@@ -12,6 +12,7 @@ loop-at-preserved c =
     let listed : ListsUpto kv (Some n) c.loop-at.numbers.items = subst (λ o. ListsUpto kv o c.loop-at.numbers.items) c.in-Some.is c.loop-at.invariant.so_far in
     let bound : (p : ℕ) → IsTrue (is_pinned kv p) → p ≤ kv.number = λ p e. subst (λ m. p ≤ m) c.number.ensures.number (c.number.ensures.pins p e) in
     record {
-      so_far = subst (λ l. ListsUpto kv next l) (sym c.in_ok-push-2.ensures.items) (lists_step kv n next c.loop-at.numbers.items listed was.0 c.next_pinned-at-in-Some.ensures);
+      so_far = subst (λ l. ListsUpto kv next l) (sym c.in_ok-push-2.ensures.items)
+          (lists_step kv n next c.loop-at.numbers.items listed was.0 c.next_pinned-at-in-Some.ensures);
       next = due kv (Some n) next c.next_pinned-at-in-Some.ensures bound;
     }

@@ -7,12 +7,14 @@ use Rattle.wtf_gc.proofs.Pins.{next_for, still_live, enough_pinned, all_undone, 
 use Rattle.wtf_gc.proofs.pinning.pin_each.Goals as goal
 
 pub pin-requires : goal.pin-requires
-pin-requires c = still_live (take c.loop-i.i c.args.numbers.now) c.args.kv.now c.loop-i.kv _ c.loop-i.invariant (c.requires _ (in_list c.args.numbers.now c.loop-i.i c.loop-i-test.true))
+pin-requires c = still_live (take c.loop-i.i c.args.numbers.now) c.args.kv.now c.loop-i.kv _ c.loop-i.invariant
+    (c.requires _ (in_list c.args.numbers.now c.loop-i.i c.loop-i-test.true))
 
 pub loop-i-preserved : goal.loop-i-preserved
 loop-i-preserved c =
     subst (λ (k : ℕ). IsPinnedFor (take k c.args.numbers.now) c.args.kv.now c.pin.new.self) (sym (add-one c.loop-i.i))
-    (next_for c.args.numbers.now c.loop-i.i c.loop-i-test.true c.args.kv.now c.loop-i.kv c.pin.new.self c.loop-i.invariant c.in_default.ensures.once _ c.in_default.ensures.ok)
+    (next_for c.args.numbers.now c.loop-i.i c.loop-i-test.true c.args.kv.now c.loop-i.kv c.pin.new.self
+    c.loop-i.invariant c.in_default.ensures.once _ c.in_default.ensures.ok)
 
 pub unpin_each-requires : goal.unpin_each-requires
 unpin_each-requires c =

@@ -1,19 +1,13 @@
-use Rattle.std.proofs.Common.{Bool, [], ◌∷◌, refl, sym, subst, ◌∙◌, arith}
+use Rattle.std.proofs.Common.{◌≡◌, Bool, false, [], ◌∷◌, refl, subst, arith}
+use Rattle.std.proofs.lemmas.Result.{on_ok_weaker}
 use Rattle.wtf_dev.specs.Each.{EachFollows}
 use Rattle.wtf_replica.specs.Faults.{punched_on}
 use Rattle.wtf_replica.proofs.InsideLaws.{size_in-at}
-use Rattle.wtf_region.specs.Devs.{GoesOn, stores}
-use Rattle.wtf_region.proofs.Spans.{goes_nowhere, goes_by}
+use Rattle.wtf_region.specs.Devs.{is_down_in, stores}
+use Rattle.wtf_region.proofs.Spans.{goes_by}
 use Rattle.wtf_gc.specs.Frees.{range_of, tried_on}
-use Rattle.wtf_gc.proofs.Freeing.{on_ok, on_err}
+use Rattle.wtf_gc.proofs.Freeing.{on_err}
 use Rattle.wtf_gc.proofs.punching.free.Goals as goal
-
-pub returns-then-is_down-clause-tried : goal.returns-then-is_down-clause-tried
-returns-then-is_down-clause-tried g c =
-    let dev = c.args.dev.now in
-    let r = range_of c.args.e.now in
-    subst (λ (b : Bool). GoesOn g.S.SliceStore.kind dev dev (punched_on b r.0 r.1))
-    (sym c.if-is_down.true ∙ c.is_down.ensures) (goes_nowhere g.met.S.SliceStore.laws dev c.requires.sound)
 
 pub free-requires-clause-inside : goal.free-requires-clause-inside
 free-requires-clause-inside g c = λ d.
@@ -26,12 +20,14 @@ pub returns-clause-ok : goal.returns-clause-ok
 returns-clause-ok g c =
     let dev = c.args.dev.now in
     let r = range_of c.args.e.now in
-    on_ok _ c.free.result (goes_by g.met.S.SliceStore.laws dev _ (r ∷ []) c.requires.sound refl refl refl c.requires.sound.cache refl refl refl
-    (subst (λ (b : Bool). EachFollows g.S.SliceStore.kind (stores dev) c.free.new.shelf (punched_on b r.0 r.1))
-    (sym c.is_down.ensures ∙ c.if-is_down.false) c.free.ensures.follows))
+    on_ok_weaker c.free.result
+    (λ (up : is_down_in dev r.0 ≡ false). goes_by g.met.S.SliceStore.laws dev _ (r ∷ []) c.requires.sound refl refl refl c.requires.sound.cache refl refl refl
+    (subst (λ (b : Bool). EachFollows g.S.SliceStore.kind (stores dev) c.free.new.shelf (punched_on b r.0 r.1)) up c.free.ensures.follows))
+    c.free.ensures.up
 
 pub returns-clause-tried : goal.returns-clause-tried
 returns-clause-tried g c =
     let dev = c.args.dev.now in
     on_err _ c.free.result
-    (goes_by g.met.S.SliceStore.laws dev _ (tried_on dev (range_of c.args.e.now)) c.requires.sound refl refl refl c.requires.sound.cache refl refl refl c.free.ensures.follows)
+    (goes_by g.met.S.SliceStore.laws dev _
+    (tried_on dev (range_of c.args.e.now)) c.requires.sound refl refl refl c.requires.sound.cache refl refl refl c.free.ensures.follows)

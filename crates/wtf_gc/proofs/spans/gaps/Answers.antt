@@ -25,4 +25,5 @@ returns-in-Ok-clause-exact c =
     let up = IsNonDecreasingBy-from_sort_by_key (λ s. s.from) c.sort_by_key.new.self.items c.in-Ok.ensures.sorted (λ a r q k. search rules) in
     let sorted : Ascends 0 c.as_slice.result.now =
     sorted_spans c.args.spans.items c.sort_by_key.new.self.items c.as_slice.result.now c.requires c.in-Ok.ensures.permutation up c.as_slice.ensures.value in
-    IfOk-weaker c.sweep.result _ _ (λ gs is x. gaps_seen c.args.mark c.args.spans.items c.sort_by_key.new.self.items c.as_slice.result.now gs.items c.in-Ok.ensures.permutation c.as_slice.ensures.value sorted is x) c.sweep.ensures
+    IfOk-weaker c.sweep.result _ _ (λ gs is x. gaps_seen c.args.mark c.args.spans.items c.sort_by_key.new.self.items c.as_slice.result.now gs.items
+    c.in-Ok.ensures.permutation c.as_slice.ensures.value sorted is x) c.sweep.ensures

@@ -6,7 +6,8 @@ use Rattle.wtf_gc.proofs.extents.Extents.merge_when_due.Goals as goal
 
 pub returns-in_err-list : goal.returns-in_err-list
 returns-in_err-list c = λ p.
-    sym (list_any-IsPermutation (λ (e : Extent). has e p) c.self.inside.list.items c.sort_by_key.new.self.items c.sort_by_key.ensures.permutation) ∙ ap (λ l. covers l p) c.self.view_is
+    sym (list_any-IsPermutation (λ (e : Extent). has e p) c.self.inside.list.items c.sort_by_key.new.self.items c.sort_by_key.ensures.permutation)
+    ∙ ap (λ l. covers l p) c.self.view_is
 
 pub returns : goal.returns
 returns c = λ p.
