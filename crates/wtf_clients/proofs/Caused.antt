@@ -49,7 +49,7 @@ use Rattle.wtf_replay.specs.Keeps.{LacksData}
 use Rattle.wtf_clients.specs.Named.{any_byte, has_copies}
 use Rattle.wtf_replica.specs.Copies.{IsStored}
 use Rattle.wtf_clients.specs.Asked.{Asked, IsPlacedBy, IsPlaced, IsCallPlace, HasFailed}
-use Rattle.wtf_clients.specs.Outcomes.{Load, Data, RegionList, no_load, AddsBytes, HasCause, data_of_op}
+use Rattle.wtf_clients.specs.Outcomes.{Load, Data, RegionList, Frees, no_load, AddsBytes, HasCause, data_of_op}
 use Rattle.wtf_clients.proofs.Staying.{IsFault, fault_is}
 use Rattle.wtf_clients.specs.Serves.{IsPlain}
 use Rattle.wtf_clients.proofs.Unread.{slice_copies}
@@ -95,6 +95,7 @@ refused_placed kind t settings asked a refusal = by asked.given
     by : (l : Load) → IsPlacedBy kind t settings asked l a
     by (Data bytes) = λ is some. absurd (subst IsRefusal is refusal)
     by RegionList = λ is. absurd (subst IsRefusal is refusal)
+    by (Frees k) = tt
 
 pub fault_placed : {S : Type 0} (kind : StoreKind S) (t : Span S) (settings : Settings) (asked : Asked) (why : Fault) (a : Answer)
     → fault_answer why ≡ Some a → IsPlaced kind t settings asked a
@@ -103,6 +104,7 @@ fault_placed kind t settings asked why a is = by asked.given
     by : (l : Load) → IsPlacedBy kind t settings asked l a
     by (Data bytes) = λ ok some. absurd (subst IsFault ok (fault_is why a is))
     by RegionList = λ ok. absurd (subst IsFault ok (fault_is why a is))
+    by (Frees k) = tt
 
 module _ {S : Type 0} (kind : StoreKind S) (t : Span S) (settings : Settings) where
   -- needs no cause
@@ -124,6 +126,7 @@ module _ {S : Type 0} (kind : StoreKind S) (t : Span S) (settings : Settings) wh
   refused_adds (Data []) (answer.Refused w) r h = h
   refused_adds (Data (b ∷ bs)) (answer.Refused w) r h = h
   refused_adds RegionList (answer.Refused w) r h = h
+  refused_adds (Frees k) (answer.Refused w) r h = h
   refused_adds given a r h = absurd r
 
 -- a slice has a byte

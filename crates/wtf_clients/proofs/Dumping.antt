@@ -44,7 +44,13 @@ use Rattle.wtf_steps.proofs.FaultWays.{IsOfServers, some_byte, lacks_known, file
 use Rattle.wtf_steps.proofs.FileWays.{file_len_cap}
 use Rattle.wtf_rw.specs.Reads.{LacksRead}
 use Rattle.wtf_replay.specs.Causes.{fault_answer}
-use Rattle.wtf_clients.specs.Dumped.{file_answer, IsDumpAnswer, IsShownFile, IsDumped, LacksDump}
+use Rattle.wtf_region.specs.Apart.{are_apart}
+use Rattle.wtf_meta.proofs.Weaker.{map_stays}
+use Rattle.wtf_replay.specs.Insides.{lists_have}
+use Rattle.wtf_clients.specs.Views.{TablesView, metadata_now}
+use Rattle.wtf_clients.specs.Turns.{AreTrue}
+use Rattle.wtf_clients.specs.Dumped.{file_answer, IsDumpAnswer, IsTrueFor, IsShownFile, IsDumped, LacksDump}
+use Rattle.wtf_clients.proofs.Lives.{now_bytes}
 use Rattle.wtf_clients.specs.Named.{any_byte, has_copies}
 use Rattle.wtf_clients.specs.Outcomes.{no_load, HasCause}
 use Rattle.wtf_clients.specs.Serves.{IsPlain}
@@ -129,6 +135,16 @@ short_by false bytes = refl
 
 file_whole : (bytes : List ℕ) → file_answer bytes ≡ answer_at (Some (File bytes))
 file_whole bytes = short_by (nat_le (length bytes) MAX_DUMPED) bytes
+
+-- lists that are true for the tables are so for the map now
+pub true_now : (tables : TablesView) (size : ℕ) (told : Told) (lists : Remembered) → AreTrue size told lists tables
+    → IsTrueFor size told lists (metadata_now tables.kv)
+true_now tables size told lists kept = (
+  kept.ranges,
+  kept.cache,
+  map_stays (are_apart kept.ranges) (are_apart kept.ranges) (λ qs is. is) (lists_have size told (are_apart kept.ranges)) any_slice (λ s is. refl)
+      (metadata_now tables.kv) (now_bytes (are_apart kept.ranges) (lists_have size told (are_apart kept.ranges)) tables kept.away),
+)
 
 -- so it answers of a path where nothing stands, or a directory, or a file
 pub dumps_none : (z : ℕ) (told : Told) (lists : Remembered) (w : Map) (p : List ℕ) → stands_at w p ≡ None → IsDumped z told lists w p (answer.Refused NoEnt)

@@ -17,7 +17,7 @@ use Rattle.wtf_meta.proofs.Telling.{TellsOn}
 use Rattle.wtf_replay.specs.Tried.{KeepsMaps}
 use Rattle.wtf_image.specs.Savable.{AreBefore}
 use Rattle.wtf_compact.specs.Jobs.{JobView}
-use Rattle.wtf_clients.specs.Views.{BesideView, TablesView, of_client, of_label, with_jobs, metadata_now}
+use Rattle.wtf_clients.specs.Views.{BesideView, TablesView, of_client, of_label, with_labels, metadata_now}
 use Rattle.wtf_clients.specs.Sounds.{all_owned, planned, all_kept, AreSound}
 use Rattle.wtf_clients.specs.Standing.{StandsForSlot, StandsForLabel, TablesStand}
 use Rattle.wtf_clients.specs.Touched.{SinceBase}
@@ -56,7 +56,7 @@ module _ (old new : TablesView) (j : ℕ) (now : Option JobView) (sound : AreSou
       let set = turned.keeps.jobs.pins n in
       let was = sound.pins n in
       let owned : all_owned n new.clients ≡ all_owned n old.clients = ap (all_owned n) turned.keeps.clients in
-      let kept : all_kept n new.beside ≡ all_kept n (with_jobs old.beside new.beside.jobs) = ap (all_kept n) turned.keeps.beside in
+      let kept : all_kept n new.beside ≡ all_kept n (with_labels old.beside new.beside.jobs new.beside.scan_jobs) = ap (all_kept n) turned.keeps.beside in
       omega (arith, moved, set, was, owned, kept)
 
   -- what is pinned was so, or is the base of the job

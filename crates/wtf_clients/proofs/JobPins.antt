@@ -2,7 +2,7 @@
 use Rattle.std.proofs.Common.{◌≡◌, ◌≤◌, ◌<◌, ℕ, zero, suc, [], ◌∷◌, length, get_or, set, Option, None, Some, refl, sym, ap, ◌∙◌, arith}
 use Rattle.std.specs.Prelude.{IsTrue, if◌then◌else◌}
 use Rattle.std.proofs.lemmas.Bool.{eq-eqb}
-use Rattle.std.proofs.lemmas.List.{set-set, set-get_or}
+use Rattle.std.proofs.lemmas.List.{set-set, set-get_or, get_or_past}
 use Rattle.std.proofs.lemmas.List.Sums.{sum_by-cons, sum_by-set}
 use Rattle.wtf_kv.specs.Stores.{is_pinned}
 use Rattle.wtf_kv.proofs.PinLaws.{any-count}
@@ -19,6 +19,10 @@ at_label_get : (jobs : Jobs) (j : ℕ) → at_label jobs j ≡ get_or jobs j Non
 at_label_get [] j = refl
 at_label_get (o ∷ os) zero = refl
 at_label_get (o ∷ os) (suc j) = at_label_get os j
+
+-- there is none at a label past all
+pub label_past : (jobs : Jobs) (j : ℕ) → length jobs ≤ j → of_label jobs j ≡ None
+label_past jobs j past = at_label_get jobs j ∙ get_or_past jobs j None past
 
 -- one job alone is set
 pub sets_job : (jobs : Jobs) (j : ℕ) (now : Option JobView) → j < length jobs → SetsJob j now jobs (set jobs j now)

@@ -48,7 +48,7 @@ use Rattle.wtf_compact.specs.Planned.{IsPlanned, IsShort, StoresList, LacksServe
 use Rattle.wtf_clients.specs.Views.{TablesView, of_label, metadata_now}
 use Rattle.wtf_clients.specs.Sounds.{AreSound}
 use Rattle.wtf_clients.specs.Named.{TablesBytes, any_byte, no_slice, has_copies}
-use Rattle.wtf_clients.specs.Asked.{Asked, asked_of, IsPlaced}
+use Rattle.wtf_clients.specs.Asked.{Lending, Asked, asked_of, lent_by, IsPlaced}
 use Rattle.wtf_clients.specs.Outcomes.{Load, no_load, load_of_job, AddsThisList, AddsBytes, IsUnspilled, HasToStore, HasCause}
 use Rattle.wtf_clients.specs.Serves.{AreBased, AreFull, ServesLine}
 use Rattle.wtf_clients.specs.Spilling.{StoresJob, StoresPlan}
@@ -75,7 +75,7 @@ pub cause_more : {S : Type 0} (kind : StoreKind S) (t : Span S) (settings : Sett
     (a : Answer) → HasCause kind t settings ⊥ based full no_load a → HasCause kind t settings ⊥ based full load a
 cause_more kind t settings based full load (answer.FaultRead k) h = h
 cause_more kind t settings based full load answer.FaultWrite h = absurd (let some = h.0 in omega (arith, some))
-cause_more kind t settings based full load (answer.FaultPunch k) h = h
+cause_more kind t settings based full load (answer.FaultPunch k) h = absurd h
 cause_more kind t settings based full load answer.FaultSave h = h
 cause_more kind t settings based full load (answer.Damaged k) h = h
 cause_more kind t settings based full load a h = tt
@@ -116,10 +116,10 @@ list_added {kind = kind} old new t stored P goes_to w = record {
 }
 
 -- one that was not planned has stored none
-pub none_stores : {S : Type 0} (kind : StoreKind S) (t : Span S) (settings : Settings) (tables : TablesView × TablesView) (j : ℕ) (jk : JobKind) (p : List ℕ)
-    (r : ℕ) (why : Fault) (a : Answer) → fault_answer why ≡ Some a → StoresPlan kind t settings tables (event.Plan j jk p r) a
-none_stores kind t settings tables j jk p r why answer.Planned is = absurd (fault_is why answer.Planned is)
-none_stores kind t settings tables j jk p r why a is = tt
+pub none_stores : {S : Type 0} (kind : StoreKind S) (t : Span S) (lent : Lending) (tables : TablesView × TablesView) (j : ℕ) (jk : JobKind) (p : List ℕ)
+    (r : ℕ) (why : Fault) (a : Answer) → fault_answer why ≡ Some a → StoresPlan kind t lent tables (event.Plan j jk p r) a
+none_stores kind t lent tables j jk p r why answer.Planned is = absurd (fault_is why answer.Planned is)
+none_stores kind t lent tables j jk p r why a is = tt
 
 -- ---- a plan, of the file to which the path leads
 module _ {S : Type 0} {kind : StoreKind S} (laws : KindLaws kind) (old new : Dev S) (goes : GoesOn kind old new []) (lent : IsSoundDev kind old)
@@ -130,7 +130,7 @@ module _ {S : Type 0} {kind : StoreKind S} (laws : KindLaws kind) (old new : Dev
   now = metadata_now before.kv
 
   abbrev asked : Asked
-  asked = asked_of kind (between old new) old.settings before (event.Plan j jk p r)
+  asked = asked_of kind (between old new) (lent_by old) before (event.Plan j jk p r)
 
   module _ (after : TablesView) (x : JobView) (none : of_label before.beside.jobs j ≡ None) (plans : Plans before after j jk p r x)
       (did : IsPlanned kind old new x.target (target_region now x.target) x.value) (own : MaybeBytes (inside_of kind new) any_slice x.value)
@@ -200,7 +200,7 @@ module _ {S : Type 0} {kind : StoreKind S} (laws : KindLaws kind) (old new : Dev
             let more = ltb-true 0 (end_of (target_region now x.target)) there in
             omega (arith, more, end, zero)
 
-    pub plan_serves : ServesLine kind (between old new) old.settings before after (event.Plan j jk p r) answer.Planned
+    pub plan_serves : ServesLine kind (between old new) (lent_by old) before after (event.Plan j jk p r) answer.Planned
     plan_serves = record {
       inside = plan_bytes (is_inside kind (stores new) old.settings) any_slice before after j sound jk p r x none plans
           (later laws old new goes lent before sound inside)
@@ -320,7 +320,7 @@ module _ {S : Type 0} {kind : StoreKind S} (laws : KindLaws kind) (old new : Dev
     left k same (fault.Damaged s) e (inr (inr lacks)) = absurd lacks.out
     left k same fault.Memory e (inr (inr lacks)) = absurd (memory_none fault.Memory a e refl)
 
-    pub plan_fails : ServesLine kind (between old new) old.settings before before (event.Plan j jk p r) a
+    pub plan_fails : ServesLine kind (between old new) (lent_by old) before before (event.Plan j jk p r) a
     plan_fails = record {
       inside = later laws old new goes lent before sound inside;
       bare = λ free h. h;
@@ -333,8 +333,8 @@ module _ {S : Type 0} {kind : StoreKind S} (laws : KindLaws kind) (old new : Dev
 
   -- ---- one that is refused reads nothing
   pub plan_refused : (a : Answer) (w : Word) → a ≡ answer.Refused w → OnlyRead kind (between old new)
-      → ServesLine kind (between old new) old.settings before before (event.Plan j jk p r) a
-  plan_refused a w is reads = subst (λ (b : Answer). ServesLine kind (between old new) old.settings before before (event.Plan j jk p r) b) (sym is) (record {
+      → ServesLine kind (between old new) (lent_by old) before before (event.Plan j jk p r) a
+  plan_refused a w is reads = subst (λ (b : Answer). ServesLine kind (between old new) (lent_by old) before before (event.Plan j jk p r) b) (sym is) (record {
     inside = later laws old new goes lent before sound inside;
     bare = λ free h. h;
     full = λ free h. h;

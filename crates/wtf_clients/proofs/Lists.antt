@@ -150,10 +150,6 @@ sets_same c old new is = record {
   order = is ∙ sym (set_same c old);
 }
 
--- and nothing else is then said
-pub sets_kept : (c : ℕ) (old new : Clients) → Sets c (of_client old c) old new → new ≡ old
-sets_kept c old new sets = sets.order ∙ set_same c old
-
 -- what was lent of a client's transaction is given back
 pub written : {S : Type 0} (c : ℕ) (m n : HashMap ℕ TxnView S) (x y : TxnView) → of_client m.entries c ≡ Some x → WritesThrough nat_eq (nat_eq c) m y n
     → Sets c (Some y) m.entries n.entries

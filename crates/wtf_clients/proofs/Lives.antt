@@ -1,6 +1,7 @@
 -- The numbers that can be read: those that are pinned, and the number now.
-use Rattle.std.proofs.Common.{◌≡◌, ◌≤◌, ℕ, ◌+◌, Bool, true, false, ◌||◌, cond, nat_eq, List, [], refl, ap, ◌⊎◌, inl, inr, ⊎_elim, arith}
+use Rattle.std.proofs.Common.{◌≡◌, ◌≤◌, ℕ, ◌+◌, Bool, true, false, ◌||◌, cond, nat_eq, count_by, List, [], Some, refl, ap, ◌⊎◌, inl, inr, ⊎_elim, arith}
 use Rattle.std.specs.Prelude.{IsTrue, if◌then◌else◌}
+use Rattle.std.specs.List.{list_any}
 use Rattle.std.proofs.lemmas.Bool.{cases_Bool, or_cases, eqb-true, eq-eqb}
 use Rattle.wtf_base.specs.declared.slice.Slice.{Slice}
 use Rattle.wtf_overlay.specs.Origin.{Place}
@@ -10,8 +11,9 @@ use Rattle.wtf_values.specs.declared.key.Key.{Key}
 use Rattle.wtf_values.specs.declared.value.Value.{Value}
 use Rattle.wtf_meta.specs.Bytes.{MapBytes}
 use Rattle.wtf_replay.specs.Tried.{KeepsPins, MovesPin}
+use Rattle.wtf_gc.specs.Views.{RunView}
 use Rattle.wtf_clients.specs.Views.{BesideView, TablesView, metadata_now}
-use Rattle.wtf_clients.specs.Sounds.{all_kept, AreSound}
+use Rattle.wtf_clients.specs.Sounds.{all_kept, all_seen, AreSound}
 use Rattle.wtf_clients.specs.Saves.{with_image, only_image, Saves}
 use Rattle.wtf_clients.specs.Named.{TablesBytes}
 
@@ -32,6 +34,15 @@ live_cases kv n live = ⊎_elim (λ e. inl (eqb-true n kv.number e)) (λ pinned.
 -- none of them is of an install to come
 pub live_upto : (tables : TablesView) (n : ℕ) → AreSound tables → IsTrue (is_live tables.kv n) → n ≤ tables.kv.number
 live_upto tables n sound live = ⊎_elim (λ e. omega (arith, e)) (λ pinned. sound.upto n pinned) (live_cases tables.kv n live)
+
+-- a number that a scan has pinned can be read
+pub seen_live : (tables : TablesView) (r : RunView) → AreSound tables → tables.beside.gc.running ≡ Some r → (n : ℕ) → list_any (nat_eq n) r.seen ≡ true
+    → IsTrue (is_live tables.kv n)
+seen_live tables r sound runs n seen =
+    let some = count-any n r.seen seen in
+    let same : all_seen n tables.beside.gc.running ≡ count_by (nat_eq n) r.seen = ap (all_seen n) runs in
+    let pins = sound.pins n in
+    pinned_live tables.kv n (any-count n tables.kv.pins (omega (arith, some, same, pins)))
 
 -- the map now is among those that can be read
 pub now_bytes : (P : List Place → Bool) (Q : Slice → Bool) (tables : TablesView) → TablesBytes P Q tables → MapBytes P Q (metadata_now tables.kv)

@@ -167,8 +167,8 @@ module _ (Telling : Type 0) (lists : Remembered) (servers size : ℕ) (told late
       → IfSome (unmade x) (λ b. (answered Fault a b) × (y ≡ x) × N) → (unmade x ≡ None → (own : Option Slice) × (facts : List ListFact) × IsCalled x y o own a
       × (Reads Telling lists servers size told later).known facts
       × Acts (sight_at size old.kv x.tx x.replayed (hand_of x) facts) (data_len o) own o a x.at y.at)
-      → (unmade x ≡ None → Tells Telling lists servers size told later (metadata_at old.kv x.at.base) → (ops : List (Op (List ℕ))) → IsSound size old.kv told
-      x ops → IsSound size old.kv later y (ops ++ o ∷ []))
+      → (unmade x ≡ None → Tells Telling lists servers size told later old (metadata_at old.kv x.at.base) → (ops : List (Op (List ℕ)))
+      → IsSound size old.kv told x ops → IsSound size old.kv later y (ops ++ o ∷ []))
       → IsFit old.kv y
       → MatchOption r (Calls Telling lists servers size told later old now_called c x o a ⊎ CallFails Telling lists servers size told later old now_called c x
       o a) (λ w. Refuses old now_called c w a)
@@ -194,8 +194,8 @@ module _ (Telling : Type 0) (lists : Remembered) (servers size : ℕ) (told late
       → IfSome (unmade x) (λ b. (answered Fault a b) × (y ≡ x) × N) → (unmade x ≡ None → (own : Option Slice) × (facts : List ListFact) × IsCalled x y o own a
       × (Reads Telling lists servers size told later).known facts
       × Acts (sight_at size old.kv x.tx x.replayed (hand_of x) facts) (data_len o) own o a x.at y.at)
-      → (unmade x ≡ None → Tells Telling lists servers size told later (metadata_at old.kv x.at.base) → (ops : List (Op (List ℕ))) → IsSound size old.kv told
-      x ops → IsSound size old.kv later y (ops ++ o ∷ []))
+      → (unmade x ≡ None → Tells Telling lists servers size told later old (metadata_at old.kv x.at.base) → (ops : List (Op (List ℕ)))
+      → IsSound size old.kv told x ops → IsSound size old.kv later y (ops ++ o ∷ []))
       → IsFit old.kv y
       → ClientTurn Telling lists servers size told later old (record { kv = old.kv; next_tx = old.next_tx; clients = clients; beside = old.beside }) c
       (verb.Call o) a
@@ -356,15 +356,15 @@ module _ (Telling : Type 0) (lists : Remembered) (servers size : ℕ) (told late
     (a : Answer) (going : x.ended ≡ false) (there : of_client old.clients c ≡ Some x) (sets : Sets c (Some y) old.clients mid)
     (stopped : IfSome (step_refusal x) (λ w. (answered Fault a (answer.Refused w)) × (y ≡ x)))
     (stepped : step_refusal x ≡ None → IsStepped x y a)
-    (meaning : step_refusal x ≡ None → Tells Telling lists servers size told later (metadata_at old.kv x.at.base) → (ops : List (Op (List ℕ))) → IsSound size
-    old.kv told x ops → IsTrueStep size (told, later) old.kv (x, y) ops a)
+    (meaning : step_refusal x ≡ None → Tells Telling lists servers size told later old (metadata_at old.kv x.at.base) → (ops : List (Op (List ℕ)))
+    → IsSound size old.kv told x ops → IsTrueStep size (told, later) old.kv (x, y) ops a)
     (acts : step_refusal x ≡ None → (i : ℕ) → a ≡ answer.Replayed i → Redoes (Reads Telling lists servers size told later) old.kv x x.replayed (hand_of x)
     (hand_of y))
     (fit : IsFit old.kv y) where
   abbrev now_stepped : TablesView
   now_stepped = record { kv = old.kv; next_tx = old.next_tx; clients = mid; beside = old.beside }
 
-  step_goes_by : (b : Answer) → y.ended ≡ false → IsStepped x y b → (Tells Telling lists servers size told later (metadata_at old.kv x.at.base) →
+  step_goes_by : (b : Answer) → y.ended ≡ false → IsStepped x y b → (Tells Telling lists servers size told later old (metadata_at old.kv x.at.base) →
       (ops : List (Op (List ℕ))) → IsSound size old.kv told x ops → IsTrueStep size (told, later) old.kv (x, y) ops b)
       → ((i : ℕ) → b ≡ answer.Replayed i → Redoes (Reads Telling lists servers size told later) old.kv x x.replayed (hand_of x) (hand_of y)) → Steps Telling
       lists servers size told later old now_stepped c x b
@@ -392,7 +392,7 @@ module _ (Telling : Type 0) (lists : Remembered) (servers size : ℕ) (told late
 
   module _ (new : TablesView) (taken : Sets c None mid new.clients) (next : new.next_tx ≡ old.next_tx) (beside : new.beside ≡ old.beside)
       (is_kv : new.kv ≡ record old.kv { pins = remove_key (nat_eq y.at.base) old.kv.pins }) (unpinned : IsPinnedOnceMore y.at.base new.kv old.kv) where
-    step_ends_by : (b : Answer) → y.ended ≡ true → IsStepped x y b → (Tells Telling lists servers size told later (metadata_at old.kv x.at.base) →
+    step_ends_by : (b : Answer) → y.ended ≡ true → IsStepped x y b → (Tells Telling lists servers size told later old (metadata_at old.kv x.at.base) →
         (ops : List (Op (List ℕ))) → IsSound size old.kv told x ops → IsTrueStep size (told, later) old.kv (x, y) ops b) → Steps Telling lists servers size
         told later old new c x b
     step_ends_by (answer.Replayed i) over h m = absurd (true≢false (sym over ∙ ap (λ (z : TxnView). z.ended) h.is ∙ going))
@@ -445,8 +445,8 @@ module _ (Telling : Type 0) (lists : Remembered) (servers size : ℕ) (told late
     (x y : TxnView) where
   commit_by : (a : Answer) → Ends old new kv c x → IsEnded old.kv kv a → IsInstall (Reads Telling lists servers size told later) old.kv kv
       (commit_from old.kv x) a
-      → (Tells Telling lists servers size told later (metadata_at old.kv x.at.base) → Tells Telling lists servers size told later (metadata_now old.kv) →
-      (ops : List (Op (List ℕ))) → IsSound size old.kv told x ops → IsTrueEnd size (told, later) old.kv kv x ops a) → Finals Telling lists servers size
+      → (Tells Telling lists servers size told later old (metadata_at old.kv x.at.base) → Tells Telling lists servers size told later old (metadata_now old.kv)
+      → (ops : List (Op (List ℕ))) → IsSound size old.kv told x ops → IsTrueEnd size (told, later) old.kv kv x ops a) → Finals Telling lists servers size
       told later old new c x a
   commit_by (answer.Committed n) over h i m = record { mid = kv; next = h.0; number = h.1; installs = i; ends = over; final = m }
   commit_by (Aborted' k box b) over h i m = record { mid = kv; number = h; versions = i; ends = over; deviates = m }
@@ -456,8 +456,8 @@ module _ (Telling : Type 0) (lists : Remembered) (servers size : ℕ) (told late
       → new.beside ≡ old.beside → IsOver x y → KeepsMaps old.kv kv → KeepsPins old.kv kv
       → new.kv ≡ record kv { pins = remove_key (nat_eq y.at.base) kv.pins } → IsPinnedOnceMore y.at.base new.kv kv → IsEnded old.kv kv a → IsInstall
       (Reads Telling lists servers size told later) old.kv kv (commit_from old.kv x) a
-      → (Tells Telling lists servers size told later (metadata_at old.kv x.at.base) → Tells Telling lists servers size told later (metadata_now old.kv) →
-      (ops : List (Op (List ℕ))) → IsSound size old.kv told x ops → IsTrueEnd size (told, later) old.kv kv x ops a)
+      → (Tells Telling lists servers size told later old (metadata_at old.kv x.at.base) → Tells Telling lists servers size told later old (metadata_now old.kv)
+      → (ops : List (Op (List ℕ))) → IsSound size old.kv told x ops → IsTrueEnd size (told, later) old.kv kv x ops a)
       → ClientTurn Telling lists servers size told later old new c verb.Commit a
   commit_turn a there sets taken next beside over maps pins is_kv unpinned h i m =
       at_some (of_client old.clients c) x _ _ there (commit_by a (ends old new kv mid c x y sets taken next beside over.base maps pins is_kv unpinned) h i m)
@@ -466,8 +466,8 @@ module _ (Telling : Type 0) (lists : Remembered) (servers size : ℕ) (told late
   pub commit_failed : (why : Fault) (a : Answer) → of_client old.clients c ≡ Some x → Sets c (Some y) old.clients new.clients → y ≡ x → new.kv ≡ kv
       → new.next_tx ≡ old.next_tx → new.beside ≡ old.beside → kv.number ≡ old.kv.number → KeepsMaps old.kv kv → KeepsVersions old.kv kv → KeepsPins old.kv kv
       → fault_answer why ≡ Some a
-      → (Tells Telling lists servers size told later (metadata_at old.kv x.at.base) → Tells Telling lists servers size told later (metadata_now old.kv) →
-      (ops : List (Op (List ℕ))) → IsSound size old.kv told x ops → (t : Tree) → Stands size told x.tx 0 (metadata_now old.kv) t → IsReadFault servers a)
+      → (Tells Telling lists servers size told later old (metadata_at old.kv x.at.base) → Tells Telling lists servers size told later old (metadata_now old.kv)
+      → (ops : List (Op (List ℕ))) → IsSound size old.kv told x ops → (t : Tree) → Stands size told x.tx 0 (metadata_now old.kv) t → IsReadFault servers a)
       → Finals Telling lists servers size told later old new c x a
   commit_failed why a there sets same is_kv next beside number maps versions pins is may = by a is may
     where
@@ -478,9 +478,9 @@ module _ (Telling : Type 0) (lists : Remembered) (servers size : ℕ) (told late
           next beside
 
       by : (b : Answer) → fault_answer why ≡ Some b
-          → (Tells Telling lists servers size told later (metadata_at old.kv x.at.base) → Tells Telling lists servers size told later (metadata_now old.kv) →
-          (ops : List (Op (List ℕ))) → IsSound size old.kv told x ops → (t : Tree) → Stands size told x.tx 0 (metadata_now old.kv) t → IsReadFault servers
-          b)
+          → (Tells Telling lists servers size told later old (metadata_at old.kv x.at.base)
+          → Tells Telling lists servers size told later old (metadata_now old.kv) → (ops : List (Op (List ℕ)))
+          → IsSound size old.kv told x ops → (t : Tree) → Stands size told x.tx 0 (metadata_now old.kv) t → IsReadFault servers b)
           → Finals Telling lists servers size told later old new c x b
       by (answer.Committed n) e f = absurd (fault_is why (answer.Committed n) e)
       by (Aborted' i box b) e f = absurd (fault_is why (Aborted' i box b) e)

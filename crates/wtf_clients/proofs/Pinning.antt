@@ -96,26 +96,6 @@ module _ (old new : TablesView) (clients : new.clients ≡ old.clients) (next : 
       beside = is;
     }
 
-    -- one image comes
-    pub keeps_one : IsPinnedOnceMore old.kv.number old.kv new.kv → new.beside ≡ with_image old.beside old.kv.number
-        → Saves old new (with_image old.beside old.kv.number)
-    keeps_one once is = saves_by (with_image old.beside old.kv.number)
-        (λ n.
-        let pinned = once n in
-        let more = more_kept (with_image old.beside old.kv.number) old.beside old.kv.number n refl in
-        omega (arith, pinned, more))
-        is
-
-    -- it goes
-    pub forgets_one : (before : BesideView) → old.beside ≡ with_image before old.kv.number → IsPinnedOnceMore old.kv.number new.kv old.kv → new.beside ≡ before
-        → Saves old new before
-    forgets_one before was once is = saves_by before
-        (λ n.
-        let pinned = once n in
-        let more = more_kept old.beside before old.kv.number n was in
-        omega (arith, pinned, more))
-        is
-
     -- it alone stays
     pub settles_one : (before : BesideView) → old.beside ≡ with_image before old.kv.number
         → ((n : ℕ) → times_pinned new.kv n + count_by (nat_eq n) before.images ≡ times_pinned old.kv n) → new.beside ≡ only_image before old.kv.number

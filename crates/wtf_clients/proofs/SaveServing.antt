@@ -9,6 +9,7 @@ use Rattle.wtf_replica.specs.Spans.{span}
 use Rattle.wtf_model.specs.declared.answer.Answer.{Answer}
 use Rattle.wtf_model.specs.declared.answer.Answer.TheVariants as answer
 use Rattle.wtf_model.specs.declared.event.Event.TheVariants as event
+use Rattle.wtf_region.specs.Cached.{Remembered}
 use Rattle.wtf_region.specs.Inside.{is_inside}
 use Rattle.wtf_replay.proofs.Insiding.{map_later, inside_later}
 use Rattle.wtf_meta.specs.Bytes.{any_slice}
@@ -16,7 +17,7 @@ use Rattle.wtf_meta.specs.Maps.{metadata_at}
 use Rattle.wtf_clients.specs.Views.{BesideView, TablesView, of_client, of_label}
 use Rattle.wtf_clients.specs.Sounds.{AreSound}
 use Rattle.wtf_clients.specs.Named.{TablesBytes, any_byte, no_slice, has_copies}
-use Rattle.wtf_clients.specs.Asked.{asked_of, HasFailed}
+use Rattle.wtf_clients.specs.Asked.{lending, asked_of, HasFailed}
 use Rattle.wtf_clients.specs.Outcomes.{no_load, SaveFault, HasCause}
 use Rattle.wtf_clients.specs.Saves.{with_image, only_image, Saves, SaveTurn}
 use Rattle.wtf_clients.specs.Serves.{NamesTables, AreBased, AreFull, ServesEvent}
@@ -64,13 +65,13 @@ module _ {S : Type 0} {kind : StoreKind S} (laws : KindLaws kind) (down : ℕ �
 
   pub save_serves : (a : Answer) → SaveTurn Up old new a → HasCause kind (span down before after) settings
       (SaveFault kind (span down before after) settings rose event.Save) (AreBased old) (AreFull settings old) no_load a
-      → ServesEvent kind (span down before after) settings rose (old, new) event.Save a
-  save_serves a turn caused = record {
+      → (lists : Remembered) → ServesEvent kind (span down before after) (lending settings lists) rose (old, new) event.Save a
+  save_serves a turn caused lists = record {
     inside = save_names Up old new a sound turn (is_inside kind after settings) any_slice refl inside_on;
     bare = λ free. save_names Up old new a sound turn any_byte no_slice refl;
     full = λ free. save_names Up old new a sound turn (has_copies settings.replicas) no_slice refl;
     adds = none_added kind (span down before after) settings a lengths;
     caused = caused;
-    placed = none_placed kind (span down before after) settings (asked_of kind (span down before after) settings old event.Save) a refl;
-    failed = save_failed Up old new (asked_of kind (span down before after) settings old event.Save).fails a turn;
+    placed = none_placed kind (span down before after) settings (asked_of kind (span down before after) (lending settings lists) old event.Save) a refl;
+    failed = save_failed Up old new (asked_of kind (span down before after) (lending settings lists) old event.Save).fails a turn;
   }

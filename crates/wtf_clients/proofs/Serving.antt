@@ -42,7 +42,7 @@ use Rattle.wtf_replay.proofs.Naming.{named_inside}
 use Rattle.wtf_clients.specs.Views.{Clients, TablesView, of_client}
 use Rattle.wtf_clients.specs.Sounds.{AreSound, Sets}
 use Rattle.wtf_clients.specs.Named.{TablesBytes, any_byte, no_slice, has_copies}
-use Rattle.wtf_clients.specs.Asked.{Asked, asked_of, IsLent, IsPlaced, HasFailed}
+use Rattle.wtf_clients.specs.Asked.{Asked, asked_of, lent_by, IsLent, IsPlaced, HasFailed}
 use Rattle.wtf_clients.specs.Outcomes.{Data, no_load, AddsBytes, HasCause, data_of_op}
 use Rattle.wtf_clients.specs.Serves.{NamesTables, IsPlain, AreBased, AreBare, AreFull, Serves}
 use Rattle.wtf_clients.specs.Turns.{Ends, Stays}
@@ -75,8 +75,8 @@ step_plain x y a stopped stepped = by (step_refusal x) refl
         subst IsPlain (sym (same_answer Fault a (answer.Refused w) both.0)) tt
 
 -- the devices of a line
-pub lent_to : {S : Type 0} (old new : Dev S) → IsRing old.settings.servers old.ring.now.points → IsLent (between old new) old.settings old new
-lent_to old new ring = record { span_is = refl; settings_are = refl; ring_is = ring }
+pub lent_to : {S : Type 0} (old new : Dev S) → IsRing old.settings.servers old.ring.now.points → IsLent (between old new) (lent_by old) old new
+lent_to old new ring = record { span_is = refl; settings_are = refl; lists_are = refl; ring_is = ring }
 
 -- a fault that is answered is no want of memory
 pub past_memory : {F : Type 0} (why : Fault) (a : Answer) → fault_answer why ≡ Some a → (why ≡ fault.Memory) ⊎ F → F
@@ -301,7 +301,7 @@ module _ {S : Type 0} {kind : StoreKind S} (laws : KindLaws kind) (old new : Dev
     same_bytes P Q same h = subst (TxnBytes P Q before.kv) (sym same) (h.each c x there)
 
     abbrev asked : Op (List ℕ) → Asked
-    asked o = asked_of kind (between old new) old.settings before (event.Client c (verb.Call o))
+    asked o = asked_of kind (between old new) (lent_by old) before (event.Client c (verb.Call o))
 
     -- a call
     pub call_serves : IsRing old.settings.servers old.ring.now.points → (o : Op (List ℕ)) (a : Answer)

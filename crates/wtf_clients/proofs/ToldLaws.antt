@@ -3,7 +3,7 @@ use Rattle.std.proofs.Common.{◌≡◌, ℕ, ◌≤◌, Bool, true, List, [], �
 use Rattle.std.proofs.lemmas.Bool.{true≢false}
 use Rattle.wtf_base.specs.declared.settings.Settings.{Settings}
 use Rattle.wtf_base.specs.declared.slice.Slice.{Slice}
-use Rattle.wtf_dev.specs.Store.{StoreKind, KindLaws}
+use Rattle.wtf_dev.specs.Store.{Range, StoreKind, KindLaws}
 use Rattle.wtf_overlay.specs.Origin.{Place}
 use Rattle.wtf_overlay.specs.Spilled.{decoded}
 use Rattle.wtf_replica.specs.Inside.{size_in}
@@ -26,7 +26,6 @@ use Rattle.wtf_region.specs.Apart.{are_apart}
 use Rattle.wtf_region.specs.Cached.{CacheTrue}
 use Rattle.wtf_region.specs.Devs.{IsSoundDev, GoesOn, stores, remembered, told_in, between}
 use Rattle.wtf_region.specs.Inside.{is_inside, list_lies_inside}
-use Rattle.wtf_region.proofs.Frames.{facts_apart_none}
 use Rattle.wtf_region.proofs.InsideLaws.{inside_stays, slice_inside, list_inside-to}
 use Rattle.wtf_region.proofs.ListReads.{fetched_is}
 use Rattle.wtf_rw.specs.Ops.{OwnBy}
@@ -40,9 +39,10 @@ use Rattle.wtf_clients.specs.Views.{TablesView}
 use Rattle.wtf_clients.specs.Named.{TablesBytes, any_byte, has_copies}
 use Rattle.wtf_clients.specs.Outcomes.{Load, IsUnread, IsNoList, HasCause}
 use Rattle.wtf_clients.specs.Serves.{AreBased}
-use Rattle.wtf_clients.specs.Telling.{ListedBytes, TellsTables, AreWide, AreWithin, ServesTold}
-use Rattle.wtf_clients.proofs.Known.{all_apart}
+use Rattle.wtf_clients.specs.Safe.{Went}
+use Rattle.wtf_clients.specs.Telling.{ListedBytes, TellsTables, AreWide, AreWithin, HoldsOfAdded, ServesTold}
 use Rattle.wtf_clients.proofs.Lacking.{AreFullLists}
+use Rattle.wtf_clients.proofs.Unread.{copies_by}
 
 -- what tables name goes on passing tests that more pass
 pub tables_stay : (P R : List Place → Bool) → ((qs : List Place) → P qs ≡ true → R qs ≡ true) → (Q O : Slice → Bool)
@@ -57,7 +57,7 @@ tables_stay P R places Q O slices tables h = record {
 }
 
 -- the list of a slice is what it was, over stores that tell more
-listed_later : (size : ℕ) (told later : Told) (P : List Place → Bool) → TellsOn told later → (s : Slice) → lists_have size told P s ≡ true
+pub listed_later : (size : ℕ) (told later : Told) (P : List Place → Bool) → TellsOn told later → (s : Slice) → lists_have size told P s ≡ true
     → lists_have size later P s ≡ true
 listed_later size told later P on s h =
     let was = has_list P (lists_in size told s) h in
@@ -110,17 +110,16 @@ module _ {S : Type 0} {kind : StoreKind S} (laws : KindLaws kind) (old new : Dev
   IsNamed Was = (P : List Place → Bool) (Q : Slice → Bool) → P [] ≡ true → TablesBytes P Q before → Was P Q
 
   -- so it is known
-  known_of : (Was : Of) → IsNamed Was → IsKnown kind old [] Was
+  known_of : (Was : Of) → IsNamed Was → IsKnown kind old tells.punched Was
   known_of Was was = (
     was (is_told told) (is_listed size told) refl tells.names,
-    was (are_apart []) (lists_have size told (are_apart [])) refl
-        (tables_weaker size told (is_told told) (are_apart []) (λ qs is. all_apart qs) before tells.names),
+    was (are_apart tells.punched) (lists_have size told (are_apart tells.punched)) refl tells.away,
   )
 
   -- lists that were read are those that their slices decode to
   pub named_tell : (Was Is : Of) → IsNamed Was → (h : HaveNamed kind old new Was Is) → TellLists (lists_in size later) h.lists
   named_tell Was Is was h =
-      subst (λ (st : Settings). TellLists (lists_in st.region later) h.lists) goes.settings (h.told [] tells.cache (known_of Was was))
+      subst (λ (st : Settings). TellLists (lists_in st.region later) h.lists) goes.settings (h.told tells.punched tells.cache (known_of Was was))
 
   -- so what held of each byte of the tables holds of each that is named now
   pub named_keeps : (Was Is : Of) → IsNamed Was → HaveNamed kind old new Was Is → (P : List Place → Bool) → P [] ≡ true → ListedBytes size told P before
@@ -131,19 +130,23 @@ module _ {S : Type 0} {kind : StoreKind S} (laws : KindLaws kind) (old new : Dev
 
 -- Each byte of the lists that are read of a file has as many copies as there are replicas, where those had that its bases decoded to.
 pub full_lists : {S : Type 0} (kind : StoreKind S) (old mid new : Dev S) → TellsOn (told_in kind old) (told_in kind new) → mid.settings ≡ old.settings
-    → new.settings ≡ old.settings → CacheTrue (told_in kind mid) mid.settings.region [] (remembered mid)
-    → (full : Type 0) (file : FileView) (Q : Slice → Bool) → FileBytes (is_told (told_in kind mid)) Q file → (off n : ℕ)
+    → new.settings ≡ old.settings → (ranges : List (ℕ × Range)) → CacheTrue (told_in kind mid) mid.settings.region ranges (remembered mid)
+    → (full : Type 0) (file : FileView) (Q O : Slice → Bool) → FileBytes (is_told (told_in kind mid)) Q file → FileBytes (are_apart ranges) O file
+    → (off n : ℕ)
     → AreFullLists kind mid new full (lists_have old.settings.region (told_in kind old) (has_copies old.settings.replicas)) file off n
-full_lists kind old mid new on here there cache full file Q bytes off n = λ h ps r.
+full_lists kind old mid new on here there ranges cache full file Q O bytes away off n = λ h ps r.
     let now : Told = told_in kind mid in
     let size : ℕ = old.settings.region in
     let Had : Slice → Bool = lists_have size (told_in kind old) (has_copies old.settings.replicas) in
-    let any : FileBytes (is_told now) any_slice file = file_bytes_stay (is_told now) (is_told now) (λ qs is. is) Q any_slice (λ s is. refl) file bytes in
     let tell : TellLists (lists_in size (told_in kind new)) r.facts =
     subst (λ (st : Settings). TellLists (lists_in st.region (told_in kind new)) r.facts) there
-    (r.told [] cache (r.reads.slices (is_told now) any_slice any) (facts_apart_none r.facts)) in
+    (r.told ranges cache (r.reads.slices (is_told now) any_slice (any_bases (is_told now) Q bytes))
+    (r.reads.slices (are_apart ranges) any_slice (any_bases (are_apart ranges) O away))) in
     subst (λ (st : Settings). ListsBytes (has_copies st.replicas) Had r.facts) (sym here)
     (lists_on size (told_in kind old) (told_in kind new) (has_copies old.settings.replicas) on r.facts tell)
+  where
+    any_bases : (P : List Place → Bool) (R : Slice → Bool) → FileBytes P R file → FileBytes P any_slice file
+    any_bases P R b = file_bytes_stay P P (λ qs is. is) R any_slice (λ s is. refl) file b
 
 -- what a call stored lies inside the stores
 module _ {S : Type 0} (kind : StoreKind S) (old new : Dev S) where
@@ -193,21 +196,21 @@ module _ {S : Type 0} {kind : StoreKind S} (laws : KindLaws kind) (old new : Dev
       list_inside-to kind (stores new) old.settings enough found.0 (entries_stay P R inside_on found.0 found.2) in
       true≢false (sym good ∙ h.bad found.0 read)
 
-  pub told_serves : (after : TablesView) (load : Load) (a : Answer) (Own : (List Place → Bool) → Type 0) → Own (is_told (told_in kind new))
-      → Own (has_copies old.settings.replicas) → Own (is_inside kind (stores new) old.settings)
-      → ((P : List Place → Bool) → P [] ≡ true → Own P → ListedBytes old.settings.region (told_in kind old) P before
-      → ListedBytes old.settings.region (told_in kind new) P after)
+  pub told_serves : (after : TablesView) (load : Load) (a : Answer)
+      → Went old.settings.region (told_in kind old) (told_in kind new) (HoldsOfAdded kind (between old new) old.settings) before after
       → Why load a → ServesTold kind (between old new) old.settings (before, after) a
-  told_serves after load a Own own_told own_full own_within keeps why =
+  told_serves after load a went why =
       let size : ℕ = old.settings.region in
       let was : Told = told_in kind old in
       let now : Told = told_in kind new in
       let R : List Place → Bool = is_inside kind (stores new) old.settings in
       record {
-        names = keeps (is_told now) refl own_told
+        went = went;
+        names = went.carries (is_told now) refl (λ qs added. added.told)
             (tables_weaker size was (is_told was) (is_told now) (λ qs is. is_told-later was now qs (tells_on laws goes.each) is) before tells.names);
-        wide = λ w. keeps (has_copies old.settings.replicas) refl own_full w;
-        within = λ w. keeps R refl own_within (tables_weaker size was (is_inside kind (stores old) old.settings) R inside_on before w);
+        wide = λ w. went.carries (has_copies old.settings.replicas) refl (λ qs added. copies_by old.settings.replicas qs added.wide) w;
+        within = λ w. went.carries R refl (λ qs added. added.within)
+            (tables_weaker size was (is_inside kind (stores old) old.settings) R inside_on before w);
         undamaged = λ w k is. no_list w k (subst (Why load) is why);
         unread = λ w k is.
             let un : IsUnread kind (between old new) old.settings (AreWide old.settings was before) k = subst (Why load) is why in

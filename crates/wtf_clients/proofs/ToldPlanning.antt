@@ -1,5 +1,5 @@
 -- What plans of jobs made of the tables over stores that tell: the list that a spill stored has the bytes that its region had.
-use Rattle.std.proofs.Common.{◌≡◌, ◌∙◌, ℕ, Bool, List, [], ◌∷◌, length, get_or, Option, None, Some, refl, sym, ap, subst, ⊎_elim}
+use Rattle.std.proofs.Common.{◌≡◌, ◌∙◌, ℕ, Bool, true, List, [], ◌∷◌, get_or, Option, None, Some, refl, sym, ap, subst, ⊎_elim}
 use Rattle.std.specs.List.{All}
 use Rattle.std.proofs.lemmas.Bool.{cases_Bool}
 use Rattle.std.proofs.lemmas.List.Elements.{All-head, All-tail}
@@ -8,11 +8,13 @@ use Rattle.wtf_base.specs.declared.ids.InodeId.{InodeId}
 use Rattle.wtf_base.specs.declared.settings.Settings.{Settings}
 use Rattle.wtf_base.specs.declared.slice.Slice.{Slice}
 use Rattle.wtf_base.specs.Places.{places_of}
-use Rattle.wtf_base.specs.Slices.{len_of, pointers_of}
 use Rattle.wtf_dev.specs.Store.{StoreKind, KindLaws}
 use Rattle.wtf_overlay.specs.Origin.{Place}
+use Rattle.wtf_kv.specs.Stores.{Store}
 use Rattle.wtf_ring.specs.Points.{IsRing}
+use Rattle.wtf_values.specs.declared.key.Key.{Key}
 use Rattle.wtf_values.specs.declared.region.RegionValue.{RegionValue}
+use Rattle.wtf_values.specs.declared.value.Value.{Value}
 use Rattle.wtf_model.specs.declared.answer.Answer.{Answer}
 use Rattle.wtf_model.specs.declared.answer.Answer.TheVariants as answer
 use Rattle.wtf_model.specs.declared.op.JobKind.{JobKind}
@@ -20,7 +22,7 @@ use Rattle.wtf_meta.specs.Bytes.{EntryBytes, BaseBytes, MaybeBytes, ListSlices, 
 use Rattle.wtf_meta.specs.Contents.{Told, is_told, is_listed, lists_in}
 use Rattle.wtf_meta.specs.Files.{end_of}
 use Rattle.wtf_meta.specs.Lists.{ListFact, TellLists, region_facts}
-use Rattle.wtf_meta.specs.Maps.{Map}
+use Rattle.wtf_meta.specs.Maps.{Map, metadata_at}
 use Rattle.wtf_meta.specs.Trees.{LeadsTo}
 use Rattle.wtf_meta.proofs.ListTests.{list_has-true}
 use Rattle.wtf_meta.proofs.Named.{region_slices}
@@ -28,27 +30,35 @@ use Rattle.wtf_meta.proofs.Telling.{TellsOn, told_from, lists_in-from}
 use Rattle.wtf_meta.proofs.Weaker.{maybe_stays}
 use Rattle.wtf_region.specs.declared.dev.Dev.{Dev}
 use Rattle.wtf_region.specs.Devs.{IsSoundDev, GoesOn, stores, remembered, told_in, inside_of, between}
+use Rattle.wtf_region.specs.Apart.{are_apart}
 use Rattle.wtf_region.specs.Inside.{is_inside}
-use Rattle.wtf_region.proofs.Frames.{facts_apart_none}
+use Rattle.wtf_rw.specs.Stored.{SliceBytes}
 use Rattle.wtf_replay.specs.Causes.{fault_answer}
 use Rattle.wtf_replay.specs.Insides.{lists_have}
+use Rattle.wtf_replay.specs.Views.{TxnView}
 use Rattle.wtf_replay.proofs.Later.{tells_on}
 use Rattle.wtf_compact.specs.Jobs.{JobView, region_at, target_region}
-use Rattle.wtf_compact.specs.Planned.{IsPlanned, IsPlanFault, spills}
-use Rattle.wtf_clients.specs.Views.{TablesView, of_label, metadata_now}
+use Rattle.wtf_compact.specs.Planned.{IsShort, IsSpilled, IsPlanned, IsPlanFault, spills}
+use Rattle.wtf_clients.specs.Views.{BesideView, TablesView, of_client, of_label, metadata_now}
 use Rattle.wtf_clients.specs.Sounds.{AreSound}
 use Rattle.wtf_clients.specs.Named.{TablesBytes, has_copies}
 use Rattle.wtf_clients.specs.Outcomes.{load_of_job}
 use Rattle.wtf_clients.specs.Serves.{AreBased}
 use Rattle.wtf_clients.specs.JobTurns.{Plans}
-use Rattle.wtf_clients.specs.Telling.{ListedBytes, TellsTables, AreWide, ServesTold}
+use Rattle.wtf_clients.specs.Safe.{OwnBytes, IsOwnJob, FollowsJob, Went}
+use Rattle.wtf_clients.specs.Telling.{ListedBytes, TellsTables, AreWide, HoldsOfAdded, ServesTold}
+use Rattle.wtf_clients.proofs.Added.{stored_added, added_since}
 use Rattle.wtf_clients.proofs.Caused.{plain_caused}
+use Rattle.wtf_clients.proofs.Goings.{stays_txn, stays_job, own_txn_later, own_job_later}
+use Rattle.wtf_clients.proofs.JobPins.{job_pinned}
 use Rattle.wtf_clients.proofs.JobServing.{region_bytes, short_none, plan_by}
 use Rattle.wtf_clients.proofs.JobTurning.{plan_bytes}
-use Rattle.wtf_clients.proofs.Lives.{now_bytes}
+use Rattle.wtf_clients.proofs.Lives.{now_bytes, pinned_live}
+use Rattle.wtf_clients.proofs.Pins.{number_cases}
+use Rattle.wtf_clients.proofs.SafeLaws.{map_region}
+use Rattle.wtf_clients.proofs.ScanLaws.{own_txn_along, own_job_along}
 use Rattle.wtf_clients.proofs.ToldLaws.{tables_later, lists_on, told_serves}
-use Rattle.wtf_clients.proofs.ToldServing.{told_names}
-use Rattle.wtf_clients.proofs.Unread.{slice_copies}
+use Rattle.wtf_clients.proofs.ToldServing.{all_stays, stays_told}
 
 -- slices that decode to lists have bytes that are told
 tell_slices : (size : ℕ) (told : Told) (fs : List ListFact) → TellLists (lists_in size told) fs → ListSlices (is_told told) any_slice fs
@@ -69,14 +79,31 @@ have_slices size told P (f ∷ fs) tell all slices =
       have_slices size told P fs tell.1 (All-tail Whole f fs all) slices.1,
     )
 
--- a base that was stored has what its value has
-spilled_slices : (P : List Place → Bool) (stored : List ListFact) (own : ListFact) (value : Option RegionValue) (x : RegionValue) (n : ℕ)
-    → stored ≡ own ∷ [] → value ≡ Some x → x.base ≡ Some (record { slice = own.slice; visible = n }) → MaybeBytes P any_slice value
-    → ListSlices P any_slice stored
-spilled_slices P stored own value x n one is base h =
-    let whole : MaybeBytes P any_slice (Some x) = subst (MaybeBytes P any_slice) is h in
-    let mine : BaseBytes P any_slice (Some (record { slice = own.slice; visible = n })) = subst (BaseBytes P any_slice) base whole.base in
-    subst (ListSlices P any_slice) (sym one) (mine, tt)
+-- what a job stored is the slice of its value's base
+abbrev IsBaseOf : ListFact → List ListFact → Option RegionValue → RegionValue → Type 0
+IsBaseOf own stored value x = (stored ≡ own ∷ []) × (value ≡ Some x) × (x.base ≡ Some (record { slice = own.slice; visible = x.end }))
+
+stored_own : (P : List Place → Bool) (own : ListFact) (stored : List ListFact) (value : Option RegionValue) (x : RegionValue) → IsBaseOf own stored value x
+    → ListSlices P any_slice stored → OwnBytes P value
+stored_own P own stored value x is h =
+    let both : ListSlices P any_slice (own ∷ []) = subst (ListSlices P any_slice) is.0 h in
+    subst (OwnBytes P) (sym is.1) (subst (BaseBytes P any_slice) (sym is.2) both.0)
+
+own_stored : (P : List Place → Bool) (own : ListFact) (stored : List ListFact) (value : Option RegionValue) (x : RegionValue) → IsBaseOf own stored value x
+    → OwnBytes P value → ListSlices P any_slice stored
+own_stored P own stored value x is h =
+    let whole : OwnBytes P (Some x) = subst (OwnBytes P) is.1 h in
+    let mine : BaseBytes P any_slice (Some (record { slice = own.slice; visible = x.end })) = subst (BaseBytes P any_slice) is.2 whole in
+    subst (ListSlices P any_slice) (sym is.0) (mine, tt)
+
+-- one without a base stored nothing
+short_own : (P : List Place → Bool) (stored : List ListFact) (value : Option RegionValue) → IsShort stored value → OwnBytes P value
+short_own P stored None h = tt
+short_own P stored (Some x) h = subst (BaseBytes P any_slice) (sym h.1) tt
+
+value_own : (P : List Place → Bool) (value : Option RegionValue) → MaybeBytes P any_slice value → OwnBytes P value
+value_own P None h = tt
+value_own P (Some x) h = h.base
 
 module _ {S : Type 0} {kind : StoreKind S} (laws : KindLaws kind) (old new : Dev S) (goes : GoesOn kind old new []) (lent : IsSoundDev kind old)
     (before : TablesView) (sound : AreSound before) (inside : TablesBytes (is_inside kind (stores old) old.settings) any_slice before)
@@ -96,6 +123,10 @@ module _ {S : Type 0} {kind : StoreKind S} (laws : KindLaws kind) (old new : Dev
   on : TellsOn told later
   on = tells_on laws goes.each
 
+  -- what a line adds
+  abbrev Added : (List Place → Bool) → Type 0
+  Added P = HoldsOfAdded kind (between old new) old.settings P
+
   -- ---- a plan
   module _ (after : TablesView) (x : JobView) (none : of_label before.beside.jobs j ≡ None) (plans : Plans before after j jk p r x)
       (did : IsPlanned kind old new x.target (target_region now x.target) x.value) (own : MaybeBytes (inside_of kind new) any_slice x.value) where
@@ -106,58 +137,130 @@ module _ {S : Type 0} {kind : StoreKind S} (laws : KindLaws kind) (old new : Dev
     facts = region_facts region did.under
 
     -- what was read of its base, and what was stored
+    read_slices : (P : List Place → Bool) → ListedBytes size told P before → ListSlices P any_slice facts
+    read_slices P h =
+        let Q : Slice → Bool = lists_have size told P in
+        region_slices P any_slice region did.under
+        (maybe_stays P P (λ qs is. is) Q any_slice (λ s is. refl) region (region_bytes P Q now x.target (now_bytes P Q before h)))
+
     read_tell : TellLists (lists_in size later) facts
-    read_tell =
-        let known : MaybeBytes (is_told told) (is_listed size told) region =
-        region_bytes (is_told told) (is_listed size told) now x.target (now_bytes (is_told told) (is_listed size told) before tells.names) in
-        let any : MaybeBytes (is_told told) any_slice region =
-        maybe_stays (is_told told) (is_told told) (λ qs is. is) (is_listed size told) any_slice (λ s is. refl) region known in
-        subst (λ (st : Settings). TellLists (lists_in st.region later) facts) goes.settings
-        (did.told [] tells.cache (region_slices (is_told told) any_slice region did.under any) (facts_apart_none facts))
+    read_tell = subst (λ (st : Settings). TellLists (lists_in st.region later) facts) goes.settings
+        (did.told tells.punched tells.cache (read_slices (is_told told) tells.names) (read_slices (are_apart tells.punched) tells.away))
 
     own_tell : TellLists (lists_in size later) did.stored
     own_tell = subst (λ (st : Settings). TellLists (lists_in st.region later) did.stored) goes.settings (did.told_own tells.all)
 
-    own_full : ListSlices (has_copies old.settings.replicas) any_slice did.stored
-    own_full = ⊎_elim
-        (λ some.
-        let w = did.written some in
-        let width : length (pointers_of w.own.slice) ≡ old.settings.replicas = w.slice.width ∙ ap (λ (st : Settings). st.replicas) w.goes.settings in
-        subst (ListSlices (has_copies old.settings.replicas) any_slice) (sym w.one)
-        ((slice_copies old.settings.replicas w.own.slice (len_of w.own.slice) width, refl), tt))
-        (λ empty. subst (ListSlices (has_copies old.settings.replicas) any_slice) (sym (short_none did.stored x.value (did.short empty))) tt)
+    based : (s : IsSpilled did.stored x.value) → IsBaseOf s.own did.stored x.value s.x
+    based s = (s.one, s.is, s.base)
+
+    -- what holds of the bytes that were stored holds of those of the value's base, and the other way
+    stored_bytes : (P : List Place → Bool) → ListSlices P any_slice did.stored → OwnBytes P x.value
+    stored_bytes P slices = ⊎_elim
+        (λ some. let s = did.spilled some in stored_own P s.own did.stored x.value s.x (based s) slices)
+        (λ empty. short_own P did.stored x.value (did.short empty))
         (cases_Bool (spills x.target.kind (end_of region)))
 
-    own_within : ListSlices (is_inside kind (stores new) old.settings) any_slice did.stored
-    own_within =
-        let P : List Place → Bool = is_inside kind (stores new) old.settings in
-        let value : MaybeBytes P any_slice x.value =
-        subst (λ (st : Settings). MaybeBytes (is_inside kind (stores new) st) any_slice x.value) goes.settings own in
-        ⊎_elim
-        (λ some. let s = did.spilled some in spilled_slices P did.stored s.own x.value s.x s.x.end s.one s.is s.base value)
+    own_slices : (P : List Place → Bool) → OwnBytes P x.value → ListSlices P any_slice did.stored
+    own_slices P h = ⊎_elim
+        (λ some. let s = did.spilled some in own_stored P s.own did.stored x.value s.x (based s) h)
+        (λ empty. subst (ListSlices P any_slice) (sym (short_none did.stored x.value (did.short empty))) tt)
+        (cases_Bool (spills x.target.kind (end_of region)))
+
+    -- each of these bytes was added
+    mine : (P : List Place → Bool) → Added P → ListSlices P any_slice did.stored
+    mine P added = ⊎_elim
+        (λ some.
+        let w = did.written some in
+        let In : Settings → List Place → Bool = is_inside kind (stores new) in
+        let told_own : ListSlices (is_told later) any_slice (w.own ∷ []) =
+        subst (ListSlices (is_told later) any_slice) w.one (tell_slices size later did.stored own_tell) in
+        let same : new.settings ≡ w.mid.settings = goes.settings ∙ sym w.goes.settings in
+        let within : ListSlices (In w.mid.settings) any_slice (w.own ∷ []) =
+        subst (λ (st : Settings). ListSlices (In st) any_slice (w.own ∷ [])) same
+        (subst (ListSlices (In new.settings) any_slice) w.one (own_slices (In new.settings) (value_own (In new.settings) x.value own))) in
+        let slice : SliceBytes P (Some w.own.slice) =
+        stored_added kind w.mid new _ _ w.own.slice w.slice told_own.0.0 within.0.0 P (added_since laws old w.mid new w.goes P added) in
+        subst (ListSlices P any_slice) (sym w.one) ((slice, refl), tt))
         (λ empty. subst (ListSlices P any_slice) (sym (short_none did.stored x.value (did.short empty))) tt)
         (cases_Bool (spills x.target.kind (end_of region)))
 
     -- what held of the bytes of the region holds of those of the value
-    value_told : (P : List Place → Bool) → ListedBytes size told P before → ListSlices P any_slice did.stored → MaybeBytes P (lists_have size later P) x.value
-    value_told P h slices =
+    value_told : (P : List Place → Bool) → MaybeBytes P (lists_have size later P) region → ListSlices P any_slice did.stored
+        → MaybeBytes P (lists_have size later P) x.value
+    value_told P was slices =
         let Q : Slice → Bool = lists_have size later P in
-        let was : MaybeBytes P Q region = region_bytes P Q now x.target (now_bytes P Q before (tables_later size told later P on before h)) in
         let read : ListsBytes P Q facts = lists_on size later later P (λ q byte is. is) facts read_tell in
         did.names.is_in P Q was read (have_slices size later P did.stored own_tell (did.names.lists P Q was read) slices)
 
+    carries : (P : List Place → Bool) → P [] ≡ true → Added P → ListedBytes size told P before → ListedBytes size later P after
+    carries P hole added h =
+        let Q : Slice → Bool = lists_have size later P in
+        let was : TablesBytes P Q before = tables_later size told later P on before h in
+        plan_bytes P Q before after j sound jk p r x none plans was (value_told P (region_bytes P Q now x.target (now_bytes P Q before was)) (mine P added))
+
+    -- all maps stay
+    maps : (n : ℕ) → metadata_at after.kv n ≡ metadata_at before.kv n
+    maps n = ap (λ (s : Store Key Value). metadata_at s n) plans.kv
+
+    there : (c : ℕ) (y : TxnView) → of_client after.clients c ≡ Some y → of_client before.clients c ≡ Some y
+    there c y is = ap (λ l. of_client l c) (sym plans.keeps.clients) ∙ is
+
+    -- the label's job is the one that was planned
+    this : (l : ℕ) (y : JobView) → l ≡ j → of_label after.beside.jobs l ≡ Some y → x ≡ y
+    this l y same is =
+        let both : Some x ≡ Some y = sym plans.keeps.jobs.is ∙ ap (of_label after.beside.jobs) (sym same) ∙ is in
+        cc
+
+    -- it names what its region at the base names, or it stored that itself
+    job_own : IsOwnJob size later after.kv x
+    job_own P hole base stored =
+        let at : metadata_at after.kv x.base ≡ now = maps x.base ∙ ap (metadata_at before.kv) plans.base in
+        value_told P (subst (λ (w : Map). MaybeBytes P (lists_have size later P) (target_region w x.target)) at base) (own_slices P stored)
+
+    other_own : (l : ℕ) (y : JobView) → of_label before.beside.jobs l ≡ Some y → IsOwnJob size told before.kv y → IsOwnJob size later after.kv y
+    other_own l y was owned =
+        let P : List Place → Bool = is_told told in
+        let Q : Slice → Bool = is_listed size told in
+        own_job_along size later before.kv after.kv y (maps y.base)
+        (own_job_later size told later on before.kv y
+        (map_region P Q (metadata_at before.kv y.base) (tells.names.live y.base (pinned_live before.kv y.base (job_pinned before l y sound was)))
+        y.target.inode y.target.region) owned)
+
+    went : Went size told later Added before after
+    went = record {
+      carries = carries;
+      maps = λ n pinned. maps n;
+      gc = ap (λ (b : BesideView). b.gc) plans.keeps.beside;
+      scan_tx = ap (λ (b : BesideView). b.scan_tx) plans.keeps.beside;
+      txns = λ c y is. stays_txn Added (of_client before.clients c) y (there c y is);
+      jobs = λ l y is. ⊎_elim
+          (λ same. subst (λ k. FollowsJob Added (of_label before.beside.jobs k) y) (sym same) (subst (λ o. FollowsJob Added o y) (sym none)
+          (λ P added. subst (λ (v : JobView). OwnBytes P v.value) (this l y same is) (stored_bytes P (mine P added)))))
+          (λ other. stays_job Added (of_label before.beside.jobs l) y (sym (plans.keeps.jobs.others l other) ∙ is))
+          (number_cases l j);
+      scan_jobs = λ l y is. ⊎_elim
+          (λ same. absurd (let some : None ≡ Some y = sym none ∙ ap (of_label before.beside.jobs) (sym same) ∙ is in cc))
+          (λ other. plans.keeps.others l other)
+          (number_cases l j);
+      own_txns = λ owned c y is.
+          let was = there c y is in
+          own_txn_along size later before.kv after.kv y (maps y.at.base)
+          (own_txn_later size told later on before.kv y (tells.names.each c y was).hand.base (owned c y was));
+      own_jobs = λ owned l y is. ⊎_elim
+          (λ same. subst (IsOwnJob size later after.kv) (this l y same is) job_own)
+          (λ other. let was = sym (plans.keeps.jobs.others l other) ∙ is in other_own l y was (owned l y was))
+          (number_cases l j);
+    }
+
     pub plan_told : ServesTold kind (between old new) old.settings (before, after) answer.Planned
     plan_told =
-        told_serves laws old new goes lent before tells after (load_of_job jk) answer.Planned (λ P. ListSlices P any_slice did.stored)
-        (tell_slices size later did.stored own_tell) own_full own_within
-        (λ P hole has h. plan_bytes P (lists_have size later P) before after j sound jk p r x none plans (tables_later size told later P on before h)
-        (value_told P h has))
+        told_serves laws old new goes lent before tells after (load_of_job jk) answer.Planned went
         (plain_caused kind (between old new) old.settings ⊥ (AreBased before) (AreWide old.settings told before) (load_of_job jk) answer.Planned tt)
 
   -- ---- one that failed, of the file to which the path leads
   pub plan_failed_told : IsRing old.settings.servers old.ring.now.points → (i : InodeId) → LeadsTo now p i → (why : Fault) (a : Answer)
       → fault_answer why ≡ Some a → IsPlanFault kind old new jk (region_at now i r) why → ServesTold kind (between old new) old.settings (before, before) a
   plan_failed_told ring i leads why a is fails =
-      told_names laws old new goes lent before sound inside tells before (load_of_job jk) a (λ P Q hole h. h)
+      stays_told laws old new goes lent before sound inside tells before 0 (load_of_job jk) a (all_stays before 0)
       (plan_by laws old new goes lent before sound inside ring j jk p r i leads why a is fails (AreWide old.settings told before)
       (lists_have size told (has_copies old.settings.replicas)) (λ h. h))

@@ -1,6 +1,6 @@
 -- What answered lines of clients, and dumps, made of the tables over stores that tell.
-use Rattle.std.proofs.Common.{◌≡◌, ◌⊎◌, ℕ, Bool, true, List, [], Option, None, Some, refl, sym, ap, subst, slice_get}
-use Rattle.std.specs.Prelude.{IfSome, IsSome, ⊤}
+use Rattle.std.proofs.Common.{◌≡◌, ◌⊎◌, ℕ, Bool, true, List, [], Option, None, Some, refl, sym, ap, ◌∙◌, subst, slice_get}
+use Rattle.std.specs.Prelude.{IfSome, IsSome}
 use Rattle.std.specs.Option.{option_map}
 use Rattle.wtf_base.specs.declared.fault.Fault.{Fault}
 use Rattle.wtf_base.specs.declared.fault.Fault.TheVariants as fault
@@ -11,7 +11,7 @@ use Rattle.wtf_overlay.specs.Origin.{Place}
 use Rattle.wtf_kv.specs.Stores.{Store}
 use Rattle.wtf_values.specs.declared.key.Key.{Key}
 use Rattle.wtf_values.specs.declared.value.Value.{Value}
-use Rattle.wtf_model.specs.declared.answer.Answer.{Answer}
+use Rattle.wtf_model.specs.declared.answer.Answer.{Answer, Aborted'}
 use Rattle.wtf_model.specs.declared.answer.Answer.TheVariants as answer
 use Rattle.wtf_model.specs.declared.answer.Word.{Word}
 use Rattle.wtf_model.specs.declared.op.Op.{Op}
@@ -23,34 +23,71 @@ use Rattle.wtf_meta.proofs.MapBytes.{with_bytes}
 use Rattle.wtf_meta.proofs.Named.{file_bytes}
 use Rattle.wtf_meta.proofs.Telling.{TellsOn, is_told-later}
 use Rattle.wtf_region.specs.declared.dev.Dev.{Dev}
+use Rattle.wtf_region.specs.Apart.{are_apart}
 use Rattle.wtf_region.specs.Devs.{IsSoundDev, GoesOn, stores, remembered, told_in, between}
 use Rattle.wtf_region.specs.Inside.{is_inside}
 use Rattle.wtf_region.proofs.Spans.{goes_nowhere}
 use Rattle.wtf_rw.specs.Stored.{SliceBytes}
-use Rattle.wtf_replay.specs.Built.{data_of}
 use Rattle.wtf_replay.specs.Called.{IsCalled}
 use Rattle.wtf_replay.specs.Causes.{IsOwnOf, IsCallFault, FaultAt, ReplayFault, IsCommitFault, fault_answer}
 use Rattle.wtf_replay.specs.Insides.{HandBytes, LogBytes, TxnBytes, NamesTxn, NamesNow, lists_have}
-use Rattle.wtf_replay.specs.Refusals.{call_refusal, unmade}
+use Rattle.wtf_replay.specs.Refusals.{call_refusal, step_refusal, unmade}
 use Rattle.wtf_replay.specs.Views.{TxnView, hand_of, in_hand}
 use Rattle.wtf_replay.proofs.Later.{Of, tells_on}
-use Rattle.wtf_replay.proofs.RwLaws.{told_slice, own_told_of}
+use Rattle.wtf_replay.proofs.RwLaws.{own_known}
+use Rattle.wtf_replay.specs.Replays.{IsStepped}
 use Rattle.wtf_clients.specs.Views.{Clients, TablesView, of_client, metadata_now}
 use Rattle.wtf_clients.specs.Sounds.{AreSound, Sets}
 use Rattle.wtf_clients.specs.Dumped.{LacksDump}
 use Rattle.wtf_clients.specs.Named.{TablesBytes, any_byte, has_copies}
 use Rattle.wtf_clients.specs.Outcomes.{Load, Data, no_load, HasCause, data_of_op}
 use Rattle.wtf_clients.specs.Serves.{NamesTables, IsPlain, AreBased}
-use Rattle.wtf_clients.specs.Telling.{ListedBytes, TellsTables, AreWide, ServesTold}
+use Rattle.wtf_clients.specs.Safe.{IsOwnTxn, FollowsTxn, Went}
+use Rattle.wtf_clients.specs.Telling.{ListedBytes, TellsTables, AreWide, HoldsOfAdded, ServesTold}
 use Rattle.wtf_clients.specs.Turns.{Ends, Stays}
-use Rattle.wtf_clients.proofs.Caused.{logged_plain, plain_caused, own_full}
+use Rattle.wtf_clients.proofs.Added.{own_added, own_logged}
+use Rattle.wtf_clients.proofs.Caused.{logged_plain, plain_caused}
 use Rattle.wtf_clients.proofs.Dumping.{dump_caused}
 use Rattle.wtf_clients.proofs.Lacking.{AreFullLists}
-use Rattle.wtf_clients.proofs.Lives.{now_bytes}
+use Rattle.wtf_clients.proofs.Goings.{own_txn_later, client_went, stays_went, ends_went}
+use Rattle.wtf_clients.proofs.Lists.{sets_same}
+use Rattle.wtf_clients.proofs.Lives.{now_bytes, same_reaches}
 use Rattle.wtf_clients.proofs.Making.{answered, same_answer}
 use Rattle.wtf_clients.proofs.Naming.{keeps_bytes, stays_bytes, leaves_bytes, ends_bytes}
 use Rattle.wtf_clients.proofs.Serving.{step_by, call_by, commit_by}
-use Rattle.wtf_clients.proofs.ToldLaws.{tables_weaker, tables_later, lists_on, named_tell, named_keeps, full_lists, own_inside, told_serves}
+use Rattle.wtf_clients.proofs.ToldLaws.{tables_weaker, tables_later, lists_on, named_tell, named_keeps, full_lists, told_serves}
+
+-- the number of a transaction, its base and its log stay
+abbrev KeepsLog : TxnView → TxnView → Type 0
+KeepsLog x y = (y.tx ≡ x.tx) × (y.at.base ≡ x.at.base) × (y.log ≡ x.log)
+
+stepped_by : (x y : TxnView) (a : Answer) → IsStepped x y a → KeepsLog x y
+stepped_by x y (answer.Replayed i) h = (ap (λ (z : TxnView). z.tx) h.is, h.base, ap (λ (z : TxnView). z.log) h.is)
+stepped_by x y (Aborted' i box a) h = (h.over.tx, h.over.base, h.over.log)
+stepped_by x y a h = absurd h
+
+-- they do in a step
+pub stepped_log : (x y : TxnView) (a : Answer) → IfSome (step_refusal x) (λ w. (answered Fault a (answer.Refused w)) × (y ≡ x))
+    → (step_refusal x ≡ None → IsStepped x y a) → KeepsLog x y
+stepped_log x y a stopped stepped = by (step_refusal x) refl
+  where
+    by : (r : Option Word) → step_refusal x ≡ r → KeepsLog x y
+    by None is = stepped_by x y a (stepped is)
+    by (Some w) is =
+        let both : (answered Fault a (answer.Refused w)) × (y ≡ x) = subst (λ m. IfSome m (λ v. (answered Fault a (answer.Refused v)) × (y ≡ x))) is stopped in
+        (ap (λ (z : TxnView). z.tx) both.1, ap (λ (z : TxnView). z.at.base) both.1, ap (λ (z : TxnView). z.log) both.1)
+
+-- what changes nothing
+pub all_stays : (tables : TablesView) (c : ℕ) → Stays tables tables c
+all_stays tables c = record {
+  clients = sets_same c tables.clients tables.clients refl;
+  number = refl;
+  maps = λ n le. refl;
+  versions = λ q. refl;
+  pins = λ n. refl;
+  next_tx = refl;
+  beside = refl;
+}
 
 module _ {S : Type 0} {kind : StoreKind S} (laws : KindLaws kind) (old new : Dev S) (goes : GoesOn kind old new []) (lent : IsSoundDev kind old)
     (before : TablesView) (sound : AreSound before) (inside : TablesBytes (is_inside kind (stores old) old.settings) any_slice before)
@@ -83,33 +120,41 @@ module _ {S : Type 0} {kind : StoreKind S} (laws : KindLaws kind) (old new : Dev
   plain_why : (load : Load) (a : Answer) → IsPlain a → Why load a
   plain_why load a plain = plain_caused kind (between old new) old.settings ⊥ (AreBased before) Wide load a plain
 
-  -- what names no more than was named
-  pub told_names : (after : TablesView) (load : Load) (a : Answer) → NamesTables before after → Why load a → Served after a
-  told_names after load a names why =
-      told_serves laws old new goes lent before tells after load a (λ P. ⊤) tt tt tt
-      (λ P hole none h. names P (lists_have size later P) hole (tables_later size told later P on before h)) why
+  -- what a line adds
+  abbrev Added : (List Place → Bool) → Type 0
+  Added P = HoldsOfAdded kind (between old new) old.settings P
 
-  -- so do lines that leave all that is seen of the tables
+  abbrev Gone : TablesView → Type 0
+  Gone after = Went size told later Added before after
+
+  -- lines that leave all that is seen of the tables
   pub stays_told : (after : TablesView) (c : ℕ) (load : Load) (a : Answer) → Stays before after c → Why load a → Served after a
-  stays_told after c load a st why = told_names after load a (λ P Q hole h. stays_bytes P Q before after c sound st h) why
+  stays_told after c load a st why =
+      told_serves laws old new goes lent before tells after load a
+      (stays_went size told later on Added before after c sound tells.names (of_client before.clients c) st.clients st.maps
+      (same_reaches before.kv after.kv st.pins) st.beside (λ P Q hole h. stays_bytes P Q before after c sound st h) (λ y is. is)) why
 
   pub plain_told : (after : TablesView) (c : ℕ) (a : Answer) → Stays before after c → IsPlain a → Served after a
   plain_told after c a st plain = stays_told after c no_load a st (plain_why no_load a plain)
 
-  -- and one that ended a transaction
+  -- one that ended a transaction, which left the map now
   pub leaves_told : (after : TablesView) (c : ℕ) (x : TxnView) (a : Answer) → Ends before after before.kv c x → IsPlain a → Served after a
   leaves_told after c x a ends plain =
-      told_names after no_load a (λ P Q hole h. leaves_bytes P Q before after before.kv c x sound ends refl h) (plain_why no_load a plain)
+      told_serves laws old new goes lent before tells after no_load a
+      (ends_went size told later on Added before after c sound tells.names before.kv x ends (λ P hole added h.
+      leaves_bytes P (lists_have size later P) before after before.kv c x sound ends refl (tables_later size told later P on before h)))
+      (plain_why no_load a plain)
 
   -- one that committed
   pub ends_told : (after : TablesView) (kv : Store Key Value) (c : ℕ) (x : TxnView) (a : Answer) → of_client before.clients c ≡ Some x
       → Ends before after kv c x → NamesNow kind old new before.kv kv x → IsPlain a → Served after a
   ends_told after kv c x a there ends named plain =
-      told_serves laws old new goes lent before tells after no_load a (λ P. ⊤) tt tt tt
-      (λ P hole none h. ends_bytes P (lists_have size later P) before after kv c x sound ends
+      told_serves laws old new goes lent before tells after no_load a
+      (ends_went size told later on Added before after c sound tells.names kv x ends (λ P hole added h.
+      ends_bytes P (lists_have size later P) before after kv c x sound ends
       (named_keeps laws old new goes before tells (λ R O. TxnBytes R O before.kv x × MapBytes R O (metadata_at before.kv before.kv.number))
       (λ R O. MapBytes R O (metadata_at kv kv.number)) (λ R O ok all. (all.each c x there, now_bytes R O before all)) named P hole h)
-      (tables_later size told later P on before h)) (plain_why no_load a plain)
+      (tables_later size told later P on before h))) (plain_why no_load a plain)
 
   -- ---- why bytes were not read
   -- what is seen of the tables is told
@@ -118,10 +163,23 @@ module _ {S : Type 0} {kind : StoreKind S} (laws : KindLaws kind) (old new : Dev
       let hand = (tells.names.each c x there).hand in
       with_bytes (is_told told) (is_listed size told) refl x.at.changes (metadata_at before.kv x.at.base) hand.base hand.changes
 
-  reads_now : (w : Map) → MapBytes (is_told told) (is_listed size told) w → (i : InodeId) (off n : ℕ) → AreFullLists kind old new Wide had (file_of i w) off n
-  reads_now w map i off n =
-      full_lists kind old old new on refl goes.settings tells.cache Wide (file_of i w) (is_listed size told)
-      (file_bytes (is_told told) (is_listed size told) i w map) off n
+  -- no byte of it lies in a range that was punched
+  abbrev Apart : List Place → Bool
+  Apart = are_apart tells.punched
+
+  abbrev had_apart : Slice → Bool
+  had_apart = lists_have size told Apart
+
+  seen_apart : (c : ℕ) (x : TxnView) → of_client before.clients c ≡ Some x → MapBytes Apart had_apart (seen before.kv x.at)
+  seen_apart c x there =
+      let hand = (tells.away.each c x there).hand in
+      with_bytes Apart had_apart refl x.at.changes (metadata_at before.kv x.at.base) hand.base hand.changes
+
+  reads_now : (w : Map) → MapBytes (is_told told) (is_listed size told) w → MapBytes Apart had_apart w
+      → (i : InodeId) (off n : ℕ) → AreFullLists kind old new Wide had (file_of i w) off n
+  reads_now w map away i off n =
+      full_lists kind old old new on refl goes.settings tells.punched tells.cache Wide (file_of i w) (is_listed size told) had_apart
+      (file_bytes (is_told told) (is_listed size told) i w map) (file_bytes Apart had_apart i w away) off n
 
   -- and so it is behind calls that were made once more
   reads_again : (y : TxnView) (why : Fault)
@@ -139,17 +197,23 @@ module _ {S : Type 0} {kind : StoreKind S} (laws : KindLaws kind) (old new : Dev
       named_keeps laws old f.mid f.goes before tells Was Is own f.named (is_told mid) refl
       (tables_weaker size told (is_told told) (is_told mid) (λ qs is. is_told-later told mid qs going is) before tells.names) in
       let map : MapBytes (is_told mid) (is_listed size mid) (seen before.kv f.at) =
-      with_bytes (is_told mid) (is_listed size mid) refl f.at.changes (metadata_at before.kv f.at.base) hand.base hand.changes in (
+      with_bytes (is_told mid) (is_listed size mid) refl f.at.changes (metadata_at before.kv f.at.base) hand.base hand.changes in
+      let off : HandBytes Apart (lists_have size mid Apart) before.kv (in_hand f.at f.session) =
+      named_keeps laws old f.mid f.goes before tells Was Is own f.named Apart refl tells.away in
+      let away : MapBytes Apart (lists_have size mid Apart) (seen before.kv f.at) =
+      with_bytes Apart (lists_have size mid Apart) refl f.at.changes (metadata_at before.kv f.at.base) off.base off.changes in (
         λ wide. lists_on size told mid (has_copies old.settings.replicas) going f.named.lists tell,
-        λ i off n. full_lists kind old f.mid new on f.goes.settings goes.settings (f.goes.lists [] tells.cache) Wide (file_of i (seen before.kv f.at))
-            (is_listed size mid) (file_bytes (is_told mid) (is_listed size mid) i (seen before.kv f.at) map) off n,
+        λ i off n. full_lists kind old f.mid new on f.goes.settings goes.settings tells.punched (f.goes.lists tells.punched tells.cache) Wide
+            (file_of i (seen before.kv f.at)) (is_listed size mid) (lists_have size mid Apart)
+            (file_bytes (is_told mid) (is_listed size mid) i (seen before.kv f.at) map)
+            (file_bytes Apart (lists_have size mid Apart) i (seen before.kv f.at) away) off n,
       )
 
   pub step_why : (c : ℕ) (x : TxnView) (why : Fault) (a : Answer) → of_client before.clients c ≡ Some x → fault_answer why ≡ Some a
       → (why ≡ fault.Memory) ⊎ FaultAt kind old new before.kv (hand_of x) (slice_get x.log.ops x.replayed) why → Why no_load a
   step_why c x why a there is cause =
       step_by laws old new goes lent before sound inside Wide had (λ h. h) c x why a there is
-      (reads_now (seen before.kv x.at) (seen_told c x there)) cause
+      (reads_now (seen before.kv x.at) (seen_told c x there) (seen_apart c x there)) cause
 
   pub commit_why : (c : ℕ) (x : TxnView) (why : Fault) (a : Answer) → of_client before.clients c ≡ Some x → fault_answer why ≡ Some a
       → IsCommitFault kind old new before.kv x why → Why no_load a
@@ -161,7 +225,8 @@ module _ {S : Type 0} {kind : StoreKind S} (laws : KindLaws kind) (old new : Dev
   dump_why p why a is cause =
       dump_caused laws old new lent (metadata_now before.kv) p (now_bytes (is_inside kind (stores old) old.settings) any_slice before inside)
       (AreBased before) Wide had (λ Q based. now_bytes any_byte Q before based) (λ h. now_bytes (has_copies old.settings.replicas) had before h)
-      (λ i n. reads_now (metadata_now before.kv) (now_bytes (is_told told) (is_listed size told) before tells.names) i 0 n) why a is cause
+      (λ i n. reads_now (metadata_now before.kv) (now_bytes (is_told told) (is_listed size told) before tells.names)
+      (now_bytes Apart had_apart before tells.away) i 0 n) why a is cause
 
   -- ---- a client's transaction goes on
   module _ (clients : Clients) (c : ℕ) (x y : TxnView) (there : of_client before.clients c ≡ Some x) (sets : Sets c (Some y) before.clients clients) where
@@ -178,21 +243,53 @@ module _ {S : Type 0} {kind : StoreKind S} (laws : KindLaws kind) (old new : Dev
         keeps_bytes P Q before called c y sound (record { clients = sets; kv = refl; next_tx = refl; beside = refl })
         (subst (TxnBytes P Q before.kv) (sym same) (h.each c x there)) h
 
-    -- a call with its slice, or one that was made once more
-    goes_told : (load : Load) (a : Answer) (own : Option Slice) → NamesTxn kind old new before.kv x y own → SliceBytes (is_told later) own
-        → SliceBytes (has_copies old.settings.replicas) own → SliceBytes (is_inside kind (stores new) old.settings) own → Why load a → Served called a
-    goes_told load a own named own_told own_full own_within why =
-        told_serves laws old new goes lent before tells called load a (λ P. SliceBytes P own) own_told own_full own_within
-        (λ P hole has h. keeps_told P h
-        (named_keeps laws old new goes before tells (λ R O. TxnBytes R O before.kv x) (λ R O. SliceBytes R own → TxnBytes R O before.kv y)
-        (λ R O ok all. all.each c x there) named P hole h has)) why
+    -- it is what it was
+    same_gone : y ≡ x → Gone called
+    same_gone same =
+        stays_went size told later on Added before called c sound tells.names (Some y) sets (λ n le. refl)
+        (same_reaches before.kv before.kv (λ n. refl)) refl (same_names same) (λ z is. there ∙ ap Some (sym same) ∙ is)
 
-    pub step_told : (a : Answer) → NamesTxn kind old new before.kv x y None → IsPlain a → Served called a
-    step_told a named plain = goes_told no_load a None named tt tt tt (plain_why no_load a plain)
+    -- A call with its slice, or one that was made once more: its log has the slice behind what it had, which is all that it stored. Each byte of
+    -- it was added.
+    goes_told : (load : Load) (a : Answer) (own : Option Slice) → NamesTxn kind old new before.kv x y own → y.tx ≡ x.tx → y.at.base ≡ x.at.base
+        → ((P : List Place → Bool) → LogBytes P x.log → SliceBytes P own → LogBytes P y.log)
+        → ((P : List Place → Bool) → LogBytes P y.log → LogBytes P x.log × SliceBytes P own)
+        → ((P : List Place → Bool) → Added P → SliceBytes P own) → Why load a → Served called a
+    goes_told load a own named tx base grows back mine why =
+        told_serves laws old new goes lent before tells called load a
+        (client_went size told later on Added before called c (Some y) sound sets (λ n le. refl) (same_reaches before.kv before.kv (λ n. refl)) refl
+        tells.names
+        (λ P hole added h. keeps_told P h
+        (named_keeps laws old new goes before tells (λ R O. TxnBytes R O before.kv x) (λ R O. SliceBytes R own → TxnBytes R O before.kv y)
+        (λ R O ok all. all.each c x there) named P hole h (mine P added)))
+        (λ z is. subst (FollowsTxn Added (of_client before.clients c)) (some_same y z is)
+        (subst (λ o. FollowsTxn Added o y) (sym there) (tx, λ P added log. grows P log (mine P added))))
+        (λ z is owned. subst (IsOwnTxn size later before.kv) (some_same y z is) (own_goes owned))) why
+      where
+        some_same : (u v : TxnView) → Some u ≡ Some v → u ≡ v
+        some_same u v e = cc
+
+        -- what it names is named by the map at its base, or it stored that itself
+        own_goes : ((z : TxnView) → of_client before.clients c ≡ Some z → IsOwnTxn size told before.kv z) → IsOwnTxn size later before.kv y
+        own_goes owned P hole map log =
+            let parts = back P log in
+            let Q : Slice → Bool = lists_have size later P in
+            let was : TxnBytes P Q before.kv x =
+            own_txn_later size told later on before.kv x (tells.names.each c x there).hand.base (owned x there) P hole
+            (subst (λ b. MapBytes P Q (metadata_at before.kv b)) base map) parts.0 in
+            let tell = named_tell laws old new goes before tells (λ R O. TxnBytes R O before.kv x) (λ R O. SliceBytes R own → TxnBytes R O before.kv y)
+            (λ R O ok all. all.each c x there) named in
+            named.names P Q hole was (lists_on size later later P (λ q byte is. is) named.lists tell) parts.1
+
+    pub step_told : (a : Answer) → NamesTxn kind old new before.kv x y None → KeepsLog x y → IsPlain a → Served called a
+    step_told a named kept plain =
+        goes_told no_load a None named kept.0 kept.1
+        (λ P had none. subst (LogBytes P) (sym kept.2) had) (λ P had. (subst (LogBytes P) kept.2 had, tt)) (λ P added. tt) (plain_why no_load a plain)
 
     pub step_failed_told : (a : Answer) → y ≡ x → Why no_load a → Served called a
-    step_failed_told a same why = told_names called no_load a (same_names same) why
+    step_failed_told a same why = told_serves laws old new goes lent before tells called no_load a (same_gone same) why
 
+    -- a call, which stored its own slice
     pub call_told : (o : Op (List ℕ)) (a : Answer) → IfSome (unmade x) (λ b. (answered Fault a b) × (y ≡ x) × (new ≡ old))
         → (unmade x ≡ None → (own : Option Slice) × IsCalled x y o own a × IsOwnOf kind old new (seen before.kv x.at) x.session o own
         × NamesTxn kind old new before.kv x y own × (IsSome own → a ≡ answer.Okay)) → Served called a
@@ -202,28 +299,31 @@ module _ {S : Type 0} {kind : StoreKind S} (laws : KindLaws kind) (old new : Dev
         by None is =
             let free : unmade x ≡ None = ap (option_map answer.Refused) is in
             let did = made free in
-            let tell = own_told_of kind old new (seen before.kv x.at) x.session o did.0 goes.each.same_length tells.all did.2 in
-            goes_told (Data (data_of_op o)) a did.0 did.3 (told_slice later did.0 (data_of o) tell)
-            (own_full kind old new (seen before.kv x.at) x.session o did.0 did.2) (own_inside kind old new (seen before.kv x.at) x.session o did.0 did.2)
+            let keeps = own_known kind old new (seen before.kv x.at) x.session did.1.kept o did.0 did.1.kept_is did.2 in
+            let logged = own_logged x y o did.0 a did.1 keeps in
+            goes_told (Data (data_of_op o)) a did.0 did.3 did.1.logged.tx did.1.logged.grows.base logged.0 logged.1
+            (own_added kind old new (seen before.kv x.at) x.session o did.0 goes.each.same_length tells.all did.2)
             (plain_why (Data (data_of_op o)) a (logged_plain a did.1.logged.answer))
         by (Some w) is =
             let held : unmade x ≡ Some (answer.Refused w) = ap (option_map answer.Refused) is in
             let all : (answered Fault a (answer.Refused w)) × (y ≡ x) × (new ≡ old) =
             subst (λ m. IfSome m (λ b. (answered Fault a b) × (y ≡ x) × (new ≡ old))) held stopped in
             let word : answer.Refused w ≡ a = sym (same_answer Fault a (answer.Refused w) all.0) in
-            told_names called (Data (data_of_op o)) a (same_names all.1) (plain_why (Data (data_of_op o)) a (subst IsPlain word tt))
+            told_serves laws old new goes lent before tells called (Data (data_of_op o)) a (same_gone all.1)
+            (plain_why (Data (data_of_op o)) a (subst IsPlain word tt))
 
     pub call_failed_told : (o : Op (List ℕ)) (why : Fault) (a : Answer) → fault_answer why ≡ Some a → y ≡ x
         → IsCallFault kind old new (seen before.kv x.at) x.session o why → Served called a
     call_failed_told o why a is same cause =
-        told_names called (Data (data_of_op o)) a (same_names same)
+        told_serves laws old new goes lent before tells called (Data (data_of_op o)) a (same_gone same)
         (call_by laws old new goes lent before sound inside Wide had (λ h. h) c x o why a there is
-        (reads_now (seen before.kv x.at) (seen_told c x there)) cause)
+        (reads_now (seen before.kv x.at) (seen_told c x there) (seen_apart c x there)) cause)
 
 -- a line that changed nothing
 pub same_told : {S : Type 0} {kind : StoreKind S} → KindLaws kind → (dev : Dev S) → IsSoundDev kind dev → (before after : TablesView) → AreSound before
     → TablesBytes (is_inside kind (stores dev) dev.settings) any_slice before → after ≡ before → (a : Answer) → IsPlain a
     → TellsTables kind (stores dev) dev.settings (remembered dev) before → ServesTold kind (between dev dev) dev.settings (before, after) a
 same_told {kind = kind} laws dev lent before after sound inside same a plain tells =
-    told_names laws dev dev (goes_nowhere laws dev lent) lent before sound inside tells after no_load a (λ P Q hole h. subst (TablesBytes P Q) (sym same) h)
+    stays_told laws dev dev (goes_nowhere laws dev lent) lent before sound inside tells after 0 no_load a
+    (subst (λ (t : TablesView). Stays before t 0) (sym same) (all_stays before 0))
     (plain_caused kind (between dev dev) dev.settings ⊥ (AreBased before) (AreWide dev.settings (told_in kind dev) before) no_load a plain)

@@ -58,7 +58,7 @@ width_of n [] some h = absurd (omega arith)
 width_of n (p ∷ ps) some h = eqb-true (length (p ∷ ps)) n h
 
 -- and a slice of so many copies has as many places for each byte
-copies_by : (n : ℕ) (places : List Place) → length places ≡ n → has_copies n places ≡ true
+pub copies_by : (n : ℕ) (places : List Place) → length places ≡ n → has_copies n places ≡ true
 copies_by n [] is = refl
 copies_by n (p ∷ ps) is = eq-eqb (length (p ∷ ps)) n is
 

@@ -1,5 +1,5 @@
 -- What a line asks of the stores: the bytes that it hands in, where they go, and why it may fail.
-use Rattle.std.specs.Prelude.{◌≡◌, ◌⊎◌, ◌<◌, ◌*◌, ℕ, List, length, Some, ⊤, slice_get}
+use Rattle.std.specs.Prelude.{◌≡◌, ◌⊎◌, ◌<◌, ◌*◌, ℕ, true, List, length, Some, ⊤, slice_get}
 use Rattle.wtf_base.specs.declared.fault.Fault.{Fault}
 use Rattle.wtf_base.specs.declared.ids.InodeId.{InodeId}
 use Rattle.wtf_base.specs.declared.settings.Settings.{Settings}
@@ -9,6 +9,11 @@ use Rattle.wtf_ring.specs.Points.{PlaceView, IsRing}
 use Rattle.wtf_replica.specs.Spans.{Span}
 use Rattle.wtf_replica.specs.Copies.{IsStored}
 use Rattle.wtf_replica.specs.Outs.{SameLengths}
+use Rattle.wtf_replica.specs.Faults.{IsPunchFault}
+use Rattle.wtf_overlay.specs.Origin.{Place}
+use Rattle.wtf_kv.specs.Stores.{Store}
+use Rattle.wtf_values.specs.declared.key.Key.{Key}
+use Rattle.wtf_values.specs.declared.value.Value.{Value}
 use Rattle.wtf_model.specs.declared.answer.Answer.{Answer}
 use Rattle.wtf_model.specs.declared.answer.Answer.TheVariants as answer
 use Rattle.wtf_model.specs.declared.event.Event.{Event}
@@ -24,22 +29,38 @@ use Rattle.wtf_meta.specs.Maps.{Map, seen}
 use Rattle.wtf_meta.specs.Sessions.{SessionView, handle_in}
 use Rattle.wtf_meta.specs.Trees.{LeadsTo}
 use Rattle.wtf_region.specs.declared.dev.Dev.{Dev}
-use Rattle.wtf_region.specs.Devs.{between, place_in}
+use Rattle.wtf_region.specs.Cached.{Remembered}
+use Rattle.wtf_region.specs.Devs.{between, place_in, remembered}
 use Rattle.wtf_rw.specs.Stored.{end_place}
 use Rattle.wtf_replay.specs.Causes.{FaultAt, IsCallFault, IsCommitFault, fault_answer}
 use Rattle.wtf_replay.specs.Views.{TxnView, hand_of}
 use Rattle.wtf_compact.specs.Jobs.{region_at}
 use Rattle.wtf_compact.specs.Planned.{IsPlanFault}
+use Rattle.wtf_gc.specs.Scans.{IsPrunedFrom, IsPieceFault}
+use Rattle.wtf_gc.specs.Views.{is_garbage}
 use Rattle.wtf_clients.specs.Views.{TablesView, of_client, metadata_now}
 use Rattle.wtf_clients.specs.Dumped.{LacksDump}
-use Rattle.wtf_clients.specs.Outcomes.{Load, Data, RegionList, load_of, AddsOneList}
+use Rattle.wtf_clients.specs.Outcomes.{Load, Data, RegionList, Frees, load_of, AddsOneList}
 
--- Devices that a line was lent and left: the stores and the servers that are down are those of its span, the settings are
--- these, and the ring is that of the servers.
-pub record IsLent {S : Type 0} (t : Span S) (settings : Settings) (old new : Dev S) : Type 0 where
+-- What a line is lent beside the stores: the settings, and the lists that were remembered before it.
+pub record Lending : Type 0 where
+  pub settings : Settings
+  pub lists : Remembered
+
+abbrev pub lending : Settings → Remembered → Lending
+lending settings lists = record { settings = settings; lists = lists }
+
+-- what devices lend
+abbrev pub lent_by : {S : Type 0} → Dev S → Lending
+lent_by dev = lending dev.settings (remembered dev)
+
+-- Devices that a line was lent and left: the stores and the servers that are down are those of its span, the settings and the lists that were
+-- remembered before it are these, and the ring is that of the servers.
+pub record IsLent {S : Type 0} (t : Span S) (lent : Lending) (old new : Dev S) : Type 0 where
   pub span_is : between old new ≡ t
-  pub settings_are : old.settings ≡ settings
-  pub ring_is : IsRing settings.servers old.ring.now.points
+  pub settings_are : old.settings ≡ lent.settings
+  pub lists_are : remembered old ≡ lent.lists
+  pub ring_is : IsRing lent.settings.servers old.ring.now.points
 
 -- Where the bytes of a call go, by the map and the handles of its transaction: those that are written to the region of the
 -- handle's offset, and those that are appended to that of the file's end.
@@ -71,9 +92,23 @@ pub record LacksPlan {S : Type 0} (kind : StoreKind S) (old new : Dev S) (w : Ma
   pub leads : LeadsTo w p inode
   pub cause : IsPlanFault kind old new jk (region_at w inode r) why
 
+-- a list that the next parts of a scan have to read was not read, a base of a version that is kept
+pub record LacksPart {S : Type 0} (kind : StoreKind S) (old new : Dev S) (tables : TablesView) (k : ℕ) (why : Fault) : Type 0 where
+  pub kept : Store Key Value
+  pub pruned : IsPrunedFrom tables.kv kept
+  pub cause : IsPieceFault kind old new kept tables.beside.gc.running k why
+
+-- a server has garbage, and it is out
+pub record LacksPunch {S : Type 0} (kind : StoreKind S) (old new : Dev S) (tables : TablesView) (k : ℕ) (why : Fault) : Type 0 where
+  pub place : Place
+  pub server : place.server ≡ k
+  pub garbage : is_garbage tables.beside.gc place ≡ true
+  pub cause : IsPunchFault kind (between old new) k why
+
 -- Why a line fails: a call for want of servers, of a byte that it is to show, or of a list of a file that it reads or takes; a step
 -- for want of one for the call which it replays; a commit for want of one for those that it replays, with what is then in hand; a
--- dump for want of a byte or a list of the file; a plan for want of the region's list, and a spill for want of servers.
+-- dump for want of a byte or a list of the file; a plan for want of the region's list, and a spill for want of servers; a piece for want of
+-- a list of its parts; and a collection for want of its server.
 abbrev pub IsLineFault : {S : Type 0} → StoreKind S → (old new : Dev S) → TablesView → Event → Fault → Type 0
 IsLineFault kind old new tables (event.Client c (verb.Call o)) why = OfClient tables c (λ x. IsCallFault kind old new (seen tables.kv x.at) x.session o why)
 IsLineFault kind old new tables (event.Client c verb.Step) why =
@@ -81,6 +116,8 @@ IsLineFault kind old new tables (event.Client c verb.Step) why =
 IsLineFault kind old new tables (event.Client c verb.Commit) why = OfClient tables c (λ x. IsCommitFault kind old new tables.kv x why)
 IsLineFault kind old new tables (event.Dump p) why = LacksDump kind old new (metadata_now tables.kv) p why
 IsLineFault kind old new tables (event.Plan j jk p r) why = LacksPlan kind old new (metadata_now tables.kv) jk p r why
+IsLineFault kind old new tables (event.Piece k) why = LacksPart kind old new tables k why
+IsLineFault kind old new tables (event.Collect k) why = LacksPunch kind old new tables k why
 IsLineFault kind old new tables e why = ⊥
 
 -- what a line is to store, where that is to go, that there is nothing of it, and why it may fail
@@ -90,12 +127,12 @@ pub record Asked : Type 1 where
   pub empty : Type 0
   pub fails : Fault → Type 0
 
-abbrev pub asked_of : {S : Type 0} → StoreKind S → Span S → Settings → TablesView → Event → Asked
-asked_of {S} kind t settings tables e = record {
+abbrev pub asked_of : {S : Type 0} → StoreKind S → Span S → Lending → TablesView → Event → Asked
+asked_of {S} kind t lent tables e = record {
   given = load_of e;
-  goes_to = λ place. (old : Dev S) × (new : Dev S) × IsLent t settings old new × IsLinePlace old tables e place;
+  goes_to = λ place. (old : Dev S) × (new : Dev S) × IsLent t lent old new × IsLinePlace old tables e place;
   empty = IsLineEmpty tables e;
-  fails = λ why. (old : Dev S) × (new : Dev S) × IsLent t settings old new × IsLineFault kind old new tables e why;
+  fails = λ why. (old : Dev S) × (new : Dev S) × IsLent t lent old new × IsLineFault kind old new tables e why;
 }
 
 -- bytes that were handed in and answered `ok` were stored where they go; and so was the list of a region that a spill planned, but if there
@@ -105,6 +142,7 @@ IsPlacedBy kind t settings asked (Data bytes) a = a ≡ answer.Okay → 0 < leng
     → (place : PlaceView) × asked.goes_to place × (slice : Slice) × IsStored kind t settings.replicas place bytes slice
 IsPlacedBy kind t settings asked RegionList a = a ≡ answer.Planned
     → (asked.empty × SameLengths kind t.before t.after) ⊎ ((asked.empty → ⊥) × AddsOneList kind t settings asked.goes_to)
+IsPlacedBy kind t settings asked (Frees k) a = ⊤
 
 abbrev pub IsPlaced : {S : Type 0} → StoreKind S → Span S → Settings → Asked → Answer → Type 0
 IsPlaced kind t settings asked a = IsPlacedBy kind t settings asked asked.given a

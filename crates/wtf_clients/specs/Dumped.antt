@@ -1,8 +1,8 @@
 -- The bytes of a whole file: what a dump shows, and why it did not.
-use Rattle.std.specs.Prelude.{◌≡◌, ◌≤◌, ◌*◌, ℕ, min, nat_le, List, [], length, Some, if◌then◌else◌, ⊤}
+use Rattle.std.specs.Prelude.{◌≡◌, ◌≤◌, ◌*◌, ℕ, min, nat_le, List, length, Some, if◌then◌else◌, ⊤}
 use Rattle.wtf_base.specs.declared.fault.Fault.{Fault}
 use Rattle.wtf_base.specs.declared.ids.InodeId.{InodeId}
-use Rattle.wtf_dev.specs.Store.{StoreKind}
+use Rattle.wtf_dev.specs.Store.{Range, StoreKind}
 use Rattle.wtf_model.specs.declared.answer.Answer.{Answer}
 use Rattle.wtf_model.specs.declared.answer.Answer.TheVariants as answer
 use Rattle.wtf_model.specs.declared.answer.Word.TheVariants.{Long}
@@ -10,7 +10,7 @@ use Rattle.wtf_model.specs.declared.limits.TheConstants.{MAX_DUMPED, MAX_REGIONS
 use Rattle.wtf_model.specs.Lawful.{dumped, or_refusal}
 use Rattle.wtf_model.specs.Tree.{Tree}
 use Rattle.wtf_values.specs.declared.value.Node.TheVariants.{File}
-use Rattle.wtf_meta.specs.Bytes.{MapBytes}
+use Rattle.wtf_meta.specs.Bytes.{MapBytes, any_slice}
 use Rattle.wtf_meta.specs.Contents.{Told, is_told, is_listed}
 use Rattle.wtf_meta.specs.FileEdits.{file_of}
 use Rattle.wtf_meta.specs.Files.{FileView, file_len}
@@ -18,6 +18,7 @@ use Rattle.wtf_meta.specs.Maps.{Map}
 use Rattle.wtf_meta.specs.Trees.{IsBody, Stands}
 use Rattle.wtf_index.specs.Checks.{stands_at}
 use Rattle.wtf_region.specs.declared.dev.Dev.{Dev}
+use Rattle.wtf_region.specs.Apart.{are_apart}
 use Rattle.wtf_region.specs.Cached.{Remembered, CacheTrue}
 use Rattle.wtf_rw.specs.Reads.{LacksRead}
 
@@ -31,16 +32,21 @@ IsDumpAnswer (answer.Shown bytes) = ⊤
 IsDumpAnswer (answer.Refused w) = ⊤
 IsDumpAnswer a = ⊥
 
--- Over stores that tell each byte of a map, with the lists of its bases, the answer shows the file of an inode; where each list that
--- was remembered is what the bytes of its slice decode to, if these are told.
+-- Each list that is remembered is what the bytes of its slice decode to, if these are told, but where a byte of the slice lies in a range that
+-- was punched; and a map names no byte of these ranges.
+abbrev pub IsTrueFor : ℕ → Told → Remembered → Map → Type 0
+IsTrueFor size told lists w = (ranges : List (ℕ × Range)) × CacheTrue told size ranges lists × MapBytes (are_apart ranges) any_slice w
+
+-- Over stores that tell each byte of a map, with the lists of its bases, the answer shows the file of an inode; where the lists that were
+-- remembered are true for the map.
 abbrev pub IsShownFile : ℕ → Told → Remembered → Map → InodeId → Answer → Type 0
 IsShownFile size told lists w i a =
-    CacheTrue told size [] lists → MapBytes (is_told told) (is_listed size told) w → (bytes : List ℕ) → IsBody size told w i bytes → a ≡ file_answer bytes
+    IsTrueFor size told lists w → MapBytes (is_told told) (is_listed size told) w → (bytes : List ℕ) → IsBody size told w i bytes → a ≡ file_answer bytes
 
 -- on each tree for which the map stands, it is that of the definitions
 abbrev pub IsDumped : ℕ → Told → Remembered → Map → List ℕ → Answer → Type 0
 IsDumped size told lists w p a =
-    CacheTrue told size [] lists → (tx k : ℕ) (t : Tree) → Stands size told tx k w t → a ≡ or_refusal (dumped t p)
+    IsTrueFor size told lists w → (tx k : ℕ) (t : Tree) → Stands size told tx k w t → a ≡ or_refusal (dumped t p)
 
 -- the bytes of a file that is not too long were not shown, since a list of it was not read, or some of the bytes; no file is longer
 -- than its greatest number of regions

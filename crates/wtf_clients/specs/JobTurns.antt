@@ -1,6 +1,6 @@
 -- What a line of a job makes of the tables, over every device.
 -- NSDI 2016, section 2.8 (lists of regions are compacted, and written into slices of their own, beside the calls of clients).
-use Rattle.std.specs.Prelude.{◌≡◌, ℕ, nat_eq, List, [], ◌∷◌, ◌++◌, true, false, is_some, Option, Some, None, Ok, MatchOption}
+use Rattle.std.specs.Prelude.{◌≡◌, ◌≢◌, ℕ, nat_eq, List, [], ◌∷◌, ◌++◌, true, false, is_some, Option, Some, None, Ok, MatchOption}
 use Rattle.std.specs.Set.{remove_key}
 use Rattle.wtf_base.specs.declared.fault.Fault.{Fault}
 use Rattle.wtf_kv.specs.Stores.{IsPinnedOnceMore}
@@ -25,14 +25,16 @@ use Rattle.wtf_compact.specs.declared.target.Target.{Target}
 use Rattle.wtf_compact.specs.Jobs.{JobView, IsJobOf, target_region}
 use Rattle.wtf_compact.specs.Planned.{KeepsRegion, IsShort, IsSpilled, spills}
 use Rattle.wtf_compact.specs.Putting.{IsPut}
-use Rattle.wtf_clients.specs.Views.{TablesView, of_label, with_jobs, metadata_now}
+use Rattle.wtf_clients.specs.Planning.{refusal_of}
+use Rattle.wtf_clients.specs.Views.{TablesView, of_label, was_job, with_labels, metadata_now}
 use Rattle.wtf_clients.specs.Sounds.{SetsJob}
 use Rattle.wtf_clients.specs.Turns.{Tells, Reads}
 
 -- All is what it was but for the store of the metadata and the job of label j; that is now this one, or none.
 pub record KeepsOthers (old new : TablesView) (j : ℕ) (now : Option JobView) : Type 0 where
   pub jobs : SetsJob j now old.beside.jobs new.beside.jobs
-  pub beside : new.beside ≡ with_jobs old.beside new.beside.jobs
+  pub others : (l : ℕ) → l ≢ j → was_job new.beside l ≡ was_job old.beside l
+  pub beside : new.beside ≡ with_labels old.beside new.beside.jobs new.beside.scan_jobs
   pub clients : new.clients ≡ old.clients
   pub next_tx : new.next_tx ≡ old.next_tx
 
@@ -59,26 +61,30 @@ pub record IsMadeOf (t : Target) (now value : Option RegionValue) : Type 0 where
   pub short : spills t.kind (end_of now) ≡ false → IsShort stored value
   pub spilled : spills t.kind (end_of now) ≡ true → IsSpilled stored value
 
--- a job of this value was planned at the number, which it pins
+-- A job of this value was planned at the number, which it pins. It was not open when the last scan began.
 pub record Plans (old new : TablesView) (j : ℕ) (kind : JobKind) (p : List ℕ) (r : ℕ) (x : JobView) : Type 0 where
   pub keeps : KeepsOthers old new j (Some x)
+  pub unmarked : was_job new.beside j ≡ false
   pub kv : new.kv ≡ record old.kv { pins = old.kv.pins ++ old.kv.number ∷ [] }
   pub pinned : IsPinnedOnceMore old.kv.number old.kv new.kv
   pub base : x.base ≡ old.kv.number
   pub job : IsJobOf (metadata_now old.kv) p r kind x
   pub made : IsMadeOf x.target (target_region (metadata_now old.kv) x.target) x.value
 
--- a job was put in place, or is stale, and has ended; the pin of its base is undone
+-- A job was put in place, or is stale, and has ended; the pin of its base is undone. The labels that were open when the last scan began are
+-- marked as they were.
 pub record Puts (old new : TablesView) (j : ℕ) (x : JobView) (a : Answer) : Type 0 where
   pub keeps : KeepsOthers old new j None
+  pub marks : new.beside.scan_jobs ≡ old.beside.scan_jobs
   pub put : IsPut x old.kv new.kv a
   pub maps : KeepsMaps old.kv new.kv
   pub unpinned : IsPinnedOnceMore x.base new.kv old.kv
 
--- a job was dropped
+-- a job was dropped; the marks stay
 pub record DropsJob (old new : TablesView) (j : ℕ) (x : JobView) (a : Answer) : Type 0 where
   pub answer : a ≡ answer.Okay
   pub keeps : KeepsOthers old new j None
+  pub marks : new.beside.scan_jobs ≡ old.beside.scan_jobs
   pub kv : new.kv ≡ record old.kv { pins = remove_key (nat_eq x.base) old.kv.pins }
   pub unpinned : IsPinnedOnceMore x.base new.kv old.kv
 
@@ -91,27 +97,30 @@ DropTurn old new j a = MatchOption (of_label old.beside.jobs j) (RefusesJob old 
 -- `Telling` says that the stores tell their content: `told` before the line and `later` after it; these lists are remembered of slices
 -- before it; there are so many servers, and a region has `size` bytes
 module _ (Telling : Type 0) (lists : Remembered) (servers size : ℕ) (told later : Told) where
-  -- What was read of the region's base is what its slice decodes to, as reads of calls are; and what was stored is so over stores that tell.
-  -- There it keeps the bytes of the region.
+  -- The map gives no reason against it. What was read of the region's base is what its slice decodes to, as reads of calls are; and what was
+  -- stored is so over stores that tell. There it keeps the bytes of the region.
   pub record PlansSoundly (old new : TablesView) (j : ℕ) (kind : JobKind) (p : List ℕ) (r : ℕ) : Type 0 where
     pub job : JobView
     pub plans : Plans old new j kind p r job
     pub known : (Reads Telling lists servers size told later).known (region_facts (target_region (metadata_now old.kv) job.target) plans.made.under)
     pub own : Telling → TellLists (lists_in size later) plans.made.stored
+    pub free : refusal_of size (metadata_now old.kv) p r ≡ None
     pub due : (tx k : ℕ) (t : Tree) → Stands size told tx k (metadata_now old.kv) t → plan_due size t p r ≡ answer.Planned
-    pub keeps : Tells Telling lists servers size told later (metadata_now old.kv)
+    pub keeps : Tells Telling lists servers size told later old (metadata_now old.kv)
         → KeepsRegion size later (target_region (metadata_now old.kv) job.target) job.value
 
-  -- no job was planned, since the file or the region is not there
+  -- no job was planned, for the first reason that the map gives against one; and each tree for which it stands gives the same
   pub record PlanRefused (old new : TablesView) (p : List ℕ) (r : ℕ) (w : Word) : Type 0 where
     pub same : new ≡ old
+    pub word : refusal_of size (metadata_now old.kv) p r ≡ Some w
     pub due : (tx k : ℕ) (t : Tree) → Stands size told tx k (metadata_now old.kv) t → plan_due size t p r ≡ answer.Refused w
 
-  -- or a fault of the stores came where one was due
+  -- or a fault of the stores came where the map gives none, and one was due
   pub record PlanFails (old new : TablesView) (kind : JobKind) (p : List ℕ) (r : ℕ) (a : Answer) : Type 0 where
     pub why : Fault
     pub answer : fault_answer why ≡ Some a
     pub same : new ≡ old
+    pub free : refusal_of size (metadata_now old.kv) p r ≡ None
     pub may : (tx k : ℕ) (t : Tree) → Stands size told tx k (metadata_now old.kv) t → MayFailPlan servers kind (plan_due size t p r) a
 
   abbrev pub FreePlan : TablesView → TablesView → ℕ → JobKind → List ℕ → ℕ → Answer → Type 0

@@ -7,10 +7,13 @@ pub mod Saves
 pub mod Turns
 pub mod Planning
 pub mod JobTurns
+pub mod ScanTurns
 pub mod Named
+pub mod Safe
 pub mod Outcomes
 pub mod Dumped
 pub mod Asked
 pub mod Serves
 pub mod Telling
 pub mod Keeping
+pub mod Off

@@ -41,10 +41,12 @@ abbrev pub data_of : Event → List ℕ
 data_of (event.Client c v) = data_of_verb v
 data_of other = []
 
--- what a line is to store: bytes that it hands in, or the list of a region, which is in no line
+-- what a line asks of the stores but to be read: to store bytes that it hands in, or the list of a region, which is in no line; or to free
+-- what is garbage of a server
 pub data Load : Type 0 where
   Data : (bytes : List ℕ) → Load
   RegionList : Load
+  Frees : (k : ℕ) → Load
 
 -- nothing
 abbrev pub no_load : Load
@@ -56,12 +58,14 @@ load_of_job Spill = RegionList
 
 abbrev pub load_of : Event → Load
 load_of (event.Plan j kind p r) = load_of_job kind
+load_of (event.Collect k) = Frees k
 load_of e = Data (data_of e)
 
 -- there is a byte to store
 abbrev pub HasToStore : Load → Type 0
 HasToStore (Data bytes) = 0 < length bytes
 HasToStore RegionList = ⊤
+HasToStore (Frees k) = ⊥
 
 -- Behind reads, the bytes of this list were stored in its slice, at a place that is as P says: once on each server that is to have a copy.
 pub record AddsThisList {S : Type 0} (kind : StoreKind S) (t : Span S) (settings : Settings) (P : PlaceView → Type 0) (own : ListFact) : Type 0 where
@@ -142,14 +146,19 @@ abbrev pub SaveFault : {S : Type 0} → StoreKind S → Span S → Settings → 
 SaveFault kind t settings rose event.Save = SomeOut kind t settings.servers ⊎ rose
 SaveFault kind t settings rose e = ⊥
 
+-- why server j failed to free what is garbage of it: it is out
+abbrev pub PunchFault : {S : Type 0} → StoreKind S → Span S → Load → ℕ → Type 0
+PunchFault kind t (Frees k) j = (j ≡ k) × IsOut kind t j
+PunchFault kind t load j = ⊥
+
 -- Why a line is answered by a fault: `fault read K` where a byte that it needs was not read, `damaged K` where what was read as
--- a list is none, `fault write` where fewer servers than replicas are not out and there are bytes to store, and `fault save` for
--- `saving`. No line answers another fault.
+-- a list is none, `fault write` where fewer servers than replicas are not out and there are bytes to store, `fault punch K` where the line
+-- is to free what is garbage of server K, which is out, and `fault save` for `saving`. No line answers another fault.
 abbrev pub HasCause : {S : Type 0} → StoreKind S → Span S → Settings → (saving : Type 0) → (based : (Slice → Bool) → Type 0) → (full : Type 0) → Load → Answer
     → Type 0
 HasCause kind t settings saving based full load (answer.FaultRead k) = IsUnread kind t settings full k
 HasCause kind t settings saving based full load answer.FaultWrite = HasToStore load × AreTooFew kind t settings.servers settings.replicas
-HasCause kind t settings saving based full load (answer.FaultPunch k) = ⊥
+HasCause kind t settings saving based full load (answer.FaultPunch k) = PunchFault kind t load k
 HasCause kind t settings saving based full load answer.FaultSave = saving
 HasCause kind t settings saving based full load (answer.Damaged k) = IsNoList kind t settings based k
 HasCause kind t settings saving based full load a = ⊤

@@ -1,5 +1,5 @@
 -- Whether a job may be of a region, by the map alone.
-use Rattle.std.specs.Prelude.{ℕ, ◌&&◌, nat_le, nat_lt, Bool, if◌then◌else◌, Option, None, Some}
+use Rattle.std.specs.Prelude.{ℕ, ◌&&◌, nat_le, nat_lt, Bool, List, if◌then◌else◌, Option, None, Some}
 use Rattle.wtf_base.specs.declared.ids.InodeId.{InodeId}
 use Rattle.wtf_model.specs.declared.limits.TheConstants.{MAX_REGIONS}
 use Rattle.wtf_model.specs.declared.answer.Answer.{Answer}
@@ -11,6 +11,7 @@ use Rattle.wtf_values.specs.declared.value.Node.TheVariants.{Folder, File}
 use Rattle.wtf_meta.specs.FileEdits.{file_of}
 use Rattle.wtf_meta.specs.Files.{end_of}
 use Rattle.wtf_meta.specs.Maps.{Map}
+use Rattle.wtf_index.specs.Checks.{stands_at}
 use Rattle.wtf_compact.specs.Jobs.{region_at}
 
 -- Region r is one of the file, where a region has `size` bytes. Of a file of a tree that is said by its last region alone.
@@ -22,6 +23,10 @@ abbrev pub refusal_at : ℕ → Map → ℕ → Option Node → Option Word
 refusal_at size w r None = Some NoEnt
 refusal_at size w r (Some Folder) = Some IsDir
 refusal_at size w r (Some (File i)) = if has_region size w i r then None else Some NoRegion
+
+-- and of the file at path p
+abbrev pub refusal_of : ℕ → Map → List ℕ → ℕ → Option Word
+refusal_of size w p r = refusal_at size w r (stands_at w p)
 
 -- and so it is answered
 abbrev pub plan_answer : Option Word → Answer

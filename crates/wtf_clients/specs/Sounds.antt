@@ -11,6 +11,7 @@ use Rattle.wtf_replay.specs.Views.{TxnView}
 use Rattle.wtf_replay.specs.Fits.{IsFit}
 use Rattle.wtf_replay.specs.Tried.{KeepsVersions, KeepsPins}
 use Rattle.wtf_compact.specs.Jobs.{JobView}
+use Rattle.wtf_gc.specs.Views.{RunView}
 use Rattle.wtf_clients.specs.Views.{Clients, of_client, set_client, without_hands, Jobs, of_label, BesideView, TablesView, metadata_now}
 
 -- how many pins of a number a transaction owns: one, of its base
@@ -38,11 +39,16 @@ planned n (Some x) = if nat_eq n x.base then 1 else 0
 abbrev pub all_planned : ℕ → Jobs → ℕ
 all_planned n jobs = sum_by (planned n) jobs
 
--- how many pins of a number the images own that may be on the keeper, one each, and the jobs
-abbrev pub all_kept : ℕ → BesideView → ℕ
-all_kept n beside = count_by (nat_eq n) beside.images + all_planned n beside.jobs
+-- how many pins of a number the scan owns that runs: one for each time that it has seen it
+abbrev pub all_seen : ℕ → Option RunView → ℕ
+all_seen n None = 0
+all_seen n (Some r) = count_by (nat_eq n) r.seen
 
--- Each transaction goes on, on a base that is pinned. A number is pinned as often as a transaction, an image or a job owns it. No
+-- how many pins of a number the images own that may be on the keeper, one each, the jobs, and the scan that runs
+abbrev pub all_kept : ℕ → BesideView → ℕ
+all_kept n beside = count_by (nat_eq n) beside.images + all_planned n beside.jobs + all_seen n beside.gc.running
+
+-- Each transaction goes on, on a base that is pinned. A number is pinned as often as a transaction, an image, a job or a scan owns it. No
 -- number that is pinned, and no image, is of an install to come. No two transactions have one number, and none has the number 0.
 pub record AreSound (tables : TablesView) : Type 0 where
   pub begun : 0 < tables.next_tx
@@ -67,7 +73,7 @@ pub record SetsJob (j : ℕ) (now : Option JobView) (old new : Jobs) : Type 0 wh
 
 -- What want of memory leaves: the transactions in their order, but for what they have in hand, where handles may have moved;
 -- the number, the map now, the versions of each key, how often each number is pinned, the next transaction's number, what may be
--- on the keeper, and the jobs.
+-- on the keeper, the jobs, and the scans.
 pub record IsAlike (old new : TablesView) : Type 0 where
   pub clients : without_hands new.clients ≡ without_hands old.clients
   pub number : new.kv.number ≡ old.kv.number

@@ -11,7 +11,7 @@ use Rattle.wtf_model.specs.declared.event.Event.{Event}
 use Rattle.wtf_model.specs.declared.event.Event.TheVariants as event
 use Rattle.wtf_compact.specs.Jobs.{JobView, target_region}
 use Rattle.wtf_clients.specs.Views.{TablesView, of_label, metadata_now}
-use Rattle.wtf_clients.specs.Asked.{asked_of}
+use Rattle.wtf_clients.specs.Asked.{Lending, asked_of}
 use Rattle.wtf_clients.specs.Outcomes.{AddsThisList}
 use Rattle.wtf_clients.specs.JobTurns.{IsMadeOf}
 
@@ -25,7 +25,7 @@ pub record StoresJob {S : Type 0} (kind : StoreKind S) (t : Span S) (settings : 
   pub written : All (AddsThisList kind t settings P) made.stored
 
 -- so does a line that planned one, where that is to go
-abbrev pub StoresPlan : {S : Type 0} → StoreKind S → Span S → Settings → TablesView × TablesView → Event → Answer → Type 0
-StoresPlan kind t settings tables (event.Plan j jk p r) answer.Planned =
-    StoresJob kind t settings tables j (asked_of kind t settings tables.0 (event.Plan j jk p r)).goes_to
-StoresPlan kind t settings tables e a = ⊤
+abbrev pub StoresPlan : {S : Type 0} → StoreKind S → Span S → Lending → TablesView × TablesView → Event → Answer → Type 0
+StoresPlan kind t lent tables (event.Plan j jk p r) answer.Planned =
+    StoresJob kind t lent.settings tables j (asked_of kind t lent tables.0 (event.Plan j jk p r)).goes_to
+StoresPlan kind t lent tables e a = ⊤

@@ -1,24 +1,29 @@
 -- When the tables stand for the machine of the definitions: committed transactions ran whole, one by one, on one tree.
 -- NSDI 2016, sections 2.6 and 2.7.
-use Rattle.std.specs.Prelude.{◌≡◌, ◌≤◌, ℕ, true, List, Option, Some, None, ⊤}
+use Rattle.std.specs.Prelude.{◌≡◌, ◌≤◌, ◌<◌, ◌-◌, ◌^◌, ℕ, Bool, true, false, min, nat_lt, List, Option, Some, None, option_map, IsTrue, ⊤}
 use Rattle.std.specs.List.{Contains}
 use Rattle.std.specs.FinMap.{get}
-use Rattle.wtf_kv.specs.Stores.{Store}
+use Rattle.wtf_kv.specs.Stores.{Store, is_live}
 use Rattle.wtf_values.specs.declared.key.Key.{Key}
+use Rattle.wtf_values.specs.declared.key.Key.TheVariants.{Region}
+use Rattle.wtf_values.specs.declared.region.RegionValue.{RegionValue}
 use Rattle.wtf_values.specs.declared.value.Value.{Value}
+use Rattle.wtf_values.specs.declared.value.Value.TheVariants as value
 use Rattle.wtf_model.specs.Tree.{Tree, root_alone}
 use Rattle.wtf_model.specs.Transaction.{Transaction, Job}
 use Rattle.wtf_model.specs.Machines.{Machine}
+use Rattle.wtf_model.specs.Scans.{was_open}
 use Rattle.wtf_meta.specs.Bytes.{MaybeBytes}
 use Rattle.wtf_meta.specs.Contents.{Told, is_told, is_listed}
-use Rattle.wtf_meta.specs.Maps.{metadata_at}
+use Rattle.wtf_meta.specs.Maps.{Map, metadata_at}
 use Rattle.wtf_meta.specs.Trees.{LeadsTo, Stands}
 use Rattle.wtf_image.specs.Savable.{AreBefore}
 use Rattle.wtf_replay.specs.Views.{TxnView}
 use Rattle.wtf_replay.specs.Sounds.{IsSound}
 use Rattle.wtf_compact.specs.Jobs.{JobView, target_region}
 use Rattle.wtf_compact.specs.Planned.{KeepsRegion}
-use Rattle.wtf_clients.specs.Views.{TablesView, of_client, of_label, metadata_now}
+use Rattle.wtf_gc.specs.Views.{RunView}
+use Rattle.wtf_clients.specs.Views.{TablesView, of_client, of_label, was_job, metadata_now}
 use Rattle.wtf_clients.specs.Touched.{Touched, above, SinceBase}
 
 -- A transaction is that of the machine: the same calls with what was shown of them, as many of them done, on the same base.
@@ -74,3 +79,33 @@ pub record TablesStand (size : ℕ) (told : Told) (tables : TablesView) (m : Mac
   pub before : AreBefore tables.next_tx (metadata_now tables.kv)
   pub none : tables.beside.none ≡ true → Contains m.may_be_saved root_alone
   pub images : (n : ℕ) → Contains tables.beside.images n → IsImageTree size told tables n m.may_be_saved
+
+-- What the machine and the tables know of the open ones' age. Each stamp of the machine is of a line before the next one that makes one. The
+-- stamps of transactions ascend as their numbers do. What was open when the last scan began is, of transactions, what has a number below
+-- `scan_tx`, and, of jobs, what has a label that is marked.
+pub record StampsStand (tables : TablesView) (m : Machine) : Type 0 where
+  pub listed : (s : ℕ) → Contains m.scan_list s → s < m.next_stamp
+  pub begun : tables.beside.scan_tx ≤ tables.next_tx
+  pub txns : (c : ℕ) (x : TxnView) (t : Transaction) → of_client tables.clients c ≡ Some x → get m.transactions c ≡ Some t
+      → (t.stamp < m.next_stamp) × (was_open m t.stamp ≡ nat_lt x.tx tables.beside.scan_tx)
+  pub order : (c d : ℕ) (x y : TxnView) (t u : Transaction) → of_client tables.clients c ≡ Some x → get m.transactions c ≡ Some t
+      → of_client tables.clients d ≡ Some y → get m.transactions d ≡ Some u → x.tx < y.tx → t.stamp < u.stamp
+  pub jobs : (j : ℕ) (x : JobView) (t : Job) → of_label tables.beside.jobs j ≡ Some x → get m.jobs j ≡ Some t
+      → (t.stamp < m.next_stamp) × (was_open m t.stamp ≡ was_job tables.beside j)
+
+-- only the key of a region has a region's value
+abbrev pub is_region_key : Key → Bool
+is_region_key (Region i r) = true
+is_region_key q = false
+
+abbrev pub HasKinds : Map → Type 0
+HasKinds w = (q : Key) (v : RegionValue) → w q ≡ Some (value.Region v) → is_region_key q ≡ true
+
+-- The scans are those of the machine: as many parts are left of one that runs, and as many have finished, up to the greatest number that the
+-- tables count to. In each map that can be read only regions name bytes: the others are no parts of a scan.
+pub record ScansStand (tables : TablesView) (m : Machine) : Type 0 where
+  pub stamps : StampsStand tables m
+  pub parts : m.parts_left ≡ option_map (λ (r : RunView). r.left) tables.beside.gc.running
+  pub some : (r : RunView) → tables.beside.gc.running ≡ Some r → 0 < r.left
+  pub scans : tables.beside.gc.finished ≡ min m.scans (2 ^ 64 - 1)
+  pub kinds : (n : ℕ) → IsTrue (is_live tables.kv n) → HasKinds (metadata_at tables.kv n)

@@ -42,6 +42,7 @@ use Rattle.wtf_replay.specs.Installs.{Installs}
 use Rattle.wtf_replay.specs.Replays.{IsReplayed, DeviatesOn}
 use Rattle.wtf_clients.specs.Views.{TablesView, of_client, metadata_now}
 use Rattle.wtf_clients.specs.Sounds.{Sets}
+use Rattle.wtf_clients.specs.Named.{ListedBytes}
 
 -- client c has now this transaction, or none; the store of the metadata, and what stands beside them, are what they were
 pub record Keeps (old new : TablesView) (c : ℕ) (now : Option TxnView) : Type 0 where
@@ -125,24 +126,30 @@ pub record Fails (old new : TablesView) (c : ℕ) (a : Answer) : Type 0 where
   pub answer : fault_answer why ≡ Some a
   pub stays : Stays old new c
 
--- There are so many servers, and a region has `size` bytes; the stores tell this; and these lists were remembered, each what the bytes of its
--- slice decode to, where these are told.
+-- Lists that are remembered are what the bytes of their slices decode to, where these are told, but where a byte of the slice lies in a range
+-- that was punched; and the tables name no byte of these ranges.
+pub record AreTrue (size : ℕ) (told : Told) (lists : Remembered) (tables : TablesView) : Type 0 where
+  pub ranges : List (ℕ × Range)
+  pub cache : CacheTrue told size ranges lists
+  pub away : ListedBytes size told (are_apart ranges) tables
+
+-- There are so many servers, and a region has `size` bytes; the stores tell this; and these lists were remembered.
 module _ (servers size : ℕ) (told : Told) (lists : Remembered) where
   -- The dump of a path shows the bytes of the file on each tree for which the map now stands, or is refused; where it is to
   -- show bytes a fault of the stores may come in their place. It leaves all as it was.
   pub record Dumps (old new : TablesView) (p : List ℕ) (a : Answer) : Type 0 where
     pub stays : (c : ℕ) → Stays old new c
-    pub built : a ≢ answer.NotBuilt
-    pub shows : CacheTrue told size [] lists → (tx k : ℕ) (t : Tree) → Stands size told tx k (metadata_now old.kv) t
+    pub uncollected : (n : ℕ) → a ≢ answer.Collected n
+    pub shows : AreTrue size told lists old → (tx k : ℕ) (t : Tree) → Stands size told tx k (metadata_now old.kv) t
         → (a ≡ or_refusal (dumped t p)) ⊎ MayFailRead servers (or_refusal (dumped t p)) a
 
 -- `Telling` says that the stores tell their content: `told` before the line and `later` after it; these lists are remembered of
 -- slices before it; there are so many servers, and a region has `size` bytes
 module _ (Telling : Type 0) (lists : Remembered) (servers size : ℕ) (told later : Told) where
-  -- each list that is remembered is what the bytes of its slice decode to, where these are told; and the stores also tell each byte
-  -- of a map, those that the lists of its bases name too
-  abbrev pub Tells : Map → Type 0
-  Tells w = Telling × CacheTrue told size [] lists × MapBytes (is_told told) (is_listed size told) w
+  -- the lists that are remembered are those of their slices; and the stores also tell each byte of a map, those that the lists of its bases
+  -- name too
+  abbrev pub Tells : TablesView → Map → Type 0
+  Tells old w = Telling × AreTrue size told lists old × MapBytes (is_told told) (is_listed size told) w
 
   -- lists that were read are those that their slices decode to, but where a range has a byte of one; if the lists that are remembered
   -- are so, and the bytes of the slices were told
@@ -164,7 +171,7 @@ module _ (Telling : Type 0) (lists : Remembered) (servers size : ℕ) (told late
     pub known : Reads.known facts
     pub acts : Acts (sight_at size old.kv x.tx x.replayed (hand_of x) facts) (data_len o) own o a x.at later_one.at
     pub fit : IsFit old.kv later_one
-    pub sound : Tells (metadata_at old.kv x.at.base) → (ops : List (Op (List ℕ))) → IsSound size old.kv told x ops
+    pub sound : Tells old (metadata_at old.kv x.at.base) → (ops : List (Op (List ℕ))) → IsSound size old.kv told x ops
         → IsSound size old.kv later later_one (ops ++ o ∷ [])
 
   -- or a fault of the stores came in place of the answer that is due
@@ -180,14 +187,14 @@ module _ (Telling : Type 0) (lists : Remembered) (servers size : ℕ) (told late
     pub replayed : IsReplayed x later_one i
     pub acts : Redoes Reads old.kv x x.replayed (hand_of x) (hand_of later_one)
     pub fit : IsFit old.kv later_one
-    pub sound : Tells (metadata_at old.kv x.at.base) → (ops : List (Op (List ℕ))) → IsSound size old.kv told x ops
+    pub sound : Tells old (metadata_at old.kv x.at.base) → (ops : List (Op (List ℕ))) → IsSound size old.kv told x ops
         → IsSound size old.kv later later_one ops
 
   -- the next call answered otherwise at the base, and the transaction has ended
   pub record Aborts (old new : TablesView) (c : ℕ) (x : TxnView) (i : ℕ) (a : Answer) : Type 0 where
     pub index : i ≡ x.replayed + 1
     pub ends : Ends old new old.kv c x
-    pub deviates : Tells (metadata_at old.kv x.at.base) → (ops : List (Op (List ℕ))) → IsSound size old.kv told x ops
+    pub deviates : Tells old (metadata_at old.kv x.at.base) → (ops : List (Op (List ℕ))) → IsSound size old.kv told x ops
         → DeviatesOn (metadata_at old.kv x.at.base) size told x ops i a
 
   -- bytes or lists of the next call were not read, which would not be refused
@@ -203,7 +210,7 @@ module _ (Telling : Type 0) (lists : Remembered) (servers size : ℕ) (told late
     pub number : mid.number ≡ n
     pub installs : Installs Reads old.kv mid (commit_from old.kv x) n
     pub ends : Ends old new mid c x
-    pub final : Tells (metadata_at old.kv x.at.base) → Tells (metadata_now old.kv) → (ops : List (Op (List ℕ))) → IsSound size old.kv told x ops
+    pub final : Tells old (metadata_at old.kv x.at.base) → Tells old (metadata_now old.kv) → (ops : List (Op (List ℕ))) → IsSound size old.kv told x ops
         → IsFinal size later old.kv mid x ops n
 
   -- run on the map now, the calls first answer otherwise than was shown at call i, and there a
@@ -212,13 +219,13 @@ module _ (Telling : Type 0) (lists : Remembered) (servers size : ℕ) (told late
     pub number : mid.number ≡ old.kv.number
     pub versions : KeepsVersions old.kv mid
     pub ends : Ends old new mid c x
-    pub deviates : Tells (metadata_at old.kv x.at.base) → Tells (metadata_now old.kv) → (ops : List (Op (List ℕ))) → IsSound size old.kv told x ops
+    pub deviates : Tells old (metadata_at old.kv x.at.base) → Tells old (metadata_now old.kv) → (ops : List (Op (List ℕ))) → IsSound size old.kv told x ops
         → DeviatesOn (metadata_now old.kv) size told x ops i a
 
   -- bytes or lists of a call that was replayed were not read
   pub record CommitFails (old new : TablesView) (c : ℕ) (x : TxnView) (a : Answer) : Type 0 where
     pub fails : Fails old new c a
-    pub may : Tells (metadata_at old.kv x.at.base) → Tells (metadata_now old.kv) → (ops : List (Op (List ℕ))) → IsSound size old.kv told x ops
+    pub may : Tells old (metadata_at old.kv x.at.base) → Tells old (metadata_now old.kv) → (ops : List (Op (List ℕ))) → IsSound size old.kv told x ops
         → (t : Tree) → Stands size told x.tx 0 (metadata_now old.kv) t → IsReadFault servers a
 
   abbrev pub Steps : TablesView → TablesView → ℕ → TxnView → Answer → Type 0

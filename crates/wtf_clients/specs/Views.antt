@@ -1,5 +1,6 @@
--- What contracts see of the tables: the store of the metadata with the open transactions, the jobs, and the images on the keeper.
-use Rattle.std.specs.Prelude.{◌≡◌, ℕ, Bool, true, List, [], ◌∷◌, ◌++◌, map, replicate, length, Option, None, Some, is_some, if◌then◌else◌, nat_eq}
+-- What contracts see of the tables: the store of the metadata with the open transactions, the jobs, the images on the keeper, and the scans.
+use Rattle.std.specs.Prelude.{◌≡◌, ℕ, Bool, true, false, List, [], ◌∷◌, ◌++◌, map, replicate, length, Option, None, Some, is_some, if◌then◌else◌, nat_eq}
+use Rattle.std.specs.Prelude.{slice_index_or}
 use Rattle.std.specs.Map.{lookup, set_value, remove_entry}
 use Rattle.wtf_kv.specs.Stores.{Store}
 use Rattle.wtf_values.specs.declared.key.Key.{Key}
@@ -9,6 +10,7 @@ use Rattle.wtf_model.specs.declared.limits.TheConstants.{MAX_JOBS}
 use Rattle.wtf_meta.specs.Sessions.{at_label, nothing_open}
 use Rattle.wtf_replay.specs.Views.{TxnView}
 use Rattle.wtf_compact.specs.Jobs.{JobView}
+use Rattle.wtf_gc.specs.Views.{GcView, new_gc}
 
 -- the open transactions by client, in the order of their begin
 abbrev pub Clients : Type 0
@@ -43,24 +45,44 @@ no_jobs = replicate MAX_JOBS None
 abbrev pub of_label : Jobs → ℕ → Option JobView
 of_label jobs j = at_label jobs j
 
+-- no label
+abbrev pub no_labels : List Bool
+no_labels = replicate MAX_JOBS false
+
 -- What stands beside the store and the clients: the numbers of the images that may be on the keeper, and whether it may still hold
--- nothing; and the jobs.
+-- nothing; the jobs; and the scans of what is in use, with what was open when the last one began: the transactions of a number below
+-- `scan_tx`, and the jobs of these labels that are the same still.
 pub record BesideView : Type 0 where
   pub images : List ℕ
   pub none : Bool
   pub jobs : Jobs
+  pub gc : GcView
+  pub scan_tx : ℕ
+  pub scan_jobs : List Bool
 
--- nothing was saved yet, and there is no job
+-- nothing was saved yet, there is no job, and no scan has begun
 abbrev pub unsaved : BesideView
-unsaved = record { images = []; none = true; jobs = no_jobs }
+unsaved = record { images = []; none = true; jobs = no_jobs; gc = new_gc; scan_tx = 0; scan_jobs = no_labels }
+
+-- the job of a label was open when the last scan began
+abbrev pub was_job : BesideView → ℕ → Bool
+was_job beside j = slice_index_or beside.scan_jobs j false
 
 -- other jobs
 abbrev pub with_jobs : BesideView → Jobs → BesideView
 with_jobs beside jobs = record beside { jobs = jobs }
 
+-- and other labels of jobs that were open when the last scan began
+abbrev pub with_labels : BesideView → Jobs → List Bool → BesideView
+with_labels beside jobs labels = record beside { jobs = jobs; scan_jobs = labels }
+
+-- another state of the scans
+abbrev pub with_gc : BesideView → GcView → BesideView
+with_gc beside gc = record beside { gc = gc }
+
 -- there is a place for each label
-abbrev pub AreLabelled : Jobs → Type 0
-AreLabelled jobs = length jobs ≡ MAX_JOBS
+abbrev pub AreLabelled : {A : Type 0} → List A → Type 0
+AreLabelled labels = length labels ≡ MAX_JOBS
 
 -- the store of the metadata, the number of the transaction that begins next, the open transactions, and what stands beside them
 pub record TablesView : Type 0 where

@@ -78,10 +78,7 @@ pub(crate) fn plan_refusal(
     ensures { IfOk result (λ w. w ≡ refusal_at settings.region (metadata_now kv.now) region
         (stands_at (metadata_now kv.now) p.now)) }
 {
-    let node = match node_now(alloc, kv, p) {
-        Ok(node) => node,
-        Err(why) => return Err(why),
-    };
+    let node = node_now(alloc, kv, p)?;
     match node {
         None => Ok(Some(Word::NoEnt)),
         Some(Node::Folder) => Ok(Some(Word::IsDir)),

@@ -7,9 +7,11 @@ ghost use Rattle.wtf_dev.specs.Each.{EachFollows};
 ghost use Rattle.wtf_replica.specs.Downs.{settings_of, during};
 ghost use Rattle.wtf_model.specs.declared.event.Event.TheVariants as event;
 ghost use Rattle.wtf_meta.specs.Bytes.{any_slice};
+ghost use Rattle.wtf_region.specs.Cached.{Remembered};
 ghost use Rattle.wtf_region.specs.Inside.{is_inside};
 ghost use Rattle.wtf_clients.specs.Sounds.{AreSound};
 ghost use Rattle.wtf_clients.specs.Named.{TablesBytes};
+ghost use Rattle.wtf_clients.specs.Asked.{lending};
 ghost use Rattle.wtf_clients.specs.Serves.{ServesEvent};
 ghost use Rattle.wtf_clients.specs.Saves.{AreUp, SaveTurn};
 ghost use Rattle.wtf_clients.specs.Keeping.{KeeperTurn, keeper_span};
@@ -37,10 +39,10 @@ impl Tables {
         requires inside { TablesBytes (is_inside S.kind shelf.old settings) any_slice self.old }
         ensures turn { IfOk result (SaveTurn (AreUp replicas.now settings.servers)
             self.old self.new) }
-        ensures serves { IfOk result (ServesEvent S.kind
-            (during replicas.now shelf.old shelf.new) settings
+        ensures serves { IfOk result (λ a. (lists : Remembered) → ServesEvent S.kind
+            (during replicas.now shelf.old shelf.new) (lending settings lists)
             (Rose (K.view keeper.old).faults (K.view keeper.new).faults)
-            (self.old, self.new) event.Save) }
+            (self.old, self.new) event.Save a) }
         ensures keeper { IfOk result (KeeperTurn S.kind
             (during replicas.now shelf.old shelf.new)
             (keeper_span K.view K.follows keeper.old keeper.new) settings

@@ -22,10 +22,15 @@ ghost use Rattle.wtf_image.specs.Saving.{IsSaveOf};
 ghost use Rattle.wtf_model.specs.declared.limits.TheConstants.{MAX_JOBS};
 ghost use Rattle.wtf_clients.specs.Turns.{Refuses, Begins, TryTurn, Drops, Dumps, ClientTurn};
 ghost use Rattle.wtf_clients.specs.JobTurns.{PlanTurn, PutTurn, DropTurn};
+ghost use Rattle.wtf_clients.specs.ScanTurns.{ScanTurn, PieceTurn, CollectTurn, IsPruned, NoneOld, HoldsBack, SeesUpto};
+ghost use Rattle.wtf_clients.specs.Safe.{LieIn};
+ghost use Rattle.wtf_replica.specs.Inside.{size_in};
+ghost use Rattle.wtf_replica.specs.Outs.{SameLengths, SameSyncs};
 ghost use Rattle.wtf_clients.specs.Named.{TablesBytes};
+ghost use Rattle.wtf_clients.specs.Asked.{lent_by};
 ghost use Rattle.wtf_clients.specs.Serves.{ServesLine};
 ghost use Rattle.wtf_clients.specs.Spilling.{StoresPlan};
-ghost use Rattle.wtf_clients.specs.Telling.{TellsTables, ServesTold};
+ghost use Rattle.wtf_clients.specs.Telling.{TellsTables, ServesTold, ReadsTold};
 
 use crate::beside::Beside;
 use crate::dump::dump_now;
@@ -36,18 +41,18 @@ use std::alloc::Global;
 use std::marker::Model;
 use wtf_base::{Bytes, OutOfMemory, Settings, TxId};
 use wtf_compact::{PutFault, drop_job, plan, put};
-use wtf_dev::SliceStore;
+use wtf_dev::{Shelf, SliceStore};
 use wtf_image::{Loaded, save};
 use wtf_kv::Kv;
-use wtf_model::{Answer, JobKind, Op, Word};
+use wtf_model::{Answer, Holder, JobKind, Op, Word};
 use wtf_path::Path;
 use wtf_region::Dev;
 use wtf_replay::Txn;
 use wtf_values::{Key, NameSet, Node, Value};
 
 /// The store of the metadata, the number of the transaction that begins next, the open transactions
-/// by client, in the order of their begin, and, beside them, which images may be on the keeper and the
-/// jobs by label.
+/// by client, in the order of their begin, and, beside them, which images may be on the keeper, the jobs
+/// by label and the scans.
 #[derive(Drop)]
 pub struct Tables {
     alloc: Global,
@@ -94,30 +99,21 @@ impl Tables {
         ensures first { IfOk result (λ t. IsFirst (metadata_now t.kv)) }
         ensures sound { IfOk result (λ t. AreSound t) }
     {
-        let mut kv: Kv<Key, Value> = match Kv::new(alloc) {
-            Ok(kv) => kv,
-            Err(why) => return Err(why),
-        };
+        let mut kv: Kv<Key, Value> = Kv::new(alloc)?;
         let root = match Path::parse(alloc, b"/") {
             Ok(root) => root,
             Err(_) => return Err(OutOfMemory),
         };
-        let top = match root.copy(alloc) {
-            Ok(top) => top,
-            Err(why) => return Err(why),
-        };
-        if let Err(why) = kv.seed(Key::Path(root), Value::Node(Node::Folder)) {
-            return Err(why);
-        }
-        if let Err(why) = kv.seed(Key::Dir(top), Value::Names(NameSet::new(alloc))) {
-            return Err(why);
-        }
+        let top = root.copy(alloc)?;
+        kv.seed(Key::Path(root), Value::Node(Node::Folder))?;
+        kv.seed(Key::Dir(top), Value::Names(NameSet::new(alloc)))?;
+        let beside = Beside::new(alloc)?;
         Ok(Tables {
             alloc,
             kv,
             next_tx: 1,
             clients: IndexMap::new(alloc),
-            beside: Beside::new(alloc),
+            beside,
         })
     }
 
@@ -134,13 +130,8 @@ impl Tables {
     {
         let mut kv = loaded.kv;
         let number = kv.number();
-        if let Err(why) = kv.pin(number) {
-            return Err(why);
-        }
-        let beside = match Beside::of(alloc, number) {
-            Ok(beside) => beside,
-            Err(why) => return Err(why),
-        };
+        kv.pin(number)?;
+        let beside = Beside::of(alloc, number)?;
         Ok(Tables {
             alloc,
             kv,
@@ -218,7 +209,7 @@ impl Tables {
             (byte_at S.kind (stores dev.old)) (byte_at S.kind (stores dev.new))
             self.old self.new c (verb.Call op) a) }
         ensures serves { IfOk result (ServesLine S.kind (between dev.old dev.new)
-            dev.old.settings self.old self.new (event.Client c (verb.Call op))) }
+            (lent_by dev.old) self.old self.new (event.Client c (verb.Call op))) }
         ensures told { IfOk result (λ a. TellsTables S.kind (stores dev.old) dev.old.settings
             (remembered dev.old) self.old → ServesTold S.kind (between dev.old dev.new)
             dev.old.settings (self.old, self.new) a) }
@@ -275,7 +266,7 @@ impl Tables {
             (byte_at S.kind (stores dev.old)) (byte_at S.kind (stores dev.new))
             self.old self.new c verb.Step a) }
         ensures serves { IfOk result (ServesLine S.kind (between dev.old dev.new)
-            dev.old.settings self.old self.new (event.Client c verb.Step)) }
+            (lent_by dev.old) self.old self.new (event.Client c verb.Step)) }
         ensures told { IfOk result (λ a. TellsTables S.kind (stores dev.old) dev.old.settings
             (remembered dev.old) self.old → ServesTold S.kind (between dev.old dev.new)
             dev.old.settings (self.old, self.new) a) }
@@ -314,7 +305,7 @@ impl Tables {
             (byte_at S.kind (stores dev.old)) (byte_at S.kind (stores dev.new))
             self.old self.new c verb.Commit a) }
         ensures serves { IfOk result (ServesLine S.kind (between dev.old dev.new)
-            dev.old.settings self.old self.new (event.Client c verb.Commit)) }
+            (lent_by dev.old) self.old self.new (event.Client c verb.Commit)) }
         ensures told { IfOk result (λ a. TellsTables S.kind (stores dev.old) dev.old.settings
             (remembered dev.old) self.old → ServesTold S.kind (between dev.old dev.new)
             dev.old.settings (self.old, self.new) a) }
@@ -347,7 +338,7 @@ impl Tables {
         ensures turn { IfOk result (Dumps dev.old.settings.servers dev.old.settings.region
             (byte_at S.kind (stores dev.old)) (remembered dev.old) self.old self.new p.now) }
         ensures serves { IfOk result (ServesLine S.kind (between dev.old dev.new)
-            dev.old.settings self.old self.new (event.Dump p.now)) }
+            (lent_by dev.old) self.old self.new (event.Dump p.now)) }
         ensures told { IfOk result (λ a. TellsTables S.kind (stores dev.old) dev.old.settings
             (remembered dev.old) self.old → ServesTold S.kind (between dev.old dev.new)
             dev.old.settings (self.old, self.new) a) }
@@ -398,9 +389,9 @@ impl Tables {
             (byte_at S.kind (stores dev.old)) (byte_at S.kind (stores dev.new))
             self.old self.new j kind p.now region) }
         ensures serves { IfOk result (ServesLine S.kind (between dev.old dev.new)
-            dev.old.settings self.old self.new (event.Plan j kind p.now region)) }
+            (lent_by dev.old) self.old self.new (event.Plan j kind p.now region)) }
         ensures stores { IfOk result (StoresPlan S.kind (between dev.old dev.new)
-            dev.old.settings (self.old, self.new) (event.Plan j kind p.now region)) }
+            (lent_by dev.old) (self.old, self.new) (event.Plan j kind p.now region)) }
         ensures told { IfOk result (λ a. TellsTables S.kind (stores dev.old) dev.old.settings
             (remembered dev.old) self.old → ServesTold S.kind (between dev.old dev.new)
             dev.old.settings (self.old, self.new) a) }
@@ -423,7 +414,7 @@ impl Tables {
             Ok(job) => job,
             Err(why) => return answer_to(why),
         };
-        self.beside.set_job(j, job);
+        self.beside.plan_job(j, job);
         Ok(Answer::Planned)
     }
 
@@ -461,6 +452,132 @@ impl Tables {
         };
         drop_job(job, &mut self.kv);
         Answer::Okay
+    }
+
+    /// Starts a scan of what is in use. It is refused while one runs, and held back while a transaction or
+    /// a job is open that was open when the last one began. Want of memory starts nothing.
+    pub fn scan<S: SliceStore>(&mut self, shelf: &Shelf<S>) -> Result<Answer, OutOfMemory>
+        requires sound { AreSound self.old }
+        ensures turn { IfOk result (ScanTurn S.kind shelf.now self.old self.new) }
+        ensures err_sound { OnErr result (AreSound self.new) }
+        ensures err { OnErr result (IsAlike self.old self.new) }
+    {
+        if self.beside.scans() {
+            return Ok(Answer::Refused(Word::ScanBusy));
+        }
+        if let Some(c) = self.first_old() {
+            return Ok(Answer::Held(Holder::Client(c)));
+        }
+        if let Some(j) = self.beside.lowest_old() {
+            return Ok(Answer::Held(Holder::Job(j)));
+        }
+        self.beside.begin_scan(&mut self.kv, shelf, self.next_tx)?;
+        Ok(Answer::Scanning)
+    }
+
+    /// Does the next parts of the scan that runs, so many or all that are left. A fault leaves the scan
+    /// as it was.
+    pub fn piece<S: SliceStore>(
+        &mut self,
+        dev: &mut Dev<'_, S>,
+        parts: u8,
+    ) -> Result<Answer, OutOfMemory>
+        requires sound { AreSound self.old }
+        requires dev { IsSoundDev S.kind dev.old }
+        requires ring { IsRing dev.old.settings.servers dev.old.ring.now.points }
+        requires inside { TablesBytes (is_inside S.kind (stores dev.old) dev.old.settings)
+            any_slice self.old }
+        ensures turn { IfOk result
+            (PieceTurn S.kind dev.old dev.new self.old self.new parts) }
+        ensures serves { IfOk result (ServesLine S.kind (between dev.old dev.new)
+            (lent_by dev.old) self.old self.new (event.Piece parts)) }
+        ensures unread { IfOk result (λ a. TellsTables S.kind (stores dev.old) dev.old.settings
+            (remembered dev.old) self.old → ReadsTold S.kind (between dev.old dev.new)
+            dev.old.settings self.old a) }
+        ensures err_sound { OnErr result (AreSound self.new) }
+        ensures err { OnErr result (IsPruned self.old self.new) }
+        ensures dev { GoesOn S.kind dev.old dev.new [] }
+    {
+        if !self.beside.scans() {
+            return Ok(Answer::Refused(Word::NoScan));
+        }
+        let done = self.beside.do_parts(dev, &mut self.kv, parts);
+        match done {
+            Ok(left) => {
+                if left > 0 {
+                    return Ok(Answer::More(left));
+                }
+                return Ok(Answer::Done);
+            }
+            Err(why) => return answer_to(why),
+        }
+    }
+
+    /// Frees what is garbage of server `k`, once two scans have finished.
+    pub fn collect<S: SliceStore>(
+        &mut self,
+        dev: &mut Dev<'_, S>,
+        k: u64,
+    ) -> Result<Answer, OutOfMemory>
+        requires sound { AreSound self.old }
+        requires dev { IsSoundDev S.kind dev.old }
+        requires ring { IsRing dev.old.settings.servers dev.old.ring.now.points }
+        requires inside { TablesBytes (is_inside S.kind (stores dev.old) dev.old.settings)
+            any_slice self.old }
+        requires lie { LieIn self.old.beside.gc (size_in S.kind (stores dev.old)) }
+        ensures turn { IfOk result
+            (CollectTurn S.kind dev.old dev.new self.old self.new k) }
+        ensures serves { IfOk result (ServesLine S.kind (between dev.old dev.new)
+            (lent_by dev.old) self.old self.new (event.Collect k)) }
+        ensures err { OnErr result (self.new ≡ self.old) }
+        ensures dev_err { OnErr result (GoesOn S.kind dev.old dev.new []) }
+        ensures lengths { SameLengths S.kind (stores dev.old) (stores dev.new) }
+        ensures syncs { SameSyncs S.kind (stores dev.old) (stores dev.new) }
+    {
+        let servers = dev.settings.servers;
+        if k >= servers as u64 {
+            return Ok(Answer::Refused(Word::NoServer));
+        }
+        if self.beside.finished() < 2 {
+            return Ok(Answer::Refused(Word::NoScan));
+        }
+        match self.beside.free(dev, k as u8) {
+            Ok(bytes) => return Ok(Answer::Collected(bytes)),
+            Err(why) => return answer_to(why),
+        }
+    }
+
+    /// The client whose transaction began first of those that were open when the last scan began, if one
+    /// is open still.
+    fn first_old(&self) -> Option<u8>
+        ensures { MatchOption result (NoneOld self.now) (HoldsBack self.now) }
+    {
+        let mut first = None;
+        let mut least = self.beside.scan_tx();
+        let mut i = 0;
+        while i < self.clients.len() {
+            let (client, number) = self.older_of(i, first, least);
+            first = client;
+            least = number;
+            i += 1;
+        }
+        first
+    }
+
+    /// Of the client that was found so far, with the number of its transaction, and that of an entry the
+    /// one whose transaction began first.
+    fn older_of(&self, i: usize, first: Option<u8>, least: u64) -> (Option<u8>, u64)
+        requires { SeesUpto self.now.clients self.now.beside.scan_tx first least i }
+        ensures { SeesUpto self.now.clients self.now.beside.scan_tx result.0 result.1 (i + 1) }
+    {
+        let Some((c, txn)) = self.clients.get_index(i) else {
+            return (first, least);
+        };
+        let number = txn.number();
+        if number < least {
+            return (Some(*c), number);
+        }
+        (first, least)
     }
 
     /// Drops versions that no one sees any more, once there are enough of them.
@@ -505,10 +622,7 @@ impl Tables {
         ensures err { OnErr result (self.new ≡ self.old) }
     {
         let number = self.kv.number();
-        match self.beside.add(number) {
-            Ok(()) => {}
-            Err(why) => return Err(why),
-        }
+        self.beside.add(number)?;
         if let Err(why) = self.kv.pin(number) {
             self.beside.drop_last();
             return Err(why);

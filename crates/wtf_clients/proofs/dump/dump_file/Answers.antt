@@ -14,10 +14,10 @@ use Rattle.wtf_meta.specs.Appends.{length_keys}
 use Rattle.wtf_meta.proofs.Named.{file_bytes}
 use Rattle.wtf_meta.proofs.Telling.{TellLists-before}
 use Rattle.wtf_meta.proofs.Weaker.{file_bytes_stay}
+use Rattle.wtf_region.specs.Apart.{are_apart}
 use Rattle.wtf_region.specs.Devs.{stores, told_in, inside_of, is_down_in, between}
 use Rattle.wtf_region.specs.Reads.{IsFileRead, LacksRegion}
 use Rattle.wtf_region.specs.Showing.{Shown, IsShowFault, pieces_in, AreReadable}
-use Rattle.wtf_region.proofs.Frames.{facts_apart_none}
 use Rattle.wtf_region.proofs.InsideLaws.{readable_from}
 use Rattle.wtf_region.proofs.ListReads.{pieces_inside, file_read_later}
 use Rattle.wtf_region.proofs.Recording.{still_seen}
@@ -143,8 +143,8 @@ returns-clause-shows g c cache map bytes body =
     let file : FileBytes (is_told told) (is_listed z told) v = file_bytes (is_told told) (is_listed z told) i b map in
     let any : FileBytes (is_told told) any_slice v = file_bytes_stay (is_told told) (is_told told) (λ qs is. is) (is_listed z told) any_slice (λ s is. refl) v
     file in
-    let now : TellLists (lists_in mid.settings.region later) read.facts = read.told [] cache (read.reads.slices (is_told told) any_slice any)
-    (facts_apart_none read.facts) in
+    let now : TellLists (lists_in mid.settings.region later) read.facts = read.told cache.0 cache.1 (read.reads.slices (is_told told) any_slice any)
+    (read.reads.slices (are_apart cache.0) any_slice (file_bytes (are_apart cache.0) any_slice i b cache.2)) in
     let tell : TellLists (lists_in z told) read.facts =
     TellLists-before told later z read.facts (tells_on laws first.each) (read.reads.slices (is_told told) (is_listed z told) file)
     (subst (λ (st : Settings). TellLists (lists_in st.region later) read.facts) first.settings now) in

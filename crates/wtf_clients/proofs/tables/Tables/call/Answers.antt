@@ -14,6 +14,7 @@ use Rattle.wtf_replay.specs.Views.{TxnView}
 use Rattle.wtf_clients.specs.Views.{TablesView, of_client, without_hand, Clients}
 use Rattle.wtf_clients.specs.Sounds.{AreSound, Sets, IsAlike}
 use Rattle.wtf_clients.specs.Named.{TablesBytes}
+use Rattle.wtf_clients.specs.Asked.{lent_by}
 use Rattle.wtf_clients.specs.Serves.{ServesLine}
 use Rattle.wtf_clients.specs.Turns.{ClientTurn}
 use Rattle.wtf_clients.proofs.Known.{starts_sound, knows}
@@ -136,7 +137,7 @@ returns-in-Err-clause-serves g c =
     (TablesBytes (is_inside kind (stores dev) dev.settings) any_slice) (sym c.self.view_is) c.requires.inside in
     let why = c.in-Err.why in
     subst (λ (t : TablesView). IfOk c.answer_to.result
-    (ServesLine kind (between dev c.call.new.dev) dev.settings t (record { kv = at.kv; next_tx = at.next_tx; clients = lent.entries; beside = at.beside })
+    (ServesLine kind (between dev c.call.new.dev) (lent_by dev) t (record { kv = at.kv; next_tx = at.next_tx; clients = lent.entries; beside = at.beside })
     (event.Client c.args.c (verb.Call c.args.op)))) c.self.view_is
     (if_ok c.answer_to.result (λ a. fault_answer why ≡ Some a) _ c.answer_to.ensures.answer
     (λ a is. fault_serves g.met.S.SliceStore.laws dev c.call.new.dev c.in-Err.ensures.call.dev c.requires.dev old sound inside lent.entries c.args.c x y there
@@ -158,7 +159,7 @@ returns-clause-serves g c =
     let inside : TablesBytes (is_inside kind (stores dev) dev.settings) any_slice old = subst
     (TablesBytes (is_inside kind (stores dev) dev.settings) any_slice) (sym c.self.view_is) c.requires.inside in
     let did = c.in-Ok.ensures.call in
-    subst (λ (t : TablesView). ServesLine kind (between dev c.call.new.dev) dev.settings t
+    subst (λ (t : TablesView). ServesLine kind (between dev c.call.new.dev) (lent_by dev) t
     (record { kv = at.kv; next_tx = at.next_tx; clients = lent.entries; beside = at.beside }) (event.Client c.args.c (verb.Call c.args.op)) c.in-Ok.answer)
     c.self.view_is
     (call_serves g.met.S.SliceStore.laws dev c.call.new.dev did.dev c.requires.dev old sound inside lent.entries c.args.c x y there sets did.inside
@@ -189,7 +190,7 @@ returns-clause-turn g c =
       made.called,
       knows kind dev c.call.new.dev did.dev (TellsAll kind (stores dev)) dev.settings.servers made.lists made.known,
       made.acts,
-    )) (λ free tells ops run. did.meaning free ops (starts_sound kind dev tells.0 tells.1 c.call.new.dev at.kv at.kv x y ops tells.2 run)) did.fit)
+    )) (λ free tells ops run. did.meaning free ops (starts_sound kind dev tells.0 old tells.1 c.call.new.dev at.kv c.args.c x y ops there tells.2 run)) did.fit)
 
 pub returns-in_default-clause-turn : goal.returns-in_default-clause-turn
 returns-in_default-clause-turn g c =

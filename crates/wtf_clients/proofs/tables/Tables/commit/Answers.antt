@@ -17,6 +17,7 @@ use Rattle.wtf_replay.specs.Tried.{commit_from}
 use Rattle.wtf_clients.specs.Views.{TablesView, of_client, without_hand, Clients}
 use Rattle.wtf_clients.specs.Sounds.{AreSound, Sets, IsAlike}
 use Rattle.wtf_clients.specs.Named.{TablesBytes}
+use Rattle.wtf_clients.specs.Asked.{lent_by}
 use Rattle.wtf_clients.specs.Serves.{ServesLine}
 use Rattle.wtf_clients.specs.Turns.{ClientTurn}
 use Rattle.wtf_clients.proofs.Caused.{has_failed}
@@ -132,7 +133,7 @@ returns-in-Err-clause-turn g c =
     c.commit.new.kv lent.entries c.args.c x y why a there sets c.in-Err.ensures.commit.err refl refl refl c.in-Err.ensures.commit.err_store.0
     c.in-Err.ensures.commit.maps c.in-Err.ensures.commit.err_store.1 c.in-Err.ensures.commit.pins is
     (λ tells now ops run t st. commit_left dev.settings.servers why a is (c.in-Err.ensures.commit.due ops
-    (starts_now kind dev tells.0 tells.1 c.commit.new.dev at.kv c.commit.new.kv x y ops tells.2 run now.2) t st)))))
+    (starts_now kind dev tells.0 old tells.1 c.commit.new.dev c.commit.new.kv c.args.c x y ops there tells.2 run now.2) t st)))))
 
 pub returns-in-Err-clause-serves : goal.returns-in-Err-clause-serves
 returns-in-Err-clause-serves g c =
@@ -152,7 +153,7 @@ returns-in-Err-clause-serves g c =
     let laws = g.met.S.SliceStore.laws in
     let new = c.commit.new.dev in
     subst (λ (t : TablesView). IfOk c.answer_to.result
-    (ServesLine kind (between dev new) dev.settings t (record { kv = c.commit.new.kv; next_tx = at.next_tx; clients = lent.entries; beside = at.beside })
+    (ServesLine kind (between dev new) (lent_by dev) t (record { kv = c.commit.new.kv; next_tx = at.next_tx; clients = lent.entries; beside = at.beside })
     (event.Client c.args.c verb.Commit))) c.self.view_is
     (if_ok c.answer_to.result (λ a. fault_answer why ≡ Some a) _ c.answer_to.ensures.answer
     (λ a is. read_failed laws dev new c.in-Err.ensures.commit.dev c.requires.dev old sound inside
@@ -189,7 +190,7 @@ returns-clause-turn g c =
     (subst (λ o. IfSome o (λ z. IsPinnedOnceMore z.at.base c.end.new.self.kv c.commit.new.kv)) mine gone.unpinned)
     did.ended (knows_install kind dev c.commit.new.dev did.dev (TellsAll kind (stores dev)) dev.settings.servers at.kv c.commit.new.kv (commit_from at.kv x)
     c.in-Ok.answer did.installs)
-    (λ tells now ops run. did.meaning ops (starts_now kind dev tells.0 tells.1 c.commit.new.dev at.kv c.commit.new.kv x y ops tells.2 run now.2)))
+    (λ tells now ops run. did.meaning ops (starts_now kind dev tells.0 old tells.1 c.commit.new.dev c.commit.new.kv c.args.c x y ops there tells.2 run now.2)))
 
 pub returns-clause-serves : goal.returns-clause-serves
 returns-clause-serves g c =
@@ -210,7 +211,7 @@ returns-clause-serves g c =
     let new = c.commit.new.dev in
     let gone = c.end.ensures in
     let mine = sets.is in
-    subst (λ (t : TablesView). ServesLine kind (between dev new) dev.settings t c.end.new.self (event.Client c.args.c verb.Commit) c.in-Ok.answer)
+    subst (λ (t : TablesView). ServesLine kind (between dev new) (lent_by dev) t c.end.new.self (event.Client c.args.c verb.Commit) c.in-Ok.answer)
     c.self.view_is
     (read_serves laws dev new did.dev c.requires.dev old sound inside c.end.new.self _ _ _ c.in-Ok.answer
     (ends_names laws dev new did.dev c.requires.dev old sound inside c.end.new.self c.commit.new.kv c.args.c x there

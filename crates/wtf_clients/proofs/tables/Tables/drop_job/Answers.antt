@@ -1,6 +1,6 @@
 use Rattle.std.proofs.Common.{◌≡◌, None, Some, refl, sym, ap, ◌∙◌, subst}
 use Rattle.wtf_model.specs.declared.answer.Answer.TheVariants as answer
-use Rattle.wtf_clients.specs.Views.{TablesView, of_label}
+use Rattle.wtf_clients.specs.Views.{BesideView, TablesView, of_label}
 use Rattle.wtf_clients.specs.Sounds.{AreSound}
 use Rattle.wtf_clients.specs.JobTurns.{DropsJob, DropTurn}
 use Rattle.wtf_clients.proofs.JobMaking.{none_taken, keeps_others, none_dropped, drop_turn}
@@ -37,6 +37,7 @@ returns c =
     let drops : DropsJob old new c.args.j x answer.Okay = record {
       answer = refl;
       keeps = keeps_others old new c.args.j None _ c.take_job.ensures.sets c.take_job.ensures.is refl refl;
+      marks = ap (λ (b : BesideView). b.scan_jobs) c.take_job.ensures.is;
       kv = c.drop_job.ensures.rest;
       unpinned = c.drop_job.ensures.once;
     } in

@@ -10,10 +10,11 @@ use Rattle.wtf_clients.specs.Views.{TablesView, metadata_now}
 use Rattle.wtf_clients.specs.Sounds.{AreSound, IsAlike}
 use Rattle.wtf_clients.specs.Dumped.{IsDumpAnswer}
 use Rattle.wtf_clients.specs.Named.{TablesBytes, any_byte, no_slice, has_copies}
+use Rattle.wtf_clients.specs.Asked.{lent_by}
 use Rattle.wtf_clients.specs.Serves.{AreBased, AreFull, ServesLine}
 use Rattle.wtf_clients.specs.Turns.{Stays, Dumps}
 use Rattle.wtf_clients.proofs.Caused.{has_failed}
-use Rattle.wtf_clients.proofs.Dumping.{dump_may, dump_plain, dump_caused}
+use Rattle.wtf_clients.proofs.Dumping.{true_now, dump_may, dump_plain, dump_caused}
 use Rattle.wtf_clients.proofs.Lacking.{no_lists}
 use Rattle.wtf_clients.proofs.Lists.{sets_same}
 use Rattle.wtf_clients.proofs.Lives.{now_bytes}
@@ -58,9 +59,9 @@ returns-in-Ok-clause-turn g c =
     c.in-Ok.answer) c.self.view_is
     (record {
       stays = stays;
-      built = λ e. subst IsDumpAnswer e c.in-Ok.ensures.answered;
-      shows = λ cache tx k t st. inl
-          (c.in-Ok.ensures.shows cache tx k t st);
+      uncollected = λ n e. subst IsDumpAnswer e c.in-Ok.ensures.answered;
+      shows = λ kept tx k t st. inl
+          (c.in-Ok.ensures.shows (true_now old dev.settings.region (byte_at kind (stores dev)) (remembered dev) kept) tx k t st);
     })
 
 pub returns-in-Ok-clause-serves : goal.returns-in-Ok-clause-serves
@@ -84,7 +85,7 @@ returns-in-Ok-clause-serves g c =
       next_tx = refl;
       beside = refl;
     } in
-    subst (λ (t : TablesView). ServesLine kind (between dev new) dev.settings t after (event.Dump c.args.p.now) c.in-Ok.answer) c.self.view_is
+    subst (λ (t : TablesView). ServesLine kind (between dev new) (lent_by dev) t after (event.Dump c.args.p.now) c.in-Ok.answer) c.self.view_is
     (read_serves g.met.S.SliceStore.laws dev new c.in-Ok.ensures.dev c.requires.dev old sound inside after _ _ _ c.in-Ok.answer
     (stays_names g.met.S.SliceStore.laws dev new c.in-Ok.ensures.dev c.requires.dev old sound inside after 0 (stays 0)) c.in-Ok.ensures.reads
     (dump_plain c.in-Ok.answer c.in-Ok.ensures.answered))
@@ -116,7 +117,7 @@ returns-in-Err-clause-turn g c =
     (if_ok c.answer_to.result (λ a. fault_answer why ≡ Some a) _ c.answer_to.ensures.answer
     (λ a is. record {
       stays = stays;
-      built = λ e. subst IsFault e (fault_is why a is);
+      uncollected = λ n e. subst IsFault e (fault_is why a is);
       shows = λ cache tx k t st. inr (dump_may g.met.S.SliceStore.laws dev new c.requires.dev (metadata_now at.kv) c.args.p.now
           (now_bytes (is_inside kind (stores dev) dev.settings) any_slice old inside) why a (byte_at kind (stores dev)) tx k t is c.in-Err.ensures.fault st);
     }))
@@ -143,7 +144,7 @@ returns-in-Err-clause-serves g c =
       beside = refl;
     } in
     let why = c.in-Err.why in
-    subst (λ (t : TablesView). IfOk c.answer_to.result (ServesLine kind (between dev new) dev.settings t after (event.Dump c.args.p.now))) c.self.view_is
+    subst (λ (t : TablesView). IfOk c.answer_to.result (ServesLine kind (between dev new) (lent_by dev) t after (event.Dump c.args.p.now))) c.self.view_is
     (if_ok c.answer_to.result (λ a. fault_answer why ≡ Some a) _ c.answer_to.ensures.answer
     (λ a is. read_failed g.met.S.SliceStore.laws dev new c.in-Err.ensures.dev c.requires.dev old sound inside after _ _ _ a
     (stays_names g.met.S.SliceStore.laws dev new c.in-Err.ensures.dev c.requires.dev old sound inside after 0 (stays 0)) c.in-Err.ensures.reads

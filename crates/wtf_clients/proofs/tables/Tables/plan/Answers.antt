@@ -1,4 +1,4 @@
-use Rattle.std.proofs.Common.{◌≡◌, ◌<◌, true, [], None, Some, is_some, IfOk, refl, sym, ap, ◌∙◌, subst, arith}
+use Rattle.std.proofs.Common.{◌≡◌, ◌<◌, true, None, Some, is_some, IfOk, refl, sym, ap, ◌∙◌, subst, arith}
 use Rattle.wtf_dev.specs.Sums.{TellsAll}
 use Rattle.wtf_replica.specs.Bytes.{byte_at}
 use Rattle.wtf_model.specs.declared.answer.Answer.TheVariants as answer
@@ -18,9 +18,10 @@ use Rattle.wtf_clients.specs.Sounds.{AreSound}
 use Rattle.wtf_clients.specs.Named.{TablesBytes}
 use Rattle.wtf_clients.specs.Planning.{plan_answer}
 use Rattle.wtf_clients.specs.JobTurns.{Plans, PlanTurn}
+use Rattle.wtf_clients.specs.Asked.{lent_by}
 use Rattle.wtf_clients.specs.Serves.{ServesLine}
 use Rattle.wtf_clients.specs.Spilling.{StoresPlan}
-use Rattle.wtf_clients.proofs.JobMaking.{keeps_others, made_of, made_known, made_own, keeps_region, plan_used, plan_stopped, plan_made, plan_failed}
+use Rattle.wtf_clients.proofs.JobMaking.{made_of, made_known, made_own, keeps_region, plan_used, plan_stopped, plan_made, plan_failed}
 use Rattle.wtf_clients.proofs.JobServing.{plan_serves, plan_stores, none_stores, plan_may, plan_fails, plan_refused}
 use Rattle.wtf_clients.proofs.Lives.{now_bytes}
 use Rattle.wtf_clients.proofs.Making.{if_ok, nothing_there}
@@ -60,7 +61,7 @@ returns-in-Some-clause-turn g c =
     subst (λ (t : TablesView). PlanTurn (TellsAll kind (stores dev)) (remembered dev) dev.settings.servers dev.settings.region (byte_at kind (stores dev))
     (byte_at kind (stores dev)) t t c.args.j c.args.kind c.args.p.now c.args.region (answer.Refused c.in-Some.word)) c.self.view_is
     (plan_stopped (TellsAll kind (stores dev)) (remembered dev) dev.settings.servers dev.settings.region (byte_at kind (stores dev)) (byte_at kind (stores dev))
-    old old c.args.j c.args.kind c.args.p.now c.args.region c.in-Some.word none refl
+    old old c.args.j c.args.kind c.args.p.now c.args.region c.in-Some.word none refl (sym c.in-Ok.ensures ∙ c.in-Some.is)
     (λ tx k t st. plan_is_due dev.settings.region (byte_at kind (stores dev)) tx k (metadata_now old.kv) t c.args.p.now c.args.region size st
     ∙ ap plan_answer (sym c.in-Ok.ensures ∙ c.in-Some.is)))
 
@@ -94,14 +95,15 @@ returns-clause-turn g c =
     let after = c.plan.new.dev in
     let at = c.self.inside in
     let old : TablesView = record { kv = at.kv; next_tx = at.next_tx; clients = at.clients.entries; beside = at.beside } in
-    let new : TablesView = record { kv = c.plan.new.kv; next_tx = at.next_tx; clients = at.clients.entries; beside = c.set_job.new.self } in
+    let new : TablesView = record { kv = c.plan.new.kv; next_tx = at.next_tx; clients = at.clients.entries; beside = c.plan_job.new.self } in
     let x = c.in-Ok-plan.job in
     let did = c.in-Ok-plan.ensures in
-    let put = c.set_job.ensures in
+    let put = c.plan_job.ensures in
     let none : of_label old.beside.jobs c.args.j ≡ None = nothing_there (of_label old.beside.jobs c.args.j) (sym c.has_job.ensures ∙ c.if-has_job.false) in
     let size : 0 < dev.settings.region = omega (arith, dev.settings.limits.5) in
     let plans : Plans old new c.args.j c.args.kind c.args.p.now c.args.region x = record {
-      keeps = keeps_others old new c.args.j (Some x) _ put.sets put.is refl refl;
+      keeps = record { jobs = put.sets; others = put.others; beside = put.is; clients = refl; next_tx = refl };
+      unmarked = put.unmarked;
       kv = did.pin;
       pinned = did.once;
       base = did.base;
@@ -114,9 +116,10 @@ returns-clause-turn g c =
     old new c.args.j c.args.kind c.args.p.now c.args.region x none plans
     (made_known kind dev after x.target (target_region (metadata_now old.kv) x.target) x.value did.dev did.planned dev.settings.servers)
     (made_own kind dev after x.target (target_region (metadata_now old.kv) x.target) x.value did.dev did.planned)
+    (sym c.in-Ok.ensures ∙ no_refusal c.in-Ok.refusal (λ w. c.in_default.not-Some w))
     (λ tx k t st. plan_is_due dev.settings.region (byte_at kind (stores dev)) tx k (metadata_now old.kv) t c.args.p.now c.args.region size st
     ∙ ap plan_answer (sym c.in-Ok.ensures ∙ no_refusal c.in-Ok.refusal (λ w. c.in_default.not-Some w)))
-    (keeps_region kind dev after dev.settings.servers (metadata_now old.kv) x did.dev (did.keeps [])))
+    (keeps_region kind dev after dev.settings.servers old x did.dev did.keeps))
 
 pub returns-clause-serves : goal.returns-clause-serves
 returns-clause-serves g c =
@@ -125,23 +128,24 @@ returns-clause-serves g c =
     let after = c.plan.new.dev in
     let at = c.self.inside in
     let old : TablesView = record { kv = at.kv; next_tx = at.next_tx; clients = at.clients.entries; beside = at.beside } in
-    let new : TablesView = record { kv = c.plan.new.kv; next_tx = at.next_tx; clients = at.clients.entries; beside = c.set_job.new.self } in
+    let new : TablesView = record { kv = c.plan.new.kv; next_tx = at.next_tx; clients = at.clients.entries; beside = c.plan_job.new.self } in
     let sound : AreSound old = subst (λ t. AreSound t) (sym c.self.view_is) c.requires.sound in
     let inside : TablesBytes (is_inside kind (stores dev) dev.settings) any_slice old = subst
     (TablesBytes (is_inside kind (stores dev) dev.settings) any_slice) (sym c.self.view_is) c.requires.inside in
     let x = c.in-Ok-plan.job in
     let did = c.in-Ok-plan.ensures in
-    let put = c.set_job.ensures in
+    let put = c.plan_job.ensures in
     let none : of_label old.beside.jobs c.args.j ≡ None = nothing_there (of_label old.beside.jobs c.args.j) (sym c.has_job.ensures ∙ c.if-has_job.false) in
     let plans : Plans old new c.args.j c.args.kind c.args.p.now c.args.region x = record {
-      keeps = keeps_others old new c.args.j (Some x) _ put.sets put.is refl refl;
+      keeps = record { jobs = put.sets; others = put.others; beside = put.is; clients = refl; next_tx = refl };
+      unmarked = put.unmarked;
       kv = did.pin;
       pinned = did.once;
       base = did.base;
       job = did.job;
       made = made_of kind dev after x.target _ x.value did.planned;
     } in
-    subst (λ (t : TablesView). ServesLine kind (between dev after) dev.settings t new (event.Plan c.args.j c.args.kind c.args.p.now c.args.region)
+    subst (λ (t : TablesView). ServesLine kind (between dev after) (lent_by dev) t new (event.Plan c.args.j c.args.kind c.args.p.now c.args.region)
     answer.Planned) c.self.view_is
     (plan_serves g.met.S.SliceStore.laws dev after did.dev c.requires.dev old sound inside c.requires.ring c.args.j c.args.kind c.args.p.now c.args.region
     new x none plans did.planned did.inside did.reads)
@@ -170,6 +174,7 @@ returns-in-Err-plan-clause-turn g c =
     (if_ok c.answer_to.result (λ a. fault_answer why ≡ Some a) _ c.answer_to.ensures.answer
     (λ a is. plan_failed (TellsAll kind (stores dev)) (remembered dev) dev.settings.servers dev.settings.region (byte_at kind (stores dev))
     (byte_at kind (stores after)) old new c.args.j c.args.kind c.args.p.now c.args.region why a is none same
+    (sym c.in-Ok.ensures ∙ no_refusal c.in-Ok.refusal (λ w. c.in_default.not-Some w))
     (λ tx k t st. subst (λ d. MayFailPlan dev.settings.servers c.args.kind d a)
     (sym (plan_is_due dev.settings.region (byte_at kind (stores dev)) tx k (metadata_now old.kv) t c.args.p.now c.args.region size st
     ∙ ap plan_answer (sym c.in-Ok.ensures ∙ no_refusal c.in-Ok.refusal (λ w. c.in_default.not-Some w))))
@@ -192,10 +197,10 @@ returns-in-Err-plan-clause-serves g c =
     let there = plan_has dev.settings.region (metadata_now old.kv) c.args.p.now c.args.region
     (sym c.in-Ok.ensures ∙ no_refusal c.in-Ok.refusal (λ w. c.in_default.not-Some w)) in
     let same : old ≡ new = ap (λ s. record old { kv = s }) (sym did.err) in
-    subst (λ (t : TablesView). IfOk c.answer_to.result (ServesLine kind (between dev after) dev.settings t new
+    subst (λ (t : TablesView). IfOk c.answer_to.result (ServesLine kind (between dev after) (lent_by dev) t new
     (event.Plan c.args.j c.args.kind c.args.p.now c.args.region))) c.self.view_is
     (if_ok c.answer_to.result (λ a. fault_answer why ≡ Some a) _ c.answer_to.ensures.answer
-    (λ a is. subst (λ (t : TablesView). ServesLine kind (between dev after) dev.settings old t
+    (λ a is. subst (λ (t : TablesView). ServesLine kind (between dev after) (lent_by dev) old t
     (event.Plan c.args.j c.args.kind c.args.p.now c.args.region) a) same
     (plan_fails g.met.S.SliceStore.laws dev after did.dev c.requires.dev old sound inside c.requires.ring c.args.j c.args.kind c.args.p.now c.args.region
     there.inode there.leads why a is (did.fault there.inode there.leads))))
@@ -223,13 +228,14 @@ returns-clause-told g c =
     let inside : TablesBytes (is_inside kind (stores dev) dev.settings) any_slice old =
     subst (TablesBytes (is_inside kind (stores dev) dev.settings) any_slice) (sym c.self.view_is) c.requires.inside in
     let new = c.plan.new.dev in
-    let after : TablesView = record { kv = c.plan.new.kv; next_tx = at.next_tx; clients = at.clients.entries; beside = c.set_job.new.self } in
+    let after : TablesView = record { kv = c.plan.new.kv; next_tx = at.next_tx; clients = at.clients.entries; beside = c.plan_job.new.self } in
     let x = c.in-Ok-plan.job in
     let did = c.in-Ok-plan.ensures in
-    let put = c.set_job.ensures in
+    let put = c.plan_job.ensures in
     let none : of_label old.beside.jobs c.args.j ≡ None = nothing_there (of_label old.beside.jobs c.args.j) (sym c.has_job.ensures ∙ c.if-has_job.false) in
     let plans : Plans old after c.args.j c.args.kind c.args.p.now c.args.region x = record {
-      keeps = keeps_others old after c.args.j (Some x) _ put.sets put.is refl refl;
+      keeps = record { jobs = put.sets; others = put.others; beside = put.is; clients = refl; next_tx = refl };
+      unmarked = put.unmarked;
       kv = did.pin;
       pinned = did.once;
       base = did.base;
@@ -279,7 +285,7 @@ returns-in-Err-plan-clause-stores g c =
     let at = c.self.inside in
     let new : TablesView = record { kv = c.plan.new.kv; next_tx = at.next_tx; clients = at.clients.entries; beside = at.beside } in
     if_ok c.answer_to.result (λ a. fault_answer c.in-Err-plan.why ≡ Some a) _ c.answer_to.ensures.answer
-    (λ a is. none_stores kind (between dev c.plan.new.dev) dev.settings (c.args.self.now, new) c.args.j c.args.kind c.args.p.now c.args.region
+    (λ a is. none_stores kind (between dev c.plan.new.dev) (lent_by dev) (c.args.self.now, new) c.args.j c.args.kind c.args.p.now c.args.region
     c.in-Err-plan.why a is)
 
 pub returns-clause-stores : goal.returns-clause-stores
@@ -289,23 +295,24 @@ returns-clause-stores g c =
     let after = c.plan.new.dev in
     let at = c.self.inside in
     let old : TablesView = record { kv = at.kv; next_tx = at.next_tx; clients = at.clients.entries; beside = at.beside } in
-    let new : TablesView = record { kv = c.plan.new.kv; next_tx = at.next_tx; clients = at.clients.entries; beside = c.set_job.new.self } in
+    let new : TablesView = record { kv = c.plan.new.kv; next_tx = at.next_tx; clients = at.clients.entries; beside = c.plan_job.new.self } in
     let sound : AreSound old = subst (λ t. AreSound t) (sym c.self.view_is) c.requires.sound in
     let inside : TablesBytes (is_inside kind (stores dev) dev.settings) any_slice old = subst
     (TablesBytes (is_inside kind (stores dev) dev.settings) any_slice) (sym c.self.view_is) c.requires.inside in
     let x = c.in-Ok-plan.job in
     let did = c.in-Ok-plan.ensures in
-    let put = c.set_job.ensures in
+    let put = c.plan_job.ensures in
     let none : of_label old.beside.jobs c.args.j ≡ None = nothing_there (of_label old.beside.jobs c.args.j) (sym c.has_job.ensures ∙ c.if-has_job.false) in
     let plans : Plans old new c.args.j c.args.kind c.args.p.now c.args.region x = record {
-      keeps = keeps_others old new c.args.j (Some x) _ put.sets put.is refl refl;
+      keeps = record { jobs = put.sets; others = put.others; beside = put.is; clients = refl; next_tx = refl };
+      unmarked = put.unmarked;
       kv = did.pin;
       pinned = did.once;
       base = did.base;
       job = did.job;
       made = made_of kind dev after x.target _ x.value did.planned;
     } in
-    subst (λ (t : TablesView). StoresPlan kind (between dev after) dev.settings (t, new) (event.Plan c.args.j c.args.kind c.args.p.now c.args.region)
+    subst (λ (t : TablesView). StoresPlan kind (between dev after) (lent_by dev) (t, new) (event.Plan c.args.j c.args.kind c.args.p.now c.args.region)
     answer.Planned) c.self.view_is
     (plan_stores g.met.S.SliceStore.laws dev after did.dev c.requires.dev old sound inside c.requires.ring c.args.j c.args.kind c.args.p.now c.args.region
     new x none plans did.planned did.inside did.reads)

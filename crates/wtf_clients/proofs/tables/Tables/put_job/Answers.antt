@@ -1,7 +1,7 @@
 use Rattle.std.proofs.Common.{◌≡◌, None, Some, set, refl, sym, ap, ◌∙◌, subst}
 use Rattle.wtf_kv.specs.Stores.{times_pinned}
 use Rattle.wtf_meta.specs.Maps.{metadata_at}
-use Rattle.wtf_clients.specs.Views.{TablesView, of_label, with_jobs}
+use Rattle.wtf_clients.specs.Views.{BesideView, TablesView, of_label, with_jobs}
 use Rattle.wtf_clients.specs.Sounds.{AreSound, IsAlike}
 use Rattle.wtf_clients.specs.JobTurns.{Puts, PutTurn}
 use Rattle.wtf_clients.proofs.JobMaking.{given_back, none_taken, keeps_others, none_put, put_turn}
@@ -37,6 +37,7 @@ returns-in-Ok-clause-turn c =
     let did = c.in-Ok.ensures in
     let puts : Puts old new c.args.j x c.in-Ok.answer = record {
       keeps = keeps_others old new c.args.j None _ c.take_job.ensures.sets c.take_job.ensures.is refl refl;
+      marks = ap (λ (b : BesideView). b.scan_jobs) c.take_job.ensures.is;
       put = did.put;
       maps = did.maps;
       unpinned = did.once;

@@ -19,6 +19,7 @@ use Rattle.wtf_replay.proofs.Turning.{refused_there}
 use Rattle.wtf_clients.specs.Views.{TablesView, of_client, without_hand, Clients}
 use Rattle.wtf_clients.specs.Sounds.{AreSound, Sets, IsAlike}
 use Rattle.wtf_clients.specs.Named.{TablesBytes}
+use Rattle.wtf_clients.specs.Asked.{lent_by}
 use Rattle.wtf_clients.specs.Serves.{ServesLine}
 use Rattle.wtf_clients.specs.Turns.{ClientTurn}
 use Rattle.wtf_clients.proofs.Caused.{has_failed}
@@ -27,7 +28,7 @@ use Rattle.wtf_clients.proofs.Lists.{written, lent_alike}
 use Rattle.wtf_clients.proofs.Making.{if_ok, on_err, at_none, refused_same, kept_sound, not_live, step_goes, step_ends, step_left, step_failed, step_over, ends}
 use Rattle.wtf_clients.proofs.Serving.{step_plain, read_serves, goes_names, same_names, leaves_names, step_caused, read_failed, lent_to, past_memory}
 use Rattle.wtf_clients.specs.Telling.{TellsTables, ServesTold}
-use Rattle.wtf_clients.proofs.ToldServing.{same_told, leaves_told, step_why, step_told, step_failed_told}
+use Rattle.wtf_clients.proofs.ToldServing.{same_told, leaves_told, step_why, stepped_log, step_told, step_failed_told}
 use Rattle.wtf_clients.proofs.tables.Tables.step.Goals as goal
 
 pub step-requires-clause-going : goal.step-requires-clause-going
@@ -138,7 +139,7 @@ returns-in-Err-clause-serves g c =
     let laws = g.met.S.SliceStore.laws in
     let new = c.step.new.dev in
     subst (λ (t : TablesView). IfOk c.answer_to.result
-    (ServesLine kind (between dev new) dev.settings t (record { kv = at.kv; next_tx = at.next_tx; clients = lent.entries; beside = at.beside })
+    (ServesLine kind (between dev new) (lent_by dev) t (record { kv = at.kv; next_tx = at.next_tx; clients = lent.entries; beside = at.beside })
     (event.Client c.args.c verb.Step))) c.self.view_is
     (if_ok c.answer_to.result (λ a. fault_answer why ≡ Some a) _ c.answer_to.ensures.answer
     (λ a is. read_failed laws dev new c.in-Err.ensures.step.dev c.requires.dev old sound inside
@@ -167,7 +168,7 @@ returns-then-not-ended-clause-turn g c =
     (step_goes (TellsAll kind (stores dev)) (remembered dev) dev.settings.servers dev.settings.region (byte_at kind (stores dev))
     (byte_at kind (stores c.step.new.dev)) old lent.entries c.args.c x y c.in-Ok.answer (sound.each c.args.c x there).going there sets
     (refused_there (turn kind dev c.step.new.dev at.kv at.kv x y) (Ok c.in-Ok.answer) did.refused) did.stepped
-    (λ free tells ops run. did.meaning free ops (starts_sound kind dev tells.0 tells.1 c.step.new.dev at.kv at.kv x y ops tells.2 run))
+    (λ free tells ops run. did.meaning free ops (starts_sound kind dev tells.0 old tells.1 c.step.new.dev at.kv c.args.c x y ops there tells.2 run))
     (λ free i e. knows_redone kind dev c.step.new.dev did.dev (TellsAll kind (stores dev)) dev.settings.servers at.kv x x.replayed (hand_of x) (hand_of y)
     (subst (λ b. ActsAgain (turn kind dev c.step.new.dev at.kv at.kv x y) b) e (did.acts free))) did.fit
     (sym c.ended.ensures ∙ c.if-not-ended.true))
@@ -189,7 +190,7 @@ returns-then-not-ended-clause-serves g c =
     let did = c.in-Ok.ensures.step in
     let laws = g.met.S.SliceStore.laws in
     let new = c.step.new.dev in
-    subst (λ (t : TablesView). ServesLine kind (between dev new) dev.settings t
+    subst (λ (t : TablesView). ServesLine kind (between dev new) (lent_by dev) t
     (record { kv = at.kv; next_tx = at.next_tx; clients = lent.entries; beside = at.beside }) (event.Client c.args.c verb.Step) c.in-Ok.answer)
     c.self.view_is
     (read_serves laws dev new did.dev c.requires.dev old sound inside (record { kv = at.kv; next_tx = at.next_tx; clients = lent.entries; beside = at.beside })
@@ -217,7 +218,7 @@ returns-clause-turn g c =
     (step_ends (TellsAll kind (stores dev)) (remembered dev) dev.settings.servers dev.settings.region (byte_at kind (stores dev))
     (byte_at kind (stores c.step.new.dev)) old lent.entries c.args.c x y c.in-Ok.answer (sound.each c.args.c x there).going there sets
     (refused_there (turn kind dev c.step.new.dev at.kv at.kv x y) (Ok c.in-Ok.answer) did.refused) did.stepped
-    (λ free tells ops run. did.meaning free ops (starts_sound kind dev tells.0 tells.1 c.step.new.dev at.kv at.kv x y ops tells.2 run))
+    (λ free tells ops run. did.meaning free ops (starts_sound kind dev tells.0 old tells.1 c.step.new.dev at.kv c.args.c x y ops there tells.2 run))
     (λ free i e. knows_redone kind dev c.step.new.dev did.dev (TellsAll kind (stores dev)) dev.settings.servers at.kv x x.replayed (hand_of x) (hand_of y)
     (subst (λ b. ActsAgain (turn kind dev c.step.new.dev at.kv at.kv x y) b) e (did.acts free))) did.fit
     c.end.new.self gone.clients gone.next gone.beside
@@ -247,7 +248,7 @@ returns-clause-serves g c =
     let over = step_over x y c.in-Ok.answer (sound.each c.args.c x there).going
     (refused_there (turn kind dev c.step.new.dev at.kv at.kv x y) (Ok c.in-Ok.answer) did.refused) did.stepped
     (sym c.ended.ensures ∙ c.if-not-ended.false) in
-    subst (λ (t : TablesView). ServesLine kind (between dev new) dev.settings t c.end.new.self (event.Client c.args.c verb.Step) c.in-Ok.answer) c.self.view_is
+    subst (λ (t : TablesView). ServesLine kind (between dev new) (lent_by dev) t c.end.new.self (event.Client c.args.c verb.Step) c.in-Ok.answer) c.self.view_is
     (read_serves laws dev new did.dev c.requires.dev old sound inside c.end.new.self _ _ _ c.in-Ok.answer
     (leaves_names laws dev new did.dev c.requires.dev old sound inside c.end.new.self c.args.c x
     (ends old c.end.new.self at.kv lent.entries c.args.c x y sets gone.clients gone.next gone.beside over (λ n le. refl) (λ n. refl)
@@ -314,6 +315,7 @@ returns-then-not-ended-clause-told g c =
     subst (λ (t : TablesView). TellsTables kind (stores dev) dev.settings (remembered dev) t
     → ServesTold kind (between dev new) dev.settings (t, after) c.in-Ok.answer) c.self.view_is
     (λ tells. step_told laws dev new did.dev c.requires.dev old sound inside tells lent.entries c.args.c x y there sets c.in-Ok.answer did.named
+    (stepped_log x y c.in-Ok.answer (refused_there (turn kind dev new at.kv at.kv x y) (Ok c.in-Ok.answer) did.refused) did.stepped)
     (step_plain x y c.in-Ok.answer (refused_there (turn kind dev new at.kv at.kv x y) (Ok c.in-Ok.answer) did.refused) did.stepped))
 
 pub returns-clause-told : goal.returns-clause-told

@@ -1,0 +1,136 @@
+-- What pieces of scans, and collections, made of the bytes that the tables name, and of the stores.
+use Rattle.std.proofs.Common.{◌≡◌, ℕ, ◌+◌, ◌<◌, Bool, true, ◌&&◌, nat_eq, nat_le, nat_lt, List, [], ◌∷◌, ◌++◌, length, Some}
+use Rattle.std.proofs.Common.{refl, sym, ap, ◌∙◌, subst, inl, inr, arith}
+use Rattle.std.proofs.lemmas.Bool.{and_from, and_parts, or_left, or_right, eq-eqb, le-leb, lt-ltb}
+use Rattle.std.proofs.lemmas.List.Folds.{list_any-append}
+use Rattle.wtf_base.specs.declared.fault.Fault.{Fault}
+use Rattle.wtf_base.specs.declared.fault.Fault.TheVariants as fault
+use Rattle.wtf_dev.specs.Each.{EachFollows}
+use Rattle.wtf_dev.specs.Store.{Range, StoreKind, KindLaws}
+use Rattle.wtf_dev.proofs.Each.{each_on}
+use Rattle.wtf_overlay.specs.Origin.{Place}
+use Rattle.wtf_ring.specs.Points.{IsRing}
+use Rattle.wtf_replica.specs.Downs.{is_down}
+use Rattle.wtf_replica.specs.Faults.{IsPunchFault}
+use Rattle.wtf_replica.specs.Outs.{IsOut, SameLengths}
+use Rattle.wtf_replica.specs.Spans.{span}
+use Rattle.wtf_model.specs.declared.answer.Answer.{Answer}
+use Rattle.wtf_model.specs.declared.answer.Answer.TheVariants as answer
+use Rattle.wtf_model.specs.declared.event.Event.TheVariants as event
+use Rattle.wtf_meta.specs.Bytes.{any_slice}
+use Rattle.wtf_region.specs.declared.dev.Dev.{Dev}
+use Rattle.wtf_region.specs.Apart.{lies_in}
+use Rattle.wtf_region.specs.Devs.{IsSoundDev, GoesOn, stores, between}
+use Rattle.wtf_region.specs.Inside.{is_inside}
+use Rattle.wtf_region.proofs.InsideLaws.{inside_stays}
+use Rattle.wtf_replay.specs.Causes.{fault_answer}
+use Rattle.wtf_gc.specs.Frees.{AreApart, FreesSome, IsCollectFault, lie_in}
+use Rattle.wtf_gc.specs.Views.{GcView, is_garbage}
+use Rattle.wtf_clients.specs.Views.{BesideView, TablesView, of_label}
+use Rattle.wtf_clients.specs.Named.{TablesBytes, any_byte, no_slice, has_copies}
+use Rattle.wtf_clients.specs.Outcomes.{Frees, AddsBytes, HasCause}
+use Rattle.wtf_clients.specs.Asked.{LacksPunch, asked_of, lent_by, HasFailed}
+use Rattle.wtf_clients.specs.Serves.{NamesTables, AreBased, AreFull, ServesLine}
+use Rattle.wtf_clients.proofs.Lacking.{memory_none}
+use Rattle.wtf_clients.proofs.Serving.{lent_to}
+use Rattle.wtf_clients.proofs.ToldLaws.{tables_stay}
+
+-- other scans name nothing else
+pub gc_names : (old : TablesView) (beside : BesideView) → beside.jobs ≡ old.beside.jobs → NamesTables old (record old { beside = beside })
+gc_names old beside jobs P Q hole h = record {
+  live = h.live;
+  each = h.each;
+  planned = λ j x is. h.planned j x (ap (λ l. of_label l j) (sym jobs) ∙ is);
+}
+
+-- the servers that are out in a later part of a span are out in it, whatever is punched
+out_after : {S : Type 0} {kind : StoreKind S} → KindLaws kind → (down : ℕ → Bool) (old mid new : List S) (ranges : List (ℕ × Range))
+    → EachFollows kind old mid ranges → (k : ℕ) → IsOut kind (span down mid new) k → IsOut kind (span down old new) k
+out_after laws down old mid new ranges e k (inl is_down) = inl is_down
+out_after laws down old mid new ranges e k (inr rise) =
+    let same = e.same_length in
+    let there = rise.0 in
+    let below : k < length old = omega (arith, same, there) in
+    inr (
+      below,
+      λ d low.
+          let kept = (laws.keeps _ _ _ (e.each k d below)).faults in
+          let later = rise.1 d in
+          omega (arith, kept, later low),
+    )
+
+-- a range that has a byte has its first one
+first_of : (k : ℕ) (r : Range) → 0 < r.len → lies_in (record { server = k; file = r.file; at = r.at }) (k, r) ≡ true
+first_of k r some =
+    and_from (nat_eq k k) (nat_eq r.file r.file && (nat_le r.at r.at && nat_lt r.at (r.at + r.len))) (eq-eqb k k refl)
+    (and_from (nat_eq r.file r.file) (nat_le r.at r.at && nat_lt r.at (r.at + r.len)) (eq-eqb r.file r.file refl)
+    (and_from (nat_le r.at r.at) (nat_lt r.at (r.at + r.len)) (le-leb r.at r.at (omega arith)) (lt-ltb r.at (r.at + r.len) (omega (arith, some)))))
+
+-- and so has one of ranges that lie apart
+range_after : (before : List (ℕ × Range)) (r : ℕ × Range) (rest : List (ℕ × Range)) → AreApart (before ++ r ∷ rest) → 0 < r.1.len
+range_after [] r rest apart = apart.0
+range_after (b ∷ bs) r rest apart = range_after bs r rest apart.2
+
+module _ {S : Type 0} {kind : StoreKind S} (laws : KindLaws kind) (old new : Dev S) (lent : IsSoundDev kind old)
+    (ring : IsRing old.settings.servers old.ring.now.points) (before : TablesView)
+    (inside : TablesBytes (is_inside kind (stores old) old.settings) any_slice before) (lengths : SameLengths kind (stores old) (stores new)) (k : ℕ)
+    (beside : BesideView) (jobs : beside.jobs ≡ before.beside.jobs) where
+  abbrev after : TablesView
+  after = record before { beside = beside }
+
+  serves_by : (ranges : List (ℕ × Range)) → EachFollows kind (stores old) (stores new) ranges → (a : Answer)
+      → AddsBytes kind (between old new) old.settings (Frees k) a
+      → HasCause kind (between old new) old.settings ⊥ (AreBased before) (AreFull old.settings before) (Frees k) a
+      → HasFailed (asked_of kind (between old new) (lent_by old) before (event.Collect k)).fails a
+      → ServesLine kind (between old new) (lent_by old) before after (event.Collect k) a
+  serves_by ranges each a adds caused failed = record {
+    inside = gc_names before beside jobs (is_inside kind (stores new) old.settings) any_slice refl
+        (tables_stay (is_inside kind (stores old) old.settings) (is_inside kind (stores new) old.settings)
+        (inside_stays laws each old.settings lent.shelf) any_slice any_slice (λ s is. is) before inside);
+    bare = λ free. gc_names before beside jobs any_byte no_slice refl;
+    full = λ free. gc_names before beside jobs (has_copies old.settings.replicas) no_slice refl;
+    adds = adds;
+    caused = caused;
+    placed = tt;
+    failed = failed;
+  }
+
+  -- what was freed
+  pub collected : (ranges : List (ℕ × Range)) → GoesOn kind old new ranges → (n : ℕ)
+      → ServesLine kind (between old new) (lent_by old) before after (event.Collect k) (answer.Collected n)
+  collected ranges goes n = serves_by ranges goes.each (answer.Collected n) lengths tt tt
+
+  -- the server has garbage, and is out
+  lacks : (later : GcView) (why : Fault) → FreesSome kind k old new before.beside.gc later why → IsPunchFault kind (between old new) k why
+      → LacksPunch kind old new before k why
+  lacks later why f cause =
+      let first : Place = record { server = k; file = f.tried.file; at = f.tried.at } in
+      let some = range_after f.ranges (k, f.tried) f.rest f.are.apart in
+      let there : lie_in (f.ranges ++ (k, f.tried) ∷ f.rest) first ≡ true =
+      list_any-append (λ r. lies_in first r) f.ranges ((k, f.tried) ∷ f.rest)
+      ∙ or_right (lie_in f.ranges first) (lie_in ((k, f.tried) ∷ f.rest) first)
+      (or_left (lies_in first (k, f.tried)) (lie_in f.rest first) (first_of k f.tried some)) in
+      record {
+        place = first;
+        server = refl;
+        garbage = (and_parts (nat_eq k k) (is_garbage before.beside.gc first) (sym (f.are.exact first) ∙ there)).1;
+        cause = cause;
+      }
+
+  -- or the server failed
+  pub collect_failed : (later : GcView) (why : Fault) (a : Answer) → fault_answer why ≡ Some a → IsCollectFault kind k old new before.beside.gc later why
+      → ServesLine kind (between old new) (lent_by old) before after (event.Collect k) a
+  collect_failed later fault.Memory a is f = absurd (memory_none fault.Memory a is refl)
+  collect_failed later (fault.Read j) a is f = absurd f.cause
+  collect_failed later fault.Write a is f = absurd f.cause
+  collect_failed later (fault.Damaged j) a is f = absurd f.cause
+  collect_failed later (fault.Punch j) a is f =
+      let same : answer.FaultPunch j.0 ≡ a = cc in
+      let out : IsOut kind (between old new) k =
+      out_after laws (is_down old.replicas.now) (stores old) (stores f.mid) (stores new) f.ranges f.goes.each k
+      (subst (λ r. IsOut kind (span (is_down r.now) (stores f.mid) (stores new)) k) f.goes.replicas f.cause.1) in
+      let server = f.cause.0 in
+      subst (λ (b : Answer). ServesLine kind (between old new) (lent_by old) before after (event.Collect k) b) same
+      (serves_by _ (each_on laws f.goes.each f.last.each) (answer.FaultPunch j.0) lengths
+      (server, subst (λ m. IsOut kind (between old new) m) (sym server) out)
+      (fault.Punch j, refl, (old, new, lent_to old new ring, lacks later (fault.Punch j) f (server, out))))

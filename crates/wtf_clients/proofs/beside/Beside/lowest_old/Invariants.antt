@@ -1,0 +1,7 @@
+use Rattle.std.proofs.Common.{◌≡◌, ◌<◌, ℕ, false}
+use Rattle.wtf_clients.specs.ScanTurns.{is_old_job}
+use Rattle.wtf_clients.proofs.beside.Beside.lowest_old.Given as goal
+
+-- no label before is of a job that was open
+abbrev pub invariant-loop-j : goal.invariant-loop-j
+invariant-loop-j l = (i : ℕ) → i < l.j → is_old_job l.self i ≡ false
