@@ -33,7 +33,7 @@ use Rattle.wtf_meta.specs.Trees.{Stands}
 use Rattle.wtf_meta.proofs.Telling.{TellsOn}
 use Rattle.wtf_meta.specs.Calls.{cap_for}
 use Rattle.wtf_meta.specs.Feet.{Feet}
-use Rattle.wtf_region.specs.Cached.{Remembered, CacheTrue}
+use Rattle.wtf_region.specs.Cached.{Remembered}
 use Rattle.wtf_replay.specs.Views.{TxnView, is_live}
 use Rattle.wtf_replay.specs.Fits.{IsFit}
 use Rattle.wtf_replay.specs.Refusals.{try_refusal, step_refusal}
@@ -46,7 +46,7 @@ use Rattle.wtf_clients.specs.Views.{TablesView, of_client, metadata_now}
 use Rattle.wtf_clients.specs.Sounds.{owned, IsOpen, AreSound}
 use Rattle.wtf_clients.specs.Touched.{SinceBase}
 use Rattle.wtf_clients.specs.Standing.{StandsForTxn, StandsForSlot, TablesStand}
-use Rattle.wtf_clients.specs.Turns.{Keeps, Ends, Commits, Retries, Tries, Replays, Aborts, StepFails, Finishes, GivesUp, Steps, Finals}
+use Rattle.wtf_clients.specs.Turns.{AreTrue, Keeps, Ends, Commits, Retries, Tries, Replays, Aborts, StepFails, Finishes, GivesUp, Steps, Finals}
 use Rattle.wtf_clients.proofs.Images.{before_same, before_own}
 use Rattle.wtf_clients.proofs.Later.{Stands-later}
 use Rattle.wtf_clients.proofs.SinceLaws.{since_none, touched_installed, since_installed, retry_met}
@@ -382,7 +382,7 @@ module _ (Telling : Type 0) (lists : Remembered) (servers size : ℕ) (told late
 
   -- and the machine's transaction goes on with it
   replay_stand : (m : Machine) (t : Transaction) → m.settings.region ≡ size → TablesStand size told old m → TellsOn told later → get m.transactions c ≡ Some
-      t → Telling × CacheTrue told size [] lists
+      t → Telling × AreTrue size told lists old
       → MayStep m t (answer.Replayed i) × TablesStand size later new (stepped m c t (answer.Replayed i))
   replay_stand m t region st on there telling =
       let txn = txn_in size told old m c x t st here there in
@@ -396,8 +396,8 @@ module _ (Telling : Type 0) (lists : Remembered) (servers size : ℕ) (told late
 -- a call that deviates at the base ends the transaction
 abort_may : (Telling : Type 0) (lists : Remembered) (servers size : ℕ) (told later : Told) (old new : TablesView) (c : ℕ) (x : TxnView) (i : ℕ) (a : Answer)
     (m : Machine) (t : Transaction)
-    → Aborts Telling lists servers size told later old new c x i a → m.settings.region ≡ size → StandsForTxn size told old.kv m.now x t → Telling × CacheTrue
-    told size [] lists
+    → Aborts Telling lists servers size told later old new c x i a → m.settings.region ≡ size → StandsForTxn size told old.kv m.now x t → Telling × AreTrue
+    size told lists old
     → (i ≡ t.replayed + 1) × (slice_get (answers_of (cap_of m) t.tree t.ops) t.replayed ≡ Some a) × (slice_get t.shown t.replayed ≢ Some a)
 abort_may Telling lists servers size told later old new c x i a m t turn region txn telling =
     let d = turn.deviates (telling.0, telling.1, txn.tree.bytes) t.ops txn.sound t.tree txn.tree in
@@ -436,7 +436,7 @@ steps_sound Telling lists servers size told later old new c x a sound here turn 
 pub steps_stand : (Telling : Type 0) (lists : Remembered) (servers size : ℕ) (told later : Told) (old new : TablesView) (m : Machine) (c : ℕ) (x : TxnView)
     (t : Transaction) (a : Answer)
     → AreSound old → m.settings.region ≡ size → m.settings.servers ≡ servers → TablesStand size told old m → TellsOn told later
-    → of_client old.clients c ≡ Some x → get m.transactions c ≡ Some t → step_refusal x ≡ None → Telling × CacheTrue told size [] lists
+    → of_client old.clients c ≡ Some x → get m.transactions c ≡ Some t → step_refusal x ≡ None → Telling × AreTrue size told lists old
     → Steps Telling lists servers size told later old new c x a → MayStep m t a × TablesStand size later new (stepped m c t a)
 steps_stand Telling lists servers size told later old new m c x t (answer.Replayed i) sound region count st on here there asked telling turn = replay_stand
     Telling lists servers size told later old new c x i sound here turn m t region st on there telling
@@ -464,8 +464,8 @@ give_up Telling lists servers size told later old new c x i a turn = let number 
 -- calls that deviate on the map now do so on the tree now
 give_up_may : (Telling : Type 0) (lists : Remembered) (servers size : ℕ) (told later : Told) (old new : TablesView) (c : ℕ) (x : TxnView) (i : ℕ) (a : Answer)
     (m : Machine) (t : Transaction)
-    → GivesUp Telling lists servers size told later old new c x i a → m.settings.region ≡ size → StandsForTxn size told old.kv m.now x t → Telling × CacheTrue
-    told size [] lists
+    → GivesUp Telling lists servers size told later old new c x i a → m.settings.region ≡ size → StandsForTxn size told old.kv m.now x t → Telling × AreTrue
+    size told lists old
     → Deviates (answers_of (cap_of m) m.now t.ops) t.shown i a
 give_up_may Telling lists servers size told later old new c x i a m t turn region txn telling =
     subst (λ k. Deviates (answers_of k m.now t.ops) t.shown i a) (sym (cap_is m size region))
@@ -485,7 +485,7 @@ finals_sound Telling lists servers size told later old new c x a sound here turn
 pub finals_stand : (Telling : Type 0) (lists : Remembered) (servers size : ℕ) (told later : Told) (old new : TablesView) (m : Machine) (c : ℕ) (x : TxnView)
     (t : Transaction) (a : Answer)
     → AreSound old → m.settings.region ≡ size → m.settings.servers ≡ servers → TablesStand size told old m → TellsOn told later
-    → of_client old.clients c ≡ Some x → get m.transactions c ≡ Some t → Telling × CacheTrue told size [] lists
+    → of_client old.clients c ≡ Some x → get m.transactions c ≡ Some t → Telling × AreTrue size told lists old
     → Finals Telling lists servers size told later old new c x a → MayCommit m t a × TablesStand size later new (committed m c t a)
 finals_stand Telling lists servers size told later old new m c x t (answer.Committed n) sound region count st on here there telling turn =
     installs_stand old new turn.mid c x sound here (finish_up Telling lists servers size told later old new c x n turn) turn.ends size told later m t n st on

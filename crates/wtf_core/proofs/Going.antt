@@ -1,13 +1,19 @@
 -- A line that saves nothing leaves what may be on the keeper, and the maps up to the number.
-use Rattle.std.proofs.Common.{◌≡◌, ◌≢◌, ◌≤◌, ℕ, Bool, true, false, nat_lt, List, Option, None, Some, MatchOption, refl, ap, subst, sym, ◌∙◌, ⊎_elim, arith}
+use Rattle.std.proofs.Common.{◌≡◌, ◌≢◌, ◌≤◌, ℕ, Bool, true, false, nat_lt, List, Option, None, Some, MatchOption, IsTrue, refl, ap, subst, sym}
+use Rattle.std.proofs.Common.{◌∙◌, ⊎_elim, arith}
 use Rattle.std.specs.Bool.{MatchBool}
-use Rattle.wtf_kv.specs.Stores.{Store}
+use Rattle.wtf_dev.specs.Store.{StoreKind}
+use Rattle.wtf_dev.specs.Sums.{TellsAll}
+use Rattle.wtf_replica.specs.Bytes.{byte_at}
+use Rattle.wtf_replica.specs.Spans.{Span}
+use Rattle.wtf_kv.specs.Stores.{Store, is_live}
+use Rattle.wtf_region.specs.declared.dev.Dev.{Dev}
 use Rattle.wtf_values.specs.declared.key.Key.{Key}
 use Rattle.wtf_values.specs.declared.value.Value.{Value}
 use Rattle.wtf_model.specs.declared.answer.Answer.{Answer, Aborted'}
 use Rattle.wtf_model.specs.declared.answer.Answer.TheVariants as answer
 use Rattle.wtf_model.specs.declared.answer.Word.{Word}
-use Rattle.wtf_model.specs.declared.answer.Word.TheVariants.{NoTx, InTx, NoServer, NoJob, JobInUse}
+use Rattle.wtf_model.specs.declared.answer.Word.TheVariants.{NoTx, InTx, NoServer, NoJob, JobInUse, ScanBusy, NoScan}
 use Rattle.wtf_model.specs.declared.op.JobKind.{JobKind}
 use Rattle.wtf_model.specs.declared.event.Event.{Event}
 use Rattle.wtf_model.specs.declared.event.Event.TheVariants as event
@@ -20,10 +26,14 @@ use Rattle.wtf_replay.specs.Views.{TxnView}
 use Rattle.wtf_replay.specs.Refusals.{call_refusal, try_refusal, step_refusal}
 use Rattle.wtf_replay.specs.Tried.{KeepsMaps}
 use Rattle.wtf_compact.specs.Jobs.{JobView}
-use Rattle.wtf_clients.specs.Views.{BesideView, TablesView, of_client, of_label}
+use Rattle.wtf_clients.specs.Sounds.{AreSound}
+use Rattle.wtf_clients.specs.Views.{BesideView, TablesView, of_client, of_label, with_gc}
+use Rattle.wtf_clients.proofs.Lives.{live_upto}
+use Rattle.wtf_clients.proofs.ScanFrames.{same_maps}
 use Rattle.wtf_clients.specs.JobTurns.{KeepsOthers, RefusesJob, FreePlan, PlanTurn, Puts, PutTurn, DropsJob, DropTurn}
 use Rattle.wtf_core.specs.Views.{CoreView}
 use Rattle.wtf_clients.specs.Turns.{Keeps, Stays, Refuses, Begins, Ends, Tries, Steps, Finals, LoneTurn, TxnTurn, ClientTurn}
+use Rattle.wtf_clients.specs.ScanTurns.{ScanTurn, PieceTurn, PieceFails, DoesTurn, CollectTurn, KeepsStore}
 use Rattle.wtf_core.specs.Turns.{Switches, LineTurn}
 
 -- the images that may be on the keeper are what they were
@@ -154,23 +164,96 @@ module _ (old new : TablesView) (j : ℕ) (a : Answer) where
       by None g = same_goes old new g.same
       by (Some x) g = others_go old new j None g.keeps (λ n le. ap (λ (s : Store Key Value). metadata_at s n) g.kv)
 
-module _ (Telling : Type 0) (told : Told × Told) (old new : CoreView) (a : Answer) where
-  core_goes : new ≡ old → Goes old.tables new.tables
-  core_goes is = same_goes old.tables new.tables (ap (λ (c : CoreView). c.tables) is)
+-- ---- a scan, its parts and a collection
+-- what is read of the images goes on, where only maps at numbers that can be read need stay
+pub record GoesLive (old new : TablesView) : Type 0 where
+  pub maps : (n : ℕ) → IsTrue (is_live old.kv n) → metadata_at new.kv n ≡ metadata_at old.kv n
+  pub more : old.next_tx ≤ new.next_tx
+  pub saved : SameImages old.beside new.beside
 
-  server_goes : (k : ℕ) (to b : Bool) → MatchBool b (Switches old new k to a) ((a ≡ answer.Refused NoServer) × (new ≡ old)) → Goes old.tables new.tables
-  server_goes k to true h = same_goes old.tables new.tables (ap (λ (c : CoreView). c.tables) h.rest)
+pub live_of : (old new : TablesView) → AreSound old → Goes old new → GoesLive old new
+live_of old new sound h = record { maps = λ n live. h.maps n (live_upto old n sound live); more = h.more; saved = h.saved }
+
+same_live : (old new : TablesView) → new ≡ old → GoesLive old new
+same_live old new is = subst (λ t. GoesLive old t) (sym is) (record { maps = λ n live. refl; more = omega arith; saved = (refl, refl) })
+
+gc_images : (old new : BesideView) → new ≡ with_gc old new.gc → SameImages old new
+gc_images old new is = (ap (λ (b : BesideView). b.images) is, ap (λ (b : BesideView). b.none) is)
+
+scan_live : {S : Type 0} (kind : StoreKind S) (shelf : List S) (old new : TablesView) (a : Answer) → ScanTurn kind shelf old new a → GoesLive old new
+scan_live kind shelf old new (answer.Refused ScanBusy) h = same_live old new h.0
+scan_live kind shelf old new (answer.Held who) h = same_live old new h.0
+scan_live kind shelf old new answer.Scanning h = record {
+  maps = λ n live. same_maps old.kv new.kv h.starts.pins.number h.starts.pins.cells n;
+  more = let next = h.next_tx in omega (arith, next);
+  saved = (ap (λ (b : BesideView). b.images) h.beside, ap (λ (b : BesideView). b.none) h.beside);
+}
+scan_live kind shelf old new a h = absurd h
+
+does_live : {S : Type 0} (kind : StoreKind S) (before after : Dev S) (old new : TablesView) (n left : ℕ) → DoesTurn kind before after old new n left
+    → GoesLive old new
+does_live kind before after old new n left h = record {
+  maps = h.prunes.maps;
+  more = let next = h.keeps.next_tx in omega (arith, next);
+  saved = gc_images old.beside new.beside h.keeps.beside;
+}
+
+fails_live : {S : Type 0} (kind : StoreKind S) (before after : Dev S) (old new : TablesView) (n : ℕ) (a : Answer) → PieceFails kind before after old new n a
+    → GoesLive old new
+fails_live kind before after old new n a h = record {
+  maps = h.pruned.kv.maps;
+  more = let next = h.pruned.next_tx in omega (arith, next);
+  saved = same_images old.beside new.beside h.pruned.beside;
+}
+
+piece_live : {S : Type 0} (kind : StoreKind S) (before after : Dev S) (old new : TablesView) (n : ℕ) (a : Answer) → PieceTurn kind before after old new n a
+    → GoesLive old new
+piece_live kind before after old new n (answer.Refused NoScan) h = same_live old new h.0
+piece_live kind before after old new n (answer.More left) h = does_live kind before after old new n left h.1
+piece_live kind before after old new n answer.Done h = does_live kind before after old new n 0 h
+piece_live kind before after old new n a h = fails_live kind before after old new n a h
+
+store_live : (old new : TablesView) → KeepsStore old new → GoesLive old new
+store_live old new h = record {
+  maps = λ n live. ap (λ (s : Store Key Value). metadata_at s n) h.kv;
+  more = let next = h.keeps.next_tx in omega (arith, next);
+  saved = gc_images old.beside new.beside h.keeps.beside;
+}
+
+collect_live : {S : Type 0} (kind : StoreKind S) (before after : Dev S) (old new : TablesView) (k : ℕ) (a : Answer)
+    → CollectTurn kind before after old new k a → GoesLive old new
+collect_live kind before after old new k (answer.Refused NoServer) h = same_live old new h.0
+collect_live kind before after old new k (answer.Refused NoScan) h = same_live old new h.0
+collect_live kind before after old new k (answer.Collected n) h = store_live old new h.1.keeps
+collect_live kind before after old new k (answer.FaultPunch j) h = store_live old new h.1.keeps
+collect_live kind before after old new k a h = absurd h
+
+-- ---- each line but a save
+module _ {S : Type 0} (kind : StoreKind S) (t : Span S) (old new : CoreView) (sound : AreSound old.tables) (a : Answer) where
+  live : Goes old.tables new.tables → GoesLive old.tables new.tables
+  live h = live_of old.tables new.tables sound h
+
+  core_goes : new ≡ old → GoesLive old.tables new.tables
+  core_goes is = same_live old.tables new.tables (ap (λ (c : CoreView). c.tables) is)
+
+  server_goes : (k : ℕ) (to b : Bool) → MatchBool b (Switches old new k to a) ((a ≡ answer.Refused NoServer) × (new ≡ old)) → GoesLive old.tables new.tables
+  server_goes k to true h = same_live old.tables new.tables (ap (λ (c : CoreView). c.tables) h.rest)
   server_goes k to false h = core_goes h.1
 
-  pub line_goes : (e : Event) → e ≢ event.Save → LineTurn Telling told old new e a → Goes old.tables new.tables
-  line_goes (event.Client c v) ne h = client_goes Telling old.lists old.settings.servers old.settings.region told.0 told.1 old.tables new.tables c v a h.0
-  line_goes (event.Plan j kind p r) ne h =
-      plan_goes Telling old.lists old.settings.servers old.settings.region told.0 told.1 old.tables new.tables j kind p r a h.0
-  line_goes (event.Put j) ne h = put_goes old.tables new.tables j a h.0
-  line_goes (event.DropJob j) ne h = drop_goes old.tables new.tables j a h.0
+  pub line_goes : (e : Event) → e ≢ event.Save → LineTurn kind t old new e a → GoesLive old.tables new.tables
+  line_goes (event.Client c v) ne h =
+      live (client_goes (TellsAll kind t.before) old.lists old.settings.servers old.settings.region (byte_at kind t.before) (byte_at kind t.after) old.tables
+      new.tables c v a h.0)
+  line_goes (event.Plan j job p r) ne h =
+      live (plan_goes (TellsAll kind t.before) old.lists old.settings.servers old.settings.region (byte_at kind t.before) (byte_at kind t.after) old.tables
+      new.tables j job p r a h.0)
+  line_goes (event.Put j) ne h = live (put_goes old.tables new.tables j a h.0)
+  line_goes (event.DropJob j) ne h = live (drop_goes old.tables new.tables j a h.0)
+  line_goes event.Scan ne h = scan_live kind t.before old.tables new.tables a h.0
+  line_goes (event.Piece n) ne h = piece_live kind h.0.before h.0.after old.tables new.tables n a h.0.did
+  line_goes (event.Collect k) ne h = collect_live kind h.0.before h.0.after old.tables new.tables k a h.0.did
   line_goes (event.Down k) ne h = server_goes k true (nat_lt k old.settings.servers) h
   line_goes (event.Up k) ne h = server_goes k false (nat_lt k old.settings.servers) h
-  line_goes (event.Dump p) ne h = stays_goes old.tables new.tables 0 (h.0.stays 0)
+  line_goes (event.Dump p) ne h = live (stays_goes old.tables new.tables 0 (h.0.stays 0))
   line_goes event.Tree ne h = core_goes h.1
   line_goes event.Save ne h = absurd (ne refl)
-  line_goes e ne h = core_goes h.1

@@ -11,7 +11,6 @@ use Rattle.wtf_model.specs.declared.answer.Answer.{Answer}
 use Rattle.wtf_model.specs.declared.answer.Answer.TheVariants as answer
 use Rattle.wtf_model.specs.declared.event.Event.{Event}
 use Rattle.wtf_model.specs.declared.event.Event.TheVariants as event
-use Rattle.wtf_meta.specs.Contents.{Told}
 use Rattle.wtf_meta.specs.Maps.{Map, metadata_at}
 use Rattle.wtf_image.specs.Lookups.{plain}
 use Rattle.wtf_image.specs.Saving.{Says}
@@ -23,7 +22,7 @@ use Rattle.wtf_core.specs.Turns.{LineTurn}
 use Rattle.wtf_clients.specs.Keeping.{KeeperSpan, Hands, SyncFailed, KeeperFailed, KeeperTurn, IsImageAt, IsHeldBy, HoldsKept}
 use Rattle.wtf_clients.proofs.Images.{kept_pinned}
 use Rattle.wtf_clients.proofs.Lives.{pinned_live}
-use Rattle.wtf_core.proofs.Going.{Goes, line_goes}
+use Rattle.wtf_core.proofs.Going.{Goes, GoesLive, line_goes}
 
 -- what every keeper keeps to
 pub record KeeperLaws (k : KeeperSpan) : Type 0 where
@@ -147,18 +146,24 @@ module _ {S : Type 0} (kind : StoreKind S) (t : Span S) (k : KeeperSpan) (settin
   keeper_on event.Save a h = h
   keeper_on e a h = h
 
+live_held : (old new : TablesView) (settings : Settings) (bytes : List ℕ) → AreSound old → GoesLive old new → IsHeldBy old settings bytes
+    → IsHeldBy new settings bytes
+live_held old new settings bytes sound h held =
+    held_on old new settings bytes h.more (λ is. h.saved.1 ∙ is)
+    (λ n there. (subst (λ (l : List ℕ). Contains l n) (sym h.saved.0) there, h.maps n (pinned_live old.kv n (kept_pinned old n sound there)))) held
+
 -- each line
-module _ {S : Type 0} (kind : StoreKind S) (t : Span S) (k : KeeperSpan) (laws : KeeperLaws k) (Telling : Type 0) (told : Told × Told) (old new : CoreView)
+module _ {S : Type 0} (kind : StoreKind S) (t : Span S) (k : KeeperSpan) (laws : KeeperLaws k) (old new : CoreView)
     (sound : AreSound old.tables) (a : Answer) where
-  other_held : (e : Event) → e ≢ event.Save → LineTurn Telling told old new e a → k.untouched → HoldsKept k.before old.settings old.tables
+  other_held : (e : Event) → e ≢ event.Save → LineTurn kind t old new e a → k.untouched → HoldsKept k.before old.settings old.tables
       → HoldsKept k.after old.settings new.tables
   other_held e ne turn untouched (bytes, held, is) = (
     bytes,
     ap (λ v. v.held) (laws.same untouched) ∙ held,
-    goes_held old.tables new.tables old.settings bytes sound (line_goes Telling told old new a e ne turn) is,
+    live_held old.tables new.tables old.settings bytes sound (line_goes kind t old new sound a e ne turn) is,
   )
 
-  pub line_held : (e : Event) → LineTurn Telling told old new e a → KeeperTurn kind t k old.settings old.tables new.tables e a → k.before.tells ≡ true
+  pub line_held : (e : Event) → LineTurn kind t old new e a → KeeperTurn kind t k old.settings old.tables new.tables e a → k.before.tells ≡ true
       → HoldsKept k.before old.settings old.tables → HoldsKept k.after old.settings new.tables
   line_held event.Save turn did tells held = save_held kind t k laws old.settings old.tables new.tables sound _ a turn.0 did tells held
   line_held e turn did tells held = other_held e (λ is. absurd (cc)) turn did held

@@ -32,7 +32,7 @@ use Rattle.wtf_meta.specs.Maps.{Map, with, metadata_at}
 use Rattle.wtf_meta.specs.Trees.{LeadsTo, Stands}
 use Rattle.wtf_meta.proofs.Named.{region_of_bytes}
 use Rattle.wtf_meta.proofs.Telling.{TellsOn}
-use Rattle.wtf_region.specs.Cached.{Remembered, CacheTrue}
+use Rattle.wtf_region.specs.Cached.{Remembered}
 use Rattle.wtf_replay.specs.Tried.{KeepsVersions}
 use Rattle.wtf_image.specs.Savable.{AreBefore}
 use Rattle.wtf_compact.specs.Jobs.{JobView, job_edits, target_region}
@@ -43,6 +43,7 @@ use Rattle.wtf_clients.specs.Views.{TablesView, of_label, metadata_now}
 use Rattle.wtf_clients.specs.Sounds.{AreSound}
 use Rattle.wtf_clients.specs.Standing.{StandsForJob, StandsForLabel, TablesStand}
 use Rattle.wtf_clients.specs.Touched.{Touched, above}
+use Rattle.wtf_clients.specs.Turns.{AreTrue}
 use Rattle.wtf_clients.specs.JobTurns.{RefusesJob, plan_due, Plans, PlansSoundly, PlanRefused, PlanFails, FreePlan, PlanTurn, Puts, PutTurn, DropsJob, DropTurn}
 use Rattle.wtf_clients.proofs.Frames.{untouched_same, untouched_job}
 use Rattle.wtf_clients.proofs.Images.{before_more, before_same, before_own}
@@ -58,7 +59,7 @@ use Rattle.wtf_core.proofs.Plain.{tables_later}
 
 -- ---- what a label has in the machine
 
-label_none : (size : ℕ) (told : Told) (kv : Store Key Value) (s : Option JobView) (o : Option Job) → StandsForLabel size told kv s o → s ≡ None → o ≡ None
+pub label_none : (size : ℕ) (told : Told) (kv : Store Key Value) (s : Option JobView) (o : Option Job) → StandsForLabel size told kv s o → s ≡ None → o ≡ None
 label_none size told kv None None h e = refl
 label_none size told kv None (Some t) h e = absurd h
 label_none size told kv (Some x) o h e = absurd (cc)
@@ -140,7 +141,7 @@ module _ (old new : TablesView) (j : ℕ) (sound : AreSound old) where
 
     -- ---- a plan
     module _ (Telling : Type 0) (lists : Remembered) (servers : ℕ) (kind : JobKind) (p : List ℕ) (r : ℕ) (a : Answer)
-        (region : m.settings.region ≡ size) (count : m.settings.servers ≡ servers) (telling : Telling × CacheTrue told size [] lists) where
+        (region : m.settings.region ≡ size) (count : m.settings.servers ≡ servers) (telling : Telling × AreTrue size told lists old) where
       abbrev May : Answer → Type 0
       May b = (b ≡ plan_answer m j p r) ⊎ MayFailPlan m.settings.servers kind (plan_answer m j p r) b
 
@@ -223,7 +224,7 @@ module _ (old new : TablesView) (j : ℕ) (sound : AreSound old) where
           )
 
     pub plan_stands : (Telling : Type 0) (lists : Remembered) (servers : ℕ) (kind : JobKind) (p : List ℕ) (r : ℕ) (a : Answer)
-        → m.settings.region ≡ size → m.settings.servers ≡ servers → Telling × CacheTrue told size [] lists
+        → m.settings.region ≡ size → m.settings.servers ≡ servers → Telling × AreTrue size told lists old
         → PlanTurn Telling lists servers size told later old new j kind p r a
         → ((a ≡ plan_answer m j p r) ⊎ MayFailPlan m.settings.servers kind (plan_answer m j p r) a) × TablesStand size later new (with_job m j kind p r a)
     plan_stands Telling lists servers kind p r a region count telling turn = by (of_label old.beside.jobs j) refl turn

@@ -1,6 +1,6 @@
 -- Each line of a client keeps the tables sound, and is the machine's.
 -- NSDI 2016, sections 2.6 and 2.7.
-use Rattle.std.proofs.Common.{◌≡◌, ℕ, Bool, true, false, List, [], length, Option, None, Some, refl, sym, ap, ◌∙◌, subst, ⊎_elim}
+use Rattle.std.proofs.Common.{◌≡◌, ℕ, Bool, true, false, List, length, Option, None, Some, refl, sym, ap, ◌∙◌, subst, ⊎_elim}
 use Rattle.std.specs.Prelude.{if◌then◌else◌, nat_le, nat_eq, MatchOption}
 use Rattle.std.specs.FinMap.{get}
 use Rattle.wtf_model.specs.declared.limits.TheConstants.{MAX_LOGGED}
@@ -18,14 +18,14 @@ use Rattle.wtf_model.specs.Steps.{is_call_refusal, tried, stepped, called, with_
 use Rattle.wtf_log.proofs.StandingLaws.{OpsStandFor-length}
 use Rattle.wtf_meta.specs.Contents.{Told}
 use Rattle.wtf_meta.proofs.Telling.{TellsOn}
-use Rattle.wtf_region.specs.Cached.{Remembered, CacheTrue}
+use Rattle.wtf_region.specs.Cached.{Remembered}
 use Rattle.wtf_replay.specs.Views.{TxnView, is_live, is_full}
 use Rattle.wtf_replay.specs.Refusals.{call_refusal, try_refusal, step_refusal}
 use Rattle.wtf_replay.specs.Sounds.{tells_slice}
 use Rattle.wtf_clients.specs.Views.{TablesView, of_client}
 use Rattle.wtf_clients.specs.Sounds.{AreSound}
 use Rattle.wtf_clients.specs.Standing.{StandsForTxn, StandsForSlot, TablesStand}
-use Rattle.wtf_clients.specs.Turns.{Refuses, LoneTurn, TxnTurn, ClientTurn}
+use Rattle.wtf_clients.specs.Turns.{AreTrue, Refuses, LoneTurn, TxnTurn, ClientTurn}
 use Rattle.wtf_core.proofs.Plain.{refuses_sound, refuses_stand, begins_sound, begins_stand, calls_sound, calls_stand, fails_stand, aborts_sound, aborts_stand}
 use Rattle.wtf_clients.proofs.Staying.{stays_sound}
 use Rattle.wtf_core.proofs.Ending.{tries_sound, steps_sound, finals_sound, tries_stand, steps_stand, finals_stand}
@@ -108,7 +108,7 @@ not_logged m c t o a w is own =
 
 module _ (Telling : Type 0) (lists : Remembered) (servers size : ℕ) (told later : Told) (old new : TablesView) (m : Machine) (c : ℕ) (sound : AreSound old)
     (region : m.settings.region ≡ size) (count : m.settings.servers ≡ servers)
-    (st : TablesStand size told old m) (on : TellsOn told later) (telling : Telling × CacheTrue told size [] lists) where
+    (st : TablesStand size told old m) (on : TellsOn told later) (telling : Telling × AreTrue size told lists old) where
   -- the machine may answer so to a client with this transaction, or none, and the tables stand for what it is then
   abbrev Client : Option Transaction → Verb → Answer → Type 0
   Client o v a = MayClient m o v a × TablesStand size later new (after_client m c o v a)
@@ -174,8 +174,8 @@ module _ (Telling : Type 0) (lists : Remembered) (servers size : ℕ) (told late
 -- and the machine may answer so, and the tables stand for what it then is
 pub client_stands : (Telling : Type 0) (lists : Remembered) (servers size : ℕ) (told later : Told) (old new : TablesView) (m : Machine) (c : ℕ) (v : Verb)
     (a : Answer)
-    → AreSound old → m.settings.region ≡ size → m.settings.servers ≡ servers → TablesStand size told old m → TellsOn told later → Telling × CacheTrue told
-    size [] lists
+    → AreSound old → m.settings.region ≡ size → m.settings.servers ≡ servers → TablesStand size told old m → TellsOn told later → Telling × AreTrue size
+    told lists old
     → ClientTurn Telling lists servers size told later old new c v a
     → MayClient m (get m.transactions c) v a × TablesStand size later new (after_client m c (get m.transactions c) v a)
 client_stands Telling lists servers size told later old new m c v a sound region count st on telling turn =

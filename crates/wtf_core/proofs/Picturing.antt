@@ -3,11 +3,14 @@ use Rattle.std.proofs.Common.{◌≡◌, ◌≢◌, ◌≤◌, ◌^◌, ℕ, tru
 use Rattle.std.proofs.Common.{inr, ⊎_elim, arith}
 use Rattle.std.specs.FinMap.{get}
 use Rattle.std.specs.List.{Contains}
+use Rattle.std.specs.Option.{option_map}
 use Rattle.std.proofs.lemmas.List.Elements.{Contains-append_left, Contains-push}
 use Rattle.wtf_base.specs.declared.settings.Settings.{Settings}
 use Rattle.wtf_base.specs.Limits.{AreSettings}
 use Rattle.wtf_dev.specs.Store.{StoreKind}
+use Rattle.wtf_replica.specs.Bytes.{byte_at}
 use Rattle.wtf_replica.specs.Spans.{Span}
+use Rattle.wtf_values.specs.declared.key.Key.{Key}
 use Rattle.wtf_model.specs.declared.answer.Answer.{Answer, Aborted'}
 use Rattle.wtf_model.specs.declared.answer.Answer.TheVariants as answer
 use Rattle.wtf_model.specs.declared.event.Event.{Event}
@@ -20,10 +23,16 @@ use Rattle.wtf_model.specs.Machines.{Machine}
 use Rattle.wtf_model.specs.Steps.{after, after_client, begun, tried, stepped, committed, aborted, is_logged, logged, with_transaction, saved}
 use Rattle.wtf_model.proofs.MachineLaws.{with_job-rest, put_in_place-rest, dropped-rest, scanning-rest, scanned-rest}
 use Rattle.wtf_meta.specs.Contents.{Told}
+use Rattle.wtf_meta.specs.Maps.{Map, metadata_at}
 use Rattle.wtf_meta.specs.Trees.{Stands}
 use Rattle.wtf_meta.proofs.Telling.{TellsOn}
+use Rattle.wtf_image.specs.Images.{HasText}
 use Rattle.wtf_image.specs.Kept.{IsKept}
-use Rattle.wtf_image.proofs.SaveMap.{is_kept}
+use Rattle.wtf_image.specs.Lookups.{plain, row_at}
+use Rattle.wtf_image.specs.Rows.{ImageRows}
+use Rattle.wtf_image.specs.Texts.{image_text}
+use Rattle.wtf_image.proofs.PlainLaws.{same_optional}
+use Rattle.wtf_image.proofs.SaveMap.{is_kept, says_all}
 use Rattle.wtf_image.proofs.StandsLaws.{stands_savable}
 use Rattle.wtf_clients.specs.Views.{TablesView, metadata_now}
 use Rattle.wtf_core.specs.Views.{CoreView}
@@ -31,9 +40,14 @@ use Rattle.wtf_clients.specs.Sounds.{AreSound}
 use Rattle.wtf_clients.specs.Standing.{TablesStand}
 use Rattle.wtf_clients.specs.Saves.{SaveTurn}
 use Rattle.wtf_core.specs.Turns.{LineTurn}
-use Rattle.wtf_clients.specs.Keeping.{KeeperSpan, Hands, KeeperFailed, KeeperTurn}
+use Rattle.wtf_clients.specs.Keeping.{KeeperSpan, Hands, KeeperFailed, KeeperTurn, IsImageAt, IsHeldBy, HoldsKept}
+use Rattle.wtf_clients.proofs.Images.{kept_pinned}
+use Rattle.wtf_clients.proofs.Lives.{pinned_live}
+use Rattle.wtf_core.specs.Telling.{KeepsImages}
 use Rattle.wtf_core.specs.Pictured.{IsImageOfTree, IsImageOfOne, HoldsTree}
+use Rattle.wtf_core.proofs.Going.{GoesLive, line_goes}
 use Rattle.wtf_core.proofs.Holding.{KeeperLaws, handed_one}
+use Rattle.wtf_core.proofs.Taking.{same_rows}
 use Rattle.wtf_clients.proofs.Later.{Stands-later}
 
 -- ---- only a save changes the trees that may be saved
@@ -157,20 +171,85 @@ module _ {S : Type 0} (kind : StoreKind S) (span : Span S) (k : KeeperSpan) (law
   save_tree Up answer.FaultSave turn (inr did) tells held = failed_tree did held
   save_tree Up a turn did tells held = absurd turn
 
+-- ---- a line that leaves the keeper
+-- an image is not the text of no byte
+text_some : (rows : ImageRows) (bytes : List ℕ) → HasText rows bytes → bytes ≡ [] → ⊥
+unfolding image_text
+text_some rows bytes text none = let never : image_text rows ≡ [] = sym text.text ∙ none in cc
+
+module _ {S : Type 0} (kind : StoreKind S) (span : Span S) (old new : CoreView) (m : Machine) (begun : AreSound old.tables)
+    (st : TablesStand old.settings.region (byte_at kind span.before) old.tables m) (keeps : KeepsImages kind span old new)
+    (goes : GoesLive old.tables new.tables) where
+  abbrev told : Told
+  told = byte_at kind span.before
+
+  abbrev later : Told
+  later = byte_at kind span.after
+
+  -- what an image at a number says of each key is what the map there has
+  said_at : (n : ℕ) → Contains old.tables.beside.images n → (bytes : List ℕ) (at : IsImageAt old.tables old.settings n bytes) (q : Key)
+      → row_at at.rows q ≡ option_map plain (metadata_at old.tables.kv n q)
+  said_at n there bytes at q =
+      let is = st.images n there in
+      let next : ℕ = old.tables.next_tx in
+      let w : Map = metadata_at old.tables.kv n in
+      says_all old.settings.region next (λ p. option_map plain (w p))
+      (stands_savable old.settings.region told next 0 w is.tree (is.stands next (omega arith)) next begun.begun is.before) at.rows at.text.shape at.says q
+
+  -- so the tree of the image at that number is what it was
+  image_kept : (n : ℕ) → Contains old.tables.beside.images n → (bytes : List ℕ) → IsImageAt old.tables old.settings n bytes → (t : Tree)
+      → IsImageOfTree told bytes t → IsImageOfTree later bytes t
+  image_kept n there bytes at t image =
+      let same : at.rows ≡ image.rows = same_rows at.rows image.rows bytes at.text image.text in
+      let map : image.map ≡ metadata_at old.tables.kv n =
+      λ i q. same_optional (image.map q) (metadata_at old.tables.kv n q)
+      (image.says q ∙ ap (λ (x : ImageRows). row_at x q) (sym same) ∙ said_at n there bytes at q) i in
+      let region : image.rows.header.region ≡ old.settings.region =
+      ap (λ (x : ImageRows). x.header.region) (sym same) ∙ ap (λ h. h.region) at.header in
+      let still : Contains new.tables.beside.images n = subst (λ l. Contains l n) (sym goes.saved.0) there in
+      let maps : metadata_at new.tables.kv n ≡ metadata_at old.tables.kv n =
+      goes.maps n (pinned_live old.tables.kv n (kept_pinned old.tables n begun there)) in
+      record {
+        rows = image.rows;
+        map = image.map;
+        text = image.text;
+        says = image.says;
+        stands = λ tx le.
+            subst (λ b. Stands b later tx 0 image.map t) (sym region)
+            (subst (λ w. Stands old.settings.region later tx 0 w t) (maps ∙ sym map)
+            (keeps n there still tx t
+            (subst (λ w. Stands old.settings.region told tx 0 w t) map
+            (subst (λ b. Stands b told tx 0 image.map t) region (image.stands tx le)))));
+      }
+
+  -- and so is that of what the keeper holds
+  pub kept_tree : (k : KeeperSpan) → KeeperLaws k → (may more : List Tree) → ((t : Tree) → Contains may t → Contains more t) → k.untouched
+      → HoldsKept k.before old.settings old.tables → HoldsTree k.before told may → HoldsTree k.after later more
+  kept_tree k laws may more listed untouched (kept, has, at) (bytes, held, is) =
+      let same : kept ≡ bytes = let both : Some kept ≡ Some bytes = sym has ∙ held in cc in
+      (bytes, ap (λ v. v.held) (laws.same untouched) ∙ held, by is (subst (λ l. IsHeldBy old.tables old.settings l) same at))
+    where
+      by : IsImageOfOne told bytes may → IsHeldBy old.tables old.settings bytes → IsImageOfOne later bytes more
+      by (inl (empty, there)) at = inl (empty, listed root_alone there)
+      by (inr (t, there, image)) (inl (empty, none)) = absurd (text_some image.rows bytes image.text empty)
+      by (inr (t, there, image)) (inr (n, here, at)) = inr (t, listed t there, image_kept n here bytes at t image)
+
 -- each line
-module _ {S : Type 0} (kind : StoreKind S) (span : Span S) (k : KeeperSpan) (laws : KeeperLaws k) (Telling : Type 0) (told later : Told)
-    (on : TellsOn told later) (old new : CoreView) (m : Machine)
+module _ {S : Type 0} (kind : StoreKind S) (span : Span S) (k : KeeperSpan) (laws : KeeperLaws k) (old new : CoreView) (m : Machine)
     (limits : AreSettings old.settings.servers old.settings.replicas old.settings.region) (sound : AreSound old.tables) (few : old.tables.kv.number ≤ 2 ^ 62)
     (next : old.tables.next_tx ≤ 2 ^ 62)
-    (st : TablesStand old.settings.region told old.tables m) (a : Answer) where
-  other_tree : (e : Event) → e ≢ event.Save → k.untouched → HoldsTree k.before told m.may_be_saved → HoldsTree k.after later (after m e a).may_be_saved
-  other_tree e ne untouched held =
-      untouched_tree kind span k laws old.settings old.tables new.tables told later on m limits sound few next st (after m e a).may_be_saved
-      (λ t there. subst (λ l. Contains l t) (sym (event_may m e a ne)) there) untouched held
+    (st : TablesStand old.settings.region (byte_at kind span.before) old.tables m) (keeps : KeepsImages kind span old new) (a : Answer) where
+  other_tree : (e : Event) → e ≢ event.Save → LineTurn kind span old new e a → k.untouched → HoldsKept k.before old.settings old.tables
+      → HoldsTree k.before (byte_at kind span.before) m.may_be_saved → HoldsTree k.after (byte_at kind span.after) (after m e a).may_be_saved
+  other_tree e ne turn untouched kept held =
+      kept_tree kind span old new m sound st keeps (line_goes kind span old new sound a e ne turn) k laws m.may_be_saved (after m e a).may_be_saved
+      (λ t there. subst (λ l. Contains l t) (sym (event_may m e a ne)) there) untouched kept held
 
-  pub line_tree : (e : Event) → LineTurn Telling (told, later) old new e a → KeeperTurn kind span k old.settings old.tables new.tables e a
-      → k.before.tells ≡ true
-      → HoldsTree k.before told m.may_be_saved → HoldsTree k.after later (after m e a).may_be_saved
-  line_tree event.Save turn did tells held =
-      save_tree kind span k laws old.settings old.tables new.tables told later on m limits sound few next st _ a turn.0 did tells held
-  line_tree e turn did tells held = other_tree e (λ is. absurd (cc)) did held
+  pub line_tree : (e : Event) → (((j : ℕ) → e ≢ event.Collect j) → TellsOn (byte_at kind span.before) (byte_at kind span.after))
+      → LineTurn kind span old new e a → KeeperTurn kind span k old.settings old.tables new.tables e a
+      → k.before.tells ≡ true → HoldsKept k.before old.settings old.tables
+      → HoldsTree k.before (byte_at kind span.before) m.may_be_saved → HoldsTree k.after (byte_at kind span.after) (after m e a).may_be_saved
+  line_tree event.Save on turn did tells kept held =
+      save_tree kind span k laws old.settings old.tables new.tables (byte_at kind span.before) (byte_at kind span.after)
+      (on (λ j is. absurd (cc))) m limits sound few next st _ a turn.0 did tells held
+  line_tree e on turn did tells kept held = other_tree e (λ is. absurd (cc)) turn did kept held

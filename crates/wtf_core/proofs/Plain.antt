@@ -35,7 +35,7 @@ use Rattle.wtf_meta.specs.Sessions.{Holds}
 use Rattle.wtf_meta.specs.Calls.{Caller, cap_for}
 use Rattle.wtf_meta.specs.Trees.{Stands}
 use Rattle.wtf_meta.proofs.Telling.{TellsOn}
-use Rattle.wtf_region.specs.Cached.{Remembered, CacheTrue}
+use Rattle.wtf_region.specs.Cached.{Remembered}
 use Rattle.wtf_replay.specs.Views.{TxnView, begun, is_live}
 use Rattle.wtf_replay.specs.Refusals.{call_refusal}
 use Rattle.wtf_replay.specs.Fits.{IsFit}
@@ -45,7 +45,7 @@ use Rattle.wtf_clients.specs.Views.{TablesView, of_client, metadata_now}
 use Rattle.wtf_clients.specs.Sounds.{owned, IsOpen, AreSound}
 use Rattle.wtf_clients.specs.Touched.{SinceBase}
 use Rattle.wtf_clients.specs.Standing.{StandsForTxn, StandsForSlot, TablesStand}
-use Rattle.wtf_clients.specs.Turns.{Refuses, Begins, Calls, CallFails, Ends}
+use Rattle.wtf_clients.specs.Turns.{AreTrue, Refuses, Begins, Calls, CallFails, Ends}
 use Rattle.wtf_clients.proofs.Lists.{sets_same}
 use Rattle.wtf_clients.proofs.Pins.{one_some}
 use Rattle.wtf_clients.proofs.SinceLaws.{since_none}
@@ -189,7 +189,7 @@ module _ (Telling : Type 0) (lists : Remembered) (servers size : ℕ) (told late
   -- the answer is due to the machine's transaction, which logs it too
   pub calls_stand : (m : Machine) (t : Transaction) → m.settings.region ≡ size → TablesStand size told old m → TellsOn told later
       → get m.transactions c ≡ Some t → call_refusal x ≡ None
-      → Telling × CacheTrue told size [] lists → MayCall m t o a × TablesStand size later new (called m c t o a)
+      → Telling × AreTrue size told lists old → MayCall m t o a × TablesStand size later new (called m c t o a)
   calls_stand m t region st on there asked telling =
       let y : TxnView = calls.later_one in
       let is = calls.called.logged in

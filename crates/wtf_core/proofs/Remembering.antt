@@ -3,12 +3,13 @@ use Rattle.std.proofs.Common.{◌≡◌, ◌≤◌, ℕ, nat_lt, Bool, true, fal
 use Rattle.std.specs.Bool.{MatchBool}
 use Rattle.wtf_base.specs.declared.settings.Settings.{Settings}
 use Rattle.wtf_dev.specs.Each.{EachFollows}
-use Rattle.wtf_dev.specs.Store.{StoreKind, KindLaws}
+use Rattle.wtf_dev.specs.Store.{Range, StoreKind, KindLaws}
 use Rattle.wtf_replica.specs.Bytes.{byte_at}
 use Rattle.wtf_model.specs.declared.answer.Answer.{Answer}
 use Rattle.wtf_model.specs.declared.answer.Answer.TheVariants as answer
 use Rattle.wtf_model.specs.declared.answer.Word.TheVariants.{NoServer}
 use Rattle.wtf_region.specs.declared.dev.Dev.{Dev}
+use Rattle.wtf_region.specs.Apart.{with_ranges}
 use Rattle.wtf_region.specs.Cached.{CacheInside, CacheTrue}
 use Rattle.wtf_region.specs.Devs.{IsSoundDev, GoesOn, stores, remembered, told_in, inside_of}
 use Rattle.wtf_region.specs.Inside.{is_inside}
@@ -33,25 +34,24 @@ sound_dev kind dev tables made enough lists = record {
 }
 
 -- and what it finds then
-pub goes_keeps : {S : Type 0} (kind : StoreKind S) (dev new : Dev S) (old next : CoreView) → GoesOn kind dev new [] → dev.settings ≡ old.settings → remembered
-    dev ≡ old.lists → next.lists ≡ remembered new
-    → KeepsLists kind (stores dev) (stores new) old next
-goes_keeps kind dev new old next goes settings was is = record {
+pub goes_keeps : {S : Type 0} (kind : StoreKind S) (dev new : Dev S) {punched : List (ℕ × Range)} (old next : CoreView) → GoesOn kind dev new punched
+    → dev.settings ≡ old.settings → remembered dev ≡ old.lists → next.lists ≡ remembered new → KeepsLists kind (stores dev) (stores new) punched old next
+goes_keeps kind dev new {punched} old next goes settings was is = record {
   inside = subst (CacheInside (is_inside kind (stores new) old.settings)) (sym is)
       (subst (λ (st : Settings). CacheInside (is_inside kind (stores new) st) (remembered new)) settings
       (subst (λ (st : Settings). CacheInside (is_inside kind (stores new) st) (remembered new)) goes.settings goes.sound.lists));
   true_still = λ ranges h.
-      subst (CacheTrue (told_in kind new) old.settings.region ranges) (sym is)
-      (subst (λ (st : Settings). CacheTrue (told_in kind new) st.region ranges (remembered new)) settings
-      (subst (λ (st : Settings). CacheTrue (told_in kind new) st.region ranges (remembered new)) goes.settings
+      subst (CacheTrue (told_in kind new) old.settings.region (with_ranges ranges punched)) (sym is)
+      (subst (λ (st : Settings). CacheTrue (told_in kind new) st.region (with_ranges ranges punched) (remembered new)) settings
+      (subst (λ (st : Settings). CacheTrue (told_in kind new) st.region (with_ranges ranges punched) (remembered new)) goes.settings
       (goes.lists ranges
       (subst (λ (st : Settings). CacheTrue (told_in kind dev) st.region ranges (remembered dev)) (sym settings)
       (subst (CacheTrue (told_in kind dev) old.settings.region ranges) (sym was) h)))));
 }
 
 -- a line that is lent no store leaves them
-pub still_keeps : {S : Type 0} (kind : StoreKind S) (shelf : List S) (old next : CoreView) → IsInside kind shelf old → next.lists ≡ old.lists → KeepsLists
-    kind shelf shelf old next
+pub still_keeps : {S : Type 0} (kind : StoreKind S) (shelf : List S) (old next : CoreView) → IsInside kind shelf old → next.lists ≡ old.lists
+    → KeepsLists kind shelf shelf [] old next
 still_keeps kind shelf old next inside same = record {
   inside = subst (CacheInside (is_inside kind shelf old.settings)) (sym same) inside.lists;
   true_still = λ ranges h. subst (CacheTrue (byte_at kind shelf) old.settings.region ranges) (sym same) h;
@@ -60,7 +60,7 @@ still_keeps kind shelf old next inside same = record {
 -- and so does a save
 pub save_keeps : {S : Type 0} {kind : StoreKind S} → KindLaws kind → (before after : List S) → EachFollows kind before after [] → (old next : CoreView) →
     old.settings.servers ≤ length before → IsInside kind before old
-    → next.lists ≡ old.lists → KeepsLists kind before after old next
+    → next.lists ≡ old.lists → KeepsLists kind before after [] old next
 save_keeps {kind = kind} laws before after each old next enough inside same = record {
   inside = subst (CacheInside (is_inside kind after old.settings)) (sym same) (CacheInside-on laws each old.settings enough old.lists inside.lists);
   true_still = λ ranges h.
@@ -75,5 +75,5 @@ server_same old new k down a true h = ap (λ (core : CoreView). core.lists) h.re
 server_same old new k down a false h = ap (λ (core : CoreView). core.lists) h.1
 
 pub server_keeps : {S : Type 0} (kind : StoreKind S) (shelf : List S) (old new : CoreView) (k : ℕ) (down : Bool) (a : Answer) → IsInside kind shelf old →
-    ServerTurn old new k down a → KeepsLists kind shelf shelf old new
+    ServerTurn old new k down a → KeepsLists kind shelf shelf [] old new
 server_keeps kind shelf old new k down a inside h = still_keeps kind shelf old new inside (server_same old new k down a (nat_lt k old.settings.servers) h)

@@ -10,7 +10,7 @@ use Rattle.wtf_replica.specs.Downs.{is_down}
 use Rattle.std.proofs.lemmas.Bool.{cases_Bool, eqb-true}
 use Rattle.std.specs.Prelude.{IsTrue}
 use Rattle.wtf_dev.specs.Store.{StoreKind}
-use Rattle.wtf_region.specs.Cached.{CacheInside, CacheTrue}
+use Rattle.wtf_region.specs.Cached.{CacheInside}
 use Rattle.wtf_region.specs.Inside.{is_inside}
 use Rattle.wtf_kv.specs.Stores.{Store, is_pinned}
 use Rattle.wtf_kv.proofs.PinLaws.{count-any, count-push}
@@ -42,7 +42,8 @@ use Rattle.wtf_image.proofs.Forms.{one_image}
 use Rattle.wtf_image.proofs.PlainLaws.{same_optional}
 use Rattle.wtf_image.proofs.Said.{says_itself, before_of}
 use Rattle.wtf_core.proofs.Fetched.{map_said, image_inside}
-use Rattle.wtf_core.proofs.Started.{nothing_in, none_of, idle_of}
+use Rattle.wtf_core.proofs.Aged.{kinds_of}
+use Rattle.wtf_core.proofs.Started.{nothing_in, none_of, idle_of, lie_first, scans_first}
 use Rattle.wtf_clients.specs.Views.{BesideView, unsaved, TablesView, of_client, of_label, metadata_now}
 use Rattle.wtf_core.specs.Views.{CoreView}
 use Rattle.wtf_clients.specs.Standing.{IsImageTree, StandsForSlot, StandsForLabel}
@@ -84,6 +85,21 @@ core_of size bytes l tables core load settings same kv next clients saved lists 
       lists = lists;
     }
 
+-- the number alone is pinned
+pub pinned_alone : (core : CoreView) → AreSound core.tables → core.tables.clients ≡ [] → core.tables.beside ≡ only_image unsaved core.tables.kv.number → (n : ℕ)
+    → IsTrue (is_pinned core.tables.kv n) → n ≡ core.tables.kv.number
+pinned_alone core sound clients saved n pinned =
+    let number : ℕ = core.tables.kv.number in
+    let some = count-any n core.tables.kv.pins pinned in
+    let owned : all_owned n core.tables.clients ≡ 0 = ap (λ l. all_owned n l) clients in
+    let kept : all_kept n core.tables.beside ≡ all_kept n (only_image unsaved number) = ap (all_kept n) saved in
+    let one = count-push n number [] in
+    ⊎_elim
+    (λ here. eqb-true n number here)
+    (λ other. let none : ◌≡◌ {A = ℕ} (cond (nat_eq n number) 1 0) 0 = ap (λ b. cond b 1 0) other in absurd
+    (omega (arith, some, sound.pins n, owned, kept, one, none)))
+    (cases_Bool (nat_eq n number))
+
 module _ (size : ℕ → ℕ → ℕ) (bytes : List ℕ) (core : CoreView) (of_it : IsCoreOf size bytes core) where
   abbrev now : Map
   now = metadata_now core.tables.kv
@@ -103,9 +119,9 @@ module _ (size : ℕ → ℕ → ℕ) (bytes : List ℕ) (core : CoreView) (of_i
       (subst (λ b. Stands b told tx 0 image.map t) region (image.stands tx (omega (arith, le, next))))
 
   -- the core stands for the machine that starts with the tree of the image
-  pub stands_loaded : ((k : ℕ) → is_down core.replicas k ≡ false) → (told : Told) (t : Tree) → IsImageOfTree told bytes t
+  pub stands_loaded : AreSound core.tables → ((k : ℕ) → is_down core.replicas k ≡ false) → (told : Told) (t : Tree) → IsImageOfTree told bytes t
       → StandsFor told core (start core.settings core.tables.kv.number t)
-  stands_loaded up told t image = record {
+  stands_loaded sound up told t image = record {
     settings = refl;
     tables = record {
       number = refl;
@@ -126,7 +142,10 @@ module _ (size : ℕ → ℕ → ℕ) (bytes : List ℕ) (core : CoreView) (of_i
           });
     };
     down = λ k. up k ∙ sym (is_down-start core.settings core.tables.kv.number t k);
-    lists = subst (CacheTrue told core.settings.region []) (sym of_it.lists) (λ e there. absurd (nothing_in e there));
+    scans = scans_first core.settings core.tables.kv.number t core.tables (ap (λ (b : BesideView). b.gc) of_it.beside)
+        (ap (λ (b : BesideView). b.scan_tx) of_it.beside) (λ c. none_of core.tables.clients c of_it.clients)
+        (λ j. idle_of core.tables.beside j (ap (λ (b : BesideView). b.jobs) of_it.beside)) (pinned_alone core sound of_it.clients of_it.beside)
+        (kinds_of core.settings.region told core.tables.next_tx 0 now t (stands_now told t image core.tables.next_tx (omega arith)));
   }
 
   -- the bytes are the image that the core knows of
@@ -150,21 +169,6 @@ module _ (size : ℕ → ℕ → ℕ) (bytes : List ℕ) (core : CoreView) (of_i
     },
   )
 
--- the number alone is pinned
-pub pinned_alone : (core : CoreView) → AreSound core.tables → core.tables.clients ≡ [] → core.tables.beside ≡ only_image unsaved core.tables.kv.number → (n : ℕ)
-    → IsTrue (is_pinned core.tables.kv n) → n ≡ core.tables.kv.number
-pinned_alone core sound clients saved n pinned =
-    let number : ℕ = core.tables.kv.number in
-    let some = count-any n core.tables.kv.pins pinned in
-    let owned : all_owned n core.tables.clients ≡ 0 = ap (λ l. all_owned n l) clients in
-    let kept : all_kept n core.tables.beside ≡ all_kept n (only_image unsaved number) = ap (all_kept n) saved in
-    let one = count-push n number [] in
-    ⊎_elim
-    (λ here. eqb-true n number here)
-    (λ other. let none : ◌≡◌ {A = ℕ} (cond (nat_eq n number) 1 0) 0 = ap (λ b. cond b 1 0) other in absurd
-    (omega (arith, some, sound.pins n, owned, kept, one, none)))
-    (cases_Bool (nat_eq n number))
-
 -- what it names lies inside the stores, as the image's pointers do
 pub inside_loaded : {S : Type 0} (kind : StoreKind S) (shelf : List S) (bytes : List ℕ) (core : CoreView) → AreSound core.tables
     → IsCoreOf (size_in kind shelf) bytes core → IsInside kind shelf core
@@ -174,6 +178,7 @@ inside_loaded kind shelf bytes core sound of_it = record {
       (pinned_alone core sound of_it.clients of_it.beside)
       (image_inside kind shelf core.settings of_it.rows (metadata_now core.tables.kv) (sym of_it.settings.servers) of_it.taken.inside of_it.map);
   lists = subst (CacheInside (is_inside kind shelf core.settings)) (sym of_it.lists) (λ e there. absurd (nothing_in e there));
+  scans = lie_first core.tables.beside.gc (size_in kind shelf) (ap (λ (b : BesideView). b.gc) of_it.beside);
 }
 
 -- and no region has a base, where none of the image has

@@ -8,7 +8,6 @@ use Rattle.wtf_model.specs.declared.answer.Answer.{Answer}
 use Rattle.wtf_model.specs.declared.answer.Answer.TheVariants as answer
 use Rattle.wtf_model.specs.declared.event.Event.{Event}
 use Rattle.wtf_model.specs.declared.event.Event.TheVariants as event
-use Rattle.wtf_meta.specs.Contents.{Told}
 use Rattle.wtf_clients.specs.Views.{TablesView}
 use Rattle.wtf_core.specs.Views.{CoreView}
 use Rattle.wtf_clients.specs.Outcomes.{no_load, AddsBytes}
@@ -23,9 +22,9 @@ save_numbers Up old new answer.FaultSave (inr saves) = (saves.number, saves.next
 save_numbers Up old new a turn = absurd turn
 
 -- so they do in a line that is one
-pub turn_numbers : (Telling : Type 0) (told : Told × Told) (old new : CoreView) (a : Answer) (e : Event) → LineTurn Telling told old new e a → e ≡ event.Save
+pub turn_numbers : {S : Type 0} (kind : StoreKind S) (t : Span S) (old new : CoreView) (a : Answer) (e : Event) → LineTurn kind t old new e a → e ≡ event.Save
     → (new.tables.kv.number ≡ old.tables.kv.number) × (new.tables.next_tx ≡ old.tables.next_tx)
-turn_numbers Telling told old new a e turn is = save_numbers _ old.tables new.tables a (subst (λ (x : Event). LineTurn Telling told old new x a) is turn).0
+turn_numbers kind t old new a e turn is = save_numbers _ old.tables new.tables a (subst (λ (x : Event). LineTurn kind t old new x a) is turn).0
 
 -- it adds no byte
 save_lengths : {S : Type 0} (kind : StoreKind S) (t : Span S) (settings : Settings) (Up : Type 0) (old new : TablesView) (a : Answer) → SaveTurn Up old new a
@@ -34,6 +33,6 @@ save_lengths kind t settings Up old new (answer.Saved n) turn adds = adds
 save_lengths kind t settings Up old new answer.FaultSave turn adds = adds
 save_lengths kind t settings Up old new a turn adds = absurd turn
 
-pub line_lengths : {S : Type 0} (kind : StoreKind S) (t : Span S) (settings : Settings) (Telling : Type 0) (told : Told × Told) (old new : CoreView)
-    (a : Answer) → IsLine Telling told old new event.Save a → AddsBytes kind t settings no_load a → SameLengths kind t.before t.after
-line_lengths kind t settings Telling told old new a line adds = save_lengths kind t settings _ old.tables line.answered.tables a line.turn.0 adds
+pub line_lengths : {S : Type 0} (kind : StoreKind S) (t : Span S) (settings : Settings) (old new : CoreView) (a : Answer)
+    → IsLine kind t old new event.Save a → AddsBytes kind t settings no_load a → SameLengths kind t.before t.after
+line_lengths kind t settings old new a line adds = save_lengths kind t settings _ old.tables line.answered.tables a line.turn.0 adds

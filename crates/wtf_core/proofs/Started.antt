@@ -1,5 +1,8 @@
 -- The core before the first line.
-use Rattle.std.proofs.Common.{◌≡◌, ℕ, Bool, List, [], false, None, Some, sym, ap, subst, ◌∙◌, ⊎_elim, arith}
+use Rattle.std.proofs.Common.{◌≡◌, ◌≤◌, ℕ, ◌+◌, ◌*◌, nat_lt, cond, Bool, List, [], true, false, Option, None, Some, IsTrue, sym, ap, subst, ◌∙◌, ⊎_elim}
+use Rattle.std.proofs.Common.{true≢false, arith}
+use Rattle.std.specs.Prelude.{slice_index_or}
+use Rattle.std.specs.Option.{option_map}
 use Rattle.std.specs.FinMap.{get-empty}
 use Rattle.std.specs.List.{Contains}
 use Rattle.std.proofs.lemmas.List.Elements.{Contains-push}
@@ -14,24 +17,28 @@ use Rattle.wtf_values.specs.declared.key.Key.TheVariants.{Path, Dir, Inode, Regi
 use Rattle.wtf_values.specs.declared.value.Node.TheVariants.{Folder}
 use Rattle.wtf_values.specs.declared.value.Value.TheVariants as value
 use Rattle.wtf_values.specs.Names.{no_names}
-use Rattle.wtf_model.specs.Tree.{root, root_alone}
+use Rattle.wtf_model.specs.Tree.{Tree, root, root_alone}
 use Rattle.wtf_model.proofs.TreeLaws.{same_or_other}
 use Rattle.wtf_model.proofs.StepLaws.{is_down-start}
 use Rattle.wtf_meta.specs.Contents.{Told}
 use Rattle.wtf_meta.specs.Bytes.{ValueBytes}
-use Rattle.wtf_meta.specs.Maps.{Map}
+use Rattle.wtf_meta.specs.Maps.{Map, metadata_at}
 use Rattle.wtf_meta.specs.Trees.{IsFirst}
 use Rattle.wtf_meta.proofs.Starting.{stands-first}
-use Rattle.wtf_region.specs.Cached.{CacheTrue}
 use Rattle.wtf_clients.specs.Views.{Clients, BesideView, unsaved, no_jobs, TablesView, of_client, of_label, metadata_now}
 use Rattle.wtf_core.specs.Views.{CoreView}
 use Rattle.wtf_clients.specs.Named.{TablesBytes}
-use Rattle.wtf_clients.specs.Standing.{StandsForSlot, StandsForLabel, TablesStand}
+use Rattle.wtf_gc.specs.Views.{RunView, GcView, mark_of, empty_scan, new_gc}
+use Rattle.wtf_kv.specs.Stores.{is_pinned}
+use Rattle.wtf_clients.specs.Safe.{LieIn}
+use Rattle.wtf_clients.specs.Standing.{HasKinds, StandsForSlot, StandsForLabel, TablesStand, ScansStand}
 use Rattle.wtf_core.specs.Standing.{StandsFor}
 use Rattle.wtf_clients.specs.Sounds.{AreSound}
 use Rattle.wtf_clients.proofs.Images.{none_in, some_of_none}
 use Rattle.wtf_clients.proofs.JobPins.{no_job}
+use Rattle.wtf_clients.proofs.Lives.{live_cases}
 use Rattle.wtf_clients.proofs.Naming.{bytes_alone}
+use Rattle.wtf_core.proofs.Aged.{kinds_of}
 
 -- nothing is in an empty list
 pub nothing_in : {A : Type 0} (x : A) → Contains [] x → ⊥
@@ -44,10 +51,43 @@ none_of clients c is = ap (λ l. of_client l c) is
 pub idle_of : (beside : BesideView) (j : ℕ) → beside.jobs ≡ no_jobs → of_label beside.jobs j ≡ None
 idle_of beside j is = ap (λ l. of_label l j) is ∙ no_job j
 
+-- before the first scan the marks are 0, and nothing was freed
+no_mark : (b : Bool) (i m : ℕ) → cond b (slice_index_or [] i 0) 0 ≤ m
+no_mark true i m = omega arith
+no_mark false i m = omega arith
+
+pub lie_first : (gc : GcView) (length : ℕ → ℕ → ℕ) → gc ≡ new_gc → LieIn gc length
+lie_first gc length is =
+    let none : (k f : ℕ) → mark_of empty_scan k f ≤ length k f = λ k f. no_mark (nat_lt f 8) (k * 8 + f) (length k f) in
+    subst (λ (g : GcView). LieIn g length) (sym is)
+    (record { older = none; newer = none; last = none; freed = λ p here. absurd (true≢false (sym here)) })
+
+-- nothing is open, no scan has begun, and the number alone can be read
+pub scans_first : (settings : Settings) (number : ℕ) (t : Tree) (tables : TablesView) → tables.beside.gc ≡ new_gc → tables.beside.scan_tx ≡ 0
+    → ((c : ℕ) → of_client tables.clients c ≡ None) → ((j : ℕ) → of_label tables.beside.jobs j ≡ None)
+    → ((n : ℕ) → IsTrue (is_pinned tables.kv n) → n ≡ tables.kv.number) → HasKinds (metadata_now tables.kv)
+    → ScansStand tables (start settings number t)
+scans_first settings number t tables gc scan_tx clients jobs alone kinds = record {
+  stamps = record {
+    listed = λ s there. absurd (nothing_in s there);
+    begun = omega (arith, scan_tx);
+    txns = λ c x u there is. absurd (some_none (clients c) there);
+    order = λ c d x y u v here is there its low. absurd (some_none (clients c) here);
+    jobs = λ j x u there is. absurd (some_none (jobs j) there);
+  };
+  parts = sym (ap (λ (g : GcView). option_map (λ (r : RunView). r.left) g.running) gc);
+  some = λ r is. absurd (some_none (ap (λ (g : GcView). g.running) gc) is);
+  scans = ap (λ (g : GcView). g.finished) gc;
+  kinds = λ n live. subst (λ k. HasKinds (metadata_at tables.kv k)) (sym (⊎_elim (λ now. now) (λ pinned. alone n pinned) (live_cases tables.kv n live))) kinds;
+}
+  where
+    some_none : {A : Type 0} {o : Option A} {x : A} → o ≡ None → o ≡ Some x → ⊥
+    some_none none some = cc
+
 pub stands_first : (told : Told) (settings : Settings) (tables : TablesView) (core : CoreView) → core.settings ≡ settings → core.tables ≡ tables
     → tables.kv.number ≡ 0 → tables.clients ≡ [] → tables.beside ≡ unsaved → IsFirst (metadata_now tables.kv)
-    → ((k : ℕ) → is_down core.replicas k ≡ false) → core.lists ≡ [] → StandsFor told core (start settings 0 root_alone)
-stands_first told settings tables core is_settings is_tables number clients saved first up lists = record {
+    → ((k : ℕ) → is_down core.replicas k ≡ false) → AreSound tables → StandsFor told core (start settings 0 root_alone)
+stands_first told settings tables core is_settings is_tables number clients saved first up sound = record {
   settings = sym is_settings;
   tables = subst (λ t. TablesStand core.settings.region told t (start settings 0 root_alone)) (sym is_tables) (record {
     number = sym number;
@@ -61,7 +101,12 @@ stands_first told settings tables core is_settings is_tables number clients save
     images = λ n there. absurd (none_in n (subst (λ (s : BesideView). Contains s.images n) saved there));
   });
   down = λ k. up k ∙ sym (is_down-start settings 0 root_alone k);
-  lists = subst (CacheTrue told core.settings.region []) (sym lists) (λ e there. absurd (nothing_in e there));
+  scans = subst (λ t. ScansStand t (start settings 0 root_alone)) (sym is_tables)
+      (scans_first settings 0 root_alone tables (ap (λ (b : BesideView). b.gc) saved) (ap (λ (b : BesideView). b.scan_tx) saved)
+      (λ c. none_of tables.clients c clients) (λ j. idle_of tables.beside j (ap (λ (b : BesideView). b.jobs) saved))
+      (λ n pinned. let le = sound.upto n pinned in omega (arith, le, number))
+      (kinds_of core.settings.region told 0 0 (metadata_now tables.kv) root_alone
+      (stands-first core.settings.region told 0 0 (metadata_now tables.kv) first)));
 }
 
 -- it names no byte

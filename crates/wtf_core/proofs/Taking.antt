@@ -3,9 +3,8 @@ use Rattle.std.proofs.Common.{◌≡◌, ◌≤◌, ◌^◌, ℕ, true, List, []
 use Rattle.std.proofs.lemmas.List.{append-nil}
 use Rattle.wtf_base.specs.declared.settings.Settings.{Settings}
 use Rattle.wtf_base.specs.Limits.{AreSettings}
-use Rattle.wtf_dev.specs.Each.{EachFollows}
 use Rattle.wtf_dev.specs.Keep.{KeeperView}
-use Rattle.wtf_dev.specs.Store.{StoreKind, KindLaws}
+use Rattle.wtf_dev.specs.Store.{StoreKind}
 use Rattle.wtf_replica.specs.Inside.{size_in}
 use Rattle.wtf_replica.specs.Spans.{Span}
 use Rattle.wtf_model.specs.declared.answer.Answer.{Answer}
@@ -35,7 +34,7 @@ use Rattle.wtf_core.specs.Pictured.{IsImageFor, IsImageWith, IsTakenFor, HoldsTa
 use Rattle.wtf_core.specs.Promises.{scene, Leaves}
 use Rattle.wtf_core.proofs.Growth.{Rises}
 use Rattle.wtf_core.proofs.Holding.{KeeperLaws, handed_one}
-use Rattle.wtf_core.proofs.Pointing.{rows_inside, taken_on, sizes_grow}
+use Rattle.wtf_core.proofs.Pointing.{rows_inside, taken_on}
 
 -- bytes are one image at most
 pub same_rows : (x y : ImageRows) (bytes : List ℕ) → HasText x bytes → HasText y bytes → x ≡ y
@@ -68,7 +67,7 @@ image_with size settings n next n' next' bytes more after h = record {
   next_tx = omega (arith, h.next_tx, after);
 }
 
-module _ {S : Type 0} (kind : StoreKind S) (laws : KindLaws kind) (t : Span S) (on : EachFollows kind t.before t.after []) (k : KeeperSpan)
+module _ {S : Type 0} (kind : StoreKind S) (t : Span S) (grows : (k f : ℕ) → size_in kind t.before k f ≤ size_in kind t.after k f) (k : KeeperSpan)
     (keeper : KeeperLaws k) (settings : Settings) (old new : TablesView)
     (told : Told) (m : Machine) (limits : AreSettings settings.servers settings.replicas settings.region) (begun_one : AreSound old)
     (few : old.kv.number ≤ 2 ^ 62) (next : old.next_tx ≤ 2 ^ 62)
@@ -93,7 +92,7 @@ module _ {S : Type 0} (kind : StoreKind S) (laws : KindLaws kind) (t : Span S) (
       rows_inside kind t.before settings (metadata_now old.kv) inside save.rows save.text.shape save.says (ap (λ h. h.servers) save.header) in
       record {
         rows = kept.rows;
-        taken = taken_on (size_in kind t.before) (size_in kind t.after) (sizes_grow laws on) hands.bytes kept.rows (record {
+        taken = taken_on (size_in kind t.before) (size_in kind t.after) grows hands.bytes kept.rows (record {
           text = kept.text;
           good = kept.good;
           tree = kept.tree;
@@ -116,7 +115,7 @@ module _ {S : Type 0} (kind : StoreKind S) (laws : KindLaws kind) (t : Span S) (
       → IsTakenFor (size_in kind t.after) settings new.kv.number new.next_tx bytes
   stays_taken bytes is =
       taken_for_on (size_in kind t.before) (size_in kind t.after)
-      (sizes_grow laws on) settings old.kv.number old.next_tx new.kv.number new.next_tx rises.no_fewer rises.no_earlier bytes is
+      grows settings old.kv.number old.next_tx new.kv.number new.next_tx rises.no_fewer rises.no_earlier bytes is
 
   untouched_taken : k.untouched → Before → After
   untouched_taken untouched (bytes, held, is) = (bytes, ap (λ v. v.held) (keeper.same untouched) ∙ held, stays_taken bytes is)
@@ -147,28 +146,28 @@ numbers_on v size settings n next n' next' same_n same_next (bytes, held, is) =
     (bytes, held, taken_for_on size size (λ k f. omega arith) settings n next n' next' (omega (arith, same_n)) (omega (arith, same_next)) bytes is)
 
 -- each line
-module _ {S : Type 0} (kind : StoreKind S) (laws : KindLaws kind) (t : Span S) (on : EachFollows kind t.before t.after []) (k : KeeperSpan)
-    (keeper : KeeperLaws k) (Telling : Type 0) (told later : Told) (old new : CoreView)
+module _ {S : Type 0} (kind : StoreKind S) (t : Span S) (grows : (k f : ℕ) → size_in kind t.before k f ≤ size_in kind t.after k f) (k : KeeperSpan)
+    (keeper : KeeperLaws k) (told : Told) (old new : CoreView)
     (m : Machine) (limits : AreSettings old.settings.servers old.settings.replicas old.settings.region) (sound : AreSound old.tables)
     (few : old.tables.kv.number ≤ 2 ^ 62) (next : old.tables.next_tx ≤ 2 ^ 62)
     (st : TablesStand old.settings.region told old.tables m) (inside : MapBytes (is_inside kind t.before old.settings) any_slice (metadata_now old.tables.kv))
     (rises : Rises old.tables new.tables) (a : Answer) where
   other_taken : k.untouched → HoldsTaken k.before (size_in kind t.before) old.settings old.tables.kv.number old.tables.next_tx
       → HoldsTaken k.after (size_in kind t.after) old.settings new.tables.kv.number new.tables.next_tx
-  other_taken untouched held = untouched_taken kind laws t on k keeper old.settings old.tables new.tables told m limits sound few next st inside rises
+  other_taken untouched held = untouched_taken kind t grows k keeper old.settings old.tables new.tables told m limits sound few next st inside rises
       untouched held
 
-  pub line_taken : (e : Event) → LineTurn Telling (told, later) old new e a → KeeperTurn kind t k old.settings old.tables new.tables e a → k.before.tells ≡ true
+  pub line_taken : (e : Event) → LineTurn kind t old new e a → KeeperTurn kind t k old.settings old.tables new.tables e a → k.before.tells ≡ true
       → HoldsTaken k.before (size_in kind t.before) old.settings old.tables.kv.number old.tables.next_tx
       → HoldsTaken k.after (size_in kind t.after) old.settings new.tables.kv.number new.tables.next_tx
   line_taken event.Save turn did tells held =
-      save_taken kind laws t on k keeper old.settings old.tables new.tables told m limits sound few next st inside rises _ a turn.0 did tells held
+      save_taken kind t grows k keeper old.settings old.tables new.tables told m limits sound few next st inside rises _ a turn.0 did tells held
   line_taken e turn did tells held = other_taken did held
 
   save_leaves : (b : Answer) → KeeperTurn kind t k old.settings old.tables new.tables event.Save b → k.before.tells ≡ true
       → Leaves kind (scene t.before k.before old) (scene t.after k.after new) event.Save b
   save_leaves (answer.Saved n) did tells =
-      saved_now kind laws t on k keeper old.settings old.tables new.tables told m limits sound few next st inside rises n did tells
+      saved_now kind t grows k keeper old.settings old.tables new.tables told m limits sound few next st inside rises n did tells
   save_leaves b did tells = tt
 
   pub line_leaves : (e : Event) (b : Answer) → KeeperTurn kind t k old.settings old.tables new.tables e b → k.before.tells ≡ true

@@ -1,10 +1,10 @@
 -- Lines over stores that tell their content.
-use Rattle.std.proofs.Common.{◌≡◌, ◌<◌, ◌≤◌, ℕ, zero, suc, nat_lt, Bool, true, List, [], ◌∷◌, length, get_or, take, Option, None, Some, refl, sym, ap, ◌∙◌}
-use Rattle.std.proofs.Common.{subst, true≢false, arith}
-use Rattle.std.specs.Prelude.{slice_get}
+use Rattle.std.proofs.Common.{◌≡◌, ◌<◌, ◌≤◌, ◌+◌, ◌*◌, ◌&&◌, ℕ, zero, suc, nat_lt, cond, not, Bool, true, false, List, [], ◌∷◌, length, get_or, take, Option}
+use Rattle.std.proofs.Common.{None, Some, MatchOption, refl, sym, ap, ◌∙◌, subst, true≢false, arith}
+use Rattle.std.specs.Prelude.{slice_get, slice_index_or}
 use Rattle.std.specs.List.{All}
-use Rattle.std.proofs.lemmas.Bool.{and_from}
-use Rattle.std.proofs.lemmas.List.Elements.{All-head, All-tail}
+use Rattle.std.proofs.lemmas.Bool.{and_from, le-ltb}
+use Rattle.std.proofs.lemmas.List.Elements.{All-nil, All-head, All-tail}
 use Rattle.std.proofs.lemmas.Option.{slice_get-get_or, slice_get_within}
 use Rattle.wtf_base.proofs.Elements.{element}
 use Rattle.wtf_base.specs.declared.settings.Settings.{Settings}
@@ -14,6 +14,7 @@ use Rattle.wtf_dev.specs.Store.{StoreKind, KindLaws}
 use Rattle.wtf_dev.specs.Sums.{TellsAll}
 use Rattle.wtf_overlay.specs.Origin.{Place}
 use Rattle.wtf_overlay.proofs.Meanings.{All-meaning}
+use Rattle.wtf_values.specs.declared.region.RegionValue.{RegionValue}
 use Rattle.wtf_values.specs.declared.region.Spill.{Spill}
 use Rattle.wtf_values.specs.declared.value.Value.{Value}
 use Rattle.wtf_values.specs.declared.value.Value.TheVariants as value
@@ -23,44 +24,51 @@ use Rattle.wtf_replica.proofs.Bytes.{byte_at-within, byte_at-kept, told_inside}
 use Rattle.wtf_image.specs.Rules.{size_in}
 use Rattle.wtf_model.specs.declared.answer.Answer.{Answer}
 use Rattle.wtf_model.specs.declared.answer.Answer.TheVariants as answer
+use Rattle.wtf_model.specs.declared.event.Event.{Event}
+use Rattle.wtf_model.specs.declared.answer.Word.TheVariants.{InTx, NoTx}
+use Rattle.wtf_gc.specs.Extents.{covers}
+use Rattle.wtf_gc.specs.Views.{GcView, is_garbage, new_gc}
+use Rattle.wtf_clients.specs.Safe.{off, NamesNone, is_below, last_scan, OwnBytes, LieIn, IsSafe, Went}
+use Rattle.wtf_region.specs.Apart.{are_apart}
 use Rattle.wtf_model.specs.Tree.{Tree}
-use Rattle.wtf_meta.specs.Bytes.{BaseBytes, ValueBytes, any_slice}
+use Rattle.wtf_meta.specs.Bytes.{BaseBytes, MaybeBytes, ValueBytes, any_slice}
 use Rattle.wtf_meta.specs.Contents.{Told, is_told}
 use Rattle.wtf_meta.proofs.Telling.{TellsOn, is_told-later, told_byte}
 use Rattle.wtf_region.specs.Cached.{Remembered, CacheTrue}
 use Rattle.wtf_region.specs.Inside.{is_place_inside, is_inside}
 use Rattle.wtf_region.proofs.InsideLaws.{place_to, inside_stays}
 use Rattle.wtf_replay.specs.Insides.{lists_have}
-use Rattle.wtf_replay.proofs.Later.{tells_all_on}
+use Rattle.wtf_clients.specs.JobTurns.{PutTurn, DropTurn}
 use Rattle.wtf_clients.specs.Named.{any_byte, no_slice, has_copies}
 use Rattle.wtf_clients.specs.Saves.{SaveTurn}
 use Rattle.wtf_clients.specs.Serves.{NamesTables, IsPlain}
 use Rattle.wtf_clients.specs.Sounds.{AreSound, IsTidied}
-use Rattle.wtf_clients.specs.Telling.{ListedBytes, TellsTables, AreWide, AreWithin, ServesTold}
-use Rattle.wtf_clients.specs.Views.{TablesView, BesideView, metadata_now}
+use Rattle.wtf_clients.specs.Telling.{ListedBytes, TellsTables, HoldsOfAdded, ServesTold}
+use Rattle.wtf_clients.specs.Turns.{Refuses, Begins, TryTurn, Drops}
+use Rattle.wtf_clients.specs.Views.{TablesView, BesideView, of_client, of_label, metadata_now}
 use Rattle.wtf_clients.proofs.Lives.{now_bytes}
 use Rattle.wtf_clients.proofs.Naming.{bytes_alone}
 use Rattle.wtf_clients.proofs.SaveServing.{save_names}
 use Rattle.wtf_clients.proofs.ToldLaws.{tables_weaker, tables_later}
+use Rattle.wtf_clients.proofs.Wents.{begin_went, attempt_went, abort_went, put_went, drop_went, save_went}
 use Rattle.wtf_core.specs.Loading.{IsCoreOf}
 use Rattle.wtf_core.specs.Named.{CoreBytes}
 use Rattle.wtf_core.specs.Pictured.{IsImageOfTree, IsBareImage}
-use Rattle.wtf_core.specs.Promises.{Scene, span_of, IsToldAnswer}
-use Rattle.wtf_core.specs.Telling.{TellsCore, IsWide, IsWithin, stores_of}
-use Rattle.wtf_core.specs.Turns.{ServerTurn}
+use Rattle.wtf_core.specs.Telling.{TellsCore, IsWide, IsWithin, IsToldLine, stores_of}
+use Rattle.wtf_core.proofs.Quieted.{tidied_safe, tidied_images, tidied_idle, tidied_stage, tidied_kept, tidied_collected}
 use Rattle.wtf_core.specs.Views.{CoreView}
-use Rattle.wtf_core.proofs.Answering.{server_plain}
-use Rattle.wtf_core.proofs.Naming.{tidied_bytes}
+use Rattle.wtf_core.proofs.Answering.{put_plain, drop_plain}
+use Rattle.wtf_core.proofs.Naming.{put_names, drop_names, tidied_bytes}
 use Rattle.wtf_core.proofs.Restored.{pinned_alone, stands_now, inside_loaded, bare_loaded}
 use Rattle.wtf_core.proofs.Started.{nothing_in, none_of, idle_of}
 
 -- an answer that is not that of a read that failed
-abbrev IsUnfailed : Answer → Type 0
+abbrev pub IsUnfailed : Answer → Type 0
 IsUnfailed (answer.FaultRead k) = ⊥
 IsUnfailed (answer.Damaged k) = ⊥
 IsUnfailed a = Unit {0}
 
-plain_unfailed : (a : Answer) → IsPlain a → IsUnfailed a
+pub plain_unfailed : (a : Answer) → IsPlain a → IsUnfailed a
 plain_unfailed (answer.FaultRead k) h = h
 plain_unfailed (answer.Damaged k) h = h
 plain_unfailed a h = tt
@@ -71,7 +79,7 @@ save_unfailed Up old new answer.FaultSave turn = tt
 save_unfailed Up old new a turn = absurd turn
 
 -- what tables name where they name nothing new goes on passing a test that more pass, also by the lists of bases
-listed_on : (told later : Told) → TellsOn told later → (b : ℕ) (P R : List Place → Bool) → ((qs : List Place) → P qs ≡ true → R qs ≡ true)
+pub listed_on : (told later : Told) → TellsOn told later → (b : ℕ) (P R : List Place → Bool) → ((qs : List Place) → P qs ≡ true → R qs ≡ true)
     → (old new : TablesView) → NamesTables old new → R [] ≡ true → ListedBytes b told P old → ListedBytes b later R new
 listed_on told later on b P R places old new names hole h =
     names R (lists_have b later R) hole (tables_later b told later R on old (tables_weaker b told P R places old h))
@@ -79,14 +87,20 @@ listed_on told later on b P R places old new names hole h =
 -- a line that names nothing new, over stores that go on to tell
 module _ {S : Type 0} (kind : StoreKind S) (t : Span S) (settings : Settings) (on : TellsOn (byte_at kind t.before) (byte_at kind t.after))
     (stay : (qs : List Place) → is_inside kind t.before settings qs ≡ true → is_inside kind t.after settings qs ≡ true) where
-  names_told : (lists : Remembered) (old new : TablesView) (a : Answer) → NamesTables old new → IsUnfailed a
+  -- what goes on to where this is so
+  abbrev Goes : TablesView → TablesView → Type 0
+  Goes old new = Went settings.region (byte_at kind t.before) (byte_at kind t.after) (HoldsOfAdded kind t settings) old new
+
+  names_told : (lists : Remembered) (old new : TablesView) (a : Answer) → NamesTables old new
+      → (ListedBytes settings.region (byte_at kind t.before) (is_told (byte_at kind t.before)) old → Goes old new) → IsUnfailed a
       → TellsTables kind t.before settings lists old → ServesTold kind t settings (old, new) a
-  names_told lists old new a names unfailed tells =
+  names_told lists old new a names went unfailed tells =
       let size : ℕ = settings.region in
       let told : Told = byte_at kind t.before in
       let later : Told = byte_at kind t.after in
       let P : List Place → Bool = has_copies settings.replicas in
       record {
+        went = went tells.names;
         names = listed_on told later on size (is_told told) (is_told later) (λ qs is. is_told-later told later qs on is) old new names refl tells.names;
         wide = listed_on told later on size P P (λ qs is. is) old new names refl;
         within = listed_on told later on size (is_inside kind t.before settings) (is_inside kind t.after settings) stay old new names refl;
@@ -96,21 +110,54 @@ module _ {S : Type 0} (kind : StoreKind S) (t : Span S) (settings : Settings) (o
 
 -- one that is lent no store
 module _ {S : Type 0} (kind : StoreKind S) (down : ℕ → Bool) (shelf : List S) (settings : Settings) (lists : Remembered) where
-  pub still_told : (old new : TablesView) (a : Answer) → NamesTables old new → IsPlain a → TellsTables kind shelf settings lists old
-      → ServesTold kind (span down shelf shelf) settings (old, new) a
-  still_told old new a names plain =
-      names_told kind (span down shelf shelf) settings (λ p byte is. is) (λ qs is. is) lists old new a names (plain_unfailed a plain)
+  abbrev told : Told
+  told = byte_at kind shelf
 
-  pub same_told : (old new : TablesView) (a : Answer) → new ≡ old → IsPlain a → TellsTables kind shelf settings lists old
-      → ServesTold kind (span down shelf shelf) settings (old, new) a
-  same_told old new a same plain tells =
-      subst (λ (t : TablesView). ServesTold kind (span down shelf shelf) settings (old, t) a) (sym same) (still_told old old a (λ P Q hole h. h) plain tells)
+  abbrev Added : (List Place → Bool) → Type 0
+  Added P = HoldsOfAdded kind (span down shelf shelf) settings P
 
-  pub server_told : (old new : CoreView) (k : ℕ) (to : Bool) (a : Answer) → ServerTurn old new k to a → TellsTables kind shelf settings lists old.tables
-      → ServesTold kind (span down shelf shelf) settings (old.tables, new.tables) a
-  server_told old new k to a turn tells =
-      let both = server_plain old new k to (nat_lt k old.settings.servers) a turn in
-      same_told old.tables new.tables a both.1 both.0 tells
+  abbrev Known : TablesView → Type 0
+  Known old = ListedBytes settings.region told (is_told told) old
+
+  pub still_on : TellsOn told told
+  still_on p byte is = is
+
+  pub still_told : (old new : TablesView) (a : Answer) → NamesTables old new → (Known old → Went settings.region told told Added old new) → IsPlain a
+      → TellsTables kind shelf settings lists old → ServesTold kind (span down shelf shelf) settings (old, new) a
+  still_told old new a names went plain =
+      names_told kind (span down shelf shelf) settings still_on (λ qs is. is) lists old new a names went (plain_unfailed a plain)
+
+  -- one of a client that begins, attempts or aborts
+  pub begun_told : (old new : TablesView) (c : ℕ) (a : Answer) → AreSound old → NamesTables old new → IsPlain a
+      → MatchOption (of_client old.clients c) (Begins old new c a) (λ x. Refuses old new c InTx a) → TellsTables kind shelf settings lists old
+      → ServesTold kind (span down shelf shelf) settings (old, new) a
+  begun_told old new c a sound names plain turn =
+      still_told old new a names (λ known. begin_went settings.region told told still_on Added old new sound known names c a turn) plain
+
+  pub tried_told : (old new : TablesView) (c : ℕ) (a : Answer) → AreSound old → NamesTables old new → IsPlain a
+      → MatchOption (of_client old.clients c) (Refuses old new c NoTx a) (λ x. TryTurn old new c x a) → TellsTables kind shelf settings lists old
+      → ServesTold kind (span down shelf shelf) settings (old, new) a
+  tried_told old new c a sound names plain turn =
+      still_told old new a names (λ known. attempt_went settings.region told told still_on Added old new sound known names c a turn) plain
+
+  pub aborted_told : (old new : TablesView) (c : ℕ) (a : Answer) → AreSound old → NamesTables old new → IsPlain a
+      → MatchOption (of_client old.clients c) (Refuses old new c NoTx a) (λ x. Drops old new c x a) → TellsTables kind shelf settings lists old
+      → ServesTold kind (span down shelf shelf) settings (old, new) a
+  aborted_told old new c a sound names plain turn =
+      still_told old new a names (λ known. abort_went settings.region told told still_on Added old new sound known names c a turn) plain
+
+  -- a put, and a drop, of a job
+  pub put_told : (old new : TablesView) (j : ℕ) (a : Answer) → AreSound old → PutTurn old new j a → TellsTables kind shelf settings lists old
+      → ServesTold kind (span down shelf shelf) settings (old, new) a
+  put_told old new j a sound turn =
+      let names = put_names old new j sound a turn in
+      still_told old new a names (λ known. put_went settings.region told told still_on Added old new sound known names j a turn) (put_plain old new j a turn)
+
+  pub drop_told : (old new : TablesView) (j : ℕ) (a : Answer) → AreSound old → DropTurn old new j a → TellsTables kind shelf settings lists old
+      → ServesTold kind (span down shelf shelf) settings (old, new) a
+  drop_told old new j a sound turn =
+      let names = drop_names old new j sound a turn in
+      still_told old new a names (λ known. drop_went settings.region told told still_on Added old new sound known names j a turn) (drop_plain old new j a turn)
 
 -- and a save
 module _ {S : Type 0} {kind : StoreKind S} (laws : KindLaws kind) (down : ℕ → Bool) (before after : List S) (goes : EachFollows kind before after []) where
@@ -120,38 +167,64 @@ module _ {S : Type 0} {kind : StoreKind S} (laws : KindLaws kind) (down : ℕ �
   pub save_told : (settings : Settings) → settings.servers ≤ length before → (lists : Remembered) (Up : Type 0) (old new : TablesView) (a : Answer)
       → AreSound old → SaveTurn Up old new a → TellsTables kind before settings lists old → ServesTold kind (span down before after) settings (old, new) a
   save_told settings enough lists Up old new a sound turn =
-      names_told kind (span down before after) settings tells_on (inside_stays laws goes settings enough) lists old new a (save_names Up old new a sound turn)
-      (save_unfailed Up old new a turn)
+      let names = save_names Up old new a sound turn in
+      names_told kind (span down before after) settings tells_on (inside_stays laws goes settings enough) lists old new a names
+      (λ known. save_went settings.region (byte_at kind before) (byte_at kind after) tells_on (HoldsOfAdded kind (span down before after) settings) old new
+      sound known names Up a turn) (save_unfailed Up old new a turn)
 
 -- ---- dropping versions that no one sees
-module _ {S : Type 0} {kind : StoreKind S} (laws : KindLaws kind) (old new : Scene S) (answered : CoreView) (goes : EachFollows kind old.shelf new.shelf [])
-    (sound : AreSound answered.tables) (tidy : IsTidied answered.tables new.core.tables) (same : new.core.settings ≡ old.core.settings) where
-  pub tidied_told : (a : Answer) → CacheTrue (byte_at kind new.shelf) old.core.settings.region [] new.core.lists → TellsCore kind old.shelf old.core
-      → ServesTold kind (span_of old new) old.core.settings (old.core.tables, answered.tables) a → IsToldAnswer kind old new a
-  tidied_told a cache tells serves =
-      let size : ℕ = old.core.settings.region in
-      let later : Told = byte_at kind new.shelf in
-      let at : TellsTables kind new.shelf old.core.settings new.core.lists new.core.tables = record {
-        all = tells_all_on laws goes tells.all;
-        cache = cache;
-        names = tidied_bytes (is_told later) (lists_have size later (is_told later)) answered.tables new.core.tables sound tidy serves.names;
-      } in
-      let P : List Place → Bool = has_copies old.core.settings.replicas in
-      let Within : List Place → Bool = is_inside kind new.shelf old.core.settings in
-      record {
-        next = subst (λ (s : Settings). TellsTables kind new.shelf s new.core.lists new.core.tables) (sym same) at;
-        wide = λ wide. subst (λ (s : Settings). AreWide s later new.core.tables) (sym same)
-            (tidied_bytes P (lists_have size later P) answered.tables new.core.tables sound tidy (serves.wide wide));
-        within = λ within. subst (λ (s : Settings). AreWithin kind new.shelf s new.core.tables) (sym same)
-            (tidied_bytes Within (lists_have size later Within) answered.tables new.core.tables sound tidy (serves.within within));
-        undamaged = serves.undamaged;
-        unread = serves.unread;
-      }
+-- the core behind the answer, and then with tables of which such versions were dropped
+abbrev with_tables : CoreView → TablesView → CoreView
+with_tables core tables = record core { tables = tables }
+
+module _ {S : Type 0} (kind : StoreKind S) (t : Span S) (old answered : CoreView) (tables : TablesView) (sound : AreSound answered.tables)
+    (tidy : IsTidied answered.tables tables) (lie : LieIn answered.tables.beside.gc (size_in kind t.after)) where
+  -- what passes a test that holds of all that was named, also by the lists of bases
+  listed_tidied : (size : ℕ) (told : Told) (P : List Place → Bool) → ListedBytes size told P answered.tables → ListedBytes size told P tables
+  listed_tidied size told P h = tidied_bytes P (lists_have size told P) answered.tables tables sound tidy h
+
+  tells_tidied : TellsCore kind t.after answered → TellsCore kind t.after (with_tables answered tables)
+  tells_tidied h = record {
+    tables = record {
+      all = h.tables.all;
+      punched = h.tables.punched;
+      lie = h.tables.lie;
+      cache = h.tables.cache;
+      names = listed_tidied answered.settings.region (byte_at kind t.after) (is_told (byte_at kind t.after)) h.tables.names;
+      away = listed_tidied answered.settings.region (byte_at kind t.after) (are_apart h.tables.punched) h.tables.away;
+    };
+    safe = tidied_safe answered.settings.region (byte_at kind t.after) (size_in kind t.after) answered.tables tables sound tidy lie h.tables.names h.safe;
+  }
+
+  pub tidied_told : (e : Event) (a : Answer) → IsToldLine kind t old answered e a → IsToldLine kind t old (with_tables answered tables) e a
+  tidied_told e a h = record {
+    next = tells_tidied h.next;
+    unnamed = subst (λ (b : BesideView). NamesNone answered.settings.region (byte_at kind t.after) (is_garbage b.gc) tables) (sym tidy.beside)
+        (listed_tidied answered.settings.region (byte_at kind t.after) (off (is_garbage answered.tables.beside.gc)) h.unnamed);
+    never = λ X low none. listed_tidied old.settings.region (byte_at kind t.after) (off X) (h.never X low none);
+    images = tidied_images kind t old answered tables sound tidy h.images;
+    wide = λ wide. listed_tidied answered.settings.region (byte_at kind t.after) (has_copies answered.settings.replicas) (h.wide wide);
+    within = λ within. listed_tidied answered.settings.region (byte_at kind t.after) (is_inside kind t.after answered.settings) (h.within within);
+    undamaged = h.undamaged;
+    unread = h.unread;
+    quiet = record {
+      on = λ s next moves was. tidied_stage kind t.after answered tables tidy next (h.quiet.on s next moves was);
+      idle = λ s next moves was. tidied_idle kind t.after answered tables tidy next (h.quiet.idle s next moves was);
+      kept = λ k n is said found. tidied_kept kind t.after answered tables tidy k (h.quiet.kept k n is said found);
+      collected = λ k n is said was. tidied_collected kind t.after answered tables tidy k (h.quiet.collected k n is said was);
+      stays = λ k s next moves was. tidied_collected kind t.after answered tables tidy k (h.quiet.stays k s next moves was);
+    };
+  }
 
 -- ---- the core before the first line
 
 true_none : (told : Told) (size : ℕ) (lists : Remembered) → lists ≡ [] → CacheTrue told size [] lists
 true_none told size lists none = subst (CacheTrue told size []) (sym none) (λ e there. absurd (nothing_in e there))
+
+-- what a job's value names it has of the slice of its base too
+own_bytes : (P : List Place → Bool) (v : Option RegionValue) → MaybeBytes P any_slice v → OwnBytes P v
+own_bytes P None h = tt
+own_bytes P (Some v) h = h.base
 
 -- one that names no byte
 pub told_first : {S : Type 0} (kind : StoreKind S) (shelf : List S) (core : CoreView) → ((P : List Place → Bool) (Q : Slice → Bool) → CoreBytes P Q core)
@@ -159,11 +232,30 @@ pub told_first : {S : Type 0} (kind : StoreKind S) (shelf : List S) (core : Core
 told_first kind shelf core named none all =
     let told : Told = byte_at kind shelf in
     let size : ℕ = core.settings.region in
-    let P : List Place → Bool = has_copies core.settings.replicas in
-    let Within : List Place → Bool = is_inside kind shelf core.settings in (
-      record { all = all; cache = true_none told size core.lists none; names = (named (is_told told) (lists_have size told (is_told told))).tables },
-      (named P (lists_have size told P)).tables,
-      (named Within (lists_have size told Within)).tables,
+    let gc : GcView = core.tables.beside.gc in
+    let listed : (P : List Place → Bool) → ListedBytes size told P core.tables = λ P. (named P (lists_have size told P)).tables in
+    let Last : List Place → Bool = off (is_below (last_scan gc)) in (
+      record {
+        tables = record {
+          all = all;
+          punched = [];
+          lie = All-nil _;
+          cache = true_none told size core.lists none;
+          names = listed (is_told told);
+          away = listed (are_apart []);
+        };
+        safe = record {
+          gone = listed (off (covers gc.freed));
+          done = listed (off (λ p. is_below gc.older p && not (covers gc.newer.found p)));
+          going = λ r runs X missed. listed (off X);
+          since_txns = λ c x there late. ((named Last any_slice).tables.each c x there).log;
+          since_jobs = λ j x there unmarked. own_bytes Last x.value ((named Last any_slice).tables.planned j x there);
+          own_txns = λ c x there P hole base log. (listed P).each c x there;
+          own_jobs = λ j x there P hole base stored. (listed P).planned j x there;
+        };
+      },
+      listed (has_copies core.settings.replicas),
+      listed (is_inside kind shelf core.settings),
     )
 
 -- what one names that was loaded of the image of a tree
@@ -174,14 +266,56 @@ names_image size_at bytes core sound of_it told t image =
     (λ j. idle_of core.tables.beside j (ap (λ (b : BesideView). b.jobs) of_it.beside)) (pinned_alone core sound of_it.clients of_it.beside)
     (stands_now size_at bytes core of_it told t image core.tables.next_tx (omega arith)).bytes
 
+-- places all lie apart from no range, and off a set that has none
+apart_none : (qs : List Place) → are_apart [] qs ≡ true
+apart_none [] = refl
+apart_none (q ∷ qs) = apart_none qs
+
+off_none : (X : Place → Bool) → ((p : Place) → X p ≡ false) → (qs : List Place) → off X qs ≡ true
+off_none X none [] = refl
+off_none X none (q ∷ qs) = and_from (not (X q)) (off X qs) (ap not (none q)) (off_none X none qs)
+
+-- before the first scan collection is safe, where nothing is open
+safe_first : (size : ℕ) (told : Told) (tables : TablesView) → tables.beside.gc ≡ new_gc → ((c : ℕ) → of_client tables.clients c ≡ None)
+    → ((j : ℕ) → of_label tables.beside.jobs j ≡ None) → ListedBytes size told (is_told told) tables → IsSafe size told tables
+safe_first size told tables gc clients jobs names = record {
+  gone = none_of_set (covers tables.beside.gc.freed) (λ p. ap (λ (g : GcView). covers g.freed p) gc);
+  done = none_of_set (λ p. is_below tables.beside.gc.older p && not (covers tables.beside.gc.newer.found p))
+      (λ p. ap (λ (g : GcView). is_below g.older p && not (covers g.newer.found p)) gc ∙ ap (λ b. b && true) (below_none (nat_lt p.file 8) p));
+  going = λ r runs X missed. absurd (some_none (ap (λ (g : GcView). g.running) gc) runs);
+  since_txns = λ c x there late. absurd (some_none (clients c) there);
+  since_jobs = λ j x there unmarked. absurd (some_none (jobs j) there);
+  own_txns = λ c x there. absurd (some_none (clients c) there);
+  own_jobs = λ j x there. absurd (some_none (jobs j) there);
+}
+  where
+    none_of_set : (X : Place → Bool) → ((p : Place) → X p ≡ false) → NamesNone size told X tables
+    none_of_set X none = tables_weaker size told (is_told told) (off X) (λ qs is. off_none X none qs) tables names
+
+    below_none : (b : Bool) (p : Place) → nat_lt p.at (cond b (slice_index_or [] (p.server * 8 + p.file) 0) 0) ≡ false
+    below_none true p = le-ltb p.at 0 (omega arith)
+    below_none false p = le-ltb p.at 0 (omega arith)
+
+    some_none : {A : Type 0} {o : Option A} {x : A} → o ≡ None → o ≡ Some x → ⊥
+    some_none none some = cc
+
 pub told_loaded : {S : Type 0} (kind : StoreKind S) (shelf : List S) (bytes : List ℕ) (core : CoreView) → AreSound core.tables
     → IsCoreOf (size_in kind shelf) bytes core → TellsAll kind shelf → (t : Tree) → IsImageOfTree (byte_at kind shelf) bytes t → TellsCore kind shelf core
 told_loaded kind shelf bytes core sound of_it all t image =
     let told : Told = byte_at kind shelf in
+    let size : ℕ = core.settings.region in
+    let names : ListedBytes size told (is_told told) core.tables = names_image (size_in kind shelf) bytes core sound of_it told t image in
     record {
-      all = all;
-      cache = true_none told core.settings.region core.lists of_it.lists;
-      names = names_image (size_in kind shelf) bytes core sound of_it told t image;
+      tables = record {
+        all = all;
+        punched = [];
+        lie = All-nil _;
+        cache = true_none told size core.lists of_it.lists;
+        names = names;
+        away = tables_weaker size told (is_told told) (are_apart []) (λ qs is. apart_none qs) core.tables names;
+      };
+      safe = safe_first size told core.tables (ap (λ (b : BesideView). b.gc) of_it.beside) (λ c. none_of core.tables.clients c of_it.clients)
+          (λ j. idle_of core.tables.beside j (ap (λ (b : BesideView). b.jobs) of_it.beside)) names;
     }
 
 -- where the image gives no region a list in a slice, each byte that it names lies inside the stores

@@ -1,14 +1,23 @@
 -- What a core answers to a line is what the machine may, and the core goes on to stand for it.
-use Rattle.std.proofs.Common.{◌≡◌, ◌≢◌, ◌<◌, ◌⊎◌, ℕ, Bool, true, false, nat_eq, nat_lt, if◌then◌else◌, List, [], Option, None, Some, Result, Ok, Err, IfOk}
+use Rattle.std.proofs.Common.{◌≡◌, ◌≢◌, ◌<◌, ◌⊎◌, ℕ, Bool, true, false, nat_eq, nat_lt, if◌then◌else◌, List, Option, None, Some, Result, Ok, Err, IfOk}
 use Rattle.std.proofs.Common.{OnErr, refl, sym, ap, subst, ◌∙◌, inl, inr, arith, ne_eqb, eq-eqb}
 use Rattle.std.specs.Bool.{MatchBool}
 use Rattle.std.specs.FinMap.{get}
 use Rattle.std.specs.List.{Contains}
 use Rattle.wtf_base.specs.declared.settings.Settings.{Settings}
+use Rattle.wtf_dev.specs.Store.{StoreKind, KindLaws}
+use Rattle.wtf_dev.specs.Sums.{TellsAll}
+use Rattle.wtf_kv.specs.Stores.{Store, versions_of}
+use Rattle.wtf_replica.specs.Bytes.{byte_at}
 use Rattle.wtf_replica.specs.Downs.{is_down}
+use Rattle.wtf_replica.specs.Spans.{Span}
+use Rattle.wtf_values.specs.declared.key.Key.{Key}
+use Rattle.wtf_values.specs.declared.value.Value.{Value}
+use Rattle.wtf_values.specs.Keys.{key_cmp}
 use Rattle.wtf_model.specs.declared.answer.Answer.{Answer, Aborted'}
 use Rattle.wtf_model.specs.declared.answer.Answer.TheVariants as answer
-use Rattle.wtf_model.specs.declared.answer.Word.TheVariants.{NoServer}
+use Rattle.wtf_model.specs.declared.answer.Word.{Word}
+use Rattle.wtf_model.specs.declared.answer.Word.TheVariants.{NoServer, ScanBusy, NoScan}
 use Rattle.wtf_model.specs.declared.op.JobKind.{JobKind}
 use Rattle.wtf_model.specs.declared.event.Event.{Event}
 use Rattle.wtf_model.specs.declared.event.Event.TheVariants as event
@@ -17,34 +26,51 @@ use Rattle.wtf_model.specs.declared.event.Verb.TheVariants as verb
 use Rattle.wtf_model.specs.Machines.{Machine}
 use Rattle.wtf_model.specs.Tree.{root_alone}
 use Rattle.wtf_model.specs.Machines as machine
-use Rattle.wtf_model.specs.Lawful.{MaySave, server_answer, dump_answer, MayFailRead, MayBuilt}
+use Rattle.wtf_model.specs.Lawful.{MaySave, server_answer, dump_answer, MayFailRead}
 use Rattle.wtf_model.specs.Transaction.{Transaction}
-use Rattle.wtf_model.specs.Steps.{after, after_client, begun, tried, stepped, committed, aborted, is_logged, logged, with_transaction, saved}
-use Rattle.wtf_model.proofs.StepLaws.{after-NotBuilt}
-use Rattle.wtf_model.proofs.MachineLaws.{with_job-rest, put_in_place-rest, dropped-rest}
+use Rattle.wtf_model.specs.Steps.{after, after_client, begun, tried, stepped, committed, aborted, is_logged, logged, with_transaction, saved, scanning, scanned}
+use Rattle.wtf_model.proofs.MachineLaws.{with_job-rest, put_in_place-rest, dropped-rest, scanning-rest, scanned-rest}
 use Rattle.wtf_model.proofs.ServerLaws.{is_down-event}
+use Rattle.wtf_meta.specs.Bytes.{any_slice}
 use Rattle.wtf_meta.specs.Contents.{Told}
 use Rattle.wtf_meta.specs.Trees.{Stands}
 use Rattle.wtf_meta.proofs.Telling.{TellsOn}
-use Rattle.wtf_region.specs.Cached.{Remembered, CacheTrue}
-use Rattle.wtf_clients.specs.Views.{TablesView, of_client, of_label, metadata_now}
-use Rattle.wtf_core.specs.Views.{CoreView}
-use Rattle.wtf_clients.specs.Sounds.{AreSound}
-use Rattle.wtf_model.specs.Built.{is_built}
-use Rattle.wtf_clients.specs.Standing.{IsImageTree, StandsForSlot, StandsForLabel, TablesStand}
-use Rattle.wtf_core.specs.Standing.{StandsFor}
-use Rattle.wtf_clients.specs.Turns.{ClientTurn, Dumps}
+use Rattle.wtf_region.specs.declared.dev.Dev.{Dev}
+use Rattle.wtf_region.specs.Cached.{Remembered}
+use Rattle.wtf_region.specs.Devs.{stores}
+use Rattle.wtf_region.specs.Inside.{is_inside}
 use Rattle.wtf_clients.specs.JobTurns.{PlanTurn, PutTurn}
-use Rattle.wtf_core.specs.Turns.{ServerTurn, Switches, BuiltTurn, LineTurn}
-use Rattle.wtf_core.specs.Answers.{IsEvent}
-use Rattle.wtf_clients.proofs.Pins.{number_cases}
-use Rattle.wtf_core.proofs.Plain.{tables_later}
-use Rattle.wtf_core.proofs.Lines.{client_sound, client_stands}
-use Rattle.wtf_clients.proofs.Staying.{stays_sound, stays_stand}
-use Rattle.wtf_core.proofs.Growth.{Rises, stays_rise, saves_rise, plan_rises, put_rises, drop_rises, client_rises}
-use Rattle.wtf_core.proofs.JobLines.{plan_sound, put_sound, plan_stands, put_stand, drop_stand}
+use Rattle.wtf_clients.specs.Named.{TablesBytes}
+use Rattle.wtf_clients.specs.Safe.{IsSafe}
 use Rattle.wtf_clients.specs.Saves.{AreUp, SaveTurn, only_image, with_image}
+use Rattle.wtf_clients.specs.ScanTurns.{ScanTurn, StartsTurn, PieceTurn, PieceFails, DoesTurn, CollectTurn}
+use Rattle.wtf_clients.specs.Sounds.{AreSound}
+use Rattle.wtf_clients.specs.Standing.{HasKinds, IsImageTree, StandsForSlot, StandsForLabel, TablesStand, ScansStand}
+use Rattle.wtf_clients.specs.Turns.{AreTrue, ClientTurn, Dumps}
+use Rattle.wtf_clients.specs.Views.{BesideView, TablesView, of_client, of_label, metadata_now}
+use Rattle.wtf_clients.proofs.Collected.{collect_tables}
+use Rattle.wtf_clients.proofs.Freeing.{Freed, collect_freed}
+use Rattle.wtf_clients.proofs.Pins.{number_cases}
+use Rattle.wtf_clients.proofs.PrunedTables.{pruned_stand}
+use Rattle.wtf_clients.proofs.ScanFrames.{start_maps}
+use Rattle.wtf_clients.proofs.ScanMays.{scan_may, scan_stands, piece_may, piece_stands, collect_may, collect_stands}
+use Rattle.wtf_clients.proofs.Scanning.{pruned_keeps}
+use Rattle.wtf_clients.proofs.SinceLaws.{none_moved}
+use Rattle.wtf_clients.proofs.Staying.{stays_sound, stays_stand}
+use Rattle.wtf_core.specs.Answers.{IsEvent}
+use Rattle.wtf_core.specs.Standing.{StandsFor}
+use Rattle.wtf_core.specs.Telling.{TellsCore}
+use Rattle.wtf_core.specs.Turns.{ServerTurn, Switches, LineTurn}
+use Rattle.wtf_core.specs.Views.{CoreView}
+use Rattle.wtf_core.proofs.Aged.{line_aged, planned_free, kinds_of, scans_on}
+use Rattle.wtf_core.proofs.Answering.{server_plain}
+use Rattle.wtf_core.proofs.Growth.{Rises, stays_rise, saves_rise, plan_rises, put_rises, drop_rises, client_rises}
+use Rattle.wtf_core.proofs.JobLines.{label_none, plan_sound, put_sound, plan_stands, put_stand, drop_stand}
+use Rattle.wtf_core.proofs.Lines.{client_sound, client_stands}
+use Rattle.wtf_core.proofs.Plain.{tables_later}
 use Rattle.wtf_core.proofs.SaveLaws.{save_sound, save_stands}
+use Rattle.wtf_core.proofs.Stamped.{IsOther, IsFree, event_stamped}
+use Rattle.wtf_core.proofs.Tidying.{ShowsAlike, alike_stand}
 
 -- ---- no line changes the settings of the machine
 begun_settings : (m : Machine) (c : ℕ) (a : Answer) → (begun m c a).settings ≡ m.settings
@@ -84,37 +110,44 @@ client_settings m c (Some t) (verb.Call o) a = called_by m (with_transaction m c
 client_settings m c o v a = refl
 
 -- ---- a core that stays stands for the same over stores that tell more
-stays : (told later : Told) (core : CoreView) (m : Machine) → AreSound core.tables → StandsFor told core m → TellsOn told later → CacheTrue later
-    core.settings.region [] core.lists → StandsFor later core m
-stays told later core m sound stands on lists = record {
+stays : (told later : Told) (core : CoreView) (m : Machine) → AreSound core.tables → StandsFor told core m → TellsOn told later → StandsFor later core m
+stays told later core m sound stands on = record {
   settings = stands.settings;
   tables = tables_later core.settings.region told later core.tables m sound stands.tables on;
   down = stands.down;
-  lists = lists;
+  scans = stands.scans;
 }
 
--- the lists that a core remembers which did not change are true later, where those of the next one are
-lists_of : (later : Told) (old new mid : CoreView) → new ≡ mid → CacheTrue later old.settings.region [] new.lists → CacheTrue later old.settings.region []
-    mid.lists
-lists_of later old new mid is now = subst (λ (core : CoreView). CacheTrue later old.settings.region [] core.lists) is now
+-- tables stand for a machine of the same tree, the same number, and the same that is open and that may be saved
+machine_beside : (size : ℕ) (told : Told) (tables : TablesView) (m next : Machine) → TablesStand size told tables m → next.number ≡ m.number
+    → next.now ≡ m.now → next.transactions ≡ m.transactions → next.may_be_saved ≡ m.may_be_saved → next.jobs ≡ m.jobs → TablesStand size told tables next
+machine_beside size told tables m next same number now transactions may jobs = record {
+  number = number ∙ same.number;
+  each = λ c. subst (λ t. StandsForSlot size told tables.kv t (of_client tables.clients c) (get next.transactions c)) (sym now)
+      (subst (λ ts. StandsForSlot size told tables.kv m.now (of_client tables.clients c) (get ts c)) (sym transactions) (same.each c));
+  later = λ tx le. subst (λ t. Stands size told tx 0 (metadata_now tables.kv) t) (sym now) (same.later tx le);
+  jobs = λ j. subst (λ js. StandsForLabel size told tables.kv (of_label tables.beside.jobs j) (get js j)) (sym jobs) (same.jobs j);
+  before = same.before;
+  none = λ is. subst (λ l. Contains l root_alone) (sym may) (same.none is);
+  images = λ n there. subst (λ l. IsImageTree size told tables n l) (sym may) (same.images n there);
+}
 
 -- ---- a server goes down, or comes up
 module _ (told later : Told) (old new : CoreView) (m : Machine) (k : ℕ) (to : Bool) (a : Answer) (sound : AreSound old.tables) (stands : StandsFor told old m)
-    (on : TellsOn told later)
-    (now : CacheTrue later old.settings.region [] new.lists) where
+    (on : TellsOn told later) where
   -- the machine's servers are the same, but for this one
   abbrev IsSwitch : Machine → Type 0
   IsSwitch next = (j : ℕ) → machine.is_down next j ≡ (if nat_eq j k then to else machine.is_down m j)
 
   switched : Switches old new k to a → (next : Machine) → next.settings ≡ m.settings → TablesStand old.settings.region later old.tables next → IsSwitch next
-      → StandsFor later new next
-  switched turn next settings tables is =
+      → ScansStand new.tables next → StandsFor later new next
+  switched turn next settings tables is scans =
       let down : (j : ℕ) → is_down new.replicas j ≡ machine.is_down next j = λ j. by j (number_cases j k) in
       subst (λ (core : CoreView). StandsFor later core next) (sym turn.rest) (record {
         settings = settings ∙ stands.settings;
         tables = tables;
         down = down;
-        lists = lists_of later old new (record old { replicas = new.replicas }) turn.rest now;
+        scans = subst (λ (core : CoreView). ScansStand core.tables next) turn.rest scans;
       })
     where
       by : (j : ℕ) → (j ≡ k) ⊎ (j ≢ k) → is_down new.replicas j ≡ machine.is_down next j
@@ -126,97 +159,170 @@ module _ (told later : Told) (old new : CoreView) (m : Machine) (k : ℕ) (to : 
   tables_beside : (next : Machine) → next.number ≡ m.number → next.now ≡ m.now → next.transactions ≡ m.transactions → next.may_be_saved ≡ m.may_be_saved
       → next.jobs ≡ m.jobs → TablesStand old.settings.region later old.tables next
   tables_beside next number now transactions may jobs =
-      let same = tables_later old.settings.region told later old.tables m sound stands.tables on in
-      record {
-        number = number ∙ same.number;
-        each = λ c. subst (λ t. StandsForSlot old.settings.region later old.tables.kv t (of_client old.tables.clients c) (get next.transactions c)) (sym now)
-            (subst (λ ts. StandsForSlot old.settings.region later old.tables.kv m.now (of_client old.tables.clients c) (get ts c)) (sym transactions)
-            (same.each c));
-        later = λ tx le. subst (λ t. Stands old.settings.region later tx 0 (metadata_now old.tables.kv) t) (sym now) (same.later tx le);
-        jobs = λ j. subst (λ js. StandsForLabel old.settings.region later old.tables.kv (of_label old.tables.beside.jobs j) (get js j)) (sym jobs)
-            (same.jobs j);
-        before = same.before;
-        none = λ is. subst (λ l. Contains l root_alone) (sym may) (same.none is);
-        images = λ n there. subst (λ l. IsImageTree old.settings.region later old.tables n l) (sym may) (same.images n there);
-      }
+      machine_beside old.settings.region later old.tables m next (tables_later old.settings.region told later old.tables m sound stands.tables on) number now
+      transactions may jobs
+
+  -- where there is such a server, and where there is none
+  switch_line : (e : Event) → ((c : Answer) → c ≡ answer.Okay → IsSwitch (after m e c)) → ((c : Answer) → (after m e c).settings ≡ m.settings)
+      → TablesStand old.settings.region later old.tables (after m e answer.Okay) → ((w : Word) → after m e (answer.Refused w) ≡ m)
+      → ScansStand new.tables (after m e a) → ServerTurn old new k to a → (a ≡ server_answer m k) × StandsFor later new (after m e a)
+  switch_line e moves settings tables stay scans turn = by (nat_lt k old.settings.servers) refl turn
+    where
+      servers : nat_lt k m.settings.servers ≡ nat_lt k old.settings.servers
+      servers = ap (λ (s : Settings). nat_lt k s.servers) stands.settings
+
+      by : (b : Bool) → nat_lt k old.settings.servers ≡ b → MatchBool b (Switches old new k to a) ((a ≡ answer.Refused NoServer) × (new ≡ old))
+          → (a ≡ server_answer m k) × StandsFor later new (after m e a)
+      by true is t = (
+        t.answer ∙ sym (ap (λ b. if b then answer.Okay else answer.Refused NoServer) (servers ∙ is)),
+        switched t (after m e a) (settings a) (subst (λ c. TablesStand old.settings.region later old.tables (after m e c)) (sym t.answer) tables)
+            (moves a t.answer) scans,
+      )
+      by false is t = (
+        t.0 ∙ sym (ap (λ b. if b then answer.Okay else answer.Refused NoServer) (servers ∙ is)),
+        subst (λ (next : Machine). StandsFor later new next) (sym (ap (after m e) t.0 ∙ stay NoServer))
+            (subst (λ (core : CoreView). StandsFor later core m) (sym t.1) (stays told later old m sound stands on)),
+      )
+
+down_settings : (m : Machine) (k : ℕ) (a : Answer) → (after m (event.Down k) a).settings ≡ m.settings
+down_settings m k answer.Okay = refl
+down_settings m k a = refl
+
+up_settings : (m : Machine) (k : ℕ) (a : Answer) → (after m (event.Up k) a).settings ≡ m.settings
+up_settings m k answer.Okay = refl
+up_settings m k a = refl
 
 down_line : (told later : Told) (old new : CoreView) (m : Machine) (k : ℕ) (a : Answer) → AreSound old.tables → StandsFor told old m → TellsOn told later →
-    CacheTrue later old.settings.region [] new.lists → ServerTurn old new k true a
+    ScansStand new.tables (after m (event.Down k) a) → ServerTurn old new k true a
     → (a ≡ server_answer m k) × StandsFor later new (after m (event.Down k) a)
-down_line told later old new m k a sound stands on now turn = by (nat_lt k old.settings.servers) refl turn
-  where
-    servers : nat_lt k m.settings.servers ≡ nat_lt k old.settings.servers
-    servers = ap (λ (s : Settings). nat_lt k s.servers) stands.settings
-
-    by : (b : Bool) → nat_lt k old.settings.servers ≡ b → MatchBool b (Switches old new k true a) ((a ≡ answer.Refused NoServer) × (new ≡ old))
-        → (a ≡ server_answer m k) × StandsFor later new (after m (event.Down k) a)
-    by true is t =
-        let due : a ≡ server_answer m k = t.answer ∙ sym (ap (λ b. if b then answer.Okay else answer.Refused NoServer) (servers ∙ is)) in
-        let next = after m (event.Down k) answer.Okay in (
-          due,
-          subst (λ b. StandsFor later new (after m (event.Down k) b)) (sym t.answer)
-              (switched told later old new m k true a sound stands on now t next refl (tables_beside told later old new m k true a sound stands on now next
-              refl refl refl refl refl) (is_down-event m (event.Down k) answer.Okay)),
-        )
-    by false is t =
-        let due : a ≡ server_answer m k = t.0 ∙ sym (ap (λ b. if b then answer.Okay else answer.Refused NoServer) (servers ∙ is)) in (
-          due,
-          subst (λ b. StandsFor later new (after m (event.Down k) b)) (sym t.0) (subst (λ (core : CoreView). StandsFor later core m) (sym t.1)
-              (stays told later old m sound stands on (lists_of later old new old t.1 now))),
-        )
+down_line told later old new m k a sound stands on scans turn =
+    switch_line told later old new m k true a sound stands on (event.Down k)
+    (λ c is. subst (λ d. IsSwitch told later old new m k true a sound stands on (after m (event.Down k) d)) (sym is)
+    (is_down-event m (event.Down k) answer.Okay))
+    (down_settings m k)
+    (tables_beside told later old new m k true a sound stands on (after m (event.Down k) answer.Okay) refl refl refl refl refl) (λ w. refl) scans turn
 
 up_line : (told later : Told) (old new : CoreView) (m : Machine) (k : ℕ) (a : Answer) → AreSound old.tables → StandsFor told old m → TellsOn told later →
-    CacheTrue later old.settings.region [] new.lists → ServerTurn old new k false a
+    ScansStand new.tables (after m (event.Up k) a) → ServerTurn old new k false a
     → (a ≡ server_answer m k) × StandsFor later new (after m (event.Up k) a)
-up_line told later old new m k a sound stands on now turn = by (nat_lt k old.settings.servers) refl turn
-  where
-    servers : nat_lt k m.settings.servers ≡ nat_lt k old.settings.servers
-    servers = ap (λ (s : Settings). nat_lt k s.servers) stands.settings
+up_line told later old new m k a sound stands on scans turn =
+    switch_line told later old new m k false a sound stands on (event.Up k)
+    (λ c is. subst (λ d. IsSwitch told later old new m k false a sound stands on (after m (event.Up k) d)) (sym is) (is_down-event m (event.Up k) answer.Okay))
+    (up_settings m k)
+    (tables_beside told later old new m k false a sound stands on (after m (event.Up k) answer.Okay) refl refl refl refl refl) (λ w. refl) scans turn
 
-    by : (b : Bool) → nat_lt k old.settings.servers ≡ b → MatchBool b (Switches old new k false a) ((a ≡ answer.Refused NoServer) × (new ≡ old))
-        → (a ≡ server_answer m k) × StandsFor later new (after m (event.Up k) a)
-    by true is t =
-        let due : a ≡ server_answer m k = t.answer ∙ sym (ap (λ b. if b then answer.Okay else answer.Refused NoServer) (servers ∙ is)) in
-        let next = after m (event.Up k) answer.Okay in (
-          due,
-          subst (λ b. StandsFor later new (after m (event.Up k) b)) (sym t.answer)
-              (switched told later old new m k false a sound stands on now t next refl (tables_beside told later old new m k false a sound stands on now next
-              refl refl refl refl refl) (is_down-event m (event.Up k) answer.Okay)),
-        )
-    by false is t =
-        let due : a ≡ server_answer m k = t.0 ∙ sym (ap (λ b. if b then answer.Okay else answer.Refused NoServer) (servers ∙ is)) in (
-          due,
-          subst (λ b. StandsFor later new (after m (event.Up k) b)) (sym t.0) (subst (λ (core : CoreView). StandsFor later core m) (sym t.1)
-              (stays told later old m sound stands on (lists_of later old new old t.1 now))),
-        )
+-- ---- each line that collects nothing
+-- the stores tell, and go on to
+module _ {S : Type 0} (kind : StoreKind S) (t : Span S) (old new : CoreView) (m : Machine) (a : Answer) (sound : AreSound old.tables)
+    (stands : StandsFor (byte_at kind t.before) old m) (on : TellsOn (byte_at kind t.before) (byte_at kind t.after)) (tells : TellsCore kind t.before old) where
+  abbrev Telling : Type 0
+  Telling = TellsAll kind t.before
 
--- ---- each line
-module _ (Telling : Type 0) (told later : Told) (old new : CoreView) (m : Machine) (a : Answer) (sound : AreSound old.tables) (stands : StandsFor told old m)
-    (on : TellsOn told later) (tell : Telling)
-    (now : CacheTrue later old.settings.region [] new.lists) where
-  -- one that is not built changes nothing
-  not_built : (e : Event) → is_built e ≡ false → (a ≡ answer.NotBuilt) × (new ≡ old) → IsEvent later new m e a
-  not_built e is h = record {
-    may = subst (λ b. MatchBool b (MayBuilt m e a) (a ≡ answer.NotBuilt)) (sym is) h.0;
-    stands = subst (λ b. StandsFor later new (after m e b)) (sym h.0)
-        (subst (λ n. StandsFor later new n) (sym (after-NotBuilt m e)) (subst (λ (core : CoreView). StandsFor later core m) (sym h.1)
-        (stays told later old m sound stands on (lists_of later old new old h.1 now))));
+  abbrev told : Told
+  told = byte_at kind t.before
+
+  abbrev later : Told
+  later = byte_at kind t.after
+
+  abbrev size : ℕ
+  size = old.settings.region
+
+  -- the lists that are remembered
+  lists : AreTrue size told old.lists old.tables
+  lists = record { ranges = tells.tables.punched; cache = tells.tables.cache; away = tells.tables.away }
+
+  region : m.settings.region ≡ old.settings.region
+  region = ap (λ (s : Settings). s.region) stands.settings
+
+  count : m.settings.servers ≡ old.settings.servers
+  count = ap (λ (s : Settings). s.servers) stands.settings
+
+  -- the scans stand as before, where none began and no part was done
+  scans_by : (e : Event) → IsOther e → IsFree m e a → LineTurn kind t old new e a → HasKinds (metadata_now new.tables.kv)
+      → ScansStand new.tables (after m e a)
+  scans_by e other free turn kinds =
+      scans_on size told old.tables new.tables m (after m e a) sound stands.tables (line_aged kind t old new sound a e other turn)
+      (event_stamped m e a other free)
+      kinds stands.scans
+
+  -- also where the tables are the same
+  server_scans : (e : Event) → IsOther e → IsFree m e a → LineTurn kind t old new e a → new.tables ≡ old.tables → ScansStand new.tables (after m e a)
+  server_scans e other free turn same = scans_by e other free turn
+      (subst (λ (tables : TablesView). HasKinds (metadata_now tables.kv)) (sym same)
+      (kinds_of size told old.tables.next_tx 0 (metadata_now old.tables.kv) m.now (stands.tables.later old.tables.next_tx (omega arith))))
+
+  -- so the core does, with its tables
+  stands_by : (e : Event) → IsOther e → IsFree m e a → LineTurn kind t old new e a → new.settings ≡ old.settings → new.replicas ≡ old.replicas
+      → (after m e a).settings ≡ m.settings → ((k : ℕ) → machine.is_down (after m e a) k ≡ machine.is_down m k)
+      → TablesStand size later new.tables (after m e a) → StandsFor later new (after m e a)
+  stands_by e other free turn same replicas settings down tables = record {
+    settings = settings ∙ stands.settings ∙ sym same;
+    tables = subst (λ (s : Settings). TablesStand s.region later new.tables (after m e a)) (sym same) tables;
+    down = λ k. ap (λ r. is_down r k) replicas ∙ stands.down k ∙ sym (down k);
+    scans = scans_by e other free turn
+        (kinds_of size later new.tables.next_tx 0 (metadata_now new.tables.kv) (after m e a).now (tables.later new.tables.next_tx (omega arith)));
   }
 
-  built_client : (c : ℕ) (v : Verb) → BuiltTurn Telling (told, later) old new (event.Client c v) a → IsEvent later new m (event.Client c v) a
-  built_client c v h =
-      let region : m.settings.region ≡ old.settings.region = ap (λ (s : Settings). s.region) stands.settings in
-      let count : m.settings.servers ≡ old.settings.servers = ap (λ (s : Settings). s.servers) stands.settings in
-      let both = client_stands Telling old.lists old.settings.servers old.settings.region told later old.tables new.tables m c v a sound region count
-      stands.tables on (tell, stands.lists) h.0 in
+  -- what a line leaves of a core
+  abbrev Rest : Type 0
+  Rest = new ≡ record old { tables = new.tables; lists = new.lists }
+
+  rest_settings : Rest → new.settings ≡ old.settings
+  rest_settings h = ap (λ (c : CoreView). c.settings) h
+
+  rest_replicas : Rest → new.replicas ≡ old.replicas
+  rest_replicas h = ap (λ (c : CoreView). c.replicas) h
+
+  client_event : (c : ℕ) (v : Verb) → LineTurn kind t old new (event.Client c v) a → IsEvent later new m (event.Client c v) a
+  client_event c v h =
+      let both = client_stands Telling old.lists old.settings.servers size told later old.tables new.tables m c v a sound region count stands.tables on
+      (tells.tables.all, lists) h.0 in
       record {
         may = both.0;
-        stands = subst (λ (core : CoreView). StandsFor later core (after m (event.Client c v) a)) (sym h.1) (record {
-          settings = client_settings m c (get m.transactions c) v a ∙ stands.settings;
-          tables = both.1;
-          down = λ k. stands.down k ∙ sym (is_down-event m (event.Client c v) a k);
-          lists = now;
-        });
+        stands = stands_by (event.Client c v) tt tt h (rest_settings h.1) (rest_replicas h.1) (client_settings m c (get m.transactions c) v a)
+            (is_down-event m (event.Client c v) a) both.1;
+      }
+
+  plan_event : (j : ℕ) (job : JobKind) (p : List ℕ) (r : ℕ) → LineTurn kind t old new (event.Plan j job p r) a → IsEvent later new m (event.Plan j job p r) a
+  plan_event j job p r h =
+      let both = plan_stands old.tables new.tables j sound size told later m stands.tables on Telling old.lists old.settings.servers job p r a
+      region count (tells.tables.all, lists) h.0 in
+      record {
+        may = both.0;
+        stands = stands_by (event.Plan j job p r) tt
+            (λ is. label_none size told old.tables.kv (of_label old.tables.beside.jobs j) (get m.jobs j) (stands.tables.jobs j)
+            (planned_free old.tables new.tables j sound Telling old.lists old.settings.servers size told later job p r a h.0 is))
+            h (rest_settings h.1) (rest_replicas h.1) (ap (λ (x : Machine). x.settings) (with_job-rest m j job p r a))
+            (is_down-event m (event.Plan j job p r) a) both.1;
+      }
+
+  put_event : (j : ℕ) → LineTurn kind t old new (event.Put j) a → IsEvent later new m (event.Put j) a
+  put_event j h =
+      let both = put_stand old.tables new.tables j sound size told later m stands.tables on a h.0 in
+      record {
+        may = both.0;
+        stands = stands_by (event.Put j) tt tt h (ap (λ (c : CoreView). c.settings) h.1) (ap (λ (c : CoreView). c.replicas) h.1)
+            (ap (λ (x : Machine). x.settings) (put_in_place-rest m j a)) (is_down-event m (event.Put j) a) both.1;
+      }
+
+  drop_event : (j : ℕ) → LineTurn kind t old new (event.DropJob j) a → IsEvent later new m (event.DropJob j) a
+  drop_event j h =
+      let both = drop_stand old.tables new.tables j sound size told later m stands.tables on a h.0 in
+      record {
+        may = both.0;
+        stands = stands_by (event.DropJob j) tt tt h (ap (λ (c : CoreView). c.settings) h.1) (ap (λ (c : CoreView). c.replicas) h.1)
+            (ap (λ (x : Machine). x.settings) (dropped-rest m j a)) (is_down-event m (event.DropJob j) a) both.1;
+      }
+
+  dump_event : (p : List ℕ) → LineTurn kind t old new (event.Dump p) a → IsEvent later new m (event.Dump p) a
+  dump_event p h =
+      let due : (a ≡ dump_answer m p) ⊎ MayFailRead m.settings.servers (dump_answer m p) a =
+      subst (λ n. (a ≡ dump_answer m p) ⊎ MayFailRead n (dump_answer m p) a) (sym count)
+      (h.0.shows lists old.tables.next_tx 0 m.now (stands.tables.later old.tables.next_tx (omega arith))) in
+      record {
+        may = due;
+        stands = stands_by (event.Dump p) tt tt h (rest_settings h.1) (rest_replicas h.1) refl (λ k. refl)
+            (stays_stand old.tables new.tables 0 sound (h.0.stays 0) size told later m stands.tables on);
       }
 
   save_may : SaveTurn (AreUp old.replicas old.settings.servers) old.tables new.tables a → MaySave m a
@@ -235,76 +341,147 @@ module _ (Telling : Type 0) (told later : Told) (old new : CoreView) (m : Machin
   save_settings answer.FaultSave = refl
   save_settings b = refl
 
-  save_event : BuiltTurn Telling (told, later) old new event.Save a → IsEvent later new m event.Save a
+  save_event : LineTurn kind t old new event.Save a → IsEvent later new m event.Save a
   save_event h = record {
     may = save_may h.0;
-    stands = subst (λ (core : CoreView). StandsFor later core (saved m a)) (sym h.1) (record {
-      settings = save_settings a ∙ stands.settings;
-      tables = save_stands (AreUp old.replicas old.settings.servers) old.tables new.tables sound old.settings.region told later m a stands.tables on h.0;
-      down = λ k. stands.down k ∙ sym (is_down-event m event.Save a k);
-      lists = lists_of later old new (record old { tables = new.tables }) h.1 now;
-    });
+    stands = stands_by event.Save tt tt h (ap (λ (c : CoreView). c.settings) h.1) (ap (λ (c : CoreView). c.replicas) h.1) (save_settings a)
+        (is_down-event m event.Save a)
+        (save_stands (AreUp old.replicas old.settings.servers) old.tables new.tables sound size told later m a stands.tables on h.0);
   }
 
-  pub line_stands : (e : Event) → LineTurn Telling (told, later) old new e a → IsEvent later new m e a
-  line_stands (event.Client c v) h = built_client c v h
-  line_stands (event.Plan j kind p r) h =
-      let size : m.settings.region ≡ old.settings.region = ap (λ (s : Settings). s.region) stands.settings in
-      let count : m.settings.servers ≡ old.settings.servers = ap (λ (s : Settings). s.servers) stands.settings in
-      let both = plan_stands old.tables new.tables j sound old.settings.region told later m stands.tables on Telling old.lists old.settings.servers kind p r a
-      size count (tell, stands.lists) h.0 in
-      record {
-        may = both.0;
-        stands = subst (λ (core : CoreView). StandsFor later core (after m (event.Plan j kind p r) a)) (sym h.1) (record {
-          settings = ap (λ (x : Machine). x.settings) (with_job-rest m j kind p r a) ∙ stands.settings;
-          tables = both.1;
-          down = λ k. stands.down k ∙ sym (is_down-event m (event.Plan j kind p r) a k);
-          lists = now;
-        });
-      }
-  line_stands (event.Put j) h =
-      let both = put_stand old.tables new.tables j sound old.settings.region told later m stands.tables on a h.0 in
-      record {
-        may = both.0;
-        stands = subst (λ (core : CoreView). StandsFor later core (after m (event.Put j) a)) (sym h.1) (record {
-          settings = ap (λ (x : Machine). x.settings) (put_in_place-rest m j a) ∙ stands.settings;
-          tables = both.1;
-          down = λ k. stands.down k ∙ sym (is_down-event m (event.Put j) a k);
-          lists = lists_of later old new (record old { tables = new.tables }) h.1 now;
-        });
-      }
-  line_stands (event.DropJob j) h =
-      let both = drop_stand old.tables new.tables j sound old.settings.region told later m stands.tables on a h.0 in
-      record {
-        may = both.0;
-        stands = subst (λ (core : CoreView). StandsFor later core (after m (event.DropJob j) a)) (sym h.1) (record {
-          settings = ap (λ (x : Machine). x.settings) (dropped-rest m j a) ∙ stands.settings;
-          tables = both.1;
-          down = λ k. stands.down k ∙ sym (is_down-event m (event.DropJob j) a k);
-          lists = lists_of later old new (record old { tables = new.tables }) h.1 now;
-        });
-      }
-  line_stands (event.Down k) h = let both = down_line told later old new m k a sound stands on now h in record { may = both.0; stands = both.1 }
-  line_stands (event.Up k) h = let both = up_line told later old new m k a sound stands on now h in record { may = both.0; stands = both.1 }
-  line_stands (event.Dump p) h =
-      let due : (a ≡ dump_answer m p) ⊎ MayFailRead m.settings.servers (dump_answer m p) a =
-      subst (λ n. (a ≡ dump_answer m p) ⊎ MayFailRead n (dump_answer m p) a) (sym (ap (λ (s : Settings). s.servers) stands.settings))
-      (h.0.shows stands.lists old.tables.next_tx 0 m.now (stands.tables.later old.tables.next_tx (omega arith))) in
-      record {
-        may = due;
-        stands = subst (λ (core : CoreView). StandsFor later core m) (sym h.1) (record {
-          settings = stands.settings;
-          tables = stays_stand old.tables new.tables 0 sound (h.0.stays 0) old.settings.region told later m stands.tables on;
-          down = stands.down;
-          lists = now;
-        });
-      }
-  line_stands event.Tree h = record {
+  tree_event : LineTurn kind t old new event.Tree a → IsEvent later new m event.Tree a
+  tree_event h = record {
     may = h.0 told old.tables.next_tx 0 m.now (stands.tables.later old.tables.next_tx (omega arith));
-    stands = subst (λ (core : CoreView). StandsFor later core m) (sym h.1) (stays told later old m sound stands on (lists_of later old new old h.1 now));
+    stands = subst (λ (core : CoreView). StandsFor later core m) (sym h.1) (stays told later old m sound stands on);
   }
-  line_stands event.Save h = save_event h
-  line_stands e h = not_built e refl h
+
+  -- ---- a scan, and its parts
+  -- a scan changes pins and the scans alone
+  started_alike : StartsTurn kind t.before old.tables new.tables → ShowsAlike old.tables new.tables
+  started_alike turn = record {
+    number = turn.starts.pins.number;
+    maps = λ n live. start_maps kind t.before old.tables new.tables sound turn n;
+    moved = λ b. none_moved old.tables.kv new.tables.kv b (λ q.
+        ap (λ (n : ℕ). versions_of key_cmp (record new.tables.kv { number = n }) q) turn.starts.pins.number
+        ∙ ap (λ c. versions_of key_cmp (record old.tables.kv { cells = c }) q) turn.starts.pins.cells);
+    next_tx = turn.next_tx;
+    clients = turn.clients;
+    jobs = ap (λ (b : BesideView). b.jobs) turn.beside;
+    images = ap (λ (b : BesideView). b.images) turn.beside;
+    none = ap (λ (b : BesideView). b.none) turn.beside;
+  }
+
+  before_later : TablesStand size later old.tables m
+  before_later = tables_later size told later old.tables m sound stands.tables on
+
+  -- so a machine of other scans
+  scan_tables : (b : Answer) → ScanTurn kind t.before old.tables new.tables b → TablesStand size later new.tables (scanning m b)
+  scan_tables (answer.Refused ScanBusy) h = subst (λ (tables : TablesView). TablesStand size later tables m) (sym h.0) before_later
+  scan_tables (answer.Held who) h = subst (λ (tables : TablesView). TablesStand size later tables m) (sym h.0) before_later
+  scan_tables answer.Scanning h =
+      machine_beside size later new.tables m (scanning m answer.Scanning)
+      (alike_stand old.tables new.tables sound (started_alike h) size later m before_later) refl refl refl refl refl
+  scan_tables b h = absurd h
+
+  scan_event : LineTurn kind t old new event.Scan a → IsEvent later new m event.Scan a
+  scan_event h =
+      let same : new.settings ≡ old.settings = ap (λ (c : CoreView). c.settings) h.1 in
+      record {
+        may = scan_may kind t.before size told old.tables new.tables m sound stands.tables stands.scans a h.0;
+        stands = record {
+          settings = ap (λ (x : Machine). x.settings) (scanning-rest m a) ∙ stands.settings ∙ sym same;
+          tables = subst (λ (s : Settings). TablesStand s.region later new.tables (scanning m a)) (sym same) (scan_tables a h.0);
+          down = λ k. ap (λ (c : CoreView). is_down c.replicas k) h.1 ∙ stands.down k ∙ sym (is_down-event m event.Scan a k);
+          scans = scan_stands kind t.before size told old.tables new.tables m sound stands.tables stands.scans a h.0;
+        };
+      }
+
+  does_tables : (before after : Dev S) (n left : ℕ) → DoesTurn kind before after old.tables new.tables n left → TablesStand size later new.tables m
+  does_tables before after n left h = pruned_stand old.tables new.tables sound h.prunes h.keeps size later m before_later
+
+  piece_tables : (before after : Dev S) (n : ℕ) (b : Answer) → PieceTurn kind before after old.tables new.tables n b
+      → TablesStand size later new.tables (scanned m b)
+  piece_tables before after n (answer.Refused NoScan) h = subst (λ (tables : TablesView). TablesStand size later tables m) (sym h.0) before_later
+  piece_tables before after n (answer.More left) h =
+      machine_beside size later new.tables m (scanned m (answer.More left)) (does_tables before after n left h.1) refl refl refl refl refl
+  piece_tables before after n answer.Done h =
+      machine_beside size later new.tables m (scanned m answer.Done) (does_tables before after n 0 h) refl refl refl refl refl
+  piece_tables before after n b h = pruned_stand old.tables new.tables sound h.pruned.kv (pruned_keeps old.tables new.tables h.pruned) size later m before_later
+
+  piece_event : KindLaws kind → TablesBytes (is_inside kind t.before old.settings) any_slice old.tables → (n : ℕ) → LineTurn kind t old new (event.Piece n) a
+      → IsEvent later new m (event.Piece n) a
+  piece_event laws inside n h =
+      let by = h.0 in
+      let same : new.settings ≡ old.settings = rest_settings h.1 in
+      record {
+        may = piece_may laws by.before by.after by.sound old.tables new.tables
+            (subst (λ (s : Settings). TablesBytes (is_inside kind (stores by.before) s) any_slice old.tables) (sym by.lent.settings_are)
+            (subst (λ (shelf : List S). TablesBytes (is_inside kind shelf old.settings) any_slice old.tables)
+            (sym (ap (λ (s : Span S). s.before) by.lent.span_is)) inside)) n m stands.scans (stands.settings ∙ sym by.lent.settings_are) a by.did;
+        stands = record {
+          settings = ap (λ (x : Machine). x.settings) (scanned-rest m a) ∙ stands.settings ∙ sym same;
+          tables = subst (λ (s : Settings). TablesStand s.region later new.tables (scanned m a)) (sym same) (piece_tables by.before by.after n a by.did);
+          down = λ k. ap (λ (c : CoreView). is_down c.replicas k) h.1 ∙ stands.down k ∙ sym (is_down-event m (event.Piece n) a k);
+          scans = piece_stands kind by.before by.after old.tables new.tables n m stands.scans sound a by.did;
+        };
+      }
+
+-- ---- a collection
+module _ {S : Type 0} {kind : StoreKind S} (laws : KindLaws kind) (old new : CoreView) (m : Machine) (sound : AreSound old.tables) where
+  -- over devices that were lent
+  collected_tables : (before after : Dev S) → Freed kind before after old.tables new.tables → before.settings ≡ old.settings
+      → TellsCore kind (stores before) old → TablesStand old.settings.region (byte_at kind (stores before)) old.tables m
+      → TablesStand old.settings.region (byte_at kind (stores after)) new.tables m
+  collected_tables before after freed settings tells tables =
+      subst (λ (s : Settings). TablesStand s.region (byte_at kind (stores after)) new.tables m) settings
+      (collect_tables laws freed (subst (λ (s : Settings). IsSafe s.region (byte_at kind (stores before)) old.tables) (sym settings) tells.safe) m sound
+      (subst (λ (s : Settings). TablesStand s.region (byte_at kind (stores before)) old.tables m) (sym settings) tables))
+
+  collect_event : (t : Span S) (k : ℕ) (a : Answer) → StandsFor (byte_at kind t.before) old m → TellsCore kind t.before old
+      → LineTurn kind t old new (event.Collect k) a → IsEvent (byte_at kind t.after) new m (event.Collect k) a
+  collect_event t k a stands tells h =
+      let by = h.0 in
+      let freed = collect_freed laws by.before by.after old.tables new.tables k a by.did in
+      let same : new.settings ≡ old.settings = ap (λ (c : CoreView). c.settings) h.1 in
+      record {
+        may = collect_may kind by.before by.after old.tables new.tables k m stands.scans (stands.settings ∙ sym by.lent.settings_are) a by.did;
+        stands = record {
+          settings = stands.settings ∙ sym same;
+          tables = subst (λ (s : Settings). TablesStand s.region (byte_at kind t.after) new.tables m) (sym same)
+              (subst (λ (s : Span S). TellsCore kind s.before old → TablesStand old.settings.region (byte_at kind s.before) old.tables m
+              → TablesStand old.settings.region (byte_at kind s.after) new.tables m) by.lent.span_is
+              (collected_tables by.before by.after freed by.lent.settings_are) tells stands.tables);
+          down = λ j. ap (λ (c : CoreView). is_down c.replicas j) h.1 ∙ stands.down j;
+          scans = collect_stands kind by.before by.after old.tables new.tables k m stands.scans a by.did;
+        };
+      }
+
+-- ---- each line
+module _ {S : Type 0} {kind : StoreKind S} (laws : KindLaws kind) (t : Span S) (old new : CoreView) (m : Machine) (a : Answer) (sound : AreSound old.tables)
+    (stands : StandsFor (byte_at kind t.before) old m) (tells : TellsCore kind t.before old)
+    (inside : TablesBytes (is_inside kind t.before old.settings) any_slice old.tables) where
+  pub line_stands : (e : Event) → (((k : ℕ) → e ≢ event.Collect k) → TellsOn (byte_at kind t.before) (byte_at kind t.after)) → LineTurn kind t old new e a
+      → IsEvent (byte_at kind t.after) new m e a
+  line_stands (event.Client c v) on h = client_event kind t old new m a sound stands (on (λ k is. absurd (cc))) tells c v h
+  line_stands (event.Plan j job p r) on h = plan_event kind t old new m a sound stands (on (λ k is. absurd (cc))) tells j job p r h
+  line_stands (event.Put j) on h = put_event kind t old new m a sound stands (on (λ k is. absurd (cc))) tells j h
+  line_stands (event.DropJob j) on h = drop_event kind t old new m a sound stands (on (λ k is. absurd (cc))) tells j h
+  line_stands (event.Down k) on h =
+      let still : TellsOn (byte_at kind t.before) (byte_at kind t.after) = on (λ j is. absurd (cc)) in
+      let both = down_line (byte_at kind t.before) (byte_at kind t.after) old new m k a sound stands still
+      (server_scans kind t old new m a sound stands still tells (event.Down k) tt tt h (server_plain old new k true (nat_lt k old.settings.servers) a h).1) h in
+      record { may = both.0; stands = both.1 }
+  line_stands (event.Up k) on h =
+      let still : TellsOn (byte_at kind t.before) (byte_at kind t.after) = on (λ j is. absurd (cc)) in
+      let both = up_line (byte_at kind t.before) (byte_at kind t.after) old new m k a sound stands still
+      (server_scans kind t old new m a sound stands still tells (event.Up k) tt tt h (server_plain old new k false (nat_lt k old.settings.servers) a h).1) h in
+      record { may = both.0; stands = both.1 }
+  line_stands (event.Dump p) on h = dump_event kind t old new m a sound stands (on (λ k is. absurd (cc))) tells p h
+  line_stands event.Tree on h = tree_event kind t old new m a sound stands (on (λ k is. absurd (cc))) tells h
+  line_stands event.Save on h = save_event kind t old new m a sound stands (on (λ k is. absurd (cc))) tells h
+  line_stands event.Scan on h = scan_event kind t old new m a sound stands (on (λ k is. absurd (cc))) tells h
+  line_stands (event.Piece n) on h = piece_event kind t old new m a sound stands (on (λ k is. absurd (cc))) tells laws inside n h
+  line_stands (event.Collect k) on h = collect_event laws old new m sound t k a stands tells h
 
 -- ---- a line raises both numbers by at most one
 same_rise : (old new : TablesView) → new ≡ old → Rises old new
@@ -314,15 +491,46 @@ same_rise old new is = subst (λ t. Rises old t) (sym is)
 tables_same : (old new : CoreView) → new ≡ old → Rises old.tables new.tables
 tables_same old new is = same_rise old.tables new.tables (ap (λ (c : CoreView). c.tables) is)
 
-module _ (Telling : Type 0) (told : Told × Told) (old new : CoreView) (a : Answer) where
+-- a scan, its parts and a collection leave both numbers
+still_rise : (old new : TablesView) → new.kv.number ≡ old.kv.number → new.next_tx ≡ old.next_tx → Rises old new
+still_rise old new number next = record {
+  number = omega (arith, number);
+  next_tx = omega (arith, next);
+  no_fewer = omega (arith, number);
+  no_earlier = omega (arith, next);
+}
+
+scan_rises : {S : Type 0} (kind : StoreKind S) (shelf : List S) (old new : TablesView) (a : Answer) → ScanTurn kind shelf old new a → Rises old new
+scan_rises kind shelf old new (answer.Refused ScanBusy) h = same_rise old new h.0
+scan_rises kind shelf old new (answer.Held who) h = same_rise old new h.0
+scan_rises kind shelf old new answer.Scanning h = still_rise old new h.starts.pins.number h.next_tx
+scan_rises kind shelf old new a h = absurd h
+
+piece_fails_rise : {S : Type 0} (kind : StoreKind S) (before after : Dev S) (old new : TablesView) (n : ℕ) (a : Answer)
+    → PieceFails kind before after old new n a → Rises old new
+piece_fails_rise kind before after old new n a h = still_rise old new h.pruned.kv.number h.pruned.next_tx
+
+piece_rises : {S : Type 0} (kind : StoreKind S) (before after : Dev S) (old new : TablesView) (n : ℕ) (a : Answer) → PieceTurn kind before after old new n a
+    → Rises old new
+piece_rises kind before after old new n (answer.Refused NoScan) h = same_rise old new h.0
+piece_rises kind before after old new n (answer.More left) h = still_rise old new h.1.prunes.number h.1.keeps.next_tx
+piece_rises kind before after old new n answer.Done h = still_rise old new h.prunes.number h.keeps.next_tx
+piece_rises kind before after old new n a h = piece_fails_rise kind before after old new n a h
+
+collect_rises : {S : Type 0} (kind : StoreKind S) (before after : Dev S) (old new : TablesView) (k : ℕ) (a : Answer)
+    → CollectTurn kind before after old new k a → Rises old new
+collect_rises kind before after old new k (answer.Refused NoServer) h = same_rise old new h.0
+collect_rises kind before after old new k (answer.Refused NoScan) h = same_rise old new h.0
+collect_rises kind before after old new k (answer.Collected n) h =
+    still_rise old new (ap (λ (s : Store Key Value). s.number) h.1.keeps.kv) h.1.keeps.keeps.next_tx
+collect_rises kind before after old new k (answer.FaultPunch j) h =
+    still_rise old new (ap (λ (s : Store Key Value). s.number) h.1.keeps.kv) h.1.keeps.keeps.next_tx
+collect_rises kind before after old new k a h = absurd h
+
+module _ {S : Type 0} (kind : StoreKind S) (t : Span S) (old new : CoreView) (a : Answer) where
   server_rises : (k : ℕ) (to b : Bool) → MatchBool b (Switches old new k to a) ((a ≡ answer.Refused NoServer) × (new ≡ old)) → Rises old.tables new.tables
   server_rises k to true h = same_rise old.tables new.tables (ap (λ (c : CoreView). c.tables) h.rest)
   server_rises k to false h = tables_same old new h.1
-
-  client_by : (c : ℕ) (v : Verb) (b : Bool) → MatchBool b (BuiltTurn Telling told old new (event.Client c v) a) ((a ≡ answer.NotBuilt) × (new ≡ old))
-      → Rises old.tables new.tables
-  client_by c v true h = client_rises Telling old.lists old.settings.servers old.settings.region told.0 told.1 old.tables new.tables c v a h.0
-  client_by c v false h = tables_same old new h.1
 
   save_rises : (b : Answer) → SaveTurn (AreUp old.replicas old.settings.servers) old.tables new.tables b → Rises old.tables new.tables
   save_rises (answer.Saved n) (number, up, saves) = saves_rise old.tables new.tables (only_image old.tables.beside n) saves
@@ -330,18 +538,23 @@ module _ (Telling : Type 0) (told : Told × Told) (old new : CoreView) (a : Answ
   save_rises answer.FaultSave (inr saves) = saves_rise old.tables new.tables (with_image old.tables.beside old.tables.kv.number) saves
   save_rises b t = absurd t
 
-  pub line_rises : (e : Event) → LineTurn Telling told old new e a → Rises old.tables new.tables
-  line_rises (event.Client c v) h = client_by c v true h
-  line_rises (event.Plan j kind p r) h =
-      plan_rises Telling old.lists old.settings.servers old.settings.region told.0 told.1 old.tables new.tables j kind p r a h.0
+  pub line_rises : (e : Event) → LineTurn kind t old new e a → Rises old.tables new.tables
+  line_rises (event.Client c v) h =
+      client_rises (TellsAll kind t.before) old.lists old.settings.servers old.settings.region (byte_at kind t.before) (byte_at kind t.after) old.tables
+      new.tables c v a h.0
+  line_rises (event.Plan j job p r) h =
+      plan_rises (TellsAll kind t.before) old.lists old.settings.servers old.settings.region (byte_at kind t.before) (byte_at kind t.after) old.tables
+      new.tables j job p r a h.0
   line_rises (event.Put j) h = put_rises old.tables new.tables j a h.0
   line_rises (event.DropJob j) h = drop_rises old.tables new.tables j a h.0
+  line_rises event.Scan h = scan_rises kind t.before old.tables new.tables a h.0
+  line_rises (event.Piece n) h = piece_rises kind h.0.before h.0.after old.tables new.tables n a h.0.did
+  line_rises (event.Collect k) h = collect_rises kind h.0.before h.0.after old.tables new.tables k a h.0.did
   line_rises (event.Down k) h = server_rises k true (nat_lt k old.settings.servers) h
   line_rises (event.Up k) h = server_rises k false (nat_lt k old.settings.servers) h
   line_rises (event.Dump p) h = stays_rise old.tables new.tables 0 (h.0.stays 0)
   line_rises event.Tree h = tables_same old new h.1
   line_rises event.Save h = save_rises a h.0
-  line_rises e h = tables_same old new h.1
 
 -- ---- the tables are sound after a line of a client, whatever came of it
 pub sound_either : {E : Type 0} (r : Result Answer E) (P : Answer → Type 0) (Q : Type 0) → IfOk r P → OnErr r Q → ((a : Answer) → P a → Q) → Q

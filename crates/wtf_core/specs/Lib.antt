@@ -4,10 +4,11 @@ pub mod Standing
 pub mod Turns
 pub mod Named
 pub mod Remembering
+pub mod Punched
+pub mod Quiet
 pub mod Telling
 pub mod Answers
 pub mod Pictured
-pub mod Listed
 pub mod Promises
 pub mod Loading
 pub mod Made

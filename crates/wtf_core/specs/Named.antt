@@ -6,6 +6,8 @@ use Rattle.wtf_overlay.specs.Origin.{Place}
 use Rattle.wtf_meta.specs.Bytes.{any_slice}
 use Rattle.wtf_region.specs.Cached.{CacheInside}
 use Rattle.wtf_region.specs.Inside.{is_inside}
+use Rattle.wtf_replica.specs.Inside.{size_in}
+use Rattle.wtf_clients.specs.Safe.{LieIn}
 use Rattle.wtf_clients.specs.Serves.{AreBased, AreBare, AreFull}
 use Rattle.wtf_core.specs.Views.{CoreView}
 pub use Rattle.wtf_clients.specs.Named.{TablesBytes, any_byte, no_slice, has_copies}
@@ -16,9 +18,11 @@ pub record CoreBytes (P : List Place → Bool) (Q : Slice → Bool) (core : Core
   pub tables : TablesBytes P Q core.tables
   pub lists : CacheInside P core.lists
 
--- all that a core names lies inside the stores
-abbrev pub IsInside : {S : Type 0} → StoreKind S → List S → CoreView → Type 0
-IsInside kind shelf core = CoreBytes (is_inside kind shelf core.settings) any_slice core
+-- All that a core names lies inside the stores, and so does what its scans know of them: the marks, and what was freed.
+pub record IsInside {S : Type 0} (kind : StoreKind S) (shelf : List S) (core : CoreView) : Type 0 where
+  pub tables : TablesBytes (is_inside kind shelf core.settings) any_slice core.tables
+  pub lists : CacheInside (is_inside kind shelf core.settings) core.lists
+  pub scans : LieIn core.tables.beside.gc (size_in kind shelf)
 
 -- the slice of each base passes a test
 abbrev pub IsBased : CoreView → (Slice → Bool) → Type 0

@@ -1,10 +1,9 @@
 -- What a core promises of a line, in parts of which none needs another.
-use Rattle.std.specs.Prelude.{◌≡◌, ◌≢◌, ◌↔◌, ◌≤◌, ◌+◌, ◌^◌, ℕ, true, false, List, [], ⊤}
-use Rattle.wtf_dev.specs.Each.{EachFollows}
+use Rattle.std.specs.Prelude.{◌≡◌, ◌⊎◌, ◌<◌, ◌≤◌, ◌+◌, ◌^◌, ℕ, true, false, List, Some, ⊤}
+use Rattle.wtf_base.specs.Places.{Place}
 use Rattle.wtf_dev.specs.Counts.{Rose}
 use Rattle.wtf_dev.specs.Keep.{KeeperView}
 use Rattle.wtf_dev.specs.Store.{StoreKind}
-use Rattle.wtf_dev.specs.Sums.{TellsAll}
 use Rattle.wtf_replica.specs.Bytes.{byte_at}
 use Rattle.wtf_replica.specs.Downs.{is_down}
 use Rattle.wtf_replica.specs.Inside.{size_in}
@@ -13,20 +12,24 @@ use Rattle.wtf_model.specs.declared.answer.Answer.{Answer}
 use Rattle.wtf_model.specs.declared.answer.Answer.TheVariants as answer
 use Rattle.wtf_model.specs.declared.event.Event.{Event}
 use Rattle.wtf_model.specs.declared.event.Event.TheVariants as event
-use Rattle.wtf_model.specs.Built.{is_built}
 use Rattle.wtf_model.specs.Machines.{Machine}
 use Rattle.wtf_model.specs.Servers.{down_after_event}
 use Rattle.wtf_model.specs.Steps.{after}
+use Rattle.wtf_gc.specs.Extents.{covers}
 use Rattle.wtf_clients.specs.Asked.{asked_of, IsPlaced, HasFailed}
 use Rattle.wtf_clients.specs.Keeping.{KeeperSpan, KeeperTurn, HoldsKept}
-use Rattle.wtf_clients.specs.Outcomes.{AddsBytes, IsUnread, IsUnspilled, SaveFault, HasCause, load_of}
+use Rattle.wtf_clients.specs.Outcomes.{AddsBytes, IsUnspilled, SaveFault, HasCause, load_of}
+use Rattle.wtf_clients.specs.ScanTurns.{IsPruned}
 use Rattle.wtf_clients.specs.Sounds.{AreSound, IsAlike}
+use Rattle.wtf_clients.specs.Views.{TablesView}
 use Rattle.wtf_core.specs.Answers.{IsEvent}
 use Rattle.wtf_core.specs.Named.{IsInside, IsBased, IsBare, IsFull}
 use Rattle.wtf_core.specs.Pictured.{HoldsTree, HoldsTaken, HoldsWith}
 use Rattle.wtf_core.specs.Standing.{StandsFor}
-use Rattle.wtf_core.specs.Telling.{TellsCore, IsWide, IsWithin}
-use Rattle.wtf_core.specs.Views.{CoreView}
+use Rattle.wtf_core.specs.Remembering.{KeepsPunched}
+use Rattle.wtf_core.specs.Quiet.{Saved, IsAtStage, HasCollected, ImageNames, IsIdle}
+use Rattle.wtf_core.specs.Telling.{TellsCore, ServesTelling}
+use Rattle.wtf_core.specs.Views.{CoreView, lent_of}
 
 -- the stores, what is seen of the keeper, and the core, at one time
 pub record Scene (S : Type 0) : Type 0 where
@@ -47,14 +50,13 @@ HasRoom core = (core.tables.kv.number ≤ 2 ^ 62) × (core.tables.next_tx ≤ 2 
 
 -- The core goes on: it is open, and what it names lies inside the stores. Unless the line has spilled a list, no region has a base where none
 -- had one before, and what is named has as many copies as there are replicas where it had before. Which servers are down follows the lines
--- `down` and `up`, and `notbuilt` comes exactly at the verbs that are left to a later version. No number falls, and a save leaves both.
+-- `down` and `up`. No number falls, and a save leaves both.
 pub record GoesOn {S : Type 0} (kind : StoreKind S) (old new : Scene S) (e : Event) (a : Answer) : Type 0 where
   pub not_closed : new.core.closed ≡ false
   pub inside : IsInside kind new.shelf new.core
   pub bare : IsUnspilled (load_of e) a → IsBare old.core → IsBare new.core
   pub full : IsUnspilled (load_of e) a → IsFull old.core → IsFull new.core
   pub down : (k : ℕ) → is_down new.core.replicas k ≡ down_after_event (is_down old.core.replicas) e a k
-  pub exact : (a ≡ answer.NotBuilt) ↔ (is_built e ≡ false)
   pub number : old.core.tables.kv.number ≤ new.core.tables.kv.number
   pub next_tx : old.core.tables.next_tx ≤ new.core.tables.next_tx
   pub same_number : e ≡ event.Save → new.core.tables.kv.number ≡ old.core.tables.kv.number
@@ -66,46 +68,52 @@ Leaves kind old new event.Save (answer.Saved n) =
     HoldsWith new.keeper (size_in kind new.shelf) old.core.settings old.core.tables.kv.number old.core.tables.next_tx
 Leaves kind old new e a = ⊤
 
+-- each byte of server k was freed, or is named by the image that the keeper holds, over the stores as they are left
+abbrev pub LeavesNamed : {S : Type 0} → StoreKind S → Scene S → ℕ → Type 0
+LeavesNamed kind new k =
+    (bytes : List ℕ) → new.keeper.held ≡ Some bytes → (p : Place) → p.server ≡ k → p.file < 8 → p.at < size_in kind new.shelf k p.file
+    → (covers new.core.tables.beside.gc.freed p ≡ true) ⊎ ImageNames (byte_at kind new.shelf) bytes p
+
 -- The machine may give that answer, and the core stands for its next. What a keeper holds that tells it goes on being the image
--- of a tree that the machine may have saved, and one that a run can begin with; after a save it is that of the core, with just
--- its numbers.
+-- of a tree that the machine may have saved, where it is one at a number that is kept for it, as it goes on to be (`Keeps.held`), so that no
+-- collection takes its bytes; and one that a run can begin with; after a save it is that of the core, with just
+-- its numbers. A save of a machine of which nothing is open begins a quiet ending; and one behind a quiet ending leaves an image that names
+-- each byte of the server that was not freed.
 pub record IsLawful {S : Type 0} (kind : StoreKind S) (old new : Scene S) (m : Machine) (e : Event) (a : Answer) : Type 0 where
+  pub rests : IsIdle m → (n : ℕ) → e ≡ event.Save → a ≡ answer.Saved n → IsAtStage kind new.shelf new.core Saved
+  pub left : (k n : ℕ) → HasCollected kind old.shelf old.core k → e ≡ event.Save → a ≡ answer.Saved n → old.keeper.tells ≡ true → LeavesNamed kind new k
   pub event : IsEvent (byte_at kind new.shelf) new.core m e a
-  pub trees : old.keeper.tells ≡ true → HasRoom old.core → HoldsTree old.keeper (byte_at kind old.shelf) m.may_be_saved
+  pub trees : old.keeper.tells ≡ true → HasRoom old.core → HoldsKept old.keeper old.core.settings old.core.tables
+      → HoldsTree old.keeper (byte_at kind old.shelf) m.may_be_saved
       → HoldsTree new.keeper (byte_at kind new.shelf) (after m e a).may_be_saved
   pub taken : old.keeper.tells ≡ true → HasRoom old.core
       → HoldsTaken old.keeper (size_in kind old.shelf) old.core.settings old.core.tables.kv.number old.core.tables.next_tx
       → HoldsTaken new.keeper (size_in kind new.shelf) old.core.settings new.core.tables.kv.number new.core.tables.next_tx
   pub saved : old.keeper.tells ≡ true → HasRoom old.core → Leaves kind old new e a
 
--- the same of each machine that the core stands for, where the stores tell their content
+-- the same of each machine that the core stands for, where the stores tell all that it names
 abbrev pub Obeys : {S : Type 0} → StoreKind S → Scene S → Scene S → Event → Answer → Type 0
 Obeys kind old new e a =
-    TellsAll kind old.shelf → (m : Machine) → StandsFor (byte_at kind old.shelf) old.core m → IsLawful kind old new m e a
+    TellsCore kind old.shelf old.core → (m : Machine) → StandsFor (byte_at kind old.shelf) old.core m → IsLawful kind old new m e a
 
 -- the stores grew by what the line writes, where that goes
 pub record Stores {S : Type 0} (kind : StoreKind S) (old new : Scene S) (e : Event) (a : Answer) : Type 0 where
   pub adds : AddsBytes kind (span_of old new) old.core.settings (load_of e) a
-  pub placed : IsPlaced kind (span_of old new) old.core.settings (asked_of kind (span_of old new) old.core.settings old.core.tables e) a
+  pub placed : IsPlaced kind (span_of old new) old.core.settings (asked_of kind (span_of old new) (lent_of old.core) old.core.tables e) a
 
 -- a fault has its cause in this very line
 pub record IsCaused {S : Type 0} (kind : StoreKind S) (old new : Scene S) (e : Event) (a : Answer) : Type 0 where
   pub cause : HasCause kind (span_of old new) old.core.settings
       (SaveFault kind (span_of old new) old.core.settings (Rose old.keeper.faults new.keeper.faults) e) (IsBased old.core) (IsFull old.core) (load_of e) a
-  pub failed : HasFailed (asked_of kind (span_of old new) old.core.settings old.core.tables e).fails a
+  pub failed : HasFailed (asked_of kind (span_of old new) (lent_of old.core) old.core.tables e).fails a
 
--- Over stores that tell all that the core names, also what the lists of bases name, they tell all that it names then. Each of these bytes has as
--- many copies as there are replicas where each had, whatever was spilled, and lies inside the stores where each did; no list was then read that is
--- none. And a byte that was not read had as many copies where each has.
-pub record IsToldAnswer {S : Type 0} (kind : StoreKind S) (old new : Scene S) (a : Answer) : Type 0 where
-  pub next : TellsCore kind new.shelf new.core
-  pub wide : IsWide kind old.shelf old.core → IsWide kind new.shelf new.core
-  pub within : IsWithin kind old.shelf old.core → IsWithin kind new.shelf new.core
-  pub undamaged : IsWithin kind old.shelf old.core → (k : ℕ) → a ≢ answer.Damaged k
-  pub unread : IsWide kind old.shelf old.core → (k : ℕ) → a ≡ answer.FaultRead k → IsUnread kind (span_of old new) old.core.settings ⊤ k
+-- what a line does over stores that tell all that the core names
+abbrev pub GoesOnTold : {S : Type 0} → StoreKind S → Scene S → Scene S → Event → Answer → Type 0
+GoesOnTold kind old new e a = ServesTelling kind (span_of old new) old.core new.core e a
 
-abbrev pub GoesOnTold : {S : Type 0} → StoreKind S → Scene S → Scene S → Answer → Type 0
-GoesOnTold kind old new a = TellsCore kind old.shelf old.core → IsToldAnswer kind old new a
+-- what a line punched, and what it made of the lists that are remembered
+abbrev pub HasPunched : {S : Type 0} → StoreKind S → Scene S → Scene S → Event → Answer → Type 0
+HasPunched kind old new e a = KeepsPunched kind old.shelf new.shelf old.core new.core e a
 
 -- A save alone hands the keeper something; what it tells that it holds goes on being the image at a number that is kept for it.
 pub record Keeps {S : Type 0} (kind : StoreKind S) (k : KeeperSpan) (old new : Scene S) (e : Event) (a : Answer) : Type 0 where
@@ -114,14 +122,18 @@ pub record Keeps {S : Type 0} (kind : StoreKind S) (k : KeeperSpan) (old new : S
       → HoldsKept k.after old.core.settings new.core.tables
 
 -- whatever comes of the line: the settings are the same, the tables sound, and no number rises by more than one
-pub record Stays {S : Type 0} (kind : StoreKind S) (shelf shelf' : List S) (old new : CoreView) : Type 0 where
+pub record Stays (old new : CoreView) : Type 0 where
   pub settings : new.settings ≡ old.settings
   pub sound : AreSound new.tables
   pub number : new.tables.kv.number ≤ old.tables.kv.number + 1
   pub next_tx : new.tables.next_tx ≤ old.tables.next_tx + 1
-  pub follows : EachFollows kind shelf shelf' []
+
+-- What want of memory leaves of the tables: all as it was. Parts of a scan may have dropped versions before that no one sees.
+abbrev pub IsLeftBy : Event → (old new : TablesView) → Type 0
+IsLeftBy (event.Piece n) old new = IsPruned old new
+IsLeftBy e old new = IsAlike old new
 
 -- after want of memory the metadata are as they were, and the core is closed
-pub record Closes (old new : CoreView) : Type 0 where
+pub record Closes (old new : CoreView) (e : Event) : Type 0 where
   pub closed : new.closed ≡ true
-  pub alike : IsAlike old.tables new.tables
+  pub left : IsLeftBy e old.tables new.tables

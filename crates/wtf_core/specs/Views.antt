@@ -3,6 +3,7 @@ use Rattle.std.specs.Prelude.{Bool}
 use Rattle.wtf_base.specs.declared.settings.Settings.{Settings}
 use Rattle.wtf_replica.specs.declared.replicas.Replicas.{Replicas}
 use Rattle.wtf_region.specs.Cached.{Remembered}
+use Rattle.wtf_clients.specs.Asked.{Lending, lending}
 pub use Rattle.wtf_clients.specs.Views.{Clients, of_client, BesideView, unsaved, TablesView, metadata_now}
 
 -- the settings; the tables; the servers, up or down; whether it is closed, for want of memory; and the lists that it remembers of
@@ -13,3 +14,7 @@ pub record CoreView : Type 0 where
   pub replicas : Replicas
   pub closed : Bool
   pub lists : Remembered
+
+-- what a line of it is lent
+abbrev pub lent_of : CoreView → Lending
+lent_of core = lending core.settings core.lists

@@ -26,12 +26,13 @@ ghost use Rattle.wtf_clients.specs.Sounds.{AreSound, IsAlike};
 ghost use Rattle.wtf_core.specs.Standing.{StandsFor};
 ghost use Rattle.wtf_core.specs.Turns.{takes_no_memory, LineTurn, IsLine, ServerTurn, ShowsTree, IsTreeAnswer};
 ghost use Rattle.wtf_core.specs.Named.{CoreBytes, IsInside, IsBare};
-ghost use Rattle.wtf_core.specs.Remembering.{KeepsLists};
-ghost use Rattle.wtf_core.specs.Telling.{TellsCore, IsWithin, stores_of, ServesTelling};
+ghost use Rattle.wtf_core.specs.Remembering.{KeepsLists, KeepsPunched};
+ghost use Rattle.wtf_core.specs.Telling.{TellsCore, IsWithin, stores_of, ServesTurn};
 ghost use Rattle.wtf_clients.specs.Serves.{ServesLine, ServesEvent};
+ghost use Rattle.wtf_core.specs.Views.{lent_of};
 ghost use Rattle.wtf_clients.specs.Keeping.{KeeperTurn, IsHeldBy, keeper_span};
 ghost use Rattle.wtf_core.specs.Pictured.{IsImageOfTree, IsBareImage};
-ghost use Rattle.wtf_core.specs.Promises.{scene, GoesOn, Obeys, Stores, IsCaused, Keeps, GoesOnTold, Stays, Closes};
+ghost use Rattle.wtf_core.specs.Promises.{scene, GoesOn, Obeys, Stores, IsCaused, Keeps, GoesOnTold, HasPunched, Stays, IsLeftBy, Closes};
 ghost use Rattle.wtf_dev.specs.Counts.{Rose};
 ghost use Rattle.wtf_replica.specs.Outs.{SameLengths};
 ghost use Rattle.wtf_core.specs.Loading.{IsCoreOf};
@@ -246,9 +247,12 @@ impl Core {
     /// Answers one line. The answer is that of the machine, which the core goes on to stand for.
     /// What a keeper tells that it holds goes on being the image at a number that is kept for it, of a
     /// tree that the machine may have saved, and one that a run can begin with; a save alone hands it
-    /// something. Where the stores tell all that the core names they go on to, also behind a spill; and
-    /// where each of these bytes had as many copies as there are replicas, each has. After want of
-    /// memory the metadata now are as they were, and the core is closed.
+    /// something. Stores that tell all that the core names go on to do so, also where a list was
+    /// spilled; and where each byte had as many copies as there are replicas each has. A collection
+    /// alone punches, and only what nothing names: no map that can be read, no image that may be on
+    /// the keeper, no open transaction and no job. No line names a byte again that lay there while
+    /// nothing named it. After want of memory the metadata now are as they were, and the core is
+    /// closed.
     pub fn event<S: SliceStore, K: Keeper>(
         &mut self,
         shelf: &mut Shelf<S>,
@@ -264,8 +268,8 @@ impl Core {
         ensures goes_on { IfOk result (GoesOn S.kind
             (scene shelf.old (K.view keeper.old) self.old)
             (scene shelf.new (K.view keeper.new) self.new) event.now) }
-        ensures turn { IfOk result (λ a. IsLine (TellsAll S.kind shelf.old)
-            (byte_at S.kind shelf.old, byte_at S.kind shelf.new) self.old self.new event.now a) }
+        ensures turn { IfOk result (IsLine S.kind
+            (span (is_down self.old.replicas) shelf.old shelf.new) self.old self.new event.now) }
         ensures lawful { IfOk result (Obeys S.kind
             (scene shelf.old (K.view keeper.old) self.old)
             (scene shelf.new (K.view keeper.new) self.new) event.now) }
@@ -281,9 +285,13 @@ impl Core {
             (scene shelf.new (K.view keeper.new) self.new) event.now) }
         ensures told { IfOk result (GoesOnTold S.kind
             (scene shelf.old (K.view keeper.old) self.old)
-            (scene shelf.new (K.view keeper.new) self.new)) }
-        ensures stays { Stays S.kind shelf.old shelf.new self.old self.new }
-        ensures closed { OnErr result (Closes self.old self.new) }
+            (scene shelf.new (K.view keeper.new) self.new) event.now) }
+        ensures punched { IfOk result (HasPunched S.kind
+            (scene shelf.old (K.view keeper.old) self.old)
+            (scene shelf.new (K.view keeper.new) self.new) event.now) }
+        ensures unpunched { OnErr result (EachFollows S.kind shelf.old shelf.new []) }
+        ensures stays { Stays self.old self.new }
+        ensures closed { OnErr result (Closes self.old self.new event.now) }
         ensures untouched { OnErr result (keeper.new ≡ keeper.old) }
         ensures sure { IsTrue (takes_no_memory event.now) → IsOk result }
     {
@@ -316,8 +324,8 @@ impl Core {
         ensures goes_on { IfOk result (GoesOn S.kind
             (scene shelf.old (K.view keeper.old) self.old)
             (scene shelf.new (K.view keeper.new) self.new) event.Save) }
-        ensures turn { IfOk result (λ a. IsLine (TellsAll S.kind shelf.old)
-            (byte_at S.kind shelf.old, byte_at S.kind shelf.new) self.old self.new event.Save a) }
+        ensures turn { IfOk result (IsLine S.kind
+            (span (is_down self.old.replicas) shelf.old shelf.new) self.old self.new event.Save) }
         ensures lawful { IfOk result (Obeys S.kind
             (scene shelf.old (K.view keeper.old) self.old)
             (scene shelf.new (K.view keeper.new) self.new) event.Save) }
@@ -330,9 +338,10 @@ impl Core {
             (scene shelf.new (K.view keeper.new) self.new) event.Save) }
         ensures told { IfOk result (GoesOnTold S.kind
             (scene shelf.old (K.view keeper.old) self.old)
-            (scene shelf.new (K.view keeper.new) self.new)) }
-        ensures stays { Stays S.kind shelf.old shelf.new self.old self.new }
-        ensures closed { OnErr result (Closes self.old self.new) }
+            (scene shelf.new (K.view keeper.new) self.new) event.Save) }
+        ensures follows { EachFollows S.kind shelf.old shelf.new [] }
+        ensures stays { Stays self.old self.new }
+        ensures closed { OnErr result (Closes self.old self.new event.Save) }
         ensures untouched { OnErr result (keeper.new ≡ keeper.old) }
         ensures lengths { OnOk result (SameLengths S.kind shelf.old shelf.new) }
     {
@@ -349,28 +358,31 @@ impl Core {
     ) -> Result<Answer, OutOfMemory>
         requires shelf { self.old.settings.servers ≤ length shelf.old }
         requires inside { IsInside S.kind shelf.old self.old }
+        requires sound { AreSound self.old.tables }
         requires form { IsFormEvent event.now }
         requires number { self.old.tables.kv.number < 2 ^ 63 }
         requires next_tx { self.old.tables.next_tx < 2 ^ 63 }
-        ensures turn { IfOk result (λ a. LineTurn (TellsAll S.kind shelf.old)
-            (byte_at S.kind shelf.old, byte_at S.kind shelf.new) self.old self.new event.now a) }
+        ensures turn { IfOk result (LineTurn S.kind
+            (span (is_down self.old.replicas) shelf.old shelf.new) self.old self.new
+            event.now) }
         ensures serves { IfOk result (ServesEvent S.kind
-            (span (is_down self.old.replicas) shelf.old shelf.new) self.old.settings
+            (span (is_down self.old.replicas) shelf.old shelf.new) (lent_of self.old)
             (Rose (K.view keeper.old).faults (K.view keeper.new).faults)
             (self.old.tables, self.new.tables) event.now) }
-        ensures told { IfOk result (ServesTelling S.kind
-            (span (is_down self.old.replicas) shelf.old shelf.new) self.old self.new.tables) }
+        ensures told { IfOk result (ServesTurn S.kind
+            (span (is_down self.old.replicas) shelf.old shelf.new) self.old self.new event.now) }
         ensures keeper { IfOk result (KeeperTurn S.kind
             (span (is_down self.old.replicas) shelf.old shelf.new)
             (keeper_span K.view K.follows keeper.old keeper.new) self.old.settings
             self.old.tables self.new.tables event.now) }
         ensures untouched { OnErr result (keeper.new ≡ keeper.old) }
         ensures sure { IsTrue (takes_no_memory event.now) → IsOk result }
-        ensures err { OnErr result (IsAlike self.old.tables self.new.tables) }
+        ensures err { OnErr result (IsLeftBy event.now self.old.tables self.new.tables) }
         ensures settings { self.new.settings ≡ self.old.settings }
         ensures closed { self.new.closed ≡ self.old.closed }
-        ensures lists { KeepsLists S.kind shelf.old shelf.new self.old self.new }
-        ensures shelf { EachFollows S.kind shelf.old shelf.new [] }
+        ensures punched { IfOk result (KeepsPunched S.kind shelf.old shelf.new self.old self.new event.now) }
+        ensures lists { OnErr result (KeepsLists S.kind shelf.old shelf.new [] self.old self.new) }
+        ensures shelf { OnErr result (EachFollows S.kind shelf.old shelf.new []) }
     {
         match event {
             Event::Client(c, verb) => return self.client(shelf, *c, verb),
@@ -382,6 +394,9 @@ impl Core {
             } => return self.plan(shelf, *job, *kind, path, *region),
             Event::Put(job) => return self.tables.put_job(*job),
             Event::DropJob(job) => return Ok(self.tables.drop_job(*job)),
+            Event::Scan => return self.scan(shelf),
+            Event::Piece(parts) => return self.piece(shelf, *parts),
+            Event::Collect(k) => return self.collect(shelf, *k),
             Event::Down(k) => return Ok(self.server(*k, true)),
             Event::Up(k) => return Ok(self.server(*k, false)),
             Event::Dump(p) => return self.dump(shelf, p),
@@ -390,7 +405,6 @@ impl Core {
                 Err(why) => return Err(why),
             },
             Event::Save => return self.save_now(shelf, keeper),
-            _ => return Ok(Answer::NotBuilt),
         }
     }
 
@@ -402,14 +416,16 @@ impl Core {
     ) -> Result<Answer, OutOfMemory>
         requires shelf { self.old.settings.servers ≤ length shelf.old }
         requires inside { IsInside S.kind shelf.old self.old }
-        ensures turn { IfOk result (λ a. LineTurn (TellsAll S.kind shelf.old)
-            (byte_at S.kind shelf.old, byte_at S.kind shelf.new) self.old self.new event.Save a) }
+        ensures turn { IfOk result (LineTurn S.kind
+            (span (is_down self.old.replicas) shelf.old shelf.new) self.old self.new
+            event.Save) }
         ensures serves { IfOk result (ServesEvent S.kind
-            (span (is_down self.old.replicas) shelf.old shelf.new) self.old.settings
+            (span (is_down self.old.replicas) shelf.old shelf.new) (lent_of self.old)
             (Rose (K.view keeper.old).faults (K.view keeper.new).faults)
             (self.old.tables, self.new.tables) event.Save) }
-        ensures told { IfOk result (ServesTelling S.kind
-            (span (is_down self.old.replicas) shelf.old shelf.new) self.old self.new.tables) }
+        ensures told { IfOk result (ServesTurn S.kind
+            (span (is_down self.old.replicas) shelf.old shelf.new) self.old self.new
+            event.Save) }
         ensures keeper { IfOk result (KeeperTurn S.kind
             (span (is_down self.old.replicas) shelf.old shelf.new)
             (keeper_span K.view K.follows keeper.old keeper.new) self.old.settings
@@ -418,7 +434,7 @@ impl Core {
         ensures err { OnErr result (IsAlike self.old.tables self.new.tables) }
         ensures settings { self.new.settings ≡ self.old.settings }
         ensures closed { self.new.closed ≡ self.old.closed }
-        ensures lists { KeepsLists S.kind shelf.old shelf.new self.old self.new }
+        ensures lists { KeepsLists S.kind shelf.old shelf.new [] self.old self.new }
         ensures shelf { EachFollows S.kind shelf.old shelf.new [] }
     {
         match self
@@ -450,19 +466,20 @@ impl Core {
         requires form { IsFormVerb verb.now }
         requires number { self.old.tables.kv.number < 2 ^ 63 }
         requires next_tx { self.old.tables.next_tx < 2 ^ 63 }
-        ensures turn { IfOk result (λ a. LineTurn (TellsAll S.kind shelf.old)
-            (byte_at S.kind shelf.old, byte_at S.kind shelf.new) self.old self.new
-            (event.Client c verb.now) a) }
+        ensures turn { IfOk result (LineTurn S.kind
+            (span (is_down self.old.replicas) shelf.old shelf.new) self.old self.new
+            (event.Client c verb.now)) }
         ensures serves { IfOk result (ServesLine S.kind
-            (span (is_down self.old.replicas) shelf.old shelf.new) self.old.settings
+            (span (is_down self.old.replicas) shelf.old shelf.new) (lent_of self.old)
             self.old.tables self.new.tables (event.Client c verb.now)) }
-        ensures told { IfOk result (ServesTelling S.kind
-            (span (is_down self.old.replicas) shelf.old shelf.new) self.old self.new.tables) }
+        ensures told { IfOk result (ServesTurn S.kind
+            (span (is_down self.old.replicas) shelf.old shelf.new) self.old self.new
+            (event.Client c verb.now)) }
         ensures sure { IsTrue (takes_no_memory (event.Client c verb.now)) → IsOk result }
         ensures err { OnErr result (IsAlike self.old.tables self.new.tables) }
         ensures settings { self.new.settings ≡ self.old.settings }
         ensures closed { self.new.closed ≡ self.old.closed }
-        ensures lists { KeepsLists S.kind shelf.old shelf.new self.old self.new }
+        ensures lists { KeepsLists S.kind shelf.old shelf.new [] self.old self.new }
         ensures shelf { EachFollows S.kind shelf.old shelf.new [] }
     {
         match verb {
@@ -485,18 +502,19 @@ impl Core {
         requires shelf { self.old.settings.servers ≤ length shelf.old }
         requires inside { IsInside S.kind shelf.old self.old }
         requires form { IsFormOp IsData op.now }
-        ensures turn { IfOk result (λ a. LineTurn (TellsAll S.kind shelf.old)
-            (byte_at S.kind shelf.old, byte_at S.kind shelf.new) self.old self.new
-            (event.Client c (verb.Call op.now)) a) }
+        ensures turn { IfOk result (LineTurn S.kind
+            (span (is_down self.old.replicas) shelf.old shelf.new) self.old self.new
+            (event.Client c (verb.Call op.now))) }
         ensures serves { IfOk result (ServesLine S.kind
-            (span (is_down self.old.replicas) shelf.old shelf.new) self.old.settings
+            (span (is_down self.old.replicas) shelf.old shelf.new) (lent_of self.old)
             self.old.tables self.new.tables (event.Client c (verb.Call op.now))) }
-        ensures told { IfOk result (ServesTelling S.kind
-            (span (is_down self.old.replicas) shelf.old shelf.new) self.old self.new.tables) }
+        ensures told { IfOk result (ServesTurn S.kind
+            (span (is_down self.old.replicas) shelf.old shelf.new) self.old self.new
+            (event.Client c (verb.Call op.now))) }
         ensures err { OnErr result (IsAlike self.old.tables self.new.tables) }
         ensures settings { self.new.settings ≡ self.old.settings }
         ensures closed { self.new.closed ≡ self.old.closed }
-        ensures lists { KeepsLists S.kind shelf.old shelf.new self.old self.new }
+        ensures lists { KeepsLists S.kind shelf.old shelf.new [] self.old self.new }
         ensures shelf { EachFollows S.kind shelf.old shelf.new [] }
     {
         let made = match copy_op(self.alloc, op) {
@@ -520,18 +538,19 @@ impl Core {
     fn step<S: SliceStore>(&mut self, shelf: &mut Shelf<S>, c: u8) -> Result<Answer, OutOfMemory>
         requires shelf { self.old.settings.servers ≤ length shelf.old }
         requires inside { IsInside S.kind shelf.old self.old }
-        ensures turn { IfOk result (λ a. LineTurn (TellsAll S.kind shelf.old)
-            (byte_at S.kind shelf.old, byte_at S.kind shelf.new) self.old self.new
-            (event.Client c verb.Step) a) }
+        ensures turn { IfOk result (LineTurn S.kind
+            (span (is_down self.old.replicas) shelf.old shelf.new) self.old self.new
+            (event.Client c verb.Step)) }
         ensures serves { IfOk result (ServesLine S.kind
-            (span (is_down self.old.replicas) shelf.old shelf.new) self.old.settings
+            (span (is_down self.old.replicas) shelf.old shelf.new) (lent_of self.old)
             self.old.tables self.new.tables (event.Client c verb.Step)) }
-        ensures told { IfOk result (ServesTelling S.kind
-            (span (is_down self.old.replicas) shelf.old shelf.new) self.old self.new.tables) }
+        ensures told { IfOk result (ServesTurn S.kind
+            (span (is_down self.old.replicas) shelf.old shelf.new) self.old self.new
+            (event.Client c verb.Step)) }
         ensures err { OnErr result (IsAlike self.old.tables self.new.tables) }
         ensures settings { self.new.settings ≡ self.old.settings }
         ensures closed { self.new.closed ≡ self.old.closed }
-        ensures lists { KeepsLists S.kind shelf.old shelf.new self.old self.new }
+        ensures lists { KeepsLists S.kind shelf.old shelf.new [] self.old self.new }
         ensures shelf { EachFollows S.kind shelf.old shelf.new [] }
     {
         let mut dev = Dev {
@@ -552,18 +571,19 @@ impl Core {
         requires shelf { self.old.settings.servers ≤ length shelf.old }
         requires inside { IsInside S.kind shelf.old self.old }
         requires number { self.old.tables.kv.number < 2 ^ 63 }
-        ensures turn { IfOk result (λ a. LineTurn (TellsAll S.kind shelf.old)
-            (byte_at S.kind shelf.old, byte_at S.kind shelf.new) self.old self.new
-            (event.Client c verb.Commit) a) }
+        ensures turn { IfOk result (LineTurn S.kind
+            (span (is_down self.old.replicas) shelf.old shelf.new) self.old self.new
+            (event.Client c verb.Commit)) }
         ensures serves { IfOk result (ServesLine S.kind
-            (span (is_down self.old.replicas) shelf.old shelf.new) self.old.settings
+            (span (is_down self.old.replicas) shelf.old shelf.new) (lent_of self.old)
             self.old.tables self.new.tables (event.Client c verb.Commit)) }
-        ensures told { IfOk result (ServesTelling S.kind
-            (span (is_down self.old.replicas) shelf.old shelf.new) self.old self.new.tables) }
+        ensures told { IfOk result (ServesTurn S.kind
+            (span (is_down self.old.replicas) shelf.old shelf.new) self.old self.new
+            (event.Client c verb.Commit)) }
         ensures err { OnErr result (IsAlike self.old.tables self.new.tables) }
         ensures settings { self.new.settings ≡ self.old.settings }
         ensures closed { self.new.closed ≡ self.old.closed }
-        ensures lists { KeepsLists S.kind shelf.old shelf.new self.old self.new }
+        ensures lists { KeepsLists S.kind shelf.old shelf.new [] self.old self.new }
         ensures shelf { EachFollows S.kind shelf.old shelf.new [] }
     {
         let mut dev = Dev {
@@ -591,18 +611,19 @@ impl Core {
         requires shelf { self.old.settings.servers ≤ length shelf.old }
         requires inside { IsInside S.kind shelf.old self.old }
         requires label { j < MAX_JOBS }
-        ensures turn { IfOk result (λ a. LineTurn (TellsAll S.kind shelf.old)
-            (byte_at S.kind shelf.old, byte_at S.kind shelf.new) self.old self.new
-            (event.Plan j kind p.now region) a) }
+        ensures turn { IfOk result (LineTurn S.kind
+            (span (is_down self.old.replicas) shelf.old shelf.new) self.old self.new
+            (event.Plan j kind p.now region)) }
         ensures serves { IfOk result (ServesLine S.kind
-            (span (is_down self.old.replicas) shelf.old shelf.new) self.old.settings
+            (span (is_down self.old.replicas) shelf.old shelf.new) (lent_of self.old)
             self.old.tables self.new.tables (event.Plan j kind p.now region)) }
-        ensures told { IfOk result (ServesTelling S.kind
-            (span (is_down self.old.replicas) shelf.old shelf.new) self.old self.new.tables) }
+        ensures told { IfOk result (ServesTurn S.kind
+            (span (is_down self.old.replicas) shelf.old shelf.new) self.old self.new
+            (event.Plan j kind p.now region)) }
         ensures err { OnErr result (IsAlike self.old.tables self.new.tables) }
         ensures settings { self.new.settings ≡ self.old.settings }
         ensures closed { self.new.closed ≡ self.old.closed }
-        ensures lists { KeepsLists S.kind shelf.old shelf.new self.old self.new }
+        ensures lists { KeepsLists S.kind shelf.old shelf.new [] self.old self.new }
         ensures shelf { EachFollows S.kind shelf.old shelf.new [] }
     {
         let mut dev = Dev {
@@ -618,22 +639,117 @@ impl Core {
         }
     }
 
+    /// Starts a scan of what is in use.
+    fn scan<S: SliceStore>(&mut self, shelf: &mut Shelf<S>) -> Result<Answer, OutOfMemory>
+        requires shelf { self.old.settings.servers ≤ length shelf.old }
+        requires inside { IsInside S.kind shelf.old self.old }
+        ensures turn { IfOk result (LineTurn S.kind
+            (span (is_down self.old.replicas) shelf.old shelf.new) self.old self.new
+            event.Scan) }
+        ensures serves { IfOk result (ServesLine S.kind
+            (span (is_down self.old.replicas) shelf.old shelf.new) (lent_of self.old)
+            self.old.tables self.new.tables event.Scan) }
+        ensures err { OnErr result (IsAlike self.old.tables self.new.tables) }
+        ensures settings { self.new.settings ≡ self.old.settings }
+        ensures closed { self.new.closed ≡ self.old.closed }
+        ensures lists { KeepsLists S.kind shelf.old shelf.new [] self.old self.new }
+        ensures same { shelf.new ≡ shelf.old }
+    {
+        match self.tables.scan(&*shelf) {
+            Ok(answer) => return Ok(answer),
+            Err(why) => return Err(why),
+        }
+    }
+
+    /// Does the next parts of the scan that runs.
+    fn piece<S: SliceStore>(
+        &mut self,
+        shelf: &mut Shelf<S>,
+        parts: u8,
+    ) -> Result<Answer, OutOfMemory>
+        requires shelf { self.old.settings.servers ≤ length shelf.old }
+        requires inside { IsInside S.kind shelf.old self.old }
+        ensures turn { IfOk result (LineTurn S.kind
+            (span (is_down self.old.replicas) shelf.old shelf.new) self.old self.new
+            (event.Piece parts)) }
+        ensures serves { IfOk result (ServesLine S.kind
+            (span (is_down self.old.replicas) shelf.old shelf.new) (lent_of self.old)
+            self.old.tables self.new.tables (event.Piece parts)) }
+        ensures told { IfOk result (ServesTurn S.kind
+            (span (is_down self.old.replicas) shelf.old shelf.new) self.old self.new
+            (event.Piece parts)) }
+        ensures err { OnErr result (IsLeftBy (event.Piece parts) self.old.tables
+            self.new.tables) }
+        ensures settings { self.new.settings ≡ self.old.settings }
+        ensures closed { self.new.closed ≡ self.old.closed }
+        ensures lists { KeepsLists S.kind shelf.old shelf.new [] self.old self.new }
+        ensures shelf { EachFollows S.kind shelf.old shelf.new [] }
+    {
+        let mut dev = Dev {
+            shelf,
+            replicas: &self.replicas,
+            ring: &self.ring,
+            cache: &mut self.cache,
+            settings: self.settings,
+        };
+        match self.tables.piece(&mut dev, parts) {
+            Ok(answer) => return Ok(answer),
+            Err(why) => return Err(why),
+        }
+    }
+
+    /// Frees what is garbage of server `k`.
+    fn collect<S: SliceStore>(
+        &mut self,
+        shelf: &mut Shelf<S>,
+        k: u64,
+    ) -> Result<Answer, OutOfMemory>
+        requires shelf { self.old.settings.servers ≤ length shelf.old }
+        requires inside { IsInside S.kind shelf.old self.old }
+        ensures turn { IfOk result (LineTurn S.kind
+            (span (is_down self.old.replicas) shelf.old shelf.new) self.old self.new
+            (event.Collect k)) }
+        ensures serves { IfOk result (ServesLine S.kind
+            (span (is_down self.old.replicas) shelf.old shelf.new) (lent_of self.old)
+            self.old.tables self.new.tables (event.Collect k)) }
+        ensures punched { IfOk result (KeepsPunched S.kind shelf.old shelf.new self.old self.new
+            (event.Collect k)) }
+        ensures err { OnErr result (IsAlike self.old.tables self.new.tables) }
+        ensures settings { self.new.settings ≡ self.old.settings }
+        ensures closed { self.new.closed ≡ self.old.closed }
+        ensures lists { OnErr result (KeepsLists S.kind shelf.old shelf.new [] self.old self.new) }
+        ensures shelf { OnErr result (EachFollows S.kind shelf.old shelf.new []) }
+    {
+        let mut dev = Dev {
+            shelf,
+            replicas: &self.replicas,
+            ring: &self.ring,
+            cache: &mut self.cache,
+            settings: self.settings,
+        };
+        match self.tables.collect(&mut dev, k) {
+            Ok(answer) => return Ok(answer),
+            Err(why) => return Err(why),
+        }
+    }
+
     /// Shows all bytes of the file at a path as it stands now.
     fn dump<S: SliceStore>(&mut self, shelf: &mut Shelf<S>, p: &Path) -> Result<Answer, OutOfMemory>
         requires shelf { self.old.settings.servers ≤ length shelf.old }
         requires inside { IsInside S.kind shelf.old self.old }
-        ensures turn { IfOk result (λ a. LineTurn (TellsAll S.kind shelf.old)
-            (byte_at S.kind shelf.old, byte_at S.kind shelf.new) self.old self.new
-            (event.Dump p.now) a) }
+        ensures turn { IfOk result (LineTurn S.kind
+            (span (is_down self.old.replicas) shelf.old shelf.new) self.old self.new
+            (event.Dump p.now)) }
         ensures serves { IfOk result (ServesLine S.kind
-            (span (is_down self.old.replicas) shelf.old shelf.new) self.old.settings
+            (span (is_down self.old.replicas) shelf.old shelf.new) (lent_of self.old)
             self.old.tables self.new.tables (event.Dump p.now)) }
-        ensures told { IfOk result (ServesTelling S.kind
-            (span (is_down self.old.replicas) shelf.old shelf.new) self.old self.new.tables) }
+        ensures told { IfOk result (ServesTurn S.kind
+            (span (is_down self.old.replicas) shelf.old shelf.new) self.old self.new
+            (event.Dump p.now)) }
         ensures err { OnErr result (IsAlike self.old.tables self.new.tables) }
         ensures settings { self.new.settings ≡ self.old.settings }
         ensures closed { self.new.closed ≡ self.old.closed }
-        ensures lists { KeepsLists S.kind shelf.old shelf.new self.old self.new }
+        ensures lists { KeepsLists S.kind shelf.old shelf.new [] self.old self.new }
         ensures shelf { EachFollows S.kind shelf.old shelf.new [] }
     {
         let mut dev = Dev {

@@ -1,41 +1,60 @@
-use Rattle.std.proofs.Common.{◌≡◌, ◌∙◌, [], refl, sym, ap, subst, arith}
+use Rattle.std.proofs.Common.{◌≡◌, ◌≢◌, ◌≤◌, ◌∙◌, ℕ, true, [], refl, sym, ap, subst, arith}
 use Rattle.wtf_base.specs.declared.settings.Settings.{Settings}
-use Rattle.wtf_replica.specs.Downs.{is_down}
-use Rattle.wtf_replica.specs.Inside.{size_in}
-use Rattle.wtf_replica.specs.Spans.{span}
-use Rattle.wtf_meta.specs.Bytes.{any_slice}
-use Rattle.wtf_region.specs.Cached.{CacheInside}
-use Rattle.wtf_region.specs.Inside.{is_inside}
-use Rattle.wtf_clients.specs.Named.{TablesBytes, any_byte, no_slice, has_copies}
-use Rattle.wtf_clients.proofs.Lives.{now_bytes}
-use Rattle.wtf_clients.specs.Serves.{ServesEvent}
 use Rattle.wtf_base.specs.Limits.{AreSettings}
 use Rattle.wtf_dev.specs.Counts.{Rose}
+use Rattle.wtf_dev.specs.Each.{EachFollows}
+use Rattle.wtf_replica.specs.Bytes.{byte_at}
+use Rattle.wtf_replica.specs.Downs.{is_down}
+use Rattle.wtf_replica.specs.Inside.{size_in}
+use Rattle.wtf_replica.specs.Spans.{Span, span}
+use Rattle.wtf_replica.proofs.Bytes.{byte_at-kept}
+use Rattle.wtf_model.specs.declared.answer.Answer.{Answer}
+use Rattle.wtf_model.specs.declared.answer.Answer.TheVariants as answer
+use Rattle.wtf_model.specs.declared.event.Event.{Event}
+use Rattle.wtf_model.specs.declared.event.Event.TheVariants as event
+use Rattle.wtf_model.specs.Machines.{Machine}
+use Rattle.wtf_model.specs.Steps.{after}
+use Rattle.wtf_meta.specs.Bytes.{any_slice}
+use Rattle.wtf_meta.proofs.Telling.{TellsOn}
+use Rattle.wtf_region.specs.Cached.{CacheInside}
+use Rattle.wtf_region.specs.Inside.{is_inside}
 use Rattle.wtf_clients.specs.Keeping.{KeeperSpan, KeeperTurn, keeper_span}
+use Rattle.wtf_clients.specs.Named.{TablesBytes, any_byte, no_slice, has_copies}
+use Rattle.wtf_clients.specs.Outcomes.{AddsBytes, load_of}
+use Rattle.wtf_clients.specs.Safe.{LieIn}
+use Rattle.wtf_clients.specs.Serves.{ServesEvent}
+use Rattle.wtf_clients.specs.Sounds.{AreSound}
+use Rattle.wtf_clients.specs.Views.{BesideView}
+use Rattle.wtf_clients.proofs.Lives.{now_bytes}
+use Rattle.wtf_core.specs.Promises.{scene, LeavesNamed}
+use Rattle.wtf_core.specs.Punched.{CountsAs, Punches}
+use Rattle.wtf_core.specs.Quiet.{Saved, HasCollected}
+use Rattle.wtf_core.specs.Remembering.{KeepsPunched}
+use Rattle.wtf_core.specs.Standing.{StandsFor}
+use Rattle.wtf_core.specs.Telling.{TellsCore, IsToldLine, ServesTurn}
+use Rattle.wtf_core.specs.Turns.{LineTurn, IsLine}
+use Rattle.wtf_core.specs.Views.{CoreView, lent_of}
+use Rattle.wtf_core.proofs.Answering.{line_downs}
 use Rattle.wtf_core.proofs.Growth.{Rises}
 use Rattle.wtf_core.proofs.Holding.{KeeperLaws, tidied_held, keeper_on, line_held}
-use Rattle.wtf_core.proofs.Picturing.{line_tree}
-use Rattle.wtf_core.proofs.SaveLines.{turn_numbers}
-use Rattle.wtf_core.proofs.Taking.{numbers_on, line_taken, line_leaves}
-use Rattle.wtf_core.proofs.Answering.{line_exact, line_downs}
+use Rattle.wtf_core.proofs.Marked.{line_lie}
 use Rattle.wtf_core.proofs.Naming.{tidied_bytes}
-use Rattle.wtf_dev.specs.Sums.{TellsAll}
-use Rattle.wtf_replica.specs.Bytes.{byte_at}
-use Rattle.wtf_replica.proofs.Bytes.{byte_at-kept}
-use Rattle.wtf_model.specs.Steps.{after}
-use Rattle.wtf_meta.specs.Contents.{Told}
-use Rattle.wtf_core.specs.Views.{CoreView}
-use Rattle.wtf_clients.specs.Sounds.{AreSound}
-use Rattle.wtf_core.specs.Promises.{scene}
-use Rattle.wtf_core.specs.Remembering.{KeepsLists}
-use Rattle.wtf_core.specs.Telling.{ServesTelling}
-use Rattle.wtf_core.specs.Turns.{LineTurn}
+use Rattle.wtf_core.proofs.Picturing.{line_tree}
+use Rattle.wtf_core.proofs.Pointing.{sizes_grow}
+use Rattle.wtf_core.proofs.Quieted.{tidied_stage}
+use Rattle.wtf_core.proofs.Quieting.{quiet_on, rests_saved, left_named}
+use Rattle.wtf_core.proofs.SaveLines.{turn_numbers, line_lengths}
+use Rattle.wtf_core.proofs.Taking.{numbers_on, line_taken, line_leaves}
 use Rattle.wtf_core.proofs.Telling.{tidied_told}
 use Rattle.wtf_core.proofs.Tidying.{tidied_sound, core_tidied}
+use Rattle.wtf_core.proofs.ToldLines.{line_told, none_ranges}
 use Rattle.wtf_core.proofs.Whole.{line_stands, line_rises}
 use Rattle.wtf_core.proofs.store.Core.event.Given.{Over}
 use Rattle.wtf_core.proofs.store.Core.event.Goals as goal
 use Rattle.wtf_core.proofs.store.Core.event.Goals.{After-tidy}
+
+pub answer-requires-clause-sound : goal.answer-requires-clause-sound
+answer-requires-clause-sound g c = subst (λ (core : CoreView). AreSound core.tables) c.self.view_is c.self.invariant.tables_are
 
 pub invariant_of-self : goal.invariant_of-self
 invariant_of-self g c =
@@ -60,20 +79,17 @@ answered g c = let at = c.self-2.inside in record {
       at.cache.lists;
 }
 
-turn_is : (g : Over) (c : After-tidy g)
-    → LineTurn (TellsAll g.S.SliceStore.kind c.args.shelf.now) (byte_at g.S.SliceStore.kind c.args.shelf.now, byte_at g.S.SliceStore.kind c.answer.new.shelf)
-    c.args.self.now (answered g c) c.args.event.now c.in-Ok.answer
+-- the stores over the line
+abbrev through : (g : Over) → After-tidy g → Span g.row.S.Denot
+through g c = span (is_down c.args.self.now.replicas) c.args.shelf.now c.answer.new.shelf
+
+turn_is : (g : Over) (c : After-tidy g) → LineTurn g.S.SliceStore.kind (through g c) c.args.self.now (answered g c) c.args.event.now c.in-Ok.answer
 turn_is g c =
-    let kind = g.S.SliceStore.kind in
-    subst (λ (core : CoreView). LineTurn (TellsAll kind c.args.shelf.now)
-    (byte_at kind c.args.shelf.now, byte_at kind c.answer.new.shelf) c.args.self.now core c.args.event.now c.in-Ok.answer)
+    subst (λ (core : CoreView). LineTurn g.S.SliceStore.kind (through g c) c.args.self.now core c.args.event.now c.in-Ok.answer)
     (sym c.self-2.view_is) c.in-Ok.ensures.turn
 
 rises_is : (g : Over) (c : After-tidy g) → Rises c.args.self.now.tables (answered g c).tables
-rises_is g c =
-    let kind = g.S.SliceStore.kind in
-    line_rises (TellsAll kind c.args.shelf.now) (byte_at kind c.args.shelf.now, byte_at kind c.answer.new.shelf) c.args.self.now
-    (answered g c) c.in-Ok.answer c.args.event.now (turn_is g c)
+rises_is g c = line_rises g.S.SliceStore.kind (through g c) c.args.self.now (answered g c) c.in-Ok.answer c.args.event.now (turn_is g c)
 
 same_settings : (g : Over) (c : After-tidy g) → (answered g c).settings ≡ c.args.self.now.settings
 same_settings g c = ap (λ (core : CoreView). core.settings) c.self-2.view_is ∙ c.answer.ensures.settings
@@ -81,7 +97,7 @@ same_settings g c = ap (λ (core : CoreView). core.settings) c.self-2.view_is �
 abbrev serving : (g : Over) → After-tidy g → Type 0
 serving g c =
     let old = c.args.self.now in
-    ServesEvent g.S.SliceStore.kind (span (is_down old.replicas) c.args.shelf.now c.answer.new.shelf) old.settings
+    ServesEvent g.S.SliceStore.kind (span (is_down old.replicas) c.args.shelf.now c.answer.new.shelf) (lent_of old)
     (Rose (g.K.Keeper.view c.args.keeper.now).faults (g.K.Keeper.view c.answer.new.keeper).faults)
     (old.tables, c.self-2.inside.tables) c.args.event.now c.in-Ok.answer
 
@@ -89,22 +105,32 @@ serves_is : (g : Over) (c : After-tidy g) → serving g c
 serves_is g c =
     let kind = g.S.SliceStore.kind in
     let old = c.args.self.now in
-    subst (λ (core : CoreView). ServesEvent kind (span (is_down old.replicas) c.args.shelf.now c.answer.new.shelf) old.settings
+    subst (λ (core : CoreView). ServesEvent kind (span (is_down old.replicas) c.args.shelf.now c.answer.new.shelf) (lent_of old)
     (Rose (g.K.Keeper.view c.args.keeper.now).faults (g.K.Keeper.view c.answer.new.keeper).faults)
     (old.tables, core.tables) c.args.event.now c.in-Ok.answer)
     (sym c.self-2.view_is) c.in-Ok.ensures.serves
 
-told_is : (g : Over) (c : After-tidy g) → ServesTelling g.S.SliceStore.kind (span (is_down c.args.self.now.replicas) c.args.shelf.now c.answer.new.shelf)
-    c.args.self.now (answered g c).tables c.in-Ok.answer
+told_is : (g : Over) (c : After-tidy g)
+    → ServesTurn g.S.SliceStore.kind (through g c) c.args.self.now (answered g c) c.args.event.now c.in-Ok.answer
 told_is g c =
-    let old = c.args.self.now in
-    subst (λ (core : CoreView). ServesTelling g.S.SliceStore.kind (span (is_down old.replicas) c.args.shelf.now c.answer.new.shelf) old core.tables
-    c.in-Ok.answer)
+    subst (λ (core : CoreView). ServesTurn g.S.SliceStore.kind (through g c) c.args.self.now core c.args.event.now c.in-Ok.answer)
     (sym c.self-2.view_is) c.in-Ok.ensures.told
 
-keeps_is : (g : Over) (c : After-tidy g) → KeepsLists g.S.SliceStore.kind c.args.shelf.now c.answer.new.shelf c.args.self.now (answered g c)
-keeps_is g c = subst (λ (core : CoreView). KeepsLists g.S.SliceStore.kind c.args.shelf.now c.answer.new.shelf c.args.self.now core) (sym c.self-2.view_is)
-    c.answer.ensures.lists
+-- what was punched, and the lists that are remembered
+punched_is : (g : Over) (c : After-tidy g)
+    → KeepsPunched g.S.SliceStore.kind c.args.shelf.now c.answer.new.shelf c.args.self.now (answered g c) c.args.event.now c.in-Ok.answer
+punched_is g c =
+    subst (λ (core : CoreView). KeepsPunched g.S.SliceStore.kind c.args.shelf.now c.answer.new.shelf c.args.self.now core c.args.event.now c.in-Ok.answer)
+    (sym c.self-2.view_is) c.in-Ok.ensures.punched
+
+was_sound : (g : Over) (c : After-tidy g) → AreSound c.args.self.now.tables
+was_sound g c = subst (λ (core : CoreView). AreSound core.tables) c.self.view_is c.self.invariant.tables_are
+
+marks_are : (g : Over) (c : After-tidy g) → LieIn (answered g c).tables.beside.gc (size_in g.S.SliceStore.kind c.answer.new.shelf)
+marks_are g c =
+    let did = (punched_is g c).punches in
+    line_lie g.met.S.SliceStore.laws (through g c) c.args.self.now (answered g c) (was_sound g c) c.in-Ok.answer did.ranges did.follows
+    c.requires.inside.scans c.args.event.now (turn_is g c)
 
 abbrev keeping : (g : Over) → After-tidy g → KeeperSpan
 keeping g c = keeper_span g.K.Keeper.view g.K.Keeper.follows c.args.keeper.now c.answer.new.keeper
@@ -125,9 +151,6 @@ did_is g c =
     (keeping g c) old.settings old.tables core.tables c.args.event.now c.in-Ok.answer)
     (sym c.self-2.view_is) c.in-Ok.ensures.keeper
 
-was_sound : (g : Over) (c : After-tidy g) → AreSound c.args.self.now.tables
-was_sound g c = subst (λ (core : CoreView). AreSound core.tables) c.self.view_is c.self.invariant.tables_are
-
 was_limited : (g : Over) (c : After-tidy g) → AreSettings c.args.self.now.settings.servers c.args.self.now.settings.replicas c.args.self.now.settings.region
 was_limited g c = subst (λ (core : CoreView).
     AreSettings core.settings.servers core.settings.replicas core.settings.region) c.self.view_is c.self.invariant.settings_are
@@ -137,7 +160,6 @@ returns-in-Ok-clause-goes_on g at =
     let c = (goal.at.returns-in-Ok-clause-goes_on g at).After-tidy in
     let kind = g.S.SliceStore.kind in
     let old = c.args.self.now in
-    let told : Told × Told = (byte_at kind c.args.shelf.now, byte_at kind c.answer.new.shelf) in
     let serves = serves_is g c in
     let same = same_settings g c in
     let up = rises_is g c in
@@ -148,66 +170,132 @@ returns-in-Ok-clause-goes_on g at =
         tables = subst (λ (s : Settings). TablesBytes (is_inside kind c.answer.new.shelf s) any_slice c.tidy.new.self) (sym same)
             (tidied_bytes (is_inside kind c.answer.new.shelf old.settings) any_slice (answered g c).tables c.tidy.new.self c.self-2.invariant.tables_are tidy
             serves.inside);
-        lists = subst (λ (s : Settings). CacheInside (is_inside kind c.answer.new.shelf s) (answered g c).lists) (sym same) (keeps_is g c).inside;
+        lists = subst (λ (s : Settings). CacheInside (is_inside kind c.answer.new.shelf s) (answered g c).lists) (sym same) (punched_is g c).lists.inside;
+        scans = subst (λ (b : BesideView). LieIn b.gc (size_in kind c.answer.new.shelf)) (sym tidy.beside) (marks_are g c);
       };
       bare = λ free h. tidied_bytes any_byte no_slice (answered g c).tables c.tidy.new.self c.self-2.invariant.tables_are tidy (serves.bare free h);
       full = λ free h. subst (λ (s : Settings). TablesBytes (has_copies s.replicas) no_slice c.tidy.new.self) (sym same)
           (tidied_bytes (has_copies old.settings.replicas) no_slice (answered g c).tables c.tidy.new.self c.self-2.invariant.tables_are tidy
           (serves.full free h));
-      down = λ k. line_downs (TellsAll kind c.args.shelf.now) told old (answered g c) c.in-Ok.answer c.args.event.now (turn_is g c) k;
-      exact = line_exact (TellsAll kind c.args.shelf.now) told old (answered g c) c.in-Ok.answer c.args.event.now (turn_is g c);
+      down = λ k. line_downs kind (through g c) old (answered g c) c.in-Ok.answer c.args.event.now (turn_is g c) k;
       number = omega (arith, up.no_fewer, tidy.number);
       next_tx = omega (arith, up.no_earlier, tidy.next_tx);
       same_number = λ is. tidy.number
-          ∙ (turn_numbers (TellsAll kind c.args.shelf.now) told old (answered g c) c.in-Ok.answer c.args.event.now (turn_is g c) is).0;
+          ∙ (turn_numbers kind (through g c) old (answered g c) c.in-Ok.answer c.args.event.now (turn_is g c) is).0;
       same_next_tx = λ is. tidy.next_tx
-          ∙ (turn_numbers (TellsAll kind c.args.shelf.now) told old (answered g c) c.in-Ok.answer c.args.event.now (turn_is g c) is).1;
+          ∙ (turn_numbers kind (through g c) old (answered g c) c.in-Ok.answer c.args.event.now (turn_is g c) is).1;
     }
+
+-- the stores tell what they told, where nothing was collected
+tells_on : (g : Over) (c : After-tidy g) → ((k : ℕ) → c.args.event.now ≢ event.Collect k)
+    → TellsOn (byte_at g.S.SliceStore.kind c.args.shelf.now) (byte_at g.S.SliceStore.kind c.answer.new.shelf)
+tells_on g c other p byte there =
+    let kind = g.S.SliceStore.kind in
+    let did = (punched_is g c).punches in
+    let still : EachFollows kind c.args.shelf.now c.answer.new.shelf [] =
+    subst (EachFollows kind c.args.shelf.now c.answer.new.shelf)
+    (none_ranges c.args.self.now.tables.beside.gc c.args.event.now c.in-Ok.answer did.ranges other did.are) did.follows in
+    byte_at-kept g.met.S.SliceStore.laws still p byte tt there
+
+-- the line over stores that tell, before versions are dropped
+line_is : (g : Over) (c : After-tidy g) → TellsCore g.S.SliceStore.kind c.args.shelf.now c.args.self.now → (m : Machine)
+    → StandsFor (byte_at g.S.SliceStore.kind c.args.shelf.now) c.args.self.now m
+    → IsToldLine g.S.SliceStore.kind (through g c) c.args.self.now (answered g c) c.args.event.now c.in-Ok.answer
+line_is g c tells m stands =
+    let old = c.args.self.now in
+    let punched = punched_is g c in
+    line_told g.met.S.SliceStore.laws (through g c) old (answered g c) c.in-Ok.answer (was_sound g c) c.self-2.invariant.tables_are c.requires.shelf
+    c.requires.inside tells stands.scans.kinds c.args.event.now (same_settings g c) punched (told_is g c) (turn_is g c)
+    (quiet_on g.met.S.SliceStore.laws (through g c) old (answered g c) c.args.event.now c.in-Ok.answer (was_sound g c) tells punched.punches
+    (serves_is g c).adds (turn_is g c))
+
+-- the core as it is left
+abbrev left : (g : Over) → After-tidy g → CoreView
+left g c = let at = c.self-2.inside in record {
+  settings = at.settings;
+  tables = c.tidy.new.self;
+  replicas = at.replicas;
+  closed = at.closed;
+  lists =
+      at.cache.lists;
+}
+
+-- dropping versions leaves the scans, and so what counts as freed
+keeps_are : (g : Over) (c : After-tidy g)
+    → KeepsPunched g.S.SliceStore.kind c.args.shelf.now c.answer.new.shelf c.args.self.now (left g c) c.args.event.now c.in-Ok.answer
+keeps_are g c =
+    let p = punched_is g c in
+    record {
+      punches = record {
+        ranges = p.punches.ranges;
+        are = p.punches.are;
+        counts = subst (λ (b : BesideView). CountsAs c.args.self.now.tables.beside.gc b.gc c.in-Ok.answer p.punches.ranges) (sym c.tidy.ensures.beside)
+            p.punches.counts;
+        follows = p.punches.follows;
+      };
+      lists = record { inside = p.lists.inside; true_still = p.lists.true_still };
+    }
+
+line : (g : Over) (c : After-tidy g) → IsLine g.S.SliceStore.kind (through g c) c.args.self.now (left g c) c.args.event.now c.in-Ok.answer
+line g c = record { answered = answered g c; turn = turn_is g c; tidied = c.tidy.ensures; rest = refl }
+
+-- a save, behind a quiet ending
+named_is : (g : Over) (c : After-tidy g) (m : Machine) → StandsFor (byte_at g.S.SliceStore.kind c.args.shelf.now) c.args.self.now m → (k n : ℕ)
+    → HasCollected g.S.SliceStore.kind c.args.shelf.now c.args.self.now k → c.args.event.now ≡ event.Save → c.in-Ok.answer ≡ answer.Saved n
+    → (g.K.Keeper.view c.args.keeper.now).tells ≡ true
+    → LeavesNamed g.S.SliceStore.kind (scene c.answer.new.shelf (g.K.Keeper.view c.answer.new.keeper) (left g c)) k
+named_is g c m stands k n collected is said tells =
+    let kind = g.S.SliceStore.kind in
+    let old = c.args.self.now in
+    let t = through g c in
+    left_named g.met.S.SliceStore.laws t (keeping g c) old (left g c) m k n (was_sound g c) stands collected
+    (subst (λ (b : Answer). KeeperTurn kind t (keeping g c) old.settings old.tables (answered g c).tables event.Save b) said
+    (subst (λ (e : Event). KeeperTurn kind t (keeping g c) old.settings old.tables (answered g c).tables e c.in-Ok.answer) is (did_is g c)))
+    tells
+    (subst (λ (b : Answer). Punches kind t.before t.after old.tables.beside.gc c.tidy.new.self.beside.gc event.Save b) said
+    (subst (λ (e : Event). Punches kind t.before t.after old.tables.beside.gc c.tidy.new.self.beside.gc e c.in-Ok.answer) is (keeps_are g c).punches))
+    (line_lengths kind t old.settings old (left g c) c.in-Ok.answer (subst (λ (e : Event). IsLine kind t old (left g c) e c.in-Ok.answer) is (line g c))
+    (subst (λ (e : Event). AddsBytes kind t old.settings (load_of e) c.in-Ok.answer) is (serves_is g c).adds))
 
 pub returns-in-Ok-clause-turn : goal.returns-in-Ok-clause-turn
 returns-in-Ok-clause-turn g at =
     let c = (goal.at.returns-in-Ok-clause-turn g at).After-tidy in
-    record { answered = answered g c; turn = turn_is g c; tidied = c.tidy.ensures; rest = refl }
+    line g c
 
 pub returns-in-Ok-clause-lawful : goal.returns-in-Ok-clause-lawful
 returns-in-Ok-clause-lawful g at = λ telling m stands.
     let c = (goal.at.returns-in-Ok-clause-lawful g at).After-tidy in
     let kind = g.S.SliceStore.kind in
+    let laws = g.met.S.SliceStore.laws in
     let told = byte_at kind c.args.shelf.now in
     let later = byte_at kind c.answer.new.shelf in
     let old = c.args.self.now in
-    let here = c.self-2.inside in
-    let tidied : CoreView = record {
-      settings = here.settings;
-      tables = c.tidy.new.self;
-      replicas = here.replicas;
-      closed = here.closed;
-      lists =
-          here.cache.lists;
-    } in
-    let t = span (is_down old.replicas) c.args.shelf.now c.answer.new.shelf in
-    let on = c.answer.ensures.shelf in
-    let done = line_stands (TellsAll kind c.args.shelf.now) told later old (answered g c) m c.in-Ok.answer (was_sound g c) stands
-    (λ p b there. byte_at-kept g.met.S.SliceStore.laws on p b tt there) telling ((keeps_is g c).true_still [] stands.lists) c.args.event.now (turn_is g c) in
+    let t = through g c in
+    let on = tells_on g c in
+    let turn = turn_is g c in
+    let done = line_stands laws t old (answered g c) m c.in-Ok.answer (was_sound g c) stands telling c.requires.inside.tables c.args.event.now on turn in
+    let grows : (k f : ℕ) → size_in kind t.before k f ≤ size_in kind t.after k f = sizes_grow laws (punched_is g c).punches.follows in
+    let now = now_bytes (is_inside kind c.args.shelf.now old.settings) any_slice old.tables c.requires.inside.tables in
     record {
       event = record {
         may = done.may;
-        stands = core_tidied later (answered g c) tidied
-            (after m c.args.event.now c.in-Ok.answer) c.self-2.invariant.tables_are c.tidy.ensures refl done.stands;
+        stands = core_tidied later (answered g c) (left g c) (after m c.args.event.now c.in-Ok.answer) c.self-2.invariant.tables_are c.tidy.ensures refl
+            done.stands;
       };
-      trees = λ tells room held. line_tree kind t (keeping g c) (keeper_laws g c) (TellsAll kind c.args.shelf.now) told later
-          (λ p b there. byte_at-kept g.met.S.SliceStore.laws on p b tt there) old (answered g c) m
-          (was_limited g c) (was_sound g c) room.0 room.1 stands.tables c.in-Ok.answer c.args.event.now (turn_is g c) (did_is g c) tells held;
+      trees = λ tells room kept held. line_tree kind t (keeping g c) (keeper_laws g c) old (answered g c) m (was_limited g c) (was_sound g c) room.0 room.1
+          stands.tables (line_is g c telling m stands).images c.in-Ok.answer c.args.event.now on turn (did_is g c) tells kept held;
       taken = λ tells room held. numbers_on (g.K.Keeper.view c.answer.new.keeper) (size_in kind c.answer.new.shelf) old.settings
           (answered g c).tables.kv.number (answered g c).tables.next_tx
           c.tidy.new.self.kv.number c.tidy.new.self.next_tx c.tidy.ensures.number c.tidy.ensures.next_tx
-          (line_taken kind g.met.S.SliceStore.laws t on (keeping g c) (keeper_laws g c) (TellsAll kind c.args.shelf.now) told later old (answered g c) m
-          (was_limited g c) (was_sound g c) room.0 room.1 stands.tables (now_bytes (is_inside kind c.args.shelf.now old.settings) any_slice old.tables
-          c.requires.inside.tables) (rises_is g c) c.in-Ok.answer c.args.event.now (turn_is g c) (did_is g c) tells held);
-      saved = λ tells room. line_leaves kind g.met.S.SliceStore.laws t on (keeping g c) (keeper_laws g c) (TellsAll kind c.args.shelf.now) told later old
-          (answered g c) m
-          (was_limited g c) (was_sound g c) room.0 room.1 stands.tables (now_bytes (is_inside kind c.args.shelf.now old.settings) any_slice old.tables
-          c.requires.inside.tables) (rises_is g c) c.in-Ok.answer c.args.event.now c.in-Ok.answer (did_is g c) tells;
+          (line_taken kind t grows (keeping g c) (keeper_laws g c) told old (answered g c) m (was_limited g c) (was_sound g c) room.0 room.1 stands.tables now
+          (rises_is g c) c.in-Ok.answer c.args.event.now turn (did_is g c) tells held);
+      saved = λ tells room. line_leaves kind t grows (keeping g c) (keeper_laws g c) told old (answered g c) m (was_limited g c) (was_sound g c) room.0 room.1
+          stands.tables now (rises_is g c) c.in-Ok.answer c.args.event.now c.in-Ok.answer (did_is g c) tells;
+      rests = λ idle n is said. tidied_stage kind c.answer.new.shelf (answered g c) c.tidy.new.self c.tidy.ensures Saved
+          (rests_saved kind t told old (answered g c) m n stands idle
+          (subst (λ (b : Answer). LineTurn kind t old (answered g c) event.Save b) said
+          (subst (λ (e : Event). LineTurn kind t old (answered g c) e c.in-Ok.answer) is turn)));
+      left = λ k n collected is said tells. named_is g c m stands k n collected is said tells;
     }
 
 pub returns-in-Ok-clause-stored : goal.returns-in-Ok-clause-stored
@@ -226,9 +314,8 @@ returns-in-Ok-clause-kept g at =
       turn = keeper_on kind t (keeping g c) old.settings old.tables (answered g c).tables c.tidy.new.self c.tidy.ensures.beside c.args.event.now c.in-Ok.answer
           (did_is g c);
       held = λ tells held.
-          let on = line_held kind t (keeping g c) (keeper_laws g c) (TellsAll kind c.args.shelf.now)
-          (byte_at kind c.args.shelf.now, byte_at kind c.answer.new.shelf) old (answered g c) (was_sound g c) c.in-Ok.answer
-          c.args.event.now (turn_is g c) (did_is g c) tells held in
+          let on = line_held kind t (keeping g c) (keeper_laws g c) old (answered g c) (was_sound g c) c.in-Ok.answer c.args.event.now (turn_is g c)
+          (did_is g c) tells held in
           (on.0, on.1, tidied_held (answered g c).tables c.tidy.new.self old.settings on.0 c.self-2.invariant.tables_are c.tidy.ensures on.2);
     }
 
@@ -241,20 +328,15 @@ returns-in-Ok-clause-stays g at =
       sound = tidied_sound (answered g c).tables c.tidy.new.self c.self-2.invariant.tables_are c.tidy.ensures;
       number = omega (arith, up.number, c.tidy.ensures.number);
       next_tx = omega (arith, up.next_tx, c.tidy.ensures.next_tx);
-      follows = c.answer.ensures.shelf;
     }
 
 pub returns-in-Ok-clause-told : goal.returns-in-Ok-clause-told
-returns-in-Ok-clause-told g at = λ tells.
+returns-in-Ok-clause-told g at = λ tells m stands.
     let c = (goal.at.returns-in-Ok-clause-told g at).After-tidy in
-    let here = c.self-2.inside in
-    let tidied : CoreView = record {
-      settings = here.settings;
-      tables = c.tidy.new.self;
-      replicas = here.replicas;
-      closed = here.closed;
-      lists = here.cache.lists;
-    } in
-    tidied_told g.met.S.SliceStore.laws (scene c.args.shelf.now (g.K.Keeper.view c.args.keeper.now) c.args.self.now)
-    (scene c.answer.new.shelf (g.K.Keeper.view c.answer.new.keeper) tidied) (answered g c) c.answer.ensures.shelf c.self-2.invariant.tables_are
-    c.tidy.ensures (same_settings g c) c.in-Ok.answer ((keeps_is g c).true_still [] tells.cache) tells (told_is g c tells)
+    tidied_told g.S.SliceStore.kind (through g c) c.args.self.now (answered g c) c.tidy.new.self c.self-2.invariant.tables_are c.tidy.ensures (marks_are g c)
+    c.args.event.now c.in-Ok.answer (line_is g c tells m stands)
+
+pub returns-in-Ok-clause-punched : goal.returns-in-Ok-clause-punched
+returns-in-Ok-clause-punched g at =
+    let c = (goal.at.returns-in-Ok-clause-punched g at).After-tidy in
+    keeps_are g c

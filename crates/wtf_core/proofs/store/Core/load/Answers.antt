@@ -13,7 +13,7 @@ pub returns-in-Ok-restored-clause-stands : goal.returns-in-Ok-restored-clause-st
 returns-in-Ok-restored-clause-stands g c =
     let sizes = size_in g.S.SliceStore.kind c.args.shelf.now in
     stands_loaded sizes c.args.bytes.now c.in-Ok-restored.core
-    (c.in-Ok-restored.ensures.loaded sizes c.args.bytes.now c.in-Ok.ensures.loaded) c.in-Ok-restored.ensures.up
+    (c.in-Ok-restored.ensures.loaded sizes c.args.bytes.now c.in-Ok.ensures.loaded) c.in-Ok-restored.ensures.sound c.in-Ok-restored.ensures.up
 
 pub returns-in-Ok-restored-clause-held : goal.returns-in-Ok-restored-clause-held
 returns-in-Ok-restored-clause-held g c =

@@ -10,7 +10,7 @@ returns-in-Ok-over-clause-stands c = λ told.
     let made = c.in-Ok.ensures in
     let core = c.in-Ok-over.ensures in
     stands_first told c.args.settings c.in-Ok.tables c.in-Ok-over.core core.settings core.tables made.number made.clients made.beside made.first core.up
-    core.lists
+    made.sound
 
 pub returns-in-Ok-over-clause-inside : goal.returns-in-Ok-over-clause-inside
 returns-in-Ok-over-clause-inside c = λ P Q.

@@ -1,4 +1,4 @@
-use Rattle.std.proofs.Common.{◌≤◌, List, rules, refl, length, sym, ap, subst}
+use Rattle.std.proofs.Common.{[], ◌≤◌, List, rules, refl, length, sym, ap, subst}
 use Rattle.wtf_region.specs.Cached.{AreFrom}
 use Rattle.wtf_dev.specs.Sums.{TellsAll}
 use Rattle.wtf_replica.specs.Downs.{is_down}
@@ -9,7 +9,7 @@ use Rattle.wtf_clients.specs.Serves.{ServesLine}
 use Rattle.wtf_replica.specs.Bytes.{byte_at}
 use Rattle.wtf_core.proofs.Whole.{sound_planned}
 use Rattle.wtf_core.specs.Made.{IsMade}
-use Rattle.wtf_core.specs.Views.{CoreView}
+use Rattle.wtf_core.specs.Views.{CoreView, lent_of}
 use Rattle.wtf_core.specs.Named.{IsInside}
 use Rattle.wtf_core.specs.Remembering.{KeepsLists}
 use Rattle.wtf_core.proofs.Remembering.{sound_dev, goes_keeps}
@@ -45,7 +45,7 @@ made g c =
     }
 
 -- and the lists that it remembers
-kept : (g : Over) (c : After-plan g) → KeepsLists g.S.SliceStore.kind c.args.shelf.now c.plan.new.dev.shelf.now c.args.self.now (left g c)
+kept : (g : Over) (c : After-plan g) → KeepsLists g.S.SliceStore.kind c.args.shelf.now c.plan.new.dev.shelf.now [] c.args.self.now (left g c)
 kept g c = goes_keeps g.S.SliceStore.kind _ c.plan.new.dev c.args.self.now (left g c) c.plan.ensures.dev
     (ap (λ (core : CoreView). core.settings) c.self.view_is)
     (ap (λ (core : CoreView). core.lists) c.self.view_is) refl
@@ -68,19 +68,19 @@ plan-requires-clause-dev g c =
 pub returns-in-Ok-clause-lists : goal.returns-in-Ok-clause-lists
 returns-in-Ok-clause-lists g c =
     let at = (goal.at.returns-in-Ok-clause-lists g c).After-plan in
-    subst (λ (shelf : List g.row.S.Denot). KeepsLists g.S.SliceStore.kind c.args.shelf.now shelf c.args.self.now (left g at)) (search (rules)) (kept g at)
+    subst (λ (shelf : List g.row.S.Denot). KeepsLists g.S.SliceStore.kind c.args.shelf.now shelf [] c.args.self.now (left g at)) (search (rules)) (kept g at)
 
 pub returns-in-Err-clause-lists : goal.returns-in-Err-clause-lists
 returns-in-Err-clause-lists g c =
     let at = (goal.at.returns-in-Err-clause-lists g c).After-plan in
-    subst (λ (shelf : List g.row.S.Denot). KeepsLists g.S.SliceStore.kind c.args.shelf.now shelf c.args.self.now (left g at)) (search (rules)) (kept g at)
+    subst (λ (shelf : List g.row.S.Denot). KeepsLists g.S.SliceStore.kind c.args.shelf.now shelf [] c.args.self.now (left g at)) (search (rules)) (kept g at)
 
 pub returns-in-Ok-clause-serves : goal.returns-in-Ok-clause-serves
 returns-in-Ok-clause-serves g c =
     let kind = g.S.SliceStore.kind in
     let e : Event = event.Plan c.args.j c.args.kind c.args.p.now c.args.region in
     let old = c.args.self.now in
-    subst (λ (shelf : List g.row.S.Denot). ServesLine kind (span (is_down old.replicas) c.args.shelf.now shelf) old.settings old.tables c.plan.new.self e
+    subst (λ (shelf : List g.row.S.Denot). ServesLine kind (span (is_down old.replicas) c.args.shelf.now shelf) (lent_of old) old.tables c.plan.new.self e
     c.in-Ok.answer) (search (rules))
-    (subst (λ (core : CoreView). ServesLine kind (span (is_down core.replicas) c.args.shelf.now c.plan.new.dev.shelf.now) core.settings core.tables
+    (subst (λ (core : CoreView). ServesLine kind (span (is_down core.replicas) c.args.shelf.now c.plan.new.dev.shelf.now) (lent_of core) core.tables
     c.plan.new.self e c.in-Ok.answer) c.self.view_is c.in-Ok.ensures.serves)

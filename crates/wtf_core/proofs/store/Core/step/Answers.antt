@@ -1,4 +1,4 @@
-use Rattle.std.proofs.Common.{◌≤◌, List, rules, refl, length, sym, ap, subst}
+use Rattle.std.proofs.Common.{[], ◌≤◌, List, rules, refl, length, sym, ap, subst}
 use Rattle.wtf_region.specs.Cached.{AreFrom}
 use Rattle.wtf_dev.specs.Sums.{TellsAll}
 use Rattle.wtf_replica.specs.Bytes.{byte_at}
@@ -41,7 +41,7 @@ made g c =
     }
 
 -- and the lists that it remembers
-kept : (g : Over) (c : After-step g) → KeepsLists g.S.SliceStore.kind c.args.shelf.now c.step.new.dev.shelf.now c.args.self.now (left g c)
+kept : (g : Over) (c : After-step g) → KeepsLists g.S.SliceStore.kind c.args.shelf.now c.step.new.dev.shelf.now [] c.args.self.now (left g c)
 kept g c = goes_keeps g.S.SliceStore.kind _ c.step.new.dev c.args.self.now (left g c) c.step.ensures.dev
     (ap (λ (core : CoreView). core.settings) c.self.view_is)
     (ap (λ (core : CoreView). core.lists) c.self.view_is) refl
@@ -64,9 +64,9 @@ step-requires-clause-dev g c =
 pub returns-in-Ok-clause-lists : goal.returns-in-Ok-clause-lists
 returns-in-Ok-clause-lists g c =
     let at = (goal.at.returns-in-Ok-clause-lists g c).After-step in
-    subst (λ (shelf : List g.row.S.Denot). KeepsLists g.S.SliceStore.kind c.args.shelf.now shelf c.args.self.now (left g at)) (search (rules)) (kept g at)
+    subst (λ (shelf : List g.row.S.Denot). KeepsLists g.S.SliceStore.kind c.args.shelf.now shelf [] c.args.self.now (left g at)) (search (rules)) (kept g at)
 
 pub returns-in-Err-clause-lists : goal.returns-in-Err-clause-lists
 returns-in-Err-clause-lists g c =
     let at = (goal.at.returns-in-Err-clause-lists g c).After-step in
-    subst (λ (shelf : List g.row.S.Denot). KeepsLists g.S.SliceStore.kind c.args.shelf.now shelf c.args.self.now (left g at)) (search (rules)) (kept g at)
+    subst (λ (shelf : List g.row.S.Denot). KeepsLists g.S.SliceStore.kind c.args.shelf.now shelf [] c.args.self.now (left g at)) (search (rules)) (kept g at)

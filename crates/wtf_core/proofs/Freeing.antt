@@ -1,0 +1,146 @@
+-- A collection of a quiet ending: of what lies below the marks of the first of the last two scans it leaves just what is named.
+use Rattle.std.proofs.Common.{◌≡◌, ◌⊎◌, ◌<◌, ℕ, Bool, true, false, not, ◌||◌, ◌&&◌, cond, nat_eq, nat_lt, List, length}
+use Rattle.std.proofs.Common.{None, refl, sym, ◌∙◌, ap, subst, inl, inr, ⊎_elim, true≢false, arith}
+use Rattle.std.proofs.lemmas.Bool.{and_from, or_left, or_right, eq-eqb, lt-ltb}
+use Rattle.wtf_base.specs.Places.{Place}
+use Rattle.wtf_dev.specs.Store.{Range, StoreKind}
+use Rattle.wtf_replica.specs.Bytes.{byte_at}
+use Rattle.wtf_replica.specs.Inside.{size_in}
+use Rattle.wtf_replica.specs.Outs.{SameLengths}
+use Rattle.wtf_replica.specs.Spans.{Span}
+use Rattle.wtf_kv.specs.Stores.{Store}
+use Rattle.wtf_values.specs.declared.key.Key.{Key}
+use Rattle.wtf_values.specs.declared.value.Value.{Value}
+use Rattle.wtf_model.specs.declared.answer.Answer.{Answer}
+use Rattle.wtf_model.specs.declared.event.Event.TheVariants as event
+use Rattle.wtf_meta.specs.Contents.{Told}
+use Rattle.wtf_meta.specs.Maps.{Map, metadata_at}
+use Rattle.wtf_gc.specs.Extents.{covers}
+use Rattle.wtf_gc.specs.Frees.{AreGarbage, CountsFreed, lie_in}
+use Rattle.wtf_gc.specs.Views.{ScanView, GcView, mark_of, is_garbage, length_in}
+use Rattle.wtf_clients.specs.Safe.{NamesNone}
+use Rattle.wtf_clients.specs.ScanTurns.{KeepsStore}
+use Rattle.wtf_clients.specs.Sounds.{AreSound}
+use Rattle.wtf_clients.specs.Views.{BesideView, metadata_now}
+use Rattle.wtf_clients.proofs.KeptNames.{rests_alone}
+use Rattle.wtf_core.specs.Quiet.{MapNames, IsAtRest, ScannedTwice, IsKept, IsAtStage, FoundOnlyKept, LeavesKept, HasCollected}
+use Rattle.wtf_core.specs.Views.{CoreView}
+use Rattle.wtf_core.proofs.Carried.{AllSameBases, ReadsSame, reads_same, size_same, length_same, names_later, names_before}
+use Rattle.wtf_core.proofs.Unnamed.{map_none}
+use Rattle.wtf_core.proofs.Moving.{some_is, none_some, SameRest, Moves, Leaves, rest_later, steady}
+
+module _ {S : Type 0} (kind : StoreKind S) (t : Span S) (old new : CoreView) (settings : new.settings ≡ old.settings)
+    (many : length t.after ≡ length t.before) (lengths : SameLengths kind t.before t.after)
+    (same : AllSameBases old.settings.region (byte_at kind t.before) (byte_at kind t.after) old.tables.kv) where
+  abbrev told : Told
+  told = byte_at kind t.before
+
+  abbrev later : Told
+  later = byte_at kind t.after
+
+  long_on : (k f : ℕ) → length_in kind t.after k f ≡ length_in kind t.before k f
+  long_on = length_same kind t.before t.after many lengths
+
+  -- ---- garbage is freed, or some of it
+  module _ (keeps : KeepsStore old.tables new.tables) {counted : List (ℕ × Range)}
+      (scans : CountsFreed old.tables.beside.gc new.tables.beside.gc counted) where
+    abbrev gc : GcView
+    gc = old.tables.beside.gc
+
+    free_rest : SameRest old.tables new.tables
+    free_rest = record {
+      clients = keeps.keeps.clients;
+      jobs = ap (λ (b : BesideView). b.jobs) keeps.keeps.beside;
+      images = ap (λ (b : BesideView). b.images) keeps.keeps.beside;
+      none = ap (λ (b : BesideView). b.none) keeps.keeps.beside;
+      number = ap (λ (s : Store Key Value). s.number) keeps.kv;
+    }
+
+    free_same : ReadsSame old.tables.kv new.tables.kv
+    free_same = reads_same old.tables.kv new.tables.kv (ap (λ (s : Store Key Value). s.number) keeps.kv) (ap (λ (s : Store Key Value). s.pins) keeps.kv)
+        (λ n live. ap (λ (s : Store Key Value). metadata_at s n) keeps.kv)
+
+    pub frees_move : (k : ℕ) (a : Answer) → Moves kind t old new (event.Collect k) a
+    frees_move k a = steady kind t old new settings many lengths same (event.Collect k) a (λ s next is. some_is s next is) free_same free_rest
+        (record { running = scans.running; older = scans.older; newer = scans.newer })
+        (λ p here. scans.freed p ∙ or_left (covers gc.freed p) (lie_in counted p) here)
+
+    kept_later : (p : Place) → IsKept kind t.before old p → IsKept kind t.after new p
+    kept_later = names_later kind t.before t.after old new settings long_on free_same same
+
+    kept_before : (p : Place) → IsKept kind t.after new p → IsKept kind t.before old p
+    kept_before = names_before kind t.before t.after old new settings long_on free_same same
+
+    -- all of it is
+    module _ (sound : AreSound old.tables) (k : ℕ) (ranges : List (ℕ × Range)) (are : AreGarbage gc k ranges)
+        (counts : (p : Place) → covers new.tables.beside.gc.freed p ≡ (covers gc.freed p || lie_in ranges p))
+        (unnamed : NamesNone old.settings.region told (is_garbage gc) old.tables) (gone : NamesNone old.settings.region told (covers gc.freed) old.tables) where
+      three_false : (a b c : Bool) → a ≡ false → b ≡ false → c ≡ false → not (a || (b || c)) ≡ true
+      three_false a b c one two three = ap (λ (x : Bool). not (x || (b || c))) one ∙ ap (λ (x : Bool). not (x || c)) two ∙ ap not three
+
+      -- a byte below the marks that no scan has found was freed before, or is garbage
+      left_by : FoundOnlyKept kind t.before old → (p : Place) → p.server ≡ k → nat_lt p.at (mark_of gc.older p.server p.file) ≡ true → (a b c : Bool)
+          → covers gc.older.found p ≡ a → covers gc.newer.found p ≡ b → covers gc.freed p ≡ c
+          → (covers new.tables.beside.gc.freed p ≡ true) ⊎ IsKept kind t.before old p
+      left_by found p on below true b c one two three = inr (found.older p one)
+      left_by found p on below false true c one two three = inr (found.newer p two)
+      left_by found p on below false false true one two three = inl (counts p ∙ or_left (covers gc.freed p) (lie_in ranges p) three)
+      left_by found p on below false false false one two three =
+          let garbage : is_garbage gc p ≡ true =
+          and_from (nat_lt p.at (mark_of gc.older p.server p.file)) (not (covers gc.older.found p || (covers gc.newer.found p || covers gc.freed p))) below
+          (three_false (covers gc.older.found p) (covers gc.newer.found p) (covers gc.freed p) one two three) in
+          inl (counts p ∙ or_right (covers gc.freed p) (lie_in ranges p)
+          (are.exact p ∙ and_from (nat_eq p.server k) (is_garbage gc p) (eq-eqb p.server k on) garbage))
+
+      left_of : FoundOnlyKept kind t.before old → (p : Place) → p.server ≡ k → p.at < mark_of gc.older p.server p.file
+          → (covers new.tables.beside.gc.freed p ≡ true) ⊎ IsKept kind t.before old p
+      left_of found p on below =
+          left_by found p on (lt-ltb p.at (mark_of gc.older p.server p.file) below) (covers gc.older.found p) (covers gc.newer.found p) (covers gc.freed p)
+          refl refl refl
+
+      -- no byte that is named was freed, and none is garbage
+      kept_stays : (p : Place) → IsKept kind t.before old p → covers new.tables.beside.gc.freed p ≡ false
+      kept_stays p h =
+          let w : Map = metadata_at old.tables.kv h.number in
+          let was : covers gc.freed p ≡ false = map_none (covers gc.freed) old.settings.region told w (gone.live h.number h.live) p h.named in
+          let garbage : is_garbage gc p ≡ false = map_none (is_garbage gc) old.settings.region told w (unnamed.live h.number h.live) p h.named in
+          counts p ∙ ap (λ (b : Bool). b || lie_in ranges p) was ∙ are.exact p ∙ neither (nat_eq p.server k) (is_garbage gc p) garbage
+        where
+          neither : (a b : Bool) → b ≡ false → (a && b) ≡ false
+          neither true b none = none
+          neither false b none = refl
+
+      leaves_kept : FoundOnlyKept kind t.before old → LeavesKept kind t.after new k
+      leaves_kept found p on below = (
+        λ free. ⊎_elim
+            (λ freed. absurd (true≢false (sym freed ∙ free)))
+            (λ h. kept_later p h)
+            (left_of found p on (subst (λ (s : ScanView). p.at < mark_of s p.server p.file) scans.older below)),
+        λ h. kept_stays p (kept_before p h),
+      )
+
+      -- where no other number can be read, what is named is named by the map now
+      alone : (rests : IsAtRest old.tables) → gc.running ≡ None → (p : Place) → IsKept kind t.after new p
+          → MapNames new.settings.region later (metadata_now new.tables.kv) p
+      alone rests none p h =
+          let number : h.number ≡ new.tables.kv.number =
+          rests_alone old.tables sound rests.idle.clients rests.idle.jobs rests.image (λ r is. absurd (none_some gc.running r none is)) h.number
+          (free_same.back h.number h.live) ∙ sym free_rest.number in
+          subst (λ (n : ℕ). MapNames new.settings.region later (metadata_at new.tables.kv n) p) number h.named
+
+      collect_on : IsAtStage kind t.before old ScannedTwice → HasCollected kind t.after new k
+      collect_on at = record {
+        rests = rest_later old.tables new.tables free_rest at.rests;
+        left = λ p on file below.
+            let mark : mark_of gc.older p.server p.file ≡ size_in kind t.after k p.file =
+            at.scans.1.marks p.server p.file ∙ ap (λ (j : ℕ). length_in kind t.before j p.file) on
+            ∙ ap (λ (b : Bool). cond b (size_in kind t.before k p.file) 0) (lt-ltb p.file 8 file)
+            ∙ sym (size_same kind t.before t.after many lengths k p.file) in
+            ⊎_elim
+            (λ freed. inl freed)
+            (λ h. inr (alone at.rests at.scans.0 p (kept_later p h)))
+            (left_of (record { older = at.scans.1.only; newer = at.scans.2.only }) p on (omega (arith, below, mark)));
+      }
+
+      pub leaves : Leaves kind t old new k
+      leaves = record { kept = leaves_kept; collected = collect_on }

@@ -1,0 +1,83 @@
+-- Where no transaction and no job is open, and a scan that runs has pinned no other, just the number now and those of the images can be read.
+use Rattle.std.proofs.Common.{◌≡◌, ◌<◌, ℕ, zero, suc, true, ◌||◌, cond, nat_eq, List, [], ◌∷◌, Option, None, Some, refl, sym, ap, ◌∙◌}
+use Rattle.std.proofs.Common.{⊎_elim, arith}
+use Rattle.std.specs.Prelude.{IsTrue}
+use Rattle.std.specs.List.{list_any}
+use Rattle.std.proofs.lemmas.Bool.{or_cases, or_left, or_right, cases_lt, eq-eqb}
+use Rattle.std.proofs.lemmas.List.Sums.{sum_by-cons}
+use Rattle.wtf_kv.specs.Stores.{is_live, is_pinned}
+use Rattle.wtf_kv.proofs.PinLaws.{any-count, count-any}
+use Rattle.wtf_replay.specs.Views.{TxnView}
+use Rattle.wtf_gc.specs.Views.{RunView}
+use Rattle.wtf_clients.specs.Sounds.{all_owned, planned, all_planned, all_seen, AreSound}
+use Rattle.wtf_clients.specs.Views.{Clients, Jobs, TablesView, of_client, of_label}
+use Rattle.wtf_clients.proofs.Lives.{live_cases}
+use Rattle.wtf_core.specs.Quiet.{AreIdle, IsAtRest, is_kept}
+
+none_owned : (n : ℕ) (clients : Clients) → ((c : ℕ) → of_client clients c ≡ None) → all_owned n clients ≡ 0
+none_owned n [] none = refl
+none_owned n ((k, x) ∷ es) none =
+    let there : of_client ((k, x) ∷ es) k ≡ Some x = ap (λ b. cond b (Some x) (of_client es k)) (eq-eqb k k refl) in
+    let bad : ◌≡◌ {A = Option TxnView} None (Some x) = sym (none k) ∙ there in
+    absurd (cc)
+
+none_planned : (n : ℕ) (jobs : Jobs) → ((j : ℕ) → of_label jobs j ≡ None) → all_planned n jobs ≡ 0
+none_planned n [] none = refl
+none_planned n (o ∷ os) none =
+    let whole = sum_by-cons (planned n) o os in
+    let here : planned n o ≡ 0 = ap (planned n) (none zero) in
+    let rest = none_planned n os (λ j. none (suc j)) in
+    omega (arith, whole, here, rest)
+
+-- the numbers that a scan that runs has pinned are kept without it
+abbrev pub SeenKept : TablesView → Type 0
+SeenKept tables = (r : RunView) → tables.beside.gc.running ≡ Some r → (n : ℕ) → list_any (nat_eq n) r.seen ≡ true → is_kept tables n ≡ true
+
+pub live_kept : (tables : TablesView) → AreSound tables → AreIdle tables → SeenKept tables → (n : ℕ) → IsTrue (is_live tables.kv n) → is_kept tables n ≡ true
+live_kept tables sound idle seen n live = ⊎_elim
+    (λ now. or_left (nat_eq n tables.kv.number) (list_any (nat_eq n) tables.beside.images) (eq-eqb n tables.kv.number now))
+    (λ pinned.
+    let some = count-any n tables.kv.pins pinned in
+    let pins = sound.pins n in
+    let owned = none_owned n tables.clients idle.clients in
+    let jobs = none_planned n tables.beside.jobs idle.jobs in
+    ⊎_elim
+    (λ scanned. by tables.beside.gc.running refl scanned)
+    (λ none. or_right (nat_eq n tables.kv.number) (list_any (nat_eq n) tables.beside.images)
+    (any-count n tables.beside.images (omega (arith, some, pins, owned, jobs, none))))
+    (cases_lt 0 (all_seen n tables.beside.gc.running)))
+    (live_cases tables.kv n live)
+  where
+    by : (o : Option RunView) → tables.beside.gc.running ≡ o → 0 < all_seen n o → is_kept tables n ≡ true
+    by None is some = absurd (omega (arith, some))
+    by (Some r) is some = seen r is n (any-count n r.seen some)
+
+pub kept_live : (tables : TablesView) → AreSound tables → (n : ℕ) → is_kept tables n ≡ true → IsTrue (is_live tables.kv n)
+kept_live tables sound n kept = ⊎_elim
+    (λ now. or_left (nat_eq n tables.kv.number) (is_pinned tables.kv n) now)
+    (λ image.
+    let some = count-any n tables.beside.images image in
+    let pins = sound.pins n in
+    or_right (nat_eq n tables.kv.number) (is_pinned tables.kv n) (any-count n tables.kv.pins (omega (arith, some, pins))))
+    (or_cases (nat_eq n tables.kv.number) (list_any (nat_eq n) tables.beside.images) kept)
+
+-- tables of the same number and images
+pub kept_same : (old new : TablesView) → new.kv.number ≡ old.kv.number → new.beside.images ≡ old.beside.images → (n : ℕ) → is_kept new n ≡ is_kept old n
+kept_same old new number images n =
+    ap (λ (m : ℕ). nat_eq n m || list_any (nat_eq n) new.beside.images) number
+    ∙ ap (λ (is : List ℕ). nat_eq n old.kv.number || list_any (nat_eq n) is) images
+
+-- ---- nothing is open, and the keeper holds the image at the number
+pub idle_on : (old new : TablesView) → new.clients ≡ old.clients → new.beside.jobs ≡ old.beside.jobs → AreIdle old → AreIdle new
+idle_on old new clients jobs h = record {
+  clients = λ c. ap (λ (cs : Clients). of_client cs c) clients ∙ h.clients c;
+  jobs = λ j. ap (λ js. of_label js j) jobs ∙ h.jobs j;
+}
+
+pub rests_on : (old new : TablesView) → new.clients ≡ old.clients → new.beside.jobs ≡ old.beside.jobs → new.beside.images ≡ old.beside.images
+    → new.beside.none ≡ old.beside.none → new.kv.number ≡ old.kv.number → IsAtRest old → IsAtRest new
+rests_on old new clients jobs images none number h = record {
+  idle = idle_on old new clients jobs h.idle;
+  image = images ∙ h.image ∙ ap (λ (n : ℕ). n ∷ []) (sym number);
+  some = none ∙ h.some;
+}

@@ -1,0 +1,159 @@
+-- Marks of scans, and what was freed, lie in the files over each line; and what lines but a collection leave freed.
+use Rattle.std.proofs.Common.{◌≡◌, ◌≢◌, ◌≤◌, ℕ, Bool, true, false, cond, nat_eq, nat_lt, List, Option, Some, refl, sym, ap, ◌∙◌, subst, arith}
+use Rattle.wtf_dev.specs.Each.{EachFollows}
+use Rattle.wtf_dev.specs.Store.{Range, StoreKind, KindLaws}
+use Rattle.wtf_replica.specs.Inside.{size_in}
+use Rattle.wtf_replica.specs.Spans.{Span}
+use Rattle.wtf_region.specs.declared.dev.Dev.{Dev}
+use Rattle.wtf_model.specs.declared.answer.Answer.{Answer}
+use Rattle.wtf_model.specs.declared.answer.Answer.TheVariants as answer
+use Rattle.wtf_model.specs.declared.answer.Word.TheVariants.{ScanBusy, NoScan}
+use Rattle.wtf_model.specs.declared.event.Event.{Event}
+use Rattle.wtf_model.specs.declared.event.Event.TheVariants as event
+use Rattle.wtf_gc.specs.declared.extent.Extent.{Extent}
+use Rattle.wtf_gc.specs.Scans.{run_on, with_run, with_finished}
+use Rattle.wtf_gc.specs.Views.{RunView, GcView, length_in}
+use Rattle.wtf_clients.specs.Safe.{scan_of, AreUpto, LieIn}
+use Rattle.wtf_clients.specs.ScanTurns.{ScanTurn, StartsTurn, PieceTurn, PieceFails, DoesTurn}
+use Rattle.wtf_clients.specs.Sounds.{AreSound}
+use Rattle.wtf_clients.specs.Views.{BesideView, TablesView}
+use Rattle.wtf_clients.proofs.Added.{sizes_grow}
+use Rattle.wtf_clients.proofs.Collected.{collect_lie}
+use Rattle.wtf_clients.proofs.Freeing.{collect_freed}
+use Rattle.wtf_clients.proofs.SafeLaws.{lie_on}
+use Rattle.wtf_core.specs.Turns.{LineTurn}
+use Rattle.wtf_core.specs.Views.{CoreView}
+use Rattle.wtf_core.proofs.Aged.{line_aged}
+use Rattle.wtf_core.proofs.Stamped.{IsOther}
+
+-- ---- a scan
+-- the length of a file as it is noted is at most its length
+noted_upto : {S : Type 0} (kind : StoreKind S) (shelf : List S) (k f : ℕ) → length_in kind shelf k f ≤ size_in kind shelf k f
+noted_upto kind shelf k f = by (nat_lt f 8) (size_in kind shelf k f)
+  where
+    by : (b : Bool) (n : ℕ) → cond b n 0 ≤ n
+    by true n = omega arith
+    by false n = omega arith
+
+starts_lie : {S : Type 0} (kind : StoreKind S) (shelf : List S) (old new : TablesView) → StartsTurn kind shelf old new
+    → LieIn old.beside.gc (size_in kind shelf) → LieIn new.beside.gc (size_in kind shelf)
+starts_lie kind shelf old new h lie =
+    subst (λ (g : GcView). LieIn g (size_in kind shelf)) (sym h.starts.is) (record {
+      older = lie.older;
+      newer = lie.newer;
+      last = λ k f. let is = h.starts.mark k f in let le = noted_upto kind shelf k f in omega (arith, is, le);
+      freed = lie.freed;
+    })
+
+scan_lie : {S : Type 0} (kind : StoreKind S) (shelf : List S) (old new : TablesView) (a : Answer) → ScanTurn kind shelf old new a
+    → LieIn old.beside.gc (size_in kind shelf) → LieIn new.beside.gc (size_in kind shelf)
+scan_lie kind shelf old new (answer.Refused ScanBusy) h lie = subst (λ (t : TablesView). LieIn t.beside.gc (size_in kind shelf)) (sym h.0) lie
+scan_lie kind shelf old new (answer.Held who) h lie = subst (λ (t : TablesView). LieIn t.beside.gc (size_in kind shelf)) (sym h.0) lie
+scan_lie kind shelf old new answer.Scanning h lie = starts_lie kind shelf old new h lie
+scan_lie kind shelf old new a h lie = absurd h
+
+-- ---- parts of one
+-- the marks of the scan that runs go on
+parts_lie : (g : GcView) (r : RunView) (n : ℕ) (found : List Extent) (length : ℕ → ℕ → ℕ) → g.running ≡ Some r → LieIn g length
+    → LieIn (with_run g (run_on r n found)) length
+parts_lie g r n found length runs lie =
+    let last : AreUpto r.scan length = subst (λ (o : Option RunView). AreUpto (scan_of o g.newer) length) runs lie.last in
+    by last (nat_eq (run_on r n found).left 0)
+  where
+    by : AreUpto r.scan length → (b : Bool) → LieIn (cond b (with_finished g (run_on r n found).scan) (record g { running = Some (run_on r n found) })) length
+    by last true = record { older = lie.newer; newer = last; last = last; freed = lie.freed }
+    by last false = record { older = lie.older; newer = lie.newer; last = last; freed = lie.freed }
+
+piece_lie : {S : Type 0} (kind : StoreKind S) (before after : Dev S) (old new : TablesView) (n : ℕ) (length : ℕ → ℕ → ℕ) (a : Answer)
+    → PieceTurn kind before after old new n a → LieIn old.beside.gc length → LieIn new.beside.gc length
+piece_lie kind before after old new n length a h lie = by a h
+  where
+    does : (left : ℕ) → DoesTurn kind before after old new n left → LieIn new.beside.gc length
+    does left d = subst (λ (g : GcView). LieIn g length) (sym d.does.is) (parts_lie old.beside.gc d.does.run n d.does.found length d.does.was lie)
+
+    fails : (b : Answer) → PieceFails kind before after old new n b → LieIn new.beside.gc length
+    fails b f = subst (λ (s : BesideView). LieIn s.gc length) (sym f.pruned.beside) lie
+
+    by : (b : Answer) → PieceTurn kind before after old new n b → LieIn new.beside.gc length
+    by (answer.Refused NoScan) g = subst (λ (t : TablesView). LieIn t.beside.gc length) (sym g.0) lie
+    by (answer.More left) g = does left g.1
+    by answer.Done g = does 0 g
+    by b g = fails b g
+
+-- ---- each line
+module _ {S : Type 0} {kind : StoreKind S} (laws : KindLaws kind) (t : Span S) (old new : CoreView) (sound : AreSound old.tables) (a : Answer)
+    (ranges : List (ℕ × Range)) (follows : EachFollows kind t.before t.after ranges) (lie : LieIn old.tables.beside.gc (size_in kind t.before)) where
+  grown : (g : GcView) → LieIn g (size_in kind t.before) → LieIn g (size_in kind t.after)
+  grown g h = lie_on g (size_in kind t.before) (size_in kind t.after) (sizes_grow laws t.before t.after ranges follows) h
+
+  other_lie : (e : Event) → IsOther e → LineTurn kind t old new e a → LieIn new.tables.beside.gc (size_in kind t.after)
+  other_lie e other turn = grown new.tables.beside.gc
+      (subst (λ (g : GcView). LieIn g (size_in kind t.before)) (sym (line_aged kind t old new sound a e other turn).gc) lie)
+
+  pub line_lie : (e : Event) → LineTurn kind t old new e a → LieIn new.tables.beside.gc (size_in kind t.after)
+  line_lie event.Scan turn = grown new.tables.beside.gc (scan_lie kind t.before old.tables new.tables a turn.0 lie)
+  line_lie (event.Piece n) turn =
+      grown new.tables.beside.gc (piece_lie kind turn.0.before turn.0.after old.tables new.tables n (size_in kind t.before) a turn.0.did lie)
+  line_lie (event.Collect k) turn =
+      let by = turn.0 in
+      subst (λ (s : Span S). LieIn old.tables.beside.gc (size_in kind s.before) → LieIn new.tables.beside.gc (size_in kind s.after)) by.lent.span_is
+      (collect_lie laws (collect_freed laws by.before by.after old.tables new.tables k a by.did)) lie
+  line_lie (event.Client c v) turn = other_lie (event.Client c v) tt turn
+  line_lie (event.Plan j job p r) turn = other_lie (event.Plan j job p r) tt turn
+  line_lie (event.Put j) turn = other_lie (event.Put j) tt turn
+  line_lie (event.DropJob j) turn = other_lie (event.DropJob j) tt turn
+  line_lie (event.Down k) turn = other_lie (event.Down k) tt turn
+  line_lie (event.Up k) turn = other_lie (event.Up k) tt turn
+  line_lie (event.Dump p) turn = other_lie (event.Dump p) tt turn
+  line_lie event.Tree turn = other_lie event.Tree tt turn
+  line_lie event.Save turn = other_lie event.Save tt turn
+
+-- ---- what is freed
+does_freed : (g : GcView) (r : RunView) → (with_run g r).freed ≡ g.freed
+does_freed g r = by (nat_eq r.left 0)
+  where
+    by : (b : Bool) → (cond b (with_finished g r.scan) (record g { running = Some r })).freed ≡ g.freed
+    by true = refl
+    by false = refl
+
+piece_freed : {S : Type 0} (kind : StoreKind S) (before after : Dev S) (old new : TablesView) (n : ℕ) (a : Answer)
+    → PieceTurn kind before after old new n a → new.beside.gc.freed ≡ old.beside.gc.freed
+piece_freed kind before after old new n a h = by a h
+  where
+    does : (left : ℕ) → DoesTurn kind before after old new n left → new.beside.gc.freed ≡ old.beside.gc.freed
+    does left d = ap (λ (g : GcView). g.freed) d.does.is ∙ does_freed old.beside.gc (run_on d.does.run n d.does.found)
+
+    fails : (b : Answer) → PieceFails kind before after old new n b → new.beside.gc.freed ≡ old.beside.gc.freed
+    fails b f = ap (λ (s : BesideView). s.gc.freed) f.pruned.beside
+
+    by : (b : Answer) → PieceTurn kind before after old new n b → new.beside.gc.freed ≡ old.beside.gc.freed
+    by (answer.Refused NoScan) g = ap (λ (t : TablesView). t.beside.gc.freed) g.0
+    by (answer.More left) g = does left g.1
+    by answer.Done g = does 0 g
+    by b g = fails b g
+
+scan_freed : {S : Type 0} (kind : StoreKind S) (shelf : List S) (old new : TablesView) (a : Answer) → ScanTurn kind shelf old new a
+    → new.beside.gc.freed ≡ old.beside.gc.freed
+scan_freed kind shelf old new (answer.Refused ScanBusy) h = ap (λ (t : TablesView). t.beside.gc.freed) h.0
+scan_freed kind shelf old new (answer.Held who) h = ap (λ (t : TablesView). t.beside.gc.freed) h.0
+scan_freed kind shelf old new answer.Scanning h = ap (λ (g : GcView). g.freed) h.starts.is
+scan_freed kind shelf old new a h = absurd h
+
+module _ {S : Type 0} (kind : StoreKind S) (t : Span S) (old new : CoreView) (sound : AreSound old.tables) (a : Answer) where
+  other_freed : (e : Event) → IsOther e → LineTurn kind t old new e a → new.tables.beside.gc.freed ≡ old.tables.beside.gc.freed
+  other_freed e other turn = ap (λ (g : GcView). g.freed) (line_aged kind t old new sound a e other turn).gc
+
+  pub line_freed : (e : Event) → ((k : ℕ) → e ≢ event.Collect k) → LineTurn kind t old new e a
+      → new.tables.beside.gc.freed ≡ old.tables.beside.gc.freed
+  line_freed event.Scan other turn = scan_freed kind t.before old.tables new.tables a turn.0
+  line_freed (event.Piece n) other turn = piece_freed kind turn.0.before turn.0.after old.tables new.tables n a turn.0.did
+  line_freed (event.Collect k) other turn = absurd (other k refl)
+  line_freed (event.Client c v) other turn = other_freed (event.Client c v) tt turn
+  line_freed (event.Plan j job p r) other turn = other_freed (event.Plan j job p r) tt turn
+  line_freed (event.Put j) other turn = other_freed (event.Put j) tt turn
+  line_freed (event.DropJob j) other turn = other_freed (event.DropJob j) tt turn
+  line_freed (event.Down k) other turn = other_freed (event.Down k) tt turn
+  line_freed (event.Up k) other turn = other_freed (event.Up k) tt turn
+  line_freed (event.Dump p) other turn = other_freed (event.Dump p) tt turn
+  line_freed event.Tree other turn = other_freed event.Tree tt turn
+  line_freed event.Save other turn = other_freed event.Save tt turn

@@ -1,0 +1,132 @@
+-- What a line punches: a collection alone, and only garbage.
+use Rattle.std.proofs.Common.{◌≡◌, ◌≢◌, ◌≤◌, ℕ, Bool, true, false, List, [], ◌++◌, length, IfOk, OnErr, Result, Ok, Err, refl, sym, ◌∙◌, ap, subst, arith}
+use Rattle.std.specs.Prelude.{◌||◌, ⊤}
+use Rattle.wtf_dev.specs.Each.{EachFollows}
+use Rattle.wtf_dev.specs.Store.{Range, StoreKind, KindLaws}
+use Rattle.wtf_model.specs.declared.answer.Answer.{Answer}
+use Rattle.wtf_model.specs.declared.answer.Answer.TheVariants as answer
+use Rattle.wtf_model.specs.declared.answer.Word.TheVariants.{NoServer, NoScan}
+use Rattle.wtf_model.specs.declared.event.Event.{Event}
+use Rattle.wtf_model.specs.declared.event.Event.TheVariants as event
+use Rattle.wtf_replica.specs.Faults.{punched_on}
+use Rattle.wtf_replica.specs.Spans.{Span}
+use Rattle.wtf_region.specs.declared.dev.Dev.{Dev}
+use Rattle.wtf_region.specs.Devs.{IsSoundDev, GoesOn, stores, remembered, is_down_in}
+use Rattle.wtf_region.proofs.Spans.{goes_nowhere, goes_on}
+use Rattle.wtf_gc.specs.declared.extent.Extent.{Extent}
+use Rattle.wtf_gc.specs.Extents.{covers}
+use Rattle.wtf_gc.specs.Frees.{tried_on}
+use Rattle.wtf_gc.specs.Views.{GcView}
+use Rattle.wtf_clients.specs.ScanTurns.{CollectTurn, CollectsSome}
+use Rattle.wtf_clients.specs.Views.{TablesView}
+use Rattle.wtf_clients.proofs.Freeing.{front_apart}
+use Rattle.wtf_clients.proofs.Punched.{tried_among}
+use Rattle.wtf_core.specs.Punched.{IsUncollected, ArePunchedBy, CountsAs}
+use Rattle.wtf_core.specs.Remembering.{KeepsLists, KeepsPunched}
+use Rattle.wtf_core.specs.Turns.{LineTurn}
+use Rattle.wtf_core.specs.Views.{CoreView}
+use Rattle.wtf_clients.specs.Sounds.{AreSound}
+use Rattle.wtf_clients.proofs.Making.{if_ok}
+use Rattle.wtf_core.proofs.Answering.{line_uncollected}
+use Rattle.wtf_core.proofs.Marked.{line_freed}
+use Rattle.wtf_core.proofs.Remembering.{goes_keeps}
+
+or_none : (b : Bool) → (b || false) ≡ b
+or_none true = refl
+or_none false = refl
+
+-- ---- a line that punches nothing
+unpunched_by : (gc : GcView) (e : Event) (a : Answer) → ((k : ℕ) → e ≢ event.Collect k) → IsUncollected a → ArePunchedBy gc e a []
+unpunched_by gc (event.Collect k) a other none = absurd (other k refl)
+unpunched_by gc e a other none = (refl, none)
+
+counts_same : (old new : GcView) (a : Answer) → new.freed ≡ old.freed → CountsAs old new a []
+counts_same old new (answer.FaultPunch k) same = (
+  [],
+  [],
+  refl,
+  omega arith,
+  λ p. ap (λ (es : List Extent). covers es p) same ∙ sym (or_none (covers old.freed p)),
+)
+counts_same old new a same = λ p. ap (λ (es : List Extent). covers es p) same ∙ sym (or_none (covers old.freed p))
+
+-- ---- a collection
+-- where a range was not freed at most one was punched
+one_tried : (down : Bool) (k : ℕ) (r : Range) → length (punched_on down k r) ≤ 1
+one_tried true k r = omega arith
+one_tried false k r = omega arith
+
+-- the lists that are remembered then are true, but of slices of which a byte was punched
+module _ {S : Type 0} {kind : StoreKind S} (laws : KindLaws kind) (before after : Dev S) (sound : IsSoundDev kind before) (old new : CoreView) (k : ℕ)
+    (settings : before.settings ≡ old.settings) (was : remembered before ≡ old.lists) (is : new.lists ≡ remembered after) where
+  kept_by : (a : Answer) (ranges : List (ℕ × Range)) → ArePunchedBy old.tables.beside.gc (event.Collect k) a ranges
+      → CountsAs old.tables.beside.gc new.tables.beside.gc a ranges → GoesOn kind before after ranges
+      → KeepsPunched kind (stores before) (stores after) old new (event.Collect k) a
+  kept_by a ranges are counts goes = record {
+    punches = record { ranges = ranges; are = are; counts = counts; follows = goes.each };
+    lists = goes_keeps kind before after old new goes settings was is;
+  }
+
+  none_kept : (w : _) → new.tables ≡ old.tables → after ≡ before
+      → KeepsPunched kind (stores before) (stores after) old new (event.Collect k) (answer.Refused w)
+  none_kept w same stay =
+      kept_by (answer.Refused w) [] (refl, tt)
+      (counts_same old.tables.beside.gc new.tables.beside.gc (answer.Refused w) (ap (λ (t : TablesView). t.beside.gc.freed) same))
+      (subst (λ (dev : Dev S). GoesOn kind before dev []) (sym stay) (goes_nowhere laws before sound))
+
+  some_kept : (j : ℕ) → CollectsSome kind before after old.tables new.tables k j
+      → KeepsPunched kind (stores before) (stores after) old new (event.Collect k) (answer.FaultPunch j)
+  some_kept j h =
+      let f = h.frees in
+      let down : Bool = is_down_in f.mid k in
+      kept_by (answer.FaultPunch j) (f.ranges ++ tried_on f.mid (k, f.tried))
+      (record {
+        apart = front_apart f.ranges f.rest down k f.tried f.are.apart;
+        among = λ p here. sym (f.are.exact p) ∙ tried_among down f.ranges f.rest k f.tried p here;
+      })
+      (f.ranges, tried_on f.mid (k, f.tried), refl, one_tried down k f.tried, f.counts.freed)
+      (goes_on laws f.goes f.last)
+
+  pub collect_keeps : (a : Answer) → CollectTurn kind before after old.tables new.tables k a
+      → KeepsPunched kind (stores before) (stores after) old new (event.Collect k) a
+  collect_keeps (answer.Refused NoServer) h = none_kept NoServer h.0 h.1
+  collect_keeps (answer.Refused NoScan) h = none_kept NoScan h.0 h.1
+  collect_keeps (answer.Collected n) h =
+      kept_by (answer.Collected n) h.1.frees.ranges (h.1.frees.are, h.1.frees.count) h.1.frees.counts.freed h.1.frees.goes
+  collect_keeps (answer.FaultPunch j) h = some_kept j h.1
+  collect_keeps a h = absurd h
+
+-- ---- a line that collects nothing
+abbrev pub IsUncollecting : Event → Type 0
+IsUncollecting (event.Collect k) = ⊥
+IsUncollecting e = ⊤
+
+uncollecting : (e : Event) → IsUncollecting e → (k : ℕ) → e ≢ event.Collect k
+uncollecting e plain k is = subst IsUncollecting is plain
+
+pub none_keeps : {S : Type 0} (kind : StoreKind S) (t : Span S) (old new : CoreView) → AreSound old.tables → (e : Event) (a : Answer)
+    → LineTurn kind t old new e a → IsUncollecting e → EachFollows kind t.before t.after [] → KeepsLists kind t.before t.after [] old new
+    → KeepsPunched kind t.before t.after old new e a
+none_keeps kind t old new sound e a turn plain follows lists =
+    let other = uncollecting e plain in
+    record {
+      punches = record {
+        ranges = [];
+        are = unpunched_by old.tables.beside.gc e a other (line_uncollected kind t old new a e other turn);
+        counts = counts_same old.tables.beside.gc new.tables.beside.gc a (line_freed kind t old new sound a e other turn);
+        follows = follows;
+      };
+      lists = lists;
+    }
+
+pub if_keeps : {S : Type 0} (kind : StoreKind S) (t : Span S) (old new : CoreView) → AreSound old.tables → (e : Event) {E : Type 0} (r : Result Answer E)
+    → IfOk r (LineTurn kind t old new e) → IsUncollecting e → EachFollows kind t.before t.after [] → KeepsLists kind t.before t.after [] old new
+    → IfOk r (KeepsPunched kind t.before t.after old new e)
+if_keeps kind t old new sound e r turn plain follows lists =
+    if_ok r (LineTurn kind t old new e) (KeepsPunched kind t.before t.after old new e) turn
+    (λ a did. none_keeps kind t old new sound e a did plain follows lists)
+
+-- what holds whatever came of a line
+pub on_err : {A E : Type 0} (r : Result A E) (P : Type 0) → P → OnErr r P
+on_err (Ok a) P h = tt
+on_err (Err why) P h = h

@@ -1,0 +1,149 @@
+-- Lines of scans and collections keep the tables sound, and a scan names nothing new.
+use Rattle.std.proofs.Common.{◌≡◌, ◌∙◌, ℕ, List, [], Result, Ok, Err, IfOk, OnErr, sym, ap, subst}
+use Rattle.wtf_base.specs.declared.settings.Settings.{Settings}
+use Rattle.wtf_dev.specs.Store.{Range, StoreKind, KindLaws}
+use Rattle.wtf_ring.specs.Points.{IsRing}
+use Rattle.wtf_replica.specs.Downs.{is_down}
+use Rattle.wtf_replica.specs.Spans.{span}
+use Rattle.wtf_region.specs.declared.dev.Dev.{Dev}
+use Rattle.wtf_region.specs.Cached.{CacheTrue}
+use Rattle.wtf_region.specs.Devs.{IsSoundDev, GoesOn, stores, remembered, told_in}
+use Rattle.wtf_replica.proofs.Bytes.{byte_at-kept}
+use Rattle.wtf_region.proofs.Spans.{goes_nowhere, goes_on}
+use Rattle.wtf_meta.specs.Contents.{Told}
+use Rattle.wtf_model.specs.declared.answer.Answer.{Answer}
+use Rattle.wtf_model.specs.declared.answer.Answer.TheVariants as answer
+use Rattle.wtf_model.specs.declared.answer.Word.TheVariants.{NoServer, ScanBusy, NoScan}
+use Rattle.wtf_clients.specs.Named.{TablesBytes}
+use Rattle.wtf_clients.specs.Safe.{IsSafe}
+use Rattle.wtf_clients.specs.ScanTurns.{ScanTurn, DoesTurn, PieceTurn, CollectTurn}
+use Rattle.wtf_clients.specs.Telling.{TellsTables}
+use Rattle.wtf_clients.specs.Serves.{NamesTables, IsPlain}
+use Rattle.wtf_clients.specs.Sounds.{AreSound}
+use Rattle.wtf_clients.specs.Views.{BesideView, TablesView}
+use Rattle.wtf_clients.proofs.ScanFrames.{start_sound, start_reads, start_maps}
+use Rattle.wtf_clients.proofs.ScanLaws.{kept_names}
+use Rattle.wtf_clients.proofs.Scanning.{later_safe, tells_after, piece_tells, piece_safe, pruned_tells, pruned_safe}
+use Rattle.wtf_clients.proofs.ScanMays.{piece_sound, collect_sound}
+use Rattle.wtf_core.specs.Turns.{IsByDevices}
+use Rattle.wtf_core.specs.Views.{CoreView}
+use Rattle.wtf_core.proofs.Whole.{sound_either}
+
+module _ {S : Type 0} (kind : StoreKind S) (shelf : List S) (old new : TablesView) (sound : AreSound old) where
+  pub scan_sound : (a : Answer) → ScanTurn kind shelf old new a → AreSound new
+  scan_sound (answer.Refused ScanBusy) h = subst AreSound (sym h.0) sound
+  scan_sound (answer.Held who) h = subst AreSound (sym h.0) sound
+  scan_sound answer.Scanning h = start_sound kind shelf old new sound h
+  scan_sound a h = absurd h
+
+  pub scan_names : (a : Answer) → ScanTurn kind shelf old new a → NamesTables old new
+  scan_names (answer.Refused ScanBusy) h = λ P Q hole was. subst (λ (t : TablesView). TablesBytes P Q t) (sym h.0) was
+  scan_names (answer.Held who) h = λ P Q hole was. subst (λ (t : TablesView). TablesBytes P Q t) (sym h.0) was
+  scan_names answer.Scanning h =
+      kept_names old new sound (start_reads kind shelf old new sound h) (λ n live. start_maps kind shelf old new sound h n) h.clients
+      (ap (λ (b : BesideView). b.jobs) h.beside)
+  scan_names a h = absurd h
+
+  pub scan_plain : (a : Answer) → ScanTurn kind shelf old new a → IsPlain a
+  scan_plain (answer.Refused ScanBusy) h = tt
+  scan_plain (answer.Held who) h = tt
+  scan_plain answer.Scanning h = tt
+  scan_plain a h = absurd h
+
+-- whatever came of it
+pub sound_of_scan : {S : Type 0} (kind : StoreKind S) (shelf : List S) {E : Type 0} (r : Result Answer E) (old new : TablesView) → AreSound old
+    → IfOk r (ScanTurn kind shelf old new) → OnErr r (AreSound new) → AreSound new
+sound_of_scan kind shelf r old new sound ok err = sound_either r (ScanTurn kind shelf old new) (AreSound new) ok err (scan_sound kind shelf old new sound)
+
+pub sound_of_piece : {S : Type 0} (kind : StoreKind S) {E : Type 0} (r : Result Answer E) (before after : Dev S) (old new : TablesView) (n : ℕ)
+    → AreSound old → IfOk r (PieceTurn kind before after old new n) → OnErr r (AreSound new) → AreSound new
+sound_of_piece kind r before after old new n sound ok err =
+    sound_either r (PieceTurn kind before after old new n) (AreSound new) ok err (piece_sound kind before after old new n sound)
+
+pub sound_of_collect : {S : Type 0} (kind : StoreKind S) {E : Type 0} (r : Result Answer E) (before after : Dev S) (old new : TablesView) (k : ℕ)
+    → AreSound old → IfOk r (CollectTurn kind before after old new k) → OnErr r (new ≡ old) → AreSound new
+sound_of_collect kind (Ok a) before after old new k sound turn err = collect_sound kind before after old new k sound a turn
+sound_of_collect kind (Err why) before after old new k sound turn err = subst AreSound (sym err) sound
+
+-- devices that were lent
+pub by_devices : {S : Type 0} (kind : StoreKind S) (before after : Dev S) (old new : CoreView) (P : Dev S → Dev S → Type 0) → before.settings ≡ old.settings
+    → after.settings ≡ before.settings → before.replicas.now ≡ old.replicas → IsRing old.settings.servers before.ring.now.points → IsSoundDev kind before
+    → remembered before ≡ old.lists → remembered after ≡ new.lists → P before after
+    → IsByDevices kind (span (is_down old.replicas) (stores before) (stores after)) old new P
+by_devices kind before after old new P settings same replicas ring sound was is did = record {
+  before = before;
+  after = after;
+  lent = record {
+    span_is = ap (λ r. span (is_down r) (stores before) (stores after)) replicas;
+    settings_are = settings;
+    lists_are = was;
+    ring_is = ring;
+  };
+  settings_after = same ∙ settings;
+  sound = sound;
+  remembered_before = was;
+  remembered_after = is;
+  did = did;
+}
+
+-- ---- parts of a scan over stores that tell
+module _ {S : Type 0} {kind : StoreKind S} (laws : KindLaws kind) (before after : Dev S) (goes : GoesOn kind before after []) (old new : TablesView)
+    (sound : AreSound old) (tells : TellsTables kind (stores before) before.settings (remembered before) old) where
+  abbrev told : Told
+  told = told_in kind before
+
+  abbrev later : Told
+  later = told_in kind after
+
+  abbrev size : ℕ
+  size = before.settings.region
+
+  abbrev Next : Type 0
+  Next = TellsTables kind (stores after) before.settings (remembered after) new × (IsSafe size told old → IsSafe size later new)
+
+  -- the lists that are remembered are true still
+  stay : (ranges : List (ℕ × Range)) → CacheTrue told size ranges (remembered before) → CacheTrue later size ranges (remembered after)
+  stay ranges h = subst (λ (s : Settings). CacheTrue later s.region ranges (remembered after)) goes.settings (goes.lists ranges h)
+
+  same_next : new ≡ old → Next
+  same_next same = (
+    tells_after laws before after goes.each goes.settings old new sound tells stay
+        (λ P Q hole h. subst (λ (t : TablesView). TablesBytes P Q t) (sym same) h),
+    λ safe. subst (λ (t : TablesView). IsSafe size later t) (sym same)
+        (later_safe size told later (λ p byte is. byte_at-kept laws goes.each p byte tt is) old sound tells.names safe),
+  )
+
+  does_next : (n left : ℕ) → DoesTurn kind before after old new n left → Next
+  does_next n left h = (
+    piece_tells laws before after goes.each goes.settings old new sound tells n left h stay,
+    piece_safe laws before after goes.each goes.settings old new sound tells n left h,
+  )
+
+  pub piece_next : (n : ℕ) (a : Answer) → PieceTurn kind before after old new n a → Next
+  piece_next n (answer.Refused NoScan) h = same_next h.0
+  piece_next n (answer.More left) h = does_next n left h.1
+  piece_next n answer.Done h = does_next n 0 h
+  piece_next n a h = (
+    pruned_tells laws before after goes.each goes.settings old new sound tells h.pruned stay,
+    pruned_safe laws before after goes.each goes.settings old new sound tells h.pruned,
+  )
+
+-- ---- a collection
+-- what was lent goes on, with ranges that were punched
+module _ {S : Type 0} {kind : StoreKind S} (laws : KindLaws kind) (before after : Dev S) (sound : IsSoundDev kind before) (old new : TablesView) (k : ℕ) where
+  abbrev pub Goes : Type 0
+  Goes = (ranges : List (ℕ × Range)) × GoesOn kind before after ranges
+
+  nowhere : after ≡ before → Goes
+  nowhere stay = ([], subst (λ (dev : Dev S). GoesOn kind before dev []) (sym stay) (goes_nowhere laws before sound))
+
+  collect_goes : (a : Answer) → CollectTurn kind before after old new k a → Goes
+  collect_goes (answer.Refused NoServer) h = nowhere h.1
+  collect_goes (answer.Refused NoScan) h = nowhere h.1
+  collect_goes (answer.Collected n) h = (h.1.frees.ranges, h.1.frees.goes)
+  collect_goes (answer.FaultPunch j) h = (_, goes_on laws h.1.frees.goes h.1.frees.last)
+  collect_goes a h = absurd h
+
+  pub goes_of_collect : {E : Type 0} (r : Result Answer E) → IfOk r (CollectTurn kind before after old new k) → OnErr r (GoesOn kind before after []) → Goes
+  goes_of_collect (Ok a) turn err = collect_goes a turn
+  goes_of_collect (Err why) turn err = ([], err)
