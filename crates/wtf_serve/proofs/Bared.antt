@@ -169,6 +169,9 @@ bare_served kind handed opening status source source' stock stock' g f p taken' 
         taken = s.taken;
         mid = s.mid;
         ran = s.ran;
+        rest = s.rest;
+        rest_none = s.rest_none;
+        rest_line = s.rest_line;
         rest_follows = s.rest_follows;
         at_end = s.at_end;
         rest_adds = s.rest_adds;
@@ -194,7 +197,9 @@ bare_served kind handed opening status source source' stock stock' g f p taken' 
         complete = λ enough still.
             s.complete enough (record { source_is = still.source_is; sink_is = still.sink_is; stores = still.stores; keeper = still.keeper });
         left = s.left;
+        left_within = s.left_within;
         next = s.next;
+        quiet = s.quiet;
       },
     )
 

@@ -1,5 +1,5 @@
 -- A run goes on where the last one ended.
-use Rattle.std.proofs.Common.{◌≡◌, ◌≢◌, ◌<◌, ◌≤◌, ◌+◌, ℕ, List, [], ◌∷◌, length, refl, sym, ◌∙◌, ap, subst, arith, inl, inr}
+use Rattle.std.proofs.Common.{◌≡◌, ◌≢◌, ◌<◌, ◌≤◌, ◌+◌, ℕ, true, List, [], ◌∷◌, length, take, refl, sym, ◌∙◌, ap, subst, arith, inl, inr}
 use Rattle.std.proofs.lemmas.Bool.{cases_lt}
 use Rattle.wtf_base.specs.declared.settings.Settings.{Settings}
 use Rattle.wtf_words.specs.Words.{Numbers, numbers}
@@ -11,7 +11,8 @@ use Rattle.wtf_meta.specs.Contents.{Told}
 use Rattle.wtf_image.specs.Rows.{ImageRows}
 use Rattle.wtf_image.specs.Rules.{size_in}
 use Rattle.wtf_core.specs.Pictured.{IsImageOfTree, IsImageWith}
-use Rattle.wtf_serve.specs.Endings.{Devices, IsNext}
+use Rattle.wtf_core.specs.Telling.{stores_of}
+use Rattle.wtf_serve.specs.Endings.{Devices}
 use Rattle.wtf_serve.specs.Continued.{IsWhole, BeginsBehind, GoesOnFrom}
 use Rattle.wtf_serve.specs.Logs.{last}
 use Rattle.wtf_serve.specs.Openings.{Opening, Opens, IsTakenOver, StartsFrom}
@@ -67,21 +68,15 @@ module _ {S : Type 0} (kind : StoreKind S) (handed handed' : List (List ℕ) →
   abbrev machine : Machine
   machine = last whole.opened.opening whole.tree whole.opened.served.log
 
-  -- what the first run left
-  left : IsNext (size_in kind new.stock.shelf) whole.opened.opening machine whole.opened.served.log.lines status whole.kept
-      × IsImageOfTree (byte_at kind new.stock.shelf) whole.kept machine.now
-  left =
-      let served = whole.opened.served in
-      let started = began handed status served.log.lines old new served.started served.unstarted whole.end in (
-        served.next started whole.tells whole.telling whole.number whole.next_tx whole.tree whole.from whole.kept whole.held,
-        (served.left started whole.tells whole.telling whole.number whole.next_tx whole.tree whole.from whole.kept whole.held).saved whole.end,
-      )
+  started : whole.opened.served.started ≡ true
+  started = began handed status whole.opened.served.log.lines old new whole.opened.served.started whole.opened.served.unstarted whole.end
 
-  -- over the stores of the second
+  -- what the first run left, over the stores of the second
   there : (next : ℕ) × (next ≤ whole.opened.opening.next_tx + length whole.opened.served.log.lines)
       × IsImageWith (size_in kind old'.stock.shelf) whole.opened.opening.settings machine.number next whole.kept
   there =
-      let (next, few, is) = left.0.saved whole.end in
+      let left = whole.opened.served.next started whole.tells whole.telling whole.number whole.next_tx whole.tree whole.from whole.kept whole.held in
+      let (next, few, is) = left.saved whole.end in
       (next, few, subst (λ (s : List S). IsImageWith (size_in kind s) whole.opened.opening.settings machine.number next whole.kept) (sym behind.shelf) is)
 
   -- there were stores enough, and are
@@ -108,9 +103,10 @@ module _ {S : Type 0} (kind : StoreKind S) (handed handed' : List (List ℕ) →
             ((run_refused kind handed' asked' status' old' new' whole.kept behind.held run).0 e).2,
       )
 
-  pub goes_on_again : (o : IsOpened kind handed' asked' status' old' new')
-      → GoesOnFrom (byte_at kind old'.stock.shelf) whole.opened.opening whole.tree whole.opened.served.log o.opening
-  goes_on_again o =
+  -- over what is told that its image stands over
+  goes_on_over : (told : Told) → IsImageOfTree told whole.kept machine.now → (o : IsOpened kind handed' asked' status' old' new')
+      → GoesOnFrom told whole.opened.opening whole.tree whole.opened.served.log o.opening
+  goes_on_over told image o =
       let (next, few, is) = there in
       let bytes : o.opening.bytes ≡ whole.kept = o.given whole.kept behind.held in
       let opens = subst (λ (b : List ℕ). Opens asked' b o.opening) bytes o.opens in
@@ -120,8 +116,25 @@ module _ {S : Type 0} (kind : StoreKind S) (handed handed' : List (List ℕ) →
         settings = settings;
         number = number;
         next_tx = omega (arith, next_tx, few);
-        starts = subst (λ (b : List ℕ). StartsFrom (byte_at kind old'.stock.shelf) b machine.now) (sym bytes)
-            (subst (λ (s : List S). StartsFrom (byte_at kind s) whole.kept machine.now) (sym behind.shelf)
-            (starts_of (byte_at kind new.stock.shelf) (size_in kind old'.stock.shelf) whole.opened.opening.settings machine.number next whole.kept machine.now
-            is left.1));
+        starts = subst (λ (b : List ℕ). StartsFrom told b machine.now) (sym bytes)
+            (starts_of told (size_in kind old'.stock.shelf) whole.opened.opening.settings machine.number next whole.kept machine.now is image);
       }
+
+  pub goes_on_again : (o : IsOpened kind handed' asked' status' old' new')
+      → GoesOnFrom (byte_at kind old'.stock.shelf) whole.opened.opening whole.tree whole.opened.served.log o.opening
+  goes_on_again o =
+      let left = whole.opened.served.left started whole.tells whole.telling whole.number whole.next_tx whole.tree whole.from whole.kept whole.held in
+      goes_on_over (byte_at kind old'.stock.shelf)
+      (subst (λ (s : List S). IsImageOfTree (byte_at kind s) whole.kept machine.now) (sym behind.shelf) (left.saved whole.end)) o
+
+  -- and over the stores of the settings' servers by themselves
+  pub goes_on_within : StartsFrom (byte_at kind (stores_of whole.opened.opening.settings old.stock.shelf)) whole.opened.opening.bytes whole.tree
+      → (o : IsOpened kind handed' asked' status' old' new')
+      → GoesOnFrom (byte_at kind (stores_of o.opening.settings old'.stock.shelf)) whole.opened.opening whole.tree whole.opened.served.log o.opening
+  goes_on_within from o =
+      let left = whole.opened.served.left_within started whole.tells whole.telling whole.number whole.next_tx whole.tree from whole.kept whole.held in
+      let servers : o.opening.settings.servers ≡ whole.opened.opening.settings.servers = ap (λ (n : Numbers). n.servers) (goes_on_again o).settings in
+      goes_on_over (byte_at kind (stores_of o.opening.settings old'.stock.shelf))
+      (subst (λ (n : ℕ). IsImageOfTree (byte_at kind (take n old'.stock.shelf)) whole.kept machine.now) (sym servers)
+      (subst (λ (s : List S). IsImageOfTree (byte_at kind (stores_of whole.opened.opening.settings s)) whole.kept machine.now) (sym behind.shelf)
+      (left.saved whole.end))) o

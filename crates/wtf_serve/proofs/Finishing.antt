@@ -1,41 +1,52 @@
 -- How a run ends, without a further line or with one that is not written.
-use Rattle.std.proofs.Common.{◌≡◌, ◌≢◌, ◌↔◌, ◌<◌, ◌≤◌, ◌^◌, ℕ, Bool, true, false, List, [], ◌∷◌, ◌++◌, length, Option, Some, None, Result, Ok, Err, refl, sym}
-use Rattle.std.proofs.Common.{◌∙◌, ap, subst, arith, append_assoc, inl, inr}
+use Rattle.std.proofs.Common.{◌≡◌, ◌≢◌, ◌↔◌, ◌⊎◌, ◌<◌, ◌≤◌, ◌^◌, ℕ, Bool, true, false, List, [], ◌∷◌, ◌++◌, length, Option, Some, None, Result, Ok}
+use Rattle.std.proofs.Common.{Err, refl, sym, ◌∙◌, ap, subst, arith, append_assoc, inl, inr}
 use Rattle.std.proofs.lemmas.List.{length-append}
 use Rattle.wtf_base.specs.declared.settings.Settings.{Settings}
+use Rattle.wtf_base.specs.Places.{Place}
 use Rattle.wtf_dev.specs.Counts.{Rose}
 use Rattle.wtf_dev.proofs.Keeping.{rose_in}
 use Rattle.wtf_dev.specs.Streams.{SinkView}
 use Rattle.wtf_dev.specs.Each.{EachFollows}
-use Rattle.wtf_dev.specs.Store.{KindLaws}
+use Rattle.wtf_dev.specs.Store.{Range, KindLaws}
 use Rattle.wtf_dev.specs.Sums.{TellsAll}
 use Rattle.wtf_dev.proofs.Each.{each_same, each_on}
-use Rattle.wtf_dev.proofs.Sums.{tells_all-kept}
 use Rattle.wtf_replica.specs.Bytes.{byte_at}
 use Rattle.wtf_replica.specs.Outs.{SameLengths}
 use Rattle.wtf_replica.specs.Spans.{span}
+use Rattle.wtf_model.specs.declared.answer.Answer.{Answer}
 use Rattle.wtf_model.specs.declared.answer.Answer.TheVariants as answer
 use Rattle.wtf_model.specs.declared.event.Event.TheVariants as event
 use Rattle.wtf_model.specs.Machines.{Machine}
 use Rattle.wtf_model.specs.Tree.{Tree}
-use Rattle.wtf_model.specs.Lines.{after_line}
+use Rattle.wtf_model.specs.Lines.{Line, after_line}
 use Rattle.wtf_model.specs.Servers.{none_down, is_device_fault, is_device_fault_of_run, count_along}
+use Rattle.wtf_meta.specs.Contents.{Told}
+use Rattle.wtf_replay.proofs.Later.{tells_on}
 use Rattle.wtf_image.specs.Rules.{size_in}
+use Rattle.wtf_core.specs.Pictured.{HoldsTree}
+use Rattle.wtf_core.specs.Telling.{stores_of}
+use Rattle.wtf_core.proofs.FirstStores.{first_later}
+use Rattle.wtf_core.proofs.Telling.{first_on}
 use Rattle.wtf_script.specs.declared.limits.TheConstants.{SCRIPT_BYTES}
 use Rattle.wtf_serve.specs.declared.service.Stop.{Stop}
 use Rattle.wtf_serve.specs.declared.service.Stop.TheVariants as stop
 use Rattle.wtf_serve.specs.Beginnings.{Closes}
-use Rattle.wtf_serve.specs.Endings.{Devices, IsServedStatus, IsEarlyStatus, stop_status, IsLeft, IsNext, Served}
+use Rattle.wtf_serve.specs.Endings.{Devices, IsServedStatus, IsEarlyStatus, stop_status, IsNextLine, IsOfCollect, IsLeft, IsNext, Served}
 use Rattle.wtf_serve.specs.Engines.{Engine, Step, step, IsLawful, IsAnswer}
 use Rattle.wtf_serve.specs.Logs.{asked, last, last_downs, output}
 use Rattle.wtf_serve.specs.Openings.{Opening, StartsFrom}
-use Rattle.wtf_serve.specs.Passes.{Hand, step_of, PassIs}
+use Rattle.wtf_serve.specs.Passes.{Hand, step_of, IsLeftOut, PassIs}
+use Rattle.wtf_serve.specs.Punched.{ArePunchedIn}
+use Rattle.wtf_serve.specs.Quiet.{HasQuietEnding, AreUsed}
 use Rattle.wtf_serve.specs.Scripts.{line_of, IsEndStatus, IsWholeStatus, end_status}
 use Rattle.wtf_serve.specs.Stocks.{Stock, IsSaveFault, IsTelling, HoldsOneOf, HoldsStart, HoldsJust, KeeperGoesOn}
 use Rattle.wtf_serve.specs.Traces.{HasRead}
 use Rattle.wtf_serve.proofs.Closing.{closing_rose, still_count, still_save, still_status}
 use Rattle.wtf_serve.proofs.Going.{Going, given_then, counted_then, room_now}
-use Rattle.wtf_serve.proofs.Picturing.{holds_on, image_held, one_alone, start_on, next_saved, next_kept, next_out}
+use Rattle.wtf_serve.proofs.Leaving.{KeepsWithin, left_saved, left_failed, left_early, left_short, left_out}
+use Rattle.wtf_serve.proofs.Picturing.{holds_on, starts_on, start_on, next_saved, next_kept, next_out}
+use Rattle.wtf_serve.proofs.PunchLaws.{only_still}
 use Rattle.wtf_serve.proofs.RanLaws.{longer, lawful_more, last_more, so_far_more}
 use Rattle.wtf_serve.proofs.Rising.{up_faults}
 use Rattle.wtf_serve.proofs.Telling.{told_more, told_front, told_end, told_fault, told_much, told_other}
@@ -47,24 +58,75 @@ ends_as false = inl refl
 pub never : (n m : ℕ) → (n ≡ m → ⊥) → (k : ℕ) → k ≤ SCRIPT_BYTES → (n ≡ m) ↔ (SCRIPT_BYTES < k)
 never n m differ k few = ((λ e. absurd (differ e)), (λ h. absurd (omega (arith, few, h))))
 
+-- what a line punched that is the next one of the script
+of_collect : (freed : Place → Bool) (script : Option (List ℕ)) (lines : List (List ℕ)) (line : List ℕ) → IsNextLine script lines line → (asked : Line)
+    → line_of line ≡ asked → (a : Answer) (ranges : List (ℕ × Range)) → ArePunchedIn freed asked a ranges
+    → (ranges ≡ []) ⊎ IsOfCollect script lines ranges
+of_collect freed script lines line next (Ok (event.Collect k)) asks (answer.Collected n) ranges h =
+    inr (record { line = line; next = next; server = k; asks = asks; apart = h.0.apart; there = λ p here. (h.0.fresh p here).0 })
+of_collect freed script lines line next (Ok (event.Collect k)) asks (answer.FaultPunch j) ranges h =
+    inr (record { line = line; next = next; server = k; asks = asks; apart = h.apart; there = λ p here. (h.fresh p here).0 })
+of_collect freed script lines line next asked asks a ranges h = inl h.0
+
 -- with another status there were stores enough
 pub enough : (status n servers : ℕ) → status ≢ 2 → servers ≤ n → (status ≡ 2) ↔ (n < servers)
 enough status n servers not_2 many = ((λ e. absurd (not_2 e)), (λ h. absurd (omega (arith, many, h))))
 
 -- The end of a run so far
-module _ {S State : Type 0} (engine : Engine S State) (laws : KindLaws engine.kind) (handed : List (List ℕ) → Type 0) (opening : Opening) (start : Devices S)
-    (now next : Hand S State) (bad : Bool) (g : Going engine opening start now bad) where
-  -- what the premises of the last part give of what was left on the keeper
+module _ {S State : Type 0} (engine : Engine S State) (laws : KindLaws engine.kind) (keeps : KeepsWithin engine) (handed : List (List ℕ) → Type 0)
+    (opening : Opening) (start : Devices S) (now next : Hand S State) (bad : Bool) (g : Going engine opening start now bad) where
+  -- a shelf's bytes, and those of the stores of the settings' servers by themselves
+  abbrev all_told : List S → Told
+  all_told shelf = byte_at engine.kind shelf
+
+  abbrev first_told : List S → Told
+  first_told shelf = byte_at engine.kind (stores_of opening.settings shelf)
+
+  -- the run starts from a tree that stands over the latter
+  abbrev StartsWithin : Tree → Type 0
+  StartsWithin t = StartsFrom (first_told start.stock.shelf) opening.bytes t
+
+  -- so that stands over all stores
+  starts_wide : (t : Tree) → StartsWithin t → StartsFrom (all_told start.stock.shelf) opening.bytes t
+  starts_wide t from = starts_on (first_told start.stock.shelf) (all_told start.stock.shelf) opening.bytes t
+      (first_on laws start.stock.shelf opening.settings) from
+
+  -- what the premises of the last part give of what was left on the keeper, and of the bytes that a quiet ending has left
   abbrev Leaves : (status : ℕ) (final : Stock S) → Type 0
   Leaves status final = TellsAll engine.kind start.stock.shelf → IsTelling start.stock.keeper opening.bytes → opening.number ≤ 2 ^ 61 → opening.next_tx ≤ 2 ^ 61
-      → (t : Tree) → StartsFrom (byte_at engine.kind start.stock.shelf) opening.bytes t → (bytes : List ℕ) → final.keeper.held ≡ Some bytes
-      → IsLeft (byte_at engine.kind final.shelf) (last opening t g.log) start.source.rest g.log.lines status bytes
+      → (t : Tree) → StartsFrom (all_told start.stock.shelf) opening.bytes t → (bytes : List ℕ) → final.keeper.held ≡ Some bytes
+      → IsLeft (all_told final.shelf) (last opening t g.log) start.source.rest g.log.lines status bytes
       × IsNext (size_in engine.kind final.shelf) opening (last opening t g.log) g.log.lines status bytes
+      × (IsEndStatus status → (k : ℕ) → HasQuietEnding opening t g.log k
+      → AreUsed (all_told final.shelf) (size_in engine.kind final.shelf) g.so_far.ran.punched bytes k)
+      × (StartsWithin t → IsLeft (first_told final.shelf) (last opening t g.log) start.source.rest g.log.lines status bytes)
+
+  -- what the keeper holds that stands over all stores stands over the latter
+  within_now : TellsAll engine.kind start.stock.shelf → IsTelling start.stock.keeper opening.bytes → (t : Tree) → StartsWithin t → (may : List Tree)
+      → HoldsOneOf engine.kind now.stock may → HoldsTree now.stock.keeper (first_told now.stock.shelf) may
+  within_now tells telling t from may held =
+      subst (λ (s : Settings). HoldsTree now.stock.keeper (byte_at engine.kind (stores_of s now.stock.shelf)) may) g.so_far.settings
+      (keeps now.stock now.state (last opening t g.log) may g.sound (g.so_far.stands tells t (starts_wide t from)) ((g.so_far.told tells).within_from t from)
+      (g.kept telling) held)
+
+  -- and so it does behind a line that was answered
+  within_then : (final : Stock S) (state' : State) (line : Line) (a : Answer) → IsAnswer engine (step now.stock final now.state state') line a
+      → TellsAll engine.kind start.stock.shelf → IsTelling start.stock.keeper opening.bytes → (t : Tree) → StartsWithin t → (may : List Tree)
+      → HoldsOneOf engine.kind final may → HoldsTree final.keeper (first_told final.shelf) may
+  within_then final state' line a is tells telling t from may held =
+      let named = (g.so_far.told tells).tells t (starts_wide t from) in
+      let m = last opening t g.log in
+      let stands = g.so_far.stands tells t (starts_wide t from) in
+      subst (λ (s : Settings). HoldsTree final.keeper (byte_at engine.kind (stores_of s final.shelf)) may) (is.goes_on.settings ∙ g.so_far.settings)
+      (keeps final state' (after_line m line a) may is.goes_on.sound (is.lawful named m stands).stands
+      ((is.told named m stands).within ((g.so_far.told tells).within_from t from)) (is.goes_on.kept (g.keeper.tells ∙ telling.tells) (g.kept telling)) held)
 
   -- the run ends without a further line
   finish : (status : ℕ) (final : Stock S) (result : Result (Option Bool) Stop) → PassIs engine now next result
-      → EachFollows engine.kind now.stock.shelf final.shelf [] → KeeperGoesOn now.stock.keeper final.keeper
-      → (IsEarlyStatus status → now.stock ≡ final) → (IsWholeStatus status → SameLengths engine.kind now.stock.shelf final.shelf)
+      → (rest : List (ℕ × Range)) → (status ≢ 7 → rest ≡ []) → (rest ≡ []) ⊎ IsOfCollect start.source.rest g.log.lines rest
+      → EachFollows engine.kind now.stock.shelf final.shelf rest
+      → KeeperGoesOn now.stock.keeper final.keeper → (IsEarlyStatus status → now.stock ≡ final)
+      → (IsWholeStatus status → SameLengths engine.kind now.stock.shelf final.shelf)
       → ((script : List ℕ) → start.source.rest ≡ Some script → HasRead script next.input.source.rest status g.log.lines)
       → next.sink ≡ now.sink → status ≢ 2 → status ≢ 4
       → (status ≡ 9) ↔ (SCRIPT_BYTES < next.input.held.count) → IsServedStatus status → (IsEndStatus status → status ≡ end_status bad)
@@ -72,7 +134,7 @@ module _ {S State : Type 0} (engine : Engine S State) (laws : KindLaws engine.ki
       → (status ≡ 5 → IsSaveFault engine.kind (span (last_downs g.log) now.stock.shelf final.shelf) opening.settings.servers now.stock.keeper final.keeper)
       → Leaves status final
       → Served engine.kind handed opening status start (record { source = next.input.source; sink = next.sink; stock = final })
-  finish status final result pass follows keeper at_end adds read same_sink not_2 not_4 limit statuses ends cause why left =
+  finish status final result pass rest none by_line follows keeper at_end adds read same_sink not_2 not_4 limit statuses ends cause why left =
       let rose : status ≡ 3 → Rose start.source.faults next.input.source.faults
       = λ is. rose_in start.source.faults now.input.source.faults next.input.source.faults next.input.source.faults g.source_faults (cause is) (omega arith) in
       record {
@@ -81,6 +143,9 @@ module _ {S State : Type 0} (engine : Engine S State) (laws : KindLaws engine.ki
         taken = next.input.held.count;
         mid = now.stock;
         ran = g.so_far.ran;
+        rest = rest;
+        rest_none = none;
+        rest_line = by_line;
         rest_follows = follows;
         at_end = at_end;
         rest_adds = adds;
@@ -122,8 +187,27 @@ module _ {S State : Type 0} (engine : Engine S State) (laws : KindLaws engine.ki
               g.so_far.ran.follows_on follows g.keeper still end (why is)) still.source_is still.sink_is,
         );
         left = λ _ tells telling number next_tx t from bytes held. (left tells telling number next_tx t from bytes held).0;
+        left_within = λ _ tells telling number next_tx t from bytes held. (left tells telling number next_tx t (starts_wide t from) bytes held).3 from;
         next = λ _ tells telling number next_tx t from bytes held. (left tells telling number next_tx t from bytes held).1;
+        quiet = λ k end tells telling number next_tx t from bytes held. (left tells telling number next_tx t from bytes held).2 end k;
       }
+
+  -- for want of memory, where no line was answered
+  short_left : (final : Stock S) → EachFollows engine.kind now.stock.shelf final.shelf [] → final.keeper ≡ now.stock.keeper → Leaves 7 final
+  short_left final follows same = λ tells telling number next_tx tree from bytes held.
+      let m = last opening tree g.log in
+      let holds = g.saved tells telling number next_tx tree from in (
+        left_short (all_told final.shelf) m start.source.rest g.log.lines final.keeper bytes held
+            (holds_on (all_told now.stock.shelf) (all_told final.shelf) (tells_on laws follows) now.stock.keeper final.keeper m.may_be_saved same holds),
+        next_kept engine.kind opening m g.log.lines final bytes held (engine.number now.state) (engine.next_tx now.state) 7
+            (λ e. omega (arith, e)) (g.number_is tells tree from) g.begun
+            (start_on laws now.stock final opening.settings (engine.number now.state) (engine.next_tx now.state) follows same
+            (g.start_holds tells telling number next_tx tree from)),
+        λ end. absurd (omega (arith, end)),
+        λ within. left_short (first_told final.shelf) m start.source.rest g.log.lines final.keeper bytes held
+            (holds_on (first_told now.stock.shelf) (first_told final.shelf) (first_later laws opening.settings follows) now.stock.keeper final.keeper
+            m.may_be_saved same (within_now tells telling tree within m.may_be_saved holds)),
+      )
 
   -- ---- the closing save, where a pass came to the end of the script
 
@@ -139,33 +223,37 @@ module _ {S State : Type 0} (engine : Engine S State) (laws : KindLaws engine.ki
 
     lawful : (a : _) → IsAnswer engine t (Ok event.Save) a → TellsAll engine.kind start.stock.shelf → (tree : Tree)
         → StartsFrom (byte_at engine.kind start.stock.shelf) opening.bytes tree → IsLawful engine t (last opening tree g.log) (Ok event.Save) a
-    lawful a is tells tree from = is.lawful (tells_all-kept laws g.so_far.ran.follows_on tells) (last opening tree g.log) (g.so_far.stands tells tree from)
+    lawful a is tells tree from =
+        is.lawful ((g.so_far.told tells).tells tree from) (last opening tree g.log) (g.so_far.stands tells tree from)
 
     finish_saved : (status n : ℕ) → status ≡ end_status bad → IsEndStatus status → IsAnswer engine t (Ok event.Save) (answer.Saved n)
         → Served engine.kind handed opening status start (record { source = next.input.source; sink = next.sink; stock = final })
     finish_saved status n is_end ends is =
-        finish status final (Ok None) came follows keeper
+        finish status final (Ok None) came [] (λ _. refl) (inl refl) follows keeper
         (λ early. absurd (omega (arith, early, ends))) (λ _. is.stored) (read_whole status (inl ends)) came.came.1.sink
         (λ e. omega (arith, e, ends)) (λ e. omega (arith, e, ends))
         (never status 9 (λ e. omega (arith, e, ends)) next.input.held.count (came.limit (λ e. cc))) (inl (inl ends)) (λ _. is_end)
         (λ e. absurd (omega (arith, e, ends))) (λ e. absurd (omega (arith, e, ends)))
         (λ tells telling number next_tx tree from bytes held.
         let room = room_now engine laws opening start now next bad g number next_tx in
+        let m = last opening tree g.log in
         let law = lawful (answer.Saved n) is tells tree from in
-        let one = image_held (byte_at engine.kind final.shelf) final.keeper bytes ((last opening tree g.log).now ∷ [])
-        (law.saved (g.keeper.tells ∙ telling.tells) room (g.saved tells telling number next_tx tree from)) held in
-        let (image, image_is, some) = is.kept (g.keeper.tells ∙ telling.tells) in (
-          record {
-            saved = λ _. one_alone (byte_at engine.kind final.shelf) bytes (last opening tree g.log).now
-                (λ none. some (same_bytes image bytes (sym image_is ∙ held) ∙ none)) one;
-            failed = λ e. absurd (omega (arith, e, ends));
-            early = λ e. absurd (omega (arith, e, ends));
-            memory = λ e. absurd (omega (arith, e, ends));
-          },
+        let holds = law.saved (g.keeper.tells ∙ telling.tells) room (g.kept telling) (g.saved tells telling number next_tx tree from) in
+        let (image, image_is, some) = is.kept (g.keeper.tells ∙ telling.tells) in
+        let bytes_some : bytes ≡ [] → ⊥ = λ none. some (same_bytes image bytes (sym image_is ∙ held) ∙ none) in (
+          left_saved (all_told final.shelf) m start.source.rest g.log.lines final.keeper bytes held status ends bytes_some holds,
           next_saved engine.kind opening (last opening tree g.log) g.log.lines final bytes held (engine.number now.state) (engine.next_tx now.state) status ends
               (g.number_is tells tree from) g.begun
               (subst (λ (x : Settings). HoldsJust engine.kind final x (engine.number now.state) (engine.next_tx now.state)) g.so_far.settings
               (law.leaves (g.keeper.tells ∙ telling.tells) room)),
+          λ _ k quiet p on file below. elim
+              (law.left k n (g.so_far.collected tells tree from k quiet) refl refl (g.keeper.tells ∙ telling.tells) bytes held p on file below) [
+                | inl freed ↦ inl (only_still (engine.freed now.state) (engine.freed state') (answer.Saved n) g.so_far.ran.punched is.punched.ranges
+                    is.punched.counts is.punched.are.0 g.so_far.punched.only p freed)
+                | inr names ↦ inr names
+              ],
+          λ within. left_saved (first_told final.shelf) m start.source.rest g.log.lines final.keeper bytes held status ends bytes_some
+              (within_then final state' (Ok event.Save) (answer.Saved n) is tells telling tree within (m.now ∷ []) holds),
         ))
       where
         same_bytes : (a b : List ℕ) → Some a ≡ Some b → a ≡ b
@@ -179,35 +267,33 @@ module _ {S State : Type 0} (engine : Engine S State) (laws : KindLaws engine.ki
         (ap (λ s. s.servers) g.so_far.settings)
         (subst (λ (d : ℕ → Bool). IsSaveFault engine.kind (span d now.stock.shelf final.shelf) (engine.settings now.state).servers now.stock.keeper
         final.keeper) g.so_far.downs is.kept) in
-        finish 5 final (Ok None) came follows keeper
+        finish 5 final (Ok None) came [] (λ _. refl) (inl refl) follows keeper
         (λ early. absurd (omega (arith, early))) (λ _. is.stored) (read_whole 5 (inr refl)) came.came.1.sink
         (λ e. omega (arith, e)) (λ e. omega (arith, e))
         (never 5 9 (λ e. omega (arith, e)) next.input.held.count (came.limit (λ e. cc))) (inl (inr refl)) (λ ends. absurd (omega (arith, ends)))
         (λ e. absurd (omega (arith, e))) (λ _. why)
         (λ tells telling number next_tx tree from bytes held.
         let room = room_now engine laws opening start now next bad g number next_tx in
+        let m = last opening tree g.log in
         let law = lawful answer.FaultSave is tells tree from in
+        let holds = law.saved (g.keeper.tells ∙ telling.tells) room (g.kept telling) (g.saved tells telling number next_tx tree from) in
         let was = subst (λ (x : Settings). HoldsStart engine.kind now.stock x (engine.number now.state) (engine.next_tx now.state)) (sym g.so_far.settings)
         (g.start_holds tells telling number next_tx tree from) in (
-          record {
-            saved = λ e. absurd (omega (arith, e));
-            failed = λ _. image_held (byte_at engine.kind final.shelf) final.keeper bytes
-                ((last opening tree g.log).may_be_saved ++ (last opening tree g.log).now ∷ [])
-                (law.saved (g.keeper.tells ∙ telling.tells) room (g.saved tells telling number next_tx tree from)) held;
-            early = λ e. absurd (omega (arith, e));
-            memory = λ e. absurd (omega (arith, e));
-          },
+          left_failed (all_told final.shelf) m start.source.rest g.log.lines final.keeper bytes held holds,
           next_kept engine.kind opening (last opening tree g.log) g.log.lines final bytes held (engine.number state') (engine.next_tx state') 5
               (λ e. omega (arith, e)) law.number
               (omega (arith, is.goes_on.same_next_tx refl, g.begun))
               (subst (λ (x : Settings). HoldsStart engine.kind final x (engine.number state') (engine.next_tx state')) g.so_far.settings
               (law.taken (g.keeper.tells ∙ telling.tells) room was)),
+          λ end. absurd (omega (arith, end)),
+          λ within. left_failed (first_told final.shelf) m start.source.rest g.log.lines final.keeper bytes held
+              (within_then final state' (Ok event.Save) answer.FaultSave is tells telling tree within (m.may_be_saved ++ m.now ∷ []) holds),
         ))
 
     finish_short : final.keeper ≡ now.stock.keeper
         → Served engine.kind handed opening 7 start (record { source = next.input.source; sink = next.sink; stock = final })
     finish_short same =
-        finish 7 final (Ok None) came follows keeper
+        finish 7 final (Ok None) came [] (λ _. refl) (inl refl) follows keeper
         (λ early. absurd (omega (arith, early))) (λ whole. absurd (omega (arith, whole)))
         (λ script e. told_other script now.input.source.rest next.input.source.rest now.input.held g.log.lines 7 (λ d. omega (arith, d)) (λ d. omega (arith, d))
         (λ d. omega (arith, d)) (λ d. absurd (omega (arith, d)))
@@ -216,19 +302,7 @@ module _ {S State : Type 0} (engine : Engine S State) (laws : KindLaws engine.ki
         (never 7 9 (λ e. omega (arith, e)) next.input.held.count (came.limit (λ e. cc))) (inr (inr (inr (inr (inl refl)))))
         (λ ends. absurd (omega (arith, ends)))
         (λ e. absurd (omega (arith, e))) (λ e. absurd (omega (arith, e)))
-        (λ tells telling number next_tx tree from bytes held. (
-          record {
-            saved = λ e. absurd (omega (arith, e));
-            failed = λ e. absurd (omega (arith, e));
-            early = λ e. absurd (omega (arith, e));
-            memory = λ _. inl (image_held (byte_at engine.kind final.shelf) final.keeper bytes (last opening tree g.log).may_be_saved
-                (holds_on laws now.stock final (last opening tree g.log).may_be_saved follows same (g.saved tells telling number next_tx tree from)) held);
-          },
-          next_kept engine.kind opening (last opening tree g.log) g.log.lines final bytes held (engine.number now.state) (engine.next_tx now.state) 7
-              (λ e. omega (arith, e)) (g.number_is tells tree from) g.begun
-              (start_on laws now.stock final opening.settings (engine.number now.state) (engine.next_tx now.state) follows same
-              (g.start_holds tells telling number next_tx tree from)),
-        ))
+        (short_left final follows same)
 
     closed : (status : ℕ) → Closes engine t bad status
         → Served engine.kind handed opening status start (record { source = next.input.source; sink = next.sink; stock = final })
@@ -257,27 +331,31 @@ module _ {S State : Type 0} (engine : Engine S State) (laws : KindLaws engine.ki
 
   -- at which the run left what it had in hand
   early_left : (status : ℕ) → next.stock ≡ now.stock → IsEarlyStatus status → Leaves status next.stock
-  early_left status same early = λ tells telling number next_tx tree from bytes held. (
-    record {
-      saved = λ e. absurd (omega (arith, e, early));
-      failed = λ e. absurd (omega (arith, e, early));
-      early = λ _. image_held (byte_at engine.kind next.stock.shelf) next.stock.keeper bytes (last opening tree g.log).may_be_saved
-          (subst (λ (s : Stock S). HoldsOneOf engine.kind s (last opening tree g.log).may_be_saved) (sym same)
-          (g.saved tells telling number next_tx tree from)) held;
-      memory = λ e. absurd (omega (arith, e, early));
-    },
-    next_kept engine.kind opening (last opening tree g.log) g.log.lines next.stock bytes held (engine.number now.state) (engine.next_tx now.state) status
-        (λ e. omega (arith, e, early)) (g.number_is tells tree from) g.begun
-        (subst (λ (s : Stock S). HoldsStart engine.kind s opening.settings (engine.number now.state) (engine.next_tx now.state)) (sym same)
-        (g.start_holds tells telling number next_tx tree from)),
-  )
+  early_left status same early = λ tells telling number next_tx tree from bytes held.
+      let m = last opening tree g.log in
+      let holds = g.saved tells telling number next_tx tree from in (
+        left_early (all_told next.stock.shelf) m start.source.rest g.log.lines next.stock.keeper bytes held status early
+            (subst (λ (s : Stock S). HoldsTree s.keeper (all_told s.shelf) m.may_be_saved) (sym same) holds),
+        next_kept engine.kind opening m g.log.lines next.stock bytes held (engine.number now.state) (engine.next_tx now.state) status
+            (λ e. omega (arith, e, early)) (g.number_is tells tree from) g.begun
+            (subst (λ (s : Stock S). HoldsStart engine.kind s opening.settings (engine.number now.state) (engine.next_tx now.state)) (sym same)
+            (g.start_holds tells telling number next_tx tree from)),
+        λ end. absurd (omega (arith, end, early)),
+        λ within. left_early (first_told next.stock.shelf) m start.source.rest g.log.lines next.stock.keeper bytes held status early
+            (subst (λ (s : Stock S). HoldsTree s.keeper (first_told s.shelf) m.may_be_saved) (sym same)
+            (within_now tells telling tree within m.may_be_saved holds)),
+      )
+
+  -- nothing was punched
+  still : next.stock ≡ now.stock → EachFollows engine.kind now.stock.shelf next.stock.shelf []
+  still same = subst (λ (s : Stock S). EachFollows engine.kind now.stock.shelf s.shelf []) (sym same) (each_same laws now.stock.shelf)
 
   finish_unread : PassIs engine now next (Err stop.Unread)
       → Served engine.kind handed opening 3 start (record { source = next.input.source; sink = next.sink; stock = next.stock })
   finish_unread pass =
       let (came, quiet) = pass.came in
       let (reads, rose, unended) = came in
-      finish 3 next.stock (Err stop.Unread) pass pass.follows_on pass.keeper
+      finish 3 next.stock (Err stop.Unread) pass [] (λ _. refl) (inl refl) (still quiet.stock) pass.keeper
       (λ _. sym quiet.stock) (λ whole. absurd (omega (arith, whole)))
       (λ script e. told_fault script now.input.source.rest next.input.source.rest now.input.held next.input.held g.log.lines unended (g.read script e) reads)
       quiet.sink (λ e. omega (arith, e)) (λ e. omega (arith, e))
@@ -289,7 +367,7 @@ module _ {S State : Type 0} (engine : Engine S State) (laws : KindLaws engine.ki
   finish_too_much pass =
       let (came, quiet) = pass.came in
       let (reads, full, unended) = came in
-      finish 9 next.stock (Err stop.TooMuch) pass pass.follows_on pass.keeper
+      finish 9 next.stock (Err stop.TooMuch) pass [] (λ _. refl) (inl refl) (still quiet.stock) pass.keeper
       (λ _. sym quiet.stock) (λ whole. absurd (omega (arith, whole)))
       (λ script e. let told = g.read script e in
       told_much script now.input.source.rest next.input.source.rest now.input.held next.input.held g.log.lines unended g.count told reads
@@ -298,66 +376,56 @@ module _ {S State : Type 0} (engine : Engine S State) (laws : KindLaws engine.ki
       ((λ _. omega (arith, full)), (λ _. refl)) (inr (inr (inr (inr (inr refl))))) (λ ends. absurd (omega (arith, ends))) (λ e. absurd (omega (arith, e)))
       (λ e. absurd (omega (arith, e))) (early_left 9 quiet.stock (inr (inr (inr refl))))
 
-  -- for want of memory, where the keeper is as it was, or a line was answered
-  memory_left : PassIs engine now next (Err stop.Memory) → Leaves 7 next.stock
-  memory_left pass = λ tells telling number next_tx tree from bytes held.
-      let was = g.saved tells telling number next_tx tree from in
-      let held_start = g.start_holds tells telling number next_tx tree from in
-      let room = room_now engine laws opening start now next bad g number next_tx in
-      elim pass.came.kept [
-        | inl same ↦ (
-          record {
-            saved = λ e. absurd (omega (arith, e));
-            failed = λ e. absurd (omega (arith, e));
-            early = λ e. absurd (omega (arith, e));
-            memory = λ _. inl (image_held (byte_at engine.kind next.stock.shelf) next.stock.keeper bytes (last opening tree g.log).may_be_saved
-                (holds_on laws now.stock next.stock (last opening tree g.log).may_be_saved pass.follows_on same was) held);
-          },
-          next_kept engine.kind opening (last opening tree g.log) g.log.lines next.stock bytes held (engine.number now.state) (engine.next_tx now.state) 7
-              (λ e. omega (arith, e)) (g.number_is tells tree from) g.begun
-              (start_on laws now.stock next.stock opening.settings (engine.number now.state) (engine.next_tx now.state) pass.follows_on same held_start),
-        )
-        | inr out ↦
-            let is = out.out.is in
-            let law = is.lawful (tells_all-kept laws g.so_far.ran.follows_on tells) (last opening tree g.log) (g.so_far.stands tells tree from) in (
-              record {
-                saved = λ e. absurd (omega (arith, e));
-                failed = λ e. absurd (omega (arith, e));
-                early = λ e. absurd (omega (arith, e));
-                memory = λ _. inr (record {
-                  line = out.line;
-                  next = λ all e.
-                      let (more, all_is) = told_front all next.input.source.rest next.input.held (g.log.lines ++ out.line ∷ [])
-                      (told_more all now.input.source.rest next.input.source.rest now.input.held next.input.held g.log.lines out.line
-                      (g.read all e) out.came) in
-                      (more, all_is ∙ append_assoc g.log.lines (out.line ∷ []) more);
-                  answer = out.out.answer;
-                  may = law.may;
-                  image = image_held (byte_at engine.kind next.stock.shelf) next.stock.keeper bytes
-                      (after_line (last opening tree g.log) (line_of out.line) out.out.answer).may_be_saved
-                      (law.saved (g.keeper.tells ∙ telling.tells) room was) held;
-                });
-              },
-              next_out engine.kind opening (last opening tree g.log) g.log.lines next.stock bytes held (engine.number next.state) (engine.next_tx next.state)
-                  (omega (arith, is.goes_on.number, g.number_is tells tree from)) (omega (arith, is.goes_on.next_tx, g.begun))
-                  (subst (λ (x : Settings). HoldsStart engine.kind next.stock x (engine.number next.state) (engine.next_tx next.state)) g.so_far.settings
-                  (law.taken (g.keeper.tells ∙ telling.tells) room
-                  (subst (λ (x : Settings). HoldsStart engine.kind now.stock x (engine.number now.state) (engine.next_tx now.state))
-                  (sym g.so_far.settings) held_start))),
-            )
-      ]
+  -- the line that was answered, whose text was not written
+  out_line : (out : IsLeftOut engine now next) → IsNextLine start.source.rest g.log.lines out.line
+  out_line out all e =
+      let (more, all_is) = told_front all next.input.source.rest next.input.held (g.log.lines ++ out.line ∷ [])
+      (told_more all now.input.source.rest next.input.source.rest now.input.held next.input.held g.log.lines out.line (g.read all e) out.came) in
+      (more, all_is ∙ append_assoc g.log.lines (out.line ∷ []) more)
 
-  finish_memory : PassIs engine now next (Err stop.Memory)
+  -- or where one was, whose text was not written
+  memory_out : PassIs engine now next (Err stop.Memory) → IsLeftOut engine now next → Leaves 7 next.stock
+  memory_out pass out = λ tells telling number next_tx tree from bytes held.
+      let room = room_now engine laws opening start now next bad g number next_tx in
+      let is = out.out.is in
+      let a = out.out.answer in
+      let m = last opening tree g.log in
+      let law = is.lawful ((g.so_far.told tells).tells tree from) m (g.so_far.stands tells tree from) in
+      let holds = law.saved (g.keeper.tells ∙ telling.tells) room (g.kept telling) (g.saved tells telling number next_tx tree from) in (
+        left_out (all_told next.stock.shelf) m start.source.rest g.log.lines next.stock.keeper bytes held out.line (out_line out) a law.may holds,
+        next_out engine.kind opening m g.log.lines next.stock bytes held (engine.number next.state) (engine.next_tx next.state)
+            (omega (arith, is.goes_on.number, g.number_is tells tree from)) (omega (arith, is.goes_on.next_tx, g.begun))
+            (subst (λ (x : Settings). HoldsStart engine.kind next.stock x (engine.number next.state) (engine.next_tx next.state)) g.so_far.settings
+            (law.taken (g.keeper.tells ∙ telling.tells) room
+            (subst (λ (x : Settings). HoldsStart engine.kind now.stock x (engine.number now.state) (engine.next_tx now.state))
+            (sym g.so_far.settings) (g.start_holds tells telling number next_tx tree from)))),
+        λ end. absurd (omega (arith, end)),
+        λ within. left_out (first_told next.stock.shelf) m start.source.rest g.log.lines next.stock.keeper bytes held out.line (out_line out) a law.may
+            (within_then next.stock next.state (line_of out.line) a is tells telling tree within (after_line m (line_of out.line) a).may_be_saved holds),
+      )
+
+  finish_short_of : (rest : List (ℕ × Range)) → (rest ≡ []) ⊎ IsOfCollect start.source.rest g.log.lines rest
+      → EachFollows engine.kind now.stock.shelf next.stock.shelf rest → PassIs engine now next (Err stop.Memory) → Leaves 7 next.stock
       → Served engine.kind handed opening 7 start (record { source = next.input.source; sink = next.sink; stock = next.stock })
-  finish_memory pass =
-      finish 7 next.stock (Err stop.Memory) pass pass.follows_on pass.keeper
+  finish_short_of rest by_line follows pass left =
+      finish 7 next.stock (Err stop.Memory) pass rest (λ other. absurd (other refl)) by_line follows pass.keeper
       (λ early. absurd (omega (arith, early))) (λ whole. absurd (omega (arith, whole)))
       (λ script e. told_other script now.input.source.rest next.input.source.rest now.input.held g.log.lines 7 (λ d. omega (arith, d)) (λ d. omega (arith, d))
       (λ d. omega (arith, d)) (λ d. absurd (omega (arith, d))) (g.read script e))
       pass.came.sink (λ e. omega (arith, e)) (λ e. omega (arith, e))
       (never 7 9 (λ e. omega (arith, e)) next.input.held.count (pass.limit (λ e. cc))) (inr (inr (inr (inr (inl refl))))) (λ ends. absurd (omega (arith, ends)))
       (λ e. absurd (omega (arith, e)))
-      (λ e. absurd (omega (arith, e))) (memory_left pass)
+      (λ e. absurd (omega (arith, e))) left
+
+  finish_memory : PassIs engine now next (Err stop.Memory)
+      → Served engine.kind handed opening 7 start (record { source = next.input.source; sink = next.sink; stock = next.stock })
+  finish_memory pass = elim pass.came.kept [
+    | inl alone ↦ finish_short_of [] (inl refl) alone.follows pass (short_left next.stock alone.follows alone.keeper)
+    | inr out ↦
+        let did = out.out.is.punched in
+        finish_short_of did.ranges (of_collect (engine.freed now.state) start.source.rest g.log.lines out.line (out_line out) (line_of out.line) refl
+        out.out.answer did.ranges did.are) did.follows pass (memory_out pass out)
+  ]
 
   -- the sink fails while an answer is written
   finish_unwritten : PassIs engine now next (Err stop.Unwritten)
@@ -367,17 +435,26 @@ module _ {S State : Type 0} (engine : Engine S State) (laws : KindLaws engine.ki
       let cut = pass.came.cut in
       let log = longer g.log line cut.answer in
       let t = step_of now next in
-      let same = last_more engine laws opening start.stock g.log t g.so_far line cut.answer cut.is pass.follows_on pass.keeper.faults in
-      let law = lawful_more engine laws opening start.stock g.log t g.so_far line cut.answer cut.is pass.follows_on pass.keeper.faults in
-      let ran = (so_far_more engine laws opening start.stock g.log t g.so_far line cut.answer cut.is pass.follows_on pass.keeper.faults).ran in
+      let same = last_more engine laws opening start.stock g.log t g.so_far line cut.answer cut.is pass.keeper.faults in
+      let law = lawful_more engine laws opening start.stock g.log t g.so_far line cut.answer cut.is pass.keeper.faults in
+      let ran = (so_far_more engine laws opening start.stock g.log t g.so_far line cut.answer cut.is pass.keeper.faults).ran in
       let rose : Rose start.sink.faults next.sink.faults = rose_in start.sink.faults now.sink.faults next.sink.faults next.sink.faults g.sink_faults
       cut.cause (omega arith) in
+      let holds : TellsAll engine.kind start.stock.shelf → IsTelling start.stock.keeper opening.bytes → opening.number ≤ 2 ^ 61 → opening.next_tx ≤ 2 ^ 61
+      → (t : Tree) → StartsFrom (all_told start.stock.shelf) opening.bytes t → HoldsOneOf engine.kind next.stock (last opening t log).may_be_saved
+      = λ tells telling number next_tx tree from.
+      subst (λ (m : Machine). HoldsOneOf engine.kind next.stock m.may_be_saved) (same tree)
+      ((law tells tree from).saved (g.keeper.tells ∙ telling.tells) (room_now engine laws opening start now next bad g number next_tx)
+      (g.kept telling) (g.saved tells telling number next_tx tree from)) in
       record {
         log = log;
         started = true;
         taken = next.input.held.count;
         mid = next.stock;
         ran = ran;
+        rest = [];
+        rest_none = λ _. refl;
+        rest_line = inl refl;
         rest_follows = each_same laws next.stock.shelf;
         at_end = λ _. refl;
         rest_adds = λ whole. absurd (omega (arith, whole));
@@ -416,19 +493,15 @@ module _ {S State : Type 0} (engine : Engine S State) (laws : KindLaws engine.ki
         sink_faults = omega (arith, g.sink_faults, pass.sink_faults);
         faults = λ low. omega (arith, ran.faults low);
         faults_of_run = λ by empty low. omega (arith, ran.faults_of_run by empty low);
-        follows_on = each_on laws g.so_far.ran.follows_on pass.follows_on;
+        follows_on = each_on laws ran.follows_on (each_same laws next.stock.shelf);
         complete = λ many still up end. absurd (omega (arith, rose still.sink_is.1, still.sink_is.0));
-        left = λ _ tells telling number next_tx tree from bytes held. record {
-          saved = λ e. absurd (omega (arith, e));
-          failed = λ e. absurd (omega (arith, e));
-          early = λ _.
-              image_held (byte_at engine.kind next.stock.shelf) next.stock.keeper bytes (last opening tree log).may_be_saved
-              (subst (λ (m : Machine). HoldsOneOf engine.kind next.stock m.may_be_saved) (same tree)
-              ((law tells tree from).saved (g.keeper.tells ∙ telling.tells) (room_now engine laws opening start now next bad g number next_tx)
-              (g.saved tells telling number next_tx tree from)))
-              held;
-          memory = λ e. absurd (omega (arith, e));
-        };
+        left = λ _ tells telling number next_tx tree from bytes held.
+            left_early (all_told next.stock.shelf) (last opening tree log) start.source.rest log.lines next.stock.keeper bytes held 4 (inr (inr (inl refl)))
+            (holds tells telling number next_tx tree from);
+        left_within = λ _ tells telling number next_tx tree from bytes held.
+            left_early (first_told next.stock.shelf) (last opening tree log) start.source.rest log.lines next.stock.keeper bytes held 4 (inr (inr (inl refl)))
+            (within_then next.stock next.state (line_of line) cut.answer cut.is tells telling tree from (last opening tree log).may_be_saved
+            (holds tells telling number next_tx tree (starts_wide tree from)));
         next = λ _ tells telling number next_tx tree from bytes held.
             next_kept engine.kind opening (last opening tree log) log.lines next.stock bytes held (engine.number next.state) (engine.next_tx next.state) 4
             (λ e. omega (arith, e)) ((law tells tree from).number ∙ ap (λ (m : Machine). m.number) (same tree))
@@ -437,6 +510,7 @@ module _ {S State : Type 0} (engine : Engine S State) (laws : KindLaws engine.ki
             ((law tells tree from).taken (g.keeper.tells ∙ telling.tells) (room_now engine laws opening start now next bad g number next_tx)
             (subst (λ (x : Settings). HoldsStart engine.kind now.stock x (engine.number now.state) (engine.next_tx now.state)) (sym g.so_far.settings)
             (g.start_holds tells telling number next_tx tree from))));
+        quiet = λ k end. absurd (omega (arith, end));
       }
 
   -- the run ends before the end of its script

@@ -1,6 +1,6 @@
 -- A run so far, and how it goes on.
 use Rattle.std.proofs.Common.{◌≡◌, ◌≤◌, ◌+◌, ◌-◌, ◌^◌, ℕ, Bool, false, min, List, [], ◌∷◌, ◌++◌, length, Some, Ok, refl, sym, ◌∙◌, ap, subst, arith}
-use Rattle.std.proofs.Common.{append_assoc}
+use Rattle.std.proofs.Common.{append_assoc, true≢false}
 use Rattle.std.proofs.lemmas.List.{append-nil, length-append}
 use Rattle.std.proofs.lemmas.Grind.{flat_map-append}
 use Rattle.std.specs.List.{flat_map}
@@ -8,7 +8,7 @@ use Rattle.std.specs.Prelude.{◌||◌, is_err}
 use Rattle.wtf_base.specs.declared.settings.Settings.{Settings}
 use Rattle.wtf_dev.specs.Keep.{KeeperView}
 use Rattle.wtf_dev.specs.Streams.{SinkView}
-use Rattle.wtf_dev.specs.Store.{KindLaws}
+use Rattle.wtf_dev.specs.Store.{Range, KindLaws}
 use Rattle.wtf_dev.specs.Sums.{TellsAll}
 use Rattle.wtf_replica.specs.Bytes.{byte_at}
 use Rattle.wtf_model.specs.declared.answer.Answer.{Answer}
@@ -17,6 +17,7 @@ use Rattle.wtf_model.specs.Tree.{Tree}
 use Rattle.wtf_model.specs.Lines.{Line, state_after, after_line}
 use Rattle.wtf_model.specs.Servers.{none_down, down_after}
 use Rattle.wtf_image.specs.Rules.{size_in}
+use Rattle.wtf_gc.specs.Frees.{lie_in}
 use Rattle.wtf_core.specs.Pictured.{IsTakenFor}
 use Rattle.wtf_script.specs.declared.limits.TheConstants.{SCRIPT_BYTES}
 use Rattle.wtf_script.specs.Reading.{work}
@@ -29,7 +30,8 @@ use Rattle.wtf_serve.specs.Passes.{Hand, hand, input, step_of, HasDrawn, PassIs}
 use Rattle.wtf_serve.specs.Scripts.{line_of, line_text, has_bad}
 use Rattle.wtf_serve.specs.Stocks.{stock, KeeperGoesOn, IsTelling, HoldsOneOf, HoldsStart}
 use Rattle.wtf_serve.proofs.Picturing.{starts_holds}
-use Rattle.wtf_serve.proofs.RanLaws.{longer, asked-longer, ran_none, SoFar, lawful_more, last_more, so_far_more}
+use Rattle.wtf_serve.proofs.Quieting.{quiet_none, collected_none}
+use Rattle.wtf_serve.proofs.RanLaws.{longer, asked-longer, ran_none, none_ran, SoFar, lawful_more, last_more, so_far_more}
 use Rattle.wtf_serve.proofs.ScriptLaws.{has_bad-push}
 use Rattle.wtf_serve.proofs.Telling.{Told, some_same, told_none, told_more}
 
@@ -42,6 +44,7 @@ pub record Going {S State : Type 0} (engine : Engine S State) (opening : Opening
   pub start_holds : TellsAll engine.kind start.stock.shelf → IsTelling start.stock.keeper opening.bytes → opening.number ≤ 2 ^ 61 → opening.next_tx ≤ 2 ^ 61
       → (t : Tree) → StartsFrom (byte_at engine.kind start.stock.shelf) opening.bytes t
       → HoldsStart engine.kind now.stock opening.settings (engine.number now.state) (engine.next_tx now.state)
+  pub kept : IsTelling start.stock.keeper opening.bytes → engine.kept now.stock.keeper now.state
   pub number_is : TellsAll engine.kind start.stock.shelf → (t : Tree) → StartsFrom (byte_at engine.kind start.stock.shelf) opening.bytes t
       → engine.number now.state ≡ (last opening t log).number
   pub begun : engine.next_tx now.state ≤ opening.next_tx + length log.lines
@@ -98,10 +101,17 @@ going_none engine laws opening start sink' keeper' state ready room begins keepe
     ran = ran_none engine.kind laws opening start.stock (stock start.stock.shelf keeper') refl keeper.faults;
     settings = ready.settings;
     downs = ready.up ∙ sym (after_none down_after none_down);
+    punched = record {
+      only = λ p is. absurd (true≢false (sym is ∙ ready.unfreed p));
+      all = λ none p is. absurd (true≢false (sym is ∙ ap (λ (ranges : List (ℕ × Range)). lie_in ranges p)
+          (none_ran engine.kind laws opening start.stock (stock start.stock.shelf keeper') refl keeper.faults)));
+    };
     given = record { full = λ free. ready.given.full tt; bare = λ free. ready.given.bare tt };
     told = ready.told;
     stands = λ tells t from.
         subst (λ (m : Machine). engine.stands start.stock.shelf state m) (sym (after_none after_line (first opening t))) (ready.stands t from);
+    quiet = λ tells t from. quiet_none engine opening t start.stock.shelf state;
+    collected = λ tells t from. collected_none engine opening t start.stock.shelf state;
   };
   saved = λ tells telling number next_tx t from.
       subst (λ (m : Machine). HoldsOneOf engine.kind (stock start.stock.shelf keeper') m.may_be_saved) (sym (after_none after_line (first opening t)))
@@ -112,6 +122,7 @@ going_none engine laws opening start sink' keeper' state ready room begins keepe
     taken_same (size_in engine.kind start.stock.shelf) opening.settings opening.number opening.next_tx
         (engine.number state) (engine.next_tx state) opening.bytes ready.number ready.next_tx begins,
   );
+  kept = λ telling. ready.kept keeper' (held opening.bytes telling.held);
   number_is = λ tells t from. ready.number ∙ sym (ap (λ (m : Machine). m.number) (after_none after_line (first opening t)));
   begun = omega (arith, ready.next_tx);
   taken = ready.taken;
@@ -159,19 +170,21 @@ module _ {S State : Type 0} (engine : Engine S State) (laws : KindLaws engine.ki
       let a = pass.came.done.answer in
       let is = pass.came.done.is in
       let t = step_of now next in
-      let same = last_more engine laws opening start.stock g.log t g.so_far line a is pass.follows_on pass.keeper.faults in
-      let law = lawful_more engine laws opening start.stock g.log t g.so_far line a is pass.follows_on pass.keeper.faults in
+      let same = last_more engine laws opening start.stock g.log t g.so_far line a is pass.keeper.faults in
+      let law = lawful_more engine laws opening start.stock g.log t g.so_far line a is pass.keeper.faults in
       record {
         log = longer g.log line a;
-        so_far = so_far_more engine laws opening start.stock g.log t g.so_far line a is pass.follows_on pass.keeper.faults;
+        so_far = so_far_more engine laws opening start.stock g.log t g.so_far line a is pass.keeper.faults;
         saved = λ tells telling number next_tx tree from.
             subst (λ (m : Machine). HoldsOneOf engine.kind next.stock m.may_be_saved) (same tree)
-            ((law tells tree from).saved (g.keeper.tells ∙ telling.tells) (room_now number next_tx) (g.saved tells telling number next_tx tree from));
+            ((law tells tree from).saved (g.keeper.tells ∙ telling.tells) (room_now number next_tx) (g.kept telling)
+            (g.saved tells telling number next_tx tree from));
         start_holds = λ tells telling number next_tx tree from.
             subst (λ (s : Settings). HoldsStart engine.kind next.stock s (engine.number next.state) (engine.next_tx next.state)) g.so_far.settings
             ((law tells tree from).taken (g.keeper.tells ∙ telling.tells) (room_now number next_tx)
             (subst (λ (s : Settings). HoldsStart engine.kind now.stock s (engine.number now.state) (engine.next_tx now.state)) (sym g.so_far.settings)
             (g.start_holds tells telling number next_tx tree from)));
+        kept = λ telling. is.goes_on.kept (g.keeper.tells ∙ telling.tells) (g.kept telling);
         number_is = λ tells tree from. (law tells tree from).number ∙ ap (λ (m : Machine). m.number) (same tree);
         begun = omega (arith, is.goes_on.next_tx, g.begun, length-append g.log.lines (line ∷ []));
         taken = g.taken;

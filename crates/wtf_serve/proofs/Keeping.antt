@@ -9,7 +9,6 @@ use Rattle.wtf_model.specs.declared.answer.Answer.{Answer}
 use Rattle.wtf_model.specs.declared.answer.Answer.TheVariants as answer
 use Rattle.wtf_model.specs.declared.event.Event.{Event}
 use Rattle.wtf_model.specs.declared.event.Event.TheVariants as event
-use Rattle.wtf_meta.specs.Contents.{Told}
 use Rattle.wtf_image.specs.Images.{HasText}
 use Rattle.wtf_image.specs.Rows.{ImageRows}
 use Rattle.wtf_image.specs.Texts.{image_text}
@@ -71,7 +70,7 @@ module _ {K S : Type 0} (view : K → KeeperView) (follows : K → K → List (L
   save_kept Up tables answer.FaultSave (inr failed) is = inr failed.rose
   save_kept Up tables a turn is = absurd is
 
-  pub event_kept : (Telling : Type 0) (told : Told × Told) (e : Event) (a : Answer) → Turns e a → IsLine Telling told core core' e a
+  pub event_kept : (e : Event) (a : Answer) → Turns e a → IsLine kind (span (is_down core.replicas) before after) core core' e a
       → Keeps (engine kind) t (Ok e) a
-  event_kept Telling told event.Save a turn line = save_kept (AreUp core.replicas core.settings.servers) line.answered.tables a turn line.turn.0
-  event_kept Telling told e a turn line = ap view turn
+  event_kept event.Save a turn line = save_kept (AreUp core.replicas core.settings.servers) line.answered.tables a turn line.turn.0
+  event_kept e a turn line = ap view turn

@@ -4,11 +4,14 @@ pub mod LineLaws
 pub mod Keeping
 pub mod Rising
 pub mod Picturing
+pub mod PunchLaws
+pub mod Quieting
 pub mod RanLaws
 pub mod Telling
 pub mod Starting
 pub mod Going
 pub mod Closing
+pub mod Leaving
 pub mod Finishing
 pub mod Unstarted
 pub mod Unopening

@@ -1,70 +1,58 @@
 -- What answering a line promises, for one that asks nothing, and for an event by what the core promises.
-use Rattle.std.proofs.Common.{◌≡◌, ◌≤◌, ℕ, true, length, Ok, Err, refl, sym, ap, true≢false, arith}
+use Rattle.std.proofs.Common.{◌≡◌, ◌≤◌, ℕ, Bool, true, false, List, [], length, Ok, Err, refl, sym, ◌∙◌, ap, subst, true≢false, arith}
 use Rattle.std.proofs.Math.Path.{fun_ext}
 use Rattle.wtf_base.specs.declared.settings.Settings.{Settings}
-use Rattle.wtf_dev.specs.Store.{StoreKind}
+use Rattle.wtf_base.specs.Places.{Place}
+use Rattle.wtf_dev.specs.Store.{Range, StoreKind, KindLaws}
+use Rattle.wtf_dev.proofs.Each.{each_same}
+use Rattle.wtf_model.specs.Lines.{Line}
+use Rattle.std.specs.Prelude.{◌&&◌, ◌||◌, not, nat_eq, nat_lt}
+use Rattle.std.proofs.lemmas.Bool.{eqb-true}
 use Rattle.wtf_model.specs.declared.answer.Answer.{Answer}
 use Rattle.wtf_model.specs.declared.answer.Answer.TheVariants as answer
 use Rattle.wtf_model.specs.declared.event.Event.{Event}
 use Rattle.wtf_model.specs.declared.event.Event.TheVariants as event
+use Rattle.wtf_core.specs.Keeping.{HoldsKept}
 use Rattle.wtf_core.specs.Promises as promised
-use Rattle.wtf_core.specs.Telling.{TellsCore}
+use Rattle.wtf_gc.specs.Extents.{covers}
+use Rattle.wtf_gc.specs.Frees.{AreGarbage}
+use Rattle.wtf_gc.specs.Views.{GcView, mark_of, is_garbage}
+use Rattle.wtf_core.specs.Punched.{AreOfGarbage, ArePunchedBy, CountsAs, IsUncollected}
 use Rattle.wtf_core.specs.Views.{CoreView}
 use Rattle.wtf_serve.specs.Answering.{IsBad}
-use Rattle.wtf_serve.specs.Engines.{Step, step, is_save_event, GoesOn, Leaves, Obeys, Stores, IsCaused, Tells, Keeps}
+use Rattle.wtf_serve.specs.Engines.{Step, step, is_save_event, GoesOn, Leaves, Obeys, Tells, Punches}
+use Rattle.wtf_serve.specs.Punched.{AreFresh, ArePunchedIn, CountsIn, collected_by}
 use Rattle.wtf_serve.specs.Stocks.{Stock}
-use Rattle.wtf_serve.specs.Cores.{IsSoundCore, engine}
+use Rattle.wtf_serve.specs.Cores.{engine}
+
+or_none : (b : Bool) → (b || false) ≡ b
+or_none true = refl
+or_none false = refl
 
 -- a line that asks nothing leaves the core
 module _ {S : Type 0} (kind : StoreKind S) (here : Stock S) (core : CoreView) (bad : Answer) where
-  pub bad_goes_on : IsSoundCore kind here.shelf core → GoesOn (engine kind) (step here here core core) (Err bad) bad
-  bad_goes_on sound = record {
-    sound = sound;
-    settings = refl;
-    down = refl;
-    number = omega arith;
-    next_tx = omega arith;
-    same_next_tx = λ is. refl;
-    bare = λ free f. f;
-    full = λ free f. f;
-    exact = refl;
-  }
-
   pub bad_obeys : Obeys (engine kind) (step here here core core) (Err bad) bad
   bad_obeys = λ tells m stands. record {
     stands = stands;
     may = refl;
     number = sym stands.tables.number;
-    saved = λ keeps room holds. holds;
+    saved = λ keeps room kept holds. holds;
     taken = λ keeps room holds. holds;
     leaves = λ keeps room. tt;
+    rests = λ idle n is. absurd (cc);
+    left = λ k n had is. absurd (cc);
   }
 
--- its answer is no fault, and it adds nothing
-pub bad_caused : {S : Type 0} (kind : StoreKind S) (t : Step S CoreView) (bad : Answer) → IsBad bad → IsCaused (engine kind) t (Err bad) bad
-bad_caused kind t (answer.Bad k) is = tt
-bad_caused kind t a is = absurd is
-
-pub bad_told : {S : Type 0} (kind : StoreKind S) (here : Stock S) (core : CoreView) (bad : Answer) → IsBad bad
-    → Tells (engine kind) (step here here core core) bad
-bad_told kind here core (answer.Bad w) is = λ tells. record {
-  next = tells;
-  wide = λ wide. wide;
-  unread = λ wide k e. absurd (cc);
-  within = λ within. within;
-  undamaged = λ within k e. cc;
+-- and punches nothing
+pub bad_punches : {S : Type 0} (kind : StoreKind S) → KindLaws kind → (here : Stock S) (core : CoreView) (bad : Answer) → IsBad bad
+    → Punches (engine kind) (step here here core core) (Err bad) bad
+bad_punches kind laws here core (answer.Bad w) is = record {
+  ranges = [];
+  are = (refl, refl);
+  counts = λ p. sym (or_none (covers core.tables.beside.gc.freed p));
+  follows = each_same laws here.shelf;
 }
-bad_told kind here core a is = absurd is
-
-pub bad_kept : {S : Type 0} (kind : StoreKind S) (here : Stock S) (core : CoreView) (bad : Answer) → IsBad bad
-    → Keeps (engine kind) (step here here core core) (Err bad) bad
-bad_kept kind here core (answer.Bad k) is = refl
-bad_kept kind here core a is = absurd is
-
-pub bad_stored : {S : Type 0} (kind : StoreKind S) (here : Stock S) (core : CoreView) (bad : Answer) → IsBad bad
-    → Stores (engine kind) (step here here core core) (Err bad) bad
-bad_stored kind here core (answer.Bad w) is = λ k d h f. refl
-bad_stored kind here core a is = absurd is
+bad_punches kind laws here core a is = absurd is
 
 -- as many servers as the stores had before are there behind it
 servers_stay : (old new : Settings) (n m : ℕ) → new ≡ old → old.servers ≤ n → m ≡ n → new.servers ≤ m
@@ -77,6 +65,39 @@ save_is : (e : Event) → is_save_event e ≡ true → e ≡ event.Save
 save_is event.Save is = refl
 save_is e is = absurd (true≢false (sym is))
 
+-- the event of a line
+event_of : {e f : Event} → ◌≡◌ {A = Line} (Ok e) (Ok f) → e ≡ f
+event_of is = cc
+
+none_collected : (a : Answer) → IsUncollected a → collected_by a ≡ 0
+none_collected (answer.Collected n) h = absurd h
+none_collected a h = refl
+
+-- what is garbage of a server lies there, and was not freed
+garbage_parts : (m a b c : Bool) → (m && not (a || (b || c))) ≡ true → c ≡ false
+garbage_parts false a b c h = absurd (true≢false (sym h))
+garbage_parts true true b c h = absurd (true≢false (sym h))
+garbage_parts true false true c h = absurd (true≢false (sym h))
+garbage_parts true false false true h = absurd (true≢false (sym h))
+garbage_parts true false false false h = refl
+
+both_parts : (a b : Bool) → (a && b) ≡ true → (a ≡ true) × (b ≡ true)
+both_parts true b h = (refl, h)
+both_parts false b h = absurd (true≢false (sym h))
+
+fresh_at : (gc : GcView) (k : ℕ) (p : Place) → (nat_eq p.server k && is_garbage gc p) ≡ true → (p.server ≡ k) × (covers gc.freed p ≡ false)
+fresh_at gc k p h =
+    let both = both_parts (nat_eq p.server k) (is_garbage gc p) h in (
+      eqb-true p.server k both.0,
+      garbage_parts (nat_lt p.at (mark_of gc.older p.server p.file)) (covers gc.older.found p) (covers gc.newer.found p) (covers gc.freed p) both.1,
+    )
+
+fresh_all : (gc : GcView) (k : ℕ) (ranges : List (ℕ × Range)) → AreGarbage gc k ranges → AreFresh (covers gc.freed) k ranges
+fresh_all gc k ranges h = record { apart = h.apart; fresh = λ p here. fresh_at gc k p (sym (h.exact p) ∙ here) }
+
+fresh_some : (gc : GcView) (k : ℕ) (ranges : List (ℕ × Range)) → AreOfGarbage gc k ranges → AreFresh (covers gc.freed) k ranges
+fresh_some gc k ranges h = record { apart = h.apart; fresh = λ p here. fresh_at gc k p (h.among p here) }
+
 module _ {S : Type 0} (kind : StoreKind S) (t : Step S CoreView) (e : Event) (a : Answer) where
   abbrev before : promised.Scene S
   before = promised.scene t.before.shelf t.before.keeper t.old
@@ -85,13 +106,15 @@ module _ {S : Type 0} (kind : StoreKind S) (t : Step S CoreView) (e : Event) (a 
   behind = promised.scene t.after.shelf t.after.keeper t.new
 
   pub event_goes_on : t.old.settings.servers ≤ length t.before.shelf → promised.GoesOn kind before behind e a
-      → promised.Stays kind t.before.shelf t.after.shelf t.old t.new
+      → promised.Stays t.old t.new → promised.HasPunched kind before behind e a
+      → (t.before.keeper.tells ≡ true → HoldsKept t.before.keeper t.old.settings t.old.tables → HoldsKept t.after.keeper t.old.settings t.new.tables)
       → GoesOn (engine kind) t (Ok e) a
-  event_goes_on enough on stays = record {
+  event_goes_on enough on stays punched held = record {
     sound = record {
       not_closed = on.not_closed;
       tables = stays.sound;
-      servers = servers_stay t.old.settings t.new.settings (length t.before.shelf) (length t.after.shelf) stays.settings enough stays.follows.same_length;
+      servers = servers_stay t.old.settings t.new.settings (length t.before.shelf) (length t.after.shelf) stays.settings enough
+          punched.punches.follows.same_length;
       inside = on.inside;
     };
     settings = stays.settings;
@@ -101,13 +124,43 @@ module _ {S : Type 0} (kind : StoreKind S) (t : Step S CoreView) (e : Event) (a 
     same_next_tx = λ is. on.same_next_tx (save_is e is);
     bare = on.bare;
     full = on.full;
-    exact = on.exact;
+    own = tt;
+    kept = λ tells holds. subst (λ (s : Settings). HoldsKept t.after.keeper s t.new.tables) (sym stays.settings) (held tells holds);
   }
 
-  pub event_told : (TellsCore kind t.before.shelf t.old → promised.IsToldAnswer kind before behind a) → Tells (engine kind) t a
-  event_told told = λ tells.
-      let is = told tells in
-      record { next = is.next; wide = is.wide; unread = is.unread; within = is.within; undamaged = is.undamaged }
+  pub event_told : promised.GoesOnTold kind before behind e a → Tells (engine kind) t (Ok e) a
+  event_told told = λ tells m stands.
+      let is = told tells m stands in
+      record {
+        next = is.next;
+        wide = is.wide;
+        unread = is.unread;
+        within = is.within;
+        undamaged = is.undamaged;
+        quiet = is.quiet.on;
+        collected = λ k n line. is.quiet.collected k n (event_of line);
+        stays = is.quiet.stays;
+      }
+
+  -- what the core says of garbage is what a run is given of what was freed
+  ranges_by : (f : Event) (b : Answer) (ranges : List (ℕ × Range)) → ArePunchedBy t.old.tables.beside.gc f b ranges
+      → ArePunchedIn (covers t.old.tables.beside.gc.freed) (Ok f) b ranges
+  ranges_by (event.Collect k) (answer.Collected n) ranges h = (fresh_all t.old.tables.beside.gc k ranges h.0, h.1)
+  ranges_by (event.Collect k) (answer.FaultPunch j) ranges h = fresh_some t.old.tables.beside.gc k ranges h
+  ranges_by f b ranges h = (h.0, none_collected b h.1)
+
+  counts_by : (b : Answer) (ranges : List (ℕ × Range)) → CountsAs t.old.tables.beside.gc t.new.tables.beside.gc b ranges
+      → CountsIn (covers t.old.tables.beside.gc.freed) (covers t.new.tables.beside.gc.freed) b ranges
+  counts_by (answer.FaultPunch k) ranges h = h
+  counts_by b ranges h = h
+
+  pub event_punches : promised.HasPunched kind before behind e a → Punches (engine kind) t (Ok e) a
+  event_punches h = record {
+    ranges = h.punches.ranges;
+    are = ranges_by e a h.punches.ranges h.punches.are;
+    counts = counts_by a h.punches.ranges h.punches.counts;
+    follows = h.punches.follows;
+  }
 
   pub event_obeys : promised.Obeys kind before behind e a → Obeys (engine kind) t (Ok e) a
   event_obeys obeys = λ tells m stands.
@@ -116,9 +169,11 @@ module _ {S : Type 0} (kind : StoreKind S) (t : Step S CoreView) (e : Event) (a 
         stands = law.event.stands;
         may = law.event.may;
         number = sym law.event.stands.tables.number;
-        saved = λ keeps room holds. law.trees keeps (room.number, room.next_tx) holds;
+        saved = λ keeps room kept holds. law.trees keeps (room.number, room.next_tx) kept holds;
         taken = λ keeps room holds. law.taken keeps (room.number, room.next_tx) holds;
         leaves = λ keeps room. by e a (law.saved keeps (room.number, room.next_tx));
+        rests = λ idle n line. law.rests idle n (event_of line);
+        left = λ k n had line. law.left k n had (event_of line);
       }
     where
       save_by : (b : Answer) → promised.Leaves kind before behind event.Save b → Leaves (engine kind) t (Ok event.Save) b

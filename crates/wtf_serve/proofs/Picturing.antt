@@ -11,7 +11,7 @@ use Rattle.wtf_model.specs.Machines.{Machine}
 use Rattle.wtf_model.specs.Tree.{Tree}
 use Rattle.wtf_meta.specs.Contents.{Told}
 use Rattle.wtf_meta.proofs.Telling.{TellsOn}
-use Rattle.wtf_replay.proofs.Later.{tells_on, stands_later}
+use Rattle.wtf_replay.proofs.Later.{stands_later}
 use Rattle.wtf_core.specs.Pictured.{IsImageOfTree, IsImageOfOne, HoldsTree, IsImageWith, IsTakenFor}
 use Rattle.wtf_core.proofs.Pointing.{sizes_grow}
 use Rattle.wtf_core.proofs.Taking.{taken_for_on, image_with}
@@ -34,11 +34,11 @@ one_on : (told later : Told) (bytes : List ℕ) (may : List Tree) → TellsOn to
 one_on told later bytes may on (inl none) = inl none
 one_on told later bytes may on (inr (t, listed, is)) = inr (t, listed, tree_on told later bytes t on is)
 
--- a keeper that is as it was holds what it held, over stores that go on
-pub holds_on : {S : Type 0} {kind : StoreKind S} → KindLaws kind → (old new : Stock S) (may : List Tree) → EachFollows kind old.shelf new.shelf []
-    → new.keeper ≡ old.keeper → HoldsOneOf kind old may → HoldsOneOf kind new may
-holds_on {kind = kind} laws old new may e same (bytes, held, is) =
-    (bytes, ap (λ (k : KeeperView). k.held) same ∙ held, one_on (byte_at kind old.shelf) (byte_at kind new.shelf) bytes may (tells_on laws e) is)
+-- a keeper that is as it was holds what it held, over stores that tell more
+pub holds_on : (told later : Told) → TellsOn told later → (old new : KeeperView) (may : List Tree) → new ≡ old → HoldsTree old told may
+    → HoldsTree new later may
+holds_on told later on old new may same (bytes, held, is) =
+    (bytes, ap (λ (k : KeeperView). k.held) same ∙ held, one_on told later bytes may on is)
 
 -- the tree that a run starts from
 starts_one : (told : Told) (bytes : List ℕ) (t : Tree) → StartsFrom told bytes t → IsImageOfOne told bytes (t ∷ [])

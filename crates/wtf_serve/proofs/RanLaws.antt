@@ -28,21 +28,25 @@ use Rattle.wtf_core.specs.Telling.{stores_of}
 use Rattle.wtf_core.proofs.Telling.{first_on}
 use Rattle.wtf_serve.specs.Scripts.{line_of}
 use Rattle.wtf_core.specs.Named.{no_slice}
-use Rattle.wtf_core.specs.Outcomes.{Load, Data, RegionList, load_of_job, load_of, data_of, has_spilled, IsUnspilled, IsUnread, AddsBytes, HasCause}
-use Rattle.wtf_serve.specs.Answering.{IsNotBuiltExactly, line_data, line_load}
-use Rattle.wtf_serve.specs.Engines.{Engine, IsAsGiven, IsAsTold, Step, span_of, IsSaveFailure, IsLawful, IsToldAnswer, IsAnswer}
-use Rattle.wtf_serve.specs.Logs.{Log, asked, last, last_downs, IsServed, IsUndamaged, is_write_fault, write_fault_count, if_okay, written_bytes}
+use Rattle.wtf_core.specs.Outcomes.{Load, Data, RegionList, Frees, load_of_job, load_of, data_of, has_spilled, IsUnspilled, IsUnread, AddsBytes, HasCause}
+use Rattle.wtf_gc.specs.Frees.{AreApart, bytes_of}
+use Rattle.wtf_serve.specs.Answering.{IsOwnAnswer, line_data, line_load}
+use Rattle.wtf_serve.specs.Punched.{punch_fault_count, collected_bytes}
+use Rattle.wtf_serve.proofs.PunchLaws.{apart_joined, bytes_joined, only_on, all_on, punched_now, collected_push, punch_fault_push}
+use Rattle.wtf_serve.specs.Engines.{Engine, IsAsGiven, IsAsPunched, IsAsTold, Step, span_of, IsSaveFailure, IsLawful, IsToldAnswer, IsAnswer}
+use Rattle.wtf_serve.specs.Logs.{Log, asked, last, last_downs, IsUndamaged, is_write_fault, write_fault_count, if_okay, written_bytes}
 use Rattle.wtf_serve.specs.Logs.{spill_count, IsUnspilledLog}
 use Rattle.wtf_serve.specs.Openings.{Opening, StartsFrom, first}
+use Rattle.wtf_serve.specs.Quiet.{HasQuietEnding}
 use Rattle.wtf_serve.specs.Runs.{AreStoresStill, Ran}
 use Rattle.wtf_serve.specs.Stocks.{Stock, faults_in, AreCounting, RoseBy}
 use Rattle.wtf_base.proofs.Elements.{element}
-use Rattle.wtf_replica.proofs.Spans.{EachKept, same_lengths-stored}
+use Rattle.wtf_replica.proofs.Spans.{same_lengths-stored}
 use Rattle.wtf_dev.proofs.Each.{each_same, each_on}
-use Rattle.wtf_replica.proofs.Spans.{each_kept}
-use Rattle.wtf_dev.proofs.Sums.{all_faults-grows, tells_all-kept}
+use Rattle.wtf_dev.proofs.Sums.{all_faults-grows}
 use Rattle.wtf_serve.proofs.Picturing.{starts_on}
-use Rattle.wtf_serve.proofs.Rising.{one, full_unread, raises, raises_of_run}
+use Rattle.wtf_serve.proofs.Quieting.{QuietSoFar, quiet_more, collected_more}
+use Rattle.wtf_serve.proofs.Rising.{one, FaultsGrow, faults_grow, full_unread, raises, raises_of_run}
 
 -- the lines so far, and one more
 abbrev pub longer : Log → List ℕ → Answer → Log
@@ -57,10 +61,6 @@ along_none next P s = tt
 
 module _ {S : Type 0} (kind : StoreKind S) (t : Span S) (settings : Settings) (saving : Type 0) (based : (Slice → Bool) → Type 0) (full : Type 0)
     (given : Load) where
-  served_of : (a : Answer) → HasCause kind t settings saving based full given a → IsServed a
-  served_of (answer.FaultPunch k) h = h
-  served_of a h = tt
-
   undamaged_of : (a : Answer) → based no_slice → HasCause kind t settings saving based full given a → IsUndamaged a
   undamaged_of (answer.Damaged k) none h = absurd (true≢false (sym (h.passes no_slice none)))
   undamaged_of a none h = tt
@@ -100,6 +100,7 @@ is_false false h = refl
 abbrev data_in : Load → List ℕ
 data_in (Data bytes) = bytes
 data_in RegionList = []
+data_in (Frees k) = []
 
 grown : {S : Type 0} (kind : StoreKind S) (t : Span S) → length t.after ≡ length t.before → ((k : ℕ) → HasRisen kind t.before t.after k → ⊥)
     → (settings : Settings) (given : Load) (a : Answer) → has_spilled given a ≡ false → AddsBytes kind t settings given a
@@ -114,6 +115,9 @@ grown kind t same none settings RegionList answer.FaultWrite free adds no_fault 
 grown kind t same none settings RegionList answer.Planned free adds no_fault = cc
 grown kind t same none settings RegionList answer.Okay free adds no_fault = omega (arith, same_lengths-stored kind t.before t.after same adds)
 grown kind t same none settings RegionList a free adds no_fault = omega (arith, same_lengths-stored kind t.before t.after same adds)
+grown kind t same none settings (Frees k) answer.FaultWrite free adds no_fault = cc
+grown kind t same none settings (Frees k) answer.Okay free adds no_fault = omega (arith, same_lengths-stored kind t.before t.after same adds)
+grown kind t same none settings (Frees k) a free adds no_fault = omega (arith, same_lengths-stored kind t.before t.after same adds)
 
 -- A line of a job hands in no bytes; so what it is to store and what it hands in are the same number of bytes.
 
@@ -135,32 +139,33 @@ by_products r s t u x y z early more all = more ∙ ap (λ (w : ℕ). w + r * y)
 -- The first part of a span in which no store failed
 
 still_front : {S : Type 0} (kind : StoreKind S) (before now after' : List S) → length now ≡ length before → length after' ≡ length now
-    → EachKept kind before now → EachKept kind now after' → AreStoresStill kind before after' → AreStoresStill kind before now
+    → FaultsGrow kind before now → FaultsGrow kind now after' → AreStoresStill kind before after' → AreStoresStill kind before now
 still_front kind before now after' front back early late still = λ k d h.
     let was = early k d (omega (arith, h, front)) in
     let is = late k d h in
     let both = still k d (omega (arith, h, back)) in
-    (omega (arith, both.0, was.faults, is.faults), omega (arith, both.1, is.faults))
+    (omega (arith, both.0, was, is), omega (arith, both.1, is))
 
 -- and in the second no store rose
 pub still_back : {S : Type 0} (kind : StoreKind S) (before now after' : List S) → length now ≡ length before → length after' ≡ length now
-    → EachKept kind before now → AreStoresStill kind before after' → (k : ℕ) → HasRisen kind now after' k → ⊥
+    → FaultsGrow kind before now → AreStoresStill kind before after' → (k : ℕ) → HasRisen kind now after' k → ⊥
 still_back kind before now after' front back early still k risen =
     let d = element now k risen.0 in
     let was = early k d (omega (arith, risen.0, front)) in
     let both = still k d (omega (arith, risen.0, back)) in
-    omega (arith, both.0, was.faults, risen.1 d both.1)
+    omega (arith, both.0, was, risen.1 d both.1)
 
 -- The counts of faults over one more line
 
-pub counting_before : {S : Type 0} (kind : StoreKind S) (now after' : Stock S) → length after'.shelf ≡ length now.shelf → EachKept kind now.shelf after'.shelf
+pub counting_before : {S : Type 0} (kind : StoreKind S) (now after' : Stock S) → length after'.shelf ≡ length now.shelf → FaultsGrow kind now.shelf after'.shelf
     → now.keeper.faults ≤ after'.keeper.faults → AreCounting kind after' → AreCounting kind now
 counting_before kind now after' same kept grew low = (
-  λ k d h. omega (arith, (kept k d h).faults, low.0 k d (omega (arith, h, same))),
+  λ k d h. omega (arith, kept k d h, low.0 k d (omega (arith, h, same))),
   omega (arith, grew, low.1),
 )
 
-pub rose_more : {S : Type 0} (kind : StoreKind S) (before now after' : Stock S) → length after'.shelf ≡ length now.shelf → EachKept kind now.shelf after'.shelf
+pub rose_more : {S : Type 0} (kind : StoreKind S) (before now after' : Stock S) → length after'.shelf ≡ length now.shelf
+    → FaultsGrow kind now.shelf after'.shelf
     → now.keeper.faults ≤ after'.keeper.faults → faults_in kind now ≤ faults_in kind after'
     → (n : ℕ) (b : Bool) → RoseBy kind before now n
     → (AreCounting kind after' → b ≡ true → faults_in kind now + 1 ≤ faults_in kind after')
@@ -187,48 +192,59 @@ ran_none kind laws opening old new same grew =
     record {
       accepts = λ tells t from. Accepts-from_lines (first opening t) [] [] (along_none after_line MayLine (first opening t));
       accepted = λ tells t from. along_none after_line MayLine (first opening t);
-      exact = along_none down_after (λ down e a. IsNotBuiltExactly e a) none_down;
-      served = All-nil IsServed;
+      each = along_none down_after (λ down e a. IsOwnAnswer e a) none_down;
       undamaged = λ free none. All-nil IsUndamaged;
       undamaged_told = λ tells t from none. All-nil IsUndamaged;
       undamaged_from = λ tells t from. All-nil IsUndamaged;
       faults = λ low. omega (arith, faults, grew, count_by-none down_after (is_device_fault opening.settings) none_down);
       faults_of_run = λ by empty low. omega (arith, faults, grew, count_by-none down_after (is_device_fault_of_run opening.settings) none_down);
       grew = λ free still none. omega (arith, ap (all_stored kind) same);
+      punched = [];
       follows_on = subst (λ (shelf : List _). EachFollows kind old.shelf shelf []) (sym same) (each_same laws old.shelf);
+      freed = λ none. (tt, refl);
     }
+
+pub none_ran : {S : Type 0} (kind : StoreKind S) (laws : KindLaws kind) (opening : Opening) (old new : Stock S) (same : new.shelf ≡ old.shelf)
+    (grew : old.keeper.faults ≤ new.keeper.faults) → (ran_none kind laws opening old new same grew).punched ≡ []
+unfolding ran_none
+none_ran kind laws opening old new same grew = refl
 
 -- What a run so far gives of the state that is to answer the next line
 pub record SoFar {S State : Type 0} (engine : Engine S State) (opening : Opening) (log : Log) (before now : Stock S) (state : State) : Type 0 where
   pub ran : Ran engine.kind opening log before now
   pub settings : engine.settings state ≡ opening.settings
   pub downs : engine.down state ≡ last_downs log
+  pub punched : IsAsPunched engine ran.punched log.answers state
   pub given : IsAsGiven engine opening.bytes (IsUnspilledLog log) state
   pub told : TellsAll engine.kind before.shelf → IsAsTold engine opening before.shelf now.shelf state
   pub stands : TellsAll engine.kind before.shelf → (tree : Tree) → StartsFrom (byte_at engine.kind before.shelf) opening.bytes tree
       → engine.stands now.shelf state (last opening tree log)
+  pub quiet : TellsAll engine.kind before.shelf → (tree : Tree) → StartsFrom (byte_at engine.kind before.shelf) opening.bytes tree
+      → QuietSoFar engine opening tree log now.shelf state
+  pub collected : TellsAll engine.kind before.shelf → (tree : Tree) → StartsFrom (byte_at engine.kind before.shelf) opening.bytes tree
+      → (k : ℕ) → HasQuietEnding opening tree log k → engine.collected k now.shelf state
 
 -- One more line
 
 module _ {S State : Type 0} (engine : Engine S State) (laws : KindLaws engine.kind) (opening : Opening) (before : Stock S) (log : Log) (t : Step S State)
     (g : SoFar engine opening log before t.before t.old) (line : List ℕ) (a : Answer) (is : IsAnswer engine t (line_of line) a)
-    (next : EachFollows engine.kind t.before.shelf t.after.shelf []) (keeper : t.before.keeper.faults ≤ t.after.keeper.faults) where
+    (keeper : t.before.keeper.faults ≤ t.after.keeper.faults) where
+  next : EachFollows engine.kind t.before.shelf t.after.shelf is.punched.ranges
+  next = is.punched.follows
+
   -- each line so far has its answer
   same : length (asked log) ≡ length log.answers
-  same = AlongBy-lengths down_after _ none_down (asked log) log.answers g.ran.exact
+  same = AlongBy-lengths down_after _ none_down (asked log) log.answers g.ran.each
 
-  was : EachKept engine.kind before.shelf t.before.shelf
-  was = each_kept laws g.ran.follows_on
+  was : FaultsGrow engine.kind before.shelf t.before.shelf
+  was = faults_grow laws g.ran.follows_on
 
-  kept : EachKept engine.kind t.before.shelf t.after.shelf
-  kept = each_kept laws next
-
-  tells_now : TellsAll engine.kind before.shelf → TellsAll engine.kind t.before.shelf
-  tells_now tells = tells_all-kept laws g.ran.follows_on tells
+  kept : FaultsGrow engine.kind t.before.shelf t.after.shelf
+  kept = faults_grow laws next
 
   pub lawful_more : TellsAll engine.kind before.shelf → (tree : Tree) → StartsFrom (byte_at engine.kind before.shelf) opening.bytes tree
       → IsLawful engine t (last opening tree log) (line_of line) a
-  lawful_more tells tree from = is.lawful (tells_now tells) (last opening tree log) (g.stands tells tree from)
+  lawful_more tells tree from = is.lawful ((g.told tells).tells tree from) (last opening tree log) (g.stands tells tree from)
 
   along : (P : Machine → Line → Answer → Type 0) (m : Machine) → Along P m (asked log) log.answers
       → P (machine_after m (asked log) log.answers) (line_of line) a
@@ -277,15 +293,15 @@ module _ {S State : Type 0} (engine : Engine S State) (laws : KindLaws engine.ki
   -- the same over stores that tell their content
 
   told_here : TellsAll engine.kind before.shelf → (tree : Tree) → StartsFrom (byte_at engine.kind before.shelf) opening.bytes tree
-      → IsToldAnswer engine t a
-  told_here tells tree from = is.told ((g.told tells).tells tree from)
+      → IsToldAnswer engine t (line_of line) a
+  told_here tells tree from = is.told ((g.told tells).tells tree from) (last opening tree log) (g.stands tells tree from)
 
-  told_alone : TellsAll engine.kind before.shelf → opening.bytes ≡ [] → IsToldAnswer engine t a
+  told_alone : TellsAll engine.kind before.shelf → opening.bytes ≡ [] → IsToldAnswer engine t (line_of line) a
   told_alone tells empty = told_here tells root_alone (starts_alone (byte_at engine.kind before.shelf) opening.bytes empty)
 
   -- from the tree that the stores of the settings' servers tell
   told_from : TellsAll engine.kind before.shelf → (tree : Tree)
-      → StartsFrom (byte_at engine.kind (stores_of opening.settings before.shelf)) opening.bytes tree → IsToldAnswer engine t a
+      → StartsFrom (byte_at engine.kind (stores_of opening.settings before.shelf)) opening.bytes tree → IsToldAnswer engine t (line_of line) a
   told_from tells tree from = told_here tells tree
       (starts_on (byte_at engine.kind (stores_of opening.settings before.shelf)) (byte_at engine.kind before.shelf) opening.bytes tree
       (first_on laws before.shelf opening.settings) from)
@@ -331,6 +347,29 @@ module _ {S State : Type 0} (engine : Engine S State) (laws : KindLaws engine.ki
       (written_bytes (asked log) log.answers) (if_okay a (length (line_data (line_of line))))
       (written_bytes (asked (longer log line a)) (log.answers ++ a ∷ [])) earlier more bytes
 
+  -- what was punched so far and with the line, where no collection failed
+  none_before : punch_fault_count (log.answers ++ a ∷ []) ≡ 0 → punch_fault_count log.answers ≡ 0
+  none_before none = let both = punch_fault_push log.answers a in omega (arith, none, both)
+
+  freed_more : punch_fault_count (log.answers ++ a ∷ []) ≡ 0
+      → AreApart (g.ran.punched ++ is.punched.ranges) × (bytes_of (g.ran.punched ++ is.punched.ranges) ≡ collected_bytes (log.answers ++ a ∷ []))
+  freed_more none =
+      let was = g.ran.freed (none_before none) in
+      let here = punched_now (engine.freed t.old) (line_of line) a is.punched.ranges is.punched.are in (
+        apart_joined g.ran.punched is.punched.ranges was.0 here.0
+            (λ p in_old in_new. let there = g.punched.all (none_before none) p in_old in let fresh = here.1 p in_new in true≢false (sym there ∙ fresh)),
+        bytes_joined g.ran.punched is.punched.ranges ∙ ap (λ (n : ℕ). n + bytes_of is.punched.ranges) was.1
+            ∙ ap (λ (n : ℕ). collected_bytes log.answers + n) (here.2 (let both = punch_fault_push log.answers a in omega (arith, none, both)))
+            ∙ sym (collected_push log.answers a),
+      )
+
+  punched_more : IsAsPunched engine (g.ran.punched ++ is.punched.ranges) (log.answers ++ a ∷ []) t.new
+  punched_more = record {
+    only = only_on (engine.freed t.old) (engine.freed t.new) a g.ran.punched is.punched.ranges is.punched.counts g.punched.only;
+    all = λ none. all_on (engine.freed t.old) (engine.freed t.new) a g.ran.punched is.punched.ranges
+        (let both = punch_fault_push log.answers a in omega (arith, none, both)) is.punched.counts (g.punched.all (none_before none));
+  }
+
   ran_more : Ran engine.kind opening (longer log line a) before t.after
   ran_more =
       let accepted : TellsAll engine.kind before.shelf → (tree : Tree) → StartsFrom (byte_at engine.kind before.shelf) opening.bytes tree
@@ -339,11 +378,8 @@ module _ {S State : Type 0} (engine : Engine S State) (laws : KindLaws engine.ki
       record {
         accepts = λ tells tree from. Accepts-from_lines (first opening tree) (asked (longer log line a)) (log.answers ++ a ∷ []) (accepted tells tree from);
         accepted = accepted;
-        exact = subst (λ (x : List Line). AlongDowns (λ down e b. IsNotBuiltExactly e b) none_down x (log.answers ++ a ∷ [])) (sym (asked-longer log line a))
-            (AlongBy-push down_after (λ down e b. IsNotBuiltExactly e b) none_down (asked log) log.answers (line_of line) a g.ran.exact is.goes_on.exact);
-        served = All-append IsServed log.answers (a ∷ []) g.ran.served
-            (All-cons IsServed a [] (served_of engine.kind (span_of engine t) (engine.settings t.old) (IsSaveFailure engine t (line_of line))
-            (engine.based t.old) (engine.full t.old) (line_load (line_of line)) a is.caused) (All-nil IsServed));
+        each = subst (λ (x : List Line). AlongDowns (λ down e b. IsOwnAnswer e b) none_down x (log.answers ++ a ∷ [])) (sym (asked-longer log line a))
+            (AlongBy-push down_after (λ down e b. IsOwnAnswer e b) none_down (asked log) log.answers (line_of line) a g.ran.each is.goes_on.own);
         undamaged = λ free none. All-append IsUndamaged log.answers (a ∷ []) (g.ran.undamaged (free_before free) none)
             (All-cons IsUndamaged a [] (undamaged_of engine.kind (span_of engine t) (engine.settings t.old) (IsSaveFailure engine t (line_of line))
             (engine.based t.old) (engine.full t.old) (line_load (line_of line)) a
@@ -356,7 +392,9 @@ module _ {S State : Type 0} (engine : Engine S State) (laws : KindLaws engine.ki
         faults_of_run = λ by empty. rose is_device_fault_of_run
             (raises_of_run engine laws t next keeper (line_of line) a (unread_here by empty) is.caused) (g.ran.faults_of_run (either_before by) empty);
         grew = grew;
+        punched = g.ran.punched ++ is.punched.ranges;
         follows_on = each_on laws g.ran.follows_on next;
+        freed = freed_more;
       }
 
   -- the machine behind it
@@ -377,11 +415,17 @@ module _ {S State : Type 0} (engine : Engine S State) (laws : KindLaws engine.ki
       ∙ ap (λ (x : List Line). downs_after none_down x (log.answers ++ a ∷ [])) (sym (asked-longer log line a))
 
   pub so_far_more : SoFar engine opening (longer log line a) before t.after t.new
+  unfolding ran_more
   so_far_more = record {
     ran = ran_more;
     settings = is.goes_on.settings ∙ g.settings;
     downs = downs_more;
+    punched = punched_more;
     given = given_more;
     told = told_more;
     stands = stands_more;
+    quiet = λ tells tree from. quiet_more engine opening tree log (longer log line a) t (line_of line) a (asked-longer log line a) refl
+        (lawful_more tells tree from) (told_here tells tree from) (g.quiet tells tree from);
+    collected = λ tells tree from. collected_more engine opening tree log (longer log line a) t (line_of line) a (asked-longer log line a) refl
+        (lawful_more tells tree from) (told_here tells tree from) (g.quiet tells tree from) (g.collected tells tree from);
   }

@@ -1,6 +1,6 @@
 -- Where a line answers a fault that only a store or a keeper that failed can have caused, the counts of faults rise.
 use Rattle.std.proofs.Common.{◌≡◌, ◌≢◌, ◌⊎◌, ℕ, zero, suc, ◌+◌, ◌<◌, ◌≤◌, Bool, true, false, not, ◌||◌, if◌then◌else◌, List, [], ◌∷◌, length, Ok, Err, refl}
-use Rattle.std.proofs.Common.{sym, ◌∙◌, ap, subst, arith, inl, inr}
+use Rattle.std.proofs.Common.{get_or, sym, ◌∙◌, ap, subst, arith, inl, inr}
 use Rattle.std.specs.Prelude.{nat_lt, ⊤}
 use Rattle.std.specs.List.{All, Contains}
 use Rattle.std.proofs.lemmas.Bool.{cases_lt, eq-eqb, ne_eqb, le-ltb, le-leb, lt-leb}
@@ -9,9 +9,10 @@ use Rattle.wtf_base.specs.declared.settings.Settings.{Settings}
 use Rattle.wtf_base.specs.declared.slice.Slice.{Slice}
 use Rattle.wtf_dev.specs.Counts.{Rose}
 use Rattle.wtf_dev.specs.Keep.{KeeperView}
-use Rattle.wtf_dev.specs.Store.{StoreKind, KindLaws}
+use Rattle.wtf_dev.specs.Store.{Range, StoreKind, KindLaws}
 use Rattle.wtf_dev.specs.Each.{EachFollows}
 use Rattle.wtf_dev.specs.Sums.{all_faults}
+use Rattle.wtf_dev.proofs.Each.{each_kept}
 use Rattle.wtf_dev.proofs.Sums.{sum_still, all_faults-grows}
 use Rattle.wtf_overlay.specs.Origin.{Place}
 use Rattle.wtf_replica.specs.Spans.{Span}
@@ -21,7 +22,7 @@ use Rattle.wtf_model.specs.declared.answer.Answer.{Answer}
 use Rattle.wtf_model.specs.declared.answer.Answer.TheVariants as answer
 use Rattle.wtf_model.specs.declared.event.Event.{Event}
 use Rattle.wtf_model.specs.declared.event.Event.TheVariants as event
-use Rattle.wtf_core.specs.Outcomes.{Load, AscendFrom, last_of, IsLost, IsUnread, SaveFault, HasCause}
+use Rattle.wtf_core.specs.Outcomes.{Load, AscendFrom, last_of, IsLost, IsUnread, SaveFault, HasCause, Frees, PunchFault}
 use Rattle.wtf_model.specs.Lines.{Line, AlongBy, count_by}
 use Rattle.wtf_model.specs.Servers.{downs_below, downs, down_after, AlongDowns, is_device_fault, is_device_fault_of_run, count_along, IsAllUp}
 use Rattle.wtf_serve.specs.Answering.{line_load}
@@ -29,7 +30,6 @@ use Rattle.wtf_serve.specs.Engines.{Engine, Step, span_of, IsSaveFailure, IsCaus
 use Rattle.wtf_serve.specs.Logs.{is_fault, fault_count}
 use Rattle.wtf_serve.specs.Stocks.{Stock, faults_in, AreCounting, IsSaveFault}
 use Rattle.wtf_base.proofs.Elements.{contains_cons, in_tail, element}
-use Rattle.wtf_replica.proofs.Spans.{each_kept}
 
 -- how much a test counts for
 abbrev pub one : Bool → ℕ
@@ -118,9 +118,17 @@ no_downs down up (suc n) = omega (arith, one-false (down n) (up n), no_downs dow
 
 -- Where no store failed
 
+-- no store's count of faults falls, whatever is punched
+abbrev pub FaultsGrow : {S : Type 0} → StoreKind S → List S → List S → Type 0
+FaultsGrow {S} kind old new = (k : ℕ) (d : S) → k < length old → (kind.view (get_or old k d)).faults ≤ (kind.view (get_or new k d)).faults
+
+pub faults_grow : {S : Type 0} {kind : StoreKind S} → KindLaws kind → {old new : List S} {ranges : List (ℕ × Range)} → EachFollows kind old new ranges
+    → FaultsGrow kind old new
+faults_grow laws e k d h = (each_kept laws e k d h).faults
+
 -- the counts of faults grew, or no store's and not the keeper's did
-pub rose_or_still : {S : Type 0} {kind : StoreKind S} → KindLaws kind → (old new : Stock S) → EachFollows kind old.shelf new.shelf []
-    → old.keeper.faults ≤ new.keeper.faults → AreCounting kind new
+pub rose_or_still : {S : Type 0} {kind : StoreKind S} → KindLaws kind → (old new : Stock S) → {ranges : List (ℕ × Range)}
+    → EachFollows kind old.shelf new.shelf ranges → old.keeper.faults ≤ new.keeper.faults → AreCounting kind new
     → (faults_in kind old + 1 ≤ faults_in kind new) ⊎ (((k : ℕ) → HasRisen kind old.shelf new.shelf k → ⊥) × (Rose old.keeper.faults new.keeper.faults → ⊥))
 rose_or_still {kind = kind} laws old new e grew low = elim (cases_lt (faults_in kind old) (faults_in kind new)) [
   | inl more ↦ inl (omega (arith, more))
@@ -130,7 +138,7 @@ rose_or_still {kind = kind} laws old new e grew low = elim (cases_lt (faults_in 
       inr (
         λ k risen.
             let d = element old.shelf k risen.0 in
-            let same = sum_still (λ s. (kind.view s).faults) old.shelf new.shelf e.same_length (λ j x h. (each_kept laws e j x h).faults) least k d risen.0 in
+            let same = sum_still (λ s. (kind.view s).faults) old.shelf new.shelf e.same_length (faults_grow laws e) least k d risen.0 in
             omega (arith, same, risen.1 d (low.0 k d (omega (arith, risen.0, e.same_length)))),
         λ rose. omega (arith, rose low.1, less, grows, grew),
       )
@@ -178,14 +186,21 @@ module _ {S : Type 0} (kind : StoreKind S) (t : Span S) (none : (k : ℕ) → Ha
 
   module _ (saving : Type 0) (based : (Slice → Bool) → Type 0) (full : Type 0) (given : Load)
       (save : saving → IsSaveFault kind t settings.servers old new) where
+    -- a collection that failed while its server is up raised that one's count
+    no_punch : (load : Load) (k : ℕ) → PunchFault kind t load k → not (t.down k) ≡ false
+    no_punch (Frees j) k (same, out) = ap not (out_down k out)
+    no_punch load k h = absurd h
+
     no_fault : (a : Answer) → HasCause kind t settings saving based full given a → is_device_fault settings t.down a ≡ false
     no_fault (answer.FaultRead k) cause = ap not (last_down cause.places k cause.lost)
+    no_fault (answer.FaultPunch k) cause = no_punch given k cause
     no_fault answer.FaultWrite cause = no_write cause.1
     no_fault answer.FaultSave cause = no_save (save cause)
     no_fault a cause = refl
 
     no_fault_of_run : (a : Answer) → ((k : ℕ) → a ≡ answer.FaultRead k → IsUnread kind t settings ⊤ k)
         → HasCause kind t settings saving based full given a → is_device_fault_of_run settings t.down a ≡ false
+    no_fault_of_run (answer.FaultPunch k) read cause = no_punch given k cause
     no_fault_of_run (answer.FaultRead k) read cause = let unread = read k refl in no_read_of_run unread.places k (unread.width tt) unread.lost
     no_fault_of_run answer.FaultWrite read cause = no_write cause.1
     no_fault_of_run answer.FaultSave read cause = no_save (save cause)
@@ -205,8 +220,9 @@ save_fault engine t (Ok e) why = save_event engine.kind (span_of engine t) (engi
 save_fault engine t (Err bad) why = absurd why
 
 -- a line that answers a fault that only a store or a keeper that failed can have caused raises the counts
-pub raises : {S State : Type 0} (engine : Engine S State) → KindLaws engine.kind → (t : Step S State) → EachFollows engine.kind t.before.shelf t.after.shelf []
-    → t.before.keeper.faults ≤ t.after.keeper.faults → (line : Line) (a : Answer) → IsCaused engine t line a
+pub raises : {S State : Type 0} (engine : Engine S State) → KindLaws engine.kind → (t : Step S State) → {ranges : List (ℕ × Range)}
+    → EachFollows engine.kind t.before.shelf t.after.shelf ranges → t.before.keeper.faults ≤ t.after.keeper.faults
+    → (line : Line) (a : Answer) → IsCaused engine t line a
     → AreCounting engine.kind t.after
     → is_device_fault (engine.settings t.old) (engine.down t.old) a ≡ true → faults_in engine.kind t.before + 1 ≤ faults_in engine.kind t.after
 raises engine laws t e grew line a cause low fault = elim (rose_or_still laws t.before t.after e grew low) [
@@ -226,9 +242,8 @@ full_unread engine t line a full cause k is =
     record { places = here.places; lost = here.lost; width = λ _. here.width full }
 
 -- and so does one that only such a store can have caused where a byte that was not read had as many copies as there are replicas
-pub raises_of_run : {S State : Type 0} (engine : Engine S State) → KindLaws engine.kind → (t : Step S State)
-    → EachFollows engine.kind t.before.shelf t.after.shelf []
-    → t.before.keeper.faults ≤ t.after.keeper.faults → (line : Line) (a : Answer)
+pub raises_of_run : {S State : Type 0} (engine : Engine S State) → KindLaws engine.kind → (t : Step S State) → {ranges : List (ℕ × Range)}
+    → EachFollows engine.kind t.before.shelf t.after.shelf ranges → t.before.keeper.faults ≤ t.after.keeper.faults → (line : Line) (a : Answer)
     → ((k : ℕ) → a ≡ answer.FaultRead k → IsUnread engine.kind (span_of engine t) (engine.settings t.old) ⊤ k) → IsCaused engine t line a
     → AreCounting engine.kind t.after
     → is_device_fault_of_run (engine.settings t.old) (engine.down t.old) a ≡ true → faults_in engine.kind t.before + 1 ≤ faults_in engine.kind t.after
@@ -246,6 +261,7 @@ raises_of_run engine laws t e grew line a read cause low fault = elim (rose_or_s
 -- a fault is a device's
 up_fault : (settings : Settings) (down : ℕ → Bool) (a : Answer) → ((k : ℕ) → down k ≡ false) → one (is_device_fault settings down a) ≡ one (is_fault a)
 up_fault settings down (answer.FaultRead k) up = ap (λ (b : Bool). one (not b)) (up k)
+up_fault settings down (answer.FaultPunch k) up = ap (λ (b : Bool). one (not b)) (up k)
 up_fault settings down answer.FaultWrite up =
     let fits : settings.replicas + downs settings down ≤ settings.servers = omega (arith, no_downs down up settings.servers, settings.limits) in
     one-true (is_device_fault settings down answer.FaultWrite) (le-leb (settings.replicas + downs settings down) settings.servers fits)

@@ -1,5 +1,5 @@
 -- With which core a run begins, and why it does not.
-use Rattle.std.proofs.Common.{◌≡◌, ◌≢◌, ◌<◌, ◌≤◌, ℕ, Bool, false, List, [], ◌∷◌, length, refl, sym, ◌∙◌, ap, subst, arith}
+use Rattle.std.proofs.Common.{◌≡◌, ◌≢◌, ◌<◌, ◌≤◌, ℕ, Bool, false, List, [], ◌∷◌, length, refl, sym, ◌∙◌, ap, subst, arith, inl}
 use Rattle.std.proofs.lemmas.List.{append-nil}
 use Rattle.std.proofs.Math.Path.{fun_ext}
 use Rattle.wtf_base.specs.declared.settings.Settings.{Settings}
@@ -7,6 +7,7 @@ use Rattle.wtf_base.specs.declared.slice.Slice.{Slice}
 use Rattle.wtf_dev.specs.Store.{StoreKind}
 use Rattle.wtf_dev.specs.Sums.{TellsAll}
 use Rattle.wtf_overlay.specs.Origin.{Place}
+use Rattle.wtf_region.specs.Inside.{is_inside}
 use Rattle.wtf_replica.specs.Bytes.{byte_at}
 use Rattle.wtf_replica.specs.Downs.{is_down}
 use Rattle.wtf_model.specs.Machines.{start}
@@ -21,10 +22,14 @@ use Rattle.wtf_image.specs.Rules.{AreGoodSettings, size_in}
 use Rattle.wtf_image.specs.Texts.{image_text}
 use Rattle.wtf_image.specs.Loading.{IsChecked, IsCheckRefusal, IsRefusal}
 use Rattle.wtf_image.proofs.Forms.{one_image}
-use Rattle.wtf_core.specs.Views.{CoreView}
+use Rattle.wtf_gc.specs.Extents.{covers}
+use Rattle.wtf_gc.specs.Views.{GcView, new_gc}
+use Rattle.wtf_core.specs.Views.{BesideView, CoreView, unsaved}
 use Rattle.wtf_core.specs.Tables.{AreSound}
 use Rattle.wtf_core.specs.Standing.{StandsFor}
 use Rattle.wtf_core.specs.Telling.{TellsCore, IsWithin, stores_of}
+use Rattle.wtf_core.specs.Keeping.{IsHeldBy}
+use Rattle.wtf_core.proofs.Started.{lie_first}
 use Rattle.wtf_core.proofs.Telling.{told_first}
 use Rattle.wtf_core.specs.Named.{CoreBytes, IsInside, IsBare, any_byte, no_slice}
 use Rattle.wtf_core.specs.Loading.{IsCoreOf}
@@ -39,14 +44,18 @@ use Rattle.wtf_serve.specs.Unopened.{HasServers}
 pub same_rows : (x y : ImageRows) (bytes : List ℕ) → HasText x bytes → HasText y bytes → x ≡ y
 same_rows x y bytes first second = (one_image x y [] first.shape second.shape (sym second.text ∙ first.text ∙ sym (append-nil (image_text x)))).0
 
+-- nothing was freed yet
+none_freed : (gc : GcView) → gc ≡ new_gc → (p : Place) → covers gc.freed p ≡ false
+none_freed gc new p = ap (λ (g : GcView). covers g.freed p) new
+
 -- ---- the core of a keeper that holds nothing
 
 pub new_opened : {S : Type 0} (kind : StoreKind S) (shelf : List S) (settings : Settings) (core : CoreView) → settings.servers ≤ length shelf
     → core.settings ≡ settings → core.closed ≡ false → core.tables.kv.number ≡ 0 → core.tables.next_tx ≡ 1 → AreSound core.tables
     → ((told : Told) → StandsFor told core (start settings 0 root_alone)) → ((P : List Place → Bool) (Q : Slice → Bool) → CoreBytes P Q core)
-    → ((k : ℕ) → is_down core.replicas k ≡ false) → core.lists ≡ []
+    → ((k : ℕ) → is_down core.replicas k ≡ false) → core.lists ≡ [] → core.tables.beside ≡ unsaved
     → IsOpenedBy (engine kind) settings [] shelf core
-new_opened kind shelf settings core enough settings_is not_closed number next_tx sound stands names up none_known = record {
+new_opened kind shelf settings core enough settings_is not_closed number next_tx sound stands names up none_known beside = record {
   opening = new_opening settings;
   bytes_are = refl;
   opens = refl;
@@ -55,12 +64,18 @@ new_opened kind shelf settings core enough settings_is not_closed number next_tx
       not_closed = not_closed;
       tables = sound;
       servers = omega (arith, ap (λ (s : Settings). s.servers) settings_is, enough);
-      inside = names _ any_slice;
+      inside = record {
+        tables = (names (is_inside kind shelf core.settings) any_slice).tables;
+        lists = (names (is_inside kind shelf core.settings) any_slice).lists;
+        scans = lie_first core.tables.beside.gc (size_in kind shelf) (ap (λ (b : BesideView). b.gc) beside);
+      };
     };
     settings = settings_is;
     number = number;
     next_tx = next_tx;
     up = fun_ext up;
+    unfreed = none_freed core.tables.beside.gc (ap (λ (b : BesideView). b.gc) beside);
+    kept = λ k held. ([], held, inl (refl, ap (λ (b : BesideView). b.none) beside));
     given = record { full = λ free empty. (names _ no_slice).tables; bare = λ free none. (names any_byte no_slice).tables };
     told = λ all.
         let (tells, wide, within) = told_first kind shelf core names none_known all in
@@ -88,9 +103,10 @@ pub loaded_opened : {S : Type 0} (kind : StoreKind S) (shelf : List S) (asked : 
     → (TellsAll kind shelf → (t : Tree) → IsImageOfTree (byte_at kind shelf) image t → TellsCore kind shelf core)
     → (IsBareImage image → IsWithin kind shelf core)
     → ((t : Tree) → IsImageOfTree (byte_at kind (stores_of core.settings shelf)) image t → IsWithin kind shelf core)
+    → IsHeldBy core.tables core.settings image
     → IsOpenedBy (engine kind) asked image shelf core
-loaded_opened kind shelf asked [] core some servers is not_closed sound up inside bare stands tells within from_first = absurd (some refl)
-loaded_opened kind shelf asked (b ∷ image) core some servers is not_closed sound up inside bare stands tells within from_first = record {
+loaded_opened kind shelf asked [] core some servers is not_closed sound up inside bare stands tells within from_first held = absurd (some refl)
+loaded_opened kind shelf asked (b ∷ image) core some servers is not_closed sound up inside bare stands tells within from_first held = record {
   opening = record { bytes = b ∷ image; settings = core.settings; number = core.tables.kv.number; next_tx = core.tables.next_tx };
   bytes_are = refl;
   opens = record { rows = is.rows; text = is.taken.text; good = is.taken.good; settings = is.settings; number = is.number; next_tx = is.next_tx };
@@ -105,6 +121,8 @@ loaded_opened kind shelf asked (b ∷ image) core some servers is not_closed sou
     number = refl;
     next_tx = refl;
     up = fun_ext up;
+    unfreed = none_freed core.tables.beside.gc (ap (λ (b : BesideView). b.gc) is.beside);
+    kept = λ k there. (b ∷ image, there, held);
     given = record { full = λ free empty. cc; bare = λ free. bare };
     told = λ all. record {
       tells = λ t from. tells all t from;

@@ -25,6 +25,7 @@ use Rattle.wtf_serve.specs.Turns.{WroteFront}
 use Rattle.wtf_serve.specs.Unopened.{IsRun}
 use Rattle.wtf_serve.proofs.Finishing.{finish_end, finish_stop}
 use Rattle.wtf_serve.proofs.Going.{Going, going_none, going_on}
+use Rattle.wtf_serve.proofs.Leaving.{KeepsWithin}
 use Rattle.wtf_serve.proofs.Starting.{same_rows}
 use Rattle.wtf_serve.proofs.Unstarted.{unwritten}
 
@@ -128,15 +129,15 @@ module _ {S State : Type 0} (engine : Engine S State) (laws : KindLaws engine.ki
   underway_on more pass = underway engine asked u.opening start next (bad || more) u.opens u.given
       (going_on engine laws u.opening start now next bad u.going more pass)
 
-  pub underway_end : (status : ℕ) (final : Stock S) (state' : State) → PassIs engine now next (Ok None)
+  pub underway_end : KeepsWithin engine → (status : ℕ) (final : Stock S) (state' : State) → PassIs engine now next (Ok None)
       → EachFollows engine.kind next.stock.shelf final.shelf []
       → KeeperGoesOn next.stock.keeper final.keeper → Closes engine (step next.stock final next.state state') bad status
       → IsRun engine.kind handed asked status start (record { source = next.input.source; sink = next.sink; stock = final })
-  underway_end status final state' pass follows keeper closes =
+  underway_end keeps status final state' pass follows keeper closes =
       opened status (record { source = next.input.source; sink = next.sink; stock = final })
-      (finish_end engine laws handed u.opening start now next bad u.going status final state' pass follows keeper closes)
+      (finish_end engine laws keeps handed u.opening start now next bad u.going status final state' pass follows keeper closes)
 
-  pub underway_stop : (why : Stop) → PassIs engine now next (Err why)
+  pub underway_stop : KeepsWithin engine → (why : Stop) → PassIs engine now next (Err why)
       → IsRun engine.kind handed asked (stop_status why) start (record { source = next.input.source; sink = next.sink; stock = next.stock })
-  underway_stop why pass = opened (stop_status why) (record { source = next.input.source; sink = next.sink; stock = next.stock })
-      (finish_stop engine laws handed u.opening start now next bad u.going why pass)
+  underway_stop keeps why pass = opened (stop_status why) (record { source = next.input.source; sink = next.sink; stock = next.stock })
+      (finish_stop engine laws keeps handed u.opening start now next bad u.going why pass)

@@ -4,7 +4,7 @@ use Rattle.wtf_dev.specs.Counts.{Rose}
 use Rattle.wtf_dev.specs.Keep.{KeeperView}
 use Rattle.wtf_dev.specs.Streams.{SinkView}
 use Rattle.wtf_dev.specs.Store.{StoreKind, KindLaws}
-use Rattle.wtf_dev.proofs.Each.{each_same}
+use Rattle.wtf_dev.proofs.Each.{each_same, each_on}
 use Rattle.wtf_model.specs.Servers.{none_down, is_device_fault, is_device_fault_of_run, count_along}
 use Rattle.wtf_image.specs.Rules.{size_in}
 use Rattle.wtf_serve.specs.Endings.{Devices, IsServedStatus, IsKept, Served}
@@ -42,6 +42,9 @@ module _ {S : Type 0} (kind : StoreKind S) (laws : KindLaws kind) (handed : List
         taken = 0;
         mid = end;
         ran = ran;
+        rest = [];
+        rest_none = λ _. refl;
+        rest_line = inl refl;
         rest_follows = each_same laws start.stock.shelf;
         at_end = λ _. refl;
         rest_adds = λ whole. absurd (omega (arith, whole, which));
@@ -74,14 +77,16 @@ module _ {S : Type 0} (kind : StoreKind S) (laws : KindLaws kind) (handed : List
         faults_of_run = λ by empty. closing_rose laws opening.settings status (last_downs (record { lines = []; answers = [] })) start.stock end end
             (count_along (is_device_fault_of_run opening.settings) none_down [] []) (each_same laws start.stock.shelf) same
             (λ d. absurd (omega (arith, d, which))) (ran.faults_of_run by empty);
-        follows_on = each_same laws start.stock.shelf;
+        follows_on = each_on laws ran.follows_on (each_same laws start.stock.shelf);
         complete = λ many still up end. (
           refl,
           still_status status start.source.faults start.source.faults start.sink.faults sink'.faults statuses (λ is. omega (arith, many, few_stores.0 is))
               (λ d. absurd (omega (arith, d, which))) cause (λ d. absurd (omega (arith, d, which))) still.source_is still.sink_is,
         );
         left = λ is. absurd (cc);
+        left_within = λ is. absurd (cc);
         next = λ is. absurd (cc);
+        quiet = λ k ends. absurd (omega (arith, ends, which));
       }
 
   -- for want of memory

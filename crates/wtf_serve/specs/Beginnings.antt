@@ -1,6 +1,7 @@
 -- With what a run begins its lines, and with what it ends them.
-use Rattle.std.specs.Prelude.{◌≡◌, ◌⊎◌, ◌<◌, ◌≤◌, ℕ, Bool, List, length, Some, Ok, ⊤}
+use Rattle.std.specs.Prelude.{◌≡◌, ◌⊎◌, ◌<◌, ◌≤◌, ℕ, Bool, false, List, length, Some, Ok, ⊤}
 use Rattle.wtf_base.specs.declared.settings.Settings.{Settings}
+use Rattle.wtf_base.specs.Places.{Place}
 use Rattle.wtf_dev.specs.Keep.{KeeperView}
 use Rattle.wtf_dev.specs.Store.{StoreKind}
 use Rattle.wtf_dev.specs.Streams.{SinkView}
@@ -20,7 +21,7 @@ use Rattle.wtf_serve.specs.Scripts.{end_status}
 use Rattle.wtf_serve.specs.Unopened.{IsRefusedBy, Refuses}
 
 -- A state that a run can begin with: what it was opened with is the state's, all servers are up, and it stands for the
--- machine before the first line. There are stores enough, and an image is taken.
+-- machine before the first line. There are stores enough, an image is taken and kept, and nothing was freed.
 pub record IsReady {S State : Type 0} (engine : Engine S State) (opening : Opening) (shelf : List S) (state : State)
     : Type 0 where
   pub sound : engine.sound shelf state
@@ -28,6 +29,8 @@ pub record IsReady {S State : Type 0} (engine : Engine S State) (opening : Openi
   pub number : engine.number state ≡ opening.number
   pub next_tx : engine.next_tx state ≡ opening.next_tx
   pub up : engine.down state ≡ none_down
+  pub unfreed : (p : Place) → engine.freed state p ≡ false
+  pub kept : (k : KeeperView) → k.held ≡ Some opening.bytes → engine.kept k state
   pub given : IsAsGiven engine opening.bytes ⊤ state
   pub told : TellsAll engine.kind shelf → IsAsTold engine opening shelf shelf state
   pub stands : (t : Tree) → StartsFrom (byte_at engine.kind shelf) opening.bytes t → engine.stands shelf state (first opening t)

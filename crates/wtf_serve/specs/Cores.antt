@@ -7,7 +7,10 @@ use Rattle.wtf_core.specs.Views.{CoreView}
 use Rattle.wtf_core.specs.Tables.{AreSound}
 use Rattle.wtf_core.specs.Standing.{StandsFor}
 use Rattle.wtf_core.specs.Named.{IsInside, IsBased, IsFull}
+use Rattle.wtf_core.specs.Keeping.{HoldsKept}
+use Rattle.wtf_core.specs.Quiet.{IsAtStage, HasCollected}
 use Rattle.wtf_core.specs.Telling.{TellsCore, IsWide, IsWithin}
+use Rattle.wtf_gc.specs.Extents.{covers}
 use Rattle.wtf_serve.specs.Engines.{Engine}
 
 -- a core between two lines: it is open, its tables are sound, its servers are there, and all bytes that it names lie
@@ -32,4 +35,8 @@ engine kind = record {
   tells = TellsCore kind;
   wide = IsWide kind;
   within = IsWithin kind;
+  kept = λ keeper core. HoldsKept keeper core.settings core.tables;
+  freed = λ core. covers core.tables.beside.gc.freed;
+  quiet = λ s shelf core. IsAtStage kind shelf core s;
+  collected = λ k shelf core. HasCollected kind shelf core k;
 }

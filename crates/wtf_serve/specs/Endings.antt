@@ -1,9 +1,10 @@
 -- What a run promises that was opened: of its lines, of how it ends, and of what it leaves on the keeper.
 use Rattle.std.specs.Prelude.{◌≡◌, ◌≢◌, ◌↔◌, ◌⊎◌, ◌<◌, ◌≤◌, ◌+◌, ◌-◌, ◌^◌, ◌==◌, ◌&&◌, ℕ, Bool, true, false, min, if◌then◌else◌, List, [], ◌∷◌, ◌++◌, length}
-use Rattle.std.specs.Prelude.{Option, Some}
+use Rattle.std.specs.Prelude.{Option, Some, Ok}
 use Rattle.wtf_base.specs.declared.settings.Settings.{Settings}
+use Rattle.wtf_base.specs.Places.{Place}
 use Rattle.wtf_dev.specs.Counts.{Rose}
-use Rattle.wtf_dev.specs.Store.{StoreKind}
+use Rattle.wtf_dev.specs.Store.{Range, StoreKind}
 use Rattle.wtf_dev.specs.Streams.{SourceView, SinkView}
 use Rattle.wtf_dev.specs.Each.{EachFollows}
 use Rattle.wtf_dev.specs.Keep.{KeeperView}
@@ -13,14 +14,17 @@ use Rattle.wtf_replica.specs.Outs.{SameLengths}
 use Rattle.wtf_replica.specs.Spans.{span}
 use Rattle.wtf_model.specs.declared.answer.Answer.{Answer}
 use Rattle.wtf_model.specs.declared.answer.Answer.TheVariants as answer
+use Rattle.wtf_model.specs.declared.event.Event.TheVariants as event
 use Rattle.wtf_model.specs.Tree.{Tree}
 use Rattle.wtf_model.specs.Machines.{Machine}
 use Rattle.wtf_model.specs.Steps.{Accepts}
 use Rattle.wtf_model.specs.Lines.{MayLine, Along, after_line, events_of, answers_to}
 use Rattle.wtf_model.specs.Servers.{none_down, AlongDowns, is_device_fault, is_device_fault_of_run, count_along, IsAllUp}
 use Rattle.wtf_meta.specs.Contents.{Told}
+use Rattle.wtf_gc.specs.Frees.{AreApart, lie_in}
 use Rattle.wtf_image.specs.Rules.{size_in}
 use Rattle.wtf_core.specs.Pictured.{IsImageOfTree, IsImageOfOne, IsImageWith, IsTakenFor}
+use Rattle.wtf_core.specs.Telling.{stores_of}
 use Rattle.wtf_script.specs.declared.limits.TheConstants.{SCRIPT_BYTES}
 use Rattle.wtf_script.specs.ScriptLines.{lines_of}
 use Rattle.wtf_serve.specs.declared.service.Stop.{Stop}
@@ -28,6 +32,7 @@ use Rattle.wtf_serve.specs.declared.service.Stop.TheVariants as stop
 use Rattle.wtf_serve.specs.Scripts.{line_of, has_bad, IsEndStatus, IsWholeStatus, end_status}
 use Rattle.wtf_serve.specs.Openings.{Opening, IsTakenOver, StartsFrom, first}
 use Rattle.wtf_serve.specs.Logs.{Log, asked, last, last_downs, output, fault_count, IsUnspilledLog}
+use Rattle.wtf_serve.specs.Quiet.{HasQuietEnding, AreUsed}
 use Rattle.wtf_serve.specs.Runs.{IsStill, AreStoresStill, Ran}
 use Rattle.wtf_serve.specs.Stocks.{Stock, RoseBy, IsSaveFault, IsTelling}
 use Rattle.wtf_serve.specs.Traces.{HasRead, HasWritten}
@@ -82,12 +87,25 @@ pub record IsUnstarted {S : Type 0} (handed : List (List ℕ) → Type 0) (statu
 abbrev pub closing_faults : Settings → ℕ → (ℕ → Bool) → ℕ
 closing_faults settings status down = if (status == 5) && is_device_fault settings down answer.FaultSave then 1 else 0
 
+-- the script has this line behind these
+abbrev pub IsNextLine : Option (List ℕ) → List (List ℕ) → List ℕ → Type 0
+IsNextLine script lines line = (all : List ℕ) → script ≡ Some all → (more : List (List ℕ)) × (lines_of all ≡ lines ++ line ∷ more)
+
+-- The next line of the script behind these asks for a collection, and these ranges lie on its server and share no byte.
+pub record IsOfCollect (script : Option (List ℕ)) (lines : List (List ℕ)) (ranges : List (ℕ × Range)) : Type 0 where
+  pub line : List ℕ
+  pub next : IsNextLine script lines line
+  pub server : ℕ
+  pub asks : line_of line ≡ Ok (event.Collect server)
+  pub apart : AreApart ranges
+  pub there : (p : Place) → lie_in ranges p ≡ true → p.server ≡ server
+
 -- the next line of the script behind these was answered, and the bytes are the image of a tree that the machine may have
 -- saved then
 pub record IsOfNext (told : Told) (m : Machine) (script : Option (List ℕ)) (lines : List (List ℕ)) (bytes : List ℕ)
     : Type 0 where
   pub line : List ℕ
-  pub next : (all : List ℕ) → script ≡ Some all → (more : List (List ℕ)) × (lines_of all ≡ lines ++ line ∷ more)
+  pub next : IsNextLine script lines line
   pub answer : Answer
   pub may : MayLine m (line_of line) answer
   pub image : IsImageOfOne told bytes (after_line m (line_of line) answer).may_be_saved
@@ -118,12 +136,11 @@ pub record IsNext (size : ℕ → ℕ → ℕ) (opening : Opening) (m : Machine)
   pub memory : status ≡ 7 → IsTakenFor size opening.settings (m.number + 1) (opening.next_tx + length lines + 1) bytes
 
 -- Where stores and keeper tell, and the numbers of the image leave room for the script's: P holds of the tree that the run
--- starts from, and of the bytes that it leaves on the keeper.
-abbrev pub LeavesSuch : {S : Type 0} → StoreKind S → Opening → Devices S → Devices S → (Tree → List ℕ → Type 0) → Type 0
-LeavesSuch kind opening old new P =
+-- starts from, over what is told, and of the bytes that it leaves on the keeper.
+abbrev pub LeavesSuch : {S : Type 0} → StoreKind S → Told → Opening → Devices S → Devices S → (Tree → List ℕ → Type 0) → Type 0
+LeavesSuch kind told opening old new P =
     TellsAll kind old.stock.shelf → IsTelling old.stock.keeper opening.bytes → opening.number ≤ 2 ^ 61 → opening.next_tx ≤ 2 ^ 61
-    → (t : Tree) → StartsFrom (byte_at kind old.stock.shelf) opening.bytes t
-    → (bytes : List ℕ) → new.stock.keeper.held ≡ Some bytes → P t bytes
+    → (t : Tree) → StartsFrom told opening.bytes t → (bytes : List ℕ) → new.stock.keeper.held ≡ Some bytes → P t bytes
 
 -- A run that was opened, with the devices before and after it; `handed` says which images were handed to the keeper
 pub record Served {S : Type 0} (kind : StoreKind S) (handed : List (List ℕ) → Type 0) (opening : Opening) (status : ℕ)
@@ -137,7 +154,11 @@ pub record Served {S : Type 0} (kind : StoreKind S) (handed : List (List ℕ) �
   -- save, or with status 7
   pub mid : Stock S
   pub ran : Ran kind opening log old.stock mid
-  pub rest_follows : EachFollows kind mid.shelf new.stock.shelf []
+  -- what a last line punched that was answered, and no memory was found for its text: a collection alone may have
+  pub rest : List (ℕ × Range)
+  pub rest_none : status ≢ 7 → rest ≡ []
+  pub rest_line : (rest ≡ []) ⊎ IsOfCollect old.source.rest log.lines rest
+  pub rest_follows : EachFollows kind mid.shelf new.stock.shelf rest
   pub at_end : IsEarlyStatus status → mid ≡ new.stock
   -- the closing save adds no byte
   pub rest_adds : IsWholeStatus status → SameLengths kind mid.shelf new.stock.shelf
@@ -176,19 +197,26 @@ pub record Served {S : Type 0} (kind : StoreKind S) (handed : List (List ℕ) �
   pub faults_of_run : IsUnspilledLog log ⊎ TellsAll kind old.stock.shelf → opening.bytes ≡ [] → RoseBy kind old.stock new.stock
       (count_along (is_device_fault_of_run opening.settings) none_down (asked log) log.answers
       + closing_faults opening.settings status (last_downs log))
-  -- nothing is punched
-  pub follows_on : EachFollows kind old.stock.shelf new.stock.shelf []
+  -- no more is punched than what the lines did
+  pub follows_on : EachFollows kind old.stock.shelf new.stock.shelf (ran.punched ++ rest)
   -- where there are stores enough, no device failed, and no server was down at any line or at the end, no line answers a
   -- fault, and the status is 0, 1, 7 or 9
   pub complete : opening.settings.servers ≤ length old.stock.shelf → AreStill kind old new
       → AlongDowns IsAllUp none_down (asked log) log.answers → ((k : ℕ) → last_downs log k ≡ false)
       → (fault_count log.answers ≡ 0) × (IsEndStatus status ⊎ (status ≡ 7) ⊎ (status ≡ 9))
   -- the run leaves on the keeper the image of what the lines made of the tree that it started from
-  pub left : started ≡ true → LeavesSuch kind opening old new
+  pub left : started ≡ true → LeavesSuch kind (byte_at kind old.stock.shelf) opening old new
       (λ t bytes. IsLeft (byte_at kind new.stock.shelf) (last opening t log) old.source.rest log.lines status bytes)
+  -- and where that tree stood over the stores of the settings' servers by themselves, what is left stands over these, as
+  -- `Ran.undamaged_from` asks of the next run
+  pub left_within : started ≡ true → LeavesSuch kind (byte_at kind (stores_of opening.settings old.stock.shelf)) opening old new
+      (λ t bytes. IsLeft (byte_at kind (stores_of opening.settings new.stock.shelf)) (last opening t log) old.source.rest log.lines status bytes)
   -- and the next run can begin with that
-  pub next : started ≡ true → LeavesSuch kind opening old new
+  pub next : started ≡ true → LeavesSuch kind (byte_at kind old.stock.shelf) opening old new
       (λ t bytes. IsNext (size_in kind new.stock.shelf) opening (last opening t log) log.lines status bytes)
+  -- where the script has a quiet ending for a server each byte of that server was punched or is named by the image
+  pub quiet : (k : ℕ) → IsEndStatus status → LeavesSuch kind (byte_at kind old.stock.shelf) opening old new
+      (λ t bytes. HasQuietEnding opening t log k → AreUsed (byte_at kind new.stock.shelf) (size_in kind new.stock.shelf) ran.punched bytes k)
 
 -- The headline of a run that read its script to its end, over devices that tell what they hold: each line is answered, the
 -- machine accepts the answers from the tree that the run starts with, and a retry comes only where others have changed what was

@@ -3,6 +3,8 @@ pub mod Answering
 pub mod Stocks
 pub mod Openings
 pub mod Logs
+pub mod Punched
+pub mod Quiet
 pub mod Engines
 pub mod Cores
 pub mod Turns

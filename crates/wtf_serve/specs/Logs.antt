@@ -37,11 +37,6 @@ first_line opening = settings_line opening.settings opening.number
 abbrev pub output : Opening → List Answer → List ℕ
 output opening answers = first_line opening ++ flat_map line_text answers
 
--- the faults that lines may answer: of a read, of a write and of a save, and that what was read as a list is none
-abbrev pub IsServed : Answer → Type 0
-IsServed (answer.FaultPunch k) = ⊥
-IsServed a = Unit {0}
-
 -- an answer that says of no list that it is none
 abbrev pub IsUndamaged : Answer → Type 0
 IsUndamaged (answer.Damaged k) = ⊥
@@ -50,6 +45,7 @@ IsUndamaged a = Unit {0}
 abbrev pub is_fault : Answer → Bool
 is_fault (answer.FaultRead k) = true
 is_fault answer.FaultWrite = true
+is_fault (answer.FaultPunch k) = true
 is_fault answer.FaultSave = true
 is_fault a = false
 

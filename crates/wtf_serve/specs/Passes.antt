@@ -1,8 +1,7 @@
 -- What reading a line, answering it and writing its answer give.
-use Rattle.std.specs.Prelude.{◌≡◌, ◌≢◌, ◌⊎◌, ◌<◌, ◌≤◌, ◌+◌, ℕ, Bool, true, List, [], length, Option, Some, None, Result, Ok, Err, is_err}
+use Rattle.std.specs.Prelude.{◌≡◌, ◌≢◌, ◌⊎◌, ◌<◌, ◌≤◌, ◌+◌, ℕ, Bool, true, List, length, Option, Some, None, Result, Ok, Err, is_err}
 use Rattle.wtf_dev.specs.Counts.{Rose}
 use Rattle.wtf_dev.specs.Streams.{SourceView, SinkView}
-use Rattle.wtf_dev.specs.Each.{EachFollows}
 use Rattle.wtf_model.specs.Lines.{Line}
 use Rattle.wtf_serve.specs.declared.service.Stop.{Stop}
 use Rattle.wtf_serve.specs.declared.service.Stop.TheVariants as stop
@@ -12,7 +11,7 @@ use Rattle.wtf_serve.specs.Scripts.{line_of}
 use Rattle.wtf_serve.specs.Engines.{Engine, Step}
 use Rattle.wtf_serve.specs.Answering.{IsFormLine}
 use Rattle.wtf_serve.specs.Stocks.{Stock, KeeperGoesOn}
-use Rattle.wtf_serve.specs.Turns.{IsDone, IsCutOff, IsUnwritten}
+use Rattle.wtf_serve.specs.Turns.{IsDone, IsCutOff, IsLeftAlone, IsUnwritten}
 
 -- what a run reads its lines from: the source, and what the reader holds of it
 pub record Input : Type 0 where
@@ -107,10 +106,10 @@ pub record IsQuiet {S State : Type 0} (h h' : Hand S State) : Type 0 where
   pub state : h'.state ≡ h.state
   pub sink : h'.sink ≡ h.sink
 
--- for want of memory nothing is written, and the keeper is as it was, unless a line was answered before
+-- for want of memory nothing is written, and the keeper is as it was, and nothing was punched, unless a line was answered before
 pub record IsShort {S State : Type 0} (engine : Engine S State) (h h' : Hand S State) : Type 0 where
   pub sink : h'.sink ≡ h.sink
-  pub kept : (h'.stock.keeper ≡ h.stock.keeper) ⊎ IsLeftOut engine h h'
+  pub kept : IsLeftAlone engine (step_of h h') ⊎ IsLeftOut engine h h'
 
 -- whether there was a line; without one nothing is written
 abbrev pub PassCame : {S State : Type 0} → Engine S State → Hand S State → Hand S State → Result (Option Bool) Stop → Type 0
@@ -120,10 +119,10 @@ PassCame engine h h' (Err stop.Unwritten) = IsCutShort engine h h'
 PassCame engine h h' (Err stop.Memory) = IsShort engine h h'
 PassCame engine h h' (Err why) = CameStop h.input h'.input why × IsQuiet h h'
 
+-- all of it; what a line that was answered punched is said by its answer (`Punches`), and where none was the stock is what it was (`IsQuiet`)
 pub record PassIs {S State : Type 0} (engine : Engine S State) (h h' : Hand S State) (result : Result (Option Bool) Stop) : Type 0 where
   pub came : PassCame engine h h' result
   pub drawn : HasDrawn h.input h'.input
   pub limit : result ≢ Err stop.TooMuch → h'.input.held.count ≤ SCRIPT_BYTES
   pub sink_faults : h.sink.faults ≤ h'.sink.faults
   pub keeper : KeeperGoesOn h.stock.keeper h'.stock.keeper
-  pub follows_on : EachFollows engine.kind h.stock.shelf h'.stock.shelf []

@@ -1,7 +1,7 @@
 -- What a run promises of the lines that it answered.
 use Rattle.std.specs.Prelude.{◌≡◌, ◌⊎◌, ◌<◌, ◌+◌, ◌-◌, ◌*◌, ◌^◌, ℕ, List, [], length, slice_index_or}
 use Rattle.std.specs.List.{All}
-use Rattle.wtf_dev.specs.Store.{StoreKind}
+use Rattle.wtf_dev.specs.Store.{Range, StoreKind}
 use Rattle.wtf_dev.specs.Each.{EachFollows}
 use Rattle.wtf_dev.specs.Sums.{TellsAll, all_stored}
 use Rattle.wtf_replica.specs.Bytes.{byte_at}
@@ -11,9 +11,11 @@ use Rattle.wtf_model.specs.Lines.{MayLine, Along, events_of, answers_to}
 use Rattle.wtf_model.specs.Servers.{none_down, AlongDowns, is_device_fault, is_device_fault_of_run, count_along}
 use Rattle.wtf_core.specs.Pictured.{IsBareImage}
 use Rattle.wtf_core.specs.Telling.{stores_of}
-use Rattle.wtf_serve.specs.Answering.{IsNotBuiltExactly}
+use Rattle.wtf_gc.specs.Frees.{AreApart, bytes_of}
+use Rattle.wtf_serve.specs.Answering.{IsOwnAnswer}
 use Rattle.wtf_serve.specs.Openings.{Opening, StartsFrom, first}
-use Rattle.wtf_serve.specs.Logs.{Log, asked, IsServed, IsUndamaged, write_fault_count, written_bytes, IsUnspilledLog}
+use Rattle.wtf_serve.specs.Logs.{Log, asked, IsUndamaged, write_fault_count, written_bytes, IsUnspilledLog}
+use Rattle.wtf_serve.specs.Punched.{punch_fault_count, collected_bytes}
 use Rattle.wtf_serve.specs.Stocks.{Stock, RoseBy}
 
 -- a count of faults did not rise, and does not stand at its end
@@ -34,10 +36,8 @@ pub record Ran {S : Type 0} (kind : StoreKind S) (opening : Opening) (log : Log)
   -- the same line by line, with the lines that ask nothing; and a retry comes only where others have changed what was read
   pub accepted : TellsAll kind before.shelf → (t : Tree) → StartsFrom (byte_at kind before.shelf) opening.bytes t
       → Along MayLine (first opening t) (asked log) log.answers
-  -- over every store each line has one answer: one that asks nothing has its own, and `notbuilt` comes exactly at the verbs
-  -- that are left to a later version
-  pub exact : AlongDowns (λ down e a. IsNotBuiltExactly e a) none_down (asked log) log.answers
-  pub served : All IsServed log.answers
+  -- over every store each line has one answer, and one that asks nothing has its own
+  pub each : AlongDowns (λ down e a. IsOwnAnswer e a) none_down (asked log) log.answers
   -- where all lists of regions are in the image, or it gave nothing, and no region was spilled, none was read that is no list
   pub undamaged : IsUnspilledLog log → IsBareImage opening.bytes → All IsUndamaged log.answers
   -- nor, whatever was spilled over such an image, where the stores tell their content, and the bytes of the tree that the run starts with
@@ -57,5 +57,8 @@ pub record Ran {S : Type 0} (kind : StoreKind S) (opening : Opening) (log : Log)
   -- replica
   pub grew : IsUnspilledLog log → AreStoresStill kind before.shelf after.shelf → write_fault_count log.answers ≡ 0
       → all_stored kind after.shelf ≡ all_stored kind before.shelf + opening.settings.replicas * written_bytes (asked log) log.answers
-  -- nothing was punched
-  pub follows_on : EachFollows kind before.shelf after.shelf []
+  -- These ranges were punched: each store follows what it was, with its own of them. Where no collection failed no two
+  -- share a byte, and they have as many bytes as the collections answered to have freed.
+  pub punched : List (ℕ × Range)
+  pub follows_on : EachFollows kind before.shelf after.shelf punched
+  pub freed : punch_fault_count log.answers ≡ 0 → AreApart punched × (bytes_of punched ≡ collected_bytes log.answers)

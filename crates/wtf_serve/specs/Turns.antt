@@ -1,6 +1,7 @@
 -- What writing a text, and answering a line with its text, give.
-use Rattle.std.specs.Prelude.{◌≡◌, ◌⊎◌, ℕ, List, ◌++◌, Option, Some, Result, Ok, Err}
+use Rattle.std.specs.Prelude.{◌≡◌, ◌⊎◌, ℕ, List, [], ◌++◌, Option, Some, Result, Ok, Err}
 use Rattle.wtf_dev.specs.Counts.{Rose}
+use Rattle.wtf_dev.specs.Each.{EachFollows}
 use Rattle.wtf_dev.specs.Streams.{SinkView}
 use Rattle.wtf_model.specs.declared.answer.Answer.{Answer}
 use Rattle.wtf_model.specs.Lines.{Line}
@@ -31,14 +32,19 @@ pub record IsCutOff {S State : Type 0} (engine : Engine S State) (t : Step S Sta
   pub wrote : (old : List ℕ) → sink.taken ≡ Some old → WroteFront old (line_text answer) sink'.taken
   pub cause : Rose sink.faults sink'.faults
 
+-- no line was answered: the keeper is as it was, and nothing was punched
+pub record IsLeftAlone {S State : Type 0} (engine : Engine S State) (t : Step S State) : Type 0 where
+  pub keeper : t.after.keeper ≡ t.before.keeper
+  pub follows : EachFollows engine.kind t.before.shelf t.after.shelf []
+
 -- a line was answered, and no memory was found for the text
 pub record IsUnwritten {S State : Type 0} (engine : Engine S State) (t : Step S State) (line : Line) : Type 0 where
   pub answer : Answer
   pub is : IsAnswer engine t line answer
 
--- what came of a line: for want of memory nothing is written, and unless it was answered the keeper is as it was
+-- what came of a line: for want of memory nothing is written, and unless it was answered the keeper is as it was, and nothing was punched
 abbrev pub TurnIs : {S State : Type 0} → Engine S State → Step S State → Line → SinkView → SinkView → Result (Unit {0}) Stop → Type 0
 TurnIs engine t line sink sink' (Ok u) = IsDone engine t line sink sink'
 TurnIs engine t line sink sink' (Err stop.Unwritten) = IsCutOff engine t line sink sink'
-TurnIs engine t line sink sink' (Err stop.Memory) = (sink' ≡ sink) × ((t.after.keeper ≡ t.before.keeper) ⊎ IsUnwritten engine t line)
+TurnIs engine t line sink sink' (Err stop.Memory) = (sink' ≡ sink) × (IsLeftAlone engine t ⊎ IsUnwritten engine t line)
 TurnIs engine t line sink sink' (Err other) = ⊥

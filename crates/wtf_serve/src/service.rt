@@ -9,7 +9,7 @@ ghost use Rattle.wtf_serve.specs.Turns.{AllTaken, TurnIs};
 ghost use Rattle.wtf_serve.specs.Passes.{Came, HasDrawn, PassIs, IsFormRead, input, hand};
 ghost use Rattle.wtf_serve.specs.Answering.{IsFormLine};
 ghost use Rattle.wtf_serve.specs.Beginnings.{Closes};
-ghost use Rattle.wtf_serve.specs.Engines.{GoesOn, Obeys, Stores, IsCaused, Tells, Keeps, step};
+ghost use Rattle.wtf_serve.specs.Engines.{GoesOn, Obeys, Stores, IsCaused, Tells, Punches, Keeps, step};
 ghost use Rattle.wtf_serve.specs.Cores.{IsSoundCore, engine};
 ghost use Rattle.wtf_serve.specs.Scripts.{end_status, line_text, settings_line};
 ghost use Rattle.wtf_serve.specs.Stocks.{stock, KeeperGoesOn, HandsOver};
@@ -153,12 +153,15 @@ fn answer<S: SliceStore, K: Keeper>(
         core.old core.new) line) }
     ensures told { IfOk result (Tells (engine S.kind)
         (step (stock shelf.old (K.view keeper.old)) (stock shelf.new (K.view keeper.new))
-        core.old core.new)) }
+        core.old core.new) line) }
+    ensures punched { IfOk result (Punches (engine S.kind)
+        (step (stock shelf.old (K.view keeper.old)) (stock shelf.new (K.view keeper.new))
+        core.old core.new) line) }
     ensures kept { IfOk result (Keeps (engine S.kind)
         (step (stock shelf.old (K.view keeper.old)) (stock shelf.new (K.view keeper.new))
         core.old core.new) line) }
     ensures bad { IfErr line (λ bad. result ≡ Ok bad) }
-    ensures follows { EachFollows S.kind shelf.old shelf.new [] }
+    ensures follows { OnErr result (EachFollows S.kind shelf.old shelf.new []) }
     ensures keeper { KeeperGoesOn (K.view keeper.old) (K.view keeper.new) }
     ensures handed { HandsOver (K.follows keeper.old keeper.new) }
     ensures unkept { OnErr result (keeper.new ≡ keeper.old) }
@@ -209,7 +212,6 @@ fn turn<O: Sink, S: SliceStore, K: Keeper>(
         core.old core.new)
         line (O.view out.old) (O.view out.new) result }
     ensures faults { (O.view out.old).faults ≤ (O.view out.new).faults }
-    ensures follows { EachFollows S.kind shelf.old shelf.new [] }
     ensures keeper { KeeperGoesOn (K.view keeper.old) (K.view keeper.new) }
     ensures handed { HandsOver (K.follows keeper.old keeper.new) }
 {

@@ -24,7 +24,7 @@ returns-in-Ok-load-clause-opened g c =
     (omega (arith, c.if-len-of_image.false, c.len.ensures.value)) in
     let is = c.in-Ok-load.ensures in
     loaded_opened g.S.SliceStore.kind shelf c.args.settings c.args.image.now c.in-Ok-load.core c.requires servers is.loaded is.open is.sound is.up is.inside
-    is.bare is.stands is.told is.within is.within_told
+    is.bare is.stands is.told is.within is.within_told is.held
 
 pub returns-in-Err-load-clause-cause : goal.returns-in-Err-load-clause-cause
 returns-in-Err-load-clause-cause g c =

@@ -9,4 +9,4 @@ pub returns-in-Ok-clause-opened : goal.returns-in-Ok-clause-opened
 returns-in-Ok-clause-opened g c =
     let made = c.in-Ok.ensures in
     new_opened g.S.SliceStore.kind c.args.shelf.now c.args.settings c.in-Ok.core (omega (arith, c.if-len-settings.false, c.len.ensures.value))
-    made.settings made.open made.number made.next_tx made.sound made.stands made.inside made.up made.lists
+    made.settings made.open made.number made.next_tx made.sound made.stands made.inside made.up made.lists made.unsaved

@@ -11,6 +11,7 @@ use Rattle.wtf_serve.specs.Scripts.{settings_line}
 use Rattle.wtf_serve.specs.Stocks.{stock, KeeperGoesOn}
 use Rattle.wtf_serve.specs.Unopened.{IsRun}
 use Rattle.wtf_serve.proofs.Keeping.{handed_on, handed_join}
+use Rattle.wtf_serve.proofs.Leaving.{core_keeps}
 use Rattle.wtf_serve.proofs.Underway.{Underway, underway_first, unwritten_first, underway_on, underway_end, underway_stop, stop_not_few, close_not_few}
 use Rattle.wtf_serve.proofs.service.serve.Given.{Over}
 use Rattle.wtf_serve.proofs.service.serve.Goals as goal
@@ -97,7 +98,7 @@ returns-in-Ok-None-clause-served g c =
     (stock c.pass.new.shelf (view c.pass.new.keeper)) c.pass.new.core in
     let is : c.pass.result ≡ Ok None = cc in
     underway_end (engine kind) laws (follows c.args.keeper.now c.close.new.keeper) c.args.settings start now next c.loop-more.bad c.loop-more.invariant.run
-    c.close.result
+    (core_keeps kind) c.close.result
     (stock c.close.new.shelf (view c.close.new.keeper)) c.close.new.core
     (subst (λ (r : Result (Option Bool) Stop). PassIs (engine kind) now next r) is c.pass.ensures.pass) c.close.ensures.follows c.close.ensures.keeper
     c.close.ensures.closes
@@ -144,7 +145,8 @@ returns-in-Err-pass-clause-served g c =
     let is : c.pass.result ≡ Err c.in-Err-pass.stop = cc in
     subst (λ (n : ℕ). IsRun kind handed c.args.settings n start (record { source = next.input.source; sink = next.sink; stock = next.stock }))
     (sym c.status.ensures)
-    (underway_stop (engine kind) laws handed c.args.settings start now next c.loop-more.bad c.loop-more.invariant.run c.in-Err-pass.stop
+    (underway_stop (engine kind) laws handed c.args.settings start now next c.loop-more.bad c.loop-more.invariant.run
+    (core_keeps kind) c.in-Err-pass.stop
     (subst (λ (r : Result (Option Bool) Stop). PassIs (engine kind) now next r) is c.pass.ensures.pass))
 
 pub returns-in-Err-pass-clause-unread : goal.returns-in-Err-pass-clause-unread

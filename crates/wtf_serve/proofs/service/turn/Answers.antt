@@ -14,6 +14,7 @@ returns-clause-turn g c =
         stored = c.in-Ok.ensures.stored;
         caused = c.in-Ok.ensures.caused;
         told = c.in-Ok.ensures.told;
+        punched = c.in-Ok.ensures.punched;
         kept = c.in-Ok.ensures.kept;
       };
       wrote = λ old e. let (front, back, all, new) = c.in-Err.ensures.told old e in (front, back, sym text ∙ all, new);
@@ -32,6 +33,7 @@ returns-in-Ok-write_all-clause-turn g c =
         stored = c.in-Ok.ensures.stored;
         caused = c.in-Ok.ensures.caused;
         told = c.in-Ok.ensures.told;
+        punched = c.in-Ok.ensures.punched;
         kept = c.in-Ok.ensures.kept;
       };
       wrote = λ old e. c.in-Ok-write_all.ensures.told old e ∙ ap (λ (x : List ℕ). Some (old ++ x)) text;
@@ -48,6 +50,7 @@ returns-in_default-push_answer-clause-turn g c = (
       stored = c.in-Ok.ensures.stored;
       caused = c.in-Ok.ensures.caused;
       told = c.in-Ok.ensures.told;
+      punched = c.in-Ok.ensures.punched;
       kept = c.in-Ok.ensures.kept;
     };
   }),
