@@ -1,10 +1,13 @@
 -- Laws of open transactions: what one more call, a step of a replay and a commit come to.
-use Rattle.std.proofs.Common.{◌≡◌, ◌≢◌, ◌↔◌, ◌+◌, ◌<◌, ℕ, Bool, true, false, List, [], ◌∷◌, ◌++◌, length, take, get_or, slice_get, Some, refl, sym, ap, ◌∙◌, subst, inl, inr, IsTrue, if◌then◌else◌}
+use Rattle.std.proofs.Common.{◌≡◌, ◌≢◌, ◌↔◌, ◌+◌, ◌<◌, ℕ, Bool, true, false, List, [], ◌∷◌, ◌++◌, length, take, get_or, slice_get, Option, Some, refl, sym, ap, ◌∙◌, subst, inl, inr, IsTrue, if◌then◌else◌}
 use Rattle.std.proofs.Math.Seq.{take-length}
 use Rattle.std.proofs.lemmas.List.{length-map}
 use Rattle.std.specs.Bool.{MatchBool}
+use Rattle.wtf_machine.specs.declared.begun.Begun.{Begun}
 use Rattle.wtf_machine.specs.declared.log.Logged.{Logged}
-use Rattle.wtf_machine.specs.Logs.{ops_of}
+use Rattle.wtf_machine.specs.declared.workspace.Workspace.{Workspace}
+use Rattle.wtf_machine.specs.Logs.{ops_of, IsWarm}
+use Rattle.wtf_machine.specs.Sessions.{session_in}
 use Rattle.wtf_machine.specs.Verdicts.{called_on}
 use Rattle.wtf_model.specs.declared.answer.Answer.{Answer}
 use Rattle.wtf_model.specs.declared.answer.Answer.TheVariants as answer
@@ -20,7 +23,7 @@ use Rattle.wtf_model.specs.Machines.{Machine, cap_of, due}
 use Rattle.wtf_model.specs.Steps.{IsLogged, is_logged, logged}
 use Rattle.wtf_model.proofs.Laws.{session_from-push}
 use Rattle.wtf_model.proofs.StepLaws.{IsLogged-call, IsStoreFault-MayFail}
-use Rattle.wtf_machine.proofs.LogLaws.{not_so, op_at, answers_from-at, session_from-more}
+use Rattle.wtf_machine.proofs.LogLaws.{not_so, told_is, op_at, answers_from-at, session_from-more}
 
 -- one more call
 
@@ -76,22 +79,38 @@ module _ (cap : ℕ) (t : Transaction) (o : Op (List ℕ)) (s new : Session) (d 
   pub call-left : new ≡ session_after cap t.tree (t.ops ++ o ∷ [])
   call-left = sym (session_from-push cap (fresh t.tree) t.ops o ∙ ap (λ (x : Done). x.session) called_so)
 
-  call_due : (m : Machine) → cap_of m ≡ cap → due m t o ≡ d
+  pub call_due : (m : Machine) → cap_of m ≡ cap → due m t o ≡ d
   call_due m most = ap (λ k. (call k (session_after k t.tree t.ops) o).answer) most ∙ ap (λ (x : Done). x.answer) called_so
 
   -- what may come in place of what is due
   pub call-may : (a : Answer) (servers : ℕ) (b : Bool) → IsTrue b ↔ MayFail servers o d a → (m : Machine) → cap_of m ≡ cap → IsTrue b ↔ MayFail servers o (due m t o) a
   call-may a servers b fails m most = subst (λ x. IsTrue b ↔ MayFail servers o x a) (sym (call_due m most)) fails
 
-  -- an answer that is no fault is lawful only where it is due
-  pub call-other : (a : Answer) → d ≢ a → (IsStoreFault a → ⊥) → (m : Machine) → cap_of m ≡ cap → IsTrue false ↔ MayCall m t o a
-  call-other a other sound m most = (
-    λ y. absurd (not_so y),
-    λ may. elim may [
-      | inl same ↦ absurd (other (sym (same ∙ call_due m most)))
-      | inr fault ↦ absurd (sound (IsStoreFault-MayFail m.settings.servers o (due m t o) a fault))
-    ],
-  )
+-- the answer that is due is lawful
+pub lawful_due : (m : Machine) (t : Transaction) (o : Op (List ℕ)) (d a : Answer) → due m t o ≡ d → d ≡ a → IsTrue true ↔ MayCall m t o a
+lawful_due m t o d a is same = (λ _. inl (sym (is ∙ same)), λ _. refl)
+
+-- and an answer that is no fault is lawful only where it is due
+pub other_unlawful : (m : Machine) (t : Transaction) (o : Op (List ℕ)) (d a : Answer)
+    → due m t o ≡ d → d ≢ a → (IsStoreFault a → ⊥) → IsTrue false ↔ MayCall m t o a
+other_unlawful m t o d a is other sound = (
+  λ y. absurd (not_so y),
+  λ may. elim may [
+    | inl same ↦ absurd (other (sym (same ∙ is)))
+    | inr fault ↦ absurd (sound (IsStoreFault-MayFail m.settings.servers o (due m t o) a fault))
+  ],
+)
+
+-- the session that is kept
+pub warm_left : (b : Begun) (w : Workspace) → b.warm ≡ Some w → session_in w ≡ session_after b.cap b.tree (take b.replayed (ops_of b.calls.items))
+warm_left b w is = subst (IsWarm b.cap b.tree (ops_of b.calls.items) b.replayed) is b.warm_is
+
+-- what is due is what was told
+pub deviates_by : (P Q : Type 0) (b : Bool) (o : Option Answer) (d a : Answer) → o ≡ Some d → IsTrue b ↔ (P × (d ≡ a) × Q) → IsTrue b ↔ (P × (o ≡ Some a) × Q)
+deviates_by P Q b o d a at is = (
+  λ h. let x = is.0 h in (x.0, at ∙ ap Some x.1, x.2),
+  λ x. is.1 (x.0, told_is d a (sym at ∙ x.1), x.2),
+)
 
 -- the next call of a replay, on what those before it have left
 module _ (cap : ℕ) (tree : Tree) (calls : List Logged) (n : ℕ) (x : Logged) (s new : Session) (d : Answer) (below : n < length calls) (at : x ≡ get_or calls n x)

@@ -1,6 +1,6 @@
 -- Transactions by their clients: what is found, and what stands after one became another, or after its verdict.
 use Rattle.std.proofs.Common.{◌≡◌, ℕ, ◌≤◌, ◌<◌, Bool, true, false, cond, if◌then◌else◌, List, length, Option, Some, None, Result, Ok, Err, IsTrue, IfOk, OnErr, ◌↔◌, ◌⊎◌, inl, inr, refl, sym, ap, subst, ◌∙◌, arith}
-use Rattle.std.specs.Option.{option_map}
+use Rattle.std.specs.Option.{option_map, IsSome}
 use Rattle.std.specs.Map.{lookup}
 use Rattle.std.specs.BTreeMap.{is_at}
 use Rattle.std.specs.Ordering.{nat_cmp, eq_by_cmp}
@@ -40,6 +40,10 @@ insert-again ts c t there =
     same_map nat_cmp_total nat_cmp-IsAntisymmetric _ _ (λ q.
     get-insert nat_cmp_total ts c t q
     ∙ again (eq_by_cmp nat_cmp q c) (get ts q) t (λ e. subst (λ x. get ts x ≡ Some t) (sym (tells_apart nat_cmp-IsAntisymmetric q c e)) there))
+
+-- what was found is there
+pub got : {X : Type 0} (o : Option X) (x : X) → Some x ≡ o → IsSome o
+got o x is = subst IsSome is refl
 
 module _ (changed : List Item) (es : List (ℕ × Begun)) (c : ℕ) where
   -- the transaction that is found

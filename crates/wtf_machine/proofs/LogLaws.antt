@@ -70,7 +70,7 @@ op_at calls i x below at = slice_get-map (λ (l : Logged). l.op) calls i ∙ ap 
 pub not_so : IsTrue false → ⊥
 not_so h = cc
 
-told_is : (a b : Answer) → Some a ≡ Some b → a ≡ b
+pub told_is : (a b : Answer) → Some a ≡ Some b → a ≡ b
 told_is a b e = cc
 
 -- elements of lists

@@ -1,11 +1,13 @@
 -- What a machine is after a client's line, from what its transactions are.
-use Rattle.std.proofs.Common.{◌≡◌, ℕ, ◌+◌, Bool, true, false, if◌then◌else◌, List, Option, Some, None, Result, Ok, Err, IfOk, refl, sym, ap, ap₂, ◌∙◌}
+use Rattle.std.proofs.Common.{◌≡◌, ℕ, ◌+◌, Bool, true, false, if◌then◌else◌, List, Option, Some, None, Result, Ok, Err, IsTrue, IfOk, OnErr, ◌↔◌, refl, sym, ap, ap₂, subst, ◌∙◌}
 use Rattle.std.specs.Prelude.{Vec}
 use Rattle.std.specs.declared.alloc.Global.{Global}
 use Rattle.std.specs.FinMap.{FinMap, get, remove}
 use Rattle.std.specs.Ordering.{nat_cmp}
 use Rattle.wtf_model.specs.declared.answer.Answer.{Answer, Aborted'}
 use Rattle.wtf_model.specs.declared.answer.Answer.TheVariants as answer
+use Rattle.wtf_model.specs.declared.event.Event.{Event}
+use Rattle.wtf_model.specs.declared.event.Verb.{Verb}
 use Rattle.wtf_model.specs.declared.event.Verb.TheVariants as verb
 use Rattle.wtf_model.specs.declared.op.Op.{Op}
 use Rattle.wtf_model.specs.declared.item.Item.{Item}
@@ -14,14 +16,15 @@ use Rattle.wtf_model.specs.Items.{writes_of}
 use Rattle.wtf_model.specs.Transaction.{Transaction, Job, session_after}
 use Rattle.wtf_model.specs.Jobs.{job_changes}
 use Rattle.wtf_model.specs.Machines.{cap_of}
-use Rattle.wtf_model.specs.Lawful.{MayTry, MayCommit, MayCall, MayClient, client_refusal}
-use Rattle.wtf_model.specs.Steps.{Machine, is_logged, with_each, touch, touch_job, touching, put_in_place, installed, tried, stepped, committed, called, after_client}
+use Rattle.wtf_model.specs.Lawful.{MayTry, MayStep, MayCommit, MayCall, MayClient, May, client_refusal}
+use Rattle.wtf_model.specs.Steps.{Machine, is_logged, with_each, touch, touch_job, touching, put_in_place, installed, begun, tried, stepped, committed, aborted, called, after_client, after}
 use Rattle.wtf_model.proofs.StepLaws.{MayClient-asked, MayAsk-asked}
 use Rattle.wtf_machine.specs.declared.begun.Fate.{Fate}
 use Rattle.wtf_machine.specs.declared.begun.Fate.TheVariants as fate
 use Rattle.wtf_machine.specs.Verdicts.{IsFate, IsIdle}
 use Rattle.wtf_machine.specs.Kept.{Decides, called_in, stepped_in}
 use Rattle.wtf_machine.specs.Machines.{is_lawful, settled}
+use Rattle.wtf_machine.proofs.LogLaws.{not_so}
 
 -- of all machines that run so, this one
 pub for_one : {E : Type 0} {A : Type 0} (r : Result Bool E) (P : A → Type 0) (Q : A → Bool → Type 0) (m : A) → P m → IfOk r (λ yes. (x : A) → P x → Q x yes) → IfOk r (Q m)
@@ -139,6 +142,91 @@ pub called_client : {E : Type 0} (r : Result Bool E) (m : Machine) (c : ℕ) (fo
 called_client r m c None o a new free d = absurd (cc)
 called_client r m c (Some t) o a new free d =
     all_iff r _ _ m (called m c t o a) new (MayClient-asked m (Some t) (verb.Call o) a free) (MayAsk-asked m (Some t) (verb.Call o) a free) (d t refl)
+
+pub at_verb : {E : Type 0} (r : Result Bool E) (m new : Machine) (c : ℕ) (found : Option Transaction) (v w : Verb) (a : Answer) → v ≡ w
+    → IfOk r (Decides (MayClient m found w a) m (after_client m c found w a) new) → IfOk r (Decides (MayClient m found v a) m (after_client m c found v a) new)
+at_verb r m new c found v w a is d = subst (λ (x : Verb). IfOk r (Decides (MayClient m found x a) m (after_client m c found x a) new)) (sym is) d
+
+pub said_at_verb : (did : Bool) (m new : Machine) (c : ℕ) (found : Option Transaction) (v w : Verb) (a : Answer) → v ≡ w
+    → Decides (MayClient m found w a) m (after_client m c found w a) new did → Decides (MayClient m found v a) m (after_client m c found v a) new did
+said_at_verb did m new c found v w a is d = subst (λ (x : Verb). Decides (MayClient m found x a) m (after_client m c found x a) new did) (sym is) d
+
+pub begun_client : {E : Type 0} (r : Result Bool E) (m : Machine) (c : ℕ) (found : Option Transaction) (a : Answer) (new : Machine)
+    → client_refusal found verb.Begin ≡ None → IfOk r (Decides (a ≡ answer.Begun m.number) m (begun m c a) new)
+    → IfOk r (Decides (MayClient m found verb.Begin a) m (after_client m c found verb.Begin a) new)
+begun_client r m c None a new free d = d
+begun_client r m c (Some t) a new free d = absurd (cc)
+
+pub tried_client : {E : Type 0} (r : Result Bool E) (m : Machine) (c : ℕ) (found : Option Transaction) (a : Answer) (new : Machine)
+    → client_refusal found verb.Try ≡ None → ((t : Transaction) → found ≡ Some t → IfOk r (Decides (MayTry m t a) m (tried m c t a) new))
+    → IfOk r (Decides (MayClient m found verb.Try a) m (after_client m c found verb.Try a) new)
+tried_client r m c None a new free d = absurd (cc)
+tried_client r m c (Some t) a new free d =
+    all_iff r _ _ m (tried m c t a) new (MayClient-asked m (Some t) verb.Try a free) (MayAsk-asked m (Some t) verb.Try a free) (d t refl)
+
+pub stepped_client : {E : Type 0} (r : Result Bool E) (m : Machine) (c : ℕ) (found : Option Transaction) (a : Answer) (new : Machine)
+    → client_refusal found verb.Step ≡ None → ((t : Transaction) → found ≡ Some t → IfOk r (Decides (MayStep m t a) m (stepped m c t a) new))
+    → IfOk r (Decides (MayClient m found verb.Step a) m (after_client m c found verb.Step a) new)
+stepped_client r m c None a new free d = absurd (cc)
+stepped_client r m c (Some t) a new free d =
+    all_iff r _ _ m (stepped m c t a) new (MayClient-asked m (Some t) verb.Step a free) (MayAsk-asked m (Some t) verb.Step a free) (d t refl)
+
+pub committed_client : {E : Type 0} (r : Result Bool E) (m : Machine) (c : ℕ) (found : Option Transaction) (a : Answer) (new : Machine)
+    → client_refusal found verb.Commit ≡ None → ((t : Transaction) → found ≡ Some t → IfOk r (Decides (MayCommit m t a) m (committed m c t a) new))
+    → IfOk r (Decides (MayClient m found verb.Commit a) m (after_client m c found verb.Commit a) new)
+committed_client r m c None a new free d = absurd (cc)
+committed_client r m c (Some t) a new free d =
+    all_iff r _ _ m (committed m c t a) new (MayClient-asked m (Some t) verb.Commit a free) (MayAsk-asked m (Some t) verb.Commit a free) (d t refl)
+
+pub aborted_client : (did : Bool) (m : Machine) (c : ℕ) (found : Option Transaction) (a : Answer) (new : Machine)
+    → client_refusal found verb.Abort ≡ None → Decides (a ≡ answer.Okay) m (aborted m c a) new did
+    → Decides (MayClient m found verb.Abort a) m (after_client m c found verb.Abort a) new did
+aborted_client did m c None a new free d = absurd (cc)
+aborted_client did m c (Some t) a new free d = d
+
+-- what was decided of an event, in the clauses of a step
+
+pub said_at_event : (did : Bool) (m new : Machine) (e f : Event) (a : Answer) → e ≡ f → Decides (May m f a) m (after m f a) new did
+    → Decides (May m e a) m (after m e a) new did
+said_at_event did m new e f a is d = subst (λ (x : Event). Decides (May m x a) m (after m x a) new did) (sym is) d
+
+still_decided : (did : Bool) (Lawful : Type 0) (m next : Machine) → next ≡ m → IsTrue did ↔ Lawful → Decides Lawful m next m did
+still_decided true Lawful m next still says = (says.0 refl, sym still)
+still_decided false Lawful m next still says = ((λ may. not_so (says.1 may)), refl)
+
+pub seen_at_event : (did : Bool) (m : Machine) (e f : Event) (a : Answer) → e ≡ f → after m f a ≡ m → IsTrue did ↔ May m f a
+    → Decides (May m e a) m (after m e a) m did
+seen_at_event did m e f a is still says = said_at_event did m m e f a is (still_decided did (May m f a) m (after m f a) still says)
+
+module _ {E : Type 0} where
+  pub lawful_of : (r : Result Bool E) (Lawful : Type 0) (old next new : Machine) → IfOk r (Decides Lawful old next new) → IfOk r (λ yes. IsTrue yes ↔ Lawful)
+  lawful_of (Ok true) Lawful old next new d = (λ _. d.0, λ _. refl)
+  lawful_of (Ok false) Lawful old next new d = (λ h. absurd (not_so h), λ may. absurd (d.0 may))
+  lawful_of (Err e) Lawful old next new d = d
+
+  pub next_of : (r : Result Bool E) (Lawful : Type 0) (old next new : Machine) → IfOk r (Decides Lawful old next new) → IfOk r (λ yes. IsTrue yes → new ≡ next)
+  next_of (Ok true) Lawful old next new d = λ _. d.1
+  next_of (Ok false) Lawful old next new d = λ h. absurd (not_so h)
+  next_of (Err e) Lawful old next new d = d
+
+  pub stays_of : (r : Result Bool E) (Lawful : Type 0) (old next new : Machine) → IfOk r (Decides Lawful old next new) → IfOk r (λ yes. yes ≡ false → new ≡ old)
+  stays_of (Ok true) Lawful old next new d = λ h. absurd (not_so (sym h))
+  stays_of (Ok false) Lawful old next new d = λ _. d.1
+  stays_of (Err e) Lawful old next new d = d
+
+  -- and of one that is known
+  pub at_event : (r : Result Bool E) (m new : Machine) (e f : Event) (a : Answer) → e ≡ f → IfOk r (Decides (May m f a) m (after m f a) new)
+      → IfOk r (Decides (May m e a) m (after m e a) new)
+  at_event r m new e f a is d = subst (λ (x : Event). IfOk r (Decides (May m x a) m (after m x a) new)) (sym is) d
+
+  pub all_seen_at_event : (r : Result Bool E) (m : Machine) (e f : Event) (a : Answer) → e ≡ f → after m f a ≡ m → IfOk r (λ yes. IsTrue yes ↔ May m f a)
+      → IfOk r (Decides (May m e a) m (after m e a) m)
+  all_seen_at_event (Ok did) m e f a is still says = seen_at_event did m e f a is still says
+  all_seen_at_event (Err x) m e f a is still says = says
+
+  pub unless_err : {A : Type 0} (r : Result A E) (P : Type 0) → P → OnErr r P
+  unless_err (Ok x) P p = tt
+  unless_err (Err e) P p = p
 
 -- what others see of an install: a client's transaction has ended, or a job has
 

@@ -56,7 +56,7 @@ pub planned_more : (changed items : List Item) (j : PlannedJob) → j.since ≤ 
 planned_more changed items j le = ap (λ xs. record (job_in j) { touched = xs }) (drop-append-le j.since changed items le)
 
 -- what was appended where there was room for it
-pub grown : {A E : Type 0} (r : Result A E) (new old items : List Item) → IsOk r → new ≡ (if is_ok r then old ++ items else old) → new ≡ old ++ items
+pub grown : {X A E : Type 0} (r : Result A E) (new old items : List X) → IsOk r → new ≡ (if is_ok r then old ++ items else old) → new ≡ old ++ items
 grown r new old items ok is = is ∙ ap (λ b. if b then old ++ items else old) ok
 
 -- ---- all of them

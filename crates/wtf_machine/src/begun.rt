@@ -1,6 +1,10 @@
 //! Open transactions: what a client's line may be answered, and what it leaves.
 
 ghost use Rattle.std.specs.Prelude.{◌≡◌, ◌≢◌, ◌↔◌, ◌+◌, ◌++◌, ◌∷◌, ◌<◌, ◌≤◌, List, length, take, slice_get, false, Some, IsTrue, IfOk, OnOk, OnErr, []};
+ghost use Rattle.std.specs.Prelude.{vec_len};
+ghost use Rattle.std.specs.Vec.{vec_capacity};
+ghost use Rattle.wtf_model.specs.Call.{call};
+ghost use Rattle.wtf_model.specs.Examples.{IsStoreFault};
 ghost use Rattle.wtf_model.specs.Transaction.{session_after, answers_of};
 ghost use Rattle.wtf_model.specs.declared.answer.Answer.{Answer};
 ghost use Rattle.wtf_model.specs.declared.item.Item.{Item};
@@ -75,8 +79,30 @@ fn is_done(due: &Answer) -> bool
     }
 }
 
+/// Adds a call to a log that has room for it.
+fn add(calls: &mut Vec<Logged>, entry: Logged)
+    requires room { vec_len calls.old + 1 ≤ vec_capacity calls.old }
+    ensures { calls.new.items ≡ calls.old.items ++ entry ∷ [] }
+{
+    let room = calls.push(entry);
+    drop(room);
+}
+
 impl Begun {
     ghost use Rattle.wtf_machine.specs.Verdicts.{transaction_in, seen_in, RunsWith, called_on, IsVerdict, IsFate};
+
+    /// The session that the replayed calls have left, made anew.
+    fn anew(&self) -> Result<Workspace, OutOfMemory>
+        ensures { IfOk result (λ w. session_in w ≡
+            session_after self.now.cap self.now.tree (take self.now.replayed (ops_of self.now.calls.items))) }
+    {
+        rerun(
+            self.alloc,
+            self.cap,
+            &self.tree,
+            &self.calls[..self.replayed as usize],
+        )
+    }
 
     /// The session that the replayed calls have left. It is taken out, or made anew where it is not at hand.
     fn session(&mut self) -> Result<Workspace, OutOfMemory>
@@ -89,38 +115,66 @@ impl Begun {
     {
         match self.warm.take() {
             Some(session) => Ok(session),
-            None => rerun(
-                self.alloc,
-                self.cap,
-                &self.tree,
-                &self.calls[..self.replayed as usize],
-            ),
+            None => self.anew(),
         }
     }
 
-    /// Logs a call that was answered so, and keeps the session that it has left.
-    fn keep(
-        &mut self,
-        op: &Op<Bytes>,
-        answer: &Answer,
-        session: Workspace,
-    ) -> Result<(), OutOfMemory>
-        requires live { self.old.replayed ≡ length self.old.calls.items }
-        requires room { length self.old.calls.items < 4096 }
-        requires logged { IsLogged answer.now }
-        requires left { session_in session ≡
-            session_after self.old.cap self.old.tree (ops_of self.old.calls.items ++ op.now ∷ []) }
-        ensures ok { OnOk result (transaction_in self.new ≡ logged (transaction_in self.old) op.now answer.now) }
-        ensures err { OnErr result (transaction_in self.new ≡ transaction_in self.old) }
+    /// What a call on the session is due. It is made on a second copy, and the transaction stays.
+    fn due(&self, op: &Op<Bytes>) -> Result<Answer, OutOfMemory>
+        ensures { IfOk result (λ a. a ≡ (call self.now.cap
+            (session_after self.now.cap self.now.tree (take self.now.replayed (ops_of self.now.calls.items))) op.now).answer) }
+    {
+        let Some(session) = &self.warm else {
+            let mut session = self.anew()?;
+            return session.call(self.cap, op);
+        };
+        session.due(self.cap, op)
+    }
+
+    /// Room in memory for one more call in the log. All is as before.
+    fn make_room(&mut self) -> Result<(), OutOfMemory>
+        ensures room { OnOk result (vec_len self.new.calls + 1 ≤ vec_capacity self.new.calls) }
+        ensures items { self.new.calls.items ≡ self.old.calls.items }
+        ensures stays { transaction_in self.new ≡ transaction_in self.old }
         ensures cap { self.new.cap ≡ self.old.cap }
         ensures since { self.new.since ≡ self.old.since }
     {
-        let op = copy_op(self.alloc, op)?;
-        let shown = answer.copy(self.alloc)?;
-        self.calls.push(Logged { op, shown })?;
+        self.calls.reserve(1)?;
+        Ok(())
+    }
+
+    /// Makes one more call: the session that it leaves, and what it answers.
+    fn make(&mut self, op: &Op<Bytes>) -> Result<(Workspace, Answer), OutOfMemory>
+        requires live { self.old.replayed ≡ length self.old.calls.items }
+        ensures left { IfOk result (λ made. session_in made.0 ≡
+            session_after self.new.cap self.new.tree (ops_of self.new.calls.items ++ op.now ∷ [])) }
+        ensures due { IfOk result (λ made. (m : Machine) → cap_of m ≡ self.old.cap
+            → due m (transaction_in self.old) op.now ≡ made.1) }
+        ensures logged { IfOk result (λ made. IsLogged made.1) }
+        ensures stays { transaction_in self.new ≡ transaction_in self.old }
+        ensures calls { self.new.calls ≡ self.old.calls }
+        ensures cap { self.new.cap ≡ self.old.cap }
+        ensures since { self.new.since ≡ self.old.since }
+    {
+        let mut session = self.session()?;
+        let due = session.call(self.cap, op)?;
+        Ok((session, due))
+    }
+
+    /// Logs a call with its answer where there is room, and keeps the session that it has left. No memory is taken.
+    fn log(&mut self, op: Op<Bytes>, shown: Answer, session: Workspace)
+        requires live { self.old.replayed ≡ length self.old.calls.items }
+        requires few { length self.old.calls.items < 4096 }
+        requires room { vec_len self.old.calls + 1 ≤ vec_capacity self.old.calls }
+        requires left { session_in session ≡
+            session_after self.old.cap self.old.tree (ops_of self.old.calls.items ++ op ∷ []) }
+        ensures is { transaction_in self.new ≡ logged (transaction_in self.old) op shown }
+        ensures cap { self.new.cap ≡ self.old.cap }
+        ensures since { self.new.since ≡ self.old.since }
+    {
+        add(&mut self.calls, Logged { op, shown });
         self.replayed += 1;
         self.warm = Some(session);
-        Ok(())
     }
 
     /// A transaction on a tree, after so many installs that have changed so many items.
@@ -171,25 +225,42 @@ impl Begun {
         self.calls.len() >= MAX_LOGGED as usize
     }
 
-    /// Whether a store may fail in place of what a call is due. The call is made on a second copy of the session, and the
-    /// transaction stays.
-    fn may_fail(
-        &mut self,
-        servers: u8,
-        op: &Op<Bytes>,
-        answer: &Answer,
-    ) -> Result<bool, OutOfMemory>
+    /// Whether a store may fail in place of what a call is due.
+    fn may_fail(&self, servers: u8, op: &Op<Bytes>, answer: &Answer) -> Result<bool, OutOfMemory>
+        requires live { self.now.replayed ≡ length self.now.calls.items }
+        ensures { IfOk result (λ yes. (m : Machine) → cap_of m ≡ self.now.cap
+            → (IsTrue yes ↔ MayFail servers op.now (due m (transaction_in self.now) op.now) answer.now)) }
+    {
+        let due = self.due(op)?;
+        let may = may_fail(servers, op, &due, answer);
+        drop(due);
+        Ok(may)
+    }
+
+    /// A call, where its answer is no fault and the log has room for it in memory.
+    fn accept(&mut self, op: Op<Bytes>, answer: &Answer) -> Result<bool, OutOfMemory>
         requires live { self.old.replayed ≡ length self.old.calls.items }
+        requires few { length self.old.calls.items < 4096 }
+        requires room { vec_len self.old.calls + 1 ≤ vec_capacity self.old.calls }
+        requires sound { IsStoreFault answer.now → ⊥ }
         ensures lawful { IfOk result (λ yes. (m : Machine) → cap_of m ≡ self.old.cap
-            → (IsTrue yes ↔ MayFail servers op.now (due m (transaction_in self.old) op.now) answer.now)) }
-        ensures stays { transaction_in self.new ≡ transaction_in self.old }
+            → (IsTrue yes ↔ MayCall m (transaction_in self.old) op answer.now)) }
+        ensures next { IfOk result (λ yes. IsTrue yes →
+            transaction_in self.new ≡ called_on (transaction_in self.old) op answer.now) }
+        ensures stays { IfOk result (λ yes. yes ≡ false → transaction_in self.new ≡ transaction_in self.old) }
+        ensures err { OnErr result (transaction_in self.new ≡ transaction_in self.old) }
         ensures cap { self.new.cap ≡ self.old.cap }
         ensures since { self.new.since ≡ self.old.since }
     {
-        let session = self.session()?;
-        let due = session.due(self.cap, op)?;
-        self.warm = Some(session);
-        Ok(may_fail(servers, op, &due, answer))
+        let (session, due) = self.make(&op)?;
+        if !is_same_answer(&due, answer) {
+            drop(op);
+            drop(session);
+            drop(due);
+            return Ok(false);
+        }
+        self.log(op, due, session);
+        Ok(true)
     }
 
     /// A call of a transaction that is live, whose log has room. An answer that is not lawful leaves the transaction.
@@ -213,13 +284,9 @@ impl Begun {
         if is_store_fault(answer) {
             return self.may_fail(servers, op, answer);
         }
-        let mut session = self.session()?;
-        let due = session.call(self.cap, op)?;
-        if !is_same_answer(&due, answer) {
-            return Ok(false);
-        }
-        self.keep(op, answer, session)?;
-        Ok(true)
+        self.make_room()?;
+        let own = copy_op(self.alloc, op)?;
+        self.accept(own, answer)
     }
 
     /// Replays the next call on the base: the session that it leaves, and what it answers.
@@ -267,6 +334,7 @@ impl Begun {
         ensures since { self.new.since ≡ self.old.since }
     {
         if number != self.replayed + 1 || !self.was_shown(due) {
+            drop(session);
             return Verdict::Unlawful;
         }
         self.replayed = number;
@@ -274,8 +342,34 @@ impl Begun {
         Verdict::Goes
     }
 
+    /// Goes on by the next call, where it answers as was shown.
+    fn go_on(&mut self, number: u32) -> Result<Verdict, OutOfMemory>
+        requires behind { self.old.replayed < length self.old.calls.items }
+        ensures verdict { IfOk result (λ v. (m : Machine) → cap_of m ≡ self.old.cap
+            → IsVerdict (MayStep m (transaction_in self.old) (Answer.Replayed number)) (transaction_in self.old)
+            (transaction_in self.new) (Answer.Replayed number) v) }
+        ensures err { OnErr result (transaction_in self.new ≡ transaction_in self.old) }
+        ensures cap { self.new.cap ≡ self.old.cap }
+        ensures since { self.new.since ≡ self.old.since }
+    {
+        let (session, due) = self.replay_next()?;
+        let verdict = self.step_on(session, &due, number);
+        drop(due);
+        Ok(verdict)
+    }
+
+    /// What the next call is due. The transaction stays.
+    fn due_next(&self) -> Result<Answer, OutOfMemory>
+        requires behind { self.now.replayed < length self.now.calls.items }
+        ensures { IfOk result (λ a. slice_get
+            (answers_of self.now.cap self.now.tree (ops_of self.now.calls.items)) self.now.replayed ≡ Some a) }
+    {
+        let at = self.replayed as usize;
+        self.due(&self.calls[at].op)
+    }
+
     /// Whether the next call, which is due an answer, deviates from what was shown, and answers so.
-    fn deviates(&self, due: &Answer, number: u32, told: &Answer) -> bool
+    fn is_other(&self, due: &Answer, number: u32, told: &Answer) -> bool
         requires behind { self.now.replayed < length self.now.calls.items }
         requires logged { IsLogged due.now }
         ensures { IsTrue result ↔ ((number ≡ self.now.replayed + 1) × (due.now ≡ told.now)
@@ -284,31 +378,36 @@ impl Begun {
         number == self.replayed + 1 && is_same_answer(due, told) && !self.was_shown(due)
     }
 
-    /// Whether the next call would not be refused. It is made on a second copy of the session, and the transaction stays.
-    fn is_next_done(&mut self) -> Result<bool, OutOfMemory>
-        requires behind { self.old.replayed < length self.old.calls.items }
-        ensures is { IfOk result (λ yes. IsTrue yes ↔ IsDone (slice_get
-            (answers_of self.old.cap self.old.tree (ops_of self.old.calls.items)) self.old.replayed)) }
-        ensures stays { transaction_in self.new ≡ transaction_in self.old }
-        ensures cap { self.new.cap ≡ self.old.cap }
-        ensures since { self.new.since ≡ self.old.since }
+    /// Whether the next call deviates from what was shown, and answers so.
+    fn deviates(&self, number: u32, told: &Answer) -> Result<bool, OutOfMemory>
+        requires behind { self.now.replayed < length self.now.calls.items }
+        ensures { IfOk result (λ yes. IsTrue yes ↔ ((number ≡ self.now.replayed + 1)
+            × (slice_get (answers_of self.now.cap self.now.tree (ops_of self.now.calls.items)) self.now.replayed ≡ Some told.now)
+            × (slice_get (shown_of self.now.calls.items) self.now.replayed ≢ Some told.now))) }
     {
-        let session = self.session()?;
-        let at = self.replayed as usize;
-        let due = session.due(self.cap, &self.calls[at].op)?;
-        self.warm = Some(session);
-        Ok(is_done(&due))
+        let due = self.due_next()?;
+        let is_other = self.is_other(&due, number, told);
+        drop(due);
+        Ok(is_other)
+    }
+
+    /// Whether the next call would not be refused.
+    fn is_next_done(&self) -> Result<bool, OutOfMemory>
+        requires behind { self.now.replayed < length self.now.calls.items }
+        ensures { IfOk result (λ yes. IsTrue yes ↔ IsDone (slice_get
+            (answers_of self.now.cap self.now.tree (ops_of self.now.calls.items)) self.now.replayed)) }
+    {
+        let due = self.due_next()?;
+        let done = is_done(&due);
+        drop(due);
+        Ok(done)
     }
 
     /// What a read that failed comes to in place of the next call's step.
-    fn step_fault(&mut self) -> Result<Verdict, OutOfMemory>
-        requires behind { self.old.replayed < length self.old.calls.items }
-        ensures verdict { IfOk result (λ v. (m : Machine) (a : Answer) → cap_of m ≡ self.old.cap
-            → IsReadFault m.settings.servers a
-            → IsVerdict (MayStep m (transaction_in self.old) a) (transaction_in self.old) (transaction_in self.new) a v) }
-        ensures err { OnErr result (transaction_in self.new ≡ transaction_in self.old) }
-        ensures cap { self.new.cap ≡ self.old.cap }
-        ensures since { self.new.since ≡ self.old.since }
+    fn step_fault(&self) -> Result<Verdict, OutOfMemory>
+        requires behind { self.now.replayed < length self.now.calls.items }
+        ensures { IfOk result (λ v. (m : Machine) (a : Answer) → cap_of m ≡ self.now.cap → IsReadFault m.settings.servers a
+            → IsVerdict (MayStep m (transaction_in self.now) a) (transaction_in self.now) (transaction_in self.now) a v) }
     {
         if self.is_next_done()? {
             return Ok(Verdict::Goes);
@@ -329,10 +428,16 @@ impl Begun {
         if is_read_fault(servers, answer) {
             return self.step_fault();
         }
-        let (session, due) = self.replay_next()?;
         match answer {
-            Answer::Replayed(i) => Ok(self.step_on(session, &due, *i)),
-            Answer::Aborted(i, told) if self.deviates(&due, *i, told) => Ok(Verdict::Ends),
+            Answer::Replayed(i) => self.go_on(*i),
+            Answer::Aborted(i, told) => {
+                let deviates = self.deviates(*i, told)?;
+                Ok(if deviates {
+                    Verdict::Ends
+                } else {
+                    Verdict::Unlawful
+                })
+            }
             _ => Ok(Verdict::Unlawful),
         }
     }

@@ -1,6 +1,6 @@
 //! Items of a tree that calls read and change: when they are the same, and when lists of them meet.
 
-ghost use Rattle.std.specs.Prelude.{◌≡◌, ◌++◌, IfOk};
+ghost use Rattle.std.specs.Prelude.{◌≡◌, ◌++◌, ◌∷◌, [], IfOk};
 ghost use Rattle.wtf_model.specs.declared.item.Item.TheVariants as item;
 ghost use Rattle.wtf_model.specs.Items.{same_item, is_among, meets};
 
@@ -87,6 +87,25 @@ pub(crate) fn copy_items(alloc: Global, items: &[Item]) -> Result<Vec<Item>, Out
         copied.push(item)?;
     }
     Ok(copied)
+}
+
+/// A list of one item.
+pub(crate) fn only(alloc: Global, it: Item) -> Result<Vec<Item>, OutOfMemory>
+    ensures { IfOk result (λ made. made.items ≡ it ∷ []) }
+{
+    let mut made = Vec::new(alloc);
+    made.push(it)?;
+    Ok(made)
+}
+
+/// A list of two items.
+pub(crate) fn both(alloc: Global, one: Item, other: Item) -> Result<Vec<Item>, OutOfMemory>
+    ensures { IfOk result (λ made. made.items ≡ one ∷ other ∷ []) }
+{
+    let mut made = Vec::new(alloc);
+    made.push(one)?;
+    made.push(other)?;
+    Ok(made)
 }
 
 /// Items, and others behind them.

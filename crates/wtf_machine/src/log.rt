@@ -61,8 +61,10 @@ pub(crate) fn replay(
         number += 1;
         let due = session.call(cap, &logged.op)?;
         if !is_same_answer(&due, &logged.shown) {
+            drop(session);
             return Ok(Outcome::Differs(number, due));
         }
+        drop(due);
     }
     Ok(Outcome::Same(session))
 }

@@ -5,7 +5,7 @@ ghost use Rattle.std.specs.FinMap.{get};
 ghost use Rattle.wtf_model.specs.Form.{IsFormEvent};
 ghost use Rattle.wtf_model.specs.Tree.{root_alone};
 ghost use Rattle.wtf_model.specs.Lawful.{MayClient, client_refusal};
-ghost use Rattle.wtf_model.specs.Steps.{MayBuilt, start, after, after_client};
+ghost use Rattle.wtf_model.specs.Steps.{May, start, after, after_client};
 ghost use Rattle.wtf_model.specs.Transaction.{Transaction};
 
 use crate::answers::is_refused;
@@ -116,17 +116,13 @@ impl Machine {
         }
     }
 
-    /// Whether the answer is one that the machine may give to the event; then it is the machine behind it, and else, and where
-    /// memory could not be had, it is as before.
-    pub fn step(&mut self, event: &Event, answer: &Answer) -> Result<bool, OutOfMemory>
-        requires form { IsFormEvent event.now }
-        requires number { (machine_in self.old).number < 2 ^ 63 }
-        requires stamps { (machine_in self.old).next_stamp < 2 ^ 63 }
-        requires scans { (machine_in self.old).scans < 2 ^ 63 }
-        ensures lawful { IfOk result (λ yes. IsTrue yes ↔ MayBuilt (machine_in self.old) event.now answer.now) }
-        ensures next { IfOk result (λ yes. IsTrue yes →
-            machine_in self.new ≡ after (machine_in self.old) event.now answer.now) }
-        ensures stays { IfOk result (λ yes. yes ≡ false → machine_in self.new ≡ machine_in self.old) }
+    /// Whether an answer to an event is lawful.
+    fn line(&mut self, event: &Event, answer: &Answer) -> Result<bool, OutOfMemory>
+        requires number { self.old.number < 2 ^ 63 }
+        requires stamps { self.old.next_stamp < 2 ^ 63 }
+        requires scans { self.old.scans < 2 ^ 63 }
+        ensures decides { IfOk result (Decides (May (machine_in self.old) event.now answer.now)
+            (machine_in self.old) (after (machine_in self.old) event.now answer.now) (machine_in self.new)) }
         ensures err { OnErr result (machine_in self.new ≡ machine_in self.old) }
     {
         match event {
@@ -148,5 +144,21 @@ impl Machine {
             Event::Piece(parts) => Ok(self.piece(*parts, answer)),
             Event::Collect(k) => Ok(self.may_collect(*k, answer)),
         }
+    }
+
+    /// Whether the answer is one that the machine may give to the event; then it is the machine behind it, and else, and where
+    /// memory could not be had, it is as before.
+    pub fn step(&mut self, event: &Event, answer: &Answer) -> Result<bool, OutOfMemory>
+        requires form { IsFormEvent event.now }
+        requires number { (machine_in self.old).number < 2 ^ 63 }
+        requires stamps { (machine_in self.old).next_stamp < 2 ^ 63 }
+        requires scans { (machine_in self.old).scans < 2 ^ 63 }
+        ensures lawful { IfOk result (λ yes. IsTrue yes ↔ May (machine_in self.old) event.now answer.now) }
+        ensures next { IfOk result (λ yes. IsTrue yes →
+            machine_in self.new ≡ after (machine_in self.old) event.now answer.now) }
+        ensures stays { IfOk result (λ yes. yes ≡ false → machine_in self.new ≡ machine_in self.old) }
+        ensures err { OnErr result (machine_in self.new ≡ machine_in self.old) }
+    {
+        self.line(event, answer)
     }
 }

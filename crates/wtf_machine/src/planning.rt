@@ -12,7 +12,7 @@ ghost use Rattle.wtf_machine.specs.Machines.{machine_in};
 
 use crate::answers::{is_okay, is_refused};
 use crate::faults::is_read_fault;
-use crate::items::{copy_items, meets};
+use crate::items::{copy_items, meets, only};
 use crate::jobs::PlannedJob;
 use crate::machine::Machine;
 use crate::path_map::PathNode;
@@ -137,7 +137,7 @@ impl Machine {
             return Ok(Vec::new(self.alloc));
         };
         let path = job.path.copy(self.alloc)?;
-        Ok(vec![in self.alloc; Item::BodyOf(path)]?)
+        Ok(only(self.alloc, Item::BodyOf(path))?)
     }
 
     /// What a job made is put in place under a number. The job has ended, and others see what has changed.

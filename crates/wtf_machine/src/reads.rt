@@ -8,7 +8,7 @@ ghost use Rattle.wtf_model.specs.Items as what;
 ghost use Rattle.wtf_model.specs.Items.{node_above, names_above, handle_reads, handle_changes, seek_reads};
 ghost use Rattle.wtf_machine.specs.Sessions.{session_in};
 
-use crate::items::joined_items;
+use crate::items::{both, joined_items, only};
 use crate::workspace::Workspace;
 use std::alloc::Global;
 use wtf_base::{Bytes, OutOfMemory};
@@ -26,7 +26,7 @@ fn node_above(alloc: Global, p: &Path) -> Result<Vec<Item>, OutOfMemory>
         Ok(dir) => dir,
         Err(_) => return Err(OutOfMemory),
     };
-    Ok(vec![in alloc; Item::NodeOf(dir)]?)
+    Ok(only(alloc, Item::NodeOf(dir))?)
 }
 
 /// The names in the directory that a path stands in. The root stands in none.
@@ -40,7 +40,7 @@ fn names_above(alloc: Global, p: &Path) -> Result<Vec<Item>, OutOfMemory>
         Ok(dir) => dir,
         Err(_) => return Err(OutOfMemory),
     };
-    Ok(vec![in alloc; Item::NamesOf(dir)]?)
+    Ok(only(alloc, Item::NamesOf(dir))?)
 }
 
 /// What stands at a path.
@@ -48,7 +48,7 @@ fn node_read(alloc: Global, p: &Path) -> Result<Vec<Item>, OutOfMemory>
     ensures { IfOk result (λ v. v.items ≡ item.NodeOf p.now ∷ []) }
 {
     let p = p.copy(alloc)?;
-    Ok(vec![in alloc; Item::NodeOf(p)]?)
+    Ok(only(alloc, Item::NodeOf(p))?)
 }
 
 /// What stands at a path, and the names in the directory.
@@ -57,7 +57,7 @@ fn folder_reads(alloc: Global, p: &Path) -> Result<Vec<Item>, OutOfMemory>
 {
     let node = p.copy(alloc)?;
     let names = p.copy(alloc)?;
-    Ok(vec![in alloc; Item::NodeOf(node), Item::NamesOf(names)]?)
+    Ok(both(alloc, Item::NodeOf(node), Item::NamesOf(names))?)
 }
 
 /// What stands at a path, and the bytes of the file.
@@ -66,7 +66,7 @@ pub(crate) fn source_reads(alloc: Global, p: &Path) -> Result<Vec<Item>, OutOfMe
 {
     let node = p.copy(alloc)?;
     let body = p.copy(alloc)?;
-    Ok(vec![in alloc; Item::NodeOf(node), Item::BodyOf(body)]?)
+    Ok(both(alloc, Item::NodeOf(node), Item::BodyOf(body))?)
 }
 
 /// What a new path needs.
@@ -154,7 +154,7 @@ impl Workspace {
             return Ok(Vec::new(self.alloc));
         };
         let path = handle.path.copy(self.alloc)?;
-        Ok(vec![in self.alloc; Item::BodyOf(path)]?)
+        Ok(only(self.alloc, Item::BodyOf(path))?)
     }
 
     /// What a seek reads: nothing, but where it leads to the end of the file.

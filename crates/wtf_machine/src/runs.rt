@@ -27,10 +27,14 @@ pub(crate) fn reads_one(
     for logged in calls {
         let read = session.reads(&logged.op)?;
         if meets(touched, read.as_slice()) {
+            drop(read);
+            drop(session);
             return Ok(true);
         }
+        drop(read);
         let _ = session.call(cap, &logged.op)?;
     }
+    drop(session);
     Ok(false)
 }
 
@@ -49,6 +53,8 @@ pub(crate) fn changed_by(
     for logged in calls {
         let mut more = session.change(cap, &logged.op)?;
         changed.append(&mut more)?;
+        drop(more);
     }
+    drop(session);
     Ok(changed)
 }

@@ -7,6 +7,7 @@ ghost use Rattle.wtf_model.specs.Lawful.{MayTry, MayStep, MayCommit, MayCall};
 ghost use Rattle.wtf_model.specs.Machines.{is_live, is_full};
 ghost use Rattle.wtf_model.specs.Steps.{begun, tried, stepped, committed, aborted, called, touching};
 ghost use Rattle.wtf_model.specs.Transaction.{Transaction};
+ghost use Rattle.wtf_machine.specs.Verdicts.{IsFate};
 ghost use Rattle.wtf_machine.specs.Kept.{Decides};
 ghost use Rattle.wtf_machine.specs.Machines.{machine_in, is_lawful, settled};
 
@@ -91,6 +92,18 @@ impl Machine {
         Ok(true)
     }
 
+    /// What a client's attempt to commit comes to.
+    fn fate(&self, c: u8, answer: &Answer) -> Result<Fate, OutOfMemory>
+        ensures { (t : Transaction) → get (machine_in self.now).transactions c ≡ Some t →
+            IfOk result (IsFate (MayTry (machine_in self.now) t answer.now) (machine_in self.now) t answer.now) }
+    {
+        let Some(t) = self.clients.at(c) else {
+            return Ok(Fate::Unlawful);
+        };
+        let seen = self.clients.touched(t);
+        t.attempt(self.number, &self.tree, seen, answer)
+    }
+
     /// A client's attempt to commit.
     pub(crate) fn attempt(&mut self, c: u8, answer: &Answer) -> Result<bool, OutOfMemory>
         requires number { self.old.number < 2 ^ 63 }
@@ -99,12 +112,19 @@ impl Machine {
             (machine_in self.old) (tried (machine_in self.old) c t answer.now) (machine_in self.new)) }
         ensures err { OnErr result (machine_in self.new ≡ machine_in self.old) }
     {
-        let Some(t) = self.clients.at(c) else {
-            return Ok(false);
-        };
-        let seen = self.clients.touched(t);
-        let fate = t.attempt(self.number, &self.tree, seen, answer)?;
+        let fate = self.fate(c, answer)?;
         self.settle(c, fate)
+    }
+
+    /// What a client's commit by a replay of all calls comes to.
+    fn replayed_fate(&self, c: u8, answer: &Answer) -> Result<Fate, OutOfMemory>
+        ensures { (t : Transaction) → get (machine_in self.now).transactions c ≡ Some t →
+            IfOk result (IsFate (MayCommit (machine_in self.now) t answer.now) (machine_in self.now) t answer.now) }
+    {
+        let Some(t) = self.clients.at(c) else {
+            return Ok(Fate::Unlawful);
+        };
+        t.commit(self.settings.servers, self.number, &self.tree, answer)
     }
 
     /// A client's commit by a replay of all calls.
@@ -115,10 +135,7 @@ impl Machine {
             (machine_in self.old) (committed (machine_in self.old) c t answer.now) (machine_in self.new)) }
         ensures err { OnErr result (machine_in self.new ≡ machine_in self.old) }
     {
-        let Some(t) = self.clients.at(c) else {
-            return Ok(false);
-        };
-        let fate = t.commit(self.settings.servers, self.number, &self.tree, answer)?;
+        let fate = self.replayed_fate(c, answer)?;
         self.settle(c, fate)
     }
 

@@ -14,7 +14,7 @@ use Rattle.std.specs.FinSet.{FinSet}
 use Rattle.std.specs.Ordering.{nat_cmp}
 use Rattle.wtf_model.specs.Transaction.{Transaction, Job}
 use Rattle.wtf_model.specs.Jobs.{MayPut}
-use Rattle.wtf_model.specs.Lawful.{client_refusal, MayAsk, MayTry, MayCommit, MayBuilt}
+use Rattle.wtf_model.specs.Lawful.{client_refusal, MayAsk, MayTry, MayCommit, May}
 use Rattle.wtf_model.specs.Steps.{Machine, is_logged, with_transaction, logged, begun, tried, stepped, committed, aborted, after_client, with_down, saved, with_job, put_in_place, dropped, scanning, scanned, after}
 
 pub record Rises (old new : Machine) : Type 0 where
@@ -113,7 +113,7 @@ module _ (m : Machine) where
   saved_rises answer.FaultSave = record { number = omega arith; stamps = omega arith; scans = omega arith }
   saved_rises a = still m
 
-  pub after_rises : (e : Event) (a : Answer) → MayBuilt m e a → Rises m (after m e a)
+  pub after_rises : (e : Event) (a : Answer) → May m e a → Rises m (after m e a)
   after_rises (event.Client c v) a may = client_by m c (client_refusal (get m.transactions c) v) (get m.transactions c) v a may
   after_rises (event.Plan j kind p r) a may = job_rises j kind p r a
   after_rises (event.Put j) a may = put_rises j (get m.jobs j) a may
@@ -128,6 +128,6 @@ module _ (m : Machine) where
   after_rises event.Tree a may = still m
 
 -- whether it was lawful or not
-pub stepped_so : (m new : Machine) (e : Event) (a : Answer) (b : Bool) → IsTrue b ↔ MayBuilt m e a → (IsTrue b → new ≡ after m e a) → (b ≡ false → new ≡ m) → Rises m new
+pub stepped_so : (m new : Machine) (e : Event) (a : Answer) (b : Bool) → IsTrue b ↔ May m e a → (IsTrue b → new ≡ after m e a) → (b ≡ false → new ≡ m) → Rises m new
 stepped_so m new e a true lawful next same = subst (λ x. Rises m x) (sym (next refl)) (after_rises m e a (lawful.0 refl))
 stepped_so m new e a false lawful next same = subst (λ x. Rises m x) (sym (same refl)) (still m)

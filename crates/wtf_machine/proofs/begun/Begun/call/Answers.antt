@@ -1,15 +1,13 @@
-use Rattle.std.proofs.Common.{◌≡◌, ◌↔◌, ◌++◌, ◌∷◌, IsTrue, [], refl, sym, ap, ◌∙◌, subst}
+use Rattle.std.proofs.Common.{◌↔◌, ◌<◌, ℕ, List, IsTrue, length, refl, sym, ap, ap₂, ◌∙◌, subst}
 use Rattle.std.proofs.lemmas.Result.{IfOk-weaker}
-use Rattle.wtf_model.specs.Transaction.{Transaction, session_after}
-use Rattle.wtf_model.specs.Lawful.{MayFail}
+use Rattle.wtf_model.specs.declared.op.Op.{Op}
+use Rattle.wtf_model.specs.Transaction.{Transaction}
+use Rattle.wtf_model.specs.Lawful.{MayCall, MayFail}
 use Rattle.wtf_model.specs.Machines.{due}
-use Rattle.wtf_model.specs.Steps.{IsLogged, logged}
-use Rattle.wtf_model.specs.Call.{call}
-use Rattle.wtf_machine.specs.Logs.{ops_of}
-use Rattle.wtf_machine.specs.Sessions.{session_in}
-use Rattle.wtf_machine.specs.Verdicts.{transaction_in}
-use Rattle.wtf_machine.proofs.LogLaws.{not_so, IsLogged-called}
-use Rattle.wtf_machine.proofs.BegunLaws.{all_ops, call-left, call-other, called_on-logged, called_on-fault, fault-lawful}
+use Rattle.wtf_machine.specs.Verdicts.{transaction_in, called_on}
+use Rattle.wtf_machine.proofs.LogLaws.{not_so}
+use Rattle.wtf_machine.proofs.ClientLaws.{on_error}
+use Rattle.wtf_machine.proofs.BegunLaws.{called_on-fault, fault-lawful}
 use Rattle.wtf_machine.proofs.begun.Begun.call.Goals as goal
 
 pub returns-then-is_store_fault-clause-lawful : goal.returns-then-is_store_fault-clause-lawful
@@ -19,41 +17,38 @@ returns-then-is_store_fault-clause-lawful c =
     IfOk-weaker c.may_fail.result _ _
     (λ b fails m runs. fault-lawful m t o c.args.answer.now (c.if-is_store_fault.ensures.0 refl) b
     (subst (λ n. IsTrue b ↔ MayFail n o (due m t o) c.args.answer.now) (sym runs.1) (fails m runs.0)))
-    c.may_fail.ensures.lawful
+    c.may_fail.ensures
 
 pub returns-then-is_store_fault-clause-next : goal.returns-then-is_store_fault-clause-next
 returns-then-is_store_fault-clause-next c =
     IfOk-weaker c.may_fail.result _ _
-    (λ b fails lawful. c.may_fail.ensures.stays ∙ sym (called_on-fault (transaction_in c.args.self.now) c.args.op.now c.args.answer.now (c.if-is_store_fault.ensures.0 refl)))
-    c.may_fail.ensures.lawful
+    (λ b fails lawful. sym (called_on-fault (transaction_in c.args.self.now) c.args.op.now c.args.answer.now (c.if-is_store_fault.ensures.0 refl)))
+    c.may_fail.ensures
 
-pub is_same_answer-requires : goal.is_same_answer-requires
-is_same_answer-requires c = IsLogged-called c.session.new.self.cap (session_in c.in_ok-session.session) (session_in c.call.new.self) c.args.op.now c.in_ok-due.due c.in_ok-due.ensures
+pub accept-requires : goal.accept-requires
+accept-requires c = record {
+  live = ap (λ (t : Transaction). t.replayed) c.make_room.ensures.stays ∙ c.requires.live ∙ ap length (sym c.make_room.ensures.items);
+  few = subst (λ l. length l < 4096) (sym c.make_room.ensures.items) c.requires.room;
+  room = c.in_ok-make_room.ensures.room;
+  sound = λ fault. not_so (c.if-is_store_fault.ensures.1 fault);
+}
 
-pub returns-then-not-is_same_answer-clause-lawful : goal.returns-then-not-is_same_answer-clause-lawful
-returns-then-not-is_same_answer-clause-lawful c m runs =
-    call-other c.args.self.now.cap (transaction_in c.args.self.now) c.args.op.now (session_in c.in_ok-session.session) (session_in c.call.new.self) c.in_ok-due.due
-    (all_ops c.args.self.now.calls.items c.args.self.now.replayed c.requires.live) c.in_ok-session.ensures.left
-    (subst (λ k. call k (session_in c.in_ok-session.session) c.args.op.now ≡ record { session = session_in c.call.new.self; answer = c.in_ok-due.due }) c.session.ensures.cap c.in_ok-due.ensures)
-    c.args.answer.now (λ e. not_so (c.if-not-is_same_answer.ensures.1 e)) (λ fault. not_so (c.if-is_store_fault.ensures.1 fault)) m runs.0
-
-pub keep-requires-clause-logged : goal.keep-requires-clause-logged
-keep-requires-clause-logged c =
-    subst IsLogged (c.if-not-is_same_answer.ensures.0 refl)
-    (IsLogged-called c.session.new.self.cap (session_in c.in_ok-session.session) (session_in c.call.new.self) c.args.op.now c.in_ok-due.due c.in_ok-due.ensures)
-
-pub keep-requires-clause-left : goal.keep-requires-clause-left
-keep-requires-clause-left c =
-    let t = transaction_in c.args.self.now in
-    subst (λ k. session_in c.call.new.self ≡ session_after k c.session.new.self.tree (ops_of c.session.new.self.calls.items ++ c.args.op.now ∷ [])) (sym c.session.ensures.cap)
-    (call-left c.args.self.now.cap t c.args.op.now (session_in c.in_ok-session.session) (session_in c.call.new.self) c.in_ok-due.due
-    (all_ops c.args.self.now.calls.items c.args.self.now.replayed c.requires.live) c.in_ok-session.ensures.left
-    (subst (λ k. call k (session_in c.in_ok-session.session) c.args.op.now ≡ record { session = session_in c.call.new.self; answer = c.in_ok-due.due }) c.session.ensures.cap c.in_ok-due.ensures)
-    ∙ ap (λ (x : Transaction). session_after c.args.self.now.cap x.tree (x.ops ++ c.args.op.now ∷ [])) (sym c.session.ensures.stays))
+pub returns-clause-lawful : goal.returns-clause-lawful
+returns-clause-lawful c =
+    IfOk-weaker c.accept.result _ _
+    (λ b is m runs. subst (λ (t : Transaction). IsTrue b ↔ MayCall m t c.args.op.now c.args.answer.now) c.make_room.ensures.stays
+    (subst (λ (o : Op (List ℕ)). IsTrue b ↔ MayCall m (transaction_in c.make_room.new.self) o c.args.answer.now) c.in_ok-own.ensures
+    (is m (runs.0 ∙ sym c.make_room.ensures.cap))))
+    c.accept.ensures.lawful
 
 pub returns-clause-next : goal.returns-clause-next
-returns-clause-next c _ =
-    c.in_ok-keep.ensures.ok ∙ ap (λ (x : Transaction). logged x c.args.op.now c.args.answer.now) c.session.ensures.stays
-    ∙ sym (called_on-logged (transaction_in c.args.self.now) c.args.op.now c.args.answer.now
-    (subst IsLogged (c.if-not-is_same_answer.ensures.0 refl)
-    (IsLogged-called c.session.new.self.cap (session_in c.in_ok-session.session) (session_in c.call.new.self) c.args.op.now c.in_ok-due.due c.in_ok-due.ensures)))
+returns-clause-next c =
+    IfOk-weaker c.accept.result _ _
+    (λ b is yes. is yes ∙ ap₂ (λ (t : Transaction) (o : Op (List ℕ)). called_on t o c.args.answer.now) c.make_room.ensures.stays c.in_ok-own.ensures)
+    c.accept.ensures.next
+
+pub returns-clause-stays : goal.returns-clause-stays
+returns-clause-stays c = IfOk-weaker c.accept.result _ _ (λ b is no. is no ∙ c.make_room.ensures.stays) c.accept.ensures.stays
+
+pub returns-clause-err : goal.returns-clause-err
+returns-clause-err c = on_error c.accept.result _ _ (λ same. same ∙ c.make_room.ensures.stays) c.accept.ensures.err

@@ -1,16 +1,15 @@
-use Rattle.std.proofs.Common.{◌≡◌, ap, ◌∙◌}
+use Rattle.std.proofs.Common.{take, refl}
 use Rattle.wtf_model.specs.Call.{call}
-use Rattle.wtf_machine.specs.Sessions.{session_in}
+use Rattle.wtf_model.specs.Transaction.{session_after}
+use Rattle.wtf_machine.specs.Logs.{ops_of}
 use Rattle.wtf_machine.specs.Verdicts.{transaction_in}
 use Rattle.wtf_machine.proofs.BegunLaws.{all_ops, call-may, due-called}
 use Rattle.wtf_machine.proofs.begun.Begun.may_fail.Goals as goal
 
-pub returns-clause-lawful : goal.returns-clause-lawful
-returns-clause-lawful c m most =
-    let cap = c.args.self.now.cap in
-    let s = session_in c.in_ok-session.session in
-    let d = c.in_ok-due.due in
-    let is : d ≡ (call cap s c.args.op.now).answer = c.in_ok-due.ensures ∙ ap (λ k. (call k s c.args.op.now).answer) c.session.ensures.cap in
-    call-may cap (transaction_in c.args.self.now) c.args.op.now s (call cap s c.args.op.now).session d
-    (all_ops c.args.self.now.calls.items c.args.self.now.replayed c.requires.live) c.in_ok-session.ensures.left (due-called cap s c.args.op.now d is)
-    c.args.answer.now c.args.servers c.may_fail.result c.may_fail.ensures m most
+pub returns : goal.returns
+returns c m most =
+    let k = c.args.self.now in
+    let s = session_after k.cap k.tree (take k.replayed (ops_of k.calls.items)) in
+    call-may k.cap (transaction_in k) c.args.op.now s (call k.cap s c.args.op.now).session c.in_ok-due.due
+    (all_ops k.calls.items k.replayed c.requires.live) refl (due-called k.cap s c.args.op.now c.in_ok-due.due c.in_ok-due.ensures)
+    c.args.answer.now c.args.servers c.may_fail-may.result c.may_fail-may.ensures m most

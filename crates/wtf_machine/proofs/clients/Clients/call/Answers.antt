@@ -1,4 +1,4 @@
-use Rattle.std.proofs.Common.{rules, IfOk, IsTrue, ◌↔◌, sym, subst}
+use Rattle.std.proofs.Common.{IfOk, IsTrue, ◌↔◌, sym, subst}
 use Rattle.std.specs.Ordering.{nat_cmp}
 use Rattle.wtf_model.specs.Lawful.{MayCall}
 use Rattle.wtf_model.specs.Machines.{Machine}
@@ -6,7 +6,7 @@ use Rattle.wtf_model.specs.Transaction.{Transaction}
 use Rattle.wtf_machine.specs.Maps.{map_of}
 use Rattle.wtf_machine.specs.Verdicts.{open_in, RunsWith}
 use Rattle.wtf_machine.specs.Kept.{clients_in, Decides, called_in}
-use Rattle.wtf_machine.proofs.ClientLaws.{found_is, found_at, none_found, becomes, stays, decided_call, live_replayed, room_left, on_error}
+use Rattle.wtf_machine.proofs.ClientLaws.{found_is, got, found_at, none_found, becomes, stays, decided_call, live_replayed, room_left, on_error}
 use Rattle.wtf_machine.proofs.SeenLaws.{called_next, called_stays}
 use Rattle.wtf_machine.proofs.clients.Clients.call.Goals as goal
 
@@ -34,7 +34,7 @@ returns-clause-decides c = λ t there.
     let changed = k.changed.items in
     let held = c.get_mut.follows.holds w in
     let new = map_of nat_cmp (open_in changed) (c.get_mut.follows.lender w).entries in
-    let is = becomes changed k.items.entries c.args.c _ w (held.3 (search rules)).0 in
+    let is = becomes changed k.items.entries c.args.c _ w (held.3 (got _ _ c.in-Some.ensures.value)).0 in
     let lawful =
     subst (λ cap. IfOk c.call.result (λ yes. (m : Machine) → RunsWith cap c.args.servers m
     → (IsTrue yes ↔ MayCall m (open_in changed b) c.args.op.now c.args.answer.now))) (k.caps c.args.c b (sym c.in-Some.ensures.value)) c.call.ensures.lawful in
@@ -53,5 +53,5 @@ returns-clause-err c =
     let held = c.get_mut.follows.holds w in
     on_error c.call.result _ _
     (λ same. stays c.args.self.now.changed.items c.args.self.now.items.entries c.args.c _ b w c.in-Some.ensures.value
-    (held.3 (search rules)).0 same c.call.ensures.since)
+    (held.3 (got _ _ c.in-Some.ensures.value)).0 same c.call.ensures.since)
     c.call.ensures.err

@@ -1,9 +1,9 @@
-use Rattle.std.proofs.Common.{rules, ap, ◌∙◌, []}
+use Rattle.std.proofs.Common.{ap, ◌∙◌, []}
 use Rattle.std.specs.FinMap.{insert}
 use Rattle.wtf_model.specs.Transaction.{Transaction}
 use Rattle.wtf_machine.specs.Kept.{clients_in}
 use Rattle.wtf_machine.specs.Verdicts.{transaction_in}
-use Rattle.wtf_machine.proofs.ClientLaws.{found_is, none_found, becomes}
+use Rattle.wtf_machine.proofs.ClientLaws.{found_is, got, none_found, becomes}
 use Rattle.wtf_machine.proofs.SeenLaws.{open_rebased}
 use Rattle.wtf_machine.proofs.clients.Clients.rebase.Goals as goal
 
@@ -19,7 +19,7 @@ returns-clause-is c = λ t there.
     let w = c.rebase.new.self in
     let held = c.get_mut.follows.holds w in
     let again : Transaction = record (transaction_in b) { base = c.args.number; tree = c.args.now; replayed = 0; touched = [] } in
-    becomes changed k.items.entries c.args.c _ w (held.3 (search rules)).0
+    becomes changed k.items.entries c.args.c _ w (held.3 (got _ _ c.in-Some.ensures.value)).0
     ∙ ap (insert (clients_in k) c.args.c)
     (open_rebased changed w b again c.rebase.ensures.is (c.rebase.ensures.since ∙ c.count-since.ensures)
     ∙ ap (λ (x : Transaction). record x { base = c.args.number; tree = c.args.now; replayed = 0; touched = [] })

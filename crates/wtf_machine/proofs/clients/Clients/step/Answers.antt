@@ -7,7 +7,7 @@ use Rattle.wtf_machine.specs.declared.begun.Verdict.TheVariants as verdict
 use Rattle.wtf_machine.specs.Maps.{map_of}
 use Rattle.wtf_machine.specs.Verdicts.{transaction_in, open_in, RunsWith, IsVerdict}
 use Rattle.wtf_machine.specs.Kept.{clients_in, Decides, stepped_in}
-use Rattle.wtf_machine.proofs.ClientLaws.{found_is, found_at, none_found, becomes, stays, behind, decided_goes, decided_ends, decided_unlawful, gone_after}
+use Rattle.wtf_machine.proofs.ClientLaws.{found_is, got, found_at, none_found, becomes, stays, behind, decided_goes, decided_ends, decided_unlawful, gone_after}
 use Rattle.wtf_machine.proofs.SeenLaws.{verdict_seen}
 use Rattle.wtf_machine.proofs.clients.Clients.step.Goals as goal
 
@@ -28,7 +28,7 @@ returns-in_err-verdict-clause-err c =
     let w = c.step.new.self in
     let held = c.get_mut.follows.holds w in
     let same = stays c.args.self.now.changed.items c.args.self.now.items.entries c.args.c _ c.in-Some.t.now w c.in-Some.ensures.value
-    (held.3 (search rules)).0 c.in_err-verdict.ensures.err c.step.ensures.since in
+    (held.3 (got _ _ c.in-Some.ensures.value)).0 c.in_err-verdict.ensures.err c.step.ensures.since in
     search (rules, same)
 
 pub returns-in-Unlawful-clause-decides : goal.returns-in-Unlawful-clause-decides
@@ -40,7 +40,7 @@ returns-in-Unlawful-clause-decides c = λ t there m runs.
     let since = c.step.ensures.since in
     let held = c.get_mut.follows.holds w in
     let new = map_of nat_cmp (open_in changed) (c.get_mut.follows.lender w).entries in
-    let is = becomes changed k.items.entries c.args.c _ w (held.3 (search rules)).0 in
+    let is = becomes changed k.items.entries c.args.c _ w (held.3 (got _ _ c.in-Some.ensures.value)).0 in
     let found = found_at changed k.items.entries c.args.c b c.in-Some.ensures.value in
     let fit : RunsWith b.cap c.args.servers m = (runs.0 ∙ sym (k.caps c.args.c b (sym c.in-Some.ensures.value)), runs.1) in
     subst (λ (x : Transaction). Decides (MayStep m x c.args.answer.now) (clients_in k) (stepped_in (clients_in k) c.args.c x c.args.answer.now) new false)
@@ -60,7 +60,7 @@ returns-in-Goes-clause-decides c = λ t there m runs.
     let since = c.step.ensures.since in
     let held = c.get_mut.follows.holds w in
     let new = map_of nat_cmp (open_in changed) (c.get_mut.follows.lender w).entries in
-    let is = becomes changed k.items.entries c.args.c _ w (held.3 (search rules)).0 in
+    let is = becomes changed k.items.entries c.args.c _ w (held.3 (got _ _ c.in-Some.ensures.value)).0 in
     let found = found_at changed k.items.entries c.args.c b c.in-Some.ensures.value in
     let fit : RunsWith b.cap c.args.servers m = (runs.0 ∙ sym (k.caps c.args.c b (sym c.in-Some.ensures.value)), runs.1) in
     subst (λ (x : Transaction). Decides (MayStep m x c.args.answer.now) (clients_in k) (stepped_in (clients_in k) c.args.c x c.args.answer.now) new true)
@@ -80,7 +80,7 @@ returns-clause-decides c = λ t there m runs.
     let since = c.step.ensures.since in
     let held = c.get_mut.follows.holds w in
     let new = clients_in c.end.new.self in
-    let is = becomes changed k.items.entries c.args.c _ w (held.3 (search rules)).0 in
+    let is = becomes changed k.items.entries c.args.c _ w (held.3 (got _ _ c.in-Some.ensures.value)).0 in
     let gone : new ≡ remove (clients_in k) c.args.c =
     c.end.ensures.gone ∙ ap (λ (ts : FinMap nat_cmp Transaction). remove ts c.args.c) is ∙ gone_after (clients_in k) c.args.c (open_in changed w) in
     let fit : RunsWith b.cap c.args.servers m = (runs.0 ∙ sym (k.caps c.args.c b (sym c.in-Some.ensures.value)), runs.1) in
