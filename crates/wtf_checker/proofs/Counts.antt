@@ -14,8 +14,7 @@ use Rattle.std.specs.FinSet.{FinSet}
 use Rattle.std.specs.Ordering.{nat_cmp}
 use Rattle.wtf_model.specs.Transaction.{Transaction, Job}
 use Rattle.wtf_model.specs.Jobs.{MayPut}
-use Rattle.wtf_model.specs.Lawful.{client_refusal, MayAsk, MayTry, MayCommit, MayBuilt}
-use Rattle.wtf_model.specs.Built.{May}
+use Rattle.wtf_model.specs.Lawful.{client_refusal, MayAsk, MayTry, MayCommit, May}
 use Rattle.wtf_model.specs.declared.answer.Kind.{Kind}
 use Rattle.wtf_model.specs.Lines.{MayLine, after_line}
 use Rattle.wtf_checker.specs.Lawful.{line_from}
@@ -138,7 +137,7 @@ module _ (m : Machine) where
   saved_rises answer.FaultSave = record { number = omega arith; stamps = omega arith; scans = omega arith }
   saved_rises a = still m
 
-  pub after_rises : (e : Event) (a : Answer) → MayBuilt m e a → Rises m (after m e a)
+  pub after_rises : (e : Event) (a : Answer) → May m e a → Rises m (after m e a)
   after_rises (event.Client c v) a may = client_by m c (client_refusal (get m.transactions c) v) (get m.transactions c) v a may
   after_rises (event.Plan j kind p r) a may = job_rises j kind p r a
   after_rises (event.Put j) a may = put_rises j (get m.jobs j) a may
@@ -155,21 +154,7 @@ module _ (m : Machine) where
 -- an answer that the machine may give to a line
 pub line_rises : (m : Machine) (asked : Result Event Kind) (a : Answer) → MayLine m (line_from asked) a → Rises m (after_line m (line_from asked) a)
 line_rises m (Err k) a may = still m
-line_rises m (Ok e) a may = event_rises m e a may
-  where
-    event_rises : (m : Machine) (e : Event) (a : Answer) → May m e a → Rises m (after m e a)
-    event_rises m (event.Client c v) a may = after_rises m (event.Client c v) a may
-    event_rises m (event.Plan j kind p r) a may = after_rises m (event.Plan j kind p r) a may
-    event_rises m (event.Put j) a may = after_rises m (event.Put j) a may
-    event_rises m (event.DropJob j) a may = after_rises m (event.DropJob j) a may
-    event_rises m event.Scan a is = subst (λ x. Rises m (after m event.Scan x)) (sym is) (still m)
-    event_rises m (event.Piece k) a is = subst (λ x. Rises m (after m (event.Piece k) x)) (sym is) (still m)
-    event_rises m (event.Collect k) a is = still m
-    event_rises m (event.Down k) a may = after_rises m (event.Down k) a may
-    event_rises m (event.Up k) a may = after_rises m (event.Up k) a may
-    event_rises m event.Save a may = after_rises m event.Save a may
-    event_rises m (event.Dump p) a may = after_rises m (event.Dump p) a may
-    event_rises m event.Tree a may = after_rises m event.Tree a may
+line_rises m (Ok e) a may = after_rises m e a may
 
 -- so much is counted at most then
 pub rises_within : (most : ℕ) (m : Machine) (asked : Result Event Kind) (a : Answer) → MayLine m (line_from asked) a → IsWithin most m

@@ -11,6 +11,7 @@ use Rattle.std.proofs.Common.{
   List,
   ◌∷◌,
   Option,
+  is_some,
   Some,
   None,
   Result,
@@ -27,11 +28,11 @@ use Rattle.std.proofs.Common.{
 use Rattle.std.specs.Prelude.{MatchOption}
 use Rattle.std.specs.FinMap.{get}
 use Rattle.wtf_model.specs.declared.answer.Answer.{Answer, Aborted'}
-use Rattle.wtf_model.specs.declared.answer.Answer.TheVariants.{Okay, Shown, Refused, NotBuilt}
+use Rattle.wtf_model.specs.declared.answer.Answer.TheVariants.{Okay, Shown, More, Done, Refused}
 use Rattle.wtf_model.specs.declared.answer.Answer.TheVariants as answer
 use Rattle.wtf_model.specs.declared.answer.Kind.{Kind}
 use Rattle.wtf_model.specs.declared.answer.Word.{Word}
-use Rattle.wtf_model.specs.declared.answer.Word.TheVariants.{NoServer, NoJob}
+use Rattle.wtf_model.specs.declared.answer.Word.TheVariants.{NoServer, NoJob, ScanBusy}
 use Rattle.wtf_model.specs.declared.op.JobKind.{JobKind}
 use Rattle.wtf_model.specs.declared.op.JobKind.TheVariants.{Compact, Spill}
 use Rattle.wtf_model.specs.declared.event.Verb.{Verb}
@@ -43,8 +44,9 @@ use Rattle.wtf_model.specs.Tree.{◌>>=◌, source}
 use Rattle.wtf_model.specs.Transaction.{Transaction, Job, answers_of}
 use Rattle.wtf_model.specs.Faults.{IsReadFault, or_refusal}
 use Rattle.wtf_model.specs.Jobs.{is_idle, has_region, planned, plan_answer, IsSpillFault, MayFailPlan, MayPut, drop_answer}
-use Rattle.wtf_model.specs.Lawful.{client_refusal, Deviates, MayFailRead, MayAsk, is_short, dumped}
-use Rattle.wtf_model.specs.Built.{May}
+use Rattle.wtf_model.specs.Lawful.{client_refusal, Deviates, MayFailRead, MayAsk, is_short, dumped, May}
+use Rattle.wtf_model.specs.Scans.{held_by, or_held, scan_answer, piece_answer, MayFailPiece, collect_refusal, MayCollect}
+use Rattle.wtf_model.specs.declared.event.Holder.{Holder}
 use Rattle.wtf_model.specs.Steps.{Machine, IsLogged, cap_of, due, session_of, after_client, after}
 use Rattle.wtf_model.specs.Lines.{MayLine, after_line}
 use Rattle.wtf_model.proofs.StepLaws.{IsLogged-call, IsStoreFault-MayFail}
@@ -114,6 +116,24 @@ put_aborts a b s m None h = not_abort a b s (Refused NoJob) tt h
 put_aborts (Aborted' i box x) b s m (Some j) h = h
 put_aborts a b s m (Some j) h = absurd s
 
+held_other : (o : Option Holder) → IsNoAbort (or_held o)
+held_other None = tt
+held_other (Some h) = tt
+
+piece_other : (k : ℕ) (left : Option ℕ) → IsNoAbort (piece_answer k left)
+piece_other k None = tt
+piece_other k (Some left) = if_other (nat_lt k left) _ _ tt tt
+
+piece_fails : (servers : ℕ) (d a b : Answer) → AreAborts a b → MayFailPiece servers d a → ⊥
+piece_fails servers (More left) a b s h = read_fails servers a b s h
+piece_fails servers Done a b s h = read_fails servers a b s h
+piece_fails servers d a b s h = h
+
+collect_aborts : (a b : Answer) → AreAborts a b → (k : ℕ) (r : Option Word) → MatchOption r (MayCollect k a) (λ w. a ≡ Refused w) → ⊥
+collect_aborts (Aborted' i box x) b s k None h = h
+collect_aborts a b s k None h = absurd s
+collect_aborts a b s k (Some w) h = not_abort a b s (Refused w) tt h
+
 drop_other : (o : Option Job) → IsNoAbort (drop_answer o)
 drop_other None = tt
 drop_other (Some j) = tt
@@ -150,9 +170,11 @@ may_aborts a b s m (event.Plan j kind p r) (inl is) = absurd (not_abort a b s (p
 may_aborts a b s m (event.Plan j kind p r) (inr fails) = absurd (plan_fails m.settings.servers kind (plan_answer m j p r) a b s fails)
 may_aborts a b s m (event.Put j) h = absurd (put_aborts a b s m (get m.jobs j) h)
 may_aborts a b s m (event.DropJob j) h = absurd (not_abort a b s (drop_answer (get m.jobs j)) (drop_other (get m.jobs j)) h)
-may_aborts a b s m event.Scan h = absurd (not_abort a b s NotBuilt tt h)
-may_aborts a b s m (event.Piece k) h = absurd (not_abort a b s NotBuilt tt h)
-may_aborts a b s m (event.Collect k) h = absurd (not_abort a b s NotBuilt tt h)
+may_aborts a b s m event.Scan h = absurd (not_abort a b s (scan_answer m) (if_other (is_some m.parts_left) (Refused ScanBusy) (or_held (held_by m)) tt
+    (held_other (held_by m))) h)
+may_aborts a b s m (event.Piece k) (inl is) = absurd (not_abort a b s (piece_answer k m.parts_left) (piece_other k m.parts_left) is)
+may_aborts a b s m (event.Piece k) (inr fails) = absurd (piece_fails m.settings.servers (piece_answer k m.parts_left) a b s fails)
+may_aborts a b s m (event.Collect k) h = absurd (collect_aborts a b s k (collect_refusal m k) h)
 may_aborts a b s m (event.Down k) h = absurd (not_abort a b s (if nat_lt k m.settings.servers then Okay else Refused NoServer)
     (if_other (nat_lt k m.settings.servers) Okay (Refused NoServer) tt tt) h)
 may_aborts a b s m (event.Up k) h = absurd (not_abort a b s (if nat_lt k m.settings.servers then Okay else Refused NoServer)

@@ -7,7 +7,6 @@ ghost use Rattle.wtf_script.specs.declared.limits.TheConstants.{SCRIPT_BYTES};
 ghost use Rattle.wtf_script.specs.Reading.{work};
 ghost use Rattle.wtf_model.specs.declared.answer.Answer.{Answer};
 ghost use Rattle.wtf_model.specs.declared.answer.Answer.TheVariants as an_answer;
-ghost use Rattle.wtf_model.specs.Built.{is_built};
 ghost use Rattle.wtf_model.specs.Lines.{MayLine, after_line};
 ghost use Rattle.wtf_machine.specs.Kept.{Decides};
 ghost use Rattle.wtf_machine.specs.Machines.{machine_in};
@@ -29,36 +28,6 @@ use wtf_dev::Source;
 use wtf_machine::Machine;
 use wtf_model::{Answer, Event, Kind};
 use wtf_print::{TextError, parse_answer};
-
-/// Whether the verb of a line is built.
-fn is_built(event: &Event) -> bool
-    ensures { result ≡ is_built event.now }
-{
-    match event {
-        Event::Plan { .. } => true,
-        Event::Put(_) => true,
-        Event::DropJob(_) => true,
-        Event::Scan => false,
-        Event::Piece(_) => false,
-        Event::Collect(_) => false,
-        Event::Client(_, _) => true,
-        Event::Down(_) => true,
-        Event::Up(_) => true,
-        Event::Save => true,
-        Event::Dump(_) => true,
-        Event::Tree => true,
-    }
-}
-
-/// Whether an answer is `notbuilt`.
-fn is_not_built(answer: &Answer) -> bool
-    ensures { IsTrue result ↔ (answer.now ≡ an_answer.NotBuilt) }
-{
-    match answer {
-        Answer::NotBuilt => true,
-        _ => false,
-    }
-}
 
 /// Whether an answer tells that this is wrong with a line.
 fn is_bad(kind: Kind, answer: &Answer) -> bool
@@ -87,12 +56,7 @@ fn may(
         (machine_in machine.new)) }
 {
     match asked {
-        Ok(event) => {
-            if is_built(event) {
-                return machine.step(event, answer);
-            }
-            Ok(is_not_built(answer))
-        }
+        Ok(event) => machine.step(event, answer),
         Err(kind) => Ok(is_bad(*kind, answer)),
     }
 }

@@ -151,7 +151,7 @@ sys put j0
 ";
 
 /// Other scripts.
-const SCRIPTS: [Row; 10] = [
+const SCRIPTS: [Row; 12] = [
     Row {
         name: "nothing at all",
         script: "",
@@ -177,15 +177,27 @@ const SCRIPTS: [Row; 10] = [
         line: "no 2\n",
     },
     Row {
-        name: "a verb that is not built",
-        script: "sys scan\nsys scan\n",
-        output: "wtf servers 4 replicas 2 region 65536 number 0\nnotbuilt\nscanning 64\n",
+        name: "a scan in pieces",
+        script: "sys scan\nsys scan\nsys piece 60\nsys piece 9\n",
+        output: "wtf servers 4 replicas 2 region 65536 number 0\nscanning 64\nrefused scanbusy\nmore 4\ndone\n",
+        line: "yes 4\n",
+    },
+    Row {
+        name: "a piece that does too few parts",
+        script: "sys scan\nsys piece 60\n",
+        output: "wtf servers 4 replicas 2 region 65536 number 0\nscanning 64\nmore 5\n",
         line: "no 2\n",
     },
     Row {
-        name: "not built at a verb that is",
+        name: "a collection behind one scan",
+        script: "sys scan\nsys piece 64\nsys collect 0\n",
+        output: "wtf servers 4 replicas 2 region 65536 number 0\nscanning 64\ndone\ncollected 0\n",
+        line: "no 3\n",
+    },
+    Row {
+        name: "an answer of no form",
         script: "c0 begin\n",
-        output: "wtf servers 4 replicas 2 region 65536 number 0\nnotbuilt\n",
+        output: "wtf servers 4 replicas 2 region 65536 number 0\nunheard\n",
         line: "no 1\n",
     },
     Row {
