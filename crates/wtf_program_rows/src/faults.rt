@@ -1,12 +1,12 @@
 //! Runs over devices of which one call fails.
 
-use crate::devices::{Ended, Failing, NONE, run, run_on, stores};
-use crate::texts::*;
 use crate::told::answers;
 use std::alloc::Global;
 use std::process::Abort;
 use std::test::Fail;
 use wtf_dev::{MemStore, Shelf, SliceStore};
+use wtf_trial::devices::{Ended, Failing, NONE, run, run_on, stores};
+use wtf_trial::texts::*;
 
 /// The read that fails, the status, and the output. The whole script comes with the first read, and its end with the
 /// second.

@@ -1,7 +1,5 @@
 //! Runs over folders, and over the file of an image.
 
-use crate::devices::shelf_of;
-use crate::texts::{LATER_OUTPUT, LATER_SCRIPT, THREE_OUTPUT, THREE_SCRIPT};
 use std::fs::{self, File};
 use std::test::Fail;
 use std::{env, process};
@@ -9,6 +7,8 @@ use wtf_base::Settings;
 use wtf_dev::{Keeper, MemSink, MemSource, Shelf, SliceStore};
 use wtf_real::{DirStore, FileKeeper, FolderLock, StandIns};
 use wtf_serve::serve;
+use wtf_trial::devices::shelf_of;
+use wtf_trial::texts::{LATER_OUTPUT, LATER_SCRIPT, THREE_OUTPUT, THREE_SCRIPT};
 
 /// A script that writes, one that goes on with what it left, and their outputs.
 const SCRIPTS: [(&[u8], &[u8]); 2] = [(THREE_SCRIPT, THREE_OUTPUT), (LATER_SCRIPT, LATER_OUTPUT)];

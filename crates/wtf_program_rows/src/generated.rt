@@ -1,8 +1,8 @@
 //! Runs over scripts that are made from a number.
 
-use crate::devices::{Ended, Failing, NONE, run};
 use std::alloc::Global;
 use std::test::Fail;
+use wtf_trial::devices::{Ended, Failing, NONE, run};
 
 const WORDS: &str = "--gen 7 --lines 20000";
 

@@ -1,8 +1,8 @@
 //! How many attempts of clients that do not disturb each other ask for a replay: none.
 
-use crate::devices::{NONE, run_on, stores};
 use std::alloc::Global;
 use std::test::Fail;
+use wtf_trial::devices::{NONE, run_on, stores};
 
 const FILE: &str =
     "c0 begin\nc0 mkdir /d\nc0 create /d/a\nc0 open f0 /d/a\nc0 write f0 t:abc\nc0 try\n";

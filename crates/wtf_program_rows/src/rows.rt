@@ -1,27 +1,6 @@
-//! Scripts with their answers. A line and its answer stand on one line here, with ` => ` between.
+//! Rows of clients' calls.
 
-/// A script that is run on empty stores which never fail.
-#[derive(Clone, Copy)]
-pub(crate) struct Row {
-    pub(crate) name: &'static str,
-    pub(crate) words: &'static str,
-    /// The line that the output begins with.
-    pub(crate) settings: &'static str,
-    /// Where it is not empty, a transaction before the lines makes `/a` with these bytes.
-    pub(crate) text: &'static str,
-    pub(crate) lines: &'static str,
-    /// How many bytes all stores hold in the end.
-    pub(crate) stored: u64,
-    pub(crate) status: u8,
-}
-
-pub(crate) const DEFAULTS: &str = "wtf servers 4 replicas 2 region 65536 number 0\n";
-
-pub(crate) const SMALL_REGIONS: &str = "wtf servers 4 replicas 2 region 64 number 0\n";
-
-const THREE_SERVERS: &str = "wtf servers 3 replicas 2 region 65536 number 0\n";
-
-pub(crate) const TWO_SERVERS: &str = "wtf servers 2 replicas 2 region 65536 number 0\n";
+use wtf_trial::rows::{DEFAULTS, Row, SMALL_REGIONS, THREE_SERVERS, TWO_SERVERS};
 
 pub(crate) const ROWS: [Row; 8] = [
     Row {
@@ -360,7 +339,7 @@ sys dump /b => data x:5758595a
     },
 ];
 
-pub(crate) const FURTHER_ROWS: [Row; 8] = [
+pub(crate) const FURTHER_ROWS: [Row; 7] = [
     Row {
         name: "a yanked slice whose bytes were shown",
         words: "",
@@ -480,22 +459,22 @@ c0 begin => begun 1
 c0 begin => refused intx
 c0 step => refused live
 c0 abort => ok
+sys put j0 => refused nojob
+sys drop j0 => refused nojob
+sys plan j0 compact /a 1 => refused noregion
+sys plan j0 compact /q 0 => refused noent
+sys plan j0 compact / 0 => refused isdir
+sys plan j0 compact /a 0 => planned
+sys plan j0 spill /a 0 => refused jobinuse
+sys drop j0 => ok
 sys down 4 => refused noserver
+sys piece 1 => refused noscan
+sys collect 0 => refused noscan
+sys scan => scanning 64
+sys scan => refused scanbusy
 sys dump / => refused isdir
 ",
         stored: 4,
-        status: 0,
-    },
-    Row {
-        name: "verbs that are left to a later version",
-        words: "",
-        settings: DEFAULTS,
-        text: "",
-        lines: "sys scan => notbuilt
-sys piece 64 => notbuilt
-sys collect 0 => notbuilt
-",
-        stored: 0,
         status: 0,
     },
     Row {

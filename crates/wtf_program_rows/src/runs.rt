@@ -1,14 +1,13 @@
 //! Whole runs over devices that never fail.
 
-use crate::devices::{NONE, run, run_on, stored, stores};
-use crate::job_rows::{JOB_ROWS, MORE_JOB_ROWS};
-use crate::rows::{FURTHER_ROWS, LAST_ROWS, MORE_ROWS, ROWS, Row};
-use crate::texts::*;
+use crate::rows::{FURTHER_ROWS, LAST_ROWS, MORE_ROWS, ROWS};
 use crate::told::answers_on;
-use crate::wanted::Wanted;
 use std::alloc::Global;
-use std::process::Abort;
 use std::test::Fail;
+use wtf_trial::devices::{NONE, run, run_on, stores};
+use wtf_trial::rows::{check_row, is_answered};
+use wtf_trial::texts::*;
+use wtf_trial::wanted::Wanted;
 
 /// Words, the status of a run of the first script with them, and what its output begins with.
 const WORDS: [(&str, u8, &str); 21] = [
@@ -60,39 +59,6 @@ const LATER: [(&str, &[u8], &[u8], &[u8]); 3] = [
     ("--region 64", LATER_SCRIPT, AFTER_FIRST, b""),
 ];
 
-/// Adds a transaction that makes `/a` with this text.
-fn add_file(wanted: &mut Wanted, alloc: Global, text: &str) -> Result<(), Fail> {
-    let write = format!(in alloc; "c0 write f0 t:{text} => ok\nc0 try => committed 1\n")?;
-    wanted.add("c0 begin => begun 0\nc0 create /a => ok\nc0 open f0 /a => ok\n")?;
-    wanted.add(write.as_str())
-}
-
-/// The script and the output of a row.
-fn wanted_of(alloc: Global, row: &Row) -> Result<Wanted, Fail> {
-    let mut wanted = Wanted::new(alloc, row.settings)?;
-    if !row.text.is_empty() {
-        add_file(&mut wanted, alloc, row.text)?;
-    }
-    wanted.add(row.lines)?;
-    Ok(wanted)
-}
-
-/// Runs a row.
-fn check_row(rt: &impl Abort, alloc: Global, row: &Row) -> Result<(), Fail> {
-    let wanted = wanted_of(alloc, row)?;
-    let mut shelf = stores(alloc, 16, 0, None)?;
-    let script = wanted.script.as_slice();
-    let ended = run_on(alloc, row.words, script, NONE, &mut shelf, &[])?;
-    let name = row.name;
-    assert_eq!(rt; ended.output.as_slice(), wanted.output.as_slice(), "{name}");
-    assert_eq!(rt;
-        (ended.status, stored(&shelf)),
-        (row.status, row.stored),
-        "{name}"
-    );
-    Ok(())
-}
-
 /// More calls than a log has room for, refused ones counted.
 fn many_calls(alloc: Global) -> Result<Wanted, Fail> {
     let mut calls = Wanted::new(alloc, "wtf servers 4 replicas 2 region 65536 number 0\n")?;
@@ -115,13 +81,6 @@ fn long_file(alloc: Global) -> Result<Wanted, Fail> {
     long.output.extend_from_slice(zeros.as_slice())?;
     long.output.push(b'\n')?;
     Ok(long)
-}
-
-/// Whether a run ends well with the output that is wanted.
-fn is_answered(alloc: Global, wanted: &Wanted) -> Result<bool, Fail> {
-    let mut shelf = stores(alloc, 16, 0, None)?;
-    let ended = run_on(alloc, "", wanted.script.as_slice(), NONE, &mut shelf, &[])?;
-    Ok(ended.status == 0 && ended.output.as_slice() == wanted.output.as_slice())
 }
 
 /// Lines with each kind of fault.
@@ -172,7 +131,7 @@ fn settings_are_answered(rt: HostRuntime) -> Result<(), Fail> {
 #[test]
 fn rows_are_answered(rt: HostRuntime) -> Result<(), Fail> {
     for row in ROWS.iter() {
-        check_row(&rt, rt.alloc(), row)?;
+        check_row(rt.alloc(), row)?;
     }
     Ok(())
 }
@@ -180,7 +139,7 @@ fn rows_are_answered(rt: HostRuntime) -> Result<(), Fail> {
 #[test]
 fn more_rows_are_answered(rt: HostRuntime) -> Result<(), Fail> {
     for row in MORE_ROWS.iter() {
-        check_row(&rt, rt.alloc(), row)?;
+        check_row(rt.alloc(), row)?;
     }
     Ok(())
 }
@@ -188,7 +147,7 @@ fn more_rows_are_answered(rt: HostRuntime) -> Result<(), Fail> {
 #[test]
 fn further_rows_are_answered(rt: HostRuntime) -> Result<(), Fail> {
     for row in FURTHER_ROWS.iter() {
-        check_row(&rt, rt.alloc(), row)?;
+        check_row(rt.alloc(), row)?;
     }
     Ok(())
 }
@@ -196,23 +155,7 @@ fn further_rows_are_answered(rt: HostRuntime) -> Result<(), Fail> {
 #[test]
 fn last_rows_are_answered(rt: HostRuntime) -> Result<(), Fail> {
     for row in LAST_ROWS.iter() {
-        check_row(&rt, rt.alloc(), row)?;
-    }
-    Ok(())
-}
-
-#[test]
-fn rows_of_jobs_are_answered(rt: HostRuntime) -> Result<(), Fail> {
-    for row in JOB_ROWS.iter() {
-        check_row(&rt, rt.alloc(), row)?;
-    }
-    Ok(())
-}
-
-#[test]
-fn more_rows_of_jobs_are_answered(rt: HostRuntime) -> Result<(), Fail> {
-    for row in MORE_JOB_ROWS.iter() {
-        check_row(&rt, rt.alloc(), row)?;
+        check_row(rt.alloc(), row)?;
     }
     Ok(())
 }
@@ -222,9 +165,9 @@ fn more_rows_of_jobs_are_answered(rt: HostRuntime) -> Result<(), Fail> {
 fn limits_are_kept(rt: HostRuntime) -> Result<(), Fail> {
     let alloc = rt.alloc();
     let calls = many_calls(alloc)?;
-    assert!(rt; is_answered(alloc, &calls)?);
+    assert!(rt; is_answered(alloc, "", &calls)?);
     let long = long_file(alloc)?;
-    assert!(rt; is_answered(alloc, &long)?);
+    assert!(rt; is_answered(alloc, "", &long)?);
     Ok(())
 }
 

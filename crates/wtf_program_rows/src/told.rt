@@ -9,12 +9,12 @@ ghost use Rattle.wtf_serve.specs.Endings.{IsTold};
 ghost use Rattle.wtf_serve.specs.Openings.{new_opening};
 ghost use Rattle.wtf_serve.specs.Scripts.{IsEndStatus};
 
-use crate::devices::{Ended, stores};
 use std::alloc::Global;
 use std::test::Fail;
 use wtf_base::Settings;
 use wtf_dev::{MemKeeper, MemSink, MemSource, MemStore, Shelf};
 use wtf_serve::serve;
+use wtf_trial::devices::{Ended, stores};
 
 /// A run of a script over these stores and an empty keeper. Devices in memory tell what they hold, so a run that reads its
 /// script to its end answers each line as one tree would, on which committed transactions ran whole; and it leaves the

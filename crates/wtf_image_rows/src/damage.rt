@@ -1,11 +1,11 @@
 //! Runs on images that are damaged.
 
-use crate::devices::{Ended, NONE, run_on, stores};
-use crate::texts::*;
 use std::alloc::Global;
 use std::process::Abort;
 use std::test::Fail;
 use wtf_dev::{MemStore, Shelf};
+use wtf_trial::devices::{Ended, NONE, run_on, stores};
+use wtf_trial::texts::*;
 
 /// How many bytes are left of the image of an empty store, the byte that is another, and the line of the refusal: there
 /// is no server, what stands at the root is no directory, and a byte is missing.

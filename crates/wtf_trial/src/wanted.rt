@@ -5,14 +5,14 @@ use std::test::Fail;
 
 /// A script with the output that is wanted of it.
 #[derive(Drop)]
-pub(crate) struct Wanted {
-    pub(crate) script: Vec<u8>,
-    pub(crate) output: Vec<u8>,
+pub struct Wanted {
+    pub script: Vec<u8>,
+    pub output: Vec<u8>,
 }
 
 impl Wanted {
     /// The empty script, and the line of the settings.
-    pub(crate) fn new(alloc: Global, settings: &str) -> Result<Wanted, Fail> {
+    pub fn new(alloc: Global, settings: &str) -> Result<Wanted, Fail> {
         let mut output = Vec::new(alloc);
         output.extend_from_slice(settings.as_bytes())?;
         Ok(Wanted {
@@ -22,7 +22,7 @@ impl Wanted {
     }
 
     /// Adds a line and its answer.
-    pub(crate) fn add_line(&mut self, asked: &str, answer: &str) -> Result<(), Fail> {
+    pub fn add_line(&mut self, asked: &str, answer: &str) -> Result<(), Fail> {
         self.script.extend_from_slice(asked.as_bytes())?;
         self.script.push(b'\n')?;
         self.output.extend_from_slice(answer.as_bytes())?;
@@ -31,7 +31,7 @@ impl Wanted {
     }
 
     /// Adds lines as they stand in rows; one without an answer is a fault of the row.
-    pub(crate) fn add(&mut self, lines: &str) -> Result<(), Fail> {
+    pub fn add(&mut self, lines: &str) -> Result<(), Fail> {
         for line in lines.split('\n') {
             if !line.is_empty() {
                 let (asked, answer) = line.split_once(" => ").ok_or("a line without an answer")?;

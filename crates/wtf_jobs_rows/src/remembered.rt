@@ -1,9 +1,9 @@
 //! Which spilled lists are remembered: the 64 that were used last.
 
-use crate::devices::{NONE, run_on, stores};
-use crate::wanted::Wanted;
 use std::alloc::Global;
 use std::test::Fail;
+use wtf_trial::rows::is_answered;
+use wtf_trial::wanted::Wanted;
 
 const WORDS: &str = "--servers 1 --replicas 1 --region 64";
 
@@ -74,23 +74,9 @@ fn looks(alloc: Global) -> Result<Wanted, Fail> {
     Ok(wanted)
 }
 
-/// Whether a run ends well with the output that is wanted.
-fn is_answered(alloc: Global, wanted: &Wanted) -> Result<bool, Fail> {
-    let mut shelf = stores(alloc, 16, 0, None)?;
-    let ended = run_on(
-        alloc,
-        WORDS,
-        wanted.script.as_slice(),
-        NONE,
-        &mut shelf,
-        &[],
-    )?;
-    Ok(ended.status == 0 && ended.output.as_slice() == wanted.output.as_slice())
-}
-
 #[test]
 fn lists_that_were_used_last_are_remembered(rt: HostRuntime) -> Result<(), Fail> {
     let wanted = looks(rt.alloc())?;
-    assert!(rt; is_answered(rt.alloc(), &wanted)?);
+    assert!(rt; is_answered(rt.alloc(), WORDS, &wanted)?);
     Ok(())
 }

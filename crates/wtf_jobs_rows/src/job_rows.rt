@@ -1,11 +1,11 @@
 //! Rows of jobs: scripts with their answers, as in `rows`.
 
-use crate::rows::{DEFAULTS, Row, SMALL_REGIONS, TWO_SERVERS};
+use wtf_trial::rows::{DEFAULTS, Row, SMALL_REGIONS, TWO_SERVERS};
 
-const ONE_SERVER: &str = "wtf servers 1 replicas 1 region 65536 number 0\n";
+pub(crate) const ONE_SERVER: &str = "wtf servers 1 replicas 1 region 65536 number 0\n";
 
 /// Rows of jobs. A list of one entry with a copy on one server has 28 bytes, and one of two with copies on two has 68.
-pub(crate) const JOB_ROWS: [Row; 5] = [
+pub(crate) const JOB_ROWS: [Row; 4] = [
     Row {
         name: "the list was made anew, and its bytes were not",
         words: "",
@@ -87,23 +87,6 @@ sys up 0 => ok
 c0 abort => ok
 ",
         stored: 34,
-        status: 0,
-    },
-    Row {
-        name: "refusals of jobs",
-        words: "",
-        settings: DEFAULTS,
-        text: "ab",
-        lines: "sys put j0 => refused nojob
-sys drop j0 => refused nojob
-sys plan j0 compact /a 1 => refused noregion
-sys plan j0 compact /q 0 => refused noent
-sys plan j0 compact / 0 => refused isdir
-sys plan j0 compact /a 0 => planned
-sys plan j0 spill /a 0 => refused jobinuse
-sys drop j0 => ok
-",
-        stored: 4,
         status: 0,
     },
 ];

@@ -1,14 +1,14 @@
 //! Images both ways, and those that are refused.
 
 use crate::damage::spoiled;
-use crate::devices::stores;
-use crate::texts::EMPTY_IMAGE;
 use std::alloc::Global;
 use std::test::Fail;
 use wtf_base::{InodeId, OutOfMemory, TxId};
 use wtf_dev::{MemStore, Shelf, SliceStore};
 use wtf_image::{LoadError, Loaded, check, load, save};
 use wtf_path::Path;
+use wtf_trial::devices::stores;
+use wtf_trial::texts::EMPTY_IMAGE;
 use wtf_values::{Key, Value};
 
 /// The image of the root and a file in it.

@@ -1,10 +1,10 @@
 //! A file of many scattered writes whose lists are made compact, spilled, written over, saved, and loaded by another run.
 
-use crate::devices::{NONE, run_on, stores};
-use crate::wanted::Wanted;
 use std::alloc::Global;
 use std::test::Fail;
 use wtf_dev::{MemStore, Shelf};
+use wtf_trial::devices::{NONE, run_on, stores};
+use wtf_trial::wanted::Wanted;
 
 /// The file has three regions, and each gets some 1,700 writes.
 const WORDS: &str = "--region 16384";

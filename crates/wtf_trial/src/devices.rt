@@ -7,7 +7,7 @@ use wtf_dev::{Keeper, MemKeeper, MemSink, MemSource, MemStore, Shelf, SliceStore
 use wtf_serve::wtf;
 
 /// No calls, or the one with this number.
-pub(crate) fn calls(alloc: Global, number: Option<u64>) -> Result<Vec<u64>, Fail> {
+pub fn calls(alloc: Global, number: Option<u64>) -> Result<Vec<u64>, Fail> {
     let mut calls = Vec::new(alloc);
     if let Some(number) = number {
         calls.push(number)?;
@@ -16,7 +16,7 @@ pub(crate) fn calls(alloc: Global, number: Option<u64>) -> Result<Vec<u64>, Fail
 }
 
 /// The shelf of 1 to 16 stores.
-pub(crate) fn shelf_of<S: Drop>(alloc: Global, stores: Vec<S>) -> Result<Shelf<S>, Fail> {
+pub fn shelf_of<S: Drop>(alloc: Global, stores: Vec<S>) -> Result<Shelf<S>, Fail> {
     if stores.len() < 1 || stores.len() > 16 {
         return Err(Fail::from("stores"));
     }
@@ -24,7 +24,7 @@ pub(crate) fn shelf_of<S: Drop>(alloc: Global, stores: Vec<S>) -> Result<Shelf<S
 }
 
 /// So many stores, of which the one of this server fails at this call.
-pub(crate) fn stores(
+pub fn stores(
     alloc: Global,
     count: u8,
     server: u8,
@@ -47,7 +47,7 @@ fn length(shelf: &Shelf<MemStore>, server: u8, file: u8) -> u64 {
 }
 
 /// How many bytes all stores hold.
-pub(crate) fn stored(shelf: &Shelf<MemStore>) -> u64 {
+pub fn stored(shelf: &Shelf<MemStore>) -> u64 {
     let mut sum = 0u64;
     for k in 0..16u8 {
         for file in 0..8u8 {
@@ -59,21 +59,21 @@ pub(crate) fn stored(shelf: &Shelf<MemStore>) -> u64 {
 
 /// What a run came to: its status, its output, and what the keeper holds then.
 #[derive(Drop)]
-pub(crate) struct Ended {
-    pub(crate) status: u8,
-    pub(crate) output: Vec<u8>,
-    pub(crate) kept: Vec<u8>,
+pub struct Ended {
+    pub status: u8,
+    pub output: Vec<u8>,
+    pub kept: Vec<u8>,
 }
 
 /// Which call of each device fails.
 #[derive(Clone, Copy)]
-pub(crate) struct Failing {
-    pub(crate) source: Option<u64>,
-    pub(crate) sink: Option<u64>,
-    pub(crate) keeper: Option<u64>,
+pub struct Failing {
+    pub source: Option<u64>,
+    pub sink: Option<u64>,
+    pub keeper: Option<u64>,
 }
 
-pub(crate) const NONE: Failing = Failing {
+pub const NONE: Failing = Failing {
     source: None,
     sink: None,
     keeper: None,
@@ -101,7 +101,7 @@ fn status_of(
 }
 
 /// A run over these stores and a keeper that holds these bytes.
-pub(crate) fn run_on(
+pub fn run_on(
     alloc: Global,
     words: &str,
     script: &[u8],
@@ -123,7 +123,7 @@ pub(crate) fn run_on(
 }
 
 /// A run of the first script over sixteen empty stores and an empty keeper.
-pub(crate) fn run(alloc: Global, words: &str, failing: Failing) -> Result<Ended, Fail> {
+pub fn run(alloc: Global, words: &str, failing: Failing) -> Result<Ended, Fail> {
     let mut shelf = stores(alloc, 16, 0, None)?;
     run_on(alloc, words, SCRIPT, failing, &mut shelf, &[])
 }

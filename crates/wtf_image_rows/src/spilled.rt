@@ -1,10 +1,10 @@
 //! Runs over an image of which a file's list lies in a slice.
 
 use crate::damage::spoiled;
-use crate::devices::{NONE, run_on};
 use crate::image::{SPILLED_IMAGE, SPILLED_STORE, holding};
 use std::alloc::Global;
 use std::test::Fail;
+use wtf_trial::devices::{NONE, run_on};
 
 /// The line of the settings.
 const SETTINGS: &[u8] = b"wtf servers 1 replicas 1 region 64 number 3\n";

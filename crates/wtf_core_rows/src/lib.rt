@@ -1,0 +1,5 @@
+//! Tests, from outside, of a core.
+#![tactic(auto)]
+
+#[cfg(test)]
+mod cores;
