@@ -1,24 +1,24 @@
 //! A transaction on a store whose tree is the root alone at first, over two servers in memory.
 
-ghost use Rattle.std.specs.Prelude.{IfOk};
+ghost use Rattle.std.specs.Prelude.{◌≡◌, [], IfOk, OnOk, List};
+ghost use Rattle.wtf_dev.specs.Memory.{StoreState};
+ghost use Rattle.wtf_base.specs.declared.settings.Settings.{Settings};
 ghost use Rattle.wtf_meta.specs.Maps.{metadata_at};
-ghost use Rattle.wtf_files_rows.specs.Benches.{IsBare};
+ghost use Rattle.wtf_replay.specs.Fits.{IsFit};
+ghost use Rattle.wtf_files_rows.specs.Benches.{IsBare, IsHeld};
 
-use crate::ops::{Step, is_form, op};
+use crate::ops::{Step, form_op};
 use crate::store::{Parts, made_parts, path};
-use crate::texts::came_text;
+use crate::texts::is_text;
 use std::alloc::Global;
 use std::marker::Model;
 use std::mem;
 use std::test::Fail;
-use wtf_base::{Fault, Settings, TxId};
-use wtf_dev::{MemStore, Shelf};
+use wtf_base::{Fault, TxId};
 use wtf_kv::Kv;
 use wtf_model::Answer;
-use wtf_region::{Dev, RegionCache};
+use wtf_region::Dev;
 use wtf_replay::Txn;
-use wtf_replica::Replicas;
-use wtf_ring::Ring;
 use wtf_values::{Key, NameSet, Node, Value};
 
 /// What is done with a transaction.
@@ -40,11 +40,7 @@ pub(crate) enum Verb {
 #[derive(Drop)]
 pub(crate) struct Bench {
     alloc: Global,
-    shelf: Shelf<MemStore>,
-    replicas: Replicas,
-    ring: Ring,
-    cache: RegionCache,
-    settings: Settings,
+    parts: Parts,
     kv: Kv<Key, Value>,
     txn: Txn,
 }
@@ -57,8 +53,21 @@ impl Model for Bench {
 
     ghost view = { λ b. b.kv.number };
 
-    ghost invariant = { λ b. IsLent b.shelf b.replicas b.ring b.cache b.settings ×
-        IsHeld b.shelf b.settings b.kv b.txn };
+    ghost invariant = { λ b.
+        IsLent b.parts.shelf b.parts.replicas b.parts.ring b.parts.cache b.parts.settings ×
+        IsHeld b.parts.shelf b.parts.settings b.kv b.txn };
+}
+
+/// Puts the root alone into a store with nothing in it.
+fn root_seeded(alloc: Global, kv: &mut Kv<Key, Value>) -> Result<(), Fail>
+    requires { kv.old ≡ record { number = 0; pins = []; cells = [] } }
+    ensures { OnOk result (IsBare (metadata_at kv.new kv.new.number)) }
+{
+    let root = path(alloc, "/")?;
+    kv.seed(Key::Path(root), Value::Node(Node::Folder))?;
+    let root = path(alloc, "/")?;
+    kv.seed(Key::Dir(root), Value::Names(NameSet::new(alloc)))?;
+    Ok(())
 }
 
 /// The root alone, at number 0.
@@ -66,47 +75,53 @@ fn root_alone(alloc: Global) -> Result<Kv<Key, Value>, Fail>
     ensures { IfOk result (λ kv. IsBare (metadata_at kv kv.number)) }
 {
     let mut kv: Kv<Key, Value> = Kv::new(alloc)?;
-    kv.seed(Key::Path(path(alloc, "/")?), Value::Node(Node::Folder))?;
-    let names = Value::Names(NameSet::new(alloc));
-    kv.seed(Key::Dir(path(alloc, "/")?), names)?;
+    root_seeded(alloc, &mut kv)?;
     Ok(kv)
+}
+
+/// The transaction 1 on the root alone.
+fn begun(alloc: Global) -> Result<(Kv<Key, Value>, Txn), Fail>
+    ensures fit { IfOk result (λ r. IsFit r.0 r.1) }
+    ensures held { IfOk result (λ r.
+        (shelf : List StoreState) (settings : Settings) → IsHeld shelf settings r.0 r.1) }
+{
+    let mut kv = root_alone(alloc)?;
+    let txn = Txn::begin(alloc, &mut kv, TxId(1))?;
+    Ok((kv, txn))
+}
+
+/// Whether the base of a transaction is pinned once it is dropped.
+pub(crate) fn is_pinned_after(alloc: Global) -> Result<bool, Fail> {
+    let (mut kv, txn) = begun(alloc)?;
+    let number = kv.number();
+    txn.drop_all(&mut kv);
+    Ok(kv.is_pinned(number))
 }
 
 impl Bench {
     /// The transaction 1 on the root alone. Each store fails in the call with the number `fails`.
     pub(crate) fn new(alloc: Global, fails: u64) -> Result<Bench, Fail> {
-        let Parts {
-            shelf,
-            replicas,
-            ring,
-            cache,
-            settings,
-        } = made_parts(alloc, fails, 2)?;
-        let mut kv = root_alone(alloc)?;
-        let txn = Txn::begin(alloc, &mut kv, TxId(1))?;
+        let parts = made_parts(alloc, fails, 2)?;
+        let (kv, txn) = begun(alloc)?;
         Ok(Bench {
             alloc,
-            shelf,
-            replicas,
-            ring,
-            cache,
-            settings,
+            parts,
             kv,
             txn,
         })
     }
 
     fn call(&mut self, step: Step) -> Result<Result<Answer, Fault>, Fail> {
-        let op = op(self.alloc, step)?;
-        if !is_form(&op) || self.txn.ended() {
-            return Err(Fail::from("a call out of form, or too late"));
+        if self.txn.ended() {
+            return Err(Fail::from("it has ended"));
         }
+        let op = form_op(self.alloc, step)?;
         let mut dev = Dev {
-            shelf: &mut self.shelf,
-            replicas: &self.replicas,
-            ring: &self.ring,
-            cache: &mut self.cache,
-            settings: self.settings,
+            shelf: &mut self.parts.shelf,
+            replicas: &self.parts.replicas,
+            ring: &self.parts.ring,
+            cache: &mut self.parts.cache,
+            settings: self.parts.settings,
         };
         let came = self.txn.call(&mut dev, &self.kv, op);
         Ok(came)
@@ -117,11 +132,11 @@ impl Bench {
             return Err(Fail::from("it has ended"));
         }
         let mut dev = Dev {
-            shelf: &mut self.shelf,
-            replicas: &self.replicas,
-            ring: &self.ring,
-            cache: &mut self.cache,
-            settings: self.settings,
+            shelf: &mut self.parts.shelf,
+            replicas: &self.parts.replicas,
+            ring: &self.parts.ring,
+            cache: &mut self.parts.cache,
+            settings: self.parts.settings,
         };
         let came = self.txn.step(&mut dev, &self.kv);
         Ok(came)
@@ -132,29 +147,29 @@ impl Bench {
             return Err(Fail::from("it has ended, or there are too many installs"));
         }
         let mut dev = Dev {
-            shelf: &mut self.shelf,
-            replicas: &self.replicas,
-            ring: &self.ring,
-            cache: &mut self.cache,
-            settings: self.settings,
+            shelf: &mut self.parts.shelf,
+            replicas: &self.parts.replicas,
+            ring: &self.parts.ring,
+            cache: &mut self.parts.cache,
+            settings: self.parts.settings,
         };
         let came = self.txn.commit(&mut dev, &mut self.kv);
         Ok(came)
     }
 
-    fn attempt(&mut self) -> Result<Answer, Fail> {
+    fn attempt(&mut self) -> Result<Result<Answer, Fault>, Fail> {
         if self.txn.ended() || self.kv.number() > 1000 {
             return Err(Fail::from("it has ended, or there are too many installs"));
         }
         let answer = self.txn.attempt(&mut self.kv)?;
-        Ok(answer)
+        Ok(Ok(answer))
     }
 
-    fn next(&mut self, tx: u64) -> Result<(), Fail> {
+    fn next(&mut self, tx: u64) -> Result<Result<Answer, Fault>, Fail> {
         let next = Txn::begin(self.alloc, &mut self.kv, TxId(tx))?;
         let last = mem::replace(&mut self.txn, next);
         last.drop_all(&mut self.kv);
-        Ok(())
+        Ok(Ok(Answer::Okay))
     }
 
     fn overtake(&mut self, tx: u64) -> Result<Result<Answer, Fault>, Fail> {
@@ -163,11 +178,11 @@ impl Bench {
         }
         let next = Txn::begin(self.alloc, &mut self.kv, TxId(tx))?;
         let mut dev = Dev {
-            shelf: &mut self.shelf,
-            replicas: &self.replicas,
-            ring: &self.ring,
-            cache: &mut self.cache,
-            settings: self.settings,
+            shelf: &mut self.parts.shelf,
+            replicas: &self.parts.replicas,
+            ring: &self.parts.ring,
+            cache: &mut self.parts.cache,
+            settings: self.parts.settings,
         };
         let came = self.txn.commit(&mut dev, &mut self.kv);
         let last = mem::replace(&mut self.txn, next);
@@ -181,14 +196,8 @@ impl Bench {
             Verb::Call(step) => self.call(step),
             Verb::Step => self.step(),
             Verb::Commit => self.commit(),
-            Verb::Try => {
-                let answer = self.attempt()?;
-                Ok(Ok(answer))
-            }
-            Verb::Next(tx) => {
-                self.next(tx)?;
-                Ok(Ok(Answer::Okay))
-            }
+            Verb::Try => self.attempt(),
+            Verb::Next(tx) => self.next(tx),
             Verb::Overtake(tx) => self.overtake(tx),
         }
     }
@@ -198,20 +207,11 @@ impl Bench {
         let mut same = 0usize;
         for (verb, want) in rows {
             let came = self.came(*verb)?;
-            let shown = came_text(self.alloc, came)?;
-            if shown.as_str() != *want {
+            if !is_text(self.alloc, came, *want)? {
                 return Ok(same);
             }
             same = same.saturating_add(1);
         }
         Ok(same)
-    }
-
-    /// Drops the transaction, and tells whether its base is pinned all the same.
-    pub(crate) fn dropped(self) -> bool {
-        let Bench { mut kv, txn, .. } = self;
-        let number = kv.number();
-        txn.drop_all(&mut kv);
-        kv.is_pinned(number)
     }
 }

@@ -1,6 +1,6 @@
 //! Calls in rows, and what they are as calls of the crates.
 
-ghost use Rattle.std.specs.Prelude.{◌≡◌, ◌≤◌, true, List, Bool};
+ghost use Rattle.std.specs.Prelude.{◌≡◌, ◌≤◌, true, List, Bool, IfOk};
 ghost use Rattle.wtf_overlay.specs.Origin.{Place};
 ghost use Rattle.wtf_model.specs.declared.limits.TheConstants.{MAX_WRITTEN};
 ghost use Rattle.wtf_path.specs.Grammar.{IsPath};
@@ -26,6 +26,8 @@ pub(crate) enum Step {
     Open(u8, &'static str),
     Close(u8),
     Seek(u8, Seek),
+    /// The handle 0 to an offset.
+    Set(u64),
     Tell(u8),
     Read(u8, u64),
     Write(u8, &'static str),
@@ -42,16 +44,17 @@ pub(crate) enum Step {
     Copy(&'static str, &'static str),
 }
 
-/// The handle 0 to an offset.
-pub(crate) fn set(off: u64) -> Step {
-    Step::Seek(0, Seek::Set(off))
+fn add_paths(alloc: Global, all: &mut Vec<Path>, texts: &[&str]) -> Result<(), Fail> {
+    for text in texts {
+        let p = path(alloc, *text)?;
+        all.push(p)?;
+    }
+    Ok(())
 }
 
 fn paths(alloc: Global, texts: &[&str]) -> Result<Paths, Fail> {
     let mut all = Vec::new(alloc);
-    for text in texts {
-        all.push(path(alloc, text)?)?;
-    }
+    add_paths(alloc, &mut all, texts)?;
     Ok(Paths::of(all))
 }
 
@@ -64,6 +67,7 @@ fn plain_op(step: Step) -> Option<Op<Bytes>> {
     match step {
         Step::Close(f) => return Some(Op::Close(f)),
         Step::Seek(f, to) => return Some(Op::Seek(f, to)),
+        Step::Set(off) => return Some(Op::Seek(0, Seek::Set(off))),
         Step::Tell(f) => return Some(Op::Tell(f)),
         Step::Read(f, n) => return Some(Op::Read(f, n)),
         Step::Truncate(f, n) => return Some(Op::Truncate(f, n)),
@@ -88,19 +92,25 @@ fn path_op(alloc: Global, step: Step) -> Result<Option<Op<Bytes>>, Fail> {
     }
 }
 
+fn concat_op(alloc: Global, q: &str, sources: &[&str]) -> Result<Op<Bytes>, Fail> {
+    let sources = paths(alloc, sources)?;
+    let q = path(alloc, q)?;
+    Ok(Op::Concat(q, sources))
+}
+
+fn copy_op(alloc: Global, p: &str, q: &str) -> Result<Op<Bytes>, Fail> {
+    let p = path(alloc, p)?;
+    let q = path(alloc, q)?;
+    Ok(Op::Copy(p, q))
+}
+
 /// A call that takes bytes, or more than one path.
 fn long_op(alloc: Global, step: Step) -> Result<Op<Bytes>, Fail> {
     match step {
         Step::Write(f, text) => return Ok(Op::Write(f, bytes(alloc, text)?)),
         Step::Append(f, text) => return Ok(Op::Append(f, bytes(alloc, text)?)),
-        Step::Concat(q, sources) => {
-            let q = path(alloc, q)?;
-            return Ok(Op::Concat(q, paths(alloc, sources)?));
-        }
-        Step::Copy(p, q) => {
-            let p = path(alloc, p)?;
-            return Ok(Op::Copy(p, path(alloc, q)?));
-        }
+        Step::Concat(q, sources) => concat_op(alloc, q, sources),
+        Step::Copy(p, q) => copy_op(alloc, p, q),
         _ => return Err(Fail::from("no call")),
     }
 }
@@ -237,6 +247,17 @@ pub(crate) fn is_form(op: &Op<Bytes>) -> bool
         Op::Append(f, bytes) => *f < MAX_HANDLES && is_small(bytes),
         _ => false,
     }
+}
+
+/// A call as a transaction takes it, in form.
+pub(crate) fn form_op(alloc: Global, step: Step) -> Result<Op<Bytes>, Fail>
+    ensures { IfOk result (IsFormOp IsData) }
+{
+    let op = op(alloc, step)?;
+    if is_form(&op) {
+        return Ok(op);
+    }
+    Err(Fail::from("a call out of form"))
 }
 
 /// Whether a call on slices is in form.

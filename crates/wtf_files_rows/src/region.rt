@@ -7,18 +7,19 @@ ghost use Rattle.wtf_region.specs.Devs.{IsSoundDev, stores};
 ghost use Rattle.wtf_region.specs.Inside.{IsStoredInside};
 ghost use Rattle.wtf_files_rows.specs.Benches.{IsBare};
 
-use crate::store::{FILE, NEVER, Parts, made_parts, settings, stored};
+use crate::store::{FILE, NEVER, made_parts, pinned, settings, stored};
 use std::alloc::Global;
 use std::test::Fail;
 use wtf_dev::MemStore;
 use wtf_kv::Kv;
 use wtf_meta::{Delta, Key, Value};
 use wtf_occ::Attempt;
-use wtf_overlay::{Part, Piece};
+use wtf_overlay::{Overlay, Part, Piece};
 use wtf_region::{
     Added, Dev, FileEnd, add_at, add_pieces, file_end, file_len, pieces, put_pieces, region_list,
     show,
 };
+use wtf_values::RegionValue;
 
 /// Stores ten digits, and lays them over the file at an offset.
 fn laid(
@@ -48,57 +49,75 @@ fn laid(
     Ok(())
 }
 
-/// The lengths of the pieces of a range of the file.
-fn piece_lens(
+fn have_lens(found: &[Piece], want: &[u64]) -> bool {
+    let mut same = found.len() == want.len();
+    for (piece, len) in found.iter().zip(want) {
+        same = same && piece.len == *len;
+    }
+    same
+}
+
+/// Whether the pieces of a range of the file have these lengths.
+fn are_pieces(
     alloc: Global,
     dev: &mut Dev<'_, MemStore>,
     kv: &Kv<Key, Value>,
     at: &mut Attempt<Key, Value>,
-    off: u64,
-    len: u64,
-) -> Result<Vec<u64>, Fail>
+    range: (u64, u64),
+    want: &[u64],
+) -> Result<bool, Fail>
     requires sound { IsSoundDev mem_store dev.old }
     requires inside { IsStoredInside mem_store (stores dev.old) dev.old.settings
         (seen kv.now at.old) }
     ensures { OnOk result (IsSoundDev mem_store dev.new) }
 {
+    let (off, len) = range;
     let cap = dev.settings.cap();
     if off > cap || len > cap - off || !kv.is_pinned(at.base()) {
         return Err(Fail::from("a range past the greatest length"));
     }
-    let mut lens = Vec::new(alloc);
-    for piece in &pieces(alloc, dev, kv, at, FILE, off, len)? {
-        lens.push(piece.len)?;
-    }
-    Ok(lens)
+    let found = pieces(alloc, dev, kv, at, FILE, off, len)?;
+    Ok(have_lens(found.as_slice(), want))
 }
 
-/// Where each entry of a region of the file begins, and how long it is.
-fn entries(
-    alloc: Global,
-    dev: &mut Dev<'_, MemStore>,
+/// A region of the file.
+fn region_of(
     kv: &Kv<Key, Value>,
     at: &mut Attempt<Key, Value>,
     region: u16,
-) -> Result<Vec<(u32, u32)>, Fail>
-    requires { IsSoundDev mem_store dev.old }
-{
+) -> Result<RegionValue, Fail> {
     if !kv.is_pinned(at.base()) {
         return Err(Fail::from("no pin"));
     }
-    let Some(Value::Region(value)) = at.read(kv, &Key::Region(FILE, region))? else {
-        return Err(Fail::from("no region"));
-    };
+    match at.read(kv, &Key::Region(FILE, region))? {
+        Some(Value::Region(value)) => Ok(value),
+        _ => Err(Fail::from("no region")),
+    }
+}
+
+/// Whether a list has one entry, that begins there and is so long.
+fn is_one(list: &Overlay, off: u32, len: u32) -> bool {
+    if list.len() != 1 {
+        return false;
+    }
+    let entry = list.get(0);
+    entry.off == off && entry.len == len
+}
+
+/// Whether the list of a region of the file has one entry, that begins there and is so long.
+fn is_one_of(
+    alloc: Global,
+    dev: &mut Dev<'_, MemStore>,
+    value: &RegionValue,
+    want: (u32, u32),
+) -> Result<bool, Fail>
+    requires { IsSoundDev mem_store dev.old }
+{
     if value.base.is_some() {
         return Err(Fail::from("a list in a slice"));
     }
-    let list = region_list(alloc, dev, &value)?;
-    let mut all = Vec::new(alloc);
-    for i in 0..list.len() {
-        let entry = list.get(i);
-        all.push((entry.off, entry.len))?;
-    }
-    Ok(all)
+    let list = region_list(alloc, dev, value)?;
+    Ok(is_one(&list, want.0, want.1))
 }
 
 fn len(kv: &Kv<Key, Value>, at: &mut Attempt<Key, Value>) -> Result<u64, Fail> {
@@ -147,48 +166,42 @@ fn zeros_added_at(
 fn begun(alloc: Global) -> Result<(Kv<Key, Value>, Attempt<Key, Value>), Fail>
     ensures bare { IfOk result (λ r. IsBare (seen r.0 r.1)) }
 {
-    let mut kv = Kv::new(alloc)?;
-    kv.pin(0)?;
     let mut at = Attempt::new(alloc, 0)?;
     at.delta(Key::Inode(FILE), Delta::Put(Value::Last(0)))?;
+    let kv = pinned(alloc)?;
     Ok((kv, at))
 }
 
-/// Writes ten digits at offset 60, and tells the lengths of the pieces there, and the entries of the
-/// second region.
-fn digits_laid(
+/// Writes ten digits at offset 60: whether they lie in two pieces, and in one entry of the second
+/// region.
+fn are_laid_over(
     alloc: Global,
+    dev: &mut Dev<'_, MemStore>,
     kv: &Kv<Key, Value>,
     at: &mut Attempt<Key, Value>,
-) -> Result<(Vec<u64>, Vec<(u32, u32)>), Fail>
-    requires { IsBare (seen kv.now at.old) }
+) -> Result<bool, Fail>
+    requires sound { IsSoundDev mem_store dev.old }
+    requires bare { IsBare (seen kv.now at.old) }
 {
-    let Parts {
-        mut shelf,
-        replicas,
-        ring,
-        mut cache,
-        settings,
-    } = made_parts(alloc, NEVER, 2)?;
-    let mut dev = Dev {
-        shelf: &mut shelf,
-        replicas: &replicas,
-        ring: &ring,
-        cache: &mut cache,
-        settings,
-    };
-    laid(&mut dev, kv, at, 60)?;
-    let lens = piece_lens(alloc, &mut dev, kv, at, 60, 10)?;
-    let listed = entries(alloc, &mut dev, kv, at, 1)?;
-    Ok((lens, listed))
+    laid(dev, kv, at, 60)?;
+    let cut = are_pieces(alloc, dev, kv, at, (60, 10), &[4, 6])?;
+    let value = region_of(kv, at, 1)?;
+    let listed = is_one_of(alloc, dev, &value, (0, 6))?;
+    Ok(cut && listed)
 }
 
-/// Whether ten digits at offset 60 lie in two pieces, and in one entry of the second region.
 fn are_laid(alloc: Global, kv: &Kv<Key, Value>, at: &mut Attempt<Key, Value>) -> Result<bool, Fail>
     requires { IsBare (seen kv.now at.old) }
 {
-    let (lens, listed) = digits_laid(alloc, kv, at)?;
-    Ok(lens.as_slice() == [4, 6].as_slice() && listed.as_slice() == [(0, 6)].as_slice())
+    let mut parts = made_parts(alloc, NEVER, 2)?;
+    let mut dev = Dev {
+        shelf: &mut parts.shelf,
+        replicas: &parts.replicas,
+        ring: &parts.ring,
+        cache: &mut parts.cache,
+        settings: parts.settings,
+    };
+    are_laid_over(alloc, &mut dev, kv, at)
 }
 
 /// Whether an addition of so many zeros comes so, and leaves the file with this length.
@@ -203,12 +216,12 @@ fn comes(
     Ok(came == row.1 && whole == row.2)
 }
 
-/// How far it goes: the digits, the length, too many zeros, as many as are left, and the end.
+/// The digits, the length, too many zeros, as many as are left, and the end.
 fn steps_over_a_border(
     alloc: Global,
     kv: &Kv<Key, Value>,
     at: &mut Attempt<Key, Value>,
-) -> Result<[bool; 5], Fail>
+) -> Result<bool, Fail>
     requires { IsBare (seen kv.now at.old) }
 {
     let digits = are_laid(alloc, kv, at)?;
@@ -217,10 +230,10 @@ fn steps_over_a_border(
     let more = comes(alloc, kv, at, (262_075, Added::TooBig, 70))?;
     let most = comes(alloc, kv, at, (262_074, Added::Done, 262_144))?;
     let FileEnd { region, off } = end(kv, at)?;
-    Ok([digits, whole == 70, more, most, region == 4095 && off == 64])
+    Ok(digits && whole == 70 && more && most && region == 4095 && off == 64)
 }
 
-fn over_a_border(alloc: Global) -> Result<[bool; 5], Fail> {
+fn over_a_border(alloc: Global) -> Result<bool, Fail> {
     let (kv, mut at) = begun(alloc)?;
     steps_over_a_border(alloc, &kv, &mut at)
 }
@@ -228,24 +241,24 @@ fn over_a_border(alloc: Global) -> Result<[bool; 5], Fail> {
 #[test]
 fn a_write_over_a_border_and_an_append_past_the_end(rt: HostRuntime) -> Result<(), Fail> {
     let came = over_a_border(rt.alloc())?;
-    assert_eq!(rt; came, [true; 5]);
+    assert!(rt; came);
     Ok(())
 }
 
-/// Adds zeros where the file ends: what came of that, the file's length, and its end.
+/// Adds zeros where the file ends: whether what came of that, the file's length and its end are right.
 fn steps_at_the_end(
     alloc: Global,
     kv: &Kv<Key, Value>,
     at: &mut Attempt<Key, Value>,
-) -> Result<[bool; 3], Fail> {
+) -> Result<bool, Fail> {
     let from = end(kv, at)?;
     let came = zeros_added_at(alloc, at, from, 70)?;
     let whole = len(kv, at)?;
     let FileEnd { region, off } = end(kv, at)?;
-    Ok([came == Added::Done, whole == 70, region == 1 && off == 6])
+    Ok(came == Added::Done && whole == 70 && region == 1 && off == 6)
 }
 
-fn at_the_end(alloc: Global) -> Result<[bool; 3], Fail> {
+fn at_the_end(alloc: Global) -> Result<bool, Fail> {
     let (kv, mut at) = begun(alloc)?;
     steps_at_the_end(alloc, &kv, &mut at)
 }
@@ -253,7 +266,7 @@ fn at_the_end(alloc: Global) -> Result<[bool; 3], Fail> {
 #[test]
 fn zeros_are_added_where_the_file_ends(rt: HostRuntime) -> Result<(), Fail> {
     let came = at_the_end(rt.alloc())?;
-    assert_eq!(rt; came, [true; 3]);
+    assert!(rt; came);
     Ok(())
 }
 
@@ -272,30 +285,29 @@ fn show_middle(dev: &mut Dev<'_, MemStore>, out: &mut Vec<u8>) -> Result<(), Fai
     Ok(())
 }
 
-/// What is shown of them behind a byte.
-fn middle_shown(alloc: Global) -> Result<Vec<u8>, Fail> {
-    let Parts {
-        mut shelf,
-        replicas,
-        ring,
-        mut cache,
-        settings,
-    } = made_parts(alloc, NEVER, 2)?;
+/// Shows them behind what stands there.
+fn add_middle(alloc: Global, out: &mut Vec<u8>) -> Result<(), Fail> {
+    let mut parts = made_parts(alloc, NEVER, 2)?;
     let mut dev = Dev {
-        shelf: &mut shelf,
-        replicas: &replicas,
-        ring: &ring,
-        cache: &mut cache,
-        settings,
+        shelf: &mut parts.shelf,
+        replicas: &parts.replicas,
+        ring: &parts.ring,
+        cache: &mut parts.cache,
+        settings: parts.settings,
     };
+    show_middle(&mut dev, out)
+}
+
+/// Whether they are shown behind a byte.
+fn is_middle_shown(alloc: Global) -> Result<bool, Fail> {
     let mut out = b"x".to_vec(alloc)?;
-    show_middle(&mut dev, &mut out)?;
-    Ok(out)
+    add_middle(alloc, &mut out)?;
+    Ok(out.as_slice() == b"x\x000123".as_slice())
 }
 
 #[test]
 fn what_is_stored_is_shown(rt: HostRuntime) -> Result<(), Fail> {
-    let out = middle_shown(rt.alloc())?;
-    assert_eq!(rt; out.as_slice(), b"x\x000123".as_slice());
+    let shown = is_middle_shown(rt.alloc())?;
+    assert!(rt; shown);
     Ok(())
 }

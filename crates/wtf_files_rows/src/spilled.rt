@@ -7,10 +7,10 @@ ghost use Rattle.wtf_region.specs.Devs.{IsSoundDev, GoesOn, inside_of};
 ghost use Rattle.wtf_replica.specs.Downs.{settings_of};
 
 use crate::store::{NEVER, Parts, made_parts, stored};
-use crate::texts::came_text;
+use crate::texts::{put_fault, put_number};
 use std::alloc::Global;
 use std::test::Fail;
-use wtf_base::{Settings, Slice};
+use wtf_base::{Fault, Settings, Slice};
 use wtf_dev::MemStore;
 use wtf_overlay::Overlay;
 use wtf_region::{Dev, region_list};
@@ -24,24 +24,26 @@ const LIST: &[u8] =
 
 /// A place of the list and the byte that stands there, how far a region sees the list, whether it was read before, which
 /// of the servers are down, and what comes: where each entry begins, and how long it is.
-const ROWS: [((usize, u8), u32, bool, [bool; 2], &str); 14] = [
-    ((0, b'W'), 64, false, [false, false], "2+4"),
-    ((0, b'W'), 5, false, [false, false], "2+3"),
-    ((0, b'W'), 2, false, [false, false], ""),
+type Row = ((usize, u8), u32, bool, (bool, bool), &'static str);
+
+static ROWS: [Row; 14] = [
+    ((0, b'W'), 64, false, (false, false), "2+4"),
+    ((0, b'W'), 5, false, (false, false), "2+3"),
+    ((0, b'W'), 2, false, (false, false), ""),
     // A copy on either server serves, and a list that is remembered wants none.
-    ((0, b'W'), 64, false, [true, false], "2+4"),
-    ((0, b'W'), 64, false, [false, true], "2+4"),
-    ((0, b'W'), 64, false, [true, true], "fault read 1"),
-    ((0, b'W'), 2, false, [true, true], "fault read 1"),
-    ((0, b'W'), 5, true, [true, true], "2+3"),
+    ((0, b'W'), 64, false, (true, false), "2+4"),
+    ((0, b'W'), 64, false, (false, true), "2+4"),
+    ((0, b'W'), 64, false, (true, true), "fault read 1"),
+    ((0, b'W'), 2, false, (true, true), "fault read 1"),
+    ((0, b'W'), 5, true, (true, true), "2+3"),
     // No list: another first byte, and an entry past the region. It is not remembered.
-    ((0, b'V'), 64, false, [false, false], "damaged 0"),
-    ((0, b'V'), 64, false, [true, false], "damaged 1"),
-    ((11, 61), 64, false, [false, false], "damaged 0"),
-    ((0, b'V'), 64, true, [true, true], "fault read 1"),
+    ((0, b'V'), 64, false, (false, false), "damaged 0"),
+    ((0, b'V'), 64, false, (true, false), "damaged 1"),
+    ((11, 61), 64, false, (false, false), "damaged 0"),
+    ((0, b'V'), 64, true, (true, true), "fault read 1"),
     // A list of bytes past the end of a store, and one that reaches it.
-    ((37, 35), 64, false, [false, true], "damaged 0"),
-    ((37, 34), 64, false, [false, false], "2+4"),
+    ((37, 35), 64, false, (false, true), "damaged 0"),
+    ((37, 34), 64, false, (false, false), "2+4"),
 ];
 
 /// The list with another byte at a place.
@@ -53,16 +55,28 @@ fn list_with(alloc: Global, place: (usize, u8)) -> Result<Vec<u8>, Fail> {
     Ok(list)
 }
 
-fn entries_text(alloc: Global, list: &Overlay) -> Result<String, Fail> {
-    let mut shown = String::new(alloc);
+fn put_entries(shown: &mut String, list: &Overlay) -> Result<(), Fail> {
     for i in 0..list.len() {
         let entry = list.get(i);
-        if i > 0 {
-            shown.push(' ')?;
-        }
-        shown.push_str(&format!(in alloc; "{}+{}", entry.off, entry.len)?)?;
+        let between = if i > 0 { " " } else { "" };
+        put_number(shown, between, entry.off as u64)?;
+        put_number(shown, "+", entry.len as u64)?;
     }
-    Ok(shown)
+    Ok(())
+}
+
+fn put_list(shown: &mut String, list: &Result<Overlay, Fault>) -> Result<(), Fail> {
+    match list {
+        Ok(list) => put_entries(shown, list),
+        Err(why) => put_fault(shown, *why),
+    }
+}
+
+/// Whether what came of a list is written so.
+fn is_list(alloc: Global, list: &Result<Overlay, Fault>, want: &str) -> Result<bool, Fail> {
+    let mut shown = String::new(alloc);
+    put_list(&mut shown, list)?;
+    Ok(shown.as_str() == want)
 }
 
 /// What comes of the list of a region that sees so much of the one in a slice.
@@ -71,7 +85,7 @@ fn list_came(
     dev: &mut Dev<'_, MemStore>,
     slice: Slice,
     visible: u32,
-) -> Result<String, Fail>
+) -> Result<Result<Overlay, Fault>, Fail>
     requires sound { IsSoundDev mem_store dev.old }
     requires bytes { SliceBytes (inside_of mem_store dev.old) slice }
     ensures { OnOk result (GoesOn mem_store dev.old dev.new []) }
@@ -80,10 +94,8 @@ fn list_came(
         return Err(Fail::from("nothing to be seen"));
     }
     let value = RegionValue::of_slice(alloc, slice, visible)?;
-    match region_list(alloc, dev, &value) {
-        Ok(list) => return entries_text(alloc, &list),
-        Err(why) => return came_text(alloc, Err(why)),
-    }
+    let list = region_list(alloc, dev, &value);
+    Ok(list)
 }
 
 /// Stores a list, and reads it where it is to be read before.
@@ -100,35 +112,29 @@ fn list_stored(
 {
     let slice = stored(dev, 0, bytes)?;
     if before {
-        let _shown = list_came(alloc, dev, slice, 64)?;
+        let _list = list_came(alloc, dev, slice, 64)?;
         return Ok(slice);
     }
     Ok(slice)
 }
 
 /// The servers, some of which are down.
-fn servers_left(settings: Settings, down: [bool; 2]) -> Replicas
+fn servers_left(settings: Settings, down: (bool, bool)) -> Replicas
     requires { settings.servers ≡ 2 }
     ensures { settings_of result ≡ settings }
 {
     let mut replicas = Replicas::new(settings);
-    if down[0] {
+    if down.0 {
         replicas.down(0);
     }
-    if down[1] {
+    if down.1 {
         replicas.down(1);
     }
     replicas
 }
 
-/// What comes of a row.
-fn row_came(
-    alloc: Global,
-    place: (usize, u8),
-    visible: u32,
-    before: bool,
-    down: [bool; 2],
-) -> Result<String, Fail> {
+/// What comes of a row with this list.
+fn row_came(alloc: Global, bytes: &[u8], row: &Row) -> Result<Result<Overlay, Fault>, Fail> {
     let Parts {
         mut shelf,
         replicas,
@@ -136,7 +142,7 @@ fn row_came(
         mut cache,
         settings,
     } = made_parts(alloc, NEVER, 2)?;
-    let left = servers_left(settings, down);
+    let left = servers_left(settings, row.3);
     let mut dev = Dev {
         shelf: &mut shelf,
         replicas: &replicas,
@@ -144,18 +150,27 @@ fn row_came(
         cache: &mut cache,
         settings,
     };
-    let bytes = list_with(alloc, place)?;
-    let slice = list_stored(alloc, &mut dev, bytes.as_slice(), before)?;
+    let slice = list_stored(alloc, &mut dev, bytes, row.2)?;
     dev.replicas = &left;
-    list_came(alloc, &mut dev, slice, visible)
+    list_came(alloc, &mut dev, slice, row.1)
+}
+
+/// Whether it is what should come.
+fn row_comes_of(alloc: Global, bytes: &[u8], row: &Row) -> Result<bool, Fail> {
+    let came = row_came(alloc, bytes, row)?;
+    is_list(alloc, &came, row.4)
+}
+
+fn row_comes(alloc: Global, row: &Row) -> Result<bool, Fail> {
+    let bytes = list_with(alloc, row.0)?;
+    row_comes_of(alloc, bytes.as_slice(), row)
 }
 
 /// How many rows come as they should, before the first that does not.
 fn rows_come(alloc: Global) -> Result<usize, Fail> {
     let mut same = 0usize;
-    for (place, visible, before, down, want) in ROWS {
-        let found = row_came(alloc, place, visible, before, down)?;
-        if found.as_str() != want {
+    for row in &ROWS {
+        if !row_comes(alloc, row)? {
             return Ok(same);
         }
         same = same.saturating_add(1);

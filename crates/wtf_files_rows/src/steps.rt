@@ -7,23 +7,27 @@ ghost use Rattle.wtf_meta.specs.Bytes.{MapBytes};
 ghost use Rattle.wtf_dev.specs.Memory.{mem_store};
 ghost use Rattle.wtf_meta.specs.Maps.{seen};
 ghost use Rattle.wtf_region.specs.Devs.{IsSoundDev, stores};
+ghost use Rattle.wtf_meta.specs.Sessions.{nothing_open};
 ghost use Rattle.wtf_rw.specs.Ops.{AreInside};
+ghost use Rattle.wtf_files_rows.specs.Benches.{IsBare};
 
 use crate::ops::{Step, is_fresh, is_rw_form, is_slice_form, op, rw_op, slice_op};
 use crate::store::{Parts, begun, made_parts};
-use crate::texts::{came_text, done_text, text};
+use crate::texts::is_text;
 use std::alloc::Global;
 use std::process::Abort;
 use std::test::Fail;
-use wtf_base::{Bytes, InodeId, TxId};
+use wtf_base::{Bytes, Fault, InodeId, TxId};
 use wtf_dev::MemStore;
 use wtf_index::{create, mkdir};
 use wtf_kv::Kv;
 use wtf_meta::Session;
-use wtf_model::Op;
+use wtf_model::{Answer, Op};
 use wtf_occ::Attempt;
 use wtf_path::Path;
 use wtf_region::Dev;
+use wtf_rw::{Done, RwOp};
+use wtf_slicing::SliceOp;
 use wtf_values::{Key, Value};
 
 /// Makes a file.
@@ -33,7 +37,7 @@ fn create_made(
     at: &mut Attempt<Key, Value>,
     new: InodeId,
     p: &Path,
-) -> Result<String, Fail>
+) -> Result<Result<Answer, Fault>, Fail>
     ensures { OnOk result ((P : List Place → Bool) (Q : Slice → Bool) → P [] ≡ true →
         MapBytes P Q (seen kv.now at.old) → MapBytes P Q (seen kv.now at.new)) }
 {
@@ -41,8 +45,7 @@ fn create_made(
         return Err(Fail::from("a call out of form"));
     }
     let answer = create(alloc, kv, at, p, new)?;
-    let shown = text(alloc, &answer)?;
-    Ok(shown)
+    Ok(Ok(answer))
 }
 
 /// Makes a directory.
@@ -51,7 +54,7 @@ fn mkdir_made(
     kv: &Kv<Key, Value>,
     at: &mut Attempt<Key, Value>,
     p: &Path,
-) -> Result<String, Fail>
+) -> Result<Result<Answer, Fault>, Fail>
     ensures { OnOk result ((P : List Place → Bool) (Q : Slice → Bool) → P [] ≡ true →
         MapBytes P Q (seen kv.now at.old) → MapBytes P Q (seen kv.now at.new)) }
 {
@@ -59,8 +62,7 @@ fn mkdir_made(
         return Err(Fail::from("a call out of form"));
     }
     let answer = mkdir(alloc, kv, at, p)?;
-    let shown = text(alloc, &answer)?;
-    Ok(shown)
+    Ok(Ok(answer))
 }
 
 /// Makes a call on names, whose file, if it makes one, is `new`.
@@ -72,21 +74,28 @@ fn name_came(
     s: &Session,
     new: InodeId,
     op: &Op<Bytes>,
-) -> Result<String, Fail>
+) -> Result<Result<Answer, Fault>, Fail>
     requires { AreInside mem_store (stores dev.now) dev.now.settings (seen kv.now at.old) s.now }
     ensures { OnOk result (AreInside mem_store (stores dev.now) dev.now.settings
         (seen kv.now at.new) s.now) }
 {
     match op {
         Op::Create(p) => {
-            let shown = create_made(alloc, kv, at, new, p)?;
-            return Ok(shown);
+            let came = create_made(alloc, kv, at, new, p)?;
+            return Ok(came);
         }
         Op::Mkdir(p) => {
-            let shown = mkdir_made(alloc, kv, at, p)?;
-            return Ok(shown);
+            let came = mkdir_made(alloc, kv, at, p)?;
+            return Ok(came);
         }
         _ => return Err(Fail::from("no call")),
+    }
+}
+
+fn answer_of(came: Result<Done, Fault>) -> Result<Answer, Fault> {
+    match came {
+        Ok(done) => Ok(done.answer),
+        Err(why) => Err(why),
     }
 }
 
@@ -97,8 +106,8 @@ fn rw_came(
     kv: &Kv<Key, Value>,
     at: &mut Attempt<Key, Value>,
     s: &mut Session,
-    op: &Op<Bytes>,
-) -> Result<String, Fail>
+    op: &RwOp<'_>,
+) -> Result<Result<Answer, Fault>, Fail>
     requires sound { IsSoundDev mem_store dev.old }
     requires inside { AreInside mem_store (stores dev.old) dev.old.settings
         (seen kv.now at.old) s.old }
@@ -106,15 +115,11 @@ fn rw_came(
     ensures inside { OnOk result (AreInside mem_store (stores dev.new) dev.new.settings
         (seen kv.now at.new) s.new) }
 {
-    let Some(op) = rw_op(op) else {
-        return Err(Fail::from("no call"));
-    };
-    if !is_rw_form(&op) || !is_fresh(&op) || !kv.is_pinned(at.base()) {
+    if !is_rw_form(op) || !is_fresh(op) || !kv.is_pinned(at.base()) {
         return Err(Fail::from("a call out of form"));
     }
-    let came = wtf_rw::call(alloc, dev, kv, at, s, &op);
-    let shown = done_text(alloc, came)?;
-    Ok(shown)
+    let came = wtf_rw::call(alloc, dev, kv, at, s, op);
+    Ok(answer_of(came))
 }
 
 /// Makes a call on slices, whose file, if it makes one, is `new`.
@@ -125,8 +130,8 @@ fn slice_came(
     at: &mut Attempt<Key, Value>,
     s: &mut Session,
     new: InodeId,
-    op: &Op<Bytes>,
-) -> Result<String, Fail>
+    op: &SliceOp<'_>,
+) -> Result<Result<Answer, Fault>, Fail>
     requires sound { IsSoundDev mem_store dev.old }
     requires inside { AreInside mem_store (stores dev.old) dev.old.settings
         (seen kv.now at.old) s.old }
@@ -134,15 +139,11 @@ fn slice_came(
     ensures inside { OnOk result (AreInside mem_store (stores dev.new) dev.new.settings
         (seen kv.now at.new) s.new) }
 {
-    let Some(op) = slice_op(op) else {
-        return Err(Fail::from("no call"));
-    };
-    if !is_slice_form(&op) || new.index < 1 || !kv.is_pinned(at.base()) {
+    if !is_slice_form(op) || new.index < 1 || !kv.is_pinned(at.base()) {
         return Err(Fail::from("a call out of form"));
     }
-    let came = wtf_slicing::call(alloc, dev, kv, at, s, new, &op);
-    let shown = came_text(alloc, came)?;
-    Ok(shown)
+    let came = wtf_slicing::call(alloc, dev, kv, at, s, new, op);
+    Ok(came)
 }
 
 /// Makes a call, whose file, if it makes one, is `new`.
@@ -154,7 +155,7 @@ fn op_came(
     s: &mut Session,
     new: InodeId,
     op: &Op<Bytes>,
-) -> Result<String, Fail>
+) -> Result<Result<Answer, Fault>, Fail>
     requires sound { IsSoundDev mem_store dev.old }
     requires inside { AreInside mem_store (stores dev.old) dev.old.settings
         (seen kv.now at.old) s.old }
@@ -162,18 +163,14 @@ fn op_came(
     ensures inside { OnOk result (AreInside mem_store (stores dev.new) dev.new.settings
         (seen kv.now at.new) s.new) }
 {
-    let is_rw = rw_op(op).is_some();
-    if is_rw {
-        let shown = rw_came(alloc, dev, kv, at, s, op)?;
-        return Ok(shown);
+    if let Some(op) = rw_op(op) {
+        return rw_came(alloc, dev, kv, at, s, &op);
     }
-    let is_slice = slice_op(op).is_some();
-    if is_slice {
-        let shown = slice_came(alloc, dev, kv, at, s, new, op)?;
-        return Ok(shown);
+    if let Some(op) = slice_op(op) {
+        return slice_came(alloc, dev, kv, at, s, new, &op);
     }
-    let shown = name_came(alloc, dev, kv, at, s, new, op)?;
-    Ok(shown)
+    let came = name_came(alloc, dev, kv, at, s, new, op)?;
+    Ok(came)
 }
 
 /// Makes the call of this number.
@@ -184,7 +181,7 @@ fn step_came(
     at: &mut Attempt<Key, Value>,
     s: &mut Session,
     step_at: (Step, u32),
-) -> Result<String, Fail>
+) -> Result<Result<Answer, Fault>, Fail>
     requires sound { IsSoundDev mem_store dev.old }
     requires inside { AreInside mem_store (stores dev.old) dev.old.settings
         (seen kv.now at.old) s.old }
@@ -197,20 +194,19 @@ fn step_came(
         tx: TxId(2),
         index: step_at.1,
     };
-    let shown = op_came(alloc, dev, kv, at, s, new, &op)?;
-    Ok(shown)
+    op_came(alloc, dev, kv, at, s, new, &op)
 }
 
-/// Makes the calls one after another, and compares what comes of each.
-pub(crate) fn rows_come(
-    rt: &impl Abort,
+/// Makes the calls one after another: the number of the first of which not that comes which
+/// should, from 1 on, or 0.
+pub(crate) fn first_wrong(
     alloc: Global,
     dev: &mut Dev<'_, MemStore>,
     kv: &Kv<Key, Value>,
     at: &mut Attempt<Key, Value>,
     s: &mut Session,
     rows: &[(Step, &str)],
-) -> Result<(), Fail>
+) -> Result<u32, Fail>
     requires sound { IsSoundDev mem_store dev.old }
     requires inside { AreInside mem_store (stores dev.old) dev.old.settings
         (seen kv.now at.old) s.old }
@@ -221,28 +217,34 @@ pub(crate) fn rows_come(
     let mut number = 0u32;
     for (step, want) in rows {
         number = number.saturating_add(1);
-        let found = step_came(alloc, dev, kv, at, s, (*step, number))?;
-        assert_eq!(rt; found.as_str(), *want, "row {number}");
+        let came = step_came(alloc, dev, kv, at, s, (*step, number))?;
+        if !is_text(alloc, came, *want)? {
+            return Ok(number);
+        }
     }
-    Ok(())
+    Ok(0)
 }
 
-/// The same of an attempt that has made a file. Each store fails in the call with the number
-/// `fails`, and the servers from `up` on are down.
-pub(crate) fn all_come(
-    rt: &impl Abort,
+/// The same on servers of which those from `up` on are down, with stores that each fail in the call
+/// with the number `fails`.
+fn first_wrong_on(
     alloc: Global,
-    fails: u64,
-    up: u8,
+    run: (u64, u8),
+    kv: &Kv<Key, Value>,
+    at: &mut Attempt<Key, Value>,
+    s: &mut Session,
     rows: &[(Step, &str)],
-) -> Result<(), Fail> {
+) -> Result<u32, Fail>
+    requires bare { IsBare (seen kv.now at.old) }
+    requires session { s.old ≡ nothing_open }
+{
     let Parts {
         mut shelf,
         replicas,
         ring,
         mut cache,
         settings,
-    } = made_parts(alloc, fails, up)?;
+    } = made_parts(alloc, run.0, run.1)?;
     let mut dev = Dev {
         shelf: &mut shelf,
         replicas: &replicas,
@@ -250,8 +252,25 @@ pub(crate) fn all_come(
         cache: &mut cache,
         settings,
     };
+    first_wrong(alloc, &mut dev, kv, at, s, rows)
+}
+
+/// The same of an attempt that has made a file.
+fn first_wrong_of(alloc: Global, fails: u64, up: u8, rows: &[(Step, &str)]) -> Result<u32, Fail> {
     let (kv, mut at) = begun(alloc)?;
     let mut s = Session::new(alloc)?;
-    rows_come(rt, alloc, &mut dev, &kv, &mut at, &mut s, rows)?;
+    first_wrong_on(alloc, (fails, up), &kv, &mut at, &mut s, rows)
+}
+
+/// Makes the calls of the rows, and stops where one of them does not come as it should.
+pub(crate) fn all_come(
+    rt: &impl Abort,
+    alloc: Global,
+    fails: u64,
+    up: u8,
+    rows: &[(Step, &str)],
+) -> Result<(), Fail> {
+    let wrong = first_wrong_of(alloc, fails, up, rows)?;
+    assert_eq!(rt; wrong, 0, "the first row that comes otherwise");
     Ok(())
 }

@@ -1,6 +1,6 @@
 //! What calls are lent: two servers with two copies of a slice, and regions of 64 bytes.
 
-ghost use Rattle.std.specs.Prelude.{◌≡◌, [], length, IfOk, OnOk};
+ghost use Rattle.std.specs.Prelude.{◌≡◌, [], ◌∷◌, ◌+◌, length, IfOk, OnOk};
 ghost use Rattle.wtf_dev.specs.Memory.{mem_store};
 ghost use Rattle.wtf_kv.specs.Stores.{Store};
 ghost use Rattle.wtf_meta.specs.Bytes.{SliceBytes};
@@ -48,13 +48,22 @@ pub(crate) fn settings() -> Result<Settings, Fail>
     Ok(settings)
 }
 
+/// Adds a store that fails in the call with this number.
+fn add_store(alloc: Global, stores: &mut Vec<MemStore>, fails: u64) -> Result<(), Fail>
+    ensures { OnOk result (length stores.new.items ≡ length stores.old.items + 1) }
+{
+    let calls = vec![in alloc; fails]?;
+    stores.push(MemStore::new(alloc, calls))?;
+    Ok(())
+}
+
 /// The stores of two servers, of which each fails in the call with this number.
 fn two_stores(alloc: Global, fails: u64) -> Result<Shelf<MemStore>, Fail>
     ensures { IfOk result (λ shelf. length shelf ≡ 2) }
 {
     let mut stores = Vec::new(alloc);
-    stores.push(MemStore::new(alloc, vec![in alloc; fails]?))?;
-    stores.push(MemStore::new(alloc, vec![in alloc; fails]?))?;
+    add_store(alloc, &mut stores, fails)?;
+    add_store(alloc, &mut stores, fails)?;
     Ok(Shelf::new(alloc, stores))
 }
 
@@ -82,9 +91,9 @@ pub(crate) fn made_parts(alloc: Global, fails: u64, up: u8) -> Result<Parts, Fai
 {
     let settings = settings()?;
     let shelf = two_stores(alloc, fails)?;
-    let replicas = servers(settings, up);
     let ring = Ring::new(alloc, settings.servers)?;
     let cache = RegionCache::new(alloc)?;
+    let replicas = servers(settings, up);
     Ok(Parts {
         shelf,
         replicas,
@@ -130,13 +139,21 @@ fn tree_made(alloc: Global, at: &mut Attempt<Key, Value>) -> Result<(), Fail>
     Ok(())
 }
 
+/// A store with nothing in it, whose number 0 is pinned.
+pub(crate) fn pinned(alloc: Global) -> Result<Kv<Key, Value>, Fail>
+    ensures { IfOk result (λ kv. kv ≡ record { number = 0; pins = 0 ∷ []; cells = [] }) }
+{
+    let mut kv: Kv<Key, Value> = Kv::new(alloc)?;
+    kv.pin(0)?;
+    Ok(kv)
+}
+
 /// An attempt that has made the root, the directory `/d` and the file `/a`.
 pub(crate) fn begun(alloc: Global) -> Result<(Kv<Key, Value>, Attempt<Key, Value>), Fail>
     ensures bare { IfOk result (λ r. IsBare (seen r.0 r.1)) }
 {
-    let mut kv: Kv<Key, Value> = Kv::new(alloc)?;
-    kv.pin(0)?;
     let mut at: Attempt<Key, Value> = Attempt::new(alloc, 0)?;
     tree_made(alloc, &mut at)?;
+    let kv = pinned(alloc)?;
     Ok((kv, at))
 }

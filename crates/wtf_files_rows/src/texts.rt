@@ -4,72 +4,107 @@ use std::alloc::Global;
 use std::test::Fail;
 use wtf_base::Fault;
 use wtf_model::{Answer, Names, Word};
-use wtf_rw::Done;
 
-/// What came of a call.
-pub(crate) fn came_text(alloc: Global, came: Result<Answer, Fault>) -> Result<String, Fail> {
+/// Whether what came of a call is written so.
+pub(crate) fn is_text(
+    alloc: Global,
+    came: Result<Answer, Fault>,
+    want: &str,
+) -> Result<bool, Fail> {
+    is_written(alloc, &came, want)
+}
+
+fn is_written(alloc: Global, came: &Result<Answer, Fault>, want: &str) -> Result<bool, Fail> {
+    let mut shown = String::new(alloc);
+    put_came(&mut shown, came)?;
+    Ok(shown.as_str() == want)
+}
+
+fn put_came(shown: &mut String, came: &Result<Answer, Fault>) -> Result<(), Fail> {
     match came {
-        Ok(answer) => text(alloc, &answer),
-        Err(Fault::Read(k)) => Ok(format!(in alloc; "fault read {}", k.0)?),
-        Err(Fault::Damaged(k)) => Ok(format!(in alloc; "damaged {}", k.0)?),
-        Err(Fault::Write) => Ok(String::from_str(alloc, "fault write")?),
-        Err(_) => Ok(String::from_str(alloc, "another fault")?),
+        Ok(answer) => put_answer(shown, answer),
+        Err(why) => put_fault(shown, *why),
     }
 }
 
-/// What came of a call on handles or bytes.
-pub(crate) fn done_text(alloc: Global, came: Result<Done, Fault>) -> Result<String, Fail> {
-    match came {
-        Ok(done) => text(alloc, &done.answer),
-        Err(why) => came_text(alloc, Err(why)),
+pub(crate) fn put(shown: &mut String, text: &str) -> Result<(), Fail> {
+    Ok(shown.push_str(text)?)
+}
+
+/// A word and a number.
+pub(crate) fn put_number(shown: &mut String, text: &str, n: u64) -> Result<(), Fail> {
+    Ok(write!(shown, "{text}{n}")?)
+}
+
+pub(crate) fn put_fault(shown: &mut String, why: Fault) -> Result<(), Fail> {
+    match why {
+        Fault::Read(k) => put_number(shown, "fault read ", k.0 as u64),
+        Fault::Damaged(k) => put_number(shown, "damaged ", k.0 as u64),
+        Fault::Write => put(shown, "fault write"),
+        _ => put(shown, "another fault"),
     }
 }
 
-pub(crate) fn text(alloc: Global, answer: &Answer) -> Result<String, Fail> {
+pub(crate) fn put_answer(shown: &mut String, answer: &Answer) -> Result<(), Fail> {
     match answer {
-        Answer::Committed(n) => Ok(format!(in alloc; "committed {}", n)?),
-        Answer::Retry { base, now } => Ok(format!(in alloc; "retry {} {}", base, now)?),
-        Answer::Replayed(i) => Ok(format!(in alloc; "replayed {}", i)?),
-        Answer::Aborted(i, held) => {
-            let held = call_text(alloc, held)?;
-            Ok(format!(in alloc; "aborted {} {}", i, held)?)
+        Answer::Committed(n) => put_number(shown, "committed ", *n),
+        Answer::Retry { base, now } => {
+            put_number(shown, "retry ", *base)?;
+            put_number(shown, " ", *now)
         }
-        other => call_text(alloc, other),
+        Answer::Replayed(i) => put_number(shown, "replayed ", *i as u64),
+        Answer::Aborted(i, held) => {
+            put_number(shown, "aborted ", *i as u64)?;
+            put(shown, " ")?;
+            put_call(shown, held)
+        }
+        other => put_call(shown, other),
     }
 }
 
 /// The answer to a call.
-fn call_text(alloc: Global, answer: &Answer) -> Result<String, Fail> {
+fn put_call(shown: &mut String, answer: &Answer) -> Result<(), Fail> {
     match answer {
-        Answer::Okay => Ok(String::from_str(alloc, "ok")?),
-        Answer::Dir => Ok(String::from_str(alloc, "dir")?),
-        Answer::At(off) => Ok(format!(in alloc; "at {}", off)?),
-        Answer::Len(n) => Ok(format!(in alloc; "len {}", n)?),
-        Answer::File { len } => Ok(format!(in alloc; "file {}", len)?),
-        Answer::Refused(word) => Ok(format!(in alloc; "refused {}", word_text(*word))?),
-        Answer::Shown(bytes) => bytes_text(alloc, bytes.as_slice()),
-        Answer::Names(names) => names_text(alloc, names),
-        _ => Ok(String::from_str(alloc, "another answer")?),
+        Answer::Okay => put(shown, "ok"),
+        Answer::Dir => put(shown, "dir"),
+        Answer::At(off) => put_number(shown, "at ", *off),
+        Answer::Len(n) => put_number(shown, "len ", *n),
+        Answer::File { len } => put_number(shown, "file ", *len),
+        Answer::Refused(word) => put_word(shown, *word),
+        Answer::Shown(bytes) => put_bytes(shown, bytes.as_slice()),
+        Answer::Names(names) => put_names(shown, names),
+        _ => put(shown, "another answer"),
     }
 }
 
-fn bytes_text(alloc: Global, bytes: &[u8]) -> Result<String, Fail> {
-    let mut shown = String::from_str(alloc, "data ")?;
+fn put_bytes(shown: &mut String, bytes: &[u8]) -> Result<(), Fail> {
+    put(shown, "data ")?;
     for byte in bytes {
         shown.push(if *byte == 0 { '.' } else { char::from(*byte) })?;
     }
-    Ok(shown)
+    Ok(())
 }
 
-fn names_text(alloc: Global, names: &Names) -> Result<String, Fail> {
-    let mut shown = String::from_str(alloc, "names")?;
-    for name in names.as_slice() {
-        shown.push(' ')?;
-        for byte in name.as_slice() {
-            shown.push(char::from(*byte))?;
-        }
+/// Bytes as characters.
+pub(crate) fn put_name(shown: &mut String, name: &[u8]) -> Result<(), Fail> {
+    for byte in name {
+        shown.push(char::from(*byte))?;
     }
-    Ok(shown)
+    Ok(())
+}
+
+fn put_names(shown: &mut String, names: &Names) -> Result<(), Fail> {
+    put(shown, "names")?;
+    for name in names.as_slice() {
+        put(shown, " ")?;
+        put_name(shown, name.as_slice())?;
+    }
+    Ok(())
+}
+
+pub(crate) fn put_word(shown: &mut String, word: Word) -> Result<(), Fail> {
+    put(shown, "refused ")?;
+    put(shown, word_text(word))
 }
 
 fn word_text(word: Word) -> &'static str {

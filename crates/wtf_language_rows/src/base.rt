@@ -2,7 +2,6 @@
 
 use crate::texts::bytes;
 use std::alloc::{AllocError, AllocFailed, Global};
-use std::test::Fail;
 use wtf_base::{InodeId, OutOfMemory, Pointer, ServerId, Settings, Slice, TxId};
 
 /// `len` bytes of file 0 of server 0, from `at` on.
@@ -16,25 +15,21 @@ fn pointer(at: u64, len: u32) -> Pointer {
 }
 
 /// The slice of one such pointer.
-fn slice(at: u64, len: u32) -> Result<Slice, Fail> {
-    Ok(Slice::of(&[pointer(at, len)]).ok_or("slice")?)
+fn slice(at: u64, len: u32) -> Option<Slice> {
+    Slice::of(&[pointer(at, len)])
 }
 
-/// The number of copies of a slice, its length, and the place of its first copy.
-fn told(slice: &Slice) -> (u8, u32, Option<Pointer>) {
-    let width = slice.width();
-    if width < 1 {
-        return (width, slice.len(), None);
-    }
-    (width, slice.len(), Some(slice.pointer(0)))
+/// Whether a slice has one copy, and that is `len` bytes from `at` on.
+fn is_one(slice: &Slice, at: u64, len: u32) -> bool {
+    slice.width() == 1 && slice.len() == len && slice.pointer(0) == pointer(at, len)
 }
 
-/// A part of a slice that has it.
-fn cut(slice: &Slice, off: u32, len: u32) -> Result<Slice, Fail> {
+/// Whether a part of a slice that has it is `len` bytes from `at` on.
+fn is_cut(slice: &Slice, off: u32, len: u32, at: u64) -> bool {
     if len < 1 || off > slice.len() || len > slice.len() - off {
-        return Err(Fail::from("no part"));
+        return false;
     }
-    Ok(slice.cut(off, len))
+    is_one(&slice.cut(off, len), at, len)
 }
 
 /// The length of two slices as one, where they are one.
@@ -47,20 +42,20 @@ fn refuses_one_server_twice() -> bool {
     Slice::of(&[pointer(0, 6), pointer(9, 6)]).is_none()
 }
 
-#[test]
-fn cuts_and_joins(rt: HostRuntime) -> Result<(), Fail> {
-    let a = slice(0, 6)?;
-    let x = slice(6, 2)?;
-    assert_eq!(rt; told(&a), (1, 6, Some(pointer(0, 6))));
-    assert_eq!(rt; told(&cut(&a, 2, 3)?), (1, 3, Some(pointer(2, 3))));
-    assert_eq!(rt; joined_len(&a, &x), Some(8));
-    assert_eq!(rt; joined_len(&x, &a), None);
-    assert!(rt; refuses_one_server_twice());
-    Ok(())
+/// Whether six bytes are cut, and joined with two behind them, but not the other way round.
+fn are_cut_and_joined() -> bool {
+    let (Some(a), Some(x)) = (slice(0, 6), slice(6, 2)) else {
+        return false;
+    };
+    is_one(&a, 0, 6)
+        && is_cut(&a, 2, 3, 2)
+        && joined_len(&a, &x) == Some(8)
+        && joined_len(&x, &a).is_none()
 }
 
-fn are_settings(servers: u8, replicas: u8, region: u32) -> bool {
-    Settings::new(servers, replicas, region).is_some()
+#[test]
+fn cuts_and_joins(rt: HostRuntime) {
+    assert!(rt; are_cut_and_joined() && refuses_one_server_twice());
 }
 
 /// The greatest length of a file, where four servers hold two copies.
@@ -84,20 +79,19 @@ const ASKED: [Asked; 10] = [
     (4, 2, 1_048_577, false),
 ];
 
-/// How many rows hold, from the first on.
-fn askings(rows: &[Asked]) -> usize {
-    for (i, (servers, replicas, region, inside)) in rows.iter().enumerate() {
-        if are_settings(*servers, *replicas, *region) != *inside {
-            return i;
+/// Whether each row holds.
+fn are_settings(rows: &[Asked]) -> bool {
+    for (servers, replicas, region, inside) in rows {
+        if Settings::new(*servers, *replicas, *region).is_some() != *inside {
+            return false;
         }
     }
-    rows.len()
+    true
 }
 
 #[test]
 fn settings_keep_the_limits(rt: HostRuntime) {
-    assert_eq!(rt; askings(&ASKED), 10);
-    assert_eq!(rt; cap(65_536), Some(268_435_456));
+    assert!(rt; are_settings(&ASKED) && cap(65_536) == Some(268_435_456));
 }
 
 fn inode(tx: u64, index: u32) -> InodeId {
@@ -112,33 +106,42 @@ fn is_before(first: InodeId, second: InodeId) -> bool {
 }
 
 /// Whether bytes are shown and given back as they came.
-fn are_kept(alloc: Global, text: &[u8]) -> Result<bool, Fail> {
-    let shown = bytes(alloc, text)?;
+fn are_kept(alloc: Global, text: &[u8]) -> bool {
+    let Ok(shown) = bytes(alloc, text) else {
+        return false;
+    };
     let same = shown.as_slice() == text;
-    Ok(same && shown.into_vec().as_slice() == text)
+    same && shown.into_vec().as_slice() == text
 }
 
-fn are_equal(alloc: Global, first: &[u8], second: &[u8]) -> Result<bool, Fail> {
-    Ok(bytes(alloc, first)? == bytes(alloc, second)?)
+/// Whether texts are equal as bytes, or not.
+fn are_equal(alloc: Global, first: &[u8], second: &[u8], want: bool) -> bool {
+    let Ok(first) = bytes(alloc, first) else {
+        return false;
+    };
+    let Ok(second) = bytes(alloc, second) else {
+        return false;
+    };
+    (first == second) == want
 }
 
 #[test]
-fn orders_inodes_and_compares_bytes(rt: HostRuntime) -> Result<(), Fail> {
-    assert!(rt; is_before(inode(1, 2), inode(2, 1)));
-    assert!(rt; are_kept(rt.alloc(), &[1, 2])?);
-    assert!(rt; are_equal(rt.alloc(), &[1, 2], &[1, 2])?);
-    assert!(rt; !are_equal(rt.alloc(), &[1, 2], &[1, 3])?);
-    Ok(())
+fn orders_inodes_and_compares_bytes(rt: HostRuntime) {
+    let alloc = rt.alloc();
+    assert!(rt;
+        is_before(inode(1, 2), inode(2, 1))
+            && are_kept(alloc, &[1, 2])
+            && are_equal(alloc, &[1, 2], &[1, 2], true)
+            && are_equal(alloc, &[1, 2], &[1, 3], false)
+    );
 }
 
-fn lacks() -> (OutOfMemory, OutOfMemory) {
-    (
-        OutOfMemory::from(AllocError),
-        OutOfMemory::from(AllocFailed { value: 7 }),
-    )
+fn lacks() -> bool {
+    OutOfMemory::from(AllocError) == OutOfMemory
+        && OutOfMemory::from(AllocFailed { value: 7 }) == OutOfMemory
 }
 
 #[test]
 fn want_of_memory_is_told(rt: HostRuntime) {
-    assert_eq!(rt; lacks(), (OutOfMemory, OutOfMemory));
+    assert!(rt; lacks());
 }

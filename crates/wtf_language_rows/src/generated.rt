@@ -1,7 +1,6 @@
 //! Scripts from a number.
 
 use std::alloc::Global;
-use std::test::Fail;
 use wtf_dev::Source;
 use wtf_gen::{Gen, GeneratedScript};
 
@@ -33,91 +32,102 @@ const SEVEN: [&[u8]; 24] = [
     b"c5 yank f0 65 s1",
 ];
 
-/// How many of these lines come next, from the first on.
-fn lines_come(alloc: Global, lines: &mut Gen, all: &[&[u8]]) -> Result<usize, Fail> {
-    for (i, want) in all.iter().enumerate() {
-        let Some(line) = lines.next(alloc)? else {
-            return Ok(i);
-        };
-        if line.as_slice() != *want {
-            return Ok(i);
+/// Whether this is the next line.
+fn comes(alloc: Global, lines: &mut Gen, want: &[u8]) -> bool {
+    match lines.next(alloc) {
+        Ok(Some(line)) => line.as_slice() == want,
+        _ => false,
+    }
+}
+
+/// Whether these lines come next, in order.
+fn all_come(alloc: Global, lines: &mut Gen, all: &[&[u8]]) -> bool {
+    for want in all {
+        if !comes(alloc, lines, want) {
+            return false;
         }
     }
-    Ok(all.len())
+    true
 }
 
 /// Whether a generator has no line more.
-fn is_done(alloc: Global, lines: &mut Gen) -> Result<bool, Fail> {
-    Ok(lines.next(alloc)?.is_none())
+fn is_done(alloc: Global, lines: &mut Gen) -> bool {
+    matches!(lines.next(alloc), Ok(None))
+}
+
+/// Whether both give the same line, or none.
+fn agree_on_one(alloc: Global, one: &mut Gen, other: &mut Gen) -> bool {
+    let Ok(first) = one.next(alloc) else {
+        return false;
+    };
+    let Ok(second) = other.next(alloc) else {
+        return false;
+    };
+    first == second
 }
 
 /// Whether both give the same lines, and as many.
-fn agree(alloc: Global, one: &mut Gen, other: &mut Gen) -> Result<bool, Fail> {
+fn agree(alloc: Global, one: &mut Gen, other: &mut Gen) -> bool {
     for _ in 0..500 {
-        if one.next(alloc)? != other.next(alloc)? {
-            return Ok(false);
+        if !agree_on_one(alloc, one, other) {
+            return false;
         }
     }
-    Ok(is_done(alloc, one)? && is_done(alloc, other)?)
+    is_done(alloc, one) && is_done(alloc, other)
 }
 
-/// How many bytes a source gives, and their sum, where a read has room for so many.
-fn total<I: Source>(source: &mut I, room: usize) -> Result<(u64, u64), Fail> {
+fn sum(bytes: &[u8]) -> u64 {
+    let mut sum = 0_u64;
+    for b in bytes {
+        sum = sum.wrapping_add(u64::from(*b));
+    }
+    sum
+}
+
+/// Whether a source gives so many bytes, and this is their sum, where a read has room for so many.
+fn gives(mut source: GeneratedScript, room: usize, want: (u64, u64)) -> bool {
     let mut buffer = [0; 64];
     let room = room.min(64);
-    let mut bytes = 0_u64;
-    let mut sum = 0_u64;
+    let mut all = (0_u64, 0_u64);
     for _ in 0..100_000 {
         let Ok(n) = source.read(&mut buffer[..room]) else {
-            return Err(Fail::from("a read failed"));
+            return false;
         };
         if n == 0 {
             break;
         }
-        bytes = bytes.wrapping_add(n as u64);
-        for b in &buffer[..n] {
-            sum = sum.wrapping_add(u64::from(*b));
-        }
+        all.0 = all.0.wrapping_add(n as u64);
+        all.1 = all.1.wrapping_add(sum(&buffer[..n]));
     }
-    Ok((bytes, sum))
+    all == want
 }
 
 #[test]
-fn number_0_begins_with_client_7(rt: HostRuntime) -> Result<(), Fail> {
+fn number_0_begins_with_client_7(rt: HostRuntime) {
     let mut lines = Gen::new(0, 2);
-    assert_eq!(rt;
-        lines_come(rt.alloc(), &mut lines, &[b"c7 begin", b"c1 step"])?,
-        2
-    );
-    Ok(())
+    assert!(rt; all_come(rt.alloc(), &mut lines, &[b"c7 begin", b"c1 step"]));
 }
 
 #[test]
-fn number_7_gives_its_lines(rt: HostRuntime) -> Result<(), Fail> {
+fn number_7_gives_its_lines(rt: HostRuntime) {
     let mut lines = Gen::new(7, 24);
-    assert_eq!(rt; lines_come(rt.alloc(), &mut lines, &SEVEN)?, 24);
-    assert!(rt; is_done(rt.alloc(), &mut lines)?);
-    assert!(rt; is_done(rt.alloc(), &mut lines)?);
-    Ok(())
+    assert!(rt;
+        all_come(rt.alloc(), &mut lines, &SEVEN)
+            && is_done(rt.alloc(), &mut lines)
+            && is_done(rt.alloc(), &mut lines)
+    );
 }
 
 #[test]
-fn one_number_gives_one_script(rt: HostRuntime) -> Result<(), Fail> {
-    let (mut one, mut other) = (Gen::new(11, 500), Gen::new(11, 500));
-    assert!(rt; agree(rt.alloc(), &mut one, &mut other)?);
-    Ok(())
+fn one_number_gives_one_script(rt: HostRuntime) {
+    assert!(rt; agree(rt.alloc(), &mut Gen::new(11, 500), &mut Gen::new(11, 500)));
 }
 
 #[test]
-fn reads_of_any_room_give_the_script(rt: HostRuntime) -> Result<(), Fail> {
-    assert_eq!(rt;
-        total(&mut GeneratedScript::new(7, 1000), 64)?,
-        (23_248, 1_675_752)
+fn reads_of_any_room_give_the_script(rt: HostRuntime) {
+    assert!(rt;
+        gives(GeneratedScript::new(7, 1000), 64, (23_248, 1_675_752))
+            && gives(GeneratedScript::new(7, 1000), 1, (23_248, 1_675_752))
+            && gives(GeneratedScript::new(7, 0), 64, (0, 0))
     );
-    assert_eq!(rt;
-        total(&mut GeneratedScript::new(7, 1000), 1)?,
-        (23_248, 1_675_752)
-    );
-    assert_eq!(rt; total(&mut GeneratedScript::new(7, 0), 64)?, (0, 0));
-    Ok(())
 }

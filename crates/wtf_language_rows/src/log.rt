@@ -2,21 +2,20 @@
 
 use crate::texts::shown;
 use std::alloc::Global;
-use std::test::Fail;
 use wtf_base::{Kept, Pointer, ServerId, Slice};
 use wtf_log::{Log, LogError};
 use wtf_model::limits::MAX_LOGGED;
 use wtf_model::{Answer, Op, Word};
 
 /// Six bytes in file 0 of server 0.
-fn six_bytes() -> Result<Slice, Fail> {
+fn six_bytes() -> Option<Slice> {
     let pointer = Pointer {
         server: ServerId(0),
         file: 0,
         at: 0,
         len: 6,
     };
-    Ok(Slice::of(&[pointer]).ok_or("slice")?)
+    Slice::of(&[pointer])
 }
 
 /// What a log keeps of the bytes of a slice.
@@ -31,7 +30,7 @@ fn pushes(log: &mut Log, op: Op<Kept>, answer: Answer) -> bool {
     log.push(op, answer) == Ok(())
 }
 
-/// Pushes a write that stored, and an append that stored nothing.
+/// Whether a write that stored is pushed, and an append that stored nothing.
 fn pushes_bytes(log: &mut Log, slice: Slice) -> bool {
     let nothing = Kept {
         len: 0,
@@ -41,19 +40,17 @@ fn pushes_bytes(log: &mut Log, slice: Slice) -> bool {
         && pushes(log, Op::Append(1, nothing), Answer::Refused(Word::NoHandle))
 }
 
-/// A `tell`, a write that stored, an append that stored nothing, and a read, with what they showed.
-fn worked(alloc: Global, slice: Slice) -> Result<Log, Fail> {
-    let read = shown(alloc, b"ab")?;
-    let mut log = Log::new(alloc)?;
-    let begun = pushes(&mut log, Op::Tell(0), Answer::At(0)) && pushes_bytes(&mut log, slice);
-    if !pushes(&mut log, Op::Read(0, 2), read) || !begun {
-        return Err(Fail::from("push"));
-    }
-    Ok(log)
+/// Whether a read that showed two bytes is pushed.
+fn pushes_read(alloc: Global, log: &mut Log) -> bool {
+    let Ok(read) = shown(alloc, b"ab") else {
+        return false;
+    };
+    pushes(log, Op::Read(0, 2), read)
 }
 
-fn len(log: &Log) -> u32 {
-    log.len()
+/// Whether a `tell`, a write that stored, an append that stored nothing, and a read are pushed, with what they showed.
+fn works(alloc: Global, log: &mut Log, slice: Slice) -> bool {
+    pushes(log, Op::Tell(0), Answer::At(0)) && pushes_bytes(log, slice) && pushes_read(alloc, log)
 }
 
 /// Whether this is the slice that a call of the log has stored.
@@ -84,60 +81,85 @@ fn has_answers_of_bytes(log: &Log) -> bool {
         && matches!(log.shown(3), Answer::Refused(Word::NoHandle))
 }
 
-#[test]
-fn a_log_has_the_slices_that_were_stored(rt: HostRuntime) -> Result<(), Fail> {
-    let slice = six_bytes()?;
-    let log = worked(rt.alloc(), slice)?;
-    assert!(rt; len(&log) == 4);
-    assert!(rt; has_own(&log, 1, None));
-    assert!(rt; has_own(&log, 2, Some(slice)));
-    assert!(rt; has_own(&log, 3, None));
-    assert!(rt; has_own(&log, 4, None));
-    Ok(())
+/// Whether of four calls the second alone stored, and this slice.
+fn has_one_slice(log: &Log, slice: Slice) -> bool {
+    log.len() == 4
+        && has_own(log, 1, None)
+        && has_own(log, 2, Some(slice))
+        && has_own(log, 3, None)
+        && has_own(log, 4, None)
+}
+
+/// Whether that holds of what was worked.
+fn slices_are_kept(alloc: Global) -> bool {
+    let Some(slice) = six_bytes() else {
+        return false;
+    };
+    let Ok(mut log) = Log::new(alloc) else {
+        return false;
+    };
+    works(alloc, &mut log, slice) && has_one_slice(&log, slice)
 }
 
 #[test]
-fn a_log_shows_what_was_pushed(rt: HostRuntime) -> Result<(), Fail> {
-    let log = worked(rt.alloc(), six_bytes()?)?;
-    assert!(rt; begins_with_tell(&log));
-    assert!(rt; has_answers_of_bytes(&log));
-    assert!(rt; has_shown(&log, 4, b"ab"));
-    assert!(rt; !has_shown(&log, 4, b"abc"));
-    assert!(rt; !has_shown(&log, 1, b""));
-    Ok(())
+fn a_log_has_the_slices_that_were_stored(rt: HostRuntime) {
+    assert!(rt; slices_are_kept(rt.alloc()));
+}
+
+/// Whether a log shows what was pushed, and nothing else.
+fn shows_all(log: &Log) -> bool {
+    begins_with_tell(log)
+        && has_answers_of_bytes(log)
+        && has_shown(log, 4, b"ab")
+        && !has_shown(log, 4, b"abc")
+        && !has_shown(log, 1, b"")
+}
+
+/// Whether that holds of what was worked.
+fn all_is_shown(alloc: Global) -> bool {
+    let Some(slice) = six_bytes() else {
+        return false;
+    };
+    let Ok(mut log) = Log::new(alloc) else {
+        return false;
+    };
+    works(alloc, &mut log, slice) && shows_all(&log)
+}
+
+#[test]
+fn a_log_shows_what_was_pushed(rt: HostRuntime) {
+    assert!(rt; all_is_shown(rt.alloc()));
 }
 
 /// Whether a log takes a call; it is not full before.
 fn takes_a_call(log: &mut Log) -> bool {
-    !log.is_full() && log.push(Op::Tell(0), Answer::Refused(Word::NoHandle)) == Ok(())
+    !log.is_full() && pushes(log, Op::Tell(0), Answer::Refused(Word::NoHandle))
 }
 
-/// A log that took as many calls as it may.
-fn full(alloc: Global) -> Result<Log, Fail> {
-    let mut log = Log::new(alloc)?;
+/// Whether a log takes as many calls as it may.
+fn fills(log: &mut Log) -> bool {
     for _ in 0..MAX_LOGGED {
-        if !takes_a_call(&mut log) {
-            return Err(Fail::from("full too early"));
+        if !takes_a_call(log) {
+            return false;
         }
     }
-    Ok(log)
+    log.len() == 4096 && log.is_full()
 }
 
-fn is_full(log: &Log) -> bool {
-    log.is_full()
-}
-
-/// Whether a log refuses a call since it is full.
+/// Whether a log refuses a call since it is full, and stays as it is.
 fn refuses(log: &mut Log) -> bool {
-    log.push(Op::Tell(0), Answer::At(0)) == Err(LogError::Full)
+    log.push(Op::Tell(0), Answer::At(0)) == Err(LogError::Full) && log.len() == 4096
+}
+
+/// Whether a log is full where it took as many calls as it may.
+fn is_full_at_its_limit(alloc: Global) -> bool {
+    let Ok(mut log) = Log::new(alloc) else {
+        return false;
+    };
+    fills(&mut log) && refuses(&mut log)
 }
 
 #[test]
-fn a_log_is_full_at_its_limit(rt: HostRuntime) -> Result<(), Fail> {
-    let mut log = full(rt.alloc())?;
-    assert!(rt; len(&log) == 4096);
-    assert!(rt; is_full(&log));
-    assert!(rt; refuses(&mut log));
-    assert!(rt; len(&log) == 4096);
-    Ok(())
+fn a_log_is_full_at_its_limit(rt: HostRuntime) {
+    assert!(rt; is_full_at_its_limit(rt.alloc()));
 }

@@ -1,8 +1,7 @@
 //! The refusals and the parts of paths.
 
 use crate::texts::path;
-use std::alloc::Global;
-use std::test::Fail;
+use std::alloc::{AllocError, Global};
 use wtf_path::Path;
 
 /// Which refusal a text gets; 0 for a path, which has the bytes of its text.
@@ -33,35 +32,19 @@ const REFUSALS: [Refusal; 14] = [
     (b"/~!", 0),
 ];
 
-/// How many rows hold, from the first on.
-fn refusals(alloc: Global, rows: &[Refusal]) -> usize {
-    for (i, (text, want)) in rows.iter().enumerate() {
+/// Whether each row holds.
+fn are_refusals(alloc: Global, rows: &[Refusal]) -> bool {
+    for (text, want) in rows {
         if refusal(alloc, text) != *want {
-            return i;
+            return false;
         }
     }
-    rows.len()
+    true
 }
 
 #[test]
 fn refuses_by_the_first_rule(rt: HostRuntime) {
-    assert_eq!(rt; refusals(rt.alloc(), &REFUSALS), 14);
-}
-
-/// A text so many times, between two others.
-fn repeated(
-    alloc: Global,
-    front: &[u8],
-    text: &[u8],
-    times: usize,
-    end: &[u8],
-) -> Result<Vec<u8>, Fail> {
-    let mut all = Vec::from_slice(alloc, front)?;
-    for _ in 0..times {
-        all.extend_from_slice(text)?;
-    }
-    all.extend_from_slice(end)?;
-    Ok(all)
+    assert!(rt; are_refusals(rt.alloc(), &REFUSALS));
 }
 
 /// What a text begins with, what is repeated so many times behind it, what it ends with, and the number of its refusal.
@@ -75,59 +58,77 @@ const LIMITS: [Long; 5] = [
     (b"", b"/a", 32, b"/", 5),
 ];
 
-/// Whether a text gets its refusal.
-fn is_refused(alloc: Global, row: &Long) -> Result<bool, Fail> {
-    let (front, text, times, end, want) = row;
-    let text = repeated(alloc, front, text, *times, end)?;
-    Ok(refusal(alloc, text.as_slice()) == *want)
+/// Puts the text of a row together.
+fn put_text(all: &mut Vec<u8>, row: &Long) -> Result<(), AllocError> {
+    let (front, text, times, end, _) = row;
+    all.extend_from_slice(front)?;
+    for _ in 0..*times {
+        all.extend_from_slice(text)?;
+    }
+    all.extend_from_slice(end)
 }
 
-/// How many rows hold, from the first on.
-fn limits(alloc: Global, rows: &[Long]) -> Result<usize, Fail> {
-    for (i, row) in rows.iter().enumerate() {
-        if !is_refused(alloc, row)? {
-            return Ok(i);
+/// Whether a text gets its refusal.
+fn is_refused(alloc: Global, row: &Long) -> bool {
+    let mut text = Vec::new(alloc);
+    put_text(&mut text, row).is_ok() && refusal(alloc, text.as_slice()) == row.4
+}
+
+/// Whether each row holds.
+fn are_refused(alloc: Global, rows: &[Long]) -> bool {
+    for row in rows {
+        if !is_refused(alloc, row) {
+            return false;
         }
     }
-    Ok(rows.len())
+    true
 }
 
 #[test]
-fn keeps_the_limits(rt: HostRuntime) -> Result<(), Fail> {
-    assert_eq!(rt; limits(rt.alloc(), &LIMITS)?, 5);
-    Ok(())
+fn keeps_the_limits(rt: HostRuntime) {
+    assert!(rt; are_refused(rt.alloc(), &LIMITS));
 }
 
 /// Whether a path has this name and this parent.
-fn has_parts(alloc: Global, text: &[u8], name: &[u8], parent: Option<&[u8]>) -> Result<bool, Fail> {
-    let path = path(alloc, text)?;
-    Ok(path.as_bytes() == text && path.name() == name && path.parent() == parent)
+fn has_parts(alloc: Global, text: &[u8], name: &[u8], parent: Option<&[u8]>) -> bool {
+    let Ok(path) = path(alloc, text) else {
+        return false;
+    };
+    path.as_bytes() == text && path.name() == name && path.parent() == parent
 }
 
 #[test]
-fn takes_paths_apart(rt: HostRuntime) -> Result<(), Fail> {
-    assert!(rt; has_parts(rt.alloc(), b"/a/b", b"b", Some(b"/a"))?);
-    assert!(rt; has_parts(rt.alloc(), b"/a", b"a", Some(b"/"))?);
-    assert!(rt; has_parts(rt.alloc(), b"/", b"", None)?);
-    Ok(())
+fn takes_paths_apart(rt: HostRuntime) {
+    assert!(rt;
+        has_parts(rt.alloc(), b"/a/b", b"b", Some(b"/a"))
+            && has_parts(rt.alloc(), b"/a", b"a", Some(b"/"))
+            && has_parts(rt.alloc(), b"/", b"", None)
+    );
 }
 
 /// Whether the copy of a path is the same path.
-fn is_copied(alloc: Global, text: &[u8]) -> Result<bool, Fail> {
-    let path = path(alloc, text)?;
-    Ok(path.copy(alloc)? == path)
+fn is_copied(alloc: Global, text: &[u8]) -> bool {
+    let Ok(path) = path(alloc, text) else {
+        return false;
+    };
+    let Ok(copied) = path.copy(alloc) else {
+        return false;
+    };
+    copied == path
 }
 
 /// Whether a path stands before another, in both orders that paths have.
-fn is_before(alloc: Global, first: &[u8], second: &[u8]) -> Result<bool, Fail> {
-    let first = path(alloc, first)?;
-    let second = path(alloc, second)?;
-    Ok(first.cmp(&second).is_lt() && first < second)
+fn is_before(alloc: Global, first: &[u8], second: &[u8]) -> bool {
+    let Ok(first) = path(alloc, first) else {
+        return false;
+    };
+    let Ok(second) = path(alloc, second) else {
+        return false;
+    };
+    first.cmp(&second).is_lt() && first < second
 }
 
 #[test]
-fn copies_and_orders_paths(rt: HostRuntime) -> Result<(), Fail> {
-    assert!(rt; is_copied(rt.alloc(), b"/a/b")?);
-    assert!(rt; is_before(rt.alloc(), b"/a", b"/a/b")?);
-    Ok(())
+fn copies_and_orders_paths(rt: HostRuntime) {
+    assert!(rt; is_copied(rt.alloc(), b"/a/b") && is_before(rt.alloc(), b"/a", b"/a/b"));
 }

@@ -3,21 +3,20 @@
 ghost use Rattle.std.specs.Prelude.{None};
 
 use std::alloc::Global;
-use std::test::Fail;
-use wtf_base::Bytes;
+use wtf_base::{Bytes, OutOfMemory};
 use wtf_dev::{Failed, MemSource, Source};
 use wtf_model::{Event, Kind, Op, Seek, Verb};
 use wtf_script::{Line, LineError, Lines, ReadError, parse_line};
 
 /// A source that gives one byte a call.
 #[derive(Drop)]
-struct Slow {
-    bytes: Vec<u8>,
+struct Slow<'a> {
+    bytes: &'a [u8],
     at: usize,
     given: u64,
 }
 
-impl Source for Slow {
+impl<'a> Source for Slow<'a> {
     ghost view = { λ s. record { faults = 0; given = s.given; rest = None } };
 
     fn read(&mut self, out: &mut [u8]) -> Result<usize, Failed> {
@@ -31,22 +30,14 @@ impl Source for Slow {
     }
 }
 
-fn slow_source(alloc: Global, script: &[u8]) -> Result<Slow, Fail> {
-    Ok(Slow {
-        bytes: Vec::from_slice(alloc, script)?,
-        at: 0,
-        given: 0,
-    })
-}
-
 /// A source of a script, whose calls with these numbers fail.
-fn source(alloc: Global, script: &[u8], fails: &[u64]) -> Result<MemSource, Fail> {
+fn source(alloc: Global, script: &[u8], fails: &[u64]) -> Result<MemSource, OutOfMemory> {
     let script = Vec::from_slice(alloc, script)?;
     Ok(MemSource::new(alloc, script, Vec::from_slice(alloc, fails)?))
 }
 
 /// What comes next of a script.
-#[derive(Clone, Copy, Debug)]
+#[derive(Clone, Copy)]
 enum Next {
     Whole(&'static [u8]),
     Long,
@@ -54,25 +45,41 @@ enum Next {
     Fault,
 }
 
-/// Whether this comes next of a script.
-fn comes<I: Source>(lines: &mut Lines, source: &mut I, next: Next) -> bool {
-    match (lines.next(source), next) {
-        (Ok(Some(Line::Whole(bytes))), Next::Whole(line)) => bytes.as_slice() == line,
-        (Ok(Some(Line::Long)), Next::Long) => true,
-        (Ok(None), Next::End) => true,
-        (Err(ReadError::Failed), Next::Fault) => true,
+/// Whether this is the line that comes next.
+fn is_line(line: &Line, next: Next) -> bool {
+    match (line, next) {
+        (Line::Whole(bytes), Next::Whole(want)) => bytes.as_slice() == want,
+        (Line::Long, Next::Long) => true,
         _ => false,
     }
 }
 
-/// Whether these come of a script, in order.
-fn all_come<I: Source>(alloc: Global, source: &mut I, all: &[Next]) -> Result<bool, Fail> {
-    let mut lines = Lines::new(alloc)?;
-    let mut came = true;
-    for next in all {
-        came = came && comes(&mut lines, source, *next);
+/// Whether this comes next of a script.
+fn comes<I: Source>(lines: &mut Lines, source: &mut I, next: Next) -> bool {
+    match lines.next(source) {
+        Ok(Some(line)) => is_line(&line, next),
+        Ok(None) => matches!(next, Next::End),
+        Err(ReadError::Failed) => matches!(next, Next::Fault),
+        Err(_) => false,
     }
-    Ok(came)
+}
+
+/// Whether these come next, in order.
+fn come<I: Source>(lines: &mut Lines, source: &mut I, all: &[Next]) -> bool {
+    for next in all {
+        if !comes(lines, source, *next) {
+            return false;
+        }
+    }
+    true
+}
+
+/// Whether these come first of a script, in order.
+fn all_come<I: Source>(alloc: Global, source: &mut I, all: &[Next]) -> bool {
+    let Ok(mut lines) = Lines::new(alloc) else {
+        return false;
+    };
+    come(&mut lines, source, all)
 }
 
 const FIRST: Next = Next::Whole(b"c0 try");
@@ -83,61 +90,83 @@ const LAST: Next = Next::Whole(b"ab");
 
 const SCRIPT: &[u8] = b"c0 try\n\nab";
 
+/// Whether these come of the script that gives one byte a call, and so many bytes are read.
+fn come_slowly(alloc: Global, all: &[Next], read: usize) -> bool {
+    let mut source = Slow {
+        bytes: SCRIPT,
+        at: 0,
+        given: 0,
+    };
+    all_come(alloc, &mut source, all) && source.at == read
+}
+
+/// Nothing is read behind the line feed of a line.
 #[test]
-fn gives_each_line_whatever_the_cuts(rt: HostRuntime) -> Result<(), Fail> {
-    let mut source = slow_source(rt.alloc(), SCRIPT)?;
-    assert!(rt; all_come(rt.alloc(), &mut source, &[FIRST, EMPTY, LAST, Next::End])?);
-    let mut source = slow_source(rt.alloc(), SCRIPT)?;
-    assert!(rt; all_come(rt.alloc(), &mut source, &[FIRST])?);
-    assert_eq!(rt; source.at, 7, "nothing is read behind the line feed");
-    Ok(())
+fn gives_each_line_whatever_the_cuts(rt: HostRuntime) {
+    assert!(rt;
+        come_slowly(rt.alloc(), &[FIRST, EMPTY, LAST, Next::End], 10)
+            && come_slowly(rt.alloc(), &[FIRST], 7)
+    );
+}
+
+/// Whether these come of a script whose calls with these numbers fail.
+fn come_of(alloc: Global, script: &[u8], fails: &[u64], all: &[Next]) -> bool {
+    let Ok(mut source) = source(alloc, script, fails) else {
+        return false;
+    };
+    all_come(alloc, &mut source, all)
 }
 
 #[test]
-fn gives_lines_up_to_a_fault(rt: HostRuntime) -> Result<(), Fail> {
-    let mut whole = source(rt.alloc(), SCRIPT, &[1])?;
-    assert!(rt; all_come(rt.alloc(), &mut whole, &[FIRST, EMPTY, Next::Fault])?);
-    let mut broken = source(rt.alloc(), b"c0 try\n", &[0])?;
-    assert!(rt; all_come(rt.alloc(), &mut broken, &[Next::Fault])?);
-    Ok(())
+fn gives_lines_up_to_a_fault(rt: HostRuntime) {
+    assert!(rt;
+        come_of(rt.alloc(), SCRIPT, &[1], &[FIRST, EMPTY, Next::Fault])
+            && come_of(rt.alloc(), b"c0 try\n", &[0], &[Next::Fault])
+    );
 }
 
-/// A text, and one byte so many times behind it.
-fn long(alloc: Global, text: &[u8], byte: u8, n: usize) -> Result<Vec<u8>, Fail> {
-    let mut all = Vec::from_slice(alloc, text)?;
-    all.extend_from_slice(vec![in alloc; byte; n]?.as_slice())?;
-    Ok(all)
+/// So many of one byte, with a text at a place among them.
+fn long(alloc: Global, byte: u8, len: usize, at: usize, text: &[u8]) -> Option<Vec<u8>> {
+    if at > len || text.len() > len - at {
+        return None;
+    }
+    let mut all = vec![in alloc; byte; len].ok()?;
+    all[at..at + text.len()].copy_from_slice(text);
+    Some(all)
+}
+
+/// Whether a line of 65,537 bytes is told, and the one behind it comes.
+fn long_comes(alloc: Global) -> bool {
+    let Some(script) = long(alloc, b'a', 65_541, 65_537, b"\nab\n") else {
+        return false;
+    };
+    come_of(alloc, script.as_slice(), &[], &[Next::Long, LAST])
 }
 
 #[test]
-fn gives_the_line_behind_a_long_one(rt: HostRuntime) -> Result<(), Fail> {
-    let mut script = long(rt.alloc(), b"", b'a', 65_537)?;
-    script.extend_from_slice(b"\nab\n")?;
-    let mut source = source(rt.alloc(), script.as_slice(), &[])?;
-    assert!(rt; all_come(rt.alloc(), &mut source, &[Next::Long, LAST])?);
-    Ok(())
+fn gives_the_line_behind_a_long_one(rt: HostRuntime) {
+    assert!(rt; long_comes(rt.alloc()));
 }
 
-/// What is wrong with a line; `None` where it is an event.
-fn wrong(alloc: Global, line: &[u8]) -> Result<Option<Kind>, Fail> {
+/// Whether this is what is wrong with a line.
+fn is_wrong(alloc: Global, line: &[u8], want: Kind) -> bool {
     match parse_line(alloc, line) {
-        Ok(_) => Ok(None),
-        Err(LineError::Bad(kind)) => Ok(Some(kind)),
-        Err(LineError::Memory) => Err(Fail::from("memory")),
+        Err(LineError::Bad(kind)) => kind == want,
+        _ => false,
     }
 }
 
 /// A line, and what is wrong with it.
 type Wrong = (&'static [u8], Kind);
 
-/// How many rows hold, from the first on.
-fn wrongs(alloc: Global, rows: &[Wrong]) -> Result<usize, Fail> {
-    for (i, (line, want)) in rows.iter().enumerate() {
-        if wrong(alloc, line)? != Some(*want) {
-            return Ok(i);
+/// Whether each row holds.
+fn are_wrong(alloc: Global, rows: &[Wrong]) -> bool {
+    for (line, want) in rows {
+        if !is_wrong(alloc, line, *want) {
+            return false;
         }
     }
-    Ok(rows.len())
+    true
 }
 
 const BYTES_AND_SPACES: [Wrong; 7] = [
@@ -151,9 +180,8 @@ const BYTES_AND_SPACES: [Wrong; 7] = [
 ];
 
 #[test]
-fn tells_what_is_wrong_with_bytes_and_spaces(rt: HostRuntime) -> Result<(), Fail> {
-    assert_eq!(rt; wrongs(rt.alloc(), &BYTES_AND_SPACES)?, 7);
-    Ok(())
+fn tells_what_is_wrong_with_bytes_and_spaces(rt: HostRuntime) {
+    assert!(rt; are_wrong(rt.alloc(), &BYTES_AND_SPACES));
 }
 
 const ACTORS_AND_VERBS: [Wrong; 10] = [
@@ -170,9 +198,8 @@ const ACTORS_AND_VERBS: [Wrong; 10] = [
 ];
 
 #[test]
-fn tells_what_is_wrong_with_an_actor_or_a_verb(rt: HostRuntime) -> Result<(), Fail> {
-    assert_eq!(rt; wrongs(rt.alloc(), &ACTORS_AND_VERBS)?, 10);
-    Ok(())
+fn tells_what_is_wrong_with_an_actor_or_a_verb(rt: HostRuntime) {
+    assert!(rt; are_wrong(rt.alloc(), &ACTORS_AND_VERBS));
 }
 
 const HANDLES_AND_NUMBERS: [Wrong; 11] = [
@@ -190,9 +217,8 @@ const HANDLES_AND_NUMBERS: [Wrong; 11] = [
 ];
 
 #[test]
-fn tells_what_is_wrong_with_a_handle_or_a_number(rt: HostRuntime) -> Result<(), Fail> {
-    assert_eq!(rt; wrongs(rt.alloc(), &HANDLES_AND_NUMBERS)?, 11);
-    Ok(())
+fn tells_what_is_wrong_with_a_handle_or_a_number(rt: HostRuntime) {
+    assert!(rt; are_wrong(rt.alloc(), &HANDLES_AND_NUMBERS));
 }
 
 const LENGTHS_AND_DATA: [Wrong; 8] = [
@@ -207,9 +233,8 @@ const LENGTHS_AND_DATA: [Wrong; 8] = [
 ];
 
 #[test]
-fn tells_what_is_wrong_with_a_length_or_data(rt: HostRuntime) -> Result<(), Fail> {
-    assert_eq!(rt; wrongs(rt.alloc(), &LENGTHS_AND_DATA)?, 8);
-    Ok(())
+fn tells_what_is_wrong_with_a_length_or_data(rt: HostRuntime) {
+    assert!(rt; are_wrong(rt.alloc(), &LENGTHS_AND_DATA));
 }
 
 const PATHS_AND_JOBS: [Wrong; 10] = [
@@ -226,23 +251,26 @@ const PATHS_AND_JOBS: [Wrong; 10] = [
 ];
 
 #[test]
-fn tells_what_is_wrong_with_a_path_or_a_job(rt: HostRuntime) -> Result<(), Fail> {
-    assert_eq!(rt; wrongs(rt.alloc(), &PATHS_AND_JOBS)?, 10);
-    Ok(())
+fn tells_what_is_wrong_with_a_path_or_a_job(rt: HostRuntime) {
+    assert!(rt; are_wrong(rt.alloc(), &PATHS_AND_JOBS));
 }
 
-/// What is wrong with a text and one byte so many times behind it.
-fn wrong_when_long(alloc: Global, text: &[u8], byte: u8, n: usize) -> Result<Option<Kind>, Fail> {
-    wrong(alloc, long(alloc, text, byte, n)?.as_slice())
+/// Whether this is what is wrong with a text and one byte behind it, up to so many bytes.
+fn is_wrong_when_long(alloc: Global, text: &[u8], byte: u8, len: usize, want: Kind) -> bool {
+    let Some(line) = long(alloc, byte, len, 0, text) else {
+        return false;
+    };
+    is_wrong(alloc, line.as_slice(), want)
 }
 
 #[test]
-fn tells_what_is_too_long(rt: HostRuntime) -> Result<(), Fail> {
-    let spaces = wrong_when_long(rt.alloc(), b"", b' ', 65_537)?;
-    assert_eq!(rt; spaces, Some(Kind::Long));
-    let text = wrong_when_long(rt.alloc(), b"c0 write f0 t:", b'a', 16_385)?;
-    assert_eq!(rt; text, Some(Kind::Limit));
-    Ok(())
+fn tells_what_is_too_long(rt: HostRuntime) {
+    let alloc = rt.alloc();
+    // 16,385 bytes of data stand behind the 14 of the front.
+    assert!(rt;
+        is_wrong_when_long(alloc, b"", b' ', 65_537, Kind::Long)
+            && is_wrong_when_long(alloc, b"c0 write f0 t:", b'a', 16_399, Kind::Limit)
+    );
 }
 
 /// This number where the condition holds, or 0.
@@ -273,12 +301,9 @@ fn call_row(op: &Op<Bytes>) -> u8 {
     }
 }
 
-/// The number of the row that a line is; 0 where it is none.
-fn row(alloc: Global, line: &[u8]) -> u8 {
-    let Ok(event) = parse_line(alloc, line) else {
-        return 0;
-    };
-    match &event {
+/// The number of the row that an event is; 0 where it is none.
+fn event_row(event: &Event) -> u8 {
+    match event {
         Event::Client(31, Verb::Begin) => 1,
         Event::Client(0, Verb::Try) => 2,
         Event::Client(1, Verb::Call(op)) => call_row(op),
@@ -290,6 +315,14 @@ fn row(alloc: Global, line: &[u8]) -> u8 {
         } => 10,
         Event::Up(0) => 11,
         _ => 0,
+    }
+}
+
+/// The number of the row that a line is; 0 where it is none.
+fn row(alloc: Global, line: &[u8]) -> u8 {
+    match parse_line(alloc, line) {
+        Ok(event) => event_row(&event),
+        Err(_) => 0,
     }
 }
 
@@ -310,17 +343,17 @@ const FORMS: [Form; 11] = [
     (b"sys up 0", 11),
 ];
 
-/// How many lines are those of their rows, from the first on.
-fn forms(alloc: Global, rows: &[Form]) -> usize {
-    for (i, (line, want)) in rows.iter().enumerate() {
+/// Whether each line is that of its row.
+fn have_forms(alloc: Global, rows: &[Form]) -> bool {
+    for (line, want) in rows {
         if row(alloc, line) != *want {
-            return i;
+            return false;
         }
     }
-    rows.len()
+    true
 }
 
 #[test]
 fn takes_each_form(rt: HostRuntime) {
-    assert_eq!(rt; forms(rt.alloc(), &FORMS), 11);
+    assert!(rt; have_forms(rt.alloc(), &FORMS));
 }

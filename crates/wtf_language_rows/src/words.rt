@@ -1,112 +1,90 @@
 //! Words and what they ask for.
 
 use std::alloc::Global;
-use std::test::Fail;
+use wtf_base::OutOfMemory;
 use wtf_words::{Asked, Script, WordsError, read_words};
 
-/// The words of a line, which stand apart by single spaces.
-fn words(alloc: Global, line: &str) -> Result<Vec<String>, Fail> {
-    let mut words = Vec::new(alloc);
-    for word in line.split(' ').filter(|word| !word.is_empty()) {
-        words.push(word.to_string(alloc)?)?;
-    }
-    Ok(words)
-}
-
-/// What words ask for; `None` where they are refused.
-fn read(alloc: Global, line: &str) -> Result<Option<Asked>, Fail> {
-    match read_words(alloc, words(alloc, line)?.as_slice()) {
-        Ok(asked) => Ok(Some(asked)),
-        Err(WordsError::Refused) => Ok(None),
-        Err(WordsError::Memory) => Err(Fail::from("memory")),
-    }
-}
-
-/// The servers, the replicas and the bytes of a region that words ask for, for a script that is read; else `None`.
-fn asked(alloc: Global, line: &str) -> Result<Option<(u8, u8, u32)>, Fail> {
-    let Some(asked) = read(alloc, line)? else {
-        return Ok(None);
-    };
-    match asked.script {
-        Script::Read => Ok(Some((
-            asked.settings.servers,
-            asked.settings.replicas,
-            asked.settings.region,
-        ))),
-        Script::Generated(_) => Ok(None),
-    }
-}
-
-/// The number and the lines of a generated script that words ask for, and the servers; else `None`.
-fn generated(alloc: Global, line: &str) -> Result<Option<(u64, u64, u8)>, Fail> {
-    let Some(asked) = read(alloc, line)? else {
-        return Ok(None);
-    };
-    match asked.script {
-        Script::Read => Ok(None),
-        Script::Generated(recipe) => {
-            Ok(Some((recipe.number, recipe.lines, asked.settings.servers)))
+/// Puts the words of a line behind others. They stand apart by single spaces.
+fn put_words(words: &mut Vec<String>, alloc: Global, line: &str) -> Result<(), OutOfMemory> {
+    for word in line.split(' ') {
+        if !word.is_empty() {
+            words.push(word.to_string(alloc)?)?;
         }
     }
+    Ok(())
 }
 
-/// Words, and the servers, the replicas and the bytes of a region that they ask for.
-type SettingsRow = (&'static str, (u8, u8, u32));
+/// What the words of a line ask for.
+fn read(alloc: Global, line: &str) -> Result<Asked, WordsError> {
+    let mut words = Vec::new(alloc);
+    if put_words(&mut words, alloc, line).is_err() {
+        return Err(WordsError::Memory);
+    }
+    read_words(alloc, words.as_slice())
+}
 
-const ASKED: [SettingsRow; 5] = [
-    ("", (4, 2, 65_536)),
-    ("--servers 3", (3, 2, 65_536)),
+/// Words, and the servers, the replicas and the bytes of a region that they ask for, and the number and the lines of a
+/// generated script, where they ask for one.
+type Asking = (&'static str, (u8, u8, u32), Option<(u64, u64)>);
+
+/// Whether this is what is asked for.
+fn is_asked(asked: Asked, row: &Asking) -> bool {
+    let settings = asked.settings;
+    let script = match asked.script {
+        Script::Read => None,
+        Script::Generated(recipe) => Some((recipe.number, recipe.lines)),
+    };
+    (settings.servers, settings.replicas, settings.region) == row.1 && script == row.2
+}
+
+/// Whether each row holds.
+fn are_asked(alloc: Global, rows: &[Asking]) -> bool {
+    for row in rows {
+        let Ok(asked) = read(alloc, row.0) else {
+            return false;
+        };
+        if !is_asked(asked, row) {
+            return false;
+        }
+    }
+    true
+}
+
+const ASKED: [Asking; 5] = [
+    ("", (4, 2, 65_536), None),
+    ("--servers 3", (3, 2, 65_536), None),
     (
         "--servers=16 --replicas=3 --region=1048576",
         (16, 3, 1_048_576),
+        None,
     ),
-    ("--region 64 --replicas 1 --servers 1", (1, 1, 64)),
-    ("--servers 2 --replicas 2", (2, 2, 65_536)),
+    ("--region 64 --replicas 1 --servers 1", (1, 1, 64), None),
+    ("--servers 2 --replicas 2", (2, 2, 65_536), None),
 ];
 
-/// How many rows hold, from the first on.
-fn askings(alloc: Global, rows: &[SettingsRow]) -> Result<usize, Fail> {
-    for (i, (line, want)) in rows.iter().enumerate() {
-        if asked(alloc, line)? != Some(*want) {
-            return Ok(i);
-        }
-    }
-    Ok(rows.len())
-}
-
 #[test]
-fn words_ask_for_settings(rt: HostRuntime) -> Result<(), Fail> {
-    assert_eq!(rt; askings(rt.alloc(), &ASKED)?, 5);
-    Ok(())
+fn words_ask_for_settings(rt: HostRuntime) {
+    assert!(rt; are_asked(rt.alloc(), &ASKED));
 }
 
-/// Words, and the number, the lines and the servers that they ask for.
-type GeneratedRow = (&'static str, (u64, u64, u8));
-
-const GENERATED: [GeneratedRow; 4] = [
-    ("--gen 7 --lines 20000", (7, 20_000, 4)),
-    ("--gen=0 --lines=1", (0, 1, 4)),
+const GENERATED: [Asking; 4] = [
+    ("--gen 7 --lines 20000", (4, 2, 65_536), Some((7, 20_000))),
+    ("--gen=0 --lines=1", (4, 2, 65_536), Some((0, 1))),
     (
         "--lines 1000000 --servers 3 --gen 18446744073709551615",
-        (u64::MAX, 1_000_000, 3),
+        (3, 2, 65_536),
+        Some((u64::MAX, 1_000_000)),
     ),
-    ("--gen 1000001 --lines 2 --region 64", (1_000_001, 2, 4)),
+    (
+        "--gen 1000001 --lines 2 --region 64",
+        (4, 2, 64),
+        Some((1_000_001, 2)),
+    ),
 ];
 
-/// How many rows hold, from the first on.
-fn generations(alloc: Global, rows: &[GeneratedRow]) -> Result<usize, Fail> {
-    for (i, (line, want)) in rows.iter().enumerate() {
-        if generated(alloc, line)? != Some(*want) {
-            return Ok(i);
-        }
-    }
-    Ok(rows.len())
-}
-
 #[test]
-fn words_ask_for_generated_scripts(rt: HostRuntime) -> Result<(), Fail> {
-    assert_eq!(rt; generations(rt.alloc(), &GENERATED)?, 4);
-    Ok(())
+fn words_ask_for_generated_scripts(rt: HostRuntime) {
+    assert!(rt; are_asked(rt.alloc(), &GENERATED));
 }
 
 const REFUSED: [&str; 31] = [
@@ -143,18 +121,17 @@ const REFUSED: [&str; 31] = [
     "3",
 ];
 
-/// How many lines are refused, from the first on.
-fn refusals(alloc: Global, lines: &[&str]) -> Result<usize, Fail> {
-    for (i, line) in lines.iter().enumerate() {
-        if read(alloc, line)?.is_some() {
-            return Ok(i);
+/// Whether each line is refused.
+fn are_refused(alloc: Global, lines: &[&str]) -> bool {
+    for line in lines {
+        if !matches!(read(alloc, line), Err(WordsError::Refused)) {
+            return false;
         }
     }
-    Ok(lines.len())
+    true
 }
 
 #[test]
-fn words_are_refused(rt: HostRuntime) -> Result<(), Fail> {
-    assert_eq!(rt; refusals(rt.alloc(), &REFUSED)?, 31);
-    Ok(())
+fn words_are_refused(rt: HostRuntime) {
+    assert!(rt; are_refused(rt.alloc(), &REFUSED));
 }

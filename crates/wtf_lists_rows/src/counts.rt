@@ -8,13 +8,13 @@ use wtf_kv::{Cell, Kv, StoreKey, Summarized};
 pub(crate) type Counts = Kv<Name, Count>;
 
 /// A key.
-#[derive(Drop, PartialEq, Eq, PartialOrd, Ord)]
+#[derive(Clone, Copy, PartialEq, Eq, PartialOrd, Ord)]
 pub(crate) struct Name {
     pub(crate) id: u64,
 }
 
 /// A number; a delta adds to it, at most to 64, and a delta of 0 removes it.
-#[derive(Drop)]
+#[derive(Clone, Copy)]
 pub(crate) struct Count {
     pub(crate) n: u64,
 }

@@ -11,18 +11,21 @@ use wtf_kv::{Call, Change, Changes, Kv, NotReady, run};
 
 type Edits = Changes<Name, Count>;
 
-/// The deltas of these keys and numbers, in order.
-pub(crate) fn deltas(alloc: Global, rows: &[(u64, u64)]) -> Result<Edits, OutOfMemory> {
-    let mut edits = Changes::new(alloc);
+/// Deltas of two keys, of which the second does not fit 60.
+const EDITS: [(u64, u64); 3] = [(4, 5), (3, 5), (4, 64)];
+
+fn add_all(edits: &mut Edits, rows: &[(u64, u64)]) -> Result<(), OutOfMemory> {
     for (id, by) in rows {
         edits.delta(Name { id: *id }, *by)?;
     }
-    Ok(edits)
+    Ok(())
 }
 
-/// Deltas of two keys, of which the second does not fit 60.
-fn edits(alloc: Global) -> Result<Edits, OutOfMemory> {
-    deltas(alloc, &[(4, 5), (3, 5), (4, 64)])
+/// The deltas of these keys and numbers, in order.
+fn deltas(alloc: Global, rows: &[(u64, u64)]) -> Result<Edits, OutOfMemory> {
+    let mut edits = Changes::new(alloc);
+    add_all(&mut edits, rows)?;
+    Ok(edits)
 }
 
 /// Whether there is one change, which adds 5 to key 4.
@@ -45,14 +48,22 @@ fn seeded(alloc: Global, number: u64, id: u64, n: u64) -> Result<Counts, OutOfMe
 }
 
 /// Installs changes, and answers the number.
-pub(crate) fn install(kv: &mut Counts, edits: &Edits) -> Result<u64, Fail> {
+fn install(kv: &mut Counts, edits: &Edits) -> Option<u64> {
     if kv.number() >= 1 << 63 {
-        return Err("no number is left".into());
+        return None;
     }
     let Ok(ready) = kv.reserve_install(edits) else {
-        return Err("an install was refused".into());
+        return None;
     };
-    Ok(kv.install(ready))
+    Some(kv.install(ready))
+}
+
+/// Installs changes, under this number.
+fn install_as(kv: &mut Counts, edits: &Edits, n: u64) -> Result<(), Fail> {
+    if install(kv, edits) != Some(n) {
+        return Err("another number was installed, or none".into());
+    }
+    Ok(())
 }
 
 /// The key whose delta does not fit.
@@ -73,16 +84,16 @@ fn is_live(kv: &Counts, n: u64) -> bool
     n == kv.number() || kv.is_pinned(n)
 }
 
-/// What `n` sees of a key: its value, 0 for none, and its version.
-fn seen(kv: &Counts, n: u64, id: u64) -> Result<(u64, u64), Fail> {
+/// Whether a number sees this of a key: its value, 0 for none, and its version.
+fn sees(kv: &Counts, n: u64, id: u64, (value, version): (u64, u64)) -> bool {
     if !is_live(kv, n) {
-        return Err("the number can't be read".into());
+        return false;
     }
     let key = Name { id };
-    Ok((number(kv.read_at(n, &key)), kv.version_at(n, &key)))
+    number(kv.read_at(n, &key)) == value && kv.version_at(n, &key) == version
 }
 
-pub(crate) fn pin(kv: &mut Counts, n: u64) -> Result<(), Fail> {
+fn pin(kv: &mut Counts, n: u64) -> Result<(), Fail> {
     if !is_live(kv, n) {
         return Err("the number can't be pinned".into());
     }
@@ -90,13 +101,13 @@ pub(crate) fn pin(kv: &mut Counts, n: u64) -> Result<(), Fail> {
     Ok(())
 }
 
-fn unpin_and_prune(kv: &mut Counts, n: u64) -> Result<(), Fail> {
+fn unpin_and_prune(kv: &mut Counts, n: u64) -> bool {
     if !kv.is_pinned(n) {
-        return Err("the number is not pinned".into());
+        return false;
     }
     kv.unpin(n);
     kv.prune();
-    Ok(())
+    true
 }
 
 /// The number of a version, none for a removal.
@@ -104,14 +115,19 @@ fn version(value: Option<&Count>) -> Option<u64> {
     Some(value?.n)
 }
 
+/// Whether a version is that of a row.
+fn is_row((n, value): (u64, Option<&Count>), row: Option<&(u64, Option<u64>)>) -> bool {
+    let Some((at, was)) = row else {
+        return false;
+    };
+    n == *at && version(value) == *was
+}
+
 /// Whether these are the versions of a key, none for a removal.
 fn keeps(kv: &Counts, id: u64, want: &[(u64, Option<u64>)]) -> bool {
     let mut rows = want.iter();
-    for (n, value) in kv.kept(&Name { id }) {
-        let Some((at, was)) = rows.next() else {
-            return false;
-        };
-        if n != *at || version(value) != *was {
+    for version in kv.kept(&Name { id }) {
+        if !is_row(version, rows.next()) {
             return false;
         }
     }
@@ -122,79 +138,69 @@ fn first_key(kv: &Counts) -> Option<u64> {
     Some(kv.next_key(None)?.id)
 }
 
-fn next_pinned(kv: &Counts, after: Option<u64>) -> Option<u64> {
-    kv.next_pinned(after)
-}
-
 fn is_pinned_once(kv: &Counts, n: u64) -> bool {
     kv.is_pinned(n) && kv.times_pinned(n) == 1
 }
 
-/// Makes these calls, of which none takes the last pin of `n`.
-fn run_all(kv: &mut Counts, calls: &[Call<Name, Count>], n: u64) -> Result<(), Fail> {
-    if !kv.is_pinned(n) {
-        return Err("the number is not pinned".into());
-    }
-    run(kv, calls, n)?;
-    Ok(())
+/// Sets key 7 at 1, and pins that.
+fn set_and_pin(alloc: Global, kv: &mut Counts, n: u64) -> Result<(), Fail> {
+    let edits = deltas(alloc, &[(7, n)])?;
+    install_as(kv, &edits, 1)?;
+    pin(kv, 1)
 }
 
-/// The first `n` of the changes.
-fn first(edits: Edits, n: usize) -> Result<Edits, Fail> {
-    let mut edits = edits;
-    if n > edits.len() {
-        return Err("there are fewer changes".into());
-    }
-    edits.shorten(n);
-    Ok(edits)
+/// A store in which install 1 set key 7 to a number; 1 is pinned.
+pub(crate) fn store(alloc: Global, n: u64) -> Result<Counts, Fail> {
+    let mut kv: Counts = Kv::new(alloc)?;
+    set_and_pin(alloc, &mut kv, n)?;
+    Ok(kv)
 }
 
-/// Whether a number sees this of a key: its value and its version.
-fn sees(kv: &Counts, n: u64, id: u64, want: (u64, u64)) -> Result<bool, Fail> {
-    let (value, version) = seen(kv, n, id)?;
-    Ok(value == want.0 && version == want.1)
-}
-
-/// Installs changes, under this number.
-fn install_as(kv: &mut Counts, edits: &Edits, n: u64) -> Result<(), Fail> {
-    if install(kv, edits)? != n {
-        return Err("another number was installed".into());
-    }
-    Ok(())
-}
-
-/// Sets key 7 at 1, pins that, and removes the key at 2.
+/// Removes key 7 at 2.
 fn remove(alloc: Global, kv: &mut Counts) -> Result<(), Fail> {
-    install_as(kv, &deltas(alloc, &[(7, 5)])?, 1)?;
-    pin(kv, 1)?;
-    install_as(kv, &cut(alloc, 7, 9)?, 2)
+    let edits = cut(alloc, 7, 9)?;
+    install_as(kv, &edits, 2)
 }
 
 /// A store in which key 7 was set at 1, which is pinned, and removed at 2.
 fn removed(alloc: Global) -> Result<Counts, Fail> {
-    let mut kv: Counts = Kv::new(alloc)?;
+    let mut kv = store(alloc, 5)?;
     remove(alloc, &mut kv)?;
     Ok(kv)
+}
+
+/// Whether 1 sees key 7, and 2 its removal.
+fn sees_both(kv: &Counts) -> bool {
+    sees(kv, 1, 7, (5, 1)) && sees(kv, 2, 7, (0, 2))
+}
+
+/// Whether both versions of key 7 and the pin are there.
+fn shows_both(kv: &Counts) -> bool {
+    sees_both(kv)
+        && keeps(kv, 7, &[(1, Some(5)), (2, None)])
+        && kv.next_pinned(Some(0)) == Some(1)
+        && first_key(kv) == Some(7)
 }
 
 #[test]
 fn removes_under_a_pin(rt: HostRuntime) -> Result<(), Fail> {
     let kv = removed(rt.alloc())?;
-    assert!(rt; sees(&kv, 1, 7, (5, 1))? && sees(&kv, 2, 7, (0, 2))?);
-    assert!(rt; keeps(&kv, 7, &[(1, Some(5)), (2, None)]));
-    assert!(rt; next_pinned(&kv, Some(0)) == Some(1));
-    assert!(rt; first_key(&kv) == Some(7));
+    assert!(rt; shows_both(&kv));
     Ok(())
+}
+
+/// Whether nothing is left of key 7 and the pin.
+fn is_bare(kv: &Counts) -> bool {
+    sees(kv, 2, 7, (0, 0))
+        && keeps(kv, 7, &[])
+        && kv.next_pinned(None).is_none()
+        && first_key(kv).is_none()
 }
 
 #[test]
 fn drops_what_no_pin_sees(rt: HostRuntime) -> Result<(), Fail> {
     let mut kv = removed(rt.alloc())?;
-    unpin_and_prune(&mut kv, 1)?;
-    assert!(rt; sees(&kv, 2, 7, (0, 0))?);
-    assert!(rt; keeps(&kv, 7, &[]));
-    assert!(rt; next_pinned(&kv, None).is_none());
-    assert!(rt; first_key(&kv).is_none());
+    assert!(rt; unpin_and_prune(&mut kv, 1) && is_bare(&kv));
     Ok(())
 }
 
@@ -202,45 +208,97 @@ fn drops_what_no_pin_sees(rt: HostRuntime) -> Result<(), Fail> {
 fn a_pinned_map_stays_where_a_prune_is_due(rt: HostRuntime) -> Result<(), Fail> {
     let mut kv = removed(rt.alloc())?;
     kv.prune_when_due();
-    assert!(rt; sees(&kv, 1, 7, (5, 1))? && sees(&kv, 2, 7, (0, 2))?);
+    assert!(rt; sees_both(&kv));
     Ok(())
+}
+
+/// Whether a store shows its seed, also where changes do not fit.
+fn is_seeded(alloc: Global, kv: &mut Counts) -> Result<bool, OutOfMemory> {
+    let edits = deltas(alloc, &EDITS)?;
+    Ok(
+        kv.number() == 5
+            && sees(kv, 5, 3, (60, 5))
+            && unfit(kv, &edits) == Some(3)
+            && keeps(kv, 4, &[]),
+    )
 }
 
 #[test]
 fn starts_with_a_seed(rt: HostRuntime) -> Result<(), Fail> {
     let mut kv = seeded(rt.alloc(), 5, 3, 60)?;
-    assert!(rt; kv.number() == 5 && sees(&kv, 5, 3, (60, 5))?);
-    assert!(rt; unfit(&mut kv, &edits(rt.alloc())?) == Some(3));
-    assert!(rt; keeps(&kv, 4, &[]));
+    assert!(rt; is_seeded(rt.alloc(), &mut kv)?);
     Ok(())
+}
+
+/// Leaves the first `n` of the changes.
+fn shorten(edits: &mut Edits, n: usize) -> bool {
+    if n > edits.len() {
+        return false;
+    }
+    edits.shorten(n);
+    true
 }
 
 #[test]
 fn changes_are_shortened(rt: HostRuntime) -> Result<(), Fail> {
-    let edits = edits(rt.alloc())?;
-    assert!(rt; edits.len() == 3);
-    assert!(rt; is_one(&first(edits, 1)?));
+    let mut edits = deltas(rt.alloc(), &EDITS)?;
+    assert!(rt; edits.len() == 3 && shorten(&mut edits, 1) && is_one(&edits));
     Ok(())
 }
 
-/// Sets of a further key, a removal of the key 3, and calls that leave the pins of 5 as they are.
-fn calls(alloc: Global) -> Result<Vec<Call<Name, Count>>, OutOfMemory> {
-    let mut calls = Vec::new(alloc);
-    calls.push(Call::Reserve(deltas(alloc, &[(9, 1)])?))?;
-    calls.push(Call::Install(deltas(alloc, &[(3, 0)])?))?;
+/// Makes these calls, of which none takes the last pin of `n`.
+fn run_all(kv: &mut Counts, calls: &[Call<Name, Count>], n: u64) -> bool {
+    if !kv.is_pinned(n) {
+        return false;
+    }
+    run(kv, calls, n).is_ok()
+}
+
+/// Makes one list of changes ready, installs the other, and leaves the pins of 5 as they are.
+fn put_calls(
+    calls: &mut Vec<Call<Name, Count>>,
+    reserved: Edits,
+    installed: Edits,
+) -> Result<(), Fail> {
+    calls.push(Call::Reserve(reserved))?;
+    calls.push(Call::Install(installed))?;
     calls.push(Call::Pin(5))?;
     calls.push(Call::Unpin(5))?;
     calls.push(Call::Prune)?;
-    Ok(calls)
+    Ok(())
+}
+
+/// Puts calls that make ready a set of a further key, and remove the key 3.
+fn put_all(alloc: Global, calls: &mut Vec<Call<Name, Count>>) -> Result<(), Fail> {
+    let set = deltas(alloc, &[(9, 1)])?;
+    let removal = deltas(alloc, &[(3, 0)])?;
+    put_calls(calls, set, removal)
+}
+
+/// Makes the calls, which change nothing of a map pinned at 5.
+fn call_all(alloc: Global, kv: &mut Counts) -> Result<bool, Fail> {
+    let mut calls = Vec::new(alloc);
+    put_all(alloc, &mut calls)?;
+    Ok(run_all(kv, calls.as_slice(), 5))
+}
+
+/// Whether the pinned map at 5 is as it was, and the one at 6 has neither key.
+fn keeps_five(kv: &Counts) -> bool {
+    is_pinned_once(kv, 5)
+        && kv.number() == 6
+        && sees(kv, 5, 3, (60, 5))
+        && sees(kv, 6, 3, (0, 6))
+        && keeps(kv, 9, &[])
+}
+
+fn keeps_over_calls(alloc: Global, kv: &mut Counts) -> Result<bool, Fail> {
+    pin(kv, 5)?;
+    Ok(call_all(alloc, kv)? && keeps_five(kv))
 }
 
 #[test]
 fn keeps_a_pinned_map_over_calls(rt: HostRuntime) -> Result<(), Fail> {
     let mut kv = seeded(rt.alloc(), 5, 3, 60)?;
-    pin(&mut kv, 5)?;
-    run_all(&mut kv, calls(rt.alloc())?.as_slice(), 5)?;
-    assert!(rt; is_pinned_once(&kv, 5) && kv.number() == 6);
-    assert!(rt; sees(&kv, 5, 3, (60, 5))? && sees(&kv, 6, 3, (0, 6))?);
-    assert!(rt; keeps(&kv, 9, &[]));
+    assert!(rt; keeps_over_calls(rt.alloc(), &mut kv)?);
     Ok(())
 }

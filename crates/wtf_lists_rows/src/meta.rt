@@ -3,6 +3,7 @@
 use crate::parts::{inode, pieces};
 use std::alloc::Global;
 use std::test::Fail;
+use wtf_base::OutOfMemory;
 use wtf_meta::{Handle, Session};
 use wtf_model::limits::{MAX_HANDLES, MAX_SLICES};
 use wtf_path::Path;
@@ -77,39 +78,53 @@ fn keep(alloc: Global, session: &mut Session, label: u8) -> Result<(), Fail> {
     Ok(())
 }
 
-/// A session with a handle of /a at 7 under 15, and a slice under 3.
+/// Puts a handle of /a at 7 under 15, and a slice under 3.
+fn fill(alloc: Global, session: &mut Session) -> Result<(), Fail> {
+    open(alloc, session, 15, b"/a", 7)?;
+    keep(alloc, session, 3)
+}
+
+/// A session with that handle and that slice.
 fn filled(alloc: Global) -> Result<Session, Fail> {
     let mut session = Session::new(alloc)?;
-    open(alloc, &mut session, 15, b"/a", 7)?;
-    keep(alloc, &mut session, 3)?;
+    fill(alloc, &mut session)?;
     Ok(session)
+}
+
+/// Whether the handle and the slice stand under their labels.
+fn is_filled(session: &Session) -> bool {
+    shows(session, 15, Some(7), None) && shows(session, 3, None, Some(1))
 }
 
 #[test]
 fn each_label_stands_alone(rt: HostRuntime) -> Result<(), Fail> {
     let session = filled(rt.alloc())?;
-    let rows = [(15, Some(7), None), (0, None, None), (3, None, Some(1))];
-    for (label, off, pieces) in rows {
-        assert!(rt; shows(&session, label, off, pieces), "of {label}");
-    }
+    assert!(rt; is_filled(&session) && shows(&session, 0, None, None));
     Ok(())
+}
+
+/// Whether a session that is filled holds /a and not /b, and a new one no /a.
+fn holds_its_own(alloc: Global, session: &Session) -> Result<bool, Fail> {
+    Ok(holds(alloc, session, b"/a")? && !holds(alloc, session, b"/b")? && !holds_new(alloc, b"/a")?)
 }
 
 #[test]
 fn a_path_is_held_by_its_handle(rt: HostRuntime) -> Result<(), Fail> {
     let session = filled(rt.alloc())?;
-    assert!(rt; !holds_new(rt.alloc(), b"/a")?);
-    assert!(rt; holds(rt.alloc(), &session, b"/a")?);
-    assert!(rt; !holds(rt.alloc(), &session, b"/b")?);
+    assert!(rt; holds_its_own(rt.alloc(), &session)?);
     Ok(())
+}
+
+/// Whether a copy stays filled where the handle of the session ends.
+fn copy_stays(alloc: Global, session: &mut Session) -> Result<bool, OutOfMemory> {
+    let copy = session.copy(alloc)?;
+    end(session, 15);
+    Ok(is_filled(&copy) && shows(session, 15, None, None))
 }
 
 #[test]
 fn a_copy_stays_as_it_was(rt: HostRuntime) -> Result<(), Fail> {
     let mut session = filled(rt.alloc())?;
-    let copy = session.copy(rt.alloc())?;
-    end(&mut session, 15);
-    assert!(rt; shows(&copy, 15, Some(7), None) && shows(&copy, 3, None, Some(1)));
-    assert!(rt; shows(&session, 15, None, None));
+    assert!(rt; copy_stays(rt.alloc(), &mut session)?);
     Ok(())
 }

@@ -1,16 +1,16 @@
 //! Attempts on a store of numbers under small keys: the one that read what moved conflicts, the one
 //! that only peeked does not.
 
-ghost use Rattle.std.specs.Prelude.{◌≡◌, [], ◌∷◌, IfOk};
+ghost use Rattle.std.specs.Prelude.{◌≡◌, [], ◌∷◌, IfOk, OnOk};
 ghost use Rattle.std.specs.Option.{option_copied};
 ghost use Rattle.wtf_kv.specs.Edits.{fits};
 
 use crate::counts::{Count, Counts, Name, number};
-use crate::kv::{deltas, install, pin};
+use crate::kv::store;
 use std::alloc::Global;
 use std::test::Fail;
 use wtf_base::OutOfMemory;
-use wtf_kv::{Cell, Change, Kv};
+use wtf_kv::{Cell, Change};
 use wtf_occ::{Attempt, Mark, Tried};
 
 type Counting = Attempt<Name, Count>;
@@ -19,6 +19,9 @@ type Counting = Attempt<Name, Count>;
 /// seen and the one that is there now.
 type Ended = Result<u64, (u64, u64, u64)>;
 
+/// The key that is read and changed.
+const SEVEN: Name = Name { id: 7 };
+
 fn outcome_of(tried: Tried<Name>) -> Ended {
     match tried {
         Tried::Installed(n) => Ok(n),
@@ -26,12 +29,22 @@ fn outcome_of(tried: Tried<Name>) -> Ended {
     }
 }
 
-/// A store in which install 1 set key 7 to a number; 1 is pinned.
-fn store(alloc: Global, n: u64) -> Result<Counts, Fail> {
-    let mut kv: Counts = Kv::new(alloc)?;
-    install(&mut kv, &deltas(alloc, &[(7, n)])?)?;
-    pin(&mut kv, 1)?;
-    Ok(kv)
+/// Reads key 7, behind another one that is recorded twice, or only peeks.
+fn look(attempt: &mut Counting, kv: &Counts, reads: bool) -> Result<(), Fail>
+    ensures { OnOk result ((attempt.new.base ≡ attempt.old.base) ×
+        (attempt.new.changes ≡ attempt.old.changes)) }
+{
+    if !kv.is_pinned(attempt.base()) {
+        return Err("the base is not pinned".into());
+    }
+    if reads {
+        attempt.record(&Name { id: 3 })?;
+        attempt.record(&Name { id: 3 })?;
+        attempt.read(kv, &SEVEN)?;
+    } else {
+        attempt.peek(kv, &SEVEN)?;
+    }
+    Ok(())
 }
 
 /// An attempt from base 1 that reads key 7, or only peeks, and pushes to it. What its install has to know of
@@ -40,18 +53,8 @@ fn pushing(alloc: Global, kv: &Counts, reads: bool) -> Result<Counting, Fail>
     ensures { IfOk result (λ a. (a.base ≡ 1) ×
         (a.changes ≡ Change.Delta (record { id = 7 }) 3 ∷ [])) }
 {
-    if !kv.is_pinned(1) {
-        return Err("1 is not pinned".into());
-    }
     let mut attempt = Attempt::new(alloc, 1)?;
-    if reads {
-        // The key that moves stands behind one that is recorded twice.
-        attempt.record(&Name { id: 3 })?;
-        attempt.record(&Name { id: 3 })?;
-        attempt.read(kv, &Name { id: 7 })?;
-    } else {
-        attempt.peek(kv, &Name { id: 7 })?;
-    }
+    look(&mut attempt, kv, reads)?;
     attempt.delta(Name { id: 7 }, 3)?;
     Ok(attempt)
 }
@@ -66,29 +69,28 @@ fn fits_three(value: Option<&Count>) -> bool
     }
 }
 
-/// Installs a push of 3 to key 7.
-fn tried(kv: &mut Counts, attempt: &mut Counting) -> Result<Ended, Fail>
+/// Installs a push of 3 to key 7: whether it ends so.
+fn ends(kv: &mut Counts, attempt: &mut Counting, want: Ended) -> bool
     requires base { attempt.old.base ≡ 1 }
     requires changes { attempt.old.changes ≡ Change.Delta (record { id = 7 }) 3 ∷ [] }
 {
-    if kv.number() >= 1000 {
-        return Err("no number is left".into());
-    }
-    if !kv.is_pinned(1) {
-        return Err("1 is not pinned".into());
+    if kv.number() >= 1000 || !kv.is_pinned(1) {
+        return false;
     }
     if !fits_three(kv.read_at(1, &Name { id: 7 })) {
-        return Err("the push does not fit".into());
+        return false;
     }
-    Ok(outcome_of(attempt.install(kv)?))
+    match attempt.install(kv) {
+        Ok(tried) => outcome_of(tried) == want,
+        Err(_) => false,
+    }
 }
 
 /// Whether two attempts from base 1 that push 3 to key 7, one after the other, install at 2 and end so.
 fn two(alloc: Global, kv: &mut Counts, reads: bool, want: Ended) -> Result<bool, Fail> {
     let mut first = pushing(alloc, kv, reads)?;
     let mut second = pushing(alloc, kv, reads)?;
-    let one = tried(kv, &mut first)?;
-    Ok(one == Ok(2) && tried(kv, &mut second)? == want)
+    Ok(ends(kv, &mut first, Ok(2)) && ends(kv, &mut second, want))
 }
 
 /// Pins the number, and installs an attempt from it that removes the keys 1 to 9.
@@ -108,131 +110,136 @@ fn cut_all(alloc: Global, kv: &mut Counts) -> Result<Ended, Fail> {
 
 /// Whether the store is at a number, with this value of key 7; 0 stands for none.
 fn is_at(kv: &Counts, n: u64, value: u64) -> bool {
-    kv.number() == n && number(kv.read_at(kv.number(), &Name { id: 7 })) == value
+    kv.number() == n && number(kv.read_at(kv.number(), &SEVEN)) == value
+}
+
+/// Whether the second of two attempts on a store conflicts where the first moved the key.
+fn conflicts(alloc: Global, n: u64, reads: bool) -> Result<bool, Fail> {
+    let mut kv = store(alloc, n)?;
+    two(alloc, &mut kv, reads, Err((7, 1, 2)))
 }
 
 #[test]
 fn conflicts_where_a_key_moved(rt: HostRuntime) -> Result<(), Fail> {
     // The second read a key that moved, or its push fits no longer.
-    for (n, reads) in [(50, true), (60, false)] {
-        let mut kv = store(rt.alloc(), n)?;
-        assert!(rt;
-            two(rt.alloc(), &mut kv, reads, Err((7, 1, 2)))?,
-            "from {n}"
-        );
-    }
+    assert!(rt; conflicts(rt.alloc(), 50, true)? && conflicts(rt.alloc(), 60, false)?);
     Ok(())
+}
+
+/// Whether two pushes to the 50 of a store are installed, and then a removal.
+fn installs(alloc: Global, kv: &mut Counts) -> Result<bool, Fail> {
+    let pushed = two(alloc, kv, false, Ok(3))? && is_at(kv, 3, 56);
+    Ok(pushed && cut_all(alloc, kv)? == Ok(4) && is_at(kv, 4, 0))
 }
 
 #[test]
 fn installs_what_no_read_forbids(rt: HostRuntime) -> Result<(), Fail> {
     let mut kv = store(rt.alloc(), 50)?;
-    assert!(rt; two(rt.alloc(), &mut kv, false, Ok(3))?);
-    assert!(rt; is_at(&kv, 3, 56));
-    assert!(rt; cut_all(rt.alloc(), &mut kv)? == Ok(4));
-    assert!(rt; is_at(&kv, 4, 0));
+    assert!(rt; installs(rt.alloc(), &mut kv)?);
     Ok(())
 }
 
-/// What an attempt reads at key 7; 0 stands for no value.
-fn read(attempt: &mut Counting, kv: &Counts) -> Result<u64, Fail> {
+/// Whether an attempt reads this at key 7; 0 stands for no value.
+fn reads(attempt: &mut Counting, kv: &Counts, value: u64) -> Result<bool, OutOfMemory> {
     if !kv.is_pinned(attempt.base()) {
-        return Err("the base is not pinned".into());
+        return Ok(false);
     }
-    Ok(number(attempt.read(kv, &Name { id: 7 })?.as_ref()))
-}
-
-/// What an attempt shows at key 7; 0 stands for no value.
-fn peek(attempt: &Counting, kv: &Counts) -> Result<u64, Fail> {
-    if !kv.is_pinned(attempt.base()) {
-        return Err("the base is not pinned".into());
-    }
-    Ok(number(attempt.peek(kv, &Name { id: 7 })?.as_ref()))
-}
-
-/// Settles key 7.
-fn settle(attempt: &mut Counting, kv: &Counts) -> Result<(), Fail> {
-    if !kv.is_pinned(attempt.base()) {
-        return Err("the base is not pinned".into());
-    }
-    attempt.settle(kv, &Name { id: 7 })?;
-    Ok(())
+    let read = attempt.read(kv, &SEVEN)?;
+    Ok(number(read.as_ref()) == value)
 }
 
 /// Whether an attempt shows this at key 7, before and after it is settled.
-fn shows(attempt: &mut Counting, kv: &Counts, value: u64) -> Result<bool, Fail> {
-    let before = peek(attempt, kv)?;
-    settle(attempt, kv)?;
-    Ok(before == value && peek(attempt, kv)? == value)
-}
-
-/// Pushes to key 7.
-fn push(attempt: &mut Counting, by: u64) -> Result<(), OutOfMemory> {
-    attempt.delta(Name { id: 7 }, by)
+fn shows(attempt: &mut Counting, kv: &Counts, value: u64) -> Result<bool, OutOfMemory> {
+    if !kv.is_pinned(attempt.base()) {
+        return Ok(false);
+    }
+    let before = attempt.peek(kv, &SEVEN)?;
+    attempt.settle(kv, &SEVEN)?;
+    let after = attempt.peek(kv, &SEVEN)?;
+    Ok(number(before.as_ref()) == value && number(after.as_ref()) == value)
 }
 
 /// Removes key 7.
 fn cut(attempt: &mut Counting) -> Result<(), OutOfMemory> {
-    attempt.cut_range(Name { id: 7 }, Name { id: 8 })
+    attempt.cut_range(SEVEN, Name { id: 8 })
 }
 
 /// Pushes to key 7, removes it, and pushes 5 to it.
 fn change(attempt: &mut Counting) -> Result<(), OutOfMemory> {
-    push(attempt, 4)?;
+    attempt.delta(SEVEN, 4)?;
     cut(attempt)?;
-    push(attempt, 5)
+    attempt.delta(SEVEN, 5)
 }
 
 /// Goes back to a mark.
-fn go_back(attempt: &mut Counting, mark: Mark) -> Result<(), Fail> {
+fn go_back(attempt: &mut Counting, mark: Mark) -> bool {
     let now = attempt.mark();
-    if mark.reads > now.reads {
-        return Err("fewer keys are recorded".into());
-    }
-    if mark.changes > now.changes {
-        return Err("there are fewer changes".into());
+    if mark.reads > now.reads || mark.changes > now.changes {
+        return false;
     }
     attempt.rewind(mark);
-    Ok(())
+    true
+}
+
+/// Whether an attempt that pushed 3 to 50 shows a change, and goes back to where it was.
+fn is_back(attempt: &mut Counting, kv: &Counts) -> Result<bool, OutOfMemory> {
+    let mark = attempt.mark();
+    change(attempt)?;
+    let changed = mark.reads == 3 && mark.changes == 1 && shows(attempt, kv, 5)?;
+    Ok(changed && go_back(attempt, mark) && shows(attempt, kv, 53)?)
+}
+
+fn goes_back(alloc: Global, kv: &Counts) -> Result<bool, Fail> {
+    let mut attempt = pushing(alloc, kv, true)?;
+    Ok(is_back(&mut attempt, kv)?)
 }
 
 #[test]
 fn goes_back_to_a_mark(rt: HostRuntime) -> Result<(), Fail> {
     let kv = store(rt.alloc(), 50)?;
-    let mut attempt = pushing(rt.alloc(), &kv, true)?;
-    let mark = attempt.mark();
-    assert!(rt; mark.reads == 3 && mark.changes == 1);
-    change(&mut attempt)?;
-    assert!(rt; shows(&mut attempt, &kv, 5)?);
-    go_back(&mut attempt, mark)?;
-    assert!(rt; shows(&mut attempt, &kv, 53)?);
+    assert!(rt; goes_back(rt.alloc(), &kv)?);
     Ok(())
 }
 
 /// Whether a push of 4 shows and goes again, and a push of 1 makes `n` of the key.
-fn steps(attempt: &mut Counting, kv: &Counts, n: u64) -> Result<bool, Fail> {
+fn steps(attempt: &mut Counting, kv: &Counts, n: u64) -> Result<bool, OutOfMemory> {
     let mark = attempt.mark();
-    push(attempt, 4)?;
-    let far = read(attempt, kv)?;
-    go_back(attempt, mark)?;
-    push(attempt, 1)?;
-    Ok(far == n.saturating_add(3) && read(attempt, kv)? == n)
+    attempt.delta(SEVEN, 4)?;
+    let far = reads(attempt, kv, n.saturating_add(3))? && go_back(attempt, mark);
+    attempt.delta(SEVEN, 1)?;
+    Ok(far && reads(attempt, kv, n)?)
 }
 
-/// What an attempt reads at key 7 from a store that has 50 there.
-fn read_fifty(alloc: Global, attempt: &mut Counting) -> Result<u64, Fail> {
-    read(attempt, &store(alloc, 50)?)
+fn step_all(attempt: &mut Counting, kv: &Counts) -> Result<bool, OutOfMemory> {
+    for n in 21..30 {
+        if !steps(attempt, kv, n)? {
+            return Ok(false);
+        }
+    }
+    Ok(true)
+}
+
+/// Whether an attempt with nine pushes of 1 reads 59 from a store that has 50.
+fn reads_other(alloc: Global, attempt: &mut Counting) -> Result<bool, Fail> {
+    let kv = store(alloc, 50)?;
+    Ok(reads(attempt, &kv, 59)?)
+}
+
+/// Whether an attempt on a store that has 20 reads each of its pushes, and its removal.
+fn reads_all(alloc: Global, attempt: &mut Counting, kv: &Counts) -> Result<bool, Fail> {
+    let pushed = step_all(attempt, kv)? && reads_other(alloc, attempt)?;
+    cut(attempt)?;
+    Ok(pushed && reads(attempt, kv, 0)?)
+}
+
+fn reads_changes(alloc: Global, kv: &Counts) -> Result<bool, Fail> {
+    let mut attempt = Attempt::new(alloc, 1)?;
+    reads_all(alloc, &mut attempt, kv)
 }
 
 #[test]
 fn a_read_sees_each_change(rt: HostRuntime) -> Result<(), Fail> {
     let kv = store(rt.alloc(), 20)?;
-    let mut attempt = Attempt::new(rt.alloc(), 1)?;
-    for n in 21..30 {
-        assert!(rt; steps(&mut attempt, &kv, n)?, "to {n}");
-    }
-    assert!(rt; read_fifty(rt.alloc(), &mut attempt)? == 59);
-    cut(&mut attempt)?;
-    assert!(rt; read(&mut attempt, &kv)? == 0);
+    assert!(rt; reads_changes(rt.alloc(), &kv)?);
     Ok(())
 }

@@ -1,18 +1,18 @@
-//! Slices, entries and pieces made from plain numbers.
+//! Slices, entries, lists and pieces made from plain numbers.
 
 use std::alloc::Global;
 use std::test::Fail;
 use wtf_base::{InodeId, OutOfMemory, Pointer, ServerId, Slice, TxId};
 use wtf_overlay::{Entry, Overlay, Part, Piece};
 
-/// An entry: its offset, where its bytes begin in file 0 of server 0 (none: zeros), and how many they are.
+/// An entry: its offset, where its bytes begin in file 3 of server 0 (none: zeros), and how many they are.
 pub(crate) type Row = (u32, Option<u64>, u32);
 
-/// The slice of the `len` bytes at `at`, in file 0 of server 0: A is the 6 bytes at 0, X the 2 at 6.
+/// The slice of the `len` bytes at `at`, in file 3 of server 0: A is the 6 bytes at 0, X the 2 at 6.
 pub(crate) fn slice(at: u64, len: u32) -> Option<Slice> {
     Slice::of(&[Pointer {
         server: ServerId(0),
-        file: 0,
+        file: 3,
         at,
         len,
     }])
@@ -42,16 +42,40 @@ pub(crate) fn entry(row: Row) -> Option<Entry> {
     }
 }
 
+/// Pushes the entry of a row.
+pub(crate) fn push(list: &mut Overlay, row: Row) -> Result<(), Fail> {
+    list.push(entry(row).ok_or("no entry")?)?;
+    Ok(())
+}
+
+fn push_all(list: &mut Overlay, rows: &[Row]) -> Result<(), Fail> {
+    for row in rows {
+        push(list, *row)?;
+    }
+    Ok(())
+}
+
 /// The list of the entries of some rows.
 pub(crate) fn list_of(alloc: Global, rows: &[Row]) -> Result<Overlay, Fail> {
     let mut list = Overlay::new(alloc)?;
-    for row in rows {
-        list.push(entry(*row).ok_or("no entry")?)?;
-    }
+    push_all(&mut list, rows)?;
     Ok(list)
 }
 
-/// Where the bytes of a part begin in file 0 of server 0.
+/// Whether a list holds the entries of these rows.
+pub(crate) fn holds(list: &Overlay, rows: &[Row]) -> bool {
+    for i in 0..list.len() {
+        let Some(row) = rows.get(i) else {
+            return false;
+        };
+        if entry(*row) != Some(list.get(i)) {
+            return false;
+        }
+    }
+    list.len() == rows.len()
+}
+
+/// Where the bytes of a part begin in file 3 of server 0.
 pub(crate) fn place(part: Part) -> Option<u64> {
     match part {
         Part::Zero => None,
@@ -59,14 +83,19 @@ pub(crate) fn place(part: Part) -> Option<u64> {
     }
 }
 
-/// Pieces of zeros, of so many bytes each.
-pub(crate) fn pieces(alloc: Global, lens: &[u64]) -> Result<Vec<Piece>, OutOfMemory> {
-    let mut pieces = Vec::new(alloc);
+fn put_all(pieces: &mut Vec<Piece>, lens: &[u64]) -> Result<(), OutOfMemory> {
     for len in lens {
         if *len > 0 {
             pieces.push(Piece::of(*len, Part::Zero))?;
         }
     }
+    Ok(())
+}
+
+/// Pieces of zeros, of so many bytes each.
+pub(crate) fn pieces(alloc: Global, lens: &[u64]) -> Result<Vec<Piece>, OutOfMemory> {
+    let mut pieces = Vec::new(alloc);
+    put_all(&mut pieces, lens)?;
     Ok(pieces)
 }
 

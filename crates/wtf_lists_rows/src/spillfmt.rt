@@ -1,9 +1,9 @@
 //! Lists as bytes: the worked row both ways, lists of two entries, and bytes that are no list.
 
+use crate::parts::{Row, holds, list_of};
 use std::alloc::Global;
 use std::test::Fail;
-use wtf_base::{Pointer, ServerId, Slice};
-use wtf_overlay::{Entry, Overlay, Part};
+use wtf_overlay::Overlay;
 use wtf_spillfmt::{ListError, decode, encode};
 
 /// The bytes of one entry: at offset 2, of length 4, on server 0, file 3, from offset 16 on.
@@ -25,13 +25,10 @@ const ZEROS: [u8; 17] = [
     0x57, 0x54, 0x46, 0x4c, 0, 0, 0, 1, 0, 0, 0, 2, 0, 0, 0, 4, 0,
 ];
 
-/// An entry in file 3 of server 0: its offset, its length, and where its bytes begin.
-type Row = (u32, u32, u64);
-
 /// Rows, the bytes of their list, and where it ends.
 const LISTS: [(&[Row], &[u8], u32); 3] = [
-    (&[(2, 4, 16)], &ONE, 6),
-    (&[(2, 4, 16), (6, 2, 24)], &TWO, 8),
+    (&[(2, Some(16), 4)], &ONE, 6),
+    (&[(2, Some(16), 4), (6, Some(24), 2)], &TWO, 8),
     (&[], &NONE, 0),
 ];
 
@@ -53,48 +50,21 @@ const CHANGES: [(usize, u8); 9] = [
 /// the end of it, or passes the end.
 const CHANGES_OF_TWO: [(usize, u8); 3] = [(47, 20), (31, 5), (35, 3)];
 
-fn entry((off, len, at): Row) -> Option<Entry> {
-    let slice = Slice::of(&[Pointer {
-        server: ServerId(0),
-        file: 3,
-        at,
-        len,
-    }])?;
-    let _end = off.checked_add(slice.len())?;
-    Some(Entry::of(off, slice.len(), Part::Held(slice)))
-}
-
-/// The list of the entries of some rows.
-fn list_of(alloc: Global, rows: &[Row]) -> Result<Overlay, Fail> {
-    let mut list = Overlay::new(alloc)?;
-    for row in rows {
-        list.push(entry(*row).ok_or("no entry")?)?;
-    }
-    Ok(list)
+/// Whether the compact list has these bytes.
+fn is_encoded(alloc: Global, list: &Overlay, bytes: &[u8]) -> Result<bool, Fail> {
+    let compact = list.compact()?;
+    Ok(encode(alloc, &compact)?.as_slice() == bytes)
 }
 
 /// Whether the compact list of these rows has these bytes.
 fn has_bytes(alloc: Global, rows: &[Row], bytes: &[u8]) -> Result<bool, Fail> {
-    let list = list_of(alloc, rows)?.compact()?;
-    Ok(encode(alloc, &list)?.as_slice() == bytes)
-}
-
-/// Whether a list is of these rows.
-fn is_list(list: &Overlay, rows: &[Row]) -> bool {
-    for i in 0..list.len() {
-        let Some(row) = rows.get(i) else {
-            return false;
-        };
-        if entry(*row) != Some(list.get(i)) {
-            return false;
-        }
-    }
-    list.len() == rows.len()
+    let list = list_of(alloc, rows)?;
+    is_encoded(alloc, &list, bytes)
 }
 
 /// Whether these bytes are the list of these rows.
 fn gives(alloc: Global, bytes: &[u8], region: u32, rows: &[Row]) -> Result<bool, ListError> {
-    Ok(is_list(&decode(alloc, bytes, region)?, rows))
+    Ok(holds(&decode(alloc, bytes, region)?, rows))
 }
 
 /// Whether these bytes are no list for a region of that size.
@@ -134,38 +104,65 @@ fn is_none_longer(alloc: Global, bytes: &[u8], region: u32) -> Result<bool, Fail
     Ok(is_no_list(alloc, longer.as_slice(), region))
 }
 
+/// Whether each list is written and read.
+fn go_both_ways(alloc: Global) -> Result<bool, Fail> {
+    for (rows, bytes, region) in &LISTS {
+        if !has_bytes(alloc, rows, bytes)? || !gives(alloc, bytes, *region, rows)? {
+            return Ok(false);
+        }
+    }
+    Ok(true)
+}
+
 #[test]
 fn lists_are_written_and_read(rt: HostRuntime) -> Result<(), Fail> {
-    for (rows, bytes, region) in LISTS {
-        assert!(rt; has_bytes(rt.alloc(), rows, bytes)?);
-        assert!(rt; gives(rt.alloc(), bytes, region, rows)?);
-    }
+    assert!(rt; go_both_ways(rt.alloc())?);
     Ok(())
+}
+
+/// Whether each list is none where a byte is cut off or left over.
+fn are_exact(alloc: Global) -> Result<bool, Fail> {
+    for (_, bytes, region) in &LISTS {
+        if !is_none_shorter(alloc, bytes, *region) || !is_none_longer(alloc, bytes, *region)? {
+            return Ok(false);
+        }
+    }
+    Ok(true)
 }
 
 #[test]
 fn what_is_cut_off_or_left_over_is_no_list(rt: HostRuntime) -> Result<(), Fail> {
-    for (_, bytes, region) in LISTS {
-        assert!(rt; is_none_shorter(rt.alloc(), bytes, region));
-        assert!(rt; is_none_longer(rt.alloc(), bytes, region)?);
-    }
+    assert!(rt; are_exact(rt.alloc())?);
     Ok(())
+}
+
+/// Whether the bytes are no list with any of these changes.
+fn is_none_with_any(
+    alloc: Global,
+    bytes: &[u8],
+    region: u32,
+    changes: &[(usize, u8)],
+) -> Result<bool, Fail> {
+    for change in changes {
+        if !is_none_with(alloc, bytes, region, *change)? {
+            return Ok(false);
+        }
+    }
+    Ok(true)
 }
 
 #[test]
 fn what_is_not_a_compact_list_is_no_list(rt: HostRuntime) -> Result<(), Fail> {
-    for change in CHANGES {
-        assert!(rt; is_none_with(rt.alloc(), &ONE, 6, change)?);
-    }
-    for change in CHANGES_OF_TWO {
-        assert!(rt; is_none_with(rt.alloc(), &TWO, 8, change)?);
-    }
+    let alloc = rt.alloc();
+    assert!(rt;
+        is_none_with_any(alloc, &ONE, 6, &CHANGES)?
+            && is_none_with_any(alloc, &TWO, 8, &CHANGES_OF_TWO)?
+    );
     Ok(())
 }
 
 #[test]
 fn zeros_and_what_passes_the_region_are_no_list(rt: HostRuntime) -> Result<(), Fail> {
-    assert!(rt; is_no_list(rt.alloc(), &ZEROS, 6));
-    assert!(rt; is_no_list(rt.alloc(), &ONE, 5));
+    assert!(rt; is_no_list(rt.alloc(), &ZEROS, 6) && is_no_list(rt.alloc(), &ONE, 5));
     Ok(())
 }

@@ -1,8 +1,8 @@
 //! The devices in memory, each call once.
 
-use crate::stores::store;
+use crate::stores::{shelf, store};
 use std::alloc::Global;
-use std::test::Fail;
+use wtf_base::OutOfMemory;
 use wtf_dev::{
     Failed, Keeper, MemKeeper, MemSink, MemSource, MemStore, Shelf, Sink, SliceStore, Source,
 };
@@ -26,31 +26,34 @@ fn frees_second(store: &mut MemStore) -> bool {
     store.length(FILE) >= 2 && store.punch(FILE, 1, 1) == Ok(())
 }
 
-fn syncs(store: &mut MemStore) -> bool {
-    store.sync() == Ok(())
+/// Whether a store keeps what it took when a call fails, and frees a part of it.
+fn keeps_old_bytes(store: &mut MemStore) -> bool {
+    appends(store, b"ab", Ok(0))
+        && appends(store, b"cd", Err(Failed))
+        && begins(store, b"ab")
+        && frees_second(store)
+        && store.sync() == Ok(())
+        && begins(store, b"a\0")
+        && store.short() == 0
 }
 
-fn short_of_store(store: &MemStore) -> u64 {
-    store.short()
+/// Whether a store whose call 1 fails does so.
+fn is_kept(alloc: Global) -> bool {
+    let Ok(mut store) = store(alloc, &[1]) else {
+        return false;
+    };
+    keeps_old_bytes(&mut store)
 }
 
 #[test]
-fn a_failed_append_keeps_old_bytes(rt: HostRuntime) -> Result<(), Fail> {
-    let mut store = store(rt.alloc(), &[1])?;
-    assert!(rt; appends(&mut store, b"ab", Ok(0)));
-    assert!(rt; appends(&mut store, b"cd", Err(Failed)));
-    assert!(rt; begins(&mut store, b"ab"));
-    assert!(rt; frees_second(&mut store));
-    assert!(rt; syncs(&mut store));
-    assert!(rt; begins(&mut store, b"a\0"));
-    assert!(rt; short_of_store(&store) == 0);
-    Ok(())
+fn a_failed_append_keeps_old_bytes(rt: HostRuntime) {
+    assert!(rt; is_kept(rt.alloc()));
 }
 
-/// A keeper of these bytes, whose calls with these numbers fail.
-fn keeper(alloc: Global, bytes: &[u8], fails: &[u64]) -> Result<MemKeeper, Fail> {
-    let bytes = Vec::from_slice(alloc, bytes)?;
-    Ok(MemKeeper::new(alloc, bytes, Vec::from_slice(alloc, fails)?))
+/// A keeper of these bytes, whose call 2 fails.
+fn keeper(alloc: Global, bytes: &[u8]) -> Result<MemKeeper, OutOfMemory> {
+    let fails = vec![in alloc; 2]?;
+    Ok(MemKeeper::new(alloc, Vec::from_slice(alloc, bytes)?, fails))
 }
 
 /// Whether these are the bytes that a keeper gives.
@@ -65,27 +68,26 @@ fn replaces(keeper: &mut MemKeeper, bytes: &[u8], want: Result<(), Failed>) -> b
     keeper.replace(bytes) == want
 }
 
-/// Whether a keeper holds these bytes, and found memory for all that it was handed.
-fn holds(keeper: &MemKeeper, bytes: &[u8]) -> bool {
-    keeper.held() == bytes && keeper.short() == 0
+/// Whether a keeper holds one image after another, and finds memory for all that it is handed.
+fn holds_in_turn(alloc: Global, keeper: &mut MemKeeper) -> bool {
+    loads(alloc, keeper, b"old")
+        && replaces(keeper, b"new", Ok(()))
+        && replaces(keeper, b"lost", Err(Failed))
+        && keeper.held() == b"new".as_slice()
+        && keeper.short() == 0
+}
+
+/// Whether a keeper whose call 2 fails does so.
+fn is_held(alloc: Global) -> bool {
+    let Ok(mut keeper) = keeper(alloc, b"old") else {
+        return false;
+    };
+    holds_in_turn(alloc, &mut keeper)
 }
 
 #[test]
-fn a_keeper_answers_its_bytes(rt: HostRuntime) -> Result<(), Fail> {
-    let mut keeper = keeper(rt.alloc(), b"old", &[2])?;
-    assert!(rt; loads(rt.alloc(), &mut keeper, b"old"));
-    assert!(rt; replaces(&mut keeper, b"new", Ok(())));
-    assert!(rt; replaces(&mut keeper, b"lost", Err(Failed)));
-    assert!(rt; holds(&keeper, b"new"));
-    Ok(())
-}
-
-/// A shelf of two stores that fail in no call.
-fn shelf(alloc: Global) -> Result<Shelf<MemStore>, Fail> {
-    let mut stores = Vec::new(alloc);
-    stores.push(store(alloc, &[])?)?;
-    stores.push(store(alloc, &[])?)?;
-    Ok(Shelf::new(alloc, stores))
+fn a_keeper_answers_its_bytes(rt: HostRuntime) {
+    assert!(rt; is_held(rt.alloc()));
 }
 
 /// Whether three bytes at the end of file 7 of the store of a server lie there from byte 0 on.
@@ -93,28 +95,28 @@ fn appends_on(shelf: &mut Shelf<MemStore>, server: u8) -> bool {
     server < shelf.len() && shelf.store(server).append(7, b"xyz") == Ok(0)
 }
 
-/// Whether this is the length of file 7 of the store of a server; `None` where there is no such server.
-fn has_length(shelf: &Shelf<MemStore>, server: u8, want: Option<u64>) -> bool {
-    if server >= shelf.len() {
-        return want.is_none();
-    }
-    want == Some(shelf.length(server, 7))
+/// Whether there are two stores, and these are the lengths of their files 7.
+fn has_lengths(shelf: &Shelf<MemStore>, first: u64, second: u64) -> bool {
+    shelf.len() == 2 && shelf.length(0, 7) == first && shelf.length(1, 7) == second
+}
+
+/// Whether the second of two stores has what was appended to it.
+fn has_its_stores(alloc: Global) -> bool {
+    let Some(mut shelf) = shelf(alloc, &[None, None]) else {
+        return false;
+    };
+    appends_on(&mut shelf, 1) && has_lengths(&shelf, 0, 3)
 }
 
 #[test]
-fn a_shelf_has_its_stores(rt: HostRuntime) -> Result<(), Fail> {
-    let mut shelf = shelf(rt.alloc())?;
-    assert!(rt; appends_on(&mut shelf, 1));
-    assert!(rt; has_length(&shelf, 0, Some(0)));
-    assert!(rt; has_length(&shelf, 1, Some(3)));
-    assert!(rt; has_length(&shelf, 2, None));
-    Ok(())
+fn a_shelf_has_its_stores(rt: HostRuntime) {
+    assert!(rt; has_its_stores(rt.alloc()));
 }
 
 /// A source of these bytes, whose call 1 fails.
-fn source(alloc: Global, bytes: &[u8]) -> Result<MemSource, Fail> {
-    let bytes = Vec::from_slice(alloc, bytes)?;
-    Ok(MemSource::new(alloc, bytes, vec![in alloc; 1]?))
+fn source(alloc: Global, bytes: &[u8]) -> Result<MemSource, OutOfMemory> {
+    let fails = vec![in alloc; 1]?;
+    Ok(MemSource::new(alloc, Vec::from_slice(alloc, bytes)?, fails))
 }
 
 /// Whether a source that is asked for three bytes gives these.
@@ -126,23 +128,25 @@ fn gives(source: &mut MemSource, want: &[u8]) -> bool {
     }
 }
 
-fn fails(source: &mut MemSource) -> bool {
-    source.read(&mut [0; 3]) == Err(Failed)
+/// Whether a source gives five bytes in order, whatever fails.
+fn gives_all(source: &mut MemSource) -> bool {
+    gives(source, b"abc")
+        && source.read(&mut [0; 3]) == Err(Failed)
+        && gives(source, b"de")
+        && gives(source, b"")
+}
+
+/// Whether a source whose call 1 fails does so.
+fn is_given(alloc: Global) -> bool {
+    let Ok(mut source) = source(alloc, b"abcde") else {
+        return false;
+    };
+    gives_all(&mut source)
 }
 
 #[test]
-fn a_source_gives_its_bytes_in_order(rt: HostRuntime) -> Result<(), Fail> {
-    let mut source = source(rt.alloc(), b"abcde")?;
-    assert!(rt; gives(&mut source, b"abc"));
-    assert!(rt; fails(&mut source));
-    assert!(rt; gives(&mut source, b"de"));
-    assert!(rt; gives(&mut source, b""));
-    Ok(())
-}
-
-/// A sink whose first call fails.
-fn sink(alloc: Global) -> Result<MemSink, Fail> {
-    Ok(MemSink::new(alloc, vec![in alloc; 0]?))
+fn a_source_gives_its_bytes_in_order(rt: HostRuntime) {
+    assert!(rt; is_given(rt.alloc()));
 }
 
 /// Whether a sink takes so many of these bytes, or fails.
@@ -150,17 +154,28 @@ fn takes(sink: &mut MemSink, bytes: &[u8], want: Result<usize, Failed>) -> bool 
     sink.write(bytes) == want
 }
 
+/// Whether a sink whose first call fails takes the bytes of the others, and finds memory for all of them.
+fn takes_in_order(sink: &mut MemSink) -> bool {
+    takes(sink, b"abc", Err(Failed))
+        && takes(sink, b"abc", Ok(3))
+        && takes(sink, b"de", Ok(2))
+        && has_taken(sink, b"abcde")
+}
+
 /// Whether a sink has these bytes, and found memory for all of them.
 fn has_taken(sink: &MemSink, bytes: &[u8]) -> bool {
     sink.taken() == bytes && sink.short() == 0
 }
 
+/// Whether a sink whose call 0 fails does so.
+fn is_taken(alloc: Global) -> bool {
+    let Ok(fails) = vec![in alloc; 0] else {
+        return false;
+    };
+    takes_in_order(&mut MemSink::new(alloc, fails))
+}
+
 #[test]
-fn a_sink_takes_bytes_in_order(rt: HostRuntime) -> Result<(), Fail> {
-    let mut sink = sink(rt.alloc())?;
-    assert!(rt; takes(&mut sink, b"abc", Err(Failed)));
-    assert!(rt; takes(&mut sink, b"abc", Ok(3)));
-    assert!(rt; takes(&mut sink, b"de", Ok(2)));
-    assert!(rt; has_taken(&sink, b"abcde"));
-    Ok(())
+fn a_sink_takes_bytes_in_order(rt: HostRuntime) {
+    assert!(rt; is_taken(rt.alloc()));
 }

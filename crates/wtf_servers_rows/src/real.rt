@@ -5,8 +5,6 @@ use std::cell::RefCell;
 use std::fs::{self, File, OpenOptions};
 use std::io::{self, Read, Write};
 use std::os::unix::fs::symlink;
-use std::rc::Rc;
-use std::test::Fail;
 use std::{env, process};
 use wtf_dev::{Failed, Keeper, LoadFault, Sink, SliceStore, Source};
 use wtf_real::{
@@ -15,28 +13,43 @@ use wtf_real::{
 };
 
 /// What was written and when it was read, in order.
-type Log = Rc<RefCell<Vec<u8>>>;
+type Log = RefCell<Vec<u8>>;
 
-fn note(log: &RefCell<Vec<u8>>, bytes: &[u8]) -> io::Result<()> {
+fn new_log(alloc: Global) -> Log {
+    RefCell::new(Vec::new(alloc))
+}
+
+fn other() -> io::Error {
+    io::Error::from(io::ErrorKind::Other)
+}
+
+fn note(log: &Log, bytes: &[u8]) -> io::Result<()> {
     match log.try_borrow_mut() {
         Ok(mut all) => Ok(all.extend_from_slice(bytes)?),
-        Err(_) => Err(io::Error::from(io::ErrorKind::Other)),
+        Err(_) => Err(other()),
+    }
+}
+
+fn is_noted(log: &Log, wanted: &[u8]) -> bool {
+    match log.try_borrow() {
+        Ok(all) => all.as_slice() == wanted,
+        Err(_) => false,
     }
 }
 
 /// Gives one byte a call, so many of them, and then fails or is at its end.
 #[derive(Drop)]
-struct Slow {
-    log: Log,
+struct Slow<'a> {
+    log: &'a Log,
     left: u8,
     fails: bool,
 }
 
-impl Read for Slow {
+impl<'a> Read for Slow<'a> {
     fn read(&mut self, buf: &mut [u8]) -> io::Result<usize> {
-        note(&self.log, b"|")?;
+        note(self.log, b"|")?;
         if self.left == 0 && self.fails {
-            return Err(io::Error::from(io::ErrorKind::Other));
+            return Err(other());
         }
         if self.left == 0 || buf.is_empty() {
             return Ok(0);
@@ -48,15 +61,15 @@ impl Read for Slow {
 
 /// Takes at most so many bytes a call.
 #[derive(Drop)]
-struct Short {
-    log: Log,
+struct Short<'a> {
+    log: &'a Log,
     most: usize,
 }
 
-impl Write for Short {
+impl<'a> Write for Short<'a> {
     fn write(&mut self, buf: &[u8]) -> io::Result<usize> {
         let n = buf.len().min(self.most);
-        note(&self.log, &buf[..n])?;
+        note(self.log, &buf[..n])?;
         Ok(n)
     }
 
@@ -65,44 +78,26 @@ impl Write for Short {
     }
 }
 
-fn new_log(alloc: Global) -> Result<Log, Fail> {
-    Ok(Rc::new(alloc, RefCell::new(Vec::new(alloc)))?)
-}
-
-fn is_noted(log: &Log, wanted: &[u8]) -> bool {
-    match log.try_borrow() {
-        Ok(all) => all.as_slice() == wanted,
-        Err(_) => false,
-    }
-}
-
-fn slow_reader(log: &Log, left: u8, fails: bool) -> Result<Slow, Fail> {
-    Ok(Slow {
-        log: log.clone()?,
-        left,
-        fails,
-    })
-}
-
 /// A source of so many bytes beside a sink that takes at most so many a call.
-fn short_streams(
+fn short_streams<'a>(
     alloc: Global,
-    log: &Log,
-    from: Slow,
+    from: Slow<'a>,
     most: usize,
-) -> Result<(InSource<Slow, Short>, OutSink<Short>), Fail> {
-    let to = Short {
-        log: log.clone()?,
-        most,
-    };
-    Ok(streams(alloc, from, to)?)
+) -> Result<(InSource<Slow<'a>, Short<'a>>, OutSink<Short<'a>>), OpenFault> {
+    let log = from.log;
+    streams(alloc, from, Short { log, most })
 }
 
 /// A sink on a full disk, whose source notes when it is asked.
-fn full(rt: &HostRuntime, log: &Log) -> Result<OutSink<File>, Fail> {
-    let to = OpenOptions::new().write(true).open(rt, "/dev/full")?;
-    let (_, sink) = streams(rt.alloc(), slow_reader(log, 1, false)?, to)?;
-    Ok(sink)
+fn full(rt: &HostRuntime, log: &Log) -> Option<OutSink<File>> {
+    let to = OpenOptions::new().write(true).open(rt, "/dev/full").ok()?;
+    let from = Slow {
+        log,
+        left: 1,
+        fails: false,
+    };
+    let (_, sink) = streams(rt.alloc(), from, to).ok()?;
+    Some(sink)
 }
 
 /// Whether a sink takes so many of these bytes, or fails.
@@ -111,7 +106,7 @@ fn says<W: Write + Drop>(sink: &mut OutSink<W>, bytes: &[u8], want: Result<usize
 }
 
 /// Whether a source that is asked for four bytes gives so many, or fails.
-fn hears(source: &mut InSource<Slow, Short>, want: Result<usize, Failed>) -> bool {
+fn hears(source: &mut InSource<Slow<'_>, Short<'_>>, want: Result<usize, Failed>) -> bool {
     source.read(&mut [0u8; 4]) == want
 }
 
@@ -120,7 +115,7 @@ fn ends<W: Write + Drop>(sink: &mut OutSink<W>, want: Result<(), Failed>) -> boo
 }
 
 /// Whether bytes are said, two are heard, and one more is said.
-fn begins(source: &mut InSource<Slow, Short>, sink: &mut OutSink<Short>) -> bool {
+fn begins(source: &mut InSource<Slow<'_>, Short<'_>>, sink: &mut OutSink<Short<'_>>) -> bool {
     says(sink, b"abcd", Ok(4))
         && says(sink, b"e", Ok(1))
         && hears(source, Ok(1))
@@ -130,57 +125,96 @@ fn begins(source: &mut InSource<Slow, Short>, sink: &mut OutSink<Short>) -> bool
 
 /// Whether this is heard last, one more byte is said, and the sink ends twice.
 fn closes(
-    source: &mut InSource<Slow, Short>,
-    sink: &mut OutSink<Short>,
+    source: &mut InSource<Slow<'_>, Short<'_>>,
+    sink: &mut OutSink<Short<'_>>,
     last: Result<usize, Failed>,
 ) -> bool {
     hears(source, last) && says(sink, b"g", Ok(1)) && ends(sink, Ok(())) && ends(sink, Ok(()))
 }
 
 /// Whether answers are out before the next read where this is heard last.
-fn are_in_order(alloc: Global, fails: bool, last: Result<usize, Failed>) -> Result<bool, Fail> {
-    let log = new_log(alloc)?;
-    let (mut source, mut sink) = short_streams(alloc, &log, slow_reader(&log, 2, fails)?, 3)?;
-    let begun = begins(&mut source, &mut sink);
-    let closed = closes(&mut source, &mut sink, last);
-    Ok(begun && closed && is_noted(&log, b"abcde||f|g"))
+fn are_in_order(alloc: Global, log: &Log, fails: bool, last: Result<usize, Failed>) -> bool {
+    let from = Slow {
+        log,
+        left: 2,
+        fails,
+    };
+    let Ok((mut source, mut sink)) = short_streams(alloc, from, 3) else {
+        return false;
+    };
+    begins(&mut source, &mut sink)
+        && closes(&mut source, &mut sink, last)
+        && is_noted(log, b"abcde||f|g")
+}
+
+/// Whether answers are out before the next read, be there an end or a failure.
+fn are_out(alloc: Global) -> bool {
+    are_in_order(alloc, &new_log(alloc), false, Ok(0))
+        && are_in_order(alloc, &new_log(alloc), true, Err(Failed))
 }
 
 /// What is written is held back until the next read, and the end.
 #[test]
-fn answers_are_out_before_the_next_read(rt: HostRuntime) -> Result<(), Fail> {
-    assert!(rt; are_in_order(rt.alloc(), false, Ok(0))?);
-    assert!(rt; are_in_order(rt.alloc(), true, Err(Failed))?);
-    Ok(())
+fn answers_are_out_before_the_next_read(rt: HostRuntime) {
+    assert!(rt; are_out(rt.alloc()));
+}
+
+/// Whether what is not out is told, by a read and by what follows it.
+fn tells_each_failure(
+    source: &mut InSource<Slow<'_>, Short<'_>>,
+    sink: &mut OutSink<Short<'_>>,
+) -> bool {
+    says(sink, b"ab", Ok(2))
+        && hears(source, Err(Failed))
+        && says(sink, b"cd", Err(Failed))
+        && ends(sink, Err(Failed))
+}
+
+/// Whether a writer that takes nothing is told, and nothing is read.
+fn is_told(alloc: Global, log: &Log) -> bool {
+    let from = Slow {
+        log,
+        left: 1,
+        fails: false,
+    };
+    let Ok((mut source, mut sink)) = short_streams(alloc, from, 0) else {
+        return false;
+    };
+    tells_each_failure(&mut source, &mut sink) && is_noted(log, b"")
 }
 
 /// A writer that takes nothing: what is not out is a failure of the sink, also where a read comes first, and nothing is read.
 #[test]
-fn a_write_that_fails_is_told(rt: HostRuntime) -> Result<(), Fail> {
-    let log = new_log(rt.alloc())?;
-    let (mut source, mut sink) = short_streams(rt.alloc(), &log, slow_reader(&log, 1, false)?, 0)?;
-    assert!(rt; says(&mut sink, b"ab", Ok(2)));
-    assert!(rt; hears(&mut source, Err(Failed)));
-    assert!(rt; says(&mut sink, b"cd", Err(Failed)));
-    assert!(rt; ends(&mut sink, Err(Failed)));
-    assert!(rt; is_noted(&log, b""));
-    Ok(())
+fn a_write_that_fails_is_told(rt: HostRuntime) {
+    assert!(rt; is_told(rt.alloc(), &new_log(rt.alloc())));
+}
+
+/// Whether so many bytes are held back, one more is not, and nothing is read.
+fn overflows(rt: &HostRuntime, log: &Log, much: &[u8]) -> bool {
+    let Some(mut sink) = full(rt, log) else {
+        return false;
+    };
+    says(&mut sink, much, Ok(65_536))
+        && says(&mut sink, b"a", Err(Failed))
+        && ends(&mut sink, Err(Failed))
+        && is_noted(log, b"")
+}
+
+/// Whether more bytes than a sink on a full disk holds back are told.
+fn full_disk_is_told(rt: &HostRuntime) -> bool {
+    let Ok(much) = vec![in rt.alloc(); b'a'; 65_537] else {
+        return false;
+    };
+    overflows(rt, &new_log(rt.alloc()), much.as_slice())
 }
 
 #[test]
-fn a_full_disk_is_told(rt: HostRuntime) -> Result<(), Fail> {
-    let log = new_log(rt.alloc())?;
-    let mut sink = full(&rt, &log)?;
-    let much = vec![in rt.alloc(); b'a'; 65_537]?;
-    assert!(rt; says(&mut sink, much.as_slice(), Ok(65_536)));
-    assert!(rt; says(&mut sink, &much[65_536..], Err(Failed)));
-    assert!(rt; ends(&mut sink, Err(Failed)));
-    assert!(rt; is_noted(&log, b""));
-    Ok(())
+fn a_full_disk_is_told(rt: HostRuntime) {
+    assert!(rt; full_disk_is_told(&rt));
 }
 
 /// The path of a folder of the test's own, where nothing stands.
-fn fresh(rt: &HostRuntime, name: &str) -> Result<String, Fail> {
+fn fresh(rt: &HostRuntime, name: &str) -> io::Result<String> {
     let top = env::temp_dir(rt)?;
     let id = process::id(rt.process());
     let path = format!(in rt.alloc(); "{}/wtf_real_{id}_{name}", top.as_str())?;
@@ -188,47 +222,46 @@ fn fresh(rt: &HostRuntime, name: &str) -> Result<String, Fail> {
     Ok(path)
 }
 
-/// Takes away the folder of a test.
-fn clear(rt: &HostRuntime, path: &str) -> Result<(), Fail> {
-    Ok(fs::remove_dir_all(rt, path)?)
+/// Whether the folder of a test is taken away.
+fn clears(rt: &HostRuntime, path: &str) -> bool {
+    fs::remove_dir_all(rt, path).is_ok()
 }
 
 /// What lies at a path behind that of a folder.
-fn below(rt: &HostRuntime, folder: &str, path: &str) -> Result<String, Fail> {
-    Ok(format!(in rt.alloc(); "{folder}/{path}")?)
+fn below(rt: &HostRuntime, folder: &str, path: &str) -> Result<String, OpenFault> {
+    match format!(in rt.alloc(); "{folder}/{path}") {
+        Ok(path) => Ok(path),
+        Err(_) => Err(OpenFault::Memory),
+    }
 }
 
-/// Makes a folder behind that of a path.
-fn make(rt: &HostRuntime, folder: &str, path: &str) -> Result<(), Fail> {
-    let path = below(rt, folder, path)?;
-    Ok(fs::create_dir_all(rt, path.as_str())?)
+/// Whether a folder behind that of a path is made.
+fn makes(rt: &HostRuntime, folder: &str, path: &str) -> bool {
+    let Ok(path) = below(rt, folder, path) else {
+        return false;
+    };
+    fs::create_dir_all(rt, path.as_str()).is_ok()
 }
 
-/// A file of this text behind the folder of a path.
-fn write(rt: &HostRuntime, folder: &str, path: &str, text: &str) -> Result<(), Fail> {
-    let path = below(rt, folder, path)?;
-    Ok(fs::write(rt, path.as_str(), text)?)
+/// Whether a file of this text behind the folder of a path is written.
+fn writes(rt: &HostRuntime, folder: &str, path: &str, text: &str) -> bool {
+    let Ok(path) = below(rt, folder, path) else {
+        return false;
+    };
+    fs::write(rt, path.as_str(), text).is_ok()
 }
 
-/// A file of one byte behind the folder of a path.
-fn put(rt: &HostRuntime, folder: &str, path: &str) -> Result<(), Fail> {
-    write(rt, folder, path, "a")
-}
-
-/// A link to a full disk behind the folder of a path.
-fn fill(rt: &HostRuntime, folder: &str, path: &str) -> Result<(), Fail> {
-    let path = below(rt, folder, path)?;
-    Ok(symlink(rt, "/dev/full", path.as_str())?)
+/// Whether a link to a full disk behind the folder of a path is made.
+fn fills(rt: &HostRuntime, folder: &str, path: &str) -> bool {
+    let Ok(path) = below(rt, folder, path) else {
+        return false;
+    };
+    symlink(rt, "/dev/full", path.as_str()).is_ok()
 }
 
 fn hold(rt: &HostRuntime, folder: &str) -> Result<FolderLock<File>, OpenFault> {
     let standing = StandIns::open(rt)?;
     FolderLock::open(rt, &standing, folder)
-}
-
-/// A folder that could be held.
-fn lock(rt: &HostRuntime, folder: &str) -> Result<FolderLock<File>, Fail> {
-    Ok(hold(rt, folder)?)
 }
 
 /// Whether a folder could be held, and is let go again.
@@ -242,13 +275,22 @@ fn is_refused(rt: &HostRuntime, folder: &str) -> bool {
 }
 
 /// Whether what lies behind the folder of a path could not be held.
-fn is_refused_below(rt: &HostRuntime, folder: &str, path: &str) -> Result<bool, Fail> {
-    let path = below(rt, folder, path)?;
-    Ok(is_refused(rt, path.as_str()))
+fn is_refused_below(rt: &HostRuntime, folder: &str, path: &str) -> bool {
+    let Ok(path) = below(rt, folder, path) else {
+        return false;
+    };
+    is_refused(rt, path.as_str())
 }
 
-fn store(rt: &HostRuntime, lock: &FolderLock<File>, server: u8) -> Result<DirStore<File>, Fail> {
-    Ok(DirStore::open(rt, lock, server)?)
+/// A folder that is held, and the store of a server in it.
+fn store(
+    rt: &HostRuntime,
+    folder: &str,
+    server: u8,
+) -> Result<(FolderLock<File>, DirStore<File>), OpenFault> {
+    let lock = hold(rt, folder)?;
+    let store = DirStore::open(rt, &lock, server)?;
+    Ok((lock, store))
 }
 
 /// Whether the store of a server could not be opened.
@@ -304,99 +346,118 @@ fn syncs<F: SliceFile + Drop>(store: &mut DirStore<F>, want: Result<(), Failed>)
     store.sync() == want
 }
 
-/// One folder is held once at a time, and is free again when it was let go.
-#[test]
-fn a_folder_is_held_once(rt: HostRuntime) -> Result<(), Fail> {
-    let path = fresh(&rt, "lock")?;
-    let first = lock(&rt, path.as_str())?;
-    assert!(rt; is_refused(&rt, path.as_str()));
+/// Whether a folder is held once at a time, and is free again when it was let go.
+fn is_held_once(rt: &HostRuntime, path: &str) -> bool {
+    let Ok(first) = hold(rt, path) else {
+        return false;
+    };
+    let refused = is_refused(rt, path);
     drop(first);
-    assert!(rt; is_free(&rt, path.as_str()));
-    clear(&rt, path.as_str())
+    refused && is_free(rt, path)
 }
 
-#[test]
-fn a_folder_holds_what_was_appended(rt: HostRuntime) -> Result<(), Fail> {
-    let path = fresh(&rt, "folder")?;
-    let dir = below(&rt, path.as_str(), "a/b")?;
-    let lock = lock(&rt, dir.as_str())?;
-    let mut here = store(&rt, &lock, 0)?;
-    assert!(rt; appends(&mut here, 3, b"abcd", Ok(0)));
-    assert!(rt; appends(&mut here, 3, b"ef", Ok(4)));
-    assert!(rt; appends(&mut here, 7, b"x", Ok(0)));
-    assert!(rt; shows(&mut here, 3, 2, b"cdef"));
-    assert!(rt; punches(&mut here, 3, 1, 2));
-    assert!(rt; syncs(&mut here, Ok(())));
-    // Another store finds it all.
-    let mut again = store(&rt, &lock, 0)?;
-    assert!(rt; finds_all(&mut again));
-    clear(&rt, path.as_str())
+/// Whether a store takes what is appended, and frees a part of it.
+fn takes_all(store: &mut DirStore<File>) -> bool {
+    appends(store, 3, b"abcd", Ok(0))
+        && appends(store, 3, b"ef", Ok(4))
+        && appends(store, 7, b"x", Ok(0))
+        && shows(store, 3, 2, b"cdef")
+        && punches(store, 3, 1, 2)
+        && syncs(store, Ok(()))
 }
 
-/// Whether a store finds what another appended, and appends to it.
-fn finds_all(store: &mut DirStore<File>) -> bool {
-    has_length(store, 0, 0)
-        && has_length(store, 7, 1)
-        && has_length(store, 3, 6)
-        && shows(store, 3, 0, b"a\0\0d")
-        && appends(store, 3, b"g", Ok(6))
+/// Whether another store of a folder finds what one appended, and appends to it.
+fn finds_all(rt: &HostRuntime, lock: &FolderLock<File>) -> bool {
+    let Ok(mut store) = DirStore::open(rt, lock, 0) else {
+        return false;
+    };
+    has_length(&store, 0, 0)
+        && has_length(&store, 7, 1)
+        && has_length(&store, 3, 6)
+        && shows(&mut store, 3, 0, b"a\0\0d")
+        && appends(&mut store, 3, b"g", Ok(6))
 }
 
-fn zeros(bytes: &[u8]) -> usize {
-    bytes.iter().filter(|b| **b == 0).count()
+/// Whether a folder holds what was appended.
+fn holds_all(rt: &HostRuntime, folder: &str) -> bool {
+    let Ok((lock, mut store)) = store(rt, folder, 0) else {
+        return false;
+    };
+    takes_all(&mut store) && finds_all(rt, &lock)
 }
 
-/// Whether bytes begin and end with a kept one beside a zero.
-fn is_hollow(bytes: &[u8]) -> bool {
-    bytes.starts_with(b"a\0".as_slice()) && bytes.ends_with(b"\0a".as_slice())
+/// Whether the folder `a/b` below a path holds what was appended.
+fn holds_all_below(rt: &HostRuntime, path: &str) -> bool {
+    let Ok(folder) = below(rt, path, "a/b") else {
+        return false;
+    };
+    holds_all(rt, folder.as_str())
 }
 
-/// A long range of zeros is written in parts.
-#[test]
-fn a_long_range_is_punched(rt: HostRuntime) -> Result<(), Fail> {
-    let path = fresh(&rt, "long")?;
-    let lock = lock(&rt, path.as_str())?;
-    let mut store = store(&rt, &lock, 0)?;
-    let mut all = vec![in rt.alloc(); b'a'; 40_000]?;
-    assert!(rt; appends(&mut store, 5, all.as_slice(), Ok(0)));
-    assert!(rt; punches(&mut store, 5, 1, 39_998));
-    assert!(rt; reads(&mut store, 5, 0, &mut all));
-    assert!(rt; is_hollow(all.as_slice()));
-    assert!(rt; zeros(all.as_slice()) == 39_998);
-    clear(&rt, path.as_str())
+fn are_zeros(bytes: &[u8]) -> bool {
+    for b in bytes {
+        if *b != 0 {
+            return false;
+        }
+    }
+    true
 }
 
-/// A folder below a file, a file in the place of a folder, and a folder in the place of a file.
-#[test]
-fn a_folder_that_fails_is_told(rt: HostRuntime) -> Result<(), Fail> {
-    let path = fresh(&rt, "bad")?;
-    let lock = lock(&rt, path.as_str())?;
-    put(&rt, path.as_str(), "s0")?;
-    assert!(rt; is_refused_below(&rt, path.as_str(), "s0")?);
-    assert!(rt; is_refused_below(&rt, path.as_str(), "s0/a")?);
-    make(&rt, path.as_str(), "s1/4")?;
-    assert!(rt; is_no_store(&rt, &lock, 0));
-    assert!(rt; is_no_store(&rt, &lock, 1));
-    clear(&rt, path.as_str())
+/// Whether there are so many bytes, a kept one at each end, and zeros between them.
+fn is_hollow(bytes: &[u8], len: usize) -> bool {
+    len >= 2
+        && bytes.len() == len
+        && bytes[0] == b'a'
+        && bytes[len - 1] == b'a'
+        && are_zeros(&bytes[1..len - 1])
 }
 
-/// A file on a full disk.
-#[test]
-fn an_append_that_fails_is_told(rt: HostRuntime) -> Result<(), Fail> {
-    let path = fresh(&rt, "full")?;
-    make(&rt, path.as_str(), "s2")?;
-    fill(&rt, path.as_str(), "s2/5")?;
-    let lock = lock(&rt, path.as_str())?;
-    let mut store = store(&rt, &lock, 2)?;
-    assert!(rt; appends(&mut store, 5, b"ab", Err(Failed)));
-    assert!(rt; has_length(&store, 5, 0));
-    assert!(rt; has_length(&store, 4, 0));
-    assert!(rt; appends(&mut store, 4, b"ab", Ok(0)));
-    clear(&rt, path.as_str())
+/// Whether a long range of zeros is punched into a file of these bytes, and read back.
+fn hollows(rt: &HostRuntime, path: &str, all: &mut [u8]) -> bool {
+    let Ok((_lock, mut store)) = store(rt, path, 0) else {
+        return false;
+    };
+    appends(&mut store, 5, all, Ok(0))
+        && punches(&mut store, 5, 1, 39_998)
+        && reads(&mut store, 5, 0, all)
+        && is_hollow(all, 40_000)
 }
 
-fn keeper(rt: &HostRuntime, lock: &FolderLock<File>) -> Result<FileKeeper<HostRuntime>, Fail> {
-    Ok(FileKeeper::open(rt, lock)?)
+/// Whether a long range of zeros is punched; it is written in parts.
+fn long_range_is_punched(rt: &HostRuntime, path: &str) -> bool {
+    let Ok(mut all) = vec![in rt.alloc(); b'a'; 40_000] else {
+        return false;
+    };
+    hollows(rt, path, &mut all)
+}
+
+/// Whether a folder below a file, a file in the place of a folder, and a folder in the place of a file are told.
+fn tells_what_is_in_the_way(rt: &HostRuntime, path: &str) -> bool {
+    let Ok(lock) = hold(rt, path) else {
+        return false;
+    };
+    writes(rt, path, "s0", "a")
+        && is_refused_below(rt, path, "s0")
+        && is_refused_below(rt, path, "s0/a")
+        && makes(rt, path, "s1/4")
+        && is_no_store(rt, &lock, 0)
+        && is_no_store(rt, &lock, 1)
+}
+
+/// Whether file 5 of server 2, on a full disk, takes nothing, and file 4 does.
+fn tells_a_full_file(rt: &HostRuntime, path: &str) -> bool {
+    let Ok((_lock, mut store)) = store(rt, path, 2) else {
+        return false;
+    };
+    appends(&mut store, 5, b"ab", Err(Failed))
+        && has_length(&store, 5, 0)
+        && has_length(&store, 4, 0)
+        && appends(&mut store, 4, b"ab", Ok(0))
+}
+
+/// Whether an append to a file on a full disk is told.
+fn full_file_is_told(rt: &HostRuntime, path: &str) -> bool {
+    makes(rt, path, "s2") && fills(rt, path, "s2/5") && tells_a_full_file(rt, path)
 }
 
 /// Whether the keeper of a folder could not be opened.
@@ -425,42 +486,54 @@ fn replaces<D: ImageFiles>(
     keeper.replace(bytes) == want
 }
 
-#[test]
-fn an_image_is_replaced_whole(rt: HostRuntime) -> Result<(), Fail> {
-    let path = fresh(&rt, "image")?;
-    let lock = lock(&rt, path.as_str())?;
-    let mut first = keeper(&rt, &lock)?;
-    assert!(rt; has(&rt, &mut first, b""));
-    assert!(rt; replaces(&mut first, b"old", Ok(())));
-    assert!(rt; replaces(&mut first, b"image", Ok(())));
-    let mut again = keeper(&rt, &lock)?;
-    assert!(rt; has(&rt, &mut again, b"image"));
-    // On a full disk the file keeps what it held.
-    fill(&rt, path.as_str(), "image.new")?;
-    assert!(rt; replaces(&mut again, b"lost", Err(Failed)));
-    assert!(rt; has(&rt, &mut first, b"image"));
-    clear(&rt, path.as_str())
+/// A folder that is held, and its keeper.
+fn keeper(
+    rt: &HostRuntime,
+    folder: &str,
+) -> Result<(FolderLock<File>, FileKeeper<HostRuntime>), OpenFault> {
+    let lock = hold(rt, folder)?;
+    let keeper = FileKeeper::open(rt, &lock)?;
+    Ok((lock, keeper))
 }
 
-/// A folder is no image, and an image is in a folder.
-#[test]
-fn an_image_that_fails_is_told(rt: HostRuntime) -> Result<(), Fail> {
-    let path = fresh(&rt, "none")?;
-    let lock = lock(&rt, path.as_str())?;
-    let mut first = keeper(&rt, &lock)?;
-    make(&rt, path.as_str(), "image")?;
-    assert!(rt; is_unread(&rt, &mut first));
-    assert!(rt; is_no_keeper(&rt, &lock));
-    clear(&rt, path.as_str())?;
-    assert!(rt; is_no_keeper(&rt, &lock));
-    Ok(())
+/// Whether another keeper of a folder has the image, and keeps it when the disk is full.
+fn keeps_image(rt: &HostRuntime, path: &str, lock: &FolderLock<File>) -> bool {
+    let Ok(mut keeper) = FileKeeper::open(rt, lock) else {
+        return false;
+    };
+    has(rt, &mut keeper, b"image")
+        && fills(rt, path, "image.new")
+        && replaces(&mut keeper, b"lost", Err(Failed))
+}
+
+/// Whether an image takes the place of another, and stays when a third one fails to.
+fn is_replaced(rt: &HostRuntime, path: &str) -> bool {
+    let Ok((lock, mut first)) = keeper(rt, path) else {
+        return false;
+    };
+    has(rt, &mut first, b"")
+        && replaces(&mut first, b"old", Ok(()))
+        && replaces(&mut first, b"image", Ok(()))
+        && keeps_image(rt, path, &lock)
+        && has(rt, &mut first, b"image")
+}
+
+/// Whether a folder in the place of an image is told, and that the folder of an image is missing; that one is made again.
+fn tells_no_image(rt: &HostRuntime, path: &str) -> bool {
+    let Ok((lock, mut first)) = keeper(rt, path) else {
+        return false;
+    };
+    makes(rt, path, "image")
+        && is_unread(rt, &mut first)
+        && is_no_keeper(rt, &lock)
+        && clears(rt, path)
+        && is_no_keeper(rt, &lock)
+        && makes(rt, path, "image")
 }
 
 /// The source of a file behind the folder of a path.
 fn source(rt: &HostRuntime, folder: &str, path: &str) -> Result<FileSource<File>, OpenFault> {
-    let Ok(path) = format!(in rt.alloc(); "{folder}/{path}") else {
-        return Err(OpenFault::Memory);
-    };
+    let path = below(rt, folder, path)?;
     FileSource::open(rt, path.as_str())
 }
 
@@ -469,58 +542,143 @@ fn is_no_source(rt: &HostRuntime, folder: &str, path: &str) -> bool {
     matches!(source(rt, folder, path), Err(OpenFault::Failed))
 }
 
-/// Whether a source that is asked for four bytes gives these, or fails.
-fn gives(source: &mut FileSource<File>, want: Result<&[u8], Failed>) -> bool {
+/// Whether a source that is asked for four bytes gives these.
+fn gives(source: &mut FileSource<File>, want: &[u8]) -> bool {
     let mut out = [0u8; 4];
     match source.read(&mut out) {
-        Ok(n) => want == Ok(&out[..n]),
-        Err(e) => want == Err(e),
+        Ok(n) => &out[..n] == want,
+        Err(_) => false,
     }
 }
 
-/// What was written to a file is read back whole, and then nothing. A file that is missing is no source, and one that is a
-/// folder is not read.
+/// Whether a file gives its six bytes, and then nothing.
+fn gives_six(rt: &HostRuntime, path: &str) -> bool {
+    let Ok(mut six) = source(rt, path, "six") else {
+        return false;
+    };
+    gives(&mut six, b"abcd") && gives(&mut six, b"ef") && gives(&mut six, b"")
+}
+
+/// Whether a folder is not read.
+fn is_not_read(rt: &HostRuntime, path: &str) -> bool {
+    let Ok(mut folder) = source(rt, path, "folder") else {
+        return false;
+    };
+    folder.read(&mut [0u8; 4]) == Err(Failed)
+}
+
+/// Whether what was written to a file is read back whole, and then nothing; a file that is missing is no source, and one that
+/// is a folder is not read.
+fn files_are_read(rt: &HostRuntime, path: &str) -> bool {
+    makes(rt, path, "folder")
+        && writes(rt, path, "six", "abcdef")
+        && gives_six(rt, path)
+        && is_no_source(rt, path, "none")
+        && is_not_read(rt, path)
+}
+
+/// What is tried in a folder of the test's own.
+#[derive(Clone, Copy)]
+enum Case {
+    Lock,
+    Store,
+    Long,
+    Bad,
+    Full,
+    Image,
+    NoImage,
+    File,
+}
+
+/// Whether a case holds in a folder.
+fn holds_in(rt: &HostRuntime, path: &str, case: Case) -> bool {
+    match case {
+        Case::Lock => is_held_once(rt, path),
+        Case::Store => holds_all_below(rt, path),
+        Case::Long => long_range_is_punched(rt, path),
+        Case::Bad => tells_what_is_in_the_way(rt, path),
+        Case::Full => full_file_is_told(rt, path),
+        Case::Image => is_replaced(rt, path),
+        Case::NoImage => tells_no_image(rt, path),
+        Case::File => files_are_read(rt, path),
+    }
+}
+
+/// Whether a case holds in a folder of this name, which is then taken away.
+fn holds(rt: &HostRuntime, name: &str, case: Case) -> bool {
+    let Ok(path) = fresh(rt, name) else {
+        return false;
+    };
+    holds_in(rt, path.as_str(), case) && clears(rt, path.as_str())
+}
+
+/// One folder is held once at a time, and is free again when it was let go.
 #[test]
-fn a_file_gives_what_was_written(rt: HostRuntime) -> Result<(), Fail> {
-    let path = fresh(&rt, "file")?;
-    make(&rt, path.as_str(), "folder")?;
-    write(&rt, path.as_str(), "six", "abcdef")?;
-    let mut six = source(&rt, path.as_str(), "six")?;
-    assert!(rt; gives(&mut six, Ok(b"abcd")));
-    assert!(rt; gives(&mut six, Ok(b"ef")));
-    assert!(rt; gives(&mut six, Ok(b"")));
-    assert!(rt; is_no_source(&rt, path.as_str(), "none"));
-    let mut folder = source(&rt, path.as_str(), "folder")?;
-    assert!(rt; gives(&mut folder, Err(Failed)));
-    clear(&rt, path.as_str())
+fn a_folder_is_held_once(rt: HostRuntime) {
+    assert!(rt; holds(&rt, "lock", Case::Lock));
+}
+
+#[test]
+fn a_folder_holds_what_was_appended(rt: HostRuntime) {
+    assert!(rt; holds(&rt, "folder", Case::Store));
+}
+
+#[test]
+fn a_long_range_is_punched(rt: HostRuntime) {
+    assert!(rt; holds(&rt, "long", Case::Long));
+}
+
+#[test]
+fn a_folder_that_fails_is_told(rt: HostRuntime) {
+    assert!(rt; holds(&rt, "bad", Case::Bad));
+}
+
+#[test]
+fn an_append_that_fails_is_told(rt: HostRuntime) {
+    assert!(rt; holds(&rt, "full", Case::Full));
+}
+
+#[test]
+fn an_image_is_replaced_whole(rt: HostRuntime) {
+    assert!(rt; holds(&rt, "image", Case::Image));
+}
+
+#[test]
+fn an_image_that_fails_is_told(rt: HostRuntime) {
+    assert!(rt; holds(&rt, "none", Case::NoImage));
+}
+
+#[test]
+fn a_file_gives_what_was_written(rt: HostRuntime) {
+    assert!(rt; holds(&rt, "file", Case::File));
 }
 
 /// A file that notes what it is asked behind its number, and may fail to sync.
 #[derive(Drop)]
-struct Noted {
-    log: Log,
+struct Noted<'a> {
+    log: &'a Log,
     file: u8,
     fails: bool,
 }
 
-impl Noted {
+impl<'a> Noted<'a> {
     /// Notes a call of this letter at a place below 10.
     fn call(&self, letter: u8, at: u64) -> io::Result<()> {
         note(
-            &self.log,
+            self.log,
             &[b'0' + self.file % 8, letter, b'0' + (at % 10) as u8],
         )
     }
 }
 
-impl SliceFile for Noted {
+impl<'a> SliceFile for Noted<'a> {
     fn read_at(&mut self, at: u64, _out: &mut [u8]) -> io::Result<()> {
         self.call(b'r', at)
     }
 
     fn write_at(&mut self, at: u64, bytes: &[u8]) -> io::Result<()> {
         self.call(b'w', at)?;
-        note(&self.log, bytes)
+        note(self.log, bytes)
     }
 
     fn zero_at(&mut self, at: u64, _len: u64) -> io::Result<()> {
@@ -530,77 +688,87 @@ impl SliceFile for Noted {
     fn sync(&mut self) -> io::Result<()> {
         self.call(b's', 0)?;
         if self.fails {
-            return Err(io::Error::from(io::ErrorKind::Other));
+            return Err(other());
         }
         Ok(())
     }
 }
 
 /// An empty file, which fails to sync where it has the number `bad`.
-fn noted_file(log: &Log, file: u8, bad: u8) -> Result<Noted, Fail> {
-    Ok(Noted {
-        log: log.clone()?,
+fn noted_file(log: &Log, file: u8, bad: u8) -> Noted<'_> {
+    Noted {
+        log,
         file,
         fails: file == bad,
-    })
+    }
 }
 
 /// A store over files that note, of which the one with the number `bad` fails to sync.
-fn noted_store(log: &Log, bad: u8) -> Result<DirStore<Noted>, Fail> {
-    Ok(DirStore::of_empty([
-        noted_file(log, 0, bad)?,
-        noted_file(log, 1, bad)?,
-        noted_file(log, 2, bad)?,
-        noted_file(log, 3, bad)?,
-        noted_file(log, 4, bad)?,
-        noted_file(log, 5, bad)?,
-        noted_file(log, 6, bad)?,
-        noted_file(log, 7, bad)?,
-    ]))
+fn noted_store(log: &Log, bad: u8) -> DirStore<Noted<'_>> {
+    DirStore::of_empty([
+        noted_file(log, 0, bad),
+        noted_file(log, 1, bad),
+        noted_file(log, 2, bad),
+        noted_file(log, 3, bad),
+        noted_file(log, 4, bad),
+        noted_file(log, 5, bad),
+        noted_file(log, 6, bad),
+        noted_file(log, 7, bad),
+    ])
 }
 
-/// An append reaches its own file alone, where that ends.
+/// Whether an append reaches its own file alone, where that ends.
+fn appends_to_its_file(log: &Log) -> bool {
+    let mut store = noted_store(log, 8);
+    appends(&mut store, 3, b"abcd", Ok(0))
+        && appends(&mut store, 3, b"ef", Ok(4))
+        && appends(&mut store, 7, b"x", Ok(0))
+        && is_noted(log, b"3w0abcd3w4ef7w0x")
+}
+
 #[test]
-fn an_append_goes_to_its_file(rt: HostRuntime) -> Result<(), Fail> {
-    let log = new_log(rt.alloc())?;
-    let mut store = noted_store(&log, 8)?;
-    assert!(rt; appends(&mut store, 3, b"abcd", Ok(0)));
-    assert!(rt; appends(&mut store, 3, b"ef", Ok(4)));
-    assert!(rt; appends(&mut store, 7, b"x", Ok(0)));
-    assert!(rt; is_noted(&log, b"3w0abcd3w4ef7w0x"));
-    Ok(())
+fn an_append_goes_to_its_file(rt: HostRuntime) {
+    assert!(rt; appends_to_its_file(&new_log(rt.alloc())));
+}
+
+/// Whether a sync gives this, and asks this.
+fn syncs_each(log: &Log, bad: u8, want: Result<(), Failed>, wanted: &[u8]) -> bool {
+    syncs(&mut noted_store(log, bad), want) && is_noted(log, wanted)
+}
+
+fn all_are_synced(alloc: Global) -> bool {
+    syncs_each(&new_log(alloc), 8, Ok(()), b"0s01s02s03s04s05s06s07s0")
+}
+
+/// Whether a sync ends at file 2, where that fails.
+fn two_are_synced(alloc: Global) -> bool {
+    syncs_each(&new_log(alloc), 2, Err(Failed), b"0s01s02s0")
 }
 
 /// A sync reaches each file, up to one that fails.
 #[test]
-fn a_sync_reaches_each_file(rt: HostRuntime) -> Result<(), Fail> {
-    let log = new_log(rt.alloc())?;
-    assert!(rt; syncs(&mut noted_store(&log, 8)?, Ok(())));
-    assert!(rt; is_noted(&log, b"0s01s02s03s04s05s06s07s0"));
-    let log = new_log(rt.alloc())?;
-    assert!(rt; syncs(&mut noted_store(&log, 2)?, Err(Failed)));
-    assert!(rt; is_noted(&log, b"0s01s02s0"));
-    Ok(())
+fn a_sync_reaches_each_file(rt: HostRuntime) {
+    assert!(rt; all_are_synced(rt.alloc()) && two_are_synced(rt.alloc()));
 }
 
 /// The folder of an image, which notes what it is asked, and fails behind so many calls.
 #[derive(Drop)]
-struct NotedImage {
-    log: Log,
+struct NotedImage<'a> {
+    log: &'a Log,
     left: u8,
 }
 
-impl NotedImage {
+impl<'a> NotedImage<'a> {
     fn call(&mut self, what: &[u8]) -> io::Result<()> {
         if self.left == 0 {
-            return Err(io::Error::from(io::ErrorKind::Other));
+            return Err(other());
         }
         self.left -= 1;
-        note(&self.log, what)
+        note(self.log, what)
     }
 }
 
-impl ImageFiles for NotedImage {
+impl<'a> ImageFiles for NotedImage<'a> {
     fn take(&mut self, alloc: Global) -> io::Result<Vec<u8>> {
         self.call(b"take|")?;
         Ok(Vec::new(alloc))
@@ -611,7 +779,7 @@ impl ImageFiles for NotedImage {
             ImageName::Image => self.call(b"image:")?,
             ImageName::Beside => self.call(b"beside:")?,
         }
-        note(&self.log, bytes)
+        note(self.log, bytes)
     }
 
     fn sync_written(&mut self) -> io::Result<()> {
@@ -628,24 +796,26 @@ impl ImageFiles for NotedImage {
 }
 
 /// Whether an image that is put in the place of another asks for this, where so many calls do not fail.
-fn asks(alloc: Global, calls: u8, want: Result<(), Failed>, wanted: &[u8]) -> Result<bool, Fail> {
-    let log = new_log(alloc)?;
+fn asks(alloc: Global, calls: u8, want: Result<(), Failed>, wanted: &[u8]) -> bool {
+    let log = new_log(alloc);
     let files = NotedImage {
-        log: log.clone()?,
+        log: &log,
         left: calls,
     };
-    let replaced = replaces(&mut ImageKeeper::over(files), b"new", want);
-    Ok(replaced && is_noted(&log, wanted))
+    replaces(&mut ImageKeeper::over(files), b"new", want) && is_noted(&log, wanted)
+}
+
+/// Whether each failure ends what is asked.
+fn asks_in_order(alloc: Global) -> bool {
+    asks(alloc, 9, Ok(()), b"beside:new|sync|rename|names")
+        && asks(alloc, 3, Err(Failed), b"beside:new|sync|rename")
+        && asks(alloc, 2, Err(Failed), b"beside:new|sync")
+        && asks(alloc, 1, Err(Failed), b"beside:new")
+        && asks(alloc, 0, Err(Failed), b"")
 }
 
 /// An image takes the place of another once it lasts beside it, and nothing follows a failure.
 #[test]
-fn an_image_is_written_beside(rt: HostRuntime) -> Result<(), Fail> {
-    let alloc = rt.alloc();
-    assert!(rt; asks(alloc, 9, Ok(()), b"beside:new|sync|rename|names")?);
-    assert!(rt; asks(alloc, 3, Err(Failed), b"beside:new|sync|rename")?);
-    assert!(rt; asks(alloc, 2, Err(Failed), b"beside:new|sync")?);
-    assert!(rt; asks(alloc, 1, Err(Failed), b"beside:new")?);
-    assert!(rt; asks(alloc, 0, Err(Failed), b"")?);
-    Ok(())
+fn an_image_is_written_beside(rt: HostRuntime) {
+    assert!(rt; asks_in_order(rt.alloc()));
 }

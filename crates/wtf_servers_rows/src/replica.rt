@@ -1,84 +1,88 @@
 //! Copies made, read, freed and synced on servers in memory, of which some are down and some fail.
 
-ghost use Rattle.std.specs.Prelude.{◌≡◌, length, IfOk};
+ghost use Rattle.std.specs.Prelude.{◌≡◌, length, IfSome};
 ghost use Rattle.wtf_base.specs.Slices.{len_of};
 ghost use Rattle.wtf_dev.specs.Memory.{mem_store};
 ghost use Rattle.wtf_replica.specs.Downs.{settings_of};
 ghost use Rattle.wtf_replica.specs.Copies.{IsInside};
 
-use crate::stores::{inode, store};
+use crate::stores::{place, shelf};
 use std::alloc::Global;
-use std::test::Fail;
 use wtf_base::{Fault, Pointer, ServerId, Settings, Slice};
 use wtf_dev::{Failed, MemStore, Shelf, SliceStore};
 use wtf_replica::{Replicas, lies_inside, slice_lies_inside};
-use wtf_ring::{Place, Ring};
+use wtf_ring::Place;
 
 /// The backing file of both copies.
 const FILE: u8 = 3;
 
 /// So many servers with two copies of a slice, of which these are down.
-fn replicas(servers: u8, down: &[u8]) -> Result<Replicas, Fail>
-    ensures { IfOk result (λ r. (settings_of r).servers ≡ servers) }
+fn replicas(servers: u8, down: &[u8]) -> Option<Replicas>
+    ensures { IfSome result (λ r. (settings_of r).servers ≡ servers) }
 {
-    let settings = Settings::new(servers, 2, 64).ok_or("settings")?;
+    let settings = Settings::new(servers, 2, 64)?;
     let mut replicas = Replicas::new(settings);
     for k in down {
         if *k < servers {
             replicas.down(*k);
         }
     }
-    Ok(replicas)
-}
-
-/// A store for each server, of which the call with this number fails, if any.
-fn shelf(alloc: Global, fails: &[Option<u64>]) -> Result<Shelf<MemStore>, Fail>
-    ensures { IfOk result (λ shelf. length shelf ≡ length fails.now) }
-{
-    let mut stores = Vec::new(alloc);
-    for number in fails {
-        stores.push(store(alloc, number.as_slice())?)?;
-    }
-    if fails.is_empty() || fails.len() > 16 || stores.len() != fails.len() {
-        return Err(Fail::from("shelf"));
-    }
-    Ok(Shelf::new(alloc, stores))
+    Some(replicas)
 }
 
 /// A slice of four bytes with a copy on each of two servers, made by the first call on each store. So that tests see
 /// which copy is read, the copies differ.
-fn two_copies(shelf: &mut Shelf<MemStore>) -> Result<Slice, Fail>
+fn two_copies(shelf: &mut Shelf<MemStore>) -> Option<Slice>
     requires two { length shelf.old ≡ 2 }
     ensures two { length shelf.new ≡ 2 }
-    ensures inside { IfOk result (IsInside mem_store shelf.new) }
-    ensures len { IfOk result (λ s. len_of s ≡ 4) }
+    ensures inside { IfSome result (IsInside mem_store shelf.new) }
+    ensures len { IfSome result (λ s. len_of s ≡ 4) }
 {
-    let first = wtf_server::create(shelf.store(0), ServerId(0), FILE, b"abcd").or(Err("server 0"))?;
-    let second = wtf_server::create(shelf.store(1), ServerId(1), FILE, b"efgh").or(Err(
-        "server 1",
-    ))?;
-    Ok(Slice::of(&[first, second]).ok_or("slice")?)
+    let Ok(first) = wtf_server::create(shelf.store(0), ServerId(0), FILE, b"abcd") else {
+        return None;
+    };
+    let Ok(second) = wtf_server::create(shelf.store(1), ServerId(1), FILE, b"efgh") else {
+        return None;
+    };
+    Slice::of(&[first, second])
 }
 
 /// The servers that are down, the call of each store that fails, if any, and the bytes that are read with their server,
 /// or the fault.
 type Fetch = (
     &'static [u8],
-    [Option<u64>; 2],
+    (Option<u64>, Option<u64>),
     Result<(ServerId, [u8; 2]), Fault>,
 );
 
 /// Whether this is what is read from byte 1 on of a slice.
-fn is_fetched(alloc: Global, row: &Fetch) -> Result<bool, Fail> {
-    let (down, fails, want) = row;
-    let replicas = replicas(2, down)?;
-    let mut shelf = shelf(alloc, fails)?;
-    let slice = two_copies(&mut shelf)?;
+fn gives(
+    replicas: &Replicas,
+    shelf: &mut Shelf<MemStore>,
+    want: Result<(ServerId, [u8; 2]), Fault>,
+) -> bool
+    requires { length shelf.old ≡ 2 }
+{
+    let Some(slice) = two_copies(shelf) else {
+        return false;
+    };
     let mut out = [0; 2];
-    match replicas.fetch(&mut shelf, &slice, 1, &mut out) {
-        Ok(server) => Ok(*want == Ok((server, out))),
-        Err(fault) => Ok(*want == Err(fault)),
+    match replicas.fetch(shelf, &slice, 1, &mut out) {
+        Ok(server) => want == Ok((server, out)),
+        Err(fault) => want == Err(fault),
     }
+}
+
+/// Whether that is read on two stores.
+fn is_fetched(alloc: Global, row: &Fetch) -> bool {
+    let (down, fails, want) = row;
+    let Some(replicas) = replicas(2, down) else {
+        return false;
+    };
+    let Some(mut shelf) = shelf(alloc, &[fails.0, fails.1]) else {
+        return false;
+    };
+    gives(&replicas, &mut shelf, *want)
 }
 
 const FIRST: Result<(ServerId, [u8; 2]), Fault> = Ok((ServerId(0), *b"bc"));
@@ -88,31 +92,30 @@ const SECOND: Result<(ServerId, [u8; 2]), Fault> = Ok((ServerId(1), *b"fg"));
 const UNREAD: Result<(ServerId, [u8; 2]), Fault> = Err(Fault::Read(ServerId(1)));
 
 const FETCHES: [Fetch; 9] = [
-    (&[], [None, None], FIRST),
-    (&[0], [None, None], SECOND),
-    (&[1], [None, None], FIRST),
-    (&[0, 1], [None, None], UNREAD),
-    (&[], [Some(1), None], SECOND),
-    (&[], [None, Some(1)], FIRST),
-    (&[], [Some(1), Some(1)], UNREAD),
-    (&[0], [None, Some(1)], UNREAD),
-    (&[1], [Some(1), None], UNREAD),
+    (&[], (None, None), FIRST),
+    (&[0], (None, None), SECOND),
+    (&[1], (None, None), FIRST),
+    (&[0, 1], (None, None), UNREAD),
+    (&[], (Some(1), None), SECOND),
+    (&[], (None, Some(1)), FIRST),
+    (&[], (Some(1), Some(1)), UNREAD),
+    (&[0], (None, Some(1)), UNREAD),
+    (&[1], (Some(1), None), UNREAD),
 ];
 
-/// How many rows hold, from the first on.
-fn fetched(alloc: Global, rows: &[Fetch]) -> Result<usize, Fail> {
-    for (i, row) in rows.iter().enumerate() {
-        if !is_fetched(alloc, row)? {
-            return Ok(i);
+/// Whether each row holds.
+fn are_fetched(alloc: Global, rows: &[Fetch]) -> bool {
+    for row in rows {
+        if !is_fetched(alloc, row) {
+            return false;
         }
     }
-    Ok(rows.len())
+    true
 }
 
 #[test]
-fn the_first_copy_that_can_be_read_is_read(rt: HostRuntime) -> Result<(), Fail> {
-    assert_eq!(rt; fetched(rt.alloc(), &FETCHES)?, 9);
-    Ok(())
+fn the_first_copy_that_can_be_read_is_read(rt: HostRuntime) {
+    assert!(rt; are_fetched(rt.alloc(), &FETCHES));
 }
 
 /// The servers that are down, the call of the first store that fails, if any, a range, the answer, and what the copy then
@@ -125,20 +128,18 @@ type Freed = (
     [u8; 4],
 );
 
-/// Frees a range of the copy on server 0.
-fn free(
+/// Whether this is the answer when a range of the copy on server 0 is freed.
+fn frees(
     replicas: &Replicas,
     shelf: &mut Shelf<MemStore>,
     range: (u64, u64),
-) -> Option<Result<(), Fault>> {
+    want: Result<(), Fault>,
+) -> bool {
     let (at, len) = range;
-    if shelf.len() == 0 {
-        return None;
+    if shelf.len() == 0 || shelf.length(0, FILE) != 4 || len > 4 || at > 4 - len {
+        return false;
     }
-    if shelf.length(0, FILE) != 4 || len > 4 || at > 4 - len {
-        return None;
-    }
-    Some(replicas.free(shelf, 0, FILE, at, len))
+    replicas.free(shelf, 0, FILE, at, len) == want
 }
 
 /// Whether the copy on server 0 holds these bytes.
@@ -151,12 +152,17 @@ fn holds(shelf: &mut Shelf<MemStore>, want: &[u8; 4]) -> bool {
 }
 
 /// Whether this is the answer when a range of a copy is freed, and what it then holds.
-fn is_freed(alloc: Global, row: &Freed) -> Result<bool, Fail> {
+fn is_freed(alloc: Global, row: &Freed) -> bool {
     let (down, fails, range, want, held) = row;
-    let replicas = replicas(2, down)?;
-    let mut shelf = shelf(alloc, &[*fails, None])?;
-    let _slice = two_copies(&mut shelf)?;
-    Ok(free(&replicas, &mut shelf, *range) == Some(*want) && holds(&mut shelf, held))
+    let Some(replicas) = replicas(2, down) else {
+        return false;
+    };
+    let Some(mut shelf) = shelf(alloc, &[*fails, None]) else {
+        return false;
+    };
+    two_copies(&mut shelf).is_some()
+        && frees(&replicas, &mut shelf, *range, *want)
+        && holds(&mut shelf, held)
 }
 
 const NOT_FREED: Result<(), Fault> = Err(Fault::Punch(ServerId(0)));
@@ -169,283 +175,343 @@ const FREED: [Freed; 5] = [
     (&[0, 1], None, (0, 4), NOT_FREED, *b"abcd"),
 ];
 
-/// How many rows hold, from the first on.
-fn freed(alloc: Global, rows: &[Freed]) -> Result<usize, Fail> {
-    for (i, row) in rows.iter().enumerate() {
-        if !is_freed(alloc, row)? {
-            return Ok(i);
+/// Whether each row holds.
+fn are_freed(alloc: Global, rows: &[Freed]) -> bool {
+    for row in rows {
+        if !is_freed(alloc, row) {
+            return false;
         }
     }
-    Ok(rows.len())
+    true
 }
 
 #[test]
-fn a_range_is_freed_on_a_server_that_is_up(rt: HostRuntime) -> Result<(), Fail> {
-    assert_eq!(rt; freed(rt.alloc(), &FREED)?, 5);
-    Ok(())
+fn a_range_is_freed_on_a_server_that_is_up(rt: HostRuntime) {
+    assert!(rt; are_freed(rt.alloc(), &FREED));
 }
 
-/// The four bytes of a slice whose copy on server 0 was freed, and the server that they are from.
-fn fetched_when_freed(alloc: Global) -> Result<(ServerId, [u8; 4]), Fail> {
-    let mut shelf = shelf(alloc, &[None, None])?;
-    let slice = two_copies(&mut shelf)?;
-    let replicas = replicas(2, &[])?;
-    if shelf.length(0, FILE) != 4 {
-        return Err(Fail::from("length"));
+/// Whether the four bytes of a slice whose copy on server 0 was freed are read from there, as zeros.
+fn zeros_are_fetched(shelf: &mut Shelf<MemStore>) -> bool
+    requires { length shelf.old ≡ 2 }
+{
+    let Some(replicas) = replicas(2, &[]) else {
+        return false;
+    };
+    let Some(slice) = two_copies(shelf) else {
+        return false;
+    };
+    if shelf.length(0, FILE) != 4 || replicas.free(shelf, 0, FILE, 0, 4) != Ok(()) {
+        return false;
     }
-    replicas.free(&mut shelf, 0, FILE, 0, 4)?;
     let mut out = [1; 4];
-    let server = replicas.fetch(&mut shelf, &slice, 0, &mut out)?;
-    Ok((server, out))
+    replicas.fetch(shelf, &slice, 0, &mut out) == Ok(ServerId(0)) && out == [0; 4]
+}
+
+/// Whether that holds on two stores.
+fn freed_copy_is_read(alloc: Global) -> bool {
+    let Some(mut shelf) = shelf(alloc, &[None, None]) else {
+        return false;
+    };
+    zeros_are_fetched(&mut shelf)
 }
 
 #[test]
-fn a_freed_copy_is_read_as_zeros(rt: HostRuntime) -> Result<(), Fail> {
-    assert_eq!(rt; fetched_when_freed(rt.alloc())?, (ServerId(0), [0; 4]));
-    Ok(())
+fn a_freed_copy_is_read_as_zeros(rt: HostRuntime) {
+    assert!(rt; freed_copy_is_read(rt.alloc()));
 }
 
-/// The servers that are down, and the call of each store that fails, if any.
-type Downs = (&'static [u8], [Option<u64>; 2]);
+/// Whether the stores of all servers are synced, or of those that are up; the servers that are down, the call of each store
+/// that fails, if any, and the answer.
+type Sync = (
+    bool,
+    &'static [u8],
+    (Option<u64>, Option<u64>),
+    Result<(), Failed>,
+);
 
-/// The answer of a sync of two stores.
-fn sync(alloc: Global, row: &Downs) -> Result<Result<(), Failed>, Fail> {
-    let (down, fails) = row;
-    let replicas = replicas(2, down)?;
-    let mut shelf = shelf(alloc, fails)?;
-    Ok(replicas.sync_all(&mut shelf))
+/// Whether this is the answer of a sync of two stores.
+fn is_synced(alloc: Global, row: &Sync) -> bool {
+    let (all, down, fails, want) = row;
+    let Some(replicas) = replicas(2, down) else {
+        return false;
+    };
+    let Some(mut shelf) = shelf(alloc, &[fails.0, fails.1]) else {
+        return false;
+    };
+    if *all {
+        return replicas.sync_all(&mut shelf) == *want;
+    }
+    replicas.sync_up(&mut shelf) == *want
 }
 
-const ALL_UP: Downs = (&[], [None, None]);
+/// Whether each row holds.
+fn are_synced(alloc: Global, rows: &[Sync]) -> bool {
+    for row in rows {
+        if !is_synced(alloc, row) {
+            return false;
+        }
+    }
+    true
+}
 
-const NOT_SYNCED: [Downs; 4] = [
-    (&[0], [None, None]),
-    (&[1], [None, None]),
-    (&[], [Some(0), None]),
-    (&[], [None, Some(0)]),
+const SYNCED: [Sync; 5] = [
+    (true, &[], (None, None), Ok(())),
+    (true, &[0], (None, None), Err(Failed)),
+    (true, &[1], (None, None), Err(Failed)),
+    (true, &[], (Some(0), None), Err(Failed)),
+    (true, &[], (None, Some(0)), Err(Failed)),
 ];
 
-/// How many rows fail, from the first on.
-fn unsynced(alloc: Global, rows: &[Downs]) -> Result<usize, Fail> {
-    for (i, row) in rows.iter().enumerate() {
-        if sync(alloc, row)? != Err(Failed) {
-            return Ok(i);
-        }
-    }
-    Ok(rows.len())
-}
-
 #[test]
-fn all_stores_are_synced_where_all_are_up(rt: HostRuntime) -> Result<(), Fail> {
-    assert_eq!(rt; sync(rt.alloc(), &ALL_UP)?, Ok(()));
-    assert_eq!(rt; unsynced(rt.alloc(), &NOT_SYNCED)?, 4);
-    Ok(())
+fn all_stores_are_synced_where_all_are_up(rt: HostRuntime) {
+    assert!(rt; are_synced(rt.alloc(), &SYNCED));
 }
 
-/// The servers that are down, the call of each store that fails, if any, and the answer.
-type SyncedUp = (&'static [u8], [Option<u64>; 2], Result<(), Failed>);
-
-/// Whether this is the answer of a sync of the stores of the servers that are up.
-fn is_synced_up(alloc: Global, row: &SyncedUp) -> Result<bool, Fail> {
-    let (down, fails, want) = row;
-    let replicas = replicas(2, down)?;
-    let mut shelf = shelf(alloc, fails)?;
-    Ok(replicas.sync_up(&mut shelf) == *want)
-}
-
-const SYNCED_UP: [SyncedUp; 8] = [
-    (&[], [None, None], Ok(())),
-    (&[0], [None, None], Ok(())),
-    (&[0], [Some(0), None], Ok(())),
-    (&[1], [None, Some(0)], Ok(())),
-    (&[0, 1], [Some(0), Some(0)], Ok(())),
-    (&[], [None, Some(0)], Err(Failed)),
-    (&[1], [Some(0), None], Err(Failed)),
-    (&[0], [None, Some(0)], Err(Failed)),
+const SYNCED_UP: [Sync; 8] = [
+    (false, &[], (None, None), Ok(())),
+    (false, &[0], (None, None), Ok(())),
+    (false, &[0], (Some(0), None), Ok(())),
+    (false, &[1], (None, Some(0)), Ok(())),
+    (false, &[0, 1], (Some(0), Some(0)), Ok(())),
+    (false, &[], (None, Some(0)), Err(Failed)),
+    (false, &[1], (Some(0), None), Err(Failed)),
+    (false, &[0], (None, Some(0)), Err(Failed)),
 ];
 
-/// How many rows hold, from the first on.
-fn synced_up(alloc: Global, rows: &[SyncedUp]) -> Result<usize, Fail> {
-    for (i, row) in rows.iter().enumerate() {
-        if !is_synced_up(alloc, row)? {
-            return Ok(i);
-        }
-    }
-    Ok(rows.len())
-}
-
 #[test]
-fn stores_of_servers_that_are_up_are_synced(rt: HostRuntime) -> Result<(), Fail> {
-    assert_eq!(rt; synced_up(rt.alloc(), &SYNCED_UP)?, 8);
-    Ok(())
+fn stores_of_servers_that_are_up_are_synced(rt: HostRuntime) {
+    assert!(rt; are_synced(rt.alloc(), &SYNCED_UP));
 }
 
-/// How many servers there are, and an extent.
-type Extent = (u8, u8, u8, u64, u32);
+/// How many servers there are, an extent, and whether it lies inside two stores whose files 3 have four bytes each.
+type Extent = (u8, u8, u8, u64, u32, bool);
 
-/// Which of these extents lie inside two stores whose files 3 have four bytes each.
-fn inside(alloc: Global, rows: &[Extent; 6]) -> Result<[bool; 6], Fail> {
-    let mut shelf = shelf(alloc, &[None, None])?;
-    let _slice = two_copies(&mut shelf)?;
-    let mut told = [false; 6];
-    for (i, row) in rows.iter().enumerate() {
-        let (servers, server, file, at, len) = row;
-        if *servers > 2 || i >= 6 {
-            return Err(Fail::from("servers"));
-        }
-        let extent = Pointer {
-            server: ServerId(*server),
-            file: *file,
-            at: *at,
-            len: *len,
-        };
-        told[i] = lies_inside(*servers, &shelf, extent);
+/// Whether an extent lies inside the stores, or not.
+fn lies(shelf: &Shelf<MemStore>, row: &Extent) -> bool {
+    let (servers, server, file, at, len, want) = row;
+    if *servers > shelf.len() {
+        return false;
     }
-    Ok(told)
+    let extent = Pointer {
+        server: ServerId(*server),
+        file: *file,
+        at: *at,
+        len: *len,
+    };
+    lies_inside(*servers, shelf, extent) == *want
+}
+
+/// Whether each row holds.
+fn lie(shelf: &Shelf<MemStore>, rows: &[Extent]) -> bool {
+    for row in rows {
+        if !lies(shelf, row) {
+            return false;
+        }
+    }
+    true
 }
 
 const EXTENTS: [Extent; 6] = [
-    (2, 1, FILE, 0, 4),
-    (2, 1, FILE, 3, 1),
-    (1, 1, FILE, 0, 4),
-    (2, 1, 8, 0, 4),
-    (2, 1, FILE, 0, 5),
-    (2, 1, FILE, 5, 1),
+    (2, 1, FILE, 0, 4, true),
+    (2, 1, FILE, 3, 1, true),
+    (1, 1, FILE, 0, 4, false),
+    (2, 1, 8, 0, 4, false),
+    (2, 1, FILE, 0, 5, false),
+    (2, 1, FILE, 5, 1, false),
 ];
 
-/// Whether a slice with copies on two servers lies inside the stores of so many of them.
-fn is_inside(alloc: Global, servers: u8) -> Result<bool, Fail> {
-    let mut shelf = shelf(alloc, &[None, None])?;
-    let slice = two_copies(&mut shelf)?;
-    if servers > 2 {
-        return Err(Fail::from("servers"));
-    }
-    Ok(slice_lies_inside(servers, &shelf, &slice))
+/// Whether extents lie inside the stores or not, and a slice with copies on two servers inside those of both, but not of
+/// one.
+fn are_inside(shelf: &mut Shelf<MemStore>, rows: &[Extent]) -> bool
+    requires { length shelf.old ≡ 2 }
+{
+    let Some(slice) = two_copies(shelf) else {
+        return false;
+    };
+    lie(shelf, rows) && slice_lies_inside(2, shelf, &slice) && !slice_lies_inside(1, shelf, &slice)
+}
+
+/// Whether that holds on two stores.
+fn lie_on_two_stores(alloc: Global, rows: &[Extent]) -> bool {
+    let Some(mut shelf) = shelf(alloc, &[None, None]) else {
+        return false;
+    };
+    are_inside(&mut shelf, rows)
 }
 
 #[test]
-fn extents_and_slices_lie_inside_the_stores_or_not(rt: HostRuntime) -> Result<(), Fail> {
-    let told = inside(rt.alloc(), &EXTENTS)?;
-    assert_eq!(rt; told, [true, true, false, false, false, false]);
-    assert_eq!(rt; is_inside(rt.alloc(), 2)?, true);
-    assert_eq!(rt; is_inside(rt.alloc(), 1)?, false);
-    Ok(())
+fn extents_and_slices_lie_inside_the_stores_or_not(rt: HostRuntime) {
+    assert!(rt; lie_on_two_stores(rt.alloc(), &EXTENTS));
 }
 
-/// The place of the first file of the first transaction. On a ring of three servers it is 1, 2 and 0.
-fn first_place(alloc: Global, servers: u8) -> Result<Place, Fail>
-    ensures { IfOk result (λ p. length p.servers ≡ servers) }
-{
-    if servers < 1 || servers > 16 {
-        return Err(Fail::from("servers"));
-    }
-    let ring = Ring::new(alloc, servers)?;
-    Ok(ring.order(inode(1, 1), 0))
-}
+/// The first region of the first file of the first transaction. On a ring of three servers its place is 1, 2 and 0.
+const REGION: (u64, u32, u16) = (1, 1, 0);
 
 /// The servers that are down, the call of each store that fails, if any, and the servers of the copies of the slice that
 /// is stored, or the fault.
-type Created = (&'static [u8], [Option<u64>; 3], Result<(u8, u8), Fault>);
+type Created = (
+    &'static [u8],
+    (Option<u64>, Option<u64>, Option<u64>),
+    Result<(u8, u8), Fault>,
+);
 
-/// The servers of the two copies of a slice.
-fn servers_of(slice: &Slice) -> Option<(u8, u8)> {
-    if slice.width() != 2 {
-        return None;
+/// Whether a slice has two copies on these servers, and its bytes are read back from the first.
+fn is_read_back(
+    replicas: &Replicas,
+    shelf: &mut Shelf<MemStore>,
+    slice: &Slice,
+    want: Result<(u8, u8), Fault>,
+) -> bool
+    requires { IsInside mem_store shelf.old slice.now }
+{
+    let Ok((first, second)) = want else {
+        return false;
+    };
+    if slice.width() != 2 || slice.len() != 3 {
+        return false;
     }
-    Some((slice.pointer(0).server.0, slice.pointer(1).server.0))
+    let servers = slice.pointer(0).server.0 == first && slice.pointer(1).server.0 == second;
+    let mut out = [0; 2];
+    let read = replicas.fetch(shelf, slice, 1, &mut out);
+    servers && read == Ok(ServerId(first)) && out == *b"bc"
 }
 
-/// Whether these are the servers of the copies of a slice that is stored, and its bytes are read back from the first.
-fn is_created(alloc: Global, row: &Created) -> Result<bool, Fail> {
+/// Whether these are the servers of the copies of a slice that is stored at a place on three servers, and its bytes are
+/// read back from the first.
+fn is_created(alloc: Global, place: &Place, row: &Created) -> bool {
     let (down, fails, want) = row;
-    let place = first_place(alloc, 3)?;
-    let replicas = replicas(3, down)?;
-    let mut shelf = shelf(alloc, fails)?;
-    let slice = match replicas.create(&mut shelf, &place, b"abc") {
-        Ok(slice) => slice,
-        Err(fault) => return Ok(*want == Err(fault)),
+    let Some(replicas) = replicas(3, down) else {
+        return false;
     };
-    let Some((first, second)) = servers_of(&slice) else {
-        return Ok(false);
-    };
-    if slice.len() != 3 {
-        return Ok(false);
+    if place.count() != 3 {
+        return false;
     }
-    let mut out = [0; 2];
-    let read = replicas.fetch(&mut shelf, &slice, 1, &mut out);
-    Ok(*want == Ok((first, second)) && read == Ok(ServerId(first)) && out == *b"bc")
+    let Some(mut shelf) = shelf(alloc, &[fails.0, fails.1, fails.2]) else {
+        return false;
+    };
+    match replicas.create(&mut shelf, place, b"abc") {
+        Ok(slice) => is_read_back(&replicas, &mut shelf, &slice, *want),
+        Err(fault) => *want == Err(fault),
+    }
 }
 
 const NONE: Result<(u8, u8), Fault> = Err(Fault::Write);
 
 const CREATED: [Created; 10] = [
-    (&[], [None, None, None], Ok((1, 2))),
-    (&[1], [None, None, None], Ok((0, 2))),
-    (&[2], [None, None, None], Ok((0, 1))),
-    (&[0], [None, None, None], Ok((1, 2))),
-    (&[1, 2], [None, None, None], NONE),
-    (&[], [None, Some(0), None], Ok((0, 2))),
-    (&[], [None, None, Some(0)], Ok((0, 1))),
-    (&[], [Some(0), None, None], Ok((1, 2))),
-    (&[], [None, Some(0), Some(0)], NONE),
-    (&[0], [None, Some(0), None], NONE),
+    (&[], (None, None, None), Ok((1, 2))),
+    (&[1], (None, None, None), Ok((0, 2))),
+    (&[2], (None, None, None), Ok((0, 1))),
+    (&[0], (None, None, None), Ok((1, 2))),
+    (&[1, 2], (None, None, None), NONE),
+    (&[], (None, Some(0), None), Ok((0, 2))),
+    (&[], (None, None, Some(0)), Ok((0, 1))),
+    (&[], (Some(0), None, None), Ok((1, 2))),
+    (&[], (None, Some(0), Some(0)), NONE),
+    (&[0], (None, Some(0), None), NONE),
 ];
 
-/// How many rows hold, from the first on.
-fn created(alloc: Global, rows: &[Created]) -> Result<usize, Fail> {
-    for (i, row) in rows.iter().enumerate() {
-        if !is_created(alloc, row)? {
-            return Ok(i);
+/// Whether each row holds.
+fn are_created(alloc: Global, place: &Place, rows: &[Created]) -> bool {
+    for row in rows {
+        if !is_created(alloc, place, row) {
+            return false;
         }
     }
-    Ok(rows.len())
+    true
+}
+
+/// Whether each row holds on three servers.
+fn are_stored(alloc: Global, rows: &[Created]) -> bool {
+    let Some(place) = place(alloc, 3, REGION) else {
+        return false;
+    };
+    are_created(alloc, &place, rows)
 }
 
 #[test]
-fn a_slice_is_stored_on_the_first_servers_that_take_it(rt: HostRuntime) -> Result<(), Fail> {
-    assert_eq!(rt; created(rt.alloc(), &CREATED)?, 10);
-    Ok(())
+fn a_slice_is_stored_on_the_first_servers_that_take_it(rt: HostRuntime) {
+    assert!(rt; are_stored(rt.alloc(), &CREATED));
 }
 
-/// What is read of a slice of four bytes that was stored on two servers, where these go down after that: the bytes and
-/// the server that they are from.
-fn read_later(alloc: Global, down: &[u8]) -> Result<Result<(ServerId, [u8; 4]), Fault>, Fail> {
-    let place = first_place(alloc, 2)?;
-    let before = replicas(2, &[])?;
-    let after = replicas(2, down)?;
-    let mut shelf = shelf(alloc, &[None, None])?;
-    let slice = before.create(&mut shelf, &place, b"abcd")?;
-    if slice.width() != 2 || slice.len() != 4 || shelf.length(0, FILE) != 4 {
-        return Err(Fail::from("width"));
+/// The servers that go down once a slice is stored, and the server that its bytes are read from, or the fault.
+type Later = (&'static [u8], Result<ServerId, Fault>);
+
+const LATER: [Later; 2] = [
+    (&[0], Ok(ServerId(1))),
+    (&[0, 1], Err(Fault::Read(ServerId(1)))),
+];
+
+/// A slice of four bytes that is stored at a place on two servers that are up.
+fn stored(place: &Place, shelf: &mut Shelf<MemStore>) -> Option<Slice>
+    requires { length shelf.old ≡ 2 }
+    ensures inside { IfSome result (IsInside mem_store shelf.new) }
+{
+    let replicas = replicas(2, &[])?;
+    if place.count() != 2 {
+        return None;
+    }
+    match replicas.create(shelf, place, b"abcd") {
+        Ok(slice) => Some(slice),
+        Err(_) => None,
+    }
+}
+
+/// Whether this is what is read of such a slice, where servers are down.
+fn is_read(shelf: &mut Shelf<MemStore>, slice: &Slice, row: &Later) -> bool
+    requires { IsInside mem_store shelf.old slice.now }
+{
+    let (down, want) = row;
+    let Some(replicas) = replicas(2, down) else {
+        return false;
+    };
+    if shelf.len() == 0 || shelf.length(0, FILE) != 4 {
+        return false;
+    }
+    if slice.width() != 2 || slice.len() != 4 {
+        return false;
     }
     let mut out = [0; 4];
-    match after.fetch(&mut shelf, &slice, 0, &mut out) {
-        Ok(server) => Ok(Ok((server, out))),
-        Err(fault) => Ok(Err(fault)),
+    let read = replicas.fetch(shelf, slice, 0, &mut out);
+    read == *want && (read.is_err() || out == *b"abcd")
+}
+
+/// Whether that is read of a slice which was stored before the servers went down.
+fn is_read_later(alloc: Global, place: &Place, row: &Later) -> bool {
+    let Some(mut shelf) = shelf(alloc, &[None, None]) else {
+        return false;
+    };
+    let Some(slice) = stored(place, &mut shelf) else {
+        return false;
+    };
+    is_read(&mut shelf, &slice, row)
+}
+
+/// Whether both rows hold.
+fn are_read_later(alloc: Global, rows: &[Later; 2]) -> bool {
+    let Some(place) = place(alloc, 2, REGION) else {
+        return false;
+    };
+    is_read_later(alloc, &place, &rows[0]) && is_read_later(alloc, &place, &rows[1])
+}
+
+#[test]
+fn what_was_stored_is_read_until_all_servers_are_down(rt: HostRuntime) {
+    assert!(rt; are_read_later(rt.alloc(), &LATER));
+}
+
+/// Whether server 2 of three alone is down where it is told to be, and comes up again.
+fn goes_down_and_comes_up(down: &[u8]) -> bool {
+    let Some(mut replicas) = replicas(3, down) else {
+        return false;
+    };
+    if replicas.is_down(1) || !replicas.is_down(2) {
+        return false;
     }
-}
-
-#[test]
-fn what_was_stored_is_read_until_all_servers_are_down(rt: HostRuntime) -> Result<(), Fail> {
-    assert_eq!(rt; read_later(rt.alloc(), &[0])?, Ok((ServerId(1), *b"abcd")));
-    assert_eq!(rt;
-        read_later(rt.alloc(), &[0, 1])?,
-        Err(Fault::Read(ServerId(1)))
-    );
-    Ok(())
-}
-
-/// Whether servers 1 and 2 of three are down, before and after server 2 comes up.
-fn downs(down: &[u8]) -> Result<[bool; 3], Fail> {
-    let mut replicas = replicas(3, down)?;
-    let first = replicas.is_down(1);
-    let before = replicas.is_down(2);
     replicas.up(2);
-    Ok([first, before, replicas.is_down(2)])
+    !replicas.is_down(2)
 }
 
 #[test]
-fn servers_go_down_and_come_up(rt: HostRuntime) -> Result<(), Fail> {
-    assert_eq!(rt; downs(&[2])?, [false, true, false]);
-    Ok(())
+fn servers_go_down_and_come_up(rt: HostRuntime) {
+    assert!(rt; goes_down_and_comes_up(&[2]));
 }

@@ -1,7 +1,7 @@
 //! The slices of one server in memory, each call once.
 
 use crate::stores::store;
-use std::test::Fail;
+use std::alloc::Global;
 use wtf_base::{Pointer, ServerId};
 use wtf_dev::{Failed, MemStore, SliceStore};
 
@@ -58,30 +58,48 @@ fn frees(store: &mut MemStore, file: u8, at: u64, len: u64, want: Result<(), Fai
     wtf_server::free(store, file, at, len) == want
 }
 
-fn short(store: &MemStore) -> u64 {
-    store.short()
-}
-
-#[test]
-fn bytes_are_created_retrieved_and_freed(rt: HostRuntime) -> Result<(), Fail> {
-    let mut store = store(rt.alloc(), &[])?;
+/// Whether bytes are created, retrieved and freed where no call fails.
+fn keeps_a_slice(store: &mut MemStore) -> bool {
     let part = pointer(5, 2, 1, 2);
-    assert!(rt; creates(&mut store, 5, 2, b"abc", Ok(pointer(5, 2, 0, 3))));
-    assert!(rt; gives(&mut store, part, Some(b"bc")));
-    assert!(rt; frees(&mut store, 2, 1, 1, Ok(())));
-    assert!(rt; gives(&mut store, part, Some(b"\0c")));
-    assert!(rt; short(&store) == 0);
-    Ok(())
+    creates(store, 5, 2, b"abc", Ok(pointer(5, 2, 0, 3)))
+        && gives(store, part, Some(b"bc"))
+        && frees(store, 2, 1, 1, Ok(()))
+        && gives(store, part, Some(b"\0c"))
+        && store.short() == 0
+}
+
+/// Whether that holds of a store none of whose calls fails.
+fn slice_is_kept(alloc: Global) -> bool {
+    let Ok(mut store) = store(alloc, &[]) else {
+        return false;
+    };
+    keeps_a_slice(&mut store)
 }
 
 #[test]
-fn a_store_that_fails_gives_failed(rt: HostRuntime) -> Result<(), Fail> {
-    let mut store = store(rt.alloc(), &[1, 2, 3])?;
+fn bytes_are_created_retrieved_and_freed(rt: HostRuntime) {
+    assert!(rt; slice_is_kept(rt.alloc()));
+}
+
+/// Whether calls 1 to 3 fail, and nothing else.
+fn fails_three_times(store: &mut MemStore) -> bool {
     let all = pointer(0, 7, 0, 2);
-    assert!(rt; creates(&mut store, 0, 7, b"ab", Ok(all)));
-    assert!(rt; creates(&mut store, 0, 7, b"cd", Err(Failed)));
-    assert!(rt; gives(&mut store, all, None));
-    assert!(rt; frees(&mut store, 7, 0, 2, Err(Failed)));
-    assert!(rt; gives(&mut store, all, Some(b"ab")));
-    Ok(())
+    creates(store, 0, 7, b"ab", Ok(all))
+        && creates(store, 0, 7, b"cd", Err(Failed))
+        && gives(store, all, None)
+        && frees(store, 7, 0, 2, Err(Failed))
+        && gives(store, all, Some(b"ab"))
+}
+
+/// Whether that holds of a store whose calls with these numbers fail.
+fn failures_are_told(alloc: Global) -> bool {
+    let Ok(mut store) = store(alloc, &[1, 2, 3]) else {
+        return false;
+    };
+    fails_three_times(&mut store)
+}
+
+#[test]
+fn a_store_that_fails_gives_failed(rt: HostRuntime) {
+    assert!(rt; failures_are_told(rt.alloc()));
 }

@@ -1,4 +1,4 @@
-use Rattle.std.proofs.Common.{◌≡◌, ◌++◌, [], ◌∷◌, sym, subst}
+use Rattle.std.proofs.Common.{◌≡◌, [], ◌∷◌, sym, subst}
 use Rattle.wtf_kv.specs.Stores.{Store}
 use Rattle.wtf_occ.specs.Attempts.{Attempted}
 use Rattle.wtf_values.specs.declared.key.Key.{Key}
@@ -10,13 +10,10 @@ use Rattle.wtf_files_rows.proofs.store.begun.Goals as goal
 
 pub returns : goal.returns
 returns c =
-    let kv = c.pin.new.self in
+    let kv = c.in_ok-kv.kv in
     let empty : Attempted Key Delta = record { base = 0; reads = []; changes = [] } in
-    let store : Store Key Value = record { number = 0; pins = []; cells = [] } in
     let at : c.in_ok-at.at ≡ empty = let e = c.in_ok-at.ensures in let w = c.in_ok-at.was in cc in
-    let first : c.in_ok-kv.kv ≡ store = let e = c.in_ok-kv.ensures in let w = c.in_ok-kv.was in cc in
     let none : IsBare (seen kv c.in_ok-at.at) =
     subst (λ (a : Attempted Key Delta). IsBare (seen kv a)) (sym at)
-    (subst (λ (s : Store Key Value). IsBare (seen s empty)) (sym c.in_ok-pin.ensures.ok)
-    (subst (λ (s : Store Key Value). IsBare (seen (record s { pins = s.pins ++ 0 ∷ [] }) empty)) (sym first) (λ P Q hole q. tt))) in
+    (subst (λ (s : Store Key Value). IsBare (seen s empty)) (sym c.in_ok-kv.ensures) (λ P Q hole q. tt)) in
     record { bare = c.in_ok-tree_made.ensures kv none }

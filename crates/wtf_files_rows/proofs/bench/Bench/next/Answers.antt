@@ -19,10 +19,10 @@ invariant_of-self-2 c =
     let begins = c.in_ok-next.ensures in
     let last = c.replace-last.result in (
       was.0,
-      subst (λ (x : TxnView). IsHeld at.shelf at.settings c.drop_all.new.kv x) (sym c.replace-last.ensures.after)
-          (held_next at.shelf at.settings kv c.begin.new.kv c.begin.new.kv c.drop_all.new.kv c.in_ok-next.next _ last.at.base begins.value begins.ok begins.pinned begins.fit (λ n le. refl) (λ n. refl)
+      subst (λ (x : TxnView). IsHeld at.parts.shelf at.parts.settings c.drop_all.new.kv x) (sym c.replace-last.ensures.after)
+          (held_next at.parts.shelf at.parts.settings kv c.begin.new.kv c.begin.new.kv c.drop_all.new.kv c.in_ok-next.next _ last.at.base begins.value begins.ok begins.pinned begins.fit (λ n le. refl) (λ n. refl)
           c.drop_all.ensures.rest c.drop_all.ensures.once
           (subst (λ (x : TxnView). IsTrue (is_pinned kv x.at.base)) (sym c.replace-last.ensures.value) was.1.fit.pinned)
           was.1.now
-          (subst (λ (s : Store Key Value). IsStoredInside mem_store at.shelf at.settings (metadata_at s s.number)) (sym begins.ok) was.1.now)),
+          (subst (λ (s : Store Key Value). IsStoredInside mem_store at.parts.shelf at.parts.settings (metadata_at s s.number)) (sym begins.ok) was.1.now)),
     )

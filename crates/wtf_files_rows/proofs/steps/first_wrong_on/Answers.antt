@@ -5,10 +5,10 @@ use Rattle.wtf_meta.specs.Bytes.{any_slice}
 use Rattle.wtf_meta.specs.Sessions.{SessionView, SessionBytes}
 use Rattle.wtf_meta.proofs.Nothing.{nothing_kept}
 use Rattle.wtf_region.specs.Inside.{is_inside}
-use Rattle.wtf_files_rows.proofs.steps.all_come.Goals as goal
+use Rattle.wtf_files_rows.proofs.steps.first_wrong_on.Goals as goal
 
 -- no byte stands in the first map and in the first session
-pub rows_come-requires-clause-inside : goal.rows_come-requires-clause-inside
-rows_come-requires-clause-inside g c =
+pub first_wrong-requires-clause-inside : goal.first_wrong-requires-clause-inside
+first_wrong-requires-clause-inside c =
     let P : List Place → Bool = is_inside mem_store c.in_ok-shelf.field-0.shelf c.in_ok-shelf.field-0.settings in
-    (c.in_ok-kv.ensures.bare P any_slice refl, subst (λ (v : SessionView). SessionBytes P v) (sym c.in_ok-s.ensures) (nothing_kept P))
+    (c.requires.bare P any_slice refl, subst (λ (v : SessionView). SessionBytes P v) (sym c.requires.session) (nothing_kept P))
