@@ -25,7 +25,7 @@ demo-edges: build ## closed streams, a folder in use, wrong first words (seconds
 test: ## the gate, rt ci, on everything (the first time, the longest)
 	rt ci
 
-bench: build ## print tables of what calls, lines and long lists cost (minutes)
+bench: build ## print tables of what calls, lines, long lists and scans cost (minutes)
 	@tools/bench
 
 hostile: build ## run the program over devices that fail, cut scripts, damaged images, and want of memory (minutes)
