@@ -4,6 +4,8 @@
 #[cfg(test)]
 mod dev;
 #[cfg(test)]
+mod noted;
+#[cfg(test)]
 mod real;
 #[cfg(test)]
 mod replica;
