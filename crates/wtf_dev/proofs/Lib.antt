@@ -3,3 +3,5 @@ pub mod Each
 pub mod Sums
 pub mod Lists
 pub mod Told
+pub mod DiskTapes
+pub mod DiskStops

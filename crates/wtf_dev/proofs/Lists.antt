@@ -1,10 +1,12 @@
 -- The lists of a row of files, read and written.
-use Rattle.std.proofs.Common.{◌≡◌, ℕ, zero, suc, Bool, true, false, cond, ◌++◌, ◌<◌, ◌+◌, ◌^◌, List, [], ◌∷◌, length, get_or, set, length-append, refl, sym, ◌∙◌, ap, subst, arith}
+use Rattle.std.proofs.Common.{◌≡◌, ℕ, zero, suc, Bool, true, false, cond, ◌++◌, ◌<◌, ◌≤◌, ◌+◌, ◌^◌, List, [], ◌∷◌, length, get_or, set, length-append, refl, sym, ◌∙◌, ap, subst, arith}
 use Rattle.std.specs.Prelude.{Vec}
 use Rattle.std.specs.declared.alloc.Global.{Global}
 use Rattle.std.specs.List.{All}
 use Rattle.std.proofs.lemmas.List.{map-set, set-get_or}
 use Rattle.std.proofs.lemmas.List.Elements.{All-set, All-same}
+use Rattle.wtf_dev.specs.Disk.{overwritten}
+use Rattle.wtf_dev.specs.DiskTapeLaws.{length-overwritten}
 use Rattle.wtf_dev.specs.Memory.{file_lists, Zeroed}
 
 pub file_lists-length : (vs : List (Vec ℕ Global)) → length (file_lists vs) ≡ length vs
@@ -21,14 +23,14 @@ pub short_set : (vs : List (Vec ℕ Global)) (f : ℕ) (v : Vec ℕ Global) → 
     → All (λ (bytes : List ℕ). length bytes < 2 ^ 61) (file_lists (set vs f v))
 short_set vs f v all h = let P : List ℕ → Type 0 = λ bytes. length bytes < 2 ^ 61 in All-same P _ _ (map-set (λ (w : Vec ℕ Global). w.items) vs f v) (All-set P (file_lists vs) f v.items h all)
 
--- The file f is now x: the same, or with bytes more, or other bytes.
-pub lists_grown : (vs : List (Vec ℕ Global)) (f : ℕ) (d x : Vec ℕ Global) (now : List (List ℕ)) (bytes : List ℕ)
-    → file_lists vs ≡ now → f < length vs → x.items ≡ (get_or vs f d).items ++ bytes
-    → file_lists (set vs f x) ≡ set now f (get_or now f [] ++ bytes)
-lists_grown vs f d x now bytes is below more =
+-- The file f is now x: the same, or changed, or other bytes.
+pub lists_changed : (vs : List (Vec ℕ Global)) (f : ℕ) (d x : Vec ℕ Global) (now : List (List ℕ)) (change : List ℕ → List ℕ)
+    → file_lists vs ≡ now → f < length vs → x.items ≡ change (get_or vs f d).items
+    → file_lists (set vs f x) ≡ set now f (change (get_or now f []))
+lists_changed vs f d x now change is below more =
     map-set (λ (w : Vec ℕ Global). w.items) vs f x
-    ∙ ap (λ (y : List ℕ). set (file_lists vs) f y) (more ∙ ap (λ (y : List ℕ). y ++ bytes) (sym (file_lists-get vs f d below)))
-    ∙ ap (λ (z : List (List ℕ)). set z f (get_or z f [] ++ bytes)) is
+    ∙ ap (λ (y : List ℕ). set (file_lists vs) f y) (more ∙ ap change (sym (file_lists-get vs f d below)))
+    ∙ ap (λ (z : List (List ℕ)). set z f (change (get_or z f []))) is
 
 pub lists_same : (vs : List (Vec ℕ Global)) (f : ℕ) (d x : Vec ℕ Global) (now : List (List ℕ))
     → file_lists vs ≡ now → f < length vs → x.items ≡ (get_or vs f d).items → file_lists (set vs f x) ≡ now
@@ -57,3 +59,8 @@ short_get vs f d all below =
 pub cond_short : (b : Bool) (x xs ys : List ℕ) → x ≡ cond b (xs ++ ys) xs → length xs + length ys < 2 ^ 61 → length x < 2 ^ 61
 cond_short true x xs ys e h = omega (arith, ap length e, length-append xs ys, h)
 cond_short false x xs ys e h = omega (arith, ap length e, h)
+
+pub over_short : (done : Bool) (x s bytes : List ℕ) (at : ℕ) → (done ≡ true → x ≡ overwritten s at bytes) → (done ≡ false → x ≡ s)
+    → at ≤ length s → at + length bytes < 2 ^ 61 → length s < 2 ^ 61 → length x < 2 ^ 61
+over_short true x s bytes at over same inside room short = omega (arith, ap length (over refl), length-overwritten s bytes at inside, room, short)
+over_short false x s bytes at over same inside room short = omega (arith, ap length (same refl), short)

@@ -99,6 +99,8 @@ pub follows_grown : (old new : StoreState) (file : ℕ) (bytes : List ℕ) → n
 follows_grown old new file bytes is below n same =
     let sizes : (f : ℕ) → file_size old f ≤ file_size new f =
     λ f. omega (arith, size_set old new file _ is below (omega (arith, length-append (file_bytes old file) bytes)) f) in
+    let stays : (f i b : ℕ) → Outside f i [] → file_told old f i ≡ Some b → file_told new f i ≡ Some b =
+    told_stays old new [] sizes (told_set old new file _ [] is below (λ i b out told. get_more (file_bytes old file) bytes i b told)) in
     record {
       calls = n.calls;
       kept = record {
@@ -106,8 +108,9 @@ follows_grown old new file bytes is below n same =
         syncs = omega (arith, same);
         tells = refl;
         size = sizes;
-        bytes = told_stays old new [] sizes (told_set old new file _ [] is below (λ i b out told. get_more (file_bytes old file) bytes i b told));
-        untold = λ f i out low none. untold_stays old new f i low none;
+        bytes = stays;
+        shown = stays;
+        unshown = λ f i out low none. untold_stays old new f i low none;
       };
     }
 
@@ -129,6 +132,12 @@ pub follows_zeroed : (old new : StoreState) (file at len : ℕ) (next : List ℕ
 follows_zeroed old new file at len next is below z n same =
     let ranges : List Range = record { file = file; at = at; len = len } ∷ [] in
     let sizes : (f : ℕ) → file_size old f ≤ file_size new f = λ f. omega (arith, size_set old new file next is below (omega (arith, z.len)) f) in
+    let stays : (f i b : ℕ) → Outside f i ranges → file_told old f i ≡ Some b → file_told new f i ≡ Some b =
+    told_stays old new ranges sizes (told_set old new file next ranges is below (λ i b out told.
+    let inside = slice_get_within (file_bytes old file) i b told in
+    let far : (i < at) ⊎ (at + len ≤ i) = elim (cases_lt i at) [ inl lt ↦ inl lt | inr ge ↦ inr (out.0 refl ge) ] in
+    let same : get_or next i 0 ≡ b = z.others i far ∙ get_or_from_slice_get (file_bytes old file) i b 0 told in
+    slice_get-get_or next i 0 (omega (arith, inside, z.len)) ∙ ap Some same)) in
     record {
       calls = n.calls;
       kept = record {
@@ -136,12 +145,9 @@ follows_zeroed old new file at len next is below z n same =
         syncs = omega (arith, same);
         tells = refl;
         size = sizes;
-        bytes = told_stays old new ranges sizes (told_set old new file next ranges is below (λ i b out told.
-            let inside = slice_get_within (file_bytes old file) i b told in
-            let far : (i < at) ⊎ (at + len ≤ i) = elim (cases_lt i at) [ inl lt ↦ inl lt | inr ge ↦ inr (out.0 refl ge) ] in
-            let same : get_or next i 0 ≡ b = z.others i far ∙ get_or_from_slice_get (file_bytes old file) i b 0 told in
-            slice_get-get_or next i 0 (omega (arith, inside, z.len)) ∙ ap Some same));
-        untold = λ f i out low none. untold_stays old new f i low none;
+        bytes = stays;
+        shown = stays;
+        unshown = λ f i out low none. untold_stays old new f i low none;
       };
     }
 

@@ -7,3 +7,6 @@ pub mod Memory
 pub mod MemoryLaws
 pub mod Each
 pub mod Sums
+pub mod Disk
+pub mod DiskTape
+pub mod DiskTapeLaws

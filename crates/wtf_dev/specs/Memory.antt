@@ -42,7 +42,7 @@ abbrev pub file_told : StoreState → ℕ → ℕ → Option ℕ
 file_told s f i = if nat_lt f 8 && nat_lt i (file_size s f) then slice_get (file_bytes s f) i else None
 
 abbrev pub store_view : StoreState → StoreView
-store_view s = record { faults = s.calls.faults; syncs = s.syncs; size = file_size s; told = file_told s; tells = true }
+store_view s = record { faults = s.calls.faults; syncs = s.syncs; size = file_size s; told = file_told s; shown = file_told s; tells = true }
 
 pub record StoreFollows (old new : StoreState) (punched : List Range) : Type 0 where
   pub kept : Kept (store_view old) (store_view new) punched

@@ -14,7 +14,7 @@ outside_parts f i (x ∷ xs) ys h = let p = outside_parts f i xs ys h.1 in ((h.0
 
 -- a state keeps all of itself
 pub kept_same : (a : StoreView) → Kept a a []
-kept_same a = record { faults = omega arith; syncs = omega arith; size = λ f. omega arith; bytes = λ f i b out told. told; untold = λ f i out below none. none; tells = refl }
+kept_same a = record { faults = omega arith; syncs = omega arith; size = λ f. omega arith; bytes = λ f i b out told. told; shown = λ f i b out told. told; unshown = λ f i out below none. none; tells = refl }
 
 -- two spans join
 pub kept_on : (a b c : StoreView) (xs ys : List Range) → Kept a b xs → Kept b c ys → Kept a c (xs ++ ys)
@@ -23,9 +23,10 @@ kept_on a b c xs ys p q = record {
   syncs = omega (arith, p.syncs, q.syncs);
   size = λ f. omega (arith, p.size f, q.size f);
   bytes = λ f i v out told. let parts = outside_parts f i xs ys out in q.bytes f i v parts.1 (p.bytes f i v parts.0 told);
-  untold = λ f i out below none.
+  shown = λ f i v out told. let parts = outside_parts f i xs ys out in q.shown f i v parts.1 (p.shown f i v parts.0 told);
+  unshown = λ f i out below none.
       let parts = outside_parts f i xs ys out in let grows = p.size f in
-      q.untold f i parts.1 (omega (arith, below, grows)) (p.untold f i parts.0 below none);
+      q.unshown f i parts.1 (omega (arith, below, grows)) (p.unshown f i parts.0 below none);
   tells = q.tells ∙ p.tells;
 }
 
@@ -80,6 +81,7 @@ mem_store_laws = record {
   keeps = λ a b xs f. f.kept;
   fits = λ s f. omega arith;
   within = λ s f i b told. (told_parts s f i b told).0;
+  shows = λ s f i b told. told;
 }
 
 pub keeper_same : (s : KeeperState) → KeeperFollows s s []

@@ -7,12 +7,13 @@ pub record Range : Type 0 where
   pub at : ℕ
   pub len : ℕ
 
--- the counts, the length of each file, and the byte at each place where it is told
+-- the counts, the length of each file, and at each place the byte that lasts and the one that a read gives, where they are told
 pub record StoreView : Type 0 where
   pub faults : ℕ
   pub syncs : ℕ
   pub size : ℕ → ℕ
   pub told : ℕ → ℕ → Option ℕ
+  pub shown : ℕ → ℕ → Option ℕ
   -- whether this store tells what is appended to it and what is punched
   pub tells : Bool
 
@@ -27,17 +28,18 @@ pub record Kept (old new : StoreView) (punched : List Range) : Type 0 where
   pub syncs : old.syncs ≤ new.syncs
   pub size : (f : ℕ) → old.size f ≤ new.size f
   pub bytes : (f i b : ℕ) → Outside f i punched → old.told f i ≡ Some b → new.told f i ≡ Some b
-  -- what was not told below the old length is not told now
-  pub untold : (f i : ℕ) → Outside f i punched → i < old.size f → old.told f i ≡ None → new.told f i ≡ None
+  -- a read gives what it gave, and below the old length nothing else comes to be known
+  pub shown : (f i b : ℕ) → Outside f i punched → old.shown f i ≡ Some b → new.shown f i ≡ Some b
+  pub unshown : (f i : ℕ) → Outside f i punched → i < old.size f → old.shown f i ≡ None → new.shown f i ≡ None
   pub tells : new.tells ≡ old.tells
 
 -- the bytes of a file from a place on are these
 abbrev pub Holds : StoreView → ℕ → ℕ → List ℕ → Type 0
 Holds s f at bytes = (k : ℕ) → k < length bytes → s.told f (at + k) ≡ Some (slice_index bytes k)
 
--- each byte there that is told is the one in the list
+-- each byte there that a read gives is the one in the list
 abbrev pub Agrees : StoreView → ℕ → ℕ → List ℕ → Type 0
-Agrees s f at bytes = (k b : ℕ) → k < length bytes → s.told f (at + k) ≡ Some b → slice_index bytes k ≡ b
+Agrees s f at bytes = (k b : ℕ) → k < length bytes → s.shown f (at + k) ≡ Some b → slice_index bytes k ≡ b
 
 -- each file is as long as it was
 abbrev pub SameSizes : StoreView → StoreView → Type 0
@@ -66,4 +68,6 @@ pub record KindLaws {S : Type 0} (kind : StoreKind S) : Type 0 where
   -- no file is longer than 2^61 - 1 bytes
   pub fits : (s : S) (f : ℕ) → (kind.view s).size f < 2 ^ 61
   -- each byte that is told lies in one of the eight files, below its length
-  pub within : (s : S) (f i b : ℕ) → (kind.view s).told f i ≡ Some b → (f < 8) × (i < (kind.view s).size f)
+  pub within : (s : S) (f i b : ℕ) → (kind.view s).shown f i ≡ Some b → (f < 8) × (i < (kind.view s).size f)
+  -- a byte that lasts is the one that a read gives
+  pub shows : (s : S) (f i b : ℕ) → (kind.view s).told f i ≡ Some b → (kind.view s).shown f i ≡ Some b

@@ -1,6 +1,7 @@
 //! The eight files of a store in memory.
 
 ghost use Rattle.std.specs.Prelude.{◌≡◌, ◌<◌, ◌≤◌, ◌+◌, ◌^◌, ◌++◌, ℕ, List, [], true, false, length, replicate, slice_set, slice_index_or};
+ghost use Rattle.wtf_dev.specs.Disk.{overwritten};
 ghost use Rattle.wtf_dev.specs.Memory.{Zeroed};
 
 use std::alloc::Global;
@@ -72,6 +73,25 @@ impl Files {
         self.held[file as usize].extend_from_slice(bytes).is_ok()
     }
 
+    /// Writes bytes into a file, over those from a place on and past its end; false where there is no room for them, and
+    /// then nothing changes.
+    pub(crate) fn over(&mut self, file: u8, at: usize, bytes: &[u8]) -> bool
+        requires file { file < 8 }
+        requires inside { at ≤ length (slice_index_or self.old file []) }
+        ensures over { result ≡ true → self.new ≡
+            slice_set self.old file (overwritten (slice_index_or self.old file []) at bytes.now) }
+        ensures room { result ≡ true → at + length bytes.now < 2 ^ 61 }
+        ensures same { result ≡ false → self.new ≡ self.old }
+        ensures within { file < length self.old }
+    {
+        // The length of the file shows that the place is below the limit.
+        let _held = self.bytes(file);
+        if bytes.len() >= LIMIT - at {
+            return false;
+        }
+        over(&mut self.held[file as usize], at, bytes)
+    }
+
     /// Writes zeros into a file, from one place to another.
     pub(crate) fn zero(&mut self, file: u8, from: usize, to: usize)
         requires file { file < 8 }
@@ -83,6 +103,21 @@ impl Files {
     {
         zero(&mut self.held[file as usize], from, to);
     }
+}
+
+/// Writes bytes over those from a place on, and past the end; false where there is no room for them, and then nothing
+/// changes.
+pub(crate) fn over(held: &mut Vec<u8>, at: usize, bytes: &[u8]) -> bool
+    ensures over { result ≡ true → held.new.items ≡ overwritten held.old.items at bytes.now }
+    ensures same { result ≡ false → held.new.items ≡ held.old.items }
+{
+    let from = at.min(held.len());
+    let inside = bytes.len().min(held.len() - from);
+    if held.extend_from_slice(&bytes[inside..]).is_err() {
+        return false;
+    }
+    held[from..from + inside].copy_from_slice(&bytes[..inside]);
+    true
 }
 
 // Writes zeros from one place to another.

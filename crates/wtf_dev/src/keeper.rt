@@ -1,6 +1,6 @@
 //! The keeper of one image.
 
-ghost use Rattle.std.specs.Prelude.{◌≡◌, ℕ, List, [], ◌∷◌, ◌++◌, true, Some, IfOk, OnOk, OnErr, IsErrOf};
+ghost use Rattle.std.specs.Prelude.{◌≡◌, ℕ, List, [], ◌∷◌, ◌++◌, ⊤, true, Some, IfOk, OnOk, OnErr, IsErrOf};
 ghost use Rattle.wtf_dev.specs.Counts.{Rose};
 ghost use Rattle.wtf_dev.specs.Keep.{KeeperView, KeeperKept};
 
@@ -15,6 +15,9 @@ pub trait Keeper {
     /// A later state after an earlier one, between which these images were handed to `replace`. An
     /// implementation may say more in it.
     ghost follows: { Self → Self → List (List ℕ) → Type 0 };
+
+    /// What an implementation says more of a state after a `replace` that failed.
+    ghost refused: { Self → Self → Type 0 } = { λ old new. ⊤ };
 
     /// The bytes held. They stay, whatever this answers.
     fn load(&mut self, alloc: Global) -> Result<Vec<u8>, LoadFault>
@@ -31,6 +34,7 @@ pub trait Keeper {
         ensures replaced { OnOk result ((view self.old).tells ≡ true →
             (view self.new).held ≡ Some bytes.now) }
         ensures follows { follows self.old self.new (bytes.now ∷ []) }
+        ensures refused { OnErr result (refused self.old self.new) }
         ensures cause { OnErr result (Rose (view self.old).faults (view self.new).faults) };
 
     /// A state follows itself, and nothing was handed over.

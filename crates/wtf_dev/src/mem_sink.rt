@@ -63,6 +63,8 @@ impl Sink for MemSink {
         ensures told { (old : List ℕ) → (sink_view self.old).taken ≡ Some old →
             Takes result bytes.now old (sink_view self.new).taken }
         ensures faults { (sink_view self.old).faults ≤ (sink_view self.new).faults }
+        ensures steady { OnOk result
+            ((sink_view self.new).faults ≡ (sink_view self.old).faults) }
         ensures cause { OnErr result
             (Rose (sink_view self.old).faults (sink_view self.new).faults) }
 

@@ -1,9 +1,10 @@
 //! Which calls of a device in memory fail, and how often it has failed.
 
-ghost use Rattle.std.specs.Prelude.{◌≡◌};
+ghost use Rattle.std.specs.Prelude.{◌≡◌, ◌↔◌, true};
 ghost use Rattle.std.specs.Result.{is_err};
 ghost use Rattle.wtf_dev.specs.Counts.{risen};
 ghost use Rattle.wtf_dev.specs.Calls.{uncalled, IsCall};
+ghost use Rattle.wtf_dev.specs.DiskTape.{IsCountedSo, IsDueToFail};
 
 use crate::Failed;
 use std::marker::Model;
@@ -45,7 +46,24 @@ impl Turns {
         ensures { IsCall (is_err result) self.old self.new }
     {
         let due = self.fails.contains(&self.calls);
+        self.counted(due, true)
+    }
+
+    /// Whether the next call is due to fail: its number says so, or is not below the fuse.
+    pub(crate) fn is_due(&self, fuse: u64) -> bool
+        ensures { (result ≡ true) ↔ IsDueToFail fuse self.now }
+    {
+        self.fails.contains(&self.calls) || fuse <= self.calls
+    }
+
+    /// Counts a call. It fails where it was due to, or found no room for what it notes.
+    pub(crate) fn counted(&mut self, due: bool, room: bool) -> Result<(), Failed>
+        ensures { IsCountedSo due room (is_err result) self.old self.new }
+    {
         self.calls = self.calls.saturating_add(1);
+        if !room {
+            return Err(self.lack());
+        }
         if due {
             self.faults = self.faults.saturating_add(1);
             return Err(Failed);

@@ -1,10 +1,10 @@
 use Rattle.std.proofs.Common.{◌∙◌, cond, [], ◌++◌, arith, length, get_or, ap, sym}
-use Rattle.wtf_dev.proofs.Lists.{short_set, lists_grown, lists_same, file_lists-get, cond_short}
+use Rattle.wtf_dev.proofs.Lists.{short_set, lists_changed, lists_same, file_lists-get, cond_short}
 use Rattle.wtf_dev.proofs.files.Files.grow.Goals as goal
 
 pub returns-clause-grown : goal.returns-clause-grown
 returns-clause-grown c = λ ok.
-    lists_grown c.self.inside.held c.args.file c.index-self-file.result _ c.args.self.now c.args.bytes.now c.self.view_is (omega (arith, c.requires, c.self.ranges))
+    lists_changed c.self.inside.held c.args.file c.index-self-file.result _ c.args.self.now (λ l. l ++ c.args.bytes.now) c.self.view_is (omega (arith, c.requires, c.self.ranges))
     (c.extend_from_slice.ensures.items ∙ ap (λ b. cond b ((get_or c.self.inside.held c.args.file c.index-self-file.result).items ++ c.args.bytes.now) (get_or c.self.inside.held c.args.file c.index-self-file.result).items) (sym c.is_ok.ensures.value ∙ ok))
 
 pub returns-clause-same : goal.returns-clause-same
