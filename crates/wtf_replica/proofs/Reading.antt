@@ -1,20 +1,24 @@
 -- One turn of the loops of `fetch`, `sync_all` and `sync_up`.
-use Rattle.std.proofs.Common.{◌≡◌, ◌⊎◌, ℕ, zero, suc, ◌+◌, ◌-◌, ◌^◌, ◌<◌, Bool, true, false, List, [], ◌∷◌, ◌++◌, length, get_or, take, Option, Some, None, refl, sym, ◌∙◌, ap, subst, arith, inl, inr}
+use Rattle.std.proofs.Common.{◌≡◌, ◌⊎◌, ℕ, zero, suc, ◌+◌, ◌-◌, ◌^◌, ◌<◌, ◌≢◌, Bool, true, false, List, [], ◌∷◌, ◌++◌, length, get_or, take, Option, Some, None, refl, sym, ◌∙◌, ap, subst, arith, inl, inr}
 use Rattle.std.specs.Prelude.{slice_get}
 use Rattle.std.specs.List.{All}
 use Rattle.std.proofs.lemmas.Bool.{false≢true}
 use Rattle.std.proofs.lemmas.List.{take_more}
-use Rattle.std.proofs.lemmas.List.Elements.{All-more, All-weaker}
+use Rattle.std.proofs.lemmas.List.Elements.{All-cons, All-more, All-nil, All-pop, All-take, All-weaker}
 use Rattle.std.proofs.lemmas.Option.{slice_get_within, get_or_from_slice_get}
 use Rattle.wtf_base.specs.declared.pointer.Pointer.{Pointer}
 use Rattle.wtf_base.specs.declared.slice.Slice.{Slice}
+use Rattle.wtf_base.specs.declared.slice.Extents.{Extents}
+use Rattle.wtf_base.specs.declared.slice.Extents.TheVariants.{One, Two, Three}
+use Rattle.wtf_base.specs.Extents.{IsSound, pointers_to}
 use Rattle.wtf_base.specs.Slices.{pointers_of}
 use Rattle.wtf_dev.specs.Store.{StoreKind, Agrees}
 use Rattle.wtf_replica.specs.Spans.{Span, span}
-use Rattle.wtf_replica.specs.Outs.{IsOut, SameSyncs, HasSynced}
-use Rattle.wtf_replica.specs.Copies.{IsCopyInside, IsReadable, IsFetched}
+use Rattle.wtf_replica.specs.Outs.{IsOut, SameFrom, SameSyncs, HasSynced}
+use Rattle.wtf_replica.specs.Copies.{IsCopyInside, IsReadable, SameBeside, IsFetched}
 use Rattle.wtf_replica.specs.Faults.{last_server}
 use Rattle.wtf_replica.proofs.Spans.{EachKept, out_on, out_since}
+use Rattle.wtf_replica.proofs.Writing.{Above, Ascends}
 
 -- one copy more
 next_holds : (P : Pointer → Type 0) (ps : List Pointer) (j : ℕ) (p : Pointer) → slice_get ps j ≡ Some p → All P (take j ps) → P p → All P (take (j + 1) ps)
@@ -39,6 +43,56 @@ copy_inside kind down shelf s j p is readable up =
     let here : Readable p = subst Readable (get_or_from_slice_get (pointers_of s) j p p is) (readable j p (slice_get_within (pointers_of s) j p is)) in
     elim here [ inl is_down ↦ absurd (false≢true (sym up ∙ is_down)) | inr fits ↦ fits ]
 
+-- one copy more was tried
+pub next_beside : {S : Type 0} (old mid new : List S) (ps : List Pointer) (j : ℕ) (p : Pointer) → slice_get ps j ≡ Some p
+    → SameBeside (take j ps) old mid → ((k : ℕ) (d : S) → k ≢ p.server.0 → get_or new k d ≡ get_or mid k d) → SameBeside (take (j + 1) ps) old new
+next_beside old mid new ps j p is was elsewhere k d none =
+    let Other : Pointer → Type 0 = λ q. q.server.0 ≢ k in
+    let below : j < length ps = slice_get_within ps j p is in
+    let parts = All-pop Other (take (j + 1) ps) (take j ps) (Some (get_or ps j p)) (take_more ps j p below) none in
+    let here : p.server.0 ≢ k = subst Other (get_or_from_slice_get ps j p p is) parts.1 in
+    elsewhere k d (λ same. here (sym same)) ∙ was k d parts.0
+
+-- the servers that have none of the copies have none of the first
+pub beside_all : {S : Type 0} (old new : List S) (ps : List Pointer) (n : ℕ) → SameBeside (take n ps) old new → SameBeside ps old new
+beside_all old new ps n first k d none = first k d (All-take (λ (q : Pointer). q.server.0 ≢ k) n ps none)
+
+abbrev server_of : Option Pointer → ℕ
+server_of None = 0
+server_of (Some p) = p.server.0
+
+-- the servers of a slice's copies ascend
+extents_ascend : (n : ℕ) (e : Extents) → IsSound n e → Ascends (pointers_to n e)
+extents_ascend n (One a) s = (tt, tt)
+extents_ascend n (Two a b) s = ((s.3, tt), (tt, tt))
+extents_ascend n (Three a b c) s = ((s.4, (omega (arith, s.4, s.5), tt)), ((s.5, tt), (tt, tt)))
+
+above_at : (k : ℕ) (ps : List Pointer) (i : ℕ) (p : Pointer) → Above k ps → slice_get ps i ≡ Some p → k < p.server.0
+above_at k [] i p a is = absurd (cc)
+above_at k (q ∷ ps) zero p a is =
+    let here : Some q ≡ Some p = is in omega (arith, a.0, ap (λ (o : Option Pointer). server_of o) here)
+above_at k (q ∷ ps) (suc i) p a is = above_at k ps i p a.1 is
+
+none_up_to : (ps : List Pointer) (i : ℕ) (p : Pointer) (k : ℕ) → Ascends ps → slice_get ps i ≡ Some p → p.server.0 < k
+    → All (λ (q : Pointer). q.server.0 ≢ k) (take (suc i) ps)
+none_up_to [] i p k a is low = absurd (cc)
+none_up_to (q ∷ ps) zero p k a is low =
+    let here : Some q ≡ Some p = is in
+    let same : q.server.0 ≡ p.server.0 = ap (λ (o : Option Pointer). server_of o) here in
+    All-cons (λ (r : Pointer). r.server.0 ≢ k) q [] (λ e. omega (arith, e, same, low)) (All-nil (λ (r : Pointer). r.server.0 ≢ k))
+none_up_to (q ∷ ps) (suc i) p k a is low =
+    let before : q.server.0 < p.server.0 = above_at q.server.0 ps i p a.0 is in
+    All-cons (λ (r : Pointer). r.server.0 ≢ k) q (take (suc i) ps) (λ e. omega (arith, e, before, low)) (none_up_to ps i p k a.1 is low)
+
+-- so the servers behind that of a copy have none of the copies up to it
+pub past_copy : {S : Type 0} (old new : List S) (s : Slice) (i : ℕ) (p : Pointer) → slice_get (pointers_of s) i ≡ Some p
+    → SameBeside (take (i + 1) (pointers_of s)) old new → SameFrom (p.server.0 + 1) old new
+past_copy old new s i p is beside k d low =
+    let on : suc i ≡ i + 1 = omega arith in
+    beside k d
+    (subst (λ (n : ℕ). All (λ (q : Pointer). q.server.0 ≢ k) (take n (pointers_of s))) on
+    (none_up_to (pointers_of s) i p k (extents_ascend s.len s.extents s.sound) is (omega (arith, low))))
+
 -- The copy that was read is the one that is answered: what it tells at the begin it still told when it was read.
 pub fetched : {S : Type 0} (kind : StoreKind S) (down : ℕ → Bool) (old mid new : List S) → length mid ≡ length old → EachKept kind old mid → EachKept kind mid new
     → (s : Slice) (j : ℕ) (p : Pointer) (off : ℕ) (out : List ℕ)
@@ -55,7 +109,7 @@ fetched {S} kind down old mid new same before after s j p off out is readable up
       server = refl;
       known = below;
       up = up;
-      bytes = λ d k b h told. agrees d k b h ((before p.server.0 d below).bytes p.file (p.at + off + k) b tt told);
+      bytes = λ d k b h told. agrees d k b h ((before p.server.0 d below).shown p.file (p.at + off + k) b tt told);
       earlier = All-weaker (λ (q : Pointer). IsOut kind (span down old mid) q.server.0) (λ (q : Pointer). IsOut kind (span down old new) q.server.0)
           (λ q. out_on kind down old mid new same after q.server.0) (take j (pointers_of s)) earlier;
     }
@@ -82,10 +136,6 @@ pub synced_since : {S : Type 0} (kind : StoreKind S) (old mid new : List S) → 
 synced_since kind old mid new same kept k h =
     let below : k < length old = omega (arith, h.0, same) in
     (below, λ d low. omega (arith, h.1 d, (kept k d below).syncs))
-
-abbrev server_of : Option Pointer → ℕ
-server_of None = 0
-server_of (Some p) = p.server.0
 
 -- where no store was synced, none counts as synced
 pub none_synced : {S : Type 0} (kind : StoreKind S) (old new : List S) (k : ℕ) (d : S) → (kind.view (get_or old k d)).syncs < 2 ^ 64 - 1

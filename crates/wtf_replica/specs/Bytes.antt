@@ -14,6 +14,14 @@ told_by kind (Some s) p = (kind.view s).told p.file p.at
 abbrev pub byte_at : {S : Type 0} → StoreKind S → List S → Place → Option ℕ
 byte_at kind shelf p = told_by kind (slice_get shelf p.server) p
 
+-- the byte that a read of a store gives at a place, and one of the stores of a shelf
+abbrev pub shown_by : {S : Type 0} → StoreKind S → Option S → Place → Option ℕ
+shown_by kind None p = None
+shown_by kind (Some s) p = (kind.view s).shown p.file p.at
+
+abbrev pub shown_byte : {S : Type 0} → StoreKind S → List S → Place → Option ℕ
+shown_byte kind shelf p = shown_by kind (slice_get shelf p.server) p
+
 -- a place lies inside the stores: in one of the eight files of a server that is there, before its end
 abbrev pub IsPlaceInside : {S : Type 0} → StoreKind S → List S → Place → Type 0
 IsPlaceInside {S} kind shelf p =

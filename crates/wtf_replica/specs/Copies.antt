@@ -27,6 +27,11 @@ IsReadable kind down shelf s = All (λ p. (down p.server.0 ≡ true) ⊎ IsCopyI
 abbrev pub servers_of : Slice → List ℕ
 servers_of s = map (λ (p : Pointer). p.server.0) (pointers_of s)
 
+-- the stores of the servers that have none of these copies are as they were
+abbrev pub SameBeside : {S : Type 0} → List Pointer → List S → List S → Type 0
+SameBeside {S} copies old new =
+    (k : ℕ) (d : S) → All (λ (p : Pointer). p.server.0 ≢ k) copies → slice_index_or new k d ≡ slice_index_or old k d
+
 -- how many bytes of these copies lie in a file of a server
 abbrev pub bytes_in : List Pointer → ℕ → ℕ → ℕ
 bytes_in [] k f = 0

@@ -1,13 +1,13 @@
 //! Reading a slice from one of its copies.
 
 ghost use Rattle.std.specs.Prelude.{◌≡◌, ◌≢◌, ◌<◌, ◌≤◌, ◌+◌, ◌^◌, ◌⊎◌, ℕ, true, false, [], length, slice_index_or, IfOk, OnOk, IfErr};
-ghost use Rattle.wtf_base.specs.Slices.{len_of};
+ghost use Rattle.wtf_base.specs.Slices.{pointers_of, len_of};
 ghost use Rattle.wtf_dev.specs.Each.{EachFollows};
 ghost use Rattle.wtf_dev.specs.Store.{Agrees};
 ghost use Rattle.wtf_replica.specs.Downs.{is_down, during};
-ghost use Rattle.wtf_replica.specs.Outs.{IsLeftDown, IsOut, SameLengths, SameSyncs};
+ghost use Rattle.wtf_replica.specs.Outs.{IsLeftDown, IsOut, SameFrom, SameLengths, SameSyncs};
 ghost use Rattle.wtf_replica.specs.Bytes.{byte_at, ShowsSlice, ShowsUp};
-ghost use Rattle.wtf_replica.specs.Copies.{IsCopyInside, IsReadable, IsFetched};
+ghost use Rattle.wtf_replica.specs.Copies.{IsCopyInside, IsReadable, IsFetched, SameBeside};
 ghost use Rattle.wtf_replica.specs.Faults.{IsReadFault};
 
 use crate::Replicas;
@@ -17,7 +17,8 @@ use wtf_dev::{Shelf, SliceStore};
 impl Replicas {
     /// Puts bytes of a slice, from its byte `off` on, into `out`, from the first copy that can be read, in ascending order
     /// of servers and without those that are down, and answers that copy's server. `Read` where no copy can be read, with
-    /// the server of the last one: then nothing is known of `out`. Nothing is done to a server that is down.
+    /// the server of the last one: then nothing is known of `out`. Nothing is done to a server that is down, that has no
+    /// copy, or that comes behind the one that is answered.
     pub fn fetch<S: SliceStore>(
         &self,
         shelf: &mut Shelf<S>,
@@ -36,6 +37,8 @@ impl Replicas {
         ensures fault { IfErr result
             (IsReadFault S.kind (during self.now shelf.old shelf.new) slice.now) }
         ensures down { IsLeftDown (during self.now shelf.old shelf.new) }
+        ensures beside { SameBeside (pointers_of slice.now) shelf.old shelf.new }
+        ensures past { IfOk result (λ k. SameFrom (k.0 + 1) shelf.old shelf.new) }
         ensures lengths { SameLengths S.kind shelf.old shelf.new }
         ensures syncs { SameSyncs S.kind shelf.old shelf.new }
         ensures follows { EachFollows S.kind shelf.old shelf.new [] }

@@ -14,7 +14,8 @@ use wtf_dev::{Shelf, SliceStore};
 
 impl Replicas {
     /// Makes a range of a backing file of server `k` read as zeros. `Punch` where the server is down, and the range is as
-    /// it was, or its store failed, and the range is not known. Every byte outside the range stays.
+    /// it was, or its store failed, and the range is not known. Every byte outside the range stays,
+    /// and so do the stores of all other servers.
     pub fn free<S: SliceStore>(
         &self,
         shelf: &mut Shelf<S>,
@@ -42,6 +43,8 @@ impl Replicas {
         ensures fault { IfErr result (IsPunchFault S.kind (during self.now shelf.old shelf.new) k) }
         ensures up { OnOk result (is_down self.now k ≡ false) }
         ensures down { is_down self.now k ≡ true → shelf.new ≡ shelf.old }
+        ensures elsewhere { (j : ℕ) (d : S) → j ≢ k →
+            slice_index_or shelf.new j d ≡ slice_index_or shelf.old j d }
         ensures lengths { SameLengths S.kind shelf.old shelf.new }
         ensures syncs { SameSyncs S.kind shelf.old shelf.new }
         ensures follows { EachFollows S.kind shelf.old shelf.new
@@ -73,6 +76,8 @@ impl Replicas {
         ensures out { result ≡ false → IsOut S.kind (during self.now shelf.old shelf.new) k }
         ensures up { result ≡ true → is_down self.now k ≡ false }
         ensures down { is_down self.now k ≡ true → shelf.new ≡ shelf.old }
+        ensures elsewhere { (j : ℕ) (d : S) → j ≢ k →
+            slice_index_or shelf.new j d ≡ slice_index_or shelf.old j d }
         ensures lengths { SameLengths S.kind shelf.old shelf.new }
         ensures syncs { SameSyncs S.kind shelf.old shelf.new }
         ensures follows { EachFollows S.kind shelf.old shelf.new

@@ -10,7 +10,7 @@ use wtf_dev::{Failed, Shelf, SliceStore};
 
 impl Replicas {
     /// Brings the bytes of all servers' stores to where they last. `Failed` where a server is down or its store failed;
-    /// some of the stores may then be synced. Nothing is done to a server that is down.
+    /// some of the stores may then be synced. Nothing is done to a server that is down, or that the settings do not have.
     pub fn sync_all<S: SliceStore>(&self, shelf: &mut Shelf<S>) -> Result<(), Failed>
         requires shelf { (settings_of self.now).servers ≤ length shelf.old }
         ensures up { OnOk result ((k : ℕ) → k < (settings_of self.now).servers →
@@ -20,6 +20,7 @@ impl Replicas {
         ensures cause { OnErr result ((k : ℕ) × (k < (settings_of self.now).servers) ×
             IsOut S.kind (during self.now shelf.old shelf.new) k) }
         ensures down { IsLeftDown (during self.now shelf.old shelf.new) }
+        ensures past { SameFrom (settings_of self.now).servers shelf.old shelf.new }
         ensures lengths { SameLengths S.kind shelf.old shelf.new }
         ensures follows { EachFollows S.kind shelf.old shelf.new [] }
     {
