@@ -6,3 +6,4 @@ pub mod Numbers
 pub mod Locks
 pub mod Asked
 pub mod Streamed
+pub mod Disks

@@ -1,6 +1,6 @@
 //! Answers that are held back, which a source and a sink have in common.
 
-ghost use Rattle.std.specs.Prelude.{◌≤◌, ◌<◌, None, Some, length, take, IfOk, OnOk};
+ghost use Rattle.std.specs.Prelude.{◌≡◌, ◌≤◌, ◌<◌, [], None, Some, length, take, IfOk, OnOk};
 ghost use Rattle.std.specs.Io.KnownBytes.{Appends};
 ghost use Rattle.wtf_real.specs.Gathers.{all_of};
 ghost use Rattle.wtf_real.specs.Streamed.{AnswersView, IsWritten};
@@ -16,12 +16,14 @@ pub trait Answers {
     /// What is held back, and all that was answered, where they tell it.
     ghost told: { Self → AnswersView } = { λ _. record { held = None; all = None } };
 
-    /// Holds the first of these bytes back, as many as there is room for, and answers how many.
+    /// Holds the first of these bytes back, as many as there is room for, and answers how many. Where there is none, what is
+    /// held back is written.
     fn put(&mut self, bytes: &[u8]) -> Result<usize, Failed>
         ensures count { IfOk result (λ n. n ≤ length bytes.now) }
         ensures some { IfOk result (λ n. 0 < length bytes.now → 0 < n) }
         ensures taken { IfOk result (λ n.
-            Appends (told self.old).all (told self.new).all (take n bytes.now)) };
+            Appends (told self.old).all (told self.new).all (take n bytes.now)) }
+        ensures out { OnOk result (bytes.now ≡ [] → IsWritten (told self.old) (told self.new)) };
 
     /// Writes what is held back.
     fn flush(&mut self) -> Result<(), Failed>

@@ -44,6 +44,8 @@ impl SliceFile for File {
     }
 
     fn sync(&mut self) -> io::Result<()> {
+        // No clause can say that this is done, as a file of the system tells nothing, and no test can see it: what was
+        // written is read back without it, and only a machine that stops would show the difference.
         self.sync_all()
     }
 }
@@ -95,7 +97,7 @@ impl<F: SliceFile> EightFiles<F> {
     }
 
     /// Brings one file to where it lasts.
-    fn sync_one(&mut self, file: u8) -> io::Result<()>
+    pub(crate) fn sync_one(&mut self, file: u8) -> io::Result<()>
         requires { file < 8 }
         ensures count { length self.old ≡ 8 }
         ensures synced { IsAskedOf result file Sync self.old self.new }

@@ -1,17 +1,19 @@
 //! The files of one server, in a folder of their own.
 
-ghost use Rattle.std.specs.Prelude.{◌≡◌, ◌≢◌, ◌<◌, ◌≤◌, ◌+◌, ◌-◌, ◌^◌, ℕ, true, Some, [], ◌∷◌, length, map, replicate, slice_index_or, IfOk, OnOk, OnErr, ◌⊎◌, if◌then◌else◌};
+ghost use Rattle.std.specs.Prelude.{◌≡◌, ◌≢◌, ◌<◌, ◌≤◌, ◌+◌, ◌-◌, ◌^◌, ℕ, true, Some, [], ◌∷◌, length, map, replicate, slice_index_or, string_bytes, IfOk, OnOk, OnErr, ◌⊎◌, if◌then◌else◌};
+ghost use Rattle.std.specs.List.{All};
 ghost use Rattle.std.specs.Result.{is_err};
 ghost use Rattle.wtf_dev.specs.Counts.{Rose, risen};
 ghost use Rattle.wtf_dev.specs.Store.{Appended, Agrees, SameSizes, Kept};
 ghost use Rattle.wtf_real.specs.Asked.{ReadAt, WriteAt, ZeroAt, IsAskedOf, AreSynced};
-ghost use Rattle.wtf_real.specs.Folders.{folder_view, folder_store, folder_laws};
+ghost use Rattle.wtf_real.specs.Folders.{folder_view, folder_store, folder_laws, folder_of};
 ghost use Rattle.wtf_real.specs.Numbers.{IsNoStream};
 
 use crate::counts::Faults;
 use crate::files::EightFiles;
 use crate::standing::no_stream;
 use crate::{FolderLock, Lockable, OpenFault, SliceFile};
+use boxcar::tag::{Names, Tag};
 use std::fs::{self, OpenFile, OpenOptions};
 use std::marker::Model;
 use std::os::fd::AsRawFd;
@@ -23,9 +25,11 @@ const LIMIT: u64 = 1 << 61;
 
 /// A store of slices in eight files, which stay open. How long each is is the store's own number, read once when the file
 /// was opened: what an append that failed left behind it is overwritten by the next. It tells nothing of what they hold, but
-/// what was asked of each, where the file tells it.
+/// what was asked of each, where the file tells it, and which folder they are in.
 #[derive(Drop)]
 pub struct DirStore<F: SliceFile> {
+    /// The folder's path, which only proofs read.
+    folder: Tag,
     files: EightFiles<F>,
     lengths: [u64; 8],
     faults: Faults,
@@ -44,9 +48,17 @@ impl<F: SliceFile> Model for DirStore<F> {
       syncs = d.syncs;
       lengths = d.lengths;
       asked = d.files;
+      folder = d.folder.numbers;
     } };
 
     ghost invariant = { λ d. All (λ (n : ℕ). n < 2 ^ 61) d.lengths };
+}
+
+/// The bytes of a path.
+pub(crate) struct PathBytes;
+
+impl Names<String> for PathBytes {
+    ghost numbers = { λ path. string_bytes path };
 }
 
 /// A file of a folder, made where it is missing, and its length.
@@ -74,6 +86,28 @@ fn open_file<F: OpenFile + AsRawFd + Drop, R: Files<File = F> + AllocGlobal>(
     Ok((opened, len))
 }
 
+/// The files `0` to `7` of a folder, and their lengths. These and the folder are made where they are missing.
+pub(crate) fn open_files<F: OpenFile + AsRawFd + Drop, R: Files<File = F> + AllocGlobal>(
+    rt: &R,
+    path: &str,
+) -> Result<([F; 8], [u64; 8]), OpenFault>
+    ensures { IfOk result (λ opened. All (λ (n : ℕ). n < 2 ^ 61) opened.1) }
+{
+    fs::create_dir_all(rt, path)?;
+    let f0 = open_file(rt, path, 0)?;
+    let f1 = open_file(rt, path, 1)?;
+    let f2 = open_file(rt, path, 2)?;
+    let f3 = open_file(rt, path, 3)?;
+    let f4 = open_file(rt, path, 4)?;
+    let f5 = open_file(rt, path, 5)?;
+    let f6 = open_file(rt, path, 6)?;
+    let f7 = open_file(rt, path, 7)?;
+    Ok((
+        [f0.0, f1.0, f2.0, f3.0, f4.0, f5.0, f6.0, f7.0],
+        [f0.1, f1.1, f2.1, f3.1, f4.1, f5.1, f6.1, f7.1],
+    ))
+}
+
 impl<F: SliceFile + OpenFile + AsRawFd + Lockable + Drop> DirStore<F> {
     /// The store of server K in a folder that is held: in the folder `sK` in it, which holds the files `0` to `7`. These and
     /// the folder are made where they are missing.
@@ -84,23 +118,17 @@ impl<F: SliceFile + OpenFile + AsRawFd + Lockable + Drop> DirStore<F> {
     ) -> Result<DirStore<F>, OpenFault>
         ensures faults { IfOk result (λ d. d.faults ≡ 0) }
         ensures syncs { IfOk result (λ d. d.syncs ≡ 0) }
+        ensures folder { IfOk result (λ d. d.folder ≡ folder_of lock.now.dir server) }
     {
         let Ok(path) = format!(in rt.alloc(); "{}/s{server}", lock.dir()) else {
             return Err(OpenFault::Memory);
         };
-        let path = path.as_str();
-        fs::create_dir_all(rt, path)?;
-        let f0 = open_file(rt, path, 0)?;
-        let f1 = open_file(rt, path, 1)?;
-        let f2 = open_file(rt, path, 2)?;
-        let f3 = open_file(rt, path, 3)?;
-        let f4 = open_file(rt, path, 4)?;
-        let f5 = open_file(rt, path, 5)?;
-        let f6 = open_file(rt, path, 6)?;
-        let f7 = open_file(rt, path, 7)?;
+        let folder = Tag::of::<String, PathBytes>(&path);
+        let (files, lengths) = open_files(rt, path.as_str())?;
         Ok(DirStore {
-            lengths: [f0.1, f1.1, f2.1, f3.1, f4.1, f5.1, f6.1, f7.1],
-            files: EightFiles::new([f0.0, f1.0, f2.0, f3.0, f4.0, f5.0, f6.0, f7.0]),
+            folder,
+            lengths,
+            files: EightFiles::new(files),
             faults: Faults::new(),
             syncs: 0,
         })
@@ -115,9 +143,11 @@ impl<F: SliceFile> DirStore<F> {
           syncs = 0;
           lengths = replicate 8 0;
           asked = map F.told files;
+          folder = [];
         } }
     {
         DirStore {
+            folder: Tag::empty(),
             files: EightFiles::new(files),
             lengths: [0; 8],
             faults: Faults::new(),

@@ -48,18 +48,24 @@ impl<W: Write + Drop> Gathered<W> {
         }
     }
 
-    /// Takes the first of these bytes, as many as there is room for, and answers how many. Where there is no room, what
-    /// is held is written first.
+    /// Takes the first of these bytes, as many as there is room for, and answers how many. Where there is no room, or there
+    /// is no byte, what is held is written first.
     pub(crate) fn hold(&mut self, bytes: &[u8]) -> Result<usize, Failed>
         ensures count { IfOk result (λ n. n ≤ length bytes.now) }
         ensures some { IfOk result (λ n. 0 < length bytes.now → 0 < n) }
         ensures taken { IfOk result (λ n.
             Appends (all_of W.contents self.old) (all_of W.contents self.new) (take n bytes.now)) }
+        ensures out { OnOk result (bytes.now ≡ [] → (self.new.held ≡ []) ×
+            Keeps (all_of W.contents self.old) (all_of W.contents self.new)) }
         ensures broken { self.new.broken ≡ is_err result }
         ensures no_more { self.old.broken ≡ true → is_err result ≡ true }
     {
         if self.broken {
             return Err(Failed);
+        }
+        if bytes.is_empty() {
+            self.write_held()?;
+            return Ok(0);
         }
         if self.held.len() == ROOM {
             self.write_held()?;

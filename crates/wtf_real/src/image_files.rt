@@ -96,6 +96,7 @@ impl<R: Files> ImageFiles for SystemImage<R> {
 
     fn sync_written(&mut self) -> io::Result<()> {
         match self.written.take() {
+            // As in `SliceFile for File`: only a machine that stops would show that this was left out.
             Some(file) => file.sync_all(),
             None => Err(io::Error::from(ErrorKind::Other)),
         }
@@ -106,6 +107,7 @@ impl<R: Files> ImageFiles for SystemImage<R> {
     }
 
     fn sync_names(&mut self) -> io::Result<()> {
+        // And here: then the rename may be lost.
         self.folder.sync_all()
     }
 }

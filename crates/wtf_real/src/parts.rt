@@ -2,7 +2,7 @@
 
 ghost use Rattle.std.specs.Prelude.{◌≡◌, ◌≤◌, ◌-◌, OnOk, IfOk, IfSome, replicate};
 ghost use Rattle.std.specs.Io.KnownBytes.{Appends};
-ghost use Rattle.wtf_real.specs.Files.{IsWrittenAt, IsSoughtTo};
+ghost use Rattle.wtf_real.specs.Files.{IsReadAt, IsWrittenAt, IsSoughtTo};
 
 use std::alloc::Global;
 use std::io::{self, Read, Seek, SeekFrom, Write};
@@ -19,7 +19,10 @@ pub(crate) fn seek_to<F: Seek>(file: &mut F, at: u64) -> io::Result<()>
 }
 
 /// Fills `out` from a place of a file on.
-pub(crate) fn read_at<F: Read + Seek>(file: &mut F, at: u64, out: &mut [u8]) -> io::Result<()> {
+pub(crate) fn read_at<F: Read + Seek>(file: &mut F, at: u64, out: &mut [u8]) -> io::Result<()>
+    ensures { OnOk result
+        (IsReadAt F.stream_position F.remaining at out.new file.old file.new) }
+{
     seek_to(file, at)?;
     file.read_exact(out)
 }

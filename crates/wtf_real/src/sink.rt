@@ -1,6 +1,6 @@
 //! A sink whose answers are held back.
 
-ghost use Rattle.std.specs.Prelude.{◌≡◌, ◌≤◌, ◌<◌, ℕ, List, Some, length, take, IfOk, OnOk, OnErr, if◌then◌else◌};
+ghost use Rattle.std.specs.Prelude.{◌≡◌, ◌≤◌, ◌<◌, ℕ, List, [], Some, length, take, IfOk, OnOk, OnErr, if◌then◌else◌};
 ghost use Rattle.std.specs.Result.{is_err};
 ghost use Rattle.wtf_dev.specs.Counts.{Rose, risen};
 ghost use Rattle.std.specs.Io.KnownBytes.{Appends};
@@ -13,7 +13,7 @@ use std::marker::Model;
 use wtf_dev::{Failed, Sink};
 
 /// A sink of answers, which counts. What it takes is held back, up to 64 KiB, until its source asks for more, there is no more
-/// room, or it is finished. It tells nothing of what it took, but what its answers tell.
+/// room, no byte is written, or it is finished. It tells nothing of what it took, but what its answers tell.
 #[derive(Drop)]
 pub struct AnswerSink<A: Answers> {
     answers: A,
@@ -64,10 +64,15 @@ impl<A: Answers> Sink for AnswerSink<A> {
             Takes result bytes.now old (sink_view self.new).taken }
         ensures faults { self.old.faults ≤ self.new.faults }
         ensures cause { OnErr result (Rose self.old.faults self.new.faults) }
+        ensures steady { OnOk result (self.new.faults ≡ self.old.faults) }
 
         // It adds what it takes to its answers.
         ensures held { IfOk result (λ n.
             Appends self.old.answers.all self.new.answers.all (take n bytes.now)) }
+
+        // A write of no byte brings out what is held back.
+        ensures out { OnOk result (bytes.now ≡ [] →
+            IsWritten self.old.answers self.new.answers) }
 
         // It counts each error, and nothing else.
         ensures counted { self.new.faults ≡
