@@ -1,3 +1,4 @@
+pub mod Compared
 pub mod Cut
 pub mod LastName
 pub mod Refused

@@ -1,5 +1,10 @@
 //! Paths are ordered by their bytes.
 
+ghost use Rattle.std.specs.Prelude.{◌≡◌, ◌+◌, ◌≤◌, length, take, drop};
+ghost use Rattle.std.specs.Ordering.{nat_cmp};
+ghost use Rattle.std.specs.Cmp.Lexicographic.{slice_cmp};
+ghost use Rattle.std.specs.Slice.Scan.{big_endian};
+
 use crate::Path;
 use std::cmp::Ordering;
 
@@ -51,6 +56,51 @@ impl Ord for Path {
     ghost matches_eq = { texts_ties };
 
     fn cmp(&self, other: &Path) -> Ordering {
-        self.as_bytes().cmp(other.as_bytes())
+        compare(self.as_bytes(), other.as_bytes())
     }
+}
+
+/// The order of two texts by their bytes, eight at a time. The last eight may overlap those before them.
+fn compare(first: &[u8], second: &[u8]) -> Ordering
+    ensures { result ≡ slice_cmp nat_cmp first.now second.now }
+{
+    let both = first.len().min(second.len());
+    if both < 8 {
+        return first.cmp(second);
+    }
+    let last = both - 8;
+    let mut at = 0;
+    while at < last {
+        let order = compare_eight(first, second, at);
+        if order.is_ne() {
+            return order;
+        }
+        at += 8;
+    }
+    compare_eight(first, second, last).then(first.len().cmp(&second.len()))
+}
+
+/// The order of the eight bytes of two texts from one place on.
+fn compare_eight(first: &[u8], second: &[u8], at: usize) -> Ordering
+    requires { (at + 8 ≤ length first.now) × (at + 8 ≤ length second.now) }
+    ensures { result ≡ slice_cmp nat_cmp (take 8 (drop at first.now)) (take 8 (drop at second.now)) }
+{
+    eight(first, at).cmp(&eight(second, at))
+}
+
+/// Eight bytes of a text from a place on, as a number that orders as they do.
+fn eight(text: &[u8], at: usize) -> u64
+    requires { at + 8 ≤ length text.now }
+    ensures { result ≡ big_endian 0 (take 8 (drop at text.now)) }
+{
+    u64::from_be_bytes([
+        text[at],
+        text[at + 1],
+        text[at + 2],
+        text[at + 3],
+        text[at + 4],
+        text[at + 5],
+        text[at + 6],
+        text[at + 7],
+    ])
 }
