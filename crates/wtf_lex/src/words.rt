@@ -26,7 +26,7 @@ fn word_len(text: &[u8]) -> usize
 fn first_space(text: &[u8]) -> Option<usize>
     ensures { result ≡ position is_space text.now }
 {
-    text.iter().position(|b| *b == b' ')
+    memchr::memchr(b' ', text)
 }
 
 /// The word behind a space, and what stands behind that word; `None` where the line ends.

@@ -1,5 +1,5 @@
 -- The event of a line is in form: each limit of the language holds of it.
-use Rattle.std.proofs.Common.{◌≡◌, ℕ, ◌+◌, ◌-◌, ◌<◌, ◌≤◌, Bool, true, false, ◌&&◌, nat_le, cond, List, [], ◌∷◌, length, take, drop, codes, bytes_eq, Option, Some, None, Result, Ok, Err, IfSome, IfOk, IfErr, IsNone, refl, sym, ap, ◌∙◌, subst, arith, leb-true}
+use Rattle.std.proofs.Common.{◌≡◌, ℕ, ◌-◌, ◌<◌, ◌≤◌, Bool, true, false, ◌&&◌, nat_le, cond, List, [], ◌∷◌, length, take, drop, codes, bytes_eq, Option, Some, None, Result, Ok, Err, IfSome, IfOk, refl, subst, arith, leb-true}
 use Rattle.std.specs.Prelude.{All}
 use Rattle.std.proofs.lemmas.Bool.{and_parts}
 use Rattle.std.proofs.lemmas.List.Elements.{All-nil, All-cons}
@@ -9,17 +9,15 @@ use Rattle.wtf_path.specs.Refusals.{refusal}
 use Rattle.wtf_path.proofs.Refused.{path-from_none}
 use Rattle.wtf_model.specs.declared.answer.Kind.{Kind}
 use Rattle.wtf_model.specs.declared.answer.Kind.TheVariants as kind
-use Rattle.wtf_model.specs.declared.op.JobKind.{JobKind}
 use Rattle.wtf_model.specs.declared.op.Op.{Op}
 use Rattle.wtf_model.specs.declared.op.Op.TheVariants as op
-use Rattle.wtf_model.specs.declared.op.Seek.{Seek}
 use Rattle.wtf_model.specs.declared.op.Seek.TheVariants as to
 use Rattle.wtf_model.specs.declared.event.Verb.{Verb}
 use Rattle.wtf_model.specs.declared.event.Verb.TheVariants as verb
 use Rattle.wtf_model.specs.declared.event.Event.{Event}
 use Rattle.wtf_model.specs.declared.event.Event.TheVariants as event
 use Rattle.wtf_model.specs.declared.limits.TheConstants.{MAX_CLIENTS, MAX_HANDLES, MAX_SLICES, MAX_JOBS, MAX_SHOWN, MAX_WRITTEN, MAX_NUMBER, MAX_SOURCES, SCAN_PARTS}
-use Rattle.wtf_model.specs.Form.{IsHandle, IsSlice, IsJob, IsNumber, IsShowable, IsData, IsFormSeek, AreSources, IsFormOp, IsFormVerb, IsFormEvent}
+use Rattle.wtf_model.specs.Form.{IsHandle, IsSlice, IsJob, IsNumber, IsData, IsFormSeek, AreSources, IsFormOp, IsFormVerb, IsFormEvent}
 use Rattle.wtf_lex.specs.Words.{words_of}
 use Rattle.wtf_lex.specs.Numbers.{number_within, value_from, is_numeral}
 use Rattle.wtf_script.specs.Counts.{none_of, one_of, two_of, three_of, four_of, two_and_maybe_one, one_and_many}

@@ -1,5 +1,5 @@
 -- Paths of a line.
-use Rattle.std.proofs.Common.{◌≡◌, ℕ, List, [], ◌∷◌, ◌++◌, length, refl, sym, ap, ◌∙◌, append_assoc, Option, Some, None, Result, Ok, Err, IfSome, IsNone, MatchOption}
+use Rattle.std.proofs.Common.{◌≡◌, ℕ, List, [], ◌∷◌, ◌++◌, refl, sym, ap, ◌∙◌, append_assoc, Option, Some, None, Result, Ok, Err, IfSome, IsNone, MatchOption}
 use Rattle.std.proofs.lemmas.List.{append-nil}
 use Rattle.wtf_path.specs.declared.error.PathError.{PathError}
 use Rattle.wtf_path.specs.declared.error.PathError.TheVariants as path_error

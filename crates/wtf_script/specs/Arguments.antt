@@ -1,5 +1,5 @@
 -- The forms of a line's arguments, and what is wrong with a word that has no such form.
-use Rattle.std.specs.Prelude.{◌≡◌, ℕ, ◌+◌, ◌-◌, ◌*◌, ◌==◌, Bool, true, false, not, ◌&&◌, nat_le, if◌then◌else◌, List, [], ◌∷◌, length, take, drop, codes, bytes_eq, unwrap_or, Option, Some, None, Result, Ok, Err}
+use Rattle.std.specs.Prelude.{◌≡◌, ℕ, ◌-◌, Bool, ◌&&◌, nat_le, if◌then◌else◌, List, [], ◌∷◌, length, take, drop, codes, bytes_eq, unwrap_or, Option, Some, None, Result, Ok, Err}
 use Rattle.wtf_path.specs.declared.error.PathError.{PathError}
 use Rattle.wtf_path.specs.Refusals.{refusal, number_of}
 use Rattle.wtf_model.specs.declared.answer.Kind.{Kind}

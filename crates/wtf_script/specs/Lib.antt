@@ -6,3 +6,4 @@ pub mod Hex
 pub mod Counts
 pub mod Arguments
 pub mod Grammar
+pub mod Plain

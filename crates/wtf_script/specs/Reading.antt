@@ -1,9 +1,10 @@
 -- What reading the next line of a script gives, where the source tells its bytes.
-use Rattle.std.specs.Prelude.{◌≡◌, ◌⊎◌, ◌<◌, ◌≤◌, ◌+◌, ◌-◌, ◌^◌, ℕ, min, Bool, true, false, cond, nat_lt, List, [], ◌∷◌, ◌++◌, length, take, Option, Some, None, Result, Ok, Err}
+use Rattle.std.specs.Prelude.{◌≡◌, ◌⊎◌, ◌↔◌, ◌<◌, ◌≤◌, ◌+◌, ◌-◌, ◌^◌, ℕ, min, Bool, true, false, cond, nat_lt, List, [], ◌∷◌, ◌++◌, length, take, Option, Some, None, Result, Ok, Err}
 use Rattle.std.specs.Bool.{MatchBool}
 use Rattle.wtf_base.specs.declared.memory.OutOfMemory.{OutOfMemory}
+use Rattle.wtf_dev.specs.Counts.{Rose}
 use Rattle.wtf_dev.specs.Streams.{SourceView}
-use Rattle.wtf_script.specs.declared.limits.TheConstants.{SCRIPT_BYTES, LINE_BYTES}
+use Rattle.wtf_script.specs.declared.limits.TheConstants.{SCRIPT_BYTES, LINE_BYTES, CHUNK_BYTES}
 use Rattle.wtf_script.specs.declared.lines.Line.{Line}
 use Rattle.wtf_script.specs.declared.lines.Line.TheVariants as line
 use Rattle.wtf_script.specs.declared.error.ReadError.{ReadError}
@@ -81,6 +82,20 @@ Refills rest held left (Ok false) = (rest ≡ []) × (left ≡ Some [])
 Refills rest held left (Err read_error.Failed) = left ≡ Some rest
 Refills rest held left (Err read_error.TooMuch) = (b : ℕ) × (then : List ℕ) × (rest ≡ b ∷ then) × (left ≡ Some then)
 Refills rest held left (Err read_error.Memory) = ⊥
+
+-- What one read leaves, and counts, by its result; the reader held nothing before it
+pub record IsRefilled (old new : Held) (before after : SourceView) (result : Result Bool ReadError) : Type 0 where
+  pub counted : Counts old new before after
+  pub given : Draws old new before after
+  pub held : new.count ≡ old.count + length new.bytes
+  pub limit : new.count ≤ SCRIPT_BYTES + 1
+  pub few : length new.bytes ≤ CHUNK_BYTES
+  pub some : result ≡ Ok true → (0 < length new.bytes) × (new.count ≤ SCRIPT_BYTES) × (new.ended ≡ false)
+  pub none : result ≡ Ok false → (new.bytes ≡ []) × (new.ended ≡ true)
+  pub over : result ≡ Err read_error.TooMuch ↔ (new.count ≡ SCRIPT_BYTES + 1)
+  pub fault : result ≡ Err read_error.Failed → new.bytes ≡ []
+  pub faults : before.faults ≤ after.faults
+  pub cause : result ≡ Err read_error.Failed → Rose before.faults after.faults
 
 -- Bytes held go onto a line, of which one byte more than it may have is kept: up to a line feed, or all of them
 abbrev pub Parts : List ℕ → List ℕ → List ℕ → List ℕ → Result Bool OutOfMemory → Type 0

@@ -11,6 +11,7 @@ mod events;
 mod limits;
 mod lines;
 mod parse;
+mod plain;
 
 pub use error::{LineError, ReadError};
 pub use limits::{LINE_BYTES, SCRIPT_BYTES};

@@ -55,7 +55,7 @@ impl Model for Lines {
 }
 
 impl Lines {
-    ghost use Rattle.wtf_script.specs.Reading.{Held, Reads, Refills, Parts, IsLine, work, Counts, Draws};
+    ghost use Rattle.wtf_script.specs.Reading.{Held, Reads, Refills, IsRefilled, Parts, IsLine, work, Counts, Draws};
     ghost use Rattle.wtf_script.specs.declared.error.ReadError.TheVariants as read_error;
 
     /// Lines of which none is read yet.
@@ -152,19 +152,7 @@ impl Lines {
         requires going { self.old.ended ≡ false }
         ensures told { (rest : List ℕ) → (I.view source.old).rest ≡ Some rest →
             Refills rest self.new.bytes (I.view source.new).rest result }
-        ensures counted { Counts self.old self.new (I.view source.old) (I.view source.new) }
-        ensures given { Draws self.old self.new (I.view source.old) (I.view source.new) }
-        ensures held { self.new.count ≡ self.old.count + length self.new.bytes }
-        ensures limit { self.new.count ≤ SCRIPT_BYTES + 1 }
-        ensures few { length self.new.bytes ≤ CHUNK_BYTES }
-        ensures some { result ≡ Ok true → (0 < length self.new.bytes) ×
-            (self.new.count ≤ SCRIPT_BYTES) × (self.new.ended ≡ false) }
-        ensures none { result ≡ Ok false → (self.new.bytes ≡ []) × (self.new.ended ≡ true) }
-        ensures over { result ≡ Err read_error.TooMuch ↔ (self.new.count ≡ SCRIPT_BYTES + 1) }
-        ensures fault { result ≡ Err read_error.Failed → self.new.bytes ≡ [] }
-        ensures faults { (I.view source.old).faults ≤ (I.view source.new).faults }
-        ensures cause { result ≡ Err read_error.Failed →
-            Rose (I.view source.old).faults (I.view source.new).faults }
+        ensures refilled { IsRefilled self.old self.new (I.view source.old) (I.view source.new) result }
     {
         let room = room_at(self.count);
         self.at = 0;
@@ -208,7 +196,7 @@ fn find_feed(bytes: &[u8]) -> Option<usize>
     ensures { MatchOption result (HasNoFeed bytes.now) (λ n. (n < length bytes.now) ×
         (slice_index bytes.now n ≡ line_feed) × HasNoFeed (take n bytes.now)) }
 {
-    bytes.iter().position(|byte| *byte == b'\n')
+    memchr::memchr(b'\n', bytes)
 }
 
 /// Puts a part onto a line, of which one byte more than a line may have is kept.

@@ -12,6 +12,7 @@ use crate::args::client_of;
 use crate::calls::verb_of;
 use crate::events::job_event;
 use crate::limits::LINE_BYTES;
+use crate::plain::is_plain;
 use std::alloc::Global;
 use wtf_lex::{is_word, next_word, split_word};
 use wtf_model::{Event, Kind};
@@ -58,6 +59,10 @@ fn spelled(line: &[u8]) -> Result<(), Kind>
     }
     if line.is_empty() {
         return Err(Kind::Empty);
+    }
+    // What is wrong is looked for only in a line that is not plain.
+    if is_plain(line) {
+        return Ok(());
     }
     if !is_shown(line) {
         return Err(Kind::Byte);

@@ -1,4 +1,4 @@
-use Rattle.std.proofs.Common.{arith, ap, ◌∙◌, count_by}
+use Rattle.std.proofs.Common.{ap, ◌∙◌, count_by}
 use Rattle.wtf_lex.specs.Words.{is_space}
 use Rattle.wtf_lex.proofs.WordLaws.{length-words_behind, some_behind}
 use Rattle.wtf_script.proofs.counts.count_words.Goals as goal
