@@ -10,7 +10,7 @@ use std::marker::Model;
 use std::rc::RcSlice;
 
 /// The number of items at which the open chunk is sealed.
-pub const CHUNK: usize = 64;
+pub const CHUNK: usize = 16;
 
 /// A sealed chunk, which holders share.
 type Sealed<T> = RcSlice<T, Global>;
@@ -90,9 +90,21 @@ impl<T: Copy + Drop> Chunks<T> {
     {
         let count = self.count.checked_add(1).ok_or(AllocError)?;
         if self.last.len() >= CHUNK {
-            seal(self.alloc, &mut self.sealed, &mut self.last)?;
+            seal(self.alloc, &mut self.sealed, &mut self.last, &[])?;
         }
         self.last.push(item)?;
+        self.count = count;
+        Ok(())
+    }
+
+    /// Puts `more` at the end, in order. After an error the list is as before. Where the open chunk has no
+    /// room for it, all of it is sealed at once, so that its items are copied fewer times than by pushes.
+    pub fn extend(&mut self, more: &[T]) -> Result<(), AllocError>
+        ensures ok { OnOk result (self.new ≡ self.old ++ more.now) }
+        ensures err { OnErr result (self.new ≡ self.old) }
+    {
+        let count = self.count.checked_add(more.len()).ok_or(AllocError)?;
+        put_all(self.alloc, &mut self.sealed, &mut self.last, more)?;
         self.count = count;
         Ok(())
     }
@@ -124,40 +136,87 @@ impl<T: Copy + Drop> Chunks<T> {
     }
 }
 
-/// Seals the open chunk together with the last sealed ones. After an error all is as before.
+/// Puts `more` into the open chunk where that has room, and else into a sealed one with it. After an error
+/// all is as before.
+fn put_all<T: Copy + Drop>(
+    alloc: Global,
+    sealed: &mut Vec<Sealed<T>>,
+    last: &mut Vec<T>,
+    more: &[T],
+) -> Result<(), AllocError>
+    ensures ok { OnOk result (flat_map rc_slice_items sealed.new.items ++ last.new.items ≡
+        (flat_map rc_slice_items sealed.old.items ++ last.old.items) ++ more.now) }
+    ensures err { OnErr result (flat_map rc_slice_items sealed.new.items ++ last.new.items ≡
+        flat_map rc_slice_items sealed.old.items ++ last.old.items) }
+{
+    if more.len() > CHUNK.saturating_sub(last.len()) {
+        return seal(alloc, sealed, last, more);
+    }
+    last.extend_from_slice(more)?;
+    Ok(())
+}
+
+/// Seals the open chunk, and `more` behind it, together with the last sealed ones. After an error all is as
+/// before.
 fn seal<T: Copy + Drop>(
     alloc: Global,
     sealed: &mut Vec<Sealed<T>>,
     last: &mut Vec<T>,
+    more: &[T],
 ) -> Result<(), AllocError>
-    ensures { flat_map rc_slice_items sealed.new.items ++ last.new.items ≡
-        flat_map rc_slice_items sealed.old.items ++ last.old.items }
+    ensures ok { OnOk result (flat_map rc_slice_items sealed.new.items ++ last.new.items ≡
+        (flat_map rc_slice_items sealed.old.items ++ last.old.items) ++ more.now) }
+    ensures err { OnErr result (flat_map rc_slice_items sealed.new.items ++ last.new.items ≡
+        flat_map rc_slice_items sealed.old.items ++ last.old.items) }
 {
-    let from = joined_from(sealed.as_slice(), last.len());
+    let from = joined_from(sealed.as_slice(), last.len().saturating_add(more.len()));
     let (_kept, joined) = sealed.as_slice().split_at(from);
-    let chunk = RcSlice::from_vec(together(alloc, joined, last.as_slice())?)?;
+    let mut items = together(alloc, joined, last.as_slice())?;
+    items.extend_from_slice(more)?;
+    let chunk = RcSlice::from_vec(items)?;
     sealed.reserve(1)?;
     replace_top(sealed, from, chunk);
     last.clear();
     Ok(())
 }
 
-/// Where the chunks begin that are joined with a further one of `len` items: each of them is no longer
-/// than all that follow it.
+/// Where the chunks begin that are joined with a further one of `len` items. Four or more that are about
+/// as long become one, so that an item is copied once for each time that its chunk gets four times as long.
 fn joined_from<T>(sealed: &[Sealed<T>], len: usize) -> usize
     ensures { result ≤ length sealed.now }
 {
     let mut from = sealed.len();
     let mut sum = len;
-    while from > 0 {
-        let before = sealed[from - 1].len();
-        if before > sum {
-            break;
+    loop {
+        let at = alike_from(sealed, from, sum);
+        if from - at < 3 {
+            return from;
         }
-        sum = sum.saturating_add(before);
-        from -= 1;
+        sum = sum.saturating_add(items_in(&sealed[at..from]));
+        from = at;
     }
-    from
+}
+
+/// Where the last of the chunks before `to` begin that are shorter than twice `len` items.
+fn alike_from<T>(sealed: &[Sealed<T>], to: usize, len: usize) -> usize
+    requires { to ≤ length sealed.now }
+    ensures { result ≤ to }
+{
+    let most = len.saturating_mul(2);
+    let mut at = to;
+    while at > 0 && sealed[at - 1].len() < most {
+        at -= 1;
+    }
+    at
+}
+
+/// How many items the chunks hold.
+fn items_in<T>(chunks: &[Sealed<T>]) -> usize {
+    let mut sum = 0usize;
+    for chunk in chunks {
+        sum = sum.saturating_add(chunk.len());
+    }
+    sum
 }
 
 /// The items of some chunks, and then further ones.

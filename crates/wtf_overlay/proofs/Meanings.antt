@@ -1,13 +1,11 @@
 -- Laws of what bytes mean.
-use Rattle.std.specs.Prelude.{◌≡◌, ℕ, ◌+◌, ◌<◌, Bool, true, false, if◌then◌else◌, List, [], ◌∷◌, Option, Some, None}
+use Rattle.std.specs.Prelude.{◌≡◌, ℕ, Bool, true, false, if◌then◌else◌, List, [], ◌∷◌, Option, Some, None}
 use Rattle.std.specs.List.{All, list_all}
-use Rattle.std.proofs.Common.{ap, refl, ◌∙◌, get_or, arith}
+use Rattle.std.proofs.Common.{refl, ◌∙◌, get_or, arith}
 use Rattle.std.proofs.lemmas.Bool.{eqb-true, eq-eqb, cond-true}
 use Rattle.std.proofs.lemmas.List.Elements.{All-cons, All-head, All-tail}
 use Rattle.std.proofs.lemmas.List.Sums.{AllPass-from_list_all, list_all-from_AllPass}
-use Rattle.wtf_overlay.specs.declared.part.Entry.{Entry}
-use Rattle.wtf_overlay.specs.declared.part.Piece.{Piece}
-use Rattle.wtf_overlay.specs.Origin.{Place, origin, pieces_origin, Plans}
+use Rattle.wtf_overlay.specs.Origin.{Place}
 use Rattle.wtf_overlay.specs.Meaning.{tell_the_same, meaning}
 
 told_with : (a c : Option ℕ) (b : ℕ) → a ≡ Some b → tell_the_same a c ≡ true → c ≡ Some b
@@ -41,8 +39,3 @@ meaning-All byte_at p ps b all =
     cond-true _ _ _ (list_all-from_AllPass (λ q. tell_the_same (byte_at p) (byte_at q)) ps
     (λ k d below. told_alike (byte_at p) (byte_at (get_or ps k d)) b first (rest k d below)))
     ∙ first
-
--- a plan has the bytes of its list, whatever the stores tell
-pub Plans-meaning : (ps : List Piece) (n : ℕ) (es : List Entry) (off : ℕ) → Plans ps n (λ i. origin es (off + i))
-    → (byte_at : Place → Option ℕ) (i : ℕ) → i < n → meaning byte_at (pieces_origin ps i) ≡ meaning byte_at (origin es (off + i))
-Plans-meaning ps n es off plans = λ byte_at i below. ap (meaning byte_at) (plans.origin i below)

@@ -1,6 +1,7 @@
 -- An entry more on a list and on its tail, and the tail merged into the runs.
-use Rattle.std.proofs.Common.{◌≡◌, ℕ, ◌+◌, ◌^◌, ◌++◌, Bool, true, false, ◌||◌, List, [], ◌∷◌, ◌∙◌, ap, sym, refl, take, drop, nat_eq, inl, inr}
+use Rattle.std.proofs.Common.{◌≡◌, ℕ, ◌+◌, ◌^◌, ◌++◌, Bool, true, false, ◌||◌, List, [], ◌∷◌, ◌∙◌, ap, sym, subst, refl, take, drop, nat_eq, inl, inr}
 use Rattle.std.specs.Rc.{rc_slice_items}
+use Rattle.std.proofs.lemmas.List.{append-nil, append_assoc}
 use Rattle.std.proofs.lemmas.Bool.{or_left, or_right, or_cases, eq-eqb}
 use Rattle.wtf_overlay.specs.declared.part.Entry.{Entry}
 use Rattle.wtf_overlay.specs.Origin.{over, origin_from}
@@ -49,6 +50,15 @@ StandFor-push es tail e rs old =
       tail_edges = EdgesIn-push p tail e (EdgesIn-weaker (is_edge es) p tail (edge_more es e) old.tail_edges)
           (edge_last es e e.off (starts e)) (edge_last es e (e.off + e.len) (ends e));
     }
+
+-- a list whose tail gets all of these entries too
+pub StandFor-append : (es tail fs : List Entry) (rs : List Shared) → StandFor es rs tail → StandFor (es ++ fs) rs (tail ++ fs)
+StandFor-append es tail [] rs old =
+    subst (λ l. StandFor l rs (tail ++ [])) (sym (append-nil es)) (subst (λ l. StandFor es rs l) (sym (append-nil tail)) old)
+StandFor-append es tail (f ∷ fs) rs old =
+    let more = StandFor-append (es ++ f ∷ []) (tail ++ f ∷ []) fs rs (StandFor-push es tail f rs old) in
+    subst (λ l. StandFor l rs (tail ++ f ∷ fs)) (append_assoc es (f ∷ []) fs)
+    (subst (λ l. StandFor ((es ++ f ∷ []) ++ fs) rs l) (append_assoc tail (f ∷ []) fs) more)
 
 -- the runs from n on and the tail replaced by one run that shows what they show
 pub StandFor-fold : (es tail newest : List Entry) (rs : List Shared) (n : ℕ) (top : Shared) → StandFor es rs tail

@@ -19,6 +19,6 @@ over_missed from to e y below misses l k = elim misses [
   | inr g ↦ over_after e y below (omega arith)
 ]
 
-pub EdgesIn-split : (p : ℕ → Bool) (es : List Entry) (e : Entry) → EdgesIn p (es ++ e ∷ []) → EdgesIn p es × EdgesIn p (e ∷ [])
-EdgesIn-split p [] e edges = (tt, edges)
-EdgesIn-split p (f ∷ es) e edges = let k = EdgesIn-split p es e edges.2 in ((edges.0, edges.1, k.0), k.1)
+pub EdgesIn-split : (p : ℕ → Bool) (es fs : List Entry) → EdgesIn p (es ++ fs) → EdgesIn p es × EdgesIn p fs
+EdgesIn-split p [] fs edges = (tt, edges)
+EdgesIn-split p (e ∷ es) fs edges = let k = EdgesIn-split p es fs edges.2 in ((edges.0, edges.1, k.0), k.1)

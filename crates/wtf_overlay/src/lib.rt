@@ -8,6 +8,7 @@ mod cuts;
 mod error;
 mod finding;
 pub mod laws;
+mod layers;
 mod laying;
 mod makers;
 mod overlay;

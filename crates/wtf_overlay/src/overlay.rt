@@ -1,50 +1,39 @@
-//! The list of entries, and the runs that show what it shows.
+//! The list of entries, which holders share.
 
 ghost use Rattle.std.specs.Prelude.{◌≡◌, ℕ, ◌*◌, ◌+◌, ◌<◌, ◌≤◌, ◌++◌, [], ◌∷◌, length, Some, OnOk, OnErr, IfOk, IsTrue, slice_get};
 ghost use Rattle.std.specs.Bool.{OnFalse};
 ghost use Rattle.wtf_overlay.specs.Clips.{Within};
 ghost use Rattle.wtf_overlay.specs.Origin.{origin, Plans};
-ghost use Rattle.wtf_overlay.specs.Runs.{IsRun, SameWithin};
+ghost use Rattle.wtf_overlay.specs.Runs.{IsRun};
 ghost use Rattle.wtf_overlay.specs.Edges.{EdgesIn, is_edge};
 
+use crate::layers::Layers;
 use crate::laying::LIMIT;
 use crate::planning::pieces;
-use crate::stacks::{Run, replace_top, shown, top_with};
-use crate::tails::{FULL, laid, whole_tail};
+use crate::tails::is_run;
 use crate::{Entry, Piece};
 use std::alloc::Global;
 use std::marker::Model;
-use std::rc::RcSlice;
+use std::rc::Rc;
 use wtf_base::OutOfMemory;
-use wtf_chunks::Chunks;
 
 /// A list of entries, each of which hides what earlier ones hold at its place. A place that no entry
 /// covers is a hole, which reads as zeros (NSDI 2016, section 2.1).
 ///
 /// Beside its entries a list keeps runs, sorted and disjoint lists that lie over one another, and over them a
 /// short tail of the newest entries. Together they show the same. A range is found in the runs by search,
-/// however many entries there are. Holders share the entries and the runs.
+/// however many entries there are. Holders share all of it, until one of them pushes: it takes the tail and
+/// what is open of the entries for itself then, and goes on sharing the rest.
 ///
 /// A list is one word, so that what holds it is cheap to move.
 #[derive(Debug, Drop)]
 pub struct Overlay {
-    layers: Box<Layers>,
-}
-
-/// What a list keeps: its entries, its runs, the tail over them, and an end that no entry passes.
-#[derive(Debug, Drop)]
-struct Layers {
-    entries: Chunks<Entry>,
-    runs: Vec<Run>,
-    tail: Vec<Entry>,
-    reach: u32,
+    layers: Rc<Layers>,
 }
 
 impl Model for Overlay {
     ghost use Rattle.std.specs.Prelude.{List};
     ghost use Rattle.wtf_overlay.specs.declared.part.Entry.{Entry};
-    ghost use Rattle.wtf_overlay.specs.Stacks.{StandFor};
-    ghost use Rattle.wtf_overlay.specs.Clips.{Within};
 
     ghost Value = { List Entry };
 
@@ -53,10 +42,7 @@ impl Model for Overlay {
 
     ghost coded = { coded_list entry.the_row.coded };
 
-    ghost view = { λ o. o.layers.value.entries };
-
-    ghost invariant = { λ o. let l = o.layers.value in
-        StandFor l.entries l.runs.items l.tail.items × Within l.reach l.entries };
+    ghost view = { λ o. o.layers.value };
 }
 
 impl Overlay {
@@ -64,14 +50,9 @@ impl Overlay {
     pub fn new(alloc: Global) -> Result<Overlay, OutOfMemory>
         ensures { IfOk result (λ o. o ≡ []) }
     {
-        let layers = Layers {
-            entries: Chunks::new(alloc)?,
-            runs: Vec::new(alloc),
-            tail: Vec::new(alloc),
-            reach: 0,
-        };
+        let layers = Layers::new(alloc)?;
         Ok(Overlay {
-            layers: Box::new(alloc, layers)?,
+            layers: Rc::new(alloc, layers)?,
         })
     }
 
@@ -79,7 +60,7 @@ impl Overlay {
     pub fn len(&self) -> usize
         ensures { result ≡ length self.now }
     {
-        self.layers.entries.len()
+        self.layers.len()
     }
 
     /// The entry at `i`, counted from 0, the earliest first.
@@ -87,64 +68,54 @@ impl Overlay {
         requires { i < length self.now }
         ensures { slice_get self.now i ≡ Some result }
     {
-        self.layers.entries.get(i)
+        self.layers.get(i)
     }
 
     /// Lays `e` over the list. After an error the list is as before. Most pushes cost a copy of `e`. Over
-    /// many pushes each entry is merged about log n times, where n is the number of entries.
+    /// many pushes each entry is merged about log n times, where n is the number of entries. The first push
+    /// after a share costs a step for each sealed chunk of entries and for each run, about log n of both,
+    /// and a copy of the tail.
     pub fn push(&mut self, e: Entry) -> Result<(), OutOfMemory>
         ensures ok { OnOk result (self.new ≡ self.old ++ e ∷ []) }
         ensures err { OnErr result (self.new ≡ self.old) }
     {
-        self.make_room()?;
-        let layers = &mut *self.layers;
-        layers.tail.reserve(1)?;
-        layers.entries.push(e)?;
-        let _room = layers.tail.push(e);
-        layers.reach = layers.reach.max(e.end());
-        Ok(())
+        let layers = Rc::make_mut(&mut self.layers)?;
+        layers.push(e)
     }
 
-    /// Merges the tail into the runs where it is full.
-    fn make_room(&mut self) -> Result<(), OutOfMemory>
-        ensures { self.new ≡ self.old }
+    /// Lays entries over the list, the earliest first. After an error the list is as before. Where each of
+    /// them begins at the end of the one before it or later, they are merged at once, and most of them are
+    /// copied a few times alone. A few entries are better pushed one by one.
+    pub fn push_many(&mut self, entries: &[Entry]) -> Result<(), OutOfMemory>
+        ensures ok { OnOk result (self.new ≡ self.old ++ entries.now) }
+        ensures err { OnErr result (self.new ≡ self.old) }
     {
-        if self.layers.tail.len() >= FULL {
-            self.fold()?;
+        if is_run(entries) {
+            let layers = Rc::make_mut(&mut self.layers)?;
+            return layers.push_run(entries);
         }
+        *self = self.with_each(entries)?;
         Ok(())
     }
 
-    /// Merges the tail into the runs.
-    fn fold(&mut self) -> Result<(), OutOfMemory>
-        ensures { self.new ≡ self.old }
+    /// The list with each of the entries pushed, for another holder.
+    fn with_each(&self, entries: &[Entry]) -> Result<Overlay, OutOfMemory>
+        ensures { IfOk result (λ o. o ≡ self.now ++ entries.now) }
     {
-        let alloc = self.alloc();
-        let layers = &mut *self.layers;
-        let newest = whole_tail(alloc, layers.tail.as_slice())?;
-        let top = top_with(newest, layers.runs.as_slice())?;
-        let run = RcSlice::from_vec(top.run)?;
-        layers.runs.reserve(1)?;
-        replace_top(&mut layers.runs, top.below, run);
-        layers.tail.clear();
-        Ok(())
+        let mut list = self.share()?;
+        for e in entries {
+            list.push(*e)?;
+        }
+        Ok(list)
     }
 
-    /// The same list for a second holder. What is pushed to one leaves the other as it is. It costs a step
-    /// for each sealed chunk of entries and for each run, about log n of both, and a copy of the tail.
+    /// The same list for a second holder. What is pushed to one leaves the other as it is. It costs one
+    /// step.
     pub fn share(&self) -> Result<Overlay, OutOfMemory>
         ensures { IfOk result (λ o. o ≡ self.now) }
     {
-        let alloc = self.alloc();
-        let layers = &*self.layers;
-        let same = Layers {
-            entries: layers.entries.share()?,
-            runs: layers.runs.clone()?,
-            tail: layers.tail.to_vec(alloc)?,
-            reach: layers.reach,
-        };
         Ok(Overlay {
-            layers: Box::new(alloc, same)?,
+            layers: self.layers.clone()?,
         })
     }
 
@@ -153,7 +124,7 @@ impl Overlay {
     pub fn is_same(&self, other: &Overlay) -> bool
         ensures { IsTrue result → self.now ≡ other.now }
     {
-        self.layers.entries.is_same(&other.layers.entries)
+        self.layers.is_same(&other.layers)
     }
 
     /// The `len` bytes from `off` on as consecutive pieces, each of one entry or of a hole. Where `len` is
@@ -163,22 +134,33 @@ impl Overlay {
         ensures origins { IfOk result (λ v. Plans v.items len (λ i. origin self.now (off + i))) }
         ensures count { IfOk result (λ v. length v.items ≤ 2 * length self.now + 1) }
     {
+        self.plan_with(&[], off, len)
+    }
+
+    /// What `plan` gives of the list with `more` laid over it, the earliest first. That list is not made: it
+    /// costs as much as `plan`, a look at each entry of `more`, and a merge of each that shows something in
+    /// the range.
+    pub fn plan_with(&self, more: &[Entry], off: u32, len: u32) -> Result<Vec<Piece>, OutOfMemory>
+        ensures origins { IfOk result (λ v.
+            Plans v.items len (λ i. origin (self.now ++ more.now) (off + i))) }
+        ensures count { IfOk result (λ v. length v.items ≤ 2 * length (self.now ++ more.now) + 1) }
+    {
         let from = off as u64;
-        let all = self.shown_in(from, from + len as u64)?;
+        let all = self.layers.shown_in(more, from, from + len as u64)?;
         let out = pieces(self.alloc(), all.as_slice(), off, len)?;
         Ok(out)
     }
 
     /// The allocator that the list keeps.
     pub(crate) fn alloc(&self) -> Global {
-        *self.layers.runs.allocator()
+        self.layers.alloc()
     }
 
     /// Whether an entry may end past `end`.
     pub(crate) fn passes(&self, end: u32) -> bool
         ensures { OnFalse result (Within end self.now) }
     {
-        end < self.layers.reach
+        self.layers.passes(end)
     }
 
     /// What the list shows, as one run.
@@ -187,19 +169,7 @@ impl Overlay {
         ensures origins { IfOk result (λ v. (x : ℕ) → origin v.items x ≡ origin self.now x) }
         ensures edges { IfOk result (λ v. EdgesIn (is_edge self.now) v.items) }
     {
-        let all = self.shown_in(0, LIMIT)?;
-        Ok(all)
-    }
-
-    /// What the list shows from `from` up to `to`, as one run.
-    fn shown_in(&self, from: u64, to: u64) -> Result<Vec<Entry>, OutOfMemory>
-        ensures run { IfOk result (λ v. IsRun v.items) }
-        ensures shows { IfOk result (λ v. SameWithin from to self.now v.items) }
-        ensures edges { IfOk result (λ v. EdgesIn (is_edge self.now) v.items) }
-    {
-        let layers = &*self.layers;
-        let newest = laid(self.alloc(), layers.tail.as_slice(), from, to)?;
-        let all = shown(newest, layers.runs.as_slice(), from, to)?;
+        let all = self.layers.shown_in(&[], 0, LIMIT)?;
         Ok(all)
     }
 
@@ -208,40 +178,9 @@ impl Overlay {
         requires { IsRun run.items }
         ensures { IfOk result (λ o. o ≡ run.items) }
     {
-        let entries = chunks_of(alloc, run.as_slice())?;
-        let reach = reach_of(run.as_slice());
-        let mut runs = Vec::new(alloc);
-        runs.push(RcSlice::from_vec(run)?)?;
-        let layers = Layers {
-            entries,
-            runs,
-            tail: Vec::new(alloc),
-            reach,
-        };
+        let layers = Layers::of_run(alloc, run)?;
         Ok(Overlay {
-            layers: Box::new(alloc, layers)?,
+            layers: Rc::new(alloc, layers)?,
         })
-    }
-}
-
-/// The entries in chunks.
-fn chunks_of(alloc: Global, run: &[Entry]) -> Result<Chunks<Entry>, OutOfMemory>
-    ensures { IfOk result (λ c. c ≡ run.now) }
-{
-    let mut list = Chunks::new(alloc)?;
-    for e in run {
-        list.push(*e)?;
-    }
-    Ok(list)
-}
-
-/// An end that no entry of the run passes.
-fn reach_of(run: &[Entry]) -> u32
-    requires { IsRun run.now }
-    ensures { Within result run.now }
-{
-    match run.split_last() {
-        None => 0,
-        Some((last, _)) => last.end(),
     }
 }

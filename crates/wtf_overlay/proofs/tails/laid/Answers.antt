@@ -1,46 +1,13 @@
-use Rattle.std.proofs.Common.{ap, sym, ◌∙◌}
-use Rattle.wtf_overlay.specs.Origin.{over, origin_from}
-use Rattle.wtf_overlay.proofs.Building.{nothing}
-use Rattle.wtf_overlay.proofs.Tailing.{tail_next, over_missed, EdgesIn-split}
+use Rattle.std.proofs.Common.{ℕ, Bool, [], subst}
+use Rattle.std.specs.Prelude.{IfOk}
+use Rattle.std.proofs.lemmas.Result.{IfOk-weaker}
+use Rattle.wtf_overlay.specs.Edges.{EdgesIn}
 use Rattle.wtf_overlay.proofs.tails.laid.Goals as goal
 
-pub loop-e-preserved-in_ok-run : goal.loop-e-preserved-in_ok-run
-loop-e-preserved-in_ok-run c =
-    let e = c.in-Some.e.now in
-    let before = c.in-Some.before.now in
-    let i = c.loop-e.invariant in
-    let is = c.in-Some.ensures.cases.0 in
-    let run = c.as_slice.ensures.value in
-    record {
-      run = c.in_ok-run.ensures.run;
-      same = λ b y l k.
-          let below = origin_from b before y in
-          i.same b y l k ∙ tail_next c.loop-e.rest.now before c.loop-e.run.items e b y is
-          ∙ sym (c.in_ok-run.ensures.shows below y ∙ ap (λ es. origin_from (over e y below) es y) run);
-      edges = λ p edges.
-          let k = i.edges p edges in
-          let s = EdgesIn-split p before e (rw is at k.0) in
-          (s.0, c.in_ok-run.ensures.edges p (rw run k.1) s.1);
-    }
-
-pub loop-e-preserved : goal.loop-e-preserved
-loop-e-preserved c =
-    let e = c.in-Some.e.now in
-    let before = c.in-Some.before.now in
-    let run = c.loop-e.run.items in
-    let i = c.loop-e.invariant in
-    let is = c.in-Some.ensures.cases.0 in
-    record {
-      run = i.run;
-      same = λ b y l k. i.same b y l k ∙ tail_next c.loop-e.rest.now before run e b y is
-          ∙ ap (λ below. origin_from below run y) (over_missed c.args.from c.args.to e y (origin_from b before y) c.if-meets.ensures l k);
-      edges = λ p edges. let k = i.edges p edges in ((EdgesIn-split p before e (rw is at k.0)).0, k.1);
-    }
-
-pub returns-clause-same : goal.returns-clause-same
-returns-clause-same c = λ b y l k.
-    c.loop-e.invariant.same b y l k
-    ∙ ap (λ es. origin_from (origin_from b es y) c.loop-e.run.items y) (nothing c.loop-e.rest.now c.in_default.ensures.cases)
-
 pub returns-clause-edges : goal.returns-clause-edges
-returns-clause-edges c = λ p edges. (c.loop-e.invariant.edges p edges).1
+returns-clause-edges c =
+    let r = c.laid_under.result in
+    let tail = c.args.tail.now in
+    IfOk-weaker r (λ v. (p : ℕ → Bool) → EdgesIn p [] → EdgesIn p tail → EdgesIn p v.items) (λ v. (p : ℕ → Bool) → EdgesIn p tail → EdgesIn p v.items)
+    (λ v laid p. laid p tt)
+    (subst (λ es. IfOk r (λ v. (p : ℕ → Bool) → EdgesIn p es → EdgesIn p tail → EdgesIn p v.items)) c.new.ensures.items c.laid_under.ensures.edges)

@@ -1,6 +1,6 @@
 use Rattle.std.proofs.Common.{◌≡◌, ◌++◌, ◌∷◌, [], rules}
 use Rattle.wtf_overlay.proofs.Wholes.{within_last}
-use Rattle.wtf_overlay.proofs.overlay.reach_of.Goals as goal
+use Rattle.wtf_overlay.proofs.layers.reach_of.Goals as goal
 
 pub returns-in-Some : goal.returns-in-Some
 returns-in-Some c =
