@@ -22,7 +22,8 @@ Agree-itself [] a = tt
 Agree-itself (q ∷ qs) a = (refl, Agree-itself qs a)
 
 module _ {K C D : Type 0} (order : K → K → Ordering) (outcome : Option C → D → Applied C) where
-  after_changes-append : (cs ds : List (Change K D)) (q : K) (v : Option C) → after_changes order outcome (cs ++ ds) q v ≡ after_changes order outcome ds q (after_changes order outcome cs q v)
+  -- what changes make of a value, one list after another
+  pub after_changes-append : (cs ds : List (Change K D)) (q : K) (v : Option C) → after_changes order outcome (cs ++ ds) q v ≡ after_changes order outcome ds q (after_changes order outcome cs q v)
   after_changes-append [] ds q v = refl
   after_changes-append (c ∷ cs) ds q v = after_changes-append cs ds q (after_change order outcome c q v)
 

@@ -9,6 +9,7 @@ mod Prune
 mod Updated
 mod Next
 mod Fits
+mod Runs
 mod Taken
 mod Noting
 mod Ranges

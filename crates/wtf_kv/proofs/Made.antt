@@ -1,4 +1,4 @@
--- The versions that are made ready change by change are those of the whole list of changes.
+-- The versions that are made ready part by part are those of the whole list of changes.
 use Rattle.std.proofs.Common.{◌≡◌, ℕ, ◌+◌, Bool, true, false, cond, ◌||◌, ◌&&◌, List, [], ◌∷◌, ◌++◌, Option, None, Some, is_some, refl, sym, ap, ◌∙◌, arith, ⊎_elim}
 use Rattle.std.specs.declared.cmp.Ordering.{Ordering}
 use Rattle.std.proofs.lemmas.Bool.{cases_Bool, or_parts, le-leb}
@@ -8,19 +8,16 @@ use Rattle.wtf_kv.specs.declared.changes.Change.TheVariants.{Delta, Cut}
 use Rattle.wtf_kv.specs.Seen.{last_seen, value_seen, upto, within}
 use Rattle.wtf_kv.specs.Staging.{value_next, staged, staged_by}
 use Rattle.wtf_kv.specs.Edits.{is_between, value_made, after_change, after_changes, touches, any_touches, versions_with}
+use Rattle.wtf_kv.proofs.EditLaws.{after_changes-append}
 use Rattle.wtf_kv.proofs.Sees.{last_seen-push}
 use Rattle.wtf_kv.proofs.Next.{seen-within, none_from, upto-next, upto-all}
 
 module _ {K C D : Type 0} (order : K → K → Ordering) (outcome : Option C → D → Applied C) (q : K) where
-  after-push : (cs : List (Change K D)) (c : Change K D) (x : Option C) → after_changes order outcome (cs ++ c ∷ []) q x ≡ after_change order outcome c q (after_changes order outcome cs q x)
-  after-push [] c x = refl
-  after-push (b ∷ cs) c x = after-push cs c (after_change order outcome b q x)
-
-  touches-push : (cs : List (Change K D)) (c : Change K D) (x : Option C) → any_touches order outcome (cs ++ c ∷ []) q x ≡ (any_touches order outcome cs q x || touches order outcome c q (after_changes order outcome cs q x))
-  touches-push [] c x = elim (touches order outcome c q x) as (λ b. (b || false) ≡ (false || b)) [ true ↦ refl | false ↦ refl ]
-  touches-push (b ∷ cs) c x =
-      ap (λ t. touches order outcome b q x || t) (touches-push cs c (after_change order outcome b q x))
-      ∙ elim (touches order outcome b q x) as (λ t. (t || (any_touches order outcome cs q (after_change order outcome b q x) || touches order outcome c q (after_changes order outcome cs q (after_change order outcome b q x)))) ≡ ((t || any_touches order outcome cs q (after_change order outcome b q x)) || touches order outcome c q (after_changes order outcome cs q (after_change order outcome b q x)))) [ true ↦ refl | false ↦ refl ]
+  touches-append : (cs ds : List (Change K D)) (x : Option C) → any_touches order outcome (cs ++ ds) q x ≡ (any_touches order outcome cs q x || any_touches order outcome ds q (after_changes order outcome cs q x))
+  touches-append [] ds x = refl
+  touches-append (b ∷ cs) ds x =
+      ap (λ t. touches order outcome b q x || t) (touches-append cs ds (after_change order outcome b q x))
+      ∙ elim (touches order outcome b q x) as (λ t. (t || (any_touches order outcome cs q (after_change order outcome b q x) || any_touches order outcome ds q (after_changes order outcome cs q (after_change order outcome b q x)))) ≡ ((t || any_touches order outcome cs q (after_change order outcome b q x)) || any_touches order outcome ds q (after_changes order outcome cs q (after_change order outcome b q x)))) [ true ↦ refl | false ↦ refl ]
 
   cut-none : (b : Bool) (x : Option C) → (b && is_some x) ≡ false → cond b None x ≡ x
   cut-none true None e = refl
@@ -79,29 +76,29 @@ module _ {K C D : Type 0} (order : K → K → Ordering) (outcome : Option C →
   pub made-value : value_next n (versions_with order outcome cs (n + 1) q (value_next n base) base) ≡ after_changes order outcome cs q (value_next n base)
   made-value = state-value n base all (any_touches order outcome cs q (value_next n base)) (after_changes order outcome cs q (value_next n base)) (all_untouched order outcome q cs (value_next n base))
 
-  -- one more change
-  pub made-push : (c : Change K D) → staged_by order outcome c n q (versions_with order outcome cs (n + 1) q (value_next n base) base) ≡ versions_with order outcome (cs ++ c ∷ []) (n + 1) q (value_next n base) base
-  made-push c =
+  -- some more changes
+  pub made-append : (ds : List (Change K D)) → staged_by order outcome ds n q (versions_with order outcome cs (n + 1) q (value_next n base) base) ≡ versions_with order outcome (cs ++ ds) (n + 1) q (value_next n base) base
+  made-append ds =
       let before = value_next n base in
       let x = after_changes order outcome cs q before in
-      let y = after_change order outcome c q x in
+      let y = after_changes order outcome ds q x in
       let f = any_touches order outcome cs q before in
       let now = versions_with order outcome cs (n + 1) q before base in
-      let goal : versions_with order outcome (cs ++ c ∷ []) (n + 1) q before base ≡ state n (f || touches order outcome c q x) before y base =
-      ap (λ v. state n (any_touches order outcome (cs ++ c ∷ []) q before) before v base) (after-push order outcome q cs c before)
-      ∙ ap (λ b. state n b before y base) (touches-push order outcome q cs c before) in
-      ap (λ v. cond (touches order outcome c q v) (staged n (after_change order outcome c q v) now) now) made-value
+      let goal : versions_with order outcome (cs ++ ds) (n + 1) q before base ≡ state n (f || any_touches order outcome ds q x) before y base =
+      ap (λ v. state n (any_touches order outcome (cs ++ ds) q before) before v base) (after_changes-append order outcome cs ds q before)
+      ∙ ap (λ b. state n b before y base) (touches-append order outcome q cs ds before) in
+      ap (λ v. cond (any_touches order outcome ds q v) (staged n (after_changes order outcome ds q v) now) now) made-value
       ∙ ⊎_elim
       (λ on. ap (λ b. cond b (staged n y now) now) on ∙ state-staged n base all (f && (is_some before || is_some x)) x y
       ∙ sym (ap (λ b. state n b before y base) (ap (λ t. f || t) on ∙ or-other n base all f true)))
-      (λ off. ap (λ b. cond b (staged n y now) now) off ∙ ap (λ v. state n f before v base) (sym (untouched order outcome q c x off))
+      (λ off. ap (λ b. cond b (staged n y now) now) off ∙ ap (λ v. state n f before v base) (sym (all_untouched order outcome q ds x off))
       ∙ sym (ap (λ b. state n b before y base) (ap (λ t. f || t) off ∙ or-other n base all f false)))
-      (cases_Bool (touches order outcome c q x))
+      (cases_Bool (any_touches order outcome ds q x))
       ∙ sym goal
 
-  pub made-next : (c : Change K D) (now new : List (ℕ × Option C)) → now ≡ versions_with order outcome cs (n + 1) q (value_next n base) base → new ≡ versions_with order outcome (cs ++ c ∷ []) (n + 1) q (value_next n base) base → value_next n new ≡ after_change order outcome c q (value_next n now)
-  made-next c now new is more =
+  pub made-next : (ds : List (Change K D)) (now new : List (ℕ × Option C)) → now ≡ versions_with order outcome cs (n + 1) q (value_next n base) base → new ≡ versions_with order outcome (cs ++ ds) (n + 1) q (value_next n base) base → value_next n new ≡ after_changes order outcome ds q (value_next n now)
+  made-next ds now new is more =
       ap (value_next n) more
-      ∙ state-value n base all (any_touches order outcome (cs ++ c ∷ []) q (value_next n base)) (after_changes order outcome (cs ++ c ∷ []) q (value_next n base)) (all_untouched order outcome q (cs ++ c ∷ []) (value_next n base))
-      ∙ after-push order outcome q cs c (value_next n base)
-      ∙ ap (after_change order outcome c q) (sym made-value ∙ ap (value_next n) (sym is))
+      ∙ state-value n base all (any_touches order outcome (cs ++ ds) q (value_next n base)) (after_changes order outcome (cs ++ ds) q (value_next n base)) (all_untouched order outcome q (cs ++ ds) (value_next n base))
+      ∙ after_changes-append order outcome cs ds q (value_next n base)
+      ∙ ap (after_changes order outcome ds q) (sym made-value ∙ ap (value_next n) (sym is))

@@ -1,6 +1,6 @@
 -- Keys that are noted before something is made ready for them.
-use Rattle.std.proofs.Common.{◌≡◌, ℕ, ◌+◌, ◌≤◌, Bool, true, false, cond, ◌||◌, ◌⊎◌, inl, inr, List, [], ◌∷◌, ◌++◌, Result, Ok, Err, OnOk, OnErr, refl, sym, ap, subst, ◌∙◌, length, drop, Option, ⊎_elim, take}
-use Rattle.std.proofs.lemmas.List.{drop-append-le}
+use Rattle.std.proofs.Common.{◌≡◌, ℕ, ◌+◌, ◌≤◌, Bool, true, false, cond, ◌||◌, ◌⊎◌, inl, inr, List, [], ◌∷◌, ◌++◌, Result, Ok, Err, OnOk, OnErr, refl, sym, ap, subst, ◌∙◌, arith, length, length-append, drop, Option, ⊎_elim, take}
+use Rattle.std.proofs.lemmas.List.{drop-append-le, take-append-le}
 use Rattle.std.proofs.lemmas.List.Folds.{list_any-append}
 use Rattle.std.proofs.lemmas.Bool.{or_parts, cases_Bool}
 use Rattle.std.specs.declared.cmp.Ordering.{Ordering}
@@ -57,17 +57,20 @@ module _ {K C : Type 0} (R : K → K → Ordering) (number fresh : ℕ) (x : Opt
     pub staged_shown : (q : K) → upto number (versions_in R new q) ≡ upto number (versions_in R old q)
     staged_shown q = step-same number x (is_at (R k) q) (versions_in R new q) (versions_in R old q) (others q) (at_key q)
 
-    pub staged_sound : fresh ≤ length us → take fresh us ≡ take fresh ts → ((q : K) → names R (drop fresh us) q ≡ (names R (drop fresh ts) q || is_at (R k) q)) → Sound R number fresh ts old → Sound R number fresh us new
-    staged_sound inside front named h = record {
-      good = λ q. step-good number x (is_at (R k) q) (versions_in R new q) (versions_in R old q) (others q) (at_key q) (h.good q);
-      noted = record {
-        inside = inside;
-        clean = λ q none.
-            let parts = or_parts _ _ (sym (named q) ∙ none) in
-            subst (within number) (sym (others q parts.1)) (h.noted.clean q parts.0);
-      };
-      loose = λ q none. ap is_settled (staged_shown q) ∙ h.loose q (ap (λ l. names R l q) (sym front) ∙ none);
-    }
+    pub staged_sound : us ≡ ts ++ k ∷ [] → Sound R number fresh ts old → Sound R number fresh us new
+    staged_sound is h =
+        let le : fresh ≤ length ts = h.noted.inside in
+        record {
+          good = λ q. step-good number x (is_at (R k) q) (versions_in R new q) (versions_in R old q) (others q) (at_key q) (h.good q);
+          noted = record {
+            inside = (let long = ap length is ∙ length-append ts (k ∷ []) in omega arith);
+            clean = λ q none.
+                let named : names R (drop fresh us) q ≡ (names R (drop fresh ts) q || is_at (R k) q) = ap (λ l. names R (drop fresh l) q) is ∙ ap (λ l. names R l q) (drop-append-le fresh ts (k ∷ []) le) ∙ names-push R (drop fresh ts) k q in
+                let parts = or_parts _ _ (sym named ∙ none) in
+                subst (within number) (sym (others q parts.1)) (h.noted.clean q parts.0);
+          };
+          loose = λ q none. ap is_settled (staged_shown q) ∙ h.loose q (ap (λ l. names R l q) (sym (ap (take fresh) is ∙ take-append-le fresh ts (k ∷ []) le)) ∙ none);
+        }
 
   -- each key has what it is to have
   pub staged_all : ((q : K) → is_at (R k) q ≡ true → versions_in R new q ≡ staged number x (versions_in R old q)) → (q : K) → versions_in R new q ≡ cond (is_at (R k) q) (staged number x (versions_in R old q)) (versions_in R old q)

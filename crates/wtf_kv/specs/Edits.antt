@@ -45,11 +45,6 @@ module _ {K C D : Type 0} (order : K → K → Ordering) (outcome : Option C →
   abbrev pub over : List (Change K D) → (K → Option C) → K → Option C
   over cs at q = after_changes cs q (at q)
 
-  -- the key of a delta that does not fit its value in a map
-  abbrev pub unfit_key : Change K D → (K → Option C) → Option K
-  unfit_key (Delta key delta) at = cond (fits (outcome (at key) delta)) None (Some key)
-  unfit_key (Cut from to) at = None
-
   -- the key of the first delta that does not fit, where each change finds the map that those before it made
   abbrev pub first_unfit : List (Change K D) → (K → Option C) → Option K
   first_unfit [] at = None

@@ -239,7 +239,8 @@ fn keep_once<K: StoreKey>(keys: &mut Vec<K>)
     keys.dedup();
 }
 
-/// Drops what was made ready, and what is not kept of each key.
+/// Drops what was made ready, and what is not kept of each key. Of most keys nothing is left to drop then, so
+/// only the few others are sorted.
 pub(crate) fn prune_all<K: StoreKey, C: Drop>(
     cells: &mut Cells<K, C>,
     touched: &mut Vec<K>,
@@ -256,6 +257,6 @@ pub(crate) fn prune_all<K: StoreKey, C: Drop>(
         kept_versions pins.now (upto number (versions_in K.cmp (listed cells.old.entries) q)) }
 {
     clear_cells(cells, touched, number, fresh);
-    keep_once(touched);
     prune_cells(cells, touched, pins);
+    keep_once(touched);
 }

@@ -1,23 +1,23 @@
 //! The history of a map: the versions of each key, and those that are made ready for the next install, which no
 //! number that can be read sees. The keys that get one are noted first, so that it can be undone.
 
-ghost use Rattle.std.specs.Prelude.{◌≡◌, ◌+◌, ◌<◌, ◌≤◌, ◌∷◌, [], ◌^◌, true, false, OnErr, OnOk, IfOk, IfErr, IsTrue, cond, ◌||◌, length, take, drop};
+ghost use Rattle.std.specs.Prelude.{◌≡◌, ◌+◌, ◌<◌, ◌≤◌, ◌∷◌, [], ◌++◌, ◌^◌, true, false, OnErr, OnOk, IfOk, IfErr, cond, length, take, None, Some};
 ghost use Rattle.std.specs.Option.{option_copied};
 ghost use Rattle.std.specs.BTreeMap.{is_at};
 ghost use Rattle.wtf_kv.specs.Seen.{ascends, within, kept_versions};
 ghost use Rattle.wtf_kv.specs.Stores.{listed, versions_in, versions_of, map_at, version_of, names, AllAscend, ShowsSame};
 ghost use Rattle.wtf_kv.specs.Inside.{AllGood};
-ghost use Rattle.wtf_kv.specs.Edits.{value_made, fits, Fits, first_unfit, unfit_key};
+ghost use Rattle.wtf_kv.specs.Edits.{Fits, first_unfit};
 ghost use Rattle.wtf_kv.specs.Causes.{IsCause};
 ghost use Rattle.wtf_kv.specs.Installs.{Planned, IsReady};
 ghost use Rattle.wtf_kv.specs.Order.{IsNextKey};
-ghost use Rattle.wtf_kv.specs.Staging.{staged, value_next, next_value, is_taken, IsKeptOrCut, IsStaged, IsStagedBy, IsStagedByAll, delta_made};
+ghost use Rattle.wtf_kv.specs.Staging.{staged, value_next, next_value, is_taken, IsKeptOrCut, IsStaged, IsStagedBy, IsStagedByAll, AreDeltasOf, run_made, run_fits};
 
 use crate::cells::{
     Cells, clear_cells, first_key, prune_all, seed_cell, shown_in, start_past, value_in,
     valued_keys, version_in,
 };
-use crate::rows::{stage_delta_in, stage_in};
+use crate::rows::{apply_run, stage_in, stage_run_in};
 use crate::{Cell, Change, NotReady, StoreKey};
 use std::alloc::Global;
 use std::collections::BTreeMap;
@@ -166,7 +166,7 @@ impl<K: StoreKey, C: Drop> History<K, C> {
         ensures same { ShowsSame K.cmp self.old self.new }
         ensures ok { OnOk result (IsStaged K.cmp (is_at (K.cmp key.now)) value self.old self.new) }
     {
-        note(self.alloc, &mut self.touched, self.fresh, key)?;
+        note(self.alloc, &mut self.touched, key)?;
         stage_cell(self.alloc, &mut self.cells, self.number, key, value)
     }
 
@@ -205,57 +205,67 @@ impl<K: StoreKey, C: Drop> History<K, C> {
 }
 
 impl<K: StoreKey, C: Cell> History<K, C> {
-    /// Notes a key, and makes what a delta makes of its value ready. Answers whether the delta fits.
-    fn stage_made(&mut self, key: &K, delta: &C::Delta) -> Result<bool, OutOfMemory>
+    /// Notes a key, and makes what deltas make of its value ready. Answers whether they fit.
+    fn stage_made(&mut self, key: &K, run: &[Change<K, C::Delta>]) -> Result<bool, OutOfMemory>
         requires { self.old.number < 2 ^ 63 }
         ensures same { ShowsSame K.cmp self.old self.new }
         ensures ok { let now = next_value K.cmp self.old key.now in
             OnOk result
             (IsStaged K.cmp (is_at (K.cmp key.now))
-            (value_made (C.outcome now delta.now) now) self.old self.new) }
+            (run_made C.outcome run.now now) self.old self.new) }
         ensures fit { IfOk result
-            (λ fit. fit ≡ fits (delta_made K.cmp C.outcome key.now delta.now self.old)) }
+            (λ fit. fit ≡ run_fits C.outcome run.now (next_value K.cmp self.old key.now)) }
     {
-        note(self.alloc, &mut self.touched, self.fresh, key)?;
-        stage_delta_cell(self.alloc, &mut self.cells, self.number, key, delta)
+        note(self.alloc, &mut self.touched, key)?;
+        stage_run_cell(self.alloc, &mut self.cells, self.number, key, run)
     }
 
-    /// Makes a delta ready, where it fits.
-    fn stage_delta(&mut self, key: &K, delta: &C::Delta) -> Result<(), NotReady<K>>
+    /// Makes deltas of one key ready, where they fit.
+    fn stage_run(&mut self, key: &K, run: &[Change<K, C::Delta>]) -> Result<(), NotReady<K>>
         requires { self.old.number < 2 ^ 63 }
         ensures same { ShowsSame K.cmp self.old self.new }
         ensures ok { let now = next_value K.cmp self.old key.now in
             OnOk result
             (IsStaged K.cmp (is_at (K.cmp key.now))
-            (value_made (C.outcome now delta.now) now) self.old self.new) }
+            (run_made C.outcome run.now now) self.old self.new) }
         ensures fit { OnOk result
-            (fits (delta_made K.cmp C.outcome key.now delta.now self.old) ≡ true) }
-        ensures cause { let made = delta_made K.cmp C.outcome key.now delta.now self.old in
-            IfErr result (λ why. IsCause why (cond (fits made) None (Some key.now))) }
+            (run_fits C.outcome run.now (next_value K.cmp self.old key.now) ≡ true) }
+        ensures cause { let fit = run_fits C.outcome run.now (next_value K.cmp self.old key.now) in
+            IfErr result (λ why. IsCause why (cond fit None (Some key.now))) }
     {
-        match self.stage_made(key, delta) {
+        match self.stage_made(key, run) {
             Ok(true) => Ok(()),
             Ok(false) => Err(unfit(self.alloc, key)),
             Err(_) => Err(NotReady::Memory),
         }
     }
 
-    /// Makes a change ready.
-    fn stage_change(&mut self, change: &Change<K, C::Delta>) -> Result<(), NotReady<K>>
-        requires { self.old.number < 2 ^ 63 }
+    /// Makes the first of the changes ready, and with a delta those of the same key that follow it, by one
+    /// search. Answers how many.
+    fn stage_first(&mut self, changes: &[Change<K, C::Delta>]) -> Result<usize, NotReady<K>>
+        requires room { self.old.number < 2 ^ 63 }
+        requires some { 0 < length changes.now }
+        ensures some { IfOk result (λ n. (0 < n) × (n ≤ length changes.now)) }
         ensures same { ShowsSame K.cmp self.old self.new }
-        ensures ok { OnOk result (IsStagedBy K.cmp C.outcome change.now self.old self.new) }
-        ensures fit { OnOk result
-            (unfit_key K.cmp C.outcome change.now (next_value K.cmp self.old) ≡ None) }
+        ensures ok { IfOk result (λ n.
+            IsStagedBy K.cmp C.outcome (take n changes.now) self.old self.new) }
+        ensures fit { IfOk result (λ n.
+            Fits K.cmp C.outcome (take n changes.now) (next_value K.cmp self.old)) }
         ensures cause { IfErr result (λ why. IsCause why
-            (unfit_key K.cmp C.outcome change.now (next_value K.cmp self.old))) }
+            (first_unfit K.cmp C.outcome changes.now (next_value K.cmp self.old))) }
     {
-        match change {
-            Change::Delta(key, delta) => self.stage_delta(key, delta),
+        match &changes[0] {
             Change::Cut(from, to) => match self.stage_cut(from, to) {
-                Ok(()) => Ok(()),
+                Ok(()) => Ok(1),
                 Err(_) => Err(NotReady::Memory),
             },
+            Change::Delta(key, _) => {
+                let count = run_len(&changes[1..], key) + 1;
+                match self.stage_run(key, &changes[..count]) {
+                    Ok(()) => Ok(count),
+                    Err(why) => Err(why),
+                }
+            }
         }
     }
 
@@ -269,9 +279,10 @@ impl<K: StoreKey, C: Cell> History<K, C> {
         ensures cause { IfErr result (λ why. IsCause why
             (first_unfit K.cmp C.outcome changes.now (next_value K.cmp self.old))) }
     {
-        for change in changes {
-            match self.stage_change(change) {
-                Ok(()) => {}
+        let mut i = 0;
+        while i < changes.len() {
+            match self.stage_first(&changes[i..]) {
+                Ok(count) => i += count,
                 Err(why) => return Err(why),
             }
         }
@@ -321,14 +332,14 @@ fn stage_cell<K: StoreKey, C: Drop>(
     add_cell(alloc, cells, number, key, value)
 }
 
-/// Makes what a delta makes of a key's value ready, with one search where the key has versions. Answers
-/// whether the delta fits.
-fn stage_delta_cell<K: StoreKey, C: Cell>(
+/// Makes what deltas make of a key's value ready, with one search where the key has versions. Answers
+/// whether they fit.
+fn stage_run_cell<K: StoreKey, C: Cell>(
     alloc: Global,
     cells: &mut Cells<K, C>,
     number: u64,
     key: &K,
-    delta: &C::Delta,
+    run: &[Change<K, C::Delta>],
 ) -> Result<bool, OutOfMemory>
     requires room { number < 2 ^ 63 }
     requires good { AllGood K.cmp number (listed cells.old.entries) }
@@ -337,24 +348,42 @@ fn stage_delta_cell<K: StoreKey, C: Cell>(
         versions_in K.cmp (listed cells.old.entries) q }
     ensures fit { let now = value_next number
         (versions_in K.cmp (listed cells.old.entries) key.now) in
-        IfOk result (λ fit. fit ≡ fits (C.outcome now delta.now)) }
+        IfOk result (λ fit. fit ≡ run_fits C.outcome run.now now) }
     ensures ok { let now = value_next number
         (versions_in K.cmp (listed cells.old.entries) key.now) in
         OnOk result ((q : K) → is_at (K.cmp key.now) q ≡ true →
         versions_in K.cmp (listed cells.new.entries) q ≡
-        staged number (value_made (C.outcome now delta.now) now)
+        staged number (run_made C.outcome run.now now)
         (versions_in K.cmp (listed cells.old.entries) q)) }
     ensures err { OnErr result ((q : K) → is_at (K.cmp key.now) q ≡ true →
         IsKeptOrCut number (versions_in K.cmp (listed cells.old.entries) q)
         (versions_in K.cmp (listed cells.new.entries) q)) }
 {
     if let Some(versions) = cells.get_mut(key) {
-        return stage_delta_in(alloc, versions, number, delta);
+        return stage_run_in(alloc, versions, number, run);
     }
     let mut value = None;
-    let fit = C::apply(alloc, &mut value, delta)?;
+    let fit = apply_run::<K, C>(alloc, &mut value, run)?;
     add_cell(alloc, cells, number, key, value)?;
     Ok(fit)
+}
+
+/// How many of the changes from the first on are deltas of a key.
+fn run_len<K: StoreKey, D>(changes: &[Change<K, D>], key: &K) -> usize
+    ensures bound { result ≤ length changes.now }
+    ensures run { AreDeltasOf key.now (take result changes.now) }
+{
+    let mut count = 0;
+    for change in changes {
+        let Change::Delta(next, _) = change else {
+            return count;
+        };
+        if *next != *key {
+            return count;
+        }
+        count += 1;
+    }
+    count
 }
 
 /// Adds a key that has no versions, with its next version made ready.
@@ -384,35 +413,11 @@ fn add_cell<K: StoreKey, C: Drop>(
     }
 }
 
-/// Whether a key is the one noted last, among those from `fresh` on.
-fn is_noted_last<K: StoreKey>(touched: &[K], fresh: usize, key: &K) -> bool
-    requires { fresh ≤ length touched.now }
-    ensures { IsTrue result → names K.cmp (drop fresh touched.now) key.now ≡ true }
-{
-    let Some(last) = touched[fresh..].last() else {
-        return false;
-    };
-    *last == *key
-}
-
-/// Notes a key before a version of it is made ready. Deltas of one key mostly follow each other: the one
-/// that was noted last is not noted again.
-fn note<K: StoreKey>(
-    alloc: Global,
-    touched: &mut Vec<K>,
-    fresh: usize,
-    key: &K,
-) -> Result<(), OutOfMemory>
-    requires { fresh ≤ length touched.old.items }
-    ensures inside { fresh ≤ length touched.new.items }
-    ensures front { take fresh touched.new.items ≡ take fresh touched.old.items }
-    ensures noted { OnOk result ((q : K) → names K.cmp (drop fresh touched.new.items) q ≡
-        (names K.cmp (drop fresh touched.old.items) q || is_at (K.cmp key.now) q)) }
+/// Notes a key before a version of it is made ready.
+fn note<K: StoreKey>(alloc: Global, touched: &mut Vec<K>, key: &K) -> Result<(), OutOfMemory>
+    ensures ok { OnOk result (touched.new.items ≡ touched.old.items ++ key.now ∷ []) }
     ensures err { OnErr result (touched.new.items ≡ touched.old.items) }
 {
-    if is_noted_last(touched.as_slice(), fresh, key) {
-        return Ok(());
-    }
     let noted = key.copy(alloc)?;
     touched.push(noted)?;
     Ok(())

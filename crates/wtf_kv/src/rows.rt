@@ -6,10 +6,9 @@ ghost use Rattle.std.specs.Map.Iter.{TakesFirst};
 ghost use Rattle.std.specs.Iterator.{at_most};
 ghost use Rattle.std.specs.List.{AllWithin};
 ghost use Rattle.wtf_kv.specs.Seen.{last_seen, value_seen, any_below, any_between, is_reported, kept_head, kept_versions, upto, ascends, within, is_settled, has_upto};
-ghost use Rattle.wtf_kv.specs.Edits.{value_made, fits};
-ghost use Rattle.wtf_kv.specs.Staging.{staged, value_next, ends_above, IsKeptOrCut};
+ghost use Rattle.wtf_kv.specs.Staging.{staged, value_next, ends_above, IsKeptOrCut, run_made, run_fits};
 
-use crate::Cell;
+use crate::{Cell, Change};
 use std::alloc::Global;
 use std::marker::{Model, PhantomData};
 use wtf_base::OutOfMemory;
@@ -196,26 +195,48 @@ pub(crate) fn stage_in<C: Drop>(
     }
 }
 
-/// Makes what a delta makes of a key's value ready among its versions. Answers whether the delta fits; one
-/// that does not leaves the value, which is put back.
-pub(crate) fn stage_delta_in<C: Cell>(
+/// Applies the deltas of a run to a value, in order, up to the first that does not fit. Answers whether all
+/// do.
+pub(crate) fn apply_run<K, C: Cell>(
+    alloc: Global,
+    value: &mut Option<C>,
+    run: &[Change<K, C::Delta>],
+) -> Result<bool, OutOfMemory>
+    ensures fit { IfOk result (λ fit. fit ≡ run_fits C.outcome run.now value.old) }
+    ensures value { OnOk result (value.new ≡ run_made C.outcome run.now value.old) }
+{
+    for change in run {
+        let Change::Delta(_, delta) = change else {
+            continue;
+        };
+        let fit = C::apply(alloc, value, delta)?;
+        if !fit {
+            return Ok(false);
+        }
+    }
+    Ok(true)
+}
+
+/// Makes what deltas make of a key's value ready among its versions. Answers whether they fit; the first that
+/// does not leaves the value, which is put back.
+pub(crate) fn stage_run_in<K, C: Cell>(
     alloc: Global,
     versions: &mut Vec<(u64, Option<C>)>,
     number: u64,
-    delta: &C::Delta,
+    run: &[Change<K, C::Delta>],
 ) -> Result<bool, OutOfMemory>
     requires room { number < 2 ^ 63 }
     requires order { ascends versions.old.items }
     requires next { within (number + 1) versions.old.items }
-    ensures fit { let now = value_next number versions.old.items in
-        IfOk result (λ fit. fit ≡ fits (C.outcome now delta.now)) }
+    ensures fit { IfOk result
+        (λ fit. fit ≡ run_fits C.outcome run.now (value_next number versions.old.items)) }
     ensures ok { let now = value_next number versions.old.items in
         OnOk result (versions.new.items ≡
-        staged number (value_made (C.outcome now delta.now) now) versions.old.items) }
+        staged number (run_made C.outcome run.now now) versions.old.items) }
     ensures err { OnErr result (IsKeptOrCut number versions.old.items versions.new.items) }
 {
     let mut value = take_next(alloc, versions, number)?;
-    let fit = C::apply(alloc, &mut value, delta)?;
+    let fit = apply_run::<K, C>(alloc, &mut value, run)?;
     stage_in(versions, number, value)?;
     Ok(fit)
 }

@@ -1,6 +1,6 @@
 //! What a change makes of a region.
 
-ghost use Rattle.std.specs.Prelude.{◌≡◌, ◌+◌, ◌<◌, ◌^◌, [], IfOk, IsTrue, None, Some};
+ghost use Rattle.std.specs.Prelude.{◌≡◌, ◌+◌, ◌<◌, ◌^◌, [], IfOk, OnOk, IsTrue, None, Some};
 ghost use Rattle.wtf_overlay.specs.Clips.{Within};
 ghost use Rattle.wtf_overlay.specs.Origin.{pieces_len};
 ghost use Rattle.wtf_values.specs.Bases.{base_below};
@@ -92,21 +92,22 @@ impl RegionValue {
             && self.list.is_same(&other.list)
     }
 
+    /// Lays an entry over the region, in place. Want of memory leaves it as it was.
+    pub(crate) fn lay(&mut self, e: Entry) -> Result<(), OutOfMemory>
+        ensures { OnOk result (self.new ≡ pushed (Some self.old) e) }
+    {
+        self.list.push(e)?;
+        self.end = self.end.max(e.end());
+        Ok(())
+    }
+
     /// The region with an entry laid over it.
     pub(crate) fn push(self, e: Entry) -> Result<RegionValue, OutOfMemory>
         ensures { IfOk result (λ v. v ≡ pushed (Some self) e) }
     {
-        let RegionValue {
-            end,
-            base,
-            mut list,
-        } = self;
-        list.push(e)?;
-        Ok(RegionValue {
-            end: end.max(e.end()),
-            base,
-            list,
-        })
+        let mut region = self;
+        region.lay(e)?;
+        Ok(region)
     }
 
     /// The region with all at an end and above taken off.

@@ -12,6 +12,7 @@ use crate::{Delta, NameSet, RegionValue, Summary, Value};
 use std::alloc::Global;
 use wtf_base::OutOfMemory;
 use wtf_kv::{Cell, Summarized};
+use wtf_overlay::Entry;
 
 impl Cell for Value {
     type Delta = Delta;
@@ -24,6 +25,7 @@ impl Cell for Value {
         match delta {
             Delta::Put(value) => *now = Some(copy_of(value)?),
             Delta::Remove => *now = None,
+            Delta::Push(e) => lay_over(alloc, now, e)?,
             _ => return change_kind(alloc, now, delta),
         }
         Ok(true)
@@ -77,6 +79,25 @@ fn copy_of(value: &Value) -> Result<Value, OutOfMemory>
         Value::Names(names) => Ok(Value::Names(names.copy()?)),
         Value::Last(n) => Ok(Value::Last(*n)),
         Value::Region(region) => Ok(Value::Region(region.copy()?)),
+    }
+}
+
+/// Lays an entry over a region, which stays where it is. A missing one is made.
+fn lay_over(alloc: Global, now: &mut Option<Value>, e: &Entry) -> Result<(), OutOfMemory>
+    ensures { OnOk result
+        (now.new ≡ value_made (outcome_kind now.old (Delta.Push e.now)) now.old) }
+{
+    match now {
+        None => {
+            let mut region = RegionValue::empty(alloc)?;
+            region.lay(*e)?;
+            *now = Some(Value::Region(region));
+            Ok(())
+        }
+        Some(Value::Region(region)) => region.lay(*e),
+        Some(Value::Node(_)) => Ok(()),
+        Some(Value::Names(_)) => Ok(()),
+        Some(Value::Last(_)) => Ok(()),
     }
 }
 

@@ -1,8 +1,7 @@
 use Rattle.std.proofs.Common.{sym, ap, subst, ◌∙◌, ◌≡◌, ◌≤◌, ◌+◌, ◌∷◌, ◌++◌, [], take, drop, length, arith}
-use Rattle.std.proofs.lemmas.List.{take_more, take-append-drop}
+use Rattle.std.proofs.lemmas.List.{take_more, drop_more, take-append-drop}
 use Rattle.std.proofs.Math.Seq.{take-length}
 use Rattle.wtf_kv.specs.Calls.{Steps, StopsIn}
-use Rattle.wtf_kv.proofs.Fits.{drop_more}
 use Rattle.wtf_kv.proofs.CallLaws.{on_err, steps_more, steps_keep, stops_more, stops_keep}
 use Rattle.wtf_kv.proofs.calls.run.Goals as goal
 
@@ -34,7 +33,7 @@ returns-in_err-make-clause-stops g c =
     let call = c.call-item.result in
     let order = g.K.Ord.cmp in
     let outcome = g.C.Cell.outcome in
-    let split : take i all ++ call ∷ drop (i + 1) all ≡ all = ap (λ l. take i all ++ l) (sym (drop_more all i call (omega arith) c.call-item.is)) ∙ take-append-drop i all in
+    let split : take i all ++ call ∷ drop (i + 1) all ≡ all = ap (λ l. take i all ++ l) (ap (λ x. x ∷ drop (i + 1) all) c.call-item.is ∙ sym (drop_more all i call (omega arith))) ∙ take-append-drop i all in
     on_err c.from_residual.result _
     (subst (λ cs. StopsIn order outcome c.args.m cs c.args.kv.now c.make.new.kv) split
     (stops_more order outcome c.args.m (take i all) call (drop (i + 1) all) c.args.kv.now c.loop-call.kv c.make.new.kv c.loop-call.invariant c.in_err-make.ensures.stop))

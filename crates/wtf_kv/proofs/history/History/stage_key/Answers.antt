@@ -7,7 +7,7 @@ pub invariant_of-self-2 : goal.invariant_of-self-2
 invariant_of-self-2 g c =
     let old = c.self.inside in
     staged_sound g.K.Ord.cmp old.number old.fresh c.args.value old.touched.items c.note.new.touched.items c.args.key.now (listed old.cells.entries) (listed c.stage_cell.new.cells.entries)
-    c.stage_cell.ensures.others (either c.stage_cell.result c.stage_cell.ensures.ok c.stage_cell.ensures.err) c.note.ensures.inside c.note.ensures.front c.in_ok-note.ensures.noted c.self.invariant
+    c.stage_cell.ensures.others (either c.stage_cell.result c.stage_cell.ensures.ok c.stage_cell.ensures.err) c.in_ok-note.ensures.ok c.self.invariant
 
 pub returns-clause-same : goal.returns-clause-same
 returns-clause-same g c =

@@ -1,9 +1,8 @@
 use Rattle.std.proofs.Common.{◌∙◌, ap, inr}
-use Rattle.wtf_kv.specs.Staging.{staged}
-use Rattle.wtf_kv.specs.Edits.{value_made}
+use Rattle.wtf_kv.specs.Staging.{staged, run_made}
 use Rattle.wtf_kv.proofs.Next.{cut-good, cut-same}
 use Rattle.wtf_kv.proofs.Taken.{staged-kept, on_err_from}
-use Rattle.wtf_kv.proofs.rows.stage_delta_in.Goals as goal
+use Rattle.wtf_kv.proofs.rows.stage_run_in.Goals as goal
 
 pub stage_in-requires-clause-order : goal.stage_in-requires-clause-order
 stage_in-requires-clause-order g c = (cut-good c.args.number _ _ c.take_next.ensures.kept (c.requires.order, c.requires.next)).0
@@ -16,5 +15,5 @@ returns-clause-ok g c =
     let n = c.args.number in
     let vs = c.args.versions.now.items in
     c.in_ok-stage_in.ensures.ok
-    ∙ staged-kept n c.apply.new.now vs _ c.take_next.ensures.kept
-    ∙ ap (λ v. staged n v vs) (c.in_ok-fit.ensures.value ∙ ap (λ v. value_made (g.C.Cell.outcome v c.args.delta.now) v) c.in_ok-value.ensures.value)
+    ∙ staged-kept n c.apply_run.new.value vs _ c.take_next.ensures.kept
+    ∙ ap (λ v. staged n v vs) (c.in_ok-fit.ensures.value ∙ ap (run_made g.C.Cell.outcome c.args.run.now) c.in_ok-value.ensures.value)
