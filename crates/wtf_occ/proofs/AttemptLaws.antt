@@ -1,13 +1,13 @@
 -- Laws of attempts: how they grow, what they see, and what agrees where no key has moved.
-use Rattle.std.proofs.Common.{◌≡◌, ◌≤◌, ℕ, cond, nat_lt, List, [], ◌∷◌, ◌++◌, Option, None, Some, refl, sym, ap, ◌∙◌, ⊎_elim, true, append-nil, append_assoc}
-use Rattle.std.proofs.lemmas.Bool.{cases_Bool, ltb-false}
+use Rattle.std.proofs.Common.{◌≡◌, ◌≤◌, ℕ, cond, nat_lt, List, [], ◌∷◌, ◌++◌, Option, None, Some, refl, sym, ap, ◌∙◌, arith, ⊎_elim, true, false, append-nil, append_assoc}
+use Rattle.std.proofs.lemmas.Bool.{cases_Bool, ltb-false, le-ltb}
 use Rattle.std.specs.declared.cmp.Ordering.{Ordering}
 use Rattle.wtf_kv.specs.declared.cell.Applied.{Applied}
 use Rattle.wtf_kv.specs.declared.changes.Change.{Change}
 use Rattle.wtf_kv.specs.Edits.{over, Agree}
 use Rattle.wtf_kv.specs.Stores.{Store, map_at, version_of, is_pinned}
 use Rattle.wtf_kv.proofs.EditLaws.{over-append}
-use Rattle.wtf_kv.proofs.VersionLaws.{unmoved}
+use Rattle.wtf_kv.proofs.VersionLaws.{unmoved, version-le}
 use Rattle.wtf_occ.specs.Attempts.{Attempted, map_seen, GrowsBy, Grows}
 use Rattle.wtf_occ.specs.Tries.{first_moved}
 
@@ -59,6 +59,14 @@ module _ {K C D : Type 0} (order : K → K → Ordering) (outcome : Option C →
       ∙ over-append order outcome old.changes cs (map_at order s old.base)
 
 module _ {K C : Type 0} (order : K → K → Ordering) where
+  -- no key has moved where nothing was installed since the base
+  pub first_moved-none : (s : Store K C) (base : ℕ) (keys : List K) → s.number ≤ base → None ≡ first_moved order base keys s
+  first_moved-none s base [] le = refl
+  first_moved-none s base (q ∷ qs) le =
+      let v = version_of order s s.number q in
+      let old : nat_lt base v ≡ false = le-ltb base v (omega (arith, le, version-le order s s.number q)) in
+      first_moved-none s base qs le ∙ sym (ap (λ b. cond b (Some q) (first_moved order base qs s)) old)
+
   -- where none of the keys has moved since the base, the maps at the base and at the number agree on them
   pub Agree-unmoved : (s : Store K C) (base : ℕ) (keys : List K) → is_pinned s base ≡ true → base ≤ s.number → first_moved order base keys s ≡ None → Agree keys (map_at order s base) (map_at order s s.number)
   Agree-unmoved s base [] pinned le none = tt

@@ -1,5 +1,5 @@
 -- What the index of positions is worth: reading by it is reading by all changes.
-use Rattle.std.proofs.Common.{◌≡◌, ℕ, ◌+◌, ◌-◌, ◌<◌, ◌≤◌, suc, zero, Bool, true, false, cond, ◌||◌, ◌⊎◌, inl, inr, List, [], ◌∷◌, Option, None, nat_le, nat_lt, nat_eq, refl, sym, ap, ◌∙◌, subst, arith, ⊎_elim, length, take, drop, get_or}
+use Rattle.std.proofs.Common.{◌≡◌, ℕ, ◌+◌, ◌-◌, ◌<◌, ◌≤◌, suc, zero, Bool, true, false, cond, not, ◌||◌, ◌==◌, ◌⊎◌, inl, inr, List, [], ◌∷◌, Option, None, nat_le, nat_lt, nat_eq, refl, sym, ap, ◌∙◌, subst, arith, ⊎_elim, length, take, drop, get_or}
 use Rattle.std.specs.List.{list_any}
 use Rattle.std.specs.declared.cmp.Ordering.{Ordering}
 use Rattle.std.proofs.Math.Seq.{drop-nil, drop-cons}
@@ -58,6 +58,23 @@ pub below-at : (n : ℕ) (is : List ℕ) (k d : ℕ) → AllBelow n is → k < l
 below-at n [] k d all lt = absurd (omega arith)
 below-at n (i ∷ is) zero d all lt = ltb-true i n all.0
 below-at n (i ∷ is) (suc k) d all lt = below-at n is k d all.1 (omega arith)
+
+-- some element passes exactly where there is a position
+pub any-positions : {X : Type 0} (p : X → Bool) (xs : List X) (i : ℕ) → list_any p xs ≡ not (length (positions_from i p xs) == 0)
+any-positions p [] i = refl
+any-positions p (x ∷ xs) i =
+    let rest = positions_from (i + 1) p xs in
+    let some : (length (i ∷ rest) == 0) ≡ false = ne_eqb (length (i ∷ rest)) 0 (λ e. absurd (omega arith)) in
+    elim (p x) as (λ b. (b || list_any p xs) ≡ not (length (cond b (i ∷ positions_from (i + 1) p xs) (positions_from (i + 1) p xs)) == 0)) [
+      | true ↦ sym (ap not some)
+      | false ↦ any-positions p xs (i + 1)
+    ]
+
+pub no-positions : {X : Type 0} (p : X → Bool) (xs : List X) (i : ℕ) → list_any p xs ≡ false → [] ≡ positions_from i p xs
+no-positions p [] i none = refl
+no-positions p (x ∷ xs) i none =
+    let parts = or_parts (p x) (list_any p xs) none in
+    no-positions p xs (i + 1) parts.1 ∙ sym (ap (λ b. cond b (i ∷ positions_from (i + 1) p xs) (positions_from (i + 1) p xs)) parts.0)
 
 module _ {K C D : Type 0} (order : K → K → Ordering) (outcome : Option C → D → Applied C) (q : K) where
   -- ---- the last cut that covers q, by the positions of the cuts: there is none, or what came before it is of lacks account

@@ -12,7 +12,7 @@ use Rattle.wtf_kv.specs.declared.changes.Change.TheVariants.{Delta, Cut}
 use Rattle.wtf_kv.specs.Edits.{value_made, after_change, after_changes}
 use Rattle.wtf_occ.specs.declared.known.Known.{Known}
 use Rattle.wtf_occ.specs.declared.known.Summed.{Summed}
-use Rattle.wtf_occ.specs.Known.{IsKnown, AreKnown, Forgets, IsMade, IsSummed}
+use Rattle.wtf_occ.specs.Known.{IsKnown, AreKnown, Forgets, IsMade, IsSummed, IsPlaced}
 
 -- what is taken out is gone, whatever stood there
 pub gone_both : {K X : Type 0} (R : K → K → Ordering) (es fs gs : List (K × X)) (k : K) (w : X)
@@ -126,15 +126,22 @@ module _ {K C D : Type 0} (order : K → K → Ordering) (outcome : Option C →
       ∙ sym (after_push cs (Delta k d) k old.before) ∙ ap (after_changes order outcome (cs ++ Delta k d ∷ []) k) (sym (ap (λ (x : Known C). x.before) is))
 
   module _ {S : Type 0} (summary : Option C → S) where
-    pub summed_stays : StaysKnown order (IsSummed order outcome summary)
-    summed_stays = record {
-      on = λ cs k q d x apart summed now is. summed now is ∙ ap summary (sym (after_other cs k q d now apart));
-      back = λ cs k q d x apart summed now is. summed now is ∙ ap summary (after_other cs k q d now apart);
-    }
+    placed_on : (cs : List (Change K D)) (k q : K) (d : D) (x : Option (Summed S)) → is_at (order k) q ≡ false
+        → IsPlaced order outcome summary cs q x → IsPlaced order outcome summary (cs ++ Delta k d ∷ []) q x
+    placed_on cs k q d None apart none = tt
+    placed_on cs k q d (Some s) apart summed = λ now is. summed now is ∙ ap summary (sym (after_other cs k q d now apart))
 
-    -- a summary that follows a delta is that of what it makes
-    pub summed_followed : (cs : List (Change K D)) (k : K) (d : D) (old w : Summed S) → w.before ≡ old.before
-        → ((now : Option C) → old.after ≡ summary now → w.after ≡ summary (after_change order outcome (Delta k d) k now))
-        → IsSummed order outcome summary cs k old → IsSummed order outcome summary (cs ++ Delta k d ∷ []) k w
-    summed_followed cs k d old w before follows was = λ now is.
-        follows (after_changes order outcome cs k now) (was now (sym before ∙ is)) ∙ ap summary (sym (after_push cs (Delta k d) k now))
+    placed_back : (cs : List (Change K D)) (k q : K) (d : D) (x : Option (Summed S)) → is_at (order k) q ≡ false
+        → IsPlaced order outcome summary (cs ++ Delta k d ∷ []) q x → IsPlaced order outcome summary cs q x
+    placed_back cs k q d None apart none = tt
+    placed_back cs k q d (Some s) apart summed = λ now is. summed now is ∙ ap summary (after_other cs k q d now apart)
+
+    pub placed_stays : StaysKnown order (IsPlaced order outcome summary)
+    placed_stays = record { on = placed_on; back = placed_back }
+
+    -- a summary that follows a change is that of what it makes
+    pub summed_followed : (cs : List (Change K D)) (c : Change K D) (k : K) (old w : Summed S) → w.before ≡ old.before
+        → ((now : Option C) → old.after ≡ summary now → w.after ≡ summary (after_change order outcome c k now))
+        → IsSummed order outcome summary cs k old → IsSummed order outcome summary (cs ++ c ∷ []) k w
+    summed_followed cs c k old w before follows was = λ now is.
+        follows (after_changes order outcome cs k now) (was now (sym before ∙ is)) ∙ ap summary (sym (after_push cs c k now))

@@ -1,5 +1,5 @@
 -- What is known of the values of keys, for all that changes have made of them so far.
-use Rattle.std.specs.Prelude.{◌≡◌, List, [], Bool, cond, Option, None, Some}
+use Rattle.std.specs.Prelude.{◌≡◌, List, [], cond, Option, None, Some}
 use Rattle.std.specs.declared.cmp.Ordering.{Ordering}
 use Rattle.std.specs.Map.{lookup}
 use Rattle.std.specs.BTreeMap.{is_at}
@@ -39,5 +39,9 @@ module _ {K C D : Type 0} (order : K → K → Ordering) (outcome : Option C →
     abbrev pub IsSummed : List (Change K D) → K → Summed S → Type 0
     IsSummed cs q summed = (now : Option C) → summed.before ≡ summary now → summed.after ≡ summary (after_changes order outcome cs q now)
 
-    abbrev pub AreSummed : List (Change K D) → List (K × Summed S) → Type 0
-    AreSummed = AreKnown order IsSummed
+    -- so it is, where there is one in the place
+    abbrev pub IsPlaced : List (Change K D) → K → Option (Summed S) → Type 0
+    IsPlaced = IsKnown order IsSummed
+
+    abbrev pub AreSummed : List (Change K D) → List (K × Option (Summed S)) → Type 0
+    AreSummed = AreKnown order IsPlaced

@@ -1,6 +1,7 @@
 -- Where the changes of a key stand in a list of changes.
 use Rattle.std.specs.Prelude.{◌≡◌, ℕ, ◌+◌, ◌-◌, Bool, true, false, cond, List, [], ◌∷◌, map, Option, nat_le, nat_lt, length, take, drop}
 use Rattle.std.specs.Option.{unwrap_or}
+use Rattle.std.specs.List.{list_any}
 use Rattle.std.specs.declared.cmp.Ordering.{Ordering}
 use Rattle.std.specs.declared.vec.Vec.{Vec}
 use Rattle.std.specs.Map.{lookup}
@@ -38,6 +39,10 @@ module _ {K D : Type 0} (order : K → K → Ordering) where
   abbrev pub is_delta_of : K → Change K D → Bool
   is_delta_of q (Delta key d) = is_at (order key) q
   is_delta_of q (Cut from to) = false
+
+  -- whether one of the changes is a delta of q
+  abbrev pub has_delta : List (Change K D) → K → Bool
+  has_delta cs q = list_any (is_delta_of q) cs
 
   -- whether a change is a cut of a range in which q lies
   abbrev pub covers : K → Change K D → Bool

@@ -1,10 +1,11 @@
 //! An attempt: its base, the keys that it has recorded, and its changes.
 
-ghost use Rattle.std.specs.Prelude.{◌≡◌, ℕ, Some, ◌^◌, ◌<◌, ◌≤◌, ◌∷◌, [], ◌++◌, IsTrue, OnErr, OnOk, IfOk, IfSome, length, take};
+ghost use Rattle.std.specs.Prelude.{◌≡◌, ℕ, Some, ◌^◌, ◌<◌, ◌≤◌, ◌∷◌, [], ◌++◌, IsTrue, OnErr, OnOk, IfOk, IfSome, IfNone, length, take};
 ghost use Rattle.std.specs.Option.{option_copied};
 ghost use Rattle.wtf_kv.specs.Stores.{map_at, version_of, is_pinned};
 ghost use Rattle.wtf_kv.specs.Edits.{Fits};
 ghost use Rattle.wtf_occ.specs.Attempts.{Attempted, Grows, map_seen};
+ghost use Rattle.wtf_occ.specs.Positions.{has_delta};
 ghost use Rattle.wtf_occ.specs.Tries.{IsTried, Stays, first_moved};
 
 use crate::Tried;
@@ -88,6 +89,20 @@ impl<K: StoreKey, C: Summarized> Attempt<K, C> {
         self.changes.value(kv, self.base, key)
     }
 
+    /// The same without a copy: the value where it stands, in the map at the base or where the key is
+    /// settled. `None` where it may stand nowhere, which is so only for a key of which the attempt has a
+    /// delta, and says nothing of the value. Nothing is recorded. It takes the time of a read of the base,
+    /// of a walk over the attempt's cuts where it has no delta of this key, and else of looks at the value
+    /// at the base.
+    pub fn look<'a>(&'a self, kv: &'a Kv<K, C>, key: &K) -> Option<Option<&'a C>>
+        requires { IsTrue (is_pinned kv.now self.now.base) }
+        ensures value { IfSome result (λ value. option_copied value ≡
+            map_seen K.cmp C.outcome kv.now self.now key.now) }
+        ensures none { IfNone result (IsTrue (has_delta K.cmp self.now.changes key.now)) }
+    {
+        self.changes.look(kv, self.base, key)
+    }
+
     /// Makes later looks at a key cost no walk over the attempt's changes of it, up to the next cut. It
     /// takes the time of a `peek`, and none where the key is settled or the attempt has no change of it.
     pub fn settle(&mut self, kv: &Kv<K, C>, key: &K) -> Result<(), OutOfMemory>
@@ -108,7 +123,8 @@ impl<K: StoreKey, C: Summarized> Attempt<K, C> {
     }
 
     /// The same, which costs no walk over the changes of this key from then on, up to the next cut, where
-    /// there is memory to keep it.
+    /// there is a place to keep it: `delta` makes one for a key that it changes once more. No memory is
+    /// needed here.
     pub fn settled_summary(&mut self, kv: &Kv<K, C>, key: &K) -> C::Summary
         requires { IsTrue (is_pinned kv.now self.old.base) }
         ensures value { result ≡ C.summary_of (map_seen K.cmp C.outcome kv.now self.old key.now) }
@@ -229,6 +245,10 @@ fn find_moved<'a, K: StoreKey, C: Cell>(
     ensures first { option_copied result ≡ first_moved K.cmp base keys.now kv.now }
     ensures moved { IfSome result (λ key. base < version_of K.cmp kv.now number key.now) }
 {
+    // No version lies above the number.
+    if number <= base {
+        return None;
+    }
     let mut last = None;
     for key in keys {
         if is_again(last, key) {

@@ -4,7 +4,7 @@
 ghost use Rattle.std.specs.Prelude.{◌≡◌, ◌++◌, ◌∷◌, [], List, IfOk, OnOk, IsTrue};
 ghost use Rattle.std.specs.Option.{option_copied};
 ghost use Rattle.wtf_kv.specs.Edits.{after_change};
-ghost use Rattle.wtf_occ.specs.Known.{AreMade, AreSummed, Forgets};
+ghost use Rattle.wtf_occ.specs.Known.{AreMade, AreSummed, IsPlaced, Forgets};
 
 use crate::values::{change_value, changed_summary};
 use std::alloc::Global;
@@ -29,8 +29,8 @@ pub(crate) struct Summed<S> {
     pub(crate) after: S,
 }
 
-/// The summaries that are known, by key.
-pub(crate) type KnownSummaries<K, S> = BTreeMap<K, Summed<S>>;
+/// Places for summaries, by key, and in them those that are known.
+pub(crate) type KnownSummaries<K, S> = BTreeMap<K, Option<Summed<S>>>;
 
 impl<C: Cell> Known<C> {
     /// Makes a further change of the value. Want of memory may leave any value.
@@ -85,10 +85,25 @@ pub(crate) fn follow_summary<K: StoreKey, C: Summarized>(
         known.clear();
         return;
     };
-    let Some(summed) = known.get_mut(key) else {
+    let Some(place) = known.get_mut(key) else {
         return;
     };
+    *place = followed::<K, C>(*place, change, key);
+}
+
+/// What becomes of a summary by a further change of its key, where it is known.
+fn followed<K: StoreKey, C: Summarized>(
+    summed: Option<Summed<C::Summary>>,
+    change: &Change<K, C::Delta>,
+    key: &K,
+) -> Option<Summed<C::Summary>>
+    ensures { (cs : List (Change K C.Delta)) →
+        IsPlaced K.cmp C.outcome C.summary_of cs key.now summed →
+        IsPlaced K.cmp C.outcome C.summary_of (cs ++ change.now ∷ []) key.now result }
+{
+    let mut summed = summed?;
     summed.after = changed_summary::<K, C>(change, key, summed.after);
+    Some(summed)
 }
 
 /// Drops what is known of the values that the last change may have made.

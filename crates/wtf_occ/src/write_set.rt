@@ -2,12 +2,12 @@
 //! walks the changes of its key and the cuts by it, and not all changes. Where the key is settled, it walks
 //! none.
 
-ghost use Rattle.std.specs.Prelude.{◌≡◌, Option, ◌-◌, ◌<◌, ◌≤◌, ◌∷◌, [], ◌++◌, IsTrue, IfOk, IfSome, OnErr, OnOk, cond, length, take};
+ghost use Rattle.std.specs.Prelude.{◌≡◌, Option, ◌-◌, ◌<◌, ◌≤◌, ◌∷◌, [], ◌++◌, IsTrue, IfOk, IfSome, IfNone, OnErr, OnOk, false, cond, length, take};
 ghost use Rattle.std.specs.BTreeMap.{is_at};
 ghost use Rattle.std.specs.Option.{option_copied};
 ghost use Rattle.wtf_kv.specs.Edits.{over, after_changes};
 ghost use Rattle.wtf_kv.specs.Stores.{map_at, is_pinned};
-ghost use Rattle.wtf_occ.specs.Positions.{listed_positions, positions_of, front, is_cut, is_delta_of};
+ghost use Rattle.wtf_occ.specs.Positions.{listed_positions, positions_of, front, is_cut, is_delta_of, has_delta};
 
 use crate::known::{
     Known, KnownSummaries, KnownValues, Summed, are_same, copied, follow, follow_summary, unlearn,
@@ -94,6 +94,39 @@ impl<K: StoreKey, C: Summarized> WriteSet<K, C> {
         }
     }
 
+    /// The same without a copy, where it stands somewhere.
+    pub(crate) fn look<'a>(&'a self, kv: &'a Kv<K, C>, base: u64, key: &K) -> Option<Option<&'a C>>
+        requires { IsTrue (is_pinned kv.now base) }
+        ensures value { IfSome result (λ value. option_copied value ≡
+            over K.cmp C.outcome self.now (map_at K.cmp kv.now base) key.now) }
+        ensures none { IfNone result (IsTrue (has_delta K.cmp self.now key.now)) }
+    {
+        let at_base = kv.read_at(base, key);
+        if !self.has_delta(key) {
+            return Some(self.uncut(at_base, key));
+        }
+        let known = self.known_from(at_base, key)?;
+        Some(known.after.as_ref())
+    }
+
+    /// Whether one of the changes is a delta of this key.
+    fn has_delta(&self, key: &K) -> bool
+        ensures { result ≡ has_delta K.cmp self.now key.now }
+    {
+        !positions_in(&self.positions, key).is_empty()
+    }
+
+    /// What the changes make of a value of a key of which none is a delta: nothing where a cut covers it.
+    fn uncut<'a>(&self, at_base: Option<&'a C>, key: &K) -> Option<&'a C>
+        requires { has_delta K.cmp self.now key.now ≡ false }
+        ensures { option_copied result ≡
+            after_changes K.cmp C.outcome self.now key.now (option_copied at_base.entry) }
+    {
+        let changes = self.changes.as_slice();
+        let from = past_cuts(changes, self.cuts.as_slice(), key);
+        if from == 0 { at_base } else { None }
+    }
+
     /// What is known of a key, where that is sure to start from this value.
     fn known_from(&self, at_base: Option<&C>, key: &K) -> Option<&Known<C>>
         ensures { IfSome result (λ known. known.now.after ≡
@@ -126,7 +159,7 @@ impl<K: StoreKey, C: Summarized> WriteSet<K, C> {
         requires { IsTrue (is_pinned kv.now base) }
         ensures { self.new ≡ self.old }
     {
-        if positions_in(&self.positions, key).is_empty() || self.known.contains_key(key) {
+        if !self.has_delta(key) || self.known.contains_key(key) {
             return Ok(());
         }
         let at_base = kv.read_at(base, key);
@@ -152,7 +185,7 @@ impl<K: StoreKey, C: Summarized> WriteSet<K, C> {
         }
     }
 
-    /// The same, which is known then, where deltas are of this key and there is memory for it.
+    /// The same, which is known then, where there is a place for it.
     pub(crate) fn settled_summary(&mut self, kv: &Kv<K, C>, base: u64, key: &K) -> C::Summary
         requires { IsTrue (is_pinned kv.now base) }
         ensures value { result ≡ C.summary_of
@@ -174,22 +207,33 @@ impl<K: StoreKey, C: Summarized> WriteSet<K, C> {
             after ≡ C.summary_of (after_changes K.cmp C.outcome self.now key.now now)) }
     {
         match self.summaries.get(key) {
-            Some(summed) if C::same_summary(summed.before, before) => Some(summed.after),
+            Some(Some(summed)) if C::same_summary(summed.before, before) => Some(summed.after),
             _ => None,
         }
     }
 
-    /// Makes a summary known, where deltas are of this key and there is memory for it.
+    /// Makes a summary known, where there is a place for it.
     fn keep_summary(&mut self, key: &K, before: C::Summary, after: C::Summary)
         requires { (now : Option C) → before ≡ C.summary_of now →
             after ≡ C.summary_of (after_changes K.cmp C.outcome self.old key.now now) }
         ensures { self.new ≡ self.old }
     {
-        if positions_in(&self.positions, key).is_empty() {
-            return;
+        if let Some(place) = self.summaries.get_mut(key) {
+            *place = Some(Summed { before, after });
         }
-        if let Ok(own) = key.copy(self.alloc) {
-            let _ = self.summaries.insert(own, Summed { before, after });
+    }
+
+    /// Makes a place for the summary of a key of which one of the changes is a delta.
+    fn make_place(&mut self, key: &K) -> Result<(), OutOfMemory>
+        ensures { self.new ≡ self.old }
+    {
+        if !self.has_delta(key) || self.summaries.contains_key(key) {
+            return Ok(());
+        }
+        let own = key.copy(self.alloc)?;
+        match self.summaries.insert(own, None) {
+            Ok(_) => Ok(()),
+            Err(_) => Err(OutOfMemory),
         }
     }
 
@@ -205,8 +249,18 @@ impl<K: StoreKey, C: Summarized> WriteSet<K, C> {
         summary_after::<K, C>(changes, positions, from, key, start)
     }
 
-    /// Adds a change of a key's value. Want of memory leaves the list as it was.
+    /// Adds a change of a key's value. Want of memory leaves the list as it was. A key that is changed
+    /// once more may be changed often: then a place is made for its summary.
     pub(crate) fn delta(&mut self, key: K, d: C::Delta) -> Result<(), OutOfMemory>
+        ensures ok { OnOk result (self.new ≡ self.old ++ Change.Delta key d ∷ []) }
+        ensures err { OnErr result (self.new ≡ self.old) }
+    {
+        self.make_place(&key)?;
+        self.push_delta(key, d)
+    }
+
+    /// Adds a change of a key's value, with its position. Want of memory leaves the list as it was.
+    fn push_delta(&mut self, key: K, d: C::Delta) -> Result<(), OutOfMemory>
         ensures ok { OnOk result (self.new ≡ self.old ++ Change.Delta key d ∷ []) }
         ensures err { OnErr result (self.new ≡ self.old) }
     {

@@ -1,7 +1,7 @@
 use Rattle.std.proofs.Common.{sym, ap, ◌∙◌, ◌≡◌, ◌<◌, ◌-◌, ◌∷◌, ◌++◌, [], take, length, get_or, subst}
 use Rattle.wtf_occ.specs.Positions.{listed_positions}
-use Rattle.wtf_occ.specs.Known.{AreMade, AreSummed, IsMade, IsSummed}
-use Rattle.wtf_occ.proofs.Knowing.{AreKnown-back, made_stays, summed_stays}
+use Rattle.wtf_occ.specs.Known.{AreMade, AreSummed, IsMade, IsPlaced}
+use Rattle.wtf_occ.proofs.Knowing.{AreKnown-back, made_stays, placed_stays}
 use Rattle.wtf_occ.proofs.Noted.{index_dropped, ends_with}
 use Rattle.wtf_occ.proofs.write_set.WriteSet.drop_last.Goals as goal
 
@@ -24,6 +24,7 @@ invariant_of-self g c =
           c.forget.ensures.cuts,
       AreKnown-back order (IsMade order outcome) (made_stays order outcome) g.met.K.StoreKey.exact c.shorten.new.self inside.known.entries c.unlearn.new.known.entries change c.unlearn.ensures
           (subst (λ l. AreMade order outcome l inside.known.entries) ends c.self.invariant.1),
-      AreKnown-back order (IsSummed order outcome summary) (summed_stays order outcome summary) g.met.K.StoreKey.exact c.shorten.new.self inside.summaries.entries c.unlearn-2.new.known.entries change c.unlearn-2.ensures
+      AreKnown-back order (IsPlaced order outcome summary) (placed_stays order outcome summary) g.met.K.StoreKey.exact c.shorten.new.self
+          inside.summaries.entries c.unlearn-2.new.known.entries change c.unlearn-2.ensures
           (subst (λ l. AreSummed order outcome summary l inside.summaries.entries) ends c.self.invariant.2),
     )

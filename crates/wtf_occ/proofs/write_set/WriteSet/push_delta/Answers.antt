@@ -4,7 +4,7 @@ use Rattle.wtf_kv.specs.declared.changes.Change.TheVariants.{Delta}
 use Rattle.wtf_occ.specs.Known.{AreMade, AreSummed}
 use Rattle.wtf_occ.specs.Positions.{listed_positions, positions_of, is_delta_of}
 use Rattle.wtf_occ.proofs.Noted.{index_pushed, last_is}
-use Rattle.wtf_occ.proofs.write_set.WriteSet.delta.Goals as goal
+use Rattle.wtf_occ.proofs.write_set.WriteSet.push_delta.Goals as goal
 
 pub invariant_of-self-2 : goal.invariant_of-self-2
 invariant_of-self-2 g c =
