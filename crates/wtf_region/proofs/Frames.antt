@@ -1,6 +1,6 @@
 -- What later states of the stores leave of slices, of what these decode to, and of the lists that are remembered.
-use Rattle.std.proofs.Common.{◌≡◌, ℕ, zero, suc, ◌+◌, ◌<◌, ◌≤◌, ◌&&◌, Bool, true, false, cond, nat_eq, nat_le, nat_lt, List, [], ◌∷◌, length, Option, refl, sym}
-use Rattle.std.proofs.Common.{ap, ◌∙◌, subst, arith, inl, inr}
+use Rattle.std.proofs.Common.{◌≡◌, ℕ, ◌+◌, ◌<◌, ◌≤◌, ◌&&◌, Bool, true, false, cond, nat_eq, nat_le, nat_lt, List, [], ◌∷◌, length, refl, sym}
+use Rattle.std.proofs.Common.{ap, ◌∙◌, subst, inl, inr}
 use Rattle.std.specs.Prelude.{not}
 use Rattle.std.specs.List.{All, list_all}
 use Rattle.std.proofs.lemmas.Bool.{and_parts, and_from, cases_eq, cases_lt, eq-eqb, ne_eqb, le-leb, lt-ltb}
@@ -16,11 +16,11 @@ use Rattle.wtf_overlay.specs.Origin.{Place}
 use Rattle.wtf_overlay.specs.Meaning.{meaning, tell_the_same}
 use Rattle.wtf_overlay.specs.declared.part.Entry.{Entry}
 use Rattle.wtf_overlay.specs.declared.part.Part.TheVariants.{Held}
-use Rattle.wtf_replica.specs.Bytes.{byte_at, IsPlaceInside}
-use Rattle.wtf_replica.proofs.Bytes.{byte_at-same}
-use Rattle.wtf_meta.specs.Lists.{ListFact, TellLists}
-use Rattle.wtf_meta.specs.Bytes.{EntryBytes, SliceBytes, ListSlices, any_slice}
-use Rattle.wtf_meta.specs.Contents.{Told, SliceTells, collect, decode_told, lists_in}
+use Rattle.wtf_replica.specs.Bytes.{byte_at, shown_byte, IsPlaceInside}
+use Rattle.wtf_replica.proofs.Bytes.{byte_at-kept, shown_byte-told, shown_byte-same}
+use Rattle.wtf_meta.specs.Bytes.{EntryBytes, SliceBytes}
+use Rattle.wtf_meta.specs.Contents.{Told, SliceTells}
+use Rattle.wtf_meta.proofs.Telling.{TellsOn}
 use Rattle.wtf_meta.proofs.Weaker.{part_stays, entries_stay}
 use Rattle.wtf_region.specs.Apart.{lies_in, lies_apart, are_apart, with_ranges}
 use Rattle.wtf_region.specs.Cached.{Remembered, CacheInside, CacheTrue}
@@ -93,10 +93,6 @@ none_apart (q ∷ qs) = and_from (lies_apart [] q) (are_apart [] qs) refl (none_
 pub apart_none : (s : Slice) → SliceBytes (are_apart []) s
 apart_none s = λ i below. none_apart (places_of s i)
 
-pub facts_apart_none : (fs : List ListFact) → ListSlices (are_apart []) any_slice fs
-facts_apart_none [] = tt
-facts_apart_none (f ∷ fs) = ((apart_none f.slice, refl), facts_apart_none fs)
-
 -- bytes mean the same where each place tells the same
 all_same : (f g : Place → Bool) (qs : List Place) → All (λ q. g q ≡ f q) qs → list_all g qs ≡ list_all f qs
 all_same f g [] h = refl
@@ -112,40 +108,28 @@ meaning_same told now (q ∷ qs) h =
     (All-tail (λ q. now q ≡ told q) q qs h)) in
     rw (rest, first) refl
 
-collect_same : (f g : ℕ → Option ℕ) (n : ℕ) → ((i : ℕ) → i < n → g i ≡ f i) → collect g n ≡ collect f n
-collect_same f g zero h = refl
-collect_same f g (suc n) h = rw (h 0 (omega arith), collect_same (λ i. f (suc i)) (λ i. g (suc i)) n (λ i below. h (suc i) (omega (arith, below)))) refl
+-- what was told is told still while nothing is punched
+pub tells_on : {S : Type 0} {kind : StoreKind S} → KindLaws kind → {old new : List S} → EachFollows kind old new [] → TellsOn (byte_at kind old) (byte_at kind new)
+tells_on laws each p byte told = byte_at-kept laws each p byte tt told
+
+-- and what is told is what a read gives
+pub shows_told : {S : Type 0} {kind : StoreKind S} → KindLaws kind → (shelf : List S) → TellsOn (byte_at kind shelf) (shown_byte kind shelf)
+shows_told laws shelf p byte told = shown_byte-told laws shelf p byte told
 
 module _ {S : Type 0} {kind : StoreKind S} (laws : KindLaws kind) {old new : List S} {punched : List (ℕ × Range)} (follows : EachFollows kind old new punched)
     (settings : Settings) (enough : settings.servers ≤ length old) where
-  -- each byte of a slice that lies inside the stores and was not punched means what it meant
-  means_same : (s : Slice) → SliceBytes (is_inside kind old settings) s → SliceBytes (are_apart punched) s → (i : ℕ) → i < len_of s
-      → meaning (byte_at kind new) (places_of s i) ≡ meaning (byte_at kind old) (places_of s i)
-  means_same s inside apart i below = meaning_same (byte_at kind old) (byte_at kind new) (places_of s i)
-      (All-both (IsPlaceInside kind old) (λ (q : Place). Outside q.file q.at (on_server q.server punched)) (λ q. byte_at kind new q ≡ byte_at kind old q)
-      (λ q within out. byte_at-same laws follows q out within) (places_of s i)
+  -- each byte of a slice that lies inside the stores and was not punched is read as it was
+  shown_same : (s : Slice) → SliceBytes (is_inside kind old settings) s → SliceBytes (are_apart punched) s → (i : ℕ) → i < len_of s
+      → meaning (shown_byte kind new) (places_of s i) ≡ meaning (shown_byte kind old) (places_of s i)
+  shown_same s inside apart i below = meaning_same (shown_byte kind old) (shown_byte kind new) (places_of s i)
+      (All-both (IsPlaceInside kind old) (λ (q : Place). Outside q.file q.at (on_server q.server punched)) (λ q. shown_byte kind new q ≡ shown_byte kind old q)
+      (λ q within out. shown_byte-same laws follows q out within) (places_of s i)
       (places_from kind old settings (places_of s i) enough (inside i below)) (all_outside punched (places_of s i) (apart i below)))
 
-  pub SliceTells-back : (s : Slice) (bytes : List ℕ) → SliceBytes (is_inside kind old settings) s → SliceBytes (are_apart punched) s
-      → SliceTells (byte_at kind new) s bytes → SliceTells (byte_at kind old) s bytes
-  SliceTells-back s bytes inside apart h = record { len = h.len; tells = λ i below. sym (means_same s inside apart i below) ∙ h.tells i below }
-
-  pub SliceTells-on : (s : Slice) (bytes : List ℕ) → SliceBytes (is_inside kind old settings) s → SliceBytes (are_apart punched) s
-      → SliceTells (byte_at kind old) s bytes → SliceTells (byte_at kind new) s bytes
-  SliceTells-on s bytes inside apart h = record { len = h.len; tells = λ i below. means_same s inside apart i below ∙ h.tells i below }
-
-  -- and the slice decodes to what it decoded to
-  pub lists_stay : (b : ℕ) (s : Slice) → SliceBytes (is_inside kind old settings) s → SliceBytes (are_apart punched) s
-      → lists_in b (byte_at kind new) s ≡ lists_in b (byte_at kind old) s
-  lists_stay b s inside apart =
-      ap (decode_told b) (collect_same (λ i. meaning (byte_at kind old) (places_of s i)) (λ i. meaning (byte_at kind new) (places_of s i)) (len_of s)
-      (means_same s inside apart))
-
-  -- so that facts on lists hold still
-  pub TellLists-on : (b : ℕ) (fs : List ListFact) → ListSlices (is_inside kind old settings) any_slice fs → ListSlices (are_apart punched) any_slice fs
-      → TellLists (lists_in b (byte_at kind old)) fs → TellLists (lists_in b (byte_at kind new)) fs
-  TellLists-on b [] inside apart tell = tt
-  TellLists-on b (f ∷ fs) inside apart tell = (lists_stay b f.slice inside.0.0 apart.0.0 ∙ tell.0, TellLists-on b fs inside.1 apart.1 tell.1)
+  -- so what a read of it gives now, one gave
+  pub SliceShows-back : (s : Slice) (bytes : List ℕ) → SliceBytes (is_inside kind old settings) s → SliceBytes (are_apart punched) s
+      → SliceTells (shown_byte kind new) s bytes → SliceTells (shown_byte kind old) s bytes
+  SliceShows-back s bytes inside apart h = record { len = h.len; tells = λ i below. sym (shown_same s inside apart i below) ∙ h.tells i below }
 
   -- what lies inside the stores does so still
   pub slice_stays : (s : Slice) → SliceBytes (is_inside kind old settings) s → SliceBytes (is_inside kind new settings) s
@@ -159,8 +143,8 @@ module _ {S : Type 0} {kind : StoreKind S} (laws : KindLaws kind) {old new : Lis
 
   -- a cache that was true is true, whatever was appended, and what was punched counts from now on
   pub CacheTrue-on : (b : ℕ) (before : List (ℕ × Range)) (es : Remembered) → CacheInside (is_inside kind old settings) es
-      → CacheTrue (byte_at kind old) b before es
-      → CacheTrue (byte_at kind new) b (with_ranges before punched) es
+      → CacheTrue (shown_byte kind old) b before es
+      → CacheTrue (shown_byte kind new) b (with_ranges before punched) es
   CacheTrue-on b before es inside was x there apart bytes tells =
       let parts = apart_parts before punched x.0 apart in
-      was x there parts.0 bytes (SliceTells-back x.0 bytes (inside x there).0 parts.1 tells)
+      was x there parts.0 bytes (SliceShows-back x.0 bytes (inside x there).0 parts.1 tells)

@@ -16,16 +16,17 @@ use Rattle.wtf_base.specs.Places.{places_of}
 use Rattle.wtf_dev.specs.Store.{StoreKind, KindLaws}
 use Rattle.wtf_overlay.specs.Origin.{Place, Plans, origin}
 use Rattle.wtf_overlay.specs.Meaning.{meaning}
+use Rattle.wtf_overlay.proofs.Meanings.{All-meaning}
 use Rattle.wtf_overlay.specs.Clips.{clip_list}
 use Rattle.wtf_overlay.specs.Spilled.{decoded}
 use Rattle.wtf_overlay.specs.declared.part.Entry.{Entry}
 use Rattle.wtf_overlay.specs.declared.part.Piece.{Piece}
 use Rattle.wtf_values.specs.declared.region.RegionValue.{RegionValue}
 use Rattle.wtf_values.specs.declared.region.Spill.{Spill}
-use Rattle.wtf_replica.specs.Bytes.{byte_at}
+use Rattle.wtf_replica.specs.Bytes.{shown_byte, ShowsSlice}
 use Rattle.wtf_replica.specs.Copies.{IsFetched, IsReadable}
 use Rattle.wtf_replica.specs.Downs.{is_down}
-use Rattle.wtf_replica.proofs.Bytes.{inside_places}
+use Rattle.wtf_replica.proofs.Bytes.{inside_places, fetched_shown, shows_up-shows}
 use Rattle.wtf_replica.proofs.Spans.{each_kept, all_out_since}
 use Rattle.wtf_replica.specs.Faults.{AreAllOut, IsReadFault}
 use Rattle.wtf_replica.specs.Inside.{size_in}
@@ -36,30 +37,32 @@ use Rattle.wtf_meta.specs.Contents.{SliceTells, is_told, lists_in}
 use Rattle.wtf_meta.specs.Bytes.{EntryBytes, SliceBytes, FileBytes, PiecesBytes, ListSlices, any_slice}
 use Rattle.wtf_meta.proofs.ListFacts.{TellLists-append, ListSlices-parts, ListsBytes-all}
 use Rattle.wtf_meta.proofs.ReadLaws.{ReadsRegion-none, ReadsRegion-list, ReadsFile-none, ReadsFile-part}
-use Rattle.wtf_meta.proofs.Telling.{tell_all, told_byte, told_from, lists_in-is}
+use Rattle.wtf_meta.proofs.Telling.{tell_all, told_byte, told_from, lists_in-is, lists_in-later, TellLists-later, TellBytes-later}
 use Rattle.wtf_meta.proofs.Weaker.{slices_stay, file_bytes_stay}
 use Rattle.wtf_region.specs.declared.dev.Dev.{Dev}
 use Rattle.wtf_region.specs.Apart.{are_apart}
 use Rattle.wtf_region.specs.Cached.{cached}
 use Rattle.wtf_region.specs.Inside.{is_inside, list_lies_inside}
-use Rattle.wtf_region.specs.Devs.{IsSoundDev, GoesOn, stores, remembered, told_in, inside_of, between}
+use Rattle.wtf_region.specs.Devs.{IsSoundDev, GoesOn, stores, remembered, told_in, shown_in, inside_of, between}
 use Rattle.wtf_region.specs.Reads.{IsTrueList, IsSliceRead, IsListRead, IsPartRead, IsFileRead, TellsFacts, AreInsideLists, IsSliceFault, IsDamaged}
-use Rattle.wtf_region.proofs.Frames.{apart_none, facts_apart_none, SliceTells-back, SliceTells-on, lists_stay, TellLists-on, slice_stays, entries_inside}
+use Rattle.wtf_region.proofs.Frames.{apart_none, tells_on, shows_told, SliceShows-back, slice_stays, entries_inside}
 use Rattle.wtf_region.specs.Showing.{OnlyRead}
 use Rattle.wtf_region.proofs.InsideLaws.{inside_stays, places_from, slice_readable, list_inside-from}
-use Rattle.wtf_region.proofs.ShowLaws.{copy_shows, told_stays, reads_nothing, reads_over}
+use Rattle.wtf_region.proofs.ShowLaws.{told_stays, reads_nothing, reads_over}
 use Rattle.wtf_region.proofs.SliceKeys.{cached_entry}
 
--- all bytes of a slice that were read are those that its places tell
+-- all bytes of a slice that were read are those that a read of its places gives
 pub fetched_is : {S : Type 0} (kind : StoreKind S) (t : Span S) (s : Slice) (out : List ℕ) (k : ℕ) → IsFetched kind t s 0 out k → length out ≡ len_of s
-    → (bytes : List ℕ) → SliceTells (byte_at kind t.before) s bytes → out ≡ bytes
+    → (bytes : List ℕ) → SliceTells (shown_byte kind t.before) s bytes → out ≡ bytes
 fetched_is kind t s out k f whole bytes h =
-    let shows = copy_shows f (len_of s) whole in
+    let shows : ShowsSlice (shown_byte kind t.before) s 0 out = shows_up-shows t.down (shown_byte kind t.before) s 0 out (fetched_shown f) in
     same_number_lists out bytes (whole ∙ h.len)
     (λ i below.
     let here : i < len_of s = omega (arith, below, whole) in
     let same : 0 + i ≡ i = omega arith in
-    shows.shows i (get_or bytes i 0) here (ap (λ j. meaning (byte_at kind t.before) (places_of s j)) same ∙ h.tells i here))
+    let gives : meaning (shown_byte kind t.before) (places_of s (0 + i)) ≡ Some (get_or bytes i 0) =
+    ap (λ j. meaning (shown_byte kind t.before) (places_of s j)) same ∙ h.tells i here in
+    shows i (get_or bytes i 0) below (All-meaning (shown_byte kind t.before) (places_of s (0 + i)) (get_or bytes i 0) gives))
 
 some_extents : (n : ℕ) (e : Extents) → IsSound n e → 0 < n
 some_extents n (One a) h = h.0
@@ -124,18 +127,22 @@ module _ {S : Type 0} {kind : StoreKind S} (laws : KindLaws kind) where
       let was = told_byte (told_in kind old) qs h in
       told_from (told_in kind new) qs was.0 (told_stays laws g.each qs was.0 was.1)
 
-  list_later : {old new : Dev S} → IsSoundDev kind old → GoesOn kind old new [] → (s : Slice) (es : List Entry) → SliceBytes (inside_of kind old) s
+  list_later : {old new : Dev S} → GoesOn kind old new [] → (s : Slice) (es : List Entry)
       → lists_in old.settings.region (told_in kind old) s ≡ Some es → lists_in new.settings.region (told_in kind new) s ≡ Some es
-  list_later {old = old} {new = new} sound g s es inside is =
+  list_later {old = old} {new = new} g s es is =
       ap (λ (st : Settings). lists_in st.region (told_in kind new) s) g.settings
-      ∙ lists_stay laws g.each old.settings sound.shelf old.settings.region s inside (apart_none s) ∙ is
+      ∙ lists_in-later (told_in kind old) (told_in kind new) old.settings.region s es (tells_on laws g.each) is
 
   -- facts that were told still are
-  pub facts_later : {old new : Dev S} → IsSoundDev kind old → GoesOn kind old new [] → (fs : List ListFact) → ListSlices (inside_of kind old) any_slice fs
+  pub facts_later : {old new : Dev S} → GoesOn kind old new [] → (fs : List ListFact)
       → TellLists (lists_in old.settings.region (told_in kind old)) fs → TellLists (lists_in new.settings.region (told_in kind new)) fs
-  facts_later {old = old} {new = new} sound g fs inside tell =
+  facts_later {old = old} {new = new} g fs tell =
       subst (λ (st : Settings). TellLists (lists_in st.region (told_in kind new)) fs) (sym g.settings)
-      (TellLists-on laws g.each old.settings sound.shelf old.settings.region fs inside (facts_apart_none fs) tell)
+      (TellLists-later (told_in kind old) (told_in kind new) old.settings.region fs (tells_on laws g.each) tell)
+
+  -- a slice that is told is read so
+  slice_shown : (dev : Dev S) (s : Slice) (bytes : List ℕ) → SliceTells (told_in kind dev) s bytes → SliceTells (shown_in kind dev) s bytes
+  slice_shown dev s bytes h = TellBytes-later (told_in kind dev) (shown_in kind dev) (len_of s) (places_of s) bytes (shows_told laws (stores dev)) h
 
   -- a list that was read from the stores may be remembered
   pub read_true : {old new : Dev S} → IsSoundDev kind old → GoesOn kind old new [] → (s : Slice) → SliceBytes (inside_of kind old) s → (bytes : List ℕ) (k : ℕ)
@@ -145,7 +152,7 @@ module _ {S : Type 0} {kind : StoreKind S} (laws : KindLaws kind) where
     lies = slice_later sound g s inside;
     inside = list_inside-from kind (stores new) new.settings g.sound.shelf es lies;
     decodes = λ other tells. subst (λ (bs : List ℕ). decoded new.settings.region bs ≡ Some es)
-        (fetched_is kind (between old new) s bytes k f whole other (SliceTells-back laws g.each old.settings sound.shelf s other inside (apart_none s) tells))
+        (fetched_is kind (between old new) s bytes k f whole other (SliceShows-back laws g.each old.settings sound.shelf s other inside (apart_none s) tells))
         is;
   }
 
@@ -189,7 +196,8 @@ module _ {S : Type 0} {kind : StoreKind S} (laws : KindLaws kind) where
         inside = entries_later sound g es lies.1;
         told = λ ranges h told apart.
             let tells = tell_all (told_in kind old) (len_of s) (places_of s) told in
-            list_later sound g s es lies.0 (lists_in-is old.settings.region (told_in kind old) s tells.0 tells.1 ∙ h (s, es) there apart tells.0 tells.1);
+            list_later g s es (lists_in-is old.settings.region (told_in kind old) s tells.0 tells.1
+            ∙ h (s, es) there apart tells.0 (slice_shown old s tells.0 tells.1));
       }
 
   -- one that was read, and is remembered now
@@ -201,8 +209,8 @@ module _ {S : Type 0} {kind : StoreKind S} (laws : KindLaws kind) where
     inside = entries_later g.sound h es is.inside;
     told = λ ranges was told apart.
         let tells = tell_all (told_in kind old) (len_of s) (places_of s) told in
-        let now = SliceTells-on laws g.each old.settings sound.shelf s tells.0 inside (apart_none s) tells.1 in
-        list_later g.sound h s es is.lies (lists_in-is mid.settings.region (told_in kind mid) s tells.0 now ∙ is.decodes tells.0 now);
+        let now = TellBytes-later (told_in kind old) (told_in kind mid) (len_of s) (places_of s) tells.0 (tells_on laws g.each) tells.1 in
+        list_later h s es (lists_in-is mid.settings.region (told_in kind mid) s tells.0 now ∙ is.decodes tells.0 (slice_shown mid s tells.0 now));
   }
 
   -- the list of a region without a base
@@ -273,22 +281,19 @@ module _ {S : Type 0} {kind : StoreKind S} (laws : KindLaws kind) where
   }
 
   -- facts that were told, and then others
-  pub facts_on : {old mid new : Dev S} → IsSoundDev kind old → GoesOn kind old mid [] → GoesOn kind mid new [] → (fs gs : List ListFact)
-      → ListSlices (inside_of kind mid) any_slice fs
+  pub facts_on : {old mid new : Dev S} → GoesOn kind old mid [] → GoesOn kind mid new [] → (fs gs : List ListFact)
       → TellsFacts kind old mid fs → TellsFacts kind mid new gs → TellsFacts kind old new (fs ++ gs)
-  facts_on {old = old} {mid = mid} {new = new} sound g h fs gs inside first next = λ ranges was told apart.
+  facts_on {old = old} {mid = mid} {new = new} g h fs gs first next = λ ranges was told apart.
       let tells = ListSlices-parts (is_told (told_in kind old)) any_slice fs gs told in
       let away = ListSlices-parts (are_apart ranges) any_slice fs gs apart in
-      TellLists-append (lists_in new.settings.region (told_in kind new)) fs gs (facts_later g.sound h fs inside (first ranges was tells.0 away.0))
+      TellLists-append (lists_in new.settings.region (told_in kind new)) fs gs (facts_later h fs (first ranges was tells.0 away.0))
       (next ranges (g.lists ranges was)
       (slices_stay (is_told (told_in kind old)) (is_told (told_in kind mid)) (still_told g) any_slice any_slice (λ s is. is) gs tells.1) away.1)
 
   -- one part more of a file
-  pub file_on : {old mid new : Dev S} → IsSoundDev kind old → GoesOn kind old mid [] → GoesOn kind mid new [] → (file : FileView)
-      → FileBytes (inside_of kind old) any_slice file
-      → (off done n r y : ℕ) (ps qs : List Piece) → r * old.settings.region + y ≡ off + done → y + n ≤ old.settings.region
+  pub file_on : {old mid new : Dev S} → GoesOn kind old mid [] → GoesOn kind mid new [] → (file : FileView) → (off done n r y : ℕ) (ps qs : List Piece) → r * old.settings.region + y ≡ off + done → y + n ≤ old.settings.region
       → IsFileRead kind old mid file off done ps → IsPartRead kind mid new (file.region r) y n qs → IsFileRead kind old new file off (done + n) (ps ++ qs)
-  file_on {old = old} {mid = mid} {new = new} sound g h file inside off done n r y ps qs at within first next =
+  file_on {old = old} {mid = mid} {new = new} g h file off done n r y ps qs at within first next =
       let Names : ListFact → Type 0 = λ f. All (EntryBytes (inside_of kind new)) f.list in
       record {
         facts = first.facts ++ next.facts;
@@ -296,8 +301,7 @@ module _ {S : Type 0} {kind : StoreKind S} (laws : KindLaws kind) where
         inside = All-append Names first.facts next.facts
             (All-weaker (λ (f : ListFact). All (EntryBytes (inside_of kind mid)) f.list) Names (λ f names. entries_later g.sound h f.list names)
             first.facts first.inside) next.inside;
-        told = facts_on sound g h first.facts next.facts (first.reads.slices (inside_of kind mid) any_slice (file_later sound g file inside))
-            first.told next.told;
+        told = facts_on g h first.facts next.facts first.told next.told;
       }
 
   -- the pieces that were read name only bytes inside the stores
@@ -309,16 +313,13 @@ module _ {S : Type 0} {kind : StoreKind S} (laws : KindLaws kind) where
       (ListsBytes-all (inside_of kind mid) any_slice read.facts read.inside)
 
   -- what was read of a file stays so while other bytes are read
-  pub file_read_later : {old mid new : Dev S} → IsSoundDev kind old → GoesOn kind old mid [] → GoesOn kind mid new [] → (file : FileView)
-      → FileBytes (inside_of kind old) any_slice file
-      → (off n : ℕ) (ps : List Piece) → IsFileRead kind old mid file off n ps → IsFileRead kind old new file off n ps
-  file_read_later {old = old} {mid = mid} {new = new} sound g h file inside off n ps read = record {
+  pub file_read_later : {old mid new : Dev S} → GoesOn kind old mid [] → GoesOn kind mid new [] → (file : FileView) → (off n : ℕ) (ps : List Piece) → IsFileRead kind old mid file off n ps → IsFileRead kind old new file off n ps
+  file_read_later {old = old} {mid = mid} {new = new} g h file off n ps read = record {
     facts = read.facts;
     reads = read.reads;
     inside = All-weaker (λ (f : ListFact). All (EntryBytes (inside_of kind mid)) f.list) (λ (f : ListFact). All (EntryBytes (inside_of kind new)) f.list)
         (λ f names. entries_later g.sound h f.list names) read.facts read.inside;
-    told = λ ranges was told apart.
-        facts_later g.sound h read.facts (read.reads.slices (inside_of kind mid) any_slice (file_later sound g file inside)) (read.told ranges was told apart);
+    told = λ ranges was told apart. facts_later h read.facts (read.told ranges was told apart);
   }
 
   -- the fault of a slice after a look at what is remembered

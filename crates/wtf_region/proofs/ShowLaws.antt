@@ -53,11 +53,11 @@ ShowsBytes-tell told n f bytes tells h = record { len = sym h.len; tells = λ i 
     here i below (Some b) is some = is ∙ ap Some (sym (h.shows i b below is))
 
 -- what was read from a copy is what the slice's places tell
-pub copy_shows : {S : Type 0} {kind : StoreKind S} {t : Span S} {s : Slice} {off : ℕ} {out : List ℕ} {k : ℕ}
+pub copy_shows : {S : Type 0} {kind : StoreKind S} → KindLaws kind → {t : Span S} {s : Slice} {off : ℕ} {out : List ℕ} {k : ℕ}
     → IsFetched kind t s off out k → (n : ℕ) → length out ≡ n → ShowsBytes (byte_at kind t.before) n (λ i. part_origin (Held s) (off + i)) out
-copy_shows {kind = kind} {t = t} {s = s} {off = off} f n len = record {
+copy_shows {kind = kind} laws {t = t} {s = s} {off = off} f n len = record {
   len = len;
-  shows = λ i b below told. fetched_bytes f i b (omega (arith, below, len)) (All-meaning (byte_at kind t.before) (places_of s (off + i)) b told);
+  shows = λ i b below told. fetched_bytes laws f i b (omega (arith, below, len)) (All-meaning (byte_at kind t.before) (places_of s (off + i)) b told);
 }
 
 -- and it was read from a server that is up

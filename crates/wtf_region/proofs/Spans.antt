@@ -13,7 +13,7 @@ use Rattle.wtf_region.specs.declared.dev.Dev.{Dev}
 use Rattle.wtf_region.specs.Apart.{with_ranges}
 use Rattle.wtf_region.specs.Cached.{CacheView, AreFrom, CacheInside, CacheTrue}
 use Rattle.wtf_region.specs.Inside.{is_inside}
-use Rattle.wtf_region.specs.Devs.{GoesOn, IsSoundDev, remembered, told_in}
+use Rattle.wtf_region.specs.Devs.{GoesOn, IsSoundDev, RemembersTrue, remembered, shown_in}
 use Rattle.wtf_region.specs.Reads.{IsTrueList}
 use Rattle.wtf_region.proofs.Frames.{CacheInside-on, CacheTrue-on}
 
@@ -45,7 +45,7 @@ goes_on {kind = kind} laws {new = new} {p = p} {q = q} f g = record {
   settings = g.settings ∙ f.settings;
   each = each_on laws f.each g.each;
   sound = g.sound;
-  lists = λ ranges h. subst (λ l. CacheTrue (told_in kind new) new.settings.region l (remembered new)) (with_ranges-append ranges p q)
+  lists = λ ranges h. subst (RemembersTrue kind new) (with_ranges-append ranges p q)
       (g.lists (with_ranges ranges p) (f.lists ranges h));
 }
 
@@ -70,8 +70,8 @@ goes_by {kind = kind} laws old new p sound shelf cache same from replicas ring s
         (subst (CacheInside (is_inside kind new.shelf.now old.settings)) (sym same)
         (CacheInside-on laws each old.settings sound.shelf (remembered old) sound.lists));
   };
-  lists = λ ranges h. subst (λ (s : Settings). CacheTrue (told_in kind new) s.region (with_ranges ranges p) (remembered new)) (sym settings)
-      (subst (CacheTrue (told_in kind new) old.settings.region (with_ranges ranges p)) (sym same)
+  lists = λ ranges h. subst (λ (s : Settings). CacheTrue (shown_in kind new) s.region (with_ranges ranges p) (remembered new)) (sym settings)
+      (subst (CacheTrue (shown_in kind new) old.settings.region (with_ranges ranges p)) (sym same)
       (CacheTrue-on laws each old.settings sound.shelf old.settings.region ranges (remembered old) sound.lists h));
 }
 

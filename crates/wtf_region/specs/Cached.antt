@@ -49,8 +49,12 @@ RemembersOnly P old new = (e : Slice × List Entry) → Contains new e → Conta
 abbrev pub CacheInside : (List Place → Bool) → Remembered → Type 0
 CacheInside P es = (e : Slice × List Entry) → Contains es e → SliceBytes P e.0 × All (EntryBytes P) e.1
 
--- each list that is remembered of a slice no byte of which lies in these ranges is, where the slice's bytes are told, what
--- they decode to for a region of b bytes
+-- each list that is remembered of a slice no byte of which lies in these ranges is, where it is known what a read of the slice gives, what that
+-- decodes to for a region of b bytes
 abbrev pub CacheTrue : Told → ℕ → List (ℕ × Range) → Remembered → Type 0
-CacheTrue told b ranges es =
-    (e : Slice × List Entry) → Contains es e → SliceBytes (are_apart ranges) e.0 → (bytes : List ℕ) → SliceTells told e.0 bytes → decoded b bytes ≡ Some e.1
+CacheTrue shown b ranges es =
+    (e : Slice × List Entry) → Contains es e → SliceBytes (are_apart ranges) e.0 → (bytes : List ℕ) → SliceTells shown e.0 bytes → decoded b bytes ≡ Some e.1
+
+-- what is known of lists that are remembered: whether they are true but those of slices of which a byte lies in these ranges
+abbrev pub TrueBut : Type 1
+TrueBut = List (ℕ × Range) → Type 0

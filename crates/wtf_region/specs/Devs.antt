@@ -2,7 +2,7 @@
 use Rattle.std.specs.Prelude.{◌≡◌, ℕ, ◌≤◌, ◌/◌, Bool, List, length}
 use Rattle.wtf_base.specs.declared.ids.InodeId.{InodeId}
 use Rattle.wtf_ring.specs.Points.{PlaceView, place_of}
-use Rattle.wtf_replica.specs.Bytes.{byte_at}
+use Rattle.wtf_replica.specs.Bytes.{byte_at, shown_byte}
 use Rattle.wtf_replica.specs.Downs.{settings_of, is_down, during}
 use Rattle.wtf_replica.specs.Spans.{Span}
 use Rattle.wtf_dev.specs.Store.{Range, StoreKind}
@@ -10,7 +10,7 @@ use Rattle.wtf_dev.specs.Each.{EachFollows}
 use Rattle.wtf_overlay.specs.Origin.{Place}
 use Rattle.wtf_meta.specs.Contents.{Told}
 use Rattle.wtf_region.specs.Apart.{with_ranges}
-use Rattle.wtf_region.specs.Cached.{Remembered, AreFrom, CacheInside, CacheTrue}
+use Rattle.wtf_region.specs.Cached.{Remembered, TrueBut, AreFrom, CacheInside, CacheTrue}
 use Rattle.wtf_region.specs.Inside.{is_inside}
 use Rattle.wtf_region.specs.declared.dev.Dev.{Dev}
 
@@ -29,6 +29,14 @@ remembered dev = dev.cache.now.lists
 -- what the stores tell
 abbrev pub told_in : {S : Type 0} → StoreKind S → Dev S → Told
 told_in kind dev = byte_at kind (stores dev)
+
+-- what a read of the stores gives
+abbrev pub shown_in : {S : Type 0} → StoreKind S → Dev S → Told
+shown_in kind dev = shown_byte kind (stores dev)
+
+-- each list that is remembered is true, but those of slices of which a byte lies in these ranges
+abbrev pub RemembersTrue : {S : Type 0} → StoreKind S → Dev S → TrueBut
+RemembersTrue kind dev ranges = CacheTrue (shown_in kind dev) dev.settings.region ranges (remembered dev)
 
 -- the places of a byte all lie inside the stores, on servers of the settings
 abbrev pub inside_of : {S : Type 0} → StoreKind S → Dev S → List Place → Bool
@@ -61,5 +69,4 @@ pub record GoesOn {S : Type 0} (kind : StoreKind S) (old new : Dev S) (punched :
   pub settings : new.settings ≡ old.settings
   pub each : EachFollows kind old.shelf.now new.shelf.now punched
   pub sound : IsSoundDev kind new
-  pub lists : (ranges : List (ℕ × Range)) → CacheTrue (told_in kind old) old.settings.region ranges (remembered old)
-      → CacheTrue (told_in kind new) new.settings.region (with_ranges ranges punched) (remembered new)
+  pub lists : (ranges : List (ℕ × Range)) → RemembersTrue kind old ranges → RemembersTrue kind new (with_ranges ranges punched)

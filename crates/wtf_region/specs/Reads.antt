@@ -21,22 +21,22 @@ use Rattle.wtf_meta.specs.Bytes.{EntryBytes, SliceBytes, ListSlices, any_slice}
 use Rattle.wtf_meta.specs.Reads.{ReadsRegion, ReadsFile}
 use Rattle.wtf_region.specs.declared.dev.Dev.{Dev}
 use Rattle.wtf_region.specs.Apart.{are_apart}
-use Rattle.wtf_region.specs.Cached.{CacheTrue, cached}
+use Rattle.wtf_region.specs.Cached.{cached}
 use Rattle.wtf_region.specs.Inside.{list_lies_inside}
-use Rattle.wtf_region.specs.Devs.{GoesOn, stores, remembered, told_in, inside_of, between}
+use Rattle.wtf_region.specs.Devs.{GoesOn, RemembersTrue, stores, remembered, told_in, shown_in, inside_of, between}
 
--- the list may be remembered of the slice: both name only bytes inside the stores, and where the slice's bytes are told they
--- decode to it
+-- the list may be remembered of the slice: both name only bytes inside the stores, and where it is known what a read of the slice gives, that
+-- decodes to it
 pub record IsTrueList {S : Type 0} (kind : StoreKind S) (dev : Dev S) (s : Slice) (es : List Entry) : Type 0 where
   pub lies : SliceBytes (inside_of kind dev) s
   pub inside : All (EntryBytes (inside_of kind dev)) es
-  pub decodes : (bytes : List ℕ) → SliceTells (told_in kind dev) s bytes → decoded dev.settings.region bytes ≡ Some es
+  pub decodes : (bytes : List ℕ) → SliceTells (shown_in kind dev) s bytes → decoded dev.settings.region bytes ≡ Some es
 
 -- over a cache that was true, the present stores tell the facts, if the bytes of their slices were told and lie apart from what
 -- was punched
 abbrev pub TellsFacts : {S : Type 0} → StoreKind S → (old new : Dev S) → List ListFact → Type 0
 TellsFacts kind old new facts =
-    (ranges : List (ℕ × Range)) → CacheTrue (told_in kind old) old.settings.region ranges (remembered old)
+    (ranges : List (ℕ × Range)) → RemembersTrue kind old ranges
     → ListSlices (is_told (told_in kind old)) any_slice facts → ListSlices (are_apart ranges) any_slice facts
     → TellLists (lists_in new.settings.region (told_in kind new)) facts
 
@@ -53,7 +53,7 @@ IsOfBase (Some base) s = s ≡ base.slice
 pub record IsSliceRead {S : Type 0} (kind : StoreKind S) (old new : Dev S) (s : Slice) (es : List Entry) : Type 0 where
   pub stands : cached (remembered new) s ≡ Some es
   pub inside : All (EntryBytes (inside_of kind new)) es
-  pub told : (ranges : List (ℕ × Range)) → CacheTrue (told_in kind old) old.settings.region ranges (remembered old) → SliceBytes (is_told (told_in kind old)) s
+  pub told : (ranges : List (ℕ × Range)) → RemembersTrue kind old ranges → SliceBytes (is_told (told_in kind old)) s
       → SliceBytes (are_apart ranges) s → lists_in new.settings.region (told_in kind new) s ≡ Some es
 
 -- the list of a region was read: over all lists that agree with what was read of its base it is the region's

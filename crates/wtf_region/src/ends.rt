@@ -85,7 +85,11 @@ pub(crate) fn record_last(at: &mut Attempt<Key, Value>, inode: InodeId) -> Resul
 }
 
 /// Records a region of a file.
-fn record_region(at: &mut Attempt<Key, Value>, inode: InodeId, r: u16) -> Result<(), OutOfMemory>
+pub(crate) fn record_region(
+    at: &mut Attempt<Key, Value>,
+    inode: InodeId,
+    r: u16,
+) -> Result<(), OutOfMemory>
     ensures recorded { OnOk result (Recorded inode (OfRegion r ∷ []) at.old at.new) }
     ensures grows { Grows at.old at.new }
 {

@@ -16,7 +16,7 @@ ghost use Rattle.wtf_region.specs.Reads.{IsPartRead, IsFileRead, IsRegionFault, 
 ghost use Rattle.wtf_region.specs.Showing.{OnlyRead};
 ghost use Rattle.wtf_region.specs.Edited.{Recorded};
 
-use crate::ends::{file_end, record_length};
+use crate::ends::{file_end, record_length, record_region};
 use crate::part::{RegionPart, part_at};
 use crate::{Dev, region_list};
 use std::alloc::Global;
@@ -49,8 +49,8 @@ pub fn file_len(
 }
 
 /// The region that a value is, if it is one.
-fn region_in(value: &Option<Value>) -> Option<&RegionValue>
-    ensures { option_copied result ≡ region_of value.now }
+fn region_in(value: Option<&Value>) -> Option<&RegionValue>
+    ensures { option_copied result ≡ region_of (option_copied value.entry) }
 {
     let Some(Value::Region(v)) = value else {
         return None;
@@ -79,6 +79,9 @@ fn value_pieces<S: SliceStore>(
         Some(v) => v,
         None => return hole(alloc, len),
     };
+    if v.base.is_none() {
+        return plan_of(&v.list, off, len);
+    }
     let list = match region_list(alloc, dev, v) {
         Ok(list) => list,
         Err(why) => return Err(why),
@@ -110,6 +113,53 @@ fn hole(alloc: Global, len: u32) -> Result<Vec<Piece>, Fault>
     }
 }
 
+/// A part of the region that an attempt sees at a key as pieces; a hole where it is missing. Nothing is
+/// recorded. The value is copied only where it stands nowhere.
+fn seen_pieces<S: SliceStore>(
+    alloc: Global,
+    dev: &mut Dev<'_, S>,
+    kv: &Kv<Key, Value>,
+    at: &Attempt<Key, Value>,
+    key: &Key,
+    part: RegionPart,
+) -> Result<Vec<Piece>, Fault>
+    requires sound { IsSoundDev S.kind dev.old }
+    requires pinned { IsTrue (is_pinned kv.now at.now.base) }
+    requires inside { MaybeBytes (inside_of S.kind dev.old) any_slice
+        (region_of (seen kv.now at.now key.now)) }
+    requires some { 0 < part.len }
+    ensures read { IfOk result (λ v. IsPartRead S.kind dev.old dev.new
+        (region_of (seen kv.now at.now key.now)) part.off part.len v.items) }
+    ensures fault { IfErr result (IsRegionFault S.kind dev.old dev.new
+        (region_of (seen kv.now at.now key.now))) }
+    ensures reads { OnlyRead S.kind (between dev.old dev.new) }
+    ensures dev { GoesOn S.kind dev.old dev.new [] }
+{
+    if let Some(value) = at.look(kv, key) {
+        return value_pieces(alloc, dev, region_in(value), part.off, part.len);
+    }
+    let value = match at.peek(kv, key) {
+        Ok(value) => value,
+        Err(_) => return Err(Fault::Memory),
+    };
+    value_pieces(alloc, dev, region_in(value.as_ref()), part.off, part.len)
+}
+
+/// Records a region of a file. Later looks at it walk no changes of it then.
+fn record_settled(
+    kv: &Kv<Key, Value>,
+    at: &mut Attempt<Key, Value>,
+    inode: InodeId,
+    r: u16,
+) -> Result<(), OutOfMemory>
+    requires { IsTrue (is_pinned kv.now at.old.base) }
+    ensures recorded { OnOk result (Recorded inode (OfRegion r ∷ []) at.old at.new) }
+    ensures grows { Grows at.old at.new }
+{
+    at.settle(kv, &Key::Region(inode, r))?;
+    record_region(at, inode, r)
+}
+
 /// A part of a region of a file as pieces; a hole where it is missing. The region is recorded.
 fn region_pieces<S: SliceStore>(
     alloc: Global,
@@ -132,12 +182,11 @@ fn region_pieces<S: SliceStore>(
     ensures reads { OnlyRead S.kind (between dev.old dev.new) }
     ensures dev { GoesOn S.kind dev.old dev.new [] }
 {
-    let value = match at.read(kv, &Key::Region(inode, part.region)) {
-        Ok(value) => value,
+    match record_settled(kv, at, inode, part.region) {
+        Ok(()) => {}
         Err(_) => return Err(Fault::Memory),
-    };
-    let region = region_in(&value);
-    value_pieces(alloc, dev, region, part.off, part.len)
+    }
+    seen_pieces(alloc, dev, kv, at, &Key::Region(inode, part.region), part)
 }
 
 /// The `len` bytes of a file from offset `off` on as consecutive pieces, each of one slice or of

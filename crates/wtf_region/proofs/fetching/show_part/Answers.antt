@@ -42,7 +42,7 @@ returns-clause-shown g c =
       bytes = c.fetch.new.out;
       more = end_written old xs c.resize.new.self.items c.fetch.new.out zeros _ _ a n c.resize.new.self.len end from c.deref_mut.ensures.value upto items read len;
       are = subst (λ (x : Part). ShowsBytes (byte_at g.S.SliceStore.kind (stores c.args.dev.now)) n (λ i. part_origin x (c.args.off + i)) c.fetch.new.out) (sym c.in-Held.is)
-          (copy_shows c.in_default-fetch.ensures.fetched n read);
+          (copy_shows g.met.S.SliceStore.laws c.in_default-fetch.ensures.fetched n read);
     }
 
 pub returns-in-Err-clause-dev : goal.returns-in-Err-clause-dev

@@ -93,7 +93,7 @@ loop-done-preserved g c =
     record {
       upto = omega (arith, e.inside);
       read = rw (c.in-Ok-append.ensures.ok, c.as_slice.ensures.value)
-          (file_on g.met.S.SliceStore.laws c.requires.sound inv.each c.region_pieces.ensures.dev v c.requires.inside off done p.len p.region p.off
+          (file_on g.met.S.SliceStore.laws inv.each c.region_pieces.ensures.dev v off done p.len p.region p.off
           c.loop-done.out.items c.in-Ok.more.items e.place e.within inv.read more);
       recorded = recorded_region i (touched b off done) (touched b off (done + p.len)) p.region c.args.at.now c.loop-done.at c.region_pieces.new.at
           (touched-more b off done p.region p.off p.len (omega (arith, c.args.dev.now.settings.limits)) e.place e.within e.some start)

@@ -1,5 +1,7 @@
-use Rattle.std.proofs.lemmas.Result.{IfOk-weaker}
-use Rattle.wtf_region.proofs.ListReads.{part_read, part_hole}
+use Rattle.std.proofs.Common.{rules, ◌≡◌, None, subst, sym}
+use Rattle.std.proofs.lemmas.Result.{IfOk-weaker, IfErr-weaker}
+use Rattle.wtf_region.specs.Reads.{IsBaseFault}
+use Rattle.wtf_region.proofs.ListReads.{list_alone, part_read, part_hole}
 use Rattle.wtf_region.proofs.Spans.{goes_nowhere}
 use Rattle.wtf_region.proofs.reading.value_pieces.Goals as goal
 
@@ -11,11 +13,32 @@ returns-in-None-clause-read g c = rw c.in-None.is
 pub returns-in-None-clause-dev : goal.returns-in-None-clause-dev
 returns-in-None-clause-dev g c = goes_nowhere g.met.S.SliceStore.laws c.args.dev.now c.requires.sound
 
+pub returns-then-is_none-clause-read : goal.returns-then-is_none-clause-read
+returns-then-is_none-clause-read g c =
+    let dev = c.args.dev.now in
+    let region = c.in-Some.v.now in
+    let none : region.base ≡ None = search rules in
+    rw c.in-Some.is
+    (IfOk-weaker c.plan_of.result _ _
+    (λ v p. part_read g.met.S.SliceStore.laws dev dev region region.list c.args.off c.args.len v.items
+    (list_alone g.met.S.SliceStore.laws dev dev region none) p)
+    c.plan_of.ensures.plans)
+
+pub returns-then-is_none-clause-fault : goal.returns-then-is_none-clause-fault
+returns-then-is_none-clause-fault g c =
+    let dev = c.args.dev.now in
+    let none : c.in-Some.v.now.base ≡ None = search rules in
+    rw c.in-Some.is
+    (IfErr-weaker c.plan_of.result _ _ (λ why is. subst (λ b. IsBaseFault g.S.SliceStore.kind dev dev b why) (sym none) is) c.plan_of.ensures.fault)
+
+pub returns-then-is_none-clause-dev : goal.returns-then-is_none-clause-dev
+returns-then-is_none-clause-dev g c = goes_nowhere g.met.S.SliceStore.laws c.args.dev.now c.requires.sound
+
 pub region_list-requires-clause-inside : goal.region_list-requires-clause-inside
 region_list-requires-clause-inside g c = (rw c.in-Some.is at c.requires.inside).base
 
 pub returns-clause-read : goal.returns-clause-read
 returns-clause-read g c = rw c.in-Some.is
-    (IfOk-weaker c.plan_of.result _ _
+    (IfOk-weaker c.plan_of-2.result _ _
     (λ v p. part_read g.met.S.SliceStore.laws c.args.dev.now c.region_list.new.dev c.in-Some.v.now c.in-Ok.list c.args.off c.args.len v.items
-    c.in-Ok.ensures.read p) c.plan_of.ensures.plans)
+    c.in-Ok.ensures.read p) c.plan_of-2.ensures.plans)
