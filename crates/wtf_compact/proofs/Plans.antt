@@ -25,7 +25,6 @@ use Rattle.wtf_meta.specs.Lists.{ListFact, base_facts, or_none, seen_list}
 use Rattle.wtf_meta.specs.Contents.{lists_in}
 use Rattle.wtf_meta.specs.Bytes.{EntryBytes, BaseBytes, RegionBytes, any_slice}
 use Rattle.wtf_meta.proofs.ListFacts.{TellLists-parts, ListsBytes-all}
-use Rattle.wtf_meta.proofs.Named.{region_slices}
 use Rattle.wtf_meta.proofs.Weaker.{maybe_stays}
 use Rattle.wtf_region.specs.declared.dev.Dev.{Dev}
 use Rattle.wtf_region.specs.Devs.{IsSoundDev, GoesOn, stores, told_in, inside_of, between, place_in}
@@ -154,8 +153,7 @@ module _ {S : Type 0} {kind : StoreKind S} (laws : KindLaws kind) {old mid new :
           compact = h.compact;
           within = subst (λ n. Within n es) (sym end) h.within;
         };
-        told = λ ranges cache slices away. facts_later laws goes.sound next facts (region_slices (inside_of kind mid) any_slice (Some v) h.under inside)
-            (h.told ranges cache slices away);
+        told = λ ranges cache slices away. facts_later laws next facts (h.told ranges cache slices away);
         told_own = λ all. (tells (tells_all-kept laws goes.each all), tt);
         inside = All-append F facts (own ∷ [])
             (All-weaker (λ (f : ListFact). All (EntryBytes (inside_of kind mid)) f.list) F (λ f. entries_later laws goes.sound next f.list) facts h.inside)

@@ -22,8 +22,8 @@ use Rattle.wtf_meta.specs.Contents.{Told, SamePlaces, SameRegion, is_told, is_li
 use Rattle.wtf_meta.specs.Bytes.{EntryBytes, ListSlices, ListsBytes, MaybeBytes, RegionBytes, any_slice}
 use Rattle.wtf_region.specs.declared.dev.Dev.{Dev}
 use Rattle.wtf_region.specs.Apart.{are_apart}
-use Rattle.wtf_region.specs.Cached.{CacheTrue, RemembersOnly}
-use Rattle.wtf_region.specs.Devs.{GoesOn, stores, remembered, told_in, between, place_in}
+use Rattle.wtf_region.specs.Cached.{RemembersOnly}
+use Rattle.wtf_region.specs.Devs.{GoesOn, stores, remembered, told_in, between, place_in, RemembersTrue}
 use Rattle.wtf_region.specs.Reads.{IsOfBase, TellsFacts, AreInsideLists, IsRegionFault}
 use Rattle.wtf_region.specs.Showing.{OnlyRead}
 use Rattle.wtf_compact.specs.declared.target.Target.{Target}
@@ -136,5 +136,5 @@ KeepsRegion b told now value = ⊥
 pub record TellsRegion {S : Type 0} (kind : StoreKind S) (dev : Dev S) (ranges : List (ℕ × Range)) (now : Option RegionValue) : Type 0 where
   pub all : TellsAll kind (stores dev)
   pub region : MaybeBytes (is_told (told_in kind dev)) (is_listed dev.settings.region (told_in kind dev)) now
-  pub cache : CacheTrue (told_in kind dev) dev.settings.region ranges (remembered dev)
+  pub cache : RemembersTrue kind dev ranges
   pub away : MaybeBytes (are_apart ranges) any_slice now

@@ -77,10 +77,10 @@ module _ {S : Type 0} {kind : StoreKind S} (laws : KindLaws kind) where
   }
 
   -- one after others
-  pub read_on : {old mid new : Dev S} → IsSoundDev kind old → GoesOn kind old mid [] → GoesOn kind mid new []
+  pub read_on : {old mid new : Dev S} → GoesOn kind old mid [] → GoesOn kind mid new []
       → (slices more : List Slice) (before between after : List Extent)
       → ListsRead kind old mid slices before between → ListsRead kind mid new more between after → ListsRead kind old new (slices ++ more) before after
-  read_on {old = old} {mid = mid} {new = new} sound g h slices more before between after first next = record {
+  read_on {old = old} {mid = mid} {new = new} g h slices more before between after first next = record {
     facts = first.facts ++ next.facts;
     each = map-append (λ (f : ListFact). f.slice) first.facts next.facts ∙ ap (λ l. l ++ map (λ (f : ListFact). f.slice) next.facts) first.each
         ∙ ap (λ l. slices ++ l) next.each;
@@ -93,7 +93,7 @@ module _ {S : Type 0} {kind : StoreKind S} (laws : KindLaws kind) where
         (All-weaker (λ (f : ListFact). All (EntryBytes (inside_of kind mid)) f.list) (λ (f : ListFact). All (EntryBytes (inside_of kind new)) f.list)
         (λ f is. entries_later laws g.sound h f.list is) first.facts first.inside)
         next.inside;
-    told = facts_on laws sound g h first.facts next.facts first.lie first.told next.told;
+    told = facts_on laws g h first.facts next.facts first.told next.told;
   }
 
 -- one that was read already

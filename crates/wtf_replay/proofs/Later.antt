@@ -7,7 +7,6 @@ use Rattle.wtf_dev.specs.Each.{EachFollows}
 use Rattle.wtf_dev.specs.Sums.{TellsAll}
 use Rattle.wtf_overlay.specs.Origin.{Place}
 use Rattle.wtf_replica.specs.Bytes.{byte_at}
-use Rattle.wtf_replica.proofs.Bytes.{byte_at-kept}
 use Rattle.wtf_model.specs.declared.answer.Answer.{Answer}
 use Rattle.wtf_model.specs.declared.op.Op.{Op}
 use Rattle.wtf_model.specs.Tree.{Tree, TreeNode, Dir, File}
@@ -31,10 +30,7 @@ use Rattle.wtf_replay.specs.Insides.{IsKnown, lists_have}
 use Rattle.wtf_replay.specs.Views.{TxnView}
 use Rattle.wtf_replay.specs.Sounds.{TellsMap}
 use Rattle.wtf_replay.specs.Replays.{DeviatesOn}
-
--- stores that go on tell what they told
-pub tells_on : {S : Type 0} {kind : StoreKind S} → KindLaws kind → {old new : List S} → EachFollows kind old new [] → TellsOn (byte_at kind old) (byte_at kind new)
-tells_on laws each p byte told = byte_at-kept laws each p byte tt told
+pub use Rattle.wtf_region.proofs.Frames.{tells_on}
 
 node_later : (b : ℕ) (told later : Told) (w : Map) (v : Option Value) (o : Option TreeNode) → TellsOn told later → MapBytes (is_told told) (is_listed b told) w
     → NodeAt b told w v o → NodeAt b later w v o

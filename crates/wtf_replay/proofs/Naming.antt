@@ -29,8 +29,7 @@ use Rattle.wtf_meta.proofs.Telling.{TellsOn, TellLists-later, told_lists}
 use Rattle.wtf_meta.proofs.Weaker.{entries_stay, map_stays, session_stays}
 use Rattle.wtf_region.specs.declared.dev.Dev.{Dev}
 use Rattle.wtf_region.specs.Apart.{are_apart}
-use Rattle.wtf_region.specs.Cached.{CacheTrue}
-use Rattle.wtf_region.specs.Devs.{GoesOn, stores, remembered, told_in, inside_of}
+use Rattle.wtf_region.specs.Devs.{GoesOn, stores, remembered, told_in, inside_of, RemembersTrue}
 use Rattle.wtf_region.specs.Inside.{is_inside}
 use Rattle.wtf_region.specs.Reads.{AreInsideLists}
 use Rattle.wtf_region.proofs.InsideLaws.{inside_stays}
@@ -99,7 +98,7 @@ named_by kind old new Was Is More Less was is h =
 module _ {S : Type 0} {kind : StoreKind S} (laws : KindLaws kind) {old mid : Dev S} (goes : GoesOn kind old mid []) where
   -- what is known of what was named is known of what is named now
   pub known_on : (Was Is : Of) → IsWeaker Was → HaveNamed kind old mid Was Is → (ranges : List (ℕ × Range))
-      → CacheTrue (told_in kind old) old.settings.region ranges (remembered old) → IsKnown kind old ranges Was
+      → RemembersTrue kind old ranges → IsKnown kind old ranges Was
       → IsKnown kind mid ranges Is
   known_on Was Is weaker h ranges cache known =
       let now : Told = told_in kind mid in

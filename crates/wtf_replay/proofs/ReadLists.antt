@@ -13,8 +13,7 @@ use Rattle.wtf_meta.specs.Sessions.{SessionView}
 use Rattle.wtf_meta.specs.Calls.{Did}
 use Rattle.wtf_meta.proofs.Weaker.{map_stays}
 use Rattle.wtf_region.specs.Apart.{are_apart}
-use Rattle.wtf_region.specs.Cached.{CacheTrue}
-use Rattle.wtf_region.specs.Devs.{remembered, told_in, inside_of}
+use Rattle.wtf_region.specs.Devs.{remembered, told_in, inside_of, RemembersTrue}
 use Rattle.wtf_region.specs.Reads.{TellsFacts, AreInsideLists}
 use Rattle.wtf_steps.specs.Scenes.{Scene}
 use Rattle.wtf_rw.specs.declared.op.Given.TheVariants.{Fresh}
@@ -31,7 +30,7 @@ use Rattle.wtf_replay.specs.Sounds.{TellsMap}
 -- the map that the call saw
 pub record ReadBy {S : Type 0} (sc : Scene S) (lists : List ListFact) : Type 0 where
   pub inside : AreInsideLists sc.kind sc.after lists
-  pub told : (ranges : List (ℕ × Range)) → CacheTrue (told_in sc.kind sc.before) sc.before.settings.region ranges (remembered sc.before)
+  pub told : (ranges : List (ℕ × Range)) → RemembersTrue sc.kind sc.before ranges
       → IsKnown sc.kind sc.before ranges (λ P Q. MapBytes P Q sc.map) → TellLists (lists_in sc.after.settings.region (told_in sc.kind sc.after)) lists
 
 read_none : {S : Type 0} (sc : Scene S) (lists : List ListFact) → lists ≡ [] → ReadBy sc lists

@@ -18,8 +18,7 @@ use Rattle.wtf_meta.specs.Sessions.{SessionBytes}
 use Rattle.wtf_meta.specs.Calls.{InHand}
 use Rattle.wtf_region.specs.declared.dev.Dev.{Dev}
 use Rattle.wtf_region.specs.Apart.{are_apart}
-use Rattle.wtf_region.specs.Cached.{CacheTrue}
-use Rattle.wtf_region.specs.Devs.{remembered, told_in}
+use Rattle.wtf_region.specs.Devs.{remembered, told_in, RemembersTrue}
 use Rattle.wtf_region.specs.Inside.{is_inside}
 use Rattle.wtf_region.specs.Reads.{AreInsideLists}
 use Rattle.wtf_rw.specs.Stored.{SliceBytes}
@@ -67,7 +66,7 @@ IsKnown kind dev ranges Of =
 pub record HaveNamed {S : Type 0} (kind : StoreKind S) (old new : Dev S) (Was Is : (List Place → Bool) → (Slice → Bool) → Type 0) : Type 0 where
   pub lists : List ListFact
   pub inside : AreInsideLists kind new lists
-  pub told : (ranges : List (ℕ × Range)) → CacheTrue (told_in kind old) old.settings.region ranges (remembered old) → IsKnown kind old ranges Was
+  pub told : (ranges : List (ℕ × Range)) → RemembersTrue kind old ranges → IsKnown kind old ranges Was
       → TellLists (lists_in new.settings.region (told_in kind new)) lists
   pub names : (P : List Place → Bool) (Q : Slice → Bool) → P [] ≡ true → Was P Q → ListsBytes P Q lists → Is P Q
 

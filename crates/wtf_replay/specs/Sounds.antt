@@ -27,8 +27,7 @@ use Rattle.wtf_meta.specs.Sessions.{SessionView, SessionBytes, Holds}
 use Rattle.wtf_meta.specs.Calls.{Caller, Fact, Did, InHand, TellFacts, IsStep, IsRun, cap_for}
 use Rattle.wtf_region.specs.declared.dev.Dev.{Dev}
 use Rattle.wtf_region.specs.Apart.{are_apart}
-use Rattle.wtf_region.specs.Cached.{CacheTrue}
-use Rattle.wtf_region.specs.Devs.{stores, remembered, told_in}
+use Rattle.wtf_region.specs.Devs.{stores, remembered, told_in, RemembersTrue}
 use Rattle.wtf_rw.specs.Stored.{SliceBytes}
 use Rattle.wtf_replay.specs.Views.{TxnView}
 use Rattle.wtf_replay.specs.Insides.{LogBytes, TxnBytes, lists_have}
@@ -68,7 +67,7 @@ pub record IsSound (size : ℕ) (kv : Store Key Value) (told : Told) (x : TxnVie
 pub record TellsMap {S : Type 0} (kind : StoreKind S) (dev : Dev S) (ranges : List (ℕ × Range)) (w : Map) : Type 0 where
   pub all : TellsAll kind (stores dev)
   pub map : MapBytes (is_told (told_in kind dev)) (is_listed dev.settings.region (told_in kind dev)) w
-  pub cache : CacheTrue (told_in kind dev) dev.settings.region ranges (remembered dev)
+  pub cache : RemembersTrue kind dev ranges
   pub away : MapBytes (are_apart ranges) (lists_have dev.settings.region (told_in kind dev) (are_apart ranges)) w
 
 -- each byte of the slices in hand is told too

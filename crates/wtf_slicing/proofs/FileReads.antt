@@ -36,11 +36,10 @@ module _ {S : Type 0} {kind : StoreKind S} (laws : KindLaws kind) where
   }
 
   -- one more
-  pub files_on : {old mid new : Dev S} → IsSoundDev kind old → GoesOn kind old mid [] → GoesOn kind mid new [] → (w : Map)
-      → MapBytes (inside_of kind old) any_slice w → (is : List InodeId) (i : InodeId) (ps qs : List Piece)
+  pub files_on : {old mid new : Dev S} → GoesOn kind old mid [] → GoesOn kind mid new [] → (w : Map) → (is : List InodeId) (i : InodeId) (ps qs : List Piece)
       → AreFilesRead kind old mid w is ps → IsFileRead kind mid new (file_of i w) 0 (file_len old.settings.region (file_of i w)) qs
       → AreFilesRead kind old new w (is ++ i ∷ []) (ps ++ qs)
-  files_on {old = old} {mid = mid} {new = new} sound g h w inside is i ps qs first next =
+  files_on {old = old} {mid = mid} {new = new} g h w is i ps qs first next =
       let Lies : ListFact → Type 0 = λ f. All (EntryBytes (inside_of kind new)) f.list in
       let one : ReadsFile old.settings.region (file_of i w) 0 (file_len old.settings.region (file_of i w)) next.facts qs =
       subst (λ (st : Settings). ReadsFile st.region (file_of i w) 0 (file_len old.settings.region (file_of i w)) next.facts qs) g.settings next.reads in
@@ -50,6 +49,5 @@ module _ {S : Type 0} {kind : StoreKind S} (laws : KindLaws kind) where
         inside = All-append Lies first.facts next.facts
             (All-weaker (λ (f : ListFact). All (EntryBytes (inside_of kind mid)) f.list) Lies
             (λ f names. entries_later laws g.sound h f.list names) first.facts first.inside) next.inside;
-        told = facts_on laws sound g h first.facts next.facts
-            (first.reads.slices (inside_of kind mid) any_slice (map_later sound g w inside)) first.told next.told;
+        told = facts_on laws g h first.facts next.facts first.told next.told;
       }

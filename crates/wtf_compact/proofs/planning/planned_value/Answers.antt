@@ -1,9 +1,11 @@
-use Rattle.std.proofs.Common.{Some, sym, ◌∙◌}
+use Rattle.std.proofs.Common.{Some, sym, subst, ◌∙◌}
 use Rattle.wtf_meta.specs.Bytes.{any_slice}
 use Rattle.wtf_meta.proofs.Weaker.{maybe_stays}
-use Rattle.wtf_region.specs.Devs.{inside_of}
+use Rattle.wtf_region.specs.Cached.{RemembersOnly}
+use Rattle.wtf_region.specs.Devs.{remembered, inside_of}
 use Rattle.wtf_region.proofs.ListReads.{places_later}
 use Rattle.wtf_region.proofs.Spans.{goes_on}
+use Rattle.wtf_compact.specs.Planned.{IsOfRegion}
 use Rattle.wtf_compact.proofs.Plans.{planned_short, short_inside, planned_spilled, fault_spilled, only_spills}
 use Rattle.wtf_compact.proofs.planning.planned_value.Goals as goal
 
@@ -51,3 +53,7 @@ returns-in-Ok-of_slice-clause-reads g c = λ is. only_spills c.args.target.kind 
 
 pub returns-clause-reads : goal.returns-clause-reads
 returns-clause-reads g c = λ is. only_spills c.args.target.kind c.args.value.now.end is (sym c.spills.ensures ∙ c.if-not-spills.false)
+
+pub returns-in-Ok-of_slice-clause-only : goal.returns-in-Ok-of_slice-clause-only
+returns-in-Ok-of_slice-clause-only g c =
+    subst (RemembersOnly (IsOfRegion (Some c.args.value.now)) (remembered c.args.dev.now)) (sym c.store_list.ensures.lists) c.short_list.ensures.only

@@ -67,7 +67,7 @@ loop-base-preserved g c =
     let read : ListsRead g.S.SliceStore.kind c.loop-base.dev next.dev (s ∷ []) c.loop-base.found next.found = search rules in
     record {
       so_far = subst (λ (l : List Slice). ListsRead g.S.SliceStore.kind c.args.dev.now next.dev l c.args.found.now next.found) more
-          (read_on laws c.requires.sound inv.goes_on c.add_base_list.ensures.dev (map slice_in (take i bases)) (s ∷ [])
+          (read_on laws inv.goes_on c.add_base_list.ensures.dev (map slice_in (take i bases)) (s ∷ [])
           c.args.found.now c.loop-base.found next.found inv.so_far read);
       only_read = reads_over g.S.SliceStore.kind c.args.dev.now c.loop-base.dev next.dev inv.goes_on inv.only_read c.add_base_list.ensures.reads;
       goes_on = goes_on laws inv.goes_on c.add_base_list.ensures.dev;

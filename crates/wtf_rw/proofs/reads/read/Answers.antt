@@ -157,7 +157,7 @@ returns-in-Err-show-clause-fault g c =
     let file : FileBytes (inside_of kind dev) any_slice (file_of i u) =
     subst (λ (w : Map). FileBytes (inside_of kind dev) any_slice (file_of i w)) (sym same) (file_bytes (inside_of kind dev) any_slice i b c.requires.inside) in
     let later : IsFileRead kind dev c.show.new.dev (file_of i u) c.range_start-from.result k ps =
-    file_read_later g.met.S.SliceStore.laws c.requires.sound c.in-Ok-pieces.ensures.dev c.in-Err-show.ensures.dev (file_of i u) file
+    file_read_later g.met.S.SliceStore.laws c.in-Ok-pieces.ensures.dev c.in-Err-show.ensures.dev (file_of i u)
     c.range_start-from.result k ps read in
     let due : ReadsFile z (file_of h.inode b) h.off k later.facts ps =
     reads_due z u b h i c.in-Some.spot.off c.range_start-from.result k later.facts ps same inode off c.range_start-from.ensures.some later.reads in
@@ -245,7 +245,7 @@ returns-clause-step g c x size =
     let file : FileBytes (inside_of kind dev) any_slice (file_of i (seen c.args.kv.now read)) =
     subst (λ (w : Map). FileBytes (inside_of kind dev) any_slice (file_of i w)) (sym same) (file_bytes (inside_of kind dev) any_slice i b c.requires.inside) in
     let went : IsFileRead kind dev c.show.new.dev (file_of i (seen c.args.kv.now read)) c.range_start-from.result k ps =
-    file_read_later laws c.requires.sound c.in-Ok-pieces.ensures.dev c.in-Ok-show.ensures.dev (file_of i (seen c.args.kv.now read)) file
+    file_read_later laws c.in-Ok-pieces.ensures.dev c.in-Ok-show.ensures.dev (file_of i (seen c.args.kv.now read))
     c.range_start-from.result k ps c.in-Ok-pieces.ensures.read in
     let lists = went.facts in
     let due : ReadsFile x.size (file_of h.inode b) h.off k lists ps =

@@ -105,7 +105,7 @@ loop-inode-preserved g c =
     subst (λ (st : Settings). IsFileRead kind mid into (file_of i b) 0 (file_len st.region (file_of i b)) more) inv.each.settings
     (subst (λ (m : Map). IsFileRead kind mid into (file_of i m) 0 (file_len mid.settings.region (file_of i m)) more) inv.same c.in-Ok.ensures.read) in
     let all : AreFilesRead kind c.args.dev.now into b (take n is ++ i ∷ []) (c.loop-inode.out.items ++ more) =
-    files_on g.met.S.SliceStore.laws c.requires.sound inv.each c.in-Ok.ensures.dev b c.requires.inside (take n is) i c.loop-inode.out.items more
+    files_on g.met.S.SliceStore.laws inv.each c.in-Ok.ensures.dev b (take n is) i c.loop-inode.out.items more
     inv.read here in
     let whole : c.append.new.out.items ≡ c.loop-inode.out.items ++ more =
     subst (λ (l : List Piece). c.append.new.out.items ≡ c.loop-inode.out.items ++ l) c.as_slice.ensures.value c.in-Ok-append.ensures.ok in
