@@ -35,7 +35,7 @@ use Rattle.wtf_meta.specs.Trees.{NodeAt, IsBody, Stands}
 use Rattle.wtf_meta.proofs.Named.{file_bytes}
 use Rattle.wtf_index.specs.Checks.{stands_at}
 use Rattle.wtf_region.specs.declared.dev.Dev.{Dev}
-use Rattle.wtf_region.specs.Cached.{Remembered}
+use Rattle.wtf_region.specs.Cached.{TrueBut}
 use Rattle.wtf_region.specs.Devs.{IsSoundDev, stores, inside_of, between}
 use Rattle.wtf_region.specs.Reads.{IsFileRead}
 use Rattle.wtf_region.specs.Showing.{Shown}
@@ -137,8 +137,8 @@ file_whole : (bytes : List ℕ) → file_answer bytes ≡ answer_at (Some (File 
 file_whole bytes = short_by (nat_le (length bytes) MAX_DUMPED) bytes
 
 -- lists that are true for the tables are so for the map now
-pub true_now : (tables : TablesView) (size : ℕ) (told : Told) (lists : Remembered) → AreTrue size told lists tables
-    → IsTrueFor size told lists (metadata_now tables.kv)
+pub true_now : (tables : TablesView) (size : ℕ) (told : Told) (lists : TrueBut) → AreTrue size told lists tables
+    → IsTrueFor lists (metadata_now tables.kv)
 true_now tables size told lists kept = (
   kept.ranges,
   kept.cache,
@@ -147,14 +147,14 @@ true_now tables size told lists kept = (
 )
 
 -- so it answers of a path where nothing stands, or a directory, or a file
-pub dumps_none : (z : ℕ) (told : Told) (lists : Remembered) (w : Map) (p : List ℕ) → stands_at w p ≡ None → IsDumped z told lists w p (answer.Refused NoEnt)
+pub dumps_none : (z : ℕ) (told : Told) (lists : TrueBut) (w : Map) (p : List ℕ) → stands_at w p ≡ None → IsDumped z told lists w p (answer.Refused NoEnt)
 dumps_none z told lists w p is cache tx k t st = sym (ap answer_at (none_at z told w (w (Path p)) (get t p) (st.nodes p) is))
 
-pub dumps_folder : (z : ℕ) (told : Told) (lists : Remembered) (w : Map) (p : List ℕ) → stands_at w p ≡ Some Folder → IsDumped z told lists w p
+pub dumps_folder : (z : ℕ) (told : Told) (lists : TrueBut) (w : Map) (p : List ℕ) → stands_at w p ≡ Some Folder → IsDumped z told lists w p
     (answer.Refused IsDir)
 dumps_folder z told lists w p is cache tx k t st = sym (ap answer_at (folder_at z told w (w (Path p)) (get t p) (st.nodes p) is))
 
-pub dumps_file : (z : ℕ) (told : Told) (lists : Remembered) (w : Map) (p : List ℕ) (i : InodeId) (a : Answer) → stands_at w p ≡ Some (FileNode i) →
+pub dumps_file : (z : ℕ) (told : Told) (lists : TrueBut) (w : Map) (p : List ℕ) (i : InodeId) (a : Answer) → stands_at w p ≡ Some (FileNode i) →
     IsShownFile z told lists w i a → IsDumped z told lists w p a
 dumps_file z told lists w p i a is shows cache tx k t st =
     let found = file_at z told w (w (Path p)) (get t p) i (st.nodes p) is in

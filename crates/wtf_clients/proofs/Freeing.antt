@@ -20,7 +20,7 @@ use Rattle.wtf_model.specs.declared.answer.Word.TheVariants.{NoServer, NoScan}
 use Rattle.wtf_region.specs.declared.dev.Dev.{Dev}
 use Rattle.wtf_region.specs.Apart.{lies_in, lies_apart, are_apart, with_ranges}
 use Rattle.wtf_region.specs.Cached.{CacheTrue}
-use Rattle.wtf_region.specs.Devs.{GoesOn, stores, remembered, told_in, is_down_in}
+use Rattle.wtf_region.specs.Devs.{GoesOn, stores, remembered, is_down_in, shown_in}
 use Rattle.wtf_region.proofs.Spans.{goes_on}
 use Rattle.wtf_gc.specs.declared.extent.Extent.{Extent}
 use Rattle.wtf_gc.specs.Extents.{covers}
@@ -87,8 +87,8 @@ pub record Freed {S : Type 0} (kind : StoreKind S) (before after : Dev S) (old n
   pub garbage : (p : Place) → lie_in ranges p ≡ true → is_garbage old.beside.gc p ≡ true
   pub server : (p : Place) → lie_in ranges p ≡ true → p.server < before.settings.servers
   pub follows : EachFollows kind (stores before) (stores after) ranges
-  pub lists : (already : List (ℕ × Range)) → CacheTrue (told_in kind before) before.settings.region already (remembered before)
-      → CacheTrue (told_in kind after) before.settings.region (with_ranges already ranges) (remembered after)
+  pub lists : (already : List (ℕ × Range)) → CacheTrue (shown_in kind before) before.settings.region already (remembered before)
+      → CacheTrue (shown_in kind after) before.settings.region (with_ranges already ranges) (remembered after)
   pub is : new ≡ with_freed old new.beside.gc.freed
   pub only : (p : Place) → covers new.beside.gc.freed p ≡ true → (covers old.beside.gc.freed p || lie_in ranges p) ≡ true
 
@@ -115,7 +115,7 @@ module _ {S : Type 0} {kind : StoreKind S} (laws : KindLaws kind) (before after 
         omega (arith, same, known);
     follows = goes.each;
     lists = λ already h.
-        subst (λ (st : Settings). CacheTrue (told_in kind after) st.region (with_ranges already ranges) (remembered after)) goes.settings
+        subst (λ (st : Settings). CacheTrue (shown_in kind after) st.region (with_ranges already ranges) (remembered after)) goes.settings
         (goes.lists already h);
     is = is;
     only = only;
@@ -145,7 +145,7 @@ module _ {S : Type 0} {kind : StoreKind S} (laws : KindLaws kind) (before after 
     server = λ p here. absurd (true≢false (sym here));
     follows = subst (λ (dev : Dev S). EachFollows kind (stores before) (stores dev) []) (sym stays) (each_same laws (stores before));
     lists = λ already h.
-        subst (λ (dev : Dev S). CacheTrue (told_in kind dev) before.settings.region already (remembered dev)) (sym stays) h;
+        subst (λ (dev : Dev S). CacheTrue (shown_in kind dev) before.settings.region already (remembered dev)) (sym stays) h;
     is = subst (λ (t : TablesView). t ≡ with_freed old t.beside.gc.freed) (sym same) refl;
     only = λ p here. or_left (covers old.beside.gc.freed p) false (ap (λ (t : TablesView). covers t.beside.gc.freed p) (sym same) ∙ here);
   }

@@ -24,8 +24,8 @@ use Rattle.wtf_meta.proofs.Named.{region_of_bytes}
 use Rattle.wtf_meta.proofs.Weaker.{maybe_stays}
 use Rattle.wtf_region.specs.declared.dev.Dev.{Dev}
 use Rattle.wtf_region.specs.Apart.{are_apart}
-use Rattle.wtf_region.specs.Cached.{Remembered}
-use Rattle.wtf_region.specs.Devs.{GoesOn, stores, remembered, told_in}
+use Rattle.wtf_region.specs.Cached.{TrueBut}
+use Rattle.wtf_region.specs.Devs.{GoesOn, stores, told_in, RemembersTrue}
 use Rattle.wtf_replay.specs.Causes.{fault_answer}
 use Rattle.wtf_replay.specs.Insides.{lists_have}
 use Rattle.wtf_compact.specs.declared.target.Target.{Target}
@@ -88,7 +88,7 @@ module _ {S : Type 0} (kind : StoreKind S) (old new : Dev S) (t : Target) (now v
     (h : IsPlanned kind old new t now value) where
   -- what was read is what its slice decodes to
   pub made_known : (servers : ℕ)
-      → (Reads (TellsAll kind (stores old)) (remembered old) servers old.settings.region (told_in kind old) (told_in kind new)).known
+      → (Reads (TellsAll kind (stores old)) (RemembersTrue kind old) servers old.settings.region (told_in kind old) (told_in kind new)).known
       (region_facts now (made_of kind old new t now value h).under)
   made_known servers = knows kind old new goes (TellsAll kind (stores old)) servers (region_facts now h.under) h.told
 
@@ -98,7 +98,7 @@ module _ {S : Type 0} (kind : StoreKind S) (old new : Dev S) (t : Target) (now v
 
 -- where the stores tell the map now, they tell each region of it
 tells_region : {S : Type 0} (kind : StoreKind S) (dev : Dev S) (tables : TablesView) (t : Target) → TellsAll kind (stores dev)
-    → (kept : AreTrue dev.settings.region (told_in kind dev) (remembered dev) tables)
+    → (kept : AreTrue dev.settings.region (told_in kind dev) (RemembersTrue kind dev) tables)
     → MapBytes (is_told (told_in kind dev)) (is_listed dev.settings.region (told_in kind dev)) (metadata_now tables.kv)
     → TellsRegion kind dev kept.ranges (target_region (metadata_now tables.kv) t)
 tells_region kind dev tables t all kept map =
@@ -119,13 +119,13 @@ tells_region kind dev tables t all kept map =
 pub keeps_region : {S : Type 0} (kind : StoreKind S) (old new : Dev S) (servers : ℕ) (tables : TablesView) (x : JobView) → GoesOn kind old new []
     → ((ranges : List (ℕ × Range)) → TellsRegion kind old ranges (target_region (metadata_now tables.kv) x.target)
     → KeepsRegion new.settings.region (told_in kind new) (target_region (metadata_now tables.kv) x.target) x.value)
-    → Tells (TellsAll kind (stores old)) (remembered old) servers old.settings.region (told_in kind old) (told_in kind new) tables (metadata_now tables.kv)
+    → Tells (TellsAll kind (stores old)) (RemembersTrue kind old) servers old.settings.region (told_in kind old) (told_in kind new) tables (metadata_now tables.kv)
     → KeepsRegion old.settings.region (told_in kind new) (target_region (metadata_now tables.kv) x.target) x.value
 keeps_region kind old new servers tables x goes keeps tells =
     subst (λ (st : Settings). KeepsRegion st.region (told_in kind new) (target_region (metadata_now tables.kv) x.target) x.value) goes.settings
     (keeps tells.1.ranges (tells_region kind old tables x.target tells.0 tells.1 tells.2))
 
-module _ (Telling : Type 0) (lists : Remembered) (servers size : ℕ) (told later : Told) (old new : TablesView) (j : ℕ) (kind : JobKind) (p : List ℕ)
+module _ (Telling : Type 0) (lists : TrueBut) (servers size : ℕ) (told later : Told) (old new : TablesView) (j : ℕ) (kind : JobKind) (p : List ℕ)
     (r : ℕ) where
   abbrev Turn : Answer → Type 0
   Turn a = PlanTurn Telling lists servers size told later old new j kind p r a

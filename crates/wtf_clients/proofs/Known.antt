@@ -17,7 +17,7 @@ use Rattle.wtf_meta.specs.Contents.{Told, is_told, is_listed, lists_in}
 use Rattle.wtf_meta.specs.Maps.{Map, metadata_at}
 use Rattle.wtf_region.specs.declared.dev.Dev.{Dev}
 use Rattle.wtf_region.specs.Apart.{are_apart}
-use Rattle.wtf_region.specs.Devs.{GoesOn, stores, remembered, told_in}
+use Rattle.wtf_region.specs.Devs.{GoesOn, stores, told_in, RemembersTrue}
 use Rattle.wtf_region.specs.Reads.{TellsFacts}
 use Rattle.wtf_replay.specs.Views.{TxnView}
 use Rattle.wtf_replay.specs.Insides.{lists_have}
@@ -31,7 +31,7 @@ use Rattle.wtf_clients.specs.Turns.{AreTrue, Reads}
 use Rattle.wtf_clients.proofs.Lives.{now_bytes}
 
 module _ {S : Type 0} (kind : StoreKind S) (dev : Dev S) (all : TellsAll kind (stores dev)) (tables : TablesView)
-    (kept : AreTrue dev.settings.region (told_in kind dev) (remembered dev) tables) where
+    (kept : AreTrue dev.settings.region (told_in kind dev) (RemembersTrue kind dev) tables) where
   abbrev told : Told
   told = told_in kind dev
 
@@ -68,7 +68,7 @@ module _ {S : Type 0} (kind : StoreKind S) (dev : Dev S) (all : TellsAll kind (s
 
 module _ {S : Type 0} (kind : StoreKind S) (old new : Dev S) (goes : GoesOn kind old new []) (Telling : Type 0) (servers : ℕ) where
   abbrev known : Scope
-  known = Reads Telling (remembered old) servers old.settings.region (told_in kind old) (told_in kind new)
+  known = Reads Telling (RemembersTrue kind old) servers old.settings.region (told_in kind old) (told_in kind new)
 
   pub knows : (facts : List ListFact) → TellsFacts kind old new facts → known.known facts
   knows facts h = λ ranges cache tell apart. subst (λ (st : Settings). TellLists (lists_in st.region (told_in kind new)) facts) goes.settings

@@ -28,7 +28,7 @@ use Rattle.wtf_meta.specs.Maps.{metadata_at, seen}
 use Rattle.wtf_meta.specs.Trees.{Stands}
 use Rattle.wtf_meta.specs.Sessions.{Holds}
 use Rattle.wtf_meta.specs.Calls.{Caller, cap_for}
-use Rattle.wtf_region.specs.Cached.{Remembered}
+use Rattle.wtf_region.specs.Cached.{TrueBut}
 use Rattle.wtf_steps.specs.Faults.{MayStandFor}
 use Rattle.wtf_replay.specs.Views.{TxnView, begun, hand_of}
 use Rattle.wtf_replay.specs.Refusals.{call_refusal, try_refusal, step_refusal, unmade}
@@ -158,7 +158,7 @@ begin_turn old kv mid clients c number x free is_number is_mid last seen is_x is
     })
 
 -- ---- a call
-module _ (Telling : Type 0) (lists : Remembered) (servers size : ℕ) (told later : Told) (old : TablesView) (clients : Clients) (c : ℕ) (x y : TxnView)
+module _ (Telling : Type 0) (lists : TrueBut) (servers size : ℕ) (told later : Told) (old : TablesView) (clients : Clients) (c : ℕ) (x y : TxnView)
     (o : Op (List ℕ)) (a : Answer) where
   abbrev now_called : TablesView
   now_called = record { kv = old.kv; next_tx = old.next_tx; clients = clients; beside = old.beside }
@@ -352,7 +352,7 @@ module _ (old : TablesView) (kv : Store Key Value) (mid : Clients) (c : ℕ) (x 
     try_ends over = at_some (of_client old.clients c) x _ _ there (ends_on (try_refusal x) refl over)
 
 -- ---- a step
-module _ (Telling : Type 0) (lists : Remembered) (servers size : ℕ) (told later : Told) (old : TablesView) (mid : Clients) (c : ℕ) (x y : TxnView)
+module _ (Telling : Type 0) (lists : TrueBut) (servers size : ℕ) (told later : Told) (old : TablesView) (mid : Clients) (c : ℕ) (x y : TxnView)
     (a : Answer) (going : x.ended ≡ false) (there : of_client old.clients c ≡ Some x) (sets : Sets c (Some y) old.clients mid)
     (stopped : IfSome (step_refusal x) (λ w. (answered Fault a (answer.Refused w)) × (y ≡ x)))
     (stepped : step_refusal x ≡ None → IsStepped x y a)
@@ -414,7 +414,7 @@ module _ (Telling : Type 0) (lists : Remembered) (servers size : ℕ) (told late
     step_ends over = at_some (of_client old.clients c) x _ _ there (step_ends_on (step_refusal x) refl over)
 
 -- ---- a step that failed
-module _ (Telling : Type 0) (lists : Remembered) (servers size : ℕ) (told later : Told) (old : TablesView) (clients : Clients) (c : ℕ) (x y : TxnView) where
+module _ (Telling : Type 0) (lists : TrueBut) (servers size : ℕ) (told later : Told) (old : TablesView) (clients : Clients) (c : ℕ) (x y : TxnView) where
   pub step_failed : (why : Fault) (a : Answer) → of_client old.clients c ≡ Some x → Sets c (Some y) old.clients clients → y ≡ x → step_refusal x ≡ None
       → fault_answer why ≡ Some a
       → ((ops : List (Op (List ℕ))) → IsSound size old.kv told x ops → (t : Tree) → Stands size told x.tx 0 (metadata_at old.kv x.at.base) t
@@ -441,7 +441,7 @@ module _ (Telling : Type 0) (lists : Remembered) (servers size : ℕ) (told late
       }
 
 -- ---- a commit
-module _ (Telling : Type 0) (lists : Remembered) (servers size : ℕ) (told later : Told) (old new : TablesView) (kv : Store Key Value) (mid : Clients) (c : ℕ)
+module _ (Telling : Type 0) (lists : TrueBut) (servers size : ℕ) (told later : Told) (old new : TablesView) (kv : Store Key Value) (mid : Clients) (c : ℕ)
     (x y : TxnView) where
   commit_by : (a : Answer) → Ends old new kv c x → IsEnded old.kv kv a → IsInstall (Reads Telling lists servers size told later) old.kv kv
       (commit_from old.kv x) a

@@ -42,7 +42,7 @@ use Rattle.wtf_meta.proofs.Weaker.{base_stays}
 use Rattle.wtf_region.specs.declared.dev.Dev.{Dev}
 use Rattle.wtf_region.specs.Apart.{are_apart}
 use Rattle.wtf_region.specs.Cached.{CacheTrue}
-use Rattle.wtf_region.specs.Devs.{stores, remembered, told_in}
+use Rattle.wtf_region.specs.Devs.{stores, remembered, told_in, shown_in}
 use Rattle.wtf_replay.specs.Insides.{LogBytes, lists_have}
 use Rattle.wtf_replay.proofs.Later.{tells_on, tells_all_on}
 use Rattle.wtf_compact.specs.Jobs.{region_at}
@@ -334,7 +334,8 @@ module _ {S : Type 0} {kind : StoreKind S} (laws : KindLaws kind) (before after 
 
   -- lists that were remembered and true are so still
   abbrev StayTrue : Type 0
-  StayTrue = (ranges : List (ℕ × Range)) → CacheTrue told size ranges (remembered before) → CacheTrue later size ranges (remembered after)
+  StayTrue = (ranges : List (ℕ × Range)) → CacheTrue (shown_in kind before) size ranges (remembered before)
+      → CacheTrue (shown_in kind after) size ranges (remembered after)
 
   -- what was apart of ranges is so still, where no other bytes are named
   away_on : NamesTables old new → (ranges : List (ℕ × Range)) → ListedBytes size told (are_apart ranges) old → ListedBytes size later (are_apart ranges) new

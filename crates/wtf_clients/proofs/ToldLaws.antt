@@ -2,6 +2,8 @@
 use Rattle.std.proofs.Common.{◌≡◌, ℕ, ◌≤◌, Bool, true, List, [], ◌∷◌, length, Option, None, Some, refl, sym, ap, ◌∙◌, subst, arith}
 use Rattle.std.proofs.lemmas.Bool.{true≢false}
 use Rattle.wtf_base.specs.declared.settings.Settings.{Settings}
+use Rattle.wtf_base.specs.Slices.{len_of}
+use Rattle.wtf_base.specs.Places.{places_of}
 use Rattle.wtf_base.specs.declared.slice.Slice.{Slice}
 use Rattle.wtf_dev.specs.Store.{Range, StoreKind, KindLaws}
 use Rattle.wtf_overlay.specs.Origin.{Place}
@@ -19,13 +21,13 @@ use Rattle.wtf_meta.specs.Lists.{ListFact, TellLists}
 use Rattle.wtf_meta.specs.Maps.{Map, metadata_at}
 use Rattle.wtf_meta.specs.Sessions.{SessionView, handle_in}
 use Rattle.wtf_meta.proofs.ListTests.{entries_from, has_list, list_has-true}
-use Rattle.wtf_meta.proofs.Telling.{TellsOn, is_told-later, lists_in-later, lists_in-from}
+use Rattle.wtf_meta.proofs.Telling.{TellsOn, TellBytes-later, is_told-later, lists_in-later, lists_in-from}
 use Rattle.wtf_meta.proofs.Weaker.{entries_stay, map_stays, maybe_stays, file_bytes_stay}
 use Rattle.wtf_region.specs.declared.dev.Dev.{Dev}
 use Rattle.wtf_region.specs.Apart.{are_apart}
-use Rattle.wtf_region.specs.Cached.{CacheTrue}
-use Rattle.wtf_region.specs.Devs.{IsSoundDev, GoesOn, stores, remembered, told_in, between}
+use Rattle.wtf_region.specs.Devs.{IsSoundDev, GoesOn, RemembersTrue, stores, remembered, told_in, shown_in, between}
 use Rattle.wtf_region.specs.Inside.{is_inside, list_lies_inside}
+use Rattle.wtf_region.proofs.Frames.{shows_told}
 use Rattle.wtf_region.proofs.InsideLaws.{inside_stays, slice_inside, list_inside-to}
 use Rattle.wtf_region.proofs.ListReads.{fetched_is}
 use Rattle.wtf_rw.specs.Ops.{OwnBy}
@@ -130,7 +132,7 @@ module _ {S : Type 0} {kind : StoreKind S} (laws : KindLaws kind) (old new : Dev
 
 -- Each byte of the lists that are read of a file has as many copies as there are replicas, where those had that its bases decoded to.
 pub full_lists : {S : Type 0} (kind : StoreKind S) (old mid new : Dev S) → TellsOn (told_in kind old) (told_in kind new) → mid.settings ≡ old.settings
-    → new.settings ≡ old.settings → (ranges : List (ℕ × Range)) → CacheTrue (told_in kind mid) mid.settings.region ranges (remembered mid)
+    → new.settings ≡ old.settings → (ranges : List (ℕ × Range)) → RemembersTrue kind mid ranges
     → (full : Type 0) (file : FileView) (Q O : Slice → Bool) → FileBytes (is_told (told_in kind mid)) Q file → FileBytes (are_apart ranges) O file
     → (off n : ℕ)
     → AreFullLists kind mid new full (lists_have old.settings.region (told_in kind old) (has_copies old.settings.replicas)) file off n
@@ -189,7 +191,8 @@ module _ {S : Type 0} {kind : StoreKind S} (laws : KindLaws kind) (old new : Dev
       let found = has_list P (lists_in size was h.slice)
       (h.passes Q (tables_stay P any_byte (λ qs is. refl) Q Q (λ s is. is) before within)) in
       let bytes = lists_in-from size was h.slice found.0 found.1 in
-      let same : h.bytes ≡ bytes.0 = fetched_is kind (between old new) h.slice h.bytes k h.read h.whole bytes.0 bytes.1 in
+      let shown = TellBytes-later was (shown_in kind old) (len_of h.slice) (places_of h.slice) bytes.0 (shows_told laws (stores old)) bytes.1 in
+      let same : h.bytes ≡ bytes.0 = fetched_is kind (between old new) h.slice h.bytes k h.read h.whole bytes.0 shown in
       let read : decoded size h.bytes ≡ Some found.0 = ap (decoded size) same ∙ bytes.2 in
       let enough : old.settings.servers ≤ length (stores new) = let a = lent.shelf in let b = goes.each.same_length in omega (arith, a, b) in
       let good : list_lies_inside old.settings.servers (size_in kind (stores new)) found.0 ≡ true =

@@ -139,9 +139,9 @@ no_list_since {S} {kind} laws old mid new settings based k goes was =
         server = read.server;
         known = known;
         up = subst (λ r. is_down r.now k ≡ false) goes.replicas read.up;
-        bytes = λ d j b below told.
+        bytes = λ d j b below shown.
             let kept : Kept (kind.view (get_or (stores old) k d)) (kind.view (get_or (stores mid) k d)) [] = each_kept laws goes.each k d known in
-            read.bytes d j b below (kept.bytes read.pointer.file (read.pointer.at + 0 + j) b tt told);
+            read.bytes d j b below (kept.shown read.pointer.file (read.pointer.at + 0 + j) b tt shown);
         earlier = All-weaker (λ (p : Pointer). IsOut kind (between mid new) p.server.0) (λ (p : Pointer). IsOut kind (between old new) p.server.0)
             (λ p h. out_since kind (is_down old.replicas.now) (stores old) (stores mid) (stores new) goes.each.same_length (each_kept laws goes.each) p.server.0
             (subst (λ r. IsOut kind (span (is_down r.now) (stores mid) (stores new)) p.server.0) goes.replicas h)) (take read.copy (pointers_of was.slice))

@@ -19,7 +19,7 @@ use Rattle.wtf_meta.specs.Trees.{IsBody, Stands}
 use Rattle.wtf_index.specs.Checks.{stands_at}
 use Rattle.wtf_region.specs.declared.dev.Dev.{Dev}
 use Rattle.wtf_region.specs.Apart.{are_apart}
-use Rattle.wtf_region.specs.Cached.{Remembered, CacheTrue}
+use Rattle.wtf_region.specs.Cached.{TrueBut}
 use Rattle.wtf_rw.specs.Reads.{LacksRead}
 
 -- what is answered of a file with these bytes
@@ -32,21 +32,21 @@ IsDumpAnswer (answer.Shown bytes) = ⊤
 IsDumpAnswer (answer.Refused w) = ⊤
 IsDumpAnswer a = ⊥
 
--- Each list that is remembered is what the bytes of its slice decode to, if these are told, but where a byte of the slice lies in a range that
--- was punched; and a map names no byte of these ranges.
-abbrev pub IsTrueFor : ℕ → Told → Remembered → Map → Type 0
-IsTrueFor size told lists w = (ranges : List (ℕ × Range)) × CacheTrue told size ranges lists × MapBytes (are_apart ranges) any_slice w
+-- The lists that are remembered are true, but where a byte of the slice lies in a range that was punched; and a map names no byte of these
+-- ranges.
+abbrev pub IsTrueFor : TrueBut → Map → Type 0
+IsTrueFor lists w = (ranges : List (ℕ × Range)) × lists ranges × MapBytes (are_apart ranges) any_slice w
 
 -- Over stores that tell each byte of a map, with the lists of its bases, the answer shows the file of an inode; where the lists that were
 -- remembered are true for the map.
-abbrev pub IsShownFile : ℕ → Told → Remembered → Map → InodeId → Answer → Type 0
+abbrev pub IsShownFile : ℕ → Told → TrueBut → Map → InodeId → Answer → Type 0
 IsShownFile size told lists w i a =
-    IsTrueFor size told lists w → MapBytes (is_told told) (is_listed size told) w → (bytes : List ℕ) → IsBody size told w i bytes → a ≡ file_answer bytes
+    IsTrueFor lists w → MapBytes (is_told told) (is_listed size told) w → (bytes : List ℕ) → IsBody size told w i bytes → a ≡ file_answer bytes
 
 -- on each tree for which the map stands, it is that of the definitions
-abbrev pub IsDumped : ℕ → Told → Remembered → Map → List ℕ → Answer → Type 0
+abbrev pub IsDumped : ℕ → Told → TrueBut → Map → List ℕ → Answer → Type 0
 IsDumped size told lists w p a =
-    IsTrueFor size told lists w → (tx k : ℕ) (t : Tree) → Stands size told tx k w t → a ≡ or_refusal (dumped t p)
+    IsTrueFor lists w → (tx k : ℕ) (t : Tree) → Stands size told tx k w t → a ≡ or_refusal (dumped t p)
 
 -- the bytes of a file that is not too long were not shown, since a list of it was not read, or some of the bytes; no file is longer
 -- than its greatest number of regions

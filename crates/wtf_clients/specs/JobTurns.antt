@@ -18,7 +18,7 @@ use Rattle.wtf_meta.specs.Contents.{Told, SamePlaces, lists_in}
 use Rattle.wtf_meta.specs.Files.{end_of}
 use Rattle.wtf_meta.specs.Lists.{ListFact, TellLists, region_facts}
 use Rattle.wtf_meta.specs.Trees.{Stands}
-use Rattle.wtf_region.specs.Cached.{Remembered}
+use Rattle.wtf_region.specs.Cached.{TrueBut}
 use Rattle.wtf_replay.specs.Causes.{fault_answer}
 use Rattle.wtf_replay.specs.Tried.{KeepsMaps}
 use Rattle.wtf_compact.specs.declared.target.Target.{Target}
@@ -96,7 +96,7 @@ DropTurn old new j a = MatchOption (of_label old.beside.jobs j) (RefusesJob old 
 
 -- `Telling` says that the stores tell their content: `told` before the line and `later` after it; these lists are remembered of slices
 -- before it; there are so many servers, and a region has `size` bytes
-module _ (Telling : Type 0) (lists : Remembered) (servers size : ℕ) (told later : Told) where
+module _ (Telling : Type 0) (lists : TrueBut) (servers size : ℕ) (told later : Told) where
   -- The map gives no reason against it. What was read of the region's base is what its slice decodes to, as reads of calls are; and what was
   -- stored is so over stores that tell. There it keeps the bytes of the region.
   pub record PlansSoundly (old new : TablesView) (j : ℕ) (kind : JobKind) (p : List ℕ) (r : ℕ) : Type 0 where

@@ -22,16 +22,17 @@ use Rattle.wtf_clients.specs.Outcomes.{SomeOut}
 use Rattle.wtf_clients.specs.Saves.{with_image}
 
 -- A span of time of a keeper: what is seen of it at its begin and at its end, that these images were handed to it between
--- them, and that it is as it was.
+-- them, what it says more of one that it refused, and that it is as it was.
 pub record KeeperSpan : Type 1 where
   pub before : KeeperView
   pub after : KeeperView
   pub handed : List (List ℕ) → Type 0
+  pub refused : Type 0
   pub untouched : Type 0
 
-abbrev pub keeper_span : {K : Type 0} → (K → KeeperView) → (K → K → List (List ℕ) → Type 0) → K → K → KeeperSpan
-keeper_span view follows old new =
-    record { before = view old; after = view new; handed = follows old new; untouched = new ≡ old }
+abbrev pub keeper_span : {K : Type 0} → (K → KeeperView) → (K → K → List (List ℕ) → Type 0) → (K → K → Type 0) → K → K → KeeperSpan
+keeper_span view follows refused old new =
+    record { before = view old; after = view new; handed = follows old new; refused = refused old new; untouched = new ≡ old }
 
 -- where the stores go through this span, and the keeper through this one
 module _ {S : Type 0} (kind : StoreKind S) (t : Span S) (k : KeeperSpan) (settings : Settings) where
@@ -58,6 +59,7 @@ module _ {S : Type 0} (kind : StoreKind S) (t : Span S) (k : KeeperSpan) (settin
   pub record KeeperFailed (old new : TablesView) : Type 0 where
     pub hands : Hands old
     pub rose : Rose k.before.faults k.after.faults
+    pub refused : k.refused
     pub beside : new.beside ≡ with_image old.beside old.kv.number
 
   -- what a line did to the keeper: a save alone hands it something

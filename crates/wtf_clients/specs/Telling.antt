@@ -6,7 +6,7 @@ use Rattle.wtf_base.specs.declared.settings.Settings.{Settings}
 use Rattle.wtf_dev.specs.Store.{Range, StoreKind}
 use Rattle.wtf_dev.specs.Sums.{TellsAll}
 use Rattle.wtf_overlay.specs.Origin.{Place}
-use Rattle.wtf_replica.specs.Bytes.{byte_at}
+use Rattle.wtf_replica.specs.Bytes.{byte_at, shown_byte}
 use Rattle.wtf_replica.specs.Inside.{size_in}
 use Rattle.wtf_replica.specs.Spans.{Span}
 use Rattle.wtf_model.specs.declared.answer.Answer.{Answer}
@@ -29,7 +29,7 @@ pub record TellsTables {S : Type 0} (kind : StoreKind S) (shelf : List S) (setti
   pub all : TellsAll kind shelf
   pub punched : List (ℕ × Range)
   pub lie : All (LiesOn (size_in kind shelf) settings.servers) punched
-  pub cache : CacheTrue (byte_at kind shelf) settings.region punched lists
+  pub cache : CacheTrue (shown_byte kind shelf) settings.region punched lists
   pub names : ListedBytes settings.region (byte_at kind shelf) (is_told (byte_at kind shelf)) tables
   pub away : ListedBytes settings.region (byte_at kind shelf) (are_apart punched) tables
 

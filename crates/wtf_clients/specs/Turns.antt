@@ -28,7 +28,7 @@ use Rattle.wtf_meta.specs.Trees.{Stands}
 use Rattle.wtf_meta.specs.Sessions.{Holds}
 use Rattle.wtf_meta.specs.Calls.{Caller, cap_for}
 use Rattle.wtf_region.specs.Apart.{are_apart}
-use Rattle.wtf_region.specs.Cached.{Remembered, CacheTrue}
+use Rattle.wtf_region.specs.Cached.{TrueBut}
 use Rattle.wtf_replay.specs.Views.{TxnView, begun, hand_of}
 use Rattle.wtf_replay.specs.Refusals.{call_refusal, try_refusal, step_refusal}
 use Rattle.wtf_replay.specs.Fits.{IsFit}
@@ -126,15 +126,15 @@ pub record Fails (old new : TablesView) (c : ℕ) (a : Answer) : Type 0 where
   pub answer : fault_answer why ≡ Some a
   pub stays : Stays old new c
 
--- Lists that are remembered are what the bytes of their slices decode to, where these are told, but where a byte of the slice lies in a range
--- that was punched; and the tables name no byte of these ranges.
-pub record AreTrue (size : ℕ) (told : Told) (lists : Remembered) (tables : TablesView) : Type 0 where
+-- The lists that are remembered are true, but where a byte of the slice lies in a range that was punched; and the tables name no byte of these
+-- ranges.
+pub record AreTrue (size : ℕ) (told : Told) (lists : TrueBut) (tables : TablesView) : Type 0 where
   pub ranges : List (ℕ × Range)
-  pub cache : CacheTrue told size ranges lists
+  pub cache : lists ranges
   pub away : ListedBytes size told (are_apart ranges) tables
 
--- There are so many servers, and a region has `size` bytes; the stores tell this; and these lists were remembered.
-module _ (servers size : ℕ) (told : Told) (lists : Remembered) where
+-- There are so many servers, and a region has `size` bytes; the stores tell this; and so much is known of the lists that were remembered.
+module _ (servers size : ℕ) (told : Told) (lists : TrueBut) where
   -- The dump of a path shows the bytes of the file on each tree for which the map now stands, or is refused; where it is to
   -- show bytes a fault of the stores may come in their place. It leaves all as it was.
   pub record Dumps (old new : TablesView) (p : List ℕ) (a : Answer) : Type 0 where
@@ -143,9 +143,9 @@ module _ (servers size : ℕ) (told : Told) (lists : Remembered) where
     pub shows : AreTrue size told lists old → (tx k : ℕ) (t : Tree) → Stands size told tx k (metadata_now old.kv) t
         → (a ≡ or_refusal (dumped t p)) ⊎ MayFailRead servers (or_refusal (dumped t p)) a
 
--- `Telling` says that the stores tell their content: `told` before the line and `later` after it; these lists are remembered of
--- slices before it; there are so many servers, and a region has `size` bytes
-module _ (Telling : Type 0) (lists : Remembered) (servers size : ℕ) (told later : Told) where
+-- `Telling` says that the stores tell their content: `told` before the line and `later` after it; `lists` is what is known before it of the
+-- lists that are remembered; there are so many servers, and a region has `size` bytes
+module _ (Telling : Type 0) (lists : TrueBut) (servers size : ℕ) (told later : Told) where
   -- the lists that are remembered are those of their slices; and the stores also tell each byte of a map, those that the lists of its bases
   -- name too
   abbrev pub Tells : TablesView → Map → Type 0
@@ -156,7 +156,7 @@ module _ (Telling : Type 0) (lists : Remembered) (servers size : ℕ) (told late
   abbrev pub Reads : Scope
   Reads = record {
     size = size;
-    known = λ facts. (ranges : List (ℕ × Range)) → CacheTrue told size ranges lists → ListSlices (is_told told) any_slice facts → ListSlices
+    known = λ facts. (ranges : List (ℕ × Range)) → lists ranges → ListSlices (is_told told) any_slice facts → ListSlices
         (are_apart ranges) any_slice facts
         → TellLists (lists_in size later) facts;
   }

@@ -5,7 +5,7 @@ ghost use Rattle.wtf_kv.specs.Stores.{is_pinned};
 ghost use Rattle.wtf_model.specs.declared.limits.TheConstants.{MAX_DUMPED};
 ghost use Rattle.wtf_meta.specs.Maps.{metadata_at, seen};
 ghost use Rattle.wtf_meta.specs.FileEdits.{file_of};
-ghost use Rattle.wtf_region.specs.Devs.{IsSoundDev, GoesOn, stores, remembered, told_in, between};
+ghost use Rattle.wtf_region.specs.Devs.{IsSoundDev, GoesOn, RemembersTrue, stores, told_in, between};
 ghost use Rattle.wtf_region.specs.Inside.{IsStoredInside};
 ghost use Rattle.wtf_region.specs.Showing.{OnlyRead};
 ghost use Rattle.wtf_replay.specs.Tried.{KeepsMaps, KeepsVersions, KeepsPins};
@@ -37,7 +37,7 @@ pub(crate) fn dump_now<S: SliceStore>(
     requires inside { IsStoredInside S.kind (stores dev.old) dev.old.settings
         (metadata_at kv.old kv.old.number) }
     ensures shows { IfOk result (IsDumped dev.old.settings.region (told_in S.kind dev.old)
-        (remembered dev.old) (metadata_at kv.old kv.old.number) p.now) }
+        (RemembersTrue S.kind dev.old) (metadata_at kv.old kv.old.number) p.now) }
     ensures fault { IfErr result (λ why. (why ≡ Fault.Memory) ⊎ LacksDump S.kind dev.old dev.new
         (metadata_at kv.old kv.old.number) p.now why) }
     ensures number { kv.new.number ≡ kv.old.number }
@@ -70,7 +70,7 @@ fn dump_at<S: SliceStore>(
     requires inside { IsStoredInside S.kind (stores dev.old) dev.old.settings
         (metadata_at kv.now number) }
     ensures shows { IfOk result (IsDumped dev.old.settings.region (told_in S.kind dev.old)
-        (remembered dev.old) (metadata_at kv.now number) p.now) }
+        (RemembersTrue S.kind dev.old) (metadata_at kv.now number) p.now) }
     ensures fault { IfErr result (λ why. (why ≡ Fault.Memory) ⊎ LacksDump S.kind dev.old dev.new
         (metadata_at kv.now number) p.now why) }
     ensures answered { IfOk result IsDumpAnswer }
@@ -109,7 +109,7 @@ fn dump_file<S: SliceStore>(
     requires pinned { IsTrue (is_pinned kv.now at.old.base) }
     requires inside { IsStoredInside S.kind (stores dev.old) dev.old.settings (seen kv.now at.old) }
     ensures shows { IfOk result (IsShownFile dev.old.settings.region (told_in S.kind dev.old)
-        (remembered dev.old) (seen kv.now at.old) inode) }
+        (RemembersTrue S.kind dev.old) (seen kv.now at.old) inode) }
     ensures fault { IfErr result (λ why. (why ≡ Fault.Memory) ⊎ LacksFile S.kind dev.old dev.new
         (file_of inode (seen kv.now at.old)) why) }
     ensures answered { IfOk result IsDumpAnswer }

@@ -45,7 +45,7 @@ impl Tables {
             (self.old, self.new) event.Save a) }
         ensures keeper { IfOk result (KeeperTurn S.kind
             (during replicas.now shelf.old shelf.new)
-            (keeper_span K.view K.follows keeper.old keeper.new) settings
+            (keeper_span K.view K.follows K.refused keeper.old keeper.new) settings
             self.old self.new event.Save) }
         ensures untouched { OnErr result (keeper.new ≡ keeper.old) }
         ensures err { OnErr result (self.new ≡ self.old) }

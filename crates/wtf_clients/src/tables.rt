@@ -11,7 +11,7 @@ ghost use Rattle.wtf_model.specs.Form.{IsFormOp, IsData};
 ghost use Rattle.wtf_model.specs.declared.answer.Word.TheVariants.{InTx, NoTx};
 ghost use Rattle.wtf_model.specs.declared.event.Event.TheVariants as event;
 ghost use Rattle.wtf_model.specs.declared.event.Verb.TheVariants as verb;
-ghost use Rattle.wtf_region.specs.Devs.{IsSoundDev, GoesOn, stores, remembered, between};
+ghost use Rattle.wtf_region.specs.Devs.{IsSoundDev, GoesOn, RemembersTrue, stores, remembered, between};
 ghost use Rattle.wtf_region.specs.Inside.{is_inside};
 ghost use Rattle.wtf_meta.specs.Bytes.{any_slice};
 ghost use Rattle.wtf_meta.specs.Trees.{IsFirst};
@@ -205,7 +205,7 @@ impl Tables {
             any_slice self.old }
         requires form { IsFormOp IsData op }
         ensures turn { IfOk result (λ a. ClientTurn (TellsAll S.kind (stores dev.old))
-            (remembered dev.old) dev.old.settings.servers dev.old.settings.region
+            (RemembersTrue S.kind dev.old) dev.old.settings.servers dev.old.settings.region
             (byte_at S.kind (stores dev.old)) (byte_at S.kind (stores dev.new))
             self.old self.new c (verb.Call op) a) }
         ensures serves { IfOk result (ServesLine S.kind (between dev.old dev.new)
@@ -262,7 +262,7 @@ impl Tables {
         requires inside { TablesBytes (is_inside S.kind (stores dev.old) dev.old.settings)
             any_slice self.old }
         ensures turn { IfOk result (λ a. ClientTurn (TellsAll S.kind (stores dev.old))
-            (remembered dev.old) dev.old.settings.servers dev.old.settings.region
+            (RemembersTrue S.kind dev.old) dev.old.settings.servers dev.old.settings.region
             (byte_at S.kind (stores dev.old)) (byte_at S.kind (stores dev.new))
             self.old self.new c verb.Step a) }
         ensures serves { IfOk result (ServesLine S.kind (between dev.old dev.new)
@@ -301,7 +301,7 @@ impl Tables {
             any_slice self.old }
         requires room { self.old.kv.number < 2 ^ 63 }
         ensures turn { IfOk result (λ a. ClientTurn (TellsAll S.kind (stores dev.old))
-            (remembered dev.old) dev.old.settings.servers dev.old.settings.region
+            (RemembersTrue S.kind dev.old) dev.old.settings.servers dev.old.settings.region
             (byte_at S.kind (stores dev.old)) (byte_at S.kind (stores dev.new))
             self.old self.new c verb.Commit a) }
         ensures serves { IfOk result (ServesLine S.kind (between dev.old dev.new)
@@ -336,7 +336,7 @@ impl Tables {
         requires inside { TablesBytes (is_inside S.kind (stores dev.old) dev.old.settings)
             any_slice self.old }
         ensures turn { IfOk result (Dumps dev.old.settings.servers dev.old.settings.region
-            (byte_at S.kind (stores dev.old)) (remembered dev.old) self.old self.new p.now) }
+            (byte_at S.kind (stores dev.old)) (RemembersTrue S.kind dev.old) self.old self.new p.now) }
         ensures serves { IfOk result (ServesLine S.kind (between dev.old dev.new)
             (lent_by dev.old) self.old self.new (event.Dump p.now)) }
         ensures told { IfOk result (λ a. TellsTables S.kind (stores dev.old) dev.old.settings
@@ -385,7 +385,7 @@ impl Tables {
             any_slice self.old }
         requires label { j < MAX_JOBS }
         ensures turn { IfOk result (PlanTurn (TellsAll S.kind (stores dev.old))
-            (remembered dev.old) dev.old.settings.servers dev.old.settings.region
+            (RemembersTrue S.kind dev.old) dev.old.settings.servers dev.old.settings.region
             (byte_at S.kind (stores dev.old)) (byte_at S.kind (stores dev.new))
             self.old self.new j kind p.now region) }
         ensures serves { IfOk result (ServesLine S.kind (between dev.old dev.new)

@@ -33,7 +33,7 @@ use Rattle.wtf_meta.specs.FileEdits.{IsLast, HasFile}
 use Rattle.wtf_meta.specs.Maps.{Map, metadata_at}
 use Rattle.wtf_meta.specs.Trees.{NodeAt, NamesAt, Stands}
 use Rattle.wtf_image.proofs.SaveTree.{some_value}
-use Rattle.wtf_region.specs.Cached.{Remembered}
+use Rattle.wtf_region.specs.Cached.{TrueBut}
 use Rattle.wtf_replay.specs.Views.{TxnView}
 use Rattle.wtf_replay.specs.Refusals.{call_refusal, try_refusal, step_refusal}
 use Rattle.wtf_replay.specs.Tried.{KeepsMaps}
@@ -51,7 +51,7 @@ use Rattle.wtf_clients.proofs.Lives.{saved_reaches, same_kept, added_kept, only_
 use Rattle.wtf_clients.proofs.Pins.{number_cases}
 use Rattle.wtf_clients.proofs.StampLaws.{KeptTxn, FreshTxn, KeptJob, FreshJob, Ages, stamps_on}
 use Rattle.wtf_core.specs.Turns.{Switches, LineTurn}
-use Rattle.wtf_core.specs.Views.{CoreView}
+use Rattle.wtf_core.specs.Views.{CoreView, KnowsLists}
 use Rattle.wtf_core.proofs.Stamped.{HasStamp, Stamped, txn_stamp, job_stamp, IsOther}
 
 -- a transaction goes on, or is the next one
@@ -157,7 +157,7 @@ module _ (old new : TablesView) (c : ℕ) (sound : AreSound old) where
       (let next = h.next_tx in omega (arith, next)) (goes_aged x here h.later (ap (λ (y : TxnView). y.tx) h.retried.is))
   tries_aged x a here h = absurd h
 
-  module _ (Telling : Type 0) (lists : Remembered) (servers size : ℕ) (told later : Told) where
+  module _ (Telling : Type 0) (lists : TrueBut) (servers size : ℕ) (told later : Told) where
     steps_aged : (x : TxnView) (a : Answer) → of_client old.clients c ≡ Some x → Steps Telling lists servers size told later old new c x a → Aged old new
     steps_aged x (answer.Replayed i) here h =
         keeps_aged (Some h.later_one) h.keeps (goes_aged x here h.later_one (ap (λ (y : TxnView). y.tx) h.replayed.is))
@@ -217,7 +217,7 @@ module _ (old new : TablesView) (j : ℕ) (sound : AreSound old) where
         (number_cases l j);
   }
 
-  module _ (Telling : Type 0) (lists : Remembered) (servers size : ℕ) (told later : Told) (kind : JobKind) (p : List ℕ) (r : ℕ) where
+  module _ (Telling : Type 0) (lists : TrueBut) (servers size : ℕ) (told later : Told) (kind : JobKind) (p : List ℕ) (r : ℕ) where
     free_aged : (a : Answer) → of_label old.beside.jobs j ≡ None → FreePlan Telling lists servers size told later old new j kind p r a → Aged old new
     free_aged answer.Planned none h =
         others_aged (Some h.job) h.plans.keeps (λ n le. ap (λ (s : Store Key Value). metadata_at s n) h.plans.kv)
@@ -291,10 +291,10 @@ module _ {S : Type 0} (kind : StoreKind S) (t : Span S) (old new : CoreView) (so
 
   pub line_aged : (e : Event) → IsOther e → LineTurn kind t old new e a → Aged old.tables new.tables
   line_aged (event.Client c v) other h =
-      client_aged old.tables new.tables c sound (TellsAll kind t.before) old.lists old.settings.servers old.settings.region (byte_at kind t.before)
+      client_aged old.tables new.tables c sound (TellsAll kind t.before) (KnowsLists kind t.before old) old.settings.servers old.settings.region (byte_at kind t.before)
       (byte_at kind t.after) v a h.0
   line_aged (event.Plan j job p r) other h =
-      plan_aged old.tables new.tables j sound (TellsAll kind t.before) old.lists old.settings.servers old.settings.region (byte_at kind t.before)
+      plan_aged old.tables new.tables j sound (TellsAll kind t.before) (KnowsLists kind t.before old) old.settings.servers old.settings.region (byte_at kind t.before)
       (byte_at kind t.after) job p r a h.0
   line_aged (event.Put j) other h = put_aged old.tables new.tables j sound a h.0
   line_aged (event.DropJob j) other h = drop_aged old.tables new.tables j sound a h.0

@@ -23,7 +23,7 @@ use Rattle.wtf_meta.specs.Contents.{Told}
 use Rattle.wtf_meta.specs.Bytes.{any_slice}
 use Rattle.wtf_region.specs.Inside.{is_inside}
 use Rattle.wtf_region.proofs.ShowLaws.{reads_nothing}
-use Rattle.wtf_region.specs.Cached.{Remembered}
+use Rattle.wtf_region.specs.Cached.{Remembered, TrueBut}
 use Rattle.wtf_region.specs.declared.dev.Dev.{Dev}
 use Rattle.wtf_replay.specs.Views.{TxnView}
 use Rattle.wtf_replay.specs.Refusals.{call_refusal, try_refusal, step_refusal}
@@ -31,7 +31,7 @@ use Rattle.wtf_compact.specs.Jobs.{JobView}
 use Rattle.wtf_compact.specs.Putting.{IsPut}
 use Rattle.wtf_clients.specs.Views.{TablesView, of_client, of_label}
 use Rattle.wtf_clients.specs.JobTurns.{RefusesJob, FreePlan, PlanTurn, Puts, PutTurn, DropsJob, DropTurn}
-use Rattle.wtf_core.specs.Views.{CoreView}
+use Rattle.wtf_core.specs.Views.{CoreView, KnowsLists}
 use Rattle.wtf_clients.specs.Saves.{AreUp, SaveTurn}
 use Rattle.wtf_clients.specs.Named.{TablesBytes, any_byte, no_slice, has_copies}
 use Rattle.wtf_clients.specs.Outcomes.{Load, no_load, AddsBytes, load_of}
@@ -80,7 +80,7 @@ tries_plain old new c x (answer.Committed n) h = tt
 tries_plain old new c x (answer.Retry b n) h = tt
 tries_plain old new c x a h = absurd h
 
-module _ (Telling : Type 0) (lists : Remembered) (servers size : ℕ) (told later : Told) (old new : TablesView) (c : ℕ) where
+module _ (Telling : Type 0) (lists : TrueBut) (servers size : ℕ) (told later : Told) (old new : TablesView) (c : ℕ) where
   or_refused : (P : Type 0) (Q : Type 0) (a : Answer) (r : Option Word) → (P → Q) → ((w : Word) → Refuses old new c w a → Q)
       → MatchOption r P (λ w. Refuses old new c w a) → Q
   or_refused P Q a None f g h = f h
@@ -146,7 +146,7 @@ module _ {S : Type 0} (kind : StoreKind S) (t : Span S) (old new : CoreView) (a 
   server_uncollected k to false h = subst IsUncollected (sym h.0) tt
 
   -- a job's line
-  plan_uncollected : (kept : Remembered) (servers size : ℕ) (before after : Told) (j : ℕ) (job : JobKind) (p : List ℕ) (r : ℕ) (b : Answer)
+  plan_uncollected : (kept : TrueBut) (servers size : ℕ) (before after : Told) (j : ℕ) (job : JobKind) (p : List ℕ) (r : ℕ) (b : Answer)
       → PlanTurn (TellsAll kind t.before) kept servers size before after old.tables new.tables j job p r b → IsUncollected b
   plan_uncollected kept servers size before after j job p r b h = by (of_label old.tables.beside.jobs j) h
     where
@@ -193,10 +193,10 @@ module _ {S : Type 0} (kind : StoreKind S) (t : Span S) (old new : CoreView) (a 
 
   pub line_uncollected : (e : Event) → ((k : ℕ) → e ≢ event.Collect k) → LineTurn kind t old new e a → IsUncollected a
   line_uncollected (event.Client c v) other h =
-      client_uncollected (TellsAll kind t.before) old.lists old.settings.servers old.settings.region (byte_at kind t.before) (byte_at kind t.after) old.tables
+      client_uncollected (TellsAll kind t.before) (KnowsLists kind t.before old) old.settings.servers old.settings.region (byte_at kind t.before) (byte_at kind t.after) old.tables
       new.tables c v a h.0
   line_uncollected (event.Plan j job p r) other h =
-      plan_uncollected old.lists old.settings.servers old.settings.region (byte_at kind t.before) (byte_at kind t.after) j job p r a h.0
+      plan_uncollected (KnowsLists kind t.before old) old.settings.servers old.settings.region (byte_at kind t.before) (byte_at kind t.after) j job p r a h.0
   line_uncollected (event.Put j) other h = put_uncollected j h.0
   line_uncollected (event.DropJob j) other h = drop_uncollected j h.0
   line_uncollected event.Scan other h = scan_uncollected a h.0

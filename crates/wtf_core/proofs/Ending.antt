@@ -33,7 +33,7 @@ use Rattle.wtf_meta.specs.Trees.{Stands}
 use Rattle.wtf_meta.proofs.Telling.{TellsOn}
 use Rattle.wtf_meta.specs.Calls.{cap_for}
 use Rattle.wtf_meta.specs.Feet.{Feet}
-use Rattle.wtf_region.specs.Cached.{Remembered}
+use Rattle.wtf_region.specs.Cached.{TrueBut}
 use Rattle.wtf_replay.specs.Views.{TxnView, is_live}
 use Rattle.wtf_replay.specs.Fits.{IsFit}
 use Rattle.wtf_replay.specs.Refusals.{try_refusal, step_refusal}
@@ -335,7 +335,7 @@ tries_stand size told later old new m c x t (answer.Retry b n) sound region st o
 tries_stand size told later old new m c x t a sound region st on here there asked turn = absurd turn
 
 -- ---- a step
-module _ (Telling : Type 0) (lists : Remembered) (servers size : ℕ) (told later : Told) (old new : TablesView) (c : ℕ) (x : TxnView) (i : ℕ)
+module _ (Telling : Type 0) (lists : TrueBut) (servers size : ℕ) (told later : Told) (old new : TablesView) (c : ℕ) (x : TxnView) (i : ℕ)
     (sound : AreSound old) (here : of_client old.clients c ≡ Some x) (turn : Replays Telling lists servers size told later old new c x i) where
   -- the transaction with one call more done
   abbrev onward : TxnView
@@ -394,7 +394,7 @@ module _ (Telling : Type 0) (lists : Remembered) (servers size : ℕ) (told late
       )
 
 -- a call that deviates at the base ends the transaction
-abort_may : (Telling : Type 0) (lists : Remembered) (servers size : ℕ) (told later : Told) (old new : TablesView) (c : ℕ) (x : TxnView) (i : ℕ) (a : Answer)
+abort_may : (Telling : Type 0) (lists : TrueBut) (servers size : ℕ) (told later : Told) (old new : TablesView) (c : ℕ) (x : TxnView) (i : ℕ) (a : Answer)
     (m : Machine) (t : Transaction)
     → Aborts Telling lists servers size told later old new c x i a → m.settings.region ≡ size → StandsForTxn size told old.kv m.now x t → Telling × AreTrue
     size told lists old
@@ -411,7 +411,7 @@ abort_may Telling lists servers size told later old new c x i a m t turn region 
     )
 
 -- the bytes of the next call were not read
-step_fault_may : (Telling : Type 0) (lists : Remembered) (servers size : ℕ) (told later : Told) (old new : TablesView) (c : ℕ) (x : TxnView) (a : Answer)
+step_fault_may : (Telling : Type 0) (lists : TrueBut) (servers size : ℕ) (told later : Told) (old new : TablesView) (c : ℕ) (x : TxnView) (a : Answer)
     (m : Machine) (t : Transaction)
     → StepFails Telling lists servers size told later old new c x a → m.settings.region ≡ size → m.settings.servers ≡ servers → StandsForTxn size told old.kv
     m.now x t
@@ -424,7 +424,7 @@ step_fault_may Telling lists servers size told later old new c x a m t turn regi
     )
 
 -- the tables stay sound
-pub steps_sound : (Telling : Type 0) (lists : Remembered) (servers size : ℕ) (told later : Told) (old new : TablesView) (c : ℕ) (x : TxnView) (a : Answer) →
+pub steps_sound : (Telling : Type 0) (lists : TrueBut) (servers size : ℕ) (told later : Told) (old new : TablesView) (c : ℕ) (x : TxnView) (a : Answer) →
     AreSound old → of_client old.clients c ≡ Some x → Steps Telling lists servers size told later old new c x a → AreSound new
 steps_sound Telling lists servers size told later old new c x (answer.Replayed i) sound here turn = replay_sound Telling lists servers size told later old new
     c x i sound here turn
@@ -433,7 +433,7 @@ steps_sound Telling lists servers size told later old new c x (Aborted' i box a)
 steps_sound Telling lists servers size told later old new c x a sound here turn = stays_sound old new c sound turn.fails.stays
 
 -- the machine may answer so, and the tables stand for what it then is
-pub steps_stand : (Telling : Type 0) (lists : Remembered) (servers size : ℕ) (told later : Told) (old new : TablesView) (m : Machine) (c : ℕ) (x : TxnView)
+pub steps_stand : (Telling : Type 0) (lists : TrueBut) (servers size : ℕ) (told later : Told) (old new : TablesView) (m : Machine) (c : ℕ) (x : TxnView)
     (t : Transaction) (a : Answer)
     → AreSound old → m.settings.region ≡ size → m.settings.servers ≡ servers → TablesStand size told old m → TellsOn told later
     → of_client old.clients c ≡ Some x → get m.transactions c ≡ Some t → step_refusal x ≡ None → Telling × AreTrue size told lists old
@@ -452,17 +452,17 @@ steps_stand Telling lists servers size told later old new m c x t a sound region
 
 -- ---- a commit
 -- a commit by replay raises the number
-finish_up : (Telling : Type 0) (lists : Remembered) (servers size : ℕ) (told later : Told) (old new : TablesView) (c : ℕ) (x : TxnView) (n : ℕ)
+finish_up : (Telling : Type 0) (lists : TrueBut) (servers size : ℕ) (told later : Told) (old new : TablesView) (c : ℕ) (x : TxnView) (n : ℕ)
     (turn : Finishes Telling lists servers size told later old new c x n) → old.kv.number ≤ turn.mid.number
 finish_up Telling lists servers size told later old new c x n turn = let number = turn.number in let next = turn.next in omega (arith, number, next)
 
 -- a replay that is given up leaves the number
-give_up : (Telling : Type 0) (lists : Remembered) (servers size : ℕ) (told later : Told) (old new : TablesView) (c : ℕ) (x : TxnView) (i : ℕ) (a : Answer)
+give_up : (Telling : Type 0) (lists : TrueBut) (servers size : ℕ) (told later : Told) (old new : TablesView) (c : ℕ) (x : TxnView) (i : ℕ) (a : Answer)
     (turn : GivesUp Telling lists servers size told later old new c x i a) → old.kv.number ≤ turn.mid.number
 give_up Telling lists servers size told later old new c x i a turn = let number = turn.number in omega (arith, number)
 
 -- calls that deviate on the map now do so on the tree now
-give_up_may : (Telling : Type 0) (lists : Remembered) (servers size : ℕ) (told later : Told) (old new : TablesView) (c : ℕ) (x : TxnView) (i : ℕ) (a : Answer)
+give_up_may : (Telling : Type 0) (lists : TrueBut) (servers size : ℕ) (told later : Told) (old new : TablesView) (c : ℕ) (x : TxnView) (i : ℕ) (a : Answer)
     (m : Machine) (t : Transaction)
     → GivesUp Telling lists servers size told later old new c x i a → m.settings.region ≡ size → StandsForTxn size told old.kv m.now x t → Telling × AreTrue
     size told lists old
@@ -473,7 +473,7 @@ give_up_may Telling lists servers size told later old new c x i a m t turn regio
     (turn.deviates (telling.0, telling.1, txn.tree.bytes) (telling.0, telling.1, txn.now.bytes) t.ops txn.sound m.now txn.now))
 
 -- the tables stay sound
-pub finals_sound : (Telling : Type 0) (lists : Remembered) (servers size : ℕ) (told later : Told) (old new : TablesView) (c : ℕ) (x : TxnView) (a : Answer) →
+pub finals_sound : (Telling : Type 0) (lists : TrueBut) (servers size : ℕ) (told later : Told) (old new : TablesView) (c : ℕ) (x : TxnView) (a : Answer) →
     AreSound old → of_client old.clients c ≡ Some x → Finals Telling lists servers size told later old new c x a → AreSound new
 finals_sound Telling lists servers size told later old new c x (answer.Committed n) sound here turn = ends_sound old new turn.mid c x sound here
     (finish_up Telling lists servers size told later old new c x n turn) turn.ends
@@ -482,7 +482,7 @@ finals_sound Telling lists servers size told later old new c x (Aborted' i box a
 finals_sound Telling lists servers size told later old new c x a sound here turn = stays_sound old new c sound turn.fails.stays
 
 -- the machine may answer so, and the tables stand for what it then is
-pub finals_stand : (Telling : Type 0) (lists : Remembered) (servers size : ℕ) (told later : Told) (old new : TablesView) (m : Machine) (c : ℕ) (x : TxnView)
+pub finals_stand : (Telling : Type 0) (lists : TrueBut) (servers size : ℕ) (told later : Told) (old new : TablesView) (m : Machine) (c : ℕ) (x : TxnView)
     (t : Transaction) (a : Answer)
     → AreSound old → m.settings.region ≡ size → m.settings.servers ≡ servers → TablesStand size told old m → TellsOn told later
     → of_client old.clients c ≡ Some x → get m.transactions c ≡ Some t → Telling × AreTrue size told lists old

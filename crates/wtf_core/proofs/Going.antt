@@ -21,7 +21,7 @@ use Rattle.wtf_model.specs.declared.event.Verb.{Verb}
 use Rattle.wtf_model.specs.declared.event.Verb.TheVariants as verb
 use Rattle.wtf_meta.specs.Contents.{Told}
 use Rattle.wtf_meta.specs.Maps.{metadata_at}
-use Rattle.wtf_region.specs.Cached.{Remembered}
+use Rattle.wtf_region.specs.Cached.{TrueBut}
 use Rattle.wtf_replay.specs.Views.{TxnView}
 use Rattle.wtf_replay.specs.Refusals.{call_refusal, try_refusal, step_refusal}
 use Rattle.wtf_replay.specs.Tried.{KeepsMaps}
@@ -31,7 +31,7 @@ use Rattle.wtf_clients.specs.Views.{BesideView, TablesView, of_client, of_label,
 use Rattle.wtf_clients.proofs.Lives.{live_upto}
 use Rattle.wtf_clients.proofs.ScanFrames.{same_maps}
 use Rattle.wtf_clients.specs.JobTurns.{KeepsOthers, RefusesJob, FreePlan, PlanTurn, Puts, PutTurn, DropsJob, DropTurn}
-use Rattle.wtf_core.specs.Views.{CoreView}
+use Rattle.wtf_core.specs.Views.{CoreView, KnowsLists}
 use Rattle.wtf_clients.specs.Turns.{Keeps, Stays, Refuses, Begins, Ends, Tries, Steps, Finals, LoneTurn, TxnTurn, ClientTurn}
 use Rattle.wtf_clients.specs.ScanTurns.{ScanTurn, PieceTurn, PieceFails, DoesTurn, CollectTurn, KeepsStore}
 use Rattle.wtf_core.specs.Turns.{Switches, LineTurn}
@@ -88,7 +88,7 @@ tries_goes old new c x (answer.Retry b n) h =
     record { maps = h.maps; more = let next = h.next_tx in omega (arith, next); saved = same_images old.beside new.beside h.beside }
 tries_goes old new c x a h = absurd h
 
-module _ (Telling : Type 0) (lists : Remembered) (servers size : ℕ) (told later : Told) (old new : TablesView) (c : ℕ) where
+module _ (Telling : Type 0) (lists : TrueBut) (servers size : ℕ) (told later : Told) (old new : TablesView) (c : ℕ) where
   steps_goes : (x : TxnView) (a : Answer) → Steps Telling lists servers size told later old new c x a → Goes old new
   steps_goes x (answer.Replayed i) h = keeps_goes old new c (Some h.later_one) h.keeps
   steps_goes x (Aborted' i box a) h = ends_goes old new old.kv c x h.ends
@@ -134,7 +134,7 @@ others_go old new j now h maps = record {
   saved = (ap (λ (b : BesideView). b.images) h.beside, ap (λ (b : BesideView). b.none) h.beside);
 }
 
-module _ (Telling : Type 0) (lists : Remembered) (servers size : ℕ) (told later : Told) (old new : TablesView) (j : ℕ) (kind : JobKind) (p : List ℕ)
+module _ (Telling : Type 0) (lists : TrueBut) (servers size : ℕ) (told later : Told) (old new : TablesView) (j : ℕ) (kind : JobKind) (p : List ℕ)
     (r : ℕ) where
   free_goes : (a : Answer) → FreePlan Telling lists servers size told later old new j kind p r a → Goes old new
   free_goes answer.Planned h = others_go old new j (Some h.job) h.plans.keeps (λ n le. ap (λ (s : Store Key Value). metadata_at s n) h.plans.kv)
@@ -242,10 +242,10 @@ module _ {S : Type 0} (kind : StoreKind S) (t : Span S) (old new : CoreView) (so
 
   pub line_goes : (e : Event) → e ≢ event.Save → LineTurn kind t old new e a → GoesLive old.tables new.tables
   line_goes (event.Client c v) ne h =
-      live (client_goes (TellsAll kind t.before) old.lists old.settings.servers old.settings.region (byte_at kind t.before) (byte_at kind t.after) old.tables
+      live (client_goes (TellsAll kind t.before) (KnowsLists kind t.before old) old.settings.servers old.settings.region (byte_at kind t.before) (byte_at kind t.after) old.tables
       new.tables c v a h.0)
   line_goes (event.Plan j job p r) ne h =
-      live (plan_goes (TellsAll kind t.before) old.lists old.settings.servers old.settings.region (byte_at kind t.before) (byte_at kind t.after) old.tables
+      live (plan_goes (TellsAll kind t.before) (KnowsLists kind t.before old) old.settings.servers old.settings.region (byte_at kind t.before) (byte_at kind t.after) old.tables
       new.tables j job p r a h.0)
   line_goes (event.Put j) ne h = live (put_goes old.tables new.tables j a h.0)
   line_goes (event.DropJob j) ne h = live (drop_goes old.tables new.tables j a h.0)

@@ -11,7 +11,7 @@ use Rattle.wtf_model.specs.declared.op.JobKind.{JobKind}
 use Rattle.wtf_model.specs.declared.event.Verb.{Verb}
 use Rattle.wtf_model.specs.declared.event.Verb.TheVariants as verb
 use Rattle.wtf_meta.specs.Contents.{Told}
-use Rattle.wtf_region.specs.Cached.{Remembered}
+use Rattle.wtf_region.specs.Cached.{TrueBut}
 use Rattle.wtf_replay.specs.Views.{TxnView}
 use Rattle.wtf_replay.specs.Refusals.{call_refusal, try_refusal, step_refusal}
 use Rattle.wtf_compact.specs.Jobs.{JobView}
@@ -74,7 +74,7 @@ same_rises : (old new : TablesView) → new ≡ old → Rises old new
 same_rises old new is = rises old new old.kv.number old.next_tx (ap (λ (t : TablesView). t.kv.number) is) (ap (λ (t : TablesView). t.next_tx) is)
     (still old.kv.number) (still old.next_tx)
 
-module _ (Telling : Type 0) (lists : Remembered) (servers size : ℕ) (told later : Told) (old new : TablesView) (j : ℕ) (kind : JobKind) (p : List ℕ)
+module _ (Telling : Type 0) (lists : TrueBut) (servers size : ℕ) (told later : Told) (old new : TablesView) (j : ℕ) (kind : JobKind) (p : List ℕ)
     (r : ℕ) where
   free_rises : (a : Answer) → FreePlan Telling lists servers size told later old new j kind p r a → Rises old new
   free_rises answer.Planned h = rises old new old.kv.number old.next_tx (ap (λ (s : Store Key Value). s.number) h.plans.kv) h.plans.keeps.next_tx
@@ -112,7 +112,7 @@ module _ (old new : TablesView) (j : ℕ) where
       by (Some x) g = rises old new old.kv.number old.next_tx (ap (λ (s : Store Key Value). s.number) g.kv) g.keeps.next_tx
           (still old.kv.number) (still old.next_tx)
 
-module _ (Telling : Type 0) (lists : Remembered) (servers size : ℕ) (told later : Told) (old new : TablesView) (c : ℕ) where
+module _ (Telling : Type 0) (lists : TrueBut) (servers size : ℕ) (told later : Told) (old new : TablesView) (c : ℕ) where
   steps_rise : (x : TxnView) (a : Answer) → Steps Telling lists servers size told later old new c x a → Rises old new
   steps_rise x (answer.Replayed i) h = keeps_rise old new c (Some h.later_one) h.keeps
   steps_rise x (Aborted' i box a) h = ends_rise old new old.kv c x (still old.kv.number) h.ends

@@ -142,7 +142,7 @@ module _ {S : Type 0} (kind : StoreKind S) (t : Span S) (k : KeeperSpan) (settin
   pub keeper_on : (e : Event) (a : Answer) → KeeperTurn kind t k settings old mid e a → KeeperTurn kind t k settings old new e a
   keeper_on event.Save (answer.Saved n) h = h
   keeper_on event.Save answer.FaultSave (inl h) = inl (record { out = h.out; untouched = h.untouched; beside = same ∙ h.beside })
-  keeper_on event.Save answer.FaultSave (inr h) = inr (record { hands = h.hands; rose = h.rose; beside = same ∙ h.beside })
+  keeper_on event.Save answer.FaultSave (inr h) = inr (record { hands = h.hands; rose = h.rose; refused = h.refused; beside = same ∙ h.beside })
   keeper_on event.Save a h = h
   keeper_on e a h = h
 

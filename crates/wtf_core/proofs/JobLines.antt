@@ -32,7 +32,7 @@ use Rattle.wtf_meta.specs.Maps.{Map, with, metadata_at}
 use Rattle.wtf_meta.specs.Trees.{LeadsTo, Stands}
 use Rattle.wtf_meta.proofs.Named.{region_of_bytes}
 use Rattle.wtf_meta.proofs.Telling.{TellsOn}
-use Rattle.wtf_region.specs.Cached.{Remembered}
+use Rattle.wtf_region.specs.Cached.{TrueBut}
 use Rattle.wtf_replay.specs.Tried.{KeepsVersions}
 use Rattle.wtf_image.specs.Savable.{AreBefore}
 use Rattle.wtf_compact.specs.Jobs.{JobView, job_edits, target_region}
@@ -81,7 +81,7 @@ module _ (old new : TablesView) (j : ℕ) (sound : AreSound old) where
   same_sound : new ≡ old → AreSound new
   same_sound is = subst AreSound (sym is) sound
 
-  module _ (Telling : Type 0) (lists : Remembered) (servers size : ℕ) (told later : Told) (kind : JobKind) (p : List ℕ) (r : ℕ) where
+  module _ (Telling : Type 0) (lists : TrueBut) (servers size : ℕ) (told later : Told) (kind : JobKind) (p : List ℕ) (r : ℕ) where
     free_sound : (a : Answer) → of_label old.beside.jobs j ≡ None → FreePlan Telling lists servers size told later old new j kind p r a → AreSound new
     free_sound answer.Planned none h =
         job_sound old new j (Some h.job) sound (plan_turned old new j sound kind p r h.job none h.plans)
@@ -140,7 +140,7 @@ module _ (old new : TablesView) (j : ℕ) (sound : AreSound old) where
           own
 
     -- ---- a plan
-    module _ (Telling : Type 0) (lists : Remembered) (servers : ℕ) (kind : JobKind) (p : List ℕ) (r : ℕ) (a : Answer)
+    module _ (Telling : Type 0) (lists : TrueBut) (servers : ℕ) (kind : JobKind) (p : List ℕ) (r : ℕ) (a : Answer)
         (region : m.settings.region ≡ size) (count : m.settings.servers ≡ servers) (telling : Telling × AreTrue size told lists old) where
       abbrev May : Answer → Type 0
       May b = (b ≡ plan_answer m j p r) ⊎ MayFailPlan m.settings.servers kind (plan_answer m j p r) b
@@ -223,7 +223,7 @@ module _ (old new : TablesView) (j : ℕ) (sound : AreSound old) where
             subst (λ b. TablesStand size later new (with_job m j kind p r b)) (sym h.answer) (same_stand h.same),
           )
 
-    pub plan_stands : (Telling : Type 0) (lists : Remembered) (servers : ℕ) (kind : JobKind) (p : List ℕ) (r : ℕ) (a : Answer)
+    pub plan_stands : (Telling : Type 0) (lists : TrueBut) (servers : ℕ) (kind : JobKind) (p : List ℕ) (r : ℕ) (a : Answer)
         → m.settings.region ≡ size → m.settings.servers ≡ servers → Telling × AreTrue size told lists old
         → PlanTurn Telling lists servers size told later old new j kind p r a
         → ((a ≡ plan_answer m j p r) ⊎ MayFailPlan m.settings.servers kind (plan_answer m j p r) a) × TablesStand size later new (with_job m j kind p r a)

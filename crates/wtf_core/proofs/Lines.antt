@@ -18,7 +18,7 @@ use Rattle.wtf_model.specs.Steps.{is_call_refusal, tried, stepped, called, with_
 use Rattle.wtf_log.proofs.StandingLaws.{OpsStandFor-length}
 use Rattle.wtf_meta.specs.Contents.{Told}
 use Rattle.wtf_meta.proofs.Telling.{TellsOn}
-use Rattle.wtf_region.specs.Cached.{Remembered}
+use Rattle.wtf_region.specs.Cached.{TrueBut}
 use Rattle.wtf_replay.specs.Views.{TxnView, is_live, is_full}
 use Rattle.wtf_replay.specs.Refusals.{call_refusal, try_refusal, step_refusal}
 use Rattle.wtf_replay.specs.Sounds.{tells_slice}
@@ -30,7 +30,7 @@ use Rattle.wtf_core.proofs.Plain.{refuses_sound, refuses_stand, begins_sound, be
 use Rattle.wtf_clients.proofs.Staying.{stays_sound}
 use Rattle.wtf_core.proofs.Ending.{tries_sound, steps_sound, finals_sound, tries_stand, steps_stand, finals_stand}
 
-module _ (Telling : Type 0) (lists : Remembered) (servers size : ℕ) (told later : Told) (old new : TablesView) (c : ℕ) (sound : AreSound old) where
+module _ (Telling : Type 0) (lists : TrueBut) (servers size : ℕ) (told later : Told) (old new : TablesView) (c : ℕ) (sound : AreSound old) where
   -- a line is refused, or keeps the tables sound by what it does
   sound_or : (r : Option Word) (P : Type 0) (a : Answer) → (P → AreSound new) → MatchOption r P (λ w. Refuses old new c w a) → AreSound new
   sound_or None P a f turn = f turn
@@ -65,7 +65,7 @@ module _ (Telling : Type 0) (lists : Remembered) (servers size : ℕ) (told late
   slot_sound (Some x) v a here turn = txn_sound x v a here turn
 
 -- the tables stay sound
-pub client_sound : (Telling : Type 0) (lists : Remembered) (servers size : ℕ) (told later : Told) (old new : TablesView) (c : ℕ) (v : Verb) (a : Answer)
+pub client_sound : (Telling : Type 0) (lists : TrueBut) (servers size : ℕ) (told later : Told) (old new : TablesView) (c : ℕ) (v : Verb) (a : Answer)
     → AreSound old → ClientTurn Telling lists servers size told later old new c v a → AreSound new
 client_sound Telling lists servers size told later old new c v a sound turn = slot_sound Telling lists servers size told later old new c sound
     (of_client old.clients c) v a refl turn
@@ -106,7 +106,7 @@ not_logged : (m : Machine) (c : ℕ) (t : Transaction) (o : Op (List ℕ)) (a : 
 not_logged m c t o a w is own =
     ap (λ r. called m c t o r) is ∙ ap (λ b. if b then with_transaction m c (logged t o (answer.Refused w)) else m) own
 
-module _ (Telling : Type 0) (lists : Remembered) (servers size : ℕ) (told later : Told) (old new : TablesView) (m : Machine) (c : ℕ) (sound : AreSound old)
+module _ (Telling : Type 0) (lists : TrueBut) (servers size : ℕ) (told later : Told) (old new : TablesView) (m : Machine) (c : ℕ) (sound : AreSound old)
     (region : m.settings.region ≡ size) (count : m.settings.servers ≡ servers)
     (st : TablesStand size told old m) (on : TellsOn told later) (telling : Telling × AreTrue size told lists old) where
   -- the machine may answer so to a client with this transaction, or none, and the tables stand for what it is then
@@ -172,7 +172,7 @@ module _ (Telling : Type 0) (lists : Remembered) (servers size : ℕ) (told late
   slot_stands (Some x) (Some t) v a here there slot turn = txn_stands x t v a here there slot turn
 
 -- and the machine may answer so, and the tables stand for what it then is
-pub client_stands : (Telling : Type 0) (lists : Remembered) (servers size : ℕ) (told later : Told) (old new : TablesView) (m : Machine) (c : ℕ) (v : Verb)
+pub client_stands : (Telling : Type 0) (lists : TrueBut) (servers size : ℕ) (told later : Told) (old new : TablesView) (m : Machine) (c : ℕ) (v : Verb)
     (a : Answer)
     → AreSound old → m.settings.region ≡ size → m.settings.servers ≡ servers → TablesStand size told old m → TellsOn told later → Telling × AreTrue size
     told lists old

@@ -18,7 +18,7 @@ use Rattle.wtf_meta.specs.Maps.{metadata_at}
 use Rattle.wtf_meta.proofs.MapBytes.{with_bytes}
 use Rattle.wtf_meta.proofs.Nothing.{nothing_kept}
 use Rattle.std.proofs.lemmas.List.Elements.{All-nil}
-use Rattle.wtf_region.specs.Cached.{Remembered}
+use Rattle.wtf_region.specs.Cached.{TrueBut}
 use Rattle.wtf_replay.specs.Views.{TxnView, begun, rebased}
 use Rattle.wtf_replay.specs.Insides.{TxnBytes}
 use Rattle.wtf_replay.specs.Refusals.{try_refusal}
@@ -90,7 +90,7 @@ IsLocal verb.Try = Unit {0}
 IsLocal verb.Abort = Unit {0}
 IsLocal v = ⊥
 
-pub local_names : (Telling : Type 0) (lists : Remembered) (servers size : ℕ) (told later : Told) (old new : TablesView) (c : ℕ) (v : Verb) (a : Answer) →
+pub local_names : (Telling : Type 0) (lists : TrueBut) (servers size : ℕ) (told later : Told) (old new : TablesView) (c : ℕ) (v : Verb) (a : Answer) →
     IsLocal v → AreSound old → ClientTurn Telling lists servers size told later old new c v a → NamesTables old new
 local_names Telling lists servers size told later old new c v a local sound turn P Q hole h = by (of_client old.clients c) v local refl turn
   where

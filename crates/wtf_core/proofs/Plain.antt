@@ -35,7 +35,7 @@ use Rattle.wtf_meta.specs.Sessions.{Holds}
 use Rattle.wtf_meta.specs.Calls.{Caller, cap_for}
 use Rattle.wtf_meta.specs.Trees.{Stands}
 use Rattle.wtf_meta.proofs.Telling.{TellsOn}
-use Rattle.wtf_region.specs.Cached.{Remembered}
+use Rattle.wtf_region.specs.Cached.{TrueBut}
 use Rattle.wtf_replay.specs.Views.{TxnView, begun, is_live}
 use Rattle.wtf_replay.specs.Refusals.{call_refusal}
 use Rattle.wtf_replay.specs.Fits.{IsFit}
@@ -177,7 +177,7 @@ all_answers size kv told x ops tree sound fit live stands =
 called_is : (m : Machine) (c : ℕ) (t : Transaction) (o : Op (List ℕ)) (a : Answer) → IsLogged a → called m c t o a ≡ with_transaction m c (logged t o a)
 called_is m c t o a h = ap (λ b. if b then with_transaction m c (logged t o a) else m) (is_true_of (is_logged a) h)
 
-module _ (Telling : Type 0) (lists : Remembered) (servers size : ℕ) (told later : Told) (old new : TablesView) (c : ℕ) (x : TxnView) (o : Op (List ℕ))
+module _ (Telling : Type 0) (lists : TrueBut) (servers size : ℕ) (told later : Told) (old new : TablesView) (c : ℕ) (x : TxnView) (o : Op (List ℕ))
     (a : Answer)
     (sound : AreSound old) (here : of_client old.clients c ≡ Some x) (calls : Calls Telling lists servers size told later old new c x o a) where
   -- the tables stay sound
@@ -240,7 +240,7 @@ module _ (size : ℕ) (kv : Store Key Value) (told : Told) (x : TxnView) (t : Tr
       (may (caller_at size x.tx (length (take x.replayed t.ops))) told
       (session_after (MAX_REGIONS * size) t.tree (take x.replayed t.ops)) refl ran.stands ran.holds)
 
-module _ (Telling : Type 0) (lists : Remembered) (servers size : ℕ) (told later : Told) (old new : TablesView) (c : ℕ) (x : TxnView) (o : Op (List ℕ))
+module _ (Telling : Type 0) (lists : TrueBut) (servers size : ℕ) (told later : Told) (old new : TablesView) (c : ℕ) (x : TxnView) (o : Op (List ℕ))
     (a : Answer)
     (sound : AreSound old) (here : of_client old.clients c ≡ Some x) (fails : CallFails Telling lists servers size told later old new c x o a) where
   -- a call that failed: the machine may answer so, and is then as it was

@@ -13,7 +13,7 @@ use Rattle.wtf_base.specs.declared.settings.Settings.{Settings}
 use Rattle.wtf_base.specs.Places.{Place}
 use Rattle.wtf_dev.specs.Each.{EachFollows}
 use Rattle.wtf_dev.specs.Store.{Range, StoreKind, KindLaws}
-use Rattle.wtf_replica.specs.Bytes.{byte_at}
+use Rattle.wtf_replica.specs.Bytes.{byte_at, shown_byte}
 use Rattle.wtf_replica.specs.Outs.{SameLengths}
 use Rattle.wtf_replica.specs.Spans.{Span}
 use Rattle.wtf_kv.specs.Stores.{Store, is_live}
@@ -41,7 +41,7 @@ use Rattle.wtf_meta.proofs.Weaker.{map_stays}
 use Rattle.wtf_region.specs.declared.dev.Dev.{Dev}
 use Rattle.wtf_region.specs.Apart.{lies_apart, are_apart}
 use Rattle.wtf_region.specs.Cached.{Remembered, CacheTrue}
-use Rattle.wtf_region.specs.Devs.{remembered, told_in}
+use Rattle.wtf_region.specs.Devs.{remembered, told_in, shown_in}
 use Rattle.wtf_region.specs.Reads.{IsBaseFault}
 use Rattle.wtf_replay.specs.Causes.{fault_answer}
 use Rattle.wtf_replay.specs.Insides.{lists_have}
@@ -209,10 +209,10 @@ facts_told {S} kind t old new n left tells d turn =
     λ P bytes. reads.slices P any_slice (λ v there. (kept_region P any_slice old.tables.kv new.tables.kv turn.prunes
     (λ m live. map_stays P P (λ qs h. h) (lists_have old.settings.region told P) any_slice (λ s h. refl) (metadata_at old.tables.kv m) (bytes.live m live))
     parts v there).base) in
-    let cache : CacheTrue (told_in kind d.before) d.before.settings.region tells.tables.punched (remembered d.before) =
-    subst (λ (ls : Remembered). CacheTrue (told_in kind d.before) d.before.settings.region tells.tables.punched ls) (sym d.remembered_before)
-    (subst (λ (s : Settings). CacheTrue (told_in kind d.before) s.region tells.tables.punched old.lists) (sym d.lent.settings_are)
-    (subst (λ (shelf : List S). CacheTrue (byte_at kind shelf) old.settings.region tells.tables.punched old.lists) was tells.tables.cache)) in
+    let cache : CacheTrue (shown_in kind d.before) d.before.settings.region tells.tables.punched (remembered d.before) =
+    subst (λ (ls : Remembered). CacheTrue (shown_in kind d.before) d.before.settings.region tells.tables.punched ls) (sym d.remembered_before)
+    (subst (λ (s : Settings). CacheTrue (shown_in kind d.before) s.region tells.tables.punched old.lists) (sym d.lent.settings_are)
+    (subst (λ (shelf : List S). CacheTrue (shown_byte kind shelf) old.settings.region tells.tables.punched old.lists) was tells.tables.cache)) in
     let named : ListSlices (is_told (told_in kind d.before)) any_slice reads.facts =
     subst (λ (shelf : List S). ListSlices (is_told (byte_at kind shelf)) any_slice reads.facts) was (slices (is_told told) tells.tables.names) in
     subst (λ (shelf : List S). TellLists (lists_in old.settings.region (byte_at kind shelf)) reads.facts) is

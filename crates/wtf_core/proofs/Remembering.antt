@@ -4,14 +4,14 @@ use Rattle.std.specs.Bool.{MatchBool}
 use Rattle.wtf_base.specs.declared.settings.Settings.{Settings}
 use Rattle.wtf_dev.specs.Each.{EachFollows}
 use Rattle.wtf_dev.specs.Store.{Range, StoreKind, KindLaws}
-use Rattle.wtf_replica.specs.Bytes.{byte_at}
+use Rattle.wtf_replica.specs.Bytes.{shown_byte}
 use Rattle.wtf_model.specs.declared.answer.Answer.{Answer}
 use Rattle.wtf_model.specs.declared.answer.Answer.TheVariants as answer
 use Rattle.wtf_model.specs.declared.answer.Word.TheVariants.{NoServer}
 use Rattle.wtf_region.specs.declared.dev.Dev.{Dev}
 use Rattle.wtf_region.specs.Apart.{with_ranges}
 use Rattle.wtf_region.specs.Cached.{CacheInside, CacheTrue}
-use Rattle.wtf_region.specs.Devs.{IsSoundDev, GoesOn, stores, remembered, told_in, inside_of}
+use Rattle.wtf_region.specs.Devs.{IsSoundDev, GoesOn, stores, remembered, shown_in, inside_of}
 use Rattle.wtf_region.specs.Inside.{is_inside}
 use Rattle.wtf_region.proofs.Frames.{CacheInside-on, CacheTrue-on}
 use Rattle.wtf_clients.specs.Views.{TablesView}
@@ -41,12 +41,12 @@ goes_keeps kind dev new {punched} old next goes settings was is = record {
       (subst (λ (st : Settings). CacheInside (is_inside kind (stores new) st) (remembered new)) settings
       (subst (λ (st : Settings). CacheInside (is_inside kind (stores new) st) (remembered new)) goes.settings goes.sound.lists));
   true_still = λ ranges h.
-      subst (CacheTrue (told_in kind new) old.settings.region (with_ranges ranges punched)) (sym is)
-      (subst (λ (st : Settings). CacheTrue (told_in kind new) st.region (with_ranges ranges punched) (remembered new)) settings
-      (subst (λ (st : Settings). CacheTrue (told_in kind new) st.region (with_ranges ranges punched) (remembered new)) goes.settings
+      subst (CacheTrue (shown_in kind new) old.settings.region (with_ranges ranges punched)) (sym is)
+      (subst (λ (st : Settings). CacheTrue (shown_in kind new) st.region (with_ranges ranges punched) (remembered new)) settings
+      (subst (λ (st : Settings). CacheTrue (shown_in kind new) st.region (with_ranges ranges punched) (remembered new)) goes.settings
       (goes.lists ranges
-      (subst (λ (st : Settings). CacheTrue (told_in kind dev) st.region ranges (remembered dev)) (sym settings)
-      (subst (CacheTrue (told_in kind dev) old.settings.region ranges) (sym was) h)))));
+      (subst (λ (st : Settings). CacheTrue (shown_in kind dev) st.region ranges (remembered dev)) (sym settings)
+      (subst (CacheTrue (shown_in kind dev) old.settings.region ranges) (sym was) h)))));
 }
 
 -- a line that is lent no store leaves them
@@ -54,7 +54,7 @@ pub still_keeps : {S : Type 0} (kind : StoreKind S) (shelf : List S) (old next :
     → KeepsLists kind shelf shelf [] old next
 still_keeps kind shelf old next inside same = record {
   inside = subst (CacheInside (is_inside kind shelf old.settings)) (sym same) inside.lists;
-  true_still = λ ranges h. subst (CacheTrue (byte_at kind shelf) old.settings.region ranges) (sym same) h;
+  true_still = λ ranges h. subst (CacheTrue (shown_byte kind shelf) old.settings.region ranges) (sym same) h;
 }
 
 -- and so does a save
@@ -64,7 +64,7 @@ pub save_keeps : {S : Type 0} {kind : StoreKind S} → KindLaws kind → (before
 save_keeps {kind = kind} laws before after each old next enough inside same = record {
   inside = subst (CacheInside (is_inside kind after old.settings)) (sym same) (CacheInside-on laws each old.settings enough old.lists inside.lists);
   true_still = λ ranges h.
-      subst (CacheTrue (byte_at kind after) old.settings.region ranges) (sym same) (CacheTrue-on laws each old.settings enough old.settings.region ranges
+      subst (CacheTrue (shown_byte kind after) old.settings.region ranges) (sym same) (CacheTrue-on laws each old.settings enough old.settings.region ranges
       old.lists inside.lists h);
 }
 

@@ -7,7 +7,7 @@ use Rattle.wtf_replica.specs.Downs.{is_down}
 use Rattle.wtf_replica.specs.Spans.{span}
 use Rattle.wtf_region.specs.declared.dev.Dev.{Dev}
 use Rattle.wtf_region.specs.Cached.{CacheTrue}
-use Rattle.wtf_region.specs.Devs.{IsSoundDev, GoesOn, stores, remembered, told_in}
+use Rattle.wtf_region.specs.Devs.{IsSoundDev, GoesOn, stores, remembered, told_in, shown_in}
 use Rattle.wtf_replica.proofs.Bytes.{byte_at-kept}
 use Rattle.wtf_region.proofs.Spans.{goes_nowhere, goes_on}
 use Rattle.wtf_meta.specs.Contents.{Told}
@@ -102,8 +102,9 @@ module _ {S : Type 0} {kind : StoreKind S} (laws : KindLaws kind) (before after 
   Next = TellsTables kind (stores after) before.settings (remembered after) new × (IsSafe size told old → IsSafe size later new)
 
   -- the lists that are remembered are true still
-  stay : (ranges : List (ℕ × Range)) → CacheTrue told size ranges (remembered before) → CacheTrue later size ranges (remembered after)
-  stay ranges h = subst (λ (s : Settings). CacheTrue later s.region ranges (remembered after)) goes.settings (goes.lists ranges h)
+  stay : (ranges : List (ℕ × Range)) → CacheTrue (shown_in kind before) size ranges (remembered before)
+      → CacheTrue (shown_in kind after) size ranges (remembered after)
+  stay ranges h = subst (λ (s : Settings). CacheTrue (shown_in kind after) s.region ranges (remembered after)) goes.settings (goes.lists ranges h)
 
   same_next : new ≡ old → Next
   same_next same = (

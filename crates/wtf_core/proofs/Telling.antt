@@ -18,7 +18,7 @@ use Rattle.wtf_values.specs.declared.region.RegionValue.{RegionValue}
 use Rattle.wtf_values.specs.declared.region.Spill.{Spill}
 use Rattle.wtf_values.specs.declared.value.Value.{Value}
 use Rattle.wtf_values.specs.declared.value.Value.TheVariants as value
-use Rattle.wtf_replica.specs.Bytes.{told_by, byte_at}
+use Rattle.wtf_replica.specs.Bytes.{told_by, byte_at, shown_byte}
 use Rattle.wtf_replica.specs.Spans.{Span, span}
 use Rattle.wtf_replica.proofs.Bytes.{byte_at-within, byte_at-kept, told_inside}
 use Rattle.wtf_image.specs.Rules.{size_in}
@@ -218,8 +218,8 @@ module _ {S : Type 0} (kind : StoreKind S) (t : Span S) (old answered : CoreView
 
 -- ---- the core before the first line
 
-true_none : (told : Told) (size : ℕ) (lists : Remembered) → lists ≡ [] → CacheTrue told size [] lists
-true_none told size lists none = subst (CacheTrue told size []) (sym none) (λ e there. absurd (nothing_in e there))
+true_none : (shown : Told) (size : ℕ) (lists : Remembered) → lists ≡ [] → CacheTrue shown size [] lists
+true_none shown size lists none = subst (CacheTrue shown size []) (sym none) (λ e there. absurd (nothing_in e there))
 
 -- what a job's value names it has of the slice of its base too
 own_bytes : (P : List Place → Bool) (v : Option RegionValue) → MaybeBytes P any_slice v → OwnBytes P v
@@ -240,7 +240,7 @@ told_first kind shelf core named none all =
           all = all;
           punched = [];
           lie = All-nil _;
-          cache = true_none told size core.lists none;
+          cache = true_none (shown_byte kind shelf) size core.lists none;
           names = listed (is_told told);
           away = listed (are_apart []);
         };
@@ -310,7 +310,7 @@ told_loaded kind shelf bytes core sound of_it all t image =
         all = all;
         punched = [];
         lie = All-nil _;
-        cache = true_none told size core.lists of_it.lists;
+        cache = true_none (shown_byte kind shelf) size core.lists of_it.lists;
         names = names;
         away = tables_weaker size told (is_told told) (are_apart []) (λ qs is. apart_none qs) core.tables names;
       };

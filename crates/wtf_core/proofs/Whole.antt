@@ -36,7 +36,7 @@ use Rattle.wtf_meta.specs.Contents.{Told}
 use Rattle.wtf_meta.specs.Trees.{Stands}
 use Rattle.wtf_meta.proofs.Telling.{TellsOn}
 use Rattle.wtf_region.specs.declared.dev.Dev.{Dev}
-use Rattle.wtf_region.specs.Cached.{Remembered}
+use Rattle.wtf_region.specs.Cached.{TrueBut}
 use Rattle.wtf_region.specs.Devs.{stores}
 use Rattle.wtf_region.specs.Inside.{is_inside}
 use Rattle.wtf_clients.specs.JobTurns.{PlanTurn, PutTurn}
@@ -61,7 +61,7 @@ use Rattle.wtf_core.specs.Answers.{IsEvent}
 use Rattle.wtf_core.specs.Standing.{StandsFor}
 use Rattle.wtf_core.specs.Telling.{TellsCore}
 use Rattle.wtf_core.specs.Turns.{ServerTurn, Switches, LineTurn}
-use Rattle.wtf_core.specs.Views.{CoreView}
+use Rattle.wtf_core.specs.Views.{CoreView, KnowsLists}
 use Rattle.wtf_core.proofs.Aged.{line_aged, planned_free, kinds_of, scans_on}
 use Rattle.wtf_core.proofs.Answering.{server_plain}
 use Rattle.wtf_core.proofs.Growth.{Rises, stays_rise, saves_rise, plan_rises, put_rises, drop_rises, client_rises}
@@ -228,7 +228,7 @@ module _ {S : Type 0} (kind : StoreKind S) (t : Span S) (old new : CoreView) (m 
   size = old.settings.region
 
   -- the lists that are remembered
-  lists : AreTrue size told old.lists old.tables
+  lists : AreTrue size told (KnowsLists kind t.before old) old.tables
   lists = record { ranges = tells.tables.punched; cache = tells.tables.cache; away = tells.tables.away }
 
   region : m.settings.region ≡ old.settings.region
@@ -275,7 +275,7 @@ module _ {S : Type 0} (kind : StoreKind S) (t : Span S) (old new : CoreView) (m 
 
   client_event : (c : ℕ) (v : Verb) → LineTurn kind t old new (event.Client c v) a → IsEvent later new m (event.Client c v) a
   client_event c v h =
-      let both = client_stands Telling old.lists old.settings.servers size told later old.tables new.tables m c v a sound region count stands.tables on
+      let both = client_stands Telling (KnowsLists kind t.before old) old.settings.servers size told later old.tables new.tables m c v a sound region count stands.tables on
       (tells.tables.all, lists) h.0 in
       record {
         may = both.0;
@@ -285,13 +285,13 @@ module _ {S : Type 0} (kind : StoreKind S) (t : Span S) (old new : CoreView) (m 
 
   plan_event : (j : ℕ) (job : JobKind) (p : List ℕ) (r : ℕ) → LineTurn kind t old new (event.Plan j job p r) a → IsEvent later new m (event.Plan j job p r) a
   plan_event j job p r h =
-      let both = plan_stands old.tables new.tables j sound size told later m stands.tables on Telling old.lists old.settings.servers job p r a
+      let both = plan_stands old.tables new.tables j sound size told later m stands.tables on Telling (KnowsLists kind t.before old) old.settings.servers job p r a
       region count (tells.tables.all, lists) h.0 in
       record {
         may = both.0;
         stands = stands_by (event.Plan j job p r) tt
             (λ is. label_none size told old.tables.kv (of_label old.tables.beside.jobs j) (get m.jobs j) (stands.tables.jobs j)
-            (planned_free old.tables new.tables j sound Telling old.lists old.settings.servers size told later job p r a h.0 is))
+            (planned_free old.tables new.tables j sound Telling (KnowsLists kind t.before old) old.settings.servers size told later job p r a h.0 is))
             h (rest_settings h.1) (rest_replicas h.1) (ap (λ (x : Machine). x.settings) (with_job-rest m j job p r a))
             (is_down-event m (event.Plan j job p r) a) both.1;
       }
@@ -540,10 +540,10 @@ module _ {S : Type 0} (kind : StoreKind S) (t : Span S) (old new : CoreView) (a 
 
   pub line_rises : (e : Event) → LineTurn kind t old new e a → Rises old.tables new.tables
   line_rises (event.Client c v) h =
-      client_rises (TellsAll kind t.before) old.lists old.settings.servers old.settings.region (byte_at kind t.before) (byte_at kind t.after) old.tables
+      client_rises (TellsAll kind t.before) (KnowsLists kind t.before old) old.settings.servers old.settings.region (byte_at kind t.before) (byte_at kind t.after) old.tables
       new.tables c v a h.0
   line_rises (event.Plan j job p r) h =
-      plan_rises (TellsAll kind t.before) old.lists old.settings.servers old.settings.region (byte_at kind t.before) (byte_at kind t.after) old.tables
+      plan_rises (TellsAll kind t.before) (KnowsLists kind t.before old) old.settings.servers old.settings.region (byte_at kind t.before) (byte_at kind t.after) old.tables
       new.tables j job p r a h.0
   line_rises (event.Put j) h = put_rises old.tables new.tables j a h.0
   line_rises (event.DropJob j) h = drop_rises old.tables new.tables j a h.0
@@ -561,7 +561,7 @@ pub sound_either : {E : Type 0} (r : Result Answer E) (P : Answer → Type 0) (Q
 sound_either (Ok a) P Q ok err on = on a ok
 sound_either (Err why) P Q ok err on = err
 
-pub sound_after : {E : Type 0} (r : Result Answer E) (Telling : Type 0) (lists : Remembered) (servers size : ℕ) (told later : Told) (old new : TablesView)
+pub sound_after : {E : Type 0} (r : Result Answer E) (Telling : Type 0) (lists : TrueBut) (servers size : ℕ) (told later : Told) (old new : TablesView)
     (c : ℕ) (v : Verb) → AreSound old
     → IfOk r (λ a. ClientTurn Telling lists servers size told later old new c v a) → OnErr r (AreSound new) → AreSound new
 sound_after r Telling lists servers size told later old new c v sound ok err =
@@ -569,7 +569,7 @@ sound_after r Telling lists servers size told later old new c v sound ok err =
     (λ a turn. client_sound Telling lists servers size told later old new c v a sound turn)
 
 -- and after a dump
-pub sound_dumped : {E : Type 0} (r : Result Answer E) (servers size : ℕ) (told : Told) (lists : Remembered) (old new : TablesView) (p : List ℕ) → AreSound old
+pub sound_dumped : {E : Type 0} (r : Result Answer E) (servers size : ℕ) (told : Told) (lists : TrueBut) (old new : TablesView) (p : List ℕ) → AreSound old
     → IfOk r (Dumps servers size told lists old new p) → OnErr r (AreSound new) → AreSound new
 sound_dumped r servers size told lists old new p sound ok err = sound_either r (Dumps servers size told lists old new p) (AreSound new) ok err
     (λ a turn. stays_sound old new 0 sound (turn.stays 0))
@@ -584,7 +584,7 @@ sound_saved r Up old new sound ok err = sound_either r (SaveTurn Up old new) (Ar
     kept (Err e) h = subst AreSound (sym h) sound
 
 -- after a plan of a job
-pub sound_planned : {E : Type 0} (r : Result Answer E) (Telling : Type 0) (lists : Remembered) (servers size : ℕ) (told later : Told) (old new : TablesView)
+pub sound_planned : {E : Type 0} (r : Result Answer E) (Telling : Type 0) (lists : TrueBut) (servers size : ℕ) (told later : Told) (old new : TablesView)
     (j : ℕ) (kind : JobKind) (p : List ℕ) (region : ℕ) → AreSound old
     → IfOk r (PlanTurn Telling lists servers size told later old new j kind p region) → OnErr r (AreSound new) → AreSound new
 sound_planned r Telling lists servers size told later old new j kind p region sound ok err =

@@ -22,7 +22,7 @@ use Rattle.wtf_model.specs.Tree.{Tree, rows_of}
 use Rattle.wtf_meta.specs.Contents.{Told}
 use Rattle.wtf_meta.specs.Trees.{Stands}
 use Rattle.wtf_clients.specs.Views.{metadata_now}
-use Rattle.wtf_core.specs.Views.{CoreView, lent_of}
+use Rattle.wtf_core.specs.Views.{CoreView, lent_of, KnowsLists}
 use Rattle.wtf_clients.specs.Asked.{IsLent}
 use Rattle.wtf_clients.specs.JobTurns.{PlanTurn, PutTurn, DropTurn}
 use Rattle.wtf_clients.specs.ScanTurns.{ScanTurn, PieceTurn, CollectTurn}
@@ -68,11 +68,11 @@ pub record IsByDevices {S : Type 0} (kind : StoreKind S) (t : Span S) (old new :
 module _ {S : Type 0} (kind : StoreKind S) (t : Span S) where
   abbrev pub LineTurn : CoreView → CoreView → Event → Answer → Type 0
   LineTurn old new (event.Client c v) a =
-      ClientTurn (TellsAll kind t.before) old.lists old.settings.servers old.settings.region (byte_at kind t.before) (byte_at kind t.after) old.tables
+      ClientTurn (TellsAll kind t.before) (KnowsLists kind t.before old) old.settings.servers old.settings.region (byte_at kind t.before) (byte_at kind t.after) old.tables
       new.tables c v a
       × (new ≡ record old { tables = new.tables; lists = new.lists })
   LineTurn old new (event.Plan j job p r) a =
-      PlanTurn (TellsAll kind t.before) old.lists old.settings.servers old.settings.region (byte_at kind t.before) (byte_at kind t.after) old.tables new.tables
+      PlanTurn (TellsAll kind t.before) (KnowsLists kind t.before old) old.settings.servers old.settings.region (byte_at kind t.before) (byte_at kind t.after) old.tables new.tables
       j job p r a
       × (new ≡ record old { tables = new.tables; lists = new.lists })
   LineTurn old new (event.Put j) a = PutTurn old.tables new.tables j a × (new ≡ record old { tables = new.tables })
@@ -87,7 +87,7 @@ module _ {S : Type 0} (kind : StoreKind S) (t : Span S) where
   LineTurn old new (event.Down k) a = ServerTurn old new k true a
   LineTurn old new (event.Up k) a = ServerTurn old new k false a
   LineTurn old new (event.Dump p) a =
-      Dumps old.settings.servers old.settings.region (byte_at kind t.before) old.lists old.tables new.tables p a
+      Dumps old.settings.servers old.settings.region (byte_at kind t.before) (KnowsLists kind t.before old) old.tables new.tables p a
       × (new ≡ record old { tables = new.tables; lists = new.lists })
   LineTurn old new event.Tree a = ShowsTree old.settings.region old.tables.kv a × (new ≡ old) × IsTreeAnswer a
   LineTurn old new event.Save a =

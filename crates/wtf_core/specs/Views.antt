@@ -1,8 +1,10 @@
 -- What contracts see of a core.
-use Rattle.std.specs.Prelude.{Bool}
+use Rattle.std.specs.Prelude.{Bool, List}
 use Rattle.wtf_base.specs.declared.settings.Settings.{Settings}
+use Rattle.wtf_dev.specs.Store.{StoreKind}
 use Rattle.wtf_replica.specs.declared.replicas.Replicas.{Replicas}
-use Rattle.wtf_region.specs.Cached.{Remembered}
+use Rattle.wtf_replica.specs.Bytes.{shown_byte}
+use Rattle.wtf_region.specs.Cached.{Remembered, TrueBut, CacheTrue}
 use Rattle.wtf_clients.specs.Asked.{Lending, lending}
 pub use Rattle.wtf_clients.specs.Views.{Clients, of_client, BesideView, unsaved, TablesView, metadata_now}
 
@@ -18,3 +20,7 @@ pub record CoreView : Type 0 where
 -- what a line of it is lent
 abbrev pub lent_of : CoreView → Lending
 lent_of core = lending core.settings core.lists
+
+-- what is known over these stores of the lists that the core remembers: each is true, but those of slices of which a byte lies in these ranges
+abbrev pub KnowsLists : {S : Type 0} → StoreKind S → List S → CoreView → TrueBut
+KnowsLists kind shelf core ranges = CacheTrue (shown_byte kind shelf) core.settings.region ranges core.lists

@@ -280,7 +280,7 @@ impl Core {
             (scene shelf.old (K.view keeper.old) self.old)
             (scene shelf.new (K.view keeper.new) self.new) event.now) }
         ensures kept { IfOk result (Keeps S.kind
-            (keeper_span K.view K.follows keeper.old keeper.new)
+            (keeper_span K.view K.follows K.refused keeper.old keeper.new)
             (scene shelf.old (K.view keeper.old) self.old)
             (scene shelf.new (K.view keeper.new) self.new) event.now) }
         ensures told { IfOk result (GoesOnTold S.kind
@@ -333,7 +333,7 @@ impl Core {
             (scene shelf.old (K.view keeper.old) self.old)
             (scene shelf.new (K.view keeper.new) self.new) event.Save) }
         ensures kept { IfOk result (Keeps S.kind
-            (keeper_span K.view K.follows keeper.old keeper.new)
+            (keeper_span K.view K.follows K.refused keeper.old keeper.new)
             (scene shelf.old (K.view keeper.old) self.old)
             (scene shelf.new (K.view keeper.new) self.new) event.Save) }
         ensures told { IfOk result (GoesOnTold S.kind
@@ -373,7 +373,7 @@ impl Core {
             (span (is_down self.old.replicas) shelf.old shelf.new) self.old self.new event.now) }
         ensures keeper { IfOk result (KeeperTurn S.kind
             (span (is_down self.old.replicas) shelf.old shelf.new)
-            (keeper_span K.view K.follows keeper.old keeper.new) self.old.settings
+            (keeper_span K.view K.follows K.refused keeper.old keeper.new) self.old.settings
             self.old.tables self.new.tables event.now) }
         ensures untouched { OnErr result (keeper.new ≡ keeper.old) }
         ensures sure { IsTrue (takes_no_memory event.now) → IsOk result }
@@ -428,7 +428,7 @@ impl Core {
             event.Save) }
         ensures keeper { IfOk result (KeeperTurn S.kind
             (span (is_down self.old.replicas) shelf.old shelf.new)
-            (keeper_span K.view K.follows keeper.old keeper.new) self.old.settings
+            (keeper_span K.view K.follows K.refused keeper.old keeper.new) self.old.settings
             self.old.tables self.new.tables event.Save) }
         ensures untouched { OnErr result (keeper.new ≡ keeper.old) }
         ensures err { OnErr result (IsAlike self.old.tables self.new.tables) }

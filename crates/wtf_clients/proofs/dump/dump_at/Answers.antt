@@ -3,7 +3,7 @@ use Rattle.wtf_values.specs.declared.value.Node.TheVariants.{Folder, File}
 use Rattle.wtf_meta.specs.FileEdits.{file_of}
 use Rattle.wtf_meta.specs.Maps.{Map, Edits, with, metadata_at, seen}
 use Rattle.wtf_index.specs.Checks.{stands_at}
-use Rattle.wtf_region.specs.Devs.{remembered, told_in}
+use Rattle.wtf_region.specs.Devs.{told_in, RemembersTrue}
 use Rattle.wtf_replay.specs.Views.{untouched}
 use Rattle.wtf_clients.specs.Dumped.{IsShownFile, LacksFile}
 use Rattle.wtf_clients.proofs.Dumping.{dumps_none, dumps_folder, dumps_file}
@@ -17,7 +17,7 @@ returns-in_default-clause-shows g c =
     let first : c.in-Ok.at ≡ untouched c.args.number = let e = c.in-Ok.ensures in cc in
     let there : stands_at w c.args.p.now ≡ None = sym (ap (λ a. stands_at (seen kv a) c.args.p.now) first) ∙ sym c.in-Ok-look_up.ensures.value
     ∙ c.in_default.is in
-    dumps_none dev.settings.region (told_in g.S.SliceStore.kind dev) (remembered dev) w c.args.p.now there
+    dumps_none dev.settings.region (told_in g.S.SliceStore.kind dev) (RemembersTrue g.S.SliceStore.kind dev) w c.args.p.now there
 
 pub returns-in-Folder-clause-shows : goal.returns-in-Folder-clause-shows
 returns-in-Folder-clause-shows g c =
@@ -27,7 +27,7 @@ returns-in-Folder-clause-shows g c =
     let first : c.in-Ok.at ≡ untouched c.args.number = let e = c.in-Ok.ensures in cc in
     let there : stands_at w c.args.p.now ≡ Some Folder = sym (ap (λ a. stands_at (seen kv a) c.args.p.now) first) ∙ sym c.in-Ok-look_up.ensures.value
     ∙ (c.in-Some.is ∙ ap Some c.in-Folder.is) in
-    dumps_folder dev.settings.region (told_in g.S.SliceStore.kind dev) (remembered dev) w c.args.p.now there
+    dumps_folder dev.settings.region (told_in g.S.SliceStore.kind dev) (RemembersTrue g.S.SliceStore.kind dev) w c.args.p.now there
 
 pub returns-in-Ok-dump_file-clause-shows : goal.returns-in-Ok-dump_file-clause-shows
 returns-in-Ok-dump_file-clause-shows g c =
@@ -44,8 +44,8 @@ returns-in-Ok-dump_file-clause-shows g c =
     let same : seen kv at ≡ w = ap (λ (cs : Edits). with cs (metadata_at kv at.base)) changes ∙ ap (metadata_at kv) base in
     let there : stands_at w c.args.p.now ≡ Some (File i) = sym (ap (λ a. stands_at (seen kv a) c.args.p.now) first) ∙ sym c.in-Ok-look_up.ensures.value
     ∙ (c.in-Some.is ∙ ap Some c.in-File.is) in
-    dumps_file dev.settings.region told (remembered dev) w c.args.p.now i c.in-Ok-dump_file.answer there
-    (subst (λ (v : Map). IsShownFile dev.settings.region told (remembered dev) v i c.in-Ok-dump_file.answer) same c.in-Ok-dump_file.ensures.shows)
+    dumps_file dev.settings.region told (RemembersTrue g.S.SliceStore.kind dev) w c.args.p.now i c.in-Ok-dump_file.answer there
+    (subst (λ (v : Map). IsShownFile dev.settings.region told (RemembersTrue g.S.SliceStore.kind dev) v i c.in-Ok-dump_file.answer) same c.in-Ok-dump_file.ensures.shows)
 
 pub returns-in-Err-dump_file-clause-fault : goal.returns-in-Err-dump_file-clause-fault
 returns-in-Err-dump_file-clause-fault g c =

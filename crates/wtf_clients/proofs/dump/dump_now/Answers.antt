@@ -5,7 +5,7 @@ use Rattle.wtf_kv.specs.Stores.{Store}
 use Rattle.wtf_values.specs.declared.key.Key.{Key}
 use Rattle.wtf_values.specs.declared.value.Value.{Value}
 use Rattle.wtf_meta.specs.Maps.{Map, metadata_at}
-use Rattle.wtf_region.specs.Devs.{remembered, told_in}
+use Rattle.wtf_region.specs.Devs.{told_in, RemembersTrue}
 use Rattle.wtf_clients.specs.Dumped.{IsDumped, LacksDump}
 use Rattle.wtf_clients.proofs.dump.dump_now.Goals as goal
 
@@ -15,7 +15,7 @@ returns-clause-shows g c =
     let dev = c.args.dev.now in
     let same : metadata_at c.pin.new.self c.number-number.result ≡ metadata_at kv kv.number =
     ap (λ (s : Store Key Value). metadata_at s c.number-number.result) c.in_default.ensures.ok ∙ ap (metadata_at kv) c.number-number.ensures.number in
-    subst (λ (w : Map). IfOk c.dump_at-shown.result (IsDumped dev.settings.region (told_in g.S.SliceStore.kind dev) (remembered dev) w c.args.p.now)) same
+    subst (λ (w : Map). IfOk c.dump_at-shown.result (IsDumped dev.settings.region (told_in g.S.SliceStore.kind dev) (RemembersTrue g.S.SliceStore.kind dev) w c.args.p.now)) same
     c.dump_at-shown.ensures.shows
 
 pub returns-clause-fault : goal.returns-clause-fault

@@ -7,7 +7,7 @@ use Rattle.wtf_model.specs.declared.answer.Word.TheVariants.{NoTx}
 use Rattle.wtf_model.specs.declared.event.Event.TheVariants as event
 use Rattle.wtf_model.specs.declared.event.Verb.TheVariants as verb
 use Rattle.wtf_meta.specs.Bytes.{any_slice}
-use Rattle.wtf_region.specs.Devs.{stores, remembered, between}
+use Rattle.wtf_region.specs.Devs.{stores, remembered, between, RemembersTrue}
 use Rattle.wtf_region.specs.Inside.{is_inside}
 use Rattle.wtf_replay.specs.Causes.{fault_answer}
 use Rattle.wtf_replay.specs.Views.{TxnView}
@@ -112,11 +112,11 @@ returns-in-Err-clause-turn g c =
     let lent = c.get_mut.follows.lender y in
     let sets : Sets c.args.c (Some y) old.clients lent.entries = written c.args.c at.clients lent x y there (c.get_mut.follows.holds y) in
     let why = c.in-Err.why in
-    subst (λ (t : TablesView). IfOk c.answer_to.result (λ a. ClientTurn (TellsAll kind (stores dev)) (remembered dev) dev.settings.servers dev.settings.region
+    subst (λ (t : TablesView). IfOk c.answer_to.result (λ a. ClientTurn (TellsAll kind (stores dev)) (RemembersTrue kind dev) dev.settings.servers dev.settings.region
     (byte_at kind (stores dev)) (byte_at kind (stores c.call.new.dev)) t (record
     { kv = at.kv; next_tx = at.next_tx; clients = lent.entries; beside = at.beside }) c.args.c (verb.Call c.args.op) a)) c.self.view_is
     (if_ok c.answer_to.result (λ a. fault_answer why ≡ Some a) _ c.answer_to.ensures.answer
-    (λ a is. call_failed (TellsAll kind (stores dev)) (remembered dev) dev.settings.servers dev.settings.region (byte_at kind (stores dev))
+    (λ a is. call_failed (TellsAll kind (stores dev)) (RemembersTrue kind dev) dev.settings.servers dev.settings.region (byte_at kind (stores dev))
     (byte_at kind (stores c.call.new.dev)) old lent.entries c.args.c x y c.args.op a why there sets
     (c.in-Err.ensures.call.err (memory_none why a is)) (not_refused (c.call.new.dev ≡ dev) x why y c.in-Err.ensures.call.instead) is
     (λ z u s size st holds. stand_fail dev.settings.servers c.args.op _ why a is (c.in-Err.ensures.call.due z u s size st holds))))
@@ -179,10 +179,10 @@ returns-clause-turn g c =
     let lent = c.get_mut.follows.lender y in
     let sets : Sets c.args.c (Some y) old.clients lent.entries = written c.args.c at.clients lent x y there (c.get_mut.follows.holds y) in
     let did = c.in-Ok.ensures.call in
-    subst (λ (t : TablesView). ClientTurn (TellsAll kind (stores dev)) (remembered dev) dev.settings.servers dev.settings.region (byte_at kind (stores dev))
+    subst (λ (t : TablesView). ClientTurn (TellsAll kind (stores dev)) (RemembersTrue kind dev) dev.settings.servers dev.settings.region (byte_at kind (stores dev))
     (byte_at kind (stores c.call.new.dev)) t (record { kv = at.kv; next_tx = at.next_tx; clients = lent.entries; beside = at.beside }) c.args.c
     (verb.Call c.args.op) c.in-Ok.answer) c.self.view_is
-    (call_turn (TellsAll kind (stores dev)) (remembered dev) dev.settings.servers dev.settings.region (byte_at kind (stores dev))
+    (call_turn (TellsAll kind (stores dev)) (RemembersTrue kind dev) dev.settings.servers dev.settings.region (byte_at kind (stores dev))
     (byte_at kind (stores c.call.new.dev)) old lent.entries c.args.c x y c.args.op c.in-Ok.answer (c.call.new.dev ≡ dev) there sets
     did.instead (λ free. let made = did.made free in (
       made.own,
@@ -200,7 +200,7 @@ returns-in_default-clause-turn g c =
     let old : TablesView = record { kv = at.kv; next_tx = at.next_tx; clients = at.clients.entries; beside = at.beside } in
     let lent = c.get_mut.follows.lender-at-none in
     let none : of_client old.clients c.args.c ≡ None = sym c.get_mut.ensures.value ∙ ap option_copied_mut c.in_default.is in
-    subst (λ (t : TablesView). ClientTurn (TellsAll kind (stores dev)) (remembered dev) dev.settings.servers dev.settings.region (byte_at kind (stores dev))
+    subst (λ (t : TablesView). ClientTurn (TellsAll kind (stores dev)) (RemembersTrue kind dev) dev.settings.servers dev.settings.region (byte_at kind (stores dev))
     (byte_at kind (stores dev)) t (record { kv = at.kv; next_tx = at.next_tx; clients = lent.entries; beside = at.beside }) c.args.c (verb.Call c.args.op)
     (answer.Refused NoTx)) c.self.view_is
     (at_none (of_client old.clients c.args.c) _ _ none (refused_same old lent.entries c.args.c NoTx (ap (λ m. m.entries) c.get_mut.follows.holds-at-none)))

@@ -10,7 +10,7 @@ use Rattle.wtf_model.specs.declared.answer.Answer.TheVariants as answer
 use Rattle.wtf_model.specs.declared.answer.Word.TheVariants.{NoTx}
 use Rattle.wtf_model.specs.declared.event.Event.TheVariants as event
 use Rattle.wtf_meta.specs.Bytes.{any_slice}
-use Rattle.wtf_region.specs.Devs.{stores, remembered, between}
+use Rattle.wtf_region.specs.Devs.{stores, remembered, between, RemembersTrue}
 use Rattle.wtf_region.specs.Inside.{is_inside}
 use Rattle.wtf_replay.specs.Causes.{fault_answer}
 use Rattle.wtf_replay.specs.Tried.{commit_from}
@@ -123,12 +123,12 @@ returns-in-Err-clause-turn g c =
     let lent = c.get_mut.follows.lender y in
     let sets : Sets c.args.c (Some y) old.clients lent.entries = written c.args.c at.clients lent x y there (c.get_mut.follows.holds y) in
     let why = c.in-Err.why in
-    subst (λ (t : TablesView). IfOk c.answer_to.result (λ a. ClientTurn (TellsAll kind (stores dev)) (remembered dev) dev.settings.servers dev.settings.region
+    subst (λ (t : TablesView). IfOk c.answer_to.result (λ a. ClientTurn (TellsAll kind (stores dev)) (RemembersTrue kind dev) dev.settings.servers dev.settings.region
     (byte_at kind (stores dev)) (byte_at kind (stores c.commit.new.dev)) t (record
     { kv = c.commit.new.kv; next_tx = at.next_tx; clients = lent.entries; beside = at.beside }) c.args.c verb.Commit a)) c.self.view_is
     (if_ok c.answer_to.result (λ a. fault_answer why ≡ Some a) _ c.answer_to.ensures.answer
     (λ a is. at_some (of_client old.clients c.args.c) x _ _ there
-    (commit_failed (TellsAll kind (stores dev)) (remembered dev) dev.settings.servers dev.settings.region (byte_at kind (stores dev))
+    (commit_failed (TellsAll kind (stores dev)) (RemembersTrue kind dev) dev.settings.servers dev.settings.region (byte_at kind (stores dev))
     (byte_at kind (stores c.commit.new.dev)) old (record { kv = c.commit.new.kv; next_tx = at.next_tx; clients = lent.entries; beside = at.beside })
     c.commit.new.kv lent.entries c.args.c x y why a there sets c.in-Err.ensures.commit.err refl refl refl c.in-Err.ensures.commit.err_store.0
     c.in-Err.ensures.commit.maps c.in-Err.ensures.commit.err_store.1 c.in-Err.ensures.commit.pins is
@@ -181,9 +181,9 @@ returns-clause-turn g c =
     let did = c.in-Ok.ensures.commit in
     let gone = c.end.ensures in
     let mine = sets.is in
-    subst (λ (t : TablesView). ClientTurn (TellsAll kind (stores dev)) (remembered dev) dev.settings.servers dev.settings.region (byte_at kind (stores dev))
+    subst (λ (t : TablesView). ClientTurn (TellsAll kind (stores dev)) (RemembersTrue kind dev) dev.settings.servers dev.settings.region (byte_at kind (stores dev))
     (byte_at kind (stores c.commit.new.dev)) t c.end.new.self c.args.c verb.Commit c.in-Ok.answer) c.self.view_is
-    (commit_turn (TellsAll kind (stores dev)) (remembered dev) dev.settings.servers dev.settings.region (byte_at kind (stores dev))
+    (commit_turn (TellsAll kind (stores dev)) (RemembersTrue kind dev) dev.settings.servers dev.settings.region (byte_at kind (stores dev))
     (byte_at kind (stores c.commit.new.dev)) old c.end.new.self c.commit.new.kv lent.entries c.args.c x y c.in-Ok.answer there sets gone.clients gone.next
     gone.beside did.over did.maps did.pins
     (subst (λ o. IfSome o (λ z. c.end.new.self.kv ≡ record c.commit.new.kv { pins = remove_key (nat_eq z.at.base) c.commit.new.kv.pins })) mine gone.kv)
@@ -228,7 +228,7 @@ returns-in_default-clause-turn g c =
     let old : TablesView = record { kv = at.kv; next_tx = at.next_tx; clients = at.clients.entries; beside = at.beside } in
     let lent = c.get_mut.follows.lender-at-none in
     let none : of_client old.clients c.args.c ≡ None = sym c.get_mut.ensures.value ∙ ap option_copied_mut c.in_default.is in
-    subst (λ (t : TablesView). ClientTurn (TellsAll kind (stores dev)) (remembered dev) dev.settings.servers dev.settings.region (byte_at kind (stores dev))
+    subst (λ (t : TablesView). ClientTurn (TellsAll kind (stores dev)) (RemembersTrue kind dev) dev.settings.servers dev.settings.region (byte_at kind (stores dev))
     (byte_at kind (stores dev)) t (record { kv = at.kv; next_tx = at.next_tx; clients = lent.entries; beside = at.beside }) c.args.c verb.Commit
     (answer.Refused NoTx)) c.self.view_is
     (at_none (of_client old.clients c.args.c) _ _ none (refused_same old lent.entries c.args.c NoTx (ap (λ m. m.entries) c.get_mut.follows.holds-at-none)))

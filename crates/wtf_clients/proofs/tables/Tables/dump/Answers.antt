@@ -3,7 +3,7 @@ use Rattle.wtf_replica.specs.Bytes.{byte_at}
 use Rattle.wtf_meta.specs.Maps.{metadata_at}
 use Rattle.wtf_model.specs.declared.event.Event.TheVariants as event
 use Rattle.wtf_meta.specs.Bytes.{any_slice}
-use Rattle.wtf_region.specs.Devs.{stores, remembered, between}
+use Rattle.wtf_region.specs.Devs.{stores, remembered, between, RemembersTrue}
 use Rattle.wtf_region.specs.Inside.{is_inside}
 use Rattle.wtf_replay.specs.Causes.{fault_answer}
 use Rattle.wtf_clients.specs.Views.{TablesView, metadata_now}
@@ -55,13 +55,13 @@ returns-in-Ok-clause-turn g c =
       next_tx = refl;
       beside = refl;
     } in
-    subst (λ (t : TablesView). Dumps dev.settings.servers dev.settings.region (byte_at kind (stores dev)) (remembered dev) t after c.args.p.now
+    subst (λ (t : TablesView). Dumps dev.settings.servers dev.settings.region (byte_at kind (stores dev)) (RemembersTrue kind dev) t after c.args.p.now
     c.in-Ok.answer) c.self.view_is
     (record {
       stays = stays;
       uncollected = λ n e. subst IsDumpAnswer e c.in-Ok.ensures.answered;
       shows = λ kept tx k t st. inl
-          (c.in-Ok.ensures.shows (true_now old dev.settings.region (byte_at kind (stores dev)) (remembered dev) kept) tx k t st);
+          (c.in-Ok.ensures.shows (true_now old dev.settings.region (byte_at kind (stores dev)) (RemembersTrue kind dev) kept) tx k t st);
     })
 
 pub returns-in-Ok-clause-serves : goal.returns-in-Ok-clause-serves
@@ -112,7 +112,7 @@ returns-in-Err-clause-turn g c =
       beside = refl;
     } in
     let why = c.in-Err.why in
-    subst (λ (t : TablesView). IfOk c.answer_to.result (Dumps dev.settings.servers dev.settings.region (byte_at kind (stores dev)) (remembered dev) t after
+    subst (λ (t : TablesView). IfOk c.answer_to.result (Dumps dev.settings.servers dev.settings.region (byte_at kind (stores dev)) (RemembersTrue kind dev) t after
     c.args.p.now)) c.self.view_is
     (if_ok c.answer_to.result (λ a. fault_answer why ≡ Some a) _ c.answer_to.ensures.answer
     (λ a is. record {

@@ -6,7 +6,7 @@ use Rattle.wtf_model.specs.declared.answer.Word.TheVariants.{JobInUse}
 use Rattle.wtf_model.specs.declared.event.Event.TheVariants as event
 use Rattle.wtf_model.specs.Jobs.{MayFailPlan}
 use Rattle.wtf_meta.specs.Bytes.{any_slice}
-use Rattle.wtf_region.specs.Devs.{stores, remembered, between}
+use Rattle.wtf_region.specs.Devs.{stores, remembered, between, RemembersTrue}
 use Rattle.wtf_region.specs.Inside.{is_inside}
 use Rattle.wtf_region.proofs.ShowLaws.{reads_nothing}
 use Rattle.wtf_region.proofs.Spans.{goes_nowhere}
@@ -37,7 +37,7 @@ returns-then-has_job-clause-turn g c =
     let kind = g.S.SliceStore.kind in
     let dev = c.args.dev.now in
     let old = c.args.self.now in
-    plan_used (TellsAll kind (stores dev)) (remembered dev) dev.settings.servers dev.settings.region (byte_at kind (stores dev)) (byte_at kind (stores dev))
+    plan_used (TellsAll kind (stores dev)) (RemembersTrue kind dev) dev.settings.servers dev.settings.region (byte_at kind (stores dev)) (byte_at kind (stores dev))
     old old c.args.j c.args.kind c.args.p.now c.args.region
     (subst (λ (t : TablesView). is_some (of_label t.beside.jobs c.args.j) ≡ true) c.self.view_is (sym c.has_job.ensures ∙ c.if-has_job.true)) refl
 
@@ -58,9 +58,9 @@ returns-in-Some-clause-turn g c =
     let old : TablesView = record { kv = at.kv; next_tx = at.next_tx; clients = at.clients.entries; beside = at.beside } in
     let none : of_label old.beside.jobs c.args.j ≡ None = nothing_there (of_label old.beside.jobs c.args.j) (sym c.has_job.ensures ∙ c.if-has_job.false) in
     let size : 0 < dev.settings.region = omega (arith, dev.settings.limits.5) in
-    subst (λ (t : TablesView). PlanTurn (TellsAll kind (stores dev)) (remembered dev) dev.settings.servers dev.settings.region (byte_at kind (stores dev))
+    subst (λ (t : TablesView). PlanTurn (TellsAll kind (stores dev)) (RemembersTrue kind dev) dev.settings.servers dev.settings.region (byte_at kind (stores dev))
     (byte_at kind (stores dev)) t t c.args.j c.args.kind c.args.p.now c.args.region (answer.Refused c.in-Some.word)) c.self.view_is
-    (plan_stopped (TellsAll kind (stores dev)) (remembered dev) dev.settings.servers dev.settings.region (byte_at kind (stores dev)) (byte_at kind (stores dev))
+    (plan_stopped (TellsAll kind (stores dev)) (RemembersTrue kind dev) dev.settings.servers dev.settings.region (byte_at kind (stores dev)) (byte_at kind (stores dev))
     old old c.args.j c.args.kind c.args.p.now c.args.region c.in-Some.word none refl (sym c.in-Ok.ensures ∙ c.in-Some.is)
     (λ tx k t st. plan_is_due dev.settings.region (byte_at kind (stores dev)) tx k (metadata_now old.kv) t c.args.p.now c.args.region size st
     ∙ ap plan_answer (sym c.in-Ok.ensures ∙ c.in-Some.is)))
@@ -110,9 +110,9 @@ returns-clause-turn g c =
       job = did.job;
       made = made_of kind dev after x.target _ x.value did.planned;
     } in
-    subst (λ (t : TablesView). PlanTurn (TellsAll kind (stores dev)) (remembered dev) dev.settings.servers dev.settings.region (byte_at kind (stores dev))
+    subst (λ (t : TablesView). PlanTurn (TellsAll kind (stores dev)) (RemembersTrue kind dev) dev.settings.servers dev.settings.region (byte_at kind (stores dev))
     (byte_at kind (stores after)) t new c.args.j c.args.kind c.args.p.now c.args.region answer.Planned) c.self.view_is
-    (plan_made (TellsAll kind (stores dev)) (remembered dev) dev.settings.servers dev.settings.region (byte_at kind (stores dev)) (byte_at kind (stores after))
+    (plan_made (TellsAll kind (stores dev)) (RemembersTrue kind dev) dev.settings.servers dev.settings.region (byte_at kind (stores dev)) (byte_at kind (stores after))
     old new c.args.j c.args.kind c.args.p.now c.args.region x none plans
     (made_known kind dev after x.target (target_region (metadata_now old.kv) x.target) x.value did.dev did.planned dev.settings.servers)
     (made_own kind dev after x.target (target_region (metadata_now old.kv) x.target) x.value did.dev did.planned)
@@ -169,10 +169,10 @@ returns-in-Err-plan-clause-turn g c =
     (sym c.in-Ok.ensures ∙ no_refusal c.in-Ok.refusal (λ w. c.in_default.not-Some w)) in
     let size : 0 < dev.settings.region = omega (arith, dev.settings.limits.5) in
     let same : new ≡ old = ap (λ s. record old { kv = s }) did.err in
-    subst (λ (t : TablesView). IfOk c.answer_to.result (λ a. PlanTurn (TellsAll kind (stores dev)) (remembered dev) dev.settings.servers dev.settings.region
+    subst (λ (t : TablesView). IfOk c.answer_to.result (λ a. PlanTurn (TellsAll kind (stores dev)) (RemembersTrue kind dev) dev.settings.servers dev.settings.region
     (byte_at kind (stores dev)) (byte_at kind (stores after)) t new c.args.j c.args.kind c.args.p.now c.args.region a)) c.self.view_is
     (if_ok c.answer_to.result (λ a. fault_answer why ≡ Some a) _ c.answer_to.ensures.answer
-    (λ a is. plan_failed (TellsAll kind (stores dev)) (remembered dev) dev.settings.servers dev.settings.region (byte_at kind (stores dev))
+    (λ a is. plan_failed (TellsAll kind (stores dev)) (RemembersTrue kind dev) dev.settings.servers dev.settings.region (byte_at kind (stores dev))
     (byte_at kind (stores after)) old new c.args.j c.args.kind c.args.p.now c.args.region why a is none same
     (sym c.in-Ok.ensures ∙ no_refusal c.in-Ok.refusal (λ w. c.in_default.not-Some w))
     (λ tx k t st. subst (λ d. MayFailPlan dev.settings.servers c.args.kind d a)

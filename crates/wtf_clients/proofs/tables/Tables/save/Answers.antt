@@ -30,6 +30,7 @@ returns-in-Err-replace-clause-keeper g c =
         synced = λ j below. c.in_default-sync_all.ensures.synced j (subst (λ (s : Settings). j < s.servers) (sym c.requires.settings) below);
       };
       rose = c.in-Err-replace.ensures.cause;
+      refused = c.in-Err-replace.ensures.refused;
       beside = c.in_default.ensures.ok.beside;
     })
 

@@ -10,7 +10,7 @@ use Rattle.wtf_model.specs.declared.answer.Answer.TheVariants as answer
 use Rattle.wtf_model.specs.declared.answer.Word.TheVariants.{NoTx}
 use Rattle.wtf_model.specs.declared.event.Event.TheVariants as event
 use Rattle.wtf_meta.specs.Bytes.{any_slice}
-use Rattle.wtf_region.specs.Devs.{stores, remembered, between}
+use Rattle.wtf_region.specs.Devs.{stores, remembered, between, RemembersTrue}
 use Rattle.wtf_region.specs.Inside.{is_inside}
 use Rattle.wtf_replay.specs.Causes.{fault_answer}
 use Rattle.wtf_replay.specs.Views.{hand_of}
@@ -112,11 +112,11 @@ returns-in-Err-clause-turn g c =
     let lent = c.get_mut.follows.lender y in
     let sets : Sets c.args.c (Some y) old.clients lent.entries = written c.args.c at.clients lent x y there (c.get_mut.follows.holds y) in
     let why = c.in-Err.why in
-    subst (λ (t : TablesView). IfOk c.answer_to.result (λ a. ClientTurn (TellsAll kind (stores dev)) (remembered dev) dev.settings.servers dev.settings.region
+    subst (λ (t : TablesView). IfOk c.answer_to.result (λ a. ClientTurn (TellsAll kind (stores dev)) (RemembersTrue kind dev) dev.settings.servers dev.settings.region
     (byte_at kind (stores dev)) (byte_at kind (stores c.step.new.dev)) t (record
     { kv = at.kv; next_tx = at.next_tx; clients = lent.entries; beside = at.beside }) c.args.c verb.Step a)) c.self.view_is
     (if_ok c.answer_to.result (λ a. fault_answer why ≡ Some a) _ c.answer_to.ensures.answer
-    (λ a is. step_failed (TellsAll kind (stores dev)) (remembered dev) dev.settings.servers dev.settings.region (byte_at kind (stores dev))
+    (λ a is. step_failed (TellsAll kind (stores dev)) (RemembersTrue kind dev) dev.settings.servers dev.settings.region (byte_at kind (stores dev))
     (byte_at kind (stores c.step.new.dev)) old lent.entries c.args.c x y why a there sets c.in-Err.ensures.step.err
     (not_live x why y (refused_there (turn kind dev c.step.new.dev at.kv at.kv x y) (Err why) c.in-Err.ensures.step.refused)) is
     (λ ops run t st. step_left dev.settings.servers _ x.replayed why a is (c.in-Err.ensures.step.due ops run t st))))
@@ -162,10 +162,10 @@ returns-then-not-ended-clause-turn g c =
     let lent = c.get_mut.follows.lender y in
     let sets : Sets c.args.c (Some y) old.clients lent.entries = written c.args.c at.clients lent x y there (c.get_mut.follows.holds y) in
     let did = c.in-Ok.ensures.step in
-    subst (λ (t : TablesView). ClientTurn (TellsAll kind (stores dev)) (remembered dev) dev.settings.servers dev.settings.region (byte_at kind (stores dev))
+    subst (λ (t : TablesView). ClientTurn (TellsAll kind (stores dev)) (RemembersTrue kind dev) dev.settings.servers dev.settings.region (byte_at kind (stores dev))
     (byte_at kind (stores c.step.new.dev)) t (record { kv = at.kv; next_tx = at.next_tx; clients = lent.entries; beside = at.beside }) c.args.c verb.Step
     c.in-Ok.answer) c.self.view_is
-    (step_goes (TellsAll kind (stores dev)) (remembered dev) dev.settings.servers dev.settings.region (byte_at kind (stores dev))
+    (step_goes (TellsAll kind (stores dev)) (RemembersTrue kind dev) dev.settings.servers dev.settings.region (byte_at kind (stores dev))
     (byte_at kind (stores c.step.new.dev)) old lent.entries c.args.c x y c.in-Ok.answer (sound.each c.args.c x there).going there sets
     (refused_there (turn kind dev c.step.new.dev at.kv at.kv x y) (Ok c.in-Ok.answer) did.refused) did.stepped
     (λ free tells ops run. did.meaning free ops (starts_sound kind dev tells.0 old tells.1 c.step.new.dev at.kv c.args.c x y ops there tells.2 run))
@@ -213,9 +213,9 @@ returns-clause-turn g c =
     let did = c.in-Ok.ensures.step in
     let gone = c.end.ensures in
     let mine = sets.is in
-    subst (λ (t : TablesView). ClientTurn (TellsAll kind (stores dev)) (remembered dev) dev.settings.servers dev.settings.region (byte_at kind (stores dev))
+    subst (λ (t : TablesView). ClientTurn (TellsAll kind (stores dev)) (RemembersTrue kind dev) dev.settings.servers dev.settings.region (byte_at kind (stores dev))
     (byte_at kind (stores c.step.new.dev)) t c.end.new.self c.args.c verb.Step c.in-Ok.answer) c.self.view_is
-    (step_ends (TellsAll kind (stores dev)) (remembered dev) dev.settings.servers dev.settings.region (byte_at kind (stores dev))
+    (step_ends (TellsAll kind (stores dev)) (RemembersTrue kind dev) dev.settings.servers dev.settings.region (byte_at kind (stores dev))
     (byte_at kind (stores c.step.new.dev)) old lent.entries c.args.c x y c.in-Ok.answer (sound.each c.args.c x there).going there sets
     (refused_there (turn kind dev c.step.new.dev at.kv at.kv x y) (Ok c.in-Ok.answer) did.refused) did.stepped
     (λ free tells ops run. did.meaning free ops (starts_sound kind dev tells.0 old tells.1 c.step.new.dev at.kv c.args.c x y ops there tells.2 run))
@@ -264,7 +264,7 @@ returns-in_default-clause-turn g c =
     let old : TablesView = record { kv = at.kv; next_tx = at.next_tx; clients = at.clients.entries; beside = at.beside } in
     let lent = c.get_mut.follows.lender-at-none in
     let none : of_client old.clients c.args.c ≡ None = sym c.get_mut.ensures.value ∙ ap option_copied_mut c.in_default.is in
-    subst (λ (t : TablesView). ClientTurn (TellsAll kind (stores dev)) (remembered dev) dev.settings.servers dev.settings.region (byte_at kind (stores dev))
+    subst (λ (t : TablesView). ClientTurn (TellsAll kind (stores dev)) (RemembersTrue kind dev) dev.settings.servers dev.settings.region (byte_at kind (stores dev))
     (byte_at kind (stores dev)) t (record { kv = at.kv; next_tx = at.next_tx; clients = lent.entries; beside = at.beside }) c.args.c verb.Step
     (answer.Refused NoTx)) c.self.view_is
     (at_none (of_client old.clients c.args.c) _ _ none (refused_same old lent.entries c.args.c NoTx (ap (λ m. m.entries) c.get_mut.follows.holds-at-none)))

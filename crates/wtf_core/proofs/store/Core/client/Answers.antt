@@ -1,5 +1,6 @@
 use Rattle.std.proofs.Common.{refl, List, [], None, IfOk, sym, subst}
 use Rattle.std.specs.Prelude.{⊤}
+use Rattle.wtf_region.specs.Cached.{TrueBut}
 use Rattle.wtf_replica.specs.Downs.{is_down}
 use Rattle.wtf_replica.specs.Spans.{span}
 use Rattle.wtf_model.specs.declared.event.Event.TheVariants as event
@@ -29,6 +30,9 @@ use Rattle.wtf_core.proofs.store.Core.client.Goals as goal
 untold : Told
 untold p = None
 
+unknown : TrueBut
+unknown ranges = ⊤
+
 pub invariant_of-self : goal.invariant_of-self
 invariant_of-self g c =
     let was = c.self.invariant in
@@ -38,7 +42,7 @@ invariant_of-self g c =
       ring_is = was.ring_is;
       points_are = was.points_are;
       cache_is = was.cache_is;
-      tables_are = sound_after c.begin.result ⊤ [] 0 0 untold untold c.self.inside.tables c.begin.new.self c.args.c verb.Begin was.tables_are
+      tables_are = sound_after c.begin.result ⊤ unknown 0 0 untold untold c.self.inside.tables c.begin.new.self c.args.c verb.Begin was.tables_are
           c.begin.ensures.turn c.begin.ensures.err_sound;
     }
 
@@ -51,7 +55,7 @@ invariant_of-self-in-Try g c =
       ring_is = was.ring_is;
       points_are = was.points_are;
       cache_is = was.cache_is;
-      tables_are = sound_after c.attempt.result ⊤ [] 0 0 untold untold c.self-in-Try.inside.tables c.attempt.new.self c.args.c verb.Try was.tables_are
+      tables_are = sound_after c.attempt.result ⊤ unknown 0 0 untold untold c.self-in-Try.inside.tables c.attempt.new.self c.args.c verb.Try was.tables_are
           c.attempt.ensures.turn c.attempt.ensures.err_sound;
     }
 
@@ -64,7 +68,7 @@ invariant_of-self-in-Abort g c =
       ring_is = was.ring_is;
       points_are = was.points_are;
       cache_is = was.cache_is;
-      tables_are = client_sound ⊤ [] 0 0 untold untold c.self-in-Abort.inside.tables c.abort.new.self c.args.c verb.Abort c.abort.result was.tables_are
+      tables_are = client_sound ⊤ unknown 0 0 untold untold c.self-in-Abort.inside.tables c.abort.new.self c.args.c verb.Abort c.abort.result was.tables_are
           c.abort.ensures.turn;
     }
 
@@ -80,10 +84,10 @@ returns-in-Begin-clause-serves g c =
     (event.Client c.args.c c.args.verb.now))) c.self.view_is
     (subst (λ (v : Verb). IfOk c.begin.result
     (ServesLine kind (span (is_down at.replicas) shelf shelf) lent at.tables c.begin.new.self (event.Client c.args.c v))) (sym c.in-Begin.is)
-    (if_ok c.begin.result (λ a. ClientTurn ⊤ [] 0 0 untold untold at.tables c.begin.new.self c.args.c verb.Begin a) _ c.begin.ensures.turn
+    (if_ok c.begin.result (λ a. ClientTurn ⊤ unknown 0 0 untold untold at.tables c.begin.new.self c.args.c verb.Begin a) _ c.begin.ensures.turn
     (λ a turn. still_serves kind (is_down at.replicas) shelf lent at.tables c.begin.new.self (event.Client c.args.c verb.Begin) a inside
-    (local_names ⊤ [] 0 0 untold untold at.tables c.begin.new.self c.args.c verb.Begin a tt c.self.invariant.tables_are turn)
-    refl (local_plain ⊤ [] 0 0 untold untold at.tables c.begin.new.self c.args.c verb.Begin a tt turn))))
+    (local_names ⊤ unknown 0 0 untold untold at.tables c.begin.new.self c.args.c verb.Begin a tt c.self.invariant.tables_are turn)
+    refl (local_plain ⊤ unknown 0 0 untold untold at.tables c.begin.new.self c.args.c verb.Begin a tt turn))))
 
 pub returns-in-Try-clause-serves : goal.returns-in-Try-clause-serves
 returns-in-Try-clause-serves g c =
@@ -97,10 +101,10 @@ returns-in-Try-clause-serves g c =
     (event.Client c.args.c c.args.verb.now))) c.self-in-Try.view_is
     (subst (λ (v : Verb). IfOk c.attempt.result
     (ServesLine kind (span (is_down at.replicas) shelf shelf) lent at.tables c.attempt.new.self (event.Client c.args.c v))) (sym c.in-Try.is)
-    (if_ok c.attempt.result (λ a. ClientTurn ⊤ [] 0 0 untold untold at.tables c.attempt.new.self c.args.c verb.Try a) _ c.attempt.ensures.turn
+    (if_ok c.attempt.result (λ a. ClientTurn ⊤ unknown 0 0 untold untold at.tables c.attempt.new.self c.args.c verb.Try a) _ c.attempt.ensures.turn
     (λ a turn. still_serves kind (is_down at.replicas) shelf lent at.tables c.attempt.new.self (event.Client c.args.c verb.Try) a inside
-    (local_names ⊤ [] 0 0 untold untold at.tables c.attempt.new.self c.args.c verb.Try a tt c.self-in-Try.invariant.tables_are turn)
-    refl (local_plain ⊤ [] 0 0 untold untold at.tables c.attempt.new.self c.args.c verb.Try a tt turn))))
+    (local_names ⊤ unknown 0 0 untold untold at.tables c.attempt.new.self c.args.c verb.Try a tt c.self-in-Try.invariant.tables_are turn)
+    refl (local_plain ⊤ unknown 0 0 untold untold at.tables c.attempt.new.self c.args.c verb.Try a tt turn))))
 
 pub returns-in-Abort-clause-serves : goal.returns-in-Abort-clause-serves
 returns-in-Abort-clause-serves g c =
@@ -114,9 +118,9 @@ returns-in-Abort-clause-serves g c =
     (subst (λ (v : Verb). ServesLine kind (span (is_down at.replicas) shelf shelf) lent at.tables c.abort.new.self
     (event.Client c.args.c v) c.abort.result) (sym c.in-Abort.is)
     (still_serves kind (is_down at.replicas) shelf lent at.tables c.abort.new.self (event.Client c.args.c verb.Abort) c.abort.result inside
-    (local_names ⊤ [] 0 0 untold untold at.tables c.abort.new.self c.args.c verb.Abort c.abort.result tt c.self-in-Abort.invariant.tables_are
+    (local_names ⊤ unknown 0 0 untold untold at.tables c.abort.new.self c.args.c verb.Abort c.abort.result tt c.self-in-Abort.invariant.tables_are
     c.abort.ensures.turn)
-    refl (local_plain ⊤ [] 0 0 untold untold at.tables c.abort.new.self c.args.c verb.Abort c.abort.result tt c.abort.ensures.turn)))
+    refl (local_plain ⊤ unknown 0 0 untold untold at.tables c.abort.new.self c.args.c verb.Abort c.abort.result tt c.abort.ensures.turn)))
 
 pub returns-in-Begin-clause-lists : goal.returns-in-Begin-clause-lists
 returns-in-Begin-clause-lists g c =
@@ -160,10 +164,10 @@ returns-in-Begin-clause-told g c =
     let shelf = c.args.shelf.now in
     let at = c.self.inside in
     subst (λ (core : CoreView). IfOk c.begin.result (Gives g shelf core c.begin.new.self)) c.self.view_is
-    (if_ok c.begin.result (λ a. ClientTurn ⊤ [] 0 0 untold untold at.tables c.begin.new.self c.args.c verb.Begin a) _ c.begin.ensures.turn
+    (if_ok c.begin.result (λ a. ClientTurn ⊤ unknown 0 0 untold untold at.tables c.begin.new.self c.args.c verb.Begin a) _ c.begin.ensures.turn
     (λ a turn. begun_told kind (is_down at.replicas) shelf at.settings at.cache.lists at.tables c.begin.new.self c.args.c a c.self.invariant.tables_are
-    (local_names ⊤ [] 0 0 untold untold at.tables c.begin.new.self c.args.c verb.Begin a tt c.self.invariant.tables_are turn)
-    (local_plain ⊤ [] 0 0 untold untold at.tables c.begin.new.self c.args.c verb.Begin a tt turn) turn))
+    (local_names ⊤ unknown 0 0 untold untold at.tables c.begin.new.self c.args.c verb.Begin a tt c.self.invariant.tables_are turn)
+    (local_plain ⊤ unknown 0 0 untold untold at.tables c.begin.new.self c.args.c verb.Begin a tt turn) turn))
 
 pub returns-in-Try-clause-told : goal.returns-in-Try-clause-told
 returns-in-Try-clause-told g c =
@@ -171,11 +175,11 @@ returns-in-Try-clause-told g c =
     let shelf = c.args.shelf.now in
     let at = c.self-in-Try.inside in
     subst (λ (core : CoreView). IfOk c.attempt.result (Gives g shelf core c.attempt.new.self)) c.self-in-Try.view_is
-    (if_ok c.attempt.result (λ a. ClientTurn ⊤ [] 0 0 untold untold at.tables c.attempt.new.self c.args.c verb.Try a) _ c.attempt.ensures.turn
+    (if_ok c.attempt.result (λ a. ClientTurn ⊤ unknown 0 0 untold untold at.tables c.attempt.new.self c.args.c verb.Try a) _ c.attempt.ensures.turn
     (λ a turn. tried_told kind (is_down at.replicas) shelf at.settings at.cache.lists at.tables c.attempt.new.self c.args.c a
     c.self-in-Try.invariant.tables_are
-    (local_names ⊤ [] 0 0 untold untold at.tables c.attempt.new.self c.args.c verb.Try a tt c.self-in-Try.invariant.tables_are turn)
-    (local_plain ⊤ [] 0 0 untold untold at.tables c.attempt.new.self c.args.c verb.Try a tt turn) turn))
+    (local_names ⊤ unknown 0 0 untold untold at.tables c.attempt.new.self c.args.c verb.Try a tt c.self-in-Try.invariant.tables_are turn)
+    (local_plain ⊤ unknown 0 0 untold untold at.tables c.attempt.new.self c.args.c verb.Try a tt turn) turn))
 
 pub returns-in-Abort-clause-told : goal.returns-in-Abort-clause-told
 returns-in-Abort-clause-told g c =
@@ -185,6 +189,6 @@ returns-in-Abort-clause-told g c =
     subst (λ (core : CoreView). Gives g shelf core c.abort.new.self c.abort.result) c.self-in-Abort.view_is
     (aborted_told kind (is_down at.replicas) shelf at.settings at.cache.lists at.tables c.abort.new.self c.args.c c.abort.result
     c.self-in-Abort.invariant.tables_are
-    (local_names ⊤ [] 0 0 untold untold at.tables c.abort.new.self c.args.c verb.Abort c.abort.result tt c.self-in-Abort.invariant.tables_are
+    (local_names ⊤ unknown 0 0 untold untold at.tables c.abort.new.self c.args.c verb.Abort c.abort.result tt c.self-in-Abort.invariant.tables_are
     c.abort.ensures.turn)
-    (local_plain ⊤ [] 0 0 untold untold at.tables c.abort.new.self c.args.c verb.Abort c.abort.result tt c.abort.ensures.turn) c.abort.ensures.turn)
+    (local_plain ⊤ unknown 0 0 untold untold at.tables c.abort.new.self c.args.c verb.Abort c.abort.result tt c.abort.ensures.turn) c.abort.ensures.turn)

@@ -133,7 +133,7 @@ marks_are g c =
     c.requires.inside.scans c.args.event.now (turn_is g c)
 
 abbrev keeping : (g : Over) → After-tidy g → KeeperSpan
-keeping g c = keeper_span g.K.Keeper.view g.K.Keeper.follows c.args.keeper.now c.answer.new.keeper
+keeping g c = keeper_span g.K.Keeper.view g.K.Keeper.follows g.K.Keeper.refused c.args.keeper.now c.answer.new.keeper
 
 keeper_laws : (g : Over) (c : After-tidy g) → KeeperLaws (keeping g c)
 keeper_laws g c = record {

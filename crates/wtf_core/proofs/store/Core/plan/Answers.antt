@@ -7,15 +7,26 @@ use Rattle.wtf_model.specs.declared.event.Event.{Event}
 use Rattle.wtf_model.specs.declared.event.Event.TheVariants as event
 use Rattle.wtf_clients.specs.Serves.{ServesLine}
 use Rattle.wtf_replica.specs.Bytes.{byte_at}
+use Rattle.wtf_core.specs.Turns.{LineTurn}
 use Rattle.wtf_core.proofs.Whole.{sound_planned}
 use Rattle.wtf_core.specs.Made.{IsMade}
-use Rattle.wtf_core.specs.Views.{CoreView, lent_of}
+use Rattle.wtf_core.specs.Views.{CoreView, lent_of, KnowsLists}
 use Rattle.wtf_core.specs.Named.{IsInside}
 use Rattle.wtf_core.specs.Remembering.{KeepsLists}
 use Rattle.wtf_core.proofs.Remembering.{sound_dev, goes_keeps}
 use Rattle.wtf_core.proofs.store.Core.plan.Given.{Over}
 use Rattle.wtf_core.proofs.store.Core.plan.Goals as goal
 use Rattle.wtf_core.proofs.store.Core.plan.Goals.{After-plan}
+
+-- the core before it
+abbrev was : (g : Over) → After-plan g → CoreView
+was g c = let at = c.self.inside in record {
+  settings = at.settings;
+  tables = at.tables;
+  replicas = at.replicas;
+  closed = at.closed;
+  lists = at.cache.lists;
+}
 
 -- the core behind the call
 abbrev left : (g : Over) → After-plan g → CoreView
@@ -30,18 +41,19 @@ left g c = let at = c.self.inside in record {
 -- its parts
 made : (g : Over) (c : After-plan g) → IsMade c.self.inside.settings c.plan.new.self c.self.inside.replicas c.self.inside.ring c.plan.new.dev.cache.now
 made g c =
-    let was = c.self.invariant in
+    let so = c.self.invariant in
     let did = c.plan.ensures in
     let at = c.self.inside in
     record {
-      settings_are = was.settings_are;
-      replicas_are = was.replicas_are;
-      ring_is = was.ring_is;
-      points_are = was.points_are;
+      settings_are = so.settings_are;
+      replicas_are = so.replicas_are;
+      ring_is = so.ring_is;
+      points_are = so.points_are;
       cache_is = subst (λ r. AreFrom r.now c.plan.new.dev.cache.now.places) did.dev.ring did.dev.sound.cache;
-      tables_are = sound_planned c.plan.result (TellsAll g.S.SliceStore.kind c.args.shelf.now) at.cache.lists at.settings.servers at.settings.region
+      tables_are = sound_planned c.plan.result (TellsAll g.S.SliceStore.kind c.args.shelf.now)
+          (KnowsLists g.S.SliceStore.kind c.args.shelf.now (was g c)) at.settings.servers at.settings.region
           (byte_at g.S.SliceStore.kind c.args.shelf.now) (byte_at g.S.SliceStore.kind c.plan.new.dev.shelf.now) at.tables c.plan.new.self c.args.j c.args.kind
-          c.args.p.now c.args.region was.tables_are did.turn did.err_sound;
+          c.args.p.now c.args.region so.tables_are did.turn did.err_sound;
     }
 
 -- and the lists that it remembers
@@ -84,3 +96,14 @@ returns-in-Ok-clause-serves g c =
     c.in-Ok.answer) (search (rules))
     (subst (λ (core : CoreView). ServesLine kind (span (is_down core.replicas) c.args.shelf.now c.plan.new.dev.shelf.now) (lent_of core) core.tables
     c.plan.new.self e c.in-Ok.answer) c.self.view_is c.in-Ok.ensures.serves)
+
+pub returns-in-Ok-clause-turn : goal.returns-in-Ok-clause-turn
+returns-in-Ok-clause-turn g c =
+    let kind = g.S.SliceStore.kind in
+    let at = (goal.at.returns-in-Ok-clause-turn g c).After-plan in
+    let shelf = c.args.shelf.now in
+    subst (λ (s : List g.row.S.Denot). LineTurn kind (span (is_down c.args.self.now.replicas) shelf s) c.args.self.now (left g at)
+    (event.Plan c.args.j c.args.kind c.args.p.now c.args.region) c.in-Ok.answer) (search (rules))
+    (subst (λ (core : CoreView). LineTurn kind (span (is_down core.replicas) shelf c.plan.new.dev.shelf.now) core (left g at)
+    (event.Plan c.args.j c.args.kind c.args.p.now c.args.region) c.in-Ok.answer) at.self.view_is
+    (c.in-Ok.ensures.turn, refl))

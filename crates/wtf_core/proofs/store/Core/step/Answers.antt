@@ -3,15 +3,29 @@ use Rattle.wtf_region.specs.Cached.{AreFrom}
 use Rattle.wtf_dev.specs.Sums.{TellsAll}
 use Rattle.wtf_replica.specs.Bytes.{byte_at}
 use Rattle.wtf_model.specs.declared.event.Verb.TheVariants as verb
+use Rattle.wtf_replica.specs.Downs.{is_down}
+use Rattle.wtf_replica.specs.Spans.{span}
+use Rattle.wtf_model.specs.declared.event.Event.TheVariants as event
+use Rattle.wtf_core.specs.Turns.{LineTurn}
 use Rattle.wtf_core.proofs.Whole.{sound_after}
 use Rattle.wtf_core.specs.Made.{IsMade}
-use Rattle.wtf_core.specs.Views.{CoreView}
+use Rattle.wtf_core.specs.Views.{CoreView, KnowsLists}
 use Rattle.wtf_core.specs.Named.{IsInside}
 use Rattle.wtf_core.specs.Remembering.{KeepsLists}
 use Rattle.wtf_core.proofs.Remembering.{sound_dev, goes_keeps}
 use Rattle.wtf_core.proofs.store.Core.step.Given.{Over}
 use Rattle.wtf_core.proofs.store.Core.step.Goals as goal
 use Rattle.wtf_core.proofs.store.Core.step.Goals.{After-step}
+
+-- the core before it
+abbrev was : (g : Over) → After-step g → CoreView
+was g c = let at = c.self.inside in record {
+  settings = at.settings;
+  tables = at.tables;
+  replicas = at.replicas;
+  closed = at.closed;
+  lists = at.cache.lists;
+}
 
 -- the core behind the call
 abbrev left : (g : Over) → After-step g → CoreView
@@ -26,18 +40,19 @@ left g c = let at = c.self.inside in record {
 -- its parts
 made : (g : Over) (c : After-step g) → IsMade c.self.inside.settings c.step.new.self c.self.inside.replicas c.self.inside.ring c.step.new.dev.cache.now
 made g c =
-    let was = c.self.invariant in
+    let so = c.self.invariant in
     let did = c.step.ensures in
     let at = c.self.inside in
     record {
-      settings_are = was.settings_are;
-      replicas_are = was.replicas_are;
-      ring_is = was.ring_is;
-      points_are = was.points_are;
+      settings_are = so.settings_are;
+      replicas_are = so.replicas_are;
+      ring_is = so.ring_is;
+      points_are = so.points_are;
       cache_is = subst (λ r. AreFrom r.now c.step.new.dev.cache.now.places) did.dev.ring did.dev.sound.cache;
-      tables_are = sound_after c.step.result (TellsAll g.S.SliceStore.kind c.args.shelf.now) at.cache.lists at.settings.servers at.settings.region
+      tables_are = sound_after c.step.result (TellsAll g.S.SliceStore.kind c.args.shelf.now)
+          (KnowsLists g.S.SliceStore.kind c.args.shelf.now (was g c)) at.settings.servers at.settings.region
           (byte_at g.S.SliceStore.kind c.args.shelf.now) (byte_at g.S.SliceStore.kind c.step.new.dev.shelf.now) at.tables c.step.new.self c.args.c verb.Step
-          was.tables_are did.turn did.err_sound;
+          so.tables_are did.turn did.err_sound;
     }
 
 -- and the lists that it remembers
@@ -70,3 +85,14 @@ pub returns-in-Err-clause-lists : goal.returns-in-Err-clause-lists
 returns-in-Err-clause-lists g c =
     let at = (goal.at.returns-in-Err-clause-lists g c).After-step in
     subst (λ (shelf : List g.row.S.Denot). KeepsLists g.S.SliceStore.kind c.args.shelf.now shelf [] c.args.self.now (left g at)) (search (rules)) (kept g at)
+
+pub returns-in-Ok-clause-turn : goal.returns-in-Ok-clause-turn
+returns-in-Ok-clause-turn g c =
+    let kind = g.S.SliceStore.kind in
+    let at = (goal.at.returns-in-Ok-clause-turn g c).After-step in
+    let shelf = c.args.shelf.now in
+    subst (λ (s : List g.row.S.Denot). LineTurn kind (span (is_down c.args.self.now.replicas) shelf s) c.args.self.now (left g at)
+    (event.Client c.args.c verb.Step) c.in-Ok.answer) (search (rules))
+    (subst (λ (core : CoreView). LineTurn kind (span (is_down core.replicas) shelf c.step.new.dev.shelf.now) core (left g at)
+    (event.Client c.args.c verb.Step) c.in-Ok.answer) at.self.view_is
+    (c.in-Ok.ensures.turn, refl))
