@@ -1,14 +1,17 @@
--- What the sink below shows once a run through a sink that sums up is over.
-use Rattle.std.proofs.Common.{◌≡◌, ℕ, List, [], ◌∷◌, ◌++◌, length, drop, get_or, Some, refl, ◌∙◌, ap, arith}
-use Rattle.std.specs.Prelude.{Option, unwrap_or}
-use Rattle.std.proofs.lemmas.List.{append-nil}
+-- What the other sink shows once a run is over.
+use Rattle.std.proofs.Common.{◌≡◌, ◌⊎◌, ℕ, ◌+◌, ◌<◌, List, [], ◌∷◌, ◌++◌, length, take, drop, get_or, Some, inl, inr, refl, sym, ◌∙◌, ap, arith, append_assoc}
+use Rattle.std.specs.Prelude.{Result, Ok, Err, true}
+use Rattle.std.specs.Result.{is_err}
+use Rattle.std.proofs.lemmas.List.{append-nil, take-append-drop, take_more}
 use Rattle.wtf_dev.specs.Streams.{SinkView}
 use Rattle.wtf_summary.specs.Summaries.{shown}
 use Rattle.wtf_summary.specs.Traces.{mark, numbers_of}
 use Rattle.wtf_summary.specs.States.{IsSound, told}
 use Rattle.wtf_summary.specs.Fronts.{ShowsFront}
+use Rattle.wtf_summary.specs.Steps.{TookByte}
 use Rattle.wtf_summary.specs.declared.state.State.{State}
 use Rattle.wtf_summary.proofs.Sound.{clean}
+use Rattle.wtf_summary.proofs.Texts.{shown-front}
 
 same_parts : (xs ys s t : List ℕ) → length xs ≡ length ys → xs ++ s ≡ ys ++ t → (xs ≡ ys) × (s ≡ t)
 same_parts [] [] s t h e = (refl, e)
@@ -45,26 +48,41 @@ pub shows_all : (old now : SinkView) (state : State) (lines : ℕ) (text before 
 shows_all old now state lines text before s l f t z h =
     s.added old before f h ∙ ap Some (ap (λ (x : List ℕ). before ++ x) (clean now state s z ∙ ap (λ (n : ℕ). shown n state.trace.text.numbers) l ∙ ap (shown lines) t))
 
--- else its front is
-pub shows_front : (old now : SinkView) (state : State) (lines : ℕ) (before : List ℕ) → IsSound now state → state.lines ≡ lines
-    → state.trace.first.numbers ≡ numbers_of old → old.taken ≡ Some before → ShowsFront lines before now.taken
-shows_front old now state lines before s l f h = record {
-  text = state.trace.text.numbers ++ state.trace.more.numbers;
-  front = state.trace.seen.numbers;
-  back = state.trace.rest.numbers;
-  shows = s.shows ∙ ap (λ (n : ℕ). shown n (state.trace.text.numbers ++ state.trace.more.numbers)) l;
-  taken_is = s.added old before f h;
-}
+-- else a front of it is
+pub shows_front : (old now : SinkView) (state : State) (lines : ℕ) (whole rest before : List ℕ) → IsSound now state → state.lines ≡ lines
+    → state.trace.first.numbers ≡ numbers_of old → (state.trace.text.numbers ++ state.trace.more.numbers) ++ rest ≡ whole → old.taken ≡ Some before
+    → ShowsFront lines whole before now.taken
+shows_front old now state lines whole rest before s l f w h =
+    let so_far = state.trace.text.numbers ++ state.trace.more.numbers in
+    let on = shown-front state.lines so_far rest s.some in
+    record {
+      front = state.trace.seen.numbers;
+      back = state.trace.rest.numbers ++ on.0;
+      shows = sym (append_assoc state.trace.seen.numbers state.trace.rest.numbers on.0)
+          ∙ ap (λ (x : List ℕ). x ++ on.0) s.shows ∙ sym on.1
+          ∙ ap (λ (n : ℕ). shown n (so_far ++ rest)) l ∙ ap (shown lines) w;
+      taken_is = s.added old before f h;
+    }
 
--- what a sink that was just made tells
-pub started : (name lines : ℕ) (first : List ℕ) (name' : ℕ) (state : State) → name' ≡ name → state.lines ≡ lines → state.trace.first.numbers ≡ first
-    → state.trace.text.numbers ≡ [] → told name' state ≡ mark name lines first
-started name lines first name' state n l f t = rw (n, l, f, t) (append-nil (mark name lines first))
+-- A byte of a text came behind the first ones: what is missing is that byte, or nothing, and the rest of the text.
+pub text_is : (text : List ℕ) (at : ℕ) (b : ℕ) (took more : List ℕ) → at < length text → get_or text at 0 ≡ b → took ≡ take at text
+    → (more ≡ []) ⊎ (more ≡ b ∷ []) → (rest : List ℕ) × ((took ++ more) ++ rest ≡ text)
+text_is text at b took more low is front missing = elim missing [
+  | inl none ↦ (
+    drop at text,
+    ap (λ (x : List ℕ). x ++ drop at text) (ap (λ (m : List ℕ). took ++ m) none ∙ append-nil took ∙ front) ∙ take-append-drop at text,
+  )
+  | inr one ↦ (
+    drop (at + 1) text,
+    ap (λ (x : List ℕ). x ++ drop (at + 1) text)
+        (ap (λ (m : List ℕ). took ++ m) (one ∙ ap (λ (c : ℕ). c ∷ []) (sym is)) ∙ ap (λ (t : List ℕ). t ++ get_or text at 0 ∷ []) front
+        ∙ sym (take_more text at 0 low))
+        ∙ take-append-drop (at + 1) text,
+  )
+]
 
--- The sinks at the begin and at the end of a run through the trait alone: what was added to what the first told.
-pub ran : (name lines : ℕ) (first : List ℕ) (name0 : ℕ) (begin : State) (name' : ℕ) (end : State) (added : List ℕ) → name0 ≡ name → begin.lines ≡ lines
-    → begin.trace.first.numbers ≡ first → begin.trace.text.numbers ≡ []
-    → ((l : List ℕ) → Some (told name0 begin) ≡ Some l → Some (told name' end) ≡ Some (l ++ added)) → GoesOn name lines first added name' end
-ran name lines first name0 begin name' end added n l f t h =
-    goes_on name lines first added name' end
-    (ap (λ (o : Option (List ℕ)). unwrap_or o []) (h (told name0 begin) refl) ∙ ap (λ (x : List ℕ). x ++ added) (started name lines first name0 begin n l f t))
+-- a byte that was not taken
+pub kept_text : {E : Type 0} (old new : State) (b : ℕ) (result : Result (Unit {0}) E) → TookByte old new b result → is_err result ≡ true
+    → new.trace.text.numbers ≡ old.trace.text.numbers
+kept_text old new b (Ok u) took failed = absurd (cc)
+kept_text old new b (Err e) took failed = took.0

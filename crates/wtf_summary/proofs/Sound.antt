@@ -1,13 +1,15 @@
 -- Laws of what a sink that sums up keeps.
-use Rattle.std.proofs.Common.{◌≡◌, ℕ, zero, suc, ◌+◌, ◌^◌, ◌==◌, ◌<◌, ◌≤◌, Bool, true, false, cond, nat_lt, nat_le, List, [], ◌∷◌, ◌++◌, length, take, drop, Some, refl, sym, ◌∙◌, ap, arith, append_assoc}
+use Rattle.std.proofs.Common.{◌≡◌, ℕ, zero, suc, ◌+◌, ◌^◌, ◌==◌, ◌<◌, ◌≤◌, Bool, true, false, cond, nat_lt, nat_le, List, [], ◌∷◌, ◌++◌, length, take, drop, Some, inl, inr, refl, sym, ◌∙◌, ap, arith, append_assoc}
+use Rattle.std.proofs.lemmas.Bool.{cases_eq}
 use Rattle.std.proofs.lemmas.List.{append-nil}
 use Rattle.wtf_dev.specs.Counts.{Rose, risen}
 use Rattle.wtf_dev.specs.Streams.{SinkView}
+use Rattle.wtf_script.specs.ScriptLines.{line_feed}
 use Rattle.wtf_summary.specs.Summaries.{feeds, behind_first, front_lines, shown}
 use Rattle.wtf_summary.specs.Tallies.{Tallies}
 use Rattle.wtf_summary.specs.Traces.{numbers_of}
 use Rattle.wtf_summary.specs.States.{IsSound}
-use Rattle.wtf_summary.proofs.Lines.{feeds-push}
+use Rattle.wtf_summary.proofs.Lines.{feeds-byte, feeds-push, other_byte}
 use Rattle.wtf_summary.proofs.Texts.{behind_first-more, feeds-front_lines, front_lines-few}
 use Rattle.wtf_summary.specs.declared.state.State.{State}
 
@@ -52,9 +54,9 @@ pub sound_clean : (now : SinkView) (s : State) → 1 ≤ s.lines → s.lines < 2
     → Tallies s.tally (front_lines s.lines (behind_first s.trace.text.numbers)) → s.trace.seen.numbers ≡ shown s.lines s.trace.text.numbers
     → s.trace.rest.numbers ≡ [] → s.trace.more.numbers ≡ [] → s.faults ≡ 0
     → ((old : SinkView) (before : List ℕ) → s.trace.first.numbers ≡ numbers_of old → old.taken ≡ Some before → now.taken ≡ Some (before ++ s.trace.seen.numbers))
-    → ((old : SinkView) → s.trace.first.numbers ≡ numbers_of old → old.faults ≤ now.faults)
+    → ((old : SinkView) → s.trace.first.numbers ≡ numbers_of old → now.faults ≡ old.faults)
     → IsSound now s
-sound_clean now s some few begun tally shows rest more f added counted = record {
+sound_clean now s some few begun tally shows rest more f added still = record {
   some = some;
   few = few;
   begun = begun;
@@ -62,8 +64,10 @@ sound_clean now s some few begun tally shows rest more f added counted = record 
   shows = clean_shows s.lines s.trace.seen.numbers s.trace.rest.numbers s.trace.text.numbers s.trace.more.numbers shows rest more;
   all = λ _. rest;
   whole = λ _. more;
+  ended = inl more;
   added = added;
-  counted = counted;
+  counted = λ old h. omega (arith, still old h);
+  still = λ old h _. still old h;
   rose = λ old h z. absurd (omega (arith, f, z));
 }
 
@@ -95,7 +99,7 @@ pub took : (before now : SinkView) (old new : State) (b : ℕ) (added : List ℕ
     → new.trace.seen.numbers ≡ old.trace.seen.numbers ++ added
     → shown old.lines (old.trace.text.numbers ++ b ∷ []) ≡ shown old.lines old.trace.text.numbers ++ added
     → Tallies new.tally (front_lines old.lines (behind_first old.trace.text.numbers ++ b ∷ []))
-    → ((l : List ℕ) → before.taken ≡ Some l → now.taken ≡ Some (l ++ added)) → before.faults ≤ now.faults → IsSound now new
+    → ((l : List ℕ) → before.taken ≡ Some l → now.taken ≡ Some (l ++ added)) → now.faults ≡ before.faults → IsSound now new
 took before now old new b added s f begun k text seen shows tally told faults =
     let some = some_begun _ _ s.begun begun in
     let t = old.trace.text.numbers in
@@ -109,17 +113,17 @@ took before now old new b added s f begun k text seen shows tally told faults =
     (k.more ∙ s.whole f)
     (k.faults ∙ f)
     (rw (seen, k.first) (added_more before now old.trace.first.numbers old.trace.seen.numbers added s.added told))
-    (rw k.first (λ o h. omega (arith, s.counted o h, faults)))
+    (rw k.first (λ o h. faults ∙ s.still o h f))
 
 -- the summary could not be shown whole
 pub failed : (before now : SinkView) (old new : State) (b : ℕ) (added : List ℕ) → IsSound before old → old.faults ≡ 0
     → new.lines ≡ old.lines → new.begun ≡ old.begun → new.trace.first.numbers ≡ old.trace.first.numbers → new.trace.text.numbers ≡ old.trace.text.numbers
     → new.trace.seen.numbers ++ new.trace.rest.numbers ≡ old.trace.seen.numbers ++ added
-    → new.trace.more.numbers ≡ b ∷ []
+    → new.trace.more.numbers ≡ b ∷ [] → b ≡ line_feed
     → shown old.lines (old.trace.text.numbers ++ b ∷ []) ≡ shown old.lines old.trace.text.numbers ++ added
     → new.faults ≡ risen old.faults → Rose before.faults now.faults → before.faults ≤ now.faults
     → ((l : List ℕ) → before.taken ≡ Some (l ++ old.trace.seen.numbers) → now.taken ≡ Some (l ++ new.trace.seen.numbers)) → IsSound now new
-failed before now old new b added s f lines begun first text seen more shows faults rose counted told =
+failed before now old new b added s f lines begun first text seen more feed shows faults rose counted told =
     let one : new.faults ≡ 1 = faults ∙ ap risen f in
     record {
       some = rw lines s.some;
@@ -129,8 +133,10 @@ failed before now old new b added s f lines begun first text seen more shows fau
       shows = seen ∙ ap (λ (l : List ℕ). l ++ added) (clean before old s f) ∙ sym shows ∙ sym (rw (lines, text, more) refl);
       all = λ z. absurd (omega (arith, z, one));
       whole = λ z. absurd (omega (arith, z, one));
+      ended = inr (more ∙ ap (λ (n : ℕ). n ∷ []) feed);
       added = rw first (λ o l h e. told l (s.added o l h e));
       counted = rw first (λ o h. omega (arith, s.counted o h, counted));
+      still = λ o h z. absurd (omega (arith, z, one));
       rose = rw first (λ o h z m. omega (arith, s.counted o h, rose m));
     }
 
@@ -148,3 +154,28 @@ done_by false a b h f = absurd (f (grind (arith, h)))
 
 pub done_feeds : (lines : ℕ) (behind : List ℕ) (n : ℕ) → n ≡ feeds (front_lines lines behind) → n ≡ lines → lines ≤ feeds behind
 done_feeds lines behind n e f = done_by _ lines (feeds behind) refl (λ h. omega (arith, h, e, f, ap feeds (front_lines-few lines behind h)))
+
+-- the byte that completes a summary ends a line
+pub ends_line : (lines : ℕ) (behind : List ℕ) (b : ℕ) → feeds behind < lines → lines ≤ feeds (behind ++ b ∷ []) → b ≡ line_feed
+ends_line lines behind b few all = elim (cases_eq b line_feed) [
+  | inl is ↦ is
+  | inr ne ↦ absurd (omega (arith, few, all, feeds-byte behind b (other_byte b ne)))
+]
+
+-- the other sink was called and took no byte
+pub unmoved : (before now : SinkView) (s : State) → IsSound before s → ((l : List ℕ) → before.taken ≡ Some l → now.taken ≡ Some l)
+    → now.faults ≡ before.faults → IsSound now s
+unmoved before now s sound told same = record {
+  some = sound.some;
+  few = sound.few;
+  begun = sound.begun;
+  tally = sound.tally;
+  shows = sound.shows;
+  all = sound.all;
+  whole = sound.whole;
+  ended = sound.ended;
+  added = λ o l h e. told (l ++ s.trace.seen.numbers) (sound.added o l h e);
+  counted = λ o h. omega (arith, sound.counted o h, same);
+  still = λ o h z. same ∙ sound.still o h z;
+  rose = λ o h z m. omega (arith, sound.rose o h z (omega (arith, m, same)), same);
+}

@@ -1,6 +1,7 @@
 -- Laws of what is shown of a text that grows.
-use Rattle.std.proofs.Common.{◌≡◌, ℕ, zero, suc, ◌==◌, ◌<◌, ◌≤◌, Bool, true, false, cond, nat_le, List, [], ◌∷◌, ◌++◌, refl, sym, ◌∙◌, ap, arith}
+use Rattle.std.proofs.Common.{◌≡◌, ℕ, zero, suc, ◌==◌, ◌<◌, ◌≤◌, Bool, true, false, cond, nat_le, List, [], ◌∷◌, ◌++◌, inl, inr, refl, sym, ◌∙◌, ap, arith, append_assoc}
 use Rattle.std.specs.Prelude.{if◌then◌else◌}
+use Rattle.std.proofs.lemmas.Bool.{cases_eq, cases_lt}
 use Rattle.std.proofs.lemmas.List.{append-nil}
 use Rattle.wtf_script.specs.ScriptLines.{line_feed}
 use Rattle.wtf_summary.specs.Summaries.{first_line, behind_first, feeds, front_lines, summary, summed_up, shown}
@@ -170,3 +171,30 @@ shown-past lines text bs h f =
     shown-behind lines text bs h
     ∙ ap (λ (s : List ℕ). first_line text ++ s)
     (summed_up-all lines (behind ++ bs) (omega (arith, f, feeds-le behind bs)) ∙ ap summary (front_lines-more lines behind bs f) ∙ sym (summed_up-all lines behind f))
+
+-- what is shown of a text is a front of what is shown of one that goes on
+
+shown-byte : (lines : ℕ) (text : List ℕ) (b : ℕ) → 1 ≤ lines → (w : List ℕ) × (shown lines (text ++ b ∷ []) ≡ shown lines text ++ w)
+shown-byte lines text b some = elim (cases_eq (feeds text) 0) [
+  | inl z ↦ (b ∷ [], shown-first lines text b some z ∙ ap (λ (l : List ℕ). l ++ b ∷ []) (sym (shown-none lines text some z)))
+  | inr n ↦
+      let begun : 0 < feeds text = omega (arith, n) in
+      let behind = behind_first text in
+      elim (cases_lt (feeds behind) lines) [
+        | inr past ↦ ([], shown-past lines text (b ∷ []) begun past ∙ sym (append-nil (shown lines text)))
+        | inl few ↦ elim (cases_lt (feeds (behind ++ b ∷ [])) lines) [
+          | inl yet ↦ ([], shown-open lines text b begun yet ∙ sym (append-nil (shown lines text)))
+          | inr all ↦ (summary (behind ++ b ∷ []), shown-whole lines text b begun few all)
+        ]
+      ]
+]
+
+pub shown-front : (lines : ℕ) (text bs : List ℕ) → 1 ≤ lines → (w : List ℕ) × (shown lines (text ++ bs) ≡ shown lines text ++ w)
+shown-front lines text [] some = ([], ap (shown lines) (append-nil text) ∙ sym (append-nil (shown lines text)))
+shown-front lines text (b ∷ bs) some =
+    let one = shown-byte lines text b some in
+    let rest = shown-front lines (text ++ b ∷ []) bs some in (
+      one.0 ++ rest.0,
+      ap (shown lines) (sym (append_assoc text (b ∷ []) bs)) ∙ rest.1 ∙ ap (λ (l : List ℕ). l ++ rest.0) one.1
+          ∙ append_assoc (shown lines text) one.0 rest.0,
+    )

@@ -1,5 +1,5 @@
 -- What a byte, and the summary, make of what is kept.
-use Rattle.std.specs.Prelude.{◌≡◌, ℕ, ◌≤◌, List, [], ◌∷◌, ◌++◌, Some, Result, Ok, Err, MatchResult}
+use Rattle.std.specs.Prelude.{◌≡◌, ◌⊎◌, ℕ, ◌≤◌, List, [], ◌∷◌, ◌++◌, Some, Result, Ok, Err, MatchResult}
 use Rattle.wtf_dev.specs.Counts.{Rose, risen}
 use Rattle.wtf_dev.specs.Streams.{SinkView}
 use Rattle.wtf_summary.specs.States.{IsSound}
@@ -16,13 +16,23 @@ pub record Steps {E : Type 0} (now : SinkView) (old new : State) (byte : ℕ) (r
   pub lines : new.lines ≡ old.lines
   pub first : new.trace.first.numbers ≡ old.trace.first.numbers
   pub took : TookByte old new byte result
+  -- what is missing of the text is what was missing, or this byte
+  pub more : (new.trace.more.numbers ≡ old.trace.more.numbers) ⊎ (new.trace.more.numbers ≡ byte ∷ [])
+
+-- the other sink brought out what it holds back, or a fault was counted; no byte was taken
+pub record BringsOut {E : Type 0} (now : SinkView) (old new : State) (result : Result (Unit {0}) E) : Type 0 where
+  pub sound : IsSound now new
+  pub lines : new.lines ≡ old.lines
+  pub first : new.trace.first.numbers ≡ old.trace.first.numbers
+  pub text : new.trace.text.numbers ≡ old.trace.text.numbers
+  pub faults : MatchResult result (λ u. new.faults ≡ old.faults) (λ e. new.faults ≡ risen old.faults)
 
 -- the summary, which this byte completed, was shown whole
 abbrev pub ShowedWhole : SinkView → SinkView → List ℕ → State → State → Type 0
 ShowedWhole before now summary old new =
     (new.trace.seen.numbers ≡ old.trace.seen.numbers ++ summary) × (new.trace.rest.numbers ≡ old.trace.rest.numbers)
     × (new.trace.more.numbers ≡ old.trace.more.numbers) × (new.faults ≡ old.faults)
-    × ((l : List ℕ) → before.taken ≡ Some l → now.taken ≡ Some (l ++ summary))
+    × ((l : List ℕ) → before.taken ≡ Some l → now.taken ≡ Some (l ++ summary)) × (now.faults ≡ before.faults)
 
 -- or its front was, and then a fault was counted
 abbrev pub ShowedFront : SinkView → SinkView → List ℕ → ℕ → State → State → Type 0

@@ -11,6 +11,8 @@ pub(crate) fn pass<O: Sink>(out: &mut O, text: &[u8]) -> usize
     ensures told { (old : List ℕ) → (O.view out.old).taken ≡ Some old →
         (O.view out.new).taken ≡ Some (old ++ take result text.now) }
     ensures faults { (O.view out.old).faults ≤ (O.view out.new).faults }
+    ensures steady { result ≡ length text.now →
+        (O.view out.new).faults ≡ (O.view out.old).faults }
     ensures cause { result < length text.now →
         Rose (O.view out.old).faults (O.view out.new).faults }
 {

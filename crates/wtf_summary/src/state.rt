@@ -5,7 +5,7 @@ ghost use Rattle.wtf_dev.specs.Counts.{risen};
 ghost use Rattle.wtf_summary.specs.Summaries.{summary};
 ghost use Rattle.wtf_summary.specs.Tallies.{Tallies};
 ghost use Rattle.wtf_summary.specs.States.{IsSound};
-ghost use Rattle.wtf_summary.specs.Steps.{ShowsSummary, Steps};
+ghost use Rattle.wtf_summary.specs.Steps.{BringsOut, ShowsSummary, Steps};
 ghost use Rattle.wtf_summary.specs.Traces.{numbers_of};
 
 use crate::passing::pass;
@@ -140,4 +140,18 @@ pub(crate) fn advance<O: Sink>(out: &mut O, state: &mut State, byte: u8) -> Resu
         return Ok(());
     }
     sum_up(out, state, byte)
+}
+
+/// Has the other sink bring out what it holds back.
+pub(crate) fn bring_out<O: Sink>(out: &mut O, state: &mut State) -> Result<(), Failed>
+    requires sound { IsSound (O.view out.old) state.old }
+    ensures { BringsOut (O.view out.new) state.old state.new result }
+{
+    if state.faults != 0 {
+        return Err(state.fail());
+    }
+    match out.write(&[]) {
+        Err(_) => Err(state.fail()),
+        Ok(_) => Ok(()),
+    }
 }

@@ -4,12 +4,12 @@ ghost use Rattle.std.specs.Prelude.{◌≡◌, ◌≤◌, [], Some};
 ghost use Rattle.wtf_summary.specs.States.{IsSound, IsSound_prop, told};
 ghost use Rattle.wtf_summary.specs.Traces.{numbers_of};
 
-use crate::state::{State, advance};
+use crate::state::{State, advance, bring_out};
 use wtf_dev::{Failed, Sink};
 
 /// A sink that shows the first line that is written to it on another sink, and of the lines behind it only their
-/// summary, once so many of them came; bytes behind those are taken, and are not shown. After a write that failed each
-/// further one fails too.
+/// summary, once so many of them came; bytes behind those are taken, and are not shown. A write of no byte is handed on.
+/// After a write that failed each further one fails too.
 #[derive(Drop)]
 pub struct Summarizing<'a, O: Sink> {
     out: &'a mut O,
@@ -55,6 +55,7 @@ impl<'a, O: Sink> Sink for Summarizing<'a, O> {
 
     fn write(&mut self, bytes: &[u8]) -> Result<usize, Failed> {
         let Some(byte) = bytes.first() else {
+            bring_out(self.out, &mut self.state)?;
             return Ok(0);
         };
         advance(self.out, &mut self.state, *byte)?;

@@ -1,87 +1,34 @@
-use Rattle.std.proofs.Common.{◌≡◌, ◌<◌, ◌≤◌, ◌++◌, ℕ, List, Some, length, nat_eq, true, take, subst, refl, sym, ap, ◌∙◌, arith, rules}
-use Rattle.std.proofs.Math.Seq.{take-length}
-use Rattle.wtf_summary.specs.Fronts.{ShowsFront}
-use Rattle.wtf_summary.specs.Summaries.{shown}
-use Rattle.wtf_summary.specs.Traces.{numbers_of}
-use Rattle.wtf_summary.proofs.Ends.{ran, shows_all, shows_front}
+use Rattle.std.proofs.Common.{◌++◌, ℕ, List, [], get_or, inl, inr, refl, sym, ap, ◌∙◌, arith}
+use Rattle.std.proofs.lemmas.List.{append-nil, take_all}
+use Rattle.wtf_summary.proofs.Ends.{kept_text, shows_all, shows_front, text_is}
 use Rattle.wtf_summary.proofs.showing.show.Goals as goal
 
-full : (n : ℕ) (l : List ℕ) → nat_eq n (length l) ≡ true → take n l ≡ l
-full n l h = let e : n ≡ length l = grind (arith, h) in ap (λ k. take k l) e ∙ take-length l
+pub returns-then-is_err-clause-front : goal.returns-then-is_err-clause-front
+returns-then-is_err-clause-front g c = λ before h.
+    let was = c.loop-at.invariant in
+    let text = c.args.text.now in
+    let at = c.loop-at.at in
+    let new = c.advance.new.state in
+    let step = c.advance.ensures in
+    let kept = kept_text c.loop-at.state new (get_or text at 0) c.advance.result step.took (sym c.is_err.ensures.value ∙ c.if-is_err.true) in
+    let rest = text_is text at (get_or text at 0) new.trace.text.numbers new.trace.more.numbers c.loop-at-test.true refl (kept ∙ was.text)
+    (elim step.more [ inl same ↦ inl (same ∙ was.sound.whole was.whole) | inr one ↦ inr one ]) in
+    shows_front (g.O.Sink.view c.args.out.now) (g.O.Sink.view c.advance.new.out) new c.args.lines text rest.0 before step.sound
+    (step.lines ∙ was.lines) (step.first ∙ was.first) rest.1 h
 
-pub returns-then-faults-eq0-clause-whole : goal.returns-then-faults-eq0-clause-whole
-returns-then-faults-eq0-clause-whole g c =
-    let below = g.O.Sink.view c.args.out.now in
-    let w0 = c.new-sink.result in
-    let w = c.pass-taken.new.out in
-    let e = c.new-sink.ensures in
-    let on = ran w0.out.ghost_name c.args.lines (numbers_of below) w0.out.ghost_name w0.state w.out.ghost_name w.state (take c.pass-taken.result c.args.text.now)
-    refl e.lines e.first e.text c.pass-taken.ensures.told in
-    let same : c.finish-faults.new.self.0 ≡ c.out-1.given.0 = search (rules, on.name) in
-    let ends = sym c.finish-faults.ensures.kept ∙ same in
-    let whole = sym c.finish-faults.ensures.faults ∙ c.if-faults-eq0.true in
-    λ t before h. subst (λ o. (g.O.Sink.view o).taken ≡ Some (before ++ shown c.args.lines c.args.text.now)) ends
-    (shows_all below (g.O.Sink.view w.out.now) w.state c.args.lines c.args.text.now before w.sound on.lines on.first (on.text ∙ full c.pass-taken.result c.args.text.now t) whole h)
+pub returns-clause-whole : goal.returns-clause-whole
+returns-clause-whole g c = λ t before h.
+    let was = c.loop-at.invariant in
+    shows_all (g.O.Sink.view c.args.out.now) (g.O.Sink.view c.loop-at.out) c.loop-at.state c.args.lines c.args.text.now before was.sound was.lines was.first
+    (was.text ∙ take_all c.loop-at.at c.args.text.now (omega (arith, c.loop-at-test.false))) was.whole h
 
-pub returns-then-faults-eq0-clause-front : goal.returns-then-faults-eq0-clause-front
-returns-then-faults-eq0-clause-front g c =
-    let below = g.O.Sink.view c.args.out.now in
-    let w0 = c.new-sink.result in
-    let w = c.pass-taken.new.out in
-    let e = c.new-sink.ensures in
-    let on = ran w0.out.ghost_name c.args.lines (numbers_of below) w0.out.ghost_name w0.state w.out.ghost_name w.state (take c.pass-taken.result c.args.text.now)
-    refl e.lines e.first e.text c.pass-taken.ensures.told in
-    let same : c.finish-faults.new.self.0 ≡ c.out-1.given.0 = search (rules, on.name) in
-    let ends = sym c.finish-faults.ensures.kept ∙ same in
-    λ before h. subst (λ o. ShowsFront c.args.lines before (g.O.Sink.view o).taken) ends
-    (shows_front below (g.O.Sink.view w.out.now) w.state c.args.lines before w.sound on.lines on.first h)
-
-pub returns-then-faults-eq0-clause-faults : goal.returns-then-faults-eq0-clause-faults
-returns-then-faults-eq0-clause-faults g c =
-    let below = g.O.Sink.view c.args.out.now in
-    let w0 = c.new-sink.result in
-    let w = c.pass-taken.new.out in
-    let e = c.new-sink.ensures in
-    let on = ran w0.out.ghost_name c.args.lines (numbers_of below) w0.out.ghost_name w0.state w.out.ghost_name w.state (take c.pass-taken.result c.args.text.now)
-    refl e.lines e.first e.text c.pass-taken.ensures.told in
-    let same : c.finish-faults.new.self.0 ≡ c.out-1.given.0 = search (rules, on.name) in
-    let ends = sym c.finish-faults.ensures.kept ∙ same in
-    subst (λ o. below.faults ≤ (g.O.Sink.view o).faults) ends (w.sound.counted below on.first)
-
-pub returns-else-faults-eq0-clause-front : goal.returns-else-faults-eq0-clause-front
-returns-else-faults-eq0-clause-front g c =
-    let below = g.O.Sink.view c.args.out.now in
-    let w0 = c.new-sink.result in
-    let w = c.pass-taken.new.out in
-    let e = c.new-sink.ensures in
-    let on = ran w0.out.ghost_name c.args.lines (numbers_of below) w0.out.ghost_name w0.state w.out.ghost_name w.state (take c.pass-taken.result c.args.text.now)
-    refl e.lines e.first e.text c.pass-taken.ensures.told in
-    let same : c.finish-faults.new.self.0 ≡ c.out-1.given.0 = search (rules, on.name) in
-    let ends = sym c.finish-faults.ensures.kept ∙ same in
-    λ before h. subst (λ o. ShowsFront c.args.lines before (g.O.Sink.view o).taken) ends
-    (shows_front below (g.O.Sink.view w.out.now) w.state c.args.lines before w.sound on.lines on.first h)
-
-pub returns-else-faults-eq0-clause-faults : goal.returns-else-faults-eq0-clause-faults
-returns-else-faults-eq0-clause-faults g c =
-    let below = g.O.Sink.view c.args.out.now in
-    let w0 = c.new-sink.result in
-    let w = c.pass-taken.new.out in
-    let e = c.new-sink.ensures in
-    let on = ran w0.out.ghost_name c.args.lines (numbers_of below) w0.out.ghost_name w0.state w.out.ghost_name w.state (take c.pass-taken.result c.args.text.now)
-    refl e.lines e.first e.text c.pass-taken.ensures.told in
-    let same : c.finish-faults.new.self.0 ≡ c.out-1.given.0 = search (rules, on.name) in
-    let ends = sym c.finish-faults.ensures.kept ∙ same in
-    subst (λ o. below.faults ≤ (g.O.Sink.view o).faults) ends (w.sound.counted below on.first)
-
-pub returns-else-faults-eq0-clause-cause : goal.returns-else-faults-eq0-clause-cause
-returns-else-faults-eq0-clause-cause g c =
-    let below = g.O.Sink.view c.args.out.now in
-    let w0 = c.new-sink.result in
-    let w = c.pass-taken.new.out in
-    let e = c.new-sink.ensures in
-    let on = ran w0.out.ghost_name c.args.lines (numbers_of below) w0.out.ghost_name w0.state w.out.ghost_name w.state (take c.pass-taken.result c.args.text.now)
-    refl e.lines e.first e.text c.pass-taken.ensures.told in
-    let same : c.finish-faults.new.self.0 ≡ c.out-1.given.0 = search (rules, on.name) in
-    let ends = sym c.finish-faults.ensures.kept ∙ same in
-    λ _. subst (λ o. (g.O.Sink.view o).faults < 18446744073709551615 → below.faults < (g.O.Sink.view o).faults) ends
-    (w.sound.rose below on.first (omega (arith, c.if-faults-eq0.false, c.finish-faults.ensures.faults)))
+pub returns-clause-front : goal.returns-clause-front
+returns-clause-front g c = λ before h.
+    let was = c.loop-at.invariant in
+    let state = c.loop-at.state in
+    let text = c.args.text.now in
+    shows_front (g.O.Sink.view c.args.out.now) (g.O.Sink.view c.loop-at.out) state c.args.lines text [] before was.sound was.lines was.first
+    (append-nil (state.trace.text.numbers ++ state.trace.more.numbers)
+    ∙ ap (λ (m : List ℕ). state.trace.text.numbers ++ m) (was.sound.whole was.whole) ∙ append-nil state.trace.text.numbers
+    ∙ was.text ∙ take_all c.loop-at.at text (omega (arith, c.loop-at-test.false)))
+    h

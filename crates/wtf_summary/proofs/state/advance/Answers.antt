@@ -1,4 +1,4 @@
-use Rattle.std.proofs.Common.{◌≡◌, ◌++◌, ◌∷◌, ℕ, List, [], Some, ap, sym, ◌∙◌, arith}
+use Rattle.std.proofs.Common.{◌≡◌, ◌++◌, ◌∷◌, ℕ, List, [], Some, inl, refl, ap, sym, ◌∙◌, arith}
 use Rattle.std.proofs.lemmas.List.{append-nil}
 use Rattle.wtf_summary.specs.Summaries.{behind_first}
 use Rattle.wtf_summary.proofs.Sound.{done_feeds, some_begun, took}
@@ -27,8 +27,9 @@ returns-then-state g c =
           (shown-past old.lines text (b ∷ []) some done ∙ sym (append-nil _))
           (rw (ap (λ n. n.tally) same, front_lines-more old.lines behind (b ∷ []) done) tally)
           (λ l h. h ∙ ap Some (sym (append-nil l)))
-          (omega arith);
+          refl;
       lines = ap (λ n. n.lines) same;
       first = ap (λ n. n.trace.first.numbers) same;
       took = (texts, ap (λ n. n.faults) same);
+      more = inl (ap (λ n. n.trace.more.numbers) same);
     }

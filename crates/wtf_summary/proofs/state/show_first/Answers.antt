@@ -1,4 +1,4 @@
-use Rattle.std.proofs.Common.{◌≡◌, ◌==◌, ◌++◌, ◌∷◌, ℕ, List, [], Some, subst, ap, ◌∙◌, arith}
+use Rattle.std.proofs.Common.{◌≡◌, ◌==◌, ◌++◌, ◌∷◌, ℕ, List, [], Some, inl, subst, ap, ◌∙◌}
 use Rattle.wtf_script.specs.ScriptLines.{line_feed}
 use Rattle.wtf_summary.specs.Summaries.{front_lines}
 use Rattle.wtf_summary.specs.Tallies.{Tallies}
@@ -30,8 +30,9 @@ returns-in-Ok g c =
           (ap (λ n. n.trace.more.numbers) same ∙ s.whole c.requires.whole)
           (ap (λ n. n.faults) same ∙ c.requires.whole)
           (rw (seen, first) (added_more (g.O.Sink.view c.args.out.now) (g.O.Sink.view c.write.new.self) old.trace.first.numbers old.trace.seen.numbers (b ∷ []) s.added (λ l h. c.in-Ok.ensures.told l h ∙ ap Some (ap (λ (x : List ℕ). l ++ x) taken))))
-          (rw first (λ o h. omega (arith, s.counted o h, c.in-Ok.ensures.faults)));
+          (rw first (λ o h. c.in-Ok.ensures.steady ∙ s.still o h c.requires.whole));
       lines = lines;
       first = first;
       took = (texts, ap (λ n. n.faults) same);
+      more = inl (ap (λ n. n.trace.more.numbers) same);
     }

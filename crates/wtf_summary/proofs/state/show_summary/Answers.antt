@@ -13,7 +13,8 @@ returns-then-is_empty g c = record {
       let all = take_drop n c.as_slice-2.result.now in
       let e2 : c.as_slice-2.result.now ≡ summary text = c.as_slice-2.ensures.value ∙ c.summary-text.ensures text t in
       let seen = c.and.ensures ∙ ap (λ (l : List ℕ). old ++ l) c.split_at.ensures.front in
-      let none : drop n c.as_slice-2.result.now ≡ [] = sym c.split_at.ensures.back ∙ empty_test _ _ c.is_empty.ensures c.if-is_empty.true in
+      let gone : c.split_at.result.1.now ≡ [] = empty_test _ _ c.is_empty.ensures c.if-is_empty.true in
+      let none : drop n c.as_slice-2.result.now ≡ [] = sym c.split_at.ensures.back ∙ gone in
       let whole : take n c.as_slice-2.result.now ≡ summary text = sym (append-nil _) ∙ ap (λ (l : List ℕ). take n c.as_slice-2.result.now ++ l) (sym none) ∙ all ∙ e2 in
       record {
         lines = refl;
@@ -23,7 +24,14 @@ returns-then-is_empty g c = record {
         text = refl;
         counted = c.pass-taken.ensures.faults;
         added = λ b h. c.pass-taken.ensures.told (b ++ old) h ∙ ap Some (append_assoc b old (take n c.as_slice.result.now) ∙ ap (λ (l : List ℕ). b ++ l) (ap (λ (l : List ℕ). old ++ take n l) (e ∙ sym e2) ∙ sym seen));
-        showed = (seen ∙ ap (λ (l : List ℕ). old ++ l) whole, refl, refl, refl, λ l h. c.pass-taken.ensures.told l h ∙ ap Some (ap (λ (x : List ℕ). l ++ x) (ap (take n) (e ∙ sym e2) ∙ whole)));
+        showed = (
+          seen ∙ ap (λ (l : List ℕ). old ++ l) whole,
+          refl,
+          refl,
+          refl,
+          λ l h. c.pass-taken.ensures.told l h ∙ ap Some (ap (λ (x : List ℕ). l ++ x) (ap (take n) (e ∙ sym e2) ∙ whole)),
+          c.pass-taken.ensures.steady (omega (arith, c.pass-taken.ensures.within, ap length gone, c.split_at.ensures.back_len, ap length (e ∙ sym e2))),
+        );
       };
 }
 

@@ -1,8 +1,8 @@
-use Rattle.std.proofs.Common.{◌≡◌, ◌<◌, ◌≤◌, ◌++◌, ◌∷◌, ℕ, List, [], Some, subst, ap, sym, ◌∙◌, arith}
+use Rattle.std.proofs.Common.{◌≡◌, ◌<◌, ◌≤◌, ◌++◌, ◌∷◌, ℕ, List, [], Some, inl, inr, refl, subst, ap, sym, ◌∙◌, arith}
 use Rattle.std.proofs.lemmas.List.{append-nil}
 use Rattle.wtf_summary.specs.Summaries.{behind_first, feeds, front_lines, summary}
 use Rattle.wtf_summary.specs.Tallies.{Tallies}
-use Rattle.wtf_summary.proofs.Sound.{failed, open_feeds, some_begun, took}
+use Rattle.wtf_summary.proofs.Sound.{ends_line, failed, open_feeds, some_begun, took}
 use Rattle.wtf_summary.proofs.Texts.{front_lines-byte, front_lines-few, shown-open, shown-whole}
 use Rattle.wtf_summary.proofs.Words.{counts_of-below}
 use Rattle.wtf_summary.proofs.state.sum_up.Goals as goal
@@ -37,10 +37,11 @@ returns-then-state-lines g c =
           (shown-open old.lines text b (some_begun _ _ s.begun c.requires.behind) few ∙ sym (append-nil _))
           (rw (ap (λ n. n.tally) same, front_lines-byte old.lines behind b few_yet) next)
           (λ l h. h ∙ ap Some (sym (append-nil l)))
-          (omega arith);
+          refl;
       lines = ap (λ n. n.lines) same;
       first = ap (λ n. n.trace.first.numbers) same;
       took = (texts, ap (λ n. n.faults) same);
+      more = inl (ap (λ n. n.trace.more.numbers) same);
     }
 
 pub returns-in-Err : goal.returns-in-Err
@@ -57,11 +58,13 @@ returns-in-Err g c =
     record {
       sound = failed (g.O.Sink.view c.args.out.now) (g.O.Sink.view c.show_summary.new.out) old new b (summary (behind ++ b ∷ [])) s c.requires.whole
           shows.lines shows.begun (ap (λ t. t.numbers) shows.first) (ap (λ t. t.numbers) shows.text) shows.showed.0 shows.showed.1
+          (ends_line old.lines behind b few_yet all)
           (shown-whole old.lines text b (some_begun _ _ s.begun c.requires.behind) few_yet all)
           shows.showed.2 shows.showed.3 shows.counted shows.added;
       lines = shows.lines;
       first = ap (λ t. t.numbers) shows.first;
       took = (ap (λ t. t.numbers) shows.text, shows.showed.2);
+      more = inr shows.showed.1;
     }
 
 pub returns-in-Ok : goal.returns-in-Ok
@@ -88,8 +91,9 @@ returns-in-Ok g c =
           (shown-whole old.lines text b (some_begun _ _ s.begun c.requires.behind) few_yet all)
           (rw (ap (λ n. n.tally) same, shows.tally, front_lines-byte old.lines behind b few_yet) next)
           shows.showed.4
-          shows.counted;
+          shows.showed.5;
       lines = lines;
       first = first;
       took = (texts, faults);
+      more = inl (ap (λ n. n.trace.more.numbers) same ∙ shows.showed.2);
     }
