@@ -58,16 +58,36 @@ bare_written opening true status answers p taken' (inr not) w = (
     nothing = λ s n. absurd (cc);
   },
 )
-bare_written opening true status answers p taken' (inl is) w = let cut = w.cut refl is in (
-  output opening cut.earlier ++ cut.front,
-  cut.new_is,
-  record {
-    whole = λ s n. absurd (n is);
-    cut = λ s e. record { earlier = cut.earlier; last = cut.last; front = cut.front; back = cut.back; all = cut.all; text = cut.text; new_is = refl };
-    cut_first = λ s e. absurd (cc);
-    nothing = λ s n. absurd (n is);
-  },
-)
+bare_written opening true status answers p taken' (inl is) w = elim (w.cut refl is) [
+  | inl cut ↦ (
+    output opening cut.earlier ++ cut.front,
+    cut.new_is,
+    record {
+      whole = λ s n. absurd (n is);
+      cut = λ s e. inl (record {
+        earlier = cut.earlier;
+        last = cut.last;
+        front = cut.front;
+        back = cut.back;
+        all = cut.all;
+        text = cut.text;
+        new_is = refl;
+      });
+      cut_first = λ s e. absurd (cc);
+      nothing = λ s n. absurd (n is);
+    },
+  )
+  | inr all ↦ (
+    output opening answers,
+    all,
+    record {
+      whole = λ s n. absurd (n is);
+      cut = λ s e. inr refl;
+      cut_first = λ s e. absurd (cc);
+      nothing = λ s n. absurd (n is);
+    },
+  )
+]
 bare_written opening false status answers p taken' (inr not) w = (
   [],
   w.nothing refl not ∙ ap (λ (t : List ℕ). Some t) (sym (append-nil p)),
@@ -102,6 +122,7 @@ bare_refuses why status g f p taken' r = elim r.status_is [
       wrote = λ d t is. ap (λ (x : List ℕ). Some (x ++ refusal_line why)) (none_taken t is);
       cut = λ d. absurd (omega (arith, d, e));
       cause = r.cause;
+      still = r.still;
     },
   )
   | inr e ↦ let front = r.cut e p refl in (
@@ -112,6 +133,7 @@ bare_refuses why status g f p taken' r = elim r.status_is [
       wrote = λ d. absurd (omega (arith, d, e));
       cut = λ d t is. (front.0, front.1, front.2, ap (λ (x : List ℕ). Some (x ++ front.0)) (none_taken t is));
       cause = r.cause;
+      still = r.still;
     },
   )
 ]
@@ -191,6 +213,7 @@ bare_served kind handed opening status source source' stock stock' g f p taken' 
         save_cause = s.save_cause;
         source_faults = s.source_faults;
         sink_faults = s.sink_faults;
+        sink_still = s.sink_still;
         faults = s.faults;
         faults_of_run = s.faults_of_run;
         follows_on = s.follows_on;

@@ -31,7 +31,7 @@ use Rattle.wtf_core.proofs.Telling.{first_on}
 use Rattle.wtf_script.specs.declared.limits.TheConstants.{SCRIPT_BYTES}
 use Rattle.wtf_serve.specs.declared.service.Stop.{Stop}
 use Rattle.wtf_serve.specs.declared.service.Stop.TheVariants as stop
-use Rattle.wtf_serve.specs.Beginnings.{Closes}
+use Rattle.wtf_serve.specs.Beginnings.{Closes, Ends}
 use Rattle.wtf_serve.specs.Endings.{Devices, IsServedStatus, IsEarlyStatus, stop_status, IsNextLine, IsOfCollect, IsLeft, IsNext, Served}
 use Rattle.wtf_serve.specs.Engines.{Engine, Step, step, IsLawful, IsAnswer}
 use Rattle.wtf_serve.specs.Logs.{asked, last, last_downs, output}
@@ -49,7 +49,7 @@ use Rattle.wtf_serve.proofs.Picturing.{holds_on, starts_on, start_on, next_saved
 use Rattle.wtf_serve.proofs.PunchLaws.{only_still}
 use Rattle.wtf_serve.proofs.RanLaws.{longer, lawful_more, last_more, so_far_more}
 use Rattle.wtf_serve.proofs.Rising.{up_faults}
-use Rattle.wtf_serve.proofs.Telling.{told_more, told_front, told_end, told_fault, told_much, told_other}
+use Rattle.wtf_serve.proofs.Telling.{told_more, told_front, told_end, told_held, told_fault, told_much, told_other}
 
 ends_as : (bad : Bool) → IsEndStatus (end_status bad)
 ends_as true = inr refl
@@ -71,6 +71,24 @@ of_collect freed script lines line next asked asks a ranges h = inl h.0
 -- with another status there were stores enough
 pub enough : (status n servers : ℕ) → status ≢ 2 → servers ≤ n → (status ≡ 2) ↔ (n < servers)
 enough status n servers not_2 many = ((λ e. absurd (not_2 e)), (λ h. absurd (omega (arith, many, h))))
+
+-- what the end of a run makes of its sink: no byte is added to what it took, and it failed with status 4 alone
+record SinkEnds (status : ℕ) (old new : SinkView) : Type 0 where
+  taken : (bytes : List ℕ) → old.taken ≡ Some bytes → new.taken ≡ Some bytes
+  still : status ≢ 4 → new.faults ≡ old.faults
+  rose : status ≡ 4 → Rose old.faults new.faults
+  rises : old.faults ≤ new.faults
+
+-- with another status it may be the same
+sink_same : (status : ℕ) (old new : SinkView) → status ≢ 4 → new ≡ old → SinkEnds status old new
+sink_same status old new not_4 same =
+    let steady : new.faults ≡ old.faults = ap (λ (s : SinkView). s.faults) same in
+    record {
+      taken = λ bytes e. ap (λ (s : SinkView). s.taken) same ∙ e;
+      still = λ _. steady;
+      rose = λ e. absurd (not_4 e);
+      rises = omega (arith, steady);
+    }
 
 -- The end of a run so far
 module _ {S State : Type 0} (engine : Engine S State) (laws : KindLaws engine.kind) (keeps : KeepsWithin engine) (handed : List (List ℕ) → Type 0)
@@ -122,19 +140,21 @@ module _ {S State : Type 0} (engine : Engine S State) (laws : KindLaws engine.ki
       ((is.told named m stands).within ((g.so_far.told tells).within_from t from)) (is.goes_on.kept (g.keeper.tells ∙ telling.tells) (g.kept telling)) held)
 
   -- the run ends without a further line
-  finish : (status : ℕ) (final : Stock S) (result : Result (Option Bool) Stop) → PassIs engine now next result
+  finish : (status : ℕ) (sink' : SinkView) (final : Stock S) (result : Result (Option Bool) Stop) → PassIs engine now next result
       → (rest : List (ℕ × Range)) → (status ≢ 7 → rest ≡ []) → (rest ≡ []) ⊎ IsOfCollect start.source.rest g.log.lines rest
       → EachFollows engine.kind now.stock.shelf final.shelf rest
       → KeeperGoesOn now.stock.keeper final.keeper → (IsEarlyStatus status → now.stock ≡ final)
       → (IsWholeStatus status → SameLengths engine.kind now.stock.shelf final.shelf)
       → ((script : List ℕ) → start.source.rest ≡ Some script → HasRead script next.input.source.rest status g.log.lines)
-      → next.sink ≡ now.sink → status ≢ 2 → status ≢ 4
+      → SinkEnds status now.sink sink' → status ≢ 2
       → (status ≡ 9) ↔ (SCRIPT_BYTES < next.input.held.count) → IsServedStatus status → (IsEndStatus status → status ≡ end_status bad)
       → (status ≡ 3 → Rose now.input.source.faults next.input.source.faults)
       → (status ≡ 5 → IsSaveFault engine.kind (span (last_downs g.log) now.stock.shelf final.shelf) opening.settings.servers now.stock.keeper final.keeper)
       → Leaves status final
-      → Served engine.kind handed opening status start (record { source = next.input.source; sink = next.sink; stock = final })
-  finish status final result pass rest none by_line follows keeper at_end adds read same_sink not_2 not_4 limit statuses ends cause why left =
+      → Served engine.kind handed opening status start (record { source = next.input.source; sink = sink'; stock = final })
+  finish status sink' final result pass rest none by_line follows keeper at_end adds read sink_ends not_2 limit statuses ends cause why left =
+      let sink_rose : status ≡ 4 → Rose start.sink.faults sink'.faults
+      = λ is. rose_in start.sink.faults now.sink.faults sink'.faults sink'.faults (omega (arith, g.sink_still)) (sink_ends.rose is) (omega arith) in
       let rose : status ≡ 3 → Rose start.source.faults next.input.source.faults
       = λ is. rose_in start.source.faults now.input.source.faults next.input.source.faults next.input.source.faults g.source_faults (cause is) (omega arith) in
       record {
@@ -153,8 +173,8 @@ module _ {S State : Type 0} (engine : Engine S State) (laws : KindLaws engine.ki
         sound = λ _. g.taken;
         read = read;
         wrote = λ text e. record {
-          whole = λ _ _. ap (λ (x : SinkView). x.taken) same_sink ∙ g.wrote text e;
-          cut = λ _ is. absurd (not_4 is);
+          whole = λ _ _. sink_ends.taken (text ++ output opening g.log.answers) (g.wrote text e);
+          cut = λ _ _. inr (sink_ends.taken (text ++ output opening g.log.answers) (g.wrote text e));
           cut_first = λ is. absurd (cc);
           nothing = λ is. absurd (cc);
         };
@@ -166,10 +186,11 @@ module _ {S State : Type 0} (engine : Engine S State) (laws : KindLaws engine.ki
         few_stores = enough status (length start.stock.shelf) opening.settings.servers not_2 g.enough;
         unread = λ is. absurd (not_2 is);
         source_cause = rose;
-        sink_cause = λ is. absurd (not_4 is);
+        sink_cause = sink_rose;
         save_cause = why;
         source_faults = omega (arith, g.source_faults, pass.drawn.faults);
-        sink_faults = omega (arith, g.sink_faults, pass.sink_faults);
+        sink_faults = omega (arith, g.sink_still, sink_ends.rises);
+        sink_still = λ other. sink_ends.still other ∙ g.sink_still;
         faults = closing_rose laws opening.settings status (last_downs g.log) start.stock now.stock final
             (count_along (is_device_fault opening.settings) none_down (asked g.log) g.log.answers) follows keeper why g.so_far.ran.faults;
         faults_of_run = λ by empty. closing_rose laws opening.settings status (last_downs g.log) start.stock now.stock final
@@ -178,11 +199,11 @@ module _ {S State : Type 0} (engine : Engine S State) (laws : KindLaws engine.ki
         follows_on = each_on laws g.so_far.ran.follows_on follows;
         complete = λ many still up end. (
           sym (up_faults opening.settings none_down (asked g.log) g.log.answers up)
-              ∙ still_count laws start (record { source = next.input.source; sink = next.sink; stock = final }) now.stock
+              ∙ still_count laws start (record { source = next.input.source; sink = sink'; stock = final }) now.stock
               (count_along (is_device_fault opening.settings) none_down (asked g.log) g.log.answers) g.so_far.ran.faults
               g.so_far.ran.follows_on follows keeper still,
-          still_status status start.source.faults next.input.source.faults start.sink.faults next.sink.faults statuses not_2 rose (λ is. absurd (not_4 is))
-              (λ is. still_save laws start (record { source = next.input.source; sink = next.sink; stock = final }) now.stock
+          still_status status start.source.faults next.input.source.faults start.sink.faults sink'.faults statuses not_2 rose sink_rose
+              (λ is. still_save laws start (record { source = next.input.source; sink = sink'; stock = final }) now.stock
               (last_downs g.log) opening.settings.servers
               g.so_far.ran.follows_on follows g.keeper still end (why is)) still.source_is still.sink_is,
         );
@@ -211,8 +232,21 @@ module _ {S State : Type 0} (engine : Engine S State) (laws : KindLaws engine.ki
 
   -- ---- the closing save, where a pass came to the end of the script
 
-  module _ (final : Stock S) (state' : State) (came : PassIs engine now next (Ok None)) (follows : EachFollows engine.kind now.stock.shelf final.shelf [])
-      (keeper : KeeperGoesOn now.stock.keeper final.keeper) where
+  -- once what the sink held back is out
+  module _ (sink' : SinkView) (final : Stock S) (state' : State) (came : PassIs engine now next (Ok None))
+      (follows : EachFollows engine.kind now.stock.shelf final.shelf []) (keeper : KeeperGoesOn now.stock.keeper final.keeper)
+      (taken : (bytes : List ℕ) → next.sink.taken ≡ Some bytes → sink'.taken ≡ Some bytes) (steady : sink'.faults ≡ next.sink.faults) where
+    sink_out : (status : ℕ) → status ≢ 4 → SinkEnds status now.sink sink'
+    sink_out status not_4 =
+        let quiet = came.came.1.sink in
+        let same : sink'.faults ≡ now.sink.faults = steady ∙ ap (λ (s : SinkView). s.faults) quiet in
+        record {
+          taken = λ bytes e. taken bytes (ap (λ (s : SinkView). s.taken) quiet ∙ e);
+          still = λ _. same;
+          rose = λ e. absurd (not_4 e);
+          rises = omega (arith, same);
+        }
+
     read_whole : (status : ℕ) → IsWholeStatus status → (script : List ℕ) → start.source.rest ≡ Some script
         → HasRead script next.input.source.rest status g.log.lines
     read_whole status whole script e = told_end script now.input.source.rest next.input.source.rest now.input.held next.input.held g.log.lines
@@ -227,11 +261,11 @@ module _ {S State : Type 0} (engine : Engine S State) (laws : KindLaws engine.ki
         is.lawful ((g.so_far.told tells).tells tree from) (last opening tree g.log) (g.so_far.stands tells tree from)
 
     finish_saved : (status n : ℕ) → status ≡ end_status bad → IsEndStatus status → IsAnswer engine t (Ok event.Save) (answer.Saved n)
-        → Served engine.kind handed opening status start (record { source = next.input.source; sink = next.sink; stock = final })
+        → Served engine.kind handed opening status start (record { source = next.input.source; sink = sink'; stock = final })
     finish_saved status n is_end ends is =
-        finish status final (Ok None) came [] (λ _. refl) (inl refl) follows keeper
-        (λ early. absurd (omega (arith, early, ends))) (λ _. is.stored) (read_whole status (inl ends)) came.came.1.sink
-        (λ e. omega (arith, e, ends)) (λ e. omega (arith, e, ends))
+        finish status sink' final (Ok None) came [] (λ _. refl) (inl refl) follows keeper
+        (λ early. absurd (omega (arith, early, ends))) (λ _. is.stored) (read_whole status (inl ends))
+        (sink_out status (λ e. omega (arith, e, ends))) (λ e. omega (arith, e, ends))
         (never status 9 (λ e. omega (arith, e, ends)) next.input.held.count (came.limit (λ e. cc))) (inl (inl ends)) (λ _. is_end)
         (λ e. absurd (omega (arith, e, ends))) (λ e. absurd (omega (arith, e, ends)))
         (λ tells telling number next_tx tree from bytes held.
@@ -260,16 +294,16 @@ module _ {S State : Type 0} (engine : Engine S State) (laws : KindLaws engine.ki
         same_bytes a b e = cc
 
     finish_failed : IsAnswer engine t (Ok event.Save) answer.FaultSave
-        → Served engine.kind handed opening 5 start (record { source = next.input.source; sink = next.sink; stock = final })
+        → Served engine.kind handed opening 5 start (record { source = next.input.source; sink = sink'; stock = final })
     finish_failed is =
         let why : IsSaveFault engine.kind (span (last_downs g.log) now.stock.shelf final.shelf) opening.settings.servers now.stock.keeper final.keeper
         = subst (λ (n : ℕ). IsSaveFault engine.kind (span (last_downs g.log) now.stock.shelf final.shelf) n now.stock.keeper final.keeper)
         (ap (λ s. s.servers) g.so_far.settings)
         (subst (λ (d : ℕ → Bool). IsSaveFault engine.kind (span d now.stock.shelf final.shelf) (engine.settings now.state).servers now.stock.keeper
         final.keeper) g.so_far.downs is.kept) in
-        finish 5 final (Ok None) came [] (λ _. refl) (inl refl) follows keeper
-        (λ early. absurd (omega (arith, early))) (λ _. is.stored) (read_whole 5 (inr refl)) came.came.1.sink
-        (λ e. omega (arith, e)) (λ e. omega (arith, e))
+        finish 5 sink' final (Ok None) came [] (λ _. refl) (inl refl) follows keeper
+        (λ early. absurd (omega (arith, early))) (λ _. is.stored) (read_whole 5 (inr refl))
+        (sink_out 5 (λ e. omega (arith, e))) (λ e. omega (arith, e))
         (never 5 9 (λ e. omega (arith, e)) next.input.held.count (came.limit (λ e. cc))) (inl (inr refl)) (λ ends. absurd (omega (arith, ends)))
         (λ e. absurd (omega (arith, e))) (λ _. why)
         (λ tells telling number next_tx tree from bytes held.
@@ -291,41 +325,28 @@ module _ {S State : Type 0} (engine : Engine S State) (laws : KindLaws engine.ki
         ))
 
     finish_short : final.keeper ≡ now.stock.keeper
-        → Served engine.kind handed opening 7 start (record { source = next.input.source; sink = next.sink; stock = final })
+        → Served engine.kind handed opening 7 start (record { source = next.input.source; sink = sink'; stock = final })
     finish_short same =
-        finish 7 final (Ok None) came [] (λ _. refl) (inl refl) follows keeper
+        finish 7 sink' final (Ok None) came [] (λ _. refl) (inl refl) follows keeper
         (λ early. absurd (omega (arith, early))) (λ whole. absurd (omega (arith, whole)))
         (λ script e. told_other script now.input.source.rest next.input.source.rest now.input.held g.log.lines 7 (λ d. omega (arith, d)) (λ d. omega (arith, d))
         (λ d. omega (arith, d)) (λ d. absurd (omega (arith, d)))
         (g.read script e))
-        came.came.1.sink (λ e. omega (arith, e)) (λ e. omega (arith, e))
+        (sink_out 7 (λ e. omega (arith, e))) (λ e. omega (arith, e))
         (never 7 9 (λ e. omega (arith, e)) next.input.held.count (came.limit (λ e. cc))) (inr (inr (inr (inr (inl refl)))))
         (λ ends. absurd (omega (arith, ends)))
         (λ e. absurd (omega (arith, e))) (λ e. absurd (omega (arith, e)))
         (short_left final follows same)
 
     closed : (status : ℕ) → Closes engine t bad status
-        → Served engine.kind handed opening status start (record { source = next.input.source; sink = next.sink; stock = final })
+        → Served engine.kind handed opening status start (record { source = next.input.source; sink = sink'; stock = final })
     closed status (inl (n, is_end, is)) = finish_saved status n is_end (subst (λ (x : ℕ). IsEndStatus x) (sym is_end) (ends_as bad)) is
     closed status (inr (inl (is_5, is))) =
-        subst (λ (x : ℕ). Served engine.kind handed opening x start (record { source = next.input.source; sink = next.sink; stock = final })) (sym is_5)
+        subst (λ (x : ℕ). Served engine.kind handed opening x start (record { source = next.input.source; sink = sink'; stock = final })) (sym is_5)
         (finish_failed is)
     closed status (inr (inr (is_7, same))) =
-        subst (λ (x : ℕ). Served engine.kind handed opening x start (record { source = next.input.source; sink = next.sink; stock = final })) (sym is_7)
+        subst (λ (x : ℕ). Served engine.kind handed opening x start (record { source = next.input.source; sink = sink'; stock = final })) (sym is_7)
         (finish_short same)
-
-  -- the closing save begins with what the pass left, which is what it was
-  pub finish_end : (status : ℕ) (final : Stock S) (state' : State) → PassIs engine now next (Ok None) → EachFollows engine.kind next.stock.shelf final.shelf []
-      → KeeperGoesOn next.stock.keeper final.keeper → Closes engine (step next.stock final next.state state') bad status
-      → Served engine.kind handed opening status start (record { source = next.input.source; sink = next.sink; stock = final })
-  finish_end status final state' came follows keeper closes =
-      let quiet = came.came.1 in
-      closed final state' came
-      (subst (λ (s : Stock S). EachFollows engine.kind s.shelf final.shelf []) quiet.stock follows)
-      (subst (λ (s : Stock S). KeeperGoesOn s.keeper final.keeper) quiet.stock keeper)
-      status
-      (subst (λ (s : Stock S). Closes engine (step s final now.state state') bad status) quiet.stock
-      (subst (λ (x : State). Closes engine (step next.stock final x state') bad status) quiet.state closes))
 
   -- ---- an end before the end of the script
 
@@ -355,10 +376,10 @@ module _ {S State : Type 0} (engine : Engine S State) (laws : KindLaws engine.ki
   finish_unread pass =
       let (came, quiet) = pass.came in
       let (reads, rose, unended) = came in
-      finish 3 next.stock (Err stop.Unread) pass [] (λ _. refl) (inl refl) (still quiet.stock) pass.keeper
+      finish 3 next.sink next.stock (Err stop.Unread) pass [] (λ _. refl) (inl refl) (still quiet.stock) pass.keeper
       (λ _. sym quiet.stock) (λ whole. absurd (omega (arith, whole)))
       (λ script e. told_fault script now.input.source.rest next.input.source.rest now.input.held next.input.held g.log.lines unended (g.read script e) reads)
-      quiet.sink (λ e. omega (arith, e)) (λ e. omega (arith, e))
+      (sink_same 3 now.sink next.sink (λ e. omega (arith, e)) quiet.sink) (λ e. omega (arith, e))
       (never 3 9 (λ e. omega (arith, e)) next.input.held.count (pass.limit (λ e. cc))) (inr (inr (inl refl))) (λ ends. absurd (omega (arith, ends))) (λ _. rose)
       (λ e. absurd (omega (arith, e))) (early_left 3 quiet.stock (inr (inl refl)))
 
@@ -367,14 +388,55 @@ module _ {S State : Type 0} (engine : Engine S State) (laws : KindLaws engine.ki
   finish_too_much pass =
       let (came, quiet) = pass.came in
       let (reads, full, unended) = came in
-      finish 9 next.stock (Err stop.TooMuch) pass [] (λ _. refl) (inl refl) (still quiet.stock) pass.keeper
+      finish 9 next.sink next.stock (Err stop.TooMuch) pass [] (λ _. refl) (inl refl) (still quiet.stock) pass.keeper
       (λ _. sym quiet.stock) (λ whole. absurd (omega (arith, whole)))
       (λ script e. let told = g.read script e in
       told_much script now.input.source.rest next.input.source.rest now.input.held next.input.held g.log.lines unended g.count told reads
       (λ left f. omega (arith, full, g.counted script told.rest e told.left_is, pass.drawn.counted told.rest left told.left_is f)))
-      quiet.sink (λ e. omega (arith, e)) (λ e. omega (arith, e))
+      (sink_same 9 now.sink next.sink (λ e. omega (arith, e)) quiet.sink) (λ e. omega (arith, e))
       ((λ _. omega (arith, full)), (λ _. refl)) (inr (inr (inr (inr (inr refl))))) (λ ends. absurd (omega (arith, ends))) (λ e. absurd (omega (arith, e)))
       (λ e. absurd (omega (arith, e))) (early_left 9 quiet.stock (inr (inr (inr refl))))
+
+  -- what the sink held back could not be brought out, so that nothing is saved
+  finish_held : (sink' : SinkView) → PassIs engine now next (Ok None)
+      → ((bytes : List ℕ) → next.sink.taken ≡ Some bytes → sink'.taken ≡ Some bytes) → next.sink.faults ≤ sink'.faults
+      → Rose next.sink.faults sink'.faults
+      → Served engine.kind handed opening 4 start (record { source = next.input.source; sink = sink'; stock = next.stock })
+  finish_held sink' pass taken rises rose =
+      let (came, quiet) = pass.came in
+      let same : next.sink.faults ≡ now.sink.faults = ap (λ (s : SinkView). s.faults) quiet.sink in
+      finish 4 sink' next.stock (Ok None) pass [] (λ _. refl) (inl refl) (still quiet.stock) pass.keeper
+      (λ _. sym quiet.stock) (λ whole. absurd (omega (arith, whole)))
+      (λ script e. told_held script now.input.source.rest next.input.source.rest now.input.held next.input.held g.log.lines (g.read script e) came)
+      (record {
+        taken = λ bytes e. taken bytes (ap (λ (s : SinkView). s.taken) quiet.sink ∙ e);
+        still = λ other. absurd (other refl);
+        rose = λ _. subst (λ (n : ℕ). Rose n sink'.faults) same rose;
+        rises = omega (arith, same, rises);
+      })
+      (λ e. omega (arith, e))
+      (never 4 9 (λ e. omega (arith, e)) next.input.held.count (pass.limit (λ e. cc))) (inr (inr (inr (inl refl)))) (λ ends. absurd (omega (arith, ends)))
+      (λ e. absurd (omega (arith, e))) (λ e. absurd (omega (arith, e))) (early_left 4 quiet.stock (inr (inr (inl refl))))
+
+  -- a pass came to the end of the script: what follows begins with what the pass left, which is what it was
+  pub finish_end : (status : ℕ) (sink' : SinkView) (final : Stock S) (state' : State) → PassIs engine now next (Ok None)
+      → EachFollows engine.kind next.stock.shelf final.shelf [] → KeeperGoesOn next.stock.keeper final.keeper
+      → Ends engine (step next.stock final next.state state') next.sink sink' bad status
+      → Served engine.kind handed opening status start (record { source = next.input.source; sink = sink'; stock = final })
+  finish_end status sink' final state' came follows keeper end =
+      let quiet = came.came.1 in
+      elim end.ends [
+        | inl saved ↦ closed sink' final state' came
+            (subst (λ (s : Stock S). EachFollows engine.kind s.shelf final.shelf []) quiet.stock follows)
+            (subst (λ (s : Stock S). KeeperGoesOn s.keeper final.keeper) quiet.stock keeper)
+            end.taken saved.0 status
+            (subst (λ (s : Stock S). Closes engine (step s final now.state state') bad status) quiet.stock
+            (subst (λ (x : State). Closes engine (step next.stock final x state') bad status) quiet.state saved.1))
+        | inr held ↦
+            subst (λ (n : ℕ). Served engine.kind handed opening n start (record { source = next.input.source; sink = sink'; stock = final })) (sym held.0)
+            (subst (λ (s : Stock S). Served engine.kind handed opening 4 start (record { source = next.input.source; sink = sink'; stock = s }))
+            (sym held.1) (finish_held sink' came end.taken end.rises held.2))
+      ]
 
   -- the line that was answered, whose text was not written
   out_line : (out : IsLeftOut engine now next) → IsNextLine start.source.rest g.log.lines out.line
@@ -408,11 +470,11 @@ module _ {S State : Type 0} (engine : Engine S State) (laws : KindLaws engine.ki
       → EachFollows engine.kind now.stock.shelf next.stock.shelf rest → PassIs engine now next (Err stop.Memory) → Leaves 7 next.stock
       → Served engine.kind handed opening 7 start (record { source = next.input.source; sink = next.sink; stock = next.stock })
   finish_short_of rest by_line follows pass left =
-      finish 7 next.stock (Err stop.Memory) pass rest (λ other. absurd (other refl)) by_line follows pass.keeper
+      finish 7 next.sink next.stock (Err stop.Memory) pass rest (λ other. absurd (other refl)) by_line follows pass.keeper
       (λ early. absurd (omega (arith, early))) (λ whole. absurd (omega (arith, whole)))
       (λ script e. told_other script now.input.source.rest next.input.source.rest now.input.held g.log.lines 7 (λ d. omega (arith, d)) (λ d. omega (arith, d))
       (λ d. omega (arith, d)) (λ d. absurd (omega (arith, d))) (g.read script e))
-      pass.came.sink (λ e. omega (arith, e)) (λ e. omega (arith, e))
+      (sink_same 7 now.sink next.sink (λ e. omega (arith, e)) pass.came.sink) (λ e. omega (arith, e))
       (never 7 9 (λ e. omega (arith, e)) next.input.held.count (pass.limit (λ e. cc))) (inr (inr (inr (inr (inl refl))))) (λ ends. absurd (omega (arith, ends)))
       (λ e. absurd (omega (arith, e)))
       (λ e. absurd (omega (arith, e))) left
@@ -438,8 +500,8 @@ module _ {S State : Type 0} (engine : Engine S State) (laws : KindLaws engine.ki
       let same = last_more engine laws opening start.stock g.log t g.so_far line cut.answer cut.is pass.keeper.faults in
       let law = lawful_more engine laws opening start.stock g.log t g.so_far line cut.answer cut.is pass.keeper.faults in
       let ran = (so_far_more engine laws opening start.stock g.log t g.so_far line cut.answer cut.is pass.keeper.faults).ran in
-      let rose : Rose start.sink.faults next.sink.faults = rose_in start.sink.faults now.sink.faults next.sink.faults next.sink.faults g.sink_faults
-      cut.cause (omega arith) in
+      let rose : Rose start.sink.faults next.sink.faults = rose_in start.sink.faults now.sink.faults next.sink.faults next.sink.faults
+      (omega (arith, g.sink_still)) cut.cause (omega arith) in
       let holds : TellsAll engine.kind start.stock.shelf → IsTelling start.stock.keeper opening.bytes → opening.number ≤ 2 ^ 61 → opening.next_tx ≤ 2 ^ 61
       → (t : Tree) → StartsFrom (all_told start.stock.shelf) opening.bytes t → HoldsOneOf engine.kind next.stock (last opening t log).may_be_saved
       = λ tells telling number next_tx tree from.
@@ -467,7 +529,7 @@ module _ {S State : Type 0} (engine : Engine S State) (laws : KindLaws engine.ki
           whole = λ _ is. absurd (is refl);
           cut = λ _ _.
               let (front, back, text_is, new_is) = cut.wrote (text ++ output opening g.log.answers) (g.wrote text e) in
-              record {
+              inl (record {
                 earlier = g.log.answers;
                 last = cut.answer;
                 front = front;
@@ -475,7 +537,7 @@ module _ {S State : Type 0} (engine : Engine S State) (laws : KindLaws engine.ki
                 all = refl;
                 text = text_is;
                 new_is = new_is ∙ ap (λ (x : List ℕ). Some x) (append_assoc text (output opening g.log.answers) front);
-              };
+              });
           cut_first = λ is. absurd (cc);
           nothing = λ is. absurd (cc);
         };
@@ -490,7 +552,8 @@ module _ {S State : Type 0} (engine : Engine S State) (laws : KindLaws engine.ki
         sink_cause = λ _. rose;
         save_cause = λ e. absurd (omega (arith, e));
         source_faults = omega (arith, g.source_faults, pass.drawn.faults);
-        sink_faults = omega (arith, g.sink_faults, pass.sink_faults);
+        sink_faults = omega (arith, g.sink_still, pass.sink_faults);
+        sink_still = λ other. absurd (other refl);
         faults = λ low. omega (arith, ran.faults low);
         faults_of_run = λ by empty low. omega (arith, ran.faults_of_run by empty low);
         follows_on = each_on laws ran.follows_on (each_same laws next.stock.shelf);

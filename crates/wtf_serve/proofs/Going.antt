@@ -62,7 +62,7 @@ pub record Going {S State : Type 0} (engine : Engine S State) (opening : Opening
   pub counted : (script left : List ℕ) → start.source.rest ≡ Some script → now.input.source.rest ≡ Some left
       → length script ≡ length left + now.input.held.count
   pub source_faults : start.source.faults ≤ now.input.source.faults
-  pub sink_faults : start.sink.faults ≤ now.sink.faults
+  pub sink_still : now.sink.faults ≡ start.sink.faults
   pub keeper : KeeperGoesOn start.stock.keeper now.stock.keeper
 
 -- what the first line and a list of answers write, and one more answer
@@ -92,10 +92,10 @@ pub going_none : {S State : Type 0} (engine : Engine S State) → KindLaws engin
     → IsReady engine opening start.stock.shelf state → (opening.number ≤ 2 ^ 62) × (opening.next_tx ≤ 2 ^ 62)
     → IsTakenFor (size_in engine.kind start.stock.shelf) opening.settings opening.number opening.next_tx opening.bytes
     → KeeperGoesOn start.stock.keeper keeper' → ((b : List ℕ) → start.stock.keeper.held ≡ Some b → keeper'.held ≡ Some b)
-    → ((old : List ℕ) → start.sink.taken ≡ Some old → sink'.taken ≡ Some (old ++ first_line opening)) → start.sink.faults ≤ sink'.faults
+    → ((old : List ℕ) → start.sink.taken ≡ Some old → sink'.taken ≡ Some (old ++ first_line opening)) → sink'.faults ≡ start.sink.faults
     → Going engine opening start (hand (input start.source (record { bytes = []; count = 0; ended = false })) sink'
     (stock start.stock.shelf keeper') state) false
-going_none engine laws opening start sink' keeper' state ready room begins keeper held wrote faults = record {
+going_none engine laws opening start sink' keeper' state ready room begins keeper held wrote still = record {
   log = record { lines = []; answers = [] };
   so_far = record {
     ran = ran_none engine.kind laws opening start.stock (stock start.stock.shelf keeper') refl keeper.faults;
@@ -138,7 +138,7 @@ going_none engine laws opening start sink' keeper' state ready room begins keepe
   given = λ h. omega (arith, h);
   counted = λ script left e f. omega (arith, ap length (some_same script left (sym e ∙ f)));
   source_faults = omega arith;
-  sink_faults = faults;
+  sink_still = still;
   keeper = keeper;
 }
 
@@ -204,6 +204,6 @@ module _ {S State : Type 0} (engine : Engine S State) (laws : KindLaws engine.ki
         given = given_then pass.drawn;
         counted = counted_then pass.drawn;
         source_faults = omega (arith, g.source_faults, pass.drawn.faults);
-        sink_faults = omega (arith, g.sink_faults, pass.sink_faults);
+        sink_still = pass.came.done.still ∙ g.sink_still;
         keeper = keeper_on start.stock.keeper now.stock.keeper next.stock.keeper g.keeper pass.keeper;
       }

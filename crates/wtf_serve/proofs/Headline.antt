@@ -1,7 +1,6 @@
 -- The headline of a run over devices that tell what they hold.
-use Rattle.std.proofs.Common.{◌≡◌, ◌≢◌, ◌≤◌, ◌^◌, ℕ, zero, suc, Bool, true, false, List, [], Some, refl, sym, ◌∙◌, subst, arith, inl, inr}
+use Rattle.std.proofs.Common.{◌≡◌, ◌≤◌, ◌^◌, ℕ, Bool, true, false, List, [], Some, refl, sym, ◌∙◌, subst, arith, inl, inr}
 use Rattle.wtf_base.specs.declared.settings.Settings.{Settings}
-use Rattle.wtf_dev.specs.Counts.{Rose}
 use Rattle.wtf_dev.specs.Store.{StoreKind}
 use Rattle.wtf_dev.specs.Sums.{TellsAll}
 use Rattle.wtf_replica.specs.Bytes.{byte_at}
@@ -13,7 +12,6 @@ use Rattle.wtf_serve.specs.Endings.{Devices, Served, IsUnstarted, IsTold}
 use Rattle.wtf_serve.specs.Generated.{IsGeneratedRun, IsToldOf, script_of, with_script, with_text}
 use Rattle.wtf_serve.specs.Logs.{output}
 use Rattle.wtf_serve.specs.Openings.{Opening, new_opening, Opens, StartsFrom}
-use Rattle.wtf_serve.specs.Runs.{IsStill}
 use Rattle.wtf_serve.specs.Scripts.{IsEndStatus}
 use Rattle.wtf_serve.specs.Stocks.{IsTelling}
 use Rattle.wtf_serve.specs.Unopened.{IsRun}
@@ -60,24 +58,17 @@ told_new kind handed settings status old new script text kept (inr opened) tells
     told_run kind handed (new_opening settings) status old new script text kept root_alone served tells telling (omega arith)
     (omega arith) refl rest taken now held end
 
--- no write failed where the count of the real sink stands still
-unfailed : (faults before now : ℕ) → (faults ≢ 0 → Rose before now) → IsStill before now → faults ≡ 0
-unfailed zero before now cause still = refl
-unfailed (suc n) before now cause still =
-    let rose = cause (λ e. omega (arith, e)) still.1 in absurd (omega (arith, rose, still.0))
-
--- the same of a generated script, over a sink that does not fail
+-- the same of a generated script
 pub told_generated : {S : Type 0} (kind : StoreKind S) (handed : List (List ℕ) → Type 0) (settings : Settings) (recipe : Recipe) (status : ℕ)
     (old new : Devices S) (written kept : List ℕ)
     → IsGeneratedRun kind handed settings recipe status old new → TellsAll kind old.stock.shelf → IsTelling old.stock.keeper []
-    → IsStill old.sink.faults new.sink.faults
     → old.sink.taken ≡ Some [] → new.sink.taken ≡ Some written → new.stock.keeper.held ≡ Some kept → IsEndStatus status
     → IsToldOf (byte_at kind new.stock.shelf) (size_in kind new.stock.shelf) (new_opening settings) root_alone recipe written kept
-told_generated kind handed settings recipe status old new written kept run tells telling still taken now held end = record {
+told_generated kind handed settings recipe status old new written kept run tells telling taken now held end = record {
   text = run.text;
   told_is = told_new kind handed settings status (with_script recipe old) (with_text run.left run.faults run.text new)
       (script_of recipe) run.text kept run.run tells telling
       refl refl refl held end;
   wrote = some_same written (shown recipe.lines run.text)
-      (sym now ∙ run.shows.whole (unfailed run.faults old.sink.faults new.sink.faults run.shows.cause still) [] taken);
+      (sym now ∙ run.shows.whole (run.whole (λ e. omega (arith, e, end))) [] taken);
 }

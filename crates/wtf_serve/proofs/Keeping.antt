@@ -43,29 +43,29 @@ module _ {K : Type 0} (view : K → KeeperView) (follows : K → K → List (Lis
       → HandsOver (follows old mid) → HandsOver (follows mid new) → HandsOver (follows old new)
   handed_join mid joins (xs, f) (ys, g) = (xs ++ ys, joins old mid new xs ys f g)
 
-  module _ {S : Type 0} (kind : StoreKind S) (t : Span S) (settings : Settings) (was is : TablesView) where
-    save_handed : (a : Answer) → KeeperTurn kind t (keeper_span view follows old new) settings was is event.Save a → HandsOver (follows old new)
+  module _ (refused : K → K → Type 0) {S : Type 0} (kind : StoreKind S) (t : Span S) (settings : Settings) (was is : TablesView) where
+    save_handed : (a : Answer) → KeeperTurn kind t (keeper_span view follows refused old new) settings was is event.Save a → HandsOver (follows old new)
     save_handed (answer.Saved n) turn = (turn.hands.bytes ∷ [], turn.hands.handed)
     save_handed answer.FaultSave (inl failed) = handed_none failed.untouched
     save_handed answer.FaultSave (inr failed) = (failed.hands.bytes ∷ [], failed.hands.handed)
     save_handed a turn = handed_none turn
 
-    pub turn_handed : (e : Event) (a : Answer) → KeeperTurn kind t (keeper_span view follows old new) settings was is e a → HandsOver (follows old new)
+    pub turn_handed : (e : Event) (a : Answer) → KeeperTurn kind t (keeper_span view follows refused old new) settings was is e a → HandsOver (follows old new)
     turn_handed event.Save a turn = save_handed a turn
     turn_handed e a turn = handed_none turn
 
 -- what the core promises of a line is what a run is given of it
-module _ {K S : Type 0} (view : K → KeeperView) (follows : K → K → List (List ℕ) → Type 0) (old new : K) (kind : StoreKind S) (before after : List S)
-    (core core' : CoreView) where
+module _ {K S : Type 0} (view : K → KeeperView) (follows : K → K → List (List ℕ) → Type 0) (refused : K → K → Type 0) (old new : K) (kind : StoreKind S)
+    (before after : List S) (core core' : CoreView) where
   abbrev t : Step S CoreView
   t = step (stock before (view old)) (stock after (view new)) core core'
 
   abbrev Turns : Event → Answer → Type 0
-  Turns e a = KeeperTurn kind (span (is_down core.replicas) before after) (keeper_span view follows old new) core.settings core.tables core'.tables e a
+  Turns e a = KeeperTurn kind (span (is_down core.replicas) before after) (keeper_span view follows refused old new) core.settings core.tables core'.tables e a
 
   save_kept : (Up : Type 0) (tables : TablesView) (a : Answer) → Turns event.Save a → SaveTurn Up core.tables tables a → Saves (engine kind) t a
   save_kept Up tables (answer.Saved n) turn is =
-      saved_some kind (span (is_down core.replicas) before after) (keeper_span view follows old new) core.settings core.tables turn
+      saved_some kind (span (is_down core.replicas) before after) (keeper_span view follows refused old new) core.settings core.tables turn
   save_kept Up tables answer.FaultSave (inl failed) is = inl failed.out
   save_kept Up tables answer.FaultSave (inr failed) is = inr failed.rose
   save_kept Up tables a turn is = absurd is

@@ -124,6 +124,35 @@ told_end script left left' held held' lines told came status ends = record {
   too_much = λ e. absurd (omega (arith, e, ends));
 }
 
+-- no more came than the lines and their line feeds
+whole_at : (script : List ℕ) (left left' : Option (List ℕ)) (held held' : Held) (lines : List (List ℕ)) (b : Bool) → held.ended ≡ b
+    → (told : Told script left held lines) → ReadsEnd held told.rest held' left' → length script ≤ length (fed lines)
+whole_at script left left' held held' lines true is told reads = omega (arith, told.most, ap length (told.over is).1)
+whole_at script left left' held held' lines false is told (ended, bytes, last) =
+    let none : (held.bytes ++ told.rest ≡ []) × (left' ≡ Some []) = subst
+    (λ (b : Bool). MatchBool b (left' ≡ Some told.rest) ((held.bytes ++ told.rest ≡ []) × (left' ≡ Some []))) is last in
+    omega (arith, told.most, ap length none.0)
+
+-- the sink failed behind the last line
+pub told_held : (script : List ℕ) (left left' : Option (List ℕ)) (held held' : Held) (lines : List (List ℕ)) → Told script left held lines
+    → ((rest : List ℕ) → left ≡ Some rest → ReadsEnd held rest held' left') → HasRead script left' 4 lines
+told_held script left left' held held' lines told came =
+    let reads = came told.rest told.left_is in
+    let none : left' ≡ Some [] = (end_at script left left' held held' lines held.ended refl told reads).1 in
+    record {
+      front = told_front script left held lines told;
+      whole = λ e. absurd (omega (arith, e));
+      fault = λ e. absurd (omega (arith, e));
+      unwritten = λ _. (
+        script,
+        [],
+        sym (append-nil script),
+        none,
+        omega (arith, whole_at script left left' held held' lines held.ended refl told reads),
+      );
+      too_much = λ e. absurd (omega (arith, e));
+    }
+
 goes_on : (b : Bool) → b ≢ true → b ≡ false
 goes_on true h = absurd (h refl)
 goes_on false h = refl

@@ -13,7 +13,7 @@ use Rattle.wtf_image.specs.Rules.{size_in}
 use Rattle.wtf_core.specs.Pictured.{IsTakenFor}
 use Rattle.wtf_serve.specs.declared.service.Stop.{Stop}
 use Rattle.wtf_serve.specs.declared.service.Stop.TheVariants as stop
-use Rattle.wtf_serve.specs.Beginnings.{IsOpenedFrom, Closes}
+use Rattle.wtf_serve.specs.Beginnings.{IsOpenedFrom, Closes, Ends}
 use Rattle.wtf_serve.specs.Endings.{Devices, IsKept, Served, stop_status}
 use Rattle.wtf_serve.specs.Engines.{Engine, Step, step}
 use Rattle.wtf_serve.specs.Logs.{first_line}
@@ -78,23 +78,24 @@ module _ {S State : Type 0} (engine : Engine S State) (laws : KindLaws engine.ki
     (keeper' : KeeperView)
     (state : State) (sink' : SinkView) (text : List ℕ) (o : IsOpenedFrom engine asked start.stock.keeper start.stock.shelf state)
     (kept : IsKept handed start.stock.keeper keeper') (keeper : KeeperGoesOn start.stock.keeper keeper')
-    (text_is : text ≡ settings_line (engine.settings state) (engine.number state)) (faults : start.sink.faults ≤ sink'.faults) where
+    (text_is : text ≡ settings_line (engine.settings state) (engine.number state)) where
   first_is : text ≡ first_line o.opening
   first_is = text_is ∙ line_of_first engine o.opening state o.ready.settings o.ready.number
 
-  pub underway_first : ((old : List ℕ) → start.sink.taken ≡ Some old → sink'.taken ≡ Some (old ++ text))
+  pub underway_first : ((old : List ℕ) → start.sink.taken ≡ Some old → sink'.taken ≡ Some (old ++ text)) → sink'.faults ≡ start.sink.faults
       → Underway engine asked start (hand (input start.source (record { bytes = []; count = 0; ended = false })) sink'
       (stock start.stock.shelf keeper') state) false
-  underway_first wrote =
+  underway_first wrote still =
       underway engine asked o.opening start (hand (input start.source (record { bytes = []; count = 0; ended = false })) sink'
       (stock start.stock.shelf keeper') state) false o.opens o.given
       (going_none engine laws o.opening start sink' keeper' state o.ready (room_of asked o.opening.bytes o.opening o.opens)
       (begins_of (size_in engine.kind start.stock.shelf) asked o.opening.bytes o.opening o.opens o.ready.taken) keeper kept.held
-      (λ old e. wrote old e ∙ ap (λ (x : List ℕ). Some (old ++ x)) first_is) faults)
+      (λ old e. wrote old e ∙ ap (λ (x : List ℕ). Some (old ++ x)) first_is) still)
 
   pub unwritten_first : ((old : List ℕ) → start.sink.taken ≡ Some old → WroteFront old text sink'.taken) → Rose start.sink.faults sink'.faults
+      → start.sink.faults ≤ sink'.faults
       → IsRun engine.kind handed asked 4 start (record { source = start.source; sink = sink'; stock = stock start.stock.shelf keeper' })
-  unwritten_first cut cause = inr (record {
+  unwritten_first cut cause faults = inr (record {
     opening = o.opening;
     opens = o.opens;
     given = o.given;
@@ -109,14 +110,21 @@ stop_not_few stop.Unwritten e = omega (arith, e)
 stop_not_few stop.TooMuch e = omega (arith, e)
 stop_not_few stop.Memory e = omega (arith, e)
 
-end_not_few : (bad : Bool) → end_status bad ≡ 2 → ⊥
-end_not_few true e = omega (arith, e)
-end_not_few false e = omega (arith, e)
+saved_not_few : (bad : Bool) → end_status bad ≡ 2 → ⊥
+saved_not_few true e = omega (arith, e)
+saved_not_few false e = omega (arith, e)
 
-pub close_not_few : {S State : Type 0} (engine : Engine S State) (t : Step S State) (bad : Bool) (status : ℕ) → Closes engine t bad status → status ≡ 2 → ⊥
-close_not_few engine t bad status (inl (n, is, done)) e = end_not_few bad (sym is ∙ e)
+close_not_few : {S State : Type 0} (engine : Engine S State) (t : Step S State) (bad : Bool) (status : ℕ) → Closes engine t bad status → status ≡ 2 → ⊥
+close_not_few engine t bad status (inl (n, is, done)) e = saved_not_few bad (sym is ∙ e)
 close_not_few engine t bad status (inr (inl (is, done))) e = omega (arith, is, e)
 close_not_few engine t bad status (inr (inr (is, same))) e = omega (arith, is, e)
+
+pub end_not_few : {S State : Type 0} (engine : Engine S State) (t : Step S State) (sink sink' : SinkView) (bad : Bool) (status : ℕ)
+    → Ends engine t sink sink' bad status → status ≡ 2 → ⊥
+end_not_few engine t sink sink' bad status end e = elim end.ends [
+  | inl saved ↦ close_not_few engine t bad status saved.1 e
+  | inr held ↦ omega (arith, held.0, e)
+]
 
 -- how it goes on and ends
 module _ {S State : Type 0} (engine : Engine S State) (laws : KindLaws engine.kind) (handed : List (List ℕ) → Type 0) (asked : Settings) (start : Devices S)
@@ -129,13 +137,13 @@ module _ {S State : Type 0} (engine : Engine S State) (laws : KindLaws engine.ki
   underway_on more pass = underway engine asked u.opening start next (bad || more) u.opens u.given
       (going_on engine laws u.opening start now next bad u.going more pass)
 
-  pub underway_end : KeepsWithin engine → (status : ℕ) (final : Stock S) (state' : State) → PassIs engine now next (Ok None)
+  pub underway_end : KeepsWithin engine → (status : ℕ) (sink' : SinkView) (final : Stock S) (state' : State) → PassIs engine now next (Ok None)
       → EachFollows engine.kind next.stock.shelf final.shelf []
-      → KeeperGoesOn next.stock.keeper final.keeper → Closes engine (step next.stock final next.state state') bad status
-      → IsRun engine.kind handed asked status start (record { source = next.input.source; sink = next.sink; stock = final })
-  underway_end keeps status final state' pass follows keeper closes =
-      opened status (record { source = next.input.source; sink = next.sink; stock = final })
-      (finish_end engine laws keeps handed u.opening start now next bad u.going status final state' pass follows keeper closes)
+      → KeeperGoesOn next.stock.keeper final.keeper → Ends engine (step next.stock final next.state state') next.sink sink' bad status
+      → IsRun engine.kind handed asked status start (record { source = next.input.source; sink = sink'; stock = final })
+  underway_end keeps status sink' final state' pass follows keeper ends =
+      opened status (record { source = next.input.source; sink = sink'; stock = final })
+      (finish_end engine laws keeps handed u.opening start now next bad u.going status sink' final state' pass follows keeper ends)
 
   pub underway_stop : KeepsWithin engine → (why : Stop) → PassIs engine now next (Err why)
       → IsRun engine.kind handed asked (stop_status why) start (record { source = next.input.source; sink = next.sink; stock = next.stock })

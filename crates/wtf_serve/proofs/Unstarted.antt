@@ -71,6 +71,7 @@ module _ {S : Type 0} (kind : StoreKind S) (laws : KindLaws kind) (handed : List
         save_cause = λ d. absurd (omega (arith, d, which));
         source_faults = omega arith;
         sink_faults = faults;
+        sink_still = λ other. ap (λ (x : SinkView). x.faults) (unwritten other);
         faults = closing_rose laws opening.settings status (last_downs (record { lines = []; answers = [] })) start.stock end end
             (count_along (is_device_fault opening.settings) none_down [] []) (each_same laws start.stock.shelf) same
             (λ d. absurd (omega (arith, d, which))) ran.faults;

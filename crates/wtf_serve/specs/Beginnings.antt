@@ -2,6 +2,7 @@
 use Rattle.std.specs.Prelude.{◌≡◌, ◌⊎◌, ◌<◌, ◌≤◌, ℕ, Bool, false, List, length, Some, Ok, ⊤}
 use Rattle.wtf_base.specs.declared.settings.Settings.{Settings}
 use Rattle.wtf_base.specs.Places.{Place}
+use Rattle.wtf_dev.specs.Counts.{Rose}
 use Rattle.wtf_dev.specs.Keep.{KeeperView}
 use Rattle.wtf_dev.specs.Store.{StoreKind}
 use Rattle.wtf_dev.specs.Streams.{SinkView}
@@ -79,3 +80,12 @@ Closes engine t bad status =
     ((n : ℕ) × (status ≡ end_status bad) × IsAnswer engine t (Ok event.Save) (answer.Saved n))
     ⊎ ((status ≡ 5) × IsAnswer engine t (Ok event.Save) answer.FaultSave)
     ⊎ ((status ≡ 7) × (t.after.keeper ≡ t.before.keeper))
+
+-- What comes of the end of a script: what the sink held back was brought out, and then the tree was saved or not; or the sink failed,
+-- and then nothing was saved. No byte is added to what it took.
+pub record Ends {S State : Type 0} (engine : Engine S State) (t : Step S State) (sink sink' : SinkView) (bad : Bool) (status : ℕ)
+    : Type 0 where
+  pub taken : (bytes : List ℕ) → sink.taken ≡ Some bytes → sink'.taken ≡ Some bytes
+  pub rises : sink.faults ≤ sink'.faults
+  pub ends : ((sink'.faults ≡ sink.faults) × Closes engine t bad status)
+      ⊎ ((status ≡ 4) × (t.after ≡ t.before) × Rose sink.faults sink'.faults)

@@ -187,6 +187,8 @@ pub record Served {S : Type 0} (kind : StoreKind S) (handed : List (List ℕ) �
       → IsSaveFault kind (span (last_downs log) mid.shelf new.stock.shelf) opening.settings.servers mid.keeper new.stock.keeper
   pub source_faults : old.source.faults ≤ new.source.faults
   pub sink_faults : old.sink.faults ≤ new.sink.faults
+  -- with another status than 4 no write failed
+  pub sink_still : status ≢ 4 → new.sink.faults ≡ old.sink.faults
   -- over the whole run: each fault of a line and of the closing save that only a store or the keeper can have caused raised
   -- a count
   pub faults : RoseBy kind old.stock new.stock

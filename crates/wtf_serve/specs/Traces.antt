@@ -1,5 +1,5 @@
 -- What a run read of its script, and what it wrote, where source and sink tell it.
-use Rattle.std.specs.Prelude.{◌≡◌, ◌≢◌, ◌≤◌, ◌+◌, ℕ, Bool, true, false, List, [], ◌∷◌, ◌++◌, length, Option, Some}
+use Rattle.std.specs.Prelude.{◌≡◌, ◌≢◌, ◌⊎◌, ◌≤◌, ◌+◌, ℕ, Bool, true, false, List, [], ◌∷◌, ◌++◌, length, Option, Some}
 use Rattle.wtf_model.specs.declared.answer.Answer.{Answer}
 use Rattle.wtf_script.specs.declared.limits.TheConstants.{CHUNK_BYTES, SCRIPT_BYTES}
 use Rattle.wtf_script.specs.ScriptLines.{lines_of, ended_of, fed}
@@ -38,9 +38,9 @@ pub record IsCut (opening : Opening) (answers : List Answer) (old : List ℕ) (n
   pub new_is : new ≡ Some (old ++ (output opening earlier ++ front))
 
 -- What was written, where the sink tells it: where the first line was written, all of the output, but with status 4 the
--- last line is cut; else, with status 4, a part of the first line
+-- last line is cut, or all of it was taken and could not be brought out; else, with status 4, a part of the first line
 pub record HasWritten (opening : Opening) (started : Bool) (status : ℕ) (answers : List Answer) (old : List ℕ) (new : Option (List ℕ)) : Type 0 where
   pub whole : started ≡ true → status ≢ 4 → new ≡ Some (old ++ output opening answers)
-  pub cut : started ≡ true → status ≡ 4 → IsCut opening answers old new
+  pub cut : started ≡ true → status ≡ 4 → IsCut opening answers old new ⊎ (new ≡ Some (old ++ output opening answers))
   pub cut_first : started ≡ false → status ≡ 4 → WroteFront old (first_line opening) new
   pub nothing : started ≡ false → status ≢ 4 → new ≡ Some old

@@ -24,6 +24,7 @@ pub record IsDone {S State : Type 0} (engine : Engine S State) (t : Step S State
   pub answer : Answer
   pub is : IsAnswer engine t line answer
   pub wrote : (old : List ℕ) → sink.taken ≡ Some old → sink'.taken ≡ Some (old ++ line_text answer)
+  pub still : sink'.faults ≡ sink.faults
 
 -- a line was answered, and its text was cut by a fault of the sink
 pub record IsCutOff {S State : Type 0} (engine : Engine S State) (t : Step S State) (line : Line) (sink sink' : SinkView) : Type 0 where

@@ -48,6 +48,7 @@ pub record Refuses (why : LoadError) (status : ℕ) (old new : SinkView) : Type 
   pub wrote : status ≡ 6 → (text : List ℕ) → old.taken ≡ Some text → new.taken ≡ Some (text ++ refusal_line why)
   pub cut : status ≡ 4 → (text : List ℕ) → old.taken ≡ Some text → WroteFront text (refusal_line why) new.taken
   pub cause : status ≡ 4 → Rose old.faults new.faults
+  pub still : status ≢ 4 → new.faults ≡ old.faults
 
 -- the image that the keeper gave is refused, and that is told
 pub record HasRefused {S : Type 0} (kind : StoreKind S) (status : ℕ) (old new : Devices S) : Type 0 where

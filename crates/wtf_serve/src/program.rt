@@ -24,7 +24,7 @@ use wtf_words::{Recipe, Script, WordsError, read_words};
 /// 18,446,744,073,709,551,615, and `--lines N`, 1 to 1,000,000, nothing is read: the script is one of so many lines that is
 /// made from the number, and behind the line of the settings stands only a summary of its answers, in 8 lines, which is
 /// written with the last of them, before the tree is saved. Where the words ask for anything else the status is 2, and then
-/// no device is touched; and so it is with fewer stores than servers. Else the status is that of `serve`: 0 at the end of
+/// no device is touched; with fewer stores than servers it is 2 as well, and the keeper is loaded at most. Else the status is that of `serve`: 0 at the end of
 /// the script, where the tree was saved, 1 there where a line is bad, 3 where reading failed, 4 where writing failed, 5
 /// where the tree could not be saved, 6 where the image is refused, 7 for want of memory, 8 where the keeper could not be
 /// loaded, and 9 for a script that is too long.

@@ -8,7 +8,7 @@ ghost use Rattle.wtf_serve.specs.Unopened.{IsRun};
 ghost use Rattle.wtf_serve.specs.Turns.{AllTaken, TurnIs};
 ghost use Rattle.wtf_serve.specs.Passes.{Came, HasDrawn, PassIs, IsFormRead, input, hand};
 ghost use Rattle.wtf_serve.specs.Answering.{IsFormLine};
-ghost use Rattle.wtf_serve.specs.Beginnings.{Closes};
+ghost use Rattle.wtf_serve.specs.Beginnings.{Closes, Ends};
 ghost use Rattle.wtf_serve.specs.Engines.{GoesOn, Obeys, Stores, IsCaused, Tells, Punches, Keeps, step};
 ghost use Rattle.wtf_serve.specs.Cores.{IsSoundCore, engine};
 ghost use Rattle.wtf_serve.specs.Scripts.{end_status, line_text, settings_line};
@@ -81,6 +81,7 @@ pub(crate) fn write_all<O: Sink>(out: &mut O, text: &[u8]) -> Result<(), Failed>
     ensures told { (old : List ℕ) → (O.view out.old).taken ≡ Some old →
         AllTaken old text.now (O.view out.new).taken result }
     ensures faults { (O.view out.old).faults ≤ (O.view out.new).faults }
+    ensures steady { OnOk result ((O.view out.new).faults ≡ (O.view out.old).faults) }
     ensures cause { OnErr result (Rose (O.view out.old).faults (O.view out.new).faults) }
 {
     let mut at = 0;
@@ -92,6 +93,20 @@ pub(crate) fn write_all<O: Sink>(out: &mut O, text: &[u8]) -> Result<(), Failed>
         }
     }
     Ok(())
+}
+
+/// Brings out what a sink holds back.
+fn bring_out<O: Sink>(out: &mut O) -> Result<(), Failed>
+    ensures told { (old : List ℕ) → (O.view out.old).taken ≡ Some old →
+        (O.view out.new).taken ≡ Some old }
+    ensures faults { (O.view out.old).faults ≤ (O.view out.new).faults }
+    ensures steady { OnOk result ((O.view out.new).faults ≡ (O.view out.old).faults) }
+    ensures cause { OnErr result (Rose (O.view out.old).faults (O.view out.new).faults) }
+{
+    match out.write(&[]) {
+        Ok(_) => Ok(()),
+        Err(e) => Err(e),
+    }
 }
 
 /// What the lines of a script are read with.
@@ -302,8 +317,34 @@ fn close<S: SliceStore, K: Keeper>(
     }
 }
 
+/// Ends a run behind the last line of its script: the tree is saved once all that was written is out.
+fn finish<O: Sink, S: SliceStore, K: Keeper>(
+    core: &mut Core,
+    shelf: &mut Shelf<S>,
+    keeper: &mut K,
+    out: &mut O,
+    bad: bool,
+) -> u8
+    requires number { core.old.tables.kv.number < 2 ^ 63 }
+    requires next_tx { core.old.tables.next_tx < 2 ^ 63 }
+    requires sound { IsSoundCore S.kind shelf.old core.old }
+    ensures ends { Ends (engine S.kind)
+        (step (stock shelf.old (K.view keeper.old)) (stock shelf.new (K.view keeper.new))
+        core.old core.new)
+        (O.view out.old) (O.view out.new) bad result }
+    ensures follows { EachFollows S.kind shelf.old shelf.new [] }
+    ensures keeper { KeeperGoesOn (K.view keeper.old) (K.view keeper.new) }
+    ensures handed { HandsOver (K.follows keeper.old keeper.new) }
+{
+    let Ok(()) = bring_out(out) else {
+        return WRITING_FAILED;
+    };
+    let status = close(core, shelf, keeper, bad);
+    status
+}
+
 /// Answers a script: loads what the keeper holds, writes the settings, and one answer a line, and saves the tree at the
-/// end. What the keeper holds has settings of its own, which win over those that are asked for. An image that breaks a
+/// end, once all of that is out. What the keeper holds has settings of its own, which win over those that are asked for. An image that breaks a
 /// rule is refused, and stays on the keeper. With fewer stores than servers nothing is read and nothing is written.
 pub fn serve<I: Source, O: Sink, S: SliceStore, K: Keeper>(
     alloc: Global,
@@ -349,7 +390,7 @@ pub fn serve<I: Source, O: Sink, S: SliceStore, K: Keeper>(
             &mut text,
         ) {
             Ok(Some(more)) => bad = either(bad, more),
-            Ok(None) => return close(&mut core, shelf, keeper, bad),
+            Ok(None) => return finish(&mut core, shelf, keeper, out, bad),
             Err(stop) => return stop.status(),
         }
     }

@@ -1,4 +1,5 @@
-use Rattle.std.proofs.Common.{rules, ◌≡◌, ap, sym, ◌∙◌, subst}
+use Rattle.std.proofs.Common.{rules, ◌≡◌, refl, ap, sym, ◌∙◌, subst}
+use Rattle.wtf_gen.specs.Scripts.{script_view}
 use Rattle.wtf_serve.specs.Endings.{devices}
 use Rattle.wtf_serve.specs.Generated.{IsGeneratedRun}
 use Rattle.wtf_serve.specs.Stocks.{stock}
@@ -11,10 +12,10 @@ returns-clause-served g c = λ source.
     let before = c.new-shown.result in
     let after = c.serve-status.new.out in
     let all = generated_run g.S.SliceStore.kind (K.follows c.args.keeper.now c.serve-status.new.keeper) c.args.settings c.args.recipe c.serve-status.result
-    source _ _ (g.O.Sink.view c.args.out.now) (g.O.Sink.view after.out.now)
+    source _ (script_view c.serve-status.new.script) (g.O.Sink.view c.args.out.now) (g.O.Sink.view after.out.now)
     (stock c.args.shelf.now (K.view c.args.keeper.now)) (stock c.serve-status.new.shelf (K.view c.serve-status.new.keeper))
     before.out.ghost_name after.out.ghost_name before.state after.state
-    c.new-script.ensures c.new-shown.ensures.faults c.new-shown.ensures.lines c.new-shown.ensures.first c.new-shown.ensures.text after.sound
+    c.new-script.ensures refl c.new-shown.ensures.faults c.new-shown.ensures.lines c.new-shown.ensures.first c.new-shown.ensures.text after.sound
     c.serve-status.ensures.served in
     let same : c.finish.new.self.0 ≡ c.out-1.given.0 = search (rules, all.0) in
     let ends = sym c.finish.ensures.kept ∙ same in

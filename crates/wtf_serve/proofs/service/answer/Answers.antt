@@ -64,14 +64,14 @@ returns-in_ok-answer-in-Ok-clause-kept g c =
     let is = c.in_ok-answer-in-Ok.ensures in
     let t = step (stock c.args.shelf.now (view c.args.keeper.now)) (stock c.event.new.shelf (view c.event.new.keeper)) c.args.core.now c.event.new.self in
     subst (λ (e : Line). Keeps (engine kind) t e c.in_ok-answer-in-Ok.answer) (sym c.in-Ok.is)
-    (event_kept view g.K.Keeper.follows c.args.keeper.now c.event.new.keeper kind c.args.shelf.now c.event.new.shelf c.args.core.now c.event.new.self
+    (event_kept view g.K.Keeper.follows g.K.Keeper.refused c.args.keeper.now c.event.new.keeper kind c.args.shelf.now c.event.new.shelf c.args.core.now c.event.new.self
     c.in-Ok.event c.in_ok-answer-in-Ok.answer is.kept.turn is.turn)
 
 pub returns-in_ok-answer-in-Ok-clause-handed : goal.returns-in_ok-answer-in-Ok-clause-handed
 returns-in_ok-answer-in-Ok-clause-handed g c =
     let kind = g.S.SliceStore.kind in
     let is = c.in_ok-answer-in-Ok.ensures in
-    turn_handed g.K.Keeper.view g.K.Keeper.follows g.met.K.Keeper.follows_itself g.met.K.Keeper.keeps c.args.keeper.now c.event.new.keeper kind
+    turn_handed g.K.Keeper.view g.K.Keeper.follows g.met.K.Keeper.follows_itself g.met.K.Keeper.keeps c.args.keeper.now c.event.new.keeper g.K.Keeper.refused kind
     (span (is_down c.args.core.now.replicas) c.args.shelf.now c.event.new.shelf) c.args.core.now.settings c.args.core.now.tables c.event.new.self.tables
     c.in-Ok.event c.in_ok-answer-in-Ok.answer is.kept.turn
 

@@ -12,10 +12,10 @@ use Rattle.wtf_serve.specs.Stocks.{stock, KeeperGoesOn}
 use Rattle.wtf_serve.specs.Unopened.{IsRun}
 use Rattle.wtf_serve.proofs.Keeping.{handed_on, handed_join}
 use Rattle.wtf_serve.proofs.Leaving.{core_keeps}
-use Rattle.wtf_serve.proofs.Underway.{Underway, underway_first, unwritten_first, underway_on, underway_end, underway_stop, stop_not_few, close_not_few}
+use Rattle.wtf_serve.proofs.Underway.{Underway, underway_first, unwritten_first, underway_on, underway_end, underway_stop, stop_not_few, end_not_few}
 use Rattle.wtf_serve.proofs.service.serve.Given.{Over}
 use Rattle.wtf_serve.proofs.service.serve.Goals as goal
-use Rattle.wtf_serve.proofs.service.serve.Goals.{After-write_all, After-close}
+use Rattle.wtf_serve.proofs.service.serve.Goals.{After-write_all, After-finish}
 
 -- the keeper goes on while it is loaded
 loaded : (g : Over) (c : After-write_all g) → KeeperGoesOn (g.K.Keeper.view c.args.keeper.now) (g.K.Keeper.view c.open.new.keeper)
@@ -39,9 +39,9 @@ returns-in_default-write_all-clause-served g c =
     unwritten_first (engine kind) g.met.S.SliceStore.laws (g.K.Keeper.follows c.args.keeper.now c.open.new.keeper) c.args.settings start
     (g.K.Keeper.view c.open.new.keeper) c.in-Ok.core
     (view c.write_all.new.out) c.as_slice.result.now c.in-Ok.ensures.opened c.open.ensures.kept (loaded g at) (first_text g at)
-    (subst (λ (s : SinkView). s.faults ≤ (view c.write_all.new.out).faults) same c.write_all.ensures.faults)
     (λ old e. c.in_default-write_all.ensures.told old (ap (λ (s : SinkView). s.taken) same ∙ e))
     (subst (λ (s : SinkView). Rose s.faults (view c.write_all.new.out).faults) same c.in_default-write_all.ensures.cause)
+    (subst (λ (s : SinkView). s.faults ≤ (view c.write_all.new.out).faults) same c.write_all.ensures.faults)
 
 pub loop-more-init : goal.loop-more-init
 loop-more-init g c =
@@ -58,8 +58,8 @@ loop-more-init g c =
           (underway_first (engine kind) g.met.S.SliceStore.laws (g.K.Keeper.follows c.args.keeper.now c.open.new.keeper) c.args.settings start
           (g.K.Keeper.view c.open.new.keeper) c.in-Ok.core
           (view c.write_all.new.out) c.as_slice.result.now c.in-Ok.ensures.opened c.open.ensures.kept (loaded g at) (first_text g at)
-          (subst (λ (s : SinkView). s.faults ≤ (view c.write_all.new.out).faults) same c.write_all.ensures.faults)
-          (λ old e. c.in-Ok-write_all.ensures.told old (ap (λ (s : SinkView). s.taken) same ∙ e)));
+          (λ old e. c.in-Ok-write_all.ensures.told old (ap (λ (s : SinkView). s.taken) same ∙ e))
+          (c.in-Ok-write_all.ensures.steady ∙ ap (λ (s : SinkView). s.faults) same));
       handed = ([], c.open.ensures.kept.nothing);
     }
 
@@ -97,39 +97,39 @@ returns-in-Ok-None-clause-served g c =
     let next = hand (input (g.I.Source.view c.pass.new.script) c.pass.new.reader.lines) (g.O.Sink.view c.pass.new.out)
     (stock c.pass.new.shelf (view c.pass.new.keeper)) c.pass.new.core in
     let is : c.pass.result ≡ Ok None = cc in
-    underway_end (engine kind) laws (follows c.args.keeper.now c.close.new.keeper) c.args.settings start now next c.loop-more.bad c.loop-more.invariant.run
-    (core_keeps kind) c.close.result
-    (stock c.close.new.shelf (view c.close.new.keeper)) c.close.new.core
-    (subst (λ (r : Result (Option Bool) Stop). PassIs (engine kind) now next r) is c.pass.ensures.pass) c.close.ensures.follows c.close.ensures.keeper
-    c.close.ensures.closes
+    underway_end (engine kind) laws (follows c.args.keeper.now c.finish.new.keeper) c.args.settings start now next c.loop-more.bad c.loop-more.invariant.run
+    (core_keeps kind) c.finish.result (g.O.Sink.view c.finish.new.out)
+    (stock c.finish.new.shelf (view c.finish.new.keeper)) c.finish.new.core
+    (subst (λ (r : Result (Option Bool) Stop). PassIs (engine kind) now next r) is c.pass.ensures.pass) c.finish.ensures.follows c.finish.ensures.keeper
+    c.finish.ensures.ends
 
 -- with which status a run that has begun its lines does not end
-closed_few : (g : Over) (c : After-close g) → c.close.result ≡ 2 → ⊥
-closed_few g c e =
+ended_few : (g : Over) (c : After-finish g) → c.finish.result ≡ 2 → ⊥
+ended_few g c e =
     let view = g.K.Keeper.view in
-    close_not_few (engine g.S.SliceStore.kind) (step (stock c.pass.new.shelf (view c.pass.new.keeper))
-    (stock c.close.new.shelf (view c.close.new.keeper)) c.pass.new.core c.close.new.core)
-    c.loop-more.bad c.close.result c.close.ensures.closes e
+    end_not_few (engine g.S.SliceStore.kind) (step (stock c.pass.new.shelf (view c.pass.new.keeper))
+    (stock c.finish.new.shelf (view c.finish.new.keeper)) c.pass.new.core c.finish.new.core)
+    (g.O.Sink.view c.pass.new.out) (g.O.Sink.view c.finish.new.out) c.loop-more.bad c.finish.result c.finish.ensures.ends e
 
 pub returns-in-Ok-None-clause-unread : goal.returns-in-Ok-None-clause-unread
-returns-in-Ok-None-clause-unread g c = λ e. absurd (closed_few g (goal.at.returns-in-Ok-None-clause-unread g c).After-close e)
+returns-in-Ok-None-clause-unread g c = λ e. absurd (ended_few g (goal.at.returns-in-Ok-None-clause-unread g c).After-finish e)
 
 pub returns-in-Ok-None-clause-unwritten : goal.returns-in-Ok-None-clause-unwritten
-returns-in-Ok-None-clause-unwritten g c = λ e. absurd (closed_few g (goal.at.returns-in-Ok-None-clause-unwritten g c).After-close e)
+returns-in-Ok-None-clause-unwritten g c = λ e. absurd (ended_few g (goal.at.returns-in-Ok-None-clause-unwritten g c).After-finish e)
 
 pub returns-in-Ok-None-clause-untouched : goal.returns-in-Ok-None-clause-untouched
-returns-in-Ok-None-clause-untouched g c = λ e. absurd (closed_few g (goal.at.returns-in-Ok-None-clause-untouched g c).After-close e)
+returns-in-Ok-None-clause-untouched g c = λ e. absurd (ended_few g (goal.at.returns-in-Ok-None-clause-untouched g c).After-finish e)
 
 pub returns-in-Ok-None-clause-unkept : goal.returns-in-Ok-None-clause-unkept
-returns-in-Ok-None-clause-unkept g c = λ e. absurd (closed_few g (goal.at.returns-in-Ok-None-clause-unkept g c).After-close e)
+returns-in-Ok-None-clause-unkept g c = λ e. absurd (ended_few g (goal.at.returns-in-Ok-None-clause-unkept g c).After-finish e)
 
 pub returns-in-Ok-None-clause-handed : goal.returns-in-Ok-None-clause-handed
 returns-in-Ok-None-clause-handed g c =
-    handed_join g.K.Keeper.view g.K.Keeper.follows g.met.K.Keeper.follows_itself g.met.K.Keeper.keeps c.args.keeper.now c.close.new.keeper c.pass.new.keeper
+    handed_join g.K.Keeper.view g.K.Keeper.follows g.met.K.Keeper.follows_itself g.met.K.Keeper.keeps c.args.keeper.now c.finish.new.keeper c.pass.new.keeper
     g.met.K.Keeper.follows_on
     (handed_join g.K.Keeper.view g.K.Keeper.follows g.met.K.Keeper.follows_itself g.met.K.Keeper.keeps c.args.keeper.now c.pass.new.keeper c.loop-more.keeper
     g.met.K.Keeper.follows_on
-    c.loop-more.invariant.handed c.pass.ensures.handed) c.close.ensures.handed
+    c.loop-more.invariant.handed c.pass.ensures.handed) c.finish.ensures.handed
 
 pub returns-in-Err-pass-clause-served : goal.returns-in-Err-pass-clause-served
 returns-in-Err-pass-clause-served g c =

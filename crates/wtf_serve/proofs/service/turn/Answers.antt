@@ -37,6 +37,7 @@ returns-in-Ok-write_all-clause-turn g c =
         kept = c.in-Ok.ensures.kept;
       };
       wrote = λ old e. c.in-Ok-write_all.ensures.told old e ∙ ap (λ (x : List ℕ). Some (old ++ x)) text;
+      still = c.in-Ok-write_all.ensures.steady;
     }
 
 pub returns-in_default-push_answer-clause-turn : goal.returns-in_default-push_answer-clause-turn

@@ -8,7 +8,7 @@ loop-at-preserved g c =
     let text = c.args.text.now in
     record {
       within = omega (arith, c.in-Ok.ensures.count, c.split_at.ensures.back_len);
-      counted = omega (arith, c.loop-at.invariant.counted, c.in-Ok.ensures.faults);
+      still = c.in-Ok.ensures.steady ∙ c.loop-at.invariant.still;
       told = λ old h.
           let w = c.in-Ok.ensures.told (old ++ take at text) (c.loop-at.invariant.told old h) in
           w ∙ ap Some (ap (λ (p : List ℕ). (old ++ take at text) ++ take c.in-Ok.n p) c.split_at.ensures.back

@@ -5,7 +5,7 @@ use Rattle.wtf_serve.proofs.service.write_all.Given as goal
 abbrev pub invariant-loop-at : goal.invariant-loop-at
 invariant-loop-at g l = record {
   within : l.at ≤ length l.text;
-  counted : (g.O.Sink.view l.fn.out).faults ≤ (g.O.Sink.view l.out).faults;
+  still : (g.O.Sink.view l.out).faults ≡ (g.O.Sink.view l.fn.out).faults;
   told : (old : List ℕ) → (g.O.Sink.view l.fn.out).taken ≡ Some old → (g.O.Sink.view l.out).taken ≡ Some (old ++ take l.at l.text);
 }
 
