@@ -2,12 +2,15 @@
 #![tactic(auto)]
 
 ghost use Rattle.std.specs.Prelude.{◌≡◌};
-ghost use Rattle.wtf_check.specs.Program.{open_status};
+ghost use Rattle.wtf_check.specs.Program.{open_status, IsCheckOver};
+ghost use Rattle.wtf_checker.specs.Checked.{streams};
 
+use std::alloc::Global;
 use std::env::{self, Env, FillError};
 use std::fs::File;
 use std::process::ExitCode;
 use wtf_checker::{OUT_OF_MEMORY, WRITING_FAILED, wtf_check};
+use wtf_dev::{Sink, Source};
 use wtf_real::{FileSource, OpenFault, streams};
 
 /// The greatest length of a path, in bytes: the system opens no longer one.
@@ -77,9 +80,24 @@ fn status_of(rt: &HostRuntime) -> u8 {
     let Ok((_, mut out)) = streams(rt.alloc(), rt.stdin(), rt.stdout()) else {
         return OUT_OF_MEMORY;
     };
-    let status = wtf_check(rt.alloc(), &mut script, &mut output, &mut out);
-    if out.finish().is_err() {
-        return WRITING_FAILED;
+    check_over(rt.alloc(), &mut script, &mut output, &mut out)
+}
+
+/// Checks an output against its script, says on `out` whether it is lawful, and answers the status. What `out` holds back is
+/// brought out then; where that fails writing failed, whatever the verdict is.
+pub fn check_over<I: Source, T: Source, O: Sink>(
+    alloc: Global,
+    script: &mut I,
+    output: &mut T,
+    out: &mut O,
+) -> u8
+    ensures { IsCheckOver result
+        (streams (I.view script.old) (T.view output.old) (O.view out.old))
+        (streams (I.view script.new) (T.view output.new) (O.view out.new)) }
+{
+    let status = wtf_check(alloc, script, output, out);
+    match out.write(&[]) {
+        Ok(_) => status,
+        Err(_) => WRITING_FAILED,
     }
-    status
 }

@@ -1,7 +1,7 @@
 //! The stores and the keeper of a run: in memory, or in a folder.
 
-ghost use Rattle.std.specs.Prelude.{◌≡◌, length, replicate, IfOk};
-ghost use Rattle.wtf_cli.specs.Program.{empty_store};
+ghost use Rattle.std.specs.Prelude.{◌≡◌, replicate, IfOk};
+ghost use Rattle.wtf_cli.specs.Program.{empty_store, empty_keeper, folders, folders_of};
 
 use std::alloc::Global;
 use std::fs::File;
@@ -21,7 +21,8 @@ pub(crate) struct Opened<S, K> {
 
 /// Stores and a keeper in memory.
 pub(crate) fn in_memory(alloc: Global) -> Result<Opened<MemStore, MemKeeper>, OpenFault>
-    ensures { IfOk result (λ opened. opened.shelf ≡ replicate 16 empty_store) }
+    ensures shelf { IfOk result (λ opened. opened.shelf ≡ replicate 16 empty_store) }
+    ensures keeper { IfOk result (λ opened. opened.keeper ≡ empty_keeper) }
 {
     let Ok(stores) = empty_stores(alloc) else {
         return Err(OpenFault::Memory);
@@ -32,12 +33,12 @@ pub(crate) fn in_memory(alloc: Global) -> Result<Opened<MemStore, MemKeeper>, Op
     })
 }
 
-/// The stores and the image in a folder that is held.
+/// The stores and the image in a folder that is held: store K is that of server K.
 pub(crate) fn in_folder(
     rt: &HostRuntime,
     lock: &FolderLock<File>,
 ) -> Result<Opened<DirStore<File>, FileKeeper<HostRuntime>>, OpenFault>
-    ensures { IfOk result (λ opened. length opened.shelf ≡ 16) }
+    ensures { IfOk result (λ opened. folders opened.shelf ≡ folders_of lock.now.dir 16) }
 {
     let stores = open_stores(rt, lock)?;
     let keeper = FileKeeper::open(rt, lock)?;
@@ -58,16 +59,16 @@ fn empty_stores(alloc: Global) -> Result<Vec<MemStore>, OutOfMemory>
     Ok(stores)
 }
 
-/// The stores of all servers in a folder that is held.
+/// The stores of all servers in a folder that is held, in order.
 fn open_stores(rt: &HostRuntime, lock: &FolderLock<File>) -> Result<Vec<DirStore<File>>, OpenFault>
-    ensures { IfOk result (λ stores. length stores.items ≡ 16) }
+    ensures { IfOk result (λ stores. folders stores.items ≡ folders_of lock.now.dir 16) }
 {
     let mut stores = Vec::new(rt.alloc());
     for k in 0..STORES {
         let store = DirStore::open(rt, lock, k)?;
-        if stores.push(store).is_err() {
+        let Ok(()) = stores.push(store) else {
             return Err(OpenFault::Memory);
-        }
+        };
     }
     Ok(stores)
 }

@@ -1,9 +1,11 @@
 //! The program.
 #![tactic(auto)]
 
-ghost use Rattle.std.specs.Prelude.{◌≡◌, drop, IfErr};
+ghost use Rattle.std.specs.Prelude.{◌≡◌, drop, map, string_bytes, IfErr, OnOk};
 ghost use Rattle.std.specs.Process.{exit_status};
-ghost use Rattle.wtf_cli.specs.Program.{IsStatus, open_status};
+ghost use Rattle.std.specs.Io.KnownBytes.{Appends};
+ghost use Rattle.wtf_serve.specs.Endings.{devices};
+ghost use Rattle.wtf_cli.specs.Program.{IsStatus, IsRunOver, open_status, error_text};
 
 mod devices;
 mod first_word;
@@ -12,11 +14,12 @@ mod status;
 use crate::devices::{Opened, in_folder, in_memory};
 use crate::first_word::{First, USAGE, VERSION, first_of};
 use crate::status::{NO_DIRECTORY, line_of, open_status};
+use std::alloc::Global;
 use std::env::{self, Env, FillError};
 use std::fs::File;
-use std::io;
+use std::io::{self, Write};
 use std::process::ExitCode;
-use wtf_dev::{Keeper, SliceStore};
+use wtf_dev::{Keeper, Shelf, Sink, SliceStore, Source};
 use wtf_real::{FolderLock, OpenFault, StandIns, streams};
 use wtf_serve::{FINISHED, OUT_OF_MEMORY, WORDS_REFUSED, WRITING_FAILED, wtf};
 
@@ -37,11 +40,21 @@ fn main(rt: HostRuntime) -> ExitCode {
 fn told(rt: &HostRuntime, status: u8) -> ExitCode
     ensures { exit_status result ≡ status }
 {
-    if let Some(line) = line_of(status) {
-        // There is nowhere to say that standard error takes no line.
-        let _ = eprintln!(rt; "{line}");
-    }
+    // There is nowhere to say that standard error takes no line.
+    let _ = write_line(&mut rt.stderr(), status);
     ExitCode::from(status)
+}
+
+/// Writes the line of a status, where it has one.
+fn write_line<W: Write>(to: &mut W, status: u8) -> io::Result<()>
+    ensures { OnOk result (Appends (W.contents to.old) (W.contents to.new) (error_text status)) }
+{
+    let Some(line) = line_of(status) else {
+        return Ok(());
+    };
+    to.write_all(line.as_bytes())?;
+    to.write_all(b"\n")?;
+    Ok(())
 }
 
 /// Does what the words ask for, and answers its status. The standard streams are all open before any other file is.
@@ -104,8 +117,7 @@ fn run_in(rt: &HostRuntime, standing: &StandIns<File>, dir: &str) -> u8
     status
 }
 
-/// Runs the script on standard input over the devices, where they could be opened: else no word is read. The last answers
-/// may be written only when the run is over; where they are not, writing failed, however it ended.
+/// Runs the script on standard input over the devices, where they could be opened: else no word is read.
 fn run<S: SliceStore + Drop, K: Keeper + Drop>(
     rt: &HostRuntime,
     opened: Result<Opened<S, K>, OpenFault>,
@@ -125,14 +137,35 @@ fn run<S: SliceStore + Drop, K: Keeper + Drop>(
     let Ok((mut script, mut out)) = streams(alloc, rt.stdin(), rt.stdout()) else {
         return OUT_OF_MEMORY;
     };
-    let words = behind_dir(args.as_slice());
     let shelf = &mut opened.shelf;
     let keeper = &mut opened.keeper;
-    let status = wtf(alloc, words, &mut script, &mut out, shelf, keeper);
-    if out.finish().is_err() {
-        return WRITING_FAILED;
-    }
+    let args = args.as_slice();
+    let status = run_over(alloc, args, &mut script, &mut out, shelf, keeper);
     status
+}
+
+/// Runs a script over devices, as the words behind the program's name and DIR ask, and answers the status. What `out` holds
+/// back then is brought out; where that fails writing failed, however the run ended.
+pub fn run_over<I: Source, O: Sink, S: SliceStore, K: Keeper>(
+    alloc: Global,
+    args: &[String],
+    script: &mut I,
+    out: &mut O,
+    shelf: &mut Shelf<S>,
+    keeper: &mut K,
+) -> u8
+    ensures status { IsStatus result }
+    ensures ran { IsRunOver S.kind (K.follows keeper.old keeper.new)
+        (map string_bytes (drop 2 args.now)) result
+        (devices (I.view script.old) (O.view out.old) shelf.old (K.view keeper.old))
+        (devices (I.view script.new) (O.view out.new) shelf.new (K.view keeper.new)) }
+{
+    let words = behind_dir(args);
+    let status = wtf(alloc, words, script, out, shelf, keeper);
+    match out.write(&[]) {
+        Ok(_) => status,
+        Err(_) => WRITING_FAILED,
+    }
 }
 
 /// The words behind DIR, the word after the program's name.
