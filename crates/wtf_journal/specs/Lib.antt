@@ -1,0 +1,6 @@
+pub mod Moments
+pub mod Through
+pub mod Follows
+pub mod Views
+pub mod Records
+pub mod Scan

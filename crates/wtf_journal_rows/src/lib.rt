@@ -1,0 +1,9 @@
+//! Tests, from outside, of a store and a journal over a disk.
+#![tactic(auto)]
+
+#[cfg(test)]
+mod disks;
+#[cfg(test)]
+mod journal;
+#[cfg(test)]
+mod synced;
