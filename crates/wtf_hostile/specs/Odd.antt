@@ -16,6 +16,7 @@ odd_view s = record {
   syncs = s.store.syncs;
   size = (store_view s.store).size;
   told = λ f i. None;
+  shown = λ f i. None;
   tells = false;
 }
 
@@ -29,5 +30,6 @@ odd_laws = record {
   follows_on = λ a b c xs ys p q. kept_on (odd_view a) (odd_view b) (odd_view c) xs ys p q;
   keeps = λ a b xs f. f;
   fits = λ s f. omega arith;
-  within = λ s f i b told. absurd (cc);
+  within = λ s f i b shown. absurd (cc);
+  shows = λ s f i b told. absurd (cc);
 }

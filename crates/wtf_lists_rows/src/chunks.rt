@@ -18,6 +18,17 @@ fn counting(alloc: Global, count: u64) -> Result<Chunks<u64>, AllocError> {
     Ok(list)
 }
 
+/// The same, of which the numbers from `from` on are put in at once.
+fn counting_on(alloc: Global, from: u64, count: u64) -> Result<Chunks<u64>, AllocError> {
+    let mut list = counting(alloc, from)?;
+    let mut more = Vec::new(alloc);
+    for i in from..count {
+        more.push(i)?;
+    }
+    list.extend(more.as_slice())?;
+    Ok(list)
+}
+
 /// Whether a list is of the numbers below `count`, in order.
 fn is_counting(list: &Chunks<u64>, count: u64) -> bool {
     for i in 0..list.len() {
@@ -43,6 +54,11 @@ fn stays(alloc: Global, count: u64) -> Result<bool, AllocError> {
     is_apart(&mut list, &shared, count)
 }
 
+/// Whether it is, where those from `from` on were put in at once.
+fn counts_on(alloc: Global, from: u64, count: u64) -> Result<bool, AllocError> {
+    Ok(is_counting(&counting_on(alloc, from, count)?, count))
+}
+
 fn is_empty(alloc: Global, count: u64) -> Result<bool, AllocError> {
     Ok(counting(alloc, count)?.is_empty())
 }
@@ -51,6 +67,15 @@ fn is_empty(alloc: Global, count: u64) -> Result<bool, AllocError> {
 fn a_share_stays_as_it_was(rt: HostRuntime) -> Result<(), Fail> {
     let alloc = rt.alloc();
     assert!(rt; stays(alloc, 1)? && stays(alloc, 65)? && stays(alloc, 1000)?);
+    Ok(())
+}
+
+#[test]
+fn items_are_put_in_at_once(rt: HostRuntime) -> Result<(), Fail> {
+    let alloc = rt.alloc();
+    assert!(rt;
+        counts_on(alloc, 0, 0)? && counts_on(alloc, 15, 16)? && counts_on(alloc, 65, 1000)?
+    );
     Ok(())
 }
 

@@ -243,3 +243,52 @@ fn a_read_sees_each_change(rt: HostRuntime) -> Result<(), Fail> {
     assert!(rt; reads_changes(rt.alloc(), &kv)?);
     Ok(())
 }
+
+/// Whether an attempt finds this where key 7 stands; 0 stands for no value.
+fn looks(attempt: &Counting, kv: &Counts, value: u64) -> bool {
+    if !kv.is_pinned(attempt.base()) {
+        return false;
+    }
+    match attempt.look(kv, &SEVEN) {
+        Some(found) => number(found) == value,
+        None => false,
+    }
+}
+
+/// Pushes 1 to key 7 and settles it.
+fn settle_one(attempt: &mut Counting, kv: &Counts) -> Result<bool, OutOfMemory> {
+    attempt.delta(SEVEN, 1)?;
+    if !kv.is_pinned(attempt.base()) {
+        return Ok(false);
+    }
+    attempt.settle(kv, &SEVEN)?;
+    Ok(true)
+}
+
+/// Whether an attempt on a store that has 20 finds that, and a push that is settled.
+fn looks_all(attempt: &mut Counting, kv: &Counts) -> Result<bool, OutOfMemory> {
+    let first = looks(attempt, kv, 20);
+    Ok(first && settle_one(attempt, kv)? && looks(attempt, kv, 21))
+}
+
+/// Whether an attempt that removes the key finds nothing there.
+fn looks_gone(attempt: &mut Counting, kv: &Counts) -> Result<bool, OutOfMemory> {
+    cut(attempt)?;
+    Ok(looks(attempt, kv, 0))
+}
+
+#[test]
+fn a_look_finds_what_stands_somewhere(rt: HostRuntime) -> Result<(), Fail> {
+    let kv = store(rt.alloc(), 20)?;
+    let mut attempt = Attempt::new(rt.alloc(), 1)?;
+    assert!(rt; looks_all(&mut attempt, &kv)?);
+    Ok(())
+}
+
+#[test]
+fn a_look_finds_nothing_where_a_key_was_removed(rt: HostRuntime) -> Result<(), Fail> {
+    let kv = store(rt.alloc(), 20)?;
+    let mut attempt = Attempt::new(rt.alloc(), 1)?;
+    assert!(rt; looks_gone(&mut attempt, &kv)?);
+    Ok(())
+}

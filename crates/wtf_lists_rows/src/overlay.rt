@@ -140,6 +140,25 @@ fn over(alloc: Global, visible: u32) -> Result<Overlay, Fail> {
     Ok(Overlay::over(&base, visible, &top)?)
 }
 
+/// Whether the plan of a list with the entries of some rows over it is of these pieces.
+fn plans_with(
+    alloc: Global,
+    list: &Overlay,
+    more: &[Row],
+    off: u32,
+    want: &[Told],
+) -> Result<bool, Fail> {
+    let more = entries_of(alloc, more)?;
+    Ok(are_pieces(list.plan_with(more.as_slice(), off, 6)?.as_slice(), want))
+}
+
+/// Whether the entries of some rows that are laid at once make a list of `want`.
+fn lays(alloc: Global, list: &mut Overlay, rows: &[Row], want: &[Row]) -> Result<bool, Fail> {
+    let more = entries_of(alloc, rows)?;
+    list.push_many(more.as_slice())?;
+    Ok(holds(list, want))
+}
+
 /// Cuts a list of A and X to three bytes, and tells whether the plan and the entries are those.
 fn is_cut(list: &mut Overlay) -> Result<bool, OutOfMemory> {
     list.clip(3)?;
@@ -302,6 +321,24 @@ fn a_list_takes_one_word(rt: HostRuntime) -> Result<(), Fail> {
 fn later_entries_hide_earlier_ones(rt: HostRuntime) -> Result<(), Fail> {
     let list = list_of(rt.alloc(), &[A, X])?;
     assert!(rt; plans_all(&list)?);
+    Ok(())
+}
+
+#[test]
+fn a_plan_takes_entries_that_no_list_has(rt: HostRuntime) -> Result<(), Fail> {
+    let alloc = rt.alloc();
+    let list = list_of(alloc, &[A])?;
+    assert!(rt; plans_with(alloc, &list, &[X], 0, PLANS[0].2)?);
+    assert!(rt; holds(&list, &[A]));
+    Ok(())
+}
+
+#[test]
+fn entries_are_laid_at_once(rt: HostRuntime) -> Result<(), Fail> {
+    let alloc = rt.alloc();
+    let mut list = list_of(alloc, &[A])?;
+    assert!(rt; lays(alloc, &mut list, &[X, (8, None, 2)], &[A, X, (8, None, 2)])?);
+    assert!(rt; lays(alloc, &mut list, &[X, A], &[A, X, (8, None, 2), X, A])?);
     Ok(())
 }
 

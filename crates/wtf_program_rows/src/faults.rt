@@ -103,19 +103,20 @@ fn each_read_of_the_script_fails_once(rt: HostRuntime) -> Result<(), Fail> {
     Ok(())
 }
 
-/// Each line is one write, so a run whose write fails has written the lines before.
+/// Each line is one write, so a run whose write fails has written the lines before. The call behind them brings out what is
+/// held back, and where it fails nothing is saved.
 #[test]
 fn each_write_of_an_answer_fails_once(rt: HostRuntime) -> Result<(), Fail> {
-    for call in 0..9u64 {
+    for call in 0..10u64 {
         let ended = unwritten(rt.alloc(), call)?;
-        let status = if call < 8 { 4 } else { 0 };
+        let status = if call < 9 { 4 } else { 0 };
         assert_eq!(rt;
             (ended.status, feeds(ended.output.as_slice())),
-            (status, call),
+            (status, call.min(8)),
             "write {call}"
         );
         assert!(rt; OUTPUT.starts_with(ended.output.as_slice()), "write {call}");
-        assert_eq!(rt; ended.kept.is_empty(), call < 8, "write {call}");
+        assert_eq!(rt; ended.kept.is_empty(), call < 9, "write {call}");
     }
     Ok(())
 }

@@ -93,13 +93,15 @@ fn a_summary_comes_before_the_closing_save(rt: HostRuntime) -> Result<(), Fail> 
     Ok(())
 }
 
-/// Each byte of the first line is a write of its own, and the summary is the one behind them.
+/// Each byte of the first line is a write of its own, the summary is the one behind them, and then what is held back is
+/// brought out, before the tree is saved.
 #[test]
 fn a_summary_is_not_written_where_the_sink_fails(rt: HostRuntime) -> Result<(), Fail> {
-    for (call, lines) in [(0, 0), (47, 1)] {
+    for (call, lines) in [(0, 0), (47, 1), (48, 9)] {
         let ended = unwritten_run(rt.alloc(), call)?;
         let output = ended.output.as_slice();
         assert_eq!(rt; (ended.status, feeds(output)), (4, lines), "call {call}");
+        assert!(rt; ended.kept.is_empty(), "call {call}");
     }
     Ok(())
 }

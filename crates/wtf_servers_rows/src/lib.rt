@@ -4,9 +4,13 @@
 #[cfg(test)]
 mod dev;
 #[cfg(test)]
+mod disks;
+#[cfg(test)]
 mod noted;
 #[cfg(test)]
 mod real;
+#[cfg(test)]
+mod real_disk;
 #[cfg(test)]
 mod replica;
 #[cfg(test)]

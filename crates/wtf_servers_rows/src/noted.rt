@@ -8,7 +8,7 @@ use wtf_real::{DirStore, ImageFiles, ImageKeeper, ImageName, SliceFile};
 
 /// A file that notes what it is asked behind its number, and may fail to sync.
 #[derive(Drop)]
-struct Noted<'a> {
+pub(crate) struct Noted<'a> {
     log: &'a Log,
     file: u8,
     fails: bool,
@@ -48,7 +48,7 @@ impl<'a> SliceFile for Noted<'a> {
 }
 
 /// An empty file, which fails to sync where it has the number `bad`.
-fn noted_file(log: &Log, file: u8, bad: u8) -> Noted<'_> {
+pub(crate) fn noted_file(log: &Log, file: u8, bad: u8) -> Noted<'_> {
     Noted {
         log,
         file,

@@ -214,7 +214,7 @@ fn a_full_disk_is_told(rt: HostRuntime) {
 }
 
 /// The path of a folder of the test's own, where nothing stands.
-fn fresh(rt: &HostRuntime, name: &str) -> io::Result<String> {
+pub(crate) fn fresh(rt: &HostRuntime, name: &str) -> io::Result<String> {
     let top = env::temp_dir(rt)?;
     let id = process::id(rt.process());
     let path = format!(in rt.alloc(); "{}/wtf_real_{id}_{name}", top.as_str())?;
@@ -223,7 +223,7 @@ fn fresh(rt: &HostRuntime, name: &str) -> io::Result<String> {
 }
 
 /// Whether the folder of a test is taken away.
-fn clears(rt: &HostRuntime, path: &str) -> bool {
+pub(crate) fn clears(rt: &HostRuntime, path: &str) -> bool {
     fs::remove_dir_all(rt, path).is_ok()
 }
 
@@ -259,7 +259,7 @@ fn fills(rt: &HostRuntime, folder: &str, path: &str) -> bool {
     symlink(rt, "/dev/full", path.as_str()).is_ok()
 }
 
-fn hold(rt: &HostRuntime, folder: &str) -> Result<FolderLock<File>, OpenFault> {
+pub(crate) fn hold(rt: &HostRuntime, folder: &str) -> Result<FolderLock<File>, OpenFault> {
     let standing = StandIns::open(rt)?;
     FolderLock::open(rt, &standing, folder)
 }
