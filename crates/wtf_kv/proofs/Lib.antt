@@ -2,6 +2,7 @@ pub mod EditLaws
 pub mod VersionLaws
 pub mod PinLaws
 pub mod KeyLaws
+pub mod WalkLaws
 pub mod KeptLaws
 pub mod CallLaws
 mod Sees
@@ -13,6 +14,7 @@ mod Runs
 mod Taken
 mod Noting
 mod Ranges
+mod Walked
 mod Made
 mod Staged
 mod Loose

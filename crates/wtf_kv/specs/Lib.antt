@@ -6,4 +6,5 @@ pub mod Causes
 pub mod Staging
 pub mod Installs
 pub mod Order
+pub mod Walks
 pub mod Calls

@@ -5,7 +5,9 @@ ghost use Rattle.std.specs.declared.cmp.Ordering.TheVariants.{Equal};
 ghost use Rattle.wtf_kv.specs.Edits.{value_made, fits};
 ghost use Rattle.wtf_kv.specs.declared.cell.Applied.{Applied};
 ghost use Rattle.wtf_kv.specs.Edits.{value_made};
+ghost use Rattle.wtf_kv.specs.Staging.{run_made, run_fits};
 
+use crate::Change;
 use std::alloc::Global;
 use wtf_base::OutOfMemory;
 
@@ -37,6 +39,28 @@ pub trait Cell: Drop {
     ) -> Result<bool, OutOfMemory>
         ensures fit { IfOk result (λ fit. fit ≡ fits (outcome now.old delta.now)) }
         ensures value { OnOk result (now.new ≡ value_made (outcome now.old delta.now) now.old) };
+
+    /// Applies the deltas of a run to a value, or to none, in order, up to the first that does not fit.
+    /// Answers whether all do. Want of memory may leave anything.
+    fn apply_all<K>(
+        alloc: Global,
+        now: &mut Option<Self>,
+        run: &[Change<K, Self::Delta>],
+    ) -> Result<bool, OutOfMemory>
+        ensures fit { IfOk result (λ fit. fit ≡ run_fits outcome run.now now.old) }
+        ensures value { OnOk result (now.new ≡ run_made outcome run.now now.old) }
+    {
+        for change in run {
+            let Change::Delta(_, delta) = change else {
+                continue;
+            };
+            let fit = Self::apply(alloc, now, delta)?;
+            if !fit {
+                return Ok(false);
+            }
+        }
+        Ok(true)
+    }
 
     /// A value that is equal to this one.
     fn copy(&self, alloc: Global) -> Result<Self, OutOfMemory>

@@ -11,17 +11,21 @@ ghost use Rattle.wtf_kv.specs.Edits.{Fits, first_unfit};
 ghost use Rattle.wtf_kv.specs.Causes.{IsCause};
 ghost use Rattle.wtf_kv.specs.Installs.{Planned, IsReady};
 ghost use Rattle.wtf_kv.specs.Order.{IsNextKey};
+ghost use Rattle.std.specs.Range.Bound.{bound_map};
+ghost use Rattle.wtf_kv.specs.Walks.{AreRowsFrom};
 ghost use Rattle.wtf_kv.specs.Staging.{staged, value_next, next_value, is_taken, IsKeptOrCut, IsStaged, IsStagedBy, IsStagedByAll, AreDeltasOf, run_made, run_fits};
 
 use crate::cells::{
     Cells, clear_cells, first_key, prune_all, seed_cell, shown_in, start_past, value_in,
     valued_keys, version_in,
 };
-use crate::rows::{apply_run, stage_in, stage_run_in};
-use crate::{Cell, Change, NotReady, StoreKey};
+use crate::rows::{stage_in, stage_run_in};
+use crate::walk::rows_in;
+use crate::{Cell, Change, NotReady, Rows, StoreKey};
 use std::alloc::Global;
 use std::collections::BTreeMap;
 use std::marker::Model;
+use std::ops::Bound;
 use wtf_base::OutOfMemory;
 
 /// Versions of keys. Contracts see it as a store with no pins: its number, and the versions of each key.
@@ -114,6 +118,15 @@ impl<K: StoreKey, C: Drop> History<K, C> {
     {
         let start = start_past(after);
         first_key(&self.cells, start, self.number)
+    }
+
+    /// The keys from `start` on of which `n` sees a value.
+    pub(crate) fn rows(&self, n: u64, start: Bound<&K>) -> Rows<'_, K, C>
+        requires { n ≤ self.now.number }
+        ensures { AreRowsFrom K.cmp (bound_map (λ k. k.now) start.entry)
+            (map_at K.cmp self.now n) result }
+    {
+        rows_in(&self.cells, n, start)
     }
 
     /// Drops what was made ready, and the versions that are not kept under these pins.
@@ -363,7 +376,7 @@ fn stage_run_cell<K: StoreKey, C: Cell>(
         return stage_run_in(alloc, versions, number, run);
     }
     let mut value = None;
-    let fit = apply_run::<K, C>(alloc, &mut value, run)?;
+    let fit = C::apply_all::<K>(alloc, &mut value, run)?;
     add_cell(alloc, cells, number, key, value)?;
     Ok(fit)
 }

@@ -12,6 +12,7 @@ mod history;
 mod ready;
 mod rows;
 mod store;
+mod walk;
 
 pub use calls::{Call, run};
 pub use cell::{Applied, Cell, StoreKey, Summarized};
@@ -19,3 +20,4 @@ pub use changes::{Change, Changes};
 pub use ready::{NotReady, Ready};
 pub use rows::Versions;
 pub use store::Kv;
+pub use walk::Rows;

@@ -195,28 +195,6 @@ pub(crate) fn stage_in<C: Drop>(
     }
 }
 
-/// Applies the deltas of a run to a value, in order, up to the first that does not fit. Answers whether all
-/// do.
-pub(crate) fn apply_run<K, C: Cell>(
-    alloc: Global,
-    value: &mut Option<C>,
-    run: &[Change<K, C::Delta>],
-) -> Result<bool, OutOfMemory>
-    ensures fit { IfOk result (λ fit. fit ≡ run_fits C.outcome run.now value.old) }
-    ensures value { OnOk result (value.new ≡ run_made C.outcome run.now value.old) }
-{
-    for change in run {
-        let Change::Delta(_, delta) = change else {
-            continue;
-        };
-        let fit = C::apply(alloc, value, delta)?;
-        if !fit {
-            return Ok(false);
-        }
-    }
-    Ok(true)
-}
-
 /// Makes what deltas make of a key's value ready among its versions. Answers whether they fit; the first that
 /// does not leaves the value, which is put back.
 pub(crate) fn stage_run_in<K, C: Cell>(
@@ -236,7 +214,7 @@ pub(crate) fn stage_run_in<K, C: Cell>(
     ensures err { OnErr result (IsKeptOrCut number versions.old.items versions.new.items) }
 {
     let mut value = take_next(alloc, versions, number)?;
-    let fit = apply_run::<K, C>(alloc, &mut value, run)?;
+    let fit = C::apply_all::<K>(alloc, &mut value, run)?;
     stage_in(versions, number, value)?;
     Ok(fit)
 }

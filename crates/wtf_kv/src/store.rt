@@ -9,12 +9,15 @@ ghost use Rattle.wtf_kv.specs.Stores.{versions_of, map_at, version_of, is_pinned
 ghost use Rattle.wtf_kv.specs.Edits.{over, Fits, first_unfit, versions_with, version_with};
 ghost use Rattle.wtf_kv.specs.Causes.{IsCause};
 ghost use Rattle.wtf_kv.specs.Installs.{IsReady};
+ghost use Rattle.std.specs.Range.Bound.{bound_map};
+ghost use Rattle.wtf_kv.specs.Walks.{AreRowsFrom};
 ghost use Rattle.wtf_kv.specs.Order.{IsNextKey, IsNextPinned, IsLeastAbove, is_above, least_of};
 
 use crate::history::History;
-use crate::{Cell, Changes, NotReady, Ready, StoreKey, Versions};
+use crate::{Cell, Changes, NotReady, Ready, Rows, StoreKey, Versions};
 use std::alloc::Global;
 use std::marker::{Model, PhantomData};
+use std::ops::Bound;
 use wtf_base::OutOfMemory;
 
 /// Maps from keys to values at install numbers. Contracts see the number of the last install, the
@@ -245,6 +248,17 @@ impl<K: StoreKey, C: Cell> Kv<K, C> {
         ensures { IsNextKey K.cmp self.now (option_copied after.entry) (option_copied result) }
     {
         self.history.next_key(after)
+    }
+
+    /// The keys from `start` on that have a value in the map at `n`, each with it, in order; `n` is pinned or is
+    /// the number. It takes the time of a search among the keys, and a step takes that of a search among the
+    /// versions of each key that it passes.
+    pub fn rows(&self, n: u64, start: Bound<&K>) -> Rows<'_, K, C>
+        requires { IsTrue (is_live self.now n) }
+        ensures { AreRowsFrom K.cmp (bound_map (λ k. k.now) start.entry)
+            (map_at K.cmp self.now n) result }
+    {
+        self.history.rows(n, start)
     }
 
     /// The least pinned number above `after`, none exactly where there is no such number.

@@ -15,5 +15,5 @@ returns-clause-ok g c =
     let n = c.args.number in
     let vs = c.args.versions.now.items in
     c.in_ok-stage_in.ensures.ok
-    ∙ staged-kept n c.apply_run.new.value vs _ c.take_next.ensures.kept
+    ∙ staged-kept n c.apply_all.new.now vs _ c.take_next.ensures.kept
     ∙ ap (λ v. staged n v vs) (c.in_ok-fit.ensures.value ∙ ap (run_made g.C.Cell.outcome c.args.run.now) c.in_ok-value.ensures.value)
