@@ -3,6 +3,7 @@ pub mod Keys
 pub mod Names
 pub mod Regions
 pub mod Outcomes
+pub mod Pushes
 pub mod Pieces
 pub mod Summaries
 pub mod Trees

@@ -33,6 +33,16 @@ pushed now e = let v = or_empty now in record {
   below = IsBelow-more v.end (max v.end (e.off + e.len)) v.base (greater_left v.end (e.off + e.len)) v.below;
 }
 
+-- a region with entries laid over it, one after another
+abbrev pub pushed_all : RegionValue → List Entry → RegionValue
+pushed_all v [] = v
+pushed_all v (e ∷ es) = pushed_all (pushed (Some v) e) es
+
+-- the end of a region that reaches to each of the entries' ends at least
+abbrev pub end_over : ℕ → List Entry → ℕ
+end_over end [] = end
+end_over end (e ∷ es) = end_over (max end (e.off + e.len)) es
+
 -- a region with all bytes at an end and above taken off its entries and its base; that is its end then
 abbrev pub clipped : ℕ → Option RegionValue → RegionValue
 clipped end now = let v = or_empty now in record {

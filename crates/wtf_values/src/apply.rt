@@ -4,7 +4,7 @@ ghost use Rattle.std.specs.Prelude.{◌≡◌, ◌+◌, ◌<◌, ◌^◌, [], If
 ghost use Rattle.wtf_overlay.specs.Clips.{Within};
 ghost use Rattle.wtf_overlay.specs.Origin.{pieces_len};
 ghost use Rattle.wtf_values.specs.Bases.{base_below};
-ghost use Rattle.wtf_values.specs.Regions.{emptied, pushed, clipped, zeroed_in, with_piece, with_pieces, fits_at_end};
+ghost use Rattle.wtf_values.specs.Regions.{emptied, pushed, pushed_all, end_over, clipped, zeroed_in, with_piece, with_pieces, fits_at_end};
 
 use crate::{Pieces, RegionValue, Spill};
 use std::alloc::Global;
@@ -101,6 +101,16 @@ impl RegionValue {
         Ok(())
     }
 
+    /// Lays entries over the region, in place and in order.
+    pub(crate) fn lay_all(&mut self, entries: &[Entry]) -> Result<(), OutOfMemory>
+        ensures { OnOk result (self.new ≡ pushed_all self.old entries.now) }
+    {
+        let end = last_end(self.end, entries);
+        self.list.push_many(entries)?;
+        self.end = end;
+        Ok(())
+    }
+
     /// The region with an entry laid over it.
     pub(crate) fn push(self, e: Entry) -> Result<RegionValue, OutOfMemory>
         ensures { IfOk result (λ v. v ≡ pushed (Some self) e) }
@@ -162,6 +172,17 @@ impl RegionValue {
         }
         Ok(region)
     }
+}
+
+/// The greatest of an end and the ends of entries.
+fn last_end(end: u32, entries: &[Entry]) -> u32
+    ensures { result ≡ end_over end entries.now }
+{
+    let mut last = end;
+    for e in entries {
+        last = last.max(e.end());
+    }
+    last
 }
 
 /// What is left of a base below an end.

@@ -1,18 +1,23 @@
 //! A change of a value.
 
-ghost use Rattle.std.specs.Prelude.{◌≡◌, IfOk, OnOk, Option, None, Some, true};
+ghost use Rattle.std.specs.Prelude.{◌≡◌, IfOk, IfSome, OnOk, Option, None, Some, true};
 ghost use Rattle.std.specs.Option.{option_copied};
 ghost use Rattle.wtf_kv.specs.Edits.{value_made, fits};
+ghost use Rattle.wtf_kv.specs.Staging.{run_made, run_fits};
 ghost use Rattle.wtf_kv.specs.declared.cell.Applied.TheVariants.{Is};
 ghost use Rattle.wtf_values.specs.declared.value.Value.TheVariants.{Names, Last, Region};
-ghost use Rattle.wtf_values.specs.Outcomes.{makes_region, outcome_kind, outcome_region, outcome_last, outcome_names};
+ghost use Rattle.wtf_values.specs.Outcomes.{makes_region, outcome_kind, outcome_region, outcome_last, outcome_names, outcome_of};
+ghost use Rattle.wtf_values.specs.Pushes.{are_pushes, entries_of, laid_all};
 
 use crate::summary::{summarize, summary_after};
 use crate::{Delta, NameSet, RegionValue, Summary, Value};
 use std::alloc::Global;
 use wtf_base::OutOfMemory;
-use wtf_kv::{Cell, Summarized};
+use wtf_kv::{Cell, Change, Summarized};
 use wtf_overlay::Entry;
+
+/// How many entries are worth being laid at once.
+const MANY: usize = 8;
 
 impl Cell for Value {
     type Delta = Delta;
@@ -28,6 +33,22 @@ impl Cell for Value {
             Delta::Push(e) => lay_over(alloc, now, e)?,
             _ => return change_kind(alloc, now, delta),
         }
+        Ok(true)
+    }
+
+    /// Many entries are laid over a region at once.
+    fn apply_all<K>(
+        alloc: Global,
+        now: &mut Option<Value>,
+        run: &[Change<K, Delta>],
+    ) -> Result<bool, OutOfMemory> {
+        if run.len() < MANY {
+            return apply_each(alloc, now, run);
+        }
+        let Some(entries) = entries_of(alloc, run)? else {
+            return apply_each(alloc, now, run);
+        };
+        lay_all(alloc, now, entries.as_slice())?;
         Ok(true)
     }
 
@@ -95,6 +116,60 @@ fn lay_over(alloc: Global, now: &mut Option<Value>, e: &Entry) -> Result<(), Out
             Ok(())
         }
         Some(Value::Region(region)) => region.lay(*e),
+        Some(Value::Node(_)) => Ok(()),
+        Some(Value::Names(_)) => Ok(()),
+        Some(Value::Last(_)) => Ok(()),
+    }
+}
+
+/// Applies the deltas of a run one by one, up to the first that does not fit. Answers whether all do.
+fn apply_each<K>(
+    alloc: Global,
+    now: &mut Option<Value>,
+    run: &[Change<K, Delta>],
+) -> Result<bool, OutOfMemory>
+    ensures fit { IfOk result (λ fit. fit ≡ run_fits outcome_of run.now now.old) }
+    ensures value { OnOk result (now.new ≡ run_made outcome_of run.now now.old) }
+{
+    for change in run {
+        let Change::Delta(_, delta) = change else {
+            continue;
+        };
+        let fit = Value::apply(alloc, now, delta)?;
+        if !fit {
+            return Ok(false);
+        }
+    }
+    Ok(true)
+}
+
+/// The entries that a run lays, where each of its changes lays one.
+fn entries_of<K>(alloc: Global, run: &[Change<K, Delta>]) -> Result<Option<Vec<Entry>>, OutOfMemory>
+    ensures pushes { IfOk result (λ found. IfSome found (λ _v. are_pushes run.now ≡ true)) }
+    ensures entries { IfOk result (λ found. IfSome found (λ v. v.items ≡ entries_of run.now)) }
+{
+    let mut entries = Vec::with_capacity(alloc, run.len())?;
+    for change in run {
+        let Change::Delta(_, Delta::Push(e)) = change else {
+            return Ok(None);
+        };
+        entries.push(*e)?;
+    }
+    Ok(Some(entries))
+}
+
+/// Lays entries over a region, which stays where it is, in order. A missing one is made.
+fn lay_all(alloc: Global, now: &mut Option<Value>, entries: &[Entry]) -> Result<(), OutOfMemory>
+    ensures { OnOk result (now.new ≡ laid_all now.old entries.now) }
+{
+    match now {
+        None => {
+            let mut region = RegionValue::empty(alloc)?;
+            region.lay_all(entries)?;
+            *now = Some(Value::Region(region));
+            Ok(())
+        }
+        Some(Value::Region(region)) => region.lay_all(entries),
         Some(Value::Node(_)) => Ok(()),
         Some(Value::Names(_)) => Ok(()),
         Some(Value::Last(_)) => Ok(()),
