@@ -1,13 +1,13 @@
 -- Lists by label, once one label is set.
-use Rattle.std.proofs.Common.{◌≡◌, ◌≢◌, ℕ, zero, suc, ◌+◌, ◌<◌, List, [], ◌∷◌, length, get_or, set, map, Option, None, Some, refl, sym, ap, ◌∙◌, arith, subst, inl, inr, Global}
-use Rattle.std.specs.Prelude.{Vec}
+use Rattle.std.proofs.Common.{◌≡◌, ◌≢◌, ℕ, zero, suc, ◌+◌, ◌<◌, List, [], ◌∷◌, length, get_or, set, map, Option, None, Some, refl, sym, ap, ◌∙◌, arith, subst, inl, inr, Vec, Global}
 use Rattle.std.specs.Option.{option_map}
-use Rattle.std.proofs.lemmas.List.{map-set, get_or-set_same, get_or-set_other, same_lists}
+use Rattle.std.proofs.lemmas.List.{map-set, set-get_or, get_or-set_same, get_or-set_other, same_lists}
 use Rattle.std.proofs.lemmas.Option.{get_or_from_slice_get, slice_get_read, slice_get-map}
 use Rattle.std.proofs.lemmas.Bool.{cases_eq}
 use Rattle.wtf_overlay.specs.declared.part.Piece.{Piece}
+use Rattle.wtf_meta.specs.declared.kept.Kept.{Kept}
 use Rattle.wtf_meta.specs.declared.session.Handle.{Handle}
-use Rattle.wtf_meta.specs.Sessions.{SessionView, at_label, session_view, SetsSlice}
+use Rattle.wtf_meta.specs.Sessions.{SessionView, at_label, items_of, session_view, SetsSlice}
 
 pub at_label_same : {A : Type 0} (xs : List (Option A)) (i : ℕ) (x : Option A) → i < length xs → at_label (set xs i x) i ≡ x
 at_label_same [] i x h = absurd (omega (arith, h))
@@ -27,16 +27,27 @@ map_length f [] = refl
 map_length f (x ∷ xs) = omega (arith, map_length f xs)
 
 -- a slice was put
-pub slice_set_alone : (hs : List (Option Handle)) (ss : List (Option (Vec Piece Global))) (s : ℕ) (pieces : Vec Piece Global) (old : SessionView)
-    → session_view hs ss ≡ old → s < length ss → SetsSlice s (Some pieces.items) old (session_view hs (set ss s (Some pieces)))
-slice_set_alone hs ss s pieces old is h =
-    let f : Option (Vec Piece Global) → Option (List Piece) = option_map (λ (v : Vec Piece Global). v.items) in
-    let now = map-set f ss s (Some pieces) in
-    subst (λ (o : SessionView). SetsSlice s (Some pieces.items) o (session_view hs (set ss s (Some pieces)))) is (record {
-      is = ap (λ l. at_label l s) now ∙ at_label_same (map f ss) s (Some pieces.items) (omega (arith, h, map_length f ss));
-      others = λ other differ. ap (λ l. at_label l other) now ∙ at_label_other (map f ss) s other (Some pieces.items) differ;
+pub slice_set_alone : (hs : List (Option Handle)) (ss : List (Option Kept)) (s : ℕ) (kept : Kept) (pieces : Vec Piece Global) (old : SessionView)
+    → session_view hs ss ≡ old → s < length ss → kept.pieces ≡ pieces → SetsSlice s (Some pieces.items) old (session_view hs (set ss s (Some kept)))
+slice_set_alone hs ss s kept pieces old is h same =
+    let f : Option Kept → Option (List Piece) = option_map items_of in
+    let now = map-set f ss s (Some kept) in
+    subst (λ (o : SessionView). SetsSlice s (Some pieces.items) o (session_view hs (set ss s (Some kept)))) is
+    (subst (λ (v : Vec Piece Global). SetsSlice s (Some v.items) (session_view hs ss) (session_view hs (set ss s (Some kept)))) same (record {
+      is = ap (λ l. at_label l s) now ∙ at_label_same (map f ss) s (Some kept.pieces.items) (omega (arith, h, map_length f ss));
+      others = λ other differ. ap (λ l. at_label l other) now ∙ at_label_other (map f ss) s other (Some kept.pieces.items) differ;
       handles = λ g. refl;
-    })
+    }))
+
+-- a slice is kept otherwise, with the same pieces
+pub slice_same : (hs : List (Option Handle)) (ss : List (Option Kept)) (s : ℕ) (old new : Option Kept) → s < length ss → old ≡ get_or ss s old → option_map items_of new ≡ option_map items_of old
+    → session_view hs (set ss s new) ≡ session_view hs ss
+slice_same hs ss s old new h is same =
+    let f : Option Kept → Option (List Piece) = option_map items_of in
+    let stands : get_or (map f ss) s (f new) ≡ f new =
+    get_or_from_slice_get (map f ss) s (f old) (f new) (slice_get-map f ss s ∙ ap (option_map f) (slice_get_read ss (length ss) s old refl h is)) ∙ sym same in
+    let kept : map f (set ss s new) ≡ map f ss = map-set f ss s new ∙ ap (set (map f ss) s) (sym stands) ∙ set-get_or (map f ss) s (f new) in
+    ap (λ l. let v : SessionView = record { handles = hs; slices = l } in v) kept
 
 -- what stands at a label stands in the list
 pub at_label_within : {A : Type 0} (xs : List (Option A)) (i : ℕ) (x : A) → at_label xs i ≡ Some x → i < length xs

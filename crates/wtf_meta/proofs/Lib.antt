@@ -39,6 +39,7 @@ pub mod KeyPuts
 pub mod Standing
 pub mod Moves
 pub mod Labels
+pub mod Ends
 pub mod Facts
 pub mod FeetLaws
 pub mod Running

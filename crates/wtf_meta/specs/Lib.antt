@@ -9,6 +9,7 @@ pub mod Ranges
 pub mod Appends
 pub mod Trees
 pub mod NameEdits
+pub mod Slices
 pub mod Sessions
 pub mod Feet
 pub mod Calls

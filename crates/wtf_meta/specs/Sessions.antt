@@ -1,8 +1,6 @@
 -- The handles and slices that a transaction has in hand, and when they are those of the definitions' session.
 -- NSDI 2016, sections 2.3 and 2.5.
 use Rattle.std.specs.Prelude.{◌≡◌, ◌≢◌, ℕ, Bool, List, length, replicate, map, Option, None, Some, slice_get, ⊤}
-use Rattle.std.proofs.Common.{Global}
-use Rattle.std.specs.Prelude.{Vec}
 use Rattle.std.specs.Option.{option_map}
 use Rattle.std.specs.FinMap.{get}
 use Rattle.wtf_overlay.specs.Origin.{Place}
@@ -10,6 +8,7 @@ use Rattle.wtf_overlay.specs.declared.part.Piece.{Piece}
 use Rattle.wtf_model.specs.Session.{Session}
 use Rattle.wtf_model.specs.Session as model
 use Rattle.wtf_model.specs.declared.limits.TheConstants.{MAX_HANDLES, MAX_SLICES}
+use Rattle.wtf_meta.specs.declared.kept.Kept.{Kept}
 use Rattle.wtf_meta.specs.declared.session.Handle.{Handle}
 use Rattle.wtf_meta.specs.Maps.{Map}
 use Rattle.wtf_meta.specs.Bytes.{PiecesBytes}
@@ -35,18 +34,18 @@ handle_in s f = at_label s.handles f
 abbrev pub slice_in : SessionView → ℕ → Option (List Piece)
 slice_in s label = at_label s.slices label
 
-abbrev pub items_of : Vec Piece Global → List Piece
-items_of pieces = pieces.items
+abbrev pub items_of : Kept → List Piece
+items_of kept = kept.pieces.items
 
 -- what is seen of handles and slices
-abbrev pub session_view : List (Option Handle) → List (Option (Vec Piece Global)) → SessionView
+abbrev pub session_view : List (Option Handle) → List (Option Kept) → SessionView
 session_view handles slices = record {
   handles = handles;
   slices = map (option_map items_of) slices;
 }
 
 -- there is a place for each label
-abbrev pub AreLabels : List (Option Handle) → List (Option (Vec Piece Global)) → Type 0
+abbrev pub AreLabels : List (Option Handle) → List (Option Kept) → Type 0
 AreLabels handles slices = (length handles ≡ MAX_HANDLES) × (length slices ≡ MAX_SLICES)
 
 -- of all handles and slices the handle of one label alone is set

@@ -3,7 +3,9 @@
 #![tactic(auto)]
 
 pub mod examples;
+mod kept;
 mod session;
 
+pub use kept::ByteAt;
 pub use session::{Handle, Session};
 pub use wtf_values::{Delta, Key, Name, NameSet, Node, Pieces, RegionValue, Spill, Summary, Value};

@@ -1,11 +1,14 @@
 //! The handles and slices of a transaction.
 
-ghost use Rattle.std.specs.Prelude.{◌≡◌, ◌<◌, ℕ, IfOk, IsSome, IsSomeAnd, IsTrue, ◌↔◌, Some, None, false};
+ghost use Rattle.std.specs.Prelude.{◌≡◌, ◌<◌, ◌≤◌, ◌-◌, ◌^◌, ℕ, IfOk, IfSome, IsSome, IsSomeAnd, IsTrue, ◌↔◌, Some, None, false};
 ghost use Rattle.std.specs.Option.{option_copied, option_map};
 ghost use Rattle.wtf_overlay.specs.declared.part.Piece as Piece;
+ghost use Rattle.wtf_overlay.specs.Origin.{pieces_len};
 ghost use Rattle.wtf_model.specs.declared.limits.TheConstants.{MAX_HANDLES, MAX_SLICES};
+ghost use Rattle.wtf_meta.specs.Slices.{bytes_in, HoldsByte};
 ghost use Rattle.wtf_meta.specs.Sessions.{nothing_open, items_of, handle_in, slice_in, SetsHandle, SetsSlice, moved_to, IsOff};
 
+use crate::kept::{ByteAt, Kept};
 use std::alloc::Global;
 use std::marker::Model;
 use wtf_base::{InodeId, OutOfMemory};
@@ -28,7 +31,7 @@ pub struct Handle {
 #[derive(Debug, Drop)]
 pub struct Session {
     handles: [Option<Handle>; 16],
-    slices: [Option<Vec<Piece>>; 16],
+    slices: [Option<Kept>; 16],
 }
 
 impl Model for Session {
@@ -125,7 +128,7 @@ impl Session {
         ensures { option_copied result ≡ slice_in self.now s }
     {
         match &self.slices[s as usize] {
-            Some(pieces) => Some(pieces.as_slice()),
+            Some(kept) => Some(kept.pieces.as_slice()),
             None => None,
         }
     }
@@ -135,7 +138,44 @@ impl Session {
         requires { s < MAX_SLICES }
         ensures { SetsSlice s (Some pieces.items) self.old self.new }
     {
-        self.slices[s as usize] = Some(pieces);
+        self.slices[s as usize] = Some(Kept::of(pieces));
+    }
+
+    /// Finds where the pieces of a slice end, if that is not known, so that `slice_len` and `find` are
+    /// quick. Nothing changes that is seen.
+    pub fn index(&mut self, alloc: Global, s: u8) -> Result<(), OutOfMemory>
+        requires { s < MAX_SLICES }
+        ensures { self.new ≡ self.old }
+    {
+        let Some(kept) = &mut self.slices[s as usize] else {
+            return Ok(());
+        };
+        return kept.index(alloc);
+    }
+
+    /// The number of bytes of the slice of a label; 2^64 - 1 where there are more.
+    pub fn slice_len(&self, s: u8) -> Option<u64>
+        requires { s < MAX_SLICES }
+        ensures { result ≡ option_map bytes_in (slice_in self.now s) }
+    {
+        let Some(kept) = &self.slices[s as usize] else {
+            return None;
+        };
+        Some(kept.len())
+    }
+
+    /// Where the slice of a label holds a byte, if it has so many.
+    pub fn find(&self, s: u8, off: u64) -> Option<ByteAt>
+        requires label { s < MAX_SLICES }
+        requires off { off < 2 ^ 64 - 1 }
+        ensures found { IfSome result (λ at. IsSomeAnd (slice_in self.now s)
+            (λ ps. HoldsByte ps off at.piece at.skip)) }
+        ensures past { result ≡ None → IfSome (slice_in self.now s) (λ ps. pieces_len ps ≤ off) }
+    {
+        let Some(kept) = &self.slices[s as usize] else {
+            return None;
+        };
+        kept.find(off)
     }
 
     /// Whether a handle was opened by the path.
@@ -179,13 +219,13 @@ fn copy_handle(alloc: Global, from: &Option<Handle>) -> Result<Option<Handle>, O
     }))
 }
 
-/// A copy of the pieces of a slice, if there is one.
-fn copy_slice(alloc: Global, from: &Option<Vec<Piece>>) -> Result<Option<Vec<Piece>>, OutOfMemory>
-    ensures { IfOk result (λ pieces. option_map items_of pieces ≡ option_map items_of from.now) }
+/// A copy of a slice, if there is one.
+fn copy_slice(alloc: Global, from: &Option<Kept>) -> Result<Option<Kept>, OutOfMemory>
+    ensures { IfOk result (λ kept. option_map items_of kept ≡ option_map items_of from.now) }
 {
-    let Some(pieces) = from else {
+    let Some(kept) = from else {
         return Ok(None);
     };
-    let copy = Vec::from_slice(alloc, pieces.as_slice())?;
+    let copy = kept.copy(alloc)?;
     Ok(Some(copy))
 }
