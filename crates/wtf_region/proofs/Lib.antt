@@ -7,6 +7,8 @@ pub mod ShowLaws
 pub mod InsideLaws
 pub mod ListReads
 pub mod Remembering
+pub mod Recalling
+pub mod BaseLaws
 mod SliceKeys
 mod RegionKeys
 mod Places

@@ -1,6 +1,6 @@
 -- Lists of slices that were read, from the cache and from the stores, and what is read with them.
-use Rattle.std.proofs.Common.{◌≡◌, ℕ, ◌+◌, ◌*◌, ◌<◌, ◌≤◌, ◌++◌, Bool, true, false, List, [], length, get_or, Option, None, Some, refl, sym, ap, ◌∙◌, subst}
-use Rattle.std.proofs.Common.{arith}
+use Rattle.std.proofs.Common.{◌≡◌, ◌⊎◌, ℕ, ◌+◌, ◌-◌, ◌*◌, ◌<◌, ◌≤◌, ◌++◌, Bool, true, false, List, [], length, get_or, Option, None, Some, refl, sym, ap}
+use Rattle.std.proofs.Common.{◌∙◌, subst, arith, inl, inr}
 use Rattle.std.specs.List.{All}
 use Rattle.std.proofs.lemmas.Grind.{same_number_lists}
 use Rattle.std.proofs.lemmas.List.Elements.{All-nil, All-cons, All-weaker, All-append}
@@ -41,15 +41,20 @@ use Rattle.wtf_meta.proofs.Telling.{tell_all, told_byte, told_from, lists_in-is,
 use Rattle.wtf_meta.proofs.Weaker.{slices_stay, file_bytes_stay}
 use Rattle.wtf_region.specs.declared.dev.Dev.{Dev}
 use Rattle.wtf_region.specs.Apart.{are_apart}
-use Rattle.wtf_region.specs.Cached.{cached}
+use Rattle.wtf_region.specs.Bases.{slices_of, bases_in}
+use Rattle.wtf_region.specs.Cached.{Remembered, cached, list_fact, recalled_one, recalled}
 use Rattle.wtf_region.specs.Inside.{is_inside, list_lies_inside}
 use Rattle.wtf_region.specs.Devs.{IsSoundDev, GoesOn, stores, remembered, told_in, shown_in, inside_of, between}
-use Rattle.wtf_region.specs.Reads.{IsTrueList, IsSliceRead, IsListRead, IsPartRead, IsFileRead, TellsFacts, AreInsideLists, IsSliceFault, IsDamaged}
+use Rattle.wtf_region.specs.Reads.{IsTrueList, IsListFetched, IsListGot, IsSliceRead, IsListRead, IsPartRead, IsFileRead, TellsFacts, AreInsideLists}
+use Rattle.wtf_region.specs.Reads.{IsSliceFault, IsBaseFault, IsRegionFault, IsDamaged, LeavesLists, LeavesRegion, LacksRegion}
 use Rattle.wtf_region.proofs.Frames.{apart_none, tells_on, shows_told, SliceShows-back, slice_stays, entries_inside}
 use Rattle.wtf_region.specs.Showing.{OnlyRead}
 use Rattle.wtf_region.proofs.InsideLaws.{inside_stays, places_from, slice_readable, list_inside-from}
 use Rattle.wtf_region.proofs.ShowLaws.{told_stays, reads_nothing, reads_over}
 use Rattle.wtf_region.proofs.SliceKeys.{cached_entry}
+use Rattle.wtf_region.proofs.BaseLaws.{base_wants, wants_more}
+use Rattle.wtf_region.proofs.Recalling.{recalled_first, recalled_on}
+use Rattle.wtf_region.proofs.Spans.{goes_on}
 
 -- all bytes of a slice that were read are those that a read of its places gives
 pub fetched_is : {S : Type 0} (kind : StoreKind S) (t : Span S) (s : Slice) (out : List ℕ) (k : ℕ) → IsFetched kind t s 0 out k → length out ≡ len_of s
@@ -156,6 +161,19 @@ module _ {S : Type 0} {kind : StoreKind S} (laws : KindLaws kind) where
         is;
   }
 
+  -- it is what was read
+  pub list_fetched : {old new : Dev S} → GoesOn kind old new [] → (s : Slice) (bytes : List ℕ) (k : ℕ) → cached (remembered old) s ≡ None
+      → length bytes ≡ len_of s → IsFetched kind (between old new) s 0 bytes k → (es : List Entry) → decoded new.settings.region bytes ≡ Some es
+      → IsListFetched kind old new s es
+  list_fetched {old = old} {new = new} g s bytes k uncached whole f es is = record {
+    uncached = uncached;
+    bytes = bytes;
+    server = k;
+    whole = whole;
+    fetched = f;
+    decodes = ap (λ (st : Settings). decoded st.region bytes) (sym g.settings) ∙ is;
+  }
+
   -- what was read of a slice is no list
   pub damaged_none : {old new : Dev S} → GoesOn kind old new [] → (s : Slice) (bytes : List ℕ) (k : ℕ) → cached (remembered old) s ≡ None
       → length bytes ≡ len_of s
@@ -185,14 +203,21 @@ module _ {S : Type 0} {kind : StoreKind S} (laws : KindLaws kind) where
         (ap (λ (st : Settings). list_lies_inside st.servers (size_in kind (stores new)) list) (sym g.settings) ∙ outside);
   }
 
+  -- a list that was asked for is remembered
+  recalled_stands : (old new : Dev S) (s : Slice) (es : List Entry) → remembered new ≡ recalled_one (list_fact s es) (remembered old)
+      → cached (remembered new) s ≡ Some es
+  recalled_stands old new s es is = ap (λ (l : Remembered). cached l s) is ∙ recalled_first (list_fact s es) (remembered old)
+
   -- a list that was remembered
   pub read_cached : {old new : Dev S} → IsSoundDev kind old → GoesOn kind old new [] → (s : Slice) (es : List Entry) → cached (remembered old) s ≡ Some es
-      → cached (remembered new) s ≡ cached (remembered old) s → IsSliceRead kind old new s es
-  read_cached {old = old} {new = new} sound g s es value stays =
+      → remembered new ≡ recalled_one (list_fact s es) (remembered old) → IsSliceRead kind old new s es
+  read_cached {old = old} {new = new} sound g s es value recalls =
       let there = cached_entry (remembered old) s es value in
       let lies = sound.lists (s, es) there in
       record {
-        stands = stays ∙ value;
+        read = inl value;
+        recalls = recalls;
+        stands = recalled_stands old new s es recalls;
         inside = entries_later sound g es lies.1;
         told = λ ranges h told apart.
             let tells = tell_all (told_in kind old) (len_of s) (places_of s) told in
@@ -201,11 +226,13 @@ module _ {S : Type 0} {kind : StoreKind S} (laws : KindLaws kind) where
       }
 
   -- one that was read, and is remembered now
-  pub read_anew : {old mid new : Dev S} → IsSoundDev kind old → GoesOn kind old mid [] → GoesOn kind mid new [] → (s : Slice)
-      → SliceBytes (inside_of kind old) s → (es : List Entry)
-      → IsTrueList kind mid s es → cached (remembered new) s ≡ Some es → IsSliceRead kind old new s es
-  read_anew {old = old} {mid = mid} {new = new} sound g h s inside es is stands = record {
-    stands = stands;
+  pub read_anew : {old mid new : Dev S} → GoesOn kind old mid [] → GoesOn kind mid new [] → (s : Slice)
+      → (es : List Entry) → IsTrueList kind mid s es → IsListFetched kind old new s es
+      → remembered new ≡ recalled_one (list_fact s es) (remembered old) → IsSliceRead kind old new s es
+  read_anew {old = old} {mid = mid} {new = new} g h s es is got recalls = record {
+    read = inr got;
+    recalls = recalls;
+    stands = recalled_stands old new s es recalls;
     inside = entries_later g.sound h es is.inside;
     told = λ ranges was told apart.
         let tells = tell_all (told_in kind old) (len_of s) (places_of s) told in
@@ -214,15 +241,18 @@ module _ {S : Type 0} {kind : StoreKind S} (laws : KindLaws kind) where
   }
 
   -- the list of a region without a base
-  pub list_alone : (old new : Dev S) (v : RegionValue) → v.base ≡ None → IsListRead kind old new v v.list
-  list_alone old new v none = record {
+  pub list_alone : (dev : Dev S) (v : RegionValue) → v.base ≡ None → IsListRead kind dev dev v v.list
+  list_alone dev v none = record {
     under = [];
     is = λ lists tell. sym (ap (λ (b : Option Spill). seen_list lists b ++ v.list) none);
-    stands = subst (λ (b : Option Spill). All (λ (f : ListFact). cached (remembered new) f.slice ≡ Some f.list) (base_facts b [])) (sym none)
-        (All-nil (λ (f : ListFact). cached (remembered new) f.slice ≡ Some f.list));
-    inside = subst (λ (b : Option Spill). AreInsideLists kind new (base_facts b [])) (sym none)
-        (All-nil (λ (f : ListFact). All (EntryBytes (inside_of kind new)) f.list));
-    told = λ ranges h told apart. subst (λ (b : Option Spill). TellLists (lists_in new.settings.region (told_in kind new)) (base_facts b [])) (sym none) tt;
+    read = subst (λ (b : Option Spill). All (λ (f : ListFact). IsListGot kind dev dev f.slice f.list) (base_facts b [])) (sym none)
+        (All-nil (λ (f : ListFact). IsListGot kind dev dev f.slice f.list));
+    recalls = subst (λ (b : Option Spill). remembered dev ≡ recalled (base_facts b []) (remembered dev)) (sym none) refl;
+    stands = subst (λ (b : Option Spill). All (λ (f : ListFact). cached (remembered dev) f.slice ≡ Some f.list) (base_facts b [])) (sym none)
+        (All-nil (λ (f : ListFact). cached (remembered dev) f.slice ≡ Some f.list));
+    inside = subst (λ (b : Option Spill). AreInsideLists kind dev (base_facts b [])) (sym none)
+        (All-nil (λ (f : ListFact). All (EntryBytes (inside_of kind dev)) f.list));
+    told = λ ranges h told apart. subst (λ (b : Option Spill). TellLists (lists_in dev.settings.region (told_in kind dev)) (base_facts b [])) (sym none) tt;
   }
 
   -- and of one whose base was read
@@ -236,6 +266,10 @@ module _ {S : Type 0} {kind : StoreKind S} (laws : KindLaws kind) where
             let here : TellLists lists (base_facts (Some base) under) = subst (λ (b : Option Spill). TellLists lists (base_facts b under)) is tell in
             ap (λ (o : Option (List Entry)). clip_list base.visible (or_none o) ++ v.list) (sym here.0)
             ∙ ap (λ (b : Option Spill). seen_list lists b ++ v.list) (sym is);
+        read = subst (λ (b : Option Spill). All (λ (f : ListFact). IsListGot kind old new f.slice f.list) (base_facts b under)) (sym is)
+            (All-cons (λ (f : ListFact). IsListGot kind old new f.slice f.list) fact [] read.read
+            (All-nil (λ (f : ListFact). IsListGot kind old new f.slice f.list)));
+        recalls = subst (λ (b : Option Spill). remembered new ≡ recalled (base_facts b under) (remembered old)) (sym is) read.recalls;
         stands = subst (λ (b : Option Spill). All (λ (f : ListFact). cached (remembered new) f.slice ≡ Some f.list) (base_facts b under)) (sym is)
             (All-cons (λ (f : ListFact). cached (remembered new) f.slice ≡ Some f.list) fact [] read.stands
             (All-nil (λ (f : ListFact). cached (remembered new) f.slice ≡ Some f.list)));
@@ -257,17 +291,21 @@ module _ {S : Type 0} {kind : StoreKind S} (laws : KindLaws kind) where
       → IsPartRead kind old new (Some v) off n ps
   part_read old new v list off n ps r p = record {
     facts = base_facts v.base r.under;
+    wants = base_wants v.base r.under;
+    recalls = r.recalls;
     reads = ReadsRegion-list v r.under list off n ps r.is p;
     inside = r.inside;
     told = r.told;
   }
 
   -- and of one that is missing
-  pub part_hole : (old new : Dev S) (off n : ℕ) (ps : List Piece) → Plans ps n (λ i. []) → IsPartRead kind old new None off n ps
-  part_hole old new off n ps p = record {
+  pub part_hole : (dev : Dev S) (off n : ℕ) (ps : List Piece) → Plans ps n (λ i. []) → IsPartRead kind dev dev None off n ps
+  part_hole dev off n ps p = record {
     facts = [];
+    wants = refl;
+    recalls = refl;
     reads = ReadsRegion-none off n ps p;
-    inside = All-nil (λ (f : ListFact). All (EntryBytes (inside_of kind new)) f.list);
+    inside = All-nil (λ (f : ListFact). All (EntryBytes (inside_of kind dev)) f.list);
     told = λ ranges h told apart. tt;
   }
 
@@ -275,6 +313,8 @@ module _ {S : Type 0} {kind : StoreKind S} (laws : KindLaws kind) where
   pub file_none : (dev : Dev S) (file : FileView) (off : ℕ) (ps : List Piece) → ps ≡ [] → IsFileRead kind dev dev file off 0 ps
   file_none dev file off ps none = record {
     facts = [];
+    wants = refl;
+    recalls = refl;
     reads = ReadsFile-none dev.settings.region file off ps none;
     inside = All-nil (λ (f : ListFact). All (EntryBytes (inside_of kind dev)) f.list);
     told = λ ranges h told apart. tt;
@@ -290,13 +330,17 @@ module _ {S : Type 0} {kind : StoreKind S} (laws : KindLaws kind) where
       (next ranges (g.lists ranges was)
       (slices_stay (is_told (told_in kind old)) (is_told (told_in kind mid)) (still_told g) any_slice any_slice (λ s is. is) gs tells.1) away.1)
 
-  -- one part more of a file
-  pub file_on : {old mid new : Dev S} → GoesOn kind old mid [] → GoesOn kind mid new [] → (file : FileView) → (off done n r y : ℕ) (ps qs : List Piece) → r * old.settings.region + y ≡ off + done → y + n ≤ old.settings.region
+  -- one part more of a file, which begins the range or a region
+  pub file_on : {old mid new : Dev S} → GoesOn kind old mid [] → GoesOn kind mid new [] → (file : FileView) → (off done n r y : ℕ) (ps qs : List Piece)
+      → 0 < n → r * old.settings.region + y ≡ off + done → y + n ≤ old.settings.region → (done ≡ 0) ⊎ (y ≡ 0)
       → IsFileRead kind old mid file off done ps → IsPartRead kind mid new (file.region r) y n qs → IsFileRead kind old new file off (done + n) (ps ++ qs)
-  file_on {old = old} {mid = mid} {new = new} g h file off done n r y ps qs at within first next =
+  file_on {old = old} {mid = mid} {new = new} g h file off done n r y ps qs some at within start first next =
       let Names : ListFact → Type 0 = λ f. All (EntryBytes (inside_of kind new)) f.list in
       record {
         facts = first.facts ++ next.facts;
+        wants = wants_more old.settings.region off done n r y file first.facts next.facts (omega (arith, some, within)) some at within start
+            first.wants next.wants;
+        recalls = recalled_on first.facts next.facts (remembered old) (remembered mid) (remembered new) first.recalls next.recalls;
         reads = ReadsFile-part old.settings.region off done r y n file first.facts next.facts ps qs at within first.reads next.reads;
         inside = All-append Names first.facts next.facts
             (All-weaker (λ (f : ListFact). All (EntryBytes (inside_of kind mid)) f.list) Names (λ f names. entries_later g.sound h f.list names)
@@ -313,13 +357,31 @@ module _ {S : Type 0} {kind : StoreKind S} (laws : KindLaws kind) where
       (ListsBytes-all (inside_of kind mid) any_slice read.facts read.inside)
 
   -- what was read of a file stays so while other bytes are read
-  pub file_read_later : {old mid new : Dev S} → GoesOn kind old mid [] → GoesOn kind mid new [] → (file : FileView) → (off n : ℕ) (ps : List Piece) → IsFileRead kind old mid file off n ps → IsFileRead kind old new file off n ps
-  file_read_later {old = old} {mid = mid} {new = new} g h file off n ps read = record {
+  pub file_read_later : {old mid new : Dev S} → GoesOn kind old mid [] → GoesOn kind mid new [] → remembered new ≡ remembered mid → (file : FileView)
+      → (off n : ℕ) (ps : List Piece) → IsFileRead kind old mid file off n ps → IsFileRead kind old new file off n ps
+  file_read_later {old = old} {mid = mid} {new = new} g h same file off n ps read = record {
     facts = read.facts;
+    wants = read.wants;
+    recalls = same ∙ read.recalls;
     reads = read.reads;
     inside = All-weaker (λ (f : ListFact). All (EntryBytes (inside_of kind mid)) f.list) (λ (f : ListFact). All (EntryBytes (inside_of kind new)) f.list)
         (λ f names. entries_later g.sound h f.list names) read.facts read.inside;
     told = λ ranges was told apart. facts_later h read.facts (read.told ranges was told apart);
+  }
+
+  -- a list that was read after a look at what is remembered, and before another one
+  pub fetched_since : {old mid : Dev S} (next new : Dev S) → GoesOn kind old mid [] → mid.shelf ≡ old.shelf → new.shelf ≡ next.shelf → (s : Slice)
+      → cached (remembered mid) s ≡ cached (remembered old) s → (es : List Entry) → IsListFetched kind mid next s es → IsListFetched kind old new s es
+  fetched_since {old = old} {mid = mid} next new g same kept s stays es h = record {
+    uncached = sym stays ∙ h.uncached;
+    bytes = h.bytes;
+    server = h.server;
+    whole = h.whole;
+    fetched = subst (λ sh. IsFetched kind (span (is_down old.replicas.now) (stores old) sh.now) s 0 h.bytes h.server) (sym kept)
+        (subst (λ sh. IsFetched kind (span (is_down old.replicas.now) sh.now (stores next)) s 0 h.bytes h.server) same
+        (subst (λ (down : ℕ → Bool). IsFetched kind (span down (stores mid) (stores next)) s 0 h.bytes h.server) (ap (λ r. is_down r.now) g.replicas)
+        h.fetched));
+    decodes = ap (λ (st : Settings). decoded st.region h.bytes) (sym g.settings) ∙ h.decodes;
   }
 
   -- the fault of a slice after a look at what is remembered
@@ -344,3 +406,51 @@ module _ {S : Type 0} {kind : StoreKind S} (laws : KindLaws kind) where
   slice_fault_since new g same s stays fault.Memory h = tt
   slice_fault_since new g same s stays fault.Write h = absurd h
   slice_fault_since new g same s stays (fault.Punch k) h = absurd h
+
+-- a fault leaves the lists that are remembered
+pub leaves_lists : {S : Type 0} (old new : Dev S) (why : Fault) → remembered new ≡ remembered old → LeavesLists old new why
+leaves_lists old new fault.Memory same = tt
+leaves_lists old new fault.Write same = same
+leaves_lists old new (fault.Read k) same = same
+leaves_lists old new (fault.Punch k) same = same
+leaves_lists old new (fault.Damaged k) same = same
+
+pub left_memory : {S : Type 0} (old new : Dev S) (why : Fault) → why ≡ fault.Memory → LeavesLists old new why
+left_memory old new why is = subst (LeavesLists old new) (sym is) tt
+
+lacks_memory : {S : Type 0} (kind : StoreKind S) (old new : Dev S) (now : Option RegionValue) → IsRegionFault kind old new now fault.Memory
+lacks_memory kind old new None = refl
+lacks_memory kind old new (Some v) = base v.base
+  where
+    base : (o : Option Spill) → IsBaseFault kind old new o fault.Memory
+    base None = refl
+    base (Some s) = tt
+
+-- memory may be short at any time
+pub leaves_memory : {S : Type 0} (kind : StoreKind S) (old new : Dev S) (now : Option RegionValue) (why : Fault) → why ≡ fault.Memory
+    → LeavesRegion kind old new now why
+leaves_memory kind old new now why is = subst (λ (f : Fault). LeavesRegion kind old new now f) (sym is) (record {
+  cause = lacks_memory kind old new now;
+  left = tt;
+})
+
+-- why a file was not read in a later part of a span, before which the lists that are remembered were left
+pub lacks_region_since : {S : Type 0} {kind : StoreKind S} → KindLaws kind → {old mid : Dev S} (new : Dev S) → GoesOn kind old mid []
+    → remembered mid ≡ remembered old → (file : FileView) (off n : ℕ) (why : Fault) → LacksRegion kind mid new file off n why
+    → LacksRegion kind old new file off n why
+lacks_region_since laws {old = old} {mid = mid} new g same file off n why lacks =
+    let place = subst (λ (st : Settings). (off < lacks.region * st.region + st.region) × (lacks.region * st.region < off + n)
+    × (slices_of lacks.before ≡ bases_in st.region file off (lacks.region * st.region - off))) g.settings (lacks.from, lacks.upto, lacks.earlier) in
+    record {
+      mid = lacks.mid;
+      goes = goes_on laws g lacks.goes;
+      before = lacks.before;
+      recalls = lacks.recalls ∙ ap (recalled lacks.before) same;
+      some = lacks.some;
+      region = lacks.region;
+      from = place.0;
+      upto = place.1;
+      earlier = place.2;
+      cause = lacks.cause;
+      left = lacks.left;
+    }

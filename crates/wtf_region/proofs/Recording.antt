@@ -1,5 +1,5 @@
 -- Keys and changes of a file that are added to an attempt.
-use Rattle.std.proofs.Common.{◌≡◌, ℕ, ◌+◌, ◌*◌, ◌<◌, List, [], ◌∷◌, ◌++◌, ap, sym, ◌∙◌, subst, arith, inl, inr}
+use Rattle.std.proofs.Common.{◌≡◌, ◌⊎◌, ℕ, ◌+◌, ◌*◌, ◌<◌, List, [], ◌∷◌, ◌++◌, ap, sym, ◌∙◌, subst, arith, inl, inr}
 use Rattle.std.proofs.lemmas.Bool.{cases_order}
 use Rattle.std.proofs.lemmas.List.{append-nil, map-append}
 use Rattle.wtf_base.specs.declared.ids.InodeId.{InodeId}
@@ -34,12 +34,19 @@ recorded_region i rs ss r a m n e first next =
     (recorded_on i (region_keys rs) (OfRegion r ∷ []) a m n first next)
 
 -- a place at the border of a region lies at the begin of its own
-pub at_border : (b q r s : ℕ) → q * b ≡ r * b + s → s < b → s ≡ 0
+at_border : (b q r s : ℕ) → q * b ≡ r * b + s → s < b → s ≡ 0
 at_border b q r s e below = elim (cases_order q r) [
   | inl same ↦ omega (arith, e, ap (λ (k : ℕ). k * b) same)
   | inr (inl l) ↦ absurd (omega (arith, e, apart b q r l))
   | inr (inr g) ↦ absurd (omega (arith, e, below, apart b r q g))
 ]
+
+-- a part begins the range, or a region
+pub part_start : (b off len done r s : ℕ) → done < len → (done ≡ 0) ⊎ ((done ≡ len) ⊎ ((q : ℕ) × (q * b ≡ off + done))) → r * b + s ≡ off + done → s < b
+    → (done ≡ 0) ⊎ (s ≡ 0)
+part_start b off len done r s left (inl first) place below = inl first
+part_start b off len done r s left (inr (inl whole)) place below = absurd (omega (arith, whole, left))
+part_start b off len done r s left (inr (inr begins)) place below = inr (at_border b begins.0 r s (begins.1 ∙ sym place) below)
 
 -- no change yet
 pub Edited-none : (i : InodeId) (F : List FileEdit → Type 0) (a : Attempted Key Delta) → F [] → Edited i [] F a a

@@ -1,9 +1,10 @@
 -- Laws of showing: a walk over pieces, what is shown part by part, and what later states of the stores tell.
-use Rattle.std.proofs.Common.{◌≡◌, ◌≢◌, ℕ, ◌+◌, ◌-◌, ◌<◌, ◌≤◌, ◌⊎◌, ◌++◌, min, Bool, true, nat_eq, nat_le, List, [], ◌∷◌, length, get_or, take, Option, None, Some, is_some, refl, sym, ap, ◌∙◌, subst, arith, inl, inr, length-append, append_assoc}
-use Rattle.std.specs.List.{All}
+use Rattle.std.proofs.Common.{◌≡◌, ◌≢◌, ℕ, ◌+◌, ◌-◌, ◌<◌, ◌≤◌, ◌⊎◌, ◌++◌, min, Bool, true, false, cond, nat_eq, nat_le, List, [], ◌∷◌, length, get_or, take, Option, None, Some, is_some, refl, sym, ap, ◌∙◌, subst, arith, inl, inr, length-append, append_assoc}
+use Rattle.std.specs.Prelude.{not}
+use Rattle.std.specs.List.{All, filter}
 use Rattle.std.proofs.lemmas.Bool.{cond-true, cond-false, lt-ltb, le-ltb, le-leb, lt-leb, ne_eqb, cases_lt}
 use Rattle.std.proofs.lemmas.List.{append-nil, take_all, take_at, get_or_append_left, get_or-append_right}
-use Rattle.std.proofs.lemmas.List.Elements.{All-nil, All-push, All-weaker}
+use Rattle.std.proofs.lemmas.List.Elements.{All-nil, All-cons, All-head, All-tail, All-push, All-weaker}
 use Rattle.std.proofs.lemmas.Option.{slice_get_within, get_or_from_slice_get}
 use Rattle.wtf_base.specs.declared.pointer.Pointer.{Pointer}
 use Rattle.wtf_base.specs.declared.slice.Slice.{Slice}
@@ -22,7 +23,7 @@ use Rattle.wtf_overlay.specs.Meaning.{meaning}
 use Rattle.wtf_overlay.proofs.Meanings.{All-meaning, meaning-All}
 use Rattle.wtf_replica.specs.Spans.{Span, span}
 use Rattle.wtf_replica.specs.Downs.{is_down}
-use Rattle.wtf_replica.specs.Bytes.{byte_at}
+use Rattle.wtf_replica.specs.Bytes.{byte_at, ShowsUp}
 use Rattle.wtf_replica.specs.Copies.{IsCopyInside, IsFetched}
 use Rattle.wtf_replica.specs.Faults.{AreAllOut, IsReadFault}
 use Rattle.wtf_replica.proofs.Bytes.{byte_at-kept, fetched_bytes}
@@ -30,7 +31,7 @@ use Rattle.wtf_replica.proofs.Spans.{each_kept, same_lengths_on, same_syncs_on, 
 use Rattle.wtf_meta.specs.Contents.{TellBytes, is_told}
 use Rattle.wtf_region.specs.declared.dev.Dev.{Dev}
 use Rattle.wtf_region.specs.Devs.{GoesOn, stores, is_down_in, between}
-use Rattle.wtf_region.specs.Showing.{IsReadablePart, IsUpPart, ShowsBytes, Shown, pieces_in, IsPartFault, IsShowFault, OnlyRead}
+use Rattle.wtf_region.specs.Showing.{IsReadablePart, IsUpPart, Reading, GivesBytes, Gives, ShowsBytes, Shown, ShownBoth, told_by_some, meaning_up, pieces_in, IsPartFault, IsShowFault, OnlyRead}
 
 -- what places mean they still mean where each of them still tells its byte
 meaning_kept : (f g : Place → Option ℕ) (b : ℕ) (qs : List Place) → ((q : Place) → f q ≡ Some b → g q ≡ Some b) → meaning f qs ≡ Some b → meaning g qs ≡ Some b
@@ -43,6 +44,47 @@ pub told_stays : {S : Type 0} {kind : StoreKind S} → KindLaws kind → {old ne
     → meaning (byte_at kind old) places ≡ Some b → meaning (byte_at kind new) places ≡ Some b
 told_stays {kind = kind} laws {old = old} {new = new} e places b =
     meaning_kept (byte_at kind old) (byte_at kind new) b places (λ q. byte_at-kept laws e q b tt)
+
+-- the copies of a byte on servers that are up, where they tell it
+all_filtered : (down : ℕ → Bool) (P : Place → Type 0) (qs : List Place) → All P (filter (λ (q : Place). not (down q.server)) qs)
+    → All (λ (q : Place). (down q.server ≡ true) ⊎ P q) qs
+all_filtered down P [] h = All-nil (λ (q : Place). (down q.server ≡ true) ⊎ P q)
+all_filtered down P (q ∷ qs) h =
+    let Q : Place → Type 0 = λ p. (down p.server ≡ true) ⊎ P p in
+    let rest : List Place = filter (λ (p : Place). not (down p.server)) qs in
+    (elim (down q.server) as (λ y. down q.server ≡ y → All Q (q ∷ qs)) [
+      | true ↦ λ t. All-cons Q q qs (inl t) (all_filtered down P qs (subst (λ (b : Bool). All P (cond (not b) (q ∷ rest) rest)) t h))
+      | false ↦ λ t.
+          let here : All P (q ∷ rest) = subst (λ (b : Bool). All P (cond (not b) (q ∷ rest) rest)) t h in
+          All-cons Q q qs (inr (All-head P q rest here)) (all_filtered down P qs (All-tail P q rest here))
+    ]) refl
+
+some_told : (told : Place → Option ℕ) (b : ℕ) (qs : List Place) → told_by_some told qs ≡ Some b → All (λ (q : Place). told q ≡ Some b) qs
+some_told told b [] h = absurd (cc)
+some_told told b (q ∷ qs) h = All-meaning told (q ∷ qs) b h
+
+-- each copy on a server that is up tells the byte that is read of them
+pub up_tells : (down : ℕ → Bool) (told : Place → Option ℕ) (b : ℕ) (qs : List Place) → meaning_up down told qs ≡ Some b
+    → All (λ (q : Place). (down q.server ≡ true) ⊎ (told q ≡ Some b)) qs
+up_tells down told b [] h = All-nil (λ (q : Place). (down q.server ≡ true) ⊎ (told q ≡ Some b))
+up_tells down told b (p ∷ ps) h =
+    all_filtered down (λ (q : Place). told q ≡ Some b) (p ∷ ps) (some_told told b (filter (λ (q : Place). not (down q.server)) (p ∷ ps)) h)
+
+some_kept : (f g : Place → Option ℕ) (b : ℕ) (qs : List Place) → ((q : Place) → f q ≡ Some b → g q ≡ Some b) → told_by_some f qs ≡ Some b
+    → told_by_some g qs ≡ Some b
+some_kept f g b [] step h = h
+some_kept f g b (q ∷ qs) step h = meaning_kept f g b (q ∷ qs) step h
+
+up_kept : (down : ℕ → Bool) (f g : Place → Option ℕ) (b : ℕ) (qs : List Place) → ((q : Place) → f q ≡ Some b → g q ≡ Some b)
+    → meaning_up down f qs ≡ Some b → meaning_up down g qs ≡ Some b
+up_kept down f g b [] step h = h
+up_kept down f g b (q ∷ qs) step h = some_kept f g b (filter (λ (p : Place). not (down p.server)) (q ∷ qs)) step h
+
+-- what they tell stays so too
+up_stays : {S : Type 0} {kind : StoreKind S} → KindLaws kind → {old new : List S} → EachFollows kind old new [] → (down : ℕ → Bool) (places : List Place) (b : ℕ)
+    → meaning_up down (byte_at kind old) places ≡ Some b → meaning_up down (byte_at kind new) places ≡ Some b
+up_stays {kind = kind} laws {old = old} {new = new} e down places b =
+    up_kept down (byte_at kind old) (byte_at kind new) b places (λ q. byte_at-kept laws e q b tt)
 
 -- where the stores tell each of the bytes, they are those that were shown
 pub ShowsBytes-tell : (told : Place → Option ℕ) (n : ℕ) (f : ℕ → List Place) (bytes : List ℕ) → ((i : ℕ) → i < n → is_told told (f i) ≡ true) → ShowsBytes told n f bytes → TellBytes told n f bytes
@@ -60,7 +102,15 @@ copy_shows {kind = kind} laws {t = t} {s = s} {off = off} f n len = record {
   shows = λ i b below told. fetched_bytes laws f i b (omega (arith, below, len)) (All-meaning (byte_at kind t.before) (places_of s (off + i)) b told);
 }
 
--- and it was read from a server that is up
+-- and what those on servers that are up tell
+pub copy_lives : {S : Type 0} (kind : StoreKind S) (down : ℕ → Bool) (shelf : List S) (s : Slice) (off : ℕ) (out : List ℕ)
+    → ShowsUp down (byte_at kind shelf) s off out → (n : ℕ) → length out ≡ n → GivesBytes (meaning_up down (byte_at kind shelf)) n (λ i. part_origin (Held s) (off + i)) out
+copy_lives kind down shelf s off out shows n len = record {
+  len = len;
+  shows = λ i b below told. shows i b (omega (arith, below, len)) (up_tells down (byte_at kind shelf) b (places_of s (off + i)) told);
+}
+
+-- it was read from a server that is up
 pub copy_up : {S : Type 0} {kind : StoreKind S} {t : Span S} {s : Slice} {off : ℕ} {out : List ℕ} {k : ℕ}
     → IsFetched kind t s off out k → IsUpPart t.down (Held s)
 copy_up {t = t} {s = s} f = (
@@ -81,10 +131,10 @@ part_fault kind t part s held fault.Memory h = absurd h
 pub held_len : (n : ℕ) (part : Part) (s : Slice) → part ≡ Held s → HasLength n part → len_of s ≡ n
 held_len n part s is h = subst (λ (x : Part). HasLength n x) is h
 
--- what was shown, and more
-pub shown_more : (told : Place → Option ℕ) (n m k : ℕ) (f g : ℕ → List Place) (old mid new : List ℕ) → k ≡ n + m → Shown told n f old mid → Shown told m g mid new
-    → ((i : ℕ) → i < m → g i ≡ f (n + i)) → Shown told k f old new
-shown_more told n m k f g old mid new e first next follows =
+-- what was read, and more
+gives_more : (reading : Reading) (n m k : ℕ) (f g : ℕ → List Place) (old mid new : List ℕ) → k ≡ n + m → Gives reading n f old mid → Gives reading m g mid new
+    → ((i : ℕ) → i < m → g i ≡ f (n + i)) → Gives reading k f old new
+gives_more reading n m k f g old mid new e first next follows =
     let a : length first.bytes ≡ n = first.are.len in
     let b : length next.bytes ≡ m = next.are.len in
     record {
@@ -99,21 +149,49 @@ shown_more told n m k f g old mid new e first next follows =
               let at : n + j ≡ i = omega (arith, p) in
               let within : j < m = omega (arith, e, below, p) in
               get_or-append_right first.bytes next.bytes n i 0 a p
-              ∙ next.are.shows j x within (ap (meaning told) (follows j within ∙ ap f at) ∙ tells)
+              ∙ next.are.shows j x within (ap reading (follows j within ∙ ap f at) ∙ tells)
         ];
       };
     }
 
-pub shown_none : (told : Place → Option ℕ) (n : ℕ) (f : ℕ → List Place) (old : List ℕ) → n ≡ 0 → Shown told n f old old
-shown_none told n f old none = record { bytes = []; more = sym (append-nil old); are = record { len = sym none; shows = λ i b below tells. absurd (omega (arith, below, none)) } }
+gives_none : (reading : Reading) (n : ℕ) (f : ℕ → List Place) (old : List ℕ) → n ≡ 0 → Gives reading n f old old
+gives_none reading n f old none = record {
+  bytes = [];
+  more = sym (append-nil old);
+  are = record { len = sym none; shows = λ i b below tells. absurd (omega (arith, below, none)) };
+}
+
+-- what a reading gives, one that gives no more does
+gives_since : (was now : Reading) → ((qs : List Place) (b : ℕ) → was qs ≡ Some b → now qs ≡ Some b) → (n : ℕ) (f : ℕ → List Place) (old new : List ℕ)
+    → Gives now n f old new → Gives was n f old new
+gives_since was now step n f old new h = record {
+  bytes = h.bytes;
+  more = h.more;
+  are = record { len = h.are.len; shows = λ i b below tells. h.are.shows i b below (step (f i) b tells) };
+}
+
+-- what was shown, and more
+pub shown_more : (down : ℕ → Bool) (told : Place → Option ℕ) (n m k : ℕ) (f g : ℕ → List Place) (old mid new : List ℕ) → k ≡ n + m
+    → ShownBoth down told n f old mid → ShownBoth down told m g mid new → ((i : ℕ) → i < m → g i ≡ f (n + i)) → ShownBoth down told k f old new
+shown_more down told n m k f g old mid new e first next follows = record {
+  shown = gives_more (meaning told) n m k f g old mid new e first.shown next.shown follows;
+  live = gives_more (meaning_up down told) n m k f g old mid new e first.live next.live follows;
+}
+
+pub shown_none : (down : ℕ → Bool) (told : Place → Option ℕ) (n : ℕ) (f : ℕ → List Place) (old : List ℕ) → n ≡ 0 → ShownBoth down told n f old old
+shown_none down told n f old none = record { shown = gives_none (meaning told) n f old none; live = gives_none (meaning_up down told) n f old none }
 
 -- what a later state of the stores shows an earlier one does
 pub shown_since : {S : Type 0} {kind : StoreKind S} → KindLaws kind → {before mid : List S} → EachFollows kind before mid [] → (n : ℕ) (f : ℕ → List Place) (old new : List ℕ)
     → Shown (byte_at kind mid) n f old new → Shown (byte_at kind before) n f old new
-shown_since laws e n f old new h = record {
-  bytes = h.bytes;
-  more = h.more;
-  are = record { len = h.are.len; shows = λ i b below tells. h.are.shows i b below (told_stays laws e (f i) b tells) };
+shown_since {kind = kind} laws {before = before} {mid = mid} e n f old new h =
+    gives_since (meaning (byte_at kind before)) (meaning (byte_at kind mid)) (told_stays laws e) n f old new h
+
+pub both_since : {S : Type 0} {kind : StoreKind S} → KindLaws kind → {before mid : List S} → EachFollows kind before mid [] → (down : ℕ → Bool) (n : ℕ)
+    (f : ℕ → List Place) (old new : List ℕ) → ShownBoth down (byte_at kind mid) n f old new → ShownBoth down (byte_at kind before) n f old new
+both_since {kind = kind} laws {before = before} {mid = mid} e down n f old new h = record {
+  shown = shown_since laws e n f old new h.shown;
+  live = gives_since (meaning_up down (byte_at kind before)) (meaning_up down (byte_at kind mid)) (up_stays laws e down) n f old new h.live;
 }
 
 -- a slice that can be read can be read later

@@ -1,7 +1,7 @@
 -- What is remembered: where regions go, and the lists of slices.
-use Rattle.std.specs.Prelude.{◌≡◌, ◌⊎◌, ℕ, Bool, List, Option, Some, option_map, slice_get}
+use Rattle.std.specs.Prelude.{◌≡◌, ◌⊎◌, ℕ, Bool, List, [], ◌∷◌, take, Option, None, Some, option_map, slice_get}
 use Rattle.std.specs.List.{All, Contains}
-use Rattle.std.specs.Map.{lookup}
+use Rattle.std.specs.Map.{lookup, remove_entry}
 use Rattle.wtf_base.specs.declared.slice.Slice.{Slice}
 use Rattle.wtf_base.specs.contracts.slice.SlicePartialEq.TheImpl as slice_eq
 use Rattle.wtf_dev.specs.Store.{Range}
@@ -12,6 +12,7 @@ use Rattle.wtf_ring.specs.Points.{RingView, PlaceView, place_of}
 use Rattle.wtf_ring.specs.Orders.{IsOrder}
 use Rattle.wtf_meta.specs.Bytes.{EntryBytes, SliceBytes}
 use Rattle.wtf_meta.specs.Contents.{Told, SliceTells}
+use Rattle.wtf_meta.specs.Lists.{ListFact}
 use Rattle.wtf_region.specs.declared.cache.RegionKey.{RegionKey}
 use Rattle.wtf_region.specs.Apart.{are_apart}
 
@@ -40,6 +41,24 @@ BeginsAt key entries = option_map (λ e. e.0) (slice_get entries 0) ≡ Some key
 -- the list that is remembered of a slice, if one is
 abbrev pub cached : Remembered → Slice → Option (List Entry)
 cached es s = lookup (slice_eq.eq-value.it s) es
+
+-- a list is that of a slice
+abbrev pub list_fact : Slice → List Entry → ListFact
+list_fact s es = record { slice = s; list = es }
+
+-- a list was asked for: it stands first, behind it the others without an older one of its slice, and the first 64 are kept
+abbrev pub recalled_one : ListFact → Remembered → Remembered
+recalled_one f es = take 64 ((f.slice, f.list) ∷ remove_entry (slice_eq.eq-value.it f.slice) es)
+
+-- lists were asked for, one after another
+abbrev pub recalled : List ListFact → Remembered → Remembered
+recalled [] es = es
+recalled (f ∷ fs) es = recalled fs (recalled_one f es)
+
+-- a slice was looked up, of which this is remembered
+abbrev pub looked_up : Slice → Option (List Entry) → Remembered → Remembered
+looked_up s None es = es
+looked_up s (Some list) es = recalled_one (list_fact s list) es
 
 -- no list came to be remembered but of slices of which P holds; others may be forgotten
 abbrev pub RemembersOnly : (Slice → Type 0) → (old new : Remembered) → Type 0

@@ -3,6 +3,7 @@ pub mod Cached
 pub mod Lending
 pub mod Inside
 pub mod Devs
+pub mod Bases
 pub mod Laid
 pub mod Reads
 pub mod Edited

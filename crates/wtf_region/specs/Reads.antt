@@ -1,5 +1,5 @@
 -- What a call reads of the lists of bases, and why it does not.
-use Rattle.std.specs.Prelude.{◌≡◌, ◌⊎◌, ℕ, ◌+◌, ◌*◌, ◌<◌, false, List, [], Option, None, Some, length, ⊤}
+use Rattle.std.specs.Prelude.{◌≡◌, ◌⊎◌, ℕ, ◌+◌, ◌-◌, ◌*◌, ◌<◌, false, List, [], Option, None, Some, length, ⊤}
 use Rattle.std.specs.List.{All}
 use Rattle.wtf_base.specs.declared.fault.Fault.{Fault}
 use Rattle.wtf_base.specs.declared.fault.Fault.TheVariants as fault
@@ -21,7 +21,8 @@ use Rattle.wtf_meta.specs.Bytes.{EntryBytes, SliceBytes, ListSlices, any_slice}
 use Rattle.wtf_meta.specs.Reads.{ReadsRegion, ReadsFile}
 use Rattle.wtf_region.specs.declared.dev.Dev.{Dev}
 use Rattle.wtf_region.specs.Apart.{are_apart}
-use Rattle.wtf_region.specs.Cached.{cached}
+use Rattle.wtf_region.specs.Bases.{slices_of, region_slices, bases_in}
+use Rattle.wtf_region.specs.Cached.{cached, list_fact, recalled_one, recalled}
 use Rattle.wtf_region.specs.Inside.{list_lies_inside}
 use Rattle.wtf_region.specs.Devs.{GoesOn, RemembersTrue, stores, remembered, told_in, shown_in, inside_of, between}
 
@@ -49,8 +50,24 @@ abbrev pub IsOfBase : Option Spill → Slice → Type 0
 IsOfBase None s = ⊥
 IsOfBase (Some base) s = s ≡ base.slice
 
--- the list of a slice was read: it is remembered now, and is what the slice decodes to
+-- A list was not remembered, and all bytes of its slice were read from server k, the first one with a copy that is not out: they
+-- decode to it.
+pub record IsListFetched {S : Type 0} (kind : StoreKind S) (old new : Dev S) (s : Slice) (es : List Entry) : Type 0 where
+  pub uncached : cached (remembered old) s ≡ None
+  pub bytes : List ℕ
+  pub server : ℕ
+  pub whole : length bytes ≡ len_of s
+  pub fetched : IsFetched kind (between old new) s 0 bytes server
+  pub decodes : decoded old.settings.region bytes ≡ Some es
+
+-- where a list comes from: it was remembered, or was read
+abbrev pub IsListGot : {S : Type 0} → StoreKind S → (old new : Dev S) → Slice → List Entry → Type 0
+IsListGot kind old new s es = (cached (remembered old) s ≡ Some es) ⊎ IsListFetched kind old new s es
+
+-- the list of a slice was read: it is the last to be forgotten now, and is what the slice decodes to
 pub record IsSliceRead {S : Type 0} (kind : StoreKind S) (old new : Dev S) (s : Slice) (es : List Entry) : Type 0 where
+  pub read : IsListGot kind old new s es
+  pub recalls : remembered new ≡ recalled_one (list_fact s es) (remembered old)
   pub stands : cached (remembered new) s ≡ Some es
   pub inside : All (EntryBytes (inside_of kind new)) es
   pub told : (ranges : List (ℕ × Range)) → RemembersTrue kind old ranges → SliceBytes (is_told (told_in kind old)) s
@@ -60,20 +77,26 @@ pub record IsSliceRead {S : Type 0} (kind : StoreKind S) (old new : Dev S) (s : 
 pub record IsListRead {S : Type 0} (kind : StoreKind S) (old new : Dev S) (v : RegionValue) (list : List Entry) : Type 0 where
   pub under : List Entry
   pub is : (lists : Lists) → TellLists lists (base_facts v.base under) → list ≡ list_of lists v
+  pub read : All (λ (f : ListFact). IsListGot kind old new f.slice f.list) (base_facts v.base under)
+  pub recalls : remembered new ≡ recalled (base_facts v.base under) (remembered old)
   pub stands : All (λ (f : ListFact). cached (remembered new) f.slice ≡ Some f.list) (base_facts v.base under)
   pub inside : AreInsideLists kind new (base_facts v.base under)
   pub told : TellsFacts kind old new (base_facts v.base under)
 
--- a part of a region, which may be missing, was read as pieces
+-- a part of a region, which may be missing, was read as pieces, and the list of its base, if it has one
 pub record IsPartRead {S : Type 0} (kind : StoreKind S) (old new : Dev S) (now : Option RegionValue) (off n : ℕ) (ps : List Piece) : Type 0 where
   pub facts : List ListFact
+  pub wants : slices_of facts ≡ region_slices now
+  pub recalls : remembered new ≡ recalled facts (remembered old)
   pub reads : ReadsRegion now off n facts ps
   pub inside : AreInsideLists kind new facts
   pub told : TellsFacts kind old new facts
 
--- and n bytes of a file from off on
+-- and n bytes of a file from off on: the lists of the bases of the regions in which they lie, in order
 pub record IsFileRead {S : Type 0} (kind : StoreKind S) (old new : Dev S) (file : FileView) (off n : ℕ) (ps : List Piece) : Type 0 where
   pub facts : List ListFact
+  pub wants : slices_of facts ≡ bases_in old.settings.region file off n
+  pub recalls : remembered new ≡ recalled facts (remembered old)
   pub reads : ReadsFile old.settings.region file off n facts ps
   pub inside : AreInsideLists kind new facts
   pub told : TellsFacts kind old new facts
@@ -108,15 +131,30 @@ abbrev pub IsRegionFault : {S : Type 0} → StoreKind S → (old new : Dev S) �
 IsRegionFault kind old new None why = why ≡ fault.Memory
 IsRegionFault kind old new (Some v) why = IsBaseFault kind old new v.base why
 
--- a region in which one of n bytes from off on lies has a list that was not read, at a moment to which the call had gone on
+-- a fault leaves the lists that are remembered; want of memory may come after the list was read
+abbrev pub LeavesLists : {S : Type 0} → (old new : Dev S) → Fault → Type 0
+LeavesLists old new fault.Memory = ⊤
+LeavesLists old new other = remembered new ≡ remembered old
+
+-- why a region's list was not read, and what is remembered then
+pub record LeavesRegion {S : Type 0} (kind : StoreKind S) (old new : Dev S) (now : Option RegionValue) (why : Fault) : Type 0 where
+  pub cause : IsRegionFault kind old new now why
+  pub left : LeavesLists old new why
+
+-- A region in which one of n bytes from off on lies has a list that was not read, at a moment to which the call had gone on: it is
+-- the first one, and the lists of the bases of the regions before it were read, in order, and no others.
 pub record LacksRegion {S : Type 0} (kind : StoreKind S) (old new : Dev S) (file : FileView) (off n : ℕ) (why : Fault) : Type 0 where
   pub mid : Dev S
   pub goes : GoesOn kind old mid []
+  pub before : List ListFact
+  pub recalls : remembered mid ≡ recalled before (remembered old)
   pub some : 0 < n
   pub region : ℕ
   pub from : off < region * old.settings.region + old.settings.region
   pub upto : region * old.settings.region < off + n
+  pub earlier : slices_of before ≡ bases_in old.settings.region file off (region * old.settings.region - off)
   pub cause : IsRegionFault kind mid new (file.region region) why
+  pub left : LeavesLists mid new why
 
 -- why n bytes of a file from off on were not read as pieces
 abbrev pub IsFileFault : {S : Type 0} → StoreKind S → (old new : Dev S) → FileView → (off n : ℕ) → Fault → Type 0

@@ -1,6 +1,6 @@
 -- Showing the bytes of pieces, and why they were not shown.
-use Rattle.std.specs.Prelude.{◌≡◌, ◌<◌, ◌-◌, ◌++◌, ℕ, Bool, false, nat_eq, nat_le, if◌then◌else◌, List, [], ◌∷◌, length, slice_index, Option, Some, ⊤}
-use Rattle.std.specs.List.{All, Contains}
+use Rattle.std.specs.Prelude.{◌≡◌, ◌<◌, ◌-◌, ◌++◌, ℕ, Bool, false, not, nat_eq, nat_le, if◌then◌else◌, List, [], ◌∷◌, length, slice_index, Option, None, Some, ⊤}
+use Rattle.std.specs.List.{All, Contains, filter}
 use Rattle.wtf_base.specs.declared.pointer.Pointer.{Pointer}
 use Rattle.wtf_base.specs.declared.slice.Slice.{Slice}
 use Rattle.wtf_base.specs.Slices.{pointers_of}
@@ -31,16 +31,46 @@ abbrev pub IsUpPart : (ℕ → Bool) → Part → Type 0
 IsUpPart down Zero = ⊤
 IsUpPart down (Held s) = (p : Pointer) × Contains (pointers_of s) p × (down p.server.0 ≡ false)
 
--- n bytes with these places were read: where the stores tell a byte there, it is the one in the list
-pub record ShowsBytes (told : Place → Option ℕ) (n : ℕ) (f : ℕ → List Place) (bytes : List ℕ) : Type 0 where
+-- how a byte is read: the one that its places give, if they do
+abbrev pub Reading : Type 0
+Reading = List Place → Option ℕ
+
+-- n bytes with these places were read: where a reading gives a byte there, it is the one in the list
+pub record GivesBytes (reading : Reading) (n : ℕ) (f : ℕ → List Place) (bytes : List ℕ) : Type 0 where
   pub len : length bytes ≡ n
-  pub shows : (i b : ℕ) → i < n → meaning told (f i) ≡ Some b → slice_index bytes i ≡ b
+  pub shows : (i b : ℕ) → i < n → reading (f i) ≡ Some b → slice_index bytes i ≡ b
 
 -- they were added behind what was there
-pub record Shown (told : Place → Option ℕ) (n : ℕ) (f : ℕ → List Place) (old new : List ℕ) : Type 0 where
+pub record Gives (reading : Reading) (n : ℕ) (f : ℕ → List Place) (old new : List ℕ) : Type 0 where
   pub bytes : List ℕ
   pub more : new ≡ old ++ bytes
-  pub are : ShowsBytes told n f bytes
+  pub are : GivesBytes reading n f bytes
+
+-- the bytes that all copies tell were read
+abbrev pub ShowsBytes : (Place → Option ℕ) → (n : ℕ) → (ℕ → List Place) → List ℕ → Type 0
+ShowsBytes told n f bytes = GivesBytes (meaning told) n f bytes
+
+abbrev pub Shown : (Place → Option ℕ) → (n : ℕ) → (ℕ → List Place) → (old new : List ℕ) → Type 0
+Shown told n f old new = Gives (meaning told) n f old new
+
+-- the byte that places tell; there has to be one of them
+abbrev pub told_by_some : (Place → Option ℕ) → Reading
+told_by_some told [] = None
+told_by_some told (p ∷ ps) = meaning told (p ∷ ps)
+
+-- the byte at these places: 0 for a hole, else the one that every copy on a server that is up tells, if there is one and they agree
+abbrev pub meaning_up : (ℕ → Bool) → (Place → Option ℕ) → Reading
+meaning_up down told [] = Some 0
+meaning_up down told (p ∷ ps) = told_by_some told (filter (λ (q : Place). not (down q.server)) (p ∷ ps))
+
+-- the bytes that the copies on servers that are up tell were read, whatever the servers that are down hold
+abbrev pub ShownLive : (ℕ → Bool) → (Place → Option ℕ) → (n : ℕ) → (ℕ → List Place) → (old new : List ℕ) → Type 0
+ShownLive down told n f old new = Gives (meaning_up down told) n f old new
+
+-- both
+pub record ShownBoth (down : ℕ → Bool) (told : Place → Option ℕ) (n : ℕ) (f : ℕ → List Place) (old new : List ℕ) : Type 0 where
+  pub shown : Shown told n f old new
+  pub live : ShownLive down told n f old new
 
 -- a list begins with an older one
 abbrev pub BeginsWith : List ℕ → List ℕ → Type 0

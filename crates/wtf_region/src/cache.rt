@@ -1,12 +1,9 @@
 //! The places and the lists that calls remember.
 
-ghost use Rattle.std.specs.Prelude.{◌≡◌, ◌⊎◌, ◌↔◌, [], List, Some, IfOk, OnOk, IsTrue, option_map, slice_get};
+ghost use Rattle.std.specs.Prelude.{◌≡◌, ◌↔◌, [], IfOk, OnOk, OnErr, IsTrue, option_map, slice_get};
 ghost use Rattle.std.specs.Borrow.{sem};
-ghost use Rattle.std.specs.List.{Contains};
 ghost use Rattle.std.specs.Map.Iter.{deref_pair};
-ghost use Rattle.wtf_base.specs.declared.slice.Slice as slice_type;
-ghost use Rattle.wtf_overlay.specs.declared.part.Entry as entry_type;
-ghost use Rattle.wtf_region.specs.Cached.{AreFrom, BeginsAt, IsPlaceOf, cached};
+ghost use Rattle.wtf_region.specs.Cached.{AreFrom, BeginsAt, IsPlaceOf, cached, list_fact, looked_up, recalled_one};
 ghost use Rattle.wtf_region.specs.Lending.{LendsPlace};
 
 use lru::LruCache;
@@ -58,6 +55,10 @@ impl Model for RegionCache {
       places = option_to_list c.spare ++ c.places.entries;
       lists = c.lists.entries;
     } };
+
+    ghost use Rattle.std.specs.Prelude.{◌≡◌, ◌≤◌, length};
+
+    ghost invariant = { λ c. (c.lists.cap ≡ 64) × (length c.lists.entries ≤ 64) };
 }
 
 impl RegionCache {
@@ -146,12 +147,12 @@ impl RegionCache {
         place
     }
 
-    /// The list that is remembered of a slice, if one is. It is the last one to be forgotten then.
+    /// The list that is remembered of a slice, if one is. It is the last one to be forgotten then. After an error
+    /// all is as before.
     pub(crate) fn look_up(&mut self, slice: &Slice) -> Result<Option<Overlay>, OutOfMemory>
         ensures value { IfOk result (λ o. o ≡ cached self.old.lists slice.now) }
-        ensures stays { cached self.new.lists slice.now ≡ cached self.old.lists slice.now }
-        ensures only { (e : slice_type.Slice × List entry_type.Entry) →
-            Contains self.new.lists e → Contains self.old.lists e }
+        ensures ok { IfOk result (λ o. self.new.lists ≡ looked_up slice.now o self.old.lists) }
+        ensures err { OnErr result (self.new.lists ≡ self.old.lists) }
         ensures places { self.new.places ≡ self.old.places }
     {
         let Some(list) = self.lists.peek(slice) else {
@@ -165,9 +166,9 @@ impl RegionCache {
     /// Remembers the list of a slice, in place of the one that was asked for longest ago. After an error
     /// all is as before.
     pub(crate) fn keep(&mut self, slice: Slice, list: &Overlay) -> Result<(), OutOfMemory>
-        ensures ok { OnOk result (cached self.new.lists slice ≡ Some list.now) }
-        ensures only { (e : slice_type.Slice × List entry_type.Entry) → Contains self.new.lists e →
-            Contains self.old.lists e ⊎ (e ≡ (slice, list.now)) }
+        ensures ok { OnOk result
+            (self.new.lists ≡ recalled_one (list_fact slice list.now) self.old.lists) }
+        ensures err { OnErr result (self.new.lists ≡ self.old.lists) }
         ensures places { self.new.places ≡ self.old.places }
     {
         let own = list.share()?;

@@ -3,8 +3,8 @@
 ghost use Rattle.std.specs.Prelude.{◌≡◌, ◌<◌, ◌≤◌, ◌+◌, [], OnOk, OnErr, IfErr};
 ghost use Rattle.wtf_overlay.specs.Origin.{part_origin, pieces_len, pieces_origin};
 ghost use Rattle.wtf_replica.specs.Bytes.{byte_at};
-ghost use Rattle.wtf_region.specs.Devs.{IsSoundDev, GoesOn, stores, is_down_in, between};
-ghost use Rattle.wtf_region.specs.Showing.{IsReadablePart, AreReadable, IsUpPart, Shown, BeginsWith, pieces_in, IsPartFault, IsShowFault, OnlyRead};
+ghost use Rattle.wtf_region.specs.Devs.{IsSoundDev, GoesOn, stores, is_down_in, remembered, between};
+ghost use Rattle.wtf_region.specs.Showing.{IsReadablePart, AreReadable, IsUpPart, Shown, ShownLive, ShownBoth, BeginsWith, pieces_in, IsPartFault, IsShowFault, OnlyRead};
 
 use crate::Dev;
 use wtf_base::Fault;
@@ -24,12 +24,13 @@ fn show_part<S: SliceStore>(
     requires some { 0 < len }
     requires within { off + len ≤ piece.now.len }
     requires readable { IsReadablePart S.kind (is_down_in dev.old) (stores dev.old) piece.now.part }
-    ensures shown { OnOk result (Shown (byte_at S.kind (stores dev.old)) len
-        (λ i. part_origin piece.now.part (off + i)) out.old.items out.new.items) }
+    ensures shown { OnOk result (ShownBoth (is_down_in dev.old) (byte_at S.kind (stores dev.old))
+        len (λ i. part_origin piece.now.part (off + i)) out.old.items out.new.items) }
     ensures up { OnOk result (IsUpPart (is_down_in dev.old) piece.now.part) }
     ensures begins { BeginsWith out.old.items out.new.items }
     ensures fault { IfErr result (IsPartFault S.kind (between dev.old dev.new) piece.now.part) }
     ensures reads { OnlyRead S.kind (between dev.old dev.new) }
+    ensures lists { remembered dev.new ≡ remembered dev.old }
     ensures dev { GoesOn S.kind dev.old dev.new [] }
 {
     let from = out.len();
@@ -63,12 +64,13 @@ fn show_all<S: SliceStore>(
     requires sound { IsSoundDev S.kind dev.old }
     requires within { off + len ≤ pieces_len pieces.now }
     requires readable { AreReadable S.kind (is_down_in dev.old) (stores dev.old) pieces.now }
-    ensures shown { OnOk result (Shown (byte_at S.kind (stores dev.old)) len
-        (λ i. pieces_origin pieces.now (off + i)) out.old.items out.new.items) }
+    ensures shown { OnOk result (ShownBoth (is_down_in dev.old) (byte_at S.kind (stores dev.old))
+        len (λ i. pieces_origin pieces.now (off + i)) out.old.items out.new.items) }
     ensures begins { BeginsWith out.old.items out.new.items }
     ensures fault { IfErr result
         (IsShowFault S.kind (between dev.old dev.new) (pieces_in off len pieces.now)) }
     ensures reads { OnlyRead S.kind (between dev.old dev.new) }
+    ensures lists { remembered dev.new ≡ remembered dev.old }
     ensures dev { GoesOn S.kind dev.old dev.new [] }
 {
     let mut skip = off;
@@ -92,10 +94,10 @@ fn show_all<S: SliceStore>(
 }
 
 /// Appends `len` bytes of consecutive pieces, from their byte `off` on, to `out`: zeros for a hole,
-/// and for a slice what a copy of it holds. `Read` with the server of the last copy of the first
-/// slice of which no copy could be read, in the order of the bytes, and `Memory` where memory could
-/// not be had: `out` is then as it was. Only the slices of these bytes are read, and only of these
-/// bytes.
+/// and for a slice what a copy of it holds that is on a server that is up. `Read` with the server of the last
+/// copy of the first slice of which no copy could be read, in the order of the bytes, and `Memory` where
+/// memory could not be had: `out` is then as it was. Only the slices of these bytes are read, and only of
+/// these bytes. The lists that are remembered stay.
 pub fn show<S: SliceStore>(
     dev: &mut Dev<'_, S>,
     pieces: &[Piece],
@@ -108,10 +110,13 @@ pub fn show<S: SliceStore>(
     requires readable { AreReadable S.kind (is_down_in dev.old) (stores dev.old) pieces.now }
     ensures shown { OnOk result (Shown (byte_at S.kind (stores dev.old)) len
         (λ i. pieces_origin pieces.now (off + i)) out.old.items out.new.items) }
+    ensures live { OnOk result (ShownLive (is_down_in dev.old) (byte_at S.kind (stores dev.old)) len
+        (λ i. pieces_origin pieces.now (off + i)) out.old.items out.new.items) }
     ensures err { OnErr result (out.new.items ≡ out.old.items) }
     ensures fault { IfErr result
         (IsShowFault S.kind (between dev.old dev.new) (pieces_in off len pieces.now)) }
     ensures reads { OnlyRead S.kind (between dev.old dev.new) }
+    ensures lists { remembered dev.new ≡ remembered dev.old }
     ensures dev { GoesOn S.kind dev.old dev.new [] }
 {
     let from = out.len();

@@ -1,16 +1,16 @@
 //! The lists of slices and of regions.
 
-ghost use Rattle.std.specs.Prelude.{◌≡◌, ◌≤◌, ◌++◌, Some, None, true, [], length, IfOk, IfErr, OnOk};
+ghost use Rattle.std.specs.Prelude.{◌≡◌, ◌≤◌, ◌++◌, None, true, [], length, IfOk, IfErr, OnOk, OnErr};
 ghost use Rattle.wtf_base.specs.Slices.{len_of};
 ghost use Rattle.wtf_overlay.specs.Clips.{clip_list};
 ghost use Rattle.wtf_replica.specs.Copies.{IsFetched};
 ghost use Rattle.wtf_replica.specs.Faults.{IsReadFault};
 ghost use Rattle.wtf_replica.specs.Inside.{size_in};
 ghost use Rattle.wtf_meta.specs.Bytes.{SliceBytes, BaseBytes, any_slice};
-ghost use Rattle.wtf_region.specs.Cached.{RemembersOnly, cached};
+ghost use Rattle.wtf_region.specs.Cached.{RemembersOnly, cached, list_fact, looked_up, recalled_one};
 ghost use Rattle.wtf_region.specs.Inside.{part_lies_inside, list_lies_inside};
 ghost use Rattle.wtf_region.specs.Devs.{IsSoundDev, GoesOn, remembered, inside_of, between};
-ghost use Rattle.wtf_region.specs.Reads.{IsTrueList, IsOfBase, IsSliceRead, IsListRead, IsSliceFault, IsBaseFault};
+ghost use Rattle.wtf_region.specs.Reads.{IsTrueList, IsOfBase, IsListFetched, IsSliceRead, IsListRead, IsSliceFault, IsBaseFault, LeavesLists};
 ghost use Rattle.wtf_region.specs.Showing.{OnlyRead};
 
 use crate::Dev;
@@ -90,6 +90,7 @@ fn read_list<S: SliceStore>(
     requires inside { SliceBytes (inside_of S.kind dev.old) slice.now }
     requires uncached { cached (remembered dev.old) slice.now ≡ None }
     ensures read { IfOk result (IsTrueList S.kind dev.new slice.now) }
+    ensures fetched { IfOk result (IsListFetched S.kind dev.old dev.new slice.now) }
     ensures fault { IfErr result (IsSliceFault S.kind dev.old dev.new slice.now) }
     ensures cache { dev.new.cache ≡ dev.old.cache }
     ensures reads { OnlyRead S.kind (between dev.old dev.new) }
@@ -114,12 +115,13 @@ fn read_list<S: SliceStore>(
     Ok(list)
 }
 
-/// The list that is remembered of a slice, if one is.
+/// The list that is remembered of a slice, if one is. It is the last one to be forgotten then.
 fn recall<S: SliceStore>(dev: &mut Dev<'_, S>, slice: &Slice) -> Result<Option<Overlay>, Fault>
     requires sound { IsSoundDev S.kind dev.old }
     ensures value { IfOk result (λ o. o ≡ cached (remembered dev.old) slice.now) }
-    ensures stays { cached (remembered dev.new) slice.now ≡ cached (remembered dev.old) slice.now }
-    ensures only { RemembersOnly (λ s. s ≡ slice.now) (remembered dev.old) (remembered dev.new) }
+    ensures ok { IfOk result
+        (λ o. remembered dev.new ≡ looked_up slice.now o (remembered dev.old)) }
+    ensures err { OnErr result (remembered dev.new ≡ remembered dev.old) }
     ensures shelf { dev.new.shelf ≡ dev.old.shelf }
     ensures fault { IfErr result (λ why. why ≡ Fault.Memory) }
     ensures dev { GoesOn S.kind dev.old dev.new [] }
@@ -134,8 +136,9 @@ fn recall<S: SliceStore>(dev: &mut Dev<'_, S>, slice: &Slice) -> Result<Option<O
 fn remember<S: SliceStore>(dev: &mut Dev<'_, S>, slice: &Slice, list: &Overlay) -> Result<(), Fault>
     requires sound { IsSoundDev S.kind dev.old }
     requires is_true { IsTrueList S.kind dev.old slice.now list.now }
-    ensures stands { OnOk result (cached (remembered dev.new) slice.now ≡ Some list.now) }
-    ensures only { RemembersOnly (λ s. s ≡ slice.now) (remembered dev.old) (remembered dev.new) }
+    ensures ok { OnOk result
+        (remembered dev.new ≡ recalled_one (list_fact slice.now list.now) (remembered dev.old)) }
+    ensures err { OnErr result (remembered dev.new ≡ remembered dev.old) }
     ensures shelf { dev.new.shelf ≡ dev.old.shelf }
     ensures fault { IfErr result (λ why. why ≡ Fault.Memory) }
     ensures dev { GoesOn S.kind dev.old dev.new [] }
@@ -150,7 +153,7 @@ fn remember<S: SliceStore>(dev: &mut Dev<'_, S>, slice: &Slice, list: &Overlay) 
 /// server has, which is remembered then. `Read` with the server of the last copy where no copy could be
 /// read, and `Damaged` with the server of the copy that was read where its bytes are no list, or one
 /// that names bytes outside the stores. A list that is remembered needs no server. No other slice's list
-/// comes to be remembered.
+/// comes to be remembered, and after a fault the same lists are.
 pub fn base_list<S: SliceStore>(
     alloc: Global,
     dev: &mut Dev<'_, S>,
@@ -160,6 +163,7 @@ pub fn base_list<S: SliceStore>(
     requires inside { SliceBytes (inside_of S.kind dev.old) slice.now }
     ensures read { IfOk result (IsSliceRead S.kind dev.old dev.new slice.now) }
     ensures fault { IfErr result (IsSliceFault S.kind dev.old dev.new slice.now) }
+    ensures err { OnErr result (remembered dev.new ≡ remembered dev.old) }
     ensures only { RemembersOnly (λ s. s ≡ slice.now) (remembered dev.old) (remembered dev.new) }
     ensures reads { OnlyRead S.kind (between dev.old dev.new) }
     ensures dev { GoesOn S.kind dev.old dev.new [] }
@@ -204,6 +208,7 @@ pub fn region_list<S: SliceStore>(
     requires inside { BaseBytes (inside_of S.kind dev.old) any_slice value.now.base }
     ensures read { IfOk result (IsListRead S.kind dev.old dev.new value.now) }
     ensures fault { IfErr result (IsBaseFault S.kind dev.old dev.new value.now.base) }
+    ensures left { IfErr result (LeavesLists dev.old dev.new) }
     ensures only { RemembersOnly (IsOfBase value.now.base) (remembered dev.old) (remembered dev.new) }
     ensures reads { OnlyRead S.kind (between dev.old dev.new) }
     ensures dev { GoesOn S.kind dev.old dev.new [] }

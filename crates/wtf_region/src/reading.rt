@@ -12,7 +12,7 @@ ghost use Rattle.wtf_meta.specs.Files.{file_len as file_length};
 ghost use Rattle.wtf_meta.specs.FileEdits.{file_of, region_of};
 ghost use Rattle.wtf_meta.specs.Appends.{OfRegion, length_keys, region_keys, touched};
 ghost use Rattle.wtf_region.specs.Devs.{IsSoundDev, GoesOn, between, inside_of};
-ghost use Rattle.wtf_region.specs.Reads.{IsPartRead, IsFileRead, IsRegionFault, IsFileFault};
+ghost use Rattle.wtf_region.specs.Reads.{IsPartRead, IsFileRead, LeavesRegion, IsFileFault};
 ghost use Rattle.wtf_region.specs.Showing.{OnlyRead};
 ghost use Rattle.wtf_region.specs.Edited.{Recorded};
 
@@ -71,7 +71,7 @@ fn value_pieces<S: SliceStore>(
     requires some { 0 < len }
     ensures read { IfOk result (λ v.
         IsPartRead S.kind dev.old dev.new (option_copied value.entry) off len v.items) }
-    ensures fault { IfErr result (IsRegionFault S.kind dev.old dev.new (option_copied value.entry)) }
+    ensures fault { IfErr result (LeavesRegion S.kind dev.old dev.new (option_copied value.entry)) }
     ensures reads { OnlyRead S.kind (between dev.old dev.new) }
     ensures dev { GoesOn S.kind dev.old dev.new [] }
 {
@@ -130,7 +130,7 @@ fn seen_pieces<S: SliceStore>(
     requires some { 0 < part.len }
     ensures read { IfOk result (λ v. IsPartRead S.kind dev.old dev.new
         (region_of (seen kv.now at.now key.now)) part.off part.len v.items) }
-    ensures fault { IfErr result (IsRegionFault S.kind dev.old dev.new
+    ensures fault { IfErr result (LeavesRegion S.kind dev.old dev.new
         (region_of (seen kv.now at.now key.now))) }
     ensures reads { OnlyRead S.kind (between dev.old dev.new) }
     ensures dev { GoesOn S.kind dev.old dev.new [] }
@@ -177,7 +177,7 @@ fn region_pieces<S: SliceStore>(
         ((file_of inode (seen kv.now at.old)).region part.region) part.off part.len v.items) }
     ensures recorded { OnOk result (Recorded inode (OfRegion part.region ∷ []) at.old at.new) }
     ensures grows { Grows at.old at.new }
-    ensures fault { IfErr result (IsRegionFault S.kind dev.old dev.new
+    ensures fault { IfErr result (LeavesRegion S.kind dev.old dev.new
         ((file_of inode (seen kv.now at.old)).region part.region)) }
     ensures reads { OnlyRead S.kind (between dev.old dev.new) }
     ensures dev { GoesOn S.kind dev.old dev.new [] }

@@ -5,9 +5,9 @@ use Rattle.wtf_overlay.specs.Origin.{part_origin, pieces_len, pieces_origin}
 use Rattle.wtf_replica.specs.Downs.{is_down}
 use Rattle.wtf_replica.specs.Bytes.{byte_at}
 use Rattle.wtf_region.specs.Devs.{stores, is_down_in}
-use Rattle.wtf_region.specs.Showing.{IsReadablePart, IsUpPart, Shown, pieces_in}
+use Rattle.wtf_region.specs.Showing.{IsReadablePart, IsUpPart, ShownBoth, pieces_in}
 use Rattle.wtf_region.proofs.Spans.{goes_on}
-use Rattle.wtf_region.proofs.ShowLaws.{Walk, Passed, readable_stays, reads_over, walk_part, walk_here, passed_part, shown_more, shown_since, show_fault_in}
+use Rattle.wtf_region.proofs.ShowLaws.{Walk, Passed, readable_stays, reads_over, walk_part, walk_here, passed_part, shown_more, both_since, show_fault_in}
 use Rattle.wtf_region.proofs.fetching.show_all.Goals as goal
 
 pub show_part-requires-clause-readable : goal.show_part-requires-clause-readable
@@ -68,11 +68,15 @@ loop-piece-preserved g c =
       passed = passed_part (is_down_in old) all p rest skip left n c.if-left-eq0.false before c.min-n.ensures
           (subst (λ (l : List Piece). Passed (is_down_in old) all (pieces_in skip left l)) at was.passed)
           (subst (λ (down : ℕ → Bool). IsUpPart down p.part) (ap (λ r. is_down r.now) was.each.replicas) now.up);
-      shown = shown_more (byte_at kind (stores old)) (len - left) n (len - (left - n)) (λ i. pieces_origin ps (off + i)) (λ i. part_origin p.part (skip + i))
+      shown = shown_more (is_down_in old) (byte_at kind (stores old)) (len - left) n (len - (left - n)) (λ i. pieces_origin ps (off + i))
+          (λ i. part_origin p.part (skip + i))
           c.args.out.now.items c.loop-piece.out.items c.show_part.new.out.items (omega (arith, walk.within, c.min-n.ensures)) was.shown
-          (shown_since laws was.each.each n (λ i. part_origin p.part (skip + i)) c.loop-piece.out.items c.show_part.new.out.items now.shown)
+          (both_since laws was.each.each (is_down_in old) n (λ i. part_origin p.part (skip + i)) c.loop-piece.out.items c.show_part.new.out.items
+          (subst (λ (down : ℕ → Bool). ShownBoth down (byte_at kind (stores mid)) n (λ i. part_origin p.part (skip + i)) c.loop-piece.out.items
+          c.show_part.new.out.items) (ap (λ r. is_down r.now) was.each.replicas) now.shown))
           (λ i h. walk_here ps off len p rest skip left n i walk before c.min-n.ensures h);
       reads = reads_over kind old mid new was.each was.reads now.reads;
+      lists = now.lists ∙ was.lists;
       each = goes_on laws was.each now.dev;
     }
 
@@ -81,4 +85,5 @@ returns-clause-shown g c =
     let ps = c.args.pieces.now in
     let none : drop c.loop-piece.piece-index ps ≡ [] = drop_all c.loop-piece.piece-index ps (omega (arith, c.loop-piece-test.false)) in
     let nothing : c.args.len - c.loop-piece.left ≡ c.args.len = omega (arith, c.loop-piece.invariant.walk.short, ap pieces_len none) in
-    subst (λ (n : ℕ). Shown (byte_at g.S.SliceStore.kind (stores c.args.dev.now)) n (λ i. pieces_origin ps (c.args.off + i)) c.args.out.now.items c.loop-piece.out.items) nothing c.loop-piece.invariant.shown
+    subst (λ (n : ℕ). ShownBoth (is_down_in c.args.dev.now) (byte_at g.S.SliceStore.kind (stores c.args.dev.now)) n (λ i. pieces_origin ps (c.args.off + i))
+    c.args.out.now.items c.loop-piece.out.items) nothing c.loop-piece.invariant.shown

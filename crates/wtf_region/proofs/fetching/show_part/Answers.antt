@@ -7,8 +7,8 @@ use Rattle.wtf_overlay.specs.declared.part.Part.{Part}
 use Rattle.wtf_replica.specs.Downs.{during}
 use Rattle.wtf_replica.specs.Bytes.{byte_at}
 use Rattle.wtf_region.specs.Devs.{stores, is_down_in}
-use Rattle.wtf_region.specs.Showing.{IsReadablePart, ShowsBytes}
-use Rattle.wtf_region.proofs.ShowLaws.{copy_shows, part_fault, end_written}
+use Rattle.wtf_region.specs.Showing.{IsReadablePart, ShowsBytes, GivesBytes, meaning_up}
+use Rattle.wtf_region.proofs.ShowLaws.{copy_shows, copy_lives, part_fault, end_written}
 use Rattle.wtf_region.proofs.Spans.{goes_by}
 use Rattle.wtf_region.proofs.fetching.show_part.Goals as goal
 
@@ -38,11 +38,23 @@ returns-clause-shown g c =
     let len : c.resize.new.self.len ≡ end = chosen (is_ok c.resize.result) end (vec_len c.args.out.now) c.resize.new.self.len c.resize.ensures.len ok in
     let xs = c.deref_mut.result.now in
     let read : length c.fetch.new.out ≡ n = omega (arith, c.fetch.auto.out, length-take (length xs - a) (drop a xs), length-drop a xs, c.deref_mut.ensures.len, len, upto) in
+    let kind = g.S.SliceStore.kind in
+    let shelf = stores c.args.dev.now in
+    let down = is_down_in c.args.dev.now in
+    let more = end_written old xs c.resize.new.self.items c.fetch.new.out zeros _ _ a n c.resize.new.self.len end from c.deref_mut.ensures.value upto items read len in
     record {
-      bytes = c.fetch.new.out;
-      more = end_written old xs c.resize.new.self.items c.fetch.new.out zeros _ _ a n c.resize.new.self.len end from c.deref_mut.ensures.value upto items read len;
-      are = subst (λ (x : Part). ShowsBytes (byte_at g.S.SliceStore.kind (stores c.args.dev.now)) n (λ i. part_origin x (c.args.off + i)) c.fetch.new.out) (sym c.in-Held.is)
-          (copy_shows g.met.S.SliceStore.laws c.in_default-fetch.ensures.fetched n read);
+      shown = record {
+        bytes = c.fetch.new.out;
+        more = more;
+        are = subst (λ (x : Part). ShowsBytes (byte_at kind shelf) n (λ i. part_origin x (c.args.off + i)) c.fetch.new.out) (sym c.in-Held.is)
+            (copy_shows g.met.S.SliceStore.laws c.in_default-fetch.ensures.fetched n read);
+      };
+      live = record {
+        bytes = c.fetch.new.out;
+        more = more;
+        are = subst (λ (x : Part). GivesBytes (meaning_up down (byte_at kind shelf)) n (λ i. part_origin x (c.args.off + i)) c.fetch.new.out) (sym c.in-Held.is)
+            (copy_lives kind down shelf c.in-Held.slice c.args.off c.fetch.new.out c.in_default-fetch.ensures.shows_up n read);
+      };
     }
 
 pub returns-in-Err-clause-dev : goal.returns-in-Err-clause-dev

@@ -1,7 +1,7 @@
 use Rattle.std.proofs.Common.{length, drop, sym, ◌∙◌, arith}
 use Rattle.std.proofs.lemmas.List.{take_at}
 use Rattle.wtf_region.proofs.Spans.{goes_nowhere}
-use Rattle.wtf_region.proofs.ListReads.{read_true, read_fault, damaged_none, damaged_outside}
+use Rattle.wtf_region.proofs.ListReads.{read_true, list_fetched, read_fault, damaged_none, damaged_outside}
 use Rattle.wtf_region.proofs.list.read_list.Goals as goal
 
 pub returns-in-Err-clause-dev : goal.returns-in-Err-clause-dev
@@ -42,3 +42,11 @@ returns-clause-read g c =
     read_true g.met.S.SliceStore.laws c.requires.sound c.fetch_all.ensures.dev c.args.slice.now c.requires.inside c.fetch_all.new.out c.in-Ok-fetch_all.from.0
     c.in-Ok-fetch_all.ensures.fetched
     c.fetch_all.ensures.whole c.in-Ok-decode.list (rw whole at is) (sym c.list_lies_inside.ensures ∙ c.if-not-list_lies_inside.false)
+
+pub returns-clause-fetched : goal.returns-clause-fetched
+returns-clause-fetched g c =
+    let whole = take_at c.fetch_all.new.out (drop (length c.fetch_all.new.out) c.in-Ok.out.items) c.in-Ok.out.len
+    (omega (arith, c.fetch_all.ensures.whole, c.in-Ok.ensures.zeros, c.len.ensures.value, c.in-Ok.out.ok)) in
+    let is = rw c.deref.ensures.value at c.in-Ok-decode.ensures.list in
+    list_fetched g.met.S.SliceStore.laws c.fetch_all.ensures.dev c.args.slice.now c.fetch_all.new.out c.in-Ok-fetch_all.from.0 c.requires.uncached c.fetch_all.ensures.whole
+    c.in-Ok-fetch_all.ensures.fetched c.in-Ok-decode.list (rw whole at is)

@@ -1,14 +1,15 @@
-use Rattle.std.proofs.Common.{◌≡◌, ◌⊎◌, ◌+◌, arith, refl, sym, ◌∙◌, subst, inl, inr}
+use Rattle.std.proofs.Common.{◌≡◌, ◌⊎◌, ℕ, ◌+◌, arith, refl, sym, ap, ◌∙◌, subst, inl, inr}
 use Rattle.wtf_meta.specs.Bytes.{FileBytes, any_slice}
 use Rattle.wtf_meta.specs.Maps.{Map, seen}
 use Rattle.wtf_meta.specs.FileEdits.{file_of}
 use Rattle.wtf_meta.specs.Appends.{touched, region_keys}
 use Rattle.wtf_meta.proofs.Touching.{touched-more}
 use Rattle.wtf_occ.proofs.AttemptLaws.{GrowsBy-nothing}
+use Rattle.wtf_region.specs.Bases.{bases_in}
 use Rattle.wtf_region.specs.Devs.{inside_of, is_down_in, stores}
-use Rattle.wtf_region.specs.Reads.{IsPartRead, IsRegionFault}
+use Rattle.wtf_region.specs.Reads.{IsPartRead, IsFileRead, LeavesRegion}
 use Rattle.wtf_region.proofs.ListReads.{file_none, file_on, file_later}
-use Rattle.wtf_region.proofs.Recording.{still_seen, recorded_region, at_border}
+use Rattle.wtf_region.proofs.Recording.{still_seen, recorded_region, part_start}
 use Rattle.wtf_region.proofs.ShowLaws.{reads_nothing, reads_over}
 use Rattle.wtf_region.proofs.Spans.{goes_nowhere, goes_on}
 use Rattle.wtf_region.proofs.reading.pieces.Goals as goal
@@ -43,15 +44,26 @@ returns-in-Err-clause-fault g c =
     let inv = c.loop-done.invariant in
     let same : seen kv c.loop-done.at ≡ seen kv c.args.at.now =
     still_seen kv i (region_keys (touched c.args.dev.now.settings.region c.args.off c.loop-done.done)) c.args.at.now c.loop-done.at inv.recorded in
+    let b = c.args.dev.now.settings.region in
+    let v = file_of i (seen kv c.args.at.now) in
+    let done = c.loop-done.done in
+    let lack : LeavesRegion g.S.SliceStore.kind c.loop-done.dev c.region_pieces.new.dev (v.region p.region) c.in-Err.why =
+    subst (λ (w : Map). LeavesRegion g.S.SliceStore.kind c.loop-done.dev c.region_pieces.new.dev ((file_of i w).region p.region) c.in-Err.why)
+    same c.in-Err.ensures.fault in
+    let start : (done ≡ 0) ⊎ (p.off ≡ 0) = part_start b c.args.off c.args.len done p.region p.off c.loop-done-test.true inv.border e.place
+    (omega (arith, e.within, e.some)) in
     inr (record {
       mid = c.loop-done.dev;
       goes = inv.each;
+      before = inv.read.facts;
+      recalls = inv.read.recalls;
       some = omega (arith, c.loop-done-test.true);
       region = p.region;
       from = omega (arith, e.place, e.within, e.some);
       upto = omega (arith, e.place, c.loop-done-test.true);
-      cause = subst (λ (w : Map). IsRegionFault g.S.SliceStore.kind c.loop-done.dev c.region_pieces.new.dev ((file_of i w).region p.region) c.in-Err.why)
-          same c.in-Err.ensures.fault;
+      earlier = inv.read.wants ∙ ap (bases_in b v c.args.off) (elim start [ inl none ↦ omega (arith, e.place, none) | inr begins ↦ omega (arith, e.place, begins) ]);
+      cause = lack.cause;
+      left = lack.left;
     })
 
 pub returns-in-Err-clause-reads : goal.returns-in-Err-clause-reads
@@ -82,11 +94,8 @@ loop-done-preserved g c =
     let inv = c.loop-done.invariant in
     let v = file_of i (seen kv c.args.at.now) in
     let same : seen kv c.loop-done.at ≡ seen kv c.args.at.now = still_seen kv i (region_keys (touched b off done)) c.args.at.now c.loop-done.at inv.recorded in
-    let start : (done ≡ 0) ⊎ (p.off ≡ 0) = elim inv.border [
-      | inl first ↦ inl first
-      | inr (inl whole) ↦ absurd (omega (arith, whole, c.loop-done-test.true))
-      | inr (inr begins) ↦ inr (at_border b begins.0 p.region p.off (begins.1 ∙ sym e.place) (omega (arith, e.within, e.some)))
-    ] in
+    let start : (done ≡ 0) ⊎ (p.off ≡ 0) = part_start b off c.args.len done p.region p.off c.loop-done-test.true inv.border e.place
+    (omega (arith, e.within, e.some)) in
     let more : IsPartRead g.S.SliceStore.kind c.loop-done.dev c.region_pieces.new.dev (v.region p.region) p.off p.len c.in-Ok.more.items =
     subst (λ (w : Map). IsPartRead g.S.SliceStore.kind c.loop-done.dev c.region_pieces.new.dev ((file_of i w).region p.region) p.off p.len c.in-Ok.more.items)
     same c.in-Ok.ensures.read in
@@ -94,7 +103,7 @@ loop-done-preserved g c =
       upto = omega (arith, e.inside);
       read = rw (c.in-Ok-append.ensures.ok, c.as_slice.ensures.value)
           (file_on g.met.S.SliceStore.laws inv.each c.region_pieces.ensures.dev v off done p.len p.region p.off
-          c.loop-done.out.items c.in-Ok.more.items e.place e.within inv.read more);
+          c.loop-done.out.items c.in-Ok.more.items e.some e.place e.within start inv.read more);
       recorded = recorded_region i (touched b off done) (touched b off (done + p.len)) p.region c.args.at.now c.loop-done.at c.region_pieces.new.at
           (touched-more b off done p.region p.off p.len (omega (arith, c.args.dev.now.settings.limits)) e.place e.within e.some start)
           inv.recorded c.in-Ok.ensures.recorded;
@@ -105,3 +114,9 @@ loop-done-preserved g c =
       reads = reads_over g.S.SliceStore.kind c.args.dev.now c.loop-done.dev c.region_pieces.new.dev inv.each inv.reads c.region_pieces.ensures.reads;
       each = goes_on g.met.S.SliceStore.laws inv.each c.region_pieces.ensures.dev;
     }
+
+pub returns-clause-read : goal.returns-clause-read
+returns-clause-read g c =
+    let whole : c.loop-done.done ≡ c.args.len = omega (arith, c.loop-done.invariant.upto, c.loop-done-test.false) in
+    subst (λ (n : ℕ). IsFileRead g.S.SliceStore.kind c.args.dev.now c.loop-done.dev (file_of c.args.inode (seen c.args.kv.now c.args.at.now)) c.args.off n
+    c.loop-done.out.items) whole c.loop-done.invariant.read

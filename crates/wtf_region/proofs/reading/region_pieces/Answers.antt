@@ -1,12 +1,13 @@
-use Rattle.std.proofs.Common.{◌≡◌, [], ◌∷◌, sym, subst}
+use Rattle.std.proofs.Common.{◌≡◌, [], ◌∷◌, refl, sym, subst}
 use Rattle.std.proofs.lemmas.Result.{IfOk-weaker, IfErr-weaker}
 use Rattle.wtf_meta.specs.Bytes.{MaybeBytes, any_slice}
 use Rattle.wtf_meta.specs.Maps.{Map, seen}
 use Rattle.wtf_meta.specs.FileEdits.{file_of}
 use Rattle.wtf_meta.specs.Appends.{OfRegion}
 use Rattle.wtf_region.specs.Devs.{inside_of}
-use Rattle.wtf_region.specs.Reads.{IsPartRead, IsRegionFault}
+use Rattle.wtf_region.specs.Reads.{IsPartRead, LeavesRegion}
 use Rattle.wtf_region.proofs.Recording.{still_seen}
+use Rattle.wtf_region.proofs.ListReads.{leaves_memory}
 use Rattle.wtf_region.proofs.reading.region_pieces.Goals as goal
 
 pub seen_pieces-requires-clause-inside : goal.seen_pieces-requires-clause-inside
@@ -41,5 +42,8 @@ returns-clause-fault g c =
     let new = c.record_settled.new.at in
     let same : seen kv new ≡ seen kv old = still_seen kv i (OfRegion r ∷ []) old new c.in-Ok.ensures.recorded in
     IfErr-weaker c.seen_pieces.result _ _
-    (λ why is. subst (λ (w : Map). IsRegionFault g.S.SliceStore.kind c.args.dev.now c.seen_pieces.new.dev ((file_of i w).region r) why) same is)
+    (λ why is. subst (λ (w : Map). LeavesRegion g.S.SliceStore.kind c.args.dev.now c.seen_pieces.new.dev ((file_of i w).region r) why) same is)
     c.seen_pieces.ensures.fault
+
+pub returns-in-Err-clause-fault : goal.returns-in-Err-clause-fault
+returns-in-Err-clause-fault g c = leaves_memory g.S.SliceStore.kind c.args.dev.now c.args.dev.now _ _ refl
