@@ -1,4 +1,4 @@
--- The changes of calls that bring a slice, and those of any call from those of its own.
+-- The changes of calls that bring a slice.
 use Rattle.std.proofs.Common.{◌≡◌, ℕ, ◌<◌, List, [], ◌∷◌, Option, None, Some, refl, sym, subst, arith}
 use Rattle.wtf_base.specs.declared.slice.Extents.{Extents}
 use Rattle.wtf_base.specs.declared.slice.Extents.TheVariants.{One, Two, Three}
@@ -11,21 +11,11 @@ use Rattle.wtf_overlay.specs.declared.part.Piece.{Piece}
 use Rattle.wtf_model.specs.declared.answer.Answer.{Answer}
 use Rattle.wtf_values.specs.declared.key.Key.{Key}
 use Rattle.wtf_values.specs.declared.value.Delta.{Delta}
-use Rattle.wtf_meta.specs.Maps.{Map, Edits}
-use Rattle.wtf_meta.specs.Sessions.{SessionView}
-use Rattle.wtf_rw.specs.declared.op.RwOp.{RwOp}
+use Rattle.wtf_meta.specs.Maps.{Edits}
 use Rattle.wtf_steps.specs.Made.{Makes}
 use Rattle.wtf_steps.proofs.Making.{makes_nothing, makes_as}
 use Rattle.wtf_rw.specs.Stored.{ArePieces}
-use Rattle.wtf_rw.specs.Changed.{OfSlice, RwMade}
-
--- the same call, slice and answer by other names
-pub made_as : (z : ℕ) (w : Map) (s : SessionView) (o p : RwOp) (own q : Option Slice) (a r : Answer) (old new : Attempted Key Delta) → o ≡ p → own ≡ q → a ≡ r → Makes r (RwMade z w s p q) old new
-    → Makes a (RwMade z w s o own) old new
-made_as z w s o p own q a r old new is slice answer made =
-    subst (λ (c : RwOp). Makes a (RwMade z w s c own) old new) (sym is)
-    (subst (λ (k : Option Slice). Makes a (RwMade z w s p k) old new) (sym slice)
-    (subst (λ (b : Answer). Makes b (RwMade z w s p q) old new) (sym answer) made))
+use Rattle.wtf_rw.specs.Changed.{OfSlice}
 
 -- a slice has a byte, so data without one has no slice
 some_bytes : (n : ℕ) (e : Extents) → IsSound n e → 0 < n

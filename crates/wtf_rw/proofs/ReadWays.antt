@@ -40,7 +40,7 @@ use Rattle.wtf_meta.proofs.Telling.{TellsOn, TellLists-before, told_lists}
 use Rattle.wtf_region.specs.declared.dev.Dev.{Dev}
 use Rattle.wtf_region.specs.Devs.{GoesOn, told_in}
 use Rattle.wtf_region.specs.Reads.{IsFileRead}
-use Rattle.wtf_region.specs.Showing.{Shown}
+use Rattle.wtf_region.specs.Showing.{Shown, Gives, Reading}
 use Rattle.wtf_region.proofs.ShowLaws.{told_stays, ShowsBytes-tell, shown_since}
 use Rattle.wtf_steps.specs.Recorded.{found_in, len_keys}
 use Rattle.wtf_steps.proofs.Ways.{on_file, KeysRead}
@@ -139,5 +139,5 @@ tells_read {kind = kind} laws old mid new first next u b i h off from k map inod
       );
     }
 
-pub shown_len : {told : Told} {k : ℕ} {f : ℕ → List Place} {bytes : List ℕ} → Shown told k f [] bytes → length bytes ≡ k
+pub shown_len : {reading : Reading} {k : ℕ} {f : ℕ → List Place} {bytes : List ℕ} → Gives reading k f [] bytes → length bytes ≡ k
 shown_len shown = ap length shown.more ∙ shown.are.len

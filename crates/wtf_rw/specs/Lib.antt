@@ -6,5 +6,7 @@ pub mod Seeks
 pub mod Sizes
 pub mod Stored
 pub mod Changed
+pub mod Held
 pub mod Reads
 pub mod Ops
+pub mod Called

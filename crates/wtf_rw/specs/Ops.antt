@@ -1,5 +1,6 @@
 -- The calls on bytes and handles: what each is among the definitions' calls, what it asks, records and brings.
 use Rattle.std.specs.Prelude.{◌≡◌, ◌⊎◌, ◌<◌, ◌≤◌, ℕ, Bool, List, [], length, Option, None, Some, ⊤}
+use Rattle.std.specs.Option.{option_map}
 use Rattle.wtf_base.specs.declared.fault.Fault.{Fault}
 use Rattle.wtf_base.specs.declared.fault.Fault.TheVariants as fault
 use Rattle.wtf_base.specs.declared.settings.Settings.{Settings}
@@ -113,10 +114,20 @@ DoesRw sc (rw.Write f d) own bytes did = DoesData sc d own bytes did
 DoesRw sc (rw.Append f d) own bytes did = DoesData sc d own bytes did
 DoesRw sc o own bytes did = NeedsNoBytes did × (own ≡ None)
 
+-- of a call that is lent no store
+abbrev pub DoesPlain : RwOp → List ℕ → Did → Type 0
+DoesPlain (rw.Write f (Stored kept)) bytes did = BringsSlice kept.slice bytes did
+DoesPlain (rw.Append f (Stored kept)) bytes did = BringsSlice kept.slice bytes did
+DoesPlain o bytes did = NeedsNoBytes did
+
 -- whoever calls, the step is the definitions' call on all bytes that the data may be
 abbrev pub IsRwStep : {S : Type 0} → Scene S → ℕ → (old new : InHand) → RwOp → Option Slice → Answer → Type 0
 IsRwStep sc b old new o own a =
     (x : Caller) (bytes : List ℕ) → x.size ≡ b → Writes o bytes → IsWhole o → IsStepWith (DoesRw sc o own bytes) x sc.map old new (op_of o bytes) a
+
+abbrev pub IsPlainStep : ℕ → Map → (old new : InHand) → RwOp → Answer → Type 0
+IsPlainStep b w old new o a =
+    (x : Caller) (bytes : List ℕ) → x.size ≡ b → Writes o bytes → IsWhole o → IsStepWith (DoesPlain o bytes) x w old new (op_of o bytes) a
 
 -- what came of the bytes that a call was to store, by its handle: with none open nothing was lent for writing
 abbrev pub OwnBy : {S : Type 0} → StoreKind S → (old new : Dev S) → Option Handle → (Handle → PlaceView) → List ℕ → Option Slice → Type 0
@@ -136,6 +147,18 @@ abbrev pub LacksOwn : RwOp → Option Slice → Answer → Type 0
 LacksOwn (rw.Write f (Fresh bs)) own a = own ≡ None → (length bs.now ≡ 0) ⊎ IsRefusal a
 LacksOwn (rw.Append f (Fresh bs)) own a = own ≡ None → (length bs.now ≡ 0) ⊎ IsRefusal a
 LacksOwn o own a = ⊤
+
+-- the file of the stores to which its bytes go, if it is to store some for a handle that is open
+abbrev pub file_in : {S : Type 0} → Dev S → Handle → ℕ
+file_in dev h = (place_in dev h.inode h.off).file
+
+abbrev pub file_at_end : {S : Type 0} → Dev S → Map → Handle → ℕ
+file_at_end dev w h = (place_in dev h.inode (end_place dev.settings.region (file_of h.inode w))).file
+
+abbrev pub rw_file : {S : Type 0} → Dev S → Map → SessionView → RwOp → Option ℕ
+rw_file dev w s (rw.Write f (Fresh bs)) = option_map (file_in dev) (handle_in s f)
+rw_file dev w s (rw.Append f (Fresh bs)) = option_map (file_at_end dev w) (handle_in s f)
+rw_file dev w s o = None
 
 -- a call that is to store no byte
 abbrev pub StoresNone : RwOp → Type 0

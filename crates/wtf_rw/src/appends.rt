@@ -1,27 +1,29 @@
 //! The call that adds bytes at a file's end.
 
-ghost use Rattle.std.specs.Prelude.{◌≡◌, ◌⊎◌, ◌<◌, ◌≤◌, ◌++◌, [], ℕ, List, length, Some, None, IfOk, IfErr, IfSome, OnOk, IsTrue, IsSome};
+ghost use Rattle.std.specs.Prelude.{◌≡◌, ◌<◌, ◌≤◌, ◌++◌, length, Some, None, IfOk, IfErr, IfSome, OnOk, IsTrue, IsSome};
+ghost use Rattle.std.specs.Option.{option_map};
 ghost use Rattle.wtf_kv.specs.Stores.{is_pinned};
-ghost use Rattle.wtf_occ.specs.Attempts.{Grows};
 ghost use Rattle.wtf_model.specs.declared.limits.TheConstants.{MAX_HANDLES, MAX_WRITTEN};
-ghost use Rattle.wtf_model.specs.Steps.{IsLogged};
 ghost use Rattle.wtf_meta.specs.declared.session.Handle as handle;
 ghost use Rattle.wtf_meta.specs.Maps.{seen};
 ghost use Rattle.wtf_meta.specs.Files.{FileView};
 ghost use Rattle.wtf_meta.specs.FileEdits.{file_of};
 ghost use Rattle.wtf_meta.specs.Sessions.{handle_in};
 ghost use Rattle.wtf_meta.specs.Calls.{Caller};
-ghost use Rattle.wtf_region.specs.Devs.{IsSoundDev, GoesOn, stores, place_in};
+ghost use Rattle.wtf_region.specs.Devs.{IsSoundDev, stores, place_in, between};
 ghost use Rattle.wtf_region.specs.Edited.{IsFileEnd, LacksRoom};
 ghost use Rattle.wtf_steps.specs.Recorded.{append_keys};
-ghost use Rattle.wtf_steps.specs.Steps.{in_hand, IsStepWith, IsRefusal};
+ghost use Rattle.wtf_steps.specs.Steps.{in_hand, IsStepWith};
 ghost use Rattle.wtf_steps.specs.Made.{Makes, AddsAt};
-ghost use Rattle.wtf_rw.specs.Stored.{TellsOwn, IsOwn, IsPutFault, BringsSlice, Answers, HasRoom, end_place};
+ghost use Rattle.wtf_rw.specs.Called.{PutsBytes, Alters};
+ghost use Rattle.wtf_rw.specs.Ops.{IsPlainStep, IsBareAnswer, file_at_end};
+ghost use Rattle.wtf_rw.specs.Stored.{TellsOwn, IsOwn, HasRoom, end_place};
 ghost use Rattle.wtf_rw.specs.Changed.{OfSlice};
 ghost use Rattle.wtf_steps.specs.Faults.{MayFault};
+ghost use Rattle.wtf_steps.specs.Leaving.{LeavesStores};
 
-use crate::Done;
 use crate::writes::{only, piece_of};
+use crate::{Done, Given, RwOp};
 use std::alloc::Global;
 use wtf_base::{Fault, Kept, OutOfMemory, Settings};
 use wtf_dev::SliceStore;
@@ -85,19 +87,13 @@ pub(crate) fn append_fresh<S: SliceStore>(
     ensures own { IfOk result (λ d. (h : handle.Handle) → handle_in s.now f ≡ Some h →
         IsOwn S.kind dev.old dev.new (place_in dev.old h.inode (end_place
         dev.old.settings.region (file_of h.inode (seen kv.now at.old)))) bytes.now d.own) }
-    ensures closed { IfOk result
-        (λ d. handle_in s.now f ≡ None → (dev.new ≡ dev.old) × (d.own ≡ None)) }
-    ensures lacks { IfOk result (λ d. d.own ≡ None →
-        (length bytes.now ≡ 0) ⊎ IsRefusal d.answer) }
-    ensures done { IfOk result (λ d. IsSome d.own → d.answer ≡ Answer.Okay) }
-    ensures logged { IfOk result (λ d. IsLogged d.answer) }
-    ensures refused { IfOk result (λ d. IsRefusal d.answer →
-        (dev.new ≡ dev.old) × (d.own ≡ None) × (at.new.changes ≡ at.old.changes)) }
-    ensures fault { IfErr result (IsPutFault S.kind dev.old dev.new bytes.now) }
     ensures due { IfErr result (MayFault dev.old.settings (seen kv.now at.old) s.now
         (Op.Append f bytes.now)) }
-    ensures grows { Grows at.old at.new }
-    ensures dev { GoesOn S.kind dev.old dev.new [] }
+    ensures leaves { LeavesStores S.kind
+        (option_map (file_at_end dev.old (seen kv.now at.old)) (handle_in s.now f))
+        (between dev.old dev.new) }
+    ensures puts { PutsBytes (record { kind = S.kind; before = dev.old; after = dev.new })
+        (in_hand at.old s.now) (in_hand at.new s.now) (handle_in s.now f) bytes.now result }
 {
     let Some(spot) = handle_of(s, f) else {
         return Ok(only(Answer::Refused(Word::NoHandle)));
@@ -145,20 +141,14 @@ pub(crate) fn append_stored(
     requires label { f < MAX_HANDLES }
     ensures keys { OnOk result (at.new.reads ≡ at.old.reads ++ append_keys
         settings.region (seen kv.now at.old) (handle_in s.now f) kept.len) }
-    ensures step { IfOk result (λ a. (x : Caller) (bytes : List ℕ) → x.size ≡ settings.region →
-        length bytes ≡ kept.len → (kept.slice ≡ None → kept.len ≡ 0) →
-        IsStepWith (BringsSlice kept.slice bytes) x (seen kv.now at.old) (in_hand at.old s.now)
-        (in_hand at.new s.now) (Op.Append f bytes) a) }
+    ensures step { IfOk result (λ a. IsPlainStep settings.region (seen kv.now at.old)
+        (in_hand at.old s.now) (in_hand at.new s.now) (RwOp.Append f (Given.Stored kept)) a) }
     ensures made { IfOk result (λ a. Makes a (OfSlice kept.slice (AddsAt
         settings.region (seen kv.now at.old) (handle_in s.now f))) at.old at.new) }
-    ensures answers { IfOk result (λ a. (x : Caller) (bytes : List ℕ) → x.size ≡ settings.region →
-        length bytes ≡ kept.len → kept.slice ≡ None → Answers x (seen kv.now at.old) s.now
-        (append_keys settings.region (seen kv.now at.old) (handle_in s.now f) kept.len)
-        (Op.Append f bytes) a) }
+    ensures answers { IfOk result (λ a. IsBareAnswer settings.region (seen kv.now at.old) s.now
+        (RwOp.Append f (Given.Stored kept)) a) }
     ensures bare { OnOk result (kept.slice ≡ None → at.new.changes ≡ at.old.changes) }
-    ensures logged { IfOk result (λ a. IsLogged a) }
-    ensures refused { IfOk result (λ a. IsRefusal a → at.new.changes ≡ at.old.changes) }
-    ensures grows { Grows at.old at.new }
+    ensures alters { Alters (in_hand at.old s.now) (in_hand at.new s.now) result }
 {
     let Some(spot) = handle_of(s, f) else {
         return Ok(Answer::Refused(Word::NoHandle));

@@ -1,16 +1,20 @@
 //! The calls that open and close a handle, and tell where it stands.
 
-ghost use Rattle.std.specs.Prelude.{◌≡◌, ◌<◌, ◌++◌, IsTrue, IfOk, OnOk, OnErr};
+ghost use Rattle.std.specs.Prelude.{◌≡◌, ◌<◌, ℕ, None, IsTrue, IfOk};
 ghost use Rattle.wtf_kv.specs.Stores.{is_pinned};
-ghost use Rattle.wtf_occ.specs.Attempts.{Grows};
 ghost use Rattle.wtf_model.specs.declared.limits.TheConstants.{MAX_HANDLES};
 ghost use Rattle.wtf_model.specs.Steps.{IsLogged};
 ghost use Rattle.wtf_meta.specs.Maps.{Map, seen};
-ghost use Rattle.wtf_meta.specs.Sessions.{handle_in};
+ghost use Rattle.wtf_meta.specs.Sessions.{handle_in, SetsHandle};
 ghost use Rattle.wtf_meta.specs.Calls.{Caller, InHand};
-ghost use Rattle.wtf_steps.specs.Steps.{in_hand, IsStepWith, NeedsNoBytes, IsRefusal};
+ghost use Rattle.wtf_steps.specs.Holding.{LeavesHand};
+ghost use Rattle.wtf_steps.specs.Steps.{in_hand, IsStepWith, NeedsNoBytes};
+ghost use Rattle.wtf_rw.specs.Called.{Looks};
+ghost use Rattle.wtf_rw.specs.Held.{OpensFile};
+ghost use Rattle.wtf_rw.specs.Ops.{IsPlainStep};
 ghost use Rattle.wtf_rw.specs.Recorded.{open_keys};
 
+use crate::RwOp;
 use std::alloc::Global;
 use wtf_base::OutOfMemory;
 use wtf_index::look_up;
@@ -35,17 +39,12 @@ pub(crate) fn open(
 ) -> Result<Answer, OutOfMemory>
     requires pinned { IsTrue (is_pinned kv.now at.old.base) }
     requires label { f < MAX_HANDLES }
-    ensures keys { OnOk result
-        (at.new.reads ≡ at.old.reads ++ open_keys (handle_in s.old f) p.now) }
-    ensures step { IfOk result (λ a. (x : Caller) →
-        IsStepWith NeedsNoBytes x (seen kv.now at.old) (in_hand at.old s.old) (in_hand at.new s.new)
-        (Op.Open f p.now) a) }
-    ensures logged { IfOk result (λ a. IsLogged a) }
-    ensures same { OnOk result (at.new.changes ≡ at.old.changes) }
-    ensures refused { IfOk result
-        (λ a. IsRefusal a → (at.new.changes ≡ at.old.changes) × (s.new ≡ s.old)) }
-    ensures grows { Grows at.old at.new }
-    ensures err { OnErr result (s.new ≡ s.old) }
+    ensures step { (b : ℕ) → IfOk result (λ a. IsPlainStep b (seen kv.now at.old)
+        (in_hand at.old s.old) (in_hand at.new s.new) (RwOp.Open f p.entry) a) }
+    ensures holds { IfOk result (λ a. LeavesHand a
+        (OpensFile (seen kv.now at.old) f p.now) s.old s.new) }
+    ensures looks { Looks (open_keys (handle_in s.old f) p.now) (in_hand at.old s.old)
+        (in_hand at.new s.new) result }
 {
     let None = handle_of(s, f) else {
         return Ok(Answer::Refused(Word::InUse));
@@ -72,8 +71,8 @@ pub(crate) fn close(s: &mut Session, f: u8) -> Answer
     requires label { f < MAX_HANDLES }
     ensures step { (x : Caller) (b : Map) (now : InHand) → now.session ≡ s.old →
         IsStepWith NeedsNoBytes x b now (in_hand now.at s.new) (Op.Close f) result }
+    ensures holds { LeavesHand result (SetsHandle f None) s.old s.new }
     ensures logged { IsLogged result }
-    ensures refused { IsRefusal result → s.new ≡ s.old }
 {
     let Some(_) = handle_of(s, f) else {
         return Answer::Refused(Word::NoHandle);

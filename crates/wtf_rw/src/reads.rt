@@ -1,23 +1,24 @@
 //! The call that shows bytes of a file.
 
-ghost use Rattle.std.specs.Prelude.{◌≡◌, ◌⊎◌, ◌<◌, ◌≤◌, ◌++◌, [], IfOk, IfErr, OnOk, OnErr, IsTrue, Some};
+ghost use Rattle.std.specs.Prelude.{◌≡◌, ◌⊎◌, ◌<◌, ◌≤◌, [], IfOk, IfErr, IsTrue, Some};
 ghost use Rattle.wtf_kv.specs.Stores.{is_pinned};
-ghost use Rattle.wtf_occ.specs.Attempts.{Grows};
 ghost use Rattle.wtf_model.specs.declared.limits.TheConstants.{MAX_HANDLES, MAX_SHOWN};
-ghost use Rattle.wtf_model.specs.Steps.{IsLogged};
 ghost use Rattle.wtf_meta.specs.declared.session.Handle as handle;
 ghost use Rattle.wtf_meta.specs.Maps.{seen};
 ghost use Rattle.wtf_meta.specs.FileEdits.{file_of};
 ghost use Rattle.wtf_meta.specs.Sessions.{handle_in};
 ghost use Rattle.wtf_meta.specs.Calls.{Caller};
-ghost use Rattle.wtf_region.specs.Devs.{IsSoundDev, GoesOn, stores, between};
+ghost use Rattle.wtf_region.specs.Devs.{IsSoundDev, GoesOn, stores};
 ghost use Rattle.wtf_region.specs.Inside.{IsStoredInside};
-ghost use Rattle.wtf_region.specs.Showing.{OnlyRead};
 ghost use Rattle.wtf_steps.specs.Recorded.{read_keys, found_in};
-ghost use Rattle.wtf_rw.specs.Reads.{TellsRead, LacksRead};
+ghost use Rattle.wtf_rw.specs.Called.{ReadsBytes};
+ghost use Rattle.wtf_rw.specs.Reads.{TellsRead, RwReads, LacksRead};
 ghost use Rattle.wtf_steps.specs.Faults.{MayFault};
-ghost use Rattle.wtf_steps.specs.Steps.{in_hand, IsStepWith, IsRefusal};
+ghost use Rattle.wtf_steps.specs.Holding.{LeavesHand, MovesOn};
+ghost use Rattle.wtf_steps.specs.Recalling.{RecallsFor};
+ghost use Rattle.wtf_steps.specs.Steps.{in_hand, IsStepWith};
 
+use crate::{Done, RwOp};
 use std::alloc::Global;
 use wtf_base::{Bytes, Fault};
 use wtf_dev::SliceStore;
@@ -42,34 +43,36 @@ pub(crate) fn read<S: SliceStore>(
     s: &mut Session,
     f: u8,
     n: u64,
-) -> Result<Answer, Fault>
+) -> Result<Done, Fault>
     requires sound { IsSoundDev S.kind dev.old }
     requires pinned { IsTrue (is_pinned kv.now at.old.base) }
     requires inside { IsStoredInside S.kind (stores dev.old) dev.old.settings (seen kv.now at.old) }
     requires label { f < MAX_HANDLES }
     requires few { n ≤ MAX_SHOWN }
-    ensures keys { OnOk result (at.new.reads ≡ at.old.reads ++ read_keys dev.old.settings.region
-        (seen kv.now at.old) (handle_in s.old f) n) }
-    ensures step { IfOk result (λ a. (x : Caller) → x.size ≡ dev.old.settings.region →
-        IsStepWith (TellsRead S.kind dev.old dev.new (seen kv.now at.old)) x
-        (seen kv.now at.old) (in_hand at.old s.old) (in_hand at.new s.new) (Op.Read f n) a) }
-    ensures logged { IfOk result (λ a. IsLogged a) }
-    ensures same { OnOk result (at.new.changes ≡ at.old.changes) }
-    ensures refused { IfOk result (λ a. IsRefusal a →
-        (dev.new ≡ dev.old) × (at.new.changes ≡ at.old.changes) × (s.new ≡ s.old)) }
+    ensures step { IfOk result (λ d. (x : Caller) → x.size ≡ dev.old.settings.region →
+        IsStepWith (TellsRead S.kind dev.old dev.new (seen kv.now at.old)) x (seen kv.now at.old)
+        (in_hand at.old s.old) (in_hand at.new s.new) (Op.Read f n) d.answer) }
+    ensures holds { IfOk result (λ d. LeavesHand d.answer (MovesOn f
+        (λ h. found_in dev.old.settings.region (seen kv.now at.old) h n)) s.old s.new) }
+    ensures recalls { IfOk result (λ d. RecallsFor S.kind d.answer
+        (RwReads dev.old.settings.region (seen kv.now at.old) s.old (RwOp.Read f n))
+        dev.old dev.new) }
     ensures fault { IfErr result (λ why. (why ≡ Fault.Memory) ⊎ ((h : handle.Handle) ×
         (handle_in s.old f ≡ Some h) × LacksRead S.kind dev.old dev.new
         (file_of h.inode (seen kv.now at.old)) h.off
         (found_in dev.old.settings.region (seen kv.now at.old) h n) why)) }
     ensures due { IfErr result
         (MayFault dev.old.settings (seen kv.now at.old) s.old (Op.Read f n)) }
-    ensures err { OnErr result (s.new ≡ s.old) }
-    ensures grows { Grows at.old at.new }
-    ensures reads { OnlyRead S.kind (between dev.old dev.new) }
+    ensures reads { ReadsBytes (record { kind = S.kind; before = dev.old; after = dev.new })
+        (read_keys dev.old.settings.region (seen kv.now at.old) (handle_in s.old f) n)
+        (in_hand at.old s.old) (in_hand at.new s.new) result }
     ensures dev { GoesOn S.kind dev.old dev.new [] }
 {
     let Some(spot) = handle_of(s, f) else {
-        return Ok(Answer::Refused(Word::NoHandle));
+        return Ok(Done {
+            answer: Answer::Refused(Word::NoHandle),
+            own: None,
+        });
     };
     let settings = dev.settings;
     let len = match file_len(kv, at, spot.inode, settings) {
@@ -88,5 +91,8 @@ pub(crate) fn read<S: SliceStore>(
         Err(why) => return Err(why),
     }
     s.move_handle(f, spot.off + k);
-    Ok(Answer::Shown(Bytes::of(out)))
+    Ok(Done {
+        answer: Answer::Shown(Bytes::of(out)),
+        own: None,
+    })
 }

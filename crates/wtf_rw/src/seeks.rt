@@ -1,6 +1,6 @@
 //! The calls that move a handle, and show what stands at a path.
 
-ghost use Rattle.std.specs.Prelude.{◌≡◌, ◌<◌, ◌++◌, [], IsTrue, IfOk, OnOk, OnErr, IsSome};
+ghost use Rattle.std.specs.Prelude.{◌≡◌, ◌<◌, [], IsTrue, IfOk, OnOk, IsSome};
 ghost use Rattle.wtf_kv.specs.Stores.{is_pinned};
 ghost use Rattle.wtf_occ.specs.Attempts.{Grows, GrowsBy};
 ghost use Rattle.wtf_model.specs.declared.limits.TheConstants.{MAX_HANDLES};
@@ -9,17 +9,21 @@ ghost use Rattle.wtf_meta.specs.Maps.{seen};
 ghost use Rattle.wtf_meta.specs.Files.{file_len as file_length};
 ghost use Rattle.wtf_meta.specs.FileEdits.{file_of};
 ghost use Rattle.wtf_meta.specs.Sessions.{SessionView, handle_in};
-ghost use Rattle.wtf_meta.specs.Calls.{Caller};
-ghost use Rattle.wtf_steps.specs.Steps.{in_hand, IsStepWith, NeedsNoBytes, IsRefusal};
+ghost use Rattle.wtf_steps.specs.Holding.{LeavesHand};
+ghost use Rattle.wtf_steps.specs.Steps.{in_hand, IsRefusal};
+ghost use Rattle.wtf_rw.specs.Called.{Looks};
+ghost use Rattle.wtf_rw.specs.Held.{SeeksTo};
+ghost use Rattle.wtf_rw.specs.Ops.{IsPlainStep};
 ghost use Rattle.wtf_rw.specs.Recorded.{seek_keys, place_keys, stat_keys};
 ghost use Rattle.wtf_rw.specs.Seeks.{lands, IsSought};
 
+use crate::RwOp;
 use std::alloc::Global;
 use wtf_base::{InodeId, OutOfMemory, Settings};
 use wtf_index::look_up;
 use wtf_kv::Kv;
 use wtf_meta::Session;
-use wtf_model::{Answer, Op, Seek, Word};
+use wtf_model::{Answer, Seek, Word};
 use wtf_occ::Attempt;
 use wtf_path::Path;
 use wtf_region::file_len;
@@ -106,17 +110,12 @@ pub(crate) fn seek(
 ) -> Result<Answer, OutOfMemory>
     requires pinned { IsTrue (is_pinned kv.now at.old.base) }
     requires label { f < MAX_HANDLES }
-    ensures keys { OnOk result (at.new.reads ≡
-        at.old.reads ++ seek_keys (seen kv.now at.old) (handle_in s.old f) place) }
-    ensures step { IfOk result (λ a. (x : Caller) → x.size ≡ settings.region →
-        IsStepWith NeedsNoBytes x (seen kv.now at.old) (in_hand at.old s.old) (in_hand at.new s.new)
-        (Op.Seek f place) a) }
-    ensures logged { IfOk result (λ a. IsLogged a) }
-    ensures same { OnOk result (at.new.changes ≡ at.old.changes) }
-    ensures refused { IfOk result
-        (λ a. IsRefusal a → (at.new.changes ≡ at.old.changes) × (s.new ≡ s.old)) }
-    ensures grows { Grows at.old at.new }
-    ensures err { OnErr result (s.new ≡ s.old) }
+    ensures step { IfOk result (λ a. IsPlainStep settings.region (seen kv.now at.old)
+        (in_hand at.old s.old) (in_hand at.new s.new) (RwOp.Seek f place) a) }
+    ensures holds { IfOk result (λ a. LeavesHand a
+        (SeeksTo settings.region (seen kv.now at.old) f place) s.old s.new) }
+    ensures looks { Looks (seek_keys (seen kv.now at.old) (handle_in s.old f) place)
+        (in_hand at.old s.old) (in_hand at.new s.new) result }
 {
     let Some(spot) = handle_of(s, f) else {
         return Ok(Answer::Refused(Word::NoHandle));
@@ -137,14 +136,10 @@ pub(crate) fn stat(
     settings: Settings,
 ) -> Result<Answer, OutOfMemory>
     requires { IsTrue (is_pinned kv.now at.old.base) }
-    ensures keys { OnOk result
-        (at.new.reads ≡ at.old.reads ++ stat_keys (seen kv.now at.old) p.now) }
-    ensures step { IfOk result (λ a. (x : Caller) (s : SessionView) → x.size ≡ settings.region →
-        IsStepWith NeedsNoBytes x (seen kv.now at.old) (in_hand at.old s) (in_hand at.new s)
-        (Op.Stat p.now) a) }
-    ensures logged { IfOk result (λ a. IsLogged a) }
-    ensures same { OnOk result (at.new.changes ≡ at.old.changes) }
-    ensures grows { Grows at.old at.new }
+    ensures step { (s : SessionView) → IfOk result (λ a. IsPlainStep settings.region
+        (seen kv.now at.old) (in_hand at.old s) (in_hand at.new s) (RwOp.Stat p.entry) a) }
+    ensures looks { (s : SessionView) → Looks (stat_keys (seen kv.now at.old) p.now)
+        (in_hand at.old s) (in_hand at.new s) result }
 {
     let inode = match look_up(alloc, kv, at, p)? {
         Some(Node::File(inode)) => inode,

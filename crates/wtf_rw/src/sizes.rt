@@ -3,19 +3,20 @@
 ghost use Rattle.std.specs.Prelude.{◌≡◌, ◌<◌, ◌≤◌, ◌*◌, [], IfOk, OnOk};
 ghost use Rattle.wtf_occ.specs.Attempts.{Grows};
 ghost use Rattle.wtf_model.specs.declared.limits.TheConstants.{MAX_HANDLES, MAX_REGIONS};
-ghost use Rattle.wtf_model.specs.Steps.{IsLogged};
 ghost use Rattle.wtf_meta.specs.Maps.{Map};
 ghost use Rattle.wtf_meta.specs.Sessions.{handle_in};
-ghost use Rattle.wtf_meta.specs.Calls.{Caller};
 ghost use Rattle.wtf_region.specs.Edited.{Edited};
-ghost use Rattle.wtf_steps.specs.Steps.{in_hand, IsStepWith, NeedsNoBytes, IsRefusal};
+ghost use Rattle.wtf_steps.specs.Steps.{in_hand};
 ghost use Rattle.wtf_steps.specs.Made.{Makes};
+ghost use Rattle.wtf_rw.specs.Called.{Alters};
+ghost use Rattle.wtf_rw.specs.Ops.{IsPlainStep};
 ghost use Rattle.wtf_rw.specs.Sizes.{CutsTo, Zeroes};
 ghost use Rattle.wtf_rw.specs.Changed.{CutsAt, PunchesAt};
 
+use crate::RwOp;
 use wtf_base::{InodeId, OutOfMemory, Settings};
 use wtf_meta::Session;
-use wtf_model::{Answer, Op, Word};
+use wtf_model::{Answer, Word};
 use wtf_occ::Attempt;
 use wtf_steps::handle_of;
 use wtf_values::{Delta, Key, Value};
@@ -55,14 +56,11 @@ pub(crate) fn truncate(
 ) -> Result<Answer, OutOfMemory>
     requires label { f < MAX_HANDLES }
     ensures keys { OnOk result (at.new.reads ≡ at.old.reads) }
-    ensures step { IfOk result (λ a. (x : Caller) (b : Map) → x.size ≡ settings.region →
-        IsStepWith NeedsNoBytes x b (in_hand at.old s.now) (in_hand at.new s.now) (Op.Truncate f n)
-        a) }
+    ensures step { (w : Map) → IfOk result (λ a. IsPlainStep settings.region w
+        (in_hand at.old s.now) (in_hand at.new s.now) (RwOp.Truncate f n) a) }
     ensures made { IfOk result (λ a.
         Makes a (CutsAt settings.region (handle_in s.now f) n) at.old at.new) }
-    ensures logged { IfOk result (λ a. IsLogged a) }
-    ensures refused { IfOk result (λ a. IsRefusal a → at.new.changes ≡ at.old.changes) }
-    ensures grows { Grows at.old at.new }
+    ensures alters { Alters (in_hand at.old s.now) (in_hand at.new s.now) result }
 {
     let Some(spot) = handle_of(s, f) else {
         return Ok(Answer::Refused(Word::NoHandle));
@@ -115,14 +113,11 @@ pub(crate) fn punch(
 ) -> Result<Answer, OutOfMemory>
     requires label { f < MAX_HANDLES }
     ensures keys { OnOk result (at.new.reads ≡ at.old.reads) }
-    ensures step { IfOk result (λ a. (x : Caller) (b : Map) → x.size ≡ settings.region →
-        IsStepWith NeedsNoBytes x b (in_hand at.old s.now) (in_hand at.new s.now) (Op.Punch f n)
-        a) }
+    ensures step { (w : Map) → IfOk result (λ a. IsPlainStep settings.region w
+        (in_hand at.old s.now) (in_hand at.new s.now) (RwOp.Punch f n) a) }
     ensures made { IfOk result (λ a.
         Makes a (PunchesAt settings.region (handle_in s.now f) n) at.old at.new) }
-    ensures logged { IfOk result (λ a. IsLogged a) }
-    ensures refused { IfOk result (λ a. IsRefusal a → at.new.changes ≡ at.old.changes) }
-    ensures grows { Grows at.old at.new }
+    ensures alters { Alters (in_hand at.old s.now) (in_hand at.new s.now) result }
 {
     let Some(spot) = handle_of(s, f) else {
         return Ok(Answer::Refused(Word::NoHandle));

@@ -1,24 +1,28 @@
 //! The call that writes bytes at a handle's offset.
 
-ghost use Rattle.std.specs.Prelude.{◌≡◌, ◌⊎◌, ◌<◌, ◌≤◌, ◌+◌, ◌*◌, ◌∷◌, [], ℕ, List, length, Some, None, IfOk, IfErr, OnOk, OnErr, IsSome};
+ghost use Rattle.std.specs.Prelude.{◌≡◌, ◌<◌, ◌≤◌, ◌+◌, ◌*◌, ◌∷◌, [], length, Some, None, IfOk, IfErr, OnOk, OnErr, IsSome};
 ghost use Rattle.std.specs.Option.{option_map};
 ghost use Rattle.wtf_base.specs.Slices.{len_of};
 ghost use Rattle.wtf_occ.specs.Attempts.{Grows};
 ghost use Rattle.wtf_model.specs.declared.limits.TheConstants.{MAX_HANDLES, MAX_REGIONS, MAX_WRITTEN};
-ghost use Rattle.wtf_model.specs.Steps.{IsLogged};
 ghost use Rattle.wtf_meta.specs.declared.session.Handle as handle;
 ghost use Rattle.wtf_meta.specs.Maps.{Map};
 ghost use Rattle.wtf_meta.specs.Sessions.{handle_in, SetsHandle, moved_to};
 ghost use Rattle.wtf_meta.specs.Calls.{Caller};
-ghost use Rattle.wtf_region.specs.Devs.{IsSoundDev, GoesOn, stores, place_in};
+ghost use Rattle.wtf_region.specs.Devs.{IsSoundDev, stores, place_in, between};
 ghost use Rattle.wtf_region.specs.Edited.{Edited, LaysPieces};
-ghost use Rattle.wtf_steps.specs.Steps.{in_hand, IsStepWith, IsRefusal};
+ghost use Rattle.wtf_steps.specs.Steps.{in_hand, IsStepWith};
 ghost use Rattle.wtf_steps.specs.Made.{Makes, LaysAt};
-ghost use Rattle.wtf_rw.specs.Stored.{TellsOwn, IsOwn, IsPutFault, BringsSlice, Answers};
+ghost use Rattle.wtf_rw.specs.Called.{PutsBytes, Alters};
+ghost use Rattle.wtf_rw.specs.Held.{held_len};
+ghost use Rattle.wtf_rw.specs.Ops.{IsPlainStep, IsBareAnswer, file_in};
+ghost use Rattle.wtf_rw.specs.Stored.{TellsOwn, IsOwn};
 ghost use Rattle.wtf_rw.specs.Changed.{OfSlice};
 ghost use Rattle.wtf_steps.specs.Faults.{MayFault};
+ghost use Rattle.wtf_steps.specs.Holding.{LeavesHand, MovesOn};
+ghost use Rattle.wtf_steps.specs.Leaving.{LeavesStores};
 
-use crate::Done;
+use crate::{Done, Given, RwOp};
 use wtf_base::{Fault, Kept, OutOfMemory, Settings, Slice};
 use wtf_dev::SliceStore;
 use wtf_meta::Session;
@@ -91,22 +95,16 @@ pub(crate) fn write_fresh<S: SliceStore>(
         (in_hand at.old s.old) (in_hand at.new s.new) (Op.Write f bytes.now) d.answer) }
     ensures made { IfOk result (λ d. Makes d.answer
         (OfSlice d.own (LaysAt dev.old.settings.region (handle_in s.old f))) at.old at.new) }
+    ensures holds { IfOk result (λ d.
+        LeavesHand d.answer (MovesOn f (λ h. length bytes.now)) s.old s.new) }
     ensures own { IfOk result (λ d. (h : handle.Handle) → handle_in s.old f ≡ Some h →
         IsOwn S.kind dev.old dev.new (place_in dev.old h.inode h.off) bytes.now d.own) }
-    ensures closed { IfOk result
-        (λ d. handle_in s.old f ≡ None → (dev.new ≡ dev.old) × (d.own ≡ None)) }
-    ensures lacks { IfOk result (λ d. d.own ≡ None →
-        (length bytes.now ≡ 0) ⊎ IsRefusal d.answer) }
-    ensures done { IfOk result (λ d. IsSome d.own → d.answer ≡ Answer.Okay) }
-    ensures logged { IfOk result (λ d. IsLogged d.answer) }
-    ensures refused { IfOk result (λ d. IsRefusal d.answer → (dev.new ≡ dev.old) ×
-        (d.own ≡ None) × (at.new.changes ≡ at.old.changes) × (s.new ≡ s.old)) }
-    ensures fault { IfErr result (IsPutFault S.kind dev.old dev.new bytes.now) }
     ensures due { IfErr result (λ why. (b : Map) →
         MayFault dev.old.settings b s.old (Op.Write f bytes.now) why) }
-    ensures err { OnErr result (s.new ≡ s.old) }
-    ensures grows { Grows at.old at.new }
-    ensures dev { GoesOn S.kind dev.old dev.new [] }
+    ensures leaves { LeavesStores S.kind (option_map (file_in dev.old) (handle_in s.old f))
+        (between dev.old dev.new) }
+    ensures puts { PutsBytes (record { kind = S.kind; before = dev.old; after = dev.new })
+        (in_hand at.old s.old) (in_hand at.new s.new) (handle_in s.old f) bytes.now result }
 {
     let Some(spot) = handle_of(s, f) else {
         return Ok(only(Answer::Refused(Word::NoHandle)));
@@ -146,21 +144,16 @@ pub(crate) fn write_stored(
 ) -> Result<Answer, OutOfMemory>
     requires label { f < MAX_HANDLES }
     ensures keys { OnOk result (at.new.reads ≡ at.old.reads) }
-    ensures step { IfOk result (λ a. (x : Caller) (b : Map) (bytes : List ℕ) →
-        x.size ≡ settings.region → length bytes ≡ kept.len → (kept.slice ≡ None → kept.len ≡ 0) →
-        IsStepWith (BringsSlice kept.slice bytes) x b (in_hand at.old s.old) (in_hand at.new s.new)
-        (Op.Write f bytes) a) }
+    ensures step { (w : Map) → IfOk result (λ a. IsPlainStep settings.region w
+        (in_hand at.old s.old) (in_hand at.new s.new) (RwOp.Write f (Given.Stored kept)) a) }
     ensures made { IfOk result (λ a. Makes a
         (OfSlice kept.slice (LaysAt settings.region (handle_in s.old f))) at.old at.new) }
-    ensures answers { IfOk result (λ a. (x : Caller) (b : Map) (bytes : List ℕ) →
-        x.size ≡ settings.region → length bytes ≡ kept.len →
-        Answers x b s.old [] (Op.Write f bytes) a) }
+    ensures holds { IfOk result (λ a. LeavesHand a
+        (MovesOn f (λ h. held_len kept.slice)) s.old s.new) }
+    ensures answers { (w : Map) → IfOk result (λ a. IsBareAnswer settings.region w s.old
+        (RwOp.Write f (Given.Stored kept)) a) }
     ensures bare { OnOk result (kept.slice ≡ None → (at.new ≡ at.old) × (s.new ≡ s.old)) }
-    ensures logged { IfOk result (λ a. IsLogged a) }
-    ensures refused { IfOk result
-        (λ a. IsRefusal a → (at.new.changes ≡ at.old.changes) × (s.new ≡ s.old)) }
-    ensures err { OnErr result (s.new ≡ s.old) }
-    ensures grows { Grows at.old at.new }
+    ensures alters { Alters (in_hand at.old s.old) (in_hand at.new s.new) result }
 {
     let Some(spot) = handle_of(s, f) else {
         return Ok(Answer::Refused(Word::NoHandle));

@@ -6,3 +6,6 @@ pub mod AppendWays
 pub mod ReadWays
 pub mod FaultWays
 pub mod InsideWays
+pub mod Handing
+pub mod Leaving
+pub mod Recalling

@@ -1,5 +1,5 @@
 -- The bytes that a call finds at a handle.
-use Rattle.std.proofs.Common.{◌≡◌, ℕ, ◌+◌, ◌*◌, ◌<◌, List, [], ◌∷◌, sym, ap, ◌∙◌, subst, arith, inl, inr}
+use Rattle.std.proofs.Common.{◌≡◌, ℕ, ◌+◌, ◌-◌, ◌*◌, ◌<◌, List, [], ◌∷◌, sym, ap, ◌∙◌, subst, arith, inl, inr}
 use Rattle.std.proofs.lemmas.Bool.{cases_lt}
 use Rattle.wtf_base.specs.declared.fault.Fault.{Fault}
 use Rattle.wtf_base.specs.declared.ids.InodeId.{InodeId}
@@ -17,6 +17,7 @@ use Rattle.wtf_meta.specs.FileEdits.{file_of}
 use Rattle.wtf_meta.specs.Appends.{touched}
 use Rattle.wtf_meta.specs.Calls.{Did}
 use Rattle.wtf_region.specs.declared.dev.Dev.{Dev}
+use Rattle.wtf_region.specs.Bases.{slices_of, bases_in}
 use Rattle.wtf_region.specs.Reads.{LacksRegion}
 use Rattle.wtf_steps.specs.Recorded.{found, found_in}
 
@@ -65,9 +66,14 @@ lacks_due kind old new u b i h off from k m why map inode offs is count lacks =
     subst (λ (v : FileView). LacksRegion kind old new v h.off m why) (ap (λ (w : Map). file_of i w) map ∙ ap (λ (j : InodeId). file_of j b) inode) (record {
       mid = lacks.mid;
       goes = lacks.goes;
+      before = lacks.before;
+      recalls = lacks.recalls;
       some = omega (arith, lacks.some, count);
       region = lacks.region;
       from = omega (arith, lacks.from, begins, offs);
       upto = omega (arith, lacks.upto, begins, offs, count);
+      earlier = subst (λ (o : ℕ). slices_of lacks.before ≡ bases_in old.settings.region (file_of i u) o (lacks.region * old.settings.region - o))
+          (begins ∙ offs) lacks.earlier;
       cause = lacks.cause;
+      left = lacks.left;
     })

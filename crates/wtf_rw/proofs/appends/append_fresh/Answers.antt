@@ -22,7 +22,10 @@ use Rattle.wtf_region.specs.Devs.{stores, between, place_in}
 use Rattle.wtf_region.specs.declared.added.Added.{Added}
 use Rattle.wtf_region.specs.declared.added.Added.TheVariants as added
 use Rattle.wtf_region.specs.Edited.{IsFileEnd, Recorded, LacksRoom, IsAdded}
+use Rattle.std.specs.Option.{option_map}
 use Rattle.wtf_steps.specs.Steps.{in_hand}
+use Rattle.wtf_steps.proofs.Leaving.{leaves_all, leaves_put}
+use Rattle.wtf_rw.specs.Ops.{file_at_end}
 use Rattle.wtf_rw.specs.Stored.{HasRoom, ArePieces, end_place}
 use Rattle.wtf_model.proofs.ByteLaws.{append-none}
 use Rattle.wtf_steps.proofs.Ways.{no_handle, spot_open, spot_closed}
@@ -235,3 +238,68 @@ returns-in-Ok-add_at-clause-made g c =
     let is : IsAdded z i (file_of i b) (p ∷ []) at new added.Done = subst (λ (q : Added). IsAdded z i (file_of i b) (p ∷ []) at new q) done laid in
     brings_slice answer.Okay answer.Okay (Some slice) slice p (AddsAt z b o) at new refl refl c.piece_of.ensures.len c.piece_of.ensures.part
     (makes_added z b o open_at.handle i (p ∷ []) at new added.Done open_at.is open_at.inode is)
+
+ends_at : (r : Option ℕ) (k n : ℕ) → r ≡ Some k → IfSome r (λ j. j ≡ n) → k ≡ n
+ends_at r k n is at = subst (λ (o : Option ℕ). IfSome o (λ j. j ≡ n)) is at
+
+pub returns-in_default-clause-leaves : goal.returns-in_default-clause-leaves
+returns-in_default-clause-leaves g c =
+    let dev = c.args.dev.now in
+    leaves_all g.S.SliceStore.kind (option_map (file_at_end dev (seen c.args.kv.now c.args.at.now)) (handle_in c.args.s.now c.args.f)) dev
+
+pub returns-then-len-eq0-clause-leaves : goal.returns-then-len-eq0-clause-leaves
+returns-then-len-eq0-clause-leaves g c =
+    let dev = c.args.dev.now in
+    leaves_all g.S.SliceStore.kind (option_map (file_at_end dev (seen c.args.kv.now c.args.at.now)) (handle_in c.args.s.now c.args.f)) dev
+
+pub returns-in-Ok-clause-leaves : goal.returns-in-Ok-clause-leaves
+returns-in-Ok-clause-leaves g c =
+    let dev = c.args.dev.now in
+    leaves_all g.S.SliceStore.kind (option_map (file_at_end dev (seen c.args.kv.now c.args.at.now)) (handle_in c.args.s.now c.args.f)) dev
+
+pub returns-in-Err-clause-leaves : goal.returns-in-Err-clause-leaves
+returns-in-Err-clause-leaves g c =
+    let dev = c.args.dev.now in
+    leaves_all g.S.SliceStore.kind (option_map (file_at_end dev (seen c.args.kv.now c.args.at.now)) (handle_in c.args.s.now c.args.f)) dev
+
+pub returns-in-Err-store_bytes-clause-leaves : goal.returns-in-Err-store_bytes-clause-leaves
+returns-in-Err-store_bytes-clause-leaves g c =
+    let dev = c.args.dev.now in
+    let w = seen c.args.kv.now c.args.at.now in
+    let o = handle_in c.args.s.now c.args.f in
+    let i = c.in-Some.spot.inode in
+    let open_at = spot_open c.handle_of.result o c.in-Some.spot c.handle_of.ensures c.in-Some.is in
+    let at_end : c.in-Some-room.off ≡ end_place dev.settings.region (file_of i w) = ends_at c.room.result c.in-Some-room.off
+    (end_place dev.settings.region (file_of i w)) c.in-Some-room.is
+    (c.room.ensures.place (file_of i w) c.file_end-end.ensures.end) in
+    leaves_put g.S.SliceStore.kind (between dev c.store_bytes.new.dev) o (file_at_end dev w) open_at.handle (place_in dev i c.in-Some-room.off).file open_at.is
+    (ap (λ (n : ℕ). (place_in dev i n).file) at_end ∙ ap (λ (j : InodeId). (place_in dev j (end_place dev.settings.region (file_of j w))).file) open_at.inode)
+    c.in-Err-store_bytes.ensures.down c.in-Err-store_bytes.ensures.others c.in-Err-store_bytes.ensures.syncs
+
+pub returns-in-Ok-add_at-clause-leaves : goal.returns-in-Ok-add_at-clause-leaves
+returns-in-Ok-add_at-clause-leaves g c =
+    let dev = c.args.dev.now in
+    let w = seen c.args.kv.now c.args.at.now in
+    let o = handle_in c.args.s.now c.args.f in
+    let i = c.in-Some.spot.inode in
+    let open_at = spot_open c.handle_of.result o c.in-Some.spot c.handle_of.ensures c.in-Some.is in
+    let at_end : c.in-Some-room.off ≡ end_place dev.settings.region (file_of i w) = ends_at c.room.result c.in-Some-room.off
+    (end_place dev.settings.region (file_of i w)) c.in-Some-room.is
+    (c.room.ensures.place (file_of i w) c.file_end-end.ensures.end) in
+    leaves_put g.S.SliceStore.kind (between dev c.store_bytes.new.dev) o (file_at_end dev w) open_at.handle (place_in dev i c.in-Some-room.off).file open_at.is
+    (ap (λ (n : ℕ). (place_in dev i n).file) at_end ∙ ap (λ (j : InodeId). (place_in dev j (end_place dev.settings.region (file_of j w))).file) open_at.inode)
+    c.in-Ok-store_bytes.ensures.down c.in-Ok-store_bytes.ensures.others c.in-Ok-store_bytes.ensures.syncs
+
+pub returns-in-Err-add_at-clause-leaves : goal.returns-in-Err-add_at-clause-leaves
+returns-in-Err-add_at-clause-leaves g c =
+    let dev = c.args.dev.now in
+    let w = seen c.args.kv.now c.args.at.now in
+    let o = handle_in c.args.s.now c.args.f in
+    let i = c.in-Some.spot.inode in
+    let open_at = spot_open c.handle_of.result o c.in-Some.spot c.handle_of.ensures c.in-Some.is in
+    let at_end : c.in-Some-room.off ≡ end_place dev.settings.region (file_of i w) = ends_at c.room.result c.in-Some-room.off
+    (end_place dev.settings.region (file_of i w)) c.in-Some-room.is
+    (c.room.ensures.place (file_of i w) c.file_end-end.ensures.end) in
+    leaves_put g.S.SliceStore.kind (between dev c.store_bytes.new.dev) o (file_at_end dev w) open_at.handle (place_in dev i c.in-Some-room.off).file open_at.is
+    (ap (λ (n : ℕ). (place_in dev i n).file) at_end ∙ ap (λ (j : InodeId). (place_in dev j (end_place dev.settings.region (file_of j w))).file) open_at.inode)
+    c.in-Ok-store_bytes.ensures.down c.in-Ok-store_bytes.ensures.others c.in-Ok-store_bytes.ensures.syncs

@@ -70,10 +70,10 @@ returns-in_default-slice-clause-keys c =
     back.reads ∙ keys_due z b (handle_in s f) open_at.handle i (pieces_len (p ∷ [])) c.args.kept.len c.add_pieces.new.at.reads c.args.at.now.reads open_at.is open_at.inode (omega (arith, c.of-hole.ensures.len))
     (added_keys z i (file_of i b) (p ∷ []) c.args.at.now c.add_pieces.new.at c.in_ok-added.added c.in_ok-added.ensures.added)
 
-pub returns-in_default-slice-clause-grows : goal.returns-in_default-slice-clause-grows
-returns-in_default-slice-clause-grows c =
+pub returns-in_default-slice-clause-alters : goal.returns-in_default-slice-clause-alters
+returns-in_default-slice-clause-alters c =
     let back = rewound c.args.at.now c.add_pieces.new.at c.rewind.new.self c.mark-after.result.reads c.mark-before.result.changes c.rewind.ensures.cut (ap (λ m. m.reads) c.mark-after.ensures) (ap (λ m. m.changes) c.mark-before.ensures) c.in_ok-added.ensures.grows in
-    back.grows
+    record { logged = c.answer_to.ensures.logged; refused = λ h. (back.changes, refl); err = tt; grows = back.grows }
 
 pub returns-in_default-slice-clause-answers : goal.returns-in_default-slice-clause-answers
 returns-in_default-slice-clause-answers c x bytes size same bare =

@@ -20,8 +20,30 @@ returns-in-Err-clause-inside g c whole given hand =
     stays_inside g.met.S.SliceStore.laws c.args.dev.now c.run.new.dev (seen kv c.args.at.now) (seen kv c.rewind.new.self) c.args.s.now c.run.new.s c.requires.sound.shelf c.in-Err.ensures.dev.each
     (ap (λ (at : Attempted Key Delta). seen kv at) back) c.in-Err.ensures.err (c.requires.inside, hand)
 
-pub returns-in-Err-clause-grows : goal.returns-in-Err-clause-grows
-returns-in-Err-clause-grows g c =
+pub returns-in-Err-clause-call : goal.returns-in-Err-clause-call
+returns-in-Err-clause-call g c =
     let was = c.args.at.now in
-    subst (λ (at : Attempted Key Delta). Grows was at) (sym (c.rewind.ensures.back was c.in-Err.ensures.grows c.mark-mark.ensures))
-    (Grows-by was was [] [] (GrowsBy-nothing was))
+    let call = c.in-Err.ensures in
+    record {
+      keys = tt;
+      step = tt;
+      made = tt;
+      holds = tt;
+      recalls = tt;
+      own = tt;
+      lacks = tt;
+      done = tt;
+      logged = tt;
+      refused = tt;
+      answers = tt;
+      bare = tt;
+      fault = call.fault;
+      due = call.due;
+      err = call.err;
+      grows = subst (λ (at : Attempted Key Delta). Grows was at) (sym (c.rewind.ensures.back was call.grows c.mark-mark.ensures))
+          (Grows-by was was [] [] (GrowsBy-nothing was));
+      leaves = call.leaves;
+      reads = call.reads;
+      lists = call.lists;
+      dev = call.dev;
+    }

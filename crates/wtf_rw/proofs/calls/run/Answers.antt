@@ -1,262 +1,225 @@
-use Rattle.std.proofs.Common.{◌≡◌, ℕ, List, None, refl, sym, ap, ◌∙◌, subst}
-use Rattle.wtf_model.specs.declared.op.Op.TheVariants as op
+use Rattle.std.proofs.Common.{Ok, refl, ap, ◌∙◌}
+use Rattle.wtf_occ.specs.Attempts.{Attempted}
+use Rattle.wtf_values.specs.declared.key.Key.{Key}
+use Rattle.wtf_values.specs.declared.value.Delta.{Delta}
 use Rattle.wtf_meta.specs.Maps.{seen}
-use Rattle.wtf_meta.specs.Calls.{Did}
-use Rattle.wtf_region.specs.Devs.{stores}
 use Rattle.wtf_rw.specs.declared.op.Given.TheVariants.{Fresh, Stored}
 use Rattle.wtf_rw.specs.declared.op.RwOp.TheVariants as rw
-use Rattle.wtf_steps.specs.Steps.{in_hand, IsStepWith}
-use Rattle.wtf_rw.specs.Stored.{TellsOwn, BringsSlice}
-use Rattle.wtf_rw.specs.Reads.{TellsRead}
-use Rattle.wtf_steps.specs.Faults.{MayFault}
-use Rattle.wtf_rw.proofs.Dispatch.{as_named, weaker, plain, no_slice, fault_as}
-use Rattle.wtf_rw.specs.Changed.{RwMade}
-use Rattle.wtf_steps.proofs.Making.{makes_nothing}
-use Rattle.wtf_rw.proofs.MadeWays.{made_as}
+use Rattle.wtf_steps.specs.Steps.{in_hand}
+use Rattle.wtf_steps.proofs.Handing.{hand_stays}
+use Rattle.wtf_rw.specs.Held.{RwHolds}
+use Rattle.wtf_rw.proofs.Dispatch.{named, plain_call, looks_plain, looks_nowhere, only_is, no_keys, if_ok_all, on_ok, write_of, append_of, read_of}
 use Rattle.wtf_rw.proofs.calls.run.Goals as goal
 
-pub returns-in-Ok-clause-step : goal.returns-in-Ok-clause-step
-returns-in-Ok-clause-step g c =
-    let b = seen c.args.kv.now c.args.at.now in
+pub returns-in-Open : goal.returns-in-Open
+returns-in-Open g c =
+    let dev = c.args.dev.now in
+    let b = dev.settings.region in
+    let w = seen c.args.kv.now c.args.at.now in
     let old = in_hand c.args.at.now c.args.s.now in
     let new = in_hand c.open.new.at c.open.new.s in
-    as_named (record { kind = g.S.SliceStore.kind; before = c.args.dev.now; after = c.args.dev.now; map = b }) c.args.dev.now.settings.region old new
-    c.args.op.now (rw.Open c.in-Open.f c.in-Open.p) c.only.result.own None c.only.result.answer c.in-Ok.answer c.in-Open.is c.only.ensures.own c.only.ensures.answer
-    (λ x bytes size writes whole. plain x b old new (op.Open c.in-Open.f c.in-Open.p.now) c.in-Ok.answer (c.in-Ok.ensures.step x))
+    let p = rw.Open c.in-Open.f c.in-Open.p in
+    plain_call g.met.S.SliceStore.laws dev c.requires.sound w old new c.args.op.now p c.open.result c.plain.result c.in-Open.is c.plain.ensures tt
+    (looks_plain b w old new p c.open.result (c.open.ensures.step b) c.open.ensures.holds c.open.ensures.looks refl (λ bare. bare))
 
-pub returns-in-Close-clause-step : goal.returns-in-Close-clause-step
-returns-in-Close-clause-step g c =
-    let b = seen c.args.kv.now c.args.at.now in
-    let old = in_hand c.args.at.now c.args.s.now in
-    let new = in_hand c.args.at.now c.close-answer.new.s in
-    as_named (record { kind = g.S.SliceStore.kind; before = c.args.dev.now; after = c.args.dev.now; map = b }) c.args.dev.now.settings.region old new
-    c.args.op.now (rw.Close c.in-Close.f) c.only-in-Close.result.own None c.only-in-Close.result.answer c.close-answer.result c.in-Close.is c.only-in-Close.ensures.own c.only-in-Close.ensures.answer
-    (λ x bytes size writes whole. plain x b old new (op.Close c.in-Close.f) c.close-answer.result (c.close-answer.ensures.step x b old refl))
+pub returns-in-Close : goal.returns-in-Close
+returns-in-Close g c =
+    let dev = c.args.dev.now in
+    let b = dev.settings.region in
+    let at = c.args.at.now in
+    let s = c.args.s.now in
+    let t = c.close-answer.new.s in
+    let w = seen c.args.kv.now at in
+    let a = c.close-answer.result in
+    let p = rw.Close c.in-Close.f in
+    let out = only_is c.only.result a c.only.ensures.answer c.only.ensures.own in
+    plain_call g.met.S.SliceStore.laws dev c.requires.sound w (in_hand at s) (in_hand at t) c.args.op.now p (Ok a) (Ok c.only.result) c.in-Close.is out tt
+    (looks_plain b w (in_hand at s) (in_hand at t) p (Ok a) (λ x bytes size writes whole. c.close-answer.ensures.step x w (in_hand at s) refl)
+    c.close-answer.ensures.holds
+    (looks_nowhere at s t a c.close-answer.ensures.logged c.close-answer.ensures.holds.refused) refl (λ bare. bare))
 
-pub returns-in-Ok-seek-clause-step : goal.returns-in-Ok-seek-clause-step
-returns-in-Ok-seek-clause-step g c =
-    let b = seen c.args.kv.now c.args.at.now in
+pub returns-in-Seek : goal.returns-in-Seek
+returns-in-Seek g c =
+    let dev = c.args.dev.now in
+    let b = dev.settings.region in
+    let w = seen c.args.kv.now c.args.at.now in
     let old = in_hand c.args.at.now c.args.s.now in
     let new = in_hand c.seek.new.at c.seek.new.s in
-    as_named (record { kind = g.S.SliceStore.kind; before = c.args.dev.now; after = c.args.dev.now; map = b }) c.args.dev.now.settings.region old new
-    c.args.op.now (rw.Seek c.in-Seek.f c.in-Seek.place) c.only-in-Ok-seek.result.own None c.only-in-Ok-seek.result.answer c.in-Ok-seek.answer c.in-Seek.is c.only-in-Ok-seek.ensures.own c.only-in-Ok-seek.ensures.answer
-    (λ x bytes size writes whole. plain x b old new (op.Seek c.in-Seek.f c.in-Seek.place) c.in-Ok-seek.answer (c.in-Ok-seek.ensures.step x size))
+    let p = rw.Seek c.in-Seek.f c.in-Seek.place in
+    plain_call g.met.S.SliceStore.laws dev c.requires.sound w old new c.args.op.now p c.seek.result c.plain-in-Seek.result c.in-Seek.is
+    c.plain-in-Seek.ensures tt
+    (looks_plain b w old new p c.seek.result c.seek.ensures.step c.seek.ensures.holds c.seek.ensures.looks refl (λ bare. bare))
 
-pub returns-in-Tell-clause-step : goal.returns-in-Tell-clause-step
-returns-in-Tell-clause-step g c =
-    let b = seen c.args.kv.now c.args.at.now in
-    let old = in_hand c.args.at.now c.args.s.now in
-    let new = in_hand c.args.at.now c.args.s.now in
-    as_named (record { kind = g.S.SliceStore.kind; before = c.args.dev.now; after = c.args.dev.now; map = b }) c.args.dev.now.settings.region old new
-    c.args.op.now (rw.Tell c.in-Tell.f) c.only-in-Tell.result.own None c.only-in-Tell.result.answer c.tell-answer.result c.in-Tell.is c.only-in-Tell.ensures.own c.only-in-Tell.ensures.answer
-    (λ x bytes size writes whole. plain x b old new (op.Tell c.in-Tell.f) c.tell-answer.result (c.tell-answer.ensures.step x b old refl))
+pub returns-in-Tell : goal.returns-in-Tell
+returns-in-Tell g c =
+    let dev = c.args.dev.now in
+    let b = dev.settings.region in
+    let at = c.args.at.now in
+    let s = c.args.s.now in
+    let w = seen c.args.kv.now at in
+    let a = c.tell-answer.result in
+    let p = rw.Tell c.in-Tell.f in
+    let out = only_is c.only-in-Tell.result a c.only-in-Tell.ensures.answer c.only-in-Tell.ensures.own in
+    plain_call g.met.S.SliceStore.laws dev c.requires.sound w (in_hand at s) (in_hand at s) c.args.op.now p (Ok a) (Ok c.only-in-Tell.result) c.in-Tell.is out
+    tt
+    (looks_plain b w (in_hand at s) (in_hand at s) p (Ok a) (λ x bytes size writes whole. c.tell-answer.ensures.step x w (in_hand at s) refl)
+    (hand_stays a (RwHolds b w p) s refl)
+    (looks_nowhere at s s a c.tell-answer.ensures.logged (λ h. refl)) refl (λ bare. bare))
 
-pub returns-in-Ok-read-clause-step : goal.returns-in-Ok-read-clause-step
-returns-in-Ok-read-clause-step g c =
-    let b = seen c.args.kv.now c.args.at.now in
+pub returns-in-Read : goal.returns-in-Read
+returns-in-Read g c =
+    let dev = c.args.dev.now in
+    let left = c.read.new.dev in
+    let kind = g.S.SliceStore.kind in
+    let w = seen c.args.kv.now c.args.at.now in
     let old = in_hand c.args.at.now c.args.s.now in
     let new = in_hand c.read.new.at c.read.new.s in
-    as_named (record { kind = g.S.SliceStore.kind; before = c.args.dev.now; after = c.read.new.dev; map = b }) c.args.dev.now.settings.region old new
-    c.args.op.now (rw.Read c.in-Read.f c.in-Read.n) c.only-in-Ok-read.result.own None c.only-in-Ok-read.result.answer c.in-Ok-read.answer c.in-Read.is c.only-in-Ok-read.ensures.own c.only-in-Ok-read.ensures.answer
-    (λ x bytes size writes whole.
-    let F : Did → Type 0 = TellsRead g.S.SliceStore.kind c.args.dev.now c.read.new.dev b in
-    weaker F (λ did. F did × (no_slice ≡ None)) x b old new (op.Read c.in-Read.f c.in-Read.n) c.in-Ok-read.answer (λ did reads. (reads, refl))
-    (c.in-Ok-read.ensures.step x size))
+    let f = c.in-Read.f in
+    let n = c.in-Read.n in
+    let read = c.read.ensures in
+    named (record { kind = kind; before = dev; after = left; map = w }) old new c.args.op.now (rw.Read f n) c.read.result c.in-Read.is
+    (read_of kind dev left w old new f n c.read.result read.step read.holds read.recalls read.fault read.due read.reads read.dev)
 
-pub returns-in-Ok-write_fresh-clause-step : goal.returns-in-Ok-write_fresh-clause-step
-returns-in-Ok-write_fresh-clause-step g c =
-    let b = seen c.args.kv.now c.args.at.now in
+pub returns-in-Fresh : goal.returns-in-Fresh
+returns-in-Fresh g c =
+    let dev = c.args.dev.now in
+    let left = c.write_fresh.new.dev in
+    let kind = g.S.SliceStore.kind in
+    let w = seen c.args.kv.now c.args.at.now in
     let old = in_hand c.args.at.now c.args.s.now in
     let new = in_hand c.write_fresh.new.at c.write_fresh.new.s in
-    as_named (record { kind = g.S.SliceStore.kind; before = c.args.dev.now; after = c.write_fresh.new.dev; map = b }) c.args.dev.now.settings.region old new
-    c.args.op.now (rw.Write c.in-Write.f (Fresh c.in-Fresh.bytes)) c.in-Ok-write_fresh.done.own c.in-Ok-write_fresh.done.own c.in-Ok-write_fresh.done.answer c.in-Ok-write_fresh.done.answer (c.in-Write.is ∙ ap (rw.Write c.in-Write.f) c.in-Fresh.is) refl refl
-    (λ x bytes size writes whole. subst (λ (l : List ℕ). IsStepWith (TellsOwn g.S.SliceStore.kind (stores c.args.dev.now) (stores c.write_fresh.new.dev) c.in-Ok-write_fresh.done.own) x b old new (op.Write c.in-Write.f l) c.in-Ok-write_fresh.done.answer) (sym writes) (c.in-Ok-write_fresh.ensures.step x b size))
+    let f = c.in-Write.f in
+    let bs = c.in-Fresh.bytes in
+    let put = c.write_fresh.ensures in
+    named (record { kind = kind; before = dev; after = left; map = w }) old new c.args.op.now (rw.Write f (Fresh bs)) c.write_fresh.result
+    (c.in-Write.is ∙ ap (rw.Write f) c.in-Fresh.is)
+    (write_of kind dev left w old new f bs c.write_fresh.result put.keys put.step put.made put.holds put.own put.due put.leaves put.puts)
 
-pub returns-in-Ok-append_fresh-clause-step : goal.returns-in-Ok-append_fresh-clause-step
-returns-in-Ok-append_fresh-clause-step g c =
-    let b = seen c.args.kv.now c.args.at.now in
-    let old = in_hand c.args.at.now c.args.s.now in
-    let new = in_hand c.append_fresh.new.at c.args.s.now in
-    as_named (record { kind = g.S.SliceStore.kind; before = c.args.dev.now; after = c.append_fresh.new.dev; map = b }) c.args.dev.now.settings.region old new
-    c.args.op.now (rw.Append c.in-Append.f (Fresh c.in-Fresh-data.bytes)) c.in-Ok-append_fresh.done.own c.in-Ok-append_fresh.done.own c.in-Ok-append_fresh.done.answer c.in-Ok-append_fresh.done.answer (c.in-Append.is ∙ ap (rw.Append c.in-Append.f) c.in-Fresh-data.is) refl refl
-    (λ x bytes size writes whole. subst (λ (l : List ℕ). IsStepWith (TellsOwn g.S.SliceStore.kind (stores c.args.dev.now) (stores c.append_fresh.new.dev) c.in-Ok-append_fresh.done.own) x b old new (op.Append c.in-Append.f l) c.in-Ok-append_fresh.done.answer) (sym writes) (c.in-Ok-append_fresh.ensures.step x size))
-
-pub returns-in-Ok-write_stored-clause-step : goal.returns-in-Ok-write_stored-clause-step
-returns-in-Ok-write_stored-clause-step g c =
-    let b = seen c.args.kv.now c.args.at.now in
+pub returns-in-Stored : goal.returns-in-Stored
+returns-in-Stored g c =
+    let dev = c.args.dev.now in
+    let b = dev.settings.region in
+    let w = seen c.args.kv.now c.args.at.now in
     let old = in_hand c.args.at.now c.args.s.now in
     let new = in_hand c.write_stored.new.at c.write_stored.new.s in
-    as_named (record { kind = g.S.SliceStore.kind; before = c.args.dev.now; after = c.args.dev.now; map = b }) c.args.dev.now.settings.region old new
-    c.args.op.now (rw.Write c.in-Write.f (Stored c.in-Stored.kept)) c.only-in-Ok-write_stored.result.own None c.only-in-Ok-write_stored.result.answer c.in-Ok-write_stored.answer (c.in-Write.is ∙ ap (rw.Write c.in-Write.f) c.in-Stored.is) c.only-in-Ok-write_stored.ensures.own c.only-in-Ok-write_stored.ensures.answer
-    (λ x bytes size writes whole. let F : Did → Type 0 = BringsSlice c.in-Stored.kept.slice bytes in weaker F (λ did. F did × (no_slice ≡ None)) x b old new (op.Write c.in-Write.f bytes) c.in-Ok-write_stored.answer (λ did brings. (brings, refl)) (c.in-Ok-write_stored.ensures.step x b bytes size writes whole))
+    let p = rw.Write c.in-Write.f (Stored c.in-Stored.kept) in
+    let r = c.write_stored.result in
+    let put = c.write_stored.ensures in
+    plain_call g.met.S.SliceStore.laws dev c.requires.sound w old new c.args.op.now p r c.plain-in-Stored.result
+    (c.in-Write.is ∙ ap (rw.Write c.in-Write.f) c.in-Stored.is) c.plain-in-Stored.ensures tt (record {
+      keys = no_keys r old.at.reads new.at.reads put.keys;
+      step = put.step w;
+      made = put.made;
+      holds = put.holds;
+      answers = put.answers w;
+      bare = on_ok _ _ r (λ same bare. (ap (λ (at : Attempted Key Delta). at.changes) (same bare).0, (same bare).1)) put.bare;
+      logged = put.alters.logged;
+      refused = put.alters.refused;
+      err = put.alters.err;
+      grows = put.alters.grows;
+    })
 
-pub returns-in-Ok-append_stored-clause-step : goal.returns-in-Ok-append_stored-clause-step
-returns-in-Ok-append_stored-clause-step g c =
-    let b = seen c.args.kv.now c.args.at.now in
+pub returns-in-Fresh-data : goal.returns-in-Fresh-data
+returns-in-Fresh-data g c =
+    let dev = c.args.dev.now in
+    let left = c.append_fresh.new.dev in
+    let kind = g.S.SliceStore.kind in
+    let w = seen c.args.kv.now c.args.at.now in
     let old = in_hand c.args.at.now c.args.s.now in
-    let new = in_hand c.append_stored.new.at c.args.s.now in
-    as_named (record { kind = g.S.SliceStore.kind; before = c.args.dev.now; after = c.args.dev.now; map = b }) c.args.dev.now.settings.region old new
-    c.args.op.now (rw.Append c.in-Append.f (Stored c.in-Stored-data.kept)) c.only-in-Ok-append_stored.result.own None c.only-in-Ok-append_stored.result.answer c.in-Ok-append_stored.answer (c.in-Append.is ∙ ap (rw.Append c.in-Append.f) c.in-Stored-data.is) c.only-in-Ok-append_stored.ensures.own c.only-in-Ok-append_stored.ensures.answer
-    (λ x bytes size writes whole. let F : Did → Type 0 = BringsSlice c.in-Stored-data.kept.slice bytes in weaker F (λ did. F did × (no_slice ≡ None)) x b old new (op.Append c.in-Append.f bytes) c.in-Ok-append_stored.answer (λ did brings. (brings, refl)) (c.in-Ok-append_stored.ensures.step x bytes size writes whole))
-
-pub returns-in-Ok-truncate-clause-step : goal.returns-in-Ok-truncate-clause-step
-returns-in-Ok-truncate-clause-step g c =
-    let b = seen c.args.kv.now c.args.at.now in
-    let old = in_hand c.args.at.now c.args.s.now in
-    let new = in_hand c.truncate.new.at c.args.s.now in
-    as_named (record { kind = g.S.SliceStore.kind; before = c.args.dev.now; after = c.args.dev.now; map = b }) c.args.dev.now.settings.region old new
-    c.args.op.now (rw.Truncate c.in-Truncate.f c.in-Truncate.n) c.only-in-Ok-truncate.result.own None c.only-in-Ok-truncate.result.answer c.in-Ok-truncate.answer c.in-Truncate.is c.only-in-Ok-truncate.ensures.own c.only-in-Ok-truncate.ensures.answer
-    (λ x bytes size writes whole. plain x b old new (op.Truncate c.in-Truncate.f c.in-Truncate.n) c.in-Ok-truncate.answer (c.in-Ok-truncate.ensures.step x b size))
-
-pub returns-in-Ok-punch-clause-step : goal.returns-in-Ok-punch-clause-step
-returns-in-Ok-punch-clause-step g c =
-    let b = seen c.args.kv.now c.args.at.now in
-    let old = in_hand c.args.at.now c.args.s.now in
-    let new = in_hand c.punch.new.at c.args.s.now in
-    as_named (record { kind = g.S.SliceStore.kind; before = c.args.dev.now; after = c.args.dev.now; map = b }) c.args.dev.now.settings.region old new
-    c.args.op.now (rw.Punch c.in-Punch.f c.in-Punch.n) c.only-in-Ok-punch.result.own None c.only-in-Ok-punch.result.answer c.in-Ok-punch.answer c.in-Punch.is c.only-in-Ok-punch.ensures.own c.only-in-Ok-punch.ensures.answer
-    (λ x bytes size writes whole. plain x b old new (op.Punch c.in-Punch.f c.in-Punch.n) c.in-Ok-punch.answer (c.in-Ok-punch.ensures.step x b size))
-
-pub returns-in-Ok-stat-clause-step : goal.returns-in-Ok-stat-clause-step
-returns-in-Ok-stat-clause-step g c =
-    let b = seen c.args.kv.now c.args.at.now in
-    let old = in_hand c.args.at.now c.args.s.now in
-    let new = in_hand c.stat.new.at c.args.s.now in
-    as_named (record { kind = g.S.SliceStore.kind; before = c.args.dev.now; after = c.args.dev.now; map = b }) c.args.dev.now.settings.region old new
-    c.args.op.now (rw.Stat c.in-Stat.p) c.only-in-Ok-stat.result.own None c.only-in-Ok-stat.result.answer c.in-Ok-stat.answer c.in-Stat.is c.only-in-Ok-stat.ensures.own c.only-in-Ok-stat.ensures.answer
-    (λ x bytes size writes whole. plain x b old new (op.Stat c.in-Stat.p.now) c.in-Ok-stat.answer (c.in-Ok-stat.ensures.step x c.args.s.now size))
-
-pub returns-in-Err-read-clause-due : goal.returns-in-Err-read-clause-due
-returns-in-Err-read-clause-due g c =
-    fault_as c.args.dev.now.settings (seen c.args.kv.now c.args.at.now) c.args.s.now c.args.op.now (rw.Read c.in-Read.f c.in-Read.n) c.in-Err-read.why c.in-Read.is
-    (λ bytes writes. c.in-Err-read.ensures.due)
-
-pub returns-in-Err-write_fresh-clause-due : goal.returns-in-Err-write_fresh-clause-due
-returns-in-Err-write_fresh-clause-due g c =
-    let settings = c.args.dev.now.settings in
-    let b = seen c.args.kv.now c.args.at.now in
-    let s = c.args.s.now in
-    let f = c.in-Write.f in
-    let why = c.in-Err-write_fresh.why in
-    fault_as settings b s c.args.op.now (rw.Write f (Fresh c.in-Fresh.bytes)) why (c.in-Write.is ∙ ap (rw.Write f) c.in-Fresh.is)
-    (λ bytes writes. subst (λ (l : List ℕ). MayFault settings b s (op.Write f l) why) (sym writes) (c.in-Err-write_fresh.ensures.due b))
-
-pub returns-in-Err-append_fresh-clause-due : goal.returns-in-Err-append_fresh-clause-due
-returns-in-Err-append_fresh-clause-due g c =
-    let settings = c.args.dev.now.settings in
-    let b = seen c.args.kv.now c.args.at.now in
-    let s = c.args.s.now in
+    let new = in_hand c.append_fresh.new.at c.args.s.now in
     let f = c.in-Append.f in
-    let why = c.in-Err-append_fresh.why in
-    fault_as settings b s c.args.op.now (rw.Append f (Fresh c.in-Fresh-data.bytes)) why (c.in-Append.is ∙ ap (rw.Append f) c.in-Fresh-data.is)
-    (λ bytes writes. subst (λ (l : List ℕ). MayFault settings b s (op.Append f l) why) (sym writes) c.in-Err-append_fresh.ensures.due)
+    let bs = c.in-Fresh-data.bytes in
+    let put = c.append_fresh.ensures in
+    named (record { kind = kind; before = dev; after = left; map = w }) old new c.args.op.now (rw.Append f (Fresh bs)) c.append_fresh.result
+    (c.in-Append.is ∙ ap (rw.Append f) c.in-Fresh-data.is)
+    (append_of kind dev left w old new f bs c.append_fresh.result refl put.keys put.step put.made put.own put.due put.leaves put.puts)
 
-pub returns-in-Ok-clause-made : goal.returns-in-Ok-clause-made
-returns-in-Ok-clause-made g c =
-    let z = c.args.dev.now.settings.region in
-    let b = seen c.args.kv.now c.args.at.now in
+pub returns-in-Stored-data : goal.returns-in-Stored-data
+returns-in-Stored-data g c =
+    let dev = c.args.dev.now in
+    let b = dev.settings.region in
+    let w = seen c.args.kv.now c.args.at.now in
     let s = c.args.s.now in
-    let at = c.args.at.now in
-    made_as z b s c.args.op.now (rw.Open c.in-Open.f c.in-Open.p) c.only.result.own None c.only.result.answer c.in-Ok.answer at c.open.new.at c.in-Open.is c.only.ensures.own c.only.ensures.answer
-    (makes_nothing c.in-Ok.answer (RwMade z b s (rw.Open c.in-Open.f c.in-Open.p) None) at c.open.new.at refl c.in-Ok.ensures.same)
+    let old = in_hand c.args.at.now s in
+    let new = in_hand c.append_stored.new.at s in
+    let p = rw.Append c.in-Append.f (Stored c.in-Stored-data.kept) in
+    let r = c.append_stored.result in
+    let put = c.append_stored.ensures in
+    plain_call g.met.S.SliceStore.laws dev c.requires.sound w old new c.args.op.now p r c.plain-in-Stored-data.result
+    (c.in-Append.is ∙ ap (rw.Append c.in-Append.f) c.in-Stored-data.is)
+    c.plain-in-Stored-data.ensures tt (record {
+      keys = put.keys;
+      step = put.step;
+      made = put.made;
+      holds = if_ok_all _ r (λ a. hand_stays a (RwHolds b w p) s refl);
+      answers = put.answers;
+      bare = on_ok _ _ r (λ same bare. (same bare, refl)) put.bare;
+      logged = put.alters.logged;
+      refused = put.alters.refused;
+      err = put.alters.err;
+      grows = put.alters.grows;
+    })
 
-pub returns-in-Close-clause-made : goal.returns-in-Close-clause-made
-returns-in-Close-clause-made g c =
-    let z = c.args.dev.now.settings.region in
-    let b = seen c.args.kv.now c.args.at.now in
+pub returns-in-Truncate : goal.returns-in-Truncate
+returns-in-Truncate g c =
+    let dev = c.args.dev.now in
+    let b = dev.settings.region in
+    let w = seen c.args.kv.now c.args.at.now in
     let s = c.args.s.now in
-    let at = c.args.at.now in
-    made_as z b s c.args.op.now (rw.Close c.in-Close.f) c.only-in-Close.result.own None c.only-in-Close.result.answer c.close-answer.result at at c.in-Close.is c.only-in-Close.ensures.own c.only-in-Close.ensures.answer
-    (makes_nothing c.close-answer.result (RwMade z b s (rw.Close c.in-Close.f) None) at at refl refl)
+    let old = in_hand c.args.at.now s in
+    let new = in_hand c.truncate.new.at s in
+    let p = rw.Truncate c.in-Truncate.f c.in-Truncate.n in
+    let r = c.truncate.result in
+    let cuts = c.truncate.ensures in
+    plain_call g.met.S.SliceStore.laws dev c.requires.sound w old new c.args.op.now p r c.plain-in-Truncate.result c.in-Truncate.is
+    c.plain-in-Truncate.ensures tt (record {
+      keys = no_keys r old.at.reads new.at.reads cuts.keys;
+      step = cuts.step w;
+      made = cuts.made;
+      holds = if_ok_all _ r (λ a. hand_stays a (RwHolds b w p) s refl);
+      answers = if_ok_all _ r (λ a x bytes size writes bare. absurd bare);
+      bare = on_ok _ _ r (λ same bare. absurd bare) cuts.keys;
+      logged = cuts.alters.logged;
+      refused = cuts.alters.refused;
+      err = cuts.alters.err;
+      grows = cuts.alters.grows;
+    })
 
-pub returns-in-Ok-seek-clause-made : goal.returns-in-Ok-seek-clause-made
-returns-in-Ok-seek-clause-made g c =
-    let z = c.args.dev.now.settings.region in
-    let b = seen c.args.kv.now c.args.at.now in
+pub returns-in-Punch : goal.returns-in-Punch
+returns-in-Punch g c =
+    let dev = c.args.dev.now in
+    let b = dev.settings.region in
+    let w = seen c.args.kv.now c.args.at.now in
     let s = c.args.s.now in
-    let at = c.args.at.now in
-    made_as z b s c.args.op.now (rw.Seek c.in-Seek.f c.in-Seek.place) c.only-in-Ok-seek.result.own None c.only-in-Ok-seek.result.answer c.in-Ok-seek.answer at c.seek.new.at c.in-Seek.is c.only-in-Ok-seek.ensures.own c.only-in-Ok-seek.ensures.answer
-    (makes_nothing c.in-Ok-seek.answer (RwMade z b s (rw.Seek c.in-Seek.f c.in-Seek.place) None) at c.seek.new.at refl c.in-Ok-seek.ensures.same)
+    let old = in_hand c.args.at.now s in
+    let new = in_hand c.punch.new.at s in
+    let p = rw.Punch c.in-Punch.f c.in-Punch.n in
+    let r = c.punch.result in
+    let cuts = c.punch.ensures in
+    plain_call g.met.S.SliceStore.laws dev c.requires.sound w old new c.args.op.now p r c.plain-in-Punch.result c.in-Punch.is c.plain-in-Punch.ensures tt
+    (record {
+      keys = no_keys r old.at.reads new.at.reads cuts.keys;
+      step = cuts.step w;
+      made = cuts.made;
+      holds = if_ok_all _ r (λ a. hand_stays a (RwHolds b w p) s refl);
+      answers = if_ok_all _ r (λ a x bytes size writes bare. absurd bare);
+      bare = on_ok _ _ r (λ same bare. absurd bare) cuts.keys;
+      logged = cuts.alters.logged;
+      refused = cuts.alters.refused;
+      err = cuts.alters.err;
+      grows = cuts.alters.grows;
+    })
 
-pub returns-in-Tell-clause-made : goal.returns-in-Tell-clause-made
-returns-in-Tell-clause-made g c =
-    let z = c.args.dev.now.settings.region in
-    let b = seen c.args.kv.now c.args.at.now in
+pub returns-in-Stat : goal.returns-in-Stat
+returns-in-Stat g c =
+    let dev = c.args.dev.now in
+    let b = dev.settings.region in
+    let w = seen c.args.kv.now c.args.at.now in
     let s = c.args.s.now in
-    let at = c.args.at.now in
-    made_as z b s c.args.op.now (rw.Tell c.in-Tell.f) c.only-in-Tell.result.own None c.only-in-Tell.result.answer c.tell-answer.result at at c.in-Tell.is c.only-in-Tell.ensures.own c.only-in-Tell.ensures.answer
-    (makes_nothing c.tell-answer.result (RwMade z b s (rw.Tell c.in-Tell.f) None) at at refl refl)
-
-pub returns-in-Ok-read-clause-made : goal.returns-in-Ok-read-clause-made
-returns-in-Ok-read-clause-made g c =
-    let z = c.args.dev.now.settings.region in
-    let b = seen c.args.kv.now c.args.at.now in
-    let s = c.args.s.now in
-    let at = c.args.at.now in
-    made_as z b s c.args.op.now (rw.Read c.in-Read.f c.in-Read.n) c.only-in-Ok-read.result.own None c.only-in-Ok-read.result.answer c.in-Ok-read.answer at c.read.new.at c.in-Read.is c.only-in-Ok-read.ensures.own c.only-in-Ok-read.ensures.answer
-    (makes_nothing c.in-Ok-read.answer (RwMade z b s (rw.Read c.in-Read.f c.in-Read.n) None) at c.read.new.at refl c.in-Ok-read.ensures.same)
-
-pub returns-in-Ok-stat-clause-made : goal.returns-in-Ok-stat-clause-made
-returns-in-Ok-stat-clause-made g c =
-    let z = c.args.dev.now.settings.region in
-    let b = seen c.args.kv.now c.args.at.now in
-    let s = c.args.s.now in
-    let at = c.args.at.now in
-    made_as z b s c.args.op.now (rw.Stat c.in-Stat.p) c.only-in-Ok-stat.result.own None c.only-in-Ok-stat.result.answer c.in-Ok-stat.answer at c.stat.new.at c.in-Stat.is c.only-in-Ok-stat.ensures.own c.only-in-Ok-stat.ensures.answer
-    (makes_nothing c.in-Ok-stat.answer (RwMade z b s (rw.Stat c.in-Stat.p) None) at c.stat.new.at refl c.in-Ok-stat.ensures.same)
-
-pub returns-in-Ok-truncate-clause-made : goal.returns-in-Ok-truncate-clause-made
-returns-in-Ok-truncate-clause-made g c =
-    let z = c.args.dev.now.settings.region in
-    let b = seen c.args.kv.now c.args.at.now in
-    let s = c.args.s.now in
-    let at = c.args.at.now in
-    made_as z b s c.args.op.now (rw.Truncate c.in-Truncate.f c.in-Truncate.n) c.only-in-Ok-truncate.result.own None c.only-in-Ok-truncate.result.answer c.in-Ok-truncate.answer at c.truncate.new.at c.in-Truncate.is c.only-in-Ok-truncate.ensures.own c.only-in-Ok-truncate.ensures.answer
-    c.in-Ok-truncate.ensures.made
-
-pub returns-in-Ok-punch-clause-made : goal.returns-in-Ok-punch-clause-made
-returns-in-Ok-punch-clause-made g c =
-    let z = c.args.dev.now.settings.region in
-    let b = seen c.args.kv.now c.args.at.now in
-    let s = c.args.s.now in
-    let at = c.args.at.now in
-    made_as z b s c.args.op.now (rw.Punch c.in-Punch.f c.in-Punch.n) c.only-in-Ok-punch.result.own None c.only-in-Ok-punch.result.answer c.in-Ok-punch.answer at c.punch.new.at c.in-Punch.is c.only-in-Ok-punch.ensures.own c.only-in-Ok-punch.ensures.answer
-    c.in-Ok-punch.ensures.made
-
-pub returns-in-Ok-write_fresh-clause-made : goal.returns-in-Ok-write_fresh-clause-made
-returns-in-Ok-write_fresh-clause-made g c =
-    let z = c.args.dev.now.settings.region in
-    let b = seen c.args.kv.now c.args.at.now in
-    let s = c.args.s.now in
-    let at = c.args.at.now in
-    let done = c.in-Ok-write_fresh.done in
-    made_as z b s c.args.op.now (rw.Write c.in-Write.f (Fresh c.in-Fresh.bytes)) done.own done.own done.answer done.answer at c.write_fresh.new.at (c.in-Write.is ∙ ap (rw.Write c.in-Write.f) c.in-Fresh.is) refl refl
-    c.in-Ok-write_fresh.ensures.made
-
-pub returns-in-Ok-append_fresh-clause-made : goal.returns-in-Ok-append_fresh-clause-made
-returns-in-Ok-append_fresh-clause-made g c =
-    let z = c.args.dev.now.settings.region in
-    let b = seen c.args.kv.now c.args.at.now in
-    let s = c.args.s.now in
-    let at = c.args.at.now in
-    let done = c.in-Ok-append_fresh.done in
-    made_as z b s c.args.op.now (rw.Append c.in-Append.f (Fresh c.in-Fresh-data.bytes)) done.own done.own done.answer done.answer at c.append_fresh.new.at (c.in-Append.is ∙ ap (rw.Append c.in-Append.f) c.in-Fresh-data.is) refl refl
-    c.in-Ok-append_fresh.ensures.made
-
-pub returns-in-Ok-write_stored-clause-made : goal.returns-in-Ok-write_stored-clause-made
-returns-in-Ok-write_stored-clause-made g c =
-    let z = c.args.dev.now.settings.region in
-    let b = seen c.args.kv.now c.args.at.now in
-    let s = c.args.s.now in
-    let at = c.args.at.now in
-    made_as z b s c.args.op.now (rw.Write c.in-Write.f (Stored c.in-Stored.kept)) c.only-in-Ok-write_stored.result.own None c.only-in-Ok-write_stored.result.answer c.in-Ok-write_stored.answer at c.write_stored.new.at
-    (c.in-Write.is ∙ ap (rw.Write c.in-Write.f) c.in-Stored.is) c.only-in-Ok-write_stored.ensures.own c.only-in-Ok-write_stored.ensures.answer c.in-Ok-write_stored.ensures.made
-
-pub returns-in-Ok-append_stored-clause-made : goal.returns-in-Ok-append_stored-clause-made
-returns-in-Ok-append_stored-clause-made g c =
-    let z = c.args.dev.now.settings.region in
-    let b = seen c.args.kv.now c.args.at.now in
-    let s = c.args.s.now in
-    let at = c.args.at.now in
-    made_as z b s c.args.op.now (rw.Append c.in-Append.f (Stored c.in-Stored-data.kept)) c.only-in-Ok-append_stored.result.own None c.only-in-Ok-append_stored.result.answer c.in-Ok-append_stored.answer at c.append_stored.new.at
-    (c.in-Append.is ∙ ap (rw.Append c.in-Append.f) c.in-Stored-data.is) c.only-in-Ok-append_stored.ensures.own c.only-in-Ok-append_stored.ensures.answer c.in-Ok-append_stored.ensures.made
+    let old = in_hand c.args.at.now s in
+    let new = in_hand c.stat.new.at s in
+    let p = rw.Stat c.in-Stat.p in
+    let r = c.stat.result in
+    plain_call g.met.S.SliceStore.laws dev c.requires.sound w old new c.args.op.now p r c.plain-in-Stat.result c.in-Stat.is c.plain-in-Stat.ensures tt
+    (looks_plain b w old new p r (c.stat.ensures.step s) (if_ok_all _ r (λ a. hand_stays a (RwHolds b w p) s refl)) (c.stat.ensures.looks s) refl
+    (λ bare. bare))

@@ -1,12 +1,13 @@
-use Rattle.std.proofs.Common.{[], sym, subst}
+use Rattle.std.proofs.Common.{[], None, refl, sym, subst}
 use Rattle.wtf_occ.proofs.AttemptLaws.{GrowsBy-nothing}
 use Rattle.wtf_model.specs.declared.answer.Answer.TheVariants as answer
 use Rattle.wtf_model.specs.declared.answer.Word.TheVariants.{NoHandle}
 use Rattle.wtf_model.specs.declared.op.Op.TheVariants as op
-use Rattle.wtf_meta.specs.Sessions.{SessionView, handle_in}
+use Rattle.wtf_meta.specs.Sessions.{SessionView, SetsHandle, handle_in}
 use Rattle.wtf_meta.specs.Calls.{cap_for, IsCall}
 use Rattle.wtf_steps.specs.Steps.{in_hand}
 use Rattle.wtf_model.proofs.ByteLaws.{close-none}
+use Rattle.wtf_steps.proofs.Handing.{hand_refused, hand_goes}
 use Rattle.wtf_steps.proofs.Ways.{only_keys, no_handle, step_of, spot_open, spot_closed}
 use Rattle.wtf_rw.proofs.Ways.{closes}
 use Rattle.wtf_rw.proofs.handles.close.Goals as goal
@@ -28,3 +29,9 @@ returns-clause-step c x b now e =
     step_of x b now (in_hand now.at t) [] (op.Close f) answer.Okay (GrowsBy-nothing now.at)
     (subst (λ (v : SessionView). IsCall x b v t (only_keys []) (op.Close f) answer.Okay) (sym e)
     (closes x b s t f open_at.handle open_at.is c.end_handle.ensures))
+
+pub returns-in_default-clause-holds : goal.returns-in_default-clause-holds
+returns-in_default-clause-holds c = hand_refused (answer.Refused NoHandle) NoHandle (SetsHandle c.args.f None) c.args.s.now refl
+
+pub returns-clause-holds : goal.returns-clause-holds
+returns-clause-holds c = hand_goes answer.Okay (SetsHandle c.args.f None) c.args.s.now c.end_handle.new.self (λ h. h) c.end_handle.ensures

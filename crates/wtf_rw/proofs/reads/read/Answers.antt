@@ -6,7 +6,7 @@ use Rattle.wtf_base.specs.declared.fault.Fault.{Fault}
 use Rattle.wtf_base.specs.declared.ids.InodeId.{InodeId}
 use Rattle.wtf_base.specs.declared.settings.Settings.{Settings}
 use Rattle.wtf_occ.specs.Attempts.{GrowsBy}
-use Rattle.wtf_occ.proofs.AttemptLaws.{GrowsBy-nothing}
+use Rattle.wtf_occ.proofs.AttemptLaws.{GrowsBy-nothing, Grows-on}
 use Rattle.wtf_overlay.specs.Origin.{pieces_origin}
 use Rattle.wtf_overlay.specs.declared.part.Piece.{Piece}
 use Rattle.wtf_replica.specs.Bytes.{byte_at}
@@ -28,9 +28,15 @@ use Rattle.wtf_region.specs.Showing.{Shown, IsShowFault, pieces_in, AreReadable}
 use Rattle.wtf_region.proofs.InsideLaws.{readable_from}
 use Rattle.wtf_region.proofs.Recording.{still_seen}
 use Rattle.wtf_region.proofs.ListReads.{pieces_inside, file_read_later}
+use Rattle.wtf_region.proofs.ShowLaws.{reads_over}
 use Rattle.wtf_region.proofs.Spans.{goes_on}
+use Rattle.wtf_model.specs.declared.answer.Word.TheVariants.{NoHandle}
 use Rattle.wtf_steps.specs.Faults.{MayFault}
-use Rattle.wtf_steps.specs.Recorded.{found_in, len_keys}
+use Rattle.wtf_steps.specs.Holding.{MovesOn}
+use Rattle.wtf_steps.proofs.Handing.{hand_refused, hand_goes, moves_on}
+use Rattle.wtf_steps.proofs.Making.{keeps_changes}
+use Rattle.wtf_steps.proofs.Recalling.{lists_due}
+use Rattle.wtf_steps.specs.Recorded.{found_in, len_keys, read_keys}
 use Rattle.wtf_index.proofs.Going.{keys_more}
 use Rattle.wtf_model.proofs.ByteLaws.{read-none}
 use Rattle.wtf_steps.proofs.Ways.{only_keys, no_handle, spot_open, spot_closed}
@@ -157,10 +163,12 @@ returns-in-Err-show-clause-fault g c =
     let file : FileBytes (inside_of kind dev) any_slice (file_of i u) =
     subst (λ (w : Map). FileBytes (inside_of kind dev) any_slice (file_of i w)) (sym same) (file_bytes (inside_of kind dev) any_slice i b c.requires.inside) in
     let later : IsFileRead kind dev c.show.new.dev (file_of i u) c.range_start-from.result k ps =
-    file_read_later g.met.S.SliceStore.laws c.in-Ok-pieces.ensures.dev c.in-Err-show.ensures.dev (file_of i u)
+    file_read_later g.met.S.SliceStore.laws c.in-Ok-pieces.ensures.dev c.in-Err-show.ensures.dev c.in-Err-show.ensures.lists (file_of i u)
     c.range_start-from.result k ps read in
     let due : ReadsFile z (file_of h.inode b) h.off k later.facts ps =
     reads_due z u b h i c.in-Some.spot.off c.range_start-from.result k later.facts ps same inode off c.range_start-from.ensures.some later.reads in
+    let lists = lists_due z u b h i c.in-Some.spot.off c.range_start-from.result k (found_in z b h c.args.n) later.facts ps same inode off
+    c.range_start-from.ensures.some count later.wants later.reads in
     inr (
       h,
       open_at.is,
@@ -170,6 +178,8 @@ returns-in-Err-show-clause-fault g c =
         pieces = ps;
         are = record {
           facts = later.facts;
+          wants = lists.wants;
+          recalls = later.recalls;
           reads = subst (λ (m : ℕ). ReadsFile z (file_of h.inode b) h.off m later.facts ps) count due;
           inside = later.inside;
           told = later.told;
@@ -245,7 +255,7 @@ returns-clause-step g c x size =
     let file : FileBytes (inside_of kind dev) any_slice (file_of i (seen c.args.kv.now read)) =
     subst (λ (w : Map). FileBytes (inside_of kind dev) any_slice (file_of i w)) (sym same) (file_bytes (inside_of kind dev) any_slice i b c.requires.inside) in
     let went : IsFileRead kind dev c.show.new.dev (file_of i (seen c.args.kv.now read)) c.range_start-from.result k ps =
-    file_read_later laws c.in-Ok-pieces.ensures.dev c.in-Ok-show.ensures.dev (file_of i (seen c.args.kv.now read))
+    file_read_later laws c.in-Ok-pieces.ensures.dev c.in-Ok-show.ensures.dev c.in-Ok-show.ensures.lists (file_of i (seen c.args.kv.now read))
     c.range_start-from.result k ps c.in-Ok-pieces.ensures.read in
     let lists = went.facts in
     let due : ReadsFile x.size (file_of h.inode b) h.off k lists ps =
@@ -273,4 +283,119 @@ returns-clause-step g c x size =
           (reads_call x b s t f n k h lists ps bytes (omega (arith, size, dev.settings.limits)) open_at.is count due (shown_len shown) set);
       more = tells_read laws dev mid c.show.new.dev c.in-Ok-pieces.ensures.dev c.in-Ok-show.ensures.dev (seen c.args.kv.now read) b i h
           c.in-Some.spot.off c.range_start-from.result k same inode off c.range_start-from.ensures.some ps bytes keys went shown;
+    }
+
+pub returns-in_default-clause-holds : goal.returns-in_default-clause-holds
+returns-in_default-clause-holds g c =
+    hand_refused (answer.Refused NoHandle) NoHandle (MovesOn c.args.f (λ h. found_in c.args.dev.now.settings.region (seen c.args.kv.now c.args.at.now) h
+    c.args.n)) c.args.s.now refl
+
+pub returns-clause-holds : goal.returns-clause-holds
+returns-clause-holds g c =
+    let s = c.args.s.now in
+    let t = c.move_handle.new.self in
+    let f = c.args.f in
+    let i = c.in-Some.spot.inode in
+    let b = seen c.args.kv.now c.args.at.now in
+    let z = c.args.dev.now.settings.region in
+    let k = c.found_len-k.result in
+    let n : Handle → ℕ = λ h. found_in z b h c.args.n in
+    let open_at = spot_open c.handle_of.result (handle_in s f) c.in-Some.spot c.handle_of.ensures c.in-Some.is in
+    let count : k ≡ found_in z b open_at.handle c.args.n =
+    found_due c.cap.result z c.in-Ok.len c.in-Some.spot.off c.args.n k i b open_at.handle c.found_len-k.ensures c.cap.ensures c.in-Ok.ensures.value
+    open_at.inode open_at.off in
+    hand_goes (answer.Shown c.of.result) (MovesOn f n) s t (λ h. h)
+    (moves_on f (c.in-Some.spot.off + k) n s t open_at.handle open_at.is (omega (arith, open_at.off, count)) c.move_handle.ensures)
+
+pub returns-in-Err-show-clause-reads : goal.returns-in-Err-show-clause-reads
+returns-in-Err-show-clause-reads g c = record {
+  records = tt;
+  same = tt;
+  none = tt;
+  logged = tt;
+  refused = tt;
+  err = refl;
+  grows = Grows-on c.args.at.now c.file_len.new.at c.pieces.new.at c.in-Ok.ensures.grows c.in-Ok-pieces.ensures.grows;
+  reads = reads_over g.S.SliceStore.kind c.args.dev.now c.pieces.new.dev c.show.new.dev c.in-Ok-pieces.ensures.dev c.in-Ok-pieces.ensures.reads
+      c.in-Err-show.ensures.reads;
+}
+
+pub returns-clause-reads : goal.returns-clause-reads
+returns-clause-reads g c =
+    let s = c.args.s.now in
+    let i = c.in-Some.spot.inode in
+    let b = seen c.args.kv.now c.args.at.now in
+    let z = c.args.dev.now.settings.region in
+    let k = c.found_len-k.result in
+    let at = c.args.at.now in
+    let read = c.file_len.new.at in
+    let new = c.pieces.new.at in
+    let open_at = spot_open c.handle_of.result (handle_in s c.args.f) c.in-Some.spot c.handle_of.ensures c.in-Some.is in
+    let h = open_at.handle in
+    let inode : i ≡ h.inode = open_at.inode in
+    let off : c.in-Some.spot.off ≡ h.off = open_at.off in
+    let n = found_in z b h c.args.n in
+    let count : k ≡ n = found_due c.cap.result z c.in-Ok.len c.in-Some.spot.off c.args.n k i b h c.found_len-k.ensures c.cap.ensures c.in-Ok.ensures.value
+    inode off in
+    let from = c.range_start-from.result in
+    let range : touched z from k ≡ touched z h.off n =
+    same_touched z from h.off k (λ some. c.range_start-from.ensures.some some ∙ off) ∙ ap (λ (m : ℕ). touched z h.off m) count in
+    let first : GrowsBy at read (len_keys b h.inode) [] = subst (λ (q : InodeId). GrowsBy at read (len_keys b q) []) inode c.in-Ok.ensures.recorded in
+    let next : GrowsBy read new (keys_of h.inode (region_keys (touched z h.off n))) [] =
+    subst (λ (rs : List ℕ). GrowsBy read new (keys_of h.inode (region_keys rs)) []) range
+    (subst (λ (q : InodeId). GrowsBy read new (keys_of q (region_keys (touched z from k))) []) inode c.in-Ok-pieces.ensures.recorded) in
+    let keys = len_keys b h.inode ++ keys_of h.inode (region_keys (touched z h.off n)) in
+    let went : GrowsBy at new keys [] = keys_more at read new (len_keys b h.inode) (keys_of h.inode (region_keys (touched z h.off n))) first next in
+    record {
+      records = went.reads ∙ ap (λ (o : Option Handle). at.reads ++ read_keys z b o c.args.n) (sym open_at.is);
+      same = keeps_changes at new keys went;
+      none = refl;
+      logged = tt;
+      refused = λ h. absurd h;
+      err = tt;
+      grows = Grows-on at read new c.in-Ok.ensures.grows c.in-Ok-pieces.ensures.grows;
+      reads = reads_over g.S.SliceStore.kind c.args.dev.now c.pieces.new.dev c.show.new.dev c.in-Ok-pieces.ensures.dev c.in-Ok-pieces.ensures.reads
+          c.in-Ok-show.ensures.reads;
+    }
+
+pub returns-in_default-clause-recalls : goal.returns-in_default-clause-recalls
+returns-in_default-clause-recalls g c = record {
+  facts = [];
+  recalls = refl;
+  known = λ ranges was told apart. tt;
+  refused = λ h. refl;
+  made = λ going. absurd (going tt);
+}
+
+pub returns-clause-recalls : goal.returns-clause-recalls
+returns-clause-recalls g c =
+    let dev = c.args.dev.now in
+    let s = c.args.s.now in
+    let i = c.in-Some.spot.inode in
+    let u = seen c.args.kv.now c.file_len.new.at in
+    let b = seen c.args.kv.now c.args.at.now in
+    let z = dev.settings.region in
+    let k = c.found_len-k.result in
+    let from = c.range_start-from.result in
+    let ps = c.in-Ok-pieces.found.items in
+    let same : u ≡ b = still_seen c.args.kv.now i (length_keys (file_of i b)) c.args.at.now c.file_len.new.at c.in-Ok.ensures.recorded in
+    let open_at = spot_open c.handle_of.result (handle_in s c.args.f) c.in-Some.spot c.handle_of.ensures c.in-Some.is in
+    let h = open_at.handle in
+    let count : k ≡ found_in z b h c.args.n =
+    found_due c.cap.result z c.in-Ok.len c.in-Some.spot.off c.args.n k i b h c.found_len-k.ensures c.cap.ensures c.in-Ok.ensures.value open_at.inode
+    open_at.off in
+    let went : IsFileRead g.S.SliceStore.kind dev c.show.new.dev (file_of i u) from k ps =
+    file_read_later g.met.S.SliceStore.laws c.in-Ok-pieces.ensures.dev c.in-Ok-show.ensures.dev c.in-Ok-show.ensures.lists (file_of i u) from k ps
+    c.in-Ok-pieces.ensures.read in
+    record {
+      facts = went.facts;
+      recalls = went.recalls;
+      known = went.told;
+      refused = λ h. absurd h;
+      made = λ going. (
+        h,
+        open_at.is,
+        lists_due z u b h i c.in-Some.spot.off from k (found_in z b h c.args.n) went.facts ps same open_at.inode open_at.off c.range_start-from.ensures.some
+            count went.wants went.reads,
+      );
     }

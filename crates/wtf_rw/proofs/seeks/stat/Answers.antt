@@ -17,21 +17,21 @@ use Rattle.wtf_steps.proofs.Ways.{step_of}
 use Rattle.wtf_rw.proofs.seeks.stat.Goals as goal
 
 pub returns-in-Some-Folder-clause-step : goal.returns-in-Some-Folder-clause-step
-returns-in-Some-Folder-clause-step c x s size =
+returns-in-Some-Folder-clause-step c s x bytes size writes whole =
     let b = seen c.args.kv.now c.args.at.now in
     let node : stands_at b c.args.p.now ≡ Some Folder = sym c.in_ok-inode.ensures.value ∙ (c.in-Some-Folder.is ∙ ap Some c.in-Some-Folder.field-0-is) in
     step_of x b (in_hand c.args.at.now s) (in_hand c.look_up.new.at s) (Path c.args.p.now ∷ []) (op.Stat c.args.p.now) answer.Dir c.in_ok-inode.ensures.went
     (stats_folder x b s c.args.p.now node)
 
 pub returns-in-None-clause-step : goal.returns-in-None-clause-step
-returns-in-None-clause-step c x s size =
+returns-in-None-clause-step c s x bytes size writes whole =
     let b = seen c.args.kv.now c.args.at.now in
     let node : stands_at b c.args.p.now ≡ None = sym c.in_ok-inode.ensures.value ∙ c.in-None.is in
     step_of x b (in_hand c.args.at.now s) (in_hand c.look_up.new.at s) (Path c.args.p.now ∷ []) (op.Stat c.args.p.now) (answer.Refused NoEnt) c.in_ok-inode.ensures.went
     (stats_nothing x b s c.args.p.now node)
 
 pub returns-clause-step : goal.returns-clause-step
-returns-clause-step c x s size =
+returns-clause-step c s x bytes size writes whole =
     let b = seen c.args.kv.now c.args.at.now in
     let p = c.args.p.now in
     let mid = c.look_up.new.at in

@@ -19,7 +19,7 @@ use Rattle.wtf_rw.specs.Sizes.{cut_to}
 use Rattle.wtf_rw.proofs.sizes.truncate.Goals as goal
 
 pub returns-in_default-clause-step : goal.returns-in_default-clause-step
-returns-in_default-clause-step c x b size =
+returns-in_default-clause-step c b x bytes size writes whole =
     let s = c.args.s.now in
     let f = c.args.f in
     let at = in_hand c.args.at.now s in
@@ -27,7 +27,7 @@ returns-in_default-clause-step c x b size =
     (no_handle x b s f (op.Truncate f c.args.n) (spot_closed c.handle_of.result (handle_in s f) c.handle_of.ensures c.in_default.is) (λ S none. truncate-none (cap_for x) S f c.args.n none))
 
 pub returns-then-n-cap-clause-step : goal.returns-then-n-cap-clause-step
-returns-then-n-cap-clause-step c x b size =
+returns-then-n-cap-clause-step c b x bytes size writes whole =
     let s = c.args.s.now in
     let f = c.args.f in
     let at = in_hand c.args.at.now s in
@@ -36,7 +36,7 @@ returns-then-n-cap-clause-step c x b size =
     (truncates_too_far x b s f open_at.handle open_at.is c.args.n (omega (arith, c.cap.ensures, size, c.if-n-cap.true)))
 
 pub returns-clause-step : goal.returns-clause-step
-returns-clause-step c x b size =
+returns-clause-step c b x bytes size writes whole =
     let s = c.args.s.now in
     let f = c.args.f in
     let n = c.args.n in

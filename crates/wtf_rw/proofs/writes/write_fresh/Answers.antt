@@ -1,4 +1,4 @@
-use Rattle.std.proofs.Common.{◌≡◌, ℕ, ◌+◌, [], ◌∷◌, length, Option, Some, refl, sym, ◌∙◌, subst, arith}
+use Rattle.std.proofs.Common.{◌≡◌, ℕ, ◌+◌, [], ◌∷◌, length, Option, Some, refl, sym, ap, ◌∙◌, subst, arith}
 use Rattle.std.specs.Option.{option_map}
 use Rattle.wtf_base.specs.declared.ids.InodeId.{InodeId}
 use Rattle.wtf_occ.proofs.AttemptLaws.{GrowsBy-nothing}
@@ -9,7 +9,8 @@ use Rattle.wtf_replica.specs.Bytes.{byte_at}
 use Rattle.wtf_meta.specs.declared.session.Handle.{Handle}
 use Rattle.wtf_meta.specs.Sessions.{handle_in, SetsHandle, moved_to}
 use Rattle.wtf_meta.specs.Calls.{cap_for}
-use Rattle.wtf_region.specs.Devs.{stores, between}
+use Rattle.wtf_region.specs.declared.dev.Dev.{Dev}
+use Rattle.wtf_region.specs.Devs.{stores, between, place_in}
 use Rattle.wtf_region.specs.Edited.{Edited, LaysPieces}
 use Rattle.wtf_steps.specs.Steps.{in_hand}
 use Rattle.wtf_model.proofs.ByteLaws.{write-none}
@@ -18,7 +19,12 @@ use Rattle.wtf_steps.proofs.FileWays.{brings, writes}
 use Rattle.wtf_rw.proofs.FileWays.{writes_nothing, writes_too_far}
 use Rattle.wtf_rw.proofs.StoredBytes.{tell_stored, step_only}
 use Rattle.wtf_rw.proofs.FaultWays.{write_due}
+use Rattle.wtf_steps.specs.declared.handles.Spot.{Spot}
 use Rattle.wtf_steps.specs.Made.{LaysAt}
+use Rattle.wtf_steps.specs.Holding.{MovesOn}
+use Rattle.wtf_steps.proofs.Handing.{hand_refused, hand_stays, hand_goes, moves_on, moves_nowhere}
+use Rattle.wtf_steps.proofs.Leaving.{leaves_all, leaves_put}
+use Rattle.wtf_rw.specs.Ops.{file_in}
 use Rattle.wtf_steps.proofs.Making.{makes_refused, lays_none, makes_laid}
 use Rattle.wtf_rw.specs.Changed.{OfSlice}
 use Rattle.wtf_rw.proofs.MadeWays.{brings_no_slice, brings_slice}
@@ -125,3 +131,75 @@ returns-in-Ok-lay-clause-made g c =
     let open_at = spot_open c.handle_of.result o c.in-Some.spot c.handle_of.ensures c.in-Some.is in
     brings_slice answer.Okay answer.Okay (Some c.in-Ok.slice) c.in-Ok.slice p (LaysAt z o) c.args.at.now c.lay.new.at refl refl c.piece_of.ensures.len c.piece_of.ensures.part
     (makes_laid z o open_at.handle c.in-Some.spot.inode c.in-Some.spot.off (p ∷ []) c.args.at.now c.lay.new.at open_at.is open_at.inode open_at.off c.in-Ok-lay.ensures.laid)
+
+pub returns-in_default-clause-holds : goal.returns-in_default-clause-holds
+returns-in_default-clause-holds g c = hand_refused c.only.result.answer NoHandle (MovesOn c.args.f (λ h. length c.args.bytes.now)) c.args.s.now
+    c.only.ensures.answer
+
+pub returns-then-not-ends_within-clause-holds : goal.returns-then-not-ends_within-clause-holds
+returns-then-not-ends_within-clause-holds g c = hand_refused c.only-then-not-ends_within.result.answer TooBig
+    (MovesOn c.args.f (λ h. length c.args.bytes.now)) c.args.s.now c.only-then-not-ends_within.ensures.answer
+
+pub returns-then-len-eq0-clause-holds : goal.returns-then-len-eq0-clause-holds
+returns-then-len-eq0-clause-holds g c =
+    let s = c.args.s.now in
+    let f = c.args.f in
+    let n : Handle → ℕ = λ h. length c.args.bytes.now in
+    let open_at = spot_open c.handle_of.result (handle_in s f) c.in-Some.spot c.handle_of.ensures c.in-Some.is in
+    hand_stays c.only-then-len-eq0.result.answer (MovesOn f n) s (moves_nowhere f n s open_at.handle open_at.is c.if-len-eq0.true)
+
+pub returns-in-Ok-lay-clause-holds : goal.returns-in-Ok-lay-clause-holds
+returns-in-Ok-lay-clause-holds g c =
+    let s = c.args.s.now in
+    let t = c.lay.new.s in
+    let f = c.args.f in
+    let p = c.piece_of.result in
+    let n : Handle → ℕ = λ h. length c.args.bytes.now in
+    let open_at = spot_open c.handle_of.result (handle_in s f) c.in-Some.spot c.handle_of.ensures c.in-Some.is in
+    let len : p.len ≡ length c.args.bytes.now = c.piece_of.ensures.len ∙ c.in-Ok.ensures.stored.len in
+    hand_goes answer.Okay (MovesOn f n) s t (λ h. h)
+    (moves_on f (c.in-Some.spot.off + p.len) n s t open_at.handle open_at.is (omega (arith, open_at.off, len)) c.in-Ok-lay.ensures.moved)
+
+-- the bytes go where the handle stands
+same_place : {S : Type 0} (dev : Dev S) (k : Spot) (h : Handle) → k.inode ≡ h.inode → k.off ≡ h.off → (place_in dev k.inode k.off).file ≡ file_in dev h
+same_place dev k h inode off = ap (λ (i : InodeId). (place_in dev i k.off).file) inode ∙ ap (λ (n : ℕ). (place_in dev h.inode n).file) off
+
+pub returns-in_default-clause-leaves : goal.returns-in_default-clause-leaves
+returns-in_default-clause-leaves g c = leaves_all g.S.SliceStore.kind (option_map (file_in c.args.dev.now) (handle_in c.args.s.now c.args.f)) c.args.dev.now
+
+pub returns-then-len-eq0-clause-leaves : goal.returns-then-len-eq0-clause-leaves
+returns-then-len-eq0-clause-leaves g c = leaves_all g.S.SliceStore.kind (option_map (file_in c.args.dev.now) (handle_in c.args.s.now c.args.f)) c.args.dev.now
+
+pub returns-then-not-ends_within-clause-leaves : goal.returns-then-not-ends_within-clause-leaves
+returns-then-not-ends_within-clause-leaves g c = leaves_all g.S.SliceStore.kind (option_map (file_in c.args.dev.now) (handle_in c.args.s.now c.args.f))
+    c.args.dev.now
+
+pub returns-in-Err-clause-leaves : goal.returns-in-Err-clause-leaves
+returns-in-Err-clause-leaves g c =
+    let o = handle_in c.args.s.now c.args.f in
+    let dev = c.args.dev.now in
+    let spot = c.in-Some.spot in
+    let open_at = spot_open c.handle_of.result o spot c.handle_of.ensures c.in-Some.is in
+    leaves_put g.S.SliceStore.kind (between dev c.store_bytes.new.dev) o (file_in dev) open_at.handle (place_in dev spot.inode spot.off).file open_at.is
+    (same_place dev spot open_at.handle open_at.inode open_at.off)
+    c.in-Err.ensures.down c.in-Err.ensures.others c.in-Err.ensures.syncs
+
+pub returns-in-Ok-lay-clause-leaves : goal.returns-in-Ok-lay-clause-leaves
+returns-in-Ok-lay-clause-leaves g c =
+    let o = handle_in c.args.s.now c.args.f in
+    let dev = c.args.dev.now in
+    let spot = c.in-Some.spot in
+    let open_at = spot_open c.handle_of.result o spot c.handle_of.ensures c.in-Some.is in
+    leaves_put g.S.SliceStore.kind (between dev c.store_bytes.new.dev) o (file_in dev) open_at.handle (place_in dev spot.inode spot.off).file open_at.is
+    (same_place dev spot open_at.handle open_at.inode open_at.off)
+    c.in-Ok.ensures.down c.in-Ok.ensures.others c.in-Ok.ensures.syncs
+
+pub returns-in-Err-lay-clause-leaves : goal.returns-in-Err-lay-clause-leaves
+returns-in-Err-lay-clause-leaves g c =
+    let o = handle_in c.args.s.now c.args.f in
+    let dev = c.args.dev.now in
+    let spot = c.in-Some.spot in
+    let open_at = spot_open c.handle_of.result o spot c.handle_of.ensures c.in-Some.is in
+    leaves_put g.S.SliceStore.kind (between dev c.store_bytes.new.dev) o (file_in dev) open_at.handle (place_in dev spot.inode spot.off).file open_at.is
+    (same_place dev spot open_at.handle open_at.inode open_at.off)
+    c.in-Ok.ensures.down c.in-Ok.ensures.others c.in-Ok.ensures.syncs
