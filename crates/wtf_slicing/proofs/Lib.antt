@@ -16,3 +16,5 @@ mod NameBytes
 mod Dispatch
 pub mod InsideSlices
 mod MadeWays
+mod DoneWays
+mod Parts

@@ -3,14 +3,9 @@ use Rattle.std.proofs.Common.{◌≡◌, ℕ, ◌++◌, List, [], ◌∷◌, Opt
 use Rattle.std.specs.Option.{unwrap_or}
 use Rattle.wtf_base.specs.declared.ids.InodeId.{InodeId}
 use Rattle.wtf_dev.specs.Store.{StoreKind}
-use Rattle.wtf_occ.specs.Attempts.{Attempted}
 use Rattle.wtf_overlay.specs.Origin.{pieces_len}
 use Rattle.wtf_overlay.specs.declared.part.Piece.{Piece}
-use Rattle.wtf_model.specs.declared.answer.Answer.{Answer}
 use Rattle.wtf_model.specs.declared.answer.Word.{Word}
-use Rattle.wtf_values.specs.declared.key.Key.{Key}
-use Rattle.wtf_values.specs.declared.value.Delta.{Delta}
-use Rattle.wtf_meta.specs.Lists.{ListFact}
 use Rattle.wtf_meta.specs.Maps.{Map}
 use Rattle.wtf_meta.specs.FileEdits.{file_of}
 use Rattle.wtf_meta.specs.NameEdits.{create_edits}
@@ -19,33 +14,15 @@ use Rattle.wtf_index.specs.Checks.{source_of, target_of}
 use Rattle.wtf_index.specs.Changed.{edits_if}
 use Rattle.wtf_region.specs.declared.dev.Dev.{Dev}
 use Rattle.wtf_region.specs.Reads.{TellsFacts}
-use Rattle.wtf_steps.specs.Made.{Makes, LaysAt}
+use Rattle.wtf_steps.specs.Made.{LaysAt}
 use Rattle.wtf_steps.proofs.Making.{lays_none}
-use Rattle.wtf_slicing.specs.declared.op.SliceOp.{SliceOp}
 use Rattle.wtf_slicing.specs.Copies.{regions_of, fill_edits}
-use Rattle.wtf_slicing.specs.Changed.{kept_pieces, copy_changes, SliceMade}
-use Rattle.wtf_slicing.specs.Sights.{Sight}
+use Rattle.wtf_slicing.specs.Changed.{kept_pieces, copy_changes}
 use Rattle.wtf_meta.specs.declared.session.Handle.{Handle}
-
--- a call made its changes, by lists that the stores tell
-abbrev pub Made : {S : Type 0} → StoreKind S → (from to : Dev S) → (List ListFact → Sight) → SliceOp → Answer → (at into : Attempted Key Delta) → Type 0
-Made kind from to sees o a at into = (lists : List ListFact) × TellsFacts kind from to lists × Makes a (SliceMade (sees lists) o) at into
-
--- the same call by another name
-pub made_as : {S : Type 0} (kind : StoreKind S) (from to : Dev S) (sees : List ListFact → Sight) (o p : SliceOp) (a : Answer) (at into : Attempted Key Delta)
-    → o ≡ p → Made kind from to sees p a at into
-    → Made kind from to sees o a at into
-made_as kind from to sees o p a at into is made = subst (λ (c : SliceOp). Made kind from to sees c a at into) (sym is) made
 
 -- no list was read
 pub told_none : {S : Type 0} (kind : StoreKind S) (from to : Dev S) → TellsFacts kind from to []
 told_none kind from to ranges was told apart = tt
-
--- a call that reads no list
-pub made_plain : {S : Type 0} (kind : StoreKind S) (from to : Dev S) (sees : List ListFact → Sight) (o p : SliceOp) (a : Answer) (at into : Attempted Key Delta)
-    → o ≡ p → Makes a (SliceMade (sees []) p) at into
-    → Made kind from to sees o a at into
-made_plain kind from to sees o p a at into is made = made_as kind from to sees o p a at into is ([], told_none kind from to, made)
 
 -- pieces without a byte are none
 pub no_pieces : (ps : List Piece) → pieces_len ps ≡ 0 → ps ≡ []

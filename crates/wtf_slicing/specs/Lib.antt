@@ -5,4 +5,5 @@ pub mod Steps
 pub mod Shown
 pub mod Sights
 pub mod Changed
+pub mod Held
 pub mod Ops

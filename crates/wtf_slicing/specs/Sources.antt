@@ -1,6 +1,5 @@
 -- The files that a call puts together.
 use Rattle.std.specs.Prelude.{◌≡◌, ℕ, ◌+◌, Bool, true, List, [], ◌∷◌, ◌++◌, Result, Ok}
-use Rattle.std.specs.List.{Contains}
 use Rattle.wtf_base.specs.declared.fault.Fault.{Fault}
 use Rattle.wtf_base.specs.declared.ids.InodeId.{InodeId}
 use Rattle.wtf_base.specs.declared.slice.Slice.{Slice}
@@ -15,7 +14,9 @@ use Rattle.wtf_meta.specs.Bytes.{MapBytes, PiecesBytes, ListSlices, ListsBytes}
 use Rattle.wtf_meta.specs.Files.{file_len, file_origin}
 use Rattle.wtf_meta.specs.FileEdits.{file_of}
 use Rattle.wtf_region.specs.declared.dev.Dev.{Dev}
-use Rattle.wtf_region.specs.Devs.{GoesOn}
+use Rattle.wtf_region.specs.Bases.{slices_of, bases_in}
+use Rattle.wtf_region.specs.Cached.{recalled}
+use Rattle.wtf_region.specs.Devs.{GoesOn, remembered}
 use Rattle.wtf_region.specs.Reads.{TellsFacts, AreInsideLists, LacksRegion}
 use Rattle.wtf_index.specs.Checks.{source_of}
 
@@ -32,6 +33,11 @@ abbrev pub lens_of : ℕ → Map → List InodeId → ℕ
 lens_of b w [] = 0
 lens_of b w (i ∷ is) = file_len b (file_of i w) + lens_of b w is
 
+-- the slices of the bases of all regions of files, in order
+abbrev pub files_bases : ℕ → Map → List InodeId → List Slice
+files_bases b w [] = []
+files_bases b w (i ∷ is) = bases_in b (file_of i w) 0 (file_len b (file_of i w)) ++ files_bases b w is
+
 -- pieces have the bytes of files, one file behind the other
 abbrev pub ArePlans : ℕ → Lists → Map → List InodeId → List Piece → Type 0
 ArePlans b lists w [] ps = ps ≡ []
@@ -45,17 +51,25 @@ pub record ReadsFiles (b : ℕ) (w : Map) (is : List InodeId) (facts : List List
   pub names : (P : List Place → Bool) (Q : Slice → Bool) → P [] ≡ true → MapBytes P Q w → ListsBytes P Q facts → PiecesBytes P ps
   pub slices : (P : List Place → Bool) (Q : Slice → Bool) → MapBytes P Q w → ListSlices P Q facts
 
--- files were read as pieces, one file behind the other
+-- files were read as pieces, one file behind the other, and the lists of all their bases
 pub record AreFilesRead {S : Type 0} (kind : StoreKind S) (old new : Dev S) (w : Map) (is : List InodeId) (ps : List Piece) : Type 0 where
   pub facts : List ListFact
+  pub wants : slices_of facts ≡ files_bases old.settings.region w is
+  pub recalls : remembered new ≡ recalled facts (remembered old)
   pub reads : ReadsFiles old.settings.region w is facts ps
   pub inside : AreInsideLists kind new facts
   pub told : TellsFacts kind old new facts
 
--- a list of one of the files was not read, at a moment to which the call had gone on
+-- A list of one of the files was not read, at a moment to which the call had gone on: it is the first such file, and the lists of those
+-- before it were read, in order, and no others.
 pub record LacksFile {S : Type 0} (kind : StoreKind S) (old new : Dev S) (w : Map) (is : List InodeId) (why : Fault) : Type 0 where
   pub mid : Dev S
   pub goes : GoesOn kind old mid []
+  pub read : List InodeId
   pub inode : InodeId
-  pub one : Contains is inode
+  pub rest : List InodeId
+  pub split : is ≡ read ++ inode ∷ rest
+  pub before : List ListFact
+  pub earlier : slices_of before ≡ files_bases old.settings.region w read
+  pub recalls : remembered mid ≡ recalled before (remembered old)
   pub cause : LacksRegion kind mid new (file_of inode w) 0 (file_len old.settings.region (file_of inode w)) why

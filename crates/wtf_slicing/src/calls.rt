@@ -1,19 +1,15 @@
 //! Any of the calls.
 
-ghost use Rattle.std.specs.Prelude.{◌≡◌, ◌≤◌, ◌++◌, List, [], IfOk, IfErr, OnOk, OnErr, IsTrue};
+ghost use Rattle.std.specs.Prelude.{◌≡◌, ◌≤◌, ◌++◌, [], IfOk, IfErr, OnOk, OnErr, IsTrue};
 ghost use Rattle.wtf_kv.specs.Stores.{is_pinned};
 ghost use Rattle.wtf_occ.specs.Attempts.{Grows};
 ghost use Rattle.wtf_model.specs.Steps.{IsLogged};
-ghost use Rattle.wtf_meta.specs.Lists.{ListFact};
 ghost use Rattle.wtf_meta.specs.Maps.{seen};
 ghost use Rattle.wtf_region.specs.Devs.{IsSoundDev, GoesOn, stores, between};
-ghost use Rattle.wtf_region.specs.Reads.{TellsFacts};
 ghost use Rattle.wtf_region.specs.Showing.{OnlyRead};
 ghost use Rattle.wtf_steps.specs.Scenes.{AreInside};
 ghost use Rattle.wtf_steps.specs.Steps.{in_hand, IsRefusal};
-ghost use Rattle.wtf_steps.specs.Made.{Makes};
-ghost use Rattle.wtf_slicing.specs.Changed.{SliceMade};
-ghost use Rattle.wtf_slicing.specs.Sights.{sight};
+ghost use Rattle.wtf_slicing.specs.Held.{SliceDone, SliceLeft};
 ghost use Rattle.wtf_slicing.specs.Ops.{IsFormSlice, IsSliceStep, slice_keys, IsSliceFault, MaySliceFault, NeedsNoStore};
 
 use crate::SliceOp;
@@ -54,22 +50,19 @@ fn run<S: SliceStore>(
       after = dev.new;
       map = seen kv.now at.old;
     }) dev.old.settings.region new (in_hand at.old s.old) (in_hand at.new s.new) op.now a) }
-    ensures made { IfOk result (λ a. (lists : List ListFact) ×
-        TellsFacts S.kind dev.old dev.new lists ×
-        Makes a (SliceMade (sight dev.old.settings.region (seen kv.now at.old) s.old new lists)
-        op.now) at.old at.new) }
-    ensures logged { IfOk result (λ a. IsLogged a) }
-    ensures refused { IfOk result (λ a. IsRefusal a →
-        (dev.new ≡ dev.old) × (at.new.changes ≡ at.old.changes) × (s.new ≡ s.old)) }
+    ensures done { IfOk result (λ a. SliceDone (record {
+      kind = S.kind;
+      before = dev.old;
+      after = dev.new;
+      map = seen kv.now at.old;
+    }) new op.now a (in_hand at.old s.old) (in_hand at.new s.new)) }
     ensures fault { IfErr result
         (IsSliceFault S.kind dev.old dev.new (seen kv.now at.old) s.old op.now) }
     ensures due { IfErr result
         (MaySliceFault dev.old.settings (seen kv.now at.old) s.old op.now) }
     ensures err { OnErr result (s.new ≡ s.old) }
-    ensures grows { Grows at.old at.new }
+    ensures left { SliceLeft S.kind dev.old dev.new at.old at.new result }
     ensures still { NeedsNoStore op.now → dev.new ≡ dev.old }
-    ensures reads { OnlyRead S.kind (between dev.old dev.new) }
-    ensures dev { GoesOn S.kind dev.old dev.new [] }
 {
     let settings = dev.settings;
     match op {
@@ -79,15 +72,9 @@ fn run<S: SliceStore>(
                 len: *n,
                 slice: *label,
             };
-            match yank(alloc, dev, kv, at, s, take) {
-                Ok(answer) => return Ok(answer),
-                Err(why) => return Err(why),
-            }
+            return yank(alloc, dev, kv, at, s, take);
         }
-        SliceOp::Peek { from, off, len } => match peek(alloc, dev, s, *from, *off, *len) {
-            Ok(answer) => return Ok(answer),
-            Err(why) => return Err(why),
-        },
+        SliceOp::Peek { from, off, len } => return peek(alloc, dev, s, *from, *off, *len),
         SliceOp::Cut { from, off, len, to } => match cut(alloc, s, *from, *off, *len, *to) {
             Ok(answer) => return Ok(answer),
             Err(_) => return Err(Fault::Memory),
@@ -100,10 +87,7 @@ fn run<S: SliceStore>(
             Ok(answer) => return Ok(answer),
             Err(_) => return Err(Fault::Memory),
         },
-        SliceOp::Concat(q, paths) => match concat(alloc, dev, kv, at, new, q, paths) {
-            Ok(answer) => return Ok(answer),
-            Err(why) => return Err(why),
-        },
+        SliceOp::Concat(q, paths) => return concat(alloc, dev, kv, at, new, q, paths),
         SliceOp::Copy(p, q) => match copy(alloc, kv, at, new, p, q) {
             Ok(answer) => return Ok(answer),
             Err(_) => return Err(Fault::Memory),
@@ -138,10 +122,12 @@ pub fn call<S: SliceStore>(
       after = dev.new;
       map = seen kv.now at.old;
     }) dev.old.settings.region new (in_hand at.old s.old) (in_hand at.new s.new) op.now a) }
-    ensures made { IfOk result (λ a. (lists : List ListFact) ×
-        TellsFacts S.kind dev.old dev.new lists ×
-        Makes a (SliceMade (sight dev.old.settings.region (seen kv.now at.old) s.old new lists)
-        op.now) at.old at.new) }
+    ensures done { IfOk result (λ a. SliceDone (record {
+      kind = S.kind;
+      before = dev.old;
+      after = dev.new;
+      map = seen kv.now at.old;
+    }) new op.now a (in_hand at.old s.old) (in_hand at.new s.new)) }
     ensures logged { IfOk result (λ a. IsLogged a) }
     ensures refused { IfOk result (λ a. IsRefusal a →
         (dev.new ≡ dev.old) × (at.new.changes ≡ at.old.changes) × (s.new ≡ s.old)) }

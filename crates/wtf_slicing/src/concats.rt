@@ -1,25 +1,19 @@
 //! The call that makes a file of others.
 
-ghost use Rattle.std.specs.Prelude.{◌≡◌, ◌++◌, List, [], IsTrue, IfOk, IfErr, OnOk};
+ghost use Rattle.std.specs.Prelude.{◌≡◌, ◌++◌, IsTrue, IfOk, IfErr, OnOk};
 ghost use Rattle.wtf_kv.specs.Stores.{is_pinned};
-ghost use Rattle.wtf_occ.specs.Attempts.{Grows};
-ghost use Rattle.wtf_model.specs.Steps.{IsLogged};
-ghost use Rattle.wtf_meta.specs.Lists.{ListFact};
 ghost use Rattle.wtf_meta.specs.Maps.{seen};
 ghost use Rattle.wtf_meta.specs.Sessions.{SessionView};
 ghost use Rattle.wtf_meta.specs.Calls.{Caller};
-ghost use Rattle.wtf_region.specs.Devs.{IsSoundDev, GoesOn, stores, between};
+ghost use Rattle.wtf_region.specs.Devs.{IsSoundDev, stores};
 ghost use Rattle.wtf_region.specs.Inside.{IsStoredInside};
-ghost use Rattle.wtf_region.specs.Reads.{TellsFacts};
-ghost use Rattle.wtf_region.specs.Showing.{OnlyRead};
 ghost use Rattle.wtf_steps.specs.Faults.{MayFault};
-ghost use Rattle.wtf_steps.specs.Made.{Makes};
-ghost use Rattle.wtf_steps.specs.Steps.{in_hand, IsStepWith, IsRefusal};
-ghost use Rattle.wtf_slicing.specs.Changed.{IsConcat};
+ghost use Rattle.wtf_steps.specs.Steps.{in_hand, IsStepWith};
+ghost use Rattle.wtf_slicing.specs.declared.op.SliceOp.TheVariants.{Concat};
+ghost use Rattle.wtf_slicing.specs.Held.{SliceDone, SliceLeft};
 ghost use Rattle.wtf_slicing.specs.Ops.{IsConcatFault};
 ghost use Rattle.wtf_slicing.specs.Recorded.{concat_keys};
 ghost use Rattle.wtf_slicing.specs.Shown.{TellsLists};
-ghost use Rattle.wtf_slicing.specs.Sights.{sight};
 ghost use Rattle.wtf_slicing.specs.Steps.{IsNewFor};
 
 use crate::sources::sources;
@@ -60,20 +54,17 @@ pub(crate) fn concat<S: SliceStore>(
         IsStepWith (TellsLists S.kind dev.old dev.new (seen kv.now at.old)) x
         (seen kv.now at.old) (in_hand at.old s) (in_hand at.new s)
         (Op.Concat q.now paths.now) a) }
-    ensures made { IfOk result (λ a. (s : SessionView) → (lists : List ListFact) ×
-        TellsFacts S.kind dev.old dev.new lists ×
-        Makes a (IsConcat (sight dev.old.settings.region (seen kv.now at.old) s new lists)
-        q.now paths.now) at.old at.new) }
-    ensures logged { IfOk result (λ a. IsLogged a) }
-    ensures refused { IfOk result (λ a. IsRefusal a →
-        (dev.new ≡ dev.old) × (at.new.changes ≡ at.old.changes)) }
+    ensures done { IfOk result (λ a. (s : SessionView) → SliceDone (record {
+      kind = S.kind;
+      before = dev.old;
+      after = dev.new;
+      map = seen kv.now at.old;
+    }) new (Concat q.entry paths.entry) a (in_hand at.old s) (in_hand at.new s)) }
     ensures fault { IfErr result
         (IsConcatFault S.kind dev.old dev.new (seen kv.now at.old) paths.now) }
     ensures due { IfErr result (λ why. (s : SessionView) →
         MayFault dev.old.settings (seen kv.now at.old) s (Op.Concat q.now paths.now) why) }
-    ensures grows { Grows at.old at.new }
-    ensures reads { OnlyRead S.kind (between dev.old dev.new) }
-    ensures dev { GoesOn S.kind dev.old dev.new [] }
+    ensures left { SliceLeft S.kind dev.old dev.new at.old at.new result }
 {
     let settings = dev.settings;
     let dir = match target(alloc, kv, at, q) {

@@ -10,8 +10,10 @@ ghost use Rattle.wtf_meta.specs.Sessions.{handle_in, slice_in};
 ghost use Rattle.wtf_meta.specs.Calls.{Caller};
 ghost use Rattle.wtf_steps.specs.Steps.{in_hand, IsStepWith, NeedsNoBytes, IsRefusal};
 ghost use Rattle.wtf_steps.specs.Made.{Makes, LaysAt, AddsAt};
+ghost use Rattle.wtf_steps.specs.Holding.{LeavesHand};
 ghost use Rattle.wtf_slicing.specs.Recorded.{glue_keys};
 ghost use Rattle.wtf_slicing.specs.Changed.{kept_pieces};
+ghost use Rattle.wtf_slicing.specs.Held.{Pastes};
 
 use crate::cutting::bytes_of;
 use std::alloc::Global;
@@ -43,9 +45,9 @@ pub(crate) fn paste(
         (Op.Paste f label) a) }
     ensures made { IfOk result (λ a. Makes a (LaysAt settings.region (handle_in s.old f)
         (kept_pieces s.old label)) at.old at.new) }
+    ensures holds { IfOk result (λ a. LeavesHand a (Pastes f label) s.old s.new) }
     ensures logged { IfOk result (λ a. IsLogged a) }
-    ensures refused { IfOk result
-        (λ a. IsRefusal a → (at.new.changes ≡ at.old.changes) × (s.new ≡ s.old)) }
+    ensures refused { IfOk result (λ a. IsRefusal a → at.new.changes ≡ at.old.changes) }
     ensures err { OnErr result (s.new ≡ s.old) }
     ensures grows { Grows at.old at.new }
 {

@@ -1,19 +1,19 @@
 //! The call that takes a slice out of a file.
 
-ghost use Rattle.std.specs.Prelude.{◌≡◌, ◌++◌, [], IfOk, IfErr, OnOk, OnErr, IsTrue};
+ghost use Rattle.std.specs.Prelude.{◌≡◌, ◌++◌, IfOk, IfErr, OnOk, OnErr, IsTrue};
 ghost use Rattle.wtf_kv.specs.Stores.{is_pinned};
-ghost use Rattle.wtf_occ.specs.Attempts.{Grows};
+ghost use Rattle.wtf_base.specs.declared.ids.InodeId.{InodeId};
 ghost use Rattle.wtf_model.specs.Form.{IsHandle, IsSlice};
-ghost use Rattle.wtf_model.specs.Steps.{IsLogged};
 ghost use Rattle.wtf_meta.specs.Maps.{seen};
 ghost use Rattle.wtf_meta.specs.Sessions.{handle_in};
 ghost use Rattle.wtf_meta.specs.Calls.{Caller};
-ghost use Rattle.wtf_region.specs.Devs.{IsSoundDev, GoesOn, stores, between};
+ghost use Rattle.wtf_region.specs.Devs.{IsSoundDev, stores};
 ghost use Rattle.wtf_region.specs.Inside.{IsStoredInside};
-ghost use Rattle.wtf_region.specs.Showing.{OnlyRead};
 ghost use Rattle.wtf_steps.specs.Faults.{MayFault};
 ghost use Rattle.wtf_steps.specs.Recorded.{read_keys};
-ghost use Rattle.wtf_steps.specs.Steps.{in_hand, IsStepWith, IsRefusal};
+ghost use Rattle.wtf_steps.specs.Steps.{in_hand, IsStepWith};
+ghost use Rattle.wtf_slicing.specs.declared.op.SliceOp.TheVariants.{Yank};
+ghost use Rattle.wtf_slicing.specs.Held.{SliceDone, SliceLeft};
 ghost use Rattle.wtf_slicing.specs.Ops.{IsYankFault};
 ghost use Rattle.wtf_slicing.specs.Shown.{TellsLists};
 
@@ -63,18 +63,19 @@ pub(crate) fn yank<S: SliceStore>(
         IsStepWith (TellsLists S.kind dev.old dev.new (seen kv.now at.old)) x
         (seen kv.now at.old) (in_hand at.old s.old) (in_hand at.new s.new)
         (Op.Yank take.handle take.len take.slice) a) }
-    ensures same { OnOk result (at.new.changes ≡ at.old.changes) }
-    ensures logged { IfOk result (λ a. IsLogged a) }
-    ensures refused { IfOk result (λ a. IsRefusal a →
-        (dev.new ≡ dev.old) × (at.new.changes ≡ at.old.changes) × (s.new ≡ s.old)) }
+    ensures done { IfOk result (λ a. (made : InodeId) → SliceDone (record {
+      kind = S.kind;
+      before = dev.old;
+      after = dev.new;
+      map = seen kv.now at.old;
+    }) made (Yank take.handle take.len take.slice) a (in_hand at.old s.old)
+        (in_hand at.new s.new)) }
     ensures fault { IfErr result (IsYankFault S.kind dev.old dev.new (seen kv.now at.old)
         (handle_in s.old take.handle) take.len) }
     ensures due { IfErr result (MayFault dev.old.settings (seen kv.now at.old) s.old
         (Op.Yank take.handle take.len take.slice)) }
     ensures err { OnErr result (s.new ≡ s.old) }
-    ensures grows { Grows at.old at.new }
-    ensures reads { OnlyRead S.kind (between dev.old dev.new) }
-    ensures dev { GoesOn S.kind dev.old dev.new [] }
+    ensures left { SliceLeft S.kind dev.old dev.new at.old at.new result }
 {
     let Some(spot) = handle_of(s, take.handle) else {
         return Ok(Answer::Refused(Word::NoHandle));

@@ -1,4 +1,4 @@
-use Rattle.std.proofs.Common.{◌≡◌, ◌+◌, ◌*◌, ◌<◌, ◌≤◌, ℕ, List, [], ◌++◌, Ok, Err, refl, sym, ap, ◌∙◌, subst, arith, inl, inr}
+use Rattle.std.proofs.Common.{◌≡◌, ◌+◌, ◌*◌, ◌<◌, ◌≤◌, ℕ, List, [], ◌++◌, Ok, Err, refl, sym, ap, ◌∙◌, subst, arith, inl, inr, rules}
 use Rattle.wtf_base.specs.declared.fault.Fault.{Fault}
 use Rattle.wtf_base.specs.declared.ids.InodeId.{InodeId}
 use Rattle.wtf_kv.specs.Stores.{Store}
@@ -12,7 +12,7 @@ use Rattle.wtf_model.specs.declared.op.Op.TheVariants as op
 use Rattle.wtf_values.specs.declared.key.Key.{Key}
 use Rattle.wtf_values.specs.declared.value.Delta.{Delta}
 use Rattle.wtf_values.specs.declared.value.Value.{Value}
-use Rattle.wtf_meta.specs.Maps.{Map, Edits, seen}
+use Rattle.wtf_meta.specs.Maps.{Map, seen}
 use Rattle.wtf_meta.specs.Bytes.{MapBytes, any_slice}
 use Rattle.wtf_meta.specs.FileEdits.{edits_of}
 use Rattle.wtf_meta.specs.NameEdits.{create_edits}
@@ -24,16 +24,17 @@ use Rattle.wtf_region.specs.Edited.{Edited, LaysPieces}
 use Rattle.wtf_steps.specs.Faults.{MayFault}
 use Rattle.wtf_steps.specs.Steps.{in_hand}
 use Rattle.wtf_steps.proofs.Ways.{step_of}
+use Rattle.wtf_slicing.specs.declared.op.SliceOp.TheVariants.{Concat}
 use Rattle.wtf_slicing.specs.Recorded.{sources_keys, files_keys}
 use Rattle.wtf_slicing.specs.Sources.{sources_of, lens_of, ReadsFiles, AreFilesRead, LacksFile}
 use Rattle.wtf_slicing.specs.Changed.{IsConcat}
 use Rattle.wtf_slicing.specs.Sights.{sight}
 use Rattle.wtf_slicing.proofs.CopyWays.{went_all}
 use Rattle.wtf_slicing.proofs.ConcatWays.{grown, gathers, all_keys, concat_keys_are, not_more, too_many, concats_nowhere, concats_nothing, concats_too_much, concats}
-use Rattle.wtf_slicing.proofs.MadeWays.{told_none}
+use Rattle.wtf_slicing.proofs.DoneWays.{hand_same, done_refused}
 use Rattle.wtf_slicing.proofs.SliceWays.{step_looked}
 use Rattle.wtf_slicing.proofs.TakeFaults.{concat_due}
-use Rattle.wtf_steps.proofs.Making.{makes_refused, makes_these, keeps_changes}
+use Rattle.wtf_steps.proofs.Making.{makes_these, keeps_changes}
 use Rattle.wtf_slicing.proofs.concats.concat.Goals as goal
 
 pub returns-in-Ok-Err-clause-step : goal.returns-in-Ok-Err-clause-step
@@ -293,54 +294,43 @@ returns-in-Ok-put_pieces-clause-step g c x s size own =
       more = record { facts = refl; stored = refl; slices = reads.slices; inside = went.inside; lists = went.told };
     }
 
-pub returns-in-Ok-put_pieces-clause-grows : goal.returns-in-Ok-put_pieces-clause-grows
-returns-in-Ok-put_pieces-clause-grows g c =
-    grown c.args.at.now c.target.new.at c.sources.new.at c.total_len.new.at c.all_pieces.new.at c.make_file.new.at c.put_pieces.new.at c.in-Ok-Ok.ensures.grows c.in-Ok-Ok-sources.ensures.grows
-    c.in-Ok.ensures.grows c.in-Ok-all_pieces.ensures.grows c.in-Ok-make_file.ensures.grows c.in-Ok-put_pieces.ensures.grows
-
-pub returns-in-Err-put_pieces-clause-grows : goal.returns-in-Err-put_pieces-clause-grows
-returns-in-Err-put_pieces-clause-grows g c =
-    grown c.args.at.now c.target.new.at c.sources.new.at c.total_len.new.at c.all_pieces.new.at c.make_file.new.at c.put_pieces.new.at c.in-Ok-Ok.ensures.grows c.in-Ok-Ok-sources.ensures.grows
-    c.in-Ok.ensures.grows c.in-Ok-all_pieces.ensures.grows c.in-Ok-make_file.ensures.grows c.in-Err-put_pieces.ensures.grows
-
-pub returns-in-Ok-Err-clause-made : goal.returns-in-Ok-Err-clause-made
-returns-in-Ok-Err-clause-made g c s =
+pub returns-in-Ok-Err-clause-done : goal.returns-in-Ok-Err-clause-done
+returns-in-Ok-Err-clause-done g c s =
+    let dev = c.args.dev.now in
     let at = c.args.at.now in
-    let F : Edits → Type 0 = IsConcat (sight c.args.dev.now.settings.region (seen c.args.kv.now at) s c.args.new []) c.args.q.now c.args.paths.now in (
-      [],
-      told_none g.S.SliceStore.kind c.args.dev.now c.args.dev.now,
-      makes_refused (answer.Refused c.in-Ok-Err.word) c.in-Ok-Err.word F at c.target.new.at refl (keeps_changes at c.target.new.at _ c.in-Ok-Err.ensures.went),
-    )
+    done_refused (record { kind = g.S.SliceStore.kind; before = dev; after = dev; map = seen c.args.kv.now at }) c.args.new
+    (Concat c.args.q c.args.paths) c.in-Ok-Err.word
+    (in_hand at s) (in_hand c.target.new.at s) refl (keeps_changes at c.target.new.at _ c.in-Ok-Err.ensures.went) refl
 
-pub returns-in-Ok-Err-sources-clause-made : goal.returns-in-Ok-Err-sources-clause-made
-returns-in-Ok-Err-sources-clause-made g c s =
+pub returns-in-Ok-Err-sources-clause-done : goal.returns-in-Ok-Err-sources-clause-done
+returns-in-Ok-Err-sources-clause-done g c s =
     let kv = c.args.kv.now in
+    let dev = c.args.dev.now in
     let at = c.args.at.now in
     let mid = c.target.new.at in
     let far = c.sources.new.at in
-    let word = c.in-Ok-Err-sources.word in
-    let b : Map = seen kv at in
-    let F : Edits → Type 0 = IsConcat (sight c.args.dev.now.settings.region b s c.args.new []) c.args.q.now c.args.paths.now in
-    let first : mid.changes ≡ at.changes = keeps_changes at mid (target_keys b c.args.q.now) c.in-Ok-Ok.ensures.went in
+    let first : mid.changes ≡ at.changes = keeps_changes at mid (target_keys (seen kv at) c.args.q.now) c.in-Ok-Ok.ensures.went in
     let second : far.changes ≡ mid.changes = keeps_changes mid far (sources_keys (seen kv mid) c.as_slice.result.now) c.in-Ok-Err-sources.ensures.went in
-    ([], told_none g.S.SliceStore.kind c.args.dev.now c.args.dev.now, makes_refused (answer.Refused word) word F at far refl (second ∙ first))
+    done_refused (record { kind = g.S.SliceStore.kind; before = dev; after = dev; map = seen kv at }) c.args.new
+    (Concat c.args.q c.args.paths) c.in-Ok-Err-sources.word
+    (in_hand at s) (in_hand far s) refl (second ∙ first) refl
 
-pub returns-then-len-cap-clause-made : goal.returns-then-len-cap-clause-made
-returns-then-len-cap-clause-made g c s =
+pub returns-then-len-cap-clause-done : goal.returns-then-len-cap-clause-done
+returns-then-len-cap-clause-done g c s =
     let kv = c.args.kv.now in
+    let dev = c.args.dev.now in
     let at = c.args.at.now in
     let mid = c.target.new.at in
     let far = c.sources.new.at in
     let read = c.total_len.new.at in
-    let b : Map = seen kv at in
-    let F : Edits → Type 0 = IsConcat (sight c.args.dev.now.settings.region b s c.args.new []) c.args.q.now c.args.paths.now in
-    let first : mid.changes ≡ at.changes = keeps_changes at mid (target_keys b c.args.q.now) c.in-Ok-Ok.ensures.went in
+    let first : mid.changes ≡ at.changes = keeps_changes at mid (target_keys (seen kv at) c.args.q.now) c.in-Ok-Ok.ensures.went in
     let second : far.changes ≡ mid.changes = keeps_changes mid far (sources_keys (seen kv mid) c.as_slice.result.now) c.in-Ok-Ok-sources.ensures.went in
     let third : read.changes ≡ far.changes = keeps_changes far read (files_keys (seen kv far) c.as_slice-2.result.now) c.in-Ok.ensures.went in
-    ([], told_none g.S.SliceStore.kind c.args.dev.now c.args.dev.now, makes_refused (answer.Refused TooBig) TooBig F at read refl (third ∙ second ∙ first))
+    done_refused (record { kind = g.S.SliceStore.kind; before = dev; after = dev; map = seen kv at }) c.args.new (Concat c.args.q c.args.paths) TooBig
+    (in_hand at s) (in_hand read s) refl (third ∙ second ∙ first) refl
 
-pub returns-in-Ok-put_pieces-clause-made : goal.returns-in-Ok-put_pieces-clause-made
-returns-in-Ok-put_pieces-clause-made g c s =
+pub returns-in-Ok-put_pieces-clause-done : goal.returns-in-Ok-put_pieces-clause-done
+returns-in-Ok-put_pieces-clause-done g c s =
     let kv = c.args.kv.now in
     let at = c.args.at.now in
     let mid = c.target.new.at in
@@ -379,10 +369,10 @@ returns-in-Ok-put_pieces-clause-made g c s =
     (subst (λ (l : List InodeId). AreFilesRead kind c.args.dev.now c.all_pieces.new.dev (seen kv read) l out) c.as_slice-3.ensures.value
     c.in-Ok-all_pieces.ensures.read) in
     let all = went_all at mid far read c.make_file.new.at into (target_keys b q) (sources_keys b ps) (files_keys b is) (create_edits dir q new)
-    (edits_of new laid.edits) first second third made laid.grows in (
-      went.facts,
-      went.told,
-      makes_these (IsConcat (sight z b s new went.facts) q ps) (create_edits dir q new ++ edits_of new laid.edits) at into all.changes (record {
+    (edits_of new laid.edits) first second third made laid.grows in
+    record {
+      recalls = record { facts = went.facts; recalls = went.recalls; known = went.told; refused = λ h. absurd h; made = λ going. (is, f, went.wants) };
+      makes = makes_these (IsConcat (sight z b s new went.facts) q ps) (create_edits dir q new ++ edits_of new laid.edits) at into all.changes (record {
         dir = dir;
         target = e;
         files = is;
@@ -392,5 +382,28 @@ returns-in-Ok-put_pieces-clause-made g c s =
         edits = laid.edits;
         laid = laid.does.exact;
         is = refl;
-      }),
-    )
+      });
+      holds = hand_same answer.Okay s s refl;
+    }
+
+pub returns-in-Ok-put_pieces-clause-left : goal.returns-in-Ok-put_pieces-clause-left
+returns-in-Ok-put_pieces-clause-left g c = record {
+  logged = search rules;
+  refused = λ h. absurd h;
+  grows = grown c.args.at.now c.target.new.at c.sources.new.at c.total_len.new.at c.all_pieces.new.at c.make_file.new.at c.put_pieces.new.at
+      c.in-Ok-Ok.ensures.grows c.in-Ok-Ok-sources.ensures.grows
+      c.in-Ok.ensures.grows c.in-Ok-all_pieces.ensures.grows c.in-Ok-make_file.ensures.grows c.in-Ok-put_pieces.ensures.grows;
+  reads = c.in-Ok-all_pieces.ensures.reads;
+  dev = c.in-Ok-all_pieces.ensures.dev;
+}
+
+pub returns-in-Err-put_pieces-clause-left : goal.returns-in-Err-put_pieces-clause-left
+returns-in-Err-put_pieces-clause-left g c = record {
+  logged = tt;
+  refused = tt;
+  grows = grown c.args.at.now c.target.new.at c.sources.new.at c.total_len.new.at c.all_pieces.new.at c.make_file.new.at c.put_pieces.new.at
+      c.in-Ok-Ok.ensures.grows c.in-Ok-Ok-sources.ensures.grows
+      c.in-Ok.ensures.grows c.in-Ok-all_pieces.ensures.grows c.in-Ok-make_file.ensures.grows c.in-Err-put_pieces.ensures.grows;
+  reads = c.in-Ok-all_pieces.ensures.reads;
+  dev = c.in-Ok-all_pieces.ensures.dev;
+}

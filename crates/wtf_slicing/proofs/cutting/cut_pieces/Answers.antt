@@ -1,56 +1,33 @@
-use Rattle.std.proofs.Common.{◌≡◌, ◌+◌, ◌-◌, ◌<◌, ◌≤◌, ℕ, ◌++◌, [], ◌∷◌, take, List, arith, sym, ap, ◌∙◌, subst, inl, inr}
-use Rattle.std.proofs.lemmas.Bool.{cases_lt}
-use Rattle.std.proofs.lemmas.List.{take_all}
-use Rattle.wtf_overlay.specs.Origin.{part_origin, pieces_len, pieces_origin, Plans}
+use Rattle.std.proofs.Common.{◌≡◌, ◌+◌, ◌≤◌, List, Some, sym, ap, ◌∙◌, subst, arith}
+use Rattle.std.specs.Option.{option_copied}
+use Rattle.wtf_overlay.specs.Origin.{Plans, pieces_len, pieces_origin}
 use Rattle.wtf_overlay.specs.declared.part.Piece.{Piece}
-use Rattle.wtf_overlay.proofs.Pieces.{Plans-cut}
-use Rattle.wtf_meta.proofs.Piecewise.{pieces_len_more}
+use Rattle.wtf_meta.specs.Sessions.{SessionView, slice_in}
+use Rattle.wtf_slicing.proofs.Parts.{within_of, plans_some, byte_of, rest_of, rest_len, rest_plans}
 use Rattle.wtf_slicing.proofs.cutting.cut_pieces.Goals as goal
 
-pub loop-piece-preserved-then-skip-piece : goal.loop-piece-preserved-then-skip-piece
-loop-piece-preserved-then-skip-piece c =
-    let inv = c.loop-piece.invariant in
-    let more = pieces_len_more c.args.pieces.now c.loop-piece.piece-index c.piece-item.result c.loop-piece-test.true c.piece-item.is in
-    record { upto = inv.upto; plans = inv.plans; place = λ some. let at = inv.place some in omega (arith, at, more, c.if-skip-piece.true) }
+pub copy_part-requires-clause-within : goal.copy_part-requires-clause-within
+copy_part-requires-clause-within c =
+    let t = c.index.new.self in
+    let k = c.in-Some.begin.piece in
+    let skip = c.in-Some.begin.skip in
+    let ps = c.in-Some-slice.pieces.now in
+    let there : slice_in t c.args.from ≡ Some ps = sym c.slice.ensures ∙ ap option_copied c.in-Some-slice.is in
+    let was : slice_in c.args.s.now c.args.from ≡ Some ps = ap (λ (v : SessionView). slice_in v c.args.from) (sym c.index.ensures) ∙ there in
+    let at = byte_of (slice_in t c.args.from) ps c.args.off k skip there c.in-Some.ensures.found in
+    let within : c.args.off + c.args.len ≤ pieces_len ps = within_of (slice_in c.args.s.now c.args.from) ps (c.args.off + c.args.len) was c.requires.within in
+    omega (arith, ap pieces_len (rest_of ps k), rest_len ps c.args.off k skip at, within)
 
-pub loop-piece-preserved : goal.loop-piece-preserved
-loop-piece-preserved c =
-    let ps = c.args.pieces.now in
-    let off = c.args.off in
-    let n = c.loop-piece.piece-index in
-    let p = c.piece-item.result in
-    let q = c.part_of.result in
-    let k = c.min-n.result in
-    let skip = c.loop-piece.skip in
-    let left = c.loop-piece.left in
-    let done : ℕ = c.args.len - left in
-    let inv = c.loop-piece.invariant in
-    let at = inv.place (omega (arith, c.if-left-eq0.false)) in
-    let more = pieces_len_more ps n p c.loop-piece-test.true c.piece-item.is in
-    let len : q.len ≡ k = c.part_of.ensures.len in
-    let count = c.min-n.ensures in
-    let here : skip ≡ off + done - pieces_len (take n ps) = omega (arith, at) in
-    let plans : Plans (c.loop-piece.out.items ++ q ∷ []) (c.args.len - (left - k)) (λ i. pieces_origin ps (off + i)) =
-    Plans-cut ps c.loop-piece.out.items n off done (c.args.len - (left - k)) p q c.loop-piece-test.true c.piece-item.is inv.plans (omega (arith, at))
-    (omega (arith, at, len, count, c.if-skip-piece.false)) (omega (arith, inv.upto, len, count))
-    (λ i. c.part_of.ensures.origin i ∙ ap (λ (j : ℕ). part_origin p.part (j + i)) here) in
-    record {
-      upto = omega (arith, inv.upto);
-      plans = subst (λ (l : List Piece). Plans l (c.args.len - (left - k)) (λ i. pieces_origin ps (off + i))) (sym c.in_ok-push.ensures.items) plans;
-      place = λ some. omega (arith, at, more, count, inv.upto, some, c.if-skip-piece.false);
-    }
-
-over : (left len off skip upto whole : ℕ) → (0 < left → upto + skip ≡ off + (len - left)) → upto ≡ whole → off + len ≤ whole → left ≤ len → len - left ≡ len
-over left len off skip upto whole place all within below = elim (cases_lt 0 left) [
-  | inl some ↦ let at = place some in absurd (omega (arith, at, all, within, some, below))
-  | inr none ↦ omega (arith, none)
-]
-
-pub returns : goal.returns
-returns c =
-    let ps = c.args.pieces.now in
-    let inv = c.loop-piece.invariant in
-    let left = c.loop-piece.left in
-    let all = ap pieces_len (take_all c.loop-piece.piece-index ps c.loop-piece-test.false) in
-    let none : c.args.len - left ≡ c.args.len = over left c.args.len c.args.off c.loop-piece.skip (pieces_len (take c.loop-piece.piece-index ps)) (pieces_len ps) inv.place all c.requires.within inv.upto in
-    subst (λ (n : ℕ). Plans c.loop-piece.out.items n (λ i. pieces_origin ps (c.args.off + i))) none inv.plans
+pub returns-clause-part : goal.returns-clause-part
+returns-clause-part c =
+    let t = c.index.new.self in
+    let k = c.in-Some.begin.piece in
+    let skip = c.in-Some.begin.skip in
+    let ps = c.in-Some-slice.pieces.now in
+    let out = c.in_ok-part.part.items in
+    let n = c.args.len in
+    let there : slice_in t c.args.from ≡ Some ps = sym c.slice.ensures ∙ ap option_copied c.in-Some-slice.is in
+    let was : slice_in c.args.s.now c.args.from ≡ Some ps = ap (λ (v : SessionView). slice_in v c.args.from) (sym c.index.ensures) ∙ there in
+    let at = byte_of (slice_in t c.args.from) ps c.args.off k skip there c.in-Some.ensures.found in
+    plans_some (slice_in c.args.s.now c.args.from) ps out c.args.off n was
+    (rest_plans ps out c.args.off k skip n at (subst (λ (l : List Piece). Plans out n (λ i. pieces_origin l (skip + i))) (rest_of ps k) c.in_ok-part.ensures))

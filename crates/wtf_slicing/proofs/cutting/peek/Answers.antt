@@ -1,7 +1,6 @@
-use Rattle.std.proofs.Common.{◌≡◌, ◌+◌, ℕ, List, [], Option, Some, refl, sym, ap, ◌∙◌, subst, inr}
-use Rattle.std.specs.Option.{option_copied}
+use Rattle.std.proofs.Common.{◌+◌, ◌≤◌, ℕ, List, [], Option, refl, sym, ◌∙◌, subst, arith, inr}
 use Rattle.wtf_occ.proofs.AttemptLaws.{GrowsBy-nothing}
-use Rattle.wtf_overlay.specs.Origin.{pieces_origin}
+use Rattle.wtf_overlay.specs.Origin.{Plans, pieces_len, pieces_origin}
 use Rattle.wtf_overlay.specs.declared.part.Piece.{Piece}
 use Rattle.wtf_replica.specs.Bytes.{byte_at}
 use Rattle.wtf_model.specs.declared.answer.Answer.TheVariants as answer
@@ -19,6 +18,7 @@ use Rattle.wtf_region.proofs.Spans.{goes_nowhere}
 use Rattle.wtf_steps.proofs.ReadWays.{shows}
 use Rattle.wtf_slicing.specs.Shown.{LacksSlice}
 use Rattle.wtf_model.proofs.SliceLaws.{peek-none}
+use Rattle.wtf_slicing.proofs.Parts.{there, never_set, within_some, plans_of}
 use Rattle.wtf_slicing.proofs.SliceWays.{no_slice, peeks_past, peeks, step_told}
 use Rattle.wtf_slicing.proofs.PeekWays.{part_tells, peek_due}
 use Rattle.wtf_slicing.proofs.cutting.peek.Goals as goal
@@ -28,25 +28,36 @@ returns-in_default-clause-step g c x b now e =
     let s = c.args.s.now in
     let o = op.Peek c.args.from c.args.off c.args.len in
     step_told g.S.SliceStore.kind (stores c.args.dev.now) (stores c.args.dev.now) s x b now o (answer.Refused NoSlice) e
-    (no_slice x b s c.args.from o (sym c.slice.ensures ∙ ap option_copied c.in_default.is) (λ S none. peek-none (cap_for x) S c.args.from c.args.off c.args.len none))
+    (no_slice x b s c.args.from o (never_set (slice_in s c.args.from) (sym c.in_default.is ∙ c.slice_len.ensures))
+    (λ S none. peek-none (cap_for x) S c.args.from c.args.off c.args.len none))
+
+pub cut_pieces-requires-clause-within : goal.cut_pieces-requires-clause-within
+cut_pieces-requires-clause-within g c =
+    let o = slice_in c.args.s.now c.args.from in
+    let is = there o c.in-Some.whole (sym c.in-Some.is ∙ c.slice_len.ensures) in
+    within_some o is.pieces (c.args.off + c.args.len) is.is (omega (arith, is.len, c.is_part.ensures.inside c.if-not-is_part.false))
 
 pub returns-then-not-is_part-clause-step : goal.returns-then-not-is_part-clause-step
 returns-then-not-is_part-clause-step g c x b now e =
     let s = c.args.s.now in
-    let ps = c.in-Some.pieces.now in
-    let there : slice_in s c.args.from ≡ Some ps = sym c.slice.ensures ∙ ap option_copied c.in-Some.is in
+    let is = there (slice_in c.args.s.now c.args.from) c.in-Some.whole (sym c.in-Some.is ∙ c.slice_len.ensures) in
+    let ps = is.pieces in
     step_told g.S.SliceStore.kind (stores c.args.dev.now) (stores c.args.dev.now) s x b now (op.Peek c.args.from c.args.off c.args.len) (answer.Refused Range) e
-    (peeks_past x b s c.args.from c.args.off c.args.len ps there (c.is_part.ensures.past c.if-not-is_part.true))
+    (peeks_past x b s c.args.from c.args.off c.args.len ps is.is (omega
+    (arith, is.len, c.is_part.ensures.past c.if-not-is_part.true, c.requires.off, c.requires.len)))
 
 pub show-requires-clause-readable : goal.show-requires-clause-readable
 show-requires-clause-readable g c =
     let kind = g.S.SliceStore.kind in
     let dev = c.args.dev.now in
-    let ps = c.in-Some.pieces.now in
+    let is = there (slice_in c.args.s.now c.args.from) c.in-Some.whole (sym c.in-Some.is ∙ c.slice_len.ensures) in
+    let ps = is.pieces in
+    let within : c.args.off + c.args.len ≤ pieces_len ps = omega (arith, is.len, c.is_part.ensures.inside c.if-not-is_part.false) in
     let out = c.in-Ok.part.items in
-    let there : slice_in c.args.s.now c.args.from ≡ Some ps = sym c.slice.ensures ∙ ap option_copied c.in-Some.is in
+    let plans : Plans out c.args.len (λ i. pieces_origin ps (c.args.off + i)) = plans_of
+    (slice_in c.args.s.now c.args.from) ps out c.args.off c.args.len is.is c.in-Ok.ensures.part in
     let inside : PiecesBytes (is_inside kind (stores dev) dev.settings) out =
-    PiecesBytes-cut (is_inside kind (stores dev) dev.settings) ps out c.args.off c.args.len (c.requires.inside c.args.from ps there) (c.is_part.ensures.inside c.if-not-is_part.false) c.in-Ok.ensures in
+    PiecesBytes-cut (is_inside kind (stores dev) dev.settings) ps out c.args.off c.args.len (c.requires.inside c.args.from ps is.is) within plans in
     subst (λ (qs : List Piece). AreReadable kind (is_down_in dev) (stores dev) qs) (sym c.as_slice.ensures.value)
     (λ k d below. readable_from kind (is_down_in dev) (stores dev) dev.settings out c.requires.sound.shelf inside k d below)
 
@@ -55,17 +66,20 @@ returns-in-Err-show-clause-fault g c =
     let kind = g.S.SliceStore.kind in
     let dev = c.args.dev.now in
     let new = c.show.new.dev in
-    let ps = c.in-Some.pieces.now in
+    let is = there (slice_in c.args.s.now c.args.from) c.in-Some.whole (sym c.in-Some.is ∙ c.slice_len.ensures) in
+    let ps = is.pieces in
+    let within : c.args.off + c.args.len ≤ pieces_len ps = omega (arith, is.len, c.is_part.ensures.inside c.if-not-is_part.false) in
     let out = c.in-Ok.part.items in
+    let plans : Plans out c.args.len (λ i. pieces_origin ps (c.args.off + i)) = plans_of
+    (slice_in c.args.s.now c.args.from) ps out c.args.off c.args.len is.is c.in-Ok.ensures.part in
     let n = c.args.len in
-    let there : slice_in c.args.s.now c.args.from ≡ Some ps = sym c.slice.ensures ∙ ap option_copied c.in-Some.is in
-    subst (λ (o : Option (List Piece)). LacksSlice kind dev new o c.args.off n c.in-Err-show.why) (sym there) (inr (record {
+    subst (λ (o : Option (List Piece)). LacksSlice kind dev new o c.args.off n c.in-Err-show.why) (sym is.is) (inr (record {
       mid = dev;
       goes = goes_nowhere g.met.S.SliceStore.laws dev c.requires.sound;
       pieces = out;
-      are = c.in-Ok.ensures;
-      inside = PiecesBytes-cut (inside_of kind dev) ps out c.args.off n (c.requires.inside c.args.from ps there)
-          (c.is_part.ensures.inside c.if-not-is_part.false) c.in-Ok.ensures;
+      are = plans;
+      inside = PiecesBytes-cut (inside_of kind dev) ps out c.args.off n (c.requires.inside c.args.from ps is.is)
+          within plans;
       fault = subst (λ (qs : List Piece). IsShowFault kind (between dev new) (pieces_in 0 n qs) c.in-Err-show.why) c.as_slice.ensures.value c.in-Err-show.ensures.fault;
     }))
 
@@ -74,14 +88,17 @@ returns-in-Err-show-clause-due g c w =
     let kind = g.S.SliceStore.kind in
     let dev = c.args.dev.now in
     let new = c.show.new.dev in
-    let ps = c.in-Some.pieces.now in
+    let is = there (slice_in c.args.s.now c.args.from) c.in-Some.whole (sym c.in-Some.is ∙ c.slice_len.ensures) in
+    let ps = is.pieces in
+    let within : c.args.off + c.args.len ≤ pieces_len ps = omega (arith, is.len, c.is_part.ensures.inside c.if-not-is_part.false) in
     let out = c.in-Ok.part.items in
+    let plans : Plans out c.args.len (λ i. pieces_origin ps (c.args.off + i)) = plans_of
+    (slice_in c.args.s.now c.args.from) ps out c.args.off c.args.len is.is c.in-Ok.ensures.part in
     let n = c.args.len in
-    let there : slice_in c.args.s.now c.args.from ≡ Some ps = sym c.slice.ensures ∙ ap option_copied c.in-Some.is in
-    let within = c.is_part.ensures.inside c.if-not-is_part.false in
     let inside : PiecesBytes (is_inside kind (stores dev) dev.settings) out =
-    PiecesBytes-cut (is_inside kind (stores dev) dev.settings) ps out c.args.off n (c.requires.inside c.args.from ps there) within c.in-Ok.ensures in
-    peek_due kind (between dev new) (stores dev) dev.settings w c.args.s.now c.args.from c.args.off n ps out c.in-Err-show.why there within c.requires.sound.shelf inside
+    PiecesBytes-cut (is_inside kind (stores dev) dev.settings) ps out c.args.off n (c.requires.inside c.args.from ps is.is) within plans in
+    peek_due kind (between dev new) (stores dev) dev.settings w c.args.s.now c.args.from c.args.off n ps out
+    c.in-Err-show.why is.is within c.requires.sound.shelf inside
     (subst (λ (qs : List Piece). IsShowFault kind (between dev new) (pieces_in 0 n qs) c.in-Err-show.why) c.as_slice.ensures.value c.in-Err-show.ensures.fault)
 
 pub returns-clause-step : goal.returns-clause-step
@@ -89,13 +106,15 @@ returns-clause-step g c x b now e =
     let kind = g.S.SliceStore.kind in
     let dev = c.args.dev.now in
     let s = c.args.s.now in
-    let ps = c.in-Some.pieces.now in
+    let is = there (slice_in c.args.s.now c.args.from) c.in-Some.whole (sym c.in-Some.is ∙ c.slice_len.ensures) in
+    let ps = is.pieces in
+    let within : c.args.off + c.args.len ≤ pieces_len ps = omega (arith, is.len, c.is_part.ensures.inside c.if-not-is_part.false) in
     let out = c.in-Ok.part.items in
+    let plans : Plans out c.args.len (λ i. pieces_origin ps (c.args.off + i)) = plans_of
+    (slice_in c.args.s.now c.args.from) ps out c.args.off c.args.len is.is c.in-Ok.ensures.part in
     let off = c.args.off in
     let n = c.args.len in
     let bytes = c.show.new.out.items in
-    let there : slice_in s c.args.from ≡ Some ps = sym c.slice.ensures ∙ ap option_copied c.in-Some.is in
-    let within = c.is_part.ensures.inside c.if-not-is_part.false in
     let shown : Shown (byte_at kind (stores dev)) n (λ j. pieces_origin out (0 + j)) [] bytes =
     subst (λ (old : List ℕ). Shown (byte_at kind (stores dev)) n (λ j. pieces_origin out (0 + j)) old bytes) c.new-out.ensures.items
     (subst (λ (qs : List Piece). Shown (byte_at kind (stores dev)) n (λ j. pieces_origin qs (0 + j)) c.new-out.result.items bytes) c.as_slice.ensures.value c.in-Ok-show.ensures.shown) in
@@ -104,10 +123,10 @@ returns-clause-step g c x b now e =
       grows = GrowsBy-nothing now.at;
       is_call = subst (λ (v : SessionView). IsCall x b v v (shows [] [] out bytes) (op.Peek c.args.from off n) (answer.Shown c.of.result)) (sym e)
           (subst (λ (l : List ℕ). IsCall x b s s (shows [] [] out bytes) (op.Peek c.args.from off n) (answer.Shown l)) (sym c.of.ensures)
-          (peeks x b s c.args.from off n ps out bytes there within c.in-Ok.ensures));
+          (peeks x b s c.args.from off n ps out bytes is.is within plans));
       more = record {
         stored = refl;
         lists = refl;
-        told = λ told. (part_tells g.met.S.SliceStore.laws c.in-Ok-show.ensures.dev.each ps out off n bytes within c.in-Ok.ensures shown (told c.args.from ps there), tt);
+        told = λ told. (part_tells g.met.S.SliceStore.laws c.in-Ok-show.ensures.dev.each ps out off n bytes within plans shown (told c.args.from ps is.is), tt);
       };
     }

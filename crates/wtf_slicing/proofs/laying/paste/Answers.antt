@@ -18,7 +18,9 @@ use Rattle.wtf_slicing.proofs.LayWays.{lays, pastes_unset, pastes_nothing, paste
 use Rattle.wtf_overlay.specs.declared.part.Piece.{Piece}
 use Rattle.wtf_steps.specs.Made.{Makes, LaysAt}
 use Rattle.wtf_steps.proofs.Making.{makes_refused, makes_nothing, makes_laid}
+use Rattle.wtf_steps.proofs.Handing.{hand_refused, hand_goes, moves_on, moves_nowhere}
 use Rattle.wtf_slicing.specs.Changed.{kept_pieces}
+use Rattle.wtf_slicing.specs.Held.{Pastes}
 use Rattle.wtf_slicing.proofs.MadeWays.{kept_is, lays_no_byte}
 use Rattle.wtf_slicing.proofs.laying.paste.Goals as goal
 
@@ -80,7 +82,8 @@ returns-clause-step c x b size =
     let open_at = spot_open c.handle_of.result (handle_in s f) spot c.handle_of.ensures c.in-Some.is in
     let h = open_at.handle in
     let fit = c.ends_within.ensures.within c.if-not-ends_within.false in
-    let len : c.bytes_of-len.result ≡ pieces_len ps = whole c.bytes_of-len.result (pieces_len ps) spot.off c.cap.result c.args.settings.region c.bytes_of-len.ensures fit c.cap.ensures (omega (arith, c.args.settings.limits)) in
+    let len : c.bytes_of-len.result ≡ pieces_len ps = whole c.bytes_of-len.result
+    (pieces_len ps) spot.off c.cap.result c.args.settings.region c.bytes_of-len.ensures fit c.cap.ensures (omega (arith, c.args.settings.limits)) in
     let edited : Edited h.inode [] (LaysPieces x.size h.off h.inode ps) old new =
     subst (λ (i : InodeId). Edited i [] (LaysPieces x.size h.off i ps) old new) open_at.inode
     (subst (λ (k : ℕ). Edited spot.inode [] (LaysPieces x.size k spot.inode ps) old new) open_at.off
@@ -134,3 +137,41 @@ returns-clause-made c =
     let open_at = spot_open c.handle_of.result o spot c.handle_of.ensures c.in-Some.is in
     subst (λ (qs : List Piece). Makes answer.Okay (LaysAt z o qs) old new) (sym (kept_is s c.args.label ps there))
     (makes_laid z o open_at.handle spot.inode spot.off ps old new open_at.is open_at.inode open_at.off c.in_ok-put_pieces.ensures.ok)
+
+pub returns-in_default-clause-holds : goal.returns-in_default-clause-holds
+returns-in_default-clause-holds c = hand_refused (answer.Refused NoHandle) NoHandle (Pastes c.args.f c.args.label) c.args.s.now refl
+
+pub returns-in_default-slice-clause-holds : goal.returns-in_default-slice-clause-holds
+returns-in_default-slice-clause-holds c = hand_refused (answer.Refused NoSlice) NoSlice (Pastes c.args.f c.args.label) c.args.s.now refl
+
+pub returns-then-not-ends_within-clause-holds : goal.returns-then-not-ends_within-clause-holds
+returns-then-not-ends_within-clause-holds c = hand_refused (answer.Refused TooBig) TooBig (Pastes c.args.f c.args.label) c.args.s.now refl
+
+pub returns-then-len-eq0-clause-holds : goal.returns-then-len-eq0-clause-holds
+returns-then-len-eq0-clause-holds c =
+    let s = c.args.s.now in
+    let f = c.args.f in
+    let label = c.args.label in
+    let ps = c.in-Some-slice.pieces.now in
+    let there : slice_in s label ≡ Some ps = sym c.slice.ensures ∙ ap option_copied c.in-Some-slice.is in
+    let open_at = spot_open c.handle_of.result (handle_in s f) c.in-Some.spot c.handle_of.ensures c.in-Some.is in
+    hand_goes answer.Okay (Pastes f label) s s (λ h. h)
+    (moves_nowhere f (λ h. pieces_len (kept_pieces s label)) s open_at.handle open_at.is (ap pieces_len (kept_is s label ps there) ∙ omega
+    (arith, c.bytes_of-len.ensures, c.if-len-eq0.true)))
+
+pub returns-clause-holds : goal.returns-clause-holds
+returns-clause-holds c =
+    let s = c.args.s.now in
+    let f = c.args.f in
+    let label = c.args.label in
+    let ps = c.in-Some-slice.pieces.now in
+    let spot = c.in-Some.spot in
+    let there : slice_in s label ≡ Some ps = sym c.slice.ensures ∙ ap option_copied c.in-Some-slice.is in
+    let open_at = spot_open c.handle_of.result (handle_in s f) spot c.handle_of.ensures c.in-Some.is in
+    let fit = c.ends_within.ensures.within c.if-not-ends_within.false in
+    let len : c.bytes_of-len.result ≡ pieces_len ps = whole c.bytes_of-len.result
+    (pieces_len ps) spot.off c.cap.result c.args.settings.region c.bytes_of-len.ensures fit c.cap.ensures (omega (arith, c.args.settings.limits)) in
+    let all : pieces_len (kept_pieces s label) ≡ pieces_len ps = ap pieces_len (kept_is s label ps there) in
+    hand_goes answer.Okay (Pastes f label) s c.move_handle.new.self (λ h. h)
+    (moves_on f (spot.off + c.bytes_of-len.result) (λ h. pieces_len (kept_pieces s label)) s c.move_handle.new.self open_at.handle open_at.is
+    (omega (arith, open_at.off, len, all)) c.move_handle.ensures)

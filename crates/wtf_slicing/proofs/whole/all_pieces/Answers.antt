@@ -1,7 +1,6 @@
-use Rattle.std.proofs.Common.{◌≡◌, ◌+◌, ◌*◌, ◌≤◌, List, [], ◌∷◌, ◌++◌, take, refl, sym, ◌∙◌, subst, inl, inr}
+use Rattle.std.proofs.Common.{◌≡◌, ◌+◌, ◌*◌, ◌≤◌, List, [], ◌∷◌, ◌++◌, take, drop, refl, sym, ap, ◌∙◌, subst, inl, inr}
 use Rattle.std.specs.Prelude.{slice_index_or}
-use Rattle.std.proofs.lemmas.List.{take_more}
-use Rattle.std.proofs.lemmas.List.Elements.{Contains-get_or}
+use Rattle.std.proofs.lemmas.List.{take_more, take-append-drop, drop_more}
 use Rattle.wtf_base.specs.declared.ids.InodeId.{InodeId}
 use Rattle.wtf_base.specs.declared.settings.Settings.{Settings}
 use Rattle.wtf_occ.proofs.AttemptLaws.{GrowsBy-nothing, Grows-by, Grows-on}
@@ -72,8 +71,13 @@ returns-in-Err-clause-fault g c =
       | inr lacks ↦ inr (record {
         mid = mid;
         goes = inv.each;
+        read = take n is;
         inode = i;
-        one = Contains-get_or is n none c.loop-inode-test.true;
+        rest = drop (n + 1) is;
+        split = sym (take-append-drop n is) ∙ ap (λ (l : List InodeId). take n is ++ l) (drop_more is n none c.loop-inode-test.true);
+        before = inv.read.facts;
+        earlier = inv.read.wants;
+        recalls = inv.read.recalls;
         cause = subst (λ (st : Settings). LacksRegion kind mid new (file_of i b) 0 (file_len st.region (file_of i b)) c.in-Err.why) inv.each.settings
             (subst (λ (m : Map). LacksRegion kind mid new (file_of i m) 0 (file_len mid.settings.region (file_of i m)) c.in-Err.why) inv.same lacks);
       })

@@ -24,8 +24,14 @@ use Rattle.wtf_steps.specs.Steps.{in_hand}
 use Rattle.wtf_index.proofs.Going.{keys_more}
 use Rattle.wtf_steps.proofs.Ways.{no_handle, step_of, spot_open, spot_closed}
 use Rattle.wtf_steps.proofs.ReadWays.{same_touched, found_due, reads_due, lacks_due}
-use Rattle.wtf_steps.proofs.Making.{keeps_changes}
+use Rattle.wtf_steps.proofs.Handing.{hand_goes}
+use Rattle.wtf_steps.proofs.Making.{makes_nothing, keeps_changes}
 use Rattle.wtf_model.proofs.SliceLaws.{yank-none}
+use Rattle.wtf_slicing.specs.declared.op.SliceOp.TheVariants.{Yank}
+use Rattle.wtf_slicing.specs.Changed.{SliceMade}
+use Rattle.wtf_slicing.specs.Sights.{Sight, sight}
+use Rattle.wtf_slicing.specs.Held.{Yanks, SliceHolds}
+use Rattle.wtf_slicing.proofs.DoneWays.{done_refused, wants_due}
 use Rattle.wtf_slicing.proofs.SliceWays.{looks, yanks, step_looked}
 use Rattle.wtf_slicing.proofs.TakeFaults.{yank_due}
 use Rattle.wtf_slicing.proofs.yanks.yank.Goals as goal
@@ -126,7 +132,8 @@ returns-clause-step g c x size =
     let h = open_at.handle in
     let inode : i ≡ h.inode = open_at.inode in
     let off : spot.off ≡ h.off = open_at.off in
-    let count0 : k ≡ found_in z b h n = found_due c.cap.result z c.in-Ok.len spot.off n k i b h c.found_len-k.ensures c.cap.ensures c.in-Ok.ensures.value inode off in
+    let count0 : k ≡ found_in z b h n = found_due c.cap.result z c.in-Ok.len spot.off n k i b h
+    c.found_len-k.ensures c.cap.ensures c.in-Ok.ensures.value inode off in
     let count : k ≡ found_in x.size b h n = count0 ∙ ap (λ (j : ℕ). found_in j b h n) (sym size) in
     let went = c.in-Ok-pieces.ensures.read in
     let lists = went.facts in
@@ -158,6 +165,68 @@ returns-clause-step g c x size =
       };
     }
 
-pub returns-clause-same : goal.returns-clause-same
-returns-clause-same g c =
-    keeps_changes c.file_len.new.at c.pieces.new.at _ c.in-Ok-pieces.ensures.recorded ∙ keeps_changes c.args.at.now c.file_len.new.at _ c.in-Ok.ensures.recorded
+pub returns-in_default-clause-done : goal.returns-in_default-clause-done
+returns-in_default-clause-done g c made =
+    let dev = c.args.dev.now in
+    let at = c.args.at.now in
+    let take = c.args.take in
+    let now = in_hand at c.args.s.now in
+    done_refused (record { kind = g.S.SliceStore.kind; before = dev; after = dev; map = seen c.args.kv.now at }) made
+    (Yank take.handle take.len take.slice) NoHandle now now refl refl refl
+
+pub returns-clause-done : goal.returns-clause-done
+returns-clause-done g c made =
+    let s = c.args.s.now in
+    let m = c.put_slice.new.self in
+    let t = c.move_handle.new.self in
+    let f = c.args.take.handle in
+    let n = c.args.take.len in
+    let label = c.args.take.slice in
+    let spot = c.in-Some.spot in
+    let i = spot.inode in
+    let b = seen c.args.kv.now c.args.at.now in
+    let z = c.args.dev.now.settings.region in
+    let ps = c.in-Ok-pieces.found.items in
+    let begin = c.range_start-begin.result in
+    let k = c.found_len-k.result in
+    let at = c.args.at.now in
+    let read = c.file_len.new.at in
+    let new = c.pieces.new.at in
+    let u = seen c.args.kv.now read in
+    let same : u ≡ b = still_seen c.args.kv.now i (length_keys (file_of i b)) at read c.in-Ok.ensures.recorded in
+    let open_at = spot_open c.handle_of.result (handle_in s f) spot c.handle_of.ensures c.in-Some.is in
+    let h = open_at.handle in
+    let inode : i ≡ h.inode = open_at.inode in
+    let off : spot.off ≡ h.off = open_at.off in
+    let count : k ≡ found_in z b h n = found_due c.cap.result z c.in-Ok.len spot.off n k i b h
+    c.found_len-k.ensures c.cap.ensures c.in-Ok.ensures.value inode off in
+    let went = c.in-Ok-pieces.ensures.read in
+    let lists = went.facts in
+    let due : ReadsFile z (file_of h.inode b) h.off k lists ps = reads_due z u b h i spot.off begin k lists ps same inode off
+    c.range_start-begin.ensures.some went.reads in
+    let there : handle_in m f ≡ Some h = c.put_slice.ensures.handles f ∙ open_at.is in
+    let set : SetsHandle f (Some (moved_to (h.off + k) h)) m t =
+    subst (λ (o : ℕ). SetsHandle f (Some (moved_to (o + k) h)) m t) off
+    (subst (λ (o : Option Handle). SetsHandle f (option_map (moved_to (spot.off + k)) o) m t) there c.move_handle.ensures) in
+    let x : Sight = sight z b s made lists in
+    let kept : Yanks x f n label s t = record {
+      handle = h;
+      stood = open_at.is;
+      pieces = ps;
+      reads = subst (λ (j : ℕ). ReadsFile z (file_of h.inode b) h.off j lists ps) count due;
+      mid = m;
+      kept = c.put_slice.ensures;
+      moved = subst (λ (j : ℕ). SetsHandle f (Some (moved_to (h.off + j) h)) m t) count set;
+    } in
+    record {
+      recalls = record {
+        facts = lists;
+        recalls = went.recalls;
+        known = went.told;
+        refused = λ h. absurd h;
+        made = λ going. (h, open_at.is, wants_due z u b h i spot.off begin k n lists same inode off c.range_start-begin.ensures.some count went.wants);
+      };
+      makes = makes_nothing (answer.Len k) (SliceMade x (Yank f n label)) at new refl
+          (keeps_changes read new _ c.in-Ok-pieces.ensures.recorded ∙ keeps_changes at read _ c.in-Ok.ensures.recorded);
+      holds = hand_goes (answer.Len k) (SliceHolds x (Yank f n label)) s t (λ h. h) kept;
+    }

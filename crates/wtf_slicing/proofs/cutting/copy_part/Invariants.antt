@@ -1,6 +1,6 @@
 use Rattle.std.proofs.Common.{◌≡◌, ◌+◌, ◌-◌, ◌<◌, ◌≤◌, take}
 use Rattle.wtf_overlay.specs.Origin.{pieces_len, pieces_origin, Plans}
-use Rattle.wtf_slicing.proofs.cutting.cut_pieces.Given as goal
+use Rattle.wtf_slicing.proofs.cutting.copy_part.Given as goal
 
 -- all but the bytes that are left were cut, and these begin in the next piece
 abbrev pub invariant-loop-piece : goal.invariant-loop-piece
