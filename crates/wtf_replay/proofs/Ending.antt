@@ -1,5 +1,6 @@
 -- Ends of replays and of commits.
 use Rattle.std.proofs.Common.{◌≡◌, ◌+◌, ℕ, List, Option, sym, ap, ◌∙◌, subst}
+use Rattle.std.specs.Prelude.{Result, Ok, Err, OnOk, OnErr}
 use Rattle.wtf_kv.specs.Edits.{Agree, versions_with}
 use Rattle.wtf_kv.specs.Stores.{Store, versions_of}
 use Rattle.wtf_model.specs.declared.answer.Answer.{Answer, Aborted'}
@@ -22,7 +23,20 @@ use Rattle.wtf_replay.specs.Sounds.{caller_at, did_by}
 use Rattle.wtf_replay.specs.Tried.{IsFinal, KeepsVersions}
 use Rattle.wtf_replay.specs.Replays.{DeviatesOn, IsEnded, IsTrueEnd}
 
+-- what holds whatever the result is
+pub on_ok_any : {T E P : Type 0} (r : Result T E) → P → OnOk r P
+on_ok_any (Ok a) h = h
+on_ok_any (Err e) h = tt
+
+pub on_err_any : {T E P : Type 0} (r : Result T E) → P → OnErr r P
+on_err_any (Ok a) h = tt
+on_err_any (Err e) h = h
+
 -- an answer that tells of calls that deviate
+pub ended_aborted : (r : Answer) (i : ℕ) (a : Answer) (kv after : Store Key Value) → IsAbortedAt r i a → after.number ≡ kv.number → IsEnded kv after r
+ended_aborted (Aborted' j box b) i a kv after is same = same
+ended_aborted r i a kv after is same = absurd is
+
 pub true_end_aborted : (r : Answer) (i : ℕ) (a : Answer) (size : ℕ) (told : Told × Told) (kv after : Store Key Value) (x : TxnView) (ops : List (Op (List ℕ))) → IsAbortedAt r i a
     → DeviatesOn (metadata_at kv kv.number) size told.0 x ops i a → IsTrueEnd size told kv after x ops r
 true_end_aborted (Aborted' j box b) i a size told kv after x ops is deviates =

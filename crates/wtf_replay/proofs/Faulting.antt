@@ -1,5 +1,5 @@
 -- A fault of a call that is made once more comes only where the machine allows it.
-use Rattle.std.proofs.Common.{◌≡◌, ◌⊎◌, ◌<◌, ℕ, Bool, List, [], ◌∷◌, length, take, Option, None, Some, refl, sym, ap, subst, arith, slice_get, inl, inr}
+use Rattle.std.proofs.Common.{◌≡◌, ◌<◌, ◌-◌, ℕ, List, [], ◌∷◌, length, take, Option, None, Some, refl, sym, ap, subst, arith, slice_get, inl, inr}
 use Rattle.std.proofs.lemmas.Option.{slice_get_within}
 use Rattle.wtf_base.specs.declared.fault.Fault.{Fault}
 use Rattle.wtf_base.specs.declared.fault.Fault.TheVariants as fault
@@ -37,8 +37,10 @@ use Rattle.wtf_replay.specs.Views.{TxnView, in_hand, hand_of, replaying}
 use Rattle.wtf_replay.specs.Insides.{HandBytes, LogBytes, lists_have}
 use Rattle.wtf_replay.specs.Sounds.{tells_slice, caller_at, IsSound, TellsMap, IsAwayTxn}
 use Rattle.wtf_replay.specs.Causes.{IsAgainFault, MayAgainFault, FaultAt, ReplayFault, IsCommitFault, fault_answer, MayFaultAt, MayStepFault, MayEndFault, MayCommitFault}
+use Rattle.wtf_replay.specs.Effects.{scope}
 use Rattle.wtf_replay.specs.Tried.{commit_from}
 use Rattle.wtf_replay.proofs.Froms.{from_along}
+use Rattle.wtf_replay.proofs.Installing.{redone_along}
 use Rattle.wtf_replay.proofs.Naming.{named_by}
 use Rattle.wtf_replay.proofs.Later.{tells_on, stands_later}
 use Rattle.wtf_replay.proofs.Sounding.{sound_along}
@@ -154,6 +156,9 @@ fault_along kind old new kv after x why same f = record {
   k = f.k;
   from = f.from;
   base = f.base;
+  lists = f.lists;
+  redone = redone_along (scope kind old f.mid) kv after x (f.k - x.replayed) f.lists (in_hand f.at f.session) (λ m. sym (same m)) f.redone;
+  recalls = f.recalls;
   named = named_by kind old f.mid (λ P Q. HandBytes P Q kv (hand_of x) × LogBytes P x.log) (λ P Q. HandBytes P Q kv (in_hand f.at f.session))
       (λ P Q. HandBytes P Q after (hand_of x) × LogBytes P x.log) (λ P Q. HandBytes P Q after (in_hand f.at f.session))
       (λ P Q were. (record { base = subst (MapBytes P Q) (sym (same x.at.base)) were.0.base; changes = were.0.changes; slices = were.0.slices }, were.1))
@@ -176,32 +181,6 @@ commit_fault_along kind old new kv mid x why stays (inl short) = inl short
 commit_fault_along kind old new kv mid x why stays (inr f) =
     inr (subst (λ y. ReplayFault kind old new kv y why) (from_along kv mid x stays) (fault_along kind old new mid kv (commit_from mid x) why stays.maps f))
 
--- no replay reads whether a transaction has ended
-pub fault_as : {S : Type 0} (kind : StoreKind S) (old new : Dev S) (kv : Store Key Value) (x : TxnView) (over : Bool) (why : Fault) → ReplayFault kind old new kv x why → ReplayFault kind old new kv (record x { ended = over }) why
-fault_as kind old new kv x over why f = record {
-  mid = f.mid;
-  goes = f.goes;
-  at = f.at;
-  session = f.session;
-  k = f.k;
-  from = f.from;
-  base = f.base;
-  named = f.named;
-  done = λ ops ranges tells away sound.
-      f.done ops ranges tells (record { hand = away.hand; log = away.log }) (record {
-        facts = sound.facts;
-        stored = sound.stored;
-        lists = sound.lists;
-        ops_are = sound.ops_are;
-        told_are = sound.told_are;
-        stored_are = sound.stored_are;
-        kept = sound.kept;
-        lists_are = sound.lists_are;
-        run = sound.run;
-      });
-  fault = f.fault;
-}
-
 -- a fault of a replay comes only where the machine allows it
 pub replay_fault : {S : Type 0} {kind : StoreKind S} → KindLaws kind
     → (old new : Dev S) (kv : Store Key Value) (x : TxnView) (ops : List (Op (List ℕ))) (why : Fault) (ranges : List (ℕ × Range))
@@ -223,13 +202,6 @@ replay_fault {kind = kind} laws old new kv x ops why ranges tells away sound f t
     end_fault servers answers k None h = tt
     end_fault servers answers k (Some a) h = h.1
 
--- so does one at the map now
-pub end_due : {S : Type 0} {kind : StoreKind S} → KindLaws kind
-    → (old new : Dev S) (kv : Store Key Value) (x y : TxnView) (ops : List (Op (List ℕ))) (why : Fault) → x.tx ≡ y.tx → (ranges : List (ℕ × Range))
-    → TellsMap kind old ranges (metadata_at kv x.at.base) → IsAwayTxn kind old ranges kv x
-    → IsSound old.settings.region kv (byte_at kind (stores old)) x ops → (why ≡ fault.Memory) ⊎ ReplayFault kind old new kv x why → MayCommitFault old.settings (metadata_at kv x.at.base) (byte_at kind (stores old)) y why
-end_due laws old new kv x y ops why tx ranges tells away sound (inl short) t st =
-    subst (λ (w : Fault). MayEndFault old.settings.servers (fault_answer w)) (sym short) tt
-end_due {kind = kind} laws old new kv x y ops why tx ranges tells away sound (inr f) t st =
-    replay_fault laws old new kv x ops why ranges tells away sound f t
-    (subst (λ n. Stands old.settings.region (byte_at kind (stores old)) n 0 (metadata_at kv x.at.base) t) (sym tx) st)
+-- and want of memory at any time
+pub end_short : (settings : Settings) (w : Map) (told : Told) (x : TxnView) (why : Fault) → why ≡ fault.Memory → MayCommitFault settings w told x why
+end_short settings w told x why short t st = subst (λ (y : Fault). MayEndFault settings.servers (fault_answer y)) (sym short) tt

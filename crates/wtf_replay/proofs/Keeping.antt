@@ -1,5 +1,5 @@
 -- What holds of a transaction over every device goes on holding.
-use Rattle.std.proofs.Common.{◌≡◌, ◌≢◌, ◌≤◌, ◌<◌, ℕ, zero, suc, ◌+◌, List, [], ◌∷◌, ◌++◌, Some, slice_get, true, false, nat_eq, count_by, length, refl, sym, ap, ◌∙◌, subst, arith, ⊎_elim}
+use Rattle.std.proofs.Common.{◌≡◌, ◌≢◌, ◌≤◌, ◌<◌, ℕ, zero, suc, ◌+◌, List, [], ◌∷◌, ◌++◌, Some, slice_get, true, false, nat_eq, length, refl, sym, ap, ◌∙◌, subst, arith, ⊎_elim}
 use Rattle.std.specs.Prelude.{IsTrue, if◌then◌else◌}
 use Rattle.std.proofs.lemmas.Bool.{cases_lt, eq-eqb, ne_eqb}
 use Rattle.std.proofs.lemmas.List.{length_push}
@@ -75,9 +75,17 @@ moved_pinned b n kv after later moves =
     any-count n after.pins (omega (arith, left))
 
 -- a pin that came and went
-pub pins_back : (kv pinned mid after : Store Key Value) (n : ℕ) → IsPinnedOnceMore n kv pinned → mid.pins ≡ pinned.pins → IsPinnedOnceMore n after mid → KeepsPins kv after
+pub pins_back : (kv pinned mid after : Store Key Value) (n : ℕ) → IsPinnedOnceMore n kv pinned → KeepsPins pinned mid → IsPinnedOnceMore n after mid → KeepsPins kv after
 pins_back kv pinned mid after n more same fewer m =
     let up = more m in
     let down = fewer m in
-    let are : times_pinned mid m ≡ times_pinned pinned m = ap (count_by (nat_eq m)) same in
+    let are : times_pinned mid m ≡ times_pinned pinned m = same m in
     omega (arith, up, down, are)
+
+-- a number is pinned as long as its pin is kept
+pub pinned_there : (kv pinned mid : Store Key Value) (n : ℕ) → IsPinnedOnceMore n kv pinned → KeepsPins pinned mid → IsTrue (is_pinned mid n)
+pinned_there kv pinned mid n more keeps =
+    let same : nat_eq n n ≡ true = eq-eqb n n refl in
+    let up : times_pinned pinned n ≡ times_pinned kv n + 1 = more n ∙ ap (λ q. times_pinned kv n + (if q then 1 else 0)) same in
+    let kept = keeps n in
+    any-count n mid.pins (omega (arith, up, kept))

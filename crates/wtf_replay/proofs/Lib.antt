@@ -20,3 +20,5 @@ pub mod EffectLaws
 pub mod Installing
 pub mod Froms
 pub mod Turning
+pub mod Stepping
+pub mod Committing

@@ -1,18 +1,18 @@
 -- Calls on names, as calls of a transaction with handles open.
-use Rattle.std.proofs.Common.{◌≡◌, ℕ, Bool, true, false, cond, ◌||◌, List, [], ◌∷◌, map, Option, Some, None, Ok, refl, sym, ap, ◌∙◌, subst, ⊎_elim}
+use Rattle.std.proofs.Common.{◌≡◌, ◌≢◌, ◌⊎◌, ℕ, Bool, true, false, cond, ◌||◌, List, [], ◌∷◌, map, Option, Some, None, Ok, refl, sym, ap, ◌∙◌, subst, inl, inr, ⊎_elim}
 use Rattle.std.specs.Prelude.{if◌then◌else◌, Err, IsSomeAnd}
-use Rattle.std.specs.List.{list_any}
+use Rattle.std.specs.List.{All, list_any}
 use Rattle.std.specs.FinMap.{get, entries, get-entries}
 use Rattle.std.specs.FinMap.Entries.{find}
 use Rattle.std.specs.Ordering.{nat_cmp, eq_by_cmp}
 use Rattle.std.proofs.lemmas.Bool.{cases_Bool}
+use Rattle.std.proofs.lemmas.List.{append_cancel_left}
+use Rattle.std.proofs.lemmas.List.Elements.{All-nil}
 use Rattle.std.proofs.lemmas.Slice.Eq.{bytes_eq-Decides}
 use Rattle.wtf_base.specs.declared.slice.Slice.{Slice}
 use Rattle.wtf_base.specs.declared.ids.InodeId.{InodeId}
-use Rattle.wtf_kv.specs.Stores.{Store}
 use Rattle.wtf_kv.specs.Edits.{Agree}
-use Rattle.wtf_occ.specs.Attempts.{Attempted}
-use Rattle.wtf_occ.proofs.AttemptLaws.{GrowsBy-append, map_seen-by}
+use Rattle.wtf_occ.specs.Attempts.{Attempted, GrowsBy}
 use Rattle.wtf_model.specs.Session as model
 use Rattle.wtf_model.specs.Session.{Session}
 use Rattle.wtf_model.specs.Tree.{source, bytes_of, target, ◌>>=◌}
@@ -30,30 +30,29 @@ use Rattle.wtf_model.specs.declared.op.Op.{Op}
 use Rattle.wtf_model.specs.declared.op.Op.TheVariants as op
 use Rattle.wtf_values.specs.declared.key.Key.{Key}
 use Rattle.wtf_values.specs.declared.key.Key.TheVariants.{Path}
-use Rattle.wtf_values.specs.declared.value.Value.{Value}
 use Rattle.wtf_values.specs.declared.value.Value.TheVariants as value
 use Rattle.wtf_values.specs.declared.value.Node.TheVariants.{File}
 use Rattle.wtf_values.specs.declared.value.Delta.{Delta}
-use Rattle.wtf_values.specs.Keys.{key_cmp}
-use Rattle.wtf_values.specs.Outcomes.{outcome_of}
 use Rattle.wtf_meta.specs.declared.session.Handle.{Handle}
-use Rattle.wtf_meta.specs.Maps.{Map, AllFit, metadata_at, seen}
-use Rattle.wtf_meta.specs.Contents.{Told, is_told}
+use Rattle.wtf_meta.specs.Bytes.{EntryBytes}
+use Rattle.wtf_meta.specs.Lists.{ListFact}
+use Rattle.wtf_meta.specs.Maps.{Map, Edits}
+use Rattle.wtf_meta.specs.Contents.{Told}
 use Rattle.wtf_meta.proofs.Named.{PiecesBytes-none}
 use Rattle.wtf_meta.specs.Feet.{Has}
 use Rattle.wtf_meta.specs.Trees.{LeadsTo}
 use Rattle.wtf_meta.specs.NameEdits.{node_of}
 use Rattle.wtf_meta.specs.Sessions.{SessionView, HandleAt, Holds, IsOff, handle_in, nothing_open}
 use Rattle.wtf_meta.proofs.Nothing.{none_at, nothing_kept}
-use Rattle.wtf_meta.specs.Calls.{Caller, cap_for, IsDone, IsNameStep, IsFreeToMove}
+use Rattle.wtf_meta.specs.Calls.{Caller, cap_for, IsCall, IsDone, IsNameStep, IsFreeToMove}
 use Rattle.wtf_meta.proofs.FeetFiles.{looks_feet}
 use Rattle.wtf_meta.proofs.Nodes.{node_of-is, node-file}
 use Rattle.wtf_meta.proofs.Moves.{done-same}
-use Rattle.wtf_kv.proofs.EditLaws.{Fits-append}
+use Rattle.wtf_index.specs.Checks.{stands_at}
+use Rattle.wtf_region.specs.Devs.{inside_of}
 use Rattle.wtf_steps.proofs.Ways.{only_keys, KeysRead}
-use Rattle.wtf_replay.specs.Views.{in_hand}
-use Rattle.wtf_replay.specs.Sounds.{IsToldStep}
-use Rattle.wtf_replay.specs.Looked.{IsNameCall, IsBusy, IsStray, IsLooked}
+use Rattle.wtf_replay.specs.Works.{Work, IsWork, saw}
+use Rattle.wtf_replay.specs.Looked.{IsNameCall, IsBusy}
 
 -- a call on names under no handle on what it moves
 pub quiet_call : (x : Caller) (b : Map) (s : SessionView) (old new : Attempted Key Delta) (o : Op (List ℕ)) (a : Answer)
@@ -168,53 +167,66 @@ free_takes p (op.Unlink q) s takes off = subst (λ x. IsOff x s) (sym takes) off
 free_takes p (op.Rename q r) s takes off = subst (λ x. IsOff x s) (sym takes) off
 free_takes p o s takes off = absurd takes
 
-pub stray_call : (x : Caller) (b : Map) (s : SessionView) (p : List ℕ) (old mid new : Attempted Key Delta) (o : Op (List ℕ)) (a : Answer)
-    → Takes p o → IsStray b s p old mid → IsNameStep x b mid new o a → IsNameCall x b s old new o a
-stray_call x b s p old mid new o a takes stray step =
+-- no handle is on it, where none but a file's path is held
+none_on : (told : Told) (w : Map) (S : Session) (b : Map) (s : SessionView) (p : List ℕ) → Holds told w s S → w (Path p) ≡ b (Path p)
+    → ((i : InodeId) → stands_at b p ≢ Some (File i)) → IsOff p s
+none_on told w S b s p holds same none f h at on =
+    let held = held_at w p (handle_in s f) (get S.handles f) (holds.handles f) (subst (λ (o : Option Handle). IsSomeAnd o (λ k. k.path ≡ p)) (sym at) on) in
+    none held.inode (ap node_of (sym same ∙ held.leads))
+
+-- where no file stands, a call that takes one is made under whatever handles: on no map that agrees is one on the path
+stray_call : (x : Caller) (b : Map) (s : SessionView) (p : List ℕ) (old new : Attempted Key Delta) (o : Op (List ℕ)) (a : Answer)
+    → Takes p o → ((i : InodeId) → stands_at b p ≢ Some (File i)) → (step : IsNameStep x b old new o a) → (ks : List Key) → step.keys ≡ Path p ∷ ks
+    → IsNameCall x b s old new o a
+stray_call x b s p old new o a takes none step ks keys =
     let calm = step.is_call nothing_open (free_takes p o nothing_open takes (nothing_off p)) in
-    let never : (told : Told) (w : Map) (S : Session) → Agree (Path p ∷ step.keys) b w → Holds told w s S → ⊥ = λ told w S agree holds.
-    let held = held_at w p (handle_in s stray.held.0) (get S.handles stray.held.0) (holds.handles stray.held.0) stray.held.1 in
-    stray.none held.inode (ap node_of (sym agree.0 ∙ held.leads)) in
+    let first : (w : Map) → Agree step.keys b w → w (Path p) ≡ b (Path p) = λ w agree. let all = subst (λ (l : List Key). Agree l b w) keys agree in all.0 in
+    let free : (told : Told) (w : Map) (S : Session) → Agree step.keys b w → Holds told w s S → IsFreeToMove o s =
+    λ told w S agree holds. free_takes p o s takes (none_on told w S b s p holds (first w agree) none) in
     record {
-      keys = Path p ∷ step.keys;
+      keys = step.keys;
       edits = step.edits;
-      grows = GrowsBy-append old mid new (Path p ∷ []) step.keys [] step.edits stray.recorded step.grows;
+      grows = step.grows;
       is_call = record {
         fits = calm.fits;
         names = λ P Q hole map slices stored lists. let named = calm.names P Q hole map
             (nothing_kept P) stored lists in record { edits = named.edits; facts = named.facts; slices = slices; lists = named.lists };
-        acts = λ told w S agree fit facts lists stands holds. absurd (never told w S agree holds);
-        feet = λ told w S agree fit facts lists stands holds. absurd (never told w S agree holds);
+        acts = λ told w S agree fit facts lists stands holds.
+            let one = step.is_call s (free told w S agree holds) in
+            one.acts told w S agree fit facts lists stands holds;
+        feet = λ told w S agree fit facts lists stands holds.
+            let one = step.is_call s (free told w S agree holds) in
+            one.feet told w S agree fit facts lists stands holds;
       };
     }
 
 -- what a look at a path says, and then the call
-pub looked_call : (x : Caller) (kv : Store Key Value) (s : SessionView) (p : List ℕ) (old mid new : Attempted Key Delta) (o : Op (List ℕ)) (a : Answer)
-    → Takes p o → IsLooked (seen kv old) s p old mid false → IsNameStep x (seen kv mid) mid new o a → IsNameCall x (seen kv old) s old new o a
-looked_call x kv s p old mid new o a takes looked step = ⊎_elim
-    (λ off.
-    let here : IsNameStep x (seen kv old) old new o a = subst (λ m. IsNameStep x (seen kv m) m new o a) off.1 step in
-    quiet_call x (seen kv old) s old new o a here (free_takes p o s takes off.0))
-    (λ stray.
-    let same : seen kv mid ≡ seen kv old = map_seen-by key_cmp outcome_of kv old mid (Path p ∷ []) [] stray.recorded in
-    stray_call x (seen kv old) s p old mid new o a takes stray (subst (λ b. IsNameStep x b mid new o a) same step))
-    looked
+pub looked_call : (x : Caller) (b : Map) (s : SessionView) (p : List ℕ) (old new : Attempted Key Delta) (o : Op (List ℕ)) (a : Answer)
+    → (ks : List Key) (cs : Edits)
+    → Takes p o → IsOff p s ⊎ ((i : InodeId) → stands_at b p ≢ Some (File i)) → GrowsBy old new (Path p ∷ ks) cs → IsNameStep x b old new o a
+    → IsNameCall x b s old new o a
+looked_call x b s p old new o a ks cs takes (inl off) went step = quiet_call x b s old new o a step (free_takes p o s takes off)
+looked_call x b s p old new o a ks cs takes (inr none) went step =
+    stray_call x b s p old new o a takes none step ks (append_cancel_left old.reads step.keys (Path p ∷ ks) (sym step.grows.reads ∙ went.reads))
 
--- a call on names is a call whose facts are told
-pub told_call : (told : Told) (own : Option Slice) (x : Caller) (b : Map) (s : SessionView) (old new : Attempted Key Delta) (o : Op (List ℕ)) (a : Answer)
-    → IsNameCall x b s old new o a → IsToldStep told own x b (in_hand old s) (in_hand new s) o a
-told_call told own x b s old new o a call = record {
-  step = record { did = record { keys = call.keys; edits = call.edits; facts = []; stored = []; lists = [] }; grows = call.grows; is_call = call.is_call };
-  told_are = tt;
-  lists_are = tt;
-  stored_are = PiecesBytes-none (is_told told);
+-- what a call on names did
+pub name_work : {S : Type 0} (w : Work S) (own : Option Slice) (x : Caller) (o : Op (List ℕ)) (a : Answer)
+    → IsNameCall x (saw w) w.old.session w.old.at w.new.at o a
+    → w.new.session ≡ w.old.session → IsWork w x own o a
+name_work w own x o a call same = record {
+  step = record {
+    did = record { keys = call.keys; edits = call.edits; facts = []; stored = []; lists = [] };
+    grows = call.grows;
+    is_call = subst (λ (t : SessionView). IsCall x (saw w) w.old.session t (record {
+      keys = call.keys;
+      edits = call.edits;
+      facts = [];
+      stored = [];
+      lists = [];
+    }) o a) (sym same) call.is_call;
+  };
   kept = λ P has. PiecesBytes-none P;
+  inside = All-nil (λ (f : ListFact). All (EntryBytes (inside_of w.kind w.after)) f.list);
+  lists = λ ranges cache known. tt;
+  facts = λ ranges tells tell. tt;
 }
-
--- after which the changes fit at the base
-pub fits_call : (x : Caller) (kv : Store Key Value) (s : SessionView) (old new : Attempted Key Delta) (o : Op (List ℕ)) (a : Answer)
-    → AllFit old.changes (metadata_at kv old.base) → IsNameCall x (seen kv old) s old new o a → AllFit new.changes (metadata_at kv new.base)
-fits_call x kv s old new o a fit call =
-    subst (λ n. AllFit new.changes (metadata_at kv n)) (sym call.grows.base)
-    (subst (λ cs. AllFit cs (metadata_at kv old.base)) (sym call.grows.changes)
-    (Fits-append key_cmp outcome_of old.changes call.edits (metadata_at kv old.base) fit call.is_call.fits))

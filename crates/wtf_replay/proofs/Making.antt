@@ -1,13 +1,15 @@
 -- The steps of calls on handles and bytes, over stores that tell what they name.
 use Rattle.std.proofs.Common.{◌≡◌, ℕ, ◌+◌, Bool, List, [], ◌∷◌, ◌++◌, length, Option, None, Some, Ok, refl, sym, ap, ◌∙◌, subst}
-use Rattle.std.specs.Prelude.{IfSome, Result, Err}
+use Rattle.std.specs.Prelude.{Result, Err}
+use Rattle.std.specs.List.{All}
 use Rattle.std.proofs.lemmas.List.{append-nil}
+use Rattle.std.proofs.lemmas.List.Elements.{All-nil}
 use Rattle.wtf_base.specs.declared.slice.Slice.{Slice}
 use Rattle.wtf_dev.specs.Store.{Range}
 use Rattle.wtf_overlay.specs.Origin.{Place}
 use Rattle.wtf_kv.specs.Stores.{Store}
 use Rattle.wtf_kv.proofs.EditLaws.{Agree-itself, Fits-append}
-use Rattle.wtf_occ.specs.Attempts.{Attempted, Grows}
+use Rattle.wtf_occ.specs.Attempts.{Grows}
 use Rattle.wtf_model.specs.declared.answer.Answer.{Answer}
 use Rattle.wtf_model.specs.declared.answer.Answer.TheVariants as answer
 use Rattle.wtf_model.specs.declared.answer.Word.{Word}
@@ -20,11 +22,11 @@ use Rattle.wtf_model.specs.ByteCalls.{write, append, written}
 use Rattle.wtf_model.specs.Call.{call, or_refused}
 use Rattle.wtf_values.specs.declared.key.Key.{Key}
 use Rattle.wtf_values.specs.declared.value.Value.{Value}
-use Rattle.wtf_values.specs.declared.value.Delta.{Delta}
 use Rattle.wtf_values.specs.Keys.{key_cmp}
 use Rattle.wtf_values.specs.Outcomes.{outcome_of}
-use Rattle.wtf_meta.specs.Lists.{TellLists}
-use Rattle.wtf_meta.specs.Contents.{Told, is_told, lists_in}
+use Rattle.wtf_meta.specs.Bytes.{EntryBytes}
+use Rattle.wtf_meta.specs.Contents.{Told}
+use Rattle.wtf_meta.specs.Lists.{ListFact}
 use Rattle.wtf_meta.specs.declared.session.Handle as meta
 use Rattle.wtf_meta.specs.Appends.{append_keys as file_append_keys}
 use Rattle.wtf_meta.specs.FileEdits.{file_of}
@@ -44,15 +46,12 @@ use Rattle.wtf_steps.specs.Scenes.{Scene}
 use Rattle.wtf_steps.proofs.Ways.{only_keys, KeysRead, file_keys}
 use Rattle.wtf_rw.specs.Ops.{DoesRw, op_of, RwBytes, rw_keys, size_of}
 use Rattle.wtf_rw.proofs.InsideWays.{does_named}
-use Rattle.wtf_region.specs.Devs.{told_in}
-use Rattle.wtf_replay.specs.Views.{in_hand}
+use Rattle.wtf_region.specs.Devs.{inside_of, told_in}
+use Rattle.wtf_replay.specs.Built.{data_of}
 use Rattle.wtf_replay.specs.Sounds.{TellsMap, IsToldStep, IsDue, tells_slice}
+use Rattle.wtf_replay.specs.Works.{Work, IsWork, saw, scene_of, told_now}
 use Rattle.wtf_replay.proofs.ReadLists.{rw_read, read_told}
-use Rattle.wtf_replay.proofs.RwLaws.{told_slice, RwTell, Lacks}
-
-tell_some : (told : Told) (o : Option Slice) (bytes : List ℕ) → IfSome o (λ s. tells_slice told s bytes) → TellSlice told o bytes
-tell_some told None bytes h = tt
-tell_some told (Some s) bytes h = h
+use Rattle.wtf_replay.proofs.RwLaws.{tell_some, RwTell, Lacks}
 
 no_facts : (told : Told) (facts : List Fact) → facts ≡ [] → TellFacts told facts
 no_facts told facts e = subst (TellFacts told) (sym e) tt
@@ -77,35 +76,20 @@ facts_told sc (rw.Truncate f n) own bytes did does ranges tells tell = no_facts 
 facts_told sc (rw.Punch f n) own bytes did does ranges tells tell = no_facts (told_in sc.kind sc.after) did.facts does.0.facts
 facts_told sc (rw.Stat p) own bytes did does ranges tells tell = no_facts (told_in sc.kind sc.after) did.facts does.0.facts
 
-given_told : (told : Told) (r : RwOp) (bytes : List ℕ) → RwTell (tells_slice told) r bytes → RwBytes (is_told told) r
-given_told told (rw.Write f (Stored kept)) bytes h = told_slice told kept.slice bytes (tell_some told kept.slice bytes h)
-given_told told (rw.Append f (Stored kept)) bytes h = told_slice told kept.slice bytes (tell_some told kept.slice bytes h)
-given_told told (rw.Write f (Fresh bs)) bytes h = tt
-given_told told (rw.Append f (Fresh bs)) bytes h = tt
-given_told told (rw.Open f p) bytes h = tt
-given_told told (rw.Close f) bytes h = tt
-given_told told (rw.Seek f place) bytes h = tt
-given_told told (rw.Tell f) bytes h = tt
-given_told told (rw.Read f n) bytes h = tt
-given_told told (rw.Truncate f n) bytes h = tt
-given_told told (rw.Punch f n) bytes h = tt
-given_told told (rw.Stat p) bytes h = tt
-
--- a call's step, over stores that tell its facts: P holds of what it brings where it holds of the slice that it stored or was given
-pub told_step : {S : Type 0} (sc : Scene S) (r : RwOp) (stored : Option Slice) (bytes : List ℕ) (x : Caller) (old new : InHand) (o : Op (List ℕ)) (a : Answer)
-    → (own : Option Slice) → ((P : List Place → Bool) → SliceBytes P own → RwBytes P r) → ((P : List Place → Bool) → SliceBytes P own → SliceBytes P stored)
-    → IsStepWith (DoesRw sc r stored bytes) x sc.map old new (op_of r bytes) a → op_of r bytes ≡ o → x.size ≡ sc.after.settings.region
-    → (ranges : List (ℕ × Range)) → TellsMap sc.kind sc.before ranges sc.map
-    → RwTell (tells_slice (told_in sc.kind sc.after)) r bytes → SliceBytes (is_told (told_in sc.kind sc.after)) stored
-    → IsToldStep (told_in sc.kind sc.after) own x sc.map old new o a
-told_step sc r stored bytes x old new o a own given brought one is size ranges tells tell has = record {
-  step = record { did = one.did; grows = one.grows; is_call = subst (λ q. IsCall x sc.map old.session new.session one.did q a) is one.is_call };
-  told_are = facts_told sc r stored bytes one.did one.more ranges tells tell;
-  lists_are = subst (λ (z : ℕ). TellLists (lists_in z (told_in sc.kind sc.after)) one.did.lists) (sym size)
-      (read_told sc one.did.lists (rw_read sc r stored bytes one.did one.more) ranges tells);
-  stored_are = does_named (is_told (told_in sc.kind sc.after)) sc r stored bytes one.did one.more (given_told (told_in sc.kind sc.after) r bytes tell) has;
-  kept = λ P whole. does_named P sc r stored bytes one.did one.more (given P whole) (brought P whole);
-}
+-- what a call did on handles and bytes: P holds of what it brings where it holds of the slice that it stored or was given
+pub rw_work : {S : Type 0} (w : Work S) (r : RwOp) (stored : Option Slice) (bytes : List ℕ) (x : Caller) (o : Op (List ℕ)) (a : Answer) (own : Option Slice)
+    → ((P : List Place → Bool) → SliceBytes P own → RwBytes P r) → ((P : List Place → Bool) → SliceBytes P own → SliceBytes P stored)
+    → IsStepWith (DoesRw (scene_of w) r stored bytes) x (saw w) w.old w.new (op_of r bytes) a → op_of r bytes ≡ o
+    → (TellSlice (told_now w) own (data_of o) → RwTell (tells_slice (told_now w)) r bytes) → IsWork w x own o a
+rw_work w r stored bytes x o a own given brought one is tell =
+    let read = rw_read (scene_of w) r stored bytes one.did one.more in
+    record {
+      step = record { did = one.did; grows = one.grows; is_call = subst (λ q. IsCall x (saw w) w.old.session w.new.session one.did q a) is one.is_call };
+      kept = λ P whole. does_named P (scene_of w) r stored bytes one.did one.more (given P whole) (brought P whole);
+      inside = read.inside;
+      lists = read.told;
+      facts = λ ranges tells own_told. facts_told (scene_of w) r stored bytes one.did one.more ranges tells.seen (tell own_told);
+    }
 
 -- it answers what is due
 pub due_step : (told : Told) (own : Option Slice) (x : Caller) (b : Map) (old new : InHand) (o : Op (List ℕ)) (a : Answer) → IsToldStep told own x b old new o a
@@ -175,7 +159,7 @@ module _ (x : Caller) (b : Map) (s : SessionView) (size : ℕ) where
   lacks_read r bytes lacks = absurd lacks
 
 -- a refused call whose bytes were not kept
-pub refused_call : (x : Caller) (b : Map) (s : SessionView) (size : ℕ) (r : RwOp) (bytes : List ℕ) (a : Answer) → Lacks r → IsRefusal a
+refused_call : (x : Caller) (b : Map) (s : SessionView) (size : ℕ) (r : RwOp) (bytes : List ℕ) (a : Answer) → Lacks r → IsRefusal a
     → Answers x b s (rw_keys size b s r) (op_of r bytes) a → IsCall x b s s (only_keys (rw_keys size b s r)) (op_of r bytes) a
 refused_call x b s size r bytes a lacks refused one = record {
   fits = refl;
@@ -188,22 +172,21 @@ refused_call x b s size r bytes a lacks refused one = record {
   feet = looks_feet x b s (only_keys (rw_keys size b s r)) (op_of r bytes) refl (lacks_read x b s size r bytes lacks);
 }
 
-pub refused_step : (told : Told) (own : Option Slice) (x : Caller) (b : Map) (s t : SessionView) (at into : Attempted Key Delta)
-    → (size : ℕ) (r : RwOp) (bytes : List ℕ) (o : Op (List ℕ)) (a : Answer) → Lacks r → IsRefusal a
-    → Answers x b s (rw_keys size b s r) (op_of r bytes) a → op_of r bytes ≡ o → Grows at into
-    → into.reads ≡ at.reads ++ rw_keys size b s r → into.changes ≡ at.changes → t ≡ s
-    → IsToldStep told own x b (in_hand at s) (in_hand into t) o a
-refused_step told own x b s t at into size r bytes o a lacks refused one is grows reads changes same =
-    let did : Did = only_keys (rw_keys size b s r) in
+pub refused_work : {S : Type 0} (w : Work S) (own : Option Slice) (x : Caller) (size : ℕ) (r : RwOp) (bytes : List ℕ) (o : Op (List ℕ)) (a : Answer)
+    → Lacks r → IsRefusal a → Answers x (saw w) w.old.session (rw_keys size (saw w) w.old.session r) (op_of r bytes) a → op_of r bytes ≡ o
+    → Grows w.old.at w.new.at → w.new.at.reads ≡ w.old.at.reads ++ rw_keys size (saw w) w.old.session r → w.new.at.changes ≡ w.old.at.changes
+    → w.new.session ≡ w.old.session → IsWork w x own o a
+refused_work w own x size r bytes o a lacks refused one is grows reads changes same =
+    let did : Did = only_keys (rw_keys size (saw w) w.old.session r) in
     record {
       step = record {
         did = did;
-        grows = record { base = grows.base; reads = reads; changes = changes ∙ sym (append-nil at.changes) };
-        is_call = subst (λ u. IsCall x b s u did o a) (sym same)
-            (subst (λ q. IsCall x b s s did q a) is (refused_call x b s size r bytes a lacks refused one));
+        grows = record { base = grows.base; reads = reads; changes = changes ∙ sym (append-nil w.old.at.changes) };
+        is_call = subst (λ u. IsCall x (saw w) w.old.session u did o a) (sym same)
+            (subst (λ q. IsCall x (saw w) w.old.session w.old.session did q a) is (refused_call x (saw w) w.old.session size r bytes a lacks refused one));
       };
-      told_are = tt;
-      stored_are = PiecesBytes-none (is_told told);
       kept = λ P has. PiecesBytes-none P;
-      lists_are = tt;
+      inside = All-nil (λ (f : ListFact). All (EntryBytes (inside_of w.kind w.after)) f.list);
+      lists = λ ranges cache known. tt;
+      facts = λ ranges tells tell. tt;
     }

@@ -9,7 +9,6 @@ use Rattle.wtf_base.specs.declared.slice.Slice.{Slice}
 use Rattle.wtf_dev.specs.Store.{Range, StoreKind, KindLaws}
 use Rattle.wtf_kv.specs.Stores.{Store}
 use Rattle.wtf_overlay.specs.Origin.{Place}
-use Rattle.wtf_model.specs.declared.answer.Answer.{Answer}
 use Rattle.wtf_model.specs.declared.op.Op.{Op}
 use Rattle.wtf_model.specs.declared.op.Op.TheVariants as op
 use Rattle.wtf_values.specs.declared.key.Key.{Key}
@@ -20,7 +19,7 @@ use Rattle.wtf_meta.specs.Lists.{ListFact, TellLists}
 use Rattle.wtf_meta.specs.Bytes.{MapBytes, EntryBytes, ListsBytes, any_slice}
 use Rattle.wtf_meta.specs.Contents.{Told, is_told, is_listed, list_has, lists_in}
 use Rattle.wtf_meta.specs.Maps.{metadata_at, seen}
-use Rattle.wtf_meta.specs.Calls.{Caller, InHand}
+use Rattle.wtf_meta.specs.Calls.{InHand}
 use Rattle.wtf_meta.proofs.ListFacts.{TellLists-append, ListsBytes-parts, ListsBytes-all}
 use Rattle.wtf_meta.proofs.ListTests.{entries_from}
 use Rattle.wtf_meta.proofs.MapBytes.{with_bytes}
@@ -29,26 +28,18 @@ use Rattle.wtf_meta.proofs.Telling.{TellsOn, TellLists-later, told_lists}
 use Rattle.wtf_meta.proofs.Weaker.{entries_stay, map_stays, session_stays}
 use Rattle.wtf_region.specs.declared.dev.Dev.{Dev}
 use Rattle.wtf_region.specs.Apart.{are_apart}
-use Rattle.wtf_region.specs.Devs.{GoesOn, stores, remembered, told_in, inside_of, RemembersTrue}
+use Rattle.wtf_region.specs.Devs.{GoesOn, stores, told_in, inside_of, RemembersTrue}
 use Rattle.wtf_region.specs.Inside.{is_inside}
 use Rattle.wtf_region.specs.Reads.{AreInsideLists}
 use Rattle.wtf_region.proofs.InsideLaws.{inside_stays}
-use Rattle.wtf_steps.specs.Scenes.{Scene}
-use Rattle.wtf_steps.specs.Steps.{IsStepWith}
-use Rattle.wtf_rw.specs.declared.op.RwOp.{RwOp}
-use Rattle.wtf_rw.specs.Ops.{DoesRw, RwBytes, op_of as rw_op}
 use Rattle.wtf_rw.specs.Stored.{SliceBytes}
-use Rattle.wtf_rw.proofs.InsideWays.{does_named, slice_stays}
-use Rattle.wtf_slicing.specs.declared.op.SliceOp.{SliceOp}
-use Rattle.wtf_slicing.specs.Ops.{DoesSlice, op_of as slice_op}
+use Rattle.wtf_rw.proofs.InsideWays.{slice_stays}
 use Rattle.wtf_replay.specs.Views.{TxnView, hand_of}
-use Rattle.wtf_replay.specs.Insides.{HandBytes, LogBytes, TxnBytes, HaveNamed, IsKnown, NamesHand, NamesAgain, lists_have}
+use Rattle.wtf_replay.specs.Insides.{HandBytes, LogBytes, TxnBytes, HaveNamed, IsKnown, NamesAgain, lists_have}
 use Rattle.wtf_replay.specs.Sounds.{IsSound, TellsMap, IsAwayTxn, tells_slice}
-use Rattle.wtf_replay.proofs.Insiding.{edits_stay, named_step}
+use Rattle.wtf_replay.proofs.Insiding.{edits_stay}
 use Rattle.wtf_replay.proofs.Later.{Of, IsWeaker, tells_on, known_later}
-use Rattle.wtf_replay.proofs.ReadLists.{rw_read, slice_read}
 use Rattle.wtf_replay.proofs.RwLaws.{told_slice}
-use Rattle.wtf_replay.proofs.SliceLaws.{stored_bytes_none}
 
 -- what is named goes on passing tests that more pass
 pub hand_weaker : (kv : Store Key Value) (hand : InHand) → IsWeaker (λ P Q. HandBytes P Q kv hand)
@@ -176,45 +167,6 @@ pub named_inside : {S : Type 0} (kind : StoreKind S) (old new : Dev S) → GoesO
     → ListsBytes (is_inside kind (stores new) old.settings) any_slice fs
 named_inside kind old new goes fs h =
     subst (λ (st : Settings). ListsBytes (is_inside kind (stores new) st) any_slice fs) goes.settings (ListsBytes-all (inside_of kind new) any_slice fs h)
-
--- what a call on slices names
-pub slice_named : {S : Type 0} (kind : StoreKind S) (before after : Dev S) (kv : Store Key Value) (x : Caller) (old new : InHand) (r : SliceOp) (a : Answer)
-    (own : Option Slice)
-    → IsStepWith (DoesSlice (record { kind = kind; before = before; after = after; map = seen kv old.at }) old.session r) x (seen kv old.at) old new
-    (slice_op r) a → NamesHand kind before after kv old new own
-slice_named {S} kind before after kv x old new r a own one =
-    let sc : Scene S = record { kind = kind; before = before; after = after; map = seen kv old.at } in
-    let read = slice_read sc old.session r one.did one.more in
-    record {
-      lists = one.did.lists;
-      inside = read.inside;
-      told = λ ranges cache known. read.told ranges cache (hand_known kind before ranges kv old known);
-      names = λ P Q hole were lists stored.
-          named_step P Q hole kv x old new (slice_op r) a were (record {
-            did =
-                one.did;
-            grows = one.grows;
-            is_call = one.is_call;
-          }) (stored_bytes_none P sc old.session r one.did one.more) lists;
-    }
-
--- a call that stored a slice, or was given one: P holds of what it brings where it holds of the slice
-pub rw_named : {S : Type 0} (kind : StoreKind S) (before after : Dev S) (kv : Store Key Value) (x : Caller) (old new : InHand) (r : RwOp)
-    (stored : Option Slice) (bytes : List ℕ) (a : Answer) (own : Option Slice)
-    → ((P : List Place → Bool) → SliceBytes P own → RwBytes P r) → ((P : List Place → Bool) → SliceBytes P own → SliceBytes P stored)
-    → IsStepWith (DoesRw (record { kind = kind; before = before; after = after; map = seen kv old.at }) r stored bytes) x (seen kv old.at) old new
-    (rw_op r bytes) a → NamesHand kind before after kv old new own
-rw_named {S} kind before after kv x old new r stored bytes a own given brought one =
-    let sc : Scene S = record { kind = kind; before = before; after = after; map = seen kv old.at } in
-    let read = rw_read sc r stored bytes one.did one.more in
-    record {
-      lists = one.did.lists;
-      inside = read.inside;
-      told = λ ranges cache known. read.told ranges cache (hand_known kind before ranges kv old known);
-      names = λ P Q hole were lists has.
-          named_step P Q hole kv x old new (rw_op r bytes) a were (record { did = one.did; grows = one.grows; is_call = one.is_call })
-          (does_named P sc r stored bytes one.did one.more (given P has) (brought P has)) lists;
-    }
 
 -- the slices of logged calls that stand for calls are told
 slice_told : (told : Told) (o : Option Slice) (bytes : List ℕ) → IfSome o (λ s. tells_slice told s bytes) → SliceBytes (is_told told) o

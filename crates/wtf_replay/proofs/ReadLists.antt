@@ -13,7 +13,7 @@ use Rattle.wtf_meta.specs.Sessions.{SessionView}
 use Rattle.wtf_meta.specs.Calls.{Did}
 use Rattle.wtf_meta.proofs.Weaker.{map_stays}
 use Rattle.wtf_region.specs.Apart.{are_apart}
-use Rattle.wtf_region.specs.Devs.{remembered, told_in, inside_of, RemembersTrue}
+use Rattle.wtf_region.specs.Devs.{told_in, inside_of, RemembersTrue}
 use Rattle.wtf_region.specs.Reads.{TellsFacts, AreInsideLists}
 use Rattle.wtf_steps.specs.Scenes.{Scene}
 use Rattle.wtf_rw.specs.declared.op.Given.TheVariants.{Fresh}

@@ -25,20 +25,32 @@ use Rattle.wtf_meta.specs.Sessions.{SessionView, handle_in}
 use Rattle.wtf_meta.proofs.Telling.{told_from}
 use Rattle.wtf_region.specs.declared.dev.Dev.{Dev}
 use Rattle.wtf_region.specs.Devs.{stores}
+use Rattle.wtf_region.specs.Inside.{is_inside}
+use Rattle.wtf_region.proofs.InsideLaws.{slice_inside}
 use Rattle.wtf_rw.specs.declared.op.Given.TheVariants.{Fresh, Stored}
 use Rattle.wtf_rw.specs.declared.op.RwOp.{RwOp}
 use Rattle.wtf_rw.specs.declared.op.RwOp.TheVariants as rw
 use Rattle.wtf_rw.specs.Stored.{SliceBytes, TellSlice, IsOwn}
-use Rattle.wtf_rw.specs.Ops.{op_of, Writes, IsWhole, RwBytes, IsFormRw, OwnBy, IsRwOwn, LacksOwn, StoresNone, IsRwFault, IsBare, LacksSlice}
+use Rattle.wtf_rw.specs.Ops.{op_of, Writes, IsWhole, RwBytes, IsFormRw, OwnBy, IsRwOwn, LacksOwn, StoresNone, IsRwFault, IsBare, LacksSlice, rw_file}
 use Rattle.wtf_rw.proofs.StoredBytes.{held_meaning}
 use Rattle.wtf_replay.specs.Built.{IsOpOf, IsFresh, IsStored, data_of}
 use Rattle.wtf_replay.specs.Keeps.{IsWholeOp, LacksData, IsKeptOf}
-use Rattle.wtf_replay.specs.Causes.{IsOwnOf, IsCallFault, IsAgainFault, StoresNothing}
+use Rattle.wtf_replay.specs.Causes.{IsOwnOf, IsCallFault, IsAgainFault, StoresNothing, grown_file}
+use Rattle.wtf_replay.specs.Sounds.{tells_slice}
 
 -- slices that are told have only bytes that are
 pub told_slice : (told : Told) (own : Option Slice) (bytes : List ℕ) → TellSlice told own bytes → SliceBytes (is_told told) own
 told_slice told None bytes h = tt
 told_slice told (Some s) bytes h = λ i below. told_from told (part_origin (Held s) i) (get_or bytes i 0) (h.tells i below)
+
+-- a slice that is told, if there is one
+pub tell_some : (told : Told) (o : Option Slice) (bytes : List ℕ) → IfSome o (λ s. tells_slice told s bytes) → TellSlice told o bytes
+tell_some told None bytes h = tt
+tell_some told (Some s) bytes h = h
+
+some_tell : (told : Told) (o : Option Slice) (bytes : List ℕ) → TellSlice told o bytes → IfSome o (λ s. tells_slice told s bytes)
+some_tell told None bytes h = tt
+some_tell told (Some s) bytes h = h
 
 -- a call whose bytes were not kept
 abbrev pub Lacks : RwOp → Type 0
@@ -58,18 +70,19 @@ module _ {S : Type 0} (kind : StoreKind S) (old new : Dev S) (w : Map) (s : Sess
     pub fault : (why : Fault) → IsRwFault kind old new w s r why → IsCallFault kind old new w s o why
     pub lacks : (q : Option Slice) (a : Answer) → LacksOwn r q a → LacksData o q a
     pub none : StoresNothing o → StoresNone r
+    pub file : rw_file old w s r ≡ grown_file old w s o
 
   pub fresh_ways : (r : RwOp) (o : Op (List ℕ)) → IsOpOf IsFresh r o → FreshWays r o
-  fresh_ways (rw.Open f p) o e = subst (FreshWays (rw.Open f p)) (sym e) (record { own = λ q h. h; fault = λ why h. h; lacks = λ q a l none. inl refl; none = λ h. h })
-  fresh_ways (rw.Close f) o e = subst (FreshWays (rw.Close f)) (sym e) (record { own = λ q h. h; fault = λ why h. h; lacks = λ q a l none. inl refl; none = λ h. h })
-  fresh_ways (rw.Seek f place) o e = subst (FreshWays (rw.Seek f place)) (sym e) (record { own = λ q h. h; fault = λ why h. h; lacks = λ q a l none. inl refl; none = λ h. h })
-  fresh_ways (rw.Tell f) o e = subst (FreshWays (rw.Tell f)) (sym e) (record { own = λ q h. h; fault = λ why h. h; lacks = λ q a l none. inl refl; none = λ h. h })
-  fresh_ways (rw.Read f n) o e = subst (FreshWays (rw.Read f n)) (sym e) (record { own = λ q h. h; fault = λ why h. h; lacks = λ q a l none. inl refl; none = λ h. h })
-  fresh_ways (rw.Truncate f n) o e = subst (FreshWays (rw.Truncate f n)) (sym e) (record { own = λ q h. h; fault = λ why h. h; lacks = λ q a l none. inl refl; none = λ h. h })
-  fresh_ways (rw.Punch f n) o e = subst (FreshWays (rw.Punch f n)) (sym e) (record { own = λ q h. h; fault = λ why h. h; lacks = λ q a l none. inl refl; none = λ h. h })
-  fresh_ways (rw.Stat p) o e = subst (FreshWays (rw.Stat p)) (sym e) (record { own = λ q h. h; fault = λ why h. h; lacks = λ q a l none. inl refl; none = λ h. h })
-  fresh_ways (rw.Write f (Fresh bs)) o (bytes, e, is) = subst (FreshWays (rw.Write f (Fresh bs))) (sym (e ∙ ap (op.Write f) is)) (record { own = λ q h. h; fault = λ why h. h; lacks = λ q a l. l; none = λ h. h })
-  fresh_ways (rw.Append f (Fresh bs)) o (bytes, e, is) = subst (FreshWays (rw.Append f (Fresh bs))) (sym (e ∙ ap (op.Append f) is)) (record { own = λ q h. h; fault = λ why h. h; lacks = λ q a l. l; none = λ h. h })
+  fresh_ways (rw.Open f p) o e = subst (FreshWays (rw.Open f p)) (sym e) (record { own = λ q h. h; fault = λ why h. h; lacks = λ q a l none. inl refl; none = λ h. h; file = refl })
+  fresh_ways (rw.Close f) o e = subst (FreshWays (rw.Close f)) (sym e) (record { own = λ q h. h; fault = λ why h. h; lacks = λ q a l none. inl refl; none = λ h. h; file = refl })
+  fresh_ways (rw.Seek f place) o e = subst (FreshWays (rw.Seek f place)) (sym e) (record { own = λ q h. h; fault = λ why h. h; lacks = λ q a l none. inl refl; none = λ h. h; file = refl })
+  fresh_ways (rw.Tell f) o e = subst (FreshWays (rw.Tell f)) (sym e) (record { own = λ q h. h; fault = λ why h. h; lacks = λ q a l none. inl refl; none = λ h. h; file = refl })
+  fresh_ways (rw.Read f n) o e = subst (FreshWays (rw.Read f n)) (sym e) (record { own = λ q h. h; fault = λ why h. h; lacks = λ q a l none. inl refl; none = λ h. h; file = refl })
+  fresh_ways (rw.Truncate f n) o e = subst (FreshWays (rw.Truncate f n)) (sym e) (record { own = λ q h. h; fault = λ why h. h; lacks = λ q a l none. inl refl; none = λ h. h; file = refl })
+  fresh_ways (rw.Punch f n) o e = subst (FreshWays (rw.Punch f n)) (sym e) (record { own = λ q h. h; fault = λ why h. h; lacks = λ q a l none. inl refl; none = λ h. h; file = refl })
+  fresh_ways (rw.Stat p) o e = subst (FreshWays (rw.Stat p)) (sym e) (record { own = λ q h. h; fault = λ why h. h; lacks = λ q a l none. inl refl; none = λ h. h; file = refl })
+  fresh_ways (rw.Write f (Fresh bs)) o (bytes, e, is) = subst (FreshWays (rw.Write f (Fresh bs))) (sym (e ∙ ap (op.Write f) is)) (record { own = λ q h. h; fault = λ why h. h; lacks = λ q a l. l; none = λ h. h; file = refl })
+  fresh_ways (rw.Append f (Fresh bs)) o (bytes, e, is) = subst (FreshWays (rw.Append f (Fresh bs))) (sym (e ∙ ap (op.Append f) is)) (record { own = λ q h. h; fault = λ why h. h; lacks = λ q a l. l; none = λ h. h; file = refl })
   fresh_ways (rw.Write f (Stored kept)) o (bytes, e, is) = absurd is
   fresh_ways (rw.Append f (Stored kept)) o (bytes, e, is) = absurd is
 
@@ -87,6 +100,25 @@ module _ {S : Type 0} (kind : StoreKind S) (old new : Dev S) (w : Map) (s : Sess
   own_len_of (op.Peek l off n) q h = subst (λ z. IfSome z (λ sl. len_of sl ≡ 0)) (sym h) tt
   own_len_of (op.Concat p paths) q h = subst (λ z. IfSome z (λ sl. len_of sl ≡ 0)) (sym h) tt
   own_len_of o q h = subst (λ z. IfSome z (λ sl. len_of sl ≡ length (data_of o))) (sym h.1) tt
+
+  -- and lies inside the stores
+  by_inside : (o : Option Handle) (place : Handle → PlaceView) (bytes : List ℕ) (q : Option Slice) → OwnBy kind old new o place bytes q
+      → SliceBytes (is_inside kind (stores new) old.settings) q
+  by_inside None place bytes q h = subst (SliceBytes (is_inside kind (stores new) old.settings)) (sym h.1) tt
+  by_inside (Some g) place bytes None h = tt
+  by_inside (Some g) place bytes (Some sl) h = slice_inside kind (stores new) old.settings sl h.1 h.2
+
+  none_inside : (q : Option Slice) → q ≡ None → SliceBytes (is_inside kind (stores new) old.settings) q
+  none_inside q h = subst (SliceBytes (is_inside kind (stores new) old.settings)) (sym h) tt
+
+  pub own_inside_of : (o : Op (List ℕ)) (q : Option Slice) → IsOwnOf kind old new w s o q → SliceBytes (is_inside kind (stores new) old.settings) q
+  own_inside_of (op.Write f bytes) q h = by_inside (handle_in s f) _ bytes q h
+  own_inside_of (op.Append f bytes) q h = by_inside (handle_in s f) _ bytes q h
+  own_inside_of (op.Read f n) q h = none_inside q h
+  own_inside_of (op.Yank f n l) q h = none_inside q h
+  own_inside_of (op.Peek l off n) q h = none_inside q h
+  own_inside_of (op.Concat p paths) q h = none_inside q h
+  own_inside_of o q h = none_inside q h.1
 
   -- and where the call is kept it is the slice that is
   pub own_known : (k : Op Kept) (o : Op (List ℕ)) (q : Option Slice) → IsKeptOf o q k → IsOwnOf kind old new w s o q → own_of k ≡ q
@@ -126,6 +158,7 @@ module _ {S : Type 0} (kind : StoreKind S) (old new : Dev S) (w : Map) (s : Sess
     pub none : StoresNone r
     pub whole : IsWholeOp k → IsWhole r
     pub either : IsWhole r ⊎ Lacks r
+    pub kept : IsWholeOp k ⊎ Lacks r
     pub fault : (why : Fault) → IsRwFault kind old new w s r why → IsAgainFault kind old new w s k why
 
   kept_either : (o : Option Slice) (n : ℕ) → (o ≡ None → n ≡ 0) ⊎ (o ≡ None)
@@ -133,16 +166,16 @@ module _ {S : Type 0} (kind : StoreKind S) (old new : Dev S) (w : Map) (s : Sess
   kept_either (Some sl) n = inl (λ e. absurd (cc))
 
   pub again_ways : (r : RwOp) (k : Op Kept) → IsOpOf IsStored r k → AgainWays r k
-  again_ways (rw.Open f p) k e = subst (AgainWays (rw.Open f p)) (sym e) (record { form = λ h. h.0; given = λ P h. tt; none = tt; whole = λ h. tt; either = inl tt; fault = λ why h. h })
-  again_ways (rw.Close f) k e = subst (AgainWays (rw.Close f)) (sym e) (record { form = λ h. h; given = λ P h. tt; none = tt; whole = λ h. tt; either = inl tt; fault = λ why h. h })
-  again_ways (rw.Seek f place) k e = subst (AgainWays (rw.Seek f place)) (sym e) (record { form = λ h. h.0; given = λ P h. tt; none = tt; whole = λ h. tt; either = inl tt; fault = λ why h. h })
-  again_ways (rw.Tell f) k e = subst (AgainWays (rw.Tell f)) (sym e) (record { form = λ h. h; given = λ P h. tt; none = tt; whole = λ h. tt; either = inl tt; fault = λ why h. h })
-  again_ways (rw.Read f n) k e = subst (AgainWays (rw.Read f n)) (sym e) (record { form = λ h. h; given = λ P h. tt; none = tt; whole = λ h. tt; either = inl tt; fault = λ why h. h })
-  again_ways (rw.Truncate f n) k e = subst (AgainWays (rw.Truncate f n)) (sym e) (record { form = λ h. h.0; given = λ P h. tt; none = tt; whole = λ h. tt; either = inl tt; fault = λ why h. h })
-  again_ways (rw.Punch f n) k e = subst (AgainWays (rw.Punch f n)) (sym e) (record { form = λ h. h.0; given = λ P h. tt; none = tt; whole = λ h. tt; either = inl tt; fault = λ why h. h })
-  again_ways (rw.Stat p) k e = subst (AgainWays (rw.Stat p)) (sym e) (record { form = λ h. tt; given = λ P h. tt; none = tt; whole = λ h. tt; either = inl tt; fault = λ why h. h })
-  again_ways (rw.Write f (Stored kept)) k (x, e, is) = subst (AgainWays (rw.Write f (Stored kept))) (sym (e ∙ ap (op.Write f) is)) (record { form = λ h. h; given = λ P h. h; none = tt; whole = λ h. h; either = kept_either kept.slice kept.len; fault = λ why h. h })
-  again_ways (rw.Append f (Stored kept)) k (x, e, is) = subst (AgainWays (rw.Append f (Stored kept))) (sym (e ∙ ap (op.Append f) is)) (record { form = λ h. h; given = λ P h. h; none = tt; whole = λ h. h; either = kept_either kept.slice kept.len; fault = λ why h. h })
+  again_ways (rw.Open f p) k e = subst (AgainWays (rw.Open f p)) (sym e) (record { form = λ h. h.0; given = λ P h. tt; none = tt; whole = λ h. tt; either = inl tt; kept = inl tt; fault = λ why h. h })
+  again_ways (rw.Close f) k e = subst (AgainWays (rw.Close f)) (sym e) (record { form = λ h. h; given = λ P h. tt; none = tt; whole = λ h. tt; either = inl tt; kept = inl tt; fault = λ why h. h })
+  again_ways (rw.Seek f place) k e = subst (AgainWays (rw.Seek f place)) (sym e) (record { form = λ h. h.0; given = λ P h. tt; none = tt; whole = λ h. tt; either = inl tt; kept = inl tt; fault = λ why h. h })
+  again_ways (rw.Tell f) k e = subst (AgainWays (rw.Tell f)) (sym e) (record { form = λ h. h; given = λ P h. tt; none = tt; whole = λ h. tt; either = inl tt; kept = inl tt; fault = λ why h. h })
+  again_ways (rw.Read f n) k e = subst (AgainWays (rw.Read f n)) (sym e) (record { form = λ h. h; given = λ P h. tt; none = tt; whole = λ h. tt; either = inl tt; kept = inl tt; fault = λ why h. h })
+  again_ways (rw.Truncate f n) k e = subst (AgainWays (rw.Truncate f n)) (sym e) (record { form = λ h. h.0; given = λ P h. tt; none = tt; whole = λ h. tt; either = inl tt; kept = inl tt; fault = λ why h. h })
+  again_ways (rw.Punch f n) k e = subst (AgainWays (rw.Punch f n)) (sym e) (record { form = λ h. h.0; given = λ P h. tt; none = tt; whole = λ h. tt; either = inl tt; kept = inl tt; fault = λ why h. h })
+  again_ways (rw.Stat p) k e = subst (AgainWays (rw.Stat p)) (sym e) (record { form = λ h. tt; given = λ P h. tt; none = tt; whole = λ h. tt; either = inl tt; kept = inl tt; fault = λ why h. h })
+  again_ways (rw.Write f (Stored kept)) k (x, e, is) = subst (AgainWays (rw.Write f (Stored kept))) (sym (e ∙ ap (op.Write f) is)) (record { form = λ h. h; given = λ P h. h; none = tt; whole = λ h. h; either = kept_either kept.slice kept.len; kept = kept_either kept.slice kept.len; fault = λ why h. h })
+  again_ways (rw.Append f (Stored kept)) k (x, e, is) = subst (AgainWays (rw.Append f (Stored kept))) (sym (e ∙ ap (op.Append f) is)) (record { form = λ h. h; given = λ P h. h; none = tt; whole = λ h. h; either = kept_either kept.slice kept.len; kept = kept_either kept.slice kept.len; fault = λ why h. h })
   again_ways (rw.Write f (Fresh bs)) k (x, e, is) = absurd is
   again_ways (rw.Append f (Fresh bs)) k (x, e, is) = absurd is
 
@@ -195,6 +228,30 @@ module _ (P : Slice → List ℕ → Type 0) where
   fresh_tell (rw.Truncate f n) o bytes e = tt
   fresh_tell (rw.Punch f n) o bytes e = tt
   fresh_tell (rw.Stat p) o bytes e = tt
+
+-- and one that is made once more is given the slice that a log kept
+kept_tell : (told : Told) (kept : Kept) (call : List ℕ → Op (List ℕ)) (bytes : List ℕ) (o : Op (List ℕ)) (own : Option Slice) → call bytes ≡ o
+    → data_of (call bytes) ≡ bytes → own ≡ kept.slice → TellSlice told own (data_of o) → IfSome kept.slice (λ s. tells_slice told s bytes)
+kept_tell told kept call bytes o own is same slice tell =
+    some_tell told kept.slice bytes
+    (subst (TellSlice told kept.slice) (ap data_of (sym is) ∙ same) (subst (λ (q : Option Slice). TellSlice told q (data_of o)) slice tell))
+
+pub again_tell : (told : Told) (r : RwOp) (k : Op Kept) (o : Op (List ℕ)) (bytes : List ℕ) → IsOpOf IsStored r k → op_of r bytes ≡ o
+    → TellSlice told (own_of k) (data_of o) → RwTell (tells_slice told) r bytes
+again_tell told (rw.Write f (Stored kept)) k o bytes (x, e, same) is tell =
+    kept_tell told kept (op.Write f) bytes o (own_of k) is refl (ap own_of (e ∙ ap (λ (q : Kept). op.Write f q) same)) tell
+again_tell told (rw.Append f (Stored kept)) k o bytes (x, e, same) is tell =
+    kept_tell told kept (op.Append f) bytes o (own_of k) is refl (ap own_of (e ∙ ap (λ (q : Kept). op.Append f q) same)) tell
+again_tell told (rw.Write f (Fresh bs)) k o bytes (x, e, same) is tell = tt
+again_tell told (rw.Append f (Fresh bs)) k o bytes (x, e, same) is tell = tt
+again_tell told (rw.Open f p) k o bytes e is tell = tt
+again_tell told (rw.Close f) k o bytes e is tell = tt
+again_tell told (rw.Seek f place) k o bytes e is tell = tt
+again_tell told (rw.Tell f) k o bytes e is tell = tt
+again_tell told (rw.Read f n) k o bytes e is tell = tt
+again_tell told (rw.Truncate f n) k o bytes e is tell = tt
+again_tell told (rw.Punch f n) k o bytes e is tell = tt
+again_tell told (rw.Stat p) k o bytes e is tell = tt
 
 -- a call that is to store no byte stores no slice
 pub none_stored : {S : Type 0} (kind : StoreKind S) (old new : Dev S) (w : Map) (s : SessionView) (r : RwOp) (q : Option Slice) → StoresNone r → IsRwOwn kind old new w s r q → q ≡ None

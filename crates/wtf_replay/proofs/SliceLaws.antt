@@ -1,5 +1,5 @@
 -- Calls on slices, and those that make a file of others, as calls of a transaction.
-use Rattle.std.proofs.Common.{◌≡◌, ℕ, Bool, false, List, [], Option, None, refl, sym, subst, inr}
+use Rattle.std.proofs.Common.{◌≡◌, ℕ, Bool, false, List, [], Option, None, refl, sym, subst, inl, inr}
 use Rattle.wtf_base.specs.declared.fault.Fault.{Fault}
 use Rattle.wtf_base.specs.declared.fault.Fault.TheVariants as fault
 use Rattle.wtf_base.specs.declared.kept.Kept.{Kept}
@@ -11,11 +11,10 @@ use Rattle.wtf_model.specs.declared.answer.Answer.{Answer}
 use Rattle.wtf_model.specs.declared.op.Op.{Op}
 use Rattle.wtf_model.specs.declared.op.Op.TheVariants as op
 use Rattle.wtf_meta.specs.Bytes.{PiecesBytes}
-use Rattle.wtf_meta.specs.Lists.{TellLists}
-use Rattle.wtf_meta.specs.Contents.{Told, is_told, lists_in}
+use Rattle.wtf_meta.specs.Contents.{Told}
 use Rattle.wtf_meta.specs.Maps.{Map}
 use Rattle.wtf_meta.specs.Sessions.{SessionView}
-use Rattle.wtf_meta.specs.Calls.{Caller, Fact, Did, InHand, TellFacts, IsCall}
+use Rattle.wtf_meta.specs.Calls.{Caller, Fact, Did, TellFacts, IsCall}
 use Rattle.wtf_meta.proofs.Named.{PiecesBytes-none}
 use Rattle.wtf_region.specs.declared.dev.Dev.{Dev}
 use Rattle.wtf_region.specs.Devs.{told_in}
@@ -26,9 +25,11 @@ use Rattle.wtf_slicing.specs.declared.op.SliceOp.{SliceOp}
 use Rattle.wtf_slicing.specs.declared.op.SliceOp.TheVariants.{Yank, Peek, Cut, Paste, Glue, Concat, Copy}
 use Rattle.wtf_slicing.specs.Ops.{op_of, IsFormSlice, DoesSlice, IsSliceFault, NeedsNoStore}
 use Rattle.wtf_replay.specs.Built.{is_rw_op, is_slice_op, IsPlainOp, IsFormPlain, IsSliceOpOf}
-use Rattle.wtf_replay.specs.Causes.{IsOwnOf, IsCallFault, IsAgainFault, IsPlainFault, IsStillOp}
-use Rattle.wtf_replay.specs.Sounds.{TellsHand, IsToldStep}
-use Rattle.wtf_replay.proofs.ReadLists.{slice_read, read_told}
+use Rattle.wtf_replay.specs.Causes.{IsOwnOf, IsCallFault, IsAgainFault, IsPlainFault, IsStillOp, grown_file}
+use Rattle.wtf_replay.specs.Keeps.{IsWholeOp, LacksData}
+use Rattle.wtf_replay.specs.Sounds.{TellsHand}
+use Rattle.wtf_replay.specs.Works.{Work, IsWork, saw, scene_of}
+use Rattle.wtf_replay.proofs.ReadLists.{slice_read}
 
 module _ {S D : Type 0} (kind : StoreKind S) (old new : Dev S) (w : Map) (s : SessionView) where
   -- what a call k is that is made as r
@@ -98,22 +99,21 @@ slice_facts sc ranges s (Concat q paths) did does tells = no_facts (told_in sc.k
 slice_facts sc ranges s (Copy p q) did does tells = no_facts (told_in sc.kind sc.after) did.facts does.facts
 
 -- P holds of what it stored, which is nothing
-pub stored_bytes_none : {S : Type 0} (P : List Place → Bool) (sc : Scene S) (s : SessionView) (r : SliceOp) (did : Did) → DoesSlice sc s r did → PiecesBytes P did.stored
+stored_bytes_none : {S : Type 0} (P : List Place → Bool) (sc : Scene S) (s : SessionView) (r : SliceOp) (did : Did) → DoesSlice sc s r did → PiecesBytes P did.stored
 stored_bytes_none P sc s r did does = subst (PiecesBytes P) (sym (stored_none sc s r did does)) (PiecesBytes-none P)
 
--- its step, over stores that tell the bytes of the map and of the slices in hand
-pub slice_step : {S : Type 0} (sc : Scene S) (own : Option Slice) (r : SliceOp) (x : Caller) (old new : InHand) (o : Op (List ℕ)) (a : Answer)
-    → IsStepWith (DoesSlice sc old.session r) x sc.map old new (op_of r) a → op_of r ≡ o
-    → x.size ≡ sc.after.settings.region → (ranges : List (ℕ × Range)) → TellsHand sc.kind sc.before ranges sc.map old.session
-    → IsToldStep (told_in sc.kind sc.after) own x sc.map old new o a
-slice_step sc own r x old new o a one is size ranges tells = record {
-  step = record { did = one.did; grows = one.grows; is_call = subst (λ q. IsCall x sc.map old.session new.session one.did q a) is one.is_call };
-  told_are = slice_facts sc ranges old.session r one.did one.more tells;
-  lists_are = subst (λ (z : ℕ). TellLists (lists_in z (told_in sc.kind sc.after)) one.did.lists) (sym size)
-      (read_told sc one.did.lists (slice_read sc old.session r one.did one.more) ranges tells.seen);
-  stored_are = stored_bytes_none (is_told (told_in sc.kind sc.after)) sc old.session r one.did one.more;
-  kept = λ P has. stored_bytes_none P sc old.session r one.did one.more;
-}
+-- what it did
+pub slice_work : {S : Type 0} (w : Work S) (own : Option Slice) (r : SliceOp) (x : Caller) (o : Op (List ℕ)) (a : Answer)
+    → IsStepWith (DoesSlice (scene_of w) w.old.session r) x (saw w) w.old w.new (op_of r) a → op_of r ≡ o → IsWork w x own o a
+slice_work w own r x o a one is =
+    let read = slice_read (scene_of w) w.old.session r one.did one.more in
+    record {
+      step = record { did = one.did; grows = one.grows; is_call = subst (λ q. IsCall x (saw w) w.old.session w.new.session one.did q a) is one.is_call };
+      kept = λ P has. stored_bytes_none P (scene_of w) w.old.session r one.did one.more;
+      inside = read.inside;
+      lists = read.told;
+      facts = λ ranges tells tell. slice_facts (scene_of w) ranges w.old.session r one.did one.more tells;
+    }
 
 module _ {S : Type 0} (kind : StoreKind S) (old new : Dev S) (w : Map) (s : SessionView) where
   -- what a call without data stored: nothing
@@ -165,6 +165,23 @@ module _ {S : Type 0} (kind : StoreKind S) (old new : Dev S) (w : Map) (s : Sess
   plain_again_fault (op.Concat q paths) b why h = h
   plain_again_fault (op.Copy p q) b why h = h
   plain_again_fault k b why h = absurd (cc)
+
+-- a call without data lacks none of it
+pub plain_lacks : (o : Op (List ℕ)) (a : Answer) → is_rw_op o ≡ false → LacksData o None a
+plain_lacks (op.Write f bytes) a b = absurd (cc)
+plain_lacks (op.Append f bytes) a b = absurd (cc)
+plain_lacks o a b = λ none. inl refl
+
+-- and grows no file
+pub plain_file : {S : Type 0} (dev : Dev S) (w : Map) (s : SessionView) (o : Op (List ℕ)) → is_rw_op o ≡ false → grown_file dev w s o ≡ None
+plain_file dev w s (op.Write f bytes) b = absurd (cc)
+plain_file dev w s (op.Append f bytes) b = absurd (cc)
+plain_file dev w s o b = refl
+
+pub plain_whole : (k : Op Kept) → is_rw_op k ≡ false → IsWholeOp k
+plain_whole (op.Write f kept) b = absurd (cc)
+plain_whole (op.Append f kept) b = absurd (cc)
+plain_whole k b = tt
 
 -- want of memory may come in place of whatever is due
 pub memory_due : (settings : Settings) (w : Map) (s : SessionView) (o : Op (List ℕ)) (why : Fault) → why ≡ fault.Memory → MayFault settings w s o why

@@ -9,22 +9,8 @@ use Rattle.wtf_meta.specs.Maps.{metadata_at}
 use Rattle.wtf_meta.specs.Contents.{Told, is_told}
 use Rattle.wtf_meta.proofs.Named.{PiecesBytes-none}
 use Rattle.wtf_meta.proofs.Nothing.{run_none}
-use Rattle.wtf_replay.specs.Views.{TxnView, rebased, replaying}
+use Rattle.wtf_replay.specs.Views.{TxnView, rebased}
 use Rattle.wtf_replay.specs.Sounds.{tells_slice, caller_at, IsSound}
-
--- what holds of a transaction does not speak of its end
-pub sound_replaying : (size : ℕ) (kv : Store Key Value) (told : Told) (x : TxnView) (ops : List (Op (List ℕ))) → IsSound size kv told x ops → IsSound size kv told (replaying x.tx x.at x.session x.log x.replayed) ops
-sound_replaying size kv told x ops sound = record {
-  facts = sound.facts;
-  stored = sound.stored;
-  lists = sound.lists;
-  ops_are = sound.ops_are;
-  told_are = sound.told_are;
-  stored_are = sound.stored_are;
-  kept = sound.kept;
-  lists_are = sound.lists_are;
-  run = sound.run;
-}
 
 -- a transaction that begins again at a number
 pub sound_rebased : (size : ℕ) (kv : Store Key Value) (told : Told) (x : TxnView) (n : ℕ) (ops : List (Op (List ℕ))) → OpsStandFor (tells_slice told) x.log.ops ops → IsSound size kv told (rebased x n) ops

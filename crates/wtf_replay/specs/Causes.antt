@@ -1,5 +1,6 @@
 -- Why a call, a step or a commit gave a fault, and when one may come.
-use Rattle.std.specs.Prelude.{◌≡◌, ◌⊎◌, ◌≤◌, ℕ, List, [], Option, None, Some, slice_get, ⊤}
+use Rattle.std.specs.Prelude.{◌≡◌, ◌⊎◌, ◌≤◌, ◌-◌, ℕ, List, [], Option, None, Some, slice_get, ⊤}
+use Rattle.std.specs.Option.{option_map}
 use Rattle.wtf_base.specs.declared.fault.Fault.{Fault}
 use Rattle.wtf_base.specs.declared.fault.Fault.TheVariants as fault
 use Rattle.wtf_base.specs.declared.kept.Kept.{Kept}
@@ -23,6 +24,7 @@ use Rattle.wtf_values.specs.declared.value.Delta.{Delta}
 use Rattle.wtf_log.specs.Standing.{OpStandsFor}
 use Rattle.wtf_meta.specs.declared.session.Handle.{Handle}
 use Rattle.wtf_meta.specs.Contents.{Told}
+use Rattle.wtf_meta.specs.Lists.{ListFact}
 use Rattle.wtf_meta.specs.FileEdits.{file_of}
 use Rattle.wtf_meta.specs.Maps.{Map, seen, metadata_at}
 use Rattle.wtf_meta.specs.Sessions.{SessionView, handle_in, slice_in}
@@ -31,7 +33,8 @@ use Rattle.wtf_meta.specs.Calls.{InHand, cap_for}
 use Rattle.wtf_region.specs.declared.dev.Dev.{Dev}
 use Rattle.wtf_region.specs.Devs.{GoesOn, place_in, stores}
 use Rattle.wtf_steps.specs.Faults.{MayFault}
-use Rattle.wtf_rw.specs.Ops.{OwnBy}
+use Rattle.wtf_steps.specs.Recalling.{Recalls}
+use Rattle.wtf_rw.specs.Ops.{OwnBy, file_in, file_at_end}
 use Rattle.wtf_rw.specs.Reads.{LacksRead}
 use Rattle.wtf_steps.specs.Recorded.{found_in}
 use Rattle.wtf_rw.specs.Stored.{IsPutFault, end_place}
@@ -41,6 +44,7 @@ use Rattle.wtf_replay.specs.Views.{TxnView, in_hand, hand_of, replaying}
 use Rattle.wtf_replay.specs.Tried.{commit_from}
 use Rattle.wtf_replay.specs.Insides.{NamesAgain}
 use Rattle.wtf_replay.specs.Sounds.{IsSound, TellsMap, IsAwayTxn, caller_at}
+use Rattle.wtf_replay.specs.Effects.{scope, AreRedone}
 
 -- what came of the bytes that a call was to store: those that are written go to the region of the handle's offset, and those
 -- that are appended to that of the file's end
@@ -77,6 +81,12 @@ StoresNothing (op.Write f bytes) = ⊥
 StoresNothing (op.Append f bytes) = ⊥
 StoresNothing o = ⊤
 
+-- the file of the servers to which bytes go that a call is to store, where its handle is open
+abbrev pub grown_file : {S : Type 0} → Dev S → Map → SessionView → Op (List ℕ) → Option ℕ
+grown_file dev w s (op.Write f bytes) = option_map (file_in dev) (handle_in s f)
+grown_file dev w s (op.Append f bytes) = option_map (file_at_end dev w) (handle_in s f)
+grown_file dev w s o = None
+
 -- why n bytes from a handle's offset on were not shown; memory may be short at any time
 abbrev pub IsReadCause : {S : Type 0} → StoreKind S → (old new : Dev S) → Map → Option Handle → ℕ → Fault → Type 0
 IsReadCause kind old new w handle n why =
@@ -111,7 +121,8 @@ pub record FaultAt {S : Type 0} (kind : StoreKind S) (mid new : Dev S) (kv : Sto
   pub cause : IsAgainFault kind mid new (seen kv hand.at) hand.session op why
   pub due : MayAgainFault mid.settings (seen kv hand.at) hand.session op why
 
--- A replay that began as x gave the fault at one of the calls that were left, where those before it were done.
+-- A replay that began as x gave the fault at one of the calls that were left, where those before it were done, and the lists that
+-- they read are remembered.
 pub record ReplayFault {S : Type 0} (kind : StoreKind S) (old new : Dev S) (kv : Store Key Value) (x : TxnView) (why : Fault) : Type 0 where
   pub mid : Dev S
   pub goes : GoesOn kind old mid []
@@ -120,6 +131,9 @@ pub record ReplayFault {S : Type 0} (kind : StoreKind S) (old new : Dev S) (kv :
   pub k : ℕ
   pub from : x.replayed ≤ k
   pub base : at.base ≡ x.at.base
+  pub lists : List ListFact
+  pub redone : AreRedone (scope kind old mid) kv x (k - x.replayed) lists (in_hand at session)
+  pub recalls : Recalls old mid lists
   pub named : NamesAgain kind old mid kv (hand_of x) (in_hand at session) x.log
   pub done : (ops : List (Op (List ℕ))) (ranges : List (ℕ × Range)) → TellsMap kind old ranges (metadata_at kv x.at.base) → IsAwayTxn kind old ranges kv x
       → IsSound old.settings.region kv (byte_at kind (stores old)) x ops

@@ -1,7 +1,7 @@
 -- What a call of a transaction records and changes, by what it sees: its keys, in order and up to a refusal, and its changes,
 -- and nothing else.
 -- NSDI 2016, sections 2.3 to 2.6 (what a call read is what a later install of others may not have changed).
-use Rattle.std.specs.Prelude.{◌≡◌, ℕ, zero, suc, ◌+◌, ◌-◌, ◌++◌, Bool, false, bytes_eq, if◌then◌else◌, List, [], ◌∷◌, length, Option, None, Some, slice_get}
+use Rattle.std.specs.Prelude.{◌≡◌, ℕ, zero, suc, ◌+◌, ◌-◌, ◌*◌, ◌++◌, Bool, true, false, bytes_eq, if◌then◌else◌, List, [], ◌∷◌, length, Option, None, Some, slice_get}
 use Rattle.std.specs.List.{list_any}
 use Rattle.wtf_base.specs.declared.kept.Kept.{Kept}
 use Rattle.wtf_base.specs.declared.slice.Slice.{Slice}
@@ -9,6 +9,7 @@ use Rattle.wtf_dev.specs.Store.{StoreKind}
 use Rattle.wtf_kv.specs.Stores.{Store}
 use Rattle.wtf_occ.specs.Attempts.{Attempted}
 use Rattle.wtf_model.specs.declared.answer.Answer.{Answer}
+use Rattle.wtf_model.specs.declared.limits.TheConstants.{MAX_REGIONS}
 use Rattle.wtf_model.specs.declared.op.Op.{Op}
 use Rattle.wtf_model.specs.declared.op.Op.TheVariants as op
 use Rattle.wtf_values.specs.declared.key.Key.{Key}
@@ -20,20 +21,26 @@ use Rattle.wtf_values.specs.declared.value.Node.TheVariants.{Folder, File}
 use Rattle.wtf_log.specs.Calls.{own_of}
 use Rattle.wtf_meta.specs.declared.session.Handle.{Handle}
 use Rattle.wtf_meta.specs.Lists.{ListFact}
+use Rattle.wtf_meta.specs.Files.{file_len}
+use Rattle.wtf_meta.specs.FileEdits.{file_of}
 use Rattle.wtf_meta.specs.Maps.{Map, Edits, seen}
-use Rattle.wtf_meta.specs.Sessions.{SessionView, handle_in, slice_in}
+use Rattle.wtf_meta.specs.Sessions.{SessionView, SetsHandle, handle_in, slice_in}
 use Rattle.wtf_meta.specs.Calls.{InHand}
 use Rattle.wtf_region.specs.declared.dev.Dev.{Dev}
 use Rattle.wtf_region.specs.Reads.{TellsFacts}
 use Rattle.wtf_index.specs.Checks.{stands_at}
 use Rattle.wtf_index.specs.Recorded.{target_keys, directory_keys, rmdir_keys, source_keys, rename_keys}
 use Rattle.wtf_index.specs.Changed.{mkdir_changes, rmdir_changes, create_changes, unlink_changes, rename_changes}
-use Rattle.wtf_steps.specs.Recorded.{append_keys, read_keys}
+use Rattle.wtf_steps.specs.Recorded.{append_keys, read_keys, found_in}
 use Rattle.wtf_steps.specs.Made.{Makes, LaysAt, AddsAt}
+use Rattle.wtf_steps.specs.Holding.{LeavesHand, MovesHandle, MovesOn}
 use Rattle.wtf_rw.specs.Recorded.{open_keys, seek_keys, stat_keys}
 use Rattle.wtf_rw.specs.Changed.{OfSlice, CutsAt, PunchesAt}
+use Rattle.wtf_rw.specs.Held.{OpensFile, held_len}
+use Rattle.wtf_rw.specs.Seeks.{lands}
 use Rattle.wtf_slicing.specs.Recorded.{glue_keys, concat_keys, copy_keys}
 use Rattle.wtf_slicing.specs.Changed.{kept_pieces, IsConcat, IsCopied}
+use Rattle.wtf_slicing.specs.Held.{Yanks, Cuts, Pastes}
 use Rattle.wtf_slicing.specs.Sights.{Sight, sight}
 use Rattle.wtf_replay.specs.Views.{TxnView, hand_of}
 
@@ -45,19 +52,22 @@ is_by p (Some h) = bytes_eq h.path p
 abbrev pub is_held : SessionView → List ℕ → Bool
 is_held s p = list_any (is_by p) s.handles
 
--- nothing, where a file stands
-abbrev pub unless_file : {A : Type 0} → Option Node → List A → List A
-unless_file (Some (File i)) xs = []
-unless_file (Some Folder) xs = xs
-unless_file None xs = xs
+abbrev pub is_file : Option Node → Bool
+is_file (Some (File i)) = true
+is_file (Some Folder) = false
+is_file None = false
 
--- Of a call that takes a file from a path: where a handle was opened by the path, what stands there is looked at first. A
--- file is busy then, and nothing more is looked at or changed.
+-- whether a handle keeps a file at its path
+abbrev pub is_busy : Map → SessionView → List ℕ → Bool
+is_busy w s p = if is_held s p then is_file (stands_at w p) else false
+
+-- Of a call that takes a file from a path: one on which a handle is, is busy. What stands there is looked at, and nothing more is
+-- looked at or changed.
 abbrev pub taken_keys : Map → SessionView → List ℕ → List Key → List Key
-taken_keys w s p ks = if is_held s p then Path p ∷ unless_file (stands_at w p) ks else ks
+taken_keys w s p ks = if is_busy w s p then Path p ∷ [] else ks
 
 abbrev pub taken_changes : Map → SessionView → List ℕ → Edits → Edits
-taken_changes w s p cs = if is_held s p then unless_file (stands_at w p) cs else cs
+taken_changes w s p cs = if is_busy w s p then [] else cs
 
 -- the keys of a call whose data has n bytes
 abbrev pub call_keys : {D : Type 0} → Sight → ℕ → Op D → List Key
@@ -95,6 +105,20 @@ CallMakes x own (op.Concat q paths) a old new = Makes a (IsConcat x q paths) old
 CallMakes x own (op.Copy p q) a old new = Makes a (IsCopied x.map p q x.new) old new
 CallMakes x own o a old new = new.changes ≡ old.changes
 
+-- What a call that answered a leaves in hand, of whose data the slice `own` is stored: the handle that it opens, ends or moves, and
+-- the slice that it keeps, by its places; where it was refused, what was there.
+abbrev pub CallHolds : {D : Type 0} → Sight → Option Slice → Op D → Answer → SessionView → SessionView → Type 0
+CallHolds x own (op.Open f p) a old new = LeavesHand a (OpensFile x.map f p) old new
+CallHolds x own (op.Close f) a old new = LeavesHand a (SetsHandle f None) old new
+CallHolds x own (op.Seek f place) a old new =
+    LeavesHand a (MovesHandle f (λ h n. lands (MAX_REGIONS * x.size) (file_len x.size (file_of h.inode x.map)) h.off place ≡ Some n)) old new
+CallHolds x own (op.Read f n) a old new = LeavesHand a (MovesOn f (λ h. found_in x.size x.map h n)) old new
+CallHolds x own (op.Write f d) a old new = LeavesHand a (MovesOn f (λ h. held_len own)) old new
+CallHolds x own (op.Yank f n label) a old new = LeavesHand a (Yanks x f n label) old new
+CallHolds x own (op.Cut label off n to) a old new = LeavesHand a (Cuts label off n to) old new
+CallHolds x own (op.Paste f label) a old new = LeavesHand a (Pastes f label) old new
+CallHolds x own o a old new = new ≡ old
+
 -- an attempt goes on by a call that answered a, of whose n bytes of data the slice `own` is stored: by its keys and changes
 pub record Acts {D : Type 0} (x : Sight) (n : ℕ) (own : Option Slice) (o : Op D) (a : Answer) (old new : Attempted Key Delta) : Type 0 where
   pub base : new.base ≡ old.base
@@ -129,12 +153,19 @@ pub record Redoes (b : Scope) (kv : Store Key Value) (x : TxnView) (k : ℕ) (ol
   pub lists : List ListFact
   pub known : b.known lists
   pub acts : Acts (sight_at b.size kv x.tx k old lists) (kept_len op) (own_of op) op shown old.at new.at
+  pub holds : CallHolds (sight_at b.size kv x.tx k old lists) (own_of op) op shown old.session new.session
 
--- n calls of a transaction were made once more, one after another, from where it stands
-abbrev pub AreRedone : Scope → Store Key Value → TxnView → ℕ → InHand → Type 0
-AreRedone b kv x zero hand = hand ≡ hand_of x
-AreRedone b kv x (suc n) hand = (mid : InHand) × AreRedone b kv x n mid × Redoes b kv x (x.replayed + n) mid hand
+-- one call more was made once more, after those that read the lists `before`
+pub record RedoesMore (b : Scope) (kv : Store Key Value) (x : TxnView) (k : ℕ) (mid new : InHand) (before lists : List ListFact) : Type 0 where
+  pub redoes : Redoes b kv x k mid new
+  pub lists_are : lists ≡ before ++ redoes.lists
+
+-- n calls of a transaction were made once more, one after another, from where it stands, and read these lists
+abbrev pub AreRedone : Scope → Store Key Value → TxnView → ℕ → List ListFact → InHand → Type 0
+AreRedone b kv x zero lists hand = (lists ≡ []) × (hand ≡ hand_of x)
+AreRedone b kv x (suc n) lists hand =
+    (mid : InHand) × (before : List ListFact) × AreRedone b kv x n before mid × RedoesMore b kv x (x.replayed + n) mid hand before lists
 
 -- all that are left
-abbrev pub AllRedone : Scope → Store Key Value → TxnView → InHand → Type 0
-AllRedone b kv x hand = AreRedone b kv x (length x.log.ops - x.replayed) hand
+abbrev pub AllRedone : Scope → Store Key Value → TxnView → List ListFact → InHand → Type 0
+AllRedone b kv x lists hand = AreRedone b kv x (length x.log.ops - x.replayed) lists hand

@@ -18,7 +18,7 @@ use Rattle.wtf_meta.specs.Sessions.{SessionBytes}
 use Rattle.wtf_meta.specs.Calls.{InHand}
 use Rattle.wtf_region.specs.declared.dev.Dev.{Dev}
 use Rattle.wtf_region.specs.Apart.{are_apart}
-use Rattle.wtf_region.specs.Devs.{remembered, told_in, RemembersTrue}
+use Rattle.wtf_region.specs.Devs.{told_in, RemembersTrue}
 use Rattle.wtf_region.specs.Inside.{is_inside}
 use Rattle.wtf_region.specs.Reads.{AreInsideLists}
 use Rattle.wtf_rw.specs.Stored.{SliceBytes}

@@ -1,6 +1,6 @@
 -- What a commit installs: what the calls did that it had to make once more, and nothing else.
 -- NSDI 2016, section 2.6 (the transaction is replayed, and installed where it shows the same).
-use Rattle.std.specs.Prelude.{◌≡◌, ℕ, ◌+◌}
+use Rattle.std.specs.Prelude.{◌≡◌, ℕ, ◌+◌, List}
 use Rattle.wtf_kv.specs.Edits.{versions_with}
 use Rattle.wtf_kv.specs.Stores.{Store, versions_of}
 use Rattle.wtf_model.specs.declared.answer.Answer.{Answer, Aborted'}
@@ -9,6 +9,7 @@ use Rattle.wtf_values.specs.declared.key.Key.{Key}
 use Rattle.wtf_values.specs.declared.value.Value.{Value}
 use Rattle.wtf_values.specs.Keys.{key_cmp}
 use Rattle.wtf_values.specs.Outcomes.{outcome_of}
+use Rattle.wtf_meta.specs.Lists.{ListFact}
 use Rattle.wtf_meta.specs.Maps.{metadata_at}
 use Rattle.wtf_meta.specs.Calls.{InHand}
 use Rattle.wtf_replay.specs.Views.{TxnView}
@@ -19,7 +20,8 @@ use Rattle.wtf_replay.specs.Effects.{Scope, AllRedone}
 -- if any, that the changes make which were made then
 pub record Installs (b : Scope) (kv after : Store Key Value) (x : TxnView) (n : ℕ) : Type 0 where
   pub hand : InHand
-  pub redone : AllRedone b kv x hand
+  pub lists : List ListFact
+  pub redone : AllRedone b kv x lists hand
   pub next : n ≡ kv.number + 1
   pub number : after.number ≡ n
   pub versions : (q : Key) → versions_of key_cmp after q

@@ -5,11 +5,12 @@ pub mod Refusals
 pub mod Fits
 pub mod Insides
 pub mod Sounds
-pub mod Causes
 pub mod Called
 pub mod Tried
 pub mod Replays
-pub mod Looked
 pub mod Effects
+pub mod Causes
+pub mod Looked
+pub mod Works
 pub mod Installs
 pub mod Verbs

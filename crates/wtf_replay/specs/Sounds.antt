@@ -27,7 +27,7 @@ use Rattle.wtf_meta.specs.Sessions.{SessionView, SessionBytes, Holds}
 use Rattle.wtf_meta.specs.Calls.{Caller, Fact, Did, InHand, TellFacts, IsStep, IsRun, cap_for}
 use Rattle.wtf_region.specs.declared.dev.Dev.{Dev}
 use Rattle.wtf_region.specs.Apart.{are_apart}
-use Rattle.wtf_region.specs.Devs.{stores, remembered, told_in, RemembersTrue}
+use Rattle.wtf_region.specs.Devs.{stores, told_in, RemembersTrue}
 use Rattle.wtf_rw.specs.Stored.{SliceBytes}
 use Rattle.wtf_replay.specs.Views.{TxnView}
 use Rattle.wtf_replay.specs.Insides.{LogBytes, TxnBytes, lists_have}

@@ -1,5 +1,6 @@
 -- What an attempt, or a commit, makes of a transaction and of the store.
-use Rattle.std.specs.Prelude.{◌≡◌, ◌<◌, ◌≤◌, ℕ, ◌+◌, if◌then◌else◌, nat_eq, Bool, List, true, false, Some, is_some, IsSome}
+use Rattle.std.specs.Prelude.{◌≡◌, ◌<◌, ◌≤◌, ℕ, ◌+◌, if◌then◌else◌, nat_eq, Bool, List, true, false, Some, is_some, IsSome, Result, OnErr}
+use Rattle.wtf_base.specs.declared.fault.Fault.{Fault}
 use Rattle.wtf_kv.specs.Edits.{Agree, versions_with}
 use Rattle.wtf_kv.specs.Stores.{Store, times_pinned, versions_of, version_of}
 use Rattle.wtf_occ.specs.Attempts.{Attempted}
@@ -32,6 +33,13 @@ KeepsVersions old new = (q : Key) → versions_of key_cmp new q ≡ versions_of 
 -- each number is pinned as often as it was
 abbrev pub KeepsPins : Store Key Value → Store Key Value → Type 0
 KeepsPins old new = (n : ℕ) → times_pinned new n ≡ times_pinned old n
+
+-- an install, with its result: the pins and the maps up to the number are what they were, and where it was not done, so are the
+-- number and all versions
+pub record LeavesStore {A : Type 0} (old new : Store Key Value) (r : Result A Fault) : Type 0 where
+  pub pins : new.pins ≡ old.pins
+  pub maps : KeepsMaps old new
+  pub err : OnErr r ((new.number ≡ old.number) × KeepsVersions old new)
 
 -- one pin has moved from b to n
 abbrev pub MovesPin : ℕ → ℕ → Store Key Value → Store Key Value → Type 0

@@ -1,5 +1,5 @@
 -- What each verb of a transaction is lent and leaves, and what it does with that: a record a verb.
-use Rattle.std.specs.Prelude.{◌≡◌, ◌≢◌, ◌⊎◌, ℕ, List, [], ◌∷◌, ◌++◌, Option, None, Result, Ok, IsSome, IfOk, IfErr, IfSome, OnOk, OnErr, slice_get}
+use Rattle.std.specs.Prelude.{◌≡◌, ◌≢◌, ◌⊎◌, ◌<◌, ◌^◌, ℕ, true, false, List, [], ◌∷◌, ◌++◌, Option, None, Result, Ok, Err, IsSome, IfOk, IfErr, IfSome, OnOk, OnErr, slice_get}
 use Rattle.wtf_base.specs.declared.fault.Fault.{Fault}
 use Rattle.wtf_base.specs.declared.fault.Fault.TheVariants.{Memory}
 use Rattle.wtf_base.specs.declared.slice.Slice.{Slice}
@@ -15,21 +15,23 @@ use Rattle.wtf_meta.specs.Lists.{ListFact}
 use Rattle.wtf_meta.specs.Contents.{Told}
 use Rattle.wtf_meta.specs.Maps.{Map, seen, metadata_at}
 use Rattle.wtf_region.specs.declared.dev.Dev.{Dev}
-use Rattle.wtf_region.specs.Devs.{GoesOn, stores, between}
+use Rattle.wtf_region.specs.Devs.{IsSoundDev, GoesOn, stores, between}
 use Rattle.wtf_region.specs.Inside.{IsStoredInside}
 use Rattle.wtf_region.specs.Showing.{OnlyRead}
 use Rattle.wtf_steps.specs.Faults.{MayFault}
+use Rattle.wtf_steps.specs.Leaving.{LeavesStores}
+use Rattle.wtf_steps.specs.Recalling.{Recalls}
 use Rattle.wtf_replay.specs.Views.{TxnView, hand_of}
 use Rattle.wtf_replay.specs.Built.{data_len}
 use Rattle.wtf_replay.specs.Refusals.{unmade, step_refusal}
 use Rattle.wtf_replay.specs.Fits.{IsFit}
 use Rattle.wtf_replay.specs.Sounds.{IsSound, TellsMap, IsAwayTxn}
 use Rattle.wtf_replay.specs.Insides.{IsInsideTxn, NamesTxn, NamesNow}
-use Rattle.wtf_replay.specs.Causes.{IsOwnOf, StoresNothing, IsCallFault, FaultAt, IsCommitFault, MayStepFault, MayCommitFault}
+use Rattle.wtf_replay.specs.Causes.{IsOwnOf, StoresNothing, grown_file, IsCallFault, FaultAt, ReplayFault, IsCommitFault, MayStepFault, MayCommitFault}
 use Rattle.wtf_replay.specs.Called.{IsCalled}
 use Rattle.wtf_replay.specs.Tried.{KeepsMaps, KeepsVersions, KeepsPins, commit_from}
 use Rattle.wtf_replay.specs.Replays.{IsStepped, IsOver, IsEnded, IsTrueStep, IsTrueEnd}
-use Rattle.wtf_replay.specs.Effects.{Acts, Scope, scope, sight_at, Redoes}
+use Rattle.wtf_replay.specs.Effects.{Acts, CallHolds, Scope, scope, sight_at, Redoes}
 use Rattle.wtf_replay.specs.Installs.{IsInstall}
 
 -- a kind of stores; what is lent, the store of versions and the transaction before a verb, and what it leaves of them
@@ -70,14 +72,16 @@ StartsSound t ops =
     (ranges : List (ℕ × Range)) × TellsMap t.kind t.before ranges (metadata_at t.kv t.old.at.base) × IsAwayTxn t.kind t.before ranges t.kv t.old
     × IsSound (region_size t) t.kv (told_before t) t.old ops
 
--- A call was made and answered a: it is logged, with the slice that was stored of its data; it recorded its own keys and
--- made its own changes, by lists that are known; and what is named is what was, or that slice.
+-- A call was made and answered a: it is logged, with the slice that was stored of its data; it recorded its own keys, made its own
+-- changes and set what is in hand, by lists that it read, which are known and remembered; and what is named is what was, or that slice.
 pub record IsMade {S : Type 0} (t : Turn S) (o : Op (List ℕ)) (a : Answer) : Type 0 where
   pub own : Option Slice
   pub called : IsCalled t.old t.new o own a
   pub lists : List ListFact
   pub known : (scope_of t).known lists
+  pub recalls : Recalls t.before t.after lists
   pub acts : Acts (sight_at (region_size t) t.kv t.old.tx t.old.replayed (hand_of t.old) lists) (data_len o) own o a t.old.at t.new.at
+  pub holds : CallHolds (sight_at (region_size t) t.kv t.old.tx t.old.replayed (hand_of t.old) lists) own o a t.old.session t.new.session
   pub stored : IsOwnOf t.kind t.before t.after (map_in t) t.old.session o own
   pub named : NamesTxn t.kind t.before t.after t.kv t.old t.new own
   pub done : IsSome own → a ≡ answer.Okay
@@ -93,12 +97,18 @@ pub record CallOf {S : Type 0} (t : Turn S) (o : Op (List ℕ)) (r : Result Answ
   pub err_hand : OnErr r (t.new ≡ record t.old { session = t.new.session })
   pub fault : IfErr r (IsCallFault t.kind t.before t.after (map_in t) t.old.session o)
   pub due : IfErr r (MayFault t.before.settings (map_in t) t.old.session o)
+  pub leaves : LeavesStores t.kind (grown_file t.before (map_in t) t.old.session o) (between t.before t.after)
   pub reads : StoresNothing o → OnlyRead t.kind (between t.before t.after)
   pub dev : GoesOn t.kind t.before t.after []
 
--- the call that was replayed recorded its own keys and made its own changes
+-- the call that was replayed recorded its own keys, made its own changes and set what is in hand; the lists that it read are
+-- remembered
+pub record RedoesNext {S : Type 0} (t : Turn S) : Type 0 where
+  pub redoes : Redoes (scope_of t) t.kv t.old t.old.replayed (hand_of t.old) (hand_of t.new)
+  pub recalls : Recalls t.before t.after redoes.lists
+
 abbrev pub ActsAgain : {S : Type 0} → Turn S → Answer → Type 0
-ActsAgain t (answer.Replayed i) = Redoes (scope_of t) t.kv t.old t.old.replayed (hand_of t.old) (hand_of t.new)
+ActsAgain t (answer.Replayed i) = RedoesNext t
 ActsAgain t (Aborted' i box a) = Unit {0}
 ActsAgain t a = ⊥
 
@@ -123,6 +133,34 @@ abbrev pub StartsNow : {S : Type 0} → Turn S → List (Op (List ℕ)) → Type
 StartsNow t ops =
     (ranges : List (ℕ × Range)) × TellsMap t.kind t.before ranges (metadata_at t.kv t.kv.number) × IsAwayTxn t.kind t.before ranges t.kv t.old
     × IsSound (region_size t) t.kv (told_before t) t.old ops
+
+-- what a commit is lent, and what has to hold of it
+pub record IsReady {S : Type 0} (kind : StoreKind S) (dev : Dev S) (kv : Store Key Value) (x : TxnView) : Type 0 where
+  pub going : x.ended ≡ false
+  pub sound : IsSoundDev kind dev
+  pub fit : IsFit kv x
+  pub inside : IsInsideTxn kind (stores dev) dev.settings kv x
+  pub inside_now : IsStoredInside kind (stores dev) dev.settings (metadata_at kv kv.number)
+  pub room : kv.number < 2 ^ 63
+
+-- an answer ends a transaction, and a fault leaves it
+abbrev pub ended_by : TxnView → Result Answer Fault → TxnView
+ended_by x (Ok a) = record x { ended = true }
+ended_by x (Err why) = x
+
+-- calls that were left of a transaction were made once more, and what was done was installed, with its result
+pub record FinishOf {S : Type 0} (t : Turn S) (r : Result Answer Fault) : Type 0 where
+  pub ended : IfOk r (λ a. IsEnded t.kv t.left a)
+  pub installs : IfOk r (λ a. IsInstall (scope_of t) t.kv t.left t.old a)
+  pub meaning : IfOk r (λ a. (ops : List (Op (List ℕ))) → StartsNow t ops → IsTrueEnd (region_size t) (told_before t, told_after t) t.kv t.left t.old ops a)
+  pub named : OnOk r (NamesNow t.kind t.before t.after t.kv t.left t.old)
+  pub maps : KeepsMaps t.kv t.left
+  pub pins : KeepsPins t.kv t.left
+  pub err_store : OnErr r ((t.left.number ≡ t.kv.number) × KeepsVersions t.kv t.left)
+  pub fault : IfErr r (λ why. (why ≡ Memory) ⊎ ReplayFault t.kind t.before t.after t.kv t.old why)
+  pub due : IfErr r (λ why. (ops : List (Op (List ℕ))) → StartsNow t ops → MayCommitFault t.before.settings (metadata_at t.kv t.kv.number) (told_before t) t.old why)
+  pub reads : OnlyRead t.kind (between t.before t.after)
+  pub dev : GoesOn t.kind t.before t.after []
 
 -- a commit, with its result
 pub record CommitOf {S : Type 0} (t : Turn S) (r : Result Answer Fault) : Type 0 where

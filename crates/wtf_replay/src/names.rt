@@ -1,22 +1,20 @@
 //! The calls on names.
 
-ghost use Rattle.std.specs.Prelude.{◌≡◌, ◌+◌, ℕ, List, [], Option, true, false, IsTrue, IfOk, OnOk};
-ghost use Rattle.wtf_base.specs.declared.slice.Slice.{Slice};
+ghost use Rattle.std.specs.Prelude.{◌≡◌, ℕ, List, false, IsTrue, IfOk};
 ghost use Rattle.wtf_kv.specs.Stores.{is_pinned};
 ghost use Rattle.wtf_occ.specs.Attempts.{Grows, GrowsBy};
 ghost use Rattle.wtf_model.specs.Steps.{IsLogged};
 ghost use Rattle.wtf_meta.specs.Maps.{seen};
 ghost use Rattle.wtf_meta.specs.Calls.{Caller};
-ghost use Rattle.wtf_slicing.specs.Sights.{sight};
-ghost use Rattle.wtf_replay.specs.Built.{is_rw_op, is_slice_op, IsNameOp};
+ghost use Rattle.wtf_replay.specs.Built.{is_rw_op, is_slice_op};
 ghost use Rattle.wtf_index.specs.Recorded.{source_keys, rename_keys};
 ghost use Rattle.wtf_index.specs.Changed.{unlink_changes, rename_changes};
-ghost use Rattle.wtf_replay.specs.Looked.{IsLooked, IsNameCall};
-ghost use Rattle.wtf_replay.specs.Effects.{Acts, taken_keys, taken_changes};
+ghost use Rattle.wtf_replay.specs.Looked.{IsLooked, IsNameCall, IsNamed};
+ghost use Rattle.wtf_replay.specs.Effects.{taken_keys, taken_changes};
 
 use std::alloc::Global;
 use wtf_base::{InodeId, OutOfMemory};
-use wtf_index::{create, list, look_up, mkdir, rename, rmdir, unlink};
+use wtf_index::{create, list, mkdir, rename, rmdir, unlink};
 use wtf_kv::Kv;
 use wtf_meta::Session;
 use wtf_model::{Answer, Op, Word};
@@ -36,12 +34,8 @@ pub(crate) fn name_call<D>(
     requires pinned { IsTrue (is_pinned kv.now at.old.base) }
     requires plain { is_rw_op op.now ≡ false }
     requires names { is_slice_op op.now ≡ false }
-    ensures step { IfOk result (λ a. (x : Caller) (o : Op (List ℕ)) → IsNameOp op.now o →
-        new.tx.0 ≡ x.tx → new.index ≡ x.calls + 1 →
-        IsNameCall x (seen kv.now at.old) session.now at.old at.new o a) }
-    ensures acts { IfOk result (λ a. (size n : ℕ) (own : Option Slice) →
-        Acts (sight size (seen kv.now at.old) session.now new []) n own op.now a at.old at.new) }
-    ensures logged { IfOk result (λ a. IsLogged a) }
+    ensures named { IfOk result
+        (λ a. IsNamed (seen kv.now at.old) session.now new op.now at.old at.new a) }
     ensures grows { Grows at.old at.new }
 {
     match op {
@@ -64,27 +58,19 @@ fn unlink_closed(
     p: &Path,
 ) -> Result<Answer, OutOfMemory>
     requires { IsTrue (is_pinned kv.now at.old.base) }
-    ensures step { IfOk result (λ a. (x : Caller) →
-        IsNameCall x (seen kv.now at.old) session.now at.old at.new (Op.Unlink p.now) a) }
-    ensures went { OnOk result (GrowsBy at.old at.new
+    ensures taken { IfOk result (λ a. ((x : Caller) →
+        IsNameCall x (seen kv.now at.old) session.now at.old at.new (Op.Unlink p.now) a) ×
+        GrowsBy at.old at.new
         (taken_keys (seen kv.now at.old) session.now p.now (source_keys p.now))
         (taken_changes (seen kv.now at.old) session.now p.now
-        (unlink_changes (seen kv.now at.old) p.now))) }
-    ensures logged { IfOk result (λ a. IsLogged a) }
+        (unlink_changes (seen kv.now at.old) p.now)) × IsLogged a) }
     ensures grows { Grows at.old at.new }
 {
-    let busy = match is_busy(alloc, kv, at, session, p) {
-        Ok(busy) => busy,
-        Err(why) => return Err(why),
-    };
+    let busy = is_busy(alloc, kv, at, session, p)?;
     if busy {
         return Ok(Answer::Refused(Word::Busy));
     }
-    let answer = match unlink(alloc, kv, at, p) {
-        Ok(answer) => answer,
-        Err(why) => return Err(why),
-    };
-    Ok(answer)
+    unlink(alloc, kv, at, p)
 }
 
 /// Moves a file, unless a handle is on it.
@@ -97,32 +83,23 @@ fn rename_closed(
     q: &Path,
 ) -> Result<Answer, OutOfMemory>
     requires { IsTrue (is_pinned kv.now at.old.base) }
-    ensures step { IfOk result (λ a. (x : Caller) →
-        IsNameCall x (seen kv.now at.old) session.now at.old at.new (Op.Rename p.now q.now) a) }
-    ensures went { OnOk result (GrowsBy at.old at.new
+    ensures taken { IfOk result (λ a. ((x : Caller) →
+        IsNameCall x (seen kv.now at.old) session.now at.old at.new (Op.Rename p.now q.now) a) ×
+        GrowsBy at.old at.new
         (taken_keys (seen kv.now at.old) session.now p.now
         (rename_keys (seen kv.now at.old) p.now q.now))
         (taken_changes (seen kv.now at.old) session.now p.now
-        (rename_changes (seen kv.now at.old) p.now q.now))) }
-    ensures logged { IfOk result (λ a. IsLogged a) }
+        (rename_changes (seen kv.now at.old) p.now q.now)) × IsLogged a) }
     ensures grows { Grows at.old at.new }
 {
-    let busy = match is_busy(alloc, kv, at, session, p) {
-        Ok(busy) => busy,
-        Err(why) => return Err(why),
-    };
+    let busy = is_busy(alloc, kv, at, session, p)?;
     if busy {
         return Ok(Answer::Refused(Word::Busy));
     }
-    let answer = match rename(alloc, kv, at, p, q) {
-        Ok(answer) => answer,
-        Err(why) => return Err(why),
-    };
-    Ok(answer)
+    rename(alloc, kv, at, p, q)
 }
 
-/// Whether a handle is on the file at a path. Where a handle was opened by the path, the path is
-/// recorded.
+/// Whether a handle is on the file at a path. Then the path is recorded, else no key is.
 fn is_busy(
     alloc: Global,
     kv: &Kv<Key, Value>,
@@ -138,13 +115,10 @@ fn is_busy(
     if !session.holds(p) {
         return Ok(false);
     }
-    let node = match look_up(alloc, kv, at, p) {
-        Ok(node) => node,
-        Err(why) => return Err(why),
+    let path = Key::Path(p.copy(alloc)?);
+    let Some(Value::Node(Node::File(_))) = at.peek(kv, &path)? else {
+        return Ok(false);
     };
-    match node {
-        Some(Node::File(_)) => return Ok(true),
-        Some(Node::Folder) => return Ok(false),
-        None => return Ok(false),
-    }
+    at.record(&path)?;
+    Ok(true)
 }

@@ -1,39 +1,20 @@
 //! One call, and calls made once more.
 
-ghost use Rattle.std.specs.Prelude.{◌≡◌, ◌≢◌, ◌+◌, ◌<◌, ◌≤◌, ◌↔◌, ℕ, List, [], false, Ok, Option, None, Some, IsTrue, IsSome, IfOk, IfErr, IfSome, OnOk, OnErr, length, slice_get};
-ghost use Rattle.wtf_base.specs.declared.slice.Slice.{Slice};
-ghost use Rattle.wtf_base.specs.Slices.{len_of};
-ghost use Rattle.wtf_dev.specs.Store.{Range};
-ghost use Rattle.wtf_dev.specs.Sums.{TellsAll};
-ghost use Rattle.wtf_replica.specs.Bytes.{byte_at};
+ghost use Rattle.std.specs.Prelude.{◌≡◌, ◌≢◌, ◌<◌, ◌≤◌, false, IsTrue, IfOk, IfErr, OnOk, OnErr, length};
 ghost use Rattle.wtf_kv.specs.Stores.{is_pinned};
 ghost use Rattle.wtf_occ.specs.Attempts.{Grows};
-ghost use Rattle.wtf_model.specs.declared.answer.Answer.TheVariants as answer;
 ghost use Rattle.wtf_model.specs.declared.limits.TheConstants.{MAX_LOGGED};
 ghost use Rattle.wtf_model.specs.Form.{IsFormOp, IsData, IsKeptData};
 ghost use Rattle.wtf_model.specs.Steps.{IsLogged};
-ghost use Rattle.wtf_log.specs.Calls.{with_call, own_of};
-ghost use Rattle.wtf_log.specs.Standing.{OpStandsFor};
-ghost use Rattle.wtf_meta.specs.Lists.{ListFact};
+ghost use Rattle.wtf_log.specs.Calls.{with_call};
 ghost use Rattle.wtf_meta.specs.Maps.{seen, AllFit, metadata_at};
-ghost use Rattle.wtf_meta.specs.Calls.{Caller};
-ghost use Rattle.wtf_region.specs.Devs.{IsSoundDev, GoesOn, stores, between};
-ghost use Rattle.wtf_region.specs.Inside.{is_inside};
-ghost use Rattle.wtf_region.specs.Reads.{TellsFacts};
-ghost use Rattle.wtf_region.specs.Showing.{OnlyRead};
-ghost use Rattle.wtf_steps.specs.Faults.{MayFault};
-ghost use Rattle.wtf_rw.specs.Stored.{SliceBytes, TellSlice};
-ghost use Rattle.wtf_slicing.specs.Sights.{sight};
-ghost use Rattle.wtf_replay.specs.Views.{TxnView, in_hand, replaying};
-ghost use Rattle.wtf_replay.specs.Built.{is_rw_op, is_slice_op, IsNameOp, IsPlainOp, IsFormPlain, data_of, data_len};
-ghost use Rattle.wtf_replay.specs.Keeps.{IsKeptFor, LacksData};
+ghost use Rattle.wtf_region.specs.Devs.{IsSoundDev, stores};
+ghost use Rattle.wtf_replay.specs.Views.{in_hand, replaying};
+ghost use Rattle.wtf_replay.specs.Built.{is_rw_op, is_slice_op, IsFormPlain};
 ghost use Rattle.wtf_replay.specs.Fits.{IsLog};
-ghost use Rattle.wtf_replay.specs.Sounds.{IsSound, IsToldStep, IsDue, TellsMap, TellsHand, IsAwayTxn, tells_slice, caller_at};
-ghost use Rattle.wtf_replay.specs.Insides.{IsHandInside, IsLogInside, NamesHand, NamesAgain};
-ghost use Rattle.wtf_replay.specs.Causes.{IsOwnOf, StoresNothing, IsStillOp, IsPlainFault, IsCallFault, IsAgainFault, MayAgainFault, FaultAt, ReplayFault};
-ghost use Rattle.wtf_replay.specs.Looked.{IsNameCall};
-ghost use Rattle.wtf_replay.specs.Replays.{IsReplay};
-ghost use Rattle.wtf_replay.specs.Effects.{Acts, kept_len, scope, Redoes, AllRedone};
+ghost use Rattle.wtf_replay.specs.Insides.{IsHandInside, IsLogInside};
+ghost use Rattle.wtf_replay.specs.Looked.{IsNamed};
+ghost use Rattle.wtf_replay.specs.Works.{work, PlainOf, FreshOf, AgainOf, NextOf, ReplayOf};
 
 use crate::names::name_call;
 use crate::ops::{fresh_of, slice_of, stored_of};
@@ -61,12 +42,8 @@ fn make_name<D>(
     requires pinned { IsTrue (is_pinned kv.now at.old.base) }
     requires plain { is_rw_op op.now ≡ false }
     requires names { is_slice_op op.now ≡ false }
-    ensures step { IfOk result (λ a. (x : Caller) (o : Op (List ℕ)) → IsNameOp op.now o →
-        new.tx.0 ≡ x.tx → new.index ≡ x.calls + 1 →
-        IsNameCall x (seen kv.now at.old) session.now at.old at.new o a) }
-    ensures acts { IfOk result (λ a. (size n : ℕ) (own : Option Slice) →
-        Acts (sight size (seen kv.now at.old) session.now new []) n own op.now a at.old at.new) }
-    ensures logged { IfOk result (λ a. IsLogged a) }
+    ensures named { IfOk result
+        (λ a. IsNamed (seen kv.now at.old) session.now new op.now at.old at.new a) }
     ensures grows { Grows at.old at.new }
     ensures err { OnErr result (at.new ≡ at.old) }
     ensures fault { IfErr result (λ why. why ≡ Fault.Memory) }
@@ -96,47 +73,14 @@ fn make_plain<S: SliceStore, D>(
     requires pinned { IsTrue (is_pinned kv.now at.old.base) }
     requires plain { is_rw_op op.now ≡ false }
     requires form { IsFormPlain op.now }
-    requires counted { 1 ≤ new.index }
-    requires fits { AllFit at.old.changes (metadata_at kv.now at.old.base) }
     requires inside { IsHandInside S.kind (stores dev.old) dev.old.settings kv.now
         (in_hand at.old session.old) }
-    ensures step { IfOk result (λ a. (x : Caller) (own : Option Slice) (o : Op (List ℕ)) →
-        IsPlainOp op.now o →
-        x.size ≡ dev.old.settings.region → new.tx.0 ≡ x.tx → new.index ≡ x.calls + 1 →
-        (ranges : List (ℕ × Range)) →
-        TellsHand S.kind dev.old ranges (seen kv.now at.old) session.old →
-        IsToldStep (byte_at S.kind (stores dev.new)) own x (seen kv.now at.old)
-        (in_hand at.old session.old) (in_hand at.new session.new) o a) }
-    ensures acts { IfOk result (λ a. (lists : List ListFact) ×
-        TellsFacts S.kind dev.old dev.new lists × ((n : ℕ) (own : Option Slice) →
-        Acts (sight dev.old.settings.region (seen kv.now at.old) session.old new lists) n own
-        op.now a at.old at.new)) }
-    ensures named { OnOk result (NamesHand S.kind dev.old dev.new kv.now
-        (in_hand at.old session.old)
-        (in_hand at.new session.new) None) }
-    ensures logged { IfOk result (λ a. IsLogged a) }
-    ensures grows { Grows at.old at.new }
-    ensures fit { OnOk result (AllFit at.new.changes (metadata_at kv.now at.new.base)) }
-    ensures inside { IsHandInside S.kind (stores dev.new) dev.old.settings kv.now
-        (in_hand at.new session.new) }
-    ensures still { IsStillOp op.now → dev.new ≡ dev.old }
-    ensures err { OnErr result ((at.new ≡ at.old) × (session.new ≡ session.old)) }
-    ensures fault { IfErr result (IsPlainFault S.kind dev.old dev.new
-        (seen kv.now at.old) session.old op.now) }
-    ensures due { IfErr result (λ why. (o : Op (List ℕ)) → IsPlainOp op.now o →
-        MayFault dev.old.settings (seen kv.now at.old) session.old o why) }
-    ensures reads { OnlyRead S.kind (between dev.old dev.new) }
-    ensures dev { GoesOn S.kind dev.old dev.new [] }
+    ensures made { PlainOf (work S.kind dev.old dev.new kv.now (in_hand at.old session.old)
+        (in_hand at.new session.new)) new op.now result }
 {
     match slice_of(op) {
-        Some(made) => match wtf_slicing::call(alloc, dev, kv, at, session, new, &made) {
-            Ok(answer) => return Ok(answer),
-            Err(why) => return Err(why),
-        },
-        None => match make_name(alloc, kv, at, session, new, op) {
-            Ok(answer) => return Ok(answer),
-            Err(why) => return Err(why),
-        },
+        Some(made) => return wtf_slicing::call(alloc, dev, kv, at, session, new, &made),
+        None => return make_name(alloc, kv, at, session, new, op),
     }
 }
 
@@ -154,44 +98,10 @@ pub(crate) fn make_fresh<S: SliceStore>(
     requires sound { IsSoundDev S.kind dev.old }
     requires pinned { IsTrue (is_pinned kv.now at.old.base) }
     requires form { IsFormOp IsData op.now }
-    requires counted { 1 ≤ new.index }
-    requires fits { AllFit at.old.changes (metadata_at kv.now at.old.base) }
     requires inside { IsHandInside S.kind (stores dev.old) dev.old.settings kv.now
         (in_hand at.old session.old) }
-    ensures step { IfOk result (λ d. (x : Caller) → x.size ≡ dev.old.settings.region →
-        new.tx.0 ≡ x.tx → new.index ≡ x.calls + 1 →
-        (ranges : List (ℕ × Range)) →
-        TellsHand S.kind dev.old ranges (seen kv.now at.old) session.old →
-        IsToldStep (byte_at S.kind (stores dev.new)) d.own x (seen kv.now at.old)
-        (in_hand at.old session.old) (in_hand at.new session.new) op.now d.answer) }
-    ensures acts { IfOk result (λ d. (lists : List ListFact) ×
-        TellsFacts S.kind dev.old dev.new lists ×
-        Acts (sight dev.old.settings.region (seen kv.now at.old) session.old new lists)
-        (data_len op.now) d.own op.now d.answer at.old at.new) }
-    ensures own { IfOk result (λ d.
-        IsOwnOf S.kind dev.old dev.new (seen kv.now at.old) session.old op.now d.own) }
-    ensures own_len { IfOk result (λ d. IfSome d.own (λ s. len_of s ≡ length (data_of op.now))) }
-    ensures own_told { IfOk result (λ d. TellsAll S.kind (stores dev.old) →
-        TellSlice (byte_at S.kind (stores dev.new)) d.own (data_of op.now)) }
-    ensures own_inside { IfOk result (λ d.
-        SliceBytes (is_inside S.kind (stores dev.new) dev.old.settings) d.own) }
-    ensures named { IfOk result (λ d. NamesHand S.kind dev.old dev.new kv.now
-        (in_hand at.old session.old)
-        (in_hand at.new session.new) d.own) }
-    ensures lacks { IfOk result (λ d. LacksData op.now d.own d.answer) }
-    ensures done { IfOk result (λ d. IsSome d.own → d.answer ≡ answer.Okay) }
-    ensures logged { IfOk result (λ d. IsLogged d.answer) }
-    ensures grows { Grows at.old at.new }
-    ensures fit { OnOk result (AllFit at.new.changes (metadata_at kv.now at.new.base)) }
-    ensures inside { IsHandInside S.kind (stores dev.new) dev.old.settings kv.now
-        (in_hand at.new session.new) }
-    ensures err { OnErr result ((at.new ≡ at.old) × (session.new ≡ session.old)) }
-    ensures fault { IfErr result
-        (IsCallFault S.kind dev.old dev.new (seen kv.now at.old) session.old op.now) }
-    ensures due { IfErr result
-        (MayFault dev.old.settings (seen kv.now at.old) session.old op.now) }
-    ensures reads { StoresNothing op.now → OnlyRead S.kind (between dev.old dev.new) }
-    ensures dev { GoesOn S.kind dev.old dev.new [] }
+    ensures made { FreshOf (work S.kind dev.old dev.new kv.now (in_hand at.old session.old)
+        (in_hand at.new session.new)) new op.now result }
 {
     match fresh_of(op) {
         Some(made) => match wtf_rw::call(alloc, dev, kv, at, session, &made) {
@@ -220,44 +130,10 @@ pub(crate) fn make_stored<S: SliceStore>(
     requires sound { IsSoundDev S.kind dev.old }
     requires pinned { IsTrue (is_pinned kv.now at.old.base) }
     requires form { IsFormOp IsKeptData op.now }
-    requires counted { 1 ≤ new.index }
-    requires fits { AllFit at.old.changes (metadata_at kv.now at.old.base) }
     requires inside { IsHandInside S.kind (stores dev.old) dev.old.settings kv.now
         (in_hand at.old session.old) }
-    requires given { SliceBytes (is_inside S.kind (stores dev.old) dev.old.settings)
-        (own_of op.now) }
-    ensures step { IfOk result (λ a. IsKeptFor op.now a → (x : Caller) (o : Op (List ℕ)) →
-        x.size ≡ dev.old.settings.region → new.tx.0 ≡ x.tx → new.index ≡ x.calls + 1 →
-        (ranges : List (ℕ × Range)) →
-        TellsHand S.kind dev.old ranges (seen kv.now at.old) session.old →
-        OpStandsFor (tells_slice (byte_at S.kind (stores dev.old))) op.now o →
-        IsToldStep (byte_at S.kind (stores dev.new)) (own_of op.now) x (seen kv.now at.old)
-        (in_hand at.old session.old) (in_hand at.new session.new) o a) }
-    ensures due { IfOk result (λ a. (x : Caller) (o : Op (List ℕ)) →
-        x.size ≡ dev.old.settings.region → new.tx.0 ≡ x.tx → new.index ≡ x.calls + 1 →
-        (ranges : List (ℕ × Range)) →
-        TellsHand S.kind dev.old ranges (seen kv.now at.old) session.old →
-        OpStandsFor (tells_slice (byte_at S.kind (stores dev.old))) op.now o →
-        IsDue (byte_at S.kind (stores dev.new)) x (seen kv.now at.old) session.old o a) }
-    ensures acts { IfOk result (λ a. (lists : List ListFact) ×
-        TellsFacts S.kind dev.old dev.new lists ×
-        Acts (sight dev.old.settings.region (seen kv.now at.old) session.old new lists)
-        (kept_len op.now) (own_of op.now) op.now a at.old at.new) }
-    ensures named { OnOk result (NamesHand S.kind dev.old dev.new kv.now
-        (in_hand at.old session.old)
-        (in_hand at.new session.new) (own_of op.now)) }
-    ensures logged { IfOk result (λ a. IsLogged a) }
-    ensures grows { Grows at.old at.new }
-    ensures fit { OnOk result (AllFit at.new.changes (metadata_at kv.now at.new.base)) }
-    ensures inside { IsHandInside S.kind (stores dev.new) dev.old.settings kv.now
-        (in_hand at.new session.new) }
-    ensures err { OnErr result ((at.new ≡ at.old) × (session.new ≡ session.old)) }
-    ensures fault { IfErr result
-        (IsAgainFault S.kind dev.old dev.new (seen kv.now at.old) session.old op.now) }
-    ensures may { IfErr result
-        (MayAgainFault dev.old.settings (seen kv.now at.old) session.old op.now) }
-    ensures reads { OnlyRead S.kind (between dev.old dev.new) }
-    ensures dev { GoesOn S.kind dev.old dev.new [] }
+    ensures made { AgainOf (work S.kind dev.old dev.new kv.now (in_hand at.old session.old)
+        (in_hand at.new session.new)) new op.now result }
 {
     match stored_of(op) {
         Some(made) => match wtf_rw::call(alloc, dev, kv, at, session, &made) {
@@ -303,45 +179,14 @@ pub(crate) fn make_again<S: SliceStore>(
 ) -> Result<(Answer, bool), Fault>
     requires sound { IsSoundDev S.kind dev.old }
     requires pinned { IsTrue (is_pinned kv.now at.old.base) }
-    requires fits { AllFit at.old.changes (metadata_at kv.now at.old.base) }
     requires log { IsLog log.now }
     requires left { k < length log.now.ops }
     requires inside { IsHandInside S.kind (stores dev.old) dev.old.settings kv.now
         (in_hand at.old session.old) }
-    requires logged { IsLogInside S.kind (stores dev.old) dev.old.settings log.now }
-    ensures step { IfOk result (λ r. IsTrue r.1 → (kept : Op Kept) (o : Op (List ℕ)) →
-        slice_get log.now.ops k ≡ Some kept →
-        (ranges : List (ℕ × Range)) →
-        TellsHand S.kind dev.old ranges (seen kv.now at.old) session.old →
-        OpStandsFor (tells_slice (byte_at S.kind (stores dev.old))) kept o →
-        IsToldStep (byte_at S.kind (stores dev.new)) (own_of kept)
-        (caller_at dev.old.settings.region tx.0 k)
-        (seen kv.now at.old) (in_hand at.old session.old) (in_hand at.new session.new) o r.0) }
-    ensures due { IfOk result (λ r. (kept : Op Kept) (o : Op (List ℕ)) →
-        slice_get log.now.ops k ≡ Some kept →
-        (ranges : List (ℕ × Range)) →
-        TellsHand S.kind dev.old ranges (seen kv.now at.old) session.old →
-        OpStandsFor (tells_slice (byte_at S.kind (stores dev.old))) kept o →
-        IsDue (byte_at S.kind (stores dev.new)) (caller_at dev.old.settings.region tx.0 k)
-        (seen kv.now at.old) session.old o r.0) }
-    ensures redoes { IfOk result (λ r. IsTrue r.1 → (x : TxnView) → x.tx ≡ tx.0 →
-        x.log ≡ log.now → Redoes (scope S.kind dev.old dev.new) kv.now x k
-        (in_hand at.old session.old) (in_hand at.new session.new)) }
-    ensures named { OnOk result (NamesAgain S.kind dev.old dev.new kv.now
-        (in_hand at.old session.old)
-        (in_hand at.new session.new) log.now) }
-    ensures same { IfOk result (λ r. IsTrue r.1 ↔ (slice_get log.now.shown k ≡ Some r.0)) }
-    ensures grows { Grows at.old at.new }
-    ensures fit { OnOk result (AllFit at.new.changes (metadata_at kv.now at.new.base)) }
-    ensures inside { IsHandInside S.kind (stores dev.new) dev.old.settings kv.now
-        (in_hand at.new session.new) }
-    ensures err { OnErr result ((at.new ≡ at.old) × (session.new ≡ session.old)) }
-    ensures fault { IfErr result
-        (FaultAt S.kind dev.old dev.new kv.now (in_hand at.old session.old)
-        (slice_get log.now.ops k)) }
-    ensures reads { OnlyRead S.kind (between dev.old dev.new) }
-    ensures dev { GoesOn S.kind dev.old dev.new [] }
+    ensures made { NextOf (work S.kind dev.old dev.new kv.now (in_hand at.old session.old)
+        (in_hand at.new session.new)) tx.0 log.now k result }
 {
+    // A log has few calls, so `k + 1` is a number.
     let _few = log.len();
     let new = InodeId { tx, index: k + 1 };
     let op = log.op(k + 1);
@@ -349,8 +194,7 @@ pub(crate) fn make_again<S: SliceStore>(
         Ok(answer) => answer,
         Err(why) => return Err(why),
     };
-    let shown = log.shown(k + 1);
-    let same = is_same_answer(shown, &answer);
+    let same = is_same_answer(log.shown(k + 1), &answer);
     Ok((answer, same))
 }
 
@@ -374,28 +218,8 @@ pub(crate) fn replay_from<S: SliceStore>(
     requires inside { IsHandInside S.kind (stores dev.old) dev.old.settings kv.now
         (in_hand at.old session.old) }
     requires logged { IsLogInside S.kind (stores dev.old) dev.old.settings log.now }
-    ensures replay { IfOk result (λ r. (ops : List (Op (List ℕ))) →
-        (ranges : List (ℕ × Range)) →
-        TellsMap S.kind dev.old ranges (metadata_at kv.now at.old.base) →
-        IsAwayTxn S.kind dev.old ranges kv.now (replaying tx.0 at.old session.old log.now from) →
-        IsSound dev.old.settings.region kv.now (byte_at S.kind (stores dev.old))
-        (replaying tx.0 at.old session.old log.now from) ops →
-        IsReplay dev.old.settings.region kv.now
-        (byte_at S.kind (stores dev.old), byte_at S.kind (stores dev.new))
-        (replaying tx.0 at.new session.new log.now (length log.now.ops)) ops r) }
-    ensures redone { IfOk result (λ r. r ≡ None → AllRedone (scope S.kind dev.old dev.new) kv.now
-        (replaying tx.0 at.old session.old log.now from) (in_hand at.new session.new)) }
-    ensures named { OnOk result (NamesAgain S.kind dev.old dev.new kv.now
-        (in_hand at.old session.old)
-        (in_hand at.new session.new) log.now) }
-    ensures grows { Grows at.old at.new }
-    ensures fit { AllFit at.new.changes (metadata_at kv.now at.new.base) }
-    ensures inside { IsHandInside S.kind (stores dev.new) dev.old.settings kv.now
-        (in_hand at.new session.new) }
-    ensures fault { IfErr result (ReplayFault S.kind dev.old dev.new kv.now
-        (replaying tx.0 at.old session.old log.now from)) }
-    ensures reads { OnlyRead S.kind (between dev.old dev.new) }
-    ensures dev { GoesOn S.kind dev.old dev.new [] }
+    ensures made { ReplayOf (work S.kind dev.old dev.new kv.now (in_hand at.old session.old)
+        (in_hand at.new session.new)) (replaying tx.0 at.old session.old log.now from) result }
 {
     for k in from..log.len() {
         let (answer, same) = match make_again(alloc, dev, kv, at, session, tx, log, k) {

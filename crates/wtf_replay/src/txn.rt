@@ -18,9 +18,9 @@ ghost use Rattle.wtf_replay.specs.Sounds.{IsSound};
 ghost use Rattle.wtf_replay.specs.Insides.{IsInsideTxn};
 ghost use Rattle.wtf_replay.specs.Tried.{IsAttempted, KeepsMaps, KeepsVersions, MovesPin, commit_from};
 ghost use Rattle.wtf_replay.specs.Replays.{IsTrueAttempt};
-ghost use Rattle.wtf_replay.specs.Verbs.{turn, CallOf, StepOf, CommitOf};
+ghost use Rattle.wtf_replay.specs.Verbs.{turn, CallOf, StepOf, CommitOf, IsReady, ended_by};
 
-use crate::commit::{commit_now, replay_and_install};
+use crate::commit::finish;
 use crate::ops::kept_of;
 use crate::replay::{make_again, make_fresh, note};
 use std::alloc::Global;
@@ -167,11 +167,7 @@ impl Txn {
         if self.log.is_full() {
             return Ok(Answer::Refused(Word::Full));
         }
-        let answer = match self.call_live(dev, kv, op) {
-            Ok(answer) => answer,
-            Err(why) => return Err(why),
-        };
-        Ok(answer)
+        self.call_live(dev, kv, op)
     }
 
     /// Makes a call, where all others are done and the log has room.
@@ -243,11 +239,7 @@ impl Txn {
         if !self.is_live() {
             return Ok(Answer::Refused(Word::Replaying));
         }
-        let answer = match self.attempt_live(kv) {
-            Ok(answer) => answer,
-            Err(why) => return Err(why),
-        };
-        Ok(answer)
+        self.attempt_live(kv)
     }
 
     /// Installs the changes where no key is in the way, else begins again.
@@ -336,11 +328,7 @@ impl Txn {
         if self.is_live() {
             return Ok(Answer::Refused(Word::Live));
         }
-        let answer = match self.step_next(dev, kv) {
-            Ok(answer) => answer,
-            Err(why) => return Err(why),
-        };
-        Ok(answer)
+        self.step_next(dev, kv)
     }
 
     /// Replays the next call. The answer that ends a transaction has its memory before the call is
@@ -406,26 +394,13 @@ impl Txn {
         ensures commit { CommitOf (turn S.kind dev.old dev.new kv.old kv.new self.old self.new)
             result }
     {
-        let number = kv.number();
         if self.is_live() {
-            let answer = match self.commit_live(dev, kv) {
-                Ok(answer) => answer,
-                Err(why) => return Err(why),
-            };
-            return Ok(answer);
+            return self.commit_live(dev, kv);
         }
-        if self.at.base() == number {
-            let answer = match self.go_on(dev, kv) {
-                Ok(answer) => answer,
-                Err(why) => return Err(why),
-            };
-            return Ok(answer);
+        if self.at.base() == kv.number() {
+            return self.go_on(dev, kv);
         }
-        let answer = match self.start_over(dev, kv) {
-            Ok(answer) => answer,
-            Err(why) => return Err(why),
-        };
-        Ok(answer)
+        self.start_over(dev, kv)
     }
 
     /// Installs the changes where no key is in the way, else makes all calls once more at the
@@ -435,98 +410,95 @@ impl Txn {
         dev: &mut Dev<'_, S>,
         kv: &mut Kv<Key, Value>,
     ) -> Result<Answer, Fault>
-        requires sound { IsSoundDev S.kind dev.old }
-        requires fit { IsFit kv.old self.old }
-        requires inside { IsInsideTxn S.kind (stores dev.old) dev.old.settings kv.old self.old }
-        requires inside_now { IsStoredInside S.kind (stores dev.old) dev.old.settings
-            (metadata_at kv.old kv.old.number) }
-        requires room { kv.old.number < 2 ^ 63 }
+        requires ready { IsReady S.kind dev.old kv.old self.old }
         requires live { self.old.replayed ≡ length self.old.log.ops }
         ensures commit { CommitOf (turn S.kind dev.old dev.new kv.old kv.new self.old self.new)
             result }
     {
+        // The base is pinned, so it is no greater than the number.
         let _number = kv.number();
-        let installed = match self.at.install(kv) {
-            Ok(installed) => installed,
+        let tried = match self.at.install(kv) {
+            Ok(tried) => tried,
             Err(_) => return Err(Fault::Memory),
         };
-        match installed {
+        match tried {
             Tried::Installed(n) => {
                 self.ended = true;
                 return Ok(Answer::Committed(n));
             }
-            Tried::Conflict { .. } => {
-                let ended = match self.start_over(dev, kv) {
-                    Ok(answer) => answer,
-                    Err(why) => return Err(why),
-                };
-                return Ok(ended);
-            }
+            Tried::Conflict { .. } => return self.start_over(dev, kv),
         }
     }
 
     /// Goes on with a replay that runs at the number, and installs what was done. The calls are
-    /// made with a copy of what is in hand, which a fault leaves.
+    /// made with a copy of what is in hand, and the attempt is put back.
     fn go_on<S: SliceStore>(
         &mut self,
         dev: &mut Dev<'_, S>,
         kv: &mut Kv<Key, Value>,
     ) -> Result<Answer, Fault>
-        requires sound { IsSoundDev S.kind dev.old }
-        requires fit { IsFit kv.old self.old }
-        requires inside { IsInsideTxn S.kind (stores dev.old) dev.old.settings kv.old self.old }
-        requires inside_now { IsStoredInside S.kind (stores dev.old) dev.old.settings
-            (metadata_at kv.old kv.old.number) }
-        requires room { kv.old.number < 2 ^ 63 }
+        requires ready { IsReady S.kind dev.old kv.old self.old }
         requires base { self.old.at.base ≡ kv.old.number }
         requires from { commit_from kv.old self.old ≡ self.old }
         ensures commit { CommitOf (turn S.kind dev.old dev.new kv.old kv.new self.old self.new)
             result }
     {
         let mark = self.at.mark();
-        let mut session = match self.session.copy(self.alloc) {
+        let mut hand = match self.session.copy(self.alloc) {
             Ok(session) => session,
             Err(_) => return Err(Fault::Memory),
         };
-        match replay_and_install(
-            self.alloc,
-            dev,
-            kv,
-            &mut self.at,
-            &mut session,
-            self.tx,
-            &self.log,
-            self.replayed,
-        ) {
-            Ok(answer) => {
-                self.ended = true;
-                return Ok(answer);
-            }
-            Err(why) => {
-                self.at.rewind(mark);
-                return Err(why);
-            }
-        }
+        let at = &mut self.at;
+        let from = self.replayed;
+        let ended = finish(self.alloc, dev, kv, at, &mut hand, self.tx, &self.log, from);
+        self.at.rewind(mark);
+        self.end(ended)
     }
 
-    /// Makes all calls once more at the number, and installs what they did.
+    /// Makes all calls once more at the number, which is pinned as long as that takes, and installs
+    /// what they did.
     fn start_over<S: SliceStore>(
         &mut self,
         dev: &mut Dev<'_, S>,
         kv: &mut Kv<Key, Value>,
     ) -> Result<Answer, Fault>
-        requires sound { IsSoundDev S.kind dev.old }
-        requires fit { IsFit kv.old self.old }
-        requires inside { IsInsideTxn S.kind (stores dev.old) dev.old.settings kv.old self.old }
-        requires inside_now { IsStoredInside S.kind (stores dev.old) dev.old.settings
-            (metadata_at kv.old kv.old.number) }
-        requires room { kv.old.number < 2 ^ 63 }
+        requires ready { IsReady S.kind dev.old kv.old self.old }
         requires from { commit_from kv.old self.old ≡ rebased self.old kv.old.number }
         ensures commit { CommitOf (turn S.kind dev.old dev.new kv.old kv.new self.old self.new)
             result }
     {
-        let _number = kv.number();
-        match commit_now(self.alloc, dev, kv, self.tx, &self.log) {
+        let number = kv.number();
+        let mut at = match Attempt::new(self.alloc, number) {
+            Ok(at) => at,
+            Err(_) => return Err(Fault::Memory),
+        };
+        let mut session = match Session::new(self.alloc) {
+            Ok(session) => session,
+            Err(_) => return Err(Fault::Memory),
+        };
+        if let Err(_) = kv.pin(number) {
+            return Err(Fault::Memory);
+        }
+        let ended = finish(
+            self.alloc,
+            dev,
+            kv,
+            &mut at,
+            &mut session,
+            self.tx,
+            &self.log,
+            0,
+        );
+        kv.unpin(number);
+        self.end(ended)
+    }
+
+    /// Hands on what a replay came to. An answer ends the transaction.
+    fn end(&mut self, ended: Result<Answer, Fault>) -> Result<Answer, Fault>
+        ensures result { result ≡ ended }
+        ensures new { self.new ≡ ended_by self.old ended }
+    {
+        match ended {
             Ok(answer) => {
                 self.ended = true;
                 return Ok(answer);

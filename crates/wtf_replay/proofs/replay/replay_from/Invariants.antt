@@ -3,9 +3,11 @@ use Rattle.wtf_occ.specs.Attempts.{Grows}
 use Rattle.wtf_dev.specs.Store.{Range}
 use Rattle.wtf_replica.specs.Bytes.{byte_at}
 use Rattle.wtf_model.specs.declared.op.Op.{Op}
+use Rattle.wtf_meta.specs.Lists.{ListFact}
 use Rattle.wtf_meta.specs.Maps.{AllFit, metadata_at}
 use Rattle.wtf_region.specs.Devs.{GoesOn, stores, between}
 use Rattle.wtf_region.specs.Showing.{OnlyRead}
+use Rattle.wtf_steps.specs.Recalling.{Recalls}
 use Rattle.wtf_replay.specs.Views.{in_hand, replaying}
 use Rattle.wtf_replay.specs.Sounds.{IsSound, TellsMap, IsAwayTxn}
 use Rattle.wtf_replay.specs.Insides.{IsHandInside, IsLogInside, NamesAgain}
@@ -25,8 +27,8 @@ invariant-loop-k g l = record {
   logged : IsLogInside g.S.SliceStore.kind (stores l.dev) l.initial.dev.settings l.log;
   reads : OnlyRead g.S.SliceStore.kind (between l.initial.dev l.dev);
   dev : GoesOn g.S.SliceStore.kind l.initial.dev l.dev [];
-  redone : AreRedone (scope g.S.SliceStore.kind l.initial.dev l.dev) l.kv (replaying l.tx.0 l.initial.at l.initial.session l.log l.from) (l.k - l.from)
-      (in_hand l.at l.session);
+  redone : (lists : List ListFact) × AreRedone (scope g.S.SliceStore.kind l.initial.dev l.dev) l.kv
+      (replaying l.tx.0 l.initial.at l.initial.session l.log l.from) (l.k - l.from) lists (in_hand l.at l.session) × Recalls l.initial.dev l.dev lists;
   sound : (ops : List (Op (List ℕ))) (ranges : List (ℕ × Range)) → TellsMap g.S.SliceStore.kind l.initial.dev ranges (metadata_at l.kv l.initial.at.base)
       → IsAwayTxn g.S.SliceStore.kind l.initial.dev ranges l.kv (replaying l.tx.0 l.initial.at l.initial.session l.log l.from)
       → IsSound l.initial.dev.settings.region l.kv (byte_at g.S.SliceStore.kind (stores l.initial.dev)) (replaying l.tx.0 l.initial.at l.initial.session l.log l.from) ops

@@ -23,7 +23,14 @@ pub returns-in-Installed-clause-meaning : goal.returns-in-Installed-clause-meani
 returns-in-Installed-clause-meaning c = λ size told ops start.
     let kv = c.args.kv.now in
     let after = c.install.new.kv in
-    let x : TxnView = record { tx = c.self.inside.tx.0; at = c.self.inside.at; session = c.self.inside.session; log = c.self.inside.log; replayed = c.self.inside.replayed; ended = c.self.inside.ended } in
+    let x : TxnView = record {
+      tx = c.self.inside.tx.0;
+      at = c.self.inside.at;
+      session = c.self.inside.session;
+      log = c.self.inside.log;
+      replayed = c.self.inside.replayed;
+      ended = c.self.inside.ended;
+    } in
     let sound : IsSound size kv told x ops = subst (λ y. IsSound size kv told y ops) (sym c.self.view_is) start in
     let log : IsLog x.log = subst (λ (y : TxnView). IsLog y.log) (sym c.self.view_is) c.requires.fit.log in
     let live : x.replayed ≡ length x.log.ops = subst (λ (y : TxnView). y.replayed ≡ length y.log.ops) (sym c.self.view_is) c.requires.live in
@@ -33,14 +40,28 @@ returns-in-Installed-clause-meaning c = λ size told ops start.
 pub returns-in-Installed-clause-fit : goal.returns-in-Installed-clause-fit
 returns-in-Installed-clause-fit c =
     let kv = c.args.kv.now in
-    let x : TxnView = record { tx = c.self.inside.tx.0; at = c.self.inside.at; session = c.self.inside.session; log = c.self.inside.log; replayed = c.self.inside.replayed; ended = c.self.inside.ended } in
+    let x : TxnView = record {
+      tx = c.self.inside.tx.0;
+      at = c.self.inside.at;
+      session = c.self.inside.session;
+      log = c.self.inside.log;
+      replayed = c.self.inside.replayed;
+      ended = c.self.inside.ended;
+    } in
     let fit : IsFit kv x = subst (λ y. IsFit kv y) (sym c.self.view_is) c.requires.fit in
     let below : x.at.base ≤ kv.number = subst (λ n. x.at.base ≤ n) c.number-number.ensures.number (c.number-number.ensures.pins x.at.base fit.pinned) in
     fit_after kv c.install.new.kv x (record x { at = c.install.new.self; ended = true }) fit c.install.ensures.attempt refl refl below c.install.ensures.maps (λ n. ap (count_by (nat_eq n)) c.install.ensures.pins)
 
 pub returns-in-Conflict-clause-meaning : goal.returns-in-Conflict-clause-meaning
 returns-in-Conflict-clause-meaning c = λ size told ops start.
-    let x : TxnView = record { tx = c.self.inside.tx.0; at = c.self.inside.at; session = c.self.inside.session; log = c.self.inside.log; replayed = c.self.inside.replayed; ended = c.self.inside.ended } in
+    let x : TxnView = record {
+      tx = c.self.inside.tx.0;
+      at = c.self.inside.at;
+      session = c.self.inside.session;
+      log = c.self.inside.log;
+      replayed = c.self.inside.replayed;
+      ended = c.self.inside.ended;
+    } in
     let moved : TxnView = record x { at = c.install.new.self } in
     let sound : IsSound size c.args.kv.now told x ops = subst (λ y. IsSound size c.args.kv.now told y ops) (sym c.self.view_is) start in
     let is : c.restart.new.self ≡ rebased moved c.install.new.kv.number = c.in_default.ensures.is in
@@ -50,7 +71,14 @@ pub returns-in-Conflict-clause-fit : goal.returns-in-Conflict-clause-fit
 returns-in-Conflict-clause-fit c =
     let kv = c.args.kv.now in
     let mid = c.install.new.kv in
-    let x : TxnView = record { tx = c.self.inside.tx.0; at = c.self.inside.at; session = c.self.inside.session; log = c.self.inside.log; replayed = c.self.inside.replayed; ended = c.self.inside.ended } in
+    let x : TxnView = record {
+      tx = c.self.inside.tx.0;
+      at = c.self.inside.at;
+      session = c.self.inside.session;
+      log = c.self.inside.log;
+      replayed = c.self.inside.replayed;
+      ended = c.self.inside.ended;
+    } in
     let moved : TxnView = record x { at = c.install.new.self } in
     let log : IsLog x.log = subst (λ (y : TxnView). IsLog y.log) (sym c.self.view_is) c.requires.fit.log in
     let is : c.restart.new.self ≡ rebased moved mid.number = c.in_default.ensures.is in
@@ -66,7 +94,14 @@ pub returns-in-Err-restart-clause-fit : goal.returns-in-Err-restart-clause-fit
 returns-in-Err-restart-clause-fit c =
     let kv = c.args.kv.now in
     let mid = c.install.new.kv in
-    let x : TxnView = record { tx = c.self.inside.tx.0; at = c.self.inside.at; session = c.self.inside.session; log = c.self.inside.log; replayed = c.self.inside.replayed; ended = c.self.inside.ended } in
+    let x : TxnView = record {
+      tx = c.self.inside.tx.0;
+      at = c.self.inside.at;
+      session = c.self.inside.session;
+      log = c.self.inside.log;
+      replayed = c.self.inside.replayed;
+      ended = c.self.inside.ended;
+    } in
     let moved : TxnView = record x { at = c.install.new.self } in
     let fit : IsFit kv x = subst (λ y. IsFit kv y) (sym c.self.view_is) c.requires.fit in
     let below : x.at.base ≤ kv.number = subst (λ n. x.at.base ≤ n) c.number-number.ensures.number (c.number-number.ensures.pins x.at.base fit.pinned) in
@@ -80,7 +115,14 @@ returns-in-Conflict-clause-tried c =
     let kv = c.args.kv.now in
     let mid = c.install.new.kv in
     let after = c.restart.new.kv in
-    let x : TxnView = record { tx = c.self.inside.tx.0; at = c.self.inside.at; session = c.self.inside.session; log = c.self.inside.log; replayed = c.self.inside.replayed; ended = c.self.inside.ended } in
+    let x : TxnView = record {
+      tx = c.self.inside.tx.0;
+      at = c.self.inside.at;
+      session = c.self.inside.session;
+      log = c.self.inside.log;
+      replayed = c.self.inside.replayed;
+      ended = c.self.inside.ended;
+    } in
     let moved : TxnView = record x { at = c.install.new.self } in
     let key = c.in-Conflict.key in
     let tried : IsConflict key_cmp outcome_of x.at kv mid key c.in-Conflict.seen c.in-Conflict.now = subst (λ t. IsTried key_cmp outcome_of x.at kv mid t) c.in-Conflict.is c.in-Ok.ensures.tried in

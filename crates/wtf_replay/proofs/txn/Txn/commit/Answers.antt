@@ -9,10 +9,17 @@ use Rattle.wtf_replay.proofs.txn.Txn.commit.Goals as goal
 pub go_on-requires-clause-from : goal.go_on-requires-clause-from
 go_on-requires-clause-from g c =
     let kv = c.args.kv.now in
-    let x : TxnView = record { tx = c.self.inside.tx.0; at = c.self.inside.at; session = c.self.inside.session; log = c.self.inside.log; replayed = c.self.inside.replayed; ended = c.self.inside.ended } in
+    let x : TxnView = record {
+      tx = c.self.inside.tx.0;
+      at = c.self.inside.at;
+      session = c.self.inside.session;
+      log = c.self.inside.log;
+      replayed = c.self.inside.replayed;
+      ended = c.self.inside.ended;
+    } in
     let off : is_live c.args.self.now ≡ false = sym c.if-is_live.ensures in
     let left : x.replayed ≢ length x.log.ops = subst (λ (y : TxnView). y.replayed ≢ length y.log.ops) (sym c.self.view_is) (eqb-false c.args.self.now.replayed (length c.args.self.now.log.ops) off) in
-    let number = c.number-number.ensures.number in
+    let number = c.number.ensures.number in
     let base = c.base.ensures in
     let test = c.if-base-number.true in
     let same : x.at.base ≡ kv.number = cc in
@@ -22,11 +29,18 @@ go_on-requires-clause-from g c =
 pub start_over-requires-clause-from : goal.start_over-requires-clause-from
 start_over-requires-clause-from g c =
     let kv = c.args.kv.now in
-    let x : TxnView = record { tx = c.self.inside.tx.0; at = c.self.inside.at; session = c.self.inside.session; log = c.self.inside.log; replayed = c.self.inside.replayed; ended = c.self.inside.ended } in
+    let x : TxnView = record {
+      tx = c.self.inside.tx.0;
+      at = c.self.inside.at;
+      session = c.self.inside.session;
+      log = c.self.inside.log;
+      replayed = c.self.inside.replayed;
+      ended = c.self.inside.ended;
+    } in
     let off : is_live c.args.self.now ≡ false = sym c.if-is_live.ensures in
     let left : x.replayed ≢ length x.log.ops = subst (λ (y : TxnView). y.replayed ≢ length y.log.ops) (sym c.self.view_is) (eqb-false c.args.self.now.replayed (length c.args.self.now.log.ops) off) in
-    let number = c.number-number.ensures.number in
+    let number = c.number.ensures.number in
     let base = c.base.ensures in
     let test = c.if-base-number.false in
-    let other : x.at.base ≢ kv.number = λ e. let met : c.base.result ≡ c.number-number.result = cc in test met in
+    let other : x.at.base ≢ kv.number = λ e. let met : c.base.result ≡ c.number.result = cc in test met in
     subst (λ y. commit_from kv y ≡ rebased y kv.number) c.self.view_is (from_older kv x left other)

@@ -13,14 +13,17 @@ use Rattle.wtf_replay.specs.Views.{TxnView, hand_of}
 use Rattle.wtf_replay.specs.Fits.{IsFit}
 use Rattle.wtf_replay.specs.Insides.{HandBytes, LogBytes, TxnBytes, IsInsideTxn, NamesTxn}
 use Rattle.wtf_replay.specs.Verbs.{turn, StepOf}
+use Rattle.wtf_replay.specs.Works.{work}
 use Rattle.wtf_replay.proofs.Faulting.{step_fault}
 use Rattle.wtf_replay.proofs.Again.{again_same, again_other}
 use Rattle.wtf_replay.proofs.Insiding.{log_later, inside_later}
 use Rattle.wtf_replay.proofs.Naming.{named_by}
+use Rattle.wtf_replay.proofs.Stepping.{next_named, next_fit, next_told, next_due, next_redoes, again_inside}
 use Rattle.wtf_replay.proofs.Turning.{step_none, refused_none, put_back}
 use Rattle.wtf_replay.proofs.txn.Txn.step_next.Goals as goal
 
 pub returns-then-same : goal.returns-then-same
+unfolding next_redoes
 returns-then-same g c =
     let kind = g.S.SliceStore.kind in
     let laws = g.met.S.SliceStore.laws in
@@ -29,38 +32,52 @@ returns-then-same g c =
     let into = c.make_again.new.dev in
     let size = dev.settings.region in
     let before : Told = byte_at kind (stores dev) in
-    let x : TxnView = record { tx = c.self.inside.tx.0; at = c.self.inside.at; session = c.self.inside.session; log = c.self.inside.log; replayed = c.self.inside.replayed; ended = c.self.inside.ended } in
+    let made = c.in-Ok-make_again.ensures.made in
+    let x : TxnView = record {
+      tx = c.self.inside.tx.0;
+      at = c.self.inside.at;
+      session = c.self.inside.session;
+      log = c.self.inside.log;
+      replayed = c.self.inside.replayed;
+      ended = c.self.inside.ended;
+    } in
     let new : TxnView = record x { at = c.make_again.new.at; session = c.make_again.new.session; replayed = c.self.inside.replayed + 1 } in
     let fit : IsFit kv x = subst (λ y. IsFit kv y) (sym c.self.view_is) c.requires.fit in
     let left : x.replayed < length x.log.ops = subst (λ (y : TxnView). y.replayed < length y.log.ops) (sym c.self.view_is) c.requires.left in
     let was : IsInsideTxn kind (stores dev) dev.settings kv x = subst (λ y. IsInsideTxn kind (stores dev) dev.settings kv y) (sym c.self.view_is) c.requires.inside in
+    let w = work kind dev into kv (hand_of x) (hand_of new) in
+    let a = c.in-Ok-make_again.both.0 in
+    let again = next_named w x.tx x.log x.replayed a made.next in
     let names : NamesTxn kind dev into kv x new None =
     named_by kind dev into (λ P Q. HandBytes P Q kv (hand_of x) × LogBytes P x.log) (λ P Q. HandBytes P Q kv (hand_of new)) (λ P Q. TxnBytes P Q kv x)
     (λ P Q. SliceBytes P None → TxnBytes P Q kv new)
-    (λ P Q were. (were.hand, were.log)) (λ P Q hole were are none. record { hand = are; log = were.log }) c.in-Ok-make_again.ensures.named in
+    (λ P Q were. (were.hand, were.log)) (λ P Q hole were are none. record { hand = are; log = were.log }) again in
     record {
       step =
           subst (λ (y : TxnView). StepOf (turn kind dev into kv kv y new) (Ok (answer.Replayed (c.self.inside.replayed + 1)))) c.self.view_is (record {
             refused = refused_none (turn kind dev into kv kv x new) (Ok (answer.Replayed (c.self.inside.replayed + 1))) (step_none x left);
-            stepped = λ going. record { index = refl; base = c.make_again.ensures.grows.base; is = refl };
-            acts = λ going. c.in-Ok-make_again.ensures.redoes c.if-same.true x refl refl;
+            stepped = λ going. record { index = refl; base = made.grows.base; is = refl };
+            acts = λ going. record {
+              redoes = next_redoes w x.tx x.log x.replayed a made.next (made.same.0 c.if-same.true) x refl refl;
+              recalls = made.next.again.acted.recalls;
+            };
             meaning = λ going ops start.
-                again_same laws c.make_again.ensures.dev start.0 kv x ops start.3 start.1 start.2 left new c.in-Ok-make_again.both.0
-                (λ k o at. c.in-Ok-make_again.ensures.step c.if-same.true k o at start.0)
-                (c.in-Ok-make_again.ensures.same.0 c.if-same.true) refl refl refl;
+                again_same laws made.dev start.0 kv x ops start.3 start.1 start.2 left new a
+                (λ k o at. next_told w x.tx x.log x.replayed a made.next laws made.dev fit.log (made.same.0 c.if-same.true) start.0 k o at)
+                (made.same.0 c.if-same.true) refl refl refl;
             named = names;
             fit = record {
-              pinned = subst (λ b. IsTrue (is_pinned kv b)) (sym c.make_again.ensures.grows.base) fit.pinned;
-              fits = c.in-Ok-make_again.ensures.fit;
+              pinned = subst (λ b. IsTrue (is_pinned kv b)) (sym made.grows.base) fit.pinned;
+              fits = next_fit w x.tx x.log x.replayed a made.next fit.fits;
               log = fit.log;
               most = omega (arith, left);
             };
-            inside = record { hand = c.make_again.ensures.inside; log = log_later laws c.make_again.ensures.dev.each dev.settings c.requires.sound.shelf x.log was.log };
+            inside = record { hand = again_inside laws made.dev c.requires.sound.shelf kv (hand_of x) (hand_of new) x.log again was.hand was.log; log = log_later laws made.dev.each dev.settings c.requires.sound.shelf x.log was.log };
             err = tt;
             fault = tt;
             due = tt;
-            reads = c.make_again.ensures.reads;
-            dev = c.make_again.ensures.dev;
+            reads = made.reads;
+            dev = made.dev;
           });
     }
 
@@ -73,39 +90,49 @@ returns g c =
     let into = c.make_again.new.dev in
     let size = dev.settings.region in
     let before : Told = byte_at kind (stores dev) in
-    let x : TxnView = record { tx = c.self.inside.tx.0; at = c.self.inside.at; session = c.self.inside.session; log = c.self.inside.log; replayed = c.self.inside.replayed; ended = c.self.inside.ended } in
-    let a = c.in-Ok-make_again.both.0 in
+    let made = c.in-Ok-make_again.ensures.made in
+    let x : TxnView = record {
+      tx = c.self.inside.tx.0;
+      at = c.self.inside.at;
+      session = c.self.inside.session;
+      log = c.self.inside.log;
+      replayed = c.self.inside.replayed;
+      ended = c.self.inside.ended;
+    } in
     let new : TxnView = record x { at = c.make_again.new.at; session = c.make_again.new.session; ended = true } in
     let fit : IsFit kv x = subst (λ y. IsFit kv y) (sym c.self.view_is) c.requires.fit in
     let left : x.replayed < length x.log.ops = subst (λ (y : TxnView). y.replayed < length y.log.ops) (sym c.self.view_is) c.requires.left in
     let was : IsInsideTxn kind (stores dev) dev.settings kv x = subst (λ y. IsInsideTxn kind (stores dev) dev.settings kv y) (sym c.self.view_is) c.requires.inside in
-    let differs : slice_get x.log.shown x.replayed ≢ Some a = λ e. let hit : c.in-Ok-make_again.both.1 ≡ true = c.in-Ok-make_again.ensures.same.1 e in let bad : true ≡ false = sym hit ∙ c.if-same.false in cc in
+    let a = c.in-Ok-make_again.both.0 in
+    let differs : slice_get x.log.shown x.replayed ≢ Some a = λ e. let hit : c.in-Ok-make_again.both.1 ≡ true = made.same.1 e in let bad : true ≡ false = sym hit ∙ c.if-same.false in cc in
     let r : Result Answer Fault = Ok (answer.Aborted (c.self.inside.replayed + 1) (with_value c.in-Ok.held a)) in
+    let w = work kind dev into kv (hand_of x) (hand_of new) in
+    let again = next_named w x.tx x.log x.replayed a made.next in
     let names : NamesTxn kind dev into kv x new None =
     named_by kind dev into (λ P Q. HandBytes P Q kv (hand_of x) × LogBytes P x.log) (λ P Q. HandBytes P Q kv (hand_of new)) (λ P Q. TxnBytes P Q kv x)
     (λ P Q. SliceBytes P None → TxnBytes P Q kv new)
-    (λ P Q were. (were.hand, were.log)) (λ P Q hole were are none. record { hand = are; log = were.log }) c.in-Ok-make_again.ensures.named in
+    (λ P Q were. (were.hand, were.log)) (λ P Q hole were are none. record { hand = are; log = were.log }) again in
     record {
       step =
           subst (λ (y : TxnView). StepOf (turn kind dev into kv kv y new) r) c.self.view_is (record {
             refused = refused_none (turn kind dev into kv kv x new) r (step_none x left);
-            stepped = λ going. record { index = refl; over = record { tx = refl; base = c.make_again.ensures.grows.base; log = refl; ended = refl } };
+            stepped = λ going. record { index = refl; over = record { tx = refl; base = made.grows.base; log = refl; ended = refl } };
             acts = λ going. tt;
-            meaning = λ going ops start. again_other laws c.make_again.ensures.dev start.0 kv x ops start.3 start.1 start.2 left a
-                (λ k o at. c.in-Ok-make_again.ensures.due k o at start.0) differs;
+            meaning = λ going ops start. again_other laws made.dev start.0 kv x ops start.3 start.1 start.2 left a
+                (λ k o at. next_due w x.tx x.log x.replayed a made.next start.0 k o at) differs;
             named = names;
             fit = record {
-              pinned = subst (λ b. IsTrue (is_pinned kv b)) (sym c.make_again.ensures.grows.base) fit.pinned;
-              fits = c.in-Ok-make_again.ensures.fit;
+              pinned = subst (λ b. IsTrue (is_pinned kv b)) (sym made.grows.base) fit.pinned;
+              fits = next_fit w x.tx x.log x.replayed a made.next fit.fits;
               log = fit.log;
               most = fit.most;
             };
-            inside = record { hand = c.make_again.ensures.inside; log = log_later laws c.make_again.ensures.dev.each dev.settings c.requires.sound.shelf x.log was.log };
+            inside = record { hand = again_inside laws made.dev c.requires.sound.shelf kv (hand_of x) (hand_of new) x.log again was.hand was.log; log = log_later laws made.dev.each dev.settings c.requires.sound.shelf x.log was.log };
             err = tt;
             fault = tt;
             due = tt;
-            reads = c.make_again.ensures.reads;
-            dev = c.make_again.ensures.dev;
+            reads = made.reads;
+            dev = made.dev;
           });
     }
 
@@ -119,12 +146,20 @@ returns-in-Err-make_again g c =
     let into = c.make_again.new.dev in
     let size = dev.settings.region in
     let before : Told = byte_at kind (stores dev) in
-    let x : TxnView = record { tx = c.self.inside.tx.0; at = c.self.inside.at; session = c.self.inside.session; log = c.self.inside.log; replayed = c.self.inside.replayed; ended = c.self.inside.ended } in
+    let made = c.in-Err-make_again.ensures.made in
+    let x : TxnView = record {
+      tx = c.self.inside.tx.0;
+      at = c.self.inside.at;
+      session = c.self.inside.session;
+      log = c.self.inside.log;
+      replayed = c.self.inside.replayed;
+      ended = c.self.inside.ended;
+    } in
     let why = c.in-Err-make_again.why in
     let fit : IsFit kv x = subst (λ y. IsFit kv y) (sym c.self.view_is) c.requires.fit in
     let left : x.replayed < length x.log.ops = subst (λ (y : TxnView). y.replayed < length y.log.ops) (sym c.self.view_is) c.requires.left in
     let was : IsInsideTxn kind (stores dev) dev.settings kv x = subst (λ y. IsInsideTxn kind (stores dev) dev.settings kv y) (sym c.self.view_is) c.requires.inside in
-    let same : record x { at = c.make_again.new.at; session = c.make_again.new.session } ≡ x = put_back x c.make_again.new.at c.make_again.new.session c.in-Err-make_again.ensures.err.0 c.in-Err-make_again.ensures.err.1 in
+    let same : record x { at = c.make_again.new.at; session = c.make_again.new.session } ≡ x = put_back x c.make_again.new.at c.make_again.new.session made.err.0 made.err.1 in
     let there : StepOf (turn kind dev into kv kv x x) (Err why) = record {
       refused = refused_none (turn kind dev into kv kv x x) (Err why) (step_none x left);
       stepped = λ going. tt;
@@ -132,12 +167,12 @@ returns-in-Err-make_again g c =
       meaning = λ going. tt;
       named = tt;
       fit = fit;
-      inside = inside_later laws c.make_again.ensures.dev.each dev.settings c.requires.sound.shelf kv x was;
+      inside = inside_later laws made.dev.each dev.settings c.requires.sound.shelf kv x was;
       err = refl;
-      fault = inr c.in-Err-make_again.ensures.fault;
-      due = λ ops sound. step_fault kind dev into kv before x ops why sound c.in-Err-make_again.ensures.fault;
-      reads = c.make_again.ensures.reads;
-      dev = c.make_again.ensures.dev;
+      fault = inr made.fault;
+      due = λ ops sound. step_fault kind dev into kv before x ops why sound made.fault;
+      reads = made.reads;
+      dev = made.dev;
     } in
     record {
       step =
