@@ -1,26 +1,31 @@
 -- The records of paths and of files, gathered by walks over the keys of a store.
-use Rattle.std.proofs.Common.{◌≡◌, ◌≢◌, ℕ, zero, suc, ◌+◌, ◌<◌, Bool, true, false, ◌&&◌, T, List, [], ◌∷◌, ◌++◌, map, Option, None, Some, refl, sym, ap, subst, ◌∙◌, arith}
+use Rattle.std.proofs.Common.{◌≡◌, ℕ, zero, suc, ◌+◌, ◌<◌, Bool, true, false, cond, ◌&&◌, List, [], ◌∷◌, ◌++◌, map, Option, None, Some, refl, sym, ap, subst, ◌∙◌, append_assoc, arith}
 use Rattle.std.specs.List.{AllByRecursion}
+use Rattle.std.specs.List.Sorted.{IsStrictlySortedBy}
+use Rattle.std.specs.Map.{lookup, keys_of}
 use Rattle.std.specs.Option.{option_map}
 use Rattle.std.specs.FinMap.{slice_cmp-IsAntisymmetric, nat_cmp-IsAntisymmetric}
-use Rattle.std.specs.FinMap.Entries.{is_sorted}
-use Rattle.std.specs.Ordering.{nat_cmp, is_lt}
-use Rattle.std.specs.Cmp.{IsTotalOrder}
-use Rattle.std.specs.Cmp.Lexicographic.{slice_cmp, nat_list_cmp_total}
+use Rattle.std.specs.FinMap.Entries.{find}
+use Rattle.std.specs.Ordering.{nat_cmp, is_lt, is_le, ordering_then}
+use Rattle.std.specs.Cmp.Lexicographic.{slice_cmp}
+use Rattle.std.specs.BTreeMap.{is_at}
+use Rattle.std.specs.BTreeMap.Range.{is_from_start}
 use Rattle.std.specs.declared.cmp.Ordering.{Ordering}
-use Rattle.std.specs.declared.cmp.Ordering.TheVariants.{Equal}
+use Rattle.std.specs.declared.cmp.Ordering.TheVariants.{Less, Equal, Greater}
+use Rattle.std.specs.declared.ops.Bound.{Bound}
+use Rattle.std.specs.declared.ops.Bound.TheVariants.{Included, Unbounded}
 use Rattle.std.proofs.lemmas.Bool.{lt-ltb}
+use Rattle.std.proofs.lemmas.Bool.Decides.{nat_tests}
 use Rattle.std.proofs.lemmas.List.{map-append}
+use Rattle.std.proofs.lemmas.Map.Keys.{sorted_head, sorted_tail}
 use Rattle.wtf_base.specs.declared.ids.InodeId.{InodeId}
-use Rattle.wtf_kv.specs.Seen.{has_any, last_seen, value_seen}
-use Rattle.wtf_kv.specs.Stores.{Store, versions_of}
-use Rattle.wtf_kv.specs.Order.{has_version, IsNextKey}
+use Rattle.wtf_kv.specs.Stores.{Store, map_at}
+use Rattle.wtf_kv.specs.Walks.{AreRowsFrom, with_row}
 use Rattle.wtf_values.specs.Keys.{key_cmp, inode_cmp, same_inode}
 use Rattle.wtf_values.specs.declared.key.Key.{Key}
 use Rattle.wtf_values.specs.declared.key.Key.TheVariants.{Path, Dir, Inode, Region}
 use Rattle.wtf_values.specs.declared.value.Node.{Node}
 use Rattle.wtf_values.specs.declared.value.Value.{Value}
-use Rattle.wtf_values.proofs.KeyLaws.{key_total}
 use Rattle.wtf_spillfmt.proofs.Codecs.{some_is}
 use Rattle.wtf_image.specs.declared.records.PathRecord.{PathRecord}
 use Rattle.wtf_image.specs.Rows.{RegionRow, FileRow, ImageRows}
@@ -30,153 +35,201 @@ use Rattle.wtf_image.specs.Lookups.{Plain, NodeIs, NamesAre, LastIs, RegionIs, p
 use Rattle.wtf_image.specs.Seeds.{AreRegionsAscending}
 use Rattle.wtf_image.specs.Tables.{Shown, shown}
 use Rattle.wtf_image.specs.Saving.{node_now, last_now, region_now, with_one, regions_below, region_in, file_with, file_now, file_entry, path_due, file_due, ArePathsOf, AreFilesOf}
-use Rattle.wtf_image.proofs.Walking.{Walked, walk_begins, walk_skips, with_entry, walk_goes_on}
+use Rattle.wtf_image.proofs.Walking.{Kind, Gathered, picked, Walked, walk_begins, walk_goes_on, walk_stops, walk_ends}
 
-abbrev pub S : Type 0
+abbrev S : Type 0
 S = Store Key Value
 
+abbrev KeyRows : Type 0
+KeyRows = List (Key × Value)
+
 -- ---- what both walks need
-
-no_versions : (vs : List (ℕ × Option Value)) (n : ℕ) → has_any vs ≡ false → option_map plain (value_seen (last_seen n vs)) ≡ None
-no_versions [] n h = refl
-no_versions (v ∷ vs) n h = absurd (cc)
-
--- a key without a version shows nothing
-unseen : (kv : S) (q : Key) → has_version key_cmp kv q ≡ false → shown kv q ≡ None
-unseen kv q h = no_versions (versions_of key_cmp kv q) kv.number h
-
-true_is : (b : Bool) → T b → b ≡ true
-true_is true t = refl
-true_is false t = absurd t
-
-first : (a b : Bool) → T (a && b) → T a
-first true b p = tt
-first false b p = p
 
 and_both : (a b : Bool) → (a && b) ≡ true → (a ≡ true) × (b ≡ true)
 and_both true b h = (refl, h)
 and_both false b h = absurd (cc)
 
-second : (a b : Bool) → T (a && b) → T b
-second true b p = p
-second false b p = absurd p
-
-module _ {A K X : Type 0} (R : K → K → Ordering) (entry : A → K × X) where
-  rising_from : (x : A) (ys : List A) → T (is_sorted R (entry x ∷ map entry ys)) → ascends_from (λ a b. is_lt (R (entry a).0 (entry b).0)) x ys ≡ true
+module _ {A K X : Type 0} (order : K → K → Ordering) (entry : A → K × X) where
+  rising_from : (x : A) (ys : List A) → IsStrictlySortedBy order (keys_of (map entry (x ∷ ys))) → ascends_from (λ a b. is_lt (order (entry a).0 (entry b).0)) x ys ≡ true
   rising_from x [] h = refl
   rising_from x (y ∷ ys) h =
-      let lt : is_lt (R (entry x).0 (entry y).0) ≡ true = true_is _ (first _ _ (first _ _ h)) in
-      ap (λ b. b && ascends_from (λ a b. is_lt (R (entry a).0 (entry b).0)) y ys) lt ∙ rising_from y ys (second _ _ h)
+      let lt : is_lt (order (entry x).0 (entry y).0) ≡ true = ap is_lt (sorted_head order (entry x).0 (keys_of (map entry (y ∷ ys))) h).0 in
+      ap (λ b. b && ascends_from (λ a b. is_lt (order (entry a).0 (entry b).0)) y ys) lt ∙ rising_from y ys (sorted_tail order (entry x).0 (keys_of (map entry (y ∷ ys))) h)
 
-  rising : (xs : List A) → T (is_sorted R (map entry xs)) → ascends (λ a b. is_lt (R (entry a).0 (entry b).0)) xs ≡ true
+  rising : (xs : List A) → IsStrictlySortedBy order (keys_of (map entry xs)) → ascends (λ a b. is_lt (order (entry a).0 (entry b).0)) xs ≡ true
   rising [] h = refl
   rising (x ∷ xs) h = rising_from x xs h
+
+find-lookup : {K X : Type 0} (order : K → K → Ordering) (q : K) (es : List (K × X)) → find order q es ≡ lookup (is_at (order q)) es
+find-lookup order q [] = refl
+find-lookup order q (e ∷ es) = ap (cond (is_at (order q) e.0) (Some e.1)) (find-lookup order q es)
 
 -- ---- paths
 
 pub same_path : (p q : List ℕ) → slice_cmp nat_cmp p q ≡ Equal → p ≡ q
 same_path = slice_cmp-IsAntisymmetric nat_cmp-IsAntisymmetric
 
-abbrev pub node_of : S → List ℕ → Option Node
+abbrev as_path : Key → Option (List ℕ)
+as_path (Path p) = Some p
+as_path (Dir d) = None
+as_path (Inode i) = None
+as_path (Region i r) = None
+
+pub is_path : (q : Key) (p : List ℕ) → as_path q ≡ Some p → q ≡ Path p
+is_path (Path q) p h = ap Path (some_is q p h)
+is_path (Dir d) p h = absurd (cc)
+is_path (Inode i) p h = absurd (cc)
+is_path (Region i r) p h = absurd (cc)
+
+pub not_path : (q : Key) → ((p : List ℕ) → q ≡ Path p → ⊥) → as_path q ≡ None
+not_path (Path p) h = absurd (h p refl)
+not_path (Dir d) h = refl
+not_path (Inode i) h = refl
+not_path (Region i r) h = refl
+
+-- paths are the least of the keys
+pub no_path_later : (p q : Key) → as_path p ≡ None → key_cmp p q ≡ Less → as_path q ≡ None
+no_path_later p (Dir e) off lt = refl
+no_path_later p (Inode j) off lt = refl
+no_path_later p (Region j s) off lt = refl
+no_path_later (Path p) (Path q) off lt = absurd (cc)
+no_path_later (Dir d) (Path q) off lt = absurd (cc)
+no_path_later (Inode i) (Path q) off lt = absurd (cc)
+no_path_later (Region i r) (Path q) off lt = absurd (cc)
+
+abbrev paths : Kind (List ℕ)
+paths = record {
+  order = slice_cmp nat_cmp;
+  exact = same_path;
+  key = Path;
+  of_key = as_path;
+  alike = λ p q. refl;
+  back = λ p. refl;
+  only = is_path;
+  start = Unbounded;
+  begins = λ p. refl;
+  ends = λ p q from. no_path_later p q;
+}
+
+abbrev node_told : List ℕ → Option Plain → Option Node
+node_told p o = node_now o
+
+abbrev node_of : S → List ℕ → Option Node
 node_of kv p = node_now (shown kv (Path p))
 
-pub paths_unseen : (kv : S) (q : List ℕ) → has_version key_cmp kv (Path q) ≡ false → node_of kv q ≡ None
-paths_unseen kv q h = ap node_now (unseen kv (Path q) h)
+abbrev pub PathsWalked : S → List PathRecord → KeyRows → Type 0
+PathsWalked kv rs left = Walked paths node_told (node_of kv) (map path_entry rs) left
 
-pub same_order : (p q : List ℕ) → key_cmp (Path p) (Path q) ≡ slice_cmp nat_cmp p q
-same_order p q = refl
-
-abbrev pub PathsWalked : S → Option Key → List PathRecord → Type 0
-PathsWalked kv at rs = Walked (slice_cmp nat_cmp) nat_list_cmp_total same_path Path same_order kv (node_of kv) (paths_unseen kv) at (map path_entry rs)
-
-pub paths_begin : (kv : S) (next : Option Key) → IsNextKey key_cmp kv None next → PathsWalked kv next []
-paths_begin kv next is = walk_begins (slice_cmp nat_cmp) nat_list_cmp_total same_path Path same_order kv (node_of kv) (paths_unseen kv) next is
-
-path_dir : (p q : List ℕ) → Path q ≢ Dir p
-path_dir p q same = absurd (cc)
-
-path_inode : (i : InodeId) (q : List ℕ) → Path q ≢ Inode i
-path_inode i q same = absurd (cc)
-
-path_region : (i : InodeId) (r : ℕ) (q : List ℕ) → Path q ≢ Region i r
-path_region i r q same = absurd (cc)
-
--- a record's entry is one more entry
 abbrev path_record : List ℕ → Node → PathRecord
 path_record p n = record { path = p; node = n }
 
-path_entries : (rs : List PathRecord) (p : List ℕ) (o : Option Node) → map path_entry (with_one rs (option_map (path_record p) o)) ≡ with_one (map path_entry rs) (option_map (λ n. (p, n)) o)
-path_entries rs p None = refl
-path_entries rs p (Some n) = map-append path_entry rs (path_record p n ∷ [])
+path_entries : (rs : List PathRecord) (p : List ℕ) (o : Option Node) (rest : List (List ℕ × Node)) → map path_entry (with_one rs (option_map (path_record p) o)) ++ rest ≡ map path_entry rs ++ with_row p o rest
+path_entries rs p None rest = refl
+path_entries rs p (Some n) rest = ap (λ l. l ++ rest) (map-append path_entry rs (path_record p n ∷ [])) ∙ append_assoc (map path_entry rs) ((p, n) ∷ []) rest
 
-with_pair : {K X : Type 0} (es : List (K × X)) (k : K) (o : Option X) (P : List (K × X) → Type 0) (w : Option X → List (K × X)) → w None ≡ es → ((v : X) → w (Some v) ≡ es ++ (k, v) ∷ []) → P (w o) → P (with_one es (option_map (λ v. (k, v)) o))
-with_pair es k None P w none some h = subst P none h
-with_pair es k (Some v) P w none some h = subst P (some v) h
+paths_end : (kv : S) (rs : List PathRecord) → Gathered (slice_cmp nat_cmp) (node_of kv) (map path_entry rs) → ArePathsOf (shown kv) rs
+paths_end kv rs all = record { ascend = rising (slice_cmp nat_cmp) path_entry rs all.sorted; each = λ p. find-lookup (slice_cmp nat_cmp) p (map path_entry rs) ∙ all.each p }
 
 module _ (kv : S) where
-  abbrev WalkedTo : Option Key → List (List ℕ × Node) → Type 0
-  WalkedTo at es = Walked (slice_cmp nat_cmp) nat_list_cmp_total same_path Path same_order kv (node_of kv) (paths_unseen kv) at es
+  pub paths_begin : (left : KeyRows) → AreRowsFrom key_cmp Unbounded (map_at key_cmp kv kv.number) left → PathsWalked kv [] left
+  paths_begin left are = walk_begins paths node_told (λ p. refl) kv left are
 
-  pub paths_go_on : (k : Key) (rs : List PathRecord) (next : Option Key) → PathsWalked kv (Some k) rs → IsNextKey key_cmp kv (Some k) next → PathsWalked kv next (with_one rs (path_due (shown kv) k))
-  paths_go_on (Path p) rs next walked is =
-      let es = map path_entry rs in
-      let on = walk_goes_on (slice_cmp nat_cmp) nat_list_cmp_total same_path Path same_order kv (node_of kv) (paths_unseen kv) p es walked.so_far next is in
-      subst (WalkedTo next) (sym (path_entries rs p (node_of kv p)))
-      (with_pair es p (node_of kv p) (WalkedTo next) (with_entry (slice_cmp nat_cmp) nat_list_cmp_total same_path Path same_order kv (node_of kv) (paths_unseen kv) p es walked.so_far) refl (λ v. refl) on)
-  paths_go_on (Dir d) rs next walked is = walk_skips (slice_cmp nat_cmp) nat_list_cmp_total same_path Path same_order kv (node_of kv) (paths_unseen kv) (Dir d) (map path_entry rs) walked.so_far next is (path_dir d)
-  paths_go_on (Inode i) rs next walked is = walk_skips (slice_cmp nat_cmp) nat_list_cmp_total same_path Path same_order kv (node_of kv) (paths_unseen kv) (Inode i) (map path_entry rs) walked.so_far next is (path_inode i)
-  paths_go_on (Region i r) rs next walked is = walk_skips (slice_cmp nat_cmp) nat_list_cmp_total same_path Path same_order kv (node_of kv) (paths_unseen kv) (Region i r) (map path_entry rs) walked.so_far next is (path_region i r)
+  pub paths_go_on : (rs : List PathRecord) (p : List ℕ) (v : Value) (left rest : KeyRows) → left ≡ (Path p, v) ∷ rest → PathsWalked kv rs left → PathsWalked kv (with_one rs (path_due p v)) rest
+  paths_go_on rs p v left rest is walked =
+      walk_goes_on paths node_told (node_of kv) (map path_entry rs) p v (map path_entry (with_one rs (path_due p v))) left rest is
+      (path_entries rs p (node_now (Some (plain v))) (picked paths node_told rest)) walked
 
-  pub paths_end : (rs : List PathRecord) → PathsWalked kv None rs → ArePathsOf (shown kv) rs
-  paths_end rs walked = record { ascend = rising (slice_cmp nat_cmp) path_entry rs walked.so_far.sorted; each = λ p. walked.so_far.each p }
+  pub paths_stop : (rs : List PathRecord) (e : Key × Value) (left rest : KeyRows) → left ≡ e ∷ rest → as_path e.0 ≡ None → PathsWalked kv rs left → ArePathsOf (shown kv) rs
+  paths_stop rs e left rest is off walked = paths_end kv rs (walk_stops paths node_told (node_of kv) (map path_entry rs) e left rest is off walked)
+
+  pub all_paths : (rs : List PathRecord) (left : KeyRows) → left ≡ [] → PathsWalked kv rs left → ArePathsOf (shown kv) rs
+  all_paths rs left is walked = paths_end kv rs (walk_ends paths node_told (node_of kv) (map path_entry rs) left is walked)
 
 -- ---- files
 
-pub files_unseen : (kv : S) (i : InodeId) → has_version key_cmp kv (Inode i) ≡ false → file_now (shown kv) i ≡ None
-files_unseen kv i h = ap (λ o. option_map (file_with (shown kv) i) (last_now o)) (unseen kv (Inode i) h)
+abbrev as_inode : Key → Option InodeId
+as_inode (Path p) = None
+as_inode (Dir d) = None
+as_inode (Inode i) = Some i
+as_inode (Region i r) = None
 
-pub inode_order : (i j : InodeId) → key_cmp (Inode i) (Inode j) ≡ inode_cmp i j
-inode_order i j = refl
+pub is_inode : (q : Key) (i : InodeId) → as_inode q ≡ Some i → q ≡ Inode i
+is_inode (Path p) i h = absurd (cc)
+is_inode (Dir d) i h = absurd (cc)
+is_inode (Inode j) i h = ap Inode (some_is j i h)
+is_inode (Region j r) i h = absurd (cc)
 
-pub inode_total : IsTotalOrder inode_cmp
-inode_total = record {
-  trans = λ a b c. key_total.trans (Inode a) (Inode b) (Inode c);
-  antisymm = λ a b. key_total.antisymm (Inode a) (Inode b);
-  congr = λ a b c. key_total.congr (Inode a) (Inode b) (Inode c);
+pub not_inode : (q : Key) → ((i : InodeId) → q ≡ Inode i → ⊥) → as_inode q ≡ None
+not_inode (Path p) h = refl
+not_inode (Dir d) h = refl
+not_inode (Inode i) h = absurd (h i refl)
+not_inode (Region i r) h = refl
+
+abbrev pub first_inode : Bound Key
+first_inode = Included (Inode (record { tx = record { 0 = 0 }; index = 0 }))
+
+le_then : (a b : Ordering) → is_le a ≡ true → is_le b ≡ true → is_le (ordering_then a b) ≡ true
+le_then Less b h k = refl
+le_then Equal b h k = k
+le_then Greater b h k = absurd (cc)
+
+zero_le : (n : ℕ) → is_le (nat_cmp 0 n) ≡ true
+zero_le n = grind (arith, nat_tests)
+
+pub inode_begins : (i : InodeId) → is_from_start key_cmp first_inode (Inode i) ≡ true
+inode_begins i = le_then (nat_cmp 0 i.tx.0) (nat_cmp 0 i.index) (zero_le i.tx.0) (zero_le i.index)
+
+-- only regions come behind inodes
+pub no_inode_later : (p q : Key) → is_from_start key_cmp first_inode p ≡ true → as_inode p ≡ None → key_cmp p q ≡ Less → as_inode q ≡ None
+no_inode_later p (Path q) from off lt = refl
+no_inode_later p (Dir e) from off lt = refl
+no_inode_later p (Region j s) from off lt = refl
+no_inode_later (Path p) (Inode j) from off lt = absurd (cc)
+no_inode_later (Dir d) (Inode j) from off lt = absurd (cc)
+no_inode_later (Inode i) (Inode j) from off lt = absurd (cc)
+no_inode_later (Region i r) (Inode j) from off lt = absurd (cc)
+
+abbrev inodes : Kind InodeId
+inodes = record {
+  order = inode_cmp;
+  exact = same_inode;
+  key = Inode;
+  of_key = as_inode;
+  alike = λ i j. refl;
+  back = λ i. refl;
+  only = is_inode;
+  start = first_inode;
+  begins = inode_begins;
+  ends = no_inode_later;
 }
 
-abbrev pub FilesWalked : S → Option Key → List FileRow → Type 0
-FilesWalked kv at fs = Walked inode_cmp inode_total same_inode Inode inode_order kv (file_now (shown kv)) (files_unseen kv) at (map file_entry fs)
+abbrev file_told : Shown → InodeId → Option Plain → Option FileRow
+file_told m i o = option_map (file_with m i) (last_now o)
 
-pub files_begin : (kv : S) (next : Option Key) → IsNextKey key_cmp kv None next → FilesWalked kv next []
-files_begin kv next is = walk_begins inode_cmp inode_total same_inode Inode inode_order kv (file_now (shown kv)) (files_unseen kv) next is
+abbrev pub FilesWalked : S → List FileRow → KeyRows → Type 0
+FilesWalked kv fs left = Walked inodes (file_told (shown kv)) (file_now (shown kv)) (map file_entry fs) left
 
-inode_path : (p : List ℕ) (i : InodeId) → Inode i ≢ Path p
-inode_path p i same = absurd (cc)
+file_entries : (m : Shown) (fs : List FileRow) (i : InodeId) (o : Option ℕ) (rest : List (InodeId × FileRow)) → map file_entry (with_one fs (option_map (file_with m i) o)) ++ rest ≡ map file_entry fs ++ with_row i (option_map (file_with m i) o) rest
+file_entries m fs i None rest = refl
+file_entries m fs i (Some n) rest = ap (λ l. l ++ rest) (map-append file_entry fs (file_with m i n ∷ [])) ∙ append_assoc (map file_entry fs) ((i, file_with m i n) ∷ []) rest
 
-inode_dir : (p : List ℕ) (i : InodeId) → Inode i ≢ Dir p
-inode_dir p i same = absurd (cc)
-
-inode_region : (j : InodeId) (r : ℕ) (i : InodeId) → Inode i ≢ Region j r
-inode_region j r i same = absurd (cc)
-
-file_entries : (m : Shown) (fs : List FileRow) (i : InodeId) (o : Option ℕ) → map file_entry (with_one fs (option_map (file_with m i) o)) ≡ with_one (map file_entry fs) (option_map (λ f. (i, f)) (option_map (file_with m i) o))
-file_entries m fs i None = refl
-file_entries m fs i (Some n) = map-append file_entry fs (file_with m i n ∷ [])
+files_end : (kv : S) (fs : List FileRow) → AreRegionsAscending fs → Gathered inode_cmp (file_now (shown kv)) (map file_entry fs) → AreFilesOf (shown kv) fs
+files_end kv fs regions all = record { ascend = rising inode_cmp file_entry fs all.sorted; regions = regions; each = λ i. find-lookup inode_cmp i (map file_entry fs) ∙ all.each i }
 
 module _ (kv : S) where
-  abbrev FilesTo : Option Key → List (InodeId × FileRow) → Type 0
-  FilesTo at es = Walked inode_cmp inode_total same_inode Inode inode_order kv (file_now (shown kv)) (files_unseen kv) at es
+  pub files_begin : (left : KeyRows) → AreRowsFrom key_cmp first_inode (map_at key_cmp kv kv.number) left → FilesWalked kv [] left
+  files_begin left are = walk_begins inodes (file_told (shown kv)) (λ i. refl) kv left are
 
-  pub files_go_on : (k : Key) (fs : List FileRow) (next : Option Key) → FilesWalked kv (Some k) fs → IsNextKey key_cmp kv (Some k) next → FilesWalked kv next (with_one fs (file_due (shown kv) k))
-  files_go_on (Inode i) fs next walked is =
-      let es = map file_entry fs in
-      let on = walk_goes_on inode_cmp inode_total same_inode Inode inode_order kv (file_now (shown kv)) (files_unseen kv) i es walked.so_far next is in
-      subst (FilesTo next) (sym (file_entries (shown kv) fs i (last_now (shown kv (Inode i)))))
-      (with_pair es i (file_now (shown kv) i) (FilesTo next) (with_entry inode_cmp inode_total same_inode Inode inode_order kv (file_now (shown kv)) (files_unseen kv) i es walked.so_far) refl (λ v. refl) on)
-  files_go_on (Path p) fs next walked is = walk_skips inode_cmp inode_total same_inode Inode inode_order kv (file_now (shown kv)) (files_unseen kv) (Path p) (map file_entry fs) walked.so_far next is (inode_path p)
-  files_go_on (Dir d) fs next walked is = walk_skips inode_cmp inode_total same_inode Inode inode_order kv (file_now (shown kv)) (files_unseen kv) (Dir d) (map file_entry fs) walked.so_far next is (inode_dir d)
-  files_go_on (Region i r) fs next walked is = walk_skips inode_cmp inode_total same_inode Inode inode_order kv (file_now (shown kv)) (files_unseen kv) (Region i r) (map file_entry fs) walked.so_far next is (inode_region i r)
+  pub files_go_on : (fs : List FileRow) (i : InodeId) (v : Value) (left rest : KeyRows) → left ≡ (Inode i, v) ∷ rest → FilesWalked kv fs left → FilesWalked kv (with_one fs (file_due (shown kv) i v)) rest
+  files_go_on fs i v left rest is walked =
+      walk_goes_on inodes (file_told (shown kv)) (file_now (shown kv)) (map file_entry fs) i v (map file_entry (with_one fs (file_due (shown kv) i v))) left rest is
+      (file_entries (shown kv) fs i (last_now (Some (plain v))) (picked inodes (file_told (shown kv)) rest)) walked
+
+  pub files_stop : (fs : List FileRow) (e : Key × Value) (left rest : KeyRows) → left ≡ e ∷ rest → as_inode e.0 ≡ None → AreRegionsAscending fs → FilesWalked kv fs left → AreFilesOf (shown kv) fs
+  files_stop fs e left rest is off regions walked = files_end kv fs regions (walk_stops inodes (file_told (shown kv)) (file_now (shown kv)) (map file_entry fs) e left rest is off walked)
+
+  pub all_files : (fs : List FileRow) (left : KeyRows) → left ≡ [] → AreRegionsAscending fs → FilesWalked kv fs left → AreFilesOf (shown kv) fs
+  all_files fs left is regions walked = files_end kv fs regions (walk_ends inodes (file_told (shown kv)) (file_now (shown kv)) (map file_entry fs) left is walked)
 
 -- ---- the regions of each file ascend
 
@@ -234,14 +287,8 @@ one_file m fs i (Some n) h =
     All-append (λ (f : FileRow). ascends region_before f.regions ≡ true) fs (file_with m i n ∷ []) h
     (regions_ascend (region_in m i) (λ r row e. region_numbered r (m (Region i r)) row e) (n + 1), tt)
 
-pub regions_go_on : (m : Shown) (fs : List FileRow) (k : Key) → AreRegionsAscending fs → AreRegionsAscending (with_one fs (file_due m k))
-regions_go_on m fs (Path p) h = h
-regions_go_on m fs (Dir p) h = h
-regions_go_on m fs (Inode i) h = one_file m fs i (last_now (m (Inode i))) h
-regions_go_on m fs (Region i r) h = h
-
-pub files_end : (kv : S) (fs : List FileRow) → FilesWalked kv None fs → AreRegionsAscending fs → AreFilesOf (shown kv) fs
-files_end kv fs walked regions = record { ascend = rising inode_cmp file_entry fs walked.so_far.sorted; regions = regions; each = λ i. walked.so_far.each i }
+pub regions_go_on : (m : Shown) (fs : List FileRow) (i : InodeId) (v : Value) → AreRegionsAscending fs → AreRegionsAscending (with_one fs (file_due m i v))
+regions_go_on m fs i v h = one_file m fs i (last_now (Some (plain v))) h
 
 -- ---- the image of both
 

@@ -17,3 +17,4 @@ pub mod SaveMap
 pub mod StandsLaws
 pub mod PlainLaws
 pub mod Said
+pub mod LostLaws

@@ -17,7 +17,7 @@ use Rattle.wtf_image.specs.Rows.{RegionRow, FileRow, ImageRows}
 use Rattle.wtf_image.specs.Shapes.{ascends, ascends_from, region_before, IsFileRow, IsImage}
 use Rattle.wtf_image.specs.Lookups.{NodeIs, LastIs, plain, plain_region, node_at, last_at, place_cmp, region_entry, region_at, row_at}
 use Rattle.wtf_image.specs.Rules.{is_before, is_good_region, is_good_file, AreGoodSettings, IsGoodTree}
-use Rattle.wtf_image.specs.Outcome.{IsLoadOf}
+use Rattle.wtf_image.specs.Outcome.{IsLoadWithout}
 use Rattle.wtf_image.specs.Saving.{node_now, last_now, region_now, with_one, regions_below, file_with, file_at, Says, IsSaveOf}
 use Rattle.wtf_image.specs.Savable.{AreBefore}
 use Rattle.wtf_image.proofs.SaveFiles.{inode_same}
@@ -193,8 +193,9 @@ before_of x w good is = λ i some.
 -- ---- what was loaded
 
 -- the bytes are the image of the store, its settings and its next transaction, and each of its inodes is of one before
-pub saves_again : (size : ℕ → ℕ → ℕ) (bytes : List ℕ) (l : Loaded) → IsLoadOf size bytes l → IsSaveOf l.kv l.settings l.next_tx bytes
-saves_again size bytes l load = record {
+pub saves_again : (lost : ℕ → Bool) (size : ℕ → ℕ → ℕ) (bytes : List ℕ) (l : Loaded) → IsLoadWithout lost size bytes l
+    → IsSaveOf l.kv l.settings l.next_tx bytes
+saves_again lost size bytes l load = record {
   rows = load.rows;
   text = load.taken.text;
   header = λ j. record {
@@ -207,5 +208,8 @@ saves_again size bytes l load = record {
   says = subst (λ m. Says m load.rows) (λ j q. sym (load.store.map q) j) (says_itself load.rows load.taken.text.shape load.taken.tree);
 }
 
-pub loaded_before : (size : ℕ → ℕ → ℕ) (bytes : List ℕ) (l : Loaded) → IsLoadOf size bytes l → AreBefore l.next_tx (metadata_at l.kv l.kv.number)
-loaded_before size bytes l load = subst (λ n. AreBefore n (metadata_at l.kv l.kv.number)) (sym load.next_tx) (before_of load.rows (metadata_at l.kv l.kv.number) load.taken.good load.store.map)
+pub loaded_before : (lost : ℕ → Bool) (size : ℕ → ℕ → ℕ) (bytes : List ℕ) (l : Loaded) → IsLoadWithout lost size bytes l
+    → AreBefore l.next_tx (metadata_at l.kv l.kv.number)
+loaded_before lost size bytes l load =
+    subst (λ n. AreBefore n (metadata_at l.kv l.kv.number)) (sym load.next_tx)
+    (before_of load.rows (metadata_at l.kv l.kv.number) load.taken.good load.store.map)

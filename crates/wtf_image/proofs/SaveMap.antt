@@ -24,8 +24,8 @@ use Rattle.wtf_image.specs.declared.loads.Loaded.{Loaded}
 use Rattle.wtf_image.specs.declared.records.Header.{Header}
 use Rattle.wtf_image.specs.Texts.{image_text}
 use Rattle.wtf_image.specs.Rules.{is_before, is_node_before, is_good_file, AreGoodSettings, IsGoodTree}
-use Rattle.wtf_image.specs.Loading.{IsRefusal}
-use Rattle.wtf_image.specs.Outcome.{IsLoadOf}
+use Rattle.wtf_image.specs.Loading.{IsRefusalWithout}
+use Rattle.wtf_image.specs.Outcome.{IsLoadWithout}
 use Rattle.wtf_image.specs.Kept.{IsKept, IsSameAs, IsPointerOrMemory}
 use Rattle.wtf_meta.specs.Maps.{metadata_at}
 use Rattle.wtf_image.proofs.Forms.{one_image}
@@ -335,8 +335,9 @@ is_kept kv s next_tx bytes save limits number last savable =
     }
 
 -- what is loaded of it is the same
-pub reads_back : (kv : Store Key Value) (s : Settings) (next_tx : ℕ) (bytes : List ℕ) (size : ℕ → ℕ → ℕ) (l : Loaded) → IsKept kv s next_tx bytes → IsLoadOf size bytes l → IsSameAs kv s next_tx l
-reads_back kv s next_tx bytes size l kept load =
+pub reads_back : (kv : Store Key Value) (s : Settings) (next_tx : ℕ) (bytes : List ℕ) (lost : ℕ → Bool) (size : ℕ → ℕ → ℕ) (l : Loaded)
+    → IsKept kv s next_tx bytes → IsLoadWithout lost size bytes l → IsSameAs kv s next_tx l
+reads_back kv s next_tx bytes lost size l kept load =
     let same : kept.rows ≡ load.rows = (one_image kept.rows load.rows [] kept.text.shape load.taken.text.shape (sym load.taken.text.text ∙ kept.text.text ∙ sym (append-nil (image_text kept.rows)))).0 in
     let header : load.rows.header ≡ header_of s kv.number next_tx = sym (ap (λ (x : ImageRows). x.header) same) ∙ kept.header in
     let each : (q : Key) → metadata_at l.kv l.kv.number q ≡ metadata_at kv kv.number q = λ q.
@@ -352,13 +353,14 @@ reads_back kv s next_tx bytes size l kept load =
     }
 
 -- a refusal of it names a pointer outside the stores, unless memory ran out
-pub refused_only : (kv : Store Key Value) (s : Settings) (next_tx : ℕ) (bytes : List ℕ) (size : ℕ → ℕ → ℕ) (why : LoadError) → IsKept kv s next_tx bytes → IsRefusal size bytes why → IsPointerOrMemory why
-refused_only kv s next_tx bytes size error.NotAnImage kept refusal = absurd (refusal kept.rows kept.text)
-refused_only kv s next_tx bytes size error.BadSettings kept refusal =
+pub refused_only : (kv : Store Key Value) (s : Settings) (next_tx : ℕ) (bytes : List ℕ) (lost : ℕ → Bool) (size : ℕ → ℕ → ℕ) (why : LoadError)
+    → IsKept kv s next_tx bytes → IsRefusalWithout lost size bytes why → IsPointerOrMemory why
+refused_only kv s next_tx bytes lost size error.NotAnImage kept refusal = absurd (refusal kept.rows kept.text)
+refused_only kv s next_tx bytes lost size error.BadSettings kept refusal =
     let same : kept.rows ≡ refusal.rows = (one_image kept.rows refusal.rows [] kept.text.shape refusal.text.shape (sym refusal.text.text ∙ kept.text.text ∙ sym (append-nil (image_text kept.rows)))).0 in
     absurd (refusal.bad (subst AreGoodSettings same kept.good))
-refused_only kv s next_tx bytes size error.BadTree kept refusal =
+refused_only kv s next_tx bytes lost size error.BadTree kept refusal =
     let same : kept.rows ≡ refusal.rows = (one_image kept.rows refusal.rows [] kept.text.shape refusal.text.shape (sym refusal.text.text ∙ kept.text.text ∙ sym (append-nil (image_text kept.rows)))).0 in
     absurd (refusal.bad (subst IsGoodTree same kept.tree))
-refused_only kv s next_tx bytes size error.PointerOutside kept refusal = tt
-refused_only kv s next_tx bytes size error.Memory kept refusal = tt
+refused_only kv s next_tx bytes lost size error.PointerOutside kept refusal = tt
+refused_only kv s next_tx bytes lost size error.Memory kept refusal = tt

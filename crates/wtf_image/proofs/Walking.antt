@@ -1,149 +1,147 @@
--- A walk over the keys of a store, which lists what it shows of keys of one kind.
-use Rattle.std.proofs.Common.{◌≡◌, ◌≢◌, Bool, true, false, cond, ◌&&◌, T, List, [], ◌∷◌, ◌++◌, Option, None, Some, is_some, refl, sym, ap, subst, ◌∙◌, ⊎_elim}
-use Rattle.std.proofs.lemmas.Bool.{cases_Bool, both_ways}
+-- A walk over the rows of a store, which lists what they have of the keys of one kind.
+use Rattle.std.proofs.Common.{◌≡◌, true, cond, List, [], ◌∷◌, ◌++◌, Option, None, Some, refl, sym, ap, subst, ◌∙◌, ⊎_elim, append-nil}
+use Rattle.std.proofs.lemmas.Bool.{cases_Bool}
+use Rattle.std.proofs.lemmas.Map.{lookup-none}
+use Rattle.std.proofs.lemmas.Map.Entries.{none_past_head}
+use Rattle.std.proofs.lemmas.Map.Keys.{IsDistinct-from_sorted, sorted_head, sorted_tail}
+use Rattle.std.proofs.lemmas.Cmp.{eq_by_cmp_equiv}
 use Rattle.std.specs.declared.cmp.Ordering.{Ordering}
-use Rattle.std.specs.declared.cmp.Ordering.TheVariants.{Less, Equal, Greater}
-use Rattle.std.specs.Ordering.{is_lt, is_eq, eq_by_cmp, ordering_reverse}
-use Rattle.std.specs.Cmp.{IsTotalOrder, tied_itself}
-use Rattle.std.specs.FinMap.Entries.{find, is_sorted, below_all, find-append}
-use Rattle.wtf_kv.specs.Stores.{Store}
-use Rattle.wtf_kv.specs.Order.{is_past, is_before, has_version, IsNextKey, IsReached}
-use Rattle.wtf_kv.proofs.KeyLaws.{between, reached}
-use Rattle.wtf_values.specs.Keys.{key_cmp, same_key}
+use Rattle.std.specs.declared.cmp.Ordering.TheVariants.{Less, Equal}
+use Rattle.std.specs.declared.ops.Bound.{Bound}
+use Rattle.std.specs.Ordering.{is_eq}
+use Rattle.std.specs.Cmp.{Equal-is}
+use Rattle.std.specs.List.{AllByRecursion}
+use Rattle.std.specs.List.Sorted.{IsStrictlySortedBy}
+use Rattle.std.specs.Map.{lookup, keys_of}
+use Rattle.std.specs.Option.{option_map}
+use Rattle.std.specs.BTreeMap.{is_at}
+use Rattle.std.specs.BTreeMap.Range.{is_from_start}
+use Rattle.wtf_kv.specs.Stores.{Store, map_at}
+use Rattle.wtf_kv.specs.Walks.{AreRowsFrom, with_row}
+use Rattle.wtf_kv.proofs.WalkLaws.{row_above, row_sorted, row_found, rows_past}
+use Rattle.wtf_values.specs.Keys.{key_cmp}
 use Rattle.wtf_values.specs.declared.key.Key.{Key}
 use Rattle.wtf_values.specs.declared.value.Value.{Value}
-use Rattle.wtf_values.proofs.KeyLaws.{key_total}
+use Rattle.wtf_values.proofs.KeyLaws.{key_total, at_same}
+use Rattle.wtf_image.specs.Lookups.{Plain, plain}
+use Rattle.wtf_image.specs.Tables.{shown}
 
-both : (a b : Bool) → T a → T b → T (a && b)
-both true b p q = q
-both false b p q = absurd p
+-- keys of one kind, which stand side by side from a start on
+pub record Kind (K : Type 0) : Type 0 where
+  pub order : K → K → Ordering
+  pub exact : (a b : K) → order a b ≡ Equal → a ≡ b
+  pub key : K → Key
+  pub of_key : Key → Option K
+  pub alike : (a b : K) → key_cmp (key a) (key b) ≡ order a b
+  pub back : (k : K) → of_key (key k) ≡ Some k
+  pub only : (q : Key) (k : K) → of_key q ≡ Some k → q ≡ key k
+  pub start : Bound Key
+  pub begins : (k : K) → is_from_start key_cmp start (key k) ≡ true
+  pub ends : (p q : Key) → is_from_start key_cmp start p ≡ true → of_key p ≡ None → key_cmp p q ≡ Less → of_key q ≡ None
 
-first : (a b : Bool) → T (a && b) → T a
-first true b p = tt
-first false b p = p
+-- entries in order, which have of each key what it has now
+pub record Gathered {K X : Type 0} (order : K → K → Ordering) (now : K → Option X) (es : List (K × X)) : Type 0 where
+  pub sorted : IsStrictlySortedBy order (keys_of es)
+  pub each : (k : K) → lookup (is_at (order k)) es ≡ now k
 
-second : (a b : Bool) → T (a && b) → T b
-second true b p = p
-second false b p = absurd p
+module _ {K X : Type 0} (kind : Kind K) (value : K → Option Plain → Option X) where
+  abbrev one_picked : Option K → Value → List (K × X) → List (K × X)
+  one_picked None v es = es
+  one_picked (Some k) v es = with_row k (value k (Some (plain v))) es
 
-less_is : (o : Ordering) → is_lt o ≡ true → o ≡ Less
-less_is Less e = refl
-less_is Equal e = cc
-less_is Greater e = cc
+  -- what rows have of the keys of the kind
+  abbrev pub picked : List (Key × Value) → List (K × X)
+  picked [] = []
+  picked (e ∷ es) = one_picked (kind.of_key e.0) e.1 (picked es)
 
-equal_is : (o : Ordering) → is_eq o ≡ true → o ≡ Equal
-equal_is Less e = cc
-equal_is Equal e = refl
-equal_is Greater e = cc
+  one_above : (k : K) (e : Key × Value) (o : Option K) (rows : List (K × X)) → kind.of_key e.0 ≡ o → key_cmp (kind.key k) e.0 ≡ Less → AllByRecursion (λ j. kind.order k j ≡ Less) (keys_of rows) → AllByRecursion (λ j. kind.order k j ≡ Less) (keys_of (one_picked o e.1 rows))
+  one_above k e None rows is lt h = h
+  one_above k e (Some j) rows is lt h =
+      row_above kind.order k j (value j (Some (plain e.1))) rows (sym (kind.alike k j) ∙ ap (key_cmp (kind.key k)) (sym (kind.only e.0 j is)) ∙ lt) h
 
--- ---- lists of entries whose keys rise, with one more at their end
-module _ {K X : Type 0} (R : K → K → Ordering) where
-  below-push : (x k : K) (v : X) (es : List (K × X)) → R x k ≡ Less → T (below_all R x es) → T (below_all R x (es ++ (k, v) ∷ []))
-  below-push x k v [] lt h = both _ _ (subst (λ o. T (is_lt o)) (sym lt) tt) tt
-  below-push x k v (e ∷ es) lt h = both _ _ (first _ _ h) (below-push x k v es lt (second _ _ h))
+  picked_above : (k : K) (es : List (Key × Value)) → AllByRecursion (λ q. key_cmp (kind.key k) q ≡ Less) (keys_of es) → AllByRecursion (λ j. kind.order k j ≡ Less) (keys_of (picked es))
+  picked_above k [] h = tt
+  picked_above k (e ∷ es) h = one_above k e (kind.of_key e.0) (picked es) refl h.0 (picked_above k es h.1)
 
-  found_later : (q : K) (e : K × X) (es : List (K × X)) → is_some (find R q es) ≡ true → is_some (find R q (e ∷ es)) ≡ true
-  found_later q e es h = elim (eq_by_cmp R q e.0) as (λ b. is_some (cond b (Some e.1) (find R q es)) ≡ true) [ true ↦ refl | false ↦ h ]
+  one_sorted : (e : Key × Value) (es : List (Key × Value)) (o : Option K) → kind.of_key e.0 ≡ o → AllByRecursion (λ q. key_cmp e.0 q ≡ Less) (keys_of es) → IsStrictlySortedBy kind.order (keys_of (picked es)) → IsStrictlySortedBy kind.order (keys_of (one_picked o e.1 (picked es)))
+  one_sorted e es None is above h = h
+  one_sorted e es (Some k) is above h =
+      row_sorted kind.order k (value k (Some (plain e.1))) (picked es)
+      (picked_above k es (subst (λ p. AllByRecursion (λ q. key_cmp p q ≡ Less) (keys_of es)) (kind.only e.0 k is) above)) h
 
-  is_sorted-push : IsTotalOrder R → (es : List (K × X)) (k : K) (v : X) → ((x : K) → is_some (find R x es) ≡ true → R x k ≡ Less) → T (is_sorted R es) → T (is_sorted R (es ++ (k, v) ∷ []))
-  is_sorted-push o [] k v up h = tt
-  is_sorted-push o (e ∷ es) k v up h = both _ _
-      (below-push e.0 k v es (up e.0 (ap (λ r. is_some (cond (is_eq r) (Some e.1) (find R e.0 es))) (tied_itself o e.0))) (first _ _ h))
-      (is_sorted-push o es k v (λ x found. up x (found_later x e es found)) (second _ _ h))
+  picked_sorted : (es : List (Key × Value)) → IsStrictlySortedBy key_cmp (keys_of es) → IsStrictlySortedBy kind.order (keys_of (picked es))
+  unfolding IsStrictlySortedBy
+  picked_sorted [] h = h
+  picked_sorted (e ∷ es) h = one_sorted e es (kind.of_key e.0) refl (sorted_head key_cmp e.0 (keys_of es) h) (picked_sorted es (sorted_tail key_cmp e.0 (keys_of es) h))
 
--- ---- the walk
-module _ {K X : Type 0} (R : K → K → Ordering) (total : IsTotalOrder R) (exact : (a b : K) → R a b ≡ Equal → a ≡ b)
-    (key : K → Key) (same : (a b : K) → key_cmp (key a) (key b) ≡ R a b)
-    (kv : Store Key Value) (now : K → Option X) (unseen : (q : K) → has_version key_cmp kv (key q) ≡ false → now q ≡ None) where
-  -- what lies below a key
-  abbrev pub below : Option Key → K → Option X
-  below at q = cond (is_before key_cmp at (key q)) (now q) None
+  -- what rows say of a key of the kind
+  abbrev told : K → Option Value → Option X
+  told k v = value k (option_map plain v)
 
-  pub record Listed (f : K → Option X) (es : List (K × X)) : Type 0 where
-    pub sorted : T (is_sorted R es)
-    pub each : (q : K) → find R q es ≡ f q
+  abbrev found : K → List (Key × Value) → Option Value
+  found k es = lookup (is_at (key_cmp (kind.key k))) es
 
-  pub record Walked (at : Option Key) (es : List (K × X)) : Type 0 where
-    pub so_far : Listed (below at) es
-    pub has_version : IsReached key_cmp kv at
+  -- what is listed so far and what is left of the rows are together what keys have now
+  pub record Walked (now : K → Option X) (listed : List (K × X)) (left : List (Key × Value)) : Type 0 where
+    pub ahead : IsStrictlySortedBy key_cmp (keys_of left)
+    pub past : AllByRecursion (λ e. is_from_start key_cmp kind.start e.0 ≡ true) left
+    pub all : Gathered kind.order now (listed ++ picked left)
 
-  skipped : (after next : Option Key) (q : K) → IsNextKey key_cmp kv after next → is_past key_cmp after (key q) ≡ true → below next q ≡ None
-  skipped after next q is past = ⊎_elim
-      (λ behind. ap (λ t. cond t (now q) None) behind ∙ unseen q (between key_cmp key_total same_key kv after next (key q) is past behind))
-      (λ off. ap (λ t. cond t (now q) None) off)
-      (cases_Bool (is_before key_cmp next (key q)))
+  module _ (nothing : (k : K) → value k None ≡ None) where
+    one_found : (k : K) (e : Key × Value) (es : List (Key × Value)) (o : Option K) → kind.of_key e.0 ≡ o → (is_at (key_cmp (kind.key k)) e.0 ≡ true → found k es ≡ None) → lookup (is_at (kind.order k)) (picked es) ≡ told k (found k es) → lookup (is_at (kind.order k)) (one_picked o e.1 (picked es)) ≡ told k (found k (e ∷ es))
+    one_found k e es None is gone rest =
+        ⊎_elim
+        (λ here. let bad : Some k ≡ None = sym (kind.back k) ∙ ap kind.of_key (at_same (kind.key k) e.0 here) ∙ is in absurd (cc))
+        (λ apart. rest ∙ sym (ap (λ b. told k (cond b (Some e.1) (found k es))) apart))
+        (cases_Bool (is_at (key_cmp (kind.key k)) e.0))
+    one_found k e es (Some j) is gone rest =
+        let same : is_at (key_cmp (kind.key k)) e.0 ≡ is_at (kind.order k) j = ap (is_at (key_cmp (kind.key k))) (kind.only e.0 j is) ∙ ap is_eq (kind.alike k j) in
+        let new : Option X = value j (Some (plain e.1)) in
+        row_found (is_at (kind.order k)) j new (picked es) (λ here. rest ∙ ap (told k) (gone (same ∙ here)) ∙ nothing k)
+        ∙ ⊎_elim
+        (λ here. ap (λ b. cond b new (lookup (is_at (kind.order k)) (picked es))) here ∙ ap (λ i. value i (Some (plain e.1))) (sym (kind.exact k j ((Equal-is (kind.order k j)).0 here))) ∙ sym (ap (λ b. told k (cond b (Some e.1) (found k es))) (same ∙ here)))
+        (λ apart. ap (λ b. cond b new (lookup (is_at (kind.order k)) (picked es))) apart ∙ rest ∙ sym (ap (λ b. told k (cond b (Some e.1) (found k es))) (same ∙ apart)))
+        (cases_Bool (is_at (kind.order k) j))
 
-  pub walk_begins : (next : Option Key) → IsNextKey key_cmp kv None next → Walked next []
-  walk_begins next is = record {
-    so_far = record { sorted = tt; each = λ q. sym (skipped None next q is refl) };
-    has_version = reached key_cmp key_total same_key kv None next is;
-  }
+    picked_found : (k : K) (es : List (Key × Value)) → IsStrictlySortedBy key_cmp (keys_of es) → lookup (is_at (kind.order k)) (picked es) ≡ told k (found k es)
+    picked_found k [] h = sym (nothing k)
+    picked_found k (e ∷ es) h =
+        one_found k e es (kind.of_key e.0) refl
+        (λ here. lookup-none (is_at (key_cmp (kind.key k))) es (none_past_head (eq_by_cmp_equiv key_total) (kind.key k) e es (IsDistinct-from_sorted key_cmp (keys_of (e ∷ es)) h) here))
+        (picked_found k es (sorted_tail key_cmp e.0 (keys_of es) h))
 
-  before_next : (k q : Key) (next : Option Key) → IsNextKey key_cmp kv (Some k) next → key_cmp q k ≡ Less → is_before key_cmp next q ≡ true
-  before_next k q None is lt = refl
-  before_next k q (Some n) is lt = ap is_lt (key_total.trans q k n lt (less_is _ is.0))
-
-  at_next : (k : Key) (next : Option Key) → IsNextKey key_cmp kv (Some k) next → is_before key_cmp next k ≡ true
-  at_next k None is = refl
-  at_next k (Some n) is = is.0
-
-  -- a key of another kind
-  module _ (k : Key) (es : List (K × X)) (so_far : Listed (below (Some k)) es) (next : Option Key) (is : IsNextKey key_cmp kv (Some k) next) where
-    off_place : (q : K) (o : Ordering) → key q ≢ k → key_cmp (key q) k ≡ o → cond (is_lt o) (now q) None ≡ below next q
-    off_place q Less off e = sym (ap (λ t. cond t (now q) None) (before_next k (key q) next is e))
-    off_place q Equal off e = absurd (off (same_key (key q) k e))
-    off_place q Greater off e = sym (skipped (Some k) next q is (ap is_lt (key_total.antisymm k (key q) ∙ ap ordering_reverse e)))
-
-    pub walk_skips : ((q : K) → key q ≢ k) → Walked next es
-    walk_skips off = record {
-      so_far = record { sorted = so_far.sorted; each = λ q. so_far.each q ∙ off_place q (key_cmp (key q) k) (off q) refl };
-      has_version = reached key_cmp key_total same_key kv (Some k) next is;
+    pub walk_begins : (kv : Store Key Value) (es : List (Key × Value)) → AreRowsFrom key_cmp kind.start (map_at key_cmp kv kv.number) es → Walked (λ k. value k (shown kv (kind.key k))) [] es
+    walk_begins kv es are = record {
+      ahead = are.ordered;
+      past = rows_past key_total kind.start (map_at key_cmp kv kv.number) es are;
+      all = record {
+        sorted = picked_sorted es are.ordered;
+        each = λ k. picked_found k es are.ordered ∙ ap (told k) (are.each (kind.key k) ∙ ap (λ b. cond b (map_at key_cmp kv kv.number (kind.key k)) None) (kind.begins k));
+      };
     }
 
-  -- a key of this kind, with what it has now
-  module _ (k : K) (es : List (K × X)) (so_far : Listed (below (Some (key k))) es) where
-    fresh : find R k es ≡ None
-    fresh = so_far.each k ∙ ap (λ o. cond (is_lt o) (now k) None) (same k k ∙ tied_itself total k)
+  module _ (now : K → Option X) (listed : List (K × X)) where
+    -- a row of this kind, with what it says listed
+    pub walk_goes_on : (k : K) (v : Value) (more : List (K × X)) (left rest : List (Key × Value)) → left ≡ (kind.key k, v) ∷ rest → more ++ picked rest ≡ listed ++ with_row k (value k (Some (plain v))) (picked rest) → Walked now listed left → Walked now more rest
+    walk_goes_on k v more left rest is step walked =
+        let here = subst (Walked now listed) is walked in
+        record {
+          ahead = sorted_tail key_cmp (kind.key k) (keys_of rest) here.ahead;
+          past = here.past.1;
+          all = subst (Gathered kind.order now) (ap (λ o. listed ++ one_picked o v (picked rest)) (kind.back k) ∙ sym step) here.all;
+        }
 
-    below_it : (x : K) → is_some (find R x es) ≡ true → R x k ≡ Less
-    below_it x found = ⊎_elim
-        (λ lt. sym (same x k) ∙ less_is _ lt)
-        (λ off. absurd (both_ways _ (ap is_some (so_far.each x ∙ ap (λ t. cond t (now x) None) off)) found))
-        (cases_Bool (is_lt (key_cmp (key x) (key k))))
+    none_later : (p : Key) (es : List (Key × Value)) → is_from_start key_cmp kind.start p ≡ true → kind.of_key p ≡ None → AllByRecursion (λ q. key_cmp p q ≡ Less) (keys_of es) → picked es ≡ []
+    none_later p [] from off above = refl
+    none_later p (e ∷ es) from off above =
+        ap (λ o. one_picked o e.1 (picked es)) (kind.ends p e.0 from off above.0) ∙ none_later p es from off above.1
 
-    tied_none : (q : K) → find R q es ≡ cond (eq_by_cmp R q k) None (find R q es)
-    tied_none q = ⊎_elim
-        (λ tie. ap (λ p. find R p es) (exact q k (equal_is _ tie)) ∙ fresh ∙ sym (ap (λ b. cond b None (find R q es)) tie))
-        (λ off. sym (ap (λ b. cond b None (find R q es)) off))
-        (cases_Bool (eq_by_cmp R q k))
+    -- a row of another kind: all is listed
+    pub walk_stops : (e : Key × Value) (left rest : List (Key × Value)) → left ≡ e ∷ rest → kind.of_key e.0 ≡ None → Walked now listed left → Gathered kind.order now listed
+    walk_stops e left rest is off walked =
+        let here = subst (Walked now listed) is walked in
+        let none : picked (e ∷ rest) ≡ [] = ap (λ o. one_picked o e.1 (picked rest)) off ∙ none_later e.0 rest here.past.0 off (sorted_head key_cmp e.0 (keys_of rest) here.ahead) in
+        subst (Gathered kind.order now) (ap (λ l. listed ++ l) none ∙ append-nil listed) here.all
 
-    -- entries with one more, if there is one
-    abbrev pub with_entry : Option X → List (K × X)
-    with_entry None = es
-    with_entry (Some v) = es ++ (k, v) ∷ []
-
-    find-with : (o : Option X) (q : K) → find R q (with_entry o) ≡ cond (eq_by_cmp R q k) o (find R q es)
-    find-with None q = tied_none q
-    find-with (Some v) q = find-append R total es k v q fresh
-
-    sorted-with : (o : Option X) → T (is_sorted R (with_entry o))
-    sorted-with None = so_far.sorted
-    sorted-with (Some v) = is_sorted-push R total es k v below_it so_far.sorted
-
-    module _ (next : Option Key) (is : IsNextKey key_cmp kv (Some (key k)) next) where
-      by_place : (q : K) (o : Ordering) → R q k ≡ o → cond (is_eq o) (now k) (cond (is_lt o) (now q) None) ≡ below next q
-      by_place q Less e = sym (ap (λ t. cond t (now q) None) (before_next (key k) (key q) next is (same q k ∙ e)))
-      by_place q Equal e = let tie : q ≡ k = exact q k e in
-          sym (ap (below next) tie ∙ ap (λ t. cond t (now k) None) (at_next (key k) next is))
-      by_place q Greater e = sym (skipped (Some (key k)) next q is (ap is_lt (key_total.antisymm (key k) (key q) ∙ ap ordering_reverse (same q k ∙ e))))
-
-      pub walk_goes_on : Walked next (with_entry (now k))
-      walk_goes_on = record {
-        so_far = record {
-          sorted = sorted-with (now k);
-          each = λ q. find-with (now k) q
-              ∙ ap (cond (eq_by_cmp R q k) (now k)) (so_far.each q ∙ ap (λ o. cond (is_lt o) (now q) None) (same q k))
-              ∙ by_place q (R q k) refl;
-        };
-        has_version = reached key_cmp key_total same_key kv (Some (key k)) next is;
-      }
+    pub walk_ends : (left : List (Key × Value)) → left ≡ [] → Walked now listed left → Gathered kind.order now listed
+    walk_ends left is walked = subst (Gathered kind.order now) (ap (λ l. listed ++ picked l) is ∙ append-nil listed) walked.all

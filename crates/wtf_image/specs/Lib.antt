@@ -13,3 +13,4 @@ pub mod Outcome
 pub mod Saving
 pub mod Savable
 pub mod Kept
+pub mod Pictured

@@ -1,5 +1,5 @@
 -- What is loaded of an image, and why bytes are refused.
-use Rattle.std.specs.Prelude.{◌≡◌, ℕ, true, false, List, [], Option, None, Some, ⊤}
+use Rattle.std.specs.Prelude.{◌≡◌, ℕ, Bool, true, false, List, [], Option, None, Some, ⊤}
 use Rattle.wtf_base.specs.declared.settings.Settings.{Settings}
 use Rattle.wtf_kv.specs.Stores.{Store, versions_of}
 use Rattle.wtf_values.specs.Keys.{key_cmp}
@@ -11,7 +11,7 @@ use Rattle.wtf_image.specs.declared.error.LoadError.TheVariants as error
 use Rattle.wtf_image.specs.Rows.{ImageRows}
 use Rattle.wtf_image.specs.Images.{HasText, IsNoImage}
 use Rattle.wtf_image.specs.Lookups.{Plain, row_at}
-use Rattle.wtf_image.specs.Rules.{AreGoodSettings, IsGoodTree, are_inside}
+use Rattle.wtf_image.specs.Rules.{AreGoodSettings, IsGoodTree, none_lost, are_inside_without}
 use Rattle.wtf_image.specs.Seeds.{IsOnly}
 use Rattle.wtf_image.specs.Tables.{shown, ShowsRows}
 
@@ -77,33 +77,42 @@ pub record HasBadTree (bytes : List ℕ) : Type 0 where
   pub good : AreGoodSettings rows
   pub bad : IsGoodTree rows → ⊥
 
--- an image with good settings and a good tree that names bytes outside the stores, whose files have these sizes
-pub record HasPointerOutside (size : ℕ → ℕ → ℕ) (bytes : List ℕ) : Type 0 where
+-- an image with good settings and a good tree that names bytes outside the stores, whose files have these sizes; the sizes on
+-- lost servers are not looked at
+pub record HasPointerOutside (lost : ℕ → Bool) (size : ℕ → ℕ → ℕ) (bytes : List ℕ) : Type 0 where
   pub rows : ImageRows
   pub text : HasText rows bytes
   pub good : AreGoodSettings rows
   pub tree : IsGoodTree rows
-  pub outside : are_inside size rows ≡ false
+  pub outside : are_inside_without lost size rows ≡ false
 
 -- why bytes are refused: the first rule that they break; memory may be wanted at any time
-abbrev pub IsRefusal : (ℕ → ℕ → ℕ) → List ℕ → LoadError → Type 0
-IsRefusal size bytes error.NotAnImage = IsNoImage bytes
-IsRefusal size bytes error.BadSettings = HasBadSettings bytes
-IsRefusal size bytes error.BadTree = HasBadTree bytes
-IsRefusal size bytes error.PointerOutside = HasPointerOutside size bytes
-IsRefusal size bytes error.Memory = ⊤
+abbrev pub IsRefusalWithout : (ℕ → Bool) → (ℕ → ℕ → ℕ) → List ℕ → LoadError → Type 0
+IsRefusalWithout lost size bytes error.NotAnImage = IsNoImage bytes
+IsRefusalWithout lost size bytes error.BadSettings = HasBadSettings bytes
+IsRefusalWithout lost size bytes error.BadTree = HasBadTree bytes
+IsRefusalWithout lost size bytes error.PointerOutside = HasPointerOutside lost size bytes
+IsRefusalWithout lost size bytes error.Memory = ⊤
 
--- the same of an image with good settings
-abbrev pub IsLateRefusal : (ℕ → ℕ → ℕ) → ImageRows → LoadError → Type 0
-IsLateRefusal size x error.NotAnImage = ⊥
-IsLateRefusal size x error.BadSettings = ⊥
-IsLateRefusal size x error.BadTree = IsGoodTree x → ⊥
-IsLateRefusal size x error.PointerOutside = IsGoodTree x × (are_inside size x ≡ false)
-IsLateRefusal size x error.Memory = ⊤
+-- the same where no server is lost
+abbrev pub IsRefusal : (ℕ → ℕ → ℕ) → List ℕ → LoadError → Type 0
+IsRefusal size bytes why = IsRefusalWithout none_lost size bytes why
+
+-- why an image with good settings is refused
+abbrev pub IsLateRefusal : (ℕ → Bool) → (ℕ → ℕ → ℕ) → ImageRows → LoadError → Type 0
+IsLateRefusal lost size x error.NotAnImage = ⊥
+IsLateRefusal lost size x error.BadSettings = ⊥
+IsLateRefusal lost size x error.BadTree = IsGoodTree x → ⊥
+IsLateRefusal lost size x error.PointerOutside = IsGoodTree x × (are_inside_without lost size x ≡ false)
+IsLateRefusal lost size x error.Memory = ⊤
 
 -- the bytes are an image that breaks no rule
-pub record IsTaken (size : ℕ → ℕ → ℕ) (bytes : List ℕ) (x : ImageRows) : Type 0 where
+pub record IsTakenWithout (lost : ℕ → Bool) (size : ℕ → ℕ → ℕ) (bytes : List ℕ) (x : ImageRows) : Type 0 where
   pub text : HasText x bytes
   pub good : AreGoodSettings x
   pub tree : IsGoodTree x
-  pub inside : are_inside size x ≡ true
+  pub inside : are_inside_without lost size x ≡ true
+
+-- the same where no server is lost
+abbrev pub IsTaken : (ℕ → ℕ → ℕ) → List ℕ → ImageRows → Type 0
+IsTaken size bytes x = IsTakenWithout none_lost size bytes x

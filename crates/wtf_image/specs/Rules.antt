@@ -1,5 +1,6 @@
 -- Which images are taken: the rules of settings and numbers, of the tree, and of pointers.
-use Rattle.std.specs.Prelude.{◌≡◌, ℕ, ◌<◌, ◌≤◌, ◌^◌, Bool, true, false, ◌&&◌, ◌||◌, ◌==◌, nat_lt, nat_le, count_by, List, Option, None, Some, is_some}
+use Rattle.std.specs.Prelude.{◌≡◌, ℕ, ◌+◌, ◌<◌, ◌≤◌, ◌^◌, Bool, true, false, ◌&&◌, ◌||◌, ◌==◌, nat_lt, nat_le, count_by, List, Option, None, Some, is_some}
+use Rattle.std.specs.Int.{bit_at}
 use Rattle.std.specs.List.{list_all, list_any}
 use Rattle.std.specs.Ordering.{is_eq}
 use Rattle.wtf_base.specs.Limits.{AreSettings}
@@ -88,20 +89,50 @@ pub record IsGoodTree (x : ImageRows) : Type 0 where
 
 -- ---- pointers
 
-abbrev pub is_part_inside : ℕ → (ℕ → ℕ → ℕ) → Option (List Pointer) → Bool
-is_part_inside servers size None = true
-is_part_inside servers size (Some ps) = list_all (lies_inside servers size) ps
+-- the servers whose bits a mask sets, and no server
+abbrev pub is_lost : ℕ → ℕ → Bool
+is_lost mask k = bit_at mask k == 1
 
-abbrev pub is_base_inside : ℕ → (ℕ → ℕ → ℕ) → Option BaseRow → Bool
-is_base_inside servers size None = true
-is_base_inside servers size (Some b) = list_all (lies_inside servers size) b.pointers
+abbrev pub none_lost : ℕ → Bool
+none_lost k = false
 
-abbrev pub is_region_inside : ℕ → (ℕ → ℕ → ℕ) → RegionRow → Bool
-is_region_inside servers size r = is_base_inside servers size r.base && list_all (λ e. is_part_inside servers size e.part) r.entries
+-- an extent lies inside the stores of so many servers, in one of their eight files, where each file has such a size; the sizes
+-- on lost servers are not looked at
+abbrev pub lies_inside_without : (ℕ → Bool) → ℕ → (ℕ → ℕ → ℕ) → Pointer → Bool
+lies_inside_without lost servers size p =
+    nat_lt p.server.0 servers && (nat_lt p.file 8 && (lost p.server.0 || nat_le (p.at + p.len) (size p.server.0 p.file)))
 
-abbrev pub is_file_inside : ℕ → (ℕ → ℕ → ℕ) → FileRow → Bool
-is_file_inside servers size f = list_all (is_region_inside servers size) f.regions
+abbrev pub is_part_inside_without : (ℕ → Bool) → ℕ → (ℕ → ℕ → ℕ) → Option (List Pointer) → Bool
+is_part_inside_without lost servers size None = true
+is_part_inside_without lost servers size (Some ps) = list_all (lies_inside_without lost servers size) ps
+
+abbrev pub is_base_inside_without : (ℕ → Bool) → ℕ → (ℕ → ℕ → ℕ) → Option BaseRow → Bool
+is_base_inside_without lost servers size None = true
+is_base_inside_without lost servers size (Some b) = list_all (lies_inside_without lost servers size) b.pointers
+
+abbrev pub is_region_inside_without : (ℕ → Bool) → ℕ → (ℕ → ℕ → ℕ) → RegionRow → Bool
+is_region_inside_without lost servers size r =
+    is_base_inside_without lost servers size r.base && list_all (λ e. is_part_inside_without lost servers size e.part) r.entries
+
+abbrev pub is_file_inside_without : (ℕ → Bool) → ℕ → (ℕ → ℕ → ℕ) → FileRow → Bool
+is_file_inside_without lost servers size f = list_all (is_region_inside_without lost servers size) f.regions
 
 -- all pointers of an image lie inside the stores; those in its spilled lists are not looked at
+abbrev pub are_inside_without : (ℕ → Bool) → (ℕ → ℕ → ℕ) → ImageRows → Bool
+are_inside_without lost size x = list_all (is_file_inside_without lost x.header.servers size) x.files
+
+-- the same where no server is lost
+abbrev pub is_part_inside : ℕ → (ℕ → ℕ → ℕ) → Option (List Pointer) → Bool
+is_part_inside servers size part = is_part_inside_without none_lost servers size part
+
+abbrev pub is_base_inside : ℕ → (ℕ → ℕ → ℕ) → Option BaseRow → Bool
+is_base_inside servers size base = is_base_inside_without none_lost servers size base
+
+abbrev pub is_region_inside : ℕ → (ℕ → ℕ → ℕ) → RegionRow → Bool
+is_region_inside servers size r = is_region_inside_without none_lost servers size r
+
+abbrev pub is_file_inside : ℕ → (ℕ → ℕ → ℕ) → FileRow → Bool
+is_file_inside servers size f = is_file_inside_without none_lost servers size f
+
 abbrev pub are_inside : (ℕ → ℕ → ℕ) → ImageRows → Bool
-are_inside size x = list_all (is_file_inside x.header.servers size) x.files
+are_inside size x = are_inside_without none_lost size x

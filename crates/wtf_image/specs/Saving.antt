@@ -7,7 +7,7 @@ use Rattle.wtf_base.specs.declared.settings.Settings.{Settings}
 use Rattle.wtf_kv.specs.Stores.{Store}
 use Rattle.wtf_values.specs.Keys.{inode_cmp}
 use Rattle.wtf_values.specs.declared.key.Key.{Key}
-use Rattle.wtf_values.specs.declared.key.Key.TheVariants.{Path, Dir, Inode, Region}
+use Rattle.wtf_values.specs.declared.key.Key.TheVariants.{Path, Inode, Region}
 use Rattle.wtf_values.specs.declared.value.Node.{Node}
 use Rattle.wtf_values.specs.declared.value.Value.{Value}
 use Rattle.wtf_image.specs.declared.records.Header.{Header}
@@ -16,7 +16,7 @@ use Rattle.wtf_image.specs.Rows.{RegionRow, FileRow, ImageRows}
 use Rattle.wtf_image.specs.Shapes.{ascends, path_before, file_before}
 use Rattle.wtf_image.specs.Images.{HasText}
 use Rattle.wtf_image.specs.Seeds.{AreRegionsAscending}
-use Rattle.wtf_image.specs.Lookups.{Plain, NodeIs, NamesAre, LastIs, RegionIs, node_at}
+use Rattle.wtf_image.specs.Lookups.{Plain, NodeIs, NamesAre, LastIs, RegionIs, plain, node_at}
 use Rattle.wtf_image.specs.Tables.{Shown, shown}
 
 -- what a path's value says that stands there
@@ -69,18 +69,12 @@ file_entry f = (f.inode, f)
 abbrev pub file_at : List FileRow → InodeId → Option FileRow
 file_at fs i = find inode_cmp i (map file_entry fs)
 
--- the records of a path and of a key, if they are due
-abbrev pub path_due : Shown → Key → Option PathRecord
-path_due m (Path p) = option_map (λ n. record { path = p; node = n }) (node_now (m (Path p)))
-path_due m (Dir p) = None
-path_due m (Inode i) = None
-path_due m (Region i r) = None
+-- the records of a path and of a file, by the value of its key, if they are due
+abbrev pub path_due : List ℕ → Value → Option PathRecord
+path_due p v = option_map (λ n. record { path = p; node = n }) (node_now (Some (plain v)))
 
-abbrev pub file_due : Shown → Key → Option FileRow
-file_due m (Path p) = None
-file_due m (Dir p) = None
-file_due m (Inode i) = file_now m i
-file_due m (Region i r) = None
+abbrev pub file_due : Shown → InodeId → Value → Option FileRow
+file_due m i v = option_map (file_with m i) (last_now (Some (plain v)))
 
 -- these are the records of all paths, and of all files, in order
 pub record ArePathsOf (m : Shown) (rs : List PathRecord) : Type 0 where

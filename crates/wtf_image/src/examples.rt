@@ -1,6 +1,7 @@
 //! What the definitions say, as contracts of functions that do nothing.
 
-ghost use Rattle.std.specs.Prelude.{◌≡◌, ◌<◌, ◌++◌, ℕ, List, []};
+ghost use Rattle.std.specs.Prelude.{◌≡◌, ◌<◌, ◌++◌, ℕ, Bool, false, List, []};
+ghost use Rattle.wtf_base.specs.declared.pointer.Pointer.{Pointer};
 ghost use Rattle.wtf_base.specs.declared.settings.Settings.{Settings};
 ghost use Rattle.wtf_kv.specs.Stores.{Store};
 ghost use Rattle.wtf_values.specs.declared.key.Key.{Key};
@@ -15,7 +16,8 @@ ghost use Rattle.wtf_image.specs.Tables.{shown};
 ghost use Rattle.wtf_image.specs.Savable.{AreBefore, IsSavable};
 ghost use Rattle.wtf_image.specs.Rows.{ImageRows};
 ghost use Rattle.wtf_image.specs.Images.{HasText};
-ghost use Rattle.wtf_image.specs.Loading.{IsRefusal};
+ghost use Rattle.wtf_image.specs.Rules.{is_lost, none_lost, lies_inside, lies_inside_without};
+ghost use Rattle.wtf_image.specs.Loading.{IsRefusal, IsTaken, IsTakenWithout};
 ghost use Rattle.wtf_image.specs.Outcome.{IsLoadOf};
 ghost use Rattle.wtf_image.specs.Saving.{IsSaveOf};
 ghost use Rattle.wtf_image.specs.Kept.{IsKept, IsSameAs, IsPointerOrMemory};
@@ -52,4 +54,14 @@ pub fn what_stands_can_be_saved()
     ensures { (b : ℕ) (told : Told) (tx calls n : ℕ) (kv : Store Key Value) (t : Tree) →
         Stands b told tx calls (metadata_at kv kv.number) t → 0 < n →
         AreBefore n (metadata_at kv kv.number) → IsSavable b n (shown kv) }
+{}
+
+/// A mask without a bit names no server, and where none is lost each extent is tried whole. What is taken
+/// with all servers is taken without some of them.
+pub fn what_is_lost_is_not_tried()
+    ensures none { (k : ℕ) → is_lost 0 k ≡ false }
+    ensures whole { (servers : ℕ) (size : ℕ → ℕ → ℕ) (p : Pointer) →
+        lies_inside_without none_lost servers size p ≡ lies_inside servers size p }
+    ensures more { (lost : ℕ → Bool) (size : ℕ → ℕ → ℕ) (bytes : List ℕ) (x : ImageRows) →
+        IsTaken size bytes x → IsTakenWithout lost size bytes x }
 {}

@@ -6,98 +6,83 @@ ghost use Rattle.wtf_values.specs.declared.value.Value.TheVariants as values;
 ghost use Rattle.wtf_image.specs.Rows.{region_row, region_rows, file_row, file_rows};
 ghost use Rattle.wtf_image.specs.Lookups.{plain};
 ghost use Rattle.wtf_image.specs.Tables.{shown};
-ghost use Rattle.wtf_image.specs.Saving.{node_now, last_now, region_now, region_in, with_one, file_with, path_due, file_due, ArePathsOf, AreFilesOf};
+ghost use Rattle.wtf_image.specs.Saving.{region_now, region_in, with_one, file_with, path_due, file_due, ArePathsOf, AreFilesOf};
 
 use crate::records::{FileRecord, PathRecord, RegionRecord};
 use std::alloc::Global;
-use wtf_base::{InodeId, OutOfMemory};
+use std::ops::Bound;
+use wtf_base::{InodeId, OutOfMemory, TxId};
 use wtf_kv::Kv;
+use wtf_path::Path;
 use wtf_values::{Key, Node, RegionValue, Value};
 
-/// What stands at each path, in the order of paths.
+/// What stands at each path, in the order of paths: paths are the first of the keys.
 pub(crate) fn paths_now(alloc: Global, kv: &Kv<Key, Value>) -> Result<Vec<PathRecord>, OutOfMemory>
     ensures { IfOk result (λ v. ArePathsOf (shown kv.now) v.items) }
 {
     let mut paths = Vec::new(alloc);
-    let mut at = kv.next_key(None);
-    while let Some(key) = at {
-        add_path(alloc, kv, key, &mut paths)?;
-        at = kv.next_key(Some(key));
+    for (key, value) in kv.rows(kv.number(), Bound::Unbounded) {
+        let Key::Path(path) = key else {
+            return Ok(paths);
+        };
+        add_path(alloc, path, value, &mut paths)?;
     }
     Ok(paths)
 }
 
-/// Adds what stands at a path, where the key is one's.
+/// Adds what stands at a path.
 fn add_path(
     alloc: Global,
-    kv: &Kv<Key, Value>,
-    key: &Key,
+    path: &Path,
+    value: &Value,
     paths: &mut Vec<PathRecord>,
 ) -> Result<(), OutOfMemory>
     ensures { OnOk result (paths.new.items ≡
-        with_one paths.old.items (path_due (shown kv.now) key.now)) }
+        with_one paths.old.items (path_due path.now value.now)) }
 {
-    let Key::Path(path) = key else {
-        return Ok(());
-    };
-    let Some(node) = node_of(kv, key) else {
+    let Value::Node(node) = value else {
         return Ok(());
     };
     let path = path.copy(alloc)?;
-    paths.push(PathRecord { path, node })?;
+    paths.push(PathRecord { path, node: *node })?;
     Ok(())
 }
 
-fn node_of(kv: &Kv<Key, Value>, key: &Key) -> Option<Node>
-    ensures { result ≡ node_now (shown kv.now key.now) }
-{
-    match kv.read_at(kv.number(), key) {
-        Some(Value::Node(node)) => Some(*node),
-        _ => None,
-    }
-}
-
-/// The files, in the order of inodes.
+/// The files, in the order of inodes, behind which only regions come.
 pub(crate) fn files_now(alloc: Global, kv: &Kv<Key, Value>) -> Result<Vec<FileRecord>, OutOfMemory>
     ensures { IfOk result (λ v. AreFilesOf (shown kv.now) (file_rows v.items)) }
 {
+    let first = Key::Inode(InodeId {
+        tx: TxId(0),
+        index: 0,
+    });
     let mut files = Vec::new(alloc);
-    let mut at = kv.next_key(None);
-    while let Some(key) = at {
-        add_file(alloc, kv, key, &mut files)?;
-        at = kv.next_key(Some(key));
+    for (key, value) in kv.rows(kv.number(), Bound::Included(&first)) {
+        let Key::Inode(inode) = key else {
+            return Ok(files);
+        };
+        add_file(alloc, kv, *inode, value, &mut files)?;
     }
     Ok(files)
 }
 
-/// Adds a file, where the key is one's.
+/// Adds a file.
 fn add_file(
     alloc: Global,
     kv: &Kv<Key, Value>,
-    key: &Key,
+    inode: InodeId,
+    value: &Value,
     files: &mut Vec<FileRecord>,
 ) -> Result<(), OutOfMemory>
     ensures { OnOk result (file_rows files.new.items ≡
-        with_one (file_rows files.old.items) (file_due (shown kv.now) key.now)) }
+        with_one (file_rows files.old.items) (file_due (shown kv.now) inode value.now)) }
 {
-    let Key::Inode(inode) = key else {
+    let Value::Last(last) = value else {
         return Ok(());
     };
-    let Some(last) = last_of(kv, key) else {
-        return Ok(());
-    };
-    let file = file_of(alloc, kv, *inode, last)?;
+    let file = file_of(alloc, kv, inode, *last)?;
     files.push(file)?;
     Ok(())
-}
-
-fn last_of(kv: &Kv<Key, Value>, key: &Key) -> Option<u16>
-    ensures { result ≡ last_now (shown kv.now key.now) }
-{
-    match kv.read_at(kv.number(), key) {
-        Some(Value::Last(last)) => Some(*last),
-        _ => None,
-    }
 }
 
 /// A file with its regions up to the last one. It takes the time of a search for each number up to it.

@@ -19,5 +19,5 @@ mod tree;
 mod writer;
 
 pub use error::LoadError;
-pub use loads::{Loaded, check, load};
+pub use loads::{Loaded, check, load, load_without};
 pub use saving::save;

@@ -10,9 +10,9 @@ ghost use Rattle.wtf_image.specs.Shapes.{ascends, path_before, IsImage};
 ghost use Rattle.wtf_image.specs.Images.{HasText};
 ghost use Rattle.wtf_image.specs.Seeds.{Adds, dir_seed};
 ghost use Rattle.wtf_image.specs.Tables.{shown, ShowsRows};
-ghost use Rattle.wtf_image.specs.Rules.{AreGoodSettings, IsGoodTree, size_in, are_inside};
-ghost use Rattle.wtf_image.specs.Loading.{IsChecked, IsRefusal, IsCheckRefusal, IsLateRefusal, IsPartly};
-ghost use Rattle.wtf_image.specs.Outcome.{IsLoadOf};
+ghost use Rattle.wtf_image.specs.Rules.{AreGoodSettings, IsGoodTree, size_in, is_lost, are_inside_without};
+ghost use Rattle.wtf_image.specs.Loading.{IsChecked, IsRefusal, IsRefusalWithout, IsCheckRefusal, IsLateRefusal, IsPartly};
+ghost use Rattle.wtf_image.specs.Outcome.{IsLoadOf, IsLoadWithout};
 
 use crate::LoadError;
 use crate::inside::are_files_inside;
@@ -81,18 +81,21 @@ fn add_names(
 }
 
 /// Whether the tree and the pointers of an image with good settings are good; the store has its files
-/// and paths.
+/// and paths, and a server is lost where its bit is set.
 fn try_rules<S: SliceStore>(
     alloc: Global,
     kv: &Kv<Key, Value>,
     image: &Image,
     shelf: &Shelf<S>,
+    lost: u16,
 ) -> Result<(), LoadError>
     requires rows { ShowsRows (shown kv.now) (rows_of image.now).paths (rows_of image.now).files }
     requires shelf { image.now.header.servers ≤ length shelf.now }
     ensures tree { OnOk result (IsGoodTree (rows_of image.now)) }
-    ensures inside { OnOk result (are_inside (size_in S.kind shelf.now) (rows_of image.now) ≡ true) }
-    ensures cause { IfErr result (IsLateRefusal (size_in S.kind shelf.now) (rows_of image.now)) }
+    ensures inside { OnOk result (are_inside_without (is_lost lost)
+        (size_in S.kind shelf.now) (rows_of image.now) ≡ true) }
+    ensures cause { IfErr result (IsLateRefusal (is_lost lost)
+        (size_in S.kind shelf.now) (rows_of image.now)) }
 {
     let good = match is_tree(alloc, kv, image) {
         Ok(good) => good,
@@ -101,7 +104,7 @@ fn try_rules<S: SliceStore>(
     if !good {
         return Err(LoadError::BadTree);
     }
-    if !are_files_inside(image.header.servers, shelf, image.files.as_slice()) {
+    if !are_files_inside(lost, image.header.servers, shelf, image.files.as_slice()) {
         return Err(LoadError::PointerOutside);
     }
     Ok(())
@@ -121,6 +124,24 @@ pub fn load<S: SliceStore>(
     ensures loaded { IfOk result (IsLoadOf (size_in S.kind shelf.now) bytes.now) }
     ensures cause { IfErr result (IsRefusal (size_in S.kind shelf.now) bytes.now) }
 {
+    load_without(alloc, bytes, shelf, 0)
+}
+
+/// As `load`, where server k is lost if bit k of `lost` is set. The store of a lost server may have any
+/// length, which is not looked at: a pointer to it lies outside only if the server is none of the
+/// image's, or the file none of the eight.
+pub fn load_without<S: SliceStore>(
+    alloc: Global,
+    bytes: &[u8],
+    shelf: &Shelf<S>,
+    lost: u16,
+) -> Result<Loaded, LoadError>
+    requires { (x : ImageRows) → HasText x bytes.now → AreGoodSettings x →
+        x.header.servers ≤ length shelf.now }
+    ensures loaded { IfOk result (IsLoadWithout (is_lost lost) (size_in S.kind shelf.now) bytes.now) }
+    ensures cause { IfErr result (IsRefusalWithout (is_lost lost)
+        (size_in S.kind shelf.now) bytes.now) }
+{
     let image = match parse(alloc, bytes) {
         Ok(image) => image,
         Err(why) => return Err(why),
@@ -133,7 +154,7 @@ pub fn load<S: SliceStore>(
         Ok(kv) => kv,
         Err(_) => return Err(LoadError::Memory),
     };
-    match try_rules(alloc, &kv, &image, shelf) {
+    match try_rules(alloc, &kv, &image, shelf, lost) {
         Ok(()) => {}
         Err(why) => return Err(why),
     }

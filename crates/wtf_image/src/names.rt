@@ -109,6 +109,7 @@ pub(crate) fn seed_dirs(
     Ok(())
 }
 
+/// Gives a directory the names in it, and a file nothing. The store has none at the path yet.
 fn seed_dir(
     alloc: Global,
     kv: &mut Kv<Key, Value>,

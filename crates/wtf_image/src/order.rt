@@ -6,6 +6,7 @@ ghost use Rattle.wtf_image.specs.Shapes.{ascends, path_before, file_before, regi
 
 use crate::records::{FileRecord, PathRecord, RegionRecord};
 
+/// Whether each path comes before the next one.
 pub(crate) fn paths_ascend(paths: &[PathRecord]) -> bool
     ensures { result ≡ ascends path_before paths.now }
 {
@@ -22,6 +23,7 @@ pub(crate) fn paths_ascend(paths: &[PathRecord]) -> bool
     true
 }
 
+/// Whether each inode comes before the next one.
 pub(crate) fn files_ascend(files: &[FileRecord]) -> bool
     ensures { result ≡ ascends file_before (file_rows files.now) }
 {
@@ -38,6 +40,7 @@ pub(crate) fn files_ascend(files: &[FileRecord]) -> bool
     true
 }
 
+/// Whether each number comes before the next one.
 pub(crate) fn regions_ascend(regions: &[RegionRecord]) -> bool
     ensures { result ≡ ascends region_before (region_rows regions.now) }
 {

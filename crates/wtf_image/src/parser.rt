@@ -52,6 +52,7 @@ fn base_of(end: u32, bytes: &[u8]) -> Result<(Option<Spill>, &[u8]), ListError>
     }
 }
 
+/// A region, whose entries lie inside it.
 #[tactic(auto, unfolding(crate::specs::Reading::region_at))]
 fn region_of(alloc: Global, bytes: &[u8]) -> Result<(RegionRecord, &[u8]), ListError>
     ensures { Gives (λ x. (region_row x.0, x.1.now)) result (region_at bytes.now) }
@@ -65,6 +66,7 @@ fn region_of(alloc: Global, bytes: &[u8]) -> Result<(RegionRecord, &[u8]), ListE
     Ok((RegionRecord { number, value }, rest))
 }
 
+/// So many regions, in whatever order they stand.
 fn regions_of(
     alloc: Global,
     count: u16,
@@ -83,6 +85,7 @@ fn regions_of(
     Ok((regions, rest))
 }
 
+/// An inode: its transaction, and its index.
 #[tactic(auto, unfolding(crate::specs::Reading::inode_at))]
 fn inode_of(bytes: &[u8]) -> Result<(InodeId, &[u8]), ListError>
     ensures { Gives (λ x. (x.0, x.1.now)) result (inode_at bytes.now) }
@@ -96,6 +99,7 @@ fn inode_of(bytes: &[u8]) -> Result<(InodeId, &[u8]), ListError>
     Ok((inode, rest))
 }
 
+/// A file, whose regions ascend.
 #[tactic(auto, unfolding(crate::specs::Reading::file_at))]
 fn file_of(alloc: Global, bytes: &[u8]) -> Result<(FileRecord, &[u8]), ListError>
     ensures { Gives (λ x. (file_row x.0, x.1.now)) result (file_at bytes.now) }
@@ -115,6 +119,7 @@ fn file_of(alloc: Global, bytes: &[u8]) -> Result<(FileRecord, &[u8]), ListError
     Ok((file, rest))
 }
 
+/// So many files, in whatever order they stand.
 fn some_files_of(
     alloc: Global,
     count: u32,
@@ -133,6 +138,7 @@ fn some_files_of(
     Ok((files, rest))
 }
 
+/// The files, which ascend, behind their number.
 #[tactic(auto, unfolding(crate::specs::Reading::files_at))]
 fn files_of(alloc: Global, bytes: &[u8]) -> Result<(Vec<FileRecord>, &[u8]), ListError>
     ensures { Gives (λ x. (file_rows x.0.items, x.1.now)) result (files_at bytes.now) }
@@ -145,6 +151,7 @@ fn files_of(alloc: Global, bytes: &[u8]) -> Result<(Vec<FileRecord>, &[u8]), Lis
     Ok((files, rest))
 }
 
+/// What stands at a path: 0 for a directory, 1 and the inode for a file.
 #[tactic(auto, unfolding(crate::specs::Reading::node_at))]
 fn node_of(bytes: &[u8]) -> Result<(Node, &[u8]), ListError>
     ensures { Gives (λ x. (x.0, x.1.now)) result (node_at bytes.now) }
@@ -160,6 +167,7 @@ fn node_of(bytes: &[u8]) -> Result<(Node, &[u8]), ListError>
     }
 }
 
+/// So many bytes.
 #[tactic(auto, unfolding(wtf_overlay::specs::Reading::text_at))]
 fn text_of(len: u16, bytes: &[u8]) -> Result<(&[u8], &[u8]), ListError>
     ensures { Gives (λ x. (x.0.now, x.1.now)) result (text_at len bytes.now) }
@@ -192,6 +200,7 @@ fn no_path(why: PathError) -> ListError
     }
 }
 
+/// A path behind its length.
 #[tactic(auto, unfolding(crate::specs::Reading::name_at))]
 fn name_of(alloc: Global, bytes: &[u8]) -> Result<(Path, &[u8]), ListError>
     ensures { Gives (λ x. (x.0, x.1.now)) result (name_at bytes.now) }
@@ -202,6 +211,7 @@ fn name_of(alloc: Global, bytes: &[u8]) -> Result<(Path, &[u8]), ListError>
     Ok((path, rest))
 }
 
+/// A path, and what stands there.
 #[tactic(auto, unfolding(crate::specs::Reading::path_at))]
 fn path_of(alloc: Global, bytes: &[u8]) -> Result<(PathRecord, &[u8]), ListError>
     ensures { Gives (λ x. (x.0, x.1.now)) result (path_at bytes.now) }
@@ -211,6 +221,7 @@ fn path_of(alloc: Global, bytes: &[u8]) -> Result<(PathRecord, &[u8]), ListError
     Ok((PathRecord { path, node }, rest))
 }
 
+/// So many paths, in whatever order they stand.
 fn some_paths_of(
     alloc: Global,
     count: u32,
@@ -228,6 +239,7 @@ fn some_paths_of(
     Ok((paths, rest))
 }
 
+/// The paths, which ascend, behind their number.
 #[tactic(auto, unfolding(crate::specs::Reading::paths_at))]
 fn paths_of(alloc: Global, bytes: &[u8]) -> Result<(Vec<PathRecord>, &[u8]), ListError>
     ensures { Gives (λ x. (x.0.items, x.1.now)) result (paths_at bytes.now) }
@@ -240,6 +252,7 @@ fn paths_of(alloc: Global, bytes: &[u8]) -> Result<(Vec<PathRecord>, &[u8]), Lis
     Ok((paths, rest))
 }
 
+/// The first bytes of every image; it gives what stands behind them.
 #[tactic(auto, unfolding(crate::specs::Reading::magic_at))]
 fn magic_of(bytes: &[u8]) -> Result<&[u8], ListError>
     ensures { Gives (λ x. (magic, x.now)) result (magic_at bytes.now) }
@@ -251,6 +264,7 @@ fn magic_of(bytes: &[u8]) -> Result<&[u8], ListError>
     Ok(rest)
 }
 
+/// The settings and the two numbers, whether or not they keep their limits.
 #[tactic(auto, unfolding(crate::specs::Reading::header_at))]
 fn header_of(bytes: &[u8]) -> Result<(Header, &[u8]), ListError>
     ensures { Gives (λ x. (x.0, x.1.now)) result (header_at bytes.now) }
@@ -270,6 +284,7 @@ fn header_of(bytes: &[u8]) -> Result<(Header, &[u8]), ListError>
     Ok((header, rest))
 }
 
+/// An image, with no byte behind it.
 #[tactic(auto, unfolding(crate::specs::Reading::image_of, crate::specs::Reading::image_at))]
 pub(crate) fn image_of(alloc: Global, bytes: &[u8]) -> Result<Image, ListError>
     ensures { Gives rows_of result (image_of bytes.now) }

@@ -12,6 +12,7 @@ use wtf_base::OutOfMemory;
 use wtf_overlay::{Entry, Overlay};
 use wtf_spillfmt::{ListError, entries_of};
 
+/// A number of two bytes.
 #[tactic(auto, unfolding(wtf_overlay::specs::Reading::number_at))]
 pub(crate) fn u16_at(bytes: &[u8]) -> Result<(u16, &[u8]), ListError>
     ensures { Gives (λ x. (x.0, x.1.now)) result (number_at w16 bytes.now) }

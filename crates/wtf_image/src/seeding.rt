@@ -33,6 +33,7 @@ pub(crate) fn seed_paths(
     Ok(())
 }
 
+/// Gives a path what stands there. The store has nothing at it yet.
 fn seed_path(alloc: Global, kv: &mut Kv<Key, Value>, entry: &PathRecord) -> Result<(), OutOfMemory>
     requires pins { kv.old.pins ≡ [] }
     requires fresh { versions_of key_cmp kv.old (keys.Path entry.now.path) ≡ [] }
@@ -58,6 +59,7 @@ pub(crate) fn seed_files(kv: &mut Kv<Key, Value>, files: &[FileRecord]) -> Resul
     Ok(())
 }
 
+/// Gives a file its last region and its regions, which ascend. The store has nothing of it yet.
 fn seed_file(kv: &mut Kv<Key, Value>, file: &FileRecord) -> Result<(), OutOfMemory>
     requires pins { kv.old.pins ≡ [] }
     requires ascend { ascends region_before (region_rows file.now.regions.items) ≡ true }
@@ -70,6 +72,7 @@ fn seed_file(kv: &mut Kv<Key, Value>, file: &FileRecord) -> Result<(), OutOfMemo
     Ok(())
 }
 
+/// Gives a file the number of its last region. The store has none yet.
 fn seed_last(kv: &mut Kv<Key, Value>, inode: InodeId, last: u16) -> Result<(), OutOfMemory>
     requires pins { kv.old.pins ≡ [] }
     requires fresh { versions_of key_cmp kv.old (keys.Inode inode) ≡ [] }
@@ -78,6 +81,7 @@ fn seed_last(kv: &mut Kv<Key, Value>, inode: InodeId, last: u16) -> Result<(), O
     kv.seed(Key::Inode(inode), Value::Last(last))
 }
 
+/// Gives a file its regions, which ascend. The store has none of them yet.
 fn seed_regions(
     kv: &mut Kv<Key, Value>,
     inode: InodeId,
@@ -95,6 +99,7 @@ fn seed_regions(
     Ok(())
 }
 
+/// Gives a file a region that the store does not have yet.
 fn seed_region(
     kv: &mut Kv<Key, Value>,
     inode: InodeId,

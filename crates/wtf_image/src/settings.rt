@@ -45,6 +45,7 @@ fn paths_before(tx: u64, paths: &[PathRecord]) -> bool
     true
 }
 
+/// Whether a directory stands there, or a file of a transaction before this one.
 fn is_node_before(tx: u64, node: Node) -> bool
     ensures { result ≡ is_node_before tx node }
 {
@@ -54,6 +55,7 @@ fn is_node_before(tx: u64, node: Node) -> bool
     }
 }
 
+/// Whether an inode is of a transaction before this one.
 fn is_before(tx: u64, inode: InodeId) -> bool
     ensures { result ≡ is_before tx inode }
 {

@@ -77,6 +77,7 @@ fn have_parents(
     Ok(true)
 }
 
+/// Whether a path is the root or stands in a directory.
 fn has_parent(alloc: Global, kv: &Kv<Key, Value>, entry: &PathRecord) -> Result<bool, OutOfMemory>
     ensures { IfOk result (λ b. b ≡ has_shown_parent (shown kv.now) entry.now) }
 {
@@ -98,6 +99,7 @@ fn are_recorded(kv: &Kv<Key, Value>, paths: &[PathRecord]) -> bool
     true
 }
 
+/// Whether a directory stands there, or a file whose inode has a record.
 fn is_recorded(kv: &Kv<Key, Value>, node: Node) -> bool
     ensures { result ≡ is_shown_node (shown kv.now) node }
 {
@@ -134,6 +136,7 @@ fn count(counts: &mut BTreeMap<InodeId, u64>, node: Node) -> Result<(), OutOfMem
     Ok(())
 }
 
+/// How often an inode is named, by a table that lacks those that are not.
 fn count_now(counts: &BTreeMap<InodeId, u64>, inode: InodeId) -> u64
     ensures { result ≡ count_in counts.now.entries inode }
 {
@@ -168,6 +171,7 @@ fn are_good_files(region: u32, files: &[FileRecord]) -> bool
     true
 }
 
+/// Whether a file has at most 4,096 regions, all good, and the last has bytes unless it is the first.
 fn is_good_file(region: u32, file: &FileRecord) -> bool
     ensures { result ≡ is_good_file region (file_row file.now) }
 {

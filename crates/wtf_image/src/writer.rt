@@ -42,6 +42,7 @@ fn put_list(out: &mut Vec<u8>, end: u32, list: &Overlay) -> Result<(), OutOfMemo
     Ok(())
 }
 
+/// A spilled list of a region that ends at `end`: something of it is seen, and nothing past the end.
 #[tactic(auto, unfolding(crate::specs::Texts::spill_text))]
 fn put_spill(out: &mut Vec<u8>, end: u32, spill: Spill) -> Result<(), OutOfMemory>
     requires { IsBelow end (Some spill) }
@@ -74,6 +75,7 @@ fn put_base(out: &mut Vec<u8>, end: u32, base: Option<Spill>) -> Result<(), OutO
     }
 }
 
+/// A region: its number, its end, its spilled list, and its entries, which lie inside it.
 #[tactic(auto, unfolding(crate::specs::Texts::region_text))]
 fn put_region(out: &mut Vec<u8>, region: &RegionRecord) -> Result<(), OutOfMemory>
     ensures { OnOk result (Writes out.old.items out.new.items (region_text (region_row region.now))
@@ -100,6 +102,7 @@ fn put_regions(out: &mut Vec<u8>, regions: &[RegionRecord]) -> Result<(), OutOfM
     Ok(())
 }
 
+/// An inode: its transaction, and its index.
 #[tactic(auto, unfolding(crate::specs::Texts::inode_text))]
 fn put_inode(out: &mut Vec<u8>, inode: InodeId) -> Result<(), OutOfMemory>
     ensures { OnOk result (Writes out.old.items out.new.items (inode_text inode) (IsInode inode)) }
@@ -109,6 +112,7 @@ fn put_inode(out: &mut Vec<u8>, inode: InodeId) -> Result<(), OutOfMemory>
     Ok(())
 }
 
+/// A file: its inode, the number of its last region, and its regions, in whatever order they stand.
 #[tactic(auto, unfolding(crate::specs::Texts::file_text))]
 fn put_file(out: &mut Vec<u8>, file: &FileRecord) -> Result<(), OutOfMemory>
     ensures { OnOk result (Writes out.old.items out.new.items (file_text (file_row file.now))
@@ -133,6 +137,7 @@ fn put_files(out: &mut Vec<u8>, files: &[FileRecord]) -> Result<(), OutOfMemory>
     Ok(())
 }
 
+/// What stands at a path: 0 for a directory, 1 and the inode for a file.
 #[tactic(auto, unfolding(crate::specs::Texts::node_text))]
 fn put_node(out: &mut Vec<u8>, node: Node) -> Result<(), OutOfMemory>
     ensures { OnOk result (Writes out.old.items out.new.items (node_text node) (IsNode node)) }
@@ -150,6 +155,7 @@ fn put_node(out: &mut Vec<u8>, node: Node) -> Result<(), OutOfMemory>
     }
 }
 
+/// A path behind its length, and what stands there.
 #[tactic(auto, unfolding(crate::specs::Texts::path_text, crate::specs::Texts::name_text))]
 fn put_path(out: &mut Vec<u8>, entry: &PathRecord) -> Result<(), OutOfMemory>
     ensures { OnOk result (Writes out.old.items out.new.items (path_text entry.now)
@@ -175,6 +181,7 @@ fn put_paths(out: &mut Vec<u8>, paths: &[PathRecord]) -> Result<(), OutOfMemory>
     Ok(())
 }
 
+/// The settings and the two numbers, whether or not they keep their limits.
 #[tactic(auto, unfolding(crate::specs::Texts::header_text))]
 fn put_header(out: &mut Vec<u8>, header: Header) -> Result<(), OutOfMemory>
     ensures { OnOk result (Writes out.old.items out.new.items (header_text header)

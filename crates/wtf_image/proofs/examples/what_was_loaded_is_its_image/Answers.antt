@@ -1,8 +1,9 @@
+use Rattle.wtf_image.specs.Rules.{none_lost}
 use Rattle.wtf_image.proofs.Said.{saves_again, loaded_before}
 use Rattle.wtf_image.proofs.examples.what_was_loaded_is_its_image.Goals as goal
 
 pub returns-clause-image : goal.returns-clause-image
-returns-clause-image c = λ size bytes l load. saves_again size bytes l load
+returns-clause-image c = λ size bytes l load. saves_again none_lost size bytes l load
 
 pub returns-clause-before : goal.returns-clause-before
-returns-clause-before c = λ size bytes l load. loaded_before size bytes l load
+returns-clause-before c = λ size bytes l load. loaded_before none_lost size bytes l load

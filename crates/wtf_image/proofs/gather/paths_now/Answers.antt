@@ -1,41 +1,37 @@
-use Rattle.std.proofs.Common.{◌≡◌, ◌<◌, Some, None, subst, sym, ap}
-use Rattle.std.specs.Option.{option_copied}
-use Rattle.wtf_kv.specs.Order.{left_from}
-use Rattle.wtf_kv.proofs.KeyLaws.{left_less}
-use Rattle.wtf_values.specs.Keys.{key_cmp, same_key}
-use Rattle.wtf_values.proofs.KeyLaws.{key_total}
-use Rattle.wtf_image.proofs.Gathered.{PathsWalked, paths_begin, paths_go_on, paths_end}
+use Rattle.std.proofs.Common.{◌∷◌, sym, ap, subst, ◌∙◌}
+use Rattle.std.specs.Map.Iter.{deref_pair}
+use Rattle.std.specs.declared.ops.Bound.TheVariants.{Unbounded}
+use Rattle.std.proofs.lemmas.Map.Iter.{rest_more, rest_all}
+use Rattle.wtf_kv.specs.Stores.{map_at}
+use Rattle.wtf_kv.specs.Walks.{AreRowsFrom}
+use Rattle.wtf_values.specs.Keys.{key_cmp}
+use Rattle.wtf_image.proofs.Gathered.{PathsWalked, paths_begin, paths_go_on, paths_stop, all_paths, not_path}
 use Rattle.wtf_image.proofs.gather.paths_now.Goals as goal
 
-pub loop-at-init : goal.loop-at-init
-loop-at-init c =
+pub loop-key-init : goal.loop-key-init
+loop-key-init c =
     let kv = c.args.kv.now in
-    let next = option_copied c.next_key-at.result in
-    subst (λ rs. PathsWalked kv next rs) (sym c.new-paths.ensures.items) (paths_begin kv next c.next_key-at.ensures)
+    let are = subst (λ n. AreRowsFrom key_cmp Unbounded (map_at key_cmp kv n) c.rows-key-items.result) c.number.ensures.number c.rows-key-items.ensures in
+    let left = c.into_iter-key-iterator.result in
+    subst (λ rs. PathsWalked kv rs left) (sym c.new-paths.ensures.items)
+    (paths_begin kv left (subst (AreRowsFrom key_cmp Unbounded (map_at key_cmp kv kv.number)) (sym c.into_iter-key-iterator.ensures.into_iter_gives) are))
 
-pub loop-at-smaller : goal.loop-at-smaller
-loop-at-smaller c =
+pub loop-key-preserved : goal.loop-key-preserved
+loop-key-preserved c =
     let kv = c.args.kv.now in
-    let k = c.in-Some.key.now in
-    let next = option_copied c.next_key-at-in-Some.result in
-    let here : option_copied c.loop-at.at ≡ Some k = ap option_copied c.in-Some.is in
-    let walked : PathsWalked kv (Some k) c.loop-at.paths.items = subst (λ o. PathsWalked kv o c.loop-at.paths.items) here c.loop-at.invariant in
-    subst (λ o. left_from key_cmp kv next < left_from key_cmp kv o) (sym here)
-    (left_less key_cmp key_total same_key kv k next walked.has_version c.next_key-at-in-Some.ensures)
+    let v = c.in-Some.value.now in
+    let rest = c.next.new.self in
+    let more = rest_more deref_pair c.loop-key.key-iterator rest c.next.result (c.in-Some.key, c.in-Some.value) c.in-Some.is c.next.ensures.steps in
+    subst (λ rs. PathsWalked kv rs rest) (sym c.in_ok-add_path.ensures)
+    (paths_go_on kv c.loop-key.paths.items c.in-Path.path v c.loop-key.key-iterator rest (more ∙ ap (λ k. (k, v) ∷ rest) c.in-Path.is) c.loop-key.invariant)
 
-pub loop-at-preserved : goal.loop-at-preserved
-loop-at-preserved c =
-    let kv = c.args.kv.now in
-    let rs = c.loop-at.paths.items in
-    let k = c.in-Some.key.now in
-    let next = option_copied c.next_key-at-in-Some.result in
-    let here : option_copied c.loop-at.at ≡ Some k = ap option_copied c.in-Some.is in
-    let walked : PathsWalked kv (Some k) rs = subst (λ o. PathsWalked kv o rs) here c.loop-at.invariant in
-    subst (λ rs. PathsWalked kv next rs) (sym c.in_ok-add_path.ensures) (paths_go_on kv k rs next walked c.next_key-at-in-Some.ensures)
+pub returns-in_default : goal.returns-in_default
+returns-in_default c =
+    let rest = c.next.new.self in
+    let more = rest_more deref_pair c.loop-key.key-iterator rest c.next.result (c.in-Some.key, c.in-Some.value) c.in-Some.is c.next.ensures.steps in
+    paths_stop c.args.kv.now c.loop-key.paths.items (c.in-Some.key.now, c.in-Some.value.now) c.loop-key.key-iterator rest more (not_path c.in-Some.key.now c.in_default.not-Path) c.loop-key.invariant
 
 pub returns : goal.returns
 returns c =
-    let kv = c.args.kv.now in
-    let rs = c.loop-at.paths.items in
-    let here : option_copied c.loop-at.at ≡ None = ap option_copied c.in_default.is in
-    paths_end kv rs (subst (λ o. PathsWalked kv o rs) here c.loop-at.invariant)
+    let end = rest_all deref_pair c.loop-key.key-iterator c.next.new.self c.next.result c.in-None.is c.next.ensures.steps in
+    all_paths c.args.kv.now c.loop-key.paths.items c.loop-key.key-iterator end c.loop-key.invariant

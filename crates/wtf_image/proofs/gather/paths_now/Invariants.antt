@@ -1,11 +1,5 @@
-use Rattle.std.specs.Option.{option_copied}
-use Rattle.wtf_kv.specs.Order.{left_from}
-use Rattle.wtf_values.specs.Keys.{key_cmp}
 use Rattle.wtf_image.proofs.Gathered.{PathsWalked}
 use Rattle.wtf_image.proofs.gather.paths_now.Given as goal
 
-abbrev pub invariant-loop-at : goal.invariant-loop-at
-invariant-loop-at l = PathsWalked l.kv (option_copied l.at) l.paths.items
-
-abbrev pub decreases-loop-at : goal.decreases-loop-at
-decreases-loop-at l = left_from key_cmp l.kv (option_copied l.at)
+abbrev pub invariant-loop-key : goal.invariant-loop-key
+invariant-loop-key l = PathsWalked l.kv l.paths.items l.key-iterator
