@@ -26,6 +26,7 @@ use Rattle.wtf_meta.specs.Contents.{lists_in}
 use Rattle.wtf_meta.specs.Bytes.{EntryBytes, BaseBytes, RegionBytes, any_slice}
 use Rattle.wtf_meta.proofs.ListFacts.{TellLists-parts, ListsBytes-all}
 use Rattle.wtf_meta.proofs.Weaker.{maybe_stays}
+use Rattle.wtf_replica.specs.Outs.{OtherFilesStay}
 use Rattle.wtf_region.specs.declared.dev.Dev.{Dev}
 use Rattle.wtf_region.specs.Devs.{IsSoundDev, GoesOn, stores, told_in, inside_of, between, place_in}
 use Rattle.wtf_region.specs.Showing.{OnlyRead}
@@ -171,10 +172,12 @@ module _ {S : Type 0} {kind : StoreKind S} (laws : KindLaws kind) {old mid new :
       }
 
 -- too few servers took the list
-pub fault_spilled : {S : Type 0} (kind : StoreKind S) (old mid new : Dev S) (k : JobKind) (v : RegionValue) (why : Fault) → GoesOn kind old mid []
-    → OnlyRead kind (between old mid) → spills k v.end ≡ true → (why ≡ fault.Memory) ⊎ IsWriteFault kind (between mid new) mid.settings why
-    → IsPlanFault kind old new k (Some v) why
-fault_spilled kind old mid new k v why goes reads is h = elim h [
+pub fault_spilled : {S : Type 0} (kind : StoreKind S) (old mid new : Dev S) (t : Target) (v : RegionValue) (why : Fault) → GoesOn kind old mid []
+    → OnlyRead kind (between old mid) → spills t.kind v.end ≡ true
+    → OtherFilesStay kind (stores mid) (stores new) (place_in mid t.inode (t.region * mid.settings.region)).file
+    → (why ≡ fault.Memory) ⊎ IsWriteFault kind (between mid new) mid.settings why
+    → IsPlanFault kind old new t (Some v) why
+fault_spilled kind old mid new t v why goes reads is others h = elim h [
   | inl short ↦ inl short
-  | inr out ↦ inr (inr (record { spilled = is; mid = mid; goes = goes; reads = reads; out = out }))
+  | inr out ↦ inr (inr (record { spilled = is; mid = mid; goes = goes; reads = reads; out = out; others = others }))
 ]

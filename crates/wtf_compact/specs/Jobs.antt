@@ -15,6 +15,10 @@ use Rattle.wtf_meta.specs.FileEdits.{FileEdit, Put, edits_of, region_of}
 use Rattle.wtf_meta.specs.Trees.{LeadsTo}
 use Rattle.wtf_compact.specs.declared.target.Target.{Target}
 
+-- the target of a job of a region of a file
+abbrev pub job_target : InodeId → ℕ → JobKind → Target
+job_target i r kind = record { inode = i; region = r; kind = kind }
+
 -- the path by which it was asked for, the region that it is of, the number of installs when it was planned, and what it puts in the
 -- region's place: nothing where the region had no value
 pub record JobView : Type 0 where

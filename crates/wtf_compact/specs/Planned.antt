@@ -20,6 +20,7 @@ use Rattle.wtf_meta.specs.Lists.{Lists, ListFact, TellLists, base_facts, region_
 use Rattle.wtf_meta.specs.Files.{end_of}
 use Rattle.wtf_meta.specs.Contents.{Told, SamePlaces, SameRegion, is_told, is_listed, lists_in}
 use Rattle.wtf_meta.specs.Bytes.{EntryBytes, ListSlices, ListsBytes, MaybeBytes, RegionBytes, any_slice}
+use Rattle.wtf_replica.specs.Outs.{OtherFilesStay}
 use Rattle.wtf_region.specs.declared.dev.Dev.{Dev}
 use Rattle.wtf_region.specs.Apart.{are_apart}
 use Rattle.wtf_region.specs.Cached.{RemembersOnly}
@@ -108,17 +109,18 @@ pub record LacksBase {S : Type 0} (kind : StoreKind S) (old new : Dev S) (now : 
   pub cause : IsRegionFault kind old new now why
   pub reads : OnlyRead kind (between old new)
 
--- the list was read, and too few servers took its bytes
-pub record LacksServers {S : Type 0} (kind : StoreKind S) (old new : Dev S) (spill : Bool) (why : Fault) : Type 0 where
-  pub spilled : spill ≡ true
+-- The list was read, and too few servers took its bytes: only the file to which these were to go may have grown.
+pub record LacksServers {S : Type 0} (kind : StoreKind S) (old new : Dev S) (t : Target) (now : Option RegionValue) (why : Fault) : Type 0 where
+  pub spilled : spills t.kind (end_of now) ≡ true
   pub mid : Dev S
   pub goes : GoesOn kind old mid []
   pub reads : OnlyRead kind (between old mid)
   pub out : IsWriteFault kind (between mid new) mid.settings why
+  pub others : OtherFilesStay kind (stores mid) (stores new) (place_in mid t.inode (t.region * mid.settings.region)).file
 
 -- why a job was not planned; memory may be short at any time
-abbrev pub IsPlanFault : {S : Type 0} → StoreKind S → (old new : Dev S) → JobKind → Option RegionValue → Fault → Type 0
-IsPlanFault kind old new jk now why = (why ≡ fault.Memory) ⊎ (LacksBase kind old new now why ⊎ LacksServers kind old new (spills jk (end_of now)) why)
+abbrev pub IsPlanFault : {S : Type 0} → StoreKind S → (old new : Dev S) → Target → Option RegionValue → Fault → Type 0
+IsPlanFault kind old new t now why = (why ≡ fault.Memory) ⊎ (LacksBase kind old new now why ⊎ LacksServers kind old new t now why)
 
 -- the value has the end and the bytes of the region, and each byte that it names is told, also those of its base's list; a region
 -- without a value has nothing put in its place

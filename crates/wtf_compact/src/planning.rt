@@ -14,7 +14,7 @@ ghost use Rattle.wtf_meta.specs.Trees.{LeadsTo};
 ghost use Rattle.wtf_region.specs.Devs.{IsSoundDev, GoesOn, stores, told_in, inside_of, between};
 ghost use Rattle.wtf_region.specs.Showing.{OnlyRead};
 ghost use Rattle.wtf_region.specs.Inside.{IsStoredInside};
-ghost use Rattle.wtf_compact.specs.Jobs.{HasRegion, IsFileAt, IsJobOf, region_at, target_region};
+ghost use Rattle.wtf_compact.specs.Jobs.{HasRegion, IsFileAt, IsJobOf, job_target, region_at, target_region};
 ghost use Rattle.wtf_compact.specs.Planned.{IsPlanned, IsPlanFault, KeepsRegion, RemembersItsBase, TellsRegion, spills};
 
 use crate::spilling::{short_list, store_list};
@@ -81,7 +81,7 @@ fn planned_value<S: SliceStore>(
         IsPlanned S.kind dev.old dev.new target (Some value.now) (Some x)) }
     ensures inside { IfOk result (RegionBytes (inside_of S.kind dev.new) any_slice) }
     ensures fault { IfErr result
-        (IsPlanFault S.kind dev.old dev.new target.kind (Some value.now)) }
+        (IsPlanFault S.kind dev.old dev.new target (Some value.now)) }
     ensures only { RemembersItsBase dev.old dev.new (Some value.now) }
     ensures reads { target.kind ≡ JobKind.Compact → OnlyRead S.kind (between dev.old dev.new) }
     ensures dev { GoesOn S.kind dev.old dev.new [] }
@@ -119,7 +119,7 @@ fn planned<S: SliceStore>(
     ensures planned { IfOk result (IsPlanned S.kind dev.old dev.new target
         (target_region (metadata_at kv.now kv.now.number) target)) }
     ensures inside { IfOk result (MaybeBytes (inside_of S.kind dev.new) any_slice) }
-    ensures fault { IfErr result (IsPlanFault S.kind dev.old dev.new target.kind
+    ensures fault { IfErr result (IsPlanFault S.kind dev.old dev.new target
         (target_region (metadata_at kv.now kv.now.number) target)) }
     ensures only { RemembersItsBase dev.old dev.new
         (target_region (metadata_at kv.now kv.now.number) target) }
@@ -158,7 +158,7 @@ fn made<S: SliceStore>(
     ensures inside { IfOk result (λ job. MaybeBytes (inside_of S.kind dev.new) any_slice job.value) }
     ensures fault { IfErr result (λ why. (i : inode_id.InodeId) →
         LeadsTo (metadata_at kv.now kv.now.number) p.now i →
-        IsPlanFault S.kind dev.old dev.new kind
+        IsPlanFault S.kind dev.old dev.new (job_target i region kind)
         (region_at (metadata_at kv.now kv.now.number) i region) why) }
     ensures only { (i : inode_id.InodeId) →
         LeadsTo (metadata_at kv.now kv.now.number) p.now i →
@@ -237,7 +237,7 @@ pub fn plan<S: SliceStore>(
     ensures err { OnErr result (kv.new ≡ kv.old) }
     ensures fault { IfErr result (λ why. (i : inode_id.InodeId) →
         LeadsTo (metadata_at kv.old kv.old.number) p.now i →
-        IsPlanFault S.kind dev.old dev.new kind
+        IsPlanFault S.kind dev.old dev.new (job_target i region kind)
         (region_at (metadata_at kv.old kv.old.number) i region) why) }
     ensures only { (i : inode_id.InodeId) →
         LeadsTo (metadata_at kv.old kv.old.number) p.now i →

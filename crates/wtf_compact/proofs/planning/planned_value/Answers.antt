@@ -21,8 +21,9 @@ returns-then-not-spills-clause-inside g c =
 
 pub returns-in-Err-store_list-clause-fault : goal.returns-in-Err-store_list-clause-fault
 returns-in-Err-store_list-clause-fault g c =
-    fault_spilled g.S.SliceStore.kind c.args.dev.now c.short_list.new.dev c.store_list.new.dev c.args.target.kind c.args.value.now c.in-Err-store_list.why
-    c.short_list.ensures.dev c.short_list.ensures.reads (sym c.spills.ensures ∙ c.if-not-spills.false) c.in-Err-store_list.ensures.fault
+    fault_spilled g.S.SliceStore.kind c.args.dev.now c.short_list.new.dev c.store_list.new.dev c.args.target c.args.value.now c.in-Err-store_list.why
+    c.short_list.ensures.dev c.short_list.ensures.reads (sym c.spills.ensures ∙ c.if-not-spills.false) c.store_list.ensures.others
+    c.in-Err-store_list.ensures.fault
 
 pub returns-in-Err-store_list-clause-dev : goal.returns-in-Err-store_list-clause-dev
 returns-in-Err-store_list-clause-dev g c = goes_on g.met.S.SliceStore.laws c.short_list.ensures.dev c.store_list.ensures.dev
