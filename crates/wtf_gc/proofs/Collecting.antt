@@ -12,17 +12,18 @@ use Rattle.std.proofs.lemmas.List.Folds.{list_any-append}
 use Rattle.wtf_base.specs.declared.fault.Fault.{Fault}
 use Rattle.wtf_base.specs.declared.fault.Fault.TheVariants as fault
 use Rattle.wtf_base.specs.Places.{Place}
-use Rattle.wtf_dev.specs.Store.{Range, StoreKind}
+use Rattle.wtf_dev.specs.Store.{Range, StoreKind, KindLaws}
 use Rattle.wtf_replica.specs.Faults.{IsPunchFault}
 use Rattle.wtf_region.specs.declared.dev.Dev.{Dev}
 use Rattle.wtf_region.specs.Devs.{GoesOn, between}
 use Rattle.wtf_gc.specs.declared.extent.Extent.{Extent}
 use Rattle.wtf_gc.specs.Extents.{has, covers}
-use Rattle.wtf_gc.specs.Frees.{ranges_of, tried_on, StopsAt, AreGarbage, CountsFreed, FreesAll, FreesSome, IsCollectFault}
+use Rattle.wtf_gc.specs.Frees.{ranges_of, tried_on, StopsAt, AreGarbage, AreZeroed, CountsFreed, FreesAll, FreesSome, IsCollectFault}
 use Rattle.wtf_gc.specs.Unused.{used_by, is_unused, IsUnused}
 use Rattle.wtf_gc.specs.Views.{ScanView, GcView, mark_in, mark_of, is_garbage}
 use Rattle.wtf_gc.proofs.Freeing.{first_ranges}
 use Rattle.wtf_gc.proofs.Ranges.{LiesBelow, none_below, ranges_have}
+use Rattle.wtf_gc.proofs.Zeroing.{zeroed_still}
 
 -- ---- garbage
 past_files : (s : ScanView) (k f : ℕ) → nat_lt f 8 ≡ false → mark_of s k f ≡ 0
@@ -74,23 +75,27 @@ split_at xs i x is =
     ∙ ap (λ l. take i xs ++ l) (sym (drop_more xs i x (slice_get_within xs i x is)))
     ∙ take-append-drop i xs
 
-pub frees_some : {S : Type 0} (kind : StoreKind S) (k : ℕ) (dev dev' : Dev S) (g g' : GcView) (rs : List (ℕ × Range)) (done : ℕ)
+pub frees_some : {S : Type 0} {kind : StoreKind S} (laws : KindLaws kind) (k : ℕ) (dev dev' : Dev S) (g g' : GcView) (rs : List (ℕ × Range)) (done : ℕ)
     (mark : ℕ → ℕ → ℕ) (why : Fault)
     → AreGarbage g k rs
     → All (LiesBelow k mark 8) rs → StopsAt kind dev dev' rs done why → CountsFreed g g' (take done rs) → FreesSome kind k dev dev' g g' why
-frees_some kind k dev dev' g g' rs done mark why are all s counts =
+frees_some {kind = kind} laws k dev dev' g g' rs done mark why are all s counts =
     let r = s.tried in
     let at : LiesBelow k mark 8 r =
     subst (LiesBelow k mark 8) (get_or_from_slice_get rs done r r s.is) (All-get_or (LiesBelow k mark 8) rs done r (slice_get_within rs done r s.is) all) in
     let same : r ≡ (k, r.1) = λ i. (at.0 i, r.1) in
+    let parts : AreGarbage g k (take done rs ++ (k, r.1) ∷ drop (done + 1) rs) =
+    subst (AreGarbage g k) (sym (split_at rs done (k, r.1) (s.is ∙ ap Some same))) are in
+    let last : GoesOn kind s.mid dev' (tried_on s.mid (k, r.1)) = subst (λ (t : ℕ × Range). GoesOn kind s.mid dev' (tried_on s.mid t)) same s.last in
     record {
       ranges = take done rs;
       tried = r.1;
       rest = drop (done + 1) rs;
-      are = subst (AreGarbage g k) (sym (split_at rs done (k, r.1) (s.is ∙ ap Some same))) are;
+      are = parts;
       mid = s.mid;
       goes = s.goes;
-      last = subst (λ (t : ℕ × Range). GoesOn kind s.mid dev' (tried_on s.mid t)) same s.last;
+      zeroed = zeroed_still laws dev s.mid dev' (take done rs) (k, r.1) (drop (done + 1) rs) parts.apart last s.zeroed;
+      last = last;
       cause = subst (λ (n : ℕ). IsPunchFault kind (between s.mid dev') n why) at.0 s.cause;
       counts = counts;
     }
@@ -105,15 +110,16 @@ some_freed kind k dev dev' g g' (fault.Damaged j) h = h
 some_freed kind k dev dev' g g' fault.Memory h = absurd h.cause
 
 -- ---- the whole of a call
-module _ {S : Type 0} (kind : StoreKind S) (k : ℕ) (dev dev' : Dev S) (g : GcView) (freed es used : List Extent) (bytes : ℕ)
+module _ {S : Type 0} {kind : StoreKind S} (laws : KindLaws kind) (k : ℕ) (dev dev' : Dev S) (g : GcView) (freed es used : List Extent) (bytes : ℕ)
     (are : (p : Place) → p.server ≡ k → covers used p ≡ used_by g.older.found g.newer.found g.freed p)
     (u : IsUnused k (mark_in g.older.marks) (covers used) 8 (ranges_of es) bytes) where
-  pub frees_all : GoesOn kind dev dev' (ranges_of es) → ((p : Place) → covers freed p ≡ covers (g.freed ++ es) p)
+  pub frees_all : GoesOn kind dev dev' (ranges_of es) → AreZeroed kind dev dev' (ranges_of es) → ((p : Place) → covers freed p ≡ covers (g.freed ++ es) p)
       → FreesAll kind k dev dev' g (with_freed g freed) bytes
-  frees_all goes moved = record {
+  frees_all goes zeroed moved = record {
     ranges = ranges_of es;
     are = are_garbage g k (covers used) are (ranges_of es) bytes u;
     goes = goes;
+    zeroed = zeroed;
     count = u.count;
     counts = counts g freed es (λ p. moved p ∙ covers_both g.freed es p);
   }
@@ -121,7 +127,7 @@ module _ {S : Type 0} (kind : StoreKind S) (k : ℕ) (dev dev' : Dev S) (g : GcV
   pub stopped : (done : ℕ) (why : Fault) → StopsAt kind dev dev' (ranges_of es) done why → freed ≡ take (length g.freed + done) (g.freed ++ es)
       → IsCollectFault kind k dev dev' g (with_freed g freed) why
   stopped done why stop is = some_freed kind k dev dev' g (with_freed g freed) why
-      (frees_some kind k dev dev' g (with_freed g freed) (ranges_of es) done (mark_in g.older.marks) why
+      (frees_some laws k dev dev' g (with_freed g freed) (ranges_of es) done (mark_in g.older.marks) why
       (are_garbage g k (covers used) are (ranges_of es) bytes u) u.lie stop
       (subst (CountsFreed g (with_freed g freed)) (sym (first_ranges es done))
       (counts g freed (take done es) (λ p. ap (λ l. covers l p) (is ∙ take-append-add g.freed es done) ∙ covers_both g.freed (take done es) p))))

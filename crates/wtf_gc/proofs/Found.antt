@@ -22,7 +22,7 @@ use Rattle.wtf_overlay.specs.declared.part.Entry.{Entry}
 use Rattle.wtf_meta.specs.Lists.{Lists, ListFact, TellLists, or_none}
 use Rattle.wtf_meta.specs.Bytes.{SliceBytes, BaseBytes, ListSlices, any_slice}
 use Rattle.wtf_region.specs.declared.dev.Dev.{Dev}
-use Rattle.wtf_region.specs.Reads.{IsSliceFault, IsBaseFault}
+use Rattle.wtf_region.specs.Reads.{IsOfBase, IsSliceFault, IsBaseFault}
 use Rattle.wtf_gc.specs.declared.extent.Extent.{Extent}
 use Rattle.wtf_gc.specs.declared.gather.Base.{Base}
 use Rattle.wtf_gc.specs.declared.parts.Parts.{Parts}
@@ -240,6 +240,14 @@ module _ (kv : Store Key Value) (parts : Parts) (found : List Extent) (bases : L
       subst (λ (t : Slice). SliceBytes P t × (Q t ≡ true)) (sym same) own)
       bases (All-contains_itself bases))
 
+  -- each is of a version of a region
+  region_of : (sorted : List Base) → IsPermutation bases sorted → (f : ListFact) → Contains (map (λ (b : Base). b.slice) sorted) f.slice
+      → (v : RegionValue) × IsIn kv parts v × IsOfBase v.base f.slice
+  region_of sorted moved f h =
+      let (b, there, is) = mapped (λ (x : Base). x.slice) sorted f.slice h in
+      let (r, s, stands, base, same) = base_of b (Contains-permutation sorted bases b (IsPermutation-sym bases sorted moved) there) in
+      (r, stands, subst (λ (o : Option Spill). IsOfBase o f.slice) (sym base) (sym is ∙ same))
+
   -- and why one was not read
   pub parts_fault : {S : Type 0} (kind : StoreKind S) (old new : Dev S) (sorted : List Base) → IsPermutation bases sorted → (why : Fault)
       → IsBasesFault kind old new sorted why → IsPartsFault kind old new kv parts why
@@ -249,6 +257,10 @@ module _ (kv : Store Key Value) (parts : Parts) (found : List Extent) (bases : L
       inr (record {
         mid = lacks.mid;
         goes = lacks.goes;
+        before = lacks.before;
+        recalls = lacks.recalls;
+        among = All-weaker (λ (f : ListFact). Contains (map (λ (b : Base). b.slice) sorted) f.slice)
+            (λ (f : ListFact). (v : RegionValue) × IsIn kv parts v × IsOfBase v.base f.slice) (λ f h. region_of sorted moved f h) lacks.before lacks.among;
         region = r;
         there = there;
         cause = subst (λ (o : Option Spill). IsBaseFault kind lacks.mid new o why) (sym base)

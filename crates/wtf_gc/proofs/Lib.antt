@@ -10,3 +10,4 @@ mod Noted
 mod Pins
 mod Ranges
 mod Walks
+mod Zeroing

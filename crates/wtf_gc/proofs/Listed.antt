@@ -1,9 +1,9 @@
 -- Lists that are read one after another.
-use Rattle.std.proofs.Common.{◌≡◌, Bool, true, ◌||◌, List, [], ◌∷◌, ◌++◌, map, take, get_or, length, ℕ, ◌+◌, ◌<◌, refl, sym, ap, ◌∙◌, subst, ⊎_elim}
+use Rattle.std.proofs.Common.{◌≡◌, Bool, true, ◌||◌, List, [], ◌∷◌, ◌++◌, map, take, drop, get_or, length, ℕ, ◌+◌, ◌<◌, refl, sym, ap, ◌∙◌, subst, ⊎_elim}
 use Rattle.std.specs.List.{All, Contains}
 use Rattle.std.proofs.lemmas.Bool.{cases_Bool, or_right}
-use Rattle.std.proofs.lemmas.List.Elements.{All-nil, All-cons, All-append, All-weaker, All-contains, Contains-push}
-use Rattle.std.proofs.lemmas.List.{map-append, take_more}
+use Rattle.std.proofs.lemmas.List.Elements.{All-nil, All-cons, All-append, All-weaker, All-contains, Contains-push, Contains-append_left, Contains-append_right}
+use Rattle.std.proofs.lemmas.List.{map-append, take_more, take-append-drop}
 use Rattle.std.proofs.lemmas.List.Folds.{list_any-append}
 use Rattle.wtf_base.specs.declared.slice.Slice.{Slice}
 use Rattle.wtf_base.specs.Places.{Place}
@@ -15,8 +15,10 @@ use Rattle.wtf_meta.specs.Bytes.{SliceBytes, EntryBytes, ListSlices, any_slice}
 use Rattle.wtf_region.specs.declared.dev.Dev.{Dev}
 use Rattle.wtf_meta.proofs.ListFacts.{TellLists-append, ListSlices-parts}
 use Rattle.wtf_region.specs.Apart.{are_apart}
-use Rattle.wtf_region.specs.Devs.{GoesOn, IsSoundDev, inside_of, told_in}
+use Rattle.wtf_region.specs.Cached.{list_fact, recalled}
+use Rattle.wtf_region.specs.Devs.{GoesOn, inside_of, told_in, remembered}
 use Rattle.wtf_region.specs.Reads.{IsSliceRead}
+use Rattle.wtf_region.proofs.Recalling.{recalled_more}
 use Rattle.wtf_region.proofs.ListReads.{entries_later, places_later, facts_on}
 use Rattle.wtf_gc.specs.declared.extent.Extent.{Extent}
 use Rattle.wtf_gc.specs.Extents.{covers}
@@ -55,6 +57,9 @@ module _ {S : Type 0} {kind : StoreKind S} (laws : KindLaws kind) where
   pub read_none : (dev : Dev S) (found : List Extent) → ListsRead kind dev dev [] found found
   read_none dev found = record {
     facts = [];
+    asked = [];
+    recalls = refl;
+    among = All-nil (λ (f : ListFact). Contains [] f.slice);
     each = refl;
     adds = λ p. sym (or_none (covers found p));
     lie = tt;
@@ -68,6 +73,9 @@ module _ {S : Type 0} {kind : StoreKind S} (laws : KindLaws kind) where
       → ((p : Place) → covers found' p ≡ (covers found p || list_has es p)) → ListsRead kind old new (s ∷ []) found found'
   read_one old new s es found found' read inside adds = record {
     facts = record { slice = s; list = es } ∷ [];
+    asked = list_fact s es ∷ [];
+    recalls = read.recalls;
+    among = All-cons (λ (f : ListFact). Contains (s ∷ []) f.slice) (list_fact s es) [] (Contains-push [] s) (All-nil (λ (f : ListFact). Contains (s ∷ []) f.slice));
     each = refl;
     adds = λ p. adds p ∙ ap (λ b. covers found p || b) (sym (or_none (list_has es p)));
     lie = ((inside, refl), tt);
@@ -82,6 +90,13 @@ module _ {S : Type 0} {kind : StoreKind S} (laws : KindLaws kind) where
       → ListsRead kind old mid slices before between → ListsRead kind mid new more between after → ListsRead kind old new (slices ++ more) before after
   read_on {old = old} {mid = mid} {new = new} g h slices more before between after first next = record {
     facts = first.facts ++ next.facts;
+    asked = first.asked ++ next.asked;
+    recalls = next.recalls ∙ ap (recalled next.asked) first.recalls ∙ sym (recalled_more first.asked next.asked (remembered old));
+    among = All-append (λ (f : ListFact). Contains (slices ++ more) f.slice) first.asked next.asked
+        (All-weaker (λ (f : ListFact). Contains slices f.slice) (λ (f : ListFact). Contains (slices ++ more) f.slice)
+        (λ f h. Contains-append_left slices more f.slice h) first.asked first.among)
+        (All-weaker (λ (f : ListFact). Contains more f.slice) (λ (f : ListFact). Contains (slices ++ more) f.slice)
+        (λ f h. Contains-append_right slices more f.slice h) next.asked next.among);
     each = map-append (λ (f : ListFact). f.slice) first.facts next.facts ∙ ap (λ l. l ++ map (λ (f : ListFact). f.slice) next.facts) first.each
         ∙ ap (λ l. slices ++ l) next.each;
     adds = λ p. next.adds p ∙ ap (λ b. b || facts_have next.facts p) (first.adds p)
@@ -104,6 +119,10 @@ read_again kind old new slices s before after there read =
     let Inside : ListFact → Type 0 = λ (g : ListFact). All (EntryBytes (inside_of kind new)) g.list in
     record {
       facts = read.facts ++ f ∷ [];
+      asked = read.asked;
+      recalls = read.recalls;
+      among = All-weaker (λ (g : ListFact). Contains slices g.slice) (λ (g : ListFact). Contains (slices ++ s ∷ []) g.slice)
+          (λ g h. Contains-append_left slices (s ∷ []) g.slice h) read.asked read.among;
       each = map-append (λ (g : ListFact). g.slice) read.facts (f ∷ []) ∙ ap (λ l. l ++ f.slice ∷ []) read.each ∙ ap (λ x. slices ++ x ∷ []) same;
       adds = λ p. read.adds p ∙ ap (λ b. covers before p || b) (sym (has_again read.facts f p is_fact));
       lie = slices_both (inside_of kind new) read.facts (f ∷ []) read.lie ((slice_of (inside_of kind new) read.facts f read.lie is_fact, refl), tt);
@@ -114,6 +133,12 @@ read_again kind old new slices s before after there read =
           let lists : Lists = lists_in new.settings.region (told_in kind new) in
           TellLists-append lists read.facts (f ∷ []) tell (tell_one lists read.facts f tell is_fact, tt);
     }
+
+-- the first of some elements are among all
+pub mapped_first : {X Y : Type 0} (f : X → Y) (xs : List X) (i : ℕ) (y : Y) → Contains (map f (take i xs)) y → Contains (map f xs) y
+mapped_first f xs i y h =
+    subst (λ l. Contains l y) (sym (map-append f (take i xs) (drop i xs)) ∙ ap (map f) (take-append-drop i xs))
+    (Contains-append_left (map f (take i xs)) (map f (drop i xs)) y h)
 
 -- the last of some slices is one of them
 pub last_there : (slices : List Slice) (s : Slice) → Contains (slices ++ s ∷ []) s

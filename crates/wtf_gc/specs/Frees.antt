@@ -5,10 +5,11 @@ use Rattle.wtf_base.specs.declared.fault.Fault.{Fault}
 use Rattle.wtf_base.specs.declared.fault.Fault.TheVariants as fault
 use Rattle.wtf_base.specs.Places.{Place}
 use Rattle.wtf_dev.specs.Store.{Range, StoreKind}
+use Rattle.wtf_dev.specs.Sums.{TellsAll}
 use Rattle.wtf_replica.specs.Faults.{IsPunchFault, punched_on}
 use Rattle.wtf_region.specs.declared.dev.Dev.{Dev}
 use Rattle.wtf_region.specs.Apart.{lies_in}
-use Rattle.wtf_region.specs.Devs.{GoesOn, between, is_down_in}
+use Rattle.wtf_region.specs.Devs.{GoesOn, between, is_down_in, stores, told_in}
 use Rattle.wtf_gc.specs.declared.extent.Extent.{Extent}
 use Rattle.wtf_gc.specs.Extents.{covers}
 use Rattle.wtf_gc.specs.Views.{GcView, is_garbage}
@@ -27,18 +28,24 @@ ranges_of es = map range_of es
 abbrev pub tried_on : {S : Type 0} → Dev S → ℕ × Range → List (ℕ × Range)
 tried_on dev r = punched_on (is_down_in dev r.0) r.0 r.1
 
+-- some range has the byte at a place
+abbrev pub lie_in : List (ℕ × Range) → Place → Bool
+lie_in rs p = list_any (λ r. lies_in p r) rs
+
+-- the bytes of ranges were made zeros: their servers are up, and stores that tell their content tell zeros there
+pub record AreZeroed {S : Type 0} (kind : StoreKind S) (old new : Dev S) (rs : List (ℕ × Range)) : Type 0 where
+  pub up : (p : Place) → lie_in rs p ≡ true → is_down_in old p.server ≡ false
+  pub zeros : TellsAll kind (stores old) → (p : Place) → lie_in rs p ≡ true → told_in kind new p ≡ Some 0
+
 -- so many ranges were freed, and the next one was not, at a moment to which the call had gone on
 pub record StopsAt {S : Type 0} (kind : StoreKind S) (old new : Dev S) (rs : List (ℕ × Range)) (done : ℕ) (why : Fault) : Type 0 where
   pub mid : Dev S
   pub tried : ℕ × Range
   pub is : slice_get rs done ≡ Some tried
   pub goes : GoesOn kind old mid (take done rs)
+  pub zeroed : AreZeroed kind old mid (take done rs)
   pub last : GoesOn kind mid new (tried_on mid tried)
   pub cause : IsPunchFault kind (between mid new) tried.0 why
-
--- some range has the byte at a place
-abbrev pub lie_in : List (ℕ × Range) → Place → Bool
-lie_in rs p = list_any (λ r. lies_in p r) rs
 
 -- no two ranges share a byte, and each has one
 abbrev pub AreApart : List (ℕ × Range) → Type 0
@@ -63,11 +70,12 @@ pub record CountsFreed (old new : GcView) (ranges : List (ℕ × Range)) : Type 
   pub newer : new.newer ≡ old.newer
   pub freed : (p : Place) → covers new.freed p ≡ (covers old.freed p || lie_in ranges p)
 
--- all garbage of server k was freed, n bytes
+-- all garbage of server k was freed, n bytes, which are zeros now
 pub record FreesAll {S : Type 0} (kind : StoreKind S) (k : ℕ) (dev dev' : Dev S) (g g' : GcView) (n : ℕ) : Type 0 where
   pub ranges : List (ℕ × Range)
   pub are : AreGarbage g k ranges
   pub goes : GoesOn kind dev dev' ranges
+  pub zeroed : AreZeroed kind dev dev' ranges
   pub count : n ≡ bytes_of ranges
   pub counts : CountsFreed g g' ranges
 
@@ -79,6 +87,7 @@ pub record FreesSome {S : Type 0} (kind : StoreKind S) (k : ℕ) (dev dev' : Dev
   pub are : AreGarbage g k (ranges ++ (k, tried) ∷ rest)
   pub mid : Dev S
   pub goes : GoesOn kind dev mid ranges
+  pub zeroed : AreZeroed kind dev dev' ranges
   pub last : GoesOn kind mid dev' (tried_on mid (k, tried))
   pub cause : IsPunchFault kind (between mid dev') k why
   pub counts : CountsFreed g g' ranges

@@ -1,6 +1,6 @@
 -- What parts of a scan read, and why they do not.
 use Rattle.std.specs.Prelude.{◌≡◌, ◌⊎◌, Bool, ◌||◌, List, [], map}
-use Rattle.std.specs.List.{Contains}
+use Rattle.std.specs.List.{All, Contains}
 use Rattle.wtf_base.specs.declared.fault.Fault.{Fault}
 use Rattle.wtf_base.specs.declared.fault.Fault.TheVariants as fault
 use Rattle.wtf_base.specs.declared.slice.Slice.{Slice}
@@ -13,8 +13,9 @@ use Rattle.wtf_values.specs.declared.region.RegionValue.{RegionValue}
 use Rattle.wtf_meta.specs.Lists.{Lists, ListFact, TellLists}
 use Rattle.wtf_region.specs.declared.dev.Dev.{Dev}
 use Rattle.wtf_meta.specs.Bytes.{BaseBytes, ListSlices, any_slice}
-use Rattle.wtf_region.specs.Devs.{GoesOn, inside_of}
-use Rattle.wtf_region.specs.Reads.{TellsFacts, AreInsideLists, IsSliceFault, IsBaseFault}
+use Rattle.wtf_region.specs.Cached.{recalled}
+use Rattle.wtf_region.specs.Devs.{GoesOn, inside_of, remembered}
+use Rattle.wtf_region.specs.Reads.{TellsFacts, AreInsideLists, IsOfBase, IsSliceFault, IsBaseFault}
 use Rattle.wtf_gc.specs.declared.extent.Extent.{Extent}
 use Rattle.wtf_gc.specs.declared.gather.Base.{Base}
 use Rattle.wtf_gc.specs.declared.parts.Parts.{Parts}
@@ -22,19 +23,26 @@ use Rattle.wtf_gc.specs.Extents.{covers}
 use Rattle.wtf_gc.specs.Named.{facts_have}
 use Rattle.wtf_gc.specs.Parts.{IsIn, Finds}
 
--- the lists of slices were read, and what they name was added
+-- the lists of slices were read, those of equal neighbours once, and what they name was added
 pub record ListsRead {S : Type 0} (kind : StoreKind S) (old new : Dev S) (slices : List Slice) (before after : List Extent) : Type 0 where
   pub facts : List ListFact
+  pub asked : List ListFact
+  pub recalls : remembered new ≡ recalled asked (remembered old)
+  pub among : All (λ (f : ListFact). Contains slices f.slice) asked
   pub each : map (λ (f : ListFact). f.slice) facts ≡ slices
   pub adds : (p : Place) → covers after p ≡ (covers before p || facts_have facts p)
   pub lie : ListSlices (inside_of kind new) any_slice facts
   pub inside : AreInsideLists kind new facts
   pub told : TellsFacts kind old new facts
 
--- the list of one of these was not read, at a moment to which the call had gone on
+-- The list of one of these was not read, at a moment to which the call had gone on: lists of others of them were read before, and
+-- no other list was asked for.
 pub record LacksOne {S : Type 0} (kind : StoreKind S) (old new : Dev S) (bases : List Base) (why : Fault) : Type 0 where
   pub mid : Dev S
   pub goes : GoesOn kind old mid []
+  pub before : List ListFact
+  pub recalls : remembered mid ≡ recalled before (remembered old)
+  pub among : All (λ (f : ListFact). Contains (map (λ (b : Base). b.slice) bases) f.slice) before
   pub base : Base
   pub one : Contains bases base
   pub cause : IsSliceFault kind mid new base.slice why
@@ -51,10 +59,13 @@ pub record PartsRead {S : Type 0} (kind : StoreKind S) (old new : Dev S) (kv : S
   pub inside : AreInsideLists kind new facts
   pub told : TellsFacts kind old new facts
 
--- the base of a version of a region of these parts was not read
+-- the base of a version of a region of these parts was not read; lists of others were read before, and no other list was asked for
 pub record LacksBase {S : Type 0} (kind : StoreKind S) (old new : Dev S) (kv : Store Key Value) (parts : Parts) (why : Fault) : Type 0 where
   pub mid : Dev S
   pub goes : GoesOn kind old mid []
+  pub before : List ListFact
+  pub recalls : remembered mid ≡ recalled before (remembered old)
+  pub among : All (λ (f : ListFact). (v : RegionValue) × IsIn kv parts v × IsOfBase v.base f.slice) before
   pub region : RegionValue
   pub there : IsIn kv parts region
   pub cause : IsBaseFault kind mid new region.base why

@@ -10,7 +10,7 @@ ghost use Rattle.wtf_region.specs.Inside.{IsStoredInside};
 ghost use Rattle.wtf_region.specs.Devs.{IsSoundDev, GoesOn, between, stores};
 ghost use Rattle.wtf_region.specs.Showing.{OnlyRead};
 ghost use Rattle.wtf_gc.specs.Pinning.{IsPinnedFor};
-ghost use Rattle.wtf_replica.specs.Outs.{SameLengths, SameSyncs};
+ghost use Rattle.wtf_replica.specs.Outs.{IsLeftDown, SameLengths, SameSyncs};
 ghost use Rattle.wtf_gc.specs.Views.{RunView, new_gc, mark_of, run_view};
 ghost use Rattle.wtf_gc.specs.Scans.{StartsScan, AreHeld, IsPrunedFrom, DoesParts, IsPieceFault, Advances};
 ghost use Rattle.wtf_gc.specs.Frees.{FreesAll, IsCollectFault};
@@ -250,6 +250,7 @@ impl Gc {
         requires marks { (f : ℕ) → mark_of self.old.older k f ≤ size_in S.kind (stores dev.old) k f }
         ensures frees { IfOk result (FreesAll S.kind k dev.old dev.new self.old self.new) }
         ensures fault { IfErr result (IsCollectFault S.kind k dev.old dev.new self.old self.new) }
+        ensures down { IsLeftDown (between dev.old dev.new) }
         ensures lengths { SameLengths S.kind (stores dev.old) (stores dev.new) }
         ensures syncs { SameSyncs S.kind (stores dev.old) (stores dev.new) }
     {

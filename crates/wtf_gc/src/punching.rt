@@ -1,12 +1,12 @@
 //! Freeing extents, one after another.
 
-ghost use Rattle.std.specs.Prelude.{[], ◌∷◌, length, OnOk, OnErr, IfErr};
+ghost use Rattle.std.specs.Prelude.{◌≡◌, ◌≢◌, ℕ, true, [], ◌∷◌, length, slice_index_or, OnOk, OnErr, IfErr};
 ghost use Rattle.std.specs.List.{All};
 ghost use Rattle.wtf_replica.specs.Inside.{size_in};
 ghost use Rattle.wtf_replica.specs.Faults.{IsPunchFault};
-ghost use Rattle.wtf_replica.specs.Outs.{SameLengths, SameSyncs};
-ghost use Rattle.wtf_region.specs.Devs.{IsSoundDev, GoesOn, between, stores};
-ghost use Rattle.wtf_gc.specs.Frees.{LiesOn, range_of, ranges_of, tried_on, StopsAt};
+ghost use Rattle.wtf_replica.specs.Outs.{IsLeftDown, SameLengths, SameSyncs};
+ghost use Rattle.wtf_region.specs.Devs.{IsSoundDev, GoesOn, between, stores, is_down_in};
+ghost use Rattle.wtf_gc.specs.Frees.{AreZeroed, LiesOn, range_of, ranges_of, tried_on, StopsAt};
 
 use crate::extent::Extent;
 use wtf_base::Fault;
@@ -18,8 +18,12 @@ fn free<S: SliceStore>(dev: &mut Dev<'_, S>, e: &Extent) -> Result<(), Fault>
     requires sound { IsSoundDev S.kind dev.old }
     requires inside { LiesOn (size_in S.kind (stores dev.old)) (length (stores dev.old)) (range_of e.now) }
     ensures ok { OnOk result (GoesOn S.kind dev.old dev.new (range_of e.now ∷ [])) }
+    ensures zeroed { OnOk result (AreZeroed S.kind dev.old dev.new (range_of e.now ∷ [])) }
     ensures fault { IfErr result (IsPunchFault S.kind (between dev.old dev.new) e.now.server) }
     ensures tried { OnErr result (GoesOn S.kind dev.old dev.new (tried_on dev.old (range_of e.now))) }
+    ensures down { is_down_in dev.old e.now.server ≡ true → stores dev.new ≡ stores dev.old }
+    ensures elsewhere { (j : ℕ) (d : S) → j ≢ e.now.server →
+        slice_index_or (stores dev.new) j d ≡ slice_index_or (stores dev.old) j d }
     ensures lengths { SameLengths S.kind (stores dev.old) (stores dev.new) }
     ensures syncs { SameSyncs S.kind (stores dev.old) (stores dev.new) }
 {
@@ -36,7 +40,9 @@ pub(crate) fn free_each<S: SliceStore>(
     requires inside { All (LiesOn (size_in S.kind (stores dev.old)) (length (stores dev.old)))
         (ranges_of extents.now) }
     ensures ok { OnOk result (GoesOn S.kind dev.old dev.new (ranges_of extents.now)) }
+    ensures zeroed { OnOk result (AreZeroed S.kind dev.old dev.new (ranges_of extents.now)) }
     ensures err { IfErr result (λ s. StopsAt S.kind dev.old dev.new (ranges_of extents.now) s.done s.why) }
+    ensures down { IsLeftDown (between dev.old dev.new) }
     ensures lengths { SameLengths S.kind (stores dev.old) (stores dev.new) }
     ensures syncs { SameSyncs S.kind (stores dev.old) (stores dev.new) }
 {

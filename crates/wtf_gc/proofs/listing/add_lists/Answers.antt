@@ -1,8 +1,9 @@
 use Rattle.std.proofs.Common.{rules, ◌≡◌, ◌+◌, inr, arith, map, take, Some, sym, ap, ◌∙◌, subst, List, [], ◌∷◌, ◌++◌, get_or}
 use Rattle.std.specs.List.{Contains}
-use Rattle.std.proofs.lemmas.List.Elements.{All-get_or, Contains-get_or, Contains-append_left}
+use Rattle.std.proofs.lemmas.List.Elements.{All-get_or, All-weaker, Contains-get_or, Contains-append_left}
 use Rattle.std.proofs.lemmas.Result.{err_from_is_err_and}
 use Rattle.wtf_base.specs.declared.slice.Slice.{Slice}
+use Rattle.wtf_meta.specs.Lists.{ListFact}
 use Rattle.wtf_meta.specs.Bytes.{SliceBytes}
 use Rattle.wtf_region.specs.Devs.{inside_of, is_down_in, stores}
 use Rattle.wtf_region.proofs.ListReads.{slice_later}
@@ -10,7 +11,7 @@ use Rattle.wtf_region.proofs.ShowLaws.{reads_nothing, reads_over}
 use Rattle.wtf_region.proofs.Spans.{goes_nowhere, goes_on}
 use Rattle.wtf_gc.specs.declared.gather.Base.{Base}
 use Rattle.wtf_gc.specs.Reading.{ListsRead}
-use Rattle.wtf_gc.proofs.Listed.{read_none, read_on, read_again, last_there, map_more}
+use Rattle.wtf_gc.proofs.Listed.{read_none, read_on, read_again, last_there, map_more, mapped_first}
 use Rattle.wtf_gc.proofs.listing.add_lists.Goals as goal
 
 abbrev slice_in : Base → Slice
@@ -43,6 +44,11 @@ returns-in_err-add_base_list-clause-fault g c =
     rw (p.1, p.2) (inr (record {
       mid = c.loop-base.dev;
       goes = c.loop-base.invariant.goes_on;
+      before = c.loop-base.invariant.so_far.asked;
+      recalls = c.loop-base.invariant.so_far.recalls;
+      among = All-weaker (λ (f : ListFact). Contains (map slice_in (take c.loop-base.base-index bases)) f.slice)
+          (λ (f : ListFact). Contains (map slice_in bases) f.slice) (λ f h. mapped_first slice_in bases c.loop-base.base-index f.slice h)
+          c.loop-base.invariant.so_far.asked c.loop-base.invariant.so_far.among;
       base = b;
       one = subst (λ (x : Base). Contains bases x) same (Contains-get_or bases c.loop-base.base-index b (omega arith));
       cause = c.in_err-add_base_list.ensures.fault;

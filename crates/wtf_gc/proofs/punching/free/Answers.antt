@@ -7,6 +7,7 @@ use Rattle.wtf_region.specs.Devs.{is_down_in, stores}
 use Rattle.wtf_region.proofs.Spans.{goes_by}
 use Rattle.wtf_gc.specs.Frees.{range_of, tried_on}
 use Rattle.wtf_gc.proofs.Freeing.{on_err}
+use Rattle.wtf_gc.proofs.Zeroing.{ReadsZeros, both_ok, zeroed_one}
 use Rattle.wtf_gc.proofs.punching.free.Goals as goal
 
 pub free-requires-clause-inside : goal.free-requires-clause-inside
@@ -31,3 +32,13 @@ returns-clause-tried g c =
     on_err _ c.free.result
     (goes_by g.met.S.SliceStore.laws dev _
     (tried_on dev (range_of c.args.e.now)) c.requires.sound refl refl refl c.requires.sound.cache refl refl refl c.free.ensures.follows)
+
+pub returns-clause-zeroed : goal.returns-clause-zeroed
+returns-clause-zeroed g c =
+    let kind = g.S.SliceStore.kind in
+    let dev = c.args.dev.now in
+    let r = range_of c.args.e.now in
+    on_ok_weaker c.free.result
+    (λ (both : (is_down_in dev r.0 ≡ false) × ReadsZeros kind (stores dev) c.free.new.shelf r).
+    zeroed_one kind dev _ r c.requires.inside.0 c.free.ensures.follows.same_length both.0 both.1)
+    (both_ok (is_down_in dev r.0 ≡ false) (ReadsZeros kind (stores dev) c.free.new.shelf r) c.free.result c.free.ensures.up c.free.ensures.zeros)

@@ -4,7 +4,7 @@ use Rattle.wtf_base.specs.Places.{Place}
 use Rattle.wtf_region.specs.Devs.{GoesOn}
 use Rattle.wtf_gc.specs.declared.extent.Extent.{Extent}
 use Rattle.wtf_gc.specs.Extents.{covers}
-use Rattle.wtf_gc.specs.Frees.{ranges_of, StopsAt, FreesAll, IsCollectFault}
+use Rattle.wtf_gc.specs.Frees.{AreZeroed, ranges_of, StopsAt, FreesAll, IsCollectFault}
 use Rattle.wtf_gc.specs.Unused.{used_by, IsUnused}
 use Rattle.wtf_gc.specs.Views.{GcView, mark_in, run_view, scan_view}
 use Rattle.wtf_gc.proofs.Collecting.{with_freed, frees_all, stopped}
@@ -40,7 +40,7 @@ returns-in-Err-free_each-clause-fault g c =
     let freed : c.shorten.new.self ≡ take (length in_self.freed + done) (in_self.freed ++ es) = c.shorten.ensures
     ∙ (λ i. take (c.len-before.ensures i + done) ((c.in_default.ensures.ok ∙ ap (λ l. in_self.freed ++ l) c.as_slice-6.ensures.value) i)) in
     subst (λ (x : GcView). IsCollectFault kind k c.args.dev.now c.free_each.new.dev x (with_freed before c.shorten.new.self) why) c.self.view_is
-    (stopped kind k c.args.dev.now c.free_each.new.dev before c.shorten.new.self es used bytes are unused done why stop freed)
+    (stopped g.met.S.SliceStore.laws k c.args.dev.now c.free_each.new.dev before c.shorten.new.self es used bytes are unused done why stop freed)
 
 pub returns-clause-frees : goal.returns-clause-frees
 returns-clause-frees g c =
@@ -67,6 +67,9 @@ returns-clause-frees g c =
     let freed = c.merge_when_due-merged.new.self in
     let goes : GoesOn kind c.args.dev.now c.free_each.new.dev (ranges_of es) =
     subst (λ (l : List Extent). GoesOn kind c.args.dev.now c.free_each.new.dev (ranges_of l)) c.as_slice-7.ensures.value c.in_default-free_each.ensures.ok in
+    let zeroed : AreZeroed kind c.args.dev.now c.free_each.new.dev (ranges_of es) =
+    subst (λ (l : List Extent). AreZeroed kind c.args.dev.now c.free_each.new.dev (ranges_of l)) c.as_slice-7.ensures.value
+    c.in_default-free_each.ensures.zeroed in
     subst (λ (x : GcView). FreesAll kind k c.args.dev.now c.free_each.new.dev x (with_freed before freed) bytes) c.self.view_is
-    (frees_all kind k c.args.dev.now c.free_each.new.dev before freed es used bytes are unused goes
+    (frees_all g.met.S.SliceStore.laws k c.args.dev.now c.free_each.new.dev before freed es used bytes are unused goes zeroed
     (λ p. c.merge_when_due-merged.ensures p ∙ ap (λ l. covers l p) (c.in_default.ensures.ok ∙ ap (λ l. in_self.freed ++ l) c.as_slice-6.ensures.value)))
