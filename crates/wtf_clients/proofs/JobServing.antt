@@ -17,7 +17,7 @@ use Rattle.wtf_ring.specs.Points.{PlaceView, IsRing, place_of}
 use Rattle.wtf_replica.specs.Copies.{IsStored}
 use Rattle.wtf_replica.specs.Downs.{is_down}
 use Rattle.wtf_replica.specs.Faults.{AreTooFew}
-use Rattle.wtf_replica.specs.Outs.{IsOut}
+use Rattle.wtf_replica.specs.Outs.{IsOut, OtherFilesStay}
 use Rattle.wtf_replica.specs.Spans.{Span, span}
 use Rattle.wtf_replica.proofs.Spans.{out_since, each_kept}
 use Rattle.wtf_values.specs.declared.region.RegionValue.{RegionValue}
@@ -43,17 +43,17 @@ use Rattle.wtf_region.specs.Showing.{OnlyRead}
 use Rattle.wtf_steps.proofs.FaultWays.{IsOfServers, region_fault_known}
 use Rattle.wtf_replay.specs.Causes.{fault_answer}
 use Rattle.wtf_compact.specs.declared.target.Target.{Target}
-use Rattle.wtf_compact.specs.Jobs.{JobView, region_at, target_region}
+use Rattle.wtf_compact.specs.Jobs.{JobView, job_target, region_at, target_region}
 use Rattle.wtf_compact.specs.Planned.{IsPlanned, IsShort, StoresList, LacksServers, IsPlanFault, spills}
 use Rattle.wtf_clients.specs.Views.{TablesView, of_label, metadata_now}
 use Rattle.wtf_clients.specs.Sounds.{AreSound}
 use Rattle.wtf_clients.specs.Named.{TablesBytes, any_byte, no_slice, has_copies}
-use Rattle.wtf_clients.specs.Asked.{Lending, Asked, asked_of, lent_by, IsPlaced}
+use Rattle.wtf_clients.specs.Asked.{Lending, Asked, asked_of, lent_by, IsPlaced, SparesFiles}
 use Rattle.wtf_clients.specs.Outcomes.{Load, no_load, load_of_job, AddsThisList, AddsBytes, IsUnspilled, HasToStore, HasCause}
 use Rattle.wtf_clients.specs.Serves.{AreBased, AreFull, ServesLine}
 use Rattle.wtf_clients.specs.Spilling.{StoresJob, StoresPlan}
 use Rattle.wtf_clients.specs.JobTurns.{Plans}
-use Rattle.wtf_clients.proofs.Caused.{plain_caused, plain_failed, has_failed, none_placed, refused_placed, fault_placed, none_added, refused_adds}
+use Rattle.wtf_clients.proofs.Caused.{plain_caused, plain_failed, has_failed, none_placed, refused_placed, fault_placed, none_added, refused_adds, none_spares, some_spares, others_since}
 use Rattle.wtf_clients.proofs.JobMaking.{made_of}
 use Rattle.wtf_clients.proofs.JobTurning.{plan_bytes}
 use Rattle.wtf_clients.proofs.Lacking.{memory_none, no_lists, region_caused}
@@ -210,6 +210,7 @@ module _ {S : Type 0} {kind : StoreKind S} (laws : KindLaws kind) (old new : Dev
       adds = added jk refl;
       caused = plain_caused kind (between old new) old.settings ⊥ (AreBased before) (AreFull old.settings before) (load_of_job jk) answer.Planned tt;
       placed = placed jk refl;
+      spares = tt;
       failed = plain_failed asked.fails answer.Planned tt;
     }
 
@@ -231,12 +232,12 @@ module _ {S : Type 0} {kind : StoreKind S} (laws : KindLaws kind) (old new : Dev
 
   -- ---- one that failed, of the file to which the path leads
   module _ (i : InodeId) (leads : LeadsTo now p i) (why : Fault) (a : Answer) (is : fault_answer why ≡ Some a)
-      (fails : IsPlanFault kind old new jk (region_at now i r) why) where
+      (fails : IsPlanFault kind old new (job_target i r jk) (region_at now i r) why) where
     region_in : (P : List Place → Bool) (Q : Slice → Bool) → TablesBytes P Q before → MaybeBytes P Q (region_at now i r)
     region_in P Q h = region_of_bytes P Q (now (Region i r)) (now_bytes P Q before h (Region i r))
 
     -- the machine allows it, where a plan is due
-    write_may : (w : Fault) → fault_answer w ≡ Some a → LacksServers kind old new (spills jk (end_of (region_at now i r))) w
+    write_may : (w : Fault) → fault_answer w ≡ Some a → LacksServers kind old new (job_target i r jk) (region_at now i r) w
         → MayFailPlan old.settings.servers jk answer.Planned a
     write_may fault.Write same lacks = by jk lacks.spilled
       where
@@ -260,7 +261,7 @@ module _ {S : Type 0} {kind : StoreKind S} (laws : KindLaws kind) (old new : Dev
     pub plan_may : MayFailPlan old.settings.servers jk answer.Planned a
     plan_may = by fails
       where
-        by : IsPlanFault kind old new jk (region_at now i r) why → MayFailPlan old.settings.servers jk answer.Planned a
+        by : IsPlanFault kind old new (job_target i r jk) (region_at now i r) why → MayFailPlan old.settings.servers jk answer.Planned a
         by (inl memory) = absurd (memory_none why a is memory)
         by (inr (inl lacks)) = read_may why is
             (region_fault_known kind old new (region_at now i r) why lent (region_in (inside_of kind old) any_slice inside) lacks.cause)
@@ -269,7 +270,7 @@ module _ {S : Type 0} {kind : StoreKind S} (laws : KindLaws kind) (old new : Dev
     -- Why it failed. Each byte has as many copies as there are replicas where `full` holds, and O then holds of each base.
     module _ (full : Type 0) (O : Slice → Bool) (copies : full → TablesBytes (has_copies old.settings.replicas) O before) where
       -- too few servers took the list
-      write_caused : (w : Fault) → fault_answer w ≡ Some a → LacksServers kind old new (spills jk (end_of (region_at now i r))) w
+      write_caused : (w : Fault) → fault_answer w ≡ Some a → LacksServers kind old new (job_target i r jk) (region_at now i r) w
           → HasCause kind (between old new) old.settings ⊥ (AreBased before) full (load_of_job jk) a
       write_caused fault.Write same lacks =
           let few : AreTooFew kind (between old new) old.settings.servers old.settings.replicas =
@@ -289,7 +290,7 @@ module _ {S : Type 0} {kind : StoreKind S} (laws : KindLaws kind) (old new : Dev
       pub plan_by : HasCause kind (between old new) old.settings ⊥ (AreBased before) full (load_of_job jk) a
       plan_by = by fails
         where
-          by : IsPlanFault kind old new jk (region_at now i r) why
+          by : IsPlanFault kind old new (job_target i r jk) (region_at now i r) why
               → HasCause kind (between old new) old.settings ⊥ (AreBased before) full (load_of_job jk) a
           by (inl memory) = absurd (memory_none why a is memory)
           by (inr (inl lacks)) = cause_more kind (between old new) old.settings (AreBased before) full (load_of_job jk) a
@@ -299,7 +300,7 @@ module _ {S : Type 0} {kind : StoreKind S} (laws : KindLaws kind) (old new : Dev
           by (inr (inr lacks)) = write_caused why is lacks
 
     -- the stores kept their lengths, unless the fault is one of writing
-    left : (k : JobKind) → jk ≡ k → (w : Fault) → fault_answer w ≡ Some a → IsPlanFault kind old new jk (region_at now i r) w
+    left : (k : JobKind) → jk ≡ k → (w : Fault) → fault_answer w ≡ Some a → IsPlanFault kind old new (job_target i r jk) (region_at now i r) w
         → AddsBytes kind (between old new) old.settings (load_of_job k) a
     left k same w e (inl memory) = absurd (memory_none w a e memory)
     left k same w e (inr (inl lacks)) = all_added k a lacks.reads
@@ -320,6 +321,18 @@ module _ {S : Type 0} {kind : StoreKind S} (laws : KindLaws kind) (old new : Dev
     left k same (fault.Damaged s) e (inr (inr lacks)) = absurd lacks.out
     left k same fault.Memory e (inr (inr lacks)) = absurd (memory_none fault.Memory a e refl)
 
+    -- only the file to which the list was to go may have grown
+    plan_spares : SparesFiles kind (between old new) asked a
+    plan_spares = by fails
+      where
+        by : IsPlanFault kind old new (job_target i r jk) (region_at now i r) why → SparesFiles kind (between old new) asked a
+        by (inl memory) = absurd (memory_none why a is memory)
+        by (inr (inl lacks)) = none_spares kind (between old new) asked a lacks.reads.lengths
+        by (inr (inr lacks)) = some_spares kind (between old new) asked a (place_in old i (r * old.settings.region))
+            (old, new, lent_to old new ring, (i, leads, refl))
+            (subst (λ (place : PlaceView). OtherFilesStay kind (stores old) (stores new) place.file) (place_same old lacks.mid lacks.goes (job_target i r jk))
+            (others_since kind (stores old) (stores lacks.mid) (stores new) _ lacks.goes.each.same_length lacks.reads.lengths lacks.others))
+
     pub plan_fails : ServesLine kind (between old new) (lent_by old) before before (event.Plan j jk p r) a
     plan_fails = record {
       inside = later laws old new goes lent before sound inside;
@@ -328,6 +341,7 @@ module _ {S : Type 0} {kind : StoreKind S} (laws : KindLaws kind) (old new : Dev
       adds = left jk refl why is fails;
       caused = plan_by (AreFull old.settings before) no_slice (λ h. h);
       placed = fault_placed kind (between old new) old.settings asked why a is;
+      spares = plan_spares;
       failed = has_failed asked.fails why a is (old, new, lent_to old new ring, record { inode = i; leads = leads; cause = fails });
     }
 
@@ -341,5 +355,6 @@ module _ {S : Type 0} {kind : StoreKind S} (laws : KindLaws kind) (old new : Dev
     adds = refused_adds kind (between old new) old.settings (load_of_job jk) (answer.Refused w) tt reads.lengths;
     caused = plain_caused kind (between old new) old.settings ⊥ (AreBased before) (AreFull old.settings before) (load_of_job jk) (answer.Refused w) tt;
     placed = refused_placed kind (between old new) old.settings asked (answer.Refused w) tt;
+    spares = tt;
     failed = plain_failed asked.fails (answer.Refused w) tt;
   })

@@ -80,7 +80,8 @@ module _ {S : Type 0} (kind : StoreKind S) (old new : Dev S) (goes : GoesOn kind
   pub knows_install : (kv after : Store Key Value) (x : TxnView) (a : Answer) → IsInstall (scope kind old new) kv after x a → IsInstall known kv after x a
   knows_install kv after x (answer.Committed n) h = record {
     hand = h.hand;
-    redone = redone_later (scope kind old new) known refl knows kv x (length x.log.ops - x.replayed) h.hand h.redone;
+    lists = h.lists;
+    redone = redone_later (scope kind old new) known refl knows kv x (length x.log.ops - x.replayed) h.lists h.hand h.redone;
     next = h.next;
     number = h.number;
     versions = h.versions;

@@ -2,6 +2,7 @@
 use Rattle.std.proofs.Common.{◌≡◌, ◌⊎◌, ℕ, Bool, true, List, [], Option, None, Some, refl, sym, ap, subst, inl, inr, slice_get}
 use Rattle.std.specs.Prelude.{IfSome, IsSome}
 use Rattle.std.specs.Option.{option_map}
+use Rattle.wtf_steps.specs.Leaving.{LeavesStores}
 use Rattle.wtf_base.specs.declared.fault.Fault.{Fault}
 use Rattle.wtf_base.specs.declared.fault.Fault.TheVariants as fault
 use Rattle.wtf_base.specs.declared.ids.InodeId.{InodeId}
@@ -32,7 +33,7 @@ use Rattle.wtf_region.specs.Showing.{OnlyRead}
 use Rattle.wtf_rw.specs.Stored.{SliceBytes}
 use Rattle.wtf_replay.specs.Views.{TxnView, hand_of, rebased, in_hand}
 use Rattle.wtf_replay.specs.Called.{IsCalled}
-use Rattle.wtf_replay.specs.Causes.{StoresNothing, IsOwnOf, IsCallFault, FaultAt, ReplayFault, IsCommitFault, fault_answer}
+use Rattle.wtf_replay.specs.Causes.{StoresNothing, IsOwnOf, IsCallFault, FaultAt, ReplayFault, IsCommitFault, fault_answer, grown_file}
 use Rattle.wtf_replay.proofs.Froms.{from_one}
 use Rattle.wtf_replay.specs.Insides.{HandBytes, LogBytes, TxnBytes, IsInsideTxn, NamesTxn, NamesNow}
 use Rattle.wtf_replay.specs.Refusals.{call_refusal, step_refusal, unmade}
@@ -42,7 +43,7 @@ use Rattle.wtf_replay.proofs.Naming.{named_inside}
 use Rattle.wtf_clients.specs.Views.{Clients, TablesView, of_client}
 use Rattle.wtf_clients.specs.Sounds.{AreSound, Sets}
 use Rattle.wtf_clients.specs.Named.{TablesBytes, any_byte, no_slice, has_copies}
-use Rattle.wtf_clients.specs.Asked.{Asked, asked_of, lent_by, IsLent, IsPlaced, HasFailed}
+use Rattle.wtf_clients.specs.Asked.{Asked, asked_of, lent_by, IsLent, IsPlaced, HasFailed, SparesFiles}
 use Rattle.wtf_clients.specs.Outcomes.{Data, no_load, AddsBytes, HasCause, data_of_op}
 use Rattle.wtf_clients.specs.Serves.{NamesTables, IsPlain, AreBased, AreBare, AreFull, Serves}
 use Rattle.wtf_clients.specs.Turns.{Ends, Stays}
@@ -50,7 +51,7 @@ use Rattle.wtf_clients.proofs.Lives.{now_bytes}
 use Rattle.wtf_clients.proofs.Making.{answered, same_answer}
 use Rattle.wtf_clients.proofs.Naming.{value_later, keeps_bytes, stays_bytes, leaves_bytes, ends_bytes}
 use Rattle.wtf_clients.proofs.Lacking.{AreFullLists, memory_none, no_lists, any_lists, cause_since}
-use Rattle.wtf_clients.proofs.Caused.{logged_plain, plain_caused, plain_failed, has_failed, none_placed, refused_placed, fault_placed, call_placed}
+use Rattle.wtf_clients.proofs.Caused.{logged_plain, plain_caused, plain_failed, has_failed, none_placed, refused_placed, fault_placed, call_placed, none_spares, plain_spares, call_spares}
 use Rattle.wtf_clients.proofs.Caused.{none_added, refused_adds, same_lengths, call_adds, own_full, fault_adds, SeenBytes, again_caused, call_caused}
 
 -- what is not refused
@@ -126,6 +127,7 @@ module _ {S : Type 0} {kind : StoreKind S} (laws : KindLaws kind) (old new : Dev
     adds = none_added kind (between old new) old.settings a reads.lengths;
     caused = caused;
     placed = none_placed kind (between old new) old.settings (record { given = no_load; goes_to = place; empty = empty; fails = fails }) a refl;
+    spares = none_spares kind (between old new) (record { given = no_load; goes_to = place; empty = empty; fails = fails }) a reads.lengths;
     failed = failed;
   }
 
@@ -283,9 +285,9 @@ module _ {S : Type 0} {kind : StoreKind S} (laws : KindLaws kind) (old new : Dev
         (AreFull old.settings before → TxnBytes (has_copies old.settings.replicas) no_slice before.kv y) → AddsBytes kind (between old new) old.settings
         asked.given a
         → HasCause kind (between old new) old.settings ⊥ (AreBased before) (AreFull old.settings before) asked.given a → IsPlaced kind (between old new)
-        old.settings asked a → HasFailed asked.fails a
+        old.settings asked a → SparesFiles kind (between old new) asked a → HasFailed asked.fails a
         → Serves kind (between old new) old.settings ⊥ (before, called) asked a
-    set_serves asked a bare full adds caused placed failed = record {
+    set_serves asked a bare full adds caused placed spares failed = record {
       inside = keeps_bytes (is_inside kind (stores new) old.settings) any_slice before called c y sound
           (record { clients = sets; kv = refl; next_tx = refl; beside = refl }) own later;
       bare = λ free h. keeps_bytes any_byte no_slice before called c y sound (record { clients = sets; kv = refl; next_tx = refl; beside = refl }) (bare h) h;
@@ -294,6 +296,7 @@ module _ {S : Type 0} {kind : StoreKind S} (laws : KindLaws kind) (old new : Dev
       adds = adds;
       caused = caused;
       placed = placed;
+      spares = spares;
       failed = failed;
     }
 
@@ -325,7 +328,7 @@ module _ {S : Type 0} {kind : StoreKind S} (laws : KindLaws kind) (old new : Dev
             (λ ok some.
             let put = call_placed kind old new (seen before.kv x.at) x.session o did.0 a did.2 did.1.lacks ok some in
             (put.0, (old, new, lent_to old new ring, (x, there, put.1)), put.2, put.3))
-            (plain_failed (asked o).fails a plain)
+            (plain_spares kind (between old new) (asked o) a plain) (plain_failed (asked o).fails a plain)
         by (Some w) is =
             let held : unmade x ≡ Some (answer.Refused w) = ap (option_map answer.Refused) is in
             let all : (answered Fault a (answer.Refused w)) × (y ≡ x) × (new ≡ old) =
@@ -336,16 +339,18 @@ module _ {S : Type 0} {kind : StoreKind S} (laws : KindLaws kind) (old new : Dev
             (same_bytes any_byte no_slice all.1) (same_bytes (has_copies old.settings.replicas) no_slice all.1)
             (refused_adds kind (between old new) old.settings (Data (data_of_op o)) (answer.Refused w) tt (same_lengths kind old new all.2))
             (plain_caused kind (between old new) old.settings ⊥ (AreBased before) (AreFull old.settings before) (Data (data_of_op o)) (answer.Refused w) tt)
-            (refused_placed kind (between old new) old.settings (asked o) (answer.Refused w) tt)
+            (refused_placed kind (between old new) old.settings (asked o) (answer.Refused w) tt) tt
             (plain_failed (asked o).fails (answer.Refused w) tt))
 
     -- a call that failed
     pub fault_serves : IsRing old.settings.servers old.ring.now.points → (o : Op (List ℕ)) (why : Fault) (a : Answer) → fault_answer why ≡ Some a → y ≡ x
         → IsCallFault kind old new (seen before.kv x.at) x.session o why → (StoresNothing o → OnlyRead kind (between old new))
+        → LeavesStores kind (grown_file old (seen before.kv x.at) x.session o) (between old new)
         → Serves kind (between old new) old.settings ⊥ (before, called) (asked o) a
-    fault_serves ring o why a is same h reads =
+    fault_serves ring o why a is same h reads leaves =
         set_serves (asked o) a (same_bytes any_byte no_slice same) (same_bytes (has_copies old.settings.replicas) no_slice same)
         (fault_adds kind old new (seen before.kv x.at) x.session o why a is h reads)
         (call_by (AreFull old.settings before) no_slice (λ h. h) c x o why a there is (no_reads old (seen before.kv x.at)) h)
         (fault_placed kind (between old new) old.settings (asked o) why a is)
+        (call_spares kind old new (seen before.kv x.at) x.session o (asked o) a leaves (λ place at. (old, new, lent_to old new ring, (x, there, at))))
         (has_failed (asked o).fails why a is (old, new, lent_to old new ring, (x, there, h)))

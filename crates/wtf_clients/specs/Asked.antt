@@ -8,7 +8,7 @@ use Rattle.wtf_dev.specs.Store.{StoreKind}
 use Rattle.wtf_ring.specs.Points.{PlaceView, IsRing}
 use Rattle.wtf_replica.specs.Spans.{Span}
 use Rattle.wtf_replica.specs.Copies.{IsStored}
-use Rattle.wtf_replica.specs.Outs.{SameLengths}
+use Rattle.wtf_replica.specs.Outs.{SameLengths, OtherFilesStay}
 use Rattle.wtf_replica.specs.Faults.{IsPunchFault}
 use Rattle.wtf_overlay.specs.Origin.{Place}
 use Rattle.wtf_kv.specs.Stores.{Store}
@@ -34,7 +34,7 @@ use Rattle.wtf_region.specs.Devs.{between, place_in, remembered}
 use Rattle.wtf_rw.specs.Stored.{end_place}
 use Rattle.wtf_replay.specs.Causes.{FaultAt, IsCallFault, IsCommitFault, fault_answer}
 use Rattle.wtf_replay.specs.Views.{TxnView, hand_of}
-use Rattle.wtf_compact.specs.Jobs.{region_at}
+use Rattle.wtf_compact.specs.Jobs.{job_target, region_at}
 use Rattle.wtf_compact.specs.Planned.{IsPlanFault}
 use Rattle.wtf_gc.specs.Scans.{IsPrunedFrom, IsPieceFault}
 use Rattle.wtf_gc.specs.Views.{is_garbage}
@@ -90,7 +90,7 @@ IsLineEmpty tables e = ⊥
 pub record LacksPlan {S : Type 0} (kind : StoreKind S) (old new : Dev S) (w : Map) (jk : JobKind) (p : List ℕ) (r : ℕ) (why : Fault) : Type 0 where
   pub inode : InodeId
   pub leads : LeadsTo w p inode
-  pub cause : IsPlanFault kind old new jk (region_at w inode r) why
+  pub cause : IsPlanFault kind old new (job_target inode r jk) (region_at w inode r) why
 
 -- a list that the next parts of a scan have to read was not read, a base of a version that is kept
 pub record LacksPart {S : Type 0} (kind : StoreKind S) (old new : Dev S) (tables : TablesView) (k : ℕ) (why : Fault) : Type 0 where
@@ -146,6 +146,12 @@ IsPlacedBy kind t settings asked (Frees k) a = ⊤
 
 abbrev pub IsPlaced : {S : Type 0} → StoreKind S → Span S → Settings → Asked → Answer → Type 0
 IsPlaced kind t settings asked a = IsPlacedBy kind t settings asked asked.given a
+
+-- Where bytes were not stored, no file of a store grew, or but the one to which they were to go.
+abbrev pub SparesFiles : {S : Type 0} → StoreKind S → Span S → Asked → Answer → Type 0
+SparesFiles kind t asked answer.FaultWrite =
+    SameLengths kind t.before t.after ⊎ ((place : PlaceView) × asked.goes_to place × OtherFilesStay kind t.before t.after place.file)
+SparesFiles kind t asked a = ⊤
 
 -- the answer is that of such a fault
 abbrev pub IsBecause : (Fault → Type 0) → Answer → Type 0

@@ -44,7 +44,7 @@ use Rattle.wtf_core.specs.Turns.{Switches, IsTreeAnswer, LineTurn}
 use Rattle.wtf_clients.proofs.Pins.{number_cases}
 use Rattle.wtf_clients.proofs.Staying.{IsFault, fault_is}
 use Rattle.wtf_core.proofs.Naming.{IsLocal}
-use Rattle.wtf_clients.proofs.Caused.{plain_caused, plain_failed, none_placed, none_added}
+use Rattle.wtf_clients.proofs.Caused.{plain_caused, plain_failed, none_placed, none_added, plain_spares}
 
 -- ---- no line but a collection is answered as one
 logged_uncollected : (a : Answer) → IsLogged a → IsUncollected a
@@ -289,5 +289,6 @@ module _ {S : Type 0} (kind : StoreKind S) (down : ℕ → Bool) (shelf : List S
         (none_added kind (span down shelf shelf) lent.settings a (reads_nothing kind down shelf).lengths);
     caused = plain_caused kind (span down shelf shelf) lent.settings ⊥ (AreBased old) (AreFull lent.settings old) (load_of e) a plain;
     placed = none_placed kind (span down shelf shelf) lent.settings (asked_of kind (span down shelf shelf) lent old e) a none;
+    spares = plain_spares kind (span down shelf shelf) (asked_of kind (span down shelf shelf) lent old e) a plain;
     failed = plain_failed (asked_of kind (span down shelf shelf) lent old e).fails a plain;
   }

@@ -1,6 +1,8 @@
 -- What a line punches: a collection alone, and only garbage.
 use Rattle.std.proofs.Common.{◌≡◌, ◌≢◌, ◌≤◌, ℕ, Bool, true, false, List, [], ◌++◌, length, IfOk, OnErr, Result, Ok, Err, refl, sym, ◌∙◌, ap, subst, arith}
 use Rattle.std.specs.Prelude.{◌||◌, ⊤}
+use Rattle.std.proofs.lemmas.Bool.{true≢false}
+use Rattle.wtf_base.specs.Places.{Place}
 use Rattle.wtf_dev.specs.Each.{EachFollows}
 use Rattle.wtf_dev.specs.Store.{Range, StoreKind, KindLaws}
 use Rattle.wtf_model.specs.declared.answer.Answer.{Answer}
@@ -8,6 +10,7 @@ use Rattle.wtf_model.specs.declared.answer.Answer.TheVariants as answer
 use Rattle.wtf_model.specs.declared.answer.Word.TheVariants.{NoServer, NoScan}
 use Rattle.wtf_model.specs.declared.event.Event.{Event}
 use Rattle.wtf_model.specs.declared.event.Event.TheVariants as event
+use Rattle.wtf_replica.specs.Downs.{is_down}
 use Rattle.wtf_replica.specs.Faults.{punched_on}
 use Rattle.wtf_replica.specs.Spans.{Span}
 use Rattle.wtf_region.specs.declared.dev.Dev.{Dev}
@@ -15,13 +18,13 @@ use Rattle.wtf_region.specs.Devs.{IsSoundDev, GoesOn, stores, remembered, is_dow
 use Rattle.wtf_region.proofs.Spans.{goes_nowhere, goes_on}
 use Rattle.wtf_gc.specs.declared.extent.Extent.{Extent}
 use Rattle.wtf_gc.specs.Extents.{covers}
-use Rattle.wtf_gc.specs.Frees.{tried_on}
+use Rattle.wtf_gc.specs.Frees.{AreZeroed, lie_in, tried_on}
 use Rattle.wtf_gc.specs.Views.{GcView}
 use Rattle.wtf_clients.specs.ScanTurns.{CollectTurn, CollectsSome}
 use Rattle.wtf_clients.specs.Views.{TablesView}
 use Rattle.wtf_clients.proofs.Freeing.{front_apart}
 use Rattle.wtf_clients.proofs.Punched.{tried_among}
-use Rattle.wtf_core.specs.Punched.{IsUncollected, ArePunchedBy, CountsAs}
+use Rattle.wtf_core.specs.Punched.{IsUncollected, ArePunchedBy, AreFreed, CountsAs}
 use Rattle.wtf_core.specs.Remembering.{KeepsLists, KeepsPunched}
 use Rattle.wtf_core.specs.Turns.{LineTurn}
 use Rattle.wtf_core.specs.Views.{CoreView}
@@ -50,7 +53,23 @@ counts_same old new (answer.FaultPunch k) same = (
 )
 counts_same old new a same = λ p. ap (λ (es : List Extent). covers es p) same ∙ sym (or_none (covers old.freed p))
 
+freed_none : {S : Type 0} (kind : StoreKind S) (down : ℕ → Bool) (before after : List S) (old new : GcView) → new.freed ≡ old.freed
+    → AreFreed kind down before after old new
+freed_none kind down before after old new same =
+    let none : (p : Place) → covers old.freed p ≡ false → covers new.freed p ≡ true → ⊥ =
+    λ p was is. true≢false (sym is ∙ ap (λ (es : List Extent). covers es p) same ∙ was) in
+    record { up = λ p was is. absurd (none p was is); zeros = λ tells p was is. absurd (none p was is) }
+
 -- ---- a collection
+-- what it made zeros, and no more, came to count as freed
+freed_by : {S : Type 0} (kind : StoreKind S) (before after : Dev S) (old new : GcView) (rs : List (ℕ × Range))
+    → ((p : Place) → covers new.freed p ≡ (covers old.freed p || lie_in rs p)) → AreZeroed kind before after rs
+    → AreFreed kind (is_down before.replicas.now) (stores before) (stores after) old new
+freed_by kind before after old new rs counts zeroed =
+    let among : (p : Place) → covers old.freed p ≡ false → covers new.freed p ≡ true → lie_in rs p ≡ true =
+    λ p was is. sym (counts p ∙ ap (λ b. b || lie_in rs p) was) ∙ is in
+    record { up = λ p was is. zeroed.up p (among p was is); zeros = λ tells p was is. zeroed.zeros tells p (among p was is) }
+
 -- where a range was not freed at most one was punched
 one_tried : (down : Bool) (k : ℕ) (r : Range) → length (punched_on down k r) ≤ 1
 one_tried true k r = omega arith
@@ -58,12 +77,15 @@ one_tried false k r = omega arith
 
 -- the lists that are remembered then are true, but of slices of which a byte was punched
 module _ {S : Type 0} {kind : StoreKind S} (laws : KindLaws kind) (before after : Dev S) (sound : IsSoundDev kind before) (old new : CoreView) (k : ℕ)
-    (settings : before.settings ≡ old.settings) (was : remembered before ≡ old.lists) (is : new.lists ≡ remembered after) where
+    (settings : before.settings ≡ old.settings) (lent : before.replicas.now ≡ old.replicas) (was : remembered before ≡ old.lists)
+    (is : new.lists ≡ remembered after) where
   kept_by : (a : Answer) (ranges : List (ℕ × Range)) → ArePunchedBy old.tables.beside.gc (event.Collect k) a ranges
-      → CountsAs old.tables.beside.gc new.tables.beside.gc a ranges → GoesOn kind before after ranges
+      → CountsAs old.tables.beside.gc new.tables.beside.gc a ranges
+      → AreFreed kind (is_down before.replicas.now) (stores before) (stores after) old.tables.beside.gc new.tables.beside.gc → GoesOn kind before after ranges
       → KeepsPunched kind (stores before) (stores after) old new (event.Collect k) a
-  kept_by a ranges are counts goes = record {
+  kept_by a ranges are counts freed goes = record {
     punches = record { ranges = ranges; are = are; counts = counts; follows = goes.each };
+    freed = subst (λ r. AreFreed kind (is_down r) (stores before) (stores after) old.tables.beside.gc new.tables.beside.gc) lent freed;
     lists = goes_keeps kind before after old new goes settings was is;
   }
 
@@ -72,6 +94,8 @@ module _ {S : Type 0} {kind : StoreKind S} (laws : KindLaws kind) (before after 
   none_kept w same stay =
       kept_by (answer.Refused w) [] (refl, tt)
       (counts_same old.tables.beside.gc new.tables.beside.gc (answer.Refused w) (ap (λ (t : TablesView). t.beside.gc.freed) same))
+      (freed_none kind (is_down before.replicas.now) (stores before) (stores after) old.tables.beside.gc new.tables.beside.gc
+      (ap (λ (t : TablesView). t.beside.gc.freed) same))
       (subst (λ (dev : Dev S). GoesOn kind before dev []) (sym stay) (goes_nowhere laws before sound))
 
   some_kept : (j : ℕ) → CollectsSome kind before after old.tables new.tables k j
@@ -85,6 +109,7 @@ module _ {S : Type 0} {kind : StoreKind S} (laws : KindLaws kind) (before after 
         among = λ p here. sym (f.are.exact p) ∙ tried_among down f.ranges f.rest k f.tried p here;
       })
       (f.ranges, tried_on f.mid (k, f.tried), refl, one_tried down k f.tried, f.counts.freed)
+      (freed_by kind before after old.tables.beside.gc new.tables.beside.gc f.ranges f.counts.freed f.zeroed)
       (goes_on laws f.goes f.last)
 
   pub collect_keeps : (a : Answer) → CollectTurn kind before after old.tables new.tables k a
@@ -92,7 +117,8 @@ module _ {S : Type 0} {kind : StoreKind S} (laws : KindLaws kind) (before after 
   collect_keeps (answer.Refused NoServer) h = none_kept NoServer h.0 h.1
   collect_keeps (answer.Refused NoScan) h = none_kept NoScan h.0 h.1
   collect_keeps (answer.Collected n) h =
-      kept_by (answer.Collected n) h.1.frees.ranges (h.1.frees.are, h.1.frees.count) h.1.frees.counts.freed h.1.frees.goes
+      kept_by (answer.Collected n) h.1.frees.ranges (h.1.frees.are, h.1.frees.count) h.1.frees.counts.freed
+      (freed_by kind before after old.tables.beside.gc new.tables.beside.gc h.1.frees.ranges h.1.frees.counts.freed h.1.frees.zeroed) h.1.frees.goes
   collect_keeps (answer.FaultPunch j) h = some_kept j h.1
   collect_keeps a h = absurd h
 
@@ -116,6 +142,7 @@ none_keeps kind t old new sound e a turn plain follows lists =
         counts = counts_same old.tables.beside.gc new.tables.beside.gc a (line_freed kind t old new sound a e other turn);
         follows = follows;
       };
+      freed = freed_none kind (is_down old.replicas) t.before t.after old.tables.beside.gc new.tables.beside.gc (line_freed kind t old new sound a e other turn);
       lists = lists;
     }
 

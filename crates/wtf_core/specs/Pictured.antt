@@ -1,36 +1,22 @@
 -- The tree that an image stands for, and which images a run can begin with.
 use Rattle.std.specs.Prelude.{◌≡◌, ◌⊎◌, ◌≤◌, ℕ, List, [], None, Some}
 use Rattle.std.specs.List.{Contains}
-use Rattle.std.specs.Option.{option_map}
 use Rattle.wtf_base.specs.declared.ids.InodeId.{InodeId}
 use Rattle.wtf_base.specs.declared.settings.Settings.{Settings}
 use Rattle.wtf_dev.specs.Keep.{KeeperView}
 use Rattle.wtf_model.specs.Tree.{Tree, root_alone}
-use Rattle.wtf_values.specs.declared.key.Key.{Key}
 use Rattle.wtf_meta.specs.Contents.{Told}
-use Rattle.wtf_meta.specs.Maps.{Map}
-use Rattle.wtf_meta.specs.Trees.{Stands}
 use Rattle.wtf_image.specs.Images.{HasText}
 use Rattle.wtf_image.specs.Loading.{AreSettingsOf, IsTaken}
-use Rattle.wtf_image.specs.Lookups.{plain, region_at, row_at}
+use Rattle.wtf_image.specs.Lookups.{region_at}
+pub use Rattle.wtf_image.specs.Pictured.{IsImageOfTree, IsImageWith}
 use Rattle.wtf_image.specs.Rows.{RegionRow, ImageRows}
-
--- The bytes are an image, and what it says of each key stands for the tree, over what the stores tell, for each transaction
--- that is not before the one that it gives as the next. So a region whose list lies in a slice has the bytes that this list, with the
--- image's entries over it, says: the stores tell each byte of the slice, these decode to a list, and the stores tell each byte that the
--- list names (`Stands.bytes`).
-pub record IsImageOfTree (told : Told) (bytes : List ℕ) (t : Tree) : Type 0 where
-  pub rows : ImageRows
-  pub map : Map
-  pub text : HasText rows bytes
-  pub says : (q : Key) → option_map plain (map q) ≡ row_at rows q
-  pub stands : (tx : ℕ) → rows.header.next_tx ≤ tx → Stands rows.header.region told tx 0 map t
 
 -- no region of an image has a list that lies in a slice: all lists of regions are in the image
 abbrev pub IsBareImage : List ℕ → Type 0
 IsBareImage bytes = (x : ImageRows) → HasText x bytes → (i : InodeId) (r : ℕ) (row : RegionRow) → region_at x.files i r ≡ Some row → row.base ≡ None
 
--- they stand for one of these trees; no bytes stand for the root alone
+-- bytes stand for one of these trees; no bytes stand for the root alone
 abbrev pub IsImageOfOne : Told → List ℕ → List Tree → Type 0
 IsImageOfOne told bytes may =
     ((bytes ≡ []) × Contains may root_alone) ⊎ ((t : Tree) × Contains may t × IsImageOfTree told bytes t)
@@ -47,14 +33,6 @@ pub record IsImageFor (size : ℕ → ℕ → ℕ) (settings : Settings) (number
   pub settings_are : AreSettingsOf rows settings
   pub installs : rows.header.installs ≤ number
   pub next_tx : rows.header.next_tx ≤ next
-
--- the same, and its numbers are just these
-pub record IsImageWith (size : ℕ → ℕ → ℕ) (settings : Settings) (number next : ℕ) (bytes : List ℕ) : Type 0 where
-  pub rows : ImageRows
-  pub taken : IsTaken size bytes rows
-  pub settings_are : AreSettingsOf rows settings
-  pub installs : rows.header.installs ≡ number
-  pub next_tx : rows.header.next_tx ≡ next
 
 -- no byte, or such an image
 abbrev pub IsTakenFor : (ℕ → ℕ → ℕ) → Settings → ℕ → ℕ → List ℕ → Type 0

@@ -16,7 +16,7 @@ use Rattle.wtf_model.specs.Machines.{Machine}
 use Rattle.wtf_model.specs.Servers.{down_after_event}
 use Rattle.wtf_model.specs.Steps.{after}
 use Rattle.wtf_gc.specs.Extents.{covers}
-use Rattle.wtf_clients.specs.Asked.{asked_of, IsPlaced, HasFailed}
+use Rattle.wtf_clients.specs.Asked.{asked_of, IsPlaced, SparesFiles, HasFailed}
 use Rattle.wtf_clients.specs.Keeping.{KeeperSpan, KeeperTurn, HoldsKept}
 use Rattle.wtf_clients.specs.Outcomes.{AddsBytes, IsUnspilled, SaveFault, HasCause, load_of}
 use Rattle.wtf_clients.specs.ScanTurns.{IsPruned}
@@ -96,10 +96,12 @@ abbrev pub Obeys : {S : Type 0} → StoreKind S → Scene S → Scene S → Even
 Obeys kind old new e a =
     TellsCore kind old.shelf old.core → (m : Machine) → StandsFor (byte_at kind old.shelf) old.core m → IsLawful kind old new m e a
 
--- the stores grew by what the line writes, where that goes
+-- the stores grew by what the line writes, where that goes; and where bytes were not stored, only the file to which they were to go may
+-- have grown
 pub record Stores {S : Type 0} (kind : StoreKind S) (old new : Scene S) (e : Event) (a : Answer) : Type 0 where
   pub adds : AddsBytes kind (span_of old new) old.core.settings (load_of e) a
   pub placed : IsPlaced kind (span_of old new) old.core.settings (asked_of kind (span_of old new) (lent_of old.core) old.core.tables e) a
+  pub spares : SparesFiles kind (span_of old new) (asked_of kind (span_of old new) (lent_of old.core) old.core.tables e) a
 
 -- a fault has its cause in this very line
 pub record IsCaused {S : Type 0} (kind : StoreKind S) (old new : Scene S) (e : Event) (a : Answer) : Type 0 where

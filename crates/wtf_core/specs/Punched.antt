@@ -1,9 +1,11 @@
 -- What a line punches of the stores: garbage, and no other byte.
 -- NSDI 2016, section 2.8 (garbage collection in two scans).
-use Rattle.std.specs.Prelude.{◌≡◌, ◌≤◌, ℕ, true, ◌||◌, ◌&&◌, ◌++◌, nat_eq, List, [], length, ⊤}
+use Rattle.std.specs.Prelude.{◌≡◌, ◌≤◌, ℕ, Bool, true, false, ◌||◌, ◌&&◌, ◌++◌, nat_eq, List, [], length, Some, ⊤}
 use Rattle.wtf_base.specs.Places.{Place}
 use Rattle.wtf_dev.specs.Each.{EachFollows}
 use Rattle.wtf_dev.specs.Store.{Range, StoreKind}
+use Rattle.wtf_dev.specs.Sums.{TellsAll}
+use Rattle.wtf_replica.specs.Bytes.{byte_at}
 use Rattle.wtf_model.specs.declared.answer.Answer.{Answer}
 use Rattle.wtf_model.specs.declared.answer.Answer.TheVariants as answer
 use Rattle.wtf_model.specs.declared.event.Event.{Event}
@@ -42,3 +44,8 @@ pub record Punches {S : Type 0} (kind : StoreKind S) (before after : List S) (ol
   pub are : ArePunchedBy old e a ranges
   pub counts : CountsAs old new a ranges
   pub follows : EachFollows kind before after ranges
+
+-- a byte that came to count as freed is zero now, where the stores tell their content, and its server is up
+pub record AreFreed {S : Type 0} (kind : StoreKind S) (down : ℕ → Bool) (before after : List S) (old new : GcView) : Type 0 where
+  pub up : (p : Place) → covers old.freed p ≡ false → covers new.freed p ≡ true → down p.server ≡ false
+  pub zeros : TellsAll kind before → (p : Place) → covers old.freed p ≡ false → covers new.freed p ≡ true → byte_at kind after p ≡ Some 0

@@ -104,7 +104,7 @@ returns-in-Err-show-clause-fault g c =
         pieces = ps;
         are = subst (λ (m : ℕ). IsFileRead kind dev c.show.new.dev (file_of i b) 0 m ps) count
             (subst (λ (w : Map). IsFileRead kind dev c.show.new.dev (file_of i w) 0 k ps) same
-            (file_read_later g.met.S.SliceStore.laws c.in-Ok-pieces.ensures.dev c.in-Err-show.ensures.dev (file_of i u) 0 k ps read));
+            (file_read_later g.met.S.SliceStore.laws c.in-Ok-pieces.ensures.dev c.in-Err-show.ensures.dev c.in-Err-show.ensures.lists (file_of i u) 0 k ps read));
         inside = pieces_inside g.met.S.SliceStore.laws c.requires.sound c.in-Ok-pieces.ensures.dev (file_of i u) file 0 k ps read;
         fault = subst (λ (m : ℕ). IsShowFault kind (between mid c.show.new.dev) (pieces_in 0 m ps) c.in-Err-show.why) count
             (subst (λ (qs : List Piece). IsShowFault kind (between mid c.show.new.dev) (pieces_in 0 k qs) c.in-Err-show.why) c.as_slice.ensures.value

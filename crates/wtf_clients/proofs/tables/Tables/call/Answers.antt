@@ -142,7 +142,7 @@ returns-in-Err-clause-serves g c =
     (if_ok c.answer_to.result (λ a. fault_answer why ≡ Some a) _ c.answer_to.ensures.answer
     (λ a is. fault_serves g.met.S.SliceStore.laws dev c.call.new.dev c.in-Err.ensures.call.dev c.requires.dev old sound inside lent.entries c.args.c x y there
     sets c.in-Err.ensures.call.inside c.requires.ring c.args.op why a is
-    (c.in-Err.ensures.call.err (memory_none why a is)) c.in-Err.ensures.call.fault c.in-Err.ensures.call.reads))
+    (c.in-Err.ensures.call.err (memory_none why a is)) c.in-Err.ensures.call.fault c.in-Err.ensures.call.reads c.in-Err.ensures.call.leaves))
 
 pub returns-clause-serves : goal.returns-clause-serves
 returns-clause-serves g c =

@@ -14,7 +14,7 @@ use Rattle.wtf_region.specs.Devs.{stores, remembered, between, RemembersTrue}
 use Rattle.wtf_region.specs.Inside.{is_inside}
 use Rattle.wtf_replay.specs.Causes.{fault_answer}
 use Rattle.wtf_replay.specs.Views.{hand_of}
-use Rattle.wtf_replay.specs.Verbs.{turn, ActsAgain}
+use Rattle.wtf_replay.specs.Verbs.{turn, ActsAgain, RedoesNext}
 use Rattle.wtf_replay.proofs.Turning.{refused_there}
 use Rattle.wtf_clients.specs.Views.{TablesView, of_client, without_hand, Clients}
 use Rattle.wtf_clients.specs.Sounds.{AreSound, Sets, IsAlike}
@@ -170,7 +170,8 @@ returns-then-not-ended-clause-turn g c =
     (refused_there (turn kind dev c.step.new.dev at.kv at.kv x y) (Ok c.in-Ok.answer) did.refused) did.stepped
     (λ free tells ops run. did.meaning free ops (starts_sound kind dev tells.0 old tells.1 c.step.new.dev at.kv c.args.c x y ops there tells.2 run))
     (λ free i e. knows_redone kind dev c.step.new.dev did.dev (TellsAll kind (stores dev)) dev.settings.servers at.kv x x.replayed (hand_of x) (hand_of y)
-    (subst (λ b. ActsAgain (turn kind dev c.step.new.dev at.kv at.kv x y) b) e (did.acts free))) did.fit
+    (let next : RedoesNext (turn kind dev c.step.new.dev at.kv at.kv x y)
+    = subst (λ b. ActsAgain (turn kind dev c.step.new.dev at.kv at.kv x y) b) e (did.acts free) in next.redoes)) did.fit
     (sym c.ended.ensures ∙ c.if-not-ended.true))
 
 pub returns-then-not-ended-clause-serves : goal.returns-then-not-ended-clause-serves
@@ -220,7 +221,8 @@ returns-clause-turn g c =
     (refused_there (turn kind dev c.step.new.dev at.kv at.kv x y) (Ok c.in-Ok.answer) did.refused) did.stepped
     (λ free tells ops run. did.meaning free ops (starts_sound kind dev tells.0 old tells.1 c.step.new.dev at.kv c.args.c x y ops there tells.2 run))
     (λ free i e. knows_redone kind dev c.step.new.dev did.dev (TellsAll kind (stores dev)) dev.settings.servers at.kv x x.replayed (hand_of x) (hand_of y)
-    (subst (λ b. ActsAgain (turn kind dev c.step.new.dev at.kv at.kv x y) b) e (did.acts free))) did.fit
+    (let next : RedoesNext (turn kind dev c.step.new.dev at.kv at.kv x y)
+    = subst (λ b. ActsAgain (turn kind dev c.step.new.dev at.kv at.kv x y) b) e (did.acts free) in next.redoes)) did.fit
     c.end.new.self gone.clients gone.next gone.beside
     (subst (λ o. IfSome o (λ z. c.end.new.self.kv ≡ record at.kv { pins = remove_key (nat_eq z.at.base) at.kv.pins })) mine gone.kv)
     (subst (λ o. IfSome o (λ z. IsPinnedOnceMore z.at.base c.end.new.self.kv at.kv)) mine gone.unpinned)

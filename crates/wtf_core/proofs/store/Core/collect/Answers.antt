@@ -102,7 +102,7 @@ returns-in-Ok-clause-punched g c =
     (sound_dev kind _ here.tables at.self.invariant
     (subst (λ (core : CoreView). core.settings.servers ≤ length c.args.shelf.now) (sym at.self.view_is) c.requires.shelf)
     (subst (λ (core : CoreView). IsInside kind c.args.shelf.now core) (sym at.self.view_is) c.requires.inside).lists)
-    (was g at) (left g at) c.args.k refl refl refl a c.in-Ok.ensures.turn))
+    (was g at) (left g at) c.args.k refl refl refl refl a c.in-Ok.ensures.turn))
 
 pub returns-in-Err-clause-lists : goal.returns-in-Err-clause-lists
 returns-in-Err-clause-lists g c =

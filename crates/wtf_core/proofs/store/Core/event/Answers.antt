@@ -27,7 +27,7 @@ use Rattle.wtf_clients.specs.Sounds.{AreSound}
 use Rattle.wtf_clients.specs.Views.{BesideView}
 use Rattle.wtf_clients.proofs.Lives.{now_bytes}
 use Rattle.wtf_core.specs.Promises.{scene, LeavesNamed}
-use Rattle.wtf_core.specs.Punched.{CountsAs, Punches}
+use Rattle.wtf_core.specs.Punched.{AreFreed, CountsAs, Punches}
 use Rattle.wtf_core.specs.Quiet.{Saved, HasCollected}
 use Rattle.wtf_core.specs.Remembering.{KeepsPunched}
 use Rattle.wtf_core.specs.Standing.{StandsFor}
@@ -233,6 +233,8 @@ keeps_are g c =
             p.punches.counts;
         follows = p.punches.follows;
       };
+      freed = subst (λ (b : BesideView). AreFreed g.S.SliceStore.kind (is_down c.args.self.now.replicas) c.args.shelf.now c.answer.new.shelf
+          c.args.self.now.tables.beside.gc b.gc) (sym c.tidy.ensures.beside) p.freed;
       lists = record { inside = p.lists.inside; true_still = p.lists.true_still };
     }
 
@@ -299,7 +301,11 @@ returns-in-Ok-clause-lawful g at = λ telling m stands.
     }
 
 pub returns-in-Ok-clause-stored : goal.returns-in-Ok-clause-stored
-returns-in-Ok-clause-stored g c = record { adds = c.in-Ok.ensures.serves.adds; placed = c.in-Ok.ensures.serves.placed }
+returns-in-Ok-clause-stored g c = record {
+  adds = c.in-Ok.ensures.serves.adds;
+  placed = c.in-Ok.ensures.serves.placed;
+  spares = c.in-Ok.ensures.serves.spares;
+}
 
 pub returns-in-Ok-clause-caused : goal.returns-in-Ok-clause-caused
 returns-in-Ok-clause-caused g c = record { cause = c.in-Ok.ensures.serves.caused; failed = c.in-Ok.ensures.serves.failed }
