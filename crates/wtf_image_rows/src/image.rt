@@ -5,7 +5,7 @@ use std::alloc::Global;
 use std::test::Fail;
 use wtf_base::{InodeId, OutOfMemory, TxId};
 use wtf_dev::{MemStore, Shelf, SliceStore};
-use wtf_image::{LoadError, Loaded, check, load, save};
+use wtf_image::{LoadError, Loaded, check, load, load_without, save};
 use wtf_path::Path;
 use wtf_trial::devices::stores;
 use wtf_trial::texts::EMPTY_IMAGE;
@@ -25,7 +25,18 @@ const FILE_IMAGE: [u8; 106] = [
     0, 0, 0,
 ];
 
-/// The same with another region 0: up to 8, over the first 5 bytes of a list that lies in a slice, one entry.
+/// The same file where there are two servers, and each of them has a copy of its 6 bytes.
+const COPIED_IMAGE: [u8; 116] = [
+    // Two servers and two replicas.
+    0x57, 0x54, 0x46, 0x49, 0x4d, 0x47, 0x30, 0x31, 2, 2, 0, 0, 0, 64, 0, 0, 0, 0, 0, 0, 0, 3, 0,
+    0, 0, 0, 0, 0, 0, 2, 0, 0, 0, 2, 0, 1, 0x2f, 0, 0, 2, 0x2f, 0x61, 1, 0, 0, 0, 0, 0, 0, 0, 1, 0,
+    0, 0, 2, 0, 0, 0, 1, 0, 0, 0, 0, 0, 0, 0, 1, 0, 0, 0, 2,
+    // Two pointers: to server 0, file 0, and to server 1, file 0, both from offset 0 on.
+    0, 0, 0, 1, 0, 0, 0, 0, 0, 6, 0, 0, 0, 0, 1, 0, 0, 0, 0, 0, 0, 0, 6, 1, 2, 0, 0, 0, 0, 0, 0, 0,
+    0, 0, 0, 1, 0, 0, 0, 0, 0, 0, 0, 0, 0,
+];
+
+/// The first with another region 0: up to 8, over the first 5 bytes of a list that lies in a slice, one entry.
 pub(crate) const SPILLED_IMAGE: [u8; 125] = [
     0x57, 0x54, 0x46, 0x49, 0x4d, 0x47, 0x30, 0x31, 1, 1, 0, 0, 0, 64, 0, 0, 0, 0, 0, 0, 0, 3, 0,
     0, 0, 0, 0, 0, 0, 2, 0, 0, 0, 2, 0, 1, 0x2f, 0, 0, 2, 0x2f, 0x61, 1, 0, 0, 0, 0, 0, 0, 0, 1, 0,
@@ -259,6 +270,37 @@ fn spilled_lists_are_refused(rt: HostRuntime) -> Result<(), Fail> {
             want,
             "byte {at}"
         );
+    }
+    Ok(())
+}
+
+/// The number of installs of an image that is loaded where server 1 is lost, over 16 stores.
+fn load_without_one(
+    alloc: Global,
+    image: &[u8],
+    shelf: &Shelf<MemStore>,
+) -> Result<u64, LoadError> {
+    if shelf.len() != 16 {
+        return Err(LoadError::Memory);
+    }
+    let loaded = load_without(alloc, image, shelf, 2)?;
+    Ok(loaded.kv.number())
+}
+
+/// The same, where file 0 of server 0 holds bytes, and no other server does.
+fn number_without_one(alloc: Global, image: &[u8], stored: &[u8]) -> Result<u64, Fail> {
+    let shelf = holding(alloc, stored)?;
+    Ok(load_without_one(alloc, image, &shelf)?)
+}
+
+#[test]
+fn the_store_of_a_lost_server_is_not_tried(rt: HostRuntime) -> Result<(), Fail> {
+    for (image, want) in [
+        (COPIED_IMAGE.as_slice(), Some(LoadError::PointerOutside)),
+        (&FILE_IMAGE, None),
+    ] {
+        assert_eq!(rt; refusal(rt.alloc(), image, b"abcdef")?, want);
+        assert_eq!(rt; number_without_one(rt.alloc(), image, b"abcdef")?, 3);
     }
     Ok(())
 }

@@ -5,6 +5,7 @@ ghost use Rattle.wtf_kv.specs.Stores.{is_live};
 
 use crate::counts::{Count, Counts, Name, number};
 use std::alloc::Global;
+use std::ops::Bound;
 use std::test::Fail;
 use wtf_base::OutOfMemory;
 use wtf_kv::{Call, Change, Changes, Kv, NotReady, run};
@@ -142,9 +143,9 @@ fn is_pinned_once(kv: &Counts, n: u64) -> bool {
     kv.is_pinned(n) && kv.times_pinned(n) == 1
 }
 
-/// Sets key 7 at 1, and pins that.
-fn set_and_pin(alloc: Global, kv: &mut Counts, n: u64) -> Result<(), Fail> {
-    let edits = deltas(alloc, &[(7, n)])?;
+/// Sets keys to numbers at 1, and pins that.
+fn set_and_pin(alloc: Global, kv: &mut Counts, rows: &[(u64, u64)]) -> Result<(), Fail> {
+    let edits = deltas(alloc, rows)?;
     install_as(kv, &edits, 1)?;
     pin(kv, 1)
 }
@@ -152,20 +153,20 @@ fn set_and_pin(alloc: Global, kv: &mut Counts, n: u64) -> Result<(), Fail> {
 /// A store in which install 1 set key 7 to a number; 1 is pinned.
 pub(crate) fn store(alloc: Global, n: u64) -> Result<Counts, Fail> {
     let mut kv: Counts = Kv::new(alloc)?;
-    set_and_pin(alloc, &mut kv, n)?;
+    set_and_pin(alloc, &mut kv, &[(7, n)])?;
     Ok(kv)
 }
 
-/// Removes key 7 at 2.
-fn remove(alloc: Global, kv: &mut Counts) -> Result<(), Fail> {
-    let edits = cut(alloc, 7, 9)?;
+/// Removes the keys from one up to and with another at 2.
+fn remove(alloc: Global, kv: &mut Counts, from: u64, to: u64) -> Result<(), Fail> {
+    let edits = cut(alloc, from, to)?;
     install_as(kv, &edits, 2)
 }
 
 /// A store in which key 7 was set at 1, which is pinned, and removed at 2.
 fn removed(alloc: Global) -> Result<Counts, Fail> {
     let mut kv = store(alloc, 5)?;
-    remove(alloc, &mut kv)?;
+    remove(alloc, &mut kv, 7, 9)?;
     Ok(kv)
 }
 
@@ -300,5 +301,57 @@ fn keeps_over_calls(alloc: Global, kv: &mut Counts) -> Result<bool, Fail> {
 fn keeps_a_pinned_map_over_calls(rt: HostRuntime) -> Result<(), Fail> {
     let mut kv = seeded(rt.alloc(), 5, 3, 60)?;
     assert!(rt; keeps_over_calls(rt.alloc(), &mut kv)?);
+    Ok(())
+}
+
+/// Sets three keys at 1, and removes the second of them at 2.
+fn put_three(alloc: Global, kv: &mut Counts) -> Result<(), Fail> {
+    set_and_pin(alloc, kv, &[(3, 30), (5, 50), (7, 7)])?;
+    remove(alloc, kv, 5, 6)
+}
+
+/// A store in which three keys were set at 1, which is pinned, and the second was removed at 2.
+fn three(alloc: Global) -> Result<Counts, Fail> {
+    let mut kv: Counts = Kv::new(alloc)?;
+    put_three(alloc, &mut kv)?;
+    Ok(kv)
+}
+
+/// Whether a key and its value are those of a row.
+fn is_pair(key: &Name, value: &Count, row: Option<&(u64, u64)>) -> bool {
+    let Some((id, n)) = row else {
+        return false;
+    };
+    key.id == *id && value.n == *n
+}
+
+/// Whether a number shows these keys with their values, from a start on.
+fn walks(kv: &Counts, n: u64, start: Bound<&Name>, want: &[(u64, u64)]) -> bool {
+    if !is_live(kv, n) {
+        return false;
+    }
+    let mut rows = want.iter();
+    for (key, value) in kv.rows(n, start) {
+        if !is_pair(key, value, rows.next()) {
+            return false;
+        }
+    }
+    rows.next().is_none()
+}
+
+/// Whether 1 shows all three keys, and 2 those that are left.
+fn walks_both(kv: &Counts) -> bool {
+    let five = Name { id: 5 };
+    walks(kv, 1, Bound::Unbounded, &[(3, 30), (5, 50), (7, 7)])
+        && walks(kv, 1, Bound::Included(&five), &[(5, 50), (7, 7)])
+        && walks(kv, 1, Bound::Excluded(&five), &[(7, 7)])
+        && walks(kv, 2, Bound::Unbounded, &[(3, 30), (7, 7)])
+        && walks(kv, 2, Bound::Included(&five), &[(7, 7)])
+}
+
+#[test]
+fn walks_show_the_keys_of_their_number(rt: HostRuntime) -> Result<(), Fail> {
+    let kv = three(rt.alloc())?;
+    assert!(rt; walks_both(&kv));
     Ok(())
 }

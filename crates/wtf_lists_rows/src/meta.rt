@@ -8,6 +8,15 @@ use wtf_meta::{Handle, Session};
 use wtf_model::limits::{MAX_HANDLES, MAX_SLICES};
 use wtf_path::Path;
 
+/// Bytes of a slice of pieces of 4, 2 and 3 bytes: the piece that holds each, and its place there. There is no byte 9.
+const PLACES: [(u64, Option<(usize, u64)>); 5] = [
+    (0, Some((0, 0))),
+    (4, Some((1, 0))),
+    (5, Some((1, 1))),
+    (8, Some((2, 2))),
+    (9, None),
+];
+
 /// The offset of the handle of a label.
 fn offset(session: &Session, label: u8) -> Option<u64> {
     if label >= MAX_HANDLES {
@@ -69,19 +78,19 @@ fn end(session: &mut Session, label: u8) {
     }
 }
 
-/// Keeps a piece of four zeros.
-fn keep(alloc: Global, session: &mut Session, label: u8) -> Result<(), Fail> {
+/// Keeps pieces of zeros, of so many bytes each.
+fn keep(alloc: Global, session: &mut Session, label: u8, lens: &[u64]) -> Result<(), Fail> {
     if label >= MAX_SLICES {
         return Err("no label".into());
     }
-    session.put_slice(label, pieces(alloc, &[4])?);
+    session.put_slice(label, pieces(alloc, lens)?);
     Ok(())
 }
 
-/// Puts a handle of /a at 7 under 15, and a slice under 3.
+/// Puts a handle of /a at 7 under 15, and a slice of one piece under 3.
 fn fill(alloc: Global, session: &mut Session) -> Result<(), Fail> {
     open(alloc, session, 15, b"/a", 7)?;
-    keep(alloc, session, 3)
+    keep(alloc, session, 3, &[4])
 }
 
 /// A session with that handle and that slice.
@@ -126,5 +135,61 @@ fn copy_stays(alloc: Global, session: &mut Session) -> Result<bool, OutOfMemory>
 fn a_copy_stays_as_it_was(rt: HostRuntime) -> Result<(), Fail> {
     let mut session = filled(rt.alloc())?;
     assert!(rt; copy_stays(rt.alloc(), &mut session)?);
+    Ok(())
+}
+
+/// A session with a slice of three pieces under 3.
+fn sliced(alloc: Global) -> Result<Session, Fail> {
+    let mut session = Session::new(alloc)?;
+    keep(alloc, &mut session, 3, &[4, 2, 3])?;
+    Ok(session)
+}
+
+fn index(alloc: Global, session: &mut Session, label: u8) -> Result<(), OutOfMemory> {
+    if label >= MAX_SLICES {
+        return Ok(());
+    }
+    session.index(alloc, label)
+}
+
+/// The number of bytes of the slice of a label.
+fn length(session: &Session, label: u8) -> Option<u64> {
+    if label >= MAX_SLICES {
+        return None;
+    }
+    session.slice_len(label)
+}
+
+/// The piece that holds a byte of the slice of a label, and the byte's place there.
+fn place(session: &Session, label: u8, off: u64) -> Option<(usize, u64)> {
+    if label >= MAX_SLICES || off >= 1000 {
+        return None;
+    }
+    let at = session.find(label, off)?;
+    Some((at.piece, at.skip))
+}
+
+/// Whether the bytes of the slice under 3 are where they lie, and no other label has one.
+fn finds(session: &Session) -> bool {
+    for (off, want) in &PLACES {
+        if place(session, 3, *off) != *want {
+            return false;
+        }
+    }
+    length(session, 3) == Some(9) && length(session, 4).is_none() && place(session, 4, 0).is_none()
+}
+
+/// Whether bytes are found before it is known where the pieces end, and after.
+fn finds_again(alloc: Global, session: &mut Session) -> Result<bool, OutOfMemory> {
+    let first = finds(session);
+    index(alloc, session, 3)?;
+    index(alloc, session, 4)?;
+    Ok(first && finds(session))
+}
+
+#[test]
+fn bytes_of_a_slice_are_found(rt: HostRuntime) -> Result<(), Fail> {
+    let mut session = sliced(rt.alloc())?;
+    assert!(rt; finds_again(rt.alloc(), &mut session)?);
     Ok(())
 }
