@@ -9,6 +9,7 @@ ghost use Rattle.wtf_occ.specs.Positions.{has_delta};
 ghost use Rattle.wtf_occ.specs.Tries.{IsTried, Stays, first_moved};
 
 use crate::Tried;
+use crate::known::copied;
 use crate::write_set::WriteSet;
 use std::alloc::Global;
 use std::marker::Model;
@@ -73,10 +74,23 @@ impl<K: StoreKey, C: Summarized> Attempt<K, C> {
         ensures err { OnErr result (self.new ≡ self.old) }
         ensures grows { Grows self.old self.new }
     {
-        self.settle(kv, key)?;
-        let value = self.peek(kv, key)?;
+        let value = self.shown(kv, key)?;
         self.record(key)?;
         Ok(value)
+    }
+
+    /// A copy of what `peek` would show. A key of which the attempt has a delta is settled.
+    fn shown(&mut self, kv: &Kv<K, C>, key: &K) -> Result<Option<C>, OutOfMemory>
+        requires { IsTrue (is_pinned kv.now self.old.base) }
+        ensures value { IfOk result
+            (λ value. value ≡ map_seen K.cmp C.outcome kv.now self.old key.now) }
+        ensures same { self.new ≡ self.old }
+    {
+        if let Some(value) = self.look(kv, key) {
+            return copied(self.alloc, value);
+        }
+        self.settle(kv, key)?;
+        self.peek(kv, key)
     }
 
     /// The value of a key at the base, with the attempt's own changes applied in order. Nothing is

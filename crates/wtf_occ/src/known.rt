@@ -72,23 +72,63 @@ pub(crate) fn follow<K: StoreKey, C: Cell>(
     }
 }
 
-/// Makes a further change of the summaries that are known. A cut leaves none of them.
-pub(crate) fn follow_summary<K: StoreKey, C: Summarized>(
+/// Makes a further change of the summaries that are known. A cut leaves none of them. Where the key had a
+/// delta before, there is a place for its summary then, if there is memory for one.
+pub(crate) fn follow_place<K: StoreKey, C: Summarized>(
+    alloc: Global,
+    known: &mut KnownSummaries<K, C::Summary>,
+    change: &Change<K, C::Delta>,
+    again: bool,
+)
+    ensures { (cs : List (Change K C.Delta)) →
+        AreSummed K.cmp C.outcome C.summary_of cs known.old.entries →
+        AreSummed K.cmp C.outcome C.summary_of (cs ++ change.now ∷ []) known.new.entries }
+{
+    let placed = follow_summary::<K, C>(known, change);
+    if placed || !again {
+        return;
+    }
+    make_place::<K, C>(alloc, known, change);
+}
+
+/// Makes a place for the summary of a change's key, where there is memory for one.
+fn make_place<K: StoreKey, C: Summarized>(
+    alloc: Global,
     known: &mut KnownSummaries<K, C::Summary>,
     change: &Change<K, C::Delta>,
 )
+    ensures { (cs : List (Change K C.Delta)) →
+        AreSummed K.cmp C.outcome C.summary_of cs known.old.entries →
+        AreSummed K.cmp C.outcome C.summary_of cs known.new.entries }
+{
+    let Change::Delta(key, _) = change else {
+        return;
+    };
+    let Ok(own) = key.copy(alloc) else {
+        return;
+    };
+    let _made = known.insert(own, None);
+}
+
+/// Makes a further change of the summaries that are known. A cut leaves none of them. Answers whether there
+/// is a place for the summary of its key.
+fn follow_summary<K: StoreKey, C: Summarized>(
+    known: &mut KnownSummaries<K, C::Summary>,
+    change: &Change<K, C::Delta>,
+) -> bool
     ensures { (cs : List (Change K C.Delta)) →
         AreSummed K.cmp C.outcome C.summary_of cs known.old.entries →
         AreSummed K.cmp C.outcome C.summary_of (cs ++ change.now ∷ []) known.new.entries }
 {
     let Change::Delta(key, _) = change else {
         known.clear();
-        return;
+        return false;
     };
     let Some(place) = known.get_mut(key) else {
-        return;
+        return false;
     };
     *place = followed::<K, C>(*place, change, key);
+    true
 }
 
 /// What becomes of a summary by a further change of its key, where it is known.

@@ -10,7 +10,7 @@ ghost use Rattle.wtf_kv.specs.Stores.{map_at, is_pinned};
 ghost use Rattle.wtf_occ.specs.Positions.{listed_positions, positions_of, front, is_cut, is_delta_of, has_delta};
 
 use crate::known::{
-    Known, KnownSummaries, KnownValues, Summed, are_same, copied, follow, follow_summary, unlearn,
+    Known, KnownSummaries, KnownValues, Summed, are_same, copied, follow, follow_place, unlearn,
 };
 use crate::values::{past_cuts, summarized, summary_after, value_after, value_before};
 use std::alloc::Global;
@@ -223,20 +223,6 @@ impl<K: StoreKey, C: Summarized> WriteSet<K, C> {
         }
     }
 
-    /// Makes a place for the summary of a key of which one of the changes is a delta.
-    fn make_place(&mut self, key: &K) -> Result<(), OutOfMemory>
-        ensures { self.new ≡ self.old }
-    {
-        if !self.has_delta(key) || self.summaries.contains_key(key) {
-            return Ok(());
-        }
-        let own = key.copy(self.alloc)?;
-        match self.summaries.insert(own, None) {
-            Ok(_) => Ok(()),
-            Err(_) => Err(OutOfMemory),
-        }
-    }
-
     /// The summary of what the changes make of a key's value, by a walk over those of the key and the cuts.
     fn summary_made_of(&self, before: C::Summary, key: &K) -> C::Summary
         ensures { (now : Option C) → before ≡ C.summary_of now →
@@ -249,18 +235,9 @@ impl<K: StoreKey, C: Summarized> WriteSet<K, C> {
         summary_after::<K, C>(changes, positions, from, key, start)
     }
 
-    /// Adds a change of a key's value. Want of memory leaves the list as it was. A key that is changed
-    /// once more may be changed often: then a place is made for its summary.
+    /// Adds a change of a key's value, with its position. Want of memory leaves the list as it was. A key
+    /// that is changed once more may be changed often: then a place is made for its summary.
     pub(crate) fn delta(&mut self, key: K, d: C::Delta) -> Result<(), OutOfMemory>
-        ensures ok { OnOk result (self.new ≡ self.old ++ Change.Delta key d ∷ []) }
-        ensures err { OnErr result (self.new ≡ self.old) }
-    {
-        self.make_place(&key)?;
-        self.push_delta(key, d)
-    }
-
-    /// Adds a change of a key's value, with its position. Want of memory leaves the list as it was.
-    fn push_delta(&mut self, key: K, d: C::Delta) -> Result<(), OutOfMemory>
         ensures ok { OnOk result (self.new ≡ self.old ++ Change.Delta key d ∷ []) }
         ensures err { OnErr result (self.new ≡ self.old) }
     {
@@ -270,12 +247,15 @@ impl<K: StoreKey, C: Summarized> WriteSet<K, C> {
         }
         let all = self.changes.as_slice();
         let change = &all[position];
-        if let Err(why) = note_delta(self.alloc, &mut self.positions, change, position) {
-            self.changes.shorten(position);
-            return Err(why);
-        }
+        let again = match note_delta(self.alloc, &mut self.positions, change, position) {
+            Ok(again) => again,
+            Err(why) => {
+                self.changes.shorten(position);
+                return Err(why);
+            }
+        };
         follow(self.alloc, &mut self.known, change);
-        follow_summary::<K, C>(&mut self.summaries, change);
+        follow_place::<K, C>(self.alloc, &mut self.summaries, change, again);
         Ok(())
     }
 
@@ -323,13 +303,14 @@ impl<K: StoreKey, C: Summarized> WriteSet<K, C> {
     }
 }
 
-/// Notes the position of a change that is a delta, which is above those noted before.
+/// Notes the position of a change that is a delta, which is above those noted before. Answers whether its key
+/// had one.
 fn note_delta<K: StoreKey, D>(
     alloc: Global,
     positions: &mut Positions<K>,
     change: &Change<K, D>,
     position: usize,
-) -> Result<(), OutOfMemory>
+) -> Result<bool, OutOfMemory>
     ensures ok { OnOk result ((q : K) →
         positions_of K.cmp (listed_positions positions.new.entries) q ≡
         cond (is_delta_of K.cmp q change.now) (positions_of K.cmp
@@ -340,18 +321,19 @@ fn note_delta<K: StoreKey, D>(
         positions_of K.cmp (listed_positions positions.old.entries) q) }
 {
     let Change::Delta(key, _) = change else {
-        return Ok(());
+        return Ok(false);
     };
     note(alloc, positions, key, position)
 }
 
-/// Notes the position of a delta of a key. The key is copied where it has no positions yet.
+/// Notes the position of a delta of a key. The key is copied where it has no positions yet. Answers whether
+/// it had some.
 fn note<K: StoreKey>(
     alloc: Global,
     positions: &mut Positions<K>,
     key: &K,
     position: usize,
-) -> Result<(), OutOfMemory>
+) -> Result<bool, OutOfMemory>
     ensures ok { OnOk result ((q : K) →
         positions_of K.cmp (listed_positions positions.new.entries) q ≡
         cond (is_at (K.cmp key.now) q) (positions_of K.cmp
@@ -362,13 +344,14 @@ fn note<K: StoreKey>(
         positions_of K.cmp (listed_positions positions.old.entries) q) }
 {
     if let Some(known) = positions.get_mut(key) {
-        return push_position(known, position);
+        push_position(known, position)?;
+        return Ok(true);
     }
     let own = key.copy(alloc)?;
     let mut fresh = Vec::new(alloc);
     push_position(&mut fresh, position)?;
     match positions.insert(own, fresh) {
-        Ok(_) => Ok(()),
+        Ok(_) => Ok(false),
         Err(_) => Err(OutOfMemory),
     }
 }

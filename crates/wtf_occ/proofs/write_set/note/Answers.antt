@@ -1,25 +1,28 @@
-use Rattle.std.proofs.Common.{rules, sym, ap, ◌∙◌, ◌≡◌, ◌∷◌, ◌++◌, [], None, List, ℕ, cond}
+use Rattle.std.proofs.Common.{rules, Result, Ok, Err, OnErr, sym, ap, ◌∙◌, ◌≡◌, ◌∷◌, ◌++◌, [], None, List, ℕ, cond}
 use Rattle.std.specs.Map.{lookup}
 use Rattle.std.specs.BTreeMap.{is_at}
-use Rattle.std.proofs.lemmas.Result.{on_ok_weaker, on_err_weaker}
 use Rattle.wtf_occ.specs.Positions.{positions_of, listed_positions}
 use Rattle.wtf_occ.proofs.Noted.{positions_some, positions_none, positions_updated, either}
 use Rattle.wtf_occ.proofs.write_set.note.Goals as goal
 
+given : {A E X : Type 0} (r : Result A E) → X → OnErr r X
+given (Ok x) h = tt
+given (Err e) h = h
+
 pub returns-in-Some-clause-ok : goal.returns-in-Some-clause-ok
-returns-in-Some-clause-ok g c = on_ok_weaker c.push_position.result (λ made q.
+returns-in-Some-clause-ok g c = λ q.
     let held = c.get_mut.follows.holds c.push_position.new.list in
     let some = positions_some g.K.Ord.cmp c.args.positions.now.entries c.args.key.now c.in-Some.known.now (sym c.in-Some.ensures.value) in
     let more = λ (l : List ℕ). l ++ c.args.position ∷ [] in
-    positions_updated g.K.Ord.cmp g.met.K.StoreKey.exact c.args.positions.now.entries _ c.args.key.now c.push_position.new.list more (held.3 (search rules)).0 (made ∙ ap more (sym some)) q) c.push_position.ensures.ok
+    positions_updated g.K.Ord.cmp g.met.K.StoreKey.exact c.args.positions.now.entries _ c.args.key.now c.push_position.new.list more (held.3 (search rules)).0 (c.in_ok-push_position.ensures.ok ∙ ap more (sym some)) q
 
-pub returns-in-Some-clause-err : goal.returns-in-Some-clause-err
-returns-in-Some-clause-err g c = on_err_weaker c.push_position.result (λ made q.
+pub returns-in_err-push_position-clause-err : goal.returns-in_err-push_position-clause-err
+returns-in_err-push_position-clause-err g c = given c.from_residual.result (λ q.
     let held = c.get_mut.follows.holds c.push_position.new.list in
     let some = positions_some g.K.Ord.cmp c.args.positions.now.entries c.args.key.now c.in-Some.known.now (sym c.in-Some.ensures.value) in
     let same = λ (l : List ℕ). l in
-    positions_updated g.K.Ord.cmp g.met.K.StoreKey.exact c.args.positions.now.entries _ c.args.key.now c.push_position.new.list same (held.3 (search rules)).0 (made ∙ sym some) q
-    ∙ either (is_at (g.K.Ord.cmp c.args.key.now) q) (positions_of g.K.Ord.cmp (listed_positions c.args.positions.now.entries) q)) c.push_position.ensures.err
+    positions_updated g.K.Ord.cmp g.met.K.StoreKey.exact c.args.positions.now.entries _ c.args.key.now c.push_position.new.list same (held.3 (search rules)).0 (c.in_err-push_position.ensures.err ∙ sym some) q
+    ∙ either (is_at (g.K.Ord.cmp c.args.key.now) q) (positions_of g.K.Ord.cmp (listed_positions c.args.positions.now.entries) q))
 
 pub returns-in-Ok-clause-ok : goal.returns-in-Ok-clause-ok
 returns-in-Ok-clause-ok g c = λ q.
@@ -31,6 +34,6 @@ returns-in-Ok-clause-ok g c = λ q.
     let none : lookup (is_at (order c.args.key.now)) old ≡ None = search rules in
     let none_own : lookup (is_at (order own)) old ≡ None = ap (λ k. lookup (is_at (order k)) old) copied ∙ none in
     let more = λ (l : List ℕ). l ++ c.args.position ∷ [] in
-    positions_updated order g.met.K.StoreKey.exact old _ own c.push_position-2.new.list more c.in-Ok.ensures.updates.0 (c.in_ok-push_position.ensures.ok ∙ ap more (c.new-fresh.ensures.items ∙ sym (positions_none order old own none_own))) q
+    positions_updated order g.met.K.StoreKey.exact old _ own c.push_position-2.new.list more c.in-Ok.ensures.updates.0 (c.in_ok-push_position-2.ensures.ok ∙ ap more (c.new-fresh.ensures.items ∙ sym (positions_none order old own none_own))) q
     ∙ ap (λ k. cond (is_at (order k) q) (positions_of order (listed_positions old) q ++ c.args.position ∷ []) (positions_of order (listed_positions old) q)) copied
     ∙ ap (λ es. cond (is_at (order c.args.key.now) q) (positions_of order (listed_positions es) q ++ c.args.position ∷ []) (positions_of order (listed_positions es) q)) same
