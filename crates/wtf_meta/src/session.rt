@@ -27,9 +27,16 @@ pub struct Handle {
 }
 
 /// What a transaction has in hand: open handles and slices, by labels below 16. Contracts see both as
-/// lists by label. No call on it takes memory.
+/// lists by label. A session is one word, so that what holds it is cheap to move. Only `new`, `copy` and
+/// `index` take memory.
 #[derive(Debug, Drop)]
 pub struct Session {
+    held: Box<Held>,
+}
+
+/// Handles and slices by label.
+#[derive(Debug, Drop)]
+struct Held {
     handles: [Option<Handle>; 16],
     slices: [Option<Kept>; 16],
 }
@@ -44,27 +51,32 @@ impl Model for Session {
 
     ghost coded = { Prim.hlevel (codes, piece.the_row.coded) };
 
-    ghost view = { λ s. session_view s.handles s.slices };
+    ghost view = { λ s. session_view s.held.value.handles s.held.value.slices };
 
     ghost use Rattle.wtf_meta.specs.Sessions.{AreLabels};
 
-    ghost invariant = { λ s. AreLabels s.handles s.slices };
+    ghost invariant = { λ s. AreLabels s.held.value.handles s.held.value.slices };
 }
 
 impl Session {
     /// Nothing is open.
-    pub fn new(_alloc: Global) -> Result<Session, OutOfMemory>
+    pub fn new(alloc: Global) -> Result<Session, OutOfMemory>
         ensures { IfOk result (λ s. s ≡ nothing_open) }
     {
         Ok(Session {
-            handles: [
-                None, None, None, None, None, None, None, None, None, None, None, None, None, None,
-                None, None,
-            ],
-            slices: [
-                None, None, None, None, None, None, None, None, None, None, None, None, None, None,
-                None, None,
-            ],
+            held: Box::new(
+                alloc,
+                Held {
+                    handles: [
+                        None, None, None, None, None, None, None, None, None, None, None, None,
+                        None, None, None, None,
+                    ],
+                    slices: [
+                        None, None, None, None, None, None, None, None, None, None, None, None,
+                        None, None, None, None,
+                    ],
+                },
+            )?,
         })
     }
 
@@ -81,10 +93,12 @@ impl Session {
             None, None,
         ];
         for label in 0..16usize {
-            handles[label] = copy_handle(alloc, &self.handles[label])?;
-            slices[label] = copy_slice(alloc, &self.slices[label])?;
+            handles[label] = copy_handle(alloc, &self.held.handles[label])?;
+            slices[label] = copy_slice(alloc, &self.held.slices[label])?;
         }
-        Ok(Session { handles, slices })
+        Ok(Session {
+            held: Box::new(alloc, Held { handles, slices })?,
+        })
     }
 
     /// The handle of a label.
@@ -92,7 +106,7 @@ impl Session {
         requires { f < MAX_HANDLES }
         ensures { option_copied result ≡ handle_in self.now f }
     {
-        self.handles[f as usize].as_ref()
+        self.held.handles[f as usize].as_ref()
     }
 
     /// Opens a handle under a label, in place of the one that was there.
@@ -100,7 +114,7 @@ impl Session {
         requires { f < MAX_HANDLES }
         ensures { SetsHandle f (Some h) self.old self.new }
     {
-        self.handles[f as usize] = Some(h);
+        self.held.handles[f as usize] = Some(h);
     }
 
     /// Ends the handle of a label, if there is one.
@@ -108,7 +122,7 @@ impl Session {
         requires { f < MAX_HANDLES }
         ensures { SetsHandle f None self.old self.new }
     {
-        self.handles[f as usize] = None;
+        self.held.handles[f as usize] = None;
     }
 
     /// Moves a handle that is there to an offset.
@@ -117,7 +131,7 @@ impl Session {
         requires open { IsSome (handle_in self.old f) }
         ensures { SetsHandle f (option_map (moved_to off) (handle_in self.old f)) self.old self.new }
     {
-        if let Some(h) = &mut self.handles[f as usize] {
+        if let Some(h) = &mut self.held.handles[f as usize] {
             h.off = off;
         }
     }
@@ -127,7 +141,7 @@ impl Session {
         requires { s < MAX_SLICES }
         ensures { option_copied result ≡ slice_in self.now s }
     {
-        match &self.slices[s as usize] {
+        match &self.held.slices[s as usize] {
             Some(kept) => Some(kept.pieces.as_slice()),
             None => None,
         }
@@ -138,7 +152,7 @@ impl Session {
         requires { s < MAX_SLICES }
         ensures { SetsSlice s (Some pieces.items) self.old self.new }
     {
-        self.slices[s as usize] = Some(Kept::of(pieces));
+        self.held.slices[s as usize] = Some(Kept::of(pieces));
     }
 
     /// Finds where the pieces of a slice end, if that is not known, so that `slice_len` and `find` are
@@ -147,7 +161,7 @@ impl Session {
         requires { s < MAX_SLICES }
         ensures { self.new ≡ self.old }
     {
-        let Some(kept) = &mut self.slices[s as usize] else {
+        let Some(kept) = &mut self.held.slices[s as usize] else {
             return Ok(());
         };
         return kept.index(alloc);
@@ -158,7 +172,7 @@ impl Session {
         requires { s < MAX_SLICES }
         ensures { result ≡ option_map bytes_in (slice_in self.now s) }
     {
-        let Some(kept) = &self.slices[s as usize] else {
+        let Some(kept) = &self.held.slices[s as usize] else {
             return None;
         };
         Some(kept.len())
@@ -172,7 +186,7 @@ impl Session {
             (λ ps. HoldsByte ps off at.piece at.skip)) }
         ensures past { result ≡ None → IfSome (slice_in self.now s) (λ ps. pieces_len ps ≤ off) }
     {
-        let Some(kept) = &self.slices[s as usize] else {
+        let Some(kept) = &self.held.slices[s as usize] else {
             return None;
         };
         kept.find(off)
@@ -184,7 +198,7 @@ impl Session {
             IsSomeAnd (handle_in self.now f) (λ h. h.path ≡ p.now) }
         ensures off { result ≡ false → IsOff p.now self.now }
     {
-        let handles = self.handles.as_slice();
+        let handles = self.held.handles.as_slice();
         for handle in handles {
             if is_by(handle, p) {
                 return true;

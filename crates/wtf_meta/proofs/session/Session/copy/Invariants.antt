@@ -9,7 +9,7 @@ use Rattle.wtf_meta.proofs.session.Session.copy.Given as goal
 abbrev pub invariant-loop-label : goal.invariant-loop-label
 invariant-loop-label l = record {
   lengths : (length l.handles ≡ 16) × (length l.slices ≡ 16);
-  handles : (k : ℕ) (d : Option Handle) → k < l.label → get_or l.handles k d ≡ get_or l.self-inside.handles k d;
+  handles : (k : ℕ) (d : Option Handle) → k < l.label → get_or l.handles k d ≡ get_or l.self-inside.held.value.handles k d;
   slices : (k : ℕ) (d : Option (List Piece)) → k < l.label
-      → get_or (map (option_map items_of) l.slices) k d ≡ get_or (map (option_map items_of) l.self-inside.slices) k d;
+      → get_or (map (option_map items_of) l.slices) k d ≡ get_or (map (option_map items_of) l.self-inside.held.value.slices) k d;
 }
