@@ -109,7 +109,8 @@ meaning_same told now (q ∷ qs) h =
     rw (rest, first) refl
 
 -- what was told is told still while nothing is punched
-pub tells_on : {S : Type 0} {kind : StoreKind S} → KindLaws kind → {old new : List S} → EachFollows kind old new [] → TellsOn (byte_at kind old) (byte_at kind new)
+pub tells_on : {S : Type 0} {kind : StoreKind S} → KindLaws kind → {old new : List S} → EachFollows kind old new []
+    → TellsOn (byte_at kind old) (byte_at kind new)
 tells_on laws each p byte told = byte_at-kept laws each p byte tt told
 
 -- and what is told is what a read gives

@@ -36,7 +36,8 @@ use Rattle.wtf_region.specs.Inside.{size_in, is_place_inside, is_inside, IsOnSer
 use Rattle.wtf_region.specs.Showing.{IsReadablePart, AreReadable}
 
 -- a place that passes the test lies inside
-pub place_from : {S : Type 0} (kind : StoreKind S) (shelf : List S) (settings : Settings) (p : Place) → settings.servers ≤ length shelf → is_place_inside kind shelf settings p ≡ true
+pub place_from : {S : Type 0} (kind : StoreKind S) (shelf : List S) (settings : Settings) (p : Place) → settings.servers ≤ length shelf
+    → is_place_inside kind shelf settings p ≡ true
     → (p.server < settings.servers) × IsPlaceInside kind shelf p
 place_from {S} kind shelf settings p enough h =
     let a = and_parts (nat_lt p.server settings.servers) (nat_lt p.file 8 && nat_lt p.at (size_in kind (slice_get shelf p.server) p.file)) h in
@@ -48,15 +49,18 @@ place_from {S} kind shelf settings p enough h =
         there,
         ltb-true p.file 8 b.0,
         λ d.
-            subst (λ (o : Option S). p.at < size_in kind o p.file) (slice_get-get_or shelf p.server d there) (ltb-true p.at (size_in kind (slice_get shelf p.server) p.file) b.1),
+            subst (λ (o : Option S). p.at < size_in kind o p.file) (slice_get-get_or shelf p.server d there)
+            (ltb-true p.at (size_in kind (slice_get shelf p.server) p.file) b.1),
       ),
     )
 
 -- and one that lies inside, on a server of the settings, passes it
-pub place_to : {S : Type 0} (kind : StoreKind S) (shelf : List S) (settings : Settings) (p : Place) (d : S) → p.server < settings.servers → IsPlaceInside kind shelf p
+pub place_to : {S : Type 0} (kind : StoreKind S) (shelf : List S) (settings : Settings) (p : Place) (d : S) → p.server < settings.servers
+    → IsPlaceInside kind shelf p
     → is_place_inside kind shelf settings p ≡ true
 place_to {S} kind shelf settings p d known inside =
-    and_from (nat_lt p.server settings.servers) (nat_lt p.file 8 && nat_lt p.at (size_in kind (slice_get shelf p.server) p.file)) (lt-ltb p.server settings.servers known)
+    and_from (nat_lt p.server settings.servers) (nat_lt p.file 8 && nat_lt p.at (size_in kind (slice_get shelf p.server) p.file))
+    (lt-ltb p.server settings.servers known)
     (and_from (nat_lt p.file 8) (nat_lt p.at (size_in kind (slice_get shelf p.server) p.file)) (lt-ltb p.file 8 inside.1)
     (lt-ltb p.at (size_in kind (slice_get shelf p.server) p.file)
     (subst (λ (o : Option S). p.at < size_in kind o p.file) (sym (slice_get-get_or shelf p.server d inside.0)) (inside.2 d))))
@@ -66,7 +70,8 @@ someone [] k h = absurd (omega (arith, h))
 someone (x ∷ xs) k h = x
 
 -- the places of a byte
-pub places_from : {S : Type 0} (kind : StoreKind S) (shelf : List S) (settings : Settings) (qs : List Place) → settings.servers ≤ length shelf → is_inside kind shelf settings qs ≡ true
+pub places_from : {S : Type 0} (kind : StoreKind S) (shelf : List S) (settings : Settings) (qs : List Place) → settings.servers ≤ length shelf
+    → is_inside kind shelf settings qs ≡ true
     → All (IsPlaceInside kind shelf) qs
 places_from kind shelf settings [] enough h = All-nil (IsPlaceInside kind shelf)
 places_from kind shelf settings (q ∷ qs) enough h =
@@ -74,7 +79,8 @@ places_from kind shelf settings (q ∷ qs) enough h =
     All-cons (IsPlaceInside kind shelf) q qs (place_from kind shelf settings q enough both.0).1 (places_from kind shelf settings qs enough both.1)
 
 -- what lies inside the stores lies inside later
-pub inside_stays : {S : Type 0} {kind : StoreKind S} → KindLaws kind → {old new : List S} {punched : List (ℕ × Range)} → EachFollows kind old new punched → (settings : Settings)
+pub inside_stays : {S : Type 0} {kind : StoreKind S} → KindLaws kind → {old new : List S} {punched : List (ℕ × Range)} → EachFollows kind old new punched
+    → (settings : Settings)
     → settings.servers ≤ length old → (qs : List Place) → is_inside kind old settings qs ≡ true → is_inside kind new settings qs ≡ true
 inside_stays laws e settings enough [] h = refl
 inside_stays {kind = kind} laws {old = old} {new = new} e settings enough (q ∷ qs) h =
@@ -84,26 +90,31 @@ inside_stays {kind = kind} laws {old = old} {new = new} e settings enough (q ∷
     and_from (is_place_inside kind new settings q) (list_all (is_place_inside kind new settings) qs)
     (place_to kind new settings q (someone new q.server there) was.0 (place_inside_stays laws e q was.1)) (inside_stays laws e settings enough qs both.1)
 
-part_readable : {S : Type 0} (kind : StoreKind S) (down : ℕ → Bool) (shelf : List S) (settings : Settings) (n : ℕ) (part : Part) → settings.servers ≤ length shelf → 0 < n → HasLength n part
+part_readable : {S : Type 0} (kind : StoreKind S) (down : ℕ → Bool) (shelf : List S) (settings : Settings) (n : ℕ) (part : Part)
+    → settings.servers ≤ length shelf → 0 < n → HasLength n part
     → PartBytes (is_inside kind shelf settings) n part → IsReadablePart kind down shelf part
 part_readable kind down shelf settings n Zero enough some len h = tt
 part_readable kind down shelf settings n (Held s) enough some len h = λ k d below.
-    inr (inside_places kind shelf s (omega (arith, some, len)) (λ i within. places_from kind shelf settings (places_of s i) enough (h i (omega (arith, within, len)))) k d below)
+    inr (inside_places kind shelf s (omega (arith, some, len)) (λ i within. places_from kind shelf settings (places_of s i) enough
+    (h i (omega (arith, within, len)))) k d below)
 
 -- pieces whose bytes lie inside the stores can be read
-pub readable_from : {S : Type 0} (kind : StoreKind S) (down : ℕ → Bool) (shelf : List S) (settings : Settings) (ps : List Piece) → settings.servers ≤ length shelf
+pub readable_from : {S : Type 0} (kind : StoreKind S) (down : ℕ → Bool) (shelf : List S) (settings : Settings) (ps : List Piece)
+    → settings.servers ≤ length shelf
     → PiecesBytes (is_inside kind shelf settings) ps → AreReadable kind down shelf ps
 readable_from kind down shelf settings ps enough h = λ k d below.
     let p = get_or ps k d in part_readable kind down shelf settings p.len p.part enough p.positive p.held (h k d below)
 
-places_to : {S : Type 0} (kind : StoreKind S) (shelf : List S) (settings : Settings) (i : ℕ) (ps : List Pointer) → All (λ (p : Pointer). p.server.0 < settings.servers) ps
+places_to : {S : Type 0} (kind : StoreKind S) (shelf : List S) (settings : Settings) (i : ℕ) (ps : List Pointer)
+    → All (λ (p : Pointer). p.server.0 < settings.servers) ps
     → All (IsPlaceInside kind shelf) (map (place_in i) ps) → is_inside kind shelf settings (map (place_in i) ps) ≡ true
 places_to kind shelf settings i [] known inside = refl
 places_to kind shelf settings i (p ∷ ps) known inside =
     let here = All-head (IsPlaceInside kind shelf) (place_in i p) (map (place_in i) ps) inside in
     and_from (is_place_inside kind shelf settings (place_in i p)) (is_inside kind shelf settings (map (place_in i) ps))
     (place_to kind shelf settings (place_in i p) (someone shelf p.server.0 here.0) (All-head (λ (q : Pointer). q.server.0 < settings.servers) p ps known) here)
-    (places_to kind shelf settings i ps (All-tail (λ (q : Pointer). q.server.0 < settings.servers) p ps known) (All-tail (IsPlaceInside kind shelf) (place_in i p) (map (place_in i) ps) inside))
+    (places_to kind shelf settings i ps (All-tail (λ (q : Pointer). q.server.0 < settings.servers) p ps known)
+    (All-tail (IsPlaceInside kind shelf) (place_in i p) (map (place_in i) ps) inside))
 
 -- the bytes of a slice that was stored lie inside the stores
 pub slice_inside : {S : Type 0} (kind : StoreKind S) (shelf : List S) (settings : Settings) (s : Slice) → IsInside kind shelf s → IsOnServers settings.servers s
@@ -126,7 +137,8 @@ take_within P (suc n) [] all = All-nil P
 take_within P (suc n) (x ∷ xs) all = All-cons P x (take n xs) (All-head P x xs all) (take_within P n xs (All-tail P x xs all))
 
 -- a slice that was stored lies on servers of its place
-pub stored_on : {S : Type 0} {kind : StoreKind S} {t : Span S} {replicas : ℕ} {place : PlaceView} {bytes : List ℕ} {s : Slice} (n : ℕ) → IsStored kind t replicas place bytes s
+pub stored_on : {S : Type 0} {kind : StoreKind S} {t : Span S} {replicas : ℕ} {place : PlaceView} {bytes : List ℕ} {s : Slice} (n : ℕ)
+    → IsStored kind t replicas place bytes s
     → All (λ k. k < n) place.servers → IsOnServers n s
 stored_on {place = place} {s = s} n stored all = λ j d below.
     let server : Pointer → ℕ = λ p. p.server.0 in
@@ -135,10 +147,12 @@ stored_on {place = place} {s = s} n stored all = λ j d below.
     let named : Contains (servers_of s) k = (j, inside, get_or-map server (pointers_of s) j d k below) in
     let took = (stored.servers k).0 named in
     subst (λ (m : ℕ). m < n) took.2
-    (leaves_within _ (λ m. m < n) (take stored.tried place.servers) stored.took stored.written (take_within (λ m. m < n) stored.tried place.servers all) took.0 k took.1)
+    (leaves_within _ (λ m. m < n) (take stored.tried place.servers) stored.took stored.written (take_within (λ m. m < n) stored.tried place.servers all) took.0
+    k took.1)
 
 -- a slice that lies inside the stores can be read
-pub slice_readable : {S : Type 0} (kind : StoreKind S) (down : ℕ → Bool) (shelf : List S) (s : Slice) → IsInside kind shelf s → IsReadablePart kind down shelf (Held s)
+pub slice_readable : {S : Type 0} (kind : StoreKind S) (down : ℕ → Bool) (shelf : List S) (s : Slice) → IsInside kind shelf s
+    → IsReadablePart kind down shelf (Held s)
 slice_readable kind down shelf s inside = λ k d below. inr (inside k d below)
 
 module _ {S : Type 0} (kind : StoreKind S) (shelf : List S) (settings : Settings) (enough : settings.servers ≤ length shelf) where

@@ -41,12 +41,12 @@ use Rattle.wtf_meta.proofs.Telling.{tell_all, told_byte, told_from, lists_in-is,
 use Rattle.wtf_meta.proofs.Weaker.{slices_stay, file_bytes_stay}
 use Rattle.wtf_region.specs.declared.dev.Dev.{Dev}
 use Rattle.wtf_region.specs.Apart.{are_apart}
-use Rattle.wtf_region.specs.Bases.{slices_of, bases_in}
+use Rattle.wtf_region.specs.Bases.{slices_of, base_slices, region_slices, bases_in}
 use Rattle.wtf_region.specs.Cached.{Remembered, cached, list_fact, recalled_one, recalled}
 use Rattle.wtf_region.specs.Inside.{is_inside, list_lies_inside}
 use Rattle.wtf_region.specs.Devs.{IsSoundDev, GoesOn, stores, remembered, told_in, shown_in, inside_of, between}
 use Rattle.wtf_region.specs.Reads.{IsTrueList, IsListFetched, IsListGot, IsSliceRead, IsListRead, IsPartRead, IsFileRead, TellsFacts, AreInsideLists}
-use Rattle.wtf_region.specs.Reads.{IsSliceFault, IsBaseFault, IsRegionFault, IsDamaged, LeavesLists, LeavesRegion, LacksRegion}
+use Rattle.wtf_region.specs.Reads.{IsSliceFault, IsBaseFault, IsRegionFault, IsDamaged, MayRecall, LeavesLists, LeavesRegion, LacksRegion, RecallsFirst}
 use Rattle.wtf_region.proofs.Frames.{apart_none, tells_on, shows_told, SliceShows-back, slice_stays, entries_inside}
 use Rattle.wtf_region.specs.Showing.{OnlyRead}
 use Rattle.wtf_region.proofs.InsideLaws.{inside_stays, places_from, slice_readable, list_inside-from}
@@ -407,16 +407,42 @@ module _ {S : Type 0} {kind : StoreKind S} (laws : KindLaws kind) where
   slice_fault_since new g same s stays fault.Write h = absurd h
   slice_fault_since new g same s stays (fault.Punch k) h = absurd h
 
--- a fault leaves the lists that are remembered
-pub leaves_lists : {S : Type 0} (old new : Dev S) (why : Fault) → remembered new ≡ remembered old → LeavesLists old new why
-leaves_lists old new fault.Memory same = tt
-leaves_lists old new fault.Write same = same
-leaves_lists old new (fault.Read k) same = same
-leaves_lists old new (fault.Punch k) same = same
-leaves_lists old new (fault.Damaged k) same = same
+-- the lists of the bases under the bytes up to one part were asked for, and of that part if its list was
+pub recalls_first : {S : Type 0} {kind : StoreKind S} {old mid : Dev S} (new : Dev S) (file : FileView) (off len done n r y : ℕ) (ps : List Piece)
+    → 0 < n → done + n ≤ len → r * old.settings.region + y ≡ off + done → y + n ≤ old.settings.region → (done ≡ 0) ⊎ (y ≡ 0)
+    → IsFileRead kind old mid file off done ps → MayRecall (region_slices (file.region r)) mid new → RecallsFirst old new file off len
+recalls_first {old = old} {mid = mid} new file off len done n r y ps some fits at within start first may = elim may [
+  | inl same ↦ record { upto = done; within = omega (arith, fits); facts = first.facts; wants = first.wants; recalls = same ∙ first.recalls }
+  | inr next ↦ record {
+    upto = done + n;
+    within = fits;
+    facts = first.facts ++ next.0;
+    wants = wants_more old.settings.region off done n r y file first.facts next.0 (omega (arith, some, within)) some at within start first.wants next.1;
+    recalls = recalled_on first.facts next.0 (remembered old) (remembered mid) (remembered new) first.recalls next.2;
+  }
+]
 
-pub left_memory : {S : Type 0} (old new : Dev S) (why : Fault) → why ≡ fault.Memory → LeavesLists old new why
-left_memory old new why is = subst (LeavesLists old new) (sym is) tt
+-- a fault leaves the lists that are remembered
+pub leaves_lists : {S : Type 0} (wants : List Slice) (old new : Dev S) (why : Fault) → remembered new ≡ remembered old → LeavesLists wants old new why
+leaves_lists wants old new fault.Memory same = inl same
+leaves_lists wants old new fault.Write same = same
+leaves_lists wants old new (fault.Read k) same = same
+leaves_lists wants old new (fault.Punch k) same = same
+leaves_lists wants old new (fault.Damaged k) same = same
+
+-- or they were read before it came
+pub may_recall : {S : Type 0} (wants : List Slice) (old new : Dev S) (why : Fault) → LeavesLists wants old new why → MayRecall wants old new
+may_recall wants old new fault.Memory left = left
+may_recall wants old new fault.Write left = inl left
+may_recall wants old new (fault.Read k) left = inl left
+may_recall wants old new (fault.Punch k) left = inl left
+may_recall wants old new (fault.Damaged k) left = inl left
+
+-- the base of a region was read, and then memory was short
+pub base_recalled : {S : Type 0} {kind : StoreKind S} (old new : Dev S) (o : Option Spill) (base : Spill) (under : List Entry) → o ≡ Some base
+    → IsSliceRead kind old new base.slice under → MayRecall (base_slices o) old new
+base_recalled old new o base under is read = subst (λ (b : Option Spill). MayRecall (base_slices b) old new) (sym is)
+    (inr (base_facts (Some base) under, base_wants (Some base) under, read.recalls))
 
 lacks_memory : {S : Type 0} (kind : StoreKind S) (old new : Dev S) (now : Option RegionValue) → IsRegionFault kind old new now fault.Memory
 lacks_memory kind old new None = refl
@@ -428,10 +454,10 @@ lacks_memory kind old new (Some v) = base v.base
 
 -- memory may be short at any time
 pub leaves_memory : {S : Type 0} (kind : StoreKind S) (old new : Dev S) (now : Option RegionValue) (why : Fault) → why ≡ fault.Memory
-    → LeavesRegion kind old new now why
-leaves_memory kind old new now why is = subst (λ (f : Fault). LeavesRegion kind old new now f) (sym is) (record {
+    → MayRecall (region_slices now) old new → LeavesRegion kind old new now why
+leaves_memory kind old new now why is left = subst (λ (f : Fault). LeavesRegion kind old new now f) (sym is) (record {
   cause = lacks_memory kind old new now;
-  left = tt;
+  left = left;
 })
 
 -- why a file was not read in a later part of a span, before which the lists that are remembered were left

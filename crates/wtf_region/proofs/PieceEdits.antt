@@ -1,5 +1,6 @@
 -- Changes that lay pieces over a file, and that add them at its end.
-use Rattle.std.proofs.Common.{◌≡◌, ◌≢◌, ◌⊎◌, ℕ, ◌+◌, ◌-◌, ◌*◌, ◌/◌, ◌<◌, ◌≤◌, ◌^◌, ◌++◌, refl, Bool, List, [], ◌∷◌, length, get_or, take, ap, sym, ◌∙◌, subst, arith}
+use Rattle.std.proofs.Common.{◌≡◌, ◌≢◌, ◌⊎◌, ℕ, ◌+◌, ◌-◌, ◌*◌, ◌/◌, ◌<◌, ◌≤◌, ◌^◌, ◌++◌, refl, Bool, List, [], ◌∷◌, length, get_or, take, ap, sym, ◌∙◌, subst}
+use Rattle.std.proofs.Common.{arith}
 use Rattle.std.proofs.lemmas.List.{map-append}
 use Rattle.wtf_base.specs.declared.ids.InodeId.{InodeId}
 use Rattle.wtf_base.specs.declared.slice.Slice.{Slice}
@@ -27,7 +28,8 @@ use Rattle.wtf_region.proofs.LaidLaws.{pushes_more, first_pieces_more, laid_all,
 use Rattle.wtf_region.proofs.Recording.{recorded_on, Edited-none, Edited-as, Edited-recorded}
 
 -- one change
-pub Edited-one : (i : InodeId) (d : FileEdit) (m n : Attempted Key Delta) → n ≡ record m { changes = m.changes ++ edit_of i d ∷ [] } → Edited i [] (λ ds. ds ≡ d ∷ []) m n
+pub Edited-one : (i : InodeId) (d : FileEdit) (m n : Attempted Key Delta) → n ≡ record m { changes = m.changes ++ edit_of i d ∷ [] }
+    → Edited i [] (λ ds. ds ≡ d ∷ []) m n
 Edited-one i d m n is = record { edits = d ∷ []; grows = GrowsBy-change m n (edit_of i d) is; does = refl }
 
 bytes_append : (P : List Place → Bool) (Q : Slice → Bool) (i : InodeId) (ds es : List FileEdit) → EditsBytes P Q (edits_of i ds)
@@ -40,14 +42,24 @@ pub part_none : (b off : ℕ) (i : InodeId) (p : Piece) → CoversPart b off i p
 part_none b off i p = record { covers = Covers-none b off (part_origin p.part); exact = refl; names = λ P Q h. tt }
 
 -- one entry more of a piece
-pub part_more : (b off done r : ℕ) (i : InodeId) (p : Piece) (e : Entry) → 0 < b → e.off + e.len ≤ b → r * b + e.off ≡ off + done → done + e.len ≤ p.len → (done + e.len ≡ p.len) ⊎ (e.off + e.len ≡ b)
+pub part_more : (b off done r : ℕ) (i : InodeId) (p : Piece) (e : Entry) → 0 < b → e.off + e.len ≤ b → r * b + e.off ≡ off + done → done + e.len ≤ p.len
+    → (done + e.len ≡ p.len) ⊎ (e.off + e.len ≡ b)
     → ((j : ℕ) → part_origin e.part j ≡ part_origin p.part (done + j)) → (ds es : List FileEdit) → CoversPart b off i p done ds → es ≡ Push r e ∷ []
     → CoversPart b off i p (done + e.len) (ds ++ es)
-part_more b off done r i p e pos within place inside whole here ds es first is = subst (λ (l : List FileEdit). CoversPart b off i p (done + e.len) (ds ++ l)) (sym is) (record {
-  covers = Covers-part b off done r e (part_origin p.part) ds pos within place (λ j h. here j) first.covers;
-  exact = pushes_more b off p.len (part_origin p.part) 0 done r e ds first.exact (record { place = place; within = within; inside = inside; whole = whole; holds = λ j h. here j });
-  names = λ P Q h. bytes_append P Q i ds (Push r e ∷ []) (first.names P Q h) ((λ j k. ap P (here j) ∙ h (done + j) (omega (arith, k, inside))), tt);
-})
+part_more b off done r i p e pos within place inside whole here ds es first is =
+    subst (λ (l : List FileEdit). CoversPart b off i p (done + e.len) (ds ++ l)) (sym is) (record {
+      covers = Covers-part b off done r e (part_origin p.part) ds pos within place (λ j h. here j) first.covers;
+      exact =
+          pushes_more b off p.len (part_origin p.part) 0 done r e ds first.exact (record {
+            place = place;
+            within = within;
+            inside = inside;
+            whole = whole;
+            holds =
+                λ j h. here j;
+          });
+      names = λ P Q h. bytes_append P Q i ds (Push r e ∷ []) (first.names P Q h) ((λ j k. ap P (here j) ∙ h (done + j) (omega (arith, k, inside))), tt);
+    })
 
 -- the changes lay the first k pieces, of `done` bytes, and name no other bytes than those of all pieces
 pub record CoversFirst (b off : ℕ) (i : InodeId) (ps : List Piece) (k done : ℕ) (ds : List FileEdit) : Type 0 where
@@ -60,7 +72,8 @@ first_none b off i ps = record { covers = Covers-none b off (pieces_origin []); 
 
 -- one piece more
 pub first_more : (b off done k : ℕ) (i : InodeId) (ps : List Piece) (p : Piece) → k < length ps → p ≡ get_or ps k p → done ≡ pieces_len (take k ps)
-    → (ds es : List FileEdit) → CoversFirst b off i ps k done ds → CoversPart b (off + done) i p p.len es → CoversFirst b off i ps (k + 1) (done + p.len) (ds ++ es)
+    → (ds es : List FileEdit) → CoversFirst b off i ps k done ds → CoversPart b (off + done) i p p.len es
+    → CoversFirst b off i ps (k + 1) (done + p.len) (ds ++ es)
 first_more b off done k i ps p below is d ds es first next = record {
   covers = Covers-piece b off done k ps p ds es below is d first.covers next.covers;
   exact = first_pieces_more b off done k ps p ds es below is d first.exact next.exact;
@@ -68,7 +81,8 @@ first_more b off done k i ps p below is d ds es first next = record {
 }
 
 -- all pieces, and the last region
-pub first_all : (b off done k last : ℕ) (i : InodeId) (ps : List Piece) → 0 < b → length ps ≤ k → done ≡ pieces_len (take k ps) → 0 < done → off + done ≤ MAX_REGIONS * b
+pub first_all : (b off done k last : ℕ) (i : InodeId) (ps : List Piece) → 0 < b → length ps ≤ k → done ≡ pieces_len (take k ps) → 0 < done
+    → off + done ≤ MAX_REGIONS * b
     → last ≡ (off + done - 1) / b → (ds es : List FileEdit) → CoversFirst b off i ps k done ds → es ≡ RaiseLast last ∷ [] → LaysPieces b off i ps (ds ++ es)
 first_all b off done k last i ps pos all d some cap l ds es first is = subst (λ (x : List FileEdit). LaysPieces b off i ps (ds ++ x)) (sym is) (record {
   lays = Lays-pieces b off done k last ps ds pos all d some cap l first.covers;
@@ -77,7 +91,8 @@ first_all b off done k last i ps pos all d some cap l ds es first is = subst (λ
 })
 
 -- no piece
-pub first_nothing : (b off done k : ℕ) (i : InodeId) (ps : List Piece) → length ps ≤ k → done ≡ pieces_len (take k ps) → done ≡ 0 → (ds : List FileEdit) → CoversFirst b off i ps k done ds
+pub first_nothing : (b off done k : ℕ) (i : InodeId) (ps : List Piece) → length ps ≤ k → done ≡ pieces_len (take k ps) → done ≡ 0 → (ds : List FileEdit)
+    → CoversFirst b off i ps k done ds
     → LaysPieces b off i ps ds
 first_nothing b off done k i ps all d none ds first = record {
   lays = Lays-no_pieces b off done k ps ds all d none first.covers;
@@ -86,7 +101,8 @@ first_nothing b off done k i ps all d none ds first = record {
 }
 
 -- the length was read
-pub recorded_length : (i : InodeId) (v : FileView) (last : ℕ) (a m n : Attempted Key Delta) → last ≡ v.last → Recorded i (OfLast ∷ []) a m → Recorded i (OfRegion last ∷ []) m n
+pub recorded_length : (i : InodeId) (v : FileView) (last : ℕ) (a m n : Attempted Key Delta) → last ≡ v.last → Recorded i (OfLast ∷ []) a m
+    → Recorded i (OfRegion last ∷ []) m n
     → Recorded i (length_keys v) a n
 recorded_length i v last a m n is first next =
     subst (λ (r : ℕ). Recorded i (OfLast ∷ OfRegion r ∷ []) a n) is (recorded_on i (OfLast ∷ []) (OfRegion last ∷ []) a m n first next)
@@ -116,7 +132,8 @@ adds_rel b i v last ps a m n pos small some room is recorded made =
     })))))
 
 -- those that do not, at the length that was read
-pub adds_laid : (b : ℕ) (i : InodeId) (v : FileView) (ps : List Piece) (a m n : Attempted Key Delta) → pieces_len ps ≢ 0 → b < end_of (v.region v.last) + pieces_len ps
+pub adds_laid : (b : ℕ) (i : InodeId) (v : FileView) (ps : List Piece) (a m n : Attempted Key Delta) → pieces_len ps ≢ 0
+    → b < end_of (v.region v.last) + pieces_len ps
     → Recorded i (length_keys v) a m → Edited i [] (LaysPieces b (file_len b v) i ps) m n → IsAdded b i v ps a n Done
 adds_laid b i v ps a m n some full recorded laid =
     subst (λ (ks : List FileKey). Edited i ks (AddsPieces b i v ps) a n) (sym (keys_laid b v (pieces_len ps) some full))
@@ -129,7 +146,8 @@ adds_laid b i v ps a m n some full recorded laid =
     })))
 
 -- those that would pass the greatest length
-pub adds_too_many : (b : ℕ) (i : InodeId) (v : FileView) (ps : List Piece) (a m : Attempted Key Delta) → pieces_len ps ≢ 0 → b < end_of (v.region v.last) + pieces_len ps
+pub adds_too_many : (b : ℕ) (i : InodeId) (v : FileView) (ps : List Piece) (a m : Attempted Key Delta) → pieces_len ps ≢ 0
+    → b < end_of (v.region v.last) + pieces_len ps
     → MAX_REGIONS * b < file_len b v + pieces_len ps → Recorded i (length_keys v) a m → IsAdded b i v ps a m TooBig
 adds_too_many b i v ps a m some full big recorded = record {
   recorded = subst (λ (ks : List FileKey). Recorded i ks a m) (sym (keys_laid b v (pieces_len ps) some full)) recorded;

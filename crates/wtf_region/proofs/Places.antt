@@ -1,5 +1,6 @@
 -- Regions that are remembered, with their places.
-use Rattle.std.proofs.Common.{◌≡◌, Bool, true, false, List, [], ◌∷◌, ◌++◌, Option, Some, None, Contains, option_to_list, slice_get, is_some, refl, sym, ap, subst, inl, inr}
+use Rattle.std.proofs.Common.{◌≡◌, Bool, true, false, List, [], ◌∷◌, ◌++◌, Option, Some, None, Contains, option_to_list, slice_get, is_some, refl, sym, ap}
+use Rattle.std.proofs.Common.{subst, inl, inr}
 use Rattle.std.specs.Map.{lookup, lookup_entry}
 use Rattle.std.proofs.lemmas.List.Elements.{Contains-append_right}
 use Rattle.lru.specs.LruCache.{LruCache, promoted, put_entries}
@@ -15,7 +16,8 @@ abbrev Entry : Type 0
 Entry = RegionKey × PlaceView
 
 -- the first place is that of the first region
-pub place_of_first : (ring : RingView) (key : RegionKey) (es : List Entry) → AreFrom ring es → BeginsAt key es → (e : Entry) → slice_get es 0 ≡ Some e → IsPlaceOf ring key e.1
+pub place_of_first : (ring : RingView) (key : RegionKey) (es : List Entry) → AreFrom ring es → BeginsAt key es → (e : Entry) → slice_get es 0 ≡ Some e
+    → IsPlaceOf ring key e.1
 place_of_first ring key [] from first e h = cc
 place_of_first ring key (f ∷ es) from first e h =
     let same : f ≡ e = cc in

@@ -27,7 +27,8 @@ recorded_on i ks ls a m n first next =
     subst (λ (qs : List Key). GrowsBy a n qs []) (sym (map-append (key_of i) ks ls)) (GrowsBy-append a m n (keys_of i ks) (keys_of i ls) [] [] first next)
 
 -- one region more
-pub recorded_region : (i : InodeId) (rs ss : List ℕ) (r : ℕ) (a m n : Attempted Key Delta) → ss ≡ rs ++ r ∷ [] → Recorded i (region_keys rs) a m → Recorded i (OfRegion r ∷ []) m n
+pub recorded_region : (i : InodeId) (rs ss : List ℕ) (r : ℕ) (a m n : Attempted Key Delta) → ss ≡ rs ++ r ∷ [] → Recorded i (region_keys rs) a m
+    → Recorded i (OfRegion r ∷ []) m n
     → Recorded i (region_keys ss) a n
 recorded_region i rs ss r a m n e first next =
     subst (λ (ks : List FileKey). Recorded i ks a n) (sym (ap region_keys e ∙ map-append (λ q. OfRegion q) rs (r ∷ [])))
@@ -63,11 +64,13 @@ Edited-more i ks ls F G H a m n first next join = record {
   does = join first.edits next.edits first.does next.does;
 }
 
-pub Edited-as : (i : InodeId) (ks : List FileKey) (F G : List FileEdit → Type 0) (a n : Attempted Key Delta) → Edited i ks F a n → ((ds : List FileEdit) → F ds → G ds) → Edited i ks G a n
+pub Edited-as : (i : InodeId) (ks : List FileKey) (F G : List FileEdit → Type 0) (a n : Attempted Key Delta) → Edited i ks F a n
+    → ((ds : List FileEdit) → F ds → G ds) → Edited i ks G a n
 Edited-as i ks F G a n h weaker = record { edits = h.edits; grows = h.grows; does = weaker h.edits h.does }
 
 -- keys, and then changes
-pub Edited-recorded : (i : InodeId) (ks : List FileKey) (F : List FileEdit → Type 0) (a m n : Attempted Key Delta) → Recorded i ks a m → Edited i [] F m n → Edited i ks F a n
+pub Edited-recorded : (i : InodeId) (ks : List FileKey) (F : List FileEdit → Type 0) (a m n : Attempted Key Delta) → Recorded i ks a m → Edited i [] F m n
+    → Edited i ks F a n
 Edited-recorded i ks F a m n first next = record {
   edits = next.edits;
   grows = subst (λ (qs : List Key). GrowsBy a n qs (edits_of i next.edits)) (append-nil (keys_of i ks))

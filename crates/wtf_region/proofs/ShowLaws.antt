@@ -1,5 +1,6 @@
 -- Laws of showing: a walk over pieces, what is shown part by part, and what later states of the stores tell.
-use Rattle.std.proofs.Common.{◌≡◌, ◌≢◌, ℕ, ◌+◌, ◌-◌, ◌<◌, ◌≤◌, ◌⊎◌, ◌++◌, min, Bool, true, false, cond, nat_eq, nat_le, List, [], ◌∷◌, length, get_or, take, Option, None, Some, is_some, refl, sym, ap, ◌∙◌, subst, arith, inl, inr, length-append, append_assoc}
+use Rattle.std.proofs.Common.{◌≡◌, ◌≢◌, ℕ, ◌+◌, ◌-◌, ◌<◌, ◌≤◌, ◌⊎◌, ◌++◌, min, Bool, true, false, cond, nat_eq, nat_le, List, [], ◌∷◌, length, get_or, take}
+use Rattle.std.proofs.Common.{Option, None, Some, is_some, refl, sym, ap, ◌∙◌, subst, arith, inl, inr, length-append, append_assoc}
 use Rattle.std.specs.Prelude.{not}
 use Rattle.std.specs.List.{All, filter}
 use Rattle.std.proofs.lemmas.Bool.{cond-true, cond-false, lt-ltb, le-ltb, le-leb, lt-leb, ne_eqb, cases_lt}
@@ -31,7 +32,8 @@ use Rattle.wtf_replica.proofs.Spans.{each_kept, same_lengths_on, same_syncs_on, 
 use Rattle.wtf_meta.specs.Contents.{TellBytes, is_told}
 use Rattle.wtf_region.specs.declared.dev.Dev.{Dev}
 use Rattle.wtf_region.specs.Devs.{GoesOn, stores, is_down_in, between}
-use Rattle.wtf_region.specs.Showing.{IsReadablePart, IsUpPart, Reading, GivesBytes, Gives, ShowsBytes, Shown, ShownBoth, told_by_some, meaning_up, pieces_in, IsPartFault, IsShowFault, OnlyRead}
+use Rattle.wtf_region.specs.Showing.{IsReadablePart, IsUpPart, Reading, GivesBytes, Gives, ShowsBytes, Shown, ShownBoth, told_by_some, meaning_up, pieces_in}
+use Rattle.wtf_region.specs.Showing.{IsPartFault, IsShowFault, OnlyRead}
 
 -- what places mean they still mean where each of them still tells its byte
 meaning_kept : (f g : Place → Option ℕ) (b : ℕ) (qs : List Place) → ((q : Place) → f q ≡ Some b → g q ≡ Some b) → meaning f qs ≡ Some b → meaning g qs ≡ Some b
@@ -81,13 +83,15 @@ up_kept down f g b [] step h = h
 up_kept down f g b (q ∷ qs) step h = some_kept f g b (filter (λ (p : Place). not (down p.server)) (q ∷ qs)) step h
 
 -- what they tell stays so too
-up_stays : {S : Type 0} {kind : StoreKind S} → KindLaws kind → {old new : List S} → EachFollows kind old new [] → (down : ℕ → Bool) (places : List Place) (b : ℕ)
+up_stays : {S : Type 0} {kind : StoreKind S} → KindLaws kind → {old new : List S} → EachFollows kind old new []
+    → (down : ℕ → Bool) (places : List Place) (b : ℕ)
     → meaning_up down (byte_at kind old) places ≡ Some b → meaning_up down (byte_at kind new) places ≡ Some b
 up_stays {kind = kind} laws {old = old} {new = new} e down places b =
     up_kept down (byte_at kind old) (byte_at kind new) b places (λ q. byte_at-kept laws e q b tt)
 
 -- where the stores tell each of the bytes, they are those that were shown
-pub ShowsBytes-tell : (told : Place → Option ℕ) (n : ℕ) (f : ℕ → List Place) (bytes : List ℕ) → ((i : ℕ) → i < n → is_told told (f i) ≡ true) → ShowsBytes told n f bytes → TellBytes told n f bytes
+pub ShowsBytes-tell : (told : Place → Option ℕ) (n : ℕ) (f : ℕ → List Place) (bytes : List ℕ) → ((i : ℕ) → i < n → is_told told (f i) ≡ true)
+    → ShowsBytes told n f bytes → TellBytes told n f bytes
 ShowsBytes-tell told n f bytes tells h = record { len = sym h.len; tells = λ i below. here i below (meaning told (f i)) refl (tells i below) }
   where
     here : (i : ℕ) → i < n → (o : Option ℕ) → meaning told (f i) ≡ o → is_some o ≡ true → meaning told (f i) ≡ Some (get_or bytes i 0)
@@ -104,7 +108,8 @@ copy_shows {kind = kind} laws {t = t} {s = s} {off = off} f n len = record {
 
 -- and what those on servers that are up tell
 pub copy_lives : {S : Type 0} (kind : StoreKind S) (down : ℕ → Bool) (shelf : List S) (s : Slice) (off : ℕ) (out : List ℕ)
-    → ShowsUp down (byte_at kind shelf) s off out → (n : ℕ) → length out ≡ n → GivesBytes (meaning_up down (byte_at kind shelf)) n (λ i. part_origin (Held s) (off + i)) out
+    → ShowsUp down (byte_at kind shelf) s off out → (n : ℕ) → length out ≡ n → GivesBytes (meaning_up down (byte_at kind shelf)) n
+    (λ i. part_origin (Held s) (off + i)) out
 copy_lives kind down shelf s off out shows n len = record {
   len = len;
   shows = λ i b below told. shows i b (omega (arith, below, len)) (up_tells down (byte_at kind shelf) b (places_of s (off + i)) told);
@@ -120,7 +125,8 @@ copy_up {t = t} {s = s} f = (
 )
 
 -- a slice that was not read is why its part was not shown
-pub part_fault : {S : Type 0} (kind : StoreKind S) (t : Span S) (part : Part) (s : Slice) → part ≡ Held s → (f : Fault) → IsReadFault kind t s f → IsPartFault kind t part f
+pub part_fault : {S : Type 0} (kind : StoreKind S) (t : Span S) (part : Part) (s : Slice) → part ≡ Held s → (f : Fault) → IsReadFault kind t s f
+    → IsPartFault kind t part f
 part_fault kind t part s held (fault.Read k) h = record { slice = s; held = held; out = h }
 part_fault kind t part s held fault.Write h = absurd h
 part_fault kind t part s held (fault.Punch k) h = absurd h
@@ -182,7 +188,8 @@ pub shown_none : (down : ℕ → Bool) (told : Place → Option ℕ) (n : ℕ) (
 shown_none down told n f old none = record { shown = gives_none (meaning told) n f old none; live = gives_none (meaning_up down told) n f old none }
 
 -- what a later state of the stores shows an earlier one does
-pub shown_since : {S : Type 0} {kind : StoreKind S} → KindLaws kind → {before mid : List S} → EachFollows kind before mid [] → (n : ℕ) (f : ℕ → List Place) (old new : List ℕ)
+pub shown_since : {S : Type 0} {kind : StoreKind S} → KindLaws kind → {before mid : List S} → EachFollows kind before mid []
+    → (n : ℕ) (f : ℕ → List Place) (old new : List ℕ)
     → Shown (byte_at kind mid) n f old new → Shown (byte_at kind before) n f old new
 shown_since {kind = kind} laws {before = before} {mid = mid} e n f old new h =
     gives_since (meaning (byte_at kind before)) (meaning (byte_at kind mid)) (told_stays laws e) n f old new h
@@ -202,11 +209,20 @@ readable_stays {kind = kind} laws down {old = old} {new = new} e (Held s) h =
     All-weaker (λ (p : Pointer). (down p.server.0 ≡ true) ⊎ IsCopyInside kind old p) (λ (p : Pointer). (down p.server.0 ≡ true) ⊎ IsCopyInside kind new p)
     (λ p was. elim was [
       | inl low ↦ inl low
-      | inr inside ↦ inr (omega (arith, inside.0, e.same_length), inside.1, λ d. omega (arith, inside.2 d, (laws.keeps _ _ _ (e.each p.server.0 d inside.0)).size p.file))
+      | inr inside ↦ inr (
+        omega (arith, inside.0, e.same_length),
+        inside.1,
+        λ d. omega (
+          arith,
+          inside.2 d,
+          (laws.keeps _ _ _ (e.each p.server.0 d inside.0)).size p.file,
+        ),
+      )
     ]) (pointers_of s) h
 
 -- reads one after another
-pub reads_on : {S : Type 0} (kind : StoreKind S) (down : ℕ → Bool) (old mid new : List S) → length mid ≡ length old → OnlyRead kind (span down old mid) → OnlyRead kind (span down mid new)
+pub reads_on : {S : Type 0} (kind : StoreKind S) (down : ℕ → Bool) (old mid new : List S) → length mid ≡ length old → OnlyRead kind (span down old mid)
+    → OnlyRead kind (span down mid new)
     → OnlyRead kind (span down old new)
 reads_on kind down old mid new same first next = record {
   down = λ k d low. next.down k d low ∙ first.down k d low;
@@ -217,7 +233,8 @@ reads_on kind down old mid new same first next = record {
 pub reads_nothing : {S : Type 0} (kind : StoreKind S) (down : ℕ → Bool) (old : List S) → OnlyRead kind (span down old old)
 reads_nothing kind down old = record { down = λ k d low. refl; lengths = λ k d h f. refl; syncs = λ k d h. refl }
 
-pub reads_over : {S : Type 0} (kind : StoreKind S) (old mid new : Dev S) → GoesOn kind old mid [] → OnlyRead kind (between old mid) → OnlyRead kind (between mid new) → OnlyRead kind (between old new)
+pub reads_over : {S : Type 0} (kind : StoreKind S) (old mid new : Dev S) → GoesOn kind old mid [] → OnlyRead kind (between old mid)
+    → OnlyRead kind (between mid new) → OnlyRead kind (between old new)
 reads_over kind old mid new each first next =
     reads_on kind (is_down_in old) (stores old) (stores mid) (stores new) each.each.same_length first
     (subst (λ (down : ℕ → Bool). OnlyRead kind (span down (stores mid) (stores new))) (ap (λ r. is_down r.now) each.replicas) next)
@@ -237,7 +254,8 @@ walk_start ps off len h = record {
 }
 
 -- a piece is skipped
-pub walk_skip : (ps : List Piece) (off len : ℕ) (p : Piece) (rest : List Piece) (skip left : ℕ) → Walk ps off len (p ∷ rest) skip left → p.len ≤ skip → Walk ps off len rest (skip - p.len) left
+pub walk_skip : (ps : List Piece) (off len : ℕ) (p : Piece) (rest : List Piece) (skip left : ℕ) → Walk ps off len (p ∷ rest) skip left → p.len ≤ skip
+    → Walk ps off len rest (skip - p.len) left
 walk_skip ps off len p rest skip left w past = record {
   within = w.within;
   short = omega (arith, w.short, past);
@@ -246,7 +264,8 @@ walk_skip ps off len p rest skip left w past = record {
 }
 
 -- and a part of one is shown
-pub walk_part : (ps : List Piece) (off len : ℕ) (p : Piece) (rest : List Piece) (skip left n : ℕ) → Walk ps off len (p ∷ rest) skip left → skip < p.len → n ≡ min left (p.len - skip)
+pub walk_part : (ps : List Piece) (off len : ℕ) (p : Piece) (rest : List Piece) (skip left n : ℕ) → Walk ps off len (p ∷ rest) skip left → skip < p.len
+    → n ≡ min left (p.len - skip)
     → Walk ps off len rest 0 (left - n)
 walk_part ps off len p rest skip left n w before is = record {
   within = omega (arith, w.within);
@@ -258,7 +277,8 @@ walk_part ps off len p rest skip left n w before is = record {
 }
 
 -- the bytes of that part
-pub walk_here : (ps : List Piece) (off len : ℕ) (p : Piece) (rest : List Piece) (skip left n i : ℕ) → Walk ps off len (p ∷ rest) skip left → skip < p.len → n ≡ min left (p.len - skip)
+pub walk_here : (ps : List Piece) (off len : ℕ) (p : Piece) (rest : List Piece) (skip left n i : ℕ) → Walk ps off len (p ∷ rest) skip left → skip < p.len
+    → n ≡ min left (p.len - skip)
     → i < n → part_origin p.part (skip + i) ≡ pieces_origin ps (off + (len - left + i))
 walk_here ps off len p rest skip left n i w before is below =
     sym (w.origin i (omega (arith, is, below)) ∙ cond-true _ _ _ (lt-ltb (skip + i) p.len (omega (arith, is, before, below))))
@@ -266,7 +286,8 @@ walk_here ps off len p rest skip left n i w before is below =
 in_skip : (p : Piece) (rest : List Piece) (skip left : ℕ) → left ≢ 0 → p.len ≤ skip → pieces_in skip left (p ∷ rest) ≡ pieces_in (skip - p.len) left rest
 in_skip p rest skip left some past = cond-false (nat_eq left 0) _ _ (ne_eqb left 0 some) ∙ cond-true (nat_le p.len skip) _ _ (le-leb p.len skip past)
 
-in_part : (p : Piece) (rest : List Piece) (skip left n : ℕ) → left ≢ 0 → skip < p.len → n ≡ min left (p.len - skip) → pieces_in skip left (p ∷ rest) ≡ p ∷ pieces_in 0 (left - n) rest
+in_part : (p : Piece) (rest : List Piece) (skip left n : ℕ) → left ≢ 0 → skip < p.len → n ≡ min left (p.len - skip)
+    → pieces_in skip left (p ∷ rest) ≡ p ∷ pieces_in 0 (left - n) rest
 in_part p rest skip left n some before is = cond-false (nat_eq left 0) _ _ (ne_eqb left 0 some) ∙ cond-false (nat_le p.len skip) _ _ (lt-leb p.len skip before)
     ∙ ap (λ (m : ℕ). p ∷ pieces_in 0 m rest) (let e : left - (p.len - skip) ≡ left - n = omega (arith, is) in e)
 
@@ -279,7 +300,8 @@ pub record Passed (down : ℕ → Bool) (all rest : List Piece) : Type 0 where
 pub passed_none : (down : ℕ → Bool) (all : List Piece) → Passed down all all
 passed_none down all = record { done = []; split = refl; up = All-nil (λ (p : Piece). IsUpPart down p.part) }
 
-pub passed_skip : (down : ℕ → Bool) (all : List Piece) (p : Piece) (rest : List Piece) (skip left : ℕ) → left ≢ 0 → p.len ≤ skip → Passed down all (pieces_in skip left (p ∷ rest))
+pub passed_skip : (down : ℕ → Bool) (all : List Piece) (p : Piece) (rest : List Piece) (skip left : ℕ) → left ≢ 0 → p.len ≤ skip
+    → Passed down all (pieces_in skip left (p ∷ rest))
     → Passed down all (pieces_in (skip - p.len) left rest)
 passed_skip down all p rest skip left some past h = subst (Passed down all) (in_skip p rest skip left some past) h
 
@@ -296,7 +318,8 @@ passed_part down all p rest skip left n some before is h up =
     passed_one down all p (pieces_in 0 (left - n) rest) (subst (Passed down all) (in_part p rest skip left n some before is) h) up
 
 -- the fault of a piece in a later part of the span, where those before it were shown
-pub show_fault : {S : Type 0} (kind : StoreKind S) (laws : KindLaws kind) (old mid new : Dev S) (all : List Piece) (p : Piece) (rest : List Piece) → GoesOn kind old mid []
+pub show_fault : {S : Type 0} (kind : StoreKind S) (laws : KindLaws kind) (old mid new : Dev S) (all : List Piece) (p : Piece) (rest : List Piece)
+    → GoesOn kind old mid []
     → Passed (is_down_in old) all (p ∷ rest) → (f : Fault) → IsPartFault kind (between mid new) p.part f → IsShowFault kind (between old new) all f
 show_fault kind laws old mid new all p rest each passed (fault.Read k) h = record {
   before = passed.done;
@@ -316,18 +339,23 @@ show_fault kind laws old mid new all p rest each passed (fault.Punch k) h = absu
 show_fault kind laws old mid new all p rest each passed (fault.Damaged k) h = absurd h
 show_fault kind laws old mid new all p rest each passed fault.Memory h = tt
 
-pub show_fault_in : {S : Type 0} (kind : StoreKind S) (laws : KindLaws kind) (old mid new : Dev S) (all : List Piece) (p : Piece) (rest : List Piece) (skip left n : ℕ)
+pub show_fault_in : {S : Type 0} (kind : StoreKind S) (laws : KindLaws kind) (old mid new : Dev S) (all : List Piece) (p : Piece) (rest : List Piece)
+    (skip left n : ℕ)
     → left ≢ 0 → skip < p.len → n ≡ min left (p.len - skip) → GoesOn kind old mid []
-    → Passed (is_down_in old) all (pieces_in skip left (p ∷ rest)) → (f : Fault) → IsPartFault kind (between mid new) p.part f → IsShowFault kind (between old new) all f
+    → Passed (is_down_in old) all (pieces_in skip left (p ∷ rest)) → (f : Fault) → IsPartFault kind (between mid new) p.part f
+    → IsShowFault kind (between old new) all f
 show_fault_in kind laws old mid new all p rest skip left n some before is each passed f h =
-    show_fault kind laws old mid new all p (pieces_in 0 (left - n) rest) each (subst (Passed (is_down_in old) all) (in_part p rest skip left n some before is) passed) f h
+    show_fault kind laws old mid new all p (pieces_in 0 (left - n) rest) each (subst (Passed (is_down_in old) all) (in_part p rest skip left n some before is)
+    passed) f h
 
 -- a list that was lengthened, and whose new end was written
-pub end_written : (old xs items ys zeros p q : List ℕ) (a n len end : ℕ) → length old ≡ a → xs ≡ items → end ≡ a + n → items ≡ take end old ++ zeros → length ys ≡ n → len ≡ end
+pub end_written : (old xs items ys zeros p q : List ℕ) (a n len end : ℕ) → length old ≡ a → xs ≡ items → end ≡ a + n → items ≡ take end old ++ zeros
+    → length ys ≡ n → len ≡ end
     → take len (take a xs ++ (ys ++ p) ++ q) ≡ old ++ ys
 end_written old xs items ys zeros p q a n len end is_a is_xs is_end is_items is_n is_len =
     let front : take a xs ≡ old =
-    ap (λ (l : List ℕ). take a l) (is_xs ∙ is_items ∙ ap (λ (l : List ℕ). l ++ zeros) (take_all end old (omega (arith, is_a, is_end)))) ∙ take_at old zeros a is_a in
+    ap (λ (l : List ℕ). take a l) (is_xs ∙ is_items ∙ ap (λ (l : List ℕ). l ++ zeros) (take_all end old (omega (arith, is_a, is_end))))
+    ∙ take_at old zeros a is_a in
     let parts : take a xs ++ (ys ++ p) ++ q ≡ (old ++ ys) ++ (p ++ q) =
     ap (λ (l : List ℕ). l ++ (ys ++ p) ++ q) front
     ∙ ap (λ (l : List ℕ). l ++ q) (sym (append_assoc old ys p)) ∙ append_assoc (old ++ ys) p q in

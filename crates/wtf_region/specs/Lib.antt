@@ -8,3 +8,4 @@ pub mod Laid
 pub mod Reads
 pub mod Edited
 pub mod Showing
+pub mod Called

@@ -1,5 +1,5 @@
 -- What a call reads of the lists of bases, and why it does not.
-use Rattle.std.specs.Prelude.{◌≡◌, ◌⊎◌, ℕ, ◌+◌, ◌-◌, ◌*◌, ◌<◌, false, List, [], Option, None, Some, length, ⊤}
+use Rattle.std.specs.Prelude.{◌≡◌, ◌⊎◌, ℕ, ◌+◌, ◌-◌, ◌*◌, ◌<◌, ◌≤◌, false, List, [], Option, None, Some, length, ⊤}
 use Rattle.std.specs.List.{All}
 use Rattle.wtf_base.specs.declared.fault.Fault.{Fault}
 use Rattle.wtf_base.specs.declared.fault.Fault.TheVariants as fault
@@ -131,15 +131,20 @@ abbrev pub IsRegionFault : {S : Type 0} → StoreKind S → (old new : Dev S) �
 IsRegionFault kind old new None why = why ≡ fault.Memory
 IsRegionFault kind old new (Some v) why = IsBaseFault kind old new v.base why
 
--- a fault leaves the lists that are remembered; want of memory may come after the list was read
-abbrev pub LeavesLists : {S : Type 0} → (old new : Dev S) → Fault → Type 0
-LeavesLists old new fault.Memory = ⊤
-LeavesLists old new other = remembered new ≡ remembered old
+-- the lists of these slices were asked for, or none was
+abbrev pub MayRecall : {S : Type 0} → List Slice → (old new : Dev S) → Type 0
+MayRecall wants old new =
+    (remembered new ≡ remembered old) ⊎ ((facts : List ListFact) × (slices_of facts ≡ wants) × (remembered new ≡ recalled facts (remembered old)))
+
+-- a fault leaves the lists that are remembered; want of memory may come after those of these slices were read
+abbrev pub LeavesLists : {S : Type 0} → List Slice → (old new : Dev S) → Fault → Type 0
+LeavesLists wants old new fault.Memory = MayRecall wants old new
+LeavesLists wants old new other = remembered new ≡ remembered old
 
 -- why a region's list was not read, and what is remembered then
 pub record LeavesRegion {S : Type 0} (kind : StoreKind S) (old new : Dev S) (now : Option RegionValue) (why : Fault) : Type 0 where
   pub cause : IsRegionFault kind old new now why
-  pub left : LeavesLists old new why
+  pub left : LeavesLists (region_slices now) old new why
 
 -- A region in which one of n bytes from off on lies has a list that was not read, at a moment to which the call had gone on: it is
 -- the first one, and the lists of the bases of the regions before it were read, in order, and no others.
@@ -154,8 +159,16 @@ pub record LacksRegion {S : Type 0} (kind : StoreKind S) (old new : Dev S) (file
   pub upto : region * old.settings.region < off + n
   pub earlier : slices_of before ≡ bases_in old.settings.region file off (region * old.settings.region - off)
   pub cause : IsRegionFault kind mid new (file.region region) why
-  pub left : LeavesLists mid new why
+  pub left : LeavesLists (region_slices (file.region region)) mid new why
 
 -- why n bytes of a file from off on were not read as pieces
 abbrev pub IsFileFault : {S : Type 0} → StoreKind S → (old new : Dev S) → FileView → (off n : ℕ) → Fault → Type 0
 IsFileFault kind old new file off n why = (why ≡ fault.Memory) ⊎ LacksRegion kind old new file off n why
+
+-- of n bytes of a file from off on, the lists of the bases under the first so many of them were asked for, in order, and no others
+pub record RecallsFirst {S : Type 0} (old new : Dev S) (file : FileView) (off n : ℕ) : Type 0 where
+  pub upto : ℕ
+  pub within : upto ≤ n
+  pub facts : List ListFact
+  pub wants : slices_of facts ≡ bases_in old.settings.region file off upto
+  pub recalls : remembered new ≡ recalled facts (remembered old)

@@ -1,5 +1,6 @@
 -- Showing the bytes of pieces, and why they were not shown.
-use Rattle.std.specs.Prelude.{◌≡◌, ◌<◌, ◌-◌, ◌++◌, ℕ, Bool, false, not, nat_eq, nat_le, if◌then◌else◌, List, [], ◌∷◌, length, slice_index, Option, None, Some, ⊤}
+use Rattle.std.specs.Prelude.{◌≡◌, ◌<◌, ◌-◌, ◌++◌, ℕ, Bool, false, not, nat_eq, nat_le, if◌then◌else◌, List, [], ◌∷◌, length, slice_index, Option, None, Some}
+use Rattle.std.specs.Prelude.{⊤}
 use Rattle.std.specs.List.{All, Contains, filter}
 use Rattle.wtf_base.specs.declared.pointer.Pointer.{Pointer}
 use Rattle.wtf_base.specs.declared.slice.Slice.{Slice}

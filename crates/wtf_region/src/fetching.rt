@@ -1,10 +1,11 @@
 //! Bytes of pieces, read from the servers.
 
-ghost use Rattle.std.specs.Prelude.{◌≡◌, ◌<◌, ◌≤◌, ◌+◌, [], OnOk, OnErr, IfErr};
+ghost use Rattle.std.specs.Prelude.{◌<◌, ◌≤◌, ◌+◌, [], OnOk, IfErr};
 ghost use Rattle.wtf_overlay.specs.Origin.{part_origin, pieces_len, pieces_origin};
 ghost use Rattle.wtf_replica.specs.Bytes.{byte_at};
-ghost use Rattle.wtf_region.specs.Devs.{IsSoundDev, GoesOn, stores, is_down_in, remembered, between};
-ghost use Rattle.wtf_region.specs.Showing.{IsReadablePart, AreReadable, IsUpPart, Shown, ShownLive, ShownBoth, BeginsWith, pieces_in, IsPartFault, IsShowFault, OnlyRead};
+ghost use Rattle.wtf_region.specs.Called.{Appends, ShowsBytesOf};
+ghost use Rattle.wtf_region.specs.Devs.{IsSoundDev, GoesOn, stores, is_down_in, between};
+ghost use Rattle.wtf_region.specs.Showing.{IsReadablePart, AreReadable, IsUpPart, ShownBoth, pieces_in, IsPartFault, IsShowFault};
 
 use crate::Dev;
 use wtf_base::Fault;
@@ -27,10 +28,8 @@ fn show_part<S: SliceStore>(
     ensures shown { OnOk result (ShownBoth (is_down_in dev.old) (byte_at S.kind (stores dev.old))
         len (λ i. part_origin piece.now.part (off + i)) out.old.items out.new.items) }
     ensures up { OnOk result (IsUpPart (is_down_in dev.old) piece.now.part) }
-    ensures begins { BeginsWith out.old.items out.new.items }
     ensures fault { IfErr result (IsPartFault S.kind (between dev.old dev.new) piece.now.part) }
-    ensures reads { OnlyRead S.kind (between dev.old dev.new) }
-    ensures lists { remembered dev.new ≡ remembered dev.old }
+    ensures appends { Appends S.kind dev.old dev.new out.old.items out.new.items }
     ensures dev { GoesOn S.kind dev.old dev.new [] }
 {
     let from = out.len();
@@ -66,11 +65,9 @@ fn show_all<S: SliceStore>(
     requires readable { AreReadable S.kind (is_down_in dev.old) (stores dev.old) pieces.now }
     ensures shown { OnOk result (ShownBoth (is_down_in dev.old) (byte_at S.kind (stores dev.old))
         len (λ i. pieces_origin pieces.now (off + i)) out.old.items out.new.items) }
-    ensures begins { BeginsWith out.old.items out.new.items }
     ensures fault { IfErr result
         (IsShowFault S.kind (between dev.old dev.new) (pieces_in off len pieces.now)) }
-    ensures reads { OnlyRead S.kind (between dev.old dev.new) }
-    ensures lists { remembered dev.new ≡ remembered dev.old }
+    ensures appends { Appends S.kind dev.old dev.new out.old.items out.new.items }
     ensures dev { GoesOn S.kind dev.old dev.new [] }
 {
     let mut skip = off;
@@ -108,16 +105,8 @@ pub fn show<S: SliceStore>(
     requires sound { IsSoundDev S.kind dev.old }
     requires within { off + len ≤ pieces_len pieces.now }
     requires readable { AreReadable S.kind (is_down_in dev.old) (stores dev.old) pieces.now }
-    ensures shown { OnOk result (Shown (byte_at S.kind (stores dev.old)) len
-        (λ i. pieces_origin pieces.now (off + i)) out.old.items out.new.items) }
-    ensures live { OnOk result (ShownLive (is_down_in dev.old) (byte_at S.kind (stores dev.old)) len
-        (λ i. pieces_origin pieces.now (off + i)) out.old.items out.new.items) }
-    ensures err { OnErr result (out.new.items ≡ out.old.items) }
-    ensures fault { IfErr result
-        (IsShowFault S.kind (between dev.old dev.new) (pieces_in off len pieces.now)) }
-    ensures reads { OnlyRead S.kind (between dev.old dev.new) }
-    ensures lists { remembered dev.new ≡ remembered dev.old }
-    ensures dev { GoesOn S.kind dev.old dev.new [] }
+    ensures { ShowsBytesOf S.kind dev.old dev.new
+        (record { pieces = pieces.now; off = off; len = len }) out.old.items out.new.items result }
 {
     let from = out.len();
     if let Err(why) = show_all(dev, pieces, off, len, out) {

@@ -7,6 +7,7 @@ ghost use Rattle.wtf_replica.specs.Copies.{IsFetched};
 ghost use Rattle.wtf_replica.specs.Faults.{IsReadFault};
 ghost use Rattle.wtf_replica.specs.Inside.{size_in};
 ghost use Rattle.wtf_meta.specs.Bytes.{SliceBytes, BaseBytes, any_slice};
+ghost use Rattle.wtf_region.specs.Bases.{base_slices};
 ghost use Rattle.wtf_region.specs.Cached.{RemembersOnly, cached, list_fact, looked_up, recalled_one};
 ghost use Rattle.wtf_region.specs.Inside.{part_lies_inside, list_lies_inside};
 ghost use Rattle.wtf_region.specs.Devs.{IsSoundDev, GoesOn, remembered, inside_of, between};
@@ -208,7 +209,7 @@ pub fn region_list<S: SliceStore>(
     requires inside { BaseBytes (inside_of S.kind dev.old) any_slice value.now.base }
     ensures read { IfOk result (IsListRead S.kind dev.old dev.new value.now) }
     ensures fault { IfErr result (IsBaseFault S.kind dev.old dev.new value.now.base) }
-    ensures left { IfErr result (LeavesLists dev.old dev.new) }
+    ensures left { IfErr result (LeavesLists (base_slices value.now.base) dev.old dev.new) }
     ensures only { RemembersOnly (IsOfBase value.now.base) (remembered dev.old) (remembered dev.new) }
     ensures reads { OnlyRead S.kind (between dev.old dev.new) }
     ensures dev { GoesOn S.kind dev.old dev.new [] }

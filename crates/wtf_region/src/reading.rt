@@ -1,6 +1,6 @@
 //! What an attempt sees of a file: its length, and ranges of it as pieces.
 
-ghost use Rattle.std.specs.Prelude.{◌≡◌, ◌+◌, ◌*◌, ◌<◌, ◌≤◌, ◌++◌, [], ◌∷◌, IfOk, IfErr, OnOk, IsTrue};
+ghost use Rattle.std.specs.Prelude.{◌≡◌, ◌+◌, ◌*◌, ◌<◌, ◌≤◌, ◌++◌, [], ◌∷◌, IfOk, IfErr, OnOk, OnErr, IsTrue};
 ghost use Rattle.std.specs.Option.{option_copied};
 ghost use Rattle.wtf_kv.specs.Stores.{is_pinned};
 ghost use Rattle.wtf_occ.specs.Attempts.{Grows};
@@ -12,7 +12,7 @@ ghost use Rattle.wtf_meta.specs.Files.{file_len as file_length};
 ghost use Rattle.wtf_meta.specs.FileEdits.{file_of, region_of};
 ghost use Rattle.wtf_meta.specs.Appends.{OfRegion, length_keys, region_keys, touched};
 ghost use Rattle.wtf_region.specs.Devs.{IsSoundDev, GoesOn, between, inside_of};
-ghost use Rattle.wtf_region.specs.Reads.{IsPartRead, IsFileRead, LeavesRegion, IsFileFault};
+ghost use Rattle.wtf_region.specs.Reads.{IsPartRead, IsFileRead, LeavesRegion, IsFileFault, RecallsFirst};
 ghost use Rattle.wtf_region.specs.Showing.{OnlyRead};
 ghost use Rattle.wtf_region.specs.Edited.{Recorded};
 
@@ -192,8 +192,8 @@ fn region_pieces<S: SliceStore>(
 /// The `len` bytes of a file from offset `off` on as consecutive pieces, each of one slice or of
 /// zeros. A missing region, and all past a region's end, reads as zeros. The regions in which the
 /// bytes lie are recorded, each once, and the lists of their bases are read, in order: `Read` and
-/// `Damaged` are those of the first list that was not read. After a fault some regions may be recorded,
-/// and the lists that were read are remembered.
+/// `Damaged` are those of the first list that was not read. After a fault, also for want of memory, some
+/// regions may be recorded, and the lists that were read are remembered, and no others.
 pub fn pieces<S: SliceStore>(
     alloc: Global,
     dev: &mut Dev<'_, S>,
@@ -214,6 +214,8 @@ pub fn pieces<S: SliceStore>(
     ensures grows { Grows at.old at.new }
     ensures fault { IfErr result
         (IsFileFault S.kind dev.old dev.new (file_of inode (seen kv.now at.old)) off len) }
+    ensures err { OnErr result
+        (RecallsFirst dev.old dev.new (file_of inode (seen kv.now at.old)) off len) }
     ensures reads { OnlyRead S.kind (between dev.old dev.new) }
     ensures dev { GoesOn S.kind dev.old dev.new [] }
 {

@@ -18,8 +18,10 @@ returns-then-has_room-clause-added c v is =
     let at = c.record_last.new.at in
     let room : e.off + c.bytes_of-len.result ≤ b = c.has_room.ensures.room c.if-has_room.true in
     adds_rel b i v e.region c.args.pieces.now c.args.at.now at c.delta.new.self (omega (arith, c.args.settings.limits)) (omega (arith, c.args.settings.limits))
-    (λ none. c.if-len-eq0.false (omega (arith, none, c.bytes_of-len.ensures))) (omega (arith, is.off, room, c.bytes_of-len.ensures, c.args.settings.limits)) is.region c.in_ok-record_last.ensures.recorded
-    (subst (λ (qs : List Piece). c.delta.new.self ≡ record at { changes = at.changes ++ edit_of i (PushRel e.region qs b) ∷ [] }) c.in_ok-pieces.ensures c.in_ok-delta.ensures.ok)
+    (λ none. c.if-len-eq0.false (omega (arith, none, c.bytes_of-len.ensures))) (omega (arith, is.off, room, c.bytes_of-len.ensures, c.args.settings.limits))
+    is.region c.in_ok-record_last.ensures.recorded
+    (subst (λ (qs : List Piece). c.delta.new.self ≡ record at { changes = at.changes ++ edit_of i (PushRel e.region qs b) ∷ [] }) c.in_ok-pieces.ensures
+    c.in_ok-delta.ensures.ok)
 
 pub returns-clause-added : goal.returns-clause-added
 returns-clause-added c v is =

@@ -11,7 +11,9 @@ use Rattle.wtf_region.proofs.changing.put_piece.Goals as goal
 pub loop-done-init : goal.loop-done-init
 loop-done-init c = record {
   upto = omega arith;
-  made = Edited-none c.args.inode (CoversPart c.args.size c.args.off c.args.inode c.args.piece.now 0) c.args.at.now (part_none c.args.size c.args.off c.args.inode c.args.piece.now);
+  made =
+      Edited-none c.args.inode (CoversPart c.args.size c.args.off c.args.inode c.args.piece.now 0) c.args.at.now
+      (part_none c.args.size c.args.off c.args.inode c.args.piece.now);
 }
 
 pub loop-done-preserved : goal.loop-done-preserved
@@ -28,9 +30,11 @@ loop-done-preserved c =
     record {
       upto = omega (arith, place.inside);
       made = subst (λ (n : ℕ). Edited i [] (CoversPart b off i p (done + n)) c.args.at.now c.delta.new.self) here.len
-          (Edited-more i [] [] (CoversPart b off i p done) (λ ds. ds ≡ Push r e ∷ []) (CoversPart b off i p (done + e.len)) c.args.at.now c.loop-done.at c.delta.new.self
+          (Edited-more i [] [] (CoversPart b off i p done) (λ ds. ds ≡ Push r e ∷ []) (CoversPart b off i p (done + e.len)) c.args.at.now c.loop-done.at
+          c.delta.new.self
           c.loop-done.invariant.made (Edited-one i (Push r e) c.loop-done.at c.delta.new.self c.in_ok-delta.ensures.ok)
-          (part_more b off done r i p e c.requires.size (omega (arith, place.within, here.off, here.len)) (omega (arith, place.place, here.off)) (omega (arith, place.inside, here.len))
+          (part_more b off done r i p e c.requires.size (omega (arith, place.within, here.off, here.len)) (omega (arith, place.place, here.off))
+          (omega (arith, place.inside, here.len))
           (entry_whole b done p.len c.part_at-part.result.off c.part_at-part.result.len e here.off here.len place.whole)
           (λ j. ap (λ (q : Part). part_origin q j) here.part ∙ c.part_of-held.ensures.origin j)));
     }

@@ -9,17 +9,31 @@ use Rattle.wtf_region.proofs.changing.put_pieces.Goals as goal
 pub loop-piece-init : goal.loop-piece-init
 loop-piece-init c = record {
   done = omega arith;
-  made = Edited-none c.args.inode (CoversFirst c.args.settings.region c.args.off c.args.inode c.args.pieces.now 0 0) c.args.at.now (first_none c.args.settings.region c.args.off c.args.inode c.args.pieces.now);
+  made =
+      Edited-none c.args.inode (CoversFirst c.args.settings.region c.args.off c.args.inode c.args.pieces.now 0 0) c.args.at.now
+      (first_none c.args.settings.region c.args.off c.args.inode c.args.pieces.now);
 }
 
 pub overflow_add-off : goal.overflow_add-off
 overflow_add-off c = omega (arith, c.args.settings.limits, pieces_len_take c.args.pieces.now c.loop-piece.piece-index)
 
 pub put_piece-requires-clause-cap : goal.put_piece-requires-clause-cap
-put_piece-requires-clause-cap c = omega (arith, pieces_len_more c.args.pieces.now c.loop-piece.piece-index c.piece-item.result (omega arith) c.piece-item.is, pieces_len_take c.args.pieces.now (c.loop-piece.piece-index + 1))
+put_piece-requires-clause-cap c =
+    omega (
+      arith,
+      pieces_len_more c.args.pieces.now c.loop-piece.piece-index c.piece-item.result (omega arith) c.piece-item.is,
+      pieces_len_take
+          c.args.pieces.now (c.loop-piece.piece-index + 1),
+    )
 
 pub overflow_add-done : goal.overflow_add-done
-overflow_add-done c = omega (arith, c.args.settings.limits, pieces_len_more c.args.pieces.now c.loop-piece.piece-index c.piece-item.result (omega arith) c.piece-item.is, pieces_len_take c.args.pieces.now (c.loop-piece.piece-index + 1))
+overflow_add-done c =
+    omega (
+      arith,
+      c.args.settings.limits,
+      pieces_len_more c.args.pieces.now c.loop-piece.piece-index c.piece-item.result (omega arith) c.piece-item.is,
+      pieces_len_take c.args.pieces.now (c.loop-piece.piece-index + 1),
+    )
 
 pub loop-piece-preserved : goal.loop-piece-preserved
 loop-piece-preserved c =

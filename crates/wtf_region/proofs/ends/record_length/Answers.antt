@@ -3,4 +3,5 @@ use Rattle.wtf_region.proofs.ends.record_length.Goals as goal
 
 pub returns-clause-recorded : goal.returns-clause-recorded
 returns-clause-recorded c v is =
-    recorded_length c.args.inode v c.args.end.region c.args.at.now c.record_last.new.at c.record_region.new.at is.region c.in_ok-record_last.ensures.recorded c.in_ok-record_region.ensures.recorded
+    recorded_length c.args.inode v c.args.end.region c.args.at.now c.record_last.new.at c.record_region.new.at is.region c.in_ok-record_last.ensures.recorded
+    c.in_ok-record_region.ensures.recorded

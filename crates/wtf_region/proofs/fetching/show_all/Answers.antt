@@ -1,4 +1,4 @@
-use Rattle.std.proofs.Common.{◌≡◌, ◌+◌, ◌-◌, ◌<◌, ℕ, Bool, List, [], ◌∷◌, length, get_or, drop, arith, sym, ap, ◌∙◌, subst}
+use Rattle.std.proofs.Common.{◌≡◌, ◌+◌, ◌-◌, ◌<◌, ℕ, Bool, List, [], ◌∷◌, ◌++◌, append_assoc, length, get_or, drop, arith, sym, ap, ◌∙◌, subst}
 use Rattle.std.proofs.lemmas.List.{drop_more, drop_all}
 use Rattle.wtf_overlay.specs.declared.part.Piece.{Piece}
 use Rattle.wtf_overlay.specs.Origin.{part_origin, pieces_len, pieces_origin}
@@ -18,7 +18,8 @@ show_part-requires-clause-readable g c =
     let old = c.args.dev.now in
     subst (λ (down : ℕ → Bool). IsReadablePart kind down (stores c.loop-piece.dev) p.part) (sym (ap (λ r. is_down r.now) each.replicas))
     (readable_stays g.met.S.SliceStore.laws (is_down_in old) each.each p.part
-    (subst (λ (q : Piece). IsReadablePart kind (is_down_in old) (stores old) q.part) (sym c.piece-item.is) (c.requires.readable c.loop-piece.piece-index p c.loop-piece-test.true)))
+    (subst (λ (q : Piece). IsReadablePart kind (is_down_in old) (stores old) q.part) (sym c.piece-item.is)
+    (c.requires.readable c.loop-piece.piece-index p c.loop-piece-test.true)))
 
 -- the pieces that are left begin with this one
 here : (ps : List Piece) (k : ℕ) (p : Piece) → k < length ps → p ≡ get_or ps k p → drop k ps ≡ p ∷ drop (k + 1) ps
@@ -35,8 +36,23 @@ returns-in-Err-clause-fault g c =
     let all = pieces_in c.args.off c.args.len ps in
     show_fault_in g.S.SliceStore.kind g.met.S.SliceStore.laws old c.loop-piece.dev c.show_part.new.dev all p (drop (k + 1) ps) skip left c.min-n.result
     c.if-left-eq0.false (omega (arith, c.if-skip-piece.false)) c.min-n.ensures c.loop-piece.invariant.each
-    (subst (λ (l : List Piece). Passed (is_down_in old) all (pieces_in skip left l)) (here ps k p c.loop-piece-test.true c.piece-item.is) c.loop-piece.invariant.passed)
+    (subst (λ (l : List Piece). Passed (is_down_in old) all (pieces_in skip left l)) (here ps k p c.loop-piece-test.true c.piece-item.is)
+    c.loop-piece.invariant.passed)
     c.in-Err.why c.in-Err.ensures.fault
+
+pub returns-in-Err-clause-appends : goal.returns-in-Err-clause-appends
+returns-in-Err-clause-appends g c =
+    let was = c.loop-piece.invariant in
+    let shown = was.shown.shown in
+    let now = c.show_part.ensures.appends in
+    record {
+      begins = (
+        shown.bytes ++ now.begins.0,
+        now.begins.1 ∙ ap (λ (l : List ℕ). l ++ now.begins.0) shown.more ∙ append_assoc c.args.out.now.items shown.bytes now.begins.0,
+      );
+      reads = reads_over g.S.SliceStore.kind c.args.dev.now c.loop-piece.dev c.show_part.new.dev was.each was.reads now.reads;
+      lists = now.lists ∙ was.lists;
+    }
 
 pub returns-in-Err-clause-dev : goal.returns-in-Err-clause-dev
 returns-in-Err-clause-dev g c = goes_on g.met.S.SliceStore.laws c.loop-piece.invariant.each c.in-Err.ensures.dev
@@ -75,8 +91,8 @@ loop-piece-preserved g c =
           (subst (λ (down : ℕ → Bool). ShownBoth down (byte_at kind (stores mid)) n (λ i. part_origin p.part (skip + i)) c.loop-piece.out.items
           c.show_part.new.out.items) (ap (λ r. is_down r.now) was.each.replicas) now.shown))
           (λ i h. walk_here ps off len p rest skip left n i walk before c.min-n.ensures h);
-      reads = reads_over kind old mid new was.each was.reads now.reads;
-      lists = now.lists ∙ was.lists;
+      reads = reads_over kind old mid new was.each was.reads now.appends.reads;
+      lists = now.appends.lists ∙ was.lists;
       each = goes_on laws was.each now.dev;
     }
 

@@ -18,7 +18,8 @@ fetch-requires-clause-inside g c =
 
 pub returns-in-Err-clause-fault : goal.returns-in-Err-clause-fault
 returns-in-Err-clause-fault g c =
-    part_fault g.S.SliceStore.kind (during c.args.dev.now.replicas.now c.args.dev.now.shelf.now c.fetch.new.shelf) c.args.piece.now.part c.in-Held.slice c.in-Held.is c.in-Err.why c.in-Err.ensures.fault
+    part_fault g.S.SliceStore.kind (during c.args.dev.now.replicas.now c.args.dev.now.shelf.now c.fetch.new.shelf) c.args.piece.now.part c.in-Held.slice
+    c.in-Held.is c.in-Err.why c.in-Err.ensures.fault
 
 chosen : {X : Type 0} (b : Bool) (x y z : X) → z ≡ cond b x y → b ≡ true → z ≡ x
 chosen true x y z is h = is
@@ -34,14 +35,24 @@ returns-clause-shown g c =
     let upto : end ≡ a + n = omega (arith, c.in-Some.ensures.1) in
     let zeros : List ℕ = replicate (end - vec_len c.args.out.now) 0 in
     let ok = c.if-is_err.ensures.negation in
-    let items : c.resize.new.self.items ≡ take end old ++ zeros = chosen (is_ok c.resize.result) (take end old ++ zeros) old c.resize.new.self.items c.resize.ensures.items ok in
+    let items : c.resize.new.self.items ≡ take end old ++ zeros = chosen (is_ok c.resize.result) (take end old ++ zeros) old c.resize.new.self.items
+    c.resize.ensures.items ok in
     let len : c.resize.new.self.len ≡ end = chosen (is_ok c.resize.result) end (vec_len c.args.out.now) c.resize.new.self.len c.resize.ensures.len ok in
     let xs = c.deref_mut.result.now in
-    let read : length c.fetch.new.out ≡ n = omega (arith, c.fetch.auto.out, length-take (length xs - a) (drop a xs), length-drop a xs, c.deref_mut.ensures.len, len, upto) in
+    let read : length c.fetch.new.out ≡ n = omega (
+      arith,
+      c.fetch.auto.out,
+      length-take (length xs - a) (drop a xs),
+      length-drop a xs,
+      c.deref_mut.ensures.len,
+      len,
+      upto,
+    ) in
     let kind = g.S.SliceStore.kind in
     let shelf = stores c.args.dev.now in
     let down = is_down_in c.args.dev.now in
-    let more = end_written old xs c.resize.new.self.items c.fetch.new.out zeros _ _ a n c.resize.new.self.len end from c.deref_mut.ensures.value upto items read len in
+    let more = end_written old xs c.resize.new.self.items c.fetch.new.out zeros _ _ a n c.resize.new.self.len end from c.deref_mut.ensures.value upto items read
+    len in
     record {
       shown = record {
         bytes = c.fetch.new.out;

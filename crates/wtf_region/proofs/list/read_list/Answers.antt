@@ -48,5 +48,6 @@ returns-clause-fetched g c =
     let whole = take_at c.fetch_all.new.out (drop (length c.fetch_all.new.out) c.in-Ok.out.items) c.in-Ok.out.len
     (omega (arith, c.fetch_all.ensures.whole, c.in-Ok.ensures.zeros, c.len.ensures.value, c.in-Ok.out.ok)) in
     let is = rw c.deref.ensures.value at c.in-Ok-decode.ensures.list in
-    list_fetched g.met.S.SliceStore.laws c.fetch_all.ensures.dev c.args.slice.now c.fetch_all.new.out c.in-Ok-fetch_all.from.0 c.requires.uncached c.fetch_all.ensures.whole
+    list_fetched g.met.S.SliceStore.laws c.fetch_all.ensures.dev c.args.slice.now c.fetch_all.new.out c.in-Ok-fetch_all.from.0 c.requires.uncached
+    c.fetch_all.ensures.whole
     c.in-Ok-fetch_all.ensures.fetched c.in-Ok-decode.list (rw whole at is)

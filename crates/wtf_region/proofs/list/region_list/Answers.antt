@@ -1,13 +1,14 @@
-use Rattle.std.proofs.Common.{Option, sym, subst}
+use Rattle.std.proofs.Common.{Option, refl, sym, subst, inl}
 use Rattle.std.proofs.lemmas.Result.{IfOk-weaker, IfErr-weaker}
 use Rattle.wtf_values.specs.declared.region.Spill.{Spill}
 use Rattle.wtf_meta.specs.Bytes.{BaseBytes, any_slice}
+use Rattle.wtf_region.specs.Bases.{base_slices}
 use Rattle.wtf_region.specs.Cached.{RemembersOnly}
 use Rattle.wtf_region.specs.Devs.{remembered, inside_of}
 use Rattle.wtf_region.specs.Reads.{IsOfBase, IsListRead, LeavesLists}
 use Rattle.wtf_region.proofs.Spans.{goes_nowhere}
 use Rattle.wtf_region.proofs.Remembering.{remembers_nothing}
-use Rattle.wtf_region.proofs.ListReads.{list_alone, list_over, leaves_lists, left_memory}
+use Rattle.wtf_region.proofs.ListReads.{list_alone, list_over, leaves_lists, base_recalled}
 use Rattle.wtf_region.proofs.list.region_list.Goals as goal
 
 pub returns-in-Ok-clause-read : goal.returns-in-Ok-clause-read
@@ -46,9 +47,17 @@ returns-clause-only g c =
     subst (λ (b : Option Spill). RemembersOnly (IsOfBase b) (remembered c.args.dev.now) (remembered c.base_list.new.dev)) (sym c.in-Some.is)
     c.base_list.ensures.only
 
+pub returns-in-Err-clause-left : goal.returns-in-Err-clause-left
+returns-in-Err-clause-left g c = inl refl
+
 pub returns-in-Err-base_list-clause-left : goal.returns-in-Err-base_list-clause-left
-returns-in-Err-base_list-clause-left g c = leaves_lists c.args.dev.now c.base_list.new.dev c.in-Err-base_list.why c.in-Err-base_list.ensures.err
+returns-in-Err-base_list-clause-left g c =
+    leaves_lists (base_slices c.args.value.now.base) c.args.dev.now c.base_list.new.dev c.in-Err-base_list.why c.in-Err-base_list.ensures.err
 
 pub returns-clause-left : goal.returns-clause-left
-returns-clause-left g c = IfErr-weaker c.list_over.result _ (LeavesLists c.args.dev.now c.base_list.new.dev)
-    (λ why is. left_memory c.args.dev.now c.base_list.new.dev why is) c.list_over.ensures.fault
+returns-clause-left g c =
+    let wants = base_slices c.args.value.now.base in
+    IfErr-weaker c.list_over.result _ (LeavesLists wants c.args.dev.now c.base_list.new.dev)
+    (λ why is. subst (LeavesLists wants c.args.dev.now c.base_list.new.dev) (sym is)
+    (base_recalled c.args.dev.now c.base_list.new.dev c.args.value.now.base c.in-Some.base c.in-Ok-base_list.under c.in-Some.is
+    c.in-Ok-base_list.ensures.read)) c.list_over.ensures.fault

@@ -5,10 +5,10 @@ use Rattle.wtf_meta.specs.FileEdits.{file_of}
 use Rattle.wtf_meta.specs.Appends.{touched, region_keys}
 use Rattle.wtf_meta.proofs.Touching.{touched-more}
 use Rattle.wtf_occ.proofs.AttemptLaws.{GrowsBy-nothing}
-use Rattle.wtf_region.specs.Bases.{bases_in}
+use Rattle.wtf_region.specs.Bases.{region_slices, bases_in}
 use Rattle.wtf_region.specs.Devs.{inside_of, is_down_in, stores}
 use Rattle.wtf_region.specs.Reads.{IsPartRead, IsFileRead, LeavesRegion}
-use Rattle.wtf_region.proofs.ListReads.{file_none, file_on, file_later}
+use Rattle.wtf_region.proofs.ListReads.{file_none, file_on, file_later, may_recall, recalls_first}
 use Rattle.wtf_region.proofs.Recording.{still_seen, recorded_region, part_start}
 use Rattle.wtf_region.proofs.ShowLaws.{reads_nothing, reads_over}
 use Rattle.wtf_region.proofs.Spans.{goes_nowhere, goes_on}
@@ -61,10 +61,55 @@ returns-in-Err-clause-fault g c =
       region = p.region;
       from = omega (arith, e.place, e.within, e.some);
       upto = omega (arith, e.place, c.loop-done-test.true);
-      earlier = inv.read.wants ∙ ap (bases_in b v c.args.off) (elim start [ inl none ↦ omega (arith, e.place, none) | inr begins ↦ omega (arith, e.place, begins) ]);
+      earlier = inv.read.wants ∙ ap (bases_in b v c.args.off) (elim start [
+        | inl none ↦ omega (arith, e.place, none)
+        | inr begins ↦ omega
+            (arith, e.place, begins)
+      ]);
       cause = lack.cause;
       left = lack.left;
     })
+
+pub returns-in-Err-clause-err : goal.returns-in-Err-clause-err
+returns-in-Err-clause-err g c =
+    let i = c.args.inode in
+    let kv = c.args.kv.now in
+    let b = c.args.dev.now.settings.region in
+    let p = c.part_at-part.result in
+    let e = c.part_at-part.ensures in
+    let inv = c.loop-done.invariant in
+    let v = file_of i (seen kv c.args.at.now) in
+    let mid = c.loop-done.dev in
+    let same : seen kv c.loop-done.at ≡ seen kv c.args.at.now = still_seen kv i (region_keys (touched b c.args.off c.loop-done.done)) c.args.at.now
+    c.loop-done.at
+    inv.recorded in
+    let lack : LeavesRegion g.S.SliceStore.kind mid c.region_pieces.new.dev (v.region p.region) c.in-Err.why =
+    subst (λ (w : Map). LeavesRegion g.S.SliceStore.kind mid c.region_pieces.new.dev ((file_of i w).region p.region) c.in-Err.why) same
+    c.in-Err.ensures.fault in
+    recalls_first c.region_pieces.new.dev v c.args.off c.args.len c.loop-done.done p.len p.region p.off c.loop-done.out.items e.some
+    (omega (arith, e.inside)) e.place e.within
+    (part_start b c.args.off c.args.len c.loop-done.done p.region p.off c.loop-done-test.true inv.border e.place (omega (arith, e.within, e.some))) inv.read
+    (may_recall (region_slices (v.region p.region)) mid c.region_pieces.new.dev c.in-Err.why lack.left)
+
+pub returns-in-Err-append-clause-err : goal.returns-in-Err-append-clause-err
+returns-in-Err-append-clause-err g c =
+    let i = c.args.inode in
+    let kv = c.args.kv.now in
+    let b = c.args.dev.now.settings.region in
+    let p = c.part_at-part.result in
+    let e = c.part_at-part.ensures in
+    let inv = c.loop-done.invariant in
+    let v = file_of i (seen kv c.args.at.now) in
+    let same : seen kv c.loop-done.at ≡ seen kv c.args.at.now = still_seen kv i (region_keys (touched b c.args.off c.loop-done.done)) c.args.at.now
+    c.loop-done.at
+    inv.recorded in
+    let more : IsPartRead g.S.SliceStore.kind c.loop-done.dev c.region_pieces.new.dev (v.region p.region) p.off p.len c.in-Ok.more.items =
+    subst (λ (w : Map). IsPartRead g.S.SliceStore.kind c.loop-done.dev c.region_pieces.new.dev ((file_of i w).region p.region) p.off p.len c.in-Ok.more.items)
+    same c.in-Ok.ensures.read in
+    recalls_first c.region_pieces.new.dev v c.args.off c.args.len c.loop-done.done p.len p.region p.off c.loop-done.out.items e.some
+    (omega (arith, e.inside)) e.place e.within
+    (part_start b c.args.off c.args.len c.loop-done.done p.region p.off c.loop-done-test.true inv.border e.place (omega (arith, e.within, e.some))) inv.read
+    (inr (more.facts, more.wants, more.recalls))
 
 pub returns-in-Err-clause-reads : goal.returns-in-Err-clause-reads
 returns-in-Err-clause-reads g c =

@@ -1,4 +1,4 @@
-use Rattle.std.proofs.Common.{◌≡◌, [], ◌∷◌, refl, sym, subst}
+use Rattle.std.proofs.Common.{◌≡◌, [], ◌∷◌, refl, sym, subst, inl}
 use Rattle.std.proofs.lemmas.Result.{IfOk-weaker, IfErr-weaker}
 use Rattle.wtf_meta.specs.Bytes.{MaybeBytes, any_slice}
 use Rattle.wtf_meta.specs.Maps.{Map, seen}
@@ -46,4 +46,4 @@ returns-clause-fault g c =
     c.seen_pieces.ensures.fault
 
 pub returns-in-Err-clause-fault : goal.returns-in-Err-clause-fault
-returns-in-Err-clause-fault g c = leaves_memory g.S.SliceStore.kind c.args.dev.now c.args.dev.now _ _ refl
+returns-in-Err-clause-fault g c = leaves_memory g.S.SliceStore.kind c.args.dev.now c.args.dev.now _ _ refl (inl refl)

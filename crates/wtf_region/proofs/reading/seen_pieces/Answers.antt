@@ -1,4 +1,4 @@
-use Rattle.std.proofs.Common.{Option, refl, sym, ap, ◌∙◌, subst}
+use Rattle.std.proofs.Common.{Option, refl, sym, ap, ◌∙◌, subst, inl}
 use Rattle.std.proofs.lemmas.Result.{IfOk-weaker, IfErr-weaker}
 use Rattle.wtf_values.specs.declared.region.RegionValue.{RegionValue}
 use Rattle.wtf_meta.specs.Bytes.{MaybeBytes, any_slice}
@@ -45,4 +45,4 @@ returns-clause-fault g c =
     (c.region_in-2.ensures ∙ ap region_of (c.as_ref.ensures.value ∙ c.in-Ok.ensures)) is) c.value_pieces-2.ensures.fault
 
 pub returns-in-Err-clause-fault : goal.returns-in-Err-clause-fault
-returns-in-Err-clause-fault g c = leaves_memory g.S.SliceStore.kind c.args.dev.now c.args.dev.now _ _ refl
+returns-in-Err-clause-fault g c = leaves_memory g.S.SliceStore.kind c.args.dev.now c.args.dev.now _ _ refl (inl refl)

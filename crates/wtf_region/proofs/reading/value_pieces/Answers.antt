@@ -1,5 +1,7 @@
-use Rattle.std.proofs.Common.{rules, ◌≡◌, None}
+use Rattle.std.proofs.Common.{rules, ◌≡◌, None, Some, refl, inl, inr}
 use Rattle.std.proofs.lemmas.Result.{IfOk-weaker, IfErr-weaker}
+use Rattle.wtf_meta.specs.Lists.{base_facts}
+use Rattle.wtf_region.proofs.BaseLaws.{base_wants}
 use Rattle.wtf_region.proofs.ListReads.{list_alone, part_read, part_hole, leaves_memory}
 use Rattle.wtf_region.proofs.Spans.{goes_nowhere}
 use Rattle.wtf_region.proofs.reading.value_pieces.Goals as goal
@@ -25,18 +27,22 @@ returns-then-is_none-clause-read g c =
 
 pub returns-in-None-clause-fault : goal.returns-in-None-clause-fault
 returns-in-None-clause-fault g c =
-    IfErr-weaker c.hole.result _ _ (λ why is. leaves_memory g.S.SliceStore.kind c.args.dev.now c.args.dev.now _ why is) c.hole.ensures.fault
+    IfErr-weaker c.hole.result _ _ (λ why is. leaves_memory g.S.SliceStore.kind c.args.dev.now c.args.dev.now _ why is (inl refl)) c.hole.ensures.fault
 
 pub returns-then-is_none-clause-fault : goal.returns-then-is_none-clause-fault
 returns-then-is_none-clause-fault g c =
-    IfErr-weaker c.plan_of.result _ _ (λ why is. leaves_memory g.S.SliceStore.kind c.args.dev.now c.args.dev.now _ why is) c.plan_of.ensures.fault
+    IfErr-weaker c.plan_of.result _ _ (λ why is. leaves_memory g.S.SliceStore.kind c.args.dev.now c.args.dev.now _ why is (inl refl)) c.plan_of.ensures.fault
 
 pub returns-in-Err-clause-fault : goal.returns-in-Err-clause-fault
 returns-in-Err-clause-fault g c = rw c.in-Some.is (record { cause = c.in-Err.ensures.fault; left = c.in-Err.ensures.left })
 
 pub returns-clause-fault : goal.returns-clause-fault
 returns-clause-fault g c =
-    IfErr-weaker c.plan_of-2.result _ _ (λ why is. leaves_memory g.S.SliceStore.kind c.args.dev.now c.region_list.new.dev _ why is) c.plan_of-2.ensures.fault
+    let read = c.in-Ok.ensures.read in
+    let base = c.in-Some.v.now.base in
+    rw c.in-Some.is
+    (IfErr-weaker c.plan_of-2.result _ _ (λ why is. leaves_memory g.S.SliceStore.kind c.args.dev.now c.region_list.new.dev (Some c.in-Some.v.now) why is
+    (inr (base_facts base read.under, base_wants base read.under, read.recalls))) c.plan_of-2.ensures.fault)
 
 pub returns-then-is_none-clause-dev : goal.returns-then-is_none-clause-dev
 returns-then-is_none-clause-dev g c = goes_nowhere g.met.S.SliceStore.laws c.args.dev.now c.requires.sound

@@ -1,25 +1,43 @@
 use Rattle.std.proofs.Common.{ℕ, ◌<◌, [], refl, subst}
+use Rattle.std.specs.Prelude.{IfOk, IfErr}
 use Rattle.std.specs.List.{All}
 use Rattle.std.proofs.lemmas.Result.{IfOk-weaker}
+use Rattle.wtf_base.specs.declared.settings.Settings.{Settings}
+use Rattle.wtf_ring.specs.Points.{PlaceView}
 use Rattle.wtf_replica.specs.Copies.{IsStored}
 use Rattle.wtf_replica.specs.Downs.{during, settings_of}
+use Rattle.wtf_replica.specs.Faults.{IsWriteFault}
+use Rattle.wtf_replica.specs.Outs.{OtherFilesStay}
+use Rattle.wtf_region.specs.Devs.{stores}
 use Rattle.wtf_region.specs.Inside.{IsOnServers}
 use Rattle.wtf_region.proofs.InsideLaws.{stored_on}
 use Rattle.wtf_region.proofs.Spans.{goes_by}
 use Rattle.wtf_region.proofs.store.store_bytes.Goals as goal
 
-pub returns-clause-known : goal.returns-clause-known
-returns-clause-known g c =
+pub returns : goal.returns
+returns g c =
+    let kind = g.S.SliceStore.kind in
     let dev = c.args.dev.now in
+    let bytes = c.args.bytes.now in
+    let made = c.create.ensures in
+    let r = c.create.result in
+    let t = during dev.replicas.now dev.shelf.now c.create.new.shelf in
     let place = c.place-place.result.now in
-    IfOk-weaker c.create.result (IsStored g.S.SliceStore.kind (during dev.replicas.now dev.shelf.now c.create.new.shelf) (settings_of dev.replicas.now).replicas place c.args.bytes.now) (IsOnServers dev.settings.servers)
-    (λ s stored. stored_on dev.settings.servers stored (subst (λ (n : ℕ). All (λ k. k < n) place.servers) c.requires.sound.ring c.place-place.ensures.value.order.known))
-    c.create.ensures.stored
-
-pub returns-clause-dev : goal.returns-clause-dev
-returns-clause-dev g c =
+    let at = c.place-place.ensures.value in
+    let settings = c.requires.sound.replicas in
     let left = c.place-place.follows.holds-at-none in
-    goes_by g.met.S.SliceStore.laws c.args.dev.now _ [] c.requires.sound refl refl left.1 left.0 refl refl refl c.create.ensures.follows
-
-pub returns-clause-lists : goal.returns-clause-lists
-returns-clause-lists g c = c.place-place.follows.holds-at-none.1
+    record {
+      stored = subst (λ (p : PlaceView). IfOk r (IsStored kind t dev.settings.replicas p bytes)) at.value
+          (subst (λ (st : Settings). IfOk r (IsStored kind t st.replicas place bytes)) settings made.stored);
+      holds = made.holds;
+      inside = made.inside;
+      known = IfOk-weaker r (IsStored kind t (settings_of dev.replicas.now).replicas place bytes) (IsOnServers dev.settings.servers)
+          (λ s stored. stored_on dev.settings.servers stored (subst (λ (n : ℕ). All (λ k. k < n) place.servers) c.requires.sound.ring at.order.known))
+          made.stored;
+      fault = subst (λ (st : Settings). IfErr r (IsWriteFault kind t st)) settings made.fault;
+      down = made.down;
+      others = subst (λ (p : PlaceView). OtherFilesStay kind (stores dev) c.create.new.shelf p.file) at.value made.others;
+      lists = left.1;
+      syncs = made.syncs;
+      dev = goes_by g.met.S.SliceStore.laws dev _ [] c.requires.sound refl refl left.1 left.0 refl refl refl made.follows;
+    }

@@ -13,4 +13,5 @@ returns-in-Ok-clause-ok c =
     ∙ ap (λ (v : CacheView). recalled_one (list_fact s c.args.list.now) v.lists) c.self.view_is)
 
 pub invariant_of-self : goal.invariant_of-self
-invariant_of-self c = kept_few c.put.result c.self.inside.lists c.put.new.self c.args.slice c.in_ok-own.own c.put.ensures.entries c.put.ensures.err c.self.invariant
+invariant_of-self c =
+    kept_few c.put.result c.self.inside.lists c.put.new.self c.args.slice c.in_ok-own.own c.put.ensures.entries c.put.ensures.err c.self.invariant

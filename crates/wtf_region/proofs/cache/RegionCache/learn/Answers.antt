@@ -11,7 +11,8 @@ use Rattle.wtf_region.proofs.cache.RegionCache.learn.Goals.{in-Ok, in-Err}
 abbrev Both : (List (RegionKey × PlaceView) → Type 0) → Option (RegionKey × PlaceView) → LruCache RegionKey PlaceView → Type 0
 Both P spare places = P (option_to_list spare ++ places.entries)
 
-moved : (P : List (RegionKey × PlaceView) → Type 0) (s t : Option (RegionKey × PlaceView)) (c d : LruCache RegionKey PlaceView) → s ≡ t → c ≡ d → Both P t d → Both P s c
+moved : (P : List (RegionKey × PlaceView) → Type 0) (s t : Option (RegionKey × PlaceView)) (c d : LruCache RegionKey PlaceView) → s ≡ t → c ≡ d → Both P t d
+    → Both P s c
 moved P s t c d spare places h =
     subst (λ (x : Option (RegionKey × PlaceView)). Both P x c) (sym spare)
     (subst (λ (x : LruCache RegionKey PlaceView). Both P t x) (sym places) h)
@@ -25,7 +26,8 @@ returns-clause-from c =
     AreFrom-places ring c.self.inside.spare c.self.inside.places.entries c.args.self.now.places (ap (λ (v : CacheView). v.places) c.self.view_is) c.requires in
     elim c.match-put.branch [
       | in-Ok w ↦ moved (AreFrom ring) _ _ _ _ w.self-is w.in-Ok.ensures.entries (AreFrom-put_entries c.args.key c.self.inside.places place ring before is)
-      | in-Err w ↦ moved (AreFrom ring) _ _ _ _ (w.self-is ∙ ap Some w.in-Err.ensures.value_returned) w.in-Err.ensures.err (AreFrom-cons ring c.args.key place c.self.inside.places.entries is before)
+      | in-Err w ↦ moved (AreFrom ring) _ _ _ _ (w.self-is ∙ ap Some w.in-Err.ensures.value_returned) w.in-Err.ensures.err
+          (AreFrom-cons ring c.args.key place c.self.inside.places.entries is before)
     ]
 
 pub returns-clause-first : goal.returns-clause-first

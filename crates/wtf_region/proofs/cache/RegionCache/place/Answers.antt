@@ -7,5 +7,9 @@ pub returns : goal.returns
 returns c =
     let entries = c.turn_to.new.self.places in (
       (refl, λ _. tt, (c.turn_to.ensures.from, c.turn_to.ensures.lists)),
-      record { from = tt; value = place_of_first c.args.ring.now c.args.key entries c.turn_to.ensures.from c.turn_to.ensures.first (deref_pair c.unwrap.result) (sym c.first.ensures ∙ ap (option_map deref_pair) c.unwrap.ensures) },
+      record {
+        from = tt;
+        value = place_of_first c.args.ring.now c.args.key entries c.turn_to.ensures.from c.turn_to.ensures.first (deref_pair c.unwrap.result)
+            (sym c.first.ensures ∙ ap (option_map deref_pair) c.unwrap.ensures);
+      },
     )
