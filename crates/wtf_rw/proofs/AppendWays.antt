@@ -1,5 +1,6 @@
 -- Each way through an append, on all maps at once.
-use Rattle.std.proofs.Common.{◌≡◌, ◌≢◌, ℕ, ◌+◌, ◌*◌, ◌<◌, ◌≤◌, List, [], ◌∷◌, ◌++◌, length, replicate, take, Option, None, Some, refl, sym, ap, ◌∙◌, subst, arith, inl, inr}
+use Rattle.std.proofs.Common.{◌≡◌, ◌≢◌, ℕ, ◌+◌, ◌*◌, ◌<◌, ◌≤◌, List, [], ◌∷◌, ◌++◌, length, replicate, take, Option, None, Some, refl, sym, ap, ◌∙◌, subst}
+use Rattle.std.proofs.Common.{arith, inl, inr}
 use Rattle.std.proofs.lemmas.List.{append-nil, take_all, get_or-replicate, length-replicate}
 use Rattle.std.proofs.Math.Seq.{take-append_seam}
 use Rattle.wtf_base.specs.declared.ids.InodeId.{InodeId}
@@ -52,7 +53,8 @@ use Rattle.wtf_steps.proofs.FileWays.{brings, appends, appends_too_much, body_ca
 abbrev pub refuses : List Key → List Piece → Did
 refuses keys ps = record { keys = keys; edits = []; facts = []; stored = ps; lists = [] }
 
-refuses_call : (x : Caller) (b : Map) (s : SessionView) (keys : List Key) (ps : List Piece) (o : Op (List ℕ)) (a : Answer) → IsCall x b s s (only_keys keys) o a → IsCall x b s s (refuses keys ps) o a
+refuses_call : (x : Caller) (b : Map) (s : SessionView) (keys : List Key) (ps : List Piece) (o : Op (List ℕ)) (a : Answer) → IsCall x b s s (only_keys keys) o a
+    → IsCall x b s s (refuses keys ps) o a
 refuses_call x b s keys ps o a is = record {
   fits = is.fits;
   names = λ P Q hole map old stored lists.
@@ -71,7 +73,8 @@ pub record Adds (x : Caller) (b : Map) (s : SessionView) (f : ℕ) (ps : List Pi
   pub lists : did.lists ≡ []
   pub facts : (told : Told) → PiecesTell told ps bytes → TellFacts told did.facts
 
-pub adds : (x : Caller) (b : Map) (s : SessionView) (f : ℕ) (h : Handle) (ps : List Piece) (bytes : List ℕ) (old new : Attempted Key Delta) (r : Added) → handle_in s f ≡ Some h → pieces_len ps ≡ length bytes
+pub adds : (x : Caller) (b : Map) (s : SessionView) (f : ℕ) (h : Handle) (ps : List Piece) (bytes : List ℕ) (old new : Attempted Key Delta) (r : Added)
+    → handle_in s f ≡ Some h → pieces_len ps ≡ length bytes
     → IsAdded x.size h.inode (file_of h.inode b) ps old new r → Adds x b s f ps bytes old new (answer_of r)
 adds x b s f h ps bytes old new added.Done here len is = record {
   did = brings h.inode (keys_of h.inode (append_keys x.size (file_of h.inode b) (pieces_len ps))) is.edits ps bytes;
@@ -96,7 +99,8 @@ no_byte_told told [] none = PiecesTell-none told
 no_byte_told told (b ∷ bs) none = absurd (omega arith)
 
 -- no byte
-pub adds_nothing : (x : Caller) (b : Map) (s : SessionView) (f : ℕ) (h : Handle) (bytes : List ℕ) (old : Attempted Key Delta) → handle_in s f ≡ Some h → length bytes ≡ 0
+pub adds_nothing : (x : Caller) (b : Map) (s : SessionView) (f : ℕ) (h : Handle) (bytes : List ℕ) (old : Attempted Key Delta) → handle_in s f ≡ Some h
+    → length bytes ≡ 0
     → Adds x b s f [] bytes old old answer.Okay
 adds_nothing x b s f h bytes old here none = record {
   did = brings h.inode [] [] [] bytes;
@@ -115,17 +119,20 @@ pub nothing_told : (told : Told) (bytes : List ℕ) → length bytes ≡ 0 → P
 nothing_told = no_byte_told
 
 -- bytes without room
-pub adds_full : (x : Caller) (b : Map) (s : SessionView) (f : ℕ) (h : Handle) (bytes : List ℕ) → handle_in s f ≡ Some h → length bytes ≢ 0 → LacksRoom x.size (file_of h.inode b) (length bytes)
+pub adds_full : (x : Caller) (b : Map) (s : SessionView) (f : ℕ) (h : Handle) (bytes : List ℕ) → handle_in s f ≡ Some h → length bytes ≢ 0
+    → LacksRoom x.size (file_of h.inode b) (length bytes)
     → IsCall x b s s (only_keys (keys_of h.inode (append_keys x.size (file_of h.inode b) (length bytes)))) (op.Append f bytes) (answer.Refused TooBig)
 adds_full x b s f h bytes here some lacks =
     appends_too_much x b s f h here (length bytes) bytes refl (HasNoRoom-full x.size (file_of h.inode b) (length bytes) some lacks.region lacks.file)
 
-pub full_keys : (z : ℕ) (i : InodeId) (w : Map) (n : ℕ) (old new : Attempted Key Delta) → n ≢ 0 → LacksRoom z (file_of i w) n → Recorded i (length_keys (file_of i w)) old new
+pub full_keys : (z : ℕ) (i : InodeId) (w : Map) (n : ℕ) (old new : Attempted Key Delta) → n ≢ 0 → LacksRoom z (file_of i w) n
+    → Recorded i (length_keys (file_of i w)) old new
     → Recorded i (append_keys z (file_of i w) n) old new
 full_keys z i w n old new some lacks recorded = subst (λ ks. Recorded i ks old new) (sym (keys_laid z (file_of i w) n some lacks.region)) recorded
 
 -- the step of an append that stored these pieces
-pub step_added : {S : Type 0} (kind : StoreKind S) (from into : List S) (d : rw.Done) (x : Caller) (b : Map) (s : SessionView) (f : ℕ) (ps : List Piece) (bytes : List ℕ) (old new : Attempted Key Delta) (a : Answer)
+pub step_added : {S : Type 0} (kind : StoreKind S) (from into : List S) (d : rw.Done) (x : Caller) (b : Map) (s : SessionView) (f : ℕ) (ps : List Piece)
+    (bytes : List ℕ) (old new : Attempted Key Delta) (a : Answer)
     → d.answer ≡ a → ArePieces d.own ps → (TellsAll kind from → PiecesTell (byte_at kind into) ps bytes) → Adds x b s f ps bytes old new a
     → IsStepWith (TellsOwn kind from into d.own) x b (in_hand old s) (in_hand new s) (op.Append f bytes) d.answer
 step_added kind from into d x b s f ps bytes old new a is own told one = record {
@@ -140,7 +147,8 @@ step_added kind from into d x b s f ps bytes old new a is own told one = record 
 }
 
 -- and of one that brought the bytes of a slice
-pub step_brought : (o : Option Slice) (sl : Slice) (p : Piece) (x : Caller) (b : Map) (s : SessionView) (f : ℕ) (bytes : List ℕ) (old new : Attempted Key Delta) (a r : Answer)
+pub step_brought : (o : Option Slice) (sl : Slice) (p : Piece) (x : Caller) (b : Map) (s : SessionView) (f : ℕ) (bytes : List ℕ) (old new : Attempted Key Delta)
+    (a r : Answer)
     → r ≡ a → o ≡ Some sl → p.len ≡ len_of sl → p.part ≡ Held sl → Adds x b s f (p ∷ []) bytes old new a
     → IsStepWith (BringsSlice o bytes) x b (in_hand old s) (in_hand new s) (op.Append f bytes) r
 step_brought o sl p x b s f bytes old new a r is there len part one =
@@ -162,12 +170,14 @@ pub record Rewound (old mid new : Attempted Key Delta) : Type 0 where
   pub changes : new.changes ≡ old.changes
   pub grows : Grows old new
 
-pub rewound : (old mid new : Attempted Key Delta) (r c : ℕ) → new ≡ record mid { reads = take r mid.reads; changes = take c mid.changes } → r ≡ length mid.reads → c ≡ length old.changes
+pub rewound : (old mid new : Attempted Key Delta) (r c : ℕ) → new ≡ record mid { reads = take r mid.reads; changes = take c mid.changes } → r ≡ length mid.reads
+    → c ≡ length old.changes
     → Grows old mid → Rewound old mid new
 rewound old mid new r c e all first grows =
     let reads : new.reads ≡ mid.reads = ap (λ (a : Attempted Key Delta). a.reads) e ∙ take_all r mid.reads (omega (arith, all)) in
     let kept : new.changes ≡ old.changes =
-    ap (λ (a : Attempted Key Delta). a.changes) e ∙ ap (λ l. take c l) grows.changes.1 ∙ ap (λ k. take k (old.changes ++ grows.changes.0)) first ∙ take-append_seam old.changes grows.changes.0 in
+    ap (λ (a : Attempted Key Delta). a.changes) e ∙ ap (λ l. take c l) grows.changes.1 ∙ ap (λ k. take k (old.changes ++ grows.changes.0)) first
+    ∙ take-append_seam old.changes grows.changes.0 in
     record {
       reads = reads;
       changes = kept;
@@ -186,8 +196,10 @@ hole_tells told p n len part = PiecesTell-one told p (replicate n 0) (record {
 })
 
 -- the answer to an append of so many bytes as a hole has, which was added
-pub adds_answer : (x : Caller) (b : Map) (s : SessionView) (f : ℕ) (h : Handle) (ps : List Piece) (bytes zeros : List ℕ) (old new : Attempted Key Delta) (r : Added) → handle_in s f ≡ Some h
-    → pieces_len ps ≡ length bytes → length zeros ≡ length bytes → ((told : Told) → PiecesTell told ps zeros) → IsAdded x.size h.inode (file_of h.inode b) ps old new r
+pub adds_answer : (x : Caller) (b : Map) (s : SessionView) (f : ℕ) (h : Handle) (ps : List Piece) (bytes zeros : List ℕ) (old new : Attempted Key Delta)
+    (r : Added) → handle_in s f ≡ Some h
+    → pieces_len ps ≡ length bytes → length zeros ≡ length bytes → ((told : Told) → PiecesTell told ps zeros)
+    → IsAdded x.size h.inode (file_of h.inode b) ps old new r
     → Answers x b s (keys_of h.inode (append_keys x.size (file_of h.inode b) (pieces_len ps))) (op.Append f bytes) (answer_of r)
 adds_answer x b s f h ps bytes zeros old new added.Done here len same tells is = record {
   edits = edits_of h.inode is.edits;
@@ -211,7 +223,8 @@ adds_answer x b s f h ps bytes zeros old new added.TooBig here len same tells is
       (subst (λ (n : ℕ). MAX_REGIONS * x.size < length was + n) len (body_full x.size told h.inode b w (pieces_len ps) was is.full agree on.body)));
 }
 
-pub nothing_answer : (x : Caller) (b : Map) (s : SessionView) (f : ℕ) (h : Handle) (keys : List Key) (bytes : List ℕ) → handle_in s f ≡ Some h → length bytes ≡ 0 → Answers x b s keys (op.Append f bytes) answer.Okay
+pub nothing_answer : (x : Caller) (b : Map) (s : SessionView) (f : ℕ) (h : Handle) (keys : List Key) (bytes : List ℕ) → handle_in s f ≡ Some h
+    → length bytes ≡ 0 → Answers x b s keys (op.Append f bytes) answer.Okay
 nothing_answer x b s f h keys bytes here none = record {
   edits = [];
   fits = refl;
@@ -222,7 +235,8 @@ nothing_answer x b s f h keys bytes here none = record {
       (omega (arith, none, on.body.bytes_are.len, file_len_cap x.size (file_of h.inode w) on.body.file)));
 }
 
-pub closed_answer : (x : Caller) (b : Map) (s : SessionView) (f : ℕ) (keys : List Key) (bytes : List ℕ) → handle_in s f ≡ None → Answers x b s keys (op.Append f bytes) (answer.Refused NoHandle)
+pub closed_answer : (x : Caller) (b : Map) (s : SessionView) (f : ℕ) (keys : List Key) (bytes : List ℕ) → handle_in s f ≡ None
+    → Answers x b s keys (op.Append f bytes) (answer.Refused NoHandle)
 closed_answer x b s f keys bytes e = record {
   edits = [];
   fits = refl;
@@ -231,7 +245,8 @@ closed_answer x b s f keys bytes e = record {
 }
 
 -- and of one of no byte
-pub step_nothing : (o : Option Slice) (x : Caller) (b : Map) (s : SessionView) (f : ℕ) (bytes : List ℕ) (old : Attempted Key Delta) → length bytes ≡ 0 → Adds x b s f [] bytes old old answer.Okay
+pub step_nothing : (o : Option Slice) (x : Caller) (b : Map) (s : SessionView) (f : ℕ) (bytes : List ℕ) (old : Attempted Key Delta) → length bytes ≡ 0
+    → Adds x b s f [] bytes old old answer.Okay
     → IsStepWith (BringsSlice o bytes) x b (in_hand old s) (in_hand old s) (op.Append f bytes) answer.Okay
 step_nothing o x b s f bytes old none one = record {
   did = one.did;

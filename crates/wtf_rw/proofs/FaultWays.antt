@@ -38,7 +38,8 @@ use Rattle.wtf_steps.proofs.FileWays.{file_len_cap}
 pub use Rattle.wtf_steps.proofs.FaultWays.{pieces_in-All, All-middle, some_byte, servers_known, lacks_known, IsOfServers, file_fault_known}
 
 -- bytes that are to be written
-may_write : {S : Type 0} (kind : StoreKind S) (t : Span S) (settings : Settings) (f : ℕ) (bytes : List ℕ) (d : Answer) (why : Fault) → 0 < length bytes → d ≡ answer.Okay
+may_write : {S : Type 0} (kind : StoreKind S) (t : Span S) (settings : Settings) (f : ℕ) (bytes : List ℕ) (d : Answer) (why : Fault) → 0 < length bytes
+    → d ≡ answer.Okay
     → IsWriteFault kind t settings why → MayStandFor settings.servers (op.Write f bytes) d why
 may_write kind t settings f [] d why some is cause = absurd (omega arith)
 may_write kind t settings f (b ∷ bs) d fault.Write some is cause = subst (λ (a : Answer). MayFailWrite a answer.FaultWrite) (sym is) tt
@@ -47,7 +48,8 @@ may_write kind t settings f (b ∷ bs) d (fault.Punch k) some is cause = absurd 
 may_write kind t settings f (b ∷ bs) d (fault.Damaged k) some is cause = absurd cause
 may_write kind t settings f (b ∷ bs) d fault.Memory some is cause = absurd cause
 
-may_append : {S : Type 0} (kind : StoreKind S) (t : Span S) (settings : Settings) (f : ℕ) (bytes : List ℕ) (d : Answer) (why : Fault) → 0 < length bytes → d ≡ answer.Okay
+may_append : {S : Type 0} (kind : StoreKind S) (t : Span S) (settings : Settings) (f : ℕ) (bytes : List ℕ) (d : Answer) (why : Fault) → 0 < length bytes
+    → d ≡ answer.Okay
     → IsWriteFault kind t settings why → MayStandFor settings.servers (op.Append f bytes) d why
 may_append kind t settings f [] d why some is cause = absurd (omega arith)
 may_append kind t settings f (b ∷ bs) d fault.Write some is cause = subst (λ (a : Answer). MayFailWrite a answer.FaultWrite) (sym is) tt
@@ -56,7 +58,8 @@ may_append kind t settings f (b ∷ bs) d (fault.Punch k) some is cause = absurd
 may_append kind t settings f (b ∷ bs) d (fault.Damaged k) some is cause = absurd cause
 may_append kind t settings f (b ∷ bs) d fault.Memory some is cause = absurd cause
 
-pub write_due : {S : Type 0} (kind : StoreKind S) (t : Span S) (settings : Settings) (w : Map) (s : SessionView) (f : ℕ) (h : Handle) (bytes : List ℕ) (why : Fault) → handle_in s f ≡ Some h
+pub write_due : {S : Type 0} (kind : StoreKind S) (t : Span S) (settings : Settings) (w : Map) (s : SessionView) (f : ℕ) (h : Handle) (bytes : List ℕ)
+    (why : Fault) → handle_in s f ≡ Some h
     → 0 < length bytes → h.off + length bytes ≤ MAX_REGIONS * settings.region → IsWriteFault kind t settings why → MayFault settings w s (op.Write f bytes) why
 write_due kind t settings w s f h bytes why here some fit cause = λ x told T size st holds.
     let on = on_file x told w s T st holds f h here in
@@ -68,8 +71,10 @@ room_fits : (b : ℕ) (v : FileView) (n : ℕ) → IsFile b v → HasRoom b v n 
 room_fits b v n is (inl in_region) = omega (arith, apart b v.last MAX_REGIONS is.few, in_region)
 room_fits b v n is (inr fit) = fit
 
-pub append_due : {S : Type 0} (kind : StoreKind S) (t : Span S) (settings : Settings) (w : Map) (s : SessionView) (f : ℕ) (h : Handle) (bytes : List ℕ) (why : Fault) → handle_in s f ≡ Some h
-    → 0 < length bytes → HasRoom settings.region (file_of h.inode w) (length bytes) → IsWriteFault kind t settings why → MayFault settings w s (op.Append f bytes) why
+pub append_due : {S : Type 0} (kind : StoreKind S) (t : Span S) (settings : Settings) (w : Map) (s : SessionView) (f : ℕ) (h : Handle) (bytes : List ℕ)
+    (why : Fault) → handle_in s f ≡ Some h
+    → 0 < length bytes → HasRoom settings.region (file_of h.inode w) (length bytes) → IsWriteFault kind t settings why
+    → MayFault settings w s (op.Append f bytes) why
 append_due kind t settings w s f h bytes why here some room cause = λ x told T size st holds.
     let on = on_file x told w s T st holds f h here in
     let own : HasRoom x.size (file_of h.inode w) (length bytes) = subst (λ (z : ℕ). HasRoom z (file_of h.inode w) (length bytes)) (sym size) room in
@@ -102,7 +107,8 @@ shows_due settings w s f n k h why here count some known = λ x told T size st h
     (omega (arith, some, own, shown, low, on.body.bytes_are.len, on.of.off))
     (ap (λ (d : Done). d.answer) (call-read (cap_for x) T f n on.handle on.there)) known
 
-pub read_due : {S : Type 0} (kind : StoreKind S) (t : Span S) (shelf : List S) (settings : Settings) (w : Map) (s : SessionView) (f n k : ℕ) (h : Handle) (ps : List Piece) (why : Fault)
+pub read_due : {S : Type 0} (kind : StoreKind S) (t : Span S) (shelf : List S) (settings : Settings) (w : Map) (s : SessionView) (f n k : ℕ) (h : Handle)
+    (ps : List Piece) (why : Fault)
     → handle_in s f ≡ Some h → settings.servers ≤ length shelf → k ≡ found_in settings.region w h n → PiecesBytes (is_inside kind shelf settings) ps
     → IsShowFault kind t (pieces_in 0 k ps) why → MayFault settings w s (op.Read f n) why
 read_due kind t shelf settings w s f n k h ps fault.Memory here enough count named cause = λ x told T size st holds. tt

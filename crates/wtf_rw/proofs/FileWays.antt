@@ -112,5 +112,13 @@ module _ (x : Caller) (b : Map) (s : SessionView) (f : ℕ) (h : Handle) (here :
         ap (λ (d : Done). d.answer) (write-big (cap_for x) S f on.handle on.there bytes some (omega (arith, past, on.of.off)));
   }
 
-pub answers_closed : (x : Caller) (b : Map) (s : SessionView) (f : ℕ) (bytes : List ℕ) → handle_in s f ≡ None → Answers x b s [] (op.Write f bytes) (answer.Refused NoHandle)
-answers_closed x b s f bytes e = record { edits = []; fits = refl; refused = λ h. refl; due = λ told w S agree fit_w st holds. ap (λ (d : Done). d.answer) (write-none (cap_for x) S f bytes (not_open x told w s S st holds f e)) }
+pub answers_closed : (x : Caller) (b : Map) (s : SessionView) (f : ℕ) (bytes : List ℕ) → handle_in s f ≡ None
+    → Answers x b s [] (op.Write f bytes) (answer.Refused NoHandle)
+answers_closed x b s f bytes e =
+    record {
+      edits = [];
+      fits = refl;
+      refused = λ h. refl;
+      due = λ told w S agree fit_w st holds. ap (λ (d : Done). d.answer)
+          (write-none (cap_for x) S f bytes (not_open x told w s S st holds f e));
+    }

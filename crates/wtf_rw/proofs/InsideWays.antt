@@ -74,7 +74,8 @@ own_by_inside kind old new (Some h) place bytes own is = own_inside kind old new
 no_slice_inside : (P : List Place → Bool) (own : Option Slice) → own ≡ None → SliceBytes P own
 no_slice_inside P own is = subst (SliceBytes P) (sym is) tt
 
-pub rw_own_inside : {S : Type 0} (kind : StoreKind S) (old new : Dev S) (w : Map) (s : SessionView) (o : RwOp) (own : Option Slice) → IsRwOwn kind old new w s o own
+pub rw_own_inside : {S : Type 0} (kind : StoreKind S) (old new : Dev S) (w : Map) (s : SessionView) (o : RwOp) (own : Option Slice)
+    → IsRwOwn kind old new w s o own
     → SliceBytes (is_inside kind (stores new) old.settings) own
 rw_own_inside kind old new w s (rw.Write f (Fresh bs)) own is = own_by_inside kind old new (handle_in s f) _ bs.now own is
 rw_own_inside kind old new w s (rw.Append f (Fresh bs)) own is = own_by_inside kind old new (handle_in s f) _ bs.now own is
@@ -100,7 +101,8 @@ own_named P (Some s) ps is h =
 none_named : (P : List Place → Bool) (ps : List Piece) → ps ≡ [] → PiecesBytes P ps
 none_named P ps is = subst (λ (qs : List Piece). PiecesBytes P qs) (sym is) (PiecesBytes-none P)
 
-pub does_named : (P : List Place → Bool) {S : Type 0} (sc : Scene S) (o : RwOp) (own : Option Slice) (bytes : List ℕ) (did : Did) → DoesRw sc o own bytes did → RwBytes P o → SliceBytes P own
+pub does_named : (P : List Place → Bool) {S : Type 0} (sc : Scene S) (o : RwOp) (own : Option Slice) (bytes : List ℕ) (did : Did) → DoesRw sc o own bytes did
+    → RwBytes P o → SliceBytes P own
     → PiecesBytes P did.stored
 does_named P sc (rw.Write f (Fresh bs)) own bytes did does given stored = own_named P own did.stored does.stored stored
 does_named P sc (rw.Write f (Stored kept)) own bytes did does given stored = does.0.named P given
@@ -149,10 +151,12 @@ some_data (rw.Truncate f n) = ([], tt)
 some_data (rw.Punch f n) = ([], tt)
 some_data (rw.Stat p) = ([], tt)
 
-pub keeps_inside : {S : Type 0} {kind : StoreKind S} → KindLaws kind → (old new : Dev S) (kv : Store Key Value) (at into : Attempted Key Delta) (s t : SessionView) (o : RwOp) (own : Option Slice) (a : Answer)
+pub keeps_inside : {S : Type 0} {kind : StoreKind S} → KindLaws kind
+    → (old new : Dev S) (kv : Store Key Value) (at into : Attempted Key Delta) (s t : SessionView) (o : RwOp) (own : Option Slice) (a : Answer)
     → old.settings.servers ≤ length (stores old) → GoesOn kind old new []
     → IsRwStep (record { kind = kind; before = old; after = new; map = seen kv at }) old.settings.region (in_hand at s) (in_hand into t) o own a
-    → IsRwOwn kind old new (seen kv at) s o own → IsWhole o → RwBytes (is_inside kind (stores old) old.settings) o → AreInside kind (stores old) old.settings (seen kv at) s
+    → IsRwOwn kind old new (seen kv at) s o own → IsWhole o → RwBytes (is_inside kind (stores old) old.settings) o
+    → AreInside kind (stores old) old.settings (seen kv at) s
     → AreInside kind (stores new) old.settings (seen kv into) t
 keeps_inside {kind = kind} laws old new kv at into s t o own a enough goes step stored whole given were =
     let P : List Place → Bool = is_inside kind (stores old) old.settings in

@@ -28,12 +28,14 @@ no_slice_kept None n held none = refl
 no_slice_kept (Some s) n held none = absurd (omega (arith, some_bytes s.len s.extents s.sound, held, none))
 
 -- no slice is no change
-pub brings_no_slice : (a : Answer) (o : Option Slice) (F : List Piece → Edits → Type 0) (old new : Attempted Key Delta) → o ≡ None → F [] [] → new.changes ≡ old.changes → Makes a (OfSlice o F) old new
+pub brings_no_slice : (a : Answer) (o : Option Slice) (F : List Piece → Edits → Type 0) (old new : Attempted Key Delta) → o ≡ None → F [] []
+    → new.changes ≡ old.changes → Makes a (OfSlice o F) old new
 brings_no_slice a o F old new none has same =
     makes_nothing a (OfSlice o F) old new ([], subst (λ (w : Option Slice). ArePieces w []) (sym none) refl, has) same
 
 -- a slice, as one piece
-pub brings_slice : (a r : Answer) (o : Option Slice) (sl : Slice) (p : Piece) (F : List Piece → Edits → Type 0) (old new : Attempted Key Delta) → a ≡ r → o ≡ Some sl → p.len ≡ len_of sl → p.part ≡ Held sl
+pub brings_slice : (a r : Answer) (o : Option Slice) (sl : Slice) (p : Piece) (F : List Piece → Edits → Type 0) (old new : Attempted Key Delta) → a ≡ r
+    → o ≡ Some sl → p.len ≡ len_of sl → p.part ≡ Held sl
     → Makes r (F (p ∷ [])) old new → Makes a (OfSlice o F) old new
 brings_slice a r o sl p F old new is there len part made =
     let pieces : ArePieces (Some sl) (p ∷ []) = record { piece = p; one = refl; len = len; part = part } in

@@ -74,7 +74,8 @@ reads_call x b s t f n k h lists ps bytes pos here count reads len set = record 
       let all : List ℕ = bytes_of_handle S on.handle in
       let parts = Agree-parts (len_keys b h.inode) (keys_of h.inode (region_keys (touched x.size h.off k))) b w agree in
       let whole : file_len x.size (file_of h.inode b) ≡ length all = body_length x.size told h.inode b w all parts.0 on.body in
-      let low : length all ≤ MAX_REGIONS * x.size = subst (λ (m : ℕ). m ≤ MAX_REGIONS * x.size) on.body.bytes_are.len (file_len_cap x.size (file_of h.inode w) on.body.file) in
+      let low : length all ≤ MAX_REGIONS * x.size = subst (λ (m : ℕ). m ≤ MAX_REGIONS * x.size) on.body.bytes_are.len
+      (file_len_cap x.size (file_of h.inode w) on.body.file) in
       let most : k ≡ min n (length all - h.off) = omega (arith, count, whole, low) in
       let read = body_read x.size told h.inode b w all h.off n k ps pos parts.1 on.body most (reads.plans (lists_in x.size told) tell) in
       let same : bytes ≡ part on.handle.off n all =
@@ -109,7 +110,8 @@ shown_tells {kind = kind} laws {old = old} {mid = mid} {new = new} first next z 
     let plans = reads.plans (lists_in z told) were in
     let since = shown_since laws first k (λ j. pieces_origin ps (0 + j)) [] bytes shown in
     let named : PiecesBytes (is_told told) ps = reads.names (is_told told) (is_listed z told) refl file (told_lists z told lists were) in
-    let tell = ShowsBytes-tell told k (λ j. pieces_origin ps (0 + j)) since.bytes (λ j below. pieces_named (is_told told) ps (0 + j) named (omega (arith, below, plans.len))) since.are in
+    let tell = ShowsBytes-tell told k (λ j. pieces_origin ps (0 + j)) since.bytes (λ j below. pieces_named (is_told told) ps (0 + j) named
+    (omega (arith, below, plans.len))) since.are in
     let same : since.bytes ≡ bytes = sym since.more in
     let all : TellBytes told k (λ j. pieces_origin ps (0 + j)) bytes = subst (λ (l : List ℕ). TellBytes told k (λ j. pieces_origin ps (0 + j)) l) same tell in
     record {

@@ -18,7 +18,8 @@ cut_is b n r k is left =
     ap (λ (j : ℕ). cut_edits j k) is ∙ ap (λ (j : ℕ). cut_edits last j) end
 
 -- one hole more
-holes_more : (b off n done mid r from until : ℕ) (ds : List FileEdit) → AreHoles b off n done ds mid → r ≡ (off + mid) / b → from ≡ (off + mid) % b → until ≡ min b (from + (n - mid))
+holes_more : (b off n done mid r from until : ℕ) (ds : List FileEdit) → AreHoles b off n done ds mid → r ≡ (off + mid) / b → from ≡ (off + mid) % b
+    → until ≡ min b (from + (n - mid))
     → AreHoles b off n done (ds ++ ZeroWithin r from until ∷ []) (mid + (until - from))
 holes_more b off n done mid r from until [] same region start end =
     subst (λ (k : ℕ). (r ≡ (off + k) / b) × (from ≡ (off + k) % b) × (until ≡ min b (from + (n - k))) × (k + (until - from) ≡ mid + (until - from))) (sym same)
@@ -48,16 +49,19 @@ cuts_to b n r k i pos small is left =
 pub zeroes_none : (b off len : ℕ) (i : InodeId) → ZeroesRegions b i off len 0 []
 zeroes_none b off len i = record { punches = Punches-none b off; exact = refl; names = λ P Q. tt }
 
-pub zeroes_more : (b off len done upto : ℕ) (i : InodeId) (ds : List FileEdit) → 0 < b → b < 2 ^ 32 → (off + done) % b ≤ upto → upto ≡ min b ((off + done) % b + (len - done))
+pub zeroes_more : (b off len done upto : ℕ) (i : InodeId) (ds : List FileEdit) → 0 < b → b < 2 ^ 32 → (off + done) % b ≤ upto
+    → upto ≡ min b ((off + done) % b + (len - done))
     → ZeroesRegions b i off len done ds
     → ZeroesRegions b i off len (done + (upto - (off + done) % b)) (ds ++ ZeroWithin ((off + done) / b) ((off + done) % b) upto ∷ [])
 zeroes_more b off len done upto i ds pos small order end zeroes = record {
-  punches = Punches-part b off done ((off + done) / b) ((off + done) % b) upto ds pos small order (omega (arith, end)) (div-add-mod' (off + done) b) zeroes.punches;
+  punches =
+      Punches-part b off done ((off + done) / b) ((off + done) % b) upto ds pos small order (omega (arith, end)) (div-add-mod' (off + done) b) zeroes.punches;
   exact = holes_more b off len 0 done ((off + done) / b) ((off + done) % b) upto ds zeroes.exact refl refl end;
   names = λ P Q. EditsBytes-edits P Q i ds (ZeroWithin ((off + done) / b) ((off + done) % b) upto ∷ []) (zeroes.names P Q) (tt, tt);
 }
 
-pub zeroes_all : (b off n m : ℕ) (i : InodeId) (ds : List FileEdit) → 0 < b → m ≡ min n (MAX_REGIONS * b - off) → off ≤ MAX_REGIONS * b → ZeroesRegions b i off m m ds → Zeroes b i off n ds
+pub zeroes_all : (b off n m : ℕ) (i : InodeId) (ds : List FileEdit) → 0 < b → m ≡ min n (MAX_REGIONS * b - off) → off ≤ MAX_REGIONS * b
+    → ZeroesRegions b i off m m ds → Zeroes b i off n ds
 zeroes_all b off n m i ds pos is within zeroes = record {
   clears = Clears-punched b ds off n m pos is within zeroes.punches;
   exact = subst (λ (k : ℕ). AreHoles b off k 0 ds k) is zeroes.exact;

@@ -48,17 +48,25 @@ held_meaning told s i b all =
     (meaning-All told (place_in i p) (map (place_in i) ps) b (subst (λ (l : List Pointer). All (λ q. told q ≡ Some b) (map (place_in i) l)) is all))
 
 -- a piece that is a slice tells its bytes
-pub tell_piece : (told : Told) (s : Slice) (p : Piece) (bytes : List ℕ) → p.len ≡ len_of s → p.part ≡ Held s → TellBytes told (len_of s) (part_origin (Held s)) bytes → PiecesTell told (p ∷ []) bytes
+pub tell_piece : (told : Told) (s : Slice) (p : Piece) (bytes : List ℕ) → p.len ≡ len_of s → p.part ≡ Held s
+    → TellBytes told (len_of s) (part_origin (Held s)) bytes → PiecesTell told (p ∷ []) bytes
 tell_piece told s p bytes len part tell =
     PiecesTell-one told p bytes
-    (subst (λ (n : ℕ). TellBytes told n (part_origin p.part) bytes) (sym len) (subst (λ (q : Part). TellBytes told (len_of s) (part_origin q) bytes) (sym part) tell))
+    (subst (λ (n : ℕ). TellBytes told n (part_origin p.part) bytes) (sym len) (subst (λ (q : Part). TellBytes told (len_of s) (part_origin q) bytes) (sym part)
+    tell))
 
-pub tell_stored : (told : Told) (s : Slice) (p : Piece) (bytes : List ℕ) → p.len ≡ len_of s → p.part ≡ Held s → len_of s ≡ length bytes → HoldsSlice told s bytes → PiecesTell told (p ∷ []) bytes
+pub tell_stored : (told : Told) (s : Slice) (p : Piece) (bytes : List ℕ) → p.len ≡ len_of s → p.part ≡ Held s → len_of s ≡ length bytes
+    → HoldsSlice told s bytes → PiecesTell told (p ∷ []) bytes
 tell_stored told s p bytes len part same holds =
-    tell_piece told s p bytes len part (record { len = same; tells = λ i below. held_meaning told s i (slice_index bytes i) (holds i (omega (arith, below, same))) })
+    tell_piece told s p bytes len part (record {
+      len = same;
+      tells = λ i below. held_meaning told s i (slice_index bytes i)
+          (holds i (omega (arith, below, same)));
+    })
 
 -- the pieces of a slice that was stored before
-pub brought : (i : InodeId) (keys : List Key) (ds : List FileEdit) (o : Option Slice) (s : Slice) (p : Piece) (bytes : List ℕ) → o ≡ Some s → p.len ≡ len_of s → p.part ≡ Held s
+pub brought : (i : InodeId) (keys : List Key) (ds : List FileEdit) (o : Option Slice) (s : Slice) (p : Piece) (bytes : List ℕ) → o ≡ Some s → p.len ≡ len_of s
+    → p.part ≡ Held s
     → BringsSlice o bytes (brings i keys ds (p ∷ []) bytes)
 brought i keys ds o s p bytes is len part = record {
   named = λ P h.
@@ -73,12 +81,14 @@ brought i keys ds o s p bytes is len part = record {
 pub brings_none : (o : Option Slice) (bytes : List ℕ) (keys : List Key) → BringsSlice o bytes (only_keys keys)
 brings_none o bytes keys = record { named = λ P h. PiecesBytes-none P; lists = refl; told = λ told h. tt }
 
-pub step_stored : (o : Option Slice) (bytes : List ℕ) (x : Caller) (b : Map) (old new : InHand) (keys : List Key) (c : Op (List ℕ)) (a : Answer) → GrowsBy old.at new.at keys [] → IsCall x b old.session new.session (only_keys keys) c a
+pub step_stored : (o : Option Slice) (bytes : List ℕ) (x : Caller) (b : Map) (old new : InHand) (keys : List Key) (c : Op (List ℕ)) (a : Answer)
+    → GrowsBy old.at new.at keys [] → IsCall x b old.session new.session (only_keys keys) c a
     → IsStepWith (BringsSlice o bytes) x b old new c a
 step_stored o bytes x b old new keys c a grows is = record { did = only_keys keys; grows = grows; is_call = is; more = brings_none o bytes keys }
 
 -- one that stores nothing
-pub step_only : {S : Type 0} (kind : StoreKind S) (from into : List S) (d : Done) (x : Caller) (b : Map) (old new : InHand) (keys : List Key) (c : Op (List ℕ)) (a : Answer)
+pub step_only : {S : Type 0} (kind : StoreKind S) (from into : List S) (d : Done) (x : Caller) (b : Map) (old new : InHand) (keys : List Key) (c : Op (List ℕ))
+    (a : Answer)
     → d.answer ≡ a → d.own ≡ None → GrowsBy old.at new.at keys [] → IsCall x b old.session new.session (only_keys keys) c a
     → IsStepWith (TellsOwn kind from into d.own) x b old new c d.answer
 step_only kind from into d x b old new keys c a is none grows call = record {

@@ -55,7 +55,8 @@ pub record Turned (x : Caller) (told : Told) (w : Map) (t : SessionView) (S : Se
 
 module _ (x : Caller) (told : Told) (w : Map) (s : SessionView) (S : Session) (st : Stands x.size told x.tx x.calls w S.tree) (holds : Holds told w s S) where
   -- a handle that is moved
-  pub turned-moved : (t : SessionView) (f off : ℕ) (h : Handle) (o : Op (List ℕ)) (a : Answer) (on : OnFile x.size told w S f h) → SetsHandle f (Some (moved_to off h)) s t
+  pub turned-moved : (t : SessionView) (f off : ℕ) (h : Handle) (o : Op (List ℕ)) (a : Answer) (on : OnFile x.size told w S f h)
+      → SetsHandle f (Some (moved_to off h)) s t
       → call (cap_for x) S o ≡ record { session = moved S f on.handle off; answer = a } → Turned x told w t S o a
   turned-moved t f off h o a on set is = record {
     left = moved S f on.handle off;
@@ -90,7 +91,13 @@ module _ (x : Caller) (b : Map) (s : SessionView) where
   pub closes : (t : SessionView) (f : ℕ) (h : Handle) → handle_in s f ≡ Some h → SetsHandle f None s t → IsCall x b s t (only_keys []) (op.Close f) answer.Okay
   closes t f h e set = turns t [] (op.Close f) answer.Okay set.slices (λ told w S agree st holds. tt) (λ told w S agree st holds.
       let on = on_file x told w s S st holds f h e in
-      record { left = record S { handles = remove S.handles f }; is = close-open (cap_for x) S f on.handle on.there; tree = refl; holds = holds-closed told w s t S holds f set })
+      record {
+        left = record S { handles = remove S.handles f };
+        is = close-open (cap_for x) S f on.handle on.there;
+        tree = refl;
+        holds = holds-closed told w s
+            t S holds f set;
+      })
 
   pub tells : (f : ℕ) (h : Handle) → handle_in s f ≡ Some h → IsCall x b s s (only_keys []) (op.Tell f) (answer.At h.off)
   tells f h e = stays_bare x b s (op.Tell f) (answer.At h.off) (λ told w S st holds.
@@ -103,19 +110,22 @@ module _ (x : Caller) (b : Map) (s : SessionView) where
       let on = on_file x told w s S st holds f h e in
       call-open_taken (cap_for x) S f p on.handle on.there)
 
-  pub opens_nothing : (f : ℕ) (p : List ℕ) → handle_in s f ≡ None → stands_at b p ≡ None → IsCall x b s s (only_keys (Path p ∷ [])) (op.Open f p) (answer.Refused NoEnt)
+  pub opens_nothing : (f : ℕ) (p : List ℕ) → handle_in s f ≡ None → stands_at b p ≡ None
+      → IsCall x b s s (only_keys (Path p ∷ [])) (op.Open f p) (answer.Refused NoEnt)
   opens_nothing f p e none = stays x b s (Path p ∷ []) (op.Open f p) (answer.Refused NoEnt)
       (path_key p (op.Open f p) [] (λ S. refl)) (λ told w S agree st holds.
       call-open_refused (cap_for x) S f p NoEnt (not_open x told w s S st holds f e)
       (ap bytes_of (node-missing x.size told w (w (Path p)) (get S.tree p) (st.nodes p) (ap node_of agree.0 ∙ none))))
 
-  pub opens_folder : (f : ℕ) (p : List ℕ) → handle_in s f ≡ None → stands_at b p ≡ Some Folder → IsCall x b s s (only_keys (Path p ∷ [])) (op.Open f p) (answer.Refused IsDir)
+  pub opens_folder : (f : ℕ) (p : List ℕ) → handle_in s f ≡ None → stands_at b p ≡ Some Folder
+      → IsCall x b s s (only_keys (Path p ∷ [])) (op.Open f p) (answer.Refused IsDir)
   opens_folder f p e is = stays x b s (Path p ∷ []) (op.Open f p) (answer.Refused IsDir)
       (path_key p (op.Open f p) [] (λ S. refl)) (λ told w S agree st holds.
       call-open_refused (cap_for x) S f p IsDir (not_open x told w s S st holds f e)
       (ap bytes_of (node-folder x.size told w (w (Path p)) (get S.tree p) (st.nodes p) (node_of-is (w (Path p)) Folder (ap node_of agree.0 ∙ is)))))
 
-  pub opens_file : (t : SessionView) (f : ℕ) (p : List ℕ) (i : InodeId) → handle_in s f ≡ None → stands_at b p ≡ Some (FileNode i) → SetsHandle f (Some (record { path = p; inode = i; off = 0 })) s t
+  pub opens_file : (t : SessionView) (f : ℕ) (p : List ℕ) (i : InodeId) → handle_in s f ≡ None → stands_at b p ≡ Some (FileNode i)
+      → SetsHandle f (Some (record { path = p; inode = i; off = 0 })) s t
       → IsCall x b s t (only_keys (Path p ∷ [])) (op.Open f p) answer.Okay
   opens_file t f p i e is set = turns t (Path p ∷ []) (op.Open f p) answer.Okay set.slices
       (path_key p (op.Open f p) [] (λ S. refl)) (λ told w S agree st holds.
@@ -125,11 +135,13 @@ module _ (x : Caller) (b : Map) (s : SessionView) where
         left = opened S f p;
         is = call-open (cap_for x) S f p file.bytes (not_open x told w s S st holds f e) (ap bytes_of file.there);
         tree = refl;
-        holds = holds-handle told w s t S holds f (record { path = p; inode = i; off = 0 }) (record { path = p; off = 0 }) set (record { path = refl; off = refl; leads = leads });
+        holds = holds-handle told w s t S holds f (record { path = p; inode = i; off = 0 }) (record { path = p; off = 0 }) set
+            (record { path = refl; off = refl; leads = leads });
       })
 
   -- a seek
-  lands_same : (told : Told) (w : Map) (i : InodeId) (bytes : List ℕ) (place : Seek) (len off at : ℕ) → IsBody x.size told w i bytes → Agree (place_keys b i place) b w → (place ≡ to.End → len ≡ file_len x.size (file_of i b))
+  lands_same : (told : Told) (w : Map) (i : InodeId) (bytes : List ℕ) (place : Seek) (len off at : ℕ) → IsBody x.size told w i bytes
+      → Agree (place_keys b i place) b w → (place ≡ to.End → len ≡ file_len x.size (file_of i b))
       → at ≡ off → lands (cap_for x) (length bytes) at place ≡ lands (cap_for x) len off place
   lands_same told w i bytes (to.Set n) len off at body agree is same = refl
   lands_same told w i bytes (to.Fwd n) len off at body agree is same = ap (λ o. lands (cap_for x) len o (to.Fwd n)) same
@@ -143,14 +155,17 @@ module _ (x : Caller) (b : Map) (s : SessionView) where
   place_read f h (to.Back n) e = λ told w S agree st holds. tt
   place_read f h to.End e = file_keys x b s f h e (length_keys (file_of h.inode b)) (op.Seek f to.End) (λ S. refl)
 
-  pub seeks : (t : SessionView) (f : ℕ) (h : Handle) (place : Seek) (len n : ℕ) → handle_in s f ≡ Some h → (place ≡ to.End → len ≡ file_len x.size (file_of h.inode b))
-      → lands (cap_for x) len h.off place ≡ Some n → SetsHandle f (Some (moved_to n h)) s t → IsCall x b s t (only_keys (place_keys b h.inode place)) (op.Seek f place) answer.Okay
+  pub seeks : (t : SessionView) (f : ℕ) (h : Handle) (place : Seek) (len n : ℕ) → handle_in s f ≡ Some h
+      → (place ≡ to.End → len ≡ file_len x.size (file_of h.inode b))
+      → lands (cap_for x) len h.off place ≡ Some n → SetsHandle f (Some (moved_to n h)) s t
+      → IsCall x b s t (only_keys (place_keys b h.inode place)) (op.Seek f place) answer.Okay
   seeks t f h place len n e is leads set = turns t (place_keys b h.inode place) (op.Seek f place) answer.Okay set.slices
       (place_read f h place e) (λ told w S agree st holds.
       let on = on_file x told w s S st holds f h e in
       turned-moved x told w s S st holds t f n h (op.Seek f place) answer.Okay on set
       (seek-open (cap_for x) S f on.handle on.there place
-      ∙ ap (sought (cap_for x) S f on.handle on.there) (lands_same told w h.inode (bytes_of_handle S on.handle) place len h.off on.handle.off on.body agree is on.of.off ∙ leads)))
+      ∙ ap (sought (cap_for x) S f on.handle on.there) (lands_same told w h.inode (bytes_of_handle S on.handle) place len h.off on.handle.off on.body agree is
+      on.of.off ∙ leads)))
 
   pub seeks_nowhere : (f : ℕ) (h : Handle) (place : Seek) (len : ℕ) → handle_in s f ≡ Some h → (place ≡ to.End → len ≡ file_len x.size (file_of h.inode b))
       → lands (cap_for x) len h.off place ≡ None → IsCall x b s s (only_keys (place_keys b h.inode place)) (op.Seek f place) (answer.Refused Range)
@@ -158,7 +173,8 @@ module _ (x : Caller) (b : Map) (s : SessionView) where
       (place_read f h place e) (λ told w S agree st holds.
       let on = on_file x told w s S st holds f h e in
       seek-open (cap_for x) S f on.handle on.there place
-      ∙ ap (sought (cap_for x) S f on.handle on.there) (lands_same told w h.inode (bytes_of_handle S on.handle) place len h.off on.handle.off on.body agree is on.of.off ∙ leads))
+      ∙ ap (sought (cap_for x) S f on.handle on.there) (lands_same told w h.inode (bytes_of_handle S on.handle) place len h.off on.handle.off on.body agree is
+      on.of.off ∙ leads))
 
   -- what stands at a path
   pub stats_nothing : (p : List ℕ) → stands_at b p ≡ None → IsCall x b s s (only_keys (Path p ∷ [])) (op.Stat p) (answer.Refused NoEnt)
@@ -169,7 +185,8 @@ module _ (x : Caller) (b : Map) (s : SessionView) where
   pub stats_folder : (p : List ℕ) → stands_at b p ≡ Some Folder → IsCall x b s s (only_keys (Path p ∷ [])) (op.Stat p) answer.Dir
   stats_folder p is = stays x b s (Path p ∷ []) (op.Stat p) answer.Dir
       (path_key p (op.Stat p) (BodyOf p ∷ []) (λ S. refl)) (λ told w S agree st holds.
-      stat-at (cap_for x) S p (Some Dir) (node-folder x.size told w (w (Path p)) (get S.tree p) (st.nodes p) (node_of-is (w (Path p)) Folder (ap node_of agree.0 ∙ is))))
+      stat-at (cap_for x) S p (Some Dir) (node-folder x.size told w (w (Path p)) (get S.tree p) (st.nodes p)
+      (node_of-is (w (Path p)) Folder (ap node_of agree.0 ∙ is))))
 
   stat_read : (p : List ℕ) (i : InodeId) → stands_at b p ≡ Some (FileNode i) → KeysRead x b s (Path p ∷ len_keys b i) (op.Stat p)
   stat_read p i is = λ told w S agree st holds.
@@ -177,7 +194,8 @@ module _ (x : Caller) (b : Map) (s : SessionView) where
       let body : Has (BodyOf p) (source_reads p) = is_among-tail (NodeOf p) (BodyOf p ∷ []) (BodyOf p) (is_among-head (BodyOf p) []) in
       (is_among-head (NodeOf p) (BodyOf p ∷ []), keys_read x.tx w i p leads (source_reads p) body (length_keys (file_of i b)))
 
-  pub stats_file : (p : List ℕ) (i : InodeId) (n : ℕ) → stands_at b p ≡ Some (FileNode i) → n ≡ file_len x.size (file_of i b) → IsCall x b s s (only_keys (Path p ∷ len_keys b i)) (op.Stat p) (answer.File n)
+  pub stats_file : (p : List ℕ) (i : InodeId) (n : ℕ) → stands_at b p ≡ Some (FileNode i) → n ≡ file_len x.size (file_of i b)
+      → IsCall x b s s (only_keys (Path p ∷ len_keys b i)) (op.Stat p) (answer.File n)
   stats_file p i n is len = stays x b s (Path p ∷ len_keys b i) (op.Stat p) (answer.File n) (stat_read p i is) (λ told w S agree st holds.
       let leads : LeadsTo w p i = node_of-is (w (Path p)) (FileNode i) (ap node_of agree.0 ∙ is) in
       let file = leads-file x.size told x.tx x.calls w S.tree st p i leads in

@@ -138,7 +138,8 @@ OwnBy kind old new (Some h) place bytes own = IsOwn kind old new (place h) bytes
 -- file's end
 abbrev pub IsRwOwn : {S : Type 0} → StoreKind S → (old new : Dev S) → Map → SessionView → RwOp → Option Slice → Type 0
 IsRwOwn kind old new w s (rw.Write f (Fresh bs)) own = OwnBy kind old new (handle_in s f) (λ h. place_in old h.inode h.off) bs.now own
-IsRwOwn kind old new w s (rw.Append f (Fresh bs)) own = OwnBy kind old new (handle_in s f) (λ h. place_in old h.inode (end_place old.settings.region (file_of h.inode w))) bs.now own
+IsRwOwn kind old new w s (rw.Append f (Fresh bs)) own =
+    OwnBy kind old new (handle_in s f) (λ h. place_in old h.inode (end_place old.settings.region (file_of h.inode w))) bs.now own
 IsRwOwn kind old new w s (rw.Read f n) own = own ≡ None
 IsRwOwn kind old new w s o own = (new ≡ old) × (own ≡ None)
 

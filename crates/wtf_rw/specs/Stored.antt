@@ -54,7 +54,8 @@ pub record TellsOwn {S : Type 0} (kind : StoreKind S) (old new : List S) (own : 
 -- the slice that a call stored of the bytes at a place, if it did; else nothing was lent for writing
 abbrev pub IsOwn : {S : Type 0} → StoreKind S → (old new : Dev S) → PlaceView → List ℕ → Option Slice → Type 0
 IsOwn kind old new place bytes None = new ≡ old
-IsOwn kind old new place bytes (Some s) = IsStored kind (between old new) old.settings.replicas place bytes s × IsInside kind (stores new) s × IsOnServers old.settings.servers s
+IsOwn kind old new place bytes (Some s) =
+    IsStored kind (between old new) old.settings.replicas place bytes s × IsInside kind (stores new) s × IsOnServers old.settings.servers s
 
 -- why bytes were not written: too few servers took them; memory may be short at any time
 abbrev pub IsPutFault : {S : Type 0} → StoreKind S → (old new : Dev S) → List ℕ → Fault → Type 0

@@ -70,14 +70,18 @@ abbrev pub all_keys : Map → List ℕ → List (List ℕ) → List InodeId → 
 all_keys b q ps is = target_keys b q ++ (sources_keys b ps ++ files_keys b is)
 
 -- the keys of a call that found its target, and then its sources
-pub concat_keys_stop : (b : Map) (q dir : List ℕ) (ps : List (List ℕ)) (word : Word) → target_of b q ≡ Ok dir → sources_of b ps ≡ Err word → concat_keys b q ps ≡ target_keys b q ++ sources_keys b ps
+pub concat_keys_stop : (b : Map) (q dir : List ℕ) (ps : List (List ℕ)) (word : Word) → target_of b q ≡ Ok dir → sources_of b ps ≡ Err word
+    → concat_keys b q ps ≡ target_keys b q ++ sources_keys b ps
 concat_keys_stop b q dir ps word e f =
-    ap (λ r. target_keys b q ++ keys_if r (sources_keys b ps ++ found_keys b (sources_of b ps))) e ∙ ap (λ r. target_keys b q ++ (sources_keys b ps ++ found_keys b r)) f
+    ap (λ r. target_keys b q ++ keys_if r (sources_keys b ps ++ found_keys b (sources_of b ps))) e
+    ∙ ap (λ r. target_keys b q ++ (sources_keys b ps ++ found_keys b r)) f
     ∙ ap (λ (l : List Key). target_keys b q ++ l) (append-nil (sources_keys b ps))
 
-pub concat_keys_are : (b : Map) (q dir : List ℕ) (ps : List (List ℕ)) (is : List InodeId) → target_of b q ≡ Ok dir → sources_of b ps ≡ Ok is → concat_keys b q ps ≡ all_keys b q ps is
+pub concat_keys_are : (b : Map) (q dir : List ℕ) (ps : List (List ℕ)) (is : List InodeId) → target_of b q ≡ Ok dir → sources_of b ps ≡ Ok is
+    → concat_keys b q ps ≡ all_keys b q ps is
 concat_keys_are b q dir ps is e f =
-    ap (λ r. target_keys b q ++ keys_if r (sources_keys b ps ++ found_keys b (sources_of b ps))) e ∙ ap (λ r. target_keys b q ++ (sources_keys b ps ++ found_keys b r)) f
+    ap (λ r. target_keys b q ++ keys_if r (sources_keys b ps ++ found_keys b (sources_of b ps))) e
+    ∙ ap (λ r. target_keys b q ++ (sources_keys b ps ++ found_keys b r)) f
 
 -- an attempt that grew six times grew
 pub grown : (a b c d e f h : Attempted Key Delta) → Grows a b → Grows b c → Grows c d → Grows d e → Grows e f → Grows f h → Grows a h
@@ -95,10 +99,12 @@ module _ (x : Caller) (b : Map) (s : SessionView) (q : List ℕ) (ps : List (Lis
   pub concats_nowhere : (word : Word) → target_of b q ≡ Err word → IsCall x b s s (only_keys (target_keys b q)) (op.Concat q ps) (answer.Refused word)
   concats_nowhere word e = stays x b s (target_keys b q) (op.Concat q ps) (answer.Refused word) (λ told w S agree st holds. gathered_target x.tx b w q ps)
       (λ told w S agree st holds.
-      concat-by (cap_for x) S q ps (Err word) (sources S.tree ps) (target-refused x.size told x.tx x.calls w S.tree st q word (target-agrees b w q agree ∙ e)) refl)
+      concat-by (cap_for x) S q ps (Err word) (sources S.tree ps) (target-refused x.size told x.tx x.calls w S.tree st q word (target-agrees b w q agree ∙ e))
+      refl)
 
   module _ (dir : List ℕ) (e : target_of b q ≡ Ok dir) where
-    pub concats_nothing : (word : Word) → sources_of b ps ≡ Err word → IsCall x b s s (only_keys (target_keys b q ++ sources_keys b ps)) (op.Concat q ps) (answer.Refused word)
+    pub concats_nothing : (word : Word) → sources_of b ps ≡ Err word
+        → IsCall x b s s (only_keys (target_keys b q ++ sources_keys b ps)) (op.Concat q ps) (answer.Refused word)
     concats_nothing word f = stays x b s (target_keys b q ++ sources_keys b ps) (op.Concat q ps) (answer.Refused word)
         (λ told w S agree st holds. gathered_paths x.tx b w q ps)
         (λ told w S agree st holds.
@@ -134,7 +140,8 @@ module _ (x : Caller) (b : Map) (s : SessionView) (q : List ℕ) (ps : List (Lis
           (λ told w S agree st holds. gathered_all x.tx b w q ps is (agreed told w S agree st).inodes)
           (λ told w S agree st holds.
           let at = agreed told w S agree st in
-          concat-big (cap_for x) S q ps at.found.bytes (target-free x.size told x.tx x.calls w S.tree st q dir at.open_q) at.found.sources_are (omega (arith, past, at.len)))
+          concat-big (cap_for x) S q ps at.found.bytes (target-free x.size told x.tx x.calls w S.tree st q dir at.open_q) at.found.sources_are
+          (omega (arith, past, at.len)))
 
       module _ (new : InodeId) (out : List Piece) (ds : List FileEdit) (pos : 0 < x.size) (own : IsNewFor x new) (path : IsPath q)
           (fit : lens_of x.size b is ≤ cap_for x) (lists : List ListFact) (reads : ReadsFiles x.size b is lists out)

@@ -59,18 +59,23 @@ abbrev pub copy_edits : List ℕ → List ℕ → InodeId → FileView → Edits
 copy_edits dir q new v = create_edits dir q new ++ fill_edits new v.last (regions_of v)
 
 -- keys, three times, and then changes twice
-pub went_all : (a b c d e f : Attempted Key Delta) (ks ls ms : List Key) (es fs : Edits) → GrowsBy a b ks [] → GrowsBy b c ls [] → GrowsBy c d ms [] → GrowsBy d e [] es → GrowsBy e f [] fs
+pub went_all : (a b c d e f : Attempted Key Delta) (ks ls ms : List Key) (es fs : Edits) → GrowsBy a b ks [] → GrowsBy b c ls [] → GrowsBy c d ms []
+    → GrowsBy d e [] es → GrowsBy e f [] fs
     → GrowsBy a f (ks ++ (ls ++ ms)) (es ++ fs)
 went_all a b c d e f ks ls ms es fs first second third fourth fifth =
-    keys_then a d f (ks ++ (ls ++ ms)) (es ++ fs) (keys_more a b d ks (ls ++ ms) first (keys_more b c d ls ms second third)) (GrowsBy-append d e f [] [] es fs fourth fifth)
+    keys_then a d f (ks ++ (ls ++ ms)) (es ++ fs) (keys_more a b d ks (ls ++ ms) first (keys_more b c d ls ms second third))
+    (GrowsBy-append d e f [] [] es fs fourth fifth)
 
 -- the keys of a copy that is made
-pub copy_keys_are : (b : Map) (p q dir : List ℕ) (i : InodeId) → source_of b p ≡ Ok i → target_of b q ≡ Ok dir → copy_keys b p q ≡ source_keys p ++ (target_keys b q ++ file_keys b i)
+pub copy_keys_are : (b : Map) (p q dir : List ℕ) (i : InodeId) → source_of b p ≡ Ok i → target_of b q ≡ Ok dir
+    → copy_keys b p q ≡ source_keys p ++ (target_keys b q ++ file_keys b i)
 copy_keys_are b p q dir i e f =
-    ap (λ r. source_keys p ++ keys_if r (target_keys b q ++ keys_if (target_of b q) (copied_keys b r))) e ∙ ap (λ r. source_keys p ++ (target_keys b q ++ keys_if r (file_keys b i))) f
+    ap (λ r. source_keys p ++ keys_if r (target_keys b q ++ keys_if (target_of b q) (copied_keys b r))) e
+    ∙ ap (λ r. source_keys p ++ (target_keys b q ++ keys_if r (file_keys b i))) f
 
 -- the step of a call that makes a file
-pub step_made : (x : Caller) (b : Map) (old new : InHand) (keys : List Key) (edits : Edits) (o : Op (List ℕ)) (a : Answer) → GrowsBy old.at new.at keys edits → IsCall x b old.session new.session (makes keys edits) o a
+pub step_made : (x : Caller) (b : Map) (old new : InHand) (keys : List Key) (edits : Edits) (o : Op (List ℕ)) (a : Answer) → GrowsBy old.at new.at keys edits
+    → IsCall x b old.session new.session (makes keys edits) o a
     → IsStepWith NeedsNoBytes x b old new o a
 step_made x b old new keys edits o a grows is = record {
   did = makes keys edits;
@@ -86,13 +91,15 @@ module _ (x : Caller) (b : Map) (s : SessionView) (p q : List ℕ) where
       (λ told w S agree st holds.
       copy-by (cap_for x) S p q (Err word) (target S.tree q) (source-refused x.size told x.tx x.calls w S.tree st p word (source-agrees b w p agree ∙ e)) refl)
 
-  pub copies_nowhere : (i : InodeId) (word : Word) → source_of b p ≡ Ok i → target_of b q ≡ Err word → IsCall x b s s (only_keys (source_keys p ++ target_keys b q)) (op.Copy p q) (answer.Refused word)
+  pub copies_nowhere : (i : InodeId) (word : Word) → source_of b p ≡ Ok i → target_of b q ≡ Err word
+      → IsCall x b s s (only_keys (source_keys p ++ target_keys b q)) (op.Copy p q) (answer.Refused word)
   copies_nowhere i word e f = stays x b s (source_keys p ++ target_keys b q) (op.Copy p q) (answer.Refused word)
       (λ told w S agree st holds. both_read x.tx b w p q)
       (λ told w S agree st holds.
       let parts = Agree-parts (source_keys p) (target_keys b q) b w agree in
       let file = leads-file x.size told x.tx x.calls w S.tree st p i (source-leads w p i (source-agrees b w p parts.0 ∙ e)) in
-      copy-by (cap_for x) S p q (Ok file.bytes) (Err word) (ap bytes_of file.there) (target-refused x.size told x.tx x.calls w S.tree st q word (target-agrees b w q parts.1 ∙ f)))
+      copy-by (cap_for x) S p q (Ok file.bytes) (Err word) (ap bytes_of file.there) (target-refused x.size told x.tx x.calls w S.tree st q word
+      (target-agrees b w q parts.1 ∙ f)))
 
   module _ (dir : List ℕ) (i new : InodeId) (own : IsNewFor x new) (path : IsPath q) (e : source_of b p ≡ Ok i) (f : target_of b q ≡ Ok dir) where
     abbrev copied : FileView

@@ -1,6 +1,5 @@
 -- All that a call did, by the way that it takes.
-use Rattle.std.proofs.Common.{◌≡◌, ◌<◌, ℕ, List, [], Result, Ok, Err, refl, sym, ap, ◌∙◌, subst}
-use Rattle.std.specs.Prelude.{IfOk, IfErr}
+use Rattle.std.proofs.Common.{◌≡◌, ◌<◌, ℕ, List, [], refl, ap, ◌∙◌}
 use Rattle.wtf_base.specs.declared.ids.InodeId.{InodeId}
 use Rattle.wtf_model.specs.declared.answer.Answer.{Answer}
 use Rattle.wtf_model.specs.declared.answer.Answer.TheVariants as answer
@@ -24,34 +23,20 @@ use Rattle.wtf_slicing.specs.Changed.{SliceMade}
 use Rattle.wtf_slicing.specs.Held.{SliceHolds, SliceReads, SliceDone, sees}
 use Rattle.wtf_slicing.proofs.MadeWays.{told_none}
 
--- what holds of an answer, and something that follows of it
-pub ok_weaker : {A E : Type 0} {P Q : A → Type 0} (r : Result A E) → ((a : A) → P a → Q a) → IfOk r P → IfOk r Q
-ok_weaker (Ok a) weaker h = weaker a h
-ok_weaker (Err e) weaker h = tt
-
-pub err_weaker : {A E : Type 0} {P Q : E → Type 0} (r : Result A E) → ((e : E) → P e → Q e) → IfErr r P → IfErr r Q
-err_weaker (Ok a) weaker h = tt
-err_weaker (Err e) weaker h = weaker e h
-
 -- nothing in hand becomes another
 pub hand_same : (a : Answer) (s t : SessionView) → t ≡ s → LeavesHand a (λ u v. v ≡ u) s t
 hand_same a s t same = record { refused = λ h. same; made = λ going. same }
 
 module _ {S : Type 0} (sc : Scene S) (made : InodeId) where
-  -- the same call by another name
-  pub done_as : (o p : SliceOp) (a : Answer) (old new : InHand) → o ≡ p → SliceDone sc made p a old new → SliceDone sc made o a old new
-  done_as o p a old new is done = subst (λ (c : SliceOp). SliceDone sc made c a old new) (sym is) done
-
   -- a call that reads no list
-  pub done_plain : (o p : SliceOp) (a : Answer) (old new : InHand) → o ≡ p → SliceReads (sees sc made old.session []) p
-      → remembered sc.after ≡ remembered sc.before
-      → Makes a (SliceMade (sees sc made old.session []) p) old.at new.at → LeavesHand a (SliceHolds (sees sc made old.session []) p) old.session new.session
+  pub done_plain : (o : SliceOp) (a : Answer) (old new : InHand) → SliceReads (sees sc made old.session []) o → remembered sc.after ≡ remembered sc.before
+      → Makes a (SliceMade (sees sc made old.session []) o) old.at new.at → LeavesHand a (SliceHolds (sees sc made old.session []) o) old.session new.session
       → SliceDone sc made o a old new
-  done_plain o p a old new is none same makes holds = done_as o p a old new is (record {
+  done_plain o a old new none same makes holds = record {
     recalls = record { facts = []; recalls = same; known = told_none sc.kind sc.before sc.after; refused = λ h. refl; made = λ going. none };
     makes = makes;
     holds = holds;
-  })
+  }
 
   -- and one that is refused
   pub done_refused : (o : SliceOp) (word : Word) (old new : InHand) → remembered sc.after ≡ remembered sc.before → new.at.changes ≡ old.at.changes

@@ -1,5 +1,6 @@
 -- Files that are put together: on every map that agrees on the recorded keys they are the same, with the same bytes.
-use Rattle.std.proofs.Common.{◌≡◌, ℕ, zero, suc, ◌+◌, ◌*◌, ◌/◌, ◌%◌, ◌<◌, ◌≤◌, List, [], ◌∷◌, ◌++◌, length, append_assoc, append-nil, Result, Ok, Err, refl, sym, ap, ◌∙◌, subst, arith, inl, inr, zero-add}
+use Rattle.std.proofs.Common.{◌≡◌, ℕ, zero, suc, ◌+◌, ◌*◌, ◌/◌, ◌%◌, ◌<◌, ◌≤◌, List, [], ◌∷◌, ◌++◌, length, append_assoc, append-nil, Result, Ok, Err, refl}
+use Rattle.std.proofs.Common.{sym, ap, ◌∙◌, subst, arith, inl, inr, zero-add}
 use Rattle.std.proofs.lemmas.Bool.{cases_eq}
 use Rattle.std.proofs.lemmas.List.{length-append}
 use Rattle.std.proofs.lemmas.Nat.{div_below}
@@ -63,7 +64,8 @@ BodiesOf b told w [] bytes = bytes ≡ []
 BodiesOf b told w (i ∷ is) bytes = (xs : List ℕ) × (ys : List ℕ) × (bytes ≡ xs ++ ys) × IsBody b told w i xs × BodiesOf b told w is ys
 
 -- and so many
-pub lens_agree : (b : ℕ) (told : Told) (u w : Map) (is : List InodeId) (bytes : List ℕ) → Agree (files_keys u is) u w → BodiesOf b told w is bytes → lens_of b u is ≡ length bytes
+pub lens_agree : (b : ℕ) (told : Told) (u w : Map) (is : List InodeId) (bytes : List ℕ) → Agree (files_keys u is) u w → BodiesOf b told w is bytes
+    → lens_of b u is ≡ length bytes
 lens_agree b told u w [] bytes agree are = ap length (sym are)
 lens_agree b told u w (i ∷ is) bytes agree are =
     let parts = Agree-parts (file_keys u i) (files_keys u is) u w agree in
@@ -95,7 +97,8 @@ plans_tell b told u w (i ∷ is) ps bytes pos agree are plans =
 pub sources-agree : (b w : Map) (ps : List (List ℕ)) → Agree (sources_keys b ps) b w → sources_of w ps ≡ sources_of b ps
 sources-agree b w [] agree = refl
 sources-agree b w (p ∷ ps) agree =
-    ap (λ r. r >>= (λ i. sources_of w ps >>= (λ is. Ok (i ∷ is)))) (source-agrees b w p (agree.0, tt)) ∙ by_source (source_of b p) agree.1 (λ h. sources-agree b w ps h)
+    ap (λ r. r >>= (λ i. sources_of w ps >>= (λ is. Ok (i ∷ is)))) (source-agrees b w p (agree.0, tt))
+    ∙ by_source (source_of b p) agree.1 (λ h. sources-agree b w ps h)
   where
     by_source : (r : Result InodeId Word) → Agree (keys_if r (sources_keys b ps)) b w → (Agree (sources_keys b ps) b w → sources_of w ps ≡ sources_of b ps)
         → (r >>= (λ i. sources_of w ps >>= (λ is. Ok (i ∷ is)))) ≡ (r >>= (λ i. sources_of b ps >>= (λ is. Ok (i ∷ is))))
@@ -123,7 +126,8 @@ pub record Found (b : ℕ) (told : Told) (w : Map) (t : Tree) (ps : List (List �
   pub bodies : BodiesOf b told w is bytes
 
 module _ (b : ℕ) (told : Told) (tx k : ℕ) (w : Map) (t : Tree) (st : Stands b told tx k w t) where
-  refused_by : (p : List ℕ) (ps : List (List ℕ)) (word : Word) (r : Result InodeId Word) → source_of w p ≡ r → (r >>= (λ i. sources_of w ps >>= (λ is. Ok (i ∷ is)))) ≡ Err word
+  refused_by : (p : List ℕ) (ps : List (List ℕ)) (word : Word) (r : Result InodeId Word) → source_of w p ≡ r
+      → (r >>= (λ i. sources_of w ps >>= (λ is. Ok (i ∷ is)))) ≡ Err word
       → (sources_of w ps ≡ Err word → sources t ps ≡ Err word) → sources t (p ∷ ps) ≡ Err word
   refused_by p ps word (Ok i) e h next =
       let file = leads-file b told tx k w t st p i (source-leads w p i e) in
@@ -137,7 +141,8 @@ module _ (b : ℕ) (told : Told) (tx k : ℕ) (w : Map) (t : Tree) (st : Stands 
   sources-refused [] word e = absurd (cc)
   sources-refused (p ∷ ps) word e = refused_by p ps word (source_of w p) refl e (λ h. sources-refused ps word h)
 
-  found_by : (p : List ℕ) (ps : List (List ℕ)) (all : List InodeId) (r : Result InodeId Word) → source_of w p ≡ r → (r >>= (λ i. sources_of w ps >>= (λ is. Ok (i ∷ is)))) ≡ Ok all
+  found_by : (p : List ℕ) (ps : List (List ℕ)) (all : List InodeId) (r : Result InodeId Word) → source_of w p ≡ r
+      → (r >>= (λ i. sources_of w ps >>= (λ is. Ok (i ∷ is)))) ≡ Ok all
       → ((is : List InodeId) → sources_of w ps ≡ Ok is → Found b told w t ps is) → Found b told w t (p ∷ ps) all
   found_by p ps all (Ok i) e h next =
       let file = leads-file b told tx k w t st p i (source-leads w p i e) in
@@ -145,7 +150,8 @@ module _ (b : ℕ) (told : Told) (tx k : ℕ) (w : Map) (t : Tree) (st : Stands 
       let more = next rest.inodes rest.is in
       record {
         bytes = file.bytes ++ more.bytes;
-        sources_are = ap (λ o. bytes_of o >>= (λ xs. sources t ps >>= (λ ys. Ok (xs ++ ys)))) file.there ∙ ap (λ r. r >>= (λ ys. Ok (file.bytes ++ ys))) more.sources_are;
+        sources_are = ap (λ o. bytes_of o >>= (λ xs. sources t ps >>= (λ ys. Ok (xs ++ ys)))) file.there
+            ∙ ap (λ r. r >>= (λ ys. Ok (file.bytes ++ ys))) more.sources_are;
         bodies = subst (λ (l : List InodeId). BodiesOf b told w l (file.bytes ++ more.bytes)) rest.whole (file.bytes, more.bytes, refl, file.body, more.bodies);
       }
   found_by p ps all (Err word) e h next = absurd (cc)

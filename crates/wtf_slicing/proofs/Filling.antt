@@ -34,7 +34,8 @@ last_some None h = absurd h
 last_some (Some v) h = refl
 
 -- a directory has the same names where no path comes or goes
-same_names : (s t : Tree) (p : List ℕ) (v : Option Value) → ((r : List ℕ) → is_some (get t r) ≡ is_some (get s r)) → (get s p ≡ Some Dir → get t p ≡ Some Dir) → (get t p ≡ Some Dir → get s p ≡ Some Dir)
+same_names : (s t : Tree) (p : List ℕ) (v : Option Value) → ((r : List ℕ) → is_some (get t r) ≡ is_some (get s r)) → (get s p ≡ Some Dir → get t p ≡ Some Dir)
+    → (get t p ≡ Some Dir → get s p ≡ Some Dir)
     → NamesAt s p v (get s p) → (o : Option TreeNode) → get s p ≡ o → NamesAt t p v (get t p)
 same_names s t p v same to back at (Some Dir) e =
     let had = names-listed s p v (get s p) at e in
@@ -49,12 +50,15 @@ same_names s t p v same to back at None e =
     names-of_none t p v (get t p) (names-missing s p v (get s p) at (λ d. let both : None ≡ Some Dir = sym e ∙ d in absurd (cc)))
     (λ d. let both : None ≡ Some Dir = sym e ∙ back d in absurd (cc))
 
-module _ (b : ℕ) (told : Told) (tx k : ℕ) (w : Map) (t : Tree) (st : Stands b told tx k w t) (p : List ℕ) (i : InodeId) (leads : LeadsTo w p i) (new : Map) (changes : ChangesFile i w new) where
+module _ (b : ℕ) (told : Told) (tx k : ℕ) (w : Map) (t : Tree) (st : Stands b told tx k w t) (p : List ℕ) (i : InodeId) (leads : LeadsTo w p i) (new : Map)
+    (changes : ChangesFile i w new) where
   there : FileAt b told w i (get t p)
   there = leads-file b told tx k w t st p i leads
 
   file_is : (bytes : List ℕ) (q : List ℕ) → (q ≡ p) ⊎ (q ≢ p) → is_some (get (insert t p (File bytes)) q) ≡ is_some (get t q)
-  file_is bytes q (inl same) = subst (λ x. is_some (get (insert t p (File bytes)) x) ≡ is_some (get t x)) (sym same) (ap is_some (get-node_same t p (File bytes)) ∙ sym (ap is_some there.there))
+  file_is bytes q (inl same) =
+      subst (λ x. is_some (get (insert t p (File bytes)) x) ≡ is_some (get t x)) (sym same)
+      (ap is_some (get-node_same t p (File bytes)) ∙ sym (ap is_some there.there))
   file_is bytes q (inr other) = ap is_some (get-node_other t p (File bytes) q other)
 
   -- a directory is one as before
@@ -64,7 +68,8 @@ module _ (b : ℕ) (told : Told) (tx k : ℕ) (w : Map) (t : Tree) (st : Stands 
 
   dir_back : (bytes : List ℕ) (q : List ℕ) → (q ≡ p) ⊎ (q ≢ p) → get (insert t p (File bytes)) q ≡ Some Dir → get t q ≡ Some Dir
   dir_back bytes q (inl same) e =
-      let both : Some (File bytes) ≡ Some Dir = sym (get-node_same t p (File bytes)) ∙ subst (λ x. get (insert t p (File bytes)) x ≡ Some Dir) same e in absurd (cc)
+      let both : Some (File bytes) ≡ Some Dir = sym (get-node_same t p (File bytes)) ∙ subst (λ x. get (insert t p (File bytes)) x ≡ Some Dir) same e in
+      absurd (cc)
   dir_back bytes q (inr other) e = sym (get-node_other t p (File bytes) q other) ∙ e
 
   still : (bytes : List ℕ) → IsBody b told new i bytes → (j : InodeId) → (j ≡ i) ⊎ (j ≢ i) → IsSome (w (Inode j)) → IsSome (new (Inode j))
@@ -91,7 +96,8 @@ module _ (b : ℕ) (told : Told) (tx k : ℕ) (w : Map) (t : Tree) (st : Stands 
       record {
         tree_is = IsTree-bytes t p there.bytes bytes st.tree_is there.there;
         nodes = λ q. ⊎_elim
-            (λ same. subst (λ x. NodeAt b told new (new (Path x)) (get u x)) (sym same) (node-put b told new (FileNode i) (new (Path p)) (get u p) (Some (File bytes)) (changes.paths p ∙ leads) (get-node_same t p (File bytes)) body))
+            (λ same. subst (λ x. NodeAt b told new (new (Path x)) (get u x)) (sym same) (node-put b told new (FileNode i) (new (Path p)) (get u p)
+            (Some (File bytes)) (changes.paths p ∙ leads) (get-node_same t p (File bytes)) body))
             (λ other. node-kept b told w new (w (Path q)) (new (Path q)) (get t q) (get u q)
             (λ j bs to was.
             let apart : j ≢ i = λ e. other (sym (st.apart p q i leads (subst (λ x. LeadsTo w q x) e to))) in
@@ -99,7 +105,8 @@ module _ (b : ℕ) (told : Told) (tx k : ℕ) (w : Map) (t : Tree) (st : Stands 
             (changes.paths q) (get-node_other t p (File bytes) q other) (st.nodes q))
             (same_or_other q p);
         names = λ q. subst (λ v. NamesAt u q v (get u q)) (sym (changes.dirs q))
-            (same_names t u q (w (DirKey q)) (λ r. file_is bytes r (same_or_other r p)) (dir_to bytes q (same_or_other q p)) (dir_back bytes q (same_or_other q p)) (st.names q) (get t q) refl);
+            (same_names t u q (w (DirKey q)) (λ r. file_is bytes r (same_or_other r p)) (dir_to bytes q (same_or_other q p))
+            (dir_back bytes q (same_or_other q p)) (st.names q) (get t q) refl);
         apart = λ q r j one two. st.apart q r j (back q j one) (back r j two);
         led = λ j some. let found = st.led j (before j (one_inode i j) some) in (found.0, changes.paths found.0 ∙ found.1);
         regions = λ j r some. still bytes body j (one_inode i j) (owned j r (one_inode i j) some);

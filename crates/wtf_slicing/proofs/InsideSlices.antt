@@ -57,7 +57,8 @@ does_lists sc s (Glue f label) did does = no_lists (inside_of sc.kind sc.after) 
 does_lists sc s (Concat q ps) did does = ListsBytes-all (inside_of sc.kind sc.after) any_slice did.lists does.inside
 does_lists sc s (Copy p q) did does = no_lists (inside_of sc.kind sc.after) did.lists does.lists
 
-pub keeps_inside : {S : Type 0} {kind : StoreKind S} → KindLaws kind → (old new : Dev S) (kv : Store Key Value) (at into : Attempted Key Delta) (s t : SessionView) (made : InodeId) (o : SliceOp) (a : Answer)
+pub keeps_inside : {S : Type 0} {kind : StoreKind S} → KindLaws kind
+    → (old new : Dev S) (kv : Store Key Value) (at into : Attempted Key Delta) (s t : SessionView) (made : InodeId) (o : SliceOp) (a : Answer)
     → old.settings.servers ≤ length (stores old) → GoesOn kind old new []
     → IsSliceStep (record { kind = kind; before = old; after = new; map = seen kv at }) old.settings.region made (in_hand at s) (in_hand into t) o a
     → 1 ≤ made.index → AreInside kind (stores old) old.settings (seen kv at) s → AreInside kind (stores new) old.settings (seen kv into) t

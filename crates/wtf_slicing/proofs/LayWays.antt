@@ -59,7 +59,8 @@ module _ (x : Caller) (b : Map) (s : SessionView) (f label : ℕ) (h : Handle) (
     pastes_nothing none = stays_bare x b s (op.Paste f label) answer.Okay (λ told w S st holds.
         let on = on_file x told w s S st holds f h here in
         let sl = slice_of told w s S holds label ps kept in
-        paste-write (cap_for x) S f label on.handle sl.bytes on.there sl.there ∙ write-nothing (cap_for x) S f on.handle on.there sl.bytes (omega (arith, sl.tell.len, none)))
+        paste-write (cap_for x) S f label on.handle sl.bytes on.there sl.there ∙ write-nothing (cap_for x) S f on.handle on.there sl.bytes
+        (omega (arith, sl.tell.len, none)))
 
     pub pastes_too_far : 0 < pieces_len ps → cap_for x < h.off + pieces_len ps → IsCall x b s s (only_keys []) (op.Paste f label) (answer.Refused TooBig)
     pastes_too_far some past = stays_bare x b s (op.Paste f label) (answer.Refused TooBig) (λ told w S st holds.
@@ -75,7 +76,8 @@ module _ (x : Caller) (b : Map) (s : SessionView) (f label : ℕ) (h : Handle) (
           let on = on_file x told w s S st holds f h here in
           let sl = slice_of told w s S holds label ps kept in
           let len : pieces_len ps ≡ length sl.bytes = sl.tell.len in
-          let to : SetsHandle f (Some (moved_to (h.off + length sl.bytes) h)) s t = subst (λ (n : ℕ). SetsHandle f (Some (moved_to (h.off + n) h)) s t) len set in
+          let to : SetsHandle f (Some (moved_to (h.off + length sl.bytes) h)) s t = subst (λ (n : ℕ). SetsHandle f (Some (moved_to (h.off + n) h)) s t) len
+          set in
           let is = writes x b s f h here t ds ps sl.bytes (omega (arith, len, some)) (omega (arith, len, fit)) len laid to in
           subst (λ (d : Done). IsDone x told w (with (edits_of h.inode ds) w) t d answer.Okay)
           (sym (paste-write (cap_for x) S f label on.handle sl.bytes on.there sl.there))

@@ -1,5 +1,6 @@
 -- One step more of the walks over sources, over the regions of a file, and over files.
-use Rattle.std.proofs.Common.{◌≡◌, ℕ, zero, suc, ◌+◌, ◌<◌, ◌≤◌, List, [], ◌∷◌, ◌++◌, length, map, get_or, take, drop, append_assoc, append-nil, Option, Result, Ok, Err, refl, sym, ap, ◌∙◌, subst, arith}
+use Rattle.std.proofs.Common.{◌≡◌, ℕ, zero, suc, ◌+◌, ◌<◌, ◌≤◌, List, [], ◌∷◌, ◌++◌, length, map, get_or, take, drop, append_assoc, append-nil, Option, Result}
+use Rattle.std.proofs.Common.{Ok, Err, refl, sym, ap, ◌∙◌, subst, arith}
 use Rattle.std.proofs.lemmas.List.{map-append, take-append-drop, drop_more}
 use Rattle.wtf_base.specs.declared.ids.InodeId.{InodeId}
 use Rattle.wtf_occ.specs.Attempts.{Attempted}
@@ -30,35 +31,43 @@ same_result (Ok is) = refl
 same_result (Err word) = refl
 
 module _ (w : Map) where
-  first_by : (p : List ℕ) (xs ys : List (List ℕ)) (is : List InodeId) (r : Result InodeId Word) → source_of w p ≡ r → (r >>= (λ i. sources_of w xs >>= (λ js. Ok (i ∷ js)))) ≡ Ok is
-      → ((js : List InodeId) → sources_of w xs ≡ Ok js → sources_of w (xs ++ ys) ≡ (sources_of w ys >>= (λ ks. Ok (js ++ ks)))) → sources_of w (p ∷ xs ++ ys) ≡ (sources_of w ys >>= (λ ks. Ok (is ++ ks)))
+  first_by : (p : List ℕ) (xs ys : List (List ℕ)) (is : List InodeId) (r : Result InodeId Word) → source_of w p ≡ r
+      → (r >>= (λ i. sources_of w xs >>= (λ js. Ok (i ∷ js)))) ≡ Ok is
+      → ((js : List InodeId) → sources_of w xs ≡ Ok js → sources_of w (xs ++ ys) ≡ (sources_of w ys >>= (λ ks. Ok (js ++ ks))))
+      → sources_of w (p ∷ xs ++ ys) ≡ (sources_of w ys >>= (λ ks. Ok (is ++ ks)))
   first_by p xs ys is (Ok i) e h next =
       let rest = rest_found i (sources_of w xs) is h in
       ap (λ r. r >>= (λ j. sources_of w (xs ++ ys) >>= (λ js. Ok (j ∷ js)))) e
       ∙ ap (λ r. r >>= (λ js. Ok (i ∷ js))) (next rest.inodes rest.is)
       ∙ joined i rest.inodes (sources_of w ys) ∙ ap (λ (l : List InodeId). sources_of w ys >>= (λ ks. Ok (l ++ ks))) rest.whole
     where
-      joined : (i : InodeId) (js : List InodeId) (r : Result (List InodeId) Word) → (r >>= (λ ks. Ok (js ++ ks)) >>= (λ ls. Ok (i ∷ ls))) ≡ (r >>= (λ ks. Ok (i ∷ js ++ ks)))
+      joined : (i : InodeId) (js : List InodeId) (r : Result (List InodeId) Word)
+          → (r >>= (λ ks. Ok (js ++ ks)) >>= (λ ls. Ok (i ∷ ls))) ≡ (r >>= (λ ks. Ok (i ∷ js ++ ks)))
       joined i js (Ok ks) = refl
       joined i js (Err word) = refl
   first_by p xs ys is (Err word) e h next = absurd (cc)
 
   -- files behind others that were found
-  pub sources_append : (xs ys : List (List ℕ)) (is : List InodeId) → sources_of w xs ≡ Ok is → sources_of w (xs ++ ys) ≡ (sources_of w ys >>= (λ js. Ok (is ++ js)))
+  pub sources_append : (xs ys : List (List ℕ)) (is : List InodeId) → sources_of w xs ≡ Ok is
+      → sources_of w (xs ++ ys) ≡ (sources_of w ys >>= (λ js. Ok (is ++ js)))
   sources_append [] ys is h =
       let none : [] ≡ is = cc in
       sym (same_result (sources_of w ys)) ∙ ap (λ (l : List InodeId). sources_of w ys >>= (λ js. Ok (l ++ js))) none
   sources_append (p ∷ xs) ys is h = first_by p xs ys is (source_of w p) refl h (λ js e. sources_append xs ys js e)
 
-  pub sources_more : (xs : List (List ℕ)) (p : List ℕ) (is : List InodeId) (i : InodeId) → sources_of w xs ≡ Ok is → source_of w p ≡ Ok i → sources_of w (xs ++ p ∷ []) ≡ Ok (is ++ i ∷ [])
+  pub sources_more : (xs : List (List ℕ)) (p : List ℕ) (is : List InodeId) (i : InodeId) → sources_of w xs ≡ Ok is → source_of w p ≡ Ok i
+      → sources_of w (xs ++ p ∷ []) ≡ Ok (is ++ i ∷ [])
   sources_more xs p is i h e = sources_append xs (p ∷ []) is h ∙ ap (λ r. (r >>= (λ j. Ok (j ∷ []))) >>= (λ js. Ok (is ++ js))) e
 
-  pub sources_stop : (xs ys : List (List ℕ)) (p : List ℕ) (is : List InodeId) (word : Word) → sources_of w xs ≡ Ok is → source_of w p ≡ Err word → sources_of w (xs ++ p ∷ ys) ≡ Err word
+  pub sources_stop : (xs ys : List (List ℕ)) (p : List ℕ) (is : List InodeId) (word : Word) → sources_of w xs ≡ Ok is → source_of w p ≡ Err word
+      → sources_of w (xs ++ p ∷ ys) ≡ Err word
   sources_stop xs ys p is word h e =
       sources_append xs (p ∷ ys) is h ∙ ap (λ r. (r >>= (λ j. sources_of w ys >>= (λ js. Ok (j ∷ js)))) >>= (λ js. Ok (is ++ js))) e
 
-  keys_by : (p : List ℕ) (xs ys : List (List ℕ)) (is : List InodeId) (r : Result InodeId Word) → source_of w p ≡ r → (r >>= (λ i. sources_of w xs >>= (λ js. Ok (i ∷ js)))) ≡ Ok is
-      → ((js : List InodeId) → sources_of w xs ≡ Ok js → sources_keys w (xs ++ ys) ≡ sources_keys w xs ++ sources_keys w ys) → sources_keys w (p ∷ xs ++ ys) ≡ sources_keys w (p ∷ xs) ++ sources_keys w ys
+  keys_by : (p : List ℕ) (xs ys : List (List ℕ)) (is : List InodeId) (r : Result InodeId Word) → source_of w p ≡ r
+      → (r >>= (λ i. sources_of w xs >>= (λ js. Ok (i ∷ js)))) ≡ Ok is
+      → ((js : List InodeId) → sources_of w xs ≡ Ok js → sources_keys w (xs ++ ys) ≡ sources_keys w xs ++ sources_keys w ys)
+      → sources_keys w (p ∷ xs ++ ys) ≡ sources_keys w (p ∷ xs) ++ sources_keys w ys
   keys_by p xs ys is (Ok i) e h next =
       let rest = rest_found i (sources_of w xs) is h in
       ap (λ r. Path p ∷ keys_if r (sources_keys w (xs ++ ys))) e ∙ ap (λ (l : List Key). Path p ∷ l) (next rest.inodes rest.is)
@@ -66,7 +75,8 @@ module _ (w : Map) where
   keys_by p xs ys is (Err word) e h next = absurd (cc)
 
   -- and their keys
-  pub sources_keys-append : (xs ys : List (List ℕ)) (is : List InodeId) → sources_of w xs ≡ Ok is → sources_keys w (xs ++ ys) ≡ sources_keys w xs ++ sources_keys w ys
+  pub sources_keys-append : (xs ys : List (List ℕ)) (is : List InodeId) → sources_of w xs ≡ Ok is
+      → sources_keys w (xs ++ ys) ≡ sources_keys w xs ++ sources_keys w ys
   sources_keys-append [] ys is h = refl
   sources_keys-append (p ∷ xs) ys is h = keys_by p xs ys is (source_of w p) refl h (λ js e. sources_keys-append xs ys js e)
 
@@ -88,11 +98,13 @@ pub count_next : (r : ℕ) → count_from 0 (r + 1) ≡ count_from 0 r ++ r ∷ 
 count_next r = count_push 0 r ∙ ap (λ (k : ℕ). count_from 0 r ++ k ∷ []) (let e : 0 + r ≡ r = omega arith in e)
 
 -- one region more of a whole file
-pub recorded_next : (i : InodeId) (r : ℕ) (a m n : Attempted Key Delta) → Recorded i (OfLast ∷ region_keys (count_from 0 r)) a m → Recorded i (OfRegion r ∷ []) m n
+pub recorded_next : (i : InodeId) (r : ℕ) (a m n : Attempted Key Delta) → Recorded i (OfLast ∷ region_keys (count_from 0 r)) a m
+    → Recorded i (OfRegion r ∷ []) m n
     → Recorded i (OfLast ∷ region_keys (count_from 0 (r + 1))) a n
 recorded_next i r a m n first next =
     subst (λ (ks : List FileKey). Recorded i ks a n)
-    (sym (ap (λ (rs : List ℕ). OfLast ∷ region_keys rs) (count_next r) ∙ ap (λ (ks : List FileKey). OfLast ∷ ks) (map-append (λ q. OfRegion q) (count_from 0 r) (r ∷ []))))
+    (sym (ap (λ (rs : List ℕ). OfLast ∷ region_keys rs) (count_next r) ∙ ap (λ (ks : List FileKey). OfLast ∷ ks)
+    (map-append (λ q. OfRegion q) (count_from 0 r) (r ∷ []))))
     (recorded_on i (OfLast ∷ region_keys (count_from 0 r)) (OfRegion r ∷ []) a m n first next)
 
 pub regions_next : (g : ℕ → Option RegionValue) (r : ℕ) → map g (count_from 0 (r + 1)) ≡ map g (count_from 0 r) ++ g r ∷ []
@@ -103,10 +115,12 @@ length-counted g a zero = refl
 length-counted g a (suc n) = omega (arith, length-counted g (a + 1) n)
 
 -- one region more that is set
-pub puts-more : (i : InodeId) (r : ℕ) (vs : List (Option RegionValue)) (v : Option RegionValue) → put_regions i r (vs ++ v ∷ []) ≡ put_regions i r vs ++ put_region i (r + length vs) v
+pub puts-more : (i : InodeId) (r : ℕ) (vs : List (Option RegionValue)) (v : Option RegionValue)
+    → put_regions i r (vs ++ v ∷ []) ≡ put_regions i r vs ++ put_region i (r + length vs) v
 puts-more i r [] v = append-nil (put_region i r v) ∙ ap (λ (k : ℕ). put_region i k v) (let e : r ≡ r + 0 = omega arith in e)
 puts-more i r (u ∷ vs) v =
-    ap (λ (l : Edits). put_region i r u ++ l) (puts-more i (r + 1) vs v ∙ ap (λ (k : ℕ). put_regions i (r + 1) vs ++ put_region i k v) (let e : r + 1 + length vs ≡ r + suc (length vs) = omega arith in e))
+    ap (λ (l : Edits). put_region i r u ++ l) (puts-more i (r + 1) vs v ∙ ap (λ (k : ℕ). put_regions i (r + 1) vs ++ put_region i k v)
+    (let e : r + 1 + length vs ≡ r + suc (length vs) = omega arith in e))
     ∙ sym (append_assoc (put_region i r u) (put_regions i (r + 1) vs) (put_region i (r + suc (length vs)) v))
 
 pub le-trans : (a b c : ℕ) → a ≤ b → b ≤ c → a ≤ c

@@ -34,7 +34,8 @@ pub kept_is : (s : SessionView) (label : ℕ) (ps : List Piece) → slice_in s l
 kept_is s label ps there = ap (λ (o : Option (List Piece)). unwrap_or o []) there
 
 -- a slice without a byte lays nothing
-pub lays_no_byte : (b : ℕ) (o : Option Handle) (s : SessionView) (label : ℕ) (ps : List Piece) → slice_in s label ≡ Some ps → pieces_len ps ≡ 0 → LaysAt b o (kept_pieces s label) []
+pub lays_no_byte : (b : ℕ) (o : Option Handle) (s : SessionView) (label : ℕ) (ps : List Piece) → slice_in s label ≡ Some ps → pieces_len ps ≡ 0
+    → LaysAt b o (kept_pieces s label) []
 lays_no_byte b o s label ps there none =
     subst (λ (qs : List Piece). LaysAt b o qs []) (sym (kept_is s label ps there ∙ no_pieces ps none)) (lays_none b o)
 
@@ -42,5 +43,6 @@ lays_no_byte b o s label ps there none =
 pub copy_made : (b : Map) (p q dir : List ℕ) (i new : InodeId) → source_of b p ≡ Ok i → target_of b q ≡ Ok dir
     → copy_changes b p q new ≡ create_edits dir q new ++ fill_edits new (file_of i b).last (regions_of (file_of i b))
 copy_made b p q dir i new e f =
-    ap (λ (r : Result InodeId Word). edits_if r (λ j. edits_if (target_of b q) (λ d. create_edits d q new ++ fill_edits new (file_of j b).last (regions_of (file_of j b))))) e
+    ap (λ (r : Result InodeId Word). edits_if r (λ j. edits_if (target_of b q) (λ d. create_edits d q new ++ fill_edits new (file_of j b).last
+    (regions_of (file_of j b))))) e
     ∙ ap (λ (r : Result (List ℕ) Word). edits_if r (λ d. create_edits d q new ++ fill_edits new (file_of i b).last (regions_of (file_of i b)))) f

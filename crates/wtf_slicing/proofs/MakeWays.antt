@@ -75,7 +75,8 @@ module _ (x : Caller) (told : Told) (w : Map) (s : SessionView) (S : Session) (s
         stands = subst (λ (t : Tree). Stands x.size told x.tx (x.calls + 1) full t) (insert-node_over S.tree q (File []) (File bytes))
             (stands_filled x.size told x.tx (x.calls + 1) made first made_done.stands q new made_leads full changes bytes body told_bytes);
         holds = Holds-on told made full s (add_file S q []) tree (λ f h there leads. changes.paths h.path ∙ leads) made_done.holds;
-        own = λ j other none. none_stays x.size told x.tx (x.calls + 1) made first made_done.stands q new made_leads full changes j (one_inode new j) (made_done.own j other none);
+        own = λ j other none. none_stays x.size told x.tx (x.calls + 1) made first made_done.stands q new made_leads full changes j (one_inode new j)
+            (made_done.own j other none);
       }
 
   -- and the call changed what stands at q, its bytes, and the names above it

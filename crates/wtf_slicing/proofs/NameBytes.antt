@@ -21,7 +21,8 @@ use Rattle.wtf_meta.proofs.MapBytes.{with_bytes}
 use Rattle.wtf_meta.proofs.Named.{PiecesBytes-none}
 use Rattle.wtf_meta.proofs.Nothing.{nothing_kept}
 
-pub name_bytes : (x : Caller) (kv : Store Key Value) (old new : Attempted Key Delta) (o : Op (List ℕ)) (a : Answer) → IsNameStep x (seen kv old) old new o a → IsFreeToMove o nothing_open
+pub name_bytes : (x : Caller) (kv : Store Key Value) (old new : Attempted Key Delta) (o : Op (List ℕ)) (a : Answer) → IsNameStep x (seen kv old) old new o a
+    → IsFreeToMove o nothing_open
     → (P : List Place → Bool) (Q : Slice → Bool) → P [] ≡ true → MapBytes P Q (seen kv old) → MapBytes P Q (seen kv new)
 name_bytes x kv old new o a step free P Q hole map =
     let names = (step.is_call nothing_open free).names P Q hole map (nothing_kept P) (PiecesBytes-none P) tt in

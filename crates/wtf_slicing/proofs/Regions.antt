@@ -1,5 +1,6 @@
 -- A file that gets all regions of another.
-use Rattle.std.proofs.Common.{◌≡◌, ◌≢◌, ℕ, zero, suc, ◌+◌, ◌<◌, ◌≤◌, Bool, List, [], ◌∷◌, map, get_or, Option, None, Some, refl, sym, ap, ◌∙◌, subst, arith, inl, inr}
+use Rattle.std.proofs.Common.{◌≡◌, ◌≢◌, ℕ, zero, suc, ◌+◌, ◌<◌, ◌≤◌, Bool, List, [], ◌∷◌, map, get_or, Option, None, Some, refl, sym, ap, ◌∙◌, subst, arith}
+use Rattle.std.proofs.Common.{inl, inr}
 use Rattle.std.proofs.Math.Path.{fun_ext}
 use Rattle.std.proofs.lemmas.Bool.{cases_lt}
 use Rattle.wtf_base.specs.declared.ids.InodeId.{InodeId}
@@ -51,7 +52,8 @@ one_here i r None w none = none
 one_here i r (Some v) w none = put-same w (Region i r) (Some (value.Region v))
 
 -- regions that are set leave all keys but theirs
-elsewhere : (i : InodeId) (r : ℕ) (vs : List (Option RegionValue)) (w : Map) (q : Key) → ((k : ℕ) → r ≤ k → Region i k ≢ q) → with (put_regions i r vs) w q ≡ w q
+elsewhere : (i : InodeId) (r : ℕ) (vs : List (Option RegionValue)) (w : Map) (q : Key) → ((k : ℕ) → r ≤ k → Region i k ≢ q)
+    → with (put_regions i r vs) w q ≡ w q
 elsewhere i r [] w q differ = refl
 elsewhere i r (v ∷ vs) w q differ =
     ap (λ (m : Map). m q) (with-append (put_region i r v) (put_regions i (r + 1) vs) w)
@@ -68,7 +70,8 @@ apart i r q differ e = differ (ap number e)
     number (Region j s) = s
 
 -- and where the file had none there, it has just these
-regions_put : (i : InodeId) (r : ℕ) (vs : List (Option RegionValue)) (w : Map) (k : ℕ) → ((q : ℕ) → r ≤ q → w (Region i q) ≡ None) → with (put_regions i r vs) w (Region i (r + k)) ≡ as_value (get_or vs k None)
+regions_put : (i : InodeId) (r : ℕ) (vs : List (Option RegionValue)) (w : Map) (k : ℕ) → ((q : ℕ) → r ≤ q → w (Region i q) ≡ None)
+    → with (put_regions i r vs) w (Region i (r + k)) ≡ as_value (get_or vs k None)
 regions_put i r [] w k none = none (r + k) (omega arith)
 regions_put i r (v ∷ vs) w zero none =
     ap (λ (m : Map). m (Region i (r + 0))) (with-append (put_region i r v) (put_regions i (r + 1) vs) w)
@@ -90,7 +93,8 @@ puts_fit i r (v ∷ vs) w =
     Fits-append key_cmp outcome_of (put_region i r v) (put_regions i (r + 1) vs) w (one_fits i r v w) (puts_fit i (r + 1) vs (with (put_region i r v) w))
 
 pub fill_fits : (i : InodeId) (last : ℕ) (vs : List (Option RegionValue)) (w : Map) → AllFit (fill_edits i last vs) w
-fill_fits i last vs w = Fits-append key_cmp outcome_of (put_regions i 0 vs) (change.Delta (Inode i) (delta.Put (value.Last last)) ∷ []) w (puts_fit i 0 vs w) refl
+fill_fits i last vs w =
+    Fits-append key_cmp outcome_of (put_regions i 0 vs) (change.Delta (Inode i) (delta.Put (value.Last last)) ∷ []) w (puts_fit i 0 vs w) refl
 
 -- is of the file alone
 one_of : (i : InodeId) (r : ℕ) (v : Option RegionValue) → EachOf i (put_region i r v)
@@ -160,11 +164,13 @@ module _ (i : InodeId) (last : ℕ) (vs : List (Option RegionValue)) (w : Map) w
 
   fill_region : (r : ℕ) → ((q : ℕ) → w (Region i q) ≡ None) → filled (Region i r) ≡ as_value (get_or vs r None)
   fill_region r none =
-      parts (Region i r) ∙ put-other (with (put_regions i 0 vs) w) (Inode i) (Region i r) (Some (value.Last last)) (λ e. let bad : Inode i ≡ Region i r = e in absurd (cc))
+      parts (Region i r) ∙ put-other (with (put_regions i 0 vs) w) (Inode i) (Region i r) (Some (value.Last last))
+      (λ e. let bad : Inode i ≡ Region i r = e in absurd (cc))
       ∙ ap (λ (n : ℕ). with (put_regions i 0 vs) w (Region i n)) (let e : r ≡ 0 + r = omega arith in e) ∙ regions_put i 0 vs w r (λ q above. none q)
 
 -- the file has the bytes of the other one
-pub fill_body : (b : ℕ) (told : Told) (i j : InodeId) (v : FileView) (w u : Map) (bytes : List ℕ) → ((q : ℕ) → w (Region i q) ≡ None) → v.last ≡ (file_of j u).last
+pub fill_body : (b : ℕ) (told : Told) (i j : InodeId) (v : FileView) (w u : Map) (bytes : List ℕ) → ((q : ℕ) → w (Region i q) ≡ None)
+    → v.last ≡ (file_of j u).last
     → ((r : ℕ) → r ≤ v.last → v.region r ≡ (file_of j u).region r) → IsBody b told u j bytes → IsBody b told (filled i v.last (regions_of v) w) i bytes
 fill_body b told i j v w u bytes none last same body =
     let vs : List (Option RegionValue) = regions_of v in

@@ -55,23 +55,27 @@ looks keys lists = record { keys = keys; edits = []; facts = []; stored = []; li
 
 module _ (x : Caller) (b : Map) (s : SessionView) where
   -- a slice that was never set
-  pub no_slice : (label : ℕ) (o : Op (List ℕ)) → slice_in s label ≡ None → ((S : Session) → get S.slices label ≡ None → call (cap_for x) S o ≡ unchanged S (answer.Refused NoSlice))
+  pub no_slice : (label : ℕ) (o : Op (List ℕ)) → slice_in s label ≡ None
+      → ((S : Session) → get S.slices label ≡ None → call (cap_for x) S o ≡ unchanged S (answer.Refused NoSlice))
       → IsCall x b s s (only_keys []) o (answer.Refused NoSlice)
   no_slice label o e refused = stays_bare x b s o (answer.Refused NoSlice) (λ told w S st holds. refused S (no_slice_of told w s S holds label e))
 
   -- a part that passes a slice's end
-  pub peeks_past : (label off n : ℕ) (ps : List Piece) → slice_in s label ≡ Some ps → pieces_len ps < off + n → IsCall x b s s (only_keys []) (op.Peek label off n) (answer.Refused Range)
+  pub peeks_past : (label off n : ℕ) (ps : List Piece) → slice_in s label ≡ Some ps → pieces_len ps < off + n
+      → IsCall x b s s (only_keys []) (op.Peek label off n) (answer.Refused Range)
   peeks_past label off n ps e past = stays_bare x b s (op.Peek label off n) (answer.Refused Range) (λ told w S st holds.
       let sl = slice_of told w s S holds label ps e in
       peek-past (cap_for x) S label off n sl.bytes sl.there (omega (arith, sl.tell.len)))
 
-  pub cuts_past : (label off n made : ℕ) (ps : List Piece) → slice_in s label ≡ Some ps → pieces_len ps < off + n → IsCall x b s s (only_keys []) (op.Cut label off n made) (answer.Refused Range)
+  pub cuts_past : (label off n made : ℕ) (ps : List Piece) → slice_in s label ≡ Some ps → pieces_len ps < off + n
+      → IsCall x b s s (only_keys []) (op.Cut label off n made) (answer.Refused Range)
   cuts_past label off n made ps e past = stays_bare x b s (op.Cut label off n made) (answer.Refused Range) (λ told w S st holds.
       let sl = slice_of told w s S holds label ps e in
       cut-past (cap_for x) S label off n made sl.bytes sl.there (omega (arith, sl.tell.len)))
 
   -- a part that is shown
-  pub peeks : (label off n : ℕ) (ps out : List Piece) (bytes : List ℕ) → slice_in s label ≡ Some ps → off + n ≤ pieces_len ps → Plans out n (λ i. pieces_origin ps (off + i))
+  pub peeks : (label off n : ℕ) (ps out : List Piece) (bytes : List ℕ) → slice_in s label ≡ Some ps → off + n ≤ pieces_len ps
+      → Plans out n (λ i. pieces_origin ps (off + i))
       → IsCall x b s s (shows [] [] out bytes) (op.Peek label off n) (answer.Shown bytes)
   peeks label off n ps out bytes e within plans = record {
     fits = refl;
@@ -84,7 +88,8 @@ module _ (x : Caller) (b : Map) (s : SessionView) where
     acts = λ told w S agree fits facts lists st holds.
         let sl = slice_of told w s S holds label ps e in
         let inside : off + n ≤ length sl.bytes = omega (arith, within, sl.tell.len) in
-        let same : bytes ≡ part off n sl.bytes = TellBytes-one told (pieces_len out) (pieces_origin out) bytes (part off n sl.bytes) facts.0 (PiecesTell-cut told ps out sl.bytes off n sl.tell inside plans) in
+        let same : bytes ≡ part off n sl.bytes = TellBytes-one told (pieces_len out) (pieces_origin out) bytes (part off n sl.bytes) facts.0
+        (PiecesTell-cut told ps out sl.bytes off n sl.tell inside plans) in
         let due : call (cap_for x) S (op.Peek label off n) ≡ unchanged S (answer.Shown bytes) =
         peek-part (cap_for x) S label off n sl.bytes sl.there inside ∙ ap (λ (l : List ℕ). unchanged S (answer.Shown l)) (sym same) in
         subst (λ (d : Done). IsDone x told w w s d (answer.Shown bytes)) (sym due)
@@ -93,7 +98,8 @@ module _ (x : Caller) (b : Map) (s : SessionView) where
   }
 
   -- and one that is kept
-  pub cuts : (t : SessionView) (label off n made : ℕ) (ps out : List Piece) → slice_in s label ≡ Some ps → off + n ≤ pieces_len ps → Plans out n (λ i. pieces_origin ps (off + i))
+  pub cuts : (t : SessionView) (label off n made : ℕ) (ps out : List Piece) → slice_in s label ≡ Some ps → off + n ≤ pieces_len ps
+      → Plans out n (λ i. pieces_origin ps (off + i))
       → SetsSlice made (Some out) s t → IsCall x b s t (only_keys []) (op.Cut label off n made) answer.Okay
   cuts t label off n made ps out e within plans set = record {
     fits = refl;
@@ -135,13 +141,18 @@ module _ (x : Caller) (b : Map) (s : SessionView) where
         let all : List ℕ = bytes_of_handle S on.handle in
         let parts = Agree-parts (len_keys b h.inode) (keys_of h.inode (region_keys (touched x.size h.off k))) b w agree in
         let whole : file_len x.size (file_of h.inode b) ≡ length all = body_length x.size told h.inode b w all parts.0 on.body in
-        let low : length all ≤ MAX_REGIONS * x.size = subst (λ (j : ℕ). j ≤ MAX_REGIONS * x.size) on.body.bytes_are.len (file_len_cap x.size (file_of h.inode w) on.body.file) in
+        let low : length all ≤ MAX_REGIONS * x.size = subst (λ (j : ℕ). j ≤ MAX_REGIONS * x.size) on.body.bytes_are.len
+        (file_len_cap x.size (file_of h.inode w) on.body.file) in
         let most : k ≡ min n (length all - h.off) = omega (arith, count, whole, low) in
         let read = body_read x.size told h.inode b w all h.off n k ps pos parts.1 on.body most (reads.plans (lists_in x.size told) told_lists) in
         let bytes : List ℕ = part on.handle.off n all in
         let tell = subst (λ (o : ℕ). PiecesTell told ps (part o n all)) (sym on.of.off) read in
         let len : length bytes ≡ k = sym (tell.len) ∙ reads.len in
-        let due : call (cap_for x) S (op.Yank f n label) ≡ record { session = put_slice (moved S f on.handle (on.handle.off + k)) label bytes; answer = answer.Len k } =
+        let due : call (cap_for x) S (op.Yank f n label) ≡ record {
+          session = put_slice (moved S f on.handle (on.handle.off + k)) label bytes;
+          answer =
+              answer.Len k;
+        } =
         yank-open (cap_for x) S f n label on.handle on.there
         ∙ ap (λ (j : ℕ). record { session = put_slice (moved S f on.handle (on.handle.off + j)) label bytes; answer = answer.Len j }) len in
         let kept : Holds told w m (put_slice S label bytes) = holds-slice told w s m S holds label ps bytes put tell in
@@ -149,7 +160,8 @@ module _ (x : Caller) (b : Map) (s : SessionView) where
         subst (λ (d : Done). IsDone x told w w t d (answer.Len k)) (sym due) (record {
           answer = refl;
           stands = stands-same x.size told x.tx x.calls w S.tree st;
-          holds = holds-moved told w m t (put_slice S label bytes) kept f (on.handle.off + k) h on.handle (subst (λ (o : ℕ). SetsHandle f (Some (moved_to o h)) m t) to set) on.of;
+          holds = holds-moved told w m t (put_slice S label bytes) kept f (on.handle.off + k) h on.handle
+              (subst (λ (o : ℕ). SetsHandle f (Some (moved_to o h)) m t) to set) on.of;
           own = λ i other none. none;
         });
     feet = reads_feet x b s f h here (looks (len_keys b h.inode ++ keys_of h.inode (region_keys (touched x.size h.off k))) lists) (op.Yank f n label)
@@ -183,7 +195,8 @@ pub step_plain : (s t : SessionView) (x : Caller) (b : Map) (now : InHand) (o : 
 step_plain s t x b now o a e is =
     step_of x b now (in_hand now.at t) [] o a (GrowsBy-nothing now.at) (subst (λ (v : SessionView). IsCall x b v t (only_keys []) o a) (sym e) is)
 
-pub step_told : {S : Type 0} (kind : StoreKind S) (from into : List S) (s : SessionView) (x : Caller) (b : Map) (now : InHand) (o : Op (List ℕ)) (a : Answer) → now.session ≡ s → IsCall x b s s (only_keys []) o a
+pub step_told : {S : Type 0} (kind : StoreKind S) (from into : List S) (s : SessionView) (x : Caller) (b : Map) (now : InHand) (o : Op (List ℕ)) (a : Answer)
+    → now.session ≡ s → IsCall x b s s (only_keys []) o a
     → IsStepWith (TellsSlices kind from into s) x b now now o a
 step_told kind from into s x b now o a e is = record {
   did = only_keys [];

@@ -13,7 +13,8 @@ use Rattle.wtf_meta.specs.declared.session.Handle.{Handle}
 use Rattle.wtf_meta.proofs.Handling.{SliceOf, slice_at, unset_at}
 
 -- the bytes of a slice that was set
-pub slice_of : (told : Told) (w : Map) (s : SessionView) (S : Session) → Holds told w s S → (label : ℕ) (ps : List Piece) → slice_in s label ≡ Some ps → SliceOf told ps (get S.slices label)
+pub slice_of : (told : Told) (w : Map) (s : SessionView) (S : Session) → Holds told w s S → (label : ℕ) (ps : List Piece) → slice_in s label ≡ Some ps
+    → SliceOf told ps (get S.slices label)
 slice_of told w s S holds label ps e = slice_at told (slice_in s label) (get S.slices label) ps e (holds.slices label)
 
 -- and one that was never set is none there
@@ -21,7 +22,8 @@ pub no_slice_of : (told : Told) (w : Map) (s : SessionView) (S : Session) → Ho
 no_slice_of told w s S holds label e = unset_at told (slice_in s label) (get S.slices label) e (holds.slices label)
 
 -- what holds of the bytes of all slices does so once one is set, of whose bytes it holds
-pub bytes_set : (P : List Place → Bool) (s t : SessionView) (label : ℕ) (ps : List Piece) → SetsSlice label (Some ps) s t → PiecesBytes P ps → SessionBytes P s → SessionBytes P t
+pub bytes_set : (P : List Place → Bool) (s t : SessionView) (label : ℕ) (ps : List Piece) → SetsSlice label (Some ps) s t → PiecesBytes P ps → SessionBytes P s
+    → SessionBytes P t
 bytes_set P s t label ps set here old other qs e = ⊎_elim
     (λ same.
     let both : Some ps ≡ Some qs = sym set.is ∙ subst (λ (k : ℕ). slice_in t k ≡ Some qs) same e in

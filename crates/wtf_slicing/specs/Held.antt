@@ -1,27 +1,17 @@
 -- What each call leaves in hand, by what it sees, where it is not refused, and the lists of bases that it reads.
-use Rattle.std.specs.Prelude.{◌≡◌, ◌≤◌, ℕ, ◌+◌, List, [], Some, Result, Ok, IfOk}
-use Rattle.wtf_base.specs.declared.fault.Fault.{Fault}
+use Rattle.std.specs.Prelude.{◌≡◌, ◌≤◌, ℕ, ◌+◌, List, [], Some, Ok}
 use Rattle.wtf_base.specs.declared.ids.InodeId.{InodeId}
-use Rattle.wtf_dev.specs.Store.{StoreKind}
-use Rattle.wtf_occ.specs.Attempts.{Attempted, Grows}
 use Rattle.wtf_overlay.specs.Origin.{Plans, pieces_len, pieces_origin}
 use Rattle.wtf_overlay.specs.declared.part.Piece.{Piece}
 use Rattle.wtf_model.specs.declared.answer.Answer.{Answer}
-use Rattle.wtf_model.specs.Steps.{IsLogged}
-use Rattle.wtf_values.specs.declared.key.Key.{Key}
-use Rattle.wtf_values.specs.declared.value.Delta.{Delta}
 use Rattle.wtf_meta.specs.declared.session.Handle.{Handle}
 use Rattle.wtf_meta.specs.Lists.{ListFact}
 use Rattle.wtf_meta.specs.FileEdits.{file_of}
 use Rattle.wtf_meta.specs.Reads.{ReadsFile}
 use Rattle.wtf_meta.specs.Sessions.{SessionView, handle_in, slice_in, SetsHandle, SetsSlice, moved_to}
 use Rattle.wtf_meta.specs.Calls.{InHand}
-use Rattle.wtf_region.specs.declared.dev.Dev.{Dev}
-use Rattle.wtf_region.specs.Devs.{GoesOn, between}
-use Rattle.wtf_region.specs.Showing.{OnlyRead}
 use Rattle.wtf_region.specs.Bases.{slices_of, bases_in}
 use Rattle.wtf_steps.specs.Scenes.{Scene}
-use Rattle.wtf_steps.specs.Steps.{IsRefusal}
 use Rattle.wtf_steps.specs.Recorded.{found_in}
 use Rattle.wtf_steps.specs.Made.{Makes}
 use Rattle.wtf_steps.specs.Holding.{LeavesHand, MovesOn}
@@ -80,11 +70,3 @@ pub record SliceDone {S : Type 0} (sc : Scene S) (made : InodeId) (o : SliceOp) 
   pub recalls : RecallsFor sc.kind a (λ lists. SliceReads (sees sc made old.session lists) o) sc.before sc.after
   pub makes : Makes a (SliceMade (sees sc made old.session recalls.facts) o) old.at new.at
   pub holds : LeavesHand a (SliceHolds (sees sc made old.session recalls.facts) o) old.session new.session
-
--- What any call leaves of stores and attempt, whatever comes of it: it reads alone, a refusal leaves both, and no answer is a fault.
-pub record SliceLeft {S : Type 0} (kind : StoreKind S) (old new : Dev S) (from into : Attempted Key Delta) (r : Result Answer Fault) : Type 0 where
-  pub logged : IfOk r (λ a. IsLogged a)
-  pub refused : IfOk r (λ a. IsRefusal a → (new ≡ old) × (into.changes ≡ from.changes))
-  pub grows : Grows from into
-  pub reads : OnlyRead kind (between old new)
-  pub dev : GoesOn kind old new []

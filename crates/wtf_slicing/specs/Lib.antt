@@ -7,3 +7,4 @@ pub mod Sights
 pub mod Changed
 pub mod Held
 pub mod Ops
+pub mod Called

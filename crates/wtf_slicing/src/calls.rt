@@ -1,16 +1,13 @@
 //! Any of the calls.
 
-ghost use Rattle.std.specs.Prelude.{◌≡◌, ◌≤◌, ◌++◌, [], IfOk, IfErr, OnOk, OnErr, IsTrue};
+ghost use Rattle.std.specs.Prelude.{◌≡◌, ◌≤◌, OnErr, IsTrue};
 ghost use Rattle.wtf_kv.specs.Stores.{is_pinned};
-ghost use Rattle.wtf_occ.specs.Attempts.{Grows};
-ghost use Rattle.wtf_model.specs.Steps.{IsLogged};
 ghost use Rattle.wtf_meta.specs.Maps.{seen};
-ghost use Rattle.wtf_region.specs.Devs.{IsSoundDev, GoesOn, stores, between};
-ghost use Rattle.wtf_region.specs.Showing.{OnlyRead};
+ghost use Rattle.wtf_region.specs.Devs.{IsSoundDev, stores};
 ghost use Rattle.wtf_steps.specs.Scenes.{AreInside};
-ghost use Rattle.wtf_steps.specs.Steps.{in_hand, IsRefusal};
-ghost use Rattle.wtf_slicing.specs.Held.{SliceDone, SliceLeft};
-ghost use Rattle.wtf_slicing.specs.Ops.{IsFormSlice, IsSliceStep, slice_keys, IsSliceFault, MaySliceFault, NeedsNoStore};
+ghost use Rattle.wtf_steps.specs.Steps.{in_hand};
+ghost use Rattle.wtf_slicing.specs.Called.{SlicingOf, plain_of};
+ghost use Rattle.wtf_slicing.specs.Ops.{IsFormSlice};
 
 use crate::SliceOp;
 use crate::concats::concat;
@@ -19,7 +16,7 @@ use crate::cutting::{cut, peek};
 use crate::laying::{glue, paste};
 use crate::yanks::{Take, yank};
 use std::alloc::Global;
-use wtf_base::{Fault, InodeId};
+use wtf_base::{Fault, InodeId, OutOfMemory};
 use wtf_dev::SliceStore;
 use wtf_kv::Kv;
 use wtf_meta::Session;
@@ -27,6 +24,16 @@ use wtf_model::Answer;
 use wtf_occ::Attempt;
 use wtf_region::Dev;
 use wtf_values::{Key, Value};
+
+/// The outcome of a call that is lent no store.
+fn plain(answer: Result<Answer, OutOfMemory>) -> Result<Answer, Fault>
+    ensures { result ≡ plain_of answer }
+{
+    match answer {
+        Ok(answer) => Ok(answer),
+        Err(_) => Err(Fault::Memory),
+    }
+}
 
 /// The call itself. A fault leaves the session, and may leave the attempt grown.
 fn run<S: SliceStore>(
@@ -42,27 +49,12 @@ fn run<S: SliceStore>(
     requires pinned { IsTrue (is_pinned kv.now at.old.base) }
     requires form { IsFormSlice op.now }
     requires inside { AreInside S.kind (stores dev.old) dev.old.settings (seen kv.now at.old) s.old }
-    ensures keys { OnOk result (at.new.reads ≡ at.old.reads ++
-        slice_keys dev.old.settings.region (seen kv.now at.old) s.old op.now) }
-    ensures step { IfOk result (λ a. IsSliceStep (record {
+    ensures { SlicingOf (record {
       kind = S.kind;
       before = dev.old;
       after = dev.new;
       map = seen kv.now at.old;
-    }) dev.old.settings.region new (in_hand at.old s.old) (in_hand at.new s.new) op.now a) }
-    ensures done { IfOk result (λ a. SliceDone (record {
-      kind = S.kind;
-      before = dev.old;
-      after = dev.new;
-      map = seen kv.now at.old;
-    }) new op.now a (in_hand at.old s.old) (in_hand at.new s.new)) }
-    ensures fault { IfErr result
-        (IsSliceFault S.kind dev.old dev.new (seen kv.now at.old) s.old op.now) }
-    ensures due { IfErr result
-        (MaySliceFault dev.old.settings (seen kv.now at.old) s.old op.now) }
-    ensures err { OnErr result (s.new ≡ s.old) }
-    ensures left { SliceLeft S.kind dev.old dev.new at.old at.new result }
-    ensures still { NeedsNoStore op.now → dev.new ≡ dev.old }
+    }) new (in_hand at.old s.old) (in_hand at.new s.new) op.now result }
 {
     let settings = dev.settings;
     match op {
@@ -75,23 +67,11 @@ fn run<S: SliceStore>(
             return yank(alloc, dev, kv, at, s, take);
         }
         SliceOp::Peek { from, off, len } => return peek(alloc, dev, s, *from, *off, *len),
-        SliceOp::Cut { from, off, len, to } => match cut(alloc, s, *from, *off, *len, *to) {
-            Ok(answer) => return Ok(answer),
-            Err(_) => return Err(Fault::Memory),
-        },
-        SliceOp::Paste(f, label) => match paste(at, s, *f, *label, settings) {
-            Ok(answer) => return Ok(answer),
-            Err(_) => return Err(Fault::Memory),
-        },
-        SliceOp::Glue(f, label) => match glue(alloc, kv, at, s, *f, *label, settings) {
-            Ok(answer) => return Ok(answer),
-            Err(_) => return Err(Fault::Memory),
-        },
+        SliceOp::Cut { from, off, len, to } => return plain(cut(alloc, s, *from, *off, *len, *to)),
+        SliceOp::Paste(f, label) => return plain(paste(at, s, *f, *label, settings)),
+        SliceOp::Glue(f, label) => return plain(glue(alloc, kv, at, s, *f, *label, settings)),
         SliceOp::Concat(q, paths) => return concat(alloc, dev, kv, at, new, q, paths),
-        SliceOp::Copy(p, q) => match copy(alloc, kv, at, new, p, q) {
-            Ok(answer) => return Ok(answer),
-            Err(_) => return Err(Fault::Memory),
-        },
+        SliceOp::Copy(p, q) => return plain(copy(alloc, kv, at, new, p, q)),
     }
 }
 
@@ -114,34 +94,15 @@ pub fn call<S: SliceStore>(
     requires pinned { IsTrue (is_pinned kv.now at.old.base) }
     requires form { IsFormSlice op.now }
     requires inside { AreInside S.kind (stores dev.old) dev.old.settings (seen kv.now at.old) s.old }
-    ensures keys { OnOk result (at.new.reads ≡ at.old.reads ++
-        slice_keys dev.old.settings.region (seen kv.now at.old) s.old op.now) }
-    ensures step { IfOk result (λ a. IsSliceStep (record {
+    ensures call { SlicingOf (record {
       kind = S.kind;
       before = dev.old;
       after = dev.new;
       map = seen kv.now at.old;
-    }) dev.old.settings.region new (in_hand at.old s.old) (in_hand at.new s.new) op.now a) }
-    ensures done { IfOk result (λ a. SliceDone (record {
-      kind = S.kind;
-      before = dev.old;
-      after = dev.new;
-      map = seen kv.now at.old;
-    }) new op.now a (in_hand at.old s.old) (in_hand at.new s.new)) }
-    ensures logged { IfOk result (λ a. IsLogged a) }
-    ensures refused { IfOk result (λ a. IsRefusal a →
-        (dev.new ≡ dev.old) × (at.new.changes ≡ at.old.changes) × (s.new ≡ s.old)) }
+    }) new (in_hand at.old s.old) (in_hand at.new s.new) op.now result }
     ensures inside { 1 ≤ new.index →
         AreInside S.kind (stores dev.new) dev.old.settings (seen kv.now at.new) s.new }
-    ensures fault { IfErr result
-        (IsSliceFault S.kind dev.old dev.new (seen kv.now at.old) s.old op.now) }
-    ensures due { IfErr result
-        (MaySliceFault dev.old.settings (seen kv.now at.old) s.old op.now) }
     ensures err { OnErr result ((at.new ≡ at.old) × (s.new ≡ s.old)) }
-    ensures grows { Grows at.old at.new }
-    ensures still { NeedsNoStore op.now → dev.new ≡ dev.old }
-    ensures reads { OnlyRead S.kind (between dev.old dev.new) }
-    ensures dev { GoesOn S.kind dev.old dev.new [] }
 {
     let mark = at.mark();
     match run(alloc, dev, kv, at, s, new, op) {

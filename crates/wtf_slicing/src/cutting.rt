@@ -1,6 +1,6 @@
 //! The calls that show a part of a slice, and keep one as another slice.
 
-ghost use Rattle.std.specs.Prelude.{◌≡◌, ◌<◌, ◌≤◌, ◌+◌, ◌-◌, ◌^◌, [], ℕ, min, true, false, IfOk, IfErr, IfSome, OnErr};
+ghost use Rattle.std.specs.Prelude.{◌≡◌, ◌<◌, ◌≤◌, ◌+◌, ◌-◌, ◌^◌, ℕ, min, true, false, IfOk, IfErr, IfSome, OnErr};
 ghost use Rattle.wtf_overlay.specs.declared.part.Piece as piece;
 ghost use Rattle.wtf_overlay.specs.Origin.{part_origin, pieces_len, pieces_origin, Plans};
 ghost use Rattle.wtf_model.specs.Form.{IsSlice, IsNumber, IsShowable};
@@ -8,12 +8,12 @@ ghost use Rattle.wtf_model.specs.Steps.{IsLogged};
 ghost use Rattle.wtf_meta.specs.Maps.{Map};
 ghost use Rattle.wtf_meta.specs.Sessions.{SessionBytes, slice_in};
 ghost use Rattle.wtf_meta.specs.Calls.{Caller, InHand};
-ghost use Rattle.wtf_region.specs.Devs.{IsSoundDev, GoesOn, stores, remembered, between};
+ghost use Rattle.wtf_region.specs.Devs.{IsSoundDev, stores};
 ghost use Rattle.wtf_region.specs.Inside.{is_inside};
-ghost use Rattle.wtf_region.specs.Showing.{OnlyRead};
-ghost use Rattle.wtf_steps.specs.Steps.{in_hand, IsStepWith, NeedsNoBytes, IsRefusal};
+ghost use Rattle.wtf_steps.specs.Steps.{in_hand, IsStepWith, NeedsNoBytes};
 ghost use Rattle.wtf_steps.specs.Faults.{MayFault};
 ghost use Rattle.wtf_steps.specs.Holding.{LeavesHand};
+ghost use Rattle.wtf_slicing.specs.Called.{ShowsPart};
 ghost use Rattle.wtf_slicing.specs.Held.{Cuts};
 ghost use Rattle.wtf_slicing.specs.Shown.{TellsSlices, LacksSlice};
 
@@ -179,16 +179,11 @@ pub(crate) fn peek<S: SliceStore>(
     ensures step { IfOk result (λ a. (x : Caller) (b : Map) (now : InHand) → now.session ≡ s.old →
         IsStepWith (TellsSlices S.kind (stores dev.old) (stores dev.new) s.old) x b now now
         (Op.Peek from off len) a) }
-    ensures same { s.new ≡ s.old }
-    ensures logged { IfOk result (λ a. IsLogged a) }
-    ensures refused { IfOk result (λ a. IsRefusal a → dev.new ≡ dev.old) }
     ensures fault { IfErr result
         (LacksSlice S.kind dev.old dev.new (slice_in s.old from) off len) }
     ensures due { IfErr result (λ why. (b : Map) →
         MayFault dev.old.settings b s.old (Op.Peek from off len) why) }
-    ensures lists { remembered dev.new ≡ remembered dev.old }
-    ensures reads { OnlyRead S.kind (between dev.old dev.new) }
-    ensures dev { GoesOn S.kind dev.old dev.new [] }
+    ensures shows { ShowsPart S.kind dev.old dev.new s.old s.new result }
 {
     let Some(whole) = s.slice_len(from) else {
         return Ok(Answer::Refused(Word::NoSlice));

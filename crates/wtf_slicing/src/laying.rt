@@ -1,16 +1,15 @@
 //! The calls that lay a slice over a file, and add one at its end.
 
-ghost use Rattle.std.specs.Prelude.{◌≡◌, ◌+◌, ◌++◌, IsTrue, IfOk, OnOk, OnErr};
+ghost use Rattle.std.specs.Prelude.{◌≡◌, ◌+◌, ◌++◌, IsTrue, IfOk, OnOk};
 ghost use Rattle.wtf_kv.specs.Stores.{is_pinned};
-ghost use Rattle.wtf_occ.specs.Attempts.{Grows};
 ghost use Rattle.wtf_model.specs.Form.{IsHandle, IsSlice};
-ghost use Rattle.wtf_model.specs.Steps.{IsLogged};
 ghost use Rattle.wtf_meta.specs.Maps.{Map, seen};
 ghost use Rattle.wtf_meta.specs.Sessions.{handle_in, slice_in};
 ghost use Rattle.wtf_meta.specs.Calls.{Caller};
-ghost use Rattle.wtf_steps.specs.Steps.{in_hand, IsStepWith, NeedsNoBytes, IsRefusal};
+ghost use Rattle.wtf_steps.specs.Steps.{in_hand, IsStepWith, NeedsNoBytes};
 ghost use Rattle.wtf_steps.specs.Made.{Makes, LaysAt, AddsAt};
 ghost use Rattle.wtf_steps.specs.Holding.{LeavesHand};
+ghost use Rattle.wtf_slicing.specs.Called.{LaysSlice};
 ghost use Rattle.wtf_slicing.specs.Recorded.{glue_keys};
 ghost use Rattle.wtf_slicing.specs.Changed.{kept_pieces};
 ghost use Rattle.wtf_slicing.specs.Held.{Pastes};
@@ -46,10 +45,7 @@ pub(crate) fn paste(
     ensures made { IfOk result (λ a. Makes a (LaysAt settings.region (handle_in s.old f)
         (kept_pieces s.old label)) at.old at.new) }
     ensures holds { IfOk result (λ a. LeavesHand a (Pastes f label) s.old s.new) }
-    ensures logged { IfOk result (λ a. IsLogged a) }
-    ensures refused { IfOk result (λ a. IsRefusal a → at.new.changes ≡ at.old.changes) }
-    ensures err { OnErr result (s.new ≡ s.old) }
-    ensures grows { Grows at.old at.new }
+    ensures lays { LaysSlice (in_hand at.old s.old) (in_hand at.new s.new) result }
 {
     let Some(spot) = handle_of(s, f) else {
         return Ok(Answer::Refused(Word::NoHandle));
@@ -90,9 +86,7 @@ pub(crate) fn glue(
         (in_hand at.new s.now) (Op.Glue f label) a) }
     ensures made { IfOk result (λ a. Makes a (AddsAt settings.region (seen kv.now at.old)
         (handle_in s.now f) (kept_pieces s.now label)) at.old at.new) }
-    ensures logged { IfOk result (λ a. IsLogged a) }
-    ensures refused { IfOk result (λ a. IsRefusal a → at.new.changes ≡ at.old.changes) }
-    ensures grows { Grows at.old at.new }
+    ensures lays { LaysSlice (in_hand at.old s.now) (in_hand at.new s.now) result }
 {
     let Some(spot) = handle_of(s, f) else {
         return Ok(Answer::Refused(Word::NoHandle));

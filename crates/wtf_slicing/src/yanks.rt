@@ -1,6 +1,6 @@
 //! The call that takes a slice out of a file.
 
-ghost use Rattle.std.specs.Prelude.{◌≡◌, ◌++◌, IfOk, IfErr, OnOk, OnErr, IsTrue};
+ghost use Rattle.std.specs.Prelude.{◌≡◌, ◌++◌, IfOk, IfErr, OnOk, IsTrue};
 ghost use Rattle.wtf_kv.specs.Stores.{is_pinned};
 ghost use Rattle.wtf_base.specs.declared.ids.InodeId.{InodeId};
 ghost use Rattle.wtf_model.specs.Form.{IsHandle, IsSlice};
@@ -13,7 +13,8 @@ ghost use Rattle.wtf_steps.specs.Faults.{MayFault};
 ghost use Rattle.wtf_steps.specs.Recorded.{read_keys};
 ghost use Rattle.wtf_steps.specs.Steps.{in_hand, IsStepWith};
 ghost use Rattle.wtf_slicing.specs.declared.op.SliceOp.TheVariants.{Yank};
-ghost use Rattle.wtf_slicing.specs.Held.{SliceDone, SliceLeft};
+ghost use Rattle.wtf_slicing.specs.Called.{TakesSlice};
+ghost use Rattle.wtf_slicing.specs.Held.{SliceDone};
 ghost use Rattle.wtf_slicing.specs.Ops.{IsYankFault};
 ghost use Rattle.wtf_slicing.specs.Shown.{TellsLists};
 
@@ -74,8 +75,8 @@ pub(crate) fn yank<S: SliceStore>(
         (handle_in s.old take.handle) take.len) }
     ensures due { IfErr result (MayFault dev.old.settings (seen kv.now at.old) s.old
         (Op.Yank take.handle take.len take.slice)) }
-    ensures err { OnErr result (s.new ≡ s.old) }
-    ensures left { SliceLeft S.kind dev.old dev.new at.old at.new result }
+    ensures takes { TakesSlice S.kind dev.old dev.new (in_hand at.old s.old) (in_hand at.new s.new)
+        result }
 {
     let Some(spot) = handle_of(s, take.handle) else {
         return Ok(Answer::Refused(Word::NoHandle));

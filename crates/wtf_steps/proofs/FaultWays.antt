@@ -1,5 +1,6 @@
 -- Bytes that were not shown, and lists that were not read: some bytes were due, and the server that failed is one of the settings.
-use Rattle.std.proofs.Common.{◌≡◌, ℕ, zero, suc, ◌+◌, ◌-◌, ◌<◌, ◌≤◌, nat_eq, nat_le, Bool, true, false, List, [], ◌∷◌, ◌++◌, length, map, if◌then◌else◌, Option, None, Some, refl, sym, ap, ◌∙◌, subst, arith}
+use Rattle.std.proofs.Common.{◌≡◌, ℕ, zero, suc, ◌+◌, ◌-◌, ◌<◌, ◌≤◌, nat_eq, nat_le, Bool, true, false, List, [], ◌∷◌, ◌++◌, length, map, if◌then◌else◌, Option}
+use Rattle.std.proofs.Common.{None, Some, refl, sym, ap, ◌∙◌, subst, arith}
 use Rattle.std.specs.Prelude.{⊤}
 use Rattle.std.specs.List.{All}
 use Rattle.std.proofs.lemmas.Bool.{and_parts}
@@ -55,7 +56,8 @@ no_pieces off (p ∷ ps) = refl
 -- where one of the pieces was not shown, some byte was to be shown
 pub some_byte : (n : ℕ) (ps before : List Piece) (p : Piece) (after : List Piece) → pieces_in 0 n ps ≡ before ++ p ∷ after → 0 < n
 some_byte zero ps before p after split =
-    let none : 0 ≡ length before + suc (length after) = ap length (sym (no_pieces 0 ps) ∙ split) ∙ length-append before (p ∷ after) in absurd (omega (arith, none))
+    let none : 0 ≡ length before + suc (length after) = ap length (sym (no_pieces 0 ps) ∙ split) ∙ length-append before (p ∷ after) in
+    absurd (omega (arith, none))
 some_byte (suc n) ps before p after split = omega arith
 
 -- the servers of a byte's places are of the settings
@@ -64,21 +66,25 @@ pub servers_known : {S : Type 0} (kind : StoreKind S) (shelf : List S) (settings
 servers_known kind shelf settings i [] enough h = All-nil (λ (p : Pointer). p.server.0 < settings.servers)
 servers_known kind shelf settings i (p ∷ ps) enough h =
     let both = and_parts (is_place_inside kind shelf settings (place_in i p)) (is_inside kind shelf settings (map (place_in i) ps)) h in
-    All-cons (λ (q : Pointer). q.server.0 < settings.servers) p ps (place_from kind shelf settings (place_in i p) enough both.0).0 (servers_known kind shelf settings i ps enough both.1)
+    All-cons (λ (q : Pointer). q.server.0 < settings.servers) p ps (place_from kind shelf settings (place_in i p) enough both.0).0
+    (servers_known kind shelf settings i ps enough both.1)
 
 last_known : (n k : ℕ) (ps : List Pointer) → k < n → All (λ (p : Pointer). p.server.0 < n) ps → last_server ps k < n
 last_known n k [] low all = low
-last_known n k (p ∷ ps) low all = last_known n p.server.0 ps (All-head (λ (q : Pointer). q.server.0 < n) p ps all) (All-tail (λ (q : Pointer). q.server.0 < n) p ps all)
+last_known n k (p ∷ ps) low all =
+    last_known n p.server.0 ps (All-head (λ (q : Pointer). q.server.0 < n) p ps all) (All-tail (λ (q : Pointer). q.server.0 < n) p ps all)
 
 -- and so is that of the copy that was tried last
-pub lacks_known : {S : Type 0} (kind : StoreKind S) (t : Span S) (shelf : List S) (settings : Settings) (n k : ℕ) (ps : List Piece) → settings.servers ≤ length shelf
+pub lacks_known : {S : Type 0} (kind : StoreKind S) (t : Span S) (shelf : List S) (settings : Settings) (n k : ℕ) (ps : List Piece)
+    → settings.servers ≤ length shelf
     → PiecesBytes (is_inside kind shelf settings) ps → LacksPiece kind t (pieces_in 0 n ps) k → k < settings.servers
 lacks_known kind t shelf settings n k ps enough named lacks =
     let P : Piece → Type 0 = λ p. PartBytes (is_inside kind shelf settings) p.len p.part in
     let part_named : PartBytes (is_inside kind shelf settings) lacks.piece.len lacks.piece.part =
     All-middle P lacks.before lacks.piece lacks.after (subst (λ (l : List Piece). All P l) lacks.split (pieces_in-All P 0 n ps named)) in
     let slice = lacks.lacks.slice in
-    let held : PartBytes (is_inside kind shelf settings) lacks.piece.len (Held slice) = subst (λ (q : Part). PartBytes (is_inside kind shelf settings) lacks.piece.len q) lacks.lacks.held part_named in
+    let held : PartBytes (is_inside kind shelf settings) lacks.piece.len (Held slice) = subst
+    (λ (q : Part). PartBytes (is_inside kind shelf settings) lacks.piece.len q) lacks.lacks.held part_named in
     let known = servers_known kind shelf settings 0 (pointers_of slice) enough (held 0 lacks.piece.positive) in
     subst (λ (j : ℕ). j < settings.servers) lacks.lacks.out.last (last_known settings.servers 0 (pointers_of slice) (omega (arith, settings.limits)) known)
 

@@ -64,7 +64,9 @@ module _ (x : Caller) (told : Told) (w : Map) (s : SessionView) (S : Session) (s
       (stands-rewritten x.size told x.tx x.calls w S.tree st h.path h.inode on.of.leads ds bytes body told_edits)
 
   holds_due : Holds told new s due
-  holds_due = Holds-on told w new s S due.tree (λ g k there leads. leads-rewritten x.size told x.tx x.calls w S.tree st h.path h.inode on.of.leads ds k.path k.inode leads) holds
+  holds_due =
+      Holds-on told w new s S due.tree (λ g k there leads. leads-rewritten x.size told x.tx x.calls w S.tree st h.path h.inode on.of.leads ds k.path k.inode
+      leads) holds
 
   -- the file's bytes change
   pub rewritten : IsBody x.size told new h.inode bytes → EditsBytes (is_told told) (is_listed x.size told) (edits_of h.inode ds)
@@ -84,42 +86,48 @@ module _ (x : Caller) (told : Told) (w : Map) (s : SessionView) (S : Session) (s
     answer = refl;
     stands = stands_due body told_edits;
     holds = holds-moved told new s t due holds_due f off h on.handle set
-        (record { path = on.of.path; off = on.of.off; leads = leads-rewritten x.size told x.tx x.calls w S.tree st h.path h.inode on.of.leads ds h.path h.inode on.of.leads });
+        (record {
+          path = on.of.path;
+          off = on.of.off;
+          leads = leads-rewritten x.size told x.tx x.calls w S.tree st h.path h.inode on.of.leads ds h.path h.inode
+              on.of.leads;
+        });
     own = own-rewritten x.size told x.tx x.calls w S.tree st h.path h.inode on.of.leads ds;
   }
 
 module _ (x : Caller) (b : Map) (s : SessionView) (f : ℕ) (h : Handle) (here : handle_in s f ≡ Some h) where
   module _ (t : SessionView) (ds : List FileEdit) (ps : List Piece) (bytes : List ℕ) (some : 0 < length bytes) (fit : h.off + length bytes ≤ cap_for x)
-      (len : pieces_len ps ≡ length bytes) (lays : LaysPieces x.size h.off h.inode ps ds) (set : SetsHandle f (Some (moved_to (h.off + length bytes) h)) s t) where
-    written_acts : DoneOnEach x b s t (brings h.inode [] ds ps bytes) (op.Write f bytes) answer.Okay
-    written_acts = λ told w S agree fits facts lists st holds.
-        let on = on_file x told w s S st holds f h here in
-        let old : List ℕ = bytes_of_handle S on.handle in
-        let off : ℕ = on.handle.off in
-        let here_lays : Lays x.size ds off (pieces_len ps) (pieces_origin ps) =
-        subst (λ (o : ℕ). Lays x.size ds o (pieces_len ps) (pieces_origin ps)) (sym on.of.off) lays.lays in
-        let here_set : SetsHandle f (Some (moved_to (off + length bytes) h)) s t =
-        subst (λ (o : ℕ). SetsHandle f (Some (moved_to (o + length bytes) h)) s t) (sym on.of.off) set in
-        subst (λ (d : Done). IsDone x told w (with (edits_of h.inode ds) w) t d answer.Okay)
-        (sym (write-open (cap_for x) S f on.handle on.there bytes some (omega (arith, fit, on.of.off))))
-        (rewritten_moved x told w s S st holds f h on ds (written old off bytes) t (off + length bytes) here_set
-        (body_written x.size told h.inode ds w off (pieces_len ps) (pieces_origin ps) old bytes (omega (arith, some, len)) here_lays facts.0 on.body)
-        (lays.names (is_told told) (is_listed x.size told) (told_pieces told ps bytes facts.0)))
+      (len : pieces_len ps ≡ length bytes) (lays : LaysPieces x.size h.off h.inode ps ds) (set : SetsHandle f (Some (moved_to (h.off + length bytes) h)) s t)
+    where
+      written_acts : DoneOnEach x b s t (brings h.inode [] ds ps bytes) (op.Write f bytes) answer.Okay
+      written_acts = λ told w S agree fits facts lists st holds.
+          let on = on_file x told w s S st holds f h here in
+          let old : List ℕ = bytes_of_handle S on.handle in
+          let off : ℕ = on.handle.off in
+          let here_lays : Lays x.size ds off (pieces_len ps) (pieces_origin ps) =
+          subst (λ (o : ℕ). Lays x.size ds o (pieces_len ps) (pieces_origin ps)) (sym on.of.off) lays.lays in
+          let here_set : SetsHandle f (Some (moved_to (off + length bytes) h)) s t =
+          subst (λ (o : ℕ). SetsHandle f (Some (moved_to (o + length bytes) h)) s t) (sym on.of.off) set in
+          subst (λ (d : Done). IsDone x told w (with (edits_of h.inode ds) w) t d answer.Okay)
+          (sym (write-open (cap_for x) S f on.handle on.there bytes some (omega (arith, fit, on.of.off))))
+          (rewritten_moved x told w s S st holds f h on ds (written old off bytes) t (off + length bytes) here_set
+          (body_written x.size told h.inode ds w off (pieces_len ps) (pieces_origin ps) old bytes (omega (arith, some, len)) here_lays facts.0 on.body)
+          (lays.names (is_told told) (is_listed x.size told) (told_pieces told ps bytes facts.0)))
 
-    -- bytes that are written
-    pub writes : IsCall x b s t (brings h.inode [] ds ps bytes) (op.Write f bytes) answer.Okay
-    writes = record {
-      fits = fits_anywhere h.inode ds b (lays.lays.fit (file_of h.inode b));
-      names = λ P Q hole map old stored lists. record {
-        edits = lays.names P Q stored;
-        facts = (stored, tt);
-        slices = λ label qs e. old label qs (sym (set.slices label) ∙ e);
-        lists = tt;
-      };
-      acts = written_acts;
-      feet = lays_feet x b s f h here (brings h.inode [] ds ps bytes) (op.Write f bytes) t written_acts (λ S. refl) ds refl refl
-          (λ m. fits_anywhere h.inode ds m (lays.lays.fit (file_of h.inode m)));
-    }
+      -- bytes that are written
+      pub writes : IsCall x b s t (brings h.inode [] ds ps bytes) (op.Write f bytes) answer.Okay
+      writes = record {
+        fits = fits_anywhere h.inode ds b (lays.lays.fit (file_of h.inode b));
+        names = λ P Q hole map old stored lists. record {
+          edits = lays.names P Q stored;
+          facts = (stored, tt);
+          slices = λ label qs e. old label qs (sym (set.slices label) ∙ e);
+          lists = tt;
+        };
+        acts = written_acts;
+        feet = lays_feet x b s f h here (brings h.inode [] ds ps bytes) (op.Write f bytes) t written_acts (λ S. refl) ds refl refl
+            (λ m. fits_anywhere h.inode ds m (lays.lays.fit (file_of h.inode m)));
+      }
 
   module _ (ds : List FileEdit) (ps : List Piece) (bytes : List ℕ) (adds : AddsPieces x.size h.inode (file_of h.inode b) ps ds) where
     abbrev adds_keys : List FileKey

@@ -1,5 +1,6 @@
 -- Changes of a file that fit the file that a map shows fit on the map, also where it has values of other kinds there.
-use Rattle.std.proofs.Common.{◌≡◌, ◌≢◌, ◌⊎◌, ℕ, Bool, true, false, if◌then◌else◌, nat_eq, nat_le, nat_lt, ◌+◌, ◌&&◌, arith, List, [], ◌∷◌, Option, None, Some, refl, ap, sym, ◌∙◌, subst, inl, inr, cond}
+use Rattle.std.proofs.Common.{◌≡◌, ◌≢◌, ◌⊎◌, ℕ, Bool, true, false, if◌then◌else◌, nat_eq, nat_le, nat_lt, ◌+◌, ◌&&◌, arith, List, [], ◌∷◌, Option, None, Some}
+use Rattle.std.proofs.Common.{refl, ap, sym, ◌∙◌, subst, inl, inr, cond}
 use Rattle.std.proofs.lemmas.Bool.{cases_eq, cond-true, cond-false, eq-eqb, ne_eqb, and_parts}
 use Rattle.std.proofs.lemmas.Bool.Decides.{nat_tests}
 use Rattle.std.specs.BTreeMap.{is_at}
@@ -22,7 +23,8 @@ use Rattle.wtf_values.proofs.KeyLaws.{at_itself, between_own}
 use Rattle.wtf_values.proofs.OutcomeLaws.{fits-missing, fits-region}
 use Rattle.wtf_meta.specs.Maps.{Map, AllFit}
 use Rattle.wtf_meta.specs.Files.{FileView}
-use Rattle.wtf_meta.specs.FileEdits.{region_of, file_of, IsRegion, FileEdit, Push, PushRel, Clip, ZeroWithin, CutAbove, RaiseLast, SetLast, Put, LAST_REGION, edit_of, edits_of, put_region, lies_above, fits_edit, after_edit, all_fit}
+use Rattle.wtf_meta.specs.FileEdits.{region_of, file_of, IsRegion, FileEdit, Push, PushRel, Clip, ZeroWithin, CutAbove, RaiseLast, SetLast, Put, LAST_REGION}
+use Rattle.wtf_meta.specs.FileEdits.{edit_of, edits_of, put_region, lies_above, fits_edit, after_edit, all_fit}
 use Rattle.wtf_meta.proofs.Steps.{step, made, Does, does_push, does_clip, does_zero, does_rel}
 use Rattle.wtf_meta.proofs.Frame.{delta_elsewhere}
 use Rattle.wtf_meta.proofs.Fitting.{fits_here, AllFit-more}
@@ -86,7 +88,8 @@ region_tells : (i : InodeId) (r : ℕ) (w : Map) (v : FileView) (d : Delta) (f :
     → Tells i (step (change.Delta (Region i r) d) w) (put_region v r (f (v.region r)))
 region_tells i r w v d f does keeps tells q is = elim (cases_eq q r) [
   | inl e ↦
-      let here : step (change.Delta (Region i r) d) w (Region i q) ≡ made (w (Region i r)) d = ap (λ k. step (change.Delta (Region i r) d) w (Region i k)) e ∙ at_region i r w d in
+      let here : step (change.Delta (Region i r) d) w (Region i q) ≡ made (w (Region i r)) d = ap (λ k. step (change.Delta (Region i r) d) w (Region i k)) e
+      ∙ at_region i r w d in
       let was : IsRegion (w (Region i r)) = keeps (w (Region i r)) (subst IsRegion here is) in
       ap region_of here ∙ does.value (w (Region i r)) was ∙ ap f (tells r was) ∙ sym (cond-true (nat_eq q r) (f (v.region r)) (v.region q) (eq-eqb q r e))
   | inr differ ↦
@@ -123,7 +126,8 @@ above_is : (i : InodeId) (r q : ℕ) → is_between key_cmp (Region i (r + 1)) (
 above_is i r q = between_own i (r + 1) LAST_REGION q ∙ ap (λ t. t && nat_le q LAST_REGION) (le_next r q)
 
 -- what a cut leaves
-cut_value : (b : Bool) (now : Option Value) (o : Option RegionValue) → IsRegion (cond b None now) → (IsRegion now → region_of now ≡ o) → region_of (cond b None now) ≡ (if b then None else o)
+cut_value : (b : Bool) (now : Option Value) (o : Option RegionValue) → IsRegion (cond b None now) → (IsRegion now → region_of now ≡ o)
+    → region_of (cond b None now) ≡ (if b then None else o)
 cut_value true now o is same = refl
 cut_value false now o is same = same is
 
@@ -131,7 +135,8 @@ one_tells : (i : InodeId) (d : FileEdit) (w : Map) (v : FileView) → Tells i w 
 one_tells i (Push r e) w v tells = region_tells i r w v (delta.Push e) (λ now. Some (pushed now e)) (does_push e) (keeps_push e) tells
 one_tells i (PushRel r ps b) w v tells = region_tells i r w v (delta.PushRel ps b) (λ now. added now ps b) (does_rel ps b) (keeps_rel ps b) tells
 one_tells i (Clip r end) w v tells = region_tells i r w v (delta.Clip end) (λ now. Some (clipped end now)) (does_clip end) (keeps_clip end) tells
-one_tells i (ZeroWithin r from upto) w v tells = region_tells i r w v (delta.ZeroWithin from upto) (zeroed from upto) (does_zero from upto) (keeps_zero from upto) tells
+one_tells i (ZeroWithin r from upto) w v tells =
+    region_tells i r w v (delta.ZeroWithin from upto) (zeroed from upto) (does_zero from upto) (keeps_zero from upto) tells
 one_tells i (CutAbove r) w v tells = λ q is.
     cut_value (is_between key_cmp (Region i (r + 1)) (Region i LAST_REGION) (Region i q)) (w (Region i q)) (v.region q) is (tells q)
     ∙ ap (λ (t : Bool). if t then None else v.region q) (above_is i r q)
@@ -140,7 +145,8 @@ one_tells i (Put r x) w v tells = put_tells i r w v x tells
 one_tells i (SetLast r) w v tells = last_tells i w v (after_edit (SetLast r) v) (delta.SetLast r) refl tells
 
 -- pieces fit on a value of another kind too
-rel_fits : (now : Option Value) (o : Option RegionValue) (ps : List Piece) (b : ℕ) → (IsRegion now → region_of now ≡ o) → fits_at_end o ps b ≡ true → fits (outcome_of now (delta.PushRel ps b)) ≡ true
+rel_fits : (now : Option Value) (o : Option RegionValue) (ps : List Piece) (b : ℕ) → (IsRegion now → region_of now ≡ o) → fits_at_end o ps b ≡ true
+    → fits (outcome_of now (delta.PushRel ps b)) ≡ true
 rel_fits None o ps b same h = fits-missing ps b ∙ ap (λ v. fits_at_end v ps b) (same tt) ∙ h
 rel_fits (Some (value.Region v)) o ps b same h = fits-region v ps b ∙ ap (λ u. fits_at_end u ps b) (same tt) ∙ h
 rel_fits (Some (value.Last n)) o ps b same h = refl

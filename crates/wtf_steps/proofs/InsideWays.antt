@@ -14,8 +14,10 @@ use Rattle.wtf_region.proofs.InsideLaws.{inside_stays}
 use Rattle.wtf_steps.specs.Scenes.{AreInside}
 
 -- also where nothing but the stores goes on
-pub stays_inside : {S : Type 0} {kind : StoreKind S} → KindLaws kind → (old new : Dev S) (w u : Map) (s t : SessionView) → old.settings.servers ≤ length (stores old)
-    → EachFollows kind (stores old) (stores new) [] → u ≡ w → t ≡ s → AreInside kind (stores old) old.settings w s → AreInside kind (stores new) old.settings u t
+pub stays_inside : {S : Type 0} {kind : StoreKind S} → KindLaws kind → (old new : Dev S) (w u : Map) (s t : SessionView)
+    → old.settings.servers ≤ length (stores old)
+    → EachFollows kind (stores old) (stores new) [] → u ≡ w → t ≡ s → AreInside kind (stores old) old.settings w s
+    → AreInside kind (stores new) old.settings u t
 stays_inside {kind = kind} laws old new w u s t enough each map hand were =
     let P : List Place → Bool = is_inside kind (stores old) old.settings in
     let R : List Place → Bool = is_inside kind (stores new) old.settings in

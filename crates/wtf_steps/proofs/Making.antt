@@ -29,7 +29,8 @@ makes_nothing a F old new none same = record {
 }
 
 -- nor where the call was refused
-pub makes_refused : (a : Answer) (word : Word) (F : Edits → Type 0) (old new : Attempted Key Delta) → a ≡ answer.Refused word → new.changes ≡ old.changes → Makes a F old new
+pub makes_refused : (a : Answer) (word : Word) (F : Edits → Type 0) (old new : Attempted Key Delta) → a ≡ answer.Refused word → new.changes ≡ old.changes
+    → Makes a F old new
 makes_refused a word F old new is same = record {
   edits = [];
   changes = same ∙ sym (append-nil old.changes);
@@ -51,7 +52,8 @@ pub keeps_changes : (old new : Attempted Key Delta) (ks : List Key) → GrowsBy 
 keeps_changes old new ks went = went.changes ∙ append-nil old.changes
 
 -- the same answer and changes by other names
-pub makes_as : (a r : Answer) (F G : Edits → Type 0) (old new : Attempted Key Delta) → a ≡ r → ((cs : Edits) → F cs → G cs) → Makes r F old new → Makes a G old new
+pub makes_as : (a r : Answer) (F G : Edits → Type 0) (old new : Attempted Key Delta) → a ≡ r → ((cs : Edits) → F cs → G cs) → Makes r F old new
+    → Makes a G old new
 makes_as a r F G old new is weaker is_made = subst (λ (q : Answer). Makes q G old new) (sym is) (record {
   edits = is_made.edits;
   changes = is_made.changes;
@@ -66,15 +68,18 @@ lays_none b (Some h) = ([], refl, laid_none b h.off)
 
 pub adds_none : (b : ℕ) (w : Map) (o : Option Handle) → AddsAt b w o [] []
 adds_none b w None = refl
-adds_none b w (Some h) = ([], refl, record { none = λ e. refl; fits = λ more room. absurd (omega (arith, more)); laid = λ more full. absurd (omega (arith, more)) })
+adds_none b w (Some h) =
+    ([], refl, record { none = λ e. refl; fits = λ more room. absurd (omega (arith, more)); laid = λ more full. absurd (omega (arith, more)) })
 
 -- changes of the file of a handle
-pub of_file : (F : Handle → List FileEdit → Type 0) (o : Option Handle) (h : Handle) (i : InodeId) (ds : List FileEdit) → o ≡ Some h → i ≡ h.inode → F h ds → OfFile o F (edits_of i ds)
+pub of_file : (F : Handle → List FileEdit → Type 0) (o : Option Handle) (h : Handle) (i : InodeId) (ds : List FileEdit) → o ≡ Some h → i ≡ h.inode → F h ds
+    → OfFile o F (edits_of i ds)
 of_file F o h i ds here inode has =
     subst (λ (r : Option Handle). OfFile r F (edits_of i ds)) (sym here) (ds, ap (λ (j : InodeId). edits_of j ds) inode, has)
 
 -- pieces that were laid at a handle's offset
-pub makes_laid : (b : ℕ) (o : Option Handle) (h : Handle) (i : InodeId) (off : ℕ) (ps : List Piece) (old new : Attempted Key Delta) → o ≡ Some h → i ≡ h.inode → off ≡ h.off
+pub makes_laid : (b : ℕ) (o : Option Handle) (h : Handle) (i : InodeId) (off : ℕ) (ps : List Piece) (old new : Attempted Key Delta) → o ≡ Some h → i ≡ h.inode
+    → off ≡ h.off
     → Edited i [] (LaysPieces b off i ps) old new → Makes answer.Okay (LaysAt b o ps) old new
 makes_laid b o h i off ps old new here inode at edited =
     makes_these (LaysAt b o ps) (edits_of i edited.edits) old new edited.grows.changes
@@ -82,7 +87,8 @@ makes_laid b o h i off ps old new here inode at edited =
     (subst (λ (k : ℕ). IsLaid b k ps edited.edits) at edited.does.exact))
 
 -- whatever came of pieces that were added at its file's end
-pub makes_added : (b : ℕ) (w : Map) (o : Option Handle) (h : Handle) (i : InodeId) (ps : List Piece) (old new : Attempted Key Delta) (r : Added) → o ≡ Some h → i ≡ h.inode
+pub makes_added : (b : ℕ) (w : Map) (o : Option Handle) (h : Handle) (i : InodeId) (ps : List Piece) (old new : Attempted Key Delta) (r : Added) → o ≡ Some h
+    → i ≡ h.inode
     → IsAdded b i (file_of i w) ps old new r → Makes (answer_of r) (AddsAt b w o ps) old new
 makes_added b w o h i ps old new added.Done here inode is =
     makes_these (AddsAt b w o ps) (edits_of i is.edits) old new is.grows.changes

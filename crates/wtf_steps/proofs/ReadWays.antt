@@ -39,7 +39,8 @@ same_plans ps from off k g is plans = record {
 }
 
 -- the bytes that were found, as they are due
-pub found_due : (cap z len off n k : ℕ) (i : InodeId) (w : Map) (h : Handle) → k ≡ found cap len off n → cap ≡ MAX_REGIONS * z → len ≡ file_len z (file_of i w) → i ≡ h.inode → off ≡ h.off → k ≡ found_in z w h n
+pub found_due : (cap z len off n k : ℕ) (i : InodeId) (w : Map) (h : Handle) → k ≡ found cap len off n → cap ≡ MAX_REGIONS * z → len ≡ file_len z (file_of i w)
+    → i ≡ h.inode → off ≡ h.off → k ≡ found_in z w h n
 found_due cap z len off n k i w h is caps lens inode offs =
     is ∙ ap (λ (c : ℕ). found c len off n) caps ∙ ap (λ (l : ℕ). found (MAX_REGIONS * z) l off n) (lens ∙ ap (λ (j : InodeId). file_len z (file_of j w)) inode)
     ∙ ap (λ (o : ℕ). found (MAX_REGIONS * z) (file_len z (file_of h.inode w)) o n) offs

@@ -47,7 +47,8 @@ module _ (x : Caller) (told : Told) (w : Map) (s : SessionView) (S : Session) (s
   on_file f h e =
       let at = open_at w (handle_in s f) (get S.handles f) h e (holds.handles f) in
       let file = leads-file x.size told x.tx x.calls w S.tree st h.path h.inode at.of.leads in
-      let bytes : bytes_of_handle S at.handle ≡ file.bytes = ap (λ (p : List ℕ). bytes_or_none (bytes_of (get S.tree p))) at.of.path ∙ ap (λ o. bytes_or_none (bytes_of o)) file.there in
+      let bytes : bytes_of_handle S at.handle ≡ file.bytes = ap (λ (p : List ℕ). bytes_or_none (bytes_of (get S.tree p))) at.of.path
+      ∙ ap (λ o. bytes_or_none (bytes_of o)) file.there in
       record {
         handle = at.handle;
         there = at.there;
@@ -71,7 +72,8 @@ module _ (x : Caller) (b : Map) (s : SessionView) where
 
   -- nothing changes
   pub stays : (keys : List Key) (o : Op (List ℕ)) (a : Answer) → KeysRead x b s keys o
-      → ((told : Told) (w : Map) (S : Session) → Agree keys b w → Stands x.size told x.tx x.calls w S.tree → Holds told w s S → call (cap_for x) S o ≡ unchanged S a)
+      → ((told : Told) (w : Map) (S : Session) → Agree keys b w → Stands x.size told x.tx x.calls w S.tree → Holds told w s S
+      → call (cap_for x) S o ≡ unchanged S a)
       → IsCall x b s s (only_keys keys) o a
   stays keys o a read due = record {
     fits = refl;
@@ -94,7 +96,8 @@ module _ (x : Caller) (b : Map) (s : SessionView) where
   no_handle f o e refused = stays_bare o (answer.Refused NoHandle) (λ told w S st holds. refused S (not_open x told w s S st holds f e))
 
 -- the step of a call that changed no file, and read and stored no byte
-pub step_of : (x : Caller) (b : Map) (old new : InHand) (keys : List Key) (o : Op (List ℕ)) (a : Answer) → GrowsBy old.at new.at keys [] → IsCall x b old.session new.session (only_keys keys) o a
+pub step_of : (x : Caller) (b : Map) (old new : InHand) (keys : List Key) (o : Op (List ℕ)) (a : Answer) → GrowsBy old.at new.at keys []
+    → IsCall x b old.session new.session (only_keys keys) o a
     → IsStepWith NeedsNoBytes x b old new o a
 step_of x b old new keys o a grows is = record {
   did = only_keys keys;

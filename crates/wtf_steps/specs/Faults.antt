@@ -11,9 +11,6 @@ use Rattle.wtf_model.specs.Call.{call}
 use Rattle.wtf_model.specs.Lawful.{MayFail}
 use Rattle.wtf_meta.specs.Maps.{Map}
 use Rattle.wtf_meta.specs.Bytes.{PiecesBytes}
-use Rattle.wtf_meta.specs.Lists.{ListFact}
-use Rattle.wtf_meta.specs.Files.{FileView}
-use Rattle.wtf_meta.specs.Reads.{ReadsFile}
 use Rattle.wtf_meta.specs.Contents.{Told}
 use Rattle.wtf_meta.specs.Trees.{Stands}
 use Rattle.wtf_meta.specs.Sessions.{SessionView, Holds}
@@ -51,7 +48,3 @@ pub record LacksBytes {S : Type 0} (kind : StoreKind S) (old new : Dev S) (n : �
 -- the pieces show n bytes with the places that f tells
 abbrev pub ShowPlaces : ℕ → (ℕ → List Place) → List Piece → Type 0
 ShowPlaces n f pieces = Plans pieces n f
-
--- the pieces were read of a file, with some lists of its bases
-abbrev pub ShowFile : ℕ → FileView → (off n : ℕ) → List Piece → Type 0
-ShowFile b v off n pieces = (lists : List ListFact) × ReadsFile b v off n lists pieces

@@ -47,8 +47,10 @@ returns-in_default-clause-step g c x size =
     let b = seen c.args.kv.now c.args.at.now in
     let o = op.Append f c.args.bytes.now in
     let at = in_hand c.args.at.now s in
-    step_only g.S.SliceStore.kind (stores c.args.dev.now) (stores c.args.dev.now) c.only.result x b at at [] o (answer.Refused NoHandle) c.only.ensures.answer c.only.ensures.own (GrowsBy-nothing c.args.at.now)
-    (no_handle x b s f o (spot_closed c.handle_of.result (handle_in s f) c.handle_of.ensures c.in_default.is) (λ S none. append-none (cap_for x) S f c.args.bytes.now none))
+    step_only g.S.SliceStore.kind (stores c.args.dev.now) (stores c.args.dev.now) c.only.result x b at at [] o (answer.Refused NoHandle) c.only.ensures.answer
+    c.only.ensures.own (GrowsBy-nothing c.args.at.now)
+    (no_handle x b s f o (spot_closed c.handle_of.result (handle_in s f) c.handle_of.ensures c.in_default.is)
+    (λ S none. append-none (cap_for x) S f c.args.bytes.now none))
 
 pub returns-then-len-eq0-clause-step : goal.returns-then-len-eq0-clause-step
 returns-then-len-eq0-clause-step g c x size =
@@ -58,7 +60,8 @@ returns-then-len-eq0-clause-step g c x size =
     let bytes = c.args.bytes.now in
     let open_at = spot_open c.handle_of.result (handle_in s f) c.in-Some.spot c.handle_of.ensures c.in-Some.is in
     let one = adds_nothing x b s f open_at.handle bytes c.args.at.now open_at.is c.if-len-eq0.true in
-    step_added g.S.SliceStore.kind (stores c.args.dev.now) (stores c.args.dev.now) c.only-then-len-eq0.result x b s f [] bytes c.args.at.now c.args.at.now answer.Okay c.only-then-len-eq0.ensures.answer
+    step_added g.S.SliceStore.kind (stores c.args.dev.now) (stores c.args.dev.now) c.only-then-len-eq0.result x b s f [] bytes c.args.at.now c.args.at.now
+    answer.Okay c.only-then-len-eq0.ensures.answer
     (subst (λ (w : Option Slice). ArePieces w []) (sym c.only-then-len-eq0.ensures.own) refl)
     (λ tells. nothing_told (byte_at g.S.SliceStore.kind (stores c.args.dev.now)) bytes c.if-len-eq0.true) one
 
@@ -71,15 +74,20 @@ returns-in-Ok-clause-step g c x size =
     let open_at = spot_open c.handle_of.result (handle_in s f) c.in-Some.spot c.handle_of.ensures c.in-Some.is in
     let h = open_at.handle in
     let i0 = c.in-Some.spot.inode in
-    let lacks0 : LacksRoom x.size (file_of i0 b) (length bytes) = subst (λ (z : ℕ). LacksRoom z (file_of i0 b) (length bytes)) (sym size) (c.room.ensures.full (file_of i0 b) c.file_end-end.ensures.end c.in_default-room.is) in
-    let lacks : LacksRoom x.size (file_of h.inode b) (length bytes) = subst (λ (i : InodeId). LacksRoom x.size (file_of i b) (length bytes)) open_at.inode lacks0 in
+    let lacks0 : LacksRoom x.size (file_of i0 b) (length bytes) = subst (λ (z : ℕ). LacksRoom z (file_of i0 b) (length bytes)) (sym size)
+    (c.room.ensures.full (file_of i0 b) c.file_end-end.ensures.end c.in_default-room.is) in
+    let lacks : LacksRoom x.size (file_of h.inode b) (length bytes) = subst (λ (i : InodeId). LacksRoom x.size (file_of i b) (length bytes)) open_at.inode
+    lacks0 in
     let recorded : Recorded i0 (length_keys (file_of i0 b)) c.args.at.now c.file_len.new.at =
-    subst (λ (a : Attempted Key Delta). Recorded i0 (length_keys (file_of i0 (seen c.args.kv.now a))) a c.file_len.new.at) c.file_end-end.ensures.same c.in-Ok.ensures.recorded in
+    subst (λ (a : Attempted Key Delta). Recorded i0 (length_keys (file_of i0 (seen c.args.kv.now a))) a c.file_len.new.at) c.file_end-end.ensures.same
+    c.in-Ok.ensures.recorded in
     let went : Recorded h.inode (file_append_keys x.size (file_of h.inode b) (length bytes)) c.args.at.now c.file_len.new.at =
     subst (λ (i : InodeId). Recorded i (file_append_keys x.size (file_of i b) (length bytes)) c.args.at.now c.file_len.new.at) open_at.inode
     (full_keys x.size i0 b (length bytes) c.args.at.now c.file_len.new.at c.if-len-eq0.false lacks0 recorded) in
-    step_only g.S.SliceStore.kind (stores c.args.dev.now) (stores c.args.dev.now) c.only-in-Ok.result x b (in_hand c.args.at.now s) (in_hand c.file_len.new.at s)
-    (keys_of h.inode (file_append_keys x.size (file_of h.inode b) (length bytes))) (op.Append f bytes) (answer.Refused TooBig) c.only-in-Ok.ensures.answer c.only-in-Ok.ensures.own went
+    step_only g.S.SliceStore.kind (stores c.args.dev.now) (stores c.args.dev.now) c.only-in-Ok.result x b (in_hand c.args.at.now s)
+    (in_hand c.file_len.new.at s)
+    (keys_of h.inode (file_append_keys x.size (file_of h.inode b) (length bytes))) (op.Append f bytes) (answer.Refused TooBig) c.only-in-Ok.ensures.answer
+    c.only-in-Ok.ensures.own went
     (adds_full x b s f h bytes open_at.is c.if-len-eq0.false lacks)
 
 pub returns-in-Ok-clause-keys : goal.returns-in-Ok-clause-keys
@@ -95,7 +103,8 @@ returns-in-Ok-clause-keys g c =
     let open_at = spot_open c.handle_of.result (handle_in s f) c.in-Some.spot c.handle_of.ensures c.in-Some.is in
     let lacks : LacksRoom z (file_of i b) n = c.room.ensures.full (file_of i b) c.file_end-end.ensures.end c.in_default-room.is in
     let recorded : Recorded i (length_keys (file_of i b)) old new =
-    subst (λ (a : Attempted Key Delta). Recorded i (length_keys (file_of i (seen c.args.kv.now a))) a new) c.file_end-end.ensures.same c.in-Ok.ensures.recorded in
+    subst (λ (a : Attempted Key Delta). Recorded i (length_keys (file_of i (seen c.args.kv.now a))) a new) c.file_end-end.ensures.same
+    c.in-Ok.ensures.recorded in
     let went : Recorded i (file_append_keys z (file_of i b) n) old new = full_keys z i b n old new c.if-len-eq0.false lacks recorded in
     keys_due z b (handle_in s f) open_at.handle i n n new.reads old.reads open_at.is open_at.inode refl went.reads
 
@@ -119,7 +128,8 @@ returns-in-Ok-add_at-clause-keys g c =
     let r = c.in-Ok-add_at.field-0 in
     let len : p.len ≡ length c.args.bytes.now = c.piece_of.ensures.len ∙ c.in-Ok-store_bytes.ensures.stored.len in
     let open_at = spot_open c.handle_of.result (handle_in s f) c.in-Some.spot c.handle_of.ensures c.in-Some.is in
-    keys_due z b (handle_in s f) open_at.handle i (pieces_len (p ∷ [])) (length c.args.bytes.now) c.add_at.new.at.reads c.args.at.now.reads open_at.is open_at.inode (omega (arith, len))
+    keys_due z b (handle_in s f) open_at.handle i (pieces_len (p ∷ [])) (length c.args.bytes.now) c.add_at.new.at.reads c.args.at.now.reads open_at.is
+    open_at.inode (omega (arith, len))
     (added_keys z i (file_of i b) (p ∷ []) c.args.at.now c.add_at.new.at r
     (subst (λ (a : Attempted Key Delta). IsAdded z i (file_of i b) (p ∷ []) a c.add_at.new.at r) c.file_end-end.ensures.same
     (c.in-Ok-add_at.ensures.added (file_of i b) c.file_end-end.ensures.end)))
@@ -141,18 +151,23 @@ returns-in-Ok-add_at-clause-step g c x size =
     let i0 = c.in-Some.spot.inode in
     let z = c.args.dev.now.settings.region in
     let end : IsFileEnd (file_of i0 b) c.file_end-end.result = c.file_end-end.ensures.end in
-    let room : HasRoom z (file_of i0 b) (length bytes) = c.room.ensures.room (file_of i0 b) end (subst (λ (o : Option ℕ). IsSome o) (sym c.in-Some-room.is) refl) in
-    let lacks : r ≡ added.TooBig → LacksRoom z (file_of i0 b) (length bytes) = λ e. subst (λ (k : ℕ). LacksRoom z (file_of i0 b) k) (omega (arith, len)) (c.in-Ok-add_at.ensures.full (file_of i0 b) end e) in
+    let room : HasRoom z (file_of i0 b) (length bytes) = c.room.ensures.room (file_of i0 b) end
+    (subst (λ (o : Option ℕ). IsSome o) (sym c.in-Some-room.is) refl) in
+    let lacks : r ≡ added.TooBig → LacksRoom z (file_of i0 b) (length bytes) = λ e. subst (λ (k : ℕ). LacksRoom z (file_of i0 b) k) (omega (arith, len))
+    (c.in-Ok-add_at.ensures.full (file_of i0 b) end e) in
     let done : r ≡ added.Done = added_in_room z (file_of i0 b) (length bytes) r room lacks in
     let laid : IsAdded z i0 (file_of i0 b) (p ∷ []) at new r =
-    subst (λ (a : Attempted Key Delta). IsAdded z i0 (file_of i0 b) (p ∷ []) a new r) c.file_end-end.ensures.same (c.in-Ok-add_at.ensures.added (file_of i0 b) end) in
+    subst (λ (a : Attempted Key Delta). IsAdded z i0 (file_of i0 b) (p ∷ []) a new r) c.file_end-end.ensures.same
+    (c.in-Ok-add_at.ensures.added (file_of i0 b) end) in
     let is : IsAdded x.size h.inode (file_of h.inode b) (p ∷ []) at new added.Done =
     subst (λ (i : InodeId). IsAdded x.size i (file_of i b) (p ∷ []) at new added.Done) open_at.inode
     (subst (λ (y : ℕ). IsAdded y i0 (file_of i0 b) (p ∷ []) at new added.Done) (sym size)
     (subst (λ (q : Added). IsAdded z i0 (file_of i0 b) (p ∷ []) at new q) done laid)) in
-    step_added g.S.SliceStore.kind (stores c.args.dev.now) (stores c.store_bytes.new.dev) (record { answer = answer.Okay; own = Some slice }) x b s f (p ∷ []) bytes at new answer.Okay refl
+    step_added g.S.SliceStore.kind (stores c.args.dev.now) (stores c.store_bytes.new.dev) (record { answer = answer.Okay; own = Some slice }) x b s f (p ∷ [])
+    bytes at new answer.Okay refl
     (record { piece = p; one = refl; len = c.piece_of.ensures.len; part = c.piece_of.ensures.part })
-    (λ tells. tell_stored (byte_at g.S.SliceStore.kind (stores c.store_bytes.new.dev)) slice p bytes c.piece_of.ensures.len c.piece_of.ensures.part c.in-Ok-store_bytes.ensures.stored.len (c.in-Ok-store_bytes.ensures.holds tells))
+    (λ tells. tell_stored (byte_at g.S.SliceStore.kind (stores c.store_bytes.new.dev)) slice p bytes c.piece_of.ensures.len c.piece_of.ensures.part
+    c.in-Ok-store_bytes.ensures.stored.len (c.in-Ok-store_bytes.ensures.holds tells))
     (adds x b s f h (p ∷ []) bytes at new added.Done open_at.is (omega (arith, len)) is)
 
 pub returns-in-Err-store_bytes-clause-due : goal.returns-in-Err-store_bytes-clause-due
@@ -163,9 +178,12 @@ returns-in-Err-store_bytes-clause-due g c =
     let bytes = c.args.bytes.now in
     let settings = c.args.dev.now.settings in
     let open_at = spot_open c.handle_of.result (handle_in s f) c.in-Some.spot c.handle_of.ensures c.in-Some.is in
-    let room0 : HasRoom settings.region (file_of c.in-Some.spot.inode b) (length bytes) = c.room.ensures.room (file_of c.in-Some.spot.inode b) c.file_end-end.ensures.end (subst (λ (o : Option ℕ). IsSome o) (sym c.in-Some-room.is) refl) in
-    let room : HasRoom settings.region (file_of open_at.handle.inode b) (length bytes) = subst (λ (i : InodeId). HasRoom settings.region (file_of i b) (length bytes)) open_at.inode room0 in
-    append_due g.S.SliceStore.kind (between c.args.dev.now c.store_bytes.new.dev) settings b s f open_at.handle bytes c.in-Err-store_bytes.why open_at.is (omega (arith, c.if-len-eq0.false)) room c.in-Err-store_bytes.ensures.fault
+    let room0 : HasRoom settings.region (file_of c.in-Some.spot.inode b) (length bytes) = c.room.ensures.room (file_of c.in-Some.spot.inode b)
+    c.file_end-end.ensures.end (subst (λ (o : Option ℕ). IsSome o) (sym c.in-Some-room.is) refl) in
+    let room : HasRoom settings.region (file_of open_at.handle.inode b) (length bytes) = subst
+    (λ (i : InodeId). HasRoom settings.region (file_of i b) (length bytes)) open_at.inode room0 in
+    append_due g.S.SliceStore.kind (between c.args.dev.now c.store_bytes.new.dev) settings b s f open_at.handle bytes c.in-Err-store_bytes.why open_at.is
+    (omega (arith, c.if-len-eq0.false)) room c.in-Err-store_bytes.ensures.fault
 
 pub returns-in-Ok-add_at-clause-own : goal.returns-in-Ok-add_at-clause-own
 returns-in-Ok-add_at-clause-own g c h e =
@@ -180,9 +198,12 @@ returns-in-Ok-add_at-clause-own g c h e =
     let same : open_at.handle ≡ h = cc in
     let inode : c.in-Some.spot.inode ≡ h.inode = open_at.inode ∙ ap (λ (k : Handle). k.inode) same in
     let off : c.in-Some-room.off ≡ end_place dev.settings.region (file_of c.in-Some.spot.inode b) =
-    subst (λ (o : Option ℕ). IfSome o (λ k. k ≡ end_place dev.settings.region (file_of c.in-Some.spot.inode b))) c.in-Some-room.is (c.room.ensures.place (file_of c.in-Some.spot.inode b) c.file_end-end.ensures.end) in
-    let at_end = subst (λ (k : ℕ). IsStored kind (between dev c.store_bytes.new.dev) dev.settings.replicas (place_in dev c.in-Some.spot.inode k) c.args.bytes.now slice) off c.in-Ok-store_bytes.ensures.stored in (
-      subst (λ (i : InodeId). IsStored kind (between dev c.store_bytes.new.dev) dev.settings.replicas (place_in dev i (end_place dev.settings.region (file_of i b))) c.args.bytes.now slice) inode at_end,
+    subst (λ (o : Option ℕ). IfSome o (λ k. k ≡ end_place dev.settings.region (file_of c.in-Some.spot.inode b))) c.in-Some-room.is
+    (c.room.ensures.place (file_of c.in-Some.spot.inode b) c.file_end-end.ensures.end) in
+    let at_end = subst (λ (k : ℕ). IsStored kind (between dev c.store_bytes.new.dev) dev.settings.replicas (place_in dev c.in-Some.spot.inode k)
+    c.args.bytes.now slice) off c.in-Ok-store_bytes.ensures.stored in (
+      subst (λ (i : InodeId). IsStored kind (between dev c.store_bytes.new.dev) dev.settings.replicas
+          (place_in dev i (end_place dev.settings.region (file_of i b))) c.args.bytes.now slice) inode at_end,
       c.in-Ok-store_bytes.ensures.inside,
       c.in-Ok-store_bytes.ensures.known,
     )
@@ -210,7 +231,8 @@ returns-in-Ok-clause-made g c =
     let i = c.in-Some.spot.inode in
     let F : Edits → Type 0 = OfSlice c.only-in-Ok.result.own (AddsAt c.args.dev.now.settings.region b (handle_in c.args.s.now c.args.f)) in
     let recorded : Recorded i (length_keys (file_of i b)) at new =
-    subst (λ (a : Attempted Key Delta). Recorded i (length_keys (file_of i (seen c.args.kv.now a))) a new) c.file_end-end.ensures.same c.in-Ok.ensures.recorded in
+    subst (λ (a : Attempted Key Delta). Recorded i (length_keys (file_of i (seen c.args.kv.now a))) a new) c.file_end-end.ensures.same
+    c.in-Ok.ensures.recorded in
     makes_refused c.only-in-Ok.result.answer TooBig F at new c.only-in-Ok.ensures.answer (recorded.changes ∙ append-nil at.changes)
 
 pub returns-in-Ok-add_at-clause-made : goal.returns-in-Ok-add_at-clause-made
@@ -230,11 +252,14 @@ returns-in-Ok-add_at-clause-made g c =
     let i = c.in-Some.spot.inode in
     let z = c.args.dev.now.settings.region in
     let end : IsFileEnd (file_of i b) c.file_end-end.result = c.file_end-end.ensures.end in
-    let room : HasRoom z (file_of i b) (length bytes) = c.room.ensures.room (file_of i b) end (subst (λ (m : Option ℕ). IsSome m) (sym c.in-Some-room.is) refl) in
-    let lacks : r ≡ added.TooBig → LacksRoom z (file_of i b) (length bytes) = λ e. subst (λ (k : ℕ). LacksRoom z (file_of i b) k) (omega (arith, len)) (c.in-Ok-add_at.ensures.full (file_of i b) end e) in
+    let room : HasRoom z (file_of i b) (length bytes) = c.room.ensures.room (file_of i b) end
+    (subst (λ (m : Option ℕ). IsSome m) (sym c.in-Some-room.is) refl) in
+    let lacks : r ≡ added.TooBig → LacksRoom z (file_of i b) (length bytes) = λ e. subst (λ (k : ℕ). LacksRoom z (file_of i b) k) (omega (arith, len))
+    (c.in-Ok-add_at.ensures.full (file_of i b) end e) in
     let done : r ≡ added.Done = added_in_room z (file_of i b) (length bytes) r room lacks in
     let laid : IsAdded z i (file_of i b) (p ∷ []) at new r =
-    subst (λ (a : Attempted Key Delta). IsAdded z i (file_of i b) (p ∷ []) a new r) c.file_end-end.ensures.same (c.in-Ok-add_at.ensures.added (file_of i b) end) in
+    subst (λ (a : Attempted Key Delta). IsAdded z i (file_of i b) (p ∷ []) a new r) c.file_end-end.ensures.same
+    (c.in-Ok-add_at.ensures.added (file_of i b) end) in
     let is : IsAdded z i (file_of i b) (p ∷ []) at new added.Done = subst (λ (q : Added). IsAdded z i (file_of i b) (p ∷ []) at new q) done laid in
     brings_slice answer.Okay answer.Okay (Some slice) slice p (AddsAt z b o) at new refl refl c.piece_of.ensures.len c.piece_of.ensures.part
     (makes_added z b o open_at.handle i (p ∷ []) at new added.Done open_at.is open_at.inode is)

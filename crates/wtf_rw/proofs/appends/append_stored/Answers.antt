@@ -36,12 +36,14 @@ returns-in_default-clause-step c x bytes size len has =
     let b = seen c.args.kv.now c.args.at.now in
     let at = in_hand c.args.at.now s in
     step_stored c.args.kept.slice bytes x b at at [] (op.Append f bytes) (answer.Refused NoHandle) (GrowsBy-nothing c.args.at.now)
-    (no_handle x b s f (op.Append f bytes) (spot_closed c.handle_of.result (handle_in s f) c.handle_of.ensures c.in_default.is) (λ S none. append-none (cap_for x) S f bytes none))
+    (no_handle x b s f (op.Append f bytes) (spot_closed c.handle_of.result (handle_in s f) c.handle_of.ensures c.in_default.is)
+    (λ S none. append-none (cap_for x) S f bytes none))
 
 pub returns-in_default-clause-answers : goal.returns-in_default-clause-answers
 returns-in_default-clause-answers c x bytes size len bare =
     let b = seen c.args.kv.now c.args.at.now in
-    closed_answer x b c.args.s.now c.args.f (append_keys c.args.settings.region b (handle_in c.args.s.now c.args.f) c.args.kept.len) bytes (spot_closed c.handle_of.result (handle_in c.args.s.now c.args.f) c.handle_of.ensures c.in_default.is)
+    closed_answer x b c.args.s.now c.args.f (append_keys c.args.settings.region b (handle_in c.args.s.now c.args.f) c.args.kept.len) bytes
+    (spot_closed c.handle_of.result (handle_in c.args.s.now c.args.f) c.handle_of.ensures c.in_default.is)
 
 pub returns-then-kept-eq0-clause-step : goal.returns-then-kept-eq0-clause-step
 returns-then-kept-eq0-clause-step c x bytes size len has =
@@ -49,13 +51,15 @@ returns-then-kept-eq0-clause-step c x bytes size len has =
     let f = c.args.f in
     let b = seen c.args.kv.now c.args.at.now in
     let open_at = spot_open c.handle_of.result (handle_in s f) c.in-Some.spot c.handle_of.ensures c.in-Some.is in
-    step_nothing c.args.kept.slice x b s f bytes c.args.at.now (len ∙ c.if-kept-eq0.true) (adds_nothing x b s f open_at.handle bytes c.args.at.now open_at.is (len ∙ c.if-kept-eq0.true))
+    step_nothing c.args.kept.slice x b s f bytes c.args.at.now (len ∙ c.if-kept-eq0.true)
+    (adds_nothing x b s f open_at.handle bytes c.args.at.now open_at.is (len ∙ c.if-kept-eq0.true))
 
 pub returns-then-kept-eq0-clause-answers : goal.returns-then-kept-eq0-clause-answers
 returns-then-kept-eq0-clause-answers c x bytes size len bare =
     let b = seen c.args.kv.now c.args.at.now in
     let open_at = spot_open c.handle_of.result (handle_in c.args.s.now c.args.f) c.in-Some.spot c.handle_of.ensures c.in-Some.is in
-    nothing_answer x b c.args.s.now c.args.f open_at.handle (append_keys c.args.settings.region b (handle_in c.args.s.now c.args.f) c.args.kept.len) bytes open_at.is (len ∙ c.if-kept-eq0.true)
+    nothing_answer x b c.args.s.now c.args.f open_at.handle (append_keys c.args.settings.region b (handle_in c.args.s.now c.args.f) c.args.kept.len) bytes
+    open_at.is (len ∙ c.if-kept-eq0.true)
 
 pub returns-in_default-slice-clause-keys : goal.returns-in_default-slice-clause-keys
 returns-in_default-slice-clause-keys c =
@@ -65,14 +69,17 @@ returns-in_default-slice-clause-keys c =
     let i = c.in-Some.spot.inode in
     let z = c.args.settings.region in
     let p = c.of-hole.result in
-    let back = rewound c.args.at.now c.add_pieces.new.at c.rewind.new.self c.mark-after.result.reads c.mark-before.result.changes c.rewind.ensures.cut (ap (λ m. m.reads) c.mark-after.ensures) (ap (λ m. m.changes) c.mark-before.ensures) c.in_ok-added.ensures.grows in
+    let back = rewound c.args.at.now c.add_pieces.new.at c.rewind.new.self c.mark-after.result.reads c.mark-before.result.changes c.rewind.ensures.cut
+    (ap (λ m. m.reads) c.mark-after.ensures) (ap (λ m. m.changes) c.mark-before.ensures) c.in_ok-added.ensures.grows in
     let open_at = spot_open c.handle_of.result (handle_in s f) c.in-Some.spot c.handle_of.ensures c.in-Some.is in
-    back.reads ∙ keys_due z b (handle_in s f) open_at.handle i (pieces_len (p ∷ [])) c.args.kept.len c.add_pieces.new.at.reads c.args.at.now.reads open_at.is open_at.inode (omega (arith, c.of-hole.ensures.len))
+    back.reads ∙ keys_due z b (handle_in s f) open_at.handle i (pieces_len (p ∷ [])) c.args.kept.len c.add_pieces.new.at.reads c.args.at.now.reads open_at.is
+    open_at.inode (omega (arith, c.of-hole.ensures.len))
     (added_keys z i (file_of i b) (p ∷ []) c.args.at.now c.add_pieces.new.at c.in_ok-added.added c.in_ok-added.ensures.added)
 
 pub returns-in_default-slice-clause-alters : goal.returns-in_default-slice-clause-alters
 returns-in_default-slice-clause-alters c =
-    let back = rewound c.args.at.now c.add_pieces.new.at c.rewind.new.self c.mark-after.result.reads c.mark-before.result.changes c.rewind.ensures.cut (ap (λ m. m.reads) c.mark-after.ensures) (ap (λ m. m.changes) c.mark-before.ensures) c.in_ok-added.ensures.grows in
+    let back = rewound c.args.at.now c.add_pieces.new.at c.rewind.new.self c.mark-after.result.reads c.mark-before.result.changes c.rewind.ensures.cut
+    (ap (λ m. m.reads) c.mark-after.ensures) (ap (λ m. m.changes) c.mark-before.ensures) c.in_ok-added.ensures.grows in
     record { logged = c.answer_to.ensures.logged; refused = λ h. (back.changes, refl); err = tt; grows = back.grows }
 
 pub returns-in_default-slice-clause-answers : goal.returns-in_default-slice-clause-answers
@@ -91,7 +98,8 @@ returns-in_default-slice-clause-answers c x bytes size same bare =
     subst (λ (i : InodeId). IsAdded x.size i (file_of i b) (p ∷ []) at new r) open_at.inode
     (subst (λ (z : ℕ). IsAdded z c.in-Some.spot.inode (file_of c.in-Some.spot.inode b) (p ∷ []) at new r) (sym size) c.in_ok-added.ensures.added) in
     let due : Answers x b s (keys_of h.inode (file_append_keys x.size (file_of h.inode b) (pieces_len (p ∷ [])))) (op.Append f bytes) (answer_of r) =
-    adds_answer x b s f h (p ∷ []) bytes (replicate n 0) at new r open_at.is (omega (arith, c.of-hole.ensures.len, same)) (length-replicate n 0 ∙ sym same) (λ told. hole_tells told p n c.of-hole.ensures.len c.of-hole.ensures.part) is in
+    adds_answer x b s f h (p ∷ []) bytes (replicate n 0) at new r open_at.is (omega (arith, c.of-hole.ensures.len, same)) (length-replicate n 0 ∙ sym same)
+    (λ told. hole_tells told p n c.of-hole.ensures.len c.of-hole.ensures.part) is in
     let count : pieces_len (p ∷ []) ≡ n = omega (arith, c.of-hole.ensures.len) in
     subst (λ (a : Answer). Answers x b s (append_keys c.args.settings.region b (handle_in s f) n) (op.Append f bytes) a) (sym c.answer_to.ensures.value)
     (subst (λ (o : Option Handle). Answers x b s (append_keys c.args.settings.region b o n) (op.Append f bytes) (answer_of r)) (sym open_at.is)
@@ -108,7 +116,8 @@ returns-clause-keys c =
     let p = c.piece_of.result in
     let kept : len_of c.in-Some-slice.slice ≡ c.args.kept.len = subst (HasLength c.args.kept.len) c.in-Some-slice.is c.args.kept.held in
     let open_at = spot_open c.handle_of.result (handle_in s f) c.in-Some.spot c.handle_of.ensures c.in-Some.is in
-    keys_due z b (handle_in s f) open_at.handle i (pieces_len (p ∷ [])) c.args.kept.len c.add_pieces-2.new.at.reads c.args.at.now.reads open_at.is open_at.inode (omega (arith, c.piece_of.ensures.len, kept))
+    keys_due z b (handle_in s f) open_at.handle i (pieces_len (p ∷ [])) c.args.kept.len c.add_pieces-2.new.at.reads c.args.at.now.reads open_at.is open_at.inode
+    (omega (arith, c.piece_of.ensures.len, kept))
     (added_keys z i (file_of i b) (p ∷ []) c.args.at.now c.add_pieces-2.new.at c.in_ok-added-2.added c.in_ok-added-2.ensures.added)
 
 pub returns-clause-step : goal.returns-clause-step
@@ -127,7 +136,8 @@ returns-clause-step c x bytes size same has =
     let is : IsAdded x.size h.inode (file_of h.inode b) (p ∷ []) at new r =
     subst (λ (i : InodeId). IsAdded x.size i (file_of i b) (p ∷ []) at new r) open_at.inode
     (subst (λ (z : ℕ). IsAdded z c.in-Some.spot.inode (file_of c.in-Some.spot.inode b) (p ∷ []) at new r) (sym size) c.in_ok-added-2.ensures.added) in
-    step_brought c.args.kept.slice slice p x b s f bytes at new (answer_of r) c.answer_to-2.result c.answer_to-2.ensures.value c.in-Some-slice.is c.piece_of.ensures.len c.piece_of.ensures.part
+    step_brought c.args.kept.slice slice p x b s f bytes at new (answer_of r) c.answer_to-2.result c.answer_to-2.ensures.value c.in-Some-slice.is
+    c.piece_of.ensures.len c.piece_of.ensures.part
     (adds x b s f h (p ∷ []) bytes at new r open_at.is (omega (arith, c.piece_of.ensures.len, kept, same)) is)
 
 pub returns-in_default-clause-made : goal.returns-in_default-clause-made
@@ -142,7 +152,8 @@ returns-then-kept-eq0-clause-made c =
     let b = seen c.args.kv.now at in
     let z = c.args.settings.region in
     let o = handle_in c.args.s.now c.args.f in
-    brings_no_slice answer.Okay c.args.kept.slice (AddsAt z b o) at at (no_slice_kept c.args.kept.slice c.args.kept.len c.args.kept.held c.if-kept-eq0.true) (adds_none z b o) refl
+    brings_no_slice answer.Okay c.args.kept.slice (AddsAt z b o) at at (no_slice_kept c.args.kept.slice c.args.kept.len c.args.kept.held c.if-kept-eq0.true)
+    (adds_none z b o) refl
 
 pub returns-in_default-slice-clause-made : goal.returns-in_default-slice-clause-made
 returns-in_default-slice-clause-made c =
@@ -150,7 +161,8 @@ returns-in_default-slice-clause-made c =
     let b = seen c.args.kv.now at in
     let z = c.args.settings.region in
     let o = handle_in c.args.s.now c.args.f in
-    let back = rewound at c.add_pieces.new.at c.rewind.new.self c.mark-after.result.reads c.mark-before.result.changes c.rewind.ensures.cut (ap (λ m. m.reads) c.mark-after.ensures) (ap (λ m. m.changes) c.mark-before.ensures) c.in_ok-added.ensures.grows in
+    let back = rewound at c.add_pieces.new.at c.rewind.new.self c.mark-after.result.reads c.mark-before.result.changes c.rewind.ensures.cut
+    (ap (λ m. m.reads) c.mark-after.ensures) (ap (λ m. m.changes) c.mark-before.ensures) c.in_ok-added.ensures.grows in
     brings_no_slice c.answer_to.result c.args.kept.slice (AddsAt z b o) at c.rewind.new.self c.in_default-slice.is (adds_none z b o) back.changes
 
 pub returns-clause-made : goal.returns-clause-made
@@ -166,5 +178,6 @@ returns-clause-made c =
     let r = c.in_ok-added-2.added in
     let i = c.in-Some.spot.inode in
     let open_at = spot_open c.handle_of.result o c.in-Some.spot c.handle_of.ensures c.in-Some.is in
-    brings_slice c.answer_to-2.result (answer_of r) c.args.kept.slice c.in-Some-slice.slice p (AddsAt z b o) at new c.answer_to-2.ensures.value c.in-Some-slice.is c.piece_of.ensures.len c.piece_of.ensures.part
+    brings_slice c.answer_to-2.result (answer_of r) c.args.kept.slice c.in-Some-slice.slice p (AddsAt z b o) at new c.answer_to-2.ensures.value
+    c.in-Some-slice.is c.piece_of.ensures.len c.piece_of.ensures.part
     (makes_added z b o open_at.handle i (p ∷ []) at new r open_at.is open_at.inode c.in_ok-added-2.ensures.added)

@@ -10,14 +10,16 @@ use Rattle.wtf_rw.proofs.calls.call.Goals as goal
 
 pub returns-in-Ok-clause-inside : goal.returns-in-Ok-clause-inside
 returns-in-Ok-clause-inside g c whole given hand =
-    keeps_inside g.met.S.SliceStore.laws c.args.dev.now c.run.new.dev c.args.kv.now c.args.at.now c.run.new.at c.args.s.now c.run.new.s c.args.op.now c.in-Ok.done.own c.in-Ok.done.answer
+    keeps_inside g.met.S.SliceStore.laws c.args.dev.now c.run.new.dev c.args.kv.now c.args.at.now c.run.new.at c.args.s.now c.run.new.s c.args.op.now
+    c.in-Ok.done.own c.in-Ok.done.answer
     c.requires.sound.shelf c.in-Ok.ensures.dev c.in-Ok.ensures.step c.in-Ok.ensures.own whole given (c.requires.inside, hand)
 
 pub returns-in-Err-clause-inside : goal.returns-in-Err-clause-inside
 returns-in-Err-clause-inside g c whole given hand =
     let kv = c.args.kv.now in
     let back = c.rewind.ensures.back c.args.at.now c.in-Err.ensures.grows c.mark-mark.ensures in
-    stays_inside g.met.S.SliceStore.laws c.args.dev.now c.run.new.dev (seen kv c.args.at.now) (seen kv c.rewind.new.self) c.args.s.now c.run.new.s c.requires.sound.shelf c.in-Err.ensures.dev.each
+    stays_inside g.met.S.SliceStore.laws c.args.dev.now c.run.new.dev (seen kv c.args.at.now) (seen kv c.rewind.new.self) c.args.s.now c.run.new.s
+    c.requires.sound.shelf c.in-Err.ensures.dev.each
     (ap (λ (at : Attempted Key Delta). seen kv at) back) c.in-Err.ensures.err (c.requires.inside, hand)
 
 pub returns-in-Err-clause-call : goal.returns-in-Err-clause-call

@@ -20,7 +20,8 @@ returns-in_default-clause-step c z x bytes size writes whole =
     let s = c.args.s.now in
     let f = c.args.f in
     let open_at = spot_open c.handle_of.result (handle_in s f) c.in_default.field-0 c.handle_of.ensures c.in_default.is in
-    step_of x (seen c.args.kv.now c.args.at.now) (in_hand c.args.at.now s) (in_hand c.args.at.now s) [] (op.Open f c.args.p.now) (answer.Refused InUse) (GrowsBy-nothing c.args.at.now)
+    step_of x (seen c.args.kv.now c.args.at.now) (in_hand c.args.at.now s) (in_hand c.args.at.now s) [] (op.Open f c.args.p.now) (answer.Refused InUse)
+    (GrowsBy-nothing c.args.at.now)
     (opens_taken x (seen c.args.kv.now c.args.at.now) s f c.args.p.now open_at.handle open_at.is)
 
 pub returns-in-Some-Folder-clause-step : goal.returns-in-Some-Folder-clause-step
@@ -30,7 +31,8 @@ returns-in-Some-Folder-clause-step c z x bytes size writes whole =
     let b = seen c.args.kv.now c.args.at.now in
     let none = spot_closed c.handle_of.result (handle_in s f) c.handle_of.ensures c.in-None.is in
     let node : stands_at b c.args.p.now ≡ Some Folder = sym c.in_ok-inode.ensures.value ∙ (c.in-Some-Folder.is ∙ ap Some c.in-Some-Folder.field-0-is) in
-    step_of x b (in_hand c.args.at.now s) (in_hand c.look_up.new.at s) (Path c.args.p.now ∷ []) (op.Open f c.args.p.now) (answer.Refused IsDir) c.in_ok-inode.ensures.went
+    step_of x b (in_hand c.args.at.now s) (in_hand c.look_up.new.at s) (Path c.args.p.now ∷ []) (op.Open f c.args.p.now) (answer.Refused IsDir)
+    c.in_ok-inode.ensures.went
     (opens_folder x b s f c.args.p.now none node)
 
 pub returns-in-None-2-clause-step : goal.returns-in-None-2-clause-step
@@ -40,7 +42,8 @@ returns-in-None-2-clause-step c z x bytes size writes whole =
     let b = seen c.args.kv.now c.args.at.now in
     let none = spot_closed c.handle_of.result (handle_in s f) c.handle_of.ensures c.in-None.is in
     let node : stands_at b c.args.p.now ≡ None = sym c.in_ok-inode.ensures.value ∙ c.in-None-2.is in
-    step_of x b (in_hand c.args.at.now s) (in_hand c.look_up.new.at s) (Path c.args.p.now ∷ []) (op.Open f c.args.p.now) (answer.Refused NoEnt) c.in_ok-inode.ensures.went
+    step_of x b (in_hand c.args.at.now s) (in_hand c.look_up.new.at s) (Path c.args.p.now ∷ []) (op.Open f c.args.p.now) (answer.Refused NoEnt)
+    c.in_ok-inode.ensures.went
     (opens_nothing x b s f c.args.p.now none node)
 
 pub returns-clause-step : goal.returns-clause-step
@@ -53,7 +56,8 @@ returns-clause-step c z x bytes size writes whole =
     let node : stands_at b c.args.p.now ≡ Some (File i) = sym c.in_ok-inode.ensures.value ∙ (c.in-Some-File.is ∙ ap Some c.in-Some-File.field-0-is) in
     let set : SetsHandle f (Some (record { path = c.args.p.now; inode = i; off = 0 })) s c.put_handle.new.self =
     subst (λ (p : List ℕ). SetsHandle f (Some (record { path = p; inode = i; off = 0 })) s c.put_handle.new.self) c.in_ok-path.ensures c.put_handle.ensures in
-    step_of x b (in_hand c.args.at.now s) (in_hand c.look_up.new.at c.put_handle.new.self) (Path c.args.p.now ∷ []) (op.Open f c.args.p.now) answer.Okay c.in_ok-inode.ensures.went
+    step_of x b (in_hand c.args.at.now s) (in_hand c.look_up.new.at c.put_handle.new.self) (Path c.args.p.now ∷ []) (op.Open f c.args.p.now) answer.Okay
+    c.in_ok-inode.ensures.went
     (opens_file x b s c.put_handle.new.self f c.args.p.now i none node set)
 
 pub returns-in_default-clause-holds : goal.returns-in_default-clause-holds

@@ -16,7 +16,8 @@ returns-in_default-clause-step c x b now e =
     let f = c.args.f in
     step_of x b now now [] (op.Tell f) (answer.Refused NoHandle) (GrowsBy-nothing now.at)
     (subst (λ (v : SessionView). IsCall x b v v (only_keys []) (op.Tell f) (answer.Refused NoHandle)) (sym e)
-    (no_handle x b s f (op.Tell f) (spot_closed c.handle_of.result (handle_in s f) c.handle_of.ensures c.in_default.is) (λ S none. tell-none (cap_for x) S f none)))
+    (no_handle x b s f (op.Tell f) (spot_closed c.handle_of.result (handle_in s f) c.handle_of.ensures c.in_default.is)
+    (λ S none. tell-none (cap_for x) S f none)))
 
 pub returns-clause-step : goal.returns-clause-step
 returns-clause-step c x b now e =

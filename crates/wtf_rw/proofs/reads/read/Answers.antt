@@ -52,7 +52,8 @@ returns-in_default-clause-step g c x size =
     record {
       did = only_keys [];
       grows = GrowsBy-nothing c.args.at.now;
-      is_call = no_handle x (seen c.args.kv.now c.args.at.now) s f (op.Read f c.args.n) (spot_closed c.handle_of.result (handle_in s f) c.handle_of.ensures c.in_default.is) (λ S none. read-none (cap_for x) S f c.args.n none);
+      is_call = no_handle x (seen c.args.kv.now c.args.at.now) s f (op.Read f c.args.n) (spot_closed c.handle_of.result (handle_in s f) c.handle_of.ensures
+          c.in_default.is) (λ S none. read-none (cap_for x) S f c.args.n none);
       more = record {
         stored = refl;
         slices = λ P Q map. tt;
@@ -159,7 +160,8 @@ returns-in-Err-show-clause-fault g c =
     let h = open_at.handle in
     let inode : i ≡ h.inode = open_at.inode in
     let off : c.in-Some.spot.off ≡ h.off = open_at.off in
-    let count : k ≡ found_in z b h c.args.n = found_due c.cap.result z c.in-Ok.len c.in-Some.spot.off c.args.n k i b h c.found_len-k.ensures c.cap.ensures c.in-Ok.ensures.value inode off in
+    let count : k ≡ found_in z b h c.args.n = found_due c.cap.result z c.in-Ok.len c.in-Some.spot.off c.args.n k i b h c.found_len-k.ensures c.cap.ensures
+    c.in-Ok.ensures.value inode off in
     let file : FileBytes (inside_of kind dev) any_slice (file_of i u) =
     subst (λ (w : Map). FileBytes (inside_of kind dev) any_slice (file_of i w)) (sym same) (file_bytes (inside_of kind dev) any_slice i b c.requires.inside) in
     let later : IsFileRead kind dev c.show.new.dev (file_of i u) c.range_start-from.result k ps =
@@ -186,7 +188,8 @@ returns-in-Err-show-clause-fault g c =
         };
         inside = pieces_inside g.met.S.SliceStore.laws c.requires.sound c.in-Ok-pieces.ensures.dev (file_of i u) file c.range_start-from.result k ps read;
         fault = subst (λ (m : ℕ). IsShowFault kind (between mid c.show.new.dev) (pieces_in 0 m ps) c.in-Err-show.why) count
-            (subst (λ (qs : List Piece). IsShowFault kind (between mid c.show.new.dev) (pieces_in 0 k qs) c.in-Err-show.why) c.as_slice.ensures.value c.in-Err-show.ensures.fault);
+            (subst (λ (qs : List Piece). IsShowFault kind (between mid c.show.new.dev) (pieces_in 0 k qs) c.in-Err-show.why) c.as_slice.ensures.value
+            c.in-Err-show.ensures.fault);
       }),
     )
 
@@ -207,7 +210,8 @@ returns-in-Err-show-clause-due g c =
     let open_at = spot_open c.handle_of.result (handle_in s f) c.in-Some.spot c.handle_of.ensures c.in-Some.is in
     let h = open_at.handle in
     let kept : mid.settings ≡ dev.settings = c.in-Ok-pieces.ensures.dev.settings in
-    let count : k ≡ found_in z b h c.args.n = found_due c.cap.result z c.in-Ok.len c.in-Some.spot.off c.args.n k i b h c.found_len-k.ensures c.cap.ensures c.in-Ok.ensures.value open_at.inode open_at.off in
+    let count : k ≡ found_in z b h c.args.n = found_due c.cap.result z c.in-Ok.len c.in-Some.spot.off c.args.n k i b h c.found_len-k.ensures c.cap.ensures
+    c.in-Ok.ensures.value open_at.inode open_at.off in
     let file : FileBytes (inside_of kind dev) any_slice (file_of i u) =
     subst (λ (w : Map). FileBytes (inside_of kind dev) any_slice (file_of i w)) (sym same) (file_bytes (inside_of kind dev) any_slice i b c.requires.inside) in
     let inside : PiecesBytes (inside_of kind mid) ps =
@@ -250,7 +254,8 @@ returns-clause-step g c x size =
     let h = open_at.handle in
     let inode : i ≡ h.inode = open_at.inode in
     let off : c.in-Some.spot.off ≡ h.off = open_at.off in
-    let count0 : k ≡ found_in z b h n = found_due c.cap.result z c.in-Ok.len c.in-Some.spot.off n k i b h c.found_len-k.ensures c.cap.ensures c.in-Ok.ensures.value inode off in
+    let count0 : k ≡ found_in z b h n = found_due c.cap.result z c.in-Ok.len c.in-Some.spot.off n k i b h c.found_len-k.ensures c.cap.ensures
+    c.in-Ok.ensures.value inode off in
     let count : k ≡ found_in x.size b h n = count0 ∙ ap (λ (m : ℕ). found_in m b h n) (sym size) in
     let file : FileBytes (inside_of kind dev) any_slice (file_of i (seen c.args.kv.now read)) =
     subst (λ (w : Map). FileBytes (inside_of kind dev) any_slice (file_of i w)) (sym same) (file_bytes (inside_of kind dev) any_slice i b c.requires.inside) in
@@ -265,7 +270,8 @@ returns-clause-step g c x size =
     let keys = len_keys b h.inode ++ keys_of h.inode (region_keys (touched x.size h.off k)) in
     let shown : Shown (byte_at kind (stores mid)) k (λ j. pieces_origin ps (0 + j)) [] bytes =
     subst (λ (old : List ℕ). Shown (byte_at kind (stores mid)) k (λ j. pieces_origin ps (0 + j)) old bytes) c.new-out.ensures.items
-    (subst (λ (qs : List Piece). Shown (byte_at kind (stores mid)) k (λ j. pieces_origin qs (0 + j)) c.new-out.result.items bytes) c.as_slice.ensures.value c.in-Ok-show.ensures.shown) in
+    (subst (λ (qs : List Piece). Shown (byte_at kind (stores mid)) k (λ j. pieces_origin qs (0 + j)) c.new-out.result.items bytes) c.as_slice.ensures.value
+    c.in-Ok-show.ensures.shown) in
     let set : SetsHandle f (Some (moved_to (h.off + k) h)) s t =
     subst (λ (m : ℕ). SetsHandle f (Some (moved_to (m + k) h)) s t) off
     (subst (λ (o : Option Handle). SetsHandle f (option_map (moved_to (c.in-Some.spot.off + k)) o) s t) open_at.is c.move_handle.ensures) in

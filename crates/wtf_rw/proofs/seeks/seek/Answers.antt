@@ -33,9 +33,11 @@ returns-in_default-clause-step c x bytes size writes whole =
     let f = c.args.f in
     let b = seen c.args.kv.now c.args.at.now in
     step_of x b (in_hand c.args.at.now s) (in_hand c.args.at.now s) [] (op.Seek f c.args.place) (answer.Refused NoHandle) (GrowsBy-nothing c.args.at.now)
-    (no_handle x b s f (op.Seek f c.args.place) (spot_closed c.handle_of.result (handle_in s f) c.handle_of.ensures c.in_default.is) (λ S none. seek-none (cap_for x) S f c.args.place none))
+    (no_handle x b s f (op.Seek f c.args.place) (spot_closed c.handle_of.result (handle_in s f) c.handle_of.ensures c.in_default.is)
+    (λ S none. seek-none (cap_for x) S f c.args.place none))
 
-sought_call : (x : Caller) (b : Map) (s t : SessionView) (f : ℕ) (h : Handle) (place : Seek) (len : ℕ) (where_to : Option ℕ) (a : Answer) → handle_in s f ≡ Some h
+sought_call : (x : Caller) (b : Map) (s t : SessionView) (f : ℕ) (h : Handle) (place : Seek) (len : ℕ) (where_to : Option ℕ) (a : Answer)
+    → handle_in s f ≡ Some h
     → (place ≡ to.End → len ≡ file_len x.size (file_of h.inode b)) → where_to ≡ lands (cap_for x) len h.off place → IsSought f where_to s t a
     → IsCall x b s t (only_keys (place_keys b h.inode place)) (op.Seek f place) a
 sought_call x b s t f h place len (Some n) a e is leads sought =
@@ -97,9 +99,13 @@ returns-clause-step c x bytes size writes whole =
     let open_at = spot_open c.handle_of.result (handle_in s f) c.in-Some.spot c.handle_of.ensures c.in-Some.is in
     let h = open_at.handle in
     let len : place ≡ to.End → c.in_ok-len.len ≡ file_len x.size (file_of h.inode b) = λ e.
-    c.in_ok-len.ensures.value e ∙ ap (λ (n : ℕ). file_len n (file_of c.in-Some.spot.inode b)) (sym size) ∙ ap (λ (i : InodeId). file_len x.size (file_of i b)) open_at.inode in
+    c.in_ok-len.ensures.value e ∙ ap (λ (n : ℕ). file_len n (file_of c.in-Some.spot.inode b)) (sym size)
+    ∙ ap (λ (i : InodeId). file_len x.size (file_of i b)) open_at.inode in
     let leads : c.landing-to.result ≡ lands (cap_for x) c.in_ok-len.len h.off place =
-    c.landing-to.ensures ∙ ap (λ (n : ℕ). lands n c.in_ok-len.len c.in-Some.spot.off place) (c.cap.ensures ∙ ap (λ (n : ℕ). 4096 * n) (sym size)) ∙ ap (λ (n : ℕ). lands (cap_for x) c.in_ok-len.len n place) open_at.off in
-    step_of x b (in_hand c.args.at.now s) (in_hand c.len_for.new.at c.move_to-answer.new.s) (place_keys b h.inode place) (op.Seek f place) c.move_to-answer.result
+    c.landing-to.ensures ∙ ap (λ (n : ℕ). lands n c.in_ok-len.len c.in-Some.spot.off place) (c.cap.ensures ∙ ap (λ (n : ℕ). 4096 * n) (sym size))
+    ∙ ap (λ (n : ℕ). lands (cap_for x) c.in_ok-len.len n place) open_at.off in
+    step_of x b (in_hand c.args.at.now s) (in_hand c.len_for.new.at c.move_to-answer.new.s) (place_keys b h.inode place) (op.Seek f place)
+    c.move_to-answer.result
     (subst (λ (i : InodeId). GrowsBy c.args.at.now c.len_for.new.at (place_keys b i place) []) open_at.inode c.in_ok-len.ensures.went)
-    (sought_call x b s c.move_to-answer.new.s f h place c.in_ok-len.len c.landing-to.result c.move_to-answer.result open_at.is len leads c.move_to-answer.ensures.sought)
+    (sought_call x b s c.move_to-answer.new.s f h place c.in_ok-len.len c.landing-to.result c.move_to-answer.result open_at.is len leads
+    c.move_to-answer.ensures.sought)

@@ -27,7 +27,8 @@ pub returns-in-None-clause-step : goal.returns-in-None-clause-step
 returns-in-None-clause-step c s x bytes size writes whole =
     let b = seen c.args.kv.now c.args.at.now in
     let node : stands_at b c.args.p.now ≡ None = sym c.in_ok-inode.ensures.value ∙ c.in-None.is in
-    step_of x b (in_hand c.args.at.now s) (in_hand c.look_up.new.at s) (Path c.args.p.now ∷ []) (op.Stat c.args.p.now) (answer.Refused NoEnt) c.in_ok-inode.ensures.went
+    step_of x b (in_hand c.args.at.now s) (in_hand c.look_up.new.at s) (Path c.args.p.now ∷ []) (op.Stat c.args.p.now) (answer.Refused NoEnt)
+    c.in_ok-inode.ensures.went
     (stats_nothing x b s c.args.p.now node)
 
 pub returns-clause-step : goal.returns-clause-step
@@ -38,7 +39,8 @@ returns-clause-step c s x bytes size writes whole =
     let i = c.in-Some-File.inode in
     let node : stands_at b p ≡ Some (File i) = sym c.in_ok-inode.ensures.value ∙ (c.in-Some-File.is ∙ ap Some c.in-Some-File.field-0-is) in
     let same : seen c.args.kv.now mid ≡ b = seen-same c.args.kv.now c.args.at.now mid (Path p ∷ []) c.in_ok-inode.ensures.went in
-    let went : GrowsBy mid c.file_len.new.at (len_keys b i) [] = subst (λ (w : Map). GrowsBy mid c.file_len.new.at (len_keys w i) []) same c.in_ok-len.ensures.recorded in
+    let went : GrowsBy mid c.file_len.new.at (len_keys b i) [] = subst (λ (w : Map). GrowsBy mid c.file_len.new.at (len_keys w i) []) same
+    c.in_ok-len.ensures.recorded in
     let len : c.in_ok-len.len ≡ file_len x.size (file_of i b) =
     c.in_ok-len.ensures.value ∙ ap (λ (w : Map). file_len c.args.settings.region (file_of i w)) same ∙ ap (λ (n : ℕ). file_len n (file_of i b)) (sym size) in
     step_of x b (in_hand c.args.at.now s) (in_hand c.file_len.new.at s) (Path p ∷ len_keys b i) (op.Stat p) (answer.File c.in_ok-len.len)

@@ -22,6 +22,7 @@ returns-clause-ok c =
     record {
       edits = cut_edits r k;
       grows = GrowsBy-append at one all [] [] (e1 ∷ []) (e2 ∷ e3 ∷ []) (GrowsBy-change at one e1 c.in_ok-delta.ensures.ok)
-          (GrowsBy-append one two all [] [] (e2 ∷ []) (e3 ∷ []) (GrowsBy-change one two e2 c.in_ok-delta-2.ensures.ok) (GrowsBy-change two all e3 c.in_ok-cut_range.ensures.ok));
+          (GrowsBy-append one two all [] [] (e2 ∷ []) (e3 ∷ []) (GrowsBy-change one two e2 c.in_ok-delta-2.ensures.ok)
+          (GrowsBy-change two all e3 c.in_ok-cut_range.ensures.ok));
       does = cuts_to b n r k i (omega (arith, c.args.settings.limits)) c.requires (ap (λ (m : ℕ). m / b) c.saturating_sub.ensures) refl;
     }

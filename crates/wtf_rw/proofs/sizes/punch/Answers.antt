@@ -24,7 +24,8 @@ returns-in_default-clause-step c b x bytes size writes whole =
     let f = c.args.f in
     let at = in_hand c.args.at.now s in
     step_of x b at at [] (op.Punch f c.args.n) (answer.Refused NoHandle) (GrowsBy-nothing c.args.at.now)
-    (no_handle x b s f (op.Punch f c.args.n) (spot_closed c.handle_of.result (handle_in s f) c.handle_of.ensures c.in_default.is) (λ S none. punch-none (cap_for x) S f c.args.n none))
+    (no_handle x b s f (op.Punch f c.args.n) (spot_closed c.handle_of.result (handle_in s f) c.handle_of.ensures c.in_default.is)
+    (λ S none. punch-none (cap_for x) S f c.args.n none))
 
 pub returns-clause-step : goal.returns-clause-step
 returns-clause-step c b x bytes size writes whole =
@@ -36,7 +37,8 @@ returns-clause-step c b x bytes size writes whole =
     let edited : Edited h.inode [] (Zeroes x.size h.inode h.off n) c.args.at.now c.zero.new.at =
     subst (λ (i : InodeId). Edited i [] (Zeroes x.size i h.off n) c.args.at.now c.zero.new.at) open_at.inode
     (subst (λ (o : ℕ). Edited c.in-Some.spot.inode [] (Zeroes x.size c.in-Some.spot.inode o n) c.args.at.now c.zero.new.at) open_at.off
-    (subst (λ (z : ℕ). Edited c.in-Some.spot.inode [] (Zeroes z c.in-Some.spot.inode c.in-Some.spot.off n) c.args.at.now c.zero.new.at) (sym size) c.in_ok-zero.ensures.ok)) in
+    (subst (λ (z : ℕ). Edited c.in-Some.spot.inode [] (Zeroes z c.in-Some.spot.inode c.in-Some.spot.off n) c.args.at.now c.zero.new.at) (sym size)
+    c.in_ok-zero.ensures.ok)) in
     record {
       did = changes h.inode edited.edits;
       grows = edited.grows;
@@ -46,7 +48,8 @@ returns-clause-step c b x bytes size writes whole =
 
 pub returns-in_default-clause-made : goal.returns-in_default-clause-made
 returns-in_default-clause-made c =
-    makes_refused (answer.Refused NoHandle) NoHandle (PunchesAt c.args.settings.region (handle_in c.args.s.now c.args.f) c.args.n) c.args.at.now c.args.at.now refl refl
+    makes_refused (answer.Refused NoHandle) NoHandle (PunchesAt c.args.settings.region (handle_in c.args.s.now c.args.f) c.args.n) c.args.at.now c.args.at.now
+    refl refl
 
 pub returns-clause-made : goal.returns-clause-made
 returns-clause-made c =

@@ -24,7 +24,8 @@ returns-in_default-clause-step c b x bytes size writes whole =
     let f = c.args.f in
     let at = in_hand c.args.at.now s in
     step_of x b at at [] (op.Truncate f c.args.n) (answer.Refused NoHandle) (GrowsBy-nothing c.args.at.now)
-    (no_handle x b s f (op.Truncate f c.args.n) (spot_closed c.handle_of.result (handle_in s f) c.handle_of.ensures c.in_default.is) (λ S none. truncate-none (cap_for x) S f c.args.n none))
+    (no_handle x b s f (op.Truncate f c.args.n) (spot_closed c.handle_of.result (handle_in s f) c.handle_of.ensures c.in_default.is)
+    (λ S none. truncate-none (cap_for x) S f c.args.n none))
 
 pub returns-then-n-cap-clause-step : goal.returns-then-n-cap-clause-step
 returns-then-n-cap-clause-step c b x bytes size writes whole =
@@ -54,11 +55,13 @@ returns-clause-step c b x bytes size writes whole =
 
 pub returns-in_default-clause-made : goal.returns-in_default-clause-made
 returns-in_default-clause-made c =
-    makes_refused (answer.Refused NoHandle) NoHandle (CutsAt c.args.settings.region (handle_in c.args.s.now c.args.f) c.args.n) c.args.at.now c.args.at.now refl refl
+    makes_refused (answer.Refused NoHandle) NoHandle (CutsAt c.args.settings.region (handle_in c.args.s.now c.args.f) c.args.n) c.args.at.now c.args.at.now refl
+    refl
 
 pub returns-then-n-cap-clause-made : goal.returns-then-n-cap-clause-made
 returns-then-n-cap-clause-made c =
-    makes_refused (answer.Refused TooBig) TooBig (CutsAt c.args.settings.region (handle_in c.args.s.now c.args.f) c.args.n) c.args.at.now c.args.at.now refl refl
+    makes_refused (answer.Refused TooBig) TooBig (CutsAt c.args.settings.region (handle_in c.args.s.now c.args.f) c.args.n) c.args.at.now c.args.at.now refl
+    refl
 
 pub returns-clause-made : goal.returns-clause-made
 returns-clause-made c =

@@ -38,10 +38,12 @@ loop-done-preserved c =
     let end : upto ≡ min b (from + (len - done)) = omega (arith, c.min-upto.ensures) in
     record {
       upto = omega (arith, c.min-upto.ensures, inside, below);
-      made = Edited-more i [] [] (ZeroesRegions b i off len done) (λ ds. ds ≡ ZeroWithin r from upto ∷ []) (ZeroesRegions b i off len (done + (upto - from))) c.args.at.now c.loop-done.at c.delta.new.self
+      made = Edited-more i [] [] (ZeroesRegions b i off len done) (λ ds. ds ≡ ZeroWithin r from upto ∷ []) (ZeroesRegions b i off len (done + (upto - from)))
+          c.args.at.now c.loop-done.at c.delta.new.self
           c.loop-done.invariant.made (Edited-one i (ZeroWithin r from upto) c.loop-done.at c.delta.new.self c.in_ok-delta.ensures.ok)
           (λ ds es z e. subst (λ (l : List FileEdit). ZeroesRegions b i off len (done + (upto - from)) (ds ++ l)) (sym e)
-          (zeroes_more b off len done upto i ds (omega (arith, c.args.settings.limits)) (omega (arith, c.args.settings.limits)) (omega (arith, end, inside, below)) end z));
+          (zeroes_more b off len done upto i ds (omega (arith, c.args.settings.limits)) (omega (arith, c.args.settings.limits))
+          (omega (arith, end, inside, below)) end z));
     }
 
 pub returns-clause-ok : goal.returns-clause-ok

@@ -37,8 +37,10 @@ returns-in_default-clause-step g c x b size =
     let f = c.args.f in
     let o = op.Write f c.args.bytes.now in
     let at = in_hand c.args.at.now s in
-    step_only g.S.SliceStore.kind (stores c.args.dev.now) (stores c.args.dev.now) c.only.result x b at at [] o (answer.Refused NoHandle) c.only.ensures.answer c.only.ensures.own (GrowsBy-nothing c.args.at.now)
-    (no_handle x b s f o (spot_closed c.handle_of.result (handle_in s f) c.handle_of.ensures c.in_default.is) (λ S none. write-none (cap_for x) S f c.args.bytes.now none))
+    step_only g.S.SliceStore.kind (stores c.args.dev.now) (stores c.args.dev.now) c.only.result x b at at [] o (answer.Refused NoHandle) c.only.ensures.answer
+    c.only.ensures.own (GrowsBy-nothing c.args.at.now)
+    (no_handle x b s f o (spot_closed c.handle_of.result (handle_in s f) c.handle_of.ensures c.in_default.is)
+    (λ S none. write-none (cap_for x) S f c.args.bytes.now none))
 
 pub returns-then-len-eq0-clause-step : goal.returns-then-len-eq0-clause-step
 returns-then-len-eq0-clause-step g c x b size =
@@ -47,7 +49,8 @@ returns-then-len-eq0-clause-step g c x b size =
     let o = op.Write f c.args.bytes.now in
     let at = in_hand c.args.at.now s in
     let open_at = spot_open c.handle_of.result (handle_in s f) c.in-Some.spot c.handle_of.ensures c.in-Some.is in
-    step_only g.S.SliceStore.kind (stores c.args.dev.now) (stores c.args.dev.now) c.only-then-len-eq0.result x b at at [] o answer.Okay c.only-then-len-eq0.ensures.answer c.only-then-len-eq0.ensures.own (GrowsBy-nothing c.args.at.now)
+    step_only g.S.SliceStore.kind (stores c.args.dev.now) (stores c.args.dev.now) c.only-then-len-eq0.result x b at at [] o answer.Okay
+    c.only-then-len-eq0.ensures.answer c.only-then-len-eq0.ensures.own (GrowsBy-nothing c.args.at.now)
     (writes_nothing x b s f open_at.handle open_at.is c.args.bytes.now c.if-len-eq0.true)
 
 pub returns-then-not-ends_within-clause-step : goal.returns-then-not-ends_within-clause-step
@@ -58,8 +61,10 @@ returns-then-not-ends_within-clause-step g c x b size =
     let at = in_hand c.args.at.now s in
     let open_at = spot_open c.handle_of.result (handle_in s f) c.in-Some.spot c.handle_of.ensures c.in-Some.is in
     let past = c.ends_within.ensures.past c.if-not-ends_within.true in
-    step_only g.S.SliceStore.kind (stores c.args.dev.now) (stores c.args.dev.now) c.only-then-not-ends_within.result x b at at [] o (answer.Refused TooBig) c.only-then-not-ends_within.ensures.answer c.only-then-not-ends_within.ensures.own (GrowsBy-nothing c.args.at.now)
-    (writes_too_far x b s f open_at.handle open_at.is c.args.bytes.now (omega (arith, c.if-len-eq0.false)) (omega (arith, past, c.cap.ensures, size, open_at.off)))
+    step_only g.S.SliceStore.kind (stores c.args.dev.now) (stores c.args.dev.now) c.only-then-not-ends_within.result x b at at [] o (answer.Refused TooBig)
+    c.only-then-not-ends_within.ensures.answer c.only-then-not-ends_within.ensures.own (GrowsBy-nothing c.args.at.now)
+    (writes_too_far x b s f open_at.handle open_at.is c.args.bytes.now (omega (arith, c.if-len-eq0.false))
+    (omega (arith, past, c.cap.ensures, size, open_at.off)))
 
 pub returns-in-Ok-lay-clause-step : goal.returns-in-Ok-lay-clause-step
 returns-in-Ok-lay-clause-step g c x b size =
@@ -76,7 +81,8 @@ returns-in-Ok-lay-clause-step g c x b size =
     let edited : Edited h.inode [] (LaysPieces x.size h.off h.inode (p ∷ [])) c.args.at.now c.lay.new.at =
     subst (λ (i : InodeId). Edited i [] (LaysPieces x.size h.off i (p ∷ [])) c.args.at.now c.lay.new.at) open_at.inode
     (subst (λ (k : ℕ). Edited c.in-Some.spot.inode [] (LaysPieces x.size k c.in-Some.spot.inode (p ∷ [])) c.args.at.now c.lay.new.at) open_at.off
-    (subst (λ (z : ℕ). Edited c.in-Some.spot.inode [] (LaysPieces z c.in-Some.spot.off c.in-Some.spot.inode (p ∷ [])) c.args.at.now c.lay.new.at) (sym size) c.in-Ok-lay.ensures.laid)) in
+    (subst (λ (z : ℕ). Edited c.in-Some.spot.inode [] (LaysPieces z c.in-Some.spot.off c.in-Some.spot.inode (p ∷ [])) c.args.at.now c.lay.new.at) (sym size)
+    c.in-Ok-lay.ensures.laid)) in
     let to : c.in-Some.spot.off + p.len ≡ h.off + length bytes = omega (arith, open_at.off, len) in
     let set : SetsHandle f (Some (moved_to (h.off + length bytes) h)) s t =
     subst (λ (k : ℕ). SetsHandle f (Some (moved_to k h)) s t) to
@@ -84,12 +90,17 @@ returns-in-Ok-lay-clause-step g c x b size =
     record {
       did = brings h.inode [] edited.edits (p ∷ []) bytes;
       grows = edited.grows;
-      is_call = writes x b s f h open_at.is t edited.edits (p ∷ []) bytes (omega (arith, c.if-len-eq0.false)) (omega (arith, fit, c.cap.ensures, size, open_at.off))
+      is_call = writes x b s f h open_at.is t edited.edits (p ∷ []) bytes (omega (arith, c.if-len-eq0.false))
+          (omega (arith, fit, c.cap.ensures, size, open_at.off))
           (omega (arith, len)) edited.does set;
       more = record {
         stored = record { piece = p; one = refl; len = c.piece_of.ensures.len; part = c.piece_of.ensures.part };
         lists = refl;
-        told = λ tells. (tell_stored (byte_at g.S.SliceStore.kind (stores c.store_bytes.new.dev)) slice p bytes c.piece_of.ensures.len c.piece_of.ensures.part c.in-Ok.ensures.stored.len (c.in-Ok.ensures.holds tells), tt);
+        told = λ tells. (
+          tell_stored (byte_at g.S.SliceStore.kind (stores c.store_bytes.new.dev)) slice p bytes c.piece_of.ensures.len c.piece_of.ensures.part
+              c.in-Ok.ensures.stored.len (c.in-Ok.ensures.holds tells),
+          tt,
+        );
       };
     }
 
@@ -99,7 +110,8 @@ returns-in-Err-clause-due g c w =
     let f = c.args.f in
     let open_at = spot_open c.handle_of.result (handle_in s f) c.in-Some.spot c.handle_of.ensures c.in-Some.is in
     let fit = c.ends_within.ensures.within c.if-not-ends_within.false in
-    write_due g.S.SliceStore.kind (between c.args.dev.now c.store_bytes.new.dev) c.args.dev.now.settings w s f open_at.handle c.args.bytes.now c.in-Err.why open_at.is
+    write_due g.S.SliceStore.kind (between c.args.dev.now c.store_bytes.new.dev) c.args.dev.now.settings w s f open_at.handle c.args.bytes.now c.in-Err.why
+    open_at.is
     (omega (arith, c.if-len-eq0.false)) (omega (arith, fit, c.cap.ensures, open_at.off)) c.in-Err.ensures.fault
 
 pub returns-in_default-clause-made : goal.returns-in_default-clause-made
@@ -129,8 +141,10 @@ returns-in-Ok-lay-clause-made g c =
     let o = handle_in s f in
     let p = c.piece_of.result in
     let open_at = spot_open c.handle_of.result o c.in-Some.spot c.handle_of.ensures c.in-Some.is in
-    brings_slice answer.Okay answer.Okay (Some c.in-Ok.slice) c.in-Ok.slice p (LaysAt z o) c.args.at.now c.lay.new.at refl refl c.piece_of.ensures.len c.piece_of.ensures.part
-    (makes_laid z o open_at.handle c.in-Some.spot.inode c.in-Some.spot.off (p ∷ []) c.args.at.now c.lay.new.at open_at.is open_at.inode open_at.off c.in-Ok-lay.ensures.laid)
+    brings_slice answer.Okay answer.Okay (Some c.in-Ok.slice) c.in-Ok.slice p (LaysAt z o) c.args.at.now c.lay.new.at refl refl c.piece_of.ensures.len
+    c.piece_of.ensures.part
+    (makes_laid z o open_at.handle c.in-Some.spot.inode c.in-Some.spot.off (p ∷ []) c.args.at.now c.lay.new.at open_at.is open_at.inode open_at.off
+    c.in-Ok-lay.ensures.laid)
 
 pub returns-in_default-clause-holds : goal.returns-in_default-clause-holds
 returns-in_default-clause-holds g c = hand_refused c.only.result.answer NoHandle (MovesOn c.args.f (λ h. length c.args.bytes.now)) c.args.s.now

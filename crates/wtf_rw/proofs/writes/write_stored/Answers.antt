@@ -33,7 +33,8 @@ returns-in_default-clause-step c b x bytes size len has =
     let f = c.args.f in
     let at = in_hand c.args.at.now s in
     step_stored c.args.kept.slice bytes x b at at [] (op.Write f bytes) (answer.Refused NoHandle) (GrowsBy-nothing c.args.at.now)
-    (no_handle x b s f (op.Write f bytes) (spot_closed c.handle_of.result (handle_in s f) c.handle_of.ensures c.in_default.is) (λ S none. write-none (cap_for x) S f bytes none))
+    (no_handle x b s f (op.Write f bytes) (spot_closed c.handle_of.result (handle_in s f) c.handle_of.ensures c.in_default.is)
+    (λ S none. write-none (cap_for x) S f bytes none))
 
 pub returns-in_default-clause-answers : goal.returns-in_default-clause-answers
 returns-in_default-clause-answers c b x bytes size len bare =
@@ -61,25 +62,29 @@ returns-then-not-ends_within-clause-step c b x bytes size len has =
     let open_at = spot_open c.handle_of.result (handle_in s f) c.in-Some.spot c.handle_of.ensures c.in-Some.is in
     let past = c.ends_within.ensures.past c.if-not-ends_within.true in
     step_stored c.args.kept.slice bytes x b at at [] (op.Write f bytes) (answer.Refused TooBig) (GrowsBy-nothing c.args.at.now)
-    (writes_too_far x b s f open_at.handle open_at.is bytes (omega (arith, len, c.if-kept-eq0.false)) (omega (arith, past, len, c.cap.ensures, size, open_at.off)))
+    (writes_too_far x b s f open_at.handle open_at.is bytes (omega (arith, len, c.if-kept-eq0.false))
+    (omega (arith, past, len, c.cap.ensures, size, open_at.off)))
 
 pub returns-then-not-ends_within-clause-answers : goal.returns-then-not-ends_within-clause-answers
 returns-then-not-ends_within-clause-answers c b x bytes size len bare =
     let open_at = spot_open c.handle_of.result (handle_in c.args.s.now c.args.f) c.in-Some.spot c.handle_of.ensures c.in-Some.is in
     let past = c.ends_within.ensures.past c.if-not-ends_within.true in
-    answers_too_far x b c.args.s.now c.args.f open_at.handle open_at.is bytes (omega (arith, len, c.if-kept-eq0.false)) (omega (arith, past, len, c.cap.ensures, size, open_at.off))
+    answers_too_far x b c.args.s.now c.args.f open_at.handle open_at.is bytes (omega (arith, len, c.if-kept-eq0.false))
+    (omega (arith, past, len, c.cap.ensures, size, open_at.off))
 
 pub returns-in_default-slice-clause-answers : goal.returns-in_default-slice-clause-answers
 returns-in_default-slice-clause-answers c b x bytes size len bare =
     let open_at = spot_open c.handle_of.result (handle_in c.args.s.now c.args.f) c.in-Some.spot c.handle_of.ensures c.in-Some.is in
     let fit = c.ends_within.ensures.within c.if-not-ends_within.false in
-    answers_written x b c.args.s.now c.args.f open_at.handle open_at.is bytes (omega (arith, len, c.if-kept-eq0.false)) (omega (arith, fit, len, c.cap.ensures, size, open_at.off))
+    answers_written x b c.args.s.now c.args.f open_at.handle open_at.is bytes (omega (arith, len, c.if-kept-eq0.false))
+    (omega (arith, fit, len, c.cap.ensures, size, open_at.off))
 
 pub returns-clause-answers : goal.returns-clause-answers
 returns-clause-answers c b x bytes size len bare =
     let open_at = spot_open c.handle_of.result (handle_in c.args.s.now c.args.f) c.in-Some.spot c.handle_of.ensures c.in-Some.is in
     let fit = c.ends_within.ensures.within c.if-not-ends_within.false in
-    answers_written x b c.args.s.now c.args.f open_at.handle open_at.is bytes (omega (arith, len, c.if-kept-eq0.false)) (omega (arith, fit, len, c.cap.ensures, size, open_at.off))
+    answers_written x b c.args.s.now c.args.f open_at.handle open_at.is bytes (omega (arith, len, c.if-kept-eq0.false))
+    (omega (arith, fit, len, c.cap.ensures, size, open_at.off))
 
 pub returns-clause-step : goal.returns-clause-step
 returns-clause-step c b x bytes size same has =
@@ -96,7 +101,8 @@ returns-clause-step c b x bytes size same has =
     let edited : Edited h.inode [] (LaysPieces x.size h.off h.inode (p ∷ [])) c.args.at.now c.lay.new.at =
     subst (λ (i : InodeId). Edited i [] (LaysPieces x.size h.off i (p ∷ [])) c.args.at.now c.lay.new.at) open_at.inode
     (subst (λ (k : ℕ). Edited c.in-Some.spot.inode [] (LaysPieces x.size k c.in-Some.spot.inode (p ∷ [])) c.args.at.now c.lay.new.at) open_at.off
-    (subst (λ (z : ℕ). Edited c.in-Some.spot.inode [] (LaysPieces z c.in-Some.spot.off c.in-Some.spot.inode (p ∷ [])) c.args.at.now c.lay.new.at) (sym size) c.in_ok-lay.ensures.laid)) in
+    (subst (λ (z : ℕ). Edited c.in-Some.spot.inode [] (LaysPieces z c.in-Some.spot.off c.in-Some.spot.inode (p ∷ [])) c.args.at.now c.lay.new.at) (sym size)
+    c.in_ok-lay.ensures.laid)) in
     let to : c.in-Some.spot.off + p.len ≡ h.off + length bytes = omega (arith, open_at.off, len) in
     let set : SetsHandle f (Some (moved_to (h.off + length bytes) h)) s t =
     subst (λ (k : ℕ). SetsHandle f (Some (moved_to k h)) s t) to
@@ -104,7 +110,8 @@ returns-clause-step c b x bytes size same has =
     record {
       did = brings h.inode [] edited.edits (p ∷ []) bytes;
       grows = edited.grows;
-      is_call = writes x b s f h open_at.is t edited.edits (p ∷ []) bytes (omega (arith, same, c.if-kept-eq0.false)) (omega (arith, fit, same, c.cap.ensures, size, open_at.off))
+      is_call = writes x b s f h open_at.is t edited.edits (p ∷ []) bytes (omega (arith, same, c.if-kept-eq0.false))
+          (omega (arith, fit, same, c.cap.ensures, size, open_at.off))
           (omega (arith, len)) edited.does set;
       more = brought h.inode [] edited.edits c.args.kept.slice slice p bytes c.in-Some-slice.is c.piece_of.ensures.len c.piece_of.ensures.part;
     }
@@ -120,7 +127,8 @@ returns-then-kept-eq0-clause-made c =
     let at = c.args.at.now in
     let z = c.args.settings.region in
     let o = handle_in c.args.s.now c.args.f in
-    brings_no_slice answer.Okay c.args.kept.slice (LaysAt z o) at at (no_slice_kept c.args.kept.slice c.args.kept.len c.args.kept.held c.if-kept-eq0.true) (lays_none z o) refl
+    brings_no_slice answer.Okay c.args.kept.slice (LaysAt z o) at at (no_slice_kept c.args.kept.slice c.args.kept.len c.args.kept.held c.if-kept-eq0.true)
+    (lays_none z o) refl
 
 pub returns-then-not-ends_within-clause-made : goal.returns-then-not-ends_within-clause-made
 returns-then-not-ends_within-clause-made c =
@@ -143,8 +151,10 @@ returns-clause-made c =
     let o = handle_in s f in
     let p = c.piece_of.result in
     let open_at = spot_open c.handle_of.result o c.in-Some.spot c.handle_of.ensures c.in-Some.is in
-    brings_slice answer.Okay answer.Okay c.args.kept.slice c.in-Some-slice.slice p (LaysAt z o) c.args.at.now c.lay.new.at refl c.in-Some-slice.is c.piece_of.ensures.len c.piece_of.ensures.part
-    (makes_laid z o open_at.handle c.in-Some.spot.inode c.in-Some.spot.off (p ∷ []) c.args.at.now c.lay.new.at open_at.is open_at.inode open_at.off c.in_ok-lay.ensures.laid)
+    brings_slice answer.Okay answer.Okay c.args.kept.slice c.in-Some-slice.slice p (LaysAt z o) c.args.at.now c.lay.new.at refl c.in-Some-slice.is
+    c.piece_of.ensures.len c.piece_of.ensures.part
+    (makes_laid z o open_at.handle c.in-Some.spot.inode c.in-Some.spot.off (p ∷ []) c.args.at.now c.lay.new.at open_at.is open_at.inode open_at.off
+    c.in_ok-lay.ensures.laid)
 
 pub returns-in_default-clause-holds : goal.returns-in_default-clause-holds
 returns-in_default-clause-holds c = hand_refused (answer.Refused NoHandle) NoHandle (MovesOn c.args.f (λ h. held_len c.args.kept.slice)) c.args.s.now refl

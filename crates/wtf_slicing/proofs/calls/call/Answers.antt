@@ -10,19 +10,32 @@ use Rattle.wtf_slicing.proofs.calls.call.Goals as goal
 
 pub returns-in-Ok-clause-inside : goal.returns-in-Ok-clause-inside
 returns-in-Ok-clause-inside g c counted =
-    keeps_inside g.met.S.SliceStore.laws c.args.dev.now c.run.new.dev c.args.kv.now c.args.at.now c.run.new.at c.args.s.now c.run.new.s c.args.new c.args.op.now c.in-Ok.answer
-    c.requires.sound.shelf c.in-Ok.ensures.left.dev c.in-Ok.ensures.step counted c.requires.inside
+    keeps_inside g.met.S.SliceStore.laws c.args.dev.now c.run.new.dev c.args.kv.now c.args.at.now c.run.new.at c.args.s.now c.run.new.s c.args.new
+    c.args.op.now c.in-Ok.answer c.requires.sound.shelf c.in-Ok.ensures.dev c.in-Ok.ensures.step counted c.requires.inside
 
 pub returns-in-Err-clause-inside : goal.returns-in-Err-clause-inside
 returns-in-Err-clause-inside g c counted =
     let kv = c.args.kv.now in
-    let back = c.rewind.ensures.back c.args.at.now c.in-Err.ensures.left.grows c.mark-mark.ensures in
-    stays_inside g.met.S.SliceStore.laws c.args.dev.now c.run.new.dev (seen kv c.args.at.now)
-    (seen kv c.rewind.new.self) c.args.s.now c.run.new.s c.requires.sound.shelf c.in-Err.ensures.left.dev.each
-    (ap (λ (at : Attempted Key Delta). seen kv at) back) c.in-Err.ensures.err c.requires.inside
+    let back = c.rewind.ensures.back c.args.at.now c.in-Err.ensures.grows c.mark-mark.ensures in
+    stays_inside g.met.S.SliceStore.laws c.args.dev.now c.run.new.dev (seen kv c.args.at.now) (seen kv c.rewind.new.self) c.args.s.now c.run.new.s
+    c.requires.sound.shelf c.in-Err.ensures.dev.each (ap (λ (at : Attempted Key Delta). seen kv at) back) c.in-Err.ensures.err c.requires.inside
 
-pub returns-in-Err-clause-grows : goal.returns-in-Err-clause-grows
-returns-in-Err-clause-grows g c =
-    let at = c.args.at.now in
-    let back = c.rewind.ensures.back at c.in-Err.ensures.left.grows c.mark-mark.ensures in
-    subst (λ (into : Attempted Key Delta). Grows at into) (sym back) (Grows-by at at [] [] (GrowsBy-nothing at))
+pub returns-in-Err-clause-call : goal.returns-in-Err-clause-call
+returns-in-Err-clause-call g c =
+    let was = c.args.at.now in
+    let call = c.in-Err.ensures in
+    record {
+      keys = tt;
+      step = tt;
+      done = tt;
+      logged = tt;
+      refused = tt;
+      fault = call.fault;
+      due = call.due;
+      err = call.err;
+      grows = subst (λ (at : Attempted Key Delta). Grows was at) (sym (c.rewind.ensures.back was call.grows c.mark-mark.ensures))
+          (Grows-by was was [] [] (GrowsBy-nothing was));
+      still = call.still;
+      reads = call.reads;
+      dev = call.dev;
+    }

@@ -1,188 +1,139 @@
-use Rattle.std.proofs.Common.{[], refl, sym, subst}
-use Rattle.wtf_meta.specs.Maps.{seen}
-use Rattle.wtf_meta.specs.Sessions.{SessionView}
+use Rattle.std.proofs.Common.{[], refl, sym, ◌∙◌, append-nil}
+use Rattle.std.proofs.lemmas.Result.{IfOk-weaker, on_ok_weaker}
 use Rattle.wtf_occ.proofs.AttemptLaws.{GrowsBy-nothing, Grows-by}
+use Rattle.wtf_meta.specs.Maps.{seen}
 use Rattle.wtf_steps.specs.Steps.{in_hand}
-use Rattle.wtf_slicing.specs.declared.op.SliceOp.TheVariants.{Yank, Peek, Cut, Paste, Glue, Concat, Copy}
-use Rattle.wtf_slicing.proofs.Dispatch.{as_named, fault_as}
 use Rattle.wtf_steps.proofs.Making.{makes_nothing}
+use Rattle.wtf_slicing.specs.declared.op.SliceOp.TheVariants.{Yank, Peek, Cut, Paste, Glue, Concat, Copy}
 use Rattle.wtf_slicing.specs.Changed.{SliceMade}
-use Rattle.wtf_slicing.specs.Ops.{IsSliceStep}
 use Rattle.wtf_slicing.specs.Sights.{sight}
-use Rattle.wtf_slicing.proofs.DoneWays.{ok_weaker, err_weaker, hand_same, done_as, done_plain}
+use Rattle.wtf_slicing.proofs.Dispatch.{named, no_keys, on_err_all, if_ok_all, plain_call, peek_of, yank_of, concat_of}
+use Rattle.wtf_slicing.proofs.DoneWays.{hand_same}
 use Rattle.wtf_slicing.proofs.calls.run.Goals as goal
 
-pub returns-in-Yank-clause-step : goal.returns-in-Yank-clause-step
-returns-in-Yank-clause-step g c =
-    let dev = c.args.dev.now in
-    let b = seen c.args.kv.now c.args.at.now in
-    ok_weaker c.yank.result (λ a h.
-    as_named (record { kind = g.S.SliceStore.kind; before = dev; after = c.yank.new.dev; map = b }) dev.settings.region c.args.new
-    (in_hand c.args.at.now c.args.s.now)
-    (in_hand c.yank.new.at c.yank.new.s) c.args.op.now (Yank c.in-Yank.f c.in-Yank.n c.in-Yank.label) a c.in-Yank.is
-    (λ x size own. h x size)) c.yank.ensures.step
-
-pub returns-in-Yank-clause-done : goal.returns-in-Yank-clause-done
-returns-in-Yank-clause-done g c =
-    let b = seen c.args.kv.now c.args.at.now in
-    ok_weaker c.yank.result (λ a h.
-    done_as (record { kind = g.S.SliceStore.kind; before = c.args.dev.now; after = c.yank.new.dev; map = b }) c.args.new c.args.op.now
-    (Yank c.in-Yank.f c.in-Yank.n c.in-Yank.label) a
-    (in_hand c.args.at.now c.args.s.now) (in_hand c.yank.new.at c.yank.new.s) c.in-Yank.is (h c.args.new)) c.yank.ensures.done
-
-pub returns-in-Yank-clause-due : goal.returns-in-Yank-clause-due
-returns-in-Yank-clause-due g c =
-    err_weaker c.yank.result (λ why h.
-    fault_as c.args.dev.now.settings (seen c.args.kv.now c.args.at.now) c.args.s.now c.args.op.now
-    (Yank c.in-Yank.f c.in-Yank.n c.in-Yank.label) why c.in-Yank.is h) c.yank.ensures.due
-
-pub returns-in-Peek-clause-step : goal.returns-in-Peek-clause-step
-returns-in-Peek-clause-step g c =
+pub returns-in-Yank : goal.returns-in-Yank
+returns-in-Yank g c =
     let kind = g.S.SliceStore.kind in
     let dev = c.args.dev.now in
-    let b = seen c.args.kv.now c.args.at.now in
-    let s = c.args.s.now in
-    let old = in_hand c.args.at.now s in
-    ok_weaker c.peek.result (λ a h.
-    subst (λ (t : SessionView). IsSliceStep (record { kind = kind; before = dev; after = c.peek.new.dev; map = b }) dev.settings.region c.args.new old
-    (in_hand c.args.at.now t) c.args.op.now a)
-    (sym c.peek.ensures.same)
-    (as_named (record { kind = kind; before = dev; after = c.peek.new.dev; map = b }) dev.settings.region c.args.new old old
-    c.args.op.now (Peek c.in-Peek.from c.in-Peek.off c.in-Peek.len) a c.in-Peek.is (λ x size own. h x b old refl))) c.peek.ensures.step
+    let left = c.yank.new.dev in
+    let w = seen c.args.kv.now c.args.at.now in
+    let old = in_hand c.args.at.now c.args.s.now in
+    let new = in_hand c.yank.new.at c.yank.new.s in
+    let f = c.in-Yank.f in
+    let n = c.in-Yank.n in
+    let label = c.in-Yank.label in
+    let yank = c.yank.ensures in
+    named (record { kind = kind; before = dev; after = left; map = w }) c.args.new old new c.args.op.now (Yank f n label) c.yank.result c.in-Yank.is
+    (yank_of kind dev left w c.args.new old new f n label c.yank.result yank.keys yank.step yank.done yank.fault yank.due yank.takes)
 
-pub returns-in-Peek-clause-done : goal.returns-in-Peek-clause-done
-returns-in-Peek-clause-done g c =
+pub returns-in-Peek : goal.returns-in-Peek
+returns-in-Peek g c =
+    let kind = g.S.SliceStore.kind in
+    let dev = c.args.dev.now in
+    let left = c.peek.new.dev in
+    let at = c.args.at.now in
+    let s = c.args.s.now in
+    let t = c.peek.new.s in
+    let w = seen c.args.kv.now at in
+    let label = c.in-Peek.from in
+    let off = c.in-Peek.off in
+    let n = c.in-Peek.len in
+    let peek = c.peek.ensures in
+    named (record { kind = kind; before = dev; after = left; map = w }) c.args.new (in_hand at s) (in_hand at t) c.args.op.now (Peek label off n) c.peek.result
+    c.in-Peek.is
+    (peek_of kind dev left w c.args.new at s t label off n c.peek.result peek.step peek.fault peek.due peek.shows)
+
+pub returns-in-Cut : goal.returns-in-Cut
+returns-in-Cut g c =
     let dev = c.args.dev.now in
     let at = c.args.at.now in
     let s = c.args.s.now in
-    let b = seen c.args.kv.now at in
-    ok_weaker c.peek.result (λ a h.
-    done_plain (record { kind = g.S.SliceStore.kind; before = dev; after = c.peek.new.dev; map = b }) c.args.new c.args.op.now
-    (Peek c.in-Peek.from c.in-Peek.off c.in-Peek.len) a
-    (in_hand at s) (in_hand at c.peek.new.s) c.in-Peek.is refl c.peek.ensures.lists
-    (makes_nothing a (SliceMade (sight dev.settings.region b s c.args.new []) (Peek c.in-Peek.from c.in-Peek.off c.in-Peek.len)) at at refl refl)
-    (hand_same a s c.peek.new.s c.peek.ensures.same)) c.peek.ensures.logged
+    let w = seen c.args.kv.now at in
+    let p = Cut c.in-Cut.from c.in-Cut.off c.in-Cut.len c.in-Cut.to in
+    let r = c.cut.result in
+    let cut = c.cut.ensures in
+    plain_call g.met.S.SliceStore.laws dev c.requires.sound w c.args.new (in_hand at s) (in_hand at c.cut.new.s) c.args.op.now p r c.plain.result c.in-Cut.is
+    c.plain.ensures refl refl (record {
+      keys = no_keys r at;
+      step = IfOk-weaker r _ _ (λ a h x size own. h x w (in_hand at s) refl) cut.step;
+      makes = if_ok_all _ r (λ a. makes_nothing a (SliceMade (sight dev.settings.region w s c.args.new []) p) at at refl refl);
+      holds = cut.holds;
+      lays = record {
+        logged = cut.logged;
+        refused = if_ok_all _ r (λ a refused. refl);
+        err = cut.err;
+        grows = Grows-by at at [] [] (GrowsBy-nothing at);
+      };
+    })
 
-pub returns-in-Peek-clause-due : goal.returns-in-Peek-clause-due
-returns-in-Peek-clause-due g c =
-    let b = seen c.args.kv.now c.args.at.now in
-    err_weaker c.peek.result (λ why h. fault_as c.args.dev.now.settings b c.args.s.now c.args.op.now
-    (Peek c.in-Peek.from c.in-Peek.off c.in-Peek.len) why c.in-Peek.is (h b)) c.peek.ensures.due
-
-pub returns-in-Peek-clause-left : goal.returns-in-Peek-clause-left
-returns-in-Peek-clause-left g c =
+pub returns-in-Paste : goal.returns-in-Paste
+returns-in-Paste g c =
+    let dev = c.args.dev.now in
     let at = c.args.at.now in
-    record {
-      logged = c.peek.ensures.logged;
-      refused = ok_weaker c.peek.result (λ a h is. (h is, refl)) c.peek.ensures.refused;
-      grows = Grows-by at at [] [] (GrowsBy-nothing at);
-      reads = c.peek.ensures.reads;
-      dev = c.peek.ensures.dev;
-    }
+    let w = seen c.args.kv.now at in
+    let old = in_hand at c.args.s.now in
+    let new = in_hand c.paste.new.at c.paste.new.s in
+    let p = Paste c.in-Paste.f c.in-Paste.label in
+    let r = c.paste.result in
+    let paste = c.paste.ensures in
+    plain_call g.met.S.SliceStore.laws dev c.requires.sound w c.args.new old new c.args.op.now p r c.plain-in-Paste.result c.in-Paste.is
+    c.plain-in-Paste.ensures
+    refl refl (record {
+      keys = on_ok_weaker r (λ same. same ∙ sym (append-nil at.reads)) paste.keys;
+      step = IfOk-weaker r _ _ (λ a h x size own. h x w size) paste.step;
+      makes = paste.made;
+      holds = paste.holds;
+      lays = paste.lays;
+    })
 
-pub returns-in-Concat-clause-step : goal.returns-in-Concat-clause-step
-returns-in-Concat-clause-step g c =
-    let dev = c.args.dev.now in
-    let b = seen c.args.kv.now c.args.at.now in
-    let s = c.args.s.now in
-    ok_weaker c.concat.result (λ a h.
-    as_named (record { kind = g.S.SliceStore.kind; before = dev; after = c.concat.new.dev; map = b }) dev.settings.region c.args.new (in_hand c.args.at.now s)
-    (in_hand c.concat.new.at s) c.args.op.now (Concat c.in-Concat.q c.in-Concat.paths) a c.in-Concat.is (λ x size own. h x s size own)) c.concat.ensures.step
-
-pub returns-in-Concat-clause-done : goal.returns-in-Concat-clause-done
-returns-in-Concat-clause-done g c =
-    let b = seen c.args.kv.now c.args.at.now in
-    let s = c.args.s.now in
-    ok_weaker c.concat.result (λ a h.
-    done_as (record { kind = g.S.SliceStore.kind; before = c.args.dev.now; after = c.concat.new.dev; map = b }) c.args.new c.args.op.now
-    (Concat c.in-Concat.q c.in-Concat.paths) a
-    (in_hand c.args.at.now s) (in_hand c.concat.new.at s) c.in-Concat.is (h s)) c.concat.ensures.done
-
-pub returns-in-Concat-clause-due : goal.returns-in-Concat-clause-due
-returns-in-Concat-clause-due g c =
-    let s = c.args.s.now in
-    err_weaker c.concat.result (λ why h.
-    fault_as c.args.dev.now.settings (seen c.args.kv.now c.args.at.now) s c.args.op.now (Concat c.in-Concat.q c.in-Concat.paths) why c.in-Concat.is
-    (h s)) c.concat.ensures.due
-
-pub returns-in-Ok-clause-step : goal.returns-in-Ok-clause-step
-returns-in-Ok-clause-step g c =
-    let dev = c.args.dev.now in
-    let b = seen c.args.kv.now c.args.at.now in
-    let s = c.args.s.now in
-    let old = in_hand c.args.at.now s in
-    as_named (record { kind = g.S.SliceStore.kind; before = dev; after = dev; map = b }) dev.settings.region c.args.new old (in_hand c.args.at.now c.cut.new.s)
-    c.args.op.now (Cut c.in-Cut.from c.in-Cut.off c.in-Cut.len c.in-Cut.to) c.in-Ok.answer c.in-Cut.is (λ x size own. c.in-Ok.ensures.step x b old refl)
-
-pub returns-in-Ok-clause-done : goal.returns-in-Ok-clause-done
-returns-in-Ok-clause-done g c =
+pub returns-in-Glue : goal.returns-in-Glue
+returns-in-Glue g c =
     let dev = c.args.dev.now in
     let at = c.args.at.now in
     let s = c.args.s.now in
-    let b = seen c.args.kv.now at in
-    done_plain (record { kind = g.S.SliceStore.kind; before = dev; after = dev; map = b }) c.args.new c.args.op.now
-    (Cut c.in-Cut.from c.in-Cut.off c.in-Cut.len c.in-Cut.to) c.in-Ok.answer
-    (in_hand at s) (in_hand c.args.at.now c.cut.new.s) c.in-Cut.is refl refl
-    (makes_nothing c.in-Ok.answer (SliceMade (sight dev.settings.region b s c.args.new [])
-    (Cut c.in-Cut.from c.in-Cut.off c.in-Cut.len c.in-Cut.to)) at at refl refl) c.in-Ok.ensures.holds
+    let w = seen c.args.kv.now at in
+    let p = Glue c.in-Glue.f c.in-Glue.label in
+    let r = c.glue.result in
+    let glue = c.glue.ensures in
+    plain_call g.met.S.SliceStore.laws dev c.requires.sound w c.args.new (in_hand at s) (in_hand c.glue.new.at s) c.args.op.now p r c.plain-in-Glue.result
+    c.in-Glue.is c.plain-in-Glue.ensures refl refl (record {
+      keys = glue.keys;
+      step = IfOk-weaker r _ _ (λ a h x size own. h x size) glue.step;
+      makes = glue.made;
+      holds = if_ok_all _ r (λ a. hand_same a s s refl);
+      lays = glue.lays;
+    })
 
-pub returns-in-Ok-paste-clause-step : goal.returns-in-Ok-paste-clause-step
-returns-in-Ok-paste-clause-step g c =
+pub returns-in-Concat : goal.returns-in-Concat
+returns-in-Concat g c =
+    let kind = g.S.SliceStore.kind in
     let dev = c.args.dev.now in
-    let b = seen c.args.kv.now c.args.at.now in
+    let left = c.concat.new.dev in
+    let was = c.args.at.now in
+    let now = c.concat.new.at in
     let s = c.args.s.now in
-    let old = in_hand c.args.at.now s in
-    as_named (record { kind = g.S.SliceStore.kind; before = dev; after = dev; map = b }) dev.settings.region c.args.new old
-    (in_hand c.paste.new.at c.paste.new.s)
-    c.args.op.now (Paste c.in-Paste.f c.in-Paste.label) c.in-Ok-paste.answer c.in-Paste.is (λ x size own. c.in-Ok-paste.ensures.step x b size)
+    let w = seen c.args.kv.now was in
+    let q = c.in-Concat.q in
+    let ps = c.in-Concat.paths in
+    let concat = c.concat.ensures in
+    named (record { kind = kind; before = dev; after = left; map = w }) c.args.new (in_hand was s) (in_hand now s) c.args.op.now (Concat q ps) c.concat.result
+    c.in-Concat.is
+    (concat_of kind dev left w c.args.new was now s q ps c.concat.result concat.keys concat.step concat.done concat.fault concat.due concat.left)
 
-pub returns-in-Ok-paste-clause-done : goal.returns-in-Ok-paste-clause-done
-returns-in-Ok-paste-clause-done g c =
-    let dev = c.args.dev.now in
-    let at = c.args.at.now in
-    let s = c.args.s.now in
-    let b = seen c.args.kv.now at in
-    done_plain (record { kind = g.S.SliceStore.kind; before = dev; after = dev; map = b }) c.args.new c.args.op.now
-    (Paste c.in-Paste.f c.in-Paste.label) c.in-Ok-paste.answer
-    (in_hand at s) (in_hand c.paste.new.at c.paste.new.s) c.in-Paste.is refl refl
-    c.in-Ok-paste.ensures.made c.in-Ok-paste.ensures.holds
-
-pub returns-in-Ok-glue-clause-step : goal.returns-in-Ok-glue-clause-step
-returns-in-Ok-glue-clause-step g c =
-    let dev = c.args.dev.now in
-    let b = seen c.args.kv.now c.args.at.now in
-    let s = c.args.s.now in
-    let old = in_hand c.args.at.now s in
-    as_named (record { kind = g.S.SliceStore.kind; before = dev; after = dev; map = b }) dev.settings.region c.args.new old (in_hand c.glue.new.at c.args.s.now)
-    c.args.op.now (Glue c.in-Glue.f c.in-Glue.label) c.in-Ok-glue.answer c.in-Glue.is (λ x size own. c.in-Ok-glue.ensures.step x size)
-
-pub returns-in-Ok-glue-clause-done : goal.returns-in-Ok-glue-clause-done
-returns-in-Ok-glue-clause-done g c =
+pub returns-in-Copy : goal.returns-in-Copy
+returns-in-Copy g c =
     let dev = c.args.dev.now in
     let at = c.args.at.now in
     let s = c.args.s.now in
-    let b = seen c.args.kv.now at in
-    done_plain (record { kind = g.S.SliceStore.kind; before = dev; after = dev; map = b }) c.args.new c.args.op.now
-    (Glue c.in-Glue.f c.in-Glue.label) c.in-Ok-glue.answer
-    (in_hand at s) (in_hand c.glue.new.at c.args.s.now) c.in-Glue.is refl refl
-    c.in-Ok-glue.ensures.made (hand_same c.in-Ok-glue.answer s s refl)
-
-pub returns-in-Ok-copy-clause-step : goal.returns-in-Ok-copy-clause-step
-returns-in-Ok-copy-clause-step g c =
-    let dev = c.args.dev.now in
-    let b = seen c.args.kv.now c.args.at.now in
-    let s = c.args.s.now in
-    let old = in_hand c.args.at.now s in
-    as_named (record { kind = g.S.SliceStore.kind; before = dev; after = dev; map = b }) dev.settings.region c.args.new old (in_hand c.copy.new.at c.args.s.now)
-    c.args.op.now (Copy c.in-Copy.p c.in-Copy.q) c.in-Ok-copy.answer c.in-Copy.is (λ x size own. c.in-Ok-copy.ensures.step x s own)
-
-pub returns-in-Ok-copy-clause-done : goal.returns-in-Ok-copy-clause-done
-returns-in-Ok-copy-clause-done g c =
-    let dev = c.args.dev.now in
-    let at = c.args.at.now in
-    let s = c.args.s.now in
-    let b = seen c.args.kv.now at in
-    done_plain (record { kind = g.S.SliceStore.kind; before = dev; after = dev; map = b }) c.args.new c.args.op.now
-    (Copy c.in-Copy.p c.in-Copy.q) c.in-Ok-copy.answer
-    (in_hand at s) (in_hand c.copy.new.at c.args.s.now) c.in-Copy.is refl refl
-    c.in-Ok-copy.ensures.made (hand_same c.in-Ok-copy.answer s s refl)
+    let w = seen c.args.kv.now at in
+    let p = Copy c.in-Copy.p c.in-Copy.q in
+    let r = c.copy.result in
+    let copy = c.copy.ensures in
+    plain_call g.met.S.SliceStore.laws dev c.requires.sound w c.args.new (in_hand at s) (in_hand c.copy.new.at s) c.args.op.now p r c.plain-in-Copy.result
+    c.in-Copy.is c.plain-in-Copy.ensures refl refl (record {
+      keys = copy.keys;
+      step = IfOk-weaker r _ _ (λ a h x size own. h x s own) copy.step;
+      makes = copy.made;
+      holds = if_ok_all _ r (λ a. hand_same a s s refl);
+      lays = record { logged = copy.logged; refused = copy.refused; err = on_err_all _ r refl; grows = copy.grows };
+    })

@@ -30,7 +30,8 @@ use Rattle.wtf_slicing.specs.Sources.{sources_of, lens_of, ReadsFiles, AreFilesR
 use Rattle.wtf_slicing.specs.Changed.{IsConcat}
 use Rattle.wtf_slicing.specs.Sights.{sight}
 use Rattle.wtf_slicing.proofs.CopyWays.{went_all}
-use Rattle.wtf_slicing.proofs.ConcatWays.{grown, gathers, all_keys, concat_keys_are, not_more, too_many, concats_nowhere, concats_nothing, concats_too_much, concats}
+use Rattle.wtf_slicing.proofs.ConcatWays.{grown, gathers, all_keys, concat_keys_are, not_more, too_many, concats_nowhere, concats_nothing, concats_too_much}
+use Rattle.wtf_slicing.proofs.ConcatWays.{concats}
 use Rattle.wtf_slicing.proofs.DoneWays.{hand_same, done_refused}
 use Rattle.wtf_slicing.proofs.SliceWays.{step_looked}
 use Rattle.wtf_slicing.proofs.TakeFaults.{concat_due}
@@ -103,7 +104,8 @@ returns-then-len-cap-clause-step g c x s size own =
     (too_many c.in-Ok.len (lens_of z (seen kv far) c.as_slice-2.result.now) c.cap.result z c.in-Ok.ensures.value c.if-len-cap.true c.cap.ensures)) in
     step_looked g.S.SliceStore.kind c.args.dev.now c.args.dev.now x b (in_hand at s) (in_hand new s) (op.Concat q ps) (answer.Refused TooBig)
     (step_of x b (in_hand at s) (in_hand new s) (all_keys b q ps is) (op.Concat q ps) (answer.Refused TooBig)
-    (keys_more at mid new (target_keys b q) (sources_keys b ps ++ files_keys b is) first (keys_more mid far new (sources_keys b ps) (files_keys b is) second third))
+    (keys_more at mid new (target_keys b q) (sources_keys b ps ++ files_keys b is) first
+    (keys_more mid far new (sources_keys b ps) (files_keys b is) second third))
     (concats_too_much x b s q ps c.in-Ok-Ok.dir e is f (subst (λ (k : ℕ). MAX_REGIONS * k < lens_of k b is) (sym size) past)))
 
 -- what was found before the files were read
@@ -202,7 +204,8 @@ put_pieces-requires g c =
     c.in-Ok-all_pieces.ensures.read.reads.len) in
     let fit : lens_of z (seen kv far) is ≤ MAX_REGIONS * z =
     subst (λ (l : List InodeId). lens_of z (seen kv far) l ≤ MAX_REGIONS * z) c.as_slice-2.ensures.value
-    (not_more c.in-Ok.len (lens_of z (seen kv far) c.as_slice-2.result.now) c.cap.result z c.in-Ok.ensures.value c.if-len-cap.false c.cap.ensures (omega (arith, c.args.dev.now.settings.limits))) in
+    (not_more c.in-Ok.len (lens_of z (seen kv far) c.as_slice-2.result.now) c.cap.result z c.in-Ok.ensures.value c.if-len-cap.false c.cap.ensures
+    (omega (arith, c.args.dev.now.settings.limits))) in
     record {
       cap = within (pieces_len c.as_slice-4.result.now) (pieces_len out) (lens_of z (seen kv far) is) (MAX_REGIONS * z)
           (ap pieces_len c.as_slice-4.ensures.value) len fit;
@@ -234,9 +237,11 @@ returns-in-Ok-put_pieces-clause-keys g c =
     subst (λ (m : Map). GrowsBy far read (files_keys m is) []) again
     (subst (λ (l : List InodeId). GrowsBy far read (files_keys (seen kv far) l) []) c.as_slice-2.ensures.value c.in-Ok.ensures.went) in
     let made : GrowsBy read c.make_file.new.at [] (create_edits dir q c.args.new) =
-    subst (λ (a : Attempted Key Delta). GrowsBy a c.make_file.new.at [] (create_edits dir q c.args.new)) c.in-Ok-all_pieces.ensures.same c.in-Ok-make_file.ensures.went in
+    subst (λ (a : Attempted Key Delta). GrowsBy a c.make_file.new.at [] (create_edits dir q c.args.new)) c.in-Ok-all_pieces.ensures.same
+    c.in-Ok-make_file.ensures.went in
     let laid = c.in-Ok-put_pieces.ensures.ok in
-    let all = went_all at mid far read c.make_file.new.at c.put_pieces.new.at (target_keys b q) (sources_keys b ps) (files_keys b is) (create_edits dir q c.args.new) (edits_of c.args.new laid.edits) first second third made laid.grows in
+    let all = went_all at mid far read c.make_file.new.at c.put_pieces.new.at (target_keys b q) (sources_keys b ps) (files_keys b is)
+    (create_edits dir q c.args.new) (edits_of c.args.new laid.edits) first second third made laid.grows in
     all.reads ∙ ap (λ (l : List Key). at.reads ++ l) (sym (concat_keys_are b q dir ps is e f))
 
 pub returns-in-Ok-put_pieces-clause-step : goal.returns-in-Ok-put_pieces-clause-step
@@ -270,7 +275,8 @@ returns-in-Ok-put_pieces-clause-step g c x s size own =
     (subst (λ (l : List InodeId). GrowsBy far read (files_keys (seen kv far) l) []) c.as_slice-2.ensures.value c.in-Ok.ensures.went) in
     let last : seen kv read ≡ b = seen-same kv far read (files_keys b is) third ∙ again in
     let made : GrowsBy read c.make_file.new.at [] (create_edits dir q new) =
-    subst (λ (a : Attempted Key Delta). GrowsBy a c.make_file.new.at [] (create_edits dir q new)) c.in-Ok-all_pieces.ensures.same c.in-Ok-make_file.ensures.went in
+    subst (λ (a : Attempted Key Delta). GrowsBy a c.make_file.new.at [] (create_edits dir q new)) c.in-Ok-all_pieces.ensures.same
+    c.in-Ok-make_file.ensures.went in
     let laid : Edited new [] (LaysPieces x.size 0 new out) c.make_file.new.at into =
     subst (λ (k : ℕ). Edited new [] (LaysPieces k 0 new out) c.make_file.new.at into) (sym size)
     (subst (λ (l : List Piece). Edited new [] (LaysPieces z 0 new l) c.make_file.new.at into) c.as_slice-4.ensures.value c.in-Ok-put_pieces.ensures.ok) in
@@ -282,7 +288,8 @@ returns-in-Ok-put_pieces-clause-step g c x s size own =
     let fit0 : lens_of z b is ≤ MAX_REGIONS * z =
     subst (λ (m : Map). lens_of z m is ≤ MAX_REGIONS * z) again
     (subst (λ (l : List InodeId). lens_of z (seen kv far) l ≤ MAX_REGIONS * z) c.as_slice-2.ensures.value
-    (not_more c.in-Ok.len (lens_of z (seen kv far) c.as_slice-2.result.now) c.cap.result z c.in-Ok.ensures.value c.if-len-cap.false c.cap.ensures (omega (arith, c.args.dev.now.settings.limits)))) in
+    (not_more c.in-Ok.len (lens_of z (seen kv far) c.as_slice-2.result.now) c.cap.result z c.in-Ok.ensures.value c.if-len-cap.false c.cap.ensures
+    (omega (arith, c.args.dev.now.settings.limits)))) in
     let reads : ReadsFiles x.size b is went.facts out = subst (λ (k : ℕ). ReadsFiles k b is went.facts out) (sym size) went.reads in
     let fit : lens_of x.size b is ≤ MAX_REGIONS * x.size = subst (λ (k : ℕ). lens_of k b is ≤ MAX_REGIONS * k) (sym size) fit0 in
     record {
@@ -360,7 +367,8 @@ returns-in-Ok-put_pieces-clause-done g c s =
     (subst (λ (l : List InodeId). GrowsBy far read (files_keys (seen kv far) l) []) c.as_slice-2.ensures.value c.in-Ok.ensures.went) in
     let last : seen kv read ≡ b = seen-same kv far read (files_keys b is) third ∙ again in
     let made : GrowsBy read c.make_file.new.at [] (create_edits dir q new) =
-    subst (λ (a : Attempted Key Delta). GrowsBy a c.make_file.new.at [] (create_edits dir q new)) c.in-Ok-all_pieces.ensures.same c.in-Ok-make_file.ensures.went in
+    subst (λ (a : Attempted Key Delta). GrowsBy a c.make_file.new.at [] (create_edits dir q new)) c.in-Ok-all_pieces.ensures.same
+    c.in-Ok-make_file.ensures.went in
     let laid : Edited new [] (LaysPieces z 0 new out) c.make_file.new.at into =
     subst (λ (l : List Piece). Edited new [] (LaysPieces z 0 new l) c.make_file.new.at into) c.as_slice-4.ensures.value c.in-Ok-put_pieces.ensures.ok in
     let kind = g.S.SliceStore.kind in

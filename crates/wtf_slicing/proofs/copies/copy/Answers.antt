@@ -28,7 +28,8 @@ returns-in-Err-clause-step c x s own =
     let q : List ℕ = c.args.q.now in
     let b : Map = seen c.args.kv.now c.args.at.now in
     let e : source_of b p ≡ Err c.in-Err.word = sym c.in_ok-inode.ensures.value ∙ c.in-Err.is in
-    step_of x b (in_hand c.args.at.now s) (in_hand c.source.new.at s) (source_keys p) (op.Copy p q) (answer.Refused c.in-Err.word) c.in_ok-inode.ensures.went (copies_nothing x b s p q c.in-Err.word e)
+    step_of x b (in_hand c.args.at.now s) (in_hand c.source.new.at s) (source_keys p) (op.Copy p q) (answer.Refused c.in-Err.word) c.in_ok-inode.ensures.went
+    (copies_nothing x b s p q c.in-Err.word e)
 
 pub returns-in-Err-2-clause-step : goal.returns-in-Err-2-clause-step
 returns-in-Err-2-clause-step c x s own =
@@ -61,13 +62,16 @@ returns-clause-keys c =
     let whole = c.in_ok-whole.whole in
     let b : Map = seen kv at in
     let same : seen kv c.source.new.at ≡ b = seen-same kv at c.source.new.at (source_keys p) c.in_ok-inode.ensures.went in
-    let second : GrowsBy c.source.new.at c.target.new.at (target_keys b q) [] = subst (λ (m : Map). GrowsBy c.source.new.at c.target.new.at (target_keys m q) []) same c.in_ok-dir.ensures.went in
+    let second : GrowsBy c.source.new.at c.target.new.at (target_keys b q) [] = subst (λ (m : Map). GrowsBy c.source.new.at c.target.new.at (target_keys m q)
+    []) same c.in_ok-dir.ensures.went in
     let again : seen kv c.target.new.at ≡ b = seen-same kv c.source.new.at c.target.new.at (target_keys b q) second ∙ same in
-    let third : GrowsBy c.target.new.at c.whole_file.new.at (file_keys b i) [] = subst (λ (m : Map). GrowsBy c.target.new.at c.whole_file.new.at (file_keys m i) []) again c.in_ok-whole.ensures.recorded in
+    let third : GrowsBy c.target.new.at c.whole_file.new.at (file_keys b i) [] = subst (λ (m : Map). GrowsBy c.target.new.at c.whole_file.new.at (file_keys m i)
+    []) again c.in_ok-whole.ensures.recorded in
     let e : source_of b p ≡ Ok i = sym c.in_ok-inode.ensures.value ∙ c.in-Ok.is in
     let f : target_of b q ≡ Ok dir = ap (λ (m : Map). target_of m q) (sym same) ∙ (sym c.in_ok-dir.ensures.value ∙ c.in-Ok-2.is) in
     let all = went_all at c.source.new.at c.target.new.at c.whole_file.new.at c.make_file.new.at c.fill.new.at (source_keys p) (target_keys b q) (file_keys b i)
-    (create_edits dir q c.args.new) (fill_edits c.args.new whole.last whole.regions.items) c.in_ok-inode.ensures.went second third c.in_ok-make_file.ensures.went c.in_ok-fill.ensures.went in
+    (create_edits dir q c.args.new) (fill_edits c.args.new whole.last whole.regions.items) c.in_ok-inode.ensures.went second third
+    c.in_ok-make_file.ensures.went c.in_ok-fill.ensures.went in
     all.reads ∙ ap (λ l. at.reads ++ l) (sym (copy_keys_are b p q dir i e f))
 
 pub returns-clause-grows : goal.returns-clause-grows
@@ -81,12 +85,16 @@ returns-clause-grows c =
     let whole = c.in_ok-whole.whole in
     let b : Map = seen kv at in
     let same : seen kv c.source.new.at ≡ b = seen-same kv at c.source.new.at (source_keys p) c.in_ok-inode.ensures.went in
-    let second : GrowsBy c.source.new.at c.target.new.at (target_keys b q) [] = subst (λ (m : Map). GrowsBy c.source.new.at c.target.new.at (target_keys m q) []) same c.in_ok-dir.ensures.went in
+    let second : GrowsBy c.source.new.at c.target.new.at (target_keys b q) [] = subst (λ (m : Map). GrowsBy c.source.new.at c.target.new.at (target_keys m q)
+    []) same c.in_ok-dir.ensures.went in
     let again : seen kv c.target.new.at ≡ b = seen-same kv c.source.new.at c.target.new.at (target_keys b q) second ∙ same in
-    let third : GrowsBy c.target.new.at c.whole_file.new.at (file_keys b i) [] = subst (λ (m : Map). GrowsBy c.target.new.at c.whole_file.new.at (file_keys m i) []) again c.in_ok-whole.ensures.recorded in
-    Grows-by at c.fill.new.at (source_keys p ++ (target_keys b q ++ file_keys b i)) (create_edits dir q c.args.new ++ fill_edits c.args.new whole.last whole.regions.items)
+    let third : GrowsBy c.target.new.at c.whole_file.new.at (file_keys b i) [] = subst (λ (m : Map). GrowsBy c.target.new.at c.whole_file.new.at (file_keys m i)
+    []) again c.in_ok-whole.ensures.recorded in
+    Grows-by at c.fill.new.at (source_keys p ++ (target_keys b q ++ file_keys b i)) (create_edits dir q c.args.new ++ fill_edits c.args.new whole.last
+    whole.regions.items)
     (went_all at c.source.new.at c.target.new.at c.whole_file.new.at c.make_file.new.at c.fill.new.at (source_keys p) (target_keys b q) (file_keys b i)
-    (create_edits dir q c.args.new) (fill_edits c.args.new whole.last whole.regions.items) c.in_ok-inode.ensures.went second third c.in_ok-make_file.ensures.went c.in_ok-fill.ensures.went)
+    (create_edits dir q c.args.new) (fill_edits c.args.new whole.last whole.regions.items) c.in_ok-inode.ensures.went second third
+    c.in_ok-make_file.ensures.went c.in_ok-fill.ensures.went)
 
 pub returns-clause-step : goal.returns-clause-step
 returns-clause-step c x s own =
@@ -101,17 +109,21 @@ returns-clause-step c x s own =
     let b : Map = seen kv at in
     let v : FileView = file_of i b in
     let same : seen kv c.source.new.at ≡ b = seen-same kv at c.source.new.at (source_keys p) c.in_ok-inode.ensures.went in
-    let second : GrowsBy c.source.new.at c.target.new.at (target_keys b q) [] = subst (λ (m : Map). GrowsBy c.source.new.at c.target.new.at (target_keys m q) []) same c.in_ok-dir.ensures.went in
+    let second : GrowsBy c.source.new.at c.target.new.at (target_keys b q) [] = subst (λ (m : Map). GrowsBy c.source.new.at c.target.new.at (target_keys m q)
+    []) same c.in_ok-dir.ensures.went in
     let again : seen kv c.target.new.at ≡ b = seen-same kv c.source.new.at c.target.new.at (target_keys b q) second ∙ same in
-    let third : GrowsBy c.target.new.at c.whole_file.new.at (file_keys b i) [] = subst (λ (m : Map). GrowsBy c.target.new.at c.whole_file.new.at (file_keys m i) []) again c.in_ok-whole.ensures.recorded in
+    let third : GrowsBy c.target.new.at c.whole_file.new.at (file_keys b i) [] = subst (λ (m : Map). GrowsBy c.target.new.at c.whole_file.new.at (file_keys m i)
+    []) again c.in_ok-whole.ensures.recorded in
     let e : source_of b p ≡ Ok i = sym c.in_ok-inode.ensures.value ∙ c.in-Ok.is in
     let f : target_of b q ≡ Ok dir = ap (λ (m : Map). target_of m q) (sym same) ∙ (sym c.in_ok-dir.ensures.value ∙ c.in-Ok-2.is) in
     let last : whole.last ≡ v.last = c.in_ok-whole.ensures.last ∙ ap (λ (m : Map). (file_of i m).last) again in
     let regions : whole.regions.items ≡ regions_of v = c.in_ok-whole.ensures.regions ∙ ap (λ (m : Map). regions_of (file_of i m)) again in
     let filled : GrowsBy c.make_file.new.at c.fill.new.at [] (fill_edits new v.last (regions_of v)) =
     subst (λ (n : ℕ). GrowsBy c.make_file.new.at c.fill.new.at [] (fill_edits new n (regions_of v))) last
-    (subst (λ (vs : List (Option RegionValue)). GrowsBy c.make_file.new.at c.fill.new.at [] (fill_edits new whole.last vs)) regions c.in_ok-fill.ensures.went) in
-    step_made x b (in_hand at s) (in_hand c.fill.new.at s) (source_keys p ++ (target_keys b q ++ file_keys b i)) (copy_edits dir q new v) (op.Copy p q) answer.Okay
+    (subst (λ (vs : List (Option RegionValue)). GrowsBy c.make_file.new.at c.fill.new.at [] (fill_edits new whole.last vs)) regions
+    c.in_ok-fill.ensures.went) in
+    step_made x b (in_hand at s) (in_hand c.fill.new.at s) (source_keys p ++ (target_keys b q ++ file_keys b i)) (copy_edits dir q new v) (op.Copy p q)
+    answer.Okay
     (went_all at c.source.new.at c.target.new.at c.whole_file.new.at c.make_file.new.at c.fill.new.at (source_keys p) (target_keys b q) (file_keys b i)
     (create_edits dir q new) (fill_edits new v.last (regions_of v)) c.in_ok-inode.ensures.went second third c.in_ok-make_file.ensures.went filled)
     (copies x b s p q dir i new own c.in_ok-dir.ensures.path e f)
@@ -142,16 +154,20 @@ returns-clause-made c =
     let b : Map = seen kv at in
     let v : FileView = file_of i b in
     let same : seen kv c.source.new.at ≡ b = seen-same kv at c.source.new.at (source_keys p) c.in_ok-inode.ensures.went in
-    let second : GrowsBy c.source.new.at c.target.new.at (target_keys b q) [] = subst (λ (m : Map). GrowsBy c.source.new.at c.target.new.at (target_keys m q) []) same c.in_ok-dir.ensures.went in
+    let second : GrowsBy c.source.new.at c.target.new.at (target_keys b q) [] = subst (λ (m : Map). GrowsBy c.source.new.at c.target.new.at (target_keys m q)
+    []) same c.in_ok-dir.ensures.went in
     let again : seen kv c.target.new.at ≡ b = seen-same kv c.source.new.at c.target.new.at (target_keys b q) second ∙ same in
-    let third : GrowsBy c.target.new.at c.whole_file.new.at (file_keys b i) [] = subst (λ (m : Map). GrowsBy c.target.new.at c.whole_file.new.at (file_keys m i) []) again c.in_ok-whole.ensures.recorded in
+    let third : GrowsBy c.target.new.at c.whole_file.new.at (file_keys b i) [] = subst (λ (m : Map). GrowsBy c.target.new.at c.whole_file.new.at (file_keys m i)
+    []) again c.in_ok-whole.ensures.recorded in
     let e : source_of b p ≡ Ok i = sym c.in_ok-inode.ensures.value ∙ c.in-Ok.is in
     let f : target_of b q ≡ Ok dir = ap (λ (m : Map). target_of m q) (sym same) ∙ (sym c.in_ok-dir.ensures.value ∙ c.in-Ok-2.is) in
     let last : whole.last ≡ v.last = c.in_ok-whole.ensures.last ∙ ap (λ (m : Map). (file_of i m).last) again in
     let regions : whole.regions.items ≡ regions_of v = c.in_ok-whole.ensures.regions ∙ ap (λ (m : Map). regions_of (file_of i m)) again in
     let filled : GrowsBy c.make_file.new.at c.fill.new.at [] (fill_edits new v.last (regions_of v)) =
     subst (λ (n : ℕ). GrowsBy c.make_file.new.at c.fill.new.at [] (fill_edits new n (regions_of v))) last
-    (subst (λ (vs : List (Option RegionValue)). GrowsBy c.make_file.new.at c.fill.new.at [] (fill_edits new whole.last vs)) regions c.in_ok-fill.ensures.went) in
+    (subst (λ (vs : List (Option RegionValue)). GrowsBy c.make_file.new.at c.fill.new.at [] (fill_edits new whole.last vs)) regions
+    c.in_ok-fill.ensures.went) in
     let all = went_all at c.source.new.at c.target.new.at c.whole_file.new.at c.make_file.new.at c.fill.new.at (source_keys p) (target_keys b q) (file_keys b i)
     (create_edits dir q new) (fill_edits new v.last (regions_of v)) c.in_ok-inode.ensures.went second third c.in_ok-make_file.ensures.went filled in
-    makes_these (IsCopied b p q new) (create_edits dir q new ++ fill_edits new v.last (regions_of v)) at c.fill.new.at all.changes (sym (copy_made b p q dir i new e f))
+    makes_these (IsCopied b p q new) (create_edits dir q new ++ fill_edits new v.last (regions_of v)) at c.fill.new.at all.changes
+    (sym (copy_made b p q dir i new e f))

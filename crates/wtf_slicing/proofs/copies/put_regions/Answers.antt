@@ -22,11 +22,14 @@ loop-value-preserved c =
     let mid = c.loop-value.at in
     let new = c.put_region.new.at in
     let inv = c.loop-value.invariant in
-    let next : take (n + 1) vs ≡ take n vs ++ v ∷ [] = take_more vs n v c.loop-value-test.true ∙ ap (λ (q : Option RegionValue). take n vs ++ q ∷ []) (sym c.value-item.is) in
+    let next : take (n + 1) vs ≡ take n vs ++ v ∷ [] = take_more vs n v c.loop-value-test.true
+    ∙ ap (λ (q : Option RegionValue). take n vs ++ q ∷ []) (sym c.value-item.is) in
     let count : length (take n vs) ≡ n = length-take-le n vs (omega (arith, c.loop-value-test.true)) in
     let edits : put_regions i 0 (take (n + 1) vs) ≡ put_regions i 0 (take n vs) ++ put_region i c.loop-value.r v =
-    ap (put_regions i 0) next ∙ puts-more i 0 (take n vs) v ∙ ap (λ (r : ℕ). put_regions i 0 (take n vs) ++ put_region i r v) (numbered n c.loop-value.r (length (take n vs)) inv.count count) in
+    ap (put_regions i 0) next ∙ puts-more i 0 (take n vs) v ∙ ap (λ (r : ℕ). put_regions i 0 (take n vs) ++ put_region i r v)
+    (numbered n c.loop-value.r (length (take n vs)) inv.count count) in
     record {
       count = ap (λ (k : ℕ). k + 1) inv.count;
-      went = subst (λ (es : Edits). GrowsBy at new [] es) (sym edits) (GrowsBy-append at mid new [] [] (put_regions i 0 (take n vs)) (put_region i c.loop-value.r v) inv.went c.in_ok-put_region.ensures.went);
+      went = subst (λ (es : Edits). GrowsBy at new [] es) (sym edits) (GrowsBy-append at mid new [] [] (put_regions i 0 (take n vs))
+          (put_region i c.loop-value.r v) inv.went c.in_ok-put_region.ensures.went);
     }

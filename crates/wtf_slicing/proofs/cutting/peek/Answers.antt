@@ -80,7 +80,8 @@ returns-in-Err-show-clause-fault g c =
       are = plans;
       inside = PiecesBytes-cut (inside_of kind dev) ps out c.args.off n (c.requires.inside c.args.from ps is.is)
           within plans;
-      fault = subst (λ (qs : List Piece). IsShowFault kind (between dev new) (pieces_in 0 n qs) c.in-Err-show.why) c.as_slice.ensures.value c.in-Err-show.ensures.fault;
+      fault = subst (λ (qs : List Piece). IsShowFault kind (between dev new) (pieces_in 0 n qs) c.in-Err-show.why) c.as_slice.ensures.value
+          c.in-Err-show.ensures.fault;
     }))
 
 pub returns-in-Err-show-clause-due : goal.returns-in-Err-show-clause-due
@@ -117,7 +118,8 @@ returns-clause-step g c x b now e =
     let bytes = c.show.new.out.items in
     let shown : Shown (byte_at kind (stores dev)) n (λ j. pieces_origin out (0 + j)) [] bytes =
     subst (λ (old : List ℕ). Shown (byte_at kind (stores dev)) n (λ j. pieces_origin out (0 + j)) old bytes) c.new-out.ensures.items
-    (subst (λ (qs : List Piece). Shown (byte_at kind (stores dev)) n (λ j. pieces_origin qs (0 + j)) c.new-out.result.items bytes) c.as_slice.ensures.value c.in-Ok-show.ensures.shown) in
+    (subst (λ (qs : List Piece). Shown (byte_at kind (stores dev)) n (λ j. pieces_origin qs (0 + j)) c.new-out.result.items bytes) c.as_slice.ensures.value
+    c.in-Ok-show.ensures.shown) in
     record {
       did = shows [] [] out bytes;
       grows = GrowsBy-nothing now.at;

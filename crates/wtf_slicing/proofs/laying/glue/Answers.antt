@@ -34,7 +34,8 @@ returns-in_default-clause-step c x size =
     let o = op.Glue f c.args.label in
     let at = in_hand c.args.at.now s in
     step_of x b at at [] o (answer.Refused NoHandle) (GrowsBy-nothing c.args.at.now)
-    (no_handle x b s f o (spot_closed c.handle_of.result (handle_in s f) c.handle_of.ensures c.in_default.is) (λ S none. glue-none (cap_for x) S f c.args.label none))
+    (no_handle x b s f o (spot_closed c.handle_of.result (handle_in s f) c.handle_of.ensures c.in_default.is)
+    (λ S none. glue-none (cap_for x) S f c.args.label none))
 
 pub returns-in_default-slice-clause-step : goal.returns-in_default-slice-clause-step
 returns-in_default-slice-clause-step c x size =
@@ -83,13 +84,15 @@ pub returns-in_default-clause-made : goal.returns-in_default-clause-made
 returns-in_default-clause-made c =
     let s = c.args.s.now in
     let b = seen c.args.kv.now c.args.at.now in
-    makes_refused (answer.Refused NoHandle) NoHandle (AddsAt c.args.settings.region b (handle_in s c.args.f) (kept_pieces s c.args.label)) c.args.at.now c.args.at.now refl refl
+    makes_refused (answer.Refused NoHandle) NoHandle (AddsAt c.args.settings.region b (handle_in s c.args.f) (kept_pieces s c.args.label)) c.args.at.now
+    c.args.at.now refl refl
 
 pub returns-in_default-slice-clause-made : goal.returns-in_default-slice-clause-made
 returns-in_default-slice-clause-made c =
     let s = c.args.s.now in
     let b = seen c.args.kv.now c.args.at.now in
-    makes_refused (answer.Refused NoSlice) NoSlice (AddsAt c.args.settings.region b (handle_in s c.args.f) (kept_pieces s c.args.label)) c.args.at.now c.args.at.now refl refl
+    makes_refused (answer.Refused NoSlice) NoSlice (AddsAt c.args.settings.region b (handle_in s c.args.f) (kept_pieces s c.args.label)) c.args.at.now
+    c.args.at.now refl refl
 
 pub returns-clause-made : goal.returns-clause-made
 returns-clause-made c =

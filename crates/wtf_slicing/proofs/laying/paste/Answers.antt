@@ -31,7 +31,8 @@ returns-in_default-clause-step c x b size =
     let o = op.Paste f c.args.label in
     let at = in_hand c.args.at.now s in
     step_of x b at at [] o (answer.Refused NoHandle) (GrowsBy-nothing c.args.at.now)
-    (no_handle x b s f o (spot_closed c.handle_of.result (handle_in s f) c.handle_of.ensures c.in_default.is) (λ S none. paste-none (cap_for x) S f c.args.label none))
+    (no_handle x b s f o (spot_closed c.handle_of.result (handle_in s f) c.handle_of.ensures c.in_default.is)
+    (λ S none. paste-none (cap_for x) S f c.args.label none))
 
 pub returns-in_default-slice-clause-step : goal.returns-in_default-slice-clause-step
 returns-in_default-slice-clause-step c x b size =
@@ -95,19 +96,22 @@ returns-clause-step c x b size =
     record {
       did = lays [] h.inode edited.edits;
       grows = edited.grows;
-      is_call = pastes x b s f c.args.label h open_at.is ps there t edited.edits (omega (arith, len, c.if-len-eq0.false)) (omega (arith, fit, len, c.cap.ensures, size, open_at.off)) edited.does set;
+      is_call = pastes x b s f c.args.label h open_at.is ps there t edited.edits (omega (arith, len, c.if-len-eq0.false))
+          (omega (arith, fit, len, c.cap.ensures, size, open_at.off)) edited.does set;
       more = record { facts = refl; stored = refl; lists = refl };
     }
 
 pub returns-in_default-clause-made : goal.returns-in_default-clause-made
 returns-in_default-clause-made c =
     let s = c.args.s.now in
-    makes_refused (answer.Refused NoHandle) NoHandle (LaysAt c.args.settings.region (handle_in s c.args.f) (kept_pieces s c.args.label)) c.args.at.now c.args.at.now refl refl
+    makes_refused (answer.Refused NoHandle) NoHandle (LaysAt c.args.settings.region (handle_in s c.args.f) (kept_pieces s c.args.label)) c.args.at.now
+    c.args.at.now refl refl
 
 pub returns-in_default-slice-clause-made : goal.returns-in_default-slice-clause-made
 returns-in_default-slice-clause-made c =
     let s = c.args.s.now in
-    makes_refused (answer.Refused NoSlice) NoSlice (LaysAt c.args.settings.region (handle_in s c.args.f) (kept_pieces s c.args.label)) c.args.at.now c.args.at.now refl refl
+    makes_refused (answer.Refused NoSlice) NoSlice (LaysAt c.args.settings.region (handle_in s c.args.f) (kept_pieces s c.args.label)) c.args.at.now
+    c.args.at.now refl refl
 
 pub returns-then-len-eq0-clause-made : goal.returns-then-len-eq0-clause-made
 returns-then-len-eq0-clause-made c =
@@ -122,7 +126,8 @@ returns-then-len-eq0-clause-made c =
 pub returns-then-not-ends_within-clause-made : goal.returns-then-not-ends_within-clause-made
 returns-then-not-ends_within-clause-made c =
     let s = c.args.s.now in
-    makes_refused (answer.Refused TooBig) TooBig (LaysAt c.args.settings.region (handle_in s c.args.f) (kept_pieces s c.args.label)) c.args.at.now c.args.at.now refl refl
+    makes_refused (answer.Refused TooBig) TooBig (LaysAt c.args.settings.region (handle_in s c.args.f) (kept_pieces s c.args.label)) c.args.at.now c.args.at.now
+    refl refl
 
 pub returns-clause-made : goal.returns-clause-made
 returns-clause-made c =

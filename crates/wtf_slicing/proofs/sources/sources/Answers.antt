@@ -23,7 +23,8 @@ returns-in-Err-clause-refused c =
     let same : seen kv c.loop-path.at ≡ b = seen-same kv c.args.at.now c.loop-path.at (sources_keys b (take n ps)) inv.went in
     let e : source_of b p ≡ Err c.in-Err.word = ap (λ (m : Map). source_of m p) (sym same) ∙ (sym c.in_ok-inode.ensures.value ∙ c.in-Err.is) in
     let split = split_at ps n p c.loop-path-test.true c.path-item.is in
-    subst (λ (l : List (List ℕ)). sources_of b l ≡ Err c.in-Err.word) (sym split) (sources_stop b (take n ps) (drop (n + 1) ps) p c.loop-path.inodes.items c.in-Err.word inv.found e)
+    subst (λ (l : List (List ℕ)). sources_of b l ≡ Err c.in-Err.word) (sym split) (sources_stop b (take n ps) (drop (n + 1) ps) p c.loop-path.inodes.items
+    c.in-Err.word inv.found e)
 
 pub returns-in-Err-clause-went : goal.returns-in-Err-clause-went
 returns-in-Err-clause-went c =
@@ -58,7 +59,8 @@ loop-path-preserved c =
     ap (sources_keys b) next ∙ sources_keys-append b (take n ps) (p ∷ []) c.loop-path.inodes.items inv.found
     ∙ ap (λ (l : List Key). sources_keys b (take n ps) ++ l) (keys_one b p i e) in
     record {
-      found = ap (sources_of b) next ∙ sources_more b (take n ps) p c.loop-path.inodes.items i inv.found e ∙ ap (λ (l : List InodeId). Ok l) (sym c.in_ok-push-in-Ok.ensures.items);
+      found = ap (sources_of b) next ∙ sources_more b (take n ps) p c.loop-path.inodes.items i inv.found e
+          ∙ ap (λ (l : List InodeId). Ok l) (sym c.in_ok-push-in-Ok.ensures.items);
       went = subst (λ (qs : List Key). GrowsBy c.args.at.now c.source.new.at qs []) (sym keys)
           (keys_more c.args.at.now c.loop-path.at c.source.new.at (sources_keys b (take n ps)) (source_keys p) inv.went c.in_ok-inode.ensures.went);
     }

@@ -31,7 +31,8 @@ file_pieces-requires-clause-cap g c =
     let z = c.args.dev.now.settings.region in
     let b : Map = seen kv c.args.at.now in
     subst (λ (t : Settings). lens_of t.region (seen kv c.loop-inode.at) (i ∷ []) ≤ MAX_REGIONS * t.region) (sym inv.each.settings)
-    (subst (λ (m : Map). lens_of z m (i ∷ []) ≤ MAX_REGIONS * z) (sym inv.same) (le-trans (lens_of z b (i ∷ [])) (lens_of z b is) (MAX_REGIONS * z) (lens_one z b is n none c.loop-inode-test.true) c.requires.cap))
+    (subst (λ (m : Map). lens_of z m (i ∷ []) ≤ MAX_REGIONS * z) (sym inv.same) (le-trans (lens_of z b (i ∷ [])) (lens_of z b is) (MAX_REGIONS * z)
+    (lens_one z b is n none c.loop-inode-test.true) c.requires.cap))
 
 pub file_pieces-requires-clause-inside : goal.file_pieces-requires-clause-inside
 file_pieces-requires-clause-inside g c =

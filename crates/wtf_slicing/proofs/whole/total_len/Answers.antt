@@ -39,8 +39,11 @@ loop-inode-preserved c =
     let all : lens_of z b (take (n + 1) is) ≡ lens_of z b (take n is) + (whole.last * z + whole.end + 0) =
     ap (lens_of z b) next ∙ lens-more z b (take n is) (i ∷ []) ∙ ap (λ (k : ℕ). lens_of z b (take n is) + (k + 0)) (sym len) in
     let keys : files_keys b (take (n + 1) is) ≡ files_keys b (take n is) ++ file_keys b i = ap (files_keys b) next ∙ keys-more b (take n is) i in
-    let here : GrowsBy mid c.whole_file.new.at (file_keys b i) [] = subst (λ (m : Map). GrowsBy mid c.whole_file.new.at (file_keys m i) []) same c.in_ok-whole.ensures.recorded in
+    let here : GrowsBy mid c.whole_file.new.at (file_keys b i) [] = subst (λ (m : Map). GrowsBy mid c.whole_file.new.at (file_keys m i) []) same
+    c.in_ok-whole.ensures.recorded in
     record {
-      sum = c.saturating_add-sum.ensures ∙ summed (lens_of z b (take n is)) c.loop-inode.sum (whole.last * z + whole.end) (lens_of z b (take (n + 1) is)) inv.sum all;
-      went = subst (λ (qs : List Key). GrowsBy at c.whole_file.new.at qs []) (sym keys) (keys_more at mid c.whole_file.new.at (files_keys b (take n is)) (file_keys b i) inv.went here);
+      sum = c.saturating_add-sum.ensures ∙ summed (lens_of z b (take n is)) c.loop-inode.sum (whole.last * z + whole.end)
+          (lens_of z b (take (n + 1) is)) inv.sum all;
+      went = subst (λ (qs : List Key). GrowsBy at c.whole_file.new.at qs []) (sym keys) (keys_more at mid c.whole_file.new.at (files_keys b (take n is))
+          (file_keys b i) inv.went here);
     }

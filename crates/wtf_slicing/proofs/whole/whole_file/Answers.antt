@@ -24,7 +24,8 @@ loop-r-preserved c =
     let v : c.in_ok-value.value ≡ g r = c.in_ok-value.ensures.value ∙ ap (λ (m : Map). (file_of i m).region r) same in
     record {
       recorded = recorded_next i r at c.loop-r.at c.region_at.new.at inv.recorded c.in_ok-value.ensures.recorded;
-      regions = c.in_ok-push.ensures.items ∙ ap (λ (l : List (Option RegionValue)). l ++ c.in_ok-value.value ∷ []) inv.regions ∙ ap (λ (o : Option RegionValue). map g (count_from 0 r) ++ o ∷ []) v
+      regions = c.in_ok-push.ensures.items ∙ ap (λ (l : List (Option RegionValue)). l ++ c.in_ok-value.value ∷ []) inv.regions
+          ∙ ap (λ (o : Option RegionValue). map g (count_from 0 r) ++ o ∷ []) v
           ∙ sym (regions_next g r);
       end = λ some. c.end_in-end.ensures ∙ ap end_of v ∙ ap (λ (k : ℕ). end_of (g k)) (back r);
     }
