@@ -88,9 +88,7 @@ module _ {S : Type 0} (t : Turn S) (laws : KindLaws t.kind) (y : TxnView) (from 
         installs = subst (λ z. IsInstall (scope_of t) t.kv t.left z a) (sym from) f.installs;
         meaning = λ ops start. true_end_as a (region_size t) (told_before t, told_after t) t.kv t.left y t.old ops (sym starts.tx) (sym starts.log)
             (f.meaning ops (starts.start ops start));
-        named = named_by t.kind t.before t.after (λ P Q. TxnBytes P Q t.kv y × MapBytes P Q (metadata_at t.kv t.kv.number))
-            (λ P Q. MapBytes P Q (metadata_at t.left t.left.number)) (λ P Q. TxnBytes P Q t.kv t.old × MapBytes P Q (metadata_at t.kv t.kv.number))
-            (λ P Q. MapBytes P Q (metadata_at t.left t.left.number)) starts.names (λ P Q hole were are. are) f.named;
+        named = named_by f.named starts.names (λ P Q hole were are. are);
         maps = f.maps;
         pins = f.pins;
         fit = fit_after t.kv t.left t.old ended ready.fit refl refl refl below f.maps f.pins;
@@ -177,10 +175,7 @@ names_along shows x P Q were = (
 -- what was installed over a store that shows the same, and left one that does
 module _ {S : Type 0} (t : Turn S) (kv2 left2 : Store Key Value) (shows : ShowsAs t.kv kv2) (leaves : ShowsAs t.left left2) where
   named_along : (x : TxnView) → NamesNow t.kind t.before t.after t.kv t.left x → NamesNow t.kind t.before t.after kv2 left2 x
-  named_along x = named_by t.kind t.before t.after (λ P Q. TxnBytes P Q t.kv x × MapBytes P Q (metadata_at t.kv t.kv.number))
-      (λ P Q. MapBytes P Q (metadata_at t.left t.left.number)) (λ P Q. TxnBytes P Q kv2 x × MapBytes P Q (metadata_at kv2 kv2.number))
-      (λ P Q. MapBytes P Q (metadata_at left2 left2.number)) (names_along shows x)
-      (λ P Q hole were are. subst (MapBytes P Q) (sym (map_now leaves)) are)
+  named_along x named = named_by named (names_along shows x) (λ P Q hole were are. subst (MapBytes P Q) (sym (map_now leaves)) are)
 
   maps_along : KeepsMaps t.kv t.left → KeepsMaps kv2 left2
   maps_along maps n le =
@@ -298,8 +293,7 @@ finish_live {kind = kind} laws dev kv mid x y n sound log live installed maps pi
   ended = (installed.next, installed.number);
   installs = installs_live (scope kind dev dev) kv mid x n live installed;
   meaning = λ ops start. final_from dev.settings.region kv (told_in kind dev) x ops start.3 mid n log live installed;
-  named = named_none kind dev dev (λ P Q. TxnBytes P Q kv x × MapBytes P Q (metadata_at kv kv.number)) (λ P Q. MapBytes P Q (metadata_at mid mid.number))
-      (λ P Q hole were. subst (MapBytes P Q) (sym (ap (metadata_at mid) installed.number ∙ installed.map))
+  named = named_none (λ P Q hole were. subst (MapBytes P Q) (sym (ap (metadata_at mid) installed.number ∙ installed.map))
       (with_bytes P Q hole x.at.changes (metadata_at kv kv.number) were.1 were.0.hand.changes));
   maps = maps;
   pins = pins;

@@ -47,7 +47,7 @@ use Rattle.wtf_replay.specs.Keeps.{LacksData}
 use Rattle.wtf_replay.specs.Looked.{IsHeld, IsLooked}
 use Rattle.wtf_slicing.specs.Sights.{Sight, sight}
 use Rattle.wtf_replay.specs.Effects.{is_by, is_held, is_file, is_busy, taken_keys, taken_changes, call_keys, CallMakes}
-use Rattle.wtf_replay.specs.Effects.{Acts, CallHolds, kept_len, Scope, sight_at, Redoes, RedoesMore, AreRedone}
+use Rattle.wtf_replay.specs.Effects.{Acts, CallHolds, kept_len, Scope, sight_at, Redoes, AreRedone}
 
 -- a handle that is opened by a path is found
 held_among : (p : List ℕ) (hs : List (Option Handle)) (f : ℕ) (h : Handle) → at_label hs f ≡ Some h → h.path ≡ p → list_any (is_by p) hs ≡ true
@@ -131,11 +131,6 @@ no_change a old new made =
     ] in
     made.changes ∙ ap (λ (l : Edits). old.changes ++ l) none ∙ append-nil old.changes
 
--- the same call by another name
-pub acts_as : {D : Type 0} (x : Sight) (n : ℕ) (own : Option Slice) (o p : Op D) (a : Answer) (old new : Attempted Key Delta)
-    → o ≡ p → Acts x n own p a old new → Acts x n own o a old new
-acts_as {D} x n own o p a old new is acts = subst (λ (k : Op D). Acts x n own k a old new) (sym is) acts
-
 module _ (z : ℕ) (w : Map) (s : SessionView) (new : InodeId) (a : Answer) (old into : Attempted Key Delta) (base : into.base ≡ old.base) where
   abbrev by : List ListFact → Sight
   by lists = sight z w s new lists
@@ -149,11 +144,6 @@ module _ (z : ℕ) (w : Map) (s : SessionView) (new : InodeId) (a : Answer) (old
   -- a call on handles or bytes that was made for the first time
   pub acts_fresh : (lists : List ListFact) (r : RwOp) (o : Op (List ℕ)) (own : Option Slice) → IsOpOf IsFresh r o → into.reads ≡ old.reads ++ rw_keys z w s r
       → Makes a (RwMade z w s r own) old into → Acts (by lists) (data_len o) own o a old into
-  acts_fresh lists (rw.Open f p) o own is keys made = fresh_as lists own (op.Open f p.now) o is keys (no_change a old into made)
-  acts_fresh lists (rw.Close f) o own is keys made = fresh_as lists own (op.Close f) o is keys (no_change a old into made)
-  acts_fresh lists (rw.Seek f place) o own is keys made = fresh_as lists own (op.Seek f place) o is keys (no_change a old into made)
-  acts_fresh lists (rw.Tell f) o own is keys made = fresh_as lists own (op.Tell f) o is keys (no_change a old into made)
-  acts_fresh lists (rw.Read f n) o own is keys made = fresh_as lists own (op.Read f n) o is keys (no_change a old into made)
   acts_fresh lists (rw.Write f (Fresh bs)) o own is keys made = fresh_as lists own (op.Write f is.0) o is.1 keys made
   acts_fresh lists (rw.Write f (Stored kept)) o own is keys made = absurd is.2
   acts_fresh lists (rw.Append f (Fresh bs)) o own is keys made =
@@ -162,7 +152,7 @@ module _ (z : ℕ) (w : Map) (s : SessionView) (new : InodeId) (a : Answer) (old
   acts_fresh lists (rw.Append f (Stored kept)) o own is keys made = absurd is.2
   acts_fresh lists (rw.Truncate f n) o own is keys made = fresh_as lists own (op.Truncate f n) o is keys made
   acts_fresh lists (rw.Punch f n) o own is keys made = fresh_as lists own (op.Punch f n) o is keys made
-  acts_fresh lists (rw.Stat p) o own is keys made = fresh_as lists own (op.Stat p.now) o is keys (no_change a old into made)
+  acts_fresh lists r o own is keys made = fresh_as lists own _ o is keys (no_change a old into made)
 
   again_as : (lists : List ListFact) (p k : Op Kept) → k ≡ p → into.reads ≡ old.reads ++ call_keys (by lists) (kept_len p) p
       → CallMakes (by lists) (own_of p) p a old into
@@ -173,23 +163,18 @@ module _ (z : ℕ) (w : Map) (s : SessionView) (new : InodeId) (a : Answer) (old
   -- one that is made once more, on what a log kept of its data
   pub acts_again : (lists : List ListFact) (r : RwOp) (k : Op Kept) (own : Option Slice) → IsOpOf IsStored r k → into.reads ≡ old.reads ++ rw_keys z w s r
       → Makes a (RwMade z w s r own) old into → Acts (by lists) (kept_len k) (own_of k) k a old into
-  acts_again lists (rw.Open f p) k own is keys made = again_as lists (op.Open f p.now) k is keys (no_change a old into made)
-  acts_again lists (rw.Close f) k own is keys made = again_as lists (op.Close f) k is keys (no_change a old into made)
-  acts_again lists (rw.Seek f place) k own is keys made = again_as lists (op.Seek f place) k is keys (no_change a old into made)
-  acts_again lists (rw.Tell f) k own is keys made = again_as lists (op.Tell f) k is keys (no_change a old into made)
-  acts_again lists (rw.Read f n) k own is keys made = again_as lists (op.Read f n) k is keys (no_change a old into made)
   acts_again lists (rw.Write f (Fresh bs)) k own is keys made = absurd is.2
   acts_again lists (rw.Write f (Stored kept)) k own is keys made = again_as lists (op.Write f kept) k (is.1 ∙ ap (λ (e : Kept). op.Write f e) is.2) keys made
   acts_again lists (rw.Append f (Fresh bs)) k own is keys made = absurd is.2
   acts_again lists (rw.Append f (Stored kept)) k own is keys made = again_as lists (op.Append f kept) k (is.1 ∙ ap (λ (e : Kept). op.Append f e) is.2) keys made
   acts_again lists (rw.Truncate f n) k own is keys made = again_as lists (op.Truncate f n) k is keys made
   acts_again lists (rw.Punch f n) k own is keys made = again_as lists (op.Punch f n) k is keys made
-  acts_again lists (rw.Stat p) k own is keys made = again_as lists (op.Stat p.now) k is keys (no_change a old into made)
+  acts_again lists r k own is keys made = again_as lists _ k is keys (no_change a old into made)
 
   module _ {D : Type 0} (lists : List ListFact) (n : ℕ) (own : Option Slice) where
     slice_as : (p o : Op D) → o ≡ p → into.reads ≡ old.reads ++ call_keys (by lists) n p → CallMakes (by lists) own p a old into
         → Acts (by lists) n own o a old into
-    slice_as p o is keys makes = acts_as (by lists) n own o p a old into is (record { base = base; keys = keys; makes = makes })
+    slice_as p o is keys makes = subst (λ (k : Op D). Acts (by lists) n own k a old into) (sym is) (record { base = base; keys = keys; makes = makes })
 
     -- and a call on slices, or one that makes a file of others
     pub acts_slice : (r : SliceOp) (o : Op D) → IsSliceOpOf r o → into.reads ≡ old.reads ++ slice_keys z w s r → Makes a (SliceMade (by lists) r) old into
@@ -197,10 +182,7 @@ module _ (z : ℕ) (w : Map) (s : SessionView) (new : InodeId) (a : Answer) (old
     acts_slice (slicing.Yank f m l) o is keys made = slice_as (op.Yank f m l) o is keys (no_change a old into made)
     acts_slice (slicing.Peek l off m) o is keys made = slice_as (op.Peek l off m) o is keys (no_change a old into made)
     acts_slice (slicing.Cut l off m t) o is keys made = slice_as (op.Cut l off m t) o is keys (no_change a old into made)
-    acts_slice (slicing.Paste f l) o is keys made = slice_as (op.Paste f l) o is keys made
-    acts_slice (slicing.Glue f l) o is keys made = slice_as (op.Glue f l) o is keys made
-    acts_slice (slicing.Concat q ps) o is keys made = slice_as (op.Concat q.now ps.now) o is keys made
-    acts_slice (slicing.Copy p q) o is keys made = slice_as (op.Copy p.now q.now) o is keys made
+    acts_slice r o is keys made = slice_as _ o is keys made
 
 -- a call on names, from what it went on by
 pub acts_name : {D : Type 0} (x : Sight) (n : ℕ) (own : Option Slice) (o : Op D) (a : Answer) (old new : Attempted Key Delta) (cs : Edits)
@@ -236,10 +218,10 @@ module _ (x : Sight) (s t : SessionView) (a : Answer) where
   -- of a call on handles or bytes that was made for the first time
   pub holds_fresh : (r : RwOp) (o : Op (List ℕ)) (own : Option Slice) → IsOpOf IsFresh r o → IfSome own (λ sl. len_of sl ≡ data_len o) → LacksData o own a
       → LeavesHand a (RwHolds x.size x.map r) s t → CallHolds x own o a s t
-  holds_fresh (rw.Open f p) o own is len lacks h = subst (λ q. CallHolds x own q a s t) (sym is) h
-  holds_fresh (rw.Close f) o own is len lacks h = subst (λ q. CallHolds x own q a s t) (sym is) h
-  holds_fresh (rw.Seek f place) o own is len lacks h = subst (λ q. CallHolds x own q a s t) (sym is) h
-  holds_fresh (rw.Read f n) o own is len lacks h = subst (λ q. CallHolds x own q a s t) (sym is) h
+  holds_fresh (rw.Tell f) o own is len lacks h = subst (λ q. CallHolds x own q a s t) (sym is) (same_hand a s t h)
+  holds_fresh (rw.Truncate f n) o own is len lacks h = subst (λ q. CallHolds x own q a s t) (sym is) (same_hand a s t h)
+  holds_fresh (rw.Punch f n) o own is len lacks h = subst (λ q. CallHolds x own q a s t) (sym is) (same_hand a s t h)
+  holds_fresh (rw.Stat p) o own is len lacks h = subst (λ q. CallHolds x own q a s t) (sym is) (same_hand a s t h)
   holds_fresh (rw.Write f (Fresh bs)) o own (bytes, e, is) len lacks h =
       let n : data_len o ≡ length bs.now = ap data_len e ∙ ap length is in
       subst (λ q. CallHolds x own q a s t) (sym e)
@@ -247,17 +229,10 @@ module _ (x : Sight) (s t : SessionView) (a : Answer) where
   holds_fresh (rw.Write f (Stored kept)) o own (bytes, e, is) len lacks h = absurd is
   holds_fresh (rw.Append f (Stored kept)) o own (bytes, e, is) len lacks h = absurd is
   holds_fresh (rw.Append f (Fresh bs)) o own (bytes, e, is) len lacks h = subst (λ q. CallHolds x own q a s t) (sym e) (same_hand a s t h)
-  holds_fresh (rw.Tell f) o own is len lacks h = subst (λ q. CallHolds x own q a s t) (sym is) (same_hand a s t h)
-  holds_fresh (rw.Truncate f n) o own is len lacks h = subst (λ q. CallHolds x own q a s t) (sym is) (same_hand a s t h)
-  holds_fresh (rw.Punch f n) o own is len lacks h = subst (λ q. CallHolds x own q a s t) (sym is) (same_hand a s t h)
-  holds_fresh (rw.Stat p) o own is len lacks h = subst (λ q. CallHolds x own q a s t) (sym is) (same_hand a s t h)
+  holds_fresh r o own is len lacks h = subst (λ q. CallHolds x own q a s t) (sym is) h
 
   -- of one that is made once more
   pub holds_again : (r : RwOp) (k : Op Kept) → IsOpOf IsStored r k → LeavesHand a (RwHolds x.size x.map r) s t → CallHolds x (own_of k) k a s t
-  holds_again (rw.Open f p) k is h = subst (λ (q : Op Kept). CallHolds x (own_of q) q a s t) (sym is) h
-  holds_again (rw.Close f) k is h = subst (λ (q : Op Kept). CallHolds x (own_of q) q a s t) (sym is) h
-  holds_again (rw.Seek f place) k is h = subst (λ (q : Op Kept). CallHolds x (own_of q) q a s t) (sym is) h
-  holds_again (rw.Read f n) k is h = subst (λ (q : Op Kept). CallHolds x (own_of q) q a s t) (sym is) h
   holds_again (rw.Write f (Stored kept)) k (e, is, same) h =
       subst (λ (q : Op Kept). CallHolds x (own_of q) q a s t) (sym (is ∙ ap (λ (d : Kept). op.Write f d) same)) h
   holds_again (rw.Write f (Fresh bs)) k (e, is, same) h = absurd same
@@ -267,16 +242,14 @@ module _ (x : Sight) (s t : SessionView) (a : Answer) where
   holds_again (rw.Truncate f n) k is h = subst (λ (q : Op Kept). CallHolds x (own_of q) q a s t) (sym is) (same_hand a s t h)
   holds_again (rw.Punch f n) k is h = subst (λ (q : Op Kept). CallHolds x (own_of q) q a s t) (sym is) (same_hand a s t h)
   holds_again (rw.Stat p) k is h = subst (λ (q : Op Kept). CallHolds x (own_of q) q a s t) (sym is) (same_hand a s t h)
+  holds_again r k is h = subst (λ (q : Op Kept). CallHolds x (own_of q) q a s t) (sym is) h
 
   -- and of a call on slices, or one that makes a file of others
   pub holds_slice : {D : Type 0} (own : Option Slice) (r : SliceOp) (o : Op D) → IsSliceOpOf r o → LeavesHand a (SliceHolds x r) s t → CallHolds x own o a s t
   holds_slice own (slicing.Yank f m l) o is h = subst (λ q. CallHolds x own q a s t) (sym is) h
   holds_slice own (slicing.Cut l off m u) o is h = subst (λ q. CallHolds x own q a s t) (sym is) h
   holds_slice own (slicing.Paste f l) o is h = subst (λ q. CallHolds x own q a s t) (sym is) h
-  holds_slice own (slicing.Peek l off m) o is h = subst (λ q. CallHolds x own q a s t) (sym is) (same_hand a s t h)
-  holds_slice own (slicing.Glue f l) o is h = subst (λ q. CallHolds x own q a s t) (sym is) (same_hand a s t h)
-  holds_slice own (slicing.Concat q ps) o is h = subst (λ k. CallHolds x own k a s t) (sym is) (same_hand a s t h)
-  holds_slice own (slicing.Copy p q) o is h = subst (λ k. CallHolds x own k a s t) (sym is) (same_hand a s t h)
+  holds_slice own r o is h = subst (λ q. CallHolds x own q a s t) (sym is) (same_hand a s t h)
 
 -- no call yet
 pub redone_none : (b : Scope) (kv : Store Key Value) (x : TxnView) (n : ℕ) (hand : InHand) → n ≡ 0 → hand ≡ hand_of x → AreRedone b kv x n [] hand
@@ -287,8 +260,8 @@ pub redone_more : (b : Scope) (kv : Store Key Value) (x : TxnView) (n m k : ℕ)
     → AreRedone b kv x n before mid → (one : Redoes b kv x k mid hand) → AreRedone b kv x m (before ++ one.lists) hand
 redone_more b kv x n m k before mid hand is here first one =
     let next : m ≡ suc n = omega (arith, is) in
-    let last = subst (λ (j : ℕ). RedoesMore b kv x j mid hand before (before ++ one.lists)) here (record { redoes = one; lists_are = refl }) in
-    subst (λ (j : ℕ). AreRedone b kv x j (before ++ one.lists) hand) (sym next) (mid, before, first, last)
+    let last = subst (λ (j : ℕ). (r : Redoes b kv x j mid hand) × (before ++ one.lists ≡ before ++ r.lists)) here (one, refl) in
+    subst (λ (j : ℕ). AreRedone b kv x j (before ++ one.lists) hand) (sym next) (mid, before, first, last.0, last.1)
 
 -- and where more lists are known
 module _ (b c : Scope) (size : c.size ≡ b.size) (more : (lists : List ListFact) → b.known lists → c.known lists) where
@@ -308,9 +281,4 @@ module _ (b c : Scope) (size : c.size ≡ b.size) (more : (lists : List ListFact
       → AreRedone c kv x n lists hand
   unfolding redo_later
   redone_later kv x zero lists hand h = h
-  redone_later kv x (suc n) lists hand h = (
-    h.0,
-    h.1,
-    redone_later kv x n h.1 h.0 h.2,
-    record { redoes = redo_later kv x (x.replayed + n) h.0 hand h.3.redoes; lists_are = h.3.lists_are },
-  )
+  redone_later kv x (suc n) lists hand h = (h.0, h.1, redone_later kv x n h.1 h.0 h.2, redo_later kv x (x.replayed + n) h.0 hand h.3, h.4)

@@ -13,7 +13,7 @@ use Rattle.wtf_model.specs.declared.answer.Answer.{Answer}
 use Rattle.wtf_model.specs.declared.answer.Answer.TheVariants as answer
 use Rattle.wtf_model.specs.declared.op.Op.{Op}
 use Rattle.wtf_model.specs.declared.op.Op.TheVariants as op
-use Rattle.wtf_model.specs.Lawful.{IsDone, IsReadFault, MayFailRead, MayFailYank, MayFailPeek, MayFailConcat}
+use Rattle.wtf_model.specs.Lawful.{IsDone, IsReadFault, MayFail, MayFailRead, MayFailYank, MayFailPeek, MayFailConcat}
 use Rattle.wtf_model.specs.Session.{Session, fresh}
 use Rattle.wtf_model.specs.Call.{call}
 use Rattle.wtf_model.specs.Transaction.{answers_of, session_after}
@@ -34,7 +34,7 @@ use Rattle.wtf_region.specs.Apart.{are_apart}
 use Rattle.wtf_region.specs.Devs.{stores, told_in}
 use Rattle.wtf_steps.specs.Faults.{MayStandFor}
 use Rattle.wtf_replay.specs.Views.{TxnView, in_hand, hand_of, replaying}
-use Rattle.wtf_replay.specs.Insides.{HandBytes, LogBytes, lists_have}
+use Rattle.wtf_replay.specs.Insides.{lists_have}
 use Rattle.wtf_replay.specs.Sounds.{tells_slice, caller_at, IsSound, TellsMap, IsAwayTxn}
 use Rattle.wtf_replay.specs.Causes.{IsAgainFault, MayAgainFault, FaultAt, ReplayFault, IsCommitFault, fault_answer, MayFaultAt, MayStepFault, MayEndFault, MayCommitFault}
 use Rattle.wtf_replay.specs.Effects.{scope}
@@ -46,76 +46,50 @@ use Rattle.wtf_replay.proofs.Later.{tells_on, stands_later}
 use Rattle.wtf_replay.proofs.Sounding.{sound_along}
 use Rattle.wtf_replay.proofs.Deviating.{answers_from-at, at_base, before_next}
 
+-- a fault of a read stands in place of an answer that is no refusal
 read_done : (servers : ℕ) (d a : Answer) → MayFailRead servers d a → IsDone (Some d) × IsReadFault servers a
 read_done servers (answer.Shown (b ∷ bs)) a h = (tt, h)
 read_done servers (answer.Shown []) a h = absurd h
 read_done servers d a h = absurd h
 
--- of a read that is due to answer d
-may_at : (servers f n : ℕ) (answers : List Answer) (k : ℕ) (d : Answer) (why : Fault) → slice_get answers k ≡ Some d → MayStandFor servers (op.Read f n) d why → MayFaultAt servers answers k (fault_answer why)
-may_at servers f n answers k d (fault.Read j) is h = let r = read_done servers d (answer.FaultRead j.0) h in (subst IsDone (sym is) r.0, r.1)
-may_at servers f n answers k d fault.Write is h = let r = read_done servers d answer.FaultWrite h in (subst IsDone (sym is) r.0, r.1)
-may_at servers f n answers k d (fault.Punch j) is h = let r = read_done servers d (answer.FaultPunch j.0) h in (subst IsDone (sym is) r.0, r.1)
-may_at servers f n answers k d (fault.Damaged j) is h = let r = read_done servers d (answer.Damaged j.0) h in (subst IsDone (sym is) r.0, r.1)
-may_at servers f n answers k d fault.Memory is h = tt
+-- and one of bytes of a slice that are to be shown
+peek_done : (servers : ℕ) (d a : Answer) → MayFailPeek servers d a → IsDone (Some d) × IsReadFault servers a
+peek_done servers (answer.Shown (b ∷ bs)) (answer.FaultRead j) h = (tt, h)
+peek_done servers d a h = absurd h
 
--- and of bytes of a slice that are to be shown
-peek_done : (servers : ℕ) (d : Answer) (j : ℕ) → MayFailPeek servers d (answer.FaultRead j) → IsDone (Some d) × IsReadFault servers (answer.FaultRead j)
-peek_done servers (answer.Shown (b ∷ bs)) j h = (tt, h)
-peek_done servers (answer.Shown []) j h = absurd h
-peek_done servers d j h = absurd h
-
-peek_no : (servers : ℕ) (d a : Answer) → MayFailPeek servers d a → ((j : ℕ) → a ≡ answer.FaultRead j → ⊥) → ⊥
-peek_no servers (answer.Shown (b ∷ bs)) (answer.FaultRead j) h not = not j refl
-peek_no servers (answer.Shown (b ∷ bs)) a h not = absurd h
-peek_no servers d a h not = absurd h
-
-may_peek : (servers l off n : ℕ) (answers : List Answer) (k : ℕ) (d : Answer) (why : Fault) → slice_get answers k ≡ Some d → MayStandFor servers (op.Peek l off n) d why → MayFaultAt servers answers k (fault_answer why)
-may_peek servers l off n answers k d (fault.Read j) is h = let r = peek_done servers d j.0 h in (subst IsDone (sym is) r.0, r.1)
-may_peek servers l off n answers k d fault.Write is h = absurd (peek_no servers d answer.FaultWrite h (λ j e. absurd (cc)))
-may_peek servers l off n answers k d (fault.Punch j) is h = absurd (peek_no servers d (answer.FaultPunch j.0) h (λ i e. absurd (cc)))
-may_peek servers l off n answers k d (fault.Damaged j) is h = absurd (peek_no servers d (answer.Damaged j.0) h (λ i e. absurd (cc)))
-may_peek servers l off n answers k d fault.Memory is h = tt
-
--- and of bytes of a file that are to be kept as a slice
+-- of bytes of a file that are to be kept as a slice
 yank_done : (servers : ℕ) (d a : Answer) → MayFailYank servers d a → IsDone (Some d) × IsReadFault servers a
 yank_done servers (answer.Len n) a h = (tt, h.1)
 yank_done servers d a h = absurd h
-
-may_yank : (servers f n l : ℕ) (answers : List Answer) (k : ℕ) (d : Answer) (why : Fault) → slice_get answers k ≡ Some d
-    → MayStandFor servers (op.Yank f n l) d why → MayFaultAt servers answers k (fault_answer why)
-may_yank servers f n l answers k d (fault.Read j) is h = let r = yank_done servers d (answer.FaultRead j.0) h in (subst IsDone (sym is) r.0, r.1)
-may_yank servers f n l answers k d fault.Write is h = let r = yank_done servers d answer.FaultWrite h in (subst IsDone (sym is) r.0, r.1)
-may_yank servers f n l answers k d (fault.Punch j) is h = let r = yank_done servers d (answer.FaultPunch j.0) h in (subst IsDone (sym is) r.0, r.1)
-may_yank servers f n l answers k d (fault.Damaged j) is h = let r = yank_done servers d (answer.Damaged j.0) h in (subst IsDone (sym is) r.0, r.1)
-may_yank servers f n l answers k d fault.Memory is h = tt
 
 -- and of files that are to be put together
 concat_done : (servers : ℕ) (d a : Answer) → MayFailConcat servers d a → IsDone (Some d) × IsReadFault servers a
 concat_done servers answer.Okay a h = (tt, h)
 concat_done servers d a h = absurd h
 
-may_concat : (servers : ℕ) (q : List ℕ) (ps : List (List ℕ)) (answers : List Answer) (k : ℕ) (d : Answer) (why : Fault) → slice_get answers k ≡ Some d
-    → MayStandFor servers (op.Concat q ps) d why → MayFaultAt servers answers k (fault_answer why)
-may_concat servers q ps answers k d (fault.Read j) is h = let r = concat_done servers d (answer.FaultRead j.0) h in (subst IsDone (sym is) r.0, r.1)
-may_concat servers q ps answers k d fault.Write is h = let r = concat_done servers d answer.FaultWrite h in (subst IsDone (sym is) r.0, r.1)
-may_concat servers q ps answers k d (fault.Punch j) is h = let r = concat_done servers d (answer.FaultPunch j.0) h in (subst IsDone (sym is) r.0, r.1)
-may_concat servers q ps answers k d (fault.Damaged j) is h = let r = concat_done servers d (answer.Damaged j.0) h in (subst IsDone (sym is) r.0, r.1)
-may_concat servers q ps answers k d fault.Memory is h = tt
+module _ (servers : ℕ) (answers : List Answer) (k : ℕ) (d : Answer) (is : slice_get answers k ≡ Some d) where
+  -- so such a fault is allowed
+  may_at : (o : Op (List ℕ)) (why : Fault) → ((a : Answer) → MayFail servers o d a → IsDone (Some d) × IsReadFault servers a) → MayStandFor servers o d why
+      → MayFaultAt servers answers k (fault_answer why)
+  may_at o (fault.Read j) done h = let r = done (answer.FaultRead j.0) h in (subst IsDone (sym is) r.0, r.1)
+  may_at o fault.Write done h = let r = done answer.FaultWrite h in (subst IsDone (sym is) r.0, r.1)
+  may_at o (fault.Punch j) done h = let r = done (answer.FaultPunch j.0) h in (subst IsDone (sym is) r.0, r.1)
+  may_at o (fault.Damaged j) done h = let r = done (answer.Damaged j.0) h in (subst IsDone (sym is) r.0, r.1)
+  may_at o fault.Memory done h = tt
 
-short : (servers : ℕ) (answers : List Answer) (k : ℕ) (why : Fault) → why ≡ fault.Memory → MayFaultAt servers answers k (fault_answer why)
-short servers answers k why e = subst (λ y. MayFaultAt servers answers k (fault_answer y)) (sym e) tt
-
--- and of any call
-by_cause : {S : Type 0} (kind : StoreKind S) (old new : Dev S) (w : Map) (s : SessionView) (P : Slice → List ℕ → Type 0) (kept : Op Kept) (o : Op (List ℕ)) (servers : ℕ) (answers : List Answer) (k : ℕ) (d : Answer) (why : Fault)
-    → OpStandsFor P kept o → IsAgainFault kind old new w s kept why → slice_get answers k ≡ Some d → MayStandFor servers o d why → MayFaultAt servers answers k (fault_answer why)
-by_cause kind old new w s P (op.Read f n) o servers answers k d why stands cause is may = may_at servers f n answers k d why is (subst (λ q. MayStandFor servers q d why) stands may)
-by_cause kind old new w s P (op.Peek l off n) o servers answers k d why stands cause is may = may_peek servers l off n answers k d why is (subst (λ q. MayStandFor servers q d why) stands may)
-by_cause kind old new w s P (op.Yank f n l) o servers answers k d why stands cause is may =
-    may_yank servers f n l answers k d why is (subst (λ q. MayStandFor servers q d why) stands may)
-by_cause kind old new w s P (op.Concat q ps) o servers answers k d why stands cause is may =
-    may_concat servers q ps answers k d why is (subst (λ r. MayStandFor servers r d why) stands may)
-by_cause kind old new w s P kept o servers answers k d why stands cause is may = short servers answers k why cause
+  -- and one of any call
+  by_cause : {S : Type 0} (kind : StoreKind S) (old new : Dev S) (w : Map) (s : SessionView) (P : Slice → List ℕ → Type 0) (kept : Op Kept) (o : Op (List ℕ))
+      (why : Fault) → OpStandsFor P kept o → IsAgainFault kind old new w s kept why → MayStandFor servers o d why
+      → MayFaultAt servers answers k (fault_answer why)
+  by_cause kind old new w s P (op.Read f n) o why stands cause may =
+      may_at (op.Read f n) why (read_done servers d) (subst (λ q. MayStandFor servers q d why) stands may)
+  by_cause kind old new w s P (op.Peek l off n) o why stands cause may =
+      may_at (op.Peek l off n) why (peek_done servers d) (subst (λ q. MayStandFor servers q d why) stands may)
+  by_cause kind old new w s P (op.Yank f n l) o why stands cause may =
+      may_at (op.Yank f n l) why (yank_done servers d) (subst (λ q. MayStandFor servers q d why) stands may)
+  by_cause kind old new w s P (op.Concat q ps) o why stands cause may =
+      may_at (op.Concat q ps) why (concat_done servers d) (subst (λ r. MayStandFor servers r d why) stands may)
+  by_cause kind old new w s P kept o why stands cause may = subst (λ y. MayFaultAt servers answers k (fault_answer y)) (sym cause) tt
 
 pub step_fault : {S : Type 0} (kind : StoreKind S) (old new : Dev S) (kv : Store Key Value) (told : Told) (x : TxnView) (ops : List (Op (List ℕ))) (why : Fault) → IsSound old.settings.region kv told x ops
     → FaultAt kind old new kv (hand_of x) (slice_get x.log.ops x.replayed) why → MayStepFault old.settings (metadata_at kv x.at.base) told x ops why
@@ -129,8 +103,8 @@ step_fault kind old new kv told x ops why sound f t st =
     let ran = at_base size kv told x ops sound t st in
     let st2 = before_next size kv told x ops sound t st (omega (arith, within)) in
     let may = f.due o (OpStandsFor-weaker (tells_slice told) (λ p bytes. Unit {0}) f.op o (λ sl bytes own h. tt) there.1.1) (caller_at size x.tx x.replayed) told S refl st2 ran.holds in
-    by_cause kind old new (seen kv x.at) x.session (tells_slice told) f.op o old.settings.servers (answers_of cap t ops) x.replayed (call cap S o).answer why there.1.1 f.cause
-    (answers_from-at cap (fresh t) ops x.replayed o there.1.0) may
+    by_cause old.settings.servers (answers_of cap t ops) x.replayed (call cap S o).answer (answers_from-at cap (fresh t) ops x.replayed o there.1.0)
+    kind old new (seen kv x.at) x.session (tells_slice told) f.op o why there.1.1 f.cause may
 
 -- what a transaction names is the same over a store that shows the same at its base
 pub away_along : {S : Type 0} (kind : StoreKind S) (dev : Dev S) (ranges : List (ℕ × Range)) (kv after : Store Key Value) (x : TxnView)
@@ -159,10 +133,9 @@ fault_along kind old new kv after x why same f = record {
   lists = f.lists;
   redone = redone_along (scope kind old f.mid) kv after x (f.k - x.replayed) f.lists (in_hand f.at f.session) (λ m. sym (same m)) f.redone;
   recalls = f.recalls;
-  named = named_by kind old f.mid (λ P Q. HandBytes P Q kv (hand_of x) × LogBytes P x.log) (λ P Q. HandBytes P Q kv (in_hand f.at f.session))
-      (λ P Q. HandBytes P Q after (hand_of x) × LogBytes P x.log) (λ P Q. HandBytes P Q after (in_hand f.at f.session))
+  named = named_by f.named
       (λ P Q were. (record { base = subst (MapBytes P Q) (sym (same x.at.base)) were.0.base; changes = were.0.changes; slices = were.0.slices }, were.1))
-      (λ P Q hole were are. record { base = subst (MapBytes P Q) (same f.at.base) are.base; changes = are.changes; slices = are.slices }) f.named;
+      (λ P Q hole were are. record { base = subst (MapBytes P Q) (same f.at.base) are.base; changes = are.changes; slices = are.slices });
   done = λ ops ranges tells away sound.
       sound_along old.settings.region kv after (byte_at kind (stores f.mid)) (replaying x.tx f.at f.session x.log f.k) ops (sym (same f.at.base))
       (f.done ops ranges (subst (TellsMap kind old ranges) (sym (same x.at.base)) tells) (away_along kind old ranges after kv x (sym (same x.at.base)) away)

@@ -101,18 +101,6 @@ named_same P Q kv old new base changes session h = record {
   slices = subst (SessionBytes P) (sym session) h.slices;
 }
 
--- so what lies inside the stores goes on doing so
-pub hand_step : {S : Type 0} (kind : StoreKind S) (shelf : List S) (settings : Settings) (kv : Store Key Value) (x : Caller) (old new : InHand) (o : Op (List ℕ)) (a : Answer)
-    → IsHandInside kind shelf settings kv old → (step : IsStep x (seen kv old.at) old new o a) → PiecesBytes (is_inside kind shelf settings) step.did.stored
-    → ListsBytes (is_inside kind shelf settings) any_slice step.did.lists
-    → IsHandInside kind shelf settings kv new
-hand_step kind shelf settings kv x old new o a h step stored lists =
-    named_step (is_inside kind shelf settings) any_slice refl kv x old new o a h step stored lists
-
-pub hand_same : {S : Type 0} (kind : StoreKind S) (shelf : List S) (settings : Settings) (kv : Store Key Value) (old new : InHand) → new.at.base ≡ old.at.base → new.at.changes ≡ old.at.changes → new.session ≡ old.session
-    → IsHandInside kind shelf settings kv old → IsHandInside kind shelf settings kv new
-hand_same kind shelf settings kv old new base changes session h = named_same (is_inside kind shelf settings) any_slice kv old new base changes session h
-
 -- each slice of a log is one of them
 pub log_at : (P : List Place → Bool) (log : Calls) (k : ℕ) (o : Op Kept) → slice_get log.ops k ≡ Some o → LogBytes P log → SliceBytes P (own_of o)
 log_at P log k o at all = subst (λ (q : Op Kept). SliceBytes P (own_of q)) (get_or_from_slice_get log.ops k o o at)

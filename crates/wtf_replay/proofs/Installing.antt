@@ -48,7 +48,8 @@ redone_along b kv kv2 x (suc n) lists hand same h = (
   h.0,
   h.1,
   redone_along b kv kv2 x n h.1 h.0 same h.2,
-  record { redoes = redo_along b kv kv2 x (x.replayed + n) h.0 hand same h.3.redoes; lists_are = h.3.lists_are },
+  redo_along b kv kv2 x (x.replayed + n) h.0 hand same h.3,
+  h.4,
 )
 
 -- an attempt that made all calls once more was installed

@@ -1,5 +1,5 @@
 -- What stores that go on still tell, and still hold.
-use Rattle.std.proofs.Common.{◌≡◌, ℕ, ◌<◌, Bool, true, List, [], ◌∷◌, length, Option, Some, None, get_or, sym, ◌∙◌, subst, arith}
+use Rattle.std.proofs.Common.{◌≡◌, ℕ, ◌<◌, Bool, true, List, [], length, Option, Some, None, get_or, sym, ◌∙◌, subst, arith}
 use Rattle.wtf_base.specs.declared.settings.Settings.{Settings}
 use Rattle.wtf_base.specs.declared.slice.Slice.{Slice}
 use Rattle.wtf_dev.specs.Store.{Range, StoreKind, KindLaws}
@@ -68,10 +68,6 @@ stands_later b told later tx k w t on st = record {
 -- so calls that deviate over later stores deviate over the earlier ones
 pub deviates_since : (w : Map) (size : ℕ) (told later : Told) (x : TxnView) (ops : List (Op (List ℕ))) (i : ℕ) (a : Answer) → TellsOn told later → DeviatesOn w size later x ops i a → DeviatesOn w size told x ops i a
 deviates_since w size told later x ops i a on h t st = h t (stands_later size told later x.tx 0 w t on st)
-
-element : {A : Type 0} (xs : List A) (k : ℕ) → k < length xs → A
-element [] k h = absurd (omega (arith, h))
-element (x ∷ xs) k h = x
 
 -- stores that tell their content go on doing so
 pub tells_all_on : {S : Type 0} {kind : StoreKind S} → KindLaws kind → {old new : List S} → EachFollows kind old new [] → TellsAll kind old → TellsAll kind new

@@ -26,6 +26,7 @@ use Rattle.wtf_model.specs.declared.limits.TheConstants.{MAX_HANDLES}
 use Rattle.wtf_model.specs.declared.answer.Answer.{Answer}
 use Rattle.wtf_model.specs.declared.answer.Answer.TheVariants as answer
 use Rattle.wtf_model.specs.declared.answer.Word.TheVariants.{Busy}
+use Rattle.wtf_model.specs.Steps.{IsLogged}
 use Rattle.wtf_model.specs.declared.op.Op.{Op}
 use Rattle.wtf_model.specs.declared.op.Op.TheVariants as op
 use Rattle.wtf_values.specs.declared.key.Key.{Key}
@@ -50,19 +51,31 @@ use Rattle.wtf_meta.proofs.Nodes.{node_of-is, node-file}
 use Rattle.wtf_meta.proofs.Moves.{done-same}
 use Rattle.wtf_index.specs.Checks.{stands_at}
 use Rattle.wtf_region.specs.Devs.{inside_of}
+use Rattle.wtf_slicing.specs.Sights.{sight}
+use Rattle.wtf_slicing.specs.Steps.{IsNewFor}
 use Rattle.wtf_steps.proofs.Ways.{only_keys, KeysRead}
 use Rattle.wtf_replay.specs.Works.{Work, IsWork, saw}
-use Rattle.wtf_replay.specs.Looked.{IsNameCall, IsBusy}
+use Rattle.wtf_replay.specs.Built.{with_data}
+use Rattle.wtf_replay.specs.Effects.{Acts, CallHolds}
+use Rattle.wtf_replay.specs.Looked.{IsNameCall, IsNamed, IsBusy}
 
 -- a call on names under no handle on what it moves
 pub quiet_call : (x : Caller) (b : Map) (s : SessionView) (old new : Attempted Key Delta) (o : Op (List ℕ)) (a : Answer)
     → IsNameStep x b old new o a → IsFreeToMove o s → IsNameCall x b s old new o a
 quiet_call x b s old new o a step free = record { keys = step.keys; edits = step.edits; grows = step.grows; is_call = step.is_call s free }
 
--- the same of a call that is known by another name
-pub named_call : (x : Caller) (b : Map) (s : SessionView) (old new : Attempted Key Delta) (p o : Op (List ℕ)) (a : Answer)
-    → IsNameStep x b old new p a → IsFreeToMove p s → o ≡ p → IsNameCall x b s old new o a
-named_call x b s old new p o a step free is = subst (λ q. IsNameCall x b s old new q a) (sym is) (quiet_call x b s old new p a step free)
+-- one that was made is that of the verb
+pub is_named : {D : Type 0} {b : Map} {s : SessionView} {made : InodeId} {old new : Attempted Key Delta} {a : Answer} (o p : Op D) → o ≡ p
+    → ((x : Caller) → IsNewFor x made → IsNameCall x b s old new (with_data [] p) a)
+    → ((size n : ℕ) (own : Option Slice) → Acts (sight size b s made []) n own p a old new)
+    → ((size : ℕ) (own : Option Slice) → CallHolds (sight size b s made []) own p a s s) → IsLogged a → IsNamed b s made o old new a
+is_named {b = b} {s = s} {made = made} {old = old} {new = new} {a = a} o p is step acts holds logged =
+    subst (λ k. IsNamed b s made k old new a) (sym is) (record {
+      step = λ x q plain next. subst (λ (k : Op (List ℕ)). IsNameCall x b s old new k a) (sym plain) (step x next);
+      acts = acts;
+      holds = holds;
+      logged = logged;
+    })
 
 -- no handle is on a path where nothing is open
 nothing_off : (p : List ℕ) → IsOff p nothing_open

@@ -32,7 +32,7 @@ use Rattle.wtf_meta.specs.Appends.{append_keys as file_append_keys}
 use Rattle.wtf_meta.specs.FileEdits.{file_of}
 use Rattle.wtf_meta.specs.Maps.{Map, AllFit, metadata_at, seen}
 use Rattle.wtf_meta.specs.Sessions.{SessionView, handle_in}
-use Rattle.wtf_meta.specs.Calls.{Caller, Fact, Did, InHand, TellFacts, IsCall, IsStep, IsDone, cap_for}
+use Rattle.wtf_meta.specs.Calls.{Caller, Did, InHand, TellFacts, IsCall, IsStep, IsDone, cap_for}
 use Rattle.wtf_meta.proofs.FeetFiles.{looks_feet}
 use Rattle.wtf_meta.proofs.Named.{PiecesBytes-none}
 use Rattle.wtf_meta.proofs.Moves.{done-same}
@@ -52,9 +52,7 @@ use Rattle.wtf_replay.specs.Sounds.{TellsMap, IsToldStep, IsDue, tells_slice}
 use Rattle.wtf_replay.specs.Works.{Work, IsWork, saw, scene_of, told_now}
 use Rattle.wtf_replay.proofs.ReadLists.{rw_read, read_told}
 use Rattle.wtf_replay.proofs.RwLaws.{tell_some, RwTell, Lacks}
-
-no_facts : (told : Told) (facts : List Fact) → facts ≡ [] → TellFacts told facts
-no_facts told facts e = subst (TellFacts told) (sym e) tt
+use Rattle.wtf_replay.proofs.SliceLaws.{no_facts}
 
 -- what a call read or stored is told afterwards
 facts_told : {S : Type 0} (sc : Scene S) (r : RwOp) (own : Option Slice) (bytes : List ℕ) (did : Did) → DoesRw sc r own bytes did → (ranges : List (ℕ × Range))
@@ -68,13 +66,7 @@ facts_told sc (rw.Write f (Stored kept)) own bytes did does ranges tells tell =
     does.0.told (told_in sc.kind sc.after) (tell_some (told_in sc.kind sc.after) kept.slice bytes tell)
 facts_told sc (rw.Append f (Stored kept)) own bytes did does ranges tells tell =
     does.0.told (told_in sc.kind sc.after) (tell_some (told_in sc.kind sc.after) kept.slice bytes tell)
-facts_told sc (rw.Open f p) own bytes did does ranges tells tell = no_facts (told_in sc.kind sc.after) did.facts does.0.facts
-facts_told sc (rw.Close f) own bytes did does ranges tells tell = no_facts (told_in sc.kind sc.after) did.facts does.0.facts
-facts_told sc (rw.Seek f place) own bytes did does ranges tells tell = no_facts (told_in sc.kind sc.after) did.facts does.0.facts
-facts_told sc (rw.Tell f) own bytes did does ranges tells tell = no_facts (told_in sc.kind sc.after) did.facts does.0.facts
-facts_told sc (rw.Truncate f n) own bytes did does ranges tells tell = no_facts (told_in sc.kind sc.after) did.facts does.0.facts
-facts_told sc (rw.Punch f n) own bytes did does ranges tells tell = no_facts (told_in sc.kind sc.after) did.facts does.0.facts
-facts_told sc (rw.Stat p) own bytes did does ranges tells tell = no_facts (told_in sc.kind sc.after) did.facts does.0.facts
+facts_told sc r own bytes did does ranges tells tell = no_facts (told_in sc.kind sc.after) did.facts does.0.facts
 
 -- what a call did on handles and bytes: P holds of what it brings where it holds of the slice that it stored or was given
 pub rw_work : {S : Type 0} (w : Work S) (r : RwOp) (stored : Option Slice) (bytes : List ℕ) (x : Caller) (o : Op (List ℕ)) (a : Answer) (own : Option Slice)

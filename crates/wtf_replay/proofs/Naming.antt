@@ -62,9 +62,9 @@ lists_known P b told [] tell = tt
 lists_known P b told (f ∷ fs) tell = ((λ has. entries_from P f.list (ap (list_has P) (sym tell.0) ∙ has)), lists_known P b told fs tell.1)
 
 -- where nothing was read
-pub named_none : {S : Type 0} (kind : StoreKind S) (old new : Dev S) (Was Is : Of)
+pub named_none : {S : Type 0} {kind : StoreKind S} {old new : Dev S} {Was Is : Of}
     → ((P : List Place → Bool) (Q : Slice → Bool) → P [] ≡ true → Was P Q → Is P Q) → HaveNamed kind old new Was Is
-named_none kind old new Was Is h = record {
+named_none {kind = kind} {new = new} h = record {
   lists = [];
   inside = All-nil (λ (f : ListFact). All (EntryBytes (inside_of kind new)) f.list);
   told = λ ranges cache known. tt;
@@ -72,10 +72,10 @@ named_none kind old new Was Is h = record {
 }
 
 -- what is named by what calls named
-pub named_by : {S : Type 0} (kind : StoreKind S) (old new : Dev S) (Was Is More Less : Of) → ((P : List Place → Bool) (Q : Slice → Bool) → More P Q → Was P Q)
-    → ((P : List Place → Bool) (Q : Slice → Bool) → P [] ≡ true → More P Q → Is P Q → Less P Q) → HaveNamed kind old new Was Is
-    → HaveNamed kind old new More Less
-named_by kind old new Was Is More Less was is h =
+pub named_by : {S : Type 0} {kind : StoreKind S} {old new : Dev S} {Was Is More Less : Of} → HaveNamed kind old new Was Is
+    → ((P : List Place → Bool) (Q : Slice → Bool) → More P Q → Was P Q)
+    → ((P : List Place → Bool) (Q : Slice → Bool) → P [] ≡ true → More P Q → Is P Q → Less P Q) → HaveNamed kind old new More Less
+named_by {kind = kind} {old = old} h was is =
     let told : Told = told_in kind old in
     let z = old.settings.region in
     record {
@@ -137,10 +137,7 @@ module _ {S : Type 0} {kind : StoreKind S} (laws : KindLaws kind) {old mid : Dev
 pub again_beside : {S : Type 0} (kind : StoreKind S) (old new : Dev S) (kv : Store Key Value) (was is : InHand) (log : Calls)
     → NamesAgain kind old new kv was is log
     → HaveNamed kind old new (λ P Q. HandBytes P Q kv was × LogBytes P log) (λ P Q. HandBytes P Q kv is × LogBytes P log)
-again_beside kind old new kv was is log h =
-    named_by kind old new (λ P Q. HandBytes P Q kv was × LogBytes P log) (λ P Q. HandBytes P Q kv is) (λ P Q. HandBytes P Q kv was × LogBytes P log)
-    (λ P Q. HandBytes P Q kv is × LogBytes P log)
-    (λ P Q were. were) (λ P Q hole were are. (are, were.1)) h
+again_beside kind old new kv was is log h = named_by h (λ P Q were. were) (λ P Q hole were are. (are, were.1))
 
 pub again_on : {S : Type 0} {kind : StoreKind S} → KindLaws kind → {old mid new : Dev S} → GoesOn kind old mid [] → GoesOn kind mid new []
     → (kv : Store Key Value) (was at is : InHand) (log : Calls)

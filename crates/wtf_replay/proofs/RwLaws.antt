@@ -15,7 +15,6 @@ use Rattle.wtf_replica.proofs.Bytes.{stored_bytes}
 use Rattle.wtf_model.specs.declared.answer.Answer.{Answer}
 use Rattle.wtf_model.specs.declared.op.Op.{Op}
 use Rattle.wtf_model.specs.declared.op.Op.TheVariants as op
-use Rattle.wtf_model.specs.Form.{IsFormOp, IsKeptData}
 use Rattle.wtf_log.specs.Calls.{own_of}
 use Rattle.wtf_log.specs.Standing.{OpStandsFor}
 use Rattle.wtf_meta.specs.declared.session.Handle.{Handle}
@@ -31,7 +30,7 @@ use Rattle.wtf_rw.specs.declared.op.Given.TheVariants.{Fresh, Stored}
 use Rattle.wtf_rw.specs.declared.op.RwOp.{RwOp}
 use Rattle.wtf_rw.specs.declared.op.RwOp.TheVariants as rw
 use Rattle.wtf_rw.specs.Stored.{SliceBytes, TellSlice, IsOwn}
-use Rattle.wtf_rw.specs.Ops.{op_of, Writes, IsWhole, RwBytes, IsFormRw, OwnBy, IsRwOwn, LacksOwn, StoresNone, IsRwFault, IsBare, LacksSlice, rw_file}
+use Rattle.wtf_rw.specs.Ops.{op_of, Writes, IsWhole, RwBytes, OwnBy, IsRwOwn, LacksOwn, StoresNone, IsRwFault, IsBare, LacksSlice, rw_file}
 use Rattle.wtf_rw.proofs.StoredBytes.{held_meaning}
 use Rattle.wtf_replay.specs.Built.{IsOpOf, IsFresh, IsStored, data_of}
 use Rattle.wtf_replay.specs.Keeps.{IsWholeOp, LacksData, IsKeptOf}
@@ -73,18 +72,11 @@ module _ {S : Type 0} (kind : StoreKind S) (old new : Dev S) (w : Map) (s : Sess
     pub file : rw_file old w s r ≡ grown_file old w s o
 
   pub fresh_ways : (r : RwOp) (o : Op (List ℕ)) → IsOpOf IsFresh r o → FreshWays r o
-  fresh_ways (rw.Open f p) o e = subst (FreshWays (rw.Open f p)) (sym e) (record { own = λ q h. h; fault = λ why h. h; lacks = λ q a l none. inl refl; none = λ h. h; file = refl })
-  fresh_ways (rw.Close f) o e = subst (FreshWays (rw.Close f)) (sym e) (record { own = λ q h. h; fault = λ why h. h; lacks = λ q a l none. inl refl; none = λ h. h; file = refl })
-  fresh_ways (rw.Seek f place) o e = subst (FreshWays (rw.Seek f place)) (sym e) (record { own = λ q h. h; fault = λ why h. h; lacks = λ q a l none. inl refl; none = λ h. h; file = refl })
-  fresh_ways (rw.Tell f) o e = subst (FreshWays (rw.Tell f)) (sym e) (record { own = λ q h. h; fault = λ why h. h; lacks = λ q a l none. inl refl; none = λ h. h; file = refl })
-  fresh_ways (rw.Read f n) o e = subst (FreshWays (rw.Read f n)) (sym e) (record { own = λ q h. h; fault = λ why h. h; lacks = λ q a l none. inl refl; none = λ h. h; file = refl })
-  fresh_ways (rw.Truncate f n) o e = subst (FreshWays (rw.Truncate f n)) (sym e) (record { own = λ q h. h; fault = λ why h. h; lacks = λ q a l none. inl refl; none = λ h. h; file = refl })
-  fresh_ways (rw.Punch f n) o e = subst (FreshWays (rw.Punch f n)) (sym e) (record { own = λ q h. h; fault = λ why h. h; lacks = λ q a l none. inl refl; none = λ h. h; file = refl })
-  fresh_ways (rw.Stat p) o e = subst (FreshWays (rw.Stat p)) (sym e) (record { own = λ q h. h; fault = λ why h. h; lacks = λ q a l none. inl refl; none = λ h. h; file = refl })
   fresh_ways (rw.Write f (Fresh bs)) o (bytes, e, is) = subst (FreshWays (rw.Write f (Fresh bs))) (sym (e ∙ ap (op.Write f) is)) (record { own = λ q h. h; fault = λ why h. h; lacks = λ q a l. l; none = λ h. h; file = refl })
   fresh_ways (rw.Append f (Fresh bs)) o (bytes, e, is) = subst (FreshWays (rw.Append f (Fresh bs))) (sym (e ∙ ap (op.Append f) is)) (record { own = λ q h. h; fault = λ why h. h; lacks = λ q a l. l; none = λ h. h; file = refl })
   fresh_ways (rw.Write f (Stored kept)) o (bytes, e, is) = absurd is
   fresh_ways (rw.Append f (Stored kept)) o (bytes, e, is) = absurd is
+  fresh_ways r o e = subst (FreshWays r) (sym e) (record { own = λ q h. h; fault = λ why h. h; lacks = λ q a l none. inl refl; none = λ h. h; file = refl })
 
   -- the slice that was stored has as many bytes as the data
   by_len : (o : Option Handle) (place : Handle → PlaceView) (bytes : List ℕ) (q : Option Slice) → OwnBy kind old new o place bytes q → IfSome q (λ sl. len_of sl ≡ length bytes)
@@ -153,7 +145,6 @@ module _ {S : Type 0} (kind : StoreKind S) (old new : Dev S) (w : Map) (s : Sess
 
   -- a call that is made once more
   pub record AgainWays (r : RwOp) (k : Op Kept) : Type 0 where
-    pub form : IsFormOp IsKeptData k → IsFormRw r
     pub given : (P : List Place → Bool) → SliceBytes P (own_of k) → RwBytes P r
     pub none : StoresNone r
     pub whole : IsWholeOp k → IsWhole r
@@ -166,18 +157,25 @@ module _ {S : Type 0} (kind : StoreKind S) (old new : Dev S) (w : Map) (s : Sess
   kept_either (Some sl) n = inl (λ e. absurd (cc))
 
   pub again_ways : (r : RwOp) (k : Op Kept) → IsOpOf IsStored r k → AgainWays r k
-  again_ways (rw.Open f p) k e = subst (AgainWays (rw.Open f p)) (sym e) (record { form = λ h. h.0; given = λ P h. tt; none = tt; whole = λ h. tt; either = inl tt; kept = inl tt; fault = λ why h. h })
-  again_ways (rw.Close f) k e = subst (AgainWays (rw.Close f)) (sym e) (record { form = λ h. h; given = λ P h. tt; none = tt; whole = λ h. tt; either = inl tt; kept = inl tt; fault = λ why h. h })
-  again_ways (rw.Seek f place) k e = subst (AgainWays (rw.Seek f place)) (sym e) (record { form = λ h. h.0; given = λ P h. tt; none = tt; whole = λ h. tt; either = inl tt; kept = inl tt; fault = λ why h. h })
-  again_ways (rw.Tell f) k e = subst (AgainWays (rw.Tell f)) (sym e) (record { form = λ h. h; given = λ P h. tt; none = tt; whole = λ h. tt; either = inl tt; kept = inl tt; fault = λ why h. h })
-  again_ways (rw.Read f n) k e = subst (AgainWays (rw.Read f n)) (sym e) (record { form = λ h. h; given = λ P h. tt; none = tt; whole = λ h. tt; either = inl tt; kept = inl tt; fault = λ why h. h })
-  again_ways (rw.Truncate f n) k e = subst (AgainWays (rw.Truncate f n)) (sym e) (record { form = λ h. h.0; given = λ P h. tt; none = tt; whole = λ h. tt; either = inl tt; kept = inl tt; fault = λ why h. h })
-  again_ways (rw.Punch f n) k e = subst (AgainWays (rw.Punch f n)) (sym e) (record { form = λ h. h.0; given = λ P h. tt; none = tt; whole = λ h. tt; either = inl tt; kept = inl tt; fault = λ why h. h })
-  again_ways (rw.Stat p) k e = subst (AgainWays (rw.Stat p)) (sym e) (record { form = λ h. tt; given = λ P h. tt; none = tt; whole = λ h. tt; either = inl tt; kept = inl tt; fault = λ why h. h })
-  again_ways (rw.Write f (Stored kept)) k (x, e, is) = subst (AgainWays (rw.Write f (Stored kept))) (sym (e ∙ ap (op.Write f) is)) (record { form = λ h. h; given = λ P h. h; none = tt; whole = λ h. h; either = kept_either kept.slice kept.len; kept = kept_either kept.slice kept.len; fault = λ why h. h })
-  again_ways (rw.Append f (Stored kept)) k (x, e, is) = subst (AgainWays (rw.Append f (Stored kept))) (sym (e ∙ ap (op.Append f) is)) (record { form = λ h. h; given = λ P h. h; none = tt; whole = λ h. h; either = kept_either kept.slice kept.len; kept = kept_either kept.slice kept.len; fault = λ why h. h })
+  again_ways (rw.Write f (Stored kept)) k (x, e, is) = subst (AgainWays (rw.Write f (Stored kept))) (sym (e ∙ ap (op.Write f) is)) (record {
+    given = λ P h. h;
+    none = tt;
+    whole = λ h. h;
+    either = kept_either kept.slice kept.len;
+    kept = kept_either kept.slice kept.len;
+    fault = λ why h. h;
+  })
+  again_ways (rw.Append f (Stored kept)) k (x, e, is) = subst (AgainWays (rw.Append f (Stored kept))) (sym (e ∙ ap (op.Append f) is)) (record {
+    given = λ P h. h;
+    none = tt;
+    whole = λ h. h;
+    either = kept_either kept.slice kept.len;
+    kept = kept_either kept.slice kept.len;
+    fault = λ why h. h;
+  })
   again_ways (rw.Write f (Fresh bs)) k (x, e, is) = absurd is
   again_ways (rw.Append f (Fresh bs)) k (x, e, is) = absurd is
+  again_ways r k e = subst (AgainWays r) (sym e) (record { given = λ P h. tt; none = tt; whole = λ h. tt; either = inl tt; kept = inl tt; fault = λ why h. h })
 
 -- the bytes of a call that is made once more, as P tells them of its slice
 module _ (P : Slice → List ℕ → Type 0) where
@@ -197,14 +195,6 @@ module _ (P : Slice → List ℕ → Type 0) where
   plain_brought r k p o e is writes tell = record { bytes = []; is = is ∙ sym e; writes = writes; tell = tell }
 
   pub brought_for : (r : RwOp) (k : Op Kept) (o : Op (List ℕ)) → IsOpOf IsStored r k → OpStandsFor P k o → Brought r o
-  brought_for (rw.Open f p) k o e h = plain_brought (rw.Open f p) k (op.Open f p.now) o (subst (λ q. OpStandsFor P q o) e h) refl tt tt
-  brought_for (rw.Close f) k o e h = plain_brought (rw.Close f) k (op.Close f) o (subst (λ q. OpStandsFor P q o) e h) refl tt tt
-  brought_for (rw.Seek f place) k o e h = plain_brought (rw.Seek f place) k (op.Seek f place) o (subst (λ q. OpStandsFor P q o) e h) refl tt tt
-  brought_for (rw.Tell f) k o e h = plain_brought (rw.Tell f) k (op.Tell f) o (subst (λ q. OpStandsFor P q o) e h) refl tt tt
-  brought_for (rw.Read f n) k o e h = plain_brought (rw.Read f n) k (op.Read f n) o (subst (λ q. OpStandsFor P q o) e h) refl tt tt
-  brought_for (rw.Truncate f n) k o e h = plain_brought (rw.Truncate f n) k (op.Truncate f n) o (subst (λ q. OpStandsFor P q o) e h) refl tt tt
-  brought_for (rw.Punch f n) k o e h = plain_brought (rw.Punch f n) k (op.Punch f n) o (subst (λ q. OpStandsFor P q o) e h) refl tt tt
-  brought_for (rw.Stat p) k o e h = plain_brought (rw.Stat p) k (op.Stat p.now) o (subst (λ q. OpStandsFor P q o) e h) refl tt tt
   brought_for (rw.Write f (Stored kept)) k o (x, e, is) h =
       let g = subst (λ q. OpStandsFor P q o) (e ∙ ap (op.Write f) is) h in
       record { bytes = g.bytes; is = sym g.is; writes = sym g.stands.len; tell = g.stands.slice }
@@ -213,21 +203,13 @@ module _ (P : Slice → List ℕ → Type 0) where
       record { bytes = g.bytes; is = sym g.is; writes = sym g.stands.len; tell = g.stands.slice }
   brought_for (rw.Write f (Fresh bs)) k o (x, e, is) h = absurd is
   brought_for (rw.Append f (Fresh bs)) k o (x, e, is) h = absurd is
+  brought_for r k o e h = plain_brought r k (op_of r []) o (subst (λ q. OpStandsFor P q o) e h) refl tt tt
 
   -- a call that is made for the first time is given no slice
   pub fresh_tell : (r : RwOp) (o : Op (List ℕ)) (bytes : List ℕ) → IsOpOf IsFresh r o → RwTell r bytes
   fresh_tell (rw.Write f (Stored kept)) o bytes (x, e, is) = absurd is
   fresh_tell (rw.Append f (Stored kept)) o bytes (x, e, is) = absurd is
-  fresh_tell (rw.Write f (Fresh bs)) o bytes e = tt
-  fresh_tell (rw.Append f (Fresh bs)) o bytes e = tt
-  fresh_tell (rw.Open f p) o bytes e = tt
-  fresh_tell (rw.Close f) o bytes e = tt
-  fresh_tell (rw.Seek f place) o bytes e = tt
-  fresh_tell (rw.Tell f) o bytes e = tt
-  fresh_tell (rw.Read f n) o bytes e = tt
-  fresh_tell (rw.Truncate f n) o bytes e = tt
-  fresh_tell (rw.Punch f n) o bytes e = tt
-  fresh_tell (rw.Stat p) o bytes e = tt
+  fresh_tell r o bytes e = tt
 
 -- and one that is made once more is given the slice that a log kept
 kept_tell : (told : Told) (kept : Kept) (call : List ℕ → Op (List ℕ)) (bytes : List ℕ) (o : Op (List ℕ)) (own : Option Slice) → call bytes ≡ o
@@ -242,28 +224,11 @@ again_tell told (rw.Write f (Stored kept)) k o bytes (x, e, same) is tell =
     kept_tell told kept (op.Write f) bytes o (own_of k) is refl (ap own_of (e ∙ ap (λ (q : Kept). op.Write f q) same)) tell
 again_tell told (rw.Append f (Stored kept)) k o bytes (x, e, same) is tell =
     kept_tell told kept (op.Append f) bytes o (own_of k) is refl (ap own_of (e ∙ ap (λ (q : Kept). op.Append f q) same)) tell
-again_tell told (rw.Write f (Fresh bs)) k o bytes (x, e, same) is tell = tt
-again_tell told (rw.Append f (Fresh bs)) k o bytes (x, e, same) is tell = tt
-again_tell told (rw.Open f p) k o bytes e is tell = tt
-again_tell told (rw.Close f) k o bytes e is tell = tt
-again_tell told (rw.Seek f place) k o bytes e is tell = tt
-again_tell told (rw.Tell f) k o bytes e is tell = tt
-again_tell told (rw.Read f n) k o bytes e is tell = tt
-again_tell told (rw.Truncate f n) k o bytes e is tell = tt
-again_tell told (rw.Punch f n) k o bytes e is tell = tt
-again_tell told (rw.Stat p) k o bytes e is tell = tt
+again_tell told r k o bytes e is tell = tt
 
 -- a call that is to store no byte stores no slice
 pub none_stored : {S : Type 0} (kind : StoreKind S) (old new : Dev S) (w : Map) (s : SessionView) (r : RwOp) (q : Option Slice) → StoresNone r → IsRwOwn kind old new w s r q → q ≡ None
-none_stored kind old new w s (rw.Write f (Stored kept)) q n h = h.1
-none_stored kind old new w s (rw.Append f (Stored kept)) q n h = h.1
 none_stored kind old new w s (rw.Write f (Fresh bs)) q n h = absurd n
 none_stored kind old new w s (rw.Append f (Fresh bs)) q n h = absurd n
-none_stored kind old new w s (rw.Open f p) q n h = h.1
-none_stored kind old new w s (rw.Close f) q n h = h.1
-none_stored kind old new w s (rw.Seek f place) q n h = h.1
-none_stored kind old new w s (rw.Tell f) q n h = h.1
-none_stored kind old new w s (rw.Read f n2) q n h = h
-none_stored kind old new w s (rw.Truncate f n2) q n h = h.1
-none_stored kind old new w s (rw.Punch f n2) q n h = h.1
-none_stored kind old new w s (rw.Stat p) q n h = h.1
+none_stored kind old new w s (rw.Read f m) q n h = h
+none_stored kind old new w s r q n h = h.1

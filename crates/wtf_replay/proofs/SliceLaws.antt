@@ -1,5 +1,6 @@
 -- Calls on slices, and those that make a file of others, as calls of a transaction.
-use Rattle.std.proofs.Common.{◌≡◌, ℕ, Bool, false, List, [], Option, None, refl, sym, subst, inl, inr}
+use Rattle.std.proofs.Common.{◌≡◌, ℕ, Bool, false, List, [], ◌∷◌, Option, None, refl, sym, subst, inl, inr}
+use Rattle.std.specs.Prelude.{⊤}
 use Rattle.wtf_base.specs.declared.fault.Fault.{Fault}
 use Rattle.wtf_base.specs.declared.fault.Fault.TheVariants as fault
 use Rattle.wtf_base.specs.declared.kept.Kept.{Kept}
@@ -10,6 +11,7 @@ use Rattle.wtf_overlay.specs.Origin.{Place}
 use Rattle.wtf_model.specs.declared.answer.Answer.{Answer}
 use Rattle.wtf_model.specs.declared.op.Op.{Op}
 use Rattle.wtf_model.specs.declared.op.Op.TheVariants as op
+use Rattle.wtf_model.specs.Form.{IsFormOp}
 use Rattle.wtf_meta.specs.Bytes.{PiecesBytes}
 use Rattle.wtf_meta.specs.Contents.{Told}
 use Rattle.wtf_meta.specs.Maps.{Map}
@@ -21,11 +23,12 @@ use Rattle.wtf_region.specs.Devs.{told_in}
 use Rattle.wtf_steps.specs.Faults.{MayFault}
 use Rattle.wtf_steps.specs.Steps.{IsStepWith}
 use Rattle.wtf_steps.specs.Scenes.{Scene}
+use Rattle.wtf_rw.specs.Stored.{IsPutFault}
 use Rattle.wtf_slicing.specs.declared.op.SliceOp.{SliceOp}
 use Rattle.wtf_slicing.specs.declared.op.SliceOp.TheVariants.{Yank, Peek, Cut, Paste, Glue, Concat, Copy}
 use Rattle.wtf_slicing.specs.Ops.{op_of, IsFormSlice, DoesSlice, IsSliceFault, NeedsNoStore}
-use Rattle.wtf_replay.specs.Built.{is_rw_op, is_slice_op, IsPlainOp, IsFormPlain, IsSliceOpOf}
-use Rattle.wtf_replay.specs.Causes.{IsOwnOf, IsCallFault, IsAgainFault, IsPlainFault, IsStillOp, grown_file}
+use Rattle.wtf_replay.specs.Built.{is_rw_op, IsPlainOp, IsSliceOpOf}
+use Rattle.wtf_replay.specs.Causes.{FaultOf, IsOwnOf, IsCallFault, IsAgainFault, IsStillOp, grown_file}
 use Rattle.wtf_replay.specs.Keeps.{IsWholeOp, LacksData}
 use Rattle.wtf_replay.specs.Sounds.{TellsHand}
 use Rattle.wtf_replay.specs.Works.{Work, IsWork, saw, scene_of}
@@ -35,68 +38,56 @@ module _ {S D : Type 0} (kind : StoreKind S) (old new : Dev S) (w : Map) (s : Se
   -- what a call k is that is made as r
   pub record SliceWays (r : SliceOp) (k : Op D) : Type 0 where
     pub is : (o : Op (List ℕ)) → IsPlainOp k o → op_of r ≡ o
-    pub form : IsFormPlain k → IsFormSlice r
+    pub form : IsFormOp (λ (d : D). ⊤) k → IsFormSlice r
     pub still : IsStillOp k → NeedsNoStore r
-    pub fault : (why : Fault) → IsSliceFault kind old new w s r why → IsPlainFault kind old new w s k why
+    pub fault : (why : Fault) → IsSliceFault kind old new w s r why → IsAgainFault kind old new w s k why
 
   pub slice_ways : (r : SliceOp) (k : Op D) → IsSliceOpOf r k → SliceWays r k
-  slice_ways (Yank f n l) k e = subst (SliceWays (Yank f n l)) (sym e) (record { is = λ o h. sym h; form = λ h. h; still = λ h. absurd h; fault = λ why h. h })
-  slice_ways (Peek l off n) k e = subst (SliceWays (Peek l off n)) (sym e) (record { is = λ o h. sym h; form = λ h. h; still = λ h. absurd h; fault = λ why h. inr h })
-  slice_ways (Cut l off n to) k e = subst (SliceWays (Cut l off n to)) (sym e) (record { is = λ o h. sym h; form = λ h. h; still = λ h. tt; fault = λ why h. h })
+  slice_ways (Yank f n l) k e =
+      subst (SliceWays (Yank f n l)) (sym e) (record { is = λ o h. sym h; form = λ h. (h.0, h.2); still = λ h. absurd h; fault = λ why h. h })
+  slice_ways (Peek l off n) k e =
+      subst (SliceWays (Peek l off n)) (sym e) (record { is = λ o h. sym h; form = λ h. h; still = λ h. absurd h; fault = λ why h. inr h })
+  slice_ways (Cut l off n to) k e =
+      subst (SliceWays (Cut l off n to)) (sym e) (record { is = λ o h. sym h; form = λ h. h; still = λ h. tt; fault = λ why h. h })
   slice_ways (Paste f l) k e = subst (SliceWays (Paste f l)) (sym e) (record { is = λ o h. sym h; form = λ h. h; still = λ h. tt; fault = λ why h. h })
   slice_ways (Glue f l) k e = subst (SliceWays (Glue f l)) (sym e) (record { is = λ o h. sym h; form = λ h. h; still = λ h. tt; fault = λ why h. h })
-  slice_ways (Concat q paths) k e = subst (SliceWays (Concat q paths)) (sym e) (record { is = λ o h. sym h; form = λ h. tt; still = λ h. absurd h; fault = λ why h. h })
+  slice_ways (Concat q paths) k e =
+      subst (SliceWays (Concat q paths)) (sym e) (record { is = λ o h. sym h; form = λ h. tt; still = λ h. absurd h; fault = λ why h. h })
   slice_ways (Copy p q) k e = subst (SliceWays (Copy p q)) (sym e) (record { is = λ o h. sym h; form = λ h. tt; still = λ h. tt; fault = λ why h. h })
 
--- a call on names gives a fault for want of memory alone
-pub name_fault : {S D : Type 0} (kind : StoreKind S) (old new : Dev S) (w : Map) (s : SessionView) (k : Op D) → is_slice_op k ≡ false → (why : Fault)
-    → why ≡ fault.Memory → IsPlainFault kind old new w s k why
-name_fault kind old new w s (op.Peek l off n) b why h = absurd (cc)
-name_fault kind old new w s (op.Mkdir p) b why h = h
-name_fault kind old new w s (op.Rmdir p) b why h = h
-name_fault kind old new w s (op.Create p) b why h = h
-name_fault kind old new w s (op.Unlink p) b why h = h
-name_fault kind old new w s (op.Rename p q) b why h = h
-name_fault kind old new w s (op.List p) b why h = h
-name_fault kind old new w s (op.Stat p) b why h = h
-name_fault kind old new w s (op.Open f p) b why h = h
-name_fault kind old new w s (op.Close f) b why h = h
-name_fault kind old new w s (op.Seek f place) b why h = h
-name_fault kind old new w s (op.Tell f) b why h = h
-name_fault kind old new w s (op.Read f n) b why h = h
-name_fault kind old new w s (op.Write f d) b why h = h
-name_fault kind old new w s (op.Append f d) b why h = h
-name_fault kind old new w s (op.Truncate f n) b why h = h
-name_fault kind old new w s (op.Punch f n) b why h = h
-name_fault kind old new w s (op.Yank f n l) b why h = absurd (cc)
-name_fault kind old new w s (op.Cut l off n to) b why h = h
-name_fault kind old new w s (op.Paste f l) b why h = h
-name_fault kind old new w s (op.Glue f l) b why h = h
-name_fault kind old new w s (op.Concat q paths) b why h = absurd (cc)
-name_fault kind old new w s (op.Copy p q) b why h = h
+-- memory may be short for each call
+pub memory_fault : {S D : Type 0} (sc : Scene S) (P : D → Fault → Type 0) (s : SessionView) (o : Op D) (why : Fault)
+    → ((d : D) → P d why) → why ≡ fault.Memory → FaultOf sc P s o why
+memory_fault sc P s (op.Write f d) why puts e = puts d
+memory_fault sc P s (op.Append f d) why puts e = puts d
+memory_fault sc P s (op.Read f n) why puts e = inl e
+memory_fault sc P s (op.Yank f n l) why puts e = inl e
+memory_fault sc P s (op.Peek l off n) why puts e = inl e
+memory_fault sc P s (op.Concat q paths) why puts e = inl e
+memory_fault sc P s o why puts e = e
 
+put_short : {S : Type 0} (kind : StoreKind S) (old new : Dev S) (bytes : List ℕ) (why : Fault) → why ≡ fault.Memory → IsPutFault kind old new bytes why
+put_short kind old new [] why e = e
+put_short kind old new (b ∷ bs) why e = inl e
+
+pub call_short : {S : Type 0} (kind : StoreKind S) (old new : Dev S) (w : Map) (s : SessionView) (o : Op (List ℕ)) (why : Fault) → why ≡ fault.Memory
+    → IsCallFault kind old new w s o why
+call_short kind old new w s o why e =
+    memory_fault (record { kind = kind; before = old; after = new; map = w }) (IsPutFault kind old new) s o why (λ bytes. put_short kind old new bytes why e) e
+
+-- a call stored nothing
 -- a call stored nothing
 stored_none : {S : Type 0} (sc : Scene S) (s : SessionView) (r : SliceOp) (did : Did) → DoesSlice sc s r did → did.stored ≡ []
 stored_none sc s (Yank f n l) did does = does.stored
-stored_none sc s (Peek l off n) did does = does.stored
-stored_none sc s (Cut l off n to) did does = does.stored
-stored_none sc s (Paste f l) did does = does.stored
-stored_none sc s (Glue f l) did does = does.stored
-stored_none sc s (Concat q paths) did does = does.stored
-stored_none sc s (Copy p q) did does = does.stored
+stored_none sc s r did does = does.stored
 
-no_facts : (told : Told) (facts : List Fact) → facts ≡ [] → TellFacts told facts
+pub no_facts : (told : Told) (facts : List Fact) → facts ≡ [] → TellFacts told facts
 no_facts told facts e = subst (TellFacts told) (sym e) tt
 
 slice_facts : {S : Type 0} (sc : Scene S) (ranges : List (ℕ × Range)) (s : SessionView) (r : SliceOp) (did : Did) → DoesSlice sc s r did
     → TellsHand sc.kind sc.before ranges sc.map s → TellFacts (told_in sc.kind sc.after) did.facts
 slice_facts sc ranges s (Peek l off n) did does tells = does.told tells.slices
-slice_facts sc ranges s (Yank f n l) did does tells = no_facts (told_in sc.kind sc.after) did.facts does.facts
-slice_facts sc ranges s (Cut l off n to) did does tells = no_facts (told_in sc.kind sc.after) did.facts does.facts
-slice_facts sc ranges s (Paste f l) did does tells = no_facts (told_in sc.kind sc.after) did.facts does.facts
-slice_facts sc ranges s (Glue f l) did does tells = no_facts (told_in sc.kind sc.after) did.facts does.facts
-slice_facts sc ranges s (Concat q paths) did does tells = no_facts (told_in sc.kind sc.after) did.facts does.facts
-slice_facts sc ranges s (Copy p q) did does tells = no_facts (told_in sc.kind sc.after) did.facts does.facts
+slice_facts sc ranges s r did does tells = no_facts (told_in sc.kind sc.after) did.facts does.facts
 
 -- P holds of what it stored, which is nothing
 stored_bytes_none : {S : Type 0} (P : List Place → Bool) (sc : Scene S) (s : SessionView) (r : SliceOp) (did : Did) → DoesSlice sc s r did → PiecesBytes P did.stored
@@ -118,53 +109,19 @@ slice_work w own r x o a one is =
 module _ {S : Type 0} (kind : StoreKind S) (old new : Dev S) (w : Map) (s : SessionView) where
   -- what a call without data stored: nothing
   pub plain_own : (o : Op (List ℕ)) → is_rw_op o ≡ false → (IsStillOp o → new ≡ old) → IsOwnOf kind old new w s o None
+  plain_own (op.Write f bytes) b still = absurd (cc)
+  plain_own (op.Append f bytes) b still = absurd (cc)
+  plain_own (op.Read f n) b still = absurd (cc)
   plain_own (op.Yank f n l) b still = refl
   plain_own (op.Peek l off n) b still = refl
   plain_own (op.Concat q paths) b still = refl
-  plain_own (op.Mkdir p) b still = (still tt, refl)
-  plain_own (op.Rmdir p) b still = (still tt, refl)
-  plain_own (op.Create p) b still = (still tt, refl)
-  plain_own (op.Unlink p) b still = (still tt, refl)
-  plain_own (op.Rename p q) b still = (still tt, refl)
-  plain_own (op.List p) b still = (still tt, refl)
-  plain_own (op.Cut l off n to) b still = (still tt, refl)
-  plain_own (op.Paste f l) b still = (still tt, refl)
-  plain_own (op.Glue f l) b still = (still tt, refl)
-  plain_own (op.Copy p q) b still = (still tt, refl)
-  plain_own o b still = absurd (cc)
+  plain_own o b still = (still tt, refl)
 
   -- its fault is that of a call
-  pub plain_call_fault : (o : Op (List ℕ)) → is_rw_op o ≡ false → (why : Fault) → IsPlainFault kind old new w s o why → IsCallFault kind old new w s o why
-  plain_call_fault (op.Mkdir p) b why h = h
-  plain_call_fault (op.Rmdir p) b why h = h
-  plain_call_fault (op.Create p) b why h = h
-  plain_call_fault (op.Unlink p) b why h = h
-  plain_call_fault (op.Rename p q) b why h = h
-  plain_call_fault (op.List p) b why h = h
-  plain_call_fault (op.Yank f n l) b why h = h
-  plain_call_fault (op.Peek l off n) b why h = h
-  plain_call_fault (op.Cut l off n to) b why h = h
-  plain_call_fault (op.Paste f l) b why h = h
-  plain_call_fault (op.Glue f l) b why h = h
-  plain_call_fault (op.Concat q paths) b why h = h
-  plain_call_fault (op.Copy p q) b why h = h
-  plain_call_fault o b why h = absurd (cc)
-
-  pub plain_again_fault : (k : Op Kept) → is_rw_op k ≡ false → (why : Fault) → IsPlainFault kind old new w s k why → IsAgainFault kind old new w s k why
-  plain_again_fault (op.Mkdir p) b why h = h
-  plain_again_fault (op.Rmdir p) b why h = h
-  plain_again_fault (op.Create p) b why h = h
-  plain_again_fault (op.Unlink p) b why h = h
-  plain_again_fault (op.Rename p q) b why h = h
-  plain_again_fault (op.List p) b why h = h
-  plain_again_fault (op.Yank f n l) b why h = h
-  plain_again_fault (op.Peek l off n) b why h = h
-  plain_again_fault (op.Cut l off n to) b why h = h
-  plain_again_fault (op.Paste f l) b why h = h
-  plain_again_fault (op.Glue f l) b why h = h
-  plain_again_fault (op.Concat q paths) b why h = h
-  plain_again_fault (op.Copy p q) b why h = h
-  plain_again_fault k b why h = absurd (cc)
+  pub plain_fault : (o : Op (List ℕ)) → is_rw_op o ≡ false → (why : Fault) → IsAgainFault kind old new w s o why → IsCallFault kind old new w s o why
+  plain_fault (op.Write f bytes) b why h = absurd (cc)
+  plain_fault (op.Append f bytes) b why h = absurd (cc)
+  plain_fault o b why h = h
 
 -- a call without data lacks none of it
 pub plain_lacks : (o : Op (List ℕ)) (a : Answer) → is_rw_op o ≡ false → LacksData o None a

@@ -30,9 +30,9 @@ use Rattle.wtf_region.specs.Inside.{is_inside}
 use Rattle.wtf_rw.specs.Stored.{SliceBytes, TellSlice}
 use Rattle.wtf_slicing.specs.Sights.{sight}
 use Rattle.wtf_replay.specs.Views.{TxnView}
-use Rattle.wtf_replay.specs.Built.{data_of}
+use Rattle.wtf_replay.specs.Built.{data_of, with_data}
 use Rattle.wtf_replay.specs.Fits.{IsLog}
-use Rattle.wtf_replay.specs.Insides.{HandBytes, LogBytes, IsHandInside, IsLogInside, NamesHand, NamesAgain}
+use Rattle.wtf_replay.specs.Insides.{IsHandInside, IsLogInside, NamesHand, NamesAgain}
 use Rattle.wtf_replay.specs.Sounds.{TellsHand, IsToldStep, IsDue, tells_slice, caller_at}
 use Rattle.wtf_replay.specs.Effects.{Acts, CallHolds, kept_len, scope, Redoes}
 use Rattle.wtf_replay.specs.Works.{Work, IsCaller, IsWork, IsNext, inode_at, saw, size_in, told_then, told_now}
@@ -98,27 +98,7 @@ some_given kept call = record {
 pub some_call : (k : Op Kept) → (o : Op (List ℕ)) × OpStandsFor (λ s bytes. ⊤) k o
 some_call (op.Write f kept) = (op.Write f (replicate kept.len 0), some_given kept (op.Write f))
 some_call (op.Append f kept) = (op.Append f (replicate kept.len 0), some_given kept (op.Append f))
-some_call (op.Mkdir p) = (op.Mkdir p, refl)
-some_call (op.Rmdir p) = (op.Rmdir p, refl)
-some_call (op.Create p) = (op.Create p, refl)
-some_call (op.Unlink p) = (op.Unlink p, refl)
-some_call (op.Rename p q) = (op.Rename p q, refl)
-some_call (op.List p) = (op.List p, refl)
-some_call (op.Stat p) = (op.Stat p, refl)
-some_call (op.Open f p) = (op.Open f p, refl)
-some_call (op.Close f) = (op.Close f, refl)
-some_call (op.Seek f place) = (op.Seek f place, refl)
-some_call (op.Tell f) = (op.Tell f, refl)
-some_call (op.Read f n) = (op.Read f n, refl)
-some_call (op.Truncate f n) = (op.Truncate f n, refl)
-some_call (op.Punch f n) = (op.Punch f n, refl)
-some_call (op.Yank f n l) = (op.Yank f n l, refl)
-some_call (op.Peek l off n) = (op.Peek l off n, refl)
-some_call (op.Cut l off n t) = (op.Cut l off n t, refl)
-some_call (op.Paste f l) = (op.Paste f l, refl)
-some_call (op.Glue f l) = (op.Glue f l, refl)
-some_call (op.Concat q ps) = (op.Concat q ps, refl)
-some_call (op.Copy p q) = (op.Copy p q, refl)
+some_call k = (with_data [] k, refl)
 
 -- the stores tell the bytes of the slice of one that stands for a call
 tell_given : (told : Told) (kept : Kept) (call : List ℕ → Op (List ℕ)) (o : Op (List ℕ)) (g : IsGiven (tells_slice told) kept call o)
@@ -142,16 +122,12 @@ module _ {S : Type 0} (w : Work S) (tx : ℕ) (log : Calls) (k : ℕ) (a : Answe
         let some = some_call next.op in
         named_of w (caller_at (size_in w) tx k) (own_of next.op) some.0 a (next.again.does (inl whole) (caller_at (size_in w) tx k) some.0 is_caller some.1)
     | inr looked ↦
-        named_none w.kind w.before w.after (λ P Q. HandBytes P Q w.kv w.old) (λ P Q. SliceBytes P (own_of next.op) → HandBytes P Q w.kv w.new)
-        (λ P Q hole were has. named_same P Q w.kv w.old w.new next.again.acted.acts.base looked.0 looked.1 were)
+        named_none (λ P Q hole were has. named_same P Q w.kv w.old w.new next.again.acted.acts.base looked.0 looked.1 were)
   ]
 
   -- it names what was named, also by the log
   pub next_named : NamesAgain w.kind w.before w.after w.kv w.old w.new log
-  next_named =
-      named_by w.kind w.before w.after (λ P Q. HandBytes P Q w.kv w.old) (λ P Q. SliceBytes P (own_of next.op) → HandBytes P Q w.kv w.new)
-      (λ P Q. HandBytes P Q w.kv w.old × LogBytes P log) (λ P Q. HandBytes P Q w.kv w.new) (λ P Q were. were.0)
-      (λ P Q hole were are. are (log_at P log k next.op next.at_op were.1)) at_next
+  next_named = named_by at_next (λ P Q were. were.0) (λ P Q hole were are. are (log_at P log k next.op next.at_op were.1))
 
   pub next_fit : AllFit w.old.at.changes (metadata_at w.kv w.old.at.base) → AllFit w.new.at.changes (metadata_at w.kv w.new.at.base)
   next_fit fit = elim next.again.whole [

@@ -1,11 +1,9 @@
 -- Parts of what a verb makes of a transaction: the refusals that do not come, want of memory, and a transaction as it was.
-use Rattle.std.proofs.Common.{◌≡◌, ◌≢◌, ◌<◌, ◌≤◌, ℕ, Bool, List, [], ◌∷◌, length, Option, None, Some, Ok, Result, sym, ap, ◌∙◌, subst, inl, arith, ⊎_elim}
+use Rattle.std.proofs.Common.{◌≡◌, ◌≢◌, ◌<◌, ◌≤◌, Bool, length, Option, None, Some, Ok, Result, sym, ap, ◌∙◌, subst, arith, ⊎_elim}
 use Rattle.std.specs.Prelude.{if◌then◌else◌, IfSome}
 use Rattle.std.specs.Option.{option_map}
 use Rattle.std.proofs.lemmas.Bool.{cases_lt, eq-eqb, ne_eqb, lt-leb}
 use Rattle.wtf_base.specs.declared.fault.Fault.{Fault}
-use Rattle.wtf_base.specs.declared.fault.Fault.TheVariants as fault
-use Rattle.wtf_dev.specs.Store.{StoreKind}
 use Rattle.wtf_occ.specs.Attempts.{Attempted}
 use Rattle.wtf_values.specs.declared.key.Key.{Key}
 use Rattle.wtf_values.specs.declared.value.Delta.{Delta}
@@ -14,14 +12,9 @@ use Rattle.wtf_model.specs.declared.answer.Answer.TheVariants as answer
 use Rattle.wtf_model.specs.declared.answer.Word.{Word}
 use Rattle.wtf_model.specs.declared.answer.Word.TheVariants.{Replaying, Full, Live}
 use Rattle.wtf_model.specs.declared.limits.TheConstants.{MAX_LOGGED}
-use Rattle.wtf_model.specs.declared.op.Op.{Op}
-use Rattle.wtf_model.specs.declared.op.Op.TheVariants as op
-use Rattle.wtf_meta.specs.Maps.{Map}
 use Rattle.wtf_meta.specs.Sessions.{SessionView}
-use Rattle.wtf_region.specs.declared.dev.Dev.{Dev}
 use Rattle.wtf_replay.specs.Views.{TxnView, is_full}
-use Rattle.wtf_replay.specs.Refusals.{unmade, step_refusal}
-use Rattle.wtf_replay.specs.Causes.{IsCallFault}
+use Rattle.wtf_replay.specs.Refusals.{unmade, try_refusal, step_refusal}
 use Rattle.wtf_replay.specs.Verbs.{Turn}
 
 -- a live transaction whose log has room refuses no call
@@ -32,15 +25,17 @@ unmade_none x live room few =
     ap (λ (b : Bool). option_map answer.Refused (if b then (if is_full x then Some Full else None) else Some Replaying)) (eq-eqb x.replayed (length x.log.ops) live)
     ∙ ap (λ (b : Bool). option_map answer.Refused (if b then Some Full else None)) (lt-leb MAX_LOGGED (length x.log.ops) under)
 
-pub instead_none : {S : Type 0} (t : Turn S) (r : Result Answer Fault) → unmade t.old ≡ None → IfSome (unmade t.old) (λ a. (r ≡ Ok a) × (t.new ≡ t.old) × (t.after ≡ t.before))
-instead_none t r none = subst (λ (o : Option Answer). IfSome o (λ a. (r ≡ Ok a) × (t.new ≡ t.old) × (t.after ≡ t.before))) (sym none) tt
+-- nor an attempt
+pub try_none : (x : TxnView) → x.replayed ≡ length x.log.ops → try_refusal x ≡ None
+try_none x live = ap (λ (b : Bool). if b then None else Some Replaying) (eq-eqb x.replayed (length x.log.ops) live)
 
 -- and one that has calls to replay refuses no step
 pub step_none : (x : TxnView) → x.replayed < length x.log.ops → step_refusal x ≡ None
 step_none x left = ap (λ (b : Bool). if b then Some Live else None) (ne_eqb x.replayed (length x.log.ops) (λ e. omega (arith, left, e)))
 
-pub refused_none : {S : Type 0} (t : Turn S) (r : Result Answer Fault) → step_refusal t.old ≡ None → IfSome (step_refusal t.old) (λ w. (r ≡ Ok (answer.Refused w)) × (t.new ≡ t.old) × (t.after ≡ t.before))
-refused_none t r none = subst (λ (o : Option Word). IfSome o (λ w. (r ≡ Ok (answer.Refused w)) × (t.new ≡ t.old) × (t.after ≡ t.before))) (sym none) tt
+-- what is said of a refusal, where there is none
+pub if_none : {A : Type 0} (o : Option A) (P : A → Type 0) → o ≡ None → IfSome o P
+if_none o P none = subst (λ q. IfSome q P) (sym none) tt
 
 -- one that does leaves the transaction
 pub refused_there : {S : Type 0} (t : Turn S) (r : Result Answer Fault) → IfSome (step_refusal t.old) (λ w. (r ≡ Ok (answer.Refused w)) × (t.new ≡ t.old) × (t.after ≡ t.before))
@@ -50,18 +45,6 @@ refused_there t r h = by (step_refusal t.old) h
     by : (o : Option Word) → IfSome o (λ w. (r ≡ Ok (answer.Refused w)) × (t.new ≡ t.old) × (t.after ≡ t.before)) → IfSome o (λ w. (r ≡ Ok (answer.Refused w)) × (t.new ≡ t.old))
     by None h = tt
     by (Some w) h = (h.0, h.1)
-
--- memory may be short for each call
-pub call_short : {S : Type 0} (kind : StoreKind S) (old new : Dev S) (w : Map) (s : SessionView) (o : Op (List ℕ)) (why : Fault) → why ≡ fault.Memory → IsCallFault kind old new w s o why
-call_short kind old new w s (op.Write f []) why e = e
-call_short kind old new w s (op.Write f (b ∷ bs)) why e = inl e
-call_short kind old new w s (op.Append f []) why e = e
-call_short kind old new w s (op.Append f (b ∷ bs)) why e = inl e
-call_short kind old new w s (op.Read f n) why e = inl e
-call_short kind old new w s (op.Yank f n l) why e = inl e
-call_short kind old new w s (op.Peek l off n) why e = inl e
-call_short kind old new w s (op.Concat q ps) why e = inl e
-call_short kind old new w s o why e = e
 
 -- a transaction whose attempt and session are what they were
 pub put_back : (x : TxnView) (at : Attempted Key Delta) (session : SessionView) → at ≡ x.at → session ≡ x.session → record x { at = at; session = session } ≡ x

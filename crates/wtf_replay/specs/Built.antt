@@ -1,9 +1,8 @@
 -- How calls are made: those on names, those on handles and the bytes of files, and those on slices.
-use Rattle.std.specs.Prelude.{◌≡◌, ℕ, Bool, true, false, List, [], length, ⊤}
+use Rattle.std.specs.Prelude.{◌≡◌, ℕ, Bool, true, false, List, [], length}
 use Rattle.wtf_base.specs.declared.kept.Kept.{Kept}
 use Rattle.wtf_model.specs.declared.op.Op.{Op}
 use Rattle.wtf_model.specs.declared.op.Op.TheVariants as op
-use Rattle.wtf_model.specs.Form.{IsHandle, IsSlice, IsNumber, IsShowable}
 use Rattle.wtf_rw.specs.declared.op.Given.{Given}
 use Rattle.wtf_rw.specs.declared.op.Given.TheVariants.{Fresh, Stored}
 use Rattle.wtf_rw.specs.declared.op.RwOp.{RwOp}
@@ -36,22 +35,35 @@ is_slice_op (op.Concat q paths) = true
 is_slice_op (op.Copy p q) = true
 is_slice_op o = false
 
+-- the same call with other data
+abbrev pub with_data : {D E : Type 0} → E → Op D → Op E
+with_data x (op.Mkdir p) = op.Mkdir p
+with_data x (op.Rmdir p) = op.Rmdir p
+with_data x (op.Create p) = op.Create p
+with_data x (op.Unlink p) = op.Unlink p
+with_data x (op.Rename p q) = op.Rename p q
+with_data x (op.List p) = op.List p
+with_data x (op.Stat p) = op.Stat p
+with_data x (op.Open f p) = op.Open f p
+with_data x (op.Close f) = op.Close f
+with_data x (op.Seek f place) = op.Seek f place
+with_data x (op.Tell f) = op.Tell f
+with_data x (op.Read f n) = op.Read f n
+with_data x (op.Write f d) = op.Write f x
+with_data x (op.Append f d) = op.Append f x
+with_data x (op.Truncate f n) = op.Truncate f n
+with_data x (op.Punch f n) = op.Punch f n
+with_data x (op.Yank f n s) = op.Yank f n s
+with_data x (op.Peek s off len) = op.Peek s off len
+with_data x (op.Cut s off len to) = op.Cut s off len to
+with_data x (op.Paste f s) = op.Paste f s
+with_data x (op.Glue f s) = op.Glue f s
+with_data x (op.Concat q paths) = op.Concat q paths
+with_data x (op.Copy p q) = op.Copy p q
+
 -- a call without data is this call
 abbrev pub IsPlainOp : {D : Type 0} → Op D → Op (List ℕ) → Type 0
-IsPlainOp (op.Mkdir p) o = o ≡ op.Mkdir p
-IsPlainOp (op.Rmdir p) o = o ≡ op.Rmdir p
-IsPlainOp (op.Create p) o = o ≡ op.Create p
-IsPlainOp (op.Unlink p) o = o ≡ op.Unlink p
-IsPlainOp (op.Rename p q) o = o ≡ op.Rename p q
-IsPlainOp (op.List p) o = o ≡ op.List p
-IsPlainOp (op.Yank f n s) o = o ≡ op.Yank f n s
-IsPlainOp (op.Peek s off n) o = o ≡ op.Peek s off n
-IsPlainOp (op.Cut s off n to) o = o ≡ op.Cut s off n to
-IsPlainOp (op.Paste f s) o = o ≡ op.Paste f s
-IsPlainOp (op.Glue f s) o = o ≡ op.Glue f s
-IsPlainOp (op.Concat q paths) o = o ≡ op.Concat q paths
-IsPlainOp (op.Copy p q) o = o ≡ op.Copy p q
-IsPlainOp k o = ⊥
+IsPlainOp k o = o ≡ with_data [] k
 
 -- a call on slices is made as r
 abbrev pub IsSliceOpOf : {D : Type 0} → SliceOp → Op D → Type 0
@@ -62,25 +74,6 @@ IsSliceOpOf (slicing.Paste f s) o = o ≡ op.Paste f s
 IsSliceOpOf (slicing.Glue f s) o = o ≡ op.Glue f s
 IsSliceOpOf (slicing.Concat q paths) o = o ≡ op.Concat q.now paths.now
 IsSliceOpOf (slicing.Copy p q) o = o ≡ op.Copy p.now q.now
-
--- the labels and numbers of a call on slices are in form
-abbrev pub IsFormPlain : {D : Type 0} → Op D → Type 0
-IsFormPlain (op.Yank f n s) = IsHandle f × IsSlice s
-IsFormPlain (op.Peek s off n) = IsSlice s × IsNumber off × IsShowable n
-IsFormPlain (op.Cut s off n to) = IsSlice s × IsNumber off × IsNumber n × IsSlice to
-IsFormPlain (op.Paste f s) = IsHandle f × IsSlice s
-IsFormPlain (op.Glue f s) = IsHandle f × IsSlice s
-IsFormPlain o = ⊤
-
--- a call is this call on names, which has no data
-abbrev pub IsNameOp : {D : Type 0} → Op D → Op (List ℕ) → Type 0
-IsNameOp (op.Mkdir p) o = o ≡ op.Mkdir p
-IsNameOp (op.Rmdir p) o = o ≡ op.Rmdir p
-IsNameOp (op.Create p) o = o ≡ op.Create p
-IsNameOp (op.Unlink p) o = o ≡ op.Unlink p
-IsNameOp (op.Rename p q) o = o ≡ op.Rename p q
-IsNameOp (op.List p) o = o ≡ op.List p
-IsNameOp k o = ⊥
 
 -- a call on handles or bytes is made as r, whose data is as G says
 abbrev pub IsOpOf : {D : Type 0} → (Given → D → Type 0) → RwOp → Op D → Type 0
@@ -114,29 +107,3 @@ data_of o = []
 -- and the number of its bytes
 abbrev pub data_len : Op (List ℕ) → ℕ
 data_len o = length (data_of o)
-
--- the same call with other data
-abbrev pub with_data : {D E : Type 0} → E → Op D → Op E
-with_data x (op.Mkdir p) = op.Mkdir p
-with_data x (op.Rmdir p) = op.Rmdir p
-with_data x (op.Create p) = op.Create p
-with_data x (op.Unlink p) = op.Unlink p
-with_data x (op.Rename p q) = op.Rename p q
-with_data x (op.List p) = op.List p
-with_data x (op.Stat p) = op.Stat p
-with_data x (op.Open f p) = op.Open f p
-with_data x (op.Close f) = op.Close f
-with_data x (op.Seek f place) = op.Seek f place
-with_data x (op.Tell f) = op.Tell f
-with_data x (op.Read f n) = op.Read f n
-with_data x (op.Write f d) = op.Write f x
-with_data x (op.Append f d) = op.Append f x
-with_data x (op.Truncate f n) = op.Truncate f n
-with_data x (op.Punch f n) = op.Punch f n
-with_data x (op.Yank f n s) = op.Yank f n s
-with_data x (op.Peek s off len) = op.Peek s off len
-with_data x (op.Cut s off len to) = op.Cut s off len to
-with_data x (op.Paste f s) = op.Paste f s
-with_data x (op.Glue f s) = op.Glue f s
-with_data x (op.Concat q paths) = op.Concat q paths
-with_data x (op.Copy p q) = op.Copy p q

@@ -34,6 +34,7 @@ use Rattle.wtf_region.specs.declared.dev.Dev.{Dev}
 use Rattle.wtf_region.specs.Devs.{GoesOn, place_in, stores}
 use Rattle.wtf_steps.specs.Faults.{MayFault}
 use Rattle.wtf_steps.specs.Recalling.{Recalls}
+use Rattle.wtf_steps.specs.Scenes.{Scene}
 use Rattle.wtf_rw.specs.Ops.{OwnBy, file_in, file_at_end}
 use Rattle.wtf_rw.specs.Reads.{LacksRead}
 use Rattle.wtf_steps.specs.Recorded.{found_in}
@@ -68,13 +69,6 @@ IsStillOp o = ⊤
 abbrev pub IsPeekCause : {S : Type 0} → StoreKind S → (old new : Dev S) → Option (List Piece) → ℕ → ℕ → Fault → Type 0
 IsPeekCause kind old new slice off n why = (why ≡ fault.Memory) ⊎ LacksSlice kind old new slice off n why
 
--- why a call without data gave a fault: bytes of a slice are read that are to be shown, and the lists of files that are taken
-abbrev pub IsPlainFault : {S D : Type 0} → StoreKind S → (old new : Dev S) → Map → SessionView → Op D → Fault → Type 0
-IsPlainFault kind old new w s (op.Yank f n label) why = IsYankFault kind old new w (handle_in s f) n why
-IsPlainFault kind old new w s (op.Peek label off n) why = IsPeekCause kind old new (slice_in s label) off n why
-IsPlainFault kind old new w s (op.Concat q paths) why = IsConcatFault kind old new w paths why
-IsPlainFault kind old new w s o why = why ≡ fault.Memory
-
 -- a call that is to store no byte
 abbrev pub StoresNothing : Op (List ℕ) → Type 0
 StoresNothing (op.Write f bytes) = ⊥
@@ -92,23 +86,24 @@ abbrev pub IsReadCause : {S : Type 0} → StoreKind S → (old new : Dev S) → 
 IsReadCause kind old new w handle n why =
     (why ≡ fault.Memory) ⊎ ((h : Handle) × (handle ≡ Some h) × LacksRead kind old new (file_of h.inode w) h.off (found_in old.settings.region w h n) why)
 
+-- why a call gave a fault, where P says why its data was not stored: bytes are read that are to be shown, and the lists of files
+-- that are taken; memory may be short at any time
+abbrev pub FaultOf : {S D : Type 0} → Scene S → (D → Fault → Type 0) → SessionView → Op D → Fault → Type 0
+FaultOf sc P s (op.Write f d) why = P d why
+FaultOf sc P s (op.Append f d) why = P d why
+FaultOf sc P s (op.Read f n) why = IsReadCause sc.kind sc.before sc.after sc.map (handle_in s f) n why
+FaultOf sc P s (op.Yank f n label) why = IsYankFault sc.kind sc.before sc.after sc.map (handle_in s f) n why
+FaultOf sc P s (op.Peek label off n) why = IsPeekCause sc.kind sc.before sc.after (slice_in s label) off n why
+FaultOf sc P s (op.Concat q paths) why = IsConcatFault sc.kind sc.before sc.after sc.map paths why
+FaultOf sc P s o why = why ≡ fault.Memory
+
 -- of a call that is made for the first time
 abbrev pub IsCallFault : {S : Type 0} → StoreKind S → (old new : Dev S) → Map → SessionView → Op (List ℕ) → Fault → Type 0
-IsCallFault kind old new w s (op.Write f bytes) why = IsPutFault kind old new bytes why
-IsCallFault kind old new w s (op.Append f bytes) why = IsPutFault kind old new bytes why
-IsCallFault kind old new w s (op.Read f n) why = IsReadCause kind old new w (handle_in s f) n why
-IsCallFault kind old new w s (op.Yank f n label) why = IsYankFault kind old new w (handle_in s f) n why
-IsCallFault kind old new w s (op.Peek label off n) why = IsPeekCause kind old new (slice_in s label) off n why
-IsCallFault kind old new w s (op.Concat q paths) why = IsConcatFault kind old new w paths why
-IsCallFault kind old new w s o why = why ≡ fault.Memory
+IsCallFault kind old new w s o why = FaultOf (record { kind = kind; before = old; after = new; map = w }) (IsPutFault kind old new) s o why
 
--- and of one that is made once more, which stores nothing
-abbrev pub IsAgainFault : {S : Type 0} → StoreKind S → (old new : Dev S) → Map → SessionView → Op Kept → Fault → Type 0
-IsAgainFault kind old new w s (op.Read f n) why = IsReadCause kind old new w (handle_in s f) n why
-IsAgainFault kind old new w s (op.Yank f n label) why = IsYankFault kind old new w (handle_in s f) n why
-IsAgainFault kind old new w s (op.Peek label off n) why = IsPeekCause kind old new (slice_in s label) off n why
-IsAgainFault kind old new w s (op.Concat q paths) why = IsConcatFault kind old new w paths why
-IsAgainFault kind old new w s k why = why ≡ fault.Memory
+-- and of one that stores nothing: one without data, or one that is made once more
+abbrev pub IsAgainFault : {S D : Type 0} → StoreKind S → (old new : Dev S) → Map → SessionView → Op D → Fault → Type 0
+IsAgainFault kind old new w s k why = FaultOf (record { kind = kind; before = old; after = new; map = w }) (λ d y. y ≡ fault.Memory) s k why
 
 -- it may come in place of what is due, for whatever bytes the call stands
 abbrev pub MayAgainFault : Settings → Map → SessionView → Op Kept → Fault → Type 0

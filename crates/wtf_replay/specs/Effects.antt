@@ -155,16 +155,12 @@ pub record Redoes (b : Scope) (kv : Store Key Value) (x : TxnView) (k : ℕ) (ol
   pub acts : Acts (sight_at b.size kv x.tx k old lists) (kept_len op) (own_of op) op shown old.at new.at
   pub holds : CallHolds (sight_at b.size kv x.tx k old lists) (own_of op) op shown old.session new.session
 
--- one call more was made once more, after those that read the lists `before`
-pub record RedoesMore (b : Scope) (kv : Store Key Value) (x : TxnView) (k : ℕ) (mid new : InHand) (before lists : List ListFact) : Type 0 where
-  pub redoes : Redoes b kv x k mid new
-  pub lists_are : lists ≡ before ++ redoes.lists
-
 -- n calls of a transaction were made once more, one after another, from where it stands, and read these lists
 abbrev pub AreRedone : Scope → Store Key Value → TxnView → ℕ → List ListFact → InHand → Type 0
 AreRedone b kv x zero lists hand = (lists ≡ []) × (hand ≡ hand_of x)
 AreRedone b kv x (suc n) lists hand =
-    (mid : InHand) × (before : List ListFact) × AreRedone b kv x n before mid × RedoesMore b kv x (x.replayed + n) mid hand before lists
+    (mid : InHand) × (before : List ListFact) × AreRedone b kv x n before mid
+    × (last : Redoes b kv x (x.replayed + n) mid hand) × (lists ≡ before ++ last.lists)
 
 -- all that are left
 abbrev pub AllRedone : Scope → Store Key Value → TxnView → List ListFact → InHand → Type 0

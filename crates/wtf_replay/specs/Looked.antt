@@ -16,7 +16,7 @@ use Rattle.wtf_meta.specs.Calls.{Caller, IsCall}
 use Rattle.wtf_index.specs.Checks.{stands_at}
 use Rattle.wtf_slicing.specs.Sights.{sight}
 use Rattle.wtf_slicing.specs.Steps.{IsNewFor}
-use Rattle.wtf_replay.specs.Built.{IsNameOp}
+use Rattle.wtf_replay.specs.Built.{IsPlainOp}
 use Rattle.wtf_replay.specs.Effects.{Acts, CallHolds}
 
 -- an attempt goes on by a call that stores nothing and leaves handles and slices
@@ -49,7 +49,7 @@ IsLooked b s p old new false = (new ≡ old) × (IsOff p s ⊎ ((i : InodeId) �
 -- a call on names was made, of the inode `made`: whoever calls, it is the definitions' call, and it recorded its keys and made its
 -- changes
 pub record IsNamed {D : Type 0} (b : Map) (s : SessionView) (made : InodeId) (o : Op D) (old new : Attempted Key Delta) (a : Answer) : Type 0 where
-  pub step : (x : Caller) (p : Op (List ℕ)) → IsNameOp o p → IsNewFor x made → IsNameCall x b s old new p a
+  pub step : (x : Caller) (p : Op (List ℕ)) → IsPlainOp o p → IsNewFor x made → IsNameCall x b s old new p a
   pub acts : (size n : ℕ) (own : Option Slice) → Acts (sight size b s made []) n own o a old new
   pub holds : (size : ℕ) (own : Option Slice) → CallHolds (sight size b s made []) own o a s s
   pub logged : IsLogged a

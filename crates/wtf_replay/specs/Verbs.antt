@@ -6,11 +6,13 @@ use Rattle.wtf_base.specs.declared.slice.Slice.{Slice}
 use Rattle.wtf_dev.specs.Store.{Range, StoreKind}
 use Rattle.wtf_replica.specs.Bytes.{byte_at}
 use Rattle.wtf_kv.specs.Stores.{Store}
+use Rattle.wtf_occ.specs.Tries.{Stays}
 use Rattle.wtf_model.specs.declared.answer.Answer.{Answer, Aborted'}
 use Rattle.wtf_model.specs.declared.answer.Answer.TheVariants as answer
 use Rattle.wtf_model.specs.declared.op.Op.{Op}
 use Rattle.wtf_values.specs.declared.key.Key.{Key}
 use Rattle.wtf_values.specs.declared.value.Value.{Value}
+use Rattle.wtf_values.specs.Keys.{key_cmp}
 use Rattle.wtf_meta.specs.Lists.{ListFact}
 use Rattle.wtf_meta.specs.Contents.{Told}
 use Rattle.wtf_meta.specs.Maps.{Map, seen, metadata_at}
@@ -21,16 +23,16 @@ use Rattle.wtf_region.specs.Showing.{OnlyRead}
 use Rattle.wtf_steps.specs.Faults.{MayFault}
 use Rattle.wtf_steps.specs.Leaving.{LeavesStores}
 use Rattle.wtf_steps.specs.Recalling.{Recalls}
-use Rattle.wtf_replay.specs.Views.{TxnView, hand_of}
+use Rattle.wtf_replay.specs.Views.{TxnView, rebased, hand_of}
 use Rattle.wtf_replay.specs.Built.{data_len}
-use Rattle.wtf_replay.specs.Refusals.{unmade, step_refusal}
+use Rattle.wtf_replay.specs.Refusals.{unmade, try_refusal, step_refusal}
 use Rattle.wtf_replay.specs.Fits.{IsFit}
 use Rattle.wtf_replay.specs.Sounds.{IsSound, TellsMap, IsAwayTxn}
 use Rattle.wtf_replay.specs.Insides.{IsInsideTxn, NamesTxn, NamesNow}
 use Rattle.wtf_replay.specs.Causes.{IsOwnOf, StoresNothing, grown_file, IsCallFault, FaultAt, ReplayFault, IsCommitFault, MayStepFault, MayCommitFault}
 use Rattle.wtf_replay.specs.Called.{IsCalled}
-use Rattle.wtf_replay.specs.Tried.{KeepsMaps, KeepsVersions, KeepsPins, commit_from}
-use Rattle.wtf_replay.specs.Replays.{IsStepped, IsOver, IsEnded, IsTrueStep, IsTrueEnd}
+use Rattle.wtf_replay.specs.Tried.{IsAttempted, KeepsMaps, KeepsVersions, KeepsPins, MovesPin, commit_from}
+use Rattle.wtf_replay.specs.Replays.{IsStepped, IsOver, IsEnded, IsTrueAttempt, IsTrueStep, IsTrueEnd}
 use Rattle.wtf_replay.specs.Effects.{Acts, CallHolds, Scope, scope, sight_at, Redoes}
 use Rattle.wtf_replay.specs.Installs.{IsInstall}
 
@@ -133,6 +135,24 @@ abbrev pub StartsNow : {S : Type 0} → Turn S → List (Op (List ℕ)) → Type
 StartsNow t ops =
     (ranges : List (ℕ × Range)) × TellsMap t.kind t.before ranges (metadata_at t.kv t.kv.number) × IsAwayTxn t.kind t.before ranges t.kv t.old
     × IsSound (region_size t) t.kv (told_before t) t.old ops
+
+-- an attempt to commit, with its result
+pub record AttemptOf {E : Type 0} (kv left : Store Key Value) (old new : TxnView) (r : Result Answer E) : Type 0 where
+  pub refused : IfSome (try_refusal old) (λ w. (r ≡ Ok (answer.Refused w)) × (new ≡ old) × (left ≡ kv))
+  pub tried : try_refusal old ≡ None → IfOk r (λ a. IsAttempted kv left old new a)
+  pub meaning : try_refusal old ≡ None → IfOk r (λ a. (size : ℕ) (told : Told) (ops : List (Op (List ℕ))) → IsSound size kv told old ops
+      → IsTrueAttempt size told kv left (old, new) ops a)
+  pub maps : KeepsMaps kv left
+  pub fit : IsFit left new
+  pub err : OnErr r (new ≡ old)
+  pub err_store : OnErr r (Stays key_cmp kv left)
+
+-- a transaction begins again at the number, which is pinned in place of its base; want of memory leaves all as it was
+pub record RestartOf {A E : Type 0} (kv left : Store Key Value) (old new : TxnView) (r : Result A E) : Type 0 where
+  pub is : OnOk r (new ≡ rebased old kv.number)
+  pub shows : left ≡ record kv { pins = left.pins }
+  pub pins : OnOk r (MovesPin old.at.base kv.number kv left)
+  pub err : OnErr r ((new ≡ old) × (left ≡ kv))
 
 -- what a commit is lent, and what has to hold of it
 pub record IsReady {S : Type 0} (kind : StoreKind S) (dev : Dev S) (kv : Store Key Value) (x : TxnView) : Type 0 where

@@ -38,7 +38,7 @@ use Rattle.wtf_replay.specs.Built.{IsPlainOp, data_of, data_len}
 use Rattle.wtf_replay.specs.Keeps.{IsWholeOp, IsKeptFor, LacksData}
 use Rattle.wtf_replay.specs.Sounds.{IsSound, IsDue, TellsMap, TellsHand, IsAwayTxn, tells_slice}
 use Rattle.wtf_replay.specs.Insides.{IsKnown, NamesAgain}
-use Rattle.wtf_replay.specs.Causes.{IsOwnOf, StoresNothing, grown_file, IsStillOp, IsPlainFault, IsCallFault, IsAgainFault, MayAgainFault, FaultAt, ReplayFault}
+use Rattle.wtf_replay.specs.Causes.{IsOwnOf, StoresNothing, grown_file, IsStillOp, IsCallFault, IsAgainFault, MayAgainFault, FaultAt, ReplayFault}
 use Rattle.wtf_replay.specs.Replays.{IsReplay}
 use Rattle.wtf_replay.specs.Effects.{Acts, CallHolds, kept_len, scope, AllRedone}
 
@@ -114,7 +114,7 @@ pub record PlainOf {S D : Type 0} (w : Work S) (made : InodeId) (o : Op D) (r : 
   pub acted : IfOk r (λ a. (n : ℕ) (own : Option Slice) → Acted w made n own o a)
   pub logged : IfOk r (λ a. IsLogged a)
   pub err : OnErr r (IsLeft w)
-  pub fault : IfErr r (IsPlainFault w.kind w.before w.after (saw w) w.old.session o)
+  pub fault : IfErr r (IsAgainFault w.kind w.before w.after (saw w) w.old.session o)
   pub due : IfErr r (λ why. (p : Op (List ℕ)) → IsPlainOp o p → MayFault w.before.settings (saw w) w.old.session p why)
   pub grows : Grows w.old.at w.new.at
   pub still : IsStillOp o → w.after ≡ w.before

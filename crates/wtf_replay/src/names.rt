@@ -1,6 +1,6 @@
 //! The calls on names.
 
-ghost use Rattle.std.specs.Prelude.{◌≡◌, ℕ, List, false, IsTrue, IfOk};
+ghost use Rattle.std.specs.Prelude.{◌≡◌, List, false, IsTrue, IfOk};
 ghost use Rattle.wtf_kv.specs.Stores.{is_pinned};
 ghost use Rattle.wtf_occ.specs.Attempts.{Grows, GrowsBy};
 ghost use Rattle.wtf_model.specs.Steps.{IsLogged};

@@ -1,6 +1,6 @@
 //! One call, and calls made once more.
 
-ghost use Rattle.std.specs.Prelude.{◌≡◌, ◌≢◌, ◌<◌, ◌≤◌, false, IsTrue, IfOk, IfErr, OnOk, OnErr, length};
+ghost use Rattle.std.specs.Prelude.{◌≡◌, ◌≢◌, ◌<◌, ◌≤◌, false, IsTrue, IfOk, IfErr, OnOk, OnErr, length, ⊤};
 ghost use Rattle.wtf_kv.specs.Stores.{is_pinned};
 ghost use Rattle.wtf_occ.specs.Attempts.{Grows};
 ghost use Rattle.wtf_model.specs.declared.limits.TheConstants.{MAX_LOGGED};
@@ -10,7 +10,7 @@ ghost use Rattle.wtf_log.specs.Calls.{with_call};
 ghost use Rattle.wtf_meta.specs.Maps.{seen, AllFit, metadata_at};
 ghost use Rattle.wtf_region.specs.Devs.{IsSoundDev, stores};
 ghost use Rattle.wtf_replay.specs.Views.{in_hand, replaying};
-ghost use Rattle.wtf_replay.specs.Built.{is_rw_op, is_slice_op, IsFormPlain};
+ghost use Rattle.wtf_replay.specs.Built.{is_rw_op, is_slice_op};
 ghost use Rattle.wtf_replay.specs.Fits.{IsLog};
 ghost use Rattle.wtf_replay.specs.Insides.{IsHandInside, IsLogInside};
 ghost use Rattle.wtf_replay.specs.Looked.{IsNamed};
@@ -72,7 +72,7 @@ fn make_plain<S: SliceStore, D>(
     requires sound { IsSoundDev S.kind dev.old }
     requires pinned { IsTrue (is_pinned kv.now at.old.base) }
     requires plain { is_rw_op op.now ≡ false }
-    requires form { IsFormPlain op.now }
+    requires form { IsFormOp (λ d. ⊤) op.now }
     requires inside { IsHandInside S.kind (stores dev.old) dev.old.settings kv.now
         (in_hand at.old session.old) }
     ensures made { PlainOf (work S.kind dev.old dev.new kv.now (in_hand at.old session.old)

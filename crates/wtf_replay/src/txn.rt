@@ -1,24 +1,21 @@
 //! Transactions.
 
-ghost use Rattle.std.specs.Prelude.{◌≡◌, ◌≢◌, ◌+◌, ◌<◌, ◌^◌, ℕ, List, [], ◌∷◌, ◌++◌, false, Ok, None, IsTrue, IfOk, IfSome, OnOk, OnErr, length, nat_eq};
+ghost use Rattle.std.specs.Prelude.{◌≡◌, ◌≢◌, ◌+◌, ◌<◌, ◌^◌, ℕ, [], ◌∷◌, ◌++◌, false, Ok, IsTrue, IfOk, OnOk, OnErr, length, nat_eq};
 ghost use Rattle.std.specs.Set.{remove_key};
 ghost use Rattle.wtf_kv.specs.Stores.{is_pinned, IsPinnedOnceMore};
-ghost use Rattle.wtf_occ.specs.Tries.{Stays};
-ghost use Rattle.wtf_values.specs.Keys.{key_cmp};
 ghost use Rattle.wtf_model.specs.declared.limits.TheConstants.{MAX_LOGGED};
 ghost use Rattle.wtf_model.specs.Form.{IsFormOp, IsData};
 ghost use Rattle.wtf_meta.specs.Contents.{Told};
 ghost use Rattle.wtf_meta.specs.Maps.{metadata_at};
 ghost use Rattle.wtf_region.specs.Devs.{IsSoundDev, stores};
 ghost use Rattle.wtf_region.specs.Inside.{IsStoredInside};
-ghost use Rattle.wtf_replay.specs.Views.{TxnView, begun, rebased, is_live};
-ghost use Rattle.wtf_replay.specs.Refusals.{try_refusal};
+ghost use Rattle.wtf_meta.specs.Sessions.{nothing_open};
+ghost use Rattle.wtf_replay.specs.Views.{TxnView, untouched, begun, rebased, is_live};
 ghost use Rattle.wtf_replay.specs.Fits.{IsFit};
 ghost use Rattle.wtf_replay.specs.Sounds.{IsSound};
 ghost use Rattle.wtf_replay.specs.Insides.{IsInsideTxn};
-ghost use Rattle.wtf_replay.specs.Tried.{IsAttempted, KeepsMaps, KeepsVersions, MovesPin, commit_from};
-ghost use Rattle.wtf_replay.specs.Replays.{IsTrueAttempt};
-ghost use Rattle.wtf_replay.specs.Verbs.{turn, CallOf, StepOf, CommitOf, IsReady, ended_by};
+ghost use Rattle.wtf_replay.specs.Tried.{commit_from};
+ghost use Rattle.wtf_replay.specs.Verbs.{turn, AttemptOf, RestartOf, CallOf, StepOf, CommitOf, IsReady, ended_by};
 
 use crate::commit::finish;
 use crate::ops::kept_of;
@@ -82,6 +79,24 @@ impl Model for Txn {
     } };
 }
 
+/// An attempt at the number of installs, which it pins, with nothing in hand. Want of memory leaves
+/// the store as it was.
+fn start(
+    alloc: Global,
+    kv: &mut Kv<Key, Value>,
+) -> Result<(Attempt<Key, Value>, Session), OutOfMemory>
+    ensures hand { IfOk result (λ p. (p.0 ≡ untouched kv.old.number) × (p.1 ≡ nothing_open)) }
+    ensures ok { OnOk result (kv.new ≡ record kv.old { pins = kv.old.pins ++ kv.old.number ∷ [] }) }
+    ensures pinned { OnOk result (IsPinnedOnceMore kv.old.number kv.old kv.new) }
+    ensures err { OnErr result (kv.new ≡ kv.old) }
+{
+    let number = kv.number();
+    let at = Attempt::new(alloc, number)?;
+    let session = Session::new(alloc)?;
+    kv.pin(number)?;
+    Ok((at, session))
+}
+
 impl Txn {
     /// A transaction of this number at the number of installs, which it pins. Want of memory leaves
     /// the store as it was.
@@ -95,22 +110,8 @@ impl Txn {
         ensures sound { IfOk result
             (λ x. (size : ℕ) (told : Told) → IsSound size kv.new told x []) }
     {
-        let base = kv.number();
-        let at = match Attempt::new(alloc, base) {
-            Ok(at) => at,
-            Err(why) => return Err(why),
-        };
-        let session = match Session::new(alloc) {
-            Ok(session) => session,
-            Err(why) => return Err(why),
-        };
-        let log = match Log::new(alloc) {
-            Ok(log) => log,
-            Err(why) => return Err(why),
-        };
-        if let Err(why) = kv.pin(base) {
-            return Err(why);
-        }
+        let log = Log::new(alloc)?;
+        let (at, session) = start(alloc, kv)?;
         Ok(Txn {
             alloc,
             tx,
@@ -223,18 +224,7 @@ impl Txn {
         requires going { self.old.ended ≡ false }
         requires fit { IsFit kv.old self.old }
         requires room { kv.old.number < 2 ^ 63 }
-        ensures refused { IfSome (try_refusal self.old)
-            (λ w. (result ≡ Ok (Answer.Refused w)) × (self.new ≡ self.old) × (kv.new ≡ kv.old)) }
-        ensures tried { try_refusal self.old ≡ None →
-            IfOk result (λ a. IsAttempted kv.old kv.new self.old self.new a) }
-        ensures meaning { try_refusal self.old ≡ None → IfOk result
-            (λ a. (size : ℕ) (told : Told) (ops : List (Op (List ℕ))) →
-            IsSound size kv.old told self.old ops →
-            IsTrueAttempt size told kv.old kv.new (self.old, self.new) ops a) }
-        ensures maps { KeepsMaps kv.old kv.new }
-        ensures fit { IsFit kv.new self.new }
-        ensures err { OnErr result (self.new ≡ self.old) }
-        ensures err_store { OnErr result (Stays key_cmp kv.old kv.new) }
+        ensures { AttemptOf kv.old kv.new self.old self.new result }
     {
         if !self.is_live() {
             return Ok(Answer::Refused(Word::Replaying));
@@ -248,15 +238,7 @@ impl Txn {
         requires fit { IsFit kv.old self.old }
         requires live { self.old.replayed ≡ length self.old.log.ops }
         requires room { kv.old.number < 2 ^ 63 }
-        ensures tried { IfOk result (λ a. IsAttempted kv.old kv.new self.old self.new a) }
-        ensures meaning { IfOk result
-            (λ a. (size : ℕ) (told : Told) (ops : List (Op (List ℕ))) →
-            IsSound size kv.old told self.old ops →
-            IsTrueAttempt size told kv.old kv.new (self.old, self.new) ops a) }
-        ensures fit { IsFit kv.new self.new }
-        ensures maps { KeepsMaps kv.old kv.new }
-        ensures err { OnErr result (self.new ≡ self.old) }
-        ensures err_store { OnErr result (Stays key_cmp kv.old kv.new) }
+        ensures { AttemptOf kv.old kv.new self.old self.new result }
     {
         let _number = kv.number();
         let tried = match self.at.install(kv) {
@@ -282,26 +264,9 @@ impl Txn {
     /// Begins again at the number.
     fn restart(&mut self, kv: &mut Kv<Key, Value>) -> Result<(), OutOfMemory>
         requires { IsTrue (is_pinned kv.old self.old.at.base) }
-        ensures is { OnOk result (self.new ≡ rebased self.old kv.old.number) }
-        ensures number { kv.new.number ≡ kv.old.number }
-        ensures maps { (n : ℕ) → metadata_at kv.new n ≡ metadata_at kv.old n }
-        ensures versions { KeepsVersions kv.old kv.new }
-        ensures pins { OnOk result (MovesPin self.old.at.base kv.old.number kv.old kv.new) }
-        ensures err { OnErr result (self.new ≡ self.old) }
-        ensures err_store { OnErr result (kv.new ≡ kv.old) }
+        ensures { RestartOf kv.old kv.new self.old self.new result }
     {
-        let number = kv.number();
-        let at = match Attempt::new(self.alloc, number) {
-            Ok(at) => at,
-            Err(why) => return Err(why),
-        };
-        let session = match Session::new(self.alloc) {
-            Ok(session) => session,
-            Err(why) => return Err(why),
-        };
-        if let Err(why) = kv.pin(number) {
-            return Err(why);
-        }
+        let (at, session) = start(self.alloc, kv)?;
         let base = self.at.base();
         kv.unpin(base);
         self.at = at;
@@ -468,17 +433,10 @@ impl Txn {
             result }
     {
         let number = kv.number();
-        let mut at = match Attempt::new(self.alloc, number) {
-            Ok(at) => at,
+        let (mut at, mut session) = match start(self.alloc, kv) {
+            Ok(both) => both,
             Err(_) => return Err(Fault::Memory),
         };
-        let mut session = match Session::new(self.alloc) {
-            Ok(session) => session,
-            Err(_) => return Err(Fault::Memory),
-        };
-        if let Err(_) = kv.pin(number) {
-            return Err(Fault::Memory);
-        }
         let ended = finish(
             self.alloc,
             dev,

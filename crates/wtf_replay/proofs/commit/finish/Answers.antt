@@ -8,7 +8,7 @@ use Rattle.wtf_meta.specs.Trees.{Stands}
 use Rattle.wtf_meta.proofs.MapBytes.{with_bytes}
 use Rattle.wtf_region.specs.Devs.{stores}
 use Rattle.wtf_replay.specs.Views.{TxnView, in_hand, replaying}
-use Rattle.wtf_replay.specs.Insides.{HandBytes, LogBytes, TxnBytes}
+use Rattle.wtf_replay.specs.Insides.{NamesNow}
 use Rattle.wtf_replay.specs.Sounds.{TellsMap}
 use Rattle.wtf_replay.specs.Replays.{IsReplay}
 use Rattle.wtf_replay.specs.Effects.{scope}
@@ -72,8 +72,7 @@ returns-in-Some-clause-made g c =
           let other = subst (λ z. IsReplay size kv told new ops z) c.in-Some.is (made.replay ops start.0 map start.2 start.3) in
           true_end_aborted q i a size told kv kv old ops at
           (λ t st. other t (subst (λ b. Stands size before c.args.tx.0 0 (metadata_at kv b) t) base st))) is.made;
-      named = on_ok_any r (named_none kind dev into (λ P Q. TxnBytes P Q kv old × MapBytes P Q (metadata_at kv kv.number))
-          (λ P Q. MapBytes P Q (metadata_at kv kv.number)) (λ P Q hole were. were.1));
+      named = let none : NamesNow kind dev into kv kv old = named_none (λ P Q hole were. were.1) in on_ok_any r none;
       maps = λ n le. refl;
       pins = λ n. refl;
       err_store = on_err_any r (refl, λ q. refl);
@@ -110,13 +109,10 @@ returns-in-Ok-install_now-clause-made g c =
           subst (λ m. TellsMap kind dev start.0 (metadata_at kv m)) (sym c.requires.base) start.1 in
           let whole = subst (λ z. IsReplay size kv told new ops z) c.in_default.is (made.replay ops start.0 map start.2 start.3) in
           final_as size later kv after new old ops n refl refl (final_from size kv later new ops whole after n c.requires.log refl installed);
-      named = named_by kind dev into (λ P Q. HandBytes P Q kv (in_hand c.args.at.now c.args.session.now) × LogBytes P c.args.log.now)
-          (λ P Q. HandBytes P Q kv (in_hand c.replay_from.new.at c.replay_from.new.session))
-          (λ P Q. TxnBytes P Q kv old × MapBytes P Q (metadata_at kv kv.number)) (λ P Q. MapBytes P Q (metadata_at after after.number))
-          (λ P Q were. (were.0.hand, were.0.log)) (λ P Q hole were are.
+      named = named_by made.named (λ P Q were. (were.0.hand, were.0.log)) (λ P Q hole were are.
           let was = subst (λ m. MapBytes P Q (metadata_at kv m)) base are.base in
           subst (MapBytes P Q) (sym (ap (metadata_at after) installed.number ∙ installed.map))
-          (with_bytes P Q hole c.replay_from.new.at.changes (metadata_at kv kv.number) was are.changes)) made.named;
+          (with_bytes P Q hole c.replay_from.new.at.changes (metadata_at kv kv.number) was are.changes));
       maps = leaves.maps;
       pins = λ m. ap (count_by (nat_eq m)) leaves.pins;
       err_store = tt;

@@ -1,17 +1,14 @@
-use Rattle.std.proofs.Common.{◌≡◌, ◌+◌, ℕ, List, [], ◌∙◌, append-nil, refl, sym, subst}
+use Rattle.std.proofs.Common.{◌≡◌, ◌+◌, ℕ, List, [], ◌∙◌, append-nil, refl}
 use Rattle.std.proofs.lemmas.Result.{IfOk-weaker}
-use Rattle.wtf_model.specs.declared.op.Op.{Op}
 use Rattle.wtf_model.specs.declared.op.Op.TheVariants as op
 use Rattle.wtf_model.specs.Steps.{IsLogged}
 use Rattle.wtf_meta.specs.Maps.{Map, seen}
 use Rattle.wtf_meta.specs.Calls.{Caller, IsNameStep}
 use Rattle.wtf_index.specs.Changed.{mkdir_changes, rmdir_changes, create_changes, unlink_changes, rename_changes}
 use Rattle.wtf_slicing.specs.Sights.{sight}
-use Rattle.wtf_replay.specs.Built.{IsNameOp}
-use Rattle.wtf_replay.specs.Effects.{CallHolds, taken_changes}
-use Rattle.wtf_replay.specs.Looked.{IsNameCall}
-use Rattle.wtf_replay.proofs.EffectLaws.{if_all, if_both, acts_as, acts_name}
-use Rattle.wtf_replay.proofs.Looking.{named_call}
+use Rattle.wtf_replay.specs.Effects.{taken_changes}
+use Rattle.wtf_replay.proofs.EffectLaws.{if_all, if_both, acts_name}
+use Rattle.wtf_replay.proofs.Looking.{quiet_call, is_named}
 use Rattle.wtf_replay.proofs.names.name_call.Goals as goal
 
 pub returns-in-Mkdir-clause-named : goal.returns-in-Mkdir-clause-named
@@ -21,14 +18,13 @@ returns-in-Mkdir-clause-named g c =
     let b : Map = seen c.args.kv.now at in
     let s = c.args.session.now in
     let p : List ℕ = c.in-Mkdir.p in
-    if_all c.mkdir.result (λ a. ((x : Caller) → IsNameStep x b at new (op.Mkdir p) a) × IsLogged a) _ c.mkdir.ensures.went
-    (if_both c.mkdir.result _ _ c.mkdir.ensures.step c.mkdir.ensures.logged) (λ a went both. record {
-      step = λ x o is next. named_call x b s at new (op.Mkdir p) o a (both.0 x) tt (subst (λ k. IsNameOp k o) c.in-Mkdir.is is);
-      acts = λ size n own. acts_as (sight size b s c.args.new []) n own c.args.op.now (op.Mkdir p) a at new c.in-Mkdir.is
-          (acts_name (sight size b s c.args.new []) n own (op.Mkdir p) a at new (mkdir_changes b p) went (λ changes. changes));
-      holds = λ size own. subst (λ k. CallHolds (sight size b s c.args.new []) own k a s s) (sym c.in-Mkdir.is) refl;
-      logged = both.1;
-    })
+    let made = c.args.new in
+    if_all c.mkdir.result (λ a. ((x : Caller) → IsNameStep x b at new (op.Mkdir p) a) × IsLogged a) _
+    c.mkdir.ensures.went
+    (if_both c.mkdir.result _ _ c.mkdir.ensures.step c.mkdir.ensures.logged) (λ a went both. is_named c.args.op.now (op.Mkdir p) c.in-Mkdir.is
+    (λ x next. quiet_call x b s at new (op.Mkdir p) a (both.0 x) tt)
+    (λ size n own. acts_name (sight size b s made []) n own (op.Mkdir p) a at new (mkdir_changes b p) went (λ changes. changes))
+    (λ size own. refl) both.1)
 
 pub returns-in-Rmdir-clause-named : goal.returns-in-Rmdir-clause-named
 returns-in-Rmdir-clause-named g c =
@@ -37,14 +33,13 @@ returns-in-Rmdir-clause-named g c =
     let b : Map = seen c.args.kv.now at in
     let s = c.args.session.now in
     let p : List ℕ = c.in-Rmdir.p in
-    if_all c.rmdir.result (λ a. ((x : Caller) → IsNameStep x b at new (op.Rmdir p) a) × IsLogged a) _ c.rmdir.ensures.went
-    (if_both c.rmdir.result _ _ c.rmdir.ensures.step c.rmdir.ensures.logged) (λ a went both. record {
-      step = λ x o is next. named_call x b s at new (op.Rmdir p) o a (both.0 x) tt (subst (λ k. IsNameOp k o) c.in-Rmdir.is is);
-      acts = λ size n own. acts_as (sight size b s c.args.new []) n own c.args.op.now (op.Rmdir p) a at new c.in-Rmdir.is
-          (acts_name (sight size b s c.args.new []) n own (op.Rmdir p) a at new (rmdir_changes b p) went (λ changes. changes));
-      holds = λ size own. subst (λ k. CallHolds (sight size b s c.args.new []) own k a s s) (sym c.in-Rmdir.is) refl;
-      logged = both.1;
-    })
+    let made = c.args.new in
+    if_all c.rmdir.result (λ a. ((x : Caller) → IsNameStep x b at new (op.Rmdir p) a) × IsLogged a) _
+    c.rmdir.ensures.went
+    (if_both c.rmdir.result _ _ c.rmdir.ensures.step c.rmdir.ensures.logged) (λ a went both. is_named c.args.op.now (op.Rmdir p) c.in-Rmdir.is
+    (λ x next. quiet_call x b s at new (op.Rmdir p) a (both.0 x) tt)
+    (λ size n own. acts_name (sight size b s made []) n own (op.Rmdir p) a at new (rmdir_changes b p) went (λ changes. changes))
+    (λ size own. refl) both.1)
 
 pub returns-in-Create-clause-named : goal.returns-in-Create-clause-named
 returns-in-Create-clause-named g c =
@@ -56,13 +51,10 @@ returns-in-Create-clause-named g c =
     let made = c.args.new in
     if_all c.create.result (λ a. ((x : Caller) → made.tx.0 ≡ x.tx → made.index ≡ x.calls + 1 → IsNameStep x b at new (op.Create p) a) × IsLogged a) _
     c.create.ensures.went
-    (if_both c.create.result _ _ c.create.ensures.step c.create.ensures.logged) (λ a went both. record {
-      step = λ x o is next. named_call x b s at new (op.Create p) o a (both.0 x next.tx next.index) tt (subst (λ k. IsNameOp k o) c.in-Create.is is);
-      acts = λ size n own. acts_as (sight size b s made []) n own c.args.op.now (op.Create p) a at new c.in-Create.is
-          (acts_name (sight size b s made []) n own (op.Create p) a at new (create_changes b p made) went (λ changes. changes));
-      holds = λ size own. subst (λ k. CallHolds (sight size b s c.args.new []) own k a s s) (sym c.in-Create.is) refl;
-      logged = both.1;
-    })
+    (if_both c.create.result _ _ c.create.ensures.step c.create.ensures.logged) (λ a went both. is_named c.args.op.now (op.Create p) c.in-Create.is
+    (λ x next. quiet_call x b s at new (op.Create p) a (both.0 x next.tx next.index) tt)
+    (λ size n own. acts_name (sight size b s made []) n own (op.Create p) a at new (create_changes b p made) went (λ changes. changes))
+    (λ size own. refl) both.1)
 
 pub returns-in-Unlink-clause-named : goal.returns-in-Unlink-clause-named
 returns-in-Unlink-clause-named g c =
@@ -71,13 +63,10 @@ returns-in-Unlink-clause-named g c =
     let b : Map = seen c.args.kv.now at in
     let s = c.args.session.now in
     let p : List ℕ = c.in-Unlink.p in
-    IfOk-weaker c.unlink_closed.result _ _ (λ a taken. record {
-      step = λ x o is next. subst (λ (k : Op (List ℕ)). IsNameCall x b s at new k a) (sym (subst (λ k. IsNameOp k o) c.in-Unlink.is is)) (taken.0 x);
-      acts = λ size n own. acts_as (sight size b s c.args.new []) n own c.args.op.now (op.Unlink p) a at new c.in-Unlink.is
-          (acts_name (sight size b s c.args.new []) n own (op.Unlink p) a at new (taken_changes b s p (unlink_changes b p)) taken.1 (λ changes. changes));
-      holds = λ size own. subst (λ k. CallHolds (sight size b s c.args.new []) own k a s s) (sym c.in-Unlink.is) refl;
-      logged = taken.2;
-    }) c.unlink_closed.ensures.taken
+    IfOk-weaker c.unlink_closed.result _ _ (λ a taken. is_named c.args.op.now (op.Unlink p) c.in-Unlink.is (λ x next. taken.0 x)
+    (λ size n own. acts_name (sight size b s c.args.new []) n own (op.Unlink p) a at new
+    (taken_changes b s p (unlink_changes b p)) taken.1 (λ changes. changes))
+    (λ size own. refl) taken.2) c.unlink_closed.ensures.taken
 
 pub returns-in-Rename-clause-named : goal.returns-in-Rename-clause-named
 returns-in-Rename-clause-named g c =
@@ -87,13 +76,10 @@ returns-in-Rename-clause-named g c =
     let s = c.args.session.now in
     let p : List ℕ = c.in-Rename.p in
     let q : List ℕ = c.in-Rename.q in
-    IfOk-weaker c.rename_closed.result _ _ (λ a taken. record {
-      step = λ x o is next. subst (λ (k : Op (List ℕ)). IsNameCall x b s at new k a) (sym (subst (λ k. IsNameOp k o) c.in-Rename.is is)) (taken.0 x);
-      acts = λ size n own. acts_as (sight size b s c.args.new []) n own c.args.op.now (op.Rename p q) a at new c.in-Rename.is
-          (acts_name (sight size b s c.args.new []) n own (op.Rename p q) a at new (taken_changes b s p (rename_changes b p q)) taken.1 (λ changes. changes));
-      holds = λ size own. subst (λ k. CallHolds (sight size b s c.args.new []) own k a s s) (sym c.in-Rename.is) refl;
-      logged = taken.2;
-    }) c.rename_closed.ensures.taken
+    IfOk-weaker c.rename_closed.result _ _ (λ a taken. is_named c.args.op.now (op.Rename p q) c.in-Rename.is (λ x next. taken.0 x)
+    (λ size n own. acts_name (sight size b s c.args.new []) n own (op.Rename p q) a at new
+    (taken_changes b s p (rename_changes b p q)) taken.1 (λ changes. changes))
+    (λ size own. refl) taken.2) c.rename_closed.ensures.taken
 
 pub returns-in-List-clause-named : goal.returns-in-List-clause-named
 returns-in-List-clause-named g c =
@@ -102,11 +88,10 @@ returns-in-List-clause-named g c =
     let b : Map = seen c.args.kv.now at in
     let s = c.args.session.now in
     let p : List ℕ = c.in-List.p in
-    if_all c.list.result (λ a. ((x : Caller) → IsNameStep x b at new (op.List p) a) × IsLogged a) _ c.list.ensures.went
-    (if_both c.list.result _ _ c.list.ensures.step c.list.ensures.logged) (λ a went both. record {
-      step = λ x o is next. named_call x b s at new (op.List p) o a (both.0 x) tt (subst (λ k. IsNameOp k o) c.in-List.is is);
-      acts = λ size n own. acts_as (sight size b s c.args.new []) n own c.args.op.now (op.List p) a at new c.in-List.is
-          (acts_name (sight size b s c.args.new []) n own (op.List p) a at new [] went (λ changes. changes ∙ append-nil at.changes));
-      holds = λ size own. subst (λ k. CallHolds (sight size b s c.args.new []) own k a s s) (sym c.in-List.is) refl;
-      logged = both.1;
-    })
+    let made = c.args.new in
+    if_all c.list.result (λ a. ((x : Caller) → IsNameStep x b at new (op.List p) a) × IsLogged a) _
+    c.list.ensures.went
+    (if_both c.list.result _ _ c.list.ensures.step c.list.ensures.logged) (λ a went both. is_named c.args.op.now (op.List p) c.in-List.is
+    (λ x next. quiet_call x b s at new (op.List p) a (both.0 x) tt)
+    (λ size n own. acts_name (sight size b s made []) n own (op.List p) a at new [] went (λ changes. changes ∙ append-nil at.changes))
+    (λ size own. refl) both.1)

@@ -15,7 +15,7 @@ use Rattle.wtf_replay.proofs.Insiding.{hand_seen}
 use Rattle.wtf_replay.proofs.Making.{rw_work}
 use Rattle.wtf_replay.proofs.OpLaws.{made_as, plain_self, form_plain}
 use Rattle.wtf_replay.proofs.RwLaws.{fresh_ways, fresh_tell, own_len_of}
-use Rattle.wtf_replay.proofs.SliceLaws.{plain_own, plain_lacks, plain_file, plain_call_fault}
+use Rattle.wtf_replay.proofs.SliceLaws.{plain_own, plain_lacks, plain_file, plain_fault}
 use Rattle.wtf_replay.proofs.replay.make_fresh.Goals as goal
 
 pub call-requires-clause-inside : goal.call-requires-clause-inside
@@ -138,7 +138,7 @@ returns-in-Err-make_plain g c =
       made = record {
         first = tt;
         err = plain.err;
-        fault = plain_call_fault g.S.SliceStore.kind c.args.dev.now c.make_plain.new.dev b c.args.session.now o c.in-None.ensures
+        fault = plain_fault g.S.SliceStore.kind c.args.dev.now c.make_plain.new.dev b c.args.session.now o c.in-None.ensures
             c.in-Err-make_plain.why plain.fault;
         due = plain.due o (plain_self o c.in-None.ensures);
         grows = plain.grows;

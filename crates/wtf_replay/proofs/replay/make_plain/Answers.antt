@@ -1,5 +1,6 @@
-use Rattle.std.proofs.Common.{[], refl, subst}
+use Rattle.std.proofs.Common.{◌≡◌, [], refl, subst}
 use Rattle.std.proofs.lemmas.Result.{IfOk-weaker, IfErr-weaker, on_err_weaker}
+use Rattle.wtf_base.specs.declared.fault.Fault.TheVariants as fault
 use Rattle.wtf_meta.specs.Maps.{seen}
 use Rattle.wtf_region.specs.Devs.{stores, is_down_in}
 use Rattle.wtf_region.proofs.ShowLaws.{reads_nothing}
@@ -7,12 +8,11 @@ use Rattle.wtf_region.proofs.Spans.{goes_nowhere}
 use Rattle.wtf_steps.specs.Faults.{MayFault}
 use Rattle.wtf_slicing.specs.Sights.{sight}
 use Rattle.wtf_replay.specs.Views.{in_hand}
-use Rattle.wtf_replay.specs.Works.{work}
+use Rattle.wtf_replay.specs.Works.{work, scene_of}
 use Rattle.wtf_replay.proofs.EffectLaws.{if_all, acts_slice, holds_slice}
 use Rattle.wtf_replay.proofs.Insiding.{hand_seen}
 use Rattle.wtf_replay.proofs.Looking.{name_work}
-use Rattle.wtf_replay.proofs.OpLaws.{plain_name}
-use Rattle.wtf_replay.proofs.SliceLaws.{name_fault, memory_due, slice_ways, slice_work}
+use Rattle.wtf_replay.proofs.SliceLaws.{memory_fault, memory_due, slice_ways, slice_work}
 use Rattle.wtf_replay.proofs.replay.make_plain.Goals as goal
 
 pub call-requires-clause-inside : goal.call-requires-clause-inside
@@ -39,7 +39,7 @@ returns-in-Some g c =
     let w = work kind dev into kv (in_hand c.args.at.now s) (in_hand c.call.new.at c.call.new.s) in
     let b = seen kv c.args.at.now in
     let ways = slice_ways kind dev into b s made op c.in-Some.ensures in
-    let call = c.call.ensures in
+    let call = c.call.ensures.call in
     record {
       made = record {
         does = IfOk-weaker c.call.result _ _ (λ a step x own p plain by. slice_work w own made x p a (step x by.size_is by.next) (ways.is p plain)) call.step;
@@ -54,7 +54,7 @@ returns-in-Some g c =
               holds = holds_slice (sight dev.settings.region b s c.args.new lists) s c.call.new.s a own made op c.in-Some.ensures one.holds;
             });
         logged = call.logged;
-        err = call.err;
+        err = c.call.ensures.err;
         fault = IfErr-weaker c.call.result _ _ ways.fault call.fault;
         due = IfErr-weaker c.call.result _ _ (λ why may p plain. subst (λ q. MayFault dev.settings b s q why) (ways.is p plain) may) call.due;
         grows = call.grows;
@@ -77,7 +77,7 @@ returns-in-None g c =
     record {
       made = record {
         does = IfOk-weaker c.make_name.result _ _ (λ a named x own p plain by.
-            name_work w own x p a (named.step x p (plain_name op p c.in-None.ensures plain) by.next) refl) name.named;
+            name_work w own x p a (named.step x p plain by.next) refl) name.named;
         acted = IfOk-weaker c.make_name.result _ _ (λ a named n own. record {
           lists = [];
           known = λ ranges cache told away. tt;
@@ -87,7 +87,7 @@ returns-in-None g c =
         }) name.named;
         logged = IfOk-weaker c.make_name.result _ _ (λ a named. named.logged) name.named;
         err = on_err_weaker c.make_name.result (λ same. (same, refl)) name.err;
-        fault = IfErr-weaker c.make_name.result _ _ (λ why is. name_fault kind dev dev b s op c.in-None.ensures why is) name.fault;
+        fault = IfErr-weaker c.make_name.result _ _ (λ why is. memory_fault (scene_of w) (λ d y. y ≡ fault.Memory) s op why (λ d. is) is) name.fault;
         due = IfErr-weaker c.make_name.result _ _ (λ why is p plain. memory_due dev.settings b s p why is) name.fault;
         grows = name.grows;
         still = λ quiet. refl;

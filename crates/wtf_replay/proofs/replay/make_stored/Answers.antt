@@ -27,7 +27,7 @@ use Rattle.wtf_replay.proofs.Later.{tells_on}
 use Rattle.wtf_replay.proofs.Making.{rw_work, refused_work, due_step, due_alone}
 use Rattle.wtf_replay.proofs.OpLaws.{stands_plain, form_plain}
 use Rattle.wtf_replay.proofs.RwLaws.{again_ways, brought_for, again_tell, none_stored, lacks_bare}
-use Rattle.wtf_replay.proofs.SliceLaws.{plain_again_fault, plain_whole}
+use Rattle.wtf_replay.proofs.SliceLaws.{plain_whole}
 use Rattle.wtf_replay.proofs.Stepping.{told_of, tell_of}
 use Rattle.wtf_replay.proofs.replay.make_stored.Goals as goal
 
@@ -180,8 +180,7 @@ returns-in-Err-make_plain g c =
       made = record {
         again = tt;
         err = plain.err;
-        fault = plain_again_fault g.S.SliceStore.kind c.args.dev.now c.make_plain.new.dev b c.args.session.now k c.in-None.ensures
-            c.in-Err-make_plain.why plain.fault;
+        fault = plain.fault;
         may = λ o stands. plain.due o (stands_plain (λ p bytes. Unit {0}) k o c.in-None.ensures stands);
         grows = plain.grows;
         reads = plain.reads;

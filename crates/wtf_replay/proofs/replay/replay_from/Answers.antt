@@ -12,7 +12,7 @@ use Rattle.wtf_region.proofs.Recalling.{recalled_on}
 use Rattle.wtf_region.proofs.ShowLaws.{reads_nothing, reads_over}
 use Rattle.wtf_region.proofs.Spans.{goes_nowhere, goes_on}
 use Rattle.wtf_replay.specs.Views.{in_hand, replaying}
-use Rattle.wtf_replay.specs.Insides.{HandBytes, LogBytes, IsHandInside, IsLogInside}
+use Rattle.wtf_replay.specs.Insides.{IsHandInside, IsLogInside}
 use Rattle.wtf_replay.specs.Replays.{DeviatesOn}
 use Rattle.wtf_replay.specs.Sounds.{IsSound, TellsMap, IsAwayTxn}
 use Rattle.wtf_replay.specs.Works.{work}
@@ -41,7 +41,7 @@ loop-k-init g c =
       grows = Grows-by c.args.at.now c.args.at.now [] [] (GrowsBy-nothing c.args.at.now);
       fit = c.requires.fits;
       inside = c.requires.inside;
-      named = named_none kind dev dev (λ P Q. HandBytes P Q kv hand × LogBytes P log) (λ P Q. HandBytes P Q kv hand) (λ P Q hole were. were.0);
+      named = named_none (λ P Q hole were. were.0);
       logged = c.requires.logged;
       reads = reads_nothing kind (is_down_in dev) (stores dev);
       dev = goes_nowhere g.met.S.SliceStore.laws dev c.requires.sound;

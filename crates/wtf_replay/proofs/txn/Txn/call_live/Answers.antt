@@ -24,10 +24,11 @@ use Rattle.wtf_region.specs.Inside.{is_inside}
 use Rattle.wtf_rw.specs.Stored.{SliceBytes, TellSlice}
 use Rattle.wtf_replay.specs.Views.{TxnView, hand_of}
 use Rattle.wtf_replay.specs.Called.{IsCalled}
+use Rattle.wtf_replay.specs.Refusals.{unmade}
 use Rattle.wtf_replay.specs.Verbs.{turn, CallOf}
 use Rattle.wtf_replay.specs.Built.{data_of}
 use Rattle.wtf_replay.specs.Fits.{IsFit, IsLog}
-use Rattle.wtf_replay.specs.Insides.{HandBytes, IsInsideTxn, IsLogInside, LogBytes, NamesTxn, TxnBytes}
+use Rattle.wtf_replay.specs.Insides.{IsInsideTxn, IsLogInside, LogBytes, NamesTxn}
 use Rattle.wtf_replay.specs.Sounds.{caller_at, tells_slice, IsToldStep}
 use Rattle.wtf_replay.specs.Works.{IsCaller, work}
 use Rattle.wtf_replay.proofs.Again.{tells_hand}
@@ -36,10 +37,10 @@ use Rattle.wtf_replay.proofs.Keeping.{log_called}
 use Rattle.wtf_replay.proofs.Later.{tells_on}
 use Rattle.wtf_replay.proofs.Naming.{named_by}
 use Rattle.wtf_replay.proofs.RwLaws.{own_known, own_len_of, own_inside_of, own_told_of}
-use Rattle.wtf_replay.proofs.SliceLaws.{memory_due}
+use Rattle.wtf_replay.proofs.SliceLaws.{call_short, memory_due}
 use Rattle.wtf_replay.proofs.Sounding.{sound_called, sound_later}
 use Rattle.wtf_replay.proofs.Stepping.{told_of, named_of, fit_of, inside_by}
-use Rattle.wtf_replay.proofs.Turning.{unmade_none, instead_none, call_short, put_back}
+use Rattle.wtf_replay.proofs.Turning.{if_none, unmade_none, put_back}
 use Rattle.wtf_replay.proofs.txn.Txn.call_live.Goals as goal
 
 pub kept_of-kept-requires-clause-own : goal.kept_of-kept-requires-clause-own
@@ -67,14 +68,8 @@ returns g c =
     let kept = c.kept_of-kept in
     let made = c.in-Ok.ensures.made in
     let first = made.first in
-    let x : TxnView = record {
-      tx = c.self.inside.tx.0;
-      at = c.self.inside.at;
-      session = c.self.inside.session;
-      log = c.self.inside.log;
-      replayed = c.self.inside.replayed;
-      ended = c.self.inside.ended;
-    } in
+    let i = c.self.inside in
+    let x : TxnView = record { tx = i.tx.0; at = i.at; session = i.session; log = i.log; replayed = i.replayed; ended = i.ended } in
     let new : TxnView = record x { at = c.make_fresh.new.at; session = c.make_fresh.new.session; log = c.note.new.log; replayed = c.self.inside.replayed + 1 } in
     let fit : IsFit kv x = subst (λ y. IsFit kv y) (sym c.self.view_is) c.requires.fit in
     let live : x.replayed ≡ length x.log.ops = subst (λ (y : TxnView). y.replayed ≡ length y.log.ops) (sym c.self.view_is) c.requires.live in
@@ -96,17 +91,15 @@ returns g c =
       logged = record { answer = first.logged; log = c.in_default.ensures.ok; tx = refl; grows = made.grows; replayed = refl; ended = refl };
     } in
     let names : NamesTxn kind dev into kv x new own =
-    named_by kind dev into (λ R Q. HandBytes R Q kv (hand_of x)) (λ R Q. SliceBytes R own → HandBytes R Q kv (hand_of new)) (λ R Q. TxnBytes R Q kv x)
-    (λ R Q. SliceBytes R own → TxnBytes R Q kv new)
-    (λ R Q were. were.hand) (λ R Q hole were are stored. record {
+    named_by hand (λ R Q were. were.hand) (λ R Q hole were are stored. record {
       hand = are stored;
       log = subst (LogBytes R) (sym c.in_default.ensures.ok) (All-push (λ k. SliceBytes R (own_of k)) x.log.ops kept.result were.log
           (slice_from R (own_of kept.result) own kept.ensures.kept.own_is stored));
-    }) hand in
+    }) in
     record {
       call =
           subst (λ (y : TxnView). CallOf (turn kind dev into kv kv y new) o (Ok a)) c.self.view_is (record {
-            instead = instead_none (turn kind dev into kv kv x new) (Ok a) (unmade_none x live room fit.log.few);
+            instead = if_none (unmade x) _ (unmade_none x live room fit.log.few);
             made = λ going. record {
               own = own;
               called = called;
@@ -162,21 +155,15 @@ returns-in-Err g c =
     let o = c.args.op in
     let why = c.in-Err.why in
     let made = c.in-Err.ensures.made in
-    let x : TxnView = record {
-      tx = c.self.inside.tx.0;
-      at = c.self.inside.at;
-      session = c.self.inside.session;
-      log = c.self.inside.log;
-      replayed = c.self.inside.replayed;
-      ended = c.self.inside.ended;
-    } in
+    let i = c.self.inside in
+    let x : TxnView = record { tx = i.tx.0; at = i.at; session = i.session; log = i.log; replayed = i.replayed; ended = i.ended } in
     let fit : IsFit kv x = subst (λ y. IsFit kv y) (sym c.self.view_is) c.requires.fit in
     let live : x.replayed ≡ length x.log.ops = subst (λ (y : TxnView). y.replayed ≡ length y.log.ops) (sym c.self.view_is) c.requires.live in
     let room : length x.log.ops ≢ MAX_LOGGED = subst (λ (y : TxnView). length y.log.ops ≢ MAX_LOGGED) (sym c.self.view_is) c.requires.room in
     let was : IsInsideTxn kind (stores dev) dev.settings kv x = subst (λ y. IsInsideTxn kind (stores dev) dev.settings kv y) (sym c.self.view_is) c.requires.inside in
     let same : record x { at = c.make_fresh.new.at; session = c.make_fresh.new.session } ≡ x = put_back x c.make_fresh.new.at c.make_fresh.new.session made.err.0 made.err.1 in
     let there : CallOf (turn kind dev into kv kv x x) o (Err why) = record {
-      instead = instead_none (turn kind dev into kv kv x x) (Err why) (unmade_none x live room fit.log.few);
+      instead = if_none (unmade x) _ (unmade_none x live room fit.log.few);
       made = λ going. tt;
       meaning = λ going. tt;
       fit = fit;
@@ -208,14 +195,8 @@ returns-in-Err-note g c =
     let made = c.in-Ok.ensures.made in
     let first = made.first in
     let own = c.in-Ok.done.own in
-    let x : TxnView = record {
-      tx = c.self.inside.tx.0;
-      at = c.self.inside.at;
-      session = c.self.inside.session;
-      log = c.self.inside.log;
-      replayed = c.self.inside.replayed;
-      ended = c.self.inside.ended;
-    } in
+    let i = c.self.inside in
+    let x : TxnView = record { tx = i.tx.0; at = i.at; session = i.session; log = i.log; replayed = i.replayed; ended = i.ended } in
     let moved : TxnView = record x { session = c.make_fresh.new.session } in
     let new : TxnView = record x { at = c.rewind.new.self; session = c.make_fresh.new.session; log = c.note.new.log } in
     let fit : IsFit kv x = subst (λ y. IsFit kv y) (sym c.self.view_is) c.requires.fit in
@@ -234,7 +215,7 @@ returns-in-Err-note g c =
     let same : new ≡ moved =
     ap (λ (a : Attempted Key Delta). record moved { at = a; log = c.note.new.log }) back ∙ ap (λ (l : Calls). record moved { log = l }) c.in-Err-note.ensures.err in
     let there : CallOf (turn kind dev into kv kv x moved) o (Err why) = record {
-      instead = instead_none (turn kind dev into kv kv x moved) (Err why) (unmade_none x live room fit.log.few);
+      instead = if_none (unmade x) _ (unmade_none x live room fit.log.few);
       made = λ going. tt;
       meaning = λ going. tt;
       fit = record { pinned = fit.pinned; fits = fit.fits; log = fit.log; most = fit.most };

@@ -9,14 +9,8 @@ use Rattle.wtf_replay.proofs.txn.Txn.commit.Goals as goal
 pub go_on-requires-clause-from : goal.go_on-requires-clause-from
 go_on-requires-clause-from g c =
     let kv = c.args.kv.now in
-    let x : TxnView = record {
-      tx = c.self.inside.tx.0;
-      at = c.self.inside.at;
-      session = c.self.inside.session;
-      log = c.self.inside.log;
-      replayed = c.self.inside.replayed;
-      ended = c.self.inside.ended;
-    } in
+    let i = c.self.inside in
+    let x : TxnView = record { tx = i.tx.0; at = i.at; session = i.session; log = i.log; replayed = i.replayed; ended = i.ended } in
     let off : is_live c.args.self.now ≡ false = sym c.if-is_live.ensures in
     let left : x.replayed ≢ length x.log.ops = subst (λ (y : TxnView). y.replayed ≢ length y.log.ops) (sym c.self.view_is) (eqb-false c.args.self.now.replayed (length c.args.self.now.log.ops) off) in
     let number = c.number.ensures.number in
@@ -29,14 +23,8 @@ go_on-requires-clause-from g c =
 pub start_over-requires-clause-from : goal.start_over-requires-clause-from
 start_over-requires-clause-from g c =
     let kv = c.args.kv.now in
-    let x : TxnView = record {
-      tx = c.self.inside.tx.0;
-      at = c.self.inside.at;
-      session = c.self.inside.session;
-      log = c.self.inside.log;
-      replayed = c.self.inside.replayed;
-      ended = c.self.inside.ended;
-    } in
+    let i = c.self.inside in
+    let x : TxnView = record { tx = i.tx.0; at = i.at; session = i.session; log = i.log; replayed = i.replayed; ended = i.ended } in
     let off : is_live c.args.self.now ≡ false = sym c.if-is_live.ensures in
     let left : x.replayed ≢ length x.log.ops = subst (λ (y : TxnView). y.replayed ≢ length y.log.ops) (sym c.self.view_is) (eqb-false c.args.self.now.replayed (length c.args.self.now.log.ops) off) in
     let number = c.number.ensures.number in

@@ -23,14 +23,8 @@ returns-in-Installed g c =
     let kv = c.args.kv.now in
     let mid = c.install.new.kv in
     let n = c.in-Installed.n in
-    let x : TxnView = record {
-      tx = c.self.inside.tx.0;
-      at = c.self.inside.at;
-      session = c.self.inside.session;
-      log = c.self.inside.log;
-      replayed = c.self.inside.replayed;
-      ended = c.self.inside.ended;
-    } in
+    let i = c.self.inside in
+    let x : TxnView = record { tx = i.tx.0; at = i.at; session = i.session; log = i.log; replayed = i.replayed; ended = i.ended } in
     let new : TxnView = record x { at = c.install.new.self; ended = true } in
     let ready : IsReady kind dev kv x = subst (λ y. IsReady kind dev kv y) (sym c.self.view_is) c.requires.ready in
     let live : x.replayed ≡ length x.log.ops = subst (λ (y : TxnView). y.replayed ≡ length y.log.ops) (sym c.self.view_is) c.requires.live in
@@ -53,14 +47,8 @@ start_over-requires-clause-ready g c =
     let dev = c.args.dev.now in
     let kv = c.args.kv.now in
     let mid = c.install.new.kv in
-    let x : TxnView = record {
-      tx = c.self.inside.tx.0;
-      at = c.self.inside.at;
-      session = c.self.inside.session;
-      log = c.self.inside.log;
-      replayed = c.self.inside.replayed;
-      ended = c.self.inside.ended;
-    } in
+    let i = c.self.inside in
+    let x : TxnView = record { tx = i.tx.0; at = i.at; session = i.session; log = i.log; replayed = i.replayed; ended = i.ended } in
     let ready : IsReady kind dev kv x = subst (λ y. IsReady kind dev kv y) (sym c.self.view_is) c.requires.ready in
     let below : x.at.base ≤ kv.number = subst (λ m. x.at.base ≤ m) c.number-number.ensures.number (c.number-number.ensures.pins x.at.base ready.fit.pinned) in
     let keeps : KeepsPins kv mid = λ m. ap (count_by (nat_eq m)) c.install.ensures.pins in
@@ -72,14 +60,8 @@ pub start_over-requires-clause-from : goal.start_over-requires-clause-from
 start_over-requires-clause-from g c =
     let kv = c.args.kv.now in
     let mid = c.install.new.kv in
-    let x : TxnView = record {
-      tx = c.self.inside.tx.0;
-      at = c.self.inside.at;
-      session = c.self.inside.session;
-      log = c.self.inside.log;
-      replayed = c.self.inside.replayed;
-      ended = c.self.inside.ended;
-    } in
+    let i = c.self.inside in
+    let x : TxnView = record { tx = i.tx.0; at = i.at; session = i.session; log = i.log; replayed = i.replayed; ended = i.ended } in
     let live : x.replayed ≡ length x.log.ops = subst (λ (y : TxnView). y.replayed ≡ length y.log.ops) (sym c.self.view_is) c.requires.live in
     let tried : IsConflict key_cmp outcome_of x.at kv mid c.in-Conflict.key c.in-Conflict.seen c.in-Conflict.now = subst (λ t. IsTried key_cmp outcome_of x.at kv mid t) c.in-Conflict.is c.in-Ok.ensures.tried in
     subst (λ (a : Attempted Key Delta). commit_from mid (record x { at = a }) ≡ rebased (record x { at = a }) mid.number) (sym c.install.ensures.attempt)
@@ -95,14 +77,8 @@ returns-in-Conflict g c =
     let into = c.start_over.new.dev in
     let last = c.start_over.new.self in
     let r = c.start_over.result in
-    let x : TxnView = record {
-      tx = c.self.inside.tx.0;
-      at = c.self.inside.at;
-      session = c.self.inside.session;
-      log = c.self.inside.log;
-      replayed = c.self.inside.replayed;
-      ended = c.self.inside.ended;
-    } in
+    let i = c.self.inside in
+    let x : TxnView = record { tx = i.tx.0; at = i.at; session = i.session; log = i.log; replayed = i.replayed; ended = i.ended } in
     let keeps : KeepsPins kv mid = λ m. ap (count_by (nat_eq m)) c.install.ensures.pins in
     let tried : IsConflict key_cmp outcome_of x.at kv mid c.in-Conflict.key c.in-Conflict.seen c.in-Conflict.now = subst (λ t. IsTried key_cmp outcome_of x.at kv mid t) c.in-Conflict.is c.in-Ok.ensures.tried in
     let there : CommitOf (turn kind dev into mid after x last) r =

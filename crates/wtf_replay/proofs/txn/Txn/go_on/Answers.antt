@@ -18,14 +18,8 @@ returns g c =
     let into = c.finish-ended.new.dev in
     let r = c.finish-ended.result in
     let new = c.end.new.self in
-    let x : TxnView = record {
-      tx = c.self.inside.tx.0;
-      at = c.self.inside.at;
-      session = c.self.inside.session;
-      log = c.self.inside.log;
-      replayed = c.self.inside.replayed;
-      ended = c.self.inside.ended;
-    } in
+    let i = c.self.inside in
+    let x : TxnView = record { tx = i.tx.0; at = i.at; session = i.session; log = i.log; replayed = i.replayed; ended = i.ended } in
     let ready : IsReady kind dev kv x = subst (λ y. IsReady kind dev kv y) (sym c.self.view_is) c.requires.ready in
     let base : x.at.base ≡ kv.number = subst (λ (y : TxnView). y.at.base ≡ kv.number) (sym c.self.view_is) c.requires.base in
     let from : commit_from kv x ≡ x = subst (λ y. commit_from kv y ≡ y) (sym c.self.view_is) c.requires.from in

@@ -1,5 +1,5 @@
 use Rattle.std.proofs.Common.{◌≡◌, ◌≤◌, ◌∙◌, Bool, sym, ap, subst}
-use Rattle.wtf_kv.specs.Stores.{Store, versions_of}
+use Rattle.wtf_kv.specs.Stores.{Store, IsPinnedOnceMore, versions_of}
 use Rattle.wtf_occ.specs.Attempts.{Attempted}
 use Rattle.wtf_values.specs.declared.key.Key.{Key}
 use Rattle.wtf_values.specs.declared.value.Value.{Value}
@@ -19,38 +19,32 @@ returns g c =
     let kind = g.S.SliceStore.kind in
     let kv = c.args.kv.now in
     let dev = c.args.dev.now in
-    let pinned = c.pin.new.self in
+    let pinned = c.start.new.kv in
     let mid = c.finish-ended.new.kv in
     let after = c.unpin.new.self in
     let into = c.finish-ended.new.dev in
     let r = c.finish-ended.result in
     let n = c.number-number.result in
     let new = c.end.new.self in
-    let x : TxnView = record {
-      tx = c.self.inside.tx.0;
-      at = c.self.inside.at;
-      session = c.self.inside.session;
-      log = c.self.inside.log;
-      replayed = c.self.inside.replayed;
-      ended = c.self.inside.ended;
-    } in
+    let i = c.self.inside in
+    let x : TxnView = record { tx = i.tx.0; at = i.at; session = i.session; log = i.log; replayed = i.replayed; ended = i.ended } in
     let y : TxnView = rebased x kv.number in
     let ready : IsReady kind dev kv x = subst (λ y. IsReady kind dev kv y) (sym c.self.view_is) c.requires.ready in
     let from : commit_from kv x ≡ y = subst (λ y. commit_from kv y ≡ rebased y kv.number) (sym c.self.view_is) c.requires.from in
     let number = c.number-number.ensures.number in
     let below : x.at.base ≤ kv.number = subst (λ m. x.at.base ≤ m) number (c.number-number.ensures.pins x.at.base ready.fit.pinned) in
-    let first = c.in-Ok.ensures in
-    let at : c.in-Ok.at ≡ untouched kv.number = cc in
-    let same : replaying x.tx c.in-Ok.at c.in-Ok-new.session x.log 0 ≡ y =
-    ap (λ (a : Attempted Key Delta). replaying x.tx a c.in-Ok-new.session x.log 0) at
-    ∙ ap (λ (s : SessionView). replaying x.tx (untouched kv.number) s x.log 0) c.in-Ok-new.ensures
+    let started = c.in-Ok.ensures in
+    let more : IsPinnedOnceMore n kv pinned = subst (λ m. IsPinnedOnceMore m kv pinned) (sym number) started.pinned in
+    let same : replaying x.tx c.in-Ok.both.0 c.in-Ok.both.1 x.log 0 ≡ y =
+    ap (λ (a : Attempted Key Delta). replaying x.tx a c.in-Ok.both.1 x.log 0) started.hand.0
+    ∙ ap (λ (s : SessionView). replaying x.tx (untouched kv.number) s x.log 0) started.hand.1
     ∙ ap (λ (b : Bool). record y { ended = b }) (sym ready.going) in
     let made = subst (λ (z : TxnView). FinishOf (turn kind dev into pinned mid z z) r) same c.finish-ended.ensures.made in
-    let pins : KeepsPins kv after = pins_back kv pinned mid after n c.in_default.ensures.once made.pins c.unpin.ensures.once in
+    let pins : KeepsPins kv after = pins_back kv pinned mid after n more made.pins c.unpin.ensures.once in
     let shows : ShowsAs pinned kv = record {
-      number = ap (λ (s : Store Key Value). s.number) (sym c.in_default.ensures.ok);
-      maps = λ m. ap (λ (s : Store Key Value). metadata_at s m) (sym c.in_default.ensures.ok);
-      versions = λ q. ap (λ (s : Store Key Value). versions_of key_cmp s q) (sym c.in_default.ensures.ok);
+      number = ap (λ (s : Store Key Value). s.number) (sym started.ok);
+      maps = λ m. ap (λ (s : Store Key Value). metadata_at s m) (sym started.ok);
+      versions = λ q. ap (λ (s : Store Key Value). versions_of key_cmp s q) (sym started.ok);
     } in
     let leaves : ShowsAs mid after = record {
       number = ap (λ (s : Store Key Value). s.number) c.unpin.ensures.rest;
@@ -70,4 +64,8 @@ returns g c =
 -- the number is pinned still
 pub unpin-requires : goal.unpin-requires
 unpin-requires g c =
-    pinned_there c.args.kv.now c.pin.new.self c.finish-ended.new.kv c.number-number.result c.in_default.ensures.once c.finish-ended.ensures.made.pins
+    let kv = c.args.kv.now in
+    let pinned = c.start.new.kv in
+    let n = c.number-number.result in
+    pinned_there kv pinned c.finish-ended.new.kv n (subst (λ m. IsPinnedOnceMore m kv pinned) (sym c.number-number.ensures.number) c.in-Ok.ensures.pinned)
+    c.finish-ended.ensures.made.pins

@@ -8,8 +8,6 @@ use Rattle.wtf_model.specs.declared.answer.Word.TheVariants.{Live}
 use Rattle.wtf_region.specs.Devs.{stores, is_down_in}
 use Rattle.wtf_region.proofs.ShowLaws.{reads_nothing}
 use Rattle.wtf_region.proofs.Spans.{goes_nowhere}
-use Rattle.wtf_rw.specs.Stored.{SliceBytes}
-use Rattle.wtf_replay.specs.Insides.{TxnBytes}
 use Rattle.wtf_replay.specs.Refusals.{step_refusal}
 use Rattle.wtf_replay.proofs.Naming.{named_none}
 use Rattle.wtf_replay.proofs.txn.Txn.step.Goals as goal
@@ -29,7 +27,7 @@ returns-then-is_live g c =
         stepped = λ going. let bad : Some Live ≡ None = sym live ∙ going in absurd (cc);
         acts = λ going. let bad : Some Live ≡ None = sym live ∙ going in absurd (cc);
         meaning = λ going ops start. tt;
-        named = named_none kind dev dev (λ P Q. TxnBytes P Q kv x) (λ P Q. SliceBytes P None → TxnBytes P Q kv x) (λ P Q hole were given. were);
+        named = named_none (λ P Q hole were given. were);
         fit = c.requires.fit;
         inside = c.requires.inside;
         err = tt;

@@ -8,10 +8,10 @@ use Rattle.wtf_meta.specs.Contents.{Told}
 use Rattle.wtf_model.specs.declared.answer.Answer.{Answer}
 use Rattle.wtf_model.specs.declared.answer.Answer.TheVariants as answer
 use Rattle.wtf_region.specs.Devs.{stores}
-use Rattle.wtf_rw.specs.Stored.{SliceBytes}
 use Rattle.wtf_replay.specs.Views.{TxnView, hand_of}
+use Rattle.wtf_replay.specs.Refusals.{step_refusal}
 use Rattle.wtf_replay.specs.Fits.{IsFit}
-use Rattle.wtf_replay.specs.Insides.{HandBytes, LogBytes, TxnBytes, IsInsideTxn, NamesTxn}
+use Rattle.wtf_replay.specs.Insides.{IsInsideTxn, NamesTxn}
 use Rattle.wtf_replay.specs.Verbs.{turn, StepOf}
 use Rattle.wtf_replay.specs.Works.{work}
 use Rattle.wtf_replay.proofs.Faulting.{step_fault}
@@ -19,7 +19,7 @@ use Rattle.wtf_replay.proofs.Again.{again_same, again_other}
 use Rattle.wtf_replay.proofs.Insiding.{log_later, inside_later}
 use Rattle.wtf_replay.proofs.Naming.{named_by}
 use Rattle.wtf_replay.proofs.Stepping.{next_named, next_fit, next_told, next_due, next_redoes, again_inside}
-use Rattle.wtf_replay.proofs.Turning.{step_none, refused_none, put_back}
+use Rattle.wtf_replay.proofs.Turning.{if_none, step_none, put_back}
 use Rattle.wtf_replay.proofs.txn.Txn.step_next.Goals as goal
 
 pub returns-then-same : goal.returns-then-same
@@ -33,14 +33,8 @@ returns-then-same g c =
     let size = dev.settings.region in
     let before : Told = byte_at kind (stores dev) in
     let made = c.in-Ok-make_again.ensures.made in
-    let x : TxnView = record {
-      tx = c.self.inside.tx.0;
-      at = c.self.inside.at;
-      session = c.self.inside.session;
-      log = c.self.inside.log;
-      replayed = c.self.inside.replayed;
-      ended = c.self.inside.ended;
-    } in
+    let i = c.self.inside in
+    let x : TxnView = record { tx = i.tx.0; at = i.at; session = i.session; log = i.log; replayed = i.replayed; ended = i.ended } in
     let new : TxnView = record x { at = c.make_again.new.at; session = c.make_again.new.session; replayed = c.self.inside.replayed + 1 } in
     let fit : IsFit kv x = subst (λ y. IsFit kv y) (sym c.self.view_is) c.requires.fit in
     let left : x.replayed < length x.log.ops = subst (λ (y : TxnView). y.replayed < length y.log.ops) (sym c.self.view_is) c.requires.left in
@@ -49,13 +43,11 @@ returns-then-same g c =
     let a = c.in-Ok-make_again.both.0 in
     let again = next_named w x.tx x.log x.replayed a made.next in
     let names : NamesTxn kind dev into kv x new None =
-    named_by kind dev into (λ P Q. HandBytes P Q kv (hand_of x) × LogBytes P x.log) (λ P Q. HandBytes P Q kv (hand_of new)) (λ P Q. TxnBytes P Q kv x)
-    (λ P Q. SliceBytes P None → TxnBytes P Q kv new)
-    (λ P Q were. (were.hand, were.log)) (λ P Q hole were are none. record { hand = are; log = were.log }) again in
+    named_by again (λ P Q were. (were.hand, were.log)) (λ P Q hole were are none. record { hand = are; log = were.log }) in
     record {
       step =
           subst (λ (y : TxnView). StepOf (turn kind dev into kv kv y new) (Ok (answer.Replayed (c.self.inside.replayed + 1)))) c.self.view_is (record {
-            refused = refused_none (turn kind dev into kv kv x new) (Ok (answer.Replayed (c.self.inside.replayed + 1))) (step_none x left);
+            refused = if_none (step_refusal x) _ (step_none x left);
             stepped = λ going. record { index = refl; base = made.grows.base; is = refl };
             acts = λ going. record {
               redoes = next_redoes w x.tx x.log x.replayed a made.next (made.same.0 c.if-same.true) x refl refl;
@@ -91,14 +83,8 @@ returns g c =
     let size = dev.settings.region in
     let before : Told = byte_at kind (stores dev) in
     let made = c.in-Ok-make_again.ensures.made in
-    let x : TxnView = record {
-      tx = c.self.inside.tx.0;
-      at = c.self.inside.at;
-      session = c.self.inside.session;
-      log = c.self.inside.log;
-      replayed = c.self.inside.replayed;
-      ended = c.self.inside.ended;
-    } in
+    let i = c.self.inside in
+    let x : TxnView = record { tx = i.tx.0; at = i.at; session = i.session; log = i.log; replayed = i.replayed; ended = i.ended } in
     let new : TxnView = record x { at = c.make_again.new.at; session = c.make_again.new.session; ended = true } in
     let fit : IsFit kv x = subst (λ y. IsFit kv y) (sym c.self.view_is) c.requires.fit in
     let left : x.replayed < length x.log.ops = subst (λ (y : TxnView). y.replayed < length y.log.ops) (sym c.self.view_is) c.requires.left in
@@ -109,13 +95,11 @@ returns g c =
     let w = work kind dev into kv (hand_of x) (hand_of new) in
     let again = next_named w x.tx x.log x.replayed a made.next in
     let names : NamesTxn kind dev into kv x new None =
-    named_by kind dev into (λ P Q. HandBytes P Q kv (hand_of x) × LogBytes P x.log) (λ P Q. HandBytes P Q kv (hand_of new)) (λ P Q. TxnBytes P Q kv x)
-    (λ P Q. SliceBytes P None → TxnBytes P Q kv new)
-    (λ P Q were. (were.hand, were.log)) (λ P Q hole were are none. record { hand = are; log = were.log }) again in
+    named_by again (λ P Q were. (were.hand, were.log)) (λ P Q hole were are none. record { hand = are; log = were.log }) in
     record {
       step =
           subst (λ (y : TxnView). StepOf (turn kind dev into kv kv y new) r) c.self.view_is (record {
-            refused = refused_none (turn kind dev into kv kv x new) r (step_none x left);
+            refused = if_none (step_refusal x) _ (step_none x left);
             stepped = λ going. record { index = refl; over = record { tx = refl; base = made.grows.base; log = refl; ended = refl } };
             acts = λ going. tt;
             meaning = λ going ops start. again_other laws made.dev start.0 kv x ops start.3 start.1 start.2 left a
@@ -147,21 +131,15 @@ returns-in-Err-make_again g c =
     let size = dev.settings.region in
     let before : Told = byte_at kind (stores dev) in
     let made = c.in-Err-make_again.ensures.made in
-    let x : TxnView = record {
-      tx = c.self.inside.tx.0;
-      at = c.self.inside.at;
-      session = c.self.inside.session;
-      log = c.self.inside.log;
-      replayed = c.self.inside.replayed;
-      ended = c.self.inside.ended;
-    } in
+    let i = c.self.inside in
+    let x : TxnView = record { tx = i.tx.0; at = i.at; session = i.session; log = i.log; replayed = i.replayed; ended = i.ended } in
     let why = c.in-Err-make_again.why in
     let fit : IsFit kv x = subst (λ y. IsFit kv y) (sym c.self.view_is) c.requires.fit in
     let left : x.replayed < length x.log.ops = subst (λ (y : TxnView). y.replayed < length y.log.ops) (sym c.self.view_is) c.requires.left in
     let was : IsInsideTxn kind (stores dev) dev.settings kv x = subst (λ y. IsInsideTxn kind (stores dev) dev.settings kv y) (sym c.self.view_is) c.requires.inside in
     let same : record x { at = c.make_again.new.at; session = c.make_again.new.session } ≡ x = put_back x c.make_again.new.at c.make_again.new.session made.err.0 made.err.1 in
     let there : StepOf (turn kind dev into kv kv x x) (Err why) = record {
-      refused = refused_none (turn kind dev into kv kv x x) (Err why) (step_none x left);
+      refused = if_none (step_refusal x) _ (step_none x left);
       stepped = λ going. tt;
       acts = λ going. tt;
       meaning = λ going. tt;
