@@ -15,11 +15,11 @@ use Rattle.wtf_values.specs.declared.key.Key.TheVariants.{Path, Dir, Inode, Regi
 use Rattle.wtf_values.specs.declared.value.Node.{Node}
 use Rattle.wtf_values.specs.declared.value.Node.TheVariants.{Folder, File}
 use Rattle.wtf_values.proofs.KeyLaws.{key_total, at_itself, at_same, at_none}
-use Rattle.wtf_image.specs.declared.records.PathRecord.{PathRecord}
-use Rattle.wtf_image.specs.Rows.{RegionRow, FileRow}
-use Rattle.wtf_image.specs.Shapes.{path_before, file_before, region_before}
+use Rattle.wtf_imagefmt.specs.declared.records.PathRecord.{PathRecord}
+use Rattle.wtf_imagefmt.specs.Rows.{RegionRow, FileRow}
+use Rattle.wtf_imagefmt.specs.Shapes.{path_before, file_before, region_before}
 use Rattle.wtf_values.specs.Names.{NamesOf}
-use Rattle.wtf_image.specs.Lookups.{Plain, LastIs, plain_region, names_under}
+use Rattle.wtf_imagefmt.specs.Lookups.{Plain, LastIs, plain_region, names_under}
 use Rattle.wtf_image.specs.Seeds.{path_seed, dir_seed_by, dir_seed, region_seed, last_seed, file_seeds}
 
 less_is : (o : Ordering) → is_lt o ≡ true → o ≡ Less

@@ -14,10 +14,10 @@ use Rattle.wtf_values.specs.declared.key.Key.TheVariants.{Path, Dir, Inode, Regi
 use Rattle.wtf_values.specs.declared.value.Node.{Node}
 use Rattle.wtf_values.specs.declared.value.Node.TheVariants.{Folder, File}
 use Rattle.wtf_values.proofs.KeyLaws.{at_none, at_same}
-use Rattle.wtf_image.specs.declared.records.PathRecord.{PathRecord}
-use Rattle.wtf_image.specs.Rows.{RegionRow, FileRow}
-use Rattle.wtf_image.specs.Shapes.{ascends, ascends_from, path_before}
-use Rattle.wtf_image.specs.Lookups.{Plain, NodeIs, NamesAre, LastIs, plain_region, node_at, names_under, names_of_node, last_at, place_cmp, region_entry, region_entries, region_at}
+use Rattle.wtf_imagefmt.specs.declared.records.PathRecord.{PathRecord}
+use Rattle.wtf_imagefmt.specs.Rows.{RegionRow, FileRow}
+use Rattle.wtf_imagefmt.specs.Shapes.{ascends, ascends_from, path_before}
+use Rattle.wtf_imagefmt.specs.Lookups.{Plain, NodeIs, NamesAre, LastIs, plain_region, node_at, names_under, names_of_node, last_at, place_cmp, region_entry, region_entries, region_at}
 use Rattle.wtf_image.specs.Seeds.{Seed, path_seed, dir_seed_by, dir_seed, region_seed, file_seeds}
 use Rattle.wtf_image.proofs.SeedLaws.{find-both}
 use Rattle.wtf_image.proofs.Apart.{path_trans, path_differs, file_missing, region_missing, no_region}

@@ -1,6 +1,4 @@
-pub mod Refused
-pub mod BaseForms
-pub mod Forms
+pub use Rattle.wtf_imagefmt.proofs.Forms
 pub mod Parsed
 pub mod Elements
 pub mod SeedLaws
@@ -9,8 +7,6 @@ pub mod TreeLaws
 pub mod NameTables
 pub mod Found
 pub mod LoadLaws
-pub mod Walking
-pub mod Gathered
 pub mod SaveTree
 pub mod SaveFiles
 pub mod SaveMap

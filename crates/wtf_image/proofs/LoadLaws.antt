@@ -11,9 +11,9 @@ use Rattle.wtf_values.specs.Keys.{key_cmp}
 use Rattle.wtf_values.specs.declared.key.Key.{Key}
 use Rattle.wtf_values.specs.declared.key.Key.TheVariants.{Path, Dir, Inode, Region}
 use Rattle.wtf_values.specs.declared.value.Value.{Value}
-use Rattle.wtf_image.specs.Rows.{ImageRows}
-use Rattle.wtf_image.specs.Shapes.{ascends, path_before}
-use Rattle.wtf_image.specs.Lookups.{Plain, plain, row_at}
+use Rattle.wtf_imagefmt.specs.Rows.{ImageRows}
+use Rattle.wtf_imagefmt.specs.Shapes.{ascends, path_before}
+use Rattle.wtf_imagefmt.specs.Lookups.{Plain, plain, row_at}
 use Rattle.wtf_image.specs.Seeds.{Seed, Adds, path_seed, dir_seed, file_seeds}
 use Rattle.wtf_image.specs.Tables.{shown}
 use Rattle.wtf_image.specs.Loading.{IsSeededBy, row_but_names, IsPartly, IsLoaded}

@@ -4,7 +4,7 @@ use Rattle.std.specs.List.{list_all}
 use Rattle.std.proofs.lemmas.Bool.{and_parts, and_from, or_right}
 use Rattle.std.proofs.lemmas.Nat.Bits.{bit_at-zero}
 use Rattle.wtf_base.specs.declared.pointer.Pointer.{Pointer}
-use Rattle.wtf_image.specs.Rows.{BaseRow, EntryRow, RegionRow, FileRow, ImageRows}
+use Rattle.wtf_imagefmt.specs.Rows.{BaseRow, EntryRow, RegionRow, FileRow, ImageRows}
 use Rattle.wtf_image.specs.Rules.{is_lost, none_lost, lies_inside, is_part_inside, is_base_inside, is_region_inside, is_file_inside}
 use Rattle.wtf_image.specs.Rules.{lies_inside_without, is_part_inside_without, is_base_inside_without, is_region_inside_without, is_file_inside_without}
 use Rattle.wtf_image.specs.Loading.{IsTaken, IsTakenWithout}

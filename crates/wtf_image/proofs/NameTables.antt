@@ -13,8 +13,8 @@ use Rattle.std.proofs.lemmas.Slice.Eq.{bytes_eq-Decides}
 use Rattle.wtf_path.specs.Parts.{parent_of, name_of}
 use Rattle.wtf_values.specs.Names.{NamesOf, no_names, with_name}
 use Rattle.wtf_model.specs.Tree.{is_at as stands_at}
-use Rattle.wtf_image.specs.declared.records.PathRecord.{PathRecord}
-use Rattle.wtf_image.specs.Lookups.{added_name, names_from, names_under}
+use Rattle.wtf_imagefmt.specs.declared.records.PathRecord.{PathRecord}
+use Rattle.wtf_imagefmt.specs.Lookups.{added_name, names_from, names_under}
 use Rattle.wtf_image.specs.Tables.{names_in}
 
 abbrev Dirs : Type 0

@@ -18,8 +18,8 @@ use Rattle.wtf_values.specs.declared.value.Value.{Value}
 use Rattle.wtf_values.specs.declared.value.Value.TheVariants as value
 use Rattle.wtf_values.proofs.RegionLaws.{region_eq}
 use Rattle.wtf_spillfmt.proofs.Codecs.{some_is}
-use Rattle.wtf_image.specs.Rows.{BaseRow, EntryRow, part_row, entry_row, spill_row, base_row, entry_rows}
-use Rattle.wtf_image.specs.Lookups.{plain}
+use Rattle.wtf_imagefmt.specs.Rows.{BaseRow, EntryRow, part_row, entry_row, spill_row, base_row, entry_rows}
+use Rattle.wtf_imagefmt.specs.Lookups.{plain}
 
 slice_eq : (s t : Slice) → s.len ≡ t.len → s.extents ≡ t.extents → s ≡ t
 slice_eq s t l e = λ i. record {

@@ -13,12 +13,12 @@ use Rattle.wtf_values.specs.declared.value.Node.{Node}
 use Rattle.wtf_values.specs.declared.value.Value.{Value}
 use Rattle.wtf_meta.specs.Maps.{Map, metadata_at}
 use Rattle.wtf_image.specs.declared.loads.Loaded.{Loaded}
-use Rattle.wtf_image.specs.Rows.{RegionRow, FileRow, ImageRows}
-use Rattle.wtf_image.specs.Shapes.{ascends, ascends_from, region_before, IsFileRow, IsImage}
-use Rattle.wtf_image.specs.Lookups.{NodeIs, LastIs, plain, plain_region, node_at, last_at, place_cmp, region_entry, region_at, row_at}
+use Rattle.wtf_imagefmt.specs.Rows.{RegionRow, FileRow, ImageRows}
+use Rattle.wtf_imagefmt.specs.Shapes.{ascends, ascends_from, region_before, IsFileRow, IsImage}
+use Rattle.wtf_imagefmt.specs.Lookups.{NodeIs, LastIs, plain, plain_region, node_at, last_at, place_cmp, region_entry, region_at, row_at}
 use Rattle.wtf_image.specs.Rules.{is_before, is_good_region, is_good_file, AreGoodSettings, IsGoodTree}
 use Rattle.wtf_image.specs.Outcome.{IsLoadWithout}
-use Rattle.wtf_image.specs.Saving.{node_now, last_now, region_now, with_one, regions_below, file_with, file_at, Says, IsSaveOf}
+use Rattle.wtf_imagefmt.specs.Saving.{node_now, last_now, region_now, with_one, regions_below, file_with, file_at, Says, IsSaveOf}
 use Rattle.wtf_image.specs.Savable.{AreBefore}
 use Rattle.wtf_image.proofs.SaveFiles.{inode_same}
 use Rattle.wtf_image.proofs.SaveTree.{last_is}

@@ -15,17 +15,17 @@ use Rattle.wtf_values.specs.declared.value.Node.{Node}
 use Rattle.wtf_values.specs.declared.value.Node.TheVariants.{Folder, File}
 use Rattle.wtf_values.proofs.KeyLaws.{at_itself, at_same}
 use Rattle.wtf_spillfmt.proofs.Codecs.{some_is}
-use Rattle.wtf_image.specs.declared.records.PathRecord.{PathRecord}
-use Rattle.wtf_image.specs.Rows.{RegionRow, FileRow, ImageRows}
-use Rattle.wtf_image.specs.Shapes.{ascends, ascends_from, path_before, file_before, IsImage}
-use Rattle.wtf_image.specs.Lookups.{Plain, NodeIs, NamesAre, LastIs, RegionIs, node_at}
+use Rattle.wtf_imagefmt.specs.declared.records.PathRecord.{PathRecord}
+use Rattle.wtf_imagefmt.specs.Rows.{RegionRow, FileRow, ImageRows}
+use Rattle.wtf_imagefmt.specs.Shapes.{ascends, ascends_from, path_before, file_before, IsImage}
+use Rattle.wtf_imagefmt.specs.Lookups.{Plain, NodeIs, NamesAre, LastIs, RegionIs, node_at}
 use Rattle.wtf_image.specs.Rules.{is_name_of, is_named_once, is_before, is_good_region, is_last, is_good_file}
 use Rattle.wtf_image.specs.Tables.{Shown}
-use Rattle.wtf_image.specs.Saving.{node_now, last_now, region_now, with_one, regions_below, region_in, file_with, file_at, Says}
+use Rattle.wtf_imagefmt.specs.Saving.{node_now, last_now, region_now, with_one, regions_below, region_in, file_with, file_at, Says}
 use Rattle.wtf_image.specs.Savable.{end_now, IsSavable}
 use Rattle.wtf_image.proofs.Apart.{path_trans, path_differs, file_trans}
 use Rattle.wtf_image.proofs.Found.{tail_ascends}
-use Rattle.wtf_image.proofs.Gathered.{region_numbered}
+use Rattle.wtf_imagefmt.proofs.Gathered.{region_numbered}
 use Rattle.wtf_image.proofs.SaveTree.{all_from, all_weaker, all_found, shown_node, tie_itself, tie_same, some_value}
 
 -- ---- files of a list that rises

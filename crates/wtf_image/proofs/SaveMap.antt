@@ -21,14 +21,14 @@ use Rattle.wtf_values.specs.declared.value.Value.{Value}
 use Rattle.wtf_image.specs.declared.error.LoadError.{LoadError}
 use Rattle.wtf_image.specs.declared.error.LoadError.TheVariants as error
 use Rattle.wtf_image.specs.declared.loads.Loaded.{Loaded}
-use Rattle.wtf_image.specs.declared.records.Header.{Header}
-use Rattle.wtf_image.specs.Texts.{image_text}
+use Rattle.wtf_imagefmt.specs.declared.records.Header.{Header}
+use Rattle.wtf_imagefmt.specs.Texts.{image_text}
 use Rattle.wtf_image.specs.Rules.{is_before, is_node_before, is_good_file, AreGoodSettings, IsGoodTree}
 use Rattle.wtf_image.specs.Loading.{IsRefusalWithout}
 use Rattle.wtf_image.specs.Outcome.{IsLoadWithout}
 use Rattle.wtf_image.specs.Kept.{IsKept, IsSameAs, IsPointerOrMemory}
 use Rattle.wtf_meta.specs.Maps.{metadata_at}
-use Rattle.wtf_image.proofs.Forms.{one_image}
+use Rattle.wtf_imagefmt.proofs.Forms.{one_image}
 use Rattle.wtf_image.proofs.PlainLaws.{same_optional}
 use Rattle.wtf_model.specs.Tree.{is_in, is_at as stands_at}
 use Rattle.wtf_path.specs.Parts.{parent_of, name_of}
@@ -40,15 +40,15 @@ use Rattle.wtf_values.specs.declared.value.Node.{Node}
 use Rattle.wtf_values.specs.declared.value.Node.TheVariants.{Folder, File}
 use Rattle.wtf_values.proofs.KeyLaws.{inode_itself}
 use Rattle.wtf_values.proofs.NameLaws.{same_names, has-none, has-with, same_name, name_itself}
-use Rattle.wtf_image.specs.declared.records.PathRecord.{PathRecord}
-use Rattle.wtf_image.specs.Rows.{RegionRow, FileRow, ImageRows}
-use Rattle.wtf_image.specs.Shapes.{ascends, file_before, IsImage}
-use Rattle.wtf_image.specs.Lookups.{Plain, NodeIs, NamesAre, LastIs, RegionIs, plain_region, node_at, place_cmp, region_entry, region_entries, region_at, added_name, names_from, names_under, names_of_node, row_at}
+use Rattle.wtf_imagefmt.specs.declared.records.PathRecord.{PathRecord}
+use Rattle.wtf_imagefmt.specs.Rows.{RegionRow, FileRow, ImageRows}
+use Rattle.wtf_imagefmt.specs.Shapes.{ascends, file_before, IsImage}
+use Rattle.wtf_imagefmt.specs.Lookups.{Plain, NodeIs, NamesAre, LastIs, RegionIs, plain_region, node_at, place_cmp, region_entry, region_entries, region_at, added_name, names_from, names_under, names_of_node, row_at}
 use Rattle.wtf_image.specs.Tables.{Shown, shown}
-use Rattle.wtf_image.specs.Saving.{node_now, last_now, region_now, with_one, regions_below, region_in, file_with, file_at, Says, header_of, IsSaveOf}
+use Rattle.wtf_imagefmt.specs.Saving.{node_now, last_now, region_now, with_one, regions_below, region_in, file_with, file_at, Says, header_of, IsSaveOf}
 use Rattle.wtf_image.specs.Savable.{IsNodeValue, IsLastValue, IsRegionValue, IsListingOf, IsSavable}
 use Rattle.wtf_image.proofs.SeedLaws.{find-both}
-use Rattle.wtf_image.proofs.Gathered.{region_numbered}
+use Rattle.wtf_imagefmt.proofs.Gathered.{region_numbered}
 use Rattle.wtf_image.proofs.SaveTree.{node_row, last_row, top_good, parents_good, recorded_good, paths_before_good, all_found, shown_node, tie_same, some_value}
 use Rattle.wtf_image.proofs.SaveFiles.{file_after, files_tail, inode_same, files_before_good, named_all, files_good}
 

@@ -13,13 +13,13 @@ use Rattle.wtf_values.specs.declared.key.Key.TheVariants.{Path, Inode}
 use Rattle.wtf_values.specs.declared.value.Node.{Node}
 use Rattle.wtf_values.specs.declared.value.Node.TheVariants.{Folder, File}
 use Rattle.wtf_values.proofs.KeyLaws.{at_itself, at_same}
-use Rattle.wtf_image.specs.declared.records.PathRecord.{PathRecord}
-use Rattle.wtf_image.specs.Rows.{FileRow, ImageRows}
-use Rattle.wtf_image.specs.Shapes.{ascends, ascends_from, path_before, IsImage}
-use Rattle.wtf_image.specs.Lookups.{Plain, NodeIs, NamesAre, LastIs, RegionIs, node_at, last_at}
+use Rattle.wtf_imagefmt.specs.declared.records.PathRecord.{PathRecord}
+use Rattle.wtf_imagefmt.specs.Rows.{FileRow, ImageRows}
+use Rattle.wtf_imagefmt.specs.Shapes.{ascends, ascends_from, path_before, IsImage}
+use Rattle.wtf_imagefmt.specs.Lookups.{Plain, NodeIs, NamesAre, LastIs, RegionIs, node_at, last_at}
 use Rattle.wtf_image.specs.Rules.{is_folder, is_in_folder, has_parent, is_recorded_node, is_recorded, is_node_before}
 use Rattle.wtf_image.specs.Tables.{Shown}
-use Rattle.wtf_image.specs.Saving.{node_now, last_now, file_with, file_at, Says}
+use Rattle.wtf_imagefmt.specs.Saving.{node_now, last_now, file_with, file_at, Says}
 use Rattle.wtf_image.specs.Savable.{IsNodeValue, IsLastValue, IsSavable}
 use Rattle.wtf_image.proofs.Found.{missing_after, tail_ascends}
 

@@ -16,8 +16,8 @@ use Rattle.wtf_values.specs.Keys.{key_cmp}
 use Rattle.wtf_values.specs.declared.key.Key.{Key}
 use Rattle.wtf_values.specs.declared.value.Value.{Value}
 use Rattle.wtf_values.proofs.KeyLaws.{at_itself, at_same, at_none}
-use Rattle.wtf_image.specs.Shapes.{ascends, ascends_from}
-use Rattle.wtf_image.specs.Lookups.{Plain, plain}
+use Rattle.wtf_imagefmt.specs.Shapes.{ascends, ascends_from}
+use Rattle.wtf_imagefmt.specs.Lookups.{Plain, plain}
 use Rattle.wtf_image.specs.Seeds.{Seed, IsOnly, Adds}
 
 abbrev S : Type 0

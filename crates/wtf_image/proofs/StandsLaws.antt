@@ -16,7 +16,7 @@ use Rattle.wtf_meta.specs.FileEdits.{last_of, region_of, IsLast, IsRegion}
 use Rattle.wtf_meta.specs.Trees.{IsBody, NodeAt, Stands}
 use Rattle.wtf_meta.proofs.Nodes.{node-folder, names-listed, names-missing}
 use Rattle.wtf_meta.proofs.Standing.{leads-file}
-use Rattle.wtf_image.specs.Lookups.{NodeIs, LastIs, plain}
+use Rattle.wtf_imagefmt.specs.Lookups.{NodeIs, LastIs, plain}
 use Rattle.wtf_image.specs.Tables.{Shown}
 use Rattle.wtf_image.specs.Savable.{IsNodeValue, IsLastValue, IsRegionValue, end_now, HasListing, IsSavable}
 

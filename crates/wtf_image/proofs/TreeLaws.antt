@@ -9,9 +9,9 @@ use Rattle.wtf_path.specs.Parts.{parent_of}
 use Rattle.wtf_values.specs.declared.key.Key.TheVariants as keys
 use Rattle.wtf_values.specs.declared.value.Node.{Node}
 use Rattle.wtf_values.specs.declared.value.Node.TheVariants.{Folder, File}
-use Rattle.wtf_image.specs.declared.records.PathRecord.{PathRecord}
-use Rattle.wtf_image.specs.Rows.{FileRow, ImageRows}
-use Rattle.wtf_image.specs.Lookups.{NodeIs, LastIs, node_at, last_at}
+use Rattle.wtf_imagefmt.specs.declared.records.PathRecord.{PathRecord}
+use Rattle.wtf_imagefmt.specs.Rows.{FileRow, ImageRows}
+use Rattle.wtf_imagefmt.specs.Lookups.{NodeIs, LastIs, node_at, last_at}
 use Rattle.wtf_image.specs.Rules.{is_folder, is_in_folder, has_parent, is_name_of, is_named_once, is_recorded_node, is_recorded, is_good_file, IsGoodTree}
 use Rattle.wtf_image.specs.Tables.{count_in, Shown, ShowsRows, is_shown_folder, is_shown_in, has_shown_parent, is_shown_node}
 

@@ -1,21 +1,10 @@
--- Which bytes are an image, and what it is.
-use Rattle.std.specs.Prelude.{◌≡◌, ℕ, List, ⊤}
+-- Why bytes are no image.
+use Rattle.std.specs.Prelude.{ℕ, List, ⊤}
 use Rattle.wtf_spillfmt.specs.declared.error.ListError.{ListError}
 use Rattle.wtf_spillfmt.specs.declared.error.ListError.TheVariants as unread
 use Rattle.wtf_image.specs.declared.error.LoadError.{LoadError}
 use Rattle.wtf_image.specs.declared.error.LoadError.TheVariants as error
-use Rattle.wtf_image.specs.Rows.{ImageRows}
-use Rattle.wtf_image.specs.Shapes.{IsImage}
-use Rattle.wtf_image.specs.Texts.{image_text}
-
--- the bytes are the text of these rows, which have the shape of an image
-pub record HasText (x : ImageRows) (bytes : List ℕ) : Type 0 where
-  pub shape : IsImage x
-  pub text : bytes ≡ image_text x
-
--- no image has the bytes for its text
-abbrev pub IsNoImage : List ℕ → Type 0
-IsNoImage bytes = (x : ImageRows) → HasText x bytes → ⊥
+pub use Rattle.wtf_imagefmt.specs.Images.{HasText, IsNoImage}
 
 -- a refusal of bytes that are no image, unless memory ran out
 abbrev pub IsNoneOr : List ℕ → LoadError → Type 0

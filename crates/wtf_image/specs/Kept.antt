@@ -8,11 +8,11 @@ use Rattle.wtf_meta.specs.Maps.{metadata_at}
 use Rattle.wtf_image.specs.declared.error.LoadError.{LoadError}
 use Rattle.wtf_image.specs.declared.error.LoadError.TheVariants as error
 use Rattle.wtf_image.specs.declared.loads.Loaded.{Loaded}
-use Rattle.wtf_image.specs.Rows.{ImageRows}
+use Rattle.wtf_imagefmt.specs.Rows.{ImageRows}
 use Rattle.wtf_image.specs.Images.{HasText}
-use Rattle.wtf_image.specs.Lookups.{row_at}
+use Rattle.wtf_imagefmt.specs.Lookups.{row_at}
 use Rattle.wtf_image.specs.Rules.{AreGoodSettings, IsGoodTree}
-use Rattle.wtf_image.specs.Saving.{header_of}
+use Rattle.wtf_imagefmt.specs.Saving.{header_of}
 use Rattle.wtf_image.specs.Tables.{shown}
 
 -- the bytes are an image with good settings and a good tree, and of each key it says what the store has

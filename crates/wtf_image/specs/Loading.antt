@@ -8,9 +8,9 @@ use Rattle.wtf_values.specs.declared.key.Key.TheVariants as keys
 use Rattle.wtf_values.specs.declared.value.Value.{Value}
 use Rattle.wtf_image.specs.declared.error.LoadError.{LoadError}
 use Rattle.wtf_image.specs.declared.error.LoadError.TheVariants as error
-use Rattle.wtf_image.specs.Rows.{ImageRows}
+use Rattle.wtf_imagefmt.specs.Rows.{ImageRows}
 use Rattle.wtf_image.specs.Images.{HasText, IsNoImage}
-use Rattle.wtf_image.specs.Lookups.{Plain, row_at}
+use Rattle.wtf_imagefmt.specs.Lookups.{Plain, row_at}
 use Rattle.wtf_image.specs.Rules.{AreGoodSettings, IsGoodTree, none_lost, are_inside_without}
 use Rattle.wtf_image.specs.Seeds.{IsOnly}
 use Rattle.wtf_image.specs.Tables.{shown, ShowsRows}

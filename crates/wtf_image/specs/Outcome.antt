@@ -1,7 +1,7 @@
 -- What a load gives.
 use Rattle.std.specs.Prelude.{◌≡◌, ℕ, Bool, List}
 use Rattle.wtf_image.specs.declared.loads.Loaded.{Loaded}
-use Rattle.wtf_image.specs.Rows.{ImageRows}
+use Rattle.wtf_imagefmt.specs.Rows.{ImageRows}
 use Rattle.wtf_image.specs.Rules.{none_lost}
 use Rattle.wtf_image.specs.Loading.{AreSettingsOf, IsLoaded, IsTakenWithout}
 

@@ -9,8 +9,8 @@ use Rattle.wtf_meta.specs.Maps.{Map}
 use Rattle.wtf_meta.specs.Trees.{Stands}
 use Rattle.wtf_image.specs.Images.{HasText}
 use Rattle.wtf_image.specs.Loading.{AreSettingsOf, IsTaken}
-use Rattle.wtf_image.specs.Lookups.{plain, row_at}
-use Rattle.wtf_image.specs.Rows.{ImageRows}
+use Rattle.wtf_imagefmt.specs.Lookups.{plain, row_at}
+use Rattle.wtf_imagefmt.specs.Rows.{ImageRows}
 
 -- The bytes are an image, and what it says of each key stands for the tree, over what the stores tell, for each transaction
 -- that is not before the one that it gives as the next. So a region whose list lies in a slice has the bytes that this list, with the

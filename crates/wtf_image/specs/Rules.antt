@@ -12,9 +12,9 @@ pub use Rattle.wtf_replica.specs.Inside.{size_in, lies_inside}
 use Rattle.wtf_values.specs.Keys.{inode_cmp}
 use Rattle.wtf_values.specs.declared.value.Node.{Node}
 use Rattle.wtf_values.specs.declared.value.Node.TheVariants.{Folder, File}
-use Rattle.wtf_image.specs.declared.records.PathRecord.{PathRecord}
-use Rattle.wtf_image.specs.Rows.{BaseRow, RegionRow, FileRow, ImageRows}
-use Rattle.wtf_image.specs.Lookups.{node_at, last_at}
+use Rattle.wtf_imagefmt.specs.declared.records.PathRecord.{PathRecord}
+use Rattle.wtf_imagefmt.specs.Rows.{BaseRow, RegionRow, FileRow, ImageRows}
+use Rattle.wtf_imagefmt.specs.Lookups.{node_at, last_at}
 
 -- ---- settings and numbers
 

@@ -1,6 +1,6 @@
 -- What the keys of a store are given first.
-use Rattle.std.specs.Prelude.{◌≡◌, ℕ, List, [], ◌∷◌, ◌++◌, true, Option, None, Some}
-use Rattle.std.specs.List.{flat_map, AllByRecursion}
+use Rattle.std.specs.Prelude.{◌≡◌, ℕ, List, [], ◌∷◌, ◌++◌, Option, None, Some}
+use Rattle.std.specs.List.{flat_map}
 use Rattle.std.specs.FinMap.Entries.{find}
 use Rattle.wtf_base.specs.declared.ids.InodeId.{InodeId}
 use Rattle.wtf_kv.specs.Stores.{Store, versions_of}
@@ -11,10 +11,10 @@ use Rattle.wtf_values.specs.declared.key.Key.TheVariants.{Path, Dir, Inode, Regi
 use Rattle.wtf_values.specs.declared.value.Node.{Node}
 use Rattle.wtf_values.specs.declared.value.Node.TheVariants.{Folder, File}
 use Rattle.wtf_values.specs.declared.value.Value.{Value}
-use Rattle.wtf_image.specs.declared.records.PathRecord.{PathRecord}
-use Rattle.wtf_image.specs.Rows.{RegionRow, FileRow}
-use Rattle.wtf_image.specs.Shapes.{ascends, region_before}
-use Rattle.wtf_image.specs.Lookups.{Plain, NodeIs, NamesAre, LastIs, plain, plain_region, names_under}
+use Rattle.wtf_imagefmt.specs.declared.records.PathRecord.{PathRecord}
+use Rattle.wtf_imagefmt.specs.Rows.{RegionRow, FileRow}
+pub use Rattle.wtf_imagefmt.specs.Shapes.{AreRegionsAscending}
+use Rattle.wtf_imagefmt.specs.Lookups.{Plain, NodeIs, NamesAre, LastIs, plain, plain_region, names_under}
 
 abbrev pub Seed : Type 0
 Seed = Key × Plain
@@ -40,10 +40,6 @@ last_seed i n = (Inode i, LastIs n) ∷ []
 
 abbrev pub file_seeds : FileRow → List Seed
 file_seeds f = last_seed f.inode f.last ++ flat_map (region_seed f.inode) f.regions
-
--- the regions of each file ascend
-abbrev pub AreRegionsAscending : List FileRow → Type 0
-AreRegionsAscending fs = AllByRecursion (λ f. ascends region_before f.regions ≡ true) fs
 
 -- the value is the first of a key, and its only version
 pub record IsOnly (n : ℕ) (vs : List (ℕ × Option Value)) (s : Plain) : Type 0 where

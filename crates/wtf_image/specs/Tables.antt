@@ -6,18 +6,16 @@ use Rattle.std.specs.BTreeMap.{is_at}
 use Rattle.std.specs.Ordering.{nat_cmp}
 use Rattle.std.specs.Cmp.Lexicographic.{slice_cmp}
 use Rattle.wtf_base.specs.declared.ids.InodeId.{InodeId}
-use Rattle.wtf_kv.specs.Stores.{Store, map_at}
 use Rattle.wtf_path.specs.Parts.{parent_of}
-use Rattle.wtf_values.specs.Keys.{key_cmp, inode_cmp}
+use Rattle.wtf_values.specs.Keys.{inode_cmp}
 use Rattle.wtf_values.specs.Names.{NamesOf, no_names}
-use Rattle.wtf_values.specs.declared.key.Key.{Key}
 use Rattle.wtf_values.specs.declared.key.Key.TheVariants as keys
 use Rattle.wtf_values.specs.declared.value.Node.{Node}
 use Rattle.wtf_values.specs.declared.value.Node.TheVariants.{Folder, File}
-use Rattle.wtf_values.specs.declared.value.Value.{Value}
-use Rattle.wtf_image.specs.declared.records.PathRecord.{PathRecord}
-use Rattle.wtf_image.specs.Rows.{FileRow}
-use Rattle.wtf_image.specs.Lookups.{Plain, NodeIs, NamesAre, LastIs, RegionIs, plain, node_at, last_at}
+use Rattle.wtf_imagefmt.specs.declared.records.PathRecord.{PathRecord}
+use Rattle.wtf_imagefmt.specs.Rows.{FileRow}
+use Rattle.wtf_imagefmt.specs.Lookups.{Plain, NodeIs, NamesAre, LastIs, RegionIs, node_at, last_at}
+pub use Rattle.wtf_imagefmt.specs.Shown.{Shown, shown}
 
 -- how often an inode is named, by a table
 abbrev pub count_in : List (InodeId × ℕ) → InodeId → ℕ
@@ -26,13 +24,6 @@ count_in counts i = unwrap_or (lookup (is_at (inode_cmp i)) counts) 0
 -- the names in a directory, by a table
 abbrev pub names_in : List (List ℕ × NamesOf) → List ℕ → NamesOf
 names_in dirs d = unwrap_or (lookup (is_at (slice_cmp nat_cmp d)) dirs) no_names
-
--- what a store shows of a key
-abbrev pub Shown : Type 0
-Shown = Key → Option Plain
-
-abbrev pub shown : Store Key Value → Shown
-shown kv q = option_map plain (map_at key_cmp kv kv.number q)
 
 -- it shows just these paths and files
 pub record ShowsRows (m : Shown) (paths : List PathRecord) (files : List FileRow) : Type 0 where

@@ -14,12 +14,12 @@ ghost use Rattle.wtf_meta.specs.Contents.{Told};
 ghost use Rattle.wtf_meta.specs.Trees.{Stands};
 ghost use Rattle.wtf_image.specs.Tables.{shown};
 ghost use Rattle.wtf_image.specs.Savable.{AreBefore, IsSavable};
-ghost use Rattle.wtf_image.specs.Rows.{ImageRows};
+ghost use Rattle.wtf_imagefmt.specs.Rows.{ImageRows};
 ghost use Rattle.wtf_image.specs.Images.{HasText};
 ghost use Rattle.wtf_image.specs.Rules.{is_lost, none_lost, lies_inside, lies_inside_without};
 ghost use Rattle.wtf_image.specs.Loading.{IsRefusal, IsTaken, IsTakenWithout};
 ghost use Rattle.wtf_image.specs.Outcome.{IsLoadOf};
-ghost use Rattle.wtf_image.specs.Saving.{IsSaveOf};
+ghost use Rattle.wtf_imagefmt.specs.Saving.{IsSaveOf};
 ghost use Rattle.wtf_image.specs.Kept.{IsKept, IsSameAs, IsPointerOrMemory};
 
 /// Bytes are one image at most, and no image is a proper front of another.

@@ -3,12 +3,12 @@
 ghost use Rattle.std.specs.Prelude.{◌≡◌, ◌≤◌, ◌<◌, length};
 ghost use Rattle.std.specs.List.{list_all};
 ghost use Rattle.wtf_base.specs.Slices.{pointers_of};
-ghost use Rattle.wtf_image.specs.Rows.{part_row, base_row, entry_rows, region_row, region_rows, file_rows};
+ghost use Rattle.wtf_imagefmt.specs.Rows.{part_row, base_row, entry_rows, region_row, region_rows, file_rows};
 ghost use Rattle.wtf_image.specs.Rules.{size_in, is_lost, lies_inside_without, is_part_inside_without, is_base_inside_without, is_region_inside_without, is_file_inside_without};
 
-use crate::records::{FileRecord, RegionRecord};
 use wtf_base::{Pointer, Slice};
 use wtf_dev::{Shelf, SliceStore};
+use wtf_imagefmt::{FileRecord, RegionRecord};
 use wtf_overlay::{Overlay, Part};
 use wtf_replica::lies_inside;
 use wtf_values::Spill;

@@ -9,15 +9,15 @@ ghost use Rattle.wtf_kv.specs.Stores.{versions_of};
 ghost use Rattle.wtf_values.specs.Keys.{key_cmp};
 ghost use Rattle.wtf_values.specs.Names.{with_name};
 ghost use Rattle.wtf_values.specs.declared.key.Key.TheVariants as keys;
-ghost use Rattle.wtf_image.specs.Shapes.{ascends, path_before};
-ghost use Rattle.wtf_image.specs.Lookups.{added_name, names_under};
+ghost use Rattle.wtf_imagefmt.specs.Shapes.{ascends, path_before};
+ghost use Rattle.wtf_imagefmt.specs.Lookups.{added_name, names_under};
 ghost use Rattle.wtf_image.specs.Seeds.{Adds, dir_seed, dir_seed_by};
 ghost use Rattle.wtf_image.specs.Tables.{names_in};
 
-use crate::records::PathRecord;
 use std::alloc::Global;
 use std::collections::BTreeMap;
 use wtf_base::OutOfMemory;
+use wtf_imagefmt::PathRecord;
 use wtf_kv::Kv;
 use wtf_path::Path;
 use wtf_values::{Key, Name, NameSet, Node, Value};

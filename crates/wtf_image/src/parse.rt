@@ -1,13 +1,12 @@
 //! Bytes, read as the image that has them for its text.
 
 ghost use Rattle.std.specs.Prelude.{◌≡◌, IfOk, IfErr};
-ghost use Rattle.wtf_image.specs.Rows.{rows_of};
+ghost use Rattle.wtf_imagefmt.specs.Rows.{rows_of};
 ghost use Rattle.wtf_image.specs.Images.{HasText, IsNoneOr, no_image_by};
 
 use crate::LoadError;
-use crate::parser::image_of;
-use crate::records::Image;
 use std::alloc::Global;
+use wtf_imagefmt::{Image, image_of};
 use wtf_spillfmt::ListError;
 
 /// The image whose text the bytes are.

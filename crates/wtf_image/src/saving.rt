@@ -2,15 +2,13 @@
 
 ghost use Rattle.std.specs.Prelude.{◌≤◌, ◌^◌, IfOk};
 ghost use Rattle.wtf_image.specs.Tables.{shown};
-ghost use Rattle.wtf_image.specs.Saving.{IsSaveOf};
+ghost use Rattle.wtf_imagefmt.specs.Saving.{IsSaveOf};
 ghost use Rattle.wtf_image.specs.Savable.{IsSavable};
 ghost use Rattle.wtf_image.specs.Kept.{IsKept};
 
-use crate::gather::{files_now, paths_now};
-use crate::records::{Header, Image};
-use crate::writer::write;
 use std::alloc::Global;
 use wtf_base::{OutOfMemory, Settings};
+use wtf_imagefmt::{Header, Image, files_now, paths_now, write};
 use wtf_kv::Kv;
 use wtf_values::{Key, Value};
 

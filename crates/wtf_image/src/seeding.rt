@@ -6,13 +6,13 @@ ghost use Rattle.wtf_kv.specs.Stores.{versions_of};
 ghost use Rattle.wtf_values.specs.Keys.{key_cmp};
 ghost use Rattle.wtf_values.specs.declared.key.Key.TheVariants as keys;
 ghost use Rattle.wtf_base.specs.declared.ids.InodeId.{InodeId};
-ghost use Rattle.wtf_image.specs.Rows.{region_row, region_rows, file_row, file_rows};
-ghost use Rattle.wtf_image.specs.Shapes.{ascends, path_before, file_before, region_before};
+ghost use Rattle.wtf_imagefmt.specs.Rows.{region_row, region_rows, file_row, file_rows};
+ghost use Rattle.wtf_imagefmt.specs.Shapes.{ascends, path_before, file_before, region_before};
 ghost use Rattle.wtf_image.specs.Seeds.{Adds, path_seed, last_seed, region_seed, file_seeds, AreRegionsAscending};
 
-use crate::records::{FileRecord, PathRecord, RegionRecord};
 use std::alloc::Global;
 use wtf_base::{InodeId, OutOfMemory};
+use wtf_imagefmt::{FileRecord, PathRecord, RegionRecord};
 use wtf_kv::Kv;
 use wtf_values::{Key, Value};
 

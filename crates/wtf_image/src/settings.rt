@@ -2,12 +2,12 @@
 
 ghost use Rattle.std.specs.Prelude.{◌≡◌, ◌<◌, IfSome, IfNone};
 ghost use Rattle.std.specs.List.{list_all};
-ghost use Rattle.wtf_image.specs.Rows.{file_rows, rows_of};
+ghost use Rattle.wtf_imagefmt.specs.Rows.{file_rows, rows_of};
 ghost use Rattle.wtf_image.specs.Rules.{AreGoodSettings, is_before, is_node_before};
 ghost use Rattle.wtf_image.specs.Loading.{AreSettingsOf};
 
-use crate::records::{FileRecord, Image, PathRecord};
 use wtf_base::{InodeId, Settings};
+use wtf_imagefmt::{FileRecord, Image, PathRecord};
 use wtf_values::Node;
 
 /// The settings of an image; none where a rule of settings and numbers is broken.

@@ -5,14 +5,14 @@ ghost use Rattle.std.specs.List.{list_all, list_any};
 ghost use Rattle.wtf_base.specs.declared.ids.InodeId.{InodeId};
 ghost use Rattle.wtf_path.specs.Grammar.{IsPath};
 ghost use Rattle.wtf_values.specs.declared.key.Key.TheVariants as keys;
-ghost use Rattle.wtf_image.specs.Rows.{region_rows, file_row, file_rows, rows_of};
+ghost use Rattle.wtf_imagefmt.specs.Rows.{region_rows, file_row, file_rows, rows_of};
 ghost use Rattle.wtf_image.specs.Rules.{is_name_of, is_good_region, is_last, is_good_file, IsGoodTree};
 ghost use Rattle.wtf_image.specs.Tables.{count_in, shown, ShowsRows, is_shown_folder, has_shown_parent, is_shown_node};
 
-use crate::records::{FileRecord, Image, PathRecord, RegionRecord};
 use std::alloc::Global;
 use std::collections::BTreeMap;
 use wtf_base::{InodeId, OutOfMemory};
+use wtf_imagefmt::{FileRecord, Image, PathRecord, RegionRecord};
 use wtf_kv::Kv;
 use wtf_path::Path;
 use wtf_values::{Key, Node, Value};

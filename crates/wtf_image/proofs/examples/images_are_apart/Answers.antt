@@ -1,5 +1,5 @@
 use Rattle.std.proofs.Common.{sym, ap, ◌++◌, ◌∙◌}
-use Rattle.wtf_image.proofs.Forms.{one_image}
+use Rattle.wtf_imagefmt.proofs.Forms.{one_image}
 use Rattle.wtf_image.proofs.examples.images_are_apart.Goals as goal
 
 pub returns : goal.returns

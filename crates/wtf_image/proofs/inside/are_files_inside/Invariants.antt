@@ -1,6 +1,6 @@
 use Rattle.std.proofs.Common.{◌≡◌, drop}
 use Rattle.std.specs.List.{list_all}
-use Rattle.wtf_image.specs.Rows.{file_rows}
+use Rattle.wtf_imagefmt.specs.Rows.{file_rows}
 use Rattle.wtf_image.specs.Rules.{is_lost, is_file_inside_without, size_in}
 use Rattle.wtf_image.proofs.inside.are_files_inside.Given as goal
 

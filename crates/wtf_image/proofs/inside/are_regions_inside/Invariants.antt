@@ -1,6 +1,6 @@
 use Rattle.std.proofs.Common.{◌≡◌, drop}
 use Rattle.std.specs.List.{list_all}
-use Rattle.wtf_image.specs.Rows.{region_rows}
+use Rattle.wtf_imagefmt.specs.Rows.{region_rows}
 use Rattle.wtf_image.specs.Rules.{is_lost, is_region_inside_without, size_in}
 use Rattle.wtf_image.proofs.inside.are_regions_inside.Given as goal
 

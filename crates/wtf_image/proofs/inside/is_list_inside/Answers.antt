@@ -1,5 +1,5 @@
 use Rattle.std.proofs.Common.{sym, ◌∙◌}
-use Rattle.wtf_image.specs.Rows.{EntryRow, entry_row}
+use Rattle.wtf_imagefmt.specs.Rows.{EntryRow, entry_row}
 use Rattle.wtf_image.specs.Rules.{is_lost, is_part_inside_without, size_in}
 use Rattle.wtf_image.proofs.Elements.{all_fails, all_more}
 use Rattle.wtf_image.proofs.inside.is_list_inside.Goals as goal

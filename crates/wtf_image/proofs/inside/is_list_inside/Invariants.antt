@@ -1,6 +1,6 @@
 use Rattle.std.proofs.Common.{◌≡◌, true, take}
 use Rattle.std.specs.List.{list_all}
-use Rattle.wtf_image.specs.Rows.{entry_rows}
+use Rattle.wtf_imagefmt.specs.Rows.{entry_rows}
 use Rattle.wtf_image.specs.Rules.{is_lost, is_part_inside_without, size_in}
 use Rattle.wtf_image.proofs.inside.is_list_inside.Given as goal
 

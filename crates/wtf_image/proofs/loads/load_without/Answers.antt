@@ -1,6 +1,6 @@
 use Rattle.std.proofs.Common.{refl, subst}
 use Rattle.std.specs.List.{flat_map}
-use Rattle.wtf_image.specs.Rows.{rows_of}
+use Rattle.wtf_imagefmt.specs.Rows.{rows_of}
 use Rattle.wtf_image.specs.Seeds.{Adds, dir_seed}
 use Rattle.wtf_image.proofs.LoadLaws.{is_loaded}
 use Rattle.wtf_image.proofs.loads.load_without.Goals as goal

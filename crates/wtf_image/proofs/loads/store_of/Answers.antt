@@ -1,6 +1,6 @@
 use Rattle.std.proofs.Common.{subst}
 use Rattle.std.specs.List.{flat_map}
-use Rattle.wtf_image.specs.Rows.{rows_of, file_rows}
+use Rattle.wtf_imagefmt.specs.Rows.{rows_of, file_rows}
 use Rattle.wtf_image.specs.Seeds.{Adds, file_seeds, path_seed}
 use Rattle.wtf_image.proofs.LoadLaws.{started, no_path_yet, is_partly}
 use Rattle.wtf_image.proofs.loads.store_of.Goals as goal

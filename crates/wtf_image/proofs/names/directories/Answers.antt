@@ -1,5 +1,5 @@
 use Rattle.std.proofs.Common.{sym, ap, ◌∙◌}
-use Rattle.wtf_image.specs.Lookups.{added_name}
+use Rattle.wtf_imagefmt.specs.Lookups.{added_name}
 use Rattle.wtf_image.proofs.NameTables.{names_more}
 use Rattle.wtf_image.proofs.names.directories.Goals as goal
 

@@ -1,5 +1,5 @@
 use Rattle.std.proofs.Common.{◌≡◌, ℕ, List, take}
-use Rattle.wtf_image.specs.Lookups.{names_under}
+use Rattle.wtf_imagefmt.specs.Lookups.{names_under}
 use Rattle.wtf_image.specs.Tables.{names_in}
 use Rattle.wtf_image.proofs.names.directories.Given as goal
 

@@ -1,7 +1,7 @@
 use Rattle.std.proofs.Common.{[], ◌∷◌, sym, subst}
 use Rattle.wtf_values.specs.declared.key.Key.TheVariants as keys
 use Rattle.wtf_values.specs.declared.value.Value.TheVariants as value
-use Rattle.wtf_image.specs.Lookups.{NamesAre}
+use Rattle.wtf_imagefmt.specs.Lookups.{NamesAre}
 use Rattle.wtf_image.specs.Seeds.{Adds, dir_seed_by}
 use Rattle.wtf_image.specs.Tables.{names_in}
 use Rattle.wtf_image.proofs.SeedLaws.{adds_one}

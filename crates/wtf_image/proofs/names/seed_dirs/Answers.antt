@@ -1,7 +1,7 @@
 use Rattle.std.proofs.Common.{refl, take, subst}
 use Rattle.std.specs.List.{flat_map}
 use Rattle.wtf_values.specs.declared.key.Key.TheVariants as keys
-use Rattle.wtf_image.specs.Shapes.{path_before}
+use Rattle.wtf_imagefmt.specs.Shapes.{path_before}
 use Rattle.wtf_image.specs.Seeds.{Adds, dir_seed, dir_seed_by}
 use Rattle.wtf_image.proofs.SeedLaws.{still_fresh, not_before, adds_more}
 use Rattle.wtf_image.proofs.Apart.{OwnsDir, path_trans, dir_apart, dir_owns}

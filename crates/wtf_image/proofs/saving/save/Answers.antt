@@ -1,8 +1,8 @@
 use Rattle.std.proofs.Common.{ap}
-use Rattle.wtf_image.specs.declared.records.Image.{Image}
-use Rattle.wtf_image.specs.Rows.{rows_of}
-use Rattle.wtf_image.specs.Saving.{header_of, IsSaveOf}
-use Rattle.wtf_image.proofs.Gathered.{image_form}
+use Rattle.wtf_imagefmt.specs.declared.records.Image.{Image}
+use Rattle.wtf_imagefmt.specs.Rows.{rows_of}
+use Rattle.wtf_imagefmt.specs.Saving.{header_of, IsSaveOf}
+use Rattle.wtf_imagefmt.proofs.Gathered.{image_form}
 use Rattle.wtf_image.proofs.SaveMap.{is_kept}
 use Rattle.wtf_image.proofs.saving.save.Goals as goal
 

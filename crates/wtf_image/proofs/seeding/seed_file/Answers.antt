@@ -1,6 +1,6 @@
 use Rattle.std.proofs.Common.{subst}
 use Rattle.std.specs.List.{flat_map}
-use Rattle.wtf_image.specs.Rows.{region_rows, file_row}
+use Rattle.wtf_imagefmt.specs.Rows.{region_rows, file_row}
 use Rattle.wtf_image.specs.Seeds.{Adds, last_seed, region_seed}
 use Rattle.wtf_image.proofs.SeedLaws.{adds_then}
 use Rattle.wtf_image.proofs.Apart.{inode_apart}

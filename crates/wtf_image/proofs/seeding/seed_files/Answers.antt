@@ -2,8 +2,8 @@ use Rattle.std.proofs.Common.{◌≡◌, true, refl, take, subst, sym}
 use Rattle.std.specs.List.{flat_map}
 use Rattle.std.proofs.lemmas.List.Elements.{All-from_recursion}
 use Rattle.wtf_values.specs.declared.key.Key.TheVariants as keys
-use Rattle.wtf_image.specs.Rows.{FileRow, file_row, file_rows}
-use Rattle.wtf_image.specs.Shapes.{file_before, ascends, region_before}
+use Rattle.wtf_imagefmt.specs.Rows.{FileRow, file_row, file_rows}
+use Rattle.wtf_imagefmt.specs.Shapes.{file_before, ascends, region_before}
 use Rattle.wtf_image.specs.Seeds.{file_seeds}
 use Rattle.wtf_image.proofs.SeedLaws.{still_fresh, not_before, adds_more, row_here, row_inside}
 use Rattle.wtf_image.proofs.Apart.{OwnsFile, ItsInode, ItsRegion, file_trans, file_apart, file_owns}

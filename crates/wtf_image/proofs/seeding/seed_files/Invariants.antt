@@ -1,6 +1,6 @@
 use Rattle.std.proofs.Common.{take}
 use Rattle.std.specs.List.{flat_map}
-use Rattle.wtf_image.specs.Rows.{file_rows}
+use Rattle.wtf_imagefmt.specs.Rows.{file_rows}
 use Rattle.wtf_image.specs.Seeds.{Adds, file_seeds}
 use Rattle.wtf_image.proofs.seeding.seed_files.Given as goal
 

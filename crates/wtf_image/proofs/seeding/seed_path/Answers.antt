@@ -1,7 +1,7 @@
 use Rattle.std.proofs.Common.{[], ◌∷◌, subst}
 use Rattle.wtf_values.specs.declared.key.Key.TheVariants as keys
 use Rattle.wtf_values.specs.declared.value.Value.TheVariants as value
-use Rattle.wtf_image.specs.Lookups.{NodeIs}
+use Rattle.wtf_imagefmt.specs.Lookups.{NodeIs}
 use Rattle.wtf_image.specs.Seeds.{Adds}
 use Rattle.wtf_image.proofs.SeedLaws.{adds_one}
 use Rattle.wtf_image.proofs.seeding.seed_path.Goals as goal

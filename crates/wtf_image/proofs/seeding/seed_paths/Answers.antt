@@ -1,7 +1,7 @@
 use Rattle.std.proofs.Common.{refl, take}
 use Rattle.std.specs.List.{flat_map}
 use Rattle.wtf_values.specs.declared.key.Key.TheVariants as keys
-use Rattle.wtf_image.specs.Shapes.{path_before}
+use Rattle.wtf_imagefmt.specs.Shapes.{path_before}
 use Rattle.wtf_image.specs.Seeds.{path_seed}
 use Rattle.wtf_image.proofs.SeedLaws.{still_fresh, not_before, adds_more}
 use Rattle.wtf_image.proofs.Apart.{OwnsPath, path_trans, path_apart, path_owns}

@@ -1,8 +1,8 @@
 use Rattle.std.proofs.Common.{refl, take}
 use Rattle.std.specs.List.{flat_map}
 use Rattle.wtf_values.specs.declared.key.Key.TheVariants as keys
-use Rattle.wtf_image.specs.Rows.{region_row, region_rows}
-use Rattle.wtf_image.specs.Shapes.{region_before}
+use Rattle.wtf_imagefmt.specs.Rows.{region_row, region_rows}
+use Rattle.wtf_imagefmt.specs.Shapes.{region_before}
 use Rattle.wtf_image.specs.Seeds.{region_seed}
 use Rattle.wtf_image.proofs.SeedLaws.{still_fresh, not_before, adds_more, row_here, row_inside}
 use Rattle.wtf_image.proofs.Apart.{OwnsRegion, region_trans, region_apart, region_owns}

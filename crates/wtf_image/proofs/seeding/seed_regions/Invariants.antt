@@ -1,6 +1,6 @@
 use Rattle.std.proofs.Common.{take}
 use Rattle.std.specs.List.{flat_map}
-use Rattle.wtf_image.specs.Rows.{region_rows}
+use Rattle.wtf_imagefmt.specs.Rows.{region_rows}
 use Rattle.wtf_image.specs.Seeds.{Adds, region_seed}
 use Rattle.wtf_image.proofs.seeding.seed_regions.Given as goal
 

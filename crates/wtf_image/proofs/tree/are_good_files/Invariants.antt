@@ -1,6 +1,6 @@
 use Rattle.std.proofs.Common.{◌≡◌, drop}
 use Rattle.std.specs.List.{list_all}
-use Rattle.wtf_image.specs.Rows.{file_rows}
+use Rattle.wtf_imagefmt.specs.Rows.{file_rows}
 use Rattle.wtf_image.specs.Rules.{is_good_file}
 use Rattle.wtf_image.proofs.tree.are_good_files.Given as goal
 

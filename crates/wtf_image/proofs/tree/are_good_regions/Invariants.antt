@@ -1,6 +1,6 @@
 use Rattle.std.proofs.Common.{◌≡◌, drop}
 use Rattle.std.specs.List.{list_all}
-use Rattle.wtf_image.specs.Rows.{region_rows}
+use Rattle.wtf_imagefmt.specs.Rows.{region_rows}
 use Rattle.wtf_image.specs.Rules.{is_good_region}
 use Rattle.wtf_image.proofs.tree.are_good_regions.Given as goal
 

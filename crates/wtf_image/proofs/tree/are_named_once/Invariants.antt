@@ -1,7 +1,7 @@
 use Rattle.std.proofs.Common.{◌≡◌, drop}
 use Rattle.std.specs.List.{list_all}
 use Rattle.std.specs.Prelude.{◌==◌}
-use Rattle.wtf_image.specs.Rows.{file_rows}
+use Rattle.wtf_imagefmt.specs.Rows.{file_rows}
 use Rattle.wtf_image.specs.Tables.{count_in}
 use Rattle.wtf_image.proofs.tree.are_named_once.Given as goal
 

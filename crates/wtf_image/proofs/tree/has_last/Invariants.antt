@@ -1,6 +1,6 @@
 use Rattle.std.proofs.Common.{◌≡◌, drop}
 use Rattle.std.specs.List.{list_any}
-use Rattle.wtf_image.specs.Rows.{region_rows}
+use Rattle.wtf_imagefmt.specs.Rows.{region_rows}
 use Rattle.wtf_image.specs.Rules.{is_last}
 use Rattle.wtf_image.proofs.tree.has_last.Given as goal
 

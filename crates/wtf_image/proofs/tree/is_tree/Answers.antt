@@ -2,9 +2,9 @@ use Rattle.std.proofs.Common.{◌≡◌, List, true, eqb, sym, subst, ◌∙◌}
 use Rattle.std.specs.List.{list_all}
 use Rattle.std.specs.Prelude.{count_by}
 use Rattle.wtf_base.specs.declared.ids.InodeId.{InodeId}
-use Rattle.wtf_image.specs.declared.records.PathRecord.{PathRecord}
-use Rattle.wtf_image.specs.declared.records.FileRecord.{FileRecord}
-use Rattle.wtf_image.specs.Rows.{rows_of, file_rows}
+use Rattle.wtf_imagefmt.specs.declared.records.PathRecord.{PathRecord}
+use Rattle.wtf_imagefmt.specs.declared.records.FileRecord.{FileRecord}
+use Rattle.wtf_imagefmt.specs.Rows.{rows_of, file_rows}
 use Rattle.wtf_image.specs.Rules.{is_name_of, is_good_file}
 use Rattle.wtf_image.specs.Tables.{count_in, shown, has_shown_parent, is_shown_node}
 use Rattle.wtf_image.proofs.TreeLaws.{top_is, parents_are, recorded_are, named_are, tree_is}

@@ -1,7 +1,0 @@
-use Rattle.wtf_image.specs.Rows.{file_rows}
-use Rattle.wtf_image.specs.Seeds.{AreRegionsAscending}
-use Rattle.wtf_image.proofs.Gathered.{FilesWalked}
-use Rattle.wtf_image.proofs.gather.files_now.Given as goal
-
-abbrev pub invariant-loop-key : goal.invariant-loop-key
-invariant-loop-key l = FilesWalked l.kv (file_rows l.files.items) l.key-iterator × AreRegionsAscending (file_rows l.files.items)

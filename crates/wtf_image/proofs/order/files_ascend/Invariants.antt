@@ -1,7 +1,0 @@
-use Rattle.std.proofs.Common.{◌≡◌, drop}
-use Rattle.wtf_image.specs.Rows.{file_row, file_rows}
-use Rattle.wtf_image.specs.Shapes.{ascends_from, ascends, file_before}
-use Rattle.wtf_image.proofs.order.files_ascend.Given as goal
-
-abbrev pub invariant-loop-file : goal.invariant-loop-file
-invariant-loop-file l = ascends_from file_before (file_row l.before) (file_rows (drop l.file-index l.rest)) ≡ ascends file_before (file_rows l.files)

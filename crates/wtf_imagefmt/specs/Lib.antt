@@ -1,0 +1,10 @@
+pub mod Rows
+pub mod Texts
+pub mod Shapes
+pub mod Reading
+pub mod Images
+pub mod Writing
+pub mod Lookups
+pub mod Shown
+pub mod Saving
+pub mod Savable
