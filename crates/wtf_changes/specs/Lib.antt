@@ -1,0 +1,9 @@
+pub mod Rows
+pub mod Texts
+pub mod Shapes
+pub mod Reading
+pub mod Writing
+pub mod Outcome
+pub mod Drafts
+pub mod Since
+pub mod Law
