@@ -1,0 +1,39 @@
+-- How the program ends, and its devices.
+use Rattle.std.specs.Prelude.{◌≡◌, ◌⊎◌, ◌==◌, Bool, false, not, ℕ, zero, suc, List, [], ◌∷◌, ◌++◌, map, replicate}
+use Rattle.wtf_dev.specs.Calls.{uncalled}
+use Rattle.wtf_dev.specs.Memory.{StoreState, KeeperState}
+use Rattle.wtf_real.specs.declared.fault.OpenFault.{OpenFault}
+use Rattle.wtf_real.specs.declared.fault.OpenFault.TheVariants.{Failed, Memory}
+use Rattle.wtf_real.specs.Folders.{FolderState, folder_of}
+use Rattle.wtf_healer.specs.Runs.{IsStatus}
+
+-- the status where a device could not be opened
+abbrev pub open_status : OpenFault → ℕ
+open_status Failed = 10
+open_status Memory = 7
+
+-- the statuses that the program ends with
+abbrev pub IsEnd : ℕ → Type 0
+IsEnd status = (status ≡ 10) ⊎ IsStatus status
+
+-- a word names a folder: it has a byte, and does not look like an option
+abbrev pub is_name : List ℕ → Bool
+is_name [] = false
+is_name (b ∷ bytes) = not (b == 45)
+
+-- a store in memory with eight empty files, which fails only for want of memory
+abbrev pub empty_store : StoreState
+empty_store = record { files = replicate 8 []; calls = uncalled []; syncs = 0 }
+
+-- a keeper in memory that holds no image, which fails only for want of memory
+abbrev pub empty_keeper : KeeperState
+empty_keeper = record { bytes = []; calls = uncalled [] }
+
+-- the folders that stores are in
+abbrev pub folders : List FolderState → List (List ℕ)
+folders stores = map (λ (s : FolderState). s.folder) stores
+
+-- the folders of the first servers in a folder of this path
+abbrev pub folders_of : List ℕ → ℕ → List (List ℕ)
+folders_of dir zero = []
+folders_of dir (suc k) = folders_of dir k ++ folder_of dir k ∷ []

@@ -1,0 +1,8 @@
+use Rattle.std.proofs.Common.{sym, ◌∙◌}
+use Rattle.wtf_healer.proofs.Faulting.{one_fault}
+use Rattle.wtf_healer.proofs.entries.restore_one.Goals as goal
+
+pub returns-in-Err-clause-fault : goal.returns-in-Err-clause-fault
+returns-in-Err-clause-fault g c =
+    one_fault g.met.S.SliceStore.laws c.args.dev.now c.stored.new.dev c.args.e c.in-Err.why (sym c.is_sparse_part.ensures ∙ c.if-not-is_sparse_part.false)
+    c.in-Err.ensures.fault

@@ -1,0 +1,10 @@
+use Rattle.wtf_healer.proofs.Ending.{none_for_memory, over}
+use Rattle.wtf_healer.proofs.program.heal_and_tell.Goals as goal
+
+pub tell-status-requires : goal.tell-status-requires
+tell-status-requires g c = none_for_memory _ _ _ c.run-ended.result c.run-ended.ensures.stopped
+
+pub returns-clause-over : goal.returns-clause-over
+returns-clause-over g c =
+    over _ _ _ _ (λ v. v.items) c.tell-status.result c.run-ended.result c.run-ended.ensures.done c.run-ended.ensures.stopped c.tell-status.ensures.done
+    c.tell-status.ensures.stopped

@@ -1,0 +1,11 @@
+pub mod Words
+pub mod Spared
+pub mod Sparse
+pub mod Live
+pub mod Bases
+pub mod Restored
+pub mod Regions
+pub mod Lines
+pub mod Runs
+pub mod Steps
+pub mod Ends

@@ -1,0 +1,111 @@
+-- What comes of the entries of a list whose slices have too few copies.
+use Rattle.std.specs.Prelude.{◌≡◌, ℕ, ◌+◌, ◌*◌, ◌<◌, Bool, true, false, List, [], ◌∷◌, length, slice_index_or, Some, ⊤}
+use Rattle.std.specs.List.{All, Contains}
+use Rattle.wtf_base.specs.declared.fault.Fault.{Fault}
+use Rattle.wtf_base.specs.declared.fault.Fault.TheVariants as fault
+use Rattle.wtf_base.specs.declared.slice.Slice.{Slice}
+use Rattle.wtf_base.specs.Slices.{len_of}
+use Rattle.wtf_base.specs.Places.{places_of}
+use Rattle.wtf_dev.specs.Store.{StoreKind}
+use Rattle.wtf_dev.specs.Sums.{all_stored}
+use Rattle.wtf_overlay.specs.Clips.{Within}
+use Rattle.wtf_overlay.specs.Meaning.{meaning}
+use Rattle.wtf_overlay.specs.Origin.{part_origin}
+use Rattle.wtf_overlay.specs.declared.part.Entry.{Entry}
+use Rattle.wtf_replica.specs.Faults.{IsWriteFault}
+use Rattle.wtf_replica.specs.Outs.{HasRisen, IsLeftDown, SameSyncs}
+use Rattle.wtf_replica.specs.Spans.{Span}
+use Rattle.wtf_meta.specs.Bytes.{EntryBytes, SliceBytes}
+use Rattle.wtf_meta.specs.Contents.{Told}
+use Rattle.wtf_region.specs.declared.dev.Dev.{Dev}
+use Rattle.wtf_region.specs.Devs.{stores, is_down_in, told_in, between}
+use Rattle.wtf_region.specs.Showing.{meaning_up, LacksPart, IsPartFault}
+use Rattle.wtf_healer.specs.Bases.{inside_left}
+use Rattle.wtf_healer.specs.Sparse.{is_sparse, is_sparse_part, has_sparse, sparse_bytes}
+
+-- the stores of the servers that are up tell their content
+abbrev pub TellUp : {S : Type 0} → StoreKind S → (ℕ → Bool) → List S → Type 0
+TellUp {S} kind down shelf = (k : ℕ) (d : S) → k < length shelf → down k ≡ false → (kind.view (slice_index_or shelf k d)).tells ≡ true
+
+-- f stands where e stood
+pub record IsPlaced (e f : Entry) : Type 0 where
+  pub off : f.off ≡ e.off
+  pub len : f.len ≡ e.len
+
+-- and each byte of e that its copies on servers that are up told is told by all copies of f now
+pub record Keeps (down : ℕ → Bool) (told now : Told) (e f : Entry) : Type 0 where
+  pub placed : IsPlaced e f
+  pub bytes : (i b : ℕ) → i < e.len → meaning_up down told (part_origin e.part i) ≡ Some b → meaning now (part_origin f.part i) ≡ Some b
+
+-- the entries of a list, one by one
+abbrev pub AreKept : (ℕ → Bool) → Told → Told → List Entry → List Entry → Type 0
+AreKept down told now [] [] = ⊤
+AreKept down told now (e ∷ es) (f ∷ fs) = Keeps down told now e f × AreKept down told now es fs
+AreKept down told now [] (f ∷ fs) = ⊥
+AreKept down told now (e ∷ es) [] = ⊥
+
+-- no store failed in a span
+abbrev pub NoneRose : {S : Type 0} → StoreKind S → Span S → Type 0
+NoneRose kind t = (k : ℕ) → HasRisen kind t.before t.after k → ⊥
+
+-- so many bytes were stored anew, each with as many copies as the settings ask for: where no store failed, that is all that the
+-- stores together grew by
+abbrev pub Grew : {S : Type 0} → StoreKind S → (old new : Dev S) → ℕ → Type 0
+Grew kind old new n = NoneRose kind (between old new) → all_stored kind (stores new) ≡ all_stored kind (stores old) + old.settings.replicas * n
+
+-- A slice of the bytes of an entry was stored anew: what the copies of the entry on servers that are up told, all copies of the slice
+-- tell. It has as many copies as the settings ask for, none on a server that is down.
+pub record IsStoredFor {S : Type 0} (kind : StoreKind S) (old new : Dev S) (e : Entry) (s : Slice) : Type 0 where
+  pub len : len_of s ≡ e.len
+  pub keeps : TellUp kind (is_down_in old) (stores old) → (i b : ℕ) → i < e.len
+      → meaning_up (is_down_in old) (told_in kind old) (part_origin e.part i) ≡ Some b → meaning (told_in kind new) (places_of s i) ≡ Some b
+  pub whole : is_sparse (is_down_in old) old.settings.replicas s ≡ false
+  pub inside : SliceBytes (inside_left kind new) s
+  pub grew : Grew kind old new e.len
+
+-- the entry f stands in the place of e, and no slice of it is sparse
+pub record IsRestored {S : Type 0} (kind : StoreKind S) (old new : Dev S) (e f : Entry) : Type 0 where
+  pub placed : IsPlaced e f
+  pub keeps : TellUp kind (is_down_in old) (stores old) → Keeps (is_down_in old) (told_in kind old) (told_in kind new) e f
+  pub whole : is_sparse_part (is_down_in old) old.settings.replicas f.part ≡ false
+  pub inside : EntryBytes (inside_left kind new) f
+  pub grew : Grew kind old new (sparse_bytes (is_down_in old) old.settings.replicas (e ∷ []))
+
+-- The list fs stands in the place of es: it shows the same bytes, no slice of it is sparse, and all that it names lies inside
+-- the stores. The sparse entries of es were stored anew, n bytes, and no other one.
+pub record AreRestored {S : Type 0} (kind : StoreKind S) (old new : Dev S) (es fs : List Entry) (n : ℕ) : Type 0 where
+  pub keeps : TellUp kind (is_down_in old) (stores old) → AreKept (is_down_in old) (told_in kind old) (told_in kind new) es fs
+  pub whole : has_sparse (is_down_in old) old.settings.replicas fs ≡ false
+  pub within : (end : ℕ) → Within end es → Within end fs
+  pub inside : All (EntryBytes (inside_left kind new)) fs
+  pub bytes : n ≡ sparse_bytes (is_down_in old) old.settings.replicas es
+
+-- the stores were read and written, no other way: none on a server that is down was touched, and none was synced
+pub record OnlyStored {S : Type 0} (kind : StoreKind S) (t : Span S) : Type 0 where
+  pub down : IsLeftDown t
+  pub syncs : SameSyncs kind t.before t.after
+
+-- an entry was not read, as all servers of its slice are out, the last of them k
+abbrev pub IsEntryFault : {S : Type 0} → StoreKind S → Span S → Entry → Fault → Type 0
+IsEntryFault kind t e why = IsPartFault kind t e.part why
+
+-- why an entry was not stored anew; memory may be short at any time
+abbrev pub IsAnewFault : {S : Type 0} → StoreKind S → (old new : Dev S) → Entry → Fault → Type 0
+IsAnewFault kind old new e (fault.Read k) = LacksPart kind (between old new) e.part k.0
+IsAnewFault kind old new e fault.Write = IsWriteFault kind (between old new) old.settings fault.Write
+IsAnewFault kind old new e fault.Memory = ⊤
+IsAnewFault kind old new e other = ⊥
+
+-- a sparse entry of a list was not read, as all servers of its slice are out, the last of them k
+pub record LacksEntry {S : Type 0} (kind : StoreKind S) (old new : Dev S) (es : List Entry) (k : ℕ) : Type 0 where
+  pub entry : Entry
+  pub there : Contains es entry
+  pub sparse : is_sparse_part (is_down_in old) old.settings.replicas entry.part ≡ true
+  pub lacks : LacksPart kind (between old new) entry.part k
+
+-- why a list was not restored; memory may be short at any time
+abbrev pub IsRestoreFault : {S : Type 0} → StoreKind S → (old new : Dev S) → List Entry → Fault → Type 0
+IsRestoreFault kind old new es (fault.Read k) = LacksEntry kind old new es k.0
+IsRestoreFault kind old new es fault.Write = IsWriteFault kind (between old new) old.settings fault.Write
+IsRestoreFault kind old new es fault.Memory = ⊤
+IsRestoreFault kind old new es other = ⊥
