@@ -1,12 +1,12 @@
 # `make help` lists the targets. Each needs `rt`, the command of the Rattle kit, on the path.
 
 .DEFAULT_GOAL := build
-.PHONY: build demo demo-bytes demo-edges run test bench hostile clean help
+.PHONY: build demo demo-bytes demo-edges run test bench believe hostile clean help
 
 DIR := -
 WORDS :=
 
-build: ## prove all crates side by side, put the programs in build/: wtf, wtf_file, wtf_check
+build: ## prove all crates side by side, put the programs in build/: wtf, wtf_file, wtf_check, wtf_heal
 	@tools/build
 
 demo: ## run examples/ and compare, built fast, unproved (1 to 2 minutes)
@@ -15,9 +15,11 @@ demo: ## run examples/ and compare, built fast, unproved (1 to 2 minutes)
 run: ## SCRIPT=FILE [DIR=..] [WORDS=..]: run a script, by build/wtf where it is newer than the sources
 	@tools/run-fast "$(SCRIPT)" "$(DIR)" $(WORDS)
 
-demo-bytes: build ## 1 MiB in and out; a store gone on with (seconds after the build)
+demo-bytes: build ## 1 MiB in and out; records sorted; a store gone on with; lost servers healed (a minute after the build)
 	@examples/bytes.sh
+	@examples/records.sh
 	@examples/again/run.sh
+	@examples/heal.sh
 
 demo-edges: build ## closed streams, a folder in use, wrong first words (seconds after the build)
 	@tools/edges build/wtf
@@ -27,6 +29,9 @@ test: ## the gate, rt ci, on everything (the first time, the longest)
 
 bench: build ## print tables of what calls, lines, long lists and scans cost (minutes)
 	@tools/bench
+
+believe: ## whether docs/BELIEVE.md lists what the clauses of the programs' calls cite (at once)
+	@tools/believe --page | diff docs/BELIEVE.md - && echo "docs/BELIEVE.md is up to date"
 
 hostile: build ## run the program over devices that fail, cut scripts, damaged images, and want of memory (minutes)
 	@cd crates/wtf_hostile && exec rt run -- more
