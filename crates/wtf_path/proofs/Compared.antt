@@ -1,5 +1,5 @@
 -- The order of texts, part by part and as numbers.
-use Rattle.std.proofs.Common.{◌≡◌, ℕ, zero, suc, ◌+◌, ◌*◌, ◌≤◌, ◌<◌, min, true, false, List, [], ◌∷◌, ◌++◌, length, get_or, take, drop, refl, sym, ap, ◌∙◌, arith, subst, length-drop, Ordering, Less, Equal, Greater, Fits, w8}
+use Rattle.std.proofs.Common.{◌≡◌, ◌≢◌, ℕ, zero, suc, ◌+◌, ◌*◌, ◌≤◌, ◌<◌, min, true, false, List, [], ◌∷◌, ◌++◌, length, get_or, take, drop, refl, sym, ap, ◌∙◌, arith, subst, length-drop, drop-cons, Ordering, Less, Equal, Greater, Fits, w8}
 use Rattle.std.specs.Ordering.{nat_cmp, ordering_then, is_ne, MatchOrdering}
 use Rattle.std.specs.Cmp.Lexicographic.{slice_cmp}
 use Rattle.std.specs.Slice.Scan.{big_endian}
@@ -79,11 +79,28 @@ cut (suc n) (x ∷ xs) (y ∷ ys) p q =
     ap (ordering_then (nat_cmp x y)) (cut n xs ys (omega arith) (omega arith))
     ∙ then_then (nat_cmp x y) (slice_cmp nat_cmp (take n xs) (take n ys)) (slice_cmp nat_cmp (drop n xs) (drop n ys))
 
-past : (n : ℕ) (xs ys : List ℕ) → n ≤ length xs → n ≤ length ys → take n xs ≡ take n ys → slice_cmp nat_cmp xs ys ≡ slice_cmp nat_cmp (drop n xs) (drop n ys)
+pub past : (n : ℕ) (xs ys : List ℕ) → n ≤ length xs → n ≤ length ys → take n xs ≡ take n ys → slice_cmp nat_cmp xs ys ≡ slice_cmp nat_cmp (drop n xs) (drop n ys)
 past n xs ys p q alike =
     cut n xs ys p q
     ∙ ap (λ r. ordering_then r (slice_cmp nat_cmp (drop n xs) (drop n ys)))
     (ap (λ zs. slice_cmp nat_cmp zs (take n ys)) alike ∙ tied_itself nat_list_cmp_total (take n ys))
+
+-- texts that differ in the byte at n
+pub byte-apart : (n : ℕ) (xs ys : List ℕ) (r : Ordering) → n < length xs → n < length ys → take n xs ≡ take n ys
+    → r ≡ nat_cmp (get_or xs n 0) (get_or ys n 0) → get_or xs n 0 ≢ get_or ys n 0 → r ≡ slice_cmp nat_cmp xs ys
+byte-apart n xs ys r p q alike is differ =
+    let x = get_or xs n 0 in
+    let y = get_or ys n 0 in
+    let rest = slice_cmp nat_cmp (drop (suc n) xs) (drop (suc n) ys) in
+    is ∙ decided (nat_cmp x y) rest (ranked x y (nat_cmp x y) refl)
+    ∙ ap (λ zs. slice_cmp nat_cmp zs (y ∷ drop (suc n) ys)) (sym (drop-cons xs n 0 p))
+    ∙ ap (slice_cmp nat_cmp (drop n xs)) (sym (drop-cons ys n 0 q))
+    ∙ sym (past n xs ys (omega arith) (omega arith) alike)
+  where
+    decided : (o rest : Ordering) → MatchOrdering o (get_or xs n 0 < get_or ys n 0) (get_or xs n 0 ≡ get_or ys n 0) (get_or ys n 0 < get_or xs n 0) → o ≡ ordering_then o rest
+    decided Less rest h = refl
+    decided Equal rest h = absurd (differ h)
+    decided Greater rest h = refl
 
 -- eight bytes from n on decide, and else what comes behind them
 pub eight_decide : (n : ℕ) (xs ys : List ℕ) → n + 8 ≤ length xs → n + 8 ≤ length ys → take n xs ≡ take n ys

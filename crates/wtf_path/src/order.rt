@@ -66,7 +66,7 @@ fn compare(first: &[u8], second: &[u8]) -> Ordering
 {
     let both = first.len().min(second.len());
     if both < 8 {
-        return first.cmp(second);
+        return compare_each(first, second);
     }
     let last = both - 8;
     let mut at = 0;
@@ -78,6 +78,21 @@ fn compare(first: &[u8], second: &[u8]) -> Ordering
         at += 8;
     }
     compare_eight(first, second, last).then(first.len().cmp(&second.len()))
+}
+
+/// The same, one byte at a time, which is quick for short texts.
+fn compare_each(first: &[u8], second: &[u8]) -> Ordering
+    ensures { result ≡ slice_cmp nat_cmp first.now second.now }
+{
+    let both = first.len().min(second.len());
+    let mut at = 0;
+    while at < both {
+        if first[at] != second[at] {
+            return first[at].cmp(&second[at]);
+        }
+        at += 1;
+    }
+    first.len().cmp(&second.len())
 }
 
 /// The order of the eight bytes of two texts from one place on.

@@ -23,6 +23,6 @@ returns c =
     let second = c.args.second.now in
     let last : ℕ = c.min-both.result - 8 in
     let alike = fewer last c.loop-at.at first second (omega arith) c.loop-at.invariant.alike in
-    let behind : slice_cmp nat_cmp (drop (last + 8) first) (drop (last + 8) second) ≡ c.cmp-2.result =
-    ends (last + 8) first second (omega arith) ∙ sym c.cmp-2.ensures in
+    let behind : slice_cmp nat_cmp (drop (last + 8) first) (drop (last + 8) second) ≡ c.cmp.result =
+    ends (last + 8) first second (omega arith) ∙ sym c.cmp.ensures in
     c.then.ensures ∙ rw (c.compare_eight.ensures, ← behind) (sym (eight_decide last first second (omega arith) (omega arith) alike))
