@@ -4,3 +4,8 @@ pub mod Sets
 pub mod Files
 pub mod Drafts
 pub mod Law
+pub mod Seen
+pub mod Drafted
+pub mod Applied
+pub mod Steps
+pub mod Walking

@@ -7,3 +7,6 @@ pub mod Outcome
 pub mod Drafts
 pub mod Since
 pub mod Law
+pub mod Kept
+pub mod Applying
+pub mod Walk
