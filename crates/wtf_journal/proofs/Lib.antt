@@ -5,3 +5,6 @@ pub mod Torn
 pub mod Bytes
 pub mod Scans
 pub mod Opens
+pub mod Coarse
+pub mod Gives
+pub mod Renewed

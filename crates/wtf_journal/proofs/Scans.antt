@@ -95,12 +95,12 @@ held_or held None = held
 held_or held (Some x) = x
 
 module _ {M : Type 0} (makes : BodyMakes M) where
-  held_after-push : (held : Option M) (bodies : List (List ℕ)) (body : List ℕ)
+  pub held_after-push : (held : Option M) (bodies : List (List ℕ)) (body : List ℕ)
       → held_after makes held (bodies ++ body ∷ []) ≡ make_on makes (held_after makes held bodies) body
   held_after-push held [] body = refl
   held_after-push held (b ∷ bodies) body = held_after-push (make_on makes held b) bodies body
 
-  held_after-none : (bodies : List (List ℕ)) → held_after makes None bodies ≡ None
+  pub held_after-none : (bodies : List (List ℕ)) → held_after makes None bodies ≡ None
   held_after-none [] = refl
   held_after-none (b ∷ bodies) = held_after-none bodies
 

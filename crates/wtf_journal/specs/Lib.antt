@@ -4,3 +4,4 @@ pub mod Follows
 pub mod Views
 pub mod Records
 pub mod Scan
+pub mod Held

@@ -3,13 +3,16 @@
 #![tactic(auto)]
 
 mod fault;
+mod held;
 mod journal;
 mod open;
+mod opened;
 mod scan;
 mod synced;
 mod through;
 
 pub use fault::JournalFault;
 pub use journal::Journal;
+pub use opened::Opened;
 pub use scan::Meaning;
 pub use synced::Synced;

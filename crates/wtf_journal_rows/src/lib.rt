@@ -6,4 +6,6 @@ mod disks;
 #[cfg(test)]
 mod journal;
 #[cfg(test)]
+mod opening;
+#[cfg(test)]
 mod synced;

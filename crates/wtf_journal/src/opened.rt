@@ -1,0 +1,104 @@
+//! Opening a journal of an image and changes.
+
+ghost use Rattle.std.specs.Prelude.{◌≡◌, ◌⊎◌, ◌<◌, ◌∷◌, ◌++◌, ℕ, List, None, true, false, IfOk, OnOk, IsErrOf};
+ghost use Rattle.wtf_dev.specs.Counts.{Rose};
+ghost use Rattle.wtf_dev.specs.Disk.{DiskGoesOn, DiskLeaves, SameElsewhere};
+ghost use Rattle.wtf_journal.specs.Held.{IsOpened, held_by, renewal};
+ghost use Rattle.wtf_journal.specs.Records.{HasBodies, RestsAt};
+ghost use Rattle.wtf_journal.specs.Scan.{IsBadAt, KeepsMeaning};
+
+use crate::held::{Held, IMAGE};
+use crate::{Journal, JournalFault};
+use std::alloc::{AllocError, Global};
+use wtf_dev::Disk;
+
+/// A journal that was opened, and the image that it stands for: no byte where it has no record.
+#[derive(Drop)]
+pub struct Opened {
+    pub journal: Journal,
+    pub image: Vec<u8>,
+}
+
+impl Journal {
+    /// Opens the journal on a disk. A record is 0 and an image, or 1 and changes. Where the last one is of changes, the image
+    /// that they give is added as a record. A stop at any moment of it leaves a journal that stands for what it could stand
+    /// for before.
+    pub fn open<D: Disk>(alloc: Global, disk: &mut D) -> Result<Opened, JournalFault>
+        ensures opened { IfOk result (λ o. (D.kind.view disk.old).tells ≡ true →
+            IsOpened D.kind disk.old disk.new o.journal.end o.image.items) }
+
+        // It is refused exactly where a record is not in the format.
+        ensures refused { (n : ℕ) → IsErrOf result (JournalFault.NotAJournal n) →
+            (D.kind.view disk.old).tells ≡ true →
+            IsBadAt held_by None ((D.kind.view disk.old).file 0).seen n }
+        ensures exact { OnOk result ((D.kind.view disk.old).tells ≡ true → (n : ℕ) →
+            IsBadAt held_by None ((D.kind.view disk.old).file 0).seen n → ⊥) }
+        ensures any_moment { (D.kind.view disk.old).tells ≡ true → DiskLeaves D.kind disk.old disk.new
+            (KeepsMeaning held_by None (D.kind.view disk.old)) }
+        ensures elsewhere { (D.kind.view disk.old).tells ≡ true →
+            SameElsewhere 0 (D.kind.view disk.old) (D.kind.view disk.new) }
+        ensures reach { IfOk result (λ o. (o.journal.failed ≡ false) ×
+            (o.journal.end < (D.kind.view disk.new).size 0)) }
+        ensures goes_on { DiskGoesOn D.kind disk.old disk.new }
+        ensures cause { IsErrOf result JournalFault.Failed →
+            Rose (D.kind.view disk.old).faults (D.kind.view disk.new).faults }
+    {
+        let mut held = Held::none(alloc);
+        let mut journal = match Journal::open_with(alloc, &mut held, disk) {
+            Ok(journal) => journal,
+            Err(why) => return Err(why),
+        };
+        let behind = held.is_behind();
+        let image = held.into_image();
+        match renew(alloc, &mut journal, disk, behind, &image) {
+            Ok(()) => {}
+            Err(why) => return Err(why),
+        }
+        Ok(Opened { journal, image })
+    }
+}
+
+// Adds a record of an image where changes came behind the last one.
+fn renew<D: Disk>(
+    alloc: Global,
+    journal: &mut Journal,
+    disk: &mut D,
+    behind: bool,
+    image: &[u8],
+) -> Result<(), JournalFault>
+    requires whole { journal.old.failed ≡ false }
+    requires reach { journal.old.end < (D.kind.view disk.old).size 0 }
+    ensures rests { OnOk result ((bodies : List (List ℕ)) →
+        (D.kind.view disk.old).tells ≡ true →
+        RestsAt D.kind disk.old journal.old.end bodies →
+        RestsAt D.kind disk.new journal.new.end (bodies ++ renewal behind image.now)) }
+    ensures any_moment { (bodies : List (List ℕ)) →
+        (D.kind.view disk.old).tells ≡ true →
+        RestsAt D.kind disk.old journal.old.end bodies →
+        DiskLeaves D.kind disk.old disk.new
+        (λ c. HasBodies bodies (c 0) ⊎ HasBodies (bodies ++ renewal behind image.now) (c 0)) }
+    ensures elsewhere { (D.kind.view disk.old).tells ≡ true →
+        SameElsewhere 0 (D.kind.view disk.old) (D.kind.view disk.new) }
+    ensures reach { OnOk result ((journal.new.failed ≡ false) ×
+        (journal.new.end < (D.kind.view disk.new).size 0)) }
+    ensures goes_on { DiskGoesOn D.kind disk.old disk.new }
+    ensures cause { IsErrOf result JournalFault.Failed →
+        Rose (D.kind.view disk.old).faults (D.kind.view disk.new).faults }
+    ensures not_refused { (n : ℕ) → IsErrOf result (JournalFault.NotAJournal n) → ⊥ }
+{
+    if !behind {
+        return Ok(());
+    }
+    let body = body_of(alloc, image)?;
+    journal.append(disk, &body)
+}
+
+// The body of a record of an image.
+fn body_of(alloc: Global, image: &[u8]) -> Result<Vec<u8>, AllocError>
+    ensures { IfOk result (λ v. v.items ≡ 0 ∷ image.now) }
+{
+    let mut body = Vec::new(alloc);
+    body.push(IMAGE)?;
+    body.extend_from_slice(image)?;
+    Ok(body)
+}
