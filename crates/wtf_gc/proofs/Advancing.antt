@@ -2,6 +2,7 @@
 use Rattle.std.proofs.Common.{◌≡◌, ℕ, ◌-◌, ◌≤◌, ◌<◌, min, cond, ◌||◌, nat_eq, count_by, false, List, Option, None, Some, refl, sym, ap, ◌∙◌, subst}
 use Rattle.std.proofs.Common.{⊎_elim, inl, inr, arith}
 use Rattle.std.proofs.lemmas.Bool.{eq-eqb, eqb-true, cases_Bool, or_left, or_right, or_cases}
+use Rattle.std.proofs.lemmas.List.Elements.{All-weaker}
 use Rattle.wtf_base.specs.Places.{Place}
 use Rattle.wtf_dev.specs.Store.{StoreKind}
 use Rattle.wtf_kv.specs.Seen.{IsAmong}
@@ -10,8 +11,9 @@ use Rattle.wtf_values.specs.declared.key.Key.{Key}
 use Rattle.wtf_values.specs.declared.region.RegionValue.{RegionValue}
 use Rattle.wtf_values.specs.declared.value.Value.{Value}
 use Rattle.wtf_values.specs.declared.value.Value.TheVariants as value
-use Rattle.wtf_meta.specs.Lists.{Lists}
+use Rattle.wtf_meta.specs.Lists.{Lists, ListFact}
 use Rattle.wtf_region.specs.declared.dev.Dev.{Dev}
+use Rattle.wtf_region.specs.Reads.{IsOfBase}
 use Rattle.wtf_gc.specs.declared.extent.Extent.{Extent}
 use Rattle.wtf_gc.specs.declared.parts.Parts.{Parts}
 use Rattle.wtf_gc.specs.Extents.{covers, no_places}
@@ -90,6 +92,11 @@ pub read_over : {S : Type 0} (kind : StoreKind S) (dev dev' : Dev S) (kv kv' : S
 read_over kind dev dev' kv kv' parts before more after number cells adds read = record {
   facts = read.facts;
   slices = λ P Q bases. read.slices P Q (λ v there. bases v (is_in kv kv' number cells parts v there));
+  asked = read.asked;
+  recalls = read.recalls;
+  among = All-weaker (λ (f : ListFact). (v : RegionValue) × IsIn kv parts v × IsOfBase v.base f.slice)
+      (λ (f : ListFact). (v : RegionValue) × IsIn kv' parts v × IsOfBase v.base f.slice)
+      (λ f h. (h.0, is_in kv kv' number cells parts h.0 h.1, h.2)) read.asked read.among;
   finds = λ lists tell.
       let f = read.finds lists tell in
       record {

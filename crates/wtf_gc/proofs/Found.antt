@@ -274,6 +274,10 @@ module _ (kv : Store Key Value) (parts : Parts) (found : List Extent) (bases : L
     facts = read.facts;
     slices = λ P Q lie. slices_of P Q read.facts (subst (λ l. All (λ s. SliceBytes P s × (Q s ≡ true)) l) (sym read.each)
         (All-map (λ s. SliceBytes P s × (Q s ≡ true)) (λ (b : Base). b.slice) sorted (bases_lie P Q lie sorted moved)));
+    asked = read.asked;
+    recalls = read.recalls;
+    among = All-weaker (λ (f : ListFact). Contains (map (λ (b : Base). b.slice) sorted) f.slice)
+        (λ (f : ListFact). (v : RegionValue) × IsIn kv parts v × IsOfBase v.base f.slice) (λ f h. region_of sorted moved f h) read.asked read.among;
     finds = λ lists tell. parts_find sorted moved read.facts read.each after read.adds lists tell;
     inside = read.inside;
     told = read.told;

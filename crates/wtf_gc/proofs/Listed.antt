@@ -75,7 +75,8 @@ module _ {S : Type 0} {kind : StoreKind S} (laws : KindLaws kind) where
     facts = record { slice = s; list = es } ∷ [];
     asked = list_fact s es ∷ [];
     recalls = read.recalls;
-    among = All-cons (λ (f : ListFact). Contains (s ∷ []) f.slice) (list_fact s es) [] (Contains-push [] s) (All-nil (λ (f : ListFact). Contains (s ∷ []) f.slice));
+    among = All-cons (λ (f : ListFact). Contains (s ∷ []) f.slice) (list_fact s es) [] (Contains-push [] s)
+        (All-nil (λ (f : ListFact). Contains (s ∷ []) f.slice));
     each = refl;
     adds = λ p. adds p ∙ ap (λ b. covers found p || b) (sym (or_none (list_has es p)));
     lie = ((inside, refl), tt);

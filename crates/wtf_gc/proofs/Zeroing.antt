@@ -1,11 +1,11 @@
 -- Ranges that were made zeros, and that go on to be.
-use Rattle.std.proofs.Common.{◌≡◌, ◌⊎◌, ℕ, ◌+◌, ◌<◌, ◌≤◌, Bool, true, false, ◌||◌, ◌&&◌, nat_eq, nat_le, nat_lt, List, [], ◌∷◌, ◌++◌, get_or, length, Some, inl, inr}
-use Rattle.std.proofs.Common.{refl, sym, ap, ◌∙◌, subst, arith}
+use Rattle.std.proofs.Common.{◌≡◌, ◌⊎◌, ℕ, ◌+◌, ◌<◌, ◌≤◌, Bool, true, false, ◌||◌, ◌&&◌, nat_eq, nat_le, nat_lt, List, [], ◌∷◌, ◌++◌, get_or, length, Some}
+use Rattle.std.proofs.Common.{inl, inr, sym, ap, ◌∙◌, subst, arith}
 use Rattle.std.specs.Prelude.{◌≢◌, OnOk}
-use Rattle.std.specs.List.{list_any}
 use Rattle.std.specs.declared.result.Result.{Result}
 use Rattle.std.specs.declared.result.Result.TheVariants.{Ok, Err}
-use Rattle.std.proofs.lemmas.Bool.{true≢false, and_parts, and_from, or_parts, cases_Bool, cases_eq, cases_lt, eqb-true, eq-eqb, leb-true, le-leb, ltb-true, lt-ltb}
+use Rattle.std.proofs.lemmas.Bool.{true≢false, and_parts, and_from, or_parts, cases_Bool, cases_eq, cases_lt}
+use Rattle.std.proofs.lemmas.Bool.{eqb-true, eq-eqb, leb-true, le-leb, ltb-true, lt-ltb}
 use Rattle.std.proofs.lemmas.List.Folds.{list_any-append}
 use Rattle.wtf_base.specs.Places.{Place}
 use Rattle.wtf_dev.specs.Each.{EachFollows}
@@ -102,7 +102,8 @@ zeroed_none kind old new = record { up = λ p h. absurd (true≢false (sym h)); 
 
 -- ranges that were, and then one more
 pub zeroed_more : {S : Type 0} {kind : StoreKind S} → KindLaws kind → (old mid new : Dev S) (rs : List (ℕ × Range)) (r : ℕ × Range)
-    → GoesOn kind old mid rs → GoesOn kind mid new (r ∷ []) → AreZeroed kind old mid rs → AreZeroed kind mid new (r ∷ []) → AreZeroed kind old new (rs ++ r ∷ [])
+    → GoesOn kind old mid rs → GoesOn kind mid new (r ∷ []) → AreZeroed kind old mid rs → AreZeroed kind mid new (r ∷ [])
+    → AreZeroed kind old new (rs ++ r ∷ [])
 zeroed_more {kind = kind} laws old mid new rs r goes last was is = record {
   up = λ p h. by_up p h (cases_Bool (lies_in p r));
   zeros = λ tells p h. by_zeros tells p h (cases_Bool (lies_in p r));

@@ -51,10 +51,13 @@ abbrev pub IsBasesFault : {S : Type 0} → StoreKind S → (old new : Dev S) →
 IsBasesFault kind old new bases why = (why ≡ fault.Memory) ⊎ LacksOne kind old new bases why
 
 -- Parts were read: over all lists that agree with what was read of bases, what was found before and now is what the parts find.
--- Each base that a version has was read, and no other slice.
+-- Each base that a version has was read, and no other slice; the lists that were asked for are remembered.
 pub record PartsRead {S : Type 0} (kind : StoreKind S) (old new : Dev S) (kv : Store Key Value) (parts : Parts) (before after : Place → Bool) : Type 0 where
   pub facts : List ListFact
   pub slices : (P : List Place → Bool) (Q : Slice → Bool) → ((v : RegionValue) → IsIn kv parts v → BaseBytes P Q v.base) → ListSlices P Q facts
+  pub asked : List ListFact
+  pub recalls : remembered new ≡ recalled asked (remembered old)
+  pub among : All (λ (f : ListFact). (v : RegionValue) × IsIn kv parts v × IsOfBase v.base f.slice) asked
   pub finds : (lists : Lists) → TellLists lists facts → Finds lists kv parts before after
   pub inside : AreInsideLists kind new facts
   pub told : TellsFacts kind old new facts

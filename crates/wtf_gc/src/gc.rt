@@ -7,7 +7,7 @@ ghost use Rattle.wtf_kv.specs.Stores.{is_live};
 ghost use Rattle.wtf_replica.specs.Inside.{size_in};
 ghost use Rattle.wtf_meta.specs.Maps.{metadata_at};
 ghost use Rattle.wtf_region.specs.Inside.{IsStoredInside};
-ghost use Rattle.wtf_region.specs.Devs.{IsSoundDev, GoesOn, between, stores};
+ghost use Rattle.wtf_region.specs.Devs.{IsSoundDev, GoesOn, between, stores, remembered};
 ghost use Rattle.wtf_region.specs.Showing.{OnlyRead};
 ghost use Rattle.wtf_gc.specs.Pinning.{IsPinnedFor};
 ghost use Rattle.wtf_replica.specs.Outs.{IsLeftDown, SameLengths, SameSyncs};
@@ -251,6 +251,7 @@ impl Gc {
         ensures frees { IfOk result (FreesAll S.kind k dev.old dev.new self.old self.new) }
         ensures fault { IfErr result (IsCollectFault S.kind k dev.old dev.new self.old self.new) }
         ensures down { IsLeftDown (between dev.old dev.new) }
+        ensures lists { remembered dev.new ≡ remembered dev.old }
         ensures lengths { SameLengths S.kind (stores dev.old) (stores dev.new) }
         ensures syncs { SameSyncs S.kind (stores dev.old) (stores dev.new) }
     {

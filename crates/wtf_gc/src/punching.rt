@@ -5,7 +5,7 @@ ghost use Rattle.std.specs.List.{All};
 ghost use Rattle.wtf_replica.specs.Inside.{size_in};
 ghost use Rattle.wtf_replica.specs.Faults.{IsPunchFault};
 ghost use Rattle.wtf_replica.specs.Outs.{IsLeftDown, SameLengths, SameSyncs};
-ghost use Rattle.wtf_region.specs.Devs.{IsSoundDev, GoesOn, between, stores, is_down_in};
+ghost use Rattle.wtf_region.specs.Devs.{IsSoundDev, GoesOn, between, stores, remembered, is_down_in};
 ghost use Rattle.wtf_gc.specs.Frees.{AreZeroed, LiesOn, range_of, ranges_of, tried_on, StopsAt};
 
 use crate::extent::Extent;
@@ -24,6 +24,7 @@ fn free<S: SliceStore>(dev: &mut Dev<'_, S>, e: &Extent) -> Result<(), Fault>
     ensures down { is_down_in dev.old e.now.server ≡ true → stores dev.new ≡ stores dev.old }
     ensures elsewhere { (j : ℕ) (d : S) → j ≢ e.now.server →
         slice_index_or (stores dev.new) j d ≡ slice_index_or (stores dev.old) j d }
+    ensures lists { remembered dev.new ≡ remembered dev.old }
     ensures lengths { SameLengths S.kind (stores dev.old) (stores dev.new) }
     ensures syncs { SameSyncs S.kind (stores dev.old) (stores dev.new) }
 {
@@ -43,6 +44,7 @@ pub(crate) fn free_each<S: SliceStore>(
     ensures zeroed { OnOk result (AreZeroed S.kind dev.old dev.new (ranges_of extents.now)) }
     ensures err { IfErr result (λ s. StopsAt S.kind dev.old dev.new (ranges_of extents.now) s.done s.why) }
     ensures down { IsLeftDown (between dev.old dev.new) }
+    ensures lists { remembered dev.new ≡ remembered dev.old }
     ensures lengths { SameLengths S.kind (stores dev.old) (stores dev.new) }
     ensures syncs { SameSyncs S.kind (stores dev.old) (stores dev.new) }
 {

@@ -16,6 +16,7 @@ loop-done-init g c = record {
   goes_on = goes_nowhere g.met.S.SliceStore.laws c.args.dev.now c.requires.sound;
   are_zeroed = zeroed_none g.S.SliceStore.kind c.args.dev.now c.args.dev.now;
   left_down = λ k d low. refl;
+  same_lists = refl;
   same_lengths = λ k d below f. refl;
   same_syncs = λ k d below. refl;
 }
@@ -63,6 +64,7 @@ loop-done-preserved g c =
       are_zeroed = subst (AreZeroed kind old new) more
           (zeroed_more laws old mid new (ranges_of (take done es)) (range_of e) inv.goes_on c.in_default.ensures.ok inv.are_zeroed c.in_default.ensures.zeroed);
       left_down = left_on laws old mid new (range_of e) inv.goes_on inv.left_down c.free.ensures.down c.free.ensures.elsewhere;
+      same_lists = c.free.ensures.lists ∙ inv.same_lists;
       goes_on = subst (GoesOn kind old new) more
           (goes_on g.met.S.SliceStore.laws inv.goes_on c.in_default.ensures.ok);
       same_lengths = same_lengths_on kind (stores old) (stores mid) (stores new) same inv.same_lengths c.free.ensures.lengths;
