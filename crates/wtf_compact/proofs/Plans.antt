@@ -1,5 +1,5 @@
 -- What is put in a region's place.
-use Rattle.std.proofs.Common.{◌≡◌, ◌⊎◌, ℕ, ◌*◌, ◌++◌, Bool, true, false, List, [], ◌∷◌, Option, None, Some, refl, sym, ap, ◌∙◌, subst, append-nil}
+use Rattle.std.proofs.Common.{◌≡◌, ◌⊎◌, ◌*◌, ◌++◌, Bool, true, false, List, [], ◌∷◌, Option, None, Some, refl, sym, ap, ◌∙◌, subst, append-nil}
 use Rattle.std.proofs.Common.{inl, inr}
 use Rattle.std.specs.List.{All}
 use Rattle.std.proofs.lemmas.List.Elements.{All-nil, All-cons, All-append, All-weaker}
@@ -28,7 +28,7 @@ use Rattle.wtf_meta.proofs.ListFacts.{TellLists-parts, ListsBytes-all}
 use Rattle.wtf_meta.proofs.Weaker.{maybe_stays}
 use Rattle.wtf_replica.specs.Outs.{OtherFilesStay}
 use Rattle.wtf_region.specs.declared.dev.Dev.{Dev}
-use Rattle.wtf_region.specs.Devs.{IsSoundDev, GoesOn, stores, told_in, inside_of, between, place_in}
+use Rattle.wtf_region.specs.Devs.{IsSoundDev, GoesOn, stores, remembered, told_in, inside_of, between, place_in}
 use Rattle.wtf_region.specs.Showing.{OnlyRead}
 use Rattle.wtf_region.proofs.ListReads.{entries_later, facts_later, places_later}
 use Rattle.wtf_region.proofs.ShowLaws.{reads_nothing}
@@ -41,17 +41,14 @@ pub spills_none : (k : JobKind) → spills k 0 ≡ false
 spills_none job.Compact = refl
 spills_none job.Spill = refl
 
-neither : {A : Type 0} (b : Bool) → b ≡ true → b ≡ false → A
+pub neither : {A : Type 0} (b : Bool) → b ≡ true → b ≡ false → A
 neither b is not = let both : true ≡ false = sym is ∙ not in absurd (cc)
-
--- and no compaction does
-pub only_spills : {A : Type 0} (k : JobKind) (end : ℕ) → k ≡ job.Compact → spills k end ≡ true → A
-only_spills k end is stores = neither (spills k end) stores (ap (λ (j : JobKind). spills j end) is)
 
 -- a region that is missing stays so
 pub planned_none : {S : Type 0} (kind : StoreKind S) (dev : Dev S) (t : Target) (now : Option RegionValue) → now ≡ None → IsPlanned kind dev dev t now None
 planned_none kind dev t now none = subst (λ (o : Option RegionValue). IsPlanned kind dev dev t o None) (sym none) (record {
   under = [];
+  recalls = refl;
   stored = [];
   same = record { end = refl; origins = λ lists tell y. refl };
   there = refl;
@@ -71,6 +68,7 @@ pub planned_short : {S : Type 0} (kind : StoreKind S) (old new : Dev S) (t : Tar
     → IsPlanned kind old new t (Some v) (Some x)
 planned_short kind old new t v x es h reads not end base list = record {
   under = h.under;
+  recalls = h.recalls;
   stored = [];
   same = record {
     end = end;
@@ -122,14 +120,16 @@ module _ {S : Type 0} {kind : StoreKind S} (laws : KindLaws kind) {old mid new :
       (h.named (inside_of kind mid) any_slice inside (ListsBytes-all (inside_of kind mid) any_slice facts h.inside))
 
   -- a compact list of the same bytes that was stored
-  pub planned_spilled : (t : Target) (x : RegionValue) (s : Slice) → OnlyRead kind (between old mid) → spills t.kind v.end ≡ true
+  pub planned_spilled : (t : Target) (x : RegionValue) (s : Slice) → remembered new ≡ remembered mid → OnlyRead kind (between old mid)
+      → spills t.kind v.end ≡ true
       → IsStored kind (between mid new) mid.settings.replicas (place_in mid t.inode (t.region * mid.settings.region)) (encoded es) s
       → (TellsAll kind (stores mid) → lists_in new.settings.region (told_in kind new) s ≡ Some es)
       → x.end ≡ v.end → x.base ≡ Some (record { slice = s; visible = v.end }) → x.list ≡ [] → IsPlanned kind old new t (Some v) (Some x)
-  planned_spilled t x s reads is stored tells end base list =
+  planned_spilled t x s kept reads is stored tells end base list =
       let own : ListFact = record { slice = s; list = es } in
       record {
         under = h.under;
+        recalls = kept ∙ h.recalls;
         stored = own ∷ [];
         same = record {
           end = end;

@@ -56,6 +56,7 @@ short_of kind old new v whole es read compact same within named =
     let is : whole ≡ list_of one v = read.is one (told_alone v.base read.under) in
     record {
       under = read.under;
+      recalls = read.recalls;
       compact = compact;
       origins = λ lists tell y. same y ∙ ap (λ (l : List Entry). origin l y) (read.is lists tell);
       within = within v.end (subst (Within v.end) (sym is) (list_within one v));

@@ -20,10 +20,10 @@ use Rattle.wtf_meta.specs.Lists.{Lists, ListFact, TellLists, base_facts, region_
 use Rattle.wtf_meta.specs.Files.{end_of}
 use Rattle.wtf_meta.specs.Contents.{Told, SamePlaces, SameRegion, is_told, is_listed, lists_in}
 use Rattle.wtf_meta.specs.Bytes.{EntryBytes, ListSlices, ListsBytes, MaybeBytes, RegionBytes, any_slice}
-use Rattle.wtf_replica.specs.Outs.{OtherFilesStay}
+use Rattle.wtf_replica.specs.Outs.{IsLeftDown, OtherFilesStay, SameLengths, SameSyncs}
 use Rattle.wtf_region.specs.declared.dev.Dev.{Dev}
 use Rattle.wtf_region.specs.Apart.{are_apart}
-use Rattle.wtf_region.specs.Cached.{RemembersOnly}
+use Rattle.wtf_region.specs.Cached.{RemembersOnly, recalled}
 use Rattle.wtf_region.specs.Devs.{GoesOn, stores, remembered, told_in, between, place_in, RemembersTrue}
 use Rattle.wtf_region.specs.Reads.{IsOfBase, TellsFacts, AreInsideLists, IsRegionFault}
 use Rattle.wtf_region.specs.Showing.{OnlyRead}
@@ -34,11 +34,12 @@ abbrev pub spills : JobKind → ℕ → Bool
 spills job.Compact end = false
 spills job.Spill end = nat_lt 0 end
 
--- The compact list of a region, whose base was read: slices alone, sorted and disjoint, of which no two neighbours could be one.
--- Over all lists that agree with what was read it has each byte of the region at the same places. It passes the region's end
+-- The compact list of a region, whose base was read, and is remembered: slices alone, sorted and disjoint, of which no two neighbours could be
+-- one. Over all lists that agree with what was read it has each byte of the region at the same places. It passes the region's end
 -- nowhere, and names no other bytes than the region and the list of its base.
 pub record IsShortList {S : Type 0} (kind : StoreKind S) (old new : Dev S) (v : RegionValue) (es : List Entry) : Type 0 where
   pub under : List Entry
+  pub recalls : remembered new ≡ recalled (base_facts v.base under) (remembered old)
   pub compact : IsCompact es
   pub origins : (lists : Lists) → TellLists lists (base_facts v.base under) → (y : ℕ) → origin es y ≡ origin (list_of lists v) y
   pub within : Within v.end es
@@ -62,6 +63,12 @@ pub record IsSpilled (stored : List ListFact) (value : Option RegionValue) : Typ
   pub compact : IsCompact own.list
   pub within : Within x.end own.list
 
+-- so is what a job is to put in a region's place, whatever became of its region since
+pub record HasForm (t : Target) (value : Option RegionValue) : Type 0 where
+  pub stored : List ListFact
+  pub short : spills t.kind (end_of value) ≡ false → IsShort stored value
+  pub spilled : spills t.kind (end_of value) ≡ true → IsSpilled stored value
+
 -- Behind the reads, with no other write, the bytes of one list were stored: once on each server of those that the region's place
 -- gives, as every slice is.
 pub record StoresList {S : Type 0} (kind : StoreKind S) (old new : Dev S) (t : Target) (stored : List ListFact) : Type 0 where
@@ -80,9 +87,10 @@ pub record NamesPlanned (now : Option RegionValue) (read stored : List ListFact)
   pub is_in : (P : List Place → Bool) (Q : Slice → Bool) → MaybeBytes P Q now → ListsBytes P Q read → ListSlices P Q stored → MaybeBytes P Q value
 
 -- What is put in a region's place: it has the region's end, and each byte at the same places, over all lists that agree with what
--- was read of its base and with what was stored. A region that is missing stays so.
+-- was read of its base, which is remembered, and with what was stored. A region that is missing stays so.
 pub record IsPlanned {S : Type 0} (kind : StoreKind S) (old new : Dev S) (t : Target) (now value : Option RegionValue) : Type 0 where
   pub under : List Entry
+  pub recalls : remembered new ≡ recalled (region_facts now under) (remembered old)
   pub stored : List ListFact
   pub same : SamePlaces (region_facts now under ++ stored) now value
   pub there : is_some value ≡ is_some now
@@ -103,6 +111,14 @@ IsOfRegion (Some v) s = IsOfBase v.base s
 -- no list came to be remembered but that of the region's base, which was read: so none that was stored
 abbrev pub RemembersItsBase : {S : Type 0} → (old new : Dev S) → Option RegionValue → Type 0
 RemembersItsBase old new now = RemembersOnly (IsOfRegion now) (remembered old) (remembered new)
+
+-- What a plan leaves of the stores, whatever comes of it: none of a server that is down is touched, none is synced, and no file grows, but
+-- where a list is to be stored that to which it goes.
+pub record SparesStores {S : Type 0} (kind : StoreKind S) (old new : Dev S) (t : Target) (now : Option RegionValue) : Type 0 where
+  pub down : IsLeftDown (between old new)
+  pub syncs : SameSyncs kind (stores old) (stores new)
+  pub lengths : spills t.kind (end_of now) ≡ false → SameLengths kind (stores old) (stores new)
+  pub others : OtherFilesStay kind (stores old) (stores new) (place_in old t.inode (t.region * old.settings.region)).file
 
 -- the list of the region was not read, and no store was written
 pub record LacksBase {S : Type 0} (kind : StoreKind S) (old new : Dev S) (now : Option RegionValue) (why : Fault) : Type 0 where

@@ -11,11 +11,10 @@ ghost use Rattle.wtf_meta.specs.Files.{end_of};
 ghost use Rattle.wtf_meta.specs.FileEdits.{region_of};
 ghost use Rattle.wtf_meta.specs.Bytes.{MaybeBytes, RegionBytes, any_slice};
 ghost use Rattle.wtf_meta.specs.Trees.{LeadsTo};
-ghost use Rattle.wtf_region.specs.Devs.{IsSoundDev, GoesOn, stores, told_in, inside_of, between};
-ghost use Rattle.wtf_region.specs.Showing.{OnlyRead};
+ghost use Rattle.wtf_region.specs.Devs.{IsSoundDev, GoesOn, stores, told_in, inside_of};
 ghost use Rattle.wtf_region.specs.Inside.{IsStoredInside};
 ghost use Rattle.wtf_compact.specs.Jobs.{HasRegion, IsFileAt, IsJobOf, job_target, region_at, target_region};
-ghost use Rattle.wtf_compact.specs.Planned.{IsPlanned, IsPlanFault, KeepsRegion, RemembersItsBase, TellsRegion, spills};
+ghost use Rattle.wtf_compact.specs.Planned.{IsPlanned, IsPlanFault, KeepsRegion, RemembersItsBase, SparesStores, TellsRegion, spills};
 
 use crate::spilling::{short_list, store_list};
 use crate::{Job, Target};
@@ -83,7 +82,7 @@ fn planned_value<S: SliceStore>(
     ensures fault { IfErr result
         (IsPlanFault S.kind dev.old dev.new target (Some value.now)) }
     ensures only { RemembersItsBase dev.old dev.new (Some value.now) }
-    ensures reads { target.kind ≡ JobKind.Compact → OnlyRead S.kind (between dev.old dev.new) }
+    ensures spares { SparesStores S.kind dev.old dev.new target (Some value.now) }
     ensures dev { GoesOn S.kind dev.old dev.new [] }
 {
     let list = match short_list(alloc, dev, value) {
@@ -123,7 +122,8 @@ fn planned<S: SliceStore>(
         (target_region (metadata_at kv.now kv.now.number) target)) }
     ensures only { RemembersItsBase dev.old dev.new
         (target_region (metadata_at kv.now kv.now.number) target) }
-    ensures reads { target.kind ≡ JobKind.Compact → OnlyRead S.kind (between dev.old dev.new) }
+    ensures spares { SparesStores S.kind dev.old dev.new target
+        (target_region (metadata_at kv.now kv.now.number) target) }
     ensures dev { GoesOn S.kind dev.old dev.new [] }
 {
     let key = Key::Region(target.inode, target.region);
@@ -164,7 +164,10 @@ fn made<S: SliceStore>(
         LeadsTo (metadata_at kv.now kv.now.number) p.now i →
         RemembersItsBase dev.old dev.new
         (region_at (metadata_at kv.now kv.now.number) i region) }
-    ensures reads { kind ≡ JobKind.Compact → OnlyRead S.kind (between dev.old dev.new) }
+    ensures spares { (i : inode_id.InodeId) →
+        LeadsTo (metadata_at kv.now kv.now.number) p.now i →
+        SparesStores S.kind dev.old dev.new (job_target i region kind)
+        (region_at (metadata_at kv.now kv.now.number) i region) }
     ensures dev { GoesOn S.kind dev.old dev.new [] }
 {
     let path = match p.copy(alloc) {
@@ -243,7 +246,10 @@ pub fn plan<S: SliceStore>(
         LeadsTo (metadata_at kv.old kv.old.number) p.now i →
         RemembersItsBase dev.old dev.new
         (region_at (metadata_at kv.old kv.old.number) i region) }
-    ensures reads { kind ≡ JobKind.Compact → OnlyRead S.kind (between dev.old dev.new) }
+    ensures spares { (i : inode_id.InodeId) →
+        LeadsTo (metadata_at kv.old kv.old.number) p.now i →
+        SparesStores S.kind dev.old dev.new (job_target i region kind)
+        (region_at (metadata_at kv.old kv.old.number) i region) }
     ensures dev { GoesOn S.kind dev.old dev.new [] }
 {
     let job = match made(alloc, dev, &*kv, p, region, kind) {

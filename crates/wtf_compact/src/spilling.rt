@@ -8,7 +8,7 @@ ghost use Rattle.wtf_overlay.specs.Spilled.{encoded};
 ghost use Rattle.wtf_model.specs.declared.limits.TheConstants.{MAX_REGIONS};
 ghost use Rattle.wtf_replica.specs.Copies.{IsStored};
 ghost use Rattle.wtf_replica.specs.Faults.{IsWriteFault};
-ghost use Rattle.wtf_replica.specs.Outs.{OtherFilesStay};
+ghost use Rattle.wtf_replica.specs.Outs.{IsLeftDown, OtherFilesStay, SameSyncs};
 ghost use Rattle.wtf_meta.specs.Bytes.{BaseBytes, SliceBytes, any_slice};
 ghost use Rattle.wtf_meta.specs.Contents.{lists_in};
 ghost use Rattle.wtf_region.specs.Cached.{RemembersOnly};
@@ -70,8 +70,10 @@ pub(crate) fn store_list<S: SliceStore>(
     ensures inside { IfOk result (SliceBytes (inside_of S.kind dev.new)) }
     ensures fault { IfErr result (λ why. (why ≡ Fault.Memory) ⊎
         IsWriteFault S.kind (between dev.old dev.new) dev.old.settings why) }
+    ensures down { IsLeftDown (between dev.old dev.new) }
     ensures others { OtherFilesStay S.kind (stores dev.old) (stores dev.new)
         (place_in dev.old target.inode (target.region * dev.old.settings.region)).file }
+    ensures syncs { SameSyncs S.kind (stores dev.old) (stores dev.new) }
     ensures lists { remembered dev.new ≡ remembered dev.old }
     ensures dev { GoesOn S.kind dev.old dev.new [] }
 {

@@ -6,7 +6,8 @@ use Rattle.wtf_region.specs.Devs.{remembered, inside_of}
 use Rattle.wtf_region.proofs.ListReads.{places_later}
 use Rattle.wtf_region.proofs.Spans.{goes_on}
 use Rattle.wtf_compact.specs.Planned.{IsOfRegion}
-use Rattle.wtf_compact.proofs.Plans.{planned_short, short_inside, planned_spilled, fault_spilled, only_spills}
+use Rattle.wtf_compact.proofs.Plans.{planned_short, short_inside, planned_spilled, fault_spilled}
+use Rattle.wtf_compact.proofs.Sparing.{spares_read, spares_stored}
 use Rattle.wtf_compact.proofs.planning.planned_value.Goals as goal
 
 pub returns-then-not-spills-clause-planned : goal.returns-then-not-spills-clause-planned
@@ -37,7 +38,8 @@ returns-in-Ok-of_slice-clause-planned g c =
     planned_spilled g.met.S.SliceStore.laws c.short_list.ensures.dev c.store_list.ensures.dev v c.in-Ok.list c.in-Ok.ensures.list
     (maybe_stays (inside_of kind old) (inside_of kind mid) (places_later g.met.S.SliceStore.laws c.requires.sound c.short_list.ensures.dev) any_slice any_slice
     (λ s is. is) (Some v) c.requires.inside)
-    c.args.target c.in-Ok-of_slice.planned c.in-Ok-store_list.slice c.short_list.ensures.reads (sym c.spills.ensures ∙ c.if-not-spills.false)
+    c.args.target c.in-Ok-of_slice.planned c.in-Ok-store_list.slice c.store_list.ensures.lists
+    c.short_list.ensures.reads (sym c.spills.ensures ∙ c.if-not-spills.false)
     c.in-Ok-store_list.ensures.stored c.in-Ok-store_list.ensures.told c.in-Ok-of_slice.ensures.end c.in-Ok-of_slice.ensures.base c.in-Ok-of_slice.ensures.list
 
 pub returns-in-Ok-of_slice-clause-dev : goal.returns-in-Ok-of_slice-clause-dev
@@ -46,14 +48,30 @@ returns-in-Ok-of_slice-clause-dev g c = goes_on g.met.S.SliceStore.laws c.short_
 pub returns-clause-dev : goal.returns-clause-dev
 returns-clause-dev g c = goes_on g.met.S.SliceStore.laws c.short_list.ensures.dev c.store_list.ensures.dev
 
-pub returns-in-Err-store_list-clause-reads : goal.returns-in-Err-store_list-clause-reads
-returns-in-Err-store_list-clause-reads g c = λ is. only_spills c.args.target.kind c.args.value.now.end is (sym c.spills.ensures ∙ c.if-not-spills.false)
+pub returns-in-Err-clause-spares : goal.returns-in-Err-clause-spares
+returns-in-Err-clause-spares g c =
+    spares_read g.S.SliceStore.kind c.args.dev.now c.short_list.new.dev c.args.target (Some c.args.value.now) c.short_list.ensures.dev
+    c.short_list.ensures.reads
 
-pub returns-in-Ok-of_slice-clause-reads : goal.returns-in-Ok-of_slice-clause-reads
-returns-in-Ok-of_slice-clause-reads g c = λ is. only_spills c.args.target.kind c.args.value.now.end is (sym c.spills.ensures ∙ c.if-not-spills.false)
+pub returns-then-not-spills-clause-spares : goal.returns-then-not-spills-clause-spares
+returns-then-not-spills-clause-spares g c =
+    spares_read g.S.SliceStore.kind c.args.dev.now c.short_list.new.dev c.args.target (Some c.args.value.now) c.short_list.ensures.dev
+    c.short_list.ensures.reads
 
-pub returns-clause-reads : goal.returns-clause-reads
-returns-clause-reads g c = λ is. only_spills c.args.target.kind c.args.value.now.end is (sym c.spills.ensures ∙ c.if-not-spills.false)
+pub returns-in-Err-store_list-clause-spares : goal.returns-in-Err-store_list-clause-spares
+returns-in-Err-store_list-clause-spares g c =
+    spares_stored g.S.SliceStore.kind c.args.dev.now c.short_list.new.dev c.store_list.new.dev c.args.target (Some c.args.value.now) c.short_list.ensures.dev
+    c.short_list.ensures.reads (sym c.spills.ensures ∙ c.if-not-spills.false) c.store_list.ensures.down c.store_list.ensures.others c.store_list.ensures.syncs
+
+pub returns-in-Ok-of_slice-clause-spares : goal.returns-in-Ok-of_slice-clause-spares
+returns-in-Ok-of_slice-clause-spares g c =
+    spares_stored g.S.SliceStore.kind c.args.dev.now c.short_list.new.dev c.store_list.new.dev c.args.target (Some c.args.value.now) c.short_list.ensures.dev
+    c.short_list.ensures.reads (sym c.spills.ensures ∙ c.if-not-spills.false) c.store_list.ensures.down c.store_list.ensures.others c.store_list.ensures.syncs
+
+pub returns-clause-spares : goal.returns-clause-spares
+returns-clause-spares g c =
+    spares_stored g.S.SliceStore.kind c.args.dev.now c.short_list.new.dev c.store_list.new.dev c.args.target (Some c.args.value.now) c.short_list.ensures.dev
+    c.short_list.ensures.reads (sym c.spills.ensures ∙ c.if-not-spills.false) c.store_list.ensures.down c.store_list.ensures.others c.store_list.ensures.syncs
 
 pub returns-in-Ok-of_slice-clause-only : goal.returns-in-Ok-of_slice-clause-only
 returns-in-Ok-of_slice-clause-only g c =
