@@ -4,7 +4,6 @@ use Rattle.std.proofs.Common.{◌≡◌, ◌⊎◌, ℕ, ◌+◌, ◌<◌, List,
 use Rattle.std.specs.Prelude.{IsSome, Bool, true, nat_lt, ◌-◌}
 use Rattle.std.proofs.lemmas.Bool.{cases_lt, cond-true, cond-false, lt-ltb, le-ltb}
 use Rattle.std.proofs.lemmas.List.Elements.{All-head, All-tail}
-use Rattle.std.proofs.lemmas.List.{get_or_past}
 use Rattle.wtf_steps.specs.Leaving.{LeavesStores}
 use Rattle.wtf_overlay.specs.declared.part.Piece.{Piece}
 use Rattle.wtf_overlay.specs.Origin.{Place, part_origin, pieces_origin}
@@ -24,7 +23,7 @@ use Rattle.wtf_dev.specs.Store.{StoreKind, KindLaws}
 use Rattle.wtf_ring.specs.Points.{PlaceView}
 use Rattle.wtf_replica.specs.Downs.{is_down}
 use Rattle.wtf_replica.specs.Faults.{AreTooFew}
-use Rattle.wtf_replica.specs.Outs.{SameLengths, OtherFilesStay}
+use Rattle.wtf_replica.specs.Outs.{SameLengths}
 use Rattle.wtf_replica.specs.Spans.{Span}
 use Rattle.wtf_model.specs.declared.answer.Answer.{Answer}
 use Rattle.wtf_model.specs.declared.answer.Answer.TheVariants as answer
@@ -51,12 +50,13 @@ use Rattle.wtf_replay.specs.Causes.{StoresNothing, IsOwnOf, IsReadCause, IsPeekC
 use Rattle.wtf_replay.specs.Keeps.{LacksData}
 use Rattle.wtf_clients.specs.Named.{any_byte, has_copies}
 use Rattle.wtf_replica.specs.Copies.{IsStored}
-use Rattle.wtf_clients.specs.Asked.{Asked, IsPlacedBy, IsPlaced, SparesFiles, IsCallPlace, HasFailed}
+use Rattle.wtf_clients.specs.Asked.{Asked, IsPlacedBy, IsPlaced, IsCallPlace, HasFailed}
 use Rattle.wtf_clients.specs.Outcomes.{Load, Data, RegionList, Frees, no_load, AddsBytes, HasCause, data_of_op}
 use Rattle.wtf_clients.proofs.Staying.{IsFault, fault_is}
 use Rattle.wtf_clients.specs.Serves.{IsPlain}
 use Rattle.wtf_clients.proofs.Unread.{slice_copies}
 use Rattle.wtf_clients.proofs.Lacking.{AreFullLists, memory_none, cause_since, file_caused, shown_caused, read_caused}
+use Rattle.wtf_clients.specs.Leaving.{GrowsOnly}
 
 -- the answers of calls are no faults
 pub logged_plain : (a : Answer) → IsLogged a → IsPlain a
@@ -131,29 +131,6 @@ module _ {S : Type 0} (kind : StoreKind S) (t : Span S) (settings : Settings) wh
   refused_adds RegionList (answer.Refused w) r h = h
   refused_adds (Frees k) (answer.Refused w) r h = h
   refused_adds given a r h = absurd r
-
--- a line behind which no file is longer, and one that is no fault of the stores
-pub none_spares : {S : Type 0} (kind : StoreKind S) (t : Span S) (asked : Asked) (a : Answer) → SameLengths kind t.before t.after → SparesFiles kind t asked a
-none_spares kind t asked answer.FaultWrite h = inl h
-none_spares kind t asked a h = tt
-
-pub plain_spares : {S : Type 0} (kind : StoreKind S) (t : Span S) (asked : Asked) (a : Answer) → IsPlain a → SparesFiles kind t asked a
-plain_spares kind t asked answer.FaultWrite h = absurd h
-plain_spares kind t asked a h = tt
-
--- and one behind which only the file is longer to which bytes were to go
-pub some_spares : {S : Type 0} (kind : StoreKind S) (t : Span S) (asked : Asked) (a : Answer) (place : PlaceView) → asked.goes_to place
-    → OtherFilesStay kind t.before t.after place.file → SparesFiles kind t asked a
-some_spares kind t asked answer.FaultWrite place goes h = inr (place, goes, h)
-some_spares kind t asked a place goes h = tt
-
--- other files stay behind reads too
-pub others_since : {S : Type 0} (kind : StoreKind S) (old mid new : List S) (file : ℕ) → length mid ≡ length old → SameLengths kind old mid
-    → OtherFilesStay kind mid new file → OtherFilesStay kind old new file
-others_since {S} kind old mid new file same lengths stays k f d ne = stays k f d ne ∙ elim (cases_lt k (length old)) [
-  | inl below ↦ lengths k d below f
-  | inr past ↦ ap (λ (s : S). (kind.view s).size f) (get_or_past mid k d (omega (arith, past, same)) ∙ sym (get_or_past old k d past))
-]
 
 -- a slice has a byte
 some_len : (n : ℕ) (e : Extents) → IsSound n e → 0 < n
@@ -259,22 +236,20 @@ module _ {S : Type 0} (kind : StoreKind S) (old new : Dev S) where
       by [] cause = absurd (let some = cause.1 in omega (arith, some))
       by (b ∷ bs) cause = subst (λ (r : Answer). AddsBytes kind (between old new) old.settings (Data (b ∷ bs)) r) (sym cause.0) tt
 
-  -- and which files it left as they were
-  own_spares : (o : Option Handle) (place : Handle → PlaceView) (asked : Asked) (a : Answer)
-      → LeavesStores kind (option_map (λ g. (place g).file) o) (between old new) → ((g : Handle) → o ≡ Some g → asked.goes_to (place g))
-      → SparesFiles kind (between old new) asked a
-  own_spares None place asked a h goes = none_spares kind (between old new) asked a h.files
-  own_spares (Some g) place asked a h goes = some_spares kind (between old new) asked a (place g) (goes g refl) h.files
+  -- whatever comes of it, only the file grows to which its bytes were to go
+  own_grows : (o : Option Handle) (place : Handle → PlaceView) (asked : Asked) → LeavesStores kind (option_map (λ g. (place g).file) o) (between old new)
+      → ((g : Handle) → o ≡ Some g → asked.goes_to (place g)) → GrowsOnly kind (between old new) asked
+  own_grows None place asked h goes = inl h.files
+  own_grows (Some g) place asked h goes = inr (place g, goes g refl, h.files)
 
-  pub call_spares : (w : Map) (s : SessionView) (o : Op (List ℕ)) (asked : Asked) (a : Answer)
-      → LeavesStores kind (grown_file old w s o) (between old new) → ((place : PlaceView) → IsCallPlace old w s o place → asked.goes_to place)
-      → SparesFiles kind (between old new) asked a
-  call_spares w s (op.Write f bytes) asked a h goes =
-      own_spares (handle_in s f) (λ g. place_in old g.inode g.off) asked a h (λ g is. goes (place_in old g.inode g.off) (g, is, refl))
-  call_spares w s (op.Append f bytes) asked a h goes =
-      own_spares (handle_in s f) (λ g. place_in old g.inode (end_place old.settings.region (file_of g.inode w))) asked a h
+  pub call_grows : (w : Map) (s : SessionView) (o : Op (List ℕ)) (asked : Asked) → LeavesStores kind (grown_file old w s o) (between old new)
+      → ((place : PlaceView) → IsCallPlace old w s o place → asked.goes_to place) → GrowsOnly kind (between old new) asked
+  call_grows w s (op.Write f bytes) asked h goes =
+      own_grows (handle_in s f) (λ g. place_in old g.inode g.off) asked h (λ g is. goes (place_in old g.inode g.off) (g, is, refl))
+  call_grows w s (op.Append f bytes) asked h goes =
+      own_grows (handle_in s f) (λ g. place_in old g.inode (end_place old.settings.region (file_of g.inode w))) asked h
       (λ g is. goes (place_in old g.inode (end_place old.settings.region (file_of g.inode w))) (g, is, refl))
-  call_spares w s o asked a h goes = none_spares kind (between old new) asked a h.files
+  call_grows w s o asked h goes = inl h.files
 
   -- what a call that failed stored
   pub fault_adds : (w : Map) (s : SessionView) (o : Op (List ℕ)) (why : Fault) (a : Answer) → fault_answer why ≡ Some a → IsCallFault kind old new w s o why

@@ -1,9 +1,9 @@
 -- What a dump shows is the file's bytes, and why it did not.
 use Rattle.std.proofs.Common.{◌≡◌, ℕ, ◌+◌, ◌*◌, ◌<◌, ◌≤◌, min, nat_le, Bool, true, false, List, [], ◌∷◌, length, get_or, Option, None, Some, Result, Ok, Err}
-use Rattle.std.proofs.Common.{refl, sym, ap, ◌∙◌, subst, inl, inr, ◌⊎◌, arith, zero-add}
+use Rattle.std.proofs.Common.{◌≢◌, refl, sym, ap, ◌∙◌, subst, inl, inr, ◌⊎◌, arith, zero-add}
 use Rattle.std.specs.Prelude.{if◌then◌else◌}
 use Rattle.std.specs.FinMap.{get}
-use Rattle.std.proofs.lemmas.Bool.{le-leb, leb-true}
+use Rattle.std.proofs.lemmas.Bool.{le-leb}
 use Rattle.std.proofs.lemmas.Grind.{same_number_lists}
 use Rattle.wtf_base.specs.declared.fault.Fault.{Fault}
 use Rattle.wtf_base.specs.declared.fault.Fault.TheVariants as fault
@@ -22,6 +22,7 @@ use Rattle.wtf_model.specs.declared.limits.TheConstants.{MAX_DUMPED, MAX_REGIONS
 use Rattle.wtf_model.specs.Lawful.{MayFailRead, is_short, dumped, or_refusal}
 use Rattle.wtf_model.specs.Tree.{Tree, TreeNode, Dir, File, ◌>>=◌, bytes_of}
 use Rattle.wtf_values.specs.declared.key.Key.TheVariants.{Path}
+use Rattle.wtf_values.specs.declared.value.Node.{Node}
 use Rattle.wtf_values.specs.declared.value.Node.TheVariants.{Folder, File as FileNode}
 use Rattle.wtf_values.specs.declared.value.Value.{Value}
 use Rattle.wtf_values.specs.declared.value.Value.TheVariants as value
@@ -55,6 +56,10 @@ use Rattle.wtf_clients.specs.Named.{any_byte, has_copies}
 use Rattle.wtf_clients.specs.Outcomes.{no_load, HasCause}
 use Rattle.wtf_clients.specs.Serves.{IsPlain}
 use Rattle.wtf_clients.proofs.Lacking.{AreFullLists, memory_none, read_caused}
+use Rattle.wtf_clients.specs.Turns.{Dumps}
+use Rattle.wtf_clients.proofs.Staying.{IsFault, fault_is}
+use Rattle.wtf_clients.specs.Dumped.{ReadsBases, dump_bases, dump_bases_of}
+use Rattle.wtf_clients.specs.Seeing.{Seeing}
 
 -- a file's places from its begin on
 pub plans_whole : (ps : List Piece) (n : ℕ) (f : ℕ → List Place) → Plans ps n (λ i. f (0 + i)) → Plans ps n f
@@ -74,19 +79,6 @@ shows_file told z v ps n bytes out is short file has plans shown =
     ap (λ j. meaning told (pieces_origin ps j)) (zero-add i) ∙ ap (meaning told) (plans.origin i within) ∙ has.tells i in
     ap (λ l. get_or l i 0) shown.more ∙ shown.are.shows i (get_or bytes i 0) within there) in
     ap answer.Shown same ∙ sym (ap (λ b. if b then answer.Shown bytes else answer.Refused Long) (le-leb (length bytes) MAX_DUMPED (omega (arith, short, len))))
-
--- a file that is too long is refused
-pub too_long : (told : Told) (z : ℕ) (v : FileView) (bytes : List ℕ) → MAX_DUMPED < file_len z v → HasBytes told z v bytes
-    → answer.Refused Long ≡ file_answer bytes
-too_long told z v bytes long has =
-    let len = has.len in
-    let more : MAX_DUMPED < length bytes = omega (arith, long, len) in
-    sym (by (nat_le (length bytes) MAX_DUMPED) refl more)
-  where
-    by : (b : Bool) → nat_le (length bytes) MAX_DUMPED ≡ b → MAX_DUMPED < length bytes
-        → (if b then answer.Shown bytes else answer.Refused Long) ≡ answer.Refused Long
-    by true is more = absurd (omega (arith, more, leb-true (length bytes) MAX_DUMPED is))
-    by false is more = refl
 
 -- what stands at a path, by its value
 module _ (b : ℕ) (told : Told) (w : Map) where
@@ -239,3 +231,19 @@ pub dump_plain : (a : Answer) → IsDumpAnswer a → IsPlain a
 dump_plain (answer.Shown bytes) h = tt
 dump_plain (answer.Refused w) h = tt
 dump_plain a h = absurd h
+
+-- a dump that is refused reads no list
+pub no_bases : {S : Type 0} (dev : Dev S) (w : Map) (p : List ℕ) (word : Word) → ReadsBases dev dev (dump_bases dev.settings.region w p (answer.Refused word))
+no_bases dev w p word = record { facts = []; recalls = refl; wants = by (stands_at w p) }
+  where
+    by : (o : Option Node) → [] ≡ dump_bases_of dev.settings.region w o (answer.Refused word)
+    by None = refl
+    by (Some Folder) = refl
+    by (Some (FileNode i)) = refl
+
+-- a dump answers no collection
+pub uncollected : (z : Seeing) (old new : TablesView) (p : List ℕ) (a : Answer) → Dumps z old new p a → (n : ℕ) → a ≢ answer.Collected n
+uncollected z old new p a dumps n e = elim dumps.answered [
+  | inl shown ↦ subst IsDumpAnswer e shown.0
+  | inr fault ↦ subst IsFault e (fault_is fault.0 a fault.1)
+]

@@ -212,6 +212,7 @@ sound_turned old new c now sound turned = record {
   upto = upto_now old new c now sound turned;
   kept = kept_now old new c now sound turned;
   apart = apart_now old new c now sound turned;
+  formed = λ j x is. sound.formed j x (ap (λ (b : BesideView). of_label b.jobs j) (sym turned.beside) ∙ is);
 }
 
 -- And they stand for the machine, where the client's own transaction does, and the tree now, which no inode of a transaction

@@ -21,6 +21,7 @@ use Rattle.wtf_clients.specs.Views.{BesideView, TablesView, of_client, of_label,
 use Rattle.wtf_clients.specs.Sounds.{all_owned, planned, all_kept, AreSound}
 use Rattle.wtf_clients.specs.Standing.{StandsForSlot, StandsForLabel, TablesStand}
 use Rattle.wtf_clients.specs.Touched.{SinceBase}
+use Rattle.wtf_compact.specs.Planned.{HasForm}
 use Rattle.wtf_clients.specs.JobTurns.{KeepsOthers}
 use Rattle.wtf_clients.proofs.Pins.{number_cases, base_pinned}
 use Rattle.wtf_clients.proofs.Images.{image_on}
@@ -35,6 +36,7 @@ pub record JobTurned (old new : TablesView) (j : ℕ) (now : Option JobView) : T
   pub maps : KeepsMaps old.kv new.kv
   pub pins : (n : ℕ) → times_pinned new.kv n + planned n (of_label old.beside.jobs j) ≡ times_pinned old.kv n + planned n now
   pub based : (x : JobView) → now ≡ Some x → x.base ≤ new.kv.number
+  pub formed : (x : JobView) → now ≡ Some x → HasForm x.target x.value
 
 module _ (old new : TablesView) (j : ℕ) (now : Option JobView) (sound : AreSound old) (turned : JobTurned old new j now) where
   job_clients : (c : ℕ) → of_client new.clients c ≡ of_client old.clients c
@@ -95,6 +97,10 @@ module _ (old new : TablesView) (j : ℕ) (now : Option JobView) (sound : AreSou
     upto = λ n pinned. job_upto_by n now refl (count-any n new.kv.pins pinned);
     kept = λ n here. let was = sound.kept n (image_before n here) in let up = turned.later in omega (arith, was, up);
     apart = λ c d x y is its same. sound.apart c d x y (sym (job_clients c) ∙ is) (sym (job_clients d) ∙ its) same;
+    formed = λ l x is. ⊎_elim
+        (λ same. turned.formed x (sym turned.keeps.jobs.is ∙ ap (of_label new.beside.jobs) (sym same) ∙ is))
+        (λ other. sound.formed l x (sym (turned.keeps.jobs.others l other) ∙ is))
+        (number_cases l j);
   }
 
   -- And they stand for the machine, where the label's own job does, the tree stays, and the transactions and the other jobs see these items

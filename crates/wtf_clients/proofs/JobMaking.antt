@@ -5,6 +5,7 @@ use Rattle.wtf_base.specs.declared.settings.Settings.{Settings}
 use Rattle.wtf_base.specs.declared.slice.Slice.{Slice}
 use Rattle.wtf_dev.specs.Store.{Range, StoreKind}
 use Rattle.wtf_dev.specs.Sums.{TellsAll}
+use Rattle.wtf_kv.specs.Stores.{IsPinnedOnceMore}
 use Rattle.wtf_overlay.specs.Origin.{Place}
 use Rattle.wtf_values.specs.declared.key.Key.TheVariants.{Region}
 use Rattle.wtf_values.specs.declared.region.RegionValue.{RegionValue}
@@ -24,23 +25,27 @@ use Rattle.wtf_meta.proofs.Named.{region_of_bytes}
 use Rattle.wtf_meta.proofs.Weaker.{maybe_stays}
 use Rattle.wtf_region.specs.declared.dev.Dev.{Dev}
 use Rattle.wtf_region.specs.Apart.{are_apart}
-use Rattle.wtf_region.specs.Cached.{TrueBut}
-use Rattle.wtf_region.specs.Devs.{GoesOn, stores, told_in, RemembersTrue}
+use Rattle.wtf_ring.specs.Points.{IsRing}
+use Rattle.wtf_region.specs.Devs.{GoesOn, stores, between, told_in, RemembersTrue}
 use Rattle.wtf_replay.specs.Causes.{fault_answer}
 use Rattle.wtf_replay.specs.Insides.{lists_have}
 use Rattle.wtf_compact.specs.declared.target.Target.{Target}
-use Rattle.wtf_compact.specs.Jobs.{JobView, target_region}
+use Rattle.wtf_compact.specs.Jobs.{JobView, IsJobOf, target_region}
 use Rattle.wtf_compact.specs.Planned.{IsPlanned, KeepsRegion, TellsRegion}
 use Rattle.wtf_clients.specs.Views.{Jobs, BesideView, TablesView, of_label, was_job, with_jobs, with_labels, metadata_now}
 use Rattle.wtf_clients.specs.Sounds.{SetsJob}
-use Rattle.wtf_clients.specs.Turns.{AreTrue, Tells, Reads}
-use Rattle.wtf_clients.specs.Planning.{refusal_of}
+use Rattle.wtf_clients.specs.Turns.{AreTrue, Reads}
+use Rattle.wtf_clients.specs.Planning.{refusal_of, plan_answer}
 use Rattle.wtf_clients.specs.JobTurns.{KeepsOthers, IsMadeOf, Plans, PlanTurn, PlanFails, FreePlan, plan_due, Puts, DropsJob, PutTurn, DropTurn}
 use Rattle.wtf_clients.proofs.JobPins.{set_back, set_none}
-use Rattle.wtf_clients.proofs.Known.{knows}
+use Rattle.wtf_clients.specs.Asked.{lent_by}
+use Rattle.wtf_clients.specs.Seeing.{Seeing, seeing}
+use Rattle.wtf_clients.proofs.Known.{lent_to, knows}
 use Rattle.wtf_clients.proofs.Lives.{now_bytes}
+use Rattle.wtf_clients.proofs.PlanLaws.{plan_is_due}
 use Rattle.wtf_clients.proofs.Making.{at_none, at_some, at_there}
 use Rattle.wtf_clients.proofs.Staying.{IsFault, fault_is}
+use Rattle.std.proofs.Common.{arith, false, ◌<◌, ◌∷◌, ◌++◌}
 
 -- what stands beside, but for the jobs, is what it was
 any_jobs : (old new : BesideView) (jobs : Jobs) → new ≡ with_jobs old jobs → new ≡ with_labels old new.jobs new.scan_jobs
@@ -87,13 +92,11 @@ made_of kind old new t now value h = record {
 module _ {S : Type 0} (kind : StoreKind S) (old new : Dev S) (t : Target) (now value : Option RegionValue) (goes : GoesOn kind old new [])
     (h : IsPlanned kind old new t now value) where
   -- what was read is what its slice decodes to
-  pub made_known : (servers : ℕ)
-      → (Reads (TellsAll kind (stores old)) (RemembersTrue kind old) servers old.settings.region (told_in kind old) (told_in kind new)).known
-      (region_facts now (made_of kind old new t now value h).under)
-  made_known servers = knows kind old new goes (TellsAll kind (stores old)) servers (region_facts now h.under) h.told
+  pub made_known : (Reads (seeing kind (between old new) (lent_by old new))).known (region_facts now h.under)
+  made_known = knows kind old new goes (region_facts now h.under) h.told
 
   -- and over stores that tell, so is what was stored
-  pub made_own : TellsAll kind (stores old) → TellLists (lists_in old.settings.region (told_in kind new)) (made_of kind old new t now value h).stored
+  pub made_own : TellsAll kind (stores old) → TellLists (lists_in old.settings.region (told_in kind new)) h.stored
   made_own all = subst (λ (st : Settings). TellLists (lists_in st.region (told_in kind new)) h.stored) goes.settings (h.told_own all)
 
 -- where the stores tell the map now, they tell each region of it
@@ -115,50 +118,80 @@ tells_region kind dev tables t all kept map =
           (region_of_bytes P Q (w (Region t.inode t.region)) (now_bytes P Q tables kept.away (Region t.inode t.region)));
     }
 
--- so what was planned keeps the region
-pub keeps_region : {S : Type 0} (kind : StoreKind S) (old new : Dev S) (servers : ℕ) (tables : TablesView) (x : JobView) → GoesOn kind old new []
-    → ((ranges : List (ℕ × Range)) → TellsRegion kind old ranges (target_region (metadata_now tables.kv) x.target)
-    → KeepsRegion new.settings.region (told_in kind new) (target_region (metadata_now tables.kv) x.target) x.value)
-    → Tells (TellsAll kind (stores old)) (RemembersTrue kind old) servers old.settings.region (told_in kind old) (told_in kind new) tables (metadata_now tables.kv)
-    → KeepsRegion old.settings.region (told_in kind new) (target_region (metadata_now tables.kv) x.target) x.value
-keeps_region kind old new servers tables x goes keeps tells =
-    subst (λ (st : Settings). KeepsRegion st.region (told_in kind new) (target_region (metadata_now tables.kv) x.target) x.value) goes.settings
-    (keeps tells.1.ranges (tells_region kind old tables x.target tells.0 tells.1 tells.2))
+module _ {S : Type 0} (kind : StoreKind S) (dev new : Dev S) (ring : IsRing dev.settings.servers dev.ring.now.points) (old after : TablesView) (j : ℕ)
+    (jk : JobKind) (p : List ℕ) (r : ℕ) where
+  abbrev z : Seeing
+  z = seeing kind (between dev new) (lent_by dev new)
 
-module _ (Telling : Type 0) (lists : TrueBut) (servers size : ℕ) (told later : Told) (old new : TablesView) (j : ℕ) (kind : JobKind) (p : List ℕ)
-    (r : ℕ) where
   abbrev Turn : Answer → Type 0
-  Turn a = PlanTurn Telling lists servers size told later old new j kind p r a
+  Turn a = PlanTurn z old after j jk p r a
 
-  pub plan_used : is_some (of_label old.beside.jobs j) ≡ true → new ≡ old → Turn (answer.Refused JobInUse)
+  some_region : 0 < dev.settings.region
+  some_region = omega (arith, dev.settings.limits.5)
+
+  -- what is due, by the map
+  due : (o : Option Word) → refusal_of z.size (metadata_now old.kv) p r ≡ o → (tx k : ℕ) (t : Tree) → Stands z.size z.told tx k (metadata_now old.kv) t
+      → plan_due z.size t p r ≡ plan_answer o
+  due o is tx k t st = plan_is_due z.size z.told tx k (metadata_now old.kv) t p r some_region st ∙ ap plan_answer is
+
+  pub plan_used : is_some (of_label old.beside.jobs j) ≡ true → after ≡ old → Turn (answer.Refused JobInUse)
   plan_used there same = at_there (of_label old.beside.jobs j) _ _ there (λ x. record { answer = refl; same = same })
 
-  pub plan_stopped : (w : Word) → of_label old.beside.jobs j ≡ None → new ≡ old → refusal_of size (metadata_now old.kv) p r ≡ Some w
-      → ((tx k : ℕ) (t : Tree) → Stands size told tx k (metadata_now old.kv) t → plan_due size t p r ≡ answer.Refused w) → Turn (answer.Refused w)
-  plan_stopped w none same word due = at_none (of_label old.beside.jobs j) _ _ none (record { same = same; word = word; due = due })
+  pub plan_stopped : (w : Word) → of_label old.beside.jobs j ≡ None → after ≡ old → refusal_of z.size (metadata_now old.kv) p r ≡ Some w
+      → Turn (answer.Refused w)
+  plan_stopped w none same word = at_none (of_label old.beside.jobs j) _ _ none (record { same = same; word = word; due = due (Some w) word })
 
-  pub plan_made : (x : JobView) → of_label old.beside.jobs j ≡ None → (plans : Plans old new j kind p r x)
-      → (Reads Telling lists servers size told later).known (region_facts (target_region (metadata_now old.kv) x.target) plans.made.under)
-      → (Telling → TellLists (lists_in size later) plans.made.stored) → refusal_of size (metadata_now old.kv) p r ≡ None
-      → ((tx k : ℕ) (t : Tree) → Stands size told tx k (metadata_now old.kv) t → plan_due size t p r ≡ answer.Planned)
-      → (Tells Telling lists servers size told later old (metadata_now old.kv) → KeepsRegion size later (target_region (metadata_now old.kv) x.target) x.value)
-      → Turn answer.Planned
-  plan_made x none plans known own free due keeps =
-      at_none (of_label old.beside.jobs j) _ _ none (record { job = x; plans = plans; known = known; own = own; free = free; due = due; keeps = keeps })
-
-  free_fails : (a : Answer) → IsFault a → PlanFails Telling lists servers size told later old new kind p r a
-      → FreePlan Telling lists servers size told later old new j kind p r a
+  free_fails : (a : Answer) → IsFault a → PlanFails z old after jk p r a → FreePlan z old after j jk p r a
   free_fails (answer.FaultRead k) fault h = h
   free_fails answer.FaultWrite fault h = h
   free_fails (answer.FaultPunch k) fault h = h
   free_fails (answer.Damaged k) fault h = h
   free_fails a fault h = absurd fault
 
-  pub plan_failed : (why : Fault) (a : Answer) → fault_answer why ≡ Some a → of_label old.beside.jobs j ≡ None → new ≡ old
-      → refusal_of size (metadata_now old.kv) p r ≡ None
-      → ((tx k : ℕ) (t : Tree) → Stands size told tx k (metadata_now old.kv) t → MayFailPlan servers kind (plan_due size t p r) a) → Turn a
+  pub plan_failed : (why : Fault) (a : Answer) → fault_answer why ≡ Some a → of_label old.beside.jobs j ≡ None → after ≡ old
+      → refusal_of z.size (metadata_now old.kv) p r ≡ None → MayFailPlan z.servers jk answer.Planned a → Turn a
   plan_failed why a is none same free may =
-      at_none (of_label old.beside.jobs j) _ _ none (free_fails a (fault_is why a is) (record { why = why; answer = is; same = same; free = free; may = may }))
+      at_none (of_label old.beside.jobs j) _ _ none (free_fails a (fault_is why a is) (record {
+        why = why;
+        answer = is;
+        same = same;
+        free = free;
+        may = λ tx k t st. subst (λ d. MayFailPlan z.servers jk d a) (sym (due None free tx k t st)) may;
+      }))
+
+  -- ---- a job that was planned
+  module _ (x : JobView) (none : of_label old.beside.jobs j ≡ None) (keeps : KeepsOthers old after j (Some x)) (unmarked : was_job after.beside j ≡ false)
+      (is_kv : after.kv ≡ record old.kv { pins = old.kv.pins ++ old.kv.number ∷ [] }) (pinned : IsPinnedOnceMore old.kv.number old.kv after.kv)
+      (base : x.base ≡ old.kv.number) (job : IsJobOf (metadata_now old.kv) p r jk x)
+      (did : IsPlanned kind dev new x.target (target_region (metadata_now old.kv) x.target) x.value) where
+    abbrev pub plans : Plans old after j jk p r x
+    plans = record {
+      keeps = keeps;
+      unmarked = unmarked;
+      kv = is_kv;
+      pinned = pinned;
+      base = base;
+      job = job;
+      made = made_of kind dev new x.target (target_region (metadata_now old.kv) x.target) x.value did;
+    }
+
+    pub plan_made : GoesOn kind dev new [] → refusal_of z.size (metadata_now old.kv) p r ≡ None
+        → ((ranges : List (ℕ × Range)) → TellsRegion kind dev ranges (target_region (metadata_now old.kv) x.target)
+        → KeepsRegion new.settings.region (told_in kind new) (target_region (metadata_now old.kv) x.target) x.value)
+        → Turn answer.Planned
+    plan_made goes free region = at_none (of_label old.beside.jobs j) _ _ none (record {
+      job = x;
+      plans = plans;
+      recalls = did.recalls;
+      known = made_known kind dev new x.target (target_region (metadata_now old.kv) x.target) x.value goes did;
+      written = λ is. (dev, new, lent_to dev new ring, did.written is);
+      own = made_own kind dev new x.target (target_region (metadata_now old.kv) x.target) x.value goes did;
+      free = free;
+      due = due None free;
+      keeps = λ tells.
+          subst (λ (st : Settings). KeepsRegion st.region (told_in kind new) (target_region (metadata_now old.kv) x.target) x.value) goes.settings
+          (region tells.1.ranges (tells_region kind dev old x.target tells.0 tells.1 tells.2));
+    })
 
 -- ---- a put, and a drop
 module _ (old new : TablesView) (j : ℕ) where

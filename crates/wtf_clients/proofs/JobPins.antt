@@ -72,6 +72,3 @@ job_upto tables j x sound there = sound.upto x.base (job_pinned tables j x sound
 -- where there are no jobs
 pub no_job : (j : ℕ) → of_label no_jobs j ≡ None
 no_job j = none_at None MAX_JOBS j refl
-
-pub none_planned : (n : ℕ) → all_planned n no_jobs ≡ 0
-none_planned n = refl

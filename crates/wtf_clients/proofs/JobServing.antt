@@ -1,10 +1,8 @@
 -- What a plan made of the bytes that the tables name, and of the stores.
-use Rattle.std.proofs.Common.{◌≡◌, ℕ, ◌*◌, ◌/◌, Bool, true, false, nat_lt, List, [], Option, None, Some, refl, sym, ap, ◌∙◌, subst, inl, inr}
+use Rattle.std.proofs.Common.{◌≡◌, ℕ, ◌*◌, Bool, true, false, nat_lt, List, [], Option, None, Some, refl, sym, ap, ◌∙◌, subst, inl, inr}
 use Rattle.std.proofs.Common.{⊎_elim, arith}
 use Rattle.std.specs.Prelude.{⊤}
-use Rattle.std.specs.List.{All}
 use Rattle.std.proofs.lemmas.Bool.{cases_Bool, ltb-true, ltb-false, true≢false}
-use Rattle.std.proofs.lemmas.List.Elements.{All-nil, All-cons}
 use Rattle.wtf_base.specs.declared.fault.Fault.{Fault}
 use Rattle.wtf_base.specs.declared.fault.Fault.TheVariants as fault
 use Rattle.wtf_base.specs.declared.ids.InodeId.{InodeId}
@@ -13,17 +11,16 @@ use Rattle.wtf_base.specs.declared.slice.Slice.{Slice}
 use Rattle.wtf_dev.specs.Store.{StoreKind, KindLaws}
 use Rattle.wtf_overlay.specs.Origin.{Place}
 use Rattle.wtf_overlay.specs.Spilled.{encoded}
-use Rattle.wtf_ring.specs.Points.{PlaceView, IsRing, place_of}
+use Rattle.wtf_ring.specs.Points.{PlaceView, IsRing}
 use Rattle.wtf_replica.specs.Copies.{IsStored}
 use Rattle.wtf_replica.specs.Downs.{is_down}
 use Rattle.wtf_replica.specs.Faults.{AreTooFew}
-use Rattle.wtf_replica.specs.Outs.{IsOut, OtherFilesStay}
+use Rattle.wtf_replica.specs.Outs.{IsOut}
 use Rattle.wtf_replica.specs.Spans.{Span, span}
 use Rattle.wtf_replica.proofs.Spans.{out_since, each_kept}
 use Rattle.wtf_values.specs.declared.region.RegionValue.{RegionValue}
 use Rattle.wtf_model.specs.declared.answer.Answer.{Answer}
 use Rattle.wtf_model.specs.declared.answer.Answer.TheVariants as answer
-use Rattle.wtf_model.specs.declared.answer.Word.{Word}
 use Rattle.wtf_model.specs.declared.event.Event.TheVariants as event
 use Rattle.wtf_model.specs.declared.op.JobKind.{JobKind}
 use Rattle.wtf_model.specs.declared.op.JobKind.TheVariants.{Compact, Spill}
@@ -44,22 +41,22 @@ use Rattle.wtf_steps.proofs.FaultWays.{IsOfServers, region_fault_known}
 use Rattle.wtf_replay.specs.Causes.{fault_answer}
 use Rattle.wtf_compact.specs.declared.target.Target.{Target}
 use Rattle.wtf_compact.specs.Jobs.{JobView, job_target, region_at, target_region}
-use Rattle.wtf_compact.specs.Planned.{IsPlanned, IsShort, StoresList, LacksServers, IsPlanFault, spills}
+use Rattle.wtf_compact.specs.Planned.{IsPlanned, IsShort, SparesStores, StoresList, LacksServers, IsPlanFault, spills}
+use Rattle.wtf_compact.proofs.Sparing.{place_same}
 use Rattle.wtf_clients.specs.Views.{TablesView, of_label, metadata_now}
 use Rattle.wtf_clients.specs.Sounds.{AreSound}
 use Rattle.wtf_clients.specs.Named.{TablesBytes, any_byte, no_slice, has_copies}
-use Rattle.wtf_clients.specs.Asked.{Lending, Asked, asked_of, lent_by, IsPlaced, SparesFiles}
+use Rattle.wtf_clients.specs.Asked.{Asked, asked_of, lent_by, IsPlaced}
 use Rattle.wtf_clients.specs.Outcomes.{Load, no_load, load_of_job, AddsThisList, AddsBytes, IsUnspilled, HasToStore, HasCause}
 use Rattle.wtf_clients.specs.Serves.{AreBased, AreFull, ServesLine}
-use Rattle.wtf_clients.specs.Spilling.{StoresJob, StoresPlan}
+use Rattle.wtf_clients.specs.Leaving.{GrowsOnly}
 use Rattle.wtf_clients.specs.JobTurns.{Plans}
-use Rattle.wtf_clients.proofs.Caused.{plain_caused, plain_failed, has_failed, none_placed, refused_placed, fault_placed, none_added, refused_adds, none_spares, some_spares, others_since}
-use Rattle.wtf_clients.proofs.JobMaking.{made_of}
+use Rattle.wtf_clients.proofs.Caused.{plain_caused, plain_failed, has_failed, none_placed, fault_placed, none_added}
 use Rattle.wtf_clients.proofs.JobTurning.{plan_bytes}
 use Rattle.wtf_clients.proofs.Lacking.{memory_none, no_lists, region_caused}
 use Rattle.wtf_clients.proofs.Lives.{now_bytes}
-use Rattle.wtf_clients.proofs.Serving.{lent_to, later}
-use Rattle.wtf_clients.proofs.Staying.{fault_is}
+use Rattle.wtf_clients.proofs.Known.{lent_to}
+use Rattle.wtf_clients.proofs.Serving.{later}
 
 -- what a map has of a region
 pub region_bytes : (P : List Place → Bool) (Q : Slice → Bool) (w : Map) (t : Target) → MapBytes P Q w → MaybeBytes P Q (target_region w t)
@@ -93,13 +90,6 @@ module _ {S : Type 0} {kind : StoreKind S} (laws : KindLaws kind) (old mid new :
         (h.out k lt);
   }
 
--- a place is the same a while later
-place_same : {S : Type 0} {kind : StoreKind S} (old mid : Dev S) → GoesOn kind old mid [] → (t : Target)
-    → place_in mid t.inode (t.region * mid.settings.region) ≡ place_in old t.inode (t.region * old.settings.region)
-place_same {S} old mid goes t =
-    ap (λ (d : Settings). place_of mid.ring.now.points t.inode (t.region * d.region / d.region)) goes.settings
-    ∙ ap (λ r. place_of r.now.points t.inode (t.region * old.settings.region / old.settings.region)) goes.ring
-
 -- one list was stored, behind reads
 list_added : {S : Type 0} {kind : StoreKind S} (old new : Dev S) (t : Target) (stored : List ListFact) (P : PlaceView → Type 0)
     → P (place_in old t.inode (t.region * old.settings.region)) → (w : StoresList kind old new t stored)
@@ -115,12 +105,6 @@ list_added {kind = kind} old new t stored P goes_to w = record {
       (encoded w.own.list) w.own.slice) w.goes.settings w.slice);
 }
 
--- one that was not planned has stored none
-pub none_stores : {S : Type 0} (kind : StoreKind S) (t : Span S) (lent : Lending) (tables : TablesView × TablesView) (j : ℕ) (jk : JobKind) (p : List ℕ)
-    (r : ℕ) (why : Fault) (a : Answer) → fault_answer why ≡ Some a → StoresPlan kind t lent tables (event.Plan j jk p r) a
-none_stores kind t lent tables j jk p r why answer.Planned is = absurd (fault_is why answer.Planned is)
-none_stores kind t lent tables j jk p r why a is = tt
-
 -- ---- a plan, of the file to which the path leads
 module _ {S : Type 0} {kind : StoreKind S} (laws : KindLaws kind) (old new : Dev S) (goes : GoesOn kind old new []) (lent : IsSoundDev kind old)
     (before : TablesView) (sound : AreSound before)
@@ -130,11 +114,10 @@ module _ {S : Type 0} {kind : StoreKind S} (laws : KindLaws kind) (old new : Dev
   now = metadata_now before.kv
 
   abbrev asked : Asked
-  asked = asked_of kind (between old new) (lent_by old) before (event.Plan j jk p r)
+  asked = asked_of kind (between old new) (lent_by old new) before (event.Plan j jk p r)
 
   module _ (after : TablesView) (x : JobView) (none : of_label before.beside.jobs j ≡ None) (plans : Plans before after j jk p r x)
-      (did : IsPlanned kind old new x.target (target_region now x.target) x.value) (own : MaybeBytes (inside_of kind new) any_slice x.value)
-      (reads : jk ≡ Compact → OnlyRead kind (between old new)) where
+      (did : IsPlanned kind old new x.target (target_region now x.target) x.value) (own : MaybeBytes (inside_of kind new) any_slice x.value) where
     -- the value names no base, where the region has none and no list was spilled
     value_free : (k : JobKind) → x.target.kind ≡ k → IsUnspilled (load_of_job k) answer.Planned → (P : List Place → Bool)
         → MaybeBytes P no_slice (target_region now x.target) → MaybeBytes P no_slice x.value
@@ -150,7 +133,8 @@ module _ {S : Type 0} {kind : StoreKind S} (laws : KindLaws kind) (old new : Dev
         (value_free jk plans.job.kind_is free P (region_bytes P no_slice now x.target (now_bytes P no_slice before h)))
 
     added : (k : JobKind) → jk ≡ k → AddsBytes kind (between old new) old.settings (load_of_job k) answer.Planned
-    added Compact is = none_added kind (between old new) old.settings answer.Planned (reads is).lengths
+    added Compact is = none_added kind (between old new) old.settings answer.Planned
+        (did.unwritten (ap (λ k. spills k (end_of (target_region now x.target))) (plans.job.kind_is ∙ is))).lengths
     added Spill is = ⊎_elim
         (λ some. inr ((did.written some).own, list_added old new x.target did.stored (λ place. ⊤) tt (did.written some)))
         (λ empty. inl (did.unwritten empty).lengths)
@@ -200,7 +184,7 @@ module _ {S : Type 0} {kind : StoreKind S} (laws : KindLaws kind) (old new : Dev
             let more = ltb-true 0 (end_of (target_region now x.target)) there in
             omega (arith, more, end, zero)
 
-    pub plan_serves : ServesLine kind (between old new) (lent_by old) before after (event.Plan j jk p r) answer.Planned
+    pub plan_serves : ServesLine kind (between old new) (lent_by old new) before after (event.Plan j jk p r) answer.Planned
     plan_serves = record {
       inside = plan_bytes (is_inside kind (stores new) old.settings) any_slice before after j sound jk p r x none plans
           (later laws old new goes lent before sound inside)
@@ -210,24 +194,7 @@ module _ {S : Type 0} {kind : StoreKind S} (laws : KindLaws kind) (old new : Dev
       adds = added jk refl;
       caused = plain_caused kind (between old new) old.settings ⊥ (AreBased before) (AreFull old.settings before) (load_of_job jk) answer.Planned tt;
       placed = placed jk refl;
-      spares = tt;
       failed = plain_failed asked.fails answer.Planned tt;
-    }
-
-    abbrev This : ListFact → Type 0
-    This = AddsThisList kind (between old new) old.settings asked.goes_to
-
-    -- the list that was stored is the job's
-    pub plan_stores : StoresJob kind (between old new) old.settings (before, after) j asked.goes_to
-    plan_stores = record {
-      job = x;
-      there = plans.keeps.jobs.is;
-      made = made_of kind old new x.target (target_region now x.target) x.value did;
-      written = ⊎_elim
-          (λ some. subst (All This) (sym (did.written some).one) (All-cons This (did.written some).own []
-          (list_added old new x.target did.stored asked.goes_to goes_there (did.written some)) (All-nil This)))
-          (λ empty. subst (All This) (sym (short_none did.stored x.value (did.short empty))) (All-nil This))
-          (cases_Bool (spills x.target.kind (end_of (target_region now x.target))));
     }
 
   -- ---- one that failed, of the file to which the path leads
@@ -321,19 +288,7 @@ module _ {S : Type 0} {kind : StoreKind S} (laws : KindLaws kind) (old new : Dev
     left k same (fault.Damaged s) e (inr (inr lacks)) = absurd lacks.out
     left k same fault.Memory e (inr (inr lacks)) = absurd (memory_none fault.Memory a e refl)
 
-    -- only the file to which the list was to go may have grown
-    plan_spares : SparesFiles kind (between old new) asked a
-    plan_spares = by fails
-      where
-        by : IsPlanFault kind old new (job_target i r jk) (region_at now i r) why → SparesFiles kind (between old new) asked a
-        by (inl memory) = absurd (memory_none why a is memory)
-        by (inr (inl lacks)) = none_spares kind (between old new) asked a lacks.reads.lengths
-        by (inr (inr lacks)) = some_spares kind (between old new) asked a (place_in old i (r * old.settings.region))
-            (old, new, lent_to old new ring, (i, leads, refl))
-            (subst (λ (place : PlaceView). OtherFilesStay kind (stores old) (stores new) place.file) (place_same old lacks.mid lacks.goes (job_target i r jk))
-            (others_since kind (stores old) (stores lacks.mid) (stores new) _ lacks.goes.each.same_length lacks.reads.lengths lacks.others))
-
-    pub plan_fails : ServesLine kind (between old new) (lent_by old) before before (event.Plan j jk p r) a
+    pub plan_fails : ServesLine kind (between old new) (lent_by old new) before before (event.Plan j jk p r) a
     plan_fails = record {
       inside = later laws old new goes lent before sound inside;
       bare = λ free h. h;
@@ -341,20 +296,12 @@ module _ {S : Type 0} {kind : StoreKind S} (laws : KindLaws kind) (old new : Dev
       adds = left jk refl why is fails;
       caused = plan_by (AreFull old.settings before) no_slice (λ h. h);
       placed = fault_placed kind (between old new) old.settings asked why a is;
-      spares = plan_spares;
       failed = has_failed asked.fails why a is (old, new, lent_to old new ring, record { inode = i; leads = leads; cause = fails });
     }
 
-  -- ---- one that is refused reads nothing
-  pub plan_refused : (a : Answer) (w : Word) → a ≡ answer.Refused w → OnlyRead kind (between old new)
-      → ServesLine kind (between old new) (lent_by old) before before (event.Plan j jk p r) a
-  plan_refused a w is reads = subst (λ (b : Answer). ServesLine kind (between old new) (lent_by old) before before (event.Plan j jk p r) b) (sym is) (record {
-    inside = later laws old new goes lent before sound inside;
-    bare = λ free h. h;
-    full = λ free h. h;
-    adds = refused_adds kind (between old new) old.settings (load_of_job jk) (answer.Refused w) tt reads.lengths;
-    caused = plain_caused kind (between old new) old.settings ⊥ (AreBased before) (AreFull old.settings before) (load_of_job jk) (answer.Refused w) tt;
-    placed = refused_placed kind (between old new) old.settings asked (answer.Refused w) tt;
-    spares = tt;
-    failed = plain_failed asked.fails (answer.Refused w) tt;
-  })
+  -- ---- whatever comes of it, only the file to which the list is to go may have grown
+  pub plan_grows : (i : InodeId) → LeadsTo now p i → SparesStores kind old new (job_target i r jk) (region_at now i r) → GrowsOnly kind (between old new) asked
+  plan_grows i leads spares = elim (cases_Bool (spills jk (end_of (region_at now i r)))) [
+    | inl some ↦ inr (place_in old i (r * old.settings.region), (old, new, lent_to old new ring, (i, leads, refl)), spares.others)
+    | inr none ↦ inl (spares.lengths none)
+  ]

@@ -11,17 +11,28 @@ use Rattle.wtf_model.specs.declared.answer.Answer.TheVariants as answer
 use Rattle.wtf_model.specs.declared.op.JobKind.{JobKind}
 use Rattle.wtf_meta.specs.Bytes.{MapBytes, MaybeBytes}
 use Rattle.wtf_meta.specs.Maps.{metadata_at}
-use Rattle.wtf_compact.specs.Jobs.{JobView}
+use Rattle.wtf_values.specs.declared.region.RegionValue.{RegionValue}
+use Rattle.wtf_compact.specs.declared.target.Target.{Target}
+use Rattle.wtf_compact.specs.Planned.{HasForm, spills}
+use Rattle.wtf_compact.specs.Jobs.{JobView, target_region}
 use Rattle.wtf_compact.specs.Putting.{IsPut}
 use Rattle.wtf_compact.proofs.PutLaws.{put_bytes}
 use Rattle.wtf_clients.specs.Views.{TablesView, of_client, of_label, metadata_now}
 use Rattle.wtf_clients.specs.Sounds.{planned, AreSound}
 use Rattle.wtf_clients.specs.Named.{TablesBytes}
-use Rattle.wtf_clients.specs.JobTurns.{Plans, Puts, DropsJob}
+use Rattle.wtf_clients.specs.JobTurns.{IsMadeOf, Plans, Puts, DropsJob}
 use Rattle.wtf_clients.proofs.JobFrames.{JobTurned}
 use Rattle.wtf_clients.proofs.Lives.{Reaches, now_bytes, begun_reaches, ended_reaches}
 use Rattle.wtf_clients.proofs.Naming.{live_along, now_along, txn_along}
 use Rattle.wtf_clients.proofs.Pins.{number_cases}
+
+-- what was made of a region has the form that its kind says
+made_form : (t : Target) (now value : Option RegionValue) → IsMadeOf t now value → HasForm t value
+made_form t now value made = record {
+  stored = made.stored;
+  short = λ not. made.short (ap (λ n. spills t.kind n) (sym made.same.end) ∙ not);
+  spilled = λ is. made.spilled (ap (λ n. spills t.kind n) (sym made.same.end) ∙ is);
+}
 
 module _ (old new : TablesView) (j : ℕ) (sound : AreSound old) where
   -- a job is planned
@@ -44,6 +55,8 @@ module _ (old new : TablesView) (j : ℕ) (sound : AreSound old) where
           let base : y.base ≡ old.kv.number = ap (λ (v : JobView). v.base) (sym same) ∙ plans.base in
           let number = plan_number in
           omega (arith, base, number);
+      formed = λ y e. subst (λ (v : JobView). HasForm v.target v.value) (let same : x ≡ y = cc in same)
+          (made_form x.target (target_region (metadata_now old.kv) x.target) x.value plans.made);
     }
 
     pub plan_reaches : Reaches old.kv new.kv
@@ -66,6 +79,7 @@ module _ (old new : TablesView) (j : ℕ) (sound : AreSound old) where
           let was : planned n (of_label old.beside.jobs j) ≡ planned n (Some x) = ap (planned n) there in
           omega (arith, fewer, was);
       based = λ y e. absurd (cc);
+      formed = λ y e. absurd (cc);
     }
 
     pub put_reaches : Reaches old.kv new.kv
@@ -86,6 +100,7 @@ module _ (old new : TablesView) (j : ℕ) (sound : AreSound old) where
           let was : planned n (of_label old.beside.jobs j) ≡ planned n (Some x) = ap (planned n) there in
           omega (arith, fewer, was);
       based = λ y e. absurd (cc);
+      formed = λ y e. absurd (cc);
     }
 
     pub drop_reaches : Reaches old.kv new.kv

@@ -15,9 +15,10 @@ use Rattle.wtf_meta.specs.Calls.{InHand}
 use Rattle.wtf_meta.specs.Bytes.{MapBytes}
 use Rattle.wtf_meta.specs.Contents.{Told, is_told, is_listed, lists_in}
 use Rattle.wtf_meta.specs.Maps.{Map, metadata_at}
+use Rattle.wtf_ring.specs.Points.{IsRing}
 use Rattle.wtf_region.specs.declared.dev.Dev.{Dev}
 use Rattle.wtf_region.specs.Apart.{are_apart}
-use Rattle.wtf_region.specs.Devs.{GoesOn, stores, told_in, RemembersTrue}
+use Rattle.wtf_region.specs.Devs.{GoesOn, stores, between, told_in, RemembersTrue}
 use Rattle.wtf_region.specs.Reads.{TellsFacts}
 use Rattle.wtf_replay.specs.Views.{TxnView}
 use Rattle.wtf_replay.specs.Insides.{lists_have}
@@ -25,7 +26,9 @@ use Rattle.wtf_replay.specs.Sounds.{IsSound, TellsMap, IsAwayTxn}
 use Rattle.wtf_replay.specs.Verbs.{turn, StartsSound, StartsNow}
 use Rattle.wtf_replay.specs.Effects.{Scope, scope, Redoes}
 use Rattle.wtf_replay.specs.Installs.{IsInstall}
-use Rattle.wtf_replay.proofs.EffectLaws.{redo_later, redone_later}
+use Rattle.wtf_replay.proofs.EffectLaws.{redone_later}
+use Rattle.wtf_clients.specs.Asked.{IsLent, lent_by}
+use Rattle.wtf_clients.specs.Seeing.{seeing}
 use Rattle.wtf_clients.specs.Views.{TablesView, of_client, metadata_now}
 use Rattle.wtf_clients.specs.Turns.{AreTrue, Reads}
 use Rattle.wtf_clients.proofs.Lives.{now_bytes}
@@ -66,16 +69,30 @@ module _ {S : Type 0} (kind : StoreKind S) (dev : Dev S) (all : TellsAll kind (s
       sound,
     )
 
-module _ {S : Type 0} (kind : StoreKind S) (old new : Dev S) (goes : GoesOn kind old new []) (Telling : Type 0) (servers : ℕ) where
+-- the devices of a line
+pub lent_to : {S : Type 0} (old new : Dev S) → IsRing old.settings.servers old.ring.now.points → IsLent (between old new) (lent_by old new) old new
+lent_to old new ring = record { span_is = refl; settings_are = refl; lists_are = refl; left_are = refl; ring_is = ring }
+
+module _ {S : Type 0} (kind : StoreKind S) (old new : Dev S) (goes : GoesOn kind old new []) where
   abbrev known : Scope
-  known = Reads Telling (RemembersTrue kind old) servers old.settings.region (told_in kind old) (told_in kind new)
+  known = Reads (seeing kind (between old new) (lent_by old new))
 
   pub knows : (facts : List ListFact) → TellsFacts kind old new facts → known.known facts
   knows facts h = λ ranges cache tell apart. subst (λ (st : Settings). TellLists (lists_in st.region (told_in kind new)) facts) goes.settings
       (h ranges cache tell apart)
 
-  pub knows_redone : (kv : Store Key Value) (x : TxnView) (k : ℕ) (was is : InHand) → Redoes (scope kind old new) kv x k was is → Redoes known kv x k was is
-  knows_redone kv x k was is h = redo_later (scope kind old new) known refl knows kv x k was is h
+  abbrev pub knows_redone : (kv : Store Key Value) (x : TxnView) (k : ℕ) (was is : InHand) → Redoes (scope kind old new) kv x k was is
+      → Redoes known kv x k was is
+  knows_redone kv x k was is h = record {
+    op = h.op;
+    at_op = h.at_op;
+    shown = h.shown;
+    at_shown = h.at_shown;
+    lists = h.lists;
+    known = knows h.lists h.known;
+    acts = h.acts;
+    holds = h.holds;
+  }
 
   pub knows_install : (kv after : Store Key Value) (x : TxnView) (a : Answer) → IsInstall (scope kind old new) kv after x a → IsInstall known kv after x a
   knows_install kv after x (answer.Committed n) h = record {

@@ -50,3 +50,9 @@ pub mod PieceServing
 pub mod HoldLaws
 pub mod ScanMays
 pub mod ScanStarts
+pub mod Soundness
+pub mod Leaving
+pub mod Lining
+pub mod ClientLines
+pub mod DumpLines
+pub mod PlanLines

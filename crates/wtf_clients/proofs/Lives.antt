@@ -12,7 +12,7 @@ use Rattle.wtf_values.specs.declared.value.Value.{Value}
 use Rattle.wtf_meta.specs.Bytes.{MapBytes}
 use Rattle.wtf_replay.specs.Tried.{KeepsPins, MovesPin}
 use Rattle.wtf_gc.specs.Views.{RunView}
-use Rattle.wtf_clients.specs.Views.{BesideView, TablesView, metadata_now}
+use Rattle.wtf_clients.specs.Views.{BesideView, TablesView, metadata_now, watching}
 use Rattle.wtf_clients.specs.Sounds.{all_kept, all_seen, AreSound}
 use Rattle.wtf_clients.specs.Saves.{with_image, only_image, Saves}
 use Rattle.wtf_clients.specs.Named.{TablesBytes}
@@ -106,6 +106,9 @@ only_kept old k n is =
     let one = count-push n k [] in
     let same : ◌≡◌ {A = ℕ} (cond (nat_eq n k) 1 0) (cond (nat_eq n old.kv.number) 1 0) = ap (λ j. cond (nat_eq n j) 1 0) is in
     omega (arith, one, same)
+
+pub watching_kept : (old : TablesView) (n : ℕ) → all_kept n (watching old.beside old.kv.number) ≤ all_kept n old.beside + cond (nat_eq n old.kv.number) 1 0
+watching_kept old n = omega arith
 
 -- ---- what is pinned later is of no install to come
 pub upto_on : (old new : TablesView) → AreSound old → Reaches old.kv new.kv → old.kv.number ≤ new.kv.number → (n : ℕ) → IsTrue (is_pinned new.kv n)

@@ -5,48 +5,46 @@ use Rattle.std.specs.Option.{option_map}
 use Rattle.std.specs.Set.{remove_key}
 use Rattle.wtf_base.specs.declared.fault.Fault.{Fault}
 use Rattle.wtf_base.specs.declared.fault.Fault.TheVariants as fault
-use Rattle.wtf_base.specs.declared.slice.Slice.{Slice}
 use Rattle.wtf_base.specs.declared.memory.OutOfMemory.{OutOfMemory}
-use Rattle.wtf_kv.specs.Stores.{Store, IsPinnedOnceMore, times_pinned, versions_of}
+use Rattle.wtf_kv.specs.Stores.{Store, IsPinnedOnceMore, times_pinned}
 use Rattle.wtf_values.specs.declared.key.Key.{Key}
 use Rattle.wtf_values.specs.declared.value.Value.{Value}
-use Rattle.wtf_values.specs.Keys.{key_cmp}
 use Rattle.wtf_model.specs.declared.answer.Answer.{Answer, Aborted'}
 use Rattle.wtf_model.specs.declared.answer.Answer.TheVariants as answer
 use Rattle.wtf_model.specs.declared.answer.Word.{Word}
-use Rattle.wtf_model.specs.declared.answer.Word.TheVariants.{InTx, NoTx}
 use Rattle.wtf_model.specs.declared.op.Op.{Op}
 use Rattle.wtf_model.specs.declared.event.Verb.TheVariants as verb
 use Rattle.wtf_model.specs.Tree.{Tree}
-use Rattle.wtf_model.specs.Session.{Session}
-use Rattle.wtf_model.specs.Call.{call}
 use Rattle.wtf_model.specs.Transaction.{answers_of}
 use Rattle.wtf_model.specs.Lawful.{IsDone, IsReadFault, MayFail}
-use Rattle.wtf_meta.specs.Lists.{ListFact}
 use Rattle.wtf_meta.specs.Contents.{Told}
 use Rattle.wtf_meta.specs.Maps.{metadata_at, seen}
 use Rattle.wtf_meta.specs.Trees.{Stands}
-use Rattle.wtf_meta.specs.Sessions.{Holds}
-use Rattle.wtf_meta.specs.Calls.{Caller, cap_for}
-use Rattle.wtf_region.specs.Cached.{TrueBut}
+use Rattle.wtf_meta.specs.Calls.{cap_for}
+use Rattle.wtf_dev.specs.Store.{StoreKind}
+use Rattle.wtf_ring.specs.Points.{IsRing}
+use Rattle.wtf_region.specs.declared.dev.Dev.{Dev}
+use Rattle.wtf_region.specs.Devs.{GoesOn, between}
 use Rattle.wtf_steps.specs.Faults.{MayStandFor}
 use Rattle.wtf_replay.specs.Views.{TxnView, begun, hand_of}
 use Rattle.wtf_replay.specs.Refusals.{call_refusal, try_refusal, step_refusal, unmade}
 use Rattle.wtf_replay.specs.Fits.{IsFit}
 use Rattle.wtf_replay.specs.Sounds.{IsSound, caller_at}
 use Rattle.wtf_replay.specs.Causes.{fault_answer, MayFaultAt, MayEndFault}
-use Rattle.wtf_replay.specs.Called.{IsCalled}
-use Rattle.wtf_replay.specs.Tried.{IsAttempted, KeepsMaps, KeepsVersions, KeepsPins, commit_from}
-use Rattle.wtf_replay.specs.Built.{data_len}
-use Rattle.wtf_replay.specs.Effects.{Acts, Redoes, sight_at}
+use Rattle.wtf_replay.specs.Tried.{IsAttempted, KeepsMaps, KeepsPins, commit_from}
 use Rattle.wtf_replay.specs.Installs.{IsInstall}
-use Rattle.wtf_replay.specs.Replays.{IsStepped, IsOver, IsEnded, IsTrueAttempt, IsTrueStep, IsTrueEnd}
+use Rattle.wtf_replay.specs.Replays.{IsStepped, IsEnded, IsTrueAttempt, IsTrueStep, IsTrueEnd}
+use Rattle.wtf_replay.specs.Verbs.{Turn, turn, CallOf, StepOf, CommitOf, ActsAgain}
 use Rattle.wtf_replay.proofs.Keeping.{fit_after}
 use Rattle.wtf_clients.specs.Views.{Clients, TablesView, of_client, metadata_now}
 use Rattle.wtf_clients.specs.Sounds.{owned, IsOpen, AreSound, Sets}
+use Rattle.wtf_clients.specs.Asked.{lent_by}
+use Rattle.wtf_clients.specs.Seeing.{Seeing, seeing}
 use Rattle.wtf_clients.specs.Turns.{Refuses, Begins, Ends, Tries, TryTurn, Stays, Tells, Reads, Calls, CallFails, Steps, Finals, ClientTurn}
 use Rattle.wtf_clients.proofs.Lists.{sets_added, sets_same, sets_then}
 use Rattle.wtf_clients.proofs.Frames.{sound_turned}
+use Rattle.wtf_clients.proofs.Known.{lent_to, knows, knows_redone, knows_install, starts_sound, starts_now}
+use Rattle.wtf_clients.proofs.Lacking.{memory_none}
 use Rattle.wtf_clients.proofs.Staying.{fault_is, same_stays}
 
 -- a match on an option that is known
@@ -134,101 +132,25 @@ refused_same old clients c w is = record {
 }
 
 -- ---- a transaction begins
-pub begin_turn : (old : TablesView) (kv : Store Key Value) (mid clients : Clients) (c number : ℕ) (x : TxnView) → is_some (of_client old.clients c) ≡ false
+pub begins : (old : TablesView) (kv : Store Key Value) (mid clients : Clients) (c number : ℕ) (x : TxnView) → of_client old.clients c ≡ None
     → number ≡ old.kv.number → mid ≡ old.clients → (of_client mid c ≡ None → clients ≡ mid ++ (c, x) ∷ [])
     → ((q : ℕ) → of_client clients q ≡ cond (nat_eq c q) (Some x) (of_client mid q)) → x ≡ begun old.next_tx old.kv.number
     → kv ≡ record old.kv { pins = old.kv.pins ++ old.kv.number ∷ [] } → IsPinnedOnceMore old.kv.number old.kv kv → IsFit kv x
     → ((size : ℕ) (told : Told) → IsSound size kv told x [])
-    → MatchOption (of_client old.clients c) (Begins old (record { kv = kv; next_tx = old.next_tx + 1; clients = clients; beside = old.beside }) c
-    (answer.Begun number))
-    (λ z. Refuses old (record { kv = kv; next_tx = old.next_tx + 1; clients = clients; beside = old.beside }) c InTx (answer.Begun number))
-begin_turn old kv mid clients c number x free is_number is_mid last seen is_x is_kv pinned fit sound =
-    let none : of_client old.clients c ≡ None = nothing_there (of_client old.clients c) free in
+    → Begins old (record { kv = kv; next_tx = old.next_tx + 1; clients = clients; beside = old.beside }) c (answer.Begun number)
+begins old kv mid clients c number x none is_number is_mid last seen is_x is_kv pinned fit sound =
     let none_mid : of_client mid c ≡ None = ap (λ l. of_client l c) is_mid ∙ none in
     let sets : Sets c (Some x) mid clients = sets_added c mid clients x none_mid (last none_mid) seen in
-    at_none (of_client old.clients c) _ _ none (record {
+    record {
       answer = ap answer.Begun is_number;
-      clients = subst (λ l. Sets c (Some (begun old.next_tx old.kv.number)) l clients) is_mid (subst (λ z. Sets c (Some z) mid clients) is_x sets);
+      clients = subst (λ l. Sets c (Some (begun old.next_tx old.kv.number)) l clients) is_mid (subst (λ q. Sets c (Some q) mid clients) is_x sets);
       kv = is_kv;
       pinned = pinned;
       next_tx = refl;
       beside = refl;
-      fit = subst (λ z. IsFit kv z) is_x fit;
-      sound = λ size told. subst (λ z. IsSound size kv told z []) is_x (sound size told);
-    })
-
--- ---- a call
-module _ (Telling : Type 0) (lists : TrueBut) (servers size : ℕ) (told later : Told) (old : TablesView) (clients : Clients) (c : ℕ) (x y : TxnView)
-    (o : Op (List ℕ)) (a : Answer) where
-  abbrev now_called : TablesView
-  now_called = record { kv = old.kv; next_tx = old.next_tx; clients = clients; beside = old.beside }
-
-  call_on : (N : Type 0) (r : Option Word) → call_refusal x ≡ r → of_client old.clients c ≡ Some x → Sets c (Some y) old.clients clients
-      → IfSome (unmade x) (λ b. (answered Fault a b) × (y ≡ x) × N) → (unmade x ≡ None → (own : Option Slice) × (facts : List ListFact) × IsCalled x y o own a
-      × (Reads Telling lists servers size told later).known facts
-      × Acts (sight_at size old.kv x.tx x.replayed (hand_of x) facts) (data_len o) own o a x.at y.at)
-      → (unmade x ≡ None → Tells Telling lists servers size told later old (metadata_at old.kv x.at.base) → (ops : List (Op (List ℕ)))
-      → IsSound size old.kv told x ops → IsSound size old.kv later y (ops ++ o ∷ []))
-      → IsFit old.kv y
-      → MatchOption r (Calls Telling lists servers size told later old now_called c x o a ⊎ CallFails Telling lists servers size told later old now_called c x
-      o a) (λ w. Refuses old now_called c w a)
-  call_on N None is there sets stopped made meaning fit =
-      let free : unmade x ≡ None = ap (option_map answer.Refused) is in
-      inl (record {
-        later_one = y;
-        own = (made free).0;
-        keeps = record { clients = sets; kv = refl; next_tx = refl; beside = refl };
-        facts = (made free).1;
-        called = (made free).2;
-        known = (made free).3;
-        acts = (made free).4;
-        fit = fit;
-        sound = meaning free;
-      })
-  call_on N (Some w) is there sets stopped made meaning fit =
-      let held : unmade x ≡ Some (answer.Refused w) = ap (option_map answer.Refused) is in
-      let both : (answered Fault a (answer.Refused w)) × (y ≡ x) × N = subst (λ m. IfSome m (λ b. (answered Fault a b) × (y ≡ x) × N)) held stopped in
-      refuses old now_called c x y w a there sets both.1 refl refl refl (same_answer Fault a (answer.Refused w) both.0)
-
-  pub call_turn : (N : Type 0) → of_client old.clients c ≡ Some x → Sets c (Some y) old.clients clients
-      → IfSome (unmade x) (λ b. (answered Fault a b) × (y ≡ x) × N) → (unmade x ≡ None → (own : Option Slice) × (facts : List ListFact) × IsCalled x y o own a
-      × (Reads Telling lists servers size told later).known facts
-      × Acts (sight_at size old.kv x.tx x.replayed (hand_of x) facts) (data_len o) own o a x.at y.at)
-      → (unmade x ≡ None → Tells Telling lists servers size told later old (metadata_at old.kv x.at.base) → (ops : List (Op (List ℕ)))
-      → IsSound size old.kv told x ops → IsSound size old.kv later y (ops ++ o ∷ []))
-      → IsFit old.kv y
-      → ClientTurn Telling lists servers size told later old (record { kv = old.kv; next_tx = old.next_tx; clients = clients; beside = old.beside }) c
-      (verb.Call o) a
-  call_turn N there sets stopped made meaning fit =
-      at_some (of_client old.clients c) x _ _ there (call_on N (call_refusal x) refl there sets stopped made meaning fit)
-
-  -- a call that failed
-  pub call_failed : (why : Fault) → of_client old.clients c ≡ Some x → Sets c (Some y) old.clients clients → y ≡ x → call_refusal x ≡ None
-      → fault_answer why ≡ Some a
-      → ((z : Caller) (u : Told) (S : Session) → z.size ≡ size → Stands z.size u z.tx z.calls (seen old.kv x.at) S.tree → Holds u (seen old.kv x.at) x.session S
-      → MayFail servers o (call (cap_for z) S o).answer a)
-      → ClientTurn Telling lists servers size told later old (record { kv = old.kv; next_tx = old.next_tx; clients = clients; beside = old.beside }) c
-      (verb.Call o) a
-  call_failed why there sets same asked is may =
-      at_some (of_client old.clients c) x _ _ there (at_none (call_refusal x) _ _ asked (inr (record {
-        fails = record {
-          why = why;
-          answer = is;
-          stays = same_stays old now_called c x y there sets same refl (λ n le. refl) (λ q. refl)
-              (λ n. refl) refl refl;
-        };
-        may = may;
-      })))
-
--- a call that was made and failed was not refused
-pub not_refused : (N : Type 0) (x : TxnView) (why : Fault) (y : TxnView) → IfSome (unmade x) (λ b. (failed why b) × (y ≡ x) × N) → call_refusal x ≡ None
-not_refused N x why y stopped = by (call_refusal x) refl
-  where
-    by : (r : Option Word) → call_refusal x ≡ r → r ≡ None
-    by None is = refl
-    by (Some w) is =
-        let held : unmade x ≡ Some (answer.Refused w) = ap (option_map answer.Refused) is in
-        absurd (never why (answer.Refused w) (subst (λ m. IfSome m (λ b. (failed why b) × (y ≡ x) × N)) held stopped).0)
+      fit = subst (λ q. IsFit kv q) is_x fit;
+      sound = λ size told. subst (λ q. IsSound size kv told q []) is_x (sound size told);
+    }
 
 -- a fault that may stand for an answer is allowed in its place
 pub stand_fail : (servers : ℕ) (o : Op (List ℕ)) (d : Answer) (why : Fault) (a : Answer) → fault_answer why ≡ Some a → MayStandFor servers o d why
@@ -246,29 +168,11 @@ step_left servers answers k why a is h = subst (MayFaultAt servers answers k) is
 pub commit_left : (servers : ℕ) (why : Fault) (a : Answer) → fault_answer why ≡ Some a → MayEndFault servers (fault_answer why) → IsReadFault servers a
 commit_left servers why a is h = subst (MayEndFault servers) is h
 
--- a step that was made and failed was not refused
-pub not_live : (x : TxnView) (why : Fault) (y : TxnView) → IfSome (step_refusal x) (λ w. (failed why (answer.Refused w)) × (y ≡ x)) → step_refusal x ≡ None
-not_live x why y stopped = by (step_refusal x) refl
-  where
-    by : (r : Option Word) → step_refusal x ≡ r → r ≡ None
-    by None is = refl
-    by (Some w) is = absurd (never why (answer.Refused w) (subst (λ m. IfSome m (λ v. (failed why (answer.Refused v)) × (y ≡ x))) is stopped).0)
-
 -- a step after which the transaction has ended left its base
 over_by : (x y : TxnView) (a : Answer) → x.ended ≡ false → IsStepped x y a → y.ended ≡ true → y.at.base ≡ x.at.base
 over_by x y (answer.Replayed i) going h over = h.base
 over_by x y (Aborted' i box a) going h over = h.over.base
 over_by x y a going h over = absurd h
-
-pub step_over : (x y : TxnView) (a : Answer) → x.ended ≡ false → IfSome (step_refusal x) (λ w. (answered Fault a (answer.Refused w)) × (y ≡ x))
-    → (step_refusal x ≡ None → IsStepped x y a) → y.ended ≡ true → y.at.base ≡ x.at.base
-step_over x y a going stopped stepped over = by (step_refusal x) refl
-  where
-    by : (r : Option Word) → step_refusal x ≡ r → y.at.base ≡ x.at.base
-    by None is = over_by x y a going (stepped is) over
-    by (Some w) is =
-        let both : (answered Fault a (answer.Refused w)) × (y ≡ x) = subst (λ m. IfSome m (λ v. (answered Fault a (answer.Refused v)) × (y ≡ x))) is stopped in
-        ap (λ (z : TxnView). z.at.base) both.1
 
 -- ---- the transaction goes: its client has none, and one pin of its base is undone
 pub ends : (old new : TablesView) (kv : Store Key Value) (mid : Clients) (c : ℕ) (x y : TxnView) → Sets c (Some y) old.clients mid → Sets c None mid new.clients
@@ -285,6 +189,206 @@ ends old new kv mid c x y first last next beside base maps pins is_kv unpinned =
   kv = subst (λ n. new.kv ≡ record kv { pins = remove_key (nat_eq n) kv.pins }) base is_kv;
   unpinned = subst (λ n. IsPinnedOnceMore n new.kv kv) base unpinned;
 }
+
+-- a verb that was refused leaves the transaction, and what it was lent
+pub refusal_of : (E : Type 0) {D : Type 0} (old new : TxnView) (before after : D) (r : Option Word) (w : Word) (a : Answer) → r ≡ Some w
+    → IfSome r (λ v. (answered E a (answer.Refused v)) × (new ≡ old) × (after ≡ before)) → (a ≡ answer.Refused w) × (new ≡ old) × (after ≡ before)
+refusal_of E old new before after r w a is stopped =
+    let all : (answered E a (answer.Refused w)) × (new ≡ old) × (after ≡ before) =
+    subst (λ m. IfSome m (λ v. (answered E a (answer.Refused v)) × (new ≡ old) × (after ≡ before))) is stopped in
+    (same_answer E a (answer.Refused w) all.0, all.1, all.2)
+
+-- so one that failed was not refused
+pub not_refused : {D : Type 0} (old new : TxnView) (before after : D) (r : Option Word) (why : Fault)
+    → IfSome r (λ v. (failed why (answer.Refused v)) × (new ≡ old) × (after ≡ before)) → r ≡ None
+not_refused old new before after None why h = refl
+not_refused old new before after (Some w) why h = absurd (never why (answer.Refused w) h.0)
+
+-- what is said of a call's answer, where it is refused
+pub as_words : {D : Type 0} (old new : TxnView) (before after : D) (r : Result Answer Fault) (o : Option Word)
+    → IfSome (option_map answer.Refused o) (λ a. (r ≡ Ok a) × (new ≡ old) × (after ≡ before))
+    → IfSome o (λ w. (r ≡ Ok (answer.Refused w)) × (new ≡ old) × (after ≡ before))
+as_words old new before after r None h = tt
+as_words old new before after r (Some w) h = h
+
+-- ---- what a client with a transaction asks for, with what the verb was lent and left
+module _ {S : Type 0} (kind : StoreKind S) (dev new : Dev S) (ring : IsRing dev.settings.servers dev.ring.now.points) (old : TablesView) (c : ℕ)
+    (x y : TxnView) (there : of_client old.clients c ≡ Some x) (clients : Clients) (sets : Sets c (Some y) old.clients clients) where
+  abbrev z : Seeing
+  z = seeing kind (between dev new) (lent_by dev new)
+
+  abbrev verb_of : Store Key Value → Turn S
+  verb_of left = turn kind dev new old.kv left x y
+
+  -- the transaction is another, and all else as it was
+  abbrev now_set : TablesView
+  now_set = record { kv = old.kv; next_tx = old.next_tx; clients = clients; beside = old.beside }
+
+  same_now : y ≡ x → Stays old now_set c
+  same_now same = same_stays old now_set c x y there sets same refl (λ n le. refl) (λ q. refl) (λ n. refl) refl refl
+
+  -- ---- a call
+  calls_by : (o : Op (List ℕ)) (a : Answer) → CallOf (verb_of old.kv) o (Ok a) → (r : Option Word) → call_refusal x ≡ r
+      → MatchOption r (Calls z old now_set c x o a ⊎ CallFails z old now_set c x o a) (λ w. Refuses old now_set c w a)
+  calls_by o a did None is =
+      let free : unmade x ≡ None = ap (option_map answer.Refused) is in
+      let made = did.made free in
+      inl (record {
+        later_one = y;
+        own = made.own;
+        keeps = record { clients = sets; kv = refl; next_tx = refl; beside = refl };
+        called = made.called;
+        stored = (dev, new, lent_to dev new ring, made.stored);
+        facts = made.lists;
+        recalls = made.recalls;
+        known = knows kind dev new did.dev made.lists made.known;
+        acts = made.acts;
+        fit = did.fit;
+        sound = λ tells ops run. did.meaning free ops (starts_sound kind dev tells.0 old tells.1 new old.kv c x y ops there tells.2 run);
+      })
+  calls_by o a did (Some w) is =
+      let all = refusal_of Fault x y dev new (call_refusal x) w a is (as_words x y dev new (Ok a) (call_refusal x) did.instead) in
+      refuses old now_set c x y w a there sets all.1 refl refl refl all.0
+
+  pub call_turn : (o : Op (List ℕ)) (a : Answer) → CallOf (verb_of old.kv) o (Ok a) → ClientTurn z old now_set c (verb.Call o) a
+  call_turn o a did = at_some (of_client old.clients c) x _ _ there (calls_by o a did (call_refusal x) refl)
+
+  -- one that failed
+  pub call_failed : (o : Op (List ℕ)) (why : Fault) (a : Answer) → fault_answer why ≡ Some a → CallOf (verb_of old.kv) o (Err why)
+      → ClientTurn z old now_set c (verb.Call o) a
+  call_failed o why a is did =
+      at_some (of_client old.clients c) x _ _ there (at_none (call_refusal x) _ _
+      (not_refused x y dev new (call_refusal x) why (as_words x y dev new (Err why) (call_refusal x) did.instead)) (inr (record {
+        fails = record { why = why; answer = is; stays = same_now (did.err (memory_none why a is)) };
+        may = λ q u s size st holds. stand_fail dev.settings.servers o _ why a is (did.due q u s size st holds);
+      })))
+
+  -- ---- a step
+  goes_by_step : (b : Answer) → y.ended ≡ false → IsStepped x y b → ActsAgain (verb_of old.kv) b → GoesOn kind dev new [] → IsFit old.kv y
+      → (Tells z old (metadata_at old.kv x.at.base) → (ops : List (Op (List ℕ))) → IsSound z.size old.kv z.told x ops
+      → IsTrueStep z.size (z.told, z.later) old.kv (x, y) ops b)
+      → Steps z old now_set c x b
+  goes_by_step (answer.Replayed i) still h acts goes fit m = record {
+    later_one = y;
+    keeps = record { clients = sets; kv = refl; next_tx = refl; beside = refl };
+    replayed = h;
+    acts = knows_redone kind dev new goes old.kv x x.replayed (hand_of x) (hand_of y) acts.redoes;
+    recalls = acts.recalls;
+    fit = fit;
+    sound = m;
+  }
+  goes_by_step (Aborted' i box b) still h acts goes fit m = absurd (true≢false (sym h.over.ended ∙ still))
+  goes_by_step b still h acts goes fit m = absurd h
+
+  -- what a step means
+  step_means : (a : Answer) → StepOf (verb_of old.kv) (Ok a) → step_refusal x ≡ None → Tells z old (metadata_at old.kv x.at.base)
+      → (ops : List (Op (List ℕ))) → IsSound z.size old.kv z.told x ops → IsTrueStep z.size (z.told, z.later) old.kv (x, y) ops a
+  step_means a did free tells ops run = did.meaning free ops (starts_sound kind dev tells.0 old tells.1 new old.kv c x y ops there tells.2 run)
+
+  steps_by : (a : Answer) → StepOf (verb_of old.kv) (Ok a) → y.ended ≡ false → (r : Option Word) → step_refusal x ≡ r
+      → MatchOption r (Steps z old now_set c x a) (λ w. Refuses old now_set c w a)
+  steps_by a did still None is = goes_by_step a still (did.stepped is) (did.acts is) did.dev did.fit (step_means a did is)
+  steps_by a did still (Some w) is =
+      let all = refusal_of Fault x y dev new (step_refusal x) w a is did.refused in
+      refuses old now_set c x y w a there sets all.1 refl refl refl all.0
+
+  pub step_goes : (a : Answer) → StepOf (verb_of old.kv) (Ok a) → y.ended ≡ false → ClientTurn z old now_set c verb.Step a
+  step_goes a did still = at_some (of_client old.clients c) x _ _ there (steps_by a did still (step_refusal x) refl)
+
+  -- one that failed
+  pub step_failed : (why : Fault) (a : Answer) → fault_answer why ≡ Some a → StepOf (verb_of old.kv) (Err why) → ClientTurn z old now_set c verb.Step a
+  step_failed why a is did =
+      at_some (of_client old.clients c) x _ _ there (at_none (step_refusal x) _ _ (not_refused x y dev new (step_refusal x) why did.refused)
+      (by a is (λ ops run t st. step_left dev.settings.servers _ x.replayed why a is (did.due ops run t st))))
+    where
+      by : (b : Answer) → fault_answer why ≡ Some b
+          → ((ops : List (Op (List ℕ))) → IsSound z.size old.kv z.told x ops → (t : Tree) → Stands z.size z.told x.tx 0 (metadata_at old.kv x.at.base) t
+          → IsDone (slice_get (answers_of (cap_for (caller_at z.size x.tx 0)) t ops) x.replayed) × IsReadFault z.servers b)
+          → Steps z old now_set c x b
+      by (answer.Replayed i) e f = absurd (fault_is why (answer.Replayed i) e)
+      by (Aborted' i box b) e f = absurd (fault_is why (Aborted' i box b) e)
+      by b e f = record { fails = record { why = why; answer = e; stays = same_now did.err }; may = f }
+
+  -- ---- the transaction goes, and the store of versions was left as `kv`
+  module _ (after : TablesView) (kv : Store Key Value) (taken : Sets c None clients after.clients) (next : after.next_tx ≡ old.next_tx)
+      (beside : after.beside ≡ old.beside)
+      (is_kv : IfSome (of_client clients c) (λ q. after.kv ≡ record kv { pins = remove_key (nat_eq q.at.base) kv.pins }))
+      (unpinned : IfSome (of_client clients c) (λ q. IsPinnedOnceMore q.at.base after.kv kv)) where
+    gone : y.at.base ≡ x.at.base → KeepsMaps old.kv kv → KeepsPins old.kv kv → Ends old after kv c x
+    gone base maps pins =
+        ends old after kv clients c x y sets taken next beside base maps pins
+        (subst (λ o. IfSome o (λ q. after.kv ≡ record kv { pins = remove_key (nat_eq q.at.base) kv.pins })) sets.is is_kv)
+        (subst (λ o. IfSome o (λ q. IsPinnedOnceMore q.at.base after.kv kv)) sets.is unpinned)
+
+    -- by a step
+    ends_by_step : (b : Answer) → kv ≡ old.kv → x.ended ≡ false → y.ended ≡ true → IsStepped x y b
+        → (Tells z old (metadata_at old.kv x.at.base) → (ops : List (Op (List ℕ))) → IsSound z.size old.kv z.told x ops
+        → IsTrueStep z.size (z.told, z.later) old.kv (x, y) ops b)
+        → Steps z old after c x b
+    ends_by_step (answer.Replayed i) same going over h m = absurd (true≢false (sym over ∙ ap (λ (q : TxnView). q.ended) h.is ∙ going))
+    ends_by_step (Aborted' i box b) same going over h m = record {
+      index = h.index;
+      ends = subst (λ s. Ends old after s c x) same
+          (gone h.over.base (λ n le. ap (λ s. metadata_at s n) same) (λ n. ap (λ s. times_pinned s n) same));
+      deviates = m;
+    }
+    ends_by_step b same going over h m = absurd h
+
+    steps_over : (a : Answer) → kv ≡ old.kv → x.ended ≡ false → StepOf (verb_of old.kv) (Ok a) → y.ended ≡ true → (r : Option Word) → step_refusal x ≡ r
+        → MatchOption r (Steps z old after c x a) (λ w. Refuses old after c w a)
+    steps_over a same going did over None is = ends_by_step a same going over (did.stepped is) (step_means a did is)
+    steps_over a same going did over (Some w) is =
+        let all = refusal_of Fault x y dev new (step_refusal x) w a is did.refused in
+        absurd (true≢false (sym over ∙ ap (λ (q : TxnView). q.ended) all.1 ∙ going))
+
+    pub step_ends : (a : Answer) → kv ≡ old.kv → x.ended ≡ false → StepOf (verb_of old.kv) (Ok a) → y.ended ≡ true → ClientTurn z old after c verb.Step a
+    step_ends a same going did over = at_some (of_client old.clients c) x _ _ there (steps_over a same going did over (step_refusal x) refl)
+
+    -- the base is what it was, so the transaction has gone as each does
+    pub step_gone : (a : Answer) → kv ≡ old.kv → x.ended ≡ false → StepOf (verb_of old.kv) (Ok a) → y.ended ≡ true → Ends old after old.kv c x
+    step_gone a same going did over = subst (λ s. Ends old after s c x) same
+        (gone (based (step_refusal x) refl) (λ n le. ap (λ s. metadata_at s n) same) (λ n. ap (λ s. times_pinned s n) same))
+      where
+        based : (r : Option Word) → step_refusal x ≡ r → y.at.base ≡ x.at.base
+        based None is = over_by x y a going (did.stepped is) over
+        based (Some w) is = ap (λ (q : TxnView). q.at.base) (refusal_of Fault x y dev new (step_refusal x) w a is did.refused).1
+
+    -- by a commit
+    pub commit_gone : (a : Answer) → CommitOf (verb_of kv) (Ok a) → Ends old after kv c x
+    commit_gone a did = gone did.over.base did.maps did.pins
+
+    commit_by : (a : Answer) → Ends old after kv c x → IsEnded old.kv kv a → IsInstall (Reads z) old.kv kv (commit_from old.kv x) a
+        → (Tells z old (metadata_at old.kv x.at.base) → Tells z old (metadata_now old.kv)
+        → (ops : List (Op (List ℕ))) → IsSound z.size old.kv z.told x ops → IsTrueEnd z.size (z.told, z.later) old.kv kv x ops a) → Finals z old after c x a
+    commit_by (answer.Committed n) over h i m = record { mid = kv; next = h.0; number = h.1; installs = i; ends = over; final = m }
+    commit_by (Aborted' k box b) over h i m = record { mid = kv; number = h; versions = i; ends = over; deviates = m }
+    commit_by b over h i m = absurd h
+
+    pub commit_turn : (a : Answer) → CommitOf (verb_of kv) (Ok a) → ClientTurn z old after c verb.Commit a
+    commit_turn a did =
+        at_some (of_client old.clients c) x _ _ there (commit_by a (commit_gone a did) did.ended
+        (knows_install kind dev new did.dev old.kv kv (commit_from old.kv x) a did.installs)
+        (λ tells now ops run. did.meaning ops (starts_now kind dev tells.0 old tells.1 new kv c x y ops there tells.2 run now.2)))
+
+  -- one that failed
+  module _ (kv : Store Key Value) (why : Fault) (did : CommitOf (verb_of kv) (Err why)) where
+    abbrev after_commit : TablesView
+    after_commit = record { kv = kv; next_tx = old.next_tx; clients = clients; beside = old.beside }
+
+    pub commit_stays : Stays old after_commit c
+    commit_stays = same_stays old after_commit c x y there sets did.err did.err_store.0 did.maps did.err_store.1 did.pins refl refl
+
+    pub commit_failed : (a : Answer) → fault_answer why ≡ Some a → ClientTurn z old after_commit c verb.Commit a
+    commit_failed a is = at_some (of_client old.clients c) x _ _ there (by a is (λ tells now ops run t st. commit_left dev.settings.servers why a is
+        (did.due ops (starts_now kind dev tells.0 old tells.1 new kv c x y ops there tells.2 run now.2) t st)))
+      where
+        by : (b : Answer) → fault_answer why ≡ Some b
+            → (Tells z old (metadata_at old.kv x.at.base) → Tells z old (metadata_now old.kv) → (ops : List (Op (List ℕ)))
+            → IsSound z.size old.kv z.told x ops → (t : Tree) → Stands z.size z.told x.tx 0 (metadata_now old.kv) t → IsReadFault z.servers b)
+            → Finals z old after_commit c x b
+        by (answer.Committed n) e f = absurd (fault_is why (answer.Committed n) e)
+        by (Aborted' i box b) e f = absurd (fault_is why (Aborted' i box b) e)
+        by b e f = record { fails = record { why = why; answer = e; stays = commit_stays }; may = f }
 
 -- ---- an attempt
 module _ (old : TablesView) (kv : Store Key Value) (mid : Clients) (c : ℕ) (x y : TxnView) (a : Answer) (going : x.ended ≡ false)
@@ -316,14 +420,11 @@ module _ (old : TablesView) (kv : Store Key Value) (mid : Clients) (c : ℕ) (x 
   goes_on : (r : Option Word) → try_refusal x ≡ r → y.ended ≡ false → MatchOption r (Tries old now_tried c x a) (λ w. Refuses old now_tried c w a)
   goes_on None is still = goes_by a still (tried is) (meaning is)
   goes_on (Some w) is still =
-      let all : (answered OutOfMemory a (answer.Refused w)) × (y ≡ x) × (kv ≡ old.kv) =
-      subst (λ m. IfSome m (λ v. (answered OutOfMemory a (answer.Refused v)) × (y ≡ x) × (kv ≡ old.kv))) is stopped in
-      refuses old now_tried c x y w a there sets all.1 all.2 refl refl (same_answer OutOfMemory a (answer.Refused w) all.0)
+      let all = refusal_of OutOfMemory x y old.kv kv (try_refusal x) w a is stopped in
+      refuses old now_tried c x y w a there sets all.1 all.2 refl refl all.0
 
-  pub try_goes : y.ended ≡ false → MatchOption (of_client old.clients c)
-      (Refuses old (record { kv = kv; next_tx = old.next_tx; clients = mid; beside = old.beside }) c NoTx a)
-      (λ z. TryTurn old (record { kv = kv; next_tx = old.next_tx; clients = mid; beside = old.beside }) c z a)
-  try_goes still = at_some (of_client old.clients c) x _ _ there (goes_on (try_refusal x) refl still)
+  pub try_goes : y.ended ≡ false → TryTurn old (record { kv = kv; next_tx = old.next_tx; clients = mid; beside = old.beside }) c x a
+  try_goes still = goes_on (try_refusal x) refl still
 
   module _ (new : TablesView) (taken : Sets c None mid new.clients) (next : new.next_tx ≡ old.next_tx) (beside : new.beside ≡ old.beside)
       (is_kv : new.kv ≡ record kv { pins = remove_key (nat_eq y.at.base) kv.pins }) (unpinned : IsPinnedOnceMore y.at.base new.kv kv) where
@@ -344,144 +445,8 @@ module _ (old : TablesView) (kv : Store Key Value) (mid : Clients) (c : ℕ) (x 
     ends_on : (r : Option Word) → try_refusal x ≡ r → y.ended ≡ true → MatchOption r (Tries old new c x a) (λ w. Refuses old new c w a)
     ends_on None is over = ends_by a over (tried is) (meaning is)
     ends_on (Some w) is over =
-        let all : (answered OutOfMemory a (answer.Refused w)) × (y ≡ x) × (kv ≡ old.kv) =
-        subst (λ m. IfSome m (λ v. (answered OutOfMemory a (answer.Refused v)) × (y ≡ x) × (kv ≡ old.kv))) is stopped in
+        let all = refusal_of OutOfMemory x y old.kv kv (try_refusal x) w a is stopped in
         absurd (true≢false (sym over ∙ ap (λ (z : TxnView). z.ended) all.1 ∙ going))
 
-    pub try_ends : y.ended ≡ true → MatchOption (of_client old.clients c) (Refuses old new c NoTx a) (λ z. TryTurn old new c z a)
-    try_ends over = at_some (of_client old.clients c) x _ _ there (ends_on (try_refusal x) refl over)
-
--- ---- a step
-module _ (Telling : Type 0) (lists : TrueBut) (servers size : ℕ) (told later : Told) (old : TablesView) (mid : Clients) (c : ℕ) (x y : TxnView)
-    (a : Answer) (going : x.ended ≡ false) (there : of_client old.clients c ≡ Some x) (sets : Sets c (Some y) old.clients mid)
-    (stopped : IfSome (step_refusal x) (λ w. (answered Fault a (answer.Refused w)) × (y ≡ x)))
-    (stepped : step_refusal x ≡ None → IsStepped x y a)
-    (meaning : step_refusal x ≡ None → Tells Telling lists servers size told later old (metadata_at old.kv x.at.base) → (ops : List (Op (List ℕ)))
-    → IsSound size old.kv told x ops → IsTrueStep size (told, later) old.kv (x, y) ops a)
-    (acts : step_refusal x ≡ None → (i : ℕ) → a ≡ answer.Replayed i → Redoes (Reads Telling lists servers size told later) old.kv x x.replayed (hand_of x)
-    (hand_of y))
-    (fit : IsFit old.kv y) where
-  abbrev now_stepped : TablesView
-  now_stepped = record { kv = old.kv; next_tx = old.next_tx; clients = mid; beside = old.beside }
-
-  step_goes_by : (b : Answer) → y.ended ≡ false → IsStepped x y b → (Tells Telling lists servers size told later old (metadata_at old.kv x.at.base) →
-      (ops : List (Op (List ℕ))) → IsSound size old.kv told x ops → IsTrueStep size (told, later) old.kv (x, y) ops b)
-      → ((i : ℕ) → b ≡ answer.Replayed i → Redoes (Reads Telling lists servers size told later) old.kv x x.replayed (hand_of x) (hand_of y)) → Steps Telling
-      lists servers size told later old now_stepped c x b
-  step_goes_by (answer.Replayed i) still h m did = record {
-    later_one = y;
-    keeps = record { clients = sets; kv = refl; next_tx = refl; beside = refl };
-    replayed = h;
-    acts = did i refl;
-    fit = fit;
-    sound = m;
-  }
-  step_goes_by (Aborted' i box b) still h m did = absurd (true≢false (sym h.over.ended ∙ still))
-  step_goes_by b still h m did = absurd h
-
-  step_goes_on : (r : Option Word) → step_refusal x ≡ r → y.ended ≡ false → MatchOption r (Steps Telling lists servers size told later old now_stepped c x a)
-      (λ w. Refuses old now_stepped c w a)
-  step_goes_on None is still = step_goes_by a still (stepped is) (meaning is) (acts is)
-  step_goes_on (Some w) is still =
-      let both : (answered Fault a (answer.Refused w)) × (y ≡ x) = subst (λ m. IfSome m (λ v. (answered Fault a (answer.Refused v)) × (y ≡ x))) is stopped in
-      refuses old now_stepped c x y w a there sets both.1 refl refl refl (same_answer Fault a (answer.Refused w) both.0)
-
-  pub step_goes : y.ended ≡ false → ClientTurn Telling lists servers size told later old (record
-      { kv = old.kv; next_tx = old.next_tx; clients = mid; beside = old.beside }) c verb.Step a
-  step_goes still = at_some (of_client old.clients c) x _ _ there (step_goes_on (step_refusal x) refl still)
-
-  module _ (new : TablesView) (taken : Sets c None mid new.clients) (next : new.next_tx ≡ old.next_tx) (beside : new.beside ≡ old.beside)
-      (is_kv : new.kv ≡ record old.kv { pins = remove_key (nat_eq y.at.base) old.kv.pins }) (unpinned : IsPinnedOnceMore y.at.base new.kv old.kv) where
-    step_ends_by : (b : Answer) → y.ended ≡ true → IsStepped x y b → (Tells Telling lists servers size told later old (metadata_at old.kv x.at.base) →
-        (ops : List (Op (List ℕ))) → IsSound size old.kv told x ops → IsTrueStep size (told, later) old.kv (x, y) ops b) → Steps Telling lists servers size
-        told later old new c x b
-    step_ends_by (answer.Replayed i) over h m = absurd (true≢false (sym over ∙ ap (λ (z : TxnView). z.ended) h.is ∙ going))
-    step_ends_by (Aborted' i box b) over h m = record {
-      index = h.index;
-      ends = ends old new old.kv mid c x y sets taken next beside h.over.base (λ k le. refl) (λ k. refl) is_kv unpinned;
-      deviates = m;
-    }
-    step_ends_by b over h m = absurd h
-
-    step_ends_on : (r : Option Word) → step_refusal x ≡ r → y.ended ≡ true → MatchOption r (Steps Telling lists servers size told later old new c x a)
-        (λ w. Refuses old new c w a)
-    step_ends_on None is over = step_ends_by a over (stepped is) (meaning is)
-    step_ends_on (Some w) is over =
-        let both : (answered Fault a (answer.Refused w)) × (y ≡ x) = subst (λ m. IfSome m (λ v. (answered Fault a (answer.Refused v)) × (y ≡ x))) is stopped in
-        absurd (true≢false (sym over ∙ ap (λ (z : TxnView). z.ended) both.1 ∙ going))
-
-    pub step_ends : y.ended ≡ true → ClientTurn Telling lists servers size told later old new c verb.Step a
-    step_ends over = at_some (of_client old.clients c) x _ _ there (step_ends_on (step_refusal x) refl over)
-
--- ---- a step that failed
-module _ (Telling : Type 0) (lists : TrueBut) (servers size : ℕ) (told later : Told) (old : TablesView) (clients : Clients) (c : ℕ) (x y : TxnView) where
-  pub step_failed : (why : Fault) (a : Answer) → of_client old.clients c ≡ Some x → Sets c (Some y) old.clients clients → y ≡ x → step_refusal x ≡ None
-      → fault_answer why ≡ Some a
-      → ((ops : List (Op (List ℕ))) → IsSound size old.kv told x ops → (t : Tree) → Stands size told x.tx 0 (metadata_at old.kv x.at.base) t
-      → IsDone (slice_get (answers_of (cap_for (caller_at size x.tx 0)) t ops) x.replayed) × IsReadFault servers a)
-      → ClientTurn Telling lists servers size told later old (record { kv = old.kv; next_tx = old.next_tx; clients = clients; beside = old.beside }) c verb.Step
-      a
-  step_failed why a there sets same asked is may = at_some (of_client old.clients c) x _ _ there (at_none (step_refusal x) _ _ asked (by a is may))
-    where
-      by : (b : Answer) → fault_answer why ≡ Some b
-          → ((ops : List (Op (List ℕ))) → IsSound size old.kv told x ops → (t : Tree) → Stands size told x.tx 0 (metadata_at old.kv x.at.base) t
-          → IsDone (slice_get (answers_of (cap_for (caller_at size x.tx 0)) t ops) x.replayed) × IsReadFault servers b)
-          → Steps Telling lists servers size told later old (record { kv = old.kv; next_tx = old.next_tx; clients = clients; beside = old.beside }) c x b
-      by (answer.Replayed i) e f = absurd (fault_is why (answer.Replayed i) e)
-      by (Aborted' i box b) e f = absurd (fault_is why (Aborted' i box b) e)
-      by b e f = record {
-        fails = record {
-          why = why;
-          answer = e;
-          stays = same_stays old (record { kv = old.kv; next_tx = old.next_tx; clients = clients; beside = old.beside }) c x y there sets same refl
-              (λ n le. refl)
-              (λ q. refl) (λ n. refl) refl refl;
-        };
-        may = f;
-      }
-
--- ---- a commit
-module _ (Telling : Type 0) (lists : TrueBut) (servers size : ℕ) (told later : Told) (old new : TablesView) (kv : Store Key Value) (mid : Clients) (c : ℕ)
-    (x y : TxnView) where
-  commit_by : (a : Answer) → Ends old new kv c x → IsEnded old.kv kv a → IsInstall (Reads Telling lists servers size told later) old.kv kv
-      (commit_from old.kv x) a
-      → (Tells Telling lists servers size told later old (metadata_at old.kv x.at.base) → Tells Telling lists servers size told later old (metadata_now old.kv)
-      → (ops : List (Op (List ℕ))) → IsSound size old.kv told x ops → IsTrueEnd size (told, later) old.kv kv x ops a) → Finals Telling lists servers size
-      told later old new c x a
-  commit_by (answer.Committed n) over h i m = record { mid = kv; next = h.0; number = h.1; installs = i; ends = over; final = m }
-  commit_by (Aborted' k box b) over h i m = record { mid = kv; number = h; versions = i; ends = over; deviates = m }
-  commit_by b over h i m = absurd h
-
-  pub commit_turn : (a : Answer) → of_client old.clients c ≡ Some x → Sets c (Some y) old.clients mid → Sets c None mid new.clients → new.next_tx ≡ old.next_tx
-      → new.beside ≡ old.beside → IsOver x y → KeepsMaps old.kv kv → KeepsPins old.kv kv
-      → new.kv ≡ record kv { pins = remove_key (nat_eq y.at.base) kv.pins } → IsPinnedOnceMore y.at.base new.kv kv → IsEnded old.kv kv a → IsInstall
-      (Reads Telling lists servers size told later) old.kv kv (commit_from old.kv x) a
-      → (Tells Telling lists servers size told later old (metadata_at old.kv x.at.base) → Tells Telling lists servers size told later old (metadata_now old.kv)
-      → (ops : List (Op (List ℕ))) → IsSound size old.kv told x ops → IsTrueEnd size (told, later) old.kv kv x ops a)
-      → ClientTurn Telling lists servers size told later old new c verb.Commit a
-  commit_turn a there sets taken next beside over maps pins is_kv unpinned h i m =
-      at_some (of_client old.clients c) x _ _ there (commit_by a (ends old new kv mid c x y sets taken next beside over.base maps pins is_kv unpinned) h i m)
-
-  -- a commit that failed
-  pub commit_failed : (why : Fault) (a : Answer) → of_client old.clients c ≡ Some x → Sets c (Some y) old.clients new.clients → y ≡ x → new.kv ≡ kv
-      → new.next_tx ≡ old.next_tx → new.beside ≡ old.beside → kv.number ≡ old.kv.number → KeepsMaps old.kv kv → KeepsVersions old.kv kv → KeepsPins old.kv kv
-      → fault_answer why ≡ Some a
-      → (Tells Telling lists servers size told later old (metadata_at old.kv x.at.base) → Tells Telling lists servers size told later old (metadata_now old.kv)
-      → (ops : List (Op (List ℕ))) → IsSound size old.kv told x ops → (t : Tree) → Stands size told x.tx 0 (metadata_now old.kv) t → IsReadFault servers a)
-      → Finals Telling lists servers size told later old new c x a
-  commit_failed why a there sets same is_kv next beside number maps versions pins is may = by a is may
-    where
-      stays : Stays old new c
-      stays = same_stays old new c x y there sets same (ap (λ (s : Store Key Value). s.number) is_kv ∙ number)
-          (λ n le. ap (λ (s : Store Key Value). metadata_at s n) is_kv ∙ maps n le)
-          (λ q. ap (λ (s : Store Key Value). versions_of key_cmp s q) is_kv ∙ versions q) (λ n. ap (λ (s : Store Key Value). times_pinned s n) is_kv ∙ pins n)
-          next beside
-
-      by : (b : Answer) → fault_answer why ≡ Some b
-          → (Tells Telling lists servers size told later old (metadata_at old.kv x.at.base)
-          → Tells Telling lists servers size told later old (metadata_now old.kv) → (ops : List (Op (List ℕ)))
-          → IsSound size old.kv told x ops → (t : Tree) → Stands size told x.tx 0 (metadata_now old.kv) t → IsReadFault servers b)
-          → Finals Telling lists servers size told later old new c x b
-      by (answer.Committed n) e f = absurd (fault_is why (answer.Committed n) e)
-      by (Aborted' i box b) e f = absurd (fault_is why (Aborted' i box b) e)
-      by b e f = record { fails = record { why = why; answer = e; stays = stays }; may = f }
+    pub try_ends : y.ended ≡ true → TryTurn old new c x a
+    try_ends over = ends_on (try_refusal x) refl over

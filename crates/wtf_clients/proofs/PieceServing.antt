@@ -35,7 +35,7 @@ use Rattle.wtf_clients.specs.Outcomes.{no_load, HasCause}
 use Rattle.wtf_clients.specs.Serves.{NamesTables, IsPlain, AreBased, AreFull, ServesLine}
 use Rattle.wtf_clients.specs.ScanTurns.{IsPruned, DoesTurn}
 use Rattle.wtf_clients.specs.Telling.{TellsTables, AreWide, ServesTold, ReadsTold}
-use Rattle.wtf_clients.proofs.Caused.{plain_caused, has_failed}
+use Rattle.wtf_clients.proofs.Caused.{has_failed}
 use Rattle.wtf_clients.proofs.Images.{kept_enough}
 use Rattle.wtf_clients.proofs.Lacking.{memory_none, region_caused, cause_since}
 use Rattle.wtf_clients.proofs.Lists.{sets_same}
@@ -44,7 +44,8 @@ use Rattle.wtf_clients.proofs.Naming.{value_later}
 use Rattle.wtf_clients.proofs.ScanFrames.{does_reads, sound_scanned}
 use Rattle.wtf_clients.proofs.ScanLaws.{kept_names}
 use Rattle.wtf_clients.proofs.Scanning.{pruned_live}
-use Rattle.wtf_clients.proofs.Serving.{lent_to, from_names, read_serves, read_failed}
+use Rattle.wtf_clients.proofs.Known.{lent_to}
+use Rattle.wtf_clients.proofs.Serving.{from_names, read_serves, read_failed}
 use Rattle.wtf_clients.proofs.ToldServing.{stays_told}
 
 -- a scan that runs has pinned what it has seen
@@ -68,6 +69,7 @@ module _ (old new : TablesView) (pruned : IsPruned old new) where
       ∙ sym (ap (λ (b : BesideView). all_owned n new.clients + all_kept n b) pruned.beside
       ∙ ap (λ l. all_owned n l + all_kept n old.beside) pruned.clients))
       pruned.clients pruned.next_tx (ap (λ (b : BesideView). b.images) pruned.beside)
+      (ap (λ (b : BesideView). b.jobs) pruned.beside)
 
 -- parts that were done name no more
 pub does_names : {S : Type 0} (kind : StoreKind S) (before after : Dev S) (old new : TablesView) (n left : ℕ) → AreSound old
@@ -130,11 +132,11 @@ module _ {S : Type 0} {kind : StoreKind S} (laws : KindLaws kind) (old new : Dev
 module _ {S : Type 0} {kind : StoreKind S} (laws : KindLaws kind) (old new : Dev S) (goes : GoesOn kind old new []) (lent : IsSoundDev kind old)
     (before : TablesView) (sound : AreSound before) (inside : TablesBytes (is_inside kind (stores old) old.settings) any_slice before) where
   abbrev asked : ℕ → Asked
-  asked k = asked_of kind (between old new) (lent_by old) before (event.Piece k)
+  asked k = asked_of kind (between old new) (lent_by old new) before (event.Piece k)
 
   -- what was read was read, and what is named was named
   pub piece_serves : (k : ℕ) (after : TablesView) (a : Answer) → NamesTables before after → OnlyRead kind (between old new) → IsPlain a
-      → ServesLine kind (between old new) (lent_by old) before after (event.Piece k) a
+      → ServesLine kind (between old new) (lent_by old new) before after (event.Piece k) a
   piece_serves k after a names reads plain =
       read_serves laws old new goes lent before sound inside after (asked k).goes_to (asked k).empty (asked k).fails a
       (from_names laws old new goes lent before sound inside after names) reads plain
@@ -143,7 +145,7 @@ module _ {S : Type 0} {kind : StoreKind S} (laws : KindLaws kind) (old new : Dev
   pub piece_fails : (k : ℕ) (after : TablesView) → NamesTables before after → OnlyRead kind (between old new) → IsRing old.settings.servers old.ring.now.points
       → (kept : Store Key Value) → IsPrunedFrom before.kv kept → (why : Fault) (a : Answer) → fault_answer why ≡ Some a
       → IsPieceFault kind old new kept before.beside.gc.running k why
-      → ServesLine kind (between old new) (lent_by old) before after (event.Piece k) a
+      → ServesLine kind (between old new) (lent_by old new) before after (event.Piece k) a
   piece_fails k after names reads ring kept pruned why a is cause =
       read_failed laws old new goes lent before sound inside after (asked k).goes_to (asked k).empty (asked k).fails a
       (from_names laws old new goes lent before sound inside after names) reads
@@ -168,10 +170,6 @@ module _ {S : Type 0} {kind : StoreKind S} (laws : KindLaws kind) (old new : Dev
           beside = refl;
         }) why in
         record { undamaged = same.undamaged; unread = same.unread }
-
-    pub piece_told : (a : Answer) → IsPlain a → ReadsTold kind (between old new) old.settings before a
-    piece_told a plain =
-        read_told a (plain_caused kind (between old new) old.settings ⊥ (AreBased before) (AreWide old.settings (told_in kind old) before) no_load a plain)
 
     pub piece_failed_told : (k : ℕ) (kept : Store Key Value) → IsPrunedFrom before.kv kept → (why : Fault) (a : Answer) → fault_answer why ≡ Some a
         → IsPieceFault kind old new kept before.beside.gc.running k why → ReadsTold kind (between old new) old.settings before a

@@ -1,5 +1,5 @@
--- The pins of the images, where one comes, goes, or is the only one that stays.
-use Rattle.std.proofs.Common.{◌≡◌, ◌≤◌, ◌<◌, ℕ, ◌+◌, ◌-◌, cond, nat_eq, count_by, List, [], ◌∷◌, ◌++◌, take, drop, get_or, suc, length, refl, sym, ap, ◌∙◌}
+-- The pins of the images, where one comes, goes, or is the only one that stays, and of what is watched.
+use Rattle.std.proofs.Common.{◌≡◌, ◌≤◌, ◌<◌, ℕ, ◌+◌, ◌-◌, cond, nat_eq, count_by, List, [], ◌∷◌, Some, ◌++◌, take, drop, get_or, suc, length, refl, sym, ap, ◌∙◌}
 use Rattle.std.proofs.Common.{arith}
 use Rattle.std.specs.Prelude.{IsTrue}
 use Rattle.std.proofs.Math.Seq.{take-append_seam, take-suc}
@@ -12,8 +12,8 @@ use Rattle.wtf_values.specs.declared.key.Key.{Key}
 use Rattle.wtf_values.specs.declared.value.Value.{Value}
 use Rattle.wtf_values.specs.Keys.{key_cmp}
 use Rattle.wtf_meta.specs.Maps.{metadata_at}
-use Rattle.wtf_clients.specs.Views.{BesideView, TablesView}
-use Rattle.wtf_clients.specs.Sounds.{all_kept}
+use Rattle.wtf_clients.specs.Views.{BesideView, TablesView, watching}
+use Rattle.wtf_clients.specs.Sounds.{all_kept, all_watched}
 use Rattle.wtf_clients.specs.Saves.{with_image, only_image, Saves}
 
 -- the list but for its last
@@ -32,9 +32,10 @@ more_kept s before k n is =
 pub others_are : (s before : BesideView) (k : ℕ) → s ≡ with_image before k → take (length s.images - 1) s.images ≡ before.images
 others_are s before k is = ap (λ (t : BesideView). take (length t.images - 1) t.images) is ∙ front before.images k
 
-pub some_kept : (s before : BesideView) (k : ℕ) → s ≡ with_image before k → 0 < length s.images
-some_kept s before k is = let len : length s.images ≡ length before.images + 1 = ap (λ (t : BesideView). length t.images) is ∙ length_push before.images k in
-    omega (arith, len)
+-- the image that came last goes
+pub one_dropped : (s t before : BesideView) (k : ℕ) → s ≡ with_image before k → t ≡ record s { images = take (length s.images - 1) s.images } → t ≡ before
+one_dropped s t before k is dropped = dropped ∙ ap (λ (q : BesideView). record q { images = take (length q.images - 1) q.images }) is
+    ∙ ap (λ (l : List ℕ). record before { images = l }) (front before.images k)
 
 -- ---- pins are undone one by one
 pub count_front : (n k : ℕ) (xs : List ℕ) → count_by (nat_eq n) (take k xs) ≤ count_by (nat_eq n) xs
@@ -96,6 +97,26 @@ module _ (old new : TablesView) (clients : new.clients ≡ old.clients) (next : 
       beside = is;
     }
 
+    -- one more
+    pub adds_one : IsPinnedOnceMore old.kv.number old.kv new.kv → new.beside ≡ with_image old.beside old.kv.number
+        → Saves old new (with_image old.beside old.kv.number)
+    adds_one once is = saves_by (with_image old.beside old.kv.number)
+        (λ n.
+        let more = once n in
+        let one = more_kept (with_image old.beside old.kv.number) old.beside old.kv.number n refl in
+        omega (arith, more, one))
+        is
+
+    -- the last one goes
+    pub drops_one : (before : BesideView) → old.beside ≡ with_image before old.kv.number → IsPinnedOnceMore old.kv.number new.kv old.kv
+        → new.beside ≡ before → Saves old new before
+    drops_one before was once is = saves_by before
+        (λ n.
+        let less = once n in
+        let one = more_kept old.beside before old.kv.number n was in
+        omega (arith, less, one))
+        is
+
     -- it alone stays
     pub settles_one : (before : BesideView) → old.beside ≡ with_image before old.kv.number
         → ((n : ℕ) → times_pinned new.kv n + count_by (nat_eq n) before.images ≡ times_pinned old.kv n) → new.beside ≡ only_image before old.kv.number
@@ -106,6 +127,18 @@ module _ (old new : TablesView) (clients : new.clients ≡ old.clients) (next : 
         let more = more_kept old.beside before old.kv.number n was in
         let one : count_by (nat_eq n) (old.kv.number ∷ []) ≡ 0 + cond (nat_eq n old.kv.number) 1 0 = count-push n old.kv.number [] in
         omega (arith, left, more, one))
+        is
+
+    -- the number is watched, and what was watched before is no more
+    pub watches_one : (mid : Store Key Value) → IsPinnedOnceMore old.kv.number old.kv mid
+        → ((n : ℕ) → times_pinned new.kv n + all_watched n old.beside.watched ≡ times_pinned mid n)
+        → new.beside ≡ watching old.beside old.kv.number → Saves old new (watching old.beside old.kv.number)
+    watches_one mid once gone is = saves_by (watching old.beside old.kv.number)
+        (λ n.
+        let more = once n in
+        let less = gone n in
+        let one : all_watched n (Some old.kv.number) ≡ cond (nat_eq n old.kv.number) 1 0 = refl in
+        omega (arith, more, less, one))
         is
 
 -- one change after another

@@ -21,7 +21,7 @@ use Rattle.wtf_clients.specs.Asked.{lending, asked_of, HasFailed}
 use Rattle.wtf_clients.specs.Outcomes.{no_load, SaveFault, HasCause}
 use Rattle.wtf_clients.specs.Saves.{with_image, only_image, Saves, SaveTurn}
 use Rattle.wtf_clients.specs.Serves.{NamesTables, AreBased, AreFull, ServesEvent}
-use Rattle.wtf_clients.proofs.Caused.{none_placed, none_added, none_spares}
+use Rattle.wtf_clients.proofs.Caused.{none_placed, none_added}
 use Rattle.wtf_clients.proofs.Lives.{now_bytes, Reaches, saved_reaches, same_kept, added_kept, only_kept}
 use Rattle.wtf_clients.proofs.Naming.{value_later, now_along, live_along, txn_along}
 
@@ -65,14 +65,13 @@ module _ {S : Type 0} {kind : StoreKind S} (laws : KindLaws kind) (down : ℕ �
 
   pub save_serves : (a : Answer) → SaveTurn Up old new a → HasCause kind (span down before after) settings
       (SaveFault kind (span down before after) settings rose event.Save) (AreBased old) (AreFull settings old) no_load a
-      → (lists : Remembered) → ServesEvent kind (span down before after) (lending settings lists) rose (old, new) event.Save a
+      → (lists : Remembered) → ServesEvent kind (span down before after) (lending settings lists lists) rose (old, new) event.Save a
   save_serves a turn caused lists = record {
     inside = save_names Up old new a sound turn (is_inside kind after settings) any_slice refl inside_on;
     bare = λ free. save_names Up old new a sound turn any_byte no_slice refl;
     full = λ free. save_names Up old new a sound turn (has_copies settings.replicas) no_slice refl;
     adds = none_added kind (span down before after) settings a lengths;
     caused = caused;
-    placed = none_placed kind (span down before after) settings (asked_of kind (span down before after) (lending settings lists) old event.Save) a refl;
-    spares = none_spares kind (span down before after) (asked_of kind (span down before after) (lending settings lists) old event.Save) a lengths;
-    failed = save_failed Up old new (asked_of kind (span down before after) (lending settings lists) old event.Save).fails a turn;
+    placed = none_placed kind (span down before after) settings (asked_of kind (span down before after) (lending settings lists lists) old event.Save) a refl;
+    failed = save_failed Up old new (asked_of kind (span down before after) (lending settings lists lists) old event.Save).fails a turn;
   }

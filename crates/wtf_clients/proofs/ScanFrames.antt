@@ -16,10 +16,11 @@ use Rattle.wtf_region.specs.declared.dev.Dev.{Dev}
 use Rattle.wtf_gc.specs.Scans.{undone, run_on, with_run, with_finished}
 use Rattle.wtf_gc.specs.Views.{RunView, GcView}
 use Rattle.wtf_clients.specs.Views.{BesideView, TablesView, of_client}
-use Rattle.wtf_clients.specs.Sounds.{all_owned, all_kept, all_seen, all_planned, AreSound}
+use Rattle.wtf_clients.specs.Sounds.{all_owned, all_kept, all_seen, all_planned, all_watched, AreSound}
 use Rattle.wtf_clients.specs.ScanTurns.{StartsTurn, DoesTurn, KeepsStore}
 use Rattle.wtf_clients.proofs.Lives.{live_cases, live_upto, pinned_live, number_live}
 use Rattle.wtf_clients.proofs.Pins.{base_pinned}
+use Rattle.wtf_clients.specs.Views.{of_label}
 
 -- Tables of which only the scans and the store differ: the number stays, each number that is pinned is owned, and the map at each that is
 -- pinned is what it was.
@@ -27,8 +28,9 @@ pub sound_scanned : (old new : TablesView) → AreSound old → new.kv.number �
     → ((n : ℕ) → IsTrue (is_pinned new.kv n) → IsTrue (is_live old.kv n))
     → ((n : ℕ) → IsTrue (is_live old.kv n) → metadata_at new.kv n ≡ metadata_at old.kv n)
     → ((n : ℕ) → times_pinned new.kv n ≡ all_owned n new.clients + all_kept n new.beside)
-    → new.clients ≡ old.clients → new.next_tx ≡ old.next_tx → new.beside.images ≡ old.beside.images → AreSound new
-sound_scanned old new sound number reach maps pins clients next images =
+    → new.clients ≡ old.clients → new.next_tx ≡ old.next_tx → new.beside.images ≡ old.beside.images
+    → new.beside.jobs ≡ old.beside.jobs → AreSound new
+sound_scanned old new sound number reach maps pins clients next images jobs =
     let was : (c : ℕ) (x : TxnView) → of_client new.clients c ≡ Some x → of_client old.clients c ≡ Some x =
     λ c x there. ap (λ l. of_client l c) (sym clients) ∙ there in
     record {
@@ -53,6 +55,7 @@ sound_scanned old new sound number reach maps pins clients next images =
       upto = λ n pinned. let le = live_upto old n sound (reach n pinned) in omega (arith, le, number);
       kept = λ n here. let le = sound.kept n (subst (λ l. Contains l n) images here) in omega (arith, le, number);
       apart = λ c d x y is its same. sound.apart c d x y (was c x is) (was d y its) same;
+      formed = λ j x is. sound.formed j x (ap (λ l. of_label l j) (sym jobs) ∙ is);
     }
 
 -- a store of which the pins alone differ shows the same maps
@@ -97,8 +100,11 @@ module _ {S : Type 0} (kind : StoreKind S) (shelf : List S) (old new : TablesVie
       let jobs : all_planned n new.beside.jobs ≡ all_planned n old.beside.jobs = ap (λ (b : BesideView). all_planned n b.jobs) turn.beside in
       let seen : all_seen n new.beside.gc.running ≡ count_by (nat_eq n) run.seen = ap (λ (g : GcView). all_seen n g.running) turn.starts.is in
       let none : all_seen n old.beside.gc.running ≡ 0 = ap (all_seen n) turn.free in
-      omega (arith, more, was, own, images, jobs, seen, none))
+      let watched : all_watched n new.beside.watched ≡ all_watched n old.beside.watched =
+      ap (λ (b : BesideView). all_watched n b.watched) turn.beside in
+      omega (arith, more, was, own, images, jobs, seen, none, watched))
       turn.clients turn.next_tx (ap (λ (b : BesideView). b.images) turn.beside)
+      (ap (λ (b : BesideView). b.jobs) turn.beside)
 
 -- freeing changes none of it
 pub free_sound : (old new : TablesView) → AreSound old → KeepsStore old new → new.beside.gc.running ≡ old.beside.gc.running → AreSound new
@@ -114,8 +120,11 @@ free_sound old new sound keeps running =
     ap (λ (b : BesideView). count_by (nat_eq n) b.images) keeps.keeps.beside in
     let jobs : all_planned n new.beside.jobs ≡ all_planned n old.beside.jobs = ap (λ (b : BesideView). all_planned n b.jobs) keeps.keeps.beside in
     let seen : all_seen n new.beside.gc.running ≡ all_seen n old.beside.gc.running = ap (all_seen n) running in
-    omega (arith, same, was, own, images, jobs, seen))
+    let watched : all_watched n new.beside.watched ≡ all_watched n old.beside.watched =
+    ap (λ (b : BesideView). all_watched n b.watched) keeps.keeps.beside in
+    omega (arith, same, was, own, images, jobs, seen, watched))
     keeps.keeps.clients keeps.keeps.next_tx (ap (λ (b : BesideView). b.images) keeps.keeps.beside)
+    (ap (λ (b : BesideView). b.jobs) keeps.keeps.beside)
 
 -- ---- parts
 -- what the pins of a scan are once parts are done: its own, or, where none is left, undone
@@ -158,5 +167,8 @@ module _ {S : Type 0} (kind : StoreKind S) (before after : Dev S) (old new : Tab
       let now : all_seen m new.beside.gc.running ≡ all_seen m (with_run old.beside.gc done).running = ap (λ (g : GcView). all_seen m g.running) turn.does.is in
       let kept = seen_left old.beside.gc done m in
       let had : all_seen m old.beside.gc.running ≡ count_by (nat_eq m) turn.does.run.seen = ap (all_seen m) turn.does.was in
-      omega (arith, less, was, own, images, jobs, now, kept, had))
+      let watched : all_watched m new.beside.watched ≡ all_watched m old.beside.watched =
+      ap (λ (b : BesideView). all_watched m b.watched) turn.keeps.beside in
+      omega (arith, less, was, own, images, jobs, now, kept, had, watched))
       turn.keeps.clients turn.keeps.next_tx (ap (λ (b : BesideView). b.images) turn.keeps.beside)
+      (ap (λ (b : BesideView). b.jobs) turn.keeps.beside)

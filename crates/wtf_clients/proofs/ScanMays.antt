@@ -1,4 +1,4 @@
--- Lines of scans and collections over the machine: it allows what they answer, and the tables stand for what it is then. They stay sound.
+-- Lines of scans and collections over the machine: it allows what they answer, and the tables stand for what it is then.
 use Rattle.std.proofs.Common.{◌≡◌, ℕ, ◌+◌, ◌-◌, ◌^◌, ◌<◌, ◌≤◌, Bool, true, false, cond, T, ◌||◌, ◌==◌, nat_eq, nat_lt, List, [], ◌∷◌, map, min, Option, None}
 use Rattle.std.proofs.Common.{Some, is_some, slice_index_or, zero, suc, refl, sym, ap, ◌∙◌, subst, inl, inr, ⊎_elim, arith}
 use Rattle.std.specs.Prelude.{IsTrue, if◌then◌else◌}
@@ -41,8 +41,8 @@ use Rattle.wtf_clients.specs.Standing.{TablesStand, StampsStand, HasKinds, Scans
 use Rattle.wtf_clients.specs.ScanTurns.{StartsTurn, ScanTurn, IsPruned, KeepsBut, DoesTurn, PieceFails, PieceTurn, KeepsStore, CollectTurn}
 use Rattle.wtf_clients.proofs.HoldLaws.{some_same, at_front, tail_of, behind, txn_of, label_of, held_is, none_held}
 use Rattle.wtf_clients.proofs.Making.{at_none, at_some}
-use Rattle.wtf_clients.proofs.PieceServing.{pruned_sound, piece_known}
-use Rattle.wtf_clients.proofs.ScanFrames.{start_reads, start_maps, start_sound, does_reads, does_sound, free_sound}
+use Rattle.wtf_clients.proofs.PieceServing.{piece_known}
+use Rattle.wtf_clients.proofs.ScanFrames.{start_reads, start_maps, does_reads}
 use Rattle.wtf_clients.proofs.Scanning.{pruned_live}
 
 -- ---- what stays
@@ -146,12 +146,6 @@ module _ {S : Type 0} (kind : StoreKind S) (shelf : List S) (size : ℕ) (told :
   scan_may answer.Scanning h = sym (scan_due m None (none_left h.free) (none_held size told old m stand sound st.stamps h.no_txn h.no_job))
   scan_may a h = absurd h
 
-  pub scan_sound : (a : Answer) → ScanTurn kind shelf old new a → AreSound new
-  scan_sound (answer.Refused ScanBusy) h = subst (λ (t : TablesView). AreSound t) (sym h.0) sound
-  scan_sound (answer.Held x) h = subst (λ (t : TablesView). AreSound t) (sym h.0) sound
-  scan_sound answer.Scanning h = start_sound kind shelf old new sound h
-  scan_sound a h = absurd h
-
   -- ---- one that begins
   module _ (h : StartsTurn kind shelf old new) where
     abbrev noted : List ℕ
@@ -236,12 +230,6 @@ module _ {S : Type 0} (kind : StoreKind S) (shelf : List S) (size : ℕ) (told :
 
 -- ---- parts of a scan
 module _ {S : Type 0} (kind : StoreKind S) (before after : Dev S) (old new : TablesView) (k : ℕ) where
-  pub piece_sound : AreSound old → (a : Answer) → PieceTurn kind before after old new k a → AreSound new
-  piece_sound sound (answer.Refused NoScan) h = subst (λ (t : TablesView). AreSound t) (sym h.0) sound
-  piece_sound sound (answer.More left) h = does_sound kind before after old new k left sound h.1
-  piece_sound sound answer.Done h = does_sound kind before after old new k 0 sound h
-  piece_sound sound a f = pruned_sound old new f.pruned sound
-
   module _ (m : Machine) (st : ScansStand old m) where
     parts_of : (o : Option RunView) → old.beside.gc.running ≡ o → m.parts_left ≡ option_map (λ (r : RunView). r.left) o
     parts_of o is = st.parts ∙ ap (option_map (λ (r : RunView). r.left)) is
@@ -344,13 +332,6 @@ abbrev refused : Bool → Bool → Option Word
 refused server few = if server then (if few then Some NoScan else None) else Some NoServer
 
 module _ {S : Type 0} (kind : StoreKind S) (before after : Dev S) (old new : TablesView) (k : ℕ) where
-  pub collect_sound : AreSound old → (a : Answer) → CollectTurn kind before after old new k a → AreSound new
-  collect_sound sound (answer.Refused NoServer) h = subst (λ (t : TablesView). AreSound t) (sym h.0) sound
-  collect_sound sound (answer.Refused NoScan) h = subst (λ (t : TablesView). AreSound t) (sym h.0) sound
-  collect_sound sound (answer.Collected n) h = free_sound old new sound h.1.keeps h.1.frees.counts.running
-  collect_sound sound (answer.FaultPunch j) h = free_sound old new sound h.1.keeps h.1.frees.counts.running
-  collect_sound sound a h = absurd h
-
   module _ (m : Machine) (st : ScansStand old m) where
     pub collect_may : m.settings ≡ before.settings → (a : Answer) → CollectTurn kind before after old new k a → May m (event.Collect k) a
     collect_may settings a h = by a h

@@ -3,7 +3,6 @@ use Rattle.std.proofs.Common.{◌≡◌, ℕ, ◌+◌, ◌<◌, Bool, true, ◌&
 use Rattle.std.proofs.Common.{refl, sym, ap, ◌∙◌, subst, inl, inr, arith}
 use Rattle.std.proofs.lemmas.Bool.{and_from, and_parts, or_left, or_right, eq-eqb, le-leb, lt-ltb}
 use Rattle.std.proofs.lemmas.List.Folds.{list_any-append}
-use Rattle.wtf_clients.proofs.Caused.{none_spares}
 use Rattle.wtf_base.specs.declared.fault.Fault.{Fault}
 use Rattle.wtf_base.specs.declared.fault.Fault.TheVariants as fault
 use Rattle.wtf_dev.specs.Each.{EachFollows}
@@ -33,7 +32,7 @@ use Rattle.wtf_clients.specs.Outcomes.{Frees, AddsBytes, HasCause}
 use Rattle.wtf_clients.specs.Asked.{LacksPunch, asked_of, lent_by, HasFailed}
 use Rattle.wtf_clients.specs.Serves.{NamesTables, AreBased, AreFull, ServesLine}
 use Rattle.wtf_clients.proofs.Lacking.{memory_none}
-use Rattle.wtf_clients.proofs.Serving.{lent_to}
+use Rattle.wtf_clients.proofs.Known.{lent_to}
 use Rattle.wtf_clients.proofs.ToldLaws.{tables_stay}
 
 -- other scans name nothing else
@@ -82,8 +81,8 @@ module _ {S : Type 0} {kind : StoreKind S} (laws : KindLaws kind) (old new : Dev
   serves_by : (ranges : List (ℕ × Range)) → EachFollows kind (stores old) (stores new) ranges → (a : Answer)
       → AddsBytes kind (between old new) old.settings (Frees k) a
       → HasCause kind (between old new) old.settings ⊥ (AreBased before) (AreFull old.settings before) (Frees k) a
-      → HasFailed (asked_of kind (between old new) (lent_by old) before (event.Collect k)).fails a
-      → ServesLine kind (between old new) (lent_by old) before after (event.Collect k) a
+      → HasFailed (asked_of kind (between old new) (lent_by old new) before (event.Collect k)).fails a
+      → ServesLine kind (between old new) (lent_by old new) before after (event.Collect k) a
   serves_by ranges each a adds caused failed = record {
     inside = gc_names before beside jobs (is_inside kind (stores new) old.settings) any_slice refl
         (tables_stay (is_inside kind (stores old) old.settings) (is_inside kind (stores new) old.settings)
@@ -93,13 +92,12 @@ module _ {S : Type 0} {kind : StoreKind S} (laws : KindLaws kind) (old new : Dev
     adds = adds;
     caused = caused;
     placed = tt;
-    spares = none_spares kind (between old new) (asked_of kind (between old new) (lent_by old) before (event.Collect k)) a lengths;
     failed = failed;
   }
 
   -- what was freed
   pub collected : (ranges : List (ℕ × Range)) → GoesOn kind old new ranges → (n : ℕ)
-      → ServesLine kind (between old new) (lent_by old) before after (event.Collect k) (answer.Collected n)
+      → ServesLine kind (between old new) (lent_by old new) before after (event.Collect k) (answer.Collected n)
   collected ranges goes n = serves_by ranges goes.each (answer.Collected n) lengths tt tt
 
   -- the server has garbage, and is out
@@ -121,7 +119,7 @@ module _ {S : Type 0} {kind : StoreKind S} (laws : KindLaws kind) (old new : Dev
 
   -- or the server failed
   pub collect_failed : (later : GcView) (why : Fault) (a : Answer) → fault_answer why ≡ Some a → IsCollectFault kind k old new before.beside.gc later why
-      → ServesLine kind (between old new) (lent_by old) before after (event.Collect k) a
+      → ServesLine kind (between old new) (lent_by old new) before after (event.Collect k) a
   collect_failed later fault.Memory a is f = absurd (memory_none fault.Memory a is refl)
   collect_failed later (fault.Read j) a is f = absurd f.cause
   collect_failed later fault.Write a is f = absurd f.cause
@@ -132,7 +130,16 @@ module _ {S : Type 0} {kind : StoreKind S} (laws : KindLaws kind) (old new : Dev
       out_after laws (is_down old.replicas.now) (stores old) (stores f.mid) (stores new) f.ranges f.goes.each k
       (subst (λ r. IsOut kind (span (is_down r.now) (stores f.mid) (stores new)) k) f.goes.replicas f.cause.1) in
       let server = f.cause.0 in
-      subst (λ (b : Answer). ServesLine kind (between old new) (lent_by old) before after (event.Collect k) b) same
+      subst (λ (b : Answer). ServesLine kind (between old new) (lent_by old new) before after (event.Collect k) b) same
       (serves_by _ (each_on laws f.goes.each f.last.each) (answer.FaultPunch j.0) lengths
       (server, subst (λ m. IsOut kind (between old new) m) (sym server) out)
       (fault.Punch j, refl, (old, new, lent_to old new ring, lacks later (fault.Punch j) f (server, out))))
+
+-- a scan that runs goes on, whatever failed
+pub still_runs : {S : Type 0} (kind : StoreKind S) (k : ℕ) (old new : Dev S) (g later : GcView) (why : Fault) → IsCollectFault kind k old new g later why
+    → later.running ≡ g.running
+still_runs kind k old new g later fault.Memory f = ap (λ (x : GcView). x.running) f.1
+still_runs kind k old new g later (fault.Read j) f = f.counts.running
+still_runs kind k old new g later fault.Write f = f.counts.running
+still_runs kind k old new g later (fault.Damaged j) f = f.counts.running
+still_runs kind k old new g later (fault.Punch j) f = f.counts.running

@@ -38,3 +38,4 @@ module _ (old new : TablesView) (pins : IsPinnedFor [] old.kv new.kv) (clients :
       as_often n ∙ sound.pins n
       ∙ sym (ap (λ (b : BesideView). all_owned n new.clients + all_kept n b) beside ∙ ap (λ l. all_owned n l + all_kept n old.beside) clients))
       clients next (ap (λ (b : BesideView). b.images) beside)
+      (ap (λ (b : BesideView). b.jobs) beside)

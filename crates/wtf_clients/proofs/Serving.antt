@@ -1,8 +1,7 @@
 -- What answered lines made of the bytes that the tables name, and of the stores.
 use Rattle.std.proofs.Common.{◌≡◌, ◌⊎◌, ℕ, Bool, true, List, [], Option, None, Some, refl, sym, ap, subst, inl, inr, slice_get}
-use Rattle.std.specs.Prelude.{IfSome, IsSome}
+use Rattle.std.specs.Prelude.{IfSome}
 use Rattle.std.specs.Option.{option_map}
-use Rattle.wtf_steps.specs.Leaving.{LeavesStores}
 use Rattle.wtf_base.specs.declared.fault.Fault.{Fault}
 use Rattle.wtf_base.specs.declared.fault.Fault.TheVariants as fault
 use Rattle.wtf_base.specs.declared.ids.InodeId.{InodeId}
@@ -32,18 +31,17 @@ use Rattle.wtf_region.specs.Inside.{is_inside}
 use Rattle.wtf_region.specs.Showing.{OnlyRead}
 use Rattle.wtf_rw.specs.Stored.{SliceBytes}
 use Rattle.wtf_replay.specs.Views.{TxnView, hand_of, rebased, in_hand}
-use Rattle.wtf_replay.specs.Called.{IsCalled}
-use Rattle.wtf_replay.specs.Causes.{StoresNothing, IsOwnOf, IsCallFault, FaultAt, ReplayFault, IsCommitFault, fault_answer, grown_file}
+use Rattle.wtf_replay.specs.Causes.{IsCallFault, FaultAt, ReplayFault, IsCommitFault, fault_answer}
 use Rattle.wtf_replay.proofs.Froms.{from_one}
 use Rattle.wtf_replay.specs.Insides.{HandBytes, LogBytes, TxnBytes, IsInsideTxn, NamesTxn, NamesNow}
-use Rattle.wtf_replay.specs.Refusals.{call_refusal, step_refusal, unmade}
+use Rattle.wtf_replay.specs.Refusals.{call_refusal, step_refusal}
 use Rattle.wtf_replay.specs.Replays.{IsStepped, IsEnded}
 use Rattle.wtf_replay.proofs.Insiding.{map_later, inside_later}
 use Rattle.wtf_replay.proofs.Naming.{named_inside}
 use Rattle.wtf_clients.specs.Views.{Clients, TablesView, of_client}
 use Rattle.wtf_clients.specs.Sounds.{AreSound, Sets}
 use Rattle.wtf_clients.specs.Named.{TablesBytes, any_byte, no_slice, has_copies}
-use Rattle.wtf_clients.specs.Asked.{Asked, asked_of, lent_by, IsLent, IsPlaced, HasFailed, SparesFiles}
+use Rattle.wtf_clients.specs.Asked.{Asked, asked_of, lent_by, IsPlaced, HasFailed}
 use Rattle.wtf_clients.specs.Outcomes.{Data, no_load, AddsBytes, HasCause, data_of_op}
 use Rattle.wtf_clients.specs.Serves.{NamesTables, IsPlain, AreBased, AreBare, AreFull, Serves}
 use Rattle.wtf_clients.specs.Turns.{Ends, Stays}
@@ -51,8 +49,12 @@ use Rattle.wtf_clients.proofs.Lives.{now_bytes}
 use Rattle.wtf_clients.proofs.Making.{answered, same_answer}
 use Rattle.wtf_clients.proofs.Naming.{value_later, keeps_bytes, stays_bytes, leaves_bytes, ends_bytes}
 use Rattle.wtf_clients.proofs.Lacking.{AreFullLists, memory_none, no_lists, any_lists, cause_since}
-use Rattle.wtf_clients.proofs.Caused.{logged_plain, plain_caused, plain_failed, has_failed, none_placed, refused_placed, fault_placed, call_placed, none_spares, plain_spares, call_spares}
+use Rattle.wtf_clients.proofs.Caused.{logged_plain, plain_caused, plain_failed, has_failed, none_placed, refused_placed, fault_placed, call_placed}
 use Rattle.wtf_clients.proofs.Caused.{none_added, refused_adds, same_lengths, call_adds, own_full, fault_adds, SeenBytes, again_caused, call_caused}
+use Rattle.wtf_replay.specs.Verbs.{Turn, turn, CallOf, StepOf}
+use Rattle.std.specs.Prelude.{Ok, Err}
+use Rattle.wtf_clients.proofs.Making.{as_words, refusal_of}
+use Rattle.wtf_clients.proofs.Known.{lent_to}
 
 -- what is not refused
 pub stepped_plain : (x y : TxnView) (a : Answer) → IsStepped x y a → IsPlain a
@@ -65,19 +67,14 @@ ended_plain kv after (answer.Committed n) h = tt
 ended_plain kv after (Aborted' i box a) h = tt
 ended_plain kv after a h = absurd h
 
-pub step_plain : (x y : TxnView) (a : Answer) → IfSome (step_refusal x) (λ w. (answered Fault a (answer.Refused w)) × (y ≡ x))
-    → (step_refusal x ≡ None → IsStepped x y a) → IsPlain a
-step_plain x y a stopped stepped = by (step_refusal x) refl
-  where
-    by : (r : Option Word) → step_refusal x ≡ r → IsPlain a
-    by None is = stepped_plain x y a (stepped is)
-    by (Some w) is =
-        let both : (answered Fault a (answer.Refused w)) × (y ≡ x) = subst (λ m. IfSome m (λ v. (answered Fault a (answer.Refused v)) × (y ≡ x))) is stopped in
-        subst IsPlain (sym (same_answer Fault a (answer.Refused w) both.0)) tt
+-- what was not refused is said of an answer, and a refusal
+plain_or : {D : Type 0} (x y : TxnView) (before after : D) (a : Answer) (o : Option Word)
+    → IfSome o (λ w. (answered Fault a (answer.Refused w)) × (y ≡ x) × (after ≡ before)) → (o ≡ None → IsStepped x y a) → IsPlain a
+plain_or x y before after a None stopped stepped = stepped_plain x y a (stepped refl)
+plain_or x y before after a (Some w) stopped stepped = subst IsPlain (sym (same_answer Fault a (answer.Refused w) stopped.0)) tt
 
--- the devices of a line
-pub lent_to : {S : Type 0} (old new : Dev S) → IsRing old.settings.servers old.ring.now.points → IsLent (between old new) (lent_by old) old new
-lent_to old new ring = record { span_is = refl; settings_are = refl; lists_are = refl; ring_is = ring }
+pub step_plain : {S : Type 0} (t : Turn S) (a : Answer) → StepOf t (Ok a) → IsPlain a
+step_plain t a did = plain_or t.old t.new t.before t.after a (step_refusal t.old) did.refused did.stepped
 
 -- a fault that is answered is no want of memory
 pub past_memory : {F : Type 0} (why : Fault) (a : Answer) → fault_answer why ≡ Some a → (why ≡ fault.Memory) ⊎ F → F
@@ -127,7 +124,6 @@ module _ {S : Type 0} {kind : StoreKind S} (laws : KindLaws kind) (old new : Dev
     adds = none_added kind (between old new) old.settings a reads.lengths;
     caused = caused;
     placed = none_placed kind (between old new) old.settings (record { given = no_load; goes_to = place; empty = empty; fails = fails }) a refl;
-    spares = none_spares kind (between old new) (record { given = no_load; goes_to = place; empty = empty; fails = fails }) a reads.lengths;
     failed = failed;
   }
 
@@ -285,9 +281,9 @@ module _ {S : Type 0} {kind : StoreKind S} (laws : KindLaws kind) (old new : Dev
         (AreFull old.settings before → TxnBytes (has_copies old.settings.replicas) no_slice before.kv y) → AddsBytes kind (between old new) old.settings
         asked.given a
         → HasCause kind (between old new) old.settings ⊥ (AreBased before) (AreFull old.settings before) asked.given a → IsPlaced kind (between old new)
-        old.settings asked a → SparesFiles kind (between old new) asked a → HasFailed asked.fails a
+        old.settings asked a → HasFailed asked.fails a
         → Serves kind (between old new) old.settings ⊥ (before, called) asked a
-    set_serves asked a bare full adds caused placed spares failed = record {
+    set_serves asked a bare full adds caused placed failed = record {
       inside = keeps_bytes (is_inside kind (stores new) old.settings) any_slice before called c y sound
           (record { clients = sets; kv = refl; next_tx = refl; beside = refl }) own later;
       bare = λ free h. keeps_bytes any_byte no_slice before called c y sound (record { clients = sets; kv = refl; next_tx = refl; beside = refl }) (bare h) h;
@@ -296,7 +292,6 @@ module _ {S : Type 0} {kind : StoreKind S} (laws : KindLaws kind) (old new : Dev
       adds = adds;
       caused = caused;
       placed = placed;
-      spares = spares;
       failed = failed;
     }
 
@@ -304,53 +299,44 @@ module _ {S : Type 0} {kind : StoreKind S} (laws : KindLaws kind) (old new : Dev
     same_bytes P Q same h = subst (TxnBytes P Q before.kv) (sym same) (h.each c x there)
 
     abbrev asked : Op (List ℕ) → Asked
-    asked o = asked_of kind (between old new) (lent_by old) before (event.Client c (verb.Call o))
+    asked o = asked_of kind (between old new) (lent_by old new) before (event.Client c (verb.Call o))
 
     -- a call
     pub call_serves : IsRing old.settings.servers old.ring.now.points → (o : Op (List ℕ)) (a : Answer)
-        → IfSome (unmade x) (λ b. (answered Fault a b) × (y ≡ x) × (new ≡ old))
-        → (unmade x ≡ None → (own : Option Slice) × IsCalled x y o own a × IsOwnOf kind old new (seen before.kv x.at) x.session o own × NamesTxn kind old new
-        before.kv x y own × (IsSome own → a ≡ answer.Okay))
-        → (StoresNothing o → OnlyRead kind (between old new)) → Serves kind (between old new) old.settings ⊥ (before, called) (asked o) a
-    call_serves ring o a stopped made reads = by (call_refusal x) refl
+        → CallOf (turn kind old new before.kv before.kv x y) o (Ok a) → Serves kind (between old new) old.settings ⊥ (before, called) (asked o) a
+    call_serves ring o a call = by (call_refusal x) refl
       where
         by : (r : Option Word) → call_refusal x ≡ r → Serves kind (between old new) old.settings ⊥ (before, called) (asked o) a
         by None is =
-            let free : unmade x ≡ None = ap (option_map answer.Refused) is in
-            let did = made free in
-            let plain = logged_plain a did.1.logged.answer in
+            let did = call.made (ap (option_map answer.Refused) is) in
+            let plain = logged_plain a did.called.logged.answer in
             set_serves (asked o) a
-            (λ h. did.3.names any_byte no_slice refl (h.each c x there) (no_lists any_byte did.3.lists) (any_own did.0))
-            (λ h. did.3.names (has_copies old.settings.replicas) no_slice refl (h.each c x there) (no_lists (has_copies old.settings.replicas) did.3.lists)
-            (own_full kind old new (seen before.kv x.at) x.session o did.0 did.2))
-            (call_adds kind old new (seen before.kv x.at) x.session o did.0 a did.2 did.1.lacks did.4 reads)
+            (λ h. did.named.names any_byte no_slice refl (h.each c x there) (no_lists any_byte did.named.lists) (any_own did.own))
+            (λ h. did.named.names (has_copies old.settings.replicas) no_slice refl (h.each c x there)
+            (no_lists (has_copies old.settings.replicas) did.named.lists) (own_full kind old new (seen before.kv x.at) x.session o did.own did.stored))
+            (call_adds kind old new (seen before.kv x.at) x.session o did.own a did.stored did.called.lacks did.done call.reads)
             (plain_caused kind (between old new) old.settings ⊥ (AreBased before) (AreFull old.settings before) (Data (data_of_op o)) a plain)
             (λ ok some.
-            let put = call_placed kind old new (seen before.kv x.at) x.session o did.0 a did.2 did.1.lacks ok some in
+            let put = call_placed kind old new (seen before.kv x.at) x.session o did.own a did.stored did.called.lacks ok some in
             (put.0, (old, new, lent_to old new ring, (x, there, put.1)), put.2, put.3))
-            (plain_spares kind (between old new) (asked o) a plain) (plain_failed (asked o).fails a plain)
+            (plain_failed (asked o).fails a plain)
         by (Some w) is =
-            let held : unmade x ≡ Some (answer.Refused w) = ap (option_map answer.Refused) is in
-            let all : (answered Fault a (answer.Refused w)) × (y ≡ x) × (new ≡ old) =
-            subst (λ m. IfSome m (λ b. (answered Fault a b) × (y ≡ x) × (new ≡ old))) held stopped in
-            let word : answer.Refused w ≡ a = sym (same_answer Fault a (answer.Refused w) all.0) in
-            subst (λ (r : Answer). Serves kind (between old new) old.settings ⊥ (before, called) (asked o) r) word
+            let all = refusal_of Fault x y old new (call_refusal x) w a is (as_words x y old new (Ok a) (call_refusal x) call.instead) in
+            subst (λ (r : Answer). Serves kind (between old new) old.settings ⊥ (before, called) (asked o) r) (sym all.0)
             (set_serves (asked o) (answer.Refused w)
             (same_bytes any_byte no_slice all.1) (same_bytes (has_copies old.settings.replicas) no_slice all.1)
             (refused_adds kind (between old new) old.settings (Data (data_of_op o)) (answer.Refused w) tt (same_lengths kind old new all.2))
             (plain_caused kind (between old new) old.settings ⊥ (AreBased before) (AreFull old.settings before) (Data (data_of_op o)) (answer.Refused w) tt)
-            (refused_placed kind (between old new) old.settings (asked o) (answer.Refused w) tt) tt
+            (refused_placed kind (between old new) old.settings (asked o) (answer.Refused w) tt)
             (plain_failed (asked o).fails (answer.Refused w) tt))
 
     -- a call that failed
-    pub fault_serves : IsRing old.settings.servers old.ring.now.points → (o : Op (List ℕ)) (why : Fault) (a : Answer) → fault_answer why ≡ Some a → y ≡ x
-        → IsCallFault kind old new (seen before.kv x.at) x.session o why → (StoresNothing o → OnlyRead kind (between old new))
-        → LeavesStores kind (grown_file old (seen before.kv x.at) x.session o) (between old new)
-        → Serves kind (between old new) old.settings ⊥ (before, called) (asked o) a
-    fault_serves ring o why a is same h reads leaves =
+    pub fault_serves : IsRing old.settings.servers old.ring.now.points → (o : Op (List ℕ)) (why : Fault) (a : Answer) → fault_answer why ≡ Some a
+        → CallOf (turn kind old new before.kv before.kv x y) o (Err why) → Serves kind (between old new) old.settings ⊥ (before, called) (asked o) a
+    fault_serves ring o why a is call =
+        let same = call.err (memory_none why a is) in
         set_serves (asked o) a (same_bytes any_byte no_slice same) (same_bytes (has_copies old.settings.replicas) no_slice same)
-        (fault_adds kind old new (seen before.kv x.at) x.session o why a is h reads)
-        (call_by (AreFull old.settings before) no_slice (λ h. h) c x o why a there is (no_reads old (seen before.kv x.at)) h)
+        (fault_adds kind old new (seen before.kv x.at) x.session o why a is call.fault call.reads)
+        (call_by (AreFull old.settings before) no_slice (λ h. h) c x o why a there is (no_reads old (seen before.kv x.at)) call.fault)
         (fault_placed kind (between old new) old.settings (asked o) why a is)
-        (call_spares kind old new (seen before.kv x.at) x.session o (asked o) a leaves (λ place at. (old, new, lent_to old new ring, (x, there, at))))
-        (has_failed (asked o).fails why a is (old, new, lent_to old new ring, (x, there, h)))
+        (has_failed (asked o).fails why a is (old, new, lent_to old new ring, (x, there, call.fault)))

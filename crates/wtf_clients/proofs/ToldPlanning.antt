@@ -259,7 +259,8 @@ module _ {S : Type 0} {kind : StoreKind S} (laws : KindLaws kind) (old new : Dev
 
   -- ---- one that failed, of the file to which the path leads
   pub plan_failed_told : IsRing old.settings.servers old.ring.now.points → (i : InodeId) → LeadsTo now p i → (why : Fault) (a : Answer)
-      → fault_answer why ≡ Some a → IsPlanFault kind old new (job_target i r jk) (region_at now i r) why → ServesTold kind (between old new) old.settings (before, before) a
+      → fault_answer why ≡ Some a → IsPlanFault kind old new (job_target i r jk) (region_at now i r) why → ServesTold kind (between old new) old.settings
+      (before, before) a
   plan_failed_told ring i leads why a is fails =
       stays_told laws old new goes lent before sound inside tells before 0 (load_of_job jk) a (all_stays before 0)
       (plan_by laws old new goes lent before sound inside ring j jk p r i leads why a is fails (AreWide old.settings told before)

@@ -1,6 +1,6 @@
 -- What answered lines of clients, and dumps, made of the tables over stores that tell.
 use Rattle.std.proofs.Common.{◌≡◌, ◌⊎◌, ℕ, Bool, true, List, [], Option, None, Some, refl, sym, ap, ◌∙◌, subst, slice_get}
-use Rattle.std.specs.Prelude.{IfSome, IsSome}
+use Rattle.std.specs.Prelude.{IfSome}
 use Rattle.std.specs.Option.{option_map}
 use Rattle.wtf_base.specs.declared.fault.Fault.{Fault}
 use Rattle.wtf_base.specs.declared.fault.Fault.TheVariants as fault
@@ -28,10 +28,9 @@ use Rattle.wtf_region.specs.Devs.{IsSoundDev, GoesOn, stores, remembered, told_i
 use Rattle.wtf_region.specs.Inside.{is_inside}
 use Rattle.wtf_region.proofs.Spans.{goes_nowhere}
 use Rattle.wtf_rw.specs.Stored.{SliceBytes}
-use Rattle.wtf_replay.specs.Called.{IsCalled}
-use Rattle.wtf_replay.specs.Causes.{IsOwnOf, IsCallFault, FaultAt, ReplayFault, IsCommitFault, fault_answer}
+use Rattle.wtf_replay.specs.Causes.{FaultAt, ReplayFault, IsCommitFault, fault_answer}
 use Rattle.wtf_replay.specs.Insides.{HandBytes, LogBytes, TxnBytes, NamesTxn, NamesNow, lists_have}
-use Rattle.wtf_replay.specs.Refusals.{call_refusal, step_refusal, unmade}
+use Rattle.wtf_replay.specs.Refusals.{call_refusal, step_refusal}
 use Rattle.wtf_replay.specs.Views.{TxnView, hand_of, in_hand}
 use Rattle.wtf_replay.proofs.Later.{Of, tells_on}
 use Rattle.wtf_replay.proofs.RwLaws.{own_known}
@@ -52,10 +51,15 @@ use Rattle.wtf_clients.proofs.Lacking.{AreFullLists}
 use Rattle.wtf_clients.proofs.Goings.{own_txn_later, client_went, stays_went, ends_went}
 use Rattle.wtf_clients.proofs.Lists.{sets_same}
 use Rattle.wtf_clients.proofs.Lives.{now_bytes, same_reaches}
-use Rattle.wtf_clients.proofs.Making.{answered, same_answer}
+use Rattle.wtf_clients.proofs.Making.{answered}
 use Rattle.wtf_clients.proofs.Naming.{keeps_bytes, stays_bytes, leaves_bytes, ends_bytes}
 use Rattle.wtf_clients.proofs.Serving.{step_by, call_by, commit_by}
 use Rattle.wtf_clients.proofs.ToldLaws.{tables_weaker, tables_later, lists_on, named_tell, named_keeps, full_lists, told_serves}
+use Rattle.wtf_replay.specs.Verbs.{Turn, turn, CallOf, StepOf}
+use Rattle.std.specs.Prelude.{Ok, Err}
+use Rattle.wtf_clients.proofs.Making.{as_words, refusal_of}
+use Rattle.wtf_clients.proofs.Lacking.{memory_none}
+use Rattle.wtf_clients.proofs.Serving.{step_plain}
 
 -- the number of a transaction, its base and its log stay
 abbrev KeepsLog : TxnView → TxnView → Type 0
@@ -67,15 +71,14 @@ stepped_by x y (Aborted' i box a) h = (h.over.tx, h.over.base, h.over.log)
 stepped_by x y a h = absurd h
 
 -- they do in a step
-pub stepped_log : (x y : TxnView) (a : Answer) → IfSome (step_refusal x) (λ w. (answered Fault a (answer.Refused w)) × (y ≡ x))
-    → (step_refusal x ≡ None → IsStepped x y a) → KeepsLog x y
-stepped_log x y a stopped stepped = by (step_refusal x) refl
-  where
-    by : (r : Option Word) → step_refusal x ≡ r → KeepsLog x y
-    by None is = stepped_by x y a (stepped is)
-    by (Some w) is =
-        let both : (answered Fault a (answer.Refused w)) × (y ≡ x) = subst (λ m. IfSome m (λ v. (answered Fault a (answer.Refused v)) × (y ≡ x))) is stopped in
-        (ap (λ (z : TxnView). z.tx) both.1, ap (λ (z : TxnView). z.at.base) both.1, ap (λ (z : TxnView). z.log) both.1)
+log_or : {D : Type 0} (x y : TxnView) (before after : D) (a : Answer) (o : Option Word)
+    → IfSome o (λ w. (answered Fault a (answer.Refused w)) × (y ≡ x) × (after ≡ before)) → (o ≡ None → IsStepped x y a) → KeepsLog x y
+log_or x y before after a None stopped stepped = stepped_by x y a (stepped refl)
+log_or x y before after a (Some w) stopped stepped =
+    (ap (λ (z : TxnView). z.tx) stopped.1, ap (λ (z : TxnView). z.at.base) stopped.1, ap (λ (z : TxnView). z.log) stopped.1)
+
+pub stepped_log : {S : Type 0} (t : Turn S) (a : Answer) → StepOf t (Ok a) → KeepsLog t.old t.new
+stepped_log t a did = log_or t.old t.new t.before t.after a (step_refusal t.old) did.refused did.stepped
 
 -- what changes nothing
 pub all_stays : (tables : TablesView) (c : ℕ) → Stays tables tables c
@@ -281,43 +284,39 @@ module _ {S : Type 0} {kind : StoreKind S} (laws : KindLaws kind) (old new : Dev
             (λ R O ok all. all.each c x there) named in
             named.names P Q hole was (lists_on size later later P (λ q byte is. is) named.lists tell) parts.1
 
-    pub step_told : (a : Answer) → NamesTxn kind old new before.kv x y None → KeepsLog x y → IsPlain a → Served called a
-    step_told a named kept plain =
-        goes_told no_load a None named kept.0 kept.1
-        (λ P had none. subst (LogBytes P) (sym kept.2) had) (λ P had. (subst (LogBytes P) kept.2 had, tt)) (λ P added. tt) (plain_why no_load a plain)
+    pub step_told : (a : Answer) → StepOf (turn kind old new before.kv before.kv x y) (Ok a) → Served called a
+    step_told a step =
+        let kept = stepped_log (turn kind old new before.kv before.kv x y) a step in
+        goes_told no_load a None step.named kept.0 kept.1
+        (λ P had none. subst (LogBytes P) (sym kept.2) had) (λ P had. (subst (LogBytes P) kept.2 had, tt)) (λ P added. tt)
+        (plain_why no_load a (step_plain (turn kind old new before.kv before.kv x y) a step))
 
     pub step_failed_told : (a : Answer) → y ≡ x → Why no_load a → Served called a
     step_failed_told a same why = told_serves laws old new goes lent before tells called no_load a (same_gone same) why
 
     -- a call, which stored its own slice
-    pub call_told : (o : Op (List ℕ)) (a : Answer) → IfSome (unmade x) (λ b. (answered Fault a b) × (y ≡ x) × (new ≡ old))
-        → (unmade x ≡ None → (own : Option Slice) × IsCalled x y o own a × IsOwnOf kind old new (seen before.kv x.at) x.session o own
-        × NamesTxn kind old new before.kv x y own × (IsSome own → a ≡ answer.Okay)) → Served called a
-    call_told o a stopped made = by (call_refusal x) refl
+    pub call_told : (o : Op (List ℕ)) (a : Answer) → CallOf (turn kind old new before.kv before.kv x y) o (Ok a) → Served called a
+    call_told o a call = by (call_refusal x) refl
       where
         by : (r : Option Word) → call_refusal x ≡ r → Served called a
         by None is =
-            let free : unmade x ≡ None = ap (option_map answer.Refused) is in
-            let did = made free in
-            let keeps = own_known kind old new (seen before.kv x.at) x.session did.1.kept o did.0 did.1.kept_is did.2 in
-            let logged = own_logged x y o did.0 a did.1 keeps in
-            goes_told (Data (data_of_op o)) a did.0 did.3 did.1.logged.tx did.1.logged.grows.base logged.0 logged.1
-            (own_added kind old new (seen before.kv x.at) x.session o did.0 goes.each.same_length tells.all did.2)
-            (plain_why (Data (data_of_op o)) a (logged_plain a did.1.logged.answer))
+            let did = call.made (ap (option_map answer.Refused) is) in
+            let keeps = own_known kind old new (seen before.kv x.at) x.session did.called.kept o did.own did.called.kept_is did.stored in
+            let logged = own_logged x y o did.own a did.called keeps in
+            goes_told (Data (data_of_op o)) a did.own did.named did.called.logged.tx did.called.logged.grows.base logged.0 logged.1
+            (own_added kind old new (seen before.kv x.at) x.session o did.own goes.each.same_length tells.all did.stored)
+            (plain_why (Data (data_of_op o)) a (logged_plain a did.called.logged.answer))
         by (Some w) is =
-            let held : unmade x ≡ Some (answer.Refused w) = ap (option_map answer.Refused) is in
-            let all : (answered Fault a (answer.Refused w)) × (y ≡ x) × (new ≡ old) =
-            subst (λ m. IfSome m (λ b. (answered Fault a b) × (y ≡ x) × (new ≡ old))) held stopped in
-            let word : answer.Refused w ≡ a = sym (same_answer Fault a (answer.Refused w) all.0) in
+            let all = refusal_of Fault x y old new (call_refusal x) w a is (as_words x y old new (Ok a) (call_refusal x) call.instead) in
             told_serves laws old new goes lent before tells called (Data (data_of_op o)) a (same_gone all.1)
-            (plain_why (Data (data_of_op o)) a (subst IsPlain word tt))
+            (plain_why (Data (data_of_op o)) a (subst IsPlain (sym all.0) tt))
 
-    pub call_failed_told : (o : Op (List ℕ)) (why : Fault) (a : Answer) → fault_answer why ≡ Some a → y ≡ x
-        → IsCallFault kind old new (seen before.kv x.at) x.session o why → Served called a
-    call_failed_told o why a is same cause =
-        told_serves laws old new goes lent before tells called (Data (data_of_op o)) a (same_gone same)
+    pub call_failed_told : (o : Op (List ℕ)) (why : Fault) (a : Answer) → fault_answer why ≡ Some a
+        → CallOf (turn kind old new before.kv before.kv x y) o (Err why) → Served called a
+    call_failed_told o why a is call =
+        told_serves laws old new goes lent before tells called (Data (data_of_op o)) a (same_gone (call.err (memory_none why a is)))
         (call_by laws old new goes lent before sound inside Wide had (λ h. h) c x o why a there is
-        (reads_now (seen before.kv x.at) (seen_told c x there) (seen_apart c x there)) cause)
+        (reads_now (seen before.kv x.at) (seen_told c x there) (seen_apart c x there)) call.fault)
 
 -- a line that changed nothing
 pub same_told : {S : Type 0} {kind : StoreKind S} → KindLaws kind → (dev : Dev S) → IsSoundDev kind dev → (before after : TablesView) → AreSound before

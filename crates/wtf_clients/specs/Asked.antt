@@ -8,7 +8,7 @@ use Rattle.wtf_dev.specs.Store.{StoreKind}
 use Rattle.wtf_ring.specs.Points.{PlaceView, IsRing}
 use Rattle.wtf_replica.specs.Spans.{Span}
 use Rattle.wtf_replica.specs.Copies.{IsStored}
-use Rattle.wtf_replica.specs.Outs.{SameLengths, OtherFilesStay}
+use Rattle.wtf_replica.specs.Outs.{SameLengths}
 use Rattle.wtf_replica.specs.Faults.{IsPunchFault}
 use Rattle.wtf_overlay.specs.Origin.{Place}
 use Rattle.wtf_kv.specs.Stores.{Store}
@@ -42,24 +42,26 @@ use Rattle.wtf_clients.specs.Views.{TablesView, of_client, metadata_now}
 use Rattle.wtf_clients.specs.Dumped.{LacksDump}
 use Rattle.wtf_clients.specs.Outcomes.{Load, Data, RegionList, Frees, load_of, AddsOneList}
 
--- What a line is lent beside the stores: the settings, and the lists that were remembered before it.
+-- What a line is lent beside the stores: the settings, and the lists that were remembered before it; and those that it left.
 pub record Lending : Type 0 where
   pub settings : Settings
   pub lists : Remembered
+  pub left : Remembered
 
-abbrev pub lending : Settings → Remembered → Lending
-lending settings lists = record { settings = settings; lists = lists }
+abbrev pub lending : Settings → Remembered → Remembered → Lending
+lending settings lists left = record { settings = settings; lists = lists; left = left }
 
--- what devices lend
-abbrev pub lent_by : {S : Type 0} → Dev S → Lending
-lent_by dev = lending dev.settings (remembered dev)
+-- what devices lend, and what is left of them
+abbrev pub lent_by : {S : Type 0} → Dev S → Dev S → Lending
+lent_by old new = lending old.settings (remembered old) (remembered new)
 
 -- Devices that a line was lent and left: the stores and the servers that are down are those of its span, the settings and the lists that were
--- remembered before it are these, and the ring is that of the servers.
+-- remembered before it and after it are these, and the ring is that of the servers.
 pub record IsLent {S : Type 0} (t : Span S) (lent : Lending) (old new : Dev S) : Type 0 where
   pub span_is : between old new ≡ t
   pub settings_are : old.settings ≡ lent.settings
   pub lists_are : remembered old ≡ lent.lists
+  pub left_are : remembered new ≡ lent.left
   pub ring_is : IsRing lent.settings.servers old.ring.now.points
 
 -- Where the bytes of a call go, by the map and the handles of its transaction: those that are written to the region of the
@@ -146,12 +148,6 @@ IsPlacedBy kind t settings asked (Frees k) a = ⊤
 
 abbrev pub IsPlaced : {S : Type 0} → StoreKind S → Span S → Settings → Asked → Answer → Type 0
 IsPlaced kind t settings asked a = IsPlacedBy kind t settings asked asked.given a
-
--- Where bytes were not stored, no file of a store grew, or but the one to which they were to go.
-abbrev pub SparesFiles : {S : Type 0} → StoreKind S → Span S → Asked → Answer → Type 0
-SparesFiles kind t asked answer.FaultWrite =
-    SameLengths kind t.before t.after ⊎ ((place : PlaceView) × asked.goes_to place × OtherFilesStay kind t.before t.after place.file)
-SparesFiles kind t asked a = ⊤
 
 -- the answer is that of such a fault
 abbrev pub IsBecause : (Fault → Type 0) → Answer → Type 0

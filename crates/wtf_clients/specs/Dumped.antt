@@ -1,5 +1,5 @@
 -- The bytes of a whole file: what a dump shows, and why it did not.
-use Rattle.std.specs.Prelude.{◌≡◌, ◌≤◌, ◌*◌, ℕ, min, nat_le, List, length, Some, if◌then◌else◌, ⊤}
+use Rattle.std.specs.Prelude.{◌≡◌, ◌≢◌, ◌≤◌, ◌*◌, ℕ, min, nat_le, List, [], length, Option, Some, if◌then◌else◌, ⊤}
 use Rattle.wtf_base.specs.declared.fault.Fault.{Fault}
 use Rattle.wtf_base.specs.declared.ids.InodeId.{InodeId}
 use Rattle.wtf_dev.specs.Store.{Range, StoreKind}
@@ -9,7 +9,10 @@ use Rattle.wtf_model.specs.declared.answer.Word.TheVariants.{Long}
 use Rattle.wtf_model.specs.declared.limits.TheConstants.{MAX_DUMPED, MAX_REGIONS}
 use Rattle.wtf_model.specs.Lawful.{dumped, or_refusal}
 use Rattle.wtf_model.specs.Tree.{Tree}
+use Rattle.wtf_values.specs.declared.value.Node.{Node}
 use Rattle.wtf_values.specs.declared.value.Node.TheVariants.{File}
+use Rattle.wtf_base.specs.declared.slice.Slice.{Slice}
+use Rattle.wtf_meta.specs.Lists.{ListFact}
 use Rattle.wtf_meta.specs.Bytes.{MapBytes, any_slice}
 use Rattle.wtf_meta.specs.Contents.{Told, is_told, is_listed}
 use Rattle.wtf_meta.specs.FileEdits.{file_of}
@@ -19,7 +22,9 @@ use Rattle.wtf_meta.specs.Trees.{IsBody, Stands}
 use Rattle.wtf_index.specs.Checks.{stands_at}
 use Rattle.wtf_region.specs.declared.dev.Dev.{Dev}
 use Rattle.wtf_region.specs.Apart.{are_apart}
-use Rattle.wtf_region.specs.Cached.{TrueBut}
+use Rattle.wtf_region.specs.Bases.{slices_of, bases_in}
+use Rattle.wtf_region.specs.Cached.{TrueBut, recalled}
+use Rattle.wtf_region.specs.Devs.{remembered}
 use Rattle.wtf_rw.specs.Reads.{LacksRead}
 
 -- what is answered of a file with these bytes
@@ -31,6 +36,29 @@ abbrev pub IsDumpAnswer : Answer → Type 0
 IsDumpAnswer (answer.Shown bytes) = ⊤
 IsDumpAnswer (answer.Refused w) = ⊤
 IsDumpAnswer a = ⊥
+
+-- the slices of the bases under the bytes of a file that are shown; no file is longer than its greatest number of regions
+abbrev pub file_bases : ℕ → FileView → Answer → List Slice
+file_bases size v (answer.Shown bytes) = bases_in size v 0 (min (file_len size v) (MAX_REGIONS * size))
+file_bases size v a = []
+
+abbrev pub dump_bases_of : ℕ → Map → Option Node → Answer → List Slice
+dump_bases_of size w (Some (File i)) a = file_bases size (file_of i w) a
+dump_bases_of size w other a = []
+
+-- no file stands at a path
+abbrev pub IsNoFile : Map → List ℕ → Type 0
+IsNoFile w p = (i : InodeId) → stands_at w p ≢ Some (File i)
+
+-- by what stands at the path
+abbrev pub dump_bases : ℕ → Map → List ℕ → Answer → List Slice
+dump_bases size w p a = dump_bases_of size w (stands_at w p) a
+
+-- the lists of these slices were read, in order, and are remembered
+pub record ReadsBases {S : Type 0} (old new : Dev S) (slices : List Slice) : Type 0 where
+  pub facts : List ListFact
+  pub recalls : remembered new ≡ recalled facts (remembered old)
+  pub wants : slices_of facts ≡ slices
 
 -- The lists that are remembered are true, but where a byte of the slice lies in a range that was punched; and a map names no byte of these
 -- ranges.

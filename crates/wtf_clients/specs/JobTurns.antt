@@ -14,11 +14,10 @@ use Rattle.wtf_model.specs.declared.op.JobKind.{JobKind}
 use Rattle.wtf_model.specs.Faults.{or_refusal}
 use Rattle.wtf_model.specs.Jobs.{has_region, MayFailPlan}
 use Rattle.wtf_model.specs.Tree.{Tree, ◌>>=◌, source}
-use Rattle.wtf_meta.specs.Contents.{Told, SamePlaces, lists_in}
+use Rattle.wtf_meta.specs.Contents.{SamePlaces, lists_in}
 use Rattle.wtf_meta.specs.Files.{end_of}
 use Rattle.wtf_meta.specs.Lists.{ListFact, TellLists, region_facts}
 use Rattle.wtf_meta.specs.Trees.{Stands}
-use Rattle.wtf_region.specs.Cached.{TrueBut}
 use Rattle.wtf_replay.specs.Causes.{fault_answer}
 use Rattle.wtf_replay.specs.Tried.{KeepsMaps}
 use Rattle.wtf_compact.specs.declared.target.Target.{Target}
@@ -28,6 +27,7 @@ use Rattle.wtf_compact.specs.Putting.{IsPut}
 use Rattle.wtf_clients.specs.Planning.{refusal_of}
 use Rattle.wtf_clients.specs.Views.{TablesView, of_label, was_job, with_labels, metadata_now}
 use Rattle.wtf_clients.specs.Sounds.{SetsJob}
+use Rattle.wtf_clients.specs.Seeing.{Seeing, Recalled}
 use Rattle.wtf_clients.specs.Turns.{Tells, Reads}
 
 -- All is what it was but for the store of the metadata and the job of label j; that is now this one, or none.
@@ -94,34 +94,35 @@ PutTurn old new j a = MatchOption (of_label old.beside.jobs j) (RefusesJob old n
 abbrev pub DropTurn : TablesView → TablesView → ℕ → Answer → Type 0
 DropTurn old new j a = MatchOption (of_label old.beside.jobs j) (RefusesJob old new NoJob a) (λ x. DropsJob old new j x a)
 
--- `Telling` says that the stores tell their content: `told` before the line and `later` after it; these lists are remembered of slices
--- before it; there are so many servers, and a region has `size` bytes
-module _ (Telling : Type 0) (lists : TrueBut) (servers size : ℕ) (told later : Told) where
-  -- The map gives no reason against it. What was read of the region's base is what its slice decodes to, as reads of calls are; and what was
-  -- stored is so over stores that tell. There it keeps the bytes of the region.
+-- what is seen over a line
+module _ (z : Seeing) where
+  -- The map gives no reason against it. What was read of the region's base is remembered, and is what its slice decodes to, as reads of calls
+  -- are; and the list of a spill was stored, and is so over stores that tell. There it keeps the bytes of the region.
   pub record PlansSoundly (old new : TablesView) (j : ℕ) (kind : JobKind) (p : List ℕ) (r : ℕ) : Type 0 where
     pub job : JobView
     pub plans : Plans old new j kind p r job
-    pub known : (Reads Telling lists servers size told later).known (region_facts (target_region (metadata_now old.kv) job.target) plans.made.under)
-    pub own : Telling → TellLists (lists_in size later) plans.made.stored
-    pub free : refusal_of size (metadata_now old.kv) p r ≡ None
-    pub due : (tx k : ℕ) (t : Tree) → Stands size told tx k (metadata_now old.kv) t → plan_due size t p r ≡ answer.Planned
-    pub keeps : Tells Telling lists servers size told later old (metadata_now old.kv)
-        → KeepsRegion size later (target_region (metadata_now old.kv) job.target) job.value
+    pub recalls : Recalled z (region_facts (target_region (metadata_now old.kv) job.target) plans.made.under)
+    pub known : (Reads z).known (region_facts (target_region (metadata_now old.kv) job.target) plans.made.under)
+    pub written : spills job.target.kind (end_of (target_region (metadata_now old.kv) job.target)) ≡ true → z.stores job.target plans.made.stored
+    pub own : z.telling → TellLists (lists_in z.size z.later) plans.made.stored
+    pub free : refusal_of z.size (metadata_now old.kv) p r ≡ None
+    pub due : (tx k : ℕ) (t : Tree) → Stands z.size z.told tx k (metadata_now old.kv) t → plan_due z.size t p r ≡ answer.Planned
+    pub keeps : Tells z old (metadata_now old.kv)
+        → KeepsRegion z.size z.later (target_region (metadata_now old.kv) job.target) job.value
 
   -- no job was planned, for the first reason that the map gives against one; and each tree for which it stands gives the same
   pub record PlanRefused (old new : TablesView) (p : List ℕ) (r : ℕ) (w : Word) : Type 0 where
     pub same : new ≡ old
-    pub word : refusal_of size (metadata_now old.kv) p r ≡ Some w
-    pub due : (tx k : ℕ) (t : Tree) → Stands size told tx k (metadata_now old.kv) t → plan_due size t p r ≡ answer.Refused w
+    pub word : refusal_of z.size (metadata_now old.kv) p r ≡ Some w
+    pub due : (tx k : ℕ) (t : Tree) → Stands z.size z.told tx k (metadata_now old.kv) t → plan_due z.size t p r ≡ answer.Refused w
 
   -- or a fault of the stores came where the map gives none, and one was due
   pub record PlanFails (old new : TablesView) (kind : JobKind) (p : List ℕ) (r : ℕ) (a : Answer) : Type 0 where
     pub why : Fault
     pub answer : fault_answer why ≡ Some a
     pub same : new ≡ old
-    pub free : refusal_of size (metadata_now old.kv) p r ≡ None
-    pub may : (tx k : ℕ) (t : Tree) → Stands size told tx k (metadata_now old.kv) t → MayFailPlan servers kind (plan_due size t p r) a
+    pub free : refusal_of z.size (metadata_now old.kv) p r ≡ None
+    pub may : (tx k : ℕ) (t : Tree) → Stands z.size z.told tx k (metadata_now old.kv) t → MayFailPlan z.servers kind (plan_due z.size t p r) a
 
   abbrev pub FreePlan : TablesView → TablesView → ℕ → JobKind → List ℕ → ℕ → Answer → Type 0
   FreePlan old new j kind p r answer.Planned = PlansSoundly old new j kind p r

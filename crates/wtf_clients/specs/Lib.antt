@@ -1,11 +1,12 @@
 pub mod Views
 pub mod Sounds
-pub mod Spilling
 pub mod Touched
 pub mod Standing
 pub mod Saves
 pub mod Turns
 pub mod Planning
+pub mod Seeing
+pub mod Leaving
 pub mod JobTurns
 pub mod ScanTurns
 pub mod Named
@@ -15,5 +16,6 @@ pub mod Dumped
 pub mod Asked
 pub mod Serves
 pub mod Telling
+pub mod Lines
 pub mod Keeping
 pub mod Off

@@ -13,11 +13,15 @@ use Rattle.wtf_clients.specs.Sounds.{all_kept}
 abbrev pub with_image : BesideView → ℕ → BesideView
 with_image beside n = record beside { images = beside.images ++ n ∷ [] }
 
+-- the image of the number may be, and was handed to it last
+abbrev pub HasImage : TablesView → Type 0
+HasImage tables = (before : BesideView) × (tables.beside ≡ with_image before tables.kv.number)
+
 -- one image is on the keeper
 abbrev pub only_image : BesideView → ℕ → BesideView
 only_image beside n = record beside { images = n ∷ []; none = false }
 
--- What may be on the keeper is now this, and its numbers are pinned for it in place of those before. All else stays.
+-- What stands beside the store is now this, and its numbers are pinned for it in place of those before. All else stays.
 pub record Saves (old new : TablesView) (now : BesideView) : Type 0 where
   pub clients : new.clients ≡ old.clients
   pub number : new.kv.number ≡ old.kv.number

@@ -12,7 +12,7 @@ use Rattle.wtf_region.specs.Inside.{is_inside}
 use Rattle.wtf_clients.specs.Views.{TablesView}
 use Rattle.wtf_clients.specs.Named.{TablesBytes, any_byte, no_slice, has_copies}
 use Rattle.wtf_model.specs.declared.event.Event.{Event}
-use Rattle.wtf_clients.specs.Asked.{Lending, Asked, asked_of, IsPlaced, SparesFiles, HasFailed}
+use Rattle.wtf_clients.specs.Asked.{Lending, Asked, asked_of, IsPlaced, HasFailed}
 use Rattle.wtf_clients.specs.Outcomes.{AddsBytes, IsUnspilled, SaveFault, HasCause}
 
 -- what is named was named before: what holds of the places of each of those bytes, and of a hole, goes on holding, and so does
@@ -43,7 +43,7 @@ AreFull settings tables = TablesBytes (has_copies settings.replicas) no_slice ta
 
 -- What the tables, before and after a line, name lies inside the stores as they are left. Unless the line has spilled a list, no region has a
 -- base where none had one before, and each byte has as many copies as there are replicas where it had before. The stores grew by what the line
--- was to store, and a fault has its cause in the line; where bytes were not stored, only the file to which they were to go may have grown.
+-- was to store, and a fault has its cause in the line.
 pub record Serves {S : Type 0} (kind : StoreKind S) (t : Span S) (settings : Settings) (saving : Type 0) (tables : TablesView × TablesView)
     (asked : Asked) (a : Answer) : Type 0 where
   pub inside : TablesBytes (is_inside kind t.after settings) any_slice tables.1
@@ -52,7 +52,6 @@ pub record Serves {S : Type 0} (kind : StoreKind S) (t : Span S) (settings : Set
   pub adds : AddsBytes kind t settings asked.given a
   pub caused : HasCause kind t settings saving (AreBased tables.0) (AreFull settings tables.0) asked.given a
   pub placed : IsPlaced kind t settings asked a
-  pub spares : SparesFiles kind t asked a
   pub failed : HasFailed asked.fails a
 
 -- the same of a line that is lent no keeper

@@ -12,6 +12,7 @@ use Rattle.wtf_replay.specs.Fits.{IsFit}
 use Rattle.wtf_replay.specs.Tried.{KeepsVersions, KeepsPins}
 use Rattle.wtf_compact.specs.Jobs.{JobView}
 use Rattle.wtf_gc.specs.Views.{RunView}
+use Rattle.wtf_compact.specs.Planned.{HasForm}
 use Rattle.wtf_clients.specs.Views.{Clients, of_client, set_client, without_hands, Jobs, of_label, BesideView, TablesView, metadata_now}
 
 -- how many pins of a number a transaction owns: one, of its base
@@ -44,12 +45,20 @@ abbrev pub all_seen : ℕ → Option RunView → ℕ
 all_seen n None = 0
 all_seen n (Some r) = count_by (nat_eq n) r.seen
 
--- how many pins of a number the images own that may be on the keeper, one each, the jobs, and the scan that runs
-abbrev pub all_kept : ℕ → BesideView → ℕ
-all_kept n beside = count_by (nat_eq n) beside.images + all_planned n beside.jobs + all_seen n beside.gc.running
+-- how many pins of a number are owned because it is watched
+abbrev pub all_watched : ℕ → Option ℕ → ℕ
+all_watched n None = 0
+all_watched n (Some w) = if nat_eq n w then 1 else 0
 
--- Each transaction goes on, on a base that is pinned. A number is pinned as often as a transaction, an image, a job or a scan owns it. No
--- number that is pinned, and no image, is of an install to come. No two transactions have one number, and none has the number 0.
+-- how many pins of a number are owned beside those of transactions: by the images that may be on the keeper, one each, by the jobs, by the
+-- scan that runs, and by what is watched
+abbrev pub all_kept : ℕ → BesideView → ℕ
+all_kept n beside =
+    count_by (nat_eq n) beside.images + all_planned n beside.jobs + all_seen n beside.gc.running + all_watched n beside.watched
+
+-- Each transaction goes on, on a base that is pinned. A number is pinned as often as a transaction, an image, a job or a scan owns it, and
+-- once more where it is watched. No number that is pinned, and no image, is of an install to come. No two transactions have one number, and none has the number 0. What a job
+-- is to put in a region's place has the form that its kind says.
 pub record AreSound (tables : TablesView) : Type 0 where
   pub begun : 0 < tables.next_tx
   pub each : (c : ℕ) (x : TxnView) → of_client tables.clients c ≡ Some x → IsOpen tables.kv tables.next_tx x
@@ -57,6 +66,7 @@ pub record AreSound (tables : TablesView) : Type 0 where
   pub upto : (n : ℕ) → IsTrue (is_pinned tables.kv n) → n ≤ tables.kv.number
   pub kept : (n : ℕ) → Contains tables.beside.images n → n ≤ tables.kv.number
   pub apart : (c d : ℕ) (x y : TxnView) → of_client tables.clients c ≡ Some x → of_client tables.clients d ≡ Some y → x.tx ≡ y.tx → c ≡ d
+  pub formed : (j : ℕ) (x : JobView) → of_label tables.beside.jobs j ≡ Some x → HasForm x.target x.value
 
 -- of all clients one alone has now this transaction, or none, and all stand in the order in which they began
 pub record Sets (c : ℕ) (now : Option TxnView) (old new : Clients) : Type 0 where

@@ -1,6 +1,6 @@
 -- What a line makes of the tables, over every device.
 -- NSDI 2016, sections 2.6 and 2.7.
-use Rattle.std.specs.Prelude.{◌≡◌, ◌≢◌, ◌⊎◌, ℕ, ◌+◌, nat_eq, List, [], ◌∷◌, ◌++◌, Option, Some, None, MatchOption, slice_get}
+use Rattle.std.specs.Prelude.{◌≡◌, ◌⊎◌, ℕ, ◌+◌, nat_eq, List, [], ◌∷◌, ◌++◌, Option, Some, None, MatchOption, slice_get}
 use Rattle.std.specs.Set.{remove_key}
 use Rattle.wtf_base.specs.declared.fault.Fault.{Fault}
 use Rattle.wtf_base.specs.declared.slice.Slice.{Slice}
@@ -28,6 +28,7 @@ use Rattle.wtf_meta.specs.Trees.{Stands}
 use Rattle.wtf_meta.specs.Sessions.{Holds}
 use Rattle.wtf_meta.specs.Calls.{Caller, cap_for}
 use Rattle.wtf_region.specs.Apart.{are_apart}
+use Rattle.wtf_region.specs.Bases.{slices_of}
 use Rattle.wtf_region.specs.Cached.{TrueBut}
 use Rattle.wtf_replay.specs.Views.{TxnView, begun, hand_of}
 use Rattle.wtf_replay.specs.Refusals.{call_refusal, try_refusal, step_refusal}
@@ -43,6 +44,8 @@ use Rattle.wtf_replay.specs.Replays.{IsReplayed, DeviatesOn}
 use Rattle.wtf_clients.specs.Views.{TablesView, of_client, metadata_now}
 use Rattle.wtf_clients.specs.Sounds.{Sets}
 use Rattle.wtf_clients.specs.Named.{ListedBytes}
+use Rattle.wtf_clients.specs.Dumped.{IsDumpAnswer, dump_bases}
+use Rattle.wtf_clients.specs.Seeing.{Seeing, Recalled}
 
 -- client c has now this transaction, or none; the store of the metadata, and what stands beside them, are what they were
 pub record Keeps (old new : TablesView) (c : ℕ) (now : Option TxnView) : Type 0 where
@@ -133,75 +136,83 @@ pub record AreTrue (size : ℕ) (told : Told) (lists : TrueBut) (tables : Tables
   pub cache : lists ranges
   pub away : ListedBytes size told (are_apart ranges) tables
 
--- There are so many servers, and a region has `size` bytes; the stores tell this; and so much is known of the lists that were remembered.
-module _ (servers size : ℕ) (told : Told) (lists : TrueBut) where
+-- what is seen over a line
+module _ (z : Seeing) where
+  -- The lists that a dump read are those of the bases under the bytes that it shows, in order, and none where it shows no file; and they are
+  -- remembered.
+  pub record DumpReads (w : Map) (p : List ℕ) (a : Answer) : Type 0 where
+    pub facts : List ListFact
+    pub recalls : Recalled z facts
+    pub wants : slices_of facts ≡ dump_bases z.size w p a
+
   -- The dump of a path shows the bytes of the file on each tree for which the map now stands, or is refused; where it is to
   -- show bytes a fault of the stores may come in their place. It leaves all as it was.
   pub record Dumps (old new : TablesView) (p : List ℕ) (a : Answer) : Type 0 where
     pub stays : (c : ℕ) → Stays old new c
-    pub uncollected : (n : ℕ) → a ≢ answer.Collected n
-    pub shows : AreTrue size told lists old → (tx k : ℕ) (t : Tree) → Stands size told tx k (metadata_now old.kv) t
-        → (a ≡ or_refusal (dumped t p)) ⊎ MayFailRead servers (or_refusal (dumped t p)) a
+    pub answered : (IsDumpAnswer a × DumpReads (metadata_now old.kv) p a) ⊎ ((why : Fault) × (fault_answer why ≡ Some a))
+    pub shows : AreTrue z.size z.told z.lists old → (tx k : ℕ) (t : Tree) → Stands z.size z.told tx k (metadata_now old.kv) t
+        → (a ≡ or_refusal (dumped t p)) ⊎ MayFailRead z.servers (or_refusal (dumped t p)) a
 
--- `Telling` says that the stores tell their content: `told` before the line and `later` after it; `lists` is what is known before it of the
--- lists that are remembered; there are so many servers, and a region has `size` bytes
-module _ (Telling : Type 0) (lists : TrueBut) (servers size : ℕ) (told later : Told) where
   -- the lists that are remembered are those of their slices; and the stores also tell each byte of a map, those that the lists of its bases
   -- name too
   abbrev pub Tells : TablesView → Map → Type 0
-  Tells old w = Telling × AreTrue size told lists old × MapBytes (is_told told) (is_listed size told) w
+  Tells old w = z.telling × AreTrue z.size z.told z.lists old × MapBytes (is_told z.told) (is_listed z.size z.told) w
 
   -- lists that were read are those that their slices decode to, but where a range has a byte of one; if the lists that are remembered
   -- are so, and the bytes of the slices were told
   abbrev pub Reads : Scope
   Reads = record {
-    size = size;
-    known = λ facts. (ranges : List (ℕ × Range)) → lists ranges → ListSlices (is_told told) any_slice facts → ListSlices
+    size = z.size;
+    known = λ facts. (ranges : List (ℕ × Range)) → z.lists ranges → ListSlices (is_told z.told) any_slice facts → ListSlices
         (are_apart ranges) any_slice facts
-        → TellLists (lists_in size later) facts;
+        → TellLists (lists_in z.size z.later) facts;
   }
 
-  -- a call is logged with its answer; it recorded its own keys and made its own changes, by these lists
+  -- A call is logged with its answer, and with what came of its bytes; it recorded its own keys and made its own changes, by the lists that it
+  -- read, which are remembered.
   pub record Calls (old new : TablesView) (c : ℕ) (x : TxnView) (o : Op (List ℕ)) (a : Answer) : Type 0 where
     pub later_one : TxnView
     pub own : Option Slice
     pub keeps : Keeps old new c (Some later_one)
     pub called : IsCalled x later_one o own a
+    pub stored : z.owns (seen old.kv x.at) x.session o own
     pub facts : List ListFact
+    pub recalls : Recalled z facts
     pub known : Reads.known facts
-    pub acts : Acts (sight_at size old.kv x.tx x.replayed (hand_of x) facts) (data_len o) own o a x.at later_one.at
+    pub acts : Acts (sight_at z.size old.kv x.tx x.replayed (hand_of x) facts) (data_len o) own o a x.at later_one.at
     pub fit : IsFit old.kv later_one
-    pub sound : Tells old (metadata_at old.kv x.at.base) → (ops : List (Op (List ℕ))) → IsSound size old.kv told x ops
-        → IsSound size old.kv later later_one (ops ++ o ∷ [])
+    pub sound : Tells old (metadata_at old.kv x.at.base) → (ops : List (Op (List ℕ))) → IsSound z.size old.kv z.told x ops
+        → IsSound z.size old.kv z.later later_one (ops ++ o ∷ [])
 
   -- or a fault of the stores came in place of the answer that is due
   pub record CallFails (old new : TablesView) (c : ℕ) (x : TxnView) (o : Op (List ℕ)) (a : Answer) : Type 0 where
     pub fails : Fails old new c a
-    pub may : (y : Caller) (t : Told) (S : Session) → y.size ≡ size → Stands y.size t y.tx y.calls (seen old.kv x.at) S.tree
-        → Holds t (seen old.kv x.at) x.session S → MayFail servers o (call (cap_for y) S o).answer a
+    pub may : (y : Caller) (t : Told) (S : Session) → y.size ≡ z.size → Stands y.size t y.tx y.calls (seen old.kv x.at) S.tree
+        → Holds t (seen old.kv x.at) x.session S → MayFail z.servers o (call (cap_for y) S o).answer a
 
-  -- one more call was replayed, and answered what was shown
+  -- one more call was replayed, and answered what was shown; the lists that it read are remembered
   pub record Replays (old new : TablesView) (c : ℕ) (x : TxnView) (i : ℕ) : Type 0 where
     pub later_one : TxnView
     pub keeps : Keeps old new c (Some later_one)
     pub replayed : IsReplayed x later_one i
     pub acts : Redoes Reads old.kv x x.replayed (hand_of x) (hand_of later_one)
+    pub recalls : Recalled z acts.lists
     pub fit : IsFit old.kv later_one
-    pub sound : Tells old (metadata_at old.kv x.at.base) → (ops : List (Op (List ℕ))) → IsSound size old.kv told x ops
-        → IsSound size old.kv later later_one ops
+    pub sound : Tells old (metadata_at old.kv x.at.base) → (ops : List (Op (List ℕ))) → IsSound z.size old.kv z.told x ops
+        → IsSound z.size old.kv z.later later_one ops
 
   -- the next call answered otherwise at the base, and the transaction has ended
   pub record Aborts (old new : TablesView) (c : ℕ) (x : TxnView) (i : ℕ) (a : Answer) : Type 0 where
     pub index : i ≡ x.replayed + 1
     pub ends : Ends old new old.kv c x
-    pub deviates : Tells old (metadata_at old.kv x.at.base) → (ops : List (Op (List ℕ))) → IsSound size old.kv told x ops
-        → DeviatesOn (metadata_at old.kv x.at.base) size told x ops i a
+    pub deviates : Tells old (metadata_at old.kv x.at.base) → (ops : List (Op (List ℕ))) → IsSound z.size old.kv z.told x ops
+        → DeviatesOn (metadata_at old.kv x.at.base) z.size z.told x ops i a
 
   -- bytes or lists of the next call were not read, which would not be refused
   pub record StepFails (old new : TablesView) (c : ℕ) (x : TxnView) (a : Answer) : Type 0 where
     pub fails : Fails old new c a
-    pub may : (ops : List (Op (List ℕ))) → IsSound size old.kv told x ops → (t : Tree) → Stands size told x.tx 0 (metadata_at old.kv x.at.base) t
-        → IsDone (slice_get (answers_of (cap_for (caller_at size x.tx 0)) t ops) x.replayed) × IsReadFault servers a
+    pub may : (ops : List (Op (List ℕ))) → IsSound z.size old.kv z.told x ops → (t : Tree) → Stands z.size z.told x.tx 0 (metadata_at old.kv x.at.base) t
+        → IsDone (slice_get (answers_of (cap_for (caller_at z.size x.tx 0)) t ops) x.replayed) × IsReadFault z.servers a
 
   -- the calls have run on the map now, by the attempt or by a whole replay, and nothing but what they did was installed
   pub record Finishes (old new : TablesView) (c : ℕ) (x : TxnView) (n : ℕ) : Type 0 where
@@ -210,8 +221,8 @@ module _ (Telling : Type 0) (lists : TrueBut) (servers size : ℕ) (told later :
     pub number : mid.number ≡ n
     pub installs : Installs Reads old.kv mid (commit_from old.kv x) n
     pub ends : Ends old new mid c x
-    pub final : Tells old (metadata_at old.kv x.at.base) → Tells old (metadata_now old.kv) → (ops : List (Op (List ℕ))) → IsSound size old.kv told x ops
-        → IsFinal size later old.kv mid x ops n
+    pub final : Tells old (metadata_at old.kv x.at.base) → Tells old (metadata_now old.kv) → (ops : List (Op (List ℕ))) → IsSound z.size old.kv z.told x ops
+        → IsFinal z.size z.later old.kv mid x ops n
 
   -- run on the map now, the calls first answer otherwise than was shown at call i, and there a
   pub record GivesUp (old new : TablesView) (c : ℕ) (x : TxnView) (i : ℕ) (a : Answer) : Type 0 where
@@ -219,14 +230,14 @@ module _ (Telling : Type 0) (lists : TrueBut) (servers size : ℕ) (told later :
     pub number : mid.number ≡ old.kv.number
     pub versions : KeepsVersions old.kv mid
     pub ends : Ends old new mid c x
-    pub deviates : Tells old (metadata_at old.kv x.at.base) → Tells old (metadata_now old.kv) → (ops : List (Op (List ℕ))) → IsSound size old.kv told x ops
-        → DeviatesOn (metadata_now old.kv) size told x ops i a
+    pub deviates : Tells old (metadata_at old.kv x.at.base) → Tells old (metadata_now old.kv) → (ops : List (Op (List ℕ))) → IsSound z.size old.kv z.told x ops
+        → DeviatesOn (metadata_now old.kv) z.size z.told x ops i a
 
   -- bytes or lists of a call that was replayed were not read
   pub record CommitFails (old new : TablesView) (c : ℕ) (x : TxnView) (a : Answer) : Type 0 where
     pub fails : Fails old new c a
-    pub may : Tells old (metadata_at old.kv x.at.base) → Tells old (metadata_now old.kv) → (ops : List (Op (List ℕ))) → IsSound size old.kv told x ops
-        → (t : Tree) → Stands size told x.tx 0 (metadata_now old.kv) t → IsReadFault servers a
+    pub may : Tells old (metadata_at old.kv x.at.base) → Tells old (metadata_now old.kv) → (ops : List (Op (List ℕ))) → IsSound z.size old.kv z.told x ops
+        → (t : Tree) → Stands z.size z.told x.tx 0 (metadata_now old.kv) t → IsReadFault z.servers a
 
   abbrev pub Steps : TablesView → TablesView → ℕ → TxnView → Answer → Type 0
   Steps old new c x (answer.Replayed i) = Replays old new c x i

@@ -50,19 +50,24 @@ abbrev pub no_labels : List Bool
 no_labels = replicate MAX_JOBS false
 
 -- What stands beside the store and the clients: the numbers of the images that may be on the keeper, and whether it may still hold
--- nothing; the jobs; and the scans of what is in use, with what was open when the last one began: the transactions of a number below
--- `scan_tx`, and the jobs of these labels that are the same still.
+-- nothing; the number that is watched, if there is one; the jobs; and the scans of what is in use, with what was open when the last one
+-- began: the transactions of a number below `scan_tx`, and the jobs of these labels that are the same still.
 pub record BesideView : Type 0 where
   pub images : List ℕ
   pub none : Bool
+  pub watched : Option ℕ
   pub jobs : Jobs
   pub gc : GcView
   pub scan_tx : ℕ
   pub scan_jobs : List Bool
 
--- nothing was saved yet, there is no job, and no scan has begun
+-- nothing was saved yet, nothing is watched, there is no job, and no scan has begun
 abbrev pub unsaved : BesideView
-unsaved = record { images = []; none = true; jobs = no_jobs; gc = new_gc; scan_tx = 0; scan_jobs = no_labels }
+unsaved = record { images = []; none = true; watched = None; jobs = no_jobs; gc = new_gc; scan_tx = 0; scan_jobs = no_labels }
+
+-- this number is watched, and no other
+abbrev pub watching : BesideView → ℕ → BesideView
+watching beside n = record beside { watched = Some n }
 
 -- the job of a label was open when the last scan began
 abbrev pub was_job : BesideView → ℕ → Bool

@@ -4,8 +4,8 @@ ghost use Rattle.std.specs.Prelude.{◌≡◌, ◌≢◌, ◌<◌, ◌≤◌, �
 ghost use Rattle.wtf_kv.specs.Stores.{is_live};
 ghost use Rattle.wtf_meta.specs.Maps.{metadata_at};
 ghost use Rattle.wtf_replica.specs.Inside.{size_in};
-ghost use Rattle.wtf_replica.specs.Outs.{SameLengths, SameSyncs};
-ghost use Rattle.wtf_region.specs.Devs.{IsSoundDev, GoesOn, between, stores};
+ghost use Rattle.wtf_replica.specs.Outs.{IsLeftDown, SameLengths, SameSyncs};
+ghost use Rattle.wtf_region.specs.Devs.{IsSoundDev, GoesOn, between, remembered, stores};
 ghost use Rattle.wtf_region.specs.Inside.{IsStoredInside};
 ghost use Rattle.wtf_region.specs.Showing.{OnlyRead};
 ghost use Rattle.wtf_gc.specs.Frees.{FreesAll, IsCollectFault};
@@ -13,7 +13,7 @@ ghost use Rattle.wtf_gc.specs.Pinning.{IsPinnedFor};
 ghost use Rattle.wtf_gc.specs.Scans.{StartsScan, AreHeld, DoesParts, IsPieceFault, IsPrunedFrom};
 ghost use Rattle.wtf_gc.specs.Views.{mark_of};
 ghost use Rattle.wtf_model.specs.declared.limits.TheConstants.{MAX_JOBS};
-ghost use Rattle.wtf_clients.specs.Views.{of_label, unsaved, with_jobs, with_labels, with_gc, was_job};
+ghost use Rattle.wtf_clients.specs.Views.{of_label, unsaved, watching, with_jobs, with_labels, with_gc, was_job};
 ghost use Rattle.wtf_clients.specs.ScanTurns.{NoOldJob, IsLowestOld};
 ghost use Rattle.wtf_clients.specs.Sounds.{SetsJob};
 ghost use Rattle.wtf_clients.specs.Saves.{with_image, only_image};
@@ -30,14 +30,15 @@ use wtf_region::Dev;
 use wtf_values::{Key, Value};
 
 /// The numbers of the images that may be on the keeper, in the order in which they were handed over,
-/// and whether it may still hold nothing; the jobs by label; and the scans. A keeper that holds nothing
-/// stands for the root alone, which needs no version of any key: so nothing is pinned for it, and no
-/// removal is kept for it. Of what was open when the last scan began these are told: the transactions by
+/// and whether it may still hold nothing; the number that is watched; the jobs by label; and the scans.
+/// A keeper that holds nothing stands for the root alone, which needs no version of any key: so nothing is
+/// pinned for it, and no removal is kept for it. Of what was open when the last scan began these are told: the transactions by
 /// the number of the one that was to begin next, the jobs by their labels.
 #[derive(Drop)]
 pub(crate) struct Beside {
     images: Vec<u64>,
     none: bool,
+    watched: Option<u64>,
     jobs: [Option<Job>; 8],
     gc: Gc,
     scan_tx: u64,
@@ -58,6 +59,7 @@ impl Model for Beside {
     ghost view = { λ b. record {
       images = b.images.items;
       none = b.none;
+      watched = b.watched;
       jobs = b.jobs;
       gc = b.gc;
       scan_tx = b.scan_tx;
@@ -68,7 +70,7 @@ impl Model for Beside {
 }
 
 impl Beside {
-    /// No image was handed to the keeper, there is no job, and no scan has begun.
+    /// No image was handed to the keeper, nothing is watched, there is no job, and no scan has begun.
     pub(crate) fn new(alloc: Global) -> Result<Beside, OutOfMemory>
         ensures { IfOk result (λ b. b ≡ unsaved) }
     {
@@ -76,6 +78,7 @@ impl Beside {
         Ok(Beside {
             images: Vec::new(alloc),
             none: true,
+            watched: None,
             jobs: [None, None, None, None, None, None, None, None],
             gc,
             scan_tx: 0,
@@ -83,7 +86,8 @@ impl Beside {
         })
     }
 
-    /// The image of this number alone is on the keeper, there is no job, and no scan has begun.
+    /// The image of this number alone is on the keeper, nothing is watched, there is no job, and no scan has
+    /// begun.
     pub(crate) fn of(alloc: Global, number: u64) -> Result<Beside, OutOfMemory>
         ensures { IfOk result (λ b. b ≡ only_image unsaved number) }
     {
@@ -136,6 +140,23 @@ impl Beside {
         self.images.truncate(1);
         self.images[0] = n;
         self.none = false;
+    }
+
+    /// The number that is watched, if there is one.
+    pub(crate) fn watched(&self) -> Option<u64>
+        ensures { result ≡ self.now.watched }
+    {
+        self.watched
+    }
+
+    /// This number is watched in place of the one before, which is answered.
+    pub(crate) fn watch(&mut self, n: u64) -> Option<u64>
+        ensures before { result ≡ self.old.watched }
+        ensures is { self.new ≡ watching self.old n }
+    {
+        let before = self.watched;
+        self.watched = Some(n);
+        before
     }
 
     /// Whether a label has a job.
@@ -291,6 +312,8 @@ impl Beside {
         ensures fault { IfErr result
             (IsCollectFault S.kind k dev.old dev.new self.old.gc self.new.gc) }
         ensures rest { self.new ≡ with_gc self.old self.new.gc }
+        ensures down { IsLeftDown (between dev.old dev.new) }
+        ensures lists { remembered dev.new ≡ remembered dev.old }
         ensures lengths { SameLengths S.kind (stores dev.old) (stores dev.new) }
         ensures syncs { SameSyncs S.kind (stores dev.old) (stores dev.new) }
     {

@@ -5,11 +5,11 @@ ghost use Rattle.wtf_kv.specs.Stores.{is_pinned};
 ghost use Rattle.wtf_model.specs.declared.limits.TheConstants.{MAX_DUMPED};
 ghost use Rattle.wtf_meta.specs.Maps.{metadata_at, seen};
 ghost use Rattle.wtf_meta.specs.FileEdits.{file_of};
-ghost use Rattle.wtf_region.specs.Devs.{IsSoundDev, GoesOn, RemembersTrue, stores, told_in, between};
+ghost use Rattle.wtf_region.specs.Devs.{IsSoundDev, GoesOn, RemembersTrue, stores, remembered, told_in, between};
 ghost use Rattle.wtf_region.specs.Inside.{IsStoredInside};
 ghost use Rattle.wtf_region.specs.Showing.{OnlyRead};
 ghost use Rattle.wtf_replay.specs.Tried.{KeepsMaps, KeepsVersions, KeepsPins};
-ghost use Rattle.wtf_clients.specs.Dumped.{IsDumpAnswer, IsShownFile, IsDumped, LacksFile, LacksDump};
+ghost use Rattle.wtf_clients.specs.Dumped.{IsDumpAnswer, IsNoFile, IsShownFile, IsDumped, ReadsBases, LacksFile, LacksDump, file_bases, dump_bases};
 
 use std::alloc::Global;
 use wtf_base::{Bytes, Fault, InodeId};
@@ -45,6 +45,10 @@ pub(crate) fn dump_now<S: SliceStore>(
     ensures versions { KeepsVersions kv.old kv.new }
     ensures pins { KeepsPins kv.old kv.new }
     ensures answered { IfOk result IsDumpAnswer }
+    ensures read { IfOk result (λ a. ReadsBases dev.old dev.new
+        (dump_bases dev.old.settings.region (metadata_at kv.old kv.old.number) p.now a)) }
+    ensures lists { IsNoFile (metadata_at kv.old kv.old.number) p.now →
+        remembered dev.new ≡ remembered dev.old }
     ensures reads { OnlyRead S.kind (between dev.old dev.new) }
     ensures dev { GoesOn S.kind dev.old dev.new [] }
 {
@@ -74,6 +78,10 @@ fn dump_at<S: SliceStore>(
     ensures fault { IfErr result (λ why. (why ≡ Fault.Memory) ⊎ LacksDump S.kind dev.old dev.new
         (metadata_at kv.now number) p.now why) }
     ensures answered { IfOk result IsDumpAnswer }
+    ensures read { IfOk result (λ a. ReadsBases dev.old dev.new
+        (dump_bases dev.old.settings.region (metadata_at kv.now number) p.now a)) }
+    ensures lists { IsNoFile (metadata_at kv.now number) p.now →
+        remembered dev.new ≡ remembered dev.old }
     ensures reads { OnlyRead S.kind (between dev.old dev.new) }
     ensures dev { GoesOn S.kind dev.old dev.new [] }
 {
@@ -113,6 +121,8 @@ fn dump_file<S: SliceStore>(
     ensures fault { IfErr result (λ why. (why ≡ Fault.Memory) ⊎ LacksFile S.kind dev.old dev.new
         (file_of inode (seen kv.now at.old)) why) }
     ensures answered { IfOk result IsDumpAnswer }
+    ensures read { IfOk result (λ a. ReadsBases dev.old dev.new
+        (file_bases dev.old.settings.region (file_of inode (seen kv.now at.old)) a)) }
     ensures reads { OnlyRead S.kind (between dev.old dev.new) }
     ensures dev { GoesOn S.kind dev.old dev.new [] }
 {

@@ -12,6 +12,7 @@ ghost use Rattle.wtf_region.specs.Inside.{is_inside};
 ghost use Rattle.wtf_clients.specs.Sounds.{AreSound};
 ghost use Rattle.wtf_clients.specs.Named.{TablesBytes};
 ghost use Rattle.wtf_clients.specs.Asked.{lending};
+ghost use Rattle.wtf_clients.specs.Leaving.{LeavesAlone};
 ghost use Rattle.wtf_clients.specs.Serves.{ServesEvent};
 ghost use Rattle.wtf_clients.specs.Saves.{AreUp, SaveTurn};
 ghost use Rattle.wtf_clients.specs.Keeping.{KeeperTurn, keeper_span};
@@ -33,21 +34,24 @@ impl Tables {
         shelf: &mut Shelf<S>,
         keeper: &mut K,
     ) -> Result<Answer, OutOfMemory>
-        requires sound { AreSound self.old }
         requires settings { settings_of replicas.now ≡ settings }
         requires shelf { settings.servers ≤ length shelf.old }
         requires inside { TablesBytes (is_inside S.kind shelf.old settings) any_slice self.old }
         ensures turn { IfOk result (SaveTurn (AreUp replicas.now settings.servers)
             self.old self.new) }
         ensures serves { IfOk result (λ a. (lists : Remembered) → ServesEvent S.kind
-            (during replicas.now shelf.old shelf.new) (lending settings lists)
+            (during replicas.now shelf.old shelf.new) (lending settings lists lists)
             (Rose (K.view keeper.old).faults (K.view keeper.new).faults)
             (self.old, self.new) event.Save a) }
         ensures keeper { IfOk result (KeeperTurn S.kind
             (during replicas.now shelf.old shelf.new)
             (keeper_span K.view K.follows K.refused keeper.old keeper.new) settings
             self.old self.new event.Save) }
+        ensures leaves { (lists : Remembered) → LeavesAlone S.kind
+            (during replicas.now shelf.old shelf.new) (lending settings lists lists)
+            self.old event.Save }
         ensures untouched { OnErr result (keeper.new ≡ keeper.old) }
+        ensures unsynced { OnErr result (shelf.new ≡ shelf.old) }
         ensures err { OnErr result (self.new ≡ self.old) }
         ensures shelf { EachFollows S.kind shelf.old shelf.new [] }
     {

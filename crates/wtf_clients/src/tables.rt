@@ -3,34 +3,33 @@
 ghost use Rattle.std.specs.Prelude.{◌≡◌, ◌+◌, ◌<◌, ◌^◌, ℕ, [], ◌∷◌, None, Some, Ok, IsTrue, IfOk, OnOk, OnErr, IfSome, MatchOption};
 ghost use Rattle.std.specs.Set.{remove_key};
 ghost use Rattle.std.specs.Prelude.{◌≤◌, nat_eq, count_by, length};
-ghost use Rattle.wtf_dev.specs.Sums.{TellsAll};
 ghost use Rattle.wtf_ring.specs.Points.{IsRing};
-ghost use Rattle.wtf_replica.specs.Bytes.{byte_at};
 ghost use Rattle.wtf_kv.specs.Stores.{is_pinned, times_pinned, IsPinnedOnceMore};
 ghost use Rattle.wtf_model.specs.Form.{IsFormOp, IsData};
 ghost use Rattle.wtf_model.specs.declared.answer.Word.TheVariants.{InTx, NoTx};
 ghost use Rattle.wtf_model.specs.declared.event.Event.TheVariants as event;
 ghost use Rattle.wtf_model.specs.declared.event.Verb.TheVariants as verb;
-ghost use Rattle.wtf_region.specs.Devs.{IsSoundDev, GoesOn, RemembersTrue, stores, remembered, between};
+ghost use Rattle.wtf_region.specs.Devs.{IsSoundDev, GoesOn, stores, remembered, between};
 ghost use Rattle.wtf_region.specs.Inside.{is_inside};
 ghost use Rattle.wtf_meta.specs.Bytes.{any_slice};
 ghost use Rattle.wtf_meta.specs.Trees.{IsFirst};
-ghost use Rattle.wtf_clients.specs.Views.{BesideView, of_client, metadata_now, unsaved};
-ghost use Rattle.wtf_clients.specs.Sounds.{AreSound, Sets, IsAlike, IsTidied, all_kept};
-ghost use Rattle.wtf_clients.specs.Saves.{with_image, only_image, Saves};
+ghost use Rattle.wtf_clients.specs.Views.{BesideView, of_client, metadata_now, unsaved, watching};
+ghost use Rattle.wtf_clients.specs.Sounds.{AreSound, Sets, IsAlike, IsTidied, all_kept, all_watched};
+ghost use Rattle.wtf_clients.specs.Saves.{with_image, only_image, HasImage, Saves};
 ghost use Rattle.wtf_image.specs.Saving.{IsSaveOf};
 ghost use Rattle.wtf_model.specs.declared.limits.TheConstants.{MAX_JOBS};
-ghost use Rattle.wtf_clients.specs.Turns.{Refuses, Begins, TryTurn, Drops, Dumps, ClientTurn};
-ghost use Rattle.wtf_clients.specs.JobTurns.{PlanTurn, PutTurn, DropTurn};
+ghost use Rattle.wtf_clients.specs.Turns.{Refuses, Begins, TryTurn, Drops};
+ghost use Rattle.wtf_clients.specs.JobTurns.{PutTurn, DropTurn};
 ghost use Rattle.wtf_clients.specs.ScanTurns.{ScanTurn, PieceTurn, CollectTurn, IsPruned, NoneOld, HoldsBack, SeesUpto};
 ghost use Rattle.wtf_clients.specs.Safe.{LieIn};
 ghost use Rattle.wtf_replica.specs.Inside.{size_in};
-ghost use Rattle.wtf_replica.specs.Outs.{SameLengths, SameSyncs};
+ghost use Rattle.wtf_replica.specs.Outs.{SameLengths};
 ghost use Rattle.wtf_clients.specs.Named.{TablesBytes};
 ghost use Rattle.wtf_clients.specs.Asked.{lent_by};
+ghost use Rattle.wtf_clients.specs.Leaving.{LeavesAlone};
+ghost use Rattle.wtf_clients.specs.Lines.{line, LineOf};
 ghost use Rattle.wtf_clients.specs.Serves.{ServesLine};
-ghost use Rattle.wtf_clients.specs.Spilling.{StoresPlan};
-ghost use Rattle.wtf_clients.specs.Telling.{TellsTables, ServesTold, ReadsTold};
+ghost use Rattle.wtf_clients.specs.Telling.{TellsTables, ReadsTold};
 
 use crate::beside::Beside;
 use crate::dump::dump_now;
@@ -51,8 +50,8 @@ use wtf_replay::Txn;
 use wtf_values::{Key, NameSet, Node, Value};
 
 /// The store of the metadata, the number of the transaction that begins next, the open transactions
-/// by client, in the order of their begin, and, beside them, which images may be on the keeper, the jobs
-/// by label and the scans.
+/// by client, in the order of their begin, and, beside them, which images may be on the keeper, which
+/// number is watched, the jobs by label and the scans.
 #[derive(Drop)]
 pub struct Tables {
     alloc: Global,
@@ -63,6 +62,7 @@ pub struct Tables {
 }
 
 impl Model for Tables {
+    ghost use Rattle.wtf_clients.specs.Sounds.{AreSound};
     ghost use Rattle.wtf_clients.specs.Views.{TablesView};
 
     ghost Value = { TablesView };
@@ -87,6 +87,13 @@ impl Model for Tables {
       clients = t.clients.entries;
       beside = t.beside;
     } };
+
+    ghost invariant = { λ t. AreSound (record {
+      kv = t.kv;
+      next_tx = t.next_tx;
+      clients = t.clients.entries;
+      beside = t.beside;
+    }) };
 }
 
 impl Tables {
@@ -141,9 +148,10 @@ impl Tables {
         })
     }
 
-    /// The number of installs.
+    /// The number of installs. All tables are sound.
     pub fn number(&self) -> u64
-        ensures { result ≡ self.now.kv.number }
+        ensures number { result ≡ self.now.kv.number }
+        ensures sound { AreSound self.now }
     {
         self.kv.number()
     }
@@ -164,11 +172,9 @@ impl Tables {
 
     /// A transaction begins for a client that has none.
     pub fn begin(&mut self, c: u8) -> Result<Answer, OutOfMemory>
-        requires sound { AreSound self.old }
         requires room { self.old.next_tx < 2 ^ 63 }
         ensures turn { IfOk result (λ a. MatchOption (of_client self.old.clients c)
             (Begins self.old self.new c a) (λ x. Refuses self.old self.new c InTx a)) }
-        ensures err_sound { OnErr result (AreSound self.new) }
         ensures err { OnErr result (IsAlike self.old self.new) }
     {
         if self.clients.contains_key(&c) {
@@ -198,24 +204,13 @@ impl Tables {
         c: u8,
         op: Op<Bytes>,
     ) -> Result<Answer, OutOfMemory>
-        requires sound { AreSound self.old }
         requires dev { IsSoundDev S.kind dev.old }
         requires ring { IsRing dev.old.settings.servers dev.old.ring.now.points }
         requires inside { TablesBytes (is_inside S.kind (stores dev.old) dev.old.settings)
             any_slice self.old }
         requires form { IsFormOp IsData op }
-        ensures turn { IfOk result (λ a. ClientTurn (TellsAll S.kind (stores dev.old))
-            (RemembersTrue S.kind dev.old) dev.old.settings.servers dev.old.settings.region
-            (byte_at S.kind (stores dev.old)) (byte_at S.kind (stores dev.new))
-            self.old self.new c (verb.Call op) a) }
-        ensures serves { IfOk result (ServesLine S.kind (between dev.old dev.new)
-            (lent_by dev.old) self.old self.new (event.Client c (verb.Call op))) }
-        ensures told { IfOk result (λ a. TellsTables S.kind (stores dev.old) dev.old.settings
-            (remembered dev.old) self.old → ServesTold S.kind (between dev.old dev.new)
-            dev.old.settings (self.old, self.new) a) }
-        ensures err_sound { OnErr result (AreSound self.new) }
-        ensures err { OnErr result (IsAlike self.old self.new) }
-        ensures dev { GoesOn S.kind dev.old dev.new [] }
+        ensures { LineOf (line S.kind dev.old dev.new self.old self.new)
+            (event.Client c (verb.Call op)) result }
     {
         let Some(txn) = self.clients.get_mut(&c) else {
             return Ok(Answer::Refused(Word::NoTx));
@@ -229,11 +224,9 @@ impl Tables {
 
     /// A client's attempt to commit.
     pub fn attempt(&mut self, c: u8) -> Result<Answer, OutOfMemory>
-        requires sound { AreSound self.old }
         requires room { self.old.kv.number < 2 ^ 63 }
         ensures turn { IfOk result (λ a. MatchOption (of_client self.old.clients c)
             (Refuses self.old self.new c NoTx a) (λ x. TryTurn self.old self.new c x a)) }
-        ensures err_sound { OnErr result (AreSound self.new) }
         ensures err { OnErr result (IsAlike self.old self.new) }
     {
         let Some(txn) = self.clients.get_mut(&c) else {
@@ -246,7 +239,7 @@ impl Tables {
         if !txn.ended() {
             return Ok(answer);
         }
-        self.end(c);
+        end(&mut self.clients, &mut self.kv, c);
         Ok(answer)
     }
 
@@ -256,23 +249,12 @@ impl Tables {
         dev: &mut Dev<'_, S>,
         c: u8,
     ) -> Result<Answer, OutOfMemory>
-        requires sound { AreSound self.old }
         requires dev { IsSoundDev S.kind dev.old }
         requires ring { IsRing dev.old.settings.servers dev.old.ring.now.points }
         requires inside { TablesBytes (is_inside S.kind (stores dev.old) dev.old.settings)
             any_slice self.old }
-        ensures turn { IfOk result (λ a. ClientTurn (TellsAll S.kind (stores dev.old))
-            (RemembersTrue S.kind dev.old) dev.old.settings.servers dev.old.settings.region
-            (byte_at S.kind (stores dev.old)) (byte_at S.kind (stores dev.new))
-            self.old self.new c verb.Step a) }
-        ensures serves { IfOk result (ServesLine S.kind (between dev.old dev.new)
-            (lent_by dev.old) self.old self.new (event.Client c verb.Step)) }
-        ensures told { IfOk result (λ a. TellsTables S.kind (stores dev.old) dev.old.settings
-            (remembered dev.old) self.old → ServesTold S.kind (between dev.old dev.new)
-            dev.old.settings (self.old, self.new) a) }
-        ensures err_sound { OnErr result (AreSound self.new) }
-        ensures err { OnErr result (IsAlike self.old self.new) }
-        ensures dev { GoesOn S.kind dev.old dev.new [] }
+        ensures { LineOf (line S.kind dev.old dev.new self.old self.new)
+            (event.Client c verb.Step) result }
     {
         let Some(txn) = self.clients.get_mut(&c) else {
             return Ok(Answer::Refused(Word::NoTx));
@@ -284,7 +266,7 @@ impl Tables {
         if !txn.ended() {
             return Ok(answer);
         }
-        self.end(c);
+        end(&mut self.clients, &mut self.kv, c);
         Ok(answer)
     }
 
@@ -294,24 +276,13 @@ impl Tables {
         dev: &mut Dev<'_, S>,
         c: u8,
     ) -> Result<Answer, OutOfMemory>
-        requires sound { AreSound self.old }
         requires dev { IsSoundDev S.kind dev.old }
         requires ring { IsRing dev.old.settings.servers dev.old.ring.now.points }
         requires inside { TablesBytes (is_inside S.kind (stores dev.old) dev.old.settings)
             any_slice self.old }
         requires room { self.old.kv.number < 2 ^ 63 }
-        ensures turn { IfOk result (λ a. ClientTurn (TellsAll S.kind (stores dev.old))
-            (RemembersTrue S.kind dev.old) dev.old.settings.servers dev.old.settings.region
-            (byte_at S.kind (stores dev.old)) (byte_at S.kind (stores dev.new))
-            self.old self.new c verb.Commit a) }
-        ensures serves { IfOk result (ServesLine S.kind (between dev.old dev.new)
-            (lent_by dev.old) self.old self.new (event.Client c verb.Commit)) }
-        ensures told { IfOk result (λ a. TellsTables S.kind (stores dev.old) dev.old.settings
-            (remembered dev.old) self.old → ServesTold S.kind (between dev.old dev.new)
-            dev.old.settings (self.old, self.new) a) }
-        ensures err_sound { OnErr result (AreSound self.new) }
-        ensures err { OnErr result (IsAlike self.old self.new) }
-        ensures dev { GoesOn S.kind dev.old dev.new [] }
+        ensures { LineOf (line S.kind dev.old dev.new self.old self.new)
+            (event.Client c verb.Commit) result }
     {
         let Some(txn) = self.clients.get_mut(&c) else {
             return Ok(Answer::Refused(Word::NoTx));
@@ -320,7 +291,7 @@ impl Tables {
             Ok(answer) => answer,
             Err(why) => return answer_to(why),
         };
-        self.end(c);
+        end(&mut self.clients, &mut self.kv, c);
         Ok(answer)
     }
 
@@ -330,21 +301,12 @@ impl Tables {
         dev: &mut Dev<'_, S>,
         p: &Path,
     ) -> Result<Answer, OutOfMemory>
-        requires sound { AreSound self.old }
         requires dev { IsSoundDev S.kind dev.old }
         requires ring { IsRing dev.old.settings.servers dev.old.ring.now.points }
         requires inside { TablesBytes (is_inside S.kind (stores dev.old) dev.old.settings)
             any_slice self.old }
-        ensures turn { IfOk result (Dumps dev.old.settings.servers dev.old.settings.region
-            (byte_at S.kind (stores dev.old)) (RemembersTrue S.kind dev.old) self.old self.new p.now) }
-        ensures serves { IfOk result (ServesLine S.kind (between dev.old dev.new)
-            (lent_by dev.old) self.old self.new (event.Dump p.now)) }
-        ensures told { IfOk result (λ a. TellsTables S.kind (stores dev.old) dev.old.settings
-            (remembered dev.old) self.old → ServesTold S.kind (between dev.old dev.new)
-            dev.old.settings (self.old, self.new) a) }
-        ensures err_sound { OnErr result (AreSound self.new) }
-        ensures err { OnErr result (IsAlike self.old self.new) }
-        ensures dev { GoesOn S.kind dev.old dev.new [] }
+        ensures { LineOf (line S.kind dev.old dev.new self.old self.new)
+            (event.Dump p.now) result }
     {
         match dump_now(self.alloc, dev, &mut self.kv, p) {
             Ok(answer) => return Ok(answer),
@@ -354,7 +316,6 @@ impl Tables {
 
     /// A client gives its transaction up.
     pub fn abort(&mut self, c: u8) -> Answer
-        requires sound { AreSound self.old }
         ensures turn { MatchOption (of_client self.old.clients c)
             (Refuses self.old self.new c NoTx result)
             (λ x. Drops self.old self.new c x result) }
@@ -362,7 +323,7 @@ impl Tables {
         if !self.clients.contains_key(&c) {
             return Answer::Refused(Word::NoTx);
         }
-        self.end(c);
+        end(&mut self.clients, &mut self.kv, c);
         Answer::Okay
     }
 
@@ -378,26 +339,13 @@ impl Tables {
         p: &Path,
         region: u64,
     ) -> Result<Answer, OutOfMemory>
-        requires sound { AreSound self.old }
         requires dev { IsSoundDev S.kind dev.old }
         requires ring { IsRing dev.old.settings.servers dev.old.ring.now.points }
         requires inside { TablesBytes (is_inside S.kind (stores dev.old) dev.old.settings)
             any_slice self.old }
         requires label { j < MAX_JOBS }
-        ensures turn { IfOk result (PlanTurn (TellsAll S.kind (stores dev.old))
-            (RemembersTrue S.kind dev.old) dev.old.settings.servers dev.old.settings.region
-            (byte_at S.kind (stores dev.old)) (byte_at S.kind (stores dev.new))
-            self.old self.new j kind p.now region) }
-        ensures serves { IfOk result (ServesLine S.kind (between dev.old dev.new)
-            (lent_by dev.old) self.old self.new (event.Plan j kind p.now region)) }
-        ensures stores { IfOk result (StoresPlan S.kind (between dev.old dev.new)
-            (lent_by dev.old) (self.old, self.new) (event.Plan j kind p.now region)) }
-        ensures told { IfOk result (λ a. TellsTables S.kind (stores dev.old) dev.old.settings
-            (remembered dev.old) self.old → ServesTold S.kind (between dev.old dev.new)
-            dev.old.settings (self.old, self.new) a) }
-        ensures err_sound { OnErr result (AreSound self.new) }
-        ensures err { OnErr result (IsAlike self.old self.new) }
-        ensures dev { GoesOn S.kind dev.old dev.new [] }
+        ensures { LineOf (line S.kind dev.old dev.new self.old self.new)
+            (event.Plan j kind p.now region) result }
     {
         if self.beside.has_job(j) {
             return Ok(Answer::Refused(Word::JobInUse));
@@ -422,11 +370,9 @@ impl Tables {
     /// the path or the region has a newer version. Either ends the job. Refused `NoJob` where the label
     /// has none. Want of memory leaves the job.
     pub fn put_job(&mut self, j: u8) -> Result<Answer, OutOfMemory>
-        requires sound { AreSound self.old }
         requires room { self.old.kv.number < 2 ^ 63 }
         requires label { j < MAX_JOBS }
         ensures turn { IfOk result (PutTurn self.old self.new j) }
-        ensures err_sound { OnErr result (AreSound self.new) }
         ensures err { OnErr result (IsAlike self.old self.new) }
     {
         let Some(job) = self.beside.take_job(j) else {
@@ -443,7 +389,6 @@ impl Tables {
 
     /// Drops job `j` and the pin of its base; refused `NoJob` where the label has none. It takes no memory.
     pub fn drop_job(&mut self, j: u8) -> Answer
-        requires sound { AreSound self.old }
         requires label { j < MAX_JOBS }
         ensures turn { DropTurn self.old self.new j result }
     {
@@ -457,9 +402,7 @@ impl Tables {
     /// Starts a scan of what is in use. It is refused while one runs, and held back while a transaction or
     /// a job is open that was open when the last one began. Want of memory starts nothing.
     pub fn scan<S: SliceStore>(&mut self, shelf: &Shelf<S>) -> Result<Answer, OutOfMemory>
-        requires sound { AreSound self.old }
         ensures turn { IfOk result (ScanTurn S.kind shelf.now self.old self.new) }
-        ensures err_sound { OnErr result (AreSound self.new) }
         ensures err { OnErr result (IsAlike self.old self.new) }
     {
         if self.beside.scans() {
@@ -482,7 +425,6 @@ impl Tables {
         dev: &mut Dev<'_, S>,
         parts: u8,
     ) -> Result<Answer, OutOfMemory>
-        requires sound { AreSound self.old }
         requires dev { IsSoundDev S.kind dev.old }
         requires ring { IsRing dev.old.settings.servers dev.old.ring.now.points }
         requires inside { TablesBytes (is_inside S.kind (stores dev.old) dev.old.settings)
@@ -490,11 +432,12 @@ impl Tables {
         ensures turn { IfOk result
             (PieceTurn S.kind dev.old dev.new self.old self.new parts) }
         ensures serves { IfOk result (ServesLine S.kind (between dev.old dev.new)
-            (lent_by dev.old) self.old self.new (event.Piece parts)) }
+            (lent_by dev.old dev.new) self.old self.new (event.Piece parts)) }
+        ensures leaves { LeavesAlone S.kind (between dev.old dev.new) (lent_by dev.old dev.new)
+            self.old (event.Piece parts) }
         ensures unread { IfOk result (λ a. TellsTables S.kind (stores dev.old) dev.old.settings
             (remembered dev.old) self.old → ReadsTold S.kind (between dev.old dev.new)
             dev.old.settings self.old a) }
-        ensures err_sound { OnErr result (AreSound self.new) }
         ensures err { OnErr result (IsPruned self.old self.new) }
         ensures dev { GoesOn S.kind dev.old dev.new [] }
     {
@@ -519,7 +462,6 @@ impl Tables {
         dev: &mut Dev<'_, S>,
         k: u64,
     ) -> Result<Answer, OutOfMemory>
-        requires sound { AreSound self.old }
         requires dev { IsSoundDev S.kind dev.old }
         requires ring { IsRing dev.old.settings.servers dev.old.ring.now.points }
         requires inside { TablesBytes (is_inside S.kind (stores dev.old) dev.old.settings)
@@ -528,11 +470,12 @@ impl Tables {
         ensures turn { IfOk result
             (CollectTurn S.kind dev.old dev.new self.old self.new k) }
         ensures serves { IfOk result (ServesLine S.kind (between dev.old dev.new)
-            (lent_by dev.old) self.old self.new (event.Collect k)) }
+            (lent_by dev.old dev.new) self.old self.new (event.Collect k)) }
+        ensures leaves { LeavesAlone S.kind (between dev.old dev.new) (lent_by dev.old dev.new)
+            self.old (event.Collect k) }
         ensures err { OnErr result (self.new ≡ self.old) }
         ensures dev_err { OnErr result (GoesOn S.kind dev.old dev.new []) }
         ensures lengths { SameLengths S.kind (stores dev.old) (stores dev.new) }
-        ensures syncs { SameSyncs S.kind (stores dev.old) (stores dev.new) }
     {
         let servers = dev.settings.servers;
         if k >= servers as u64 {
@@ -582,27 +525,32 @@ impl Tables {
 
     /// Drops versions that no one sees any more, once there are enough of them.
     pub fn tidy(&mut self)
-        ensures { IsTidied self.old self.new }
+        ensures tidied { IsTidied self.old self.new }
+        ensures sound { AreSound self.new }
     {
         self.kv.prune_when_due();
     }
 
-    /// The transaction of a client goes, with the pin of its base.
-    fn end(&mut self, c: u8)
-        requires pinned { IfSome (of_client self.old.clients c)
-            (λ x. IsTrue (is_pinned self.old.kv x.at.base)) }
-        ensures clients { Sets c None self.old.clients self.new.clients }
-        ensures kv { IfSome (of_client self.old.clients c) (λ x. self.new.kv ≡
-            record self.old.kv { pins = remove_key (nat_eq x.at.base) self.old.kv.pins }) }
-        ensures unpinned { IfSome (of_client self.old.clients c)
-            (λ x. IsPinnedOnceMore x.at.base self.new.kv self.old.kv) }
-        ensures next { self.new.next_tx ≡ self.old.next_tx }
-        ensures beside { self.new.beside ≡ self.old.beside }
+    /// The number that is watched, if there is one. It is pinned, so that what changed since can be told.
+    pub fn watched(&self) -> Option<u64>
+        ensures { result ≡ self.now.beside.watched }
     {
-        match self.clients.shift_remove(&c) {
-            Some(txn) => txn.drop_all(&mut self.kv),
-            None => {}
-        }
+        self.beside.watched()
+    }
+
+    /// Watches the number of installs, in place of the number that was watched before. Want of memory leaves
+    /// all as it was.
+    pub fn watch(&mut self) -> Result<(), OutOfMemory>
+        ensures ok { OnOk result (Saves self.old self.new
+            (watching self.old.beside self.old.kv.number)) }
+        ensures err { OnErr result (self.new ≡ self.old) }
+    {
+        let number = self.kv.number();
+        // the new pin first: want of memory leaves nothing to undo
+        self.kv.pin(number)?;
+        let before = self.beside.watch(number);
+        unpin_watched(&mut self.kv, before);
+        Ok(())
     }
 
     /// The image of the store as it stands, with the settings.
@@ -634,6 +582,7 @@ impl Tables {
     pub(crate) fn forget_image(&mut self)
         requires pinned { IsTrue (is_pinned self.old.kv self.old.kv.number) }
         requires some { 0 < length self.old.beside.images }
+        requires last { HasImage self.old }
         ensures { (before : BesideView) →
             self.old.beside ≡ with_image before self.old.kv.number →
             Saves self.old self.new before }
@@ -647,6 +596,7 @@ impl Tables {
     pub(crate) fn settle_image(&mut self)
         requires pinned { (n : ℕ) → all_kept n self.old.beside ≤ times_pinned self.old.kv n }
         requires some { 0 < length self.old.beside.images }
+        requires last { HasImage self.old }
         ensures { (before : BesideView) →
             self.old.beside ≡ with_image before self.old.kv.number →
             Saves self.old self.new (only_image before self.old.kv.number) }
@@ -654,6 +604,35 @@ impl Tables {
         let number = self.kv.number();
         unpin_all(&mut self.kv, self.beside.others());
         self.beside.settle(number);
+    }
+}
+
+/// The transaction of a client goes, with the pin of its base.
+fn end(clients: &mut IndexMap<u8, Txn>, kv: &mut Kv<Key, Value>, c: u8)
+    requires pinned { IfSome (of_client clients.old.entries c)
+        (λ x. IsTrue (is_pinned kv.old x.at.base)) }
+    ensures clients { Sets c None clients.old.entries clients.new.entries }
+    ensures kv { IfSome (of_client clients.old.entries c) (λ x. kv.new ≡
+        record kv.old { pins = remove_key (nat_eq x.at.base) kv.old.pins }) }
+    ensures unpinned { IfSome (of_client clients.old.entries c)
+        (λ x. IsPinnedOnceMore x.at.base kv.new kv.old) }
+{
+    match clients.shift_remove(&c) {
+        Some(txn) => txn.drop_all(kv),
+        None => {}
+    }
+}
+
+/// Undoes the pin of a number that was watched, if there is one.
+fn unpin_watched(kv: &mut Kv<Key, Value>, watched: Option<u64>)
+    requires { (n : ℕ) → all_watched n watched ≤ times_pinned kv.old n }
+    ensures pins { (n : ℕ) → times_pinned kv.new n + all_watched n watched ≡
+        times_pinned kv.old n }
+    ensures rest { kv.new ≡ record kv.old { pins = kv.new.pins } }
+{
+    match watched {
+        Some(n) => kv.unpin(n),
+        None => {}
     }
 }
 

@@ -18,6 +18,7 @@ use Rattle.wtf_region.specs.Apart.{are_apart}
 use Rattle.wtf_region.specs.Devs.{stores, told_in, inside_of, is_down_in, between}
 use Rattle.wtf_region.specs.Reads.{IsFileRead, LacksRegion}
 use Rattle.wtf_region.specs.Showing.{Shown, IsShowFault, pieces_in, AreReadable}
+use Rattle.wtf_region.specs.Bases.{bases_in}
 use Rattle.wtf_region.proofs.InsideLaws.{readable_from}
 use Rattle.wtf_region.proofs.ListReads.{pieces_inside, file_read_later}
 use Rattle.wtf_region.proofs.Recording.{still_seen}
@@ -104,7 +105,8 @@ returns-in-Err-show-clause-fault g c =
         pieces = ps;
         are = subst (λ (m : ℕ). IsFileRead kind dev c.show.new.dev (file_of i b) 0 m ps) count
             (subst (λ (w : Map). IsFileRead kind dev c.show.new.dev (file_of i w) 0 k ps) same
-            (file_read_later g.met.S.SliceStore.laws c.in-Ok-pieces.ensures.dev c.in-Err-show.ensures.dev c.in-Err-show.ensures.lists (file_of i u) 0 k ps read));
+            (file_read_later g.met.S.SliceStore.laws c.in-Ok-pieces.ensures.dev c.in-Err-show.ensures.dev c.in-Err-show.ensures.lists (file_of i u) 0 k ps
+            read));
         inside = pieces_inside g.met.S.SliceStore.laws c.requires.sound c.in-Ok-pieces.ensures.dev (file_of i u) file 0 k ps read;
         fault = subst (λ (m : ℕ). IsShowFault kind (between mid c.show.new.dev) (pieces_in 0 m ps) c.in-Err-show.why) count
             (subst (λ (qs : List Piece). IsShowFault kind (between mid c.show.new.dev) (pieces_in 0 k qs) c.in-Err-show.why) c.as_slice.ensures.value
@@ -156,3 +158,24 @@ returns-clause-shows g c cache map bytes body =
     ∙ shows_file told z v ps k bytes out count (omega (arith, low, value)) body.file body.bytes_are
     (plans_whole ps k (file_origin z (lists_in z told) v) (read.reads.plans (lists_in z told) tell))
     (shown_since laws first.each k (λ j. pieces_origin ps (0 + j)) [] out shown)
+
+pub returns-then-len-gt-MAX_DUMPED-clause-read : goal.returns-then-len-gt-MAX_DUMPED-clause-read
+returns-then-len-gt-MAX_DUMPED-clause-read g c = record { facts = []; recalls = refl; wants = refl }
+
+pub returns-clause-read : goal.returns-clause-read
+returns-clause-read g c =
+    let dev = c.args.dev.now in
+    let i = c.args.inode in
+    let b = seen c.args.kv.now c.args.at.now in
+    let z = dev.settings.region in
+    let k = c.min-n.result in
+    let read = c.in-Ok-pieces.ensures.read in
+    let same : seen c.args.kv.now c.file_len.new.at ≡ b = still_seen c.args.kv.now i (length_keys (file_of i b)) c.args.at.now c.file_len.new.at
+    c.in-Ok.ensures.recorded in
+    let count : k ≡ min (file_len z (file_of i b)) (MAX_REGIONS * z) = c.min-n.ensures ∙ ap (λ m. min m c.cap.result) c.in-Ok.ensures.value
+    ∙ ap (min (file_len z (file_of i b))) c.cap.ensures in
+    record {
+      facts = read.facts;
+      recalls = c.in-Ok-show.ensures.lists ∙ read.recalls;
+      wants = read.wants ∙ ap (λ (w : Map). bases_in z (file_of i w) 0 k) same ∙ ap (bases_in z (file_of i b) 0) count;
+    }

@@ -28,6 +28,7 @@ returns c j = ⊎_elim
     (ap (λ o. is_some o && was_job (record {
       images = c.self.inside.images.items;
       none = c.self.inside.none;
+      watched = c.self.inside.watched;
       jobs = c.self.inside.jobs;
       gc = c.self.inside.gc;
       scan_tx = c.self.inside.scan_tx;

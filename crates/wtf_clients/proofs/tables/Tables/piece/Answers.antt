@@ -1,4 +1,7 @@
-use Rattle.std.proofs.Common.{◌≡◌, Some, IfOk, refl, sym, subst}
+use Rattle.std.proofs.Common.{◌≡◌, ◌∙◌, ℕ, true, Some, IfOk, is_some, true≢false, refl, sym, ap, subst}
+use Rattle.wtf_replica.specs.Downs.{is_down}
+use Rattle.wtf_region.specs.Showing.{OnlyRead}
+use Rattle.wtf_gc.specs.Scans.{DoesParts}
 use Rattle.wtf_model.specs.declared.answer.Answer.TheVariants as answer
 use Rattle.wtf_model.specs.declared.event.Event.TheVariants as event
 use Rattle.wtf_meta.specs.Bytes.{any_slice}
@@ -6,118 +9,165 @@ use Rattle.wtf_region.specs.Devs.{stores, remembered, between}
 use Rattle.wtf_region.specs.Inside.{is_inside}
 use Rattle.wtf_replay.specs.Causes.{fault_answer}
 use Rattle.wtf_clients.specs.Views.{TablesView}
-use Rattle.wtf_clients.specs.Sounds.{AreSound}
 use Rattle.wtf_clients.specs.Named.{TablesBytes}
 use Rattle.wtf_clients.specs.ScanTurns.{IsPruned, DoesTurn}
 use Rattle.wtf_clients.specs.Asked.{lent_by}
 use Rattle.wtf_clients.specs.Serves.{ServesLine}
 use Rattle.wtf_clients.specs.Telling.{TellsTables, ReadsTold}
-use Rattle.wtf_clients.proofs.Making.{if_ok, on_err}
+use Rattle.wtf_clients.proofs.Making.{if_ok}
 use Rattle.wtf_clients.proofs.PieceServing.{held_enough, does_names, pruned_sound, piece_serves, piece_fails, piece_failed_told}
 use Rattle.wtf_clients.proofs.Scanning.{pruned_names}
+use Rattle.wtf_clients.specs.Leaving.{LeavesAlone}
+use Rattle.wtf_clients.proofs.Leaving.{leaves_none, leaves_read}
+use Rattle.wtf_clients.proofs.ScanFrames.{does_sound}
+use Rattle.wtf_clients.proofs.tables.Tables.piece.Given.{Over}
 use Rattle.wtf_clients.proofs.tables.Tables.piece.Goals as goal
+use Rattle.wtf_clients.proofs.tables.Tables.piece.Goals.{After-do_parts-done}
+
+-- the tables before it
+abbrev old : (g : Over) → After-do_parts-done g → TablesView
+old g c = let at = c.self.inside in record { kv = at.kv; next_tx = at.next_tx; clients = at.clients.entries; beside = at.beside }
+
+abbrev after : (g : Over) → After-do_parts-done g → TablesView
+after g c = record (old g c) { kv = c.do_parts-done.new.kv; beside = c.do_parts-done.new.self }
+
+inside : (g : Over) (c : After-do_parts-done g)
+    → TablesBytes (is_inside g.S.SliceStore.kind (stores c.args.dev.now) c.args.dev.now.settings) any_slice (old g c)
+inside g c =
+    subst (TablesBytes (is_inside g.S.SliceStore.kind (stores c.args.dev.now) c.args.dev.now.settings) any_slice) (sym c.self.view_is) c.requires.inside
 
 -- what the parts ask
 pub do_parts-done-requires-clause-held : goal.do_parts-done-requires-clause-held
 do_parts-done-requires-clause-held g c =
     let at = c.self.inside in
-    let old : TablesView = record { kv = at.kv; next_tx = at.next_tx; clients = at.clients.entries; beside = at.beside } in
-    held_enough old (subst (λ (t : TablesView). AreSound t) (sym c.self.view_is) c.requires.sound)
+    held_enough (record { kv = at.kv; next_tx = at.next_tx; clients = at.clients.entries; beside = at.beside }) c.self.invariant
 
 pub do_parts-done-requires-clause-inside : goal.do_parts-done-requires-clause-inside
 do_parts-done-requires-clause-inside g c =
     let dev = c.args.dev.now in
     let at = c.self.inside in
-    let old : TablesView = record { kv = at.kv; next_tx = at.next_tx; clients = at.clients.entries; beside = at.beside } in
-    let inside : TablesBytes (is_inside g.S.SliceStore.kind (stores dev) dev.settings) any_slice old =
+    let named : TablesBytes (is_inside g.S.SliceStore.kind (stores dev) dev.settings) any_slice
+    (record { kv = at.kv; next_tx = at.next_tx; clients = at.clients.entries; beside = at.beside }) =
     subst (TablesBytes (is_inside g.S.SliceStore.kind (stores dev) dev.settings) any_slice) (sym c.self.view_is) c.requires.inside in
-    inside.live
+    named.live
 
--- they were done, and some are left
+-- parts leave the stores, and the lists where there is none to read
+leaves : (g : Over) (c : After-do_parts-done g) → is_some c.self.inside.beside.gc.running ≡ true
+    → OnlyRead g.S.SliceStore.kind (between c.args.dev.now c.do_parts-done.new.dev)
+    → LeavesAlone g.S.SliceStore.kind (between c.args.dev.now c.do_parts-done.new.dev) (lent_by c.args.dev.now c.do_parts-done.new.dev) (old g c)
+    (event.Piece c.args.parts)
+leaves g c runs reads =
+    leaves_read g.S.SliceStore.kind c.args.dev.now c.do_parts-done.new.dev (old g c) (event.Piece c.args.parts) reads
+    (λ none. absurd (true≢false (sym runs ∙ ap is_some none)))
+
+-- they were done
+does : (g : Over) (c : After-do_parts-done g) (n : ℕ)
+    → DoesParts g.S.SliceStore.kind c.args.dev.now c.do_parts-done.new.dev c.self.inside.kv c.do_parts-done.new.kv c.self.inside.beside.gc
+    c.do_parts-done.new.self.gc c.args.parts n
+    → DoesTurn g.S.SliceStore.kind c.args.dev.now c.do_parts-done.new.dev (old g c) (after g c) c.args.parts n
+does g c n did =
+    record {
+      does = did;
+      prunes = c.do_parts-done.ensures.prunes;
+      keeps = record { beside = c.do_parts-done.ensures.rest; clients = refl; next_tx = refl };
+    }
+
 pub returns-then-left-gt0-clause-serves : goal.returns-then-left-gt0-clause-serves
 returns-then-left-gt0-clause-serves g c =
+    let at = (goal.at.returns-then-left-gt0-clause-serves g c).After-do_parts-done in
     let kind = g.S.SliceStore.kind in
     let dev = c.args.dev.now in
     let new = c.do_parts-done.new.dev in
-    let at = c.self.inside in
-    let old : TablesView = record { kv = at.kv; next_tx = at.next_tx; clients = at.clients.entries; beside = at.beside } in
-    let after : TablesView = record { kv = c.do_parts-done.new.kv; next_tx = at.next_tx; clients = at.clients.entries; beside = c.do_parts-done.new.self } in
-    let sound : AreSound old = subst (λ (t : TablesView). AreSound t) (sym c.self.view_is) c.requires.sound in
-    let inside : TablesBytes (is_inside kind (stores dev) dev.settings) any_slice old =
-    subst (TablesBytes (is_inside kind (stores dev) dev.settings) any_slice) (sym c.self.view_is) c.requires.inside in
     let did = c.in-Ok.ensures in
-    let left = c.in-Ok.left in
-    let turn : DoesTurn kind dev new old after c.args.parts left =
-    record { does = did.does; prunes = did.prunes; keeps = record { beside = did.rest; clients = refl; next_tx = refl } } in
-    subst (λ (t : TablesView). ServesLine kind (between dev new) (lent_by dev) t after (event.Piece c.args.parts) (answer.More left)) c.self.view_is
-    (piece_serves g.met.S.SliceStore.laws dev new did.dev c.requires.dev old sound inside c.args.parts after (answer.More left)
-    (does_names kind dev new old after c.args.parts left sound turn) did.reads tt)
+    subst (λ (t : TablesView). ServesLine kind (between dev new) (lent_by dev new) t (after g at) (event.Piece c.args.parts) (answer.More c.in-Ok.left))
+    c.self.view_is
+    (piece_serves g.met.S.SliceStore.laws dev new did.dev c.requires.dev (old g at) c.self.invariant (inside g at) c.args.parts (after g at)
+    (answer.More c.in-Ok.left) (does_names kind dev new (old g at) (after g at) c.args.parts c.in-Ok.left c.self.invariant (does g at c.in-Ok.left did.does))
+    did.reads tt)
 
--- or none
+pub returns-then-left-gt0-clause-leaves : goal.returns-then-left-gt0-clause-leaves
+returns-then-left-gt0-clause-leaves g c =
+    let at = (goal.at.returns-then-left-gt0-clause-leaves g c).After-do_parts-done in
+    subst (λ (t : TablesView). LeavesAlone g.S.SliceStore.kind (between c.args.dev.now c.do_parts-done.new.dev)
+    (lent_by c.args.dev.now c.do_parts-done.new.dev) t (event.Piece c.args.parts)) c.self.view_is
+    (leaves g at (sym c.scans.ensures ∙ c.if-not-scans.false) c.in-Ok.ensures.reads)
+
+pub invariant_of-self : goal.invariant_of-self
+invariant_of-self g c =
+    let at = (goal.at.invariant_of-self g c).After-do_parts-done in
+    does_sound g.S.SliceStore.kind c.args.dev.now c.do_parts-done.new.dev (old g at) (after g at) c.args.parts c.in-Ok.left c.self.invariant
+    (does g at c.in-Ok.left c.in-Ok.ensures.does)
+
 pub returns-in-Ok-clause-serves : goal.returns-in-Ok-clause-serves
 returns-in-Ok-clause-serves g c =
+    let at = (goal.at.returns-in-Ok-clause-serves g c).After-do_parts-done in
     let kind = g.S.SliceStore.kind in
     let dev = c.args.dev.now in
     let new = c.do_parts-done.new.dev in
-    let at = c.self.inside in
-    let old : TablesView = record { kv = at.kv; next_tx = at.next_tx; clients = at.clients.entries; beside = at.beside } in
-    let after : TablesView = record { kv = c.do_parts-done.new.kv; next_tx = at.next_tx; clients = at.clients.entries; beside = c.do_parts-done.new.self } in
-    let sound : AreSound old = subst (λ (t : TablesView). AreSound t) (sym c.self.view_is) c.requires.sound in
-    let inside : TablesBytes (is_inside kind (stores dev) dev.settings) any_slice old =
-    subst (TablesBytes (is_inside kind (stores dev) dev.settings) any_slice) (sym c.self.view_is) c.requires.inside in
     let did = c.in-Ok.ensures in
-    let left = c.in-Ok.left in
-    let turn : DoesTurn kind dev new old after c.args.parts left =
-    record { does = did.does; prunes = did.prunes; keeps = record { beside = did.rest; clients = refl; next_tx = refl } } in
-    subst (λ (t : TablesView). ServesLine kind (between dev new) (lent_by dev) t after (event.Piece c.args.parts) answer.Done) c.self.view_is
-    (piece_serves g.met.S.SliceStore.laws dev new did.dev c.requires.dev old sound inside c.args.parts after answer.Done
-    (does_names kind dev new old after c.args.parts left sound turn) did.reads tt)
+    subst (λ (t : TablesView). ServesLine kind (between dev new) (lent_by dev new) t (after g at) (event.Piece c.args.parts) answer.Done) c.self.view_is
+    (piece_serves g.met.S.SliceStore.laws dev new did.dev c.requires.dev (old g at) c.self.invariant (inside g at) c.args.parts (after g at) answer.Done
+    (does_names kind dev new (old g at) (after g at) c.args.parts c.in-Ok.left c.self.invariant (does g at c.in-Ok.left did.does)) did.reads tt)
+
+pub returns-in-Ok-clause-leaves : goal.returns-in-Ok-clause-leaves
+returns-in-Ok-clause-leaves g c =
+    let at = (goal.at.returns-in-Ok-clause-leaves g c).After-do_parts-done in
+    subst (λ (t : TablesView). LeavesAlone g.S.SliceStore.kind (between c.args.dev.now c.do_parts-done.new.dev)
+    (lent_by c.args.dev.now c.do_parts-done.new.dev) t (event.Piece c.args.parts)) c.self.view_is
+    (leaves g at (sym c.scans.ensures ∙ c.if-not-scans.false) c.in-Ok.ensures.reads)
+
+pub invariant_of-self-in-Ok : goal.invariant_of-self-in-Ok
+invariant_of-self-in-Ok g c =
+    let at = (goal.at.invariant_of-self-in-Ok g c).After-do_parts-done in
+    does_sound g.S.SliceStore.kind c.args.dev.now c.do_parts-done.new.dev (old g at) (after g at) c.args.parts c.in-Ok.left c.self.invariant
+    (does g at c.in-Ok.left c.in-Ok.ensures.does)
 
 -- a list was not read, or memory was short
+pruned : (g : Over) (c : After-do_parts-done g) → c.do_parts-done.new.kv.pins ≡ c.self.inside.kv.pins → c.do_parts-done.new.self ≡ c.self.inside.beside
+    → IsPruned (old g c) (after g c)
+pruned g c pins same = record { kv = c.do_parts-done.ensures.prunes; pins = pins; clients = refl; next_tx = refl; beside = same }
+
 pub returns-in-Err-clause-serves : goal.returns-in-Err-clause-serves
 returns-in-Err-clause-serves g c =
-    let kind = g.S.SliceStore.kind in
+    let at = (goal.at.returns-in-Err-clause-serves g c).After-do_parts-done in
     let dev = c.args.dev.now in
     let new = c.do_parts-done.new.dev in
-    let at = c.self.inside in
-    let old : TablesView = record { kv = at.kv; next_tx = at.next_tx; clients = at.clients.entries; beside = at.beside } in
-    let after : TablesView = record { kv = c.do_parts-done.new.kv; next_tx = at.next_tx; clients = at.clients.entries; beside = c.do_parts-done.new.self } in
-    let sound : AreSound old = subst (λ (t : TablesView). AreSound t) (sym c.self.view_is) c.requires.sound in
-    let inside : TablesBytes (is_inside kind (stores dev) dev.settings) any_slice old =
-    subst (TablesBytes (is_inside kind (stores dev) dev.settings) any_slice) (sym c.self.view_is) c.requires.inside in
     let did = c.in-Err.ensures in
     let why = c.in-Err.why in
-    let pruned : IsPruned old after = record { kv = did.prunes; pins = did.pins; clients = refl; next_tx = refl; beside = did.same } in
-    subst (λ (t : TablesView). IfOk c.answer_to.result (ServesLine kind (between dev new) (lent_by dev) t after (event.Piece c.args.parts))) c.self.view_is
+    subst (λ (t : TablesView). IfOk c.answer_to.result
+    (ServesLine g.S.SliceStore.kind (between dev new) (lent_by dev new) t (after g at) (event.Piece c.args.parts))) c.self.view_is
     (if_ok c.answer_to.result (λ a. fault_answer why ≡ Some a) _ c.answer_to.ensures.answer
-    (λ a is. piece_fails g.met.S.SliceStore.laws dev new did.dev c.requires.dev old sound inside c.args.parts after (pruned_names old after pruned sound)
-    did.reads c.requires.ring after.kv did.prunes why a is did.fault))
+    (λ a is. piece_fails g.met.S.SliceStore.laws dev new did.dev c.requires.dev (old g at) c.self.invariant (inside g at) c.args.parts (after g at)
+    (pruned_names (old g at) (after g at) (pruned g at did.pins did.same) c.self.invariant)
+    did.reads c.requires.ring c.do_parts-done.new.kv did.prunes why a is did.fault))
 
 pub returns-in-Err-clause-unread : goal.returns-in-Err-clause-unread
 returns-in-Err-clause-unread g c =
+    let at = (goal.at.returns-in-Err-clause-unread g c).After-do_parts-done in
     let kind = g.S.SliceStore.kind in
     let dev = c.args.dev.now in
     let new = c.do_parts-done.new.dev in
-    let at = c.self.inside in
-    let old : TablesView = record { kv = at.kv; next_tx = at.next_tx; clients = at.clients.entries; beside = at.beside } in
-    let after : TablesView = record { kv = c.do_parts-done.new.kv; next_tx = at.next_tx; clients = at.clients.entries; beside = c.do_parts-done.new.self } in
-    let sound : AreSound old = subst (λ (t : TablesView). AreSound t) (sym c.self.view_is) c.requires.sound in
-    let inside : TablesBytes (is_inside kind (stores dev) dev.settings) any_slice old =
-    subst (TablesBytes (is_inside kind (stores dev) dev.settings) any_slice) (sym c.self.view_is) c.requires.inside in
     let did = c.in-Err.ensures in
     let why = c.in-Err.why in
     subst (λ (t : TablesView). IfOk c.answer_to.result (λ a. TellsTables kind (stores dev) dev.settings (remembered dev) t
     → ReadsTold kind (between dev new) dev.settings t a)) c.self.view_is
     (if_ok c.answer_to.result (λ a. fault_answer why ≡ Some a) _ c.answer_to.ensures.answer
-    (λ a is tells. piece_failed_told g.met.S.SliceStore.laws dev new did.dev c.requires.dev old sound inside tells c.args.parts after.kv did.prunes why a is
-    did.fault))
+    (λ a is tells. piece_failed_told g.met.S.SliceStore.laws dev new did.dev c.requires.dev (old g at) c.self.invariant (inside g at) tells c.args.parts
+    c.do_parts-done.new.kv did.prunes why a is did.fault))
 
-pub returns-in-Err-clause-err_sound : goal.returns-in-Err-clause-err_sound
-returns-in-Err-clause-err_sound g c =
-    let at = c.self.inside in
-    let old : TablesView = record { kv = at.kv; next_tx = at.next_tx; clients = at.clients.entries; beside = at.beside } in
-    let after : TablesView = record { kv = c.do_parts-done.new.kv; next_tx = at.next_tx; clients = at.clients.entries; beside = c.do_parts-done.new.self } in
-    let sound : AreSound old = subst (λ (t : TablesView). AreSound t) (sym c.self.view_is) c.requires.sound in
-    let did = c.in-Err.ensures in
-    on_err c.answer_to.result (AreSound after)
-    (pruned_sound old after (record { kv = did.prunes; pins = did.pins; clients = refl; next_tx = refl; beside = did.same }) sound)
+pub returns-in-Err-clause-leaves : goal.returns-in-Err-clause-leaves
+returns-in-Err-clause-leaves g c =
+    let at = (goal.at.returns-in-Err-clause-leaves g c).After-do_parts-done in
+    subst (λ (t : TablesView). LeavesAlone g.S.SliceStore.kind (between c.args.dev.now c.do_parts-done.new.dev)
+    (lent_by c.args.dev.now c.do_parts-done.new.dev) t (event.Piece c.args.parts)) c.self.view_is
+    (leaves g at (sym c.scans.ensures ∙ c.if-not-scans.false) c.in-Err.ensures.reads)
+
+pub returns-then-not-scans-clause-leaves : goal.returns-then-not-scans-clause-leaves
+returns-then-not-scans-clause-leaves g c =
+    let dev = c.args.dev.now in
+    leaves_none g.S.SliceStore.kind (is_down dev.replicas.now) (stores dev) dev.settings (remembered dev) c.args.self.now (event.Piece c.args.parts)
+
+pub invariant_of-self-in-Err : goal.invariant_of-self-in-Err
+invariant_of-self-in-Err g c =
+    let at = (goal.at.invariant_of-self-in-Err g c).After-do_parts-done in
+    pruned_sound (old g at) (after g at) (pruned g at c.in-Err.ensures.pins c.in-Err.ensures.same) c.self.invariant

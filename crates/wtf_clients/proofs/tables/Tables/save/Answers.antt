@@ -4,10 +4,12 @@ use Rattle.wtf_clients.specs.Saves.{with_image, only_image, Saves}
 use Rattle.wtf_dev.specs.Counts.{Rose}
 use Rattle.wtf_replica.specs.Downs.{is_down, during}
 use Rattle.wtf_model.specs.declared.answer.Answer.TheVariants as answer
+use Rattle.wtf_model.specs.declared.event.Event.TheVariants as event
 use Rattle.wtf_clients.specs.Outcomes.{SomeOut}
 use Rattle.wtf_clients.specs.Saves.{AreUp}
 use Rattle.wtf_clients.proofs.SaveServing.{save_serves}
 use Rattle.wtf_clients.proofs.Images.{kept_enough}
+use Rattle.wtf_clients.proofs.Leaving.{leaves_none, save_leaves}
 use Rattle.wtf_clients.proofs.Pinning.{saves_then, saves_enough}
 use Rattle.wtf_clients.proofs.tables.Tables.save.Goals as goal
 
@@ -37,7 +39,7 @@ returns-in-Err-replace-clause-keeper g c =
 pub settle_image-requires-clause-pinned : goal.settle_image-requires-clause-pinned
 settle_image-requires-clause-pinned g c =
     let old = c.args.self.now in
-    saves_enough old c.keep_image.new.self (with_image old.beside old.kv.number) c.in_default.ensures.ok (kept_enough old c.requires.sound)
+    saves_enough old c.keep_image.new.self (with_image old.beside old.kv.number) c.in_default.ensures.ok (kept_enough old c.number-number.ensures.sound)
 
 pub returns-clause-turn : goal.returns-clause-turn
 returns-clause-turn g c =
@@ -46,10 +48,10 @@ returns-clause-turn g c =
     let kept = c.in_default.ensures.ok in
     let same : with_image old.beside old.kv.number ≡ with_image old.beside mid.kv.number = ap (with_image old.beside) (sym kept.number) in
     let settled : Saves mid c.settle_image.new.self (only_image old.beside mid.kv.number) = c.settle_image.ensures old.beside (kept.beside ∙ same) in (
-      c.number-number.ensures,
+      c.number-number.ensures.number,
       λ k below. c.in_default-sync_all.ensures.up k (subst (λ (s : Settings). k < s.servers) (sym c.requires.settings) below),
       saves_then old mid c.settle_image.new.self (with_image old.beside old.kv.number) (only_image old.beside c.number-number.result) kept
-          (subst (λ (n : ℕ). Saves mid c.settle_image.new.self (only_image old.beside n)) (kept.number ∙ sym c.number-number.ensures) settled),
+          (subst (λ (n : ℕ). Saves mid c.settle_image.new.self (only_image old.beside n)) (kept.number ∙ sym c.number-number.ensures.number) settled),
     )
 
 pub returns-clause-keeper : goal.returns-clause-keeper
@@ -68,7 +70,7 @@ returns-in-Err-sync_all-clause-serves g c =
     save_serves g.met.S.SliceStore.laws (is_down c.args.replicas.now) c.args.shelf.now c.sync_all.new.shelf c.sync_all.ensures.follows
     c.sync_all.ensures.lengths c.args.settings c.requires.shelf
     (AreUp c.args.replicas.now c.args.settings.servers) (Rose (g.K.Keeper.view c.args.keeper.now).faults (g.K.Keeper.view c.args.keeper.now).faults)
-    c.args.self.now c.forget_image.new.self c.requires.sound c.requires.inside answer.FaultSave
+    c.args.self.now c.forget_image.new.self c.number-number.ensures.sound c.requires.inside answer.FaultSave
     (returns-in-Err-sync_all-clause-turn g c)
     (inl (subst (λ (s : Settings). SomeOut g.S.SliceStore.kind (during c.args.replicas.now c.args.shelf.now c.sync_all.new.shelf) s.servers) c.requires.settings
     c.in-Err-sync_all.ensures.cause))
@@ -78,7 +80,7 @@ returns-in-Err-replace-clause-serves g c =
     save_serves g.met.S.SliceStore.laws (is_down c.args.replicas.now) c.args.shelf.now c.sync_all.new.shelf c.sync_all.ensures.follows
     c.sync_all.ensures.lengths c.args.settings c.requires.shelf
     (AreUp c.args.replicas.now c.args.settings.servers) (Rose (g.K.Keeper.view c.args.keeper.now).faults (g.K.Keeper.view c.replace.new.self).faults)
-    c.args.self.now c.keep_image.new.self c.requires.sound c.requires.inside answer.FaultSave
+    c.args.self.now c.keep_image.new.self c.number-number.ensures.sound c.requires.inside answer.FaultSave
     (inr c.in_default.ensures.ok) (inr c.in-Err-replace.ensures.cause)
 
 pub returns-clause-serves : goal.returns-clause-serves
@@ -86,5 +88,41 @@ returns-clause-serves g c =
     save_serves g.met.S.SliceStore.laws (is_down c.args.replicas.now) c.args.shelf.now c.sync_all.new.shelf c.sync_all.ensures.follows
     c.sync_all.ensures.lengths c.args.settings c.requires.shelf
     (AreUp c.args.replicas.now c.args.settings.servers) (Rose (g.K.Keeper.view c.args.keeper.now).faults (g.K.Keeper.view c.replace.new.self).faults)
-    c.args.self.now c.settle_image.new.self c.requires.sound c.requires.inside (answer.Saved c.number-number.result)
+    c.args.self.now c.settle_image.new.self c.number-number.ensures.sound c.requires.inside (answer.Saved c.number-number.result)
     (returns-clause-turn g c) tt
+
+pub forget_image-requires-clause-last : goal.forget_image-requires-clause-last
+forget_image-requires-clause-last g c =
+    let old = c.args.self.now in
+    let kept = c.in_default.ensures.ok in
+    (old.beside, kept.beside ∙ ap (with_image old.beside) (sym kept.number))
+
+pub settle_image-requires-clause-last : goal.settle_image-requires-clause-last
+settle_image-requires-clause-last g c =
+    let old = c.args.self.now in
+    let kept = c.in_default.ensures.ok in
+    (old.beside, kept.beside ∙ ap (with_image old.beside) (sym kept.number))
+
+-- before the first sync the stores are what they were
+pub returns-in-Err-clause-leaves : goal.returns-in-Err-clause-leaves
+returns-in-Err-clause-leaves g c = λ lists.
+    leaves_none g.S.SliceStore.kind (is_down c.args.replicas.now) c.args.shelf.now c.args.settings lists c.args.self.now event.Save
+
+pub returns-in-Err-keep_image-clause-leaves : goal.returns-in-Err-keep_image-clause-leaves
+returns-in-Err-keep_image-clause-leaves g c = λ lists.
+    leaves_none g.S.SliceStore.kind (is_down c.args.replicas.now) c.args.shelf.now c.args.settings lists c.args.self.now event.Save
+
+pub returns-in-Err-sync_all-clause-leaves : goal.returns-in-Err-sync_all-clause-leaves
+returns-in-Err-sync_all-clause-leaves g c = λ lists.
+    save_leaves g.S.SliceStore.kind (is_down c.args.replicas.now) c.args.shelf.now c.sync_all.new.shelf c.args.settings lists c.args.self.now
+    c.sync_all.ensures.down c.sync_all.ensures.lengths
+
+pub returns-in-Err-replace-clause-leaves : goal.returns-in-Err-replace-clause-leaves
+returns-in-Err-replace-clause-leaves g c = λ lists.
+    save_leaves g.S.SliceStore.kind (is_down c.args.replicas.now) c.args.shelf.now c.sync_all.new.shelf c.args.settings lists c.args.self.now
+    c.sync_all.ensures.down c.sync_all.ensures.lengths
+
+pub returns-clause-leaves : goal.returns-clause-leaves
+returns-clause-leaves g c = λ lists.
+    save_leaves g.S.SliceStore.kind (is_down c.args.replicas.now) c.args.shelf.now c.sync_all.new.shelf c.args.settings lists c.args.self.now
+    c.sync_all.ensures.down c.sync_all.ensures.lengths

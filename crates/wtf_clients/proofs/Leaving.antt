@@ -1,0 +1,61 @@
+-- What a line leaves alone, from what is known of its parts.
+use Rattle.std.proofs.Common.{◌≡◌, ◌≢◌, ℕ, List, Bool, Option, None, Some, IfSome, inl, refl, ap, subst}
+use Rattle.wtf_base.specs.declared.settings.Settings.{Settings}
+use Rattle.wtf_dev.specs.Store.{StoreKind}
+use Rattle.wtf_replica.specs.Outs.{IsLeftDown, SameLengths, SameSyncs}
+use Rattle.wtf_replica.specs.Spans.{Span, span}
+use Rattle.wtf_model.specs.declared.event.Event.{Event}
+use Rattle.wtf_model.specs.declared.event.Event.TheVariants as event
+use Rattle.wtf_model.specs.declared.event.Verb.{Verb}
+use Rattle.wtf_region.specs.declared.dev.Dev.{Dev}
+use Rattle.wtf_region.specs.Cached.{Remembered}
+use Rattle.wtf_region.specs.Devs.{remembered, between}
+use Rattle.wtf_region.specs.Showing.{OnlyRead}
+use Rattle.wtf_replay.specs.Views.{TxnView}
+use Rattle.wtf_clients.specs.Asked.{lending, lent_by, asked_of}
+use Rattle.wtf_clients.specs.Leaving.{MakesNoCall, ReadsNoList, SyncsNone, GrowsOnly, LeavesAlone}
+use Rattle.wtf_clients.specs.Views.{TablesView, of_client}
+
+-- stores that were not synced
+pub syncs_none : {S : Type 0} (kind : StoreKind S) (t : Span S) (e : Event) → SameSyncs kind t.before t.after → SyncsNone kind t e
+syncs_none kind t event.Save h = tt
+syncs_none kind t e h = h
+
+-- a line that is lent nothing
+pub leaves_none : {S : Type 0} (kind : StoreKind S) (down : ℕ → Bool) (shelf : List S) (settings : Settings) (lists : Remembered) (tables : TablesView)
+    (e : Event) → LeavesAlone kind (span down shelf shelf) (lending settings lists lists) tables e
+leaves_none kind down shelf settings lists tables e = record {
+  down = λ k d low. refl;
+  syncs = syncs_none kind (span down shelf shelf) e (λ k d there. refl);
+  files = inl (λ k d there f. refl);
+  lists = λ none. refl;
+}
+
+-- a save, which syncs
+pub save_leaves : {S : Type 0} (kind : StoreKind S) (down : ℕ → Bool) (old new : List S) (settings : Settings) (lists : Remembered) (tables : TablesView)
+    → IsLeftDown (span down old new) → SameLengths kind old new → LeavesAlone kind (span down old new) (lending settings lists lists) tables event.Save
+save_leaves kind down old new settings lists tables left lengths = record { down = left; syncs = tt; files = inl lengths; lists = λ none. refl }
+
+module _ {S : Type 0} (kind : StoreKind S) (dev new : Dev S) (tables : TablesView) (e : Event) where
+  -- one that was lent devices
+  pub leaves_by : IsLeftDown (between dev new) → SameSyncs kind (between dev new).before (between dev new).after
+      → GrowsOnly kind (between dev new) (asked_of kind (between dev new) (lent_by dev new) tables e)
+      → (ReadsNoList dev.settings.region tables e → remembered new ≡ remembered dev)
+      → LeavesAlone kind (between dev new) (lent_by dev new) tables e
+  leaves_by down syncs files lists = record { down = down; syncs = syncs_none kind (between dev new) e syncs; files = files; lists = lists }
+
+  -- and only read
+  pub leaves_read : OnlyRead kind (between dev new) → (ReadsNoList dev.settings.region tables e → remembered new ≡ remembered dev)
+      → LeavesAlone kind (between dev new) (lent_by dev new) tables e
+  leaves_read reads lists = leaves_by reads.down reads.syncs (inl reads.lengths) lists
+
+-- a verb that is refused leaves the lists
+pub refused_lists : {S : Type 0} (dev new : Dev S) {A : Type 0} (P : A → Type 0) (Q : Type 0) (o : Option A)
+    → IfSome o (λ w. P w × Q × (new ≡ dev)) → o ≢ None → remembered new ≡ remembered dev
+refused_lists dev new P Q None h some = absurd (some refl)
+refused_lists dev new P Q (Some w) h some = ap (λ d. remembered d) h.2
+
+-- a line of a client that has a transaction makes no call
+pub none_made : (tables : TablesView) (c : ℕ) (x : TxnView) (v : Verb) → of_client tables.clients c ≡ Some x → MakesNoCall (of_client tables.clients c) v
+    → MakesNoCall (Some x) v
+none_made tables c x v there h = subst (λ o. MakesNoCall o v) there h
