@@ -1,132 +1,66 @@
 -- What answers come of lines, and which servers are down after them.
-use Rattle.std.proofs.Common.{◌≡◌, ◌≢◌, ◌⊎◌, ℕ, ◌==◌, Bool, true, false, nat_lt, if◌then◌else◌, List, Option, None, Some, MatchOption, refl, sym, ap, ◌∙◌}
-use Rattle.std.proofs.Common.{subst, ⊎_elim, inl, inr, ne_eqb, eq-eqb}
+use Rattle.std.proofs.Common.{◌≡◌, ℕ, ◌==◌, Bool, true, false, nat_lt, if◌then◌else◌, List, Option, None, Some, MatchOption, refl, sym, ap, ◌∙◌}
+use Rattle.std.proofs.Common.{subst, ⊎_elim, ne_eqb, eq-eqb}
 use Rattle.std.specs.Bool.{MatchBool}
 use Rattle.wtf_dev.specs.Store.{StoreKind}
-use Rattle.wtf_dev.specs.Sums.{TellsAll}
-use Rattle.wtf_replica.specs.Bytes.{byte_at}
 use Rattle.wtf_replica.specs.Downs.{is_down}
 use Rattle.wtf_replica.specs.Spans.{Span, span}
-use Rattle.wtf_model.specs.declared.answer.Answer.{Answer, Aborted'}
+use Rattle.wtf_model.specs.declared.answer.Answer.{Answer}
 use Rattle.wtf_model.specs.declared.answer.Answer.TheVariants as answer
 use Rattle.wtf_model.specs.declared.answer.Word.{Word}
-use Rattle.wtf_model.specs.declared.answer.Word.TheVariants.{InTx, NoTx, NoServer, NoJob, JobInUse}
-use Rattle.wtf_model.specs.declared.op.JobKind.{JobKind}
-use Rattle.wtf_model.specs.declared.op.Op.{Op}
+use Rattle.wtf_model.specs.declared.answer.Word.TheVariants.{InTx, NoTx, NoServer, NoJob}
 use Rattle.wtf_model.specs.declared.event.Event.{Event}
 use Rattle.wtf_model.specs.declared.event.Event.TheVariants as event
 use Rattle.wtf_model.specs.declared.event.Verb.{Verb}
 use Rattle.wtf_model.specs.declared.event.Verb.TheVariants as verb
-use Rattle.wtf_model.specs.Steps.{IsLogged}
 use Rattle.wtf_model.specs.Servers.{down_after_event}
-use Rattle.wtf_meta.specs.Contents.{Told}
 use Rattle.wtf_meta.specs.Bytes.{any_slice}
 use Rattle.wtf_region.specs.Inside.{is_inside}
 use Rattle.wtf_region.proofs.ShowLaws.{reads_nothing}
-use Rattle.wtf_region.specs.Cached.{Remembered, TrueBut}
-use Rattle.wtf_region.specs.declared.dev.Dev.{Dev}
+use Rattle.wtf_region.specs.Cached.{Remembered}
 use Rattle.wtf_replay.specs.Views.{TxnView}
-use Rattle.wtf_replay.specs.Refusals.{call_refusal, try_refusal, step_refusal}
+use Rattle.wtf_replay.specs.Refusals.{try_refusal}
 use Rattle.wtf_compact.specs.Jobs.{JobView}
 use Rattle.wtf_compact.specs.Putting.{IsPut}
 use Rattle.wtf_clients.specs.Views.{TablesView, of_client, of_label}
-use Rattle.wtf_clients.specs.JobTurns.{RefusesJob, FreePlan, PlanTurn, Puts, PutTurn, DropsJob, DropTurn}
-use Rattle.wtf_core.specs.Views.{CoreView, KnowsLists}
-use Rattle.wtf_clients.specs.Saves.{AreUp, SaveTurn}
+use Rattle.wtf_clients.specs.JobTurns.{RefusesJob, Puts, PutTurn, DropsJob, DropTurn}
+use Rattle.wtf_core.specs.Views.{CoreView}
 use Rattle.wtf_clients.specs.Named.{TablesBytes, any_byte, no_slice, has_copies}
 use Rattle.wtf_clients.specs.Outcomes.{Load, no_load, AddsBytes, load_of}
 use Rattle.wtf_clients.specs.Asked.{Lending, asked_of}
+use Rattle.wtf_clients.specs.Seeing.{Seeing}
 use Rattle.wtf_clients.specs.Serves.{NamesTables, IsPlain, AreBased, AreFull, ServesLine}
-use Rattle.wtf_clients.specs.Turns.{Refuses, Tries, Calls, CallFails, Steps, Finals, LoneTurn, TxnTurn, ClientTurn}
-use Rattle.wtf_clients.specs.ScanTurns.{ScanTurn, PieceTurn}
-use Rattle.wtf_core.specs.Punched.{IsUncollected}
+use Rattle.wtf_clients.specs.Turns.{Refuses, Tries, LoneTurn, TxnTurn, ClientTurn}
 use Rattle.wtf_core.specs.Turns.{Switches, IsTreeAnswer, LineTurn}
 use Rattle.wtf_clients.proofs.Pins.{number_cases}
-use Rattle.wtf_clients.proofs.Staying.{IsFault, fault_is}
 use Rattle.wtf_core.proofs.Naming.{IsLocal}
-use Rattle.wtf_clients.proofs.Caused.{plain_caused, plain_failed, none_placed, none_added, plain_spares}
-
--- ---- no line but a collection is answered as one
-logged_uncollected : (a : Answer) → IsLogged a → IsUncollected a
-logged_uncollected (answer.Collected n) h = absurd h
-logged_uncollected a h = tt
-
-fault_uncollected : (a : Answer) → IsFault a → IsUncollected a
-fault_uncollected (answer.Collected n) h = absurd h
-fault_uncollected a h = tt
-
-tree_uncollected : (a : Answer) → IsTreeAnswer a → IsUncollected a
-tree_uncollected (answer.Collected n) h = absurd h
-tree_uncollected a h = tt
+use Rattle.wtf_clients.proofs.Caused.{plain_caused, plain_failed, none_placed, none_added}
 
 pub tree_plain : (a : Answer) → IsTreeAnswer a → IsPlain a
 tree_plain (answer.Tree rows) h = tt
 tree_plain a h = absurd h
 
 -- what is answered to a refused line
-refusal_uncollected : (old new : TablesView) (c : ℕ) (w : Word) (a : Answer) → Refuses old new c w a → IsUncollected a
-refusal_uncollected old new c w a h = subst IsUncollected (sym h.answer) tt
-
 refusal_plain : (old new : TablesView) (c : ℕ) (w : Word) (a : Answer) → Refuses old new c w a → IsPlain a
 refusal_plain old new c w a h = subst IsPlain (sym h.answer) tt
-
-tries_uncollected : (old new : TablesView) (c : ℕ) (x : TxnView) (a : Answer) → Tries old new c x a → IsUncollected a
-tries_uncollected old new c x (answer.Committed n) h = tt
-tries_uncollected old new c x (answer.Retry b n) h = tt
-tries_uncollected old new c x a h = absurd h
 
 tries_plain : (old new : TablesView) (c : ℕ) (x : TxnView) (a : Answer) → Tries old new c x a → IsPlain a
 tries_plain old new c x (answer.Committed n) h = tt
 tries_plain old new c x (answer.Retry b n) h = tt
 tries_plain old new c x a h = absurd h
 
-module _ (Telling : Type 0) (lists : TrueBut) (servers size : ℕ) (told later : Told) (old new : TablesView) (c : ℕ) where
+module _ (z : Seeing) (old new : TablesView) (c : ℕ) where
   or_refused : (P : Type 0) (Q : Type 0) (a : Answer) (r : Option Word) → (P → Q) → ((w : Word) → Refuses old new c w a → Q)
       → MatchOption r P (λ w. Refuses old new c w a) → Q
   or_refused P Q a None f g h = f h
   or_refused P Q a (Some w) f g h = g w h
 
-  steps_uncollected : (x : TxnView) (a : Answer) → Steps Telling lists servers size told later old new c x a → IsUncollected a
-  steps_uncollected x (answer.Replayed i) h = tt
-  steps_uncollected x (Aborted' i box a) h = tt
-  steps_uncollected x a h = fault_uncollected a (fault_is h.fails.why a h.fails.answer)
-
-  finals_uncollected : (x : TxnView) (a : Answer) → Finals Telling lists servers size told later old new c x a → IsUncollected a
-  finals_uncollected x (answer.Committed n) h = tt
-  finals_uncollected x (Aborted' i box a) h = tt
-  finals_uncollected x a h = fault_uncollected a (fault_is h.fails.why a h.fails.answer)
-
-  calls_uncollected : (x : TxnView) (o : Op (List ℕ)) (a : Answer) → Calls Telling lists servers size told later old new c x o a ⊎ CallFails Telling lists
-      servers size told later old new c x o a → IsUncollected a
-  calls_uncollected x o a (inl h) = logged_uncollected a h.called.logged.answer
-  calls_uncollected x o a (inr h) = fault_uncollected a (fault_is h.fails.why a h.fails.answer)
-
-  lone_uncollected : (v : Verb) (a : Answer) → LoneTurn Telling lists servers size told later old new c v a → IsUncollected a
-  lone_uncollected verb.Begin a h = subst IsUncollected (sym h.answer) tt
-  lone_uncollected v a h = refusal_uncollected old new c NoTx a h
-
-  txn_uncollected : (x : TxnView) (v : Verb) (a : Answer) → TxnTurn Telling lists servers size told later old new c x v a → IsUncollected a
-  txn_uncollected x verb.Begin a h = refusal_uncollected old new c InTx a h
-  txn_uncollected x verb.Try a h = or_refused _ (IsUncollected a) a (try_refusal x) (tries_uncollected old new c x a) (λ w. refusal_uncollected old new c w a) h
-  txn_uncollected x verb.Step a h = or_refused _ (IsUncollected a) a (step_refusal x) (steps_uncollected x a) (λ w. refusal_uncollected old new c w a) h
-  txn_uncollected x verb.Commit a h = finals_uncollected x a h
-  txn_uncollected x verb.Abort a h = subst IsUncollected (sym h.0) tt
-  txn_uncollected x (verb.Call o) a h = or_refused _ (IsUncollected a) a (call_refusal x) (calls_uncollected x o a) (λ w. refusal_uncollected old new c w a) h
-
-  client_uncollected : (v : Verb) (a : Answer) → ClientTurn Telling lists servers size told later old new c v a → IsUncollected a
-  client_uncollected v a h = by (of_client old.clients c) h
-    where
-      by : (o : Option TxnView) → MatchOption o (LoneTurn Telling lists servers size told later old new c v a)
-          (λ x. TxnTurn Telling lists servers size told later old new c x v a) → IsUncollected a
-      by None g = lone_uncollected v a g
-      by (Some x) g = txn_uncollected x v a g
-
   -- lines that need no store are answered by no fault
-  pub local_plain : (v : Verb) (a : Answer) → IsLocal v → ClientTurn Telling lists servers size told later old new c v a → IsPlain a
+  pub local_plain : (v : Verb) (a : Answer) → IsLocal v → ClientTurn z old new c v a → IsPlain a
   local_plain v a local h = by (of_client old.clients c) v local h
     where
-      by : (o : Option TxnView) (u : Verb) → IsLocal u → MatchOption o (LoneTurn Telling lists servers size told later old new c u a)
-          (λ x. TxnTurn Telling lists servers size told later old new c x u a) → IsPlain a
+      by : (o : Option TxnView) (u : Verb) → IsLocal u → MatchOption o (LoneTurn z old new c u a)
+          (λ x. TxnTurn z old new c x u a) → IsPlain a
       by None verb.Begin l g = subst IsPlain (sym g.answer) tt
       by None verb.Try l g = refusal_plain old new c NoTx a g
       by None verb.Abort l g = refusal_plain old new c NoTx a g
@@ -141,77 +75,6 @@ module _ (Telling : Type 0) (lists : TrueBut) (servers size : ℕ) (told later :
       by (Some x) (verb.Call o) l g = absurd l
 
 module _ {S : Type 0} (kind : StoreKind S) (t : Span S) (old new : CoreView) (a : Answer) where
-  server_uncollected : (k : ℕ) (to b : Bool) → MatchBool b (Switches old new k to a) ((a ≡ answer.Refused NoServer) × (new ≡ old)) → IsUncollected a
-  server_uncollected k to true h = subst IsUncollected (sym h.answer) tt
-  server_uncollected k to false h = subst IsUncollected (sym h.0) tt
-
-  -- a job's line
-  plan_uncollected : (kept : TrueBut) (servers size : ℕ) (before after : Told) (j : ℕ) (job : JobKind) (p : List ℕ) (r : ℕ) (b : Answer)
-      → PlanTurn (TellsAll kind t.before) kept servers size before after old.tables new.tables j job p r b → IsUncollected b
-  plan_uncollected kept servers size before after j job p r b h = by (of_label old.tables.beside.jobs j) h
-    where
-      free : (x : Answer) → FreePlan (TellsAll kind t.before) kept servers size before after old.tables new.tables j job p r x → IsUncollected x
-      free answer.Planned g = tt
-      free (answer.Refused w) g = tt
-      free x g = fault_uncollected x (fault_is g.why x g.answer)
-
-      by : (o : Option JobView) → MatchOption o (FreePlan (TellsAll kind t.before) kept servers size before after old.tables new.tables j job p r b)
-          (λ x. RefusesJob old.tables new.tables JobInUse b) → IsUncollected b
-      by None g = free b g
-      by (Some x) g = subst IsUncollected (sym g.answer) tt
-
-  put_uncollected : (j : ℕ) → PutTurn old.tables new.tables j a → IsUncollected a
-  put_uncollected j h = by (of_label old.tables.beside.jobs j) h
-    where
-      is_put : (x : JobView) (b : Answer) → IsPut x old.tables.kv new.tables.kv b → IsUncollected b
-      is_put x (answer.Installed n) put = tt
-      is_put x (answer.Stale b n) put = tt
-      is_put x b put = absurd put
-
-      by : (o : Option JobView) → MatchOption o (RefusesJob old.tables new.tables NoJob a) (λ x. Puts old.tables new.tables j x a) → IsUncollected a
-      by None g = subst IsUncollected (sym g.answer) tt
-      by (Some x) g = is_put x a g.put
-
-  drop_uncollected : (j : ℕ) → DropTurn old.tables new.tables j a → IsUncollected a
-  drop_uncollected j h = by (of_label old.tables.beside.jobs j) h
-    where
-      by : (o : Option JobView) → MatchOption o (RefusesJob old.tables new.tables NoJob a) (λ x. DropsJob old.tables new.tables j x a) → IsUncollected a
-      by None g = subst IsUncollected (sym g.answer) tt
-      by (Some x) g = subst IsUncollected (sym g.answer) tt
-
-  save_uncollected : (b : Answer) → SaveTurn (AreUp old.replicas old.settings.servers) old.tables new.tables b → IsUncollected b
-  save_uncollected (answer.Collected n) h = absurd h
-  save_uncollected b h = tt
-
-  scan_uncollected : (b : Answer) → ScanTurn kind t.before old.tables new.tables b → IsUncollected b
-  scan_uncollected (answer.Collected n) h = absurd h
-  scan_uncollected b h = tt
-
-  piece_uncollected : (before after : Dev S) (n : ℕ) (b : Answer) → PieceTurn kind before after old.tables new.tables n b → IsUncollected b
-  piece_uncollected before after n (answer.Collected m) h = absurd (fault_is h.why (answer.Collected m) h.answer)
-  piece_uncollected before after n b h = tt
-
-  pub line_uncollected : (e : Event) → ((k : ℕ) → e ≢ event.Collect k) → LineTurn kind t old new e a → IsUncollected a
-  line_uncollected (event.Client c v) other h =
-      client_uncollected (TellsAll kind t.before) (KnowsLists kind t.before old) old.settings.servers old.settings.region (byte_at kind t.before) (byte_at kind t.after) old.tables
-      new.tables c v a h.0
-  line_uncollected (event.Plan j job p r) other h =
-      plan_uncollected (KnowsLists kind t.before old) old.settings.servers old.settings.region (byte_at kind t.before) (byte_at kind t.after) j job p r a h.0
-  line_uncollected (event.Put j) other h = put_uncollected j h.0
-  line_uncollected (event.DropJob j) other h = drop_uncollected j h.0
-  line_uncollected event.Scan other h = scan_uncollected a h.0
-  line_uncollected (event.Piece n) other h = piece_uncollected h.0.before h.0.after n a h.0.did
-  line_uncollected (event.Collect k) other h = absurd (other k refl)
-  line_uncollected (event.Down k) other h = server_uncollected k true (nat_lt k old.settings.servers) h
-  line_uncollected (event.Up k) other h = server_uncollected k false (nat_lt k old.settings.servers) h
-  line_uncollected (event.Dump p) other h = by a h.0.uncollected
-    where
-      by : (b : Answer) → ((n : ℕ) → b ≢ answer.Collected n) → IsUncollected b
-      by (answer.Collected n) none = none n refl
-      by b none = tt
-  line_uncollected event.Tree other h = tree_uncollected a h.2
-  line_uncollected event.Save other h = save_uncollected a h.0
-
   -- ---- which servers are down
   same_down : new ≡ old → (j : ℕ) → is_down new.replicas j ≡ is_down old.replicas j
   same_down e j = ap (λ (core : CoreView). is_down core.replicas j) e
@@ -289,6 +152,5 @@ module _ {S : Type 0} (kind : StoreKind S) (down : ℕ → Bool) (shelf : List S
         (none_added kind (span down shelf shelf) lent.settings a (reads_nothing kind down shelf).lengths);
     caused = plain_caused kind (span down shelf shelf) lent.settings ⊥ (AreBased old) (AreFull lent.settings old) (load_of e) a plain;
     placed = none_placed kind (span down shelf shelf) lent.settings (asked_of kind (span down shelf shelf) lent old e) a none;
-    spares = plain_spares kind (span down shelf shelf) (asked_of kind (span down shelf shelf) lent old e) a plain;
     failed = plain_failed (asked_of kind (span down shelf shelf) lent old e).fails a plain;
   }

@@ -171,7 +171,8 @@ module _ {S : Type 0} (kind : StoreKind S) (before after : List S) (old new : Co
   })
 
   -- nor does what is kept move
-  module _ (number : new.tables.kv.number ≡ old.tables.kv.number) (images : new.tables.beside.images ≡ old.tables.beside.images) where
+  module _ (number : new.tables.kv.number ≡ old.tables.kv.number) (images : new.tables.beside.images ≡ old.tables.beside.images)
+      (watched : new.tables.beside.watched ≡ old.tables.beside.watched) where
     begun_later : (o : Option RunView) → IsBegun kind before old o → IsBegun kind after new o
     begun_later None h = h
     begun_later (Some r) h = size_on (λ size. HasBegun size later (length_in kind after) new.tables r) (record {
@@ -179,7 +180,7 @@ module _ {S : Type 0} (kind : StoreKind S) (before after : List S) (old new : Co
       left = h.left;
       all = λ p n. h.all p (parts_back old.settings.region told later was now reads same (64 - r.left) p n);
       only = λ p here. parts_on old.settings.region told later was now reads same (64 - r.left) p (h.only p here);
-      seen = λ n here. kept_same old.tables new.tables number images n ∙ h.seen n here;
+      seen = λ n here. kept_same old.tables new.tables number images watched n ∙ h.seen n here;
     })
 
     -- nor the scans

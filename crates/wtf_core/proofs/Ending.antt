@@ -33,7 +33,6 @@ use Rattle.wtf_meta.specs.Trees.{Stands}
 use Rattle.wtf_meta.proofs.Telling.{TellsOn}
 use Rattle.wtf_meta.specs.Calls.{cap_for}
 use Rattle.wtf_meta.specs.Feet.{Feet}
-use Rattle.wtf_region.specs.Cached.{TrueBut}
 use Rattle.wtf_replay.specs.Views.{TxnView, is_live}
 use Rattle.wtf_replay.specs.Fits.{IsFit}
 use Rattle.wtf_replay.specs.Refusals.{try_refusal, step_refusal}
@@ -43,6 +42,7 @@ use Rattle.wtf_replay.proofs.Sounding.{sound_later}
 use Rattle.wtf_replay.proofs.Trying.{final_ran}
 use Rattle.wtf_replay.proofs.Deviating.{at_base}
 use Rattle.wtf_clients.specs.Views.{TablesView, of_client, metadata_now}
+use Rattle.wtf_clients.specs.Seeing.{Seeing}
 use Rattle.wtf_clients.specs.Sounds.{owned, IsOpen, AreSound}
 use Rattle.wtf_clients.specs.Touched.{SinceBase}
 use Rattle.wtf_clients.specs.Standing.{StandsForTxn, StandsForSlot, TablesStand}
@@ -50,8 +50,8 @@ use Rattle.wtf_clients.specs.Turns.{AreTrue, Keeps, Ends, Commits, Retries, Trie
 use Rattle.wtf_clients.proofs.Images.{before_same, before_own}
 use Rattle.wtf_clients.proofs.Later.{Stands-later}
 use Rattle.wtf_clients.proofs.SinceLaws.{since_none, touched_installed, since_installed, retry_met}
-use Rattle.wtf_clients.proofs.Frames.{Turned, sound_turned, stands_turned, stands_kept}
-use Rattle.wtf_clients.proofs.Staying.{stays_sound, stays_stand, goes_turned, goes_sound}
+use Rattle.wtf_clients.proofs.Frames.{Turned, stands_turned, stands_kept}
+use Rattle.wtf_clients.proofs.Staying.{stays_stand, goes_turned}
 use Rattle.wtf_core.proofs.Machines.{gone_here, gone_there, cap_is, answer_shown}
 
 -- ---- one client's transaction
@@ -122,10 +122,6 @@ module _ (old new : TablesView) (mid : Store Key Value) (c : ℕ) (x : TxnView) 
     own = λ y e. absurd (cc);
     whose = λ y e. absurd (cc);
   }
-
-  -- the tables stay sound
-  pub ends_sound : AreSound new
-  ends_sound = sound_turned old new c None sound ends_turned
 
   -- and each key has the versions that it left
   ends_versions : KeepsVersions mid new.kv
@@ -268,10 +264,6 @@ module _ (old new : TablesView) (c : ℕ) (x : TxnView) (b n : ℕ) (sound : Are
     whose = λ z e. let hit : again ≡ z = cc in inr (x, here, ap (λ (v : TxnView). v.tx) (sym hit) ∙ retry_tx);
   }
 
-  -- the tables stay sound
-  retry_sound : AreSound new
-  retry_sound = sound_turned old new c (Some again) sound retry_turned
-
   -- nothing was touched since
   retry_since : (none : (i : InodeId) → i.tx.0 ≡ x.tx → metadata_now old.kv (Inode i) ≡ None) → SinceBase new.kv again.tx again.at.base []
   retry_since none =
@@ -315,13 +307,6 @@ module _ (old new : TablesView) (c : ℕ) (x : TxnView) (b n : ℕ) (sound : Are
 commit_up : (old new : TablesView) (c : ℕ) (x : TxnView) (n : ℕ) (turn : Commits old new c x n) → old.kv.number ≤ turn.mid.number
 commit_up old new c x n turn = let number = turn.committed.installed.number in let next = turn.committed.installed.next in omega (arith, number, next)
 
--- the tables stay sound
-pub tries_sound : (old new : TablesView) (c : ℕ) (x : TxnView) (a : Answer) → AreSound old → of_client old.clients c ≡ Some x → Tries old new c x a
-    → AreSound new
-tries_sound old new c x (answer.Committed n) sound here turn = ends_sound old new turn.mid c x sound here (commit_up old new c x n turn) turn.ends
-tries_sound old new c x (answer.Retry b n) sound here turn = retry_sound old new c x b n sound here turn
-tries_sound old new c x a sound here turn = absurd turn
-
 -- the machine may answer so, and the tables stand for what it then is
 pub tries_stand : (size : ℕ) (told later : Told) (old new : TablesView) (m : Machine) (c : ℕ) (x : TxnView) (t : Transaction) (a : Answer)
     → AreSound old → m.settings.region ≡ size → TablesStand size told old m → TellsOn told later
@@ -335,8 +320,8 @@ tries_stand size told later old new m c x t (answer.Retry b n) sound region st o
 tries_stand size told later old new m c x t a sound region st on here there asked turn = absurd turn
 
 -- ---- a step
-module _ (Telling : Type 0) (lists : TrueBut) (servers size : ℕ) (told later : Told) (old new : TablesView) (c : ℕ) (x : TxnView) (i : ℕ)
-    (sound : AreSound old) (here : of_client old.clients c ≡ Some x) (turn : Replays Telling lists servers size told later old new c x i) where
+module _ (z : Seeing) (old new : TablesView) (c : ℕ) (x : TxnView) (i : ℕ)
+    (sound : AreSound old) (here : of_client old.clients c ≡ Some x) (turn : Replays z old new c x i) where
   -- the transaction with one call more done
   abbrev onward : TxnView
   onward = turn.later_one
@@ -348,10 +333,6 @@ module _ (Telling : Type 0) (lists : TrueBut) (servers size : ℕ) (told later :
   replay_going : onward.ended ≡ x.ended
   replay_going = ap (λ (v : TxnView). v.ended) turn.replayed.is
 
-  -- the tables stay sound
-  replay_sound : AreSound new
-  replay_sound = goes_sound old new c x onward sound here turn.keeps replay_tx turn.replayed.base replay_going turn.fit
-
   replay_count : onward.replayed ≡ i
   replay_count = ap (λ (v : TxnView). v.replayed) turn.replayed.is
 
@@ -359,147 +340,130 @@ module _ (Telling : Type 0) (lists : TrueBut) (servers size : ℕ) (told later :
   replay_shown = ap (λ (v : TxnView). v.log.shown) turn.replayed.is
 
   -- on the tree at the base the next call answers what was shown
-  replay_may : (m : Machine) (t : Transaction) → m.settings.region ≡ size → StandsForTxn size told old.kv m.now x t → TellsOn told later
-      → IsSound size old.kv later onward t.ops
+  replay_may : (m : Machine) (t : Transaction) → m.settings.region ≡ z.size → StandsForTxn z.size z.told old.kv m.now x t → TellsOn z.told z.later
+      → IsSound z.size old.kv z.later onward t.ops
       → MayStep m t (answer.Replayed i)
   replay_may m t region txn on run =
-      let tree : Stands size told onward.tx 0 (metadata_at old.kv onward.at.base) t.tree =
-      subst (λ k. Stands size told k 0 (metadata_at old.kv onward.at.base) t.tree) (sym replay_tx)
-      (subst (λ b. Stands size told x.tx 0 (metadata_at old.kv b) t.tree) (sym turn.replayed.base) txn.tree) in
-      let ran = at_base size old.kv later onward t.ops run t.tree
-      (Stands-later told later on size onward.tx 0 (metadata_at old.kv onward.at.base) t.tree tree) in
-      let cap = cap_is m size region in
+      let tree : Stands z.size z.told onward.tx 0 (metadata_at old.kv onward.at.base) t.tree =
+      subst (λ k. Stands z.size z.told k 0 (metadata_at old.kv onward.at.base) t.tree) (sym replay_tx)
+      (subst (λ b. Stands z.size z.told x.tx 0 (metadata_at old.kv b) t.tree) (sym turn.replayed.base) txn.tree) in
+      let ran = at_base z.size old.kv z.later onward t.ops run t.tree
+      (Stands-later z.told z.later on z.size onward.tx 0 (metadata_at old.kv onward.at.base) t.tree tree) in
+      let cap = cap_is m z.size region in
       let index = turn.replayed.index in
       let done = txn.replayed in
       let up : suc t.replayed ≡ onward.replayed = omega (arith, index, done, replay_count) in
       let first : answers_of (cap_of m) t.tree (take (suc t.replayed) t.ops) ≡ take (suc t.replayed) t.shown =
       ap (λ k. answers_of k t.tree (take (suc t.replayed) t.ops)) cap
-      ∙ ap (λ k. answers_of (cap_for (caller_at size x.tx 0)) t.tree (take k t.ops)) up
+      ∙ ap (λ k. answers_of (cap_for (caller_at z.size x.tx 0)) t.tree (take k t.ops)) up
       ∙ ran.answers
       ∙ ap (λ k. take k onward.log.shown) (sym up)
       ∙ ap (λ l. take (suc t.replayed) l) (replay_shown ∙ sym txn.shown) in
       (index ∙ ap (λ k. k + 1) (sym done), answer_shown (cap_of m) t.tree t.ops t.shown t.replayed first)
 
   -- and the machine's transaction goes on with it
-  replay_stand : (m : Machine) (t : Transaction) → m.settings.region ≡ size → TablesStand size told old m → TellsOn told later → get m.transactions c ≡ Some
-      t → Telling × AreTrue size told lists old
-      → MayStep m t (answer.Replayed i) × TablesStand size later new (stepped m c t (answer.Replayed i))
+  replay_stand : (m : Machine) (t : Transaction) → m.settings.region ≡ z.size → TablesStand z.size z.told old m
+      → TellsOn z.told z.later → get m.transactions c ≡ Some
+      t → z.telling × AreTrue z.size z.told z.lists old
+      → MayStep m t (answer.Replayed i) × TablesStand z.size z.later new (stepped m c t (answer.Replayed i))
   replay_stand m t region st on there telling =
-      let txn = txn_in size told old m c x t st here there in
-      let run : IsSound size old.kv later onward t.ops = turn.sound (telling.0, telling.1, txn.tree.bytes) t.ops txn.sound in (
+      let txn = txn_in z.size z.told old m c x t st here there in
+      let run : IsSound z.size old.kv z.later onward t.ops = turn.sound (telling.0, telling.1, txn.tree.bytes) t.ops txn.sound in (
         replay_may m t region txn on run,
-        goes_stand old new c x onward sound here turn.keeps replay_tx turn.replayed.base replay_going turn.fit size told later m t
+        goes_stand old new c x onward sound here turn.keeps replay_tx turn.replayed.base replay_going turn.fit z.size z.told z.later m t
             (record t { replayed = i }) st on there run
             refl refl refl (txn.shown ∙ sym replay_shown) (sym replay_count),
       )
 
 -- a call that deviates at the base ends the transaction
-abort_may : (Telling : Type 0) (lists : TrueBut) (servers size : ℕ) (told later : Told) (old new : TablesView) (c : ℕ) (x : TxnView) (i : ℕ) (a : Answer)
+abort_may : (z : Seeing) (old new : TablesView) (c : ℕ) (x : TxnView) (i : ℕ) (a : Answer)
     (m : Machine) (t : Transaction)
-    → Aborts Telling lists servers size told later old new c x i a → m.settings.region ≡ size → StandsForTxn size told old.kv m.now x t → Telling × AreTrue
-    size told lists old
+    → Aborts z old new c x i a → m.settings.region ≡ z.size → StandsForTxn z.size z.told old.kv m.now x t → z.telling × AreTrue
+    z.size z.told z.lists old
     → (i ≡ t.replayed + 1) × (slice_get (answers_of (cap_of m) t.tree t.ops) t.replayed ≡ Some a) × (slice_get t.shown t.replayed ≢ Some a)
-abort_may Telling lists servers size told later old new c x i a m t turn region txn telling =
+abort_may z old new c x i a m t turn region txn telling =
     let d = turn.deviates (telling.0, telling.1, txn.tree.bytes) t.ops txn.sound t.tree txn.tree in
     let index = turn.index in
     let done = txn.replayed in
     let place : t.replayed ≡ i - 1 = omega (arith, index, done) in (
       index ∙ ap (λ k. k + 1) (sym done),
-      ap (λ k. slice_get (answers_of k t.tree t.ops) t.replayed) (cap_is m size region)
-          ∙ ap (slice_get (answers_of (cap_for (caller_at size x.tx 0)) t.tree t.ops)) place ∙ d.answer_is,
+      ap (λ k. slice_get (answers_of k t.tree t.ops) t.replayed) (cap_is m z.size region)
+          ∙ ap (slice_get (answers_of (cap_for (caller_at z.size x.tx 0)) t.tree t.ops)) place ∙ d.answer_is,
       λ e. d.differs (ap (slice_get x.log.shown) (sym place) ∙ ap (λ l. slice_get l t.replayed) (sym txn.shown) ∙ e),
     )
 
 -- the bytes of the next call were not read
-step_fault_may : (Telling : Type 0) (lists : TrueBut) (servers size : ℕ) (told later : Told) (old new : TablesView) (c : ℕ) (x : TxnView) (a : Answer)
+step_fault_may : (z : Seeing) (old new : TablesView) (c : ℕ) (x : TxnView) (a : Answer)
     (m : Machine) (t : Transaction)
-    → StepFails Telling lists servers size told later old new c x a → m.settings.region ≡ size → m.settings.servers ≡ servers → StandsForTxn size told old.kv
+    → StepFails z old new c x a → m.settings.region ≡ z.size → m.settings.servers ≡ z.servers → StandsForTxn z.size z.told old.kv
     m.now x t
     → IsDone (slice_get (answers_of (cap_of m) t.tree t.ops) t.replayed) × IsReadFault m.settings.servers a
-step_fault_may Telling lists servers size told later old new c x a m t turn region count txn =
+step_fault_may z old new c x a m t turn region count txn =
     let may = turn.may t.ops txn.sound t.tree txn.tree in (
-      subst (λ k. IsDone (slice_get (answers_of k t.tree t.ops) t.replayed)) (sym (cap_is m size region))
-          (subst (λ n. IsDone (slice_get (answers_of (cap_for (caller_at size x.tx 0)) t.tree t.ops) n)) (sym txn.replayed) may.0),
+      subst (λ k. IsDone (slice_get (answers_of k t.tree t.ops) t.replayed)) (sym (cap_is m z.size region))
+          (subst (λ n. IsDone (slice_get (answers_of (cap_for (caller_at z.size x.tx 0)) t.tree t.ops) n)) (sym txn.replayed) may.0),
       subst (λ n. IsReadFault n a) (sym count) may.1,
     )
 
--- the tables stay sound
-pub steps_sound : (Telling : Type 0) (lists : TrueBut) (servers size : ℕ) (told later : Told) (old new : TablesView) (c : ℕ) (x : TxnView) (a : Answer) →
-    AreSound old → of_client old.clients c ≡ Some x → Steps Telling lists servers size told later old new c x a → AreSound new
-steps_sound Telling lists servers size told later old new c x (answer.Replayed i) sound here turn = replay_sound Telling lists servers size told later old new
-    c x i sound here turn
-steps_sound Telling lists servers size told later old new c x (Aborted' i box a) sound here turn = ends_sound old new old.kv c x sound here (omega arith)
-    turn.ends
-steps_sound Telling lists servers size told later old new c x a sound here turn = stays_sound old new c sound turn.fails.stays
-
 -- the machine may answer so, and the tables stand for what it then is
-pub steps_stand : (Telling : Type 0) (lists : TrueBut) (servers size : ℕ) (told later : Told) (old new : TablesView) (m : Machine) (c : ℕ) (x : TxnView)
+pub steps_stand : (z : Seeing) (old new : TablesView) (m : Machine) (c : ℕ) (x : TxnView)
     (t : Transaction) (a : Answer)
-    → AreSound old → m.settings.region ≡ size → m.settings.servers ≡ servers → TablesStand size told old m → TellsOn told later
-    → of_client old.clients c ≡ Some x → get m.transactions c ≡ Some t → step_refusal x ≡ None → Telling × AreTrue size told lists old
-    → Steps Telling lists servers size told later old new c x a → MayStep m t a × TablesStand size later new (stepped m c t a)
-steps_stand Telling lists servers size told later old new m c x t (answer.Replayed i) sound region count st on here there asked telling turn = replay_stand
-    Telling lists servers size told later old new c x i sound here turn m t region st on there telling
-steps_stand Telling lists servers size told later old new m c x t (Aborted' i box a) sound region count st on here there asked telling turn = (
-  abort_may Telling lists servers size told later old new c x i a m t turn region (txn_in size told old m c x t st here there) telling,
-  leaves_stand old new old.kv c x sound here (omega arith) turn.ends size told later m st on refl (λ q. refl),
+    → AreSound old → m.settings.region ≡ z.size → m.settings.servers ≡ z.servers → TablesStand z.size z.told old m → TellsOn z.told z.later
+    → of_client old.clients c ≡ Some x → get m.transactions c ≡ Some t → step_refusal x ≡ None → z.telling × AreTrue z.size z.told z.lists old
+    → Steps z old new c x a → MayStep m t a × TablesStand z.size z.later new (stepped m c t a)
+steps_stand z old new m c x t (answer.Replayed i) sound region count st on here there asked telling turn = replay_stand
+    z old new c x i sound here turn m t region st on there telling
+steps_stand z old new m c x t (Aborted' i box a) sound region count st on here there asked telling turn = (
+  abort_may z old new c x i a m t turn region (txn_in z.size z.told old m c x t st here there) telling,
+  leaves_stand old new old.kv c x sound here (omega arith) turn.ends z.size z.told z.later m st on refl (λ q. refl),
 )
-steps_stand Telling lists servers size told later old new m c x t a sound region count st on here there asked telling turn = (
-  step_fault_may Telling lists servers size told later old new c x a m t turn region count (txn_in size told old m c x t st here there),
+steps_stand z old new m c x t a sound region count st on here there asked telling turn = (
+  step_fault_may z old new c x a m t turn region count (txn_in z.size z.told old m c x t st here there),
   stays_stand old
-      new c sound turn.fails.stays size told later m st on,
+      new c sound turn.fails.stays z.size z.told z.later m st on,
 )
 
 -- ---- a commit
 -- a commit by replay raises the number
-finish_up : (Telling : Type 0) (lists : TrueBut) (servers size : ℕ) (told later : Told) (old new : TablesView) (c : ℕ) (x : TxnView) (n : ℕ)
-    (turn : Finishes Telling lists servers size told later old new c x n) → old.kv.number ≤ turn.mid.number
-finish_up Telling lists servers size told later old new c x n turn = let number = turn.number in let next = turn.next in omega (arith, number, next)
+finish_up : (z : Seeing) (old new : TablesView) (c : ℕ) (x : TxnView) (n : ℕ)
+    (turn : Finishes z old new c x n) → old.kv.number ≤ turn.mid.number
+finish_up z old new c x n turn = let number = turn.number in let next = turn.next in omega (arith, number, next)
 
 -- a replay that is given up leaves the number
-give_up : (Telling : Type 0) (lists : TrueBut) (servers size : ℕ) (told later : Told) (old new : TablesView) (c : ℕ) (x : TxnView) (i : ℕ) (a : Answer)
-    (turn : GivesUp Telling lists servers size told later old new c x i a) → old.kv.number ≤ turn.mid.number
-give_up Telling lists servers size told later old new c x i a turn = let number = turn.number in omega (arith, number)
+give_up : (z : Seeing) (old new : TablesView) (c : ℕ) (x : TxnView) (i : ℕ) (a : Answer)
+    (turn : GivesUp z old new c x i a) → old.kv.number ≤ turn.mid.number
+give_up z old new c x i a turn = let number = turn.number in omega (arith, number)
 
 -- calls that deviate on the map now do so on the tree now
-give_up_may : (Telling : Type 0) (lists : TrueBut) (servers size : ℕ) (told later : Told) (old new : TablesView) (c : ℕ) (x : TxnView) (i : ℕ) (a : Answer)
+give_up_may : (z : Seeing) (old new : TablesView) (c : ℕ) (x : TxnView) (i : ℕ) (a : Answer)
     (m : Machine) (t : Transaction)
-    → GivesUp Telling lists servers size told later old new c x i a → m.settings.region ≡ size → StandsForTxn size told old.kv m.now x t → Telling × AreTrue
-    size told lists old
+    → GivesUp z old new c x i a → m.settings.region ≡ z.size → StandsForTxn z.size z.told old.kv m.now x t → z.telling × AreTrue
+    z.size z.told z.lists old
     → Deviates (answers_of (cap_of m) m.now t.ops) t.shown i a
-give_up_may Telling lists servers size told later old new c x i a m t turn region txn telling =
-    subst (λ k. Deviates (answers_of k m.now t.ops) t.shown i a) (sym (cap_is m size region))
-    (subst (λ l. Deviates (answers_of (cap_for (caller_at size x.tx 0)) m.now t.ops) l i a) (sym txn.shown)
+give_up_may z old new c x i a m t turn region txn telling =
+    subst (λ k. Deviates (answers_of k m.now t.ops) t.shown i a) (sym (cap_is m z.size region))
+    (subst (λ l. Deviates (answers_of (cap_for (caller_at z.size x.tx 0)) m.now t.ops) l i a) (sym txn.shown)
     (turn.deviates (telling.0, telling.1, txn.tree.bytes) (telling.0, telling.1, txn.now.bytes) t.ops txn.sound m.now txn.now))
 
--- the tables stay sound
-pub finals_sound : (Telling : Type 0) (lists : TrueBut) (servers size : ℕ) (told later : Told) (old new : TablesView) (c : ℕ) (x : TxnView) (a : Answer) →
-    AreSound old → of_client old.clients c ≡ Some x → Finals Telling lists servers size told later old new c x a → AreSound new
-finals_sound Telling lists servers size told later old new c x (answer.Committed n) sound here turn = ends_sound old new turn.mid c x sound here
-    (finish_up Telling lists servers size told later old new c x n turn) turn.ends
-finals_sound Telling lists servers size told later old new c x (Aborted' i box a) sound here turn = ends_sound old new turn.mid c x sound here
-    (give_up Telling lists servers size told later old new c x i a turn) turn.ends
-finals_sound Telling lists servers size told later old new c x a sound here turn = stays_sound old new c sound turn.fails.stays
-
 -- the machine may answer so, and the tables stand for what it then is
-pub finals_stand : (Telling : Type 0) (lists : TrueBut) (servers size : ℕ) (told later : Told) (old new : TablesView) (m : Machine) (c : ℕ) (x : TxnView)
+pub finals_stand : (z : Seeing) (old new : TablesView) (m : Machine) (c : ℕ) (x : TxnView)
     (t : Transaction) (a : Answer)
-    → AreSound old → m.settings.region ≡ size → m.settings.servers ≡ servers → TablesStand size told old m → TellsOn told later
-    → of_client old.clients c ≡ Some x → get m.transactions c ≡ Some t → Telling × AreTrue size told lists old
-    → Finals Telling lists servers size told later old new c x a → MayCommit m t a × TablesStand size later new (committed m c t a)
-finals_stand Telling lists servers size told later old new m c x t (answer.Committed n) sound region count st on here there telling turn =
-    installs_stand old new turn.mid c x sound here (finish_up Telling lists servers size told later old new c x n turn) turn.ends size told later m t n st on
+    → AreSound old → m.settings.region ≡ z.size → m.settings.servers ≡ z.servers → TablesStand z.size z.told old m → TellsOn z.told z.later
+    → of_client old.clients c ≡ Some x → get m.transactions c ≡ Some t → z.telling × AreTrue z.size z.told z.lists old
+    → Finals z old new c x a → MayCommit m t a × TablesStand z.size z.later new (committed m c t a)
+finals_stand z old new m c x t (answer.Committed n) sound region count st on here there telling turn =
+    installs_stand old new turn.mid c x sound here (finish_up z old new c x n turn) turn.ends z.size z.told z.later m t n st on
     region there
-    (turn.final (telling.0, telling.1, (txn_in size told old m c x t st here there).tree.bytes)
-    (telling.0, telling.1, (txn_in size told old m c x t st here there).now.bytes) t.ops (txn_in size told old m c x t st here there).sound)
-finals_stand Telling lists servers size told later old new m c x t (Aborted' i box a) sound region count st on here there telling turn = (
-  give_up_may Telling lists servers size told later old new c x i a m t turn region (txn_in size told old m c x t st here there) telling,
-  leaves_stand old new turn.mid c x sound here (give_up Telling lists servers size told later old new c x i a turn) turn.ends
-      size told later m st on turn.number turn.versions,
+    (turn.final (telling.0, telling.1, (txn_in z.size z.told old m c x t st here there).tree.bytes)
+    (telling.0, telling.1, (txn_in z.size z.told old m c x t st here there).now.bytes) t.ops (txn_in z.size z.told old m c x t st here there).sound)
+finals_stand z old new m c x t (Aborted' i box a) sound region count st on here there telling turn = (
+  give_up_may z old new c x i a m t turn region (txn_in z.size z.told old m c x t st here there) telling,
+  leaves_stand old new turn.mid c x sound here (give_up z old new c x i a turn) turn.ends
+      z.size z.told z.later m st on turn.number turn.versions,
 )
-finals_stand Telling lists servers size told later old new m c x t a sound region count st on here there telling turn =
-    let txn = txn_in size told old m c x t st here there in (
+finals_stand z old new m c x t a sound region count st on here there telling turn =
+    let txn = txn_in z.size z.told old m c x t st here there in (
       subst (λ n. IsReadFault n a) (sym count) (turn.may (telling.0, telling.1, txn.tree.bytes) (telling.0, telling.1, txn.now.bytes) t.ops txn.sound m.now
           txn.now),
-      stays_stand old new c sound turn.fails.stays size told later m st on,
+      stays_stand old new c sound turn.fails.stays z.size z.told z.later m st on,
     )

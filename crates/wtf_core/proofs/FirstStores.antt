@@ -70,5 +70,6 @@ module _ {S : Type 0} (kind : StoreKind S) (shelf : List S) (core : CoreView) (s
   kept_within m v may st kept held =
       kept_tree kind (span (λ k. false) shelf (stores_of core.settings shelf)) core core m sound st.tables images_within
       (record { maps = λ n live. refl; more = omega arith; saved = (refl, refl) })
-      (record { before = v; after = v; handed = λ images. ⊥; refused = ⊤; untouched = ⊤ }) (record { kept = λ images never. absurd never; same = λ untouched. refl })
+      (record { before = v; after = v; handed = λ images. ⊥; refused = ⊤; untouched = ⊤ })
+      (record { kept = λ images never. absurd never; same = λ untouched. refl })
       may may (λ t there. there) tt kept held

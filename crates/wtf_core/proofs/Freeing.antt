@@ -53,6 +53,7 @@ module _ {S : Type 0} (kind : StoreKind S) (t : Span S) (old new : CoreView) (se
       jobs = ap (λ (b : BesideView). b.jobs) keeps.keeps.beside;
       images = ap (λ (b : BesideView). b.images) keeps.keeps.beside;
       none = ap (λ (b : BesideView). b.none) keeps.keeps.beside;
+      watched = ap (λ (b : BesideView). b.watched) keeps.keeps.beside;
       number = ap (λ (s : Store Key Value). s.number) keeps.kv;
     }
 
@@ -124,7 +125,7 @@ module _ {S : Type 0} (kind : StoreKind S) (t : Span S) (old new : CoreView) (se
           → MapNames new.settings.region later (metadata_now new.tables.kv) p
       alone rests none p h =
           let number : h.number ≡ new.tables.kv.number =
-          rests_alone old.tables sound rests.idle.clients rests.idle.jobs rests.image (λ r is. absurd (none_some gc.running r none is)) h.number
+          rests_alone old.tables sound rests.idle.clients rests.idle.jobs rests.image (λ r is. absurd (none_some gc.running r none is)) rests.watched h.number
           (free_same.back h.number h.live) ∙ sym free_rest.number in
           subst (λ (n : ℕ). MapNames new.settings.region later (metadata_at new.tables.kv n) p) number h.named
 

@@ -21,8 +21,8 @@ use Rattle.wtf_clients.specs.Saves.{with_image, only_image, Saves, SaveTurn}
 use Rattle.wtf_core.specs.Turns.{LineTurn}
 use Rattle.wtf_clients.specs.Keeping.{KeeperSpan, Hands, SyncFailed, KeeperFailed, KeeperTurn, IsImageAt, IsHeldBy, HoldsKept}
 use Rattle.wtf_clients.proofs.Images.{kept_pinned}
-use Rattle.wtf_clients.proofs.Lives.{pinned_live}
-use Rattle.wtf_core.proofs.Going.{Goes, GoesLive, line_goes}
+use Rattle.wtf_clients.proofs.Lives.{pinned_live, live_upto}
+use Rattle.wtf_core.proofs.Moves.{GoesLive, goes_live, line_moves}
 
 -- what every keeper keeps to
 pub record KeeperLaws (k : KeeperSpan) : Type 0 where
@@ -48,11 +48,11 @@ held_on old new settings bytes more none images (inl (empty, is)) = inl (empty, 
 held_on old new settings bytes more none images (inr (n, there, image)) = let on =
     images n there in inr (n, on.0, image_at_on old new settings n bytes on.1 more image)
 
-goes_held : (old new : TablesView) (settings : Settings) (bytes : List ℕ) → AreSound old → Goes old new → IsHeldBy old settings bytes
+live_held : (old new : TablesView) (settings : Settings) (bytes : List ℕ) → AreSound old → GoesLive old new → IsHeldBy old settings bytes
     → IsHeldBy new settings bytes
-goes_held old new settings bytes sound h held =
+live_held old new settings bytes sound h held =
     held_on old new settings bytes h.more (λ is. h.saved.1 ∙ is)
-    (λ n there. (subst (λ (l : List ℕ). Contains l n) (sym h.saved.0) there, h.maps n (sound.kept n there))) held
+    (λ n there. (subst (λ (l : List ℕ). Contains l n) (sym h.saved.0) there, h.maps n (pinned_live old.kv n (kept_pinned old n sound there)))) held
 
 pub tidied_held : (old new : TablesView) (settings : Settings) (bytes : List ℕ) → AreSound old → IsTidied old new → IsHeldBy old settings bytes
     → IsHeldBy new settings bytes
@@ -79,9 +79,9 @@ module _ {S : Type 0} (kind : StoreKind S) (t : Span S) (k : KeeperSpan) (laws :
 
   stays_held : (now : BesideView) → Saves old new now → new.beside ≡ old.beside → (bytes : List ℕ) → IsHeldBy old settings bytes → IsHeldBy new settings bytes
   stays_held now saves same bytes held =
-      goes_held old new settings bytes sound
+      live_held old new settings bytes sound
       (record {
-        maps = saves.maps;
+        maps = λ n live. saves.maps n (live_upto old n sound live);
         more = let next = saves.next_tx in omega (arith, next);
         saved = (ap (λ (b : BesideView). b.images) same, ap (λ (b : BesideView). b.none) same);
       }) held
@@ -146,12 +146,6 @@ module _ {S : Type 0} (kind : StoreKind S) (t : Span S) (k : KeeperSpan) (settin
   keeper_on event.Save a h = h
   keeper_on e a h = h
 
-live_held : (old new : TablesView) (settings : Settings) (bytes : List ℕ) → AreSound old → GoesLive old new → IsHeldBy old settings bytes
-    → IsHeldBy new settings bytes
-live_held old new settings bytes sound h held =
-    held_on old new settings bytes h.more (λ is. h.saved.1 ∙ is)
-    (λ n there. (subst (λ (l : List ℕ). Contains l n) (sym h.saved.0) there, h.maps n (pinned_live old.kv n (kept_pinned old n sound there)))) held
-
 -- each line
 module _ {S : Type 0} (kind : StoreKind S) (t : Span S) (k : KeeperSpan) (laws : KeeperLaws k) (old new : CoreView)
     (sound : AreSound old.tables) (a : Answer) where
@@ -160,7 +154,7 @@ module _ {S : Type 0} (kind : StoreKind S) (t : Span S) (k : KeeperSpan) (laws :
   other_held e ne turn untouched (bytes, held, is) = (
     bytes,
     ap (λ v. v.held) (laws.same untouched) ∙ held,
-    live_held old.tables new.tables old.settings bytes sound (line_goes kind t old new sound a e ne turn) is,
+    live_held old.tables new.tables old.settings bytes sound (goes_live old.tables new.tables e a (line_moves kind t old new sound a e turn) ne) is,
   )
 
   pub line_held : (e : Event) → LineTurn kind t old new e a → KeeperTurn kind t k old.settings old.tables new.tables e a → k.before.tells ≡ true

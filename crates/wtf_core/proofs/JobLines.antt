@@ -32,7 +32,6 @@ use Rattle.wtf_meta.specs.Maps.{Map, with, metadata_at}
 use Rattle.wtf_meta.specs.Trees.{LeadsTo, Stands}
 use Rattle.wtf_meta.proofs.Named.{region_of_bytes}
 use Rattle.wtf_meta.proofs.Telling.{TellsOn}
-use Rattle.wtf_region.specs.Cached.{TrueBut}
 use Rattle.wtf_replay.specs.Tried.{KeepsVersions}
 use Rattle.wtf_image.specs.Savable.{AreBefore}
 use Rattle.wtf_compact.specs.Jobs.{JobView, job_edits, target_region}
@@ -40,6 +39,7 @@ use Rattle.wtf_compact.specs.Planned.{KeepsRegion}
 use Rattle.wtf_compact.specs.Putting.{IsPut, IsInPlace, IsStale}
 use Rattle.wtf_compact.proofs.PutLaws.{put_stands}
 use Rattle.wtf_clients.specs.Views.{TablesView, of_label, metadata_now}
+use Rattle.wtf_clients.specs.Seeing.{Seeing}
 use Rattle.wtf_clients.specs.Sounds.{AreSound}
 use Rattle.wtf_clients.specs.Standing.{StandsForJob, StandsForLabel, TablesStand}
 use Rattle.wtf_clients.specs.Touched.{Touched, above}
@@ -47,7 +47,7 @@ use Rattle.wtf_clients.specs.Turns.{AreTrue}
 use Rattle.wtf_clients.specs.JobTurns.{RefusesJob, plan_due, Plans, PlansSoundly, PlanRefused, PlanFails, FreePlan, PlanTurn, Puts, PutTurn, DropsJob, DropTurn}
 use Rattle.wtf_clients.proofs.Frames.{untouched_same, untouched_job}
 use Rattle.wtf_clients.proofs.Images.{before_more, before_same, before_own}
-use Rattle.wtf_clients.proofs.JobFrames.{JobTurned, job_sound, job_stands}
+use Rattle.wtf_clients.proofs.JobFrames.{JobTurned, job_stands}
 use Rattle.wtf_clients.proofs.JobKeeping.{known_later, keeps_later}
 use Rattle.wtf_clients.proofs.JobTurning.{plan_turned, put_turned, drop_turned}
 use Rattle.wtf_clients.proofs.Later.{Stands-later}
@@ -76,41 +76,7 @@ answer_free m j p r none = ap (λ o. or_refusal
     (is_idle o >>= (λ _. source m.now p >>= (λ bytes. has_region m.settings.region bytes r >>= (λ _. Ok answer.Planned))))) none
 
 module _ (old new : TablesView) (j : ℕ) (sound : AreSound old) where
-  -- ---- the tables stay sound
-
-  same_sound : new ≡ old → AreSound new
-  same_sound is = subst AreSound (sym is) sound
-
-  module _ (Telling : Type 0) (lists : TrueBut) (servers size : ℕ) (told later : Told) (kind : JobKind) (p : List ℕ) (r : ℕ) where
-    free_sound : (a : Answer) → of_label old.beside.jobs j ≡ None → FreePlan Telling lists servers size told later old new j kind p r a → AreSound new
-    free_sound answer.Planned none h =
-        job_sound old new j (Some h.job) sound (plan_turned old new j sound kind p r h.job none h.plans)
-    free_sound (answer.Refused w) none h = same_sound h.same
-    free_sound a none h = same_sound h.same
-
-    pub plan_sound : (a : Answer) → PlanTurn Telling lists servers size told later old new j kind p r a → AreSound new
-    plan_sound a h = by (of_label old.beside.jobs j) refl h
-      where
-        by : (o : Option JobView) → of_label old.beside.jobs j ≡ o
-            → MatchOption o (FreePlan Telling lists servers size told later old new j kind p r a) (λ x. RefusesJob old new JobInUse a) → AreSound new
-        by None none g = free_sound a none g
-        by (Some x) there g = same_sound g.same
-
-  pub put_sound : (a : Answer) → PutTurn old new j a → AreSound new
-  put_sound a h = by (of_label old.beside.jobs j) refl h
-    where
-      by : (o : Option JobView) → of_label old.beside.jobs j ≡ o → MatchOption o (RefusesJob old new NoJob a) (λ x. Puts old new j x a) → AreSound new
-      by None none g = same_sound g.same
-      by (Some x) there g = job_sound old new j None sound (put_turned old new j sound x there a g)
-
-  pub drop_sound : (a : Answer) → DropTurn old new j a → AreSound new
-  drop_sound a h = by (of_label old.beside.jobs j) refl h
-    where
-      by : (o : Option JobView) → of_label old.beside.jobs j ≡ o → MatchOption o (RefusesJob old new NoJob a) (λ x. DropsJob old new j x a) → AreSound new
-      by None none g = same_sound g.same
-      by (Some x) there g = job_sound old new j None sound (drop_turned old new j sound x there a g)
-
-  -- ---- and they stand for the machine
+  -- ---- they stand for the machine
 
   module _ (size : ℕ) (told later : Told) (m : Machine) (st : TablesStand size told old m) (on : TellsOn told later) where
     same_stand : new ≡ old → TablesStand size later new m
@@ -138,108 +104,6 @@ module _ (old new : TablesView) (j : ℕ) (sound : AreSound old) where
           (before_same old.next_tx new.next_tx (metadata_now old.kv) (metadata_now new.kv) map_same
           (let next = turned.keeps.next_tx in omega (arith, next)) st.before)
           own
-
-    -- ---- a plan
-    module _ (Telling : Type 0) (lists : TrueBut) (servers : ℕ) (kind : JobKind) (p : List ℕ) (r : ℕ) (a : Answer)
-        (region : m.settings.region ≡ size) (count : m.settings.servers ≡ servers) (telling : Telling × AreTrue size told lists old) where
-      abbrev May : Answer → Type 0
-      May b = (b ≡ plan_answer m j p r) ⊎ MayFailPlan m.settings.servers kind (plan_answer m j p r) b
-
-      -- the tree now
-      tree_now : Stands size told old.next_tx 0 (metadata_now old.kv) m.now
-      tree_now = st.later old.next_tx (omega arith)
-
-      due_is : get m.jobs j ≡ None → plan_answer m j p r ≡ plan_due size m.now p r
-      due_is none = answer_free m j p r none ∙ ap (λ b. plan_due b m.now p r) region
-
-      abbrev planned_job : Job
-      planned_job = record { stamp = m.next_stamp; path = p; region = r; kind = kind; base = m.number; touched = [] }
-
-      plan_job : (x : JobView) → Plans old new j kind p r x
-          → KeepsRegion size later (target_region (metadata_now old.kv) x.target) x.value → StandsForJob size later new.kv x planned_job
-      plan_job x plans keeps =
-          let at : metadata_at new.kv x.base ≡ metadata_now old.kv =
-          ap (metadata_at new.kv) plans.base ∙ ap (λ (s : Store Key Value). metadata_at s old.kv.number) plans.kv in
-          let number : new.kv.number ≡ old.kv.number = ap (λ (s : Store Key Value). s.number) plans.kv in
-          record {
-            path = sym plans.job.path;
-            region = sym plans.job.region;
-            kind = sym plans.job.kind_is;
-            base = st.number ∙ sym plans.base;
-            leads = subst (λ (w : Map). LeadsTo w x.path x.target.inode) (sym at)
-                (subst (λ q. LeadsTo (metadata_now old.kv) q x.target.inode) (sym plans.job.path) plans.job.leads);
-            known = subst (λ (w : Map). MaybeBytes (is_told later) (is_listed size later) (target_region w x.target)) (sym at)
-                (known_later told later on size (target_region (metadata_now old.kv) x.target)
-                (region_of_bytes (is_told told) (is_listed size told) (metadata_now old.kv (Region x.target.inode x.target.region))
-                (tree_now.bytes (Region x.target.inode x.target.region))));
-            keeps = subst (λ (w : Map). KeepsRegion size later (target_region w x.target) x.value) (sym at) keeps;
-            touched = subst (λ b. Touched (metadata_at new.kv b) (metadata_now new.kv) (above new.kv b) []) (number ∙ sym plans.base) (touched_base new.kv);
-          }
-
-      planned_stand : of_label old.beside.jobs j ≡ None → PlansSoundly Telling lists servers size told later old new j kind p r
-          → May answer.Planned × TablesStand size later new (with_job m j kind p r answer.Planned)
-      planned_stand none h =
-          let free : get m.jobs j ≡ None = label_none size told old.kv (of_label old.beside.jobs j) (get m.jobs j) (st.jobs j) none in
-          let x : JobView = h.job in
-          let t : Job = planned_job in
-          let number : new.kv.number ≡ old.kv.number = ap (λ (s : Store Key Value). s.number) h.plans.kv in (
-            inl (sym (due_is free ∙ h.due old.next_tx 0 m.now tree_now)),
-            kept_stand (Some x) (plan_turned old new j sound kind p r x none h.plans) number
-                (λ q. ap (λ (s : Store Key Value). versions_of key_cmp s q) h.plans.kv)
-                (with_job m j kind p r answer.Planned) refl refl refl refl
-                (λ l ne. get-number_other m.jobs j t l ne)
-                (subst (λ o. StandsForLabel size later new.kv (Some x) o) (sym (get-number_same m.jobs j t))
-                (plan_job x h.plans (h.keeps (telling.0, telling.1, tree_now.bytes)))),
-          )
-
-      fault_stays : (b : Answer) → PlanFails Telling lists servers size told later old new kind p r b → with_job m j kind p r b ≡ m
-      fault_stays (answer.FaultRead k) h = refl
-      fault_stays answer.FaultWrite h = refl
-      fault_stays (answer.FaultPunch k) h = refl
-      fault_stays (answer.Damaged k) h = refl
-      fault_stays answer.Planned h = absurd (fault_is h.why answer.Planned h.answer)
-      fault_stays b h = refl
-
-      failed_stand : of_label old.beside.jobs j ≡ None → PlanFails Telling lists servers size told later old new kind p r a
-          → May a × TablesStand size later new (with_job m j kind p r a)
-      failed_stand none h =
-          let free : get m.jobs j ≡ None = label_none size told old.kv (of_label old.beside.jobs j) (get m.jobs j) (st.jobs j) none in (
-            inr (subst (λ d. MayFailPlan m.settings.servers kind d a) (sym (due_is free))
-                (subst (λ n. MayFailPlan n kind (plan_due size m.now p r) a) (sym count) (h.may old.next_tx 0 m.now tree_now))),
-            subst (λ n. TablesStand size later new n) (sym (fault_stays a h)) (same_stand h.same),
-          )
-
-      refused_stand : (w : Word) → of_label old.beside.jobs j ≡ None → PlanRefused Telling lists servers size told later old new p r w
-          → May (answer.Refused w) × TablesStand size later new (with_job m j kind p r (answer.Refused w))
-      refused_stand w none h =
-          let free : get m.jobs j ≡ None = label_none size told old.kv (of_label old.beside.jobs j) (get m.jobs j) (st.jobs j) none in
-          (inl (sym (due_is free ∙ h.due old.next_tx 0 m.now tree_now)), same_stand h.same)
-
-      used_stand : (x : JobView) → of_label old.beside.jobs j ≡ Some x → RefusesJob old new JobInUse a
-          → May a × TablesStand size later new (with_job m j kind p r a)
-      used_stand x there h =
-          let found = label_some size told old.kv (of_label old.beside.jobs j) (get m.jobs j) x (st.jobs j) there in (
-            inl (h.answer ∙ sym (plan-taken m j r p found.0 found.1)),
-            subst (λ b. TablesStand size later new (with_job m j kind p r b)) (sym h.answer) (same_stand h.same),
-          )
-
-    pub plan_stands : (Telling : Type 0) (lists : TrueBut) (servers : ℕ) (kind : JobKind) (p : List ℕ) (r : ℕ) (a : Answer)
-        → m.settings.region ≡ size → m.settings.servers ≡ servers → Telling × AreTrue size told lists old
-        → PlanTurn Telling lists servers size told later old new j kind p r a
-        → ((a ≡ plan_answer m j p r) ⊎ MayFailPlan m.settings.servers kind (plan_answer m j p r) a) × TablesStand size later new (with_job m j kind p r a)
-    plan_stands Telling lists servers kind p r a region count telling turn = by (of_label old.beside.jobs j) refl turn
-      where
-        free : (b : Answer) → of_label old.beside.jobs j ≡ None → FreePlan Telling lists servers size told later old new j kind p r b
-            → ((b ≡ plan_answer m j p r) ⊎ MayFailPlan m.settings.servers kind (plan_answer m j p r) b) × TablesStand size later new (with_job m j kind p r b)
-        free answer.Planned none g = planned_stand Telling lists servers kind p r answer.Planned region count telling none g
-        free (answer.Refused w) none g = refused_stand Telling lists servers kind p r (answer.Refused w) region count telling w none g
-        free b none g = failed_stand Telling lists servers kind p r b region count telling none g
-
-        by : (o : Option JobView) → of_label old.beside.jobs j ≡ o
-            → MatchOption o (FreePlan Telling lists servers size told later old new j kind p r a) (λ x. RefusesJob old new JobInUse a)
-            → ((a ≡ plan_answer m j p r) ⊎ MayFailPlan m.settings.servers kind (plan_answer m j p r) a) × TablesStand size later new (with_job m j kind p r a)
-        by None none g = free a none g
-        by (Some x) there g = used_stand Telling lists servers kind p r a region count telling x there g
 
     -- ---- a put
     module _ (x : JobView) (there : of_label old.beside.jobs j ≡ Some x) (t : Job) (job : StandsForJob size told old.kv x t)
@@ -340,3 +204,108 @@ module _ (old new : TablesView) (j : ℕ) (sound : AreSound old) where
                   (without_job m j) refl refl refl refl (λ l ne. gone_there m.jobs j l ne)
                   (subst (λ o. StandsForLabel size later new.kv None o) (sym (gone_here m.jobs j)) tt)),
             )
+
+  -- ---- and where one is planned
+  module _ (z : Seeing) (m : Machine) (st : TablesStand z.size z.told old m) (on : TellsOn z.told z.later) where
+    module _ (kind : JobKind) (p : List ℕ) (r : ℕ) (a : Answer)
+        (region : m.settings.region ≡ z.size) (count : m.settings.servers ≡ z.servers) (telling : z.telling × AreTrue z.size z.told z.lists old) where
+      abbrev May : Answer → Type 0
+      May b = (b ≡ plan_answer m j p r) ⊎ MayFailPlan m.settings.servers kind (plan_answer m j p r) b
+
+      -- the tree now
+      tree_now : Stands z.size z.told old.next_tx 0 (metadata_now old.kv) m.now
+      tree_now = st.later old.next_tx (omega arith)
+
+      due_is : get m.jobs j ≡ None → plan_answer m j p r ≡ plan_due z.size m.now p r
+      due_is none = answer_free m j p r none ∙ ap (λ b. plan_due b m.now p r) region
+
+      abbrev planned_job : Job
+      planned_job = record { stamp = m.next_stamp; path = p; region = r; kind = kind; base = m.number; touched = [] }
+
+      plan_job : (x : JobView) → Plans old new j kind p r x
+          → KeepsRegion z.size z.later (target_region (metadata_now old.kv) x.target) x.value → StandsForJob z.size z.later new.kv x planned_job
+      plan_job x plans keeps =
+          let at : metadata_at new.kv x.base ≡ metadata_now old.kv =
+          ap (metadata_at new.kv) plans.base ∙ ap (λ (s : Store Key Value). metadata_at s old.kv.number) plans.kv in
+          let number : new.kv.number ≡ old.kv.number = ap (λ (s : Store Key Value). s.number) plans.kv in
+          record {
+            path = sym plans.job.path;
+            region = sym plans.job.region;
+            kind = sym plans.job.kind_is;
+            base = st.number ∙ sym plans.base;
+            leads = subst (λ (w : Map). LeadsTo w x.path x.target.inode) (sym at)
+                (subst (λ q. LeadsTo (metadata_now old.kv) q x.target.inode) (sym plans.job.path) plans.job.leads);
+            known = subst (λ (w : Map). MaybeBytes (is_told z.later) (is_listed z.size z.later) (target_region w x.target)) (sym at)
+                (known_later z.told z.later on z.size (target_region (metadata_now old.kv) x.target)
+                (region_of_bytes (is_told z.told) (is_listed z.size z.told) (metadata_now old.kv (Region x.target.inode x.target.region))
+                (tree_now.bytes (Region x.target.inode x.target.region))));
+            keeps = subst (λ (w : Map). KeepsRegion z.size z.later (target_region w x.target) x.value) (sym at) keeps;
+            touched = subst (λ b. Touched (metadata_at new.kv b) (metadata_now new.kv) (above new.kv b) []) (number ∙ sym plans.base) (touched_base new.kv);
+          }
+
+      planned_stand : of_label old.beside.jobs j ≡ None → PlansSoundly z old new j kind p r
+          → May answer.Planned × TablesStand z.size z.later new (with_job m j kind p r answer.Planned)
+      planned_stand none h =
+          let free : get m.jobs j ≡ None = label_none z.size z.told old.kv (of_label old.beside.jobs j) (get m.jobs j) (st.jobs j) none in
+          let x : JobView = h.job in
+          let t : Job = planned_job in
+          let number : new.kv.number ≡ old.kv.number = ap (λ (s : Store Key Value). s.number) h.plans.kv in (
+            inl (sym (due_is free ∙ h.due old.next_tx 0 m.now tree_now)),
+            kept_stand z.size z.told z.later m st on (Some x) (plan_turned old new j sound kind p r x none h.plans) number
+                (λ q. ap (λ (s : Store Key Value). versions_of key_cmp s q) h.plans.kv)
+                (with_job m j kind p r answer.Planned) refl refl refl refl
+                (λ l ne. get-number_other m.jobs j t l ne)
+                (subst (λ o. StandsForLabel z.size z.later new.kv (Some x) o) (sym (get-number_same m.jobs j t))
+                (plan_job x h.plans (h.keeps (telling.0, telling.1, tree_now.bytes)))),
+          )
+
+      fault_stays : (b : Answer) → PlanFails z old new kind p r b → with_job m j kind p r b ≡ m
+      fault_stays (answer.FaultRead k) h = refl
+      fault_stays answer.FaultWrite h = refl
+      fault_stays (answer.FaultPunch k) h = refl
+      fault_stays (answer.Damaged k) h = refl
+      fault_stays answer.Planned h = absurd (fault_is h.why answer.Planned h.answer)
+      fault_stays b h = refl
+
+      failed_stand : of_label old.beside.jobs j ≡ None → PlanFails z old new kind p r a
+          → May a × TablesStand z.size z.later new (with_job m j kind p r a)
+      failed_stand none h =
+          let free : get m.jobs j ≡ None = label_none z.size z.told old.kv (of_label old.beside.jobs j) (get m.jobs j) (st.jobs j) none in (
+            inr (subst (λ d. MayFailPlan m.settings.servers kind d a) (sym (due_is free))
+                (subst (λ n. MayFailPlan n kind (plan_due z.size m.now p r) a) (sym count) (h.may old.next_tx 0 m.now tree_now))),
+            subst (λ n. TablesStand z.size z.later new n) (sym (fault_stays a h)) (same_stand z.size z.told z.later m st on h.same),
+          )
+
+      refused_stand : (w : Word) → of_label old.beside.jobs j ≡ None → PlanRefused z old new p r w
+          → May (answer.Refused w) × TablesStand z.size z.later new (with_job m j kind p r (answer.Refused w))
+      refused_stand w none h =
+          let free : get m.jobs j ≡ None = label_none z.size z.told old.kv (of_label old.beside.jobs j) (get m.jobs j) (st.jobs j) none in
+          (inl (sym (due_is free ∙ h.due old.next_tx 0 m.now tree_now)), same_stand z.size z.told z.later m st on h.same)
+
+      used_stand : (x : JobView) → of_label old.beside.jobs j ≡ Some x → RefusesJob old new JobInUse a
+          → May a × TablesStand z.size z.later new (with_job m j kind p r a)
+      used_stand x there h =
+          let found = label_some z.size z.told old.kv (of_label old.beside.jobs j) (get m.jobs j) x (st.jobs j) there in (
+            inl (h.answer ∙ sym (plan-taken m j r p found.0 found.1)),
+            subst (λ b. TablesStand z.size z.later new (with_job m j kind p r b)) (sym h.answer) (same_stand z.size z.told z.later m st on h.same),
+          )
+
+    pub plan_stands : (kind : JobKind) (p : List ℕ) (r : ℕ) (a : Answer)
+        → m.settings.region ≡ z.size → m.settings.servers ≡ z.servers → z.telling × AreTrue z.size z.told z.lists old
+        → PlanTurn z old new j kind p r a
+        → ((a ≡ plan_answer m j p r) ⊎ MayFailPlan m.settings.servers kind (plan_answer m j p r) a) × TablesStand z.size z.later new (with_job m j kind p r a)
+    plan_stands kind p r a region count telling turn = by (of_label old.beside.jobs j) refl turn
+      where
+        free : (b : Answer) → of_label old.beside.jobs j ≡ None → FreePlan z old new j kind p r b
+            → ((b ≡ plan_answer m j p r) ⊎ MayFailPlan m.settings.servers kind (plan_answer m j p r) b)
+            × TablesStand z.size z.later new (with_job m j kind p r b)
+        free answer.Planned none g = planned_stand kind p r answer.Planned region count telling none g
+        free (answer.Refused w) none g = refused_stand kind p r (answer.Refused w) region count telling w none g
+        free b none g = failed_stand kind p r b region count telling none g
+
+        by : (o : Option JobView) → of_label old.beside.jobs j ≡ o
+            → MatchOption o (FreePlan z old new j kind p r a) (λ x. RefusesJob old new JobInUse a)
+            → ((a ≡ plan_answer m j p r) ⊎ MayFailPlan m.settings.servers kind (plan_answer m j p r) a)
+            × TablesStand z.size z.later new (with_job m j kind p r a)
+        by None none g = free a none g
+        by (Some x) there g = used_stand kind p r a region count telling x there g

@@ -4,13 +4,12 @@ pub mod Plain
 pub mod Lines
 pub mod SaveLaws
 pub mod SaveLines
-pub mod Going
+pub mod Moves
 pub mod Holding
 pub mod Picturing
 pub mod RowsSorted
 pub mod RowsWalk
 pub mod RowsShown
-pub mod Growth
 pub mod JobLines
 pub mod Whole
 pub mod Started
@@ -37,4 +36,7 @@ pub mod Telling
 pub mod FirstStores
 pub mod ToldLines
 pub mod Scanned
+pub mod Lent
+pub mod Ends
 pub mod Quieting
+pub mod Watching

@@ -18,57 +18,16 @@ use Rattle.wtf_model.specs.Steps.{is_call_refusal, tried, stepped, called, with_
 use Rattle.wtf_log.proofs.StandingLaws.{OpsStandFor-length}
 use Rattle.wtf_meta.specs.Contents.{Told}
 use Rattle.wtf_meta.proofs.Telling.{TellsOn}
-use Rattle.wtf_region.specs.Cached.{TrueBut}
 use Rattle.wtf_replay.specs.Views.{TxnView, is_live, is_full}
 use Rattle.wtf_replay.specs.Refusals.{call_refusal, try_refusal, step_refusal}
 use Rattle.wtf_replay.specs.Sounds.{tells_slice}
 use Rattle.wtf_clients.specs.Views.{TablesView, of_client}
+use Rattle.wtf_clients.specs.Seeing.{Seeing}
 use Rattle.wtf_clients.specs.Sounds.{AreSound}
 use Rattle.wtf_clients.specs.Standing.{StandsForTxn, StandsForSlot, TablesStand}
 use Rattle.wtf_clients.specs.Turns.{AreTrue, Refuses, LoneTurn, TxnTurn, ClientTurn}
-use Rattle.wtf_core.proofs.Plain.{refuses_sound, refuses_stand, begins_sound, begins_stand, calls_sound, calls_stand, fails_stand, aborts_sound, aborts_stand}
-use Rattle.wtf_clients.proofs.Staying.{stays_sound}
-use Rattle.wtf_core.proofs.Ending.{tries_sound, steps_sound, finals_sound, tries_stand, steps_stand, finals_stand}
-
-module _ (Telling : Type 0) (lists : TrueBut) (servers size : ℕ) (told later : Told) (old new : TablesView) (c : ℕ) (sound : AreSound old) where
-  -- a line is refused, or keeps the tables sound by what it does
-  sound_or : (r : Option Word) (P : Type 0) (a : Answer) → (P → AreSound new) → MatchOption r P (λ w. Refuses old new c w a) → AreSound new
-  sound_or None P a f turn = f turn
-  sound_or (Some w) P a f turn = refuses_sound old new c w a sound turn
-
-  -- a line of a client without a transaction
-  lone_sound : (v : Verb) (a : Answer) → of_client old.clients c ≡ None → LoneTurn Telling lists servers size told later old new c v a → AreSound new
-  lone_sound verb.Begin a here turn = begins_sound old new c a sound here turn
-  lone_sound verb.Try a here turn = refuses_sound old new c NoTx a sound turn
-  lone_sound verb.Step a here turn = refuses_sound old new c NoTx a sound turn
-  lone_sound verb.Commit a here turn = refuses_sound old new c NoTx a sound turn
-  lone_sound verb.Abort a here turn = refuses_sound old new c NoTx a sound turn
-  lone_sound (verb.Call o) a here turn = refuses_sound old new c NoTx a sound turn
-
-  -- a line of a client with one
-  txn_sound : (x : TxnView) (v : Verb) (a : Answer) → of_client old.clients c ≡ Some x → TxnTurn Telling lists servers size told later old new c x v a →
-      AreSound new
-  txn_sound x verb.Begin a here turn = refuses_sound old new c InTx a sound turn
-  txn_sound x verb.Try a here turn = sound_or (try_refusal x) _ a (λ t. tries_sound old new c x a sound here t) turn
-  txn_sound x verb.Step a here turn = sound_or (step_refusal x) _ a (λ t. steps_sound Telling lists servers size told later old new c x a sound here t) turn
-  txn_sound x verb.Commit a here turn = finals_sound Telling lists servers size told later old new c x a sound here turn
-  txn_sound x verb.Abort a here turn = aborts_sound old new c x a sound here turn
-  txn_sound x (verb.Call o) a here turn = sound_or (call_refusal x) _ a
-      (λ t. ⊎_elim (λ made. calls_sound Telling lists servers size told later old new c x o a sound here made)
-      (λ failed. stays_sound old new c sound failed.fails.stays) t) turn
-
-  -- a line of either
-  slot_sound : (s : Option TxnView) (v : Verb) (a : Answer) → of_client old.clients c ≡ s
-      → MatchOption s (LoneTurn Telling lists servers size told later old new c v a) (λ x. TxnTurn Telling lists servers size told later old new c x v a) →
-      AreSound new
-  slot_sound None v a here turn = lone_sound v a here turn
-  slot_sound (Some x) v a here turn = txn_sound x v a here turn
-
--- the tables stay sound
-pub client_sound : (Telling : Type 0) (lists : TrueBut) (servers size : ℕ) (told later : Told) (old new : TablesView) (c : ℕ) (v : Verb) (a : Answer)
-    → AreSound old → ClientTurn Telling lists servers size told later old new c v a → AreSound new
-client_sound Telling lists servers size told later old new c v a sound turn = slot_sound Telling lists servers size told later old new c sound
-    (of_client old.clients c) v a refl turn
+use Rattle.wtf_core.proofs.Plain.{refuses_stand, begins_stand, calls_stand, fails_stand, aborts_stand}
+use Rattle.wtf_core.proofs.Ending.{tries_stand, steps_stand, finals_stand}
 
 -- the refusals of a transaction are those of the machine's
 module _ (size : ℕ) (told : Told) (old : TablesView) (m : Machine) (x : TxnView) (t : Transaction) (txn : StandsForTxn size told old.kv m.now x t) where
@@ -106,32 +65,32 @@ not_logged : (m : Machine) (c : ℕ) (t : Transaction) (o : Op (List ℕ)) (a : 
 not_logged m c t o a w is own =
     ap (λ r. called m c t o r) is ∙ ap (λ b. if b then with_transaction m c (logged t o (answer.Refused w)) else m) own
 
-module _ (Telling : Type 0) (lists : TrueBut) (servers size : ℕ) (told later : Told) (old new : TablesView) (m : Machine) (c : ℕ) (sound : AreSound old)
-    (region : m.settings.region ≡ size) (count : m.settings.servers ≡ servers)
-    (st : TablesStand size told old m) (on : TellsOn told later) (telling : Telling × AreTrue size told lists old) where
+module _ (z : Seeing) (old new : TablesView) (m : Machine) (c : ℕ) (sound : AreSound old)
+    (region : m.settings.region ≡ z.size) (count : m.settings.servers ≡ z.servers)
+    (st : TablesStand z.size z.told old m) (on : TellsOn z.told z.later) (telling : z.telling × AreTrue z.size z.told z.lists old) where
   -- the machine may answer so to a client with this transaction, or none, and the tables stand for what it is then
   abbrev Client : Option Transaction → Verb → Answer → Type 0
-  Client o v a = MayClient m o v a × TablesStand size later new (after_client m c o v a)
+  Client o v a = MayClient m o v a × TablesStand z.size z.later new (after_client m c o v a)
 
   -- a line that is refused leaves the machine
-  refused : (w : Word) (a : Answer) → Refuses old new c w a → TablesStand size later new m
-  refused w a turn = refuses_stand old new c w a sound turn size told later m st on
+  refused : (w : Word) (a : Answer) → Refuses old new c w a → TablesStand z.size z.later new m
+  refused w a turn = refuses_stand old new c w a sound turn z.size z.told z.later m st on
 
   -- a line is refused by both, or by none
-  stands_or : (r q : Option Word) (P Q : Type 0) (a : Answer) (after : Machine) → r ≡ q → (r ≡ None → P → Q × TablesStand size later new after)
+  stands_or : (r q : Option Word) (P Q : Type 0) (a : Answer) (after : Machine) → r ≡ q → (r ≡ None → P → Q × TablesStand z.size z.later new after)
       → ((w : Word) → r ≡ Some w → a ≡ answer.Refused w → after ≡ m)
-      → MatchOption r P (λ w. Refuses old new c w a) → MatchOption q Q (λ w. a ≡ answer.Refused w) × TablesStand size later new after
+      → MatchOption r P (λ w. Refuses old new c w a) → MatchOption q Q (λ w. a ≡ answer.Refused w) × TablesStand z.size z.later new after
   stands_or None q P Q a after same f g turn =
       let both = f refl turn in
       (subst (λ z. MatchOption z Q (λ w. a ≡ answer.Refused w)) same both.0, both.1)
   stands_or (Some w) q P Q a after same f g turn = (
     subst (λ z. MatchOption z Q (λ v. a ≡ answer.Refused v)) same turn.answer,
-    subst (λ u. TablesStand size later new u) (sym (g w refl turn.answer)) (refused w a turn),
+    subst (λ u. TablesStand z.size z.later new u) (sym (g w refl turn.answer)) (refused w a turn),
   )
 
   -- a line of a client without a transaction
-  lone_stands : (v : Verb) (a : Answer) → of_client old.clients c ≡ None → LoneTurn Telling lists servers size told later old new c v a → Client None v a
-  lone_stands verb.Begin a here turn = begins_stand old new c a sound here turn size told later m st on
+  lone_stands : (v : Verb) (a : Answer) → of_client old.clients c ≡ None → LoneTurn z old new c v a → Client None v a
+  lone_stands verb.Begin a here turn = begins_stand old new c a sound here turn z.size z.told z.later m st on
   lone_stands verb.Try a here turn = (turn.answer, refused NoTx a turn)
   lone_stands verb.Step a here turn = (turn.answer, refused NoTx a turn)
   lone_stands verb.Commit a here turn = (turn.answer, refused NoTx a turn)
@@ -140,31 +99,31 @@ module _ (Telling : Type 0) (lists : TrueBut) (servers size : ℕ) (told later :
 
   -- a line of a client with one, for which the machine has one too
   txn_stands : (x : TxnView) (t : Transaction) (v : Verb) (a : Answer) → of_client old.clients c ≡ Some x → get m.transactions c ≡ Some t
-      → StandsForTxn size told old.kv m.now x t
-      → TxnTurn Telling lists servers size told later old new c x v a → Client (Some t) v a
+      → StandsForTxn z.size z.told old.kv m.now x t
+      → TxnTurn z old new c x v a → Client (Some t) v a
   txn_stands x t verb.Begin a here there txn turn = (turn.answer, refused InTx a turn)
   txn_stands x t verb.Try a here there txn turn =
-      stands_or (try_refusal x) (client_refusal (Some t) verb.Try) _ _ a (tried m c t a) (try_is size told old m x t txn)
-      (λ asked tries. tries_stand size told later old new m c x t a sound region st on here there asked tries)
+      stands_or (try_refusal x) (client_refusal (Some t) verb.Try) _ _ a (tried m c t a) (try_is z.size z.told old m x t txn)
+      (λ asked tries. tries_stand z.size z.told z.later old new m c x t a sound region st on here there asked tries)
       (λ w is e. ap (λ r. tried m c t r) e) turn
   txn_stands x t verb.Step a here there txn turn =
-      stands_or (step_refusal x) (client_refusal (Some t) verb.Step) _ _ a (stepped m c t a) (step_is size told old m x t txn)
-      (λ asked steps. steps_stand Telling lists servers size told later old new m c x t a sound region count st on here there asked telling steps)
+      stands_or (step_refusal x) (client_refusal (Some t) verb.Step) _ _ a (stepped m c t a) (step_is z.size z.told old m x t txn)
+      (λ asked steps. steps_stand z old new m c x t a sound region count st on here there asked telling steps)
       (λ w is e. ap (λ r. stepped m c t r) e) turn
-  txn_stands x t verb.Commit a here there txn turn = finals_stand Telling lists servers size told later old new m c x t a sound region count st on here there
+  txn_stands x t verb.Commit a here there txn turn = finals_stand z old new m c x t a sound region count st on here there
       telling turn
-  txn_stands x t verb.Abort a here there txn turn = aborts_stand old new c x a sound here turn size told later m t st on
+  txn_stands x t verb.Abort a here there txn turn = aborts_stand old new c x a sound here turn z.size z.told z.later m t st on
   txn_stands x t (verb.Call o) a here there txn turn =
-      stands_or (call_refusal x) (client_refusal (Some t) (verb.Call o)) _ _ a (called m c t o a) (call_is size told old m x t txn o)
+      stands_or (call_refusal x) (client_refusal (Some t) (verb.Call o)) _ _ a (called m c t o a) (call_is z.size z.told old m x t txn o)
       (λ asked t2. ⊎_elim
-      (λ calls. calls_stand Telling lists servers size told later old new c x o a sound here calls m t region st on there asked telling)
-      (λ fails. fails_stand Telling lists servers size told later old new c x o a sound here fails m t region count st on there asked) t2)
+      (λ calls. calls_stand z old new c x o a sound here calls m t region st on there asked telling)
+      (λ fails. fails_stand z old new c x o a sound here fails m t region count st on there asked) t2)
       (λ w is e. not_logged m c t o a w e (own_word (is_live x) (is_full x) w is)) turn
 
   -- a line of either; no client has one in the tables alone, or in the machine alone
   slot_stands : (s : Option TxnView) (o : Option Transaction) (v : Verb) (a : Answer) → of_client old.clients c ≡ s → get m.transactions c ≡ o
-      → StandsForSlot size told old.kv m.now s o
-      → MatchOption s (LoneTurn Telling lists servers size told later old new c v a) (λ x. TxnTurn Telling lists servers size told later old new c x v a) →
+      → StandsForSlot z.size z.told old.kv m.now s o
+      → MatchOption s (LoneTurn z old new c v a) (λ x. TxnTurn z old new c x v a) →
       Client o v a
   slot_stands None None v a here there slot turn = lone_stands v a here turn
   slot_stands None (Some t) v a here there slot turn = absurd slot
@@ -172,12 +131,13 @@ module _ (Telling : Type 0) (lists : TrueBut) (servers size : ℕ) (told later :
   slot_stands (Some x) (Some t) v a here there slot turn = txn_stands x t v a here there slot turn
 
 -- and the machine may answer so, and the tables stand for what it then is
-pub client_stands : (Telling : Type 0) (lists : TrueBut) (servers size : ℕ) (told later : Told) (old new : TablesView) (m : Machine) (c : ℕ) (v : Verb)
+pub client_stands : (z : Seeing) (old new : TablesView) (m : Machine) (c : ℕ) (v : Verb)
     (a : Answer)
-    → AreSound old → m.settings.region ≡ size → m.settings.servers ≡ servers → TablesStand size told old m → TellsOn told later → Telling × AreTrue size
-    told lists old
-    → ClientTurn Telling lists servers size told later old new c v a
-    → MayClient m (get m.transactions c) v a × TablesStand size later new (after_client m c (get m.transactions c) v a)
-client_stands Telling lists servers size told later old new m c v a sound region count st on telling turn =
-    slot_stands Telling lists servers size told later old new m c sound region count st on telling (of_client old.clients c) (get m.transactions c) v a refl
+    → AreSound old → m.settings.region ≡ z.size → m.settings.servers ≡ z.servers → TablesStand z.size z.told old m
+    → TellsOn z.told z.later → z.telling × AreTrue z.size
+    z.told z.lists old
+    → ClientTurn z old new c v a
+    → MayClient m (get m.transactions c) v a × TablesStand z.size z.later new (after_client m c (get m.transactions c) v a)
+client_stands z old new m c v a sound region count st on telling turn =
+    slot_stands z old new m c sound region count st on telling (of_client old.clients c) (get m.transactions c) v a refl
     refl (st.each c) turn

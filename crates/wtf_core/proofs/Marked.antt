@@ -1,5 +1,5 @@
--- Marks of scans, and what was freed, lie in the files over each line; and what lines but a collection leave freed.
-use Rattle.std.proofs.Common.{◌≡◌, ◌≢◌, ◌≤◌, ℕ, Bool, true, false, cond, nat_eq, nat_lt, List, Option, Some, refl, sym, ap, ◌∙◌, subst, arith}
+-- Marks of scans, and what was freed, lie in the files over each line.
+use Rattle.std.proofs.Common.{◌≡◌, ◌≤◌, ℕ, Bool, true, false, cond, nat_eq, nat_lt, List, Option, Some, sym, subst, arith}
 use Rattle.wtf_dev.specs.Each.{EachFollows}
 use Rattle.wtf_dev.specs.Store.{Range, StoreKind, KindLaws}
 use Rattle.wtf_replica.specs.Inside.{size_in}
@@ -23,7 +23,7 @@ use Rattle.wtf_clients.proofs.Freeing.{collect_freed}
 use Rattle.wtf_clients.proofs.SafeLaws.{lie_on}
 use Rattle.wtf_core.specs.Turns.{LineTurn}
 use Rattle.wtf_core.specs.Views.{CoreView}
-use Rattle.wtf_core.proofs.Aged.{line_aged}
+use Rattle.wtf_core.proofs.Moves.{line_moves}
 use Rattle.wtf_core.proofs.Stamped.{IsOther}
 
 -- ---- a scan
@@ -88,7 +88,7 @@ module _ {S : Type 0} {kind : StoreKind S} (laws : KindLaws kind) (t : Span S) (
 
   other_lie : (e : Event) → IsOther e → LineTurn kind t old new e a → LieIn new.tables.beside.gc (size_in kind t.after)
   other_lie e other turn = grown new.tables.beside.gc
-      (subst (λ (g : GcView). LieIn g (size_in kind t.before)) (sym (line_aged kind t old new sound a e other turn).gc) lie)
+      (subst (λ (g : GcView). LieIn g (size_in kind t.before)) (sym ((line_moves kind t old new sound a e turn).aged other).gc) lie)
 
   pub line_lie : (e : Event) → LineTurn kind t old new e a → LieIn new.tables.beside.gc (size_in kind t.after)
   line_lie event.Scan turn = grown new.tables.beside.gc (scan_lie kind t.before old.tables new.tables a turn.0 lie)
@@ -107,53 +107,3 @@ module _ {S : Type 0} {kind : StoreKind S} (laws : KindLaws kind) (t : Span S) (
   line_lie (event.Dump p) turn = other_lie (event.Dump p) tt turn
   line_lie event.Tree turn = other_lie event.Tree tt turn
   line_lie event.Save turn = other_lie event.Save tt turn
-
--- ---- what is freed
-does_freed : (g : GcView) (r : RunView) → (with_run g r).freed ≡ g.freed
-does_freed g r = by (nat_eq r.left 0)
-  where
-    by : (b : Bool) → (cond b (with_finished g r.scan) (record g { running = Some r })).freed ≡ g.freed
-    by true = refl
-    by false = refl
-
-piece_freed : {S : Type 0} (kind : StoreKind S) (before after : Dev S) (old new : TablesView) (n : ℕ) (a : Answer)
-    → PieceTurn kind before after old new n a → new.beside.gc.freed ≡ old.beside.gc.freed
-piece_freed kind before after old new n a h = by a h
-  where
-    does : (left : ℕ) → DoesTurn kind before after old new n left → new.beside.gc.freed ≡ old.beside.gc.freed
-    does left d = ap (λ (g : GcView). g.freed) d.does.is ∙ does_freed old.beside.gc (run_on d.does.run n d.does.found)
-
-    fails : (b : Answer) → PieceFails kind before after old new n b → new.beside.gc.freed ≡ old.beside.gc.freed
-    fails b f = ap (λ (s : BesideView). s.gc.freed) f.pruned.beside
-
-    by : (b : Answer) → PieceTurn kind before after old new n b → new.beside.gc.freed ≡ old.beside.gc.freed
-    by (answer.Refused NoScan) g = ap (λ (t : TablesView). t.beside.gc.freed) g.0
-    by (answer.More left) g = does left g.1
-    by answer.Done g = does 0 g
-    by b g = fails b g
-
-scan_freed : {S : Type 0} (kind : StoreKind S) (shelf : List S) (old new : TablesView) (a : Answer) → ScanTurn kind shelf old new a
-    → new.beside.gc.freed ≡ old.beside.gc.freed
-scan_freed kind shelf old new (answer.Refused ScanBusy) h = ap (λ (t : TablesView). t.beside.gc.freed) h.0
-scan_freed kind shelf old new (answer.Held who) h = ap (λ (t : TablesView). t.beside.gc.freed) h.0
-scan_freed kind shelf old new answer.Scanning h = ap (λ (g : GcView). g.freed) h.starts.is
-scan_freed kind shelf old new a h = absurd h
-
-module _ {S : Type 0} (kind : StoreKind S) (t : Span S) (old new : CoreView) (sound : AreSound old.tables) (a : Answer) where
-  other_freed : (e : Event) → IsOther e → LineTurn kind t old new e a → new.tables.beside.gc.freed ≡ old.tables.beside.gc.freed
-  other_freed e other turn = ap (λ (g : GcView). g.freed) (line_aged kind t old new sound a e other turn).gc
-
-  pub line_freed : (e : Event) → ((k : ℕ) → e ≢ event.Collect k) → LineTurn kind t old new e a
-      → new.tables.beside.gc.freed ≡ old.tables.beside.gc.freed
-  line_freed event.Scan other turn = scan_freed kind t.before old.tables new.tables a turn.0
-  line_freed (event.Piece n) other turn = piece_freed kind turn.0.before turn.0.after old.tables new.tables n a turn.0.did
-  line_freed (event.Collect k) other turn = absurd (other k refl)
-  line_freed (event.Client c v) other turn = other_freed (event.Client c v) tt turn
-  line_freed (event.Plan j job p r) other turn = other_freed (event.Plan j job p r) tt turn
-  line_freed (event.Put j) other turn = other_freed (event.Put j) tt turn
-  line_freed (event.DropJob j) other turn = other_freed (event.DropJob j) tt turn
-  line_freed (event.Down k) other turn = other_freed (event.Down k) tt turn
-  line_freed (event.Up k) other turn = other_freed (event.Up k) tt turn
-  line_freed (event.Dump p) other turn = other_freed (event.Dump p) tt turn
-  line_freed event.Tree other turn = other_freed event.Tree tt turn
-  line_freed event.Save other turn = other_freed event.Save tt turn

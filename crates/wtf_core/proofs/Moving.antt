@@ -37,12 +37,13 @@ pub collects : (e : Event) (a : Answer) (k n : ℕ) → e ≡ event.Collect k �
 collects e a k n is said =
     subst (λ (x : Event). IsCollection x a) (sym is) (subst (λ (b : Answer). IsCollection (event.Collect k) b) (sym said) tt)
 
--- tables in which nothing began, and in which the same may be on the keeper
+-- tables in which nothing began, the same may be on the keeper, and the same is watched
 pub record SameRest (old new : TablesView) : Type 0 where
   pub clients : new.clients ≡ old.clients
   pub jobs : new.beside.jobs ≡ old.beside.jobs
   pub images : new.beside.images ≡ old.beside.images
   pub none : new.beside.none ≡ old.beside.none
+  pub watched : new.beside.watched ≡ old.beside.watched
   pub number : new.kv.number ≡ old.kv.number
 
 -- the same scan runs, and the same two have finished last
@@ -63,7 +64,7 @@ pub record Leaves {S : Type 0} (kind : StoreKind S) (t : Span S) (old new : Core
   pub collected : IsAtStage kind t.before old ScannedTwice → HasCollected kind t.after new k
 
 pub rest_later : (old new : TablesView) → SameRest old new → IsAtRest old → IsAtRest new
-rest_later old new rest = rests_on old new rest.clients rest.jobs rest.images rest.none rest.number
+rest_later old new rest = rests_on old new rest.clients rest.jobs rest.images rest.none rest.watched rest.number
 
 module _ {S : Type 0} (kind : StoreKind S) (t : Span S) (old new : CoreView) (e : Event) (a : Answer) (m : Moves kind t old new e a) where
   pub moves_quietly : ((k n : ℕ) → e ≡ event.Collect k → a ≡ answer.Collected n → Leaves kind t old new k) → GoesOnQuietly kind t old new e a
@@ -116,7 +117,7 @@ module _ {S : Type 0} (kind : StoreKind S) (t : Span S) (old new : CoreView) (se
   steady e a stage reads rest scans freed = record {
     rest = rest;
     scans = λ s next is idle h. subst (λ (x : Stage). HasScans kind t.after new x) (stage s next is)
-        (stage_later kind t.before t.after old new settings long_on reads same rest.number rest.images scans.running scans.older scans.newer s h);
+        (stage_later kind t.before t.after old new settings long_on reads same rest.number rest.images rest.watched scans.running scans.older scans.newer s h);
     stays = still_collected rest
         (ap (λ (n : ℕ). metadata_at new.tables.kv n) rest.number ∙ reads.maps old.tables.kv.number (number_live old.tables.kv)) freed;
   }
@@ -131,6 +132,7 @@ module _ {S : Type 0} (kind : StoreKind S) (t : Span S) (old new : CoreView) (se
         jobs = ap (λ (x : TablesView). x.beside.jobs) is;
         images = ap (λ (x : TablesView). x.beside.images) is;
         none = ap (λ (x : TablesView). x.beside.none) is;
+        watched = ap (λ (x : TablesView). x.beside.watched) is;
         number = ap (λ (x : TablesView). x.kv.number) is;
       })
       (record {

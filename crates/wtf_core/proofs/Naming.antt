@@ -13,18 +13,17 @@ use Rattle.wtf_model.specs.declared.answer.Word.TheVariants.{InTx, NoTx, NoJob}
 use Rattle.wtf_model.specs.declared.event.Verb.{Verb}
 use Rattle.wtf_model.specs.declared.event.Verb.TheVariants as verb
 use Rattle.wtf_meta.specs.Bytes.{MapBytes}
-use Rattle.wtf_meta.specs.Contents.{Told}
 use Rattle.wtf_meta.specs.Maps.{metadata_at}
 use Rattle.wtf_meta.proofs.MapBytes.{with_bytes}
 use Rattle.wtf_meta.proofs.Nothing.{nothing_kept}
 use Rattle.std.proofs.lemmas.List.Elements.{All-nil}
-use Rattle.wtf_region.specs.Cached.{TrueBut}
 use Rattle.wtf_replay.specs.Views.{TxnView, begun, rebased}
 use Rattle.wtf_replay.specs.Insides.{TxnBytes}
 use Rattle.wtf_replay.specs.Refusals.{try_refusal}
 use Rattle.wtf_compact.specs.Jobs.{JobView}
 use Rattle.wtf_clients.specs.JobTurns.{RefusesJob, Puts, PutTurn, DropsJob, DropTurn}
 use Rattle.wtf_clients.specs.Views.{BesideView, TablesView, of_client, of_label, metadata_now}
+use Rattle.wtf_clients.specs.Seeing.{Seeing}
 use Rattle.wtf_clients.specs.Sounds.{AreSound, IsTidied}
 use Rattle.wtf_clients.specs.Named.{TablesBytes}
 use Rattle.wtf_clients.specs.Serves.{NamesTables}
@@ -90,12 +89,12 @@ IsLocal verb.Try = Unit {0}
 IsLocal verb.Abort = Unit {0}
 IsLocal v = ⊥
 
-pub local_names : (Telling : Type 0) (lists : TrueBut) (servers size : ℕ) (told later : Told) (old new : TablesView) (c : ℕ) (v : Verb) (a : Answer) →
-    IsLocal v → AreSound old → ClientTurn Telling lists servers size told later old new c v a → NamesTables old new
-local_names Telling lists servers size told later old new c v a local sound turn P Q hole h = by (of_client old.clients c) v local refl turn
+pub local_names : (z : Seeing) (old new : TablesView) (c : ℕ) (v : Verb) (a : Answer) →
+    IsLocal v → AreSound old → ClientTurn z old new c v a → NamesTables old new
+local_names z old new c v a local sound turn P Q hole h = by (of_client old.clients c) v local refl turn
   where
     by : (o : Option TxnView) (u : Verb) → IsLocal u → of_client old.clients c ≡ o
-        → MatchOption o (LoneTurn Telling lists servers size told later old new c u a) (λ x. TxnTurn Telling lists servers size told later old new c x u a) →
+        → MatchOption o (LoneTurn z old new c u a) (λ x. TxnTurn z old new c x u a) →
         TablesBytes P Q new
     by None verb.Begin l here t = begins_bytes P Q hole old new c a sound t h
     by None verb.Try l here t = refuses_bytes P Q hole old new c NoTx a sound t h

@@ -70,6 +70,7 @@ module _ {S : Type 0} (kind : StoreKind S) (t : Span S) (old new : CoreView) (se
       jobs = ap (λ (b : BesideView). b.jobs) turn.keeps.beside;
       images = ap (λ (b : BesideView). b.images) turn.keeps.beside;
       none = ap (λ (b : BesideView). b.none) turn.keeps.beside;
+      watched = ap (λ (b : BesideView). b.watched) turn.keeps.beside;
       number = turn.prunes.number;
     }
 
@@ -113,7 +114,7 @@ module _ {S : Type 0} (kind : StoreKind S) (t : Span S) (old new : CoreView) (se
       part_same : ReadsSame old.tables.kv new.tables.kv
       part_same = record {
         on = λ m live. kept_live new.tables (does_sound kind before after old.tables new.tables n left sound turn) m
-            (kept_same old.tables new.tables part_rest.number part_rest.images m
+            (kept_same old.tables new.tables part_rest.number part_rest.images part_rest.watched m
             ∙ live_kept old.tables sound idle
             (λ r is. (subst (λ (o : Option RunView). IsBegun kind t.before old o) is begun).seen) m live);
         back = does_reads kind before after old.tables new.tables n left sound turn;
@@ -189,7 +190,7 @@ module _ {S : Type 0} (kind : StoreKind S) (t : Span S) (old new : CoreView) (se
         left = let most = had_begun.left in omega (arith, most);
         all = all_found;
         only = only_found;
-        seen = λ m here. kept_same old.tables new.tables part_rest.number part_rest.images m ∙ had_begun.seen m here;
+        seen = λ m here. kept_same old.tables new.tables part_rest.number part_rest.images part_rest.watched m ∙ had_begun.seen m here;
       })
 
       in_all : (i : InodeId) → run.left - n ≡ 0 → part_of i < 64 - (run.left - n)

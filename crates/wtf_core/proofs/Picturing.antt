@@ -1,7 +1,6 @@
 -- What a keeper holds goes on standing for one of the trees that the machine may have saved.
-use Rattle.std.proofs.Common.{◌≡◌, ◌≢◌, ◌≤◌, ◌^◌, ℕ, true, false, Bool, if◌then◌else◌, List, [], ◌∷◌, ◌++◌, Option, Some, None, refl, sym, ap, ◌∙◌, subst, inl}
+use Rattle.std.proofs.Common.{◌≡◌, ◌≢◌, ◌≤◌, ◌^◌, ℕ, true, List, [], ◌∷◌, ◌++◌, Some, refl, sym, ap, ◌∙◌, subst, inl}
 use Rattle.std.proofs.Common.{inr, ⊎_elim, arith}
-use Rattle.std.specs.FinMap.{get}
 use Rattle.std.specs.List.{Contains}
 use Rattle.std.specs.Option.{option_map}
 use Rattle.std.proofs.lemmas.List.Elements.{Contains-append_left, Contains-push}
@@ -11,16 +10,13 @@ use Rattle.wtf_dev.specs.Store.{StoreKind}
 use Rattle.wtf_replica.specs.Bytes.{byte_at}
 use Rattle.wtf_replica.specs.Spans.{Span}
 use Rattle.wtf_values.specs.declared.key.Key.{Key}
-use Rattle.wtf_model.specs.declared.answer.Answer.{Answer, Aborted'}
+use Rattle.wtf_model.specs.declared.answer.Answer.{Answer}
 use Rattle.wtf_model.specs.declared.answer.Answer.TheVariants as answer
 use Rattle.wtf_model.specs.declared.event.Event.{Event}
 use Rattle.wtf_model.specs.declared.event.Event.TheVariants as event
-use Rattle.wtf_model.specs.declared.event.Verb.{Verb}
-use Rattle.wtf_model.specs.declared.event.Verb.TheVariants as verb
 use Rattle.wtf_model.specs.Tree.{Tree, root_alone}
-use Rattle.wtf_model.specs.Transaction.{Transaction}
 use Rattle.wtf_model.specs.Machines.{Machine}
-use Rattle.wtf_model.specs.Steps.{after, after_client, begun, tried, stepped, committed, aborted, is_logged, logged, with_transaction, saved}
+use Rattle.wtf_model.specs.Steps.{after, saved}
 use Rattle.wtf_model.proofs.MachineLaws.{with_job-rest, put_in_place-rest, dropped-rest, scanning-rest, scanned-rest}
 use Rattle.wtf_meta.specs.Contents.{Told}
 use Rattle.wtf_meta.specs.Maps.{Map, metadata_at}
@@ -45,65 +41,22 @@ use Rattle.wtf_clients.proofs.Images.{kept_pinned}
 use Rattle.wtf_clients.proofs.Lives.{pinned_live}
 use Rattle.wtf_core.specs.Telling.{KeepsImages}
 use Rattle.wtf_core.specs.Pictured.{IsImageOfTree, IsImageOfOne, HoldsTree}
-use Rattle.wtf_core.proofs.Going.{GoesLive, line_goes}
+use Rattle.wtf_core.proofs.Moves.{GoesLive, goes_live, line_moves}
 use Rattle.wtf_core.proofs.Holding.{KeeperLaws, handed_one}
+use Rattle.wtf_core.proofs.Stamped.{event_stamped}
 use Rattle.wtf_core.proofs.Taking.{same_rows}
 use Rattle.wtf_clients.proofs.Later.{Stands-later}
 
 -- ---- only a save changes the trees that may be saved
-begun_may : (m : Machine) (c : ℕ) (a : Answer) → (begun m c a).may_be_saved ≡ m.may_be_saved
-begun_may m c (answer.Begun n) = refl
-begun_may m c a = refl
-
-tried_may : (m : Machine) (c : ℕ) (t : Transaction) (a : Answer) → (tried m c t a).may_be_saved ≡ m.may_be_saved
-tried_may m c t (answer.Committed n) = refl
-tried_may m c t (answer.Retry b n) = refl
-tried_may m c t a = refl
-
-stepped_may : (m : Machine) (c : ℕ) (t : Transaction) (a : Answer) → (stepped m c t a).may_be_saved ≡ m.may_be_saved
-stepped_may m c t (answer.Replayed i) = refl
-stepped_may m c t (Aborted' i box a) = refl
-stepped_may m c t a = refl
-
-committed_may : (m : Machine) (c : ℕ) (t : Transaction) (a : Answer) → (committed m c t a).may_be_saved ≡ m.may_be_saved
-committed_may m c t (answer.Committed n) = refl
-committed_may m c t (Aborted' i box a) = refl
-committed_may m c t a = refl
-
-aborted_may : (m : Machine) (c : ℕ) (a : Answer) → (aborted m c a).may_be_saved ≡ m.may_be_saved
-aborted_may m c answer.Okay = refl
-aborted_may m c a = refl
-
-called_may : (m later : Machine) (b : Bool) → later.may_be_saved ≡ m.may_be_saved → (if b then later else m).may_be_saved ≡ m.may_be_saved
-called_may m later true h = h
-called_may m later false h = refl
-
-client_may : (m : Machine) (c : ℕ) (o : Option Transaction) (v : Verb) (a : Answer) → (after_client m c o v a).may_be_saved ≡ m.may_be_saved
-client_may m c None verb.Begin a = begun_may m c a
-client_may m c (Some t) verb.Try a = tried_may m c t a
-client_may m c (Some t) verb.Step a = stepped_may m c t a
-client_may m c (Some t) verb.Commit a = committed_may m c t a
-client_may m c (Some t) verb.Abort a = aborted_may m c a
-client_may m c (Some t) (verb.Call o) a = called_may m (with_transaction m c (logged t o a)) (is_logged a) refl
-client_may m c o v a = refl
-
-down_may : (m : Machine) (k : ℕ) (a : Answer) → (after m (event.Down k) a).may_be_saved ≡ m.may_be_saved
-down_may m k answer.Okay = refl
-down_may m k a = refl
-
-up_may : (m : Machine) (k : ℕ) (a : Answer) → (after m (event.Up k) a).may_be_saved ≡ m.may_be_saved
-up_may m k answer.Okay = refl
-up_may m k a = refl
-
 event_may : (m : Machine) (e : Event) (a : Answer) → e ≢ event.Save → (after m e a).may_be_saved ≡ m.may_be_saved
-event_may m (event.Client c v) a ne = client_may m c (get m.transactions c) v a
+event_may m (event.Client c v) a ne = (event_stamped m (event.Client c v) a tt tt).may ne
 event_may m (event.Plan j kind p r) a ne = ap (λ (x : Machine). x.may_be_saved) (with_job-rest m j kind p r a)
 event_may m (event.Put j) a ne = ap (λ (x : Machine). x.may_be_saved) (put_in_place-rest m j a)
 event_may m (event.DropJob j) a ne = ap (λ (x : Machine). x.may_be_saved) (dropped-rest m j a)
 event_may m event.Scan a ne = ap (λ (x : Machine). x.may_be_saved) (scanning-rest m a)
 event_may m (event.Piece k) a ne = ap (λ (x : Machine). x.may_be_saved) (scanned-rest m a)
-event_may m (event.Down k) a ne = down_may m k a
-event_may m (event.Up k) a ne = up_may m k a
+event_may m (event.Down k) a ne = (event_stamped m (event.Down k) a tt tt).may ne
+event_may m (event.Up k) a ne = (event_stamped m (event.Up k) a tt tt).may ne
 event_may m event.Save a ne = absurd (ne refl)
 event_may m e a ne = refl
 
@@ -242,7 +195,8 @@ module _ {S : Type 0} (kind : StoreKind S) (span : Span S) (k : KeeperSpan) (law
   other_tree : (e : Event) → e ≢ event.Save → LineTurn kind span old new e a → k.untouched → HoldsKept k.before old.settings old.tables
       → HoldsTree k.before (byte_at kind span.before) m.may_be_saved → HoldsTree k.after (byte_at kind span.after) (after m e a).may_be_saved
   other_tree e ne turn untouched kept held =
-      kept_tree kind span old new m sound st keeps (line_goes kind span old new sound a e ne turn) k laws m.may_be_saved (after m e a).may_be_saved
+      kept_tree kind span old new m sound st keeps (goes_live old.tables new.tables e a (line_moves kind span old new sound a e turn) ne)
+      k laws m.may_be_saved (after m e a).may_be_saved
       (λ t there. subst (λ l. Contains l t) (sym (event_may m e a ne)) there) untouched kept held
 
   pub line_tree : (e : Event) → (((j : ℕ) → e ≢ event.Collect j) → TellsOn (byte_at kind span.before) (byte_at kind span.after))

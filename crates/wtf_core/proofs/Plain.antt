@@ -35,13 +35,13 @@ use Rattle.wtf_meta.specs.Sessions.{Holds}
 use Rattle.wtf_meta.specs.Calls.{Caller, cap_for}
 use Rattle.wtf_meta.specs.Trees.{Stands}
 use Rattle.wtf_meta.proofs.Telling.{TellsOn}
-use Rattle.wtf_region.specs.Cached.{TrueBut}
 use Rattle.wtf_replay.specs.Views.{TxnView, begun, is_live}
 use Rattle.wtf_replay.specs.Refusals.{call_refusal}
 use Rattle.wtf_replay.specs.Fits.{IsFit}
 use Rattle.wtf_replay.specs.Sounds.{IsSound, caller_at}
 use Rattle.wtf_replay.proofs.Deviating.{at_base}
 use Rattle.wtf_clients.specs.Views.{TablesView, of_client, metadata_now}
+use Rattle.wtf_clients.specs.Seeing.{Seeing}
 use Rattle.wtf_clients.specs.Sounds.{owned, IsOpen, AreSound}
 use Rattle.wtf_clients.specs.Touched.{SinceBase}
 use Rattle.wtf_clients.specs.Standing.{StandsForTxn, StandsForSlot, TablesStand}
@@ -49,20 +49,15 @@ use Rattle.wtf_clients.specs.Turns.{AreTrue, Refuses, Begins, Calls, CallFails, 
 use Rattle.wtf_clients.proofs.Lists.{sets_same}
 use Rattle.wtf_clients.proofs.Pins.{one_some}
 use Rattle.wtf_clients.proofs.SinceLaws.{since_none}
-use Rattle.wtf_clients.proofs.Frames.{Turned, sound_turned, stands_kept}
+use Rattle.wtf_clients.proofs.Frames.{Turned, stands_kept}
 use Rattle.wtf_clients.proofs.Images.{before_none}
 use Rattle.wtf_clients.proofs.Later.{Stands-later}
-use Rattle.wtf_clients.proofs.Staying.{IsFault, fault_is, keeps_stays, stays_sound, stays_stand}
+use Rattle.wtf_clients.proofs.Staying.{IsFault, fault_is, keeps_stays, stays_stand}
 use Rattle.wtf_core.proofs.Machines.{cap_is}
-use Rattle.wtf_core.proofs.Ending.{txn_in, done_all, ends_sound, leaves_stand, goes_stand}
-use Rattle.wtf_clients.proofs.Staying.{goes_sound}
+use Rattle.wtf_core.proofs.Ending.{txn_in, done_all, leaves_stand, goes_stand}
 
 -- ---- a line that is refused
 module _ (old new : TablesView) (c : ℕ) (w : Word) (a : Answer) (sound : AreSound old) (refuses : Refuses old new c w a) where
-  -- the tables stay sound
-  pub refuses_sound : AreSound new
-  refuses_sound = stays_sound old new c sound (keeps_stays old new c refuses.keeps)
-
   -- and they stand for the machine as it was
   pub refuses_stand : (size : ℕ) (told later : Told) (m : Machine) → TablesStand size told old m → TellsOn told later → TablesStand size later new m
   refuses_stand size told later m st on = stays_stand old new c sound (keeps_stays old new c refuses.keeps) size told later m st on
@@ -101,10 +96,6 @@ module _ (old new : TablesView) (c : ℕ) (a : Answer) (sound : AreSound old) (n
         });
         whose = λ z is. inl (ap (λ (v : TxnView). v.tx) (sym (one_some (Some x) x z refl is)));
       }
-
-  -- the tables stay sound
-  pub begins_sound : AreSound new
-  begins_sound = sound_turned old new c (Some (begun old.next_tx old.kv.number)) sound begins_turned
 
   -- the machine may answer so, and they stand for it with a transaction that begins on the tree now
   pub begins_stand : (size : ℕ) (told later : Told) (m : Machine) → TablesStand size told old m → TellsOn told later
@@ -177,43 +168,37 @@ all_answers size kv told x ops tree sound fit live stands =
 called_is : (m : Machine) (c : ℕ) (t : Transaction) (o : Op (List ℕ)) (a : Answer) → IsLogged a → called m c t o a ≡ with_transaction m c (logged t o a)
 called_is m c t o a h = ap (λ b. if b then with_transaction m c (logged t o a) else m) (is_true_of (is_logged a) h)
 
-module _ (Telling : Type 0) (lists : TrueBut) (servers size : ℕ) (told later : Told) (old new : TablesView) (c : ℕ) (x : TxnView) (o : Op (List ℕ))
+module _ (z : Seeing) (old new : TablesView) (c : ℕ) (x : TxnView) (o : Op (List ℕ))
     (a : Answer)
-    (sound : AreSound old) (here : of_client old.clients c ≡ Some x) (calls : Calls Telling lists servers size told later old new c x o a) where
-  -- the tables stay sound
-  pub calls_sound : AreSound new
-  calls_sound =
-      let is = calls.called.logged in
-      goes_sound old new c x calls.later_one sound here calls.keeps is.tx is.grows.base is.ended calls.fit
-
+    (sound : AreSound old) (here : of_client old.clients c ≡ Some x) (calls : Calls z old new c x o a) where
   -- the answer is due to the machine's transaction, which logs it too
-  pub calls_stand : (m : Machine) (t : Transaction) → m.settings.region ≡ size → TablesStand size told old m → TellsOn told later
+  pub calls_stand : (m : Machine) (t : Transaction) → m.settings.region ≡ z.size → TablesStand z.size z.told old m → TellsOn z.told z.later
       → get m.transactions c ≡ Some t → call_refusal x ≡ None
-      → Telling × AreTrue size told lists old → MayCall m t o a × TablesStand size later new (called m c t o a)
+      → z.telling × AreTrue z.size z.told z.lists old → MayCall m t o a × TablesStand z.size z.later new (called m c t o a)
   calls_stand m t region st on there asked telling =
       let y : TxnView = calls.later_one in
       let is = calls.called.logged in
-      let txn = txn_in size told old m c x t st here there in
+      let txn = txn_in z.size z.told old m c x t st here there in
       let fit : IsFit old.kv x = (sound.each c x here).fit in
       let live = call_live x asked in
-      let calls_are : IsSound size old.kv later y (t.ops ++ o ∷ []) = calls.sound (telling.0, telling.1, txn.tree.bytes) t.ops txn.sound in
+      let calls_are : IsSound z.size old.kv z.later y (t.ops ++ o ∷ []) = calls.sound (telling.0, telling.1, txn.tree.bytes) t.ops txn.sound in
       let log : y.log ≡ with_call x.log calls.called.kept a = is.log in
       let shown : y.log.shown ≡ x.log.shown ++ a ∷ [] = ap (λ l. l.shown) log in
       let live2 : y.replayed ≡ length y.log.ops = is.replayed ∙ ap (λ n. n + 1) live ∙ sym (length_push x.log.ops calls.called.kept)
       ∙ ap (λ l. length l.ops) (sym log) in
-      let cap : cap_of m ≡ MAX_REGIONS * size = cap_is m size region in
-      let tree : Stands size later y.tx 0 (metadata_at old.kv y.at.base) t.tree =
-      subst (λ n. Stands size later n 0 (metadata_at old.kv y.at.base) t.tree) (sym is.tx)
-      (subst (λ b. Stands size later x.tx 0 (metadata_at old.kv b) t.tree) (sym is.grows.base)
-      (Stands-later told later on size x.tx 0 (metadata_at old.kv x.at.base) t.tree txn.tree)) in
-      let before : answers_of (MAX_REGIONS * size) t.tree t.ops ≡ x.log.shown = all_answers size old.kv told x t.ops t.tree txn.sound fit live txn.tree in
-      let all : answers_of (MAX_REGIONS * size) t.tree (t.ops ++ o ∷ []) ≡ x.log.shown ++ a ∷ [] = all_answers size old.kv later y
+      let cap : cap_of m ≡ MAX_REGIONS * z.size = cap_is m z.size region in
+      let tree : Stands z.size z.later y.tx 0 (metadata_at old.kv y.at.base) t.tree =
+      subst (λ n. Stands z.size z.later n 0 (metadata_at old.kv y.at.base) t.tree) (sym is.tx)
+      (subst (λ b. Stands z.size z.later x.tx 0 (metadata_at old.kv b) t.tree) (sym is.grows.base)
+      (Stands-later z.told z.later on z.size x.tx 0 (metadata_at old.kv x.at.base) t.tree txn.tree)) in
+      let before : answers_of (MAX_REGIONS * z.size) t.tree t.ops ≡ x.log.shown = all_answers z.size old.kv z.told x t.ops t.tree txn.sound fit live txn.tree in
+      let all : answers_of (MAX_REGIONS * z.size) t.tree (t.ops ++ o ∷ []) ≡ x.log.shown ++ a ∷ [] = all_answers z.size old.kv z.later y
       (t.ops ++ o ∷ []) t.tree calls_are calls.fit live2 tree ∙ shown in
       let is_due : a ≡ due m t o = subst (λ k. a ≡ (call k (session_after k t.tree t.ops) o).answer) (sym cap)
-      (last_answer (MAX_REGIONS * size) t.tree t.ops x.log.shown o a before all) in (
+      (last_answer (MAX_REGIONS * z.size) t.tree t.ops x.log.shown o a before all) in (
         inl is_due,
-        subst (λ u. TablesStand size later new u) (sym (called_is m c t o a is.answer))
-            (goes_stand old new c x y sound here calls.keeps is.tx is.grows.base is.ended calls.fit size told later m t (logged t o a) st on there
+        subst (λ u. TablesStand z.size z.later new u) (sym (called_is m c t o a is.answer))
+            (goes_stand old new c x y sound here calls.keeps is.tx is.grows.base is.ended calls.fit z.size z.told z.later m t (logged t o a) st on there
             calls_are refl refl refl
             (ap (λ l. l ++ a ∷ []) txn.shown ∙ sym shown) (ap (λ n. n + 1) txn.replayed ∙ sym is.replayed)),
       )
@@ -240,31 +225,27 @@ module _ (size : ℕ) (kv : Store Key Value) (told : Told) (x : TxnView) (t : Tr
       (may (caller_at size x.tx (length (take x.replayed t.ops))) told
       (session_after (MAX_REGIONS * size) t.tree (take x.replayed t.ops)) refl ran.stands ran.holds)
 
-module _ (Telling : Type 0) (lists : TrueBut) (servers size : ℕ) (told later : Told) (old new : TablesView) (c : ℕ) (x : TxnView) (o : Op (List ℕ))
+module _ (z : Seeing) (old new : TablesView) (c : ℕ) (x : TxnView) (o : Op (List ℕ))
     (a : Answer)
-    (sound : AreSound old) (here : of_client old.clients c ≡ Some x) (fails : CallFails Telling lists servers size told later old new c x o a) where
+    (sound : AreSound old) (here : of_client old.clients c ≡ Some x) (fails : CallFails z old new c x o a) where
   -- a call that failed: the machine may answer so, and is then as it was
-  pub fails_stand : (m : Machine) (t : Transaction) → m.settings.region ≡ size → m.settings.servers ≡ servers → TablesStand size told old m
-      → TellsOn told later → get m.transactions c ≡ Some t → call_refusal x ≡ None
-      → MayCall m t o a × TablesStand size later new (called m c t o a)
+  pub fails_stand : (m : Machine) (t : Transaction) → m.settings.region ≡ z.size → m.settings.servers ≡ z.servers → TablesStand z.size z.told old m
+      → TellsOn z.told z.later → get m.transactions c ≡ Some t → call_refusal x ≡ None
+      → MayCall m t o a × TablesStand z.size z.later new (called m c t o a)
   fails_stand m t region count st on there asked =
-      let txn = txn_in size told old m c x t st here there in
-      let cap : cap_of m ≡ MAX_REGIONS * size = cap_is m size region in
-      let may = next_may size old.kv told x t txn.sound (call_live x asked) txn.tree servers o a fails.may in
+      let txn = txn_in z.size z.told old m c x t st here there in
+      let cap : cap_of m ≡ MAX_REGIONS * z.size = cap_is m z.size region in
+      let may = next_may z.size old.kv z.told x t txn.sound (call_live x asked) txn.tree z.servers o a fails.may in
       let same : called m c t o a ≡ m = ap (λ b. if b then with_transaction m c (logged t o a) else m)
       (fault_unlogged a (fault_is fails.fails.why a fails.fails.answer)) in (
         inr (subst (λ k. MayFail m.settings.servers o (call k (session_after k t.tree t.ops) o).answer a) (sym cap)
-            (subst (λ n. MayFail n o (call (MAX_REGIONS * size) (session_after (MAX_REGIONS * size) t.tree t.ops) o).answer a) (sym count) may)),
-        subst (λ u. TablesStand size later new u) (sym same) (stays_stand old new c sound fails.fails.stays size told later m st on),
+            (subst (λ n. MayFail n o (call (MAX_REGIONS * z.size) (session_after (MAX_REGIONS * z.size) t.tree t.ops) o).answer a) (sym count) may)),
+        subst (λ u. TablesStand z.size z.later new u) (sym same) (stays_stand old new c sound fails.fails.stays z.size z.told z.later m st on),
       )
 
 -- ---- an abort
 module _ (old new : TablesView) (c : ℕ) (x : TxnView) (a : Answer) (sound : AreSound old) (here : of_client old.clients c ≡ Some x)
     (aborts : (a ≡ answer.Okay) × Ends old new old.kv c x) where
-  -- the tables stay sound
-  pub aborts_sound : AreSound new
-  aborts_sound = ends_sound old new old.kv c x sound here (omega arith) aborts.1
-
   -- and the machine ends the transaction too
   pub aborts_stand : (size : ℕ) (told later : Told) (m : Machine) (t : Transaction) → TablesStand size told old m → TellsOn told later
       → MayAsk m (Some t) verb.Abort a × TablesStand size later new (aborted m c a)

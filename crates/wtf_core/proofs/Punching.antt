@@ -1,5 +1,5 @@
 -- What a line punches: a collection alone, and only garbage.
-use Rattle.std.proofs.Common.{◌≡◌, ◌≢◌, ◌≤◌, ℕ, Bool, true, false, List, [], ◌++◌, length, IfOk, OnErr, Result, Ok, Err, refl, sym, ◌∙◌, ap, subst, arith}
+use Rattle.std.proofs.Common.{◌≡◌, ◌≢◌, ◌≤◌, ℕ, Bool, true, false, List, [], ◌++◌, length, refl, sym, ◌∙◌, ap, subst, arith}
 use Rattle.std.specs.Prelude.{◌||◌, ⊤}
 use Rattle.std.proofs.lemmas.Bool.{true≢false}
 use Rattle.wtf_base.specs.Places.{Place}
@@ -29,9 +29,7 @@ use Rattle.wtf_core.specs.Remembering.{KeepsLists, KeepsPunched}
 use Rattle.wtf_core.specs.Turns.{LineTurn}
 use Rattle.wtf_core.specs.Views.{CoreView}
 use Rattle.wtf_clients.specs.Sounds.{AreSound}
-use Rattle.wtf_clients.proofs.Making.{if_ok}
-use Rattle.wtf_core.proofs.Answering.{line_uncollected}
-use Rattle.wtf_core.proofs.Marked.{line_freed}
+use Rattle.wtf_core.proofs.Moves.{line_moves}
 use Rattle.wtf_core.proofs.Remembering.{goes_keeps}
 
 or_none : (b : Bool) → (b || false) ≡ b
@@ -135,25 +133,14 @@ pub none_keeps : {S : Type 0} (kind : StoreKind S) (t : Span S) (old new : CoreV
     → KeepsPunched kind t.before t.after old new e a
 none_keeps kind t old new sound e a turn plain follows lists =
     let other = uncollecting e plain in
+    let moves = line_moves kind t old new sound a e turn in
     record {
       punches = record {
         ranges = [];
-        are = unpunched_by old.tables.beside.gc e a other (line_uncollected kind t old new a e other turn);
-        counts = counts_same old.tables.beside.gc new.tables.beside.gc a (line_freed kind t old new sound a e other turn);
+        are = unpunched_by old.tables.beside.gc e a other (moves.answer other);
+        counts = counts_same old.tables.beside.gc new.tables.beside.gc a (moves.freed other);
         follows = follows;
       };
-      freed = freed_none kind (is_down old.replicas) t.before t.after old.tables.beside.gc new.tables.beside.gc (line_freed kind t old new sound a e other turn);
+      freed = freed_none kind (is_down old.replicas) t.before t.after old.tables.beside.gc new.tables.beside.gc (moves.freed other);
       lists = lists;
     }
-
-pub if_keeps : {S : Type 0} (kind : StoreKind S) (t : Span S) (old new : CoreView) → AreSound old.tables → (e : Event) {E : Type 0} (r : Result Answer E)
-    → IfOk r (LineTurn kind t old new e) → IsUncollecting e → EachFollows kind t.before t.after [] → KeepsLists kind t.before t.after [] old new
-    → IfOk r (KeepsPunched kind t.before t.after old new e)
-if_keeps kind t old new sound e r turn plain follows lists =
-    if_ok r (LineTurn kind t old new e) (KeepsPunched kind t.before t.after old new e) turn
-    (λ a did. none_keeps kind t old new sound e a did plain follows lists)
-
--- what holds whatever came of a line
-pub on_err : {A E : Type 0} (r : Result A E) (P : Type 0) → P → OnErr r P
-on_err (Ok a) P h = tt
-on_err (Err why) P h = h

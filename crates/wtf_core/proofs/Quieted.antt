@@ -70,11 +70,14 @@ module _ {S : Type 0} (kind : StoreKind S) (shelf : List S) (answered : CoreView
   jobs_same : tables.beside.jobs ≡ answered.tables.beside.jobs
   jobs_same = ap (λ (b : BesideView). b.jobs) tidy.beside
 
+  watched_same : tables.beside.watched ≡ answered.tables.beside.watched
+  watched_same = ap (λ (b : BesideView). b.watched) tidy.beside
+
   idle_tidied : AreIdle answered.tables → AreIdle tables
   idle_tidied = idle_on answered.tables tables tidy.clients jobs_same
 
   rests_tidied : IsAtRest answered.tables → IsAtRest tables
-  rests_tidied = rests_on answered.tables tables tidy.clients jobs_same images_same (ap (λ (b : BesideView). b.none) tidy.beside) tidy.number
+  rests_tidied = rests_on answered.tables tables tidy.clients jobs_same images_same (ap (λ (b : BesideView). b.none) tidy.beside) watched_same tidy.number
 
   reads : ReadsSame answered.tables.kv tables.kv
   reads = reads_same answered.tables.kv tables.kv tidy.number tidy.pins tidy.maps
@@ -83,7 +86,7 @@ module _ {S : Type 0} (kind : StoreKind S) (shelf : List S) (answered : CoreView
   bases n live i r v s there base = refl
 
   scans_tidied : (s : Stage) → HasScans kind shelf answered s → HasScans kind shelf tidied s
-  scans_tidied = stage_later kind shelf shelf answered tidied refl (λ k f. refl) reads bases tidy.number images_same
+  scans_tidied = stage_later kind shelf shelf answered tidied refl (λ k f. refl) reads bases tidy.number images_same watched_same
       (ap (λ (b : BesideView). b.gc.running) tidy.beside) (ap (λ (b : BesideView). b.gc.older) tidy.beside) (ap (λ (b : BesideView). b.gc.newer) tidy.beside)
 
   pub tidied_idle : (s : Stage) → IsIdleAt kind shelf answered s → IsIdleAt kind shelf tidied s

@@ -74,7 +74,7 @@ use Rattle.wtf_clients.proofs.SafeLaws.{garbage_unnamed}
 use Rattle.wtf_clients.proofs.ScanFrames.{start_maps, start_reads, start_sound}
 use Rattle.wtf_core.specs.Promises.{LeavesNamed, scene}
 use Rattle.wtf_core.specs.Punched.{Punches}
-use Rattle.wtf_core.specs.Quiet.{MapNames, ImageNames, IsIdle, AreIdle, is_kept}
+use Rattle.wtf_core.specs.Quiet.{MapNames, ImageNames, IsIdle, AreIdle, is_kept, WatchesNoOther}
 use Rattle.wtf_core.specs.Quiet.{Stage, Saved, Scans, Scanned, ScansAgain, ScannedTwice, stage_begun, stage_done, next_stage}
 use Rattle.wtf_core.specs.Quiet.{IsScanned, IsBegun, HasScans, IsAtStage, HasCollected}
 use Rattle.wtf_core.specs.Standing.{StandsFor}
@@ -131,6 +131,7 @@ module _ {S : Type 0} (kind : StoreKind S) (t : Span S) (old new : CoreView) (se
       jobs = ap (λ (b : BesideView). b.jobs) turn.beside;
       images = ap (λ (b : BesideView). b.images) turn.beside;
       none = ap (λ (b : BesideView). b.none) turn.beside;
+      watched = ap (λ (b : BesideView). b.watched) turn.beside;
       number = turn.starts.pins.number;
     }
 
@@ -140,7 +141,7 @@ module _ {S : Type 0} (kind : StoreKind S) (t : Span S) (old new : CoreView) (se
 
     module _ (idle : AreIdle old.tables) where
       was_kept : (n : ℕ) → IsTrue (is_live old.tables.kv n) → is_kept new.tables n ≡ true
-      was_kept n live = kept_same old.tables new.tables start_rest.number start_rest.images n
+      was_kept n live = kept_same old.tables new.tables start_rest.number start_rest.images start_rest.watched n
           ∙ live_kept old.tables sound idle (λ r is. absurd (none_some old.tables.beside.gc.running r turn.free is)) n live
 
       start_same : ReadsSame old.tables.kv new.tables.kv
@@ -314,6 +315,7 @@ module _ {S : Type 0} {kind : StoreKind S} (laws : KindLaws kind) (t : Span S) (
         jobs = ap (λ (b : BesideView). b.jobs) p.beside;
         images = ap (λ (b : BesideView). b.images) p.beside;
         none = ap (λ (b : BesideView). b.none) p.beside;
+        watched = ap (λ (b : BesideView). b.watched) p.beside;
         number = p.kv.number;
       })
       (record {
@@ -407,10 +409,10 @@ no_job size told kv None y h none = refl
 no_job size told kv (Some x) None h none = absurd h
 no_job size told kv (Some x) (Some y) h none = absurd (cc)
 
--- one of a machine of which nothing is open begins a quiet ending
+-- one of a machine of which nothing is open begins a quiet ending, where no other number is watched
 pub rests_saved : {S : Type 0} (kind : StoreKind S) (t : Span S) (told : Told) (old new : CoreView) (m : Machine) (n : ℕ) → StandsFor told old m → IsIdle m
-    → LineTurn kind t old new event.Save (answer.Saved n) → IsAtStage kind t.after new Saved
-rests_saved kind t told old new m n stands idle turn =
+    → WatchesNoOther old.tables → LineTurn kind t old new event.Save (answer.Saved n) → IsAtStage kind t.after new Saved
+rests_saved kind t told old new m n stands idle unwatched turn =
     let saves = turn.0.2 in
     let size : ℕ = old.settings.region in
     record {
@@ -423,6 +425,7 @@ rests_saved kind t told old new m n stands idle turn =
         };
         image = ap (λ (b : BesideView). b.images) saves.beside ∙ ap (λ (k : ℕ). k ∷ []) (turn.0.0 ∙ sym saves.number);
         some = ap (λ (b : BesideView). b.none) saves.beside;
+        watched = λ k is. unwatched k (sym (ap (λ (b : BesideView). b.watched) saves.beside) ∙ is) ∙ sym saves.number;
       };
       scans = tt;
     }

@@ -1,10 +1,9 @@
 -- A save keeps the tables sound, and what they stand for.
-use Rattle.std.proofs.Common.{◌≡◌, ◌≤◌, ℕ, ◌+◌, true, cond, nat_eq, List, [], ◌∷◌, ◌++◌, Some, refl, sym, ap, ◌∙◌, subst, ◌⊎◌, inl, inr, ⊎_elim, true≢false}
+use Rattle.std.proofs.Common.{◌≡◌, ◌≤◌, ℕ, true, List, [], ◌∷◌, ◌++◌, refl, sym, ap, ◌∙◌, subst, ◌⊎◌, inl, inr, ⊎_elim, true≢false}
 use Rattle.std.proofs.Common.{arith}
 use Rattle.std.specs.FinMap.{get}
 use Rattle.std.specs.List.{Contains}
 use Rattle.std.proofs.lemmas.List.Elements.{Contains-append_left, Contains-push, Contains-push_cases}
-use Rattle.wtf_kv.specs.Stores.{times_pinned}
 use Rattle.wtf_model.specs.declared.answer.Answer.{Answer}
 use Rattle.wtf_model.specs.declared.answer.Answer.TheVariants as answer
 use Rattle.wtf_model.specs.Tree.{Tree, root_alone}
@@ -14,54 +13,19 @@ use Rattle.wtf_meta.specs.Contents.{Told}
 use Rattle.wtf_meta.specs.Maps.{metadata_at}
 use Rattle.wtf_meta.specs.Trees.{Stands}
 use Rattle.wtf_meta.proofs.Telling.{TellsOn}
-use Rattle.wtf_replay.specs.Views.{TxnView}
 use Rattle.wtf_clients.specs.Views.{BesideView, TablesView, of_client, of_label, metadata_now}
-use Rattle.wtf_clients.specs.Sounds.{all_owned, all_kept, AreSound}
+use Rattle.wtf_clients.specs.Sounds.{AreSound}
 use Rattle.wtf_clients.specs.Standing.{IsImageTree, StandsForSlot, StandsForLabel, TablesStand}
 use Rattle.wtf_clients.specs.Saves.{with_image, only_image, Saves, SaveTurn}
-use Rattle.wtf_clients.proofs.Pins.{base_pinned}
 use Rattle.wtf_clients.proofs.SinceLaws.{since_kept, touched_kept}
 use Rattle.wtf_clients.proofs.JobPins.{job_upto}
-use Rattle.wtf_clients.proofs.Frames.{open_on, txn_on, untouched_same, slot_on, untouched_job, job_on, label_on}
+use Rattle.wtf_clients.proofs.Frames.{txn_on, untouched_same, slot_on, untouched_job, job_on, label_on}
 use Rattle.wtf_clients.proofs.Images.{none_in, before_same, image_on}
 use Rattle.wtf_clients.proofs.Later.{Stands-later}
-use Rattle.wtf_clients.proofs.Lives.{upto_on, saved_reaches, same_kept, added_kept, only_kept}
 
 module _ (old new : TablesView) (now : BesideView) (sound : AreSound old) (saves : Saves old new now) where
-  saves_up : old.kv.number ≤ new.kv.number
-  saves_up = let number = saves.number in omega (arith, number)
-
   saves_more : old.next_tx ≤ new.next_tx
   saves_more = let next = saves.next_tx in omega (arith, next)
-
-  saves_was : (c : ℕ) (x : TxnView) → of_client new.clients c ≡ Some x → of_client old.clients c ≡ Some x
-  saves_was c x there = ap (λ l. of_client l c) (sym saves.clients) ∙ there
-
-  saves_pins : (n : ℕ) → times_pinned new.kv n ≡ all_owned n new.clients + all_kept n new.beside
-  saves_pins n =
-      let moved = saves.pins n in
-      let was = sound.pins n in
-      let owned : all_owned n new.clients ≡ all_owned n old.clients = ap (all_owned n) saves.clients in
-      let kept : all_kept n new.beside ≡ all_kept n now = ap (all_kept n) saves.beside in
-      omega (arith, moved, was, owned, kept)
-
-  -- the tables stay sound, where no image is of an install to come, and none but that of the number is pinned once more
-  pub saves_sound : ((n : ℕ) → Contains now.images n → n ≤ old.kv.number)
-      → ((n : ℕ) → all_kept n now ≤ all_kept n old.beside + cond (nat_eq n old.kv.number) 1 0) → AreSound new
-  saves_sound upto most = record {
-    begun = let was = sound.begun in let next = saves.next_tx in omega (arith, was, next);
-    each = λ c x there.
-        let was : of_client old.clients c ≡ Some x = saves_was c x there in
-        open_on old.kv new.kv old.next_tx new.next_tx x (sound.each c x was) saves_up saves.maps saves_more
-        (base_pinned new.kv new.clients new.beside c x saves_pins there);
-    pins = saves_pins;
-    upto = upto_on old new sound (saved_reaches old new now most saves) saves_up;
-    kept = λ n there.
-        let le = upto n (subst (λ (s : BesideView). Contains s.images n) saves.beside there) in
-        let number = saves.number in
-        omega (arith, le, number);
-    apart = λ c d x y here there same. sound.apart c d x y (saves_was c x here) (saves_was d y there) same;
-  }
 
   saves_now : metadata_now new.kv ≡ metadata_now old.kv
   saves_now = ap (metadata_at new.kv) saves.number ∙ saves.maps old.kv.number (omega arith)
@@ -124,15 +88,6 @@ only_cases : (s : BesideView) (k n : ℕ) → Contains (only_image s k).images n
 only_cases s k n there = ⊎_elim (λ never. absurd (none_in n never)) (λ same. same) (Contains-push_cases [] k n there)
 
 module _ (Up : Type 0) (old new : TablesView) (sound : AreSound old) where
-  -- the tables stay sound
-  pub save_sound : (a : Answer) → SaveTurn Up old new a → AreSound new
-  save_sound (answer.Saved n) (is, up, saves) = saves_sound old new (only_image old.beside n) sound saves
-      (λ k there. let same = only_cases old.beside n k there in omega (arith, same, is)) (λ k. only_kept old n k is)
-  save_sound answer.FaultSave (inl saves) = saves_sound old new old.beside sound saves sound.kept (same_kept old)
-  save_sound answer.FaultSave (inr saves) = saves_sound old new (with_image old.beside old.kv.number) sound saves
-      (λ k there. ⊎_elim (λ was. sound.kept k was) (λ same. omega (arith, same)) (added_cases old.beside old.kv.number k there)) (added_kept old)
-  save_sound a turn = absurd turn
-
   -- and they stand for the machine that has saved
   pub save_stands : (size : ℕ) (told later : Told) (m : Machine) (a : Answer) → TablesStand size told old m → TellsOn told later → SaveTurn Up old new a
       → TablesStand size later new (saved m a)

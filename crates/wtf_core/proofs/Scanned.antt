@@ -1,5 +1,5 @@
 -- Lines of scans and collections keep the tables sound, and a scan names nothing new.
-use Rattle.std.proofs.Common.{◌≡◌, ◌∙◌, ℕ, List, [], Result, Ok, Err, IfOk, OnErr, sym, ap, subst}
+use Rattle.std.proofs.Common.{◌≡◌, ◌∙◌, ℕ, List, [], sym, ap, subst}
 use Rattle.wtf_base.specs.declared.settings.Settings.{Settings}
 use Rattle.wtf_dev.specs.Store.{Range, StoreKind, KindLaws}
 use Rattle.wtf_ring.specs.Points.{IsRing}
@@ -21,21 +21,13 @@ use Rattle.wtf_clients.specs.Telling.{TellsTables}
 use Rattle.wtf_clients.specs.Serves.{NamesTables, IsPlain}
 use Rattle.wtf_clients.specs.Sounds.{AreSound}
 use Rattle.wtf_clients.specs.Views.{BesideView, TablesView}
-use Rattle.wtf_clients.proofs.ScanFrames.{start_sound, start_reads, start_maps}
+use Rattle.wtf_clients.proofs.ScanFrames.{start_reads, start_maps}
 use Rattle.wtf_clients.proofs.ScanLaws.{kept_names}
 use Rattle.wtf_clients.proofs.Scanning.{later_safe, tells_after, piece_tells, piece_safe, pruned_tells, pruned_safe}
-use Rattle.wtf_clients.proofs.ScanMays.{piece_sound, collect_sound}
 use Rattle.wtf_core.specs.Turns.{IsByDevices}
 use Rattle.wtf_core.specs.Views.{CoreView}
-use Rattle.wtf_core.proofs.Whole.{sound_either}
 
 module _ {S : Type 0} (kind : StoreKind S) (shelf : List S) (old new : TablesView) (sound : AreSound old) where
-  pub scan_sound : (a : Answer) → ScanTurn kind shelf old new a → AreSound new
-  scan_sound (answer.Refused ScanBusy) h = subst AreSound (sym h.0) sound
-  scan_sound (answer.Held who) h = subst AreSound (sym h.0) sound
-  scan_sound answer.Scanning h = start_sound kind shelf old new sound h
-  scan_sound a h = absurd h
-
   pub scan_names : (a : Answer) → ScanTurn kind shelf old new a → NamesTables old new
   scan_names (answer.Refused ScanBusy) h = λ P Q hole was. subst (λ (t : TablesView). TablesBytes P Q t) (sym h.0) was
   scan_names (answer.Held who) h = λ P Q hole was. subst (λ (t : TablesView). TablesBytes P Q t) (sym h.0) was
@@ -50,21 +42,6 @@ module _ {S : Type 0} (kind : StoreKind S) (shelf : List S) (old new : TablesVie
   scan_plain answer.Scanning h = tt
   scan_plain a h = absurd h
 
--- whatever came of it
-pub sound_of_scan : {S : Type 0} (kind : StoreKind S) (shelf : List S) {E : Type 0} (r : Result Answer E) (old new : TablesView) → AreSound old
-    → IfOk r (ScanTurn kind shelf old new) → OnErr r (AreSound new) → AreSound new
-sound_of_scan kind shelf r old new sound ok err = sound_either r (ScanTurn kind shelf old new) (AreSound new) ok err (scan_sound kind shelf old new sound)
-
-pub sound_of_piece : {S : Type 0} (kind : StoreKind S) {E : Type 0} (r : Result Answer E) (before after : Dev S) (old new : TablesView) (n : ℕ)
-    → AreSound old → IfOk r (PieceTurn kind before after old new n) → OnErr r (AreSound new) → AreSound new
-sound_of_piece kind r before after old new n sound ok err =
-    sound_either r (PieceTurn kind before after old new n) (AreSound new) ok err (piece_sound kind before after old new n sound)
-
-pub sound_of_collect : {S : Type 0} (kind : StoreKind S) {E : Type 0} (r : Result Answer E) (before after : Dev S) (old new : TablesView) (k : ℕ)
-    → AreSound old → IfOk r (CollectTurn kind before after old new k) → OnErr r (new ≡ old) → AreSound new
-sound_of_collect kind (Ok a) before after old new k sound turn err = collect_sound kind before after old new k sound a turn
-sound_of_collect kind (Err why) before after old new k sound turn err = subst AreSound (sym err) sound
-
 -- devices that were lent
 pub by_devices : {S : Type 0} (kind : StoreKind S) (before after : Dev S) (old new : CoreView) (P : Dev S → Dev S → Type 0) → before.settings ≡ old.settings
     → after.settings ≡ before.settings → before.replicas.now ≡ old.replicas → IsRing old.settings.servers before.ring.now.points → IsSoundDev kind before
@@ -77,6 +54,7 @@ by_devices kind before after old new P settings same replicas ring sound was is 
     span_is = ap (λ r. span (is_down r) (stores before) (stores after)) replicas;
     settings_are = settings;
     lists_are = was;
+    left_are = is;
     ring_is = ring;
   };
   settings_after = same ∙ settings;
@@ -138,13 +116,9 @@ module _ {S : Type 0} {kind : StoreKind S} (laws : KindLaws kind) (before after 
   nowhere : after ≡ before → Goes
   nowhere stay = ([], subst (λ (dev : Dev S). GoesOn kind before dev []) (sym stay) (goes_nowhere laws before sound))
 
-  collect_goes : (a : Answer) → CollectTurn kind before after old new k a → Goes
+  pub collect_goes : (a : Answer) → CollectTurn kind before after old new k a → Goes
   collect_goes (answer.Refused NoServer) h = nowhere h.1
   collect_goes (answer.Refused NoScan) h = nowhere h.1
   collect_goes (answer.Collected n) h = (h.1.frees.ranges, h.1.frees.goes)
   collect_goes (answer.FaultPunch j) h = (_, goes_on laws h.1.frees.goes h.1.frees.last)
   collect_goes a h = absurd h
-
-  pub goes_of_collect : {E : Type 0} (r : Result Answer E) → IfOk r (CollectTurn kind before after old new k) → OnErr r (GoesOn kind before after []) → Goes
-  goes_of_collect (Ok a) turn err = collect_goes a turn
-  goes_of_collect (Err why) turn err = ([], err)

@@ -1,5 +1,6 @@
 -- What lines that begin no scan, and do no part of one, leave of the machine's scans and of the stamps of what is open.
-use Rattle.std.proofs.Common.{◌≡◌, ◌<◌, ◌≤◌, ℕ, ◌+◌, Bool, true, false, if◌then◌else◌, List, [], Option, None, Some, refl, sym, ap, ◌∙◌, subst, ⊎_elim, arith}
+use Rattle.std.proofs.Common.{◌≡◌, ◌≢◌, ◌<◌, ◌≤◌, ℕ, ◌+◌, Bool, true, false, if◌then◌else◌, List, [], Option, None, Some, refl}
+use Rattle.std.proofs.Common.{sym, ap, ◌∙◌, subst, ⊎_elim, arith}
 use Rattle.std.specs.FinMap.{FinMap, get, insert, remove}
 use Rattle.std.specs.Ordering.{nat_cmp}
 use Rattle.std.specs.Prelude.{⊤}
@@ -67,58 +68,16 @@ abbrev pub job_stamp : Job → ℕ
 job_stamp j = j.stamp
 
 -- ---- machines
-pub record Stamped (m next : Machine) : Type 0 where
+-- The settings stay, and the scans; and of what is open the stamps. Where P holds, the trees stay that may be saved.
+pub record Stamped (P : Type 0) (m next : Machine) : Type 0 where
+  pub settings : next.settings ≡ m.settings
+  pub may : P → next.may_be_saved ≡ m.may_be_saved
   pub up : m.next_stamp ≤ next.next_stamp
   pub list : next.scan_list ≡ m.scan_list
   pub parts : next.parts_left ≡ m.parts_left
   pub scans : next.scans ≡ m.scans
   pub txns : HaveStamps txn_stamp m.next_stamp next.next_stamp m.transactions next.transactions
   pub jobs : HaveStamps job_stamp m.next_stamp next.next_stamp m.jobs next.jobs
-
-same_stamped : (m : Machine) → Stamped m m
-same_stamped m = record {
-  up = omega arith;
-  list = refl;
-  parts = refl;
-  scans = refl;
-  txns = same_stamps txn_stamp m.next_stamp m.next_stamp m.transactions;
-  jobs = same_stamps job_stamp m.next_stamp m.next_stamp m.jobs;
-}
-
-set_stamped : (m : Machine) (c : ℕ) (t u : Transaction) → get m.transactions c ≡ Some t → u.stamp ≡ t.stamp → Stamped m (with_transaction m c u)
-set_stamped m c t u there same = record {
-  up = omega arith;
-  list = refl;
-  parts = refl;
-  scans = refl;
-  txns = set_stamps txn_stamp m.next_stamp m.next_stamp m.transactions c u
-      (subst (λ o. HasStamp txn_stamp m.next_stamp m.next_stamp o u.stamp) (sym there) same);
-  jobs = same_stamps job_stamp m.next_stamp m.next_stamp m.jobs;
-}
-
-ended_stamped : (m : Machine) (c : ℕ) → Stamped m (ended m c)
-ended_stamped m c = record {
-  up = omega arith;
-  list = refl;
-  parts = refl;
-  scans = refl;
-  txns = gone_stamps txn_stamp m.next_stamp m.next_stamp m.transactions c;
-  jobs = same_stamps job_stamp m.next_stamp m.next_stamp m.jobs;
-}
-
-begun_stamped : (m : Machine) (c : ℕ) (a : Answer) → get m.transactions c ≡ None → Stamped m (begun m c a)
-begun_stamped m c (answer.Begun n) none =
-    let t : Transaction = record { stamp = m.next_stamp; base = m.number; tree = m.now; ops = []; shown = []; replayed = 0; touched = [] } in
-    record {
-      up = omega arith;
-      list = refl;
-      parts = refl;
-      scans = refl;
-      txns = set_stamps txn_stamp m.next_stamp (m.next_stamp + 1) m.transactions c t
-          (subst (λ o. HasStamp txn_stamp m.next_stamp (m.next_stamp + 1) o m.next_stamp) (sym none) (refl, omega arith));
-      jobs = same_stamps job_stamp m.next_stamp (m.next_stamp + 1) m.jobs;
-    }
-begun_stamped m c a none = same_stamped m
 
 -- an install: others see what it touched, and keep their stamps
 touched_stamped : (m : Machine) (items : List Item) (ones : FinMap nat_cmp Transaction) (others : FinMap nat_cmp Job)
@@ -130,105 +89,167 @@ touched_stamped m items ones others txns jobs = (
   each_stamps job_stamp m.next_stamp m.next_stamp (touch_job items) (λ j. refl) m.jobs others jobs,
 )
 
-installed_stamped : (m : Machine) (c : ℕ) (t : Transaction) (n : ℕ) → Stamped m (installed m c t n)
-installed_stamped m c t n =
-    let both = touched_stamped m (writes_of (cap_of m) m.now t.ops) (remove m.transactions c) m.jobs
-    (gone_stamps txn_stamp m.next_stamp m.next_stamp m.transactions c) (same_stamps job_stamp m.next_stamp m.next_stamp m.jobs) in
-    record { up = omega arith; list = refl; parts = refl; scans = refl; txns = both.0; jobs = both.1 }
+module _ {P : Type 0} where
+  same_stamped : (m : Machine) → Stamped P m m
+  same_stamped m = record {
+    settings = refl;
+    may = λ p. refl;
+    up = omega arith;
+    list = refl;
+    parts = refl;
+    scans = refl;
+    txns = same_stamps txn_stamp m.next_stamp m.next_stamp m.transactions;
+    jobs = same_stamps job_stamp m.next_stamp m.next_stamp m.jobs;
+  }
 
-tried_stamped : (m : Machine) (c : ℕ) (t : Transaction) (a : Answer) → get m.transactions c ≡ Some t → Stamped m (tried m c t a)
-tried_stamped m c t (answer.Committed n) there = installed_stamped m c t n
-tried_stamped m c t (answer.Retry b n) there = set_stamped m c t _ there refl
-tried_stamped m c t a there = same_stamped m
+  set_stamped : (m : Machine) (c : ℕ) (t u : Transaction) → get m.transactions c ≡ Some t → u.stamp ≡ t.stamp → Stamped P m (with_transaction m c u)
+  set_stamped m c t u there same = record {
+    settings = refl;
+    may = λ p. refl;
+    up = omega arith;
+    list = refl;
+    parts = refl;
+    scans = refl;
+    txns = set_stamps txn_stamp m.next_stamp m.next_stamp m.transactions c u
+        (subst (λ o. HasStamp txn_stamp m.next_stamp m.next_stamp o u.stamp) (sym there) same);
+    jobs = same_stamps job_stamp m.next_stamp m.next_stamp m.jobs;
+  }
 
-stepped_stamped : (m : Machine) (c : ℕ) (t : Transaction) (a : Answer) → get m.transactions c ≡ Some t → Stamped m (stepped m c t a)
-stepped_stamped m c t (answer.Replayed i) there = set_stamped m c t (record t { replayed = i }) there refl
-stepped_stamped m c t (Aborted' i box a) there = ended_stamped m c
-stepped_stamped m c t a there = same_stamped m
+  ended_stamped : (m : Machine) (c : ℕ) → Stamped P m (ended m c)
+  ended_stamped m c = record {
+    settings = refl;
+    may = λ p. refl;
+    up = omega arith;
+    list = refl;
+    parts = refl;
+    scans = refl;
+    txns = gone_stamps txn_stamp m.next_stamp m.next_stamp m.transactions c;
+    jobs = same_stamps job_stamp m.next_stamp m.next_stamp m.jobs;
+  }
 
-committed_stamped : (m : Machine) (c : ℕ) (t : Transaction) (a : Answer) → Stamped m (committed m c t a)
-committed_stamped m c t (answer.Committed n) = installed_stamped m c t n
-committed_stamped m c t (Aborted' i box a) = ended_stamped m c
-committed_stamped m c t a = same_stamped m
+  begun_stamped : (m : Machine) (c : ℕ) (a : Answer) → get m.transactions c ≡ None → Stamped P m (begun m c a)
+  begun_stamped m c (answer.Begun n) none =
+      let t : Transaction = record { stamp = m.next_stamp; base = m.number; tree = m.now; ops = []; shown = []; replayed = 0; touched = [] } in
+      record {
+        settings = refl;
+        may = λ p. refl;
+        up = omega arith;
+        list = refl;
+        parts = refl;
+        scans = refl;
+        txns = set_stamps txn_stamp m.next_stamp (m.next_stamp + 1) m.transactions c t
+            (subst (λ o. HasStamp txn_stamp m.next_stamp (m.next_stamp + 1) o m.next_stamp) (sym none) (refl, omega arith));
+        jobs = same_stamps job_stamp m.next_stamp (m.next_stamp + 1) m.jobs;
+      }
+  begun_stamped m c a none = same_stamped m
 
-aborted_stamped : (m : Machine) (c : ℕ) (a : Answer) → Stamped m (aborted m c a)
-aborted_stamped m c answer.Okay = ended_stamped m c
-aborted_stamped m c a = same_stamped m
+  installed_stamped : (m : Machine) (c : ℕ) (t : Transaction) (n : ℕ) → Stamped P m (installed m c t n)
+  installed_stamped m c t n =
+      let both = touched_stamped m (writes_of (cap_of m) m.now t.ops) (remove m.transactions c) m.jobs
+      (gone_stamps txn_stamp m.next_stamp m.next_stamp m.transactions c) (same_stamps job_stamp m.next_stamp m.next_stamp m.jobs) in
+      record { settings = refl; may = λ p. refl; up = omega arith; list = refl; parts = refl; scans = refl; txns = both.0; jobs = both.1 }
 
-either_stamped : (m later : Machine) (b : Bool) → Stamped m later → Stamped m (if b then later else m)
-either_stamped m later true h = h
-either_stamped m later false h = same_stamped m
+  tried_stamped : (m : Machine) (c : ℕ) (t : Transaction) (a : Answer) → get m.transactions c ≡ Some t → Stamped P m (tried m c t a)
+  tried_stamped m c t (answer.Committed n) there = installed_stamped m c t n
+  tried_stamped m c t (answer.Retry b n) there = set_stamped m c t _ there refl
+  tried_stamped m c t a there = same_stamped m
 
-client_stamped : (m : Machine) (c : ℕ) (o : Option Transaction) (v : Verb) (a : Answer) → get m.transactions c ≡ o → Stamped m (after_client m c o v a)
-client_stamped m c None verb.Begin a is = begun_stamped m c a is
-client_stamped m c (Some t) verb.Try a is = tried_stamped m c t a is
-client_stamped m c (Some t) verb.Step a is = stepped_stamped m c t a is
-client_stamped m c (Some t) verb.Commit a is = committed_stamped m c t a
-client_stamped m c (Some t) verb.Abort a is = aborted_stamped m c a
-client_stamped m c (Some t) (verb.Call o) a is =
-    either_stamped m (with_transaction m c (logged t o a)) (is_logged a) (set_stamped m c t (logged t o a) is refl)
-client_stamped m c o v a is = same_stamped m
+  stepped_stamped : (m : Machine) (c : ℕ) (t : Transaction) (a : Answer) → get m.transactions c ≡ Some t → Stamped P m (stepped m c t a)
+  stepped_stamped m c t (answer.Replayed i) there = set_stamped m c t (record t { replayed = i }) there refl
+  stepped_stamped m c t (Aborted' i box a) there = ended_stamped m c
+  stepped_stamped m c t a there = same_stamped m
 
-planned_stamped : (m : Machine) (j : ℕ) (kind : JobKind) (p : List ℕ) (r : ℕ) (a : Answer) → (a ≡ answer.Planned → get m.jobs j ≡ None)
-    → Stamped m (with_job m j kind p r a)
-planned_stamped m j kind p r answer.Planned free =
-    let job : Job = record { stamp = m.next_stamp; path = p; region = r; kind = kind; base = m.number; touched = [] } in
-    record {
-      up = omega arith;
-      list = refl;
-      parts = refl;
-      scans = refl;
-      txns = same_stamps txn_stamp m.next_stamp (m.next_stamp + 1) m.transactions;
-      jobs = set_stamps job_stamp m.next_stamp (m.next_stamp + 1) m.jobs j job
-          (subst (λ o. HasStamp job_stamp m.next_stamp (m.next_stamp + 1) o m.next_stamp) (sym (free refl)) (refl, omega arith));
-    }
-planned_stamped m j kind p r a free = same_stamped m
+  committed_stamped : (m : Machine) (c : ℕ) (t : Transaction) (a : Answer) → Stamped P m (committed m c t a)
+  committed_stamped m c t (answer.Committed n) = installed_stamped m c t n
+  committed_stamped m c t (Aborted' i box a) = ended_stamped m c
+  committed_stamped m c t a = same_stamped m
 
-without_stamped : (m : Machine) (j : ℕ) → Stamped m (record m { jobs = remove m.jobs j })
-without_stamped m j = record {
-  up = omega arith;
-  list = refl;
-  parts = refl;
-  scans = refl;
-  txns = same_stamps txn_stamp m.next_stamp m.next_stamp m.transactions;
-  jobs = gone_stamps job_stamp m.next_stamp m.next_stamp m.jobs j;
-}
+  aborted_stamped : (m : Machine) (c : ℕ) (a : Answer) → Stamped P m (aborted m c a)
+  aborted_stamped m c answer.Okay = ended_stamped m c
+  aborted_stamped m c a = same_stamped m
 
-put_stamped : (m : Machine) (j : ℕ) (a : Answer) → Stamped m (put_in_place m j a)
-put_stamped m j (answer.Installed n) =
-    let both = touched_stamped m (job_changes m.now (get m.jobs j)) m.transactions (remove m.jobs j)
-    (same_stamps txn_stamp m.next_stamp m.next_stamp m.transactions) (gone_stamps job_stamp m.next_stamp m.next_stamp m.jobs j) in
-    record { up = omega arith; list = refl; parts = refl; scans = refl; txns = both.0; jobs = both.1 }
-put_stamped m j (answer.Stale b n) = without_stamped m j
-put_stamped m j a = same_stamped m
+  either_stamped : (m later : Machine) (b : Bool) → Stamped P m later → Stamped P m (if b then later else m)
+  either_stamped m later true h = h
+  either_stamped m later false h = same_stamped m
 
-dropped_stamped : (m : Machine) (j : ℕ) (a : Answer) → Stamped m (dropped m j a)
-dropped_stamped m j answer.Okay = without_stamped m j
-dropped_stamped m j a = same_stamped m
+  client_stamped : (m : Machine) (c : ℕ) (o : Option Transaction) (v : Verb) (a : Answer) → get m.transactions c ≡ o → Stamped P m (after_client m c o v a)
+  client_stamped m c None verb.Begin a is = begun_stamped m c a is
+  client_stamped m c (Some t) verb.Try a is = tried_stamped m c t a is
+  client_stamped m c (Some t) verb.Step a is = stepped_stamped m c t a is
+  client_stamped m c (Some t) verb.Commit a is = committed_stamped m c t a
+  client_stamped m c (Some t) verb.Abort a is = aborted_stamped m c a
+  client_stamped m c (Some t) (verb.Call o) a is =
+      either_stamped m (with_transaction m c (logged t o a)) (is_logged a) (set_stamped m c t (logged t o a) is refl)
+  client_stamped m c o v a is = same_stamped m
 
--- a machine that differs in its servers, or in what may be saved
-beside_stamped : (m next : Machine) → next.next_stamp ≡ m.next_stamp → next.transactions ≡ m.transactions → next.jobs ≡ m.jobs
-    → next.scan_list ≡ m.scan_list → next.parts_left ≡ m.parts_left → next.scans ≡ m.scans → Stamped m next
-beside_stamped m next stamp txns jobs list parts scans = record {
-  up = omega (arith, stamp);
-  list = list;
-  parts = parts;
-  scans = scans;
-  txns = λ c t is. same_stamps txn_stamp m.next_stamp next.next_stamp m.transactions c t (ap (λ ts. get ts c) (sym txns) ∙ is);
-  jobs = λ j t is. same_stamps job_stamp m.next_stamp next.next_stamp m.jobs j t (ap (λ js. get js j) (sym jobs) ∙ is);
-}
+  planned_stamped : (m : Machine) (j : ℕ) (kind : JobKind) (p : List ℕ) (r : ℕ) (a : Answer) → (a ≡ answer.Planned → get m.jobs j ≡ None)
+      → Stamped P m (with_job m j kind p r a)
+  planned_stamped m j kind p r answer.Planned free =
+      let job : Job = record { stamp = m.next_stamp; path = p; region = r; kind = kind; base = m.number; touched = [] } in
+      record {
+        settings = refl;
+        may = λ p. refl;
+        up = omega arith;
+        list = refl;
+        parts = refl;
+        scans = refl;
+        txns = same_stamps txn_stamp m.next_stamp (m.next_stamp + 1) m.transactions;
+        jobs = set_stamps job_stamp m.next_stamp (m.next_stamp + 1) m.jobs j job
+            (subst (λ o. HasStamp job_stamp m.next_stamp (m.next_stamp + 1) o m.next_stamp) (sym (free refl)) (refl, omega arith));
+      }
+  planned_stamped m j kind p r a free = same_stamped m
 
-down_stamped : (m : Machine) (k : ℕ) (a : Answer) → Stamped m (after m (event.Down k) a)
-down_stamped m k answer.Okay = beside_stamped m (after m (event.Down k) answer.Okay) refl refl refl refl refl refl
-down_stamped m k a = same_stamped m
+  without_stamped : (m : Machine) (j : ℕ) → Stamped P m (record m { jobs = remove m.jobs j })
+  without_stamped m j = record {
+    settings = refl;
+    may = λ p. refl;
+    up = omega arith;
+    list = refl;
+    parts = refl;
+    scans = refl;
+    txns = same_stamps txn_stamp m.next_stamp m.next_stamp m.transactions;
+    jobs = gone_stamps job_stamp m.next_stamp m.next_stamp m.jobs j;
+  }
 
-up_stamped : (m : Machine) (k : ℕ) (a : Answer) → Stamped m (after m (event.Up k) a)
-up_stamped m k answer.Okay = beside_stamped m (after m (event.Up k) answer.Okay) refl refl refl refl refl refl
-up_stamped m k a = same_stamped m
+  put_stamped : (m : Machine) (j : ℕ) (a : Answer) → Stamped P m (put_in_place m j a)
+  put_stamped m j (answer.Installed n) =
+      let both = touched_stamped m (job_changes m.now (get m.jobs j)) m.transactions (remove m.jobs j)
+      (same_stamps txn_stamp m.next_stamp m.next_stamp m.transactions) (gone_stamps job_stamp m.next_stamp m.next_stamp m.jobs j) in
+      record { settings = refl; may = λ p. refl; up = omega arith; list = refl; parts = refl; scans = refl; txns = both.0; jobs = both.1 }
+  put_stamped m j (answer.Stale b n) = without_stamped m j
+  put_stamped m j a = same_stamped m
 
-saved_stamped : (m : Machine) (a : Answer) → Stamped m (saved m a)
-saved_stamped m (answer.Saved n) = beside_stamped m (saved m (answer.Saved n)) refl refl refl refl refl refl
-saved_stamped m answer.FaultSave = beside_stamped m (saved m answer.FaultSave) refl refl refl refl refl refl
+  dropped_stamped : (m : Machine) (j : ℕ) (a : Answer) → Stamped P m (dropped m j a)
+  dropped_stamped m j answer.Okay = without_stamped m j
+  dropped_stamped m j a = same_stamped m
+
+  -- a machine that differs in its servers, or in what may be saved
+  beside_stamped : (m next : Machine) → next.settings ≡ m.settings → (P → next.may_be_saved ≡ m.may_be_saved)
+      → next.next_stamp ≡ m.next_stamp → next.transactions ≡ m.transactions → next.jobs ≡ m.jobs
+      → next.scan_list ≡ m.scan_list → next.parts_left ≡ m.parts_left → next.scans ≡ m.scans → Stamped P m next
+  beside_stamped m next settings may stamp txns jobs list parts scans = record {
+    settings = settings;
+    may = may;
+    up = omega (arith, stamp);
+    list = list;
+    parts = parts;
+    scans = scans;
+    txns = λ c t is. same_stamps txn_stamp m.next_stamp next.next_stamp m.transactions c t (ap (λ ts. get ts c) (sym txns) ∙ is);
+    jobs = λ j t is. same_stamps job_stamp m.next_stamp next.next_stamp m.jobs j t (ap (λ js. get js j) (sym jobs) ∙ is);
+  }
+
+  down_stamped : (m : Machine) (k : ℕ) (a : Answer) → Stamped P m (after m (event.Down k) a)
+  down_stamped m k answer.Okay = beside_stamped m (after m (event.Down k) answer.Okay) refl (λ p. refl) refl refl refl refl refl refl
+  down_stamped m k a = same_stamped m
+
+  up_stamped : (m : Machine) (k : ℕ) (a : Answer) → Stamped P m (after m (event.Up k) a)
+  up_stamped m k answer.Okay = beside_stamped m (after m (event.Up k) answer.Okay) refl (λ p. refl) refl refl refl refl refl refl
+  up_stamped m k a = same_stamped m
+
+-- a save changes those
+saved_stamped : (m : Machine) (a : Answer) → Stamped (event.Save ≢ event.Save) m (saved m a)
+saved_stamped m (answer.Saved n) = beside_stamped m (saved m (answer.Saved n)) refl (λ ne. absurd (ne refl)) refl refl refl refl refl refl
+saved_stamped m answer.FaultSave = beside_stamped m (saved m answer.FaultSave) refl (λ ne. absurd (ne refl)) refl refl refl refl refl refl
 saved_stamped m a = same_stamped m
 
 -- lines that begin no scan, do no part of one and collect nothing
@@ -243,7 +264,7 @@ abbrev pub IsFree : Machine → Event → Answer → Type 0
 IsFree m (event.Plan j kind p r) a = a ≡ answer.Planned → get m.jobs j ≡ None
 IsFree m e a = ⊤
 
-pub event_stamped : (m : Machine) (e : Event) (a : Answer) → IsOther e → IsFree m e a → Stamped m (after m e a)
+pub event_stamped : (m : Machine) (e : Event) (a : Answer) → IsOther e → IsFree m e a → Stamped (e ≢ event.Save) m (after m e a)
 event_stamped m (event.Client c v) a other free = client_stamped m c (get m.transactions c) v a refl
 event_stamped m (event.Plan j kind p r) a other free = planned_stamped m j kind p r a free
 event_stamped m (event.Put j) a other free = put_stamped m j a

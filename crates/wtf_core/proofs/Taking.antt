@@ -32,7 +32,7 @@ use Rattle.wtf_core.specs.Views.{CoreView}
 use Rattle.wtf_core.specs.Turns.{LineTurn}
 use Rattle.wtf_core.specs.Pictured.{IsImageFor, IsImageWith, IsTakenFor, HoldsTaken, HoldsWith}
 use Rattle.wtf_core.specs.Promises.{scene, Leaves}
-use Rattle.wtf_core.proofs.Growth.{Rises}
+use Rattle.wtf_core.proofs.Moves.{Rises}
 use Rattle.wtf_core.proofs.Holding.{KeeperLaws, handed_one}
 use Rattle.wtf_core.proofs.Pointing.{rows_inside, taken_on}
 

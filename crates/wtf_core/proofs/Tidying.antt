@@ -1,5 +1,5 @@
 -- Dropping versions that no one sees changes nothing that holds.
-use Rattle.std.proofs.Common.{◌≡◌, ◌≤◌, ◌<◌, ℕ, IsTrue, nat_eq, count_by, ◌+◌, Option, None, Some, sym, ap, subst, ◌∙◌, ⊎_elim, refl, arith}
+use Rattle.std.proofs.Common.{◌≡◌, ◌≤◌, ℕ, IsTrue, Option, None, Some, sym, ap, subst, ◌∙◌, ⊎_elim, refl, arith}
 use Rattle.std.specs.FinMap.{get}
 use Rattle.std.specs.List.{Contains}
 use Rattle.std.specs.Option.{option_map}
@@ -9,7 +9,7 @@ use Rattle.wtf_model.specs.Transaction.{Transaction, Job}
 use Rattle.wtf_model.specs.Machines.{Machine}
 use Rattle.wtf_meta.specs.Bytes.{MaybeBytes}
 use Rattle.wtf_meta.specs.Contents.{Told, is_told, is_listed}
-use Rattle.wtf_meta.specs.Maps.{AllFit, Map, metadata_at}
+use Rattle.wtf_meta.specs.Maps.{Map, metadata_at}
 use Rattle.wtf_meta.specs.Trees.{LeadsTo, Stands}
 use Rattle.wtf_replay.specs.Views.{TxnView}
 use Rattle.wtf_replay.proofs.Sounding.{sound_along}
@@ -18,7 +18,7 @@ use Rattle.wtf_compact.specs.Planned.{KeepsRegion}
 use Rattle.wtf_gc.specs.Views.{RunView}
 use Rattle.wtf_clients.specs.Views.{BesideView, TablesView, of_client, of_label, metadata_now}
 use Rattle.wtf_core.specs.Views.{CoreView}
-use Rattle.wtf_clients.specs.Sounds.{all_owned, all_kept, IsOpen, AreSound, IsTidied}
+use Rattle.wtf_clients.specs.Sounds.{AreSound, IsTidied}
 use Rattle.wtf_clients.specs.Standing.{HasKinds, StandsForTxn, StandsForSlot, StandsForJob, StandsForLabel, TablesStand, StampsStand, ScansStand}
 use Rattle.wtf_clients.specs.Touched.{above, NoneMoved}
 use Rattle.wtf_core.specs.Standing.{StandsFor}
@@ -41,41 +41,6 @@ module _ (old new : TablesView) (sound : AreSound old) (tidy : IsTidied old new)
   -- the map at the base of an open transaction, and the map now, are what they were
   pub base_same : (c : ℕ) (x : TxnView) → of_client old.clients c ≡ Some x → metadata_at new.kv x.at.base ≡ metadata_at old.kv x.at.base
   base_same c x there = tidy.maps x.at.base (pinned_live old.kv x.at.base (sound.each c x there).fit.pinned)
-
-  next_up : old.next_tx ≤ new.next_tx
-  next_up = let next = tidy.next_tx in omega (arith, next)
-
-  was : (c : ℕ) (x : TxnView) → of_client new.clients c ≡ Some x → of_client old.clients c ≡ Some x
-  was c x there = ap (λ l. of_client l c) (sym tidy.clients) ∙ there
-
-  kept_was : (n : ℕ) → Contains new.beside.images n → Contains old.beside.images n
-  kept_was n here = subst (λ (s : BesideView). Contains s.images n) tidy.beside here
-
-  open_still : (c : ℕ) (x : TxnView) → of_client old.clients c ≡ Some x → IsOpen new.kv new.next_tx x
-  open_still c x there =
-      let is = sound.each c x there in
-      record {
-        going = is.going;
-        fit = record {
-          pinned = subst (λ l. IsTrue (is_pinned (record old.kv { pins = l }) x.at.base)) (sym tidy.pins) is.fit.pinned;
-          fits = subst (λ (w : Map). AllFit x.at.changes w) (sym (base_same c x there)) is.fit.fits;
-          log = is.fit.log;
-          most = is.fit.most;
-        };
-        based = subst (λ n. x.at.base ≤ n) (sym tidy.number) is.based;
-        older = subst (λ n. x.tx < n) (sym tidy.next_tx) is.older;
-      }
-
-  pub tidied_sound : AreSound new
-  tidied_sound = record {
-    begun = let was = sound.begun in let up = next_up in omega (arith, was, up);
-    each = λ c x there. open_still c x (was c x there);
-    pins = λ n. ap (λ l. count_by (nat_eq n) l) tidy.pins ∙ sound.pins n ∙ ap (λ l. all_owned n l + all_kept n old.beside) (sym tidy.clients)
-        ∙ ap (λ s. all_owned n new.clients + all_kept n s) (sym tidy.beside);
-    upto = λ n pinned. subst (λ k. n ≤ k) (sym tidy.number) (sound.upto n (pinned_same old new tidy n pinned));
-    kept = λ n here. subst (λ k. n ≤ k) (sym tidy.number) (sound.kept n (kept_was n here));
-    apart = λ c d x y here there same. sound.apart c d x y (was c x here) (was d y there) same;
-  }
 
 -- ---- what stands for the machine
 -- Tables that show the same: the number, what can be read, who is open and the images. No key has a version above a number where it had none.

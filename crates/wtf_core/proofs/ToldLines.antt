@@ -59,8 +59,7 @@ use Rattle.wtf_core.specs.Remembering.{KeepsLists, KeepsPunched}
 use Rattle.wtf_core.specs.Telling.{TellsCore, IsToldLine, KeepsImages, GoesOnQuietly, ToldPiece, ServesTurn}
 use Rattle.wtf_core.specs.Turns.{IsByDevices, LineTurn}
 use Rattle.wtf_core.specs.Views.{CoreView}
-use Rattle.wtf_core.proofs.Aged.{line_aged}
-use Rattle.wtf_core.proofs.Going.{line_goes}
+use Rattle.wtf_core.proofs.Moves.{line_moves}
 use Rattle.wtf_core.proofs.Quieted.{seen_pinned}
 use Rattle.wtf_core.proofs.Stamped.{IsOther}
 use Rattle.wtf_core.proofs.Answering.{tree_plain, server_plain}
@@ -367,7 +366,7 @@ module _ {S : Type 0} {kind : StoreKind S} (laws : KindLaws kind) (t : Span S) (
       → GoesOnQuietly kind t old (under old new) e a → IsToldLine kind t old (under old new) e a
   other_line e other none punched serves turn quiet =
       let still = unpunched e none punched in
-      other_told laws t old new sound still.0 enough new_sound inside.scans still.1 e a quiet tells (line_aged kind t old new sound a e other turn).maps
+      other_told laws t old new sound still.0 enough new_sound inside.scans still.1 e a quiet tells (line_moves kind t old new sound a e turn).maps
       (serves tells.tables)
 
   -- one that leaves the tables
@@ -386,7 +385,7 @@ module _ {S : Type 0} {kind : StoreKind S} (laws : KindLaws kind) (t : Span S) (
   by_line (event.Piece n) punched serves turn quiet =
       let still = unpunched (event.Piece n) (λ k is. absurd (cc)) punched in
       piece_told laws t old new sound still.0 enough new_sound inside.scans still.1 (event.Piece n) a quiet tells turn.0.before turn.0.after n turn.0.did
-      (line_goes kind t old new sound a (event.Piece n) (λ is. absurd (cc)) turn).maps serves
+      (line_moves kind t old new sound a (event.Piece n) turn).maps serves
   by_line (event.Collect k) punched serves turn quiet = collect_told laws t old new k a sound enough inside.scans quiet tells turn.0
   by_line (event.Client c v) punched serves turn quiet = other_line (event.Client c v) tt (λ k is. absurd (cc)) punched serves turn quiet
   by_line (event.Plan j job p r) punched serves turn quiet = other_line (event.Plan j job p r) tt (λ k is. absurd (cc)) punched serves turn quiet

@@ -1,20 +1,18 @@
 -- What a core answers to a line is what the machine may, and the core goes on to stand for it.
-use Rattle.std.proofs.Common.{◌≡◌, ◌≢◌, ◌<◌, ◌⊎◌, ℕ, Bool, true, false, nat_eq, nat_lt, if◌then◌else◌, List, Option, None, Some, Result, Ok, Err, IfOk}
-use Rattle.std.proofs.Common.{OnErr, refl, sym, ap, subst, ◌∙◌, inl, inr, arith, ne_eqb, eq-eqb}
+use Rattle.std.proofs.Common.{◌≡◌, ◌≢◌, ◌<◌, ◌⊎◌, ℕ, Bool, true, false, nat_eq, nat_lt, if◌then◌else◌, List}
+use Rattle.std.proofs.Common.{refl, sym, ap, subst, ◌∙◌, inl, inr, arith, ne_eqb, eq-eqb}
 use Rattle.std.specs.Bool.{MatchBool}
 use Rattle.std.specs.FinMap.{get}
 use Rattle.std.specs.List.{Contains}
 use Rattle.wtf_base.specs.declared.settings.Settings.{Settings}
 use Rattle.wtf_dev.specs.Store.{StoreKind, KindLaws}
 use Rattle.wtf_dev.specs.Sums.{TellsAll}
-use Rattle.wtf_kv.specs.Stores.{Store, versions_of}
+use Rattle.wtf_kv.specs.Stores.{versions_of}
 use Rattle.wtf_replica.specs.Bytes.{byte_at}
 use Rattle.wtf_replica.specs.Downs.{is_down}
 use Rattle.wtf_replica.specs.Spans.{Span}
-use Rattle.wtf_values.specs.declared.key.Key.{Key}
-use Rattle.wtf_values.specs.declared.value.Value.{Value}
 use Rattle.wtf_values.specs.Keys.{key_cmp}
-use Rattle.wtf_model.specs.declared.answer.Answer.{Answer, Aborted'}
+use Rattle.wtf_model.specs.declared.answer.Answer.{Answer}
 use Rattle.wtf_model.specs.declared.answer.Answer.TheVariants as answer
 use Rattle.wtf_model.specs.declared.answer.Word.{Word}
 use Rattle.wtf_model.specs.declared.answer.Word.TheVariants.{NoServer, ScanBusy, NoScan}
@@ -22,31 +20,28 @@ use Rattle.wtf_model.specs.declared.op.JobKind.{JobKind}
 use Rattle.wtf_model.specs.declared.event.Event.{Event}
 use Rattle.wtf_model.specs.declared.event.Event.TheVariants as event
 use Rattle.wtf_model.specs.declared.event.Verb.{Verb}
-use Rattle.wtf_model.specs.declared.event.Verb.TheVariants as verb
 use Rattle.wtf_model.specs.Machines.{Machine}
 use Rattle.wtf_model.specs.Tree.{root_alone}
 use Rattle.wtf_model.specs.Machines as machine
 use Rattle.wtf_model.specs.Lawful.{MaySave, server_answer, dump_answer, MayFailRead}
-use Rattle.wtf_model.specs.Transaction.{Transaction}
-use Rattle.wtf_model.specs.Steps.{after, after_client, begun, tried, stepped, committed, aborted, is_logged, logged, with_transaction, saved, scanning, scanned}
-use Rattle.wtf_model.proofs.MachineLaws.{with_job-rest, put_in_place-rest, dropped-rest, scanning-rest, scanned-rest}
+use Rattle.wtf_model.specs.Steps.{after, scanning, scanned}
+use Rattle.wtf_model.proofs.MachineLaws.{scanning-rest, scanned-rest}
 use Rattle.wtf_model.proofs.ServerLaws.{is_down-event}
 use Rattle.wtf_meta.specs.Bytes.{any_slice}
 use Rattle.wtf_meta.specs.Contents.{Told}
 use Rattle.wtf_meta.specs.Trees.{Stands}
 use Rattle.wtf_meta.proofs.Telling.{TellsOn}
 use Rattle.wtf_region.specs.declared.dev.Dev.{Dev}
-use Rattle.wtf_region.specs.Cached.{TrueBut}
 use Rattle.wtf_region.specs.Devs.{stores}
 use Rattle.wtf_region.specs.Inside.{is_inside}
-use Rattle.wtf_clients.specs.JobTurns.{PlanTurn, PutTurn}
 use Rattle.wtf_clients.specs.Named.{TablesBytes}
 use Rattle.wtf_clients.specs.Safe.{IsSafe}
-use Rattle.wtf_clients.specs.Saves.{AreUp, SaveTurn, only_image, with_image}
-use Rattle.wtf_clients.specs.ScanTurns.{ScanTurn, StartsTurn, PieceTurn, PieceFails, DoesTurn, CollectTurn}
+use Rattle.wtf_clients.specs.Saves.{AreUp, SaveTurn}
+use Rattle.wtf_clients.specs.ScanTurns.{ScanTurn, StartsTurn, PieceTurn, DoesTurn}
+use Rattle.wtf_clients.specs.Seeing.{seeing}
 use Rattle.wtf_clients.specs.Sounds.{AreSound}
 use Rattle.wtf_clients.specs.Standing.{HasKinds, IsImageTree, StandsForSlot, StandsForLabel, TablesStand, ScansStand}
-use Rattle.wtf_clients.specs.Turns.{AreTrue, ClientTurn, Dumps}
+use Rattle.wtf_clients.specs.Turns.{AreTrue}
 use Rattle.wtf_clients.specs.Views.{BesideView, TablesView, of_client, of_label, metadata_now}
 use Rattle.wtf_clients.proofs.Collected.{collect_tables}
 use Rattle.wtf_clients.proofs.Freeing.{Freed, collect_freed}
@@ -56,58 +51,21 @@ use Rattle.wtf_clients.proofs.ScanFrames.{start_maps}
 use Rattle.wtf_clients.proofs.ScanMays.{scan_may, scan_stands, piece_may, piece_stands, collect_may, collect_stands}
 use Rattle.wtf_clients.proofs.Scanning.{pruned_keeps}
 use Rattle.wtf_clients.proofs.SinceLaws.{none_moved}
-use Rattle.wtf_clients.proofs.Staying.{stays_sound, stays_stand}
+use Rattle.wtf_clients.proofs.Staying.{stays_stand}
 use Rattle.wtf_core.specs.Answers.{IsEvent}
 use Rattle.wtf_core.specs.Standing.{StandsFor}
 use Rattle.wtf_core.specs.Telling.{TellsCore}
 use Rattle.wtf_core.specs.Turns.{ServerTurn, Switches, LineTurn}
-use Rattle.wtf_core.specs.Views.{CoreView, KnowsLists}
-use Rattle.wtf_core.proofs.Aged.{line_aged, planned_free, kinds_of, scans_on}
+use Rattle.wtf_core.specs.Views.{CoreView, KnowsLists, lent_of}
+use Rattle.wtf_core.proofs.Aged.{kinds_of, scans_on}
 use Rattle.wtf_core.proofs.Answering.{server_plain}
-use Rattle.wtf_core.proofs.Growth.{Rises, stays_rise, saves_rise, plan_rises, put_rises, drop_rises, client_rises}
-use Rattle.wtf_core.proofs.JobLines.{label_none, plan_sound, put_sound, plan_stands, put_stand, drop_stand}
-use Rattle.wtf_core.proofs.Lines.{client_sound, client_stands}
+use Rattle.wtf_core.proofs.JobLines.{label_none, plan_stands, put_stand, drop_stand}
+use Rattle.wtf_core.proofs.Lines.{client_stands}
+use Rattle.wtf_core.proofs.Moves.{line_moves, planned_free}
 use Rattle.wtf_core.proofs.Plain.{tables_later}
-use Rattle.wtf_core.proofs.SaveLaws.{save_sound, save_stands}
+use Rattle.wtf_core.proofs.SaveLaws.{save_stands}
 use Rattle.wtf_core.proofs.Stamped.{IsOther, IsFree, event_stamped}
 use Rattle.wtf_core.proofs.Tidying.{ShowsAlike, alike_stand}
-
--- ---- no line changes the settings of the machine
-begun_settings : (m : Machine) (c : ℕ) (a : Answer) → (begun m c a).settings ≡ m.settings
-begun_settings m c (answer.Begun n) = refl
-begun_settings m c a = refl
-
-tried_settings : (m : Machine) (c : ℕ) (t : Transaction) (a : Answer) → (tried m c t a).settings ≡ m.settings
-tried_settings m c t (answer.Committed n) = refl
-tried_settings m c t (answer.Retry b n) = refl
-tried_settings m c t a = refl
-
-stepped_settings : (m : Machine) (c : ℕ) (t : Transaction) (a : Answer) → (stepped m c t a).settings ≡ m.settings
-stepped_settings m c t (answer.Replayed i) = refl
-stepped_settings m c t (Aborted' i box a) = refl
-stepped_settings m c t a = refl
-
-committed_settings : (m : Machine) (c : ℕ) (t : Transaction) (a : Answer) → (committed m c t a).settings ≡ m.settings
-committed_settings m c t (answer.Committed n) = refl
-committed_settings m c t (Aborted' i box a) = refl
-committed_settings m c t a = refl
-
-aborted_settings : (m : Machine) (c : ℕ) (a : Answer) → (aborted m c a).settings ≡ m.settings
-aborted_settings m c answer.Okay = refl
-aborted_settings m c a = refl
-
-called_by : (m later : Machine) (b : Bool) → later.settings ≡ m.settings → (if b then later else m).settings ≡ m.settings
-called_by m later true h = h
-called_by m later false h = refl
-
-client_settings : (m : Machine) (c : ℕ) (o : Option Transaction) (v : Verb) (a : Answer) → (after_client m c o v a).settings ≡ m.settings
-client_settings m c None verb.Begin a = begun_settings m c a
-client_settings m c (Some t) verb.Try a = tried_settings m c t a
-client_settings m c (Some t) verb.Step a = stepped_settings m c t a
-client_settings m c (Some t) verb.Commit a = committed_settings m c t a
-client_settings m c (Some t) verb.Abort a = aborted_settings m c a
-client_settings m c (Some t) (verb.Call o) a = called_by m (with_transaction m c (logged t o a)) (is_logged a) refl
-client_settings m c o v a = refl
 
 -- ---- a core that stays stands for the same over stores that tell more
 stays : (told later : Told) (core : CoreView) (m : Machine) → AreSound core.tables → StandsFor told core m → TellsOn told later → StandsFor later core m
@@ -184,14 +142,6 @@ module _ (told later : Told) (old new : CoreView) (m : Machine) (k : ℕ) (to : 
             (subst (λ (core : CoreView). StandsFor later core m) (sym t.1) (stays told later old m sound stands on)),
       )
 
-down_settings : (m : Machine) (k : ℕ) (a : Answer) → (after m (event.Down k) a).settings ≡ m.settings
-down_settings m k answer.Okay = refl
-down_settings m k a = refl
-
-up_settings : (m : Machine) (k : ℕ) (a : Answer) → (after m (event.Up k) a).settings ≡ m.settings
-up_settings m k answer.Okay = refl
-up_settings m k a = refl
-
 down_line : (told later : Told) (old new : CoreView) (m : Machine) (k : ℕ) (a : Answer) → AreSound old.tables → StandsFor told old m → TellsOn told later →
     ScansStand new.tables (after m (event.Down k) a) → ServerTurn old new k true a
     → (a ≡ server_answer m k) × StandsFor later new (after m (event.Down k) a)
@@ -199,7 +149,7 @@ down_line told later old new m k a sound stands on scans turn =
     switch_line told later old new m k true a sound stands on (event.Down k)
     (λ c is. subst (λ d. IsSwitch told later old new m k true a sound stands on (after m (event.Down k) d)) (sym is)
     (is_down-event m (event.Down k) answer.Okay))
-    (down_settings m k)
+    (λ c. (event_stamped m (event.Down k) c tt tt).settings)
     (tables_beside told later old new m k true a sound stands on (after m (event.Down k) answer.Okay) refl refl refl refl refl) (λ w. refl) scans turn
 
 up_line : (told later : Told) (old new : CoreView) (m : Machine) (k : ℕ) (a : Answer) → AreSound old.tables → StandsFor told old m → TellsOn told later →
@@ -208,7 +158,7 @@ up_line : (told later : Told) (old new : CoreView) (m : Machine) (k : ℕ) (a : 
 up_line told later old new m k a sound stands on scans turn =
     switch_line told later old new m k false a sound stands on (event.Up k)
     (λ c is. subst (λ d. IsSwitch told later old new m k false a sound stands on (after m (event.Up k) d)) (sym is) (is_down-event m (event.Up k) answer.Okay))
-    (up_settings m k)
+    (λ c. (event_stamped m (event.Up k) c tt tt).settings)
     (tables_beside told later old new m k false a sound stands on (after m (event.Up k) answer.Okay) refl refl refl refl refl) (λ w. refl) scans turn
 
 -- ---- each line that collects nothing
@@ -241,7 +191,7 @@ module _ {S : Type 0} (kind : StoreKind S) (t : Span S) (old new : CoreView) (m 
   scans_by : (e : Event) → IsOther e → IsFree m e a → LineTurn kind t old new e a → HasKinds (metadata_now new.tables.kv)
       → ScansStand new.tables (after m e a)
   scans_by e other free turn kinds =
-      scans_on size told old.tables new.tables m (after m e a) sound stands.tables (line_aged kind t old new sound a e other turn)
+      scans_on size told old.tables new.tables e a m (after m e a) sound stands.tables (line_moves kind t old new sound a e turn) other
       (event_stamped m e a other free)
       kinds stands.scans
 
@@ -253,10 +203,10 @@ module _ {S : Type 0} (kind : StoreKind S) (t : Span S) (old new : CoreView) (m 
 
   -- so the core does, with its tables
   stands_by : (e : Event) → IsOther e → IsFree m e a → LineTurn kind t old new e a → new.settings ≡ old.settings → new.replicas ≡ old.replicas
-      → (after m e a).settings ≡ m.settings → ((k : ℕ) → machine.is_down (after m e a) k ≡ machine.is_down m k)
+      → ((k : ℕ) → machine.is_down (after m e a) k ≡ machine.is_down m k)
       → TablesStand size later new.tables (after m e a) → StandsFor later new (after m e a)
-  stands_by e other free turn same replicas settings down tables = record {
-    settings = settings ∙ stands.settings ∙ sym same;
+  stands_by e other free turn same replicas down tables = record {
+    settings = (event_stamped m e a other free).settings ∙ stands.settings ∙ sym same;
     tables = subst (λ (s : Settings). TablesStand s.region later new.tables (after m e a)) (sym same) tables;
     down = λ k. ap (λ r. is_down r k) replicas ∙ stands.down k ∙ sym (down k);
     scans = scans_by e other free turn
@@ -275,24 +225,23 @@ module _ {S : Type 0} (kind : StoreKind S) (t : Span S) (old new : CoreView) (m 
 
   client_event : (c : ℕ) (v : Verb) → LineTurn kind t old new (event.Client c v) a → IsEvent later new m (event.Client c v) a
   client_event c v h =
-      let both = client_stands Telling (KnowsLists kind t.before old) old.settings.servers size told later old.tables new.tables m c v a sound region count stands.tables on
+      let both = client_stands (seeing kind t (lent_of old new)) old.tables new.tables m c v a sound region count stands.tables on
       (tells.tables.all, lists) h.0 in
       record {
         may = both.0;
-        stands = stands_by (event.Client c v) tt tt h (rest_settings h.1) (rest_replicas h.1) (client_settings m c (get m.transactions c) v a)
-            (is_down-event m (event.Client c v) a) both.1;
+        stands = stands_by (event.Client c v) tt tt h (rest_settings h.1) (rest_replicas h.1) (is_down-event m (event.Client c v) a) both.1;
       }
 
   plan_event : (j : ℕ) (job : JobKind) (p : List ℕ) (r : ℕ) → LineTurn kind t old new (event.Plan j job p r) a → IsEvent later new m (event.Plan j job p r) a
   plan_event j job p r h =
-      let both = plan_stands old.tables new.tables j sound size told later m stands.tables on Telling (KnowsLists kind t.before old) old.settings.servers job p r a
+      let both = plan_stands old.tables new.tables j sound (seeing kind t (lent_of old new)) m stands.tables on job p r a
       region count (tells.tables.all, lists) h.0 in
       record {
         may = both.0;
         stands = stands_by (event.Plan j job p r) tt
             (λ is. label_none size told old.tables.kv (of_label old.tables.beside.jobs j) (get m.jobs j) (stands.tables.jobs j)
-            (planned_free old.tables new.tables j sound Telling (KnowsLists kind t.before old) old.settings.servers size told later job p r a h.0 is))
-            h (rest_settings h.1) (rest_replicas h.1) (ap (λ (x : Machine). x.settings) (with_job-rest m j job p r a))
+            (planned_free old.tables new.tables j sound (seeing kind t (lent_of old new)) job p r a h.0 is))
+            h (rest_settings h.1) (rest_replicas h.1)
             (is_down-event m (event.Plan j job p r) a) both.1;
       }
 
@@ -302,7 +251,7 @@ module _ {S : Type 0} (kind : StoreKind S) (t : Span S) (old new : CoreView) (m 
       record {
         may = both.0;
         stands = stands_by (event.Put j) tt tt h (ap (λ (c : CoreView). c.settings) h.1) (ap (λ (c : CoreView). c.replicas) h.1)
-            (ap (λ (x : Machine). x.settings) (put_in_place-rest m j a)) (is_down-event m (event.Put j) a) both.1;
+            (is_down-event m (event.Put j) a) both.1;
       }
 
   drop_event : (j : ℕ) → LineTurn kind t old new (event.DropJob j) a → IsEvent later new m (event.DropJob j) a
@@ -311,7 +260,7 @@ module _ {S : Type 0} (kind : StoreKind S) (t : Span S) (old new : CoreView) (m 
       record {
         may = both.0;
         stands = stands_by (event.DropJob j) tt tt h (ap (λ (c : CoreView). c.settings) h.1) (ap (λ (c : CoreView). c.replicas) h.1)
-            (ap (λ (x : Machine). x.settings) (dropped-rest m j a)) (is_down-event m (event.DropJob j) a) both.1;
+            (is_down-event m (event.DropJob j) a) both.1;
       }
 
   dump_event : (p : List ℕ) → LineTurn kind t old new (event.Dump p) a → IsEvent later new m (event.Dump p) a
@@ -321,7 +270,7 @@ module _ {S : Type 0} (kind : StoreKind S) (t : Span S) (old new : CoreView) (m 
       (h.0.shows lists old.tables.next_tx 0 m.now (stands.tables.later old.tables.next_tx (omega arith))) in
       record {
         may = due;
-        stands = stands_by (event.Dump p) tt tt h (rest_settings h.1) (rest_replicas h.1) refl (λ k. refl)
+        stands = stands_by (event.Dump p) tt tt h (rest_settings h.1) (rest_replicas h.1) (λ k. refl)
             (stays_stand old.tables new.tables 0 sound (h.0.stays 0) size told later m stands.tables on);
       }
 
@@ -336,15 +285,10 @@ module _ {S : Type 0} (kind : StoreKind S) (t : Span S) (old new : CoreView) (m 
       by answer.FaultSave t = tt
       by b t = absurd t
 
-  save_settings : (b : Answer) → (saved m b).settings ≡ m.settings
-  save_settings (answer.Saved n) = refl
-  save_settings answer.FaultSave = refl
-  save_settings b = refl
-
   save_event : LineTurn kind t old new event.Save a → IsEvent later new m event.Save a
   save_event h = record {
     may = save_may h.0;
-    stands = stands_by event.Save tt tt h (ap (λ (c : CoreView). c.settings) h.1) (ap (λ (c : CoreView). c.replicas) h.1) (save_settings a)
+    stands = stands_by event.Save tt tt h (ap (λ (c : CoreView). c.settings) h.1) (ap (λ (c : CoreView). c.replicas) h.1)
         (is_down-event m event.Save a)
         (save_stands (AreUp old.replicas old.settings.servers) old.tables new.tables sound size told later m a stands.tables on h.0);
   }
@@ -482,116 +426,3 @@ module _ {S : Type 0} {kind : StoreKind S} (laws : KindLaws kind) (t : Span S) (
   line_stands event.Scan on h = scan_event kind t old new m a sound stands (on (λ k is. absurd (cc))) tells h
   line_stands (event.Piece n) on h = piece_event kind t old new m a sound stands (on (λ k is. absurd (cc))) tells laws inside n h
   line_stands (event.Collect k) on h = collect_event laws old new m sound t k a stands tells h
-
--- ---- a line raises both numbers by at most one
-same_rise : (old new : TablesView) → new ≡ old → Rises old new
-same_rise old new is = subst (λ t. Rises old t) (sym is)
-    (record { number = omega arith; next_tx = omega arith; no_fewer = omega arith; no_earlier = omega arith })
-
-tables_same : (old new : CoreView) → new ≡ old → Rises old.tables new.tables
-tables_same old new is = same_rise old.tables new.tables (ap (λ (c : CoreView). c.tables) is)
-
--- a scan, its parts and a collection leave both numbers
-still_rise : (old new : TablesView) → new.kv.number ≡ old.kv.number → new.next_tx ≡ old.next_tx → Rises old new
-still_rise old new number next = record {
-  number = omega (arith, number);
-  next_tx = omega (arith, next);
-  no_fewer = omega (arith, number);
-  no_earlier = omega (arith, next);
-}
-
-scan_rises : {S : Type 0} (kind : StoreKind S) (shelf : List S) (old new : TablesView) (a : Answer) → ScanTurn kind shelf old new a → Rises old new
-scan_rises kind shelf old new (answer.Refused ScanBusy) h = same_rise old new h.0
-scan_rises kind shelf old new (answer.Held who) h = same_rise old new h.0
-scan_rises kind shelf old new answer.Scanning h = still_rise old new h.starts.pins.number h.next_tx
-scan_rises kind shelf old new a h = absurd h
-
-piece_fails_rise : {S : Type 0} (kind : StoreKind S) (before after : Dev S) (old new : TablesView) (n : ℕ) (a : Answer)
-    → PieceFails kind before after old new n a → Rises old new
-piece_fails_rise kind before after old new n a h = still_rise old new h.pruned.kv.number h.pruned.next_tx
-
-piece_rises : {S : Type 0} (kind : StoreKind S) (before after : Dev S) (old new : TablesView) (n : ℕ) (a : Answer) → PieceTurn kind before after old new n a
-    → Rises old new
-piece_rises kind before after old new n (answer.Refused NoScan) h = same_rise old new h.0
-piece_rises kind before after old new n (answer.More left) h = still_rise old new h.1.prunes.number h.1.keeps.next_tx
-piece_rises kind before after old new n answer.Done h = still_rise old new h.prunes.number h.keeps.next_tx
-piece_rises kind before after old new n a h = piece_fails_rise kind before after old new n a h
-
-collect_rises : {S : Type 0} (kind : StoreKind S) (before after : Dev S) (old new : TablesView) (k : ℕ) (a : Answer)
-    → CollectTurn kind before after old new k a → Rises old new
-collect_rises kind before after old new k (answer.Refused NoServer) h = same_rise old new h.0
-collect_rises kind before after old new k (answer.Refused NoScan) h = same_rise old new h.0
-collect_rises kind before after old new k (answer.Collected n) h =
-    still_rise old new (ap (λ (s : Store Key Value). s.number) h.1.keeps.kv) h.1.keeps.keeps.next_tx
-collect_rises kind before after old new k (answer.FaultPunch j) h =
-    still_rise old new (ap (λ (s : Store Key Value). s.number) h.1.keeps.kv) h.1.keeps.keeps.next_tx
-collect_rises kind before after old new k a h = absurd h
-
-module _ {S : Type 0} (kind : StoreKind S) (t : Span S) (old new : CoreView) (a : Answer) where
-  server_rises : (k : ℕ) (to b : Bool) → MatchBool b (Switches old new k to a) ((a ≡ answer.Refused NoServer) × (new ≡ old)) → Rises old.tables new.tables
-  server_rises k to true h = same_rise old.tables new.tables (ap (λ (c : CoreView). c.tables) h.rest)
-  server_rises k to false h = tables_same old new h.1
-
-  save_rises : (b : Answer) → SaveTurn (AreUp old.replicas old.settings.servers) old.tables new.tables b → Rises old.tables new.tables
-  save_rises (answer.Saved n) (number, up, saves) = saves_rise old.tables new.tables (only_image old.tables.beside n) saves
-  save_rises answer.FaultSave (inl saves) = saves_rise old.tables new.tables old.tables.beside saves
-  save_rises answer.FaultSave (inr saves) = saves_rise old.tables new.tables (with_image old.tables.beside old.tables.kv.number) saves
-  save_rises b t = absurd t
-
-  pub line_rises : (e : Event) → LineTurn kind t old new e a → Rises old.tables new.tables
-  line_rises (event.Client c v) h =
-      client_rises (TellsAll kind t.before) (KnowsLists kind t.before old) old.settings.servers old.settings.region (byte_at kind t.before) (byte_at kind t.after) old.tables
-      new.tables c v a h.0
-  line_rises (event.Plan j job p r) h =
-      plan_rises (TellsAll kind t.before) (KnowsLists kind t.before old) old.settings.servers old.settings.region (byte_at kind t.before) (byte_at kind t.after) old.tables
-      new.tables j job p r a h.0
-  line_rises (event.Put j) h = put_rises old.tables new.tables j a h.0
-  line_rises (event.DropJob j) h = drop_rises old.tables new.tables j a h.0
-  line_rises event.Scan h = scan_rises kind t.before old.tables new.tables a h.0
-  line_rises (event.Piece n) h = piece_rises kind h.0.before h.0.after old.tables new.tables n a h.0.did
-  line_rises (event.Collect k) h = collect_rises kind h.0.before h.0.after old.tables new.tables k a h.0.did
-  line_rises (event.Down k) h = server_rises k true (nat_lt k old.settings.servers) h
-  line_rises (event.Up k) h = server_rises k false (nat_lt k old.settings.servers) h
-  line_rises (event.Dump p) h = stays_rise old.tables new.tables 0 (h.0.stays 0)
-  line_rises event.Tree h = tables_same old new h.1
-  line_rises event.Save h = save_rises a h.0
-
--- ---- the tables are sound after a line of a client, whatever came of it
-pub sound_either : {E : Type 0} (r : Result Answer E) (P : Answer → Type 0) (Q : Type 0) → IfOk r P → OnErr r Q → ((a : Answer) → P a → Q) → Q
-sound_either (Ok a) P Q ok err on = on a ok
-sound_either (Err why) P Q ok err on = err
-
-pub sound_after : {E : Type 0} (r : Result Answer E) (Telling : Type 0) (lists : TrueBut) (servers size : ℕ) (told later : Told) (old new : TablesView)
-    (c : ℕ) (v : Verb) → AreSound old
-    → IfOk r (λ a. ClientTurn Telling lists servers size told later old new c v a) → OnErr r (AreSound new) → AreSound new
-sound_after r Telling lists servers size told later old new c v sound ok err =
-    sound_either r (λ a. ClientTurn Telling lists servers size told later old new c v a) (AreSound new) ok err
-    (λ a turn. client_sound Telling lists servers size told later old new c v a sound turn)
-
--- and after a dump
-pub sound_dumped : {E : Type 0} (r : Result Answer E) (servers size : ℕ) (told : Told) (lists : TrueBut) (old new : TablesView) (p : List ℕ) → AreSound old
-    → IfOk r (Dumps servers size told lists old new p) → OnErr r (AreSound new) → AreSound new
-sound_dumped r servers size told lists old new p sound ok err = sound_either r (Dumps servers size told lists old new p) (AreSound new) ok err
-    (λ a turn. stays_sound old new 0 sound (turn.stays 0))
-
--- and after a save
-pub sound_saved : {E : Type 0} (r : Result Answer E) (Up : Type 0) (old new : TablesView) → AreSound old → IfOk r (SaveTurn Up old new) → OnErr r (new ≡ old)
-    → AreSound new
-sound_saved r Up old new sound ok err = sound_either r (SaveTurn Up old new) (AreSound new) ok (kept r err) (λ a turn. save_sound Up old new sound a turn)
-  where
-    kept : {E : Type 0} (q : Result Answer E) → OnErr q (new ≡ old) → OnErr q (AreSound new)
-    kept (Ok a) h = tt
-    kept (Err e) h = subst AreSound (sym h) sound
-
--- after a plan of a job
-pub sound_planned : {E : Type 0} (r : Result Answer E) (Telling : Type 0) (lists : TrueBut) (servers size : ℕ) (told later : Told) (old new : TablesView)
-    (j : ℕ) (kind : JobKind) (p : List ℕ) (region : ℕ) → AreSound old
-    → IfOk r (PlanTurn Telling lists servers size told later old new j kind p region) → OnErr r (AreSound new) → AreSound new
-sound_planned r Telling lists servers size told later old new j kind p region sound ok err =
-    sound_either r (PlanTurn Telling lists servers size told later old new j kind p region) (AreSound new) ok err
-    (λ a turn. plan_sound old new j sound Telling lists servers size told later kind p region a turn)
-
--- and after it was to be put in place
-pub sound_put : {E : Type 0} (r : Result Answer E) (old new : TablesView) (j : ℕ) → AreSound old → IfOk r (PutTurn old new j) → OnErr r (AreSound new)
-    → AreSound new
-sound_put r old new j sound ok err = sound_either r (PutTurn old new j) (AreSound new) ok err (λ a turn. put_sound old new j sound a turn)

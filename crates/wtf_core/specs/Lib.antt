@@ -10,6 +10,8 @@ pub mod Telling
 pub mod Answers
 pub mod Pictured
 pub mod Promises
+pub mod Lent
+pub mod Ended
 pub mod Loading
 pub mod Made
 pub mod Rows

@@ -1,12 +1,14 @@
 -- What a core promises of a line, in parts of which none needs another.
-use Rattle.std.specs.Prelude.{◌≡◌, ◌⊎◌, ◌<◌, ◌≤◌, ◌+◌, ◌^◌, ℕ, true, false, List, Some, ⊤}
+use Rattle.std.specs.Prelude.{◌≡◌, ◌≢◌, ◌⊎◌, ◌<◌, ◌≤◌, ◌+◌, ◌^◌, ℕ, true, false, List, [], Some, ⊤}
 use Rattle.wtf_base.specs.Places.{Place}
 use Rattle.wtf_dev.specs.Counts.{Rose}
+use Rattle.wtf_dev.specs.Each.{EachFollows}
 use Rattle.wtf_dev.specs.Keep.{KeeperView}
 use Rattle.wtf_dev.specs.Store.{StoreKind}
 use Rattle.wtf_replica.specs.Bytes.{byte_at}
 use Rattle.wtf_replica.specs.Downs.{is_down}
 use Rattle.wtf_replica.specs.Inside.{size_in}
+use Rattle.wtf_replica.specs.Outs.{SameSyncs}
 use Rattle.wtf_replica.specs.Spans.{Span, span}
 use Rattle.wtf_model.specs.declared.answer.Answer.{Answer}
 use Rattle.wtf_model.specs.declared.answer.Answer.TheVariants as answer
@@ -16,19 +18,23 @@ use Rattle.wtf_model.specs.Machines.{Machine}
 use Rattle.wtf_model.specs.Servers.{down_after_event}
 use Rattle.wtf_model.specs.Steps.{after}
 use Rattle.wtf_gc.specs.Extents.{covers}
-use Rattle.wtf_clients.specs.Asked.{asked_of, IsPlaced, SparesFiles, HasFailed}
+use Rattle.wtf_changes.specs.Since.{IsChangesOf}
+use Rattle.wtf_clients.specs.Asked.{asked_of, IsPlaced, HasFailed}
 use Rattle.wtf_clients.specs.Keeping.{KeeperSpan, KeeperTurn, HoldsKept}
+use Rattle.wtf_clients.specs.Leaving.{LeavesAlone}
 use Rattle.wtf_clients.specs.Outcomes.{AddsBytes, IsUnspilled, SaveFault, HasCause, load_of}
+use Rattle.wtf_clients.specs.Saves.{Saves}
 use Rattle.wtf_clients.specs.ScanTurns.{IsPruned}
 use Rattle.wtf_clients.specs.Sounds.{AreSound, IsAlike}
-use Rattle.wtf_clients.specs.Views.{TablesView}
+use Rattle.wtf_clients.specs.Views.{TablesView, watching}
 use Rattle.wtf_core.specs.Answers.{IsEvent}
 use Rattle.wtf_core.specs.Named.{IsInside, IsBased, IsBare, IsFull}
 use Rattle.wtf_core.specs.Pictured.{HoldsTree, HoldsTaken, HoldsWith}
 use Rattle.wtf_core.specs.Standing.{StandsFor}
 use Rattle.wtf_core.specs.Remembering.{KeepsPunched}
-use Rattle.wtf_core.specs.Quiet.{Saved, IsAtStage, HasCollected, ImageNames, IsIdle}
+use Rattle.wtf_core.specs.Quiet.{Saved, IsAtStage, HasCollected, ImageNames, IsIdle, WatchesNoOther}
 use Rattle.wtf_core.specs.Telling.{TellsCore, ServesTelling}
+use Rattle.wtf_core.specs.Turns.{IsLine}
 use Rattle.wtf_core.specs.Views.{CoreView, lent_of}
 
 -- the stores, what is seen of the keeper, and the core, at one time
@@ -77,10 +83,10 @@ LeavesNamed kind new k =
 -- The machine may give that answer, and the core stands for its next. What a keeper holds that tells it goes on being the image
 -- of a tree that the machine may have saved, where it is one at a number that is kept for it, as it goes on to be (`Keeps.held`), so that no
 -- collection takes its bytes; and one that a run can begin with; after a save it is that of the core, with just
--- its numbers. A save of a machine of which nothing is open begins a quiet ending; and one behind a quiet ending leaves an image that names
--- each byte of the server that was not freed.
+-- its numbers. A save of a machine of which nothing is open begins a quiet ending, where no other number is watched; and one behind a quiet ending
+-- leaves an image that names each byte of the server that was not freed.
 pub record IsLawful {S : Type 0} (kind : StoreKind S) (old new : Scene S) (m : Machine) (e : Event) (a : Answer) : Type 0 where
-  pub rests : IsIdle m → (n : ℕ) → e ≡ event.Save → a ≡ answer.Saved n → IsAtStage kind new.shelf new.core Saved
+  pub rests : IsIdle m → WatchesNoOther old.core.tables → (n : ℕ) → e ≡ event.Save → a ≡ answer.Saved n → IsAtStage kind new.shelf new.core Saved
   pub left : (k n : ℕ) → HasCollected kind old.shelf old.core k → e ≡ event.Save → a ≡ answer.Saved n → old.keeper.tells ≡ true → LeavesNamed kind new k
   pub event : IsEvent (byte_at kind new.shelf) new.core m e a
   pub trees : old.keeper.tells ≡ true → HasRoom old.core → HoldsKept old.keeper old.core.settings old.core.tables
@@ -96,18 +102,16 @@ abbrev pub Obeys : {S : Type 0} → StoreKind S → Scene S → Scene S → Even
 Obeys kind old new e a =
     TellsCore kind old.shelf old.core → (m : Machine) → StandsFor (byte_at kind old.shelf) old.core m → IsLawful kind old new m e a
 
--- the stores grew by what the line writes, where that goes; and where bytes were not stored, only the file to which they were to go may
--- have grown
+-- the stores grew by what the line writes, where that goes
 pub record Stores {S : Type 0} (kind : StoreKind S) (old new : Scene S) (e : Event) (a : Answer) : Type 0 where
   pub adds : AddsBytes kind (span_of old new) old.core.settings (load_of e) a
-  pub placed : IsPlaced kind (span_of old new) old.core.settings (asked_of kind (span_of old new) (lent_of old.core) old.core.tables e) a
-  pub spares : SparesFiles kind (span_of old new) (asked_of kind (span_of old new) (lent_of old.core) old.core.tables e) a
+  pub placed : IsPlaced kind (span_of old new) old.core.settings (asked_of kind (span_of old new) (lent_of old.core new.core) old.core.tables e) a
 
 -- a fault has its cause in this very line
 pub record IsCaused {S : Type 0} (kind : StoreKind S) (old new : Scene S) (e : Event) (a : Answer) : Type 0 where
   pub cause : HasCause kind (span_of old new) old.core.settings
       (SaveFault kind (span_of old new) old.core.settings (Rose old.keeper.faults new.keeper.faults) e) (IsBased old.core) (IsFull old.core) (load_of e) a
-  pub failed : HasFailed (asked_of kind (span_of old new) (lent_of old.core) old.core.tables e).fails a
+  pub failed : HasFailed (asked_of kind (span_of old new) (lent_of old.core new.core) old.core.tables e).fails a
 
 -- what a line does over stores that tell all that the core names
 abbrev pub GoesOnTold : {S : Type 0} → StoreKind S → Scene S → Scene S → Event → Answer → Type 0
@@ -123,12 +127,13 @@ pub record Keeps {S : Type 0} (kind : StoreKind S) (k : KeeperSpan) (old new : S
   pub held : k.before.tells ≡ true → HoldsKept k.before old.core.settings old.core.tables
       → HoldsKept k.after old.core.settings new.core.tables
 
--- whatever comes of the line: the settings are the same, the tables sound, and no number rises by more than one
+-- whatever comes of the line: the settings are the same, the tables sound, no number rises by more than one, and what is watched stays
 pub record Stays (old new : CoreView) : Type 0 where
   pub settings : new.settings ≡ old.settings
   pub sound : AreSound new.tables
   pub number : new.tables.kv.number ≤ old.tables.kv.number + 1
   pub next_tx : new.tables.next_tx ≤ old.tables.next_tx + 1
+  pub watched : new.tables.beside.watched ≡ old.tables.beside.watched
 
 -- What want of memory leaves of the tables: all as it was. Parts of a scan may have dropped versions before that no one sees.
 abbrev pub IsLeftBy : Event → (old new : TablesView) → Type 0
@@ -139,3 +144,41 @@ IsLeftBy e old new = IsAlike old new
 pub record Closes (old new : CoreView) (e : Event) : Type 0 where
   pub closed : new.closed ≡ true
   pub left : IsLeftBy e old.tables new.tables
+
+-- the number is watched from now on, in place of the one before; all else that is seen of the core stays
+pub record Watches (old new : CoreView) : Type 0 where
+  pub tables : Saves old.tables new.tables (watching old.tables.beside old.tables.kv.number)
+  pub rest : new ≡ record old { tables = new.tables }
+
+-- what installs changed since the number that was watched is told, and the number of installs is watched in its place
+pub record IsRecordOf (old new : CoreView) (bytes : List ℕ) : Type 0 where
+  pub since : ℕ
+  pub was : old.tables.beside.watched ≡ Some since
+  pub later : since ≢ old.tables.kv.number
+  pub changes : IsChangesOf old.tables.kv since old.tables.next_tx bytes
+  pub watches : Watches old new
+
+-- What a core does of a line that it answers.
+pub record CoreDoes {S : Type 0} (kind : StoreKind S) (k : KeeperSpan) (old new : Scene S) (e : Event) (a : Answer) : Type 0 where
+  pub goes_on : GoesOn kind old new e a
+  pub turn : IsLine kind (span_of old new) old.core new.core e a
+  pub lawful : Obeys kind old new e a
+  pub stored : Stores kind old new e a
+  pub caused : IsCaused kind old new e a
+  pub kept : Keeps kind k old new e a
+  pub told : GoesOnTold kind old new e a
+  pub punched : HasPunched kind old new e a
+
+-- What it leaves of one that wants memory: the metadata are as they were, and the core is closed; nothing was punched, no store was synced, also
+-- by a save, and the keeper is as it was.
+pub record CoreFails {S : Type 0} (kind : StoreKind S) (k : KeeperSpan) (old new : Scene S) (e : Event) : Type 0 where
+  pub closes : Closes old.core new.core e
+  pub follows : EachFollows kind old.shelf new.shelf []
+  pub unsynced : SameSyncs kind old.shelf new.shelf
+  pub untouched : k.untouched
+
+-- Whatever comes of a line: what stays of the core; no store of a server that is down was touched, only a save synced, no file of a store grew but the
+-- one to which bytes of the line were to go, and a line that reads no list leaves those that are remembered.
+pub record CoreStays {S : Type 0} (kind : StoreKind S) (old new : Scene S) (e : Event) : Type 0 where
+  pub core : Stays old.core new.core
+  pub leaves : LeavesAlone kind (span_of old new) (lent_of old.core new.core) old.core.tables e

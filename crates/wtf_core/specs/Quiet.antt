@@ -72,15 +72,25 @@ pub record AreIdle (tables : TablesView) : Type 0 where
   pub clients : (c : ℕ) → of_client tables.clients c ≡ None
   pub jobs : (j : ℕ) → of_label tables.beside.jobs j ≡ None
 
--- and the image at the number is the only one that may be on the keeper
+-- no number but that of installs is watched
+abbrev pub WatchesNoOther : TablesView → Type 0
+WatchesNoOther tables = (n : ℕ) → tables.beside.watched ≡ Some n → n ≡ tables.kv.number
+
+-- and the image at the number is the only one that may be on the keeper, and no other number is watched
 pub record IsAtRest (tables : TablesView) : Type 0 where
   pub idle : AreIdle tables
   pub image : tables.beside.images ≡ tables.kv.number ∷ []
   pub some : tables.beside.none ≡ false
+  pub watched : WatchesNoOther tables
 
--- the number now, or that of an image that may be on the keeper
+-- the number that is watched
+abbrev pub is_watched : Option ℕ → ℕ → Bool
+is_watched None n = false
+is_watched (Some w) n = nat_eq n w
+
+-- the number now, that of an image that may be on the keeper, or the one that is watched
 abbrev pub is_kept : TablesView → ℕ → Bool
-is_kept tables n = nat_eq n tables.kv.number || list_any (nat_eq n) tables.beside.images
+is_kept tables n = nat_eq n tables.kv.number || (list_any (nat_eq n) tables.beside.images || is_watched tables.beside.watched n)
 
 -- a scan began when the files were as long as they are, and found just what the versions that are kept name
 pub record HasScanned (size : ℕ) (told : Told) (length : ℕ → ℕ → ℕ) (kv : Store Key Value) (s : ScanView) : Type 0 where
@@ -88,7 +98,8 @@ pub record HasScanned (size : ℕ) (told : Told) (length : ℕ → ℕ → ℕ) 
   pub all : (p : Place) → KeptNames size told kv p → covers s.found p ≡ true
   pub only : (p : Place) → covers s.found p ≡ true → KeptNames size told kv p
 
--- One began then, and has pinned no number but the one now and the images'. It has found just what is named in the parts that are done.
+-- One began then, and has pinned no number but the one now, the images' and the one that is watched. It has found just what is named in the
+-- parts that are done.
 pub record HasBegun (size : ℕ) (told : Told) (length : ℕ → ℕ → ℕ) (tables : TablesView) (r : RunView) : Type 0 where
   pub marks : (k f : ℕ) → mark_of r.scan k f ≡ length k f
   pub left : r.left ≤ SCAN_PARTS

@@ -3,9 +3,7 @@
 use Rattle.std.specs.Prelude.{◌≡◌, ◌≢◌, ℕ, nat_lt, Bool, true, false, ⊤}
 use Rattle.std.specs.Bool.{MatchBool}
 use Rattle.wtf_dev.specs.Store.{StoreKind}
-use Rattle.wtf_dev.specs.Sums.{TellsAll}
 use Rattle.wtf_kv.specs.Stores.{Store}
-use Rattle.wtf_replica.specs.Bytes.{byte_at}
 use Rattle.wtf_replica.specs.Downs.{is_down}
 use Rattle.wtf_replica.specs.Spans.{Span}
 use Rattle.wtf_region.specs.declared.dev.Dev.{Dev}
@@ -22,11 +20,12 @@ use Rattle.wtf_model.specs.Tree.{Tree, rows_of}
 use Rattle.wtf_meta.specs.Contents.{Told}
 use Rattle.wtf_meta.specs.Trees.{Stands}
 use Rattle.wtf_clients.specs.Views.{metadata_now}
-use Rattle.wtf_core.specs.Views.{CoreView, lent_of, KnowsLists}
+use Rattle.wtf_core.specs.Views.{CoreView, lent_of}
 use Rattle.wtf_clients.specs.Asked.{IsLent}
 use Rattle.wtf_clients.specs.JobTurns.{PlanTurn, PutTurn, DropTurn}
 use Rattle.wtf_clients.specs.ScanTurns.{ScanTurn, PieceTurn, CollectTurn}
 use Rattle.wtf_clients.specs.Saves.{AreUp, SaveTurn}
+use Rattle.wtf_clients.specs.Seeing.{seeing}
 use Rattle.wtf_clients.specs.Sounds.{IsTidied}
 pub use Rattle.wtf_clients.specs.Turns.{Keeps, Refuses, Begins, Ends, Commits, Retries, Tries, TryTurn, Drops, Stays, Fails, Dumps, Tells, Calls, CallFails}
 pub use Rattle.wtf_clients.specs.Turns.{Replays, Aborts, StepFails, Finishes, GivesUp, CommitFails, Steps, Finals, LoneTurn, TxnTurn, ClientTurn}
@@ -56,7 +55,7 @@ IsTreeAnswer a = ⊥
 pub record IsByDevices {S : Type 0} (kind : StoreKind S) (t : Span S) (old new : CoreView) (P : Dev S → Dev S → Type 0) : Type 0 where
   pub before : Dev S
   pub after : Dev S
-  pub lent : IsLent t (lent_of old) before after
+  pub lent : IsLent t (lent_of old new) before after
   pub settings_after : after.settings ≡ old.settings
   pub sound : IsSoundDev kind before
   pub remembered_before : remembered before ≡ old.lists
@@ -67,13 +66,9 @@ pub record IsByDevices {S : Type 0} (kind : StoreKind S) (t : Span S) (old new :
 -- these lists, and which servers are down where the line says so.
 module _ {S : Type 0} (kind : StoreKind S) (t : Span S) where
   abbrev pub LineTurn : CoreView → CoreView → Event → Answer → Type 0
-  LineTurn old new (event.Client c v) a =
-      ClientTurn (TellsAll kind t.before) (KnowsLists kind t.before old) old.settings.servers old.settings.region (byte_at kind t.before) (byte_at kind t.after) old.tables
-      new.tables c v a
+  LineTurn old new (event.Client c v) a = ClientTurn (seeing kind t (lent_of old new)) old.tables new.tables c v a
       × (new ≡ record old { tables = new.tables; lists = new.lists })
-  LineTurn old new (event.Plan j job p r) a =
-      PlanTurn (TellsAll kind t.before) (KnowsLists kind t.before old) old.settings.servers old.settings.region (byte_at kind t.before) (byte_at kind t.after) old.tables new.tables
-      j job p r a
+  LineTurn old new (event.Plan j job p r) a = PlanTurn (seeing kind t (lent_of old new)) old.tables new.tables j job p r a
       × (new ≡ record old { tables = new.tables; lists = new.lists })
   LineTurn old new (event.Put j) a = PutTurn old.tables new.tables j a × (new ≡ record old { tables = new.tables })
   LineTurn old new (event.DropJob j) a = DropTurn old.tables new.tables j a × (new ≡ record old { tables = new.tables })
@@ -87,7 +82,7 @@ module _ {S : Type 0} (kind : StoreKind S) (t : Span S) where
   LineTurn old new (event.Down k) a = ServerTurn old new k true a
   LineTurn old new (event.Up k) a = ServerTurn old new k false a
   LineTurn old new (event.Dump p) a =
-      Dumps old.settings.servers old.settings.region (byte_at kind t.before) (KnowsLists kind t.before old) old.tables new.tables p a
+      Dumps (seeing kind t (lent_of old new)) old.tables new.tables p a
       × (new ≡ record old { tables = new.tables; lists = new.lists })
   LineTurn old new event.Tree a = ShowsTree old.settings.region old.tables.kv a × (new ≡ old) × IsTreeAnswer a
   LineTurn old new event.Save a =

@@ -17,9 +17,9 @@ pub record CoreView : Type 0 where
   pub closed : Bool
   pub lists : Remembered
 
--- what a line of it is lent
-abbrev pub lent_of : CoreView → Lending
-lent_of core = lending core.settings core.lists
+-- what a line of it is lent, and the lists that it leaves
+abbrev pub lent_of : (old new : CoreView) → Lending
+lent_of old new = lending old.settings old.lists new.lists
 
 -- what is known over these stores of the lists that the core remembers: each is true, but those of slices of which a byte lies in these ranges
 abbrev pub KnowsLists : {S : Type 0} → StoreKind S → List S → CoreView → TrueBut

@@ -5,5 +5,6 @@
 
 mod store;
 mod tree;
+mod verbs;
 
 pub use store::Core;

@@ -1,6 +1,6 @@
 //! The core.
 
-ghost use Rattle.std.specs.Prelude.{◌≡◌, ◌<◌, ◌≤◌, ◌^◌, ℕ, Bool, List, [], true, false, IsTrue, IsOk, IfOk, IfErr, OnOk, OnErr, length};
+ghost use Rattle.std.specs.Prelude.{◌≡◌, ◌≢◌, ◌↔◌, None, Some, IfSome, IsSome, MatchOption, ◌<◌, ◌≤◌, ◌^◌, ℕ, Bool, List, [], true, false, IsTrue, IsOk, IfOk, IfErr, OnOk, OnErr, length};
 ghost use Rattle.wtf_dev.specs.Each.{EachFollows};
 ghost use Rattle.wtf_dev.specs.Sums.{TellsAll};
 ghost use Rattle.wtf_base.specs.Limits.{AreSettings};
@@ -9,10 +9,9 @@ ghost use Rattle.wtf_overlay.specs.Origin.{Place};
 ghost use Rattle.wtf_replica.specs.Bytes.{byte_at};
 ghost use Rattle.wtf_replica.specs.Downs.{is_down};
 ghost use Rattle.wtf_replica.specs.Spans.{span};
-ghost use Rattle.wtf_model.specs.Form.{IsFormEvent, IsFormVerb, IsFormOp, IsData};
-ghost use Rattle.wtf_model.specs.declared.limits.TheConstants.{MAX_JOBS};
+ghost use Rattle.wtf_model.specs.Form.{IsFormEvent};
 ghost use Rattle.wtf_model.specs.declared.event.Event.TheVariants as event;
-ghost use Rattle.wtf_model.specs.declared.event.Verb.TheVariants as verb;
+ghost use Rattle.wtf_model.specs.declared.event.Event.TheVariants.{Save};
 ghost use Rattle.wtf_model.specs.Machines.{start};
 ghost use Rattle.wtf_model.specs.Tree.{Tree, root_alone};
 ghost use Rattle.wtf_meta.specs.Contents.{Told};
@@ -22,30 +21,32 @@ ghost use Rattle.wtf_image.specs.Rules.{AreGoodSettings, size_in};
 ghost use Rattle.wtf_image.specs.Loading.{IsRefusal};
 ghost use Rattle.wtf_image.specs.Outcome.{IsLoadOf};
 ghost use Rattle.wtf_clients.specs.Views.{unsaved};
-ghost use Rattle.wtf_clients.specs.Sounds.{AreSound, IsAlike};
+ghost use Rattle.wtf_clients.specs.Sounds.{AreSound};
 ghost use Rattle.wtf_core.specs.Standing.{StandsFor};
-ghost use Rattle.wtf_core.specs.Turns.{takes_no_memory, LineTurn, IsLine, ServerTurn, ShowsTree, IsTreeAnswer};
+ghost use Rattle.wtf_core.specs.Turns.{takes_no_memory, ServerTurn, ShowsTree, IsTreeAnswer};
 ghost use Rattle.wtf_core.specs.Named.{CoreBytes, IsInside, IsBare};
-ghost use Rattle.wtf_core.specs.Remembering.{KeepsLists, KeepsPunched};
-ghost use Rattle.wtf_core.specs.Telling.{TellsCore, IsWithin, stores_of, ServesTurn};
+ghost use Rattle.wtf_core.specs.Telling.{TellsCore, IsWithin, stores_of};
 ghost use Rattle.wtf_clients.specs.Serves.{ServesLine, ServesEvent};
 ghost use Rattle.wtf_core.specs.Views.{lent_of};
 ghost use Rattle.wtf_clients.specs.Keeping.{KeeperTurn, IsHeldBy, keeper_span};
 ghost use Rattle.wtf_core.specs.Pictured.{IsImageOfTree, IsBareImage};
-ghost use Rattle.wtf_core.specs.Promises.{scene, GoesOn, Obeys, Stores, IsCaused, Keeps, GoesOnTold, HasPunched, Stays, IsLeftBy, Closes};
+ghost use Rattle.wtf_core.specs.Ended.{LineEnds};
+ghost use Rattle.wtf_core.specs.Lent.{is_of_tables};
+ghost use Rattle.wtf_core.specs.Promises.{scene, Closes, CoreDoes, CoreFails, CoreStays, IsRecordOf, Watches};
 ghost use Rattle.wtf_dev.specs.Counts.{Rose};
 ghost use Rattle.wtf_replica.specs.Outs.{SameLengths};
 ghost use Rattle.wtf_core.specs.Loading.{IsCoreOf};
 
 use crate::tree::tree_now;
+use crate::verbs::tables_line;
 use std::alloc::Global;
 use std::marker::Model;
-use wtf_base::{Bytes, OutOfMemory, Settings};
+use wtf_base::{OutOfMemory, Settings};
+use wtf_changes::changes;
 use wtf_clients::Tables;
 use wtf_dev::{Keeper, Shelf, SliceStore};
 use wtf_image::{LoadError, Loaded};
-use wtf_model::{Answer, Event, JobKind, Op, Verb, Word, copy_op};
-use wtf_path::Path;
+use wtf_model::{Answer, Event, Word};
 use wtf_region::{Dev, RegionCache};
 use wtf_replica::Replicas;
 use wtf_ring::Ring;
@@ -262,37 +263,20 @@ impl Core {
         requires open { self.old.closed ≡ false }
         requires shelf { self.old.settings.servers ≤ length shelf.old }
         requires form { IsFormEvent event.now }
-        requires number { self.old.tables.kv.number < 2 ^ 63 }
-        requires next_tx { self.old.tables.next_tx < 2 ^ 63 }
+        requires number { event.now ≢ Save → self.old.tables.kv.number < 2 ^ 63 }
+        requires next_tx { event.now ≢ Save → self.old.tables.next_tx < 2 ^ 63 }
         requires inside { IsInside S.kind shelf.old self.old }
-        ensures goes_on { IfOk result (GoesOn S.kind
-            (scene shelf.old (K.view keeper.old) self.old)
-            (scene shelf.new (K.view keeper.new) self.new) event.now) }
-        ensures turn { IfOk result (IsLine S.kind
-            (span (is_down self.old.replicas) shelf.old shelf.new) self.old self.new event.now) }
-        ensures lawful { IfOk result (Obeys S.kind
-            (scene shelf.old (K.view keeper.old) self.old)
-            (scene shelf.new (K.view keeper.new) self.new) event.now) }
-        ensures stored { IfOk result (Stores S.kind
-            (scene shelf.old (K.view keeper.old) self.old)
-            (scene shelf.new (K.view keeper.new) self.new) event.now) }
-        ensures caused { IfOk result (IsCaused S.kind
-            (scene shelf.old (K.view keeper.old) self.old)
-            (scene shelf.new (K.view keeper.new) self.new) event.now) }
-        ensures kept { IfOk result (Keeps S.kind
+        ensures does { IfOk result (CoreDoes S.kind
             (keeper_span K.view K.follows K.refused keeper.old keeper.new)
             (scene shelf.old (K.view keeper.old) self.old)
             (scene shelf.new (K.view keeper.new) self.new) event.now) }
-        ensures told { IfOk result (GoesOnTold S.kind
+        ensures fails { OnErr result (CoreFails S.kind
+            (keeper_span K.view K.follows K.refused keeper.old keeper.new)
             (scene shelf.old (K.view keeper.old) self.old)
             (scene shelf.new (K.view keeper.new) self.new) event.now) }
-        ensures punched { IfOk result (HasPunched S.kind
+        ensures stays { CoreStays S.kind
             (scene shelf.old (K.view keeper.old) self.old)
-            (scene shelf.new (K.view keeper.new) self.new) event.now) }
-        ensures unpunched { OnErr result (EachFollows S.kind shelf.old shelf.new []) }
-        ensures stays { Stays self.old self.new }
-        ensures closed { OnErr result (Closes self.old self.new event.now) }
-        ensures untouched { OnErr result (keeper.new ≡ keeper.old) }
+            (scene shelf.new (K.view keeper.new) self.new) event.now }
         ensures sure { IsTrue (takes_no_memory event.now) → IsOk result }
     {
         let _number = self.tables.number();
@@ -318,38 +302,91 @@ impl Core {
     ) -> Result<Answer, OutOfMemory>
         requires open { self.old.closed ≡ false }
         requires shelf { self.old.settings.servers ≤ length shelf.old }
-        requires number { self.old.tables.kv.number < 2 ^ 63 }
-        requires next_tx { self.old.tables.next_tx < 2 ^ 63 }
         requires inside { IsInside S.kind shelf.old self.old }
-        ensures goes_on { IfOk result (GoesOn S.kind
-            (scene shelf.old (K.view keeper.old) self.old)
-            (scene shelf.new (K.view keeper.new) self.new) event.Save) }
-        ensures turn { IfOk result (IsLine S.kind
-            (span (is_down self.old.replicas) shelf.old shelf.new) self.old self.new event.Save) }
-        ensures lawful { IfOk result (Obeys S.kind
-            (scene shelf.old (K.view keeper.old) self.old)
-            (scene shelf.new (K.view keeper.new) self.new) event.Save) }
-        ensures caused { IfOk result (IsCaused S.kind
-            (scene shelf.old (K.view keeper.old) self.old)
-            (scene shelf.new (K.view keeper.new) self.new) event.Save) }
-        ensures kept { IfOk result (Keeps S.kind
+        ensures does { IfOk result (CoreDoes S.kind
             (keeper_span K.view K.follows K.refused keeper.old keeper.new)
             (scene shelf.old (K.view keeper.old) self.old)
             (scene shelf.new (K.view keeper.new) self.new) event.Save) }
-        ensures told { IfOk result (GoesOnTold S.kind
+        ensures fails { OnErr result (CoreFails S.kind
+            (keeper_span K.view K.follows K.refused keeper.old keeper.new)
             (scene shelf.old (K.view keeper.old) self.old)
             (scene shelf.new (K.view keeper.new) self.new) event.Save) }
+        ensures stays { CoreStays S.kind
+            (scene shelf.old (K.view keeper.old) self.old)
+            (scene shelf.new (K.view keeper.new) self.new) event.Save }
         ensures follows { EachFollows S.kind shelf.old shelf.new [] }
-        ensures stays { Stays self.old self.new }
-        ensures closed { OnErr result (Closes self.old self.new event.Save) }
-        ensures untouched { OnErr result (keeper.new ≡ keeper.old) }
         ensures lengths { OnOk result (SameLengths S.kind shelf.old shelf.new) }
     {
         let line = Event::Save;
         self.event(shelf, keeper, &line)
     }
 
-    /// Answers one line.
+    /// Watches the number of installs, in place of the number that was watched before: the map there can be
+    /// read as long as it is watched. After want of memory the core is closed.
+    pub fn watch(&mut self) -> Result<(), OutOfMemory>
+        requires open { self.old.closed ≡ false }
+        ensures watched { OnOk result (Watches self.old self.new) }
+        ensures closed { OnErr result (Closes self.old self.new event.Tree) }
+    {
+        let watched = self.tables.watch();
+        // all tables are sound, so these are
+        let _number = self.tables.number();
+        self.closed = watched.is_err();
+        watched
+    }
+
+    /// Tells what installs changed since the number that is watched, and watches the number of installs in
+    /// its place: None where none came since, which takes no memory. After want of memory the core is closed.
+    pub fn record(&mut self) -> Result<Option<Vec<u8>>, OutOfMemory>
+        requires open { self.old.closed ≡ false }
+        requires watched { IsSome self.old.tables.beside.watched }
+        ensures none { IfOk result (λ o.
+            (o ≡ None) ↔ (self.old.tables.beside.watched ≡ Some self.old.tables.kv.number)) }
+        ensures same { IfOk result (λ o. o ≡ None → self.new ≡ self.old) }
+        ensures changes { IfOk result (λ o. IfSome o (λ v. IsRecordOf self.old self.new v.items)) }
+        ensures sure { self.old.tables.beside.watched ≡ Some self.old.tables.kv.number →
+            IsOk result }
+        ensures closed { OnErr result (Closes self.old self.new event.Tree) }
+    {
+        let recorded = self.recorded();
+        self.closed = recorded.is_err();
+        recorded
+    }
+
+    /// The same; want of memory leaves the core as it is.
+    fn recorded(&mut self) -> Result<Option<Vec<u8>>, OutOfMemory>
+        requires { IsSome self.old.tables.beside.watched }
+        ensures told { IfOk result (λ o. MatchOption o
+            ((self.new ≡ self.old) ×
+            (self.old.tables.beside.watched ≡ Some self.old.tables.kv.number))
+            (λ v. IsRecordOf self.old self.new v.items)) }
+        ensures sure { self.old.tables.beside.watched ≡ Some self.old.tables.kv.number →
+            IsOk result }
+        ensures closed { self.new.closed ≡ self.old.closed }
+        ensures same { OnErr result (self.new ≡ self.old) }
+    {
+        let since = match self.tables.watched() {
+            Some(since) => since,
+            None => unreachable!(),
+        };
+        if since == self.tables.number() {
+            return Ok(None);
+        }
+        let next_tx = self.tables.next_tx();
+        let told = match changes(self.alloc, self.tables.kv(), since, next_tx) {
+            Ok(told) => told,
+            Err(why) => return Err(why),
+        };
+        let watched = self.tables.watch();
+        // all tables are sound, so these are
+        let _number = self.tables.number();
+        match watched {
+            Ok(()) => return Ok(Some(told)),
+            Err(why) => return Err(why),
+        }
+    }
+
+    /// Answers one line; versions that no one sees any more are not dropped yet.
     fn answer<S: SliceStore, K: Keeper>(
         &mut self,
         shelf: &mut Shelf<S>,
@@ -360,90 +397,65 @@ impl Core {
         requires inside { IsInside S.kind shelf.old self.old }
         requires sound { AreSound self.old.tables }
         requires form { IsFormEvent event.now }
-        requires number { self.old.tables.kv.number < 2 ^ 63 }
-        requires next_tx { self.old.tables.next_tx < 2 ^ 63 }
-        ensures turn { IfOk result (LineTurn S.kind
-            (span (is_down self.old.replicas) shelf.old shelf.new) self.old self.new
-            event.now) }
+        requires number { event.now ≢ Save → self.old.tables.kv.number < 2 ^ 63 }
+        requires next_tx { event.now ≢ Save → self.old.tables.next_tx < 2 ^ 63 }
+        ensures ends { LineEnds S.kind (span (is_down self.old.replicas) shelf.old shelf.new)
+            self.old self.new event.now result }
         ensures serves { IfOk result (ServesEvent S.kind
-            (span (is_down self.old.replicas) shelf.old shelf.new) (lent_of self.old)
+            (span (is_down self.old.replicas) shelf.old shelf.new) (lent_of self.old self.new)
             (Rose (K.view keeper.old).faults (K.view keeper.new).faults)
             (self.old.tables, self.new.tables) event.now) }
-        ensures told { IfOk result (ServesTurn S.kind
-            (span (is_down self.old.replicas) shelf.old shelf.new) self.old self.new event.now) }
         ensures keeper { IfOk result (KeeperTurn S.kind
             (span (is_down self.old.replicas) shelf.old shelf.new)
             (keeper_span K.view K.follows K.refused keeper.old keeper.new) self.old.settings
             self.old.tables self.new.tables event.now) }
         ensures untouched { OnErr result (keeper.new ≡ keeper.old) }
-        ensures sure { IsTrue (takes_no_memory event.now) → IsOk result }
-        ensures err { OnErr result (IsLeftBy event.now self.old.tables self.new.tables) }
-        ensures settings { self.new.settings ≡ self.old.settings }
-        ensures closed { self.new.closed ≡ self.old.closed }
-        ensures punched { IfOk result (KeepsPunched S.kind shelf.old shelf.new self.old self.new event.now) }
-        ensures lists { OnErr result (KeepsLists S.kind shelf.old shelf.new [] self.old self.new) }
-        ensures shelf { OnErr result (EachFollows S.kind shelf.old shelf.new []) }
     {
         match event {
-            Event::Client(c, verb) => return self.client(shelf, *c, verb),
-            Event::Plan {
-                job,
-                kind,
-                path,
-                region,
-            } => return self.plan(shelf, *job, *kind, path, *region),
-            Event::Put(job) => return self.tables.put_job(*job),
-            Event::DropJob(job) => return Ok(self.tables.drop_job(*job)),
-            Event::Scan => return self.scan(shelf),
-            Event::Piece(parts) => return self.piece(shelf, *parts),
-            Event::Collect(k) => return self.collect(shelf, *k),
             Event::Down(k) => return Ok(self.server(*k, true)),
             Event::Up(k) => return Ok(self.server(*k, false)),
-            Event::Dump(p) => return self.dump(shelf, p),
-            Event::Tree => match self.show() {
-                Ok(answer) => return Ok(answer),
-                Err(why) => return Err(why),
-            },
-            Event::Save => return self.save_now(shelf, keeper),
+            Event::Tree => return self.show(),
+            Event::Save => {
+                let saved = self
+                    .tables
+                    .save(&self.replicas, self.settings, shelf, keeper);
+                // all tables are sound, so these are
+                let _number = self.tables.number();
+                return saved;
+            }
+            _ => return self.by_tables(shelf, event),
         }
     }
 
-    /// Saves the tree now.
-    fn save_now<S: SliceStore, K: Keeper>(
+    /// Answers a line of the tables, which are lent the stores and what is remembered of them.
+    fn by_tables<S: SliceStore>(
         &mut self,
         shelf: &mut Shelf<S>,
-        keeper: &mut K,
+        event: &Event,
     ) -> Result<Answer, OutOfMemory>
         requires shelf { self.old.settings.servers ≤ length shelf.old }
         requires inside { IsInside S.kind shelf.old self.old }
-        ensures turn { IfOk result (LineTurn S.kind
-            (span (is_down self.old.replicas) shelf.old shelf.new) self.old self.new
-            event.Save) }
-        ensures serves { IfOk result (ServesEvent S.kind
-            (span (is_down self.old.replicas) shelf.old shelf.new) (lent_of self.old)
-            (Rose (K.view keeper.old).faults (K.view keeper.new).faults)
-            (self.old.tables, self.new.tables) event.Save) }
-        ensures told { IfOk result (ServesTurn S.kind
-            (span (is_down self.old.replicas) shelf.old shelf.new) self.old self.new
-            event.Save) }
-        ensures keeper { IfOk result (KeeperTurn S.kind
-            (span (is_down self.old.replicas) shelf.old shelf.new)
-            (keeper_span K.view K.follows K.refused keeper.old keeper.new) self.old.settings
-            self.old.tables self.new.tables event.Save) }
-        ensures untouched { OnErr result (keeper.new ≡ keeper.old) }
-        ensures err { OnErr result (IsAlike self.old.tables self.new.tables) }
-        ensures settings { self.new.settings ≡ self.old.settings }
-        ensures closed { self.new.closed ≡ self.old.closed }
-        ensures lists { KeepsLists S.kind shelf.old shelf.new [] self.old self.new }
-        ensures shelf { EachFollows S.kind shelf.old shelf.new [] }
+        requires asked { is_of_tables event.now ≡ true }
+        requires form { IsFormEvent event.now }
+        requires number { self.old.tables.kv.number < 2 ^ 63 }
+        requires next_tx { self.old.tables.next_tx < 2 ^ 63 }
+        ensures ends { LineEnds S.kind (span (is_down self.old.replicas) shelf.old shelf.new)
+            self.old self.new event.now result }
+        ensures serves { IfOk result (ServesLine S.kind
+            (span (is_down self.old.replicas) shelf.old shelf.new) (lent_of self.old self.new)
+            self.old.tables self.new.tables event.now) }
     {
-        match self
-            .tables
-            .save(&self.replicas, self.settings, shelf, keeper)
-        {
-            Ok(answer) => return Ok(answer),
-            Err(why) => return Err(why),
-        }
+        let mut dev = Dev {
+            shelf,
+            replicas: &self.replicas,
+            ring: &self.ring,
+            cache: &mut self.cache,
+            settings: self.settings,
+        };
+        let result = tables_line(self.alloc, &mut self.tables, &mut dev, event);
+        // all tables are sound, so these are
+        let _number = self.tables.number();
+        result
     }
 
     /// Shows the tree now.
@@ -452,317 +464,6 @@ impl Core {
         ensures tree { IfOk result IsTreeAnswer }
     {
         tree_now(self.alloc, self.tables.kv(), self.settings)
-    }
-
-    /// Answers a client's line.
-    fn client<S: SliceStore>(
-        &mut self,
-        shelf: &mut Shelf<S>,
-        c: u8,
-        verb: &Verb,
-    ) -> Result<Answer, OutOfMemory>
-        requires shelf { self.old.settings.servers ≤ length shelf.old }
-        requires inside { IsInside S.kind shelf.old self.old }
-        requires form { IsFormVerb verb.now }
-        requires number { self.old.tables.kv.number < 2 ^ 63 }
-        requires next_tx { self.old.tables.next_tx < 2 ^ 63 }
-        ensures turn { IfOk result (LineTurn S.kind
-            (span (is_down self.old.replicas) shelf.old shelf.new) self.old self.new
-            (event.Client c verb.now)) }
-        ensures serves { IfOk result (ServesLine S.kind
-            (span (is_down self.old.replicas) shelf.old shelf.new) (lent_of self.old)
-            self.old.tables self.new.tables (event.Client c verb.now)) }
-        ensures told { IfOk result (ServesTurn S.kind
-            (span (is_down self.old.replicas) shelf.old shelf.new) self.old self.new
-            (event.Client c verb.now)) }
-        ensures sure { IsTrue (takes_no_memory (event.Client c verb.now)) → IsOk result }
-        ensures err { OnErr result (IsAlike self.old.tables self.new.tables) }
-        ensures settings { self.new.settings ≡ self.old.settings }
-        ensures closed { self.new.closed ≡ self.old.closed }
-        ensures lists { KeepsLists S.kind shelf.old shelf.new [] self.old self.new }
-        ensures shelf { EachFollows S.kind shelf.old shelf.new [] }
-    {
-        match verb {
-            Verb::Begin => return self.tables.begin(c),
-            Verb::Try => return self.tables.attempt(c),
-            Verb::Step => return self.step(shelf, c),
-            Verb::Commit => return self.commit(shelf, c),
-            Verb::Abort => return Ok(self.tables.abort(c)),
-            Verb::Call(op) => return self.call(shelf, c, op),
-        }
-    }
-
-    /// Makes a call of a client.
-    fn call<S: SliceStore>(
-        &mut self,
-        shelf: &mut Shelf<S>,
-        c: u8,
-        op: &Op<Bytes>,
-    ) -> Result<Answer, OutOfMemory>
-        requires shelf { self.old.settings.servers ≤ length shelf.old }
-        requires inside { IsInside S.kind shelf.old self.old }
-        requires form { IsFormOp IsData op.now }
-        ensures turn { IfOk result (LineTurn S.kind
-            (span (is_down self.old.replicas) shelf.old shelf.new) self.old self.new
-            (event.Client c (verb.Call op.now))) }
-        ensures serves { IfOk result (ServesLine S.kind
-            (span (is_down self.old.replicas) shelf.old shelf.new) (lent_of self.old)
-            self.old.tables self.new.tables (event.Client c (verb.Call op.now))) }
-        ensures told { IfOk result (ServesTurn S.kind
-            (span (is_down self.old.replicas) shelf.old shelf.new) self.old self.new
-            (event.Client c (verb.Call op.now))) }
-        ensures err { OnErr result (IsAlike self.old.tables self.new.tables) }
-        ensures settings { self.new.settings ≡ self.old.settings }
-        ensures closed { self.new.closed ≡ self.old.closed }
-        ensures lists { KeepsLists S.kind shelf.old shelf.new [] self.old self.new }
-        ensures shelf { EachFollows S.kind shelf.old shelf.new [] }
-    {
-        let made = match copy_op(self.alloc, op) {
-            Ok(made) => made,
-            Err(why) => return Err(why),
-        };
-        let mut dev = Dev {
-            shelf,
-            replicas: &self.replicas,
-            ring: &self.ring,
-            cache: &mut self.cache,
-            settings: self.settings,
-        };
-        match self.tables.call(&mut dev, c, made) {
-            Ok(answer) => return Ok(answer),
-            Err(why) => return Err(why),
-        }
-    }
-
-    /// Replays the next call of a client.
-    fn step<S: SliceStore>(&mut self, shelf: &mut Shelf<S>, c: u8) -> Result<Answer, OutOfMemory>
-        requires shelf { self.old.settings.servers ≤ length shelf.old }
-        requires inside { IsInside S.kind shelf.old self.old }
-        ensures turn { IfOk result (LineTurn S.kind
-            (span (is_down self.old.replicas) shelf.old shelf.new) self.old self.new
-            (event.Client c verb.Step)) }
-        ensures serves { IfOk result (ServesLine S.kind
-            (span (is_down self.old.replicas) shelf.old shelf.new) (lent_of self.old)
-            self.old.tables self.new.tables (event.Client c verb.Step)) }
-        ensures told { IfOk result (ServesTurn S.kind
-            (span (is_down self.old.replicas) shelf.old shelf.new) self.old self.new
-            (event.Client c verb.Step)) }
-        ensures err { OnErr result (IsAlike self.old.tables self.new.tables) }
-        ensures settings { self.new.settings ≡ self.old.settings }
-        ensures closed { self.new.closed ≡ self.old.closed }
-        ensures lists { KeepsLists S.kind shelf.old shelf.new [] self.old self.new }
-        ensures shelf { EachFollows S.kind shelf.old shelf.new [] }
-    {
-        let mut dev = Dev {
-            shelf,
-            replicas: &self.replicas,
-            ring: &self.ring,
-            cache: &mut self.cache,
-            settings: self.settings,
-        };
-        match self.tables.step(&mut dev, c) {
-            Ok(answer) => return Ok(answer),
-            Err(why) => return Err(why),
-        }
-    }
-
-    /// Commits the transaction of a client.
-    fn commit<S: SliceStore>(&mut self, shelf: &mut Shelf<S>, c: u8) -> Result<Answer, OutOfMemory>
-        requires shelf { self.old.settings.servers ≤ length shelf.old }
-        requires inside { IsInside S.kind shelf.old self.old }
-        requires number { self.old.tables.kv.number < 2 ^ 63 }
-        ensures turn { IfOk result (LineTurn S.kind
-            (span (is_down self.old.replicas) shelf.old shelf.new) self.old self.new
-            (event.Client c verb.Commit)) }
-        ensures serves { IfOk result (ServesLine S.kind
-            (span (is_down self.old.replicas) shelf.old shelf.new) (lent_of self.old)
-            self.old.tables self.new.tables (event.Client c verb.Commit)) }
-        ensures told { IfOk result (ServesTurn S.kind
-            (span (is_down self.old.replicas) shelf.old shelf.new) self.old self.new
-            (event.Client c verb.Commit)) }
-        ensures err { OnErr result (IsAlike self.old.tables self.new.tables) }
-        ensures settings { self.new.settings ≡ self.old.settings }
-        ensures closed { self.new.closed ≡ self.old.closed }
-        ensures lists { KeepsLists S.kind shelf.old shelf.new [] self.old self.new }
-        ensures shelf { EachFollows S.kind shelf.old shelf.new [] }
-    {
-        let mut dev = Dev {
-            shelf,
-            replicas: &self.replicas,
-            ring: &self.ring,
-            cache: &mut self.cache,
-            settings: self.settings,
-        };
-        match self.tables.commit(&mut dev, c) {
-            Ok(answer) => return Ok(answer),
-            Err(why) => return Err(why),
-        }
-    }
-
-    /// Plans a job.
-    fn plan<S: SliceStore>(
-        &mut self,
-        shelf: &mut Shelf<S>,
-        j: u8,
-        kind: JobKind,
-        p: &Path,
-        region: u64,
-    ) -> Result<Answer, OutOfMemory>
-        requires shelf { self.old.settings.servers ≤ length shelf.old }
-        requires inside { IsInside S.kind shelf.old self.old }
-        requires label { j < MAX_JOBS }
-        ensures turn { IfOk result (LineTurn S.kind
-            (span (is_down self.old.replicas) shelf.old shelf.new) self.old self.new
-            (event.Plan j kind p.now region)) }
-        ensures serves { IfOk result (ServesLine S.kind
-            (span (is_down self.old.replicas) shelf.old shelf.new) (lent_of self.old)
-            self.old.tables self.new.tables (event.Plan j kind p.now region)) }
-        ensures told { IfOk result (ServesTurn S.kind
-            (span (is_down self.old.replicas) shelf.old shelf.new) self.old self.new
-            (event.Plan j kind p.now region)) }
-        ensures err { OnErr result (IsAlike self.old.tables self.new.tables) }
-        ensures settings { self.new.settings ≡ self.old.settings }
-        ensures closed { self.new.closed ≡ self.old.closed }
-        ensures lists { KeepsLists S.kind shelf.old shelf.new [] self.old self.new }
-        ensures shelf { EachFollows S.kind shelf.old shelf.new [] }
-    {
-        let mut dev = Dev {
-            shelf,
-            replicas: &self.replicas,
-            ring: &self.ring,
-            cache: &mut self.cache,
-            settings: self.settings,
-        };
-        match self.tables.plan(&mut dev, j, kind, p, region) {
-            Ok(answer) => return Ok(answer),
-            Err(why) => return Err(why),
-        }
-    }
-
-    /// Starts a scan of what is in use.
-    fn scan<S: SliceStore>(&mut self, shelf: &mut Shelf<S>) -> Result<Answer, OutOfMemory>
-        requires shelf { self.old.settings.servers ≤ length shelf.old }
-        requires inside { IsInside S.kind shelf.old self.old }
-        ensures turn { IfOk result (LineTurn S.kind
-            (span (is_down self.old.replicas) shelf.old shelf.new) self.old self.new
-            event.Scan) }
-        ensures serves { IfOk result (ServesLine S.kind
-            (span (is_down self.old.replicas) shelf.old shelf.new) (lent_of self.old)
-            self.old.tables self.new.tables event.Scan) }
-        ensures err { OnErr result (IsAlike self.old.tables self.new.tables) }
-        ensures settings { self.new.settings ≡ self.old.settings }
-        ensures closed { self.new.closed ≡ self.old.closed }
-        ensures lists { KeepsLists S.kind shelf.old shelf.new [] self.old self.new }
-        ensures same { shelf.new ≡ shelf.old }
-    {
-        match self.tables.scan(&*shelf) {
-            Ok(answer) => return Ok(answer),
-            Err(why) => return Err(why),
-        }
-    }
-
-    /// Does the next parts of the scan that runs.
-    fn piece<S: SliceStore>(
-        &mut self,
-        shelf: &mut Shelf<S>,
-        parts: u8,
-    ) -> Result<Answer, OutOfMemory>
-        requires shelf { self.old.settings.servers ≤ length shelf.old }
-        requires inside { IsInside S.kind shelf.old self.old }
-        ensures turn { IfOk result (LineTurn S.kind
-            (span (is_down self.old.replicas) shelf.old shelf.new) self.old self.new
-            (event.Piece parts)) }
-        ensures serves { IfOk result (ServesLine S.kind
-            (span (is_down self.old.replicas) shelf.old shelf.new) (lent_of self.old)
-            self.old.tables self.new.tables (event.Piece parts)) }
-        ensures told { IfOk result (ServesTurn S.kind
-            (span (is_down self.old.replicas) shelf.old shelf.new) self.old self.new
-            (event.Piece parts)) }
-        ensures err { OnErr result (IsLeftBy (event.Piece parts) self.old.tables
-            self.new.tables) }
-        ensures settings { self.new.settings ≡ self.old.settings }
-        ensures closed { self.new.closed ≡ self.old.closed }
-        ensures lists { KeepsLists S.kind shelf.old shelf.new [] self.old self.new }
-        ensures shelf { EachFollows S.kind shelf.old shelf.new [] }
-    {
-        let mut dev = Dev {
-            shelf,
-            replicas: &self.replicas,
-            ring: &self.ring,
-            cache: &mut self.cache,
-            settings: self.settings,
-        };
-        match self.tables.piece(&mut dev, parts) {
-            Ok(answer) => return Ok(answer),
-            Err(why) => return Err(why),
-        }
-    }
-
-    /// Frees what is garbage of server `k`.
-    fn collect<S: SliceStore>(
-        &mut self,
-        shelf: &mut Shelf<S>,
-        k: u64,
-    ) -> Result<Answer, OutOfMemory>
-        requires shelf { self.old.settings.servers ≤ length shelf.old }
-        requires inside { IsInside S.kind shelf.old self.old }
-        ensures turn { IfOk result (LineTurn S.kind
-            (span (is_down self.old.replicas) shelf.old shelf.new) self.old self.new
-            (event.Collect k)) }
-        ensures serves { IfOk result (ServesLine S.kind
-            (span (is_down self.old.replicas) shelf.old shelf.new) (lent_of self.old)
-            self.old.tables self.new.tables (event.Collect k)) }
-        ensures punched { IfOk result (KeepsPunched S.kind shelf.old shelf.new self.old self.new
-            (event.Collect k)) }
-        ensures err { OnErr result (IsAlike self.old.tables self.new.tables) }
-        ensures settings { self.new.settings ≡ self.old.settings }
-        ensures closed { self.new.closed ≡ self.old.closed }
-        ensures lists { OnErr result (KeepsLists S.kind shelf.old shelf.new [] self.old self.new) }
-        ensures shelf { OnErr result (EachFollows S.kind shelf.old shelf.new []) }
-    {
-        let mut dev = Dev {
-            shelf,
-            replicas: &self.replicas,
-            ring: &self.ring,
-            cache: &mut self.cache,
-            settings: self.settings,
-        };
-        match self.tables.collect(&mut dev, k) {
-            Ok(answer) => return Ok(answer),
-            Err(why) => return Err(why),
-        }
-    }
-
-    /// Shows all bytes of the file at a path as it stands now.
-    fn dump<S: SliceStore>(&mut self, shelf: &mut Shelf<S>, p: &Path) -> Result<Answer, OutOfMemory>
-        requires shelf { self.old.settings.servers ≤ length shelf.old }
-        requires inside { IsInside S.kind shelf.old self.old }
-        ensures turn { IfOk result (LineTurn S.kind
-            (span (is_down self.old.replicas) shelf.old shelf.new) self.old self.new
-            (event.Dump p.now)) }
-        ensures serves { IfOk result (ServesLine S.kind
-            (span (is_down self.old.replicas) shelf.old shelf.new) (lent_of self.old)
-            self.old.tables self.new.tables (event.Dump p.now)) }
-        ensures told { IfOk result (ServesTurn S.kind
-            (span (is_down self.old.replicas) shelf.old shelf.new) self.old self.new
-            (event.Dump p.now)) }
-        ensures err { OnErr result (IsAlike self.old.tables self.new.tables) }
-        ensures settings { self.new.settings ≡ self.old.settings }
-        ensures closed { self.new.closed ≡ self.old.closed }
-        ensures lists { KeepsLists S.kind shelf.old shelf.new [] self.old self.new }
-        ensures shelf { EachFollows S.kind shelf.old shelf.new [] }
-    {
-        let mut dev = Dev {
-            shelf,
-            replicas: &self.replicas,
-            ring: &self.ring,
-            cache: &mut self.cache,
-            settings: self.settings,
-        };
-        match self.tables.dump(&mut dev, p) {
-            Ok(answer) => return Ok(answer),
-            Err(why) => return Err(why),
-        }
     }
 
     /// A server goes down, or comes up, where there is such a server.

@@ -20,13 +20,14 @@ use Rattle.wtf_region.specs.Cached.{CacheInside}
 use Rattle.wtf_region.specs.Inside.{is_inside}
 use Rattle.wtf_clients.specs.Keeping.{KeeperSpan, KeeperTurn, keeper_span}
 use Rattle.wtf_clients.specs.Named.{TablesBytes, any_byte, no_slice, has_copies}
+use Rattle.wtf_clients.specs.Leaving.{LeavesAlone}
 use Rattle.wtf_clients.specs.Outcomes.{AddsBytes, load_of}
 use Rattle.wtf_clients.specs.Safe.{LieIn}
 use Rattle.wtf_clients.specs.Serves.{ServesEvent}
 use Rattle.wtf_clients.specs.Sounds.{AreSound}
 use Rattle.wtf_clients.specs.Views.{BesideView}
 use Rattle.wtf_clients.proofs.Lives.{now_bytes}
-use Rattle.wtf_core.specs.Promises.{scene, LeavesNamed}
+use Rattle.wtf_core.specs.Promises.{Scene, scene, GoesOn, Obeys, Stores, IsCaused, Keeps, GoesOnTold, LeavesNamed}
 use Rattle.wtf_core.specs.Punched.{AreFreed, CountsAs, Punches}
 use Rattle.wtf_core.specs.Quiet.{Saved, HasCollected}
 use Rattle.wtf_core.specs.Remembering.{KeepsPunched}
@@ -35,20 +36,21 @@ use Rattle.wtf_core.specs.Telling.{TellsCore, IsToldLine, ServesTurn}
 use Rattle.wtf_core.specs.Turns.{LineTurn, IsLine}
 use Rattle.wtf_core.specs.Views.{CoreView, lent_of}
 use Rattle.wtf_core.proofs.Answering.{line_downs}
-use Rattle.wtf_core.proofs.Growth.{Rises}
 use Rattle.wtf_core.proofs.Holding.{KeeperLaws, tidied_held, keeper_on, line_held}
 use Rattle.wtf_core.proofs.Marked.{line_lie}
+use Rattle.wtf_core.proofs.Moves.{Moves, line_moves}
 use Rattle.wtf_core.proofs.Naming.{tidied_bytes}
 use Rattle.wtf_core.proofs.Picturing.{line_tree}
 use Rattle.wtf_core.proofs.Pointing.{sizes_grow}
 use Rattle.wtf_core.proofs.Quieted.{tidied_stage}
 use Rattle.wtf_core.proofs.Quieting.{quiet_on, rests_saved, left_named}
-use Rattle.wtf_core.proofs.SaveLines.{turn_numbers, line_lengths}
+use Rattle.wtf_core.proofs.SaveLines.{line_lengths}
 use Rattle.wtf_core.proofs.Taking.{numbers_on, line_taken, line_leaves}
 use Rattle.wtf_core.proofs.Telling.{tidied_told}
-use Rattle.wtf_core.proofs.Tidying.{tidied_sound, core_tidied}
+use Rattle.wtf_core.proofs.Tidying.{core_tidied}
 use Rattle.wtf_core.proofs.ToldLines.{line_told, none_ranges}
-use Rattle.wtf_core.proofs.Whole.{line_stands, line_rises}
+use Rattle.wtf_core.proofs.Watching.{line_watched}
+use Rattle.wtf_core.proofs.Whole.{line_stands}
 use Rattle.wtf_core.proofs.store.Core.event.Given.{Over}
 use Rattle.wtf_core.proofs.store.Core.event.Goals as goal
 use Rattle.wtf_core.proofs.store.Core.event.Goals.{After-tidy}
@@ -65,7 +67,7 @@ invariant_of-self g c =
       ring_is = was.ring_is;
       points_are = was.points_are;
       cache_is = was.cache_is;
-      tables_are = tidied_sound c.self-2.inside.tables c.tidy.new.self was.tables_are c.tidy.ensures;
+      tables_are = c.tidy.ensures.sound;
     }
 
 -- the core behind the answer, before versions are dropped
@@ -86,18 +88,21 @@ through g c = span (is_down c.args.self.now.replicas) c.args.shelf.now c.answer.
 turn_is : (g : Over) (c : After-tidy g) → LineTurn g.S.SliceStore.kind (through g c) c.args.self.now (answered g c) c.args.event.now c.in-Ok.answer
 turn_is g c =
     subst (λ (core : CoreView). LineTurn g.S.SliceStore.kind (through g c) c.args.self.now core c.args.event.now c.in-Ok.answer)
-    (sym c.self-2.view_is) c.in-Ok.ensures.turn
+    (sym c.self-2.view_is) c.in-Ok.ensures.ends.made.turn
 
-rises_is : (g : Over) (c : After-tidy g) → Rises c.args.self.now.tables (answered g c).tables
-rises_is g c = line_rises g.S.SliceStore.kind (through g c) c.args.self.now (answered g c) c.in-Ok.answer c.args.event.now (turn_is g c)
+was_sound : (g : Over) (c : After-tidy g) → AreSound c.args.self.now.tables
+was_sound g c = subst (λ (core : CoreView). AreSound core.tables) c.self.view_is c.self.invariant.tables_are
+
+moves_is : (g : Over) (c : After-tidy g) → Moves c.args.self.now.tables (answered g c).tables c.args.event.now c.in-Ok.answer
+moves_is g c = line_moves g.S.SliceStore.kind (through g c) c.args.self.now (answered g c) (was_sound g c) c.in-Ok.answer c.args.event.now (turn_is g c)
 
 same_settings : (g : Over) (c : After-tidy g) → (answered g c).settings ≡ c.args.self.now.settings
-same_settings g c = ap (λ (core : CoreView). core.settings) c.self-2.view_is ∙ c.answer.ensures.settings
+same_settings g c = ap (λ (core : CoreView). core.settings) c.self-2.view_is ∙ c.answer.ensures.ends.settings
 
 abbrev serving : (g : Over) → After-tidy g → Type 0
 serving g c =
     let old = c.args.self.now in
-    ServesEvent g.S.SliceStore.kind (span (is_down old.replicas) c.args.shelf.now c.answer.new.shelf) (lent_of old)
+    ServesEvent g.S.SliceStore.kind (span (is_down old.replicas) c.args.shelf.now c.answer.new.shelf) (lent_of old (answered g c))
     (Rose (g.K.Keeper.view c.args.keeper.now).faults (g.K.Keeper.view c.answer.new.keeper).faults)
     (old.tables, c.self-2.inside.tables) c.args.event.now c.in-Ok.answer
 
@@ -105,7 +110,7 @@ serves_is : (g : Over) (c : After-tidy g) → serving g c
 serves_is g c =
     let kind = g.S.SliceStore.kind in
     let old = c.args.self.now in
-    subst (λ (core : CoreView). ServesEvent kind (span (is_down old.replicas) c.args.shelf.now c.answer.new.shelf) (lent_of old)
+    subst (λ (core : CoreView). ServesEvent kind (span (is_down old.replicas) c.args.shelf.now c.answer.new.shelf) (lent_of old core)
     (Rose (g.K.Keeper.view c.args.keeper.now).faults (g.K.Keeper.view c.answer.new.keeper).faults)
     (old.tables, core.tables) c.args.event.now c.in-Ok.answer)
     (sym c.self-2.view_is) c.in-Ok.ensures.serves
@@ -114,17 +119,14 @@ told_is : (g : Over) (c : After-tidy g)
     → ServesTurn g.S.SliceStore.kind (through g c) c.args.self.now (answered g c) c.args.event.now c.in-Ok.answer
 told_is g c =
     subst (λ (core : CoreView). ServesTurn g.S.SliceStore.kind (through g c) c.args.self.now core c.args.event.now c.in-Ok.answer)
-    (sym c.self-2.view_is) c.in-Ok.ensures.told
+    (sym c.self-2.view_is) c.in-Ok.ensures.ends.made.told
 
 -- what was punched, and the lists that are remembered
 punched_is : (g : Over) (c : After-tidy g)
     → KeepsPunched g.S.SliceStore.kind c.args.shelf.now c.answer.new.shelf c.args.self.now (answered g c) c.args.event.now c.in-Ok.answer
 punched_is g c =
     subst (λ (core : CoreView). KeepsPunched g.S.SliceStore.kind c.args.shelf.now c.answer.new.shelf c.args.self.now core c.args.event.now c.in-Ok.answer)
-    (sym c.self-2.view_is) c.in-Ok.ensures.punched
-
-was_sound : (g : Over) (c : After-tidy g) → AreSound c.args.self.now.tables
-was_sound g c = subst (λ (core : CoreView). AreSound core.tables) c.self.view_is c.self.invariant.tables_are
+    (sym c.self-2.view_is) c.in-Ok.ensures.ends.made.punched
 
 marks_are : (g : Over) (c : After-tidy g) → LieIn (answered g c).tables.beside.gc (size_in g.S.SliceStore.kind c.answer.new.shelf)
 marks_are g c =
@@ -154,37 +156,6 @@ did_is g c =
 was_limited : (g : Over) (c : After-tidy g) → AreSettings c.args.self.now.settings.servers c.args.self.now.settings.replicas c.args.self.now.settings.region
 was_limited g c = subst (λ (core : CoreView).
     AreSettings core.settings.servers core.settings.replicas core.settings.region) c.self.view_is c.self.invariant.settings_are
-
-pub returns-in-Ok-clause-goes_on : goal.returns-in-Ok-clause-goes_on
-returns-in-Ok-clause-goes_on g at =
-    let c = (goal.at.returns-in-Ok-clause-goes_on g at).After-tidy in
-    let kind = g.S.SliceStore.kind in
-    let old = c.args.self.now in
-    let serves = serves_is g c in
-    let same = same_settings g c in
-    let up = rises_is g c in
-    let tidy = c.tidy.ensures in
-    record {
-      not_closed = ap (λ (core : CoreView). core.closed) c.self-2.view_is ∙ c.answer.ensures.closed ∙ c.requires.open;
-      inside = record {
-        tables = subst (λ (s : Settings). TablesBytes (is_inside kind c.answer.new.shelf s) any_slice c.tidy.new.self) (sym same)
-            (tidied_bytes (is_inside kind c.answer.new.shelf old.settings) any_slice (answered g c).tables c.tidy.new.self c.self-2.invariant.tables_are tidy
-            serves.inside);
-        lists = subst (λ (s : Settings). CacheInside (is_inside kind c.answer.new.shelf s) (answered g c).lists) (sym same) (punched_is g c).lists.inside;
-        scans = subst (λ (b : BesideView). LieIn b.gc (size_in kind c.answer.new.shelf)) (sym tidy.beside) (marks_are g c);
-      };
-      bare = λ free h. tidied_bytes any_byte no_slice (answered g c).tables c.tidy.new.self c.self-2.invariant.tables_are tidy (serves.bare free h);
-      full = λ free h. subst (λ (s : Settings). TablesBytes (has_copies s.replicas) no_slice c.tidy.new.self) (sym same)
-          (tidied_bytes (has_copies old.settings.replicas) no_slice (answered g c).tables c.tidy.new.self c.self-2.invariant.tables_are tidy
-          (serves.full free h));
-      down = λ k. line_downs kind (through g c) old (answered g c) c.in-Ok.answer c.args.event.now (turn_is g c) k;
-      number = omega (arith, up.no_fewer, tidy.number);
-      next_tx = omega (arith, up.no_earlier, tidy.next_tx);
-      same_number = λ is. tidy.number
-          ∙ (turn_numbers kind (through g c) old (answered g c) c.in-Ok.answer c.args.event.now (turn_is g c) is).0;
-      same_next_tx = λ is. tidy.next_tx
-          ∙ (turn_numbers kind (through g c) old (answered g c) c.in-Ok.answer c.args.event.now (turn_is g c) is).1;
-    }
 
 -- the stores tell what they told, where nothing was collected
 tells_on : (g : Over) (c : After-tidy g) → ((k : ℕ) → c.args.event.now ≢ event.Collect k)
@@ -229,17 +200,24 @@ keeps_are g c =
       punches = record {
         ranges = p.punches.ranges;
         are = p.punches.are;
-        counts = subst (λ (b : BesideView). CountsAs c.args.self.now.tables.beside.gc b.gc c.in-Ok.answer p.punches.ranges) (sym c.tidy.ensures.beside)
+        counts = subst (λ (b : BesideView). CountsAs c.args.self.now.tables.beside.gc b.gc c.in-Ok.answer p.punches.ranges) (sym c.tidy.ensures.tidied.beside)
             p.punches.counts;
         follows = p.punches.follows;
       };
       freed = subst (λ (b : BesideView). AreFreed g.S.SliceStore.kind (is_down c.args.self.now.replicas) c.args.shelf.now c.answer.new.shelf
-          c.args.self.now.tables.beside.gc b.gc) (sym c.tidy.ensures.beside) p.freed;
+          c.args.self.now.tables.beside.gc b.gc) (sym c.tidy.ensures.tidied.beside) p.freed;
       lists = record { inside = p.lists.inside; true_still = p.lists.true_still };
     }
 
 line : (g : Over) (c : After-tidy g) → IsLine g.S.SliceStore.kind (through g c) c.args.self.now (left g c) c.args.event.now c.in-Ok.answer
-line g c = record { answered = answered g c; turn = turn_is g c; tidied = c.tidy.ensures; rest = refl }
+line g c = record { answered = answered g c; turn = turn_is g c; tidied = c.tidy.ensures.tidied; rest = refl }
+
+-- what is seen before the line, and behind it
+abbrev first : (g : Over) → After-tidy g → Scene g.row.S.Denot
+first g c = scene c.args.shelf.now (g.K.Keeper.view c.args.keeper.now) c.args.self.now
+
+abbrev last : (g : Over) → After-tidy g → Scene g.row.S.Denot
+last g c = scene c.answer.new.shelf (g.K.Keeper.view c.answer.new.keeper) (left g c)
 
 -- a save, behind a quiet ending
 named_is : (g : Over) (c : After-tidy g) (m : Machine) → StandsFor (byte_at g.S.SliceStore.kind c.args.shelf.now) c.args.self.now m → (k n : ℕ)
@@ -259,14 +237,36 @@ named_is g c m stands k n collected is said tells =
     (line_lengths kind t old.settings old (left g c) c.in-Ok.answer (subst (λ (e : Event). IsLine kind t old (left g c) e c.in-Ok.answer) is (line g c))
     (subst (λ (e : Event). AddsBytes kind t old.settings (load_of e) c.in-Ok.answer) is (serves_is g c).adds))
 
-pub returns-in-Ok-clause-turn : goal.returns-in-Ok-clause-turn
-returns-in-Ok-clause-turn g at =
-    let c = (goal.at.returns-in-Ok-clause-turn g at).After-tidy in
-    line g c
+goes_on_is : (g : Over) (c : After-tidy g) → GoesOn g.S.SliceStore.kind (first g c) (last g c) c.args.event.now c.in-Ok.answer
+goes_on_is g c =
+    let kind = g.S.SliceStore.kind in
+    let old = c.args.self.now in
+    let serves = serves_is g c in
+    let same = same_settings g c in
+    let up = (moves_is g c).rises in
+    let tidy = c.tidy.ensures.tidied in
+    record {
+      not_closed = ap (λ (core : CoreView). core.closed) c.self-2.view_is ∙ c.answer.ensures.ends.closed ∙ c.requires.open;
+      inside = record {
+        tables = subst (λ (s : Settings). TablesBytes (is_inside kind c.answer.new.shelf s) any_slice c.tidy.new.self) (sym same)
+            (tidied_bytes (is_inside kind c.answer.new.shelf old.settings) any_slice (answered g c).tables c.tidy.new.self c.self-2.invariant.tables_are tidy
+            serves.inside);
+        lists = subst (λ (s : Settings). CacheInside (is_inside kind c.answer.new.shelf s) (answered g c).lists) (sym same) (punched_is g c).lists.inside;
+        scans = subst (λ (b : BesideView). LieIn b.gc (size_in kind c.answer.new.shelf)) (sym tidy.beside) (marks_are g c);
+      };
+      bare = λ free h. tidied_bytes any_byte no_slice (answered g c).tables c.tidy.new.self c.self-2.invariant.tables_are tidy (serves.bare free h);
+      full = λ free h. subst (λ (s : Settings). TablesBytes (has_copies s.replicas) no_slice c.tidy.new.self) (sym same)
+          (tidied_bytes (has_copies old.settings.replicas) no_slice (answered g c).tables c.tidy.new.self c.self-2.invariant.tables_are tidy
+          (serves.full free h));
+      down = λ k. line_downs kind (through g c) old (answered g c) c.in-Ok.answer c.args.event.now (turn_is g c) k;
+      number = omega (arith, up.no_fewer, tidy.number);
+      next_tx = omega (arith, up.no_earlier, tidy.next_tx);
+      same_number = λ is. tidy.number ∙ ((moves_is g c).numbers is).0;
+      same_next_tx = λ is. tidy.next_tx ∙ ((moves_is g c).numbers is).1;
+    }
 
-pub returns-in-Ok-clause-lawful : goal.returns-in-Ok-clause-lawful
-returns-in-Ok-clause-lawful g at = λ telling m stands.
-    let c = (goal.at.returns-in-Ok-clause-lawful g at).After-tidy in
+lawful_is : (g : Over) (c : After-tidy g) → Obeys g.S.SliceStore.kind (first g c) (last g c) c.args.event.now c.in-Ok.answer
+lawful_is g c = λ telling m stands.
     let kind = g.S.SliceStore.kind in
     let laws = g.met.S.SliceStore.laws in
     let told = byte_at kind c.args.shelf.now in
@@ -281,68 +281,83 @@ returns-in-Ok-clause-lawful g at = λ telling m stands.
     record {
       event = record {
         may = done.may;
-        stands = core_tidied later (answered g c) (left g c) (after m c.args.event.now c.in-Ok.answer) c.self-2.invariant.tables_are c.tidy.ensures refl
+        stands = core_tidied later (answered g c) (left g c) (after m c.args.event.now c.in-Ok.answer) c.self-2.invariant.tables_are c.tidy.ensures.tidied refl
             done.stands;
       };
       trees = λ tells room kept held. line_tree kind t (keeping g c) (keeper_laws g c) old (answered g c) m (was_limited g c) (was_sound g c) room.0 room.1
           stands.tables (line_is g c telling m stands).images c.in-Ok.answer c.args.event.now on turn (did_is g c) tells kept held;
       taken = λ tells room held. numbers_on (g.K.Keeper.view c.answer.new.keeper) (size_in kind c.answer.new.shelf) old.settings
           (answered g c).tables.kv.number (answered g c).tables.next_tx
-          c.tidy.new.self.kv.number c.tidy.new.self.next_tx c.tidy.ensures.number c.tidy.ensures.next_tx
+          c.tidy.new.self.kv.number c.tidy.new.self.next_tx c.tidy.ensures.tidied.number c.tidy.ensures.tidied.next_tx
           (line_taken kind t grows (keeping g c) (keeper_laws g c) told old (answered g c) m (was_limited g c) (was_sound g c) room.0 room.1 stands.tables now
-          (rises_is g c) c.in-Ok.answer c.args.event.now turn (did_is g c) tells held);
+          (moves_is g c).rises c.in-Ok.answer c.args.event.now turn (did_is g c) tells held);
       saved = λ tells room. line_leaves kind t grows (keeping g c) (keeper_laws g c) told old (answered g c) m (was_limited g c) (was_sound g c) room.0 room.1
-          stands.tables now (rises_is g c) c.in-Ok.answer c.args.event.now c.in-Ok.answer (did_is g c) tells;
-      rests = λ idle n is said. tidied_stage kind c.answer.new.shelf (answered g c) c.tidy.new.self c.tidy.ensures Saved
-          (rests_saved kind t told old (answered g c) m n stands idle
+          stands.tables now (moves_is g c).rises c.in-Ok.answer c.args.event.now c.in-Ok.answer (did_is g c) tells;
+      rests = λ idle unwatched n is said. tidied_stage kind c.answer.new.shelf (answered g c) c.tidy.new.self c.tidy.ensures.tidied Saved
+          (rests_saved kind t told old (answered g c) m n stands idle unwatched
           (subst (λ (b : Answer). LineTurn kind t old (answered g c) event.Save b) said
           (subst (λ (e : Event). LineTurn kind t old (answered g c) e c.in-Ok.answer) is turn)));
       left = λ k n collected is said tells. named_is g c m stands k n collected is said tells;
     }
 
-pub returns-in-Ok-clause-stored : goal.returns-in-Ok-clause-stored
-returns-in-Ok-clause-stored g c = record {
-  adds = c.in-Ok.ensures.serves.adds;
-  placed = c.in-Ok.ensures.serves.placed;
-  spares = c.in-Ok.ensures.serves.spares;
-}
+stored_is : (g : Over) (c : After-tidy g) → Stores g.S.SliceStore.kind (first g c) (last g c) c.args.event.now c.in-Ok.answer
+stored_is g c = record { adds = (serves_is g c).adds; placed = (serves_is g c).placed }
 
-pub returns-in-Ok-clause-caused : goal.returns-in-Ok-clause-caused
-returns-in-Ok-clause-caused g c = record { cause = c.in-Ok.ensures.serves.caused; failed = c.in-Ok.ensures.serves.failed }
+caused_is : (g : Over) (c : After-tidy g) → IsCaused g.S.SliceStore.kind (first g c) (last g c) c.args.event.now c.in-Ok.answer
+caused_is g c = record { cause = (serves_is g c).caused; failed = (serves_is g c).failed }
 
-pub returns-in-Ok-clause-kept : goal.returns-in-Ok-clause-kept
-returns-in-Ok-clause-kept g at =
-    let c = (goal.at.returns-in-Ok-clause-kept g at).After-tidy in
+kept_is : (g : Over) (c : After-tidy g) → Keeps g.S.SliceStore.kind (keeping g c) (first g c) (last g c) c.args.event.now c.in-Ok.answer
+kept_is g c =
     let kind = g.S.SliceStore.kind in
     let old = c.args.self.now in
     let t = span (is_down old.replicas) c.args.shelf.now c.answer.new.shelf in
     record {
-      turn = keeper_on kind t (keeping g c) old.settings old.tables (answered g c).tables c.tidy.new.self c.tidy.ensures.beside c.args.event.now c.in-Ok.answer
+      turn = keeper_on kind t (keeping g c) old.settings old.tables (answered g c).tables c.tidy.new.self
+          c.tidy.ensures.tidied.beside c.args.event.now c.in-Ok.answer
           (did_is g c);
       held = λ tells held.
           let on = line_held kind t (keeping g c) (keeper_laws g c) old (answered g c) (was_sound g c) c.in-Ok.answer c.args.event.now (turn_is g c)
           (did_is g c) tells held in
-          (on.0, on.1, tidied_held (answered g c).tables c.tidy.new.self old.settings on.0 c.self-2.invariant.tables_are c.tidy.ensures on.2);
+          (on.0, on.1, tidied_held (answered g c).tables c.tidy.new.self old.settings on.0 c.self-2.invariant.tables_are c.tidy.ensures.tidied on.2);
     }
+
+leaves_is : (g : Over) (c : After-tidy g)
+    → LeavesAlone g.S.SliceStore.kind (through g c) (lent_of c.args.self.now (answered g c)) c.args.self.now.tables c.args.event.now
+leaves_is g c =
+    subst (λ (core : CoreView). LeavesAlone g.S.SliceStore.kind (through g c) (lent_of c.args.self.now core) c.args.self.now.tables c.args.event.now)
+    (sym c.self-2.view_is) c.answer.ensures.ends.leaves
 
 pub returns-in-Ok-clause-stays : goal.returns-in-Ok-clause-stays
 returns-in-Ok-clause-stays g at =
     let c = (goal.at.returns-in-Ok-clause-stays g at).After-tidy in
-    let up = rises_is g c in
+    let up = (moves_is g c).rises in
     record {
-      settings = same_settings g c;
-      sound = tidied_sound (answered g c).tables c.tidy.new.self c.self-2.invariant.tables_are c.tidy.ensures;
-      number = omega (arith, up.number, c.tidy.ensures.number);
-      next_tx = omega (arith, up.next_tx, c.tidy.ensures.next_tx);
+      core = record {
+        settings = same_settings g c;
+        sound = c.tidy.ensures.sound;
+        number = omega (arith, up.number, c.tidy.ensures.tidied.number);
+        next_tx = omega (arith, up.next_tx, c.tidy.ensures.tidied.next_tx);
+        watched = line_watched g.S.SliceStore.kind (through g c) c.args.self.now (left g c) c.args.event.now c.in-Ok.answer (line g c);
+      };
+      leaves = leaves_is g c;
     }
 
-pub returns-in-Ok-clause-told : goal.returns-in-Ok-clause-told
-returns-in-Ok-clause-told g at = λ tells m stands.
-    let c = (goal.at.returns-in-Ok-clause-told g at).After-tidy in
-    tidied_told g.S.SliceStore.kind (through g c) c.args.self.now (answered g c) c.tidy.new.self c.self-2.invariant.tables_are c.tidy.ensures (marks_are g c)
+told_on : (g : Over) (c : After-tidy g) → GoesOnTold g.S.SliceStore.kind (first g c) (last g c) c.args.event.now c.in-Ok.answer
+told_on g c = λ tells m stands.
+    tidied_told g.S.SliceStore.kind (through g c) c.args.self.now (answered g c) c.tidy.new.self c.self-2.invariant.tables_are c.tidy.ensures.tidied
+    (marks_are g c)
     c.args.event.now c.in-Ok.answer (line_is g c tells m stands)
 
-pub returns-in-Ok-clause-punched : goal.returns-in-Ok-clause-punched
-returns-in-Ok-clause-punched g at =
-    let c = (goal.at.returns-in-Ok-clause-punched g at).After-tidy in
-    keeps_are g c
+pub returns-in-Ok-clause-does : goal.returns-in-Ok-clause-does
+returns-in-Ok-clause-does g at =
+    let c = (goal.at.returns-in-Ok-clause-does g at).After-tidy in
+    record {
+      goes_on = goes_on_is g c;
+      turn = line g c;
+      lawful = lawful_is g c;
+      stored = stored_is g c;
+      caused = caused_is g c;
+      kept = kept_is g c;
+      told = told_on g c;
+      punched = keeps_are g c;
+    }
