@@ -1,6 +1,6 @@
 -- How a run ends, without a further line or with one that is not written.
 use Rattle.std.proofs.Common.{◌≡◌, ◌≢◌, ◌↔◌, ◌⊎◌, ◌<◌, ◌≤◌, ◌^◌, ℕ, Bool, true, false, List, [], ◌∷◌, ◌++◌, length, Option, Some, None, Result, Ok}
-use Rattle.std.proofs.Common.{Err, refl, sym, ◌∙◌, ap, subst, arith, append_assoc, inl, inr}
+use Rattle.std.proofs.Common.{Err, refl, sym, ◌∙◌, ap, subst, arith, append_assoc, inl, inr, true≢false}
 use Rattle.std.proofs.lemmas.List.{length-append}
 use Rattle.wtf_base.specs.declared.settings.Settings.{Settings}
 use Rattle.wtf_base.specs.Places.{Place}
@@ -40,7 +40,7 @@ use Rattle.wtf_serve.specs.Passes.{Hand, step_of, IsLeftOut, PassIs}
 use Rattle.wtf_serve.specs.Punched.{ArePunchedIn}
 use Rattle.wtf_serve.specs.Quiet.{HasQuietEnding, AreUsed}
 use Rattle.wtf_serve.specs.Scripts.{line_of, IsEndStatus, IsWholeStatus, end_status}
-use Rattle.wtf_serve.specs.Stocks.{Stock, IsSaveFault, IsTelling, HoldsOneOf, HoldsStart, HoldsJust, KeeperGoesOn}
+use Rattle.wtf_serve.specs.Stocks.{Stock, IsSaveFault, IsTelling, HoldsOneOf, HoldsStart, HoldsJust, KeeperGoesOn, KeeperStays}
 use Rattle.wtf_serve.specs.Traces.{HasRead}
 use Rattle.wtf_serve.proofs.Closing.{closing_rose, still_count, still_save, still_status}
 use Rattle.wtf_serve.proofs.Going.{Going, given_then, counted_then, room_now}
@@ -214,20 +214,20 @@ module _ {S State : Type 0} (engine : Engine S State) (laws : KindLaws engine.ki
       }
 
   -- for want of memory, where no line was answered
-  short_left : (final : Stock S) → EachFollows engine.kind now.stock.shelf final.shelf [] → final.keeper ≡ now.stock.keeper → Leaves 7 final
+  short_left : (final : Stock S) → EachFollows engine.kind now.stock.shelf final.shelf [] → KeeperStays now.stock.keeper final.keeper → Leaves 7 final
   short_left final follows same = λ tells telling number next_tx tree from bytes held.
       let m = last opening tree g.log in
       let holds = g.saved tells telling number next_tx tree from in (
         left_short (all_told final.shelf) m start.source.rest g.log.lines final.keeper bytes held
-            (holds_on (all_told now.stock.shelf) (all_told final.shelf) (tells_on laws follows) now.stock.keeper final.keeper m.may_be_saved same holds),
+            (holds_on (all_told now.stock.shelf) (all_told final.shelf) (tells_on laws follows) now.stock.keeper final.keeper m.may_be_saved same.held holds),
         next_kept engine.kind opening m g.log.lines final bytes held (engine.number now.state) (engine.next_tx now.state) 7
             (λ e. omega (arith, e)) (g.number_is tells tree from) g.begun
-            (start_on laws now.stock final opening.settings (engine.number now.state) (engine.next_tx now.state) follows same
+            (start_on laws now.stock final opening.settings (engine.number now.state) (engine.next_tx now.state) follows same.held
             (g.start_holds tells telling number next_tx tree from)),
         λ end. absurd (omega (arith, end)),
         λ within. left_short (first_told final.shelf) m start.source.rest g.log.lines final.keeper bytes held
             (holds_on (first_told now.stock.shelf) (first_told final.shelf) (first_later laws opening.settings follows) now.stock.keeper final.keeper
-            m.may_be_saved same (within_now tells telling tree within m.may_be_saved holds)),
+            m.may_be_saved same.held (within_now tells telling tree within m.may_be_saved holds)),
       )
 
   -- ---- the closing save, where a pass came to the end of the script
@@ -324,7 +324,7 @@ module _ {S State : Type 0} (engine : Engine S State) (laws : KindLaws engine.ki
               (within_then final state' (Ok event.Save) answer.FaultSave is tells telling tree within (m.may_be_saved ++ m.now ∷ []) holds),
         ))
 
-    finish_short : final.keeper ≡ now.stock.keeper
+    finish_short : KeeperStays now.stock.keeper final.keeper
         → Served engine.kind handed opening 7 start (record { source = next.input.source; sink = sink'; stock = final })
     finish_short same =
         finish 7 sink' final (Ok None) came [] (λ _. refl) (inl refl) follows keeper
@@ -337,6 +337,19 @@ module _ {S State : Type 0} (engine : Engine S State) (laws : KindLaws engine.ki
         (λ ends. absurd (omega (arith, ends)))
         (λ e. absurd (omega (arith, e))) (λ e. absurd (omega (arith, e)))
         (short_left final follows same)
+
+    -- a keeper that tells nothing need not be handed an image
+    finish_blind : start.stock.keeper.tells ≡ false → SameLengths engine.kind now.stock.shelf final.shelf
+        → Served engine.kind handed opening (end_status bad) start (record { source = next.input.source; sink = sink'; stock = final })
+    finish_blind blind same =
+        let status = end_status bad in
+        let ends : IsEndStatus status = ends_as bad in
+        finish status sink' final (Ok None) came [] (λ _. refl) (inl refl) follows keeper
+        (λ early. absurd (omega (arith, early, ends))) (λ _. same) (read_whole status (inl ends))
+        (sink_out status (λ e. omega (arith, e, ends))) (λ e. omega (arith, e, ends))
+        (never status 9 (λ e. omega (arith, e, ends)) next.input.held.count (came.limit (λ e. cc))) (inl (inl ends)) (λ _. refl)
+        (λ e. absurd (omega (arith, e, ends))) (λ e. absurd (omega (arith, e, ends)))
+        (λ tells telling. absurd (true≢false (sym telling.tells ∙ blind)))
 
     closed : (status : ℕ) → Closes engine t bad status
         → Served engine.kind handed opening status start (record { source = next.input.source; sink = sink'; stock = final })
@@ -417,6 +430,15 @@ module _ {S State : Type 0} (engine : Engine S State) (laws : KindLaws engine.ki
       (λ e. omega (arith, e))
       (never 4 9 (λ e. omega (arith, e)) next.input.held.count (pass.limit (λ e. cc))) (inr (inr (inr (inl refl)))) (λ ends. absurd (omega (arith, ends)))
       (λ e. absurd (omega (arith, e))) (λ e. absurd (omega (arith, e))) (early_left 4 quiet.stock (inr (inr (inl refl))))
+
+  -- a pass came to the end of the script, and what the sink held back was brought out: a run whose keeper tells nothing is over then
+  pub finish_unsaved : (sink' : SinkView) → PassIs engine now next (Ok None) → start.stock.keeper.tells ≡ false
+      → ((bytes : List ℕ) → next.sink.taken ≡ Some bytes → sink'.taken ≡ Some bytes) → sink'.faults ≡ next.sink.faults
+      → Served engine.kind handed opening (end_status bad) start (record { source = next.input.source; sink = sink'; stock = next.stock })
+  finish_unsaved sink' pass blind taken steady =
+      let quiet = pass.came.1 in
+      finish_blind sink' next.stock next.state pass (still quiet.stock) pass.keeper taken steady blind
+      (subst (λ (s : Stock S). SameLengths engine.kind now.stock.shelf s.shelf) (sym quiet.stock) (λ k d there f. refl))
 
   -- a pass came to the end of the script: what follows begins with what the pass left, which is what it was
   pub finish_end : (status : ℕ) (sink' : SinkView) (final : Stock S) (state' : State) → PassIs engine now next (Ok None)

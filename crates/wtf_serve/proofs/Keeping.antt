@@ -1,5 +1,5 @@
 -- What a line makes of the keeper, by what the core promises.
-use Rattle.std.proofs.Common.{◌≡◌, ℕ, List, [], ◌∷◌, ◌++◌, Ok, sym, ◌∙◌, ap, subst, inl, inr}
+use Rattle.std.proofs.Common.{◌≡◌, ℕ, List, [], ◌∷◌, ◌++◌, Ok, refl, sym, ◌∙◌, ap, subst, inl, inr, arith}
 use Rattle.wtf_base.specs.declared.settings.Settings.{Settings}
 use Rattle.wtf_dev.specs.Keep.{KeeperView, KeeperKept}
 use Rattle.wtf_dev.specs.Store.{StoreKind}
@@ -18,7 +18,7 @@ use Rattle.wtf_core.specs.Saves.{SaveTurn, AreUp}
 use Rattle.wtf_core.specs.Turns.{IsLine}
 use Rattle.wtf_serve.specs.Cores.{engine}
 use Rattle.wtf_serve.specs.Engines.{Step, step, Saves, Keeps}
-use Rattle.wtf_serve.specs.Stocks.{stock, KeeperGoesOn, HandsOver, HoldsSome}
+use Rattle.wtf_serve.specs.Stocks.{stock, KeeperGoesOn, KeeperStays, HandsOver, HoldsSome}
 
 -- an image has bytes
 pub text_some : (rows : ImageRows) (bytes : List ℕ) → HasText rows bytes → bytes ≡ [] → ⊥
@@ -29,6 +29,13 @@ saved_some : {S : Type 0} (kind : StoreKind S) (t : Span S) (k : KeeperSpan) (se
     → HasSaved kind t k settings tables → HoldsSome k.before k.after
 saved_some kind t k settings tables saved tells =
     (saved.hands.bytes, saved.held tells, text_some saved.hands.image.rows saved.hands.bytes saved.hands.image.text)
+
+-- a keeper that is as it was was handed nothing
+pub keeper_same : (old new : KeeperView) → new ≡ old → KeeperStays old new
+keeper_same old new same = subst (KeeperStays old) (sym same) (record {
+  goes_on = record { faults = omega arith; tells = refl };
+  held = λ bytes is. is;
+})
 
 -- A kind of keeper, and a line over two states of one
 module _ {K : Type 0} (view : K → KeeperView) (follows : K → K → List (List ℕ) → Type 0) (itself : (s : K) → follows s s [])
@@ -73,4 +80,4 @@ module _ {K S : Type 0} (view : K → KeeperView) (follows : K → K → List (L
   pub event_kept : (e : Event) (a : Answer) → Turns e a → IsLine kind (span (is_down core.replicas) before after) core core' e a
       → Keeps (engine kind) t (Ok e) a
   event_kept event.Save a turn line = save_kept (AreUp core.replicas core.settings.servers) line.answered.tables a turn line.turn.0
-  event_kept e a turn line = ap view turn
+  event_kept e a turn line = keeper_same (view old) (view new) (ap view turn)

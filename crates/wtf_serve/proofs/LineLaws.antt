@@ -1,5 +1,5 @@
 -- What answering a line promises, for one that asks nothing, and for an event by what the core promises.
-use Rattle.std.proofs.Common.{◌≡◌, ◌≤◌, ℕ, Bool, true, false, List, [], length, Ok, Err, refl, sym, ◌∙◌, ap, subst, true≢false, arith}
+use Rattle.std.proofs.Common.{◌≡◌, ◌≤◌, ℕ, Bool, true, false, List, [], length, Some, Ok, Err, refl, sym, ◌∙◌, ap, subst, true≢false, arith}
 use Rattle.std.proofs.Math.Path.{fun_ext}
 use Rattle.wtf_base.specs.declared.settings.Settings.{Settings}
 use Rattle.wtf_base.specs.Places.{Place}
@@ -20,10 +20,11 @@ use Rattle.wtf_gc.specs.Views.{GcView, mark_of, is_garbage}
 use Rattle.wtf_core.specs.Punched.{AreOfGarbage, ArePunchedBy, CountsAs, IsUncollected}
 use Rattle.wtf_core.specs.Views.{CoreView}
 use Rattle.wtf_serve.specs.Answering.{IsBad}
-use Rattle.wtf_serve.specs.Engines.{Step, step, is_save_event, GoesOn, Leaves, Obeys, Tells, Punches}
+use Rattle.wtf_serve.specs.Engines.{Step, step, is_save_event, GoesOn, Leaves, Obeys, Tells, Punches, IsAnswer}
 use Rattle.wtf_serve.specs.Punched.{AreFresh, ArePunchedIn, CountsIn, collected_by}
 use Rattle.wtf_serve.specs.Stocks.{Stock}
-use Rattle.wtf_serve.specs.Cores.{engine}
+use Rattle.wtf_serve.specs.Cores.{IsSoundCore, engine}
+use Rattle.wtf_serve.proofs.Keeping.{keeper_same}
 
 or_none : (b : Bool) → (b || false) ≡ b
 or_none true = refl
@@ -53,6 +54,40 @@ bad_punches kind laws here core (answer.Bad w) is = record {
   follows = each_same laws here.shelf;
 }
 bad_punches kind laws here core a is = absurd is
+
+-- so it is an answer, which leaves all as it was
+pub bad_is : {S : Type 0} (kind : StoreKind S) → KindLaws kind → (here : Stock S) (core : CoreView) (bad : Answer) → IsSoundCore kind here.shelf core
+    → IsBad bad → IsAnswer (engine kind) (step here here core core) (Err bad) bad
+bad_is kind laws here core (answer.Bad w) sound is = record {
+  goes_on = record {
+    sound = sound;
+    settings = refl;
+    down = refl;
+    number = omega arith;
+    next_tx = omega arith;
+    same_next_tx = λ saves. refl;
+    bare = λ unspilled h. h;
+    full = λ unspilled h. h;
+    own = refl;
+    kept = λ tells h. h;
+  };
+  lawful = bad_obeys kind here core (answer.Bad w);
+  stored = λ k d there f. refl;
+  caused = tt;
+  told = λ tells m stands. record {
+    next = tells;
+    wide = λ h. h;
+    unread = λ h k e. absurd (cc);
+    within = λ h. h;
+    undamaged = λ h k e. absurd (cc);
+    quiet = λ s next e. absurd (cc);
+    collected = λ k n e. absurd (cc);
+    stays = λ k s next e. absurd (cc);
+  };
+  punched = bad_punches kind laws here core (answer.Bad w) is;
+  kept = keeper_same here.keeper here.keeper refl;
+}
+bad_is kind laws here core a sound is = absurd is
 
 -- as many servers as the stores had before are there behind it
 servers_stay : (old new : Settings) (n m : ℕ) → new ≡ old → old.servers ≤ n → m ≡ n → new.servers ≤ m
@@ -105,15 +140,16 @@ module _ {S : Type 0} (kind : StoreKind S) (t : Step S CoreView) (e : Event) (a 
   abbrev behind : promised.Scene S
   behind = promised.scene t.after.shelf t.after.keeper t.new
 
-  pub event_goes_on : t.old.settings.servers ≤ length t.before.shelf → promised.GoesOn kind before behind e a
+  pub event_goes_on : IsSoundCore kind t.before.shelf t.old → promised.GoesOn kind before behind e a
       → promised.Stays t.old t.new → promised.HasPunched kind before behind e a
       → (t.before.keeper.tells ≡ true → HoldsKept t.before.keeper t.old.settings t.old.tables → HoldsKept t.after.keeper t.old.settings t.new.tables)
       → GoesOn (engine kind) t (Ok e) a
-  event_goes_on enough on stays punched held = record {
+  event_goes_on was on stays punched held = record {
     sound = record {
       not_closed = on.not_closed;
       tables = stays.sound;
-      servers = servers_stay t.old.settings t.new.settings (length t.before.shelf) (length t.after.shelf) stays.settings enough
+      unwatched = stays.watched ∙ was.unwatched;
+      servers = servers_stay t.old.settings t.new.settings (length t.before.shelf) (length t.after.shelf) stays.settings was.servers
           punched.punches.follows.same_length;
       inside = on.inside;
     };
@@ -162,8 +198,8 @@ module _ {S : Type 0} (kind : StoreKind S) (t : Step S CoreView) (e : Event) (a 
     follows = h.punches.follows;
   }
 
-  pub event_obeys : promised.Obeys kind before behind e a → Obeys (engine kind) t (Ok e) a
-  event_obeys obeys = λ tells m stands.
+  pub event_obeys : IsSoundCore kind t.before.shelf t.old → promised.Obeys kind before behind e a → Obeys (engine kind) t (Ok e) a
+  event_obeys was obeys = λ tells m stands.
       let law = obeys tells m stands in
       record {
         stands = law.event.stands;
@@ -172,10 +208,13 @@ module _ {S : Type 0} (kind : StoreKind S) (t : Step S CoreView) (e : Event) (a 
         saved = λ keeps room kept holds. law.trees keeps (room.number, room.next_tx) kept holds;
         taken = λ keeps room holds. law.taken keeps (room.number, room.next_tx) holds;
         leaves = λ keeps room. by e a (law.saved keeps (room.number, room.next_tx));
-        rests = λ idle n line. law.rests idle n (event_of line);
+        rests = λ idle n line. law.rests idle (λ k is. absurd (some_of_none k is)) n (event_of line);
         left = λ k n had line. law.left k n had (event_of line);
       }
     where
+      some_of_none : (k : ℕ) → t.old.tables.beside.watched ≡ Some k → ⊥
+      some_of_none k is = let none = was.unwatched in cc
+
       save_by : (b : Answer) → promised.Leaves kind before behind event.Save b → Leaves (engine kind) t (Ok event.Save) b
       save_by (answer.Saved n) h = h
       save_by b h = tt

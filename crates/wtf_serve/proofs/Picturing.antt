@@ -1,5 +1,5 @@
 -- What images stand for, over stores that go on, and at the begin of a run.
-use Rattle.std.proofs.Common.{◌≡◌, ◌≤◌, ◌+◌, ℕ, zero, suc, List, [], ◌∷◌, length, Some, refl, sym, ◌∙◌, ap, subst, arith, inl, inr}
+use Rattle.std.proofs.Common.{◌≡◌, ◌≤◌, ◌+◌, ℕ, zero, suc, List, [], ◌∷◌, length, Some, refl, sym, ◌∙◌, subst, arith, inl, inr}
 use Rattle.std.specs.List.{Contains}
 use Rattle.wtf_base.specs.declared.settings.Settings.{Settings}
 use Rattle.wtf_dev.specs.Store.{StoreKind, KindLaws}
@@ -35,10 +35,10 @@ one_on told later bytes may on (inl none) = inl none
 one_on told later bytes may on (inr (t, listed, is)) = inr (t, listed, tree_on told later bytes t on is)
 
 -- a keeper that is as it was holds what it held, over stores that tell more
-pub holds_on : (told later : Told) → TellsOn told later → (old new : KeeperView) (may : List Tree) → new ≡ old → HoldsTree old told may
-    → HoldsTree new later may
-holds_on told later on old new may same (bytes, held, is) =
-    (bytes, ap (λ (k : KeeperView). k.held) same ∙ held, one_on told later bytes may on is)
+pub holds_on : (told later : Told) → TellsOn told later → (old new : KeeperView) (may : List Tree)
+    → ((bytes : List ℕ) → old.held ≡ Some bytes → new.held ≡ Some bytes) → HoldsTree old told may → HoldsTree new later may
+holds_on told later on old new may still (bytes, held, is) =
+    (bytes, still bytes held, one_on told later bytes may on is)
 
 -- the tree that a run starts from
 starts_one : (told : Told) (bytes : List ℕ) (t : Tree) → StartsFrom told bytes t → IsImageOfOne told bytes (t ∷ [])
@@ -72,13 +72,13 @@ one_alone told bytes t some (inr (u, listed, is)) = subst (λ (x : Tree). IsImag
 
 -- ---- what a run can begin with
 
--- a keeper that is as it was holds it still, over stores that go on
+-- a keeper that was handed nothing holds it still, over stores that go on
 pub start_on : {S : Type 0} {kind : StoreKind S} → KindLaws kind → (old new : Stock S) (settings : Settings) (n next : ℕ)
-    → EachFollows kind old.shelf new.shelf []
-    → new.keeper ≡ old.keeper → HoldsStart kind old settings n next → HoldsStart kind new settings n next
-start_on {kind = kind} laws old new settings n next e same (bytes, held, is) = (
+    → EachFollows kind old.shelf new.shelf [] → ((bytes : List ℕ) → old.keeper.held ≡ Some bytes → new.keeper.held ≡ Some bytes)
+    → HoldsStart kind old settings n next → HoldsStart kind new settings n next
+start_on {kind = kind} laws old new settings n next e still (bytes, held, is) = (
   bytes,
-  ap (λ (k : KeeperView). k.held) same ∙ held,
+  still bytes held,
   taken_for_on (size_in kind old.shelf) (size_in kind new.shelf) (sizes_grow laws e) settings n next n next (omega arith) (omega arith) bytes is,
 )
 

@@ -13,7 +13,7 @@ use Rattle.wtf_image.specs.Rules.{AreGoodSettings, IsGoodTree, size_in, are_insi
 use Rattle.wtf_serve.specs.Endings.{Devices, IsServedStatus, IsUnstarted}
 use Rattle.wtf_serve.specs.Openings.{Opening, Opens, IsTakenOver}
 use Rattle.wtf_serve.specs.Generated.{with_script, with_text}
-use Rattle.wtf_serve.specs.Program.{IsProgramRun, IsScriptRun, IsFew, IsRefused}
+use Rattle.wtf_serve.specs.Program.{IsProgramRun, IsScriptRun, IsFew, IsRefused, IsStatusOf}
 use Rattle.wtf_serve.specs.Unopened.{HasServers, IsRefusedBy, IsRefusedImage, IsRun, IsRunStatus, IsWhy}
 use Rattle.wtf_serve.proofs.Starting.{same_rows}
 
@@ -227,3 +227,14 @@ program_image kind handed (Some asked) status old new held held_is (inr run) =
       λ e. (λ d. omega (arith, d, e), λ d. omega (arith, d, e), λ d. omega (arith, d, e), λ d. omega (arith, d, e), only e),
       λ all. due all.4 all.1 all.2 all.3,
     )
+
+-- ---- all that a status says
+pub status_says : {S : Type 0} (kind : StoreKind S) (handed : List (List ℕ) → Type 0) (asked : Option Request) (status : ℕ) (old new : Devices S)
+    → IsProgramRun kind handed asked status old new
+    → IsStatusOf (size_in kind old.stock.shelf) (length old.stock.shelf) asked old.stock.keeper.held status
+status_says kind handed asked status old new run = record {
+  known = program_status kind handed asked status old new run;
+  words = words_status kind handed asked status old new run;
+  refused = λ bytes held. program_refused kind handed asked status old new bytes held run;
+  image = λ bytes held. program_image kind handed asked status old new bytes held run;
+}

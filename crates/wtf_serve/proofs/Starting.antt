@@ -63,6 +63,7 @@ new_opened kind shelf settings core enough settings_is not_closed number next_tx
     sound = record {
       not_closed = not_closed;
       tables = sound;
+      unwatched = ap (λ (b : BesideView). b.watched) beside;
       servers = omega (arith, ap (λ (s : Settings). s.servers) settings_is, enough);
       inside = record {
         tables = (names (is_inside kind shelf core.settings) any_slice).tables;
@@ -114,6 +115,7 @@ loaded_opened kind shelf asked (b ∷ image) core some servers is not_closed sou
     sound = record {
       not_closed = not_closed;
       tables = sound;
+      unwatched = ap (λ (b : BesideView). b.watched) is.beside;
       servers = enough_for (size_in kind shelf) (b ∷ image) core (length shelf) is servers;
       inside = inside;
     };

@@ -20,6 +20,7 @@ use Rattle.wtf_serve.specs.Engines.{Engine, IsAsGiven, IsAsTold, Step, IsAnswer}
 use Rattle.wtf_serve.specs.Openings.{Opening, Opens, IsTakenOver, StartsFrom, first}
 use Rattle.wtf_serve.specs.Scripts.{end_status}
 use Rattle.wtf_serve.specs.Unopened.{IsRefusedBy, Refuses}
+use Rattle.wtf_serve.specs.Stocks.{KeeperStays}
 
 -- A state that a run can begin with: what it was opened with is the state's, all servers are up, and it stands for the
 -- machine before the first line. There are stores enough, an image is taken and kept, and nothing was freed.
@@ -74,12 +75,12 @@ EndsBy (Image error.Memory) status old new = (status ≡ 7) × (new ≡ old)
 EndsBy (Image why) status old new = Refuses why status old new
 
 -- What comes of the closing save, where `bad` says whether a line asked nothing: it saved, it failed, or memory was wanted,
--- and then the keeper is as it was.
+-- and then the keeper was handed nothing.
 abbrev pub Closes : {S State : Type 0} → Engine S State → Step S State → Bool → ℕ → Type 0
 Closes engine t bad status =
     ((n : ℕ) × (status ≡ end_status bad) × IsAnswer engine t (Ok event.Save) (answer.Saved n))
     ⊎ ((status ≡ 5) × IsAnswer engine t (Ok event.Save) answer.FaultSave)
-    ⊎ ((status ≡ 7) × (t.after.keeper ≡ t.before.keeper))
+    ⊎ ((status ≡ 7) × KeeperStays t.before.keeper t.after.keeper)
 
 -- What comes of the end of a script: what the sink held back was brought out, and then the tree was saved or not; or the sink failed,
 -- and then nothing was saved. No byte is added to what it took.

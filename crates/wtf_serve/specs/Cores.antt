@@ -1,5 +1,5 @@
 -- The engine of a run: the core that answers its lines.
-use Rattle.std.specs.Prelude.{◌≡◌, ◌≤◌, false, List, length}
+use Rattle.std.specs.Prelude.{◌≡◌, ◌≤◌, false, List, length, None}
 use Rattle.wtf_dev.specs.Store.{StoreKind}
 use Rattle.wtf_replica.specs.Bytes.{byte_at}
 use Rattle.wtf_replica.specs.Downs.{is_down}
@@ -13,11 +13,12 @@ use Rattle.wtf_core.specs.Telling.{TellsCore, IsWide, IsWithin}
 use Rattle.wtf_gc.specs.Extents.{covers}
 use Rattle.wtf_serve.specs.Engines.{Engine}
 
--- a core between two lines: it is open, its tables are sound, its servers are there, and all bytes that it names lie
--- inside the stores
+-- a core between two lines: it is open, its tables are sound, no number is watched, its servers are there, and all bytes
+-- that it names lie inside the stores
 pub record IsSoundCore {S : Type 0} (kind : StoreKind S) (shelf : List S) (core : CoreView) : Type 0 where
   pub not_closed : core.closed ≡ false
   pub tables : AreSound core.tables
+  pub unwatched : core.tables.beside.watched ≡ None
   pub servers : core.settings.servers ≤ length shelf
   pub inside : IsInside kind shelf core
 

@@ -29,7 +29,7 @@ use Rattle.wtf_serve.specs.Answering.{IsOwnAnswer, line_load}
 use Rattle.wtf_serve.specs.Openings.{Opening, StartsFrom}
 use Rattle.wtf_serve.specs.Punched.{ArePunchedIn, CountsIn, punch_fault_count}
 use Rattle.wtf_serve.specs.Quiet.{line_stage}
-use Rattle.wtf_serve.specs.Stocks.{Stock, IsSaveFault, HoldsOneOf, HoldsSome, HoldsStart, HoldsJust}
+use Rattle.wtf_serve.specs.Stocks.{Stock, IsSaveFault, HoldsOneOf, HoldsSome, HoldsStart, HoldsJust, KeeperStays}
 
 -- What a run is given of the state that answers its lines: the kind of its stores; the settings, which servers are down,
 -- how many installs there were and the number of the next transaction; when it is sound over stores, and when it stands
@@ -213,9 +213,9 @@ Saves engine t answer.FaultSave =
     IsSaveFault engine.kind (span_of engine t) (engine.settings t.old).servers t.before.keeper t.after.keeper
 Saves engine t a = ⊥
 
--- a line that is no save leaves the keeper as it was
+-- a line that is no save hands the keeper nothing
 abbrev pub Keeps : {S State : Type 0} → Engine S State → Step S State → Line → Answer → Type 0
-Keeps engine t line a = MatchBool (is_save line) (Saves engine t a) (t.after.keeper ≡ t.before.keeper)
+Keeps engine t line a = MatchBool (is_save line) (Saves engine t a) (KeeperStays t.before.keeper t.after.keeper)
 
 -- all seven
 pub record IsAnswer {S State : Type 0} (engine : Engine S State) (t : Step S State) (line : Line) (a : Answer) : Type 0 where

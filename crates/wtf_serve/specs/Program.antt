@@ -1,5 +1,5 @@
 -- What the program promises of its run, by the words that it is given.
-use Rattle.std.specs.Prelude.{◌≡◌, ◌⊎◌, ◌<◌, ℕ, List, Option, Some, None, [], ◌∷◌, ⊤}
+use Rattle.std.specs.Prelude.{◌≡◌, ◌≢◌, ◌⊎◌, ◌↔◌, ◌<◌, ℕ, List, Option, Some, None, [], ◌∷◌, ⊤}
 use Rattle.wtf_base.specs.declared.settings.Settings.{Settings}
 use Rattle.wtf_words.specs.Words.{Numbers, numbers, Request}
 use Rattle.wtf_words.specs.declared.Script.{Script}
@@ -10,7 +10,7 @@ use Rattle.wtf_image.specs.Images.{HasText}
 use Rattle.wtf_image.specs.Rules.{AreGoodSettings}
 use Rattle.wtf_serve.specs.Endings.{Devices}
 use Rattle.wtf_serve.specs.Generated.{IsGeneratedRun}
-use Rattle.wtf_serve.specs.Unopened.{IsRun}
+use Rattle.wtf_serve.specs.Unopened.{IsRun, IsRunStatus, IsRefusedImage}
 
 -- a whole run of a script, by where that comes from, over the devices before and after it
 abbrev pub IsScriptRun : {S : Type 0} → StoreKind S → (List (List ℕ) → Type 0) → Settings → Script → ℕ → Devices S × Devices S → Type 0
@@ -51,3 +51,19 @@ IsFew asked (b ∷ bytes) stores = HasManyServers (b ∷ bytes) stores
 abbrev pub IsRefused : Option Request → List ℕ → ℕ → Type 0
 IsRefused None held stores = ⊤
 IsRefused (Some asked) held stores = IsFew asked.numbers held stores
+
+-- What a status says, by what the words ask for, and by what the keeper holds, where that is seen: it is one of a run's; words that are refused end
+-- with 2, or for want of memory with 7; and 2 and 6 stand for just what is refused, but where memory, the keeper or the sink ended the run first.
+pub record IsStatusOf (size : ℕ → ℕ → ℕ) (stores : ℕ) (asked : Option Request) (held : Option (List ℕ)) (status : ℕ) : Type 0 where
+  pub known : IsRunStatus status
+  pub words : asked ≡ None → (status ≡ 2) ⊎ (status ≡ 7)
+  pub refused : (bytes : List ℕ) → held ≡ Some bytes → (status ≡ 2) ↔ ((status ≢ 7) × (status ≢ 8) × IsRefused asked bytes stores)
+  pub image : (bytes : List ℕ) → held ≡ Some bytes
+      → (status ≡ 6) ↔ ((status ≢ 2) × (status ≢ 4) × (status ≢ 7) × (status ≢ 8) × IsRefusedImage size stores bytes)
+
+-- The script, the output and the stores are as they were, each given before and after, and so is the keeper.
+pub record LeavesAll {I O S : Type 0} (script : I × I) (out : O × O) (shelf : S × S) (kept : Type 0) : Type 0 where
+  pub unread : script.1 ≡ script.0
+  pub unwritten : out.1 ≡ out.0
+  pub untouched : shelf.1 ≡ shelf.0
+  pub unkept : kept

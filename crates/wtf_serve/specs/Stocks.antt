@@ -65,6 +65,11 @@ pub record KeeperGoesOn (old new : KeeperView) : Type 0 where
   pub faults : old.faults ≤ new.faults
   pub tells : new.tells ≡ old.tells
 
+-- a keeper that was handed nothing: what it tells that it holds stays
+pub record KeeperStays (old new : KeeperView) : Type 0 where
+  pub goes_on : KeeperGoesOn old new
+  pub held : (bytes : List ℕ) → old.held ≡ Some bytes → new.held ≡ Some bytes
+
 -- some images, or none, were handed to the keeper
 abbrev pub HandsOver : (List (List ℕ) → Type 0) → Type 0
 HandsOver handed = (images : List (List ℕ)) × handed images

@@ -9,6 +9,7 @@ use Rattle.wtf_serve.specs.declared.service.Stop.{Stop}
 use Rattle.wtf_serve.specs.declared.service.Stop.TheVariants as stop
 use Rattle.wtf_serve.specs.Scripts.{line_text}
 use Rattle.wtf_serve.specs.Engines.{Engine, Step, IsAnswer}
+use Rattle.wtf_serve.specs.Stocks.{KeeperStays}
 
 -- a front of a text was written, and no more
 abbrev pub WroteFront : List ℕ → List ℕ → Option (List ℕ) → Type 0
@@ -33,9 +34,9 @@ pub record IsCutOff {S State : Type 0} (engine : Engine S State) (t : Step S Sta
   pub wrote : (old : List ℕ) → sink.taken ≡ Some old → WroteFront old (line_text answer) sink'.taken
   pub cause : Rose sink.faults sink'.faults
 
--- no line was answered: the keeper is as it was, and nothing was punched
+-- no line was answered: the keeper was handed nothing, and nothing was punched
 pub record IsLeftAlone {S State : Type 0} (engine : Engine S State) (t : Step S State) : Type 0 where
-  pub keeper : t.after.keeper ≡ t.before.keeper
+  pub keeper : KeeperStays t.before.keeper t.after.keeper
   pub follows : EachFollows engine.kind t.before.shelf t.after.shelf []
 
 -- a line was answered, and no memory was found for the text
@@ -43,7 +44,7 @@ pub record IsUnwritten {S State : Type 0} (engine : Engine S State) (t : Step S 
   pub answer : Answer
   pub is : IsAnswer engine t line answer
 
--- what came of a line: for want of memory nothing is written, and unless it was answered the keeper is as it was, and nothing was punched
+-- what came of a line: for want of memory nothing is written, and unless it was answered the keeper was handed nothing, and nothing was punched
 abbrev pub TurnIs : {S State : Type 0} → Engine S State → Step S State → Line → SinkView → SinkView → Result (Unit {0}) Stop → Type 0
 TurnIs engine t line sink sink' (Ok u) = IsDone engine t line sink sink'
 TurnIs engine t line sink sink' (Err stop.Unwritten) = IsCutOff engine t line sink sink'

@@ -7,8 +7,10 @@ mod opening;
 mod program;
 mod service;
 
+pub use opening::{NotOpened, core_of, end};
 pub use program::wtf;
 pub use service::{
-    BAD_LINES, FINISHED, IMAGE_REFUSED, LOADING_FAILED, OUT_OF_MEMORY, READING_FAILED,
-    SAVING_FAILED, SCRIPT_TOO_LONG, WORDS_REFUSED, WRITING_FAILED, serve,
+    BAD_LINES, FINISHED, IMAGE_REFUSED, LOADING_FAILED, OUT_OF_MEMORY, READING_FAILED, Reader,
+    SAVING_FAILED, SCRIPT_TOO_LONG, Stop, WORDS_REFUSED, WRITING_FAILED, either, ended,
+    push_answer, read_line, serve, write_all,
 };

@@ -19,7 +19,7 @@ use wtf_image::{LoadError, check};
 
 /// Why what a keeper gave does not open a run.
 #[derive(Clone, Copy, Debug)]
-pub(crate) enum NotOpened {
+pub enum NotOpened {
     /// There are fewer stores than servers.
     Few,
     /// The image is refused, or memory could not be had.
@@ -69,7 +69,7 @@ fn loaded_core<S: SliceStore>(
 }
 
 /// The core of what a keeper gave, where these settings are asked for.
-fn core_of<S: SliceStore>(
+pub fn core_of<S: SliceStore>(
     alloc: Global,
     settings: Settings,
     bytes: &[u8],
@@ -110,7 +110,7 @@ fn refuse<O: Sink>(out: &mut O, why: LoadError) -> u8
 }
 
 /// Ends a run that was not opened: writes why an image is refused, and answers the status.
-fn end<O: Sink>(out: &mut O, why: NotOpened) -> u8
+pub fn end<O: Sink>(out: &mut O, why: NotOpened) -> u8
     ensures ends { EndsBy why result (O.view out.old) (O.view out.new) }
     ensures untouched { result ≡ 2 → out.new ≡ out.old }
 {

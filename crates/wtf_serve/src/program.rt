@@ -1,14 +1,13 @@
 //! The program's run over any source, sink, stores and keeper.
 
-ghost use Rattle.std.specs.Prelude.{◌≡◌, ◌≢◌, ◌≤◌, ◌↔◌, ◌⊎◌, ℕ, List, [], Some, None, length, map, string_bytes};
+ghost use Rattle.std.specs.Prelude.{◌≡◌, ◌≤◌, [], length, map, string_bytes};
 ghost use Rattle.wtf_dev.specs.Streams.{SourceView};
 ghost use Rattle.wtf_words.specs.Words.{asked_of};
 ghost use Rattle.wtf_image.specs.Rules.{size_in};
 ghost use Rattle.wtf_serve.specs.Endings.{devices};
 ghost use Rattle.wtf_serve.specs.Stocks.{HandsOver};
-ghost use Rattle.wtf_serve.specs.Unopened.{IsRunStatus, IsRefusedImage};
 ghost use Rattle.wtf_serve.specs.Generated.{IsGeneratedRun};
-ghost use Rattle.wtf_serve.specs.Program.{IsProgramRun, IsRefused};
+ghost use Rattle.wtf_serve.specs.Program.{IsProgramRun, IsStatusOf, LeavesAll};
 
 use crate::service::{OUT_OF_MEMORY, WORDS_REFUSED, serve};
 use std::alloc::Global;
@@ -36,18 +35,10 @@ pub fn wtf<I: Source, O: Sink, S: SliceStore, K: Keeper>(
     shelf: &mut Shelf<S>,
     keeper: &mut K,
 ) -> u8
-    ensures statuses { IsRunStatus result }
-    ensures words { asked_of (map string_bytes words.now) ≡ None → (result ≡ 2) ⊎ (result ≡ 7) }
-    ensures refused { (held : List ℕ) → (K.view keeper.old).held ≡ Some held →
-        (result ≡ 2) ↔ ((result ≢ 7) × (result ≢ 8) ×
-        IsRefused (asked_of (map string_bytes words.now)) held (length shelf.old)) }
-    ensures image { (held : List ℕ) → (K.view keeper.old).held ≡ Some held →
-        (result ≡ 6) ↔ ((result ≢ 2) × (result ≢ 4) × (result ≢ 7) × (result ≢ 8) ×
-        IsRefusedImage (size_in S.kind shelf.old) (length shelf.old) held) }
-    ensures unread { result ≡ 2 → script.new ≡ script.old }
-    ensures unwritten { result ≡ 2 → out.new ≡ out.old }
-    ensures untouched { result ≡ 2 → shelf.new ≡ shelf.old }
-    ensures unkept { result ≡ 2 → K.follows keeper.old keeper.new [] }
+    ensures status { IsStatusOf (size_in S.kind shelf.old) (length shelf.old)
+        (asked_of (map string_bytes words.now)) (K.view keeper.old).held result }
+    ensures left { result ≡ 2 → LeavesAll (script.old, script.new) (out.old, out.new)
+        (shelf.old, shelf.new) (K.follows keeper.old keeper.new []) }
     ensures handed { HandsOver (K.follows keeper.old keeper.new) }
     ensures served { IsProgramRun S.kind (K.follows keeper.old keeper.new)
         (asked_of (map string_bytes words.now)) result

@@ -9,10 +9,10 @@ ghost use Rattle.wtf_serve.specs.Turns.{AllTaken, TurnIs};
 ghost use Rattle.wtf_serve.specs.Passes.{Came, HasDrawn, PassIs, IsFormRead, input, hand};
 ghost use Rattle.wtf_serve.specs.Answering.{IsFormLine};
 ghost use Rattle.wtf_serve.specs.Beginnings.{Closes, Ends};
-ghost use Rattle.wtf_serve.specs.Engines.{GoesOn, Obeys, Stores, IsCaused, Tells, Punches, Keeps, step};
+ghost use Rattle.wtf_serve.specs.Engines.{IsAnswer, step};
 ghost use Rattle.wtf_serve.specs.Cores.{IsSoundCore, engine};
 ghost use Rattle.wtf_serve.specs.Scripts.{end_status, line_text, settings_line};
-ghost use Rattle.wtf_serve.specs.Stocks.{stock, KeeperGoesOn, HandsOver};
+ghost use Rattle.wtf_serve.specs.Stocks.{stock, KeeperGoesOn, KeeperStays, HandsOver};
 ghost use Rattle.wtf_script.specs.declared.limits.TheConstants.{SCRIPT_BYTES};
 
 use crate::opening::open;
@@ -26,7 +26,7 @@ use wtf_script::{Line, LineError, Lines, ReadError, parse_line};
 
 /// Why a run ends before the end of its script.
 #[derive(Clone, Copy, Debug)]
-pub(crate) enum Stop {
+pub enum Stop {
     /// The source failed.
     Unread,
     /// The sink failed.
@@ -77,7 +77,7 @@ impl Stop {
 }
 
 /// Writes all of a text.
-pub(crate) fn write_all<O: Sink>(out: &mut O, text: &[u8]) -> Result<(), Failed>
+pub fn write_all<O: Sink>(out: &mut O, text: &[u8]) -> Result<(), Failed>
     ensures told { (old : List ℕ) → (O.view out.old).taken ≡ Some old →
         AllTaken old text.now (O.view out.new).taken result }
     ensures faults { (O.view out.old).faults ≤ (O.view out.new).faults }
@@ -111,13 +111,13 @@ fn bring_out<O: Sink>(out: &mut O) -> Result<(), Failed>
 
 /// What the lines of a script are read with.
 #[derive(Drop)]
-struct Reader {
-    alloc: Global,
-    lines: Lines,
+pub struct Reader {
+    pub alloc: Global,
+    pub lines: Lines,
 }
 
 /// Reads the next line: its event, or the answer of one that asks nothing; `None` is the end of the script.
-fn read_line<I: Source>(
+pub fn read_line<I: Source>(
     reader: &mut Reader,
     script: &mut I,
 ) -> Result<Option<Result<Event, Answer>>, Stop>
@@ -154,32 +154,14 @@ fn answer<S: SliceStore, K: Keeper>(
     requires next_tx { core.old.tables.next_tx < 2 ^ 63 }
     requires form { IsFormLine line }
     requires sound { IsSoundCore S.kind shelf.old core.old }
-    ensures goes_on { IfOk result (GoesOn (engine S.kind)
-        (step (stock shelf.old (K.view keeper.old)) (stock shelf.new (K.view keeper.new))
-        core.old core.new) line) }
-    ensures lawful { IfOk result (Obeys (engine S.kind)
-        (step (stock shelf.old (K.view keeper.old)) (stock shelf.new (K.view keeper.new))
-        core.old core.new) line) }
-    ensures stored { IfOk result (Stores (engine S.kind)
-        (step (stock shelf.old (K.view keeper.old)) (stock shelf.new (K.view keeper.new))
-        core.old core.new) line) }
-    ensures caused { IfOk result (IsCaused (engine S.kind)
-        (step (stock shelf.old (K.view keeper.old)) (stock shelf.new (K.view keeper.new))
-        core.old core.new) line) }
-    ensures told { IfOk result (Tells (engine S.kind)
-        (step (stock shelf.old (K.view keeper.old)) (stock shelf.new (K.view keeper.new))
-        core.old core.new) line) }
-    ensures punched { IfOk result (Punches (engine S.kind)
-        (step (stock shelf.old (K.view keeper.old)) (stock shelf.new (K.view keeper.new))
-        core.old core.new) line) }
-    ensures kept { IfOk result (Keeps (engine S.kind)
+    ensures is { IfOk result (IsAnswer (engine S.kind)
         (step (stock shelf.old (K.view keeper.old)) (stock shelf.new (K.view keeper.new))
         core.old core.new) line) }
     ensures bad { IfErr line (λ bad. result ≡ Ok bad) }
     ensures follows { OnErr result (EachFollows S.kind shelf.old shelf.new []) }
     ensures keeper { KeeperGoesOn (K.view keeper.old) (K.view keeper.new) }
     ensures handed { HandsOver (K.follows keeper.old keeper.new) }
-    ensures unkept { OnErr result (keeper.new ≡ keeper.old) }
+    ensures unkept { OnErr result (KeeperStays (K.view keeper.old) (K.view keeper.new)) }
 {
     match line {
         Ok(event) => {
@@ -191,7 +173,7 @@ fn answer<S: SliceStore, K: Keeper>(
 }
 
 /// Appends the line of an answer.
-fn push_answer(answer: &Answer, text: &mut Vec<u8>) -> Result<(), OutOfMemory>
+pub fn push_answer(answer: &Answer, text: &mut Vec<u8>) -> Result<(), OutOfMemory>
     ensures { OnOk result (text.new.items ≡ text.old.items ++ line_text answer.now) }
 {
     print_answer(answer, text)?;
@@ -278,14 +260,14 @@ fn pass<I: Source, O: Sink, S: SliceStore, K: Keeper>(
 }
 
 /// Whether one of two holds.
-fn either(a: bool, b: bool) -> bool
+pub fn either(a: bool, b: bool) -> bool
     ensures { result ≡ (a || b) }
 {
     a || b
 }
 
 /// The status of a run that read its script to the end.
-fn ended(bad: bool) -> u8
+pub fn ended(bad: bool) -> u8
     ensures { result ≡ end_status bad }
 {
     if bad { BAD_LINES } else { FINISHED }

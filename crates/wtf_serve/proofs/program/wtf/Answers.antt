@@ -6,7 +6,7 @@ use Rattle.wtf_words.specs.declared.Script.{Script}
 use Rattle.wtf_words.specs.declared.Script.TheVariants as script
 use Rattle.wtf_serve.specs.Endings.{Devices}
 use Rattle.wtf_serve.specs.Program.{IsProgramRun, IsScriptRun}
-use Rattle.wtf_serve.proofs.Refusing.{program_status, words_status, program_refused, program_image}
+use Rattle.wtf_serve.proofs.Refusing.{status_says}
 use Rattle.wtf_serve.proofs.program.wtf.Goals as goal
 
 -- a run of the script that the words ask for, with the settings that they ask for
@@ -24,23 +24,14 @@ returns-in-Read-clause-served g c =
     ran g.S.SliceStore.kind (g.K.Keeper.follows c.args.keeper.now c.serve-status.new.keeper) _ c.serve-status.result _ _ c.in-Ok.asked script.Read c.in-Read.is
     c.in-Ok.ensures.asked c.serve-status.ensures.served
 
-pub returns-in-Read-clause-statuses : goal.returns-in-Read-clause-statuses
-returns-in-Read-clause-statuses g c = program_status g.S.SliceStore.kind
-    (g.K.Keeper.follows c.args.keeper.now c.serve-status.new.keeper) _ c.serve-status.result _ _ (returns-in-Read-clause-served g c)
+pub returns-in-Read-clause-status : goal.returns-in-Read-clause-status
+returns-in-Read-clause-status g c = status_says g.S.SliceStore.kind (g.K.Keeper.follows c.args.keeper.now c.serve-status.new.keeper) _ c.serve-status.result
+    _ _ (returns-in-Read-clause-served g c)
 
-pub returns-in-Read-clause-words : goal.returns-in-Read-clause-words
-returns-in-Read-clause-words g c = words_status g.S.SliceStore.kind (g.K.Keeper.follows c.args.keeper.now c.serve-status.new.keeper) _ c.serve-status.result _ _
-    (returns-in-Read-clause-served g c)
-
-pub returns-in-Read-clause-refused : goal.returns-in-Read-clause-refused
-returns-in-Read-clause-refused g c = λ held held_is.
-    program_refused g.S.SliceStore.kind (g.K.Keeper.follows c.args.keeper.now c.serve-status.new.keeper) _ c.serve-status.result _ _ held held_is
-    (returns-in-Read-clause-served g c)
-
-pub returns-in-Read-clause-image : goal.returns-in-Read-clause-image
-returns-in-Read-clause-image g c = λ held held_is.
-    program_image g.S.SliceStore.kind (g.K.Keeper.follows c.args.keeper.now c.serve-status.new.keeper) _ c.serve-status.result _ _ held held_is
-    (returns-in-Read-clause-served g c)
+pub returns-in-Read-clause-left : goal.returns-in-Read-clause-left
+returns-in-Read-clause-left g c = λ is.
+    let did = c.serve-status.ensures in
+    record { unread = did.unread is; unwritten = did.unwritten is; untouched = did.untouched is; unkept = did.unkept is }
 
 pub returns-in-Generated-clause-served : goal.returns-in-Generated-clause-served
 returns-in-Generated-clause-served g c =
@@ -48,20 +39,11 @@ returns-in-Generated-clause-served g c =
     (script.Generated c.in-Generated.recipe) c.in-Generated.is c.in-Ok.ensures.asked
     (c.serve_generated-status.ensures.served (g.I.Source.view c.args.script.now))
 
-pub returns-in-Generated-clause-statuses : goal.returns-in-Generated-clause-statuses
-returns-in-Generated-clause-statuses g c = program_status g.S.SliceStore.kind
+pub returns-in-Generated-clause-status : goal.returns-in-Generated-clause-status
+returns-in-Generated-clause-status g c = status_says g.S.SliceStore.kind
     (g.K.Keeper.follows c.args.keeper.now c.serve_generated-status.new.keeper) _ c.serve_generated-status.result _ _ (returns-in-Generated-clause-served g c)
 
-pub returns-in-Generated-clause-words : goal.returns-in-Generated-clause-words
-returns-in-Generated-clause-words g c = words_status g.S.SliceStore.kind
-    (g.K.Keeper.follows c.args.keeper.now c.serve_generated-status.new.keeper) _ c.serve_generated-status.result _ _ (returns-in-Generated-clause-served g c)
-
-pub returns-in-Generated-clause-refused : goal.returns-in-Generated-clause-refused
-returns-in-Generated-clause-refused g c = λ held held_is.
-    program_refused g.S.SliceStore.kind (g.K.Keeper.follows c.args.keeper.now c.serve_generated-status.new.keeper) _ c.serve_generated-status.result _ _ held
-    held_is (returns-in-Generated-clause-served g c)
-
-pub returns-in-Generated-clause-image : goal.returns-in-Generated-clause-image
-returns-in-Generated-clause-image g c = λ held held_is.
-    program_image g.S.SliceStore.kind (g.K.Keeper.follows c.args.keeper.now c.serve_generated-status.new.keeper) _ c.serve_generated-status.result _ _ held
-    held_is (returns-in-Generated-clause-served g c)
+pub returns-in-Generated-clause-left : goal.returns-in-Generated-clause-left
+returns-in-Generated-clause-left g c = λ is.
+    let did = c.serve_generated-status.ensures in
+    record { unread = refl; unwritten = did.unwritten is; untouched = did.untouched is; unkept = did.unkept is }

@@ -1,8 +1,7 @@
-use Rattle.std.proofs.Common.{ℕ, Ok, sym, ◌∙◌, subst}
-use Rattle.wtf_model.specs.declared.event.Event.TheVariants as event
+use Rattle.std.proofs.Common.{ℕ, sym, ◌∙◌, subst}
 use Rattle.wtf_serve.specs.Beginnings.{Closes}
 use Rattle.wtf_serve.specs.Cores.{engine}
-use Rattle.wtf_serve.specs.Engines.{step, IsAnswer}
+use Rattle.wtf_serve.specs.Engines.{step}
 use Rattle.wtf_serve.specs.Stocks.{stock}
 use Rattle.wtf_serve.proofs.Closing.{save_follows, closes_saved, closes_failed}
 use Rattle.wtf_serve.proofs.service.close.Goals as goal
@@ -14,17 +13,7 @@ returns-clause-closes g c =
     let view = g.K.Keeper.view in
     let bad = c.args.bad in
     let t = step (stock c.args.shelf.now (view c.args.keeper.now)) (stock c.answer.new.shelf (view c.answer.new.keeper)) c.args.core.now c.answer.new.core in
-    let told = c.in-Ok.ensures in
-    let is : IsAnswer (engine kind) t (Ok event.Save) c.in-Ok.answer
-    = record {
-      goes_on = told.goes_on;
-      lawful = told.lawful;
-      stored = told.stored;
-      caused = told.caused;
-      told = told.told;
-      punched = told.punched;
-      kept = told.kept;
-    } in
+    let is = c.in-Ok.ensures.is in
     elim c.match-answer-2.branch [
       | in-Saved w ↦
           subst (λ (n : ℕ). Closes (engine kind) t bad n) (sym (w.result-is ∙ w.ended.ensures))
@@ -38,4 +27,4 @@ pub returns-clause-follows : goal.returns-clause-follows
 returns-clause-follows g c =
     let view = g.K.Keeper.view in
     let t = step (stock c.args.shelf.now (view c.args.keeper.now)) (stock c.answer.new.shelf (view c.answer.new.keeper)) c.args.core.now c.answer.new.core in
-    save_follows (engine g.S.SliceStore.kind) t c.in-Ok.answer c.in-Ok.ensures.punched
+    save_follows (engine g.S.SliceStore.kind) t c.in-Ok.answer c.in-Ok.ensures.is.punched

@@ -8,15 +8,7 @@ returns-clause-turn g c =
     = c.as_slice.ensures.value ∙ c.in-Ok-push_answer.ensures ∙ ap (λ (x : List ℕ). x ++ line_text c.in-Ok.answer) c.clear.ensures.items in
     record {
       answer = c.in-Ok.answer;
-      is = record {
-        goes_on = c.in-Ok.ensures.goes_on;
-        lawful = c.in-Ok.ensures.lawful;
-        stored = c.in-Ok.ensures.stored;
-        caused = c.in-Ok.ensures.caused;
-        told = c.in-Ok.ensures.told;
-        punched = c.in-Ok.ensures.punched;
-        kept = c.in-Ok.ensures.kept;
-      };
+      is = c.in-Ok.ensures.is;
       wrote = λ old e. let (front, back, all, new) = c.in-Err.ensures.told old e in (front, back, sym text ∙ all, new);
       cause = c.in-Err.ensures.cause;
     }
@@ -27,15 +19,7 @@ returns-in-Ok-write_all-clause-turn g c =
     = c.as_slice.ensures.value ∙ c.in-Ok-push_answer.ensures ∙ ap (λ (x : List ℕ). x ++ line_text c.in-Ok.answer) c.clear.ensures.items in
     record {
       answer = c.in-Ok.answer;
-      is = record {
-        goes_on = c.in-Ok.ensures.goes_on;
-        lawful = c.in-Ok.ensures.lawful;
-        stored = c.in-Ok.ensures.stored;
-        caused = c.in-Ok.ensures.caused;
-        told = c.in-Ok.ensures.told;
-        punched = c.in-Ok.ensures.punched;
-        kept = c.in-Ok.ensures.kept;
-      };
+      is = c.in-Ok.ensures.is;
       wrote = λ old e. c.in-Ok-write_all.ensures.told old e ∙ ap (λ (x : List ℕ). Some (old ++ x)) text;
       still = c.in-Ok-write_all.ensures.steady;
     }
@@ -43,16 +27,5 @@ returns-in-Ok-write_all-clause-turn g c =
 pub returns-in_default-push_answer-clause-turn : goal.returns-in_default-push_answer-clause-turn
 returns-in_default-push_answer-clause-turn g c = (
   refl,
-  inr (record {
-    answer = c.in-Ok.answer;
-    is = record {
-      goes_on = c.in-Ok.ensures.goes_on;
-      lawful = c.in-Ok.ensures.lawful;
-      stored = c.in-Ok.ensures.stored;
-      caused = c.in-Ok.ensures.caused;
-      told = c.in-Ok.ensures.told;
-      punched = c.in-Ok.ensures.punched;
-      kept = c.in-Ok.ensures.kept;
-    };
-  }),
+  inr (record { answer = c.in-Ok.answer; is = c.in-Ok.ensures.is }),
 )
