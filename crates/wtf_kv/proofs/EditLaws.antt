@@ -8,11 +8,7 @@ use Rattle.wtf_kv.specs.declared.changes.Change.{Change}
 use Rattle.wtf_kv.specs.declared.changes.Change.TheVariants.{Delta, Cut}
 use Rattle.wtf_kv.specs.Edits.{after_change, after_changes, over, fits, first_unfit, Fits, Agree}
 
--- maps that agree on two lists of keys, one after another
-pub Agree-append : {K C : Type 0} (qs rs : List K) (a b : K → Option C) → Agree qs a b → Agree rs a b → Agree (qs ++ rs) a b
-Agree-append [] rs a b front back = back
-Agree-append (q ∷ qs) rs a b front back = (front.0, Agree-append qs rs a b front.1 back)
-
+-- maps that agree on two lists of keys agree on each
 pub Agree-parts : {K C : Type 0} (qs rs : List K) (a b : K → Option C) → Agree (qs ++ rs) a b → Agree qs a b × Agree rs a b
 Agree-parts [] rs a b h = (tt, h)
 Agree-parts (q ∷ qs) rs a b h = let parts = Agree-parts qs rs a b h.1 in ((h.0, parts.0), parts.1)

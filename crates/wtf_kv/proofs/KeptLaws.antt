@@ -5,21 +5,9 @@ use Rattle.std.specs.Option.{unwrap_or}
 use Rattle.std.proofs.lemmas.Bool.{cases_Bool, and_parts, or_left, or_right, or_cases, eq-eqb, ltb-true, le-leb, lt-leb}
 use Rattle.std.specs.declared.cmp.Ordering.{Ordering}
 use Rattle.wtf_kv.specs.Stores.{Store, versions_in, versions_of, map_at, is_live, is_pinned, AllAscend, AllKept}
-use Rattle.wtf_kv.specs.Seen.{last_seen_from, last_seen, value_seen, above, ascends, within, any_below, is_reported, is_seen, is_kept, kept_versions, IsAmong}
+use Rattle.wtf_kv.specs.Seen.{last_seen_from, last_seen, value_seen, above, ascends, within, is_reported, is_seen, is_kept, kept_versions, IsAmong}
 use Rattle.wtf_kv.proofs.Prune.{within-upto}
 use Rattle.wtf_kv.proofs.Loose.{kept-kept}
-
--- one of the versions passes a test
-pub record Passes {C : Type 0} (t : ℕ × Option C → Bool) (vs : List (ℕ × Option C)) : Type 0 where
-  pub version : ℕ × Option C
-  pub among : IsAmong version vs
-  pub passes : t version ≡ true
-
--- a pinned number lies below a version
-pub record IsPinnedBelow {K C : Type 0} (s : Store K C) (version : ℕ) : Type 0 where
-  pub number : ℕ
-  pub pinned : IsTrue (is_pinned s number)
-  pub below : number < version
 
 some_of : (t : ℕ → Bool) (ps : List ℕ) → list_any t ps ≡ true → (p : ℕ) × (list_any (nat_eq p) ps ≡ true) × (t p ≡ true)
 some_of t [] h = cc
@@ -35,13 +23,6 @@ module _ {C : Type 0} where
       (λ here. or_left (t w) (list_any t ws) (ap t (sym here) ∙ h))
       (λ later. or_right (t w) (list_any t ws) (among_any t v ws later h))
       is
-
-  pub any_among : (t : ℕ × Option C → Bool) (vs : List (ℕ × Option C)) → list_any t vs ≡ true → Passes t vs
-  any_among t [] h = cc
-  any_among t (w ∷ ws) h = ⊎_elim
-      (λ here. record { version = w; among = inl refl; passes = here })
-      (λ later. let p = any_among t ws later in record { version = p.version; among = inr p.among; passes = p.passes })
-      (or_cases (t w) (list_any t ws) h)
 
   seen_from : (n : ℕ) (v : ℕ × Option C) (vs : List (ℕ × Option C)) (so : Option (ℕ × Option C)) → last_seen_from n vs so ≡ Some v → IsAmong v vs ⊎ (so ≡ Some v)
   seen_from n v [] so h = inr h
@@ -93,17 +74,6 @@ module _ {C : Type 0} where
       (λ dropped. later_seen pins number v w ws (kept_sees pins number v ws up.1 all.1 (subst (λ b. IsAmong v (cond b (w ∷ kept_versions pins ws) (kept_versions pins ws))) dropped h)))
       (cases_Bool (is_kept pins w ws))
 
-  -- what is kept is reported
-  kept_reported : (pins : List ℕ) (v : ℕ × Option C) (vs : List (ℕ × Option C)) → IsAmong v (kept_versions pins vs) → is_reported pins v ≡ true
-  kept_reported pins v [] h = absurd h
-  kept_reported pins v (w ∷ ws) h = ⊎_elim
-      (λ kept. ⊎_elim
-      (λ here. ap (is_reported pins) here ∙ (and_parts (is_reported pins w) (is_seen pins w.0 ws) kept).0)
-      (λ later. kept_reported pins v ws later)
-      (subst (λ b. IsAmong v (cond b (w ∷ kept_versions pins ws) (kept_versions pins ws))) kept h))
-      (λ dropped. kept_reported pins v ws (subst (λ b. IsAmong v (cond b (w ∷ kept_versions pins ws) (kept_versions pins ws))) dropped h))
-      (cases_Bool (is_kept pins w ws))
-
   value_from : (o : Option (ℕ × Option C)) (c : C) → value_seen o ≡ Some c → (m : ℕ) × (o ≡ Some (m, Some c))
   value_from None c h = cc
   value_from (Some v) c h = (v.0, λ i. Some (v.0, h i))
@@ -151,10 +121,3 @@ module _ {K C : Type 0} (order : K → K → Ordering) where
   value_among s n key c h =
       let (m, is) = value_from (last_seen n (versions_of order s key)) c h in
       (m, seen_among n (m, Some c) (versions_of order s key) is)
-
-  -- a removal stands only while a pinned number lies below it
-  pub removal_below : (s : Store K C) (key : K) (m : ℕ) → AllKept order s → IsAmong (m, None) (versions_of order s key) → IsPinnedBelow s m
-  removal_below s key m all is =
-      let below : any_below s.pins m ≡ true = kept_reported s.pins (m, None) (versions_of order s key) (subst (IsAmong (m, None)) (sym (all key)) is) in
-      let (p, pinned, lt) = some_of (λ p. nat_lt p m) s.pins below in
-      record { number = p; pinned = pinned; below = ltb-true p m lt }

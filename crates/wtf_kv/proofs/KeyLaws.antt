@@ -1,5 +1,5 @@
 -- Laws of walks over the keys of a store that have versions.
-use Rattle.std.proofs.Common.{◌≡◌, ℕ, ◌+◌, ◌<◌, ◌≤◌, ◌⊎◌, inl, inr, Bool, true, false, cond, not, ◌&&◌, count_by, List, [], ◌∷◌, Option, None, Some, is_some, refl, sym, ap, ◌∙◌, ⊎_elim, arith}
+use Rattle.std.proofs.Common.{◌≡◌, ℕ, ◌+◌, ◌<◌, ◌≤◌, ◌⊎◌, inl, inr, Bool, true, false, cond, not, ◌&&◌, count_by, nat_lt, List, [], ◌∷◌, Option, None, Some, is_some, refl, sym, ap, ◌∙◌, ⊎_elim, arith}
 use Rattle.std.specs.declared.cmp.Ordering.{Ordering}
 use Rattle.std.specs.declared.cmp.Ordering.TheVariants.{Less, Equal, Greater}
 use Rattle.std.specs.Ordering.{is_lt, is_gt, is_eq, ordering_reverse}
@@ -8,12 +8,12 @@ use Rattle.std.specs.BTreeMap.{is_at}
 use Rattle.std.specs.List.{list_any}
 use Rattle.std.specs.Map.{lookup, keys_of}
 use Rattle.std.specs.Option.{unwrap_or}
-use Rattle.std.proofs.lemmas.Bool.{cases_Bool, or_left, or_right, or_cases, and_from, and_parts, both_ways}
+use Rattle.std.proofs.lemmas.Bool.{cases_Bool, or_left, or_right, or_cases, and_from, and_parts, both_ways, ltb-true}
 use Rattle.std.proofs.lemmas.Map.Made.{is_some-lookup}
 use Rattle.std.proofs.lemmas.List.Sums.{sum_by-cons}
-use Rattle.wtf_kv.specs.Seen.{has_any, upto}
-use Rattle.wtf_kv.specs.Stores.{Store}
-use Rattle.wtf_kv.specs.Order.{is_past, is_before, has_version, IsNextKey, IsReached, left_from}
+use Rattle.wtf_kv.specs.Seen.{has_any, upto, last_seen, number_seen, reported}
+use Rattle.wtf_kv.specs.Stores.{Store, versions_of}
+use Rattle.wtf_kv.specs.Order.{is_past, is_before, has_version, is_changed, IsLeastKey, IsNextKey, IsNextChanged, IsReached, left_from}
 use Rattle.wtf_kv.proofs.Prune.{weaker}
 
 lt_is : (o : Ordering) → is_lt o ≡ true → o ≡ Less
@@ -88,6 +88,14 @@ module _ {K : Type 0} (order : K → K → Ordering) (total : IsTotalOrder order
   stays_left : (e k : K) → is_at (order k) e ≡ true → not (is_lt (order e k)) ≡ true
   stays_left e k h = ap not (ap (λ q. is_lt (order q k)) (sym (same_key e k h)) ∙ itself k)
 
+  -- a key that lies past one and before the least that passes a test does not pass it
+  between_least : (t : K → Bool) (after next : Option K) (q : K) → IsLeastKey order (is_past order after) t next → is_past order after q ≡ true → is_before order next q ≡ true → t q ≡ false
+  between_least t after None q next past behind = next q past
+  between_least t after (Some n) q next past behind = ⊎_elim
+      (λ has. let up : order n q ≡ Greater = total.antisymm n q ∙ ap ordering_reverse (lt_is (order q n) behind) in absurd (both_ways _ (next.2 q past has) (ap is_gt up)))
+      (λ none. none)
+      (cases_Bool (t q))
+
 module _ {K C : Type 0} (order : K → K → Ordering) (total : IsTotalOrder order) (exact : (x y : K) → order x y ≡ Equal → x ≡ y) where
   -- a key with a version stands in the cells
   in_cells : (kv : Store K C) (k : K) → has_version order kv k ≡ true → list_any (λ e. is_at (order k) e.0) kv.cells ≡ true
@@ -98,29 +106,46 @@ module _ {K C : Type 0} (order : K → K → Ordering) (total : IsTotalOrder ord
       ∙ ⊎_elim (λ t. t) (λ f. absurd (both_ways _ (ap (λ o. has_any (upto kv.number (unwrap_or o []))) (none_is (lookup test kv.cells) f)) has)) (cases_Bool (is_some (lookup test kv.cells))))
 
   -- each key takes one from those that are left
-  pub left_less : (kv : Store K C) (k : K) (next : Option K) → has_version order kv k ≡ true → IsNextKey order kv (Some k) next → left_from order kv next < left_from order kv (Some k)
-  left_less kv k None has next =
+  pub left_fewer : (kv : Store K C) (k : K) (next : Option K) → has_version order kv k ≡ true → is_before order next k ≡ true → left_from order kv next < left_from order kv (Some k)
+  left_fewer kv k None has behind =
       let more : count_by (λ e. false) kv.cells < left_from order kv (Some k) =
       count_less (λ e. not (is_lt (order e.0 k))) (λ e. false) kv.cells (λ e h. cc)
       (weaker (λ e. is_at (order k) e.0) (λ e. not (is_lt (order e.0 k)) && not false) kv.cells (λ e h. and_from _ _ (stays_left order total exact e.0 k h) refl) (in_cells kv k has)) in
       let none = count_none kv.cells in
       omega (arith, more, none)
-  left_less kv k (Some n) has next =
+  left_fewer kv k (Some n) has behind =
       count_less (λ e. not (is_lt (order e.0 k))) (λ e. not (is_lt (order e.0 n))) kv.cells
-      (λ e h. ⊎_elim (λ t. absurd (both_ways _ (ap not (ap is_lt (total.trans e.0 k n (lt_is (order e.0 k) t) (lt_is (order k n) next.0)))) h)) (λ f. ap not f) (cases_Bool (is_lt (order e.0 k))))
+      (λ e h. ⊎_elim (λ t. absurd (both_ways _ (ap not (ap is_lt (total.trans e.0 k n (lt_is (order e.0 k) t) (lt_is (order k n) behind)))) h)) (λ f. ap not f) (cases_Bool (is_lt (order e.0 k))))
       (weaker (λ e. is_at (order k) e.0) (λ e. not (is_lt (order e.0 k)) && not (not (is_lt (order e.0 n)))) kv.cells
-      (λ e h. and_from _ _ (stays_left order total exact e.0 k h) (ap (λ b. not (not b)) (ap (λ q. is_lt (order q n)) (sym (same_key order total exact e.0 k h)) ∙ next.0)))
+      (λ e h. and_from _ _ (stays_left order total exact e.0 k h) (ap (λ b. not (not b)) (ap (λ q. is_lt (order q n)) (sym (same_key order total exact e.0 k h)) ∙ behind)))
       (in_cells kv k has))
+
+  pub left_less : (kv : Store K C) (k : K) (next : Option K) → has_version order kv k ≡ true → IsNextKey order kv (Some k) next → left_from order kv next < left_from order kv (Some k)
+  left_less kv k None has next = left_fewer kv k None has refl
+  left_less kv k (Some n) has next = left_fewer kv k (Some n) has next.0
 
   -- a key that lies past one and before the next has no version
   pub between : (kv : Store K C) (after next : Option K) (q : K) → IsNextKey order kv after next → is_past order after q ≡ true → is_before order next q ≡ true → has_version order kv q ≡ false
-  between kv after None q next past behind = next q past
-  between kv after (Some n) q next past behind = ⊎_elim
-      (λ has. let up : order n q ≡ Greater = total.antisymm n q ∙ ap ordering_reverse (lt_is (order q n) behind) in absurd (both_ways _ (next.2 q past has) (ap is_gt up)))
-      (λ none. none)
-      (cases_Bool (has_version order kv q))
+  between kv after None q next past behind = between_least order total exact (has_version order kv) after None q next past behind
+  between kv after (Some n) q next past behind = between_least order total exact (has_version order kv) after (Some n) q next past behind
 
   -- the next key has a version
   pub reached : (kv : Store K C) (after next : Option K) → IsNextKey order kv after next → IsReached order kv next
   reached kv after None h = tt
   reached kv after (Some n) h = h.1
+
+  -- ---- the next key that changed
+  pub between_changed : (kv : Store K C) (since : ℕ) (after next : Option K) (q : K) → IsNextChanged order kv since after next → is_past order after q ≡ true → is_before order next q ≡ true → is_changed order kv since q ≡ false
+  between_changed kv since after next q is past behind = between_least order total exact (is_changed order kv since) after next q is past behind
+
+  pub changed_has : (kv : Store K C) (since : ℕ) (q : K) → is_changed order kv since q ≡ true → has_version order kv q ≡ true
+  changed_has kv since q changed = by (versions_of order kv q) changed
+    where
+      by : (vs : List (ℕ × Option C)) → nat_lt since (number_seen (reported kv.pins (last_seen kv.number vs))) ≡ true → has_any vs ≡ true
+      by [] h = absurd (omega (arith, ltb-true since 0 h))
+      by (v ∷ vs) h = refl
+
+  -- it lies past the key before it, so a walk comes to its end
+  pub left_changed : (kv : Store K C) (since : ℕ) (k : K) (next : Option K) → is_changed order kv since k ≡ true → IsNextChanged order kv since (Some k) next → left_from order kv next < left_from order kv (Some k)
+  left_changed kv since k None changed next = left_fewer kv k None (changed_has kv since k changed) refl
+  left_changed kv since k (Some n) changed next = left_fewer kv k (Some n) (changed_has kv since k changed) next.0

@@ -15,6 +15,7 @@ mod Taken
 mod Noting
 mod Ranges
 mod Walked
+mod Changed
 mod Made
 mod Staged
 mod Loose

@@ -1,9 +1,8 @@
 -- What the next number sees once a version is made ready.
 use Rattle.std.proofs.Common.{◌≡◌, ℕ, ◌+◌, ◌≤◌, Bool, true, false, cond, ◌||◌, List, [], ◌∷◌, ◌++◌, Option, None, Some, is_some, nat_le, refl, sym, ap, subst, ◌∙◌, arith, ⊎_elim, ◌⊎◌}
-use Rattle.std.proofs.lemmas.Bool.{cases_Bool, or_parts, lt-leb, le-leb}
+use Rattle.std.proofs.lemmas.Bool.{cases_Bool, lt-leb, le-leb}
 use Rattle.wtf_kv.specs.Seen.{last_seen_from, last_seen, value_seen, upto, above, ascends, within}
 use Rattle.wtf_kv.specs.Staging.{staged, IsKeptOrCut}
-use Rattle.wtf_kv.proofs.Sees.{last_seen-push}
 use Rattle.wtf_kv.proofs.Prune.{ascends-upto, within-upto, within-more}
 use Rattle.wtf_kv.proofs.Updated.{upto-upto}
 
@@ -50,14 +49,6 @@ module _ {C : Type 0} (n : ℕ) (x : Option C) (vs : List (ℕ × Option C)) whe
   pub staged-good : ascends vs → ascends (staged n x vs) × within (n + 1) (staged n x vs)
   staged-good up = elim (is_some x || is_some (value_seen (last_seen n (upto n vs)))) as (λ b. ascends (cond b (upto n vs ++ next n x) (upto n vs)) × within (n + 1) (cond b (upto n vs ++ next n x) (upto n vs)))
       [ true ↦ (ascends-next n x (upto n vs) (ascends-upto n vs up) (within-upto n vs), within-next n x (upto n vs) (within-upto n vs)) | false ↦ (ascends-upto n vs up, within-more n (upto n vs) (within-upto n vs)) ]
-
-  pub staged-value : value_seen (last_seen (n + 1) (staged n x vs)) ≡ x
-  staged-value =
-      let choose : Bool → Option C = λ b. value_seen (last_seen (n + 1) (cond b (upto n vs ++ next n x) (upto n vs))) in
-      ⊎_elim
-      (λ yes. ap choose yes ∙ ap value_seen (last_seen-push (n + 1) (upto n vs) (n + 1, x) ∙ ap (λ b. cond b (Some (n + 1, x)) (last_seen (n + 1) (upto n vs))) (le-leb (n + 1) (n + 1) (omega arith))))
-      (λ no. ap choose no ∙ ap value_seen (seen-within n x (upto n vs) None (within-upto n vs)) ∙ none_from _ (or_parts _ _ no).1 ∙ sym (none_from x (or_parts _ _ no).0))
-      (cases_Bool (is_some x || is_some (value_seen (last_seen n (upto n vs)))))
 
 module _ {C : Type 0} (n : ℕ) (new old : List (ℕ × Option C)) (is : IsKeptOrCut n old new) where
   pub cut-good : ascends old × within (n + 1) old → ascends new × within (n + 1) new

@@ -183,6 +183,12 @@ within-upto m (v ∷ vs) =
     (λ no. subst (λ b. within m (cond b (v ∷ upto m vs) (upto m vs))) (sym no) rest)
     (cases_Bool (nat_le v.0 m))
 
+pub within-cut : {C : Type 0} (m n : ℕ) (vs : List (ℕ × Option C)) → within m vs → within m (upto n vs)
+within-cut m n [] h = tt
+within-cut m n (v ∷ vs) h =
+    let rest = within-cut m n vs h.1 in
+    elim (nat_le v.0 n) as (λ b. within m (cond b (v ∷ upto n vs) (upto n vs))) [ true ↦ (h.0, rest) | false ↦ rest ]
+
 pub value-reported : {C : Type 0} (pins : List ℕ) (o : Option (ℕ × Option C)) → value_seen (reported pins o) ≡ value_seen o
 value-reported pins None = refl
 value-reported pins (Some (v, Some x)) = refl

@@ -15,12 +15,12 @@ use Rattle.wtf_kv.specs.Seen.{ascends, has_upto}
 use Rattle.std.specs.BTreeMap.Range.{range_contains, is_from_start}
 use Rattle.std.specs.Ordering.{is_le, is_gt, is_lt, is_eq, eq_by_cmp, ordering_reverse}
 use Rattle.std.specs.Cmp.{IsTotalOrder, Equal-is}
-use Rattle.std.proofs.lemmas.Cmp.{eq_by_cmp_equiv, tied_itself, upto}
+use Rattle.std.proofs.lemmas.Cmp.{eq_by_cmp_equiv, tied_itself}
 use Rattle.std.proofs.lemmas.Map.{lookup-none}
 use Rattle.std.proofs.lemmas.List.Kept.{IsStrictlySortedBy-filter}
 use Rattle.std.proofs.lemmas.Map.Entries.{none_past_head, lookup-filter-keys}
 use Rattle.std.proofs.lemmas.Map.Keys.{IsDistinct-tail, IsDistinct-from_sorted, sorted_head}
-use Rattle.std.proofs.lemmas.Bool.{cases_Bool, and_parts}
+use Rattle.std.proofs.lemmas.Bool.{cases_Bool}
 use Rattle.wtf_kv.specs.Staging.{value_next}
 use Rattle.wtf_kv.specs.Edits.{is_between}
 use Rattle.wtf_kv.specs.Stores.{names, versions_in, listed}
@@ -30,11 +30,6 @@ le_reversed : (r : Ordering) → not (is_lt r) ≡ is_le (ordering_reverse r)
 le_reversed Less = refl
 le_reversed Equal = refl
 le_reversed Greater = refl
-
-not_gt : (r : Ordering) → is_le r ≡ true → is_gt r ≡ false
-not_gt Less e = refl
-not_gt Equal e = refl
-not_gt Greater e = cc
 
 and-false : (b : Bool) → (b && false) ≡ false
 and-false true = refl
@@ -67,15 +62,6 @@ module _ {K : Type 0} {R : K → K → Ordering} (o : IsTotalOrder R) where
   -- the test of a range is that of a cut
   pub between_included : (from to q : K) → range_contains R (Included from) (Included to) q ≡ is_between R from to q
   between_included from to q = ap (λ b. is_le (R from q) && b) (le_reversed (R to q) ∙ ap is_le (sym (o.antisymm q to)))
-
-  -- a range that runs backwards has no key
-  pub none_between : (from to q : K) → is_gt (R from to) ≡ true → is_between R from to q ≡ false
-  none_between from to q back =
-      ⊎_elim
-      (λ inside. let parts = and_parts _ _ inside in
-      let bad : true ≡ false = sym back ∙ upto o from q to (not_gt _ parts.0) (not_gt _ parts.1) in cc)
-      (λ outside. outside)
-      (cases_Bool (is_between R from to q))
 
   module _ (exact : (x y : K) → R x y ≡ Equal → x ≡ y) where
     at_back : (k q : K) → is_at (R q) k ≡ false → is_at (R k) q ≡ false
@@ -147,8 +133,27 @@ keys-filter p (e ∷ es) = elim (p e.0) as (λ b. keys_of (cond b (e ∷ filter 
 pub part_sorted : {K X : Type 0} (R : K → K → Ordering) (start : Bound K) (es : List (K × X)) → IsStrictlySortedBy R (keys_of es) → IsStrictlySortedBy R (keys_of (filter (λ e. range_contains R start Unbounded e.0) es))
 part_sorted R start es h = subst (IsStrictlySortedBy R) (sym (keys-filter (range_contains R start Unbounded) es)) (IsStrictlySortedBy-filter R (range_contains R start Unbounded) (keys_of es) h)
 
-from_start : {K : Type 0} (R : K → K → Ordering) (start : Bound K) (q : K) → range_contains R start Unbounded q ≡ is_from_start R start q
+pub from_start : {K : Type 0} (R : K → K → Ordering) (start : Bound K) (q : K) → range_contains R start Unbounded q ≡ is_from_start R start q
 from_start R start q = elim (is_from_start R start q) as (λ b. (b && true) ≡ b) [ true ↦ refl | false ↦ refl ]
+
+-- ---- the entries from a start on, whatever they hold
+module _ {K X : Type 0} {R : K → K → Ordering} (o : IsTotalOrder R) (exact : (x y : K) → R x y ≡ Equal → x ≡ y) where
+  pub part_inside : (start : Bound K) (es : List (K × X)) → AllByRecursion (λ e. is_from_start R start e.0 ≡ true) (filter (λ e. range_contains R start Unbounded e.0) es)
+  part_inside start [] = tt
+  part_inside start (e ∷ es) =
+      let rest = part_inside start es in
+      ⊎_elim
+      (λ inside. subst (λ b. AllByRecursion (λ e. is_from_start R start e.0 ≡ true) (cond b (e ∷ filter (λ e. range_contains R start Unbounded e.0) es) (filter (λ e. range_contains R start Unbounded e.0) es))) (sym inside) (sym (from_start R start e.0) ∙ inside, rest))
+      (λ outside. subst (λ b. AllByRecursion (λ e. is_from_start R start e.0 ≡ true) (cond b (e ∷ filter (λ e. range_contains R start Unbounded e.0) es) (filter (λ e. range_contains R start Unbounded e.0) es))) (sym outside) rest)
+      (cases_Bool (range_contains R start Unbounded e.0))
+
+  pub later_key : (k q : K) (es : List (K × X)) → AllByRecursion (λ y. R k y ≡ Less) (keys_of es) → is_some (lookup (is_at (R q)) es) ≡ true → is_gt (R k q) ≡ false
+  later_key k q [] less found = cc
+  later_key k q (e ∷ es) less found =
+      ⊎_elim
+      (λ here. let same : q ≡ e.0 = exact q e.0 ((Equal-is (R q e.0)).0 here) in ap (λ x. is_gt (R k x)) same ∙ ap is_gt less.0)
+      (λ apart. later_key k q es less.1 (sym (ap (λ b. is_some (cond b (Some e.1) (lookup (is_at (R q)) es))) apart) ∙ found))
+      (cases_Bool (is_at (R q) e.0))
 
 -- ---- the first of the entries from a start on
 module _ {K C A : Type 0} {R : K → K → Ordering} (o : IsTotalOrder R) (exact : (x y : K) → R x y ≡ Equal → x ≡ y) where
@@ -157,15 +162,6 @@ module _ {K C A : Type 0} {R : K → K → Ordering} (o : IsTotalOrder R) (exact
   part_versions start es q from =
       versions_alike R es _ q (lookup-filter-keys (is_at (R q)) (range_contains R start Unbounded) true
       (λ k at. ap (range_contains R start Unbounded) (sym (exact q k ((Equal-is (R q k)).0 at))) ∙ from_start R start q ∙ from) es)
-
-  pub part_inside : (start : Bound K) (es : List (K × Vec (ℕ × Option C) A)) → AllByRecursion (λ e. is_from_start R start e.0 ≡ true) (filter (λ e. range_contains R start Unbounded e.0) es)
-  part_inside start [] = tt
-  part_inside start (e ∷ es) =
-      let rest = part_inside start es in
-      ⊎_elim
-      (λ inside. subst (λ b. AllByRecursion (λ e. is_from_start R start e.0 ≡ true) (cond b (e ∷ filter (λ e. range_contains R start Unbounded e.0) es) (filter (λ e. range_contains R start Unbounded e.0) es))) (sym inside) (sym (from_start R start e.0) ∙ inside, rest))
-      (λ outside. subst (λ b. AllByRecursion (λ e. is_from_start R start e.0 ≡ true) (cond b (e ∷ filter (λ e. range_contains R start Unbounded e.0) es) (filter (λ e. range_contains R start Unbounded e.0) es))) (sym outside) rest)
-      (cases_Bool (range_contains R start Unbounded e.0))
 
   -- the versions of the first entry's key, and of another
   pub head_versions : (e : K × Vec (ℕ × Option C) A) (es : List (K × Vec (ℕ × Option C) A)) → versions_in R (listed (e ∷ es)) e.0 ≡ e.1.items
@@ -182,19 +178,11 @@ module _ {K C A : Type 0} {R : K → K → Ordering} (o : IsTotalOrder R) (exact
       (λ apart. ap (λ b. has_upto number (unwrap_or (cond b (Some e.1.items) (lookup (is_at (R q)) (listed es))) [])) apart)
       (cases_Bool (is_at (R q) e.0))
 
-  later_key : (k q : K) (es : List (K × Vec (ℕ × Option C) A)) → AllByRecursion (λ y. R k y ≡ Less) (keys_of es) → is_some (lookup (is_at (R q)) es) ≡ true → is_gt (R k q) ≡ false
-  later_key k q [] less found = cc
-  later_key k q (e ∷ es) less found =
-      ⊎_elim
-      (λ here. let same : q ≡ e.0 = exact q e.0 ((Equal-is (R q e.0)).0 here) in ap (λ x. is_gt (R k x)) same ∙ ap is_gt less.0)
-      (λ apart. later_key k q es less.1 (sym (ap (λ b. is_some (cond b (Some e.1) (lookup (is_at (R q)) es))) apart) ∙ found))
-      (cases_Bool (is_at (R q) e.0))
-
   -- no key that has a version lies before the first
   pub least_head : (number : ℕ) (e : K × Vec (ℕ × Option C) A) (es : List (K × Vec (ℕ × Option C) A)) (q : K) → IsStrictlySortedBy R (keys_of (e ∷ es)) → has_upto number (versions_in R (listed (e ∷ es)) q) ≡ true → is_gt (R e.0 q) ≡ false
   least_head number e es q sorted has =
       ⊎_elim
       (λ here. let same : q ≡ e.0 = exact q e.0 ((Equal-is (R q e.0)).0 here) in ap (λ x. is_gt (R e.0 x)) same ∙ ap is_gt (tied_itself o e.0))
-      (λ apart. later_key e.0 q es (sorted_head R e.0 (keys_of es) sorted)
+      (λ apart. later_key o exact e.0 q es (sorted_head R e.0 (keys_of es) sorted)
       (found_some number (lookup (is_at (R q)) es) (ap (has_upto number) (sym (versions-get R es q)) ∙ sym (ap (λ b. has_upto number (unwrap_or (cond b (Some e.1.items) (lookup (is_at (R q)) (listed es))) [])) apart) ∙ has)))
       (cases_Bool (is_at (R q) e.0))

@@ -1,5 +1,5 @@
 -- Deltas of one key that are made ready together.
-use Rattle.std.proofs.Common.{◌≡◌, ℕ, ◌+◌, true, false, cond, ◌&&◌, ◌||◌, List, [], ◌∷◌, ◌++◌, Option, None, Some, is_some, refl, sym, ap, ◌∙◌, ⊎_elim, ◌-◌, ◌<◌, length, take, drop, get_or, add-one, arith}
+use Rattle.std.proofs.Common.{◌≡◌, ℕ, ◌+◌, true, false, cond, ◌&&◌, ◌||◌, List, [], ◌∷◌, ◌++◌, Option, None, Some, refl, sym, ap, ◌∙◌, ⊎_elim, ◌-◌, ◌<◌, length, take, drop, get_or, add-one, arith}
 use Rattle.std.proofs.lemmas.List.{take_all}
 use Rattle.std.specs.declared.cmp.Ordering.{Ordering}
 use Rattle.std.specs.declared.cmp.Ordering.TheVariants.{Less, Equal, Greater}
@@ -10,7 +10,7 @@ use Rattle.std.proofs.lemmas.Bool.{cases_Bool, and_parts}
 use Rattle.wtf_kv.specs.declared.cell.Applied.{Applied}
 use Rattle.wtf_kv.specs.declared.changes.Change.{Change}
 use Rattle.wtf_kv.specs.declared.changes.Change.TheVariants.{Delta, Cut}
-use Rattle.wtf_kv.specs.Edits.{is_between, value_made, fits, after_change, after_changes, any_touches, first_unfit}
+use Rattle.wtf_kv.specs.Edits.{value_made, fits, after_change, after_changes, any_touches, first_unfit}
 use Rattle.wtf_kv.specs.Staging.{staged, staged_by, value_next, AreDeltasOf, run_made, run_fits}
 
 -- the first item, and n of those behind it
@@ -35,14 +35,6 @@ even Greater e = absurd (cc)
 -- a key is at itself
 pub itself : {K : Type 0} (order : K → K → Ordering) → IsTotalOrder order → (key : K) → is_at (order key) key ≡ true
 itself order total key = even (order key key) (total.antisymm key key)
-
--- a cut alone
-pub cut_by : {K C D : Type 0} (order : K → K → Ordering) (outcome : Option C → D → Applied C) (from to : K) (n : ℕ) (q : K) (vs : List (ℕ × Option C)) → cond (is_between order from to q && is_some (value_next n vs)) (staged n None vs) vs ≡ staged_by order outcome (Cut from to ∷ []) n q vs
-cut_by order outcome from to n q vs =
-    elim (is_between order from to q) as (λ b. cond (b && is_some (value_next n vs)) (staged n None vs) vs ≡ cond ((b && is_some (value_next n vs)) || false) (staged n (cond b None (value_next n vs)) vs) vs) [
-      | true ↦ elim (is_some (value_next n vs)) as (λ s. cond s (staged n None vs) vs ≡ cond (s || false) (staged n None vs) vs) [ true ↦ refl | false ↦ refl ]
-      | false ↦ refl
-    ]
 
 module _ {K C D : Type 0} (order : K → K → Ordering) (outcome : Option C → D → Applied C) (key : K) where
   -- they touch that key alone

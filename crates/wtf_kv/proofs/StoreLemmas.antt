@@ -2,6 +2,7 @@
 use Rattle.std.proofs.Common.{◌≡◌, ℕ, ◌+◌, ◌<◌, ◌≤◌, Bool, true, false, cond, ◌||◌, ◌&&◌, ◌⊎◌, inl, inr, List, [], ◌∷◌, ◌++◌, Option, None, Some, is_some, nat_le, nat_eq, IsTrue, refl, sym, ap, subst, ◌∙◌, arith, ⊎_elim, length, take, drop}
 use Rattle.std.specs.declared.cmp.Ordering.{Ordering}
 use Rattle.std.specs.BTreeMap.{is_at}
+use Rattle.std.specs.Option.{unwrap_or}
 use Rattle.std.specs.List.{list_any}
 use Rattle.std.proofs.lemmas.Bool.{cases_Bool, or_cases, or_parts, eqb-true, lt-leb, le-leb, leb-false}
 use Rattle.std.proofs.lemmas.List.{take-append-drop}
@@ -13,12 +14,13 @@ use Rattle.std.specs.declared.ops.Bound.{Bound}
 use Rattle.std.specs.BTreeMap.Range.{is_from_start}
 use Rattle.wtf_kv.specs.Order.{is_past, IsNextKey, IsFirstFrom}
 use Rattle.wtf_kv.specs.Stores.{Store, names, versions_in, versions_of, map_at, version_of, is_live, AllAscend}
+use Rattle.wtf_kv.specs.declared.recent.Recent.{Recent}
 use Rattle.wtf_kv.specs.Inside.{Sound, AllGood}
 use Rattle.wtf_kv.specs.Edits.{after_changes, over, any_touches, makes_version, versions_with, version_with}
 use Rattle.wtf_kv.specs.Installs.{Planned, IsReady}
 use Rattle.wtf_kv.specs.Staging.{value_next}
 use Rattle.wtf_kv.proofs.Sees.{last_seen-push, last_seen_from-upto}
-use Rattle.wtf_kv.proofs.Prune.{Live, kept_shown, first, value-reported, ascends-upto, within-upto, within-more, ascends-kept, within-kept}
+use Rattle.wtf_kv.proofs.Prune.{Live, kept_shown, first, value-reported, ascends-upto, within-upto, within-more, within-cut, ascends-kept, within-kept}
 use Rattle.wtf_kv.proofs.Next.{upto-all, seen-within}
 use Rattle.wtf_kv.proofs.Made.{made-value, number-value}
 
@@ -59,23 +61,24 @@ module _ {K C : Type 0} (R : K → K → Ordering) where
     pruned_versions n live = λ i q.
         (ap (λ p. number_seen (reported p (last_seen n (versions_of R new q)))) pins ∙ ap number_seen (pruned_reported n live q)) i
 
-  module _ (number fresh : ℕ) (pins : List ℕ) (ts us : List K) (old new : List (K × List (ℕ × Option C))) (sound : Sound R number fresh ts old) (kept : (q : K) → versions_in R new q ≡ kept_versions pins (upto number (versions_in R old q))) where
+  module _ (number fresh : ℕ) (pins : List ℕ) (r : Recent K) (ts us : List K) (old new : List (K × List (ℕ × Option C))) (sound : Sound R number fresh r ts old) (kept : (q : K) → versions_in R new q ≡ kept_versions pins (upto number (versions_in R old q))) where
     pub pruned_within : (q : K) → within number (versions_in R new q)
     pruned_within q = subst (within number) (sym (kept q)) (within-kept pins number (upto number (versions_in R old q)) (within-upto number (versions_in R old q)))
 
     pub pruned_all : (q : K) → upto number (versions_in R new q) ≡ kept_versions pins (upto number (versions_in R old q))
     pruned_all q = upto-all number (versions_in R new q) (pruned_within q) ∙ kept q
 
-    pub pruned_sound : ((q : K) → names R us q ≡ false → is_settled (versions_in R new q) ≡ true) → (n : ℕ) → n ≡ length us → Sound R number n us new
+    pub pruned_sound : ((q : K) → names R us q ≡ false → is_settled (versions_in R new q) ≡ true) → (n : ℕ) → n ≡ length us → Sound R number n r us new
     pruned_sound loose n is = record {
       good = λ q. (subst ascends (sym (kept q)) (ascends-kept pins (upto number (versions_in R old q)) (ascends-upto number (versions_in R old q) (sound.good q).0)), within-more number (versions_in R new q) (pruned_within q));
       noted = record { inside = omega arith; clean = λ q none. pruned_within q };
       loose = λ q none. ap is_settled (upto-all number (versions_in R new q) (pruned_within q)) ∙ loose q (sym (ap (λ l. names R l q) (ap (λ m. take m us) is ∙ take-length us)) ∙ none);
+      marked = λ q none. subst (within (unwrap_or r.since 0)) (sym (kept q)) (within-kept pins (unwrap_or r.since 0) (upto number (versions_in R old q)) (within-cut (unwrap_or r.since 0) number (versions_in R old q) (sound.marked q none)));
     }
 
   -- ---- install
-  module _ (number fresh : ℕ) (ts : List K) (cells : List (K × List (ℕ × Option C))) (sound : Sound R number fresh ts cells) where
-    pub installed_sound : (n : ℕ) → n ≡ length ts → Sound R (number + 1) n ts cells
+  module _ (number fresh : ℕ) (r : Recent K) (ts : List K) (cells : List (K × List (ℕ × Option C))) (sound : Sound R number fresh r ts cells) where
+    pub installed_sound : (n : ℕ) → n ≡ length ts → Sound R (number + 1) n r ts cells
     installed_sound n is = record {
       good = λ q. ((sound.good q).0, within-more (number + 1) (versions_in R cells q) (sound.good q).1);
       noted = record { inside = omega arith; clean = λ q none. (sound.good q).1 };
@@ -84,6 +87,7 @@ module _ {K C : Type 0} (R : K → K → Ordering) where
           let parts = names-split R fresh ts q none_at_all in
           ap is_settled (upto-all (number + 1) (versions_in R cells q) (sound.good q).1 ∙ sym (upto-all number (versions_in R cells q) (sound.noted.clean q parts.1)))
           ∙ sound.loose q parts.0;
+      marked = sound.marked;
     }
 
 -- ---- the next key

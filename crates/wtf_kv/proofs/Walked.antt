@@ -1,5 +1,5 @@
 -- The rows of a walk over cells.
-use Rattle.std.proofs.Common.{◌≡◌, ℕ, true, false, cond, ◌&&◌, List, [], ◌∷◌, Option, None, Some, refl, sym, ap, subst, ◌∙◌, ⊎_elim}
+use Rattle.std.proofs.Common.{◌≡◌, ℕ, ◌≤◌, Bool, true, false, cond, ◌&&◌, List, [], ◌∷◌, length, count_by, Option, None, Some, refl, sym, ap, subst, ◌∙◌, ⊎_elim, arith, suc}
 use Rattle.std.specs.Option.{unwrap_or}
 use Rattle.std.specs.List.{filter, AllByRecursion}
 use Rattle.std.specs.List.Sorted.{IsStrictlySortedBy}
@@ -14,12 +14,14 @@ use Rattle.std.specs.BTreeMap.{is_at}
 use Rattle.std.specs.BTreeMap.Range.{range_contains, is_from_start}
 use Rattle.std.proofs.lemmas.Bool.{cases_Bool}
 use Rattle.std.proofs.lemmas.Cmp.{eq_by_cmp_equiv}
+use Rattle.std.proofs.lemmas.List.{length-map}
+use Rattle.std.proofs.lemmas.List.Sums.{length-filter, count_by-le-length}
 use Rattle.std.proofs.lemmas.Map.{lookup-none}
 use Rattle.std.proofs.lemmas.Map.Entries.{none_past_head, lookup-filter-keys}
 use Rattle.std.proofs.lemmas.Map.Keys.{IsDistinct-from_sorted, sorted_head, sorted_tail}
 use Rattle.wtf_kv.specs.Seen.{last_seen, value_seen}
 use Rattle.wtf_kv.specs.Stores.{versions_in, listed}
-use Rattle.wtf_kv.specs.Walks.{rows_seen, AreRowsFrom}
+use Rattle.wtf_kv.specs.Walks.{with_row, rows_seen, AreRowsFrom, HasRowsUpto}
 use Rattle.wtf_kv.proofs.Ranges.{part_sorted, part_versions}
 use Rattle.wtf_kv.proofs.Updated.{versions_none}
 use Rattle.wtf_kv.proofs.WalkLaws.{row_above, row_sorted, row_found}
@@ -27,6 +29,21 @@ use Rattle.wtf_kv.proofs.WalkLaws.{row_above, row_sorted, row_found}
 keys_listed : {K C A : Type 0} (es : List (K × Vec (ℕ × Option C) A)) → keys_of (listed es) ≡ keys_of es
 keys_listed [] = refl
 keys_listed (e ∷ es) = ap (λ ks. e.0 ∷ ks) (keys_listed es)
+
+-- a row comes of a key, and a part has no more keys than the whole
+one_row : {K C : Type 0} (k : K) (o : Option C) (rows : List (K × C)) (n : ℕ) → length rows ≤ n → length (with_row k o rows) ≤ suc n
+one_row k None rows n few = omega (arith, few)
+one_row k (Some c) rows n few = omega (arith, few)
+
+rows_few : {K C : Type 0} (n : ℕ) (es : List (K × List (ℕ × Option C))) → length (rows_seen n es) ≤ length es
+rows_few n [] = omega arith
+rows_few n (e ∷ es) = one_row e.0 (value_seen (last_seen n e.1)) (rows_seen n es) (length es) (rows_few n es)
+
+part_few : {K C A : Type 0} (p : K × Vec (ℕ × Option C) A → Bool) (es : List (K × Vec (ℕ × Option C) A)) → length (listed (filter p es)) ≤ length es
+part_few {K = K} {C = C} {A = A} p es =
+    let listed_len : length (listed (filter p es)) ≡ length (filter p es) = length-map (filter p es) (λ (e : K × Vec (ℕ × Option C) A). (e.0, e.1.items)) in
+    let kept_len : length (filter p es) ≡ count_by p es = length-filter p es in
+    omega (arith, listed_len, kept_len, count_by-le-length p es)
 
 module _ {K C : Type 0} (R : K → K → Ordering) where
   rows_above : (n : ℕ) (k : K) (es : List (K × List (ℕ × Option C))) → AllByRecursion (λ y. R k y ≡ Less) (keys_of es) → AllByRecursion (λ y. R k y ≡ Less) (keys_of (rows_seen n es))
@@ -74,3 +91,10 @@ module _ {K C A : Type 0} {R : K → K → Ordering} (o : IsTotalOrder R) (exact
             (λ before. ap seen (none_before q before) ∙ sym (ap (λ b. cond b (seen (versions_in R (listed es) q)) None) before))
             (cases_Bool (is_from_start R start q));
       }
+
+  -- no walk has more rows than there are cells
+  pub rows_upto : (n : ℕ) → IsStrictlySortedBy R (keys_of es) → HasRowsUpto R start (λ q. value_seen (last_seen n (versions_in R (listed es) q))) (length es)
+  rows_upto n h =
+      let few : length (rows_seen n (listed part)) ≤ length (listed part) = rows_few n (listed part) in
+      let fewer : length (listed part) ≤ length es = part_few (λ e. range_contains R start Unbounded e.0) es in
+      record { rows = rows_seen n (listed part); are = rows_of_part n h; few = omega (arith, few, fewer) }

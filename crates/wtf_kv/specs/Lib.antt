@@ -5,6 +5,7 @@ pub mod Edits
 pub mod Causes
 pub mod Staging
 pub mod Installs
+pub mod Recents
 pub mod Order
 pub mod Walks
 pub mod Calls

@@ -6,7 +6,7 @@ use Rattle.std.specs.declared.cmp.Ordering.{Ordering}
 use Rattle.std.specs.Ordering.{is_lt, is_gt}
 use Rattle.std.specs.List.{list_any, count_by}
 use Rattle.wtf_kv.specs.Seen.{has_any, has_upto}
-use Rattle.wtf_kv.specs.Stores.{Store, versions_of, versions_in}
+use Rattle.wtf_kv.specs.Stores.{Store, versions_of, versions_in, version_of}
 
 -- whether a number lies above another, or above none
 abbrev pub is_above : Option ℕ → ℕ → Bool
@@ -37,6 +37,12 @@ abbrev pub is_before : {K : Type 0} → (K → K → Ordering) → Option K → 
 is_before order None q = true
 is_before order (Some k) q = is_lt (order q k)
 
+module _ {K : Type 0} (order : K → K → Ordering) where
+  -- it is the least key of those that pass two tests, or there is none
+  abbrev pub IsLeastKey : (K → Bool) → (K → Bool) → Option K → Type 0
+  IsLeastKey from t None = (q : K) → from q ≡ true → t q ≡ false
+  IsLeastKey from t (Some k) = (from k ≡ true) × (t k ≡ true) × ((q : K) → from q ≡ true → t q ≡ true → is_gt (order k q) ≡ false)
+
 module _ {K C : Type 0} (order : K → K → Ordering) where
   -- whether a key has a version
   abbrev pub has_version : Store K C → K → Bool
@@ -61,3 +67,11 @@ module _ {K C : Type 0} (order : K → K → Ordering) where
   abbrev pub IsFirstFrom : Bound K → ℕ → List (K × List (ℕ × Option C)) → Option K → Type 0
   IsFirstFrom start number cells None = (q : K) → is_from_start order start q ≡ true → has_upto number (versions_in order cells q) ≡ false
   IsFirstFrom start number cells (Some k) = (is_from_start order start k ≡ true) × (has_upto number (versions_in order cells k) ≡ true) × ((q : K) → is_from_start order start q ≡ true → has_upto number (versions_in order cells q) ≡ true → is_gt (order k q) ≡ false)
+
+  -- whether the version that the last install shows of a key lies above a number
+  abbrev pub is_changed : Store K C → ℕ → K → Bool
+  is_changed s since q = nat_lt since (version_of order s s.number q)
+
+  -- it is the least key above another whose version lies above a number, or there is none
+  abbrev pub IsNextChanged : Store K C → ℕ → Option K → Option K → Type 0
+  IsNextChanged s since after next = IsLeastKey order (is_past order after) (is_changed s since) next

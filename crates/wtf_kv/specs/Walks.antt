@@ -1,5 +1,5 @@
 -- A walk over a map: its rows are the keys that have a value, each with it.
-use Rattle.std.specs.Prelude.{◌≡◌, ℕ, cond, List, [], ◌∷◌, Option, None, Some}
+use Rattle.std.specs.Prelude.{◌≡◌, ℕ, ◌≤◌, cond, List, [], ◌∷◌, length, Option, None, Some}
 use Rattle.std.specs.List.Sorted.{IsStrictlySortedBy}
 use Rattle.std.specs.Map.{lookup, keys_of}
 use Rattle.std.specs.BTreeMap.{is_at}
@@ -12,6 +12,12 @@ use Rattle.wtf_kv.specs.Seen.{last_seen, value_seen}
 pub record AreRowsFrom {K C : Type 0} (order : K → K → Ordering) (start : Bound K) (m : K → Option C) (rows : List (K × C)) : Type 0 where
   pub ordered : IsStrictlySortedBy order (keys_of rows)
   pub each : (q : K) → lookup (is_at (order q)) rows ≡ cond (is_from_start order start q) (m q) None
+
+-- there are at most so many of them
+pub record HasRowsUpto {K C : Type 0} (order : K → K → Ordering) (start : Bound K) (m : K → Option C) (most : ℕ) : Type 0 where
+  pub rows : List (K × C)
+  pub are : AreRowsFrom order start m rows
+  pub few : length rows ≤ most
 
 module _ {K C : Type 0} where
   -- a key comes before other rows, if it has a value

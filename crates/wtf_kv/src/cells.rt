@@ -10,7 +10,8 @@ ghost use Rattle.wtf_kv.specs.Inside.{AllGood, Noted, Listed};
 ghost use Rattle.wtf_kv.specs.Edits.{is_between};
 ghost use Rattle.wtf_kv.specs.Staging.{value_next};
 ghost use Rattle.std.specs.Range.Bound.{bound_map};
-ghost use Rattle.wtf_kv.specs.Order.{IsFirstFrom, is_past};
+ghost use Rattle.wtf_kv.specs.Order.{IsFirstFrom, IsLeastKey, is_past};
+ghost use Rattle.wtf_kv.specs.Recents.{is_among, is_due};
 
 use crate::StoreKey;
 use crate::rows::{
@@ -147,6 +148,44 @@ pub(crate) fn first_key<'a, K: StoreKey, C>(
 {
     for (key, versions) in cells.range((start, Bound::Unbounded)) {
         if begins_by(versions.as_slice(), number) {
+            return Some(key);
+        }
+    }
+    None
+}
+
+/// Whether the version of a key that `number` sees lies above `since`.
+fn is_due<K: StoreKey, C>(
+    cells: &Cells<K, C>,
+    pins: &[u64],
+    number: u64,
+    since: u64,
+    key: &K,
+) -> bool
+    requires { ascends (versions_in K.cmp (listed cells.now.entries) key.now) }
+    ensures { result ≡ is_due pins.now number since
+        (versions_in K.cmp (listed cells.now.entries) key.now) }
+{
+    since < version_in(cells, pins, number, key)
+}
+
+/// The first of the keys from `start` on whose version that `number` sees lies above `since`.
+pub(crate) fn first_due<'a, K: StoreKey, X, C>(
+    keys: &'a BTreeMap<K, X>,
+    cells: &Cells<K, C>,
+    pins: &[u64],
+    number: u64,
+    since: u64,
+    start: Bound<&K>,
+) -> Option<&'a K>
+    requires { (q : K) → ascends (versions_in K.cmp (listed cells.now.entries) q) }
+    ensures { IsLeastKey K.cmp (is_from_start K.cmp (bound_map (λ k. k.now) start.entry))
+        (λ q. is_among K.cmp keys.now.entries q &&
+        is_due pins.now number since (versions_in K.cmp (listed cells.now.entries) q))
+        (option_copied result) }
+{
+    for (key, _) in keys.range((start, Bound::Unbounded)) {
+        if is_due(cells, pins, number, since, key) {
             return Some(key);
         }
     }

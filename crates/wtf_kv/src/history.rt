@@ -1,7 +1,7 @@
 //! The history of a map: the versions of each key, and those that are made ready for the next install, which no
 //! number that can be read sees. The keys that get one are noted first, so that it can be undone.
 
-ghost use Rattle.std.specs.Prelude.{◌≡◌, ◌+◌, ◌<◌, ◌≤◌, ◌∷◌, [], ◌++◌, ◌^◌, true, false, OnErr, OnOk, IfOk, IfErr, cond, length, take, None, Some};
+ghost use Rattle.std.specs.Prelude.{◌≡◌, ℕ, ◌+◌, ◌<◌, ◌≤◌, ◌∷◌, [], ◌++◌, ◌^◌, true, false, OnErr, OnOk, IfOk, IfErr, cond, length, take, None, Some};
 ghost use Rattle.std.specs.Option.{option_copied};
 ghost use Rattle.std.specs.BTreeMap.{is_at};
 ghost use Rattle.wtf_kv.specs.Seen.{ascends, within, kept_versions};
@@ -10,17 +10,20 @@ ghost use Rattle.wtf_kv.specs.Inside.{AllGood};
 ghost use Rattle.wtf_kv.specs.Edits.{Fits, first_unfit};
 ghost use Rattle.wtf_kv.specs.Causes.{IsCause};
 ghost use Rattle.wtf_kv.specs.Installs.{Planned, IsReady};
-ghost use Rattle.wtf_kv.specs.Order.{IsNextKey};
+ghost use Rattle.wtf_kv.specs.Order.{IsNextKey, IsNextChanged};
+ghost use Rattle.wtf_kv.specs.Recents.{may_change, NotesMore};
 ghost use Rattle.std.specs.Range.Bound.{bound_map};
-ghost use Rattle.wtf_kv.specs.Walks.{AreRowsFrom};
+ghost use Rattle.std.specs.declared.ops.Bound.{Bound};
+ghost use Rattle.wtf_kv.specs.Walks.{AreRowsFrom, HasRowsUpto};
 ghost use Rattle.wtf_kv.specs.Staging.{staged, value_next, next_value, is_taken, IsKeptOrCut, IsStaged, IsStagedBy, IsStagedByAll, AreDeltasOf, run_made, run_fits};
 
 use crate::cells::{
-    Cells, clear_cells, first_key, prune_all, seed_cell, shown_in, start_past, value_in,
+    Cells, clear_cells, first_due, first_key, prune_all, seed_cell, shown_in, start_past, value_in,
     valued_keys, version_in,
 };
+use crate::recent::Recent;
 use crate::rows::{stage_in, stage_run_in};
-use crate::walk::rows_in;
+use crate::walk::{most_rows, rows_in};
 use crate::{Cell, Change, NotReady, Rows, StoreKey};
 use std::alloc::Global;
 use std::collections::BTreeMap;
@@ -39,6 +42,7 @@ pub(crate) struct History<K: StoreKey, C: Drop> {
     fresh: usize,
     // How many keys had something left to drop after the last time.
     left: usize,
+    recent: Recent<K>,
 }
 
 impl<K: StoreKey, C: Drop> Model for History<K, C> {
@@ -50,7 +54,7 @@ impl<K: StoreKey, C: Drop> Model for History<K, C> {
 
     ghost view = { λ h. record { number = h.number; pins = []; cells = listed h.cells.entries } };
 
-    ghost invariant = { λ h. Sound K.cmp h.number h.fresh h.touched.items (listed h.cells.entries) };
+    ghost invariant = { λ h. Sound K.cmp h.number h.fresh h.recent h.touched.items (listed h.cells.entries) };
 }
 
 impl<K: StoreKey, C: Drop> History<K, C> {
@@ -65,6 +69,7 @@ impl<K: StoreKey, C: Drop> History<K, C> {
             touched: Vec::new(alloc),
             fresh: 0,
             left: 0,
+            recent: Recent::new(alloc),
         }
     }
 
@@ -85,6 +90,7 @@ impl<K: StoreKey, C: Drop> History<K, C> {
             (versions_of K.cmp self.old q)) }
         ensures err { OnErr result (ShowsSame K.cmp self.old self.new) }
     {
+        self.recent.forget();
         seed_cell(self.alloc, &mut self.cells, self.number, key, value)
     }
 
@@ -120,6 +126,33 @@ impl<K: StoreKey, C: Drop> History<K, C> {
         first_key(&self.cells, start, self.number)
     }
 
+    /// Notes the keys that change from now on. Where an install is made ready, an earlier mark stays.
+    pub(crate) fn mark(&mut self)
+        ensures { self.new ≡ self.old }
+    {
+        if self.fresh >= self.touched.len() {
+            self.recent.mark(self.number);
+        }
+    }
+
+    /// The least key above `after` whose last version under these pins lies above `since`.
+    pub(crate) fn next_changed<'a>(
+        &'a self,
+        pins: &[u64],
+        since: u64,
+        after: Option<&'a K>,
+    ) -> Option<&'a K>
+        ensures { IsNextChanged K.cmp (record self.now { pins = pins.now }) since
+            (option_copied after.entry) (option_copied result) }
+    {
+        let start = start_past(after);
+        if self.recent.has_since(since) {
+            let keys = &self.recent.keys;
+            return first_due(keys, &self.cells, pins, self.number, since, start);
+        }
+        first_due(&self.cells, &self.cells, pins, self.number, since, start)
+    }
+
     /// The keys from `start` on of which `n` sees a value.
     pub(crate) fn rows(&self, n: u64, start: Bound<&K>) -> Rows<'_, K, C>
         requires { n ≤ self.now.number }
@@ -127,6 +160,14 @@ impl<K: StoreKey, C: Drop> History<K, C> {
             (map_at K.cmp self.now n) result }
     {
         rows_in(&self.cells, n, start)
+    }
+
+    /// How many keys are held, which no walk has more rows than.
+    pub(crate) fn most_rows(&self) -> usize
+        ensures { (n : ℕ) → n ≤ self.now.number → (start : Bound K) →
+            HasRowsUpto K.cmp start (map_at K.cmp self.now n) result }
+    {
+        most_rows(&self.cells)
     }
 
     /// Drops what was made ready, and the versions that are not kept under these pins.
@@ -179,7 +220,7 @@ impl<K: StoreKey, C: Drop> History<K, C> {
         ensures same { ShowsSame K.cmp self.old self.new }
         ensures ok { OnOk result (IsStaged K.cmp (is_at (K.cmp key.now)) value self.old self.new) }
     {
-        note(self.alloc, &mut self.touched, key)?;
+        note(self.alloc, &mut self.touched, &mut self.recent, key)?;
         stage_cell(self.alloc, &mut self.cells, self.number, key, value)
     }
 
@@ -229,7 +270,7 @@ impl<K: StoreKey, C: Cell> History<K, C> {
         ensures fit { IfOk result
             (λ fit. fit ≡ run_fits C.outcome run.now (next_value K.cmp self.old key.now)) }
     {
-        note(self.alloc, &mut self.touched, key)?;
+        note(self.alloc, &mut self.touched, &mut self.recent, key)?;
         stage_run_cell(self.alloc, &mut self.cells, self.number, key, run)
     }
 
@@ -427,10 +468,19 @@ fn add_cell<K: StoreKey, C: Drop>(
 }
 
 /// Notes a key before a version of it is made ready.
-fn note<K: StoreKey>(alloc: Global, touched: &mut Vec<K>, key: &K) -> Result<(), OutOfMemory>
+fn note<K: StoreKey>(
+    alloc: Global,
+    touched: &mut Vec<K>,
+    recent: &mut Recent<K>,
+    key: &K,
+) -> Result<(), OutOfMemory>
     ensures ok { OnOk result (touched.new.items ≡ touched.old.items ++ key.now ∷ []) }
     ensures err { OnErr result (touched.new.items ≡ touched.old.items) }
+    ensures kept { NotesMore K.cmp recent.old recent.new }
+    ensures noted { OnOk result ((q : K) → is_at (K.cmp key.now) q ≡ true →
+        may_change K.cmp recent.new q ≡ true) }
 {
+    recent.note(alloc, key)?;
     let noted = key.copy(alloc)?;
     touched.push(noted)?;
     Ok(())

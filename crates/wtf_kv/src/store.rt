@@ -10,8 +10,9 @@ ghost use Rattle.wtf_kv.specs.Edits.{over, Fits, first_unfit, versions_with, ver
 ghost use Rattle.wtf_kv.specs.Causes.{IsCause};
 ghost use Rattle.wtf_kv.specs.Installs.{IsReady};
 ghost use Rattle.std.specs.Range.Bound.{bound_map};
-ghost use Rattle.wtf_kv.specs.Walks.{AreRowsFrom};
-ghost use Rattle.wtf_kv.specs.Order.{IsNextKey, IsNextPinned, IsLeastAbove, is_above, least_of};
+ghost use Rattle.std.specs.declared.ops.Bound.{Bound};
+ghost use Rattle.wtf_kv.specs.Walks.{AreRowsFrom, HasRowsUpto};
+ghost use Rattle.wtf_kv.specs.Order.{IsNextKey, IsNextChanged, IsNextPinned, IsLeastAbove, is_above, least_of};
 
 use crate::history::History;
 use crate::{Cell, Changes, NotReady, Ready, Rows, StoreKey, Versions};
@@ -250,6 +251,25 @@ impl<K: StoreKey, C: Cell> Kv<K, C> {
         self.history.next_key(after)
     }
 
+    /// Notes from now on the keys that installs change, so that `next_changed` finds them. What is noted is no
+    /// part of what the store shows. Where an install is made ready, an earlier mark stays.
+    pub fn mark(&mut self)
+        ensures { self.new ≡ self.old }
+    {
+        self.history.mark();
+    }
+
+    /// The least key above `after` whose version lies above `since`, none exactly where there is no such key.
+    /// Where the last mark is at most `since`, it takes the time of a search among the keys that changed since the
+    /// mark, and of one among all keys for each of them that it passes; else it passes all keys.
+    pub fn next_changed<'a>(&'a self, since: u64, after: Option<&'a K>) -> Option<&'a K>
+        ensures { IsNextChanged K.cmp self.now since (option_copied after.entry)
+            (option_copied result) }
+    {
+        self.history
+            .next_changed(self.pins.as_slice(), since, after)
+    }
+
     /// The keys from `start` on that have a value in the map at `n`, each with it, in order; `n` is pinned or is
     /// the number. It takes the time of a search among the keys, and a step takes that of a search among the
     /// versions of each key that it passes.
@@ -259,6 +279,14 @@ impl<K: StoreKey, C: Cell> Kv<K, C> {
             (map_at K.cmp self.now n) result }
     {
         self.history.rows(n, start)
+    }
+
+    /// How many keys are held. No map at a number has more of them. It takes no walk.
+    pub fn most_rows(&self) -> usize
+        ensures { (n : ℕ) → n ≤ self.now.number → (start : Bound K) →
+            HasRowsUpto K.cmp start (map_at K.cmp self.now n) result }
+    {
+        self.history.most_rows()
     }
 
     /// The least pinned number above `after`, none exactly where there is no such number.

@@ -1,14 +1,15 @@
 //! Walks over the keys of a map that have a value.
 
-ghost use Rattle.std.specs.Prelude.{◌≡◌, length};
+ghost use Rattle.std.specs.Prelude.{◌≡◌, ℕ, length};
 ghost use Rattle.std.specs.Option.{option_copied};
 ghost use Rattle.std.specs.Iterator.{at_most};
 ghost use Rattle.std.specs.List.{AllByRecursion};
 ghost use Rattle.std.specs.Map.Iter.{TakesFirst, deref_pair};
 ghost use Rattle.std.specs.Range.Bound.{bound_map};
+ghost use Rattle.std.specs.declared.ops.Bound.{Bound};
 ghost use Rattle.wtf_kv.specs.Seen.{last_seen, value_seen, ascends};
 ghost use Rattle.wtf_kv.specs.Stores.{listed, versions_in};
-ghost use Rattle.wtf_kv.specs.Walks.{rows_seen, AreRowsFrom};
+ghost use Rattle.wtf_kv.specs.Walks.{rows_seen, AreRowsFrom, HasRowsUpto};
 
 use crate::StoreKey;
 use crate::cells::Cells;
@@ -91,4 +92,12 @@ pub(crate) fn rows_in<'a, K: StoreKey, C>(
         left: cells.range((start, Bound::Unbounded)),
         number: n,
     }
+}
+
+/// How many keys are held, which no walk has more rows than.
+pub(crate) fn most_rows<K: StoreKey, C>(cells: &Cells<K, C>) -> usize
+    ensures { (n : ℕ) (start : Bound K) → HasRowsUpto K.cmp start
+        (λ q. value_seen (last_seen n (versions_in K.cmp (listed cells.now.entries) q))) result }
+{
+    cells.len()
 }

@@ -355,3 +355,28 @@ fn walks_show_the_keys_of_their_number(rt: HostRuntime) -> Result<(), Fail> {
     assert!(rt; walks_both(&kv));
     Ok(())
 }
+
+/// The least key above another whose version lies above a number.
+fn changed(kv: &Counts, since: u64, after: u64) -> Option<u64> {
+    let after = Name { id: after };
+    Some(kv.next_changed(since, Some(&after))?.id)
+}
+
+/// Whether the removal of 5 is all that changed since 1, and all three keys changed since 0.
+fn tells_what_changed(kv: &Counts) -> bool {
+    changed(kv, 1, 0) == Some(5)
+        && changed(kv, 1, 5).is_none()
+        && changed(kv, 0, 0) == Some(3)
+        && changed(kv, 0, 5) == Some(7)
+        && kv.most_rows() >= 3
+}
+
+#[test]
+fn a_marked_store_tells_what_changed(rt: HostRuntime) -> Result<(), Fail> {
+    let mut kv = Kv::new(rt.alloc())?;
+    set_and_pin(rt.alloc(), &mut kv, &[(3, 30), (5, 50), (7, 7)])?;
+    kv.mark();
+    remove(rt.alloc(), &mut kv, 5, 6)?;
+    assert!(rt; tells_what_changed(&kv));
+    Ok(())
+}
