@@ -299,8 +299,7 @@ module _ {S : Type 0} {kind : StoreKind S} (laws : KindLaws kind) (before after 
         let all = short_up b 0 told told lost v u h lacks.under lacks.short (read_as kind before after v.base lacks.under lacks.read) lacks.short_is bytes in
         let entry = lacks.lacks.entry in
         let one = All-contains (EntryBytes (is_up_told lost told)) lacks.short entry all lacks.lacks.there in
-        let part = lacks.lacks.lacks in
-        not_told lost told entry part.slice part.held one (all_lost part.slice k part.out)
+        let part = lacks.lacks.lacks in not_told lost told entry part.slice part.held one (all_lost part.slice k part.out)
 
     no_region_fault : (why : Fault) → why ≢ fault.Memory → IsRegionFault kind before after v why → ⊥
     no_region_fault (fault.Read k) ne f = elim f [ inl base ↦ no_base v.base h.under k.0 h.base_is base | inr lacks ↦ no_bytes k.0 lacks ]

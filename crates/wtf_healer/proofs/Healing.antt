@@ -1,5 +1,5 @@
 -- A region that was read, and restored after that.
-use Rattle.std.proofs.Common.{◌≡◌, ℕ, ◌+◌, ◌*◌, ◌<◌, ◌≤◌, ◌^◌, Bool, true, false, List, [], ◌∷◌, length, Option, None, Some, sym, ap, ◌∙◌, subst, arith, inl, inr}
+use Rattle.std.proofs.Common.{◌≡◌, ℕ, ◌+◌, ◌*◌, ◌<◌, ◌≤◌, ◌^◌, Bool, true, List, [], ◌∷◌, length, Option, None, Some, sym, ap, ◌∙◌, subst, arith, inr}
 use Rattle.std.specs.List.{All}
 use Rattle.std.proofs.lemmas.List.Elements.{All-nil}
 use Rattle.wtf_base.specs.declared.fault.Fault.{Fault}
@@ -16,8 +16,8 @@ use Rattle.wtf_meta.specs.Bytes.{EntryBytes}
 use Rattle.wtf_region.specs.declared.dev.Dev.{Dev}
 use Rattle.wtf_region.specs.Devs.{IsSoundDev, GoesOn, stores, is_down_in, told_in, between}
 use Rattle.wtf_region.specs.Showing.{OnlyRead}
-use Rattle.wtf_healer.specs.Bases.{IsBaseRead, IsBaseFault, inside_left}
-use Rattle.wtf_healer.specs.Regions.{IsShort, IsSound, IsHealed, LacksBase, HasDamage, IsRegionFault}
+use Rattle.wtf_healer.specs.Bases.{IsBaseRead, inside_left}
+use Rattle.wtf_healer.specs.Regions.{IsShort, IsHealed, IsRegionFault}
 use Rattle.wtf_healer.specs.Restored.{TellUp, AreKept, Grew, AreRestored, IsRestoreFault}
 use Rattle.wtf_healer.specs.Sparse.{is_to_heal, has_sparse, sparse_bytes}
 use Rattle.wtf_healer.specs.declared.entries.Restored.{Restored}
@@ -78,16 +78,6 @@ module _ {S : Type 0} {kind : StoreKind S} (laws : KindLaws kind) where
   read_later old mid new sound g None es h = h
   read_later old mid new sound g (Some s) es h = record { decodes = h.decodes; inside = entries_later laws mid new sound g es h.inside }
 
-  -- nothing of the region is sparse
-  pub sound_of : (old mid : Dev S) → GoesOn kind old mid [] → (v : RegionValue) (under : List Entry) → IsBaseRead kind old mid v.base under
-      → is_to_heal (is_down_in mid) mid.settings.replicas under v ≡ false → IsSound kind old mid v
-  sound_of old mid f v under read whole = record {
-    under = under;
-    read = read;
-    whole = ap (λ c. is_to_heal (is_down_in old) c under v) (sym (ap (λ (st : Settings). st.replicas) f.settings))
-        ∙ ap (λ (d : ℕ → Bool). is_to_heal d mid.settings.replicas under v) (sym (down_same laws f)) ∙ whole;
-  }
-
   -- or it was healed
   pub healed_of : (old mid new : Dev S) → GoesOn kind old mid [] → GoesOn kind mid new [] → (v : RegionValue) (under short : List Entry)
       → IsBaseRead kind old mid v.base under → is_to_heal (is_down_in mid) mid.settings.replicas under v ≡ true → IsShort v under short
@@ -102,14 +92,6 @@ module _ {S : Type 0} {kind : StoreKind S} (laws : KindLaws kind) where
     restored = restored_since old mid new f short made.list made.bytes restored;
   }
 
-  pub base_fault : (old new : Dev S) (v : RegionValue) (base : Option Spill) → v.base ≡ base → (why : Fault) → IsBaseFault kind old new base why → IsRegionFault kind old new v why
-  base_fault old new v None is why h = subst (IsRegionFault kind old new v) (sym h) tt
-  base_fault old new v (Some s) is (fault.Read k) h = inl (subst (λ (base : Option Spill). LacksBase kind (between old new) base k.0) (sym is) h)
-  base_fault old new v (Some s) is (fault.Damaged k) h = subst (λ (base : Option Spill). HasDamage kind old new base k.0) (sym is) h
-  base_fault old new v (Some s) is fault.Memory h = tt
-  base_fault old new v (Some s) is fault.Write h = absurd h
-  base_fault old new v (Some s) is (fault.Punch k) h = absurd h
-
   pub restore_fault : (old mid new : Dev S) → GoesOn kind old mid [] → GoesOn kind mid new [] → (v : RegionValue) (under short : List Entry)
       → IsBaseRead kind old mid v.base under → IsShort v under short → (why : Fault) → IsRestoreFault kind mid new short why → IsRegionFault kind old new v why
   restore_fault old mid new f g v under short read is (fault.Read k) h = inr (record {
@@ -123,6 +105,3 @@ module _ {S : Type 0} {kind : StoreKind S} (laws : KindLaws kind) where
   restore_fault old mid new f g v under short read is fault.Memory h = tt
   restore_fault old mid new f g v under short read is (fault.Punch k) h = absurd h
   restore_fault old mid new f g v under short read is (fault.Damaged k) h = absurd h
-
-  pub memory_fault : (old new : Dev S) (v : RegionValue) (why : Fault) → why ≡ fault.Memory → IsRegionFault kind old new v why
-  memory_fault old new v why is = subst (IsRegionFault kind old new v) (sym is) tt

@@ -1,20 +1,14 @@
 -- Masks of servers.
-use Rattle.std.proofs.Common.{◌≡◌, ℕ, zero, suc, ◌+◌, ◌*◌, ◌%◌, ◌^◌, ◌<◌, ◌≤◌, ◌||◌, Bool, true, false, max, nat_eq, List, [], ◌∷◌, refl, sym, ap, ◌∙◌, subst, arith, inl, inr}
+use Rattle.std.proofs.Common.{◌≡◌, ℕ, ◌+◌, ◌*◌, ◌%◌, ◌^◌, ◌<◌, ◌||◌, true, max, nat_eq, List, ◌∷◌, sym, ap, ◌∙◌, arith, inl, inr}
 use Rattle.std.specs.Prelude.{◌==◌, bit_or}
 use Rattle.std.specs.Int.{bit_at}
 use Rattle.std.proofs.Math.Pow.{pow-lt}
 use Rattle.std.proofs.lemmas.Bool.{cases_eq, eq-eqb, ne_eqb}
-use Rattle.std.proofs.lemmas.List.Elements.{All-nil, All-cons, All-head, All-tail}
-use Rattle.std.proofs.lemmas.Nat.Bits.{bit_at_or, bit_at-zero, bit_at-lt, bit_at-pow_same, bit_at-pow_other}
+use Rattle.std.proofs.lemmas.List.Elements.{All-cons, All-head, All-tail}
+use Rattle.std.proofs.lemmas.Nat.Bits.{bit_at_or, bit_at-lt, bit_at-pow_same, bit_at-pow_other}
 use Rattle.wtf_image.specs.Rules.{is_lost}
-use Rattle.wtf_healer.specs.Words.{is_among}
-use Rattle.wtf_base.specs.declared.settings.Settings.{Settings}
-use Rattle.wtf_healer.specs.Spared.{AreSpared, IsLostOf, left_of}
+use Rattle.wtf_healer.specs.Spared.{IsLostOf}
 use Rattle.wtf_healer.specs.declared.lost.Lost.{Lost}
-
--- a mask with no bit
-pub no_lost : (k : ℕ) → is_lost 0 k ≡ false
-no_lost k = ap (λ n. n == 1) (bit_at-zero k)
 
 pow_small : (k : ℕ) → k < 16 → 2 ^ k < 65536
 pow_small k below = let h : 2 ^ k < 2 ^ 16 = pow-lt below in omega (arith, h)
@@ -50,29 +44,3 @@ lost_and ks lost more k below mask above h = record {
       let rest = h.least n (All-tail (λ j. j < n) k ks all) in
       omega (arith, first, rest, above);
 }
-
-pub lost_none : (lost : Lost) → lost.mask ≡ 0 → lost.above ≡ 0 → IsLostOf [] lost
-lost_none lost mask above = record {
-  has = λ j. ap (λ m. is_lost m j) mask ∙ no_lost j;
-  above = λ n le. All-nil (λ k. k < n);
-  least = λ n all. omega (arith, above);
-}
-
--- the same servers leave the same
-left_same : (f g : ℕ → Bool) → ((k : ℕ) → f k ≡ g k) → (n : ℕ) → left_of f n ≡ left_of g n
-left_same f g same zero = refl
-left_same f g same (suc n) = rw (left_same f g same n, same n) refl
-
-module _ (lost : Lost) (settings : Settings) (stores left : ℕ) (is : left ≡ left_of (is_lost lost.mask) settings.servers) where
-  -- servers that a store can do without, and others
-  pub spared_by : lost.above ≤ settings.servers → settings.servers ≤ stores → settings.replicas ≤ left
-      → (ks : List ℕ) → IsLostOf ks lost → AreSpared ks settings stores
-  spared_by known enough some ks h = record {
-    known = h.above settings.servers known;
-    left = subst (λ n. settings.replicas ≤ n) (is ∙ left_same (is_lost lost.mask) (is_among ks) h.has settings.servers) some;
-    stores_are = enough;
-  }
-
-  pub spared_left : (ks : List ℕ) → IsLostOf ks lost → AreSpared ks settings stores → settings.replicas ≤ left
-  spared_left ks h a =
-      subst (λ n. settings.replicas ≤ n) (sym (is ∙ left_same (is_lost lost.mask) (is_among ks) h.has settings.servers)) a.left

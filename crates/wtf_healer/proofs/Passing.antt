@@ -125,9 +125,6 @@ region_is (Some (value.Names s)) v e = absurd (cc)
 region_is (Some (value.Last r)) v e = absurd (cc)
 region_is (Some (value.Region g)) v e = let same : g ≡ v = cc in ap (λ x. Some (value.Region x)) same
 
-key_place : RegionKey → Key
-key_place k = Region k.inode k.region
-
 module _ {S : Type 0} (kind : StoreKind S) (t : Dev S × Dev S) (w : Map) where
   -- what was put in the place of a region that was healed
   pub put_at : (i : InodeId) (r : ℕ) (v : RegionValue) (made : Restored) (p : Put) (was now : Healed) → w (Region i r) ≡ Some (value.Region v)
@@ -147,24 +144,6 @@ module _ {S : Type 0} (kind : StoreKind S) (t : Dev S × Dev S) (w : Map) where
     bytes = bytes ∙ ap (λ n. was.bytes + n) (sym put.bytes_are);
     grew = subst (Grew kind t.0 t.1) (sym put.bytes_are) grew;
   }
-
-  -- a region of which no slice is sparse
-  pub sound_at : (i : InodeId) (r : ℕ) (v : RegionValue) (h : Healed) → w (Region i r) ≡ Some (value.Region v) → IsSound kind t.0 t.1 v → Grew kind t.0 t.1 0
-      → IsLeftAt kind t w (Region i r) h h
-  sound_at i r v h there sound grew = record {
-    changes = refl;
-    bytes = refl;
-    sound = λ j s u is has.
-        let same : Some (value.Region v) ≡ Some (value.Region u) = sym there ∙ ap w is ∙ sym (ap w is) ∙ has in
-        let value_same : v ≡ u = cc in
-        subst (IsSound kind t.0 t.1) value_same sound;
-    grew = grew;
-  }
-
-  -- and a key without one
-  pub none_at : (key : Key) (h : Healed) → ((i : InodeId) (r : ℕ) (v : RegionValue) → key ≡ Region i r → w key ≡ Some (value.Region v) → ⊥) → Grew kind t.0 t.1 0
-      → IsLeftAt kind t w key h h
-  none_at key h none grew = record { changes = refl; bytes = refl; sound = λ i r v is has. absurd (none i r v is has); grew = grew }
 
 key_same : (i : InodeId) (r : ℕ) (k : RegionKey) → Region i r ≡ Region k.inode k.region → record { inode = i; region = r } ≡ k
 key_same i r k e =
@@ -308,8 +287,7 @@ module _ {S : Type 0} {kind : StoreKind S} (laws : KindLaws kind) (kv : Store Ke
           once = all_pairs_push (λ (x y : Put). x.key ≢ y.key) p.puts q p.once (λ j d below same.
               let lt = p.before j d below in
               let place : Region (get_or p.puts j d).key.inode (get_or p.puts j d).key.region ≡ k =
-              ap (λ (x : RegionKey). Region x.inode x.region) same ∙ sym h.key_is in
-              not_itself k (subst (λ x. is_lt (key_cmp x k) ≡ true) place lt));
+              ap (λ (x : RegionKey). Region x.inode x.region) same ∙ sym h.key_is in not_itself k (subst (λ x. is_lt (key_cmp x k) ≡ true) place lt));
           others = λ i r v has below. elim (below_next k (Region i r) next is below (key_cmp (Region i r) k) refl) [
             | inl lt ↦ elim (p.others i r v has lt) [
               | inl there ↦ inl (subst (λ ks. Contains ks (record { inode = i; region = r })) (sym keys_all) (Contains-append_left keys (q.key ∷ []) (record { inode = i; region = r }) there))

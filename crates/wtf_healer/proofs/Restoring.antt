@@ -3,7 +3,7 @@ use Rattle.std.proofs.Common.{◌≡◌, ℕ, ◌+◌, ◌*◌, ◌<◌, ◌≤�
 use Rattle.std.specs.Prelude.{not, IfOk}
 use Rattle.std.proofs.Math.Nat.{mul-add}
 use Rattle.std.specs.List.{All, filter, list_all}
-use Rattle.std.proofs.lemmas.Bool.{and_parts, and_from, or_cases, or_parts, or_from, or_left, or_right, cond-true, cond-false, ltb-true, lt-ltb, le-ltb, not_from_false}
+use Rattle.std.proofs.lemmas.Bool.{and_parts, and_from, or_cases, or_from, or_left, or_right, ltb-true, lt-ltb, le-ltb}
 use Rattle.std.proofs.lemmas.List.Elements.{All-nil, All-cons, All-head, All-tail, All-weaker, All-append}
 use Rattle.std.proofs.lemmas.List.Folds.{list_any_none, list_any-append}
 use Rattle.wtf_base.specs.declared.pointer.Pointer.{Pointer}
@@ -18,8 +18,6 @@ use Rattle.wtf_base.proofs.Elements.{element}
 use Rattle.wtf_dev.specs.Store.{StoreKind, KindLaws}
 use Rattle.wtf_dev.specs.Each.{EachFollows}
 use Rattle.wtf_dev.specs.Sums.{all_stored}
-use Rattle.wtf_overlay.specs.declared.part.Part.{Part}
-use Rattle.wtf_overlay.specs.declared.part.Part.TheVariants.{Zero, Held}
 use Rattle.wtf_overlay.specs.declared.part.Entry.{Entry}
 use Rattle.wtf_overlay.specs.Clips.{Within}
 use Rattle.wtf_overlay.specs.Meaning.{meaning}
@@ -33,7 +31,7 @@ use Rattle.wtf_replica.proofs.Bytes.{byte_at-told}
 use Rattle.wtf_replica.proofs.InsideLaws.{size_in-at}
 use Rattle.wtf_replica.proofs.Spans.{each_kept, risen_since, risen_on, same_lengths-stored}
 use Rattle.wtf_ring.specs.Points.{PlaceView}
-use Rattle.wtf_meta.specs.Bytes.{PartBytes, EntryBytes}
+use Rattle.wtf_meta.specs.Bytes.{EntryBytes}
 use Rattle.wtf_meta.specs.Contents.{Told}
 use Rattle.wtf_meta.proofs.Telling.{TellsOn, meaning_later}
 use Rattle.wtf_region.specs.declared.dev.Dev.{Dev}
@@ -59,36 +57,7 @@ pub meaning_up-on : (down : ℕ → Bool) (told later : Told) → TellsOn told l
 meaning_up-on down told later on [] b h = h
 meaning_up-on down told later on (q ∷ qs) b h = some_on told later on (filter (λ (p : Place). not (down p.server)) (q ∷ qs)) b h
 
--- where no copy lies on a server that is down all of them are up
-all_up : (down : ℕ → Bool) (i : ℕ) (ps : List Pointer) → has_lost down ps ≡ false
-    → filter (λ (q : Place). not (down q.server)) (map (place_in i) ps) ≡ map (place_in i) ps
-all_up down i [] h = refl
-all_up down i (p ∷ ps) h =
-    let both = or_parts (down p.server.0) (has_lost down ps) h in
-    let rest = all_up down i ps both.1 in
-    cond-true (not (down p.server.0)) (place_in i p ∷ filter (λ (q : Place). not (down q.server)) (map (place_in i) ps)) (filter (λ (q : Place). not (down q.server)) (map (place_in i) ps))
-    (not_from_false (down p.server.0) both.0)
-    ∙ ap (λ (qs : List Place). place_in i p ∷ qs) rest
-
-whole_slice : (down : ℕ → Bool) (told : Told) (i b : ℕ) (ps : List Pointer) → has_lost down ps ≡ false
-    → meaning_up down told (map (place_in i) ps) ≡ Some b → meaning told (map (place_in i) ps) ≡ Some b
-whole_slice down told i b [] h up = up
-whole_slice down told i b (p ∷ ps) h up = sym (ap (told_by_some told) (all_up down i (p ∷ ps) h)) ∙ up
-
--- of a part that is not sparse all copies tell what those that are up do
-pub whole_part : (down : ℕ → Bool) (n : ℕ) (told : Told) (part : Part) (i b : ℕ) → is_sparse_part down n part ≡ false
-    → meaning_up down told (part_origin part i) ≡ Some b → meaning told (part_origin part i) ≡ Some b
-whole_part down n told Zero i b h up = up
-whole_part down n told (Held s) i b h up =
-    whole_slice down told i b (pointers_of s) (or_parts (nat_lt (length (pointers_of s)) n) (has_lost down (pointers_of s)) h).1 up
-
 -- ---- how many bytes are stored anew
-
-pub sparse_none : (down : ℕ → Bool) (n : ℕ) (e : Entry) → is_sparse_part down n e.part ≡ false → sparse_bytes down n (e ∷ []) ≡ 0
-sparse_none down n e h = let one = cond-false (is_sparse_part down n e.part) e.len 0 h in omega (arith, one)
-
-pub sparse_one : (down : ℕ → Bool) (n : ℕ) (e : Entry) → is_sparse_part down n e.part ≡ true → sparse_bytes down n (e ∷ []) ≡ e.len
-sparse_one down n e h = let one = cond-true (is_sparse_part down n e.part) e.len 0 h in omega (arith, one)
 
 pub sparse_bytes-append : (down : ℕ → Bool) (n : ℕ) (es fs : List Entry) → sparse_bytes down n (es ++ fs) ≡ sparse_bytes down n es + sparse_bytes down n fs
 sparse_bytes-append down n [] fs = omega arith
@@ -187,37 +156,6 @@ module _ {S : Type 0} {kind : StoreKind S} (laws : KindLaws kind) where
             ∙ ap (λ n. all_stored kind (stores old) + n * length v) (ap (λ (st : Settings). st.replicas) f.settings)
             ∙ ap (λ n. all_stored kind (stores old) + old.settings.replicas * n) len;
       }
-
-  -- an entry that is not sparse stands for itself
-  pub restored_same : (dev : Dev S) (e : Entry) → is_sparse_part (is_down_in dev) dev.settings.replicas e.part ≡ false → EntryBytes (inside_left kind dev) e
-      → IsRestored kind dev dev e e
-  restored_same dev e whole inside = record {
-    keeps = λ tells. record { placed = record { off = refl; len = refl }; bytes = λ i b below h. whole_part (is_down_in dev) dev.settings.replicas (told_in kind dev) e.part i b whole h };
-    placed = record { off = refl; len = refl };
-    whole = whole;
-    inside = inside;
-    grew = λ none.
-        let n : ℕ = dev.settings.replicas in
-        let zero : sparse_bytes (is_down_in dev) n (e ∷ []) ≡ 0 = sparse_none (is_down_in dev) n e whole in
-        let no : n * 0 ≡ 0 = omega arith in
-        let all : ℕ = all_stored kind (stores dev) in
-        sym (ap (λ m. all + n * m) zero ∙ ap (λ m. all + m) no ∙ omega arith);
-  }
-
-  -- and a sparse one has another that was stored for it
-  pub restored_anew : (old new : Dev S) (e f : Entry) (s : Slice) → is_sparse_part (is_down_in old) old.settings.replicas e.part ≡ true
-      → f.off ≡ e.off → f.len ≡ e.len → f.part ≡ Held s → IsStoredFor kind old new e s → IsRestored kind old new e f
-  restored_anew old new e f s sparse off len part h = record {
-    placed = record { off = off; len = len };
-    keeps = λ tells. record {
-      placed = record { off = off; len = len };
-      bytes = λ i b below up. ap (λ (x : Part). meaning (told_in kind new) (part_origin x i)) part ∙ h.keeps tells i b below up;
-    };
-    whole = ap (is_sparse_part (is_down_in old) old.settings.replicas) part ∙ h.whole;
-    inside = subst (λ (x : Part). PartBytes (inside_left kind new) f.len x) (sym part)
-        (subst (λ n. PartBytes (inside_left kind new) n (Held s)) (h.len ∙ sym len) h.inside);
-    grew = λ none. h.grew none ∙ ap (λ n. all_stored kind (stores old) + old.settings.replicas * n) (sym (sparse_one (is_down_in old) old.settings.replicas e sparse));
-  }
 
   -- ---- lists of entries
 
@@ -331,15 +269,6 @@ module _ {S : Type 0} {kind : StoreKind S} (laws : KindLaws kind) where
         bytes = sum ∙ ap (λ y. y + sparse_bytes (is_down_in old) old.settings.replicas (e ∷ [])) done.bytes
             ∙ sym (sparse_bytes-append (is_down_in old) old.settings.replicas es (e ∷ []));
       }
-
-  pub restored_none : (dev : Dev S) (fs : List Entry) → fs ≡ [] → AreRestored kind dev dev [] fs 0
-  restored_none dev fs list = record {
-    keeps = λ tells. subst (AreKept (is_down_in dev) (told_in kind dev) (told_in kind dev) []) (sym list) tt;
-    whole = ap (has_sparse (is_down_in dev) dev.settings.replicas) list;
-    within = λ end all. subst (Within end) (sym list) all;
-    inside = subst (All (EntryBytes (inside_left kind dev))) (sym list) (All-nil (EntryBytes (inside_left kind dev)));
-    bytes = refl;
-  }
 
   pub grew_none : (dev : Dev S) → Grew kind dev dev 0
   grew_none dev none =

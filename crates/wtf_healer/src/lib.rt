@@ -1,5 +1,22 @@
-//! The healer: after servers were lost, it stores anew what fewer servers hold than an image's settings ask for, and hands the
-//! image of that to the keeper. The tree stays, and no stored byte is changed.
+//! The healer: after servers were lost, it stores anew what fewer servers hold than an image's settings
+//! ask for, and hands the image of that to the keeper. The tree stays, and no stored byte is changed.
+//!
+//! `wtf_heal` is the whole program over any stores and keeper: its words name the lost servers. Nothing is read
+//! from those, whose stores may be empty, and they stay as they were (`lost`).
+//!
+//! A slice is sparse where one of its copies lies on a lost server, or where it has fewer copies than the
+//! settings ask for. A region that names a sparse slice becomes a compact list, of which each sparse part is
+//! read from a copy that is left and stored anew, on as many servers as there are replicas; what is not sparse
+//! is named as before. The list under it is read, and stands in that compact list too.
+//!
+//! The rule: with status 0, where stores and keeper tell, the keeper holds an image that breaks no rule over
+//! the stores as they are left, with the settings and the tree that were left, and no slice of it is sparse
+//! (`healed`). One image at most is handed over, and only once all stores that are left are synced (`handed`,
+//! `synced`). Stores only grow, and nothing is punched (`follows`).
+//!
+//! The two lines that are written count just what was healed. Each status has its cause (`words`, `refused`,
+//! `image`, `save_cause`, `fault_cause`); where no device failed and the devices tell what was left, no other
+//! comes than 0, and 2, 6 and 7 (`complete`).
 #![tactic(auto)]
 
 mod base;

@@ -75,9 +75,6 @@ last_kind (Some (RegionIs end base entries)) h = absurd h
 pub some_value : {A : Type 0} (o : Option A) (x : A) → o ≡ Some x → IsSome o
 some_value o x e = subst (λ o. IsSome o) (sym e) refl
 
-folder_is : (o : Option Node) → o ≡ Some Folder → is_folder o ≡ true
-folder_is o e = ap is_folder e
-
 -- the last of a file is told by its row
 pub last_is : (fs : List FileRow) (i : InodeId) → last_at fs i ≡ option_map (λ f. f.last) (file_at fs i)
 last_is [] i = refl

@@ -58,9 +58,6 @@ adds_one old new k v number pins is = record {
   others = λ q missing. is q ∙ ap (λ b. cond b ((old.number, Some v) ∷ []) (versions_of key_cmp old q)) (untied q k (plain v) missing);
 }
 
-pub adds_none : (s : S) → s.pins ≡ [] → Adds s s []
-adds_none s pins = record { number = refl; pins = pins; seeded = λ q x found. absurd (cc); others = λ q missing. refl }
-
 none_both : {X : Type 0} (a b : Option X) → option_or a b ≡ None → (a ≡ None) × (b ≡ None)
 none_both None b h = (refl, h)
 none_both (Some x) b h = absurd (cc)

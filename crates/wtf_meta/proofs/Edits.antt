@@ -7,9 +7,6 @@ use Rattle.std.specs.BTreeMap.{is_at}
 use Rattle.wtf_base.specs.declared.ids.InodeId.{InodeId}
 use Rattle.wtf_kv.specs.declared.changes.Change.TheVariants as change
 use Rattle.wtf_kv.specs.Edits.{is_between}
-use Rattle.wtf_occ.specs.Attempts.{Attempted, GrowsBy}
-use Rattle.wtf_occ.proofs.AttemptLaws.{GrowsBy-append}
-use Rattle.wtf_values.specs.declared.key.Key.{Key}
 use Rattle.wtf_values.specs.declared.key.Key.TheVariants.{Inode, Region}
 use Rattle.wtf_values.specs.declared.value.Value.{Value}
 use Rattle.wtf_values.specs.declared.value.Value.TheVariants as value
@@ -92,9 +89,3 @@ has_after i (d ∷ ds) w has = has_after i ds (step (edit_of i d) w) (has_one i 
 -- changes of a file, one list after another
 pub edits_of-append : (i : InodeId) (ds es : List FileEdit) → edits_of i (ds ++ es) ≡ edits_of i ds ++ edits_of i es
 edits_of-append i ds es = map-append (edit_of i) ds es
-
--- an attempt that grew by changes of a file, and then by more
-pub GrowsBy-edits : (i : InodeId) (a m n : Attempted Key Delta) (ks ls : List Key) (ds es : List FileEdit) → GrowsBy a m ks (edits_of i ds) → GrowsBy m n ls (edits_of i es)
-    → GrowsBy a n (ks ++ ls) (edits_of i (ds ++ es))
-GrowsBy-edits i a m n ks ls ds es first next =
-    subst (λ cs. GrowsBy a n (ks ++ ls) cs) (sym (edits_of-append i ds es)) (GrowsBy-append a m n ks ls (edits_of i ds) (edits_of i es) first next)

@@ -118,10 +118,6 @@ feet_looked tx w ks R W read = record {
   stays = λ q i to. inl to;
 }
 
--- nothing was done
-pub feet_none : (tx : ℕ) (w : Map) → Feet tx w [] [] [] []
-feet_none tx w = feet_looked tx w [] [] [] tt
-
 module _ (tx : ℕ) (a : Map) (ks : List Key) (cs : Edits) (R W : List Item) (first : Feet tx a ks cs R W) (S V : List Item) where
   -- the map that the first leaves
   abbrev mid : Map

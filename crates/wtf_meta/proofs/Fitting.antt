@@ -1,7 +1,7 @@
 -- Changes of a file fit on a map just where they fit the file that it shows.
 use Rattle.std.proofs.Common.{◌≡◌, ℕ, Bool, true, false, cond, List, [], ◌∷◌, None, Some, refl, ap, sym, ◌∙◌, inl, inr}
 use Rattle.std.specs.Prelude.{⊤}
-use Rattle.std.proofs.lemmas.Bool.{cases_Bool, cond-true, cond-false, and_from, and_parts}
+use Rattle.std.proofs.lemmas.Bool.{cases_Bool, cond-true, cond-false, and_from}
 use Rattle.wtf_base.specs.declared.ids.InodeId.{InodeId}
 use Rattle.wtf_kv.specs.declared.changes.Change.{Change}
 use Rattle.wtf_kv.specs.declared.changes.Change.TheVariants as change
@@ -76,11 +76,3 @@ all_fit_from i (d ∷ ds) w has h =
     let both = AllFit-parts (edit_of i d) (edits_of i ds) w h in
     and_from (fits_edit d (file_of i w)) (all_fit ds (after_edit d (file_of i w))) (sym (fits_same i d w has) ∙ both.0)
     (ap (all_fit ds) (sym (file_one i d w has)) ∙ all_fit_from i ds (step (edit_of i d) w) (has_one i d w has) both.1)
-
--- and those that fit the file fit on the map
-pub AllFit-from : (i : InodeId) (ds : List FileEdit) (w : Map) → HasFile i w → all_fit ds (file_of i w) ≡ true → AllFit (edits_of i ds) w
-AllFit-from i [] w has h = refl
-AllFit-from i (d ∷ ds) w has h =
-    let both = and_parts (fits_edit d (file_of i w)) (all_fit ds (after_edit d (file_of i w))) h in
-    AllFit-more (edit_of i d) (edits_of i ds) w (fits_same i d w has ∙ both.0)
-    (AllFit-from i ds (step (edit_of i d) w) (has_one i d w has) (ap (all_fit ds) (file_one i d w has) ∙ both.1))

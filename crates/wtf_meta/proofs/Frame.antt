@@ -25,13 +25,6 @@ IsElsewhere i (Dir p) = ⊤
 IsElsewhere i (Inode j) = i ≢ j
 IsElsewhere i (Region j r) = i ≢ j
 
--- a key that differs from all keys of the file
-pub IsElsewhere-from : (i : InodeId) (q : Key) → Inode i ≢ q → ((r : ℕ) → Region i r ≢ q) → IsElsewhere i q
-IsElsewhere-from i (Path p) inode region = tt
-IsElsewhere-from i (Dir p) inode region = tt
-IsElsewhere-from i (Inode j) inode region = λ e. inode (ap Inode e)
-IsElsewhere-from i (Region j r) inode region = λ e. region r (ap (λ k. Region k r) e)
-
 -- which is not the inode's
 pub inode_differs : (i : InodeId) (q : Key) → IsElsewhere i q → Inode i ≢ q
 inode_differs i (Path p) h e = absurd (cc)

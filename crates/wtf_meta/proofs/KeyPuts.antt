@@ -1,5 +1,5 @@
 -- Changes of single keys, and cuts of a file's regions, as new values at just these keys.
-use Rattle.std.proofs.Common.{◌≡◌, ◌≢◌, ◌⊎◌, ℕ, ◌≤◌, true, false, cond, List, [], ◌∷◌, ◌++◌, Option, None, Some, refl, sym, ap, ◌∙◌, inl, inr, ⊎_elim}
+use Rattle.std.proofs.Common.{◌≡◌, ◌≢◌, ◌⊎◌, ℕ, ◌≤◌, true, false, cond, List, [], ◌∷◌, ◌++◌, Option, None, Some, sym, ap, ◌∙◌, inl, inr, ⊎_elim}
 use Rattle.std.specs.BTreeMap.{is_at}
 use Rattle.std.proofs.Math.Path.{fun_ext}
 use Rattle.std.proofs.lemmas.Bool.{cases_Bool}
@@ -14,10 +14,10 @@ use Rattle.wtf_values.specs.declared.value.Value.{Value}
 use Rattle.wtf_values.specs.declared.value.Value.TheVariants as value
 use Rattle.wtf_values.specs.declared.value.Delta.{Delta}
 use Rattle.wtf_values.specs.declared.value.Delta.TheVariants as delta
-use Rattle.wtf_values.specs.Keys.{key_cmp, is_region_within}
+use Rattle.wtf_values.specs.Keys.{key_cmp}
 use Rattle.wtf_values.specs.Names.{NamesOf, with_name, without_name}
 use Rattle.wtf_values.specs.Outcomes.{outcome_of}
-use Rattle.wtf_values.proofs.KeyLaws.{at_itself, at_same, at_none, between_regions, between_region, between_other}
+use Rattle.wtf_values.proofs.KeyLaws.{at_itself, at_same, at_none, between_region, between_other}
 use Rattle.wtf_meta.specs.Maps.{Map, Edits, with}
 use Rattle.wtf_meta.specs.NameEdits.{add_to, drop_from}
 
@@ -59,12 +59,6 @@ with-delta w k d = fun_ext (λ q. ⊎_elim
     (λ f. ap (λ b. cond b (value_made (outcome_of (w q) d) (w q)) (w q)) f ∙ sym (ap (λ b. cond b (value_made (outcome_of (w k) d) (w k)) (w q)) f))
     (cases_Bool (is_at (key_cmp k) q)))
 
-pub with-put : (w : Map) (k : Key) (v : Value) → with (change.Delta k (delta.Put v) ∷ []) w ≡ put_in w k (Some v)
-with-put w k v = refl
-
-pub with-remove : (w : Map) (k : Key) → with (change.Delta k delta.Remove ∷ []) w ≡ put_in w k None
-with-remove w k = refl
-
 -- a directory gets a name, or loses it
 pub with-add_to : (w : Map) (dir p : List ℕ) (names : NamesOf) → w (Dir dir) ≡ Some (value.Names names) → with (add_to dir p ∷ []) w ≡ put_in w (Dir dir) (Some (value.Names (with_name names (name_of p))))
 with-add_to w dir p names is = with-delta w (Dir dir) (delta.DirAdd (name_of p)) ∙ ap (λ v. put_in w (Dir dir) (value_made (outcome_of v (delta.DirAdd (name_of p))) v)) is
@@ -73,9 +67,6 @@ pub with-drop_from : (w : Map) (dir p : List ℕ) (names : NamesOf) → w (Dir d
 with-drop_from w dir p names is = with-delta w (Dir dir) (delta.DirDel (name_of p)) ∙ ap (λ v. put_in w (Dir dir) (value_made (outcome_of v (delta.DirDel (name_of p))) v)) is
 
 -- a cut of regions of a file takes out just those
-pub with-cut : (w : Map) (i : InodeId) (from to : ℕ) (q : Key) → with (change.Cut (Region i from) (Region i to) ∷ []) w q ≡ cond (is_region_within i from to q) None (w q)
-with-cut w i from to q = ap (λ b. cond b None (w q)) (between_regions i from to q)
-
 pub cut-own : (w : Map) (i : InodeId) (from to r : ℕ) → from ≤ r → r ≤ to → with (change.Cut (Region i from) (Region i to) ∷ []) w (Region i r) ≡ None
 cut-own w i from to r above below = ap (λ b. cond b None (w (Region i r))) (between_region i from to r above below)
 

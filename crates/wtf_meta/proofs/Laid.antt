@@ -1,7 +1,6 @@
 -- A function that has other values in a range.
 use Rattle.std.proofs.Common.{◌≡◌, ℕ, ◌+◌, ◌-◌, ◌<◌, ◌≤◌, max, nat_lt, List, [], ap, sym, ◌∙◌, arith, inl, inr}
 use Rattle.std.proofs.lemmas.Bool.{lt-ltb, le-ltb, le-leb, lt-leb, cond-true, cond-false, and_from, and_left, and_right, cases_lt}
-use Rattle.std.proofs.lemmas.Bool.Decides.{nat_tests}
 use Rattle.wtf_overlay.specs.Origin.{Place}
 use Rattle.wtf_meta.specs.Files.{laid, joined, cut_at, grown}
 
@@ -68,7 +67,3 @@ grown_some len off n some = cond-true (nat_lt 0 n) (max len (off + n)) len (lt-l
 -- no byte changes nothing
 pub grown_none : (len off n : ℕ) → n ≡ 0 → grown len off n ≡ len
 grown_none len off n none = cond-false (nat_lt 0 n) (max len (off + n)) len (le-ltb 0 n (omega arith))
-
--- a range and then the one that follows it
-pub grown-grown : (len off n m : ℕ) → grown (grown len off n) (off + n) m ≡ grown len off (n + m)
-grown-grown len off n m = grind (arith, nat_tests)

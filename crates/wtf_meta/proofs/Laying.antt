@@ -9,7 +9,7 @@ use Rattle.wtf_meta.specs.FileEdits.{FileEdit, RaiseLast, after}
 use Rattle.wtf_meta.specs.Ranges.{Covers, Lays}
 use Rattle.wtf_meta.proofs.Laid.{grown_some, laid_is, laid_same, laid_before, laid_after}
 use Rattle.wtf_meta.proofs.Places.{apart}
-use Rattle.wtf_meta.proofs.Covering.{after-append, all_fit-append, reach_some, reach_none, Covers-none}
+use Rattle.wtf_meta.proofs.Covering.{after-append, all_fit-append, reach_some, reach_none}
 
 reach_le : (b off n t : ℕ) → reach b off n t ≤ b
 reach_le b off n t = grind (arith, nat_tests)
@@ -77,15 +77,6 @@ Lays-raised b ds off n r k f some at pos within few covers =
           ∙ sym (grown_some (file_len b v) off n some);
       origin = λ lists v is x. ap (λ (w : FileView). file_origin b lists w x) (view v) ∙ covers.origin lists v x;
     }
-
--- nothing is done
-pub Lays-none : (b off : ℕ) (f : ℕ → List Place) → Lays b [] off 0 f
-Lays-none b off f = record {
-  fit = λ v. refl;
-  keeps = λ v is. is;
-  len = λ v is. refl;
-  origin = λ lists v is x. (Covers-none b off f).origin lists v x;
-}
 
 laid_empty : (off : ℕ) (f g h : ℕ → List Place) (x : ℕ) → laid off 0 f h x ≡ laid off 0 g h x
 laid_empty off f g h x = laid_is off 0 g h x (laid off 0 f h x) (λ l. laid_before off 0 f h x l) (λ p. laid_after off 0 f h x p) (λ from to. absurd (omega arith))

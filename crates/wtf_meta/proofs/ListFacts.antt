@@ -24,10 +24,6 @@ module _ (P : List Place → Bool) (Q : Slice → Bool) where
   ListSlices-parts [] gs h = (tt, h)
   ListSlices-parts (f ∷ fs) gs h = let parts = ListSlices-parts fs gs h.1 in ((h.0, parts.0), parts.1)
 
-  pub ListsBytes-append : (fs gs : List ListFact) → ListsBytes P Q fs → ListsBytes P Q gs → ListsBytes P Q (fs ++ gs)
-  ListsBytes-append [] gs front back = back
-  ListsBytes-append (f ∷ fs) gs front back = (front.0, ListsBytes-append fs gs front.1 back)
-
   pub ListsBytes-parts : (fs gs : List ListFact) → ListsBytes P Q (fs ++ gs) → ListsBytes P Q fs × ListsBytes P Q gs
   ListsBytes-parts [] gs h = (tt, h)
   ListsBytes-parts (f ∷ fs) gs h = let parts = ListsBytes-parts fs gs h.1 in ((h.0, parts.0), parts.1)

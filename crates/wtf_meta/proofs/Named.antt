@@ -68,10 +68,6 @@ module _ (P : List Place → Bool) where
       let rest = PiecesBytes-parts ps qs (All-tail PieceBytes p (ps ++ qs) h) in
       (All-cons PieceBytes p ps (All-head PieceBytes p (ps ++ qs) h) rest.0, rest.1)
 
-  -- a part of a piece
-  pub PartBytes-cut : (p : Piece) (n k : ℕ) (f : ℕ → List Place) → PartBytes P p.len p.part → ((i : ℕ) → i < n → f i ≡ part_origin p.part (k + i)) → k + n ≤ p.len → (i : ℕ) → i < n → P (f i) ≡ true
-  PartBytes-cut p n k f h same within = λ i below. ap P (same i below) ∙ h (k + i) (omega arith)
-
   -- pieces that were cut from others
   pub PiecesBytes-cut : (ps out : List Piece) (off n : ℕ) → PiecesBytes P ps → off + n ≤ pieces_len ps → Plans out n (λ i. pieces_origin ps (off + i)) → PiecesBytes P out
   PiecesBytes-cut ps out off n h within plans = plans_bytes out n (λ i. pieces_origin ps (off + i)) plans (λ i below. pieces_named ps (off + i) h (omega arith))
@@ -94,11 +90,6 @@ module _ (P : List Place → Bool) (Q : Slice → Bool) where
   pub EditsBytes-append : (cs ds : Edits) → EditsBytes P Q cs → EditsBytes P Q ds → EditsBytes P Q (cs ++ ds)
   EditsBytes-append [] ds first next = next
   EditsBytes-append (c ∷ cs) ds first next = (first.0, EditsBytes-append cs ds first.1 next)
-
-  -- and of such, both
-  pub EditsBytes-parts : (cs ds : Edits) → EditsBytes P Q (cs ++ ds) → EditsBytes P Q cs × EditsBytes P Q ds
-  EditsBytes-parts [] ds h = (tt, h)
-  EditsBytes-parts (c ∷ cs) ds h = let rest = EditsBytes-parts cs ds h.1 in ((h.0, rest.0), rest.1)
 
   -- changes of a file, one list after another
   pub EditsBytes-edits : (i : InodeId) (ds es : List FileEdit) → EditsBytes P Q (edits_of i ds) → EditsBytes P Q (edits_of i es)

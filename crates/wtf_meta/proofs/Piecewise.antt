@@ -1,5 +1,5 @@
 -- Bytes that are laid part by part, and piece by piece.
-use Rattle.std.proofs.Common.{◌≡◌, ℕ, zero, suc, ◌+◌, ◌-◌, ◌*◌, ◌/◌, ◌%◌, ◌<◌, ◌≤◌, ◌++◌, nat_lt, List, [], ◌∷◌, length, get_or, take, ap, sym, ◌∙◌, subst, arith, inl, inr}
+use Rattle.std.proofs.Common.{◌≡◌, ℕ, zero, suc, ◌+◌, ◌-◌, ◌*◌, ◌/◌, ◌%◌, ◌<◌, ◌≤◌, ◌++◌, List, [], ◌∷◌, length, get_or, take, ap, sym, ◌∙◌, subst, arith, inl, inr}
 use Rattle.std.proofs.lemmas.List.{take_more, take_all}
 use Rattle.std.proofs.lemmas.Bool.{cases_lt, cond-true, lt-ltb}
 use Rattle.std.proofs.lemmas.Nat.{div-add-mod', mod_below, div_below}
@@ -13,7 +13,7 @@ use Rattle.wtf_meta.specs.FileEdits.{FileEdit, Push, RaiseLast}
 use Rattle.wtf_meta.specs.Ranges.{Covers, Lays}
 use Rattle.wtf_meta.proofs.Laid.{joined_first, joined_then}
 use Rattle.wtf_meta.proofs.Covering.{Covers-same, Covers-join, Covers-push}
-use Rattle.wtf_meta.proofs.Laying.{Lays-same, Lays-raised, Lays-none_covered}
+use Rattle.wtf_meta.proofs.Laying.{Lays-raised, Lays-none_covered}
 
 -- one entry more of a piece
 pub Covers-part : (b off done r : ℕ) (e : Entry) (f : ℕ → List Place) (ds : List FileEdit) → 0 < b → e.off + e.len ≤ b → r * b + e.off ≡ off + done
@@ -74,9 +74,3 @@ Lays-no_pieces b off done i ps ds h d none covers =
     let all : done ≡ pieces_len ps = d ∙ ap pieces_len (take_all i ps h) in
     subst (λ k. Lays b ds off k (pieces_origin ps)) (sym none ∙ all)
     (Lays-none_covered b off ds (pieces_origin (take i ps)) (pieces_origin ps) (subst (λ k. Covers b ds off k (pieces_origin (take i ps))) none covers))
-
--- a single piece
-pub Lays-one_piece : (b off : ℕ) (p : Piece) (ds : List FileEdit) → Lays b ds off (pieces_len (p ∷ [])) (pieces_origin (p ∷ [])) → Lays b ds off p.len (part_origin p.part)
-Lays-one_piece b off p ds lays =
-    Lays-same b ds off p.len (pieces_origin (p ∷ [])) (part_origin p.part) (λ i h. cond-true (nat_lt i p.len) _ _ (lt-ltb i p.len h))
-    (subst (λ k. Lays b ds off k (pieces_origin (p ∷ []))) (let e : pieces_len (p ∷ []) ≡ p.len = omega arith in e) lays)

@@ -1,7 +1,6 @@
 -- Ranges that were read, part by part: of each part the list of its region is read.
 use Rattle.std.proofs.Common.{◌≡◌, ℕ, ◌+◌, ◌*◌, ◌≤◌, ◌++◌, List, [], Option, None, Some, refl, sym, ap, ◌∙◌, subst, arith}
 use Rattle.wtf_overlay.specs.Origin.{Plans, origin, pieces_len}
-use Rattle.wtf_overlay.specs.Clips.{Within}
 use Rattle.wtf_overlay.proofs.Pieces.{pieces_len-append}
 use Rattle.wtf_overlay.specs.declared.part.Entry.{Entry}
 use Rattle.wtf_overlay.specs.declared.part.Piece.{Piece}
@@ -11,7 +10,6 @@ use Rattle.wtf_meta.specs.Lists.{Lists, ListFact, TellLists, list_of, base_facts
 use Rattle.wtf_meta.specs.Files.{FileView}
 use Rattle.wtf_meta.specs.Bytes.{PiecesBytes}
 use Rattle.wtf_meta.specs.Reads.{ReadsRegion, ReadsFile}
-use Rattle.wtf_meta.proofs.BaseLists.{list_within}
 use Rattle.wtf_meta.proofs.ListFacts.{TellLists-parts, ListSlices-append, ListsBytes-parts}
 use Rattle.wtf_meta.proofs.Named.{plans_bytes, PiecesBytes-none, PiecesBytes-append, region_slices, region_origin_bytes}
 use Rattle.wtf_meta.proofs.Planning.{Plans-part}
@@ -23,11 +21,6 @@ only under s = Some under
 only_tells : (base : Option Spill) (under : List Entry) → TellLists (only under) (base_facts base under)
 only_tells None under = tt
 only_tells (Some s) under = (refl, tt)
-
--- the list that was read of a region passes its end nowhere
-pub read_within : (v : RegionValue) (under list : List Entry) → ((lists : Lists) → TellLists lists (base_facts v.base under) → list ≡ list_of lists v)
-    → Within v.end list
-read_within v under list is = subst (Within v.end) (sym (is (only under) (only_tells v.base under))) (list_within (only under) v)
 
 -- a missing region is a hole
 pub ReadsRegion-none : (off n : ℕ) (ps : List Piece) → Plans ps n (λ i. []) → ReadsRegion None off n [] ps

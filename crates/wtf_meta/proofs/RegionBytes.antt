@@ -19,7 +19,7 @@ use Rattle.wtf_values.specs.declared.region.RegionValue.{RegionValue}
 use Rattle.wtf_values.specs.declared.region.Spill.{Spill}
 use Rattle.wtf_values.specs.Bases.{base_below}
 use Rattle.wtf_values.specs.Regions.{or_empty, pushed, clipped, zero_case, zeroed_in, entry_at, piece_case, with_piece, with_pieces}
-use Rattle.wtf_meta.specs.Bytes.{PartBytes, EntryBytes, PiecesBytes, BaseBytes, RegionBytes, MaybeBytes}
+use Rattle.wtf_meta.specs.Bytes.{PartBytes, EntryBytes, PiecesBytes, BaseBytes, RegionBytes}
 
 -- the places of a slice's byte do not depend on the slice's length
 places_front : (n m i : ℕ) (e : Extents) → map (place_in i) (pointers_to n e) ≡ map (place_in i) (pointers_to m e)
@@ -35,11 +35,6 @@ module _ (P : List Place → Bool) (Q : Slice → Bool) where
   -- a region that is missing, or empty, has no byte
   pub RegionBytes-empty : RegionBytes P Q (or_empty None)
   RegionBytes-empty = record { base = tt; entries = All-nil (EntryBytes P) }
-
-  -- a missing region counts as an empty one
-  pub or_empty_bytes : (now : Option RegionValue) → MaybeBytes P Q now → RegionBytes P Q (or_empty now)
-  or_empty_bytes None h = RegionBytes-empty
-  or_empty_bytes (Some v) h = h
 
   -- an entry that is laid over a region
   pub pushed_bytes : (now : Option RegionValue) (e : Entry) → RegionBytes P Q (or_empty now) → EntryBytes P e → RegionBytes P Q (pushed now e)

@@ -7,7 +7,7 @@ use Rattle.wtf_base.specs.Slices.{len_of}
 use Rattle.wtf_base.specs.Places.{places_of}
 use Rattle.wtf_overlay.specs.declared.part.Entry.{Entry}
 use Rattle.wtf_overlay.specs.declared.part.Piece.{Piece}
-use Rattle.wtf_overlay.specs.Origin.{Place, part_origin, pieces_len, pieces_origin, origin}
+use Rattle.wtf_overlay.specs.Origin.{Place, part_origin, pieces_origin, origin}
 use Rattle.wtf_overlay.specs.Meaning.{meaning}
 use Rattle.wtf_overlay.specs.Clips.{clip_list}
 use Rattle.wtf_overlay.specs.Spilled.{decoded}
@@ -20,7 +20,7 @@ use Rattle.wtf_meta.specs.Contents.{Told, is_told, TellBytes, PiecesTell, SliceT
 use Rattle.wtf_meta.specs.Contents.{list_has, is_listed}
 use Rattle.wtf_meta.specs.Files.{FileView, region_origin, file_origin}
 use Rattle.wtf_meta.proofs.ListTests.{entries_from, has_list, list_has-true}
-use Rattle.wtf_meta.proofs.Named.{pieces_bytes, pieces_named}
+use Rattle.wtf_meta.proofs.Named.{pieces_bytes}
 
 -- the later stores tell what the earlier ones told
 abbrev pub TellsOn : Told → Told → Type 0
@@ -70,10 +70,6 @@ tell_all told (suc n) f h =
 -- pieces that tell bytes have only bytes that are told
 pub told_pieces : (told : Told) (ps : List Piece) (bytes : List ℕ) → PiecesTell told ps bytes → PiecesBytes (is_told told) ps
 told_pieces told ps bytes tell = pieces_bytes (is_told told) ps (λ i h. told_from told (pieces_origin ps i) (get_or bytes i 0) (tell.tells i h))
-
--- and pieces that have only such bytes tell some
-pub pieces_tell : (told : Told) (ps : List Piece) → PiecesBytes (is_told told) ps → (bytes : List ℕ) × PiecesTell told ps bytes
-pieces_tell told ps h = tell_all told (pieces_len ps) (pieces_origin ps) (λ i below. pieces_named (is_told told) ps i h below)
 
 collect_is : (f : ℕ → Option ℕ) (bytes : List ℕ) → ((i : ℕ) → i < length bytes → f i ≡ Some (get_or bytes i 0)) → collect f (length bytes) ≡ Some bytes
 collect_is f [] h = refl

@@ -1,19 +1,17 @@
--- The bytes of a file that was written, appended to, truncated or punched, and of one without bytes.
-use Rattle.std.proofs.Common.{◌≡◌, ℕ, ◌+◌, ◌-◌, ◌<◌, ◌++◌, max, List, [], length, get_or, Some, refl, ap, sym, ◌∙◌, arith, inl, inr, length-append}
+-- The bytes of a file that was written, appended to, truncated or punched.
+use Rattle.std.proofs.Common.{◌≡◌, ℕ, ◌+◌, ◌-◌, ◌<◌, ◌++◌, max, List, [], length, get_or, Some, ap, sym, ◌∙◌, arith, inl, inr, length-append}
 use Rattle.std.proofs.lemmas.Bool.{cases_lt}
 use Rattle.std.proofs.lemmas.List.{get_or_past, get_or_append_left, get_or-append_right}
-use Rattle.std.proofs.lemmas.Grind.{same_number_lists}
 use Rattle.wtf_overlay.specs.Origin.{Place}
 use Rattle.wtf_overlay.specs.Meaning.{meaning}
 use Rattle.wtf_model.specs.ByteCalls.{written, resized, zeroed}
 use Rattle.wtf_model.proofs.Laws.{length-written, written_before, written_within, written_after}
-use Rattle.wtf_meta.specs.Files.{FileView, IsFile, file_len, file_origin, no_bytes, laid}
+use Rattle.wtf_meta.specs.Files.{FileView, IsFile, file_len, file_origin, laid}
 use Rattle.wtf_meta.specs.Contents.{Told, TellBytes, HasBytes, lists_in}
 use Rattle.wtf_meta.specs.FileEdits.{FileEdit, after}
 use Rattle.wtf_meta.specs.Ranges.{Lays, Truncates, Clears}
 use Rattle.wtf_meta.specs.Appends.{AddedTo}
 use Rattle.wtf_meta.proofs.Laid.{grown_some, grown_none, cut_below, cut_past, laid_before, laid_within, laid_after}
-use Rattle.wtf_meta.proofs.OneRegion.{file_past}
 use Rattle.wtf_meta.proofs.ByteLists.{length-resized, resized_at, length-zeroed, zeroed_before, zeroed_within, zeroed_after}
 
 -- what is laid over places tells the bytes that are written over bytes
@@ -96,32 +94,3 @@ Clears-bytes told b ds off n v old clears is has =
         ]
       ];
     }
-
--- the file without a byte is one
-pub IsFile-no_bytes : (b : ℕ) → IsFile b no_bytes
-IsFile-no_bytes b = record {
-  ends = λ r. omega arith;
-  above = λ r h. refl;
-  some = λ h. absurd (omega arith);
-  few = omega arith;
-}
-
--- and has no bytes
-pub no_bytes_bytes : (told : Told) (b : ℕ) → HasBytes told b no_bytes []
-no_bytes_bytes told b = record { len = omega arith; tells = λ x. refl }
-
--- a file has the bytes of a list where its length and each byte below it are those of the list
-pub HasBytes-below : (told : Told) (b : ℕ) (v : FileView) (all : List ℕ) → 0 < b → IsFile b v → file_len b v ≡ length all
-    → ((x : ℕ) → x < length all → meaning told (file_origin b (lists_in b told) v x) ≡ Some (get_or all x 0)) → HasBytes told b v all
-HasBytes-below told b v all pos is len below = record {
-  len = len;
-  tells = λ x. elim (cases_lt x (length all)) [
-    | inl l ↦ below x l
-    | inr past ↦ ap (meaning told) (file_past b (lists_in b told) v x pos is (omega arith)) ∙ ap Some (sym (get_or_past all x 0 past))
-  ];
-}
-
--- and of no other list
-pub HasBytes-one : (told : Told) (b : ℕ) (v : FileView) (xs ys : List ℕ) → HasBytes told b v xs → HasBytes told b v ys → xs ≡ ys
-HasBytes-one told b v xs ys first second =
-    same_number_lists xs ys (sym first.len ∙ second.len) (λ k h. let e : Some (get_or xs k 0) ≡ Some (get_or ys k 0) = sym (first.tells k) ∙ second.tells k in cc)

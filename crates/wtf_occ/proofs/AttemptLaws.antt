@@ -15,14 +15,6 @@ use Rattle.wtf_occ.specs.Tries.{first_moved}
 pub GrowsBy-nothing : {K D : Type 0} (a : Attempted K D) → GrowsBy a a [] []
 GrowsBy-nothing a = record { base = refl; reads = sym (append-nil a.reads); changes = sym (append-nil a.changes) }
 
--- a key is recorded
-pub GrowsBy-read : {K D : Type 0} (old new : Attempted K D) (q : K) → new ≡ record old { reads = old.reads ++ q ∷ [] } → GrowsBy old new (q ∷ []) []
-GrowsBy-read old new q is = record {
-  base = ap (λ a. a.base) is;
-  reads = ap (λ a. a.reads) is;
-  changes = ap (λ a. a.changes) is ∙ sym (append-nil old.changes);
-}
-
 -- a change is made
 pub GrowsBy-change : {K D : Type 0} (old new : Attempted K D) (c : Change K D) → new ≡ record old { changes = old.changes ++ c ∷ [] } → GrowsBy old new [] (c ∷ [])
 GrowsBy-change old new c is = record {

@@ -27,8 +27,7 @@ use Rattle.wtf_replica.specs.Bytes.{shown_byte, ShowsSlice}
 use Rattle.wtf_replica.specs.Copies.{IsFetched, IsReadable}
 use Rattle.wtf_replica.specs.Downs.{is_down}
 use Rattle.wtf_replica.proofs.Bytes.{inside_places, fetched_shown, shows_up-shows}
-use Rattle.wtf_replica.proofs.Spans.{each_kept, all_out_since}
-use Rattle.wtf_replica.specs.Faults.{AreAllOut, IsReadFault}
+use Rattle.wtf_replica.specs.Faults.{IsReadFault}
 use Rattle.wtf_replica.specs.Inside.{size_in}
 use Rattle.wtf_replica.specs.Spans.{Span, span}
 use Rattle.wtf_meta.specs.Lists.{ListFact, TellLists, or_none, seen_list, base_facts}
@@ -41,20 +40,18 @@ use Rattle.wtf_meta.proofs.Telling.{tell_all, told_byte, told_from, lists_in-is,
 use Rattle.wtf_meta.proofs.Weaker.{slices_stay, file_bytes_stay}
 use Rattle.wtf_region.specs.declared.dev.Dev.{Dev}
 use Rattle.wtf_region.specs.Apart.{are_apart}
-use Rattle.wtf_region.specs.Bases.{slices_of, base_slices, region_slices, bases_in}
+use Rattle.wtf_region.specs.Bases.{base_slices, region_slices}
 use Rattle.wtf_region.specs.Cached.{Remembered, cached, list_fact, recalled_one, recalled}
 use Rattle.wtf_region.specs.Inside.{is_inside, list_lies_inside}
 use Rattle.wtf_region.specs.Devs.{IsSoundDev, GoesOn, stores, remembered, told_in, shown_in, inside_of, between}
 use Rattle.wtf_region.specs.Reads.{IsTrueList, IsListFetched, IsListGot, IsSliceRead, IsListRead, IsPartRead, IsFileRead, TellsFacts, AreInsideLists}
-use Rattle.wtf_region.specs.Reads.{IsSliceFault, IsBaseFault, IsRegionFault, IsDamaged, MayRecall, LeavesLists, LeavesRegion, LacksRegion, RecallsFirst}
+use Rattle.wtf_region.specs.Reads.{IsSliceFault, IsBaseFault, IsRegionFault, IsDamaged, MayRecall, LeavesLists, LeavesRegion, RecallsFirst}
 use Rattle.wtf_region.proofs.Frames.{apart_none, tells_on, shows_told, SliceShows-back, slice_stays, entries_inside}
-use Rattle.wtf_region.specs.Showing.{OnlyRead}
 use Rattle.wtf_region.proofs.InsideLaws.{inside_stays, places_from, slice_readable, list_inside-from}
-use Rattle.wtf_region.proofs.ShowLaws.{told_stays, reads_nothing, reads_over}
+use Rattle.wtf_region.proofs.ShowLaws.{told_stays}
 use Rattle.wtf_region.proofs.SliceKeys.{cached_entry}
 use Rattle.wtf_region.proofs.BaseLaws.{base_wants, wants_more}
 use Rattle.wtf_region.proofs.Recalling.{recalled_first, recalled_on}
-use Rattle.wtf_region.proofs.Spans.{goes_on}
 
 -- all bytes of a slice that were read are those that a read of its places gives
 pub fetched_is : {S : Type 0} (kind : StoreKind S) (t : Span S) (s : Slice) (out : List ℕ) (k : ℕ) → IsFetched kind t s 0 out k → length out ≡ len_of s
@@ -94,15 +91,6 @@ read_fault kind old new s uncached (fault.Damaged k) h = absurd h
 read_fault kind old new s uncached fault.Memory h = absurd h
 read_fault kind old new s uncached fault.Write h = absurd h
 read_fault kind old new s uncached (fault.Punch k) h = absurd h
-
--- reads of stores that were not touched
-pub reads_same : {S : Type 0} (kind : StoreKind S) (old new : Dev S) → new.shelf ≡ old.shelf → OnlyRead kind (between old new)
-reads_same kind old new same = subst (λ sh. OnlyRead kind (span (is_down old.replicas.now) (stores old) sh.now)) (sym same)
-    (reads_nothing kind (is_down old.replicas.now) (stores old))
-
-pub reads_then : {S : Type 0} (kind : StoreKind S) (old mid new : Dev S) → mid.shelf ≡ old.shelf → GoesOn kind old mid [] → OnlyRead kind (between mid new)
-    → OnlyRead kind (between old new)
-reads_then kind old mid new same g next = reads_over kind old mid new g (reads_same kind old mid same) next
 
 module _ {S : Type 0} {kind : StoreKind S} (laws : KindLaws kind) where
   -- what lies inside the stores and is told goes on to be so
@@ -384,29 +372,6 @@ module _ {S : Type 0} {kind : StoreKind S} (laws : KindLaws kind) where
     decodes = ap (λ (st : Settings). decoded st.region h.bytes) (sym g.settings) ∙ h.decodes;
   }
 
-  -- the fault of a slice after a look at what is remembered
-  pub slice_fault_since : {old mid : Dev S} (new : Dev S) → GoesOn kind old mid [] → mid.shelf ≡ old.shelf → (s : Slice)
-      → cached (remembered mid) s ≡ cached (remembered old) s → (why : Fault)
-      → IsSliceFault kind mid new s why → IsSliceFault kind old new s why
-  slice_fault_since {old = old} {mid = mid} new g same s stays (fault.Read k) h = record {
-    uncached = sym stays ∙ h.uncached;
-    out = all_out_since kind (is_down old.replicas.now) (stores old) (stores mid) (stores new) g.each.same_length (each_kept laws g.each) s k.0
-        (subst (λ (down : ℕ → Bool). AreAllOut kind (span down (stores mid) (stores new)) s k.0) (ap (λ r. is_down r.now) g.replicas) h.out);
-  }
-  slice_fault_since {old = old} {mid = mid} new g same s stays (fault.Damaged k) h = record {
-    uncached = sym stays ∙ h.uncached;
-    bytes = h.bytes;
-    whole = h.whole;
-    read = subst (λ sh. IsFetched kind (span (is_down old.replicas.now) sh.now (stores new)) s 0 h.bytes k.0) same
-        (subst (λ (down : ℕ → Bool). IsFetched kind (span down (stores mid) (stores new)) s 0 h.bytes k.0) (ap (λ r. is_down r.now) g.replicas) h.read);
-    bad = λ es is.
-        let now : decoded mid.settings.region h.bytes ≡ Some es = ap (λ (st : Settings). decoded st.region h.bytes) g.settings ∙ is in
-        ap (λ (st : Settings). list_lies_inside st.servers (size_in kind (stores new)) es) (sym g.settings) ∙ h.bad es now;
-  }
-  slice_fault_since new g same s stays fault.Memory h = tt
-  slice_fault_since new g same s stays fault.Write h = absurd h
-  slice_fault_since new g same s stays (fault.Punch k) h = absurd h
-
 -- the lists of the bases under the bytes up to one part were asked for, and of that part if its list was
 pub recalls_first : {S : Type 0} {kind : StoreKind S} {old mid : Dev S} (new : Dev S) (file : FileView) (off len done n r y : ℕ) (ps : List Piece)
     → 0 < n → done + n ≤ len → r * old.settings.region + y ≡ off + done → y + n ≤ old.settings.region → (done ≡ 0) ⊎ (y ≡ 0)
@@ -459,24 +424,3 @@ leaves_memory kind old new now why is left = subst (λ (f : Fault). LeavesRegion
   cause = lacks_memory kind old new now;
   left = left;
 })
-
--- why a file was not read in a later part of a span, before which the lists that are remembered were left
-pub lacks_region_since : {S : Type 0} {kind : StoreKind S} → KindLaws kind → {old mid : Dev S} (new : Dev S) → GoesOn kind old mid []
-    → remembered mid ≡ remembered old → (file : FileView) (off n : ℕ) (why : Fault) → LacksRegion kind mid new file off n why
-    → LacksRegion kind old new file off n why
-lacks_region_since laws {old = old} {mid = mid} new g same file off n why lacks =
-    let place = subst (λ (st : Settings). (off < lacks.region * st.region + st.region) × (lacks.region * st.region < off + n)
-    × (slices_of lacks.before ≡ bases_in st.region file off (lacks.region * st.region - off))) g.settings (lacks.from, lacks.upto, lacks.earlier) in
-    record {
-      mid = lacks.mid;
-      goes = goes_on laws g lacks.goes;
-      before = lacks.before;
-      recalls = lacks.recalls ∙ ap (recalled lacks.before) same;
-      some = lacks.some;
-      region = lacks.region;
-      from = place.0;
-      upto = place.1;
-      earlier = place.2;
-      cause = lacks.cause;
-      left = lacks.left;
-    }

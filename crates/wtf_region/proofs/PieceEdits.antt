@@ -20,8 +20,8 @@ use Rattle.wtf_meta.specs.Appends.{FileKey, OfLast, OfRegion, length_keys, appen
 use Rattle.wtf_meta.proofs.Named.{EditsBytes-append}
 use Rattle.wtf_meta.proofs.Covering.{Covers-none}
 use Rattle.wtf_meta.proofs.Piecewise.{Covers-part, Covers-piece, Lays-pieces, Lays-no_pieces}
-use Rattle.wtf_meta.proofs.Appending.{keys_none, keys_rel, keys_laid, Appends-none, Appends-rel, Appends-laid, HasNoRoom-full}
-use Rattle.wtf_region.specs.declared.added.Added.TheVariants.{Done, TooBig}
+use Rattle.wtf_meta.proofs.Appending.{keys_none, keys_rel, keys_laid, Appends-none, Appends-rel, Appends-laid}
+use Rattle.wtf_region.specs.declared.added.Added.TheVariants.{Done}
 use Rattle.wtf_region.specs.Laid.{ArePiecePushes}
 use Rattle.wtf_region.specs.Edited.{Recorded, Edited, NamesOnly, CoversPart, LaysPieces, AddsPieces, IsAdded}
 use Rattle.wtf_region.proofs.LaidLaws.{pushes_more, first_pieces_more, laid_all, laid_nothing}
@@ -144,12 +144,3 @@ adds_laid b i v ps a m n some full recorded laid =
       exact = record { none = λ e. absurd (some e); fits = λ more room. absurd (omega (arith, full, room)); laid = λ more here. lays.exact };
       names = lays.names;
     })))
-
--- those that would pass the greatest length
-pub adds_too_many : (b : ℕ) (i : InodeId) (v : FileView) (ps : List Piece) (a m : Attempted Key Delta) → pieces_len ps ≢ 0
-    → b < end_of (v.region v.last) + pieces_len ps
-    → MAX_REGIONS * b < file_len b v + pieces_len ps → Recorded i (length_keys v) a m → IsAdded b i v ps a m TooBig
-adds_too_many b i v ps a m some full big recorded = record {
-  recorded = subst (λ (ks : List FileKey). Recorded i ks a m) (sym (keys_laid b v (pieces_len ps) some full)) recorded;
-  full = HasNoRoom-full b v (pieces_len ps) some full big;
-}

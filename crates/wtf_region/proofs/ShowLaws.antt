@@ -3,22 +3,20 @@ use Rattle.std.proofs.Common.{◌≡◌, ◌≢◌, ℕ, ◌+◌, ◌-◌, ◌<�
 use Rattle.std.proofs.Common.{Option, None, Some, is_some, refl, sym, ap, ◌∙◌, subst, arith, inl, inr, length-append, append_assoc}
 use Rattle.std.specs.Prelude.{not}
 use Rattle.std.specs.List.{All, filter}
-use Rattle.std.proofs.lemmas.Bool.{cond-true, cond-false, lt-ltb, le-ltb, le-leb, lt-leb, ne_eqb, cases_lt}
-use Rattle.std.proofs.lemmas.List.{append-nil, take_all, take_at, get_or_append_left, get_or-append_right}
+use Rattle.std.proofs.lemmas.Bool.{cond-true, cond-false, lt-ltb, le-ltb, lt-leb, ne_eqb, cases_lt}
+use Rattle.std.proofs.lemmas.List.{take_all, take_at, get_or_append_left, get_or-append_right}
 use Rattle.std.proofs.lemmas.List.Elements.{All-nil, All-cons, All-head, All-tail, All-push, All-weaker}
-use Rattle.std.proofs.lemmas.Option.{slice_get_within, get_or_from_slice_get}
 use Rattle.wtf_base.specs.declared.pointer.Pointer.{Pointer}
 use Rattle.wtf_base.specs.declared.slice.Slice.{Slice}
 use Rattle.wtf_base.specs.declared.fault.Fault.{Fault}
 use Rattle.wtf_base.specs.declared.fault.Fault.TheVariants as fault
-use Rattle.wtf_base.specs.Slices.{pointers_of, len_of}
+use Rattle.wtf_base.specs.Slices.{pointers_of}
 use Rattle.wtf_base.specs.Places.{places_of}
 use Rattle.wtf_dev.specs.Each.{EachFollows}
 use Rattle.wtf_dev.specs.Store.{StoreKind, KindLaws}
 use Rattle.wtf_overlay.specs.declared.part.Part.{Part}
 use Rattle.wtf_overlay.specs.declared.part.Part.TheVariants.{Zero, Held}
 use Rattle.wtf_overlay.specs.declared.part.Piece.{Piece}
-use Rattle.wtf_overlay.specs.Lengths.{HasLength}
 use Rattle.wtf_overlay.specs.Origin.{Place, part_origin, pieces_len, pieces_origin}
 use Rattle.wtf_overlay.specs.Meaning.{meaning}
 use Rattle.wtf_overlay.proofs.Meanings.{All-meaning, meaning-All}
@@ -115,15 +113,6 @@ copy_lives kind down shelf s off out shows n len = record {
   shows = λ i b below told. shows i b (omega (arith, below, len)) (up_tells down (byte_at kind shelf) b (places_of s (off + i)) told);
 }
 
--- it was read from a server that is up
-pub copy_up : {S : Type 0} {kind : StoreKind S} {t : Span S} {s : Slice} {off : ℕ} {out : List ℕ} {k : ℕ}
-    → IsFetched kind t s off out k → IsUpPart t.down (Held s)
-copy_up {t = t} {s = s} f = (
-  f.pointer,
-  (f.copy, slice_get_within (pointers_of s) f.copy f.pointer f.is_copy, get_or_from_slice_get (pointers_of s) f.copy f.pointer f.pointer f.is_copy),
-  ap t.down f.server ∙ f.up,
-)
-
 -- a slice that was not read is why its part was not shown
 pub part_fault : {S : Type 0} (kind : StoreKind S) (t : Span S) (part : Part) (s : Slice) → part ≡ Held s → (f : Fault) → IsReadFault kind t s f
     → IsPartFault kind t part f
@@ -132,10 +121,6 @@ part_fault kind t part s held fault.Write h = absurd h
 part_fault kind t part s held (fault.Punch k) h = absurd h
 part_fault kind t part s held (fault.Damaged k) h = absurd h
 part_fault kind t part s held fault.Memory h = absurd h
-
--- a slice in a piece has its length
-pub held_len : (n : ℕ) (part : Part) (s : Slice) → part ≡ Held s → HasLength n part → len_of s ≡ n
-held_len n part s is h = subst (λ (x : Part). HasLength n x) is h
 
 -- what was read, and more
 gives_more : (reading : Reading) (n m k : ℕ) (f g : ℕ → List Place) (old mid new : List ℕ) → k ≡ n + m → Gives reading n f old mid → Gives reading m g mid new
@@ -160,13 +145,6 @@ gives_more reading n m k f g old mid new e first next follows =
       };
     }
 
-gives_none : (reading : Reading) (n : ℕ) (f : ℕ → List Place) (old : List ℕ) → n ≡ 0 → Gives reading n f old old
-gives_none reading n f old none = record {
-  bytes = [];
-  more = sym (append-nil old);
-  are = record { len = sym none; shows = λ i b below tells. absurd (omega (arith, below, none)) };
-}
-
 -- what a reading gives, one that gives no more does
 gives_since : (was now : Reading) → ((qs : List Place) (b : ℕ) → was qs ≡ Some b → now qs ≡ Some b) → (n : ℕ) (f : ℕ → List Place) (old new : List ℕ)
     → Gives now n f old new → Gives was n f old new
@@ -183,9 +161,6 @@ shown_more down told n m k f g old mid new e first next follows = record {
   shown = gives_more (meaning told) n m k f g old mid new e first.shown next.shown follows;
   live = gives_more (meaning_up down told) n m k f g old mid new e first.live next.live follows;
 }
-
-pub shown_none : (down : ℕ → Bool) (told : Place → Option ℕ) (n : ℕ) (f : ℕ → List Place) (old : List ℕ) → n ≡ 0 → ShownBoth down told n f old old
-shown_none down told n f old none = record { shown = gives_none (meaning told) n f old none; live = gives_none (meaning_up down told) n f old none }
 
 -- what a later state of the stores shows an earlier one does
 pub shown_since : {S : Type 0} {kind : StoreKind S} → KindLaws kind → {before mid : List S} → EachFollows kind before mid []
@@ -246,23 +221,6 @@ pub record Walk (ps : List Piece) (off len : ℕ) (rest : List Piece) (skip left
   pub short : skip + left ≤ pieces_len rest
   pub origin : (i : ℕ) → i < left → pieces_origin ps (off + (len - left + i)) ≡ pieces_origin rest (skip + i)
 
-pub walk_start : (ps : List Piece) (off len : ℕ) → off + len ≤ pieces_len ps → Walk ps off len ps off len
-walk_start ps off len h = record {
-  within = omega arith;
-  short = h;
-  origin = λ i below. ap (pieces_origin ps) (let e : off + (len - len + i) ≡ off + i = omega arith in e);
-}
-
--- a piece is skipped
-pub walk_skip : (ps : List Piece) (off len : ℕ) (p : Piece) (rest : List Piece) (skip left : ℕ) → Walk ps off len (p ∷ rest) skip left → p.len ≤ skip
-    → Walk ps off len rest (skip - p.len) left
-walk_skip ps off len p rest skip left w past = record {
-  within = w.within;
-  short = omega (arith, w.short, past);
-  origin = λ i below. w.origin i below ∙ cond-false _ _ _ (le-ltb (skip + i) p.len (omega (arith, past)))
-      ∙ ap (pieces_origin rest) (let e : skip + i - p.len ≡ skip - p.len + i = omega (arith, past) in e);
-}
-
 -- and a part of one is shown
 pub walk_part : (ps : List Piece) (off len : ℕ) (p : Piece) (rest : List Piece) (skip left n : ℕ) → Walk ps off len (p ∷ rest) skip left → skip < p.len
     → n ≡ min left (p.len - skip)
@@ -283,9 +241,6 @@ pub walk_here : (ps : List Piece) (off len : ℕ) (p : Piece) (rest : List Piece
 walk_here ps off len p rest skip left n i w before is below =
     sym (w.origin i (omega (arith, is, below)) ∙ cond-true _ _ _ (lt-ltb (skip + i) p.len (omega (arith, is, before, below))))
 
-in_skip : (p : Piece) (rest : List Piece) (skip left : ℕ) → left ≢ 0 → p.len ≤ skip → pieces_in skip left (p ∷ rest) ≡ pieces_in (skip - p.len) left rest
-in_skip p rest skip left some past = cond-false (nat_eq left 0) _ _ (ne_eqb left 0 some) ∙ cond-true (nat_le p.len skip) _ _ (le-leb p.len skip past)
-
 in_part : (p : Piece) (rest : List Piece) (skip left n : ℕ) → left ≢ 0 → skip < p.len → n ≡ min left (p.len - skip)
     → pieces_in skip left (p ∷ rest) ≡ p ∷ pieces_in 0 (left - n) rest
 in_part p rest skip left n some before is = cond-false (nat_eq left 0) _ _ (ne_eqb left 0 some) ∙ cond-false (nat_le p.len skip) _ _ (lt-leb p.len skip before)
@@ -296,14 +251,6 @@ pub record Passed (down : ℕ → Bool) (all rest : List Piece) : Type 0 where
   pub done : List Piece
   pub split : all ≡ done ++ rest
   pub up : All (λ (p : Piece). IsUpPart down p.part) done
-
-pub passed_none : (down : ℕ → Bool) (all : List Piece) → Passed down all all
-passed_none down all = record { done = []; split = refl; up = All-nil (λ (p : Piece). IsUpPart down p.part) }
-
-pub passed_skip : (down : ℕ → Bool) (all : List Piece) (p : Piece) (rest : List Piece) (skip left : ℕ) → left ≢ 0 → p.len ≤ skip
-    → Passed down all (pieces_in skip left (p ∷ rest))
-    → Passed down all (pieces_in (skip - p.len) left rest)
-passed_skip down all p rest skip left some past h = subst (Passed down all) (in_skip p rest skip left some past) h
 
 passed_one : (down : ℕ → Bool) (all : List Piece) (p : Piece) (rest : List Piece) → Passed down all (p ∷ rest) → IsUpPart down p.part → Passed down all rest
 passed_one down all p rest h up = record {

@@ -1,21 +1,17 @@
 -- Parts of what a verb makes of a transaction: the refusals that do not come, want of memory, and a transaction as it was.
-use Rattle.std.proofs.Common.{◌≡◌, ◌≢◌, ◌<◌, ◌≤◌, Bool, length, Option, None, Some, Ok, Result, sym, ap, ◌∙◌, subst, arith, ⊎_elim}
+use Rattle.std.proofs.Common.{◌≡◌, ◌≢◌, ◌<◌, ◌≤◌, Bool, length, Option, None, Some, sym, ap, ◌∙◌, subst, arith, ⊎_elim}
 use Rattle.std.specs.Prelude.{if◌then◌else◌, IfSome}
 use Rattle.std.specs.Option.{option_map}
 use Rattle.std.proofs.lemmas.Bool.{cases_lt, eq-eqb, ne_eqb, lt-leb}
-use Rattle.wtf_base.specs.declared.fault.Fault.{Fault}
 use Rattle.wtf_occ.specs.Attempts.{Attempted}
 use Rattle.wtf_values.specs.declared.key.Key.{Key}
 use Rattle.wtf_values.specs.declared.value.Delta.{Delta}
-use Rattle.wtf_model.specs.declared.answer.Answer.{Answer}
 use Rattle.wtf_model.specs.declared.answer.Answer.TheVariants as answer
-use Rattle.wtf_model.specs.declared.answer.Word.{Word}
 use Rattle.wtf_model.specs.declared.answer.Word.TheVariants.{Replaying, Full, Live}
 use Rattle.wtf_model.specs.declared.limits.TheConstants.{MAX_LOGGED}
 use Rattle.wtf_meta.specs.Sessions.{SessionView}
 use Rattle.wtf_replay.specs.Views.{TxnView, is_full}
 use Rattle.wtf_replay.specs.Refusals.{unmade, try_refusal, step_refusal}
-use Rattle.wtf_replay.specs.Verbs.{Turn}
 
 -- a live transaction whose log has room refuses no call
 pub unmade_none : (x : TxnView) → x.replayed ≡ length x.log.ops → length x.log.ops ≢ MAX_LOGGED → length x.log.ops ≤ MAX_LOGGED → unmade x ≡ None
@@ -36,15 +32,6 @@ step_none x left = ap (λ (b : Bool). if b then Some Live else None) (ne_eqb x.r
 -- what is said of a refusal, where there is none
 pub if_none : {A : Type 0} (o : Option A) (P : A → Type 0) → o ≡ None → IfSome o P
 if_none o P none = subst (λ q. IfSome q P) (sym none) tt
-
--- one that does leaves the transaction
-pub refused_there : {S : Type 0} (t : Turn S) (r : Result Answer Fault) → IfSome (step_refusal t.old) (λ w. (r ≡ Ok (answer.Refused w)) × (t.new ≡ t.old) × (t.after ≡ t.before))
-    → IfSome (step_refusal t.old) (λ w. (r ≡ Ok (answer.Refused w)) × (t.new ≡ t.old))
-refused_there t r h = by (step_refusal t.old) h
-  where
-    by : (o : Option Word) → IfSome o (λ w. (r ≡ Ok (answer.Refused w)) × (t.new ≡ t.old) × (t.after ≡ t.before)) → IfSome o (λ w. (r ≡ Ok (answer.Refused w)) × (t.new ≡ t.old))
-    by None h = tt
-    by (Some w) h = (h.0, h.1)
 
 -- a transaction whose attempt and session are what they were
 pub put_back : (x : TxnView) (at : Attempted Key Delta) (session : SessionView) → at ≡ x.at → session ≡ x.session → record x { at = at; session = session } ≡ x

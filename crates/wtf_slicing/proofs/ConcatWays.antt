@@ -1,5 +1,5 @@
 -- Each way through a call that makes a file of others, on all maps at once.
-use Rattle.std.proofs.Common.{◌≡◌, ℕ, ◌-◌, ◌*◌, ◌^◌, ◌<◌, ◌≤◌, min, List, [], ◌++◌, length, append-nil, Ok, Err, refl, sym, ap, ◌∙◌, subst, arith}
+use Rattle.std.proofs.Common.{◌≡◌, ℕ, ◌-◌, ◌*◌, ◌^◌, ◌<◌, ◌≤◌, min, List, [], ◌++◌, length, Ok, Err, refl, sym, ap, ◌∙◌, subst, arith}
 use Rattle.wtf_base.specs.declared.ids.InodeId.{InodeId}
 use Rattle.wtf_kv.specs.Edits.{Agree}
 use Rattle.wtf_kv.proofs.EditLaws.{Agree-parts, Fits-append}
@@ -69,14 +69,7 @@ gathers keys edits lists = record { keys = keys; edits = edits; facts = []; stor
 abbrev pub all_keys : Map → List ℕ → List (List ℕ) → List InodeId → List Key
 all_keys b q ps is = target_keys b q ++ (sources_keys b ps ++ files_keys b is)
 
--- the keys of a call that found its target, and then its sources
-pub concat_keys_stop : (b : Map) (q dir : List ℕ) (ps : List (List ℕ)) (word : Word) → target_of b q ≡ Ok dir → sources_of b ps ≡ Err word
-    → concat_keys b q ps ≡ target_keys b q ++ sources_keys b ps
-concat_keys_stop b q dir ps word e f =
-    ap (λ r. target_keys b q ++ keys_if r (sources_keys b ps ++ found_keys b (sources_of b ps))) e
-    ∙ ap (λ r. target_keys b q ++ (sources_keys b ps ++ found_keys b r)) f
-    ∙ ap (λ (l : List Key). target_keys b q ++ l) (append-nil (sources_keys b ps))
-
+-- the keys of a call that found its target and its sources
 pub concat_keys_are : (b : Map) (q dir : List ℕ) (ps : List (List ℕ)) (is : List InodeId) → target_of b q ≡ Ok dir → sources_of b ps ≡ Ok is
     → concat_keys b q ps ≡ all_keys b q ps is
 concat_keys_are b q dir ps is e f =

@@ -12,7 +12,6 @@ mod KeysRead
 mod MakeWays
 mod CopyWays
 mod ConcatWays
-mod NameBytes
 mod Dispatch
 pub mod InsideSlices
 mod MadeWays

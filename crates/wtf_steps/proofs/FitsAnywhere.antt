@@ -1,5 +1,5 @@
 -- Changes of a file that fit the file that a map shows fit on the map, also where it has values of other kinds there.
-use Rattle.std.proofs.Common.{◌≡◌, ◌≢◌, ◌⊎◌, ℕ, Bool, true, false, if◌then◌else◌, nat_eq, nat_le, nat_lt, ◌+◌, ◌&&◌, arith, List, [], ◌∷◌, Option, None, Some}
+use Rattle.std.proofs.Common.{◌≡◌, ◌≢◌, ℕ, Bool, true, false, if◌then◌else◌, nat_eq, nat_le, nat_lt, ◌+◌, ◌&&◌, arith, List, [], ◌∷◌, Option, None, Some}
 use Rattle.std.proofs.Common.{refl, ap, sym, ◌∙◌, subst, inl, inr, cond}
 use Rattle.std.proofs.lemmas.Bool.{cases_eq, cond-true, cond-false, eq-eqb, ne_eqb, and_parts}
 use Rattle.std.proofs.lemmas.Bool.Decides.{nat_tests}
@@ -32,13 +32,6 @@ use Rattle.wtf_meta.proofs.Fitting.{fits_here, AllFit-more}
 -- what the key of a region has is of another kind, or it is the file's region
 abbrev Tells : InodeId → Map → FileView → Type 0
 Tells i w v = (r : ℕ) → IsRegion (w (Region i r)) → region_of (w (Region i r)) ≡ v.region r
-
-is_region : (now : Option Value) → IsRegion now ⊎ (IsRegion now → ⊥)
-is_region None = inl tt
-is_region (Some (value.Region v)) = inl tt
-is_region (Some (value.Last n)) = inr (λ h. h)
-is_region (Some (value.Names s)) = inr (λ h. h)
-is_region (Some (value.Node n)) = inr (λ h. h)
 
 -- a change of a region makes no region of another kind of value
 abbrev KeepsKind : Delta → Type 0

@@ -1,19 +1,18 @@
 -- Laws of the order of keys.
-use Rattle.std.proofs.Common.{◌≡◌, ◌≢◌, ℕ, ◌<◌, ◌≤◌, ◌^◌, true, false, ◌&&◌, nat_le, Some, refl, ap, sym, ◌∙◌, arith, inl, inr}
+use Rattle.std.proofs.Common.{◌≡◌, ◌≢◌, ℕ, ◌≤◌, true, false, ◌&&◌, nat_le, refl, ap, sym, ◌∙◌, arith, inl, inr}
 use Rattle.std.proofs.lemmas.Bool.{cases_Bool, and_from, and_parts, leb-true, le-leb}
 use Rattle.std.proofs.lemmas.Bool.Decides.{nat_tests}
 use Rattle.std.specs.BTreeMap.{is_at}
 use Rattle.std.specs.Cmp.{IsTotalOrder, eq_by_cmp_equiv}
-use Rattle.std.specs.Ordering.{nat_cmp, is_lt, is_le, is_eq, ordering_then, ordering_reverse}
+use Rattle.std.specs.Ordering.{nat_cmp, is_le, is_eq, ordering_then, ordering_reverse}
 use Rattle.std.specs.declared.cmp.Ordering.{Ordering}
 use Rattle.std.specs.declared.cmp.Ordering.TheVariants.{Less, Equal, Greater}
 use Rattle.wtf_base.specs.declared.ids.InodeId.{InodeId}
 use Rattle.wtf_kv.specs.Edits.{is_between}
-use Rattle.wtf_kv.specs.Order.{is_past}
 use Rattle.wtf_values.specs.declared.key.Key.{Key}
 use Rattle.wtf_values.specs.declared.key.Key.TheVariants.{Path, Dir, Inode, Region}
 use Rattle.wtf_values.specs.contracts.key.KeyOrd.TheImpl.Laws.{total-law}
-use Rattle.wtf_values.specs.Keys.{key_cmp, inode_cmp, is_region_within, is_region, last_inode, HasInode, same_inode, same_key}
+use Rattle.wtf_values.specs.Keys.{key_cmp, inode_cmp, is_region_within, same_inode, same_key}
 
 -- the order is total
 pub key_total : IsTotalOrder key_cmp
@@ -45,10 +44,6 @@ inode_itself i = equal_when (inode_cmp i i) (at_itself (Inode i))
 
 inode_flipped : (i j : InodeId) → inode_cmp j i ≡ ordering_reverse (inode_cmp i j)
 inode_flipped i j = key_total.antisymm (Inode j) (Inode i)
-
--- two regions of a file are in the order of their numbers
-pub regions_of_one : (i : InodeId) (r q : ℕ) → key_cmp (Region i r) (Region i q) ≡ nat_cmp r q
-regions_of_one i r q = ap (λ o. ordering_then o (nat_cmp r q)) (inode_itself i)
 
 le_is : (a b : ℕ) → is_le (nat_cmp a b) ≡ nat_le a b
 le_is a b = grind (arith, nat_tests)
@@ -100,42 +95,3 @@ between_other i j from to r differ = between_regions i from to (Region j r) ∙ 
   | inl same ↦ absurd (differ (same_inode i j (equal_when (inode_cmp i j) same)))
   | inr apart ↦ ap (λ b. b && (nat_le from r && nat_le r to)) apart
 ]
-
--- ---- regions come behind all other keys
-pub region_past_inode : (i j : InodeId) (r : ℕ) → is_past key_cmp (Some (Inode i)) (Region j r) ≡ true
-region_past_inode i j r = refl
-
--- past an inode that none is above, the keys are those of the regions
-pub past_inodes : (last : InodeId) (k : Key) → ((j : InodeId) → k ≡ Inode j → is_lt (inode_cmp last j) ≡ false) → is_past key_cmp (Some (Inode last)) k ≡ is_region k
-past_inodes last (Path p) none = refl
-past_inodes last (Dir p) none = refl
-past_inodes last (Inode j) none = none j refl
-past_inodes last (Region j r) none = refl
-
-not_less : (a b : ℕ) → b ≤ a → is_lt (nat_cmp a b) ≡ false
-not_less a b le = grind (arith, nat_tests)
-
-then_not_less : (o p : Ordering) → is_lt o ≡ false → is_lt p ≡ false → is_lt (ordering_then o p) ≡ false
-then_not_less Less p h k = h
-then_not_less Equal p h k = k
-then_not_less Greater p h k = refl
-
--- so it is past the greatest inode
-pub past_last_inode : (k : Key) → HasInode k → is_past key_cmp (Some (Inode last_inode)) k ≡ is_region k
-past_last_inode (Path p) h = refl
-past_last_inode (Dir p) h = refl
-past_last_inode (Inode j) h =
-    let tx : j.tx.0 < 2 ^ 64 = h.0 in
-    let index : j.index < 2 ^ 32 = h.1 in
-    then_not_less (nat_cmp last_inode.tx.0 j.tx.0) (nat_cmp last_inode.index j.index) (not_less last_inode.tx.0 j.tx.0 (omega (arith, tx))) (not_less last_inode.index j.index (omega (arith, index)))
-past_last_inode (Region j r) h = refl
-
--- and past a region's key each key is a region's
-pub past_region : (k q : Key) → is_region k ≡ true → is_past key_cmp (Some k) q ≡ true → is_region q ≡ true
-past_region (Path p) q h past = absurd (cc)
-past_region (Dir p) q h past = absurd (cc)
-past_region (Inode i) q h past = absurd (cc)
-past_region (Region i r) (Path p) h past = absurd (cc)
-past_region (Region i r) (Dir p) h past = absurd (cc)
-past_region (Region i r) (Inode j) h past = absurd (cc)
-past_region (Region i r) (Region j s) h past = refl

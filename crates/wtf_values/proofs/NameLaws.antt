@@ -6,7 +6,7 @@ use Rattle.std.specs.Cmp.{tied_itself, eq_by_cmp_equiv}
 use Rattle.std.specs.Cmp.Lexicographic.{nat_list_cmp_total}
 use Rattle.std.specs.declared.cmp.Ordering.{Ordering}
 use Rattle.std.specs.declared.cmp.Ordering.TheVariants.{Less, Equal, Greater}
-use Rattle.std.specs.FinMap.{entries, entries_sorted, same_entries_map, get, contains_key-keys, get-insert, get-remove, get-empty, get-from_sorted, entries-insert, entries-from_sorted, empty_of_len, len-entries, len-insert, len-remove, len-empty, same_map, slice_cmp-IsAntisymmetric, nat_cmp-IsAntisymmetric}
+use Rattle.std.specs.FinMap.{same_entries_map, get, contains_key-keys, get-insert, get-remove, get-empty, get-from_sorted, entries-insert, entries-from_sorted, empty_of_len, len-entries, same_map, slice_cmp-IsAntisymmetric, nat_cmp-IsAntisymmetric}
 use Rattle.std.specs.FinMap.Entries.{by_order, put, find, where_key, below_all, is_sorted, is_sorted-put, is_sorted-where_key, find-where_key}
 use Rattle.std.specs.List.{list_any}
 use Rattle.std.proofs.lemmas.List.{get_or_default}
@@ -87,45 +87,13 @@ firsts : (names : List (List ℕ)) → map (λ (e : List ℕ × Unit {0}). e.0) 
 firsts [] = refl
 firsts (name ∷ names) = ap (λ rest. name ∷ rest) (firsts names)
 
-pairs : (es : List (List ℕ × Unit {0})) → as_entries (map (λ e. e.0) es) ≡ es
-pairs [] = refl
-pairs (e ∷ es) = ap (λ rest. e ∷ rest) (pairs es)
-
 -- the names of a set that is made of names that rise
 pub names_in-set_of : (names : List (List ℕ)) → Rise names → names_in (set_of names) ≡ names
 names_in-set_of names rise = ap (map (λ e. e.0)) (entries-from_sorted name_cmp (as_entries names) rise) ∙ firsts names
 
--- the names of a set rise
-pub names_rise : (s : NamesOf) → Rise (names_in s)
-names_rise s = subst (λ es. T (is_sorted name_cmp es)) (sym (pairs (entries s))) (entries_sorted s)
-
--- and a set is that of its names
-pub set_of-names_in : (s : NamesOf) → set_of (names_in s) ≡ s
-set_of-names_in s = same_entries_map (set_of (names_in s)) s (entries-from_sorted name_cmp (as_entries (names_in s)) (names_rise s) ∙ pairs (entries s))
-
 -- a set has a name where one of its names is it
 pub has-names : (s : NamesOf) (q : List ℕ) → has_name s q ≡ list_any (λ k. is_eq (name_cmp q k)) (names_in s)
 has-names s q = contains_key-keys s q
-
-mapped_length : {A B : Type 0} (f : A → B) (xs : List A) → length (map f xs) ≡ length xs
-mapped_length f [] = refl
-mapped_length f (x ∷ xs) = ap suc (mapped_length f xs)
-
--- how many names a set has
-pub count-none : length (names_in no_names) ≡ 0
-count-none = mapped_length (λ e. e.0) (entries no_names) ∙ sym (len-entries no_names) ∙ len-empty name_cmp (Unit {0})
-
-pub count-with : (s : NamesOf) (name : List ℕ) → length (names_in (with_name s name)) ≡ cond (has_name s name) (length (names_in s)) (length (names_in s) + 1)
-count-with s name =
-    let before : length (entries s) ≡ length (names_in s) = sym (mapped_length (λ e. e.0) (entries s)) in
-    mapped_length (λ e. e.0) (entries (with_name s name)) ∙ sym (len-entries (with_name s name)) ∙ len-insert nat_list_cmp_total s name tt
-    ∙ ap (λ n. cond (has_name s name) n (n + 1)) (len-entries s ∙ before)
-
-pub count-without : (s : NamesOf) (name : List ℕ) → length (names_in (without_name s name)) ≡ cond (has_name s name) (length (names_in s) - 1) (length (names_in s))
-count-without s name =
-    let before : length (entries s) ≡ length (names_in s) = sym (mapped_length (λ e. e.0) (entries s)) in
-    mapped_length (λ e. e.0) (entries (without_name s name)) ∙ sym (len-entries (without_name s name)) ∙ len-remove nat_list_cmp_total s name
-    ∙ ap (λ n. cond (has_name s name) (n - 1) n) (len-entries s ∙ before)
 
 -- what a test of two parts says of each
 pub left_of : (a b : Bool) → T (a && b) → T a

@@ -1,31 +1,17 @@
 -- Laws of what comes of changes.
 use Rattle.std.proofs.Common.{◌≡◌, ℕ, Bool, true, false, if◌then◌else◌, List, Option, None, Some, refl}
 use Rattle.std.proofs.lemmas.Bool.{cond-true, cond-false}
-use Rattle.wtf_kv.specs.declared.cell.Applied.TheVariants.{Is, Gone, Unfit}
-use Rattle.wtf_kv.specs.Edits.{fits, value_made}
+use Rattle.wtf_kv.specs.declared.cell.Applied.TheVariants.{Is, Unfit}
+use Rattle.wtf_kv.specs.Edits.{fits}
 use Rattle.wtf_overlay.specs.declared.part.Piece.{Piece}
 use Rattle.wtf_values.specs.declared.region.RegionValue.{RegionValue}
-use Rattle.wtf_values.specs.declared.value.Node as node
 use Rattle.wtf_values.specs.declared.value.Value.{Value}
 use Rattle.wtf_values.specs.declared.value.Value.TheVariants.{Node, Names, Last, Region}
 use Rattle.wtf_values.specs.declared.value.Delta.{Delta}
 use Rattle.wtf_values.specs.declared.value.Delta.TheVariants.{Push, PushRel, Clip, ZeroWithin, RaiseLast, SetLast, DirAdd, DirDel, Put, Remove}
 use Rattle.wtf_values.specs.Names.{NamesOf}
-use Rattle.wtf_values.specs.Regions.{emptied, or_empty, zeroed, with_pieces, fits_at_end, added}
+use Rattle.wtf_values.specs.Regions.{emptied, or_empty, zeroed, with_pieces, fits_at_end}
 use Rattle.wtf_values.specs.Outcomes.{applied, makes_region, outcome_region, outcome_last, outcome_names, outcome_kind, outcome_of}
-
--- a change that neither sets nor takes out goes by the kind of the value
-pub outcome_by_kind : (now : Option Value) (d : Delta) → ((v : Value) → d ≡ Put v → ⊥) → (d ≡ Remove → ⊥) → outcome_kind now d ≡ outcome_of now d
-outcome_by_kind now (Push e) put remove = refl
-outcome_by_kind now (PushRel ps b) put remove = refl
-outcome_by_kind now (Clip end) put remove = refl
-outcome_by_kind now (ZeroWithin from upto) put remove = refl
-outcome_by_kind now (RaiseLast r) put remove = refl
-outcome_by_kind now (SetLast r) put remove = refl
-outcome_by_kind now (DirAdd name) put remove = refl
-outcome_by_kind now (DirDel name) put remove = refl
-outcome_by_kind now (Put v) put remove = absurd (put v refl)
-outcome_by_kind now Remove put remove = absurd (remove refl)
 
 -- whether a change is one that may not fit
 abbrev pub is_relative : Delta → Bool
@@ -47,36 +33,12 @@ fits-missing ps b = rel_fits (fits_at_end None ps b) (with_pieces emptied ps)
 pub fits-region : (v : RegionValue) (ps : List Piece) (b : ℕ) → fits (outcome_of (Some (Region v)) (PushRel ps b)) ≡ fits_at_end (Some v) ps b
 fits-region v ps b = rel_fits (fits_at_end (Some v) ps b) (with_pieces v ps)
 
--- a value of another kind is left as it is
-pub rel_last : (n : ℕ) (ps : List Piece) (b : ℕ) → outcome_of (Some (Last n)) (PushRel ps b) ≡ Is (Last n)
-rel_last n ps b = refl
-
-pub rel_names : (s : NamesOf) (ps : List Piece) (b : ℕ) → outcome_of (Some (Names s)) (PushRel ps b) ≡ Is (Names s)
-rel_names s ps b = refl
-
-pub rel_node : (n : node.Node) (ps : List Piece) (b : ℕ) → outcome_of (Some (Node n)) (PushRel ps b) ≡ Is (Node n)
-rel_node n ps b = refl
-
 -- what comes of pieces that fit, and of such that do not
 pub outcome-fits : (now : Option RegionValue) (ps : List Piece) (b : ℕ) → fits_at_end now ps b ≡ true → outcome_region now (PushRel ps b) ≡ Is (Region (with_pieces (or_empty now) ps))
 outcome-fits now ps b h = cond-true (fits_at_end now ps b) _ _ h
 
 pub outcome-unfit : (now : Option RegionValue) (ps : List Piece) (b : ℕ) → fits_at_end now ps b ≡ false → outcome_region now (PushRel ps b) ≡ Unfit
 outcome-unfit now ps b h = cond-false (fits_at_end now ps b) _ _ h
-
--- the value of a region that may be missing
-abbrev pub as_value : Option RegionValue → Option Value
-as_value None = None
-as_value (Some v) = Some (Region v)
-
-rel_made : (b : Bool) (now : Option RegionValue) (v : RegionValue) → value_made (if b then Is (Region v) else Unfit) (as_value now) ≡ as_value (if b then Some v else now)
-rel_made true now v = refl
-rel_made false now v = refl
-
--- pieces are added where they fit, and else the value stays
-pub made-added : (now : Option RegionValue) (ps : List Piece) (b : ℕ) → value_made (outcome_of (as_value now) (PushRel ps b)) (as_value now) ≡ as_value (added now ps b)
-made-added None ps b = rel_made (fits_at_end None ps b) None (with_pieces emptied ps)
-made-added (Some v) ps b = rel_made (fits_at_end (Some v) ps b) (Some v) (with_pieces v ps)
 
 region_fits : (now : Option RegionValue) (d : Delta) → is_relative d ≡ false → fits (outcome_region now d) ≡ true
 region_fits now (Push e) h = refl
@@ -146,16 +108,3 @@ makes_of_empty (DirAdd name) makes = absurd (cc)
 makes_of_empty (DirDel name) makes = absurd (cc)
 makes_of_empty (Put v) makes = absurd (cc)
 makes_of_empty Remove makes = absurd (cc)
-
--- and any other leaves a missing value missing
-pub leaves_missing : (d : Delta) → makes_region d ≡ false → outcome_region None d ≡ Gone
-leaves_missing (Push e) leaves = absurd (cc)
-leaves_missing (PushRel ps b) leaves = absurd (cc)
-leaves_missing (Clip end) leaves = absurd (cc)
-leaves_missing (ZeroWithin from upto) leaves = refl
-leaves_missing (RaiseLast r) leaves = refl
-leaves_missing (SetLast r) leaves = refl
-leaves_missing (DirAdd name) leaves = refl
-leaves_missing (DirDel name) leaves = refl
-leaves_missing (Put v) leaves = refl
-leaves_missing Remove leaves = refl

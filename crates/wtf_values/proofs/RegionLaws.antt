@@ -3,7 +3,7 @@ use Rattle.std.proofs.Common.{◌≡◌, ℕ, ◌+◌, ◌-◌, ◌<◌, ◌≤�
 use mathlib.Core.HLevel.{is_prop→PathP}
 use Rattle.std.proofs.Props.{props}
 use Rattle.std.specs.Coded.{le_prop}
-use Rattle.std.proofs.lemmas.Bool.{cases_lt, cond-true, cond-false, lt-ltb, le-leb, lt-leb, leb-true}
+use Rattle.std.proofs.lemmas.Bool.{cases_lt, cond-true, lt-ltb, le-leb, lt-leb}
 use Rattle.wtf_overlay.specs.declared.part.Entry.{Entry}
 use Rattle.wtf_overlay.specs.declared.part.Piece.{Piece}
 use Rattle.wtf_overlay.specs.declared.part.Part.TheVariants.{Zero}
@@ -13,7 +13,7 @@ use Rattle.wtf_overlay.proofs.Clipping.{entry_eq}
 use Rattle.wtf_values.specs.declared.region.RegionValue.{RegionValue}
 use Rattle.wtf_values.specs.declared.region.Spill.{Spill}
 use Rattle.wtf_values.specs.Bases.{IsBelow, IsBelow_prop, IsBelow-more, seen_upto, base_below}
-use Rattle.wtf_values.specs.Regions.{or_empty, pushed, clipped, zero_entry, zero_case, zeroed_in, entry_at, piece_case, with_piece, with_pieces, fits_at_end, added}
+use Rattle.wtf_values.specs.Regions.{or_empty, pushed, clipped, zero_entry, zero_case, zeroed_in, entry_at, piece_case, with_piece, with_pieces, fits_at_end}
 
 -- that no entry passes an end is a proposition
 pub Within_prop : (end : ℕ) (es : List Entry) → IsProp (Within end es)
@@ -22,9 +22,6 @@ Within_prop end es = hlevel props
 -- what is seen of a base up to a number above 0, and up to none
 pub seen_some : (s : Spill) (n : ℕ) → 0 < n → seen_upto s n ≡ Some (record s { visible = n })
 seen_some s n some = cond-true (nat_lt 0 n) (Some (record s { visible = n })) None (lt-ltb 0 n some)
-
-pub seen_none : (s : Spill) → seen_upto s 0 ≡ None
-seen_none s = refl
 
 -- nothing is left of a base below 0
 pub base_below-zero : (base : Option Spill) → base_below 0 base ≡ None
@@ -37,18 +34,6 @@ base_below-whole end None below = refl
 base_below-whole end (Some s) below =
     let e : min s.visible end ≡ s.visible = omega (arith, below.1) in
     ap (seen_upto s) e ∙ seen_some s s.visible below.0
-
-seen_twice : (s : Spill) (k end : ℕ) (c : (0 < k) ⊎ (k ≤ 0)) → base_below end (seen_upto s k) ≡ seen_upto s (min k end)
-seen_twice s k end (inl some) = ap (base_below end) (seen_some s k some)
-seen_twice s k end (inr none) =
-    ap (λ n. base_below end (seen_upto s n)) (let e : k ≡ 0 = omega arith in e) ∙ ap (seen_upto s) (let e : 0 ≡ min k end = omega arith in e)
-
--- what is left below one end and then another is what is left below the lesser of them
-pub base_below-twice : (first next : ℕ) (base : Option Spill) → base_below next (base_below first base) ≡ base_below (min first next) base
-base_below-twice first next None = refl
-base_below-twice first next (Some s) =
-    seen_twice s (min s.visible first) next (cases_lt 0 (min s.visible first))
-    ∙ ap (seen_upto s) (let e : min (min s.visible first) next ≡ min s.visible (min first next) = omega arith in e)
 
 -- regions are equal where their ends, bases and entries are
 pub region_eq : (v w : RegionValue) → v.end ≡ w.end → v.base ≡ w.base → v.list ≡ w.list → v ≡ w
@@ -63,15 +48,6 @@ region_eq v w e b l = λ i. record {
 -- pieces fit where they end at b at most
 pub fits_when : (now : Option RegionValue) (ps : List Piece) (b : ℕ) → (or_empty now).end + pieces_len ps ≤ b → fits_at_end now ps b ≡ true
 fits_when now ps b le = le-leb ((or_empty now).end + pieces_len ps) b le
-
-pub fits_only : (now : Option RegionValue) (ps : List Piece) (b : ℕ) → fits_at_end now ps b ≡ true → (or_empty now).end + pieces_len ps ≤ b
-fits_only now ps b fits = leb-true ((or_empty now).end + pieces_len ps) b fits
-
-pub added_fits : (now : Option RegionValue) (ps : List Piece) (b : ℕ) → fits_at_end now ps b ≡ true → added now ps b ≡ Some (with_pieces (or_empty now) ps)
-added_fits now ps b fits = cond-true (fits_at_end now ps b) _ _ fits
-
-pub added_large : (now : Option RegionValue) (ps : List Piece) (b : ℕ) → fits_at_end now ps b ≡ false → added now ps b ≡ now
-added_large now ps b large = cond-false (fits_at_end now ps b) _ _ large
 
 piece_fits : (v : RegionValue) (p : Piece) (fits : v.end + p.len < 2 ^ 32) (c : (v.end + p.len < 2 ^ 32) ⊎ (2 ^ 32 ≤ v.end + p.len)) → piece_case v p c ≡ pushed (Some v) (entry_at v.end p fits)
 piece_fits v p fits (inl h) = ap (λ (k : v.end + p.len < 2 ^ 32). pushed (Some v) (entry_at v.end p k)) (le_prop h fits)
@@ -88,16 +64,6 @@ with_piece-entry v p e fits off len part = ap (pushed (Some v)) (entry_eq e (ent
 pub with_piece-end : (v : RegionValue) (p : Piece) → v.end + p.len < 2 ^ 32 → (with_piece v p).end ≡ v.end + p.len
 with_piece-end v p fits = ap (λ (w : RegionValue). w.end) (with_piece-fits v p fits) ∙ (let e : max v.end (v.end + p.len) ≡ v.end + p.len = omega arith in e)
 
-pub with_piece-base : (v : RegionValue) (p : Piece) → (with_piece v p).base ≡ v.base
-with_piece-base v p = by_case (cases_lt (v.end + p.len) (2 ^ 32))
-  where
-    by_case : (c : (v.end + p.len < 2 ^ 32) ⊎ (2 ^ 32 ≤ v.end + p.len)) → (piece_case v p c).base ≡ v.base
-    by_case (inl fits) = refl
-    by_case (inr large) = refl
-
-pub with_piece-list : (v : RegionValue) (p : Piece) (fits : v.end + p.len < 2 ^ 32) → (with_piece v p).list ≡ v.list ++ entry_at v.end p fits ∷ []
-with_piece-list v p fits = ap (λ (w : RegionValue). w.list) (with_piece-fits v p fits)
-
 -- pieces one after another
 pub with_pieces-append : (v : RegionValue) (ps qs : List Piece) → with_pieces v (ps ++ qs) ≡ with_pieces (with_pieces v ps) qs
 with_pieces-append v [] qs = refl
@@ -113,11 +79,6 @@ with_pieces-end v (p ∷ ps) fits =
     let here : (with_piece v p).end ≡ v.end + p.len = with_piece-end v p (omega arith) in
     let rest : (with_pieces (with_piece v p) ps).end ≡ (with_piece v p).end + pieces_len ps = with_pieces-end (with_piece v p) ps (omega (arith, here)) in
     rest ∙ omega (arith, here)
-
--- and leave the base
-pub with_pieces-base : (v : RegionValue) (ps : List Piece) → (with_pieces v ps).base ≡ v.base
-with_pieces-base v [] = refl
-with_pieces-base v (p ∷ ps) = with_pieces-base (with_piece v p) ps ∙ with_piece-base v p
 
 zero_some_case : (v : RegionValue) (from upto : ℕ) (some : from < upto) (small : upto < 2 ^ 32) (c : (from < upto) ⊎ (upto ≤ from)) (d : (upto < 2 ^ 32) ⊎ (2 ^ 32 ≤ upto))
     → zero_case v from upto c d ≡ pushed (Some v) (zero_entry from upto some small)
@@ -148,17 +109,9 @@ zero_case-end v from upto le (inl some) (inl small) = omega arith
 zero_case-end v from upto le (inl some) (inr large) = refl
 zero_case-end v from upto le (inr none) d = refl
 
-zero_case-base : (v : RegionValue) (from upto : ℕ) (c : (from < upto) ⊎ (upto ≤ from)) (d : (upto < 2 ^ 32) ⊎ (2 ^ 32 ≤ upto)) → (zero_case v from upto c d).base ≡ v.base
-zero_case-base v from upto (inl some) (inl small) = refl
-zero_case-base v from upto (inl some) (inr large) = refl
-zero_case-base v from upto (inr none) d = refl
-
--- zeros leave the end and the base
+-- zeros leave the end
 pub zeroed_in-end : (from upto : ℕ) (v : RegionValue) → (zeroed_in from upto v).end ≡ v.end
 zeroed_in-end from upto v = zero_case-end v from (min upto v.end) (omega arith) (cases_lt from (min upto v.end)) (cases_lt (min upto v.end) (2 ^ 32))
-
-pub zeroed_in-base : (from upto : ℕ) (v : RegionValue) → (zeroed_in from upto v).base ≡ v.base
-zeroed_in-base from upto v = zero_case-base v from (min upto v.end) (cases_lt from (min upto v.end)) (cases_lt (min upto v.end) (2 ^ 32))
 
 -- a region whose end is not passed keeps its base under a cut, and one cut at 0 has none
 pub clipped-base_whole : (end : ℕ) (v : RegionValue) → v.end ≤ end → (clipped end (Some v)).base ≡ v.base
