@@ -149,9 +149,6 @@ not_some : {A : Type 0} (o : Option A) → o ≡ None → IsSome o → ⊥
 not_some None e h = absurd (cc)
 not_some (Some x) e h = absurd (cc)
 
-some_of : {A : Type 0} (o : Option A) (x : A) → o ≡ Some x → IsSome o
-some_of o x e = subst (λ o. IsSome o) (sym e) refl
-
 no_last : (o : Option Plain) → IsLastValue o → last_now o ≡ None → o ≡ None
 no_last None kind e = refl
 no_last (Some (NodeIs n)) kind e = absurd kind

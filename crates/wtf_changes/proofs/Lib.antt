@@ -9,3 +9,4 @@ pub mod Drafted
 pub mod Applied
 pub mod Steps
 pub mod Walking
+pub mod Counting

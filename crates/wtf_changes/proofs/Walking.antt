@@ -1,6 +1,6 @@
--- A walk over the keys of a store that have versions, by which what changed is listed.
-use Rattle.std.proofs.Common.{◌≡◌, ◌≢◌, ℕ, ◌<◌, Bool, true, false, cond, nat_lt, T, List, [], ◌∷◌, ◌++◌, map, Option, None, Some, is_some, refl, sym, ap, subst, ◌∙◌, ⊎_elim, arith}
-use Rattle.std.proofs.lemmas.Bool.{cases_Bool, both_ways, ltb-true}
+-- A walk over the keys of a store that changed, by which they are listed.
+use Rattle.std.proofs.Common.{◌≡◌, ◌≢◌, ℕ, ◌<◌, Bool, true, false, cond, T, List, [], ◌∷◌, ◌++◌, map, Option, None, Some, is_some, refl, sym, ap, subst, ◌∙◌, ⊎_elim}
+use Rattle.std.proofs.lemmas.Bool.{cases_Bool, both_ways}
 use Rattle.std.proofs.lemmas.List.{map-append}
 use Rattle.std.specs.declared.cmp.Ordering.{Ordering}
 use Rattle.std.specs.declared.cmp.Ordering.TheVariants.{Less, Equal, Greater}
@@ -10,10 +10,9 @@ use Rattle.std.specs.Cmp.Lexicographic.{slice_cmp, nat_list_cmp_total}
 use Rattle.std.specs.FinMap.{slice_cmp-IsAntisymmetric, nat_cmp-IsAntisymmetric}
 use Rattle.std.specs.FinMap.Entries.{find, is_sorted, below_all, find-append}
 use Rattle.wtf_base.specs.declared.ids.InodeId.{InodeId}
-use Rattle.wtf_kv.specs.Seen.{last_seen, reported, number_seen, has_any}
-use Rattle.wtf_kv.specs.Stores.{Store, versions_of, version_of}
-use Rattle.wtf_kv.specs.Order.{is_past, is_before, has_version, IsNextKey, IsReached, left_from}
-use Rattle.wtf_kv.proofs.KeyLaws.{between, reached, left_less}
+use Rattle.wtf_kv.specs.Stores.{Store}
+use Rattle.wtf_kv.specs.Order.{is_past, is_before, is_changed, IsNextChanged, left_from}
+use Rattle.wtf_kv.proofs.KeyLaws.{between_changed, left_changed}
 use Rattle.wtf_values.specs.Keys.{key_cmp, inode_cmp, same_key, same_inode}
 use Rattle.wtf_values.specs.declared.key.Key.{Key}
 use Rattle.wtf_values.specs.declared.key.Key.TheVariants.{Path, Dir, Inode, Region}
@@ -33,7 +32,7 @@ use Rattle.wtf_changes.specs.Texts.{changes_text}
 use Rattle.wtf_changes.specs.Writing.{AreWide}
 use Rattle.wtf_changes.specs.Drafts.{node_change}
 use Rattle.wtf_changes.specs.Since.{last_change, value_change, value_now, due, AreChangesOf, IsChangesOf}
-use Rattle.wtf_changes.specs.Walk.{with_key, key_added, AreRising, none_yet, AreInOrder}
+use Rattle.wtf_changes.specs.Walk.{with_key, AreRising, none_yet, AreInOrder}
 use Rattle.wtf_changes.proofs.Sets.{both, first, second, tied_is, rows-rise}
 use Rattle.wtf_changes.proofs.Files.{inode_total, place_total}
 
@@ -90,39 +89,39 @@ abbrev with_due : {K X : Type 0} → List (K × X) → K → Option X → List (
 with_due es k None = es
 with_due es k (Some v) = es ++ (k, v) ∷ []
 
-module _ (kv : Store Key Value) {K X : Type 0} (kind : Kind K) (now : K → Option X) (unseen : (k : K) → has_version key_cmp kv (kind.key k) ≡ false → now k ≡ None) where
+module _ (kv : Store Key Value) (since : ℕ) {K X : Type 0} (kind : Kind K) (now : K → Option X) (unseen : (k : K) → is_changed key_cmp kv since (kind.key k) ≡ false → now k ≡ None) where
   -- what is due of the keys that lie before one
   pub record Upto (at : Option Key) (es : List (K × X)) : Type 0 where
     pub sorted : T (is_sorted kind.order es)
     pub each : (k : K) → find kind.order k es ≡ cond (is_before key_cmp at (kind.key k)) (now k) None
 
-  skipped : (after next : Option Key) (k : K) → IsNextKey key_cmp kv after next → is_past key_cmp after (kind.key k) ≡ true → cond (is_before key_cmp next (kind.key k)) (now k) None ≡ None
+  skipped : (after next : Option Key) (k : K) → IsNextChanged key_cmp kv since after next → is_past key_cmp after (kind.key k) ≡ true → cond (is_before key_cmp next (kind.key k)) (now k) None ≡ None
   skipped after next k is past = ⊎_elim
-      (λ behind. ap (λ t. cond t (now k) None) behind ∙ unseen k (between key_cmp key_total same_key kv after next (kind.key k) is past behind))
+      (λ behind. ap (λ t. cond t (now k) None) behind ∙ unseen k (between_changed key_cmp key_total same_key kv since after next (kind.key k) is past behind))
       (λ off. ap (λ t. cond t (now k) None) off)
       (cases_Bool (is_before key_cmp next (kind.key k)))
 
-  pub begins : (next : Option Key) → IsNextKey key_cmp kv None next → Upto next []
+  pub begins : (next : Option Key) → IsNextChanged key_cmp kv since None next → Upto next []
   begins next is = record { sorted = tt; each = λ k. sym (skipped None next k is refl) }
 
   -- what lies before a key lies before the next one, and so does the key
-  before_next : (q p : Key) (next : Option Key) → IsNextKey key_cmp kv (Some q) next → key_cmp p q ≡ Less → is_before key_cmp next p ≡ true
+  before_next : (q p : Key) (next : Option Key) → IsNextChanged key_cmp kv since (Some q) next → key_cmp p q ≡ Less → is_before key_cmp next p ≡ true
   before_next q p None is lt = refl
   before_next q p (Some n) is lt = ap is_lt (key_total.trans p q n lt (less_is _ is.0))
 
-  at_next : (q : Key) (next : Option Key) → IsNextKey key_cmp kv (Some q) next → is_before key_cmp next q ≡ true
+  at_next : (q : Key) (next : Option Key) → IsNextChanged key_cmp kv since (Some q) next → is_before key_cmp next q ≡ true
   at_next q None is = refl
   at_next q (Some n) is = is.0
 
   -- by how a key of the kind compares with the one that the walk is at
-  by_place : (q : Key) (next : Option Key) → IsNextKey key_cmp kv (Some q) next → (k : K) (o : Ordering) → key_cmp (kind.key k) q ≡ o
+  by_place : (q : Key) (next : Option Key) → IsNextChanged key_cmp kv since (Some q) next → (k : K) (o : Ordering) → key_cmp (kind.key k) q ≡ o
       → cond (is_lt o) (now k) (cond (is_eq o) (now k) None) ≡ cond (is_before key_cmp next (kind.key k)) (now k) None
   by_place q next is k Less e = sym (ap (λ t. cond t (now k) None) (before_next q (kind.key k) next is e))
   by_place q next is k Equal e = sym (ap (λ t. cond t (now k) None) (subst (λ p. is_before key_cmp next p ≡ true) (sym (same_key (kind.key k) q e)) (at_next q next is)))
   by_place q next is k Greater e = sym (skipped (Some q) next k is (ap is_lt (key_total.antisymm q (kind.key k) ∙ ap ordering_reverse e)))
 
   -- a key of another kind
-  pub passes : (q : Key) (next : Option Key) (es : List (K × X)) → ((k : K) → key_cmp (kind.key k) q ≢ Equal) → IsNextKey key_cmp kv (Some q) next → Upto (Some q) es → Upto next es
+  pub passes : (q : Key) (next : Option Key) (es : List (K × X)) → ((k : K) → key_cmp (kind.key k) q ≢ Equal) → IsNextChanged key_cmp kv since (Some q) next → Upto (Some q) es → Upto next es
   passes q next es apart is so_far = record {
     sorted = so_far.sorted;
     each = λ k. so_far.each k ∙ off (key_cmp (kind.key k) q) (apart k) (now k) ∙ by_place q next is k (key_cmp (kind.key k) q) refl;
@@ -155,7 +154,7 @@ module _ (kv : Store Key Value) {K X : Type 0} (kind : Kind K) (now : K → Opti
     due-found (Some v) x = find-append kind.order kind.total es k v x fresh
 
     -- a key of the kind, with what is due of it
-    pub adds : (next : Option Key) → IsNextKey key_cmp kv (Some (kind.key k)) next → Upto next (with_due es k (now k))
+    pub adds : (next : Option Key) → IsNextChanged key_cmp kv since (Some (kind.key k)) next → Upto next (with_due es k (now k))
     adds next is = record {
       sorted = due-sorted (now k);
       each = λ x.
@@ -172,18 +171,12 @@ module _ (kv : Store Key Value) {K X : Type 0} (kind : Kind K) (now : K → Opti
 -- ---- the changes of a store
 
 module _ (kv : Store Key Value) (since : ℕ) where
-  no_version : (q : Key) → has_version key_cmp kv q ≡ false → version_of key_cmp kv kv.number q ≡ 0
-  no_version q h = by (versions_of key_cmp kv q) h
-    where
-      by : (vs : List (ℕ × Option Value)) → has_any vs ≡ false → number_seen (reported kv.pins (last_seen kv.number vs)) ≡ 0
-      by [] h = refl
-      by (v ∷ vs) h = absurd (cc)
+  -- what changes have of a key, if its version lies above the number
+  abbrev key_added : Key → ChangeRows → ChangeRows
+  key_added q x = cond (is_changed key_cmp kv since q) (with_key x q (shown kv q)) x
 
-  not_below : nat_lt since 0 ≡ false
-  not_below = ⊎_elim (λ t. absurd (omega (arith, ltb-true _ _ t))) (λ t. t) (cases_Bool (nat_lt since 0))
-
-  never : {X : Type 0} (q : Key) (now : Option X) → has_version key_cmp kv q ≡ false → due kv since q now ≡ None
-  never q now h = ap (λ n. cond (nat_lt since n) (Some now) None) (no_version q h) ∙ ap (λ b. cond b (Some now) None) not_below
+  never : {X : Type 0} (q : Key) (now : Option X) → is_changed key_cmp kv since q ≡ false → due kv since q now ≡ None
+  never q now h = ap (λ b. cond b (Some now) None) h
 
   abbrev path_due : List ℕ → Option (Option Node)
   path_due p = due kv since (Path p) (node_now (shown kv (Path p)))
@@ -194,28 +187,37 @@ module _ (kv : Store Key Value) (since : ℕ) where
   abbrev region_due : InodeId × ℕ → Option (Option ValueRow)
   region_due a = due kv since (Region a.0 a.1) (value_now (shown kv (Region a.0 a.1)))
 
-  pub no_path : (p : List ℕ) → has_version key_cmp kv (Path p) ≡ false → path_due p ≡ None
+  pub no_path : (p : List ℕ) → is_changed key_cmp kv since (Path p) ≡ false → path_due p ≡ None
   no_path p h = never (Path p) (node_now (shown kv (Path p))) h
 
-  pub no_file : (i : InodeId) → has_version key_cmp kv (Inode i) ≡ false → file_due i ≡ None
+  pub no_file : (i : InodeId) → is_changed key_cmp kv since (Inode i) ≡ false → file_due i ≡ None
   no_file i h = never (Inode i) (last_now (shown kv (Inode i))) h
 
-  pub no_region : (a : InodeId × ℕ) → has_version key_cmp kv (Region a.0 a.1) ≡ false → region_due a ≡ None
+  pub no_region : (a : InodeId × ℕ) → is_changed key_cmp kv since (Region a.0 a.1) ≡ false → region_due a ≡ None
   no_region a h = never (Region a.0 a.1) (value_now (shown kv (Region a.0 a.1))) h
 
-  -- a walk has come to a key that has a version, or to its end: what is due of the keys before it is listed
-  pub record Walked (at : Option Key) (x : ChangeRows) : Type 0 where
-    pub paths_are : Upto kv paths path_due no_path at (map node_change x.paths)
-    pub files_are : Upto kv files file_due no_file at (map last_change x.files)
-    pub regions_are : Upto kv regions region_due no_region at (map value_change x.regions)
-    pub has_version : IsReached key_cmp kv at
+  -- it is a key that changed, if it is one
+  abbrev pub IsAt : Option Key → Type 0
+  IsAt None = Unit {0}
+  IsAt (Some q) = is_changed key_cmp kv since q ≡ true
 
-  pub walk_begins : (x : ChangeRows) (next : Option Key) → x.paths ≡ [] → x.files ≡ [] → x.regions ≡ [] → IsNextKey key_cmp kv None next → Walked next x
+  is_at : (after next : Option Key) → IsNextChanged key_cmp kv since after next → IsAt next
+  is_at after None is = tt
+  is_at after (Some q) is = is.1
+
+  -- a walk has come to a key that changed, or to its end: what is due of the keys before it is listed
+  pub record Walked (at : Option Key) (x : ChangeRows) : Type 0 where
+    pub paths_are : Upto kv since paths path_due no_path at (map node_change x.paths)
+    pub files_are : Upto kv since files file_due no_file at (map last_change x.files)
+    pub regions_are : Upto kv since regions region_due no_region at (map value_change x.regions)
+    pub at_changed : IsAt at
+
+  pub walk_begins : (x : ChangeRows) (next : Option Key) → x.paths ≡ [] → x.files ≡ [] → x.regions ≡ [] → IsNextChanged key_cmp kv since None next → Walked next x
   walk_begins x next p f r is = record {
-    paths_are = subst (λ l. Upto kv paths path_due no_path next (map node_change l)) (sym p) (begins kv paths path_due no_path next is);
-    files_are = subst (λ l. Upto kv files file_due no_file next (map last_change l)) (sym f) (begins kv files file_due no_file next is);
-    regions_are = subst (λ l. Upto kv regions region_due no_region next (map value_change l)) (sym r) (begins kv regions region_due no_region next is);
-    has_version = reached key_cmp key_total same_key kv None next is;
+    paths_are = subst (λ l. Upto kv since paths path_due no_path next (map node_change l)) (sym p) (begins kv since paths path_due no_path next is);
+    files_are = subst (λ l. Upto kv since files file_due no_file next (map last_change l)) (sym f) (begins kv since files file_due no_file next is);
+    regions_are = subst (λ l. Upto kv since regions region_due no_region next (map value_change l)) (sym r) (begins kv since regions region_due no_region next is);
+    at_changed = is_at None next is;
   }
 
   path_more : (x : ChangeRows) (p : List ℕ) (b : Bool) (n : Option Node)
@@ -234,7 +236,7 @@ module _ (kv : Store Key Value) (since : ℕ) where
   region_more x i r false v = refl
 
   abbrev is_due : Key → Bool
-  is_due q = nat_lt since (version_of key_cmp kv kv.number q)
+  is_due q = is_changed key_cmp kv since q
 
   module _ (x : ChangeRows) (next : Option Key) where
     -- the fields of a choice between changes
@@ -254,60 +256,56 @@ module _ (kv : Store Key Value) (since : ℕ) where
     same_by true a = refl
     same_by false a = refl
 
-    module _ (q : Key) (walked : Walked (Some q) x) (is : IsNextKey key_cmp kv (Some q) next) where
+    module _ (q : Key) (walked : Walked (Some q) x) (is : IsNextChanged key_cmp kv since (Some q) next) where
       abbrev more : ChangeRows
-      more = key_added kv since q x
+      more = key_added q x
 
-      stay_paths : ((p : List ℕ) → key_cmp (Path p) q ≢ Equal) → more.paths ≡ x.paths → Upto kv paths path_due no_path next (map node_change more.paths)
-      stay_paths apart same = subst (λ l. Upto kv paths path_due no_path next (map node_change l)) (sym same) (passes kv paths path_due no_path q next (map node_change x.paths) apart is walked.paths_are)
+      stay_paths : ((p : List ℕ) → key_cmp (Path p) q ≢ Equal) → more.paths ≡ x.paths → Upto kv since paths path_due no_path next (map node_change more.paths)
+      stay_paths apart same = subst (λ l. Upto kv since paths path_due no_path next (map node_change l)) (sym same) (passes kv since paths path_due no_path q next (map node_change x.paths) apart is walked.paths_are)
 
-      stay_files : ((i : InodeId) → key_cmp (Inode i) q ≢ Equal) → more.files ≡ x.files → Upto kv files file_due no_file next (map last_change more.files)
-      stay_files apart same = subst (λ l. Upto kv files file_due no_file next (map last_change l)) (sym same) (passes kv files file_due no_file q next (map last_change x.files) apart is walked.files_are)
+      stay_files : ((i : InodeId) → key_cmp (Inode i) q ≢ Equal) → more.files ≡ x.files → Upto kv since files file_due no_file next (map last_change more.files)
+      stay_files apart same = subst (λ l. Upto kv since files file_due no_file next (map last_change l)) (sym same) (passes kv since files file_due no_file q next (map last_change x.files) apart is walked.files_are)
 
-      stay_regions : ((a : InodeId × ℕ) → key_cmp (Region a.0 a.1) q ≢ Equal) → more.regions ≡ x.regions → Upto kv regions region_due no_region next (map value_change more.regions)
+      stay_regions : ((a : InodeId × ℕ) → key_cmp (Region a.0 a.1) q ≢ Equal) → more.regions ≡ x.regions → Upto kv since regions region_due no_region next (map value_change more.regions)
       stay_regions apart same =
-          subst (λ l. Upto kv regions region_due no_region next (map value_change l)) (sym same) (passes kv regions region_due no_region q next (map value_change x.regions) apart is walked.regions_are)
+          subst (λ l. Upto kv since regions region_due no_region next (map value_change l)) (sym same) (passes kv since regions region_due no_region q next (map value_change x.regions) apart is walked.regions_are)
 
-      there : IsReached key_cmp kv next
-      there = reached key_cmp key_total same_key kv (Some q) next is
+      there : IsAt next
+      there = is_at (Some q) next is
 
-    pub walk_goes_on : (q : Key) → Walked (Some q) x → IsNextKey key_cmp kv (Some q) next → Walked next (key_added kv since q x)
+    pub walk_goes_on : (q : Key) → Walked (Some q) x → IsNextChanged key_cmp kv since (Some q) next → Walked next (key_added q x)
     walk_goes_on (Path p) walked is = record {
-      paths_are = subst (λ l. Upto kv paths path_due no_path next l)
+      paths_are = subst (λ l. Upto kv since paths path_due no_path next l)
           (sym (ap (map node_change) (paths_by (is_due (Path p)) (with_key x (Path p) (shown kv (Path p)))) ∙ path_more x p (is_due (Path p)) (node_now (shown kv (Path p)))))
-          (adds kv paths path_due no_path p (map node_change x.paths) walked.paths_are next is);
+          (adds kv since paths path_due no_path p (map node_change x.paths) walked.paths_are next is);
       files_are = stay_files (Path p) walked is (λ i e. absurd (cc)) (files_by (is_due (Path p)) (with_key x (Path p) (shown kv (Path p))) ∙ same_by (is_due (Path p)) x.files);
       regions_are = stay_regions (Path p) walked is (λ a e. absurd (cc)) (regions_by (is_due (Path p)) (with_key x (Path p) (shown kv (Path p))) ∙ same_by (is_due (Path p)) x.regions);
-      has_version = there (Path p) walked is;
+      at_changed = there (Path p) walked is;
     }
     walk_goes_on (Dir d) walked is = record {
       paths_are = stay_paths (Dir d) walked is (λ p e. absurd (cc)) (ap (λ (y : ChangeRows). y.paths) (same_by (is_due (Dir d)) x));
       files_are = stay_files (Dir d) walked is (λ i e. absurd (cc)) (ap (λ (y : ChangeRows). y.files) (same_by (is_due (Dir d)) x));
       regions_are = stay_regions (Dir d) walked is (λ a e. absurd (cc)) (ap (λ (y : ChangeRows). y.regions) (same_by (is_due (Dir d)) x));
-      has_version = there (Dir d) walked is;
+      at_changed = there (Dir d) walked is;
     }
     walk_goes_on (Inode i) walked is = record {
       paths_are = stay_paths (Inode i) walked is (λ p e. absurd (cc)) (paths_by (is_due (Inode i)) (with_key x (Inode i) (shown kv (Inode i))) ∙ same_by (is_due (Inode i)) x.paths);
-      files_are = subst (λ l. Upto kv files file_due no_file next l)
+      files_are = subst (λ l. Upto kv since files file_due no_file next l)
           (sym (ap (map last_change) (files_by (is_due (Inode i)) (with_key x (Inode i) (shown kv (Inode i)))) ∙ file_more x i (is_due (Inode i)) (last_now (shown kv (Inode i)))))
-          (adds kv files file_due no_file i (map last_change x.files) walked.files_are next is);
+          (adds kv since files file_due no_file i (map last_change x.files) walked.files_are next is);
       regions_are = stay_regions (Inode i) walked is (λ a e. absurd (cc)) (regions_by (is_due (Inode i)) (with_key x (Inode i) (shown kv (Inode i))) ∙ same_by (is_due (Inode i)) x.regions);
-      has_version = there (Inode i) walked is;
+      at_changed = there (Inode i) walked is;
     }
     walk_goes_on (Region i r) walked is = record {
       paths_are = stay_paths (Region i r) walked is (λ p e. absurd (cc)) (paths_by (is_due (Region i r)) (with_key x (Region i r) (shown kv (Region i r))) ∙ same_by (is_due (Region i r)) x.paths);
       files_are = stay_files (Region i r) walked is (λ j e. absurd (cc)) (files_by (is_due (Region i r)) (with_key x (Region i r) (shown kv (Region i r))) ∙ same_by (is_due (Region i r)) x.files);
-      regions_are = subst (λ l. Upto kv regions region_due no_region next l)
+      regions_are = subst (λ l. Upto kv since regions region_due no_region next l)
           (sym (ap (map value_change) (regions_by (is_due (Region i r)) (with_key x (Region i r) (shown kv (Region i r)))) ∙ region_more x i r (is_due (Region i r)) (value_now (shown kv (Region i r)))))
-          (adds kv regions region_due no_region (i, r) (map value_change x.regions) walked.regions_are next is);
-      has_version = there (Region i r) walked is;
+          (adds kv since regions region_due no_region (i, r) (map value_change x.regions) walked.regions_are next is);
+      at_changed = there (Region i r) walked is;
     }
 
   -- ---- with the two numbers
-
-  numbers_by : (b : Bool) (x y : ChangeRows) → (y.installs ≡ x.installs) × (y.next_tx ≡ x.next_tx) → ((cond b y x).installs ≡ x.installs) × ((cond b y x).next_tx ≡ x.next_tx)
-  numbers_by true x y same = same
-  numbers_by false x y same = (refl, refl)
 
   with_numbers : (x : ChangeRows) (q : Key) (now : Option Plain) → ((with_key x q now).installs ≡ x.installs) × ((with_key x q now).next_tx ≡ x.next_tx)
   with_numbers x (Path p) now = (refl, refl)
@@ -321,22 +319,26 @@ module _ (kv : Store Key Value) (since : ℕ) where
     pub next : x.next_tx ≡ next_tx
 
   module _ (next_tx : ℕ) (at : Option Key) (x : ChangeRows) where
-    pub walk_starts : x ≡ none_yet kv.number next_tx → IsNextKey key_cmp kv None at → WalkedWith next_tx at x
+    pub walk_starts : x ≡ none_yet kv.number next_tx → IsNextChanged key_cmp kv since None at → WalkedWith next_tx at x
     walk_starts e is = subst (WalkedWith next_tx at) (sym e) (record { walked = walk_begins (none_yet kv.number next_tx) at refl refl refl is; installs = refl; next = refl })
 
-    module _ (q : Key) (here : at ≡ Some q) (so_far : WalkedWith next_tx at x) (next : Option Key) (is : IsNextKey key_cmp kv (Some q) next) where
-      pub walk_steps : (y : ChangeRows) → y ≡ key_added kv since q x → WalkedWith next_tx next y
+    module _ (q : Key) (here : at ≡ Some q) (so_far : WalkedWith next_tx at x) (next : Option Key) (is : IsNextChanged key_cmp kv since (Some q) next) where
+      changed : is_due q ≡ true
+      changed = subst IsAt here so_far.walked.at_changed
+
+      pub walk_steps : (y : ChangeRows) → y ≡ with_key x q (shown kv q) → WalkedWith next_tx next y
       walk_steps y e =
-          let same = numbers_by (is_due q) x (with_key x q (shown kv q)) (with_numbers x q (shown kv q)) in
+          let same = with_numbers x q (shown kv q) in
+          let added : key_added q x ≡ with_key x q (shown kv q) = ap (λ b. cond b (with_key x q (shown kv q)) x) changed in
           subst (WalkedWith next_tx next) (sym e) (record {
-            walked = walk_goes_on x next q (subst (λ o. Walked o x) here so_far.walked) is;
+            walked = subst (Walked next) added (walk_goes_on x next q (subst (λ o. Walked o x) here so_far.walked) is);
             installs = same.0 ∙ so_far.installs;
             next = same.1 ∙ so_far.next;
           })
 
       pub walk_falls : left_from key_cmp kv next < left_from key_cmp kv at
       walk_falls = subst (λ o. left_from key_cmp kv next < left_from key_cmp kv o) (sym here)
-          (left_less key_cmp key_total same_key kv q next (subst (IsReached key_cmp kv) here so_far.walked.has_version) is)
+          (left_changed key_cmp key_total same_key kv since q next changed is)
 
   pub walk_ends : (next_tx : ℕ) (x : ChangeRows) → x.installs ≡ kv.number → x.next_tx ≡ next_tx → Walked None x → AreChangesOf kv since next_tx x
   walk_ends next_tx x installs next walked = record {

@@ -2,8 +2,7 @@
 use Rattle.std.specs.Prelude.{List, map}
 use Rattle.wtf_imagefmt.specs.Rows.{value_row}
 use Rattle.wtf_changes.specs.declared.draft.FileDraft.{FileDraft}
-use Rattle.wtf_changes.specs.declared.draft.Draft.{Draft}
-use Rattle.wtf_changes.specs.Drafts.{FileEntry, DraftRows}
+use Rattle.wtf_changes.specs.Drafts.{FileEntry}
 
 -- entries with each value as f tells
 abbrev pub seen : {K X Y : Type 0} → (X → Y) → List (K × X) → List (K × Y)
@@ -11,6 +10,3 @@ seen f es = map (λ e. (e.0, f e.1)) es
 
 abbrev pub file_entry : FileDraft → FileEntry
 file_entry f = record { last = f.last; regions = seen value_row f.regions.entries }
-
-abbrev pub draft_rows : Draft → DraftRows
-draft_rows d = record { header = d.header; paths = d.paths.entries; files = seen file_entry d.files.entries }

@@ -10,3 +10,4 @@ pub mod Law
 pub mod Kept
 pub mod Applying
 pub mod Walk
+pub mod Counted

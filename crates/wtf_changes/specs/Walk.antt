@@ -1,14 +1,12 @@
 -- What changes have of a key, and in which order they stand.
-use Rattle.std.specs.Prelude.{◌≡◌, ℕ, true, nat_lt, if◌then◌else◌, [], ◌∷◌, ◌++◌, Option}
-use Rattle.wtf_kv.specs.Stores.{Store, version_of}
-use Rattle.wtf_values.specs.Keys.{key_cmp}
+use Rattle.std.specs.Prelude.{◌≡◌, ℕ, true, [], ◌∷◌, ◌++◌, Option}
+use Rattle.wtf_kv.specs.Stores.{Store}
 use Rattle.wtf_values.specs.declared.key.Key.{Key}
 use Rattle.wtf_values.specs.declared.key.Key.TheVariants.{Path, Dir, Inode, Region}
 use Rattle.wtf_values.specs.declared.value.Value.{Value}
 use Rattle.wtf_imagefmt.specs.Lookups.{Plain}
 use Rattle.wtf_imagefmt.specs.Saving.{node_now, last_now}
 use Rattle.wtf_imagefmt.specs.Shapes.{ascends}
-use Rattle.wtf_imagefmt.specs.Shown.{shown}
 use Rattle.wtf_changes.specs.Rows.{ChangeRows}
 use Rattle.wtf_changes.specs.Shapes.{path_before, file_before, region_before}
 use Rattle.wtf_changes.specs.Since.{value_now, AreChangesOf}
@@ -19,10 +17,6 @@ with_key x (Path p) now = record x { paths = x.paths ++ record { path = p; node 
 with_key x (Dir d) now = x
 with_key x (Inode i) now = record x { files = x.files ++ record { inode = i; last = last_now now } ∷ [] }
 with_key x (Region i r) now = record x { regions = x.regions ++ record { inode = i; number = r; value = value_now now } ∷ [] }
-
--- if its version lies above a number
-abbrev pub key_added : Store Key Value → ℕ → Key → ChangeRows → ChangeRows
-key_added kv since q x = if nat_lt since (version_of key_cmp kv kv.number q) then with_key x q (shown kv q) else x
 
 -- all rows ascend
 pub record AreRising (x : ChangeRows) : Type 0 where

@@ -9,13 +9,14 @@ ghost use Rattle.wtf_values.specs.Keys.{inode_cmp};
 ghost use Rattle.wtf_imagefmt.specs.Rows.{value_row, region_rows as image_regions, file_rows, rows_of as image_rows};
 ghost use Rattle.wtf_changes.specs.Rows.{region_row, region_rows, rows_of};
 ghost use Rattle.wtf_changes.specs.Drafts.{set, set_all, node_taken, regions_taken, file_taken, taken, node_change, regions_kept, file_set, files_set, region_set, regions_set, changed, path_written, file_written, region_written, written};
-ghost use Rattle.wtf_changes.specs.Kept.{seen, file_entry, draft_rows};
+ghost use Rattle.wtf_changes.specs.Kept.{seen, file_entry};
 ghost use Rattle.wtf_changes.specs.Applying.{IsMade};
 
 use crate::ApplyError;
 use crate::records::{Changes, FileChange, PathChange, RegionChange};
 use std::alloc::Global;
 use std::collections::BTreeMap;
+use std::marker::Model;
 use wtf_base::{InodeId, OutOfMemory};
 use wtf_imagefmt::{FileRecord, Header, Image, PathRecord, RegionRecord};
 use wtf_path::Path;
@@ -28,12 +29,22 @@ pub(crate) struct FileDraft {
     regions: BTreeMap<u16, RegionValue>,
 }
 
-/// What an image has of each path and of each file.
+/// An image that is changed again and again: what it has of each path and of each file, as maps. Contracts see
+/// their entries, in the order of their keys.
 #[derive(Drop)]
-pub(crate) struct Draft {
+pub struct Draft {
     header: Header,
     paths: BTreeMap<Path, Node>,
     files: BTreeMap<InodeId, FileDraft>,
+}
+
+impl Model for Draft {
+    ghost use Rattle.wtf_changes.specs.Drafts.{DraftRows};
+    ghost use Rattle.wtf_changes.specs.Kept.{seen, file_entry};
+
+    ghost Value = { DraftRows };
+
+    ghost view = { λ d. record { header = d.header; paths = d.paths.entries; files = seen file_entry d.files.entries } };
 }
 
 /// What stands at each path.
@@ -268,8 +279,8 @@ fn write_files(
 
 impl Draft {
     /// The draft of an image.
-    pub(crate) fn of(alloc: Global, image: &Image) -> Result<Draft, OutOfMemory>
-        ensures { IfOk result (λ d. draft_rows d ≡ taken (image_rows image.now)) }
+    pub fn of(alloc: Global, image: &Image) -> Result<Draft, OutOfMemory>
+        ensures { IfOk result (λ d. d ≡ taken (image_rows image.now)) }
     {
         let paths = take_paths(alloc, image.paths.as_slice())?;
         let files = take_files(alloc, image.files.as_slice())?;
@@ -282,9 +293,8 @@ impl Draft {
 
     /// Makes changes. They are refused where they give a region to a file that is not there; after an
     /// error the draft is good for nothing.
-    pub(crate) fn change(&mut self, alloc: Global, changes: &Changes) -> Result<(), ApplyError>
-        ensures { IsMade (changed (draft_rows self.old) (rows_of changes.now))
-            (draft_rows self.new) result }
+    pub fn change(&mut self, alloc: Global, changes: &Changes) -> Result<(), ApplyError>
+        ensures { IsMade (changed self.old (rows_of changes.now)) self.new result }
     {
         set_paths(alloc, &mut self.paths, changes.paths.as_slice())?;
         set_files(alloc, &mut self.files, changes.files.as_slice())?;
@@ -298,8 +308,8 @@ impl Draft {
     }
 
     /// The image, with its records in order.
-    pub(crate) fn image(&self, alloc: Global) -> Result<Image, OutOfMemory>
-        ensures { IfOk result (λ x. image_rows x ≡ written (draft_rows self.now)) }
+    pub fn image(&self, alloc: Global) -> Result<Image, OutOfMemory>
+        ensures { IfOk result (λ x. image_rows x ≡ written self.now) }
     {
         let paths = write_paths(alloc, &self.paths)?;
         let files = write_files(alloc, &self.files)?;

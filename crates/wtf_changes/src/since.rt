@@ -6,10 +6,12 @@ ghost use Rattle.wtf_kv.specs.Stores.{is_pinned};
 ghost use Rattle.wtf_imagefmt.specs.Lookups.{plain};
 ghost use Rattle.wtf_imagefmt.specs.Rows.{value_row};
 ghost use Rattle.wtf_imagefmt.specs.Saving.{node_now, last_now};
+ghost use Rattle.wtf_imagefmt.specs.Shown.{shown};
+ghost use Rattle.wtf_changes.specs.Counted.{CanBeCounted};
 ghost use Rattle.wtf_changes.specs.Rows.{rows_of};
 ghost use Rattle.wtf_values.specs.declared.key.Key.TheVariants as keys;
 ghost use Rattle.wtf_changes.specs.Since.{value_now, IsChangesOf};
-ghost use Rattle.wtf_changes.specs.Walk.{AreInOrder, with_key, key_added, none_yet};
+ghost use Rattle.wtf_changes.specs.Walk.{AreInOrder, with_key, none_yet};
 
 use crate::records::{Changes, FileChange, PathChange, RegionChange};
 use crate::writer::write;
@@ -113,20 +115,16 @@ fn add_now(
     }
 }
 
-/// Adds what a key is now, if its version lies above the number.
+/// Adds what a key is now.
 fn add_key(
     alloc: Global,
     kv: &Kv<Key, Value>,
-    since: u64,
     key: &Key,
     made: &mut Changes,
 ) -> Result<(), OutOfMemory>
-    ensures { OnOk result (rows_of made.new ≡ key_added kv.now since key.now (rows_of made.old)) }
+    ensures { OnOk result (rows_of made.new ≡
+        with_key (rows_of made.old) key.now (shown kv.now key.now)) }
 {
-    let version = kv.version_at(kv.number(), key);
-    if version <= since {
-        return Ok(());
-    }
     let now = kv.read_at(kv.number(), key);
     add_now(alloc, key, now, made)?;
     Ok(())
@@ -155,17 +153,29 @@ fn changes_since(
     ensures { IfOk result (λ made. AreInOrder kv.now since next_tx (rows_of made)) }
 {
     let mut made = none_yet(alloc, kv.number(), next_tx);
-    let mut at = kv.next_key(None);
+    let mut at = kv.next_changed(since, None);
     while let Some(key) = at {
-        add_key(alloc, kv, since, key, &mut made)?;
-        at = kv.next_key(Some(key));
+        add_key(alloc, kv, key, &mut made)?;
+        at = kv.next_changed(since, Some(key));
     }
     Ok(made)
 }
 
+/// Refuses a store that holds more keys than an image can count, as want of memory.
+fn can_count(kv: &Kv<Key, Value>) -> Result<(), OutOfMemory>
+    ensures { OnOk result (CanBeCounted (shown kv.now)) }
+{
+    if kv.most_rows() >= 1 << 32 {
+        return Err(OutOfMemory);
+    }
+    Ok(())
+}
+
 /// The changes of a store since a number that is pinned: each path, file and region whose version lies
-/// above it, with what it is now. Where they are too many to be counted it answers want of memory. It
-/// looks at all keys, each in the time of a few searches.
+/// above it, with what it is now. Where they are too many to be counted, or the store holds more keys than
+/// an image can count, it answers want of memory. It looks at the keys that changed since the last mark of
+/// the store (`Kv::mark`), each in the time of a few searches, where that mark is at most the number, and
+/// else at all keys.
 pub fn changes(
     alloc: Global,
     kv: &Kv<Key, Value>,
@@ -173,8 +183,11 @@ pub fn changes(
     next_tx: u64,
 ) -> Result<Vec<u8>, OutOfMemory>
     requires { IsTrue (is_pinned kv.now since) }
-    ensures { IfOk result (λ v. IsChangesOf kv.now since next_tx v.items) }
+    ensures told { IfOk result (λ v. IsChangesOf kv.now since next_tx v.items) }
+    // An image can count the paths and the files of the store.
+    ensures counted { OnOk result (CanBeCounted (shown kv.now)) }
 {
+    can_count(kv)?;
     let changes = changes_since(alloc, kv, since, next_tx)?;
     let bytes = write(alloc, &changes)?;
     Ok(bytes)
