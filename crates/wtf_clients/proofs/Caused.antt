@@ -188,8 +188,8 @@ module _ {S : Type 0} (kind : StoreKind S) (old new : Dev S) where
       → (p : PlaceView) × IsCallPlace old w s o p × (slice : Slice) × IsStored kind (between old new) old.settings.replicas p (data_of_op o) slice
   call_placed w s (op.Write f bytes) own a h lacks ok some =
       own_placed (handle_in s f) (λ g. place_in old g.inode g.off) (IsCallPlace old w s (op.Write f bytes)) bytes own a h lacks (λ g is. (g, is, refl)) ok some
-  call_placed w s (op.Append f bytes) own a h lacks ok some =
-      own_placed (handle_in s f) (λ g. place_in old g.inode (end_place old.settings.region (file_of g.inode w))) (IsCallPlace old w s (op.Append f bytes))
+  call_placed w s (op.Append f bytes) own a h lacks ok some = own_placed (handle_in s f)
+      (λ g. place_in old g.inode (end_place old.settings.region (file_of g.inode w))) (IsCallPlace old w s (op.Append f bytes))
       bytes own a h lacks (λ g is. (g, is, refl)) ok some
   call_placed w s o own a h lacks ok some = absurd (omega (arith, some))
 
@@ -246,8 +246,8 @@ module _ {S : Type 0} (kind : StoreKind S) (old new : Dev S) where
       → ((place : PlaceView) → IsCallPlace old w s o place → asked.goes_to place) → GrowsOnly kind (between old new) asked
   call_grows w s (op.Write f bytes) asked h goes =
       own_grows (handle_in s f) (λ g. place_in old g.inode g.off) asked h (λ g is. goes (place_in old g.inode g.off) (g, is, refl))
-  call_grows w s (op.Append f bytes) asked h goes =
-      own_grows (handle_in s f) (λ g. place_in old g.inode (end_place old.settings.region (file_of g.inode w))) asked h
+  call_grows w s (op.Append f bytes) asked h goes = own_grows (handle_in s f) (λ g. place_in old g.inode (end_place old.settings.region (file_of g.inode w)))
+      asked h
       (λ g is. goes (place_in old g.inode (end_place old.settings.region (file_of g.inode w))) (g, is, refl))
   call_grows w s o asked h goes = inl h.files
 

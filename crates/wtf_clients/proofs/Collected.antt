@@ -108,8 +108,8 @@ module _ {S : Type 0} {kind : StoreKind S} (laws : KindLaws kind) {before after 
     -- what holds of each byte that is named, as it lies apart from the ranges, holds of it still
     listed_after : (P R : List Place → Bool) → ((qs : List Place) → P qs ≡ true → are_apart freed.ranges qs ≡ true → R qs ≡ true)
         → ListedBytes size told P old → ListedBytes size later R (with_freed old new.beside.gc.freed)
-    listed_after P R stays h =
-        freed_bytes R (lists_have size later R) old new.beside.gc.freed (listed_where set told later on size P R stays old h collect_apart)
+    listed_after P R stays h = freed_bytes R (lists_have size later R) old new.beside.gc.freed
+        (listed_where set told later on size P R stays old h collect_apart)
 
     -- what holds of the tables with what was freed holds of those that are left
     from_view : (Of : TablesView → Type 0) → Of (with_freed old new.beside.gc.freed) → Of new

@@ -234,8 +234,7 @@ module _ (size : ℕ) (told : Told) (tables : TablesView) (m : Machine) (stand :
 
     first_back : (c : ℕ) (h : HoldsBack tables c) → (t : Transaction) → get m.transactions c ≡ Some t
         → first_begun (filter is_old (entries m.transactions)) ≡ Some (c, t)
-    first_back c h t is =
-        first_found is_old (entries m.transactions) (entries_sorted m.transactions) c t (sym (get-entries m.transactions c) ∙ is)
+    first_back c h t is = first_found is_old (entries m.transactions) (entries_sorted m.transactions) c t (sym (get-entries m.transactions c) ∙ is)
         ((st.txns c h.txn t h.there is).1 ∙ lt-ltb h.txn.tx tables.beside.scan_tx h.old)
         (λ d u found marked apart.
         let at : get m.transactions d ≡ Some u = get-entries m.transactions d ∙ found in

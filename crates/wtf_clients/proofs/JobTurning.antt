@@ -136,7 +136,6 @@ module _ (P : List Place → Bool) (Q : Slice → Bool) (old new : TablesView) (
       (put_bytes P Q hole a x old.kv new.kv did.put (now_bytes P Q old h) (h.planned j x there)) (λ y e. absurd (cc))
 
   pub drops_bytes : (x : JobView) (a : Answer) → of_label old.beside.jobs j ≡ Some x → DropsJob old new j x a → TablesBytes P Q old → TablesBytes P Q new
-  drops_bytes x a there did h =
-      job_bytes None (drop_turned old new j sound x there a did) (drop_reaches old new j sound x there a did) h
+  drops_bytes x a there did h = job_bytes None (drop_turned old new j sound x there a did) (drop_reaches old new j sound x there a did) h
       (now_along P Q old.kv new.kv (drop_number old new j sound x there a did) (drop_turned old new j sound x there a did).maps (now_bytes P Q old h))
       (λ y e. absurd (cc))

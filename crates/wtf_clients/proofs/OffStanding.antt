@@ -269,8 +269,8 @@ module _ (set : Place → Bool) (told later : Told) (on : TellsWhere set told la
   -- over the later stores
   pub listed_where : (P R : List Place → Bool) → ((qs : List Place) → P qs ≡ true → are_in set qs ≡ true → R qs ≡ true) → (tables : TablesView)
       → ListedBytes b told P tables → ListedBytes b told (are_in set) tables → ListedBytes b later R tables
-  listed_where P R stays tables h here =
-      tables_pass set b told (P, lists_have b told P) (R, lists_have b later R) (passes_on set told later on b P R stays) tables h here
+  listed_where P R stays tables h here = tables_pass set b told (P, lists_have b told P) (R, lists_have b later R) (passes_on set told later on b P R stays)
+      tables h here
 
   -- what a transaction names that its base names, or that it stored itself, is named so over the later stores
   pub own_txn_where : (kv : Store Key Value) (x : TxnView) → TxnBytes (are_in set) (lists_have b told (are_in set)) kv x → IsOwnTxn b told kv x

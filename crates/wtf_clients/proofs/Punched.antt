@@ -31,7 +31,7 @@ missed p r h server file from = elim (cases_lt p.at (r.1.at + r.1.len)) [
 ]
 
 -- a place apart from ranges lies outside of those of its server
-outside_from : (p : Place) (ranges : List (ℕ × Range)) → lies_apart ranges p ≡ true → Outside p.file p.at (on_server p.server ranges)
+pub outside_from : (p : Place) (ranges : List (ℕ × Range)) → lies_apart ranges p ≡ true → Outside p.file p.at (on_server p.server ranges)
 outside_from p [] h = tt
 outside_from p (r ∷ rs) h =
     let both = and_parts (not (lies_in p r)) (lies_apart rs p) h in

@@ -51,8 +51,7 @@ names_less size told X Y less tables h = tables_weaker size told (off X) (off Y)
 -- no garbage is named
 pub garbage_unnamed : (size : ℕ) (told : Told) (tables : TablesView) → IsSafe size told tables → NamesNone size told (is_garbage tables.beside.gc) tables
 garbage_unnamed size told tables safe =
-    let g : GcView = tables.beside.gc in
-    names_less size told (λ p. is_below g.older p && not (covers g.newer.found p)) (is_garbage g)
+    let g : GcView = tables.beside.gc in names_less size told (λ p. is_below g.older p && not (covers g.newer.found p)) (is_garbage g)
     (λ p here.
     let parts = and_parts (is_below g.older p) (not (covers g.older.found p || (covers g.newer.found p || covers g.freed p))) here in
     let none = or_parts (covers g.older.found p) (covers g.newer.found p || covers g.freed p) (not_any _ parts.1) in

@@ -149,8 +149,7 @@ module _ {S : Type 0} (kind : StoreKind S) (shelf : List S) (size : ℕ) (told :
       let P : List Place → Bool = off X in
       let Q : Slice → Bool = lists_have size told P in
       let all_left = turn.starts.left in
-      let at : (n : ℕ) → IsTrue (is_live old.kv n) → MapBytes P Q (metadata_at old.kv n) = λ n is.
-      keys_bytes P Q (metadata_at old.kv n) (kinds n is) (λ i k.
+      let at : (n : ℕ) → IsTrue (is_live old.kv n) → MapBytes P Q (metadata_at old.kv n) = λ n is. keys_bytes P Q (metadata_at old.kv n) (kinds n is) (λ i k.
       subst (λ (w : Map). MaybeBytes P Q (region_at w i k)) (maps n is)
       (m.ahead n (turn.starts.seen n ∙ is) i k (omega (arith, all_left)))) in
       record {

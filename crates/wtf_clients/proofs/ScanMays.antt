@@ -88,8 +88,7 @@ same_stands old new m st stamps running finished reads maps = record {
 }
 
 pruned_stands : (old new : TablesView) (m : Machine) → ScansStand old m → IsPruned old new → ScansStand new m
-pruned_stands old new m st pruned =
-    same_stands old new m st
+pruned_stands old new m st pruned = same_stands old new m st
     (stamps_same old new m st.stamps pruned.clients pruned.next_tx (ap (λ (b : BesideView). b.jobs) pruned.beside)
     (ap (λ (b : BesideView). b.scan_tx) pruned.beside) (ap (λ (b : BesideView). b.scan_jobs) pruned.beside))
     (ap (λ (b : BesideView). b.gc.running) pruned.beside) (ap (λ (b : BesideView). b.gc.finished) pruned.beside)

@@ -126,8 +126,7 @@ module _ {S : Type 0} {kind : StoreKind S} (laws : KindLaws kind) (old new : Dev
   collect_failed later (fault.Damaged j) a is f = absurd f.cause
   collect_failed later (fault.Punch j) a is f =
       let same : answer.FaultPunch j.0 ≡ a = cc in
-      let out : IsOut kind (between old new) k =
-      out_after laws (is_down old.replicas.now) (stores old) (stores f.mid) (stores new) f.ranges f.goes.each k
+      let out : IsOut kind (between old new) k = out_after laws (is_down old.replicas.now) (stores old) (stores f.mid) (stores new) f.ranges f.goes.each k
       (subst (λ r. IsOut kind (span (is_down r.now) (stores f.mid) (stores new)) k) f.goes.replicas f.cause.1) in
       let server = f.cause.0 in
       subst (λ (b : Answer). ServesLine kind (between old new) (lent_by old new) before after (event.Collect k) b) same

@@ -409,6 +409,5 @@ module _ {S : Type 0} {kind : StoreKind S} (laws : KindLaws kind) (before after 
       pruned_tells lists = tells_after lists (pruned_names old new p sound)
 
       pub pruned_safe : IsSafe size told old → IsSafe size later new
-      pruned_safe safe =
-          same_safe size later old new sound (pruned_live old.kv new.kv p.kv p.pins) (λ m live. p.kv.maps m live) (pruned_keeps old new p)
+      pruned_safe safe = same_safe size later old new sound (pruned_live old.kv new.kv p.kv p.pins) (λ m live. p.kv.maps m live) (pruned_keeps old new p)
           (later_safe size told later on old sound tells.names safe) (ap (λ (b : BesideView). b.gc) p.beside)

@@ -538,8 +538,8 @@ impl Tables {
         self.beside.watched()
     }
 
-    /// Watches the number of installs, in place of the number that was watched before. Want of memory leaves
-    /// all as it was.
+    /// Watches the number of installs, in place of the number that was watched before, and marks it, so that
+    /// what changes from now on is found without a walk over all keys. Want of memory leaves all as it was.
     pub fn watch(&mut self) -> Result<(), OutOfMemory>
         ensures ok { OnOk result (Saves self.old self.new
             (watching self.old.beside self.old.kv.number)) }
@@ -549,7 +549,7 @@ impl Tables {
         // the new pin first: want of memory leaves nothing to undo
         self.kv.pin(number)?;
         let before = self.beside.watch(number);
-        unpin_watched(&mut self.kv, before);
+        unpin_and_mark(&mut self.kv, before);
         Ok(())
     }
 
@@ -623,8 +623,8 @@ fn end(clients: &mut IndexMap<u8, Txn>, kv: &mut Kv<Key, Value>, c: u8)
     }
 }
 
-/// Undoes the pin of a number that was watched, if there is one.
-fn unpin_watched(kv: &mut Kv<Key, Value>, watched: Option<u64>)
+/// Undoes the pin of a number that was watched, if there is one. The keys that change from now on are noted.
+fn unpin_and_mark(kv: &mut Kv<Key, Value>, watched: Option<u64>)
     requires { (n : ℕ) → all_watched n watched ≤ times_pinned kv.old n }
     ensures pins { (n : ℕ) → times_pinned kv.new n + all_watched n watched ≡
         times_pinned kv.old n }
@@ -634,6 +634,7 @@ fn unpin_watched(kv: &mut Kv<Key, Value>, watched: Option<u64>)
         Some(n) => kv.unpin(n),
         None => {}
     }
+    kv.mark();
 }
 
 /// Undoes one pin of each of these numbers.

@@ -12,13 +12,13 @@ pub invariant_of-self-2 : goal.invariant_of-self-2
 invariant_of-self-2 c =
     let at = c.self.inside in
     let old : TablesView = record { kv = at.kv; next_tx = at.next_tx; clients = at.clients.entries; beside = at.beside } in
-    let new : TablesView = record old { kv = c.unpin_watched.new.kv; beside = c.watch-before.new.self } in
+    let new : TablesView = record old { kv = c.unpin_and_mark.new.kv; beside = c.watch-before.new.self } in
     watched_sound old new c.self.invariant
     (watches_one old new refl refl
-    (c.unpin_watched.ensures.rest ∙ ap (λ (s : Store Key Value). record s { pins = c.unpin_watched.new.kv.pins }) c.in_ok-pin.ensures.ok)
+    (c.unpin_and_mark.ensures.rest ∙ ap (λ (s : Store Key Value). record s { pins = c.unpin_and_mark.new.kv.pins }) c.in_ok-pin.ensures.ok)
     c.pin.new.self
     (subst (λ (n : ℕ). IsPinnedOnceMore n at.kv c.pin.new.self) c.number-number.ensures.number c.in_ok-pin.ensures.once)
     (λ n.
-    subst (λ (o : Option ℕ). times_pinned c.unpin_watched.new.kv n + all_watched n o ≡ times_pinned c.pin.new.self n) c.watch-before.ensures.before
-    (c.unpin_watched.ensures.pins n))
+    subst (λ (o : Option ℕ). times_pinned c.unpin_and_mark.new.kv n + all_watched n o ≡ times_pinned c.pin.new.self n) c.watch-before.ensures.before
+    (c.unpin_and_mark.ensures.pins n))
     (c.watch-before.ensures.is ∙ ap (watching at.beside) c.number-number.ensures.number))
