@@ -315,8 +315,8 @@ pub tries_stand : (size : ℕ) (told later : Told) (old new : TablesView) (m : M
 tries_stand size told later old new m c x t (answer.Committed n) sound region st on here there asked turn =
     installs_stand old new turn.mid c x sound here (commit_up old new c x n turn) turn.ends size told later m t n st on region there
     (turn.final size later t.ops (sound_later size old.kv told later x t.ops on (txn_in size told old m c x t st here there).sound))
-tries_stand size told later old new m c x t (answer.Retry b n) sound region st on here there asked turn =
-    retry_stand old new c x b n sound here turn size told later m t region st on there asked
+tries_stand size told later old new m c x t (answer.Retry b n) sound region st on here there asked turn = retry_stand old new c x b n sound here turn size
+    told later m t region st on there asked
 tries_stand size told later old new m c x t a sound region st on here there asked turn = absurd turn
 
 -- ---- a step
@@ -451,8 +451,8 @@ pub finals_stand : (z : Seeing) (old new : TablesView) (m : Machine) (c : ℕ) (
     → AreSound old → m.settings.region ≡ z.size → m.settings.servers ≡ z.servers → TablesStand z.size z.told old m → TellsOn z.told z.later
     → of_client old.clients c ≡ Some x → get m.transactions c ≡ Some t → z.telling × AreTrue z.size z.told z.lists old
     → Finals z old new c x a → MayCommit m t a × TablesStand z.size z.later new (committed m c t a)
-finals_stand z old new m c x t (answer.Committed n) sound region count st on here there telling turn =
-    installs_stand old new turn.mid c x sound here (finish_up z old new c x n turn) turn.ends z.size z.told z.later m t n st on
+finals_stand z old new m c x t (answer.Committed n) sound region count st on here there telling turn = installs_stand old new turn.mid c x sound here
+    (finish_up z old new c x n turn) turn.ends z.size z.told z.later m t n st on
     region there
     (turn.final (telling.0, telling.1, (txn_in z.size z.told old m c x t st here there).tree.bytes)
     (telling.0, telling.1, (txn_in z.size z.told old m c x t st here there).now.bytes) t.ops (txn_in z.size z.told old m c x t st here there).sound)

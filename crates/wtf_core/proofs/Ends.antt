@@ -44,7 +44,7 @@ server_rest old new k to false a h =
     (ap (λ (c : CoreView). c.settings) h.1, ap (λ (c : CoreView). c.closed) h.1, ap (λ (c : CoreView). c.lists) h.1)
 
 -- one that is lent no store, and leaves the lists, leaves all alone
-left_alone : {S : Type 0} (kind : StoreKind S) (shelf : List S) (old new : CoreView) (e : Event) → new.lists ≡ old.lists
+pub left_alone : {S : Type 0} (kind : StoreKind S) (shelf : List S) (old new : CoreView) (e : Event) → new.lists ≡ old.lists
     → LeavesAlone kind (span (is_down old.replicas) shelf shelf) (lent_of old new) old.tables e
 left_alone kind shelf old new e same =
     subst (λ (l : Remembered). LeavesAlone kind (span (is_down old.replicas) shelf shelf) (lending old.settings old.lists l) old.tables e) (sym same)

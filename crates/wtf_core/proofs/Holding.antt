@@ -78,8 +78,7 @@ module _ {S : Type 0} (kind : StoreKind S) (t : Span S) (k : KeeperSpan) (laws :
   }
 
   stays_held : (now : BesideView) → Saves old new now → new.beside ≡ old.beside → (bytes : List ℕ) → IsHeldBy old settings bytes → IsHeldBy new settings bytes
-  stays_held now saves same bytes held =
-      live_held old new settings bytes sound
+  stays_held now saves same bytes held = live_held old new settings bytes sound
       (record {
         maps = λ n live. saves.maps n (live_upto old n sound live);
         more = let next = saves.next_tx in omega (arith, next);

@@ -112,8 +112,7 @@ module _ {S : Type 0} (kind : StoreKind S) (before after : Dev S) (old new : Tab
       → (GoesOn kind before after [] → IsUnpunching kind before after old new e) → OnErr r (IsLeftBy e old new)
       → LeavesAlone kind (between before after) (lent_by before after) old e
       → GoesOn kind before after [] → takes_no_memory e ≡ false → TablesDone kind before after old new e r
-  lent_done e r turn serves told unpunching left leaves goes memory =
-      line_done e r
+  lent_done e r turn serves told unpunching left leaves goes memory = line_done e r
       (if_all r turn serves told (λ a t s l. record { turn = t; serves = s; told = l; goes = unpunching goes }))
       left (on_any r goes) leaves (λ none. absurd (true≢false (sym none ∙ memory)))
 

@@ -40,3 +40,4 @@ pub mod Lent
 pub mod Ends
 pub mod Quieting
 pub mod Watching
+pub mod Copying

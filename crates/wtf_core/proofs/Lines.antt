@@ -102,8 +102,8 @@ module _ (z : Seeing) (old new : TablesView) (m : Machine) (c : ℕ) (sound : Ar
       → StandsForTxn z.size z.told old.kv m.now x t
       → TxnTurn z old new c x v a → Client (Some t) v a
   txn_stands x t verb.Begin a here there txn turn = (turn.answer, refused InTx a turn)
-  txn_stands x t verb.Try a here there txn turn =
-      stands_or (try_refusal x) (client_refusal (Some t) verb.Try) _ _ a (tried m c t a) (try_is z.size z.told old m x t txn)
+  txn_stands x t verb.Try a here there txn turn = stands_or (try_refusal x) (client_refusal (Some t) verb.Try) _ _ a (tried m c t a)
+      (try_is z.size z.told old m x t txn)
       (λ asked tries. tries_stand z.size z.told z.later old new m c x t a sound region st on here there asked tries)
       (λ w is e. ap (λ r. tried m c t r) e) turn
   txn_stands x t verb.Step a here there txn turn =
@@ -138,6 +138,6 @@ pub client_stands : (z : Seeing) (old new : TablesView) (m : Machine) (c : ℕ) 
     z.told z.lists old
     → ClientTurn z old new c v a
     → MayClient m (get m.transactions c) v a × TablesStand z.size z.later new (after_client m c (get m.transactions c) v a)
-client_stands z old new m c v a sound region count st on telling turn =
-    slot_stands z old new m c sound region count st on telling (of_client old.clients c) (get m.transactions c) v a refl
+client_stands z old new m c v a sound region count st on telling turn = slot_stands z old new m c sound region count st on telling (of_client old.clients c)
+    (get m.transactions c) v a refl
     refl (st.each c) turn

@@ -547,8 +547,7 @@ module _ {S : Type 0} (kind : StoreKind S) (t : Span S) (old new : CoreView) (so
       plainly_moves old.tables new.tables (event.DropJob j) a (λ is. absurd (cc)) (drop old.tables new.tables j sound a h.0)
   line_moves event.Scan h =
       scans_move old.tables new.tables event.Scan a (λ is. absurd (cc)) (λ no. no) (scan kind t.before old.tables new.tables a h.0)
-  line_moves (event.Piece n) h =
-      scans_move old.tables new.tables (event.Piece n) a (λ is. absurd (cc)) (λ no. no)
+  line_moves (event.Piece n) h = scans_move old.tables new.tables (event.Piece n) a (λ is. absurd (cc)) (λ no. no)
       (piece kind h.0.before h.0.after old.tables new.tables n a h.0.did)
   line_moves (event.Collect k) h = collect kind h.0.before h.0.after old.tables new.tables k a h.0.did
   line_moves (event.Down k) h =
@@ -558,7 +557,6 @@ module _ {S : Type 0} (kind : StoreKind S) (t : Span S) (old new : CoreView) (so
   line_moves (event.Dump p) h =
       plainly_moves old.tables new.tables (event.Dump p) a (λ is. absurd (cc))
       (stays old.tables new.tables 0 sound (h.0.stays 0) a (dump_uncollected a (uncollected (seeing kind t (lent_of old new)) old.tables new.tables p a h.0)))
-  line_moves event.Tree h =
-      plainly_moves old.tables new.tables event.Tree a (λ is. absurd (cc))
+  line_moves event.Tree h = plainly_moves old.tables new.tables event.Tree a (λ is. absurd (cc))
       (same_plainly old.tables new.tables a (tree_uncollected a h.2) (ap (λ (c : CoreView). c.tables) h.1))
   line_moves event.Save h = save (AreUp old.replicas old.settings.servers) old.tables new.tables a sound h.0

@@ -119,8 +119,8 @@ module _ {S : Type 0} (kind : StoreKind S) (span : Span S) (k : KeeperSpan) (law
   save_tree : (Up : Type 0) (a : Answer) → SaveTurn Up old new a → KeeperTurn kind span k settings old new event.Save a → k.before.tells ≡ true
       → HoldsTree k.before told m.may_be_saved → HoldsTree k.after later (saved m a).may_be_saved
   save_tree Up (answer.Saved n) turn did tells held = (did.hands.bytes, did.held tells, inr (m.now, Contains-push [] m.now, handed_tree did.hands))
-  save_tree Up answer.FaultSave turn (inl did) tells held =
-      untouched_tree (m.may_be_saved ++ m.now ∷ []) (λ t there. Contains-append_left m.may_be_saved (m.now ∷ []) t there) did.untouched held
+  save_tree Up answer.FaultSave turn (inl did) tells held = untouched_tree (m.may_be_saved ++ m.now ∷ [])
+      (λ t there. Contains-append_left m.may_be_saved (m.now ∷ []) t there) did.untouched held
   save_tree Up answer.FaultSave turn (inr did) tells held = failed_tree did held
   save_tree Up a turn did tells held = absurd turn
 
@@ -203,7 +203,7 @@ module _ {S : Type 0} (kind : StoreKind S) (span : Span S) (k : KeeperSpan) (law
       → LineTurn kind span old new e a → KeeperTurn kind span k old.settings old.tables new.tables e a
       → k.before.tells ≡ true → HoldsKept k.before old.settings old.tables
       → HoldsTree k.before (byte_at kind span.before) m.may_be_saved → HoldsTree k.after (byte_at kind span.after) (after m e a).may_be_saved
-  line_tree event.Save on turn did tells kept held =
-      save_tree kind span k laws old.settings old.tables new.tables (byte_at kind span.before) (byte_at kind span.after)
+  line_tree event.Save on turn did tells kept held = save_tree kind span k laws old.settings old.tables new.tables (byte_at kind span.before)
+      (byte_at kind span.after)
       (on (λ j is. absurd (cc))) m limits sound few next st _ a turn.0 did tells held
   line_tree e on turn did tells kept held = other_tree e (λ is. absurd (cc)) turn did kept held

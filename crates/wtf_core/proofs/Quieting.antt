@@ -372,8 +372,8 @@ module _ {S : Type 0} {kind : StoreKind S} (laws : KindLaws kind) (t : Span S) (
   quiet_on event.Scan (answer.Refused ScanBusy) sound tells punched adds turn =
       quiet_still laws t old new sound tells event.Scan (answer.Refused ScanBusy) (λ s next is. some_is s next is) (λ h. h)
       (ap (λ (core : CoreView). core.settings) turn.1) turn.0.0 punched.ranges punched.are.0 punched.follows adds
-  quiet_on event.Scan (answer.Held who) sound tells punched adds turn =
-      quiet_still laws t old new sound tells event.Scan (answer.Held who) (λ s next is. some_is s next is) (λ h. h)
+  quiet_on event.Scan (answer.Held who) sound tells punched adds turn = quiet_still laws t old new sound tells event.Scan (answer.Held who)
+      (λ s next is. some_is s next is) (λ h. h)
       (ap (λ (core : CoreView). core.settings) turn.1) turn.0.0 punched.ranges punched.are.0 punched.follows adds
   quiet_on event.Scan a sound tells punched adds turn = absurd turn.0
   quiet_on (event.Piece n) answer.Done sound tells punched adds turn = quiet_done laws t old new sound tells n punched adds turn
@@ -383,8 +383,8 @@ module _ {S : Type 0} {kind : StoreKind S} (laws : KindLaws kind) (t : Span S) (
       (ap (λ (core : CoreView). core.settings) turn.1) turn.0.did.0 punched.ranges punched.are.0 punched.follows adds
   quiet_on (event.Piece n) answer.FaultWrite sound tells punched adds turn =
       absurd (unwritten kind turn.0.before turn.0.after old.tables new.tables n turn.0.did)
-  quiet_on (event.Piece n) a sound tells punched adds turn =
-      quiet_failed laws t old new sound tells n a (λ s next is. some_is s next is) turn.0.did (ap (λ (core : CoreView). core.settings) turn.1) punched.ranges
+  quiet_on (event.Piece n) a sound tells punched adds turn = quiet_failed laws t old new sound tells n a (λ s next is. some_is s next is) turn.0.did
+      (ap (λ (core : CoreView). core.settings) turn.1) punched.ranges
       punched.are.0 punched.follows adds
   quiet_on (event.Collect k) (answer.Collected n) sound tells punched adds turn = quiet_collect laws t old new sound tells k n punched adds turn
   quiet_on (event.Collect k) (answer.FaultPunch j) sound tells punched adds turn = quiet_some laws t old new sound tells k j punched adds turn

@@ -178,8 +178,8 @@ module _ {P : Type 0} where
   client_stamped m c (Some t) verb.Step a is = stepped_stamped m c t a is
   client_stamped m c (Some t) verb.Commit a is = committed_stamped m c t a
   client_stamped m c (Some t) verb.Abort a is = aborted_stamped m c a
-  client_stamped m c (Some t) (verb.Call o) a is =
-      either_stamped m (with_transaction m c (logged t o a)) (is_logged a) (set_stamped m c t (logged t o a) is refl)
+  client_stamped m c (Some t) (verb.Call o) a is = either_stamped m (with_transaction m c (logged t o a)) (is_logged a)
+      (set_stamped m c t (logged t o a) is refl)
   client_stamped m c o v a is = same_stamped m
 
   planned_stamped : (m : Machine) (j : ℕ) (kind : JobKind) (p : List ℕ) (r : ℕ) (a : Answer) → (a ≡ answer.Planned → get m.jobs j ≡ None)

@@ -160,14 +160,14 @@ module _ {S : Type 0} (kind : StoreKind S) (t : Span S) (grows : (k f : ℕ) →
   pub line_taken : (e : Event) → LineTurn kind t old new e a → KeeperTurn kind t k old.settings old.tables new.tables e a → k.before.tells ≡ true
       → HoldsTaken k.before (size_in kind t.before) old.settings old.tables.kv.number old.tables.next_tx
       → HoldsTaken k.after (size_in kind t.after) old.settings new.tables.kv.number new.tables.next_tx
-  line_taken event.Save turn did tells held =
-      save_taken kind t grows k keeper old.settings old.tables new.tables told m limits sound few next st inside rises _ a turn.0 did tells held
+  line_taken event.Save turn did tells held = save_taken kind t grows k keeper old.settings old.tables new.tables told m limits sound few next st inside rises
+      _ a turn.0 did tells held
   line_taken e turn did tells held = other_taken did held
 
   save_leaves : (b : Answer) → KeeperTurn kind t k old.settings old.tables new.tables event.Save b → k.before.tells ≡ true
       → Leaves kind (scene t.before k.before old) (scene t.after k.after new) event.Save b
-  save_leaves (answer.Saved n) did tells =
-      saved_now kind t grows k keeper old.settings old.tables new.tables told m limits sound few next st inside rises n did tells
+  save_leaves (answer.Saved n) did tells = saved_now kind t grows k keeper old.settings old.tables new.tables told m limits sound few next st inside rises n
+      did tells
   save_leaves b did tells = tt
 
   pub line_leaves : (e : Event) (b : Answer) → KeeperTurn kind t k old.settings old.tables new.tables e b → k.before.tells ≡ true

@@ -124,8 +124,8 @@ module _ {S : Type 0} (kind : StoreKind S) (down : ℕ → Bool) (shelf : List S
 
   pub still_told : (old new : TablesView) (a : Answer) → NamesTables old new → (Known old → Went settings.region told told Added old new) → IsPlain a
       → TellsTables kind shelf settings lists old → ServesTold kind (span down shelf shelf) settings (old, new) a
-  still_told old new a names went plain =
-      names_told kind (span down shelf shelf) settings still_on (λ qs is. is) lists old new a names went (plain_unfailed a plain)
+  still_told old new a names went plain = names_told kind (span down shelf shelf) settings still_on (λ qs is. is) lists old new a names went
+      (plain_unfailed a plain)
 
   -- one of a client that begins, attempts or aborts
   pub begun_told : (old new : TablesView) (c : ℕ) (a : Answer) → AreSound old → NamesTables old new → IsPlain a

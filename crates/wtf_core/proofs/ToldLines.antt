@@ -398,8 +398,8 @@ module _ {S : Type 0} {kind : StoreKind S} (laws : KindLaws kind) (t : Span S) (
       let both = server_plain old new k false (nat_lt k old.settings.servers) a turn in
       same_line (event.Up k) (λ j is. absurd (cc)) punched both.1 (plain_unfailed a both.0) quiet
   by_line (event.Dump p) punched serves turn quiet = other_line (event.Dump p) tt (λ k is. absurd (cc)) punched serves turn quiet
-  by_line event.Tree punched serves turn quiet =
-      same_line event.Tree (λ k is. absurd (cc)) punched (ap (λ (core : CoreView). core.tables) turn.1) (plain_unfailed a (tree_plain a turn.2)) quiet
+  by_line event.Tree punched serves turn quiet = same_line event.Tree (λ k is. absurd (cc)) punched (ap (λ (core : CoreView). core.tables) turn.1)
+      (plain_unfailed a (tree_plain a turn.2)) quiet
   by_line event.Save punched serves turn quiet = other_line event.Save tt (λ k is. absurd (cc)) punched serves turn quiet
 
   pub line_told : (e : Event) → new.settings ≡ old.settings → KeepsPunched kind t.before t.after old new e a → ServesTurn kind t old new e a

@@ -155,8 +155,7 @@ down_line told later old new m k a sound stands on scans turn =
 up_line : (told later : Told) (old new : CoreView) (m : Machine) (k : ℕ) (a : Answer) → AreSound old.tables → StandsFor told old m → TellsOn told later →
     ScansStand new.tables (after m (event.Up k) a) → ServerTurn old new k false a
     → (a ≡ server_answer m k) × StandsFor later new (after m (event.Up k) a)
-up_line told later old new m k a sound stands on scans turn =
-    switch_line told later old new m k false a sound stands on (event.Up k)
+up_line told later old new m k a sound stands on scans turn = switch_line told later old new m k false a sound stands on (event.Up k)
     (λ c is. subst (λ d. IsSwitch told later old new m k false a sound stands on (after m (event.Up k) d)) (sym is) (is_down-event m (event.Up k) answer.Okay))
     (λ c. (event_stamped m (event.Up k) c tt tt).settings)
     (tables_beside told later old new m k false a sound stands on (after m (event.Up k) answer.Okay) refl refl refl refl refl) (λ w. refl) scans turn
@@ -322,8 +321,7 @@ module _ {S : Type 0} (kind : StoreKind S) (t : Span S) (old new : CoreView) (m 
   scan_tables : (b : Answer) → ScanTurn kind t.before old.tables new.tables b → TablesStand size later new.tables (scanning m b)
   scan_tables (answer.Refused ScanBusy) h = subst (λ (tables : TablesView). TablesStand size later tables m) (sym h.0) before_later
   scan_tables (answer.Held who) h = subst (λ (tables : TablesView). TablesStand size later tables m) (sym h.0) before_later
-  scan_tables answer.Scanning h =
-      machine_beside size later new.tables m (scanning m answer.Scanning)
+  scan_tables answer.Scanning h = machine_beside size later new.tables m (scanning m answer.Scanning)
       (alike_stand old.tables new.tables sound (started_alike h) size later m before_later) refl refl refl refl refl
   scan_tables b h = absurd h
 

@@ -11,6 +11,7 @@ pub mod Answers
 pub mod Pictured
 pub mod Promises
 pub mod Lent
+pub mod Copied
 pub mod Ended
 pub mod Loading
 pub mod Made

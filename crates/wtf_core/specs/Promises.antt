@@ -18,6 +18,8 @@ use Rattle.wtf_model.specs.Machines.{Machine}
 use Rattle.wtf_model.specs.Servers.{down_after_event}
 use Rattle.wtf_model.specs.Steps.{after}
 use Rattle.wtf_gc.specs.Extents.{covers}
+use Rattle.wtf_image.specs.Tables.{shown}
+use Rattle.wtf_changes.specs.Counted.{CanBeCounted}
 use Rattle.wtf_changes.specs.Since.{IsChangesOf}
 use Rattle.wtf_clients.specs.Asked.{asked_of, IsPlaced, HasFailed}
 use Rattle.wtf_clients.specs.Keeping.{KeeperSpan, KeeperTurn, HoldsKept}
@@ -150,12 +152,14 @@ pub record Watches (old new : CoreView) : Type 0 where
   pub tables : Saves old.tables new.tables (watching old.tables.beside old.tables.kv.number)
   pub rest : new ≡ record old { tables = new.tables }
 
--- what installs changed since the number that was watched is told, and the number of installs is watched in its place
+-- what installs changed since the number that was watched is told, where an image can count the paths and the files of the metadata; and the
+-- number of installs is watched in its place
 pub record IsRecordOf (old new : CoreView) (bytes : List ℕ) : Type 0 where
   pub since : ℕ
   pub was : old.tables.beside.watched ≡ Some since
   pub later : since ≢ old.tables.kv.number
   pub changes : IsChangesOf old.tables.kv since old.tables.next_tx bytes
+  pub counted : CanBeCounted (shown old.tables.kv)
   pub watches : Watches old new
 
 -- What a core does of a line that it answers.

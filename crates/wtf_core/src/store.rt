@@ -1,6 +1,6 @@
 //! The core.
 
-ghost use Rattle.std.specs.Prelude.{◌≡◌, ◌≢◌, ◌↔◌, None, Some, IfSome, IsSome, MatchOption, ◌<◌, ◌≤◌, ◌^◌, ℕ, Bool, List, [], true, false, IsTrue, IsOk, IfOk, IfErr, OnOk, OnErr, length};
+ghost use Rattle.std.specs.Prelude.{◌≡◌, ◌≢◌, ◌<◌, ◌≤◌, ◌^◌, ℕ, Bool, List, [], true, false, IsTrue, IsOk, IfOk, IfErr, OnOk, OnErr, length};
 ghost use Rattle.wtf_dev.specs.Each.{EachFollows};
 ghost use Rattle.wtf_dev.specs.Sums.{TellsAll};
 ghost use Rattle.wtf_base.specs.Limits.{AreSettings};
@@ -32,7 +32,7 @@ ghost use Rattle.wtf_clients.specs.Keeping.{KeeperTurn, IsHeldBy, keeper_span};
 ghost use Rattle.wtf_core.specs.Pictured.{IsImageOfTree, IsBareImage};
 ghost use Rattle.wtf_core.specs.Ended.{LineEnds};
 ghost use Rattle.wtf_core.specs.Lent.{is_of_tables};
-ghost use Rattle.wtf_core.specs.Promises.{scene, Closes, CoreDoes, CoreFails, CoreStays, IsRecordOf, Watches};
+ghost use Rattle.wtf_core.specs.Promises.{scene, CoreDoes, CoreFails, CoreStays};
 ghost use Rattle.wtf_dev.specs.Counts.{Rose};
 ghost use Rattle.wtf_replica.specs.Outs.{SameLengths};
 ghost use Rattle.wtf_core.specs.Loading.{IsCoreOf};
@@ -42,7 +42,6 @@ use crate::verbs::tables_line;
 use std::alloc::Global;
 use std::marker::Model;
 use wtf_base::{OutOfMemory, Settings};
-use wtf_changes::changes;
 use wtf_clients::Tables;
 use wtf_dev::{Keeper, Shelf, SliceStore};
 use wtf_image::{LoadError, Loaded};
@@ -56,13 +55,13 @@ use wtf_ring::Ring;
 /// remembers.
 #[derive(Drop)]
 pub struct Core {
-    alloc: Global,
+    pub(crate) alloc: Global,
     settings: Settings,
-    tables: Tables,
+    pub(crate) tables: Tables,
     replicas: Replicas,
     ring: Ring,
     cache: RegionCache,
-    closed: bool,
+    pub(crate) closed: bool,
 }
 
 impl Model for Core {
@@ -254,30 +253,30 @@ impl Core {
     /// the keeper, no open transaction and no job. No line names a byte again that lay there while
     /// nothing named it. After want of memory the metadata now are as they were, and the core is
     /// closed.
-    pub fn event<S: SliceStore, K: Keeper>(
+    pub fn take<S: SliceStore, K: Keeper>(
         &mut self,
         shelf: &mut Shelf<S>,
         keeper: &mut K,
-        event: &Event,
+        event: Event,
     ) -> Result<Answer, OutOfMemory>
         requires open { self.old.closed ≡ false }
         requires shelf { self.old.settings.servers ≤ length shelf.old }
-        requires form { IsFormEvent event.now }
-        requires number { event.now ≢ Save → self.old.tables.kv.number < 2 ^ 63 }
-        requires next_tx { event.now ≢ Save → self.old.tables.next_tx < 2 ^ 63 }
+        requires form { IsFormEvent event }
+        requires number { event ≢ Save → self.old.tables.kv.number < 2 ^ 63 }
+        requires next_tx { event ≢ Save → self.old.tables.next_tx < 2 ^ 63 }
         requires inside { IsInside S.kind shelf.old self.old }
         ensures does { IfOk result (CoreDoes S.kind
             (keeper_span K.view K.follows K.refused keeper.old keeper.new)
             (scene shelf.old (K.view keeper.old) self.old)
-            (scene shelf.new (K.view keeper.new) self.new) event.now) }
+            (scene shelf.new (K.view keeper.new) self.new) event) }
         ensures fails { OnErr result (CoreFails S.kind
             (keeper_span K.view K.follows K.refused keeper.old keeper.new)
             (scene shelf.old (K.view keeper.old) self.old)
-            (scene shelf.new (K.view keeper.new) self.new) event.now) }
+            (scene shelf.new (K.view keeper.new) self.new) event) }
         ensures stays { CoreStays S.kind
             (scene shelf.old (K.view keeper.old) self.old)
-            (scene shelf.new (K.view keeper.new) self.new) event.now }
-        ensures sure { IsTrue (takes_no_memory event.now) → IsOk result }
+            (scene shelf.new (K.view keeper.new) self.new) event }
+        ensures sure { IsTrue (takes_no_memory event) → IsOk result }
     {
         let _number = self.tables.number();
         match self.answer(shelf, keeper, event) {
@@ -317,73 +316,7 @@ impl Core {
         ensures follows { EachFollows S.kind shelf.old shelf.new [] }
         ensures lengths { OnOk result (SameLengths S.kind shelf.old shelf.new) }
     {
-        let line = Event::Save;
-        self.event(shelf, keeper, &line)
-    }
-
-    /// Watches the number of installs, in place of the number that was watched before: the map there can be
-    /// read as long as it is watched. After want of memory the core is closed.
-    pub fn watch(&mut self) -> Result<(), OutOfMemory>
-        requires open { self.old.closed ≡ false }
-        ensures watched { OnOk result (Watches self.old self.new) }
-        ensures closed { OnErr result (Closes self.old self.new event.Tree) }
-    {
-        let watched = self.tables.watch();
-        // all tables are sound, so these are
-        let _number = self.tables.number();
-        self.closed = watched.is_err();
-        watched
-    }
-
-    /// Tells what installs changed since the number that is watched, and watches the number of installs in
-    /// its place: None where none came since, which takes no memory. After want of memory the core is closed.
-    pub fn record(&mut self) -> Result<Option<Vec<u8>>, OutOfMemory>
-        requires open { self.old.closed ≡ false }
-        requires watched { IsSome self.old.tables.beside.watched }
-        ensures none { IfOk result (λ o.
-            (o ≡ None) ↔ (self.old.tables.beside.watched ≡ Some self.old.tables.kv.number)) }
-        ensures same { IfOk result (λ o. o ≡ None → self.new ≡ self.old) }
-        ensures changes { IfOk result (λ o. IfSome o (λ v. IsRecordOf self.old self.new v.items)) }
-        ensures sure { self.old.tables.beside.watched ≡ Some self.old.tables.kv.number →
-            IsOk result }
-        ensures closed { OnErr result (Closes self.old self.new event.Tree) }
-    {
-        let recorded = self.recorded();
-        self.closed = recorded.is_err();
-        recorded
-    }
-
-    /// The same; want of memory leaves the core as it is.
-    fn recorded(&mut self) -> Result<Option<Vec<u8>>, OutOfMemory>
-        requires { IsSome self.old.tables.beside.watched }
-        ensures told { IfOk result (λ o. MatchOption o
-            ((self.new ≡ self.old) ×
-            (self.old.tables.beside.watched ≡ Some self.old.tables.kv.number))
-            (λ v. IsRecordOf self.old self.new v.items)) }
-        ensures sure { self.old.tables.beside.watched ≡ Some self.old.tables.kv.number →
-            IsOk result }
-        ensures closed { self.new.closed ≡ self.old.closed }
-        ensures same { OnErr result (self.new ≡ self.old) }
-    {
-        let since = match self.tables.watched() {
-            Some(since) => since,
-            None => unreachable!(),
-        };
-        if since == self.tables.number() {
-            return Ok(None);
-        }
-        let next_tx = self.tables.next_tx();
-        let told = match changes(self.alloc, self.tables.kv(), since, next_tx) {
-            Ok(told) => told,
-            Err(why) => return Err(why),
-        };
-        let watched = self.tables.watch();
-        // all tables are sound, so these are
-        let _number = self.tables.number();
-        match watched {
-            Ok(()) => return Ok(Some(told)),
-            Err(why) => return Err(why),
-        }
+        self.take(shelf, keeper, Event::Save)
     }
 
     /// Answers one line; versions that no one sees any more are not dropped yet.
@@ -391,29 +324,29 @@ impl Core {
         &mut self,
         shelf: &mut Shelf<S>,
         keeper: &mut K,
-        event: &Event,
+        event: Event,
     ) -> Result<Answer, OutOfMemory>
         requires shelf { self.old.settings.servers ≤ length shelf.old }
         requires inside { IsInside S.kind shelf.old self.old }
         requires sound { AreSound self.old.tables }
-        requires form { IsFormEvent event.now }
-        requires number { event.now ≢ Save → self.old.tables.kv.number < 2 ^ 63 }
-        requires next_tx { event.now ≢ Save → self.old.tables.next_tx < 2 ^ 63 }
+        requires form { IsFormEvent event }
+        requires number { event ≢ Save → self.old.tables.kv.number < 2 ^ 63 }
+        requires next_tx { event ≢ Save → self.old.tables.next_tx < 2 ^ 63 }
         ensures ends { LineEnds S.kind (span (is_down self.old.replicas) shelf.old shelf.new)
-            self.old self.new event.now result }
+            self.old self.new event result }
         ensures serves { IfOk result (ServesEvent S.kind
             (span (is_down self.old.replicas) shelf.old shelf.new) (lent_of self.old self.new)
             (Rose (K.view keeper.old).faults (K.view keeper.new).faults)
-            (self.old.tables, self.new.tables) event.now) }
+            (self.old.tables, self.new.tables) event) }
         ensures keeper { IfOk result (KeeperTurn S.kind
             (span (is_down self.old.replicas) shelf.old shelf.new)
             (keeper_span K.view K.follows K.refused keeper.old keeper.new) self.old.settings
-            self.old.tables self.new.tables event.now) }
+            self.old.tables self.new.tables event) }
         ensures untouched { OnErr result (keeper.new ≡ keeper.old) }
     {
         match event {
-            Event::Down(k) => return Ok(self.server(*k, true)),
-            Event::Up(k) => return Ok(self.server(*k, false)),
+            Event::Down(k) => return Ok(self.server(k, true)),
+            Event::Up(k) => return Ok(self.server(k, false)),
             Event::Tree => return self.show(),
             Event::Save => {
                 let saved = self
@@ -431,19 +364,19 @@ impl Core {
     fn by_tables<S: SliceStore>(
         &mut self,
         shelf: &mut Shelf<S>,
-        event: &Event,
+        event: Event,
     ) -> Result<Answer, OutOfMemory>
         requires shelf { self.old.settings.servers ≤ length shelf.old }
         requires inside { IsInside S.kind shelf.old self.old }
-        requires asked { is_of_tables event.now ≡ true }
-        requires form { IsFormEvent event.now }
+        requires asked { is_of_tables event ≡ true }
+        requires form { IsFormEvent event }
         requires number { self.old.tables.kv.number < 2 ^ 63 }
         requires next_tx { self.old.tables.next_tx < 2 ^ 63 }
         ensures ends { LineEnds S.kind (span (is_down self.old.replicas) shelf.old shelf.new)
-            self.old self.new event.now result }
+            self.old self.new event result }
         ensures serves { IfOk result (ServesLine S.kind
             (span (is_down self.old.replicas) shelf.old shelf.new) (lent_of self.old self.new)
-            self.old.tables self.new.tables event.now) }
+            self.old.tables self.new.tables event) }
     {
         let mut dev = Dev {
             shelf,
@@ -452,7 +385,7 @@ impl Core {
             cache: &mut self.cache,
             settings: self.settings,
         };
-        let result = tables_line(self.alloc, &mut self.tables, &mut dev, event);
+        let result = tables_line(&mut self.tables, &mut dev, event);
         // all tables are sound, so these are
         let _number = self.tables.number();
         result

@@ -13,19 +13,17 @@ ghost use Rattle.wtf_clients.specs.Safe.{LieIn};
 ghost use Rattle.wtf_clients.specs.Sounds.{AreSound};
 ghost use Rattle.wtf_core.specs.Lent.{is_of_tables, TablesDone};
 
-use std::alloc::Global;
 use wtf_base::OutOfMemory;
 use wtf_clients::Tables;
 use wtf_dev::SliceStore;
-use wtf_model::{Answer, Event, Verb, copy_op};
+use wtf_model::{Answer, Event, Verb};
 use wtf_region::Dev;
 
 /// Answers a line of the tables.
 pub(crate) fn tables_line<S: SliceStore>(
-    alloc: Global,
     tables: &mut Tables,
     dev: &mut Dev<'_, S>,
-    event: &Event,
+    event: Event,
 ) -> Result<Answer, OutOfMemory>
     requires sound { AreSound tables.old }
     requires dev { IsSoundDev S.kind dev.old }
@@ -33,48 +31,47 @@ pub(crate) fn tables_line<S: SliceStore>(
     requires inside { TablesBytes (is_inside S.kind (stores dev.old) dev.old.settings)
         any_slice tables.old }
     requires lie { LieIn tables.old.beside.gc (size_in S.kind (stores dev.old)) }
-    requires asked { is_of_tables event.now ≡ true }
-    requires form { IsFormEvent event.now }
+    requires asked { is_of_tables event ≡ true }
+    requires form { IsFormEvent event }
     requires number { tables.old.kv.number < 2 ^ 63 }
     requires next_tx { tables.old.next_tx < 2 ^ 63 }
-    ensures { TablesDone S.kind dev.old dev.new tables.old tables.new event.now result }
+    ensures { TablesDone S.kind dev.old dev.new tables.old tables.new event result }
 {
     match event {
-        Event::Client(c, verb) => return client_line(alloc, tables, dev, *c, verb),
+        Event::Client(c, verb) => return client_line(tables, dev, c, verb),
         Event::Plan {
             job,
             kind,
             path,
             region,
-        } => return tables.plan(dev, *job, *kind, path, *region),
-        Event::Put(job) => return tables.put_job(*job),
-        Event::DropJob(job) => return Ok(tables.drop_job(*job)),
+        } => return tables.plan(dev, job, kind, &path, region),
+        Event::Put(job) => return tables.put_job(job),
+        Event::DropJob(job) => return Ok(tables.drop_job(job)),
         Event::Scan => return tables.scan(&*dev.shelf),
-        Event::Piece(parts) => return tables.piece(dev, *parts),
-        Event::Collect(k) => return tables.collect(dev, *k),
-        Event::Dump(p) => return tables.dump(dev, p),
+        Event::Piece(parts) => return tables.piece(dev, parts),
+        Event::Collect(k) => return tables.collect(dev, k),
+        Event::Dump(p) => return tables.dump(dev, &p),
         _ => unreachable!(),
     }
 }
 
 /// Answers a client's line.
 fn client_line<S: SliceStore>(
-    alloc: Global,
     tables: &mut Tables,
     dev: &mut Dev<'_, S>,
     c: u8,
-    verb: &Verb,
+    verb: Verb,
 ) -> Result<Answer, OutOfMemory>
     requires sound { AreSound tables.old }
     requires dev { IsSoundDev S.kind dev.old }
     requires ring { IsRing dev.old.settings.servers dev.old.ring.now.points }
     requires inside { TablesBytes (is_inside S.kind (stores dev.old) dev.old.settings)
         any_slice tables.old }
-    requires form { IsFormVerb verb.now }
+    requires form { IsFormVerb verb }
     requires number { tables.old.kv.number < 2 ^ 63 }
     requires next_tx { tables.old.next_tx < 2 ^ 63 }
     ensures { TablesDone S.kind dev.old dev.new tables.old tables.new
-        (event.Client c verb.now) result }
+        (event.Client c verb) result }
 {
     match verb {
         Verb::Begin => return tables.begin(c),
@@ -82,9 +79,6 @@ fn client_line<S: SliceStore>(
         Verb::Step => return tables.step(dev, c),
         Verb::Commit => return tables.commit(dev, c),
         Verb::Abort => return Ok(tables.abort(c)),
-        Verb::Call(op) => {
-            let own = copy_op(alloc, op)?;
-            return tables.call(dev, c, own);
-        }
+        Verb::Call(op) => return tables.call(dev, c, op),
     }
 }

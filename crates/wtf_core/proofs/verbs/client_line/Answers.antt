@@ -50,14 +50,11 @@ returns-in-Abort g c =
     (abort_done g.met.S.SliceStore.laws dev c.requires.dev c.args.tables.now c.abort.new.self c.requires.sound c.requires.inside c.args.c
     (Ok c.abort.result) c.abort.ensures.turn refl)
 
--- the call that was copied is the one that was asked
 pub returns-in-Call : goal.returns-in-Call
 returns-in-Call g c =
     let kind = g.S.SliceStore.kind in
     let did = c.call.ensures in
     subst (λ (v : Verb). TablesDone kind c.args.dev.now c.call.new.dev c.args.tables.now c.call.new.self (event.Client c.args.c v) c.call.result)
     (sym c.in-Call.is)
-    (subst (λ o. TablesDone kind c.args.dev.now c.call.new.dev c.args.tables.now c.call.new.self (event.Client c.args.c (verb.Call o)) c.call.result)
-    c.in_ok-own-in-Call.ensures
-    (lent_done kind c.args.dev.now c.call.new.dev c.args.tables.now c.call.new.self (event.Client c.args.c (verb.Call c.in_ok-own-in-Call.own))
-    c.call.result did.turn did.serves did.told (λ goes. goes) did.err did.leaves did.dev refl))
+    (lent_done kind c.args.dev.now c.call.new.dev c.args.tables.now c.call.new.self (event.Client c.args.c (verb.Call c.in-Call.op))
+    c.call.result did.turn did.serves did.told (λ goes. goes) did.err did.leaves did.dev refl)

@@ -15,7 +15,7 @@ use Rattle.wtf_core.proofs.store.Core.answer.Goals as goal
 
 pub by_tables-requires-clause-asked : goal.by_tables-requires-clause-asked
 by_tables-requires-clause-asked g c =
-    of_tables c.args.event.now (λ k. c.in_default.not-Down k) (λ k. c.in_default.not-Up k) c.in_default.not-Tree c.in_default.not-Save
+    of_tables c.args.event (λ k. c.in_default.not-Down k) (λ k. c.in_default.not-Up k) c.in_default.not-Tree c.in_default.not-Save
 
 pub returns-in-Down-clause-ends : goal.returns-in-Down-clause-ends
 returns-in-Down-clause-ends g c =
@@ -128,8 +128,8 @@ returns-in_default-clause-serves g c =
     if_some c.by_tables.result c.by_tables.ensures.serves
     (λ a s. line_serves kind (span (is_down old.replicas) c.args.shelf.now c.by_tables.new.shelf) (lent_of old c.by_tables.new.self)
     rose old.tables c.by_tables.new.self.tables
-    c.args.event.now a
-    (of_tables c.args.event.now (λ k. c.in_default.not-Down k) (λ k. c.in_default.not-Up k) c.in_default.not-Tree c.in_default.not-Save) s)
+    c.args.event a
+    (of_tables c.args.event (λ k. c.in_default.not-Down k) (λ k. c.in_default.not-Up k) c.in_default.not-Tree c.in_default.not-Save) s)
 
 pub returns-in_default-clause-keeper : goal.returns-in_default-clause-keeper
 returns-in_default-clause-keeper g c =
@@ -137,5 +137,5 @@ returns-in_default-clause-keeper g c =
     if_some c.by_tables.result c.by_tables.ensures.serves
     (λ a s. line_untouched g.S.SliceStore.kind (span (is_down old.replicas) c.args.shelf.now c.by_tables.new.shelf)
     (keeper_span g.K.Keeper.view g.K.Keeper.follows g.K.Keeper.refused c.args.keeper.now c.args.keeper.now) old.settings old.tables
-    c.by_tables.new.self.tables c.args.event.now a
-    (of_tables c.args.event.now (λ k. c.in_default.not-Down k) (λ k. c.in_default.not-Up k) c.in_default.not-Tree c.in_default.not-Save) refl)
+    c.by_tables.new.self.tables c.args.event a
+    (of_tables c.args.event (λ k. c.in_default.not-Down k) (λ k. c.in_default.not-Up k) c.in_default.not-Tree c.in_default.not-Save) refl)

@@ -52,7 +52,7 @@ pub returns-clause-ends : goal.returns-clause-ends
 returns-clause-ends g c =
     let kind = g.S.SliceStore.kind in
     let shelf = c.args.shelf.now in
-    let e = c.args.event.now in
+    let e = c.args.event in
     let r = c.tables_line-result.result in
     let at = (goal.at.returns-clause-ends g c).After-tables_line-result in
     subst (λ (s : List g.row.S.Denot). LineEnds kind (span (is_down c.args.self.now.replicas) shelf s) c.args.self.now (left g c) e r)
@@ -67,7 +67,7 @@ pub returns-clause-serves : goal.returns-clause-serves
 returns-clause-serves g c =
     let kind = g.S.SliceStore.kind in
     let shelf = c.args.shelf.now in
-    let e = c.args.event.now in
+    let e = c.args.event in
     let r = c.tables_line-result.result in
     let at = (goal.at.returns-clause-serves g c).After-tables_line-result in
     subst (λ (s : List g.row.S.Denot). IfOk r (ServesLine kind (span (is_down c.args.self.now.replicas) shelf s) (lent_of c.args.self.now (left g c))
