@@ -1,6 +1,8 @@
 -- What a journal's image and its changes give.
 use Rattle.std.proofs.Common.{◌≡◌, ◌∙◌, ℕ, Bool, true, false, List, [], ◌∷◌, ◌++◌, Option, None, Some, refl, sym, ap, subst, append-nil}
-use Rattle.std.specs.Prelude.{zero, suc, IfSome, MatchOption}
+use Rattle.std.specs.Prelude.{zero, suc, IfOk, OnOk, MatchOption, Result, Ok, Err, Vec}
+use Rattle.std.specs.declared.alloc.Global.{Global}
+use Rattle.wtf_base.specs.declared.memory.OutOfMemory.{OutOfMemory}
 use Rattle.std.specs.Option.{option_map}
 use Rattle.wtf_overlay.specs.Reading.{◌>>=◌}
 use Rattle.wtf_spillfmt.proofs.Codecs.{IsBytes}
@@ -8,14 +10,19 @@ use Rattle.wtf_imagefmt.specs.Images.{HasText}
 use Rattle.wtf_imagefmt.specs.Reading.{image_of}
 use Rattle.wtf_imagefmt.specs.Rows.{ImageRows}
 use Rattle.wtf_imagefmt.proofs.Forms.{image_takes, image_again}
-use Rattle.wtf_changes.specs.declared.error.ApplyError.{ApplyError}
-use Rattle.wtf_changes.specs.declared.error.ApplyError.TheVariants as error
-use Rattle.wtf_changes.specs.Applying.{HasApplied, AreNoChanges, IsRefusal, IsSomeImage}
-use Rattle.wtf_changes.specs.Drafts.{applied}
+use Rattle.wtf_imagefmt.specs.Texts.{image_text}
+use Rattle.wtf_imagefmt.specs.Writing.{IsWide}
+use Rattle.wtf_changes.specs.Applying.{IsSomeImage}
+use Rattle.wtf_changes.specs.Drafts.{DraftRows, applied, changed, taken, written}
+use Rattle.wtf_changes.specs.Shapes.{HasChanges}
+use Rattle.wtf_changes.proofs.Drafts.{IsSortedDraft, changed-sorted, taken-sorted, written-form}
+use Rattle.wtf_journal.specs.declared.held.Shown.{Shown}
+use Rattle.wtf_journal.specs.declared.held.Shown.TheVariants.{Image, Changed}
+use Rattle.wtf_journal.proofs.Drafted.{taken_again}
 use Rattle.wtf_changes.specs.Reading.{changes_of}
 use Rattle.wtf_changes.specs.Rows.{ChangeRows}
 use Rattle.wtf_changes.proofs.Forms.{changes_takes, changes_again}
-use Rattle.wtf_journal.specs.Held.{Held, image_by, changed_by, held_by, is_changes, ends_in_changes, IsTextOf, HeldView, view_by, IsMadeImage, renewal}
+use Rattle.wtf_journal.specs.Held.{Held, HeldView, IsMadeBy, IsTextOf, changed_by, ends_in_changes, held_by, image_by, is_changes, made_in, renewal, view_by}
 use Rattle.wtf_journal.specs.Scan.{make_on, held_after}
 use Rattle.wtf_journal.proofs.Scans.{held_after-none, held_after-push}
 
@@ -26,71 +33,62 @@ read_as x bytes has = ap image_of has.text ∙ image_again x has.shape
 pub text_as : (bytes : List ℕ) (x : ImageRows) → IsBytes bytes → image_of bytes ≡ Some x → HasText x bytes
 text_as bytes x fits is = let t = image_takes bytes x fits is in record { shape = t.0; text = t.1 }
 
--- a text is one thing's
 abbrev some_or : {A : Type 0} → A → Option A → A
 some_or x None = x
 some_or x (Some y) = y
 
-one_text : (x y : ImageRows) (bytes : List ℕ) → HasText x bytes → HasText y bytes → x ≡ y
-one_text x y bytes a b = ap (some_or x) (sym (read_as x bytes a) ∙ read_as y bytes b)
-
--- what is held as bytes
-pub held_text : {V : Type 0} (items : V → List ℕ) (o : Option V) (v : V) (rows : Held) → o ≡ Some v → (o >>= λ w. image_of (items w)) ≡ rows
-    → IfSome o (λ w. IsSomeImage (items w)) → IsTextOf rows (items v)
-held_text {V = V} items o v rows is view held =
-    let some = subst (λ (p : Option V). IfSome p (λ w. IsSomeImage (items w))) is held in
-    subst (λ (h : Held). IsTextOf h (items v))
-    (sym (read_as some.rows (items v) some.text) ∙ ap (λ (p : Option V). p >>= λ w. image_of (items w)) (sym is) ∙ view) some.text
+-- an image has its bytes for its text
+pub some_text : (bytes : List ℕ) → IsSomeImage bytes → IsTextOf (image_of bytes) bytes
+some_text bytes some = subst (λ (h : Held). IsTextOf h bytes) (sym (read_as some.rows bytes some.text)) some.text
 
 -- an image in a body
-pub image_made : (bytes : List ℕ) (x : ImageRows) → IsBytes bytes → image_of bytes ≡ Some x → IsMadeImage (image_by bytes) bytes
-image_made bytes x fits is = record { rows = x; text = text_as bytes x fits is; made_is = ap (λ (o : Held). o >>= λ y. Some (Some y)) is }
+pub image_made : (bytes : List ℕ) (x : ImageRows) (v : Vec ℕ Global) → IsBytes bytes → image_of bytes ≡ Some x → v.items ≡ bytes
+    → IsMadeBy (image_by bytes) false (Image v)
+image_made bytes x v fits is items = record {
+  kept = record { rows = x; text = subst (λ (l : List ℕ). HasText x l) (sym items) (text_as bytes x fits is) };
+  made_is = ap (λ (o : Held). o >>= λ y. Some (Some y)) is ∙ ap (λ (h : Held). Some h) (sym (ap image_of items ∙ is));
+  is_changed = refl;
+}
 
-pub no_image_made : (bytes : List ℕ) → image_of bytes ≡ None → image_by bytes ≡ None
-no_image_made bytes none = ap (λ (o : Held). o >>= λ y. Some (Some y)) none
+-- the bytes of a draft
+pub draft_text : (d : DraftRows) (x : ImageRows) (r : Result (Vec ℕ Global) OutOfMemory) → taken (written d) ≡ d → x ≡ written d
+    → IfOk r (λ v. v.items ≡ image_text x) → OnOk r (IsWide x) → IfOk r (λ v. HasText (written d) v.items)
+draft_text d x (Err why) kept is text wide = tt
+draft_text d x (Ok v) kept is text wide = record {
+  shape = written-form d (subst IsSortedDraft kept (taken-sorted (written d))) (subst IsWide is wide);
+  text = text ∙ ap image_text is;
+}
 
--- changes in a body, made in the image before
-module _ (image changes : List ℕ) (x : ImageRows) (has : HasText x image) where
-  by_rows : changed_by (image_of image) changes ≡ changed_by (Some x) changes
-  by_rows = ap (λ (h : Held). changed_by h changes) (read_as x image has)
+-- changes that are made in a draft
+module _ (x : ImageRows) (ch : ChangeRows) (before : DraftRows) (start : before ≡ taken x) where
+  pub draft_changed : (after : DraftRows) → changed before ch ≡ Some after → IsMadeBy (made_in x ch) true (Changed after)
+  draft_changed after is =
+      let made : changed (taken x) ch ≡ Some after = ap (λ (d : DraftRows). changed d ch) (sym start) ∙ is in
+      record {
+        kept = taken_again after (changed-sorted (taken x) after ch (taken-sorted x) made);
+        made_is = ap (λ (o : Option DraftRows). option_map written o >>= λ y. Some (Some y)) made;
+        is_changed = refl;
+      }
 
-  pub changes_made : (made : List ℕ) → HasApplied image changes made → IsMadeImage (changed_by (image_of image) changes) made
-  changes_made made is = record {
-    rows = is.after;
-    text = is.text;
-    made_is = by_rows
-        ∙ ap (λ (o : Option ChangeRows). o >>= λ ch. applied x ch >>= λ y. Some (Some y))
-        (ap changes_of is.are_changes.text ∙ changes_again is.rows is.are_changes.shape)
-        ∙ ap (λ (o : Held). o >>= λ y. Some (Some y)) (ap (λ (y : ImageRows). applied y is.rows) (one_text x is.before image has is.is_image) ∙ is.made);
-  }
+-- changes in a body, made in what there was before
+module _ (held : Held) (bytes : List ℕ) where
+  pub changes_made : (r : Result (Option Shown) OutOfMemory) (x : ImageRows) (ch : ChangeRows) → held ≡ Some x → HasChanges ch bytes
+      → IfOk r (λ o. MatchOption o (made_in x ch ≡ None) (IsMadeBy (made_in x ch) true))
+      → IfOk r (λ o. MatchOption o (changed_by held bytes ≡ None) (IsMadeBy (changed_by held bytes) true))
+  changes_made r x ch is are made =
+      subst (λ (m : Option Held). IfOk r (λ o. MatchOption o (m ≡ None) (IsMadeBy m true)))
+      (sym (ap (λ (h : Held). changed_by h bytes) is
+      ∙ ap (λ (o : Option ChangeRows). o >>= λ c. made_in x c) (ap changes_of are.text ∙ changes_again ch are.shape)))
+      made
 
-  refused_by : (o : Option ChangeRows) → ((ch : ChangeRows) → o ≡ Some ch → applied x ch ≡ None) → (o >>= λ ch. applied x ch >>= λ y. Some (Some y)) ≡ None
-  refused_by None none = refl
-  refused_by (Some ch) none = ap (λ (p : Held). p >>= λ y. Some (Some y)) (none ch refl)
+  unread : (o : Option ChangeRows) (x : ImageRows) → ((ch : ChangeRows) → o ≡ Some ch → ⊥) → (o >>= λ ch. made_in x ch) ≡ None
+  unread None x none = refl
+  unread (Some ch) x none = absurd (none ch refl)
 
-  pub changes_refused : (why : ApplyError) → IsBytes changes → why ≡ error.NotChanges → IsRefusal image changes why → changed_by (image_of image) changes ≡ None
-  changes_refused why fits is refused =
-      let none : AreNoChanges image changes = subst (λ (w : ApplyError). IsRefusal image changes w) is refused in
-      by_rows ∙ refused_by (changes_of changes) (λ ch reads. let t = changes_takes changes ch fits reads in none x ch has (record { shape = t.0; text = t.1 }))
-
--- the state that is made of them
-pub view_made : (v : HeldView) (body bytes : List ℕ) → IsMadeImage (held_by v.rows body) bytes
-    → view_by v body ≡ Some (record { rows = image_of bytes; behind = is_changes body })
-view_made v body bytes made =
-    ap (λ (o : Option Held). o >>= λ rows. Some (record { rows = rows; behind = is_changes body })) made.made_is
-    ∙ ap (λ (rows : Held). Some (record { rows = rows; behind = is_changes body })) (sym (read_as made.rows bytes made.text))
-
-pub view_refused : (v : HeldView) (body : List ℕ) → held_by v.rows body ≡ None → view_by v body ≡ None
-view_refused v body none = ap (λ (o : Option Held). o >>= λ rows. Some (record { rows = rows; behind = is_changes body })) none
-
--- and told of the code: what it took is what it has then
-pub taken : {V : Type 0} (items : V → List ℕ) (made : Option V) (v : V) (view old : HeldView) (body : List ℕ) (behind : Bool) → made ≡ Some v → view ≡ old
-    → MatchOption made (held_by view.rows body ≡ None) (λ w. IsMadeImage (held_by view.rows body) (items w)) → behind ≡ is_changes body
-    → view_by old body ≡ Some (record { rows = image_of (items v); behind = behind })
-taken {V = V} items made v view old body behind is same gives last =
-    let image = subst (λ (p : Option V). MatchOption p (held_by view.rows body ≡ None) (λ w. IsMadeImage (held_by view.rows body) (items w))) is gives in
-    ap (λ (w : HeldView). view_by w body) (sym same) ∙ view_made view body (items v) image
-    ∙ ap (λ (b : Bool). Some (record { rows = image_of (items v); behind = b })) (sym last)
+  pub changes_unread : (x : ImageRows) → held ≡ Some x → IsBytes bytes → ((ch : ChangeRows) → HasChanges ch bytes → ⊥) → changed_by held bytes ≡ None
+  changes_unread x is fits none =
+      ap (λ (h : Held). changed_by h bytes) is
+      ∙ unread (changes_of bytes) x (λ ch reads. let t = changes_takes bytes ch fits reads in none ch (record { shape = t.0; text = t.1 }))
 
 -- seen as rows alone
 rows_only : (o : Option Held) (behind : Bool) → option_map (λ (v : HeldView). v.rows) (o >>= λ rows. Some (record { rows = rows; behind = behind })) ≡ o

@@ -6,5 +6,8 @@ pub mod Bytes
 pub mod Scans
 pub mod Opens
 pub mod Coarse
+pub mod Drafted
 pub mod Gives
 pub mod Renewed
+pub mod Front
+pub mod Keeping

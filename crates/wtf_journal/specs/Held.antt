@@ -1,11 +1,15 @@
 -- What the records of a journal give: an image, and changes that are made in the image before them.
-use Rattle.std.specs.Prelude.{◌≡◌, ℕ, zero, suc, nat_eq, Bool, false, if◌then◌else◌, List, [], ◌∷◌, ◌++◌, Option, None, Some}
+use Rattle.std.specs.Prelude.{◌≡◌, ⊤, ℕ, zero, suc, nat_eq, Bool, true, false, if◌then◌else◌, List, [], ◌∷◌, ◌++◌, Option, None, Some}
 use Rattle.wtf_overlay.specs.Reading.{◌>>=◌}
 use Rattle.wtf_imagefmt.specs.Images.{HasText}
 use Rattle.wtf_imagefmt.specs.Reading.{image_of}
 use Rattle.wtf_imagefmt.specs.Rows.{ImageRows}
-use Rattle.wtf_changes.specs.Drafts.{applied}
+use Rattle.wtf_changes.specs.Applying.{IsSomeImage}
+use Rattle.wtf_changes.specs.Drafts.{DraftRows, applied, taken, written}
 use Rattle.wtf_changes.specs.Reading.{changes_of}
+use Rattle.wtf_changes.specs.Rows.{ChangeRows}
+use Rattle.wtf_journal.specs.declared.held.Shown.{Shown}
+use Rattle.wtf_journal.specs.declared.held.Shown.TheVariants.{Nothing, Image, Changed}
 use Rattle.wtf_dev.specs.Disk.{DiskKind}
 use Rattle.wtf_journal.specs.Records.{HasBodies, RestsAt}
 use Rattle.wtf_journal.specs.Scan.{JournalGives, held_after}
@@ -45,9 +49,26 @@ abbrev pub IsTextOf : Held → List ℕ → Type 0
 IsTextOf None bytes = bytes ≡ []
 IsTextOf (Some x) bytes = HasText x bytes
 
--- what bytes hold, if there are any
-abbrev pub rows_in : {V : Type 0} → Option V → (V → List ℕ) → Held
-rows_in o items = o >>= λ v. image_of (items v)
+-- what there is, as rows
+abbrev pub rows_shown : Shown → Held
+rows_shown Nothing = None
+rows_shown (Image v) = image_of v.items
+rows_shown (Changed d) = Some (written d)
+
+abbrev pub is_changed : Shown → Bool
+is_changed Nothing = false
+is_changed (Image v) = false
+is_changed (Changed d) = true
+
+-- the bytes are an image, and a draft is taken of its image as it is
+abbrev pub IsKeptAs : Shown → Type 0
+IsKeptAs Nothing = ⊤
+IsKeptAs (Image v) = IsSomeImage v.items
+IsKeptAs (Changed d) = taken (written d) ≡ d
+
+-- a draft of the image that is held
+abbrev pub DrawsHeld : Held → DraftRows → Type 0
+DrawsHeld held d = (x : ImageRows) × (held ≡ Some x) × (d ≡ taken x)
 
 -- what is held, and whether changes came behind the last image
 pub record HeldView : Type 0 where
@@ -61,11 +82,15 @@ nothing_held = record { rows = None; behind = false }
 abbrev pub view_by : HeldView → List ℕ → Option HeldView
 view_by v body = held_by v.rows body >>= λ rows. Some (record { rows = rows; behind = is_changes body })
 
--- bytes are an image that a body makes
-pub record IsMadeImage (made : Option Held) (bytes : List ℕ) : Type 0 where
-  pub rows : ImageRows
-  pub text : HasText rows bytes
-  pub made_is : made ≡ Some (Some rows)
+-- what a body makes, of changes or of an image
+pub record IsMadeBy (made : Option Held) (changes : Bool) (shown : Shown) : Type 0 where
+  pub kept : IsKeptAs shown
+  pub made_is : made ≡ Some (rows_shown shown)
+  pub is_changed : is_changed shown ≡ changes
+
+-- changes that are made in an image
+abbrev pub made_in : ImageRows → ChangeRows → Option Held
+made_in x ch = applied x ch >>= λ y. Some (Some y)
 
 -- the record that is added where changes came behind the last image
 abbrev pub renewal : Bool → List ℕ → List (List ℕ)

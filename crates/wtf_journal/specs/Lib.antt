@@ -5,3 +5,5 @@ pub mod Views
 pub mod Records
 pub mod Scan
 pub mod Held
+pub mod Meant
+pub mod Keeper

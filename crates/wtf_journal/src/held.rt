@@ -1,41 +1,50 @@
 //! What the records of a journal give: the image of the last one, with the changes after it made in it.
 
-ghost use Rattle.std.specs.Prelude.{◌≡◌, ◌∷◌, ℕ, List, IfOk, IfSome, MatchOption};
+ghost use Rattle.std.specs.Prelude.{◌≡◌, None, true, false, IfOk, MatchOption};
+ghost use Rattle.wtf_imagefmt.specs.Images.{HasText};
 ghost use Rattle.wtf_imagefmt.specs.Reading.{image_of};
+ghost use Rattle.wtf_imagefmt.specs.Rows.{ImageRows};
 ghost use Rattle.wtf_changes.specs.Applying.{IsSomeImage};
-ghost use Rattle.wtf_journal.specs.Held.{IsMadeImage, IsTextOf, changed_by, held_by, image_by, is_changes, nothing_held, rows_in, view_by};
+ghost use Rattle.wtf_changes.specs.Drafts.{taken, written};
+ghost use Rattle.wtf_changes.specs.Rows.{rows_of};
+ghost use Rattle.wtf_journal.specs.Held.{DrawsHeld, IsKeptAs, IsMadeBy, IsTextOf, changed_by, held_by, image_by, is_changes, made_in, nothing_held, rows_shown, view_by};
 
 use crate::Meaning;
+use crate::body::{CHANGES, IMAGE};
 use std::alloc::Global;
 use std::marker::Model;
+use std::mem;
 use wtf_base::OutOfMemory;
-use wtf_changes::{ApplyError, apply};
-use wtf_imagefmt::image_of;
+use wtf_changes::{ApplyError, Changes, Draft, read};
+use wtf_imagefmt::{image_of, write};
 use wtf_spillfmt::ListError;
 
-// What stands before the bytes of an image, and of changes, in a body.
-pub(crate) const IMAGE: u8 = 0;
-
-const CHANGES: u8 = 1;
+/// What the records so far give.
+#[derive(Drop)]
+pub(crate) enum Shown {
+    /// No image: there was no record.
+    Nothing,
+    /// The image with these bytes.
+    Image(Vec<u8>),
+    /// An image in which changes were made.
+    Changed(Draft),
+}
 
 /// The image that the records so far give, if there is one.
 #[derive(Drop)]
 pub(crate) struct Held {
     alloc: Global,
-    image: Option<Vec<u8>>,
-    behind: bool,
+    shown: Shown,
 }
 
 impl Model for Held {
-    ghost use Rattle.std.specs.Prelude.{IfSome};
-    ghost use Rattle.wtf_changes.specs.Applying.{IsSomeImage};
-    ghost use Rattle.wtf_journal.specs.Held.{HeldView, rows_in};
+    ghost use Rattle.wtf_journal.specs.Held.{HeldView, IsKeptAs, is_changed, rows_shown};
 
     ghost Value = { HeldView };
 
-    ghost view = { λ h. record { rows = rows_in h.image (λ v. v.items); behind = h.behind } };
+    ghost view = { λ h. record { rows = rows_shown h.shown; behind = is_changed h.shown } };
 
-    ghost invariant = { λ h. IfSome h.image (λ v. IsSomeImage v.items) };
+    ghost invariant = { λ h. IsKeptAs h.shown };
 }
 
 impl Held {
@@ -45,8 +54,7 @@ impl Held {
     {
         Held {
             alloc,
-            image: None,
-            behind: false,
+            shown: Shown::Nothing,
         }
     }
 
@@ -54,14 +62,14 @@ impl Held {
     pub(crate) fn is_behind(&self) -> bool
         ensures { result ≡ self.now.behind }
     {
-        self.behind
+        matches!(self.shown, Shown::Changed(_))
     }
 
     /// The bytes of the image, none where there is none.
-    pub(crate) fn into_image(self) -> Vec<u8>
-        ensures { IsTextOf self.rows result.items }
+    pub(crate) fn into_image(self) -> Result<Vec<u8>, OutOfMemory>
+        ensures { IfOk result (λ v. IsTextOf self.rows v.items) }
     {
-        bytes_of(self.alloc, self.image)
+        bytes_of(self.alloc, self.shown)
     }
 }
 
@@ -69,24 +77,34 @@ impl Meaning for Held {
     ghost makes = { view_by };
 
     fn take(&mut self, body: &[u8]) -> Result<bool, OutOfMemory> {
-        let Some(image) = made(self.alloc, &self.image, body)? else {
+        let before = mem::replace(&mut self.shown, Shown::Nothing);
+        let Some(shown) = made(self.alloc, before, body)? else {
             return Ok(false);
         };
-        self.image = Some(image);
-        self.behind = is_changes(body);
+        self.shown = shown;
         Ok(true)
     }
 }
 
 // The bytes of an image, none where there is none.
-fn bytes_of(alloc: Global, image: Option<Vec<u8>>) -> Vec<u8>
-    requires { IfSome image (λ v. IsSomeImage v.items) }
-    ensures { IsTextOf (rows_in image (λ v. v.items)) result.items }
+fn bytes_of(alloc: Global, shown: Shown) -> Result<Vec<u8>, OutOfMemory>
+    requires { IsKeptAs shown }
+    ensures { IfOk result (λ v. IsTextOf (rows_shown shown) v.items) }
 {
-    let Some(image) = image else {
-        return Vec::new(alloc);
-    };
-    image
+    match shown {
+        Shown::Nothing => Ok(Vec::new(alloc)),
+        Shown::Image(image) => Ok(image),
+        Shown::Changed(draft) => text_of(alloc, &draft),
+    }
+}
+
+// The bytes of an image in which changes were made.
+fn text_of(alloc: Global, draft: &Draft) -> Result<Vec<u8>, OutOfMemory>
+    requires { taken (written draft.now) ≡ draft.now }
+    ensures { IfOk result (λ v. HasText (written draft.now) v.items) }
+{
+    let image = draft.image(alloc)?;
+    write(alloc, &image)
 }
 
 // Whether a body is one of changes.
@@ -96,13 +114,11 @@ fn is_changes(body: &[u8]) -> bool
     !body.is_empty() && body[0] == CHANGES
 }
 
-// The image that a body makes of the one before it, if it is in the format. Each record of changes makes all of the image
-// anew: a draft of it that all of them change is not public there.
-fn made(alloc: Global, image: &Option<Vec<u8>>, body: &[u8]) -> Result<Option<Vec<u8>>, OutOfMemory>
-    requires { IfSome image.now (λ v. IsSomeImage v.items) }
-    ensures { IfOk result (λ o. MatchOption o
-        (held_by (rows_in image.now (λ v. v.items)) body.now ≡ None)
-        (λ v. IsMadeImage (held_by (rows_in image.now (λ w. w.items)) body.now) v.items)) }
+// What a body makes of what there was before it, if it is in the format.
+fn made(alloc: Global, before: Shown, body: &[u8]) -> Result<Option<Shown>, OutOfMemory>
+    requires { IsKeptAs before }
+    ensures { IfOk result (λ o. MatchOption o (held_by (rows_shown before) body.now ≡ None)
+        (IsMadeBy (held_by (rows_shown before) body.now) (is_changes body.now))) }
 {
     if body.is_empty() {
         return Ok(None);
@@ -113,16 +129,13 @@ fn made(alloc: Global, image: &Option<Vec<u8>>, body: &[u8]) -> Result<Option<Ve
     if body[0] != CHANGES {
         return Ok(None);
     }
-    let Some(image) = image else {
-        return Ok(None);
-    };
-    changed(alloc, image, &body[1..])
+    changed(alloc, before, &body[1..])
 }
 
 // Bytes, if they are an image.
-fn image_in(alloc: Global, bytes: &[u8]) -> Result<Option<Vec<u8>>, OutOfMemory>
+fn image_in(alloc: Global, bytes: &[u8]) -> Result<Option<Shown>, OutOfMemory>
     ensures { IfOk result (λ o. MatchOption o (image_by bytes.now ≡ None)
-        (λ v. IsMadeImage (image_by bytes.now) v.items)) }
+        (IsMadeBy (image_by bytes.now) false)) }
 {
     match image_of(alloc, bytes) {
         Ok(_) => {}
@@ -131,18 +144,58 @@ fn image_in(alloc: Global, bytes: &[u8]) -> Result<Option<Vec<u8>>, OutOfMemory>
     }
     let mut image = Vec::new(alloc);
     image.extend_from_slice(bytes)?;
-    Ok(Some(image))
+    Ok(Some(Shown::Image(image)))
 }
 
-// An image with changes made in it, if they are changes of it.
-fn changed(alloc: Global, image: &[u8], changes: &[u8]) -> Result<Option<Vec<u8>>, OutOfMemory>
-    requires { IsSomeImage image.now }
-    ensures { IfOk result (λ o. MatchOption o (changed_by (image_of image.now) changes.now ≡ None)
-        (λ v. IsMadeImage (changed_by (image_of image.now) changes.now) v.items)) }
+// What there was before with changes made in it, if the bytes are changes of it.
+fn changed(alloc: Global, before: Shown, bytes: &[u8]) -> Result<Option<Shown>, OutOfMemory>
+    requires { IsKeptAs before }
+    ensures { IfOk result (λ o. MatchOption o (changed_by (rows_shown before) bytes.now ≡ None)
+        (IsMadeBy (changed_by (rows_shown before) bytes.now) true)) }
 {
-    match apply(alloc, image, changes) {
-        Ok(made) => return Ok(Some(made)),
-        Err(ApplyError::NotChanges) => return Ok(None),
-        Err(ApplyError::Memory) => return Err(OutOfMemory),
+    let Some(draft) = draft_of(alloc, before)? else {
+        return Ok(None);
+    };
+    match read(alloc, bytes) {
+        Ok(changes) => make(alloc, draft, &changes),
+        Err(ListError::NotAList) => Ok(None),
+        Err(ListError::Memory) => Err(OutOfMemory),
+    }
+}
+
+// A draft of the image that there was before, if there was one.
+fn draft_of(alloc: Global, before: Shown) -> Result<Option<Draft>, OutOfMemory>
+    requires { IsKeptAs before }
+    ensures { IfOk result (λ o. MatchOption o (rows_shown before ≡ None) (DrawsHeld (rows_shown before))) }
+{
+    match before {
+        Shown::Nothing => Ok(None),
+        Shown::Image(image) => Ok(Some(drawn(alloc, &image)?)),
+        Shown::Changed(draft) => Ok(Some(draft)),
+    }
+}
+
+// A draft of the image with these bytes.
+fn drawn(alloc: Global, image: &[u8]) -> Result<Draft, OutOfMemory>
+    requires { IsSomeImage image.now }
+    ensures { IfOk result (DrawsHeld (image_of image.now)) }
+{
+    match image_of(alloc, image) {
+        Ok(image) => Draft::of(alloc, &image),
+        Err(_) => Err(OutOfMemory),
+    }
+}
+
+// An image with changes made in it, if it can have them.
+fn make(alloc: Global, draft: Draft, changes: &Changes) -> Result<Option<Shown>, OutOfMemory>
+    ensures { (x : ImageRows) → draft ≡ taken x → IfOk result (λ o. MatchOption o
+        (made_in x (rows_of changes.now) ≡ None)
+        (IsMadeBy (made_in x (rows_of changes.now)) true)) }
+{
+    let mut draft = draft;
+    match draft.change(alloc, changes) {
+        Ok(()) => Ok(Some(Shown::Changed(draft))),
+        Err(ApplyError::NotChanges) => Ok(None),
+        Err(ApplyError::Memory) => Err(OutOfMemory),
     }
 }

@@ -1,15 +1,16 @@
 //! Opening a journal of an image and changes.
 
-ghost use Rattle.std.specs.Prelude.{◌≡◌, ◌⊎◌, ◌<◌, ◌∷◌, ◌++◌, ℕ, List, None, true, false, IfOk, OnOk, IsErrOf};
+ghost use Rattle.std.specs.Prelude.{◌≡◌, ◌⊎◌, ◌<◌, ◌∷◌, ◌++◌, ℕ, List, None, true, false, length, IfOk, OnOk, IsErrOf};
 ghost use Rattle.wtf_dev.specs.Counts.{Rose};
 ghost use Rattle.wtf_dev.specs.Disk.{DiskGoesOn, DiskLeaves, SameElsewhere};
 ghost use Rattle.wtf_journal.specs.Held.{IsOpened, held_by, renewal};
 ghost use Rattle.wtf_journal.specs.Records.{HasBodies, RestsAt};
 ghost use Rattle.wtf_journal.specs.Scan.{IsBadAt, KeepsMeaning};
+ghost use Rattle.wtf_journal.specs.Views.{noted};
 
-use crate::held::{Held, IMAGE};
-use crate::{Journal, JournalFault};
-use std::alloc::{AllocError, Global};
+use crate::held::Held;
+use crate::{Journal, JournalFault, Record};
+use std::alloc::Global;
 use wtf_dev::Disk;
 
 /// A journal that was opened, and the image that it stands for: no byte where it has no record.
@@ -26,6 +27,9 @@ impl Journal {
     pub fn open<D: Disk>(alloc: Global, disk: &mut D) -> Result<Opened, JournalFault>
         ensures opened { IfOk result (λ o. (D.kind.view disk.old).tells ≡ true →
             IsOpened D.kind disk.old disk.new o.journal.end o.image.items) }
+
+        // The image lies at the end of the last record.
+        ensures image { IfOk result (λ o. o.journal ≡ noted o.journal (length o.image.items)) }
 
         // It is refused exactly where a record is not in the format.
         ensures refused { (n : ℕ) → IsErrOf result (JournalFault.NotAJournal n) →
@@ -49,18 +53,18 @@ impl Journal {
             Err(why) => return Err(why),
         };
         let behind = held.is_behind();
-        let image = held.into_image();
-        match renew(alloc, &mut journal, disk, behind, &image) {
+        let image = held.into_image()?;
+        match renew(&mut journal, disk, behind, &image) {
             Ok(()) => {}
             Err(why) => return Err(why),
         }
+        journal.note_image(image.len() as u64);
         Ok(Opened { journal, image })
     }
 }
 
 // Adds a record of an image where changes came behind the last one.
 fn renew<D: Disk>(
-    alloc: Global,
     journal: &mut Journal,
     disk: &mut D,
     behind: bool,
@@ -89,16 +93,5 @@ fn renew<D: Disk>(
     if !behind {
         return Ok(());
     }
-    let body = body_of(alloc, image)?;
-    journal.append(disk, &body)
-}
-
-// The body of a record of an image.
-fn body_of(alloc: Global, image: &[u8]) -> Result<Vec<u8>, AllocError>
-    ensures { IfOk result (λ v. v.items ≡ 0 ∷ image.now) }
-{
-    let mut body = Vec::new(alloc);
-    body.push(IMAGE)?;
-    body.extend_from_slice(image)?;
-    Ok(body)
+    journal.append(disk, Record::Image(image))
 }

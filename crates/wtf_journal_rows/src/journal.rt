@@ -6,52 +6,52 @@ use crate::disks::{disk, disk_of, left};
 use std::alloc::Global;
 use wtf_base::OutOfMemory;
 use wtf_dev::{Disk, MemDisk};
-use wtf_journal::{Journal, JournalFault, Meaning};
+use wtf_journal::{Journal, JournalFault, Meaning, Record};
 
-/// The last body, where each is one byte.
+/// The byte of the last body, where each is of an image or of changes of one byte.
 #[derive(Drop)]
 struct Last {
     byte: u8,
 }
 
 impl Meaning for Last {
-    ghost makes = { λ last body. if nat_eq (length body) 1 then Some (record { byte = slice_index_or body 0 0 }) else None };
+    ghost makes = { λ last body. if nat_eq (length body) 2 then Some (record { byte = slice_index_or body 1 0 }) else None };
 
     fn take(&mut self, body: &[u8]) -> Result<bool, OutOfMemory> {
-        if body.len() != 1 {
+        if body.len() != 2 {
             return Ok(false);
         }
-        self.byte = body[0];
+        self.byte = body[1];
         Ok(true)
     }
 }
 
-/// How many of the bodies 1, 2 and 3 were acknowledged by a journal that is opened on a disk.
+/// How many of the bytes 1, 2 and 3 were acknowledged by a journal that is opened on a disk.
 fn acknowledged(alloc: Global, disk: &mut MemDisk) -> u8 {
     let mut last = Last { byte: 0 };
     let Ok(mut journal) = Journal::open_with(alloc, &mut last, disk) else {
         return 0;
     };
-    if journal.append(disk, &[1]).is_err() {
+    if journal.append(disk, Record::Image(&[1])).is_err() {
         return 0;
     }
-    if journal.append(disk, &[2]).is_err() {
+    if journal.append(disk, Record::Changes(&[2])).is_err() {
         return 1;
     }
-    if journal.append(disk, &[3]).is_err() {
+    if journal.append(disk, Record::Changes(&[3])).is_err() {
         return 2;
     }
     3
 }
 
-/// The last body of a journal on a disk, or why it is not opened.
+/// The last byte of a journal on a disk, or why it is not opened.
 fn last_body(alloc: Global, disk: &mut MemDisk) -> Result<u8, JournalFault> {
     let mut last = Last { byte: 0 };
     Journal::open_with(alloc, &mut last, disk)?;
     Ok(last.byte)
 }
 
-/// The last body of the journal that a stop leaves.
+/// The last byte of the journal that a stop leaves.
 fn last_left(alloc: Global, disk: &MemDisk, pick: u8) -> Option<u8> {
     let mut stopped = left(alloc, disk, pick)?;
     last_body(alloc, &mut stopped).ok()
@@ -70,7 +70,7 @@ fn keeps(alloc: Global, disk: &MemDisk, known: u8) -> bool {
     true
 }
 
-/// How many bodies were acknowledged where the calls from a number on fail, if each stop keeps them.
+/// How many were acknowledged where the calls from a number on fail, if each stop keeps them.
 fn kept(alloc: Global, fuse: u64) -> Option<u8> {
     let mut disk = disk(alloc, fuse).ok()?;
     let known = acknowledged(alloc, &mut disk);
@@ -96,7 +96,7 @@ fn each_stop_leaves_what_was_acknowledged(rt: HostRuntime) {
     assert!(rt; is_kept_at_each_fuse(rt.alloc()));
 }
 
-/// Whether a journal of these bytes has this last body, or is refused so.
+/// Whether a journal of these bytes has this last byte, or is refused so.
 fn opens(alloc: Global, bytes: &[u8], want: Result<u8, JournalFault>) -> bool {
     let Some(mut disk) = disk_of(alloc, bytes) else {
         return false;
@@ -113,14 +113,14 @@ fn a_journal_of_at_most_one_byte_has_no_record(rt: HostRuntime) {
 
 #[test]
 fn records_are_read_up_to_a_closed_gate(rt: HostRuntime) {
-    assert!(rt; opens(rt.alloc(), b"\x01\0\0\0\0\0\0\0\x01\x07\0\x01", Ok(7)));
+    assert!(rt; opens(rt.alloc(), b"\x01\0\0\0\0\0\0\0\x02\0\x07\0\x01", Ok(7)));
     assert!(rt; opens(rt.alloc(), b"\x02\x01", Ok(0)));
 }
 
 #[test]
 fn a_record_that_is_not_in_the_format_is_refused(rt: HostRuntime) {
-    let cut = b"\x01\0\0\0\0\0\0\0\x01\x07";
+    let cut = b"\x01\0\0\0\0\0\0\0\x02\0\x07";
     assert!(rt; opens(rt.alloc(), cut, Err(JournalFault::NotAJournal(0))));
-    let second = b"\x01\0\0\0\0\0\0\0\x01\x07\x01\0\0\0\0\0\0\0\x02\x08\x09\0";
-    assert!(rt; opens(rt.alloc(), second, Err(JournalFault::NotAJournal(10))));
+    let second = b"\x01\0\0\0\0\0\0\0\x02\0\x07\x01\0\0\0\0\0\0\0\x03\0\x08\x09\0";
+    assert!(rt; opens(rt.alloc(), second, Err(JournalFault::NotAJournal(11))));
 }

@@ -6,6 +6,8 @@ mod disks;
 #[cfg(test)]
 mod journal;
 #[cfg(test)]
+mod keeper;
+#[cfg(test)]
 mod opening;
 #[cfg(test)]
 mod synced;

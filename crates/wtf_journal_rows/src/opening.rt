@@ -6,13 +6,13 @@ use wtf_dev::{Disk, MemDisk};
 use wtf_journal::{Journal, JournalFault};
 
 /// An image of 4 servers, 2 replicas, regions of 65,536 bytes, no install and next transaction 1: the root alone.
-const ROOT: [u8; 42] = [
+pub(crate) const ROOT: [u8; 42] = [
     87, 84, 70, 73, 77, 71, 48, 49, 4, 2, 0, 1, 0, 0, 0, 0, 0, 0, 0, 0, 0, 0, 0, 0, 0, 0, 0, 0, 0,
     1, 0, 0, 0, 1, 0, 1, 47, 0, 0, 0, 0, 0,
 ];
 
 /// The same with 1 install, next transaction 2 and `/a`, a file whose last region is 0, of which nothing is there.
-const MADE: [u8; 75] = [
+pub(crate) const MADE: [u8; 75] = [
     87, 84, 70, 73, 77, 71, 48, 49, 4, 2, 0, 1, 0, 0, 0, 0, 0, 0, 0, 0, 0, 1, 0, 0, 0, 0, 0, 0, 0,
     2, 0, 0, 0, 2, 0, 1, 47, 0, 0, 2, 47, 97, 1, 0, 0, 0, 0, 0, 0, 0, 1, 0, 0, 0, 1, 0, 0, 0, 1, 0,
     0, 0, 0, 0, 0, 0, 1, 0, 0, 0, 1, 0, 0, 0, 0,
@@ -53,7 +53,7 @@ fn gives(alloc: Global, bytes: &[u8], image: &[u8], length: u64) -> bool {
 }
 
 /// Whether a journal on a disk is opened and gives this image.
-fn opens(alloc: Global, disk: &mut MemDisk, image: &[u8]) -> bool {
+pub(crate) fn opens(alloc: Global, disk: &mut MemDisk, image: &[u8]) -> bool {
     match Journal::open(alloc, disk) {
         Ok(opened) => opened.image.as_slice() == image,
         Err(_) => false,

@@ -1,11 +1,22 @@
-use Rattle.std.proofs.Common.{arith}
-use Rattle.wtf_journal.proofs.Gives.{changes_made, changes_refused}
+use Rattle.std.specs.Prelude.{MatchOption, None, Option}
+use Rattle.std.proofs.Common.{◌≡◌, arith, subst}
+use Rattle.wtf_spillfmt.specs.declared.error.ListError.{ListError}
+use Rattle.wtf_changes.specs.Drafts.{DraftRows}
+use Rattle.wtf_changes.specs.Outcome.{IsUnread}
+use Rattle.wtf_changes.specs.Rows.{rows_of}
+use Rattle.wtf_journal.specs.Held.{DrawsHeld, rows_shown}
+use Rattle.wtf_journal.proofs.Gives.{changes_made, changes_unread}
 use Rattle.wtf_journal.proofs.held.changed.Goals as goal
 
 pub returns-in-Ok : goal.returns-in-Ok
-returns-in-Ok c = changes_made c.args.image.now c.args.changes.now c.requires.rows c.requires.text c.in-Ok.made.items c.in-Ok.ensures.made
+returns-in-Ok c =
+    let held = rows_shown c.args.before in
+    let drawn = subst (λ (o : Option DraftRows). MatchOption o (held ≡ None) (DrawsHeld held)) c.in-Some.is c.in_ok-draft.ensures in
+    changes_made held c.args.bytes.now c.make.result drawn.0 (rows_of c.in-Ok.changes) drawn.1 c.in-Ok.ensures.changes (c.make.ensures drawn.0 drawn.2)
 
-pub returns-in-Err-NotChanges : goal.returns-in-Err-NotChanges
-returns-in-Err-NotChanges c =
-    changes_refused c.args.image.now c.args.changes.now c.requires.rows c.requires.text c.in-Err-NotChanges.field-0
-    (λ i. omega (arith, c.type_inv.changes i)) c.in-Err-NotChanges.field-0-is c.in-Err-NotChanges.ensures.refused
+pub returns-in-Err-NotAList : goal.returns-in-Err-NotAList
+returns-in-Err-NotAList c =
+    let held = rows_shown c.args.before in
+    let drawn = subst (λ (o : Option DraftRows). MatchOption o (held ≡ None) (DrawsHeld held)) c.in-Some.is c.in_ok-draft.ensures in
+    changes_unread held c.args.bytes.now drawn.0 drawn.1 (λ i. omega (arith, c.type_inv.bytes i))
+    (subst (λ (w : ListError). IsUnread c.args.bytes.now w) c.in-Err-NotAList.field-0-is c.in-Err-NotAList.ensures.cause)

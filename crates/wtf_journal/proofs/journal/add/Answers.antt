@@ -2,6 +2,7 @@ use Rattle.std.proofs.Common.{◌≡◌, ◌∙◌, ◌+◌, ◌<◌, ◌⊎◌,
 use Rattle.wtf_dev.specs.Disk.{IsSettled, overwritten}
 use Rattle.wtf_journal.specs.Moments.{joins, weaker, goes_on_on}
 use Rattle.wtf_journal.specs.Records.{IsShut, IsGated}
+use Rattle.wtf_journal.proofs.Front.{front_stays}
 use Rattle.wtf_journal.proofs.Torn.{torn_from}
 use Rattle.wtf_journal.proofs.Bytes.{shut, set, done, behind_longer, on_ok}
 use Rattle.wtf_journal.proofs.journal.add.Goals as goal
@@ -55,3 +56,19 @@ returns-clause-goes_on g c = goes_on_on g.D.Disk.kind c.args.disk.now c.write_th
 pub returns-clause-elsewhere : goal.returns-clause-elsewhere
 returns-clause-elsewhere g c = λ tells f ne.
     c.write_through-2.ensures.kept.elsewhere (c.write_through.ensures.kept.goes_on.tells ∙ tells) f ne ∙ c.write_through.ensures.kept.elsewhere tells f ne
+
+pub returns-clause-front : goal.returns-clause-front
+returns-clause-front g c = λ tells.
+    let kind = g.D.Disk.kind in
+    let laws = g.met.D.Disk.laws in
+    let old = c.args.disk.now in
+    let mid = c.write_through.new.disk in
+    let first = c.write_through.ensures.kept in
+    front_stays kind laws c.args.at c.args.at 1 mid c.write_through-2.new.disk (omega arith) (omega (arith, c.requires.reach, first.goes_on.size 0))
+    c.write_through-2.ensures.kept (first.goes_on.tells ∙ tells)
+    ∙ front_stays kind laws c.args.at (c.args.at + 1) (length c.args.bytes.now) old mid (omega arith) (omega (arith, c.requires.reach)) first tells
+
+pub returns-in_err-write_through-clause-front : goal.returns-in_err-write_through-clause-front
+returns-in_err-write_through-clause-front g c = λ tells.
+    front_stays g.D.Disk.kind g.met.D.Disk.laws c.args.at (c.args.at + 1) (length c.args.bytes.now) c.args.disk.now c.write_through.new.disk (omega arith)
+    (omega (arith, c.requires.reach)) c.write_through.ensures.kept tells

@@ -2,7 +2,7 @@ use Rattle.std.proofs.Common.{◌≡◌, ◌⊎◌, ◌∙◌, ◌<◌, ◌^◌,
 use Rattle.std.specs.Int.{w64, to_be_bytes}
 use Rattle.wtf_dev.specs.Disk.{IsSettled, DiskLeaves}
 use Rattle.wtf_journal.specs.Moments.{weaker}
-use Rattle.wtf_journal.specs.Views.{JournalView}
+use Rattle.wtf_journal.specs.Views.{JournalView, body_of}
 use Rattle.wtf_journal.specs.Records.{framed, records, gated, IsShut, IsGated}
 use Rattle.wtf_journal.proofs.Bytes.{has_one, gated_is, end_after, short-push}
 use Rattle.wtf_journal.proofs.journal.Journal.append.Goals as goal
@@ -18,7 +18,7 @@ pub returns-in_err-add-clause-any_moment : goal.returns-in_err-add-clause-any_mo
 returns-in_err-add-clause-any_moment g c = λ bodies tells rests.
     let old = c.args.disk.now in
     let s = records bodies ++ (rests.gate ∷ rests.rest) in
-    let body = c.args.body.now in
+    let body = body_of c.args.body in
     let bytes = c.deref.ensures.value ∙ c.in_ok-bytes.ensures.bytes in
     let span = subst (λ (b : List ℕ). DiskLeaves g.D.Disk.kind old c.add.new.disk
     (λ x. IsShut s c.self.inside.end (x 0) ⊎ IsGated s c.self.inside.end b (x 0))) bytes (c.add.ensures.any_moment s tells rests.settled) in
@@ -30,7 +30,7 @@ pub returns-clause-any_moment : goal.returns-clause-any_moment
 returns-clause-any_moment g c = λ bodies tells rests.
     let old = c.args.disk.now in
     let s = records bodies ++ (rests.gate ∷ rests.rest) in
-    let body = c.args.body.now in
+    let body = body_of c.args.body in
     let bytes = c.deref.ensures.value ∙ c.in_ok-bytes.ensures.bytes in
     let span = subst (λ (b : List ℕ). DiskLeaves g.D.Disk.kind old c.add.new.disk
     (λ x. IsShut s c.self.inside.end (x 0) ⊎ IsGated s c.self.inside.end b (x 0))) bytes (c.add.ensures.any_moment s tells rests.settled) in
@@ -44,13 +44,13 @@ returns-clause-settled g c = λ tells.
     let bytes = c.deref.ensures.value ∙ c.in_ok-bytes.ensures.bytes in
     subst (λ (l : List ℕ). IsSettled l ((g.D.Disk.kind.view c.add.new.disk).file 0))
     (ap (λ (b : List ℕ). gated seen c.self.inside.end b 1) bytes
-    ∙ ap (λ (v : JournalView). gated seen v.end (framed c.args.body.now ++ 0 ∷ []) 1) c.self.view_is)
+    ∙ ap (λ (v : JournalView). gated seen v.end (framed (body_of c.args.body) ++ 0 ∷ []) 1) c.self.view_is)
     (c.in_ok-add.ensures.done tells)
 
 pub returns-clause-acknowledged : goal.returns-clause-acknowledged
 returns-clause-acknowledged g c = λ bodies tells rests.
     let at = c.self.inside.end in
-    let body = c.args.body.now in
+    let body = body_of c.args.body in
     let bytes = c.deref.ensures.value ∙ c.in_ok-bytes.ensures.bytes in
     let ends = at_is c.self.view_is rests.end_is in
     record {
