@@ -34,13 +34,14 @@ use Rattle.wtf_serve.specs.declared.service.Stop.TheVariants as stop
 use Rattle.wtf_serve.specs.Beginnings.{Closes, Ends}
 use Rattle.wtf_serve.specs.Endings.{Devices, IsServedStatus, IsEarlyStatus, stop_status, IsNextLine, IsOfCollect, IsLeft, IsNext, Served}
 use Rattle.wtf_serve.specs.Engines.{Engine, Step, step, IsLawful, IsAnswer}
-use Rattle.wtf_serve.specs.Logs.{asked, last, last_downs, output}
+use Rattle.wtf_serve.specs.Logs.{Log, asked, last, last_downs, output}
 use Rattle.wtf_serve.specs.Openings.{Opening, StartsFrom}
 use Rattle.wtf_serve.specs.Passes.{Hand, step_of, IsLeftOut, PassIs}
 use Rattle.wtf_serve.specs.Punched.{ArePunchedIn}
 use Rattle.wtf_serve.specs.Quiet.{HasQuietEnding, AreUsed}
 use Rattle.wtf_serve.specs.Scripts.{line_of, IsEndStatus, IsWholeStatus, end_status}
 use Rattle.wtf_serve.specs.Stocks.{Stock, IsSaveFault, IsTelling, HoldsOneOf, HoldsStart, HoldsJust, KeeperGoesOn, KeeperStays}
+use Rattle.wtf_serve.specs.Turns.{IsLeftAlone}
 use Rattle.wtf_serve.specs.Traces.{HasRead}
 use Rattle.wtf_serve.proofs.Closing.{closing_rose, still_count, still_save, still_status}
 use Rattle.wtf_serve.proofs.Going.{Going, given_then, counted_then, room_now}
@@ -339,7 +340,7 @@ module _ {S State : Type 0} (engine : Engine S State) (laws : KindLaws engine.ki
         (short_left final follows same)
 
     -- a keeper that tells nothing need not be handed an image
-    finish_blind : start.stock.keeper.tells ≡ false → SameLengths engine.kind now.stock.shelf final.shelf
+    pub finish_blind : start.stock.keeper.tells ≡ false → SameLengths engine.kind now.stock.shelf final.shelf
         → Served engine.kind handed opening (end_status bad) start (record { source = next.input.source; sink = sink'; stock = final })
     finish_blind blind same =
         let status = end_status bad in
@@ -350,6 +351,10 @@ module _ {S State : Type 0} (engine : Engine S State) (laws : KindLaws engine.ki
         (never status 9 (λ e. omega (arith, e, ends)) next.input.held.count (came.limit (λ e. cc))) (inl (inl ends)) (λ _. refl)
         (λ e. absurd (omega (arith, e, ends))) (λ e. absurd (omega (arith, e, ends)))
         (λ tells telling. absurd (true≢false (sym telling.tells ∙ blind)))
+
+    pub blind_log : (blind : start.stock.keeper.tells ≡ false) (same : SameLengths engine.kind now.stock.shelf final.shelf) → (finish_blind blind same).log ≡ g.log
+    unfolding finish_blind finish
+    blind_log blind same = refl
 
     closed : (status : ℕ) → Closes engine t bad status
         → Served engine.kind handed opening status start (record { source = next.input.source; sink = sink'; stock = final })
@@ -411,7 +416,7 @@ module _ {S State : Type 0} (engine : Engine S State) (laws : KindLaws engine.ki
       (λ e. absurd (omega (arith, e))) (early_left 9 quiet.stock (inr (inr (inr refl))))
 
   -- what the sink held back could not be brought out, so that nothing is saved
-  finish_held : (sink' : SinkView) → PassIs engine now next (Ok None)
+  pub finish_held : (sink' : SinkView) → PassIs engine now next (Ok None)
       → ((bytes : List ℕ) → next.sink.taken ≡ Some bytes → sink'.taken ≡ Some bytes) → next.sink.faults ≤ sink'.faults
       → Rose next.sink.faults sink'.faults
       → Served engine.kind handed opening 4 start (record { source = next.input.source; sink = sink'; stock = next.stock })
@@ -430,15 +435,6 @@ module _ {S State : Type 0} (engine : Engine S State) (laws : KindLaws engine.ki
       (λ e. omega (arith, e))
       (never 4 9 (λ e. omega (arith, e)) next.input.held.count (pass.limit (λ e. cc))) (inr (inr (inr (inl refl)))) (λ ends. absurd (omega (arith, ends)))
       (λ e. absurd (omega (arith, e))) (λ e. absurd (omega (arith, e))) (early_left 4 quiet.stock (inr (inr (inl refl))))
-
-  -- a pass came to the end of the script, and what the sink held back was brought out: a run whose keeper tells nothing is over then
-  pub finish_unsaved : (sink' : SinkView) → PassIs engine now next (Ok None) → start.stock.keeper.tells ≡ false
-      → ((bytes : List ℕ) → next.sink.taken ≡ Some bytes → sink'.taken ≡ Some bytes) → sink'.faults ≡ next.sink.faults
-      → Served engine.kind handed opening (end_status bad) start (record { source = next.input.source; sink = sink'; stock = next.stock })
-  finish_unsaved sink' pass blind taken steady =
-      let quiet = pass.came.1 in
-      finish_blind sink' next.stock next.state pass (still quiet.stock) pass.keeper taken steady blind
-      (subst (λ (s : Stock S). SameLengths engine.kind now.stock.shelf s.shelf) (sym quiet.stock) (λ k d there f. refl))
 
   -- a pass came to the end of the script: what follows begins with what the pass left, which is what it was
   pub finish_end : (status : ℕ) (sink' : SinkView) (final : Stock S) (state' : State) → PassIs engine now next (Ok None)
@@ -501,15 +497,13 @@ module _ {S State : Type 0} (engine : Engine S State) (laws : KindLaws engine.ki
       (λ e. absurd (omega (arith, e)))
       (λ e. absurd (omega (arith, e))) left
 
-  finish_memory : PassIs engine now next (Err stop.Memory)
+  finish_memory : PassIs engine now next (Err stop.Memory) → IsLeftAlone engine (step_of now next) ⊎ IsLeftOut engine now next
       → Served engine.kind handed opening 7 start (record { source = next.input.source; sink = next.sink; stock = next.stock })
-  finish_memory pass = elim pass.came.kept [
-    | inl alone ↦ finish_short_of [] (inl refl) alone.follows pass (short_left next.stock alone.follows alone.keeper)
-    | inr out ↦
-        let did = out.out.is.punched in
-        finish_short_of did.ranges (of_collect (engine.freed now.state) start.source.rest g.log.lines out.line (out_line out) (line_of out.line) refl
-        out.out.answer did.ranges did.are) did.follows pass (memory_out pass out)
-  ]
+  finish_memory pass (inl alone) = finish_short_of [] (inl refl) alone.follows pass (short_left next.stock alone.follows alone.keeper)
+  finish_memory pass (inr out) =
+      let did = out.out.is.punched in
+      finish_short_of did.ranges (of_collect (engine.freed now.state) start.source.rest g.log.lines out.line (out_line out) (line_of out.line) refl
+      out.out.answer did.ranges did.are) did.follows pass (memory_out pass out)
 
   -- the sink fails while an answer is written
   finish_unwritten : PassIs engine now next (Err stop.Unwritten)
@@ -604,4 +598,28 @@ module _ {S State : Type 0} (engine : Engine S State) (laws : KindLaws engine.ki
   finish_stop stop.Unread pass = finish_unread pass
   finish_stop stop.Unwritten pass = finish_unwritten pass
   finish_stop stop.TooMuch pass = finish_too_much pass
-  finish_stop stop.Memory pass = finish_memory pass
+  finish_stop stop.Memory pass = finish_memory pass pass.came.kept
+
+  pub held_log : (sink' : SinkView) (pass : PassIs engine now next (Ok None))
+      (taken : (bytes : List ℕ) → next.sink.taken ≡ Some bytes → sink'.taken ≡ Some bytes) (rises : next.sink.faults ≤ sink'.faults)
+      (rose : Rose next.sink.faults sink'.faults) → (finish_held sink' pass taken rises rose).log ≡ g.log
+  unfolding finish_held finish
+  held_log sink' pass taken rises rose = refl
+
+  -- ---- the lines of a run that ended so: those so far, and the one whose answer was cut
+  abbrev pub EndsWith : (why : Stop) → PassIs engine now next (Err why) → Log → Type 0
+  EndsWith stop.Unwritten pass log = log ≡ longer g.log pass.came.line pass.came.cut.answer
+  EndsWith why pass log = log ≡ g.log
+
+  memory_log : (pass : PassIs engine now next (Err stop.Memory)) (kept : IsLeftAlone engine (step_of now next) ⊎ IsLeftOut engine now next)
+      → (finish_memory pass kept).log ≡ g.log
+  unfolding finish_memory finish_short_of finish
+  memory_log pass (inl alone) = refl
+  memory_log pass (inr out) = refl
+
+  pub stop_log : (why : Stop) (pass : PassIs engine now next (Err why)) → EndsWith why pass (finish_stop why pass).log
+  unfolding finish_stop finish_unread finish_too_much finish_unwritten finish
+  stop_log stop.Unread pass = refl
+  stop_log stop.Unwritten pass = refl
+  stop_log stop.TooMuch pass = refl
+  stop_log stop.Memory pass = memory_log pass pass.came.kept

@@ -71,8 +71,8 @@ module _ {K S : Type 0} (view : K → KeeperView) (follows : K → K → List (L
   Turns e a = KeeperTurn kind (span (is_down core.replicas) before after) (keeper_span view follows refused old new) core.settings core.tables core'.tables e a
 
   save_kept : (Up : Type 0) (tables : TablesView) (a : Answer) → Turns event.Save a → SaveTurn Up core.tables tables a → Saves (engine kind) t a
-  save_kept Up tables (answer.Saved n) turn is =
-      saved_some kind (span (is_down core.replicas) before after) (keeper_span view follows refused old new) core.settings core.tables turn
+  save_kept Up tables (answer.Saved n) turn is = saved_some kind (span (is_down core.replicas) before after) (keeper_span view follows refused old new)
+      core.settings core.tables turn
   save_kept Up tables answer.FaultSave (inl failed) is = inl failed.out
   save_kept Up tables answer.FaultSave (inr failed) is = inr failed.rose
   save_kept Up tables a turn is = absurd is

@@ -60,6 +60,5 @@ module _ {S State : Type 0} (engine : Engine S State) (h h' : Hand S State) wher
 
   pub pass_stops : (asked : AskedLine) (why : Stop) → HasLine h.input h'.input asked → TurnIs engine (step_of h h') asked h.sink h'.sink (Err why)
       → PassCame engine h h' (Err why)
-  pass_stops asked why read turn =
-      stops_by read.line why read.came
+  pass_stops asked why read turn = stops_by read.line why read.came
       (subst (λ (l : AskedLine). TurnIs engine (step_of h h') l h.sink h'.sink (Err why)) (sym read.asks) turn)

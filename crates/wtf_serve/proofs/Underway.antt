@@ -51,12 +51,12 @@ underway engine asked opening start now bad opens given going = record {
 }
 
 -- the numbers of an opening leave room
-room_of : (asked : Settings) (bytes : List ℕ) (o : Opening) → Opens asked bytes o → (o.number ≤ 2 ^ 62) × (o.next_tx ≤ 2 ^ 62)
+pub room_of : (asked : Settings) (bytes : List ℕ) (o : Opening) → Opens asked bytes o → (o.number ≤ 2 ^ 62) × (o.next_tx ≤ 2 ^ 62)
 room_of asked [] o is = (omega (arith, ap (λ (x : Opening). x.number) is), omega (arith, ap (λ (x : Opening). x.next_tx) is))
 room_of asked (b ∷ bytes) o is = (omega (arith, is.number, is.good.installs), omega (arith, is.next_tx, is.good.next_tx))
 
 -- what opens a run is no byte, or an image that is taken, with the opening's settings and numbers
-begins_of : (size : ℕ → ℕ → ℕ) (asked : Settings) (bytes : List ℕ) (o : Opening) → Opens asked bytes o → IsTakenOver size bytes
+pub begins_of : (size : ℕ → ℕ → ℕ) (asked : Settings) (bytes : List ℕ) (o : Opening) → Opens asked bytes o → IsTakenOver size bytes
     → IsTakenFor size o.settings o.number o.next_tx bytes
 begins_of size asked [] o is taken = inl refl
 begins_of size asked (b ∷ bytes) o is (rows, taken) = inr (record {
@@ -68,7 +68,7 @@ begins_of size asked (b ∷ bytes) o is (rows, taken) = inr (record {
 })
 
 -- the first line, by the state
-line_of_first : {S State : Type 0} (engine : Engine S State) (o : Opening) (state : State) → engine.settings state ≡ o.settings → engine.number state ≡ o.number
+pub line_of_first : {S State : Type 0} (engine : Engine S State) (o : Opening) (state : State) → engine.settings state ≡ o.settings → engine.number state ≡ o.number
     → settings_line (engine.settings state) (engine.number state) ≡ first_line o
 line_of_first engine o state settings number =
     ap (λ (x : Settings). settings_line x (engine.number state)) settings ∙ ap (λ (n : ℕ). settings_line o.settings n) number

@@ -8,7 +8,7 @@ use Rattle.wtf_dev.proofs.Each.{each_same, each_on}
 use Rattle.wtf_model.specs.Servers.{none_down, is_device_fault, is_device_fault_of_run, count_along}
 use Rattle.wtf_image.specs.Rules.{size_in}
 use Rattle.wtf_serve.specs.Endings.{Devices, IsServedStatus, IsKept, Served}
-use Rattle.wtf_serve.specs.Logs.{first_line, last_downs}
+use Rattle.wtf_serve.specs.Logs.{Log, first_line, last_downs}
 use Rattle.wtf_serve.specs.Openings.{Opening, IsTakenOver}
 use Rattle.wtf_serve.specs.Stocks.{Stock, stock, KeeperGoesOn}
 use Rattle.wtf_serve.specs.Turns.{WroteFront}
@@ -109,6 +109,20 @@ module _ {S : Type 0} (kind : StoreKind S) (laws : KindLaws kind) (handed : List
   -- with fewer stores than servers
   pub refused : length start.stock.shelf < opening.settings.servers
       → Served kind handed opening 2 start (record { source = start.source; sink = start.sink; stock = stock start.stock.shelf keeper' })
-  refused few =
-      unstarted_as 2 start.sink (inl refl) ((λ _. few), (λ _. refl))
+  refused few = unstarted_as 2 start.sink (inl refl) ((λ _. few), (λ _. refl))
       (λ e. absurd (omega (arith, e))) (λ e. absurd (omega (arith, e))) (λ _. refl) (λ e. absurd (omega (arith, e))) (omega arith)
+
+  -- ---- no line was answered
+  abbrev no_line : Log
+  no_line = record { lines = []; answers = [] }
+
+  pub unstarted_log : (many : opening.settings.servers ≤ length start.stock.shelf) → (unstarted many).log ≡ no_line
+  unfolding unstarted_as unstarted
+  unstarted_log many = refl
+
+  pub unwritten_log : (sink' : SinkView) (many : opening.settings.servers ≤ length start.stock.shelf)
+      (taken : IsTakenOver (size_in kind start.stock.shelf) opening.bytes)
+      (cut : (old : List ℕ) → start.sink.taken ≡ Some old → WroteFront old (first_line opening) sink'.taken) (cause : Rose start.sink.faults sink'.faults)
+      (faults : start.sink.faults ≤ sink'.faults) → (unwritten sink' many taken cut cause faults).log ≡ no_line
+  unfolding unstarted_as unwritten
+  unwritten_log sink' many taken cut cause faults = refl

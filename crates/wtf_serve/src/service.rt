@@ -3,6 +3,7 @@
 ghost use Rattle.std.specs.Prelude.{◌≡◌, ◌≢◌, ◌<◌, ◌≤◌, ◌^◌, ◌++◌, ◌||◌, ℕ, List, [], Some, Ok, Err, IfOk, IfErr, OnOk, OnErr};
 ghost use Rattle.wtf_dev.specs.Counts.{Rose};
 ghost use Rattle.wtf_dev.specs.Each.{EachFollows};
+ghost use Rattle.wtf_model.specs.declared.event.Event.TheVariants.{Save};
 ghost use Rattle.wtf_serve.specs.Endings.{devices, stop_status};
 ghost use Rattle.wtf_serve.specs.Unopened.{IsRun};
 ghost use Rattle.wtf_serve.specs.Turns.{AllTaken, TurnIs};
@@ -150,8 +151,8 @@ fn answer<S: SliceStore, K: Keeper>(
     keeper: &mut K,
     line: Result<Event, Answer>,
 ) -> Result<Answer, OutOfMemory>
-    requires number { core.old.tables.kv.number < 2 ^ 63 }
-    requires next_tx { core.old.tables.next_tx < 2 ^ 63 }
+    requires number { line ≢ Ok Save → core.old.tables.kv.number < 2 ^ 63 }
+    requires next_tx { line ≢ Ok Save → core.old.tables.next_tx < 2 ^ 63 }
     requires form { IsFormLine line }
     requires sound { IsSoundCore S.kind shelf.old core.old }
     ensures is { IfOk result (IsAnswer (engine S.kind)
@@ -165,7 +166,7 @@ fn answer<S: SliceStore, K: Keeper>(
 {
     match line {
         Ok(event) => {
-            let answer = core.event(shelf, keeper, &event)?;
+            let answer = core.take(shelf, keeper, event)?;
             Ok(answer)
         }
         Err(bad) => Ok(bad),
@@ -280,8 +281,6 @@ fn close<S: SliceStore, K: Keeper>(
     keeper: &mut K,
     bad: bool,
 ) -> u8
-    requires number { core.old.tables.kv.number < 2 ^ 63 }
-    requires next_tx { core.old.tables.next_tx < 2 ^ 63 }
     requires sound { IsSoundCore S.kind shelf.old core.old }
     ensures closes { Closes (engine S.kind)
         (step (stock shelf.old (K.view keeper.old)) (stock shelf.new (K.view keeper.new))
@@ -307,8 +306,6 @@ fn finish<O: Sink, S: SliceStore, K: Keeper>(
     out: &mut O,
     bad: bool,
 ) -> u8
-    requires number { core.old.tables.kv.number < 2 ^ 63 }
-    requires next_tx { core.old.tables.next_tx < 2 ^ 63 }
     requires sound { IsSoundCore S.kind shelf.old core.old }
     ensures ends { Ends (engine S.kind)
         (step (stock shelf.old (K.view keeper.old)) (stock shelf.new (K.view keeper.new))

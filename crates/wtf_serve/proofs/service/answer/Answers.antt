@@ -1,6 +1,8 @@
-use Rattle.std.proofs.Common.{sym, ap, subst}
+use Rattle.std.proofs.Common.{◌≡◌, Ok, sym, ap, subst}
 use Rattle.wtf_replica.specs.Downs.{is_down}
 use Rattle.wtf_replica.specs.Spans.{span}
+use Rattle.wtf_model.specs.declared.event.Event.{Event}
+use Rattle.wtf_model.specs.declared.event.Event.TheVariants as event
 use Rattle.wtf_model.specs.Lines.{Line}
 use Rattle.wtf_core.proofs.Lent.{on_any}
 use Rattle.wtf_serve.specs.Engines.{IsAnswer, step}
@@ -11,11 +13,21 @@ use Rattle.wtf_serve.specs.Answering.{IsFormLine}
 use Rattle.wtf_serve.proofs.LineLaws.{bad_is, event_goes_on, event_told, event_punches, event_obeys}
 use Rattle.wtf_serve.proofs.service.answer.Goals as goal
 
+-- the line is no save where the event is none
+ok_same : (a b : Event) (line : Line) → line ≡ Ok a → line ≡ Ok b → a ≡ b
+ok_same a b line is also = cc
+
+pub take-requires-clause-number : goal.take-requires-clause-number
+take-requires-clause-number g c = λ other. c.requires.number (λ is. other (ok_same c.in-Ok.event event.Save c.args.line c.in-Ok.is is))
+
+pub take-requires-clause-next_tx : goal.take-requires-clause-next_tx
+take-requires-clause-next_tx g c = λ other. c.requires.next_tx (λ is. other (ok_same c.in-Ok.event event.Save c.args.line c.in-Ok.is is))
+
 pub returns-in_ok-answer-in-Ok-clause-is : goal.returns-in_ok-answer-in-Ok-clause-is
 returns-in_ok-answer-in-Ok-clause-is g c =
     let kind = g.S.SliceStore.kind in
     let view = g.K.Keeper.view in
-    let t = step (stock c.args.shelf.now (view c.args.keeper.now)) (stock c.event.new.shelf (view c.event.new.keeper)) c.args.core.now c.event.new.self in
+    let t = step (stock c.args.shelf.now (view c.args.keeper.now)) (stock c.take.new.shelf (view c.take.new.keeper)) c.args.core.now c.take.new.self in
     let is = c.in_ok-answer-in-Ok.ensures in
     let a = c.in_ok-answer-in-Ok.answer in
     subst (λ (e : Line). IsAnswer (engine kind) t e a) (sym c.in-Ok.is) (record {
@@ -25,22 +37,22 @@ returns-in_ok-answer-in-Ok-clause-is g c =
       caused = is.does.caused.cause;
       told = event_told kind t c.in-Ok.event a is.does.told;
       punched = event_punches kind t c.in-Ok.event a is.does.punched;
-      kept = event_kept view g.K.Keeper.follows g.K.Keeper.refused c.args.keeper.now c.event.new.keeper kind c.args.shelf.now c.event.new.shelf
-          c.args.core.now c.event.new.self c.in-Ok.event a is.does.kept.turn is.does.turn;
+      kept = event_kept view g.K.Keeper.follows g.K.Keeper.refused c.args.keeper.now c.take.new.keeper kind c.args.shelf.now c.take.new.shelf
+          c.args.core.now c.take.new.self c.in-Ok.event a is.does.kept.turn is.does.turn;
     })
 
 pub returns-in_ok-answer-in-Ok-clause-handed : goal.returns-in_ok-answer-in-Ok-clause-handed
 returns-in_ok-answer-in-Ok-clause-handed g c =
     let kind = g.S.SliceStore.kind in
     let is = c.in_ok-answer-in-Ok.ensures in
-    turn_handed g.K.Keeper.view g.K.Keeper.follows g.met.K.Keeper.follows_itself g.met.K.Keeper.keeps c.args.keeper.now c.event.new.keeper
+    turn_handed g.K.Keeper.view g.K.Keeper.follows g.met.K.Keeper.follows_itself g.met.K.Keeper.keeps c.args.keeper.now c.take.new.keeper
     g.K.Keeper.refused kind
-    (span (is_down c.args.core.now.replicas) c.args.shelf.now c.event.new.shelf) c.args.core.now.settings c.args.core.now.tables c.event.new.self.tables
+    (span (is_down c.args.core.now.replicas) c.args.shelf.now c.take.new.shelf) c.args.core.now.settings c.args.core.now.tables c.take.new.self.tables
     c.in-Ok.event c.in_ok-answer-in-Ok.answer is.does.kept.turn
 
 pub returns-in_ok-answer-in-Ok-clause-keeper : goal.returns-in_ok-answer-in-Ok-clause-keeper
 returns-in_ok-answer-in-Ok-clause-keeper g c =
-    handed_on g.K.Keeper.view g.K.Keeper.follows g.met.K.Keeper.follows_itself g.met.K.Keeper.keeps c.args.keeper.now c.event.new.keeper
+    handed_on g.K.Keeper.view g.K.Keeper.follows g.met.K.Keeper.follows_itself g.met.K.Keeper.keeps c.args.keeper.now c.take.new.keeper
     (returns-in_ok-answer-in-Ok-clause-handed g c)
 
 pub returns-in-Err-clause-is : goal.returns-in-Err-clause-is
@@ -55,4 +67,4 @@ pub returns-in_err-answer-in-Ok-clause-unkept : goal.returns-in_err-answer-in-Ok
 returns-in_err-answer-in-Ok-clause-unkept g c =
     let view = g.K.Keeper.view in
     on_any c.from_residual.result
-    (keeper_same (view c.args.keeper.now) (view c.event.new.keeper) (ap view c.in_err-answer-in-Ok.ensures.fails.untouched))
+    (keeper_same (view c.args.keeper.now) (view c.take.new.keeper) (ap view c.in_err-answer-in-Ok.ensures.fails.untouched))

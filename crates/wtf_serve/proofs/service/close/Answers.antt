@@ -1,4 +1,4 @@
-use Rattle.std.proofs.Common.{ℕ, sym, ◌∙◌, subst}
+use Rattle.std.proofs.Common.{ℕ, refl, sym, ◌∙◌, subst}
 use Rattle.wtf_serve.specs.Beginnings.{Closes}
 use Rattle.wtf_serve.specs.Cores.{engine}
 use Rattle.wtf_serve.specs.Engines.{step}
@@ -6,6 +6,12 @@ use Rattle.wtf_serve.specs.Stocks.{stock}
 use Rattle.wtf_serve.proofs.Closing.{save_follows, closes_saved, closes_failed}
 use Rattle.wtf_serve.proofs.service.close.Goals as goal
 use Rattle.wtf_serve.proofs.service.close.Goals.{in-Saved, in_default-answer}
+
+pub answer-requires-clause-number : goal.answer-requires-clause-number
+answer-requires-clause-number g c = λ other. absurd (other refl)
+
+pub answer-requires-clause-next_tx : goal.answer-requires-clause-next_tx
+answer-requires-clause-next_tx g c = λ other. absurd (other refl)
 
 pub returns-clause-closes : goal.returns-clause-closes
 returns-clause-closes g c =
