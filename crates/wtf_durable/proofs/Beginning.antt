@@ -1,0 +1,88 @@
+-- What the first save of a store whose journal has no record leaves, by the flags of its keeper.
+use Rattle.std.proofs.Common.{◌≡◌, ◌≢◌, ◌⊎◌, ℕ, Bool, true, false, List, Ok, Err, refl, sym, ap, ◌∙◌, subst, inl, inr, ⊎_elim, true≢false}
+use Rattle.std.specs.Prelude.{Result, IfOk, IsErrOf, IsOk, OnErr, OnOk}
+use Rattle.wtf_dev.specs.Counts.{Rose}
+use Rattle.wtf_dev.specs.Disk.{DiskKind}
+use Rattle.wtf_journal.specs.declared.keeper.JournalKeeper.{JournalKeeper}
+use Rattle.wtf_journal.specs.Follows.{SyncedState, synced_kind}
+use Rattle.wtf_journal.specs.Keeper.{journal_keeper_view}
+use Rattle.wtf_replica.specs.Downs.{is_down}
+use Rattle.wtf_replica.specs.Outs.{HasRisen}
+use Rattle.wtf_model.specs.declared.answer.Answer.{Answer}
+use Rattle.wtf_model.specs.declared.answer.Answer.TheVariants as answer
+use Rattle.wtf_model.specs.declared.event.Event.TheVariants as event
+use Rattle.wtf_clients.specs.Outcomes.{SomeOut}
+use Rattle.wtf_core.specs.Promises.{CoreDoes, CoreFails, Stays, scene}
+use Rattle.wtf_core.specs.Views.{CoreView}
+use Rattle.wtf_durable.specs.declared.fault.DurableFault.{DurableFault}
+use Rattle.wtf_durable.specs.declared.fault.DurableFault.TheVariants as fault
+use Rattle.wtf_durable.specs.Found.{IsBegun}
+use Rattle.wtf_durable.specs.Handled.{Handled, HandsImages}
+use Rattle.wtf_durable.specs.Views.{DurableView, ReachesGate, durable_scene}
+use Rattle.wtf_durable.proofs.Handling.{hands_by, save_cause, the_span, turn_span}
+use Rattle.wtf_durable.proofs.Judging.{cause_result, handed_by, handled_result}
+
+module _ {S D E : Type 0} (stores : DiskKind S) (kind : DiskKind D) (k k' : JournalKeeper D) (shelf shelf' : List (SyncedState S)) (core core' : CoreView)
+    (s : Result Answer E)
+    (does : IfOk s (CoreDoes (synced_kind stores) (turn_span kind k k' core) (scene shelf (journal_keeper_view kind k) core)
+    (scene shelf' (journal_keeper_view kind k') core') event.Save))
+    (fails : OnErr s (CoreFails (synced_kind stores) (turn_span kind k k' core) (scene shelf (journal_keeper_view kind k) core)
+    (scene shelf' (journal_keeper_view kind k') core') event.Save))
+    (stays : Stays core core') (none : k.short ≡ 0) (was : k.journal.now.failed ≡ false) (disk : D) (disk_is : disk ≡ k'.disk.now)
+    (old : DurableView) (old_is : ◌≡◌ {A = DurableView} (record { core = core; journal = k.journal.now }) old) where
+  pub begin_hands : HandsImages kind k.disk.now disk old.journal.end old.core
+  begin_hands =
+      subst (λ (d : D). HandsImages kind k.disk.now d old.journal.end old.core) (sym disk_is)
+      (subst (λ (v : DurableView). HandsImages kind k.disk.now k'.disk.now v.journal.end v.core) old_is
+      (hands_by kind k k' core (handed_by stores kind k k' shelf shelf' core core' event.Save s does fails)))
+
+  abbrev Saves : ℕ → Type 0
+  Saves n = Handled stores kind (durable_scene shelf k.disk.now old) (durable_scene shelf' disk (record { core = core'; journal = k'.journal.now })) event.Save
+      (answer.Saved n)
+
+  module _ (r : Result Answer DurableFault) (failed : Bool) (failed_is : failed ≡ k'.journal.now.failed)
+      (answered : IfOk r (λ a. (s ≡ Ok a) × ((k'.short ≡ 0) × (failed ≡ false)))) where
+    -- it was saved
+    saved_one : ReachesGate kind k.disk.now old → (n : ℕ) → r ≡ Ok (answer.Saved n) → Saves n
+    saved_one reach n is =
+        subst (λ (q : Result Answer DurableFault). IfOk q (λ a. Handled stores kind (durable_scene shelf k.disk.now old)
+        (durable_scene shelf' disk (record { core = core'; journal = k'.journal.now })) event.Save a)) is
+        (handled_result stores kind k k' shelf shelf' core core' event.Save s does fails stays none was disk disk_is old old_is r failed failed_is reach
+        answered)
+
+    pub begun_by : {F : Type 0} (q : Result (Unit {0}) F) → ReachesGate kind k.disk.now old → OnOk q ((n : ℕ) × (r ≡ Ok (answer.Saved n)))
+        → OnOk q (IsBegun stores kind true (durable_scene shelf k.disk.now old) (durable_scene shelf' disk (record { core = core'; journal = k'.journal.now })))
+    begun_by (Ok u) reach saved = (saved.0, saved_one reach saved.0 saved.1)
+    begun_by (Err why) reach saved = tt
+
+    -- or not, with its cause in a store or in the journal's disk
+    abbrev Rises : Type 0
+    Rises = ((j : ℕ) × HasRisen (synced_kind stores) shelf shelf' j) ⊎ Rose (kind.view k.disk.now).faults (kind.view disk).faults
+
+    store_rose : ((j : ℕ) → is_down core.replicas j ≡ false)
+        → SomeOut (synced_kind stores) (the_span stores kind k k' shelf shelf' core core') core.settings.servers
+        → (j : ℕ) × HasRisen (synced_kind stores) shelf shelf' j
+    store_rose up (j, there, out) = (j, ⊎_elim (λ down. absurd (true≢false (sym down ∙ up j))) (λ rose. rose) out)
+
+    unsaved : ((j : ℕ) → is_down core.replicas j ≡ false) → (a : Answer)
+        → CoreDoes (synced_kind stores) (turn_span kind k k' core) (scene shelf (journal_keeper_view kind k) core)
+        (scene shelf' (journal_keeper_view kind k') core') event.Save a → ((n : ℕ) → a ≢ answer.Saved n) → k'.short ≡ 0 → k'.journal.now.failed ≡ false → Rises
+    unsaved up (answer.Saved n) did not still whole = absurd (not n refl)
+    unsaved up answer.FaultSave did not still whole =
+        ⊎_elim (λ out. inl (store_rose up out)) (λ never. absurd never)
+        (save_cause kind k k' core (synced_kind stores) (the_span stores kind k k' shelf shelf' core core') core' none still was whole {Rises = ⊥}
+        answer.FaultSave did.kept.turn refl)
+    unsaved up a did not still whole = absurd did.turn.turn.0
+
+    pub begin_cause : ((j : ℕ) → is_down old.core.replicas j ≡ false)
+        → (IsErrOf r fault.Journal → IsOk s × ((k'.short ≡ 0) × (failed ≡ true)))
+        → (r ≡ Err fault.Journal) ⊎ ((a : Answer) × (r ≡ Ok a) × ((n : ℕ) → a ≢ answer.Saved n)) → Rises
+    begin_cause up journal (inl is) =
+        inr (cause_result stores kind k k' shelf shelf' core core' event.Save s does fails stays none was disk disk_is old old_is r failed failed_is
+        (journal is))
+    begin_cause up journal (inr (a, is, not)) =
+        let all = subst (λ (q : Result Answer DurableFault). IfOk q (λ b. (s ≡ Ok b) × ((k'.short ≡ 0) × (failed ≡ false)))) is answered in
+        unsaved (λ j. ap (λ (v : DurableView). is_down v.core.replicas j) old_is ∙ up j) a
+        (subst (λ (x : Result Answer E). IfOk x (CoreDoes (synced_kind stores) (turn_span kind k k' core) (scene shelf (journal_keeper_view kind k) core)
+        (scene shelf' (journal_keeper_view kind k') core') event.Save)) all.0 does)
+        not all.1.0 (sym failed_is ∙ all.1.1)

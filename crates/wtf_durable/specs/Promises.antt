@@ -1,0 +1,89 @@
+-- What a durable store promises of an event.
+use Rattle.std.specs.Prelude.{◌≡◌, ◌⊎◌, ◌≤◌, ◌+◌, ℕ, true, List, [], ◌∷◌, ◌++◌, Option, None, Some, Result, Ok, Err}
+use Rattle.wtf_dev.specs.Disk.{DiskKind}
+use Rattle.wtf_journal.specs.Follows.{synced_kind}
+use Rattle.wtf_journal.specs.Records.{RestsAt}
+use Rattle.wtf_imagefmt.specs.Saving.{IsSaveOf}
+use Rattle.wtf_model.specs.declared.answer.Answer.{Answer}
+use Rattle.wtf_model.specs.declared.answer.Answer.TheVariants as answer
+use Rattle.wtf_model.specs.declared.event.Event.{Event}
+use Rattle.wtf_model.specs.declared.event.Event.TheVariants as event
+use Rattle.wtf_model.specs.Machines.{Machine}
+use Rattle.wtf_model.specs.Steps.{May, after}
+use Rattle.wtf_model.specs.Tree.{Tree}
+use Rattle.wtf_core.specs.Promises.{GoesOn, Obeys, Stores, IsCaused, GoesOnTold, HasPunched, HasRoom, IsRecordOf, span_of}
+use Rattle.wtf_core.specs.Turns.{IsLine}
+use Rattle.wtf_core.specs.Views.{CoreView}
+use Rattle.wtf_durable.specs.Journaled.{StandsDurably}
+use Rattle.wtf_durable.specs.Sound.{IsSoundDurable}
+use Rattle.wtf_durable.specs.Stops.{Leftover, LeavesTree, StopIn, StopNow}
+use Rattle.wtf_durable.specs.Views.{DurableScene, ReachesGate, core_scene}
+
+-- What the core tells of installs behind a line, and what it is then: nothing, where none came since, and it stays; or the changes since, and
+-- the number of installs is watched from then on.
+abbrev pub Records : (mid new : CoreView) → Option (List ℕ) → Type 0
+Records mid new None = (mid.tables.beside.watched ≡ Some mid.tables.kv.number) × (new ≡ mid)
+Records mid new (Some changes) = IsRecordOf mid new changes
+
+-- the record of changes, if there are some
+abbrev pub changes_body : Option (List ℕ) → List (List ℕ)
+changes_body None = []
+changes_body (Some changes) = (1 ∷ changes) ∷ []
+
+-- the image of the core is recorded exactly where the line saved
+abbrev pub IsImageBody : CoreView → Event → Answer → List (List ℕ) → Type 0
+IsImageBody old event.Save (answer.Saved n) bodies =
+    (image : List ℕ) × IsSaveOf old.tables.kv old.settings old.tables.next_tx image × (bodies ≡ (0 ∷ image) ∷ [])
+IsImageBody old e a bodies = bodies ≡ []
+
+-- A line that is answered: the core answers it, and then tells what was installed. The journal has the records from before it, then an image
+-- exactly where the line saved, and then changes exactly where an install came.
+pub record DurableLine {S D : Type 0} (stores : DiskKind S) (kind : DiskKind D) (old new : DurableScene S D) (e : Event) (a : Answer) : Type 0 where
+  pub answered : CoreView
+  pub line : IsLine (synced_kind stores) (span_of (core_scene kind old) (core_scene kind new)) old.durable.core answered e a
+  pub changes : Option (List ℕ)
+  pub told : Records answered new.durable.core changes
+  pub saved : List (List ℕ)
+  pub saved_is : IsImageBody old.durable.core e a saved
+  pub added : (kind.view old.disk).tells ≡ true → (bodies : List (List ℕ)) → RestsAt kind old.disk old.durable.journal.end bodies
+      → RestsAt kind new.disk new.durable.journal.end (bodies ++ saved ++ changes_body changes)
+
+-- what stays of a durable store behind an event that it answers
+pub record DurableStays {S D : Type 0} (stores : DiskKind S) (kind : DiskKind D) (old new : DurableScene S D) : Type 0 where
+  pub sound : IsSoundDurable (synced_kind stores) new.shelf new.durable
+  pub settings : new.durable.core.settings ≡ old.durable.core.settings
+  pub reach : ReachesGate kind new.disk new.durable
+  pub number : new.durable.core.tables.kv.number ≤ old.durable.core.tables.kv.number + 1
+  pub next_tx : new.durable.core.tables.next_tx ≤ old.durable.core.tables.next_tx + 1
+
+-- What a durable store does of an event that it answers: what its core promises of it, over the stores and the count of faults of the journal's
+-- disk.
+pub record DurableDoes {S D : Type 0} (stores : DiskKind S) (kind : DiskKind D) (old new : DurableScene S D) (e : Event) (a : Answer) : Type 0 where
+  pub line : DurableLine stores kind old new e a
+  pub stays : DurableStays stores kind old new
+  pub goes_on : GoesOn (synced_kind stores) (core_scene kind old) (core_scene kind new) e a
+  pub lawful : Obeys (synced_kind stores) (core_scene kind old) (core_scene kind new) e a
+  pub stored : Stores (synced_kind stores) (core_scene kind old) (core_scene kind new) e a
+  pub caused : IsCaused (synced_kind stores) (core_scene kind old) (core_scene kind new) e a
+  pub told : GoesOnTold (synced_kind stores) (core_scene kind old) (core_scene kind new) e a
+  pub punched : HasPunched (synced_kind stores) (core_scene kind old) (core_scene kind new) e a
+
+-- The tree behind an event with this result: that of the machine with this answer, or, where it was not answered, with one that it may give.
+abbrev pub MayHave : {E : Type 0} → Machine → Event → Result Answer E → Tree → Type 0
+MayHave m e (Ok a) t = t ≡ (after m e a).now
+MayHave m e (Err why) t = (a : Answer) × May m e a × (t ≡ (after m e a).now)
+
+-- A stop at any moment of the event leaves the tree before it, or the one behind it.
+pub record Survives {S D E : Type 0} (stores : DiskKind S) (kind : DiskKind D) (old new : DurableScene S D) (e : Event) (r : Result Answer E)
+    : Type 0 where
+  pub during : (m : Machine) → StandsDurably stores kind old m → HasRoom new.durable.core
+      → (left : Leftover) → StopIn stores kind old new left → (t : Tree) × ((t ≡ m.now) ⊎ MayHave m e r t) × LeavesTree left t
+  -- and so does one behind it, before any other call
+  pub behind : (m : Machine) → StandsDurably stores kind old m → HasRoom new.durable.core
+      → (left : Leftover) → StopNow stores kind new left → (t : Tree) × ((t ≡ m.now) ⊎ MayHave m e r t) × LeavesTree left t
+
+-- Behind an event that was answered the store stands for the machine with that answer, and a stop leaves its tree.
+pub record Lasts {S D : Type 0} (stores : DiskKind S) (kind : DiskKind D) (old new : DurableScene S D) (e : Event) (a : Answer) : Type 0 where
+  pub stands : (m : Machine) → StandsDurably stores kind old m → HasRoom new.durable.core → StandsDurably stores kind new (after m e a)
+  pub leaves : (m : Machine) → StandsDurably stores kind old m → HasRoom new.durable.core
+      → (left : Leftover) → StopNow stores kind new left → LeavesTree left (after m e a).now
