@@ -1,0 +1,414 @@
+-- A journaled run on its way, and how it ends.
+use Rattle.std.proofs.Common.{◌≡◌, ◌⊎◌, ◌<◌, ◌≤◌, ◌^◌, ◌++◌, ℕ, Bool, true, false, List, [], ◌∷◌, None, Some, Ok, Err, refl, sym, ◌∙◌, ap, subst, inl, inr, arith}
+use Rattle.std.proofs.Common.{append_assoc, ⊎_elim}
+use Rattle.std.specs.Prelude.{⊤, ◌||◌}
+use Rattle.wtf_base.specs.declared.settings.Settings.{Settings}
+use Rattle.wtf_dev.specs.Counts.{Rose}
+use Rattle.wtf_dev.specs.Disk.{DiskGoesOn, DiskKind, DiskLaws}
+use Rattle.wtf_dev.specs.Each.{EachFollows}
+use Rattle.wtf_dev.specs.Keep.{KeeperView}
+use Rattle.wtf_dev.specs.Streams.{SinkView}
+use Rattle.wtf_dev.specs.Store.{KindLaws}
+use Rattle.wtf_dev.specs.Sums.{TellsAll}
+use Rattle.wtf_dev.proofs.Each.{each_same}
+use Rattle.wtf_dev.proofs.Keeping.{rose_in}
+use Rattle.wtf_journal.specs.Follows.{SyncedState, synced_kind, synced_laws}
+use Rattle.wtf_journal.specs.Held.{held_by}
+use Rattle.wtf_journal.specs.Scan.{IsBadAt}
+use Rattle.wtf_replica.specs.Bytes.{byte_at}
+use Rattle.wtf_replica.specs.Inside.{size_in}
+use Rattle.wtf_replica.specs.Outs.{SameLengths}
+use Rattle.wtf_model.specs.declared.answer.Answer.{Answer}
+use Rattle.wtf_model.specs.Lines.{Line, after_line, state_after}
+use Rattle.wtf_model.specs.Machines.{Machine}
+use Rattle.wtf_model.specs.Tree.{Tree}
+use Rattle.wtf_serve.specs.declared.service.Stop.{Stop}
+use Rattle.wtf_serve.specs.declared.service.Stop.TheVariants as stop
+use Rattle.wtf_serve.specs.Endings.{Devices, IsKept, IsNextLine, Served, stop_status}
+use Rattle.wtf_serve.specs.Beginnings.{IsReady}
+use Rattle.wtf_serve.specs.Logs.{Log, first_line, last}
+use Rattle.wtf_serve.specs.Openings.{Opening, StartsFrom, first}
+use Rattle.wtf_serve.specs.Passes.{Input, IsQuiet, PassIs, input, step_of}
+use Rattle.wtf_serve.specs.Scripts.{end_status, settings_line}
+use Rattle.wtf_serve.specs.Stocks.{KeeperGoesOn, Stock}
+use Rattle.wtf_serve.specs.Turns.{WroteFront}
+use Rattle.wtf_serve.proofs.Underway.{begins_of, line_of_first, room_of}
+use Rattle.wtf_serve.proofs.Unstarted.{unstarted, unstarted_log, unwritten, unwritten_log}
+use Rattle.wtf_serve.proofs.Finishing.{blind_log, finish_blind, finish_held, finish_stop, held_log, stop_log}
+use Rattle.wtf_serve.proofs.Going.{Going, going_none, going_on}
+use Rattle.wtf_serve.proofs.Keeping.{text_some}
+use Rattle.wtf_serve.proofs.Leaving.{KeepsWithin}
+use Rattle.wtf_serve.proofs.RanLaws.{longer, so_far_more}
+use Rattle.wtf_serve.proofs.Telling.{told_front, told_more}
+use Rattle.wtf_core.specs.Promises.{HasRoom}
+use Rattle.wtf_core.proofs.FirstStores.{kept_within}
+use Rattle.wtf_durable.specs.Journaled.{StandsDurably}
+use Rattle.wtf_durable.specs.Stops.{LeavesTree, Leftover}
+use Rattle.wtf_durable.specs.Opened.{IsGivenBy, OpensDurable}
+use Rattle.wtf_durable.specs.Views.{DurableView, blind, durable_scene}
+use Rattle.wtf_durable.proofs.Stopping.{durable_leaves}
+use Rattle.wtf_journaled.specs.declared.halt.Halt.{Halt}
+use Rattle.wtf_journaled.specs.declared.halt.Halt.TheVariants as halt
+use Rattle.wtf_journaled.specs.Breaks.{BreaksOff, MayGrow, PassBreaks, halt_status, stop_of, text_status}
+use Rattle.wtf_journaled.specs.Engine.{JournaledHand, JournaledState, in_hand, journaled, journaled_engine, scene_of}
+use Rattle.wtf_journaled.proofs.LineLaws.{disk_same}
+use Rattle.wtf_journaled.specs.Runs.{BeginsSafely, HasBegun, IsJournaledRun, IsOfNextLine, JournaledDevices, LastsBehind, StopBehind, blind_devices, on_devices}
+
+module _ {S D : Type 0} (stores : DiskKind S) (kind : DiskKind D) (store_laws : DiskLaws stores) (disk_laws : DiskLaws kind) where
+  laws : KindLaws (synced_kind stores)
+  laws = synced_laws stores store_laws
+
+  -- what is kept for it stands over the stores of its servers by themselves
+  pub keeps : KeepsWithin (journaled_engine stores kind)
+  keeps s state m may sound stands within (inl kept) holds =
+      kept_within (synced_kind stores) s.shelf state.durable.core sound.durable.tables within.1 m s.keeper may (stands.core within.0) kept holds
+  keeps s state m may sound stands within (inr none) (bytes, held, inl empty) = (bytes, held, inl empty)
+  keeps s state m may sound stands within (inr none) (bytes, held, inr (t, there, image)) =
+      absurd (text_some image.rows bytes image.text (no_byte bytes (sym none ∙ held)))
+    where
+      no_byte : (b : List ℕ) → Some [] ≡ Some b → b ≡ []
+      no_byte b e = cc
+
+  -- A run so far, of what the journal opened
+  pub record Journaling (asked : Settings) (old : JournaledDevices S D) (now : JournaledHand S D) (bad : Bool) : Type 0 where
+    pub shelf : List (SyncedState S)
+    pub disk : D
+    pub opening : Opening
+    pub begun : HasBegun stores kind asked old shelf disk opening
+    pub going : Going (journaled_engine stores kind) opening (blind_devices kind (on_devices old.source old.sink shelf disk)) now bad
+    pub on : DiskGoesOn kind disk now.state.disk
+    pub number : now.state.durable.core.tables.kv.number < 2 ^ 63
+    pub next_tx : now.state.durable.core.tables.next_tx < 2 ^ 63
+
+  pub journaling : (asked : Settings) (old : JournaledDevices S D) (now : JournaledHand S D) (bad : Bool) (shelf : List (SyncedState S)) (disk : D)
+      (opening : Opening) → HasBegun stores kind asked old shelf disk opening
+      → Going (journaled_engine stores kind) opening (blind_devices kind (on_devices old.source old.sink shelf disk)) now bad
+      → DiskGoesOn kind disk now.state.disk → Journaling asked old now bad
+  journaling asked old now bad shelf disk opening begun going on = record {
+    shelf = shelf;
+    disk = disk;
+    opening = opening;
+    begun = begun;
+    going = going;
+    on = on;
+    number = let most = going.number in let room = going.room.0 in omega (arith, most, room);
+    next_tx = let most = going.next_tx in let room = going.room.1 in omega (arith, most, room);
+  }
+
+  disk_on : (a b c : D) → DiskGoesOn kind a b → DiskGoesOn kind b c → DiskGoesOn kind a c
+  disk_on a b c early late = record {
+    faults = let x = early.faults in let y = late.faults in omega (arith, x, y);
+    size = λ f. let x = early.size f in let y = late.size f in omega (arith, x, y);
+    tells = late.tells ∙ early.tells;
+  }
+
+  -- What the run has in hand, and what it has behind the next line
+  module _ (asked : Settings) (old : JournaledDevices S D) (now : JournaledHand S D) (input' : Input) (sink' : SinkView) (shelf' : List (SyncedState S))
+      (state' : JournaledState D) (bad : Bool) (j : Journaling asked old now bad) (on : DiskGoesOn kind now.state.disk state'.disk) where
+    abbrev next : JournaledHand S D
+    next = in_hand kind input' sink' shelf' state'
+
+    abbrev start : Devices (SyncedState S)
+    start = blind_devices kind (on_devices old.source old.sink j.shelf j.disk)
+
+    abbrev new_with : SinkView → JournaledDevices S D
+    new_with sink = on_devices input'.source sink shelf' state'.disk
+
+    goes_then : DiskGoesOn kind j.disk state'.disk
+    goes_then = disk_on j.disk now.state.disk state'.disk j.on on
+
+    pub journaling_on : (more : Bool) → PassIs (journaled_engine stores kind) now next (Ok (Some more)) → Journaling asked old next (bad || more)
+    journaling_on more pass =
+        journaling asked old next (bad || more) j.shelf j.disk j.opening j.begun
+        (going_on (journaled_engine stores kind) laws j.opening start now next bad j.going more pass) goes_then
+
+    next_line : (b : BreaksOff stores kind now next) → IsNextLine old.source.rest j.going.log.lines b.line
+    next_line b all e =
+        let (more, all_is) = told_front all input'.source.rest input'.held (j.going.log.lines ++ b.line ∷ [])
+        (told_more all now.input.source.rest input'.source.rest now.input.held input'.held j.going.log.lines b.line (j.going.read all e) b.came) in
+        (more, all_is ∙ append_assoc j.going.log.lines (b.line ∷ []) more)
+
+    -- ---- what a stop leaves, where the devices tell, there is room, and the run starts from this tree
+    module _ (tells : TellsAll (synced_kind stores) j.shelf) (told : (kind.view old.disk).tells ≡ true) (low : j.opening.number ≤ 2 ^ 61)
+        (few : j.opening.next_tx ≤ 2 ^ 61) (t : Tree) (from : StartsFrom (byte_at (synced_kind stores) j.shelf) j.opening.bytes t) where
+      abbrev m : Machine
+      m = last j.opening t j.going.log
+
+      told_now : (kind.view now.state.disk).tells ≡ true
+      told_now = j.on.tells ∙ j.begun.goes_on.tells ∙ told
+
+      room : HasRoom now.state.durable.core
+      room = (
+        let most = j.going.number in omega (arith, most, low),
+        let most = j.going.next_tx in omega (arith, most, few),
+      )
+
+      grow : MayGrow now.state.durable.core
+      grow = (
+        let most = j.going.number in omega (arith, most, low),
+        let most = j.going.next_tx in omega (arith, most, few),
+      )
+
+      stands_now : StandsDurably stores kind (scene_of now) m
+      stands_now = (j.going.so_far.stands tells t from).journal ((j.going.so_far.told tells).tells t from).tables.all told_now room
+
+      -- nothing was touched
+      stands_quiet : IsQuiet now next → StandsDurably stores kind (scene_of next) m
+      stands_quiet quiet =
+          subst (λ (s : JournaledState D). StandsDurably stores kind (durable_scene shelf' s.disk s.durable) m) (sym quiet.state)
+          (subst (λ (s : Stock (SyncedState S)). StandsDurably stores kind (durable_scene s.shelf now.state.disk now.state.durable) m) (sym quiet.stock)
+          stands_now)
+
+      leaves_quiet : IsQuiet now next → (sink : SinkView) (left : Leftover) → StopBehind stores kind (new_with sink) left → LeavesTree left m.now
+      leaves_quiet quiet sink left behind =
+          durable_leaves stores kind store_laws disk_laws (scene_of next) m (stands_quiet quiet) left (record { shelf = behind.shelf; disk = behind.disk })
+
+      -- a line was answered, whose text was cut
+      leaves_cut : (pass : PassIs (journaled_engine stores kind) now next (Err stop.Unwritten)) (left : Leftover) → StopBehind stores kind (new_with sink') left
+          → LeavesTree left (last j.opening t (longer j.going.log pass.came.line pass.came.cut.answer)).now
+      leaves_cut pass left behind =
+          let cut = pass.came.cut in
+          let then = so_far_more (journaled_engine stores kind) laws j.opening start.stock j.going.log (step_of now next) j.going.so_far pass.came.line
+          cut.answer cut.is pass.keeper.faults in
+          let top : HasRoom state'.durable.core = (
+            let most = j.going.number in let more = cut.is.goes_on.number in omega (arith, most, low, more),
+            let most = j.going.next_tx in let more = cut.is.goes_on.next_tx in omega (arith, most, few, more),
+          ) in
+          durable_leaves stores kind store_laws disk_laws (scene_of next) (last j.opening t (longer j.going.log pass.came.line cut.answer))
+          ((then.stands tells t from).journal ((then.told tells).tells t from).tables.all (on.tells ∙ told_now) top) left
+          (record { shelf = behind.shelf; disk = behind.disk })
+
+      -- a line was not answered, or not told of
+      leaves_broken : (b : BreaksOff stores kind now next) (left : Leftover) → StopBehind stores kind (new_with sink') left
+          → (final : Tree) × ((final ≡ m.now) ⊎ IsOfNextLine m old.source.rest j.going.log.lines final) × LeavesTree left final
+      leaves_broken b left behind =
+          let (final, which, leaves) = b.survives m stands_now grow left (record { shelf = behind.shelf; disk = behind.disk }) in
+          (final, ⊎_elim (λ same. inl same) (λ may. inr (record { line = b.line; next = next_line b; may = may })) which, leaves)
+
+    -- ---- the ends
+    abbrev Lasts : ℕ → JournaledDevices S D → Log → Type 0
+    Lasts status new log = LastsBehind stores kind old j.shelf j.opening status new log
+
+    abbrev IsServed : ℕ → JournaledDevices S D → Log → Type 0
+    IsServed found new log = (served : Served (synced_kind stores) (λ images. ⊤) j.opening found start (blind_devices kind new)) × (served.log ≡ log)
+
+    opened_by : (status found : ℕ) → text_status status ≡ found → (new : JournaledDevices S D) (log : Log) → IsServed found new log
+        → (status ≡ 5 → Rose (kind.view j.disk).faults (kind.view new.disk).faults) → Lasts status new log
+        → IsJournaledRun stores kind asked status old new
+    opened_by status found is new log by cause lasts =
+        let (served, same) = subst (λ (n : ℕ). IsServed n new log) (sym is) by in
+        inr (record {
+          shelf = j.shelf;
+          disk = j.disk;
+          opening = j.opening;
+          begun = j.begun;
+          served = served;
+          cause = cause;
+          lasts = subst (λ (l : Log). Lasts status new l) (sym same) lasts;
+        })
+
+    lasts_quiet : IsQuiet now next → (status : ℕ) (sink : SinkView) → Lasts status (new_with sink) j.going.log
+    lasts_quiet quiet status sink = λ tells told low few t from left behind.
+        ((last j.opening t j.going.log).now, inl refl, leaves_quiet tells told low few t from quiet sink left behind)
+
+    -- the journal failed, or memory was wanted
+    lasts_short : PassBreaks stores kind now next → (status : ℕ) → (status ≡ 5) ⊎ (status ≡ 7) → Lasts status (new_with sink') j.going.log
+    lasts_short (inl quiet) status which = lasts_quiet quiet status sink'
+    lasts_short (inr broken) status which = λ tells told low few t from left behind.
+        let (final, is, leaves) = leaves_broken tells told low few t from broken left behind in
+        (final, ⊎_elim (λ same. inl same) (λ of_next. inr (which, of_next)) is, leaves)
+
+    stopped_by : (why : Stop) (pass : PassIs (journaled_engine stores kind) now next (Err why)) (log : Log)
+        → (finish_stop (journaled_engine stores kind) laws keeps (λ images. ⊤) j.opening start now next bad j.going why pass).log ≡ log
+        → IsServed (stop_status why) (new_with sink') log
+    stopped_by why pass log same = (finish_stop (journaled_engine stores kind) laws keeps (λ images. ⊤) j.opening start now next bad j.going why pass, same)
+
+    rose : Rose (kind.view now.state.disk).faults (kind.view state'.disk).faults → Rose (kind.view j.disk).faults (kind.view state'.disk).faults
+    rose cause = rose_in (kind.view j.disk).faults (kind.view now.state.disk).faults (kind.view state'.disk).faults (kind.view state'.disk).faults
+        j.on.faults cause (omega arith)
+
+    -- the run ends before the end of its script
+    pub halted : (why : Halt) → PassIs (journaled_engine stores kind) now next (Err (stop_of why))
+        → ((why ≡ halt.Stopped stop.Memory) ⊎ (why ≡ halt.Journal) → PassBreaks stores kind now next)
+        → (why ≡ halt.Journal → Rose (kind.view now.state.disk).faults (kind.view state'.disk).faults)
+        → IsJournaledRun stores kind asked (halt_status why) old (new_with sink')
+    halted (halt.Stopped stop.Unread) pass breaks cause =
+        opened_by 3 3 refl (new_with sink') j.going.log (stopped_by stop.Unread pass j.going.log
+        (stop_log (journaled_engine stores kind) laws keeps (λ images. ⊤) j.opening start now next bad j.going stop.Unread pass)) (λ e. absurd (omega (arith, e)))
+        (lasts_quiet pass.came.1 3 sink')
+    halted (halt.Stopped stop.Unwritten) pass breaks cause =
+        opened_by 4 4 refl (new_with sink') (longer j.going.log pass.came.line pass.came.cut.answer)
+        (stopped_by stop.Unwritten pass (longer j.going.log pass.came.line pass.came.cut.answer)
+        (stop_log (journaled_engine stores kind) laws keeps (λ images. ⊤) j.opening start now next bad j.going stop.Unwritten pass))
+        (λ e. absurd (omega (arith, e)))
+        (λ tells told low few t from left behind.
+        ((last j.opening t (longer j.going.log pass.came.line pass.came.cut.answer)).now, inl refl, leaves_cut tells told low few t from pass left behind))
+    halted (halt.Stopped stop.TooMuch) pass breaks cause =
+        opened_by 9 9 refl (new_with sink') j.going.log (stopped_by stop.TooMuch pass j.going.log
+        (stop_log (journaled_engine stores kind) laws keeps (λ images. ⊤) j.opening start now next bad j.going stop.TooMuch pass)) (λ e. absurd (omega (arith, e)))
+        (lasts_quiet pass.came.1 9 sink')
+    halted (halt.Stopped stop.Memory) pass breaks cause =
+        opened_by 7 7 refl (new_with sink') j.going.log (stopped_by stop.Memory pass j.going.log
+        (stop_log (journaled_engine stores kind) laws keeps (λ images. ⊤) j.opening start now next bad j.going stop.Memory pass)) (λ e. absurd (omega (arith, e)))
+        (lasts_short (breaks (inl refl)) 7 (inr refl))
+    halted halt.Journal pass breaks cause =
+        opened_by 5 7 refl (new_with sink') j.going.log (stopped_by stop.Memory pass j.going.log
+        (stop_log (journaled_engine stores kind) laws keeps (λ images. ⊤) j.opening start now next bad j.going stop.Memory pass)) (λ e. rose (cause refl))
+        (lasts_short (breaks (inr refl)) 5 (inl refl))
+
+    -- ---- the end of the script: what the sink held back is brought out, or the sink failed
+    as_ended : (b : Bool) → text_status (end_status b) ≡ end_status b
+    as_ended true = refl
+    as_ended false = refl
+
+    not_5 : (b : Bool) → end_status b ≡ 5 → ⊥
+    not_5 true e = omega (arith, e)
+    not_5 false e = omega (arith, e)
+
+    pub journaled_end : PassIs (journaled_engine stores kind) now next (Ok None) → (status : ℕ) (sink : SinkView)
+        → ((bytes : List ℕ) → sink'.taken ≡ Some bytes → sink.taken ≡ Some bytes) → sink'.faults ≤ sink.faults
+        → ((status ≡ end_status bad) × (sink.faults ≡ sink'.faults)) ⊎ ((status ≡ 4) × Rose sink'.faults sink.faults)
+        → IsJournaledRun stores kind asked status old (new_with sink)
+    journaled_end pass status sink taken rises (inl (is, still)) =
+        let quiet = pass.came.1 in
+        let follows = subst (λ (s : Stock (SyncedState S)). EachFollows (synced_kind stores) now.stock.shelf s.shelf []) (sym quiet.stock)
+        (each_same laws now.stock.shelf) in
+        let same : SameLengths (synced_kind stores) now.stock.shelf shelf'
+        = subst (λ (s : Stock (SyncedState S)). SameLengths (synced_kind stores) now.stock.shelf s.shelf) (sym quiet.stock) (λ k d there f. refl) in
+        opened_by status (end_status bad) (ap text_status is ∙ as_ended bad) (new_with sink) j.going.log (
+          finish_blind (journaled_engine stores kind) laws keeps (λ images. ⊤) j.opening start now next bad j.going sink next.stock state' pass follows
+              pass.keeper taken still refl same,
+          blind_log (journaled_engine stores kind) laws keeps (λ images. ⊤) j.opening start now next bad j.going sink next.stock state' pass follows
+              pass.keeper taken still refl same,
+        )
+        (λ e. absurd (not_5 bad (sym is ∙ e))) (lasts_quiet quiet status sink)
+    journaled_end pass status sink taken rises (inr (is, cause)) =
+        opened_by status 4 (ap text_status is) (new_with sink) j.going.log (
+          finish_held (journaled_engine stores kind) laws keeps (λ images. ⊤) j.opening start now next bad j.going sink pass taken rises cause,
+          held_log (journaled_engine stores kind) laws keeps (λ images. ⊤) j.opening start now next bad j.going sink pass taken rises cause,
+        )
+        (λ e. absurd (omega (arith, is, e))) (lasts_quiet pass.came.1 status sink)
+
+  -- ---- A run whose journal was just opened
+  module _ (asked : Settings) (old : JournaledDevices S D) (shelf : List (SyncedState S)) (disk : D) (d : DurableView)
+      (o : OpensDurable stores kind asked old.disk (durable_scene shelf disk d)) (follows : EachFollows (synced_kind stores) old.shelf shelf [])
+      (goes_on : DiskGoesOn kind old.disk disk) (safe : BeginsSafely stores kind old (on_devices old.source old.sink shelf disk))
+      (sane : (kind.view old.disk).tells ≡ true → (n : ℕ) → IsBadAt held_by None ((kind.view old.disk).file 0).seen n → ⊥) where
+    abbrev opening : Opening
+    opening = o.opened.opening
+
+    abbrev begin : Devices (SyncedState S)
+    begin = blind_devices kind (on_devices old.source old.sink shelf disk)
+
+    abbrev keeper : KeeperView
+    keeper = blind (kind.view disk)
+
+    begun : HasBegun stores kind asked old shelf disk opening
+    begun = record {
+      follows = follows;
+      goes_on = goes_on;
+      safe = safe;
+      sane = sane;
+      opens = o.opened.opens;
+      given = subst (λ (b : List ℕ). IsGivenBy kind old.disk b) (sym o.opened.bytes_are) o.given;
+    }
+
+    stands_first : TellsAll (synced_kind stores) shelf → (kind.view old.disk).tells ≡ true → (t : Tree)
+        → StartsFrom (byte_at (synced_kind stores) shelf) opening.bytes t → StandsDurably stores kind (durable_scene shelf disk d) (first opening t)
+    stands_first all told t from =
+        o.stands all told t (subst (λ (b : List ℕ). StartsFrom (byte_at (synced_kind stores) shelf) b t) o.opened.bytes_are from)
+
+    ready : IsReady (journaled_engine stores kind) opening shelf (journaled d disk)
+    ready =
+        let r = o.opened.ready in
+        record {
+          sound = record { durable = r.sound; reach = o.reach };
+          settings = r.settings;
+          number = r.number;
+          next_tx = r.next_tx;
+          up = r.up;
+          unfreed = r.unfreed;
+          kept = r.kept;
+          given = record { full = r.given.full; bare = r.given.bare };
+          told = λ all.
+              let is = r.told all in
+              record {
+                tells = is.tells;
+                wide = is.wide;
+                within = λ t from bare. (all, is.within t from bare);
+                within_from = λ t from. (all, is.within_from t from);
+              };
+          stands = λ t from. record {
+            core = r.stands t from;
+            journal = λ all told room. stands_first all (sym goes_on.tells ∙ told) t from;
+          };
+          enough = r.enough;
+          taken = r.taken;
+        }
+
+    unhanded : IsKept (λ images. ⊤) keeper keeper
+    unhanded = record { held = λ bytes is. is; nothing = tt }
+
+    stays : KeeperGoesOn keeper keeper
+    stays = record { faults = omega arith; tells = refl }
+
+    first_is : (text : List ℕ) → text ≡ settings_line d.core.settings d.core.tables.kv.number → text ≡ first_line opening
+    first_is text is = is ∙ line_of_first (journaled_engine stores kind) opening (journaled d disk) ready.settings ready.number
+
+    -- behind its first line
+    pub journaling_first : (sink' : SinkView) (text : List ℕ) → text ≡ settings_line d.core.settings d.core.tables.kv.number
+        → ((taken : List ℕ) → old.sink.taken ≡ Some taken → sink'.taken ≡ Some (taken ++ text)) → sink'.faults ≡ old.sink.faults
+        → Journaling asked old (in_hand kind (input old.source (record { bytes = []; count = 0; ended = false })) sink' shelf (journaled d disk)) false
+    journaling_first sink' text is wrote still =
+        let at = in_hand kind (input old.source (record { bytes = []; count = 0; ended = false })) sink' shelf (journaled d disk) in
+        journaling asked old at false shelf disk opening begun
+        (going_none (journaled_engine stores kind) laws opening begin sink' keeper (journaled d disk) ready (room_of asked opening.bytes opening begun.opens)
+        (begins_of (size_in (synced_kind stores) shelf) asked opening.bytes opening begun.opens ready.taken) stays (λ bytes held. held)
+        (λ taken e. wrote taken e ∙ ap (λ (x : List ℕ). Some (taken ++ x)) (first_is text is)) still)
+        (disk_same kind disk)
+
+    -- a stop before it leaves the tree that the journal gave
+    none_after : {X : Type 0} (go : X → Line → Answer → X) (x : X) → state_after go x [] [] ≡ x
+    unfolding state_after
+    none_after go x = refl
+
+    lasts_first : (status : ℕ) (sink : SinkView) → LastsBehind stores kind old shelf opening status (on_devices old.source sink shelf disk)
+        (record { lines = []; answers = [] })
+    lasts_first status sink = λ all told low few t from left behind. (
+      (last opening t (record { lines = []; answers = [] })).now,
+      inl refl,
+      subst (λ (x : Machine). LeavesTree left x.now) (sym (none_after after_line (first opening t)))
+          (durable_leaves stores kind store_laws disk_laws (durable_scene shelf disk d) (first opening t) (stands_first all told t from) left
+          (record { shelf = behind.shelf; disk = behind.disk })),
+    )
+
+    -- memory was wanted before it, or the sink failed
+    pub short_first : IsJournaledRun stores kind asked 7 old (on_devices old.source old.sink shelf disk)
+    short_first = inr (record {
+      shelf = shelf;
+      disk = disk;
+      opening = opening;
+      begun = begun;
+      served = unstarted (synced_kind stores) laws (λ images. ⊤) opening begin keeper unhanded stays ready.enough;
+      cause = λ e. absurd (omega (arith, e));
+      lasts = subst (λ (l : Log). LastsBehind stores kind old shelf opening 7 (on_devices old.source old.sink shelf disk) l)
+          (sym (unstarted_log (synced_kind stores) laws (λ images. ⊤) opening begin keeper unhanded stays ready.enough)) (lasts_first 7 old.sink);
+    })
+
+    pub unwritten_first : (sink' : SinkView) (text : List ℕ) → text ≡ settings_line d.core.settings d.core.tables.kv.number
+        → ((taken : List ℕ) → old.sink.taken ≡ Some taken → WroteFront taken text sink'.taken) → Rose old.sink.faults sink'.faults
+        → old.sink.faults ≤ sink'.faults → IsJournaledRun stores kind asked 4 old (on_devices old.source sink' shelf disk)
+    unwritten_first sink' text is cut cause rises =
+        let front : (taken : List ℕ) → old.sink.taken ≡ Some taken → WroteFront taken (first_line opening) sink'.taken
+        = λ taken e. let (f, back, all, new) = cut taken e in (f, back, sym (first_is text is) ∙ all, new) in
+        inr (record {
+          shelf = shelf;
+          disk = disk;
+          opening = opening;
+          begun = begun;
+          served = unwritten (synced_kind stores) laws (λ images. ⊤) opening begin keeper unhanded stays sink' ready.enough ready.taken front cause rises;
+          cause = λ e. absurd (omega (arith, e));
+          lasts = subst (λ (l : Log). LastsBehind stores kind old shelf opening 4 (on_devices old.source sink' shelf disk) l)
+              (sym (unwritten_log (synced_kind stores) laws (λ images. ⊤) opening begin keeper unhanded stays sink' ready.enough ready.taken front cause rises))
+              (lasts_first 4 sink');
+        })

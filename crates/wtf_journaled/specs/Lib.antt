@@ -1,0 +1,4 @@
+pub mod Engine
+pub mod Breaks
+pub mod Refusals
+pub mod Runs

@@ -1,0 +1,22 @@
+//! A whole run with a journal: each line that was answered outlives every later stop, without a save.
+//!
+//! `wtf_journaled` is the run that words ask for, over any source, sink, stores and disk of a journal. The journal
+//! is opened, the settings are written, and then one answer a line; there is no closing save. The line at which the
+//! journal fails has no answer: the run ends there, with status 5, and the journal is opened again by the next one.
+//!
+//! What a run promises is one record (`specs/Runs`): what `wtf_serve` says of its lines, its answers and its ends,
+//! and which tree a stop leaves then. That is the tree behind the lines that were answered, or behind the line that
+//! ended the run as well, where the stores and the disk tell their content.
+//!
+//! The loop's proof is that of `wtf_serve`, for the engine of `specs/Engine`: a durable store with its journal's
+//! disk, whose journal stands for the machine as well.
+#![tactic(auto)]
+
+mod ends;
+mod halt;
+mod lines;
+mod program;
+mod run;
+
+pub use halt::Halt;
+pub use program::wtf_journaled;
