@@ -19,10 +19,11 @@ demo: ## run examples/ and compare, built fast, unproved (1 to 2 minutes)
 run: ## SCRIPT=FILE [DIR=..] [WORDS=..]: run a script, by build/wtf where it is newer than the sources
 	@tools/run-fast "$(SCRIPT)" "$(DIR)" $(WORDS)
 
-demo-bytes: build ## 1 MiB in and out; records sorted; a store gone on with; lost servers healed (a minute after the build)
+demo-bytes: build ## 1 MiB in and out; records sorted; a store gone on with; a run killed; lost servers healed (a minute after the build)
 	@examples/bytes.sh
 	@examples/records.sh
 	@examples/again/run.sh
+	@examples/journal/run.sh
 	@examples/heal.sh
 
 demo-edges: build ## closed streams, a folder in use, wrong first words (seconds after the build)
@@ -42,9 +43,10 @@ rooms: ## draw docs/rooms.svg of crates.txt and docs/costs.svg of docs/MEASUREME
 	@tools/costs docs/MEASUREMENTS.md > docs/costs.svg
 	@git diff --stat -- docs/rooms.svg docs/costs.svg
 
-hostile: build ## run the program over devices that fail, cut scripts, damaged images, and want of memory (minutes)
+hostile: build ## run the program over devices that fail, cut scripts, damaged images, want of memory, and kills (minutes)
 	@cd crates/wtf_hostile && exec rt run -- more
 	@tools/hostile-memory
+	@tools/hostile-kills
 
 clean: ## remove what was built (at once)
 	rm -rf build crates/*/out

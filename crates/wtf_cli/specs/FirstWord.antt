@@ -1,4 +1,4 @@
--- What the program's first word asks for.
+-- What the program's first words ask for.
 use Rattle.std.specs.Prelude.{ℕ, Bool, false, not, ◌&&◌, ◌==◌, if◌then◌else◌, List, [], ◌∷◌, codes}
 use Rattle.std.specs.Str.{bytes_eq}
 use Rattle.wtf_cli.specs.declared.first_word.First.{First}
@@ -16,3 +16,7 @@ first_of word alone =
     if alone && bytes_eq word (codes "--help") then Help else (
     if alone && bytes_eq word (codes "--version") then Version else (
     if is_name word then Folder else NoFolder)))
+
+-- behind DIR: a run with a journal
+abbrev pub is_journal : List ℕ → Bool
+is_journal word = bytes_eq word (codes "--journal")

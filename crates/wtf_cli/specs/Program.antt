@@ -1,10 +1,16 @@
 -- How the program ends, the line that it writes for each status, and its devices.
-use Rattle.std.specs.Prelude.{◌≡◌, ◌⊎◌, ◌==◌, if◌then◌else◌, ℕ, zero, suc, List, Option, Some, None, codes, [], ◌∷◌, ◌++◌, map, replicate}
+use Rattle.std.specs.Prelude.{◌≡◌, ◌⊎◌, ◌==◌, ◌^◌, ◌-◌, if◌then◌else◌, ℕ, zero, suc, List, Option, Some, None, codes, [], ◌∷◌, ◌++◌, map, replicate}
 use Rattle.wtf_real.specs.declared.fault.OpenFault.{OpenFault}
 use Rattle.wtf_real.specs.declared.fault.OpenFault.TheVariants.{Failed, Memory}
 use Rattle.wtf_dev.specs.Calls.{uncalled}
+use Rattle.wtf_journal.specs.Follows.{SyncedState}
+use Rattle.wtf_journaled.specs.Runs.{JournaledDevices, on_devices}
+use Rattle.wtf_journaled.specs.Runs.{IsProgramRun as IsJournaledProgram}
+use Rattle.wtf_real.specs.Disks.{DiskFolder}
 use Rattle.wtf_real.specs.Folders.{FolderState, folder_of}
 use Rattle.wtf_dev.specs.Counts.{Rose}
+use Rattle.wtf_dev.specs.Disk.{DiskKind}
+use Rattle.wtf_dev.specs.DiskTape.{DiskState}
 use Rattle.wtf_dev.specs.Memory.{StoreState, KeeperState}
 use Rattle.wtf_dev.specs.Store.{StoreKind}
 use Rattle.wtf_dev.specs.Streams.{SinkView}
@@ -48,24 +54,48 @@ empty_store = record { files = replicate 8 []; calls = uncalled []; syncs = 0 }
 abbrev pub empty_keeper : KeeperState
 empty_keeper = record { bytes = []; calls = uncalled [] }
 
+-- a disk in memory with eight empty files, which fails only for want of memory
+abbrev pub empty_disk : DiskState
+empty_disk = record { noted = []; counts = uncalled []; fuse = 2 ^ 64 - 1 }
+
+-- a store over a disk, before its first sync
+abbrev pub unsynced : {D : Type 0} → D → SyncedState D
+unsynced disk = record { disk = disk; syncs = 0 }
+
 -- the folders that stores are in
 abbrev pub folders : List FolderState → List (List ℕ)
 folders stores = map (λ (s : FolderState). s.folder) stores
+
+-- the folders that the disks of stores are in
+abbrev pub disk_folders : List (SyncedState DiskFolder) → List (List ℕ)
+disk_folders stores = map (λ (s : SyncedState DiskFolder). s.disk.folder) stores
 
 -- the folders of the first servers in a folder of this path
 abbrev pub folders_of : List ℕ → ℕ → List (List ℕ)
 folders_of dir zero = []
 folders_of dir (suc k) = folders_of dir k ++ folder_of dir k ∷ []
 
--- A run over devices that ended with this status once what its sink held back was brought out, to which no byte was added: a run of
--- these words, whose status it is, or 4 where the sink failed then.
+-- What the sink of a run with this status held back was brought out, and no byte was added: the status is the same, or 4 where the sink
+-- failed then.
+pub record IsBroughtOut (found status : ℕ) (old new : SinkView) : Type 0 where
+  pub taken : (bytes : List ℕ) → old.taken ≡ Some bytes → new.taken ≡ Some bytes
+  pub ended : ((status ≡ found) × (new.faults ≡ old.faults)) ⊎ ((status ≡ 4) × Rose old.faults new.faults)
+
+-- a run of these words over devices that ended with this status once what its sink held back was brought out
 pub record IsRunOver {S : Type 0} (kind : StoreKind S) (handed : List (List ℕ) → Type 0) (words : List (List ℕ)) (status : ℕ)
     (old new : Devices S) : Type 0 where
   pub found : ℕ
   pub sink : SinkView
   pub run : IsProgramRun kind handed (asked_of words) found old (record { source = new.source; sink = sink; stock = new.stock })
-  pub taken : (bytes : List ℕ) → sink.taken ≡ Some bytes → new.sink.taken ≡ Some bytes
-  pub ended : ((status ≡ found) × (new.sink.faults ≡ sink.faults)) ⊎ ((status ≡ 4) × Rose sink.faults new.sink.faults)
+  pub out : IsBroughtOut found status sink new.sink
+
+-- the same of a run with a journal
+pub record IsJournaledOver {S D : Type 0} (stores : DiskKind S) (kind : DiskKind D) (words : List (List ℕ)) (status : ℕ)
+    (old new : JournaledDevices S D) : Type 0 where
+  pub found : ℕ
+  pub sink : SinkView
+  pub run : IsJournaledProgram stores kind (asked_of words) found old (on_devices new.source sink new.shelf new.disk)
+  pub out : IsBroughtOut found status sink new.sink
 
 -- the status where a device could not be opened
 abbrev pub open_status : OpenFault → ℕ

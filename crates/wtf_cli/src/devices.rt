@@ -1,13 +1,15 @@
-//! The stores and the keeper of a run: in memory, or in a folder.
+//! The stores of a run, and its keeper or the disk of its journal: in memory, or in a folder.
 
-ghost use Rattle.std.specs.Prelude.{◌≡◌, replicate, IfOk};
-ghost use Rattle.wtf_cli.specs.Program.{empty_store, empty_keeper, folders, folders_of};
+ghost use Rattle.std.specs.Prelude.{◌≡◌, ◌++◌, codes, replicate, IfOk};
+ghost use Rattle.wtf_real.specs.Folders.{folder_of};
+ghost use Rattle.wtf_cli.specs.Program.{disk_folders, empty_disk, empty_keeper, empty_store, folders, folders_of, unsynced};
 
 use std::alloc::Global;
 use std::fs::File;
 use wtf_base::OutOfMemory;
-use wtf_dev::{MemKeeper, MemStore, Shelf};
-use wtf_real::{DirStore, FileKeeper, FolderLock, OpenFault};
+use wtf_dev::{MemDisk, MemKeeper, MemStore, Shelf};
+use wtf_journal::Synced;
+use wtf_real::{DirDisk, DirStore, FileKeeper, FolderLock, OpenFault};
 
 /// How many stores there are.
 const STORES: u8 = 16;
@@ -17,6 +19,13 @@ const STORES: u8 = 16;
 pub(crate) struct Opened<S, K> {
     pub(crate) shelf: Shelf<S>,
     pub(crate) keeper: K,
+}
+
+/// The stores of a run, each over a disk, and the disk of its journal.
+#[derive(Drop)]
+pub(crate) struct Journaled<S, D> {
+    pub(crate) shelf: Shelf<Synced<S>>,
+    pub(crate) disk: D,
 }
 
 /// Stores and a keeper in memory.
@@ -71,4 +80,82 @@ fn open_stores(rt: &HostRuntime, lock: &FolderLock<File>) -> Result<Vec<DirStore
         };
     }
     Ok(stores)
+}
+
+/// Stores over disks in memory, and the disk of a journal there.
+pub(crate) fn journaled_in_memory(alloc: Global) -> Result<Journaled<MemDisk, MemDisk>, OpenFault>
+    ensures shelf { IfOk result (λ opened. opened.shelf ≡ replicate 16 (unsynced empty_disk)) }
+    ensures disk { IfOk result (λ opened. opened.disk ≡ empty_disk) }
+{
+    let Ok(stores) = empty_disks(alloc) else {
+        return Err(OpenFault::Memory);
+    };
+    let Ok(disk) = MemDisk::new(alloc, Vec::new(alloc), u64::MAX) else {
+        return Err(OpenFault::Memory);
+    };
+    Ok(Journaled {
+        shelf: Shelf::new(alloc, stores),
+        disk,
+    })
+}
+
+/// Stores over the disks in a folder that is held, and the disk of the journal there: the store of server K is over the disk in `sK`, and
+/// that of the journal is in `journal`.
+pub(crate) fn journaled_in_folder(
+    rt: &HostRuntime,
+    lock: &FolderLock<File>,
+) -> Result<Journaled<DirDisk<File>, DirDisk<File>>, OpenFault>
+    ensures shelf { IfOk result (λ opened. disk_folders opened.shelf ≡ folders_of lock.now.dir 16) }
+    ensures disk { IfOk result (λ opened. opened.disk.folder ≡ lock.now.dir ++ codes "/journal") }
+{
+    let stores = open_disks(rt, lock)?;
+    let disk = DirDisk::open(rt, lock, "journal")?;
+    Ok(Journaled {
+        shelf: Shelf::new(rt.alloc(), stores),
+        disk,
+    })
+}
+
+/// Stores over empty disks, which fail only for want of memory.
+fn empty_disks(alloc: Global) -> Result<Vec<Synced<MemDisk>>, OutOfMemory>
+    ensures { IfOk result (λ stores. stores.items ≡ replicate 16 (unsynced empty_disk)) }
+{
+    let mut stores = Vec::new(alloc);
+    for _ in 0..STORES {
+        let disk = MemDisk::new(alloc, Vec::new(alloc), u64::MAX)?;
+        stores.push(Synced::new(disk))?;
+    }
+    Ok(stores)
+}
+
+/// The stores of all servers in a folder that is held, each over its disk, in order.
+fn open_disks(
+    rt: &HostRuntime,
+    lock: &FolderLock<File>,
+) -> Result<Vec<Synced<DirDisk<File>>>, OpenFault>
+    ensures { IfOk result (λ stores. disk_folders stores.items ≡ folders_of lock.now.dir 16) }
+{
+    let mut stores = Vec::new(rt.alloc());
+    for k in 0..STORES {
+        let store = open_disk(rt, lock, k)?;
+        let Ok(()) = stores.push(store) else {
+            return Err(OpenFault::Memory);
+        };
+    }
+    Ok(stores)
+}
+
+/// The store of a server in a folder that is held, over its disk.
+fn open_disk(
+    rt: &HostRuntime,
+    lock: &FolderLock<File>,
+    k: u8,
+) -> Result<Synced<DirDisk<File>>, OpenFault>
+    ensures { IfOk result (λ store. store.disk.folder ≡ folder_of lock.now.dir k) }
+{
+    let Ok(folder) = format!(in rt.alloc(); "s{k}") else {
+        return Err(OpenFault::Memory);
+    };
+    let disk = DirDisk::open(rt, lock, folder.as_str())?;
+    Ok(Synced::new(disk))
 }

@@ -54,6 +54,7 @@ pub(crate) const VERSION: &str = "wtf 0.1.0-dev\n";
 pub(crate) const USAGE: &str = "\
 usage: wtf DIR [--servers N] [--replicas N] [--region N] < SCRIPT
        wtf DIR [--servers N] [--replicas N] [--region N] --gen N --lines N
+       wtf DIR --journal [--servers N] [--replicas N] [--region N] < SCRIPT
        wtf --help | --version
 
 Answers each line of the script by one line on standard output.
@@ -67,6 +68,9 @@ DIR           the folder of the store, made where it is missing; one run at a
               18446744073709551615, and the settings are followed not by its
               answers but by a summary of them
 --lines N     how many lines that script has, 1 to 1000000
+--journal     each answered commit outlives a stop, without a save: it is
+              written to the folder journal in DIR before it is answered.
+              A DIR is one or the other: always run it with this word, or never
 
 A store that is saved keeps the numbers that it began with.
 

@@ -5,14 +5,18 @@ ghost use Rattle.std.specs.Prelude.{◌≡◌, drop, map, string_bytes, IfErr, O
 ghost use Rattle.std.specs.Process.{exit_status};
 ghost use Rattle.std.specs.Io.KnownBytes.{Appends};
 ghost use Rattle.wtf_serve.specs.Endings.{devices};
-ghost use Rattle.wtf_cli.specs.Program.{IsStatus, IsRunOver, open_status, error_text};
+ghost use Rattle.wtf_cli.specs.Program.{IsBroughtOut, IsStatus, IsRunOver, open_status, error_text};
 
 mod devices;
 mod first_word;
+mod journaled;
+mod second_word;
 mod status;
 
-use crate::devices::{Opened, in_folder, in_memory};
+use crate::devices::{Opened, in_folder, in_memory, journaled_in_folder, journaled_in_memory};
 use crate::first_word::{First, USAGE, VERSION, first_of};
+use crate::journaled::run_journaled;
+use crate::second_word::{JOURNAL_BYTES, is_journal};
 use crate::status::{NO_DIRECTORY, line_of, open_status};
 use std::alloc::Global;
 use std::env::{self, Env, FillError};
@@ -29,7 +33,8 @@ const PATH_BYTES: usize = 4_096;
 /// `wtf DIR WORDS..` answers the script on standard input on standard output; where the words ask for a script that is made
 /// from a number, standard input is not read. DIR holds a folder for each server, `s0` to `s15`, the file `image` and the
 /// file `lock`; what is missing of these but the image is made. For the DIR `-` stores and keeper are in memory and end
-/// with the run. A DIR that is missing, empty or begins with `-`, one that another run holds, or one where something cannot
+/// with the run. `wtf DIR --journal WORDS..` is a run with a journal: the stores are over disks in the same folders, the
+/// journal is in the folder `journal` of DIR, and the file `image` is not used. A DIR that is missing, empty or begins with `-`, one that another run holds, or one where something cannot
 /// be opened, ends with status 10 before the words are read. Else the status is that of the run, and of the words before
 /// it; for each status but 0 its line is written on standard error. `--help` and `--version` alone show what they say.
 fn main(rt: HostRuntime) -> ExitCode {
@@ -71,7 +76,7 @@ fn status_of(rt: &HostRuntime) -> u8
     };
     match first_of(word, is_alone(rt)) {
         First::Folder => return run_in(rt, &standing, word),
-        First::Memory => return run(rt, in_memory(rt.alloc())),
+        First::Memory => return run_in_memory(rt),
         First::Help => return show(rt, USAGE),
         First::Version => return show(rt, VERSION),
         First::NoFolder => return NO_DIRECTORY,
@@ -94,6 +99,15 @@ fn is_alone(rt: &HostRuntime) -> bool {
     matches!(rt.arg(2, &mut []), Err(FillError::NotPresent))
 }
 
+/// Whether the second word asks for a journal.
+fn is_journaled(rt: &HostRuntime) -> bool {
+    let mut bytes = [0u8; JOURNAL_BYTES];
+    match rt.arg(2, &mut bytes) {
+        Ok(n) => is_journal(&bytes[..n]),
+        Err(_) => false,
+    }
+}
+
 /// Writes a text on standard output.
 fn show(rt: &HostRuntime, text: &str) -> u8
     ensures { IsStatus result }
@@ -112,9 +126,23 @@ fn run_in(rt: &HostRuntime, standing: &StandIns<File>, dir: &str) -> u8
         Ok(lock) => lock,
         Err(fault) => return open_status(fault),
     };
-    let status = run(rt, in_folder(rt, &lock));
+    let status = if is_journaled(rt) {
+        run_journaled(rt, journaled_in_folder(rt, &lock))
+    } else {
+        run(rt, in_folder(rt, &lock))
+    };
     drop(lock);
     status
+}
+
+/// Runs the script over devices in memory.
+fn run_in_memory(rt: &HostRuntime) -> u8
+    ensures { IsStatus result }
+{
+    if is_journaled(rt) {
+        return run_journaled(rt, journaled_in_memory(rt.alloc()));
+    }
+    run(rt, in_memory(rt.alloc()))
 }
 
 /// Runs the script on standard input over the devices, where they could be opened: else no word is read.
@@ -160,22 +188,30 @@ pub fn run_over<I: Source, O: Sink, S: SliceStore, K: Keeper>(
         (devices (I.view script.old) (O.view out.old) shelf.old (K.view keeper.old))
         (devices (I.view script.new) (O.view out.new) shelf.new (K.view keeper.new)) }
 {
-    let words = behind_dir(args);
+    let words = behind(args, 2);
     let status = wtf(alloc, words, script, out, shelf, keeper);
+    brought_out(out, status)
+}
+
+/// Brings out what the sink of a run holds back that ended with this status, and answers the status then.
+fn brought_out<O: Sink>(out: &mut O, status: u8) -> u8
+    ensures out { IsBroughtOut status result (O.view out.old) (O.view out.new) }
+    ensures known { IsStatus status → IsStatus result }
+{
     match out.write(&[]) {
         Ok(_) => status,
         Err(_) => WRITING_FAILED,
     }
 }
 
-/// The words behind DIR, the word after the program's name.
-fn behind_dir(args: &[String]) -> &[String]
-    ensures { result.now ≡ drop 2 args.now }
+/// The words behind the first ones, so many of them.
+fn behind(args: &[String], count: usize) -> &[String]
+    ensures { result.now ≡ drop count args.now }
 {
-    if args.len() < 2 {
+    if args.len() < count {
         return &[];
     }
-    &args[2..]
+    &args[count..]
 }
 
 /// The program's name and the words after it, or the status where they cannot be had: words that are no text are refused.

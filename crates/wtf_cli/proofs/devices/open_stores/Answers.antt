@@ -1,6 +1,6 @@
 use Rattle.std.proofs.Common.{◌≡◌, ◌+◌, ◌++◌, [], ◌∷◌, ℕ, suc, List, map, ◌∙◌, ap, arith}
 use Rattle.std.proofs.lemmas.List.{map-append}
-use Rattle.wtf_real.specs.Folders.{FolderState, folder_of}
+use Rattle.wtf_real.specs.Folders.{FolderState}
 use Rattle.wtf_cli.specs.Program.{folders_of}
 use Rattle.wtf_cli.proofs.devices.open_stores.Goals as goal
 
