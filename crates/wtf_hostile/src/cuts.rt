@@ -116,6 +116,7 @@ fn run_of_source(
     })
 }
 
+/// Runs a script whose source fails behind `at` bytes, and counts whether what came of it is right.
 fn try_source(rt: &HostRuntime, script: &Script, at: usize, counts: &mut Counts) -> io::Result<()> {
     let alloc = rt.alloc();
     let mut shelf = stores(alloc, &[])?;
@@ -165,6 +166,7 @@ fn run_of_sink(
     })
 }
 
+/// Runs a script whose sink fails behind `at` bytes, and counts whether what came of it is right.
 fn try_sink(
     rt: &HostRuntime,
     script: &Script,

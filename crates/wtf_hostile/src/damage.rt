@@ -90,6 +90,7 @@ pub fn spoiled_images(rt: &HostRuntime, all: bool) -> io::Result<Counts> {
     Ok(counts)
 }
 
+/// Begins a run with an image of which one byte is another, and counts whether what came of it is right.
 fn try_spoiled(
     rt: &HostRuntime,
     shelf: &mut Shelf<MemStore>,

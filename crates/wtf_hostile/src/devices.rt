@@ -80,7 +80,7 @@ pub fn stores(alloc: Global, faults: &[Fault]) -> io::Result<Shelf<MemStore>> {
 }
 
 /// The words of the program that ask for the store of a script.
-fn words_of(alloc: Global, script: &Script) -> io::Result<Vec<String>> {
+pub fn words_of(alloc: Global, script: &Script) -> io::Result<Vec<String>> {
     let mut words = Vec::new(alloc);
     words.push(format!(in alloc; "--servers={}", script.servers)?)?;
     words.push(format!(in alloc; "--replicas={}", script.replicas)?)?;
@@ -178,6 +178,7 @@ fn left_of_source(fault: &Fault, source: &mut MemSource) -> u64 {
     left
 }
 
+/// How many of the sink's failures are left.
 fn left_of_sink(fault: &Fault, sink: &mut MemSink) -> u64 {
     let mut left = 0u64;
     for _ in 0..most(fault) {
@@ -188,6 +189,7 @@ fn left_of_sink(fault: &Fault, sink: &mut MemSink) -> u64 {
     left
 }
 
+/// How many of the keeper's failures are left.
 fn left_of_keeper(alloc: Global, fault: &Fault, keeper: &mut MemKeeper) -> u64 {
     let mut left = 0u64;
     for _ in 0..most(fault) {

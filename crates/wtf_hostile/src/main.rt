@@ -7,6 +7,7 @@ mod damage;
 mod devices;
 mod faults;
 mod generated;
+mod journals;
 mod judge;
 mod lists;
 mod odd;
@@ -100,7 +101,12 @@ fn print_faults(rt: &HostRuntime) -> io::Result<bool> {
         faults::all_calls(rt),
     )?;
     let full = is_wrong(rt, "stores are full: faults", wear::full_disks(rt))?;
-    Ok(one || two || all || full)
+    let stops = is_wrong(
+        rt,
+        "a disk fails, with a journal: faults",
+        journals::each_stop(rt),
+    )?;
+    Ok(one || two || all || full || stops)
 }
 
 /// The tables of bytes of scripts.

@@ -114,6 +114,7 @@ impl Rebuilt {
         self.add(&["c0 try"], "committed 1")
     }
 
+    /// Makes a directory; the root is there.
     fn make_folder(&mut self, path: &str) -> io::Result<()> {
         if path == "/" {
             return Ok(());

@@ -35,6 +35,7 @@ pub struct Counts {
 }
 
 impl Counts {
+    /// No run yet.
     pub fn new() -> Counts
         ensures tried { result.tried ≡ 0 }
         ensures wrong { result.wrong ≡ 0 }

@@ -16,6 +16,7 @@ pub struct Drip {
 }
 
 impl Drip {
+    /// A source of these bytes that fails once it gave `end` of them.
     pub fn new(bytes: Vec<u8>, end: usize) -> Drip {
         Drip {
             bytes,
@@ -59,6 +60,7 @@ pub struct Sip {
 }
 
 impl Sip {
+    /// A sink with room for so many bytes.
     pub fn new(alloc: Global, room: usize) -> Sip {
         Sip {
             bytes: Vec::new(alloc),

@@ -23,14 +23,17 @@ pub struct Tally {
 }
 
 impl Servers {
+    /// Whether a server is down.
     fn is_down(&self, k: u8) -> bool {
         self.down.get(k as usize).copied().unwrap_or(false)
     }
 
+    /// How many servers are down.
     fn count(&self) -> usize {
         self.down.iter().filter(|down| **down).count()
     }
 
+    /// Takes a server down, or up.
     fn set(&mut self, k: u8, down: bool) {
         if let Some(place) = self.down.get_mut(k as usize) {
             *place = down;

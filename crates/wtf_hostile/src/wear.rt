@@ -41,6 +41,7 @@ fn failed(shelf: &mut Shelf<OddStore>) -> u64 {
     sum
 }
 
+/// How often the store of a server failed.
 fn faults_of(shelf: &mut Shelf<OddStore>, k: u8) -> u64 {
     if k < shelf.len() {
         return shelf.store(k).faults();
@@ -131,6 +132,7 @@ pub fn zeros(rt: &HostRuntime) -> io::Result<Counts> {
     Ok(counts)
 }
 
+/// Runs a script over stores that give zeros, then looks at the tree, and counts whether both have the form of runs.
 fn try_zeros(
     rt: &HostRuntime,
     script: &Script,
