@@ -2,6 +2,7 @@
 
 ghost use Rattle.std.specs.Prelude.{◌<◌, length};
 
+use crate::changes;
 use crate::figures::{memory, pins_of, settings_at};
 use crate::lists::{PLANS, compact_len, filled, plans};
 use crate::slices::{create, failed, inode, shelf_of};
@@ -19,7 +20,8 @@ pub fn print(rt: &HostRuntime) -> io::Result<()> {
     versions(rt)?;
     slices(rt)?;
     lists(rt)?;
-    texts(rt)
+    texts(rt)?;
+    told(rt)
 }
 
 /// Of a store of versions: its number, the oldest pinned one, and the sums of what the keys show there.
@@ -70,4 +72,15 @@ fn texts(rt: &HostRuntime) -> io::Result<()> {
     let line = line_of(rt.alloc(), SIZE).map_err(memory)?;
     let read = reads(rt.alloc(), line.as_slice()).map_err(unread)?;
     println!(rt; "texts: printed {printed} read {read}")
+}
+
+/// Of changes: the bytes that tell a commit of one file, and those that tell that nothing changed.
+fn told(rt: &HostRuntime) -> io::Result<()> {
+    let mut kv = changes::filled(rt.alloc(), SIZE as u64).map_err(memory)?;
+    let watched = kv.number();
+    let none = changes::told(rt.alloc(), &kv, watched).map_err(memory)?;
+    let edits = changes::set(rt.alloc(), 7, 1).map_err(memory)?;
+    changes::install(&mut kv, &edits).map_err(memory)?;
+    let one = changes::told(rt.alloc(), &kv, watched).map_err(memory)?;
+    println!(rt; "changes: none {none} one {one}")
 }

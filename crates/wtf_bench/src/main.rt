@@ -1,11 +1,12 @@
 //! Prints what calls cost on this machine: those of `wtf_kv`, by the numbers of keys and of pins, those on
 //! slices, by the numbers of servers and of replicas and by the length of a slice, those on lists of entries, by
-//! their number, and those on hexadecimal data, by its length.
+//! their number, those on hexadecimal data, by its length, and those by which changes are told, by the number of files.
 #![tactic(auto)]
 
 ghost use Rattle.std.specs.Prelude.{◌≡◌, ◌+◌, OnOk, IsTrue};
 ghost use Rattle.wtf_kv.specs.Stores.{is_live};
 
+mod changes;
 mod counts;
 mod entries;
 mod figures;
@@ -42,6 +43,8 @@ The third table is of lists of entries of one byte, four bytes apart and laid in
 A push, and a compact, stands for one entry. A plan is of 64 bytes, and the last column says how many pieces it has.
 The fourth table is of hexadecimal data: a line that writes it is copied, its answer printed, the line read.
 Its ratios are to the copy in the same row.
+The fifth table is of a store of files of which each commit is told as changes, by the files. An install makes one file
+longer. Changes tells what changed since the number before it, and a mark takes its place.
 ";
 
 type Map = Kv<Name, Count>;
@@ -62,7 +65,9 @@ fn main(rt: HostRuntime) -> io::Result<()> {
     rt.print("\n")?;
     lists::table(&rt)?;
     rt.print("\n")?;
-    texts::table(&rt)
+    texts::table(&rt)?;
+    rt.print("\n")?;
+    changes::table(&rt)
 }
 
 /// Prints the table of a store of versions.
