@@ -200,8 +200,8 @@ writes_written old new file at bytes noted faults inside =
 pub writes_entered : {old new : DiskState} {file at : ℕ} (due room : Bool) (bytes : List ℕ) → IsEntered due room file at bytes old.noted new.noted
     → old.counts.faults ≤ new.counts.faults → at ≤ length (disk_file old.noted file).seen → DiskWrites mem_disk file at (length bytes) old new
 writes_entered {old} {new} {file} {at} due false bytes is faults inside = writes_nothing old new is file at (length bytes) faults
-writes_entered {old} {new} {file} {at} true true bytes is faults inside =
-    writes_spoiled old new file at (min (length bytes) (2 ^ 61 - 1 - at)) (length bytes) is (omega arith) faults inside
+writes_entered {old} {new} {file} {at} true true bytes is faults inside = writes_spoiled old new file at (min (length bytes) (2 ^ 61 - 1 - at)) (length bytes)
+    is (omega arith) faults inside
 writes_entered {old} {new} {file} {at} false true bytes is faults inside = writes_written old new file at bytes is faults inside
 
 -- a write that was not due to fail and found room was noted

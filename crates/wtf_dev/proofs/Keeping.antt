@@ -1,15 +1,9 @@
 -- Laws of what calls keep of a store and of a keeper.
-use Rattle.std.specs.Prelude.{◌≡◌, ◌⊎◌, ℕ, zero, suc, ◌+◌, ◌<◌, ◌≤◌, List, [], ◌∷◌, length, slice_index, Some}
+use Rattle.std.specs.Prelude.{◌≡◌, ◌⊎◌, ℕ, zero, suc, ◌≤◌, List, [], ◌∷◌, Some}
 use Rattle.std.specs.List.{Contains}
 use Rattle.std.proofs.Common.{arith, ap, sym, ◌∙◌, inl, inr}
 use Rattle.wtf_dev.specs.Counts.{Rose}
 use Rattle.wtf_dev.specs.Keep.{KeeperView, KeeperKept}
-use Rattle.wtf_dev.specs.Store.{Range, StoreView, Outside, Kept, Holds}
-
--- bytes that are held outside the ranges are held later
-pub holds_kept : (a b : StoreView) (punched : List Range) → Kept a b punched → (f at : ℕ) (bytes : List ℕ)
-    → ((k : ℕ) → k < length bytes → Outside f (at + k) punched) → Holds a f at bytes → Holds b f at bytes
-holds_kept a b punched kept f at bytes out holds = λ k h. kept.bytes f (at + k) (slice_index bytes k) (out k h) (holds k h)
 
 -- a rise in a part of a span is one in the whole of it
 pub rose_in : (start before after end : ℕ) → start ≤ before → Rose before after → after ≤ end → Rose start end

@@ -43,8 +43,7 @@ at_no_place first end is = grind (arith, nat_tests)
 
 -- the place that a search for a space gives
 pub first-is_position : (text : List ℕ) (r : Option ℕ) → IsFirstByte (is_byte 32) text r → r ≡ position is_space text
-first-is_position text None h =
-    at_no_place (position_or_len is_space text) (length text)
+first-is_position text None h = at_no_place (position_or_len is_space text) (length text)
     (prefix_len_is (λ b. not (is_space b)) text (length text) 0 (omega arith) (λ k l. fails _ (h k (omega arith) l)) (λ l. absurd (omega arith)))
 first-is_position text (Some at) h =
     at_place (position_or_len is_space text) (length text) at

@@ -1,5 +1,5 @@
 -- Laws of logged calls that stand for calls.
-use Rattle.std.proofs.Common.{◌≡◌, ℕ, List, [], ◌∷◌, ◌++◌, length, take, zero, suc, Some, IfSome, Option, None, refl, ap, subst, slice_get, ◌⊎◌, inl, inr}
+use Rattle.std.proofs.Common.{◌≡◌, ℕ, List, [], ◌∷◌, ◌++◌, length, zero, suc, Some, IfSome, Option, None, refl, ap, subst, slice_get}
 use Rattle.std.specs.Option.{option_and_then}
 use Rattle.wtf_base.specs.declared.kept.Kept.{Kept}
 use Rattle.wtf_base.specs.declared.slice.Slice.{Slice}
@@ -7,10 +7,6 @@ use Rattle.wtf_model.specs.declared.op.Op.{Op}
 use Rattle.wtf_model.specs.declared.op.Op.TheVariants as op
 use Rattle.wtf_log.specs.Calls.{own_of}
 use Rattle.wtf_log.specs.Standing.{IsGiven, OpStandsFor, OpsStandFor}
-
--- a call writes or appends these bytes
-abbrev pub Gives : Op (List ℕ) → List ℕ → Type 0
-Gives p bytes = ((h : ℕ) × (p ≡ op.Write h bytes)) ⊎ ((h : ℕ) × (p ≡ op.Append h bytes))
 
 -- a fact of a slice that is kept gives another
 if_some_weaker : (P Q : Slice → Type 0) (o : Option Slice) → ((s : Slice) → o ≡ Some s → P s → Q s) → IfSome o P → IfSome o Q
@@ -67,15 +63,6 @@ pub OpsStandFor-push : (P : Slice → List ℕ → Type 0) (logged : List (Op Ke
     OpsStandFor P logged ops → OpStandsFor P o p → OpsStandFor P (logged ++ o ∷ []) (ops ++ p ∷ [])
 OpsStandFor-push P logged ops o p s t = OpsStandFor-append P logged (o ∷ []) ops (p ∷ []) s (t, tt)
 
--- the first calls of a log
-pub OpsStandFor-take : (P : Slice → List ℕ → Type 0) (n : ℕ) (logged : List (Op Kept)) (ops : List (Op (List ℕ))) →
-    OpsStandFor P logged ops → OpsStandFor P (take n logged) (take n ops)
-OpsStandFor-take P zero logged ops s = tt
-OpsStandFor-take P (suc n) [] [] s = tt
-OpsStandFor-take P (suc n) (o ∷ logged) (p ∷ ops) s = (s.0, OpsStandFor-take P n logged ops s.1)
-OpsStandFor-take P (suc n) [] (p ∷ ops) s = absurd s
-OpsStandFor-take P (suc n) (o ∷ logged) [] s = absurd s
-
 -- each call of a log stands for a call
 pub OpsStandFor-get : (P : Slice → List ℕ → Type 0) (logged : List (Op Kept)) (ops : List (Op (List ℕ))) (k : ℕ) (o : Op Kept) →
     OpsStandFor P logged ops → slice_get logged k ≡ Some o → (p : Op (List ℕ)) × ((slice_get ops k ≡ Some p) × OpStandsFor P o p)
@@ -92,12 +79,3 @@ pub OpsStandFor-at : (P : Slice → List ℕ → Type 0) (logged : List (Op Kept
 OpsStandFor-at P logged ops k o p s is other =
     let there = OpsStandFor-get P logged ops k o s is in
     let same : there.0 ≡ p = cc in subst (λ x. OpStandsFor P o x) same there.1.1
-
--- the slice of a logged call holds the bytes that the call was given
-pub OpStandsFor-own : (P : Slice → List ℕ → Type 0) (o : Op Kept) (p : Op (List ℕ)) (s : Slice) →
-    OpStandsFor P o p → own_of o ≡ Some s → (bytes : List ℕ) × (Gives p bytes × P s bytes)
-OpStandsFor-own P (op.Write h kept) p s stands own =
-    (stands.bytes, (inl (h, stands.is), subst (λ x. IfSome x (λ z. P z stands.bytes)) own stands.stands.slice))
-OpStandsFor-own P (op.Append h kept) p s stands own =
-    (stands.bytes, (inr (h, stands.is), subst (λ x. IfSome x (λ z. P z stands.bytes)) own stands.stands.slice))
-OpStandsFor-own P o p s stands own = absurd cc

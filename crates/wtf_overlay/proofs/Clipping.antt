@@ -118,8 +118,7 @@ front_case end e x below (inr past) is = absurd (omega arith)
 pub clip_entry_front : (end : ℕ) (e x : Entry) (below : e.off < end) → x.off ≡ e.off → x.len ≡ below_end end e
     → x.part ≡ part_front (below_end end e) e.len e.part e.held (below_end_some end e below) (below_end_within end e)
     → clip_entry end e ≡ x ∷ []
-clip_entry_front end e x below o l p =
-    front_case end e x below (cases_lt e.off end)
+clip_entry_front end e x below o l p = front_case end e x below (cases_lt e.off end)
     (entry_eq x (front (below_end end e) e (below_end_some end e below) (below_end_within end e)) o l p)
 
 case_none : (end : ℕ) (e : Entry) (c : (e.off < end) ⊎ (end ≤ e.off)) → end ≤ e.off → clip_case end e c ≡ []

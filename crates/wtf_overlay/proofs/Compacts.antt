@@ -115,15 +115,6 @@ pub record Compacting (es fs all : List Entry) : Type 0 where
   pub slices : All (λ (e : Entry). is_held e.part ≡ true) es
   pub joined : Neighbours (λ e f. could_be_one e f ≡ false) es
 
-pub Compacting-init : (all : List Entry) → IsRun all → Compacting [] all all
-Compacting-init all run = record {
-  run = run;
-  origins = λ x. refl;
-  count = omega arith;
-  slices = All-nil (λ (e : Entry). is_held e.part ≡ true);
-  joined = tt;
-}
-
 after_drop : (es fs all : List Entry) (e : Entry) → is_held e.part ≡ false → Compacting es (e ∷ fs) all → Compacting es fs all
 after_drop es fs all e zeros old = record {
   run = run_without 0 (2 ^ 32) es fs e old.run;

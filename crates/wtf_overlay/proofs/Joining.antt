@@ -15,26 +15,6 @@ use Rattle.wtf_overlay.specs.Origin.{place_in, part_origin}
 use Rattle.wtf_overlay.specs.Compact.{could_be_one, follows_part, is_held}
 use Rattle.wtf_overlay.specs.Joins.{IsJoin}
 
-head_len : List Pointer → ℕ
-head_len [] = 0
-head_len (p ∷ ps) = p.len
-
-head_to : (m : ℕ) (e : Extents) → head_len (pointers_to m e) ≡ m
-unfolding head_len
-head_to m (One a) = refl
-head_to m (Two a b) = refl
-head_to m (Three a b c) = refl
-
-head_lengthened : (n m : ℕ) (e : Extents) → head_len (map (lengthened n) (pointers_to m e)) ≡ n
-unfolding head_len
-head_lengthened n m (One a) = refl
-head_lengthened n m (Two a b) = refl
-head_lengthened n m (Three a b c) = refl
-
--- the length of a slice whose pointers are those of another lengthened
-pub lengthened_len : (s t : Slice) (n : ℕ) → pointers_of t ≡ map (lengthened n) (pointers_of s) → len_of t ≡ n
-lengthened_len s t n is = sym (head_to t.len t.extents) ∙ ap head_len is ∙ head_lengthened n s.len s.extents
-
 -- all pointers have n bytes
 abbrev HaveLen : ℕ → List Pointer → Type 0
 HaveLen n [] = Unit {0}

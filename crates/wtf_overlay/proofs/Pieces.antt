@@ -1,5 +1,5 @@
 -- Consecutive pieces: their bytes one after another, and parts of them.
-use Rattle.std.proofs.Common.{◌≡◌, ℕ, zero, suc, ◌+◌, ◌-◌, ◌<◌, ◌≤◌, ◌++◌, List, [], ◌∷◌, refl, ap, sym, subst, ◌∙◌, take, get_or, length, arith, inl, inr}
+use Rattle.std.proofs.Common.{◌≡◌, ℕ, zero, suc, ◌+◌, ◌-◌, ◌<◌, ◌≤◌, ◌++◌, List, [], ◌∷◌, ap, sym, subst, ◌∙◌, take, get_or, length, arith, inl, inr}
 use Rattle.std.proofs.lemmas.Bool.{lt-ltb, le-ltb, cond-true, cond-false, cases_lt}
 use Rattle.wtf_overlay.specs.declared.part.Piece.{Piece}
 use Rattle.wtf_overlay.specs.Origin.{Place, part_origin, pieces_len, pieces_origin, Plans}
@@ -48,11 +48,6 @@ Plans-push ps p n m f e plans here =
     Plans-append ps (p ∷ []) n p.len m f (part_origin p.part) e plans
     (record { len = omega arith; origin = λ i k. cond-true _ _ _ (lt-ltb i p.len k) })
     here
-
--- each piece has a byte, so a plan of none has no piece
-pub pieces-none : (ps : List Piece) → pieces_len ps ≡ 0 → ps ≡ []
-pieces-none [] none = refl
-pieces-none (p ∷ ps) none = absurd (omega (arith, p.positive))
 
 pieces_at : (ps : List Piece) (n : ℕ) (d : Piece) (j : ℕ) → n < length ps → j < (get_or ps n d).len
     → pieces_origin ps (pieces_len (take n ps) + j) ≡ part_origin (get_or ps n d).part j

@@ -24,8 +24,7 @@ or_more a b c d more h = elim (or_cases a (b || c) h) [
 
 edge_more : (es : List Entry) (e : Entry) (y : ℕ) → is_edge es y ≡ true → is_edge (es ++ e ∷ []) y ≡ true
 edge_more [] e y edge = absurd (cc)
-edge_more (f ∷ es) e y edge =
-    or_more (nat_eq f.off y) (nat_eq (f.off + f.len) y) (is_edge es y) (is_edge (es ++ e ∷ []) y) (edge_more es e y) edge
+edge_more (f ∷ es) e y edge = or_more (nat_eq f.off y) (nat_eq (f.off + f.len) y) (is_edge es y) (is_edge (es ++ e ∷ []) y) (edge_more es e y) edge
 
 edge_last : (es : List Entry) (e : Entry) (y : ℕ) → is_edge (e ∷ []) y ≡ true → is_edge (es ++ e ∷ []) y ≡ true
 edge_last [] e y edge = edge

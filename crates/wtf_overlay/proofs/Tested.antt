@@ -97,8 +97,8 @@ case_three s a b d is sound (inr h) = absurd (cc)
 slice_of_extents : (s : Slice) (e : Extents) → s.extents ≡ e → is_slice (pointers_to s.len e) ≡ true → slice_by (pointers_to s.len e) ≡ Some s
 slice_of_extents s (One a) is sound = case_one s a is sound (cases_Bool (is_slice (pointer_to s.len a ∷ [])))
 slice_of_extents s (Two a b) is sound = case_two s a b is sound (cases_Bool (is_slice (pointer_to s.len a ∷ pointer_to s.len b ∷ [])))
-slice_of_extents s (Three a b c) is sound =
-    case_three s a b c is sound (cases_Bool (is_slice (pointer_to s.len a ∷ pointer_to s.len b ∷ pointer_to s.len c ∷ [])))
+slice_of_extents s (Three a b c) is sound = case_three s a b c is sound
+    (cases_Bool (is_slice (pointer_to s.len a ∷ pointer_to s.len b ∷ pointer_to s.len c ∷ [])))
 
 pub slice_again : (s : Slice) → slice_by (pointers_of s) ≡ Some s
 slice_again s = slice_of_extents s s.extents refl (sound_pointers s.len s.extents s.sound)

@@ -84,8 +84,8 @@ pub name-cut : (text before after : List ℕ) → IsAroundLast text before after
 name-cut text before after cut = rw cut.joined (sym (name_of-around before after (clear-after after cut.last)))
 
 pub name-is_name : (text before after : List ℕ) → IsAroundLast text before after → IsPath text → text ≢ codes "/" → IsName after
-name-is_name text before after cut path other =
-    last-is_name before after (clear-after after cut.last) (subst IsPath cut.joined path) (λ e. other (cut.joined ∙ e))
+name-is_name text before after cut path other = last-is_name before after (clear-after after cut.last) (subst IsPath cut.joined path)
+    (λ e. other (cut.joined ∙ e))
 
 -- that parent is the directory of a path
 pub record IsParent (text parent : List ℕ) : Type 0 where

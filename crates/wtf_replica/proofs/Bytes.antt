@@ -8,7 +8,7 @@ use Rattle.std.proofs.lemmas.List.Elements.{All-map, All-weaker}
 use Rattle.wtf_base.specs.declared.pointer.Pointer.{Pointer}
 use Rattle.wtf_base.specs.declared.slice.Slice.{Slice}
 use Rattle.wtf_base.specs.Slices.{pointers_of, len_of}
-use Rattle.wtf_base.specs.Places.{Place, place_in, places_of, HasByte}
+use Rattle.wtf_base.specs.Places.{Place, place_in, places_of}
 use Rattle.wtf_base.proofs.Elements.{element, All-unmap}
 use Rattle.wtf_base.proofs.Pointers.{pointers-len}
 use Rattle.wtf_dev.specs.Store.{Range, Outside, StoreKind, KindLaws}
@@ -120,10 +120,6 @@ pub place_inside_stays : {S : Type 0} {kind : StoreKind S} → KindLaws kind →
 place_inside_stays laws e p h =
     (omega (arith, h.0, e.same_length), h.1, λ d. omega (arith, h.2 d, (laws.keeps _ _ _ (e.each p.server d h.0)).size p.file))
 
-pub places_inside_stay : {S : Type 0} {kind : StoreKind S} → KindLaws kind → {old new : List S} {punched : List (ℕ × Range)} → EachFollows kind old new punched
-    → (places : List Place) → All (IsPlaceInside kind old) places → All (IsPlaceInside kind new) places
-places_inside_stay {kind = kind} laws {old = old} {new = new} e = All-weaker (IsPlaceInside kind old) (IsPlaceInside kind new) (place_inside_stays laws e)
-
 -- the places of each byte of a slice that lies inside the stores lie inside them
 pub places_inside : {S : Type 0} (kind : StoreKind S) (shelf : List S) (s : Slice) (i : ℕ) → IsInside kind shelf s → i < len_of s
     → All (IsPlaceInside kind shelf) (places_of s i)
@@ -138,14 +134,6 @@ inside_places kind shelf s some inside =
     λ k d h.
     let here = All-unmap (IsPlaceInside kind shelf) (place_in (len_of s - 1)) (pointers_of s) (inside (len_of s - 1) (omega (arith, some))) k d h in
     (here.0, here.1, λ e. omega (arith, here.2 e, pointers-len s k d h, some))
-
--- a slice of which every copy of each byte is told lies inside them
-pub told_slice_inside : {S : Type 0} {kind : StoreKind S} → KindLaws kind → (shelf : List S) (s : Slice) → 0 < len_of s
-    → ((i : ℕ) → i < len_of s → (b : ℕ) × HasByte (byte_at kind shelf) s i b) → IsInside kind shelf s
-told_slice_inside {kind = kind} laws shelf s some told =
-    inside_places kind shelf s some (λ i below.
-    let here = told i below in
-    All-weaker (λ (q : Place). byte_at kind shelf q ≡ Some here.0) (IsPlaceInside kind shelf) (λ q is. told_inside laws shelf q here.0 is) (places_of s i) here.1)
 
 -- what was stored is held by every copy, where the stores tell what they hold
 pub stored_bytes : {S : Type 0} {kind : StoreKind S} {t : Span S} {replicas : ℕ} {place : PlaceView} {bytes : List ℕ} {s : Slice}

@@ -11,8 +11,7 @@ use Rattle.wtf_base.specs.declared.pointer.Pointer.{Pointer}
 use Rattle.wtf_base.specs.declared.slice.Slice.{Slice}
 use Rattle.wtf_base.specs.Slices.{pointers_of}
 use Rattle.wtf_base.proofs.Elements.{element}
-use Rattle.wtf_dev.specs.Store.{StoreKind, KindLaws, Range}
-use Rattle.wtf_dev.specs.Each.{EachFollows}
+use Rattle.wtf_dev.specs.Store.{StoreKind}
 use Rattle.wtf_replica.specs.Copies.{IsCopyInside, IsInside}
 use Rattle.wtf_replica.specs.Inside.{size_in, lies_inside, slice_lies_inside}
 
@@ -58,17 +57,3 @@ module _ {S : Type 0} (kind : StoreKind S) (shelf : List S) (servers : ℕ) wher
   pub slice_to : (s : Slice) → All (λ (p : Pointer). p.server.0 < servers) (pointers_of s) → IsInside kind shelf s → slice_lies_inside servers (size_in kind shelf) s ≡ true
   slice_to s known inside =
       list_all-from_AllPass (lies_inside servers (size_in kind shelf)) (pointers_of s) (λ k d below. extent_to (get_or (pointers_of s) k d) (known k d below) (inside k d below))
-
--- what lies inside the stores goes on to do so, whatever is punched
-module _ {S : Type 0} {kind : StoreKind S} (laws : KindLaws kind) {old new : List S} {punched : List (ℕ × Range)} (e : EachFollows kind old new punched) where
-  pub extent_stays : (p : Pointer) → IsCopyInside kind old p → IsCopyInside kind new p
-  extent_stays p h =
-      (omega (arith, h.0, e.same_length), h.1, λ d. let fits = h.2 d in let grows = (laws.keeps _ _ _ (e.each p.server.0 d h.0)).size p.file in omega (arith, fits, grows))
-
-  pub slice_stays : (s : Slice) → IsInside kind old s → IsInside kind new s
-  slice_stays s inside = λ k d below. extent_stays (get_or (pointers_of s) k d) (inside k d below)
-
-  pub lies_inside-stays : (servers : ℕ) (s : Slice) → servers ≤ length old → slice_lies_inside servers (size_in kind old) s ≡ true → slice_lies_inside servers (size_in kind new) s ≡ true
-  lies_inside-stays servers s enough h =
-      let was = slice_from kind old servers s enough h in
-      slice_to kind new servers s was.0 (slice_stays s was.1)

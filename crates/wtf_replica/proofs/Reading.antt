@@ -119,8 +119,7 @@ pub next_out : {S : Type 0} (kind : StoreKind S) (down : ℕ → Bool) (old mid 
     → (ps : List Pointer) (j : ℕ) (p : Pointer) → slice_get ps j ≡ Some p
     → All (λ (q : Pointer). IsOut kind (span down old mid) q.server.0) (take j ps) → IsOut kind (span down mid new) p.server.0
     → All (λ (q : Pointer). IsOut kind (span down old new) q.server.0) (take (j + 1) ps)
-next_out kind down old mid new same before after ps j p is earlier out =
-    next_holds (λ (q : Pointer). IsOut kind (span down old new) q.server.0) ps j p is
+next_out kind down old mid new same before after ps j p is earlier out = next_holds (λ (q : Pointer). IsOut kind (span down old new) q.server.0) ps j p is
     (All-weaker (λ (q : Pointer). IsOut kind (span down old mid) q.server.0) (λ (q : Pointer). IsOut kind (span down old new) q.server.0)
     (λ q. out_on kind down old mid new same after q.server.0) (take j ps) earlier)
     (out_since kind down old mid new same before p.server.0 out)

@@ -1,6 +1,17 @@
-//! The slices of one server: bytes are created at the end of a backing file, retrieved by their pointer, and freed in
-//! place. A server knows nothing of files, of their offsets or of other servers (NSDI 2016, section 2.1). No call takes
-//! memory.
+//! The slices of one server: bytes are created at the end of a backing file, retrieved by their pointer, and
+//! freed in place. A server knows nothing of files, of their offsets or of other servers (NSDI 2016, section
+//! 2.1). No call takes memory.
+//!
+//! `create` appends bytes to one of the eight files of a store and answers the pointer to them: where the file
+//! ended, and how many they are. `retrieve` puts the bytes that a pointer names into a buffer of its length.
+//! `free` makes a range read as zeros, and leaves every byte outside it.
+//!
+//! Each says what it leaves of the store: which files may be longer, that nothing that lasted is lost but in a
+//! range that was freed (`follows`), and that nothing was synced. `Failed` comes only where the store's count
+//! rose (`cause`); after it a file may be longer, and what it held it still holds.
+//!
+//! What a store is, and what it tells, is said by its trait in `wtf_dev`; slices of several copies are those of
+//! `wtf_replica`.
 #![tactic(auto)]
 
 ghost use Rattle.std.specs.Prelude.{◌≡◌, ◌≢◌, ◌<◌, ◌≤◌, ◌+◌, ◌^◌, ℕ, true, Some, [], ◌∷◌, length, IfOk, OnOk, OnErr};

@@ -18,9 +18,6 @@ pub record Wrote {A : Type 0} (t : A → List ℕ) (F : A → Type 0) (old new :
   pub form : AllByRecursion F (take i xs)
 
 module _ {A : Type 0} (t : A → List ℕ) (F : A → Type 0) where
-  pub wrote_none : (old : List ℕ) (xs : List A) → Wrote t F old old xs 0
-  wrote_none old xs = record { text_is = sym (append-nil old); form = tt }
-
   pub wrote_more : (old mid new : List ℕ) (xs : List A) (i : ℕ) (x : A) → i < length xs → x ≡ get_or xs i x → Wrote t F old mid xs i → Writes mid new (t x) (F x) → Wrote t F old new xs (i + 1)
   wrote_more old mid new xs i x lt is so_far one =
       let more : take (i + 1) xs ≡ take i xs ++ x ∷ [] = take_more xs i x lt ∙ ap (λ (y : A). take i xs ++ y ∷ []) (sym is) in
