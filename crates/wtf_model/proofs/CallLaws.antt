@@ -11,7 +11,7 @@ use Rattle.wtf_model.specs.declared.op.Seek.TheVariants as to
 use Rattle.wtf_model.specs.Tree.{TreeNode}
 use Rattle.wtf_model.specs.Tree.{Dir, File}
 use Rattle.wtf_path.specs.Parts.{parent_of}
-use Rattle.wtf_model.specs.Tree.{Tree, root, ◌>>=◌, is_free, is_parent, bytes_of, target_in, target, source}
+use Rattle.wtf_model.specs.Tree.{PathSet, Tree, root, ◌>>=◌, is_free, is_parent, bytes_of, target_in, target, source}
 use Rattle.wtf_model.specs.Session.{Session, Handle}
 use Rattle.wtf_model.specs.Done.{done, open_handle, is_unused, fits, in_range, bytes_at, moved, set_bytes, add_file}
 use Rattle.wtf_model.specs.NameCalls.{create}
@@ -35,11 +35,11 @@ target-root t = refl
 pub target-no_parent : (t : Tree) (p dir : List ℕ) → parent_of p ≡ Some dir → get t dir ≡ None → target t p ≡ Err NoParent
 target-no_parent t p dir up gone = ap (target_in t p) up ∙ ap (λ o. is_parent o >>= (λ _. is_free (get t p))) gone
 
-pub target-file_parent : (t : Tree) (p dir bytes : List ℕ) → parent_of p ≡ Some dir → get t dir ≡ Some (File bytes) → target t p ≡ Err NoParent
-target-file_parent t p dir bytes up file = ap (target_in t p) up ∙ ap (λ o. is_parent o >>= (λ _. is_free (get t p))) file
+pub target-file_parent : (t : Tree) (p dir : List ℕ) (paths : PathSet) (bytes : List ℕ) → parent_of p ≡ Some dir → get t dir ≡ Some (File paths bytes) → target t p ≡ Err NoParent
+target-file_parent t p dir paths bytes up file = ap (target_in t p) up ∙ ap (λ o. is_parent o >>= (λ _. is_free (get t p))) file
 
-pub source-file : (t : Tree) (p bytes : List ℕ) → get t p ≡ Some (File bytes) → source t p ≡ Ok bytes
-source-file t p bytes file = ap bytes_of file
+pub source-file : (t : Tree) (p : List ℕ) (paths : PathSet) (bytes : List ℕ) → get t p ≡ Some (File paths bytes) → source t p ≡ Ok bytes
+source-file t p paths bytes file = ap bytes_of file
 
 pub source-no_entry : (t : Tree) (p : List ℕ) → get t p ≡ None → source t p ≡ Err NoEnt
 source-no_entry t p gone = ap bytes_of gone
@@ -133,11 +133,6 @@ pub call-seek : (cap : ℕ) (s : Session) (f n : ℕ) (h : Handle) → get s.han
     → call cap s (op.Seek f (to.Set n)) ≡ record { session = moved s f h n; answer = Okay }
 unfolding seek
 call-seek cap s f n h there fit = ap (λ o. or_refused s (open_handle o >>= (λ h. in_range cap n >>= (λ _. done (moved s f h n) Okay)))) there ∙ ap (λ v. or_refused s ((if v then Ok tt else Err Range) >>= (λ _. done (moved s f h n) Okay))) (le-leb n cap fit)
-
-pub call-seek_range : (cap : ℕ) (s : Session) (f n : ℕ) (h : Handle) → get s.handles f ≡ Some h → cap < n
-    → call cap s (op.Seek f (to.Set n)) ≡ unchanged s (Refused Range)
-unfolding seek
-call-seek_range cap s f n h there past = ap (λ o. or_refused s (open_handle o >>= (λ h. in_range cap n >>= (λ _. done (moved s f h n) Okay)))) there ∙ ap (λ v. or_refused s ((if v then Ok tt else Err Range) >>= (λ _. done (moved s f h n) Okay))) (lt-leb n cap past)
 
 -- a label that is not open
 

@@ -8,12 +8,13 @@ use Rattle.wtf_model.specs.declared.answer.Answer.TheVariants.{Okay, Shown, Faul
 use Rattle.wtf_model.specs.declared.op.Op.TheVariants as op
 use Rattle.wtf_model.specs.declared.op.Seek.TheVariants as to
 use Rattle.wtf_model.specs.Tree.{Dir, File}
-use Rattle.wtf_model.specs.Tree.{Tree, root}
+use Rattle.wtf_model.specs.Tree.{only_path, Tree, root}
 use Rattle.wtf_model.specs.Session.{Session, Handle, fresh}
 use Rattle.wtf_model.specs.Done.{Done}
-use Rattle.wtf_model.specs.Call.{call, written}
+use Rattle.wtf_model.specs.Call.{call, written, bytes_at}
 use Rattle.wtf_model.specs.Steps.{Machine, May, after, due}
-use Rattle.wtf_model.proofs.Laws.{get-handle_same, insert-handle_over, insert-node_over, bytes_at-file_same, source-file_same}
+use Rattle.wtf_model.proofs.PathLaws.{refiled-alone}
+use Rattle.wtf_model.proofs.Laws.{get-node_same, get-handle_same, insert-handle_over, insert-node_over, bytes_at-file_same, source-file_same}
 use Rattle.wtf_model.proofs.CallLaws.{call-create, call-open, call-read, call-write, call-seek, target-free}
 use Rattle.wtf_model.specs.Examples.{a, calls, ShowsBytes}
 use Rattle.wtf_model.proofs.StepLaws.{May-read_fault, May-write_fault, after-FaultRead, after-FaultWrite}
@@ -24,17 +25,17 @@ handle off = record { path = a; off = off }
 
 -- the tree with the file, and the handle at an offset
 abbrev pub with_file : Tree → List ℕ → Tree
-with_file tree bytes = insert tree a (File bytes)
+with_file tree bytes = insert tree a (File (only_path a) bytes)
 
 abbrev pub held : Tree → List ℕ → ℕ → Session
 held tree bytes off = record { tree = with_file tree bytes; handles = insert empty 0 (handle off); slices = empty }
 
 -- the file and the handle after others of theirs
 merged : (tree : Tree) (old new : List ℕ) (was off : ℕ)
-    → let s : Session = record { tree = insert (with_file tree old) a (File new); handles = insert (insert empty 0 (handle was)) 0 (handle off); slices = empty } in
+    → let s : Session = record { tree = insert (with_file tree old) a (File (only_path a) new); handles = insert (insert empty 0 (handle was)) 0 (handle off); slices = empty } in
     s ≡ held tree new off
 merged tree old new was off =
-    ap (λ x. let s : Session = record { tree = x; handles = insert (insert empty 0 (handle was)) 0 (handle off); slices = empty } in s) (insert-node_over tree a (File old) (File new))
+    ap (λ x. let s : Session = record { tree = x; handles = insert (insert empty 0 (handle was)) 0 (handle off); slices = empty } in s) (insert-node_over tree a (File (only_path a) old) (File (only_path a) new))
     ∙ ap (λ x. let s : Session = record { tree = with_file tree new; handles = x; slices = empty } in s) (insert-handle_over empty 0 (handle was) (handle off))
 
 moved_held : (tree : Tree) (bytes : List ℕ) (was off : ℕ)
@@ -49,14 +50,17 @@ pub create_held : (cap : ℕ) (tree : Tree) → get tree root ≡ Some Dir → g
 create_held cap tree top free = call-create cap (fresh tree) a (target-free tree a root refl top free)
 
 pub open_held : (cap : ℕ) (tree : Tree) (bytes : List ℕ) → call cap (fresh (with_file tree bytes)) (op.Open 0 a) ≡ answering (held tree bytes 0) Okay
-open_held cap tree bytes = call-open cap (fresh (with_file tree bytes)) 0 a bytes (get-empty nat_cmp 0) (source-file_same tree a bytes)
+open_held cap tree bytes = call-open cap (fresh (with_file tree bytes)) 0 a bytes (get-empty nat_cmp 0) (source-file_same tree a (only_path a) bytes)
 
 pub write_held : (cap : ℕ) (tree : Tree) (bytes : List ℕ) (off b : ℕ) (bs : List ℕ) → off + length (b ∷ bs) ≤ cap
     → call cap (held tree bytes off) (op.Write 0 (b ∷ bs)) ≡ answering (held tree (written bytes off (b ∷ bs)) (off + length (b ∷ bs))) Okay
 write_held cap tree bytes off b bs fit =
     let upto : ℕ = off + length (b ∷ bs) in
+    let with_tree : Tree → Done = λ x. answering (record { tree = x; handles = insert (insert empty 0 (handle off)) 0 (handle upto); slices = empty }) Okay in
+    let there : get (with_file tree bytes) a ≡ Some (File (only_path a) bytes) = get-node_same tree a (File (only_path a) bytes) in
     call-write cap (held tree bytes off) 0 b bs (handle off) (get-handle_same empty 0 (handle off)) fit
-    ∙ ap (λ old. answering (record { tree = insert (with_file tree bytes) a (File (written old off (b ∷ bs))); handles = insert (insert empty 0 (handle off)) 0 (handle upto); slices = empty }) Okay) (bytes_at-file_same tree a bytes)
+    ∙ ap with_tree (refiled-alone (with_file tree bytes) a bytes (written (bytes_at (with_file tree bytes) a) off (b ∷ bs)) there)
+    ∙ ap (λ old. with_tree (insert (with_file tree bytes) a (File (only_path a) (written old off (b ∷ bs))))) (bytes_at-file_same tree a (only_path a) bytes)
     ∙ ap (λ s. answering s Okay) (merged tree bytes (written bytes off (b ∷ bs)) off upto)
 
 pub seek_held : (cap : ℕ) (tree : Tree) (bytes : List ℕ) (off n : ℕ) → n ≤ cap → call cap (held tree bytes off) (op.Seek 0 (to.Set n)) ≡ answering (held tree bytes n) Okay
@@ -68,7 +72,7 @@ pub read_held : (cap : ℕ) (tree : Tree) (bytes : List ℕ) (off n : ℕ)
     → call cap (held tree bytes off) (op.Read 0 n) ≡ answering (held tree bytes (off + length (take n (drop off bytes)))) (Shown (take n (drop off bytes)))
 read_held cap tree bytes off n =
     call-read cap (held tree bytes off) 0 n (handle off) (get-handle_same empty 0 (handle off))
-    ∙ ap (λ old. answering (record { tree = with_file tree bytes; handles = insert (insert empty 0 (handle off)) 0 (handle (off + length (take n (drop off old)))); slices = empty }) (Shown (take n (drop off old)))) (bytes_at-file_same tree a bytes)
+    ∙ ap (λ old. answering (record { tree = with_file tree bytes; handles = insert (insert empty 0 (handle off)) 0 (handle (off + length (take n (drop off old)))); slices = empty }) (Shown (take n (drop off old)))) (bytes_at-file_same tree a (only_path a) bytes)
     ∙ ap (λ s. answering s (Shown (take n (drop off bytes)))) (moved_held tree bytes off (off + length (take n (drop off bytes))))
 
 pub region_least : (settings : Settings) → 64 ≤ settings.region

@@ -1,5 +1,5 @@
 -- The worked examples of what calls read and change, and of retries and stale jobs that have a cause.
-use Rattle.std.proofs.Common.{◌≡◌, ◌≢◌, ◌<◌, ℕ, Bool, true, false, List, [], ◌∷◌, ◌++◌, Some, None, codes, refl, sym, ap, ◌∙◌, true≢false}
+use Rattle.std.proofs.Common.{◌≡◌, ◌≢◌, ◌<◌, ℕ, Bool, true, false, List, [], ◌∷◌, ◌++◌, map, Some, None, codes, refl, sym, ap, ◌∙◌, true≢false}
 use Rattle.std.specs.FinMap.{get, remove, empty, get-empty}
 use Rattle.std.specs.Ordering.{nat_cmp}
 use Rattle.std.specs.Cmp.Lexicographic.{slice_cmp}
@@ -9,7 +9,7 @@ use Rattle.wtf_model.specs.declared.item.Item.TheVariants.{NodeOf, BodyOf}
 use Rattle.wtf_model.specs.declared.op.Op.TheVariants as op
 use Rattle.wtf_model.specs.declared.event.Verb.TheVariants as verb
 use Rattle.wtf_model.specs.declared.event.Event.TheVariants as event
-use Rattle.wtf_model.specs.Tree.{Tree, Dir, root, root_alone}
+use Rattle.wtf_model.specs.Tree.{only_path, path_list, Tree, Dir, File, root, root_alone, paths_of, paths_at}
 use Rattle.wtf_model.specs.Session.{Session, Handle, fresh}
 use Rattle.wtf_model.specs.Done.{Done}
 use Rattle.wtf_model.specs.Call.{call}
@@ -20,6 +20,7 @@ use Rattle.wtf_model.specs.Lawful.{MayTry, May, is_touched}
 use Rattle.wtf_model.specs.Steps.{Machine, after, cap_of, is_live, touch, touch_job}
 use Rattle.wtf_model.specs.Examples.{a}
 use Rattle.wtf_model.proofs.Laws.{get-node_same, get-node_other, get-handle_same}
+use Rattle.wtf_model.proofs.PathLaws.{list-only}
 use Rattle.wtf_model.proofs.ByteLaws.{append-none}
 use Rattle.wtf_model.proofs.StepLaws.{after-client}
 use Rattle.wtf_model.proofs.ItemLaws.{is_among-head, is_among-tail, meets-by, meets-none, reads_from-next, writes-okay, get-each_some}
@@ -36,8 +37,15 @@ pub sought_end : (s : Session) (f : ℕ) (h : Handle) → get s.handles f ≡ So
 sought_end s f h there = ap body_of there
 
 pub written : (cap : ℕ) (s : Session) (f : ℕ) (h : Handle) (bytes : List ℕ) → get s.handles f ≡ Some h → (call cap s (op.Write f bytes)).answer ≡ answer.Okay
-    → writes cap s (op.Write f bytes) ≡ BodyOf h.path ∷ []
+    → writes cap s (op.Write f bytes) ≡ map (λ q. BodyOf q) (path_list (paths_at s.tree h.path))
 written cap s f h bytes there fine = writes-okay cap s (op.Write f bytes) fine ∙ ap (bodies_of s.tree) there
+
+pub written_alone : (cap : ℕ) (s : Session) (f : ℕ) (h : Handle) (bytes old : List ℕ) → get s.handles f ≡ Some h → get s.tree h.path ≡ Some (File (only_path h.path) old)
+    → (call cap s (op.Write f bytes)).answer ≡ answer.Okay → writes cap s (op.Write f bytes) ≡ BodyOf h.path ∷ []
+written_alone cap s f h bytes old there file fine =
+    written cap s f h bytes there fine
+    ∙ ap (λ o. map (λ q. BodyOf q) (path_list (paths_of o))) file
+    ∙ ap (map (λ q. BodyOf q)) (list-only h.path)
 
 pub unopened : (cap : ℕ) (s : Session) (f : ℕ) (bytes : List ℕ) → get s.handles f ≡ None → writes cap s (op.Append f bytes) ≡ []
 unopened cap s f bytes none = ap (λ (d : Done). unless_refused d.answer (handle_changes s f)) (append-none cap s f bytes none)

@@ -4,8 +4,12 @@ use Rattle.std.proofs.Common.{◌≡◌, ℕ, ◌||◌, Bool, true, false, cond,
 use Rattle.std.specs.Option.{option_map}
 use Rattle.std.proofs.lemmas.List.Folds.{list_any-append}
 use Rattle.std.proofs.lemmas.Slice.Eq.{bytes_eq-Decides}
-use Rattle.std.specs.FinMap.{FinMap, get, find, entries, get-entries, get-from_entries}
+use Rattle.std.specs.FinMap.{FinMap, get, find, entries, get-entries, get-from_entries, nat_cmp-IsAntisymmetric, slice_cmp-IsAntisymmetric}
+use Rattle.std.proofs.lemmas.Map.Views.{tells_apart}
+use Rattle.std.specs.List.{list_any}
+use Rattle.std.specs.Str.{bytes_eq}
 use Rattle.std.specs.Ordering.{nat_cmp, eq_by_cmp}
+use Rattle.std.specs.Cmp.Lexicographic.{slice_cmp}
 use Rattle.std.specs.Cmp.{nat_cmp_total}
 use Rattle.wtf_model.specs.declared.item.Item.{Item}
 use Rattle.wtf_model.specs.declared.item.Item.TheVariants.{NodeOf, NamesOf, BodyOf}
@@ -13,12 +17,14 @@ use Rattle.wtf_model.specs.declared.answer.Answer.{Answer}
 use Rattle.wtf_model.specs.declared.answer.Answer.TheVariants as answer
 use Rattle.wtf_model.specs.declared.answer.Word.{Word}
 use Rattle.wtf_model.specs.declared.op.Op.{Op}
+use Rattle.wtf_model.specs.Tree.{PathSet, has_path, path_list}
 use Rattle.wtf_model.specs.Session.{Session}
 use Rattle.wtf_model.specs.Done.{Done}
 use Rattle.wtf_model.specs.Call.{call}
 use Rattle.wtf_model.specs.Items.{same_item, is_among, meets, source_reads, reads, changes, unless_refused, writes, reads_from, writes_from}
 use Rattle.wtf_model.specs.Transaction.{session_from}
 use Rattle.wtf_model.specs.Steps.{with_each}
+use Rattle.wtf_model.proofs.PathLaws.{has-listed}
 
 -- ---- items that are the same
 
@@ -63,15 +69,6 @@ meets-by xs (y ∷ ys) i here there =
       | false ↦ λ e rest. or_later (is_among xs y) (meets xs ys) (meets-by xs ys i here rest)
     ] refl there
 
--- and lists that meet have one
-pub meets-both : (xs ys : List Item) → meets xs ys ≡ true → (i : Item) × (is_among xs i ≡ true) × (is_among ys i ≡ true)
-meets-both xs [] e = absurd (cc)
-meets-both xs (y ∷ ys) e =
-    elim (is_among xs y) as (λ b. is_among xs y ≡ b → (b || meets xs ys) ≡ true → (i : Item) × (is_among xs i ≡ true) × (is_among (y ∷ ys) i ≡ true)) [
-      | true ↦ λ here rest. (y, here, is_among-head y ys)
-      | false ↦ λ here rest. let (i, one, two) = meets-both xs ys rest in (i, one, is_among-tail y ys i two)
-    ] refl e
-
 pub meets-append : (xs ys zs : List Item) → meets xs (ys ++ zs) ≡ (meets xs ys || meets xs zs)
 meets-append xs ys zs = list_any-append (is_among xs) ys zs
 
@@ -80,16 +77,24 @@ pub meets-none : (ys : List Item) → meets [] ys ≡ false
 meets-none [] = refl
 meets-none (y ∷ ys) = meets-none ys
 
--- what met goes on to meet
-pub meets-more : (xs more ys : List Item) → meets xs ys ≡ true → meets (xs ++ more) ys ≡ true
-meets-more xs more ys e = let (i, one, two) = meets-both xs ys e in meets-by (xs ++ more) ys i (is_among-left xs more i one) two
+pub meets-last : (xs more ys : List Item) (i : Item) → is_among more i ≡ true → is_among ys i ≡ true → meets (xs ++ more) ys ≡ true
+meets-last xs more ys i here there = meets-by (xs ++ more) ys i (is_among-right xs more i here) there
 
-pub meets-last : (xs ys : List Item) (i : Item) → is_among ys i ≡ true → meets (xs ++ i ∷ []) ys ≡ true
-meets-last xs ys i e = meets-by (xs ++ i ∷ []) ys i (is_among-right xs (i ∷ []) i (is_among-head i [])) e
+-- the bytes of a file that are changed by each of its paths are changed by one
+among_bodies : (ps : List (List ℕ)) (q : List ℕ) → list_any (eq_by_cmp (slice_cmp nat_cmp) q) ps ≡ true → is_among (map (λ x. BodyOf x) ps) (BodyOf q) ≡ true
+among_bodies [] q e = cc
+among_bodies (p ∷ ps) q e =
+    elim (eq_by_cmp (slice_cmp nat_cmp) q p) as (λ b. eq_by_cmp (slice_cmp nat_cmp) q p ≡ b → (b || list_any (eq_by_cmp (slice_cmp nat_cmp) q) ps) ≡ true → (bytes_eq q p || is_among (map (λ x. BodyOf x) ps) (BodyOf q)) ≡ true) [
+      | true ↦ λ tied rest. ap (λ b. b || is_among (map (λ x. BodyOf x) ps) (BodyOf q)) ((bytes_eq-Decides q p).1 (tells_apart (slice_cmp-IsAntisymmetric nat_cmp-IsAntisymmetric) q p tied))
+      | false ↦ λ tied rest. or_later (bytes_eq q p) (is_among (map (λ x. BodyOf x) ps) (BodyOf q)) (among_bodies ps q rest)
+    ] refl e
+
+pub is_among-bodies : (paths : PathSet) (q : List ℕ) → has_path paths q ≡ true → is_among (map (λ x. BodyOf x) (path_list paths)) (BodyOf q) ≡ true
+is_among-bodies paths q has = among_bodies (path_list paths) q (sym (has-listed paths q) ∙ has)
 
 -- the bytes of a file are read by what reads the file
-pub meets-body : (p : List ℕ) → meets (BodyOf p ∷ []) (source_reads p) ≡ true
-meets-body p = meets-by (BodyOf p ∷ []) (source_reads p) (BodyOf p) (is_among-head (BodyOf p) []) (is_among-tail (NodeOf p) (BodyOf p ∷ []) (BodyOf p) (is_among-head (BodyOf p) []))
+pub meets-body : (items : List Item) (p : List ℕ) → is_among items (BodyOf p) ≡ true → meets items (source_reads p) ≡ true
+meets-body items p here = meets-by items (source_reads p) (BodyOf p) here (is_among-tail (NodeOf p) (BodyOf p ∷ []) (BodyOf p) (is_among-head (BodyOf p) []))
 
 -- ---- what calls read and change
 
@@ -104,11 +109,6 @@ pub reads_from-next : (cap : ℕ) (s later : Session) (o : Op (List ℕ)) (a : A
     → reads_from cap s (o ∷ ops) ≡ reads s o ++ reads_from cap later ops
 unfolding reads_from
 reads_from-next cap s later o a ops e = ap (λ (d : Done). reads s o ++ reads_from cap d.session ops) e
-
-pub writes_from-next : (cap : ℕ) (s later : Session) (o : Op (List ℕ)) (a : Answer) (ops : List (Op (List ℕ))) → call cap s o ≡ record { session = later; answer = a }
-    → writes_from cap s (o ∷ ops) ≡ unless_refused a (changes s o) ++ writes_from cap later ops
-unfolding writes_from
-writes_from-next cap s later o a ops e = ap (λ (d : Done). unless_refused d.answer (changes s o) ++ writes_from cap d.session ops) e
 
 pub reads_from-cons : (cap : ℕ) (s : Session) (o : Op (List ℕ)) (ops : List (Op (List ℕ))) → reads_from cap s (o ∷ ops) ≡ reads s o ++ reads_from cap (call cap s o).session ops
 unfolding reads_from

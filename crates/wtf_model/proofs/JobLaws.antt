@@ -1,5 +1,5 @@
 -- The worked examples of the lines of jobs.
-use Rattle.std.proofs.Common.{◌≡◌, ◌⊎◌, ◌≤◌, ◌<◌, ℕ, ◌+◌, ◌-◌, ◌/◌, ◌==◌, true, false, List, [], ◌∷◌, length, Option, Some, None, Result, Ok, Err, refl, sym, ap, subst, ◌∙◌, inl, inr, arith}
+use Rattle.std.proofs.Common.{◌≡◌, ◌⊎◌, ◌≤◌, ◌<◌, ℕ, ◌+◌, ◌-◌, ◌/◌, ◌==◌, true, false, List, [], ◌∷◌, map, length, Option, Some, None, Result, Ok, Err, refl, sym, ap, subst, ◌∙◌, inl, inr, arith}
 use Rattle.std.specs.Prelude.{slice_get}
 use Rattle.std.proofs.lemmas.Bool.{le-leb, lt-leb, eq-eqb}
 use Rattle.std.specs.FinMap.{get, remove}
@@ -16,7 +16,7 @@ use Rattle.wtf_model.specs.declared.op.JobKind.TheVariants.{Compact, Spill}
 use Rattle.wtf_model.specs.declared.event.Verb.TheVariants as verb
 use Rattle.wtf_model.specs.declared.event.Event.{Event}
 use Rattle.wtf_model.specs.declared.event.Event.TheVariants as event
-use Rattle.wtf_model.specs.Tree.{Dir, ◌>>=◌, source}
+use Rattle.wtf_model.specs.Tree.{has_path, path_list, Dir, ◌>>=◌, paths_of, paths_at, source}
 use Rattle.wtf_model.specs.Items.{is_among, meets, reads_of}
 use Rattle.wtf_model.specs.Transaction.{Transaction, Job}
 use Rattle.wtf_model.specs.Faults.{IsReadFault, or_refusal}
@@ -25,7 +25,7 @@ use Rattle.wtf_model.specs.Lawful.{May}
 use Rattle.wtf_model.specs.Steps.{Machine, after, cap_of, is_live, rebased, touch, touch_job, with_transaction}
 use Rattle.wtf_model.specs.Examples.{Only, IsPlannable, first_job, HasTwoCalls, Runs, stale_events, moved_events, asks, calls}
 use Rattle.wtf_model.proofs.Laws.{get-number_same, get-number_other}
-use Rattle.wtf_model.proofs.ItemLaws.{meets-last, meets-body, get-each_some}
+use Rattle.wtf_model.proofs.ItemLaws.{is_among-bodies, meets-last, meets-body, get-each_some}
 use Rattle.wtf_model.proofs.StepLaws.{after-client}
 use Rattle.wtf_model.proofs.MachineLaws.{after-machine_refusal}
 use Rattle.wtf_model.proofs.MachineExamples.{asked, only_refused, live_try, replaying_call, replaying_step, gone, left}
@@ -120,6 +120,10 @@ not_stale m j base now job there same h =
 pub only_drop : (m : Machine) (j : ℕ) (o : Option Job) → get m.jobs j ≡ o → Only m (event.DropJob j) (drop_answer o)
 only_drop m j o there b = (λ e. e ∙ ap drop_answer there, λ e. e ∙ sym (ap drop_answer there))
 
+-- an install for a file that may be planned changes its bytes
+body_changed : (m : Machine) (p bytes : List ℕ) (h : IsPlannable m 0 p bytes) → is_among (map (λ q. BodyOf q) (path_list (paths_at m.now p))) (BodyOf p) ≡ true
+body_changed m p bytes h = is_among-bodies (paths_at m.now p) p (ap (λ o. has_path (paths_of o) p) h.file ∙ h.own)
+
 -- two jobs of one number
 pub two_jobs : (m : Machine) (p bytes : List ℕ) → IsPlannable m 0 p bytes → get m.jobs 1 ≡ None → Runs m (stale_events p m.number)
 unfolding Runs
@@ -127,12 +131,13 @@ two_jobs m p bytes h idle =
     let first = first_job m Compact p 0 in
     let m1 : Machine = after m (event.Plan 0 Compact p 0) answer.Planned in
     let second = first_job m1 Spill p 0 in
-    let free : IsPlannable m1 1 p bytes = record { idle = get-number_other m.jobs 0 first 1 (λ e. cc) ∙ idle; file = h.file } in
+    let free : IsPlannable m1 1 p bytes = record { idle = get-number_other m.jobs 0 first 1 (λ e. cc) ∙ idle; paths = h.paths; file = h.file; own = h.own } in
     let m2 : Machine = after m1 (event.Plan 1 Spill p 0) answer.Planned in
     let one : get m2.jobs 0 ≡ Some first = get-number_other m1.jobs 1 second 0 (λ e. cc) ∙ get-number_same m.jobs 0 first in
     let m3 : Machine = after m2 (event.Put 0) (answer.Installed (m.number + 1)) in
     let changed : List Item = job_changes m2.now (get m2.jobs 0) in
-    let seen : Job = touch_job (BodyOf p ∷ []) second in
+    let seen : Job = touch_job (job_changes m.now (Some first)) second in
+    let body : is_among (job_changes m.now (Some first)) (BodyOf p) ≡ true = body_changed m p bytes h in
     let other : get m3.jobs 1 ≡ Some seen =
     get-each_some (touch_job changed) (remove m2.jobs 0) 1 second (left m2.jobs 0 1 (λ e. cc) ∙ get-number_same m1.jobs 1 second)
     ∙ ap (λ o. Some (touch_job (job_changes m2.now o) second)) one in
@@ -143,7 +148,7 @@ two_jobs m p bytes h idle =
         (
           may_put m2 0 (Some first) (answer.Installed (m.number + 1)) one refl,
           (
-            may_put m3 1 (Some seen) (answer.Stale m.number (m.number + 1)) other ((refl, refl, omega arith), meets-body p),
+            may_put m3 1 (Some seen) (answer.Stale m.number (m.number + 1)) other ((refl, refl, omega arith), meets-body (job_changes m.now (Some first)) p body),
             (
               may_put m4 1 None (answer.Refused word.NoJob) (gone m3.jobs 1) refl,
               tt,
@@ -166,11 +171,12 @@ moved m t p bytes h ready reading =
     let m1 : Machine = after m (event.Plan 0 Compact p 0) answer.Planned in
     let m2 : Machine = after m1 (event.Put 0) (answer.Installed (m.number + 1)) in
     let live : is_live t ≡ true = eq-eqb t.replayed (length t.ops) (ready.live ∙ sym ready.two) in
-    let seen : Transaction = touch (BodyOf p ∷ []) t in
+    let seen : Transaction = touch (job_changes m.now (Some job)) t in
     let there : get m2.transactions 0 ≡ Some seen =
     get-each_some (touch (job_changes m1.now (get m1.jobs 0))) m1.transactions 0 t ready.here
     ∙ ap (λ o. Some (touch (job_changes m1.now o) t)) (get-number_same m.jobs 0 job) in
-    let met : meets seen.touched (reads_of (cap_of m) t.tree t.ops) ≡ true = meets-last t.touched (reads_of (cap_of m) t.tree t.ops) (BodyOf p) reading in
+    let met : meets seen.touched (reads_of (cap_of m) t.tree t.ops) ≡ true =
+    meets-last t.touched (job_changes m.now (Some job)) (reads_of (cap_of m) t.tree t.ops) (BodyOf p) (body_changed m p bytes h) reading in
     let again : Transaction = rebased m2 seen in
     let m3 : Machine = with_transaction m2 0 again in
     let at_none : get m3.transactions 0 ≡ Some again = get-number_same m2.transactions 0 again in

@@ -11,9 +11,9 @@ use Rattle.std.specs.declared.cmp.Ordering.TheVariants.{Less, Equal, Greater}
 use Rattle.wtf_model.specs.declared.op.Op.{Op}
 use Rattle.wtf_model.specs.Tree.{TreeNode}
 use Rattle.wtf_model.specs.Tree.{File}
-use Rattle.wtf_model.specs.Tree.{Tree, source, bytes_of}
+use Rattle.wtf_model.specs.Tree.{PathSet, Tree, source, bytes_of}
 use Rattle.wtf_model.specs.Session.{Session, Handle}
-use Rattle.wtf_model.specs.Done.{bytes_at, bytes_or_none, set_bytes}
+use Rattle.wtf_model.specs.Done.{bytes_at, bytes_or_none}
 use Rattle.wtf_model.specs.ByteCalls.{written}
 use Rattle.wtf_model.specs.Call.{call}
 use Rattle.wtf_model.specs.Transaction.{session_from, answers_from}
@@ -145,18 +145,9 @@ get-handle_same m f h = inserted nat_cmp_total m f h
 pub get-handle_other : (m : FinMap nat_cmp Handle) (f : ℕ) (h : Handle) (g : ℕ) → g ≢ f → get (insert m f h) g ≡ get m g
 get-handle_other m f h g differ = kept nat_cmp_total nat_cmp-IsAntisymmetric m f h g differ
 
--- the file that was put at a path, and what stands at the others
-pub source-file_same : (t : Tree) (p bytes : List ℕ) → source (insert t p (File bytes)) p ≡ Ok bytes
-source-file_same t p bytes = ap bytes_of (get-node_same t p (File bytes))
+-- the file that was put at a path
+pub source-file_same : (t : Tree) (p : List ℕ) (paths : PathSet) (bytes : List ℕ) → source (insert t p (File paths bytes)) p ≡ Ok bytes
+source-file_same t p paths bytes = ap bytes_of (get-node_same t p (File paths bytes))
 
-pub source-file_other : (t : Tree) (p bytes q : List ℕ) → q ≢ p → source (insert t p (File bytes)) q ≡ source t q
-source-file_other t p bytes q differ = ap bytes_of (get-node_other t p (File bytes) q differ)
-
-pub bytes_at-file_same : (t : Tree) (p bytes : List ℕ) → bytes_at (insert t p (File bytes)) p ≡ bytes
-bytes_at-file_same t p bytes = ap bytes_or_none (source-file_same t p bytes)
-
-pub bytes_at-file_other : (t : Tree) (p bytes q : List ℕ) → q ≢ p → bytes_at (insert t p (File bytes)) q ≡ bytes_at t q
-bytes_at-file_other t p bytes q differ = ap bytes_or_none (source-file_other t p bytes q differ)
-
-pub get-set_bytes_other : (s : Session) (p bytes q : List ℕ) → q ≢ p → get (set_bytes s p bytes).tree q ≡ get s.tree q
-get-set_bytes_other s p bytes q differ = get-node_other s.tree p (File bytes) q differ
+pub bytes_at-file_same : (t : Tree) (p : List ℕ) (paths : PathSet) (bytes : List ℕ) → bytes_at (insert t p (File paths bytes)) p ≡ bytes
+bytes_at-file_same t p paths bytes = ap bytes_or_none (source-file_same t p paths bytes)

@@ -1,9 +1,11 @@
 pub mod ExampleTrees
 pub mod Laws
+pub mod PathLaws
 pub mod CallLaws
 pub mod ByteLaws
 pub mod SliceLaws
 pub mod TreeLaws
+pub mod RefileLaws
 pub mod SessionLaws
 pub mod ItemLaws
 pub mod NameLaws
@@ -19,3 +21,4 @@ pub mod MachineExamples
 pub mod JobLaws
 pub mod ScanLaws
 pub mod ItemExamples
+pub mod SharedExamples

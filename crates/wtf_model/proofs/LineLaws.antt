@@ -1,8 +1,8 @@
 -- Laws of lines with their answers: one more line, and the machine beside its lines.
-use Rattle.std.proofs.Common.{◌≡◌, suc, ◌+◌, Bool, if◌then◌else◌, List, [], ◌∷◌, ◌++◌, length, Ok, Err, refl, ap, ◌∙◌, subst, arith}
+use Rattle.std.proofs.Common.{◌≡◌, suc, ◌+◌, Bool, if◌then◌else◌, List, [], ◌∷◌, ◌++◌, length, Ok, Err, refl, ap, ◌∙◌, arith}
 use Rattle.wtf_model.specs.declared.answer.Answer.{Answer}
-use Rattle.wtf_model.specs.Steps.{Machine, Accepts, after, after_all}
-use Rattle.wtf_model.specs.Lines.{Line, state_after, AlongBy, count_by, MayLine, Along, machine_after, events_of, answers_to}
+use Rattle.wtf_model.specs.Steps.{Machine, Accepts, after}
+use Rattle.wtf_model.specs.Lines.{Line, state_after, AlongBy, count_by, MayLine, Along, events_of, answers_to}
 
 module _ {S : Type 0} (next : S → Line → Answer → S) where
   pub state_after-push : (s : S) (lines : List Line) (answers : List Answer) (line : Line) (a : Answer) → length lines ≡ length answers
@@ -51,17 +51,6 @@ module _ {S : Type 0} (next : S → Line → Answer → S) where
   state_after-part along f step s (line ∷ lines) (a ∷ answers) =
       state_after-part along f step (next s line a) lines answers ∙ ap (λ t. state_after along t lines answers) (step s line a)
 
-  -- and what holds of the state at each line holds of its part
-  pub AlongBy-part : {T : Type 0} (along : T → Line → Answer → T) (f : S → T) → ((s : S) (line : Line) (a : Answer) → f (next s line a) ≡ along (f s) line a)
-      → (P : T → Line → Answer → Type 0) (s : S) (lines : List Line) (answers : List Answer)
-      → AlongBy next (λ x line a. P (f x) line a) s lines answers → AlongBy along P (f s) lines answers
-  unfolding AlongBy
-  AlongBy-part along f step P s [] [] h = tt
-  AlongBy-part along f step P s [] (a ∷ answers) h = absurd h
-  AlongBy-part along f step P s (line ∷ lines) [] h = absurd h
-  AlongBy-part along f step P s (line ∷ lines) (a ∷ answers) h =
-      (h.0, subst (λ t. AlongBy along P t lines answers) (step s line a) (AlongBy-part along f step P (next s line a) lines answers h.1))
-
 -- the events of lines that the machine may answer so are accepted
 pub Accepts-from_lines : (m : Machine) (lines : List Line) (answers : List Answer) → Along MayLine m lines answers → Accepts m (events_of lines) (answers_to lines answers)
 unfolding AlongBy Accepts events_of answers_to
@@ -71,13 +60,3 @@ Accepts-from_lines m (Ok e ∷ lines) [] h = absurd h
 Accepts-from_lines m (Err bad ∷ lines) [] h = absurd h
 Accepts-from_lines m (Ok e ∷ lines) (a ∷ answers) h = (h.0, Accepts-from_lines (after m e a) lines answers h.1)
 Accepts-from_lines m (Err bad ∷ lines) (a ∷ answers) h = Accepts-from_lines m lines answers h.1
-
--- and the machine behind them is the same
-pub after_all-lines : (m : Machine) (lines : List Line) (answers : List Answer) → length lines ≡ length answers → after_all m (events_of lines) (answers_to lines answers) ≡ machine_after m lines answers
-unfolding after_all events_of answers_to state_after
-after_all-lines m [] [] h = refl
-after_all-lines m [] (a ∷ answers) h = absurd (omega arith)
-after_all-lines m (Ok e ∷ lines) [] h = absurd (omega arith)
-after_all-lines m (Err bad ∷ lines) [] h = absurd (omega arith)
-after_all-lines m (Ok e ∷ lines) (a ∷ answers) h = after_all-lines (after m e a) lines answers (omega arith)
-after_all-lines m (Err bad ∷ lines) (a ∷ answers) h = after_all-lines m lines answers (omega arith)

@@ -13,7 +13,7 @@ use Rattle.wtf_model.specs.declared.op.Op.{Op}
 use Rattle.wtf_model.specs.declared.event.Verb.{Verb}
 use Rattle.wtf_model.specs.declared.event.Verb.TheVariants as verb
 use Rattle.wtf_model.specs.declared.event.Event.TheVariants as event
-use Rattle.wtf_model.specs.Tree.{Dir, File}
+use Rattle.wtf_model.specs.Tree.{PathSet, Dir, File}
 use Rattle.wtf_model.specs.Transaction.{Transaction, answers_of}
 use Rattle.wtf_model.specs.Lawful.{client_refusal, MayFailRead, MayAsk, MayClient, May, MayStepAt, Deviates, dump_answer}
 use Rattle.wtf_model.specs.Steps.{Machine, after, after_client, cap_of, is_live, is_full}
@@ -117,11 +117,11 @@ commit_ended m c i t a r there aborted = after-client m c verb.Commit r (Some t)
 
 -- what is shown of a file
 
-short_file : (m : Machine) (p bytes : List ℕ) → get m.now p ≡ Some (File bytes) → length bytes ≤ 1048576 → dump_answer m p ≡ answer.Shown bytes
-short_file m p bytes file fit = rw (file, le-leb (length bytes) 1048576 fit) refl
+short_file : (m : Machine) (p : List ℕ) (paths : PathSet) (bytes : List ℕ) → get m.now p ≡ Some (File paths bytes) → length bytes ≤ 1048576 → dump_answer m p ≡ answer.Shown bytes
+short_file m p paths bytes file fit = rw (file, le-leb (length bytes) 1048576 fit) refl
 
-pub dump_short : (m : Machine) (p bytes : List ℕ) → get m.now p ≡ Some (File bytes) → length bytes ≤ 1048576 → May m (event.Dump p) (answer.Shown bytes)
-dump_short m p bytes file fit = inl (sym (short_file m p bytes file fit))
+pub dump_short : (m : Machine) (p : List ℕ) (paths : PathSet) (bytes : List ℕ) → get m.now p ≡ Some (File paths bytes) → length bytes ≤ 1048576 → May m (event.Dump p) (answer.Shown bytes)
+dump_short m p paths bytes file fit = inl (sym (short_file m p paths bytes file fit))
 
 refused_read : (servers : ℕ) (w : Word) (d a : Answer) → d ≡ answer.Refused w → MayFailRead servers d a → ⊥
 refused_read servers w d a is h = subst (λ x. MayFailRead servers x a) is h
@@ -129,8 +129,8 @@ refused_read servers w d a is h = subst (λ x. MayFailRead servers x a) is h
 pub dump_refused : (m : Machine) (p : List ℕ) (w : Word) → dump_answer m p ≡ answer.Refused w → Only m (event.Dump p) (answer.Refused w)
 dump_refused m p w is b = (λ h. elim h [ inl e ↦ e ∙ is | inr fails ↦ absurd (refused_read m.settings.servers w (dump_answer m p) b is fails) ], λ e. inl (e ∙ sym is))
 
-pub dump_long : (m : Machine) (p bytes : List ℕ) → get m.now p ≡ Some (File bytes) → 1048576 < length bytes → dump_answer m p ≡ answer.Refused word.Long
-dump_long m p bytes file past = rw (file, lt-leb (length bytes) 1048576 past) refl
+pub dump_long : (m : Machine) (p : List ℕ) (paths : PathSet) (bytes : List ℕ) → get m.now p ≡ Some (File paths bytes) → 1048576 < length bytes → dump_answer m p ≡ answer.Refused word.Long
+dump_long m p paths bytes file past = rw (file, lt-leb (length bytes) 1048576 past) refl
 
 pub dump_directory : (m : Machine) (p : List ℕ) → get m.now p ≡ Some Dir → dump_answer m p ≡ answer.Refused word.IsDir
 dump_directory m p dir = rw dir refl

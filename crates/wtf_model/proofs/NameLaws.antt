@@ -8,9 +8,9 @@ use Rattle.wtf_model.specs.declared.answer.Word.TheVariants as word
 use Rattle.wtf_model.specs.declared.answer.Answer.{Answer}
 use Rattle.wtf_model.specs.declared.answer.Answer.TheVariants as answer
 use Rattle.wtf_model.specs.declared.op.Op.TheVariants as op
-use Rattle.wtf_model.specs.Tree.{Tree, TreeNode, Dir, File, root, ◌>>=◌, target, source, is_directory, are_none, is_empty, paths_in, names_in}
+use Rattle.wtf_model.specs.Tree.{Tree, TreeNode, Dir, root, ◌>>=◌, target, source, is_directory, are_none, is_empty, paths_in, names_in}
 use Rattle.wtf_model.specs.Session.{Session}
-use Rattle.wtf_model.specs.Done.{done, is_on, is_closed, put_node, add_file, take_out, move_file}
+use Rattle.wtf_model.specs.Done.{done, is_on, is_closed, put_node, add_file, take_out, drop_path, move_file}
 use Rattle.wtf_model.specs.NameCalls.{mkdir, create, is_not_root, rmdir, unlink, rename, list, shown_node}
 use Rattle.wtf_model.specs.Call.{call, or_refused}
 use Rattle.wtf_model.specs.Examples.{unchanged}
@@ -40,11 +40,11 @@ unfolding list
 list-by cap S p r e = ap (λ z. or_refused S (z >>= (λ _. done S (answer.Names (names_in S.tree p))))) e
 
 pub unlink-by : (cap : ℕ) (S : Session) (p : List ℕ) (r : Result (List ℕ) Word) (c : Result (Unit {0}) Word) → source S.tree p ≡ r → is_closed S p ≡ c
-    → call cap S (op.Unlink p) ≡ or_refused S (r >>= (λ _. c >>= (λ _. done (take_out S p) answer.Okay)))
+    → call cap S (op.Unlink p) ≡ or_refused S (r >>= (λ bytes. c >>= (λ _. done (drop_path S p bytes) answer.Okay)))
 unfolding unlink
 unlink-by cap S p r c e f =
-    ap (λ z. or_refused S (z >>= (λ _. is_closed S p >>= (λ _. done (take_out S p) answer.Okay)))) e
-    ∙ ap (λ z. or_refused S (r >>= (λ _. z >>= (λ _. done (take_out S p) answer.Okay)))) f
+    ap (λ z. or_refused S (z >>= (λ bytes. is_closed S p >>= (λ _. done (drop_path S p bytes) answer.Okay)))) e
+    ∙ ap (λ z. or_refused S (r >>= (λ bytes. z >>= (λ _. done (drop_path S p bytes) answer.Okay)))) f
 
 pub rename-by : (cap : ℕ) (S : Session) (p q : List ℕ) (r : Result (List ℕ) Word) (c d : Result (Unit {0}) Word) → source S.tree p ≡ r → is_closed S p ≡ c → target S.tree q ≡ d
     → call cap S (op.Rename p q) ≡ or_refused S (r >>= (λ bytes. c >>= (λ _. d >>= (λ _. done (move_file S p q bytes) answer.Okay))))
@@ -73,11 +73,12 @@ module _ (cap : ℕ) (s : Session) (p : List ℕ) where
       ap (λ r. or_refused s (r >>= (λ _. done (put_node s p Dir) answer.Okay))) e
       ∙ ap (λ (t : Tree). record { session = record s { tree = t }; answer = answer.Okay }) (sym (put ∙ ap (λ q. insert s.tree q Dir) copy))
 
-  pub create-done : (q bytes : List ℕ) (made : Session) → target s.tree p ≡ Ok tt → q ≡ p → bytes ≡ [] → made ≡ put_node s q (File bytes)
+  -- q is a copy of the path
+  pub create-done : (q bytes : List ℕ) (made : Session) → target s.tree p ≡ Ok tt → q ≡ p → bytes ≡ [] → made ≡ add_file s q bytes
       → call cap s (op.Create p) ≡ record { session = made; answer = answer.Okay }
   create-done q bytes made e copy none put =
       call-create cap s p e
-      ∙ ap (λ made. record { session = made; answer = answer.Okay }) (sym (put ∙ ap (λ q. put_node s q (File bytes)) copy ∙ ap (λ bytes. put_node s p (File bytes)) none))
+      ∙ ap (λ made. record { session = made; answer = answer.Okay }) (sym (put ∙ ap (λ q. add_file s q bytes) copy ∙ ap (λ bytes. add_file s p bytes) none))
 
   pub rmdir-root : bytes_eq p root ≡ true → call cap s (op.Rmdir p) ≡ unchanged s (answer.Refused word.Root)
   unfolding rmdir
@@ -105,21 +106,21 @@ module _ (cap : ℕ) (s : Session) (p : List ℕ) where
 
   pub unlink-refused : (w : Word) → source s.tree p ≡ Err w → call cap s (op.Unlink p) ≡ unchanged s (answer.Refused w)
   unfolding unlink
-  unlink-refused w e = ap (λ r. or_refused s (r >>= (λ _. is_closed s p >>= (λ _. done (take_out s p) answer.Okay)))) e
+  unlink-refused w e = ap (λ r. or_refused s (r >>= (λ bytes. is_closed s p >>= (λ _. done (drop_path s p bytes) answer.Okay)))) e
 
   module _ (bytes : List ℕ) (file : source s.tree p ≡ Ok bytes) where
-    unlink-file : call cap s (op.Unlink p) ≡ or_refused s (is_closed s p >>= (λ _. done (take_out s p) answer.Okay))
+    unlink-file : call cap s (op.Unlink p) ≡ or_refused s (is_closed s p >>= (λ _. done (drop_path s p bytes) answer.Okay))
     unfolding unlink
-    unlink-file = ap (λ r. or_refused s (r >>= (λ _. is_closed s p >>= (λ _. done (take_out s p) answer.Okay)))) file
+    unlink-file = ap (λ r. or_refused s (r >>= (λ bytes. is_closed s p >>= (λ _. done (drop_path s p bytes) answer.Okay)))) file
 
     pub unlink-busy : list_any (is_on p) (values s.handles) ≡ true → call cap s (op.Unlink p) ≡ unchanged s (answer.Refused word.Busy)
-    unlink-busy on = unlink-file ∙ ap (λ b. or_refused s ((if b then Err word.Busy else Ok tt) >>= (λ _. done (take_out s p) answer.Okay))) on
+    unlink-busy on = unlink-file ∙ ap (λ b. or_refused s ((if b then Err word.Busy else Ok tt) >>= (λ _. done (drop_path s p bytes) answer.Okay))) on
 
-    pub unlink-done : (t : Tree) → list_any (is_on p) (values s.handles) ≡ false → t ≡ remove s.tree p
-        → call cap s (op.Unlink p) ≡ record { session = record s { tree = t }; answer = answer.Okay }
-    unlink-done t off taken =
-        unlink-file ∙ ap (λ b. or_refused s ((if b then Err word.Busy else Ok tt) >>= (λ _. done (take_out s p) answer.Okay))) off
-        ∙ ap (λ (t : Tree). record { session = record s { tree = t }; answer = answer.Okay }) (sym taken)
+    pub unlink-done : (left : Session) → list_any (is_on p) (values s.handles) ≡ false → left ≡ drop_path s p bytes
+        → call cap s (op.Unlink p) ≡ record { session = left; answer = answer.Okay }
+    unlink-done left off is =
+        unlink-file ∙ ap (λ b. or_refused s ((if b then Err word.Busy else Ok tt) >>= (λ _. done (drop_path s p bytes) answer.Okay))) off
+        ∙ ap (λ left. record { session = left; answer = answer.Okay }) (sym is)
 
   pub list-refused : (w : Word) → is_directory (get s.tree p) ≡ Err w → call cap s (op.List p) ≡ unchanged s (answer.Refused w)
   unfolding list
@@ -157,13 +158,10 @@ module _ (cap : ℕ) (s : Session) (p q : List ℕ) where
       pub rename-no_target : (w : Word) → target s.tree q ≡ Err w → call cap s (op.Rename p q) ≡ unchanged s (answer.Refused w)
       rename-no_target w e = rename-off ∙ ap (λ r. or_refused s (r >>= (λ _. done (move_file s p q bytes) answer.Okay))) e
 
-      -- t is the tree without the file, and u that with the file where it goes; to and new are copies
-      pub rename-done : (to new : List ℕ) (t u : Tree) → target s.tree q ≡ Ok tt → t ≡ remove s.tree p → to ≡ q → new ≡ bytes → u ≡ insert t to (File new)
-          → call cap s (op.Rename p q) ≡ record { session = record s { tree = u }; answer = answer.Okay }
-      rename-done to new t u e taken copy same put =
+      pub rename-done : (left : Session) → target s.tree q ≡ Ok tt → left ≡ move_file s p q bytes → call cap s (op.Rename p q) ≡ record { session = left; answer = answer.Okay }
+      rename-done left e is =
           rename-off ∙ ap (λ r. or_refused s (r >>= (λ _. done (move_file s p q bytes) answer.Okay))) e
-          ∙ ap (λ (t : Tree). record { session = record s { tree = t }; answer = answer.Okay })
-          (sym (put ∙ ap (λ (t : Tree). insert t to (File new)) taken ∙ ap (λ to. insert (remove s.tree p) to (File new)) copy ∙ ap (λ bytes. insert (remove s.tree p) q (File bytes)) same))
+          ∙ ap (λ left. record { session = left; answer = answer.Okay }) (sym is)
 
 -- what a test of a directory says of the paths in it
 

@@ -92,9 +92,6 @@ scan_at_rest m free open_ones jobs = held_scan m [] [] m.scan_list free open_one
 pub piece_due : (m : Machine) (k : ℕ) (o : Option ℕ) (a : Answer) → m.parts_left ≡ o → piece_answer k o ≡ a → piece_answer k m.parts_left ≡ a
 piece_due m k o a there is = ap (piece_answer k) there ∙ is
 
-pub piece_none : (k : ℕ) → piece_answer k None ≡ answer.Refused word.NoScan
-piece_none k = refl
-
 pub piece_more : (k left : ℕ) → k < left → piece_answer k (Some left) ≡ answer.More (left - k)
 piece_more k left less = ap (λ b. if b then answer.More (left - k) else answer.Done) (lt-ltb k left less)
 

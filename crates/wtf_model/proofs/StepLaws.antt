@@ -3,7 +3,6 @@ use Rattle.std.proofs.Common.{◌≡◌, ◌↔◌, ◌⊎◌, ℕ, ◌≢◌, �
 use Rattle.std.specs.Prelude.{nat_le}
 use Rattle.std.specs.Option.{MatchOption}
 use Rattle.std.proofs.lemmas.Bool.{lt-ltb, le-ltb, eq-eqb, ne_eqb, cond-true, cond-false}
-use Rattle.std.proofs.lemmas.List.{length_push}
 use Rattle.std.specs.Bool.{MatchBool}
 use Rattle.std.specs.FinMap.{get}
 use Rattle.std.specs.FinSet.{FinSet, contains, contains-empty, contains-insert, contains-remove}
@@ -15,7 +14,7 @@ use Rattle.wtf_base.specs.declared.settings.Settings.{Settings}
 use Rattle.wtf_model.specs.declared.answer.Answer.{Answer}
 use Rattle.wtf_model.specs.declared.answer.Answer.TheVariants.{Okay, Shown, Len, Refused, FaultRead, FaultWrite, Damaged}
 use Rattle.wtf_model.specs.declared.answer.Word.{Word}
-use Rattle.wtf_model.specs.declared.answer.Word.TheVariants.{TooBig, Range, Root, Busy, Replaying, Full, NoServer}
+use Rattle.wtf_model.specs.declared.answer.Word.TheVariants.{TooBig, Range, Root, Busy, NoServer}
 use Rattle.wtf_model.specs.declared.op.Op.{Op}
 use Rattle.wtf_model.specs.declared.op.Op.TheVariants as op
 use Rattle.wtf_model.specs.declared.op.Seek.{Seek}
@@ -34,8 +33,8 @@ use Rattle.wtf_model.specs.SliceCalls.{yank, peek, cut, paste, glue, concat, cop
 use Rattle.wtf_model.specs.Call.{row_of, call, or_refused}
 use Rattle.wtf_model.specs.Transaction.{Transaction}
 use Rattle.wtf_model.specs.Examples.{ShowsBytes, IsStoreFault}
-use Rattle.wtf_model.specs.Lawful.{client_refusal, IsReadFault, MayFailRead, MayFailYank, MayFailPeek, MayFailConcat, MayFailWrite, MayFail, MayCall, MayTry, MayAsk, MayClient, server_answer, May}
-use Rattle.wtf_model.specs.Steps.{is_live, is_full, Machine, session_of, cap_of, due, after, after_client, is_logged, IsLogged, is_call_refusal, logged, called, with_transaction, is_down, start}
+use Rattle.wtf_model.specs.Lawful.{client_refusal, IsReadFault, MayFailRead, MayFailYank, MayFailPeek, MayFailConcat, MayFailWrite, MayFail, MayCall, MayAsk, MayClient, server_answer, May}
+use Rattle.wtf_model.specs.Steps.{Machine, session_of, cap_of, due, after, after_client, is_logged, IsLogged, is_call_refusal, logged, called, with_transaction, is_down, start}
 
 -- a client's line
 pub May-client : (m : Machine) (c : ℕ) (v : Verb) (a : Answer) (t : Option Transaction)
@@ -111,7 +110,7 @@ logs (Err w) f is h = is
 
 own_parent : (o : Option TreeNode) → IsOwn (is_parent o)
 own_parent (Some Dir) = tt
-own_parent (Some (File bytes)) = tt
+own_parent (Some (File paths bytes)) = tt
 own_parent None = tt
 
 own_free : (o : Option TreeNode) → IsOwn (is_free o)
@@ -123,7 +122,7 @@ own_target t p None = tt
 own_target t p (Some dir) = own (is_parent (get t dir)) _ (own_parent (get t dir)) (λ _. own_free (get t p))
 
 own_source : (o : Option TreeNode) → IsOwn (bytes_of o)
-own_source (Some (File bytes)) = tt
+own_source (Some (File paths bytes)) = tt
 own_source (Some Dir) = tt
 own_source None = tt
 
@@ -133,7 +132,7 @@ own_sources t (p ∷ ps) = own (source t p) _ (own_source (get t p)) (λ bytes. 
 
 own_directory : (o : Option TreeNode) → IsOwn (is_directory o)
 own_directory (Some Dir) = tt
-own_directory (Some (File bytes)) = tt
+own_directory (Some (File paths bytes)) = tt
 own_directory None = tt
 
 own_none : (ps : List (List ℕ)) → IsOwn (are_none ps)
@@ -187,7 +186,7 @@ at_range most n g h = logs (in_range most n) g (own_if (nat_le n most) Range ref
 
 stat_logs : (s : Session) (o : Option TreeNode) → Logs (shown_node o >>= (λ shown. done s shown))
 stat_logs s (Some Dir) = tt
-stat_logs s (Some (File bytes)) = tt
+stat_logs s (Some (File paths bytes)) = tt
 stat_logs s None = tt
 
 write_logs : (cap : ℕ) (s : Session) (f : ℕ) (bytes : List ℕ) → Logs (write cap s f bytes)
@@ -276,24 +275,6 @@ MayClient-refused m o v w is a = (
   λ h. subst (λ r. MatchOption r (MayAsk m o v a) (λ x. a ≡ Refused x)) is h,
   λ h. subst (λ r. MatchOption r (MayAsk m o v a) (λ x. a ≡ Refused x)) (sym is) h,
 )
-
--- a transaction all of whose calls are replayed is live, and stays so with one more call
-pub is_live-all : (t : Transaction) → t.replayed ≡ length t.ops → is_live t ≡ true
-is_live-all t all = eq-eqb t.replayed (length t.ops) all
-
-pub replayed-logged : (t : Transaction) (o : Op (List ℕ)) (a : Answer) → t.replayed ≡ length t.ops → (logged t o a).replayed ≡ length (logged t o a).ops
-replayed-logged t o a all = ap (λ k. k + 1) all ∙ sym (length_push t.ops o)
-
--- its attempt and its calls, where the log has room, are refused by no rule of the machine
-pub MayClient-try : (m : Machine) (t : Transaction) (a : Answer) → t.replayed ≡ length t.ops → MayTry m t a → MayClient m (Some t) verb.Try a
-MayClient-try m t a all h = MayClient-asked m (Some t) verb.Try a (ap (λ b. if b then None else Some Replaying) (is_live-all t all)) h
-
-pub MayClient-call : (m : Machine) (t : Transaction) (o : Op (List ℕ)) (a : Answer) → t.replayed ≡ length t.ops → is_full t ≡ false → MayCall m t o a
-    → MayClient m (Some t) (verb.Call o) a
-MayClient-call m t o a all room h =
-    MayClient-asked m (Some t) (verb.Call o) a
-    (ap (λ b. if b then (if is_full t then Some Full else None) else Some Replaying) (is_live-all t all)
-    ∙ ap (λ b. if b then Some Full else None) room) h
 
 logged_is_no_fault : (a : Answer) → IsLogged a → IsStoreFault a → ⊥
 logged_is_no_fault (FaultRead k) own fault = own

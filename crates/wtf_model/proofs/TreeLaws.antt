@@ -1,4 +1,4 @@
--- Trees stay trees: the root alone is one, and so is what a new file, or other bytes of a file, leaves of one.
+-- Trees stay trees: the root alone is one, and so is what a new file or directory, or one directory less, leaves of one.
 use Rattle.std.proofs.Common.{◌≡◌, ◌≢◌, ◌⊎◌, ℕ, Bool, true, false, ◌||◌, cond, ap, List, [], ◌∷◌, Option, Some, None, IsSome, Ok, refl, sym, subst, ◌∙◌, inl, inr, arith}
 use Rattle.std.proofs.lemmas.List.Elements.{All-nil}
 use Rattle.std.proofs.lemmas.Map.Views.{tells_apart}
@@ -12,8 +12,9 @@ use Rattle.wtf_path.specs.Grammar.{IsName, IsPath}
 use Rattle.wtf_path.specs.Parts.{parent_of}
 use Rattle.wtf_model.specs.Tree.{TreeNode}
 use Rattle.wtf_model.specs.Tree.{Dir, File}
-use Rattle.wtf_model.specs.Tree.{Tree, root, root_alone, IsTree, ◌>>=◌, is_parent, is_free, target_in, target, is_at, is_in, are_none, paths_in, is_empty}
+use Rattle.wtf_model.specs.Tree.{PathSet, only_path, has_path, Tree, IsShared, root, root_alone, IsTree, ◌>>=◌, is_parent, is_free, target_in, target, is_at, is_in, are_none, paths_in, is_empty}
 use Rattle.wtf_model.proofs.Laws.{get-node_same, get-node_other}
+use Rattle.wtf_model.proofs.PathLaws.{has-only, in-only}
 
 -- two paths are one, or not
 pub same_or_other : (p q : List ℕ) → (p ≡ q) ⊎ (p ≢ q)
@@ -35,11 +36,18 @@ root_alone_parents : (p dir : List ℕ) → (p ≡ root) ⊎ (p ≢ root) → Is
 root_alone_parents p dir (inl same) here up = absurd (let none : None ≡ Some dir = subst (λ q. parent_of q ≡ Some dir) same up in cc)
 root_alone_parents p dir (inr other) here up = absurd (let gone : false ≡ true = subst (λ o. IsSome o) (get-node_other empty root Dir p other ∙ get-empty (slice_cmp nat_cmp) p) here in cc)
 
+root_alone_shared : (p : List ℕ) (paths : PathSet) (bytes : List ℕ) → (p ≡ root) ⊎ (p ≢ root) → get root_alone p ≡ Some (File paths bytes) → IsShared root_alone p paths bytes
+root_alone_shared p paths bytes (inl same) file =
+    absurd (let both_are : Some Dir ≡ Some (File paths bytes) = sym (get-node_same empty root Dir) ∙ subst (λ q. get root_alone q ≡ Some (File paths bytes)) same file in cc)
+root_alone_shared p paths bytes (inr other) file =
+    absurd (let gone : None ≡ Some (File paths bytes) = sym (get-node_other empty root Dir p other ∙ get-empty (slice_cmp nat_cmp) p) ∙ file in cc)
+
 pub IsTree-root_alone : IsTree root_alone
 IsTree-root_alone = record {
   paths = λ p here. root_alone_paths p (same_or_other p root) here;
   top = get-node_same empty root Dir;
   parents = λ p dir here up. root_alone_parents p dir (same_or_other p root) here up;
+  shared = λ p paths bytes file. root_alone_shared p paths bytes (same_or_other p root) file;
 }
 
 -- a free target has a directory above it
@@ -52,7 +60,7 @@ pub record IsFree (t : Tree) (p : List ℕ) : Type 0 where
 both : (o q : Option TreeNode) → (is_parent o >>= (λ _. is_free q)) ≡ Ok tt → (o ≡ Some Dir) × (q ≡ None)
 both (Some Dir) None e = (refl, refl)
 both (Some Dir) (Some n) e = absurd (cc)
-both (Some (File bytes)) q e = absurd (cc)
+both (Some (File paths bytes)) q e = absurd (cc)
 both None q e = absurd (cc)
 
 free_from : (t : Tree) (p : List ℕ) (up : Option (List ℕ)) → parent_of p ≡ up → target_in t p up ≡ Ok tt → IsFree t p
@@ -78,31 +86,47 @@ new_paths : (t : Tree) (p : List ℕ) (n : TreeNode) → IsPath p → IsTree t �
 new_paths t p n path tree q (inl same) here = subst IsPath (sym same) path
 new_paths t p n path tree q (inr other) here = tree.paths q (subst (λ o. IsSome o) (get-node_other t p n q other) here)
 
--- anything may be put at a free target that is a path
-pub IsTree-new : (t : Tree) (p : List ℕ) (n : TreeNode) → IsPath p → IsTree t → IsFree t p → IsTree (insert t p n)
-IsTree-new t p n path tree f = record {
+-- a directory, or a file of this path alone
+abbrev pub IsNew : List ℕ → TreeNode → Type 0
+IsNew p Dir = Unit {0}
+IsNew p (File paths bytes) = paths ≡ only_path p
+
+-- another file stands where it stood
+still_shared : (t u : Tree) (p : List ℕ) (paths : PathSet) (bytes : List ℕ) → ((q : List ℕ) → get t q ≡ Some (File paths bytes) → get u q ≡ Some (File paths bytes)) → IsShared t p paths bytes
+    → IsShared u p paths bytes
+still_shared t u p paths bytes stays is = record { own = is.own; each = λ q has. stays q (is.each q has) }
+
+not_there : (t : Tree) (p q : List ℕ) (n : TreeNode) → get t p ≡ None → get t q ≡ Some n → q ≢ p
+not_there t p q n free is same = absurd (let here : get t p ≡ Some n = subst (λ x. get t x ≡ Some n) same is in let none : None ≡ Some n = sym free ∙ here in cc)
+
+alone_there : (t : Tree) (p : List ℕ) (n : TreeNode) (paths : PathSet) (bytes : List ℕ) → get t p ≡ Some n → n ≡ File paths bytes → IsNew p n → IsShared t p paths bytes
+alone_there t p Dir paths bytes here is new = absurd (cc)
+alone_there t p (File ps bs) paths bytes here is new =
+    let one : only_path p ≡ paths = cc in
+    record {
+      own = subst (λ s. has_path s p ≡ true) one (has-only p);
+      each = λ q has. subst (λ x. get t x ≡ Some (File paths bytes)) (sym (in-only p q (subst (λ s. has_path s q ≡ true) (sym one) has))) (here ∙ ap (λ m. Some m) is);
+    }
+
+new_shared : (t : Tree) (p : List ℕ) (n : TreeNode) → IsTree t → get t p ≡ None → IsNew p n → (q : List ℕ) (paths : PathSet) (bytes : List ℕ) → (q ≡ p) ⊎ (q ≢ p)
+    → get (insert t p n) q ≡ Some (File paths bytes) → IsShared (insert t p n) q paths bytes
+new_shared t p n tree free new q paths bytes (inl same) file =
+    let found : Some n ≡ Some (File paths bytes) = sym (get-node_same t p n) ∙ subst (λ x. get (insert t p n) x ≡ Some (File paths bytes)) same file in
+    let is : n ≡ File paths bytes = cc in
+    subst (λ x. IsShared (insert t p n) x paths bytes) (sym same) (alone_there (insert t p n) p n paths bytes (get-node_same t p n) is new)
+new_shared t p n tree free new q paths bytes (inr other) file =
+    still_shared t (insert t p n) q paths bytes (λ x was. get-node_other t p n x (not_there t p x (File paths bytes) free was) ∙ was)
+    (tree.shared q paths bytes (sym (get-node_other t p n q other) ∙ file))
+
+-- such may be put at a free target that is a path
+pub IsTree-new : (t : Tree) (p : List ℕ) (n : TreeNode) → IsPath p → IsTree t → IsFree t p → IsNew p n → IsTree (insert t p n)
+IsTree-new t p n path tree f new = record {
   paths = λ q here. new_paths t p n path tree q (same_or_other q p) here;
   top = get-node_other t p n root (not_free t p root f.free tree.top) ∙ tree.top;
   parents = λ q dir here up.
       let is : get t dir ≡ Some Dir = new_parents t p n tree f q dir (same_or_other q p) here up in
       get-node_other t p n dir (not_free t p dir f.free is) ∙ is;
-}
-
-not_file : (t : Tree) (p old q : List ℕ) → get t p ≡ Some (File old) → get t q ≡ Some Dir → q ≢ p
-not_file t p old q file is same = absurd (let dir : get t p ≡ Some Dir = subst (λ x. get t x ≡ Some Dir) same is in let none : Some (File old) ≡ Some Dir = sym file ∙ dir in cc)
-
-there_before : (t : Tree) (p old : List ℕ) (n : TreeNode) → get t p ≡ Some (File old) → (q : List ℕ) → (q ≡ p) ⊎ (q ≢ p) → IsSome (get (insert t p n) q) → IsSome (get t q)
-there_before t p old n file q (inl same) here = subst (λ o. IsSome o) (sym (subst (λ x. get t x ≡ Some (File old)) (sym same) file)) refl
-there_before t p old n file q (inr other) here = subst (λ o. IsSome o) (get-node_other t p n q other) here
-
--- and other bytes at a file
-pub IsTree-bytes : (t : Tree) (p old bytes : List ℕ) → IsTree t → get t p ≡ Some (File old) → IsTree (insert t p (File bytes))
-IsTree-bytes t p old bytes tree file = record {
-  paths = λ q here. tree.paths q (there_before t p old (File bytes) file q (same_or_other q p) here);
-  top = get-node_other t p (File bytes) root (not_file t p old root file tree.top) ∙ tree.top;
-  parents = λ q dir here up.
-      let is : get t dir ≡ Some Dir = tree.parents q dir (there_before t p old (File bytes) file q (same_or_other q p) here) up in
-      get-node_other t p (File bytes) dir (not_file t p old dir file is) ∙ is;
+  shared = λ q paths bytes file. new_shared t p n tree f.free new q paths bytes (same_or_other q p) file;
 }
 
 -- what was taken out, and what stands at the other paths
@@ -134,28 +158,29 @@ some_of None h = absurd (cc)
 there_is : (o : Option TreeNode) (n : TreeNode) → o ≡ Some n → IsSome o
 there_is o n e = subst (λ x. IsSome x) (sym e) refl
 
--- what nothing stands in may be taken out
-pub IsTree-taken : (t : Tree) (p : List ℕ) → IsTree t → p ≢ root → ((q : List ℕ) → IsSome (get t q) → parent_of q ≡ Some p → ⊥) → IsTree (remove t p)
-IsTree-taken t p tree inner none = record {
+-- a directory is at no path of a file
+not_dir : (t : Tree) (p q : List ℕ) (n : TreeNode) → get t p ≡ Some Dir → get t q ≡ Some n → (n ≡ Dir → ⊥) → q ≢ p
+not_dir t p q n dir is differ same = absurd (differ (let both_are : Some n ≡ Some Dir = sym (subst (λ x. get t x ≡ Some n) same is) ∙ dir in cc))
+
+file_is_no_dir : (paths : PathSet) (bytes : List ℕ) → File paths bytes ≡ Dir → ⊥
+file_is_no_dir paths bytes e = cc
+
+-- a directory in which nothing stands may be taken out
+pub IsTree-taken : (t : Tree) (p : List ℕ) → IsTree t → p ≢ root → get t p ≡ Some Dir → ((q : List ℕ) → IsSome (get t q) → parent_of q ≡ Some p → ⊥) → IsTree (remove t p)
+IsTree-taken t p tree inner folder none = record {
   paths = λ q here. let (n, is) = some_of (get (remove t p) q) here in tree.paths q (there_is (get t q) n (at_taken t p q n is).0);
   top = get-taken_other t p root (λ e. inner (sym e)) ∙ tree.top;
   parents = λ q dir here up.
       let (n, is) = some_of (get (remove t p) q) here in
       let was : IsSome (get t q) = there_is (get t q) n (at_taken t p q n is).0 in
       get-taken_other t p dir (λ same. none q was (up ∙ ap Some same)) ∙ tree.parents q dir was up;
+  shared = λ q paths bytes file.
+      still_shared t (remove t p) q paths bytes
+      (λ x was. get-taken_other t p x (not_dir t p x (File paths bytes) folder was (file_is_no_dir paths bytes)) ∙ was)
+      (tree.shared q paths bytes (at_taken t p q (File paths bytes) file).0);
 }
 
--- nothing stands in a file
-pub file_alone : (t : Tree) (p bytes q : List ℕ) → IsTree t → get t p ≡ Some (File bytes) → IsSome (get t q) → parent_of q ≡ Some p → ⊥
-file_alone t p bytes q tree file here up = let both_are : Some (File bytes) ≡ Some Dir = sym file ∙ tree.parents q p here up in absurd (cc)
-
-pub file_not_root : (t : Tree) (p bytes : List ℕ) → IsTree t → get t p ≡ Some (File bytes) → p ≢ root
-file_not_root t p bytes tree file same = let both_are : Some (File bytes) ≡ Some Dir = sym (subst (λ x. get t x ≡ Some (File bytes)) same file) ∙ tree.top in absurd (cc)
-
-pub IsTree-unlinked : (t : Tree) (p bytes : List ℕ) → IsTree t → get t p ≡ Some (File bytes) → IsTree (remove t p)
-IsTree-unlinked t p bytes tree file = IsTree-taken t p tree (file_not_root t p bytes tree file) (λ q here up. file_alone t p bytes q tree file here up)
-
--- nor in a directory without names
+-- nothing stands in a directory without names
 
 passes_none : (test : List ℕ → Bool) (q : List ℕ) (ks : List (List ℕ)) → list_any (eq_by_cmp (slice_cmp nat_cmp) q) ks ≡ true → test q ≡ true → filter test ks ≡ [] → ⊥
 passes_none test q [] there is none = cc

@@ -1,11 +1,11 @@
 -- What a call leaves and answers, and what the calls have in common.
-use Rattle.std.specs.Prelude.{ℕ, nat_le, Bool, List, [], take, drop, bytes_eq, if◌then◌else◌, Option, Some, None, Result, Ok, Err}
+use Rattle.std.specs.Prelude.{ℕ, nat_le, Bool, List, [], ◌∷◌, take, drop, bytes_eq, if◌then◌else◌, Option, Some, None, Result, Ok, Err}
 use Rattle.std.specs.List.{list_any}
 use Rattle.std.specs.FinMap.{get, insert, remove, values}
 use Rattle.wtf_model.specs.declared.answer.Word.{Word}
 use Rattle.wtf_model.specs.declared.answer.Word.TheVariants.{NoHandle, InUse, NoSlice, Busy, TooBig, Range}
 use Rattle.wtf_model.specs.declared.answer.Answer.{Answer}
-use Rattle.wtf_model.specs.Tree.{Tree, TreeNode, File, source}
+use Rattle.wtf_model.specs.Tree.{PathSet, only_path, with_path, without_path, path_list, Tree, TreeNode, File, source, paths_at}
 use Rattle.wtf_model.specs.Session.{Session, Handle}
 
 -- a session, and the answer to the call that left it
@@ -75,21 +75,42 @@ moved s f h off = record s { handles = insert s.handles f (record h { off = off 
 abbrev pub put_node : Session → List ℕ → TreeNode → Session
 put_node s p n = record s { tree = insert s.tree p n }
 
--- other bytes in a file that is there
-abbrev pub set_bytes : Session → List ℕ → List ℕ → Session
-set_bytes s p bytes = put_node s p (File bytes)
-
--- a new file with these bytes
-abbrev pub add_file : Session → List ℕ → List ℕ → Session
-add_file s p bytes = put_node s p (File bytes)
-
 -- nothing at a path
 abbrev pub take_out : Session → List ℕ → Session
 take_out s p = record s { tree = remove s.tree p }
 
--- the file at p, which has these bytes, at q
+-- nothing at these paths; and this at each of them
+unfoldable pub take_all : Tree → List (List ℕ) → Tree
+take_all t [] = t
+take_all t (p ∷ ps) = remove (take_all t ps) p
+
+unfoldable pub put_all : TreeNode → Tree → List (List ℕ) → Tree
+put_all n t [] = t
+put_all n t (p ∷ ps) = insert (put_all n t ps) p n
+
+-- the file with the paths `old` has the paths `new` now, and these bytes
+unfoldable pub refiled : Tree → PathSet → PathSet → List ℕ → Tree
+refiled t old new bytes = put_all (File new bytes) (take_all t (path_list old)) (path_list new)
+
+-- the file at p, with other paths and bytes
+abbrev pub refile : Session → List ℕ → PathSet → List ℕ → Session
+refile s p new bytes = record s { tree = refiled s.tree (paths_at s.tree p) new bytes }
+
+-- other bytes in a file that is there, at each of its paths
+abbrev pub set_bytes : Session → List ℕ → List ℕ → Session
+set_bytes s p bytes = refile s p (paths_at s.tree p) bytes
+
+-- a new file with these bytes, and this path alone
+abbrev pub add_file : Session → List ℕ → List ℕ → Session
+add_file s p bytes = put_node s p (File (only_path p) bytes)
+
+-- the file at p, which has these bytes, loses this path; without any it is gone
+abbrev pub drop_path : Session → List ℕ → List ℕ → Session
+drop_path s p bytes = refile s p (without_path (paths_at s.tree p) p) bytes
+
+-- the path p of a file, which has these bytes, becomes q; its other paths stay
 abbrev pub move_file : Session → List ℕ → List ℕ → List ℕ → Session
-move_file s p q bytes = add_file (take_out s p) q bytes
+move_file s p q bytes = refile s p (with_path (without_path (paths_at s.tree p) p) q) bytes
 
 -- a slice with these bytes
 abbrev pub put_slice : Session → ℕ → List ℕ → Session

@@ -16,7 +16,7 @@ use Rattle.wtf_model.specs.declared.event.Event.TheVariants as event
 use Rattle.std.specs.List.{list_any}
 use Rattle.std.specs.FinMap.{get, insert, empty, values, from_sorted}
 use Rattle.wtf_path.specs.Parts.{parent_of}
-use Rattle.wtf_model.specs.Tree.{Tree, Dir, File}
+use Rattle.wtf_model.specs.Tree.{PathSet, only_path, has_path, Tree, Dir, File}
 use Rattle.wtf_model.specs.Session.{Session, Handle}
 use Rattle.wtf_model.specs.Done.{is_on}
 use Rattle.wtf_model.specs.Done as what
@@ -98,7 +98,8 @@ IsStoreFault a = ⊥
 -- a label is open on a file with these bytes, at an offset
 pub record HasOpen (s : Session) (f : ℕ) (h : Handle) (bytes : List ℕ) : Type 0 where
   pub here : get s.handles f ≡ Some h
-  pub file : get s.tree h.path ≡ Some (File bytes)
+  pub paths : PathSet
+  pub file : get s.tree h.path ≡ Some (File paths bytes)
 
 -- a path is free, below a directory
 pub record IsFreeIn (t : Tree) (p dir : List ℕ) : Type 0 where
@@ -121,10 +122,10 @@ IsBusy s p = list_any (is_on p) (values s.handles) ≡ true
 abbrev pub logs_tree : Tree
 logs_tree = from_sorted (
     (codes "/", Dir)
-    ∷ (codes "/a", File (codes "ab"))
+    ∷ (codes "/a", File (only_path (codes "/a")) (codes "ab"))
     ∷ (codes "/logs", Dir)
-    ∷ (codes "/logs/mon", File (codes "m1m2"))
-    ∷ (codes "/logs/tue", File (codes "t1"))
+    ∷ (codes "/logs/mon", File (only_path (codes "/logs/mon")) (codes "m1m2"))
+    ∷ (codes "/logs/tue", File (only_path (codes "/logs/tue")) (codes "t1"))
     ∷ [])
 
 -- the machine may give the answer a to the event e and nothing else
@@ -145,10 +146,12 @@ unfoldable pub Runs : Machine → List (Event × Answer) → Type 0
 Runs m [] = Unit {0}
 Runs m (step ∷ steps) = May m step.0 step.1 × Runs (after m step.0 step.1) steps
 
--- a job may be planned for a file: its label is idle, and the file has these bytes
+-- a job may be planned for a file: its label is idle, and the file, which knows this path, has these bytes
 pub record IsPlannable (m : Machine) (j : ℕ) (p bytes : List ℕ) : Type 0 where
   pub idle : get m.jobs j ≡ None
-  pub file : get m.now p ≡ Some (File bytes)
+  pub paths : PathSet
+  pub file : get m.now p ≡ Some (File paths bytes)
+  pub own : has_path paths p ≡ true
 
 -- a job that is planned now
 abbrev pub first_job : Machine → JobKind → List ℕ → ℕ → Job

@@ -14,7 +14,7 @@ use Rattle.wtf_model.specs.declared.op.Op.{Op}
 use Rattle.wtf_model.specs.declared.op.Op.TheVariants as op
 use Rattle.wtf_model.specs.declared.op.Seek.{Seek}
 use Rattle.wtf_model.specs.declared.op.Seek.TheVariants as to
-use Rattle.wtf_model.specs.Tree.{Tree}
+use Rattle.wtf_model.specs.Tree.{path_list, Tree, paths_at}
 use Rattle.wtf_model.specs.Session.{Session, Handle, fresh}
 use Rattle.wtf_model.specs.Call.{call}
 
@@ -97,13 +97,9 @@ reads s (op.Glue f label) = handle_reads s f
 reads s (op.Concat q paths) = target_reads q ++ sources_reads paths
 reads s (op.Copy p q) = source_reads p ++ target_reads q
 
--- the paths of the file at a path
-abbrev pub names_at : Tree → List ℕ → List (List ℕ)
-names_at t p = p ∷ []
-
 -- the bytes of the file at a path, by each of its paths
 abbrev pub bodies_at : Tree → List ℕ → List Item
-bodies_at t p = map (λ q. BodyOf q) (names_at t p)
+bodies_at t p = map (λ q. BodyOf q) (path_list (paths_at t p))
 
 abbrev pub bodies_of : Tree → Option Handle → List Item
 bodies_of t None = []

@@ -7,7 +7,7 @@ use Rattle.wtf_model.specs.declared.answer.Answer.{Answer}
 use Rattle.wtf_model.specs.declared.answer.Answer.TheVariants as answer
 use Rattle.wtf_model.specs.Tree.{TreeNode, Dir, File, root, ◌>>=◌, target, source, is_directory, is_empty, names_in}
 use Rattle.wtf_model.specs.Session.{Session}
-use Rattle.wtf_model.specs.Done.{Done, done, is_closed, put_node, add_file, take_out, move_file}
+use Rattle.wtf_model.specs.Done.{Done, done, is_closed, put_node, add_file, take_out, drop_path, move_file}
 
 -- mkdir P: an empty directory at P
 unfoldable pub mkdir : Session → List ℕ → Result Done Word
@@ -33,14 +33,14 @@ rmdir s p = do
   _ ← is_empty s.tree p
   done (take_out s p) answer.Okay
 
--- unlink P: the file P is taken out
+-- unlink P: the path P is taken out; with its last path the file is gone
 unfoldable pub unlink : Session → List ℕ → Result Done Word
 unlink s p = do
-  _ ← source s.tree p
+  bytes ← source s.tree p
   _ ← is_closed s p
-  done (take_out s p) answer.Okay
+  done (drop_path s p bytes) answer.Okay
 
--- rename P Q: the file moves from P to Q
+-- rename P Q: the path P of a file becomes Q; its other paths stay
 unfoldable pub rename : Session → List ℕ → List ℕ → Result Done Word
 rename s p q = do
   bytes ← source s.tree p
@@ -56,7 +56,7 @@ list s p = do
 
 abbrev pub shown_node : Option TreeNode → Result Answer Word
 shown_node (Some Dir) = Ok answer.Dir
-shown_node (Some (File bytes)) = Ok (answer.File (length bytes))
+shown_node (Some (File paths bytes)) = Ok (answer.File (length bytes))
 shown_node None = Err NoEnt
 
 -- stat P: what stands at P, and a file's length

@@ -14,7 +14,7 @@ ghost use Rattle.wtf_model.specs.declared.op.Seek.TheVariants as to;
 ghost use Rattle.wtf_model.specs.declared.event.Verb.TheVariants as verb;
 ghost use Rattle.wtf_model.specs.declared.event.Event.{Event};
 ghost use Rattle.wtf_model.specs.declared.event.Event.TheVariants as event;
-ghost use Rattle.wtf_model.specs.Tree.{TreeNode};
+ghost use Rattle.wtf_model.specs.Tree.{PathSet, TreeNode};
 ghost use Rattle.wtf_model.specs.Tree as node;
 ghost use Rattle.wtf_model.specs.Form.{IsData, IsFormOp, IsFormEvent};
 ghost use Rattle.wtf_model.specs.Sound.{IsSoundMachine};
@@ -73,8 +73,8 @@ pub fn create_is_refused()
     ensures no_parent { (cap : ℕ) (s : Session) (p dir : List ℕ) → parent_of p ≡ Some dir →
         get s.tree dir ≡ None →
         call cap s (op.Create p) ≡ unchanged s (answer.Refused word.NoParent) }
-    ensures file_parent { (cap : ℕ) (s : Session) (p dir bytes : List ℕ) →
-        parent_of p ≡ Some dir → get s.tree dir ≡ Some (node.File bytes) →
+    ensures file_parent { (cap : ℕ) (s : Session) (p dir : List ℕ) (paths : PathSet) (bytes : List ℕ) →
+        parent_of p ≡ Some dir → get s.tree dir ≡ Some (node.File paths bytes) →
         call cap s (op.Create p) ≡ unchanged s (answer.Refused word.NoParent) }
 {}
 

@@ -1,6 +1,6 @@
 //! Worked examples of what calls read and change, and of retries and stale jobs that have a cause, each proved.
 
-ghost use Rattle.std.specs.Prelude.{◌≡◌, ◌≢◌, ℕ, ◌<◌, true, false, List, [], ◌∷◌, ◌++◌, Some, None, codes};
+ghost use Rattle.std.specs.Prelude.{◌≡◌, ◌≢◌, ℕ, ◌<◌, true, false, List, [], ◌∷◌, ◌++◌, map, Some, None, codes};
 ghost use Rattle.std.specs.FinMap.{get};
 ghost use Rattle.wtf_model.specs.declared.answer.Answer.TheVariants as answer;
 ghost use Rattle.wtf_model.specs.declared.answer.Word.{Word};
@@ -11,7 +11,7 @@ ghost use Rattle.wtf_model.specs.declared.op.Op.TheVariants as op;
 ghost use Rattle.wtf_model.specs.declared.op.Seek.TheVariants as to;
 ghost use Rattle.wtf_model.specs.declared.event.Verb.TheVariants as verb;
 ghost use Rattle.wtf_model.specs.declared.event.Event.TheVariants as event;
-ghost use Rattle.wtf_model.specs.Tree.{Tree, root, root_alone};
+ghost use Rattle.wtf_model.specs.Tree.{only_path, path_list, File, Tree, root, root_alone, paths_at};
 ghost use Rattle.wtf_model.specs.Session.{Session, Handle};
 ghost use Rattle.wtf_model.specs.Call.{call};
 ghost use Rattle.wtf_model.specs.Items.{is_among, meets, reads, writes, reads_of, writes_of, file_changes, folder_changes};
@@ -19,14 +19,18 @@ ghost use Rattle.wtf_model.specs.Transaction.{Transaction, Job};
 ghost use Rattle.wtf_model.specs.Steps.{Machine, May, after, cap_of, is_live};
 ghost use Rattle.wtf_model.specs.Examples.{a};
 
-/// A call by a handle reads and changes the bytes of the path that the handle has; with a label that is not open it reads and
-/// changes none. A write reads nothing, and a read, a tell, and a seek that does not lead to the end change nothing.
+/// A call by a handle reads the bytes of the path that the handle has, and changes them by each path of the file; with a label
+/// that is not open it reads and changes none. A write reads nothing, and a read, a tell, and a seek that does not lead to the end change nothing.
 pub fn calls_by_handles()
     ensures appended { (s : Session) (f : ℕ) (h : Handle) (bytes : List ℕ) → get s.handles f ≡ Some h →
         reads s (op.Append f bytes) ≡ BodyOf h.path ∷ [] }
     ensures written { (s : Session) (f : ℕ) (bytes : List ℕ) → reads s (op.Write f bytes) ≡ [] }
     ensures changed { (cap : ℕ) (s : Session) (f : ℕ) (h : Handle) (bytes : List ℕ) →
         get s.handles f ≡ Some h → (call cap s (op.Write f bytes)).answer ≡ answer.Okay →
+        writes cap s (op.Write f bytes) ≡ map (λ q. BodyOf q) (path_list (paths_at s.tree h.path)) }
+    ensures changed_alone { (cap : ℕ) (s : Session) (f : ℕ) (h : Handle) (bytes old : List ℕ) →
+        get s.handles f ≡ Some h → get s.tree h.path ≡ Some (File (only_path h.path) old) →
+        (call cap s (op.Write f bytes)).answer ≡ answer.Okay →
         writes cap s (op.Write f bytes) ≡ BodyOf h.path ∷ [] }
     ensures sought { (s : Session) (f n : ℕ) → reads s (op.Seek f (to.Set n)) ≡ [] }
     ensures sought_end { (s : Session) (f : ℕ) (h : Handle) → get s.handles f ≡ Some h →

@@ -1,6 +1,6 @@
 //! Worked examples of the lines of jobs, each proved. They say of each line what may answer it, and what it leaves.
 
-ghost use Rattle.std.specs.Prelude.{◌≡◌, ◌≢◌, ◌↔◌, ◌⊎◌, ℕ, ◌+◌, ◌-◌, ◌/◌, ◌≤◌, ◌<◌, true, List, [], ◌∷◌, length, Some, None, codes};
+ghost use Rattle.std.specs.Prelude.{◌≡◌, ◌≢◌, ◌↔◌, ◌⊎◌, ℕ, ◌+◌, ◌-◌, ◌/◌, ◌≤◌, ◌<◌, true, List, [], ◌∷◌, map, length, Some, None, codes};
 ghost use Rattle.std.specs.Option.{option_map};
 ghost use Rattle.std.specs.FinMap.{get};
 ghost use Rattle.wtf_model.specs.declared.answer.Answer.{Answer};
@@ -10,6 +10,7 @@ ghost use Rattle.wtf_model.specs.declared.op.JobKind.{JobKind};
 ghost use Rattle.wtf_model.specs.declared.op.JobKind.TheVariants.{Compact, Spill};
 ghost use Rattle.wtf_model.specs.declared.event.Verb.TheVariants as verb;
 ghost use Rattle.wtf_model.specs.declared.event.Event.TheVariants as event;
+ghost use Rattle.wtf_model.specs.Tree.{path_list};
 ghost use Rattle.wtf_model.specs.Tree as node;
 ghost use Rattle.wtf_model.specs.declared.item.Item.TheVariants.{BodyOf};
 ghost use Rattle.wtf_model.specs.Items.{is_among, reads_of};
@@ -99,7 +100,8 @@ pub fn puts()
     ensures clients { (m : Machine) (c j n : ℕ) →
         get (after m (event.Put j) (answer.Installed n)).transactions c ≡
         option_map (touch (job_changes m.now (get m.jobs j))) (get m.transactions c) }
-    ensures body { (m : Machine) (job : Job) → job_changes m.now (Some job) ≡ BodyOf job.path ∷ [] }
+    ensures body { (m : Machine) (job : Job) → job_changes m.now (Some job) ≡
+        map (λ q. BodyOf q) (path_list (node.paths_at m.now job.path)) }
     ensures rest { (m : Machine) (j : ℕ) (a : Answer) →
         record (after m (event.Put j) a) { transactions = m.transactions; jobs = m.jobs; number = m.number }
         ≡ m }

@@ -13,7 +13,7 @@ ghost use Rattle.wtf_model.specs.declared.op.Seek.TheVariants as to;
 ghost use Rattle.wtf_model.specs.declared.event.Verb.TheVariants as verb;
 ghost use Rattle.wtf_model.specs.declared.event.Event.{Event};
 ghost use Rattle.wtf_model.specs.declared.event.Event.TheVariants as event;
-ghost use Rattle.wtf_model.specs.Tree.{Tree, rows_of};
+ghost use Rattle.wtf_model.specs.Tree.{PathSet, Tree, rows_of};
 ghost use Rattle.wtf_model.specs.Tree as node;
 ghost use Rattle.wtf_model.specs.Session.{Session, Handle};
 ghost use Rattle.wtf_model.specs.Items.{writes_of};
@@ -162,10 +162,12 @@ pub fn aborts()
 
 /// A file is shown whole up to 1,048,576 bytes, and a tree path by path, as they stand now.
 pub fn shows_the_tree()
-    ensures file { (m : Machine) (p bytes : List ℕ) → get m.now p ≡ Some (node.File bytes) →
+    ensures file { (m : Machine) (p : List ℕ) (paths : PathSet) (bytes : List ℕ) →
+        get m.now p ≡ Some (node.File paths bytes) →
         length bytes ≤ 1048576 →
         May m (event.Dump p) (answer.Shown bytes) }
-    ensures long { (m : Machine) (p bytes : List ℕ) → get m.now p ≡ Some (node.File bytes) →
+    ensures long { (m : Machine) (p : List ℕ) (paths : PathSet) (bytes : List ℕ) →
+        get m.now p ≡ Some (node.File paths bytes) →
         1048576 < length bytes →
         Only m (event.Dump p) (answer.Refused word.Long) }
     ensures directory { (m : Machine) (p : List ℕ) → get m.now p ≡ Some node.Dir →

@@ -5,10 +5,10 @@ ghost use Rattle.std.specs.FinMap.{get};
 ghost use Rattle.wtf_model.specs.declared.answer.Answer.TheVariants as answer;
 ghost use Rattle.wtf_model.specs.declared.answer.Word.TheVariants as word;
 ghost use Rattle.wtf_model.specs.declared.op.Op.TheVariants as op;
-ghost use Rattle.wtf_model.specs.Tree.{TreeNode, root, names_in, rows_of, paths_in};
+ghost use Rattle.wtf_model.specs.Tree.{PathSet, only_path, TreeNode, root, names_in, rows_of, paths_in};
 ghost use Rattle.wtf_model.specs.Tree as node;
 ghost use Rattle.wtf_model.specs.Session.{Session};
-ghost use Rattle.wtf_model.specs.Done.{put_node, add_file, take_out, move_file};
+ghost use Rattle.wtf_model.specs.Done.{put_node, add_file, take_out, drop_path, move_file};
 ghost use Rattle.wtf_model.specs.Call.{call};
 ghost use Rattle.wtf_model.specs.Examples.{IsFreeIn, IsClosed, IsBusy, answering, unchanged, logs_tree};
 
@@ -34,8 +34,8 @@ pub fn removes_directories()
         call cap s (op.Rmdir root) ≡ unchanged s (answer.Refused word.Root) }
     ensures missing { (cap : ℕ) (s : Session) → get s.tree (codes "/d") ≡ None →
         call cap s (op.Rmdir (codes "/d")) ≡ unchanged s (answer.Refused word.NoEnt) }
-    ensures file { (cap : ℕ) (s : Session) (bytes : List ℕ) →
-        get s.tree (codes "/a") ≡ Some (node.File bytes) →
+    ensures file { (cap : ℕ) (s : Session) (paths : PathSet) (bytes : List ℕ) →
+        get s.tree (codes "/a") ≡ Some (node.File paths bytes) →
         call cap s (op.Rmdir (codes "/a")) ≡ unchanged s (answer.Refused word.NotDir) }
     ensures not_empty { (cap : ℕ) (s : Session) (p : List ℕ) (ps : List (List ℕ)) →
         get s.tree (codes "/logs") ≡ Some node.Dir →
@@ -43,13 +43,16 @@ pub fn removes_directories()
         call cap s (op.Rmdir (codes "/logs")) ≡ unchanged s (answer.Refused word.NotEmpty) }
 {}
 
-/// A file without an open handle can be taken out.
+/// A path of a file without an open handle can be taken out; where it is the file's only one, the file is.
 pub fn unlinks_files()
+    ensures dropped { (cap : ℕ) (s : Session) (p : List ℕ) (paths : PathSet) (bytes : List ℕ) →
+        get s.tree p ≡ Some (node.File paths bytes) → IsClosed s p →
+        call cap s (op.Unlink p) ≡ answering (drop_path s p bytes) answer.Okay }
     ensures taken { (cap : ℕ) (s : Session) (p bytes : List ℕ) →
-        get s.tree p ≡ Some (node.File bytes) → IsClosed s p →
+        get s.tree p ≡ Some (node.File (only_path p) bytes) → IsClosed s p →
         call cap s (op.Unlink p) ≡ answering (take_out s p) answer.Okay }
-    ensures busy { (cap : ℕ) (s : Session) (p bytes : List ℕ) →
-        get s.tree p ≡ Some (node.File bytes) → IsBusy s p →
+    ensures busy { (cap : ℕ) (s : Session) (p : List ℕ) (paths : PathSet) (bytes : List ℕ) →
+        get s.tree p ≡ Some (node.File paths bytes) → IsBusy s p →
         call cap s (op.Unlink p) ≡ unchanged s (answer.Refused word.Busy) }
     ensures directory { (cap : ℕ) (s : Session) (p : List ℕ) → get s.tree p ≡ Some node.Dir →
         call cap s (op.Unlink p) ≡ unchanged s (answer.Refused word.IsDir) }
@@ -57,33 +60,33 @@ pub fn unlinks_files()
         call cap s (op.Unlink p) ≡ unchanged s (answer.Refused word.NoEnt) }
 {}
 
-/// A file moves to a free path. It replaces nothing, and moves away from no open handle.
+/// A path of a file becomes another one, which is free. It replaces nothing, and moves away from no open handle.
 pub fn renames_files()
-    ensures moved { (cap : ℕ) (s : Session) (p q dir bytes : List ℕ) →
-        get s.tree p ≡ Some (node.File bytes) → IsClosed s p → IsFreeIn s.tree q dir →
+    ensures moved { (cap : ℕ) (s : Session) (p q dir : List ℕ) (paths : PathSet) (bytes : List ℕ) →
+        get s.tree p ≡ Some (node.File paths bytes) → IsClosed s p → IsFreeIn s.tree q dir →
         call cap s (op.Rename p q) ≡ answering (move_file s p q bytes) answer.Okay }
-    ensures replaces_nothing { (cap : ℕ) (s : Session) (bytes other : List ℕ) →
-        get s.tree (codes "/a") ≡ Some (node.File bytes) → IsClosed s (codes "/a") →
-        get s.tree root ≡ Some node.Dir → get s.tree (codes "/b") ≡ Some (node.File other) →
+    ensures replaces_nothing { (cap : ℕ) (s : Session) (paths : PathSet) (bytes : List ℕ) (other : TreeNode) →
+        get s.tree (codes "/a") ≡ Some (node.File paths bytes) → IsClosed s (codes "/a") →
+        get s.tree root ≡ Some node.Dir → get s.tree (codes "/b") ≡ Some other →
         call cap s (op.Rename (codes "/a") (codes "/b")) ≡
         unchanged s (answer.Refused word.Exists) }
-    ensures busy { (cap : ℕ) (s : Session) (p q bytes : List ℕ) →
-        get s.tree p ≡ Some (node.File bytes) → IsBusy s p →
+    ensures busy { (cap : ℕ) (s : Session) (p q : List ℕ) (paths : PathSet) (bytes : List ℕ) →
+        get s.tree p ≡ Some (node.File paths bytes) → IsBusy s p →
         call cap s (op.Rename p q) ≡ unchanged s (answer.Refused word.Busy) }
     ensures directory { (cap : ℕ) (s : Session) (p q : List ℕ) → get s.tree p ≡ Some node.Dir →
         call cap s (op.Rename p q) ≡ unchanged s (answer.Refused word.IsDir) }
-    ensures no_parent { (cap : ℕ) (s : Session) (p bytes : List ℕ) →
-        get s.tree p ≡ Some (node.File bytes) → IsClosed s p → get s.tree (codes "/x") ≡ None →
+    ensures no_parent { (cap : ℕ) (s : Session) (p : List ℕ) (paths : PathSet) (bytes : List ℕ) →
+        get s.tree p ≡ Some (node.File paths bytes) → IsClosed s p → get s.tree (codes "/x") ≡ None →
         call cap s (op.Rename p (codes "/x/y")) ≡ unchanged s (answer.Refused word.NoParent) }
 {}
 
 /// A copy is a file of its own with the same bytes. A directory is not copied.
 pub fn copies_files()
-    ensures copied { (cap : ℕ) (s : Session) (p q dir bytes : List ℕ) →
-        get s.tree p ≡ Some (node.File bytes) → IsFreeIn s.tree q dir →
+    ensures copied { (cap : ℕ) (s : Session) (p q dir : List ℕ) (paths : PathSet) (bytes : List ℕ) →
+        get s.tree p ≡ Some (node.File paths bytes) → IsFreeIn s.tree q dir →
         call cap s (op.Copy p q) ≡ answering (add_file s q bytes) answer.Okay }
-    ensures onto_itself { (cap : ℕ) (s : Session) (bytes : List ℕ) →
-        get s.tree root ≡ Some node.Dir → get s.tree (codes "/a") ≡ Some (node.File bytes) →
+    ensures onto_itself { (cap : ℕ) (s : Session) (paths : PathSet) (bytes : List ℕ) →
+        get s.tree root ≡ Some node.Dir → get s.tree (codes "/a") ≡ Some (node.File paths bytes) →
         call cap s (op.Copy (codes "/a") (codes "/a")) ≡ unchanged s (answer.Refused word.Exists) }
     ensures directory { (cap : ℕ) (s : Session) (p q : List ℕ) → get s.tree p ≡ Some node.Dir →
         call cap s (op.Copy p q) ≡ unchanged s (answer.Refused word.IsDir) }
@@ -93,8 +96,8 @@ pub fn copies_files()
 
 /// A path tells what stands there, and a file its length.
 pub fn tells_nodes()
-    ensures file { (cap : ℕ) (s : Session) (p : List ℕ) →
-        get s.tree p ≡ Some (node.File (codes "xyz")) →
+    ensures file { (cap : ℕ) (s : Session) (p : List ℕ) (paths : PathSet) →
+        get s.tree p ≡ Some (node.File paths (codes "xyz")) →
         call cap s (op.Stat p) ≡ unchanged s (answer.File 3) }
     ensures directory { (cap : ℕ) (s : Session) (p : List ℕ) → get s.tree p ≡ Some node.Dir →
         call cap s (op.Stat p) ≡ unchanged s answer.Dir }
@@ -113,8 +116,8 @@ pub fn lists_names()
     ensures listed { (cap : ℕ) (s : Session) → s.tree ≡ logs_tree →
         get s.tree root ≡ Some node.Dir →
         call cap s (op.List root) ≡ unchanged s (answer.Names (codes "a" ∷ codes "logs" ∷ [])) }
-    ensures file { (cap : ℕ) (s : Session) (p bytes : List ℕ) →
-        get s.tree p ≡ Some (node.File bytes) →
+    ensures file { (cap : ℕ) (s : Session) (p : List ℕ) (paths : PathSet) (bytes : List ℕ) →
+        get s.tree p ≡ Some (node.File paths bytes) →
         call cap s (op.List p) ≡ unchanged s (answer.Refused word.NotDir) }
     ensures missing { (cap : ℕ) (s : Session) (p : List ℕ) → get s.tree p ≡ None →
         call cap s (op.List p) ≡ unchanged s (answer.Refused word.NoEnt) }

@@ -5,6 +5,7 @@ ghost use Rattle.std.specs.FinMap.{get};
 ghost use Rattle.wtf_model.specs.declared.answer.Answer.TheVariants as answer;
 ghost use Rattle.wtf_model.specs.declared.answer.Word.TheVariants as word;
 ghost use Rattle.wtf_model.specs.declared.op.Op.TheVariants as op;
+ghost use Rattle.wtf_model.specs.Tree.{PathSet};
 ghost use Rattle.wtf_model.specs.Tree as node;
 ghost use Rattle.wtf_model.specs.Session.{Session, Handle};
 ghost use Rattle.wtf_model.specs.Done.{moved, set_bytes, add_file, put_slice};
@@ -90,23 +91,23 @@ pub fn pastes_and_glues()
 
 /// Files are put together in the order of the line. The target is looked at first, then the files in turn, then the length.
 pub fn concatenations()
-    ensures in_order { (cap : ℕ) (s : Session) (q dir a b : List ℕ) → IsFreeIn s.tree q dir →
-        get s.tree a ≡ Some (node.File (codes "m1m2")) →
-        get s.tree b ≡ Some (node.File (codes "t1")) → 6 ≤ cap →
+    ensures in_order { (cap : ℕ) (s : Session) (q dir a b : List ℕ) (ones others : PathSet) →
+        IsFreeIn s.tree q dir → get s.tree a ≡ Some (node.File ones (codes "m1m2")) →
+        get s.tree b ≡ Some (node.File others (codes "t1")) → 6 ≤ cap →
         call cap s (op.Concat q (a ∷ b ∷ [])) ≡
         answering (add_file s q (codes "m1m2t1")) answer.Okay }
-    ensures twice { (cap : ℕ) (s : Session) (q dir a : List ℕ) → IsFreeIn s.tree q dir →
-        get s.tree a ≡ Some (node.File (codes "ab")) → 4 ≤ cap →
+    ensures twice { (cap : ℕ) (s : Session) (q dir a : List ℕ) (paths : PathSet) →
+        IsFreeIn s.tree q dir → get s.tree a ≡ Some (node.File paths (codes "ab")) → 4 ≤ cap →
         call cap s (op.Concat q (a ∷ a ∷ [])) ≡
         answering (add_file s q (codes "abab")) answer.Okay }
-    ensures missing { (cap : ℕ) (s : Session) (q dir a b : List ℕ) → IsFreeIn s.tree q dir →
-        get s.tree a ≡ Some (node.File (codes "ab")) → get s.tree b ≡ None →
+    ensures missing { (cap : ℕ) (s : Session) (q dir a b : List ℕ) (paths : PathSet) →
+        IsFreeIn s.tree q dir → get s.tree a ≡ Some (node.File paths (codes "ab")) → get s.tree b ≡ None →
         call cap s (op.Concat q (a ∷ b ∷ [])) ≡ unchanged s (answer.Refused word.NoEnt) }
     ensures directory { (cap : ℕ) (s : Session) (q dir a : List ℕ) → IsFreeIn s.tree q dir →
         get s.tree a ≡ Some node.Dir →
         call cap s (op.Concat q (a ∷ [])) ≡ unchanged s (answer.Refused word.IsDir) }
-    ensures too_big { (s : Session) (q dir a : List ℕ) → IsFreeIn s.tree q dir →
-        get s.tree a ≡ Some (node.File (codes "abc")) →
+    ensures too_big { (s : Session) (q dir a : List ℕ) (paths : PathSet) →
+        IsFreeIn s.tree q dir → get s.tree a ≡ Some (node.File paths (codes "abc")) →
         call 5 s (op.Concat q (a ∷ a ∷ [])) ≡ unchanged s (answer.Refused word.TooBig) }
     ensures root { (cap : ℕ) (s : Session) (paths : List (List ℕ)) →
         call cap s (op.Concat (codes "/") paths) ≡ unchanged s (answer.Refused word.Exists) }

@@ -6,7 +6,7 @@ use Rattle.wtf_model.proofs.machine_examples.shows_the_tree.Goals as goal
 pub returns : goal.returns
 returns c = record {
   file = dump_short;
-  long = λ m p bytes file past. dump_refused m p word.Long (dump_long m p bytes file past);
+  long = λ m p paths bytes file past. dump_refused m p word.Long (dump_long m p paths bytes file past);
   directory = λ m p dir. dump_refused m p word.IsDir (dump_directory m p dir);
   missing = λ m p none. dump_refused m p word.NoEnt (dump_missing m p none);
   tree = λ m b. (λ e. e, λ e. e);

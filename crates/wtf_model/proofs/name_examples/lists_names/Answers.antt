@@ -10,6 +10,6 @@ returns c = record {
   deeper = rw entries-logs refl;
   shown = rw entries-logs refl;
   listed = λ cap s is top. rw (top, is, entries-logs) refl;
-  file = λ cap s p bytes there. rw there refl;
+  file = λ cap s p paths bytes there. rw there refl;
   missing = λ cap s p none. rw none refl;
 }

@@ -8,6 +8,6 @@ returns c = record {
   taken = λ cap s there none. rw (there, none) refl;
   root = λ cap s. refl;
   missing = λ cap s none. rw none refl;
-  file = λ cap s bytes there. rw there refl;
+  file = λ cap s paths bytes there. rw there refl;
   not_empty = λ cap s p ps there some. rw (there, some) refl;
 }
