@@ -1,5 +1,34 @@
 -- Laws of open transactions: what one more call, a step of a replay and a commit come to.
-use Rattle.std.proofs.Common.{◌≡◌, ◌≢◌, ◌↔◌, ◌+◌, ◌<◌, ℕ, Bool, true, false, List, [], ◌∷◌, ◌++◌, length, take, get_or, slice_get, Option, Some, refl, sym, ap, ◌∙◌, subst, inl, inr, IsTrue, if◌then◌else◌}
+use Rattle.std.proofs.Common.{
+  ◌≡◌,
+  ◌≢◌,
+  ◌↔◌,
+  ◌+◌,
+  ◌<◌,
+  ℕ,
+  Bool,
+  true,
+  false,
+  List,
+  [],
+  ◌∷◌,
+  ◌++◌,
+  length,
+  take,
+  get_or,
+  slice_get,
+  Option,
+  Some,
+  refl,
+  sym,
+  ap,
+  ◌∙◌,
+  subst,
+  inl,
+  inr,
+  IsTrue,
+  if◌then◌else◌,
+}
 use Rattle.std.proofs.Math.Seq.{take-length}
 use Rattle.std.proofs.lemmas.List.{length-map}
 use Rattle.std.specs.Bool.{MatchBool}
@@ -49,7 +78,8 @@ fault_unlogged (answer.Damaged k) fault own = own
 fault_unlogged a fault own = fault
 
 -- a fault is lawful only where the call may fail so
-pub fault-lawful : (m : Machine) (t : Transaction) (o : Op (List ℕ)) (a : Answer) → IsStoreFault a → (b : Bool) → IsTrue b ↔ MayFail m.settings.servers o (due m t o) a
+pub fault-lawful : (m : Machine) (t : Transaction) (o : Op (List ℕ)) (a : Answer) → IsStoreFault a → (b : Bool)
+    → IsTrue b ↔ MayFail m.settings.servers o (due m t o) a
     → IsTrue b ↔ MayCall m t o a
 fault-lawful m t o a fault b fails = (
   λ y. inr (fails.0 y),
@@ -60,7 +90,8 @@ fault-lawful m t o a fault b fails = (
 )
 
 -- the call that is due an answer leaves some session
-pub due-called : (cap : ℕ) (s : Session) (o : Op (List ℕ)) (d : Answer) → d ≡ (call cap s o).answer → call cap s o ≡ record { session = (call cap s o).session; answer = d }
+pub due-called : (cap : ℕ) (s : Session) (o : Op (List ℕ)) (d : Answer) → d ≡ (call cap s o).answer
+    → call cap s o ≡ record { session = (call cap s o).session; answer = d }
 due-called cap s o d is = ap (λ (a : Answer). record (call cap s o) { answer = a }) (sym is)
 
 -- of a transaction all of whose calls are replayed
@@ -83,7 +114,8 @@ module _ (cap : ℕ) (t : Transaction) (o : Op (List ℕ)) (s new : Session) (d 
   call_due m most = ap (λ k. (call k (session_after k t.tree t.ops) o).answer) most ∙ ap (λ (x : Done). x.answer) called_so
 
   -- what may come in place of what is due
-  pub call-may : (a : Answer) (servers : ℕ) (b : Bool) → IsTrue b ↔ MayFail servers o d a → (m : Machine) → cap_of m ≡ cap → IsTrue b ↔ MayFail servers o (due m t o) a
+  pub call-may : (a : Answer) (servers : ℕ) (b : Bool) → IsTrue b ↔ MayFail servers o d a → (m : Machine) → cap_of m ≡ cap
+      → IsTrue b ↔ MayFail servers o (due m t o) a
   call-may a servers b fails m most = subst (λ x. IsTrue b ↔ MayFail servers o x a) (sym (call_due m most)) fails
 
 -- the answer that is due is lawful
@@ -113,7 +145,8 @@ deviates_by P Q b o d a at is = (
 )
 
 -- the next call of a replay, on what those before it have left
-module _ (cap : ℕ) (tree : Tree) (calls : List Logged) (n : ℕ) (x : Logged) (s new : Session) (d : Answer) (below : n < length calls) (at : x ≡ get_or calls n x)
+module _ (cap : ℕ) (tree : Tree) (calls : List Logged) (n : ℕ) (x : Logged) (s new : Session) (d : Answer) (below : n < length calls)
+    (at : x ≡ get_or calls n x)
     (left : s ≡ session_after cap tree (take n (ops_of calls))) (is : call cap s x.op ≡ record { session = new; answer = d }) where
   next_done : call cap (session_after cap tree (take n (ops_of calls))) x.op ≡ record { session = new; answer = d }
   next_done = ap (λ y. call cap y x.op) (sym left) ∙ is

@@ -1,5 +1,36 @@
 -- Transactions by their clients: what is found, and what stands after one became another, or after its verdict.
-use Rattle.std.proofs.Common.{◌≡◌, ℕ, ◌≤◌, ◌<◌, Bool, true, false, cond, if◌then◌else◌, List, length, Option, Some, None, Result, Ok, Err, IsTrue, IfOk, OnErr, ◌↔◌, ◌⊎◌, inl, inr, refl, sym, ap, subst, ◌∙◌, arith}
+use Rattle.std.proofs.Common.{
+  ◌≡◌,
+  ℕ,
+  ◌≤◌,
+  ◌<◌,
+  Bool,
+  true,
+  false,
+  cond,
+  if◌then◌else◌,
+  List,
+  length,
+  Option,
+  Some,
+  None,
+  Result,
+  Ok,
+  Err,
+  IsTrue,
+  IfOk,
+  OnErr,
+  ◌↔◌,
+  ◌⊎◌,
+  inl,
+  inr,
+  refl,
+  sym,
+  ap,
+  subst,
+  ◌∙◌,
+  arith,
+}
 use Rattle.std.specs.Option.{option_map, IsSome}
 use Rattle.std.specs.Map.{lookup}
 use Rattle.std.specs.BTreeMap.{is_at}
@@ -60,11 +91,13 @@ module _ (changed : List Item) (es : List (ℕ × Begun)) (c : ℕ) where
       let same : None ≡ Some t = ap (option_map (open_in changed)) none ∙ sym (get-map_of nat_cmp_total (open_in changed) es c) ∙ there in cc
 
   -- it became another
-  pub becomes : (new : List (ℕ × Begun)) (w : Begun) → ((q : ℕ) → lookup (is_at (nat_cmp q)) new ≡ cond (is_at (nat_cmp c) q) (Some w) (lookup (is_at (nat_cmp q)) es))
+  pub becomes : (new : List (ℕ × Begun)) (w : Begun)
+      → ((q : ℕ) → lookup (is_at (nat_cmp q)) new ≡ cond (is_at (nat_cmp c) q) (Some w) (lookup (is_at (nat_cmp q)) es))
       → seen changed new ≡ insert (seen changed es) c (open_in changed w)
   becomes new w is = map_of-put nat_cmp_total (open_in changed) nat_cmp-IsAntisymmetric es new c w is
 
-  pub stays : (new : List (ℕ × Begun)) (b w : Begun) → Some b ≡ lookup (is_at (nat_cmp c)) es → ((q : ℕ) → lookup (is_at (nat_cmp q)) new ≡ cond (is_at (nat_cmp c) q) (Some w) (lookup (is_at (nat_cmp q)) es))
+  pub stays : (new : List (ℕ × Begun)) (b w : Begun) → Some b ≡ lookup (is_at (nat_cmp c)) es
+      → ((q : ℕ) → lookup (is_at (nat_cmp q)) new ≡ cond (is_at (nat_cmp c) q) (Some w) (lookup (is_at (nat_cmp q)) es))
       → transaction_in w ≡ transaction_in b → w.since ≡ b.since → seen changed new ≡ seen changed es
   stays new b w found is same since =
       becomes new w is ∙ ap (insert (seen changed es) c) (open_same changed w b same since)
@@ -72,11 +105,13 @@ module _ (changed : List Item) (es : List (ℕ × Begun)) (c : ℕ) where
 
 -- after a call
 
-called_so : (b : Bool) (ts new : FinMap nat_cmp Transaction) (c : ℕ) (t next : Transaction) → get ts c ≡ Some t → new ≡ insert ts c (if b then next else t) → new ≡ (if b then insert ts c next else ts)
+called_so : (b : Bool) (ts new : FinMap nat_cmp Transaction) (c : ℕ) (t next : Transaction) → get ts c ≡ Some t → new ≡ insert ts c (if b then next else t)
+    → new ≡ (if b then insert ts c next else ts)
 called_so true ts new c t next there is = is
 called_so false ts new c t next there is = is ∙ insert-again ts c t there
 
-pub decided_call : {E : Type 0} (r : Result Bool E) (Ok_for Lawful : Machine → Type 0) (ts new : FinMap nat_cmp Transaction) (c : ℕ) (t w : Transaction) (o : Op (List ℕ)) (a : Answer)
+pub decided_call : {E : Type 0} (r : Result Bool E) (Ok_for Lawful : Machine → Type 0) (ts new : FinMap nat_cmp Transaction) (c : ℕ) (t w : Transaction)
+    (o : Op (List ℕ)) (a : Answer)
     → get ts c ≡ Some t → new ≡ insert ts c w
     → IfOk r (λ yes. (m : Machine) → Ok_for m → (IsTrue yes ↔ Lawful m))
     → IfOk r (λ yes. IsTrue yes → w ≡ called_on t o a)
@@ -113,7 +148,8 @@ on_error (Err e) P Q f h = f h
 
 -- after a step
 
-goes_so : (a : Answer) (ts new : FinMap nat_cmp Transaction) (c : ℕ) (t : Transaction) → get ts c ≡ Some t → (IsAborting a → ⊥) → new ≡ insert ts c (stepped_on t a) → new ≡ stepped_in ts c t a
+goes_so : (a : Answer) (ts new : FinMap nat_cmp Transaction) (c : ℕ) (t : Transaction) → get ts c ≡ Some t → (IsAborting a → ⊥)
+    → new ≡ insert ts c (stepped_on t a) → new ≡ stepped_in ts c t a
 goes_so (answer.Replayed i) ts new c t there goes is = is
 goes_so (Aborted' i box a) ts new c t there goes is = absurd (goes tt)
 goes_so a ts new c t there goes is = is ∙ insert-again ts c t there
@@ -130,7 +166,8 @@ pub decided_ends : (Lawful : Type 0) (ts new : FinMap nat_cmp Transaction) (c : 
     → IsVerdict Lawful t w a verdict.Ends → Decides Lawful ts (stepped_in ts c t a) new true
 decided_ends Lawful ts new c t w a is v = (v.0, ends_so a ts new c t v.1 is)
 
-pub decided_unlawful : (Lawful : Type 0) (ts next new : FinMap nat_cmp Transaction) (c : ℕ) (t w : Transaction) (a : Answer) → get ts c ≡ Some t → new ≡ insert ts c w
+pub decided_unlawful : (Lawful : Type 0) (ts next new : FinMap nat_cmp Transaction) (c : ℕ) (t w : Transaction) (a : Answer) → get ts c ≡ Some t
+    → new ≡ insert ts c w
     → IsVerdict Lawful t w a verdict.Unlawful → Decides Lawful ts next new false
 decided_unlawful Lawful ts next new c t w a there is v = (v.0, is ∙ ap (insert ts c) v.1 ∙ insert-again ts c t there)
 

@@ -32,5 +32,6 @@ pub takes : (old new : List ℕ) (k : ℕ) → ((q : ℕ) → list_any (is_at (n
 takes old new k is =
     same_set nat_cmp_total nat_cmp-IsAntisymmetric _ _ (λ q.
     has_key new q ∙ is q ∙ taken_so (is_at (nat_cmp k) q) (list_any (is_at (nat_cmp q)) old)
-    ∙ ap (λ b. not b && list_any (is_at (nat_cmp q)) old) ((eq_by_cmp_equiv nat_cmp_total).symm k q) ∙ ap (λ b. not (eq_by_cmp nat_cmp q k) && b) (sym (has_key old q))
+    ∙ ap (λ b. not b && list_any (is_at (nat_cmp q)) old) ((eq_by_cmp_equiv nat_cmp_total).symm k q)
+    ∙ ap (λ b. not (eq_by_cmp nat_cmp q k) && b) (sym (has_key old q))
     ∙ sym (contains-remove nat_cmp_total (from_list old) k q))

@@ -1,5 +1,30 @@
 -- Ways out of calls on handles and bytes: what is kept after each is what the call leaves.
-use Rattle.std.proofs.Common.{◌≡◌, ◌≢◌, ◌==◌, true, false, ℕ, ◌+◌, ◌≤◌, ◌<◌, List, ◌++◌, length, Option, Some, None, Ok, Bor, option_copied, sym, ap, subst, ◌∙◌, arith, refl}
+use Rattle.std.proofs.Common.{
+  ◌≡◌,
+  ◌≢◌,
+  ◌==◌,
+  true,
+  false,
+  ℕ,
+  ◌+◌,
+  ◌≤◌,
+  ◌<◌,
+  List,
+  ◌++◌,
+  length,
+  Option,
+  Some,
+  None,
+  Ok,
+  Bor,
+  option_copied,
+  sym,
+  ap,
+  subst,
+  ◌∙◌,
+  arith,
+  refl,
+}
 use Rattle.std.proofs.lemmas.Bool.{eqb-false}
 use Rattle.std.specs.Option.{is_some, option_map}
 use Rattle.std.specs.FinMap.{FinMap, get, insert, remove}
@@ -40,7 +65,8 @@ IsSet s f p off hs = hs ≡ insert s.handles f (record { path = p; off = off })
 
 -- the same session, where a handle was set with a copy of the path, or bytes were put at one
 set_as : (s : Session) (f : ℕ) (p q : List ℕ) (m n : ℕ) (hs : FinMap nat_cmp Handle) (a : Answer) → IsSet s f q n hs → q ≡ p → n ≡ m
-    → record { session = record s { handles = insert s.handles f (record { path = p; off = m }) }; answer = a } ≡ (let d : Done = record { session = record s { handles = hs }; answer = a } in d)
+    → record { session = record s { handles = insert s.handles f (record { path = p; off = m }) }; answer = a }
+    ≡ (let d : Done = record { session = record s { handles = hs }; answer = a } in d)
 set_as s f p q m n hs a set copied at = cc
 
 put_as : (s new : Session) (p q bytes made : List ℕ) (a : Answer) → new ≡ set_bytes s q made → q ≡ p → made ≡ bytes
@@ -51,7 +77,8 @@ put_as s new p q bytes made a put copied is = cc
 pub close_in : (cap : ℕ) (s : Session) (f : ℕ) (h : Handle) (hs : FinMap nat_cmp Handle) → Some h ≡ get s.handles f → hs ≡ remove s.handles f
     → call cap s (op.Close f) ≡ record { session = record s { handles = hs }; answer = answer.Okay }
 close_in cap s f h hs there gone =
-    close-open cap s f h (sym there) ∙ ap (λ (x : FinMap nat_cmp Handle). let d : Done = record { session = record s { handles = x }; answer = answer.Okay } in d) (sym gone)
+    close-open cap s f h (sym there)
+    ∙ ap (λ (x : FinMap nat_cmp Handle). let d : Done = record { session = record s { handles = x }; answer = answer.Okay } in d) (sym gone)
 
 -- a file was opened
 pub open_in : (cap : ℕ) (s : Session) (f : ℕ) (p q : List ℕ) (hs : FinMap nat_cmp Handle) → get s.handles f ≡ None → source s.tree p ≡ Ok (bytes_at s.tree p)
@@ -62,9 +89,11 @@ open_in cap s f p q hs unused file copied set = call-open cap s f p (bytes_at s.
 module _ (cap : ℕ) (s : Session) (f : ℕ) (h : Handle) (there : Some h ≡ get s.handles f) (old : List ℕ) (seen : old ≡ bytes_of_handle s h) where
   -- a seek led nowhere, or to an offset
   pub seek_out : (place : Seek) → None ≡ lands cap (length old) h.off place → call cap s (op.Seek f place) ≡ unchanged s (answer.Refused Range)
-  seek_out place out = seek-open cap s f h (sym there) place ∙ ap (λ b. sought cap s f h (sym there) (lands cap (length b) h.off place)) (sym seen) ∙ ap (sought cap s f h (sym there)) (sym out)
+  seek_out place out = seek-open cap s f h (sym there) place ∙ ap (λ b. sought cap s f h (sym there) (lands cap (length b) h.off place)) (sym seen)
+      ∙ ap (sought cap s f h (sym there)) (sym out)
 
-  pub seek_in : (place : Seek) (off : ℕ) (p : List ℕ) (hs : FinMap nat_cmp Handle) → Some off ≡ lands cap (length old) h.off place → p ≡ h.path → IsSet s f p off hs
+  pub seek_in : (place : Seek) (off : ℕ) (p : List ℕ) (hs : FinMap nat_cmp Handle) → Some off ≡ lands cap (length old) h.off place → p ≡ h.path
+      → IsSet s f p off hs
       → call cap s (op.Seek f place) ≡ record { session = record s { handles = hs }; answer = answer.Okay }
   seek_in place off p hs at copied set =
       seek-open cap s f h (sym there) place
@@ -73,7 +102,8 @@ module _ (cap : ℕ) (s : Session) (f : ℕ) (h : Handle) (there : Some h ≡ ge
       ∙ set_as s f h.path p off off hs answer.Okay set copied refl
 
   -- bytes were shown, and the handle moved on
-  pub read_in : (n off : ℕ) (p shown : List ℕ) (hs : FinMap nat_cmp Handle) → shown ≡ part h.off n old → off ≡ h.off + length (part h.off n old) → p ≡ h.path → IsSet s f p off hs
+  pub read_in : (n off : ℕ) (p shown : List ℕ) (hs : FinMap nat_cmp Handle) → shown ≡ part h.off n old → off ≡ h.off + length (part h.off n old) → p ≡ h.path
+      → IsSet s f p off hs
       → call cap s (op.Read f n) ≡ record { session = record s { handles = hs }; answer = answer.Shown shown }
   read_in n off p shown hs is at copied set =
       call-read cap s f n h (sym there)
@@ -82,7 +112,8 @@ module _ (cap : ℕ) (s : Session) (f : ℕ) (h : Handle) (there : Some h ≡ ge
       ∙ set_as s f h.path p (h.off + length (part h.off n old)) off hs (answer.Shown shown) set copied at
 
   -- bytes were written: the handle was moved, and then the file's new bytes were put
-  pub write_in : (bytes : List ℕ) (end : ℕ) (p file made : List ℕ) (hs : FinMap nat_cmp Handle) (new : Session) → 0 < length bytes → (end ≡ h.off + length bytes) × (end ≤ cap)
+  pub write_in : (bytes : List ℕ) (end : ℕ) (p file made : List ℕ) (hs : FinMap nat_cmp Handle) (new : Session) → 0 < length bytes
+      → (end ≡ h.off + length bytes) × (end ≤ cap)
       → made ≡ written old h.off bytes → p ≡ h.path → file ≡ h.path → IsSet s f p end hs → new ≡ set_bytes (record s { handles = hs }) file made
       → call cap s (op.Write f bytes) ≡ record { session = new; answer = answer.Okay }
   write_in bytes end p file made hs new some fit is copied same set put =
@@ -95,7 +126,8 @@ module _ (cap : ℕ) (s : Session) (f : ℕ) (h : Handle) (there : Some h ≡ ge
 
   -- the file's new bytes were put
   module _ (file made : List ℕ) (copied : file ≡ h.path) (new : Session) (put : new ≡ set_bytes s file made) where
-    pub append_in : (bytes : List ℕ) → length old + length bytes ≤ cap → made ≡ old ++ bytes → call cap s (op.Append f bytes) ≡ record { session = new; answer = answer.Okay }
+    pub append_in : (bytes : List ℕ) → length old + length bytes ≤ cap → made ≡ old ++ bytes
+        → call cap s (op.Append f bytes) ≡ record { session = new; answer = answer.Okay }
     append_in bytes fit is =
         append-open cap s f h (sym there) bytes (subst (λ b. length b + length bytes ≤ cap) seen fit)
         ∙ put_as s new h.path file (bytes_of_handle s h ++ bytes) made answer.Okay put copied (is ∙ ap (λ b. b ++ bytes) seen)

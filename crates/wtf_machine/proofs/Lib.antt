@@ -3,6 +3,8 @@ mod OrderedLaws
 mod SeenLaws
 mod RunWays
 mod HandleWays
+mod FileWays
+mod NameWays
 mod SliceWays
 mod CallWays
 mod LogLaws

@@ -1,5 +1,41 @@
 -- Laws of logged calls: how they are run anew, one after another, and where they deviate from what was shown.
-use Rattle.std.proofs.Common.{◌≡◌, ◌≢◌, ◌↔◌, zero, suc, ◌+◌, ◌-◌, ◌<◌, ◌≤◌, ℕ, Bool, false, IsTrue, List, [], ◌∷◌, ◌++◌, length, take, drop, get_or, slice_get, Some, refl, sym, ap, ◌∙◌, subst, inl, inr, arith, add-one, drop-cons, append_assoc, append-nil}
+use Rattle.std.proofs.Common.{
+  ◌≡◌,
+  ◌≢◌,
+  ◌↔◌,
+  zero,
+  suc,
+  ◌+◌,
+  ◌-◌,
+  ◌<◌,
+  ◌≤◌,
+  ℕ,
+  Bool,
+  false,
+  IsTrue,
+  List,
+  [],
+  ◌∷◌,
+  ◌++◌,
+  length,
+  take,
+  drop,
+  get_or,
+  slice_get,
+  Some,
+  refl,
+  sym,
+  ap,
+  ◌∙◌,
+  subst,
+  inl,
+  inr,
+  arith,
+  add-one,
+  drop-cons,
+  append_assoc,
+  append-nil,
+}
 use Rattle.std.proofs.Math.Seq.{take-append_seam, take-length, drop-length}
 use Rattle.std.proofs.lemmas.List.{length-take-le, length-map, take-map, map_more}
 use Rattle.std.proofs.lemmas.Option.{slice_get-map, slice_get-get_or}
@@ -40,7 +76,8 @@ first_answers cap s new o ops a is = ap (λ (d : Done). d.answer ∷ answers_fro
 
 -- the calls from one on
 pub ops_left : (calls : List Logged) (i : ℕ) (x : Logged) → i < length calls → x ≡ get_or calls i x → ops_of (drop i calls) ≡ x.op ∷ ops_of (drop (i + 1) calls)
-ops_left calls i x below is = ap ops_of (drop-cons calls i x below) ∙ ap (λ (y : Logged). y.op ∷ ops_of (drop (suc i) calls)) (sym is) ∙ ap (λ n. x.op ∷ ops_of (drop n calls)) (sym (add-one i))
+ops_left calls i x below is = ap ops_of (drop-cons calls i x below) ∙ ap (λ (y : Logged). y.op ∷ ops_of (drop (suc i) calls)) (sym is)
+    ∙ ap (λ n. x.op ∷ ops_of (drop n calls)) (sym (add-one i))
 
 pub session-left : (cap : ℕ) (s new : Session) (calls : List Logged) (i : ℕ) (x : Logged) (a : Answer)
     → i < length calls → x ≡ get_or calls i x → call cap s x.op ≡ record { session = new; answer = a }
@@ -54,17 +91,21 @@ answers-left cap s new calls i x a below at is = ap (answers_from cap s) (ops_le
 
 -- where all were run, their session is there
 pub session-end : (cap : ℕ) (s : Session) (calls : List Logged) (i : ℕ) → i ≡ length calls → session_from cap s (ops_of (drop i calls)) ≡ s
-session-end cap s calls i all = ap (λ n. session_from cap s (ops_of (drop n calls))) all ∙ ap (λ l. session_from cap s (ops_of l)) (drop-length calls) ∙ none_leave cap s
+session-end cap s calls i all =
+    ap (λ n. session_from cap s (ops_of (drop n calls))) all ∙ ap (λ l. session_from cap s (ops_of l)) (drop-length calls) ∙ none_leave cap s
 
 answers-end : (cap : ℕ) (s : Session) (calls : List Logged) (i : ℕ) → i ≡ length calls → answers_from cap s (ops_of (drop i calls)) ≡ []
-answers-end cap s calls i all = ap (λ n. answers_from cap s (ops_of (drop n calls))) all ∙ ap (λ l. answers_from cap s (ops_of l)) (drop-length calls) ∙ none_answer cap s
+answers-end cap s calls i all =
+    ap (λ n. answers_from cap s (ops_of (drop n calls))) all ∙ ap (λ l. answers_from cap s (ops_of l)) (drop-length calls) ∙ none_answer cap s
 
 -- what was shown of a call
 shown_at : (calls : List Logged) (i : ℕ) (x : Logged) → i < length calls → x ≡ get_or calls i x → slice_get (shown_of calls) i ≡ Some x.shown
-shown_at calls i x below at = slice_get-map (λ (l : Logged). l.shown) calls i ∙ ap (option_map (λ (l : Logged). l.shown)) (slice_get-get_or calls i x below ∙ ap Some (sym at))
+shown_at calls i x below at = slice_get-map (λ (l : Logged). l.shown) calls i
+    ∙ ap (option_map (λ (l : Logged). l.shown)) (slice_get-get_or calls i x below ∙ ap Some (sym at))
 
 pub op_at : (calls : List Logged) (i : ℕ) (x : Logged) → i < length calls → x ≡ get_or calls i x → slice_get (ops_of calls) i ≡ Some x.op
-op_at calls i x below at = slice_get-map (λ (l : Logged). l.op) calls i ∙ ap (option_map (λ (l : Logged). l.op)) (slice_get-get_or calls i x below ∙ ap Some (sym at))
+op_at calls i x below at = slice_get-map (λ (l : Logged). l.op) calls i
+    ∙ ap (option_map (λ (l : Logged). l.op)) (slice_get-get_or calls i x below ∙ ap Some (sym at))
 
 -- what is not so
 pub not_so : IsTrue false → ⊥
@@ -125,8 +166,10 @@ module _ (cap : ℕ) (tree : Tree) (calls : List Logged) (i : ℕ) (s : Session)
       record {
         counted = omega arith;
         agree = ap (λ n. take n (answers_of cap tree (ops_of calls))) down ∙ ap (take i) all ∙ ap (λ n. take n (shown_of (take i calls) ++ a ∷ rest)) (sym long)
-            ∙ take-append_seam (shown_of (take i calls)) (a ∷ rest) ∙ sym (take-map (λ (l : Logged). l.shown) i calls) ∙ ap (λ n. take n (shown_of calls)) (sym down);
-        answer_is = ap (slice_get (answers_of cap tree (ops_of calls))) down ∙ ap (λ l. slice_get l i) all ∙ ap (slice_get (shown_of (take i calls) ++ a ∷ rest)) (sym long)
+            ∙ take-append_seam (shown_of (take i calls)) (a ∷ rest) ∙ sym (take-map (λ (l : Logged). l.shown) i calls)
+            ∙ ap (λ n. take n (shown_of calls)) (sym down);
+        answer_is = ap (slice_get (answers_of cap tree (ops_of calls))) down ∙ ap (λ l. slice_get l i) all
+            ∙ ap (slice_get (shown_of (take i calls) ++ a ∷ rest)) (sym long)
             ∙ at_seam (shown_of (take i calls)) a rest;
         differs = λ e. other (sym (told_is x.shown a (sym (shown_at calls i x below at) ∙ ap (slice_get (shown_of calls)) (sym down) ∙ e)));
       }

@@ -1,5 +1,30 @@
 -- What a machine is after a client's line, from what its transactions are.
-use Rattle.std.proofs.Common.{◌≡◌, ℕ, ◌+◌, Bool, true, false, if◌then◌else◌, List, Option, Some, None, Result, Ok, Err, IsTrue, IfOk, OnErr, ◌↔◌, refl, sym, ap, ap₂, subst, ◌∙◌}
+use Rattle.std.proofs.Common.{
+  ◌≡◌,
+  ℕ,
+  ◌+◌,
+  Bool,
+  true,
+  false,
+  if◌then◌else◌,
+  List,
+  Option,
+  Some,
+  None,
+  Result,
+  Ok,
+  Err,
+  IsTrue,
+  IfOk,
+  OnErr,
+  ◌↔◌,
+  refl,
+  sym,
+  ap,
+  ap₂,
+  subst,
+  ◌∙◌,
+}
 use Rattle.std.specs.Prelude.{Vec}
 use Rattle.std.specs.declared.alloc.Global.{Global}
 use Rattle.std.specs.FinMap.{FinMap, get, remove}
@@ -17,7 +42,24 @@ use Rattle.wtf_model.specs.Transaction.{Transaction, Job, session_after}
 use Rattle.wtf_model.specs.Jobs.{job_changes}
 use Rattle.wtf_model.specs.Machines.{cap_of}
 use Rattle.wtf_model.specs.Lawful.{MayTry, MayStep, MayCommit, MayCall, MayClient, May, client_refusal}
-use Rattle.wtf_model.specs.Steps.{Machine, is_logged, with_each, touch, touch_job, touching, put_in_place, installed, begun, tried, stepped, committed, aborted, called, after_client, after}
+use Rattle.wtf_model.specs.Steps.{
+  Machine,
+  is_logged,
+  with_each,
+  touch,
+  touch_job,
+  touching,
+  put_in_place,
+  installed,
+  begun,
+  tried,
+  stepped,
+  committed,
+  aborted,
+  called,
+  after_client,
+  after,
+}
 use Rattle.wtf_model.proofs.StepLaws.{MayClient-asked, MayAsk-asked}
 use Rattle.wtf_machine.specs.declared.begun.Fate.{Fate}
 use Rattle.wtf_machine.specs.declared.begun.Fate.TheVariants as fate
@@ -27,13 +69,15 @@ use Rattle.wtf_machine.specs.Machines.{is_lawful, settled}
 use Rattle.wtf_machine.proofs.LogLaws.{not_so}
 
 -- of all machines that run so, this one
-pub for_one : {E : Type 0} {A : Type 0} (r : Result Bool E) (P : A → Type 0) (Q : A → Bool → Type 0) (m : A) → P m → IfOk r (λ yes. (x : A) → P x → Q x yes) → IfOk r (Q m)
+pub for_one : {E : Type 0} {A : Type 0} (r : Result Bool E) (P : A → Type 0) (Q : A → Bool → Type 0) (m : A) → P m → IfOk r (λ yes. (x : A) → P x → Q x yes)
+    → IfOk r (Q m)
 for_one (Ok b) P Q m fit h = h m fit
 for_one (Err e) P Q m fit h = h
 
 -- what was decided of its transactions is decided of the machine
 
-called_by : (b : Bool) (m : Machine) (ts : FinMap nat_cmp Transaction) → record m { transactions = if b then ts else m.transactions } ≡ (if b then record m { transactions = ts } else m)
+called_by : (b : Bool) (m : Machine) (ts : FinMap nat_cmp Transaction)
+    → record m { transactions = if b then ts else m.transactions } ≡ (if b then record m { transactions = ts } else m)
 called_by true m ts = refl
 called_by false m ts = refl
 
@@ -42,12 +86,14 @@ decided_by : (Lawful : Type 0) (m next : Machine) (ts new : FinMap nat_cmp Trans
 decided_by Lawful m next ts new true is d = (d.0, ap (λ x. record m { transactions = x }) d.1 ∙ is)
 decided_by Lawful m next ts new false is d = (d.0, ap (λ x. record m { transactions = x }) d.1)
 
-pub decided_all : {E : Type 0} (r : Result Bool E) (Lawful : Type 0) (m next : Machine) (ts new : FinMap nat_cmp Transaction) → record m { transactions = ts } ≡ next
+pub decided_all : {E : Type 0} (r : Result Bool E) (Lawful : Type 0) (m next : Machine) (ts new : FinMap nat_cmp Transaction)
+    → record m { transactions = ts } ≡ next
     → IfOk r (Decides Lawful m.transactions ts new) → IfOk r (Decides Lawful m next (record m { transactions = new }))
 decided_all (Ok b) Lawful m next ts new is d = decided_by Lawful m next ts new b is d
 decided_all (Err e) Lawful m next ts new is d = d
 
-pub called_is : (m : Machine) (c : ℕ) (t : Transaction) (o : Op (List ℕ)) (a : Answer) → record m { transactions = called_in m.transactions c t o a } ≡ called m c t o a
+pub called_is : (m : Machine) (c : ℕ) (t : Transaction) (o : Op (List ℕ)) (a : Answer)
+    → record m { transactions = called_in m.transactions c t o a } ≡ called m c t o a
 called_is m c t o a = called_by (is_logged a) m _
 
 pub stepped_is : (m : Machine) (c : ℕ) (t : Transaction) (a : Answer) → record m { transactions = stepped_in m.transactions c t a } ≡ stepped m c t a
@@ -112,7 +158,8 @@ module _ (m : Machine) (c : ℕ) (t : Transaction) where
   unlawful_so Lawful a (fate.Installs tree items) not is = absurd (cc)
 
   decided_fate : {E : Type 0} (r : Result Bool E) (Lawful : Type 0) (a : Answer) (f : Fate) (next new : Machine) → IsFate Lawful m t a f
-      → (is_lawful f ≡ true → settled m c t f ≡ next) → IfOk r (λ yes. yes ≡ is_lawful f) → IfOk r (λ yes. new ≡ settled m c t f) → IfOk r (Decides Lawful m next new)
+      → (is_lawful f ≡ true → settled m c t f ≡ next) → IfOk r (λ yes. yes ≡ is_lawful f) → IfOk r (λ yes. new ≡ settled m c t f)
+      → IfOk r (Decides Lawful m next new)
   decided_fate (Err e) Lawful a f next new is so yes_is at = yes_is
   decided_fate (Ok true) Lawful a f next new is so yes_is at = (lawful_so Lawful a f (sym yes_is) is, at ∙ so (sym yes_is))
   decided_fate (Ok false) Lawful a f next new is so yes_is at = let un = unlawful_so Lawful a f (sym yes_is) is in (un.0, at ∙ un.1)
@@ -131,7 +178,8 @@ decides_iff : (P Q : Type 0) (old next new : Machine) (yes : Bool) → (P → Q)
 decides_iff P Q old next new true to from d = (to d.0, d.1)
 decides_iff P Q old next new false to from d = ((λ q. d.0 (from q)), d.1)
 
-all_iff : {E : Type 0} (r : Result Bool E) (P Q : Type 0) (old next new : Machine) → (P → Q) → (Q → P) → IfOk r (Decides P old next new) → IfOk r (Decides Q old next new)
+all_iff : {E : Type 0} (r : Result Bool E) (P Q : Type 0) (old next new : Machine) → (P → Q) → (Q → P) → IfOk r (Decides P old next new)
+    → IfOk r (Decides Q old next new)
 all_iff (Ok b) P Q old next new to from d = decides_iff P Q old next new b to from d
 all_iff (Err e) P Q old next new to from d = d
 
@@ -161,8 +209,8 @@ pub tried_client : {E : Type 0} (r : Result Bool E) (m : Machine) (c : ℕ) (fou
     → client_refusal found verb.Try ≡ None → ((t : Transaction) → found ≡ Some t → IfOk r (Decides (MayTry m t a) m (tried m c t a) new))
     → IfOk r (Decides (MayClient m found verb.Try a) m (after_client m c found verb.Try a) new)
 tried_client r m c None a new free d = absurd (cc)
-tried_client r m c (Some t) a new free d =
-    all_iff r _ _ m (tried m c t a) new (MayClient-asked m (Some t) verb.Try a free) (MayAsk-asked m (Some t) verb.Try a free) (d t refl)
+tried_client r m c (Some t) a new free d = all_iff r _ _ m (tried m c t a) new (MayClient-asked m (Some t) verb.Try a free)
+    (MayAsk-asked m (Some t) verb.Try a free) (d t refl)
 
 pub stepped_client : {E : Type 0} (r : Result Bool E) (m : Machine) (c : ℕ) (found : Option Transaction) (a : Answer) (new : Machine)
     → client_refusal found verb.Step ≡ None → ((t : Transaction) → found ≡ Some t → IfOk r (Decides (MayStep m t a) m (stepped m c t a) new))

@@ -1,5 +1,27 @@
 -- Laws of maps whose entries are kept in the order of their keys: the map has these entries, in that order.
-use Rattle.std.proofs.Common.{◌≡◌, ℕ, Bool, true, false, cond, List, [], ◌∷◌, ◌++◌, map, Option, Some, IsTrue, ◌↔◌, refl, sym, ap, ◌∙◌}
+use Rattle.std.proofs.Common.{
+  ◌≡◌,
+  ℕ,
+  Bool,
+  true,
+  false,
+  cond,
+  List,
+  [],
+  ◌∷◌,
+  ◌++◌,
+  map,
+  Option,
+  Some,
+  IsTrue,
+  ◌↔◌,
+  refl,
+  sym,
+  ap,
+  ◌∙◌,
+  append_assoc,
+  append-nil,
+}
 use Rattle.std.proofs.lemmas.List.{nil_from_length}
 use Rattle.std.proofs.lemmas.Map.Keys.{sorted_head, sorted_tail}
 use Rattle.std.proofs.lemmas.Map.Text.{is_eq-slice_cmp}
@@ -16,9 +38,12 @@ use Rattle.std.specs.FinMap.{entries, empty, values, keys, get, len-empty, len-e
 use Rattle.std.specs.FinMap.Entries.{put, by_order, find}
 use Rattle.wtf_path.specs.Parts.{name_of}
 use Rattle.wtf_model.specs.declared.lists.Row.{Row}
+use Rattle.wtf_model.specs.declared.item.Item.{Item}
+use Rattle.wtf_model.specs.declared.item.Item.TheVariants.{BodyOf}
 use Rattle.wtf_machine.specs.declared.path_map.PathNode.{PathNode}
-use Rattle.wtf_machine.specs.Maps.{map_of, node_of, tree_of}
-use Rattle.wtf_model.specs.Tree.{Tree, TreeNode, Dir, is_in, paths_in, names_in, rows_of, shown_row}
+use Rattle.wtf_machine.specs.Entries.{map_of, set_of}
+use Rattle.wtf_machine.specs.Maps.{node_of, tree_of}
+use Rattle.wtf_model.specs.Tree.{PathSet, path_list, Tree, TreeNode, Dir, is_in, paths_in, names_in, rows_of, shown_row}
 
 -- entries with each value as f tells
 abbrev pub seen : {K X Y : Type 0} → (X → Y) → List (K × X) → List (K × Y)
@@ -56,12 +81,57 @@ module _ {K X Y : Type 0} {R : K → K → Ordering} (o : IsTotalOrder R) (f : X
   pub keys-map_of : (es : List (K × X)) → IsStrictlySortedBy R (keys_of es) → keys (map_of R f es) ≡ map (λ e. e.0) es
   keys-map_of es ordered = ap (map (λ e. e.0)) (entries-map_of es ordered) ∙ map_keys es
 
+-- of sets of paths
+
+-- the paths that are left, and those that were reached from the back, are those of a set
+pub paths-set : (rest es : List (List ℕ × Unit {0})) (s : PathSet) → rest ≡ es → set_of es ≡ s → IsStrictlySortedBy (slice_cmp nat_cmp) (keys_of es)
+    → path_list s ≡ map (λ e. e.0) rest
+paths-set rest es s all is ordered =
+    ap (λ (x : PathSet). path_list x) (sym is) ∙ keys-map_of nat_list_cmp_total (λ u. u) es ordered ∙ ap (map (λ e. e.0)) (sym all)
+
+pub all-left : (ps : List (List ℕ)) (rest es : List (List ℕ × Unit {0})) (s : PathSet) → rest ≡ es → set_of es ≡ s
+    → IsStrictlySortedBy (slice_cmp nat_cmp) (keys_of es) → ps ≡ path_list s
+    → ps ≡ map (λ e. e.0) rest ++ []
+all-left ps rest es s all is ordered same = same ∙ paths-set rest es s all is ordered ∙ sym (append-nil (map (λ e. e.0) rest))
+
+-- the items of their bytes, behind none
+pub bodies-set : (rest es : List (List ℕ × Unit {0})) (s : PathSet) (items : List Item) → rest ≡ es → set_of es ≡ s
+    → IsStrictlySortedBy (slice_cmp nat_cmp) (keys_of es) → items ≡ []
+    → items ++ map (λ e. BodyOf e.0) rest ≡ map (λ q. BodyOf q) (path_list s)
+bodies-set rest es s items all is ordered none =
+    ap (λ l. l ++ map (λ e. BodyOf e.0) rest) none ∙ sym (map_twice rest) ∙ ap (map (λ q. BodyOf q)) (sym (paths-set rest es s all is ordered))
+  where
+    map_twice : (es : List (List ℕ × Unit {0})) → map (λ q. BodyOf q) (map (λ e. e.0) es) ≡ map (λ e. BodyOf e.0) es
+    map_twice [] = refl
+    map_twice (e ∷ es) = ap (λ l. BodyOf e.0 ∷ l) (map_twice es)
+
+-- one more item is behind those so far
+pub bodies-more : (made next : List Item) (left rest : List (List ℕ × Unit {0})) (p : List ℕ) (u : Unit {0}) (q : List ℕ) (all : List Item)
+    → left ≡ (p, u) ∷ rest → q ≡ p → next ≡ made ++ BodyOf q ∷ []
+    → made ++ map (λ e. BodyOf e.0) left ≡ all → next ++ map (λ e. BodyOf e.0) rest ≡ all
+bodies-more made next left rest p u q all front same end so_far =
+    ap (λ l. l ++ map (λ e. BodyOf e.0) rest) end ∙ append_assoc made (BodyOf q ∷ []) (map (λ e. BodyOf e.0) rest)
+    ∙ ap (λ r. made ++ BodyOf r ∷ map (λ e. BodyOf e.0) rest) same ∙ ap (λ es. made ++ map (λ e. BodyOf e.0) es) (sym front) ∙ so_far
+
+-- the last one that is left is reached
+pub last-left : (ps : List (List ℕ)) (rest left : List (List ℕ × Unit {0})) (p : List ℕ) (u : Unit {0}) (done : List (List ℕ))
+    → ps ≡ map (λ e. e.0) rest ++ done → rest ≡ left ++ (p, u) ∷ []
+    → ps ≡ map (λ e. e.0) left ++ p ∷ done
+last-left ps rest left p u done is more =
+    is ∙ ap (λ es. map (λ e. e.0) es ++ done) more
+    ∙ ap (λ x. x ++ done) (map_pairs left) ∙ append_assoc (map (λ e. e.0) left) (p ∷ []) done
+  where
+    map_pairs : (es : List (List ℕ × Unit {0})) → map (λ e. e.0) (es ++ (p, u) ∷ []) ≡ map (λ e. e.0) es ++ p ∷ []
+    map_pairs [] = refl
+    map_pairs (e ∷ es) = ap (λ x. e.0 ∷ x) (map_pairs es)
+
 -- of trees, whose entries were all left when a walk began
 
 module _ (rest es : List (List ℕ × PathNode)) (t : Tree) (all : rest ≡ es) (is : tree_of es ≡ t) where
   -- a search through them finds what stands at a path
   pub find-tree : (p : List ℕ) → find (slice_cmp nat_cmp) p (seen node_of rest) ≡ get t p
-  find-tree p = ap (λ es. find (slice_cmp nat_cmp) p (seen node_of es)) all ∙ sym (get-from_entries nat_list_cmp_total (seen node_of es) p) ∙ ap (λ (t : Tree). get t p) is
+  find-tree p = ap (λ es. find (slice_cmp nat_cmp) p (seen node_of es)) all ∙ sym (get-from_entries nat_list_cmp_total (seen node_of es) p)
+      ∙ ap (λ (t : Tree). get t p) is
 
   module _ (ordered : IsStrictlySortedBy (slice_cmp nat_cmp) (keys_of es)) where
     -- their paths are those of the tree, in order
@@ -80,10 +150,12 @@ same_path : (at p : List ℕ) → eq_by_cmp (slice_cmp nat_cmp) p at ≡ bytes_e
 same_path at p = (eq_by_cmp_equiv nat_list_cmp_total).symm p at ∙ is_eq-slice_cmp at p
 
 -- the first entry that is left is at the path, or is not
-pub find-here : (at p : List ℕ) (n : PathNode) (es : List (List ℕ × PathNode)) (o : Option TreeNode) → find (slice_cmp nat_cmp) p (seen node_of ((at, n) ∷ es)) ≡ o → bytes_eq at p ≡ true → o ≡ Some (node_of n)
+pub find-here : (at p : List ℕ) (n : PathNode) (es : List (List ℕ × PathNode)) (o : Option TreeNode)
+    → find (slice_cmp nat_cmp) p (seen node_of ((at, n) ∷ es)) ≡ o → bytes_eq at p ≡ true → o ≡ Some (node_of n)
 find-here at p n es o is here = sym is ∙ ap (λ b. cond b (Some (node_of n)) (find (slice_cmp nat_cmp) p (seen node_of es))) (same_path at p ∙ here)
 
-pub find-later : (at p : List ℕ) (n : PathNode) (es : List (List ℕ × PathNode)) (o : Option TreeNode) → find (slice_cmp nat_cmp) p (seen node_of ((at, n) ∷ es)) ≡ o → bytes_eq at p ≡ false → find (slice_cmp nat_cmp) p (seen node_of es) ≡ o
+pub find-later : (at p : List ℕ) (n : PathNode) (es : List (List ℕ × PathNode)) (o : Option TreeNode)
+    → find (slice_cmp nat_cmp) p (seen node_of ((at, n) ∷ es)) ≡ o → bytes_eq at p ≡ false → find (slice_cmp nat_cmp) p (seen node_of es) ≡ o
 find-later at p n es o is other = sym (ap (λ b. cond b (Some (node_of n)) (find (slice_cmp nat_cmp) p (seen node_of es))) (same_path at p ∙ other)) ∙ is
 
 -- and what is asked there is whether it is a directory

@@ -48,7 +48,8 @@ tree_rows : (xs ys : List Row) → answer.Tree xs ≡ answer.Tree ys → xs ≡ 
 tree_rows xs ys h = cc
 
 -- the answer shows these rows
-pub shows_rows : (a : Answer) (shown rows now : List Row) (b : Bool) → a ≡ answer.Tree shown → rows ≡ now → b ≡ pointwise row_eq shown rows → IsTrue b ↔ (a ≡ answer.Tree now)
+pub shows_rows : (a : Answer) (shown rows now : List Row) (b : Bool) → a ≡ answer.Tree shown → rows ≡ now → b ≡ pointwise row_eq shown rows
+    → IsTrue b ↔ (a ≡ answer.Tree now)
 shows_rows a shown rows now b is made eq = (
   (λ yes. is ∙ ap (λ x. answer.Tree x) (rows_same shown rows (sym eq ∙ yes) ∙ made)),
   (λ same. let one : shown ≡ rows = tree_rows shown now (sym is ∙ same) ∙ sym made in eq ∙ subst (λ x. pointwise row_eq shown x ≡ true) one (rows_again shown)),

@@ -71,8 +71,7 @@ pub ends : (changed : List Item) (noted : List ℕ) (es rest : List (ℕ × Begu
     → IsFirst changed noted es rest first → rest ≡ []
     → option_map (λ p. p.0) first ≡ option_map (λ t. t.0) (first_begun (noted_of noted (entries (map_of nat_cmp (open_in changed) es))))
 ends changed noted es rest first ordered h none =
-    let all : es ≡ h.0 = h.1 ∙ ap (λ r. r ++ h.0) none in
-    clients_of changed first
+    let all : es ≡ h.0 = h.1 ∙ ap (λ r. r ++ h.0) none in clients_of changed first
     ∙ ap (option_map (λ t. t.0))
     (h.2 ∙ ap (λ (done : List (ℕ × Begun)). first_begun (noted_of noted (seen (open_in changed) done))) (sym all)
     ∙ ap (λ ts. first_begun (noted_of noted ts)) (sym (entries-map_of nat_cmp_total (open_in changed) es ordered)))

@@ -7,12 +7,24 @@ use Rattle.wtf_model.specs.declared.answer.Answer.TheVariants as answer
 use Rattle.wtf_model.specs.declared.answer.Word.{Word}
 use Rattle.wtf_model.specs.declared.answer.Word.TheVariants.{TooBig, Range}
 use Rattle.wtf_model.specs.declared.op.Op.TheVariants as op
-use Rattle.wtf_model.specs.Tree.{File, target, source, sources}
+use Rattle.wtf_model.specs.Tree.{target, source, sources}
 use Rattle.wtf_model.specs.Session.{Session, Handle}
-use Rattle.wtf_model.specs.Done.{Done, bytes_of_handle, part, put_node}
+use Rattle.wtf_model.specs.Done.{Done, bytes_of_handle, part, add_file}
 use Rattle.wtf_model.specs.Call.{call}
 use Rattle.wtf_model.specs.Examples.{unchanged}
-use Rattle.wtf_model.proofs.SliceLaws.{yank-open, peek-past, peek-part, cut-past, cut-part, paste-write, glue-append, concat-by, concat-fits, concat-big, copy-by}
+use Rattle.wtf_model.proofs.SliceLaws.{
+  yank-open,
+  peek-past,
+  peek-part,
+  cut-past,
+  cut-part,
+  paste-write,
+  glue-append,
+  concat-by,
+  concat-fits,
+  concat-big,
+  copy-by,
+}
 
 -- what is not within ends behind the end
 outside : (m n : ℕ) → (m ≤ n → IsTrue false) → n < m
@@ -41,9 +53,11 @@ module _ (cap : ℕ) (s : Session) where
 
   pub cut-outside : (label off n made : ℕ) {items bytes : List ℕ} → get s.slices label ≡ Some items → bytes ≡ items → (off + n ≤ length bytes → IsTrue false)
       → call cap s (op.Cut label off n made) ≡ unchanged s (answer.Refused Range)
-  cut-outside label off n made {items} {bytes} e same not = cut-past cap s label off n made bytes (e ∙ ap Some (sym same)) (outside (off + n) (length bytes) not)
+  cut-outside label off n made {items} {bytes} e same not =
+      cut-past cap s label off n made bytes (e ∙ ap Some (sym same)) (outside (off + n) (length bytes) not)
 
-  pub cut-inside : (label off n made : ℕ) {items bytes cut held : List ℕ} {slices : FinMap nat_cmp (List ℕ)} → get s.slices label ≡ Some items → bytes ≡ items → off + n ≤ length bytes
+  pub cut-inside : (label off n made : ℕ) {items bytes cut held : List ℕ} {slices : FinMap nat_cmp (List ℕ)} → get s.slices label ≡ Some items → bytes ≡ items
+      → off + n ≤ length bytes
       → cut ≡ part off n bytes → held ≡ cut → slices ≡ insert s.slices made held
       → call cap s (op.Cut label off n made) ≡ record { session = record { tree = s.tree; handles = s.handles; slices = slices }; answer = answer.Okay }
   cut-inside label off n made {items} {bytes} {cut} {held} {slices} e same within is held_is slices_are =
@@ -52,26 +66,32 @@ module _ (cap : ℕ) (s : Session) where
   -- a slice over a file or behind it, by the write or the append of its bytes
   pub paste-by : (f label : ℕ) {h : Handle} {items bytes : List ℕ} {d : Done} → get s.handles f ≡ Some h → get s.slices label ≡ Some items → bytes ≡ items
       → call cap s (op.Write f bytes) ≡ d → call cap s (op.Paste f label) ≡ d
-  paste-by f label {h} {items} {bytes} {d} e there same wrote = paste-write cap s f label h items e there ∙ ap (λ x. call cap s (op.Write f x)) (sym same) ∙ wrote
+  paste-by f label {h} {items} {bytes} {d} e there same wrote =
+      paste-write cap s f label h items e there ∙ ap (λ x. call cap s (op.Write f x)) (sym same) ∙ wrote
 
   pub glue-by : (f label : ℕ) {h : Handle} {items bytes : List ℕ} {d : Done} → get s.handles f ≡ Some h → get s.slices label ≡ Some items → bytes ≡ items
       → call cap s (op.Append f bytes) ≡ d → call cap s (op.Glue f label) ≡ d
-  glue-by f label {h} {items} {bytes} {d} e there same added = glue-append cap s f label h items e there ∙ ap (λ x. call cap s (op.Append f x)) (sym same) ∙ added
+  glue-by f label {h} {items} {bytes} {d} e there same added =
+      glue-append cap s f label h items e there ∙ ap (λ x. call cap s (op.Append f x)) (sym same) ∙ added
 
   -- a file of others: a target that is refused, a source that is, bytes that are too many, and a file that is made
-  pub concat-no_target : (q : List ℕ) (paths : List (List ℕ)) {w : Word} → target s.tree q ≡ Err w → call cap s (op.Concat q paths) ≡ unchanged s (answer.Refused w)
+  pub concat-no_target : (q : List ℕ) (paths : List (List ℕ)) {w : Word} → target s.tree q ≡ Err w
+      → call cap s (op.Concat q paths) ≡ unchanged s (answer.Refused w)
   concat-no_target q paths {w} e = concat-by cap s q paths (Err w) (sources s.tree paths) e refl
 
-  pub concat-no_source : (q : List ℕ) (paths : List (List ℕ)) {w : Word} {listed : List (List ℕ)} → target s.tree q ≡ Ok tt → listed ≡ paths → sources s.tree listed ≡ Err w
+  pub concat-no_source : (q : List ℕ) (paths : List (List ℕ)) {w : Word} {listed : List (List ℕ)} → target s.tree q ≡ Ok tt → listed ≡ paths
+      → sources s.tree listed ≡ Err w
       → call cap s (op.Concat q paths) ≡ unchanged s (answer.Refused w)
   concat-no_source q paths {w} e same none = concat-by cap s q paths (Ok tt) (Err w) e (ap (sources s.tree) (sym same) ∙ none)
 
-  pub concat-long : (q : List ℕ) (paths : List (List ℕ)) {bytes : List ℕ} {listed : List (List ℕ)} → target s.tree q ≡ Ok tt → listed ≡ paths → sources s.tree listed ≡ Ok bytes
+  pub concat-long : (q : List ℕ) (paths : List (List ℕ)) {bytes : List ℕ} {listed : List (List ℕ)} → target s.tree q ≡ Ok tt → listed ≡ paths
+      → sources s.tree listed ≡ Ok bytes
       → cap < length bytes → call cap s (op.Concat q paths) ≡ unchanged s (answer.Refused TooBig)
   concat-long q paths {bytes} e same is past = concat-big cap s q paths bytes e (ap (sources s.tree) (sym same) ∙ is) past
 
   pub concat-made : (q : List ℕ) (paths : List (List ℕ)) {p bytes : List ℕ} {listed : List (List ℕ)} {new : Session} → target s.tree q ≡ Ok tt → listed ≡ paths
-      → sources s.tree listed ≡ Ok bytes → length bytes ≤ cap → p ≡ q → new ≡ put_node s p (File bytes) → call cap s (op.Concat q paths) ≡ record { session = new; answer = answer.Okay }
+      → sources s.tree listed ≡ Ok bytes → length bytes ≤ cap → p ≡ q → new ≡ add_file s p bytes
+      → call cap s (op.Concat q paths) ≡ record { session = new; answer = answer.Okay }
   concat-made q paths {p} {bytes} {listed} {new} e same is fit path_is new_is =
       let made = concat-fits cap s q paths bytes e (ap (sources s.tree) (sym same) ∙ is) fit in cc
 
@@ -79,9 +99,10 @@ module _ (cap : ℕ) (s : Session) where
   pub copy-no_source : (p q : List ℕ) {w : Word} → source s.tree p ≡ Err w → call cap s (op.Copy p q) ≡ unchanged s (answer.Refused w)
   copy-no_source p q {w} none = copy-by cap s p q (Err w) (target s.tree q) none refl
 
-  pub copy-no_target : (p q : List ℕ) {w : Word} {bytes : List ℕ} → source s.tree p ≡ Ok bytes → target s.tree q ≡ Err w → call cap s (op.Copy p q) ≡ unchanged s (answer.Refused w)
+  pub copy-no_target : (p q : List ℕ) {w : Word} {bytes : List ℕ} → source s.tree p ≡ Ok bytes → target s.tree q ≡ Err w
+      → call cap s (op.Copy p q) ≡ unchanged s (answer.Refused w)
   copy-no_target p q {w} {bytes} is e = copy-by cap s p q (Ok bytes) (Err w) is e
 
   pub copy-made : (p q : List ℕ) {bytes held r : List ℕ} {new : Session} → source s.tree p ≡ Ok bytes → target s.tree q ≡ Ok tt → held ≡ bytes → r ≡ q
-      → new ≡ put_node s r (File held) → call cap s (op.Copy p q) ≡ record { session = new; answer = answer.Okay }
+      → new ≡ add_file s r held → call cap s (op.Copy p q) ≡ record { session = new; answer = answer.Okay }
   copy-made p q {bytes} {held} {r} {new} is e held_is same new_is = let made = copy-by cap s p q (Ok bytes) (Ok tt) is e in cc

@@ -3,25 +3,29 @@ use Rattle.std.specs.Prelude.{◌≡◌, ℕ, List, Option, Some, None, refl}
 use Rattle.std.specs.Coded.{Coded, code_by, coded_list, coded_option, coded×, coded_ℕ}
 use Rattle.std.specs.FinMap.{FinMap}
 use Rattle.std.specs.FinMap as finite
+use Rattle.std.specs.FinSet as set
 use Rattle.std.specs.Ordering.{nat_cmp}
-use Rattle.wtf_model.specs.Tree.{Tree, TreeNode, Dir, File}
+use Rattle.wtf_model.specs.Tree.{PathSet, Tree, TreeNode, Dir, File}
 use Rattle.wtf_model.specs.Session.{Session, Handle}
 
--- how a tree is told from others: a directory as no bytes, and a file as its bytes
-abbrev pub content : TreeNode → Option (List ℕ)
+-- how a tree is told from others: a directory as nothing, and a file as its paths and its bytes
+abbrev pub content : TreeNode → Option (PathSet × List ℕ)
 content Dir = None
-content (File bytes) = Some bytes
+content (File paths bytes) = Some (paths, bytes)
 
-abbrev pub with_content : Option (List ℕ) → TreeNode
+abbrev pub with_content : Option (PathSet × List ℕ) → TreeNode
 with_content None = Dir
-with_content (Some bytes) = File bytes
+with_content (Some (paths, bytes)) = File paths bytes
 
 abbrev pub told_by_content : (n : TreeNode) → with_content (content n) ≡ n
 told_by_content Dir = refl
-told_by_content (File bytes) = refl
+told_by_content (File paths bytes) = refl
+
+abbrev pub paths_code : Coded PathSet
+paths_code = set.code (coded_list coded_ℕ)
 
 abbrev pub node_code : Coded TreeNode
-node_code = code_by (Option (List ℕ)) (coded_option (coded_list coded_ℕ)) content with_content told_by_content
+node_code = code_by (Option (PathSet × List ℕ)) (coded_option (coded× paths_code (coded_list coded_ℕ))) content with_content told_by_content
 
 abbrev pub tree_code : Coded Tree
 tree_code = finite.code (coded_list coded_ℕ) node_code

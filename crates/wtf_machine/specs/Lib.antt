@@ -1,3 +1,4 @@
+pub mod Entries
 pub mod Maps
 pub mod Coded
 pub mod Sessions

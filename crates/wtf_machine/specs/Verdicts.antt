@@ -17,7 +17,15 @@ use Rattle.wtf_machine.specs.Logs.{ops_of, shown_of}
 
 -- a transaction as it is kept, without what others have changed since it began
 abbrev pub transaction_in : Begun → Transaction
-transaction_in b = record { stamp = b.stamp; base = b.base; tree = b.tree; ops = ops_of b.calls.items; shown = shown_of b.calls.items; replayed = b.replayed; touched = [] }
+transaction_in b = record {
+  stamp = b.stamp;
+  base = b.base;
+  tree = b.tree;
+  ops = ops_of b.calls.items;
+  shown = shown_of b.calls.items;
+  replayed = b.replayed;
+  touched = [];
+}
 
 -- the same, where others have changed these items since
 abbrev pub seen_in : List Item → Begun → Transaction

@@ -8,7 +8,7 @@ ghost use Rattle.wtf_model.specs.ByteCalls as calls;
 ghost use Rattle.wtf_machine.specs.Sessions.{session_in, IsCalled};
 
 use crate::labels::Cursor;
-use crate::path_map::PathNode;
+use crate::path_map::FileContent;
 use crate::workspace::Workspace;
 use std::alloc::Global;
 use std::rc::RcSlice;
@@ -107,12 +107,18 @@ pub(crate) fn joined(alloc: Global, front: &[u8], back: &[u8]) -> Result<Vec<u8>
 }
 
 impl Workspace {
-    /// The file at a path becomes one of these bytes.
-    pub(crate) fn put_bytes(&mut self, path: Path, bytes: Vec<u8>) -> Result<(), OutOfMemory>
-        ensures { OnOk result (session_in self.new ≡ set_bytes (session_in self.old) path bytes.items) }
+    /// The file at a path becomes one of these bytes, at each of its paths. Where none stands there, nothing changes.
+    pub(crate) fn put_bytes(&mut self, path: &Path, bytes: Vec<u8>) -> Result<(), OutOfMemory>
+        ensures { OnOk result (session_in self.new ≡ set_bytes (session_in self.old) path.now bytes.items) }
     {
+        let paths = match self.file(path) {
+            Ok(file) => file.paths.clone()?,
+            Err(_) => return Ok(()),
+        };
         let bytes = RcSlice::from_vec(bytes)?;
-        self.tree.put(path, PathNode::Content(bytes))
+        let file = FileContent { paths, bytes };
+        self.tree.refile(&file.paths, &file)?;
+        Ok(())
     }
 
     /// Shows the next n bytes of a handle's file, or those that are left. The handle moves on by
@@ -149,7 +155,7 @@ impl Workspace {
         let file = handle.path.copy(self.alloc)?;
         let path = handle.path.copy(self.alloc)?;
         self.handles.set(f, Cursor { path, off })?;
-        self.put_bytes(file, made)?;
+        self.put_bytes(&file, made)?;
         Ok(Answer::Okay)
     }
 
@@ -167,7 +173,7 @@ impl Workspace {
         };
         let made = joined(self.alloc, old, bytes)?;
         let path = handle.path.copy(self.alloc)?;
-        self.put_bytes(path, made)?;
+        self.put_bytes(&path, made)?;
         Ok(Answer::Okay)
     }
 
@@ -184,7 +190,7 @@ impl Workspace {
         }
         let made = resized(self.alloc, self.bytes_on(handle), n)?;
         let path = handle.path.copy(self.alloc)?;
-        self.put_bytes(path, made)?;
+        self.put_bytes(&path, made)?;
         Ok(Answer::Okay)
     }
 
@@ -198,7 +204,7 @@ impl Workspace {
         };
         let made = zeroed(self.alloc, self.bytes_on(handle), handle.off, n)?;
         let path = handle.path.copy(self.alloc)?;
-        self.put_bytes(path, made)?;
+        self.put_bytes(&path, made)?;
         Ok(Answer::Okay)
     }
 }

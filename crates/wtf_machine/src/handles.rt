@@ -48,7 +48,7 @@ impl Workspace {
         ensures { result.now ≡ bytes_at self.now.tree path.now }
     {
         match self.tree.node(path) {
-            Some(PathNode::Content(bytes)) => bytes.as_slice(),
+            Some(PathNode::Content(file)) => file.bytes.as_slice(),
             _ => &[],
         }
     }

@@ -4,16 +4,16 @@ ghost use Rattle.std.specs.Prelude.{◌≡◌, ℕ, Some, Ok, Err, IfOk, IfErr, 
 ghost use Rattle.std.specs.FinMap.{get};
 ghost use Rattle.std.specs.Rc.{rc_slice_items};
 ghost use Rattle.wtf_model.specs.declared.op.Op.TheVariants as op;
-ghost use Rattle.wtf_model.specs.Tree.{File, root, target, source, is_directory};
-ghost use Rattle.wtf_model.specs.Done.{put_node};
+ghost use Rattle.wtf_model.specs.Tree.{with_path, without_path, root, target, source, is_directory};
+ghost use Rattle.wtf_model.specs.Done.{refiled, add_file};
 ghost use Rattle.wtf_model.specs.NameCalls.{shown_node};
-ghost use Rattle.wtf_machine.specs.Maps.{node_of};
+ghost use Rattle.wtf_machine.specs.Maps.{node_of, file_of};
 ghost use Rattle.wtf_machine.specs.Sessions.{session_in, IsCalled};
 
-use crate::path_map::PathNode;
+use crate::file_paths::FilePaths;
+use crate::path_map::{FileContent, PathNode};
 use crate::workspace::Workspace;
-use std::alloc::Global;
-use std::rc::RcSlice;
+use std::rc::{Rc, RcSlice};
 use wtf_base::OutOfMemory;
 use wtf_model::{Answer, Word};
 use wtf_path::Path;
@@ -31,8 +31,8 @@ fn shown_node(node: &PathNode) -> Answer
 {
     match node {
         PathNode::Folder => Answer::Dir,
-        PathNode::Content(bytes) => Answer::File {
-            len: bytes.len() as u64,
+        PathNode::Content(file) => Answer::File {
+            len: file.bytes.len() as u64,
         },
     }
 }
@@ -55,13 +55,14 @@ impl Workspace {
         Ok(())
     }
 
-    /// The file at a path, with the bytes that its holders share.
-    fn content(&self, p: &Path) -> Result<&RcSlice<u8, Global>, Word>
-        ensures ok { IfOk result (λ b. source self.now.tree p.now ≡ Ok (rc_slice_items b.now)) }
+    /// The file at a path.
+    pub(crate) fn file(&self, p: &Path) -> Result<&FileContent, Word>
+        ensures ok { IfOk result (λ f. get self.now.tree p.now ≡ Some (file_of f.now)) }
+        ensures bytes { IfOk result (λ f. source self.now.tree p.now ≡ Ok (rc_slice_items f.now.bytes)) }
         ensures err { IfErr result (λ w. source self.now.tree p.now ≡ Err w) }
     {
         match self.tree.node(p) {
-            Some(PathNode::Content(bytes)) => Ok(bytes),
+            Some(PathNode::Content(file)) => Ok(file),
             Some(PathNode::Folder) => Err(Word::IsDir),
             None => Err(Word::NoEnt),
         }
@@ -72,8 +73,8 @@ impl Workspace {
         ensures ok { IfOk result (λ b. source self.now.tree p.now ≡ Ok b.now) }
         ensures err { IfErr result (λ w. source self.now.tree p.now ≡ Err w) }
     {
-        match self.content(p) {
-            Ok(bytes) => Ok(bytes.as_slice()),
+        match self.file(p) {
+            Ok(file) => Ok(file.bytes.as_slice()),
             Err(word) => Err(word),
         }
     }
@@ -89,13 +90,16 @@ impl Workspace {
         }
     }
 
-    /// Puts a file with these bytes at a path, in place of what stood there.
+    /// Puts a file with these bytes, and this path alone, in place of what stood there.
     pub(crate) fn put_file(&mut self, p: Path, bytes: Vec<u8>) -> Result<(), OutOfMemory>
-        ensures { OnOk result
-            (session_in self.new ≡ put_node (session_in self.old) p (File bytes.items)) }
+        ensures { OnOk result (session_in self.new ≡ add_file (session_in self.old) p bytes.items) }
     {
+        let own = p.copy(self.alloc)?;
+        let paths = FilePaths::only(self.alloc, own)?;
+        let paths = Rc::new(self.alloc, paths)?;
         let bytes = RcSlice::from_vec(bytes)?;
-        self.tree.put(p, PathNode::Content(bytes))
+        let file = FileContent { paths, bytes };
+        self.tree.put(p, PathNode::Content(file))
     }
 
     /// Makes an empty directory.
@@ -140,28 +144,58 @@ impl Workspace {
         Ok(Answer::Okay)
     }
 
-    /// Takes out a file that no handle is open on.
+    /// The file at a path loses this path. Without any it is gone.
+    fn drop_path(&mut self, p: &Path, file: &FileContent) -> Result<(), OutOfMemory>
+        ensures { OnOk result (session_in self.new ≡ record (session_in self.old) {
+          tree = refiled self.old.tree file.now.paths.value (without_path file.now.paths.value p.now)
+              (rc_slice_items file.now.bytes);
+        }) }
+    {
+        let left = file.paths.without(p)?;
+        let paths = Rc::new(self.alloc, left)?;
+        let bytes = file.bytes.clone()?;
+        let made = FileContent { paths, bytes };
+        self.tree.refile(&file.paths, &made)
+    }
+
+    /// A path of the file there becomes another one.
+    fn move_path(&mut self, p: &Path, q: &Path, file: &FileContent) -> Result<(), OutOfMemory>
+        ensures { OnOk result (session_in self.new ≡ record (session_in self.old) {
+          tree = refiled self.old.tree file.now.paths.value
+              (with_path (without_path file.now.paths.value p.now) q.now) (rc_slice_items file.now.bytes);
+        }) }
+    {
+        let to = q.copy(self.alloc)?;
+        let moved = file.paths.moved(p, to)?;
+        let paths = Rc::new(self.alloc, moved)?;
+        let bytes = file.bytes.clone()?;
+        let made = FileContent { paths, bytes };
+        self.tree.refile(&file.paths, &made)
+    }
+
+    /// Takes out a path of a file, which no handle is open on.
     pub(crate) fn unlink(&mut self, p: &Path) -> Result<Answer, OutOfMemory>
         ensures { IfOk result (λ a.
             (cap : ℕ) → IsCalled cap (op.Unlink p.now) self.old self.new a) }
     {
-        if let Err(word) = self.content(p) {
-            return Ok(Answer::Refused(word));
-        }
+        let file = match self.file(p) {
+            Ok(file) => file.share()?,
+            Err(word) => return Ok(Answer::Refused(word)),
+        };
         if self.handles.has_on(p) {
             return Ok(Answer::Refused(Word::Busy));
         }
-        self.tree.take(p);
+        self.drop_path(p, &file)?;
         Ok(Answer::Okay)
     }
 
-    /// Moves a file that no handle is open on to a path where nothing stands.
+    /// Moves a path of a file, which no handle is open on, to where nothing stands.
     pub(crate) fn rename(&mut self, p: &Path, q: &Path) -> Result<Answer, OutOfMemory>
         ensures { IfOk result (λ a.
             (cap : ℕ) → IsCalled cap (op.Rename p.now q.now) self.old self.new a) }
     {
-        let bytes = match self.content(p) {
-            Ok(bytes) => bytes.clone()?,
+        let file = match self.file(p) {
+            Ok(file) => file.share()?,
             Err(word) => return Ok(Answer::Refused(word)),
         };
         if self.handles.has_on(p) {
@@ -170,9 +204,7 @@ impl Workspace {
         if let Err(word) = self.target(q) {
             return Ok(Answer::Refused(word));
         }
-        let q = q.copy(self.alloc)?;
-        self.tree.take(p);
-        self.tree.put(q, PathNode::Content(bytes))?;
+        self.move_path(p, q, &file)?;
         Ok(Answer::Okay)
     }
 

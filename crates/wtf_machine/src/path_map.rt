@@ -1,39 +1,61 @@
-//! A tree as the machine keeps it: a map from paths to directories and files. The bytes of a file stand behind a shared pointer,
-//! so that a second holder of the tree copies no byte.
+//! A tree as the machine keeps it: a map from paths to directories and files. The paths and the bytes of a file stand behind shared
+//! pointers, so that neither its other paths nor a second holder of the tree copies a path or a byte of it.
 
-ghost use Rattle.std.specs.Prelude.{◌≡◌, ◌↔◌, [], Some, IsTrue, IfOk, OnOk, OnErr, option_copied};
+ghost use Rattle.std.specs.Prelude.{◌≡◌, ◌↔◌, [], Some, IsTrue, IfSome, IfNone, IfOk, OnOk, OnErr, option_copied};
 ghost use Rattle.std.specs.Option.{option_map};
 ghost use Rattle.std.specs.FinMap.{get, insert, remove};
+ghost use Rattle.std.specs.Rc.{rc_slice_items};
 ghost use Rattle.wtf_path.specs.Parts.{name_of};
-ghost use Rattle.wtf_model.specs.Tree.{Dir, root_alone, shown_len, shown_row, rows_of};
+ghost use Rattle.wtf_model.specs.Tree.{no_paths, path_list, paths_at, Dir, root_alone, shown_len, shown_row, rows_of};
 ghost use Rattle.wtf_model.specs.Tree.{is_in, paths_in, names_in};
-ghost use Rattle.wtf_machine.specs.Maps.{node_of};
+ghost use Rattle.wtf_model.specs.Done.{take_all, put_all, refiled};
+ghost use Rattle.wtf_model.specs.Items.{bodies_at};
+ghost use Rattle.wtf_machine.specs.Maps.{node_of, file_of};
 
+use crate::file_paths::FilePaths;
 use std::alloc::Global;
 use std::collections::BTreeMap;
 use std::marker::Model;
-use std::rc::RcSlice;
+use std::rc::{Rc, RcSlice};
 use wtf_base::{Bytes, OutOfMemory};
-use wtf_model::{Names, Row, Rows};
+use wtf_model::{Item, Names, Row, Rows};
 use wtf_path::Path;
 
-/// What stands at a path: a directory, or a file with its bytes, which its holders share.
+/// A file: all its paths, and its bytes. Its holders share both.
+#[derive(Drop)]
+pub(crate) struct FileContent {
+    pub(crate) paths: Rc<FilePaths>,
+    pub(crate) bytes: RcSlice<u8, Global>,
+}
+
+impl FileContent {
+    /// The same for a second holder. No path and no byte is copied.
+    pub(crate) fn share(&self) -> Result<FileContent, OutOfMemory>
+        ensures { IfOk result (λ file. file_of file ≡ file_of self.now) }
+    {
+        let paths = self.paths.clone()?;
+        let bytes = self.bytes.clone()?;
+        Ok(FileContent { paths, bytes })
+    }
+}
+
+/// What stands at a path: a directory, or a file.
 #[derive(Drop)]
 pub(crate) enum PathNode {
     Folder,
-    Content(RcSlice<u8, Global>),
+    Content(FileContent),
 }
 
 impl PathNode {
-    /// The same for a second holder. No byte is copied.
+    /// The same for a second holder. No path and no byte is copied.
     pub(crate) fn share(&self) -> Result<PathNode, OutOfMemory>
         ensures { IfOk result (λ node. node_of node ≡ node_of self.now) }
     {
         match self {
             PathNode::Folder => Ok(PathNode::Folder),
-            PathNode::Content(bytes) => {
-                let bytes = bytes.clone()?;
-                Ok(PathNode::Content(bytes))
+            PathNode::Content(file) => {
+                let file = file.share()?;
+                Ok(PathNode::Content(file))
             }
         }
     }
@@ -44,7 +66,7 @@ impl PathNode {
     {
         match self {
             PathNode::Folder => None,
-            PathNode::Content(bytes) => Some(bytes.len() as u64),
+            PathNode::Content(file) => Some(file.bytes.len() as u64),
         }
     }
 
@@ -145,7 +167,62 @@ impl PathMap {
         let _ = self.nodes.remove(path);
     }
 
-    /// The same tree for a second holder: its paths are copied, and no byte of a file.
+    /// Takes out what stands at each of these paths. No memory is taken.
+    fn take_each(&mut self, paths: &FilePaths)
+        ensures { self.new ≡ take_all self.old (path_list paths.now) }
+    {
+        let mut rest = paths.paths.iter();
+        while let Some((path, _)) = rest.next_back() {
+            self.take(path);
+        }
+    }
+
+    /// Puts a file at each of these paths. After an error the tree is of no use.
+    fn put_each(&mut self, paths: &FilePaths, file: &FileContent) -> Result<(), OutOfMemory>
+        ensures { OnOk result (self.new ≡ put_all (file_of file.now) self.old (path_list paths.now)) }
+    {
+        let mut rest = paths.paths.iter();
+        while let Some((path, _)) = rest.next_back() {
+            let path = path.copy(self.alloc)?;
+            let file = file.share()?;
+            self.put(path, PathNode::Content(file))?;
+        }
+        Ok(())
+    }
+
+    /// The file with these paths has other paths or other bytes now. After an error the tree is of no use.
+    pub(crate) fn refile(&mut self, old: &FilePaths, file: &FileContent) -> Result<(), OutOfMemory>
+        ensures { OnOk result
+            (self.new ≡ refiled self.old old.now file.now.paths.value (rc_slice_items file.now.bytes)) }
+    {
+        self.take_each(old);
+        self.put_each(&file.paths, file)?;
+        Ok(())
+    }
+
+    /// The file at a path.
+    fn file(&self, path: &Path) -> Option<&FileContent>
+        ensures some { IfSome result (λ file. get self.now path.now ≡ Some (file_of file.now)) }
+        ensures none { IfNone result (paths_at self.now path.now ≡ no_paths) }
+    {
+        match self.node(path) {
+            Some(PathNode::Content(file)) => Some(file),
+            Some(PathNode::Folder) => None,
+            None => None,
+        }
+    }
+
+    /// The bytes of the file at a path, by each of its paths.
+    pub(crate) fn bodies_at(&self, path: &Path) -> Result<Vec<Item>, OutOfMemory>
+        ensures { IfOk result (λ items. items.items ≡ bodies_at self.now path.now) }
+    {
+        match self.file(path) {
+            Some(file) => Ok(file.paths.bodies()?),
+            None => Ok(Vec::new(self.alloc)),
+        }
+    }
+
+    /// The same tree for a second holder: its paths are copied, and nothing of a file.
     pub(crate) fn share(&self) -> Result<PathMap, OutOfMemory>
         ensures { IfOk result (λ tree. tree ≡ self.now) }
     {

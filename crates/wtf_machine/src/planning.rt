@@ -12,7 +12,7 @@ ghost use Rattle.wtf_machine.specs.Machines.{machine_in};
 
 use crate::answers::{is_okay, is_refused};
 use crate::faults::is_read_fault;
-use crate::items::{copy_items, meets, only};
+use crate::items::{copy_items, meets};
 use crate::jobs::PlannedJob;
 use crate::machine::Machine;
 use crate::path_map::PathNode;
@@ -54,10 +54,10 @@ impl Machine {
         let Some(node) = self.tree.node(path) else {
             return Some(Word::NoEnt);
         };
-        let PathNode::Content(bytes) = node else {
+        let PathNode::Content(file) = node else {
             return Some(Word::IsDir);
         };
-        if region > last_region(self.settings.region as u64, bytes.len() as u64) {
+        if region > last_region(self.settings.region as u64, file.bytes.len() as u64) {
             return Some(Word::NoRegion);
         }
         None
@@ -136,8 +136,7 @@ impl Machine {
         let Some(job) = self.jobs.at(j) else {
             return Ok(Vec::new(self.alloc));
         };
-        let path = job.path.copy(self.alloc)?;
-        Ok(only(self.alloc, Item::BodyOf(path))?)
+        Ok(self.tree.bodies_at(&job.path)?)
     }
 
     /// What a job made is put in place under a number. The job has ended, and others see what has changed.

@@ -147,14 +147,23 @@ fn unless_refused(due: &Answer, changes: Vec<Item>) -> Vec<Item>
 impl Workspace {
     /// The bytes of the file that a handle is open on. A label that is not open has none.
     fn body(&self, f: u8) -> Result<Vec<Item>, OutOfMemory>
-        ensures reads { IfOk result (λ v. v.items ≡ handle_reads (session_in self.now) f) }
-        ensures changes { IfOk result (λ v. v.items ≡ handle_changes (session_in self.now) f) }
+        ensures { IfOk result (λ v. v.items ≡ handle_reads (session_in self.now) f) }
     {
         let Some(handle) = self.handles.at(f) else {
             return Ok(Vec::new(self.alloc));
         };
         let path = handle.path.copy(self.alloc)?;
         Ok(only(self.alloc, Item::BodyOf(path))?)
+    }
+
+    /// The same, by each path of the file.
+    fn bodies(&self, f: u8) -> Result<Vec<Item>, OutOfMemory>
+        ensures { IfOk result (λ v. v.items ≡ handle_changes (session_in self.now) f) }
+    {
+        let Some(handle) = self.handles.at(f) else {
+            return Ok(Vec::new(self.alloc));
+        };
+        Ok(self.tree.bodies_at(&handle.path)?)
     }
 
     /// What a seek reads: nothing, but where it leads to the end of the file.
@@ -219,15 +228,15 @@ impl Workspace {
             Op::Seek(_, _) => Ok(Vec::new(alloc)),
             Op::Tell(_) => Ok(Vec::new(alloc)),
             Op::Read(_, _) => Ok(Vec::new(alloc)),
-            Op::Write(f, _) => self.body(*f),
-            Op::Append(f, _) => self.body(*f),
-            Op::Truncate(f, _) => self.body(*f),
-            Op::Punch(f, _) => self.body(*f),
+            Op::Write(f, _) => self.bodies(*f),
+            Op::Append(f, _) => self.bodies(*f),
+            Op::Truncate(f, _) => self.bodies(*f),
+            Op::Punch(f, _) => self.bodies(*f),
             Op::Yank(_, _, _) => Ok(Vec::new(alloc)),
             Op::Peek { .. } => Ok(Vec::new(alloc)),
             Op::Cut { .. } => Ok(Vec::new(alloc)),
-            Op::Paste(f, _) => self.body(*f),
-            Op::Glue(f, _) => self.body(*f),
+            Op::Paste(f, _) => self.bodies(*f),
+            Op::Glue(f, _) => self.bodies(*f),
             Op::Concat(q, _) => file_changes(alloc, q),
             Op::Copy(_, q) => file_changes(alloc, q),
         }

@@ -112,10 +112,10 @@ impl Machine {
         let Some(node) = self.tree.node(path) else {
             return is_refused(answer, Word::NoEnt);
         };
-        let PathNode::Content(content) = node else {
+        let PathNode::Content(file) = node else {
             return is_refused(answer, Word::IsDir);
         };
-        let bytes = content.as_slice();
+        let bytes = file.bytes.as_slice();
         if bytes.len() as u64 > MAX_DUMPED {
             return is_refused(answer, Word::Long);
         }

@@ -15,7 +15,8 @@ for_append servers f [] d a = (λ h. absurd (omega arith), λ h. absurd h)
 for_append servers f (b ∷ bs) d a = (λ h. h.1, λ h. (omega arith, h))
 
 -- a test decides of a call what it decides of its bytes
-by_bytes : (servers : ℕ) (o p : Op (List ℕ)) (bytes : List ℕ) (d a : Answer) (b : Bool) → o ≡ p → ((0 < length bytes) × MayFailWrite d a) ↔ MayFail servers p d a
+by_bytes : (servers : ℕ) (o p : Op (List ℕ)) (bytes : List ℕ) (d a : Answer) (b : Bool) → o ≡ p
+    → ((0 < length bytes) × MayFailWrite d a) ↔ MayFail servers p d a
     → (IsTrue b ↔ ((0 < length bytes) × MayFailWrite d a)) → IsTrue b ↔ MayFail servers o d a
 by_bytes servers o p bytes d a b is same test = subst (λ x. IsTrue b ↔ MayFail servers x d a) (sym is) (λ h. same.0 (test.0 h), λ h. test.1 (same.1 h))
 

@@ -5,7 +5,8 @@ use Rattle.wtf_machine.proofs.log.rerun.Goals as goal
 
 pub loop-logged-preserved : goal.loop-logged-preserved
 loop-logged-preserved c =
-    sym (session-left c.args.cap (session_in c.loop-logged.session) (session_in c.call.new.self) c.args.calls.now c.loop-logged.logged-index c.logged-item.result
+    sym (session-left c.args.cap (session_in c.loop-logged.session)
+    (session_in c.call.new.self) c.args.calls.now c.loop-logged.logged-index c.logged-item.result
     c.in_ok-call.field-0 c.loop-logged-test.true c.logged-item.is c.in_ok-call.ensures) ∙ c.loop-logged.invariant
 
 pub returns : goal.returns

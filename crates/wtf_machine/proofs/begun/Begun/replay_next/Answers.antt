@@ -11,8 +11,10 @@ at_next : (c : goal.In_ok-due) → c.index.result.now ≡ get_or c.args.self.now
 at_next c = c.index.ensures ∙ ap (λ v. get_or v.items c.session.new.self.replayed c.index.result.now) c.session.ensures.calls
     ∙ ap (λ (t : Transaction). get_or c.args.self.now.calls.items t.replayed c.index.result.now) c.session.ensures.stays
 
-called : (c : goal.In_ok-due) → call c.args.self.now.cap (session_in c.in_ok-session.session) c.index.result.now.op ≡ record { session = session_in c.call.new.self; answer = c.in_ok-due.due }
-called c = subst (λ k. call k (session_in c.in_ok-session.session) c.index.result.now.op ≡ record { session = session_in c.call.new.self; answer = c.in_ok-due.due }) c.session.ensures.cap c.in_ok-due.ensures
+called : (c : goal.In_ok-due) → call c.args.self.now.cap (session_in c.in_ok-session.session) c.index.result.now.op
+    ≡ record { session = session_in c.call.new.self; answer = c.in_ok-due.due }
+called c = subst (λ k. call k (session_in c.in_ok-session.session) c.index.result.now.op
+    ≡ record { session = session_in c.call.new.self; answer = c.in_ok-due.due }) c.session.ensures.cap c.in_ok-due.ensures
 
 pub returns-clause-left : goal.returns-clause-left
 returns-clause-left c =
@@ -25,4 +27,5 @@ returns-clause-answers c =
     (session_in c.in_ok-session.session) (session_in c.call.new.self) c.in_ok-due.due c.requires.behind (at_next c) c.in_ok-session.ensures.left (called c)
 
 pub returns-clause-logged : goal.returns-clause-logged
-returns-clause-logged c = IsLogged-called c.session.new.self.cap (session_in c.in_ok-session.session) (session_in c.call.new.self) c.index.result.now.op c.in_ok-due.due c.in_ok-due.ensures
+returns-clause-logged c = IsLogged-called c.session.new.self.cap (session_in c.in_ok-session.session)
+    (session_in c.call.new.self) c.index.result.now.op c.in_ok-due.due c.in_ok-due.ensures

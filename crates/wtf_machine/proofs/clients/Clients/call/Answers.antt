@@ -38,7 +38,9 @@ returns-clause-decides c = λ t there.
     let lawful =
     subst (λ cap. IfOk c.call.result (λ yes. (m : Machine) → RunsWith cap c.args.servers m
     → (IsTrue yes ↔ MayCall m (open_in changed b) c.args.op.now c.args.answer.now))) (k.caps c.args.c b (sym c.in-Some.ensures.value)) c.call.ensures.lawful in
-    subst (λ (x : Transaction). IfOk c.call.result (λ yes. (m : Machine) → RunsWith k.cap c.args.servers m → Decides (MayCall m x c.args.op.now c.args.answer.now) (clients_in k) (called_in (clients_in k) c.args.c x c.args.op.now c.args.answer.now) new yes))
+    subst (λ (x : Transaction). IfOk c.call.result
+    (λ yes. (m : Machine) → RunsWith k.cap c.args.servers m
+    → Decides (MayCall m x c.args.op.now c.args.answer.now) (clients_in k) (called_in (clients_in k) c.args.c x c.args.op.now c.args.answer.now) new yes))
     (found_is changed k.items.entries c.args.c b t c.in-Some.ensures.value there)
     (decided_call c.call.result (RunsWith k.cap c.args.servers) (λ m. MayCall m (open_in changed b) c.args.op.now c.args.answer.now) (clients_in k) new c.args.c
     (open_in changed b) (open_in changed w) c.args.op.now c.args.answer.now

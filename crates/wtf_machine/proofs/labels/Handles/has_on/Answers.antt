@@ -12,4 +12,5 @@ use Rattle.wtf_machine.proofs.labels.Handles.has_on.Goals as goal
 pub loop-handle-init : goal.loop-handle-init
 loop-handle-init c =
     ap (list_any (is_on c.args.path.now))
-    (ap (map (λ e. handle_of e.1)) c.iter-rest.ensures.rest ∙ sym (values-map_of nat_cmp_total handle_of _ c.iter-rest.ensures.ordered) ∙ ap (λ (m : FinMap nat_cmp Handle). values m) c.self.view_is)
+    (ap (map (λ e. handle_of e.1)) c.iter-rest.ensures.rest ∙ sym (values-map_of nat_cmp_total handle_of _ c.iter-rest.ensures.ordered)
+    ∙ ap (λ (m : FinMap nat_cmp Handle). values m) c.self.view_is)

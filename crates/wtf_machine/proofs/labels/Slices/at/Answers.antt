@@ -8,4 +8,5 @@ use Rattle.wtf_machine.proofs.MapLaws.{get-map_of}
 use Rattle.wtf_machine.proofs.labels.Slices.at.Goals as goal
 
 pub returns : goal.returns
-returns c = ap (option_map rc_slice_items) c.get.ensures.value ∙ sym (get-map_of nat_cmp_total rc_slice_items _ c.args.label) ∙ ap (λ (m : FinMap nat_cmp (List ℕ)). get m c.args.label) c.self.view_is
+returns c = ap (option_map rc_slice_items) c.get.ensures.value ∙ sym (get-map_of nat_cmp_total rc_slice_items _ c.args.label)
+    ∙ ap (λ (m : FinMap nat_cmp (List ℕ)). get m c.args.label) c.self.view_is

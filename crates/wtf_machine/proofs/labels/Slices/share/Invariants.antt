@@ -8,7 +8,8 @@ use Rattle.wtf_machine.proofs.labels.Slices.share.Given as goal
 
 -- what was taken from the back is shared already
 abbrev pub invariant-loop-label : goal.invariant-loop-label
-invariant-loop-label l = (done : List (ℕ × RcSlice ℕ Global)) × (l.self ≡ map_of nat_cmp rc_slice_items (l.rest ++ done)) × (l.shared ≡ map_of nat_cmp rc_slice_items done)
+invariant-loop-label l = (done : List (ℕ × RcSlice ℕ Global)) × (l.self ≡ map_of nat_cmp rc_slice_items (l.rest ++ done))
+    × (l.shared ≡ map_of nat_cmp rc_slice_items done)
 
 abbrev pub decreases-loop-label : goal.decreases-loop-label
 decreases-loop-label l = length l.rest

@@ -15,4 +15,6 @@ returns-clause-decides c = λ t there.
     let a = c.args.answer.now in
     let ts = clients_in k.clients in
     decided_all c.call.result _ m _ (called_in ts c.args.c t o a) (clients_in c.call.new.self) (called_is m c.args.c t o a)
-    (for_one c.call.result (RunsWith k.clients.cap k.settings.servers) (λ (x : Machine). Decides (MayCall x t o a) ts (called_in ts c.args.c t o a) (clients_in c.call.new.self)) m (sym k.cap_is, refl) (c.call.ensures.decides t there))
+    (for_one c.call.result (RunsWith k.clients.cap k.settings.servers)
+    (λ (x : Machine). Decides (MayCall x t o a) ts (called_in ts c.args.c t o a) (clients_in c.call.new.self)) m (sym k.cap_is, refl)
+    (c.call.ensures.decides t there))

@@ -71,7 +71,8 @@ returns-in-Call-clause-decides c =
     let a = c.args.answer.now in
     let new = machine_in c.call.new.self in
     at_verb c.call.result m new c.args.c found _ (verb.Call c.in-Call.op) a c.in-Call.is
-    (called_client c.call.result m c.args.c found c.in-Call.op a new (ap (client_refusal found) (sym c.in-Call.is) ∙ sym c.in_default.ensures) c.call.ensures.decides)
+    (called_client c.call.result m c.args.c found c.in-Call.op a new
+    (ap (client_refusal found) (sym c.in-Call.is) ∙ sym c.in_default.ensures) c.call.ensures.decides)
 
 pub returns-in-Call-clause-err : goal.returns-in-Call-clause-err
 returns-in-Call-clause-err c = c.call.ensures.err

@@ -14,4 +14,6 @@ returns-clause-decides c = λ t there.
     let a = c.args.answer.now in
     let ts = clients_in k.clients in
     decided_all c.step.result _ m _ (stepped_in ts c.args.c t a) (clients_in c.step.new.self) (stepped_is m c.args.c t a)
-    (for_one c.step.result (RunsWith k.clients.cap k.settings.servers) (λ (x : Machine). Decides (MayStep x t a) ts (stepped_in ts c.args.c t a) (clients_in c.step.new.self)) m (sym k.cap_is, refl) (c.step.ensures.decides t there))
+    (for_one c.step.result (RunsWith k.clients.cap k.settings.servers)
+    (λ (x : Machine). Decides (MayStep x t a) ts (stepped_in ts c.args.c t a) (clients_in c.step.new.self)) m (sym k.cap_is, refl)
+    (c.step.ensures.decides t there))

@@ -14,7 +14,8 @@ pub returns-then-eq : goal.returns-then-eq
 returns-then-eq c =
     let left = ap (λ es. find (slice_cmp nat_cmp) c.args.path.now (seen node_of es)) c.in-Some.ensures.steps in
     let same = ap (λ at. bytes_eq at c.args.path.now) (sym c.as_bytes.ensures.value) ∙ sym c.eq.ensures ∙ c.if-eq.true in
-    folder-here _ c.in-Some.node.now _ (find-here c.in-Some.at.now c.args.path.now c.in-Some.node.now c.next.new.self _ (sym left ∙ c.loop-at.invariant) same) c.is_folder.ensures
+    folder-here _ c.in-Some.node.now _
+    (find-here c.in-Some.at.now c.args.path.now c.in-Some.node.now c.next.new.self _ (sym left ∙ c.loop-at.invariant) same) c.is_folder.ensures
 
 pub loop-at-preserved : goal.loop-at-preserved
 loop-at-preserved c =

@@ -8,4 +8,5 @@ pub returns-in-Err : goal.returns-in-Err
 returns-in-Err c = λ cap. call-create_refused cap (session_in c.args.self.now) c.args.p.now _ (sym c.in-Err.ensures)
 
 pub returns : goal.returns
-returns c = λ cap. create-done cap (session_in c.args.self.now) c.args.p.now _ _ _ (sym c.in_default.ensures) c.in_ok-p.ensures c.new.ensures.items c.in_ok-put_file.ensures
+returns c = λ cap. create-done cap (session_in c.args.self.now) c.args.p.now _ _ _
+    (sym c.in_default.ensures) c.in_ok-p.ensures c.new.ensures.items c.in_ok-put_file.ensures

@@ -9,7 +9,8 @@ returns-in_default c cap = peek-none cap (session_in c.args.self.now) c.args.fro
 
 pub returns-then-not-is_within : goal.returns-then-not-is_within
 returns-then-not-is_within c cap =
-    peek-outside cap (session_in c.args.self.now) c.args.from c.args.off c.args.len (sym c.in-Some.ensures) c.as_slice-bytes.ensures.value c.if-not-is_within.ensures.1
+    peek-outside cap (session_in c.args.self.now) c.args.from c.args.off c.args.len
+    (sym c.in-Some.ensures) c.as_slice-bytes.ensures.value c.if-not-is_within.ensures.1
 
 pub returns : goal.returns
 returns c cap =
