@@ -54,13 +54,13 @@ module _ (b : ℕ) (told : Told) (w : Map) where
   parent-is : (v : Option Value) (o : Option TreeNode) → NodeAt b told w v o → as_parent (node_of v) ≡ is_parent o
   parent-is None None at = refl
   parent-is None (Some Dir) at = absurd at
-  parent-is None (Some (File bytes)) at = absurd at
+  parent-is None (Some (File paths bytes)) at = absurd at
   parent-is (Some (value.Node Folder)) None at = absurd at
   parent-is (Some (value.Node Folder)) (Some Dir) at = refl
-  parent-is (Some (value.Node Folder)) (Some (File bytes)) at = absurd at
+  parent-is (Some (value.Node Folder)) (Some (File paths bytes)) at = absurd at
   parent-is (Some (value.Node (FileNode i))) None at = absurd at
   parent-is (Some (value.Node (FileNode i))) (Some Dir) at = absurd at
-  parent-is (Some (value.Node (FileNode i))) (Some (File bytes)) at = refl
+  parent-is (Some (value.Node (FileNode i))) (Some (File paths bytes)) at = refl
   parent-is (Some (value.Names s)) o at = absurd at
   parent-is (Some (value.Last r)) o at = absurd at
   parent-is (Some (value.Region g)) o at = absurd at
@@ -68,13 +68,13 @@ module _ (b : ℕ) (told : Told) (w : Map) where
   free-is : (v : Option Value) (o : Option TreeNode) → NodeAt b told w v o → as_free (node_of v) ≡ is_free o
   free-is None None at = refl
   free-is None (Some Dir) at = absurd at
-  free-is None (Some (File bytes)) at = absurd at
+  free-is None (Some (File paths bytes)) at = absurd at
   free-is (Some (value.Node Folder)) None at = absurd at
   free-is (Some (value.Node Folder)) (Some Dir) at = refl
-  free-is (Some (value.Node Folder)) (Some (File bytes)) at = absurd at
+  free-is (Some (value.Node Folder)) (Some (File paths bytes)) at = absurd at
   free-is (Some (value.Node (FileNode i))) None at = absurd at
   free-is (Some (value.Node (FileNode i))) (Some Dir) at = absurd at
-  free-is (Some (value.Node (FileNode i))) (Some (File bytes)) at = refl
+  free-is (Some (value.Node (FileNode i))) (Some (File paths bytes)) at = refl
   free-is (Some (value.Names s)) o at = absurd at
   free-is (Some (value.Last r)) o at = absurd at
   free-is (Some (value.Region g)) o at = absurd at
@@ -82,13 +82,13 @@ module _ (b : ℕ) (told : Told) (w : Map) where
   directory-is : (v : Option Value) (o : Option TreeNode) → NodeAt b told w v o → as_directory (node_of v) ≡ is_directory o
   directory-is None None at = refl
   directory-is None (Some Dir) at = absurd at
-  directory-is None (Some (File bytes)) at = absurd at
+  directory-is None (Some (File paths bytes)) at = absurd at
   directory-is (Some (value.Node Folder)) None at = absurd at
   directory-is (Some (value.Node Folder)) (Some Dir) at = refl
-  directory-is (Some (value.Node Folder)) (Some (File bytes)) at = absurd at
+  directory-is (Some (value.Node Folder)) (Some (File paths bytes)) at = absurd at
   directory-is (Some (value.Node (FileNode i))) None at = absurd at
   directory-is (Some (value.Node (FileNode i))) (Some Dir) at = absurd at
-  directory-is (Some (value.Node (FileNode i))) (Some (File bytes)) at = refl
+  directory-is (Some (value.Node (FileNode i))) (Some (File paths bytes)) at = refl
   directory-is (Some (value.Names s)) o at = absurd at
   directory-is (Some (value.Last r)) o at = absurd at
   directory-is (Some (value.Region g)) o at = absurd at
@@ -96,10 +96,10 @@ module _ (b : ℕ) (told : Told) (w : Map) where
   file-refused : (word : Word) (v : Option Value) (o : Option TreeNode) → NodeAt b told w v o → as_file (node_of v) ≡ Err word → bytes_of o ≡ Err word
   file-refused word None None at e = cc
   file-refused word None (Some Dir) at e = absurd at
-  file-refused word None (Some (File bytes)) at e = absurd at
+  file-refused word None (Some (File paths bytes)) at e = absurd at
   file-refused word (Some (value.Node Folder)) None at e = absurd at
   file-refused word (Some (value.Node Folder)) (Some Dir) at e = cc
-  file-refused word (Some (value.Node Folder)) (Some (File bytes)) at e = absurd at
+  file-refused word (Some (value.Node Folder)) (Some (File paths bytes)) at e = absurd at
   file-refused word (Some (value.Node (FileNode i))) o at e = absurd (cc)
   file-refused word (Some (value.Names s)) o at e = absurd at
   file-refused word (Some (value.Last r)) o at e = absurd at

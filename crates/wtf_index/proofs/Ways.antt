@@ -16,14 +16,14 @@ use Rattle.wtf_model.specs.declared.answer.Answer.TheVariants as answer
 use Rattle.wtf_model.specs.declared.item.Item.TheVariants.{NodeOf, BodyOf}
 use Rattle.wtf_model.specs.declared.op.Op.{Op}
 use Rattle.wtf_model.specs.declared.op.Op.TheVariants as op
-use Rattle.wtf_model.specs.Tree.{Tree, Dir, root, bytes_of, target, is_directory, is_empty}
+use Rattle.wtf_model.specs.Tree.{Tree, Dir, File, root, bytes_of, target, is_directory, is_empty}
 use Rattle.wtf_model.specs.Session.{Session}
-use Rattle.wtf_model.specs.Done.{Done, is_closed, put_node, add_file, take_out, move_file}
+use Rattle.wtf_model.specs.Done.{Done, is_closed, put_node, add_file, take_out, drop_path, move_file}
 use Rattle.wtf_model.specs.NameCalls.{is_not_root}
 use Rattle.wtf_model.specs.Call.{call}
 use Rattle.wtf_model.specs.Items.{target_reads, source_reads, folder_reads, reads, changes, writes}
 use Rattle.wtf_model.proofs.ItemLaws.{is_among-head}
-use Rattle.wtf_model.proofs.TreeLaws.{IsTree-taken, nothing_in, file_not_root}
+use Rattle.wtf_model.proofs.TreeLaws.{IsTree-taken, nothing_in}
 use Rattle.wtf_model.proofs.NameLaws.{mkdir-by, create-by, rmdir-by, list-by, unlink-by, rename-by}
 use Rattle.wtf_values.specs.declared.key.Key.{Key}
 use Rattle.wtf_values.specs.declared.key.Key.TheVariants.{Path}
@@ -177,7 +177,7 @@ module _ (x : Caller) (b : Map) where
       due_is x told w (with (rmdir_edits dir p) w) s (call (cap_for x) S (op.Rmdir p)) left answer.Okay
       (rmdir-by (cap_for x) S p (Ok tt) (Ok tt) (Ok tt) (not_root p dir up) (ap is_directory found.there) empty)
       (done-rmdir x told w s S st holds p dir up found.there found.folder
-      (IsTree-taken t p st.tree_is other (λ q here in_p. nothing_in t p q empty here in_p))
+      (IsTree-taken t p st.tree_is other found.there (λ q here in_p. nothing_in t p q empty here in_p))
       (λ q here in_p. nothing_in t p q empty here in_p)))
     where
       root_inner : (p dir : List ℕ) → p ≡ root → parent_of p ≡ Some dir → ⊥
@@ -191,7 +191,8 @@ module _ (x : Caller) (b : Map) where
   no_root : (told : Told) (w : Map) (t : Tree) (p : List ℕ) (i : InodeId) → Stands x.size told x.tx x.calls w t → IsPath p → parent_of p ≡ None → source_of w p ≡ Ok i → ⊥
   no_root told w t p i st path none e =
       let file = leads-file x.size told x.tx x.calls w t st p i (source-leads w p i e) in
-      file_not_root t p file.bytes st.tree_is file.there (no-parent p path none)
+      let both_are : Some (File file.paths file.bytes) ≡ Some Dir = sym file.there ∙ (ap (get t) (no-parent p path none) ∙ st.tree_is.top) in
+      absurd (cc)
 
   pub unlink-root : (p : List ℕ) (i : InodeId) (a : Answer) → IsPath p → parent_of p ≡ None → source_of b p ≡ Ok i → IsWay x b (source_keys p) [] (op.Unlink p) a
   unlink-root p i a path none e = stay (source_keys p) (op.Unlink p) a (λ w S. source_read x.tx b w p []) (λ told w s S off agree st holds.
@@ -205,10 +206,10 @@ module _ (x : Caller) (b : Map) where
       (λ told w s S off agree st holds.
       let leads : LeadsTo w p i = source-leads w p i (source-agrees b w p agree ∙ e) in
       let file = leads-file x.size told x.tx x.calls w S.tree st p i leads in
-      let left : Done = record { session = take_out S p; answer = answer.Okay } in
+      let left : Done = record { session = drop_path S p file.bytes; answer = answer.Okay } in
       due_is x told w (with (unlink_edits dir p i) w) s (call (cap_for x) S (op.Unlink p)) left answer.Okay
       (unlink-by (cap_for x) S p (Ok file.bytes) (Ok tt) (ap bytes_of file.there) (closed-off told w s S p holds off))
-      (done-unlink x told w s S st holds p dir file.bytes i up file.there leads off))
+      (done-unlink x told w s S st holds p dir file.paths file.bytes i up file.there leads off))
 
   pub rename-refused : (p q : List ℕ) (word : Word) → source_of b p ≡ Err word → IsWay x b (source_keys p) [] (op.Rename p q) (answer.Refused word)
   rename-refused p q word e = stay (source_keys p) (op.Rename p q) (answer.Refused word) (λ w S. source_read x.tx b w p (BodyOf p ∷ target_reads q))
@@ -247,4 +248,4 @@ module _ (x : Caller) (b : Map) where
       let left : Done = record { session = move_file S p q file.bytes; answer = answer.Okay } in
       due_is x told w (with (rename_edits up p dir q i) w) s (call (cap_for x) S (op.Rename p q)) left answer.Okay
       (rename-by (cap_for x) S p q (Ok file.bytes) (Ok tt) (Ok tt) (ap bytes_of file.there) (closed-off told w s S p holds off) (target-free x.size told x.tx x.calls w S.tree st q dir here))
-      (subst (λ d. IsDone x told w (with (rename_edits up p d q i) w) s left answer.Okay) open_q.same (done-rename x told w s S st holds p up q file.bytes i above file.there leads off path open_q.free)))
+      (subst (λ d. IsDone x told w (with (rename_edits up p d q i) w) s left answer.Okay) open_q.same (done-rename x told w s S st holds p up q file.paths file.bytes i above file.there leads off path open_q.free)))

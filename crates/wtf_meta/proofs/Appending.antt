@@ -21,10 +21,12 @@ use Rattle.wtf_meta.proofs.OneRegion.{put_at, put_else, laid_in_file, laid_elsew
 rel : FileView → ℕ → List Piece → FileView
 rel v r ps = put_region v r (Some (with_pieces (or_empty (v.region r)) ps))
 
-rel_ends : (b : ℕ) (v : FileView) (ps : List Piece) (q : ℕ) → b < 2 ^ 32 → end_of (v.region v.last) + pieces_len ps ≤ b → IsFile b v → end_of ((rel v v.last ps).region q) ≤ b
+rel_ends : (b : ℕ) (v : FileView) (ps : List Piece) (q : ℕ) → b < 2 ^ 32 → end_of (v.region v.last) + pieces_len ps ≤ b → IsFile b v
+    → end_of ((rel v v.last ps).region q) ≤ b
 unfolding rel
 rel_ends b v ps q small fits is = elim (cases_eq q v.last) [
-  | inl e ↦ subst (λ j. end_of ((rel v v.last ps).region j) ≤ b) (sym e) (subst (λ w. end_of w ≤ b) (sym (put_at v v.last (Some (with_pieces (or_empty (v.region v.last)) ps))))
+  | inl e ↦ subst (λ j. end_of ((rel v v.last ps).region j) ≤ b) (sym e)
+      (subst (λ w. end_of w ≤ b) (sym (put_at v v.last (Some (with_pieces (or_empty (v.region v.last)) ps))))
       (omega (arith, with_pieces-end (or_empty (v.region v.last)) ps (omega arith))))
   | inr differ ↦ subst (λ w. end_of w ≤ b) (sym (put_else v v.last q (Some (with_pieces (or_empty (v.region v.last)) ps)) differ)) (is.ends q)
 ]
@@ -45,7 +47,8 @@ rel_origin b lists v ps q y small fits h = elim (cases_eq q v.last) [
       ∙ laid_elsewhere b v.last q (end_of (v.region v.last)) (pieces_len ps) (pieces_origin ps) (file_origin b lists v) y h fits differ
 ]
 
-rel_last : (v : FileView) (ps : List Piece) → end_of (v.region v.last) + pieces_len ps < 2 ^ 32 → end_of ((rel v v.last ps).region v.last) ≡ end_of (v.region v.last) + pieces_len ps
+rel_last : (v : FileView) (ps : List Piece) → end_of (v.region v.last) + pieces_len ps < 2 ^ 32
+    → end_of ((rel v v.last ps).region v.last) ≡ end_of (v.region v.last) + pieces_len ps
 unfolding rel
 rel_last v ps small = ap end_of (put_at v v.last (Some (with_pieces (or_empty (v.region v.last)) ps))) ∙ with_pieces-end (or_empty (v.region v.last)) ps small
 
@@ -59,7 +62,9 @@ pub AddedTo-rel : (b : ℕ) (v : FileView) (ps : List Piece) → 0 < b → b < 2
 unfolding rel
 AddedTo-rel b v ps pos small is fit =
     let room : end_of (v.region v.last) + pieces_len ps ≤ b = leb-true _ _ (and_parts _ _ fit).0 in
-    let made : after (PushRel v.last ps b ∷ []) v ≡ rel v v.last ps = ap (put_region v v.last) (cond-true (fits_at_end (v.region v.last) ps b) (Some (with_pieces (or_empty (v.region v.last)) ps)) (v.region v.last) (and_parts _ _ fit).0) in
+    let made : after (PushRel v.last ps b ∷ []) v ≡ rel v v.last ps =
+    ap (put_region v v.last)
+    (cond-true (fits_at_end (v.region v.last) ps b) (Some (with_pieces (or_empty (v.region v.last)) ps)) (v.region v.last) (and_parts _ _ fit).0) in
     record {
       keeps = subst (IsFile b) (sym made) (record {
         ends = λ q. rel_ends b v ps q small room is;
@@ -67,14 +72,16 @@ AddedTo-rel b v ps pos small is fit =
         some = λ h. omega (arith, rel_last v ps (omega arith), is.some h);
         few = is.few;
       });
-      len = ap (file_len b) made ∙ (let d : v.last * b + end_of ((rel v v.last ps).region v.last) ≡ file_len b v + pieces_len ps = omega (arith, rel_last v ps (omega arith)) in d);
+      len = ap (file_len b) made ∙ (let d : v.last * b + end_of ((rel v v.last ps).region v.last) ≡ file_len b v + pieces_len ps =
+          omega (arith, rel_last v ps (omega arith)) in d);
       origin = λ lists x. ap (λ (w : FileView). file_origin b lists w x) made
           ∙ by_places (λ x. file_origin b lists (rel v v.last ps) x ≡ laid (file_len b v) (pieces_len ps) (pieces_origin ps) (file_origin b lists v) x) b pos
           (λ q y h. at_place b lists (rel v v.last ps) q y h ∙ rel_origin b lists v ps q y small room h) x;
     }
 
 -- and those that are laid at its end
-pub AddedTo-laid : (b : ℕ) (ds : List FileEdit) (n : ℕ) (f : ℕ → List Place) (off : ℕ) (v : FileView) → 0 < n → IsFile b v → file_len b v ≡ off → Lays b ds off n f → AddedTo b ds n f v
+pub AddedTo-laid : (b : ℕ) (ds : List FileEdit) (n : ℕ) (f : ℕ → List Place) (off : ℕ) (v : FileView) → 0 < n → IsFile b v → file_len b v ≡ off
+    → Lays b ds off n f → AddedTo b ds n f v
 AddedTo-laid b ds n f off v some is at lays = record {
   keeps = lays.keeps v is;
   len = lays.len v is ∙ grown_some (file_len b v) off n some ∙ omega arith;
@@ -91,7 +98,8 @@ keys_rel b v n some room = cond-false (nat_eq n 0) _ _ (ne_eqb n 0 some) ∙ con
 
 -- and its value too, where they do not
 pub keys_laid : (b : ℕ) (v : FileView) (n : ℕ) → n ≢ 0 → b < end_of (v.region v.last) + n → append_keys b v n ≡ length_keys v
-keys_laid b v n some full = cond-false (nat_eq n 0) _ _ (ne_eqb n 0 some) ∙ cond-false (nat_le (end_of (v.region v.last) + n) b) _ _ (lt-leb (end_of (v.region v.last) + n) b full)
+keys_laid b v n some full = cond-false (nat_eq n 0) _ _ (ne_eqb n 0 some)
+    ∙ cond-false (nat_le (end_of (v.region v.last) + n) b) _ _ (lt-leb (end_of (v.region v.last) + n) b full)
 
 -- no bytes
 pub Appends-none : (b : ℕ) (read : FileView) (keys : List FileKey) (n : ℕ) (f : ℕ → List Place) → n ≡ 0 → Appends b read keys [] n f
@@ -112,14 +120,17 @@ Appends-rel b read ps pos small some room = record {
   fit = and_from _ true (le-leb _ b room) refl;
   each = λ v is agree fit.
       let same : read.last ≡ v.last = (subst (λ ks. AgreeOn ks read v) (keys_rel b read (pieces_len ps) some room) agree).0 in
-      subst (λ l. all_fit (PushRel l ps b ∷ []) v ≡ true → AddedTo b (PushRel l ps b ∷ []) (pieces_len ps) (pieces_origin ps) v) (sym same) (AddedTo-rel b v ps pos small is) fit;
+      subst (λ l. all_fit (PushRel l ps b ∷ []) v ≡ true
+      → AddedTo b (PushRel l ps b ∷ []) (pieces_len ps) (pieces_origin ps) v) (sym same) (AddedTo-rel b v ps pos small is) fit;
 }
 
-same_len : (b : ℕ) (read v : FileView) (n : ℕ) → n ≢ 0 → b < end_of (read.region read.last) + n → AgreeOn (append_keys b read n) read v → file_len b v ≡ file_len b read
+same_len : (b : ℕ) (read v : FileView) (n : ℕ) → n ≢ 0 → b < end_of (read.region read.last) + n → AgreeOn (append_keys b read n) read v
+    → file_len b v ≡ file_len b read
 same_len b read v n some full agree = agree_len b read v (subst (λ ks. AgreeOn ks read v) (keys_laid b read n some full) agree)
 
 -- those that do not, at the length that was read
-pub Appends-laid : (b : ℕ) (read : FileView) (ds : List FileEdit) (n : ℕ) (f : ℕ → List Place) → n ≢ 0 → b < end_of (read.region read.last) + n → Lays b ds (file_len b read) n f
+pub Appends-laid : (b : ℕ) (read : FileView) (ds : List FileEdit) (n : ℕ) (f : ℕ → List Place) → n ≢ 0 → b < end_of (read.region read.last) + n
+    → Lays b ds (file_len b read) n f
     → Appends b read (append_keys b read n) ds n f
 Appends-laid b read ds n f some full lays = record {
   fit = lays.fit read;
@@ -127,7 +138,8 @@ Appends-laid b read ds n f some full lays = record {
 }
 
 -- no file has room where the one that was read has none
-pub HasNoRoom-full : (b : ℕ) (read : FileView) (n : ℕ) → n ≢ 0 → b < end_of (read.region read.last) + n → MAX_REGIONS * b < file_len b read + n → HasNoRoom b read (append_keys b read n) n
+pub HasNoRoom-full : (b : ℕ) (read : FileView) (n : ℕ) → n ≢ 0 → b < end_of (read.region read.last) + n → MAX_REGIONS * b < file_len b read + n
+    → HasNoRoom b read (append_keys b read n) n
 HasNoRoom-full b read n some full big = record {
   each = λ v is agree. omega (arith, same_len b read v n some full agree);
 }

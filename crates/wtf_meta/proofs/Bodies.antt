@@ -15,7 +15,8 @@ use Rattle.wtf_meta.specs.Trees.{IsBody}
 pub file-stays : (old new : Map) (i : InodeId) → new (Inode i) ≡ old (Inode i) → ((r : ℕ) → new (Region i r) ≡ old (Region i r)) → file_of i new ≡ file_of i old
 file-stays old new i inode regions = λ z. record { last = last_of (inode z); region = fun_ext (λ r. ap region_of (regions r)) z }
 
-pub body-stays : (b : ℕ) (told : Told) (old new : Map) (i : InodeId) (bytes : List ℕ) → new (Inode i) ≡ old (Inode i) → ((r : ℕ) → new (Region i r) ≡ old (Region i r)) → IsBody b told old i bytes → IsBody b told new i bytes
+pub body-stays : (b : ℕ) (told : Told) (old new : Map) (i : InodeId) (bytes : List ℕ) → new (Inode i) ≡ old (Inode i)
+    → ((r : ℕ) → new (Region i r) ≡ old (Region i r)) → IsBody b told old i bytes → IsBody b told new i bytes
 body-stays b told old new i bytes inode regions is =
     let same : file_of i old ≡ file_of i new = sym (file-stays old new i inode regions) in
     record {

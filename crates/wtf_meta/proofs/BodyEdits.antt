@@ -1,5 +1,5 @@
 -- The bytes of an inode's file once changes of a file were made over a map.
-use Rattle.std.proofs.Common.{◌≡◌, ◌≢◌, ℕ, ◌+◌, ◌<◌, ◌++◌, List, [], ◌∷◌, length, refl, ap, sym, ◌∙◌, subst, arith, inl, inr}
+use Rattle.std.proofs.Common.{◌≡◌, ℕ, ◌+◌, ◌<◌, ◌++◌, List, [], ◌∷◌, length, refl, ap, sym, ◌∙◌, subst, arith, inl, inr}
 use Rattle.std.proofs.lemmas.Bool.{cases_eq}
 use Rattle.std.proofs.lemmas.List.{append-nil, drop_all}
 use Rattle.wtf_base.specs.declared.ids.InodeId.{InodeId}
@@ -14,12 +14,12 @@ use Rattle.wtf_meta.specs.Appends.{FileKey, AgreeOn, Appends}
 use Rattle.wtf_meta.specs.Trees.{IsBody}
 use Rattle.wtf_meta.proofs.Edits.{file_after, has_after}
 use Rattle.wtf_meta.proofs.Fitting.{all_fit_from}
-use Rattle.wtf_meta.proofs.Frame.{file_stays, has_stays}
 use Rattle.wtf_meta.proofs.Written.{Lays-bytes, Lays-no_bytes, AddedTo-bytes, Truncates-bytes, Clears-bytes}
 
 module _ (b : ℕ) (told : Told) (i : InodeId) (ds : List FileEdit) (w : Map) where
   -- what is said of the file after the changes is so of the map after them
-  pub body_after : (bytes : List ℕ) → HasFile i w → IsFile b (after ds (file_of i w)) → HasBytes told b (after ds (file_of i w)) bytes → IsBody b told (with (edits_of i ds) w) i bytes
+  pub body_after : (bytes : List ℕ) → HasFile i w → IsFile b (after ds (file_of i w)) → HasBytes told b (after ds (file_of i w)) bytes
+      → IsBody b told (with (edits_of i ds) w) i bytes
   body_after bytes has file are =
       let same = sym (file_after i ds w has) in
       record { has = has_after i ds w has; file = subst (IsFile b) same file; bytes_are = subst (λ (v : FileView). HasBytes told b v bytes) same are }
@@ -28,15 +28,18 @@ module _ (b : ℕ) (told : Told) (i : InodeId) (ds : List FileEdit) (w : Map) wh
   pub body_written : (off n : ℕ) (f : ℕ → List Place) (old new : List ℕ) → 0 < n → Lays b ds off n f → TellBytes told n f new → IsBody b told w i old
       → IsBody b told (with (edits_of i ds) w) i (written old off new)
   body_written off n f old new some lays tell body =
-      body_after (written old off new) body.has (lays.keeps (file_of i w) body.file) (Lays-bytes told b ds off n f (file_of i w) old new some lays body.file tell body.bytes_are)
+      body_after (written old off new) body.has (lays.keeps (file_of i w) body.file)
+      (Lays-bytes told b ds off n f (file_of i w) old new some lays body.file tell body.bytes_are)
 
   -- no byte changes nothing
-  pub body_unwritten : (off n : ℕ) (f : ℕ → List Place) (old : List ℕ) → n ≡ 0 → Lays b ds off n f → IsBody b told w i old → IsBody b told (with (edits_of i ds) w) i old
+  pub body_unwritten : (off n : ℕ) (f : ℕ → List Place) (old : List ℕ) → n ≡ 0 → Lays b ds off n f → IsBody b told w i old
+      → IsBody b told (with (edits_of i ds) w) i old
   body_unwritten off n f old none lays body =
       body_after old body.has (lays.keeps (file_of i w) body.file) (Lays-no_bytes told b ds off n f (file_of i w) old none lays body.file body.bytes_are)
 
   -- bytes that are added at the file's end
-  pub body_added : (read : FileView) (keys : List FileKey) (n : ℕ) (f : ℕ → List Place) (old new : List ℕ) → Appends b read keys ds n f → AgreeOn keys read (file_of i w) → AllFit (edits_of i ds) w
+  pub body_added : (read : FileView) (keys : List FileKey) (n : ℕ) (f : ℕ → List Place) (old new : List ℕ) → Appends b read keys ds n f
+      → AgreeOn keys read (file_of i w) → AllFit (edits_of i ds) w
       → TellBytes told n f new → IsBody b told w i old → IsBody b told (with (edits_of i ds) w) i (old ++ new)
   body_added read keys n f old new adds agree fit tell body =
       let added = adds.each (file_of i w) body.file agree (all_fit_from i ds w body.has fit) in
@@ -50,16 +53,12 @@ module _ (b : ℕ) (told : Told) (i : InodeId) (ds : List FileEdit) (w : Map) wh
   -- a file in which holes are made
   pub body_zeroed : (off n : ℕ) (old : List ℕ) → Clears b ds off n → IsBody b told w i old → IsBody b told (with (edits_of i ds) w) i (zeroed old off n)
   body_zeroed off n old clears body =
-      body_after (zeroed old off n) body.has (clears.keeps (file_of i w) body.file) (Clears-bytes told b ds off n (file_of i w) old clears body.file body.bytes_are)
-
-  -- another file
-  pub body_other : (j : InodeId) (bytes : List ℕ) → i ≢ j → IsBody b told w j bytes → IsBody b told (with (edits_of i ds) w) j bytes
-  body_other j bytes differ body =
-      let same = sym (file_stays i j ds w differ) in
-      record { has = has_stays i j ds w differ body.has; file = subst (IsFile b) same body.file; bytes_are = subst (λ (v : FileView). HasBytes told b v bytes) same body.bytes_are }
+      body_after (zeroed old off n) body.has (clears.keeps (file_of i w) body.file)
+      (Clears-bytes told b ds off n (file_of i w) old clears body.file body.bytes_are)
 
   -- bytes that are laid over a file without any
-  pub body_filled : (n : ℕ) (f : ℕ → List Place) (new : List ℕ) → Lays b ds 0 n f → TellBytes told n f new → IsBody b told w i [] → IsBody b told (with (edits_of i ds) w) i new
+  pub body_filled : (n : ℕ) (f : ℕ → List Place) (new : List ℕ) → Lays b ds 0 n f → TellBytes told n f new → IsBody b told w i []
+      → IsBody b told (with (edits_of i ds) w) i new
   body_filled n f new lays tell body = elim (cases_eq n 0) [
     | inl none ↦ subst (IsBody b told (with (edits_of i ds) w) i) (no_byte new (sym tell.len ∙ none)) (body_unwritten 0 n f [] none lays body)
     | inr some ↦ subst (IsBody b told (with (edits_of i ds) w) i) (written_all new) (body_written 0 n f [] new (omega arith) lays tell body)

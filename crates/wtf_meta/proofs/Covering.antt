@@ -1,5 +1,6 @@
 -- Changes that lay bytes over the regions of a file.
-use Rattle.std.proofs.Common.{◌≡◌, ◌≢◌, ℕ, ◌+◌, ◌-◌, ◌*◌, ◌<◌, ◌≤◌, ◌++◌, max, min, true, nat_lt, List, [], ◌∷◌, Some, refl, ap, sym, ◌∙◌, subst, arith, inl, inr}
+use Rattle.std.proofs.Common.{◌≡◌, ◌≢◌, ℕ, ◌+◌, ◌-◌, ◌*◌, ◌<◌, ◌≤◌, ◌++◌, max, min, true, nat_lt, List, [], ◌∷◌, Some, refl, ap, sym, ◌∙◌, subst, arith, inl}
+use Rattle.std.proofs.Common.{inr}
 use Rattle.std.proofs.lemmas.Bool.{lt-ltb, le-ltb, cond-true, cond-false, cases_eq, cases_order, and_parts, and_from}
 use Rattle.std.proofs.lemmas.Bool.Decides.{nat_tests}
 use Rattle.wtf_overlay.specs.declared.part.Entry.{Entry}
@@ -57,7 +58,8 @@ Covers-none b off f = record {
 }
 
 -- the deltas of a range and then those of the range that follows
-pub Covers-join : (b : ℕ) (ds es : List FileEdit) (off n m : ℕ) (f g : ℕ → List Place) → Covers b ds off n f → Covers b es (off + n) m g → Covers b (ds ++ es) off (n + m) (joined n f g)
+pub Covers-join : (b : ℕ) (ds es : List FileEdit) (off n m : ℕ) (f g : ℕ → List Place) → Covers b ds off n f → Covers b es (off + n) m g
+    → Covers b (ds ++ es) off (n + m) (joined n f g)
 Covers-join b ds es off n m f g first next = record {
   fit = λ v. all_fit-append ds es v (first.fit v) (next.fit (after ds v));
   last = λ v. ap (λ (w : FileView). w.last) (after-append ds es v) ∙ next.last (after ds v) ∙ first.last v;
@@ -103,7 +105,8 @@ Covers-push b r off e pos fits at = subst (λ o. Covers b (Push r e ∷ []) o e.
   fit = λ v. refl;
   last = λ v. refl;
   ends = λ v q. elim (cases_eq q r) [
-    | inl is ↦ subst (λ k. end_of ((put_region v r (Some (pushed (v.region r) e))).region k) ≡ max (end_of (v.region k)) (reach b (r * b + e.off) e.len (k * b))) (sym is)
+    | inl is ↦ subst (λ k. end_of ((put_region v r (Some (pushed (v.region r) e))).region k) ≡ max (end_of (v.region k))
+        (reach b (r * b + e.off) e.len (k * b))) (sym is)
         (ap end_of (put_at v r (Some (pushed (v.region r) e))) ∙ ap (max (end_of (v.region r))) (sym (push_reaches b r e fits)))
     | inr differ ↦ ap end_of (put_else v r q (Some (pushed (v.region r) e)) differ) ∙ omega (arith, push_reach b r q e fits differ)
   ];

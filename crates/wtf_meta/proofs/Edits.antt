@@ -1,5 +1,6 @@
 -- The file that a map shows after changes of it is the file after the changes.
-use Rattle.std.proofs.Common.{◌≡◌, ℕ, ◌+◌, max, Bool, true, false, cond, if◌then◌else◌, ◌&&◌, nat_lt, nat_le, List, [], ◌∷◌, ◌++◌, Option, None, Some, refl, ap, sym, ◌∙◌, subst, arith}
+use Rattle.std.proofs.Common.{◌≡◌, ℕ, ◌+◌, max, Bool, true, false, cond, if◌then◌else◌, ◌&&◌, nat_lt, nat_le, List, [], ◌∷◌, ◌++◌, Option, None, Some, refl, ap}
+use Rattle.std.proofs.Common.{sym, ◌∙◌, subst, arith}
 use Rattle.std.proofs.lemmas.Bool.{cond-true}
 use Rattle.std.proofs.lemmas.Bool.Decides.{nat_tests}
 use Rattle.std.proofs.lemmas.List.{map-append}
@@ -46,10 +47,12 @@ file_one i (Clip r end) w has = region_step i r w (delta.Clip end) (λ now. Some
 file_one i (ZeroWithin r from upto) w has = region_step i r w (delta.ZeroWithin from upto) (zeroed from upto) (does_zero from upto) has
 file_one i (CutAbove r) w has =
     let regions : (q : ℕ) → region_of (step (edit_of i (CutAbove r)) w (Region i q)) ≡ (if lies_above r q then None else region_of (w (Region i q))) =
-    λ q. cut_value (is_between key_cmp (Region i (r + 1)) (Region i LAST_REGION) (Region i q)) (w (Region i q)) ∙ ap (λ (t : Bool). if t then None else region_of (w (Region i q))) (above_is i r q) in
+    λ q. cut_value (is_between key_cmp (Region i (r + 1)) (Region i LAST_REGION) (Region i q)) (w (Region i q))
+    ∙ ap (λ (t : Bool). if t then None else region_of (w (Region i q))) (above_is i r q) in
     λ k. record { last = last_of (w (Inode i)); region = λ q. regions q k }
 file_one i (RaiseLast r) w has =
-    let last = ap last_of (at_inode i w (delta.RaiseLast r)) ∙ by_last (λ now. last_of (made now (delta.RaiseLast r)) ≡ max (last_of now) r) (λ n. refl) (w (Inode i)) has.inode in
+    let last = ap last_of (at_inode i w (delta.RaiseLast r))
+    ∙ by_last (λ now. last_of (made now (delta.RaiseLast r)) ≡ max (last_of now) r) (λ n. refl) (w (Inode i)) has.inode in
     λ k. record { last = last k; region = λ q. region_of (w (Region i q)) }
 file_one i (Put r x) w has = region_step i r w (delta.Put (value.Region x)) (λ now. Some x) (does_put x) has
 file_one i (SetLast r) w has =

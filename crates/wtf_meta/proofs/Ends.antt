@@ -1,5 +1,6 @@
 -- Where pieces end: one piece more, and the piece that holds a byte.
-use Rattle.std.proofs.Common.{◌≡◌, ℕ, zero, suc, ◌+◌, ◌-◌, ◌^◌, ◌<◌, ◌≤◌, ◌++◌, nat_le, true, false, List, [], ◌∷◌, length, get_or, take, ap, sym, ◌∙◌, arith, inl, inr}
+use Rattle.std.proofs.Common.{◌≡◌, ℕ, zero, suc, ◌+◌, ◌-◌, ◌^◌, ◌<◌, ◌≤◌, ◌++◌, nat_le, true, false, List, [], ◌∷◌, length, get_or, take, ap, sym, ◌∙◌, arith}
+use Rattle.std.proofs.Common.{inl, inr}
 use Rattle.std.specs.List.Sorted.{IsNonDecreasingBy, IsPartitionPoint}
 use Rattle.std.proofs.lemmas.Bool.{cases_lt, leb-true, leb-false}
 use Rattle.std.proofs.lemmas.List.{get_or_append_left, get_or-append-add}
@@ -12,7 +13,8 @@ abbrev pub AreEndsTo : List Piece → List ℕ → ℕ → Type 0
 AreEndsTo ps ends n = (k d : ℕ) → k < n → get_or ends k d ≡ bytes_in (take (k + 1) ps)
 
 -- one more is known
-pub ends_more : (ps : List Piece) (ends : List ℕ) (n e : ℕ) → length ends ≡ n → e ≡ bytes_in (take (n + 1) ps) → AreEndsTo ps ends n → AreEndsTo ps (ends ++ e ∷ []) (n + 1)
+pub ends_more : (ps : List Piece) (ends : List ℕ) (n e : ℕ) → length ends ≡ n → e ≡ bytes_in (take (n + 1) ps) → AreEndsTo ps ends n
+    → AreEndsTo ps (ends ++ e ∷ []) (n + 1)
 ends_more ps ends n e count is before k d below = elim (cases_lt k n) [
   | inl l ↦ get_or_append_left ends (e ∷ []) d k (omega (arith, l, count)) ∙ before k d l
   | inr past ↦
@@ -30,14 +32,25 @@ len_rises (p ∷ ps) (suc i) (suc j) h = omega (arith, len_rises ps i j (omega (
 
 pub ends_rise : (ps : List Piece) (ends : List ℕ) → AreEnds ps ends → IsNonDecreasingBy (λ (n : ℕ). n) ends
 ends_rise ps ends are i j d le lt =
-    omega (arith, are.each i d (omega (arith, le, lt, are.count)), are.each j d (omega (arith, lt, are.count)), len_rises ps (i + 1) (j + 1) (omega (arith, le)))
+    omega (
+      arith,
+      are.each i d (omega (arith, le, lt, are.count)),
+      are.each j d (omega (arith, lt, are.count)),
+      len_rises ps (i + 1) (j + 1) (omega (arith, le)),
+    )
 
 -- the next piece ends past a byte at which the ends part
-past : (ps : List Piece) (ends : List ℕ) (off k : ℕ) → AreEnds ps ends → IsPartitionPoint (λ e. nat_le e off ≡ true) (λ e. nat_le e off ≡ false) ends k → k < length ps → off < pieces_len (take (k + 1) ps)
-past ps ends off k are point some = omega (arith, leb-false (get_or ends k 0) off (point.1 k 0 (omega arith) (omega (arith, some, are.count))), are.each k 0 some)
+past : (ps : List Piece) (ends : List ℕ) (off k : ℕ) → AreEnds ps ends → IsPartitionPoint (λ e. nat_le e off ≡ true) (λ e. nat_le e off ≡ false) ends k
+    → k < length ps → off < pieces_len (take (k + 1) ps)
+past ps ends off k are point some = omega (
+  arith,
+  leb-false (get_or ends k 0) off (point.1 k 0 (omega arith) (omega (arith, some, are.count))),
+  are.each k 0 some,
+)
 
 -- the pieces that end at or before a byte, by the ends
-pub ends_before : (ps : List Piece) (ends : List ℕ) (off k start : ℕ) → AreEnds ps ends → off < 2 ^ 64 - 1 → k ≤ length ends → IsPartitionPoint (λ e. nat_le e off ≡ true) (λ e. nat_le e off ≡ false) ends k
+pub ends_before : (ps : List Piece) (ends : List ℕ) (off k start : ℕ) → AreEnds ps ends → off < 2 ^ 64 - 1 → k ≤ length ends
+    → IsPartitionPoint (λ e. nat_le e off ≡ true) (λ e. nat_le e off ≡ false) ends k
     → start ≡ bytes_in (take k ps) → EndsBefore ps off k start
 ends_before ps ends off zero start are few within point is =
     record { within = omega arith; is = omega (arith, is); passed = omega (arith, is); next = past ps ends off zero are point }

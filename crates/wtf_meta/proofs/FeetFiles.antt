@@ -12,10 +12,11 @@ use Rattle.wtf_model.specs.declared.item.Item.{Item}
 use Rattle.wtf_model.specs.declared.item.Item.TheVariants.{BodyOf}
 use Rattle.wtf_model.specs.declared.op.Op.{Op}
 use Rattle.wtf_model.specs.Call.{call}
-use Rattle.wtf_model.specs.Items.{body_of, bodies_of, handle_reads, handle_changes, reads, changes, writes}
+use Rattle.wtf_model.specs.Tree.{has_path, paths_at}
+use Rattle.wtf_model.specs.Items.{body_of, bodies_at, bodies_of, handle_reads, handle_changes, reads, changes, writes}
 use Rattle.wtf_model.specs.Session as model
 use Rattle.wtf_model.specs.Session.{Session}
-use Rattle.wtf_model.proofs.ItemLaws.{is_among-head, writes-okay}
+use Rattle.wtf_model.proofs.ItemLaws.{is_among-head, is_among-bodies, writes-okay}
 use Rattle.wtf_values.specs.declared.key.Key.{Key}
 use Rattle.wtf_values.specs.declared.key.Key.TheVariants.{Path, Dir, Inode, Region}
 use Rattle.wtf_values.specs.declared.value.Delta.{Delta}
@@ -33,6 +34,7 @@ use Rattle.wtf_meta.specs.Feet.{Has, ReadBy, WrittenBy, EachRead, ChangeWritten,
 use Rattle.wtf_meta.specs.Calls.{Caller, cap_for, Did, DoneOnEach, FeetOnEach}
 use Rattle.wtf_meta.proofs.FeetLaws.{unfit-none, feet_looked}
 use Rattle.wtf_meta.proofs.Handling.{open_at}
+use Rattle.wtf_meta.proofs.Standing.{leads-paths}
 use Rattle.wtf_meta.proofs.Steps.{step}
 
 -- a key is of the file of this inode
@@ -160,15 +162,9 @@ module _ (x : Caller) (told : Told) (w : Map) (s : SessionView) (S : Session) (h
   pub handle_leads : LeadsTo w h.path h.inode
   handle_leads = (open_at w (handle_in s f) (get S.handles f) h here (holds.handles f)).of.leads
 
-  -- the bytes of its file are what calls by it read and change
+  -- the bytes of its file are what calls by it read
   pub handle_read : Has (BodyOf h.path) (handle_reads S f)
   handle_read = let at = open_at w (handle_in s f) (get S.handles f) h here (holds.handles f) in has_body (get S.handles f) at.handle h.path at.there at.of.path
-
-  pub handle_changed : Has (BodyOf h.path) (handle_changes S f)
-  handle_changed =
-      let at = open_at w (handle_in s f) (get S.handles f) h here (holds.handles f) in
-      subst (λ (z : Option model.Handle). Has (BodyOf h.path) (bodies_of S.tree z)) (sym at.there)
-      (subst (λ q. Has (BodyOf h.path) (BodyOf q ∷ [])) (sym at.of.path) (is_among-head (BodyOf h.path) []))
 
   -- keys of its file that a call by it recorded
   pub handle_keys : (ks : List FileKey) (o : Op (List ℕ)) → reads S o ≡ handle_reads S f → EachRead x.tx w (reads S o) (keys_of h.inode ks)
@@ -178,8 +174,11 @@ module _ (x : Caller) (told : Told) (w : Map) (s : SessionView) (S : Session) (h
       (okay : (call (cap_for x) S o).answer ≡ answer.Okay) where
     each_path : (q : List ℕ) → LeadsTo w q h.inode → Has (BodyOf q) (writes (cap_for x) S o)
     each_path q to =
+        let at = open_at w (handle_in s f) (get S.handles f) h here (holds.handles f) in
+        let has : has_path (paths_at S.tree h.path) q ≡ true = leads-paths x.size told x.tx x.calls w S.tree st h.path q h.inode handle_leads to in
         subst (Has (BodyOf q)) (sym (writes-okay (cap_for x) S o okay ∙ is))
-        (subst (λ z. Has (BodyOf z) (handle_changes S f)) (sym (st.apart q h.path h.inode to handle_leads)) handle_changed)
+        (subst (λ (z : Option model.Handle). Has (BodyOf q) (bodies_of S.tree z)) (sym at.there)
+        (subst (λ p. Has (BodyOf q) (bodies_at S.tree p)) (sym at.of.path) (is_among-bodies (paths_at S.tree h.path) q has)))
 
     -- changes of its file that fit whatever they meet, where no key was recorded
     pub handle_lays : (ds : List FileEdit) → ((m : Map) → AllFit (edits_of h.inode ds) m)

@@ -52,7 +52,8 @@ pub AllFit-more : (c : Change Key Delta) (cs : Edits) (w : Map) → fits_here c 
 AllFit-more (change.Cut from to) cs w here rest = rest
 AllFit-more (change.Delta key d) cs w here rest = cond-true (fits (outcome_of (w key) d)) _ _ here ∙ rest
 
-fits_rel : (ps : List Piece) (b : ℕ) (i : InodeId) (r : ℕ) (w : Map) → HasFile i w → fits (outcome_of (w (Region i r)) (delta.PushRel ps b)) ≡ fits_at_end (region_of (w (Region i r))) ps b
+fits_rel : (ps : List Piece) (b : ℕ) (i : InodeId) (r : ℕ) (w : Map) → HasFile i w
+    → fits (outcome_of (w (Region i r)) (delta.PushRel ps b)) ≡ fits_at_end (region_of (w (Region i r))) ps b
 fits_rel ps b i r w has =
     by_region (λ now. fits (outcome_of now (delta.PushRel ps b)) ≡ fits_at_end (region_of now) ps b)
     (fits-missing ps b) (λ v. fits-region v ps b)
@@ -63,7 +64,8 @@ pub fits_same : (i : InodeId) (d : FileEdit) (w : Map) → HasFile i w → fits_
 fits_same i (Push r e) w has = by_region (λ now. fits (outcome_of now (delta.Push e)) ≡ true) refl (λ v. refl) (w (Region i r)) (has.regions r)
 fits_same i (PushRel r ps b) w has = fits_rel ps b i r w has
 fits_same i (Clip r end) w has = by_region (λ now. fits (outcome_of now (delta.Clip end)) ≡ true) refl (λ v. refl) (w (Region i r)) (has.regions r)
-fits_same i (ZeroWithin r from upto) w has = by_region (λ now. fits (outcome_of now (delta.ZeroWithin from upto)) ≡ true) refl (λ v. refl) (w (Region i r)) (has.regions r)
+fits_same i (ZeroWithin r from upto) w has = by_region (λ now. fits (outcome_of now (delta.ZeroWithin from upto)) ≡ true) refl (λ v. refl) (w (Region i r))
+    (has.regions r)
 fits_same i (CutAbove r) w has = refl
 fits_same i (RaiseLast r) w has = by_last (λ now. fits (outcome_of now (delta.RaiseLast r)) ≡ true) (λ n. refl) (w (Inode i)) has.inode
 fits_same i (Put r x) w has = refl

@@ -1,5 +1,5 @@
 -- Changes of one file leave all keys that are not of it, and so the other files.
-use Rattle.std.proofs.Common.{◌≡◌, ◌≢◌, ℕ, ◌+◌, false, List, [], ◌∷◌, refl, ap, sym, subst, ◌∙◌}
+use Rattle.std.proofs.Common.{◌≡◌, ◌≢◌, ℕ, ◌+◌, false, List, [], ◌∷◌, refl, ap, ◌∙◌}
 use Rattle.std.specs.Prelude.{⊤}
 use Rattle.std.proofs.lemmas.Bool.{cond-false}
 use Rattle.std.specs.BTreeMap.{is_at}
@@ -13,7 +13,7 @@ use Rattle.wtf_values.specs.declared.value.Delta.{Delta}
 use Rattle.wtf_values.specs.declared.value.Delta.TheVariants as delta
 use Rattle.wtf_values.specs.Keys.{key_cmp}
 use Rattle.wtf_meta.specs.Maps.{Map, with}
-use Rattle.wtf_meta.specs.FileEdits.{last_of, region_of, file_of, HasFile, IsLast, IsRegion, FileEdit, Push, PushRel, Clip, ZeroWithin, CutAbove, RaiseLast}
+use Rattle.wtf_meta.specs.FileEdits.{last_of, region_of, file_of, FileEdit, Push, PushRel, Clip, ZeroWithin, CutAbove, RaiseLast}
 use Rattle.wtf_meta.specs.FileEdits.{SetLast, Put, LAST_REGION, edit_of, edits_of}
 use Rattle.wtf_values.proofs.KeyLaws.{at_none, between_other}
 use Rattle.wtf_meta.proofs.Steps.{step}
@@ -96,10 +96,3 @@ regions_stay i j r ds w h = others_stay i ds w (Region j r) h
 -- and so the other files are what they were
 pub file_stays : (i j : InodeId) (ds : List FileEdit) (w : Map) → i ≢ j → file_of j (with (edits_of i ds) w) ≡ file_of j w
 file_stays i j ds w h = λ k. record { last = last_of (inodes_stay i j ds w h k); region = λ r. region_of (regions_stay i j r ds w h k) }
-
--- with values of the kinds of their keys
-pub has_stays : (i j : InodeId) (ds : List FileEdit) (w : Map) → i ≢ j → HasFile j w → HasFile j (with (edits_of i ds) w)
-has_stays i j ds w h has = record {
-  inode = subst IsLast (sym (inodes_stay i j ds w h)) has.inode;
-  regions = λ r. subst IsRegion (sym (regions_stay i j r ds w h)) (has.regions r);
-}

@@ -64,23 +64,30 @@ unset_at told v (Some bytes) e at = absurd (subst (λ x. SliceAt told x (Some by
 
 module _ (told : Told) (w : Map) (s t : SessionView) (S : Session) (holds : Holds told w s S) where
   -- a handle is opened, or is another now
-  pub holds-handle : (f : ℕ) (h : Handle) (g : model.Handle) → SetsHandle f (Some h) s t → IsHandleOf w h g → Holds told w t (record S { handles = insert S.handles f g })
+  pub holds-handle : (f : ℕ) (h : Handle) (g : model.Handle) → SetsHandle f (Some h) s t → IsHandleOf w h g
+      → Holds told w t (record S { handles = insert S.handles f g })
   holds-handle f h g set of = record {
     handles = λ e. ⊎_elim
-        (λ same. subst (λ n. HandleAt w (handle_in t n) (get (insert S.handles f g) n)) (sym same) (handle_to w (Some h) (handle_in t f) (Some g) (get (insert S.handles f g) f) set.is (get-handle_same S.handles f g) of))
-        (λ other. handle_to w (handle_in s e) (handle_in t e) (get S.handles e) (get (insert S.handles f g) e) (set.others e other) (get-handle_other S.handles f g e other) (holds.handles e))
+        (λ same. subst (λ n. HandleAt w (handle_in t n) (get (insert S.handles f g) n)) (sym same)
+        (handle_to w (Some h) (handle_in t f) (Some g) (get (insert S.handles f g) f) set.is (get-handle_same S.handles f g) of))
+        (λ other. handle_to w (handle_in s e) (handle_in t e) (get S.handles e) (get (insert S.handles f g) e) (set.others e other)
+        (get-handle_other S.handles f g e other) (holds.handles e))
         (cases_eq e f);
-    slices = λ label. slice_to told (slice_in s label) (slice_in t label) (get S.slices label) (get S.slices label) (set.slices label) refl (holds.slices label);
+    slices = λ label. slice_to told (slice_in s label) (slice_in t label) (get S.slices label) (get S.slices label) (set.slices label) refl
+        (holds.slices label);
   }
 
   -- a handle is closed
   pub holds-closed : (f : ℕ) → SetsHandle f None s t → Holds told w t (record S { handles = remove S.handles f })
   holds-closed f set = record {
     handles = λ e. ⊎_elim
-        (λ same. subst (λ n. HandleAt w (handle_in t n) (get (remove S.handles f) n)) (sym same) (handle_to w None (handle_in t f) None (get (remove S.handles f) f) set.is (closed_same S.handles f) tt))
-        (λ other. handle_to w (handle_in s e) (handle_in t e) (get S.handles e) (get (remove S.handles f) e) (set.others e other) (closed_other S.handles f e other) (holds.handles e))
+        (λ same. subst (λ n. HandleAt w (handle_in t n) (get (remove S.handles f) n)) (sym same)
+        (handle_to w None (handle_in t f) None (get (remove S.handles f) f) set.is (closed_same S.handles f) tt))
+        (λ other. handle_to w (handle_in s e) (handle_in t e) (get S.handles e) (get (remove S.handles f) e) (set.others e other)
+        (closed_other S.handles f e other) (holds.handles e))
         (cases_eq e f);
-    slices = λ label. slice_to told (slice_in s label) (slice_in t label) (get S.slices label) (get S.slices label) (set.slices label) refl (holds.slices label);
+    slices = λ label. slice_to told (slice_in s label) (slice_in t label) (get S.slices label) (get S.slices label) (set.slices label) refl
+        (holds.slices label);
   }
 
   -- a handle is moved
@@ -88,11 +95,15 @@ module _ (told : Told) (w : Map) (s t : SessionView) (S : Session) (holds : Hold
   holds-moved f off h g set of = holds-handle f (moved_to off h) (record g { off = off }) set (record { path = of.path; off = refl; leads = of.leads })
 
   -- a slice is kept
-  pub holds-slice : (label : ℕ) (ps : List Piece) (bytes : List ℕ) → SetsSlice label (Some ps) s t → PiecesTell told ps bytes → Holds told w t (put_slice S label bytes)
+  pub holds-slice : (label : ℕ) (ps : List Piece) (bytes : List ℕ) → SetsSlice label (Some ps) s t → PiecesTell told ps bytes
+      → Holds told w t (put_slice S label bytes)
   holds-slice label ps bytes set tell = record {
     handles = λ f. handle_to w (handle_in s f) (handle_in t f) (get S.handles f) (get S.handles f) (set.handles f) refl (holds.handles f);
     slices = λ l. ⊎_elim
-        (λ same. subst (λ n. SliceAt told (slice_in t n) (get (insert S.slices label bytes) n)) (sym same) (slice_to told (Some ps) (slice_in t label) (Some bytes) (get (insert S.slices label bytes) label) set.is (get-number_same S.slices label bytes) tell))
-        (λ other. slice_to told (slice_in s l) (slice_in t l) (get S.slices l) (get (insert S.slices label bytes) l) (set.others l other) (get-number_other S.slices label bytes l other) (holds.slices l))
+        (λ same. subst (λ n. SliceAt told (slice_in t n) (get (insert S.slices label bytes) n)) (sym same)
+        (slice_to told (Some ps) (slice_in t label) (Some bytes) (get (insert S.slices label bytes) label) set.is
+        (get-number_same S.slices label bytes) tell))
+        (λ other. slice_to told (slice_in s l) (slice_in t l) (get S.slices l) (get (insert S.slices label bytes) l) (set.others l other)
+        (get-number_other S.slices label bytes l other) (holds.slices l))
         (cases_eq l label);
   }

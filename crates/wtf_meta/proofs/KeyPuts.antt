@@ -45,7 +45,8 @@ inodes-apart i j differ e = let same : j ≡ i = cc in differ same
 pub one_inode : (i j : InodeId) → (j ≡ i) ⊎ (j ≢ i)
 one_inode i j = ⊎_elim
     (λ t. let same : Inode i ≡ Inode j = at_same (Inode i) (Inode j) t in let one : j ≡ i = cc in inl one)
-    (λ f. inr (λ e. let t : is_at (key_cmp (Inode i)) (Inode j) ≡ true = ap (λ x. is_at (key_cmp (Inode i)) (Inode x)) e ∙ at_itself (Inode i) in let bad : true ≡ false = sym t ∙ f in cc))
+    (λ f. inr (λ e. let t : is_at (key_cmp (Inode i)) (Inode j) ≡ true = ap (λ x. is_at (key_cmp (Inode i)) (Inode x)) e ∙ at_itself (Inode i) in
+    let bad : true ≡ false = sym t ∙ f in cc))
     (cases_Bool (is_at (key_cmp (Inode i)) (Inode j)))
 
 -- changes, one list after another
@@ -60,11 +61,15 @@ with-delta w k d = fun_ext (λ q. ⊎_elim
     (cases_Bool (is_at (key_cmp k) q)))
 
 -- a directory gets a name, or loses it
-pub with-add_to : (w : Map) (dir p : List ℕ) (names : NamesOf) → w (Dir dir) ≡ Some (value.Names names) → with (add_to dir p ∷ []) w ≡ put_in w (Dir dir) (Some (value.Names (with_name names (name_of p))))
-with-add_to w dir p names is = with-delta w (Dir dir) (delta.DirAdd (name_of p)) ∙ ap (λ v. put_in w (Dir dir) (value_made (outcome_of v (delta.DirAdd (name_of p))) v)) is
+pub with-add_to : (w : Map) (dir p : List ℕ) (names : NamesOf) → w (Dir dir) ≡ Some (value.Names names)
+    → with (add_to dir p ∷ []) w ≡ put_in w (Dir dir) (Some (value.Names (with_name names (name_of p))))
+with-add_to w dir p names is = with-delta w (Dir dir) (delta.DirAdd (name_of p))
+    ∙ ap (λ v. put_in w (Dir dir) (value_made (outcome_of v (delta.DirAdd (name_of p))) v)) is
 
-pub with-drop_from : (w : Map) (dir p : List ℕ) (names : NamesOf) → w (Dir dir) ≡ Some (value.Names names) → with (drop_from dir p ∷ []) w ≡ put_in w (Dir dir) (Some (value.Names (without_name names (name_of p))))
-with-drop_from w dir p names is = with-delta w (Dir dir) (delta.DirDel (name_of p)) ∙ ap (λ v. put_in w (Dir dir) (value_made (outcome_of v (delta.DirDel (name_of p))) v)) is
+pub with-drop_from : (w : Map) (dir p : List ℕ) (names : NamesOf) → w (Dir dir) ≡ Some (value.Names names)
+    → with (drop_from dir p ∷ []) w ≡ put_in w (Dir dir) (Some (value.Names (without_name names (name_of p))))
+with-drop_from w dir p names is = with-delta w (Dir dir) (delta.DirDel (name_of p))
+    ∙ ap (λ v. put_in w (Dir dir) (value_made (outcome_of v (delta.DirDel (name_of p))) v)) is
 
 -- a cut of regions of a file takes out just those
 pub cut-own : (w : Map) (i : InodeId) (from to r : ℕ) → from ≤ r → r ≤ to → with (change.Cut (Region i from) (Region i to) ∷ []) w (Region i r) ≡ None

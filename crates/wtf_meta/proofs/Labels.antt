@@ -1,5 +1,6 @@
 -- Lists by label, once one label is set.
-use Rattle.std.proofs.Common.{◌≡◌, ◌≢◌, ℕ, zero, suc, ◌+◌, ◌<◌, List, [], ◌∷◌, length, get_or, set, map, Option, None, Some, refl, sym, ap, ◌∙◌, arith, subst, inl, inr, Vec, Global}
+use Rattle.std.proofs.Common.{◌≡◌, ◌≢◌, ℕ, zero, suc, ◌+◌, ◌<◌, List, [], ◌∷◌, length, get_or, set, map, Option, None, Some, refl, sym, ap, ◌∙◌, arith, subst}
+use Rattle.std.proofs.Common.{inl, inr, Vec, Global}
 use Rattle.std.specs.Option.{option_map}
 use Rattle.std.proofs.lemmas.List.{map-set, set-get_or, get_or-set_same, get_or-set_other, same_lists}
 use Rattle.std.proofs.lemmas.Option.{get_or_from_slice_get, slice_get_read, slice_get-map}
@@ -40,7 +41,8 @@ slice_set_alone hs ss s kept pieces old is h same =
     }))
 
 -- a slice is kept otherwise, with the same pieces
-pub slice_same : (hs : List (Option Handle)) (ss : List (Option Kept)) (s : ℕ) (old new : Option Kept) → s < length ss → old ≡ get_or ss s old → option_map items_of new ≡ option_map items_of old
+pub slice_same : (hs : List (Option Handle)) (ss : List (Option Kept)) (s : ℕ) (old new : Option Kept) → s < length ss → old ≡ get_or ss s old
+    → option_map items_of new ≡ option_map items_of old
     → session_view hs (set ss s new) ≡ session_view hs ss
 slice_same hs ss s old new h is same =
     let f : Option Kept → Option (List Piece) = option_map items_of in
@@ -63,14 +65,16 @@ element_at : {A : Type 0} (xs : List A) (n : ℕ) (x d : A) → n < length xs �
 element_at xs n x d h is = get_or_from_slice_get xs n x d (slice_get_read xs (length xs) n x refl h is)
 
 -- one more element is copied
-pub copied_more : {A : Type 0} (from to : List A) (n : ℕ) (x : A) → n < length from → n < length to → IsCopiedTo from to n → x ≡ get_or from n x → IsCopiedTo from (set to n x) (n + 1)
+pub copied_more : {A : Type 0} (from to : List A) (n : ℕ) (x : A) → n < length from → n < length to → IsCopiedTo from to n → x ≡ get_or from n x
+    → IsCopiedTo from (set to n x) (n + 1)
 copied_more from to n x h g before is k d below = elim (cases_eq k n) [
   | inl e ↦ subst (λ j. get_or (set to n x) j d ≡ get_or from j d) (sym e) (get_or-set_same to n x d g ∙ sym (element_at from n x d h is))
   | inr apart ↦ get_or-set_other to n k x d apart ∙ before k d (omega (arith, below, apart))
 ]
 
 -- and of what is seen of the elements
-pub copied_more_by : {A B : Type 0} (f : A → B) (from to : List A) (n : ℕ) (x y : A) → n < length from → n < length to → IsCopiedTo (map f from) (map f to) n → y ≡ get_or from n y → f x ≡ f y
+pub copied_more_by : {A B : Type 0} (f : A → B) (from to : List A) (n : ℕ) (x y : A) → n < length from → n < length to → IsCopiedTo (map f from) (map f to) n
+    → y ≡ get_or from n y → f x ≡ f y
     → IsCopiedTo (map f from) (map f (set to n x)) (n + 1)
 copied_more_by f from to n x y h g before is same =
     let seen = slice_get-map f from n ∙ ap (option_map f) (slice_get_read from (length from) n y refl h is) in
@@ -82,6 +86,7 @@ copied_more_by f from to n x y h g before is same =
 pub copied_all : {A : Type 0} (from to : List A) → length from ≡ length to → IsCopiedTo from to (length to) → to ≡ from
 copied_all from to same all = same_lists to from (sym same) (λ k d below. all k d below)
 
-pub copied_all_by : {A B : Type 0} (f : A → B) (from to : List A) → length from ≡ length to → IsCopiedTo (map f from) (map f to) (length to) → map f to ≡ map f from
+pub copied_all_by : {A B : Type 0} (f : A → B) (from to : List A) → length from ≡ length to → IsCopiedTo (map f from) (map f to) (length to)
+    → map f to ≡ map f from
 copied_all_by f from to same all = copied_all (map f from) (map f to) (omega (arith, same, map_length f from, map_length f to))
     (λ k d below. all k d (omega (arith, below, map_length f to)))

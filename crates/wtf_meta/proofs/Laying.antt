@@ -7,7 +7,7 @@ use Rattle.wtf_model.specs.declared.limits.TheConstants.{MAX_REGIONS}
 use Rattle.wtf_meta.specs.Files.{FileView, IsFile, end_of, file_origin, file_len, laid, reach}
 use Rattle.wtf_meta.specs.FileEdits.{FileEdit, RaiseLast, after}
 use Rattle.wtf_meta.specs.Ranges.{Covers, Lays}
-use Rattle.wtf_meta.proofs.Laid.{grown_some, laid_is, laid_same, laid_before, laid_after}
+use Rattle.wtf_meta.proofs.Laid.{grown_some, laid_is, laid_before, laid_after}
 use Rattle.wtf_meta.proofs.Places.{apart}
 use Rattle.wtf_meta.proofs.Covering.{after-append, all_fit-append, reach_some, reach_none}
 
@@ -28,8 +28,10 @@ end_here : (b off n r k : ℕ) (v w : FileView) → 0 < n → r * b + k ≡ off 
     → (r * b + end_of (w.region r) ≡ max (file_len b v) (off + n)) × (0 < end_of (w.region r))
 end_here b off n r k v w some at pos within is le end = elim (cases_lt v.last r) [
   | inl l ↦
-      let none : end_of (v.region r) ≡ 0 = ap end_of (is.above r l) in
-      (omega (arith, none, end, reaches b off n r k some at pos within, apart b v.last r l, is.ends v.last), omega (arith, end, reaches b off n r k some at pos within))
+      let none : end_of (v.region r) ≡ 0 = ap end_of (is.above r l) in (
+        omega (arith, none, end, reaches b off n r k some at pos within, apart b v.last r l, is.ends v.last),
+        omega (arith, end, reaches b off n r k some at pos within),
+      )
   | inr g ↦
       let same : v.last ≡ r = omega arith in
       let long : file_len b v ≡ r * b + end_of (v.region r) = ap (λ j. j * b + end_of (v.region j)) same in
@@ -49,13 +51,16 @@ end_last : (b off n r k : ℕ) (v w : FileView) → 0 < n → r * b + k ≡ off 
     → (max v.last r * b + end_of (w.region (max v.last r)) ≡ max (file_len b v) (off + n)) × (0 < end_of (w.region (max v.last r)))
 end_last b off n r k v w some at pos within is ends = elim (cases_lt r v.last) [
   | inl l ↦ let m : max v.last r ≡ v.last = omega arith in
-      subst (λ j. (j * b + end_of (w.region j) ≡ max (file_len b v) (off + n)) × (0 < end_of (w.region j))) (sym m) (end_past b off n r k v w at within is l (ends v.last))
+      subst (λ j. (j * b + end_of (w.region j) ≡ max (file_len b v) (off + n))
+      × (0 < end_of (w.region j))) (sym m) (end_past b off n r k v w at within is l (ends v.last))
   | inr g ↦ let m : max v.last r ≡ r = omega arith in
-      subst (λ j. (j * b + end_of (w.region j) ≡ max (file_len b v) (off + n)) × (0 < end_of (w.region j))) (sym m) (end_here b off n r k v w some at pos within is g (ends r))
+      subst (λ j. (j * b + end_of (w.region j) ≡ max (file_len b v) (off + n))
+      × (0 < end_of (w.region j))) (sym m) (end_here b off n r k v w some at pos within is g (ends r))
 ]
 
 -- a file in whose regions bytes were laid and whose last region is at least that of the last byte
-raised : (b : ℕ) (ds : List FileEdit) (off n r k : ℕ) (f : ℕ → List Place) (v : FileView) → 0 < n → r * b + k ≡ off + n → 0 < k → k ≤ b → r < MAX_REGIONS → Covers b ds off n f → IsFile b v
+raised : (b : ℕ) (ds : List FileEdit) (off n r k : ℕ) (f : ℕ → List Place) (v : FileView) → 0 < n → r * b + k ≡ off + n → 0 < k → k ≤ b → r < MAX_REGIONS
+    → Covers b ds off n f → IsFile b v
     → IsFile b (record { last = max v.last r; region = (after ds v).region })
 raised b ds off n r k f v some at pos within few covers is = record {
   ends = λ q. omega (arith, covers.ends v q, is.ends q, reach_le b off n (q * b));
@@ -65,11 +70,13 @@ raised b ds off n r k f v some at pos within few covers is = record {
 }
 
 -- bytes that were laid over the regions are laid over the file, once its last region is at least that of the last byte
-pub Lays-raised : (b : ℕ) (ds : List FileEdit) (off n r k : ℕ) (f : ℕ → List Place) → 0 < n → r * b + k ≡ off + n → 0 < k → k ≤ b → r < MAX_REGIONS → Covers b ds off n f
+pub Lays-raised : (b : ℕ) (ds : List FileEdit) (off n r k : ℕ) (f : ℕ → List Place) → 0 < n → r * b + k ≡ off + n → 0 < k → k ≤ b → r < MAX_REGIONS
+    → Covers b ds off n f
     → Lays b (ds ++ RaiseLast r ∷ []) off n f
 Lays-raised b ds off n r k f some at pos within few covers =
     let view : (v : FileView) → after (ds ++ RaiseLast r ∷ []) v ≡ record { last = max v.last r; region = (after ds v).region } =
-    λ v. after-append ds (RaiseLast r ∷ []) v ∙ ap (λ (l : ℕ). let w : FileView = record { last = max l r; region = (after ds v).region } in w) (covers.last v) in
+    λ v. after-append ds (RaiseLast r ∷ []) v ∙ ap (λ (l : ℕ). let w : FileView = record { last = max l r; region = (after ds v).region } in w)
+    (covers.last v) in
     record {
       fit = λ v. all_fit-append ds (RaiseLast r ∷ []) v (covers.fit v) refl;
       keeps = λ v is. subst (IsFile b) (sym (view v)) (raised b ds off n r k f v some at pos within few covers is);
@@ -79,7 +86,8 @@ Lays-raised b ds off n r k f some at pos within few covers =
     }
 
 laid_empty : (off : ℕ) (f g h : ℕ → List Place) (x : ℕ) → laid off 0 f h x ≡ laid off 0 g h x
-laid_empty off f g h x = laid_is off 0 g h x (laid off 0 f h x) (λ l. laid_before off 0 f h x l) (λ p. laid_after off 0 f h x p) (λ from to. absurd (omega arith))
+laid_empty off f g h x = laid_is off 0 g h x (laid off 0 f h x) (λ l. laid_before off 0 f h x l) (λ p. laid_after off 0 f h x p)
+    (λ from to. absurd (omega arith))
 
 -- nothing was laid
 pub Lays-none_covered : (b off : ℕ) (ds : List FileEdit) (f g : ℕ → List Place) → Covers b ds off 0 f → Lays b ds off 0 g
@@ -89,18 +97,10 @@ Lays-none_covered b off ds f g covers =
       keeps = λ v is. record {
         ends = λ q. subst (λ w. end_of w ≤ b) (sym (nothing v q)) (is.ends q);
         above = λ q h. nothing v q ∙ is.above q (subst (λ l. l < q) (covers.last v) h);
-        some = λ h. subst (λ l. 0 < end_of ((after ds v).region l)) (sym (covers.last v)) (subst (λ w. 0 < end_of w) (sym (nothing v v.last)) (is.some (subst (λ l. 0 < l) (covers.last v) h)));
+        some = λ h. subst (λ l. 0 < end_of ((after ds v).region l)) (sym (covers.last v))
+            (subst (λ w. 0 < end_of w) (sym (nothing v v.last)) (is.some (subst (λ l. 0 < l) (covers.last v) h)));
         few = subst (λ l. l < MAX_REGIONS) (sym (covers.last v)) is.few;
       };
       len = λ v is. ap (λ l. l * b + end_of ((after ds v).region l)) (covers.last v) ∙ ap (λ w. v.last * b + end_of w) (nothing v v.last);
       origin = λ lists v is x. covers.origin lists v x ∙ laid_empty off f g (file_origin b lists v) x;
     }
-
--- the places may be told by another function
-pub Lays-same : (b : ℕ) (ds : List FileEdit) (off n : ℕ) (f g : ℕ → List Place) → ((i : ℕ) → i < n → f i ≡ g i) → Lays b ds off n f → Lays b ds off n g
-Lays-same b ds off n f g same h = record {
-  fit = h.fit;
-  keeps = h.keeps;
-  len = h.len;
-  origin = λ lists v is x. h.origin lists v is x ∙ laid_same off n f g (file_origin b lists v) (file_origin b lists v) x same refl;
-}

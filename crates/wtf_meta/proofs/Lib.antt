@@ -37,6 +37,8 @@ pub mod Bodies
 pub mod HandleLaws
 pub mod KeyPuts
 pub mod Standing
+pub mod Shapes
+pub mod Refiling
 pub mod Moves
 pub mod Labels
 pub mod Ends

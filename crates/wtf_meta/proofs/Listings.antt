@@ -31,7 +31,8 @@ names_differ : (n m : List ℕ) → (n ≡ m) ⊎ (is_eq (name_cmp n m) ≡ fals
 names_differ n m = ⊎_elim (λ t. inl (same_name n m (equal_when (name_cmp n m) t))) (λ f. inr f) (cases_Bool (is_eq (name_cmp n m)))
 
 -- the names of a directory stay where what stands in it stays
-pub listing-stays : (s t : Tree) (dir : List ℕ) (names : NamesOf) → ((q : List ℕ) → parent_of q ≡ Some dir → get t q ≡ get s q) → IsListing s dir names → IsListing t dir names
+pub listing-stays : (s t : Tree) (dir : List ℕ) (names : NamesOf) → ((q : List ℕ) → parent_of q ≡ Some dir → get t q ≡ get s q) → IsListing s dir names
+    → IsListing t dir names
 listing-stays s t dir names same is = record {
   each = λ q up here. is.each q up (some_at (get s q) (get t q) (sym (same q up)) here);
   only = λ n has. let found = is.only n has in (found.0, found.1, found.2, some_at (get t found.0) (get s found.0) (same found.0 found.1) found.3);
@@ -45,11 +46,13 @@ listing-none t dir none = record {
 }
 
 -- one more
-pub listing-added : (t : Tree) (p dir : List ℕ) (n : TreeNode) (names : NamesOf) → parent_of p ≡ Some dir → IsListing t dir names → IsListing (insert t p n) dir (with_name names (name_of p))
+pub listing-added : (t : Tree) (p dir : List ℕ) (n : TreeNode) (names : NamesOf) → parent_of p ≡ Some dir → IsListing t dir names
+    → IsListing (insert t p n) dir (with_name names (name_of p))
 listing-added t p dir n names up is = record {
   each = λ q in_dir here. ⊎_elim
       (λ same. ap (λ x. has_name (with_name names (name_of p)) (name_of x)) same ∙ has-added names (name_of p))
-      (λ other. has-with names (name_of p) (name_of q) ∙ or_right _ _ (is.each q in_dir (some_at (get t q) (get (insert t p n) q) (sym (get-node_other t p n q other)) here)))
+      (λ other. has-with names (name_of p) (name_of q) ∙ or_right _ _
+      (is.each q in_dir (some_at (get t q) (get (insert t p n) q) (sym (get-node_other t p n q other)) here)))
       (same_or_other q p);
   only = λ m has.
       let here : IsSome (get (insert t p n) p) = some_at (get (insert t p n) p) (Some n) (get-node_same t p n) refl in
@@ -72,7 +75,8 @@ left_there : (o p : Option TreeNode) → o ≡ None → IsSome o → ⊥
 left_there o p e h = let bad : false ≡ true = sym (ap is_some e) ∙ h in cc
 
 -- one less
-pub listing-taken : (t : Tree) (p dir : List ℕ) (names : NamesOf) → IsTree t → IsSome (get t p) → parent_of p ≡ Some dir → IsListing t dir names → IsListing (remove t p) dir (without_name names (name_of p))
+pub listing-taken : (t : Tree) (p dir : List ℕ) (names : NamesOf) → IsTree t → IsSome (get t p) → parent_of p ≡ Some dir → IsListing t dir names
+    → IsListing (remove t p) dir (without_name names (name_of p))
 listing-taken t p dir names tree there up is =
     let stays : (q : List ℕ) → q ≢ p → get (remove t p) q ≡ get t q = λ q other. get-taken_other t p q other in
     record {
@@ -99,18 +103,20 @@ listing-taken t p dir names tree there up is =
 abbrev pub HaveNames : Tree → (List ℕ → Option Value) → Type 0
 HaveNames t f = (d : List ℕ) → NamesAt t d (f d) (get t d)
 
-names_stay : (s t : Tree) (d : List ℕ) (v : Option Value) (o : Option TreeNode) → ((q : List ℕ) → parent_of q ≡ Some d → get t q ≡ get s q) → NamesAt s d v o → NamesAt t d v o
+names_stay : (s t : Tree) (d : List ℕ) (v : Option Value) (o : Option TreeNode) → ((q : List ℕ) → parent_of q ≡ Some d → get t q ≡ get s q) → NamesAt s d v o
+    → NamesAt t d v o
 names_stay s t d None None same at = tt
 names_stay s t d None (Some Dir) same at = absurd at
-names_stay s t d None (Some (File bytes)) same at = tt
+names_stay s t d None (Some (File paths bytes)) same at = tt
 names_stay s t d (Some (value.Node n)) o same at = absurd at
 names_stay s t d (Some (value.Names names)) None same at = absurd at
 names_stay s t d (Some (value.Names names)) (Some Dir) same at = listing-stays s t d names same at
-names_stay s t d (Some (value.Names names)) (Some (File bytes)) same at = absurd at
+names_stay s t d (Some (value.Names names)) (Some (File paths bytes)) same at = absurd at
 names_stay s t d (Some (value.Last r)) o same at = absurd at
 names_stay s t d (Some (value.Region g)) o same at = absurd at
 
-names_kept : (s t : Tree) (d : List ℕ) (v x : Option Value) (o y : Option TreeNode) → ((q : List ℕ) → parent_of q ≡ Some d → get t q ≡ get s q) → x ≡ v → y ≡ o → NamesAt s d v o → NamesAt t d x y
+names_kept : (s t : Tree) (d : List ℕ) (v x : Option Value) (o y : Option TreeNode) → ((q : List ℕ) → parent_of q ≡ Some d → get t q ≡ get s q) → x ≡ v → y ≡ o
+    → NamesAt s d v o → NamesAt t d x y
 names_kept s t d v x o y same ev eo at = subst (λ z. NamesAt t d z y) (sym ev) (subst (λ z. NamesAt t d v z) (sym eo) (names_stay s t d v o same at))
 
 -- another path of a directory
@@ -123,7 +129,8 @@ pub names-added : (t : Tree) (f g : List ℕ → Option Value) (p : List ℕ) (n
     → g free.dir ≡ Some (value.Names (with_name old.names (name_of p)))
     → ((d : List ℕ) → d ≢ p → d ≢ free.dir → g d ≡ f d) → HaveNames (insert t p n) g
 names-added t f g p n free old have own in_dir others = λ d. ⊎_elim
-    (λ same. subst (λ x. NamesAt (insert t p n) x (g x) (get (insert t p n) x)) (sym same) (subst (λ o. NamesAt (insert t p n) p (g p) o) (sym (get-node_same t p n)) own))
+    (λ same. subst (λ x. NamesAt (insert t p n) x (g x) (get (insert t p n) x)) (sym same)
+    (subst (λ o. NamesAt (insert t p n) p (g p) o) (sym (get-node_same t p n)) own))
     (λ other. ⊎_elim
     (λ here. subst (λ x. NamesAt (insert t p n) x (g x) (get (insert t p n) x)) (sym here)
     (names-of_listing (insert t p n) free.dir (g free.dir) (get (insert t p n) free.dir) (with_name old.names (name_of p)) in_dir
@@ -139,7 +146,8 @@ not_dir_none : (o : Option TreeNode) → o ≡ None → o ≡ Some Dir → ⊥
 not_dir_none o e d = let bad : None ≡ Some Dir = sym e ∙ d in cc
 
 -- something is taken out: its directory loses the name
-pub names-taken : (t : Tree) (f g : List ℕ → Option Value) (p dir : List ℕ) (tree : IsTree t) (there : IsSome (get t p)) (up : parent_of p ≡ Some dir) (old : Listed t dir (f dir))
+pub names-taken : (t : Tree) (f g : List ℕ → Option Value) (p dir : List ℕ) (tree : IsTree t) (there : IsSome (get t p)) (up : parent_of p ≡ Some dir)
+    (old : Listed t dir (f dir))
     → HaveNames t f → g p ≡ None
     → g dir ≡ Some (value.Names (without_name old.names (name_of p)))
     → ((d : List ℕ) → d ≢ p → d ≢ dir → g d ≡ f d) → HaveNames (remove t p) g

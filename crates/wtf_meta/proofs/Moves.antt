@@ -3,7 +3,7 @@ use Rattle.std.proofs.Common.{◌≡◌, ◌≢◌, ℕ, ◌+◌, ◌<◌, Bool,
 use Rattle.std.specs.Prelude.{IsSome}
 use Rattle.std.specs.FinMap.{get, insert, remove}
 use Rattle.std.specs.BTreeMap.{is_at}
-use Rattle.std.proofs.lemmas.Bool.{cases_lt}
+use Rattle.std.proofs.lemmas.Bool.{cases_lt, true≢false}
 use Rattle.wtf_base.specs.declared.ids.InodeId.{InodeId}
 use Rattle.wtf_base.specs.declared.slice.Slice.{Slice}
 use Rattle.wtf_kv.specs.declared.changes.Change.TheVariants as change
@@ -13,11 +13,13 @@ use Rattle.wtf_path.specs.Grammar.{IsPath}
 use Rattle.wtf_path.specs.Parts.{parent_of, name_of}
 use Rattle.wtf_model.specs.declared.answer.Answer.{Answer}
 use Rattle.wtf_model.specs.declared.answer.Answer.TheVariants as answer
-use Rattle.wtf_model.specs.Tree.{Tree, TreeNode, Dir, File, IsTree}
+use Rattle.wtf_model.specs.Tree.{PathSet, no_paths, only_path, has_path, with_path, without_path, Tree, TreeNode, Dir, File, IsTree, paths_of}
 use Rattle.wtf_model.specs.Session.{Session}
-use Rattle.wtf_model.specs.Done.{put_node, add_file, take_out, move_file}
+use Rattle.wtf_model.specs.Done.{put_node, add_file, take_out, refiled, drop_path, move_file}
 use Rattle.wtf_model.proofs.Laws.{get-node_same, get-node_other}
-use Rattle.wtf_model.proofs.TreeLaws.{IsFree, same_or_other, get-taken_same, get-taken_other, IsTree-new, IsTree-unlinked}
+use Rattle.wtf_model.proofs.PathLaws.{has-none, has-only, has-added, in-only, in-with, out-with, in-without, out-without}
+use Rattle.wtf_model.proofs.TreeLaws.{IsFree, same_or_other, get-taken_same, get-taken_other, IsTree-new}
+use Rattle.wtf_model.proofs.RefileLaws.{IsTree-refiled, may-drop, may-move}
 use Rattle.wtf_values.specs.declared.key.Key.{Key}
 use Rattle.wtf_values.specs.declared.key.Key.TheVariants.{Path, Dir as DirKey, Inode, Region}
 use Rattle.wtf_values.specs.declared.value.Node.TheVariants.{Folder, File as FileNode}
@@ -37,8 +39,12 @@ use Rattle.wtf_meta.specs.NameEdits.{mkdir_edits, rmdir_edits, create_edits, unl
 use Rattle.wtf_meta.proofs.Nodes.{Listed, node-put, node-taken, names-listed, names-missing, names-of_listing, names-of_none}
 use Rattle.wtf_meta.proofs.Listings.{HaveNames, listing-none, names-added, names-taken}
 use Rattle.wtf_meta.proofs.HandleLaws.{Holds-on}
-use Rattle.wtf_meta.proofs.KeyPuts.{put_in, put-same, put-other, paths-apart, dirs-apart, inodes-apart, one_inode, with-add_to, with-drop_from, cut-own, cut-other}
-use Rattle.wtf_meta.proofs.Standing.{none_leads, stands-same, leads-file, path-none, stands-directory, stands-created, stands-unlinked, stands-renamed}
+use Rattle.wtf_meta.proofs.KeyPuts.{put_in, put-same, put-other, paths-apart, dirs-apart, inodes-apart, one_inode, with-add_to, with-drop_from, cut-own}
+use Rattle.wtf_meta.proofs.KeyPuts.{cut-other}
+use Rattle.wtf_meta.proofs.Bodies.{body-stays, body-new}
+use Rattle.wtf_meta.proofs.Standing.{none_not, none_leads, stands-same, leads-file, leads-just, path-none, not-led, no-regions, stands-directory}
+use Rattle.wtf_meta.proofs.Shapes.{names-alike, alike-dropped, alike-moved}
+use Rattle.wtf_meta.proofs.Refiling.{Refile, IsRefiledPaths, IsRefiledBody, IsRefiledTree-refiled, IsRefiledTree-added, stands-refiled}
 
 -- values that bring no byte, or bytes that have P
 bytes_if : (P : List Place → Bool) (Q : Slice → Bool) (b : Bool) (v o : Option Value) → ValueBytes P Q v → ValueBytes P Q o → ValueBytes P Q (cond b v o)
@@ -59,8 +65,8 @@ folder_leads v i a c = let both : Some (value.Node Folder) ≡ Some (value.Node 
 two_nodes : (t : Tree) (p q : List ℕ) (n m : Option TreeNode) → get t p ≡ n → get t q ≡ m → (n ≡ m → ⊥) → p ≢ q
 two_nodes t p q n m a c differ same = differ (sym a ∙ (ap (get t) same ∙ c))
 
-file_dir : (bytes : List ℕ) → Some (File bytes) ≡ Some Dir → ⊥
-file_dir bytes e = cc
+file_dir : (paths : PathSet) (bytes : List ℕ) → Some (File paths bytes) ≡ Some Dir → ⊥
+file_dir paths bytes e = cc
 
 none_dir : {A : Type 0} (x : A) → None ≡ Some x → ⊥
 none_dir x e = cc
@@ -80,11 +86,14 @@ none_cut true v e = refl
 none_cut false v e = e
 
 -- without a file, directories and what is free stay
-parent_without : (t : Tree) (p bytes dir : List ℕ) → get t p ≡ Some (File bytes) → get t dir ≡ Some Dir → get (remove t p) dir ≡ Some Dir
-parent_without t p bytes dir file is = get-taken_other t p dir (two_nodes t dir p (Some Dir) (Some (File bytes)) is file (λ e. file_dir bytes (sym e))) ∙ is
+parent_without : (t : Tree) (p : List ℕ) (paths : PathSet) (bytes dir : List ℕ) → get t p ≡ Some (File paths bytes) → get t dir ≡ Some Dir
+    → get (remove t p) dir ≡ Some Dir
+parent_without t p paths bytes dir file is =
+    get-taken_other t p dir (two_nodes t dir p (Some Dir) (Some (File paths bytes)) is file (λ e. file_dir paths bytes (sym e))) ∙ is
 
-free_without : (t : Tree) (p bytes q : List ℕ) → get t p ≡ Some (File bytes) → get t q ≡ None → get (remove t p) q ≡ None
-free_without t p bytes q file none = get-taken_other t p q (two_nodes t q p None (Some (File bytes)) none file (none_dir (File bytes))) ∙ none
+free_without : (t : Tree) (p : List ℕ) (paths : PathSet) (bytes q : List ℕ) → get t p ≡ Some (File paths bytes) → get t q ≡ None → get (remove t p) q ≡ None
+free_without t p paths bytes q file none =
+    get-taken_other t p q (two_nodes t q p None (Some (File paths bytes)) none file (none_dir (File paths bytes))) ∙ none
 
 module _ (x : Caller) (told : Told) (w : Map) (s : SessionView) (S : Session) (st : Stands x.size told x.tx x.calls w S.tree) (holds : Holds told w s S) where
   listed : (dir : List ℕ) → get S.tree dir ≡ Some Dir → Listed S.tree dir (w (DirKey dir))
@@ -103,7 +112,8 @@ module _ (x : Caller) (told : Told) (w : Map) (s : SessionView) (S : Session) (s
     own = λ i other none. none;
   }
 
-  pub done-mkdir : (p : List ℕ) → IsPath p → (free : IsFree S.tree p) → IsDone x told w (with (mkdir_edits free.dir p) w) s (record { session = put_node S p Dir; answer = answer.Okay }) answer.Okay
+  pub done-mkdir : (p : List ℕ) → IsPath p → (free : IsFree S.tree p)
+      → IsDone x told w (with (mkdir_edits free.dir p) w) s (record { session = put_node S p Dir; answer = answer.Okay }) answer.Okay
   done-mkdir p path free =
       let t : Tree = S.tree in
       let dir : List ℕ = free.dir in
@@ -117,7 +127,8 @@ module _ (x : Caller) (told : Told) (w : Map) (s : SessionView) (S : Session) (s
       let is : with (mkdir_edits dir p) w ≡ new = with-add_to two dir p old.names (put-other one (DirKey p) (DirKey dir) _ (dirs-apart p dir dir_p) ∙ old.is) in
       let here : new (Path p) ≡ Some (value.Node Folder) = put-same w (Path p) (Some (value.Node Folder)) in
       let at : (q : List ℕ) → q ≢ p → new (Path q) ≡ w (Path q) = λ q other. put-other w (Path p) (Path q) _ (paths-apart p q other) in
-      let empty : new (DirKey p) ≡ Some (value.Names no_names) = put-other two (DirKey dir) (DirKey p) _ (dirs-apart dir p (λ e. dir_p (sym e))) ∙ put-same one (DirKey p) _ in
+      let empty : new (DirKey p) ≡ Some (value.Names no_names) = put-other two (DirKey dir) (DirKey p) _ (dirs-apart dir p (λ e. dir_p (sym e)))
+      ∙ put-same one (DirKey p) _ in
       let alone : (q : List ℕ) → IsSome (get u q) → parent_of q ≡ Some p → ⊥ = λ q some up. ⊎_elim
       (λ same. let both : Some dir ≡ Some p = sym free.up ∙ (ap parent_of (sym same) ∙ up) in let one_dir : dir ≡ p = cc in dir_p one_dir)
       (λ other. none_dir Dir (sym free.free ∙ st.tree_is.parents q p (subst (λ o. IsSome o) (get-node_other t p Dir q other) some) up))
@@ -129,7 +140,7 @@ module _ (x : Caller) (told : Told) (w : Map) (s : SessionView) (S : Session) (s
             (node-put x.size told new Folder (new (Path p)) (get u p) (Some Dir) here (get-node_same t p Dir) tt)
             (λ q other. (at q other, get-node_other t p Dir q other))
             (λ i. refl) (λ i r. refl)
-            (IsTree-new t p Dir path st.tree_is free)
+            (IsTree-new t p Dir path st.tree_is free tt)
             (names-added t (λ d. w (DirKey d)) (λ d. new (DirKey d)) p Dir free old st.names
             (names-of_listing u p (new (DirKey p)) (Some Dir) no_names empty refl (listing-none u p alone))
             (put-same two (DirKey dir) _)
@@ -151,7 +162,8 @@ module _ (x : Caller) (told : Told) (w : Map) (s : SessionView) (S : Session) (s
       let one : Map = put_in w (Path p) None in
       let two : Map = put_in one (DirKey p) None in
       let new : Map = put_in two (DirKey dir) (Some (value.Names (without_name old.names (name_of p)))) in
-      let is : with (rmdir_edits dir p) w ≡ new = with-drop_from two dir p old.names (put-other one (DirKey p) (DirKey dir) None (dirs-apart p dir dir_p) ∙ old.is) in
+      let is : with (rmdir_edits dir p) w ≡ new =
+      with-drop_from two dir p old.names (put-other one (DirKey p) (DirKey dir) None (dirs-apart p dir dir_p) ∙ old.is) in
       let gone : new (Path p) ≡ None = put-same w (Path p) None in
       let at : (q : List ℕ) → q ≢ p → new (Path q) ≡ w (Path q) = λ q other. put-other w (Path p) (Path q) None (paths-apart p q other) in
       subst (λ m. IsDone x told w m s (record { session = take_out S p; answer = answer.Okay }) answer.Okay) (sym is) (record {
@@ -165,21 +177,28 @@ module _ (x : Caller) (told : Told) (w : Map) (s : SessionView) (S : Session) (s
             (names-taken t (λ d. w (DirKey d)) (λ d. new (DirKey d)) p dir st.tree_is some up old st.names
             (put-other two (DirKey dir) (DirKey p) _ (dirs-apart dir p (λ e. dir_p (sym e))) ∙ put-same one (DirKey p) None)
             (put-same two (DirKey dir) _)
-            (λ d other apart. put-other two (DirKey dir) (DirKey d) _ (dirs-apart dir d apart) ∙ put-other one (DirKey p) (DirKey d) None (dirs-apart p d other)))
+            (λ d other apart. put-other two (DirKey dir) (DirKey d) _ (dirs-apart dir d apart)
+            ∙ put-other one (DirKey p) (DirKey d) None (dirs-apart p d other)))
             (bytes-put (is_told told) (is_listed x.size told) two (DirKey dir) _ tt
             (bytes-put (is_told told) (is_listed x.size told) one (DirKey p) None tt
             (bytes-put (is_told told) (is_listed x.size told) w (Path p) None tt st.bytes)));
-        holds = Holds-on told w new s S (remove t p) (λ f h is leads. at h.path (λ e. folder_leads (w (Path p)) h.inode folder (subst (λ q. LeadsTo w q h.inode) e leads)) ∙ leads) holds;
+        holds = Holds-on told w new s S (remove t p)
+            (λ f h is leads. at h.path (λ e. folder_leads (w (Path p)) h.inode folder (subst (λ q. LeadsTo w q h.inode) e leads)) ∙ leads) holds;
         own = λ i other none. none;
       })
 
-  pub done-create : (p : List ℕ) (i : InodeId) → i.tx.0 ≡ x.tx → i.index ≡ x.calls + 1 → IsPath p → (free : IsFree S.tree p) → IsDone x told w (with (create_edits free.dir p i) w) s (record { session = add_file S p []; answer = answer.Okay }) answer.Okay
+  pub done-create : (p : List ℕ) (i : InodeId) → i.tx.0 ≡ x.tx → i.index ≡ x.calls + 1 → IsPath p → (free : IsFree S.tree p)
+      → IsDone x told w (with (create_edits free.dir p i) w) s (record { session = add_file S p []; answer = answer.Okay }) answer.Okay
   done-create p i mine next path free =
       let t : Tree = S.tree in
       let dir : List ℕ = free.dir in
-      let u : Tree = insert t p (File []) in
+      let file : TreeNode = File (only_path p) [] in
+      let u : Tree = insert t p file in
+      let f : Refile = record { inode = i; was = no_paths; now = only_path p; bytes = [] } in
       let old = listed dir free.parent in
       let none : w (Path p) ≡ None = path-none x.size told x.tx x.calls w t st p free.free in
+      let new_one : w (Inode i) ≡ None = st.fresh i mine (omega arith) in
+      let no_regions : (r : ℕ) → w (Region i r) ≡ None = no-regions x.size told x.tx x.calls w t st i new_one in
       let dir_p : dir ≢ p = two_nodes t dir p (Some Dir) None free.parent free.free (λ e. none_dir Dir (sym e)) in
       let one : Map = put_in w (Path p) (Some (value.Node (FileNode i))) in
       let two : Map = put_in one (Inode i) (Some (value.Last 0)) in
@@ -188,15 +207,30 @@ module _ (x : Caller) (told : Told) (w : Map) (s : SessionView) (S : Session) (s
       let at : (q : List ℕ) → q ≢ p → new (Path q) ≡ w (Path q) = λ q other. put-other w (Path p) (Path q) _ (paths-apart p q other) in
       let inodes : (j : InodeId) → j ≢ i → new (Inode j) ≡ w (Inode j) = λ j other. put-other one (Inode i) (Inode j) _ (inodes-apart i j other) in
       let missing : w (DirKey p) ≡ None = names-missing t p (w (DirKey p)) (get t p) (st.names p) (λ e. none_dir Dir (sym free.free ∙ e)) in
+      let paths : IsRefiledPaths f w new = record {
+        lead = λ q was. absurd (true≢false (sym was ∙ has-none q));
+        all = λ q to. absurd (not-led x.size told x.tx x.calls w t st i new_one q to);
+        free = λ q here never. subst (λ z. w (Path z) ≡ None) (sym (in-only p q here)) none;
+        alone = λ a c one two. in-only p a one ∙ sym (in-only p c two);
+        here = λ q here. subst (λ z. LeadsTo new z i) (sym (in-only p q here)) (put-same w (Path p) _);
+        gone = λ q no was. absurd (true≢false (sym was ∙ has-none q));
+        rest = λ q no never. at q (out-with no_paths p q no).0;
+      } in
+      let body : IsRefiledBody x.size told f w new = record {
+        body = λ q here. body-new x.size told new i (put-same one (Inode i) _) no_regions;
+        some = λ some. (p, has-only p);
+        owned = λ r some. absurd (none_not (w (Region i r)) (no_regions r) some);
+        inodes = inodes;
+        regions = λ j r other. refl;
+      } in
       subst (λ m. IsDone x told w m s (record { session = add_file S p []; answer = answer.Okay }) answer.Okay) (sym is) (record {
         answer = refl;
-        stands = stands-created x.size told x.tx x.calls w t st new p u i mine next free.free
-            (put-same w (Path p) _) (get-node_same t p (File []))
-            (λ q other. (at q other, get-node_other t p (File []) q other))
-            (put-same one (Inode i) _) inodes (λ j r. refl)
-            (IsTree-new t p (File []) path st.tree_is free)
-            (names-added t (λ d. w (DirKey d)) (λ d. new (DirKey d)) p (File []) free old st.names
-            (names-of_none u p (new (DirKey p)) (Some (File [])) (put-other two (DirKey dir) (DirKey p) _ (dirs-apart dir p (λ e. dir_p (sym e))) ∙ missing) (file_dir []))
+        stands = stands-refiled x.size told f w new paths body t u (IsRefiledTree-added i t p []) x.tx x.calls (x.calls + 1) st (omega arith)
+            (λ own later. absurd (omega arith))
+            (IsTree-new t p file path st.tree_is free refl)
+            (names-added t (λ d. w (DirKey d)) (λ d. new (DirKey d)) p file free old st.names
+            (names-of_none u p (new (DirKey p)) (Some file)
+            (put-other two (DirKey dir) (DirKey p) _ (dirs-apart dir p (λ e. dir_p (sym e))) ∙ missing) (file_dir (only_path p) []))
             (put-same two (DirKey dir) _)
             (λ d other apart. put-other two (DirKey dir) (DirKey d) _ (dirs-apart dir d apart)))
             (bytes-put (is_told told) (is_listed x.size told) two (DirKey dir) _ tt
@@ -212,68 +246,107 @@ module _ (x : Caller) (told : Told) (w : Map) (s : SessionView) (S : Session) (s
       let few = file.body.file.few in
       no_region_by (w (Region i r)) (file.body.has.regions r) (file.body.file.above r (omega arith))
 
-  pub done-unlink : (p dir bytes : List ℕ) (i : InodeId) → parent_of p ≡ Some dir → get S.tree p ≡ Some (File bytes) → LeadsTo w p i → IsOff p s
-      → IsDone x told w (with (unlink_edits dir p i) w) s (record { session = take_out S p; answer = answer.Okay }) answer.Okay
-  done-unlink p dir bytes i up there leads_p off =
+  -- a path of a file goes; it has no other yet
+  pub done-unlink : (p dir : List ℕ) (paths : PathSet) (bytes : List ℕ) (i : InodeId) → parent_of p ≡ Some dir → get S.tree p ≡ Some (File paths bytes)
+      → LeadsTo w p i → IsOff p s
+      → IsDone x told w (with (unlink_edits dir p i) w) s (record { session = drop_path S p bytes; answer = answer.Okay }) answer.Okay
+  done-unlink p dir paths bytes i up there leads_p off =
       let t : Tree = S.tree in
-      let some : IsSome (get t p) = there_is (get t p) (File bytes) there in
+      let file = leads-just x.size told x.tx x.calls w t st p i paths bytes leads_p there in
+      let now : PathSet = without_path paths p in
+      let f : Refile = record { inode = i; was = paths; now = now; bytes = bytes } in
+      let u : Tree = refiled t paths now bytes in
+      let some : IsSome (get t p) = there_is (get t p) (File paths bytes) there in
       let parent : get t dir ≡ Some Dir = st.tree_is.parents p dir some up in
       let old = listed dir parent in
-      let dir_p : dir ≢ p = two_nodes t dir p (Some Dir) (Some (File bytes)) parent there (λ e. file_dir bytes (sym e)) in
+      let dir_p : dir ≢ p = two_nodes t dir p (Some Dir) (Some (File paths bytes)) parent there (λ e. file_dir paths bytes (sym e)) in
       let cut : Map = with (change.Cut (Region i 0) (Region i LAST_REGION) ∷ []) w in
       let one : Map = put_in cut (Inode i) None in
       let two : Map = put_in one (Path p) None in
       let new : Map = put_in two (DirKey dir) (Some (value.Names (without_name old.names (name_of p)))) in
       let is : with (unlink_edits dir p i) w ≡ new = with-drop_from two dir p old.names old.is in
       let at : (q : List ℕ) → q ≢ p → new (Path q) ≡ w (Path q) = λ q other. put-other one (Path p) (Path q) None (paths-apart p q other) in
-      let missing : w (DirKey p) ≡ None = names-missing t p (w (DirKey p)) (get t p) (st.names p) (λ e. file_dir bytes (sym there ∙ e)) in
+      let missing : w (DirKey p) ≡ None = names-missing t p (w (DirKey p)) (get t p) (st.names p) (λ e. file_dir paths bytes (sym there ∙ e)) in
+      let no_record : new (Inode i) ≡ None = put-same cut (Inode i) None in
       let no_regions : (r : ℕ) → new (Region i r) ≡ None = λ r. ⊎_elim
       (λ past. none_cut (is_between key_cmp (Region i 0) (Region i LAST_REGION) (Region i r)) (w (Region i r)) (past_regions p i leads_p r past))
       (λ within. cut-own w i 0 LAST_REGION r (omega arith) within)
       (cases_lt LAST_REGION r) in
-      subst (λ m. IsDone x told w m s (record { session = take_out S p; answer = answer.Okay }) answer.Okay) (sym is) (record {
+      let no_other : (q : List ℕ) → has_path now q ≡ true → ⊥ =
+      λ q has. let parts = in-without paths p q has in parts.0 (st.apart q p i (file.lead q parts.1) leads_p) in
+      let moved_paths : IsRefiledPaths f w new = record {
+        lead = file.lead;
+        all = file.all;
+        free = λ q here never. absurd (no_other q here);
+        alone = λ a c one two. absurd (no_other a one);
+        here = λ q here. absurd (no_other q here);
+        gone = λ q no was. ⊎_elim
+            (λ same. subst (λ z. new (Path z) ≡ None) (sym same) (put-same one (Path p) None))
+            (λ never. absurd (true≢false (sym was ∙ never)))
+            (out-without paths p q no);
+        rest = λ q no never. at q (λ same. true≢false (sym (file.all p leads_p) ∙ ap (has_path paths) (sym same) ∙ never));
+      } in
+      let body : IsRefiledBody x.size told f w new = record {
+        body = λ q here. absurd (no_other q here);
+        some = λ some. absurd (none_not (new (Inode i)) no_record some);
+        owned = λ r some. absurd (none_not (new (Region i r)) (no_regions r) some);
+        inodes = λ j other. put-other cut (Inode i) (Inode j) None (inodes-apart i j other);
+        regions = λ j r other. cut-other w i j 0 LAST_REGION r other;
+      } in
+      subst (λ m. IsDone x told w m s (record { session = drop_path S p bytes; answer = answer.Okay }) answer.Okay) (sym is) (record {
         answer = refl;
-        stands = stands-unlinked x.size told x.tx x.calls w t st new p (remove t p) i leads_p
-            (put-same one (Path p) None) (get-taken_same t p)
-            (λ q other. (at q other, get-taken_other t p q other))
-            (put-same cut (Inode i) None) no_regions
-            (λ j other. put-other cut (Inode i) (Inode j) None (inodes-apart i j other))
-            (λ j r other. cut-other w i j 0 LAST_REGION r other)
-            (IsTree-unlinked t p bytes st.tree_is there)
+        stands = subst (λ o. Stands x.size told x.tx (x.calls + 1) new (refiled t (paths_of o) (without_path (paths_of o) p) bytes)) (sym there)
+            (stands-refiled x.size told f w new moved_paths body t u (IsRefiledTree-refiled f t) x.tx x.calls (x.calls + 1) st (omega arith)
+            (λ own later. no_record)
+            (IsTree-refiled t paths now bytes st.tree_is (may-drop t p paths bytes st.tree_is there p))
+            (names-alike (remove t p) u (alike-dropped t p paths bytes st.tree_is there) (λ d. new (DirKey d))
             (names-taken t (λ d. w (DirKey d)) (λ d. new (DirKey d)) p dir st.tree_is some up old st.names
             (put-other two (DirKey dir) (DirKey p) _ (dirs-apart dir p (λ e. dir_p (sym e))) ∙ missing)
             (put-same two (DirKey dir) _)
-            (λ d other apart. put-other two (DirKey dir) (DirKey d) _ (dirs-apart dir d apart)))
+            (λ d other apart. put-other two (DirKey dir) (DirKey d) _ (dirs-apart dir d apart))))
             (bytes-put (is_told told) (is_listed x.size told) two (DirKey dir) _ tt
             (bytes-put (is_told told) (is_listed x.size told) one (Path p) None tt
             (bytes-put (is_told told) (is_listed x.size told) cut (Inode i) None tt
-            (bytes-cut (is_told told) (is_listed x.size told) w (Region i 0) (Region i LAST_REGION) st.bytes))));
-        holds = Holds-on told w new s S (remove t p) (λ f h is leads. at h.path (off f h is) ∙ leads) holds;
+            (bytes-cut (is_told told) (is_listed x.size told) w (Region i 0) (Region i LAST_REGION) st.bytes)))));
+        holds = Holds-on told w new s S (refiled t (paths_of (get t p)) (without_path (paths_of (get t p)) p) bytes)
+            (λ f h is leads. at h.path (off f h is) ∙ leads) holds;
         own = λ j other none. ⊎_elim
-            (λ same. ap (λ k. new (Inode k)) same ∙ put-same cut (Inode i) None)
+            (λ same. ap (λ k. new (Inode k)) same ∙ no_record)
             (λ apart. put-other cut (Inode i) (Inode j) None (inodes-apart i j apart) ∙ none)
             (one_inode i j);
       })
 
-  pub done-rename : (p up q bytes : List ℕ) (i : InodeId) → parent_of p ≡ Some up → get S.tree p ≡ Some (File bytes) → LeadsTo w p i → IsOff p s → IsPath q → (free : IsFree S.tree q)
+  -- a path of a file becomes another one
+  pub done-rename : (p up q : List ℕ) (paths : PathSet) (bytes : List ℕ) (i : InodeId) → parent_of p ≡ Some up → get S.tree p ≡ Some (File paths bytes)
+      → LeadsTo w p i → IsOff p s → IsPath q
+      → (free : IsFree S.tree q)
       → IsDone x told w (with (rename_edits up p free.dir q i) w) s (record { session = move_file S p q bytes; answer = answer.Okay }) answer.Okay
-  done-rename p up q bytes i stands_in there leads_p off path free =
+  done-rename p up q paths bytes i stands_in there leads_p off path free =
       let t : Tree = S.tree in
+      let file = leads-just x.size told x.tx x.calls w t st p i paths bytes leads_p there in
+      let now : PathSet = with_path (without_path paths p) q in
+      let f : Refile = record { inode = i; was = paths; now = now; bytes = bytes } in
+      let u : Tree = refiled t paths now bytes in
       let left : Tree = remove t p in
-      let u : Tree = insert left q (File bytes) in
-      let some : IsSome (get t p) = there_is (get t p) (File bytes) there in
+      let alone : TreeNode = File (only_path q) bytes in
+      let some : IsSome (get t p) = there_is (get t p) (File paths bytes) there in
       let parent : get t up ≡ Some Dir = st.tree_is.parents p up some stands_in in
       let old = listed up parent in
-      let up_p : up ≢ p = two_nodes t up p (Some Dir) (Some (File bytes)) parent there (λ e. file_dir bytes (sym e)) in
-      let q_p : q ≢ p = two_nodes t q p None (Some (File bytes)) free.free there (none_dir (File bytes)) in
+      let up_p : up ≢ p = two_nodes t up p (Some Dir) (Some (File paths bytes)) parent there (λ e. file_dir paths bytes (sym e)) in
+      let q_p : q ≢ p = two_nodes t q p None (Some (File paths bytes)) free.free there (none_dir (File paths bytes)) in
       let one : Map = put_in w (Path p) None in
       let two : Map = put_in one (DirKey up) (Some (value.Names (without_name old.names (name_of p)))) in
-      let missing : w (DirKey p) ≡ None = names-missing t p (w (DirKey p)) (get t p) (st.names p) (λ e. file_dir bytes (sym there ∙ e)) in
+      let missing : w (DirKey p) ≡ None = names-missing t p (w (DirKey p)) (get t p) (st.names p) (λ e. file_dir paths bytes (sym there ∙ e)) in
       let have : HaveNames left (λ d. two (DirKey d)) = names-taken t (λ d. w (DirKey d)) (λ d. two (DirKey d)) p up st.tree_is some stands_in old st.names
       (put-other one (DirKey up) (DirKey p) _ (dirs-apart up p (λ e. up_p (sym e))) ∙ missing)
       (put-same one (DirKey up) _)
       (λ d other apart. put-other one (DirKey up) (DirKey d) _ (dirs-apart up d apart)) in
-      let open_q : IsFree left q = record { dir = free.dir; up = free.up; parent = parent_without t p bytes free.dir there free.parent; free = free_without t p bytes q there free.free } in
+      let open_q : IsFree left q = record {
+        dir = free.dir;
+        up = free.up;
+        parent = parent_without t p paths bytes free.dir there free.parent;
+        free = free_without t p paths bytes q there free.free;
+      } in
       let dir : List ℕ = free.dir in
       let dir_q : dir ≢ q = two_nodes t dir q (Some Dir) None free.parent free.free (λ e. none_dir Dir (sym e)) in
       let next = names-listed left dir (two (DirKey dir)) (get left dir) (have dir) open_q.parent in
@@ -281,25 +354,61 @@ module _ (x : Caller) (told : Told) (w : Map) (s : SessionView) (S : Session) (s
       let new : Map = put_in three (DirKey dir) (Some (value.Names (with_name next.names (name_of q)))) in
       let is : with (rename_edits up p dir q i) w ≡ new =
       ap (λ m. with (put_at q (FileNode i) ∷ add_to dir q ∷ []) m) (with-drop_from one up p old.names old.is) ∙ with-add_to three dir q next.names next.is in
-      let at : (z : List ℕ) → z ≢ p → z ≢ q → new (Path z) ≡ w (Path z) = λ z other apart. put-other two (Path q) (Path z) _ (paths-apart q z apart) ∙ put-other w (Path p) (Path z) None (paths-apart p z other) in
+      let at : (z : List ℕ) → z ≢ p → z ≢ q → new (Path z) ≡ w (Path z) = λ z other apart. put-other two (Path q) (Path z) _ (paths-apart q z apart)
+      ∙ put-other w (Path p) (Path z) None (paths-apart p z other) in
       let gone_q : two (DirKey q) ≡ None = names-missing left q (two (DirKey q)) (get left q) (have q) (λ e. none_dir Dir (sym open_q.free ∙ e)) in
       let free_q : w (Path q) ≡ None = path-none x.size told x.tx x.calls w t st q free.free in
+      let not_q : (z : List ℕ) → has_path paths z ≡ true → z ≢ q =
+      λ z has same. none_leads (w (Path q)) i free_q (subst (λ y. LeadsTo w y i) same (file.lead z has)) in
+      let lies : (z : List ℕ) → has_path now z ≡ true → LeadsTo new z i = λ z here. ⊎_elim
+      (λ same. subst (λ y. LeadsTo new y i) (sym same) (put-same two (Path q) _))
+      (λ kept. let parts = in-without paths p z kept in at z parts.0 (not_q z parts.1) ∙ file.lead z parts.1)
+      (in-with (without_path paths p) q z here) in
+      let one_path : (z : List ℕ) → has_path now z ≡ true → z ≡ q = λ z here. ⊎_elim
+      (λ same. same)
+      (λ kept. let parts = in-without paths p z kept in absurd (parts.0 (st.apart z p i (file.lead z parts.1) leads_p)))
+      (in-with (without_path paths p) q z here) in
+      let moved_paths : IsRefiledPaths f w new = record {
+        lead = file.lead;
+        all = file.all;
+        free = λ z here never. ⊎_elim
+            (λ same. subst (λ y. w (Path y) ≡ None) (sym same) free_q)
+            (λ kept. absurd (true≢false (sym (in-without paths p z kept).1 ∙ never)))
+            (in-with (without_path paths p) q z here);
+        alone = λ a c one two. one_path a one ∙ sym (one_path c two);
+        here = lies;
+        gone = λ z no was. ⊎_elim
+            (λ same. subst (λ y. new (Path y) ≡ None) (sym same)
+            (put-other two (Path q) (Path p) _ (paths-apart q p (λ e. q_p (sym e))) ∙ put-same w (Path p) None))
+            (λ never. absurd (true≢false (sym was ∙ never)))
+            (out-without paths p z (out-with (without_path paths p) q z no).1);
+        rest = λ z no never. at z (λ same. true≢false (sym (file.all p leads_p) ∙ ap (has_path paths) (sym same) ∙ never))
+            (out-with (without_path paths p) q z no).0;
+      } in
+      let body : IsRefiledBody x.size told f w new = record {
+        body = λ z here. body-stays x.size told w new i bytes refl (λ r. refl) file.body;
+        some = λ some. (q, has-added (without_path paths p) q);
+        owned = λ r some. st.regions i r some;
+        inodes = λ j other. refl;
+        regions = λ j r other. refl;
+      } in
       subst (λ m. IsDone x told w m s (record { session = move_file S p q bytes; answer = answer.Okay }) answer.Okay) (sym is) (record {
         answer = refl;
-        stands = stands-renamed x.size told x.tx x.calls w t st new p q u i bytes leads_p there free.free
-            (put-other two (Path q) (Path p) _ (paths-apart q p (λ e. q_p (sym e))) ∙ put-same w (Path p) None, get-node_other left q (File bytes) p (λ e. q_p (sym e)) ∙ get-taken_same t p)
-            (put-same two (Path q) _, get-node_same left q (File bytes))
-            (λ z other apart. (at z other apart, get-node_other left q (File bytes) z apart ∙ get-taken_other t p z other))
-            (λ j. refl) (λ j r. refl)
-            (IsTree-new left q (File bytes) path (IsTree-unlinked t p bytes st.tree_is there) open_q)
-            (names-added left (λ d. two (DirKey d)) (λ d. new (DirKey d)) q (File bytes) open_q next have
-            (names-of_none u q (new (DirKey q)) (Some (File bytes)) (put-other three (DirKey dir) (DirKey q) _ (dirs-apart dir q (λ e. dir_q (sym e))) ∙ gone_q) (file_dir bytes))
+        stands = subst (λ o. Stands x.size told x.tx (x.calls + 1) new (refiled t (paths_of o) (with_path (without_path (paths_of o) p) q) bytes)) (sym there)
+            (stands-refiled x.size told f w new moved_paths body t u (IsRefiledTree-refiled f t) x.tx x.calls (x.calls + 1) st (omega arith)
+            (λ own later. st.fresh i own (omega arith))
+            (IsTree-refiled t paths now bytes st.tree_is (may-move t p paths bytes st.tree_is there p q free path))
+            (names-alike (insert left q alone) u (alike-moved t p q paths bytes st.tree_is there) (λ d. new (DirKey d))
+            (names-added left (λ d. two (DirKey d)) (λ d. new (DirKey d)) q alone open_q next have
+            (names-of_none (insert left q alone) q (new (DirKey q)) (Some alone)
+            (put-other three (DirKey dir) (DirKey q) _ (dirs-apart dir q (λ e. dir_q (sym e))) ∙ gone_q) (file_dir (only_path q) bytes))
             (put-same three (DirKey dir) _)
-            (λ d other apart. put-other three (DirKey dir) (DirKey d) _ (dirs-apart dir d apart)))
+            (λ d other apart. put-other three (DirKey dir) (DirKey d) _ (dirs-apart dir d apart))))
             (bytes-put (is_told told) (is_listed x.size told) three (DirKey dir) _ tt
             (bytes-put (is_told told) (is_listed x.size told) two (Path q) _ tt
             (bytes-put (is_told told) (is_listed x.size told) one (DirKey up) _ tt
-            (bytes-put (is_told told) (is_listed x.size told) w (Path p) None tt st.bytes))));
-        holds = Holds-on told w new s S u (λ f h is leads. at h.path (off f h is) (off_free q free_q h leads) ∙ leads) holds;
+            (bytes-put (is_told told) (is_listed x.size told) w (Path p) None tt st.bytes)))));
+        holds = Holds-on told w new s S (refiled t (paths_of (get t p)) (with_path (without_path (paths_of (get t p)) p) q) bytes)
+            (λ f h is leads. at h.path (off f h is) (off_free q free_q h leads) ∙ leads) holds;
         own = λ j other none. none;
       })

@@ -35,14 +35,16 @@ module _ (P : List Place → Bool) where
       All-cons PieceBytes p ps
       (λ i below. ap P (sym (cond-true (nat_lt i p.len) (part_origin p.part i) (pieces_origin ps (i - p.len)) (lt-ltb i p.len below))) ∙ h i (omega arith))
       (pieces_bytes ps (λ i below. ap P (ap (pieces_origin ps) (let e : i ≡ p.len + i - p.len = omega arith in e)
-      ∙ sym (cond-false (nat_lt (p.len + i) p.len) (part_origin p.part (p.len + i)) (pieces_origin ps (p.len + i - p.len)) (le-ltb (p.len + i) p.len (omega arith)))) ∙ h (p.len + i) (omega arith)))
+      ∙ sym (cond-false (nat_lt (p.len + i) p.len) (part_origin p.part (p.len + i)) (pieces_origin ps (p.len + i - p.len))
+      (le-ltb (p.len + i) p.len (omega arith)))) ∙ h (p.len + i) (omega arith)))
 
   -- and the other way round
   pub pieces_named : (ps : List Piece) (i : ℕ) → PiecesBytes P ps → i < pieces_len ps → P (pieces_origin ps i) ≡ true
   pieces_named [] i h below = absurd (omega arith)
   pieces_named (p ∷ ps) i h below = elim (cases_lt i p.len) [
     | inl l ↦ ap P (cond-true (nat_lt i p.len) (part_origin p.part i) (pieces_origin ps (i - p.len)) (lt-ltb i p.len l)) ∙ All-head PieceBytes p ps h i l
-    | inr g ↦ ap P (cond-false (nat_lt i p.len) (part_origin p.part i) (pieces_origin ps (i - p.len)) (le-ltb i p.len g)) ∙ pieces_named ps (i - p.len) (All-tail PieceBytes p ps h) (omega arith)
+    | inr g ↦ ap P (cond-false (nat_lt i p.len) (part_origin p.part i) (pieces_origin ps (i - p.len)) (le-ltb i p.len g))
+        ∙ pieces_named ps (i - p.len) (All-tail PieceBytes p ps h) (omega arith)
   ]
 
   -- pieces that show only bytes that satisfy P
@@ -69,7 +71,8 @@ module _ (P : List Place → Bool) where
       (All-cons PieceBytes p ps (All-head PieceBytes p (ps ++ qs) h) rest.0, rest.1)
 
   -- pieces that were cut from others
-  pub PiecesBytes-cut : (ps out : List Piece) (off n : ℕ) → PiecesBytes P ps → off + n ≤ pieces_len ps → Plans out n (λ i. pieces_origin ps (off + i)) → PiecesBytes P out
+  pub PiecesBytes-cut : (ps out : List Piece) (off n : ℕ) → PiecesBytes P ps → off + n ≤ pieces_len ps → Plans out n (λ i. pieces_origin ps (off + i))
+      → PiecesBytes P out
   PiecesBytes-cut ps out off n h within plans = plans_bytes out n (λ i. pieces_origin ps (off + i)) plans (λ i below. pieces_named ps (off + i) h (omega arith))
 
   over_bytes : (e : Entry) (x : ℕ) (below : List Place) → EntryBytes P e → P below ≡ true → P (over e x below) ≡ true
@@ -83,7 +86,8 @@ module _ (P : List Place → Bool) where
 
   pub list_bytes : (es : List Entry) (below : List Place) (x : ℕ) → All (EntryBytes P) es → P below ≡ true → P (origin_from below es x) ≡ true
   list_bytes [] below x h under = under
-  list_bytes (e ∷ es) below x h under = list_bytes es (over e x below) x (All-tail (EntryBytes P) e es h) (over_bytes e x below (All-head (EntryBytes P) e es h) under)
+  list_bytes (e ∷ es) below x h under = list_bytes es (over e x below) x (All-tail (EntryBytes P) e es h)
+      (over_bytes e x below (All-head (EntryBytes P) e es h) under)
 
 module _ (P : List Place → Bool) (Q : Slice → Bool) where
   -- changes, one list after another

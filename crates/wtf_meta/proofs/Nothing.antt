@@ -23,7 +23,8 @@ none_at x (suc n) zero e = e
 none_at x (suc n) (suc f) e = none_at x n f e
 
 pub nothing_kept : (P : List Place → Bool) → SessionBytes P nothing_open
-nothing_kept P label ps e = let none : slice_in nothing_open label ≡ None = none_at None MAX_SLICES label refl in let bad : None ≡ Some ps = sym none ∙ e in absurd (cc)
+nothing_kept P label ps e = let none : slice_in nothing_open label ≡ None = none_at None MAX_SLICES label refl in
+    let bad : None ≡ Some ps = sym none ∙ e in absurd (cc)
 
 -- nothing is open in the definitions' session of a tree
 pub holds_nothing : (told : Told) (w : Map) (t : Tree) → Holds told w nothing_open (fresh t)

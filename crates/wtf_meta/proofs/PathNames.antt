@@ -62,7 +62,8 @@ prefix_cmp [] xs ys = refl
 prefix_cmp (b ∷ bs) xs ys = ap (λ o. ordering_then o (slice_cmp nat_cmp (bs ++ xs) (bs ++ ys))) (tied_itself nat_cmp_total b) ∙ prefix_cmp bs xs ys
 
 -- they are in the order of their names
-pub name-orders : (p q dir : List ℕ) → IsPath p → IsPath q → parent_of p ≡ Some dir → parent_of q ≡ Some dir → slice_cmp nat_cmp p q ≡ slice_cmp nat_cmp (name_of p) (name_of q)
+pub name-orders : (p q dir : List ℕ) → IsPath p → IsPath q → parent_of p ≡ Some dir → parent_of q ≡ Some dir
+    → slice_cmp nat_cmp p q ≡ slice_cmp nat_cmp (name_of p) (name_of q)
 name-orders p q dir path other up down =
     ap (λ x. slice_cmp nat_cmp x q) (name-joined p dir path up)
     ∙ ap (slice_cmp nat_cmp (entry_prefix dir ++ name_of p)) (name-joined q dir other down)

@@ -1,5 +1,6 @@
 -- Bytes that are laid part by part, and piece by piece.
-use Rattle.std.proofs.Common.{◌≡◌, ℕ, zero, suc, ◌+◌, ◌-◌, ◌*◌, ◌/◌, ◌%◌, ◌<◌, ◌≤◌, ◌++◌, List, [], ◌∷◌, length, get_or, take, ap, sym, ◌∙◌, subst, arith, inl, inr}
+use Rattle.std.proofs.Common.{◌≡◌, ℕ, zero, suc, ◌+◌, ◌-◌, ◌*◌, ◌/◌, ◌%◌, ◌<◌, ◌≤◌, ◌++◌, List, [], ◌∷◌, length, get_or, take, ap, sym, ◌∙◌, subst, arith, inl}
+use Rattle.std.proofs.Common.{inr}
 use Rattle.std.proofs.lemmas.List.{take_more, take_all}
 use Rattle.std.proofs.lemmas.Bool.{cases_lt, cond-true, lt-ltb}
 use Rattle.std.proofs.lemmas.Nat.{div-add-mod', mod_below, div_below}
@@ -27,7 +28,8 @@ Covers-part b off done r e f ds pos within place here covers =
     (Covers-join b ds (Push r e ∷ []) off done e.len f (part_origin e.part) covers (Covers-push b r (off + done) e pos within place))
 
 -- the places of pieces and of one more
-pub pieces_joined : (ps : List Piece) (p : Piece) (i : ℕ) → i < pieces_len ps + p.len → joined (pieces_len ps) (pieces_origin ps) (part_origin p.part) i ≡ pieces_origin (ps ++ p ∷ []) i
+pub pieces_joined : (ps : List Piece) (p : Piece) (i : ℕ) → i < pieces_len ps + p.len
+    → joined (pieces_len ps) (pieces_origin ps) (part_origin p.part) i ≡ pieces_origin (ps ++ p ∷ []) i
 pieces_joined ps p i h = elim (cases_lt i (pieces_len ps)) [
   | inl l ↦ joined_first _ (pieces_origin ps) (part_origin p.part) i l ∙ sym (pieces_origin_left ps (p ∷ []) i l)
   | inr g ↦ joined_then _ (pieces_origin ps) (part_origin p.part) i g
@@ -36,7 +38,9 @@ pieces_joined ps p i h = elim (cases_lt i (pieces_len ps)) [
 
 -- how many bytes the first pieces have, and one more
 pub pieces_len_more : (ps : List Piece) (i : ℕ) (p : Piece) → i < length ps → p ≡ get_or ps i p → pieces_len (take (i + 1) ps) ≡ pieces_len (take i ps) + p.len
-pieces_len_more ps i p h is = ap pieces_len (take_more ps i p h) ∙ pieces_len-append (take i ps) (get_or ps i p ∷ []) ∙ (let d : pieces_len (take i ps) + (get_or ps i p).len ≡ pieces_len (take i ps) + p.len = ap (λ (q : Piece). pieces_len (take i ps) + q.len) (sym is) in omega (arith, d))
+pieces_len_more ps i p h is = ap pieces_len (take_more ps i p h) ∙ pieces_len-append (take i ps) (get_or ps i p ∷ [])
+    ∙ (let d : pieces_len (take i ps) + (get_or ps i p).len ≡ pieces_len (take i ps) + p.len =
+    ap (λ (q : Piece). pieces_len (take i ps) + q.len) (sym is) in omega (arith, d))
 
 -- the first pieces have no more bytes than all
 pub pieces_len_take : (ps : List Piece) (i : ℕ) → pieces_len (take i ps) ≤ pieces_len ps
@@ -46,7 +50,8 @@ pieces_len_take (p ∷ ps) (suc i) = omega (arith, pieces_len_take ps i)
 
 -- one piece more
 pub Covers-piece : (b off done i : ℕ) (ps : List Piece) (p : Piece) (ds es : List FileEdit) → i < length ps → p ≡ get_or ps i p → done ≡ pieces_len (take i ps)
-    → Covers b ds off done (pieces_origin (take i ps)) → Covers b es (off + done) p.len (part_origin p.part) → Covers b (ds ++ es) off (done + p.len) (pieces_origin (take (i + 1) ps))
+    → Covers b ds off done (pieces_origin (take i ps)) → Covers b es (off + done) p.len (part_origin p.part)
+    → Covers b (ds ++ es) off (done + p.len) (pieces_origin (take (i + 1) ps))
 Covers-piece b off done i ps p ds es h is d covers more =
     let f = pieces_origin (take i ps) in
     let g = pieces_origin (take (i + 1) ps) in
@@ -56,14 +61,16 @@ Covers-piece b off done i ps p ds es h is d covers more =
     (Covers-join b ds es off done p.len f (part_origin p.part) covers more)
 
 -- all pieces, and the last region
-pub Lays-pieces : (b off done i last : ℕ) (ps : List Piece) (ds : List FileEdit) → 0 < b → length ps ≤ i → done ≡ pieces_len (take i ps) → 0 < done → off + done ≤ MAX_REGIONS * b → last ≡ (off + done - 1) / b
+pub Lays-pieces : (b off done i last : ℕ) (ps : List Piece) (ds : List FileEdit) → 0 < b → length ps ≤ i → done ≡ pieces_len (take i ps) → 0 < done
+    → off + done ≤ MAX_REGIONS * b → last ≡ (off + done - 1) / b
     → Covers b ds off done (pieces_origin (take i ps)) → Lays b (ds ++ RaiseLast last ∷ []) off (pieces_len ps) (pieces_origin ps)
 Lays-pieces b off done i last ps ds pos h d some cap l covers =
     let whole : take i ps ≡ ps = take_all i ps h in
     let all : done ≡ pieces_len ps = d ∙ ap pieces_len whole in
     subst (λ k. Lays b (ds ++ RaiseLast last ∷ []) off k (pieces_origin ps)) all
     (Lays-raised b ds off done last ((off + done - 1) % b + 1) (pieces_origin ps) some
-    (ap (λ j. j * b + ((off + done - 1) % b + 1)) l ∙ omega (arith, div-add-mod' (off + done - 1) b)) (omega arith) (omega (arith, mod_below (off + done - 1) b pos))
+    (ap (λ j. j * b + ((off + done - 1) % b + 1)) l ∙ omega (arith, div-add-mod' (off + done - 1) b)) (omega arith)
+    (omega (arith, mod_below (off + done - 1) b pos))
     (subst (λ j. j < MAX_REGIONS) (sym l) (div_below (off + done - 1) b MAX_REGIONS pos (omega arith)))
     (subst (λ (qs : List Piece). Covers b ds off done (pieces_origin qs)) whole covers))
 

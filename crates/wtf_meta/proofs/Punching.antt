@@ -1,5 +1,6 @@
 -- Holes in a file.
-use Rattle.std.proofs.Common.{◌≡◌, ℕ, ◌+◌, ◌-◌, ◌*◌, ◌<◌, ◌≤◌, ◌^◌, ◌⊎◌, ◌++◌, min, nat_lt, List, [], ◌∷◌, Option, Some, None, refl, ap, sym, ◌∙◌, subst, arith, inl, inr}
+use Rattle.std.proofs.Common.{◌≡◌, ℕ, ◌+◌, ◌-◌, ◌*◌, ◌<◌, ◌≤◌, ◌^◌, ◌⊎◌, ◌++◌, min, nat_lt, List, [], ◌∷◌, Option, Some, None, refl, ap, sym, ◌∙◌, subst, arith}
+use Rattle.std.proofs.Common.{inl, inr}
 use Rattle.std.proofs.lemmas.Bool.{cases_lt, cases_eq, cond-true, cond-false, lt-ltb, le-ltb}
 use Rattle.wtf_overlay.proofs.Origins.{over_before, over_after, over_within}
 use Rattle.wtf_values.specs.declared.region.RegionValue.{RegionValue}
@@ -77,16 +78,19 @@ Punches-join b ds es off n m first next = record {
 }
 
 -- zeros within a region of every file
-pub Punches-zero : (b r from upto off n : ℕ) → 0 < b → b < 2 ^ 32 → from + n ≡ upto → upto ≤ b → r * b + from ≡ off → Punches b (ZeroWithin r from upto ∷ []) off n
+pub Punches-zero : (b r from upto off n : ℕ) → 0 < b → b < 2 ^ 32 → from + n ≡ upto → upto ≤ b → r * b + from ≡ off
+    → Punches b (ZeroWithin r from upto ∷ []) off n
 Punches-zero b r from upto off n pos small is within at = subst (λ o. Punches b (ZeroWithin r from upto ∷ []) o n) at (record {
   fit = λ v. refl;
   last = λ v. refl;
   ends = λ v q. elim (cases_eq q r) [
-    | inl e ↦ subst (λ j. end_of ((put_region v r (zeroed from upto (v.region r))).region j) ≡ end_of (v.region j)) (sym e) (ap end_of (put_at v r (zeroed from upto (v.region r))) ∙ zeroed_end from upto (v.region r))
+    | inl e ↦ subst (λ j. end_of ((put_region v r (zeroed from upto (v.region r))).region j) ≡ end_of (v.region j)) (sym e)
+        (ap end_of (put_at v r (zeroed from upto (v.region r))) ∙ zeroed_end from upto (v.region r))
     | inr differ ↦ ap end_of (put_else v r q (zeroed from upto (v.region r)) differ)
   ];
   none = λ v q h. elim (cases_eq q r) [
-    | inl e ↦ subst (λ j. v.region j ≡ None → (put_region v r (zeroed from upto (v.region r))).region j ≡ None) (sym e) (λ k. put_at v r (zeroed from upto (v.region r)) ∙ zeroed_none from upto (v.region r) k) h
+    | inl e ↦ subst (λ j. v.region j ≡ None → (put_region v r (zeroed from upto (v.region r))).region j ≡ None) (sym e)
+        (λ k. put_at v r (zeroed from upto (v.region r)) ∙ zeroed_none from upto (v.region r) k) h
     | inr differ ↦ put_else v r q (zeroed from upto (v.region r)) differ ∙ h
   ];
   origin = λ lists v. by_places
@@ -104,13 +108,15 @@ Punches-zero b r from upto off n pos small is within at = subst (λ o. Punches b
 })
 
 -- holes of n bytes, of which m lie below the greatest length
-pub Clears-punched : (b : ℕ) (ds : List FileEdit) (off n m : ℕ) → 0 < b → m ≡ min n (MAX_REGIONS * b - off) → off ≤ MAX_REGIONS * b → Punches b ds off m → Clears b ds off n
+pub Clears-punched : (b : ℕ) (ds : List FileEdit) (off n m : ℕ) → 0 < b → m ≡ min n (MAX_REGIONS * b - off) → off ≤ MAX_REGIONS * b → Punches b ds off m
+    → Clears b ds off n
 Clears-punched b ds off n m pos is within p = record {
   fit = p.fit;
   keeps = λ v file. record {
     ends = λ q. subst (λ j. j ≤ b) (sym (p.ends v q)) (file.ends q);
     above = λ q h. p.none v q (file.above q (subst (λ l. l < q) (p.last v) h));
-    some = λ h. subst (λ l. 0 < end_of ((after ds v).region l)) (sym (p.last v)) (subst (λ j. 0 < j) (sym (p.ends v v.last)) (file.some (subst (λ l. 0 < l) (p.last v) h)));
+    some = λ h. subst (λ l. 0 < end_of ((after ds v).region l)) (sym (p.last v))
+        (subst (λ j. 0 < j) (sym (p.ends v v.last)) (file.some (subst (λ l. 0 < l) (p.last v) h)));
     few = subst (λ l. l < MAX_REGIONS) (sym (p.last v)) file.few;
   };
   len = λ v file. ap (λ l. l * b + end_of ((after ds v).region l)) (p.last v) ∙ ap (λ j. v.last * b + j) (p.ends v v.last);
@@ -123,7 +129,8 @@ Clears-punched b ds off n m pos is within p = record {
 }
 
 -- one part more of a range
-pub Punches-part : (b off done r from upto : ℕ) (ds : List FileEdit) → 0 < b → b < 2 ^ 32 → from ≤ upto → upto ≤ b → r * b + from ≡ off + done → Punches b ds off done
+pub Punches-part : (b off done r from upto : ℕ) (ds : List FileEdit) → 0 < b → b < 2 ^ 32 → from ≤ upto → upto ≤ b → r * b + from ≡ off + done
+    → Punches b ds off done
     → Punches b (ds ++ ZeroWithin r from upto ∷ []) off (done + (upto - from))
 Punches-part b off done r from upto ds pos small le within at punches =
     Punches-join b ds (ZeroWithin r from upto ∷ []) off done (upto - from) punches

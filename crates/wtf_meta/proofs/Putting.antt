@@ -76,7 +76,7 @@ stands-put b told tx k w t i r v x st is same named =
     let found = st.led i (st.regions i r (region_value (w (Region i r)) v is)) in
     let file = leads-file b told tx k w t st found.0 i found.1 in
     let body = file.body in
-    stands-kept b told tx k w t st found.0 i found.1 (Put r x ∷ []) file.bytes file.there
+    stands-kept b told tx k w t st found.0 i found.1 (Put r x ∷ []) file.paths file.bytes file.there
     (body_after b told i (Put r x ∷ []) w file.bytes body.has (IsFile-put told b (file_of i w) r v x is same body.file)
     (HasBytes-put told b (file_of i w) r v x is same file.bytes body.bytes_are))
     (named, tt)

@@ -1,5 +1,6 @@
 -- The bytes of pieces: read from a file, one after another, and parts of them.
-use Rattle.std.proofs.Common.{◌≡◌, ℕ, ◌+◌, ◌-◌, ◌<◌, ◌≤◌, ◌++◌, min, nat_lt, List, [], ◌∷◌, length, get_or, Some, refl, ap, sym, ◌∙◌, arith, inl, inr, length-append}
+use Rattle.std.proofs.Common.{◌≡◌, ℕ, ◌+◌, ◌-◌, ◌<◌, ◌≤◌, ◌++◌, min, nat_lt, List, [], ◌∷◌, length, get_or, Some, refl, ap, sym, ◌∙◌, arith, inl, inr}
+use Rattle.std.proofs.Common.{length-append}
 use Rattle.std.proofs.lemmas.Bool.{cases_lt, cond-true, lt-ltb}
 use Rattle.std.proofs.lemmas.List.{get_or_append_left, get_or-append_right}
 use Rattle.std.proofs.lemmas.Grind.{same_number_lists}
@@ -14,14 +15,16 @@ use Rattle.wtf_meta.specs.Contents.{Told, TellBytes, PiecesTell, HasBytes, lists
 use Rattle.wtf_meta.proofs.Laid.{joined_first, joined_then}
 
 -- pieces that show places tell their bytes
-pub PiecesTell-plans : (told : Told) (ps : List Piece) (n : ℕ) (f : ℕ → List Place) (bytes : List ℕ) → Plans ps n f → TellBytes told n f bytes → PiecesTell told ps bytes
+pub PiecesTell-plans : (told : Told) (ps : List Piece) (n : ℕ) (f : ℕ → List Place) (bytes : List ℕ) → Plans ps n f → TellBytes told n f bytes
+    → PiecesTell told ps bytes
 PiecesTell-plans told ps n f bytes plans tell = record {
   len = plans.len ∙ tell.len;
   tells = λ i h. let here : i < n = omega (arith, plans.len) in ap (meaning told) (plans.origin i here) ∙ tell.tells i here;
 }
 
 -- a part of bytes that are told everywhere, as far as they go
-part_tells : (told : Told) (f : ℕ → List Place) (all : List ℕ) (off n k : ℕ) → ((x : ℕ) → x < length all → meaning told (f x) ≡ Some (get_or all x 0)) → k ≡ min n (length all - off)
+part_tells : (told : Told) (f : ℕ → List Place) (all : List ℕ) (off n k : ℕ) → ((x : ℕ) → x < length all → meaning told (f x) ≡ Some (get_or all x 0))
+    → k ≡ min n (length all - off)
     → TellBytes told k (λ i. f (off + i)) (part off n all)
 part_tells told f all off n k tells most = record {
   len = most ∙ sym (length-part n off all);
@@ -63,7 +66,8 @@ PiecesTell-one told p bytes tell =
     (record { len = omega arith; origin = λ i h. cond-true (nat_lt i p.len) _ _ (lt-ltb i p.len h) }) tell
 
 -- bytes after others
-pub TellBytes-append : (told : Told) (n m : ℕ) (f g : ℕ → List Place) (xs ys : List ℕ) → TellBytes told n f xs → TellBytes told m g ys → TellBytes told (n + m) (joined n f g) (xs ++ ys)
+pub TellBytes-append : (told : Told) (n m : ℕ) (f g : ℕ → List Place) (xs ys : List ℕ) → TellBytes told n f xs → TellBytes told m g ys
+    → TellBytes told (n + m) (joined n f g) (xs ++ ys)
 TellBytes-append told n m f g xs ys first next =
     let a : n ≡ length xs = first.len in
     let b : m ≡ length ys = next.len in
@@ -71,12 +75,14 @@ TellBytes-append told n m f g xs ys first next =
       len = omega (arith, length-append xs ys);
       tells = λ i h. elim (cases_lt i n) [
         | inl l ↦ ap (meaning told) (joined_first n f g i l) ∙ first.tells i l ∙ ap Some (sym (get_or_append_left xs ys 0 i (omega arith)))
-        | inr past ↦ ap (meaning told) (joined_then n f g i past) ∙ next.tells (i - n) (omega arith) ∙ ap Some (sym (get_or-append_right xs ys n i 0 (sym a) past))
+        | inr past ↦ ap (meaning told) (joined_then n f g i past) ∙ next.tells (i - n) (omega arith)
+            ∙ ap Some (sym (get_or-append_right xs ys n i 0 (sym a) past))
       ];
     }
 
 -- pieces after others
-pub PiecesTell-append : (told : Told) (ps qs : List Piece) (xs ys : List ℕ) → PiecesTell told ps xs → PiecesTell told qs ys → PiecesTell told (ps ++ qs) (xs ++ ys)
+pub PiecesTell-append : (told : Told) (ps qs : List Piece) (xs ys : List ℕ) → PiecesTell told ps xs → PiecesTell told qs ys
+    → PiecesTell told (ps ++ qs) (xs ++ ys)
 PiecesTell-append told ps qs xs ys first next =
     PiecesTell-plans told (ps ++ qs) (pieces_len ps + pieces_len qs) (joined (pieces_len ps) (pieces_origin ps) (pieces_origin qs)) (xs ++ ys)
     (record {
@@ -92,4 +98,5 @@ PiecesTell-append told ps qs xs ys first next =
 pub TellBytes-one : (told : Told) (n : ℕ) (f : ℕ → List Place) (xs ys : List ℕ) → TellBytes told n f xs → TellBytes told n f ys → xs ≡ ys
 TellBytes-one told n f xs ys first second =
     same_number_lists xs ys (sym first.len ∙ second.len)
-    (λ k h. let e : Some (get_or xs k 0) ≡ Some (get_or ys k 0) = sym (first.tells k (omega (arith, first.len))) ∙ second.tells k (omega (arith, first.len)) in cc)
+    (λ k h. let e : Some (get_or xs k 0) ≡ Some (get_or ys k 0) = sym (first.tells k (omega (arith, first.len)))
+    ∙ second.tells k (omega (arith, first.len)) in cc)

@@ -67,7 +67,8 @@ module _ (x : Caller) (b : Map) (s t : SessionView) (did more : Did) (ops : List
       let session : session_after cap tree (ops ++ o ∷ []) ≡ (call cap (session_after cap tree ops) o).session = session_from-push cap (fresh tree) ops o in
       let count : length (ops ++ o ∷ []) ≡ length ops + 1 = length_push ops o in
       record {
-        answers = answers_from-push cap (fresh tree) ops o ∙ ap (λ l. l ++ (call cap (session_after cap tree ops) o).answer ∷ []) ran.answers ∙ ap (λ y. shown ++ y ∷ []) (sym done.answer);
+        answers = answers_from-push cap (fresh tree) ops o ∙ ap (λ l. l ++ (call cap (session_after cap tree ops) o).answer ∷ []) ran.answers
+            ∙ ap (λ y. shown ++ y ∷ []) (sym done.answer);
         stands = subst (λ m. Stands x.size told x.tx (length (ops ++ o ∷ [])) m (session_after cap tree (ops ++ o ∷ [])).tree) (sym map)
             (subst (λ n. Stands x.size told x.tx n new (session_after cap tree (ops ++ o ∷ [])).tree) (sym count)
             (subst (λ S. Stands x.size told x.tx (length ops + 1) new S.tree) (sym session) done.stands));

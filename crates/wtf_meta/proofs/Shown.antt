@@ -1,5 +1,6 @@
 -- The names of a directory, as they are listed.
-use Rattle.std.proofs.Common.{◌≡◌, ℕ, Bool, true, false, cond, ◌&&◌, List, [], ◌∷◌, map, length, Option, Some, None, Ok, Err, refl, sym, ap, ◌∙◌, subst, ⊎_elim, arith}
+use Rattle.std.proofs.Common.{◌≡◌, ℕ, Bool, true, false, cond, ◌&&◌, List, [], ◌∷◌, map, length, Option, Some, None, Ok, Err, refl, sym, ap, ◌∙◌, subst, ⊎_elim}
+use Rattle.std.proofs.Common.{arith}
 use Rattle.std.specs.Prelude.{T, filter}
 use Rattle.std.specs.List.{list_any}
 use Rattle.std.specs.FinMap.{keys, entries, entries_sorted, contains_key-keys}
@@ -73,14 +74,16 @@ module _ (dir : List ℕ) where
   tail_paths : (e : List ℕ × TreeNode) (es : List (List ℕ × TreeNode)) → ArePaths (e ∷ es) → ArePaths es
   tail_paths e es all q h = all q (or_right _ _ h)
 
-  below_names : (x : List ℕ) (es : List (List ℕ × TreeNode)) → IsPath x → parent_of x ≡ Some dir → ArePaths es → T (below_all (slice_cmp nat_cmp) x es) → T (below_all name_cmp (name_of x) (as_entries (names_from es)))
+  below_names : (x : List ℕ) (es : List (List ℕ × TreeNode)) → IsPath x → parent_of x ≡ Some dir → ArePaths es → T (below_all (slice_cmp nat_cmp) x es)
+      → T (below_all name_cmp (name_of x) (as_entries (names_from es)))
   below_names x [] path up all h = tt
   below_names x (e ∷ es) path up all h =
       let left : List (List ℕ) = filter (is_in dir) (map (λ e. e.0) es) in
       let rest = below_names x es path up (tail_paths e es all) (rest_of_both (is_lt (slice_cmp nat_cmp x e.0)) (below_all (slice_cmp nat_cmp) x es) h) in
       elim (is_in dir e.0) as (λ b. is_in dir e.0 ≡ b → T (below_all name_cmp (name_of x) (as_entries (map name_of (cond b (e.0 ∷ left) left))))) [
         | true ↦ λ here. both_hold _ _
-            (subst (λ o. T (is_lt o)) (name-orders x e.0 dir path (head_path e es all) up (in_parent dir e.0 here)) (first_of_both (is_lt (slice_cmp nat_cmp x e.0)) (below_all (slice_cmp nat_cmp) x es) h))
+            (subst (λ o. T (is_lt o)) (name-orders x e.0 dir path (head_path e es all) up (in_parent dir e.0 here))
+            (first_of_both (is_lt (slice_cmp nat_cmp x e.0)) (below_all (slice_cmp nat_cmp) x es) h))
             rest
         | false ↦ λ other. rest
       ] refl
@@ -92,7 +95,8 @@ module _ (dir : List ℕ) where
       let rest = sorted_names es (tail_paths e es all) (rest_of_both (below_all (slice_cmp nat_cmp) e.0 es) (is_sorted (slice_cmp nat_cmp) es) h) in
       elim (is_in dir e.0) as (λ b. is_in dir e.0 ≡ b → Rise (map name_of (cond b (e.0 ∷ left) left))) [
         | true ↦ λ here. both_hold _ _
-            (below_names e.0 es (head_path e es all) (in_parent dir e.0 here) (tail_paths e es all) (first_of_both (below_all (slice_cmp nat_cmp) e.0 es) (is_sorted (slice_cmp nat_cmp) es) h))
+            (below_names e.0 es (head_path e es all) (in_parent dir e.0 here) (tail_paths e es all)
+            (first_of_both (below_all (slice_cmp nat_cmp) e.0 es) (is_sorted (slice_cmp nat_cmp) es) h))
             rest
         | false ↦ λ other. rest
       ] refl

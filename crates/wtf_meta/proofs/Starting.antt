@@ -65,13 +65,16 @@ module _ (b : ℕ) (told : Told) (tx k : ℕ) (w : Map) (first : IsFirst w) wher
   stands-first = record {
     tree_is = IsTree-root_alone;
     nodes = λ q. ⊎_elim
-        (λ same. subst (λ x. NodeAt b told w (w (Path x)) (get root_alone x)) (sym same) (node-put b told w Folder (w (Path root)) (get root_alone root) (Some Dir) first.top there tt))
+        (λ same. subst (λ x. NodeAt b told w (w (Path x)) (get root_alone x)) (sym same)
+        (node-put b told w Folder (w (Path root)) (get root_alone root) (Some Dir) first.top there tt))
         (λ other. node-taken b told w (w (Path q)) (get root_alone q) (first.paths q other) (gone q other))
         (same_or_other q root);
     names = λ q. ⊎_elim
         (λ same. subst (λ x. NamesAt root_alone x (w (DirKey x)) (get root_alone x)) (sym same)
-        (names-of_listing root_alone root (w (DirKey root)) (get root_alone root) no_names first.names there (listing-none root_alone root (λ r some up. alone r (same_or_other r root) some up))))
-        (λ other. names-of_none root_alone q (w (DirKey q)) (get root_alone q) (first.dirs q other) (λ e. let both : None ≡ Some Dir = sym (gone q other) ∙ e in cc))
+        (names-of_listing root_alone root (w (DirKey root)) (get root_alone root) no_names first.names there
+        (listing-none root_alone root (λ r some up. alone r (same_or_other r root) some up))))
+        (λ other. names-of_none root_alone q (w (DirKey q)) (get root_alone q) (first.dirs q other)
+        (λ e. let both : None ≡ Some Dir = sym (gone q other) ∙ e in cc))
         (same_or_other q root);
     apart = λ q r i one two. absurd (leads_none q i (same_or_other q root) one);
     led = λ i some. absurd (none_some (w (Inode i)) (first.inodes i) some);

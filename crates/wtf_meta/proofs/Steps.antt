@@ -75,17 +75,20 @@ region_step i r w d f does has =
     let regions : (q : ℕ) → region_of (step (change.Delta (Region i r) d) w (Region i q)) ≡ (if nat_eq q r then new else region_of (w (Region i q))) =
     λ q. elim (cases_eq q r) [
       | inl e ↦ subst (λ k. region_of (step (change.Delta (Region i r) d) w (Region i k)) ≡ (if nat_eq k r then new else region_of (w (Region i k)))) (sym e)
-          (ap region_of (at_region i r w d) ∙ does.value (w (Region i r)) (has.regions r) ∙ sym (cond-true (nat_eq r r) new (region_of (w (Region i r))) (eq-eqb r r refl)))
+          (ap region_of (at_region i r w d) ∙ does.value (w (Region i r)) (has.regions r)
+          ∙ sym (cond-true (nat_eq r r) new (region_of (w (Region i r))) (eq-eqb r r refl)))
       | inr differ ↦ ap region_of (at_other i r q w d differ) ∙ sym (cond-false (nat_eq q r) new (region_of (w (Region i q))) (ne_eqb q r differ))
     ] in
     λ k. record { last = last_of (w (Inode i)); region = λ q. regions q k }
 
 -- which leaves values of the kinds of their keys
-pub region_has : (i : InodeId) (r : ℕ) (w : Map) (d : Delta) (f : Option RegionValue → Option RegionValue) → Does d f → HasFile i w → HasFile i (step (change.Delta (Region i r) d) w)
+pub region_has : (i : InodeId) (r : ℕ) (w : Map) (d : Delta) (f : Option RegionValue → Option RegionValue) → Does d f → HasFile i w
+    → HasFile i (step (change.Delta (Region i r) d) w)
 region_has i r w d f does has = record {
   inode = has.inode;
   regions = λ q. elim (cases_eq q r) [
-    | inl e ↦ subst (λ k. IsRegion (step (change.Delta (Region i r) d) w (Region i k))) (sym e) (subst IsRegion (sym (at_region i r w d)) (does.kind (w (Region i r)) (has.regions r)))
+    | inl e ↦ subst (λ k. IsRegion (step (change.Delta (Region i r) d) w (Region i k))) (sym e)
+        (subst IsRegion (sym (at_region i r w d)) (does.kind (w (Region i r)) (has.regions r)))
     | inr differ ↦ subst IsRegion (sym (at_other i r q w d differ)) (has.regions q)
   ];
 }
@@ -112,7 +115,8 @@ does_zero from upto = record {
 }
 
 -- pieces that are added where they fit; b says whether they do
-rel_value : (b : Bool) (v : RegionValue) (now : Option Value) → region_of (value_made (if b then Is (value.Region v) else Unfit) now) ≡ (if b then Some v else region_of now)
+rel_value : (b : Bool) (v : RegionValue) (now : Option Value)
+    → region_of (value_made (if b then Is (value.Region v) else Unfit) now) ≡ (if b then Some v else region_of now)
 rel_value true v now = refl
 rel_value false v now = refl
 

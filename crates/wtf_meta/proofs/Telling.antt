@@ -27,13 +27,16 @@ abbrev pub TellsOn : Told → Told → Type 0
 TellsOn told later = (p : Place) (byte : ℕ) → told p ≡ Some byte → later p ≡ Some byte
 
 -- a byte that was told is told still
-pub meaning_later : (told later : Told) (places : List Place) (byte : ℕ) → TellsOn told later → meaning told places ≡ Some byte → meaning later places ≡ Some byte
+pub meaning_later : (told later : Told) (places : List Place) (byte : ℕ) → TellsOn told later → meaning told places ≡ Some byte
+    → meaning later places ≡ Some byte
 meaning_later told later [] byte on h = h
 meaning_later told later (p ∷ ps) byte on h =
-    meaning-All later p ps byte (All-weaker (λ q. told q ≡ Some byte) (λ q. later q ≡ Some byte) (λ q k. on q byte k) (p ∷ ps) (All-meaning told (p ∷ ps) byte h))
+    meaning-All later p ps byte (All-weaker (λ q. told q ≡ Some byte) (λ q. later q ≡ Some byte) (λ q k. on q byte k) (p ∷ ps)
+    (All-meaning told (p ∷ ps) byte h))
 
 -- places tell later what they told
-pub TellBytes-later : (told later : Told) (n : ℕ) (f : ℕ → List Place) (bytes : List ℕ) → TellsOn told later → TellBytes told n f bytes → TellBytes later n f bytes
+pub TellBytes-later : (told later : Told) (n : ℕ) (f : ℕ → List Place) (bytes : List ℕ) → TellsOn told later → TellBytes told n f bytes
+    → TellBytes later n f bytes
 TellBytes-later told later n f bytes on tell = record { len = tell.len; tells = λ i h. meaning_later told later (f i) (get_or bytes i 0) on (tell.tells i h) }
 
 -- a byte is told where it means one

@@ -1,5 +1,6 @@
 -- The regions that a range touches, part by part, and files that agree on what was recorded of one.
-use Rattle.std.proofs.Common.{◌≡◌, ℕ, zero, suc, ◌+◌, ◌-◌, ◌*◌, ◌/◌, ◌%◌, ◌<◌, ◌≤◌, ◌⊎◌, ◌++◌, nat_lt, List, [], ◌∷◌, refl, ap, sym, ◌∙◌, subst, arith, inl, inr}
+use Rattle.std.proofs.Common.{◌≡◌, ℕ, zero, suc, ◌+◌, ◌-◌, ◌*◌, ◌/◌, ◌%◌, ◌<◌, ◌≤◌, ◌⊎◌, ◌++◌, nat_lt, List, [], ◌∷◌, refl, ap, sym, ◌∙◌, subst, arith, inl}
+use Rattle.std.proofs.Common.{inr}
 use Rattle.std.proofs.lemmas.Bool.{cases_eq, cond-true, lt-ltb}
 use Rattle.std.proofs.Math.Nat.{div-mul-le_self}
 use Rattle.std.proofs.lemmas.Nat.{div-mul-add, div_below, le-div}
@@ -15,7 +16,8 @@ use Rattle.wtf_meta.specs.Appends.{FileKey, OfLast, OfRegion, keys_of, AgreeOn, 
 
 count_from-push : (a n : ℕ) → count_from a (suc n) ≡ count_from a n ++ (a + n) ∷ []
 count_from-push a zero = ap (λ k. k ∷ []) (let e : a ≡ a + 0 = omega arith in e)
-count_from-push a (suc n) = ap (λ l. a ∷ l) (count_from-push (a + 1) n ∙ ap (λ k. count_from (a + 1) n ++ k ∷ []) (let e : a + 1 + n ≡ a + suc n = omega arith in e))
+count_from-push a (suc n) = ap (λ l. a ∷ l) (count_from-push (a + 1) n
+    ∙ ap (λ k. count_from (a + 1) n ++ k ∷ []) (let e : a + 1 + n ≡ a + suc n = omega arith in e))
 
 -- the regions of n bytes of which the last is at k - 1 of region r
 touched_upto : (b off n r k m : ℕ) → 0 < n → r * b + k ≡ off + n → 0 < k → k ≤ b → r + 1 - off / b ≡ m → touched b off n ≡ count_from (off / b) m
@@ -40,12 +42,14 @@ touched_next b off done (suc q) n pos some at within more =
     ∙ ap (λ k. touched b off done ++ k ∷ []) (omega arith)
 
 -- one part more, which begins the range or a region
-pub touched-more : (b off done r s n : ℕ) → 0 < b → r * b + s ≡ off + done → s + n ≤ b → 0 < n → (done ≡ 0) ⊎ (s ≡ 0) → touched b off (done + n) ≡ touched b off done ++ r ∷ []
+pub touched-more : (b off done r s n : ℕ) → 0 < b → r * b + s ≡ off + done → s + n ≤ b → 0 < n → (done ≡ 0) ⊎ (s ≡ 0)
+    → touched b off (done + n) ≡ touched b off done ++ r ∷ []
 touched-more b off done r s n pos at within some (inl first) =
     subst (λ d. touched b off (d + n) ≡ touched b off d ++ r ∷ []) (sym first)
     (ap (touched b off) (omega arith) ∙ touched_first b off r s n (omega arith) within some)
 touched-more b off done r s n pos at within some (inr start) = elim (cases_eq done 0) [
-  | inl none ↦ subst (λ d. touched b off (d + n) ≡ touched b off d ++ r ∷ []) (sym none) (ap (touched b off) (omega arith) ∙ touched_first b off r s n (omega arith) within some)
+  | inl none ↦ subst (λ d. touched b off (d + n) ≡ touched b off d ++ r ∷ []) (sym none)
+      (ap (touched b off) (omega arith) ∙ touched_first b off r s n (omega arith) within some)
   | inr more ↦ touched_next b off done r n pos (omega arith) (omega arith) (omega arith) some
 ]
 

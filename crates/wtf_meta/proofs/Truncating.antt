@@ -16,14 +16,17 @@ abbrev pub cut_edits : ℕ → ℕ → List FileEdit
 cut_edits r k = SetLast r ∷ Clip r k ∷ CutAbove r ∷ []
 
 region_here : (v : FileView) (r k : ℕ) → (after (cut_edits r k) v).region r ≡ Some (clipped k (v.region r))
-region_here v r k = cond-false (lies_above r r) _ _ (and_left (nat_lt r r) (nat_le r LAST_REGION) (le-ltb r r (omega arith))) ∙ cond-true (nat_eq r r) _ _ (eq-eqb r r refl)
+region_here v r k = cond-false (lies_above r r) _ _ (and_left (nat_lt r r) (nat_le r LAST_REGION) (le-ltb r r (omega arith)))
+    ∙ cond-true (nat_eq r r) _ _ (eq-eqb r r refl)
 
 region_under : (v : FileView) (r k q : ℕ) → q < r → (after (cut_edits r k) v).region q ≡ v.region q
-region_under v r k q h = cond-false (lies_above r q) _ _ (and_left (nat_lt r q) (nat_le q LAST_REGION) (le-ltb r q (omega arith))) ∙ cond-false (nat_eq q r) _ _ (ne_eqb q r (λ e. omega arith))
+region_under v r k q h = cond-false (lies_above r q) _ _ (and_left (nat_lt r q) (nat_le q LAST_REGION) (le-ltb r q (omega arith)))
+    ∙ cond-false (nat_eq q r) _ _ (ne_eqb q r (λ e. omega arith))
 
 region_above : (b : ℕ) (v : FileView) (r k q : ℕ) → IsFile b v → r < q → (after (cut_edits r k) v).region q ≡ None
 region_above b v r k q is h = elim (cases_lt LAST_REGION q) [
-  | inl far ↦ cond-false (lies_above r q) _ _ (and_right (nat_lt r q) (nat_le q LAST_REGION) (lt-leb q LAST_REGION far)) ∙ cond-false (nat_eq q r) _ _ (ne_eqb q r (λ e. omega arith))
+  | inl far ↦ cond-false (lies_above r q) _ _ (and_right (nat_lt r q) (nat_le q LAST_REGION) (lt-leb q LAST_REGION far))
+      ∙ cond-false (nat_eq q r) _ _ (ne_eqb q r (λ e. omega arith))
       ∙ is.above q (omega (arith, is.few))
   | inr near ↦ cond-true (lies_above r q) _ _ (and_from (nat_lt r q) (nat_le q LAST_REGION) (lt-ltb r q h) (le-leb q LAST_REGION near))
 ]

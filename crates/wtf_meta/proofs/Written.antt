@@ -15,20 +15,23 @@ use Rattle.wtf_meta.proofs.Laid.{grown_some, grown_none, cut_below, cut_past, la
 use Rattle.wtf_meta.proofs.ByteLists.{length-resized, resized_at, length-zeroed, zeroed_before, zeroed_within, zeroed_after}
 
 -- what is laid over places tells the bytes that are written over bytes
-pub laid_tells : (told : Told) (off n : ℕ) (f g : ℕ → List Place) (new old : List ℕ) → TellBytes told n f new → ((x : ℕ) → meaning told (g x) ≡ Some (get_or old x 0))
+pub laid_tells : (told : Told) (off n : ℕ) (f g : ℕ → List Place) (new old : List ℕ) → TellBytes told n f new
+    → ((x : ℕ) → meaning told (g x) ≡ Some (get_or old x 0))
     → (x : ℕ) → meaning told (laid off n f g x) ≡ Some (get_or (written old off new) x 0)
 laid_tells told off n f g new old tell below x =
     let len : n ≡ length new = tell.len in
     elim (cases_lt x off) [
       | inl l ↦ ap (meaning told) (laid_before off n f g x l) ∙ below x ∙ ap Some (sym (written_before old off new x l))
       | inr from ↦ elim (cases_lt x (off + n)) [
-        | inl to ↦ ap (meaning told) (laid_within off n f g x from to) ∙ tell.tells (x - off) (omega arith) ∙ ap Some (sym (written_within old off new x from (omega arith)))
+        | inl to ↦ ap (meaning told) (laid_within off n f g x from to) ∙ tell.tells (x - off) (omega arith)
+            ∙ ap Some (sym (written_within old off new x from (omega arith)))
         | inr p ↦ ap (meaning told) (laid_after off n f g x p) ∙ below x ∙ ap Some (sym (written_after old off new x (omega arith)))
       ]
     ]
 
 -- bytes that are laid over a file are written over its bytes
-pub Lays-bytes : (told : Told) (b : ℕ) (ds : List FileEdit) (off n : ℕ) (f : ℕ → List Place) (v : FileView) (old new : List ℕ) → 0 < n → Lays b ds off n f → IsFile b v
+pub Lays-bytes : (told : Told) (b : ℕ) (ds : List FileEdit) (off n : ℕ) (f : ℕ → List Place) (v : FileView) (old new : List ℕ) → 0 < n → Lays b ds off n f
+    → IsFile b v
     → TellBytes told n f new → HasBytes told b v old → HasBytes told b (after ds v) (written old off new)
 Lays-bytes told b ds off n f v old new some lays is tell has = record {
   len = lays.len v is ∙ grown_some (file_len b v) off n some
@@ -37,7 +40,8 @@ Lays-bytes told b ds off n f v old new some lays is tell has = record {
 }
 
 -- no byte changes nothing
-pub Lays-no_bytes : (told : Told) (b : ℕ) (ds : List FileEdit) (off n : ℕ) (f : ℕ → List Place) (v : FileView) (old : List ℕ) → n ≡ 0 → Lays b ds off n f → IsFile b v
+pub Lays-no_bytes : (told : Told) (b : ℕ) (ds : List FileEdit) (off n : ℕ) (f : ℕ → List Place) (v : FileView) (old : List ℕ) → n ≡ 0 → Lays b ds off n f
+    → IsFile b v
     → HasBytes told b v old → HasBytes told b (after ds v) old
 Lays-no_bytes told b ds off n f v old none lays is has = record {
   len = lays.len v is ∙ grown_none (file_len b v) off n none ∙ has.len;

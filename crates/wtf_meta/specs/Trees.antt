@@ -4,7 +4,7 @@ use Rattle.std.specs.Prelude.{◌≡◌, ◌≢◌, ◌<◌, ℕ, true, List, Op
 use Rattle.std.specs.FinMap.{get}
 use Rattle.wtf_base.specs.declared.ids.InodeId.{InodeId}
 use Rattle.wtf_path.specs.Parts.{parent_of, name_of}
-use Rattle.wtf_model.specs.Tree.{Tree, TreeNode, Dir, File, root, IsTree}
+use Rattle.wtf_model.specs.Tree.{PathSet, has_path, Tree, TreeNode, Dir, File, root, IsTree}
 use Rattle.wtf_values.specs.declared.key.Key.TheVariants.{Path, Dir as DirKey, Inode, Region}
 use Rattle.wtf_values.specs.declared.value.Node.TheVariants.{Folder, File as FileNode}
 use Rattle.wtf_values.specs.declared.value.Value.{Value}
@@ -26,11 +26,17 @@ pub record IsBody (b : ℕ) (told : Told) (w : Map) (i : InodeId) (bytes : List 
   pub file : IsFile b (file_of i w)
   pub bytes_are : HasBytes told b (file_of i w) bytes
 
+-- the inode has a file of these bytes, and just these paths lead to it
+pub record IsFileOf (b : ℕ) (told : Told) (w : Map) (i : InodeId) (paths : PathSet) (bytes : List ℕ) : Type 0 where
+  pub body : IsBody b told w i bytes
+  pub lead : (q : List ℕ) → has_path paths q ≡ true → LeadsTo w q i
+  pub all : (q : List ℕ) → LeadsTo w q i → has_path paths q ≡ true
+
 -- what a path's value stands for
 abbrev pub NodeAt : ℕ → Told → Map → Option Value → Option TreeNode → Type 0
 NodeAt b told w None None = ⊤
 NodeAt b told w (Some (value.Node Folder)) (Some Dir) = ⊤
-NodeAt b told w (Some (value.Node (FileNode i))) (Some (File bytes)) = IsBody b told w i bytes
+NodeAt b told w (Some (value.Node (FileNode i))) (Some (File paths bytes)) = IsFileOf b told w i paths bytes
 NodeAt b told w v o = ⊥
 
 -- the set has just the names of what stands in a directory of the tree
@@ -42,10 +48,10 @@ pub record IsListing (t : Tree) (dir : List ℕ) (names : NamesOf) : Type 0 wher
 abbrev pub NamesAt : Tree → List ℕ → Option Value → Option TreeNode → Type 0
 NamesAt t p (Some (value.Names names)) (Some Dir) = IsListing t p names
 NamesAt t p None None = ⊤
-NamesAt t p None (Some (File bytes)) = ⊤
+NamesAt t p None (Some (File paths bytes)) = ⊤
 NamesAt t p v o = ⊥
 
--- The map stands for the tree: each path and each directory, and each file's bytes; an inode is named by one path and has
+-- The map stands for the tree: each path and each directory, and each file's paths and bytes; an inode is named by one path and has
 -- its record, and only inodes have regions; each byte of a region is told, also one that others hide, and so is the list of its
 -- base, with each byte of it. Of the inodes of the transaction tx it has only those of its first k calls.
 pub record Stands (b : ℕ) (told : Told) (tx k : ℕ) (w : Map) (t : Tree) : Type 0 where

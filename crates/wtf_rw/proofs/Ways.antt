@@ -199,5 +199,5 @@ module _ (x : Caller) (b : Map) (s : SessionView) where
   stats_file p i n is len = stays x b s (Path p ∷ len_keys b i) (op.Stat p) (answer.File n) (stat_read p i is) (λ told w S agree st holds.
       let leads : LeadsTo w p i = node_of-is (w (Path p)) (FileNode i) (ap node_of agree.0 ∙ is) in
       let file = leads-file x.size told x.tx x.calls w S.tree st p i leads in
-      stat-at (cap_for x) S p (Some (File file.bytes)) file.there
+      stat-at (cap_for x) S p (Some (File file.paths file.bytes)) file.there
       ∙ ap (λ (k : ℕ). unchanged S (answer.File k)) (sym (body_length x.size told i b w file.bytes agree.1 file.body) ∙ sym len))

@@ -46,7 +46,7 @@ use Rattle.wtf_steps.proofs.Ways.{only_keys, stays}
 use Rattle.wtf_slicing.specs.Recorded.{files_keys, sources_keys, found_keys, concat_keys}
 use Rattle.wtf_slicing.specs.Sources.{sources_of, lens_of, ReadsFiles}
 use Rattle.wtf_slicing.specs.Steps.{IsNewFor}
-use Rattle.wtf_slicing.proofs.Filling.{ChangesFile}
+use Rattle.wtf_meta.proofs.Rewriting.{ChangesFile}
 use Rattle.wtf_model.proofs.SliceLaws.{concat-by, concat-fits, concat-big}
 use Rattle.wtf_slicing.proofs.FileLists.{Found, sources-agree, sources-refused, sources-found, lens_agree, plans_tell}
 use Rattle.wtf_slicing.proofs.KeysRead.{gathered_target, gathered_paths, gathered_all}

@@ -2,7 +2,6 @@ mod Slices
 mod SliceWays
 mod PeekWays
 mod LayWays
-mod Filling
 mod FileLists
 mod FileReads
 mod TakeFaults

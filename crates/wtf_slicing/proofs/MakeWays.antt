@@ -1,16 +1,17 @@
 -- A file is made, and gets its bytes: the map then stands for the tree that has it, and this is all that was changed.
 use Rattle.std.proofs.Common.{◌≡◌, ℕ, ◌+◌, List, [], ◌++◌, None, Some, Ok, refl, sym, ap, ◌∙◌, subst, arith}
-use Rattle.std.specs.FinMap.{insert}
+use Rattle.std.specs.FinMap.{get, insert}
 use Rattle.wtf_base.specs.declared.ids.InodeId.{InodeId}
 use Rattle.wtf_path.specs.Grammar.{IsPath}
 use Rattle.wtf_model.specs.declared.answer.Answer.TheVariants as answer
 use Rattle.wtf_model.specs.declared.op.Op.{Op}
-use Rattle.wtf_model.specs.Tree.{Tree, File}
+use Rattle.wtf_model.specs.Tree.{only_path, Tree, File, paths_of}
 use Rattle.wtf_model.specs.Session.{Session}
-use Rattle.wtf_model.specs.Done.{add_file}
+use Rattle.wtf_model.specs.Done.{refiled, add_file}
 use Rattle.wtf_model.specs.Call.{call}
 use Rattle.wtf_model.specs.Items.{file_changes, reads, changes, writes}
 use Rattle.wtf_model.proofs.Laws.{get-node_same, insert-node_over}
+use Rattle.wtf_model.proofs.PathLaws.{refiled-bytes}
 use Rattle.wtf_values.specs.declared.key.Key.{Key}
 use Rattle.wtf_values.specs.declared.key.Key.TheVariants.{Path, Region}
 use Rattle.wtf_values.specs.declared.value.Node.TheVariants.{File as FileNode}
@@ -26,13 +27,13 @@ use Rattle.wtf_meta.specs.Calls.{Caller, cap_for, IsDone}
 use Rattle.wtf_meta.proofs.FeetFiles.{EachOf}
 use Rattle.wtf_meta.proofs.FeetNames.{feet_okay, feet_create, feet_filled, new_unled, free_unled}
 use Rattle.wtf_meta.proofs.HandleLaws.{Holds-on}
-use Rattle.wtf_meta.proofs.KeyPuts.{put-same, one_inode}
+use Rattle.wtf_meta.proofs.KeyPuts.{put-same}
 use Rattle.wtf_meta.proofs.Moves.{done-create}
 use Rattle.wtf_meta.proofs.Standing.{leads-file, no-regions}
 use Rattle.wtf_index.specs.Checks.{target_of}
 use Rattle.wtf_index.proofs.Checked.{target-open}
 use Rattle.wtf_slicing.specs.Steps.{IsNewFor}
-use Rattle.wtf_slicing.proofs.Filling.{ChangesFile, stands_filled, none_stays}
+use Rattle.wtf_meta.proofs.Rewriting.{ChangesFile, stands-rebytes, none_stays}
 
 module _ (x : Caller) (told : Told) (w : Map) (s : SessionView) (S : Session) (st : Stands x.size told x.tx x.calls w S.tree) (holds : Holds told w s S)
     (q dir : List ℕ) (new : InodeId) (own : IsNewFor x new) (path : IsPath q) (open_q : target_of w q ≡ Ok dir) where
@@ -55,8 +56,8 @@ module _ (x : Caller) (told : Told) (w : Map) (s : SessionView) (S : Session) (s
 
   pub made_body : IsBody x.size told made new []
   made_body =
-      let file = leads-file x.size told x.tx (x.calls + 1) made (insert S.tree q (File [])) made_done.stands q new made_leads in
-      let both : Some (File file.bytes) ≡ Some (File []) = sym file.there ∙ get-node_same S.tree q (File []) in
+      let file = leads-file x.size told x.tx (x.calls + 1) made (insert S.tree q (File (only_path q) [])) made_done.stands q new made_leads in
+      let both : Some (File file.paths file.bytes) ≡ Some (File (only_path q) []) = sym file.there ∙ get-node_same S.tree q (File (only_path q) []) in
       let none : file.bytes ≡ [] = cc in
       subst (IsBody x.size told made new) none file.body
 
@@ -68,14 +69,17 @@ module _ (x : Caller) (told : Told) (w : Map) (s : SessionView) (S : Session) (s
       → MapBytes (is_told told) (is_listed x.size told) full
       → IsDone x told w full s (record { session = add_file S q bytes; answer = answer.Okay }) answer.Okay
   filled_done full bytes changes body told_bytes =
-      let first : Tree = insert S.tree q (File []) in
-      let tree : Tree = insert S.tree q (File bytes) in
+      let first : Tree = insert S.tree q (File (only_path q) []) in
+      let tree : Tree = insert S.tree q (File (only_path q) bytes) in
+      let is : refiled first (paths_of (get first q)) (paths_of (get first q)) bytes ≡ tree =
+      ap (λ o. refiled first (paths_of o) (paths_of o) bytes) (get-node_same S.tree q (File (only_path q) []))
+      ∙ (refiled-bytes first q bytes ∙ insert-node_over S.tree q (File (only_path q) []) (File (only_path q) bytes)) in
       record {
         answer = refl;
-        stands = subst (λ (t : Tree). Stands x.size told x.tx (x.calls + 1) full t) (insert-node_over S.tree q (File []) (File bytes))
-            (stands_filled x.size told x.tx (x.calls + 1) made first made_done.stands q new made_leads full changes bytes body told_bytes);
+        stands = subst (λ (t : Tree). Stands x.size told x.tx (x.calls + 1) full t) is
+            (stands-rebytes x.size told x.tx (x.calls + 1) made first made_done.stands q new made_leads full changes (x.calls + 1) (omega arith) bytes body told_bytes);
         holds = Holds-on told made full s (add_file S q []) tree (λ f h there leads. changes.paths h.path ∙ leads) made_done.holds;
-        own = λ j other none. none_stays x.size told x.tx (x.calls + 1) made first made_done.stands q new made_leads full changes j (one_inode new j)
+        own = λ j other none. none_stays x.size told x.tx (x.calls + 1) made first made_done.stands q new made_leads full changes j
             (made_done.own j other none);
       }
 

@@ -28,7 +28,7 @@ use Rattle.wtf_meta.proofs.Frame.{IsElsewhere, region_differs, inode_differs}
 use Rattle.wtf_meta.proofs.KeyPuts.{put_in, put-same, put-other, with-append}
 use Rattle.wtf_meta.proofs.Named.{EditsBytes-append, file_bytes}
 use Rattle.wtf_slicing.specs.Copies.{regions_of, put_region, put_regions, fill_edits}
-use Rattle.wtf_slicing.proofs.Filling.{ChangesFile}
+use Rattle.wtf_meta.proofs.Rewriting.{ChangesFile}
 
 -- a region as a key's value
 abbrev as_value : Option RegionValue → Option Value

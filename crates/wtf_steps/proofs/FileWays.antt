@@ -1,7 +1,6 @@
 -- Each way through a call that writes into a file or adds to it, on all maps at once.
 use Rattle.std.proofs.Common.{◌≡◌, ℕ, ◌+◌, ◌*◌, ◌<◌, ◌≤◌, List, [], ◌∷◌, ◌++◌, length, Some, refl, sym, ◌∙◌, subst, arith}
 use Rattle.std.proofs.lemmas.List.{length-append}
-use Rattle.std.specs.FinMap.{insert}
 use Rattle.wtf_base.specs.declared.ids.InodeId.{InodeId}
 use Rattle.wtf_overlay.specs.Origin.{pieces_len, pieces_origin}
 use Rattle.wtf_overlay.specs.declared.part.Piece.{Piece}
@@ -10,9 +9,9 @@ use Rattle.wtf_model.specs.declared.answer.Answer.TheVariants as answer
 use Rattle.wtf_model.specs.declared.limits.TheConstants.{MAX_REGIONS}
 use Rattle.wtf_model.specs.declared.op.Op.TheVariants as op
 use Rattle.wtf_model.specs.ByteCalls.{written}
-use Rattle.wtf_model.specs.Tree.{File}
+use Rattle.wtf_model.specs.Tree.{paths_at}
 use Rattle.wtf_model.specs.Session.{Session}
-use Rattle.wtf_model.specs.Done.{Done, bytes_of_handle, moved, set_bytes}
+use Rattle.wtf_model.specs.Done.{Done, bytes_of_handle, refiled, moved, set_bytes}
 use Rattle.wtf_values.specs.declared.key.Key.{Key}
 use Rattle.wtf_meta.specs.declared.session.Handle.{Handle}
 use Rattle.wtf_meta.specs.Maps.{Map, with}
@@ -60,7 +59,7 @@ module _ (x : Caller) (told : Told) (w : Map) (s : SessionView) (S : Session) (s
   stands_due : IsBody x.size told new h.inode bytes → EditsBytes (is_told told) (is_listed x.size told) (edits_of h.inode ds)
       → Stands x.size told x.tx (x.calls + 1) new due.tree
   stands_due body told_edits =
-      subst (λ (p : List ℕ). Stands x.size told x.tx (x.calls + 1) new (insert S.tree p (File bytes))) (sym on.of.path)
+      subst (λ (p : List ℕ). Stands x.size told x.tx (x.calls + 1) new (refiled S.tree (paths_at S.tree p) (paths_at S.tree p) bytes)) (sym on.of.path)
       (stands-rewritten x.size told x.tx x.calls w S.tree st h.path h.inode on.of.leads ds bytes body told_edits)
 
   holds_due : Holds told new s due

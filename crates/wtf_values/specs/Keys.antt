@@ -38,13 +38,6 @@ is_region (Region j r) = true
 abbrev pub last_inode : InodeId
 last_inode = record { tx = record { 0 = 2 ^ 64 - 1 }; index = 2 ^ 32 - 1 }
 
--- a key of an inode has one whose numbers are those of a transaction and of a call in it
-abbrev pub HasInode : Key → Type 0
-HasInode (Path p) = Unit {0}
-HasInode (Dir p) = Unit {0}
-HasInode (Inode j) = (j.tx.0 < 2 ^ 64) × (j.index < 2 ^ 32)
-HasInode (Region j r) = Unit {0}
-
 -- two equal parts
 then_both : (a b : Ordering) → ordering_then a b ≡ Equal → (a ≡ Equal) × (b ≡ Equal)
 then_both Less b h = absurd (cc)

@@ -9,7 +9,8 @@ loop-piece-preserved c =
     let ps = c.args.pieces.now in
     let n = c.loop-piece.piece-index in
     let inv = c.loop-piece.invariant in
-    let sum : c.saturating_add-sum.result ≡ bytes_in (take (n + 1) ps) = omega (arith, c.saturating_add-sum.ensures, inv.sum, pieces_len_more ps n c.piece-item.result (omega arith) c.piece-item.is) in
+    let sum : c.saturating_add-sum.result ≡ bytes_in (take (n + 1) ps) =
+    omega (arith, c.saturating_add-sum.ensures, inv.sum, pieces_len_more ps n c.piece-item.result (omega arith) c.piece-item.is) in
     record {
       sum = sum;
       count = search rules;

@@ -9,5 +9,6 @@ returns c =
     let ends = c.args.ends.now in
     let count = c.partition_point-count in
     let parted = IsPartitionedBy-leb (λ (n : ℕ). n) ends c.args.off (ends_rise ps ends c.requires.ends) in
-    let point = IsPartitionPoint-from_clause (λ (n : ℕ). nat_le n c.args.off) ends count.result count.ensures.partitioned parted (λ a r f called. search rules) in
+    let point = IsPartitionPoint-from_clause (λ (n : ℕ). nat_le n c.args.off) ends count.result count.ensures.partitioned parted
+    (λ a r f called. search rules) in
     ends_before ps ends c.args.off count.result c.end_before-start.result c.requires.ends c.requires.off count.ensures.bound point c.end_before-start.ensures

@@ -12,5 +12,6 @@ returns c =
     let held = c.deref_mut.result.now in
     let long = ap (λ (h : Held). length h.slices) c.deref_mut.ensures.value in
     slice_same held.handles held.slices c.args.s c.index-deref_mut-s.result _ (omega (arith, c.requires, c.self.invariant, long)) c.index-deref_mut-s.is
-    (ap (λ (v : Vec Piece Global). Some v.items) c.index.ensures ∙ ap (λ (k : Option Kept). option_map items_of k) (sym c.in-Some.is ∙ sym c.index-deref_mut-s.is))
+    (ap (λ (v : Vec Piece Global). Some v.items) c.index.ensures
+    ∙ ap (λ (k : Option Kept). option_map items_of k) (sym c.in-Some.is ∙ sym c.index-deref_mut-s.is))
     ∙ ap (λ (h : Held). session_view h.handles h.slices) c.deref_mut.ensures.value ∙ c.self.view_is

@@ -9,4 +9,5 @@ returns c =
     let held = c.deref_mut.result.now in
     let long = ap (λ (h : Held). length h.slices) c.deref_mut.ensures.value in
     let seen = ap (λ (h : Held). session_view h.handles h.slices) c.deref_mut.ensures.value ∙ c.self.view_is in
-    slice_set_alone held.handles held.slices c.args.s c.of.result c.args.pieces c.args.self.now seen (omega (arith, c.requires, c.self.invariant, long)) c.of.ensures
+    slice_set_alone held.handles held.slices c.args.s c.of.result c.args.pieces c.args.self.now seen
+    (omega (arith, c.requires, c.self.invariant, long)) c.of.ensures
