@@ -12,7 +12,7 @@ use Rattle.wtf_changes.specs.Rows.{ChangeRows}
 use Rattle.wtf_changes.specs.Texts.{changes_text}
 use Rattle.wtf_changes.specs.Shapes.{HasChanges}
 use Rattle.wtf_changes.specs.Drafts.{DraftRows, taken, changed, written, applied}
-use Rattle.wtf_changes.specs.Applying.{IsUnmade, HasApplied, AreNoChanges, IsRefusal}
+use Rattle.wtf_changes.specs.Applying.{IsUnmade, HasApplied, AreNoChanges, IsApplyRefusal}
 use Rattle.wtf_changes.proofs.Forms.{one_changes}
 use Rattle.wtf_changes.proofs.Drafts.{IsSortedDraft, taken-sorted, changed-sorted, written-form}
 
@@ -42,6 +42,6 @@ module _ (image changes : List ℕ) (x : ImageRows) (ch : ChangeRows) (is : HasT
   none_applied before drawn none y other has its =
       (λ k. applied (same_image y x image has is k) (same_changes other ch changes its are k)) ∙ ap (option_map written) (ap (λ d. changed d ch) (sym drawn) ∙ none)
 
-  pub refused_made : (before : DraftRows) (why : ApplyError) → before ≡ taken x → IsUnmade (changed before ch) why → IsRefusal image changes why
+  pub refused_made : (before : DraftRows) (why : ApplyError) → before ≡ taken x → IsUnmade (changed before ch) why → IsApplyRefusal image changes why
   refused_made before error.NotChanges drawn none = none_applied before drawn none
   refused_made before error.Memory drawn none = tt

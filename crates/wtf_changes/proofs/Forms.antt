@@ -18,8 +18,8 @@ use Rattle.wtf_changes.specs.declared.records.PathChange.{PathChange}
 use Rattle.wtf_changes.specs.declared.records.FileChange.{FileChange}
 use Rattle.wtf_changes.specs.Rows.{RegionChangeRow, ChangeRows}
 use Rattle.wtf_changes.specs.Texts.{stands_text, path_text, paths_text, last_text, file_text, files_text, held_text, region_text, regions_text, changes_text}
-use Rattle.wtf_changes.specs.Shapes.{path_before, file_before, region_before, IsStanding, IsLast, IsHeld, IsPathRow, IsFileRow, IsRegionRow, ArePaths, AreFiles, AreRegions, AreChanges}
-use Rattle.wtf_changes.specs.Reading.{stands_at, make_path, path_at, last_at, make_file, file_at, held_at, make_region, region_at, paths_at, files_at, regions_at, make_changes, changes_at, changes_of}
+use Rattle.wtf_changes.specs.Shapes.{path_before, file_before, region_before, IsStanding, IsLast, IsValueHeld, IsPathRow, IsFileRow, IsRegionRow, ArePaths, AreFiles, AreRegions, AreChanges}
+use Rattle.wtf_changes.specs.Reading.{stands_at, make_path, path_at, last_at, make_file, file_at, held_at, make_region, region_change_at, path_changes_at, files_at, regions_at, make_changes, changes_at, changes_of}
 
 -- ---- paths
 
@@ -59,8 +59,8 @@ path_codec : Codec path_text IsPathRow path_at
 unfolding path_at
 path_codec = codec_as path_made (codec_then name_codec (λ p f. stands_codec))
 
-paths_codec : Codec paths_text ArePaths paths_at
-unfolding paths_text paths_at
+paths_codec : Codec paths_text ArePaths path_changes_at
+unfolding paths_text path_changes_at
 paths_codec = codec_form
     (λ cs form. record { count = form.0.0; each = form.0.1; ascend = form.1 })
     (λ cs form. ((form.count, form.each), form.ascend))
@@ -110,27 +110,27 @@ files_codec = codec_form
 
 -- ---- regions
 
-held_takes : (bytes : List ℕ) (x : Option ValueRow × List ℕ) → IsBytes bytes → held_at bytes ≡ Some x → Takes bytes (held_text x.0) x.1 × IsHeld x.0
+held_takes : (bytes : List ℕ) (x : Option ValueRow × List ℕ) → IsBytes bytes → held_at bytes ≡ Some x → Takes bytes (held_text x.0) x.1 × IsValueHeld x.0
 unfolding held_at held_text
 held_takes [] x fits e = absurd cc
 held_takes (zero ∷ bytes) x fits e =
-    subst (λ (y : Option ValueRow × List ℕ). Takes (0 ∷ bytes) (held_text y.0) y.1 × IsHeld y.0) (some_is (None, bytes) x e) (record { parts = refl; rest_fits = IsBytes-rest 0 bytes fits }, tt)
+    subst (λ (y : Option ValueRow × List ℕ). Takes (0 ∷ bytes) (held_text y.0) y.1 × IsValueHeld y.0) (some_is (None, bytes) x e) (record { parts = refl; rest_fits = IsBytes-rest 0 bytes fits }, tt)
 held_takes (suc zero ∷ bytes) x fits e =
     let b = bind_some (value_at bytes) (λ s. Some (Some s.0, s.1)) x e in
     let t = value_codec.takes bytes b.0 (IsBytes-rest 1 bytes fits) b.1 in
-    subst (λ (y : Option ValueRow × List ℕ). Takes (1 ∷ bytes) (held_text y.0) y.1 × IsHeld y.0) (some_is (Some b.0.0, b.0.1) x b.2)
+    subst (λ (y : Option ValueRow × List ℕ). Takes (1 ∷ bytes) (held_text y.0) y.1 × IsValueHeld y.0) (some_is (Some b.0.0, b.0.1) x b.2)
     (record { parts = ap (λ (w : List ℕ). 1 ∷ w) t.0.parts; rest_fits = t.0.rest_fits }, t.1)
 held_takes (suc (suc n) ∷ bytes) x fits e = absurd cc
 
-held_again : (o : Option ValueRow) (rest : List ℕ) → IsHeld o → held_at (held_text o ++ rest) ≡ Some (o, rest)
+held_again : (o : Option ValueRow) (rest : List ℕ) → IsValueHeld o → held_at (held_text o ++ rest) ≡ Some (o, rest)
 unfolding held_at held_text
 held_again None rest form = refl
 held_again (Some v) rest form = ap (λ o. o >>= λ s. Some (Some s.0, s.1)) (value_codec.again v rest form)
 
-held_codec : Codec held_text IsHeld held_at
+held_codec : Codec held_text IsValueHeld held_at
 held_codec = record { takes = held_takes; again = held_again }
 
-region_made : IsMade (λ (x : InodeId × (ℕ × Option ValueRow)). inode_text x.0 ++ (to_be_bytes w16 x.1.0 ++ held_text x.1.1)) (λ x. IsInode x.0 × ((x.1.0 < 2 ^ 16) × IsHeld x.1.1))
+region_made : IsMade (λ (x : InodeId × (ℕ × Option ValueRow)). inode_text x.0 ++ (to_be_bytes w16 x.1.0 ++ held_text x.1.1)) (λ x. IsInode x.0 × ((x.1.0 < 2 ^ 16) × IsValueHeld x.1.1))
     region_text IsRegionRow make_region (λ r. (r.inode, (r.number, r.value)))
 unfolding region_text
 region_made = record {
@@ -140,8 +140,8 @@ region_made = record {
   same = λ r form. refl;
 }
 
-region_codec : Codec region_text IsRegionRow region_at
-unfolding region_at
+region_codec : Codec region_text IsRegionRow region_change_at
+unfolding region_change_at
 region_codec = codec_as region_made (codec_then inode_codec (λ i f. codec_then codec16 (λ n g. held_codec)))
 
 regions_codec : Codec regions_text AreRegions regions_at

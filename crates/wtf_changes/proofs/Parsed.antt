@@ -5,14 +5,14 @@ use Rattle.wtf_spillfmt.specs.declared.error.ListError.TheVariants as unread
 use Rattle.wtf_spillfmt.specs.Gives.{IsNoneOr}
 use Rattle.wtf_spillfmt.proofs.Codecs.{IsBytes}
 use Rattle.wtf_changes.specs.declared.records.Changes.{Changes}
-use Rattle.wtf_changes.specs.Rows.{ChangeRows, rows_of}
+use Rattle.wtf_changes.specs.Rows.{ChangeRows, change_rows}
 use Rattle.wtf_changes.specs.Shapes.{HasChanges}
 use Rattle.wtf_changes.specs.Outcome.{IsUnread}
 use Rattle.wtf_changes.specs.Reading.{changes_of}
 use Rattle.wtf_changes.proofs.Forms.{changes_takes, changes_again}
 
-pub are_changes : (bytes : List ℕ) (ch : Changes) → IsBytes bytes → changes_of bytes ≡ Some (rows_of ch) → HasChanges (rows_of ch) bytes
-are_changes bytes ch fits given = let t = changes_takes bytes (rows_of ch) fits given in record { shape = t.0; text = t.1 }
+pub are_changes : (bytes : List ℕ) (ch : Changes) → IsBytes bytes → changes_of bytes ≡ Some (change_rows ch) → HasChanges (change_rows ch) bytes
+are_changes bytes ch fits given = let t = changes_takes bytes (change_rows ch) fits given in record { shape = t.0; text = t.1 }
 
 no_changes : (bytes : List ℕ) → changes_of bytes ≡ None → (x : ChangeRows) → HasChanges x bytes → ⊥
 no_changes bytes none x has =

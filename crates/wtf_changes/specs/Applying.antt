@@ -16,9 +16,9 @@ IsUnmade made error.NotChanges = made ≡ None
 IsUnmade made error.Memory = ⊤
 
 -- what is made
-abbrev pub IsMade : {A Y : Type 0} → Option Y → Y → Result A ApplyError → Type 0
-IsMade made new (Ok x) = made ≡ Some new
-IsMade made new (Err why) = IsUnmade made why
+abbrev pub IsApplied : {A Y : Type 0} → Option Y → Y → Result A ApplyError → Type 0
+IsApplied made new (Ok x) = made ≡ Some new
+IsApplied made new (Err why) = IsUnmade made why
 
 -- the bytes are an image
 pub record IsSomeImage (bytes : List ℕ) : Type 0 where
@@ -40,9 +40,9 @@ abbrev pub AreNoChanges : List ℕ → List ℕ → Type 0
 AreNoChanges image changes = (x : ImageRows) (ch : ChangeRows) → HasText x image → HasChanges ch changes → applied x ch ≡ None
 
 -- why changes are refused, unless memory ran out
-abbrev pub IsRefusal : List ℕ → List ℕ → ApplyError → Type 0
-IsRefusal image changes error.NotChanges = AreNoChanges image changes
-IsRefusal image changes error.Memory = ⊤
+abbrev pub IsApplyRefusal : List ℕ → List ℕ → ApplyError → Type 0
+IsApplyRefusal image changes error.NotChanges = AreNoChanges image changes
+IsApplyRefusal image changes error.Memory = ⊤
 
 abbrev pub no_changes_by : ListError → ApplyError
 no_changes_by unread.NotAList = error.NotChanges

@@ -42,35 +42,35 @@ make_file x = record { inode = x.0; last = x.1 }
 unfoldable pub file_at : Reader FileChange
 file_at = as_at make_file (then_at inode_at (λ inode. last_at))
 
-abbrev pub held_by : ℕ → Reader (Option ValueRow)
-held_by zero bytes = Some (None, bytes)
-held_by (suc zero) bytes = as_at (λ v. Some v) value_at bytes
-held_by (suc (suc n)) bytes = None
+abbrev pub held_value : ℕ → Reader (Option ValueRow)
+held_value zero bytes = Some (None, bytes)
+held_value (suc zero) bytes = as_at (λ v. Some v) value_at bytes
+held_value (suc (suc n)) bytes = None
 
 unfoldable pub held_at : Reader (Option ValueRow)
-held_at bytes = byte_at bytes >>= λ kind. held_by kind.0 kind.1
+held_at bytes = byte_at bytes >>= λ kind. held_value kind.0 kind.1
 
 abbrev pub make_region : InodeId × (ℕ × Option ValueRow) → RegionChangeRow
 make_region x = record { inode = x.0; number = x.1.0; value = x.1.1 }
 
-unfoldable pub region_at : Reader RegionChangeRow
-region_at = as_at make_region (then_at inode_at (λ inode. then_at (number_at w16) (λ number. held_at)))
+unfoldable pub region_change_at : Reader RegionChangeRow
+region_change_at = as_at make_region (then_at inode_at (λ inode. then_at (number_at w16) (λ number. held_at)))
 
-unfoldable pub paths_at : Reader (List PathChange)
-paths_at = only_at (ascends path_before) (counted_at w32 path_at)
+unfoldable pub path_changes_at : Reader (List PathChange)
+path_changes_at = only_at (ascends path_before) (counted_at w32 path_at)
 
 unfoldable pub files_at : Reader (List FileChange)
 files_at = only_at (ascends file_before) (counted_at w32 file_at)
 
 unfoldable pub regions_at : Reader (List RegionChangeRow)
-regions_at = only_at (ascends region_before) (counted_at w32 region_at)
+regions_at = only_at (ascends region_before) (counted_at w32 region_change_at)
 
 abbrev pub make_changes : ℕ × (ℕ × (List PathChange × (List FileChange × List RegionChangeRow))) → ChangeRows
 make_changes x = record { installs = x.0; next_tx = x.1.0; paths = x.1.1.0; files = x.1.1.1.0; regions = x.1.1.1.1 }
 
 unfoldable pub changes_at : Reader ChangeRows
 changes_at = as_at make_changes
-    (then_at (number_at w64) (λ installs. then_at (number_at w64) (λ next_tx. then_at paths_at (λ paths. then_at files_at (λ files. regions_at)))))
+    (then_at (number_at w64) (λ installs. then_at (number_at w64) (λ next_tx. then_at path_changes_at (λ paths. then_at files_at (λ files. regions_at)))))
 
 -- all of the bytes
 unfoldable pub changes_of : List ℕ → Option ChangeRows

@@ -29,5 +29,5 @@ region_row c = record { inode = c.inode; number = c.number; value = option_map v
 abbrev pub region_rows : List RegionChange → List RegionChangeRow
 region_rows cs = map region_row cs
 
-abbrev pub rows_of : Changes → ChangeRows
-rows_of x = record { installs = x.installs; next_tx = x.next_tx; paths = x.paths.items; files = x.files.items; regions = region_rows x.regions.items }
+abbrev pub change_rows : Changes → ChangeRows
+change_rows x = record { installs = x.installs; next_tx = x.next_tx; paths = x.paths.items; files = x.files.items; regions = region_rows x.regions.items }

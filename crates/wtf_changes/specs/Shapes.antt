@@ -33,9 +33,9 @@ abbrev pub IsLast : Option ℕ → Type 0
 IsLast None = ⊤
 IsLast (Some n) = n < 2 ^ 16
 
-abbrev pub IsHeld : Option ValueRow → Type 0
-IsHeld None = ⊤
-IsHeld (Some v) = IsValue v
+abbrev pub IsValueHeld : Option ValueRow → Type 0
+IsValueHeld None = ⊤
+IsValueHeld (Some v) = IsValue v
 
 pub record IsPathRow (c : PathChange) : Type 0 where
   pub path : IsPath c.path
@@ -48,7 +48,7 @@ pub record IsFileRow (c : FileChange) : Type 0 where
 pub record IsRegionRow (c : RegionChangeRow) : Type 0 where
   pub inode : IsInode c.inode
   pub number : c.number < 2 ^ 16
-  pub value : IsHeld c.value
+  pub value : IsValueHeld c.value
 
 pub record ArePaths (cs : List PathChange) : Type 0 where
   pub count : length cs < 2 ^ 32

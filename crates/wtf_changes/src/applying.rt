@@ -1,9 +1,9 @@
 //! Changes made in an image.
 
 ghost use Rattle.std.specs.Prelude.{◌≡◌, IfOk, IfErr};
-ghost use Rattle.wtf_imagefmt.specs.Rows.{rows_of as image_rows};
+ghost use Rattle.wtf_imagefmt.specs.Rows.{image_rows};
 ghost use Rattle.wtf_imagefmt.specs.Images.{HasText};
-ghost use Rattle.wtf_changes.specs.Applying.{IsSomeImage, HasApplied, IsRefusal, no_changes_by};
+ghost use Rattle.wtf_changes.specs.Applying.{IsSomeImage, HasApplied, IsApplyRefusal, no_changes_by};
 
 use crate::ApplyError;
 use crate::draft::Draft;
@@ -39,7 +39,7 @@ fn no_changes(why: ListError) -> ApplyError
 pub fn apply(alloc: Global, image: &[u8], changes: &[u8]) -> Result<Vec<u8>, ApplyError>
     requires { IsSomeImage image.now }
     ensures made { IfOk result (λ v. HasApplied image.now changes.now v.items) }
-    ensures refused { IfErr result (IsRefusal image.now changes.now) }
+    ensures refused { IfErr result (IsApplyRefusal image.now changes.now) }
 {
     let image = read_image(alloc, image)?;
     let changes = match read(alloc, changes) {

@@ -6,11 +6,11 @@ ghost use Rattle.std.specs.Option.{option_map};
 ghost use Rattle.std.specs.Ordering.{nat_cmp};
 ghost use Rattle.std.specs.Cmp.Lexicographic.{slice_cmp};
 ghost use Rattle.wtf_values.specs.Keys.{inode_cmp};
-ghost use Rattle.wtf_imagefmt.specs.Rows.{value_row, region_rows as image_regions, file_rows, rows_of as image_rows};
-ghost use Rattle.wtf_changes.specs.Rows.{region_row, region_rows, rows_of};
+ghost use Rattle.wtf_imagefmt.specs.Rows.{value_row, region_rows as image_regions, file_rows, image_rows};
+ghost use Rattle.wtf_changes.specs.Rows.{region_row, region_rows, change_rows};
 ghost use Rattle.wtf_changes.specs.Drafts.{set, set_all, node_taken, regions_taken, file_taken, taken, node_change, regions_kept, file_set, files_set, region_set, regions_set, changed, path_written, file_written, region_written, written};
 ghost use Rattle.wtf_changes.specs.Kept.{seen, file_entry};
-ghost use Rattle.wtf_changes.specs.Applying.{IsMade};
+ghost use Rattle.wtf_changes.specs.Applying.{IsApplied};
 
 use crate::ApplyError;
 use crate::records::{Changes, FileChange, PathChange, RegionChange};
@@ -192,7 +192,7 @@ fn set_region(
     files: &mut BTreeMap<InodeId, FileDraft>,
     change: &RegionChange,
 ) -> Result<(), ApplyError>
-    ensures { IsMade (region_set (seen file_entry files.old.entries) (region_row change.now))
+    ensures { IsApplied (region_set (seen file_entry files.old.entries) (region_row change.now))
         (seen file_entry files.new.entries) result }
 {
     let Some(mut file) = files.remove(&change.inode) else {
@@ -211,7 +211,7 @@ fn set_regions(
     files: &mut BTreeMap<InodeId, FileDraft>,
     changes: &[RegionChange],
 ) -> Result<(), ApplyError>
-    ensures { IsMade (regions_set (seen file_entry files.old.entries) (region_rows changes.now))
+    ensures { IsApplied (regions_set (seen file_entry files.old.entries) (region_rows changes.now))
         (seen file_entry files.new.entries) result }
 {
     for change in changes {
@@ -294,7 +294,7 @@ impl Draft {
     /// Makes changes. They are refused where they give a region to a file that is not there; after an
     /// error the draft is good for nothing.
     pub fn change(&mut self, alloc: Global, changes: &Changes) -> Result<(), ApplyError>
-        ensures { IsMade (changed self.old (rows_of changes.now)) self.new result }
+        ensures { IsApplied (changed self.old (change_rows changes.now)) self.new result }
     {
         set_paths(alloc, &mut self.paths, changes.paths.as_slice())?;
         set_files(alloc, &mut self.files, changes.files.as_slice())?;

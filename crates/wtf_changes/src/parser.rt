@@ -6,8 +6,8 @@ ghost use Rattle.std.specs.Option.{option_map};
 ghost use Rattle.wtf_overlay.specs.Reading.{many_at};
 ghost use Rattle.wtf_spillfmt.specs.Gives.{Gives};
 ghost use Rattle.wtf_imagefmt.specs.Rows.{value_row};
-ghost use Rattle.wtf_changes.specs.Rows.{region_row, region_rows, rows_of};
-ghost use Rattle.wtf_changes.specs.Reading.{stands_at, path_at, last_at, file_at, held_at, region_at, paths_at, files_at, regions_at, changes_of};
+ghost use Rattle.wtf_changes.specs.Rows.{region_row, region_rows, change_rows};
+ghost use Rattle.wtf_changes.specs.Reading.{stands_at, path_at, last_at, file_at, held_at, region_change_at, path_changes_at, files_at, regions_at, changes_of};
 
 use crate::order::{files_ascend, paths_ascend, regions_ascend};
 use crate::records::{Changes, FileChange, PathChange, RegionChange};
@@ -62,9 +62,9 @@ fn some_paths_of(
 }
 
 /// The paths, which ascend, behind their number.
-#[tactic(auto, unfolding(crate::specs::Reading::paths_at))]
+#[tactic(auto, unfolding(crate::specs::Reading::path_changes_at))]
 fn paths_of(alloc: Global, bytes: &[u8]) -> Result<(Vec<PathChange>, &[u8]), ListError>
-    ensures { Gives (λ x. (x.0.items, x.1.now)) result (paths_at bytes.now) }
+    ensures { Gives (λ x. (x.0.items, x.1.now)) result (path_changes_at bytes.now) }
 {
     let (count, rest) = u32_at(bytes)?;
     let (paths, rest) = some_paths_of(alloc, count, rest)?;
@@ -148,9 +148,9 @@ fn held_of(alloc: Global, bytes: &[u8]) -> Result<(Option<RegionValue>, &[u8]), 
 }
 
 /// A region behind its file and its number.
-#[tactic(auto, unfolding(crate::specs::Reading::region_at))]
+#[tactic(auto, unfolding(crate::specs::Reading::region_change_at))]
 fn region_of(alloc: Global, bytes: &[u8]) -> Result<(RegionChange, &[u8]), ListError>
-    ensures { Gives (λ x. (region_row x.0, x.1.now)) result (region_at bytes.now) }
+    ensures { Gives (λ x. (region_row x.0, x.1.now)) result (region_change_at bytes.now) }
 {
     let (inode, rest) = inode_of(bytes)?;
     let (number, rest) = u16_at(rest)?;
@@ -170,7 +170,7 @@ fn some_regions_of(
     bytes: &[u8],
 ) -> Result<(Vec<RegionChange>, &[u8]), ListError>
     ensures { Gives (λ x. (region_rows x.0.items, x.1.now)) result
-        (many_at region_at count bytes.now) }
+        (many_at region_change_at count bytes.now) }
 {
     let mut regions = Vec::new(alloc);
     let mut rest = bytes;
@@ -198,7 +198,7 @@ fn regions_of(alloc: Global, bytes: &[u8]) -> Result<(Vec<RegionChange>, &[u8]),
 /// Changes, with no byte behind them.
 #[tactic(auto, unfolding(crate::specs::Reading::changes_of, crate::specs::Reading::changes_at))]
 pub(crate) fn changes_of(alloc: Global, bytes: &[u8]) -> Result<Changes, ListError>
-    ensures { Gives rows_of result (changes_of bytes.now) }
+    ensures { Gives change_rows result (changes_of bytes.now) }
 {
     let (installs, rest) = u64_at(bytes)?;
     let (next_tx, rest) = u64_at(rest)?;

@@ -1,7 +1,7 @@
 //! Bytes, read as the changes that have them for their text.
 
 ghost use Rattle.std.specs.Prelude.{IfOk, IfErr};
-ghost use Rattle.wtf_changes.specs.Rows.{rows_of};
+ghost use Rattle.wtf_changes.specs.Rows.{change_rows};
 ghost use Rattle.wtf_changes.specs.Shapes.{HasChanges};
 ghost use Rattle.wtf_changes.specs.Outcome.{IsUnread};
 
@@ -12,7 +12,7 @@ use wtf_spillfmt::ListError;
 
 /// The changes whose text the bytes are. Bytes that are no changes are `NotAList`.
 pub fn read(alloc: Global, bytes: &[u8]) -> Result<Changes, ListError>
-    ensures changes { IfOk result (λ x. HasChanges (rows_of x) bytes.now) }
+    ensures changes { IfOk result (λ x. HasChanges (change_rows x) bytes.now) }
     ensures cause { IfErr result (IsUnread bytes.now) }
 {
     match changes_of(alloc, bytes) {

@@ -8,7 +8,7 @@ ghost use Rattle.wtf_imagefmt.specs.Rows.{value_row};
 ghost use Rattle.wtf_imagefmt.specs.Saving.{node_now, last_now};
 ghost use Rattle.wtf_imagefmt.specs.Shown.{shown};
 ghost use Rattle.wtf_changes.specs.Counted.{CanBeCounted};
-ghost use Rattle.wtf_changes.specs.Rows.{rows_of};
+ghost use Rattle.wtf_changes.specs.Rows.{change_rows};
 ghost use Rattle.wtf_values.specs.declared.key.Key.TheVariants as keys;
 ghost use Rattle.wtf_changes.specs.Since.{value_now, IsChangesOf};
 ghost use Rattle.wtf_changes.specs.Walk.{AreInOrder, with_key, none_yet};
@@ -59,8 +59,8 @@ fn add_path(
     value: Option<&Value>,
     made: &mut Changes,
 ) -> Result<(), OutOfMemory>
-    ensures { OnOk result (rows_of made.new ≡
-        with_key (rows_of made.old) (keys.Path path.now) (option_map plain (option_copied value.entry))) }
+    ensures { OnOk result (change_rows made.new ≡
+        with_key (change_rows made.old) (keys.Path path.now) (option_map plain (option_copied value.entry))) }
 {
     let path = path.copy(alloc)?;
     let node = node_of(value);
@@ -70,8 +70,8 @@ fn add_path(
 
 /// Adds what the last region of a file is now.
 fn add_file(inode: InodeId, value: Option<&Value>, made: &mut Changes) -> Result<(), OutOfMemory>
-    ensures { OnOk result (rows_of made.new ≡
-        with_key (rows_of made.old) (keys.Inode inode) (option_map plain (option_copied value.entry))) }
+    ensures { OnOk result (change_rows made.new ≡
+        with_key (change_rows made.old) (keys.Inode inode) (option_map plain (option_copied value.entry))) }
 {
     let last = last_of(value);
     made.files.push(FileChange { inode, last })?;
@@ -85,7 +85,7 @@ fn add_region(
     value: Option<&Value>,
     made: &mut Changes,
 ) -> Result<(), OutOfMemory>
-    ensures { OnOk result (rows_of made.new ≡ with_key (rows_of made.old)
+    ensures { OnOk result (change_rows made.new ≡ with_key (change_rows made.old)
         (keys.Region inode number) (option_map plain (option_copied value.entry))) }
 {
     let value = held_of(value)?;
@@ -104,8 +104,8 @@ fn add_now(
     value: Option<&Value>,
     made: &mut Changes,
 ) -> Result<(), OutOfMemory>
-    ensures { OnOk result (rows_of made.new ≡
-        with_key (rows_of made.old) key.now (option_map plain (option_copied value.entry))) }
+    ensures { OnOk result (change_rows made.new ≡
+        with_key (change_rows made.old) key.now (option_map plain (option_copied value.entry))) }
 {
     match key {
         Key::Path(path) => return add_path(alloc, path, value, made),
@@ -122,8 +122,8 @@ fn add_key(
     key: &Key,
     made: &mut Changes,
 ) -> Result<(), OutOfMemory>
-    ensures { OnOk result (rows_of made.new ≡
-        with_key (rows_of made.old) key.now (shown kv.now key.now)) }
+    ensures { OnOk result (change_rows made.new ≡
+        with_key (change_rows made.old) key.now (shown kv.now key.now)) }
 {
     let now = kv.read_at(kv.number(), key);
     add_now(alloc, key, now, made)?;
@@ -132,7 +132,7 @@ fn add_key(
 
 /// No change yet, with the two numbers.
 fn none_yet(alloc: Global, installs: u64, next_tx: u64) -> Changes
-    ensures { rows_of result ≡ none_yet installs next_tx }
+    ensures { change_rows result ≡ none_yet installs next_tx }
 {
     Changes {
         installs,
@@ -150,7 +150,7 @@ fn changes_since(
     since: u64,
     next_tx: u64,
 ) -> Result<Changes, OutOfMemory>
-    ensures { IfOk result (λ made. AreInOrder kv.now since next_tx (rows_of made)) }
+    ensures { IfOk result (λ made. AreInOrder kv.now since next_tx (change_rows made)) }
 {
     let mut made = none_yet(alloc, kv.number(), next_tx);
     let mut at = kv.next_changed(since, None);

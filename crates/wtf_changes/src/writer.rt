@@ -5,9 +5,9 @@ ghost use Rattle.std.specs.Prelude.{◌≡◌, OnOk, IfOk};
 ghost use Rattle.std.specs.Option.{option_map};
 ghost use Rattle.wtf_spillfmt.specs.Writing.{Writes};
 ghost use Rattle.wtf_imagefmt.specs.Rows.{value_row};
-ghost use Rattle.wtf_changes.specs.Rows.{region_row, region_rows, rows_of};
+ghost use Rattle.wtf_changes.specs.Rows.{region_row, region_rows, change_rows};
 ghost use Rattle.wtf_changes.specs.Texts.{stands_text, path_text, paths_text, last_text, file_text, files_text, held_text, region_text, regions_text, changes_text};
-ghost use Rattle.wtf_changes.specs.Shapes.{IsStanding, IsLast, IsHeld, IsPathRow, IsFileRow, IsRegionRow};
+ghost use Rattle.wtf_changes.specs.Shapes.{IsStanding, IsLast, IsValueHeld, IsPathRow, IsFileRow, IsRegionRow};
 ghost use Rattle.wtf_changes.specs.Writing.{AreWidePaths, AreWideFiles, AreWideRegions, AreWide};
 
 use crate::records::{Changes, FileChange, PathChange, RegionChange};
@@ -102,7 +102,7 @@ fn put_files(out: &mut Vec<u8>, files: &[FileChange]) -> Result<(), OutOfMemory>
 #[tactic(auto, unfolding(crate::specs::Texts::held_text))]
 fn put_held(out: &mut Vec<u8>, value: &Option<RegionValue>) -> Result<(), OutOfMemory>
     ensures { OnOk result (Writes out.old.items out.new.items
-        (held_text (option_map value_row value.now)) (IsHeld (option_map value_row value.now))) }
+        (held_text (option_map value_row value.now)) (IsValueHeld (option_map value_row value.now))) }
 {
     match value {
         None => {
@@ -145,8 +145,8 @@ fn put_regions(out: &mut Vec<u8>, regions: &[RegionChange]) -> Result<(), OutOfM
 /// The text of changes. Where there are too many records to be counted it answers want of memory.
 #[tactic(auto, unfolding(crate::specs::Texts::changes_text))]
 pub fn write(alloc: Global, changes: &Changes) -> Result<Vec<u8>, OutOfMemory>
-    ensures text { IfOk result (λ v. v.items ≡ changes_text (rows_of changes.now)) }
-    ensures wide { OnOk result (AreWide (rows_of changes.now)) }
+    ensures text { IfOk result (λ v. v.items ≡ changes_text (change_rows changes.now)) }
+    ensures wide { OnOk result (AreWide (change_rows changes.now)) }
 {
     let mut out = Vec::new(alloc);
     out.extend_from_slice(&changes.installs.to_be_bytes())?;

@@ -21,7 +21,7 @@ use Rattle.wtf_meta.proofs.MapBytes.{with_bytes}
 use Rattle.wtf_meta.proofs.Putting.{stands-put}
 use Rattle.wtf_compact.specs.Jobs.{JobView, puts, job_edits, target_region}
 use Rattle.wtf_compact.specs.Planned.{KeepsRegion}
-use Rattle.wtf_compact.specs.Putting.{IsPut}
+use Rattle.wtf_compact.specs.Putting.{IsJobPut}
 
 -- stores with the same versions have the same maps
 maps_same : (old new : Store Key Value) → ((q : Key) → versions_of key_cmp new q ≡ versions_of key_cmp old q) → (n : ℕ) → metadata_at new n ≡ metadata_at old n
@@ -29,7 +29,7 @@ maps_same old new same n = λ k q. value_seen (last_seen n (same q k))
 
 -- a put, where the store was only unpinned then
 pub put_along : (a : Answer) (job : JobView) (old mid new : Store Key Value) → new.number ≡ mid.number → ((n : ℕ) → metadata_at new n ≡ metadata_at mid n)
-    → ((q : Key) → versions_of key_cmp new q ≡ versions_of key_cmp mid q) → IsPut job old mid a → IsPut job old new a
+    → ((q : Key) → versions_of key_cmp new q ≡ versions_of key_cmp mid q) → IsJobPut job old mid a → IsJobPut job old new a
 put_along (answer.Installed n) job old mid new number map versions h = record {
   path = h.path;
   region = h.region;
@@ -53,11 +53,11 @@ put_along a job old mid new number map versions h = absurd h
 abbrev last_map : Store Key Value → Map
 last_map kv = metadata_at kv kv.number
 
-installed_map : (job : JobView) (old new : Store Key Value) (n : ℕ) → IsPut job old new (answer.Installed n)
+installed_map : (job : JobView) (old new : Store Key Value) (n : ℕ) → IsJobPut job old new (answer.Installed n)
     → last_map new ≡ with (job_edits job) (last_map old)
 installed_map job old new n h = ap (metadata_at new) h.number ∙ h.map
 
-stale_map : (job : JobView) (old new : Store Key Value) (b n : ℕ) → IsPut job old new (answer.Stale b n) → last_map new ≡ last_map old
+stale_map : (job : JobView) (old new : Store Key Value) (b n : ℕ) → IsJobPut job old new (answer.Stale b n) → last_map new ≡ last_map old
 stale_map job old new b n h = ap (metadata_at new) h.number ∙ maps_same old new h.versions old.number
 
 module _ (b : ℕ) (told : Told) (tx k : ℕ) (t : Tree) where
@@ -71,7 +71,7 @@ module _ (b : ℕ) (told : Told) (tx k : ℕ) (t : Tree) where
       stands-put b told tx k w t job.target.inode job.target.region v x stands (ap region_of same ∙ is) keeps.same keeps.named
 
   -- the map stands for the same tree
-  pub put_stands : (a : Answer) (job : JobView) (old new : Store Key Value) → IsPut job old new a
+  pub put_stands : (a : Answer) (job : JobView) (old new : Store Key Value) → IsJobPut job old new a
       → KeepsRegion b told (target_region (metadata_at old job.base) job.target) job.value → Stands b told tx k (last_map old) t
       → Stands b told tx k (last_map new) t
   put_stands (answer.Installed n) job old new h keeps stands =
@@ -87,7 +87,7 @@ module _ (P : List Place → Bool) (Q : Slice → Bool) (hole : P [] ≡ true) w
   edits_bytes job (Some x) h = (h, tt)
 
   -- and names only bytes that it named, and those of the job
-  pub put_bytes : (a : Answer) (job : JobView) (old new : Store Key Value) → IsPut job old new a → MapBytes P Q (last_map old)
+  pub put_bytes : (a : Answer) (job : JobView) (old new : Store Key Value) → IsJobPut job old new a → MapBytes P Q (last_map old)
       → MaybeBytes P Q job.value → MapBytes P Q (last_map new)
   put_bytes (answer.Installed n) job old new h named own =
       subst (MapBytes P Q) (sym (installed_map job old new n h)) (with_bytes P Q hole (job_edits job) (last_map old) named (edits_bytes job job.value own))

@@ -19,7 +19,7 @@ use Rattle.wtf_region.specs.declared.dev.Dev.{Dev}
 use Rattle.wtf_region.specs.Devs.{GoesOn, stores, between, place_in}
 use Rattle.wtf_region.specs.Showing.{OnlyRead}
 use Rattle.wtf_compact.specs.declared.target.Target.{Target}
-use Rattle.wtf_compact.specs.Jobs.{job_target, region_at}
+use Rattle.wtf_compact.specs.Jobs.{job_target, region_in_map}
 use Rattle.wtf_compact.specs.Planned.{SparesStores, spills}
 use Rattle.wtf_compact.proofs.Plans.{neither}
 
@@ -72,7 +72,7 @@ spares_stored kind old mid new t now goes reads is down others syncs = record {
 
 -- a path leads to one file
 pub its_spares : {S : Type 0} (kind : StoreKind S) (old new : Dev S) (w : Map) (p : List ℕ) (r : ℕ) (jk : JobKind) (i : InodeId) → LeadsTo w p i
-    → SparesStores kind old new (job_target i r jk) (region_at w i r) → (j : InodeId) → LeadsTo w p j
-    → SparesStores kind old new (job_target j r jk) (region_at w j r)
+    → SparesStores kind old new (job_target i r jk) (region_in_map w i r) → (j : InodeId) → LeadsTo w p j
+    → SparesStores kind old new (job_target j r jk) (region_in_map w j r)
 its_spares kind old new w p r jk i leads h j other =
-    subst (λ k. SparesStores kind old new (job_target k r jk) (region_at w k r)) (one_leads (w (Path p)) i j leads other) h
+    subst (λ k. SparesStores kind old new (job_target k r jk) (region_in_map w k r)) (one_leads (w (Path p)) i j leads other) h

@@ -32,18 +32,18 @@ abbrev pub IsFileAt : Map → List ℕ → Type 0
 IsFileAt w p = (i : InodeId) × LeadsTo w p i
 
 -- what a map has of a region, if anything
-abbrev pub region_at : Map → InodeId → ℕ → Option RegionValue
-region_at w i r = region_of (w (Region i r))
+abbrev pub region_in_map : Map → InodeId → ℕ → Option RegionValue
+region_in_map w i r = region_of (w (Region i r))
 
 -- to a file that may have a region of this number, which ends at b at most
 pub record HasRegion (b : ℕ) (w : Map) (p : List ℕ) (r : ℕ) : Type 0 where
   pub inode : InodeId
   pub leads : LeadsTo w p inode
   pub few : r < MAX_REGIONS
-  pub size : end_of (region_at w inode r) ≤ b
+  pub size : end_of (region_in_map w inode r) ≤ b
 
 abbrev pub target_region : Map → Target → Option RegionValue
-target_region w t = region_at w t.inode t.region
+target_region w t = region_in_map w t.inode t.region
 
 -- the job is of this path, whose file it names, of this region and of this kind
 pub record IsJobOf (w : Map) (p : List ℕ) (r : ℕ) (kind : JobKind) (job : JobView) : Type 0 where

@@ -48,9 +48,9 @@ pub record IsShortList {S : Type 0} (kind : StoreKind S) (old new : Dev S) (v : 
   pub told : TellsFacts kind old new (base_facts v.base under)
 
 -- nothing was stored, and the value is a compact list, without a base
-abbrev pub IsShort : List ListFact → Option RegionValue → Type 0
-IsShort stored None = stored ≡ []
-IsShort stored (Some x) = (stored ≡ []) × (x.base ≡ None) × IsCompact x.list
+abbrev pub IsUnstoredShort : List ListFact → Option RegionValue → Type 0
+IsUnstoredShort stored None = stored ≡ []
+IsUnstoredShort stored (Some x) = (stored ≡ []) × (x.base ≡ None) × IsCompact x.list
 
 -- one compact list was stored, in a slice of its own, which is the base of the value, seen up to its end, with no entry over it
 pub record IsSpilled (stored : List ListFact) (value : Option RegionValue) : Type 0 where
@@ -66,7 +66,7 @@ pub record IsSpilled (stored : List ListFact) (value : Option RegionValue) : Typ
 -- so is what a job is to put in a region's place, whatever became of its region since
 pub record HasForm (t : Target) (value : Option RegionValue) : Type 0 where
   pub stored : List ListFact
-  pub short : spills t.kind (end_of value) ≡ false → IsShort stored value
+  pub short : spills t.kind (end_of value) ≡ false → IsUnstoredShort stored value
   pub spilled : spills t.kind (end_of value) ≡ true → IsSpilled stored value
 
 -- Behind the reads, with no other write, the bytes of one list were stored: once on each server of those that the region's place
@@ -94,7 +94,7 @@ pub record IsPlanned {S : Type 0} (kind : StoreKind S) (old new : Dev S) (t : Ta
   pub stored : List ListFact
   pub same : SamePlaces (region_facts now under ++ stored) now value
   pub there : is_some value ≡ is_some now
-  pub short : spills t.kind (end_of now) ≡ false → IsShort stored value
+  pub short : spills t.kind (end_of now) ≡ false → IsUnstoredShort stored value
   pub spilled : spills t.kind (end_of now) ≡ true → IsSpilled stored value
   pub told : TellsFacts kind old new (region_facts now under)
   pub told_own : TellsAll kind (stores old) → TellLists (lists_in new.settings.region (told_in kind new)) stored
@@ -121,7 +121,7 @@ pub record SparesStores {S : Type 0} (kind : StoreKind S) (old new : Dev S) (t :
   pub others : OtherFilesStay kind (stores old) (stores new) (place_in old t.inode (t.region * old.settings.region)).file
 
 -- the list of the region was not read, and no store was written
-pub record LacksBase {S : Type 0} (kind : StoreKind S) (old new : Dev S) (now : Option RegionValue) (why : Fault) : Type 0 where
+pub record PlanLacksBase {S : Type 0} (kind : StoreKind S) (old new : Dev S) (now : Option RegionValue) (why : Fault) : Type 0 where
   pub cause : IsRegionFault kind old new now why
   pub reads : OnlyRead kind (between old new)
 
@@ -136,7 +136,7 @@ pub record LacksServers {S : Type 0} (kind : StoreKind S) (old new : Dev S) (t :
 
 -- why a job was not planned; memory may be short at any time
 abbrev pub IsPlanFault : {S : Type 0} → StoreKind S → (old new : Dev S) → Target → Option RegionValue → Fault → Type 0
-IsPlanFault kind old new t now why = (why ≡ fault.Memory) ⊎ (LacksBase kind old new now why ⊎ LacksServers kind old new t now why)
+IsPlanFault kind old new t now why = (why ≡ fault.Memory) ⊎ (PlanLacksBase kind old new now why ⊎ LacksServers kind old new t now why)
 
 -- the value has the end and the bytes of the region, and each byte that it names is told, also those of its base's list; a region
 -- without a value has nothing put in its place

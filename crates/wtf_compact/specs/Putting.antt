@@ -39,7 +39,7 @@ pub record IsStale (job : JobView) (old new : Store Key Value) (b n : ℕ) : Typ
   pub number : new.number ≡ old.number
   pub versions : (q : Key) → versions_of key_cmp new q ≡ versions_of key_cmp old q
 
-abbrev pub IsPut : JobView → Store Key Value → Store Key Value → Answer → Type 0
-IsPut job old new (answer.Installed n) = IsInPlace job old new n
-IsPut job old new (answer.Stale b n) = IsStale job old new b n
-IsPut job old new a = ⊥
+abbrev pub IsJobPut : JobView → Store Key Value → Store Key Value → Answer → Type 0
+IsJobPut job old new (answer.Installed n) = IsInPlace job old new n
+IsJobPut job old new (answer.Stale b n) = IsStale job old new b n
+IsJobPut job old new a = ⊥

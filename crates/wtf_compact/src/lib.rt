@@ -9,7 +9,7 @@
 //! leaves the store of versions as it was, and is one of the region's list or, for a spill, `Write`.
 //!
 //! `put` puts the value in the region's place exactly where neither the path nor the region has a version newer
-//! than the job's base; else the job is stale, and nothing is installed (`IsPut`). A put is one install, behind
+//! than the job's base; else the job is stale, and nothing is installed (`IsJobPut`). A put is one install, behind
 //! which the map stands for the tree for which it stood (`stands`). It reads and stores nothing. Either way the
 //! job ends and its pin is undone. Want of memory gives the job back, and leaves what the store shows.
 //!

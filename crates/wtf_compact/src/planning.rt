@@ -13,7 +13,7 @@ ghost use Rattle.wtf_meta.specs.Bytes.{MaybeBytes, RegionBytes, any_slice};
 ghost use Rattle.wtf_meta.specs.Trees.{LeadsTo};
 ghost use Rattle.wtf_region.specs.Devs.{IsSoundDev, GoesOn, stores, told_in, inside_of};
 ghost use Rattle.wtf_region.specs.Inside.{IsStoredInside};
-ghost use Rattle.wtf_compact.specs.Jobs.{HasRegion, IsFileAt, IsJobOf, job_target, region_at, target_region};
+ghost use Rattle.wtf_compact.specs.Jobs.{HasRegion, IsFileAt, IsJobOf, job_target, region_in_map, target_region};
 ghost use Rattle.wtf_compact.specs.Planned.{IsPlanned, IsPlanFault, KeepsRegion, RemembersItsBase, SparesStores, TellsRegion, spills};
 
 use crate::spilling::{short_list, store_list};
@@ -159,15 +159,15 @@ fn made<S: SliceStore>(
     ensures fault { IfErr result (λ why. (i : inode_id.InodeId) →
         LeadsTo (metadata_at kv.now kv.now.number) p.now i →
         IsPlanFault S.kind dev.old dev.new (job_target i region kind)
-        (region_at (metadata_at kv.now kv.now.number) i region) why) }
+        (region_in_map (metadata_at kv.now kv.now.number) i region) why) }
     ensures only { (i : inode_id.InodeId) →
         LeadsTo (metadata_at kv.now kv.now.number) p.now i →
         RemembersItsBase dev.old dev.new
-        (region_at (metadata_at kv.now kv.now.number) i region) }
+        (region_in_map (metadata_at kv.now kv.now.number) i region) }
     ensures spares { (i : inode_id.InodeId) →
         LeadsTo (metadata_at kv.now kv.now.number) p.now i →
         SparesStores S.kind dev.old dev.new (job_target i region kind)
-        (region_at (metadata_at kv.now kv.now.number) i region) }
+        (region_in_map (metadata_at kv.now kv.now.number) i region) }
     ensures dev { GoesOn S.kind dev.old dev.new [] }
 {
     let path = match p.copy(alloc) {
@@ -241,15 +241,15 @@ pub fn plan<S: SliceStore>(
     ensures fault { IfErr result (λ why. (i : inode_id.InodeId) →
         LeadsTo (metadata_at kv.old kv.old.number) p.now i →
         IsPlanFault S.kind dev.old dev.new (job_target i region kind)
-        (region_at (metadata_at kv.old kv.old.number) i region) why) }
+        (region_in_map (metadata_at kv.old kv.old.number) i region) why) }
     ensures only { (i : inode_id.InodeId) →
         LeadsTo (metadata_at kv.old kv.old.number) p.now i →
         RemembersItsBase dev.old dev.new
-        (region_at (metadata_at kv.old kv.old.number) i region) }
+        (region_in_map (metadata_at kv.old kv.old.number) i region) }
     ensures spares { (i : inode_id.InodeId) →
         LeadsTo (metadata_at kv.old kv.old.number) p.now i →
         SparesStores S.kind dev.old dev.new (job_target i region kind)
-        (region_at (metadata_at kv.old kv.old.number) i region) }
+        (region_in_map (metadata_at kv.old kv.old.number) i region) }
     ensures dev { GoesOn S.kind dev.old dev.new [] }
 {
     let job = match made(alloc, dev, &*kv, p, region, kind) {

@@ -14,7 +14,7 @@ ghost use Rattle.wtf_meta.specs.Maps.{metadata_at};
 ghost use Rattle.wtf_meta.specs.Trees.{Stands};
 ghost use Rattle.wtf_compact.specs.Jobs.{target_region};
 ghost use Rattle.wtf_compact.specs.Planned.{KeepsRegion};
-ghost use Rattle.wtf_compact.specs.Putting.{IsPut};
+ghost use Rattle.wtf_compact.specs.Putting.{IsJobPut};
 
 use crate::{Job, drop_job};
 use thiserror::Error;
@@ -36,7 +36,7 @@ pub enum PutFault {
 fn install(job: &Job, kv: &mut Kv<Key, Value>) -> Result<Answer, OutOfMemory>
     requires room { kv.old.number < 2 ^ 63 }
     requires pinned { IsTrue (is_pinned kv.old job.now.base) }
-    ensures put { IfOk result (IsPut job.now kv.old kv.new) }
+    ensures put { IfOk result (IsJobPut job.now kv.old kv.new) }
     ensures pins { kv.new.pins ≡ kv.old.pins }
     ensures maps { (n : ℕ) → n ≤ kv.old.number → metadata_at kv.new n ≡ metadata_at kv.old n }
     ensures err { OnErr result (Stays key_cmp kv.old kv.new) }
@@ -60,7 +60,7 @@ fn install(job: &Job, kv: &mut Kv<Key, Value>) -> Result<Answer, OutOfMemory>
 pub fn put(job: Job, kv: &mut Kv<Key, Value>) -> Result<Answer, PutFault>
     requires room { kv.old.number < 2 ^ 63 }
     requires pinned { IsTrue (is_pinned kv.old job.base) }
-    ensures put { IfOk result (IsPut job kv.old kv.new) }
+    ensures put { IfOk result (IsJobPut job kv.old kv.new) }
     ensures stands { OnOk result ((b : ℕ) (told : Told) (tx k : ℕ) (t : Tree) →
         KeepsRegion b told (target_region (metadata_at kv.old job.base) job.target) job.value →
         Stands b told tx k (metadata_at kv.old kv.old.number) t →

@@ -1,5 +1,6 @@
 -- What a bench holds goes on holding.
-use Rattle.std.proofs.Common.{◌≡◌, ℕ, ◌+◌, ◌≤◌, ◌<◌, nat_eq, nat_le, cond, Bool, true, false, List, [], ◌∷◌, ◌++◌, length, Option, Some, None, refl, sym, ap, ◌∙◌, subst, ⊎_elim, arith}
+use Rattle.std.proofs.Common.{◌≡◌, ℕ, ◌+◌, ◌≤◌, ◌<◌, nat_eq, nat_le, cond, Bool, true, false, List, [], ◌∷◌, ◌++◌, length, Option, Some, None, refl, sym, ap}
+use Rattle.std.proofs.Common.{◌∙◌, subst, ⊎_elim, arith}
 use Rattle.std.specs.Prelude.{IsTrue, IfSome, OnOk, OnErr, Result, Ok, Err, if◌then◌else◌}
 use Rattle.std.specs.Set.{remove_key}
 use Rattle.std.specs.BTreeMap.{is_at}
@@ -34,10 +35,10 @@ use Rattle.wtf_replay.specs.Views.{TxnView, begun}
 use Rattle.wtf_replay.specs.Fits.{IsFit}
 use Rattle.wtf_replay.specs.Insides.{IsInsideTxn}
 use Rattle.wtf_replay.specs.Refusals.{try_refusal}
-use Rattle.wtf_replay.specs.Replays.{IsOver}
+use Rattle.wtf_replay.specs.Replays.{IsTxnOver}
 use Rattle.wtf_replay.specs.Tried.{KeepsMaps, KeepsPins, IsAttempted}
 use Rattle.wtf_replay.proofs.Insiding.{map_later}
-use Rattle.wtf_files_rows.specs.Benches.{IsLent, IsHeld}
+use Rattle.wtf_files_rows.specs.Benches.{IsTxnLent, IsTxnHeld}
 
 -- a first value of a key brings no byte but its own
 module _ (P : List Place → Bool) (Q : Slice → Bool) (v : Value) (m n : ℕ) where
@@ -45,17 +46,21 @@ module _ (P : List Place → Bool) (Q : Slice → Bool) (v : Value) (m n : ℕ) 
   one_bytes true here = here
   one_bytes false here = tt
 
-  which_bytes : (b : Bool) (vs : List (ℕ × Option Value)) → ValueBytes P Q (Some v) → ValueBytes P Q (value_seen (last_seen n vs)) → ValueBytes P Q (value_seen (last_seen n (cond b ((m, Some v) ∷ []) vs)))
+  which_bytes : (b : Bool) (vs : List (ℕ × Option Value)) → ValueBytes P Q (Some v) → ValueBytes P Q (value_seen (last_seen n vs))
+      → ValueBytes P Q (value_seen (last_seen n (cond b ((m, Some v) ∷ []) vs)))
   which_bytes true vs here rest = one_bytes (nat_le m n) here
   which_bytes false vs here rest = rest
 
-pub seeded_bytes : (P : List Place → Bool) (Q : Slice → Bool) (old new : Store Key Value) (k : Key) (v : Value) (n : ℕ) → ((q : Key) → versions_of key_cmp new q ≡ cond (is_at (key_cmp k) q) ((old.number, Some v) ∷ []) (versions_of key_cmp old q))
+pub seeded_bytes : (P : List Place → Bool) (Q : Slice → Bool) (old new : Store Key Value) (k : Key) (v : Value) (n : ℕ)
+    → ((q : Key) → versions_of key_cmp new q ≡ cond (is_at (key_cmp k) q) ((old.number, Some v) ∷ []) (versions_of key_cmp old q))
     → ValueBytes P Q (Some v) → MapBytes P Q (metadata_at old n) → MapBytes P Q (metadata_at new n)
 seeded_bytes P Q old new k v n are here map q =
-    subst (λ vs. ValueBytes P Q (value_seen (last_seen n vs))) (sym (are q)) (which_bytes P Q v old.number n (is_at (key_cmp k) q) (versions_of key_cmp old q) here (map q))
+    subst (λ vs. ValueBytes P Q (value_seen (last_seen n vs))) (sym (are q))
+    (which_bytes P Q v old.number n (is_at (key_cmp k) q) (versions_of key_cmp old q) here (map q))
 
 -- what is lent goes on
-pub lent_on : (old new : Dev StoreState) → IsLent (stores old) old.replicas.now old.ring.now old.cache.now old.settings → GoesOn mem_store old new [] → IsLent (stores new) old.replicas.now old.ring.now new.cache.now old.settings
+pub lent_on : (old new : Dev StoreState) → IsTxnLent (stores old) old.replicas.now old.ring.now old.cache.now old.settings → GoesOn mem_store old new []
+    → IsTxnLent (stores new) old.replicas.now old.ring.now new.cache.now old.settings
 lent_on old new was on = record {
   replicas_are = was.replicas_are;
   ring_is = was.ring_is;
@@ -65,17 +70,21 @@ lent_on old new was on = record {
 }
 
 -- and a map that lay inside the stores does
-pub now_on : (old new : Dev StoreState) (w : Map) → old.settings.servers ≤ length (stores old) → GoesOn mem_store old new [] → IsStoredInside mem_store (stores old) old.settings w → IsStoredInside mem_store (stores new) old.settings w
+pub now_on : (old new : Dev StoreState) (w : Map) → old.settings.servers ≤ length (stores old) → GoesOn mem_store old new []
+    → IsStoredInside mem_store (stores old) old.settings w → IsStoredInside mem_store (stores new) old.settings w
 now_on old new w enough on here = map_later mem_store_laws on.each old.settings enough w here
 
 -- and a slice whose bytes did
-pub slice_on : (old new : Dev StoreState) (s : Slice) → old.settings.servers ≤ length (stores old) → GoesOn mem_store old new [] → SliceBytes (inside_of mem_store old) s → SliceBytes (inside_of mem_store new) s
+pub slice_on : (old new : Dev StoreState) (s : Slice) → old.settings.servers ≤ length (stores old) → GoesOn mem_store old new []
+    → SliceBytes (inside_of mem_store old) s → SliceBytes (inside_of mem_store new) s
 slice_on old new s enough on here = λ i below.
     let places = part_origin (Held s) i in
-    subst (λ (x : Settings). is_inside mem_store (stores new) x places ≡ true) (sym on.settings) (inside_stays mem_store_laws on.each old.settings enough places (here i below))
+    subst (λ (x : Settings). is_inside mem_store (stores new) x places ≡ true) (sym on.settings)
+    (inside_stays mem_store_laws on.each old.settings enough places (here i below))
 
 -- a number that was pinned once more is pinned, where a pin was taken that was there before
-pub still_pinned : (kv mid left after : Store Key Value) (n b : ℕ) → IsPinnedOnceMore n kv mid → KeepsPins mid left → IsPinnedOnceMore b after left → IsTrue (is_pinned kv b) → IsTrue (is_pinned after n)
+pub still_pinned : (kv mid left after : Store Key Value) (n b : ℕ) → IsPinnedOnceMore n kv mid → KeepsPins mid left → IsPinnedOnceMore b after left
+    → IsTrue (is_pinned kv b) → IsTrue (is_pinned after n)
 still_pinned kv mid left after n b more keeps fewer pinned =
     let some = count-any b kv.pins pinned in
     let up : times_pinned mid n ≡ times_pinned kv n + 1 = more n ∙ ap (λ q. times_pinned kv n + (if q then 1 else 0)) (eq-eqb n n refl) in
@@ -91,7 +100,7 @@ still_pinned kv mid left after n b more keeps fewer pinned =
     (cases_Bool (nat_eq n b))
 
 -- a commit leaves the base
-pub base_stays : (r : Result Answer Fault) (old new : TxnView) → OnOk r (IsOver old new) → OnErr r (new ≡ old) → new.at.base ≡ old.at.base
+pub base_stays : (r : Result Answer Fault) (old new : TxnView) → OnOk r (IsTxnOver old new) → OnErr r (new ≡ old) → new.at.base ≡ old.at.base
 base_stays (Ok a) old new over err = over.base
 base_stays (Err why) old new over err = ap (λ (x : TxnView). x.at.base) err
 
@@ -100,7 +109,8 @@ module _ (shelf : List StoreState) (settings : Settings) where
   IsIn w = IsStoredInside mem_store shelf settings w
 
   -- a transaction that has only begun is held by a store that it fits
-  pub held_begun : (kv : Store Key Value) (x : TxnView) (tx n : ℕ) → x ≡ begun tx n → IsFit kv x → IsIn (metadata_at kv n) → IsIn (metadata_at kv kv.number) → IsHeld shelf settings kv x
+  pub held_begun : (kv : Store Key Value) (x : TxnView) (tx n : ℕ) → x ≡ begun tx n → IsFit kv x → IsIn (metadata_at kv n) → IsIn (metadata_at kv kv.number)
+      → IsTxnHeld shelf settings kv x
   held_begun kv x tx n is fit base now = record {
     fit = fit;
     inside = subst (λ (y : TxnView). IsInsideTxn mem_store shelf settings kv y) (sym is) (record {
@@ -112,9 +122,11 @@ module _ (shelf : List StoreState) (settings : Settings) where
 
   -- One that has begun is held where another one has ended since: kv as it was, mid with the pin of its base, left by the
   -- commit of the other one, and after that one's pin was taken.
-  pub held_next : (kv mid left after : Store Key Value) (x : TxnView) (tx b : ℕ) → x ≡ begun tx kv.number → mid ≡ record kv { pins = kv.pins ++ kv.number ∷ [] } → IsPinnedOnceMore kv.number kv mid → IsFit mid x
-      → KeepsMaps mid left → KeepsPins mid left → after ≡ record left { pins = remove_key (nat_eq b) left.pins } → IsPinnedOnceMore b after left → IsTrue (is_pinned kv b)
-      → IsIn (metadata_at kv kv.number) → IsIn (metadata_at left left.number) → IsHeld shelf settings after x
+  pub held_next : (kv mid left after : Store Key Value) (x : TxnView) (tx b : ℕ) → x ≡ begun tx kv.number → mid ≡ record kv { pins = kv.pins ++ kv.number ∷ [] }
+      → IsPinnedOnceMore kv.number kv mid → IsFit mid x
+      → KeepsMaps mid left → KeepsPins mid left → after ≡ record left { pins = remove_key (nat_eq b) left.pins } → IsPinnedOnceMore b after left
+      → IsTrue (is_pinned kv b)
+      → IsIn (metadata_at kv kv.number) → IsIn (metadata_at left left.number) → IsTxnHeld shelf settings after x
   held_next kv mid left after x tx b is mid_is more fit maps pins after_is fewer pinned base now =
       let n = kv.number in
       let up : mid.number ≡ n = ap (λ (s : Store Key Value). s.number) mid_is in
@@ -133,32 +145,45 @@ module _ (shelf : List StoreState) (settings : Settings) where
       (subst (λ (s : Store Key Value). IsIn (metadata_at s s.number)) (sym after_is) now)
 
   -- and one that was tried, by what came of it
-  module _ (kv after : Store Key Value) (x y : TxnView) (held : IsHeld shelf settings kv x) (maps : KeepsMaps kv after) (fit : IsFit after y) (below : x.at.base ≤ kv.number) where
-    held_attempted : (a : Answer) → IsAttempted kv after x y a → IsHeld shelf settings after y
+  module _ (kv after : Store Key Value) (x y : TxnView) (held : IsTxnHeld shelf settings kv x) (maps : KeepsMaps kv after) (fit : IsFit after y)
+      (below : x.at.base ≤ kv.number) where
+    held_attempted : (a : Answer) → IsAttempted kv after x y a → IsTxnHeld shelf settings after y
     held_attempted (answer.Committed n) did = record {
       fit = fit;
       inside = subst (λ (z : TxnView). IsInsideTxn mem_store shelf settings after z) (sym did.is) (record {
-        hand = record { base = subst IsIn (sym (maps x.at.base below)) held.inside.hand.base; changes = held.inside.hand.changes; slices = held.inside.hand.slices };
+        hand = record {
+          base = subst IsIn (sym (maps x.at.base below)) held.inside.hand.base;
+          changes = held.inside.hand.changes;
+          slices = held.inside.hand.slices;
+        };
         log = held.inside.log;
       });
       now = subst (λ m. IsIn (metadata_at after m)) (sym did.installed.number)
-          (subst IsIn (sym did.installed.map) (with_bytes (is_inside mem_store shelf settings) any_slice refl x.at.changes (metadata_at kv kv.number) held.now held.inside.hand.changes));
+          (subst IsIn (sym did.installed.map) (with_bytes (is_inside mem_store shelf settings) any_slice refl x.at.changes
+          (metadata_at kv kv.number) held.now held.inside.hand.changes));
     }
     held_attempted (answer.Retry b n) did =
         let here : IsIn (metadata_at after kv.number) = subst IsIn (sym (maps kv.number (omega arith))) held.now in
         record {
           fit = fit;
           inside = subst (λ (z : TxnView). IsInsideTxn mem_store shelf settings after z) (sym did.is) (record {
-            hand = record { base = subst (λ m. IsIn (metadata_at after m)) (sym did.number_is) here; changes = tt; slices = nothing_kept (is_inside mem_store shelf settings) };
+            hand = record {
+              base = subst (λ m. IsIn (metadata_at after m)) (sym did.number_is) here;
+              changes = tt;
+              slices = nothing_kept (is_inside mem_store shelf settings);
+            };
             log = held.inside.log;
           });
           now = subst (λ m. IsIn (metadata_at after m)) (sym did.number) here;
         }
     held_attempted a did = absurd did
 
-    held_by : (A : Word → Type 0) (o : Option Word) (a : Answer) → IfSome o (λ w. A w × (y ≡ x) × (after ≡ kv)) → (o ≡ None → IsAttempted kv after x y a) → IsHeld shelf settings after y
+    held_by : (A : Word → Type 0) (o : Option Word) (a : Answer) → IfSome o (λ w. A w × (y ≡ x) × (after ≡ kv)) → (o ≡ None → IsAttempted kv after x y a)
+        → IsTxnHeld shelf settings after y
     held_by A None a refused tried = held_attempted a (tried refl)
-    held_by A (Some w) a refused tried = subst (λ (z : TxnView). IsHeld shelf settings after z) (sym refused.1) (subst (λ (s : Store Key Value). IsHeld shelf settings s x) (sym refused.2) held)
+    held_by A (Some w) a refused tried = subst (λ (z : TxnView). IsTxnHeld shelf settings after z) (sym refused.1)
+        (subst (λ (s : Store Key Value). IsTxnHeld shelf settings s x) (sym refused.2) held)
 
-    pub held_tried : (A : Word → Type 0) (a : Answer) → IfSome (try_refusal x) (λ w. A w × (y ≡ x) × (after ≡ kv)) → (try_refusal x ≡ None → IsAttempted kv after x y a) → IsHeld shelf settings after y
+    pub held_tried : (A : Word → Type 0) (a : Answer) → IfSome (try_refusal x) (λ w. A w × (y ≡ x) × (after ≡ kv))
+        → (try_refusal x ≡ None → IsAttempted kv after x y a) → IsTxnHeld shelf settings after y
     held_tried A a refused tried = held_by A (try_refusal x) a refused tried

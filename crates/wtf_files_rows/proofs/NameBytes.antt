@@ -20,8 +20,10 @@ use Rattle.wtf_meta.proofs.MapBytes.{with_bytes}
 use Rattle.wtf_meta.proofs.Named.{PiecesBytes-none}
 use Rattle.wtf_meta.proofs.Nothing.{nothing_kept}
 
-pub name_bytes : (x : Caller) (kv : Store Key Value) (old new : Attempted Key Delta) (o : Op (List ℕ)) (a : Answer) → IsNameStep x (seen kv old) old new o a → IsFreeToMove o nothing_open
+pub name_bytes : (x : Caller) (kv : Store Key Value) (old new : Attempted Key Delta) (o : Op (List ℕ)) (a : Answer) → IsNameStep x (seen kv old) old new o a
+    → IsFreeToMove o nothing_open
     → (P : List Place → Bool) (Q : Slice → Bool) → P [] ≡ true → MapBytes P Q (seen kv old) → MapBytes P Q (seen kv new)
 name_bytes x kv old new o a step free P Q hole map =
     let names = (step.is_call nothing_open free).names P Q hole map (nothing_kept P) (PiecesBytes-none P) tt in
-    subst (λ (w : Map). MapBytes P Q w) (sym (map_seen-by key_cmp outcome_of kv old new step.keys step.edits step.grows)) (with_bytes P Q hole step.edits (seen kv old) map names.edits)
+    subst (λ (w : Map). MapBytes P Q w) (sym (map_seen-by key_cmp outcome_of kv old new step.keys step.edits step.grows))
+    (with_bytes P Q hole step.edits (seen kv old) map names.edits)

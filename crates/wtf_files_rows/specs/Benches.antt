@@ -19,11 +19,11 @@ use Rattle.wtf_replay.specs.Fits.{IsFit}
 use Rattle.wtf_replay.specs.Insides.{IsInsideTxn}
 
 -- no byte stands in a map but those of holes
-abbrev pub IsBare : Map → Type 0
-IsBare w = (P : List Place → Bool) (Q : Slice → Bool) → P [] ≡ true → MapBytes P Q w
+abbrev pub IsBareMap : Map → Type 0
+IsBareMap w = (P : List Place → Bool) (Q : Slice → Bool) → P [] ≡ true → MapBytes P Q w
 
 -- what a transaction is lent
-pub record IsLent (shelf : List StoreState) (replicas : Replicas) (ring : RingView) (cache : CacheView) (settings : Settings) : Type 0 where
+pub record IsTxnLent (shelf : List StoreState) (replicas : Replicas) (ring : RingView) (cache : CacheView) (settings : Settings) : Type 0 where
   pub replicas_are : settings_of replicas ≡ settings
   pub ring_is : ring.servers ≡ settings.servers
   pub enough : settings.servers ≤ length shelf
@@ -31,7 +31,7 @@ pub record IsLent (shelf : List StoreState) (replicas : Replicas) (ring : RingVi
   pub lists_are : CacheInside (is_inside mem_store shelf settings) cache.lists
 
 -- the transaction fits its store, and all that it and the map now name lies inside the stores
-pub record IsHeld (shelf : List StoreState) (settings : Settings) (kv : Store Key Value) (txn : TxnView) : Type 0 where
+pub record IsTxnHeld (shelf : List StoreState) (settings : Settings) (kv : Store Key Value) (txn : TxnView) : Type 0 where
   pub fit : IsFit kv txn
   pub inside : IsInsideTxn mem_store shelf settings kv txn
   pub now : IsStoredInside mem_store shelf settings (metadata_at kv kv.number)

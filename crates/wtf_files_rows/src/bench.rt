@@ -5,7 +5,7 @@ ghost use Rattle.wtf_dev.specs.Memory.{StoreState};
 ghost use Rattle.wtf_base.specs.declared.settings.Settings.{Settings};
 ghost use Rattle.wtf_meta.specs.Maps.{metadata_at};
 ghost use Rattle.wtf_replay.specs.Fits.{IsFit};
-ghost use Rattle.wtf_files_rows.specs.Benches.{IsBare, IsHeld};
+ghost use Rattle.wtf_files_rows.specs.Benches.{IsBareMap, IsTxnHeld};
 
 use crate::ops::{Step, form_op};
 use crate::store::{Parts, made_parts, path};
@@ -47,21 +47,21 @@ pub(crate) struct Bench {
 
 impl Model for Bench {
     ghost use Rattle.std.specs.Prelude.{ℕ};
-    ghost use Rattle.wtf_files_rows.specs.Benches.{IsLent, IsHeld};
+    ghost use Rattle.wtf_files_rows.specs.Benches.{IsTxnLent, IsTxnHeld};
 
     ghost Value = { ℕ };
 
     ghost view = { λ b. b.kv.number };
 
     ghost invariant = { λ b.
-        IsLent b.parts.shelf b.parts.replicas b.parts.ring b.parts.cache b.parts.settings ×
-        IsHeld b.parts.shelf b.parts.settings b.kv b.txn };
+        IsTxnLent b.parts.shelf b.parts.replicas b.parts.ring b.parts.cache b.parts.settings ×
+        IsTxnHeld b.parts.shelf b.parts.settings b.kv b.txn };
 }
 
 /// Puts the root alone into a store with nothing in it.
 fn root_seeded(alloc: Global, kv: &mut Kv<Key, Value>) -> Result<(), Fail>
     requires { kv.old ≡ record { number = 0; pins = []; cells = [] } }
-    ensures { OnOk result (IsBare (metadata_at kv.new kv.new.number)) }
+    ensures { OnOk result (IsBareMap (metadata_at kv.new kv.new.number)) }
 {
     let root = path(alloc, "/")?;
     kv.seed(Key::Path(root), Value::Node(Node::Folder))?;
@@ -72,7 +72,7 @@ fn root_seeded(alloc: Global, kv: &mut Kv<Key, Value>) -> Result<(), Fail>
 
 /// The root alone, at number 0.
 fn root_alone(alloc: Global) -> Result<Kv<Key, Value>, Fail>
-    ensures { IfOk result (λ kv. IsBare (metadata_at kv kv.number)) }
+    ensures { IfOk result (λ kv. IsBareMap (metadata_at kv kv.number)) }
 {
     let mut kv: Kv<Key, Value> = Kv::new(alloc)?;
     root_seeded(alloc, &mut kv)?;
@@ -83,7 +83,7 @@ fn root_alone(alloc: Global) -> Result<Kv<Key, Value>, Fail>
 fn begun(alloc: Global) -> Result<(Kv<Key, Value>, Txn), Fail>
     ensures fit { IfOk result (λ r. IsFit r.0 r.1) }
     ensures held { IfOk result (λ r.
-        (shelf : List StoreState) (settings : Settings) → IsHeld shelf settings r.0 r.1) }
+        (shelf : List StoreState) (settings : Settings) → IsTxnHeld shelf settings r.0 r.1) }
 {
     let mut kv = root_alone(alloc)?;
     let txn = Txn::begin(alloc, &mut kv, TxId(1))?;

@@ -5,7 +5,7 @@ ghost use Rattle.wtf_dev.specs.Memory.{mem_store};
 ghost use Rattle.wtf_meta.specs.Maps.{seen};
 ghost use Rattle.wtf_region.specs.Devs.{IsSoundDev, stores};
 ghost use Rattle.wtf_region.specs.Inside.{IsStoredInside};
-ghost use Rattle.wtf_files_rows.specs.Benches.{IsBare};
+ghost use Rattle.wtf_files_rows.specs.Benches.{IsBareMap};
 
 use crate::store::{FILE, NEVER, made_parts, pinned, settings, stored};
 use std::alloc::Global;
@@ -29,7 +29,7 @@ fn laid(
     off: u64,
 ) -> Result<(), Fail>
     requires sound { IsSoundDev mem_store dev.old }
-    requires bare { IsBare (seen kv.now at.old) }
+    requires bare { IsBareMap (seen kv.now at.old) }
     ensures sound { OnOk result (IsSoundDev mem_store dev.new) }
     ensures inside { OnOk result (IsStoredInside mem_store (stores dev.new) dev.new.settings
         (seen kv.now at.new)) }
@@ -164,7 +164,7 @@ fn zeros_added_at(
 
 /// A store that is pinned, and an attempt that has made the file.
 fn begun(alloc: Global) -> Result<(Kv<Key, Value>, Attempt<Key, Value>), Fail>
-    ensures bare { IfOk result (λ r. IsBare (seen r.0 r.1)) }
+    ensures bare { IfOk result (λ r. IsBareMap (seen r.0 r.1)) }
 {
     let mut at = Attempt::new(alloc, 0)?;
     at.delta(Key::Inode(FILE), Delta::Put(Value::Last(0)))?;
@@ -181,7 +181,7 @@ fn are_laid_over(
     at: &mut Attempt<Key, Value>,
 ) -> Result<bool, Fail>
     requires sound { IsSoundDev mem_store dev.old }
-    requires bare { IsBare (seen kv.now at.old) }
+    requires bare { IsBareMap (seen kv.now at.old) }
 {
     laid(dev, kv, at, 60)?;
     let cut = are_pieces(alloc, dev, kv, at, (60, 10), &[4, 6])?;
@@ -191,7 +191,7 @@ fn are_laid_over(
 }
 
 fn are_laid(alloc: Global, kv: &Kv<Key, Value>, at: &mut Attempt<Key, Value>) -> Result<bool, Fail>
-    requires { IsBare (seen kv.now at.old) }
+    requires { IsBareMap (seen kv.now at.old) }
 {
     let mut parts = made_parts(alloc, NEVER, 2)?;
     let mut dev = Dev {
@@ -222,7 +222,7 @@ fn steps_over_a_border(
     kv: &Kv<Key, Value>,
     at: &mut Attempt<Key, Value>,
 ) -> Result<bool, Fail>
-    requires { IsBare (seen kv.now at.old) }
+    requires { IsBareMap (seen kv.now at.old) }
 {
     let digits = are_laid(alloc, kv, at)?;
     let whole = len(kv, at)?;

@@ -6,7 +6,7 @@ ghost use Rattle.wtf_meta.specs.Maps.{seen};
 ghost use Rattle.wtf_region.specs.Devs.{IsSoundDev, stores};
 ghost use Rattle.wtf_meta.specs.Sessions.{nothing_open};
 ghost use Rattle.wtf_rw.specs.Ops.{AreInside};
-ghost use Rattle.wtf_files_rows.specs.Benches.{IsBare};
+ghost use Rattle.wtf_files_rows.specs.Benches.{IsBareMap};
 
 use crate::ops::{Step, is_rw_form};
 use crate::steps::{all_come, first_wrong};
@@ -239,7 +239,7 @@ fn last_comes_on(
     s: &mut Session,
     last: (&[(Step, &str)], &RwOp<'_>, (u64, u64)),
 ) -> Result<bool, Fail>
-    requires bare { IsBare (seen kv.now at.old) }
+    requires bare { IsBareMap (seen kv.now at.old) }
     requires session { s.old ≡ nothing_open }
 {
     let Parts {

@@ -9,7 +9,7 @@ ghost use Rattle.wtf_meta.specs.Maps.{seen};
 ghost use Rattle.wtf_region.specs.Devs.{IsSoundDev, stores};
 ghost use Rattle.wtf_meta.specs.Sessions.{nothing_open};
 ghost use Rattle.wtf_rw.specs.Ops.{AreInside};
-ghost use Rattle.wtf_files_rows.specs.Benches.{IsBare};
+ghost use Rattle.wtf_files_rows.specs.Benches.{IsBareMap};
 
 use crate::ops::{Step, is_fresh, is_rw_form, is_slice_form, op, rw_op, slice_op};
 use crate::store::{Parts, begun, made_parts};
@@ -235,7 +235,7 @@ fn first_wrong_on(
     s: &mut Session,
     rows: &[(Step, &str)],
 ) -> Result<u32, Fail>
-    requires bare { IsBare (seen kv.now at.old) }
+    requires bare { IsBareMap (seen kv.now at.old) }
     requires session { s.old ≡ nothing_open }
 {
     let Parts {

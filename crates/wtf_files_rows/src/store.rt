@@ -8,7 +8,7 @@ ghost use Rattle.wtf_meta.specs.Maps.{seen};
 ghost use Rattle.wtf_region.specs.Devs.{IsSoundDev, GoesOn, stores, inside_of};
 ghost use Rattle.wtf_replica.specs.Copies.{IsInside};
 ghost use Rattle.wtf_replica.specs.Downs.{settings_of};
-ghost use Rattle.wtf_files_rows.specs.Benches.{IsBare};
+ghost use Rattle.wtf_files_rows.specs.Benches.{IsBareMap};
 
 use std::alloc::Global;
 use std::test::Fail;
@@ -124,7 +124,7 @@ pub(crate) fn path(alloc: Global, text: &str) -> Result<Path, Fail> {
 /// Makes the root, the directory `/d` and the file `/a`.
 fn tree_made(alloc: Global, at: &mut Attempt<Key, Value>) -> Result<(), Fail>
     ensures { OnOk result
-        ((kv : Store Key Value) → IsBare (seen kv at.old) → IsBare (seen kv at.new)) }
+        ((kv : Store Key Value) → IsBareMap (seen kv at.old) → IsBareMap (seen kv at.new)) }
 {
     let root = path(alloc, "/")?;
     at.delta(Key::Path(root), Delta::Put(Value::Node(Node::Folder)))?;
@@ -150,7 +150,7 @@ pub(crate) fn pinned(alloc: Global) -> Result<Kv<Key, Value>, Fail>
 
 /// An attempt that has made the root, the directory `/d` and the file `/a`.
 pub(crate) fn begun(alloc: Global) -> Result<(Kv<Key, Value>, Attempt<Key, Value>), Fail>
-    ensures bare { IfOk result (λ r. IsBare (seen r.0 r.1)) }
+    ensures bare { IfOk result (λ r. IsBareMap (seen r.0 r.1)) }
 {
     let mut at: Attempt<Key, Value> = Attempt::new(alloc, 0)?;
     tree_made(alloc, &mut at)?;

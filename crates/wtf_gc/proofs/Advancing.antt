@@ -16,7 +16,7 @@ use Rattle.wtf_region.specs.declared.dev.Dev.{Dev}
 use Rattle.wtf_region.specs.Reads.{IsOfBase}
 use Rattle.wtf_gc.specs.declared.extent.Extent.{Extent}
 use Rattle.wtf_gc.specs.declared.parts.Parts.{Parts}
-use Rattle.wtf_gc.specs.Extents.{covers, no_places}
+use Rattle.wtf_gc.specs.Extents.{extents_cover, no_places}
 use Rattle.wtf_gc.specs.Parts.{IsIn, NamedIn}
 use Rattle.wtf_gc.specs.Pinning.{IsPinnedFor}
 use Rattle.wtf_gc.specs.Reading.{PartsRead}
@@ -26,7 +26,7 @@ use Rattle.wtf_gc.proofs.Living.{same_versions}
 
 -- ---- parts are done
 module _ (old new : GcView) (run : RunView) (was : old.running ≡ Some run) (done : ℕ) (found more : List Extent)
-    (adds : (p : Place) → covers found p ≡ (covers run.scan.found p || covers more p)) where
+    (adds : (p : Place) → extents_cover found p ≡ (extents_cover run.scan.found p || extents_cover more p)) where
   abbrev then_run : RunView
   then_run = run_on run done found
 
@@ -87,8 +87,8 @@ named lists old new number cells parts p h = record { region = h.region; there =
 
 pub read_over : {S : Type 0} (kind : StoreKind S) (dev dev' : Dev S) (kv kv' : Store Key Value) (parts : Parts) (before more after : List Extent)
     → kv'.number ≡ kv.number → kv'.cells ≡ kv.cells
-    → ((p : Place) → covers after p ≡ (covers before p || covers more p)) → PartsRead kind dev dev' kv parts no_places (covers more)
-    → PartsRead kind dev dev' kv' parts (covers before) (covers after)
+    → ((p : Place) → extents_cover after p ≡ (extents_cover before p || extents_cover more p)) → PartsRead kind dev dev' kv parts no_places (extents_cover more)
+    → PartsRead kind dev dev' kv' parts (extents_cover before) (extents_cover after)
 read_over kind dev dev' kv kv' parts before more after number cells adds read = record {
   facts = read.facts;
   slices = λ P Q bases. read.slices P Q (λ v there. bases v (is_in kv kv' number cells parts v there));
@@ -100,12 +100,12 @@ read_over kind dev dev' kv kv' parts before more after number cells adds read = 
   finds = λ lists tell.
       let f = read.finds lists tell in
       record {
-        keeps = λ p e. adds p ∙ or_left (covers before p) (covers more p) e;
-        finds = λ p h. adds p ∙ or_right (covers before p) (covers more p) (f.finds p (named lists kv' kv (sym number) (sym cells) parts p h));
+        keeps = λ p e. adds p ∙ or_left (extents_cover before p) (extents_cover more p) e;
+        finds = λ p h. adds p ∙ or_right (extents_cover before p) (extents_cover more p) (f.finds p (named lists kv' kv (sym number) (sym cells) parts p h));
         only = λ p e. ⊎_elim
             (λ old. inl old)
             (λ new. ⊎_elim (λ none. absurd (cc)) (λ h. inr (named lists kv kv' number cells parts p h)) (f.only p new))
-            (or_cases (covers before p) (covers more p) (sym (adds p) ∙ e));
+            (or_cases (extents_cover before p) (extents_cover more p) (sym (adds p) ∙ e));
       };
   inside = read.inside;
   told = read.told;
@@ -114,7 +114,7 @@ read_over kind dev dev' kv kv' parts before more after number cells adds read = 
 -- ---- the next parts
 pub does_parts : {S : Type 0} (kind : StoreKind S) (dev dev' : Dev S) (old_kv kv kv' : Store Key Value) (old new : GcView) (n left : ℕ) (run : RunView)
     (parts : Parts) (more : List Extent)
-    → kv.pins ≡ old_kv.pins → old.running ≡ Some run → parts ≡ next_parts run.left n → PartsRead kind dev dev' kv parts no_places (covers more)
+    → kv.pins ≡ old_kv.pins → old.running ≡ Some run → parts ≡ next_parts run.left n → PartsRead kind dev dev' kv parts no_places (extents_cover more)
     → Advances kv kv' old new (min run.left n) left more
     → DoesParts kind dev dev' old_kv kv' old new n left
 does_parts kind dev dev' old_kv kv kv' old new n left run parts more pins was are read adv =
@@ -129,7 +129,7 @@ does_parts kind dev dev' old_kv kv kv' old new n left run parts more pins was ar
       was = adv.was;
       found = adv.found;
       reads = read_over kind dev dev' kv kv' (next_parts adv.run.left n) adv.run.scan.found more adv.found adv.number adv.cells adv.adds
-          (subst (λ (ps : Parts). PartsRead kind dev dev' kv ps no_places (covers more)) parts_are read);
+          (subst (λ (ps : Parts). PartsRead kind dev dev' kv ps no_places (extents_cover more)) parts_are read);
       is = adv.is ∙ ap (with_run old) then;
       left_is = adv.left_is ∙ rest;
       pins = λ m.

@@ -9,44 +9,45 @@ use Rattle.std.specs.List.Sorted.{IsNonDecreasingBy, IsPermutation}
 use Rattle.std.proofs.lemmas.Bool.{cases_Bool, and_parts, and_from, or_left, or_right, or_cases, or_parts, leb-true, ltb-true, le-leb, lt-ltb}
 use Rattle.std.proofs.lemmas.Bool.{cases_lt, both_ways}
 use Rattle.wtf_gc.specs.declared.extent.Span.{Span}
-use Rattle.wtf_gc.specs.Spans.{span, lies_in, covers, is_gap, gaps_from, Apart, Ascends, sum_of, one_if, count_from, size_of}
+use Rattle.wtf_gc.specs.Spans.{span, span_has, spans_cover, is_gap, gaps_from, Apart, Ascends, sum_of, one_if, count_from, size_of}
 
 pub same_truth : (a b : Bool) → (a ≡ true → b ≡ true) → (b ≡ true → a ≡ true) → a ≡ b
 same_truth a b f g = ⊎_elim (λ t. t ∙ sym (f t)) (λ n. n ∙ sym (⊎_elim (λ t. absurd (both_ways _ n (g t))) (λ m. m) (cases_Bool b))) (cases_Bool a)
 
-in_parts : (x : ℕ) (s : Span) → lies_in x s ≡ true → (s.from ≤ x) × (x < s.to)
+in_parts : (x : ℕ) (s : Span) → span_has x s ≡ true → (s.from ≤ x) × (x < s.to)
 in_parts x s h = let p = and_parts _ _ h in (leb-true s.from x p.0, ltb-true x s.to p.1)
 
-pub in_from : (x : ℕ) (s : Span) → s.from ≤ x → x < s.to → lies_in x s ≡ true
+pub in_from : (x : ℕ) (s : Span) → s.from ≤ x → x < s.to → span_has x s ≡ true
 in_from x s a b = and_from _ _ (le-leb s.from x a) (lt-ltb x s.to b)
 
 -- a place before all spans is in none
-pub before_all : (lo x : ℕ) (ss : List Span) → Ascends lo ss → x < lo → covers ss x ≡ false
+pub before_all : (lo x : ℕ) (ss : List Span) → Ascends lo ss → x < lo → spans_cover ss x ≡ false
 before_all lo x [] up lt = refl
 before_all lo x (s ∷ ss) up lt =
     let le = up.0 in
     ⊎_elim
     (λ h. let p = (in_parts x s h).0 in absurd (omega (arith, le, lt, p)))
-    (λ h. ap (λ b. b || covers ss x) h ∙ before_all s.from x ss up.2 (omega (arith, le, lt)))
-    (cases_Bool (lies_in x s))
+    (λ h. ap (λ b. b || spans_cover ss x) h ∙ before_all s.from x ss up.2 (omega (arith, le, lt)))
+    (cases_Bool (span_has x s))
 
 -- what is in a gap is in no span
-pub gap_is : (at mark lo x : ℕ) (ss : List Span) → Ascends lo ss → covers (gaps_from at mark ss) x ≡ true → (at ≤ x) × (x < mark) × (covers ss x ≡ false)
+pub gap_is : (at mark lo x : ℕ) (ss : List Span) → Ascends lo ss → spans_cover (gaps_from at mark ss) x ≡ true → (at ≤ x) × (x < mark)
+    × (spans_cover ss x ≡ false)
 gap_is at mark lo x [] up h = ⊎_elim
-    (λ t. let one : (lies_in x (span at mark) || false) ≡ true = subst (λ b. covers (cond b (span at mark ∷ []) []) x ≡ true) t h in
+    (λ t. let one : (span_has x (span at mark) || false) ≡ true = subst (λ b. spans_cover (cond b (span at mark ∷ []) []) x ≡ true) t h in
     ⊎_elim (λ is. let p = in_parts x (span at mark) is in (p.0, p.1, refl)) (λ none. cc) (or_cases _ _ one))
-    (λ f. let none : false ≡ true = subst (λ b. covers (cond b (span at mark ∷ []) []) x ≡ true) f h in cc)
+    (λ f. let none : false ≡ true = subst (λ b. spans_cover (cond b (span at mark ∷ []) []) x ≡ true) f h in cc)
     (cases_Bool (nat_lt at mark))
 gap_is at mark lo x (s ∷ ss) up h =
     let end = min s.from mark in
     let rest = gaps_from (max at s.to) mark ss in
-    let later : covers rest x ≡ true → (at ≤ x) × (x < mark) × (covers (s ∷ ss) x ≡ false) = λ r.
+    let later : spans_cover rest x ≡ true → (at ≤ x) × (x < mark) × (spans_cover (s ∷ ss) x ≡ false) = λ r.
     (let p = gap_is (max at s.to) mark s.from x ss up.2 r in
     let le = p.0 in (
       omega (arith, le),
       p.1,
-      ⊎_elim (λ is. let q = (in_parts x s is).1 in absurd (omega (arith, le, q))) (λ is. ap (λ b. b || covers ss x) is ∙ p.2)
-          (cases_Bool (lies_in x s)),
+      ⊎_elim (λ is. let q = (in_parts x s is).1 in absurd (omega (arith, le, q))) (λ is. ap (λ b. b || spans_cover ss x) is ∙ p.2)
+          (cases_Bool (span_has x s)),
     )) in
     ⊎_elim
     (λ t. ⊎_elim
@@ -55,31 +56,32 @@ gap_is at mark lo x (s ∷ ss) up h =
       p.0,
       omega (arith, lt),
       ⊎_elim (λ yes1. let q = (in_parts x s yes1).0 in absurd (omega (arith, lt, q)))
-          (λ no1. ap (λ b. b || covers ss x) no1 ∙ before_all s.from x ss up.2 (omega (arith, lt))) (cases_Bool (lies_in x s)),
+          (λ no1. ap (λ b. b || spans_cover ss x) no1 ∙ before_all s.from x ss up.2 (omega (arith, lt))) (cases_Bool (span_has x s)),
     ))
     later
-    (or_cases (lies_in x (span at end)) (covers rest x) (subst (λ b. covers (cond b (span at end ∷ rest) rest) x ≡ true) t h)))
-    (λ f. later (subst (λ b. covers (cond b (span at end ∷ rest) rest) x ≡ true) f h))
+    (or_cases (span_has x (span at end)) (spans_cover rest x) (subst (λ b. spans_cover (cond b (span at end ∷ rest) rest) x ≡ true) t h)))
+    (λ f. later (subst (λ b. spans_cover (cond b (span at end ∷ rest) rest) x ≡ true) f h))
     (cases_Bool (nat_lt at end))
 
 -- what is in no span is in a gap
-pub is_in_gap : (at mark x : ℕ) (ss : List Span) → at ≤ x → x < mark → covers ss x ≡ false → covers (gaps_from at mark ss) x ≡ true
+pub is_in_gap : (at mark x : ℕ) (ss : List Span) → at ≤ x → x < mark → spans_cover ss x ≡ false → spans_cover (gaps_from at mark ss) x ≡ true
 is_in_gap at mark x [] le lt none =
-    subst (λ b. covers (cond b (span at mark ∷ []) []) x ≡ true) (sym (lt-ltb at mark (omega (arith, le, lt)))) (or_left _ _ (in_from x (span at mark) le lt))
+    subst (λ b. spans_cover (cond b (span at mark ∷ []) []) x ≡ true) (sym (lt-ltb at mark (omega (arith, le, lt))))
+    (or_left _ _ (in_from x (span at mark) le lt))
 is_in_gap at mark x (s ∷ ss) le lt none =
     let end = min s.from mark in
     let rest = gaps_from (max at s.to) mark ss in
     let two = or_parts _ _ none in
     ⊎_elim
     (λ before. let first : at < min s.from mark = omega (arith, le, lt, before) in
-    subst (λ b. covers (cond b (span at end ∷ rest) rest) x ≡ true) (sym (lt-ltb at end first))
+    subst (λ b. spans_cover (cond b (span at end ∷ rest) rest) x ≡ true) (sym (lt-ltb at end first))
     (or_left _ _ (in_from x (span at end) le (omega (arith, before, lt)))))
     (λ past. let over : s.to ≤ x = ⊎_elim (λ inside. absurd (both_ways _ two.0 (in_from x s (omega (arith, past)) inside))) (λ out. omega (arith, out))
     (cases_lt x s.to) in
-    let there : covers rest x ≡ true = is_in_gap (max at s.to) mark x ss (omega (arith, le, over)) lt two.1 in
+    let there : spans_cover rest x ≡ true = is_in_gap (max at s.to) mark x ss (omega (arith, le, over)) lt two.1 in
     ⊎_elim
-    (λ t. subst (λ b. covers (cond b (span at end ∷ rest) rest) x ≡ true) (sym t) (or_right _ _ there))
-    (λ f. subst (λ b. covers (cond b (span at end ∷ rest) rest) x ≡ true) (sym f) there)
+    (λ t. subst (λ b. spans_cover (cond b (span at end ∷ rest) rest) x ≡ true) (sym t) (or_right _ _ there))
+    (λ f. subst (λ b. spans_cover (cond b (span at end ∷ rest) rest) x ≡ true) (sym f) there)
     (cases_Bool (nat_lt at end)))
     (cases_lt x s.from)
 
@@ -89,10 +91,10 @@ not_true b e = ap not e
 not_false : (b : Bool) → not b ≡ true → b ≡ false
 not_false b e = ⊎_elim (λ t. absurd (both_ways _ (ap not t) e)) (λ f. f) (cases_Bool b)
 
-pub gaps_exact : (mark x : ℕ) (ss : List Span) → Ascends 0 ss → covers (gaps_from 0 mark ss) x ≡ is_gap mark ss x
-gaps_exact mark x ss up = same_truth (covers (gaps_from 0 mark ss) x) (is_gap mark ss x)
-    (λ h. let p = gap_is 0 mark 0 x ss up h in and_from _ _ (lt-ltb x mark p.1) (not_true (covers ss x) p.2))
-    (λ h. let p = and_parts _ _ h in is_in_gap 0 mark x ss (omega arith) (ltb-true x mark p.0) (not_false (covers ss x) p.1))
+pub gaps_exact : (mark x : ℕ) (ss : List Span) → Ascends 0 ss → spans_cover (gaps_from 0 mark ss) x ≡ is_gap mark ss x
+gaps_exact mark x ss up = same_truth (spans_cover (gaps_from 0 mark ss) x) (is_gap mark ss x)
+    (λ h. let p = gap_is 0 mark 0 x ss up h in and_from _ _ (lt-ltb x mark p.1) (not_true (spans_cover ss x) p.2))
+    (λ h. let p = and_parts _ _ h in is_in_gap 0 mark x ss (omega arith) (ltb-true x mark p.0) (not_false (spans_cover ss x) p.1))
 
 apart_from : (lo lo' hi : ℕ) (ss : List Span) → lo ≤ lo' → Apart lo' hi ss → Apart lo hi ss
 apart_from lo lo' hi [] le h = tt
@@ -172,7 +174,7 @@ count_split p a (suc n) m =
     omega (arith, whole, rest, moved)
 
 -- the lengths of spans that share no place add up to the size of the set
-pub sum_counts : (lo n : ℕ) (ss : List Span) → Apart lo (lo + n) ss → sum_of ss ≡ count_from (covers ss) lo n
+pub sum_counts : (lo n : ℕ) (ss : List Span) → Apart lo (lo + n) ss → sum_of ss ≡ count_from (spans_cover ss) lo n
 sum_counts lo n [] h = sym (count_none (λ x. false) lo n (λ x le lt. refl))
 sum_counts lo n (s ∷ ss) h =
     let a : lo ≤ s.from = h.0 in
@@ -181,7 +183,7 @@ sum_counts lo n (s ∷ ss) h =
     let before = s.from - lo in
     let here = s.to - s.from in
     let left = (lo + n) - s.to in
-    let p = covers (s ∷ ss) in
+    let p = spans_cover (s ∷ ss) in
     let whole : n ≡ before + (here + left) = omega (arith, a, b, c) in
     let at_from : lo + before ≡ s.from = omega (arith, a) in
     let at_to : s.from + here ≡ s.to = omega (arith, b) in
@@ -193,14 +195,14 @@ sum_counts lo n (s ∷ ss) h =
     count_split p s.from here left ∙ ap (λ y. count_from p s.from here + count_from p y left) at_to in
     let none : count_from p lo before ≡ 0 =
     count_none p lo before (λ x le lt. ⊎_elim (λ is. let q = (in_parts x s is).0 in absurd (omega (arith, lt, q, at_from)))
-    (λ is. ap (λ t. t || covers ss x) is ∙ before_all s.to x ss up (omega (arith, lt, at_from, b))) (cases_Bool (lies_in x s))) in
+    (λ is. ap (λ t. t || spans_cover ss x) is ∙ before_all s.to x ss up (omega (arith, lt, at_from, b))) (cases_Bool (span_has x s))) in
     let all : count_from p s.from here ≡ here =
-    count_all p s.from here (λ x le lt. or_left (lies_in x s) (covers ss x) (in_from x s le (omega (arith, lt, at_to)))) in
-    let rest : count_from p s.to left ≡ count_from (covers ss) s.to left =
-    count_alike p (covers ss) s.to left
-    (λ x le lt. ⊎_elim (λ is. let q = (in_parts x s is).1 in absurd (omega (arith, le, q))) (λ is. ap (λ t. t || covers ss x) is)
-    (cases_Bool (lies_in x s))) in
-    let tail : sum_of ss ≡ count_from (covers ss) s.to left = sum_counts s.to left ss (subst (λ y. Apart s.to y ss) (sym end) h.3) in
+    count_all p s.from here (λ x le lt. or_left (span_has x s) (spans_cover ss x) (in_from x s le (omega (arith, lt, at_to)))) in
+    let rest : count_from p s.to left ≡ count_from (spans_cover ss) s.to left =
+    count_alike p (spans_cover ss) s.to left
+    (λ x le lt. ⊎_elim (λ is. let q = (in_parts x s is).1 in absurd (omega (arith, le, q))) (λ is. ap (λ t. t || spans_cover ss x) is)
+    (cases_Bool (span_has x s))) in
+    let tail : sum_of ss ≡ count_from (spans_cover ss) s.to left = sum_counts s.to left ss (subst (λ y. Apart s.to y ss) (sym end) h.3) in
     omega (arith, cut, cut2, none, all, rest, tail)
 
 pub sum_fits : (lo hi : ℕ) (ss : List Span) → lo ≤ hi → Apart lo hi ss → lo + sum_of ss ≤ hi
@@ -212,19 +214,19 @@ sum_fits lo hi (s ∷ ss) le h =
     let rest = sum_fits s.to hi ss c h.3 in
     omega (arith, a, b, c, rest)
 
-pub sums_size : (hi : ℕ) (ss : List Span) → Apart 0 hi ss → sum_of ss ≡ size_of hi (covers ss)
+pub sums_size : (hi : ℕ) (ss : List Span) → Apart 0 hi ss → sum_of ss ≡ size_of hi (spans_cover ss)
 sums_size hi ss h = sum_counts 0 hi ss (subst (λ y. Apart 0 y ss) (sym (zero-add hi)) h)
 
 pub ascends_all : (ss : List Span) → All (λ s. s.from ≤ s.to) ss → IsNonDecreasingBy (λ s. s.from) ss → Ascends 0 ss
 ascends_all ss all up = ascends 0 ss (λ i d lt. (omega arith, All-get_or (λ s. s.from ≤ s.to) ss i d lt all)) up
 
-pub gaps_whole : (mark : ℕ) (ss rs : List Span) → IsPermutation ss rs → Ascends 0 rs → (x : ℕ) → covers (gaps_from 0 mark rs) x ≡ is_gap mark ss x
-gaps_whole mark ss rs moved up x = gaps_exact mark x rs up ∙ ap (λ b. nat_lt x mark && not b) (sym (list_any-IsPermutation (lies_in x) ss rs moved))
+pub gaps_whole : (mark : ℕ) (ss rs : List Span) → IsPermutation ss rs → Ascends 0 rs → (x : ℕ) → spans_cover (gaps_from 0 mark rs) x ≡ is_gap mark ss x
+gaps_whole mark ss rs moved up x = gaps_exact mark x rs up ∙ ap (λ b. nat_lt x mark && not b) (sym (list_any-IsPermutation (span_has x) ss rs moved))
 
 pub sorted_spans : (ss rs view : List Span) → All (λ s. s.from ≤ s.to) ss → IsPermutation ss rs → IsNonDecreasingBy (λ s. s.from) rs → view ≡ rs
     → Ascends 0 view
 sorted_spans ss rs view all moved up is = subst (Ascends 0) (sym is) (ascends_all rs (All-permutation (λ s. s.from ≤ s.to) ss rs moved all) up)
 
 pub gaps_seen : (mark : ℕ) (ss rs view gs : List Span) → IsPermutation ss rs → view ≡ rs → Ascends 0 view → gs ≡ gaps_from 0 mark view → (x : ℕ)
-    → covers gs x ≡ is_gap mark ss x
-gaps_seen mark ss rs view gs moved is up made x = ap (λ l. covers l x) made ∙ gaps_whole mark ss view (subst (IsPermutation ss) (sym is) moved) up x
+    → spans_cover gs x ≡ is_gap mark ss x
+gaps_seen mark ss rs view gs moved is up made x = ap (λ l. spans_cover l x) made ∙ gaps_whole mark ss view (subst (IsPermutation ss) (sym is) moved) up x

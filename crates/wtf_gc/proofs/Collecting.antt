@@ -17,7 +17,7 @@ use Rattle.wtf_replica.specs.Faults.{IsPunchFault}
 use Rattle.wtf_region.specs.declared.dev.Dev.{Dev}
 use Rattle.wtf_region.specs.Devs.{GoesOn, between}
 use Rattle.wtf_gc.specs.declared.extent.Extent.{Extent}
-use Rattle.wtf_gc.specs.Extents.{has, covers}
+use Rattle.wtf_gc.specs.Extents.{has, extents_cover}
 use Rattle.wtf_gc.specs.Frees.{ranges_of, tried_on, StopsAt, AreGarbage, AreZeroed, CountsFreed, FreesAll, FreesSome, IsCollectFault}
 use Rattle.wtf_gc.specs.Unused.{used_by, is_unused, IsUnused}
 use Rattle.wtf_gc.specs.Views.{ScanView, GcView, mark_in, mark_of, is_garbage}
@@ -55,17 +55,17 @@ module _ (g : GcView) (k : ℕ) (used : Place → Bool) (are : (p : Place) → p
 abbrev pub with_freed : GcView → List Extent → GcView
 with_freed g freed = record { running = g.running; finished = g.finished; older = g.older; newer = g.newer; freed = freed }
 
-pub counts : (g : GcView) (freed es : List Extent) → ((p : Place) → covers freed p ≡ (covers g.freed p || covers es p))
+pub counts : (g : GcView) (freed es : List Extent) → ((p : Place) → extents_cover freed p ≡ (extents_cover g.freed p || extents_cover es p))
     → CountsFreed g (with_freed g freed) (ranges_of es)
 counts g freed es are = record {
   running = refl;
   finished = refl;
   older = refl;
   newer = refl;
-  freed = λ p. are p ∙ ap (λ b. covers g.freed p || b) (sym (ranges_have es p));
+  freed = λ p. are p ∙ ap (λ b. extents_cover g.freed p || b) (sym (ranges_have es p));
 }
 
-pub covers_both : (es fs : List Extent) (p : Place) → covers (es ++ fs) p ≡ (covers es p || covers fs p)
+pub covers_both : (es fs : List Extent) (p : Place) → extents_cover (es ++ fs) p ≡ (extents_cover es p || extents_cover fs p)
 covers_both es fs p = list_any-append (λ (e : Extent). has e p) es fs
 
 -- ---- where it stopped
@@ -111,13 +111,14 @@ some_freed kind k dev dev' g g' fault.Memory h = absurd h.cause
 
 -- ---- the whole of a call
 module _ {S : Type 0} {kind : StoreKind S} (laws : KindLaws kind) (k : ℕ) (dev dev' : Dev S) (g : GcView) (freed es used : List Extent) (bytes : ℕ)
-    (are : (p : Place) → p.server ≡ k → covers used p ≡ used_by g.older.found g.newer.found g.freed p)
-    (u : IsUnused k (mark_in g.older.marks) (covers used) 8 (ranges_of es) bytes) where
-  pub frees_all : GoesOn kind dev dev' (ranges_of es) → AreZeroed kind dev dev' (ranges_of es) → ((p : Place) → covers freed p ≡ covers (g.freed ++ es) p)
+    (are : (p : Place) → p.server ≡ k → extents_cover used p ≡ used_by g.older.found g.newer.found g.freed p)
+    (u : IsUnused k (mark_in g.older.marks) (extents_cover used) 8 (ranges_of es) bytes) where
+  pub frees_all : GoesOn kind dev dev' (ranges_of es) → AreZeroed kind dev dev' (ranges_of es)
+      → ((p : Place) → extents_cover freed p ≡ extents_cover (g.freed ++ es) p)
       → FreesAll kind k dev dev' g (with_freed g freed) bytes
   frees_all goes zeroed moved = record {
     ranges = ranges_of es;
-    are = are_garbage g k (covers used) are (ranges_of es) bytes u;
+    are = are_garbage g k (extents_cover used) are (ranges_of es) bytes u;
     goes = goes;
     zeroed = zeroed;
     count = u.count;
@@ -128,6 +129,6 @@ module _ {S : Type 0} {kind : StoreKind S} (laws : KindLaws kind) (k : ℕ) (dev
       → IsCollectFault kind k dev dev' g (with_freed g freed) why
   stopped done why stop is = some_freed kind k dev dev' g (with_freed g freed) why
       (frees_some laws k dev dev' g (with_freed g freed) (ranges_of es) done (mark_in g.older.marks) why
-      (are_garbage g k (covers used) are (ranges_of es) bytes u) u.lie stop
+      (are_garbage g k (extents_cover used) are (ranges_of es) bytes u) u.lie stop
       (subst (CountsFreed g (with_freed g freed)) (sym (first_ranges es done))
-      (counts g freed (take done es) (λ p. ap (λ l. covers l p) (is ∙ take-append-add g.freed es done) ∙ covers_both g.freed (take done es) p))))
+      (counts g freed (take done es) (λ p. ap (λ l. extents_cover l p) (is ∙ take-append-add g.freed es done) ∙ covers_both g.freed (take done es) p))))

@@ -26,7 +26,7 @@ use Rattle.wtf_region.specs.Reads.{IsOfBase, IsSliceFault, IsBaseFault}
 use Rattle.wtf_gc.specs.declared.extent.Extent.{Extent}
 use Rattle.wtf_gc.specs.declared.gather.Base.{Base}
 use Rattle.wtf_gc.specs.declared.parts.Parts.{Parts}
-use Rattle.wtf_gc.specs.Extents.{covers, no_places}
+use Rattle.wtf_gc.specs.Extents.{extents_cover, no_places}
 use Rattle.wtf_gc.specs.Named.{list_has, own_has, under_has, facts_have}
 use Rattle.wtf_gc.specs.Parts.{key_stands_in, key_part, bases_of, value_has, value_bases, versions_have, versions_bases, IsIn, Finds, GathersUpto}
 use Rattle.wtf_gc.specs.Reading.{ListsRead, PartsRead, IsBasesFault, IsPartsFault}
@@ -177,7 +177,7 @@ module _ (kv : Store Key Value) (parts : Parts) (found : List Extent) (bases : L
 
   module _ (sorted : List Base) (moved : IsPermutation bases sorted) (facts : List ListFact)
       (each : map (λ (f : ListFact). f.slice) facts ≡ map (λ (b : Base). b.slice) sorted) (after : List Extent)
-      (adds : (p : Place) → covers after p ≡ (covers found p || facts_have facts p)) (lists : Lists) (tell : TellLists lists facts) where
+      (adds : (p : Place) → extents_cover after p ≡ (extents_cover found p || facts_have facts p)) (lists : Lists) (tell : TellLists lists facts) where
     under_found : (p : Place) (r : RegionValue) (there : IsIn kv parts r) (o : Option Spill) → r.base ≡ o → under_has lists o p ≡ true
         → facts_have facts p ≡ true
     under_found p r there None base names = cc
@@ -189,13 +189,13 @@ module _ (kv : Store Key Value) (parts : Parts) (found : List Extent) (bases : L
         let list : lists s.slice ≡ Some f.list = ap lists (sym same) ∙ tell_one lists facts f tell is_fact in
         any_of (λ (f : ListFact). list_has f.list p) facts f is_fact (ap (λ (o : Option (List Entry)). list_has (or_none o) p) (sym list) ∙ names)
 
-    pub parts_find : Finds lists kv parts no_places (covers after)
+    pub parts_find : Finds lists kv parts no_places (extents_cover after)
     parts_find = record {
       keeps = λ p e. cc;
       finds = λ p named. adds p ∙ ⊎_elim
-          (λ own. or_left (covers found p) (facts_have facts p) (g.finds named.there.at p refl named.there.stands
+          (λ own. or_left (extents_cover found p) (facts_have facts p) (g.finds named.there.at p refl named.there.stands
           (among_named (versions_of key_cmp kv named.there.at) named.region named.there.number p named.there.among own)))
-          (λ under. or_right (covers found p) (facts_have facts p) (under_found p named.region named.there named.region.base refl under))
+          (λ under. or_right (extents_cover found p) (facts_have facts p) (under_found p named.region named.there named.region.base refl under))
           (or_cases (own_has named.region p) (under_has lists named.region.base p) named.names);
       only = λ p e. inr (⊎_elim
           (λ own. let key = g.only p own in
@@ -217,7 +217,7 @@ module _ (kv : Store Key Value) (parts : Parts) (found : List Extent) (bases : L
             names = or_right (own_has r p) (under_has lists r.base p)
                 (ap (λ (o : Option Spill). under_has lists o p) base ∙ ap (λ (o : Option (List Entry)). list_has (or_none o) p) list ∙ names);
           })
-          (or_cases (covers found p) (facts_have facts p) (sym (adds p) ∙ e)));
+          (or_cases (extents_cover found p) (facts_have facts p) (sym (adds p) ∙ e)));
     }
 
   -- each base that was gathered lies inside, where those of the versions do
@@ -269,7 +269,7 @@ module _ (kv : Store Key Value) (parts : Parts) (found : List Extent) (bases : L
 
   pub parts_read : {S : Type 0} (kind : StoreKind S) (old new : Dev S) (sorted : List Base) → IsPermutation bases sorted → (after : List Extent)
       → ListsRead kind old new (map (λ (b : Base). b.slice) sorted) found after
-      → PartsRead kind old new kv parts no_places (covers after)
+      → PartsRead kind old new kv parts no_places (extents_cover after)
   parts_read kind old new sorted moved after read = record {
     facts = read.facts;
     slices = λ P Q lie. slices_of P Q read.facts (subst (λ l. All (λ s. SliceBytes P s × (Q s ≡ true)) l) (sym read.each)

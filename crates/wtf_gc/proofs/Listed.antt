@@ -21,7 +21,7 @@ use Rattle.wtf_region.specs.Reads.{IsSliceRead}
 use Rattle.wtf_region.proofs.Recalling.{recalled_more}
 use Rattle.wtf_region.proofs.ListReads.{entries_later, places_later, facts_on}
 use Rattle.wtf_gc.specs.declared.extent.Extent.{Extent}
-use Rattle.wtf_gc.specs.Extents.{covers}
+use Rattle.wtf_gc.specs.Extents.{extents_cover}
 use Rattle.wtf_gc.specs.Named.{list_has, facts_have}
 use Rattle.wtf_gc.specs.Reading.{ListsRead}
 use Rattle.wtf_gc.proofs.Adding.{or_none, or_thrice}
@@ -61,7 +61,7 @@ module _ {S : Type 0} {kind : StoreKind S} (laws : KindLaws kind) where
     recalls = refl;
     among = All-nil (λ (f : ListFact). Contains [] f.slice);
     each = refl;
-    adds = λ p. sym (or_none (covers found p));
+    adds = λ p. sym (or_none (extents_cover found p));
     lie = tt;
     inside = All-nil (λ (f : ListFact). All (EntryBytes (inside_of kind dev)) f.list);
     told = λ ranges was told apart. tt;
@@ -70,7 +70,7 @@ module _ {S : Type 0} {kind : StoreKind S} (laws : KindLaws kind) where
   -- one is
   pub read_one : (old new : Dev S) (s : Slice) (es : List Entry) (found found' : List Extent) → IsSliceRead kind old new s es
       → SliceBytes (inside_of kind new) s
-      → ((p : Place) → covers found' p ≡ (covers found p || list_has es p)) → ListsRead kind old new (s ∷ []) found found'
+      → ((p : Place) → extents_cover found' p ≡ (extents_cover found p || list_has es p)) → ListsRead kind old new (s ∷ []) found found'
   read_one old new s es found found' read inside adds = record {
     facts = record { slice = s; list = es } ∷ [];
     asked = list_fact s es ∷ [];
@@ -78,7 +78,7 @@ module _ {S : Type 0} {kind : StoreKind S} (laws : KindLaws kind) where
     among = All-cons (λ (f : ListFact). Contains (s ∷ []) f.slice) (list_fact s es) [] (Contains-push [] s)
         (All-nil (λ (f : ListFact). Contains (s ∷ []) f.slice));
     each = refl;
-    adds = λ p. adds p ∙ ap (λ b. covers found p || b) (sym (or_none (list_has es p)));
+    adds = λ p. adds p ∙ ap (λ b. extents_cover found p || b) (sym (or_none (list_has es p)));
     lie = ((inside, refl), tt);
     inside = All-cons (λ (f : ListFact). All (EntryBytes (inside_of kind new)) f.list) (record { slice = s; list = es }) [] read.inside
         (All-nil (λ (f : ListFact). All (EntryBytes (inside_of kind new)) f.list));
@@ -101,8 +101,8 @@ module _ {S : Type 0} {kind : StoreKind S} (laws : KindLaws kind) where
     each = map-append (λ (f : ListFact). f.slice) first.facts next.facts ∙ ap (λ l. l ++ map (λ (f : ListFact). f.slice) next.facts) first.each
         ∙ ap (λ l. slices ++ l) next.each;
     adds = λ p. next.adds p ∙ ap (λ b. b || facts_have next.facts p) (first.adds p)
-        ∙ or_thrice (covers before p) (facts_have first.facts p) (facts_have next.facts p)
-        ∙ ap (λ b. covers before p || b) (sym (list_any-append (λ (f : ListFact). list_has f.list p) first.facts next.facts));
+        ∙ or_thrice (extents_cover before p) (facts_have first.facts p) (facts_have next.facts p)
+        ∙ ap (λ b. extents_cover before p || b) (sym (list_any-append (λ (f : ListFact). list_has f.list p) first.facts next.facts));
     lie = slices_both (inside_of kind new) first.facts next.facts
         (slices_moved (inside_of kind mid) (inside_of kind new) (places_later laws g.sound h) first.facts first.lie) next.lie;
     inside = All-append (λ (f : ListFact). All (EntryBytes (inside_of kind new)) f.list) first.facts next.facts
@@ -125,7 +125,7 @@ read_again kind old new slices s before after there read =
       among = All-weaker (λ (g : ListFact). Contains slices g.slice) (λ (g : ListFact). Contains (slices ++ s ∷ []) g.slice)
           (λ g h. Contains-append_left slices (s ∷ []) g.slice h) read.asked read.among;
       each = map-append (λ (g : ListFact). g.slice) read.facts (f ∷ []) ∙ ap (λ l. l ++ f.slice ∷ []) read.each ∙ ap (λ x. slices ++ x ∷ []) same;
-      adds = λ p. read.adds p ∙ ap (λ b. covers before p || b) (sym (has_again read.facts f p is_fact));
+      adds = λ p. read.adds p ∙ ap (λ b. extents_cover before p || b) (sym (has_again read.facts f p is_fact));
       lie = slices_both (inside_of kind new) read.facts (f ∷ []) read.lie ((slice_of (inside_of kind new) read.facts f read.lie is_fact, refl), tt);
       inside = All-append Inside read.facts (f ∷ []) read.inside (All-cons Inside f [] (All-contains Inside read.facts f read.inside is_fact) (All-nil Inside));
       told = λ ranges was told apart.

@@ -10,9 +10,9 @@ use Rattle.wtf_dev.specs.Store.{Range}
 use Rattle.wtf_region.specs.Apart.{lies_in}
 use Rattle.wtf_gc.specs.declared.extent.Extent.{Extent}
 use Rattle.wtf_gc.specs.declared.extent.Span.{Span}
-use Rattle.wtf_gc.specs.Extents.{has, covers}
-use Rattle.wtf_gc.specs.Spans.{lies_in as span_has, covers as spans_cover, Apart, is_gap, sum_of, size_of}
-use Rattle.wtf_gc.specs.Frees.{lie_in, range_of, ranges_of, AreApart, bytes_of}
+use Rattle.wtf_gc.specs.Extents.{has, extents_cover}
+use Rattle.wtf_gc.specs.Spans.{span_has, spans_cover, Apart, is_gap, sum_of, size_of}
+use Rattle.wtf_gc.specs.Frees.{lie_in, range_of, ranges_of, AreApart, ranges_len}
 use Rattle.wtf_gc.specs.Unused.{place_at, range_at, is_unused, IsUnused}
 use Rattle.wtf_gc.proofs.Between.{same_truth, before_all, apart_ascends, sum_fits, sums_size}
 use Rattle.wtf_gc.proofs.Adding.{and_none}
@@ -22,7 +22,7 @@ pub range_has : (e : Extent) (p : Place) → lies_in p (range_of e) ≡ has e p
 range_has e p = let end : e.from + (e.to - e.from) ≡ e.to = omega (arith, e.order) in
     ap (λ t. nat_eq p.server e.server && (nat_eq p.file e.file && (nat_le e.from p.at && nat_lt p.at t))) end
 
-pub ranges_have : (es : List Extent) (p : Place) → lie_in (ranges_of es) p ≡ covers es p
+pub ranges_have : (es : List Extent) (p : Place) → lie_in (ranges_of es) p ≡ extents_cover es p
 ranges_have [] p = refl
 ranges_have (e ∷ es) p = ap (λ b. b || lie_in (ranges_of es) p) (range_has e p) ∙ ap (λ b. has e p || b) (ranges_have es p)
 
@@ -62,7 +62,7 @@ spans_apart k f lo hi (s ∷ ss) apart = let lt = apart.1 in (
   spans_apart k f s.to hi ss apart.3,
 )
 
-pub spans_bytes : (k f : ℕ) (ss : List Span) → bytes_of (map (range_at k f) ss) ≡ sum_of ss
+pub spans_bytes : (k f : ℕ) (ss : List Span) → ranges_len (map (range_at k f) ss) ≡ sum_of ss
 spans_bytes k f [] = refl
 spans_bytes k f (s ∷ ss) = ap (λ n. (s.to - s.from) + n) (spans_bytes k f ss)
 
@@ -89,7 +89,7 @@ apart_both (r ∷ rs) ss a b none = (
   apart_both rs ss a.2 b (λ p there. none p (or_right (lies_in p r) (lie_in rs p) there)),
 )
 
-pub bytes_both : (rs ss : List (ℕ × Range)) → bytes_of (rs ++ ss) ≡ bytes_of rs + bytes_of ss
+pub bytes_both : (rs ss : List (ℕ × Range)) → ranges_len (rs ++ ss) ≡ ranges_len rs + ranges_len ss
 bytes_both [] ss = omega arith
 bytes_both (r ∷ rs) ss = let rest = bytes_both rs ss in omega (arith, rest)
 

@@ -21,7 +21,7 @@ use Rattle.wtf_values.proofs.KeyLaws.{key_total}
 use Rattle.wtf_gc.specs.declared.extent.Extent.{Extent}
 use Rattle.wtf_gc.specs.declared.gather.Base.{Base}
 use Rattle.wtf_gc.specs.declared.parts.Parts.{Parts}
-use Rattle.wtf_gc.specs.Extents.{covers}
+use Rattle.wtf_gc.specs.Extents.{extents_cover}
 use Rattle.wtf_gc.specs.Parts.{key_stands_in, key_bases, versions_have, versions_bases, key_part, GathersUpto}
 
 three : (o : Ordering) → (o ≡ Less) ⊎ (o ≡ Equal) ⊎ (o ≡ Greater)
@@ -70,7 +70,7 @@ gathers_start kv parts after next past h =
 -- what one key adds
 pub gathers_step : (kv : Store Key Value) (parts : Parts) (k : Key) (next : Option Key) (found found' : List Extent) (bases bases' : List Base)
     → GathersUpto kv parts (Some k) found bases
-    → ((p : Place) → covers found' p ≡ (covers found p || (key_stands_in parts k && versions_have (versions_of key_cmp kv k) p)))
+    → ((p : Place) → extents_cover found' p ≡ (extents_cover found p || (key_stands_in parts k && versions_have (versions_of key_cmp kv k) p)))
     → bases' ≡ bases ++ key_bases kv parts k
     → IsNextKey key_cmp kv (Some k) next → GathersUpto kv parts next found' bases'
 gathers_step kv parts k next found found' bases bases' g adds is h =
@@ -79,10 +79,10 @@ gathers_step kv parts k next found found' bases bases' g adds is h =
     let more : Place → Bool = λ p. key_stands_in parts k && versions_have (versions_of key_cmp kv k) p in
     record {
       finds = λ q p before stands names. adds p ∙ ⊎_elim
-          (λ less. or_left (covers found p) (more p) (g.finds q p (ap is_lt less) stands names))
+          (λ less. or_left (extents_cover found p) (more p) (g.finds q p (ap is_lt less) stands names))
           (λ rest. ⊎_elim
           (λ same. let qk : q ≡ k = same_key q k same in
-          or_right (covers found p) (more p)
+          or_right (extents_cover found p) (more p)
           (and_from (key_stands_in parts k) (versions_have (versions_of key_cmp kv k) p)
           (subst (λ (y : Key). key_stands_in parts y ≡ true) qk stands)
           (subst (λ (y : Key). versions_have (versions_of key_cmp kv y) p ≡ true) qk names)))
@@ -92,7 +92,7 @@ gathers_step kv parts k next found found' bases bases' g adds is h =
       only = λ p e. ⊎_elim (g.only p)
           (λ new. let both = and_parts (key_stands_in parts k)
           (versions_have (versions_of key_cmp kv k) p) new in record { at = k; stands = both.0; names = both.1 })
-          (or_cases (covers found p) (more p) (sym (adds p) ∙ e));
+          (or_cases (extents_cover found p) (more p) (sym (adds p) ∙ e));
       lists = λ q b before has. subst (λ l. Contains l b) (sym is) (⊎_elim
           (λ less. Contains-append_left bases (key_bases kv parts k) b (g.lists q b (ap is_lt less) has))
           (λ rest. ⊎_elim

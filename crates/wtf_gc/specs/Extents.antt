@@ -13,5 +13,5 @@ abbrev pub no_places : Place → Bool
 no_places p = false
 
 -- some extent does
-abbrev pub covers : List Extent → Place → Bool
-covers es p = list_any (λ e. has e p) es
+abbrev pub extents_cover : List Extent → Place → Bool
+extents_cover es p = list_any (λ e. has e p) es

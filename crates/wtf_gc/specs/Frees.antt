@@ -11,7 +11,7 @@ use Rattle.wtf_region.specs.declared.dev.Dev.{Dev}
 use Rattle.wtf_region.specs.Apart.{lies_in}
 use Rattle.wtf_region.specs.Devs.{GoesOn, between, is_down_in, stores, told_in}
 use Rattle.wtf_gc.specs.declared.extent.Extent.{Extent}
-use Rattle.wtf_gc.specs.Extents.{covers}
+use Rattle.wtf_gc.specs.Extents.{extents_cover}
 use Rattle.wtf_gc.specs.Views.{GcView, is_garbage}
 
 -- a range lies in a file of a server that is there
@@ -53,9 +53,9 @@ AreApart [] = Unit {0}
 AreApart (r ∷ rs) = (0 < r.1.len) × ((p : Place) → lies_in p r ≡ true → lie_in rs p ≡ false) × AreApart rs
 
 -- the number of their bytes
-abbrev pub bytes_of : List (ℕ × Range) → ℕ
-bytes_of [] = 0
-bytes_of (r ∷ rs) = r.1.len + bytes_of rs
+abbrev pub ranges_len : List (ℕ × Range) → ℕ
+ranges_len [] = 0
+ranges_len (r ∷ rs) = r.1.len + ranges_len rs
 
 -- the ranges are just what is garbage of server k
 pub record AreGarbage (g : GcView) (k : ℕ) (ranges : List (ℕ × Range)) : Type 0 where
@@ -68,7 +68,7 @@ pub record CountsFreed (old new : GcView) (ranges : List (ℕ × Range)) : Type 
   pub finished : new.finished ≡ old.finished
   pub older : new.older ≡ old.older
   pub newer : new.newer ≡ old.newer
-  pub freed : (p : Place) → covers new.freed p ≡ (covers old.freed p || lie_in ranges p)
+  pub freed : (p : Place) → extents_cover new.freed p ≡ (extents_cover old.freed p || lie_in ranges p)
 
 -- all garbage of server k was freed, n bytes, which are zeros now
 pub record FreesAll {S : Type 0} (kind : StoreKind S) (k : ℕ) (dev dev' : Dev S) (g g' : GcView) (n : ℕ) : Type 0 where
@@ -76,7 +76,7 @@ pub record FreesAll {S : Type 0} (kind : StoreKind S) (k : ℕ) (dev dev' : Dev 
   pub are : AreGarbage g k ranges
   pub goes : GoesOn kind dev dev' ranges
   pub zeroed : AreZeroed kind dev dev' ranges
-  pub count : n ≡ bytes_of ranges
+  pub count : n ≡ ranges_len ranges
   pub counts : CountsFreed g g' ranges
 
 -- The first of all ranges were freed, perhaps none; the next one was not, and does not count. At that moment the server is out.

@@ -17,7 +17,7 @@ use Rattle.wtf_meta.specs.Lists.{Lists}
 use Rattle.wtf_gc.specs.declared.parts.Parts.{Parts}
 use Rattle.wtf_gc.specs.declared.gather.Base.{Base}
 use Rattle.wtf_gc.specs.Named.{own_has, region_has}
-use Rattle.wtf_gc.specs.Extents.{covers}
+use Rattle.wtf_gc.specs.Extents.{extents_cover}
 use Rattle.wtf_gc.specs.declared.extent.Extent.{Extent}
 
 -- the part that a file's regions stand in
@@ -100,7 +100,7 @@ pub record KeyBase (kv : Store Key Value) (parts : Parts) (b : Base) : Type 0 wh
 -- what was gathered is what the versions of the keys of these parts have that lie before a key
 pub record GathersUpto (kv : Store Key Value) (parts : Parts) (at : Option Key) (found : List Extent) (bases : List Base) : Type 0 where
   pub finds : (q : Key) (p : Place) → is_before key_cmp at q ≡ true → key_stands_in parts q ≡ true → versions_have (versions_of key_cmp kv q) p ≡ true
-      → covers found p ≡ true
-  pub only : (p : Place) → covers found p ≡ true → KeyHas kv parts p
+      → extents_cover found p ≡ true
+  pub only : (p : Place) → extents_cover found p ≡ true → KeyHas kv parts p
   pub lists : (q : Key) (b : Base) → is_before key_cmp at q ≡ true → Contains (key_bases kv parts q) b → Contains bases b
   pub only_lists : (b : Base) → Contains bases b → KeyBase kv parts b

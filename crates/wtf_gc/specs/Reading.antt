@@ -19,7 +19,7 @@ use Rattle.wtf_region.specs.Reads.{TellsFacts, AreInsideLists, IsOfBase, IsSlice
 use Rattle.wtf_gc.specs.declared.extent.Extent.{Extent}
 use Rattle.wtf_gc.specs.declared.gather.Base.{Base}
 use Rattle.wtf_gc.specs.declared.parts.Parts.{Parts}
-use Rattle.wtf_gc.specs.Extents.{covers}
+use Rattle.wtf_gc.specs.Extents.{extents_cover}
 use Rattle.wtf_gc.specs.Named.{facts_have}
 use Rattle.wtf_gc.specs.Parts.{IsIn, Finds}
 
@@ -30,7 +30,7 @@ pub record ListsRead {S : Type 0} (kind : StoreKind S) (old new : Dev S) (slices
   pub recalls : remembered new ≡ recalled asked (remembered old)
   pub among : All (λ (f : ListFact). Contains slices f.slice) asked
   pub each : map (λ (f : ListFact). f.slice) facts ≡ slices
-  pub adds : (p : Place) → covers after p ≡ (covers before p || facts_have facts p)
+  pub adds : (p : Place) → extents_cover after p ≡ (extents_cover before p || facts_have facts p)
   pub lie : ListSlices (inside_of kind new) any_slice facts
   pub inside : AreInsideLists kind new facts
   pub told : TellsFacts kind old new facts
@@ -63,7 +63,7 @@ pub record PartsRead {S : Type 0} (kind : StoreKind S) (old new : Dev S) (kv : S
   pub told : TellsFacts kind old new facts
 
 -- the base of a version of a region of these parts was not read; lists of others were read before, and no other list was asked for
-pub record LacksBase {S : Type 0} (kind : StoreKind S) (old new : Dev S) (kv : Store Key Value) (parts : Parts) (why : Fault) : Type 0 where
+pub record PartLacksBase {S : Type 0} (kind : StoreKind S) (old new : Dev S) (kv : Store Key Value) (parts : Parts) (why : Fault) : Type 0 where
   pub mid : Dev S
   pub goes : GoesOn kind old mid []
   pub before : List ListFact
@@ -74,4 +74,4 @@ pub record LacksBase {S : Type 0} (kind : StoreKind S) (old new : Dev S) (kv : S
   pub cause : IsBaseFault kind mid new region.base why
 
 abbrev pub IsPartsFault : {S : Type 0} → StoreKind S → (old new : Dev S) → Store Key Value → Parts → Fault → Type 0
-IsPartsFault kind old new kv parts why = (why ≡ fault.Memory) ⊎ LacksBase kind old new kv parts why
+IsPartsFault kind old new kv parts why = (why ≡ fault.Memory) ⊎ PartLacksBase kind old new kv parts why

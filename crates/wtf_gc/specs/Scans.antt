@@ -12,7 +12,7 @@ use Rattle.wtf_values.specs.Keys.{key_cmp}
 use Rattle.wtf_region.specs.declared.dev.Dev.{Dev}
 use Rattle.wtf_gc.specs.declared.extent.Extent.{Extent}
 use Rattle.wtf_gc.specs.declared.parts.Parts.{Parts}
-use Rattle.wtf_gc.specs.Extents.{covers}
+use Rattle.wtf_gc.specs.Extents.{extents_cover}
 use Rattle.wtf_gc.specs.Pinning.{IsPinnedFor}
 use Rattle.wtf_gc.specs.Reading.{PartsRead, IsPartsFault}
 use Rattle.wtf_gc.specs.Views.{ScanView, RunView, GcView, mark_of, length_in}
@@ -64,7 +64,7 @@ pub record DoesParts {S : Type 0} (kind : StoreKind S) (dev dev' : Dev S) (kv kv
   pub run : RunView
   pub was : old.running ≡ Some run
   pub found : List Extent
-  pub reads : PartsRead kind dev dev' kv' (next_parts run.left n) (covers run.scan.found) (covers found)
+  pub reads : PartsRead kind dev dev' kv' (next_parts run.left n) (extents_cover run.scan.found) (extents_cover found)
   pub is : new ≡ with_run old (run_on run n found)
   pub left_is : left ≡ run.left - n
   pub pins : (m : ℕ) → times_pinned kv' m + undone (run_on run n found) m ≡ times_pinned kv m
@@ -79,7 +79,7 @@ pub record Advances (kv kv' : Store Key Value) (old new : GcView) (done left : �
   pub run : RunView
   pub was : old.running ≡ Some run
   pub found : List Extent
-  pub adds : (p : Place) → covers found p ≡ (covers run.scan.found p || covers more p)
+  pub adds : (p : Place) → extents_cover found p ≡ (extents_cover run.scan.found p || extents_cover more p)
   pub is : new ≡ with_run old (run_on run done found)
   pub left_is : left ≡ run.left - done
   pub pins : (m : ℕ) → times_pinned kv' m + undone (run_on run done found) m ≡ times_pinned kv m

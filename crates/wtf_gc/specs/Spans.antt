@@ -6,16 +6,16 @@ use Rattle.wtf_gc.specs.declared.extent.Span.{Span}
 abbrev pub span : ℕ → ℕ → Span
 span a b = record { from = a; to = b }
 
-abbrev pub lies_in : ℕ → Span → Bool
-lies_in x s = nat_le s.from x && nat_lt x s.to
+abbrev pub span_has : ℕ → Span → Bool
+span_has x s = nat_le s.from x && nat_lt x s.to
 
 -- some span has the place
-abbrev pub covers : List Span → ℕ → Bool
-covers ss x = list_any (lies_in x) ss
+abbrev pub spans_cover : List Span → ℕ → Bool
+spans_cover ss x = list_any (span_has x) ss
 
 -- the place is below the mark, and no span has it
 abbrev pub is_gap : ℕ → List Span → ℕ → Bool
-is_gap mark ss x = nat_lt x mark && not (covers ss x)
+is_gap mark ss x = nat_lt x mark && not (spans_cover ss x)
 
 -- what lies from `at` up to the mark between spans that are sorted by where they begin
 abbrev pub gaps_from : ℕ → ℕ → List Span → List Span

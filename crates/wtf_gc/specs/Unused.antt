@@ -5,8 +5,8 @@ use Rattle.wtf_base.specs.Places.{Place}
 use Rattle.wtf_dev.specs.Store.{Range}
 use Rattle.wtf_gc.specs.declared.extent.Extent.{Extent}
 use Rattle.wtf_gc.specs.declared.extent.Span.{Span}
-use Rattle.wtf_gc.specs.Extents.{covers}
-use Rattle.wtf_gc.specs.Frees.{AreApart, lie_in, bytes_of}
+use Rattle.wtf_gc.specs.Extents.{extents_cover}
+use Rattle.wtf_gc.specs.Frees.{AreApart, lie_in, ranges_len}
 
 abbrev pub place_at : ℕ → ℕ → ℕ → Place
 place_at k f x = record { server = k; file = f; at = x }
@@ -17,7 +17,7 @@ range_at k f s = (k, record { file = f; at = s.from; len = s.to - s.from })
 
 -- one of three lists of extents has the byte
 abbrev pub used_by : List Extent → List Extent → List Extent → Place → Bool
-used_by a b c p = covers a p || (covers b p || covers c p)
+used_by a b c p = extents_cover a p || (extents_cover b p || extents_cover c p)
 
 -- a byte below its mark that is not in use
 abbrev pub is_unused : (ℕ → ℕ → ℕ) → (Place → Bool) → Place → Bool
@@ -28,5 +28,5 @@ pub record IsUnused (k : ℕ) (mark : ℕ → ℕ → ℕ) (used : Place → Boo
   pub apart : AreApart rs
   pub exact : (p : Place) → lie_in rs p ≡ (nat_eq p.server k && (nat_lt p.file n && is_unused mark used p))
   pub lie : All (λ (r : ℕ × Range). (r.0 ≡ k) × (r.1.file < n) × (r.1.at + r.1.len ≤ mark k r.1.file)) rs
-  pub count : bytes ≡ bytes_of rs
+  pub count : bytes ≡ ranges_len rs
   pub few : bytes ≤ n * (2 ^ 61 - 1)

@@ -6,7 +6,7 @@ use Rattle.wtf_replica.specs.Inside.{size_in}
 use Rattle.wtf_gc.specs.declared.extent.Extent.{Extent}
 use Rattle.wtf_gc.specs.declared.gc.Scan.{Scan}
 use Rattle.wtf_gc.specs.declared.gc.Running.{Running}
-use Rattle.wtf_gc.specs.Extents.{covers}
+use Rattle.wtf_gc.specs.Extents.{extents_cover}
 
 -- a scan: the lengths of the files at its start, and the extents that it found
 pub record ScanView : Type 0 where
@@ -38,7 +38,8 @@ mark_of s k f = mark_in s.marks k f
 -- A byte is garbage where it lies below the mark of the first of the last two scans, neither of them found it, and it was not
 -- freed. Before two have finished there is none.
 abbrev pub is_garbage : GcView → Place → Bool
-is_garbage g p = nat_lt p.at (mark_of g.older p.server p.file) && not (covers g.older.found p || (covers g.newer.found p || covers g.freed p))
+is_garbage g p = nat_lt p.at (mark_of g.older p.server p.file)
+    && not (extents_cover g.older.found p || (extents_cover g.newer.found p || extents_cover g.freed p))
 
 -- the length of one of the eight files of a server
 abbrev pub length_in : {S : Type 0} → StoreKind S → List S → ℕ → ℕ → ℕ
@@ -56,9 +57,9 @@ abbrev pub run_view : Running → RunView
 run_view r = record { scan = scan_view r.scan; seen = r.seen.items; left = r.left }
 
 -- at most all parts are left of the scan that runs
-abbrev pub IsRunOf : Option Running → Type 0
-IsRunOf None = Unit {0}
-IsRunOf (Some r) = r.left ≤ 64
+abbrev pub HasPartsLeft : Option Running → Type 0
+HasPartsLeft None = Unit {0}
+HasPartsLeft (Some r) = r.left ≤ 64
 
 -- a scan that has found nothing, of files of no length
 abbrev pub empty_scan : ScanView

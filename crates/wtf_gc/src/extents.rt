@@ -2,7 +2,7 @@
 
 ghost use Rattle.std.specs.Prelude.{◌≡◌, ◌||◌, ◌++◌, [], take, length, IfOk, OnOk, OnErr, MatchOption, ⊤};
 ghost use Rattle.wtf_base.specs.Places.{Place};
-ghost use Rattle.wtf_gc.specs.Extents.{has, covers};
+ghost use Rattle.wtf_gc.specs.Extents.{has, extents_cover};
 
 use crate::extent::Extent;
 use std::alloc::Global;
@@ -78,8 +78,8 @@ impl Extents {
     /// Adds an extent. After an error the bytes are as before.
     pub(crate) fn add(&mut self, alloc: Global, e: Extent) -> Result<(), OutOfMemory>
         ensures ok { OnOk result ((p : Place) →
-            covers self.new p ≡ (covers self.old p || has e p)) }
-        ensures err { OnErr result ((p : Place) → covers self.new p ≡ covers self.old p) }
+            extents_cover self.new p ≡ (extents_cover self.old p || has e p)) }
+        ensures err { OnErr result ((p : Place) → extents_cover self.new p ≡ extents_cover self.old p) }
     {
         self.merge_when_due(alloc)?;
         self.list.push(e)?;
@@ -104,7 +104,7 @@ impl Extents {
 
     /// Merges the extents, where there are twice as many as the last merge left, and at least 64.
     pub(crate) fn merge_when_due(&mut self, alloc: Global) -> Result<(), OutOfMemory>
-        ensures { (p : Place) → covers self.new p ≡ covers self.old p }
+        ensures { (p : Place) → extents_cover self.new p ≡ extents_cover self.old p }
     {
         if self.list.len() < self.due {
             return Ok(());
@@ -119,7 +119,7 @@ impl Extents {
 
 /// The bytes of sorted extents, of which those are one that share bytes or touch.
 fn merged(alloc: Global, extents: &[Extent]) -> Result<Vec<Extent>, OutOfMemory>
-    ensures { IfOk result (λ v. (p : Place) → covers v.items p ≡ covers extents.now p) }
+    ensures { IfOk result (λ v. (p : Place) → extents_cover v.items p ≡ extents_cover extents.now p) }
 {
     let mut out = Vec::new(alloc);
     for e in extents {
@@ -131,7 +131,7 @@ fn merged(alloc: Global, extents: &[Extent]) -> Result<Vec<Extent>, OutOfMemory>
 /// Puts an extent behind the others, as one with the last where they can be one.
 fn put(out: &mut Vec<Extent>, e: Extent) -> Result<(), OutOfMemory>
     ensures { OnOk result ((p : Place) →
-        covers out.new.items p ≡ (covers out.old.items p || has e p)) }
+        extents_cover out.new.items p ≡ (extents_cover out.old.items p || has e p)) }
 {
     let Some(last) = out.pop() else {
         out.push(e)?;

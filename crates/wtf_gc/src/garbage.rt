@@ -2,10 +2,10 @@
 
 ghost use Rattle.std.specs.Prelude.{◌≡◌, ◌+◌, ◌≤◌, ◌<◌, ◌^◌, ◌||◌, ◌++◌, ℕ, map, IfOk, OnOk};
 ghost use Rattle.wtf_base.specs.Places.{Place};
-ghost use Rattle.wtf_gc.specs.Extents.{covers};
+ghost use Rattle.wtf_gc.specs.Extents.{extents_cover};
 ghost use Rattle.std.specs.List.{All};
 ghost use Rattle.wtf_gc.specs.Frees.{ranges_of};
-ghost use Rattle.wtf_gc.specs.Spans.{covers as spans_cover};
+ghost use Rattle.wtf_gc.specs.Spans.{spans_cover};
 ghost use Rattle.wtf_gc.specs.Views.{mark_in};
 ghost use Rattle.wtf_gc.specs.Unused.{place_at, range_at, used_by, IsUnused};
 
@@ -27,7 +27,7 @@ fn add_spans(extents: &[Extent], k: u8, file: u8, to: &mut Vec<Span>) -> Result<
     requires { All (λ s. s.from ≤ s.to) to.old.items }
     ensures order { All (λ s. s.from ≤ s.to) to.new.items }
     ensures adds { OnOk result ((x : ℕ) → spans_cover to.new.items x ≡
-        (spans_cover to.old.items x || covers extents.now (place_at k file x))) }
+        (spans_cover to.old.items x || extents_cover extents.now (place_at k file x))) }
 {
     for e in extents {
         if e.server == k && e.file == file {
@@ -43,7 +43,7 @@ fn add_spans(extents: &[Extent], k: u8, file: u8, to: &mut Vec<Span>) -> Result<
 /// Adds the extents on server `k`.
 fn add_on(extents: &[Extent], k: u8, to: &mut Vec<Extent>) -> Result<(), OutOfMemory>
     ensures { OnOk result ((p : Place) → p.server ≡ k →
-        covers to.new.items p ≡ (covers to.old.items p || covers extents.now p)) }
+        extents_cover to.new.items p ≡ (extents_cover to.old.items p || extents_cover extents.now p)) }
 {
     for e in extents {
         if e.server == k {
@@ -62,7 +62,7 @@ pub(crate) fn used_on(
     k: u8,
 ) -> Result<Vec<Extent>, OutOfMemory>
     ensures { IfOk result (λ v. (p : Place) → p.server ≡ k →
-        covers v.items p ≡ used_by older.now newer.now freed.now p) }
+        extents_cover v.items p ≡ used_by older.now newer.now freed.now p) }
 {
     let mut used = Vec::new(alloc);
     add_on(older, k, &mut used)?;
@@ -75,7 +75,7 @@ pub(crate) fn used_on(
 fn used_spans(alloc: Global, used: &[Extent], k: u8, file: u8) -> Result<Vec<Span>, OutOfMemory>
     ensures order { IfOk result (λ v. All (λ s. s.from ≤ s.to) v.items) }
     ensures used { IfOk result (λ v. (x : ℕ) →
-        spans_cover v.items x ≡ covers used.now (place_at k file x)) }
+        spans_cover v.items x ≡ extents_cover used.now (place_at k file x)) }
 {
     let mut spans = Vec::new(alloc);
     add_spans(used, k, file, &mut spans)?;
@@ -110,8 +110,8 @@ fn add_file(
 ) -> Result<(), OutOfMemory>
     requires file { file < 8 }
     requires fits { mark_in marks.now k file < 2 ^ 61 }
-    requires upto { IsUnused k (mark_in marks.now) (covers used.now) file (ranges_of to.old.extents.items) to.old.bytes }
-    ensures { OnOk result (IsUnused k (mark_in marks.now) (covers used.now) (file + 1) (ranges_of to.new.extents.items) to.new.bytes) }
+    requires upto { IsUnused k (mark_in marks.now) (extents_cover used.now) file (ranges_of to.old.extents.items) to.old.bytes }
+    ensures { OnOk result (IsUnused k (mark_in marks.now) (extents_cover used.now) (file + 1) (ranges_of to.new.extents.items) to.new.bytes) }
 {
     let mark = mark_of(marks, k, file);
     let spans = gaps(alloc, used_spans(alloc, used, k, file)?, mark)?;
@@ -128,7 +128,7 @@ pub(crate) fn unused_of(
     k: u8,
 ) -> Result<Garbage, OutOfMemory>
     requires { (f : ℕ) → mark_in marks.now k f < 2 ^ 61 }
-    ensures { IfOk result (λ g. IsUnused k (mark_in marks.now) (covers used.now) 8 (ranges_of g.extents.items) g.bytes) }
+    ensures { IfOk result (λ g. IsUnused k (mark_in marks.now) (extents_cover used.now) 8 (ranges_of g.extents.items) g.bytes) }
 {
     let mut all = Garbage {
         extents: Vec::new(alloc),

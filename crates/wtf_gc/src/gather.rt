@@ -5,7 +5,7 @@ ghost use Rattle.std.specs.Option.{option_copied};
 ghost use Rattle.wtf_base.specs.Places.{Place};
 ghost use Rattle.wtf_kv.specs.Stores.{versions_of};
 ghost use Rattle.wtf_values.specs.Keys.{key_cmp};
-ghost use Rattle.wtf_gc.specs.Extents.{covers};
+ghost use Rattle.wtf_gc.specs.Extents.{extents_cover};
 ghost use Rattle.wtf_gc.specs.Named.{base_has, own_has};
 ghost use Rattle.wtf_gc.specs.Parts.{bases_of, value_has, value_bases, versions_have, versions_bases, key_stands_in, key_bases, GathersUpto};
 
@@ -39,7 +39,7 @@ fn add_base(
     to: &mut Gathered,
 ) -> Result<(), OutOfMemory>
     ensures found { OnOk result ((p : Place) →
-        covers to.new.found p ≡ (covers to.old.found p || base_has base p)) }
+        extents_cover to.new.found p ≡ (extents_cover to.old.found p || base_has base p)) }
     ensures bases { OnOk result (to.new.bases.items ≡ to.old.bases.items ++ bases_of part base) }
 {
     let Some(base) = base else {
@@ -61,7 +61,7 @@ fn add_region(
     to: &mut Gathered,
 ) -> Result<(), OutOfMemory>
     ensures found { OnOk result ((p : Place) →
-        covers to.new.found p ≡ (covers to.old.found p || own_has v.now p)) }
+        extents_cover to.new.found p ≡ (extents_cover to.old.found p || own_has v.now p)) }
     ensures bases { OnOk result (to.new.bases.items ≡ to.old.bases.items ++ bases_of part v.now.base) }
 {
     add_base(alloc, v.base, part, to)?;
@@ -76,7 +76,7 @@ fn add_value(
     to: &mut Gathered,
 ) -> Result<(), OutOfMemory>
     ensures found { OnOk result ((p : Place) →
-        covers to.new.found p ≡ (covers to.old.found p || value_has (option_copied value.entry) p)) }
+        extents_cover to.new.found p ≡ (extents_cover to.old.found p || value_has (option_copied value.entry) p)) }
     ensures bases { OnOk result
         (to.new.bases.items ≡ to.old.bases.items ++ value_bases part (option_copied value.entry)) }
 {
@@ -94,7 +94,7 @@ fn add_versions(
     to: &mut Gathered,
 ) -> Result<(), OutOfMemory>
     ensures found { OnOk result ((p : Place) →
-        covers to.new.found p ≡ (covers to.old.found p || versions_have versions.entry p)) }
+        extents_cover to.new.found p ≡ (extents_cover to.old.found p || versions_have versions.entry p)) }
     ensures bases { OnOk result
         (to.new.bases.items ≡ to.old.bases.items ++ versions_bases part versions.entry) }
 {
@@ -112,7 +112,7 @@ fn add_key(
     parts: Parts,
     to: &mut Gathered,
 ) -> Result<(), OutOfMemory>
-    ensures found { OnOk result ((p : Place) → covers to.new.found p ≡ (covers to.old.found p ||
+    ensures found { OnOk result ((p : Place) → extents_cover to.new.found p ≡ (extents_cover to.old.found p ||
         (key_stands_in parts key.now && versions_have (versions_of key_cmp kv.now key.now) p))) }
     ensures bases { OnOk result (to.new.bases.items ≡ to.old.bases.items ++
         key_bases kv.now parts key.now) }

@@ -2,7 +2,7 @@
 
 ghost use Rattle.std.specs.Prelude.{◌≡◌, ◌≤◌, ◌<◌, ◌-◌, ◌||◌, ℕ, None, Some, true, [], is_some, length, IsTrue, IfOk, IfErr, OnOk, OnErr};
 ghost use Rattle.wtf_base.specs.Places.{Place};
-ghost use Rattle.wtf_gc.specs.Extents.{covers};
+ghost use Rattle.wtf_gc.specs.Extents.{extents_cover};
 ghost use Rattle.wtf_kv.specs.Stores.{is_live};
 ghost use Rattle.wtf_replica.specs.Inside.{size_in};
 ghost use Rattle.wtf_meta.specs.Maps.{metadata_at};
@@ -61,7 +61,7 @@ pub struct Gc {
 
 impl Model for Gc {
     ghost use Rattle.std.specs.Prelude.{option_map};
-    ghost use Rattle.wtf_gc.specs.Views.{GcView, scan_view, run_view, IsRunOf};
+    ghost use Rattle.wtf_gc.specs.Views.{GcView, scan_view, run_view, HasPartsLeft};
 
     ghost Value = { GcView };
 
@@ -78,7 +78,7 @@ impl Model for Gc {
       freed = g.freed;
     } };
 
-    ghost invariant = { λ g. IsRunOf g.running };
+    ghost invariant = { λ g. HasPartsLeft g.running };
 }
 
 /// A scan that has found nothing, of files of no length.
@@ -101,7 +101,7 @@ impl Running {
         ensures seen { self.new.seen.items ≡ self.old.seen.items }
         ensures marks { self.new.scan.marks.items ≡ self.old.scan.marks.items }
         ensures adds { OnOk result ((p : Place) →
-            covers self.new.scan.found p ≡ (covers self.old.scan.found p || covers found.now p)) }
+            extents_cover self.new.scan.found p ≡ (extents_cover self.old.scan.found p || extents_cover found.now p)) }
     {
         self.scan.found.append(found)?;
         // merging saves memory alone: where none can be had for it, the list stays long

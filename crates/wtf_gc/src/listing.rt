@@ -7,7 +7,7 @@ ghost use Rattle.wtf_meta.specs.Bytes.{SliceBytes, BaseBytes, any_slice};
 ghost use Rattle.wtf_region.specs.Devs.{IsSoundDev, GoesOn, between, inside_of};
 ghost use Rattle.wtf_region.specs.Showing.{OnlyRead};
 ghost use Rattle.wtf_region.specs.Reads.{IsSliceFault};
-ghost use Rattle.wtf_gc.specs.Extents.{covers, no_places};
+ghost use Rattle.wtf_gc.specs.Extents.{extents_cover, no_places};
 ghost use Rattle.wtf_gc.specs.Parts.{IsIn};
 ghost use Rattle.wtf_gc.specs.Reading.{ListsRead, IsBasesFault, PartsRead, IsPartsFault};
 
@@ -92,7 +92,7 @@ pub(crate) fn found_in<S: SliceStore>(
     requires inside { (v : region.RegionValue) → IsIn kv.now parts v →
         BaseBytes (inside_of S.kind dev.old) any_slice v.base }
     ensures read { IfOk result (λ found. PartsRead S.kind dev.old dev.new kv.now parts
-        no_places (covers found)) }
+        no_places (extents_cover found)) }
     ensures fault { IfErr result (IsPartsFault S.kind dev.old dev.new kv.now parts) }
     ensures reads { OnlyRead S.kind (between dev.old dev.new) }
     ensures dev { GoesOn S.kind dev.old dev.new [] }

@@ -2,7 +2,7 @@
 
 ghost use Rattle.std.specs.Prelude.{◌≡◌, ◌+◌, ◌<◌, ◌^◌, ◌||◌, OnOk};
 ghost use Rattle.wtf_base.specs.Places.{Place};
-ghost use Rattle.wtf_gc.specs.Extents.{has, covers};
+ghost use Rattle.wtf_gc.specs.Extents.{has, extents_cover};
 ghost use Rattle.wtf_gc.specs.Named.{pointer_has, slice_has, part_has, list_has};
 
 use crate::extent::Extent;
@@ -31,7 +31,7 @@ pub(crate) fn add_slice(
     found: &mut Extents,
 ) -> Result<(), OutOfMemory>
     ensures { OnOk result ((p : Place) →
-        covers found.new p ≡ (covers found.old p || slice_has slice.now p)) }
+        extents_cover found.new p ≡ (extents_cover found.old p || slice_has slice.now p)) }
 {
     for i in 0..slice.width() {
         found.add(alloc, extent_of(slice.pointer(i)))?;
@@ -42,7 +42,7 @@ pub(crate) fn add_slice(
 /// Adds the extents of what a list's entry holds.
 fn add_part(alloc: Global, part: &Part, found: &mut Extents) -> Result<(), OutOfMemory>
     ensures { OnOk result ((p : Place) →
-        covers found.new p ≡ (covers found.old p || part_has part.now p)) }
+        extents_cover found.new p ≡ (extents_cover found.old p || part_has part.now p)) }
 {
     match part {
         Part::Zero => Ok(()),
@@ -57,7 +57,7 @@ pub(crate) fn add_list(
     found: &mut Extents,
 ) -> Result<(), OutOfMemory>
     ensures { OnOk result ((p : Place) →
-        covers found.new p ≡ (covers found.old p || list_has list.now p)) }
+        extents_cover found.new p ≡ (extents_cover found.old p || list_has list.now p)) }
 {
     for i in 0..list.len() {
         let e = list.get(i);

@@ -2,7 +2,7 @@
 
 ghost use Rattle.std.specs.Prelude.{◌≡◌, ℕ, ◌≤◌, min, max, IfOk};
 ghost use Rattle.std.specs.List.{All};
-ghost use Rattle.wtf_gc.specs.Spans.{covers, gaps_from, Apart, Ascends, size_of, is_gap};
+ghost use Rattle.wtf_gc.specs.Spans.{spans_cover, gaps_from, Apart, Ascends, size_of, is_gap};
 
 use crate::extent::Span;
 use std::alloc::Global;
@@ -12,7 +12,7 @@ use wtf_base::OutOfMemory;
 pub(crate) fn gaps(alloc: Global, mut spans: Vec<Span>, mark: u64) -> Result<Vec<Span>, OutOfMemory>
     requires { All (λ s. s.from ≤ s.to) spans.items }
     ensures apart { IfOk result (λ gs. Apart 0 mark gs.items) }
-    ensures exact { IfOk result (λ gs. (x : ℕ) → covers gs.items x ≡ is_gap mark spans.items x) }
+    ensures exact { IfOk result (λ gs. (x : ℕ) → spans_cover gs.items x ≡ is_gap mark spans.items x) }
 {
     match spans.sort_by_key(|s| s.from) {
         Ok(()) => sweep(alloc, spans.as_slice(), mark),
@@ -43,7 +43,7 @@ fn sweep(alloc: Global, spans: &[Span], mark: u64) -> Result<Vec<Span>, OutOfMem
 /// The number of bytes in spans that share none.
 pub(crate) fn total(spans: &[Span], mark: u64) -> u64
     requires { Apart 0 mark spans.now }
-    ensures { result ≡ size_of mark (covers spans.now) }
+    ensures { result ≡ size_of mark (spans_cover spans.now) }
 {
     let mut sum = 0;
     for s in spans {

@@ -66,7 +66,7 @@ use Rattle.wtf_region.proofs.InsideLaws.{inside_stays}
 use Rattle.wtf_gc.specs.Frees.{CountsFreed, FreesSome, IsCollectFault, tried_on}
 use Rattle.wtf_gc.specs.Scans.{StartsScan, AreHeld, IsPrunedFrom, DoesParts, run_on, with_finished}
 use Rattle.wtf_gc.specs.Views.{ScanView, RunView, GcView, new_gc, empty_scan}
-use Rattle.wtf_gc_rows.specs.Ready.{Marks, RunMarks, AreMarks, AllLie, IsReady, IsSameLent}
+use Rattle.wtf_gc_rows.specs.Ready.{Marks, RunMarks, AreMarks, AllLie, IsGcReady, IsSameLent}
 
 -- ---- the device goes on
 -- no file of a store gets shorter
@@ -96,8 +96,8 @@ module _ (old new : List StoreState) (more : (k f : ℕ) → size_in mem_store o
   marks_grow : (g : GcView) → AreMarks old g → AreMarks new g
   marks_grow g h = record { older = scan_grows g.older h.older; newer = scan_grows g.newer h.newer; running = run_grows g.running h.running }
 
-pub goes : (old new : Dev StoreState) (punched : List (ℕ × Range)) (kv : Store Key Value) (g : GcView) → GoesOn mem_store old new punched → IsReady old kv g
-    → IsReady new kv g
+pub goes : (old new : Dev StoreState) (punched : List (ℕ × Range)) (kv : Store Key Value) (g : GcView) → GoesOn mem_store old new punched → IsGcReady old kv g
+    → IsGcReady new kv g
 goes old new punched kv g on h = record {
   sound = on.sound;
   held = h.held;
@@ -135,8 +135,8 @@ cond_le : (b : Bool) (n : ℕ) → cond b n 0 ≤ n
 cond_le true n = omega arith
 cond_le false n = omega arith
 
-pub begun : (dev : Dev StoreState) (kv kv' : Store Key Value) (g g' : GcView) → IsReady dev kv g → StartsScan mem_store (stores dev) kv kv' g g'
-    → IsReady dev kv' g'
+pub begun : (dev : Dev StoreState) (kv kv' : Store Key Value) (g g' : GcView) → IsGcReady dev kv g → StartsScan mem_store (stores dev) kv kv' g g'
+    → IsGcReady dev kv' g'
 begun dev kv kv' g g' h s =
     let pins : (n : ℕ) → IsTrue (is_pinned kv' n) → IsTrue (is_live kv n) = λ n pinned.
     let some = count-any n kv'.pins pinned in
@@ -145,7 +145,7 @@ begun dev kv kv' g g' h s =
     (λ lt. or_right (nat_eq n kv.number) (is_pinned kv n) (any-count n kv.pins lt))
     (λ none. sym (s.seen n) ∙ any-count n s.run.seen (omega (arith, some, is, none)))
     (cases_lt 0 (times_pinned kv n)) in
-    subst (IsReady dev kv') (sym s.is) (record {
+    subst (IsGcReady dev kv') (sym s.is) (record {
       sound = h.sound;
       held = λ n. let is = s.pins.pins n in omega (arith, is);
       lie = other_pins dev kv kv' s.pins.number s.pins.cells pins h.lie;
@@ -168,16 +168,16 @@ marks_over : (shelf : List StoreState) (g : GcView) (r : RunView) (b : Bool) →
 marks_over shelf g r true h here = record { older = h.newer; newer = here; running = tt }
 marks_over shelf g r false h here = record { older = h.older; newer = h.newer; running = here }
 
-pub pieced : (old new : Dev StoreState) (kv kv' : Store Key Value) (g g' : GcView) (n left : ℕ) → IsReady old kv g → GoesOn mem_store old new []
+pub pieced : (old new : Dev StoreState) (kv kv' : Store Key Value) (g g' : GcView) (n left : ℕ) → IsGcReady old kv g → GoesOn mem_store old new []
     → IsPrunedFrom kv kv'
-    → DoesParts mem_store old new kv kv' g g' n left → IsReady new kv' g'
+    → DoesParts mem_store old new kv kv' g g' n left → IsGcReady new kv' g'
 pieced old new kv kv' g g' n left h on pruned does =
     let ready = goes old new [] kv g on h in
     let r = run_on does.run n does.found in
     let fewer : (m : ℕ) → times_pinned kv' m ≤ times_pinned kv m = λ m. let is = does.pins m in omega (arith, is) in
     let was_held : AreHeld (Some does.run) kv = subst (λ (o : Option RunView). AreHeld o kv) does.was h.held in
     let marks : RunMarks (stores new) (Some does.run) = subst (RunMarks (stores new)) does.was ready.marks.running in
-    subst (IsReady new kv') (sym does.is) (record {
+    subst (IsGcReady new kv') (sym does.is) (record {
       sound = on.sound;
       held = held_over g r kv kv' (nat_eq r.left 0) does.pins was_held;
       lie = λ m live.
@@ -187,8 +187,8 @@ pieced old new kv kv' g g' n left h on pruned does =
     })
 
 -- ---- ranges count as freed
-pub freed : (dev : Dev StoreState) (kv : Store Key Value) (g g' : GcView) (ranges : List (ℕ × Range)) → CountsFreed g g' ranges → IsReady dev kv g
-    → IsReady dev kv g'
+pub freed : (dev : Dev StoreState) (kv : Store Key Value) (g g' : GcView) (ranges : List (ℕ × Range)) → CountsFreed g g' ranges → IsGcReady dev kv g
+    → IsGcReady dev kv g'
 freed dev kv g g' ranges c h = record {
   sound = h.sound;
   held = subst (λ (o : Option RunView). AreHeld o kv) (sym c.running) h.held;
@@ -200,16 +200,16 @@ freed dev kv g g' ranges c h = record {
   };
 }
 
-stopped : {old new : Dev StoreState} {kv : Store Key Value} {g g' : GcView} {k : ℕ} {why : Fault} → FreesSome mem_store k old new g g' why → IsReady old kv g
-    → IsReady new kv g'
+stopped : {old new : Dev StoreState} {kv : Store Key Value} {g g' : GcView} {k : ℕ} {why : Fault} → FreesSome mem_store k old new g g' why → IsGcReady old kv g
+    → IsGcReady new kv g'
 stopped {old = old} {new = new} {kv = kv} {g = g} {g' = g'} {k = k} h ready =
     freed new kv g g' h.ranges h.counts (goes h.mid new (tried_on h.mid (k, h.tried)) kv g h.last (goes old h.mid h.ranges kv g h.goes ready))
 
 -- or they do not, but those before one that was not
 pub failed : (old new : Dev StoreState) (kv : Store Key Value) (g g' : GcView) (k : ℕ) (why : Fault) → IsCollectFault mem_store k old new g g' why
-    → IsReady old kv g
-    → IsReady new kv g'
-failed old new kv g g' k fault.Memory h ready = subst (IsReady new kv) (sym h.1) (goes old new [] kv g h.0 ready)
+    → IsGcReady old kv g
+    → IsGcReady new kv g'
+failed old new kv g g' k fault.Memory h ready = subst (IsGcReady new kv) (sym h.1) (goes old new [] kv g h.0 ready)
 failed old new kv g g' k (fault.Punch j) h ready = stopped h ready
 failed old new kv g g' k (fault.Read j) h ready = stopped h ready
 failed old new kv g g' k (fault.Damaged j) h ready = stopped h ready
@@ -234,7 +234,7 @@ failed_lent old new g g' k fault.Write h = stopped_lent h
 
 -- ---- other servers are down
 pub other_servers : (old new : Dev StoreState) (kv : Store Key Value) (g : GcView) → stores new ≡ stores old → new.cache.now ≡ old.cache.now
-    → new.ring.now ≡ old.ring.now → new.settings ≡ old.settings → settings_of new.replicas.now ≡ new.settings → IsReady old kv g → IsReady new kv g
+    → new.ring.now ≡ old.ring.now → new.settings ≡ old.settings → settings_of new.replicas.now ≡ new.settings → IsGcReady old kv g → IsGcReady new kv g
 other_servers old new kv g shelf cache ring settings replicas h =
     let inside : inside_of mem_store new ≡ inside_of mem_store old = λ i. is_inside mem_store (shelf i) (settings i) in
     record {
@@ -260,7 +260,7 @@ held_more (Some r) kv kv' more h = λ m. let was = h m in let is = more m in ome
 
 pub pinned : (dev : Dev StoreState) (kv kv' : Store Key Value) (g : GcView) (n : ℕ) (pins : List ℕ) → kv' ≡ record kv { pins = pins }
     → IsPinnedOnceMore n kv kv' → IsTrue (is_live kv n)
-    → IsReady dev kv g → IsReady dev kv' g
+    → IsGcReady dev kv g → IsGcReady dev kv' g
 pinned dev kv kv' g n pins is once live h =
     let back : (m : ℕ) → IsTrue (is_pinned kv' m) → IsTrue (is_live kv m) = λ m there.
     let some = count-any m kv'.pins there in
@@ -283,7 +283,7 @@ held_none (Some r) kv none = absurd (both_ways true none refl)
 
 pub unpinned : (dev : Dev StoreState) (kv kv' : Store Key Value) (g : GcView) (n : ℕ) (pins : List ℕ) → kv' ≡ record kv { pins = pins }
     → IsPinnedOnceMore n kv' kv → is_some g.running ≡ false
-    → IsReady dev kv g → IsReady dev kv' g
+    → IsGcReady dev kv g → IsGcReady dev kv' g
 unpinned dev kv kv' g n pins is once none h = record {
   sound = h.sound;
   held = held_none g.running kv' none;
@@ -298,7 +298,7 @@ pub installed : (dev : Dev StoreState) (kv mid kv' : Store Key Value) (g : GcVie
     → kv'.pins ≡ mid.pins → metadata_at kv' kv'.number ≡ with cs (metadata_at mid mid.number)
     → ((n : ℕ) → n ≤ mid.number → metadata_at kv' n ≡ metadata_at mid n)
     → ((p : ℕ) → IsTrue (is_pinned kv p) → p ≤ kv.number) → EditsBytes (inside_of mem_store dev) any_slice cs
-    → IsReady dev kv g → IsReady dev kv' g
+    → IsGcReady dev kv g → IsGcReady dev kv' g
 installed dev kv mid kv' g cs number pins same pins' map maps bound lie h =
     let Lies : Map → Type 0 = IsStoredInside mem_store (stores dev) dev.settings in
     let all : kv'.pins ≡ kv.pins = pins' ∙ pins in
@@ -334,9 +334,9 @@ no_mark false i m = omega arith
 
 pub ready_new : (dev : Dev StoreState) (kv : Store Key Value) (g : GcView) → kv ≡ record { number = 0; pins = []; cells = [] } → g ≡ new_gc
     → IsSoundDev mem_store dev
-    → IsReady dev kv g
+    → IsGcReady dev kv g
 ready_new dev kv g empty is sound =
     let none : Marks (stores dev) empty_scan = λ k f. no_mark (nat_lt f 8) (k * 8 + f) (size_in mem_store (stores dev) k f) in
     let lie : AllLie dev kv = λ n live. subst (λ (s : Store Key Value). MapBytes (inside_of mem_store dev) any_slice (metadata_at s n)) (sym empty)
     (λ q. tt {0}) in
-    subst (IsReady dev kv) (sym is) (record { sound = sound; held = tt; lie = lie; marks = record { older = none; newer = none; running = tt } })
+    subst (IsGcReady dev kv) (sym is) (record { sound = sound; held = tt; lie = lie; marks = record { older = none; newer = none; running = tt } })

@@ -31,7 +31,7 @@ abbrev pub AllLie : Dev StoreState → Store Key Value → Type 0
 AllLie dev kv = (n : ℕ) → IsTrue (is_live kv n) → IsStoredInside mem_store (stores dev) dev.settings (metadata_at kv n)
 
 -- what the calls of a collector ask for
-pub record IsReady (dev : Dev StoreState) (kv : Store Key Value) (g : GcView) : Type 0 where
+pub record IsGcReady (dev : Dev StoreState) (kv : Store Key Value) (g : GcView) : Type 0 where
   pub sound : IsSoundDev mem_store dev
   pub held : AreHeld g.running kv
   pub lie : AllLie dev kv

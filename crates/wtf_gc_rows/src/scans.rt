@@ -7,7 +7,7 @@ ghost use Rattle.wtf_overlay.specs.Origin.{Place};
 ghost use Rattle.wtf_meta.specs.Bytes.{SliceBytes, EntryBytes, RegionBytes, EditsBytes, any_slice};
 ghost use Rattle.wtf_dev.specs.Memory.{mem_store};
 ghost use Rattle.wtf_region.specs.Devs.{IsSoundDev, inside_of};
-ghost use Rattle.wtf_gc_rows.specs.Ready.{IsReady, IsSameLent};
+ghost use Rattle.wtf_gc_rows.specs.Ready.{IsGcReady, IsSameLent};
 
 use std::alloc::Global;
 use std::test::Fail;
@@ -154,8 +154,8 @@ const DOWN: [(Step, u64); 7] = [
 ];
 
 fn begin(dev: &mut Dev<'_, MemStore>, kv: &mut Kv<Key, Value>, gc: &mut Gc) -> Result<u64, Fail>
-    requires { IsReady dev.old kv.old gc.old }
-    ensures { OnOk result (IsReady dev.new kv.new gc.new) }
+    requires { IsGcReady dev.old kv.old gc.old }
+    ensures { OnOk result (IsGcReady dev.new kv.new gc.new) }
 {
     if gc.running() {
         return Err(Fail::from("a scan runs"));
@@ -170,8 +170,8 @@ fn piece(
     gc: &mut Gc,
     parts: u8,
 ) -> Result<u64, Fail>
-    requires { IsReady dev.old kv.old gc.old }
-    ensures { OnOk result (IsReady dev.new kv.new gc.new) }
+    requires { IsGcReady dev.old kv.old gc.old }
+    ensures { OnOk result (IsGcReady dev.new kv.new gc.new) }
 {
     if !gc.running() {
         return Err(Fail::from("no scan runs"));
@@ -181,8 +181,8 @@ fn piece(
 }
 
 fn scan(dev: &mut Dev<'_, MemStore>, kv: &mut Kv<Key, Value>, gc: &mut Gc) -> Result<u64, Fail>
-    requires { IsReady dev.old kv.old gc.old }
-    ensures { OnOk result (IsReady dev.new kv.new gc.new) }
+    requires { IsGcReady dev.old kv.old gc.old }
+    ensures { OnOk result (IsGcReady dev.new kv.new gc.new) }
 {
     let _begun = begin(dev, kv, gc)?;
     piece(dev, kv, gc, 64)
@@ -194,8 +194,8 @@ fn collect(
     gc: &mut Gc,
     k: u8,
 ) -> Result<u64, Fail>
-    requires { IsReady dev.old kv.now gc.old }
-    ensures ready { OnOk result (IsReady dev.new kv.now gc.new) }
+    requires { IsGcReady dev.old kv.now gc.old }
+    ensures ready { OnOk result (IsGcReady dev.new kv.now gc.new) }
     ensures lent { IsSameLent dev.old dev.new }
 {
     if k >= dev.shelf.len() {
@@ -214,8 +214,8 @@ fn collect_down(
     gc: &mut Gc,
     k: u8,
 ) -> Result<u64, Fail>
-    requires { IsReady dev.old kv.now gc.old }
-    ensures { OnOk result (IsReady dev.new kv.now gc.new) }
+    requires { IsGcReady dev.old kv.now gc.old }
+    ensures { OnOk result (IsGcReady dev.new kv.now gc.new) }
 {
     if k >= dev.settings.servers {
         return Err(Fail::from("no such server"));
@@ -233,8 +233,8 @@ fn collect_down(
 }
 
 fn pin(dev: &Dev<'_, MemStore>, kv: &mut Kv<Key, Value>, gc: &Gc) -> Result<u64, Fail>
-    requires { IsReady dev.now kv.old gc.now }
-    ensures { OnOk result (IsReady dev.now kv.new gc.now) }
+    requires { IsGcReady dev.now kv.old gc.now }
+    ensures { OnOk result (IsGcReady dev.now kv.new gc.now) }
 {
     let n = kv.number();
     kv.pin(n)?;
@@ -242,8 +242,8 @@ fn pin(dev: &Dev<'_, MemStore>, kv: &mut Kv<Key, Value>, gc: &Gc) -> Result<u64,
 }
 
 fn unpin(dev: &Dev<'_, MemStore>, kv: &mut Kv<Key, Value>, gc: &Gc, n: u64) -> Result<u64, Fail>
-    requires { IsReady dev.now kv.old gc.now }
-    ensures { OnOk result (IsReady dev.now kv.new gc.now) }
+    requires { IsGcReady dev.now kv.old gc.now }
+    ensures { OnOk result (IsGcReady dev.now kv.new gc.now) }
 {
     if gc.running() {
         return Err(Fail::from("a scan runs"));
@@ -262,9 +262,9 @@ fn install(
     gc: &Gc,
     changes: &Changes<Key, Value>,
 ) -> Result<u64, Fail>
-    requires ready { IsReady dev.now kv.old gc.now }
+    requires ready { IsGcReady dev.now kv.old gc.now }
     requires lie { EditsBytes (inside_of mem_store dev.now) any_slice changes.now }
-    ensures { OnOk result (IsReady dev.now kv.new gc.now) }
+    ensures { OnOk result (IsGcReady dev.now kv.new gc.now) }
 {
     if kv.number() > 1000 {
         return Err(Fail::from("too many installs"));
@@ -281,8 +281,8 @@ fn remove(
     kv: &mut Kv<Key, Value>,
     gc: &Gc,
 ) -> Result<u64, Fail>
-    requires { IsReady dev.now kv.old gc.now }
-    ensures { OnOk result (IsReady dev.now kv.new gc.now) }
+    requires { IsGcReady dev.now kv.old gc.now }
+    ensures { OnOk result (IsGcReady dev.now kv.new gc.now) }
 {
     let mut changes = Changes::new(alloc);
     changes.cut_range(Key::Region(FILE, 0), Key::Region(FILE, 0))?;
@@ -297,9 +297,9 @@ fn put(
     gc: &Gc,
     value: RegionValue,
 ) -> Result<u64, Fail>
-    requires ready { IsReady dev.now kv.old gc.now }
+    requires ready { IsGcReady dev.now kv.old gc.now }
     requires lies { RegionBytes (inside_of mem_store dev.now) any_slice value }
-    ensures { OnOk result (IsReady dev.now kv.new gc.now) }
+    ensures { OnOk result (IsGcReady dev.now kv.new gc.now) }
 {
     let mut changes = Changes::new(alloc);
     changes.delta(Key::Region(FILE, 0), Delta::Put(Value::Region(value)))?;
@@ -313,8 +313,8 @@ fn stored(
     gc: &Gc,
     bytes: &[u8],
 ) -> Result<Slice, Fail>
-    requires { IsReady dev.old kv.now gc.now }
-    ensures ready { OnOk result (IsReady dev.new kv.now gc.now) }
+    requires { IsGcReady dev.old kv.now gc.now }
+    ensures ready { OnOk result (IsGcReady dev.new kv.now gc.now) }
     ensures lies { IfOk result (SliceBytes (inside_of mem_store dev.new)) }
 {
     if bytes.len() < 1 || bytes.len() > 64 {
@@ -340,8 +340,8 @@ fn list_of(alloc: Global, slice: Slice) -> Result<Overlay, Fail>
 }
 
 fn stray(dev: &mut Dev<'_, MemStore>, kv: &Kv<Key, Value>, gc: &Gc) -> Result<u64, Fail>
-    requires { IsReady dev.old kv.now gc.now }
-    ensures { OnOk result (IsReady dev.new kv.now gc.now) }
+    requires { IsGcReady dev.old kv.now gc.now }
+    ensures { OnOk result (IsGcReady dev.new kv.now gc.now) }
 {
     let _slice = stored(dev, kv, gc, b"0123456789")?;
     Ok(0)
@@ -353,8 +353,8 @@ fn write(
     kv: &mut Kv<Key, Value>,
     gc: &Gc,
 ) -> Result<u64, Fail>
-    requires { IsReady dev.old kv.old gc.now }
-    ensures { OnOk result (IsReady dev.new kv.new gc.now) }
+    requires { IsGcReady dev.old kv.old gc.now }
+    ensures { OnOk result (IsGcReady dev.new kv.new gc.now) }
 {
     let slice = stored(dev, &*kv, gc, b"abcd")?;
     let value = RegionValue::of_list(list_of(alloc, slice)?, 64);
@@ -367,8 +367,8 @@ fn spill(
     kv: &mut Kv<Key, Value>,
     gc: &Gc,
 ) -> Result<u64, Fail>
-    requires { IsReady dev.old kv.old gc.now }
-    ensures { OnOk result (IsReady dev.new kv.new gc.now) }
+    requires { IsGcReady dev.old kv.old gc.now }
+    ensures { OnOk result (IsGcReady dev.new kv.new gc.now) }
 {
     let named = stored(dev, &*kv, gc, b"wxyz")?;
     let list = list_of(alloc, named)?.compact()?;
@@ -385,8 +385,8 @@ fn came(
     gc: &mut Gc,
     step: Step,
 ) -> Result<u64, Fail>
-    requires { IsReady dev.old kv.old gc.old }
-    ensures { OnOk result (IsReady dev.new kv.new gc.new) }
+    requires { IsGcReady dev.old kv.old gc.old }
+    ensures { OnOk result (IsGcReady dev.new kv.new gc.new) }
 {
     match step {
         Step::Stray => return stray(dev, &*kv, &*gc),
@@ -414,7 +414,7 @@ fn steps_come(
     gc: &mut Gc,
     steps: &[(Step, u64)],
 ) -> Result<usize, Fail>
-    requires { IsReady dev.old kv.old gc.old }
+    requires { IsGcReady dev.old kv.old gc.old }
 {
     let mut same = 0usize;
     for (step, want) in steps {

@@ -15,7 +15,7 @@ use Rattle.wtf_values.specs.Names.{NamesOf, no_names, with_name}
 use Rattle.wtf_model.specs.Tree.{is_at as stands_at}
 use Rattle.wtf_imagefmt.specs.declared.records.PathRecord.{PathRecord}
 use Rattle.wtf_imagefmt.specs.Lookups.{added_name, names_from, names_under}
-use Rattle.wtf_image.specs.Tables.{names_in}
+use Rattle.wtf_image.specs.Tables.{table_names}
 
 abbrev Dirs : Type 0
 Dirs = List (List ℕ × NamesOf)
@@ -25,23 +25,24 @@ at es d = lookup (is_at (slice_cmp nat_cmp d)) es
 
 -- a table in which one directory has other names
 pub names_set : (old new : Dirs) (d up : List ℕ) (name : List ℕ) (names : NamesOf) → at new d ≡ cond (is_at (slice_cmp nat_cmp up) d) (Some names) (at old d)
-    → names ≡ with_name (names_in old up) name → names_in new d ≡ cond (is_at (slice_cmp nat_cmp up) d) (with_name (names_in old d) name) (names_in old d)
+    → names ≡ with_name (table_names old up) name → table_names new d
+    ≡ cond (is_at (slice_cmp nat_cmp up) d) (with_name (table_names old d) name) (table_names old d)
 names_set old new d up name names set is =
     let test : is_at (slice_cmp nat_cmp up) d ≡ bytes_eq up d = is_eq-slice_cmp up d in
     let put = λ (b : Bool). unwrap_or (cond b (Some names) (at old d)) no_names in
-    let more = λ (b : Bool). cond b (with_name (names_in old d) name) (names_in old d) in
+    let more = λ (b : Bool). cond b (with_name (table_names old d) name) (table_names old d) in
     ap (λ o. unwrap_or o no_names) set ∙ elim (cases_Bool (bytes_eq up d)) [
-      | inl tie ↦ ap put (test ∙ tie) ∙ is ∙ ap (λ x. with_name (names_in old x) name) ((bytes_eq-Decides up d).0 tie) ∙ ap more (sym (test ∙ tie))
+      | inl tie ↦ ap put (test ∙ tie) ∙ is ∙ ap (λ x. with_name (table_names old x) name) ((bytes_eq-Decides up d).0 tie) ∙ ap more (sym (test ∙ tie))
       | inr off ↦ ap put (test ∙ off) ∙ ap more (sym (test ∙ off))
     ]
 
 -- the directory in which a path stands has its name
-pub name_added : (old new : Dirs) (d up p : List ℕ) → names_in new d ≡ cond (is_at (slice_cmp nat_cmp up) d) (with_name (names_in old d) (name_of p)) (names_in old d)
-    → parent_of p ≡ Some up → names_in new d ≡ added_name d p (names_in old d)
+pub name_added : (old new : Dirs) (d up p : List ℕ) → table_names new d ≡ cond (is_at (slice_cmp nat_cmp up) d) (with_name (table_names old d) (name_of p)) (table_names old d)
+    → parent_of p ≡ Some up → table_names new d ≡ added_name d p (table_names old d)
 name_added old new d up p set parent =
     let test : is_at (slice_cmp nat_cmp up) d ≡ bytes_eq up d = is_eq-slice_cmp up d in
-    set ∙ ap (λ b. cond b (with_name (names_in old d) (name_of p)) (names_in old d)) test
-    ∙ sym (ap (λ o. cond (stands_at d o) (with_name (names_in old d) (name_of p)) (names_in old d)) parent)
+    set ∙ ap (λ b. cond b (with_name (table_names old d) (name_of p)) (table_names old d)) test
+    ∙ sym (ap (λ o. cond (stands_at d o) (with_name (table_names old d) (name_of p)) (table_names old d)) parent)
 
 names_from-push : (s : NamesOf) (d : List ℕ) (rs : List PathRecord) (r : PathRecord) → names_from s d (rs ++ r ∷ []) ≡ added_name d r.path (names_from s d rs)
 names_from-push s d [] r = refl

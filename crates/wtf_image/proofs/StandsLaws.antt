@@ -92,11 +92,11 @@ module _ (b : ℕ) (told : Told) (w : Map) where
   folder_node : (v : Option Value) (o : Option TreeNode) → NodeAt b told w v o → o ≡ Some Dir → v ≡ Some (value.Node Folder)
   folder_node None None at e = absurd (cc)
   folder_node None (Some Dir) at e = absurd at
-  folder_node None (Some (File bytes)) at e = absurd at
+  folder_node None (Some (File paths bytes)) at e = absurd at
   folder_node (Some (value.Node Folder)) o at e = refl
   folder_node (Some (value.Node (FileNode i))) None at e = absurd at
   folder_node (Some (value.Node (FileNode i))) (Some Dir) at e = absurd at
-  folder_node (Some (value.Node (FileNode i))) (Some (File bytes)) at e = absurd (cc)
+  folder_node (Some (value.Node (FileNode i))) (Some (File paths bytes)) at e = absurd (cc)
   folder_node (Some (value.Names s)) o at e = absurd at
   folder_node (Some (value.Last r)) o at e = absurd at
   folder_node (Some (value.Region g)) o at e = absurd at
@@ -113,7 +113,7 @@ module _ (b : ℕ) (told : Told) (w : Map) where
   told_there : (v : Option Value) (o : Option TreeNode) → NodeAt b told w v o → IsSome o → IsSome v
   told_there None None at h = absurd (cc)
   told_there None (Some Dir) at h = absurd at
-  told_there None (Some (File bytes)) at h = absurd at
+  told_there None (Some (File paths bytes)) at h = absurd at
   told_there (Some v) o at h = refl
 
 module _ (b : ℕ) (told : Told) (tx k : ℕ) (w : Map) (t : Tree) (st : Stands b told tx k w t) (n : ℕ) (begun : 0 < n)

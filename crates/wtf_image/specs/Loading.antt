@@ -95,8 +95,8 @@ IsRefusalWithout lost size bytes error.PointerOutside = HasPointerOutside lost s
 IsRefusalWithout lost size bytes error.Memory = ⊤
 
 -- the same where no server is lost
-abbrev pub IsRefusal : (ℕ → ℕ → ℕ) → List ℕ → LoadError → Type 0
-IsRefusal size bytes why = IsRefusalWithout none_lost size bytes why
+abbrev pub IsLoadRefusal : (ℕ → ℕ → ℕ) → List ℕ → LoadError → Type 0
+IsLoadRefusal size bytes why = IsRefusalWithout none_lost size bytes why
 
 -- why an image with good settings is refused
 abbrev pub IsLateRefusal : (ℕ → Bool) → (ℕ → ℕ → ℕ) → ImageRows → LoadError → Type 0

@@ -22,8 +22,8 @@ abbrev pub count_in : List (InodeId × ℕ) → InodeId → ℕ
 count_in counts i = unwrap_or (lookup (is_at (inode_cmp i)) counts) 0
 
 -- the names in a directory, by a table
-abbrev pub names_in : List (List ℕ × NamesOf) → List ℕ → NamesOf
-names_in dirs d = unwrap_or (lookup (is_at (slice_cmp nat_cmp d)) dirs) no_names
+abbrev pub table_names : List (List ℕ × NamesOf) → List ℕ → NamesOf
+table_names dirs d = unwrap_or (lookup (is_at (slice_cmp nat_cmp d)) dirs) no_names
 
 -- it shows just these paths and files
 pub record ShowsRows (m : Shown) (paths : List PathRecord) (files : List FileRow) : Type 0 where

@@ -17,7 +17,7 @@ ghost use Rattle.wtf_image.specs.Savable.{AreBefore, IsSavable};
 ghost use Rattle.wtf_imagefmt.specs.Rows.{ImageRows};
 ghost use Rattle.wtf_image.specs.Images.{HasText};
 ghost use Rattle.wtf_image.specs.Rules.{is_lost, none_lost, lies_inside, lies_inside_without};
-ghost use Rattle.wtf_image.specs.Loading.{IsRefusal, IsTaken, IsTakenWithout};
+ghost use Rattle.wtf_image.specs.Loading.{IsLoadRefusal, IsTaken, IsTakenWithout};
 ghost use Rattle.wtf_image.specs.Outcome.{IsLoadOf};
 ghost use Rattle.wtf_imagefmt.specs.Saving.{IsSaveOf};
 ghost use Rattle.wtf_image.specs.Kept.{IsKept, IsSameAs, IsPointerOrMemory};
@@ -35,7 +35,7 @@ pub fn what_was_saved_is_loaded()
         IsKept kv s n bytes → (size : ℕ → ℕ → ℕ) (l : Loaded) → IsLoadOf size bytes l →
         IsSameAs kv s n l }
     ensures taken { (kv : Store Key Value) (s : Settings) (n : ℕ) (bytes : List ℕ) →
-        IsKept kv s n bytes → (size : ℕ → ℕ → ℕ) (why : LoadError) → IsRefusal size bytes why →
+        IsKept kv s n bytes → (size : ℕ → ℕ → ℕ) (why : LoadError) → IsLoadRefusal size bytes why →
         IsPointerOrMemory why }
 {}
 

@@ -5,13 +5,13 @@ ghost use Rattle.std.specs.List.{flat_map};
 ghost use Rattle.wtf_kv.specs.Stores.{versions_of};
 ghost use Rattle.wtf_values.specs.Keys.{key_cmp};
 ghost use Rattle.wtf_values.specs.declared.key.Key.TheVariants as keys;
-ghost use Rattle.wtf_imagefmt.specs.Rows.{ImageRows, rows_of};
+ghost use Rattle.wtf_imagefmt.specs.Rows.{ImageRows, image_rows};
 ghost use Rattle.wtf_imagefmt.specs.Shapes.{ascends, path_before, IsImage};
 ghost use Rattle.wtf_image.specs.Images.{HasText};
 ghost use Rattle.wtf_image.specs.Seeds.{Adds, dir_seed};
 ghost use Rattle.wtf_image.specs.Tables.{shown, ShowsRows};
 ghost use Rattle.wtf_image.specs.Rules.{AreGoodSettings, IsGoodTree, size_in, is_lost, are_inside_without};
-ghost use Rattle.wtf_image.specs.Loading.{IsChecked, IsRefusal, IsRefusalWithout, IsCheckRefusal, IsLateRefusal, IsPartly};
+ghost use Rattle.wtf_image.specs.Loading.{IsChecked, IsLoadRefusal, IsRefusalWithout, IsCheckRefusal, IsLateRefusal, IsPartly};
 ghost use Rattle.wtf_image.specs.Outcome.{IsLoadOf, IsLoadWithout};
 
 use crate::LoadError;
@@ -55,8 +55,8 @@ pub fn check(alloc: Global, bytes: &[u8]) -> Result<Settings, LoadError>
 
 /// The store with the files and the paths of an image, at its number of installs.
 fn store_of(alloc: Global, image: &Image) -> Result<Kv<Key, Value>, OutOfMemory>
-    requires { IsImage (rows_of image.now) }
-    ensures { IfOk result (IsPartly (rows_of image.now)) }
+    requires { IsImage (image_rows image.now) }
+    ensures { IfOk result (IsPartly (image_rows image.now)) }
 {
     let mut kv = Kv::start(alloc, image.header.installs)?;
     seed_files(&mut kv, image.files.as_slice())?;
@@ -89,13 +89,13 @@ fn try_rules<S: SliceStore>(
     shelf: &Shelf<S>,
     lost: u16,
 ) -> Result<(), LoadError>
-    requires rows { ShowsRows (shown kv.now) (rows_of image.now).paths (rows_of image.now).files }
+    requires rows { ShowsRows (shown kv.now) (image_rows image.now).paths (image_rows image.now).files }
     requires shelf { image.now.header.servers ≤ length shelf.now }
-    ensures tree { OnOk result (IsGoodTree (rows_of image.now)) }
+    ensures tree { OnOk result (IsGoodTree (image_rows image.now)) }
     ensures inside { OnOk result (are_inside_without (is_lost lost)
-        (size_in S.kind shelf.now) (rows_of image.now) ≡ true) }
+        (size_in S.kind shelf.now) (image_rows image.now) ≡ true) }
     ensures cause { IfErr result (IsLateRefusal (is_lost lost)
-        (size_in S.kind shelf.now) (rows_of image.now)) }
+        (size_in S.kind shelf.now) (image_rows image.now)) }
 {
     let good = match is_tree(alloc, kv, image) {
         Ok(good) => good,
@@ -122,7 +122,7 @@ pub fn load<S: SliceStore>(
     requires { (x : ImageRows) → HasText x bytes.now → AreGoodSettings x →
         x.header.servers ≤ length shelf.now }
     ensures loaded { IfOk result (IsLoadOf (size_in S.kind shelf.now) bytes.now) }
-    ensures cause { IfErr result (IsRefusal (size_in S.kind shelf.now) bytes.now) }
+    ensures cause { IfErr result (IsLoadRefusal (size_in S.kind shelf.now) bytes.now) }
 {
     load_without(alloc, bytes, shelf, 0)
 }

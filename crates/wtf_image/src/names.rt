@@ -12,7 +12,7 @@ ghost use Rattle.wtf_values.specs.declared.key.Key.TheVariants as keys;
 ghost use Rattle.wtf_imagefmt.specs.Shapes.{ascends, path_before};
 ghost use Rattle.wtf_imagefmt.specs.Lookups.{added_name, names_under};
 ghost use Rattle.wtf_image.specs.Seeds.{Adds, dir_seed, dir_seed_by};
-ghost use Rattle.wtf_image.specs.Tables.{names_in};
+ghost use Rattle.wtf_image.specs.Tables.{table_names};
 
 use std::alloc::Global;
 use std::collections::BTreeMap;
@@ -27,7 +27,7 @@ pub(crate) fn directories(
     alloc: Global,
     paths: &[PathRecord],
 ) -> Result<BTreeMap<Path, NameSet>, OutOfMemory>
-    ensures { IfOk result (λ dirs. (d : List ℕ) → names_in dirs.entries d ≡ names_under d paths.now) }
+    ensures { IfOk result (λ dirs. (d : List ℕ) → table_names dirs.entries d ≡ names_under d paths.now) }
 {
     let mut dirs = BTreeMap::new(alloc);
     for record in paths {
@@ -42,8 +42,8 @@ fn add_name(
     dirs: &mut BTreeMap<Path, NameSet>,
     path: &Path,
 ) -> Result<(), OutOfMemory>
-    ensures { OnOk result ((d : List ℕ) → names_in dirs.new.entries d ≡
-        added_name d path.now (names_in dirs.old.entries d)) }
+    ensures { OnOk result ((d : List ℕ) → table_names dirs.new.entries d ≡
+        added_name d path.now (table_names dirs.old.entries d)) }
 {
     let Some(parent) = path.parent() else {
         return Ok(());
@@ -63,9 +63,9 @@ fn add_in(
     dir: Path,
     name: Name,
 ) -> Result<(), OutOfMemory>
-    ensures { OnOk result ((d : List ℕ) → names_in dirs.new.entries d ≡
-        cond (is_at (slice_cmp nat_cmp dir) d) (with_name (names_in dirs.old.entries d) name)
-        (names_in dirs.old.entries d)) }
+    ensures { OnOk result ((d : List ℕ) → table_names dirs.new.entries d ≡
+        cond (is_at (slice_cmp nat_cmp dir) d) (with_name (table_names dirs.old.entries d) name)
+        (table_names dirs.old.entries d)) }
 {
     if let Some(names) = dirs.get_mut(&dir) {
         return names.add(name);
@@ -82,7 +82,7 @@ fn names_of(
     dirs: &BTreeMap<Path, NameSet>,
     dir: &Path,
 ) -> Result<NameSet, OutOfMemory>
-    ensures { IfOk result (λ s. s ≡ names_in dirs.now.entries dir.now) }
+    ensures { IfOk result (λ s. s ≡ table_names dirs.now.entries dir.now) }
 {
     match dirs.get(dir) {
         Some(names) => return names.copy(),
@@ -100,7 +100,7 @@ pub(crate) fn seed_dirs(
     requires pins { kv.old.pins ≡ [] }
     requires ascend { ascends path_before paths.now ≡ true }
     requires fresh { (p : List ℕ) → versions_of key_cmp kv.old (keys.Dir p) ≡ [] }
-    requires dirs { (d : List ℕ) → names_in dirs.now.entries d ≡ names_under d paths.now }
+    requires dirs { (d : List ℕ) → table_names dirs.now.entries d ≡ names_under d paths.now }
     ensures { OnOk result (Adds kv.old kv.new (flat_map (dir_seed paths.now) paths.now)) }
 {
     for entry in paths {
@@ -119,7 +119,7 @@ fn seed_dir(
     requires pins { kv.old.pins ≡ [] }
     requires fresh { versions_of key_cmp kv.old (keys.Dir entry.now.path) ≡ [] }
     ensures { OnOk result (Adds kv.old kv.new
-        (dir_seed_by (names_in dirs.now.entries entry.now.path) entry.now.path entry.now.node)) }
+        (dir_seed_by (table_names dirs.now.entries entry.now.path) entry.now.path entry.now.node)) }
 {
     match entry.node {
         Node::File(_) => return Ok(()),

@@ -1,7 +1,7 @@
 //! Bytes, read as the image that has them for its text.
 
 ghost use Rattle.std.specs.Prelude.{◌≡◌, IfOk, IfErr};
-ghost use Rattle.wtf_imagefmt.specs.Rows.{rows_of};
+ghost use Rattle.wtf_imagefmt.specs.Rows.{image_rows};
 ghost use Rattle.wtf_image.specs.Images.{HasText, IsNoneOr, no_image_by};
 
 use crate::LoadError;
@@ -11,7 +11,7 @@ use wtf_spillfmt::ListError;
 
 /// The image whose text the bytes are.
 pub(crate) fn parse(alloc: Global, bytes: &[u8]) -> Result<Image, LoadError>
-    ensures image { IfOk result (λ image. HasText (rows_of image) bytes.now) }
+    ensures image { IfOk result (λ image. HasText (image_rows image) bytes.now) }
     ensures cause { IfErr result (IsNoneOr bytes.now) }
 {
     match image_of(alloc, bytes) {

@@ -2,7 +2,7 @@
 
 ghost use Rattle.std.specs.Prelude.{◌≡◌, ◌<◌, IfSome, IfNone};
 ghost use Rattle.std.specs.List.{list_all};
-ghost use Rattle.wtf_imagefmt.specs.Rows.{file_rows, rows_of};
+ghost use Rattle.wtf_imagefmt.specs.Rows.{file_rows, image_rows};
 ghost use Rattle.wtf_image.specs.Rules.{AreGoodSettings, is_before, is_node_before};
 ghost use Rattle.wtf_image.specs.Loading.{AreSettingsOf};
 
@@ -12,9 +12,9 @@ use wtf_values::Node;
 
 /// The settings of an image; none where a rule of settings and numbers is broken.
 pub(crate) fn good_settings(image: &Image) -> Option<Settings>
-    ensures good { IfSome result (λ s. AreGoodSettings (rows_of image.now)) }
-    ensures settings { IfSome result (AreSettingsOf (rows_of image.now)) }
-    ensures bad { IfNone result (AreGoodSettings (rows_of image.now) → ⊥) }
+    ensures good { IfSome result (λ s. AreGoodSettings (image_rows image.now)) }
+    ensures settings { IfSome result (AreSettingsOf (image_rows image.now)) }
+    ensures bad { IfNone result (AreGoodSettings (image_rows image.now) → ⊥) }
 {
     let header = image.header;
     let settings = Settings::new(header.servers, header.replicas, header.region)?;

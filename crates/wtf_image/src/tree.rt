@@ -5,7 +5,7 @@ ghost use Rattle.std.specs.List.{list_all, list_any};
 ghost use Rattle.wtf_base.specs.declared.ids.InodeId.{InodeId};
 ghost use Rattle.wtf_path.specs.Grammar.{IsPath};
 ghost use Rattle.wtf_values.specs.declared.key.Key.TheVariants as keys;
-ghost use Rattle.wtf_imagefmt.specs.Rows.{region_rows, file_row, file_rows, rows_of};
+ghost use Rattle.wtf_imagefmt.specs.Rows.{region_rows, file_row, file_rows, image_rows};
 ghost use Rattle.wtf_image.specs.Rules.{is_name_of, is_good_region, is_last, is_good_file, IsGoodTree};
 ghost use Rattle.wtf_image.specs.Tables.{count_in, shown, ShowsRows, is_shown_folder, has_shown_parent, is_shown_node};
 
@@ -25,8 +25,8 @@ pub(crate) fn is_tree(
     image: &Image,
 ) -> Result<bool, OutOfMemory>
     requires { ShowsRows (shown kv.now) image.now.paths.items (file_rows image.now.files.items) }
-    ensures { IfOk result (λ b. MatchBool b (IsGoodTree (rows_of image.now))
-        (IsGoodTree (rows_of image.now) → ⊥)) }
+    ensures { IfOk result (λ b. MatchBool b (IsGoodTree (image_rows image.now))
+        (IsGoodTree (image_rows image.now) → ⊥)) }
 {
     let paths = image.paths.as_slice();
     let files = image.files.as_slice();

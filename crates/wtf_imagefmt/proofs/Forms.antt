@@ -22,7 +22,7 @@ use Rattle.wtf_imagefmt.specs.declared.records.PathRecord.{PathRecord}
 use Rattle.wtf_imagefmt.specs.Rows.{BaseRow, EntryRow, ValueRow, RegionRow, FileRow, ImageRows}
 use Rattle.wtf_imagefmt.specs.Texts.{base_text, value_text, region_text, regions_text, inode_text, file_text, files_text, node_text, name_text, path_text, paths_text, magic, header_text, image_text}
 use Rattle.wtf_imagefmt.specs.Shapes.{ascends, path_before, file_before, region_before, IsBase, IsValue, IsRegion, IsInode, IsFileRow, IsNode, IsPathRow, IsHeader, ArePaths, AreFiles, IsImage}
-use Rattle.wtf_imagefmt.specs.Reading.{make_value, value_at, make_region, region_at, make_inode, inode_at, make_file, file_at, node_at, is_path, name_at, make_path, path_at, paths_at, files_at, is_magic, magic_at, make_header, header_at, make_image, image_at, image_of}
+use Rattle.wtf_imagefmt.specs.Reading.{make_value, value_at, make_region, region_at, make_inode, inode_at, make_file, file_at, node_at, is_path, name_at, make_path, path_at, path_records_at, files_at, is_magic, magic_at, make_header, header_at, make_image, image_at, image_of}
 use Rattle.wtf_imagefmt.proofs.BaseForms.{base_codec}
 
 -- ---- regions
@@ -156,8 +156,8 @@ pub path_codec : Codec path_text IsPathRow path_at
 unfolding path_at
 path_codec = codec_as path_made (codec_then name_codec (λ p f. node_codec))
 
-pub paths_codec : Codec paths_text ArePaths paths_at
-unfolding paths_text paths_at
+pub paths_codec : Codec paths_text ArePaths path_records_at
+unfolding paths_text path_records_at
 paths_codec = codec_form
     (λ rs form. record { count = form.0.0; each = form.0.1; ascend = form.1 })
     (λ rs form. ((form.count, form.each), form.ascend))

@@ -79,8 +79,8 @@ make_path x = record { path = x.0; node = x.1 }
 unfoldable pub path_at : Reader PathRecord
 path_at = as_at make_path (then_at name_at (λ name. node_at))
 
-unfoldable pub paths_at : Reader (List PathRecord)
-paths_at = only_at (ascends path_before) (counted_at w32 path_at)
+unfoldable pub path_records_at : Reader (List PathRecord)
+path_records_at = only_at (ascends path_before) (counted_at w32 path_at)
 
 unfoldable pub files_at : Reader (List FileRow)
 files_at = only_at (ascends file_before) (counted_at w32 file_at)
@@ -101,7 +101,7 @@ abbrev pub make_image : List ℕ × (Header × (List PathRecord × List FileRow)
 make_image x = record { header = x.1.0; paths = x.1.1.0; files = x.1.1.1 }
 
 unfoldable pub image_at : Reader ImageRows
-image_at = as_at make_image (then_at magic_at (λ m. then_at header_at (λ h. then_at paths_at (λ ps. files_at))))
+image_at = as_at make_image (then_at magic_at (λ m. then_at header_at (λ h. then_at path_records_at (λ ps. files_at))))
 
 -- all of the bytes
 unfoldable pub image_of : List ℕ → Option ImageRows

@@ -66,5 +66,5 @@ file_row f = record { inode = f.inode; last = f.last; regions = region_rows f.re
 abbrev pub file_rows : List FileRecord → List FileRow
 file_rows fs = map file_row fs
 
-abbrev pub rows_of : Image → ImageRows
-rows_of x = record { header = x.header; paths = x.paths.items; files = file_rows x.files.items }
+abbrev pub image_rows : Image → ImageRows
+image_rows x = record { header = x.header; paths = x.paths.items; files = file_rows x.files.items }

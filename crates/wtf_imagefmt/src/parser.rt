@@ -7,9 +7,9 @@ ghost use Rattle.wtf_path.specs.Refusals.{number_of as path_number};
 ghost use Rattle.wtf_spillfmt.specs.Gives.{Gives};
 ghost use Rattle.wtf_overlay.specs.Reading.{many_at, text_at};
 ghost use Rattle.wtf_values.specs.Bases.{IsBelow};
-ghost use Rattle.wtf_imagefmt.specs.Rows.{spill_row, base_row, value_row, region_row, region_rows, file_row, file_rows, rows_of};
+ghost use Rattle.wtf_imagefmt.specs.Rows.{spill_row, base_row, value_row, region_row, region_rows, file_row, file_rows, image_rows};
 ghost use Rattle.wtf_imagefmt.specs.Texts.{magic};
-ghost use Rattle.wtf_imagefmt.specs.Reading.{spill_at, base_at, value_at, region_at, inode_at, file_at, node_at, name_at, path_by, path_at, paths_at, files_at, magic_at, header_at, image_of};
+ghost use Rattle.wtf_imagefmt.specs.Reading.{spill_at, base_at, value_at, region_at, inode_at, file_at, node_at, name_at, path_by, path_at, path_records_at, files_at, magic_at, header_at, image_of};
 
 use crate::order::{files_ascend, paths_ascend, regions_ascend};
 use crate::reader::{list_of, u16_at};
@@ -248,9 +248,9 @@ fn some_paths_of(
 }
 
 /// The paths, which ascend, behind their number.
-#[tactic(auto, unfolding(crate::specs::Reading::paths_at))]
+#[tactic(auto, unfolding(crate::specs::Reading::path_records_at))]
 fn paths_of(alloc: Global, bytes: &[u8]) -> Result<(Vec<PathRecord>, &[u8]), ListError>
-    ensures { Gives (λ x. (x.0.items, x.1.now)) result (paths_at bytes.now) }
+    ensures { Gives (λ x. (x.0.items, x.1.now)) result (path_records_at bytes.now) }
 {
     let (count, rest) = u32_at(bytes)?;
     let (paths, rest) = some_paths_of(alloc, count, rest)?;
@@ -295,7 +295,7 @@ fn header_of(bytes: &[u8]) -> Result<(Header, &[u8]), ListError>
 /// An image, with no byte behind it.
 #[tactic(auto, unfolding(crate::specs::Reading::image_of, crate::specs::Reading::image_at))]
 pub fn image_of(alloc: Global, bytes: &[u8]) -> Result<Image, ListError>
-    ensures { Gives rows_of result (image_of bytes.now) }
+    ensures { Gives image_rows result (image_of bytes.now) }
 {
     let rest = magic_of(bytes)?;
     let (header, rest) = header_of(rest)?;

@@ -9,7 +9,7 @@ ghost use Rattle.wtf_overlay.specs.Texts.{entries_text};
 ghost use Rattle.wtf_overlay.specs.Shapes.{AreEntries};
 ghost use Rattle.wtf_spillfmt.specs.Writing.{Writes};
 ghost use Rattle.wtf_values.specs.Bases.{IsBelow};
-ghost use Rattle.wtf_imagefmt.specs.Rows.{entry_rows, spill_row, base_row, value_row, region_row, region_rows, file_row, file_rows, rows_of};
+ghost use Rattle.wtf_imagefmt.specs.Rows.{entry_rows, spill_row, base_row, value_row, region_row, region_rows, file_row, file_rows, image_rows};
 ghost use Rattle.wtf_imagefmt.specs.Texts.{spill_text, base_text, value_text, region_text, regions_text, inode_text, file_text, files_text, node_text, name_text, path_text, paths_text, header_text, image_text};
 ghost use Rattle.wtf_imagefmt.specs.Shapes.{IsSpill, IsBase, IsValue, IsRegion, IsInode, IsNode, IsPathRow, IsHeader};
 ghost use Rattle.wtf_imagefmt.specs.Writing.{AreRegions, IsWideFile, AreWideFiles, AreWidePaths, IsWide};
@@ -218,8 +218,8 @@ fn put_header(out: &mut Vec<u8>, header: Header) -> Result<(), OutOfMemory>
 /// The text of an image. Where there are too many records to be counted it answers want of memory.
 #[tactic(auto, unfolding(crate::specs::Texts::image_text))]
 pub fn write(alloc: Global, image: &Image) -> Result<Vec<u8>, OutOfMemory>
-    ensures text { IfOk result (λ v. v.items ≡ image_text (rows_of image.now)) }
-    ensures wide { OnOk result (IsWide (rows_of image.now)) }
+    ensures text { IfOk result (λ v. v.items ≡ image_text (image_rows image.now)) }
+    ensures wide { OnOk result (IsWide (image_rows image.now)) }
 {
     let mut out = Vec::new(alloc);
     out.extend_from_slice(b"WTFIMG01")?;

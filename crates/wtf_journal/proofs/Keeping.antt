@@ -11,7 +11,7 @@ use Rattle.wtf_overlay.specs.Reading.{◌>>=◌}
 use Rattle.wtf_changes.specs.Applying.{IsSomeImage}
 use Rattle.wtf_imagefmt.specs.declared.records.Image.{Image}
 use Rattle.wtf_imagefmt.specs.Reading.{image_of}
-use Rattle.wtf_imagefmt.specs.Rows.{rows_of}
+use Rattle.wtf_imagefmt.specs.Rows.{image_rows}
 use Rattle.wtf_spillfmt.specs.declared.error.ListError.{ListError}
 use Rattle.wtf_spillfmt.specs.Gives.{Gives}
 use Rattle.wtf_spillfmt.proofs.Codecs.{IsBytes}
@@ -84,8 +84,8 @@ held_same true false x y is same = absurd (cc is)
 held_same false true x y is same = absurd (cc is)
 
 -- bytes that are read as an image are one
-pub read_image : (r : Result Image ListError) (bytes : List ℕ) → IsBytes bytes → Gives rows_of r (image_of bytes) → is_ok r ≡ true → IsSomeImage bytes
-read_image (Ok x) bytes fits reads is = record { rows = rows_of x; text = text_as bytes (rows_of x) fits reads }
+pub read_image : (r : Result Image ListError) (bytes : List ℕ) → IsBytes bytes → Gives image_rows r (image_of bytes) → is_ok r ≡ true → IsSomeImage bytes
+read_image (Ok x) bytes fits reads is = record { rows = image_rows x; text = text_as bytes (image_rows x) fits reads }
 read_image (Err why) bytes fits reads is = absurd (cc is)
 
 -- `replace` did not come to an append

@@ -1,28 +1,14 @@
 -- What opening a journal leaves at each moment.
-use Rattle.std.proofs.Common.{◌≡◌, ◌≤◌, ℕ, true, List, [], ◌∷◌, length, drop, inl, inr, refl, subst, arith}
+use Rattle.std.proofs.Common.{◌≡◌, ◌≤◌, ℕ, true, List, [], ◌∷◌, length, inl, inr, refl, subst, arith}
 use Rattle.std.specs.Prelude.{Result}
 use Rattle.wtf_dev.specs.Disk.{DiskFileView, DiskKind, DiskLaws, DiskLeaves, DiskReads, DiskSyncs, IsFileImage, IsSettled, MayLeave}
-use Rattle.wtf_journal.specs.Moments.{stays, joins, weaker, in_call}
+use Rattle.wtf_journal.specs.Moments.{joins, weaker, in_call}
 use Rattle.wtf_journal.specs.Through.{TornFrom, WritesWithin}
 use Rattle.wtf_journal.specs.Scan.{BodyMakes, KeepsJournal, KeepsMeaning, ReadsTo, OpensTo}
 use Rattle.wtf_journal.proofs.Images.{SyncEnds, settled_image, sync_narrows}
 use Rattle.wtf_journal.proofs.Scans.{none_short, means_one, keeps_meaning}
 
-pub drop_short : (s : List ℕ) → length s ≤ 1 → drop 1 s ≡ []
-drop_short [] le = refl
-drop_short (x ∷ []) le = refl
-drop_short (x ∷ y ∷ s) le = absurd (omega (arith, le))
-
 module _ {D : Type 0} (kind : DiskKind D) where
-  -- a read that was not made
-  pub reads_none : (d : D) → DiskReads kind d d
-  reads_none d = record {
-    goes_on = record { faults = omega arith; size = λ f. omega arith; tells = refl };
-    sizes = λ f. refl;
-    files = λ tells f. refl;
-    time = λ tells. record { leaves = stays kind d (MayLeave (kind.view d)); keeps = λ t c le left. left };
-  }
-
   module _ (laws : DiskLaws kind) (a b : D) (tells : (kind.view a).tells ≡ true) where
     -- the sync
     pub sync_keeps : {T E : Type 0} (r : Result T E) → DiskSyncs kind 0 a b → SyncEnds r ((kind.view a).file 0) ((kind.view b).file 0)

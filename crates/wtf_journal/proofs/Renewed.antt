@@ -1,7 +1,7 @@
 -- What opening a journal of an image and changes leaves at each moment, and what it gives.
 use Rattle.std.proofs.Common.{◌≡◌, ◌⊎◌, ◌∙◌, ◌++◌, ℕ, Bool, List, true, false, None, Some, ⊎_elim, refl, sym, ap, subst}
 use Rattle.wtf_dev.specs.Disk.{DiskKind, DiskLaws, DiskLeaves}
-use Rattle.wtf_journal.specs.Held.{Held, HeldView, IsOpened, IsTextOf, ends_in_changes, held_by, nothing_held, renewal, view_by}
+use Rattle.wtf_journal.specs.Held.{Held, HeldView, IsJournalOpened, IsTextOf, ends_in_changes, held_by, nothing_held, renewal, view_by}
 use Rattle.wtf_journal.specs.Moments.{joins, weaker}
 use Rattle.wtf_journal.specs.Records.{HasBodies, RestsAt}
 use Rattle.wtf_journal.specs.Scan.{IsBadAt, JournalGives, KeepsMeaning, OpensTo, held_after}
@@ -72,7 +72,7 @@ module _ (start : HeldView) (nothing : start ≡ nothing_held) where
 
       pub is_opened : (new : D) (end_now : ℕ)
           → ((bodies : List (List ℕ)) → (kind.view mid).tells ≡ true → RestsAt kind mid end bodies → RestsAt kind new end_now (bodies ++ renewal behind given))
-          → IsOpened kind old new end_now image
+          → IsJournalOpened kind old new end_now image
       is_opened new end_now rests =
           let last : v.behind ≡ ends_in_changes false seen.bodies =
           behind_after nothing_held v opens.bodies opens.held_is ∙ ap (λ (bs : List (List ℕ)). ends_in_changes false bs) (sym bodies_seen) in

@@ -1,8 +1,8 @@
 -- Reading the records of a journal one by one.
-use Rattle.std.proofs.Common.{◌≡◌, ◌≢◌, ◌⊎◌, ◌<◌, ◌≤◌, ◌-◌, ◌^◌, ◌∙◌, ℕ, List, [], ◌∷◌, ◌++◌, length, get_or, take, drop, inl, inr, ⊎_elim, refl, sym, ap, subst, arith, append_assoc, length-append, length-take, take-append-drop}
+use Rattle.std.proofs.Common.{◌≡◌, ◌≢◌, ◌⊎◌, ◌<◌, ◌≤◌, ◌-◌, ◌^◌, ◌∙◌, ℕ, List, [], ◌∷◌, ◌++◌, length, get_or, take, drop, inl, inr, ⊎_elim, refl, sym, ap, subst, arith, append_assoc, length-append}
 use Rattle.std.specs.Prelude.{Option, None, Some, Result, Ok, Err, IsErrOf}
 use Rattle.std.specs.Int.{w64, to_be_bytes, from_be_bytes}
-use Rattle.std.proofs.lemmas.Nat.{be_bytes_8, from_be_bytes-to_be_bytes_8}
+use Rattle.std.proofs.lemmas.Nat.{from_be_bytes-to_be_bytes_8}
 use Rattle.std.proofs.lemmas.List.{take_at, drop_at}
 use Rattle.std.proofs.lemmas.List.Elements.{All-nil, All-head, All-tail}
 use Rattle.wtf_dev.specs.Disk.{DiskContent, DiskView}
@@ -201,39 +201,8 @@ module _ {M : Type 0} (makes : BodyMakes M) where
       (ap (λ (l : List ℕ). held_after makes (make_on makes o l) qs) first.0 ∙ hy) bad
 
   pub read_exact : (start : M) (c : List ℕ) (end n : ℕ) (held : M) → ReadsTo makes start c end held → IsBadAt makes start c n → ⊥
-  read_exact start c end n held r b =
-      not_bad r.bodies b.bodies (Some start) held b.held r.ends.gate r.ends.rest b.rest r.ends.short b.short r.ends.closed
+  read_exact start c end n held r b = not_bad r.bodies b.bodies (Some start) held b.held r.ends.gate r.ends.rest b.rest r.ends.short b.short r.ends.closed
       (sym r.ends.split ∙ b.split) r.held_is b.held_is b.bad
-
--- the numbers of the code: what it reads ps the length of a body
-pub front_is : (bytes front rest : List ℕ) (len : ℕ) → ((i : ℕ) → get_or front i 0 < 256) → length front ≡ 8 → len ≡ from_be_bytes w64 front
-    → bytes ≡ front ++ rest → len ≤ length rest
-    → bytes ≡ framed (take len rest) ++ drop len rest
-front_is bytes front rest len small eight is split le =
-    let size : length (take len rest) ≡ len = omega (arith, length-take len rest, le) in
-    split
-    ∙ ap (λ (l : List ℕ). front ++ l) (sym (take-append-drop len rest))
-    ∙ sym (append_assoc front (take len rest) (drop len rest))
-    ∙ ap (λ (l : List ℕ). (l ++ take len rest) ++ drop len rest) (sym (be_bytes_8 front len eight small is) ∙ ap (λ (n : ℕ). to_be_bytes w64 n) (sym size))
-
-pub cut_long : (bytes front rest : List ℕ) (len : ℕ) → length front ≡ 8 → len ≡ from_be_bytes w64 front → bytes ≡ front ++ rest → length rest ≤ len
-    → EndsInside bytes
-cut_long bytes front rest len eight is split long body more short reads =
-    let both : front ++ rest ≡ to_be_bytes w64 (length body) ++ (body ++ more) = sym split ∙ reads ∙ append_assoc (to_be_bytes w64 (length body)) body more in
-    let same : front ≡ to_be_bytes w64 (length body) = sym (take_at front rest 8 eight) ∙ ap (λ (l : List ℕ). take 8 l) both
-    ∙ take_at (to_be_bytes w64 (length body)) (body ++ more) 8 refl in
-    let back : rest ≡ body ++ more = sym (drop_at front rest 8 eight) ∙ ap (λ (l : List ℕ). drop 8 l) both
-    ∙ drop_at (to_be_bytes w64 (length body)) (body ++ more) 8 refl in
-    let number : len ≡ length body = is ∙ ap (λ (l : List ℕ). from_be_bytes w64 l) same ∙ from_be_bytes-to_be_bytes_8 (length body) short in
-    none more (omega (arith, long, number, ap length back, length-append body more))
-  where
-    none : (more : List ℕ) → length more ≡ 0 → more ≡ []
-    none [] e = refl
-    none (x ∷ more) e = absurd (omega (arith, e))
-
-pub cut_short : (bytes : List ℕ) → length bytes < 8 → EndsInside bytes
-cut_short bytes few body more short reads =
-    absurd (omega (arith, few, ap length reads, length-append (framed body) more, length-append (to_be_bytes w64 (length body)) body))
 
 abbrev err_part : {T E : Type 0} → E → Result T E → E
 err_part d (Ok x) = d

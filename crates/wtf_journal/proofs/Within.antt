@@ -125,15 +125,11 @@ pub record ZeroedTo {D : Type 0} (kind : DiskKind D) (file at done : ℕ) (old n
   pub zeros : (kind.view old).tells ≡ true → (i : ℕ) → at ≤ i → i < at + done → slice_get ((kind.view new).file file).seen i ≡ Some 0
 
 module _ {D : Type 0} (kind : DiskKind D) (file at : ℕ) where
-  pub zeroed_none : (d : D) → ZeroedTo kind file at 0 d d
-  zeroed_none d = record { within = within_none kind file at d; zeros = λ tells i low high. absurd (omega (arith, low, high)) }
-
   -- a piece of them that failed, in a range that is longer
   pub within_failed : (done n len : ℕ) (a b c : D) → n ≤ 4096 → done + n ≤ len → ZeroedTo kind file at done a b
       → DiskWrites kind file (at + done) (length (zero_piece n)) b c
       → WritesWithin kind file at len a c
-  within_failed done n len a b c few le z wrote =
-      within_wider kind file at (done + n) len a c le
+  within_failed done n len a b c few le z wrote = within_wider kind file at (done + n) len a c le
       (within_more kind file at done n a b c z.within (subst (λ (m : ℕ). DiskWrites kind file (at + done) m b c) (piece_length n few) wrote))
 
   -- a piece more

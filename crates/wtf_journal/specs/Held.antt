@@ -97,7 +97,7 @@ abbrev pub renewal : Bool → List ℕ → List (List ℕ)
 renewal behind image = if behind then (0 ∷ image) ∷ [] else []
 
 -- What opening a journal gives: the image that its records give, and where the last of them are changes, a record of it behind them.
-pub record IsOpened {D : Type 0} (kind : DiskKind D) (old new : D) (end : ℕ) (image : List ℕ) : Type 0 where
+pub record IsJournalOpened {D : Type 0} (kind : DiskKind D) (old new : D) (end : ℕ) (image : List ℕ) : Type 0 where
   pub bodies : List (List ℕ)
   pub has : HasBodies bodies ((kind.view old).file 0).seen
   pub held : Held

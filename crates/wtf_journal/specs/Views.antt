@@ -15,12 +15,12 @@ abbrev pub kind_of : Record → ℕ
 kind_of (Image bytes) = 0
 kind_of (Changes bytes) = 1
 
-abbrev pub bytes_in : Record → List ℕ
-bytes_in (Image bytes) = bytes.now
-bytes_in (Changes bytes) = bytes.now
+abbrev pub record_bytes : Record → List ℕ
+record_bytes (Image bytes) = bytes.now
+record_bytes (Changes bytes) = bytes.now
 
 abbrev pub body_of : Record → List ℕ
-body_of body = kind_of body ∷ bytes_in body
+body_of body = kind_of body ∷ record_bytes body
 
 -- where the last image lies behind a record that was added at `end`
 abbrev pub image_at_by : ℕ → ℕ → Record → ℕ
@@ -34,7 +34,7 @@ image_len_by before (Changes bytes) = before
 -- a journal behind a record
 abbrev pub appended : JournalView → Record → JournalView
 appended j body = record {
-  end = j.end + 10 + length (bytes_in body);
+  end = j.end + 10 + length (record_bytes body);
   failed = false;
   image_at = image_at_by j.end j.image_at body;
   image_len = image_len_by j.image_len body;

@@ -2,7 +2,7 @@
 
 ghost use Rattle.std.specs.Prelude.{◌≡◌, ◌++◌, ◌<◌, ◌^◌, ◌∷◌, [], length, IfOk};
 ghost use Rattle.wtf_journal.specs.Records.{framed};
-ghost use Rattle.wtf_journal.specs.Views.{body_of, bytes_in, kind_of};
+ghost use Rattle.wtf_journal.specs.Views.{body_of, record_bytes, kind_of};
 
 use std::alloc::{AllocError, Global};
 
@@ -22,7 +22,7 @@ pub enum Record<'a> {
 
 // What stands before its bytes, and these.
 fn parts<'a>(body: Record<'a>) -> (u8, &'a [u8])
-    ensures { (result.0 ≡ kind_of body.entry) × (result.1.now ≡ bytes_in body.entry) }
+    ensures { (result.0 ≡ kind_of body.entry) × (result.1.now ≡ record_bytes body.entry) }
 {
     match body {
         Record::Image(bytes) => (IMAGE, bytes),

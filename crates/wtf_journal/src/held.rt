@@ -6,7 +6,7 @@ ghost use Rattle.wtf_imagefmt.specs.Reading.{image_of};
 ghost use Rattle.wtf_imagefmt.specs.Rows.{ImageRows};
 ghost use Rattle.wtf_changes.specs.Applying.{IsSomeImage};
 ghost use Rattle.wtf_changes.specs.Drafts.{taken, written};
-ghost use Rattle.wtf_changes.specs.Rows.{rows_of};
+ghost use Rattle.wtf_changes.specs.Rows.{change_rows};
 ghost use Rattle.wtf_journal.specs.Held.{DrawsHeld, IsKeptAs, IsMadeBy, IsTextOf, changed_by, held_by, image_by, is_changes, made_in, nothing_held, rows_shown, view_by};
 
 use crate::Meaning;
@@ -189,8 +189,8 @@ fn drawn(alloc: Global, image: &[u8]) -> Result<Draft, OutOfMemory>
 // An image with changes made in it, if it can have them.
 fn make(alloc: Global, draft: Draft, changes: &Changes) -> Result<Option<Shown>, OutOfMemory>
     ensures { (x : ImageRows) → draft ≡ taken x → IfOk result (λ o. MatchOption o
-        (made_in x (rows_of changes.now) ≡ None)
-        (IsMadeBy (made_in x (rows_of changes.now)) true)) }
+        (made_in x (change_rows changes.now) ≡ None)
+        (IsMadeBy (made_in x (change_rows changes.now)) true)) }
 {
     let mut draft = draft;
     match draft.change(alloc, changes) {

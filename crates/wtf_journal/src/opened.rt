@@ -3,7 +3,7 @@
 ghost use Rattle.std.specs.Prelude.{◌≡◌, ◌⊎◌, ◌<◌, ◌∷◌, ◌++◌, ℕ, List, None, true, false, length, IfOk, OnOk, IsErrOf};
 ghost use Rattle.wtf_dev.specs.Counts.{Rose};
 ghost use Rattle.wtf_dev.specs.Disk.{DiskGoesOn, DiskLeaves, SameElsewhere};
-ghost use Rattle.wtf_journal.specs.Held.{IsOpened, held_by, renewal};
+ghost use Rattle.wtf_journal.specs.Held.{IsJournalOpened, held_by, renewal};
 ghost use Rattle.wtf_journal.specs.Records.{HasBodies, RestsAt};
 ghost use Rattle.wtf_journal.specs.Scan.{IsBadAt, KeepsMeaning};
 ghost use Rattle.wtf_journal.specs.Views.{noted};
@@ -26,7 +26,7 @@ impl Journal {
     /// for before.
     pub fn open<D: Disk>(alloc: Global, disk: &mut D) -> Result<Opened, JournalFault>
         ensures opened { IfOk result (λ o. (D.kind.view disk.old).tells ≡ true →
-            IsOpened D.kind disk.old disk.new o.journal.end o.image.items) }
+            IsJournalOpened D.kind disk.old disk.new o.journal.end o.image.items) }
 
         // The image lies at the end of the last record.
         ensures image { IfOk result (λ o. o.journal ≡ noted o.journal (length o.image.items)) }

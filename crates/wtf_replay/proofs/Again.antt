@@ -16,7 +16,7 @@ use Rattle.wtf_region.specs.declared.dev.Dev.{Dev}
 use Rattle.wtf_region.specs.Devs.{GoesOn, told_in}
 use Rattle.wtf_replay.specs.Views.{TxnView, hand_of}
 use Rattle.wtf_replay.specs.Insides.{HandBytes, TxnBytes}
-use Rattle.wtf_replay.specs.Sounds.{tells_slice, caller_at, IsSound, IsToldStep, IsDue, TellsMap, TellsHand, IsAwayTxn}
+use Rattle.wtf_replay.specs.Sounds.{tells_slice, caller_at, LogStands, IsToldStep, IsDue, TellsMap, TellsHand, IsAwayTxn}
 use Rattle.wtf_replay.specs.Replays.{DeviatesOn}
 use Rattle.wtf_replay.proofs.Sounding.{element, sound_later, sound_replayed}
 use Rattle.wtf_replay.proofs.Deviating.{deviates}
@@ -33,7 +33,7 @@ pub record Next (told : Told) (x : TxnView) (ops : List (Op (List ℕ))) : Type 
 
 -- stores that tell the map at the base tell what a transaction sees, and has in hand
 pub tells_hand : {S : Type 0} (kind : StoreKind S) (dev : Dev S) (ranges : List (ℕ × Range)) (kv : Store Key Value) (x : TxnView) (ops : List (Op (List ℕ)))
-    → IsSound dev.settings.region kv (told_in kind dev) x ops
+    → LogStands dev.settings.region kv (told_in kind dev) x ops
     → TellsMap kind dev ranges (metadata_at kv x.at.base) → IsAwayTxn kind dev ranges kv x → TellsHand kind dev ranges (seen kv x.at) x.session
 tells_hand kind dev ranges kv x ops sound tells away =
     let known = sound_known kind dev ranges kv x ops sound tells away in
@@ -43,7 +43,7 @@ tells_hand kind dev ranges kv x ops sound tells away =
 
 module _ {S : Type 0} {kind : StoreKind S} (laws : KindLaws kind) {before after : Dev S} (goes : GoesOn kind before after []) (ranges : List (ℕ × Range))
     (kv : Store Key Value) (x : TxnView) (ops : List (Op (List ℕ)))
-    (sound : IsSound before.settings.region kv (told_in kind before) x ops) (tells : TellsMap kind before ranges (metadata_at kv x.at.base))
+    (sound : LogStands before.settings.region kv (told_in kind before) x ops) (tells : TellsMap kind before ranges (metadata_at kv x.at.base))
     (away : IsAwayTxn kind before ranges kv x) (left : x.replayed < length x.log.ops) where
   abbrev size : ℕ
   size = before.settings.region
@@ -57,7 +57,7 @@ module _ {S : Type 0} {kind : StoreKind S} (laws : KindLaws kind) {before after 
   most : x.replayed ≤ length x.log.ops
   most = omega (arith, left)
 
-  sound_now : IsSound size kv (told_in kind after) x ops
+  sound_now : LogStands size kv (told_in kind after) x ops
   sound_now = sound_later size kv (told_in kind before) (told_in kind after) x ops (tells_on laws goes.each) sound
 
   -- each call that is made once more so
@@ -69,7 +69,7 @@ module _ {S : Type 0} {kind : StoreKind S} (laws : KindLaws kind) {before after 
 
   -- and answers what was shown
   pub again_same : (new : TxnView) (a : Answer) → Steps new a → slice_get x.log.shown x.replayed ≡ Some a → new.tx ≡ x.tx → new.log ≡ x.log
-      → new.replayed ≡ x.replayed + 1 → IsSound size kv (told_in kind after) new ops
+      → new.replayed ≡ x.replayed + 1 → LogStands size kv (told_in kind after) new ops
   again_same new a steps shown tx same_log replayed =
       sound_replayed size kv (told_in kind after) x new ops next.op a next.kept sound_now most
       (steps next.kept next.op next.at_kept (tells_hand kind before ranges kv x ops sound tells away) next.stands)

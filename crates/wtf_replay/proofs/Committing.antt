@@ -33,7 +33,7 @@ use Rattle.wtf_replay.specs.Sounds.{TellsMap}
 use Rattle.wtf_replay.specs.Tried.{KeepsMaps, KeepsVersions, KeepsPins, commit_from}
 use Rattle.wtf_replay.specs.Effects.{scope}
 use Rattle.wtf_replay.specs.Installs.{IsInstall}
-use Rattle.wtf_replay.specs.Verbs.{Turn, turn, StartsNow, FinishOf, CommitOf, IsReady, ended_by, scope_of, region_size, told_before, told_after}
+use Rattle.wtf_replay.specs.Verbs.{Turn, turn, StartsNow, FinishOf, CommitOf, CanCommit, ended_by, scope_of, region_size, told_before, told_after}
 use Rattle.wtf_replay.proofs.Insiding.{map_later, inside_later, txn_kept}
 use Rattle.wtf_replay.proofs.Faulting.{away_along, fault_along, commit_fault_along}
 use Rattle.wtf_replay.proofs.Naming.{named_none, named_by, named_inside}
@@ -76,7 +76,7 @@ may_as t y why tx may tree st =
     may tree (subst (λ (n : ℕ). Stands t.before.settings.region (told_before t) n 0 (metadata_at t.kv t.kv.number) tree) (sym tx) st)
 
 module _ {S : Type 0} (t : Turn S) (laws : KindLaws t.kind) (y : TxnView) (from : commit_from t.kv t.old ≡ y) (starts : Starts t y)
-    (ready : IsReady t.kind t.before t.kv t.old) (below : t.old.at.base ≤ t.kv.number) where
+    (ready : CanCommit t.kind t.before t.kv t.old) (below : t.old.at.base ≤ t.kv.number) where
   -- what was installed is a commit of the transaction, which has ended, or after a fault is as it was
   pub commit_by : (r : Result Answer Fault) → t.new ≡ ended_by t.old r → FinishOf (record t { old = y; new = y }) r → CommitOf t r
   commit_by (Ok a) is f =
@@ -273,7 +273,7 @@ commit_along t kv stays pins (Err why) f =
 
 -- and what it is lent
 pub ready_along : {S : Type 0} (kind : StoreKind S) (dev : Dev S) (kv mid : Store Key Value) (x : TxnView) → Stays key_cmp kv mid → KeepsPins kv mid
-    → x.at.base ≤ kv.number → IsReady kind dev kv x → IsReady kind dev mid x
+    → x.at.base ≤ kv.number → CanCommit kind dev kv x → CanCommit kind dev mid x
 ready_along kind dev kv mid x stays pins below ready =
     let maps : KeepsMaps kv mid = λ n le. stays.maps n in
     record {

@@ -17,7 +17,7 @@ use Rattle.wtf_meta.specs.Contents.{Told}
 use Rattle.wtf_meta.specs.Trees.{Stands}
 use Rattle.wtf_meta.specs.Calls.{cap_for, Ran}
 use Rattle.wtf_replay.specs.Views.{TxnView}
-use Rattle.wtf_replay.specs.Sounds.{tells_slice, caller_at, first_of, IsSound, IsDue}
+use Rattle.wtf_replay.specs.Sounds.{tells_slice, caller_at, first_of, LogStands, IsDue}
 use Rattle.wtf_replay.specs.Replays.{DeviatesOn}
 
 -- the first of the answers are the answers to the first calls
@@ -36,7 +36,7 @@ answers_from-at cap s [] k o is = absurd (cc)
 answers_from-at cap s (p ∷ ops) zero o is = let same : p ≡ o = cc in ap (λ x. Some (call cap s x).answer) same
 answers_from-at cap s (p ∷ ops) (suc k) o is = answers_from-at cap (call cap s p).session ops k o is
 
-module _ (size : ℕ) (kv : Store Key Value) (told : Told) (x : TxnView) (ops : List (Op (List ℕ))) (sound : IsSound size kv told x ops) where
+module _ (size : ℕ) (kv : Store Key Value) (told : Told) (x : TxnView) (ops : List (Op (List ℕ))) (sound : LogStands size kv told x ops) where
   -- on the map at the base the calls that are done are the definitions' run
   pub at_base : (t : Tree) → Stands size told x.tx 0 (metadata_at kv x.at.base) t
       → Ran (caller_at size x.tx 0) told (metadata_at kv x.at.base) (with x.at.changes (metadata_at kv x.at.base)) x.session t (first_of x ops x.replayed)

@@ -44,7 +44,7 @@ use Rattle.wtf_meta.specs.Calls.{InHand}
 use Rattle.wtf_replay.specs.Views.{TxnView, hand_of}
 use Rattle.wtf_replay.specs.Built.{IsOpOf, IsSliceOpOf, IsFresh, IsStored, data_len}
 use Rattle.wtf_replay.specs.Keeps.{LacksData}
-use Rattle.wtf_replay.specs.Looked.{IsHeld, IsLooked}
+use Rattle.wtf_replay.specs.Looked.{HasHandleOf, IsLooked}
 use Rattle.wtf_slicing.specs.Sights.{Sight, sight}
 use Rattle.wtf_replay.specs.Effects.{is_by, is_held, is_file, is_busy, taken_keys, taken_changes, call_keys, CallMakes}
 use Rattle.wtf_replay.specs.Effects.{Acts, CallHolds, kept_len, Scope, sight_at, Redoes, AreRedone}
@@ -71,7 +71,7 @@ some_and : (o : Option Handle) (p : List ℕ) → IsSomeAnd o (λ h. h.path ≡ 
 some_and None p held = absurd held
 some_and (Some h) p held = (h, refl, held)
 
-held_is : (p : List ℕ) (s : SessionView) → IsHeld p s → is_held s p ≡ true
+held_is : (p : List ℕ) (s : SessionView) → HasHandleOf p s → is_held s p ≡ true
 held_is p s held =
     let one = some_and (handle_in s held.0) p held.1 in
     held_among p s.handles held.0 one.0 one.1 one.2

@@ -35,7 +35,7 @@ use Rattle.wtf_region.specs.Devs.{stores, told_in}
 use Rattle.wtf_steps.specs.Faults.{MayStandFor}
 use Rattle.wtf_replay.specs.Views.{TxnView, in_hand, hand_of, replaying}
 use Rattle.wtf_replay.specs.Insides.{lists_have}
-use Rattle.wtf_replay.specs.Sounds.{tells_slice, caller_at, IsSound, TellsMap, IsAwayTxn}
+use Rattle.wtf_replay.specs.Sounds.{tells_slice, caller_at, LogStands, TellsMap, IsAwayTxn}
 use Rattle.wtf_replay.specs.Causes.{IsAgainFault, MayAgainFault, FaultAt, ReplayFault, IsCommitFault, fault_answer, MayFaultAt, MayStepFault, MayEndFault, MayCommitFault}
 use Rattle.wtf_replay.specs.Effects.{scope}
 use Rattle.wtf_replay.specs.Tried.{commit_from}
@@ -91,7 +91,7 @@ module _ (servers : ℕ) (answers : List Answer) (k : ℕ) (d : Answer) (is : sl
       may_at (op.Concat q ps) why (concat_done servers d) (subst (λ r. MayStandFor servers r d why) stands may)
   by_cause kind old new w s P kept o why stands cause may = subst (λ y. MayFaultAt servers answers k (fault_answer y)) (sym cause) tt
 
-pub step_fault : {S : Type 0} (kind : StoreKind S) (old new : Dev S) (kv : Store Key Value) (told : Told) (x : TxnView) (ops : List (Op (List ℕ))) (why : Fault) → IsSound old.settings.region kv told x ops
+pub step_fault : {S : Type 0} (kind : StoreKind S) (old new : Dev S) (kv : Store Key Value) (told : Told) (x : TxnView) (ops : List (Op (List ℕ))) (why : Fault) → LogStands old.settings.region kv told x ops
     → FaultAt kind old new kv (hand_of x) (slice_get x.log.ops x.replayed) why → MayStepFault old.settings (metadata_at kv x.at.base) told x ops why
 step_fault kind old new kv told x ops why sound f t st =
     let size : ℕ = old.settings.region in
@@ -158,12 +158,12 @@ commit_fault_along kind old new kv mid x why stays (inr f) =
 pub replay_fault : {S : Type 0} {kind : StoreKind S} → KindLaws kind
     → (old new : Dev S) (kv : Store Key Value) (x : TxnView) (ops : List (Op (List ℕ))) (why : Fault) (ranges : List (ℕ × Range))
     → TellsMap kind old ranges (metadata_at kv x.at.base) → IsAwayTxn kind old ranges kv x
-    → IsSound old.settings.region kv (byte_at kind (stores old)) x ops → ReplayFault kind old new kv x why → MayCommitFault old.settings (metadata_at kv x.at.base) (byte_at kind (stores old)) x why
+    → LogStands old.settings.region kv (byte_at kind (stores old)) x ops → ReplayFault kind old new kv x why → MayCommitFault old.settings (metadata_at kv x.at.base) (byte_at kind (stores old)) x why
 replay_fault {kind = kind} laws old new kv x ops why ranges tells away sound f t st =
     let y : TxnView = replaying x.tx f.at f.session x.log f.k in
     let told : Told = byte_at kind (stores f.mid) in
     let size : f.mid.settings.region ≡ old.settings.region = ap (λ (s : Settings). s.region) f.goes.settings in
-    let here : IsSound f.mid.settings.region kv told y ops = subst (λ z. IsSound z kv told y ops) (sym size) (f.done ops ranges tells away sound) in
+    let here : LogStands f.mid.settings.region kv told y ops = subst (λ z. LogStands z kv told y ops) (sym size) (f.done ops ranges tells away sound) in
     let later = stands_later old.settings.region (byte_at kind (stores old)) told x.tx 0 (metadata_at kv x.at.base) t (tells_on laws f.goes.each) st in
     let stands : Stands f.mid.settings.region told x.tx 0 (metadata_at kv f.at.base) t =
     subst (λ n. Stands f.mid.settings.region told x.tx 0 (metadata_at kv n) t) (sym f.base) (subst (λ z. Stands z told x.tx 0 (metadata_at kv x.at.base) t) (sym size) later) in

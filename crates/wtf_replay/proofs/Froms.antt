@@ -11,7 +11,7 @@ use Rattle.wtf_values.specs.declared.value.Value.{Value}
 use Rattle.wtf_values.specs.Keys.{key_cmp}
 use Rattle.wtf_values.specs.Outcomes.{outcome_of}
 use Rattle.wtf_meta.specs.Maps.{Map, metadata_at}
-use Rattle.wtf_replay.specs.Views.{TxnView, is_live, rebased}
+use Rattle.wtf_replay.specs.Views.{TxnView, is_txn_live, rebased}
 use Rattle.wtf_replay.specs.Tried.{is_free, stays_at, commit_from}
 
 module _ (kv : Store Key Value) (x : TxnView) where
@@ -67,5 +67,5 @@ module _ (kv mid : Store Key Value) (x : TxnView) (stays : Stays key_cmp kv mid)
   from_along =
       let free : is_free mid x ≡ is_free kv x = ap (λ (k : Option Key). if is_some k then false else true) way_along in
       let here : stays_at mid x ≡ stays_at kv x =
-      ap (λ (b : Bool). if is_live x then b else nat_eq x.at.base mid.number) free ∙ ap (λ (n : ℕ). if is_live x then is_free kv x else nat_eq x.at.base n) stays.same.number in
+      ap (λ (b : Bool). if is_txn_live x then b else nat_eq x.at.base mid.number) free ∙ ap (λ (n : ℕ). if is_txn_live x then is_free kv x else nat_eq x.at.base n) stays.same.number in
       ap (λ (b : Bool). if b then x else rebased x mid.number) here ∙ ap (λ (n : ℕ). if stays_at kv x then x else rebased x n) stays.same.number

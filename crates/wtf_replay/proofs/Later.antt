@@ -36,14 +36,18 @@ node_later : (b : ℕ) (told later : Told) (w : Map) (v : Option Value) (o : Opt
 node_later b told later w None None on map h = h
 node_later b told later w None (Some n) on map h = absurd h
 node_later b told later w (Some (value.Node Folder)) (Some Dir) on map h = h
-node_later b told later w (Some (value.Node (FileNode i))) (Some (File bytes)) on map h =
+node_later b told later w (Some (value.Node (FileNode i))) (Some (File paths bytes)) on map h =
     record {
-      has = h.has;
-      file = h.file;
-      bytes_are = HasBytes-later told later b on (file_of i w) bytes
-          (file_bytes (is_told told) (is_listed b told) i w map) h.bytes_are;
+      body = record {
+        has = h.body.has;
+        file = h.body.file;
+        bytes_are = HasBytes-later told later b on (file_of i w) bytes
+            (file_bytes (is_told told) (is_listed b told) i w map) h.body.bytes_are;
+      };
+      lead = h.lead;
+      all = h.all;
     }
-node_later b told later w (Some (value.Node Folder)) (Some (File bytes)) on map h = absurd h
+node_later b told later w (Some (value.Node Folder)) (Some (File paths bytes)) on map h = absurd h
 node_later b told later w (Some (value.Node (FileNode i))) (Some Dir) on map h = absurd h
 node_later b told later w (Some (value.Node Folder)) None on map h = absurd h
 node_later b told later w (Some (value.Node (FileNode i))) None on map h = absurd h

@@ -16,7 +16,7 @@ use Rattle.wtf_occ.specs.Attempts.{Attempted, GrowsBy}
 use Rattle.wtf_model.specs.Session as model
 use Rattle.wtf_model.specs.Session.{Session}
 use Rattle.wtf_model.specs.Tree.{source, bytes_of, target, ◌>>=◌}
-use Rattle.wtf_model.specs.Done.{Done, done, is_on, is_closed, take_out, move_file}
+use Rattle.wtf_model.specs.Done.{Done, done, is_on, is_closed, drop_path, move_file}
 use Rattle.wtf_model.specs.NameCalls.{unlink, rename}
 use Rattle.wtf_model.specs.Call.{row_of, or_refused}
 use Rattle.wtf_model.specs.Items.{target_reads}
@@ -130,8 +130,8 @@ Takes p o = ⊥
 unlink_busy : (S : Session) (p bytes : List ℕ) → source S.tree p ≡ Ok bytes → is_closed S p ≡ Err Busy → unlink S p ≡ Err Busy
 unfolding unlink
 unlink_busy S p bytes file busy =
-    ap (λ r. r >>= (λ _. is_closed S p >>= (λ _. done (take_out S p) answer.Okay))) file
-    ∙ ap (λ r. r >>= (λ _. done (take_out S p) answer.Okay)) busy
+    ap (λ r. r >>= (λ b. is_closed S p >>= (λ _. done (drop_path S p b) answer.Okay))) file
+    ∙ ap (λ r. r >>= (λ _. done (drop_path S p bytes) answer.Okay)) busy
 
 rename_busy : (S : Session) (p q bytes : List ℕ) → source S.tree p ≡ Ok bytes → is_closed S p ≡ Err Busy → rename S p q ≡ Err Busy
 unfolding rename

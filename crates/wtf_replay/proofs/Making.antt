@@ -47,7 +47,7 @@ use Rattle.wtf_steps.proofs.Ways.{only_keys, KeysRead, file_keys}
 use Rattle.wtf_rw.specs.Ops.{DoesRw, op_of, RwBytes, rw_keys, size_of}
 use Rattle.wtf_rw.proofs.InsideWays.{does_named}
 use Rattle.wtf_region.specs.Devs.{inside_of, told_in}
-use Rattle.wtf_replay.specs.Built.{data_of}
+use Rattle.wtf_replay.specs.Built.{call_data}
 use Rattle.wtf_replay.specs.Sounds.{TellsMap, IsToldStep, IsDue, tells_slice}
 use Rattle.wtf_replay.specs.Works.{Work, IsWork, saw, scene_of, told_now}
 use Rattle.wtf_replay.proofs.ReadLists.{rw_read, read_told}
@@ -72,7 +72,7 @@ facts_told sc r own bytes did does ranges tells tell = no_facts (told_in sc.kind
 pub rw_work : {S : Type 0} (w : Work S) (r : RwOp) (stored : Option Slice) (bytes : List ℕ) (x : Caller) (o : Op (List ℕ)) (a : Answer) (own : Option Slice)
     → ((P : List Place → Bool) → SliceBytes P own → RwBytes P r) → ((P : List Place → Bool) → SliceBytes P own → SliceBytes P stored)
     → IsStepWith (DoesRw (scene_of w) r stored bytes) x (saw w) w.old w.new (op_of r bytes) a → op_of r bytes ≡ o
-    → (TellSlice (told_now w) own (data_of o) → RwTell (tells_slice (told_now w)) r bytes) → IsWork w x own o a
+    → (TellSlice (told_now w) own (call_data o) → RwTell (tells_slice (told_now w)) r bytes) → IsWork w x own o a
 rw_work w r stored bytes x o a own given brought one is tell =
     let read = rw_read (scene_of w) r stored bytes one.did one.more in
     record {

@@ -36,7 +36,7 @@ use Rattle.wtf_rw.specs.Stored.{SliceBytes}
 use Rattle.wtf_rw.proofs.InsideWays.{slice_stays}
 use Rattle.wtf_replay.specs.Views.{TxnView, hand_of}
 use Rattle.wtf_replay.specs.Insides.{HandBytes, LogBytes, TxnBytes, HaveNamed, IsKnown, NamesAgain, lists_have}
-use Rattle.wtf_replay.specs.Sounds.{IsSound, TellsMap, IsAwayTxn, tells_slice}
+use Rattle.wtf_replay.specs.Sounds.{LogStands, TellsMap, IsAwayTxn, tells_slice}
 use Rattle.wtf_replay.proofs.Insiding.{edits_stay}
 use Rattle.wtf_replay.proofs.Later.{Of, IsWeaker, tells_on, known_later}
 use Rattle.wtf_replay.proofs.RwLaws.{told_slice}
@@ -184,7 +184,7 @@ ops_told told (k ∷ ks) [] h = absurd h
 
 -- of a transaction whose calls stand for what it did, all that it names is known
 pub sound_known : {S : Type 0} (kind : StoreKind S) (dev : Dev S) (ranges : List (ℕ × Range)) (kv : Store Key Value) (x : TxnView) (ops : List (Op (List ℕ)))
-    → IsSound dev.settings.region kv (told_in kind dev) x ops
+    → LogStands dev.settings.region kv (told_in kind dev) x ops
     → TellsMap kind dev ranges (metadata_at kv x.at.base) → IsAwayTxn kind dev ranges kv x → IsKnown kind dev ranges (λ P Q. TxnBytes P Q kv x)
 sound_known kind dev ranges kv x ops sound tells away =
     let told : Told = told_in kind dev in
@@ -208,7 +208,7 @@ known_apart kind dev ranges F known = known.1
 -- so a transaction names nothing in the ranges after calls that were made once more
 pub replay_away : {S : Type 0} {kind : StoreKind S} → KindLaws kind → {old mid : Dev S} → GoesOn kind old mid []
     → (ranges : List (ℕ × Range)) (kv : Store Key Value) (x y : TxnView) (ops : List (Op (List ℕ)))
-    → IsSound old.settings.region kv (told_in kind old) x ops → TellsMap kind old ranges (metadata_at kv x.at.base) → IsAwayTxn kind old ranges kv x
+    → LogStands old.settings.region kv (told_in kind old) x ops → TellsMap kind old ranges (metadata_at kv x.at.base) → IsAwayTxn kind old ranges kv x
     → y.log ≡ x.log
     → NamesAgain kind old mid kv (hand_of x) (hand_of y) x.log → IsAwayTxn kind mid ranges kv y
 replay_away {kind = kind} laws {old = old} {mid = mid} goes ranges kv x y ops sound tells away log names =

@@ -16,7 +16,7 @@ use Rattle.wtf_rw.specs.declared.op.RwOp.{RwOp}
 use Rattle.wtf_rw.specs.declared.op.RwOp.TheVariants as rw
 use Rattle.wtf_steps.specs.Steps.{IsRefusal}
 use Rattle.wtf_rw.specs.Ops.{op_of, Writes, IsWhole, RwBytes}
-use Rattle.wtf_replay.specs.Built.{is_rw_op, IsPlainOp, IsOpOf, IsFresh, data_of, with_data}
+use Rattle.wtf_replay.specs.Built.{is_rw_op, IsPlainOp, IsOpOf, IsFresh, call_data, with_data}
 use Rattle.wtf_replay.specs.Keeps.{IsWholeOp, KeepsOwn, IsKeptOf}
 
 -- a call without data is itself
@@ -38,7 +38,7 @@ form_plain G (op.Append f d) h = (h.0, tt)
 form_plain G o h = h
 
 -- A call with other data is in form where as many bytes are kept.
-pub with_form : (k : Kept) (o : Op (List ℕ)) → k.len ≡ length (data_of o) → IsFormOp IsData o → IsFormOp IsKeptData (with_data k o)
+pub with_form : (k : Kept) (o : Op (List ℕ)) → k.len ≡ length (call_data o) → IsFormOp IsData o → IsFormOp IsKeptData (with_data k o)
 with_form k (op.Write f bytes) len form = (form.0, subst (λ n. n ≤ MAX_WRITTEN) (sym len) form.1)
 with_form k (op.Append f bytes) len form = (form.0, subst (λ n. n ≤ MAX_WRITTEN) (sym len) form.1)
 with_form k o len form = form
@@ -62,11 +62,11 @@ whole_or k None bytes a len slice lacks = elim (lacks refl) [
 ]
 whole_or k (Some s) bytes a len slice lacks = inl (λ e. let bad : None ≡ Some s = sym e ∙ slice in absurd (cc))
 
-plain : (k : Kept) (own : Option Slice) (o : Op (List ℕ)) → OpStandsFor (λ s bytes. (own ≡ Some s) × (bytes ≡ data_of o)) (with_data k o) o → IfSome (own_of (with_data k o)) (λ s. own ≡ Some s)
+plain : (k : Kept) (own : Option Slice) (o : Op (List ℕ)) → OpStandsFor (λ s bytes. (own ≡ Some s) × (bytes ≡ call_data o)) (with_data k o) o → IfSome (own_of (with_data k o)) (λ s. own ≡ Some s)
     → KeepsOwn (with_data k o) own → IsWholeOp (with_data k o) → IsKeptOf o own (with_data k o)
 plain k own o stands is keeps whole = record { stands = stands; own_is = is; keeps = keeps; lacks = λ a l. inl whole }
 
-pub with_kept : (k : Kept) (o : Op (List ℕ)) (own : Option Slice) → k.len ≡ length (data_of o) → k.slice ≡ own → IsKeptOf o own (with_data k o)
+pub with_kept : (k : Kept) (o : Op (List ℕ)) (own : Option Slice) → k.len ≡ length (call_data o) → k.slice ≡ own → IsKeptOf o own (with_data k o)
 with_kept k (op.Write f bytes) own len slice = record {
   stands = keeps_data k own bytes (op.Write f) len slice;
   own_is = own_kept k.slice own slice;
@@ -83,8 +83,8 @@ with_kept k o own len slice = plain k own o refl tt tt tt
 
 -- what is known of a call that is made for the first time as r
 pub record MadeAs (r : RwOp) (o : Op (List ℕ)) : Type 0 where
-  pub is : op_of r (data_of o) ≡ o
-  pub writes : Writes r (data_of o)
+  pub is : op_of r (call_data o) ≡ o
+  pub writes : Writes r (call_data o)
   pub whole : IsWhole r
   pub bytes : (P : List Place → Bool) → RwBytes P r
 

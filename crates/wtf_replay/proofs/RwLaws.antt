@@ -32,7 +32,7 @@ use Rattle.wtf_rw.specs.declared.op.RwOp.TheVariants as rw
 use Rattle.wtf_rw.specs.Stored.{SliceBytes, TellSlice, IsOwn}
 use Rattle.wtf_rw.specs.Ops.{op_of, Writes, IsWhole, RwBytes, OwnBy, IsRwOwn, LacksOwn, StoresNone, IsRwFault, IsBare, LacksSlice, rw_file}
 use Rattle.wtf_rw.proofs.StoredBytes.{held_meaning}
-use Rattle.wtf_replay.specs.Built.{IsOpOf, IsFresh, IsStored, data_of}
+use Rattle.wtf_replay.specs.Built.{IsOpOf, IsFresh, IsStored, call_data}
 use Rattle.wtf_replay.specs.Keeps.{IsWholeOp, LacksData, IsKeptOf}
 use Rattle.wtf_replay.specs.Causes.{IsOwnOf, IsCallFault, IsAgainFault, StoresNothing, grown_file}
 use Rattle.wtf_replay.specs.Sounds.{tells_slice}
@@ -84,14 +84,14 @@ module _ {S : Type 0} (kind : StoreKind S) (old new : Dev S) (w : Map) (s : Sess
   by_len (Some g) place bytes None h = tt
   by_len (Some g) place bytes (Some sl) h = h.0.len
 
-  pub own_len_of : (o : Op (List ℕ)) (q : Option Slice) → IsOwnOf kind old new w s o q → IfSome q (λ sl. len_of sl ≡ length (data_of o))
+  pub own_len_of : (o : Op (List ℕ)) (q : Option Slice) → IsOwnOf kind old new w s o q → IfSome q (λ sl. len_of sl ≡ length (call_data o))
   own_len_of (op.Write f bytes) q h = by_len (handle_in s f) _ bytes q h
   own_len_of (op.Append f bytes) q h = by_len (handle_in s f) _ bytes q h
   own_len_of (op.Read f n) q h = subst (λ z. IfSome z (λ sl. len_of sl ≡ 0)) (sym h) tt
   own_len_of (op.Yank f n l) q h = subst (λ z. IfSome z (λ sl. len_of sl ≡ 0)) (sym h) tt
   own_len_of (op.Peek l off n) q h = subst (λ z. IfSome z (λ sl. len_of sl ≡ 0)) (sym h) tt
   own_len_of (op.Concat p paths) q h = subst (λ z. IfSome z (λ sl. len_of sl ≡ 0)) (sym h) tt
-  own_len_of o q h = subst (λ z. IfSome z (λ sl. len_of sl ≡ length (data_of o))) (sym h.1) tt
+  own_len_of o q h = subst (λ z. IfSome z (λ sl. len_of sl ≡ length (call_data o))) (sym h.1) tt
 
   -- and lies inside the stores
   by_inside : (o : Option Handle) (place : Handle → PlaceView) (bytes : List ℕ) (q : Option Slice) → OwnBy kind old new o place bytes q
@@ -134,14 +134,14 @@ module _ {S : Type 0} (kind : StoreKind S) (old new : Dev S) (w : Map) (s : Sess
   by_told None place bytes q same tells h = subst (λ z. TellSlice (byte_at kind (stores new)) z bytes) (sym h.1) tt
   by_told (Some g) place bytes q same tells h = tell_own (place g) bytes q same tells h
 
-  pub own_told_of : (o : Op (List ℕ)) (q : Option Slice) → length (stores new) ≡ length (stores old) → TellsAll kind (stores old) → IsOwnOf kind old new w s o q → TellSlice (byte_at kind (stores new)) q (data_of o)
+  pub own_told_of : (o : Op (List ℕ)) (q : Option Slice) → length (stores new) ≡ length (stores old) → TellsAll kind (stores old) → IsOwnOf kind old new w s o q → TellSlice (byte_at kind (stores new)) q (call_data o)
   own_told_of (op.Write f bytes) q same tells h = by_told (handle_in s f) _ bytes q same tells h
   own_told_of (op.Append f bytes) q same tells h = by_told (handle_in s f) _ bytes q same tells h
   own_told_of (op.Read f n) q same tells h = subst (λ z. TellSlice (byte_at kind (stores new)) z []) (sym h) tt
   own_told_of (op.Yank f n l) q same tells h = subst (λ z. TellSlice (byte_at kind (stores new)) z []) (sym h) tt
   own_told_of (op.Peek l off n) q same tells h = subst (λ z. TellSlice (byte_at kind (stores new)) z []) (sym h) tt
   own_told_of (op.Concat p paths) q same tells h = subst (λ z. TellSlice (byte_at kind (stores new)) z []) (sym h) tt
-  own_told_of o q same tells h = subst (λ z. TellSlice (byte_at kind (stores new)) z (data_of o)) (sym h.1) tt
+  own_told_of o q same tells h = subst (λ z. TellSlice (byte_at kind (stores new)) z (call_data o)) (sym h.1) tt
 
   -- a call that is made once more
   pub record AgainWays (r : RwOp) (k : Op Kept) : Type 0 where
@@ -213,13 +213,13 @@ module _ (P : Slice → List ℕ → Type 0) where
 
 -- and one that is made once more is given the slice that a log kept
 kept_tell : (told : Told) (kept : Kept) (call : List ℕ → Op (List ℕ)) (bytes : List ℕ) (o : Op (List ℕ)) (own : Option Slice) → call bytes ≡ o
-    → data_of (call bytes) ≡ bytes → own ≡ kept.slice → TellSlice told own (data_of o) → IfSome kept.slice (λ s. tells_slice told s bytes)
+    → call_data (call bytes) ≡ bytes → own ≡ kept.slice → TellSlice told own (call_data o) → IfSome kept.slice (λ s. tells_slice told s bytes)
 kept_tell told kept call bytes o own is same slice tell =
     some_tell told kept.slice bytes
-    (subst (TellSlice told kept.slice) (ap data_of (sym is) ∙ same) (subst (λ (q : Option Slice). TellSlice told q (data_of o)) slice tell))
+    (subst (TellSlice told kept.slice) (ap call_data (sym is) ∙ same) (subst (λ (q : Option Slice). TellSlice told q (call_data o)) slice tell))
 
 pub again_tell : (told : Told) (r : RwOp) (k : Op Kept) (o : Op (List ℕ)) (bytes : List ℕ) → IsOpOf IsStored r k → op_of r bytes ≡ o
-    → TellSlice told (own_of k) (data_of o) → RwTell (tells_slice told) r bytes
+    → TellSlice told (own_of k) (call_data o) → RwTell (tells_slice told) r bytes
 again_tell told (rw.Write f (Stored kept)) k o bytes (x, e, same) is tell =
     kept_tell told kept (op.Write f) bytes o (own_of k) is refl (ap own_of (e ∙ ap (λ (q : Kept). op.Write f q) same)) tell
 again_tell told (rw.Append f (Stored kept)) k o bytes (x, e, same) is tell =

@@ -36,7 +36,7 @@ use Rattle.wtf_rw.specs.Stored.{SliceBytes}
 use Rattle.wtf_replay.specs.Views.{TxnView, hand_of}
 use Rattle.wtf_replay.specs.Fits.{IsLog}
 use Rattle.wtf_replay.specs.Insides.{LogBytes}
-use Rattle.wtf_replay.specs.Sounds.{tells_slice, caller_at, did_by, first_of, IsSound, IsToldStep}
+use Rattle.wtf_replay.specs.Sounds.{tells_slice, caller_at, did_by, first_of, LogStands, IsToldStep}
 use Rattle.wtf_replay.proofs.Insiding.{log_at}
 
 -- one element more
@@ -57,7 +57,7 @@ facts_later told later [] on h = tt
 facts_later told later (e ∷ es) on h = (TellBytes-later told later (pieces_len e.pieces) (pieces_origin e.pieces) e.bytes on h.0, facts_later told later es on h.1)
 
 -- a transaction over stores that tell more
-pub sound_later : (size : ℕ) (kv : Store Key Value) (told later : Told) (x : TxnView) (ops : List (Op (List ℕ))) → TellsOn told later → IsSound size kv told x ops → IsSound size kv later x ops
+pub sound_later : (size : ℕ) (kv : Store Key Value) (told later : Told) (x : TxnView) (ops : List (Op (List ℕ))) → TellsOn told later → LogStands size kv told x ops → LogStands size kv later x ops
 sound_later size kv told later x ops on sound = record {
   facts = sound.facts;
   stored = sound.stored;
@@ -71,7 +71,7 @@ sound_later size kv told later x ops on sound = record {
 }
 
 -- a transaction over a store that shows the same at its base
-pub sound_along : (size : ℕ) (kv after : Store Key Value) (told : Told) (x : TxnView) (ops : List (Op (List ℕ))) → metadata_at after x.at.base ≡ metadata_at kv x.at.base → IsSound size kv told x ops → IsSound size after told x ops
+pub sound_along : (size : ℕ) (kv after : Store Key Value) (told : Told) (x : TxnView) (ops : List (Op (List ℕ))) → metadata_at after x.at.base ≡ metadata_at kv x.at.base → LogStands size kv told x ops → LogStands size after told x ops
 sound_along size kv after told x ops same sound = record {
   facts = sound.facts;
   stored = sound.stored;
@@ -108,12 +108,12 @@ run_goes_on size tx b s t old new facts stored lists more ops shown o a run grow
 
 module _ (size : ℕ) (kv : Store Key Value) (told : Told) where
   -- one more call is done
-  pub sound_on : (old new : TxnView) (ops ops2 : List (Op (List ℕ))) (own : Option Slice) (o : Op (List ℕ)) (a : Answer) → IsSound size kv told old ops
+  pub sound_on : (old new : TxnView) (ops ops2 : List (Op (List ℕ))) (own : Option Slice) (o : Op (List ℕ)) (a : Answer) → LogStands size kv told old ops
       → IsToldStep told own (caller_at size old.tx old.replayed) (seen kv old.at) (hand_of old) (hand_of new) o a
       → ((P : List Place → Bool) → LogBytes P new.log → LogBytes P old.log × SliceBytes P own)
       → new.tx ≡ old.tx → length (take old.replayed ops) ≡ old.replayed → OpsStandFor (tells_slice told) new.log.ops ops2
       → take new.replayed ops2 ≡ take old.replayed ops ++ o ∷ [] → take new.replayed new.log.shown ≡ take old.replayed old.log.shown ++ a ∷ []
-      → IsSound size kv told new ops2
+      → LogStands size kv told new ops2
   sound_on old new ops ops2 own o a sound step log tx count stand done shown =
       let did : Did = step.step.did in
       let base : new.at.base ≡ old.at.base = step.step.grows.base in
@@ -138,10 +138,10 @@ module _ (size : ℕ) (kv : Store Key Value) (told : Told) where
       }
 
   -- a call is logged
-  pub sound_called : (old new : TxnView) (ops : List (Op (List ℕ))) (o : Op (List ℕ)) (a : Answer) (kept : Op Kept) → IsSound size kv told old ops → IsLog old.log → old.replayed ≡ length old.log.ops
+  pub sound_called : (old new : TxnView) (ops : List (Op (List ℕ))) (o : Op (List ℕ)) (a : Answer) (kept : Op Kept) → LogStands size kv told old ops → IsLog old.log → old.replayed ≡ length old.log.ops
       → IsToldStep told (own_of kept) (caller_at size old.tx old.replayed) (seen kv old.at) (hand_of old) (hand_of new) o a
       → new.tx ≡ old.tx → new.log ≡ with_call old.log kept a → new.replayed ≡ old.replayed + 1 → OpStandsFor (tells_slice told) kept o
-      → IsSound size kv told new (ops ++ o ∷ [])
+      → LogStands size kv told new (ops ++ o ∷ [])
   sound_called old new ops o a kept sound log live step tx logged replayed stand =
       let same : length old.log.ops ≡ length ops = OpsStandFor-length (tells_slice told) old.log.ops ops sound.ops_are in
       let count : old.replayed ≡ length ops = live ∙ same in
@@ -158,12 +158,12 @@ module _ (size : ℕ) (kv : Store Key Value) (told : Told) where
       (ap (λ l. take new.replayed l.shown) logged ∙ ap (λ n. take n (old.log.shown ++ a ∷ [])) (sym longer2) ∙ take-length (old.log.shown ++ a ∷ []) ∙ ap (λ l. l ++ a ∷ []) (sym told_so))
 
   -- a call was made once more, and answered what was shown
-  pub sound_replayed : (old new : TxnView) (ops : List (Op (List ℕ))) (o : Op (List ℕ)) (a : Answer) (kept : Op Kept) → IsSound size kv told old ops
+  pub sound_replayed : (old new : TxnView) (ops : List (Op (List ℕ))) (o : Op (List ℕ)) (a : Answer) (kept : Op Kept) → LogStands size kv told old ops
       → old.replayed ≤ length old.log.ops
       → IsToldStep told (own_of kept) (caller_at size old.tx old.replayed) (seen kv old.at) (hand_of old) (hand_of new) o a
       → slice_get old.log.ops old.replayed ≡ Some kept → slice_get ops old.replayed ≡ Some o → slice_get old.log.shown old.replayed ≡ Some a
       → new.tx ≡ old.tx → new.log ≡ old.log → new.replayed ≡ old.replayed + 1
-      → IsSound size kv told new ops
+      → LogStands size kv told new ops
   sound_replayed old new ops o a kept sound most step at_kept at_op at_shown tx log replayed =
       let same : length old.log.ops ≡ length ops = OpsStandFor-length (tells_slice told) old.log.ops ops sound.ops_are in
       let le : old.replayed ≤ length ops = omega (arith, most, same) in

@@ -30,12 +30,12 @@ use Rattle.wtf_region.specs.Inside.{is_inside}
 use Rattle.wtf_rw.specs.Stored.{SliceBytes, TellSlice}
 use Rattle.wtf_slicing.specs.Sights.{sight}
 use Rattle.wtf_replay.specs.Views.{TxnView}
-use Rattle.wtf_replay.specs.Built.{data_of, with_data}
+use Rattle.wtf_replay.specs.Built.{call_data, with_data}
 use Rattle.wtf_replay.specs.Fits.{IsLog}
 use Rattle.wtf_replay.specs.Insides.{IsHandInside, IsLogInside, NamesHand, NamesAgain}
 use Rattle.wtf_replay.specs.Sounds.{TellsHand, IsToldStep, IsDue, tells_slice, caller_at}
 use Rattle.wtf_replay.specs.Effects.{Acts, CallHolds, kept_len, scope, Redoes}
-use Rattle.wtf_replay.specs.Works.{Work, IsCaller, IsWork, IsNext, inode_at, saw, size_in, told_then, told_now}
+use Rattle.wtf_replay.specs.Works.{Work, IsCaller, IsWork, IsNext, inode_at, saw, work_region_size, told_then, told_now}
 use Rattle.wtf_replay.proofs.Insiding.{hand_later, log_later, named_step, named_same, log_at}
 use Rattle.wtf_replay.proofs.Later.{tells_on}
 use Rattle.wtf_replay.proofs.Making.{fits_step}
@@ -45,11 +45,11 @@ use Rattle.wtf_replay.proofs.RwLaws.{told_slice, tell_some}
 module _ {S : Type 0} (w : Work S) (x : Caller) (own : Option Slice) (o : Op (List ℕ)) (a : Answer) (does : IsWork w x own o a) where
   -- over stores that tell what was named, and its slice
   pub told_of : x.size ≡ w.after.settings.region → (ranges : List (ℕ × Range)) → TellsHand w.kind w.before ranges (saw w) w.old.session
-      → TellSlice (told_now w) own (data_of o) → IsToldStep (told_now w) own x (saw w) w.old w.new o a
+      → TellSlice (told_now w) own (call_data o) → IsToldStep (told_now w) own x (saw w) w.old w.new o a
   told_of size ranges tells tell = record {
     step = does.step;
     told_are = does.facts ranges tells tell;
-    stored_are = does.kept (is_told (told_now w)) (told_slice (told_now w) own (data_of o) tell);
+    stored_are = does.kept (is_told (told_now w)) (told_slice (told_now w) own (call_data o) tell);
     kept = does.kept;
     lists_are = subst (λ (z : ℕ). TellLists (lists_in z (told_now w)) does.step.did.lists) (sym size)
         (does.lists ranges tells.seen.cache (tells.seen.map, tells.seen.away));
@@ -102,25 +102,26 @@ some_call k = (with_data [] k, refl)
 
 -- the stores tell the bytes of the slice of one that stands for a call
 tell_given : (told : Told) (kept : Kept) (call : List ℕ → Op (List ℕ)) (o : Op (List ℕ)) (g : IsGiven (tells_slice told) kept call o)
-    → ((bytes : List ℕ) → data_of (call bytes) ≡ bytes) → TellSlice told kept.slice (data_of o)
+    → ((bytes : List ℕ) → call_data (call bytes) ≡ bytes) → TellSlice told kept.slice (call_data o)
 tell_given told kept call o g same =
-    subst (TellSlice told kept.slice) (sym (ap data_of g.is ∙ same g.bytes)) (tell_some told kept.slice g.bytes g.stands.slice)
+    subst (TellSlice told kept.slice) (sym (ap call_data g.is ∙ same g.bytes)) (tell_some told kept.slice g.bytes g.stands.slice)
 
-pub tell_of : (told : Told) (k : Op Kept) (o : Op (List ℕ)) → OpStandsFor (tells_slice told) k o → TellSlice told (own_of k) (data_of o)
+pub tell_of : (told : Told) (k : Op Kept) (o : Op (List ℕ)) → OpStandsFor (tells_slice told) k o → TellSlice told (own_of k) (call_data o)
 tell_of told (op.Write f kept) o g = tell_given told kept (op.Write f) o g (λ bytes. refl)
 tell_of told (op.Append f kept) o g = tell_given told kept (op.Append f) o g (λ bytes. refl)
 tell_of told k o g = tt
 
 -- call k of a log was made once more
 module _ {S : Type 0} (w : Work S) (tx : ℕ) (log : Calls) (k : ℕ) (a : Answer) (next : IsNext w tx log k a) where
-  is_caller : IsCaller (size_in w) (inode_at tx k) (caller_at (size_in w) tx k)
+  is_caller : IsCaller (work_region_size w) (inode_at tx k) (caller_at (work_region_size w) tx k)
   is_caller = record { size_is = refl; next = record { tx = refl; index = refl } }
 
   at_next : NamesHand w.kind w.before w.after w.kv w.old w.new (own_of next.op)
   at_next = elim next.again.whole [
     | inl whole ↦
         let some = some_call next.op in
-        named_of w (caller_at (size_in w) tx k) (own_of next.op) some.0 a (next.again.does (inl whole) (caller_at (size_in w) tx k) some.0 is_caller some.1)
+        named_of w (caller_at (work_region_size w) tx k) (own_of next.op) some.0 a
+        (next.again.does (inl whole) (caller_at (work_region_size w) tx k) some.0 is_caller some.1)
     | inr looked ↦
         named_none (λ P Q hole were has. named_same P Q w.kv w.old w.new next.again.acted.acts.base looked.0 looked.1 were)
   ]
@@ -133,7 +134,8 @@ module _ {S : Type 0} (w : Work S) (tx : ℕ) (log : Calls) (k : ℕ) (a : Answe
   next_fit fit = elim next.again.whole [
     | inl whole ↦
         let some = some_call next.op in
-        fit_of w (caller_at (size_in w) tx k) (own_of next.op) some.0 a (next.again.does (inl whole) (caller_at (size_in w) tx k) some.0 is_caller some.1) fit
+        fit_of w (caller_at (work_region_size w) tx k) (own_of next.op) some.0 a
+        (next.again.does (inl whole) (caller_at (work_region_size w) tx k) some.0 is_caller some.1) fit
     | inr looked ↦
         subst (λ n. AllFit w.new.at.changes (metadata_at w.kv n)) (sym next.again.acted.acts.base)
         (subst (λ cs. AllFit cs (metadata_at w.kv w.old.at.base)) (sym looked.0) fit)
@@ -146,25 +148,25 @@ module _ {S : Type 0} (w : Work S) (tx : ℕ) (log : Calls) (k : ℕ) (a : Answe
   pub next_told : KindLaws w.kind → GoesOn w.kind w.before w.after [] → IsLog log → slice_get log.shown k ≡ Some a
       → (ranges : List (ℕ × Range)) (kept : Op Kept) (o : Op (List ℕ)) → slice_get log.ops k ≡ Some kept
       → TellsHand w.kind w.before ranges (saw w) w.old.session → OpStandsFor (tells_slice (told_then w)) kept o
-      → IsToldStep (told_now w) (own_of kept) (caller_at (size_in w) tx k) (saw w) w.old w.new o a
+      → IsToldStep (told_now w) (own_of kept) (caller_at (work_region_size w) tx k) (saw w) w.old w.new o a
   next_told laws goes is_log shown ranges kept o at tells stands =
       let same : kept ≡ next.op = same_call kept at in
       let here : OpStandsFor (tells_slice (told_then w)) next.op o = subst (λ (q : Op Kept). OpStandsFor (tells_slice (told_then w)) q o) same stands in
       let any = OpStandsFor-weaker (tells_slice (told_then w)) (λ s bytes. Unit {0}) next.op o (λ s bytes has h. tt) here in
       let later = OpStandsFor-weaker (tells_slice (told_then w)) (tells_slice (told_now w)) next.op o
       (λ s bytes has. TellBytes-later (told_then w) (told_now w) (len_of s) (part_origin (Held s)) bytes (tells_on laws goes.each)) here in
-      let size : size_in w ≡ w.after.settings.region = sym (ap (λ (st : Settings). st.region) goes.settings) in
-      subst (λ (q : Op Kept). IsToldStep (told_now w) (own_of q) (caller_at (size_in w) tx k) (saw w) w.old w.new o a) (sym same)
-      (told_of w (caller_at (size_in w) tx k) (own_of next.op) o a
-      (next.again.does (is_log.kept k next.op a next.at_op shown) (caller_at (size_in w) tx k) o
+      let size : work_region_size w ≡ w.after.settings.region = sym (ap (λ (st : Settings). st.region) goes.settings) in
+      subst (λ (q : Op Kept). IsToldStep (told_now w) (own_of q) (caller_at (work_region_size w) tx k) (saw w) w.old w.new o a) (sym same)
+      (told_of w (caller_at (work_region_size w) tx k) (own_of next.op) o a
+      (next.again.does (is_log.kept k next.op a next.at_op shown) (caller_at (work_region_size w) tx k) o
       is_caller any) size ranges tells (tell_of (told_now w) next.op o later))
 
   -- and its answer is due
   pub next_due : (ranges : List (ℕ × Range)) (kept : Op Kept) (o : Op (List ℕ)) → slice_get log.ops k ≡ Some kept
       → TellsHand w.kind w.before ranges (saw w) w.old.session → OpStandsFor (tells_slice (told_then w)) kept o
-      → IsDue (told_now w) (caller_at (size_in w) tx k) (saw w) w.old.session o a
+      → IsDue (told_now w) (caller_at (work_region_size w) tx k) (saw w) w.old.session o a
   next_due ranges kept o at tells stands =
-      next.again.due (caller_at (size_in w) tx k) o is_caller ranges tells
+      next.again.due (caller_at (work_region_size w) tx k) o is_caller ranges tells
       (subst (λ (q : Op Kept). OpStandsFor (tells_slice (told_then w)) q o) (same_call kept at) stands)
 
   -- and by what it did it is the next of a transaction with this log
@@ -179,10 +181,10 @@ module _ {S : Type 0} (w : Work S) (tx : ℕ) (log : Calls) (k : ℕ) (a : Answe
         at_shown = subst (λ (l : Calls). slice_get l.shown k ≡ Some a) (sym logs) shown;
         lists = acted.lists;
         known = acted.known;
-        acts = subst (λ (n : ℕ). Acts (sight (size_in w) (saw w) w.old.session (inode_at n k) acted.lists) (kept_len next.op) (own_of next.op)
+        acts = subst (λ (n : ℕ). Acts (sight (work_region_size w) (saw w) w.old.session (inode_at n k) acted.lists) (kept_len next.op) (own_of next.op)
             next.op a w.old.at w.new.at)
             (sym number) acted.acts;
-        holds = subst (λ (n : ℕ). CallHolds (sight (size_in w) (saw w) w.old.session (inode_at n k) acted.lists) (own_of next.op) next.op a
+        holds = subst (λ (n : ℕ). CallHolds (sight (work_region_size w) (saw w) w.old.session (inode_at n k) acted.lists) (own_of next.op) next.op a
             w.old.session w.new.session)
             (sym number) acted.holds;
       }

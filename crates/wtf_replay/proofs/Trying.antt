@@ -16,10 +16,10 @@ use Rattle.wtf_meta.specs.Trees.{Stands}
 use Rattle.wtf_meta.specs.Calls.{Ran, IsRun}
 use Rattle.wtf_replay.specs.Views.{TxnView}
 use Rattle.wtf_replay.specs.Fits.{IsLog}
-use Rattle.wtf_replay.specs.Sounds.{tells_slice, caller_at, did_by, first_of, IsSound}
+use Rattle.wtf_replay.specs.Sounds.{tells_slice, caller_at, did_by, first_of, LogStands}
 use Rattle.wtf_replay.specs.Tried.{IsFinal}
 
-module _ (size : ℕ) (kv : Store Key Value) (told : Told) (x : TxnView) (ops : List (Op (List ℕ))) (sound : IsSound size kv told x ops) where
+module _ (size : ℕ) (kv : Store Key Value) (told : Told) (x : TxnView) (ops : List (Op (List ℕ))) (sound : LogStands size kv told x ops) where
   -- all calls are done
   all_done : IsLog x.log → x.replayed ≡ length x.log.ops → first_of x ops x.replayed ≡ (ops, x.log.shown)
   all_done log live =

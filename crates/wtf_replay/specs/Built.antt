@@ -99,11 +99,11 @@ IsStored (Fresh bs) kept = ⊥
 IsStored (Stored k) kept = kept ≡ k
 
 -- the data of a call that writes
-abbrev pub data_of : Op (List ℕ) → List ℕ
-data_of (op.Write f bytes) = bytes
-data_of (op.Append f bytes) = bytes
-data_of o = []
+abbrev pub call_data : Op (List ℕ) → List ℕ
+call_data (op.Write f bytes) = bytes
+call_data (op.Append f bytes) = bytes
+call_data o = []
 
 -- and the number of its bytes
 abbrev pub data_len : Op (List ℕ) → ℕ
-data_len o = length (data_of o)
+data_len o = length (call_data o)

@@ -44,7 +44,7 @@ use Rattle.wtf_slicing.specs.Shown.{LacksSlice}
 use Rattle.wtf_replay.specs.Views.{TxnView, in_hand, hand_of, replaying}
 use Rattle.wtf_replay.specs.Tried.{commit_from}
 use Rattle.wtf_replay.specs.Insides.{NamesAgain}
-use Rattle.wtf_replay.specs.Sounds.{IsSound, TellsMap, IsAwayTxn, caller_at}
+use Rattle.wtf_replay.specs.Sounds.{LogStands, TellsMap, IsAwayTxn, caller_at}
 use Rattle.wtf_replay.specs.Effects.{scope, AreRedone}
 
 -- what came of the bytes that a call was to store: those that are written go to the region of the handle's offset, and those
@@ -131,8 +131,8 @@ pub record ReplayFault {S : Type 0} (kind : StoreKind S) (old new : Dev S) (kv :
   pub recalls : Recalls old mid lists
   pub named : NamesAgain kind old mid kv (hand_of x) (in_hand at session) x.log
   pub done : (ops : List (Op (List ℕ))) (ranges : List (ℕ × Range)) → TellsMap kind old ranges (metadata_at kv x.at.base) → IsAwayTxn kind old ranges kv x
-      → IsSound old.settings.region kv (byte_at kind (stores old)) x ops
-      → IsSound old.settings.region kv (byte_at kind (stores mid)) (replaying x.tx at session x.log k) ops
+      → LogStands old.settings.region kv (byte_at kind (stores old)) x ops
+      → LogStands old.settings.region kv (byte_at kind (stores mid)) (replaying x.tx at session x.log k) ops
   pub fault : FaultAt kind mid new kv (in_hand at session) (slice_get x.log.ops k) why
 
 -- Memory was short, or it was a replay of the calls that a commit has to make once more: none of a live transaction that

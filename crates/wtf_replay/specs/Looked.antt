@@ -27,8 +27,8 @@ pub record IsNameCall (x : Caller) (b : Map) (s : SessionView) (old new : Attemp
   pub is_call : IsCall x b s s (record { keys = keys; edits = edits; facts = []; stored = []; lists = [] }) o a
 
 -- a handle was opened by the path
-abbrev pub IsHeld : List ℕ → SessionView → Type 0
-IsHeld p s = (f : ℕ) × IsSomeAnd (handle_in s f) (λ h. h.path ≡ p)
+abbrev pub HasHandleOf : List ℕ → SessionView → Type 0
+HasHandleOf p s = (f : ℕ) × IsSomeAnd (handle_in s f) (λ h. h.path ≡ p)
 
 -- the path is recorded, and nothing is changed
 abbrev pub IsRecorded : List ℕ → Attempted Key Delta → Attempted Key Delta → Type 0
@@ -36,7 +36,7 @@ IsRecorded p old new = GrowsBy old new (Path p ∷ []) []
 
 -- a handle is on the path, where a file stands; the path is recorded
 pub record IsBusy (b : Map) (s : SessionView) (p : List ℕ) (old new : Attempted Key Delta) : Type 0 where
-  pub held : IsHeld p s
+  pub held : HasHandleOf p s
   pub recorded : IsRecorded p old new
   pub inode : InodeId
   pub file : stands_at b p ≡ Some (File inode)

@@ -14,7 +14,7 @@ use Rattle.wtf_meta.specs.Contents.{Told}
 use Rattle.wtf_meta.specs.Trees.{Stands}
 use Rattle.wtf_meta.specs.Calls.{cap_for}
 use Rattle.wtf_replay.specs.Views.{TxnView}
-use Rattle.wtf_replay.specs.Sounds.{IsSound, caller_at}
+use Rattle.wtf_replay.specs.Sounds.{LogStands, caller_at}
 use Rattle.wtf_replay.specs.Tried.{IsFinal}
 
 -- one more call was replayed, and answered what was shown
@@ -24,7 +24,7 @@ pub record IsReplayed (old new : TxnView) (i : ℕ) : Type 0 where
   pub is : new ≡ record old { at = new.at; session = new.session; replayed = i }
 
 -- the transaction has ended, with its base and its log
-pub record IsOver (old new : TxnView) : Type 0 where
+pub record IsTxnOver (old new : TxnView) : Type 0 where
   pub tx : new.tx ≡ old.tx
   pub base : new.at.base ≡ old.at.base
   pub log : new.log ≡ old.log
@@ -33,7 +33,7 @@ pub record IsOver (old new : TxnView) : Type 0 where
 -- the next call answered otherwise than was shown
 pub record IsAborted (old new : TxnView) (i : ℕ) : Type 0 where
   pub index : i ≡ old.replayed + 1
-  pub over : IsOver old new
+  pub over : IsTxnOver old new
 
 -- what comes of a step that is not refused
 abbrev pub IsStepped : TxnView → TxnView → Answer → Type 0
@@ -49,12 +49,12 @@ DeviatesOn w size told x ops i a =
 -- the meaning of an attempt
 abbrev pub IsTrueAttempt : ℕ → Told → Store Key Value → Store Key Value → TxnView × TxnView → List (Op (List ℕ)) → Answer → Type 0
 IsTrueAttempt size told kv after both ops (answer.Committed n) = IsFinal size told kv after both.0 ops n
-IsTrueAttempt size told kv after both ops (answer.Retry b n) = IsSound size after told both.1 ops
+IsTrueAttempt size told kv after both ops (answer.Retry b n) = LogStands size after told both.1 ops
 IsTrueAttempt size told kv after both ops a = ⊤
 
 -- the meaning of a step: the transaction goes on, or its calls deviate at the base
 abbrev pub IsTrueStep : ℕ → Told × Told → Store Key Value → TxnView × TxnView → List (Op (List ℕ)) → Answer → Type 0
-IsTrueStep size told kv both ops (answer.Replayed i) = IsSound size kv told.1 both.1 ops
+IsTrueStep size told kv both ops (answer.Replayed i) = LogStands size kv told.1 both.1 ops
 IsTrueStep size told kv both ops (Aborted' i box a) = DeviatesOn (metadata_at kv both.0.at.base) size told.0 both.0 ops i a
 IsTrueStep size told kv both ops a = ⊤
 
@@ -72,5 +72,5 @@ IsTrueEnd size told kv after x ops a = ⊤
 
 -- a whole replay: all answers are what was shown, or one is not
 abbrev pub IsReplay : ℕ → Store Key Value → Told × Told → TxnView → List (Op (List ℕ)) → Option (ℕ × Answer) → Type 0
-IsReplay size kv told x ops None = IsSound size kv told.1 x ops
+IsReplay size kv told x ops None = LogStands size kv told.1 x ops
 IsReplay size kv told x ops (Some p) = DeviatesOn (metadata_at kv x.at.base) size told.0 x ops p.0 p.1

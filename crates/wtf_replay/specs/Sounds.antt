@@ -51,7 +51,7 @@ first_of x ops n = (take n ops, take n x.log.shown)
 -- The logged calls stand for calls; and what the attempt did is the run, on the map at its base, of those that are done
 -- there, over stores that tell its facts and what it stored, and whose slices decode to the lists that it read. What it stored
 -- are bytes of the slices that the log keeps.
-pub record IsSound (size : ℕ) (kv : Store Key Value) (told : Told) (x : TxnView) (ops : List (Op (List ℕ))) : Type 0 where
+pub record LogStands (size : ℕ) (kv : Store Key Value) (told : Told) (x : TxnView) (ops : List (Op (List ℕ))) : Type 0 where
   pub facts : List Fact
   pub stored : List Piece
   pub lists : List ListFact

@@ -19,7 +19,7 @@ use Rattle.wtf_meta.specs.Lists.{ListFact, TellLists}
 use Rattle.wtf_meta.specs.Contents.{Told, lists_in}
 use Rattle.wtf_meta.specs.Sessions.{SessionView}
 use Rattle.wtf_meta.specs.Calls.{Fact, TellFacts, IsRun}
-use Rattle.wtf_replay.specs.Views.{TxnView, is_live, rebased}
+use Rattle.wtf_replay.specs.Views.{TxnView, is_txn_live, rebased}
 use Rattle.wtf_replay.specs.Sounds.{caller_at, did_by}
 
 -- the maps up to the number are what they were
@@ -76,7 +76,7 @@ abbrev pub is_free : Store Key Value → TxnView → Bool
 is_free kv x = if is_some (key_in_the_way key_cmp outcome_of x.at kv) then false else true
 
 abbrev pub stays_at : Store Key Value → TxnView → Bool
-stays_at kv x = if is_live x then is_free kv x else nat_eq x.at.base kv.number
+stays_at kv x = if is_txn_live x then is_free kv x else nat_eq x.at.base kv.number
 
 abbrev pub commit_from : Store Key Value → TxnView → TxnView
 commit_from kv x = if stays_at kv x then x else rebased x kv.number

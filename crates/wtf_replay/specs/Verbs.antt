@@ -27,12 +27,12 @@ use Rattle.wtf_replay.specs.Views.{TxnView, rebased, hand_of}
 use Rattle.wtf_replay.specs.Built.{data_len}
 use Rattle.wtf_replay.specs.Refusals.{unmade, try_refusal, step_refusal}
 use Rattle.wtf_replay.specs.Fits.{IsFit}
-use Rattle.wtf_replay.specs.Sounds.{IsSound, TellsMap, IsAwayTxn}
+use Rattle.wtf_replay.specs.Sounds.{LogStands, TellsMap, IsAwayTxn}
 use Rattle.wtf_replay.specs.Insides.{IsInsideTxn, NamesTxn, NamesNow}
 use Rattle.wtf_replay.specs.Causes.{IsOwnOf, StoresNothing, grown_file, IsCallFault, FaultAt, ReplayFault, IsCommitFault, MayStepFault, MayCommitFault}
 use Rattle.wtf_replay.specs.Called.{IsCalled}
 use Rattle.wtf_replay.specs.Tried.{IsAttempted, KeepsMaps, KeepsVersions, KeepsPins, MovesPin, commit_from}
-use Rattle.wtf_replay.specs.Replays.{IsStepped, IsOver, IsEnded, IsTrueAttempt, IsTrueStep, IsTrueEnd}
+use Rattle.wtf_replay.specs.Replays.{IsStepped, IsTxnOver, IsEnded, IsTrueAttempt, IsTrueStep, IsTrueEnd}
 use Rattle.wtf_replay.specs.Effects.{Acts, CallHolds, Scope, scope, sight_at, Redoes}
 use Rattle.wtf_replay.specs.Installs.{IsInstall}
 
@@ -72,11 +72,11 @@ scope_of t = scope t.kind t.before t.after
 abbrev pub StartsSound : {S : Type 0} → Turn S → List (Op (List ℕ)) → Type 0
 StartsSound t ops =
     (ranges : List (ℕ × Range)) × TellsMap t.kind t.before ranges (metadata_at t.kv t.old.at.base) × IsAwayTxn t.kind t.before ranges t.kv t.old
-    × IsSound (region_size t) t.kv (told_before t) t.old ops
+    × LogStands (region_size t) t.kv (told_before t) t.old ops
 
 -- A call was made and answered a: it is logged, with the slice that was stored of its data; it recorded its own keys, made its own
 -- changes and set what is in hand, by lists that it read, which are known and remembered; and what is named is what was, or that slice.
-pub record IsMade {S : Type 0} (t : Turn S) (o : Op (List ℕ)) (a : Answer) : Type 0 where
+pub record IsCallMade {S : Type 0} (t : Turn S) (o : Op (List ℕ)) (a : Answer) : Type 0 where
   pub own : Option Slice
   pub called : IsCalled t.old t.new o own a
   pub lists : List ListFact
@@ -91,8 +91,8 @@ pub record IsMade {S : Type 0} (t : Turn S) (o : Op (List ℕ)) (a : Answer) : T
 -- a call, with its result
 pub record CallOf {S : Type 0} (t : Turn S) (o : Op (List ℕ)) (r : Result Answer Fault) : Type 0 where
   pub instead : IfSome (unmade t.old) (λ a. (r ≡ Ok a) × (t.new ≡ t.old) × (t.after ≡ t.before))
-  pub made : unmade t.old ≡ None → IfOk r (λ a. IsMade t o a)
-  pub meaning : unmade t.old ≡ None → OnOk r ((ops : List (Op (List ℕ))) → StartsSound t ops → IsSound (region_size t) t.kv (told_after t) t.new (ops ++ o ∷ []))
+  pub made : unmade t.old ≡ None → IfOk r (λ a. IsCallMade t o a)
+  pub meaning : unmade t.old ≡ None → OnOk r ((ops : List (Op (List ℕ))) → StartsSound t ops → LogStands (region_size t) t.kv (told_after t) t.new (ops ++ o ∷ []))
   pub fit : IsFit t.kv t.new
   pub inside : IsInsideTxn t.kind (stores t.after) t.before.settings t.kv t.new
   pub err : IfErr r (λ why. why ≢ Memory → t.new ≡ t.old)
@@ -125,7 +125,7 @@ pub record StepOf {S : Type 0} (t : Turn S) (r : Result Answer Fault) : Type 0 w
   pub inside : IsInsideTxn t.kind (stores t.after) t.before.settings t.kv t.new
   pub err : OnErr r (t.new ≡ t.old)
   pub fault : IfErr r (λ why. (why ≡ Memory) ⊎ FaultAt t.kind t.before t.after t.kv (hand_of t.old) (slice_get t.old.log.ops t.old.replayed) why)
-  pub due : IfErr r (λ why. (ops : List (Op (List ℕ))) → IsSound (region_size t) t.kv (told_before t) t.old ops
+  pub due : IfErr r (λ why. (ops : List (Op (List ℕ))) → LogStands (region_size t) t.kv (told_before t) t.old ops
       → MayStepFault t.before.settings (metadata_at t.kv t.old.at.base) (told_before t) t.old ops why)
   pub reads : OnlyRead t.kind (between t.before t.after)
   pub dev : GoesOn t.kind t.before t.after []
@@ -134,13 +134,13 @@ pub record StepOf {S : Type 0} (t : Turn S) (r : Result Answer Fault) : Type 0 w
 abbrev pub StartsNow : {S : Type 0} → Turn S → List (Op (List ℕ)) → Type 0
 StartsNow t ops =
     (ranges : List (ℕ × Range)) × TellsMap t.kind t.before ranges (metadata_at t.kv t.kv.number) × IsAwayTxn t.kind t.before ranges t.kv t.old
-    × IsSound (region_size t) t.kv (told_before t) t.old ops
+    × LogStands (region_size t) t.kv (told_before t) t.old ops
 
 -- an attempt to commit, with its result
 pub record AttemptOf {E : Type 0} (kv left : Store Key Value) (old new : TxnView) (r : Result Answer E) : Type 0 where
   pub refused : IfSome (try_refusal old) (λ w. (r ≡ Ok (answer.Refused w)) × (new ≡ old) × (left ≡ kv))
   pub tried : try_refusal old ≡ None → IfOk r (λ a. IsAttempted kv left old new a)
-  pub meaning : try_refusal old ≡ None → IfOk r (λ a. (size : ℕ) (told : Told) (ops : List (Op (List ℕ))) → IsSound size kv told old ops
+  pub meaning : try_refusal old ≡ None → IfOk r (λ a. (size : ℕ) (told : Told) (ops : List (Op (List ℕ))) → LogStands size kv told old ops
       → IsTrueAttempt size told kv left (old, new) ops a)
   pub maps : KeepsMaps kv left
   pub fit : IsFit left new
@@ -155,7 +155,7 @@ pub record RestartOf {A E : Type 0} (kv left : Store Key Value) (old new : TxnVi
   pub err : OnErr r ((new ≡ old) × (left ≡ kv))
 
 -- what a commit is lent, and what has to hold of it
-pub record IsReady {S : Type 0} (kind : StoreKind S) (dev : Dev S) (kv : Store Key Value) (x : TxnView) : Type 0 where
+pub record CanCommit {S : Type 0} (kind : StoreKind S) (dev : Dev S) (kv : Store Key Value) (x : TxnView) : Type 0 where
   pub going : x.ended ≡ false
   pub sound : IsSoundDev kind dev
   pub fit : IsFit kv x
@@ -185,7 +185,7 @@ pub record FinishOf {S : Type 0} (t : Turn S) (r : Result Answer Fault) : Type 0
 -- a commit, with its result
 pub record CommitOf {S : Type 0} (t : Turn S) (r : Result Answer Fault) : Type 0 where
   pub ended : IfOk r (λ a. IsEnded t.kv t.left a)
-  pub over : OnOk r (IsOver t.old t.new)
+  pub over : OnOk r (IsTxnOver t.old t.new)
   pub installs : IfOk r (λ a. IsInstall (scope_of t) t.kv t.left (commit_from t.kv t.old) a)
   pub meaning : IfOk r (λ a. (ops : List (Op (List ℕ))) → StartsNow t ops → IsTrueEnd (region_size t) (told_before t, told_after t) t.kv t.left t.old ops a)
   pub named : OnOk r (NamesNow t.kind t.before t.after t.kv t.left t.old)

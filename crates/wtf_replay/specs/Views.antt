@@ -32,8 +32,8 @@ abbrev pub rebased : TxnView → ℕ → TxnView
 rebased x base = record x { at = untouched base; session = nothing_open; replayed = 0 }
 
 -- all of its calls are done at its base
-abbrev pub is_live : TxnView → Bool
-is_live x = x.replayed == length x.log.ops
+abbrev pub is_txn_live : TxnView → Bool
+is_txn_live x = x.replayed == length x.log.ops
 
 -- its log takes no more calls
 abbrev pub is_full : TxnView → Bool

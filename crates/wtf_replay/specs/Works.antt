@@ -34,9 +34,9 @@ use Rattle.wtf_rw.specs.Stored.{SliceBytes, TellSlice}
 use Rattle.wtf_slicing.specs.Sights.{Sight, sight}
 use Rattle.wtf_slicing.specs.Steps.{IsNewFor}
 use Rattle.wtf_replay.specs.Views.{TxnView, replaying}
-use Rattle.wtf_replay.specs.Built.{IsPlainOp, data_of, data_len}
+use Rattle.wtf_replay.specs.Built.{IsPlainOp, call_data, data_len}
 use Rattle.wtf_replay.specs.Keeps.{IsWholeOp, IsKeptFor, LacksData}
-use Rattle.wtf_replay.specs.Sounds.{IsSound, IsDue, TellsMap, TellsHand, IsAwayTxn, tells_slice}
+use Rattle.wtf_replay.specs.Sounds.{LogStands, IsDue, TellsMap, TellsHand, IsAwayTxn, tells_slice}
 use Rattle.wtf_replay.specs.Insides.{IsKnown, NamesAgain}
 use Rattle.wtf_replay.specs.Causes.{IsOwnOf, StoresNothing, grown_file, IsStillOp, IsCallFault, IsAgainFault, MayAgainFault, FaultAt, ReplayFault}
 use Rattle.wtf_replay.specs.Replays.{IsReplay}
@@ -59,8 +59,8 @@ work kind before after kv old new = record { kind = kind; before = before; after
 abbrev pub saw : {S : Type 0} → Work S → Map
 saw w = seen w.kv w.old.at
 
-abbrev pub size_in : {S : Type 0} → Work S → ℕ
-size_in w = w.before.settings.region
+abbrev pub work_region_size : {S : Type 0} → Work S → ℕ
+work_region_size w = w.before.settings.region
 
 abbrev pub scene_of : {S : Type 0} → Work S → Scene S
 scene_of w = record { kind = w.kind; before = w.before; after = w.after; map = saw w }
@@ -74,7 +74,7 @@ told_now w = told_in w.kind w.after
 
 -- what the call saw, with the lists that it read
 abbrev pub sight_of : {S : Type 0} → Work S → InodeId → List ListFact → Sight
-sight_of w made lists = sight (size_in w) (saw w) w.old.session made lists
+sight_of w made lists = sight (work_region_size w) (saw w) w.old.session made lists
 
 -- who calls, where this is the inode of the next call
 pub record IsCaller (size : ℕ) (made : InodeId) (x : Caller) : Type 0 where
@@ -89,7 +89,7 @@ pub record IsWork {S : Type 0} (w : Work S) (x : Caller) (own : Option Slice) (o
   pub inside : AreInsideLists w.kind w.after step.did.lists
   pub lists : (ranges : List (ℕ × Range)) → RemembersTrue w.kind w.before ranges
       → IsKnown w.kind w.before ranges (λ P Q. MapBytes P Q (saw w)) → TellLists (lists_in (w.after.settings.region) (told_now w)) step.did.lists
-  pub facts : (ranges : List (ℕ × Range)) → TellsHand w.kind w.before ranges (saw w) w.old.session → TellSlice (told_now w) own (data_of o)
+  pub facts : (ranges : List (ℕ × Range)) → TellsHand w.kind w.before ranges (saw w) w.old.session → TellSlice (told_now w) own (call_data o)
       → TellFacts (told_now w) step.did.facts
 
 -- and it recorded its keys, made its changes and set what is in hand, by lists that it read and that are known
@@ -101,8 +101,8 @@ pub record Acted {S D : Type 0} (w : Work S) (made : InodeId) (n : ℕ) (own : O
   pub holds : CallHolds (sight_of w made lists) own o a w.old.session w.new.session
 
 -- the attempt and what is in hand are as they were
-abbrev pub IsLeft : {S : Type 0} → Work S → Type 0
-IsLeft w = (w.new.at ≡ w.old.at) × (w.new.session ≡ w.old.session)
+abbrev pub IsWorkLeft : {S : Type 0} → Work S → Type 0
+IsWorkLeft w = (w.new.at ≡ w.old.at) × (w.new.session ≡ w.old.session)
 
 -- or only keys were recorded
 abbrev pub OnlyLooked : {S : Type 0} → Work S → Type 0
@@ -110,10 +110,10 @@ OnlyLooked w = (w.new.at.changes ≡ w.old.at.changes) × (w.new.session ≡ w.o
 
 -- a call without data, with its result
 pub record PlainOf {S D : Type 0} (w : Work S) (made : InodeId) (o : Op D) (r : Result Answer Fault) : Type 0 where
-  pub does : IfOk r (λ a. (x : Caller) (own : Option Slice) (p : Op (List ℕ)) → IsPlainOp o p → IsCaller (size_in w) made x → IsWork w x own p a)
+  pub does : IfOk r (λ a. (x : Caller) (own : Option Slice) (p : Op (List ℕ)) → IsPlainOp o p → IsCaller (work_region_size w) made x → IsWork w x own p a)
   pub acted : IfOk r (λ a. (n : ℕ) (own : Option Slice) → Acted w made n own o a)
   pub logged : IfOk r (λ a. IsLogged a)
-  pub err : OnErr r (IsLeft w)
+  pub err : OnErr r (IsWorkLeft w)
   pub fault : IfErr r (IsAgainFault w.kind w.before w.after (saw w) w.old.session o)
   pub due : IfErr r (λ why. (p : Op (List ℕ)) → IsPlainOp o p → MayFault w.before.settings (saw w) w.old.session p why)
   pub grows : Grows w.old.at w.new.at
@@ -122,8 +122,8 @@ pub record PlainOf {S D : Type 0} (w : Work S) (made : InodeId) (o : Op D) (r : 
   pub dev : GoesOn w.kind w.before w.after []
 
 -- a call that was made for the first time
-pub record IsFirst {S : Type 0} (w : Work S) (made : InodeId) (o : Op (List ℕ)) (d : Done) : Type 0 where
-  pub does : (x : Caller) → IsCaller (size_in w) made x → IsWork w x d.own o d.answer
+pub record IsFirstCall {S : Type 0} (w : Work S) (made : InodeId) (o : Op (List ℕ)) (d : Done) : Type 0 where
+  pub does : (x : Caller) → IsCaller (work_region_size w) made x → IsWork w x d.own o d.answer
   pub acted : Acted w made (data_len o) d.own o d.answer
   pub own : IsOwnOf w.kind w.before w.after (saw w) w.old.session o d.own
   pub lacks : LacksData o d.own d.answer
@@ -132,8 +132,8 @@ pub record IsFirst {S : Type 0} (w : Work S) (made : InodeId) (o : Op (List ℕ)
 
 -- with its result
 pub record FreshOf {S : Type 0} (w : Work S) (made : InodeId) (o : Op (List ℕ)) (r : Result Done Fault) : Type 0 where
-  pub first : IfOk r (λ d. IsFirst w made o d)
-  pub err : OnErr r (IsLeft w)
+  pub first : IfOk r (λ d. IsFirstCall w made o d)
+  pub err : OnErr r (IsWorkLeft w)
   pub fault : IfErr r (IsCallFault w.kind w.before w.after (saw w) w.old.session o)
   pub due : IfErr r (MayFault w.before.settings (saw w) w.old.session o)
   pub grows : Grows w.old.at w.new.at
@@ -144,9 +144,10 @@ pub record FreshOf {S : Type 0} (w : Work S) (made : InodeId) (o : Op (List ℕ)
 -- A logged call was made once more: where the log kept all of its bytes, or it was refused, it is the call for which it stands. Of
 -- one whose bytes were not kept the answer is due, and only keys were recorded.
 pub record IsAgain {S : Type 0} (w : Work S) (made : InodeId) (k : Op Kept) (a : Answer) : Type 0 where
-  pub does : IsKeptFor k a → (x : Caller) (o : Op (List ℕ)) → IsCaller (size_in w) made x → OpStandsFor (λ s bytes. ⊤) k o → IsWork w x (own_of k) o a
+  pub does : IsKeptFor k a → (x : Caller) (o : Op (List ℕ)) → IsCaller (work_region_size w) made x → OpStandsFor (λ s bytes. ⊤) k o → IsWork w x (own_of k) o a
   pub whole : IsWholeOp k ⊎ OnlyLooked w
-  pub due : (x : Caller) (o : Op (List ℕ)) → IsCaller (size_in w) made x → (ranges : List (ℕ × Range)) → TellsHand w.kind w.before ranges (saw w) w.old.session
+  pub due : (x : Caller) (o : Op (List ℕ)) → IsCaller (work_region_size w) made x → (ranges : List (ℕ × Range))
+      → TellsHand w.kind w.before ranges (saw w) w.old.session
       → OpStandsFor (tells_slice (told_then w)) k o → IsDue (told_now w) x (saw w) w.old.session o a
   pub acted : Acted w made (kept_len k) (own_of k) k a
   pub logged : IsLogged a
@@ -154,7 +155,7 @@ pub record IsAgain {S : Type 0} (w : Work S) (made : InodeId) (k : Op Kept) (a :
 -- with its result
 pub record AgainOf {S : Type 0} (w : Work S) (made : InodeId) (k : Op Kept) (r : Result Answer Fault) : Type 0 where
   pub again : IfOk r (λ a. IsAgain w made k a)
-  pub err : OnErr r (IsLeft w)
+  pub err : OnErr r (IsWorkLeft w)
   pub fault : IfErr r (IsAgainFault w.kind w.before w.after (saw w) w.old.session k)
   pub may : IfErr r (MayAgainFault w.before.settings (saw w) w.old.session k)
   pub grows : Grows w.old.at w.new.at
@@ -175,7 +176,7 @@ pub record IsNext {S : Type 0} (w : Work S) (tx : ℕ) (log : Calls) (k : ℕ) (
 pub record NextOf {S : Type 0} (w : Work S) (tx : ℕ) (log : Calls) (k : ℕ) (r : Result (Answer × Bool) Fault) : Type 0 where
   pub next : IfOk r (λ q. IsNext w tx log k q.0)
   pub same : IfOk r (λ q. IsTrue q.1 ↔ (slice_get log.shown k ≡ Some q.0))
-  pub err : OnErr r (IsLeft w)
+  pub err : OnErr r (IsWorkLeft w)
   pub fault : IfErr r (FaultAt w.kind w.before w.after w.kv w.old (slice_get log.ops k))
   pub grows : Grows w.old.at w.new.at
   pub reads : OnlyRead w.kind (between w.before w.after)
@@ -184,8 +185,8 @@ pub record NextOf {S : Type 0} (w : Work S) (tx : ℕ) (log : Calls) (k : ℕ) (
 -- the calls that were left of a transaction, which began with what is in hand before, with their result
 pub record ReplayOf {S : Type 0} (w : Work S) (x : TxnView) (r : Result (Option (ℕ × Answer)) Fault) : Type 0 where
   pub replay : IfOk r (λ q. (ops : List (Op (List ℕ))) (ranges : List (ℕ × Range)) → TellsMap w.kind w.before ranges (metadata_at w.kv x.at.base)
-      → IsAwayTxn w.kind w.before ranges w.kv x → IsSound (size_in w) w.kv (told_then w) x ops
-      → IsReplay (size_in w) w.kv (told_then w, told_now w) (replaying x.tx w.new.at w.new.session x.log (length x.log.ops)) ops q)
+      → IsAwayTxn w.kind w.before ranges w.kv x → LogStands (work_region_size w) w.kv (told_then w) x ops
+      → IsReplay (work_region_size w) w.kv (told_then w, told_now w) (replaying x.tx w.new.at w.new.session x.log (length x.log.ops)) ops q)
   pub redone : IfOk r (λ q. q ≡ None → (lists : List ListFact) × AllRedone (scope w.kind w.before w.after) w.kv x lists w.new × Recalls w.before w.after lists)
   pub named : OnOk r (NamesAgain w.kind w.before w.after w.kv w.old w.new x.log)
   pub fault : IfErr r (ReplayFault w.kind w.before w.after w.kv x)

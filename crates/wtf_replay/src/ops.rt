@@ -3,7 +3,7 @@
 ghost use Rattle.std.specs.Prelude.{◌≡◌, List, false, IfSome, MatchOption, length};
 ghost use Rattle.wtf_base.specs.Slices.{len_of};
 ghost use Rattle.wtf_model.specs.Form.{IsFormOp, IsData, IsKeptData};
-ghost use Rattle.wtf_replay.specs.Built.{is_rw_op, is_slice_op, IsOpOf, IsSliceOpOf, IsFresh, IsStored, data_of, with_data};
+ghost use Rattle.wtf_replay.specs.Built.{is_rw_op, is_slice_op, IsOpOf, IsSliceOpOf, IsFresh, IsStored, call_data, with_data};
 ghost use Rattle.wtf_replay.specs.Keeps.{IsKeptOf};
 
 use wtf_base::{Bytes, Kept, Slice};
@@ -79,7 +79,7 @@ pub(crate) fn slice_of<D>(op: &Op<D>) -> Option<SliceOp<'_>>
 /// The number of bytes of a call's data.
 fn data_len(op: &Op<Bytes>) -> u32
     requires { IsFormOp IsData op.now }
-    ensures { result ≡ length (data_of op.now) }
+    ensures { result ≡ length (call_data op.now) }
 {
     match op {
         Op::Write(_, bytes) => bytes.as_slice().len() as u32,
@@ -91,8 +91,8 @@ fn data_len(op: &Op<Bytes>) -> u32
 /// What a log keeps of a call's data: the slice that was stored of it, and the number of its bytes.
 fn kept_for(op: &Op<Bytes>, own: Option<Slice>) -> Kept
     requires form { IsFormOp IsData op.now }
-    requires own { IfSome own (λ s. len_of s ≡ length (data_of op.now)) }
-    ensures len { result.len ≡ length (data_of op.now) }
+    requires own { IfSome own (λ s. len_of s ≡ length (call_data op.now)) }
+    ensures len { result.len ≡ length (call_data op.now) }
     ensures slice { result.slice ≡ own }
 {
     match own {
@@ -141,7 +141,7 @@ fn keeping(op: Op<Bytes>, kept: Kept) -> Op<Kept>
 /// The call as a log keeps it, with the slice that was stored of its data.
 pub(crate) fn kept_of(op: Op<Bytes>, own: Option<Slice>) -> Op<Kept>
     requires form { IsFormOp IsData op }
-    requires own { IfSome own (λ s. len_of s ≡ length (data_of op)) }
+    requires own { IfSome own (λ s. len_of s ≡ length (call_data op)) }
     ensures kept { IsKeptOf op own result }
     ensures form { IsFormOp IsKeptData result }
 {

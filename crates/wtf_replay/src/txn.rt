@@ -10,12 +10,12 @@ ghost use Rattle.wtf_meta.specs.Maps.{metadata_at};
 ghost use Rattle.wtf_region.specs.Devs.{IsSoundDev, stores};
 ghost use Rattle.wtf_region.specs.Inside.{IsStoredInside};
 ghost use Rattle.wtf_meta.specs.Sessions.{nothing_open};
-ghost use Rattle.wtf_replay.specs.Views.{TxnView, untouched, begun, rebased, is_live};
+ghost use Rattle.wtf_replay.specs.Views.{TxnView, untouched, begun, rebased, is_txn_live};
 ghost use Rattle.wtf_replay.specs.Fits.{IsFit};
-ghost use Rattle.wtf_replay.specs.Sounds.{IsSound};
+ghost use Rattle.wtf_replay.specs.Sounds.{LogStands};
 ghost use Rattle.wtf_replay.specs.Insides.{IsInsideTxn};
 ghost use Rattle.wtf_replay.specs.Tried.{commit_from};
-ghost use Rattle.wtf_replay.specs.Verbs.{turn, AttemptOf, RestartOf, CallOf, StepOf, CommitOf, IsReady, ended_by};
+ghost use Rattle.wtf_replay.specs.Verbs.{turn, AttemptOf, RestartOf, CallOf, StepOf, CommitOf, CanCommit, ended_by};
 
 use crate::commit::finish;
 use crate::ops::kept_of;
@@ -108,7 +108,7 @@ impl Txn {
         ensures err { OnErr result (kv.new ≡ kv.old) }
         ensures fit { IfOk result (λ x. IsFit kv.new x) }
         ensures sound { IfOk result
-            (λ x. (size : ℕ) (told : Told) → IsSound size kv.new told x []) }
+            (λ x. (size : ℕ) (told : Told) → LogStands size kv.new told x []) }
     {
         let log = Log::new(alloc)?;
         let (at, session) = start(alloc, kv)?;
@@ -139,7 +139,7 @@ impl Txn {
 
     /// Whether all of its calls are done at its base.
     fn is_live(&self) -> bool
-        ensures { result ≡ is_live self.now }
+        ensures { result ≡ is_txn_live self.now }
     {
         self.replayed == self.log.len()
     }
@@ -375,7 +375,7 @@ impl Txn {
         dev: &mut Dev<'_, S>,
         kv: &mut Kv<Key, Value>,
     ) -> Result<Answer, Fault>
-        requires ready { IsReady S.kind dev.old kv.old self.old }
+        requires ready { CanCommit S.kind dev.old kv.old self.old }
         requires live { self.old.replayed ≡ length self.old.log.ops }
         ensures commit { CommitOf (turn S.kind dev.old dev.new kv.old kv.new self.old self.new)
             result }
@@ -402,7 +402,7 @@ impl Txn {
         dev: &mut Dev<'_, S>,
         kv: &mut Kv<Key, Value>,
     ) -> Result<Answer, Fault>
-        requires ready { IsReady S.kind dev.old kv.old self.old }
+        requires ready { CanCommit S.kind dev.old kv.old self.old }
         requires base { self.old.at.base ≡ kv.old.number }
         requires from { commit_from kv.old self.old ≡ self.old }
         ensures commit { CommitOf (turn S.kind dev.old dev.new kv.old kv.new self.old self.new)
@@ -427,7 +427,7 @@ impl Txn {
         dev: &mut Dev<'_, S>,
         kv: &mut Kv<Key, Value>,
     ) -> Result<Answer, Fault>
-        requires ready { IsReady S.kind dev.old kv.old self.old }
+        requires ready { CanCommit S.kind dev.old kv.old self.old }
         requires from { commit_from kv.old self.old ≡ rebased self.old kv.old.number }
         ensures commit { CommitOf (turn S.kind dev.old dev.new kv.old kv.new self.old self.new)
             result }

@@ -16,7 +16,8 @@ returns c =
     record {
       fit = begins.fit;
       held = λ shelf settings.
-          let root : IsStoredInside mem_store shelf settings (metadata_at kv kv.number) = c.in_ok-kv.ensures (is_inside mem_store shelf settings) any_slice refl in
+          let root : IsStoredInside mem_store shelf settings (metadata_at kv kv.number) =
+          c.in_ok-kv.ensures (is_inside mem_store shelf settings) any_slice refl in
           held_begun shelf settings c.begin.new.kv c.in_ok-txn.txn _ kv.number begins.value begins.fit
           (subst (λ (s : Store Key Value). IsStoredInside mem_store shelf settings (metadata_at s kv.number)) (sym begins.ok) root)
           (subst (λ (s : Store Key Value). IsStoredInside mem_store shelf settings (metadata_at s s.number)) (sym begins.ok) root);

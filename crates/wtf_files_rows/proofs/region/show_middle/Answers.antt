@@ -14,4 +14,5 @@ show-requires-clause-readable c =
     let Can : Part → Type 0 = λ x. IsReadablePart mem_store (is_down_in dev) (stores dev) x in
     let P : Piece → Type 0 = λ p. Can p.part in
     All-cons P c.of-zeros.result (c.of-digits.result ∷ []) (subst Can (sym c.of-zeros.ensures.part) tt)
-    (All-cons P c.of-digits.result [] (subst Can (sym c.of-digits.ensures.part) (slice_readable mem_store (is_down_in dev) (stores dev) c.in_ok-slice.slice c.in_ok-slice.ensures.inside)) (All-nil P))
+    (All-cons P c.of-digits.result [] (subst Can (sym c.of-digits.ensures.part)
+    (slice_readable mem_store (is_down_in dev) (stores dev) c.in_ok-slice.slice c.in_ok-slice.ensures.inside)) (All-nil P))

@@ -13,4 +13,5 @@ pub returns-clause-inside : goal.returns-clause-inside
 returns-clause-inside c =
     let P : List Place → Bool = is_inside mem_store (stores c.args.dev.now) c.args.dev.now.settings in
     let came = c.call-came.ensures.inside (c.if-not-is_fresh.ensures.whole refl) (c.if-not-is_fresh.ensures.bytes refl P) c.requires.inside.1 in
-    subst (λ (x : Settings). AreInside mem_store (stores c.call-came.new.dev) x (seen c.args.kv.now c.call-came.new.at) c.call-came.new.s) (sym c.call-came.ensures.call.dev.settings) came
+    subst (λ (x : Settings). AreInside mem_store (stores c.call-came.new.dev) x (seen c.args.kv.now c.call-came.new.at) c.call-came.new.s)
+    (sym c.call-came.ensures.call.dev.settings) came

@@ -18,11 +18,13 @@ use Rattle.wtf_meta.proofs.MapBytes.{with_bytes}
 use Rattle.wtf_files_rows.proofs.store.tree_made.Goals as goal
 
 -- a value that is put brings no byte but its own
-put_bytes : (kv : Store Key Value) (old new : Attempted Key Delta) (k : Key) (v : Value) → new ≡ record old { changes = old.changes ++ change.Delta k (delta.Put v) ∷ [] }
+put_bytes : (kv : Store Key Value) (old new : Attempted Key Delta) (k : Key) (v : Value)
+    → new ≡ record old { changes = old.changes ++ change.Delta k (delta.Put v) ∷ [] }
     → (P : List Place → Bool) (Q : Slice → Bool) → P [] ≡ true → ValueBytes P Q (Some v) → MapBytes P Q (seen kv old) → MapBytes P Q (seen kv new)
 put_bytes kv old new k v is P Q hole here map =
     let cs = change.Delta k (delta.Put v) ∷ [] in
-    let grows : GrowsBy old new [] cs = subst (λ (a : Attempted Key Delta). GrowsBy old a [] cs) (sym is) (record { base = refl; reads = sym (append-nil old.reads); changes = refl }) in
+    let grows : GrowsBy old new [] cs = subst (λ (a : Attempted Key Delta). GrowsBy old a [] cs) (sym is)
+    (record { base = refl; reads = sym (append-nil old.reads); changes = refl }) in
     subst (λ (w : Map). MapBytes P Q w) (sym (map_seen-by key_cmp outcome_of kv old new [] cs grows)) (with_bytes P Q hole cs (seen kv old) map (here, tt))
 
 pub returns : goal.returns

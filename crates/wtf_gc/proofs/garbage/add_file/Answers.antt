@@ -1,6 +1,6 @@
 use Rattle.std.proofs.Common.{◌≡◌, ◌+◌, ◌++◌, ℕ, map, subst, sym, ap, ◌∙◌, arith}
-use Rattle.wtf_gc.specs.Extents.{covers}
-use Rattle.wtf_gc.specs.Spans.{covers as spans_cover, Apart, is_gap, size_of}
+use Rattle.wtf_gc.specs.Extents.{extents_cover}
+use Rattle.wtf_gc.specs.Spans.{spans_cover, Apart, is_gap, size_of}
 use Rattle.wtf_gc.specs.Frees.{ranges_of}
 use Rattle.wtf_gc.specs.Unused.{range_at, IsUnused}
 use Rattle.wtf_gc.specs.Views.{mark_in}
@@ -36,6 +36,6 @@ returns c =
     c.total.ensures ∙ ap (λ l. size_of m (spans_cover l)) c.as_slice-2.ensures.value ∙ ap (λ (n : ℕ). size_of n (spans_cover gs)) is_mark in
     let put : ranges_of c.put_spans.new.to.items ≡ ranges_of old.extents.items ++ map (range_at k f) gs =
     c.in_ok-put_spans.ensures ∙ ap (λ l. ranges_of old.extents.items ++ map (range_at k f) l) c.as_slice.ensures.value in
-    subst (λ r. IsUnused k mark (covers c.args.used.now) (f + 1) r (old.bytes + c.total.result)) (sym put)
-    (file_more k f mark (covers c.args.used.now)
+    subst (λ r. IsUnused k mark (extents_cover c.args.used.now) (f + 1) r (old.bytes + c.total.result)) (sym put)
+    (file_more k f mark (extents_cover c.args.used.now)
     (ranges_of old.extents.items) old.bytes gs spans apart exact c.in_ok-used_spans.ensures.used c.total.result c.requires.fits more c.requires.upto)

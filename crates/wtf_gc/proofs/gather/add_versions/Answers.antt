@@ -1,7 +1,7 @@
 use Rattle.std.proofs.Common.{rules, ◌≡◌, ℕ, ◌||◌, ◌++◌, ◌∷◌, Option, sym, ap, ◌∙◌, append_assoc}
 use Rattle.std.specs.Option.{option_copied}
 use Rattle.wtf_values.specs.declared.value.Value.{Value}
-use Rattle.wtf_gc.specs.Extents.{covers}
+use Rattle.wtf_gc.specs.Extents.{extents_cover}
 use Rattle.wtf_gc.specs.Parts.{value_has, value_bases, versions_have, versions_bases}
 use Rattle.wtf_gc.proofs.Adding.{or_thrice}
 use Rattle.wtf_gc.proofs.gather.add_versions.Goals as goal
@@ -14,8 +14,9 @@ loop-version-preserved c =
     let is : c.loop-version.version-iterator ≡ v ∷ rest = search rules in
     record {
       found_is = λ p.
-          ap (λ b. b || versions_have rest p) (c.in_ok-add_value.ensures.found p) ∙ or_thrice (covers was.found p) (value_has v.1 p) (versions_have rest p)
-          ∙ ap (λ b. covers was.found p || b) (sym (ap (λ vs. versions_have vs p) is)) ∙ c.loop-version.invariant.found_is p;
+          ap (λ b. b || versions_have rest p) (c.in_ok-add_value.ensures.found p) ∙ or_thrice (extents_cover was.found p) (value_has v.1 p)
+          (versions_have rest p)
+          ∙ ap (λ b. extents_cover was.found p || b) (sym (ap (λ vs. versions_have vs p) is)) ∙ c.loop-version.invariant.found_is p;
       bases_are = ap (λ l. l ++ versions_bases c.args.part rest) c.in_ok-add_value.ensures.bases
           ∙ append_assoc was.bases.items (value_bases c.args.part v.1) (versions_bases c.args.part rest)
           ∙ ap (λ l. was.bases.items ++ l) (sym (ap (versions_bases c.args.part) is)) ∙ c.loop-version.invariant.bases_are;

@@ -1,6 +1,6 @@
 use Rattle.std.proofs.Common.{refl, sym, ap, ◌∙◌}
 use Rattle.std.proofs.lemmas.Result.{on_ok_weaker}
-use Rattle.wtf_gc_rows.specs.Ready.{IsReady}
+use Rattle.wtf_gc_rows.specs.Ready.{IsGcReady}
 use Rattle.wtf_gc_rows.proofs.Readying.{other_servers}
 use Rattle.wtf_gc_rows.proofs.scans.collect_down.Goals as goal
 
@@ -18,6 +18,6 @@ pub returns : goal.returns
 returns c =
     let lent = c.collect.ensures.lent in
     on_ok_weaker c.collect.result
-    (λ (ready : IsReady c.collect.new.dev c.args.kv.now c.collect.new.gc). other_servers c.collect.new.dev _ c.args.kv.now c.collect.new.gc refl refl
+    (λ (ready : IsGcReady c.collect.new.dev c.args.kv.now c.collect.new.gc). other_servers c.collect.new.dev _ c.args.kv.now c.collect.new.gc refl refl
     (sym (ap (λ r. r.now) lent.ring)) (sym lent.settings) c.requires.sound.replicas ready)
     c.collect.ensures.ready

@@ -1,13 +1,13 @@
 use Rattle.std.proofs.Common.{refl, subst}
 use Rattle.std.specs.List.{flat_map}
-use Rattle.wtf_imagefmt.specs.Rows.{rows_of}
+use Rattle.wtf_imagefmt.specs.Rows.{image_rows}
 use Rattle.wtf_image.specs.Seeds.{Adds, dir_seed}
 use Rattle.wtf_image.proofs.LoadLaws.{is_loaded}
 use Rattle.wtf_image.proofs.loads.load_without.Goals as goal
 
 pub returns-clause-loaded : goal.returns-clause-loaded
 returns-clause-loaded g c =
-    let x = rows_of c.in-Ok.image in
+    let x = image_rows c.in-Ok.image in
     let b = c.in-Ok-store_of.kv in
     let names = subst (λ ps. Adds b c.add_names.new.kv (flat_map (dir_seed ps) ps)) c.as_slice.ensures.value c.in-Ok-add_names.ensures in
     record {

@@ -1,13 +1,13 @@
 use Rattle.std.proofs.Common.{subst}
 use Rattle.std.specs.List.{flat_map}
-use Rattle.wtf_imagefmt.specs.Rows.{rows_of, file_rows}
+use Rattle.wtf_imagefmt.specs.Rows.{image_rows, file_rows}
 use Rattle.wtf_image.specs.Seeds.{Adds, file_seeds, path_seed}
 use Rattle.wtf_image.proofs.LoadLaws.{started, no_path_yet, is_partly}
 use Rattle.wtf_image.proofs.loads.store_of.Goals as goal
 
 pub seed_paths-requires-clause-fresh : goal.seed_paths-requires-clause-fresh
 seed_paths-requires-clause-fresh c =
-    let x = rows_of c.args.image.now in
+    let x = image_rows c.args.image.now in
     let a = c.in_ok-kv.kv in
     let first = started a x.header.installs c.start.result c.in_ok-kv.was c.start.ensures in
     let files = subst (λ fs. Adds a c.seed_files.new.kv (flat_map file_seeds (file_rows fs))) c.as_slice.ensures.value c.in_ok-seed_files.ensures in
@@ -15,7 +15,7 @@ seed_paths-requires-clause-fresh c =
 
 pub returns : goal.returns
 returns c =
-    let x = rows_of c.args.image.now in
+    let x = image_rows c.args.image.now in
     let a = c.in_ok-kv.kv in
     let first = started a x.header.installs c.start.result c.in_ok-kv.was c.start.ensures in
     let files = subst (λ fs. Adds a c.seed_files.new.kv (flat_map file_seeds (file_rows fs))) c.as_slice.ensures.value c.in_ok-seed_files.ensures in

@@ -6,7 +6,7 @@ use Rattle.std.specs.Ordering.{nat_cmp}
 use Rattle.std.specs.Cmp.Lexicographic.{slice_cmp}
 use Rattle.std.proofs.lemmas.Result.{on_ok_weaker}
 use Rattle.wtf_values.specs.Names.{NamesOf, no_names, with_name}
-use Rattle.wtf_image.specs.Tables.{names_in}
+use Rattle.wtf_image.specs.Tables.{table_names}
 use Rattle.wtf_image.proofs.NameTables.{names_set}
 use Rattle.wtf_image.proofs.names.add_in.Goals as goal
 
@@ -25,4 +25,4 @@ returns c = λ d.
     let none : lookup (is_at (slice_cmp nat_cmp c.args.dir)) old ≡ None = search rules in
     names_set old _ d c.args.dir c.args.name c.add-2.new.self (c.in_ok-insert.ensures.updates.0 d)
     (c.in_ok-add.ensures.ok ∙ ap (λ (o : NamesOf). with_name o c.args.name) (c.new-names.ensures ∙ sym (ap (λ o. unwrap_or o no_names) none)))
-    ∙ ap (λ es. cond (is_at (slice_cmp nat_cmp c.args.dir) d) (with_name (names_in es d) c.args.name) (names_in es d)) same
+    ∙ ap (λ es. cond (is_at (slice_cmp nat_cmp c.args.dir) d) (with_name (table_names es d) c.args.name) (table_names es d)) same

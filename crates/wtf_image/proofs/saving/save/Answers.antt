@@ -1,6 +1,6 @@
 use Rattle.std.proofs.Common.{ap}
 use Rattle.wtf_imagefmt.specs.declared.records.Image.{Image}
-use Rattle.wtf_imagefmt.specs.Rows.{rows_of}
+use Rattle.wtf_imagefmt.specs.Rows.{image_rows}
 use Rattle.wtf_imagefmt.specs.Saving.{header_of, IsSaveOf}
 use Rattle.wtf_imagefmt.proofs.Gathered.{image_form}
 use Rattle.wtf_image.proofs.SaveMap.{is_kept}
@@ -14,7 +14,7 @@ saved c =
       paths = c.in_ok-paths.paths;
       files = c.in_ok-files.files;
     } in
-    let x = rows_of image in
+    let x = image_rows image in
     let paths = c.in_ok-paths.ensures in
     let files = c.in_ok-files.ensures in
     record {

@@ -4,7 +4,7 @@ use Rattle.std.specs.Prelude.{count_by}
 use Rattle.wtf_base.specs.declared.ids.InodeId.{InodeId}
 use Rattle.wtf_imagefmt.specs.declared.records.PathRecord.{PathRecord}
 use Rattle.wtf_imagefmt.specs.declared.records.FileRecord.{FileRecord}
-use Rattle.wtf_imagefmt.specs.Rows.{rows_of, file_rows}
+use Rattle.wtf_imagefmt.specs.Rows.{image_rows, file_rows}
 use Rattle.wtf_image.specs.Rules.{is_name_of, is_good_file}
 use Rattle.wtf_image.specs.Tables.{count_in, shown, has_shown_parent, is_shown_node}
 use Rattle.wtf_image.proofs.TreeLaws.{top_is, parents_are, recorded_are, named_are, tree_is}
@@ -12,7 +12,7 @@ use Rattle.wtf_image.proofs.tree.is_tree.Goals as goal
 
 pub returns : goal.returns
 returns c =
-    let x = rows_of c.args.image.now in
+    let x = image_rows c.args.image.now in
     let m = shown c.args.kv.now in
     let paths_are = c.as_slice-paths.ensures.value in
     let files_are = c.as_slice-files.ensures.value in

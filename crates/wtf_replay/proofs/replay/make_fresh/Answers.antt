@@ -7,7 +7,7 @@ use Rattle.wtf_steps.specs.Leaving.{LeavesStores}
 use Rattle.wtf_steps.proofs.Leaving.{leaves_read}
 use Rattle.wtf_slicing.specs.Sights.{sight}
 use Rattle.wtf_replay.specs.Views.{in_hand}
-use Rattle.wtf_replay.specs.Built.{data_of, data_len}
+use Rattle.wtf_replay.specs.Built.{call_data, data_len}
 use Rattle.wtf_replay.specs.Sounds.{tells_slice}
 use Rattle.wtf_replay.specs.Works.{work, told_now}
 use Rattle.wtf_replay.proofs.EffectLaws.{acts_fresh, holds_fresh}
@@ -49,9 +49,9 @@ returns-in-Ok g c =
       made = record {
         first = record {
           does = λ x by.
-              rw_work w r d.own (data_of o) x o d.answer d.own (λ P has. made.bytes P) (λ P has. has)
-              (call.step x (data_of o) by.size_is made.writes made.whole) made.is
-              (λ tell. fresh_tell (tells_slice (told_now w)) r o (data_of o) c.in-Some.ensures);
+              rw_work w r d.own (call_data o) x o d.answer d.own (λ P has. made.bytes P) (λ P has. has)
+              (call.step x (call_data o) by.size_is made.writes made.whole) made.is
+              (λ tell. fresh_tell (tells_slice (told_now w)) r o (call_data o) c.in-Some.ensures);
           acted = record {
             lists = lists;
             known = call.recalls.known;
@@ -92,7 +92,7 @@ returns-in-Err g c =
         first = tt;
         err = c.in-Err.ensures.err;
         fault = ways.fault c.in-Err.why call.fault;
-        due = subst (λ q. MayFault dev.settings b s q c.in-Err.why) made.is (call.due (data_of o) made.writes);
+        due = subst (λ q. MayFault dev.settings b s q c.in-Err.why) made.is (call.due (call_data o) made.writes);
         grows = call.grows;
         leaves = subst (λ (f : Option ℕ). LeavesStores kind f (between dev c.call.new.dev)) (ways.file) call.leaves;
         reads = λ none. call.reads (ways.none none);

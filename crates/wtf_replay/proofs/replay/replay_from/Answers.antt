@@ -14,7 +14,7 @@ use Rattle.wtf_region.proofs.Spans.{goes_nowhere, goes_on}
 use Rattle.wtf_replay.specs.Views.{in_hand, replaying}
 use Rattle.wtf_replay.specs.Insides.{IsHandInside, IsLogInside}
 use Rattle.wtf_replay.specs.Replays.{DeviatesOn}
-use Rattle.wtf_replay.specs.Sounds.{IsSound, TellsMap, IsAwayTxn}
+use Rattle.wtf_replay.specs.Sounds.{LogStands, TellsMap, IsAwayTxn}
 use Rattle.wtf_replay.specs.Works.{work}
 use Rattle.wtf_replay.proofs.Again.{again_same, again_other}
 use Rattle.wtf_replay.proofs.Insiding.{log_later}
@@ -110,9 +110,10 @@ loop-k-preserved g c =
           subst (λ n. TellsMap kind mid ranges (metadata_at kv n)) (sym inv.grows.base)
           (tells_map_on laws inv.dev ranges (metadata_at kv c.args.at.now.base) tells) in
           let away_mid : IsAwayTxn kind mid ranges kv x = replay_away laws inv.dev ranges kv start x ops begins tells away refl inv.named in
-          let sound : IsSound mid.settings.region kv (byte_at kind (stores mid)) x ops = subst (λ z. IsSound z kv (byte_at kind (stores mid)) x ops) (sym size)
+          let sound : LogStands mid.settings.region kv (byte_at kind (stores mid)) x ops =
+          subst (λ z. LogStands z kv (byte_at kind (stores mid)) x ops) (sym size)
           (inv.sound ops ranges tells away begins) in
-          subst (λ z. IsSound z kv (byte_at kind (stores new)) y ops) size
+          subst (λ z. LogStands z kv (byte_at kind (stores new)) y ops) size
           (again_same laws made.dev ranges kv x ops sound tells_mid away_mid left y a
           (λ kept o at. next_told w c.args.tx.0 log c.loop-k.k a made.next laws made.dev c.requires.log shown ranges kept o at) shown refl refl refl);
     }
@@ -179,7 +180,7 @@ returns-then-not-same g c =
             subst (λ n. TellsMap kind mid ranges (metadata_at kv n)) (sym inv.grows.base)
             (tells_map_on laws inv.dev ranges (metadata_at kv c.args.at.now.base) tells) in
             let away_mid : IsAwayTxn kind mid ranges kv x = replay_away laws inv.dev ranges kv begun x ops start tells away refl inv.named in
-            let sound : IsSound mid.settings.region kv (byte_at kind (stores mid)) x ops = subst (λ z. IsSound z kv (byte_at kind (stores mid)) x ops) (sym size)
+            let sound : LogStands mid.settings.region kv (byte_at kind (stores mid)) x ops = subst (λ z. LogStands z kv (byte_at kind (stores mid)) x ops) (sym size)
             (inv.sound ops ranges tells away start) in
             let differs : slice_get log.shown c.loop-k.k ≢ Some a = λ e.
             let hit : c.in-Ok.both.1 ≡ true = made.same.1 e in let bad : true ≡ false = sym hit ∙ c.if-not-same.true in cc in
@@ -212,7 +213,7 @@ returns g c =
     record {
       made = record {
         replay = λ ops ranges tells away start.
-            subst (λ (n : ℕ). IsSound dev.settings.region kv (byte_at kind (stores c.loop-k.dev))
+            subst (λ (n : ℕ). LogStands dev.settings.region kv (byte_at kind (stores c.loop-k.dev))
             (replaying c.args.tx.0 c.loop-k.at c.loop-k.session log n) ops) all (inv.sound ops ranges tells away start);
         redone = λ none. (
           inv.redone.0,

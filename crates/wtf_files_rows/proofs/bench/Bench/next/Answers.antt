@@ -7,7 +7,7 @@ use Rattle.wtf_values.specs.declared.value.Value.{Value}
 use Rattle.wtf_meta.specs.Maps.{metadata_at}
 use Rattle.wtf_region.specs.Inside.{IsStoredInside}
 use Rattle.wtf_replay.specs.Views.{TxnView}
-use Rattle.wtf_files_rows.specs.Benches.{IsHeld}
+use Rattle.wtf_files_rows.specs.Benches.{IsTxnHeld}
 use Rattle.wtf_files_rows.proofs.BenchLaws.{held_next}
 use Rattle.wtf_files_rows.proofs.bench.Bench.next.Goals as goal
 
@@ -19,8 +19,9 @@ invariant_of-self-2 c =
     let begins = c.in_ok-next.ensures in
     let last = c.replace-last.result in (
       was.0,
-      subst (λ (x : TxnView). IsHeld at.parts.shelf at.parts.settings c.drop_all.new.kv x) (sym c.replace-last.ensures.after)
-          (held_next at.parts.shelf at.parts.settings kv c.begin.new.kv c.begin.new.kv c.drop_all.new.kv c.in_ok-next.next _ last.at.base begins.value begins.ok begins.pinned begins.fit (λ n le. refl) (λ n. refl)
+      subst (λ (x : TxnView). IsTxnHeld at.parts.shelf at.parts.settings c.drop_all.new.kv x) (sym c.replace-last.ensures.after)
+          (held_next at.parts.shelf at.parts.settings kv c.begin.new.kv c.begin.new.kv c.drop_all.new.kv c.in_ok-next.next _ last.at.base begins.value begins.ok
+          begins.pinned begins.fit (λ n le. refl) (λ n. refl)
           c.drop_all.ensures.rest c.drop_all.ensures.once
           (subst (λ (x : TxnView). IsTrue (is_pinned kv x.at.base)) (sym c.replace-last.ensures.value) was.1.fit.pinned)
           was.1.now

@@ -3,7 +3,7 @@ use Rattle.std.specs.Option.{option_map}
 use Rattle.std.proofs.lemmas.Result.{IfOk-at_ok}
 use Rattle.wtf_base.specs.Places.{Place}
 use Rattle.wtf_kv.specs.Stores.{times_pinned}
-use Rattle.wtf_gc.specs.Extents.{covers}
+use Rattle.wtf_gc.specs.Extents.{extents_cover}
 use Rattle.wtf_gc.specs.Pinning.{IsPinnedFor}
 use Rattle.wtf_gc.specs.Scans.{AreHeld, run_on, with_finished}
 use Rattle.wtf_gc.specs.Views.{ScanView, RunView, GcView, run_view, scan_view}
@@ -26,8 +26,8 @@ returns-clause-ok c =
     let done = c.args.done in
     let was : old.running ≡ Some (run_view run) =
     sym (ap (λ (x : GcView). x.running) c.self.view_is) ∙ ap (option_map run_view) (sym c.take.ensures.value ∙ c.in-Some.is) in
-    let adds : (p : Place) → covers next.scan.found p ≡ (covers run.scan.found p || covers c.args.found.now p) =
-    IfOk-at_ok (λ u. (p : Place) → covers next.scan.found p ≡ (covers run.scan.found p || covers c.args.found.now p))
+    let adds : (p : Place) → extents_cover next.scan.found p ≡ (extents_cover run.scan.found p || extents_cover c.args.found.now p) =
+    IfOk-at_ok (λ u. (p : Place) → extents_cover next.scan.found p ≡ (extents_cover run.scan.found p || extents_cover c.args.found.now p))
     c.in_default-grow.is c.grow.ensures.adds in
     let left : next.left ≡ run.left - done = IfOk-at_ok (λ u. next.left ≡ run.left - done) c.in_default-grow.is c.grow.ensures.left in
     let none : run.left - done ≡ 0 = omega (arith, left, c.if-left-gt0.false) in
@@ -53,8 +53,8 @@ returns-then-left-gt0-clause-ok c =
     let done = c.args.done in
     let was : old.running ≡ Some (run_view run) =
     sym (ap (λ (x : GcView). x.running) c.self.view_is) ∙ ap (option_map run_view) (sym c.take.ensures.value ∙ c.in-Some.is) in
-    let adds : (p : Place) → covers next.scan.found p ≡ (covers run.scan.found p || covers c.args.found.now p) =
-    IfOk-at_ok (λ u. (p : Place) → covers next.scan.found p ≡ (covers run.scan.found p || covers c.args.found.now p))
+    let adds : (p : Place) → extents_cover next.scan.found p ≡ (extents_cover run.scan.found p || extents_cover c.args.found.now p) =
+    IfOk-at_ok (λ u. (p : Place) → extents_cover next.scan.found p ≡ (extents_cover run.scan.found p || extents_cover c.args.found.now p))
     c.in_default-grow.is c.grow.ensures.adds in
     let left : next.left ≡ run.left - done = IfOk-at_ok (λ u. next.left ≡ run.left - done) c.in_default-grow.is c.grow.ensures.left in
     let then_run : RunView = run_on (run_view run) done next.scan.found in

@@ -3,7 +3,7 @@ use Rattle.std.specs.Option.{option_map}
 use Rattle.wtf_base.specs.Places.{Place}
 use Rattle.wtf_region.specs.Devs.{GoesOn}
 use Rattle.wtf_gc.specs.declared.extent.Extent.{Extent}
-use Rattle.wtf_gc.specs.Extents.{covers}
+use Rattle.wtf_gc.specs.Extents.{extents_cover}
 use Rattle.wtf_gc.specs.Frees.{AreZeroed, ranges_of, StopsAt, FreesAll, IsCollectFault}
 use Rattle.wtf_gc.specs.Unused.{used_by, IsUnused}
 use Rattle.wtf_gc.specs.Views.{GcView, mark_in, run_view, scan_view}
@@ -26,11 +26,11 @@ returns-in-Err-free_each-clause-fault g c =
     let used = c.in-Ok.used.items in
     let es = c.in-Ok-unused_of.garbage.extents.items in
     let bytes = c.in-Ok-unused_of.garbage.bytes in
-    let are : (p : Place) → p.server ≡ k → covers used p ≡ used_by in_self.older.found in_self.newer.found in_self.freed p = λ p e.
+    let are : (p : Place) → p.server ≡ k → extents_cover used p ≡ used_by in_self.older.found in_self.newer.found in_self.freed p = λ p e.
     c.in-Ok.ensures p e ∙ (λ i. used_by (c.as_slice.ensures i) (c.as_slice-2.ensures i) (c.as_slice-3.ensures i) p) in
-    let unused : IsUnused k (mark_in in_self.older.marks.items) (covers used) 8 (ranges_of es) bytes =
-    subst (λ (l : List Extent). IsUnused k (mark_in in_self.older.marks.items) (covers l) 8 (ranges_of es) bytes) c.as_slice-5.ensures.value
-    (subst (λ (ms : List ℕ). IsUnused k (mark_in ms) (covers c.as_slice-5.result.now) 8 (ranges_of es) bytes)
+    let unused : IsUnused k (mark_in in_self.older.marks.items) (extents_cover used) 8 (ranges_of es) bytes =
+    subst (λ (l : List Extent). IsUnused k (mark_in in_self.older.marks.items) (extents_cover l) 8 (ranges_of es) bytes) c.as_slice-5.ensures.value
+    (subst (λ (ms : List ℕ). IsUnused k (mark_in ms) (extents_cover c.as_slice-5.result.now) 8 (ranges_of es) bytes)
     c.as_slice-4.ensures.value c.in-Ok-unused_of.ensures) in
     let done = c.in-Err-free_each.stopped.done in
     let why = c.in-Err-free_each.stopped.why in
@@ -58,11 +58,11 @@ returns-clause-frees g c =
     let used = c.in-Ok.used.items in
     let es = c.in-Ok-unused_of.garbage.extents.items in
     let bytes = c.in-Ok-unused_of.garbage.bytes in
-    let are : (p : Place) → p.server ≡ k → covers used p ≡ used_by in_self.older.found in_self.newer.found in_self.freed p = λ p e.
+    let are : (p : Place) → p.server ≡ k → extents_cover used p ≡ used_by in_self.older.found in_self.newer.found in_self.freed p = λ p e.
     c.in-Ok.ensures p e ∙ (λ i. used_by (c.as_slice.ensures i) (c.as_slice-2.ensures i) (c.as_slice-3.ensures i) p) in
-    let unused : IsUnused k (mark_in in_self.older.marks.items) (covers used) 8 (ranges_of es) bytes =
-    subst (λ (l : List Extent). IsUnused k (mark_in in_self.older.marks.items) (covers l) 8 (ranges_of es) bytes) c.as_slice-5.ensures.value
-    (subst (λ (ms : List ℕ). IsUnused k (mark_in ms) (covers c.as_slice-5.result.now) 8 (ranges_of es) bytes)
+    let unused : IsUnused k (mark_in in_self.older.marks.items) (extents_cover used) 8 (ranges_of es) bytes =
+    subst (λ (l : List Extent). IsUnused k (mark_in in_self.older.marks.items) (extents_cover l) 8 (ranges_of es) bytes) c.as_slice-5.ensures.value
+    (subst (λ (ms : List ℕ). IsUnused k (mark_in ms) (extents_cover c.as_slice-5.result.now) 8 (ranges_of es) bytes)
     c.as_slice-4.ensures.value c.in-Ok-unused_of.ensures) in
     let freed = c.merge_when_due-merged.new.self in
     let goes : GoesOn kind c.args.dev.now c.free_each.new.dev (ranges_of es) =
@@ -72,4 +72,4 @@ returns-clause-frees g c =
     c.in_default-free_each.ensures.zeroed in
     subst (λ (x : GcView). FreesAll kind k c.args.dev.now c.free_each.new.dev x (with_freed before freed) bytes) c.self.view_is
     (frees_all g.met.S.SliceStore.laws k c.args.dev.now c.free_each.new.dev before freed es used bytes are unused goes zeroed
-    (λ p. c.merge_when_due-merged.ensures p ∙ ap (λ l. covers l p) (c.in_default.ensures.ok ∙ ap (λ l. in_self.freed ++ l) c.as_slice-6.ensures.value)))
+    (λ p. c.merge_when_due-merged.ensures p ∙ ap (λ l. extents_cover l p) (c.in_default.ensures.ok ∙ ap (λ l. in_self.freed ++ l) c.as_slice-6.ensures.value)))

@@ -2,7 +2,7 @@ use Rattle.std.proofs.Common.{◌≡◌, ◌+◌, ◌-◌, ℕ, min, List, Some,
 use Rattle.std.specs.Option.{option_map}
 use Rattle.wtf_gc.specs.declared.extent.Extent.{Extent}
 use Rattle.wtf_gc.specs.declared.parts.Parts.{Parts}
-use Rattle.wtf_gc.specs.Extents.{covers, no_places}
+use Rattle.wtf_gc.specs.Extents.{extents_cover, no_places}
 use Rattle.wtf_gc.specs.Reading.{PartsRead}
 use Rattle.wtf_gc.specs.Scans.{Advances}
 use Rattle.wtf_gc.specs.Views.{GcView, run_view}
@@ -31,8 +31,8 @@ returns-in-Ok-clause-does g c =
     let more = c.as_slice.result.now in
     let was : c.args.self.now.running ≡ Some (run_view run) = sym (ap (λ (x : GcView). x.running) c.self.view_is) ∙ ap (option_map run_view) c.in-Some.is in
     let parts_to : ℕ → Parts = λ d. record { first = 64 - run.left; end = (64 - run.left) + d } in
-    let read : PartsRead kind old new kv (parts_to c.min-done.result) no_places (covers more) =
-    subst (λ (l : List Extent). PartsRead kind old new kv (parts_to c.min-done.result) no_places (covers l))
+    let read : PartsRead kind old new kv (parts_to c.min-done.result) no_places (extents_cover more) =
+    subst (λ (l : List Extent). PartsRead kind old new kv (parts_to c.min-done.result) no_places (extents_cover l))
     (sym c.as_slice.ensures) c.in_ok-found.ensures.read in
     let adv : Advances kv c.advance.new.kv c.args.self.now c.advance.new.self (min run.left n) left more =
     subst (λ (d : ℕ). Advances kv c.advance.new.kv c.args.self.now c.advance.new.self d left more) c.min-done.ensures c.in-Ok.ensures.ok in

@@ -1,5 +1,5 @@
 use Rattle.std.proofs.Common.{◌≡◌, ◌∙◌, ℕ, ap, length, rules, subst, sym}
-use Rattle.wtf_journal.specs.Held.{IsOpened}
+use Rattle.wtf_journal.specs.Held.{IsJournalOpened}
 use Rattle.wtf_journal.specs.Views.{JournalView, noted}
 use Rattle.wtf_journal.specs.Moments.{goes_on_on}
 use Rattle.wtf_journal.proofs.Follow.{rose_later}
@@ -41,7 +41,7 @@ returns-clause-image g c =
 
 pub returns-clause-opened : goal.returns-clause-opened
 returns-clause-opened g c = λ tells.
-    subst (λ (j : JournalView). IsOpened g.D.Disk.kind c.args.disk.now c.renew.new.disk j.end c.in_ok-image.image.items) (sym c.note_image.ensures)
+    subst (λ (j : JournalView). IsJournalOpened g.D.Disk.kind c.args.disk.now c.renew.new.disk j.end c.in_ok-image.image.items) (sym c.note_image.ensures)
     (is_opened c.none-held.result c.none-held.ensures g.D.Disk.kind c.args.disk.now c.open_with.new.disk c.in-Ok.journal.end c.open_with.new.meaning
     (c.in-Ok.ensures.opened tells) c.in_ok-image.image.items c.in_ok-image.ensures c.is_behind-behind.result c.is_behind-behind.ensures
     c.deref.result.now c.deref.ensures.value (c.open_with.ensures.goes_on.tells ∙ tells) c.renew.new.disk c.renew.new.journal.end c.in-Ok-renew.ensures.rests)

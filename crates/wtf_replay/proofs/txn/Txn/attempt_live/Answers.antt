@@ -13,7 +13,7 @@ use Rattle.wtf_meta.specs.Maps.{metadata_at}
 use Rattle.wtf_replay.specs.Views.{TxnView, rebased}
 use Rattle.wtf_replay.specs.Refusals.{try_refusal}
 use Rattle.wtf_replay.specs.Fits.{IsFit, IsLog}
-use Rattle.wtf_replay.specs.Sounds.{IsSound}
+use Rattle.wtf_replay.specs.Sounds.{LogStands}
 use Rattle.wtf_replay.specs.Verbs.{AttemptOf}
 use Rattle.wtf_replay.proofs.Starting.{sound_rebased}
 use Rattle.wtf_replay.proofs.Trying.{final_from}
@@ -100,7 +100,7 @@ returns-in-Conflict c =
         is = again.is ∙ ap (λ (y : TxnView). rebased y mid.number) same ∙ ap (λ (k : ℕ). rebased x k) (number ∙ sym n);
       };
       meaning = λ going size told ops sound.
-          subst (λ y. IsSound size after told y ops) (sym again.is) (sound_rebased size after told moved mid.number ops sound.ops_are);
+          subst (λ y. LogStands size after told y ops) (sym again.is) (sound_rebased size after told moved mid.number ops sound.ops_are);
       maps = λ m le. ap (λ (s : Store Key Value). metadata_at s m) again.shows ∙ c.install.ensures.maps m le;
       fit = subst (λ y. IsFit after y) (sym again.is)
           (fit_rebased after moved mid.number log (moved_pinned c.install.new.self.base mid.number mid after later again.pins));

@@ -26,7 +26,7 @@ use Rattle.wtf_replay.specs.Views.{TxnView, hand_of}
 use Rattle.wtf_replay.specs.Called.{IsCalled}
 use Rattle.wtf_replay.specs.Refusals.{unmade}
 use Rattle.wtf_replay.specs.Verbs.{turn, CallOf}
-use Rattle.wtf_replay.specs.Built.{data_of}
+use Rattle.wtf_replay.specs.Built.{call_data}
 use Rattle.wtf_replay.specs.Fits.{IsFit, IsLog}
 use Rattle.wtf_replay.specs.Insides.{IsInsideTxn, IsLogInside, LogBytes, NamesTxn}
 use Rattle.wtf_replay.specs.Sounds.{caller_at, tells_slice, IsToldStep}
@@ -113,10 +113,10 @@ returns g c =
               done = first.done;
             };
             meaning = λ going ops start.
-                let told_own : TellSlice told own (data_of o) = own_told_of kind dev into (seen kv x.at) x.session o own made.dev.each.same_length start.1.all first.own in
+                let told_own : TellSlice told own (call_data o) = own_told_of kind dev into (seen kv x.at) x.session o own made.dev.each.same_length start.1.all first.own in
                 let stands : OpStandsFor (tells_slice told) kept.result o =
                 OpStandsFor-weaker _ (tells_slice told) kept.result o
-                (λ s bytes there h. subst (λ (l : List ℕ). TellBytes told (len_of s) (part_origin (Held s)) l) (sym h.1) (subst (λ z. TellSlice told z (data_of o)) h.0 told_own)) kept.ensures.kept.stands in
+                (λ s bytes there h. subst (λ (l : List ℕ). TellBytes told (len_of s) (part_origin (Held s)) l) (sym h.1) (subst (λ z. TellSlice told z (call_data o)) h.0 told_own)) kept.ensures.kept.stands in
                 let steps = told_of w by own o a does (sym (ap (λ (st : Settings). st.region) made.dev.settings)) start.0
                 (tells_hand kind dev start.0 kv x ops start.3 start.1 start.2) told_own in
                 sound_called size kv told x new ops o a kept.result (sound_later size kv before told x ops

@@ -1,6 +1,6 @@
 use Rattle.std.proofs.Common.{◌≡◌, ◌≢◌, false, length, sym, subst}
 use Rattle.std.proofs.lemmas.Bool.{eqb-false}
-use Rattle.wtf_replay.specs.Views.{TxnView, is_live, rebased}
+use Rattle.wtf_replay.specs.Views.{TxnView, is_txn_live, rebased}
 use Rattle.wtf_replay.specs.Tried.{commit_from}
 use Rattle.wtf_replay.proofs.Froms.{from_base, from_older}
 use Rattle.wtf_replay.proofs.txn.Txn.commit.Goals as goal
@@ -11,7 +11,7 @@ go_on-requires-clause-from g c =
     let kv = c.args.kv.now in
     let i = c.self.inside in
     let x : TxnView = record { tx = i.tx.0; at = i.at; session = i.session; log = i.log; replayed = i.replayed; ended = i.ended } in
-    let off : is_live c.args.self.now ≡ false = sym c.if-is_live.ensures in
+    let off : is_txn_live c.args.self.now ≡ false = sym c.if-is_live.ensures in
     let left : x.replayed ≢ length x.log.ops = subst (λ (y : TxnView). y.replayed ≢ length y.log.ops) (sym c.self.view_is) (eqb-false c.args.self.now.replayed (length c.args.self.now.log.ops) off) in
     let number = c.number.ensures.number in
     let base = c.base.ensures in
@@ -25,7 +25,7 @@ start_over-requires-clause-from g c =
     let kv = c.args.kv.now in
     let i = c.self.inside in
     let x : TxnView = record { tx = i.tx.0; at = i.at; session = i.session; log = i.log; replayed = i.replayed; ended = i.ended } in
-    let off : is_live c.args.self.now ≡ false = sym c.if-is_live.ensures in
+    let off : is_txn_live c.args.self.now ≡ false = sym c.if-is_live.ensures in
     let left : x.replayed ≢ length x.log.ops = subst (λ (y : TxnView). y.replayed ≢ length y.log.ops) (sym c.self.view_is) (eqb-false c.args.self.now.replayed (length c.args.self.now.log.ops) off) in
     let number = c.number.ensures.number in
     let base = c.base.ensures in

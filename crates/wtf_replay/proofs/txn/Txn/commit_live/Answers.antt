@@ -9,7 +9,7 @@ use Rattle.wtf_values.specs.Keys.{key_cmp}
 use Rattle.wtf_values.specs.Outcomes.{outcome_of}
 use Rattle.wtf_replay.specs.Views.{TxnView, rebased}
 use Rattle.wtf_replay.specs.Tried.{KeepsPins, commit_from}
-use Rattle.wtf_replay.specs.Verbs.{turn, CommitOf, IsReady}
+use Rattle.wtf_replay.specs.Verbs.{turn, CommitOf, CanCommit}
 use Rattle.wtf_replay.proofs.Committing.{starts_here, commit_by, commit_along, ready_along, finish_live}
 use Rattle.wtf_replay.proofs.Froms.{from_free, from_way, way_along}
 use Rattle.wtf_replay.proofs.txn.Txn.commit_live.Goals as goal
@@ -26,7 +26,7 @@ returns-in-Installed g c =
     let i = c.self.inside in
     let x : TxnView = record { tx = i.tx.0; at = i.at; session = i.session; log = i.log; replayed = i.replayed; ended = i.ended } in
     let new : TxnView = record x { at = c.install.new.self; ended = true } in
-    let ready : IsReady kind dev kv x = subst (λ y. IsReady kind dev kv y) (sym c.self.view_is) c.requires.ready in
+    let ready : CanCommit kind dev kv x = subst (λ y. CanCommit kind dev kv y) (sym c.self.view_is) c.requires.ready in
     let live : x.replayed ≡ length x.log.ops = subst (λ (y : TxnView). y.replayed ≡ length y.log.ops) (sym c.self.view_is) c.requires.live in
     let below : x.at.base ≤ kv.number = subst (λ m. x.at.base ≤ m) c.number-number.ensures.number (c.number-number.ensures.pins x.at.base ready.fit.pinned) in
     let keeps : KeepsPins kv mid = λ m. ap (count_by (nat_eq m)) c.install.ensures.pins in
@@ -49,11 +49,11 @@ start_over-requires-clause-ready g c =
     let mid = c.install.new.kv in
     let i = c.self.inside in
     let x : TxnView = record { tx = i.tx.0; at = i.at; session = i.session; log = i.log; replayed = i.replayed; ended = i.ended } in
-    let ready : IsReady kind dev kv x = subst (λ y. IsReady kind dev kv y) (sym c.self.view_is) c.requires.ready in
+    let ready : CanCommit kind dev kv x = subst (λ y. CanCommit kind dev kv y) (sym c.self.view_is) c.requires.ready in
     let below : x.at.base ≤ kv.number = subst (λ m. x.at.base ≤ m) c.number-number.ensures.number (c.number-number.ensures.pins x.at.base ready.fit.pinned) in
     let keeps : KeepsPins kv mid = λ m. ap (count_by (nat_eq m)) c.install.ensures.pins in
     let tried : IsConflict key_cmp outcome_of x.at kv mid c.in-Conflict.key c.in-Conflict.seen c.in-Conflict.now = subst (λ t. IsTried key_cmp outcome_of x.at kv mid t) c.in-Conflict.is c.in-Ok.ensures.tried in
-    subst (λ (a : Attempted Key Delta). IsReady kind dev mid (record x { at = a })) (sym c.install.ensures.attempt)
+    subst (λ (a : Attempted Key Delta). CanCommit kind dev mid (record x { at = a })) (sym c.install.ensures.attempt)
     (ready_along kind dev kv mid x tried.stays keeps below ready)
 
 pub start_over-requires-clause-from : goal.start_over-requires-clause-from

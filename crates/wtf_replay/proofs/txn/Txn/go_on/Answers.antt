@@ -5,7 +5,7 @@ use Rattle.wtf_values.specs.declared.value.Delta.{Delta}
 use Rattle.wtf_meta.specs.Sessions.{SessionView}
 use Rattle.wtf_replay.specs.Views.{TxnView, replaying}
 use Rattle.wtf_replay.specs.Tried.{commit_from}
-use Rattle.wtf_replay.specs.Verbs.{turn, FinishOf, CommitOf, IsReady, ended_by}
+use Rattle.wtf_replay.specs.Verbs.{turn, FinishOf, CommitOf, CanCommit, ended_by}
 use Rattle.wtf_replay.proofs.Committing.{starts_here, commit_by}
 use Rattle.wtf_replay.proofs.txn.Txn.go_on.Goals as goal
 
@@ -20,7 +20,7 @@ returns g c =
     let new = c.end.new.self in
     let i = c.self.inside in
     let x : TxnView = record { tx = i.tx.0; at = i.at; session = i.session; log = i.log; replayed = i.replayed; ended = i.ended } in
-    let ready : IsReady kind dev kv x = subst (λ y. IsReady kind dev kv y) (sym c.self.view_is) c.requires.ready in
+    let ready : CanCommit kind dev kv x = subst (λ y. CanCommit kind dev kv y) (sym c.self.view_is) c.requires.ready in
     let base : x.at.base ≡ kv.number = subst (λ (y : TxnView). y.at.base ≡ kv.number) (sym c.self.view_is) c.requires.base in
     let from : commit_from kv x ≡ x = subst (λ y. commit_from kv y ≡ y) (sym c.self.view_is) c.requires.from in
     let below : x.at.base ≤ kv.number = omega (arith, base) in

@@ -9,7 +9,7 @@ use Rattle.wtf_meta.specs.Maps.{metadata_at}
 use Rattle.wtf_meta.specs.Sessions.{SessionView}
 use Rattle.wtf_replay.specs.Views.{TxnView, replaying, rebased, untouched}
 use Rattle.wtf_replay.specs.Tried.{KeepsPins, commit_from}
-use Rattle.wtf_replay.specs.Verbs.{turn, FinishOf, CommitOf, IsReady, ended_by}
+use Rattle.wtf_replay.specs.Verbs.{turn, FinishOf, CommitOf, CanCommit, ended_by}
 use Rattle.wtf_replay.proofs.Committing.{ShowsAs, starts_over, finish_along, commit_by}
 use Rattle.wtf_replay.proofs.Keeping.{pins_back, pinned_there}
 use Rattle.wtf_replay.proofs.txn.Txn.start_over.Goals as goal
@@ -29,7 +29,7 @@ returns g c =
     let i = c.self.inside in
     let x : TxnView = record { tx = i.tx.0; at = i.at; session = i.session; log = i.log; replayed = i.replayed; ended = i.ended } in
     let y : TxnView = rebased x kv.number in
-    let ready : IsReady kind dev kv x = subst (λ y. IsReady kind dev kv y) (sym c.self.view_is) c.requires.ready in
+    let ready : CanCommit kind dev kv x = subst (λ y. CanCommit kind dev kv y) (sym c.self.view_is) c.requires.ready in
     let from : commit_from kv x ≡ y = subst (λ y. commit_from kv y ≡ rebased y kv.number) (sym c.self.view_is) c.requires.from in
     let number = c.number-number.ensures.number in
     let below : x.at.base ≤ kv.number = subst (λ m. x.at.base ≤ m) number (c.number-number.ensures.pins x.at.base ready.fit.pinned) in
