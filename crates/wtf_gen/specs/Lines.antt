@@ -144,8 +144,8 @@ line_draft x =
     if drawn 24 z == 23 then system_line z else client_line (drawn 8 y) (drawn 24 z) z
 
 -- the line of a state, without its line feed
-abbrev pub line_from : ℕ → List ℕ
-line_from x = (line_draft x).text
+abbrev pub state_line : ℕ → List ℕ
+state_line x = (line_draft x).text
 
 -- the state behind the draws of that line
 abbrev pub state_after : ℕ → ℕ
@@ -154,7 +154,7 @@ state_after x = (line_draft x).state
 -- so many lines, from a number on
 unfoldable pub generated_lines : ℕ → ℕ → List (List ℕ)
 generated_lines x zero = []
-generated_lines x (suc n) = line_from x ∷ generated_lines (state_after x) n
+generated_lines x (suc n) = state_line x ∷ generated_lines (state_after x) n
 
 -- these lines as a script: a line feed, the byte 10, behind each
 unfoldable pub generated_script : ℕ → ℕ → List ℕ
@@ -168,4 +168,4 @@ pub record Drawing : Type 0 where
 -- The next line is given, and its draws are made. Where there is none, no line was left, and nothing changes.
 abbrev pub Draws : Option (List ℕ) → Drawing → Drawing → Type 0
 Draws None old new = (old.left ≡ 0) × (new ≡ old)
-Draws (Some line) old new = (line ≡ line_from old.state) × (new.state ≡ state_after old.state) × (old.left ≡ new.left + 1)
+Draws (Some line) old new = (line ≡ state_line old.state) × (new.state ≡ state_after old.state) × (old.left ≡ new.left + 1)

@@ -25,8 +25,8 @@ use Rattle.wtf_model.specs.Same.{AreSame}
 use Rattle.wtf_model.specs.Steps.{is_call_refusal, IsLogged}
 use Rattle.wtf_print.specs.Texts.{word_text, kind_text, holder_text, text_of}
 use Rattle.wtf_print.specs.Forms.{IsRow, IsHolder, IsKind, IsPlain, IsWritable, GivesBack}
-use Rattle.wtf_print.specs.Pieces.{◌>>=◌, only_if, number_of, numbers_of, decoded, bytes_of, holder_of, name_of, row_of, each_of}
-use Rattle.wtf_print.specs.Reading.{call_word_of, other_word_of, word_of, kind_of, path_kind_of, bad_of, fault_of, call_answer_of, scanning_of, scan_answer_of, wrong_answer_of, plain_answer_of, Meant, aborted_of, said_by, meant_of, meant_by, Says, ReadsAnswer}
+use Rattle.wtf_print.specs.Pieces.{◌>>=◌, only_if, number_word, numbers_of, hex_decoded, data_word, holder_of, name_of, row_of, each_of}
+use Rattle.wtf_print.specs.Reading.{call_word_of, other_word_of, word_of, kind_of, path_kind_of, bad_of, fault_of, call_answer_of, scanning_of, scan_answer_of, wrong_answer_of, plain_answer_of, Meant, aborted_of, said_by, meant_of, meant_by, SaysMeant, ReadsAnswer}
 use Rattle.wtf_print.specs.declared.error.TextError.{TextError}
 use Rattle.wtf_print.specs.declared.error.TextError.TheVariants as text_error
 use Rattle.wtf_print.proofs.Plain.{plain-same}
@@ -48,8 +48,8 @@ two_numbers a b h k = first-word (decimal a) (decimal b) (number-no_space a h) �
 made : {A B : Type 0} (make : A → B) (o : Option A) (x : A) → o ≡ Some x → (o >>= λ y. Some (make y)) ≡ Some (make x)
 made make o x e = rw e refl
 
-one_number : (most n : ℕ) → n < 2 ^ 64 → n ≤ most → number_of most (decimal n ∷ []) ≡ Some n
-unfolding number_of
+one_number : (most n : ℕ) → n < 2 ^ 64 → n ≤ most → number_word most (decimal n ∷ []) ≡ Some n
+unfolding number_word
 one_number most n h k = number-spelled most n h k
 
 both_numbers : (a b : ℕ) → a < 2 ^ 64 → b < 2 ^ 64 → numbers_of (2 ^ 64 - 1) (decimal a ∷ decimal b ∷ []) ≡ Some (a, b)
@@ -185,8 +185,8 @@ pub record IsPlainText (a : Answer) : Type 0 where
   read : said_by words ≡ Some (None, a)
 
 -- an answer with a number of at most `most`
-counted : (make : ℕ → Answer) (most n : ℕ) → n < 2 ^ 64 → n ≤ most → (number_of most (decimal n ∷ []) >>= λ n. Some (make n)) ≡ Some (make n)
-counted make most n h k = made make (number_of most (decimal n ∷ [])) n (one_number most n h k)
+counted : (make : ℕ → Answer) (most n : ℕ) → n < 2 ^ 64 → n ≤ most → (number_word most (decimal n ∷ []) >>= λ n. Some (make n)) ≡ Some (make n)
+counted make most n h k = made make (number_word most (decimal n ∷ [])) n (one_number most n h k)
 
 -- what was read is plain
 abbrev plain : Answer → Option Meant
@@ -195,9 +195,9 @@ plain a = Some (None, a)
 plainly : (o : Option Answer) (a : Answer) → o ≡ Some a → (o >>= plain) ≡ plain a
 plainly o a e = rw e refl
 
-bytes-said : (bytes : List ℕ) → IsBytes bytes → bytes_of ((codes "x:" ++ encode_lower bytes) ∷ []) ≡ Some bytes
-unfolding bytes_of
-bytes-said bytes are = ap (λ (r : Result (List ℕ) FromHexError). decoded r) (decode_of-encode_lower bytes are)
+bytes-said : (bytes : List ℕ) → IsBytes bytes → data_word ((codes "x:" ++ encode_lower bytes) ∷ []) ≡ Some bytes
+unfolding data_word
+bytes-said bytes are = ap (λ (r : Result (List ℕ) FromHexError). hex_decoded r) (decode_of-encode_lower bytes are)
 
 bytes-one : (bytes : List ℕ) → IsBytes bytes → words_of (codes "x:" ++ encode_lower bytes) ≡ (codes "x:" ++ encode_lower bytes) ∷ []
 bytes-one bytes are =
@@ -238,7 +238,7 @@ call-said (answer.Shown bytes) logged h = record {
   word = codes "data";
   args = (codes "x:" ++ encode_lower bytes) ∷ [];
   words = keyed (codes "data ") (codes "data") (λ l. refl) (codes "x:" ++ encode_lower bytes) ((codes "x:" ++ encode_lower bytes) ∷ []) (bytes-one bytes h);
-  read = made answer.Shown (bytes_of ((codes "x:" ++ encode_lower bytes) ∷ [])) bytes (bytes-said bytes h);
+  read = made answer.Shown (data_word ((codes "x:" ++ encode_lower bytes) ∷ [])) bytes (bytes-said bytes h);
 }
 call-said (answer.At n) logged h = record {
   word = codes "at";
@@ -399,18 +399,18 @@ writable-said (Aborted' i box a) h =
 writable-said a h = let t = plain-said a h in ap said_by t.is ∙ t.read
 
 -- an answer that says what another's text does, says what that answer does
-pub says-same : (a b : Answer) → IsWritable a → Says (meant_by a) b → AreSame a b
+pub says-same : (a b : Answer) → IsWritable a → SaysMeant (meant_by a) b → AreSame a b
 says-same (Aborted' i box a) (Aborted' j other b) h s = (sym s.0, subst (λ (x : Answer). AreSame a x) (sym s.1) (plain-same a h.2))
 says-same (Aborted' i box a) b h s = absurd s
 says-same a b h s = sym s
 
 -- an answer says what its text does
-says-itself : (b : Answer) → IsWritable b → Says (meant_by b) b
+says-itself : (b : Answer) → IsWritable b → SaysMeant (meant_by b) b
 says-itself (Aborted' i box a) h = (refl, refl)
 says-itself b h = refl
 
 -- and has its text
-pub says-text : (a b : Answer) → Says (meant_by a) b → text_of b ≡ text_of a
+pub says-text : (a b : Answer) → SaysMeant (meant_by a) b → text_of b ≡ text_of a
 unfolding text_of
 says-text (Aborted' i box a) (Aborted' j other b) s =
     ap (λ (k : ℕ). codes "aborted " ++ decimal k ++ codes " " ++ text_of b) s.0
@@ -419,8 +419,8 @@ says-text (Aborted' i box a) b s = absurd s
 says-text a b s = ap text_of s
 
 -- what a line was read as, where it is the text of an answer in form
-read-back : (o : Option Meant) (m : Meant) (b : Answer) → o ≡ Some m → ReadsAnswer (Ok b) o → Says m b
-read-back (Some x) m b e r = let same : x ≡ m = cc in subst (λ (y : Meant). Says y b) same r
+read-back : (o : Option Meant) (m : Meant) (b : Answer) → o ≡ Some m → ReadsAnswer (Ok b) o → SaysMeant m b
+read-back (Some x) m b e r = let same : x ≡ m = cc in subst (λ (y : Meant). SaysMeant y b) same r
 read-back None m b e r = absurd r
 
 pub back-ok : (b : Answer) (line : List ℕ) → ReadsAnswer (Ok b) (meant_of line) → (a : Answer) → IsWritable a → text_of a ≡ line → AreSame a b × (text_of b ≡ line)
@@ -440,4 +440,4 @@ pub text-one : (a b : Answer) → IsWritable a → IsWritable b → text_of b �
 text-one a b h k e =
     let same : Some (meant_by a) ≡ Some (meant_by b) = sym (writable-said a h) ∙ ap meant_of (sym e) ∙ writable-said b k in
     let meant : meant_by b ≡ meant_by a = cc in
-    says-same a b h (subst (λ (m : Meant). Says m b) meant (says-itself b k))
+    says-same a b h (subst (λ (m : Meant). SaysMeant m b) meant (says-itself b k))

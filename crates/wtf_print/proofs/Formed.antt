@@ -25,8 +25,8 @@ use Rattle.wtf_model.specs.declared.answer.Answer.{Answer, Aborted'}
 use Rattle.wtf_model.specs.declared.answer.Answer.TheVariants as answer
 use Rattle.wtf_model.specs.Steps.{is_call_refusal, IsLogged}
 use Rattle.wtf_print.specs.Forms.{IsRow, IsHolder, IsKind, IsPlain, IsWritable}
-use Rattle.wtf_print.specs.Pieces.{◌>>=◌, only_if, none_of, one_of, two_of, number_of, numbers_of, decoded, bytes_of, holder_by, holder_of, is_name_byte, name_of, path_unless, path_of, cut_last, file_row_of, row_of, each_of}
-use Rattle.wtf_print.specs.Reading.{call_word_of, word_of, kind_of, path_kind_of, bad_of, fault_of, alone, call_refused_of, refused_of, call_answer_of, scanning_of, scan_answer_of, wrong_answer_of, plain_answer_of, Meant, aborted_of, said_by, meant_of, Says, ReadsAnswer}
+use Rattle.wtf_print.specs.Pieces.{◌>>=◌, only_if, none_of, one_of, two_of, number_word, numbers_of, hex_decoded, data_word, holder_by, holder_of, is_name_byte, name_of, path_unless, path_of, cut_last, file_row_of, row_of, each_of}
+use Rattle.wtf_print.specs.Reading.{call_word_of, word_of, kind_of, path_kind_of, bad_of, fault_of, alone, call_refused_of, refused_of, call_answer_of, scanning_of, scan_answer_of, wrong_answer_of, plain_answer_of, Meant, aborted_of, said_by, meant_of, SaysMeant, ReadsAnswer}
 use Rattle.wtf_print.proofs.Plain.{plain-writable}
 
 -- what is made of a value holds to Q, where it does for each value that holds to P
@@ -58,8 +58,8 @@ within : (most : ℕ) (word : List ℕ) → IfSome (number_within most word) (λ
 within most word = kept (λ n. n ≤ most) (is_numeral word && nat_le (value_from 0 word) most) (value_from 0 word)
     (λ e. leb-true (value_from 0 word) most (and_parts (is_numeral word) (nat_le (value_from 0 word) most) e).1)
 
-number_form : (most : ℕ) (words : List (List ℕ)) → IfSome (number_of most words) (λ n. n ≤ most)
-unfolding number_of
+number_form : (most : ℕ) (words : List (List ℕ)) → IfSome (number_word most words) (λ n. n ≤ most)
+unfolding number_word
 number_form most words = made_of_any (λ n. n ≤ most) (one_of words) _ (λ w. within most w)
 
 numbers_form : (most : ℕ) (words : List (List ℕ)) → IfSome (numbers_of most words) (λ n. (n.0 ≤ most) × (n.1 ≤ most))
@@ -68,12 +68,12 @@ numbers_form most words = made_of_any (λ n. (n.0 ≤ most) × (n.1 ≤ most)) (
     made (λ a. a ≤ most) (λ n. (n.0 ≤ most) × (n.1 ≤ most)) (number_within most w.0) _ (within most w.0) (λ a a_is.
     made (λ b. b ≤ most) (λ n. (n.0 ≤ most) × (n.1 ≤ most)) (number_within most w.1) (λ b. Some (a, b)) (within most w.1) (λ b b_is. (a_is, b_is))))
 
-decoded_form : (digits : List ℕ) (r : Result (List ℕ) FromHexError) → decode_of digits ≡ r → IfSome (decoded r) IsBytes
+decoded_form : (digits : List ℕ) (r : Result (List ℕ) FromHexError) → decode_of digits ≡ r → IfSome (hex_decoded r) IsBytes
 decoded_form digits (Ok bytes) e = (decode_of-ok digits bytes e).3
 decoded_form digits (Err why) e = tt
 
-bytes_form : (words : List (List ℕ)) → IfSome (bytes_of words) IsBytes
-unfolding bytes_of
+bytes_form : (words : List (List ℕ)) → IfSome (data_word words) IsBytes
+unfolding data_word
 bytes_form words = made_of_any IsBytes (one_of words) _ (λ w.
     passed IsBytes (bytes_eq (take 2 w) (codes "x:")) _ (λ e. decoded_form (drop 2 w) (decode_of (drop 2 w)) refl))
 
@@ -185,7 +185,7 @@ kind_form w =
 
 path_kind_form : (args : List (List ℕ)) → IfSome (path_kind_of args) IsKind
 unfolding path_kind_of
-path_kind_form args = made (λ n. n ≤ 6) IsKind (number_of 6 args) _ (number_form 6 args) (λ n n_is.
+path_kind_form args = made (λ n. n ≤ 6) IsKind (number_word 6 args) _ (number_form 6 args) (λ n n_is.
     passed IsKind (nat_le 1 n) (λ _. Some (kind.Path n)) (λ e. (leb-true 1 n e, n_is)))
 
 bad_form : (args : List (List ℕ)) → IfSome (bad_of args) IsPlain
@@ -201,8 +201,8 @@ alone_form : (P : Answer → Type 0) (a : Answer) (args : List (List ℕ)) → P
 alone_form P a args holds = made_of_any P (none_of args) (λ _. Some a) (λ _. holds)
 
 -- an answer with a number of so many bits
-numbered : (P : Answer → Type 0) (most : ℕ) (make : ℕ → Answer) (args : List (List ℕ)) → ((n : ℕ) → n ≤ most → P (make n)) → IfSome (number_of most args >>= λ n. Some (make n)) P
-numbered P most make args holds = made (λ n. n ≤ most) P (number_of most args) (λ n. Some (make n)) (number_form most args) holds
+numbered : (P : Answer → Type 0) (most : ℕ) (make : ℕ → Answer) (args : List (List ℕ)) → ((n : ℕ) → n ≤ most → P (make n)) → IfSome (number_word most args >>= λ n. Some (make n)) P
+numbered P most make args holds = made (λ n. n ≤ most) P (number_word most args) (λ n. Some (make n)) (number_form most args) holds
 
 wide : (n : ℕ) → n ≤ 2 ^ 64 - 1 → n < 2 ^ 64
 wide n h = omega (arith, h)
@@ -239,7 +239,7 @@ call_answer_form : (w : List ℕ) (args : List (List ℕ)) → IfSome (call_answ
 unfolding call_answer_of
 call_answer_form w args =
     either IsCallAnswer (bytes_eq w (codes "ok")) _ _ (alone_form IsCallAnswer answer.Okay args (tt, tt))
-    (either IsCallAnswer (bytes_eq w (codes "data")) _ _ (made IsBytes IsCallAnswer (bytes_of args) (λ bytes. Some (answer.Shown bytes)) (bytes_form args) (λ bytes are. (tt, are)))
+    (either IsCallAnswer (bytes_eq w (codes "data")) _ _ (made IsBytes IsCallAnswer (data_word args) (λ bytes. Some (answer.Shown bytes)) (bytes_form args) (λ bytes are. (tt, are)))
     (either IsCallAnswer (bytes_eq w (codes "at")) _ _ (numbered IsCallAnswer (2 ^ 64 - 1) answer.At args (λ n h. (tt, wide n h)))
     (either IsCallAnswer (bytes_eq w (codes "len")) _ _ (numbered IsCallAnswer (2 ^ 64 - 1) answer.Len args (λ n h. (tt, wide n h)))
     (either IsCallAnswer (bytes_eq w (codes "dir")) _ _ (alone_form IsCallAnswer answer.Dir args (tt, tt))
@@ -312,7 +312,7 @@ said_form (w ∷ args) =
     (made IsPlain IsFormed (plain_answer_of w args) _ (plain_answer_form w args) (λ a is. is))
 
 -- an answer that says what is in form, is in form
-says_form : (m : Meant) (b : Answer) → IsFormed m → Says m b → IsWritable b
+says_form : (m : Meant) (b : Answer) → IsFormed m → SaysMeant m b → IsWritable b
 says_form (None, a) b h s = subst IsWritable (sym s) (plain-writable a h)
 says_form (Some call, a) (Aborted' i box b) h s =
     (subst (λ (n : ℕ). n < 2 ^ 32) (sym s.0) h.0, subst (λ (x : Answer). IsLogged x) (sym s.1) h.1, subst (λ (x : Answer). IsPlain x) (sym s.1) h.2)

@@ -3,7 +3,7 @@ use Rattle.std.proofs.Common.{◌≡◌, ℕ, List, [], ◌∷◌, ◌++◌, ref
 use Rattle.std.proofs.lemmas.List.{append-nil}
 use Rattle.wtf_print.specs.declared.error.TextError.{TextError}
 use Rattle.wtf_print.specs.declared.error.TextError.TheVariants as text_error
-use Rattle.wtf_print.specs.Pieces.{◌>>=◌, Reads, each_of}
+use Rattle.wtf_print.specs.Pieces.{◌>>=◌, ReadsAs, each_of}
 
 -- what was read so far, in front of what is read yet
 abbrev pub with_front : {A : Type 0} → List A → Option (List A) → Option (List A)
@@ -28,7 +28,7 @@ each-wrong : {A : Type 0} (read : List ℕ → Option A) (front : List A) (word 
 each-wrong {A} read front word words e = ap (λ (o : Option A). with_front front (o >>= λ y. each_of read words >>= λ ys. Some (y ∷ ys))) e
 
 pub each-err : {A : Type 0} (read : List ℕ → Option A) (front : List A) (word : List ℕ) (words : List (List ℕ)) (all : Option (List A)) (e : TextError)
-    → with_front front (each_of read (word ∷ words)) ≡ all → Reads {A = A} (Err e) (read word) → Reads {A = List A} (Err e) all
+    → with_front front (each_of read (word ∷ words)) ≡ all → ReadsAs {A = A} (Err e) (read word) → ReadsAs {A = List A} (Err e) all
 each-err read front word words all text_error.NotAnAnswer same wrong = sym same ∙ each-wrong read front word words wrong
 each-err read front word words all text_error.Memory same wrong = tt
 

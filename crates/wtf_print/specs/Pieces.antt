@@ -25,16 +25,16 @@ abbrev pub only_if : Bool → Option (Unit {0})
 only_if holds = if holds then Some tt else None
 
 -- what a function answered is what was meant, unless memory ran out
-abbrev pub Reads : {A : Type 0} → Result A TextError → Option A → Type 0
-Reads (Ok x) meant = meant ≡ Some x
-Reads (Err text_error.NotAnAnswer) meant = meant ≡ None
-Reads (Err text_error.Memory) meant = Unit {0}
+abbrev pub ReadsAs : {A : Type 0} → Result A TextError → Option A → Type 0
+ReadsAs (Ok x) meant = meant ≡ Some x
+ReadsAs (Err text_error.NotAnAnswer) meant = meant ≡ None
+ReadsAs (Err text_error.Memory) meant = Unit {0}
 
 -- what a function answered, seen by `view`, is what was meant
-abbrev pub Tells : {A B : Type 0} → (A → B) → Result A TextError → Option B → Type 0
-Tells view (Ok x) meant = meant ≡ Some (view x)
-Tells view (Err text_error.NotAnAnswer) meant = meant ≡ None
-Tells view (Err text_error.Memory) meant = ⊥
+abbrev pub TellsAs : {A B : Type 0} → (A → B) → Result A TextError → Option B → Type 0
+TellsAs view (Ok x) meant = meant ≡ Some (view x)
+TellsAs view (Err text_error.NotAnAnswer) meant = meant ≡ None
+TellsAs view (Err text_error.Memory) meant = ⊥
 
 -- the words, where there are just so many
 abbrev pub none_of : List (List ℕ) → Option (Unit {0})
@@ -50,8 +50,8 @@ two_of (a ∷ b ∷ []) = Some (a, b)
 two_of words = None
 
 -- one number
-unfoldable pub number_of : ℕ → List (List ℕ) → Option ℕ
-number_of most words = do
+unfoldable pub number_word : ℕ → List (List ℕ) → Option ℕ
+number_word most words = do
   w ← one_of words
   number_within most w
 
@@ -63,16 +63,16 @@ numbers_of most words = do
   b ← number_within most w.1
   Some (a, b)
 
-abbrev pub decoded : Result (List ℕ) FromHexError → Option (List ℕ)
-decoded (Ok bytes) = Some bytes
-decoded (Err why) = None
+abbrev pub hex_decoded : Result (List ℕ) FromHexError → Option (List ℕ)
+hex_decoded (Ok bytes) = Some bytes
+hex_decoded (Err why) = None
 
 -- `x:` and two digits for each byte
-unfoldable pub bytes_of : List (List ℕ) → Option (List ℕ)
-bytes_of words = do
+unfoldable pub data_word : List (List ℕ) → Option (List ℕ)
+data_word words = do
   w ← one_of words
   _ ← only_if (bytes_eq (take 2 w) (codes "x:"))
-  decoded (decode_of (drop 2 w))
+  hex_decoded (decode_of (drop 2 w))
 
 -- `c0` to `c31`, `j0` to `j7`, by the letter and what stands behind it
 abbrev pub holder_by : List ℕ → List ℕ → Option Holder

@@ -11,7 +11,7 @@ use Rattle.wtf_lex.specs.Words.{words_of}
 use Rattle.wtf_lex.specs.Numbers.{number_within}
 use Rattle.wtf_print.specs.declared.error.TextError.{TextError}
 use Rattle.wtf_print.specs.declared.error.TextError.TheVariants as text_error
-use Rattle.wtf_print.specs.Pieces.{◌>>=◌, only_if, none_of, one_of, number_of, numbers_of, bytes_of, holder_of, name_of, row_of, each_of}
+use Rattle.wtf_print.specs.Pieces.{◌>>=◌, only_if, none_of, one_of, number_word, numbers_of, data_word, holder_of, name_of, row_of, each_of}
 
 -- the refusals of a call
 unfoldable pub call_word_of : List ℕ → Option Word
@@ -78,7 +78,7 @@ kind_of w =
 -- `path 1` to `path 6`
 unfoldable pub path_kind_of : List (List ℕ) → Option Kind
 path_kind_of args = do
-  n ← number_of 6 args
+  n ← number_word 6 args
   _ ← only_if (nat_le 1 n)
   Some (kind.Path n)
 
@@ -88,7 +88,7 @@ alone a args = none_of args >>= λ _. Some a
 
 -- an answer with a number
 abbrev pub with_number : (ℕ → Answer) → List (List ℕ) → Option Answer
-with_number make args = number_of (2 ^ 64 - 1) args >>= λ n. Some (make n)
+with_number make args = number_word (2 ^ 64 - 1) args >>= λ n. Some (make n)
 
 -- what is wrong with a line
 unfoldable pub bad_of : List (List ℕ) → Option Answer
@@ -101,9 +101,9 @@ bad_of (w ∷ args) =
 unfoldable pub fault_of : List (List ℕ) → Option Answer
 fault_of [] = None
 fault_of (w ∷ args) =
-    if bytes_eq w (codes "read") then (number_of (2 ^ 8 - 1) args >>= λ k. Some (answer.FaultRead k))
+    if bytes_eq w (codes "read") then (number_word (2 ^ 8 - 1) args >>= λ k. Some (answer.FaultRead k))
     else (if bytes_eq w (codes "write") then alone answer.FaultWrite args
-    else (if bytes_eq w (codes "punch") then (number_of (2 ^ 8 - 1) args >>= λ k. Some (answer.FaultPunch k))
+    else (if bytes_eq w (codes "punch") then (number_word (2 ^ 8 - 1) args >>= λ k. Some (answer.FaultPunch k))
     else (if bytes_eq w (codes "save") then alone answer.FaultSave args
     else None)))
 
@@ -119,7 +119,7 @@ refused_of args = one_of args >>= λ w. word_of w >>= λ r. Some (answer.Refused
 unfoldable pub call_answer_of : List ℕ → List (List ℕ) → Option Answer
 call_answer_of w args =
     if bytes_eq w (codes "ok") then alone answer.Okay args
-    else (if bytes_eq w (codes "data") then (bytes_of args >>= λ bytes. Some (answer.Shown bytes))
+    else (if bytes_eq w (codes "data") then (data_word args >>= λ bytes. Some (answer.Shown bytes))
     else (if bytes_eq w (codes "at") then with_number answer.At args
     else (if bytes_eq w (codes "len") then with_number answer.Len args
     else (if bytes_eq w (codes "dir") then alone answer.Dir args
@@ -140,7 +140,7 @@ unfoldable pub scan_answer_of : List ℕ → List (List ℕ) → Option Answer
 scan_answer_of w args =
     if bytes_eq w (codes "scanning") then scanning_of args
     else (if bytes_eq w (codes "held") then (holder_of args >>= λ h. Some (answer.Held h))
-    else (if bytes_eq w (codes "more") then (number_of (2 ^ 8 - 1) args >>= λ n. Some (answer.More n))
+    else (if bytes_eq w (codes "more") then (number_word (2 ^ 8 - 1) args >>= λ n. Some (answer.More n))
     else (if bytes_eq w (codes "done") then alone answer.Done args
     else (if bytes_eq w (codes "collected") then with_number answer.Collected args
     else (if bytes_eq w (codes "saved") then with_number answer.Saved args
@@ -152,7 +152,7 @@ unfoldable pub wrong_answer_of : List ℕ → List (List ℕ) → Option Answer
 wrong_answer_of w args =
     if bytes_eq w (codes "refused") then refused_of args
     else (if bytes_eq w (codes "fault") then fault_of args
-    else (if bytes_eq w (codes "damaged") then (number_of (2 ^ 8 - 1) args >>= λ k. Some (answer.Damaged k))
+    else (if bytes_eq w (codes "damaged") then (number_word (2 ^ 8 - 1) args >>= λ k. Some (answer.Damaged k))
     else (if bytes_eq w (codes "bad") then bad_of args
     else scan_answer_of w args)))
 
@@ -162,7 +162,7 @@ plain_answer_of w args =
     if bytes_eq w (codes "begun") then with_number answer.Begun args
     else (if bytes_eq w (codes "committed") then with_number answer.Committed args
     else (if bytes_eq w (codes "retry") then (numbers_of (2 ^ 64 - 1) args >>= λ n. Some (answer.Retry n.0 n.1))
-    else (if bytes_eq w (codes "replayed") then (number_of (2 ^ 32 - 1) args >>= λ i. Some (answer.Replayed i))
+    else (if bytes_eq w (codes "replayed") then (number_word (2 ^ 32 - 1) args >>= λ i. Some (answer.Replayed i))
     else (if bytes_eq w (codes "planned") then alone answer.Planned args
     else (if bytes_eq w (codes "installed") then with_number answer.Installed args
     else (if bytes_eq w (codes "stale") then (numbers_of (2 ^ 64 - 1) args >>= λ n. Some (answer.Stale n.0 n.1))
@@ -188,13 +188,13 @@ abbrev pub meant_of : List ℕ → Option Meant
 meant_of line = said_by (words_of line)
 
 -- an answer says what was meant
-abbrev pub Says : Meant → Answer → Type 0
-Says (None, a) b = b ≡ a
-Says (Some call, a) b = IsAbortedAt b call a
+abbrev pub SaysMeant : Meant → Answer → Type 0
+SaysMeant (None, a) b = b ≡ a
+SaysMeant (Some call, a) b = IsAbortedAt b call a
 
 -- what a function answered says what was meant, unless memory ran out
 abbrev pub ReadsAnswer : Result Answer TextError → Option Meant → Type 0
-ReadsAnswer (Ok b) (Some m) = Says m b
+ReadsAnswer (Ok b) (Some m) = SaysMeant m b
 ReadsAnswer (Ok b) None = ⊥
 ReadsAnswer (Err text_error.NotAnAnswer) m = m ≡ None
 ReadsAnswer (Err text_error.Memory) m = Unit {0}

@@ -2,7 +2,7 @@
 
 ghost use Rattle.std.specs.Prelude.{◌-◌, ◌^◌};
 ghost use Rattle.wtf_lex.specs.Words.{words_behind};
-ghost use Rattle.wtf_print.specs.Pieces.{Reads, number_of};
+ghost use Rattle.wtf_print.specs.Pieces.{ReadsAs, number_word};
 ghost use Rattle.wtf_print.specs.Reading.{path_kind_of, bad_of, fault_of, alone, call_refused_of, refused_of, call_answer_of, scanning_of, scan_answer_of, wrong_answer_of, plain_answer_of};
 
 use crate::TextError;
@@ -17,7 +17,7 @@ use wtf_model::{Answer, Kind};
 /// `path 1` to `path 6`, by the words behind the first.
 #[tactic(auto, unfolding(crate::specs::Reading::path_kind_of))]
 fn path_kind_of(args: &[u8]) -> Result<Kind, TextError>
-    ensures { Reads result (path_kind_of (words_behind args.now)) }
+    ensures { ReadsAs result (path_kind_of (words_behind args.now)) }
 {
     let n = number_of(6, args)?;
     if n < 1 {
@@ -29,7 +29,7 @@ fn path_kind_of(args: &[u8]) -> Result<Kind, TextError>
 /// What is wrong with a line.
 #[tactic(auto, unfolding(crate::specs::Reading::bad_of))]
 fn bad_of(args: &[u8]) -> Result<Answer, TextError>
-    ensures { Reads result (bad_of (words_behind args.now)) }
+    ensures { ReadsAs result (bad_of (words_behind args.now)) }
 {
     let Some((word, args)) = next_word(args) else {
         return Err(TextError::NotAnAnswer);
@@ -44,7 +44,7 @@ fn bad_of(args: &[u8]) -> Result<Answer, TextError>
 
 /// An answer that is one word.
 fn alone(answer: Answer, args: &[u8]) -> Result<Answer, TextError>
-    ensures { Reads result (alone answer (words_behind args.now)) }
+    ensures { ReadsAs result (alone answer (words_behind args.now)) }
 {
     no_word(args)?;
     Ok(answer)
@@ -52,14 +52,14 @@ fn alone(answer: Answer, args: &[u8]) -> Result<Answer, TextError>
 
 /// A number of 64 bits.
 fn number(args: &[u8]) -> Result<u64, TextError>
-    ensures { Reads result (number_of (2 ^ 64 - 1) (words_behind args.now)) }
+    ensures { ReadsAs result (number_word (2 ^ 64 - 1) (words_behind args.now)) }
 {
     number_of(u64::MAX, args)
 }
 
 /// The number of a call.
 fn call_number(args: &[u8]) -> Result<u32, TextError>
-    ensures { Reads result (number_of (2 ^ 32 - 1) (words_behind args.now)) }
+    ensures { ReadsAs result (number_word (2 ^ 32 - 1) (words_behind args.now)) }
 {
     let n = number_of(u64::from(u32::MAX), args)?;
     Ok(n as u32)
@@ -67,7 +67,7 @@ fn call_number(args: &[u8]) -> Result<u32, TextError>
 
 /// A number of 8 bits.
 fn small_number(args: &[u8]) -> Result<u8, TextError>
-    ensures { Reads result (number_of (2 ^ 8 - 1) (words_behind args.now)) }
+    ensures { ReadsAs result (number_word (2 ^ 8 - 1) (words_behind args.now)) }
 {
     let n = number_of(u64::from(u8::MAX), args)?;
     Ok(n as u8)
@@ -76,7 +76,7 @@ fn small_number(args: &[u8]) -> Result<u8, TextError>
 /// The faults of servers and of the image.
 #[tactic(auto, unfolding(crate::specs::Reading::fault_of))]
 fn fault_of(args: &[u8]) -> Result<Answer, TextError>
-    ensures { Reads result (fault_of (words_behind args.now)) }
+    ensures { ReadsAs result (fault_of (words_behind args.now)) }
 {
     let Some((word, args)) = next_word(args) else {
         return Err(TextError::NotAnAnswer);
@@ -98,7 +98,7 @@ fn fault_of(args: &[u8]) -> Result<Answer, TextError>
 
 /// The refusals of a call.
 fn call_refused_of(args: &[u8]) -> Result<Answer, TextError>
-    ensures { Reads result (call_refused_of (words_behind args.now)) }
+    ensures { ReadsAs result (call_refused_of (words_behind args.now)) }
 {
     let word = one_word(args)?;
     let refusal = call_word_of(word).ok_or(TextError::NotAnAnswer)?;
@@ -107,7 +107,7 @@ fn call_refused_of(args: &[u8]) -> Result<Answer, TextError>
 
 /// Any refusal.
 fn refused_of(args: &[u8]) -> Result<Answer, TextError>
-    ensures { Reads result (refused_of (words_behind args.now)) }
+    ensures { ReadsAs result (refused_of (words_behind args.now)) }
 {
     let word = one_word(args)?;
     let refusal = word_of(word).ok_or(TextError::NotAnAnswer)?;
@@ -117,7 +117,7 @@ fn refused_of(args: &[u8]) -> Result<Answer, TextError>
 /// The answers of a call, by the first word and those behind it.
 #[tactic(auto, unfolding(crate::specs::Reading::call_answer_of))]
 pub(crate) fn call_answer_of(alloc: Global, word: &[u8], args: &[u8]) -> Result<Answer, TextError>
-    ensures { Reads result (call_answer_of word.now (words_behind args.now)) }
+    ensures { ReadsAs result (call_answer_of word.now (words_behind args.now)) }
 {
     if is_word(word, b"ok") {
         return alone(Answer::Okay, args);
@@ -150,7 +150,7 @@ pub(crate) fn call_answer_of(alloc: Global, word: &[u8], args: &[u8]) -> Result<
 /// `scanning 64`, by the words behind the first.
 #[tactic(auto, unfolding(crate::specs::Reading::scanning_of))]
 fn scanning_of(args: &[u8]) -> Result<Answer, TextError>
-    ensures { Reads result (scanning_of (words_behind args.now)) }
+    ensures { ReadsAs result (scanning_of (words_behind args.now)) }
 {
     let word = one_word(args)?;
     if !is_word(word, b"64") {
@@ -162,7 +162,7 @@ fn scanning_of(args: &[u8]) -> Result<Answer, TextError>
 /// The answers to what is asked of all files; any other word begins the answer of a call.
 #[tactic(auto, unfolding(crate::specs::Reading::scan_answer_of))]
 fn scan_answer_of(alloc: Global, word: &[u8], args: &[u8]) -> Result<Answer, TextError>
-    ensures { Reads result (scan_answer_of word.now (words_behind args.now)) }
+    ensures { ReadsAs result (scan_answer_of word.now (words_behind args.now)) }
 {
     if is_word(word, b"scanning") {
         return scanning_of(args);
@@ -191,7 +191,7 @@ fn scan_answer_of(alloc: Global, word: &[u8], args: &[u8]) -> Result<Answer, Tex
 /// Refusals, faults and what is wrong with a line; other words begin the answers above.
 #[tactic(auto, unfolding(crate::specs::Reading::wrong_answer_of))]
 fn wrong_answer_of(alloc: Global, word: &[u8], args: &[u8]) -> Result<Answer, TextError>
-    ensures { Reads result (wrong_answer_of word.now (words_behind args.now)) }
+    ensures { ReadsAs result (wrong_answer_of word.now (words_behind args.now)) }
 {
     if is_word(word, b"refused") {
         return refused_of(args);
@@ -211,7 +211,7 @@ fn wrong_answer_of(alloc: Global, word: &[u8], args: &[u8]) -> Result<Answer, Te
 /// Any answer that holds no other, by the first word and those behind it.
 #[tactic(auto, unfolding(crate::specs::Reading::plain_answer_of))]
 pub(crate) fn plain_answer_of(alloc: Global, word: &[u8], args: &[u8]) -> Result<Answer, TextError>
-    ensures { Reads result (plain_answer_of word.now (words_behind args.now)) }
+    ensures { ReadsAs result (plain_answer_of word.now (words_behind args.now)) }
 {
     if is_word(word, b"begun") {
         return Ok(Answer::Begun(number(args)?));

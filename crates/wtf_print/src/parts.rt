@@ -5,7 +5,7 @@ ghost use Rattle.std.specs.List.{list_all};
 ghost use Rattle.hex.specs.Hex.{decode_of};
 ghost use Rattle.wtf_path.specs.Refusals.{is_dot_name, number_of as path_number};
 ghost use Rattle.wtf_lex.specs.Words.{words_behind};
-ghost use Rattle.wtf_print.specs.Pieces.{Reads, Tells, none_of, one_of, two_of, number_of, numbers_of, bytes_of, holder_of, is_name_byte, name_of, path_of, cut_last, file_row_of, row_of, each_of, decoded};
+ghost use Rattle.wtf_print.specs.Pieces.{ReadsAs, TellsAs, none_of, one_of, two_of, number_word, numbers_of, data_word, holder_of, is_name_byte, name_of, path_of, cut_last, file_row_of, row_of, each_of, hex_decoded};
 
 use crate::TextError;
 use hex::FromHexError;
@@ -18,7 +18,7 @@ use wtf_path::{Path, PathError};
 
 /// That there is no word more.
 pub(crate) fn no_word(words: &[u8]) -> Result<(), TextError>
-    ensures { Tells (λ x. x) result (none_of (words_behind words.now)) }
+    ensures { TellsAs (λ x. x) result (none_of (words_behind words.now)) }
 {
     if next_word(words).is_some() {
         return Err(TextError::NotAnAnswer);
@@ -28,7 +28,7 @@ pub(crate) fn no_word(words: &[u8]) -> Result<(), TextError>
 
 /// The word, where there is just one.
 pub(crate) fn one_word(words: &[u8]) -> Result<&[u8], TextError>
-    ensures { Tells (λ p. p.now) result (one_of (words_behind words.now)) }
+    ensures { TellsAs (λ p. p.now) result (one_of (words_behind words.now)) }
 {
     let Some((a, behind)) = next_word(words) else {
         return Err(TextError::NotAnAnswer);
@@ -41,7 +41,7 @@ pub(crate) fn one_word(words: &[u8]) -> Result<&[u8], TextError>
 
 /// The words, where there are just two.
 fn two_words(words: &[u8]) -> Result<(&[u8], &[u8]), TextError>
-    ensures { Tells (λ p. (p.0.now, p.1.now)) result (two_of (words_behind words.now)) }
+    ensures { TellsAs (λ p. (p.0.now, p.1.now)) result (two_of (words_behind words.now)) }
 {
     let Some((a, behind)) = next_word(words) else {
         return Err(TextError::NotAnAnswer);
@@ -51,9 +51,9 @@ fn two_words(words: &[u8]) -> Result<(&[u8], &[u8]), TextError>
 }
 
 /// A number of at most `most`, where it is the one word.
-#[tactic(auto, unfolding(crate::specs::Pieces::number_of))]
+#[tactic(auto, unfolding(crate::specs::Pieces::number_word))]
 pub(crate) fn number_of(most: u64, words: &[u8]) -> Result<u64, TextError>
-    ensures value { Reads result (number_of most (words_behind words.now)) }
+    ensures value { ReadsAs result (number_word most (words_behind words.now)) }
     ensures within { IfOk result (λ n. n ≤ most) }
 {
     let word = one_word(words)?;
@@ -63,7 +63,7 @@ pub(crate) fn number_of(most: u64, words: &[u8]) -> Result<u64, TextError>
 /// Two numbers of at most `most` each, where they are the two words.
 #[tactic(auto, unfolding(crate::specs::Pieces::numbers_of))]
 pub(crate) fn numbers_of(most: u64, words: &[u8]) -> Result<(u64, u64), TextError>
-    ensures { Reads result (numbers_of most (words_behind words.now)) }
+    ensures { ReadsAs result (numbers_of most (words_behind words.now)) }
 {
     let (a, b) = two_words(words)?;
     let a = number_within(most, a).ok_or(TextError::NotAnAnswer)?;
@@ -73,7 +73,7 @@ pub(crate) fn numbers_of(most: u64, words: &[u8]) -> Result<(u64, u64), TextErro
 
 /// The bytes of an even number of hexadecimal digits, of either case.
 fn from_hex(alloc: Global, digits: &[u8]) -> Result<Bytes, TextError>
-    ensures { Reads result (decoded (decode_of digits.now)) }
+    ensures { ReadsAs result (hex_decoded (decode_of digits.now)) }
 {
     match hex::decode(alloc, digits) {
         Ok(bytes) => Ok(Bytes::of(bytes)),
@@ -93,9 +93,9 @@ fn split_front(word: &[u8], count: usize) -> (&[u8], &[u8])
 }
 
 /// `x:` and two digits for each byte, where they are the one word.
-#[tactic(auto, unfolding(crate::specs::Pieces::bytes_of))]
+#[tactic(auto, unfolding(crate::specs::Pieces::data_word))]
 pub(crate) fn bytes_of(alloc: Global, words: &[u8]) -> Result<Bytes, TextError>
-    ensures { Reads result (bytes_of (words_behind words.now)) }
+    ensures { ReadsAs result (data_word (words_behind words.now)) }
 {
     let word = one_word(words)?;
     let (form, digits) = split_front(word, 2);
@@ -108,7 +108,7 @@ pub(crate) fn bytes_of(alloc: Global, words: &[u8]) -> Result<Bytes, TextError>
 /// `c0` to `c31`, `j0` to `j7`, where it is the one word.
 #[tactic(auto, unfolding(crate::specs::Pieces::holder_of))]
 pub(crate) fn holder_of(words: &[u8]) -> Result<Holder, TextError>
-    ensures { Reads result (holder_of (words_behind words.now)) }
+    ensures { ReadsAs result (holder_of (words_behind words.now)) }
 {
     let word = one_word(words)?;
     let (letter, digits) = split_front(word, 1);
@@ -145,7 +145,7 @@ fn are_name_bytes(word: &[u8]) -> bool
 /// A name that a path may have.
 #[tactic(auto, unfolding(crate::specs::Pieces::name_of))]
 fn name_of(alloc: Global, word: &[u8]) -> Result<Bytes, TextError>
-    ensures { Reads result (name_of word.now) }
+    ensures { ReadsAs result (name_of word.now) }
 {
     if is_dot_name(word) || !are_name_bytes(word) {
         return Err(TextError::NotAnAnswer);
@@ -155,7 +155,7 @@ fn name_of(alloc: Global, word: &[u8]) -> Result<Bytes, TextError>
 
 /// The names that all words are.
 pub(crate) fn names_of(alloc: Global, words: &[u8]) -> Result<Names, TextError>
-    ensures { Reads result (each_of name_of (words_behind words.now)) }
+    ensures { ReadsAs result (each_of name_of (words_behind words.now)) }
 {
     let mut names = Vec::new(alloc);
     let mut behind = words;
@@ -169,7 +169,7 @@ pub(crate) fn names_of(alloc: Global, words: &[u8]) -> Result<Names, TextError>
 /// A path.
 #[tactic(auto, unfolding(crate::specs::Pieces::path_of))]
 fn path_of(alloc: Global, word: &[u8]) -> Result<Path, TextError>
-    ensures { Reads result (path_of word.now) }
+    ensures { ReadsAs result (path_of word.now) }
 {
     match Path::parse(alloc, word) {
         Ok(path) => Ok(path),
@@ -190,7 +190,7 @@ fn path_error(why: PathError) -> TextError
 
 /// What stands before the last `:` of a text, and what stands behind it.
 fn cut_last(text: &[u8]) -> Result<(&[u8], &[u8]), TextError>
-    ensures { Tells (λ p. (p.0.now, p.1.now)) result (cut_last text.now) }
+    ensures { TellsAs (λ p. (p.0.now, p.1.now)) result (cut_last text.now) }
 {
     let mut at = text.len();
     while at > 0 {
@@ -205,7 +205,7 @@ fn cut_last(text: &[u8]) -> Result<(&[u8], &[u8]), TextError>
 /// `PATH:LEN`.
 #[tactic(auto, unfolding(crate::specs::Pieces::file_row_of))]
 fn file_row_of(alloc: Global, text: &[u8]) -> Result<Row, TextError>
-    ensures { Reads result (file_row_of text.now) }
+    ensures { ReadsAs result (file_row_of text.now) }
 {
     let (path, len) = cut_last(text)?;
     let path = path_of(alloc, path)?;
@@ -219,7 +219,7 @@ fn file_row_of(alloc: Global, text: &[u8]) -> Result<Row, TextError>
 /// `d:PATH`, `f:PATH:LEN`.
 #[tactic(auto, unfolding(crate::specs::Pieces::row_of))]
 fn row_of(alloc: Global, word: &[u8]) -> Result<Row, TextError>
-    ensures { Reads result (row_of word.now) }
+    ensures { ReadsAs result (row_of word.now) }
 {
     let (form, text) = split_front(word, 2);
     if is_word(form, b"d:") {
@@ -234,7 +234,7 @@ fn row_of(alloc: Global, word: &[u8]) -> Result<Row, TextError>
 
 /// The rows that all words are.
 pub(crate) fn rows_of(alloc: Global, words: &[u8]) -> Result<Rows, TextError>
-    ensures { Reads result (each_of row_of (words_behind words.now)) }
+    ensures { ReadsAs result (each_of row_of (words_behind words.now)) }
 {
     let mut rows = Vec::new(alloc);
     let mut behind = words;

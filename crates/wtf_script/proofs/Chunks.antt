@@ -1,10 +1,9 @@
 -- Laws of reading a line from chunks.
-use Rattle.std.proofs.Common.{◌≡◌, ℕ, zero, suc, ◌+◌, ◌-◌, ◌^◌, ◌<◌, ◌≤◌, inl, inr, min, Bool, cond, nat_lt, false, true, List, [], ◌∷◌, ◌++◌, length, take, drop, get_or, refl, sym, ◌∙◌, ap, subst, arith, append_assoc, Option, Some, None, Result, Ok, Err, IfOk, length-take}
+use Rattle.std.proofs.Common.{◌≡◌, ℕ, zero, suc, ◌+◌, ◌-◌, ◌^◌, ◌<◌, ◌≤◌, inl, inr, min, Bool, cond, nat_lt, false, true, List, [], ◌∷◌, ◌++◌, length, take, drop, get_or, refl, sym, ◌∙◌, ap, subst, arith, append_assoc, Option, Some, None, Ok, Err, length-take}
 use Rattle.std.proofs.lemmas.Bool.{cases_lt}
 use Rattle.std.proofs.lemmas.List.{append-nil, take-append-drop, take-append-le, take-take, take_all, take_min, drop_more, drop-drop, drop-take, nil_from_length}
 use Rattle.std.proofs.lemmas.Slice.{between_from_start}
 use Rattle.std.specs.List.{slice_range}
-use Rattle.std.specs.Result.{is_err}
 use Rattle.wtf_script.specs.ScriptLines.{line_feed, HasNoFeed}
 use Rattle.wtf_script.specs.Reading.{Held, ReadsLine, Reads, Refills, Parts, work}
 use Rattle.wtf_script.specs.declared.limits.TheConstants.{LINE_BYTES, SCRIPT_BYTES}
@@ -63,11 +62,6 @@ front_part read buffer bytes line now at filled e held plain is =
     let same : slice_range read at filled ≡ bytes = ap (λ (b : List ℕ). slice_range b at filled) e ∙ held in
     (empty_range buffer filled, is ∙ ap (λ (l : List ℕ). take (LINE_BYTES + 1) (line ++ l)) same, subst HasNoFeed same plain)
 
--- what an Ok says
-pub of_ok : {E P : Type 0} (r : Result (Unit {0}) E) → is_err r ≡ false → IfOk r (λ u. P) → P
-of_ok (Ok u) e p = p
-of_ok (Err x) e p = absurd (cc)
-
 -- what a read put at the front of the buffer
 pub chunk_is : (out back more rest : List ℕ) (n len : ℕ) → n ≤ length out → n ≤ len → take n out ≡ take n rest → slice_range (take len (out ++ back ++ more)) 0 n ≡ take n rest
 chunk_is out back more rest n len h k e =
@@ -103,19 +97,6 @@ pub record Sofar (old now : Held) (line rest : List ℕ) (left : Option (List �
   pub left_is : left ≡ Some then
   pub held : old.bytes ++ got ≡ whole ++ now.bytes
   pub counted : length rest + old.count ≡ length then + now.count
-
-pub sofar_start : (old : Held) (line rest : List ℕ) (left : Option (List ℕ)) → line ≡ [] → left ≡ Some rest → Sofar old old line rest left
-sofar_start old line rest left e is = record {
-  whole = [];
-  got = [];
-  then = rest;
-  plain = λ h. absurd (omega (arith, h.1));
-  line_is = e;
-  split = refl;
-  left_is = is;
-  held = append-nil old.bytes;
-  counted = refl;
-}
 
 kept_on : (whole more line next : List ℕ) → line ≡ take (LINE_BYTES + 1) whole → next ≡ take (LINE_BYTES + 1) (line ++ more) → next ≡ take (LINE_BYTES + 1) (whole ++ more)
 kept_on whole more line next e is = is ∙ ap (λ (l : List ℕ). take (LINE_BYTES + 1) (l ++ more)) e ∙ take_twice (LINE_BYTES + 1) whole more

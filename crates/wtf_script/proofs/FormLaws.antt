@@ -18,12 +18,11 @@ use Rattle.wtf_model.specs.declared.event.Event.{Event}
 use Rattle.wtf_model.specs.declared.event.Event.TheVariants as event
 use Rattle.wtf_model.specs.declared.limits.TheConstants.{MAX_CLIENTS, MAX_HANDLES, MAX_SLICES, MAX_JOBS, MAX_SHOWN, MAX_WRITTEN, MAX_NUMBER, MAX_SOURCES, SCAN_PARTS}
 use Rattle.wtf_model.specs.Form.{IsHandle, IsSlice, IsJob, IsNumber, IsData, IsFormSeek, AreSources, IsFormOp, IsFormVerb, IsFormEvent}
-use Rattle.wtf_lex.specs.Words.{words_of}
 use Rattle.wtf_lex.specs.Numbers.{number_within, value_from, is_numeral}
 use Rattle.wtf_script.specs.Counts.{none_of, one_of, two_of, three_of, four_of, two_and_maybe_one, one_and_many}
 use Rattle.wtf_script.specs.declared.error.LineError.{LineError}
-use Rattle.wtf_script.specs.Arguments.{Gives, ◌>>=◌, demand, or_wrong, number_of_word, number_from_to, label_of, client_of, handle_of, slice_of, job_of, path_unless, path_of, paths_of, data_form, data_of}
-use Rattle.wtf_script.specs.Grammar.{path_alone, two_paths, handle_alone, handle_number, handle_data, handle_slice, open_call, offset_of, place_of, seek_call, read_call, yank_call, peek_call, cut_call, concat_call, slice_call, bytes_call, handle_call, paths_call, path_call, alone, verb_of, job_kind_of, plan_event, job_alone, number_alone, piece_event, event_alone, system_event, job_event, asked_of, words_event, spelled, event_of}
+use Rattle.wtf_script.specs.Arguments.{AnswersAs, ◌>>=◌, demand, or_wrong, number_of_word, number_from_to, label_of, client_of, handle_of, slice_of, job_of, path_unless, path_of, paths_of, data_form, data_of}
+use Rattle.wtf_script.specs.Grammar.{path_alone, two_paths, handle_alone, handle_number, handle_data, handle_slice, open_call, offset_of, place_of, seek_call, read_call, yank_call, peek_call, cut_call, concat_call, slice_call, bytes_call, handle_call, paths_call, path_call, alone, verb_of, job_kind_of, plan_event, job_alone, number_alone, piece_event, event_alone, system_event, job_event, event_asked}
 
 abbrev Form : Op (List ℕ) → Type 0
 Form o = IsFormOp IsData o
@@ -82,8 +81,7 @@ weaker P Q (Some a) holds then = then a holds
 weaker P Q None holds then = tt
 
 label_form : (letter : List ℕ) (count : ℕ) (word : List ℕ) → 0 < count → IfSome (label_of letter count word) (λ n. n < count)
-label_form letter count word some =
-    either_option (λ n. n < count) (bytes_eq (take 1 word) letter) (number_within (count - 1) (drop 1 word)) None
+label_form letter count word some = either_option (λ n. n < count) (bytes_eq (take 1 word) letter) (number_within (count - 1) (drop 1 word)) None
     (weaker (λ n. n ≤ count - 1) (λ n. n < count) (number_within (count - 1) (drop 1 word)) (number_form (count - 1) (drop 1 word)) (λ n h. below count n some h)) tt
 
 client_form : (word : List ℕ) → IfOk (client_of word) (λ c. c < MAX_CLIENTS)
@@ -220,8 +218,7 @@ many_of false a more holds = tt
 
 many_form : (args : List (List ℕ)) → IfOk (one_and_many args) AreMany
 many_form [] = tt
-many_form (a ∷ more) =
-    many_of (nat_le 1 (length more) && nat_le (length more) MAX_SOURCES) a more (λ e.
+many_form (a ∷ more) = many_of (nat_le 1 (length more) && nat_le (length more) MAX_SOURCES) a more (λ e.
     let parts = and_parts (nat_le 1 (length more)) (nat_le (length more) MAX_SOURCES) e in
     (leb-true 1 (length more) parts.0, leb-true (length more) MAX_SOURCES parts.1))
 
@@ -343,8 +340,8 @@ job_event_form word args =
     (either IsFormEvent (bytes_eq word (codes "collect")) _ (system_event word args) (made IsNumber IsFormEvent (number_alone args) (λ k. Ok (event.Collect k)) (number_alone_form args) (λ k is. is))
     (system_event_form word args))))))
 
-pub asked_form : (actor : List ℕ) (behind : List (List ℕ)) → IfOk (asked_of actor behind) IsFormEvent
-unfolding asked_of
+pub asked_form : (actor : List ℕ) (behind : List (List ℕ)) → IfOk (event_asked actor behind) IsFormEvent
+unfolding event_asked
 asked_form actor [] =
     either IsFormEvent (bytes_eq actor (codes "sys")) (Err kind.Verb) _ tt (made_of_any IsFormEvent (client_of actor) (λ c. Err kind.Verb) (λ c. tt))
 asked_form actor (word ∷ args) =
@@ -353,17 +350,7 @@ asked_form actor (word ∷ args) =
     made IsFormVerb IsFormEvent (verb_of word args) (λ v. Ok (event.Client c v)) (verb_form word args) (λ v is. (c_is, is))))
 
 -- what was answered to such a line is in form too
-pub given_form : (r : Result Event LineError) (meant : Result Event Kind) → Gives r meant → IfOk meant IsFormEvent → IfOk r IsFormEvent
+pub given_form : (r : Result Event LineError) (meant : Result Event Kind) → AnswersAs r meant → IfOk meant IsFormEvent → IfOk r IsFormEvent
 given_form (Ok e) (Ok f) same holds = subst IsFormEvent (cc) holds
 given_form (Ok e) (Err k) same holds = cc
 given_form (Err e) meant same holds = tt
-
-words_form : (words : List (List ℕ)) → IfOk (words_event words) IsFormEvent
-unfolding words_event
-words_form [] = tt
-words_form (actor ∷ behind) = asked_form actor behind
-
--- what a line asks is in form
-pub event_form : (line : List ℕ) → IfOk (event_of line) IsFormEvent
-unfolding event_of
-event_form line = made_of_any IsFormEvent (spelled line) _ (λ _. words_form (words_of line))

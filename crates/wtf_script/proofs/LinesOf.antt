@@ -33,9 +33,6 @@ ended_of-line [] xs p = refl
 ended_of-line (b ∷ bs) xs p = ended_step b (bs ++ line_feed ∷ xs) (no_feed_head b bs p) ∙ ap (onto_first b) (ended_of-line bs xs (no_feed_rest b bs p))
 
 -- bytes without a line feed
-pub lines_of-nil : lines_of [] ≡ []
-lines_of-nil = refl
-
 pub lines_of-plain : (xs : List ℕ) → HasNoFeed xs → 0 < length xs → lines_of xs ≡ xs ∷ []
 lines_of-plain [] p h = absurd (omega arith)
 lines_of-plain (b ∷ []) p h = lines_step b [] (no_feed_head b [] p)

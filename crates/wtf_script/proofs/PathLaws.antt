@@ -8,17 +8,17 @@ use Rattle.wtf_model.specs.declared.answer.Kind.{Kind}
 use Rattle.wtf_model.specs.declared.answer.Kind.TheVariants as kind
 use Rattle.wtf_script.specs.declared.error.LineError.{LineError}
 use Rattle.wtf_script.specs.declared.error.LineError.TheVariants as line_error
-use Rattle.wtf_script.specs.Arguments.{Gives, ◌>>=◌, path_of, path_unless, paths_of}
+use Rattle.wtf_script.specs.Arguments.{AnswersAs, ◌>>=◌, path_of, path_unless, paths_of}
 
 -- the kind of a refusal, where its number is known
 refused : (why : PathError) (word : List ℕ) (e : LineError) (o : Option ℕ) → o ≡ number_of why → MatchOption o (e ≡ line_error.Memory) (λ n. e ≡ line_error.Bad (kind.Path n))
-    → Gives {A = List ℕ} (Err e) (path_unless (Some why) word)
+    → AnswersAs {A = List ℕ} (Err e) (path_unless (Some why) word)
 refused why word e (Some n) is is_bad = rw (is_bad, sym is) refl
 refused why word e None is is_memory = rw is_memory tt
 
 pub path_refused : (o : Option PathError) (word : List ℕ) (why : PathError) (e : LineError) (r : Result (List ℕ) PathError) → r ≡ Err why
     → IfSome o (λ w. r ≡ Err w) → (IsNone o → why ≡ path_error.Memory) → MatchOption (number_of why) (e ≡ line_error.Memory) (λ n. e ≡ line_error.Bad (kind.Path n))
-    → Gives {A = List ℕ} (Err e) (path_unless o word)
+    → AnswersAs {A = List ℕ} (Err e) (path_unless o word)
 path_refused (Some w) word why e r is first memory bad =
     let same : w ≡ why = cc in
     rw same (refused why word e (number_of why) refl bad)
@@ -53,6 +53,6 @@ unfolding paths_of
 paths-none front = ap (λ (ps : List (List ℕ)). Ok ps) (append-nil front)
 
 pub paths-err : (front : List (List ℕ)) (word : List ℕ) (words : List (List ℕ)) (all : Result (List (List ℕ)) Kind) (e : LineError) → with_front front (paths_of (word ∷ words)) ≡ all
-    → Gives {A = List ℕ} (Err e) (path_of word) → Gives {A = List (List ℕ)} (Err e) all
+    → AnswersAs {A = List ℕ} (Err e) (path_of word) → AnswersAs {A = List (List ℕ)} (Err e) all
 paths-err front word words all (line_error.Bad k) same wrong = sym same ∙ paths-wrong front word words k wrong
 paths-err front word words all line_error.Memory same wrong = tt

@@ -8,7 +8,7 @@ use Rattle.std.proofs.lemmas.List.{length-map}
 use Rattle.std.proofs.lemmas.List.Sums.{prefix_len_passes}
 use Rattle.std.proofs.lemmas.Simd.{bitmask_splat, tops_compared, zip2_splat_left, mask_l-mod, leading_from_mask_l, length-chunk, get_or-chunk, length-zip2, get_or-zip2, get_or-sel_l}
 use Rattle.wtf_lex.specs.Words.{words_of, is_space}
-use Rattle.wtf_script.specs.Grammar.{is_printable, is_empty}
+use Rattle.wtf_script.specs.Grammar.{is_printable, is_empty_word}
 use Rattle.wtf_script.specs.Plain.{ArePlain}
 
 -- each byte or the one behind it is no space; behind the last there is none
@@ -21,23 +21,23 @@ apart_rest b bs p = λ k h. p (suc k) (omega (arith, h))
 not_space : (b : ℕ) → 33 ≤ b → is_space b ≡ false
 not_space b h = grind (arith, nat_tests)
 
-full : (b : ℕ) (word : List ℕ) → is_empty (b ∷ word) ≡ false
+full : (b : ℕ) (word : List ℕ) → is_empty_word (b ∷ word) ≡ false
 full b word = grind (arith, nat_tests)
 
 -- a word that has a byte, with one byte more
-more_bytes : (a b : ℕ) (ws : List (List ℕ)) → list_any is_empty (onto_first a (onto_first b ws)) ≡ list_any is_empty (onto_first b ws)
+more_bytes : (a b : ℕ) (ws : List (List ℕ)) → list_any is_empty_word (onto_first a (onto_first b ws)) ≡ list_any is_empty_word (onto_first b ws)
 more_bytes a b [] = refl
-more_bytes a b (w ∷ ws) = ap (λ t. t || list_any is_empty ws) (full a (b ∷ w) ∙ sym (full b w))
+more_bytes a b (w ∷ ws) = ap (λ t. t || list_any is_empty_word ws) (full a (b ∷ w) ∙ sym (full b w))
 
-front : (b : ℕ) (bs : List ℕ) → 33 ≤ b → list_any is_empty (onto_first b (words_of bs)) ≡ false → list_any is_empty (words_of (b ∷ bs)) ≡ false
-front b bs h e = ap (λ t. list_any is_empty (cond t ([] ∷ words_of bs) (onto_first b (words_of bs)))) (not_space b h) ∙ e
+front : (b : ℕ) (bs : List ℕ) → 33 ≤ b → list_any is_empty_word (onto_first b (words_of bs)) ≡ false → list_any is_empty_word (words_of (b ∷ bs)) ≡ false
+front b bs h e = ap (λ t. list_any is_empty_word (cond t ([] ∷ words_of bs) (onto_first b (words_of bs)))) (not_space b h) ∙ e
 
-step : (a b : ℕ) (ws : List (List ℕ)) (t : Bool) → (t ≡ true → list_any is_empty ws ≡ false) → list_any is_empty (onto_first b ws) ≡ false
-    → list_any is_empty (onto_first a (cond t ([] ∷ ws) (onto_first b ws))) ≡ false
+step : (a b : ℕ) (ws : List (List ℕ)) (t : Bool) → (t ≡ true → list_any is_empty_word ws ≡ false) → list_any is_empty_word (onto_first b ws) ≡ false
+    → list_any is_empty_word (onto_first a (cond t ([] ∷ ws) (onto_first b ws))) ≡ false
 step a b ws true h e = h refl
 step a b ws false h e = more_bytes a b ws ∙ e
 
-filled : (a : ℕ) (bs : List ℕ) → Apart (a ∷ bs) → list_any is_empty (onto_first a (words_of bs)) ≡ false
+filled : (a : ℕ) (bs : List ℕ) → Apart (a ∷ bs) → list_any is_empty_word (onto_first a (words_of bs)) ≡ false
 filled a [] p = refl
 filled a (b ∷ []) p =
     step a b (words_of []) (is_space b) (λ e. absurd (omega (arith, eqb-true b 32 e, p 1 (omega arith)))) (filled b [] (apart_rest a (b ∷ []) p))
@@ -46,7 +46,7 @@ filled a (b ∷ c ∷ cs) p =
     step a b (words_of (c ∷ cs)) (is_space b)
     (λ e. front c cs (omega (arith, eqb-true b 32 e, p 1 (omega arith))) (filled c cs (apart_rest b (c ∷ cs) rest))) (filled b (c ∷ cs) rest)
 
-no_empty_word : (line : List ℕ) → 33 ≤ get_or line 0 0 → Apart line → list_any is_empty (words_of line) ≡ false
+no_empty_word : (line : List ℕ) → 33 ≤ get_or line 0 0 → Apart line → list_any is_empty_word (words_of line) ≡ false
 no_empty_word [] h p = absurd (omega arith)
 no_empty_word (b ∷ bs) h p = front b bs h (filled b bs p)
 
@@ -126,7 +126,7 @@ module _ (line : List ℕ) (some : 0 < length line) (plain : ArePlain line 0 (le
     | inr other ↦ ((plain k (omega arith) (omega arith)).low, (plain k (omega arith) (omega arith)).high)
   ])
 
-  pub plain_words : 33 ≤ get_or line 0 0 → list_any is_empty (words_of line) ≡ false
+  pub plain_words : 33 ≤ get_or line 0 0 → list_any is_empty_word (words_of line) ≡ false
   plain_words first = no_empty_word line first (λ k h. elim (cases_eq k (length line - 1)) [
     | inl is ↦ omega (arith, ap (λ i. get_or line i 0) is)
     | inr other ↦ omega (arith, (plain k (omega arith) (omega arith)).apart, ap (λ i. get_or line i 0) (add-one k))

@@ -21,15 +21,15 @@ abbrev pub demand : Bool → Kind → Result (Unit {0}) Kind
 demand holds k = if holds then Ok tt else Err k
 
 -- what a function answered is what was meant, unless memory ran out
-abbrev pub Gives : {A : Type 0} → Result A LineError → Result A Kind → Type 0
-Gives (Ok x) meant = meant ≡ Ok x
-Gives (Err (line_error.Bad k)) meant = meant ≡ Err k
-Gives (Err line_error.Memory) meant = Unit {0}
+abbrev pub AnswersAs : {A : Type 0} → Result A LineError → Result A Kind → Type 0
+AnswersAs (Ok x) meant = meant ≡ Ok x
+AnswersAs (Err (line_error.Bad k)) meant = meant ≡ Err k
+AnswersAs (Err line_error.Memory) meant = Unit {0}
 
 -- what a function answered, seen by `view`, is what was meant
-abbrev pub Tells : {A B : Type 0} → (A → B) → Result A Kind → Result B Kind → Type 0
-Tells view (Ok x) meant = meant ≡ Ok (view x)
-Tells view (Err k) meant = meant ≡ Err k
+abbrev pub AsksAs : {A B : Type 0} → (A → B) → Result A Kind → Result B Kind → Type 0
+AsksAs view (Ok x) meant = meant ≡ Ok (view x)
+AsksAs view (Err k) meant = meant ≡ Err k
 
 abbrev pub or_wrong : {A : Type 0} → Kind → Option A → Result A Kind
 or_wrong k (Some x) = Ok x

@@ -266,31 +266,31 @@ job_event word args =
     else system_event word args)))))
 
 -- what the actor asks: the verb, and its arguments behind it
-unfoldable pub asked_of : List ℕ → List (List ℕ) → Result Event Kind
-asked_of actor [] = if bytes_eq actor (codes "sys") then Err kind.Verb else (client_of actor >>= λ c. Err kind.Verb)
-asked_of actor (word ∷ args) =
+unfoldable pub event_asked : List ℕ → List (List ℕ) → Result Event Kind
+event_asked actor [] = if bytes_eq actor (codes "sys") then Err kind.Verb else (client_of actor >>= λ c. Err kind.Verb)
+event_asked actor (word ∷ args) =
     if bytes_eq actor (codes "sys") then job_event word args
     else (client_of actor >>= λ c. verb_of word args >>= λ v. Ok (event.Client c v))
 
 -- a line has a first word always
 unfoldable pub words_event : List (List ℕ) → Result Event Kind
 words_event [] = Err kind.Actor
-words_event (actor ∷ behind) = asked_of actor behind
+words_event (actor ∷ behind) = event_asked actor behind
 
 -- a space or a byte that can be seen, ` ` to `~`
 abbrev pub is_printable : ℕ → Bool
 is_printable b = nat_le 32 b && nat_le b 126
 
-abbrev pub is_empty : List ℕ → Bool
-is_empty word = length word == 0
+abbrev pub is_empty_word : List ℕ → Bool
+is_empty_word word = length word == 0
 
 -- a line that can be read as words: no space stands at its front, at its end or behind another
 unfoldable pub spelled : List ℕ → Result (Unit {0}) Kind
 spelled line = do
   _ ← demand (nat_le (length line) LINE_BYTES) kind.Long
-  _ ← demand (not (is_empty line)) kind.Empty
+  _ ← demand (not (is_empty_word line)) kind.Empty
   _ ← demand (list_all is_printable line) kind.Byte
-  demand (not (list_any is_empty (words_of line))) kind.Space
+  demand (not (list_any is_empty_word (words_of line))) kind.Space
 
 -- the event of a line, or the first thing that is wrong with it
 unfoldable pub event_of : List ℕ → Result Event Kind

@@ -3,7 +3,7 @@
 ghost use Rattle.std.specs.Prelude.{◌≡◌, ◌<◌, ◌≤◌, IfOk, MatchOption};
 ghost use Rattle.wtf_path.specs.Refusals.{number_of};
 ghost use Rattle.wtf_lex.specs.Words.{words_behind};
-ghost use Rattle.wtf_script.specs.Arguments.{Gives, number_of_word, number_from_to, label_of, client_of, handle_of, slice_of, job_of, path_of, paths_of};
+ghost use Rattle.wtf_script.specs.Arguments.{AnswersAs, number_of_word, number_from_to, label_of, client_of, handle_of, slice_of, job_of, path_of, paths_of};
 
 use crate::LineError;
 use std::alloc::Global;
@@ -81,7 +81,7 @@ pub(crate) fn job_of(word: &[u8]) -> Result<u8, Kind>
 /// A path.
 #[tactic(auto, unfolding(crate::specs::Arguments::path_of))]
 pub(crate) fn path_of(alloc: Global, word: &[u8]) -> Result<Path, LineError>
-    ensures { Gives result (path_of word.now) }
+    ensures { AnswersAs result (path_of word.now) }
 {
     match Path::parse(alloc, word) {
         Ok(path) => Ok(path),
@@ -102,7 +102,7 @@ fn path_error(why: PathError) -> LineError
 
 /// The paths of all words.
 pub(crate) fn paths_of(alloc: Global, words: &[u8]) -> Result<Paths, LineError>
-    ensures { Gives result (paths_of (words_behind words.now)) }
+    ensures { AnswersAs result (paths_of (words_behind words.now)) }
 {
     let mut paths = Vec::new(alloc);
     let mut behind = words;

@@ -2,7 +2,7 @@
 
 ghost use Rattle.std.specs.Prelude.{◌≡◌};
 ghost use Rattle.wtf_lex.specs.Words.{words_behind};
-ghost use Rattle.wtf_script.specs.Arguments.{Gives};
+ghost use Rattle.wtf_script.specs.Arguments.{AnswersAs};
 ghost use Rattle.wtf_script.specs.Grammar.{path_alone, two_paths, handle_alone, handle_number, handle_data, handle_slice, open_call, offset_of, place_of, seek_call, read_call, yank_call, peek_call, cut_call, concat_call, slice_call, bytes_call, handle_call, paths_call, path_call, alone, verb_of};
 
 use crate::LineError;
@@ -21,7 +21,7 @@ use wtf_path::Path;
 /// P.
 #[tactic(auto, unfolding(crate::specs::Grammar::path_alone))]
 pub(crate) fn path_alone(alloc: Global, args: &[u8]) -> Result<Path, LineError>
-    ensures { Gives result (path_alone (words_behind args.now)) }
+    ensures { AnswersAs result (path_alone (words_behind args.now)) }
 {
     let p = one_word(args)?;
     path_of(alloc, p)
@@ -30,7 +30,7 @@ pub(crate) fn path_alone(alloc: Global, args: &[u8]) -> Result<Path, LineError>
 /// P Q.
 #[tactic(auto, unfolding(crate::specs::Grammar::two_paths))]
 fn two_paths(alloc: Global, args: &[u8]) -> Result<(Path, Path), LineError>
-    ensures { Gives result (two_paths (words_behind args.now)) }
+    ensures { AnswersAs result (two_paths (words_behind args.now)) }
 {
     let (p, q) = two_words(args)?;
     let p = path_of(alloc, p)?;
@@ -61,7 +61,7 @@ fn handle_number(args: &[u8]) -> Result<(u8, u64), Kind>
 /// F DATA.
 #[tactic(auto, unfolding(crate::specs::Grammar::handle_data))]
 fn handle_data(alloc: Global, args: &[u8]) -> Result<(u8, Bytes), LineError>
-    ensures { Gives result (handle_data (words_behind args.now)) }
+    ensures { AnswersAs result (handle_data (words_behind args.now)) }
 {
     let (f, bytes) = two_words(args)?;
     let f = handle_of(f)?;
@@ -83,7 +83,7 @@ fn handle_slice(args: &[u8]) -> Result<(u8, u8), Kind>
 /// `open F P`.
 #[tactic(auto, unfolding(crate::specs::Grammar::open_call))]
 fn open_call(alloc: Global, args: &[u8]) -> Result<Op<Bytes>, LineError>
-    ensures { Gives result (open_call (words_behind args.now)) }
+    ensures { AnswersAs result (open_call (words_behind args.now)) }
 {
     let (f, p) = two_words(args)?;
     let f = handle_of(f)?;
@@ -183,7 +183,7 @@ fn cut_call(args: &[u8]) -> Result<Op<Bytes>, Kind>
 /// `concat Q P ..`.
 #[tactic(auto, unfolding(crate::specs::Grammar::concat_call))]
 fn concat_call(alloc: Global, args: &[u8]) -> Result<Op<Bytes>, LineError>
-    ensures { Gives result (concat_call (words_behind args.now)) }
+    ensures { AnswersAs result (concat_call (words_behind args.now)) }
 {
     let (q, more) = word_and_many(args)?;
     let target = path_of(alloc, q)?;
@@ -219,7 +219,7 @@ fn slice_call(word: &[u8], args: &[u8]) -> Result<Op<Bytes>, Kind>
 /// The calls on the bytes of an open file.
 #[tactic(auto, unfolding(crate::specs::Grammar::bytes_call))]
 fn bytes_call(alloc: Global, word: &[u8], args: &[u8]) -> Result<Op<Bytes>, LineError>
-    ensures { Gives result (bytes_call word.now (words_behind args.now)) }
+    ensures { AnswersAs result (bytes_call word.now (words_behind args.now)) }
 {
     if is_word(word, b"read") {
         return Ok(read_call(args)?);
@@ -246,7 +246,7 @@ fn bytes_call(alloc: Global, word: &[u8], args: &[u8]) -> Result<Op<Bytes>, Line
 /// The calls on handles.
 #[tactic(auto, unfolding(crate::specs::Grammar::handle_call))]
 fn handle_call(alloc: Global, word: &[u8], args: &[u8]) -> Result<Op<Bytes>, LineError>
-    ensures { Gives result (handle_call word.now (words_behind args.now)) }
+    ensures { AnswersAs result (handle_call word.now (words_behind args.now)) }
 {
     if is_word(word, b"open") {
         return open_call(alloc, args);
@@ -266,7 +266,7 @@ fn handle_call(alloc: Global, word: &[u8], args: &[u8]) -> Result<Op<Bytes>, Lin
 /// The calls on several paths.
 #[tactic(auto, unfolding(crate::specs::Grammar::paths_call))]
 fn paths_call(alloc: Global, word: &[u8], args: &[u8]) -> Result<Op<Bytes>, LineError>
-    ensures { Gives result (paths_call word.now (words_behind args.now)) }
+    ensures { AnswersAs result (paths_call word.now (words_behind args.now)) }
 {
     if is_word(word, b"rename") {
         let (p, q) = two_paths(alloc, args)?;
@@ -285,7 +285,7 @@ fn paths_call(alloc: Global, word: &[u8], args: &[u8]) -> Result<Op<Bytes>, Line
 /// The calls on one path.
 #[tactic(auto, unfolding(crate::specs::Grammar::path_call))]
 fn path_call(alloc: Global, word: &[u8], args: &[u8]) -> Result<Op<Bytes>, LineError>
-    ensures { Gives result (path_call word.now (words_behind args.now)) }
+    ensures { AnswersAs result (path_call word.now (words_behind args.now)) }
 {
     if is_word(word, b"mkdir") {
         return Ok(Op::Mkdir(path_alone(alloc, args)?));
@@ -320,7 +320,7 @@ fn alone(verb: Verb, args: &[u8]) -> Result<Verb, Kind>
 /// The verbs of a client.
 #[tactic(auto, unfolding(crate::specs::Grammar::verb_of))]
 pub(crate) fn verb_of(alloc: Global, word: &[u8], args: &[u8]) -> Result<Verb, LineError>
-    ensures { Gives result (verb_of word.now (words_behind args.now)) }
+    ensures { AnswersAs result (verb_of word.now (words_behind args.now)) }
 {
     if is_word(word, b"begin") {
         return Ok(alone(Verb::Begin, args)?);

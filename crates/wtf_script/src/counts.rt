@@ -3,7 +3,7 @@
 ghost use Rattle.std.specs.Prelude.{◌≡◌, ◌≤◌, length, count_by};
 ghost use Rattle.wtf_lex.specs.Words.{is_space, words_behind};
 ghost use Rattle.wtf_script.specs.Counts.{none_of, one_of, two_of, three_of, four_of, two_and_maybe_one, one_and_many};
-ghost use Rattle.wtf_script.specs.Arguments.{Tells};
+ghost use Rattle.wtf_script.specs.Arguments.{AsksAs};
 
 use wtf_lex::next_word;
 use wtf_model::Kind;
@@ -21,7 +21,7 @@ pub(crate) fn no_word(args: &[u8]) -> Result<(), Kind>
 
 /// The argument, where there is just one.
 pub(crate) fn one_word(args: &[u8]) -> Result<&[u8], Kind>
-    ensures { Tells (λ p. p.now) result (one_of (words_behind args.now)) }
+    ensures { AsksAs (λ p. p.now) result (one_of (words_behind args.now)) }
 {
     let Some((a, behind)) = next_word(args) else {
         return Err(Kind::Count);
@@ -34,7 +34,7 @@ pub(crate) fn one_word(args: &[u8]) -> Result<&[u8], Kind>
 
 /// The arguments, where there are just two.
 pub(crate) fn two_words(args: &[u8]) -> Result<(&[u8], &[u8]), Kind>
-    ensures { Tells (λ p. (p.0.now, p.1.now)) result (two_of (words_behind args.now)) }
+    ensures { AsksAs (λ p. (p.0.now, p.1.now)) result (two_of (words_behind args.now)) }
 {
     let Some((a, behind)) = next_word(args) else {
         return Err(Kind::Count);
@@ -45,7 +45,7 @@ pub(crate) fn two_words(args: &[u8]) -> Result<(&[u8], &[u8]), Kind>
 
 /// The arguments, where there are just three.
 pub(crate) fn three_words(args: &[u8]) -> Result<(&[u8], &[u8], &[u8]), Kind>
-    ensures { Tells (λ p. (p.0.now, p.1.now, p.2.now)) result (three_of (words_behind args.now)) }
+    ensures { AsksAs (λ p. (p.0.now, p.1.now, p.2.now)) result (three_of (words_behind args.now)) }
 {
     let Some((a, behind)) = next_word(args) else {
         return Err(Kind::Count);
@@ -56,7 +56,7 @@ pub(crate) fn three_words(args: &[u8]) -> Result<(&[u8], &[u8], &[u8]), Kind>
 
 /// The arguments, where there are just four.
 pub(crate) fn four_words(args: &[u8]) -> Result<(&[u8], &[u8], &[u8], &[u8]), Kind>
-    ensures { Tells (λ p. (p.0.now, p.1.now, p.2.now, p.3.now)) result
+    ensures { AsksAs (λ p. (p.0.now, p.1.now, p.2.now, p.3.now)) result
         (four_of (words_behind args.now)) }
 {
     let Some((a, behind)) = next_word(args) else {
@@ -68,7 +68,7 @@ pub(crate) fn four_words(args: &[u8]) -> Result<(&[u8], &[u8], &[u8], &[u8]), Ki
 
 /// Two arguments, and what stands behind them, which is a third argument or nothing.
 pub(crate) fn two_words_and_more(args: &[u8]) -> Result<(&[u8], &[u8], &[u8]), Kind>
-    ensures { Tells (λ p. (p.0.now, p.1.now, words_behind p.2.now)) result
+    ensures { AsksAs (λ p. (p.0.now, p.1.now, words_behind p.2.now)) result
         (two_and_maybe_one (words_behind args.now)) }
 {
     let Some((a, behind)) = next_word(args) else {
@@ -85,7 +85,7 @@ pub(crate) fn two_words_and_more(args: &[u8]) -> Result<(&[u8], &[u8], &[u8]), K
 
 /// One argument, and what stands behind it: 1 to 16 arguments more.
 pub(crate) fn word_and_many(args: &[u8]) -> Result<(&[u8], &[u8]), Kind>
-    ensures { Tells (λ p. (p.0.now, words_behind p.1.now)) result
+    ensures { AsksAs (λ p. (p.0.now, words_behind p.1.now)) result
         (one_and_many (words_behind args.now)) }
 {
     let Some((a, more)) = next_word(args) else {

@@ -2,7 +2,7 @@
 
 ghost use Rattle.std.specs.Prelude.{◌≡◌, take, drop};
 ghost use Rattle.wtf_script.specs.Hex.{hex_bytes};
-ghost use Rattle.wtf_script.specs.Arguments.{Gives, or_wrong, data_form, data_of};
+ghost use Rattle.wtf_script.specs.Arguments.{AnswersAs, or_wrong, data_form, data_of};
 
 use crate::LineError;
 use hex::FromHexError;
@@ -23,7 +23,7 @@ fn split_form(word: &[u8]) -> (&[u8], &[u8])
 /// The bytes of an even number of hexadecimal digits of either case.
 #[tactic(auto, unfolding(crate::specs::Hex::hex_bytes))]
 fn from_hex(alloc: Global, digits: &[u8]) -> Result<Bytes, LineError>
-    ensures { Gives result (or_wrong Kind.DataForm (hex_bytes digits.now)) }
+    ensures { AnswersAs result (or_wrong Kind.DataForm (hex_bytes digits.now)) }
 {
     match hex::decode(alloc, digits) {
         Ok(bytes) => Ok(Bytes::of(bytes)),
@@ -36,7 +36,7 @@ fn from_hex(alloc: Global, digits: &[u8]) -> Result<Bytes, LineError>
 
 /// `x:` and two digits for each byte, or `t:` and the bytes themselves.
 fn data_form(alloc: Global, word: &[u8]) -> Result<Bytes, LineError>
-    ensures { Gives result
+    ensures { AnswersAs result
         (or_wrong Kind.DataForm (data_form (take 2 word.now) (drop 2 word.now))) }
 {
     let (form, behind) = split_form(word);
@@ -52,7 +52,7 @@ fn data_form(alloc: Global, word: &[u8]) -> Result<Bytes, LineError>
 /// Bytes to be written.
 #[tactic(auto, unfolding(crate::specs::Arguments::data_of))]
 pub(crate) fn data_of(alloc: Global, word: &[u8]) -> Result<Bytes, LineError>
-    ensures { Gives result (data_of word.now) }
+    ensures { AnswersAs result (data_of word.now) }
 {
     let bytes = data_form(alloc, word)?;
     if bytes.as_slice().len() as u64 > MAX_WRITTEN {

@@ -2,7 +2,7 @@
 
 ghost use Rattle.std.specs.Prelude.{◌≡◌};
 ghost use Rattle.wtf_lex.specs.Words.{words_behind};
-ghost use Rattle.wtf_script.specs.Arguments.{Gives};
+ghost use Rattle.wtf_script.specs.Arguments.{AnswersAs};
 ghost use Rattle.wtf_script.specs.Grammar.{job_kind_of, plan_event, job_alone, number_alone, piece_event, event_alone, system_event, job_event};
 
 use crate::LineError;
@@ -31,7 +31,7 @@ fn job_kind_of(word: &[u8]) -> Result<JobKind, Kind>
 /// `plan J C P R`.
 #[tactic(auto, unfolding(crate::specs::Grammar::plan_event))]
 fn plan_event(alloc: Global, args: &[u8]) -> Result<Event, LineError>
-    ensures { Gives result (plan_event (words_behind args.now)) }
+    ensures { AnswersAs result (plan_event (words_behind args.now)) }
 {
     let (j, c, p, r) = four_words(args)?;
     let job = job_of(j)?;
@@ -86,7 +86,7 @@ fn event_alone(event: Event, args: &[u8]) -> Result<Event, Kind>
 /// What the system is asked of servers and of all files; any other word is no verb.
 #[tactic(auto, unfolding(crate::specs::Grammar::system_event))]
 fn system_event(alloc: Global, word: &[u8], args: &[u8]) -> Result<Event, LineError>
-    ensures { Gives result (system_event word.now (words_behind args.now)) }
+    ensures { AnswersAs result (system_event word.now (words_behind args.now)) }
 {
     if is_word(word, b"down") {
         return Ok(Event::Down(number_alone(args)?));
@@ -109,7 +109,7 @@ fn system_event(alloc: Global, word: &[u8], args: &[u8]) -> Result<Event, LineEr
 /// What the system is asked of jobs and scans.
 #[tactic(auto, unfolding(crate::specs::Grammar::job_event))]
 pub(crate) fn job_event(alloc: Global, word: &[u8], args: &[u8]) -> Result<Event, LineError>
-    ensures { Gives result (job_event word.now (words_behind args.now)) }
+    ensures { AnswersAs result (job_event word.now (words_behind args.now)) }
 {
     if is_word(word, b"plan") {
         return plan_event(alloc, args);

@@ -4,8 +4,8 @@ ghost use Rattle.std.specs.Prelude.{◌≡◌, IfOk};
 ghost use Rattle.std.specs.List.{list_all, list_any};
 ghost use Rattle.wtf_model.specs.Form.{IsFormEvent};
 ghost use Rattle.wtf_lex.specs.Words.{words_of, words_behind};
-ghost use Rattle.wtf_script.specs.Arguments.{Gives};
-ghost use Rattle.wtf_script.specs.Grammar.{asked_of, words_event, is_printable, is_empty, spelled, event_of};
+ghost use Rattle.wtf_script.specs.Arguments.{AnswersAs};
+ghost use Rattle.wtf_script.specs.Grammar.{event_asked, words_event, is_printable, is_empty_word, spelled, event_of};
 
 use crate::LineError;
 use crate::args::client_of;
@@ -22,7 +22,7 @@ use wtf_model::{Event, Kind};
 /// arguments, and then the leftmost argument that is wrong.
 #[tactic(auto, unfolding(crate::specs::Grammar::event_of, crate::specs::Grammar::words_event))]
 pub fn parse_line(alloc: Global, line: &[u8]) -> Result<Event, LineError>
-    ensures exact { Gives result (event_of line.now) }
+    ensures exact { AnswersAs result (event_of line.now) }
     ensures form { IfOk result IsFormEvent }
 {
     spelled(line)?;
@@ -31,9 +31,9 @@ pub fn parse_line(alloc: Global, line: &[u8]) -> Result<Event, LineError>
 }
 
 /// What the actor asks by what stands behind it.
-#[tactic(auto, unfolding(crate::specs::Grammar::asked_of))]
+#[tactic(auto, unfolding(crate::specs::Grammar::event_asked))]
 fn asked_of(alloc: Global, actor: &[u8], behind: &[u8]) -> Result<Event, LineError>
-    ensures { Gives result (asked_of actor.now (words_behind behind.now)) }
+    ensures { AnswersAs result (event_asked actor.now (words_behind behind.now)) }
 {
     if is_word(actor, b"sys") {
         let Some((word, args)) = next_word(behind) else {
@@ -89,7 +89,7 @@ fn is_printable(b: u8) -> bool
 
 /// Whether a space stands at the front, at the end or behind another.
 fn has_empty_word(line: &[u8]) -> bool
-    ensures { result ≡ list_any is_empty (words_of line.now) }
+    ensures { result ≡ list_any is_empty_word (words_of line.now) }
 {
     line.split(|b| *b == b' ').any(|word| word.is_empty())
 }

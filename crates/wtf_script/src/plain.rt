@@ -3,7 +3,7 @@
 ghost use Rattle.std.specs.Prelude.{◌≡◌, ◌<◌, ◌≤◌, ◌+◌, ◌-◌, ℕ, max, true, false, length, slice_index, IsTrue};
 ghost use Rattle.std.specs.List.{list_all, list_any};
 ghost use Rattle.wtf_lex.specs.Words.{words_of};
-ghost use Rattle.wtf_script.specs.Grammar.{is_printable, is_empty};
+ghost use Rattle.wtf_script.specs.Grammar.{is_printable, is_empty_word};
 ghost use Rattle.wtf_script.specs.Plain.{ArePlain};
 
 use std::simd::prelude::*;
@@ -12,7 +12,7 @@ use std::simd::prelude::*;
 pub(crate) fn is_plain(line: &[u8]) -> bool
     requires { 0 < length line.now }
     ensures { IsTrue result → (list_all is_printable line.now ≡ true)
-        × (list_any is_empty (words_of line.now) ≡ false) }
+        × (list_any is_empty_word (words_of line.now) ≡ false) }
 {
     if !line[0].is_ascii_graphic() {
         return false;

@@ -4,9 +4,9 @@ use Rattle.std.specs.Prelude.{Result, Ok, Err, true}
 use Rattle.std.specs.Result.{is_err}
 use Rattle.std.proofs.lemmas.List.{append-nil, take-append-drop, take_more}
 use Rattle.wtf_dev.specs.Streams.{SinkView}
-use Rattle.wtf_summary.specs.Summaries.{shown}
+use Rattle.wtf_summary.specs.Summaries.{shown_text}
 use Rattle.wtf_summary.specs.Traces.{mark, numbers_of}
-use Rattle.wtf_summary.specs.States.{IsSound, told}
+use Rattle.wtf_summary.specs.States.{SinkStands, told}
 use Rattle.wtf_summary.specs.Fronts.{ShowsFront}
 use Rattle.wtf_summary.specs.Steps.{TookByte}
 use Rattle.wtf_summary.specs.declared.state.State.{State}
@@ -42,14 +42,14 @@ goes_on name lines first text name' state e =
     }
 
 -- where nothing failed, all is shown
-pub shows_all : (old now : SinkView) (state : State) (lines : ℕ) (text before : List ℕ) → IsSound now state → state.lines ≡ lines
+pub shows_all : (old now : SinkView) (state : State) (lines : ℕ) (text before : List ℕ) → SinkStands now state → state.lines ≡ lines
     → state.trace.first.numbers ≡ numbers_of old → state.trace.text.numbers ≡ text → state.faults ≡ 0 → old.taken ≡ Some before
-    → now.taken ≡ Some (before ++ shown lines text)
+    → now.taken ≡ Some (before ++ shown_text lines text)
 shows_all old now state lines text before s l f t z h =
-    s.added old before f h ∙ ap Some (ap (λ (x : List ℕ). before ++ x) (clean now state s z ∙ ap (λ (n : ℕ). shown n state.trace.text.numbers) l ∙ ap (shown lines) t))
+    s.added old before f h ∙ ap Some (ap (λ (x : List ℕ). before ++ x) (clean now state s z ∙ ap (λ (n : ℕ). shown_text n state.trace.text.numbers) l ∙ ap (shown_text lines) t))
 
 -- else a front of it is
-pub shows_front : (old now : SinkView) (state : State) (lines : ℕ) (whole rest before : List ℕ) → IsSound now state → state.lines ≡ lines
+pub shows_front : (old now : SinkView) (state : State) (lines : ℕ) (whole rest before : List ℕ) → SinkStands now state → state.lines ≡ lines
     → state.trace.first.numbers ≡ numbers_of old → (state.trace.text.numbers ++ state.trace.more.numbers) ++ rest ≡ whole → old.taken ≡ Some before
     → ShowsFront lines whole before now.taken
 shows_front old now state lines whole rest before s l f w h =
@@ -60,7 +60,7 @@ shows_front old now state lines whole rest before s l f w h =
       back = state.trace.rest.numbers ++ on.0;
       shows = sym (append_assoc state.trace.seen.numbers state.trace.rest.numbers on.0)
           ∙ ap (λ (x : List ℕ). x ++ on.0) s.shows ∙ sym on.1
-          ∙ ap (λ (n : ℕ). shown n (so_far ++ rest)) l ∙ ap (shown lines) w;
+          ∙ ap (λ (n : ℕ). shown_text n (so_far ++ rest)) l ∙ ap (shown_text lines) w;
       taken_is = s.added old before f h;
     }
 

@@ -5,23 +5,24 @@ use Rattle.std.proofs.lemmas.List.{append-nil}
 use Rattle.wtf_dev.specs.Counts.{Rose, risen}
 use Rattle.wtf_dev.specs.Streams.{SinkView}
 use Rattle.wtf_script.specs.ScriptLines.{line_feed}
-use Rattle.wtf_summary.specs.Summaries.{feeds, behind_first, front_lines, shown}
+use Rattle.wtf_summary.specs.Summaries.{feeds, behind_first, front_lines, shown_text}
 use Rattle.wtf_summary.specs.Tallies.{Tallies}
 use Rattle.wtf_summary.specs.Traces.{numbers_of}
-use Rattle.wtf_summary.specs.States.{IsSound}
+use Rattle.wtf_summary.specs.States.{SinkStands}
 use Rattle.wtf_summary.proofs.Lines.{feeds-byte, feeds-push, other_byte}
 use Rattle.wtf_summary.proofs.Texts.{behind_first-more, feeds-front_lines, front_lines-few}
 use Rattle.wtf_summary.specs.declared.state.State.{State}
 
 -- while nothing failed, the other sink took what is shown
-pub clean : (now : SinkView) (s : State) → IsSound now s → s.faults ≡ 0 → s.trace.seen.numbers ≡ shown s.lines s.trace.text.numbers
+pub clean : (now : SinkView) (s : State) → SinkStands now s → s.faults ≡ 0 → s.trace.seen.numbers ≡ shown_text s.lines s.trace.text.numbers
 clean now s sound f =
     sym (append-nil s.trace.seen.numbers) ∙ ap (λ (l : List ℕ). s.trace.seen.numbers ++ l) (sym (sound.all f)) ∙ sound.shows
-    ∙ ap (shown s.lines) (ap (λ (l : List ℕ). s.trace.text.numbers ++ l) (sound.whole f) ∙ append-nil s.trace.text.numbers)
+    ∙ ap (shown_text s.lines) (ap (λ (l : List ℕ). s.trace.text.numbers ++ l) (sound.whole f) ∙ append-nil s.trace.text.numbers)
 
-pub clean_shows : (lines : ℕ) (seen rest text more : List ℕ) → seen ≡ shown lines text → rest ≡ [] → more ≡ [] → seen ++ rest ≡ shown lines (text ++ more)
+pub clean_shows : (lines : ℕ) (seen rest text more : List ℕ) → seen ≡ shown_text lines text → rest ≡ [] → more ≡ []
+    → seen ++ rest ≡ shown_text lines (text ++ more)
 clean_shows lines seen rest text more h r m =
-    ap (λ (l : List ℕ). seen ++ l) r ∙ append-nil seen ∙ h ∙ ap (shown lines) (sym (ap (λ (l : List ℕ). text ++ l) m ∙ append-nil text))
+    ap (λ (l : List ℕ). seen ++ l) r ∙ append-nil seen ∙ h ∙ ap (shown_text lines) (sym (ap (λ (l : List ℕ). text ++ l) m ∙ append-nil text))
 
 pub none_begun : (b : Bool) (n : ℕ) → b ≡ nat_lt 0 n → b ≡ false → n ≡ 0
 none_begun b n h f = grind (arith, h, f)
@@ -51,11 +52,11 @@ pub added_more : (now0 now1 : SinkView) (first seen more : List ℕ)
 added_more now0 now1 first seen more a t old before h e = t (before ++ seen) (a old before h e) ∙ ap Some (append_assoc before seen more)
 
 pub sound_clean : (now : SinkView) (s : State) → 1 ≤ s.lines → s.lines < 2 ^ 64 → s.begun ≡ nat_lt 0 (feeds s.trace.text.numbers)
-    → Tallies s.tally (front_lines s.lines (behind_first s.trace.text.numbers)) → s.trace.seen.numbers ≡ shown s.lines s.trace.text.numbers
+    → Tallies s.tally (front_lines s.lines (behind_first s.trace.text.numbers)) → s.trace.seen.numbers ≡ shown_text s.lines s.trace.text.numbers
     → s.trace.rest.numbers ≡ [] → s.trace.more.numbers ≡ [] → s.faults ≡ 0
     → ((old : SinkView) (before : List ℕ) → s.trace.first.numbers ≡ numbers_of old → old.taken ≡ Some before → now.taken ≡ Some (before ++ s.trace.seen.numbers))
     → ((old : SinkView) → s.trace.first.numbers ≡ numbers_of old → now.faults ≡ old.faults)
-    → IsSound now s
+    → SinkStands now s
 sound_clean now s some few begun tally shows rest more f added still = record {
   some = some;
   few = few;
@@ -94,12 +95,12 @@ pub record Keeps (old new : State) : Type 0 where
   pub faults : new.faults ≡ old.faults
 
 -- a byte behind the first line, with which so much more is shown
-pub took : (before now : SinkView) (old new : State) (b : ℕ) (added : List ℕ) → IsSound before old → old.faults ≡ 0 → old.begun ≡ true → Keeps old new
+pub took : (before now : SinkView) (old new : State) (b : ℕ) (added : List ℕ) → SinkStands before old → old.faults ≡ 0 → old.begun ≡ true → Keeps old new
     → new.trace.text.numbers ≡ old.trace.text.numbers ++ b ∷ []
     → new.trace.seen.numbers ≡ old.trace.seen.numbers ++ added
-    → shown old.lines (old.trace.text.numbers ++ b ∷ []) ≡ shown old.lines old.trace.text.numbers ++ added
+    → shown_text old.lines (old.trace.text.numbers ++ b ∷ []) ≡ shown_text old.lines old.trace.text.numbers ++ added
     → Tallies new.tally (front_lines old.lines (behind_first old.trace.text.numbers ++ b ∷ []))
-    → ((l : List ℕ) → before.taken ≡ Some l → now.taken ≡ Some (l ++ added)) → now.faults ≡ before.faults → IsSound now new
+    → ((l : List ℕ) → before.taken ≡ Some l → now.taken ≡ Some (l ++ added)) → now.faults ≡ before.faults → SinkStands now new
 took before now old new b added s f begun k text seen shows tally told faults =
     let some = some_begun _ _ s.begun begun in
     let t = old.trace.text.numbers in
@@ -116,13 +117,13 @@ took before now old new b added s f begun k text seen shows tally told faults =
     (rw k.first (λ o h. faults ∙ s.still o h f))
 
 -- the summary could not be shown whole
-pub failed : (before now : SinkView) (old new : State) (b : ℕ) (added : List ℕ) → IsSound before old → old.faults ≡ 0
+pub failed : (before now : SinkView) (old new : State) (b : ℕ) (added : List ℕ) → SinkStands before old → old.faults ≡ 0
     → new.lines ≡ old.lines → new.begun ≡ old.begun → new.trace.first.numbers ≡ old.trace.first.numbers → new.trace.text.numbers ≡ old.trace.text.numbers
     → new.trace.seen.numbers ++ new.trace.rest.numbers ≡ old.trace.seen.numbers ++ added
     → new.trace.more.numbers ≡ b ∷ [] → b ≡ line_feed
-    → shown old.lines (old.trace.text.numbers ++ b ∷ []) ≡ shown old.lines old.trace.text.numbers ++ added
+    → shown_text old.lines (old.trace.text.numbers ++ b ∷ []) ≡ shown_text old.lines old.trace.text.numbers ++ added
     → new.faults ≡ risen old.faults → Rose before.faults now.faults → before.faults ≤ now.faults
-    → ((l : List ℕ) → before.taken ≡ Some (l ++ old.trace.seen.numbers) → now.taken ≡ Some (l ++ new.trace.seen.numbers)) → IsSound now new
+    → ((l : List ℕ) → before.taken ≡ Some (l ++ old.trace.seen.numbers) → now.taken ≡ Some (l ++ new.trace.seen.numbers)) → SinkStands now new
 failed before now old new b added s f lines begun first text seen more feed shows faults rose counted told =
     let one : new.faults ≡ 1 = faults ∙ ap risen f in
     record {
@@ -163,8 +164,8 @@ ends_line lines behind b few all = elim (cases_eq b line_feed) [
 ]
 
 -- the other sink was called and took no byte
-pub unmoved : (before now : SinkView) (s : State) → IsSound before s → ((l : List ℕ) → before.taken ≡ Some l → now.taken ≡ Some l)
-    → now.faults ≡ before.faults → IsSound now s
+pub unmoved : (before now : SinkView) (s : State) → SinkStands before s → ((l : List ℕ) → before.taken ≡ Some l → now.taken ≡ Some l)
+    → now.faults ≡ before.faults → SinkStands now s
 unmoved before now s sound told same = record {
   some = sound.some;
   few = sound.few;

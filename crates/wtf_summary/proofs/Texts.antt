@@ -4,7 +4,7 @@ use Rattle.std.specs.Prelude.{if◌then◌else◌}
 use Rattle.std.proofs.lemmas.Bool.{cases_eq, cases_lt}
 use Rattle.std.proofs.lemmas.List.{append-nil}
 use Rattle.wtf_script.specs.ScriptLines.{line_feed}
-use Rattle.wtf_summary.specs.Summaries.{first_line, behind_first, feeds, front_lines, summary, summed_up, shown}
+use Rattle.wtf_summary.specs.Summaries.{first_line, behind_first, feeds, front_lines, summary, summed_up, shown_text}
 
 le_true : (a b : ℕ) → a ≤ b → nat_le a b ≡ true
 le_true a b h = grind (arith, h)
@@ -63,8 +63,7 @@ behind_more false n cs bs x y h f = f h
 
 pub behind_first-more : (text bs : List ℕ) → 0 < feeds text → behind_first (text ++ bs) ≡ behind_first text ++ bs
 behind_first-more [] bs h = absurd (omega (arith, h))
-behind_first-more (c ∷ cs) bs h =
-    behind_more (c == line_feed) (feeds cs) cs bs (behind_first (cs ++ bs)) (behind_first cs) h (behind_first-more cs bs)
+behind_first-more (c ∷ cs) bs h = behind_more (c == line_feed) (feeds cs) cs bs (behind_first (cs ++ bs)) (behind_first cs) h (behind_first-more cs bs)
 
 -- the first lines
 
@@ -130,25 +129,25 @@ summed_up-none lines behind h = ap (λ (t : Bool). if t then summary (front_line
 pub summed_up-all : (lines : ℕ) (behind : List ℕ) → lines ≤ feeds behind → summed_up lines behind ≡ summary (front_lines lines behind)
 summed_up-all lines behind h = ap (λ (t : Bool). if t then summary (front_lines lines behind) else []) (le_true lines (feeds behind) h)
 
-pub shown-none : (lines : ℕ) (text : List ℕ) → 1 ≤ lines → feeds text ≡ 0 → shown lines text ≡ text
+pub shown-none : (lines : ℕ) (text : List ℕ) → 1 ≤ lines → feeds text ≡ 0 → shown_text lines text ≡ text
 shown-none lines text l h =
     ap (λ (b : List ℕ). first_line text ++ summed_up lines b) (behind_first-none text h)
     ∙ ap (λ (s : List ℕ). first_line text ++ s) (summed_up-none lines [] l) ∙ append-nil (first_line text) ∙ first_line-none text h
 
-pub shown-first : (lines : ℕ) (text : List ℕ) (b : ℕ) → 1 ≤ lines → feeds text ≡ 0 → shown lines (text ++ b ∷ []) ≡ text ++ b ∷ []
+pub shown-first : (lines : ℕ) (text : List ℕ) (b : ℕ) → 1 ≤ lines → feeds text ≡ 0 → shown_text lines (text ++ b ∷ []) ≡ text ++ b ∷ []
 shown-first lines text b l h =
     ap (λ (s : List ℕ). first_line (text ++ b ∷ []) ++ summed_up lines s) (behind_first-byte text b h)
     ∙ ap (λ (s : List ℕ). first_line (text ++ b ∷ []) ++ s) (summed_up-none lines [] l) ∙ append-nil (first_line (text ++ b ∷ []))
     ∙ first_line-byte text b h
 
-shown-behind : (lines : ℕ) (text bs : List ℕ) → 0 < feeds text → shown lines (text ++ bs) ≡ first_line text ++ summed_up lines (behind_first text ++ bs)
+shown-behind : (lines : ℕ) (text bs : List ℕ) → 0 < feeds text → shown_text lines (text ++ bs) ≡ first_line text ++ summed_up lines (behind_first text ++ bs)
 shown-behind lines text bs h =
     ap (λ (l : List ℕ). l ++ summed_up lines (behind_first (text ++ bs))) (first_line-more text bs h)
     ∙ ap (λ (l : List ℕ). first_line text ++ summed_up lines l) (behind_first-more text bs h)
 
 -- a byte that completes no summary
 pub shown-open : (lines : ℕ) (text : List ℕ) (b : ℕ) → 0 < feeds text → feeds (behind_first text ++ b ∷ []) < lines
-    → shown lines (text ++ b ∷ []) ≡ shown lines text
+    → shown_text lines (text ++ b ∷ []) ≡ shown_text lines text
 shown-open lines text b h f =
     let behind = behind_first text in
     shown-behind lines text (b ∷ []) h
@@ -156,7 +155,7 @@ shown-open lines text b h f =
 
 -- a byte that completes it
 pub shown-whole : (lines : ℕ) (text : List ℕ) (b : ℕ) → 0 < feeds text → feeds (behind_first text) < lines → lines ≤ feeds (behind_first text ++ b ∷ [])
-    → shown lines (text ++ b ∷ []) ≡ shown lines text ++ summary (behind_first text ++ b ∷ [])
+    → shown_text lines (text ++ b ∷ []) ≡ shown_text lines text ++ summary (behind_first text ++ b ∷ [])
 shown-whole lines text b h f e =
     let behind = behind_first text in
     shown-behind lines text (b ∷ []) h
@@ -165,36 +164,35 @@ shown-whole lines text b h f e =
     (sym (ap (λ (s : List ℕ). first_line text ++ s) (summed_up-none lines behind f) ∙ append-nil (first_line text)))
 
 -- bytes behind it
-pub shown-past : (lines : ℕ) (text bs : List ℕ) → 0 < feeds text → lines ≤ feeds (behind_first text) → shown lines (text ++ bs) ≡ shown lines text
+pub shown-past : (lines : ℕ) (text bs : List ℕ) → 0 < feeds text → lines ≤ feeds (behind_first text) → shown_text lines (text ++ bs) ≡ shown_text lines text
 shown-past lines text bs h f =
-    let behind = behind_first text in
-    shown-behind lines text bs h
+    let behind = behind_first text in shown-behind lines text bs h
     ∙ ap (λ (s : List ℕ). first_line text ++ s)
     (summed_up-all lines (behind ++ bs) (omega (arith, f, feeds-le behind bs)) ∙ ap summary (front_lines-more lines behind bs f) ∙ sym (summed_up-all lines behind f))
 
 -- what is shown of a text is a front of what is shown of one that goes on
 
-shown-byte : (lines : ℕ) (text : List ℕ) (b : ℕ) → 1 ≤ lines → (w : List ℕ) × (shown lines (text ++ b ∷ []) ≡ shown lines text ++ w)
+shown-byte : (lines : ℕ) (text : List ℕ) (b : ℕ) → 1 ≤ lines → (w : List ℕ) × (shown_text lines (text ++ b ∷ []) ≡ shown_text lines text ++ w)
 shown-byte lines text b some = elim (cases_eq (feeds text) 0) [
   | inl z ↦ (b ∷ [], shown-first lines text b some z ∙ ap (λ (l : List ℕ). l ++ b ∷ []) (sym (shown-none lines text some z)))
   | inr n ↦
       let begun : 0 < feeds text = omega (arith, n) in
       let behind = behind_first text in
       elim (cases_lt (feeds behind) lines) [
-        | inr past ↦ ([], shown-past lines text (b ∷ []) begun past ∙ sym (append-nil (shown lines text)))
+        | inr past ↦ ([], shown-past lines text (b ∷ []) begun past ∙ sym (append-nil (shown_text lines text)))
         | inl few ↦ elim (cases_lt (feeds (behind ++ b ∷ [])) lines) [
-          | inl yet ↦ ([], shown-open lines text b begun yet ∙ sym (append-nil (shown lines text)))
+          | inl yet ↦ ([], shown-open lines text b begun yet ∙ sym (append-nil (shown_text lines text)))
           | inr all ↦ (summary (behind ++ b ∷ []), shown-whole lines text b begun few all)
         ]
       ]
 ]
 
-pub shown-front : (lines : ℕ) (text bs : List ℕ) → 1 ≤ lines → (w : List ℕ) × (shown lines (text ++ bs) ≡ shown lines text ++ w)
-shown-front lines text [] some = ([], ap (shown lines) (append-nil text) ∙ sym (append-nil (shown lines text)))
+pub shown-front : (lines : ℕ) (text bs : List ℕ) → 1 ≤ lines → (w : List ℕ) × (shown_text lines (text ++ bs) ≡ shown_text lines text ++ w)
+shown-front lines text [] some = ([], ap (shown_text lines) (append-nil text) ∙ sym (append-nil (shown_text lines text)))
 shown-front lines text (b ∷ bs) some =
     let one = shown-byte lines text b some in
     let rest = shown-front lines (text ++ b ∷ []) bs some in (
       one.0 ++ rest.0,
-      ap (shown lines) (sym (append_assoc text (b ∷ []) bs)) ∙ rest.1 ∙ ap (λ (l : List ℕ). l ++ rest.0) one.1
-          ∙ append_assoc (shown lines text) one.0 rest.0,
+      ap (shown_text lines) (sym (append_assoc text (b ∷ []) bs)) ∙ rest.1 ∙ ap (λ (l : List ℕ). l ++ rest.0) one.1
+          ∙ append_assoc (shown_text lines text) one.0 rest.0,
     )

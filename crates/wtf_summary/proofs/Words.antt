@@ -1,5 +1,5 @@
 -- Laws of the counts of lines by their first words.
-use Rattle.std.proofs.Common.{◌≡◌, ℕ, zero, suc, ◌+◌, ◌==◌, ◌&&◌, ◌||◌, not, ◌<◌, ◌≤◌, Bool, true, false, cond, List, [], ◌∷◌, ◌++◌, length, take, refl, sym, ◌∙◌, ap, arith}
+use Rattle.std.proofs.Common.{◌≡◌, ℕ, zero, suc, ◌+◌, ◌==◌, ◌&&◌, ◌<◌, ◌≤◌, Bool, true, false, cond, List, [], ◌∷◌, ◌++◌, length, take, refl, sym, ◌∙◌, ap, arith}
 use Rattle.std.specs.Prelude.{codes, count_by}
 use Rattle.std.proofs.lemmas.List.Sums.{sum_by_push, sum_by-cons}
 use Rattle.wtf_script.specs.ScriptLines.{line_feed, ended_of}
@@ -16,9 +16,6 @@ has_word-take [] [] (suc n) h = refl
 has_word-take [] (b ∷ bs) (suc n) h = refl
 has_word-take (w ∷ ws) [] (suc n) h = refl
 has_word-take (w ∷ ws) (b ∷ bs) (suc n) h = ap (λ (t : Bool). (w == b) && t) (has_word-take ws bs n (omega (arith, h)))
-
-other_of : Bool → Bool → Bool → Bool → Bool → Bool
-other_of a b c d e = not (a || b || c || d || e)
 
 is_other-take : (line : List ℕ) → is_other (take 10 line) ≡ is_other line
 is_other-take line =

@@ -2,7 +2,7 @@
 use Rattle.std.specs.Prelude.{◌≡◌, ◌⊎◌, ℕ, ◌≤◌, List, [], ◌∷◌, ◌++◌, Some, Result, Ok, Err, MatchResult}
 use Rattle.wtf_dev.specs.Counts.{Rose, risen}
 use Rattle.wtf_dev.specs.Streams.{SinkView}
-use Rattle.wtf_summary.specs.States.{IsSound}
+use Rattle.wtf_summary.specs.States.{SinkStands}
 use Rattle.wtf_summary.specs.declared.state.State.{State}
 
 -- the byte was taken, or a fault was counted
@@ -11,8 +11,8 @@ TookByte old new byte (Ok u) = (new.trace.text.numbers ≡ old.trace.text.number
 TookByte old new byte (Err e) = (new.trace.text.numbers ≡ old.trace.text.numbers) × (new.faults ≡ risen old.faults)
 
 -- the run goes on with what it began with, and the byte was taken, or a fault was counted
-pub record Steps {E : Type 0} (now : SinkView) (old new : State) (byte : ℕ) (result : Result (Unit {0}) E) : Type 0 where
-  pub sound : IsSound now new
+pub record TakesByte {E : Type 0} (now : SinkView) (old new : State) (byte : ℕ) (result : Result (Unit {0}) E) : Type 0 where
+  pub sound : SinkStands now new
   pub lines : new.lines ≡ old.lines
   pub first : new.trace.first.numbers ≡ old.trace.first.numbers
   pub took : TookByte old new byte result
@@ -21,7 +21,7 @@ pub record Steps {E : Type 0} (now : SinkView) (old new : State) (byte : ℕ) (r
 
 -- the other sink brought out what it holds back, or a fault was counted; no byte was taken
 pub record BringsOut {E : Type 0} (now : SinkView) (old new : State) (result : Result (Unit {0}) E) : Type 0 where
-  pub sound : IsSound now new
+  pub sound : SinkStands now new
   pub lines : new.lines ≡ old.lines
   pub first : new.trace.first.numbers ≡ old.trace.first.numbers
   pub text : new.trace.text.numbers ≡ old.trace.text.numbers

@@ -66,5 +66,5 @@ abbrev pub summed_up : ℕ → List ℕ → List ℕ
 summed_up lines behind = if nat_le lines (feeds behind) then summary (front_lines lines behind) else []
 
 -- what is shown of a text: its first line, and the summary of the lines behind it once so many of them came
-abbrev pub shown : ℕ → List ℕ → List ℕ
-shown lines text = first_line text ++ summed_up lines (behind_first text)
+abbrev pub shown_text : ℕ → List ℕ → List ℕ
+shown_text lines text = first_line text ++ summed_up lines (behind_first text)

@@ -1,7 +1,7 @@
 //! What is shown of a small text.
 
 ghost use Rattle.std.specs.Prelude.{◌≡◌, [], codes};
-ghost use Rattle.wtf_summary.specs.Summaries.{behind_first, feeds, first_line, others, shown, with_word};
+ghost use Rattle.wtf_summary.specs.Summaries.{behind_first, feeds, first_line, others, shown_text, with_word};
 
 /// The first line of three, and the lines behind it.
 fn first_of_three()
@@ -22,5 +22,5 @@ fn counts_of_three()
 
 /// Nothing but the first line is shown while too few lines came.
 fn too_few_lines()
-    ensures { shown 3 (codes "set\nok\nok\n") ≡ codes "set\n" }
+    ensures { shown_text 3 (codes "set\nok\nok\n") ≡ codes "set\n" }
 {}

@@ -2,7 +2,7 @@
 
 ghost use Rattle.std.specs.Prelude.{◌≡◌, ◌≤◌, ◌++◌, ℕ, List, Some, true, false};
 ghost use Rattle.wtf_dev.specs.Counts.{Rose};
-ghost use Rattle.wtf_summary.specs.Summaries.{shown};
+ghost use Rattle.wtf_summary.specs.Summaries.{shown_text};
 ghost use Rattle.wtf_summary.specs.Fronts.{ShowsFront};
 
 use crate::state::{State, advance};
@@ -13,7 +13,7 @@ use wtf_dev::Sink;
 pub fn show<O: Sink>(out: &mut O, lines: u64, text: &[u8]) -> bool
     requires { 1 ≤ lines }
     ensures whole { result ≡ true → (before : List ℕ) → (O.view out.old).taken ≡ Some before →
-        (O.view out.new).taken ≡ Some (before ++ shown lines text.now) }
+        (O.view out.new).taken ≡ Some (before ++ shown_text lines text.now) }
     ensures front { (before : List ℕ) → (O.view out.old).taken ≡ Some before →
         ShowsFront lines text.now before (O.view out.new).taken }
     ensures faults { (O.view out.old).faults ≤ (O.view out.new).faults }

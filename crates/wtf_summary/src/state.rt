@@ -4,8 +4,8 @@ ghost use Rattle.std.specs.Prelude.{◌≡◌, ◌≢◌, ℕ, ◌≤◌, ◌++�
 ghost use Rattle.wtf_dev.specs.Counts.{risen};
 ghost use Rattle.wtf_summary.specs.Summaries.{summary};
 ghost use Rattle.wtf_summary.specs.Tallies.{Tallies};
-ghost use Rattle.wtf_summary.specs.States.{IsSound};
-ghost use Rattle.wtf_summary.specs.Steps.{BringsOut, ShowsSummary, Steps};
+ghost use Rattle.wtf_summary.specs.States.{SinkStands};
+ghost use Rattle.wtf_summary.specs.Steps.{BringsOut, ShowsSummary, TakesByte};
 ghost use Rattle.wtf_summary.specs.Traces.{numbers_of};
 
 use crate::passing::pass;
@@ -33,7 +33,7 @@ impl State {
     /// The state of a run that begins.
     pub(crate) fn new<O: Sink>(out: &O, lines: u64) -> State
         requires { 1 ≤ lines }
-        ensures sound { IsSound (O.view out.now) result }
+        ensures sound { SinkStands (O.view out.now) result }
         ensures lines { result.lines ≡ lines }
         ensures first { result.trace.first.numbers ≡ numbers_of (O.view out.now) }
         ensures text { result.trace.text.numbers ≡ [] }
@@ -67,10 +67,10 @@ impl State {
 
 /// Shows a byte of the first line.
 fn show_first<O: Sink>(out: &mut O, state: &mut State, byte: u8) -> Result<(), Failed>
-    requires sound { IsSound (O.view out.old) state.old }
+    requires sound { SinkStands (O.view out.old) state.old }
     requires whole { state.old.faults ≡ 0 }
     requires first { state.old.begun ≡ false }
-    ensures { Steps (O.view out.new) state.old state.new byte result }
+    ensures { TakesByte (O.view out.new) state.old state.new byte result }
 {
     let bytes = [byte];
     match out.write(bytes.as_slice()) {
@@ -103,11 +103,11 @@ fn show_summary<O: Sink>(out: &mut O, state: &mut State, last: u8) -> Result<(),
 
 /// Takes a byte of the lines behind the first.
 fn sum_up<O: Sink>(out: &mut O, state: &mut State, byte: u8) -> Result<(), Failed>
-    requires sound { IsSound (O.view out.old) state.old }
+    requires sound { SinkStands (O.view out.old) state.old }
     requires whole { state.old.faults ≡ 0 }
     requires behind { state.old.begun ≡ true }
     requires open { state.old.tally.counts.lines ≢ state.old.lines }
-    ensures { Steps (O.view out.new) state.old state.new byte result }
+    ensures { TakesByte (O.view out.new) state.old state.new byte result }
 {
     let lines = state.lines;
     state.tally.take(byte);
@@ -126,8 +126,8 @@ fn sum_up<O: Sink>(out: &mut O, state: &mut State, byte: u8) -> Result<(), Faile
 
 /// Takes a byte.
 pub(crate) fn advance<O: Sink>(out: &mut O, state: &mut State, byte: u8) -> Result<(), Failed>
-    requires sound { IsSound (O.view out.old) state.old }
-    ensures { Steps (O.view out.new) state.old state.new byte result }
+    requires sound { SinkStands (O.view out.old) state.old }
+    ensures { TakesByte (O.view out.new) state.old state.new byte result }
 {
     if state.faults > 0 {
         return Err(state.fail());
@@ -144,7 +144,7 @@ pub(crate) fn advance<O: Sink>(out: &mut O, state: &mut State, byte: u8) -> Resu
 
 /// Has the other sink bring out what it holds back.
 pub(crate) fn bring_out<O: Sink>(out: &mut O, state: &mut State) -> Result<(), Failed>
-    requires sound { IsSound (O.view out.old) state.old }
+    requires sound { SinkStands (O.view out.old) state.old }
     ensures { BringsOut (O.view out.new) state.old state.new result }
 {
     if state.faults != 0 {

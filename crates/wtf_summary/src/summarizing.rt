@@ -1,7 +1,7 @@
 //! The sink.
 
 ghost use Rattle.std.specs.Prelude.{◌≡◌, ◌≤◌, [], Some};
-ghost use Rattle.wtf_summary.specs.States.{IsSound, IsSound_prop, told};
+ghost use Rattle.wtf_summary.specs.States.{SinkStands, SinkStands_prop, told};
 ghost use Rattle.wtf_summary.specs.Traces.{numbers_of};
 
 use crate::state::{State, advance, bring_out};
@@ -14,7 +14,7 @@ use wtf_dev::{Failed, Sink};
 pub struct Summarizing<'a, O: Sink> {
     out: &'a mut O,
     state: State,
-    ghost sound: { IsSound (O.view out.now) state } by { IsSound_prop (O.view out.now) state },
+    ghost sound: { SinkStands (O.view out.now) state } by { SinkStands_prop (O.view out.now) state },
 }
 
 impl<'a, O: Sink> Summarizing<'a, O> {

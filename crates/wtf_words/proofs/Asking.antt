@@ -6,11 +6,11 @@ use Rattle.clap.specs.Kinds.{Kinds}
 use Rattle.clap.specs.declared.parser.matches.Found.{Found}
 use Rattle.clap.proofs.WalkLemmas.{first_value-rows}
 use Rattle.wtf_lex.specs.Numbers.{number_within}
-use Rattle.wtf_words.specs.Words.{asked_by, chosen, number_of}
+use Rattle.wtf_words.specs.Words.{asked_by, option_number}
 
 -- the number of an option, by its value
 pub number_by : (f : Found) (name : Text) (most otherwise : ℕ) (value : Option Text) → value ≡ first_value f name
-    → option_map_or (λ (text : Text). number_within most text) value (Some otherwise) ≡ number_of name most otherwise (rows_of f)
+    → option_map_or (λ (text : Text). number_within most text) value (Some otherwise) ≡ option_number name most otherwise (rows_of f)
 number_by f name most otherwise value is =
     ap (λ (o : Option Text). option_map_or (λ (text : Text). number_within most text) o (Some otherwise)) (is ∙ first_value-rows f name)
 
@@ -18,8 +18,3 @@ number_by f name most otherwise value is =
 pub none_asked : (kinds : Kinds) (rows : List Row) → kinds ≢ [] → asked_by kinds rows ≡ None
 none_asked [] rows some = absurd (some refl)
 none_asked (kind ∷ kinds) rows some = refl
-
--- and those that are taken for the numbers of the options
-pub all_asked : (kinds : Kinds) (rows : List Row) → kinds ≡ [] → asked_by kinds rows ≡ chosen rows
-all_asked [] rows none = refl
-all_asked (kind ∷ kinds) rows none = absurd (cc)

@@ -28,8 +28,8 @@ abbrev pub wtf_app : App
 wtf_app = with_rule (with_rule settings_app (option_rule (codes "gen"))) (option_rule (codes "lines"))
 
 -- the number of an option, at most `most`; where it is not among the words another
-abbrev pub number_of : Text → ℕ → ℕ → List Row → Option ℕ
-number_of name most otherwise rows = option_map_or (λ text. number_within most text) (first_of name rows) (Some otherwise)
+abbrev pub option_number : Text → ℕ → ℕ → List Row → Option ℕ
+option_number name most otherwise rows = option_map_or (λ text. number_within most text) (first_of name rows) (Some otherwise)
 
 -- how many servers there are, how many copies each slice has, and how many bytes a region has
 pub record Numbers : Type 0 where
@@ -52,7 +52,7 @@ within_limits servers replicas region =
 -- the numbers of the options
 abbrev pub chosen_numbers : List Row → Option Numbers
 chosen_numbers rows = option_and_then (λ servers. option_and_then (λ replicas. option_and_then (λ region. within_limits servers replicas region)
-    (number_of (codes "region") 1048576 65536 rows)) (number_of (codes "replicas") 3 2 rows)) (number_of (codes "servers") 16 4 rows)
+    (option_number (codes "region") 1048576 65536 rows)) (option_number (codes "replicas") 3 2 rows)) (option_number (codes "servers") 16 4 rows)
 
 -- a script that is made from a number has a line
 abbrev pub HasLine : Script → Type 0

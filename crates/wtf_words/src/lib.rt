@@ -1,10 +1,21 @@
-//! The words behind the program's directory: how many servers and copies there are, how large a region is, and whether the
-//! script is made from a number.
+//! The words behind the program's directory: how many servers and copies there are, how large a region is,
+//! and whether the script is made from a number.
+//!
+//! `read_words` takes words exactly as `asked_of` (`specs/Words`) says, and gives what they ask for: settings
+//! within their limits, and a script that is read or one that is made from a number, of so many lines. Words
+//! that ask for nothing are `Refused`; want of memory is told apart from that.
+//!
+//! Words are read by `clap`, as the kit has it: `--servers N`, `--replicas N`, `--region N`, and `--gen N` with
+//! `--lines N`, each at most once, in any order, also as `--servers=N`. Numbers are those of scripts, digits
+//! without a sign or a leading zero; there is no other word. A number outside its limits, more replicas than
+//! servers, and one of `--gen` and `--lines` without the other are refused too.
+//!
+//! Which folder the program runs over is no matter of these words: its first word is that of `wtf_cli`.
 #![tactic(auto)]
 
 ghost use Rattle.std.specs.Prelude.{◌≡◌, ◌≢◌, ◌≤◌, false, None, Some, [], IfOk, IfSome, IfErr, map, string_bytes, option_map};
 ghost use Rattle.clap.specs.Words.{app_of, fault_of, first_of, found_of, matches_of, rows_of, rule_of};
-ghost use Rattle.wtf_words.specs.Words.{HasLine, asked_of, chosen, chosen_numbers, generated_by, number_of, numbers, option_rule, request, script_by, script_of, settings_app, wtf_app};
+ghost use Rattle.wtf_words.specs.Words.{HasLine, asked_of, chosen, chosen_numbers, generated_by, option_number, numbers, option_rule, request, script_by, script_of, settings_app, wtf_app};
 
 use clap::error::ErrorKind;
 use clap::{Arg, ArgAction, ArgMatches, Command};
@@ -149,7 +160,7 @@ fn settings_in(matches: &ArgMatches<'_>) -> Option<Settings>
 /// The number of an option, at most `most`, or the one that it has where it is not among the words.
 fn number(matches: &ArgMatches<'_>, name: &str, most: u64, otherwise: u64) -> Option<u64>
     requires { otherwise ≤ most }
-    ensures value { result ≡ number_of name.now most otherwise (rows_of (found_of matches.now)) }
+    ensures value { result ≡ option_number name.now most otherwise (rows_of (found_of matches.now)) }
     ensures within { IfSome result (λ n. n ≤ most) }
 {
     match matches.get_str(name) {

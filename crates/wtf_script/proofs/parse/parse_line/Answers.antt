@@ -1,5 +1,5 @@
 use Rattle.wtf_lex.specs.Words.{words_behind}
-use Rattle.wtf_script.specs.Grammar.{asked_of}
+use Rattle.wtf_script.specs.Grammar.{event_asked}
 use Rattle.wtf_script.proofs.FormLaws.{asked_form, given_form}
 use Rattle.wtf_script.proofs.parse.parse_line.Goals as goal
 
@@ -7,4 +7,4 @@ pub returns-clause-form : goal.returns-clause-form
 returns-clause-form c =
     let behind = words_behind c.split_word.result.1.now in
     let actor = c.split_word.result.0.now in
-    given_form c.asked_of.result (asked_of actor behind) c.asked_of.ensures (asked_form actor behind)
+    given_form c.asked_of.result (event_asked actor behind) c.asked_of.ensures (asked_form actor behind)

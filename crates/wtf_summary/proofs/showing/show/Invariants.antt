@@ -1,13 +1,13 @@
 use Rattle.std.proofs.Common.{◌≡◌, ◌-◌, ◌≤◌, take, length}
 use Rattle.wtf_summary.specs.Traces.{numbers_of}
-use Rattle.wtf_summary.specs.States.{IsSound}
+use Rattle.wtf_summary.specs.States.{SinkStands}
 use Rattle.wtf_summary.proofs.showing.show.Given as goal
 
 -- the bytes before `at` were taken
 abbrev pub invariant-loop-at : goal.invariant-loop-at
 invariant-loop-at g l = record {
   within : l.at ≤ length l.text;
-  sound : IsSound (g.O.Sink.view l.out) l.state;
+  sound : SinkStands (g.O.Sink.view l.out) l.state;
   lines : l.state.lines ≡ l.lines;
   first : l.state.trace.first.numbers ≡ numbers_of (g.O.Sink.view l.fn.out);
   text : l.state.trace.text.numbers ≡ take l.at l.text;
